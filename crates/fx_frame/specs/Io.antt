@@ -1,0 +1,19 @@
+-- What the clauses of readers and writers share.
+use Rattle.std.specs.Prelude.{◌≡◌, ℕ, ◌+◌, ◌-◌, ◌^◌, min, Bool, ◌&&◌, ◌==◌, Result, Ok, Err, MatchResult}
+
+-- a count that stays at the greatest u64
+abbrev pub saturated : ℕ → ℕ
+saturated n = min n (2 ^ 64 - 1)
+
+-- the count of failed calls rises with an `Err`, and not otherwise
+abbrev pub CountsFailure : {X E : Type 0} → ℕ → ℕ → Result X E → Type 0
+CountsFailure old new result = MatchResult result (λ _. new ≡ old) (λ _. new ≡ saturated (old + 1))
+
+-- the count of bytes rises by what an `Ok` moved, and not otherwise
+abbrev pub CountsBytes : {E : Type 0} → ℕ → ℕ → Result ℕ E → Type 0
+CountsBytes old new result = MatchResult result (λ n. new ≡ saturated (old + n)) (λ _. new ≡ old)
+
+-- after a write all bytes taken are flushed where they were and it took none
+abbrev pub flushed_after : {E : Type 0} → Bool → Result ℕ E → Bool
+flushed_after old (Ok n) = old && n == 0
+flushed_after old (Err e) = old
