@@ -1,0 +1,121 @@
+ghost use Rattle.std.specs.Prelude.{◌≡◌, ◌<◌, ◌≤◌, ◌↔◌, length, slice_index_or, IsSome, IfSome, pos, ℤ};
+ghost use Rattle.std.specs.Int.{w32};
+ghost use Rattle.fx_frame.specs.Frame.{silence, padded, IsFrame, IsRead};
+
+use std::marker::Model;
+
+/// The most channels of a frame.
+pub const MOST_CHANNELS: usize = 16;
+
+/// One sample of 32 bits for each of 1 to 16 channels.
+#[derive(Clone, Copy, Debug, PartialEq, Eq)]
+pub struct Frame {
+    /// The samples, and zeros beyond the channels.
+    samples: [i32; 16],
+    channels: u8,
+}
+
+impl Model for Frame {
+    ghost use Rattle.std.specs.Prelude.{ℕ, List, ℤ, length, take};
+    ghost use Rattle.std.specs.Int.{w32};
+    ghost use Rattle.std.proofs.Common.{ap};
+    ghost use Rattle.fx_frame.specs.Frame.{padded, padded-take, IsPlaces};
+
+    ghost Value = { List ℤ };
+
+    ghost view = { λ f. take f.channels f.samples };
+
+    ghost invariant = { λ f. IsPlaces w32 f.channels f.samples };
+
+    ghost inverse = { λ xs. record { samples = padded xs; channels = length xs } };
+
+    ghost inverse_ok = { λ f h. ap (λ (p : List ℤ × ℕ). record { samples = p.0; channels = p.1 }) (padded-take w32 f.samples f.channels h) };
+}
+
+/// The sample at a place, or zero past the end.
+#[inline(always)]
+fn sample_or_zero(samples: &[i32], place: usize) -> i32
+    ensures { IsRead w32 samples.now place result }
+{
+    if place < samples.len() {
+        samples[place]
+    } else {
+        0
+    }
+}
+
+impl Frame {
+    /// The frame of these samples, one for each channel; None where there are none or more than 16.
+    pub fn from_slice(samples: &[i32]) -> Option<Frame>
+        ensures some { IsSome result ↔ ((1 ≤ length samples.now) × (length samples.now ≤ 16)) }
+        ensures value { IfSome result (λ f. f ≡ samples.now) }
+    {
+        let channels = samples.len();
+        if channels == 0 || channels > MOST_CHANNELS {
+            return None;
+        }
+        Some(Frame::filled(samples))
+    }
+
+    /// The frame of these samples, of which there are 1 to 16.
+    #[inline(always)]
+    pub(crate) fn filled(samples: &[i32]) -> Frame
+        requires { (1 ≤ length samples.now) × (length samples.now ≤ 16) }
+        ensures { result ≡ samples.now }
+    {
+        Frame {
+            samples: sixteen!(sample_or_zero, samples),
+            channels: samples.len() as u8,
+        }
+    }
+
+    /// A frame of 1 to 16 channels whose samples are all zero.
+    pub fn silence(channels: usize) -> Frame
+        requires { (1 ≤ channels) × (channels ≤ 16) }
+        ensures { result ≡ silence channels }
+    {
+        Frame {
+            samples: [0; 16],
+            channels: channels as u8,
+        }
+    }
+
+    /// How many channels it has, 1 to 16.
+    #[inline(always)]
+    pub fn channels(&self) -> usize
+        ensures count { result ≡ length self.now }
+        ensures frame { IsFrame self.now }
+    {
+        self.channels as usize
+    }
+
+    /// The sample of a channel, counted from 0.
+    #[inline(always)]
+    pub fn get(&self, channel: usize) -> i32
+        requires { channel < length self.now }
+        ensures { result ≡ slice_index_or self.now channel (pos 0) }
+    {
+        let channels = self.channels as usize;
+        prove!(channel < channels);
+        self.samples[channel]
+    }
+
+    /// The samples, one for each channel.
+    #[inline(always)]
+    pub(crate) fn samples(&self) -> &[i32]
+        ensures samples { result.now ≡ self.now }
+        ensures frame { IsFrame self.now }
+    {
+        let channels = self.channels as usize;
+        &self.samples[..channels]
+    }
+
+    /// All sixteen places, which are zero beyond the samples.
+    #[inline(always)]
+    pub(crate) fn places(&self) -> [i32; 16]
+        ensures places { result ≡ padded self.now }
+        ensures frame { IsFrame self.now }
+    {
+        self.samples
+    }
+}
