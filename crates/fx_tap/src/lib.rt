@@ -1,0 +1,4 @@
+//! Effects that compute samples: each sample is one exact fraction, rounded once.
+#![tactic(auto)]
+
+pub mod inner;

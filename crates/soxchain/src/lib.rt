@@ -1,0 +1,4 @@
+//! The conversion from words and bytes to bytes, messages and a status.
+#![tactic(auto)]
+
+pub mod telling;
