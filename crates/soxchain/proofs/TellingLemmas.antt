@@ -1,10 +1,11 @@
 -- What stays true while texts go to a writer of messages.
-use Rattle.std.proofs.Common.{◌≡◌, ℕ, ◌+◌, ◌-◌, ◌≤◌, Bool, true, false, not, List, ◌++◌, length, take, drop, sym, ap, ◌∙◌, arith, Option}
-use Rattle.std.proofs.lemmas.List.{length-drop, length-append, take-append-le, take_all}
+use Rattle.std.proofs.Common.{◌≡◌, ℕ, zero, suc, refl, ◌<◌, ◌+◌, ◌-◌, ◌≤◌, Bool, true, false, not, List, ◌++◌, length, take, drop, sym, ap, ◌∙◌, arith, Option}
+use Rattle.std.proofs.lemmas.List.{append_assoc, length-drop, length-append, take-append-le, take_all}
 use Rattle.std.proofs.Math.Seq.{take-add, take-append-add}
 use Rattle.std.proofs.KnownBytes.{Appends-trans}
 use Rattle.std.specs.Io.KnownBytes.{Appends}
-use Rattle.std.specs.Prelude.{MatchBool}
+use Rattle.std.specs.Prelude.{MatchBool, codes, decimal}
+use Rattle.soxchain.specs.Messages.{line_feed, warning}
 use Rattle.soxchain.specs.Telling.{Told, ToldFront, ToldAll}
 
 -- a front is one of more bytes too
@@ -50,3 +51,12 @@ Appends-part first now new told n text a b =
 
 pub part-within : (told n : ℕ) (text : List ℕ) → told ≤ length text → n ≤ length (take (length text - told) (drop told text)) → told + n ≤ length text
 part-within told n text h k = omega (arith, length-drop told text, rw (left-all told text) at k)
+
+-- five texts behind all that was told
+pub five : (all a b c d e : List ℕ) → ((((all ++ a) ++ b) ++ c) ++ d) ++ e ≡ all ++ ((((a ++ b) ++ c) ++ d) ++ e)
+five all a b c d e = simp append_assoc
+
+-- what was counted has its line
+pub warning-counted : (counted : List ℕ) (n : ℕ) → 0 < n → warning counted n ≡ codes "soxchain: warning: " ++ counted ++ codes " " ++ decimal n ++ line_feed
+warning-counted counted zero h = absurd (omega arith)
+warning-counted counted (suc n) h = refl

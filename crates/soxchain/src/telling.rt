@@ -1,10 +1,9 @@
 //! Messages on their way to a writer that may fail.
-ghost use Rattle.std.specs.Prelude.{◌≡◌, ℕ, ◌++◌, ◌^◌, ◌<◌, Bool, false, MatchBool, length, decimal};
+ghost use Rattle.std.specs.Prelude.{◌≡◌, ℕ, ◌++◌, ◌^◌, ◌<◌, Bool, false, MatchBool, length};
 ghost use Rattle.std.specs.Io.KnownBytes.{Appends};
 ghost use Rattle.soxchain.specs.Telling.{ToldFront, TellsMore};
 
 use fx_frame::{ByteOut, Failed};
-use itoa::Buffer;
 
 /// Whether the writer of messages has failed. After that nothing more is written to it.
 #[derive(Drop)]
@@ -21,22 +20,33 @@ impl Telling {
     }
 
     /// Writes a text behind what was told, unless the writer has failed.
-    pub fn text<M: ByteOut>(&mut self, messages: &mut M, text: &[u8])
+    pub fn text<M: ByteOut>(&mut self, messages: &mut M, text: &str)
         ensures { TellsMore self.old.has_failed self.new.has_failed (M.taken messages.old) (M.taken messages.new) (M.failures messages.old) (M.failures messages.new) text.now }
     {
         if self.has_failed {
             return;
         }
-        let is_whole = hand(messages, text);
+        let is_whole = hand(messages, text.as_bytes());
         self.has_failed = !is_whole;
     }
 
-    /// Writes a number in decimal digits.
-    pub fn number<M: ByteOut>(&mut self, messages: &mut M, number: u64)
-        ensures { TellsMore self.old.has_failed self.new.has_failed (M.taken messages.old) (M.taken messages.new) (M.failures messages.old) (M.failures messages.new) (decimal number) }
+    /// Writes five texts, one behind the other.
+    pub fn sentence<M: ByteOut>(
+        &mut self,
+        messages: &mut M,
+        subject: &str,
+        label: &str,
+        link: &str,
+        value: &str,
+        end: &str,
+    )
+        ensures { TellsMore self.old.has_failed self.new.has_failed (M.taken messages.old) (M.taken messages.new) (M.failures messages.old) (M.failures messages.new) (subject.now ++ label.now ++ link.now ++ value.now ++ end.now) }
     {
-        let mut buffer = Buffer::new();
-        self.text(messages, buffer.format(number).as_bytes());
+        self.text(messages, subject);
+        self.text(messages, label);
+        self.text(messages, link);
+        self.text(messages, value);
+        self.text(messages, end);
     }
 }
 
