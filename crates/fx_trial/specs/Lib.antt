@@ -1,2 +1,4 @@
 pub mod Lists
 pub mod Opening
+pub mod Upsample
+pub mod Delay

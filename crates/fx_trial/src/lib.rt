@@ -1,4 +1,6 @@
 //! Small stages, for the tests of the layers below the effects.
 #![tactic(auto)]
 
+pub mod delay;
 pub mod opening;
+pub mod upsample;
