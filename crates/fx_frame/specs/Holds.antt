@@ -1,6 +1,5 @@
-use Rattle.std.specs.Prelude.{ℕ, ◌+◌, ◌≤◌, List, [], ◌∷◌, ◌++◌, length, map, ◌≡◌, refl}
-use Rattle.std.proofs.Common.{arith}
-use Rattle.fx_frame.specs.Stage.{Kind, Acts, hold_of, kind}
+use Rattle.std.specs.Prelude.{ℕ, ◌+◌, List, [], ◌∷◌, length, map}
+use Rattle.fx_frame.specs.Stage.{Kind, Acts, hold_of}
 
 -- the sum of what f says of each
 abbrev pub total : {X : Type 0} → (X → ℕ) → List X → ℕ
@@ -15,9 +14,13 @@ hold_sum ks = total hold_of ks
 abbrev pub line_sum : List Kind → ℕ
 line_sum ks = total (λ (k : Kind). k.line) ks
 
+-- what stages were made with, in order
+abbrev pub recipes : {S R : Type 0} → Acts S R → List S → List R
+recipes acts stages = map acts.recipe stages
+
 -- the kinds of stages, in order
 abbrev pub kinds : {S R : Type 0} → Acts S R → List S → List Kind
-kinds acts stages = map (kind acts) stages
+kinds acts stages = map acts.kind_of (recipes acts stages)
 
 -- the frames that stages hold now
 abbrev pub held_sum : {S R : Type 0} → Acts S R → List S → ℕ
