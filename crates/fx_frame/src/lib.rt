@@ -26,5 +26,7 @@ macro_rules! sixteen {
 }
 
 pub mod frame;
+pub mod holds;
 pub mod inner;
+pub mod stage;
 pub mod wide;

@@ -1,7 +1,7 @@
 use Rattle.std.proofs.Common.{ℕ, ℤ, pos, zero, suc, ◌+◌, ◌-◌, ◌<◌, ◌≤◌, ◌≡◌, Bool, true, false, cond, List, [], ◌∷◌, ◌++◌, length, drop, get_or, refl, sym, ap, ◌∙◌, arith, replicate, add-zero, zero-add, append_assoc, sub-one}
 use Rattle.std.specs.Prelude.{nat_le, nat_lt, slice_index, slice_get, Option, Some, None, is_none, nat_eq, ◌&&◌, ◌^◌}
 use Prim.Native.Nat.compare
-use Rattle.fx_frame.specs.Line.{Frames, pushed}
+use Rattle.fx_trial.specs.Line.{Frames, pushed}
 use Rattle.fx_frame.specs.Stage.{Gave, Took}
 use Rattle.fx_trial.specs.Delay.{DelayState, IsDelay}
 use borrow.Author.Tests.{ltb-true, ltb-false}

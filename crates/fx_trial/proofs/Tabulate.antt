@@ -1,4 +1,4 @@
-use Rattle.std.proofs.Common.{ℕ, zero, suc, ◌+◌, ◌<◌, ◌≡◌, ◌∷◌, ◌++◌, length, refl, ap, arith, replicate, add-zero, zero-add}
+use Rattle.std.proofs.Common.{ℕ, zero, suc, ◌+◌, ◌<◌, ◌≡◌, List, ◌∷◌, ◌++◌, length, take, refl, ap, arith, replicate, add-zero, zero-add}
 use Rattle.fx_trial.specs.Lists.{tabulate}
 
 pub tabulate-append : {X : Type 0} (f : ℕ → X) (from m n : ℕ) → tabulate f from (m + n) ≡ tabulate f from m ++ tabulate f (from + m) n
@@ -31,3 +31,8 @@ tabulate-replicate f c from (suc count) h =
 pub length-tabulate : {X : Type 0} (f : ℕ → X) (from count : ℕ) → length (tabulate f from count) ≡ count
 length-tabulate f from zero = refl
 length-tabulate f from (suc count) = ap suc (length-tabulate f (suc from) count)
+
+-- the first of them
+pub take-tabulate : {X : Type 0} (f : ℕ → X) (more : List X) (n count : ℕ) → take count (tabulate f n count ++ more) ≡ tabulate f n count
+take-tabulate f more n zero = refl
+take-tabulate f more n (suc count) = ap (λ l. f n ∷ l) (take-tabulate f more (suc n) count)

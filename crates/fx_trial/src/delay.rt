@@ -6,7 +6,8 @@ ghost use Rattle.fx_trial.specs.Delay.{longest, sample_before, delayed_at, delay
 ghost use Rattle.fx_trial.specs.Delay.{delay_acts};
 
 use fx_frame::frame::Frame;
-use fx_frame::line::Line;
+use fx_frame::inner::frame_of;
+use crate::line::Line;
 use fx_frame::stage::Stage;
 use fx_frame::wide::WideFrame;
 use std::alloc::{AllocError, Global};
@@ -63,11 +64,11 @@ fn delayed_frame(line: &Line, delays: &[usize], frame: Frame) -> Frame
     requires { (1 ≤ length delays.now) × (length delays.now ≤ 16) }
     ensures { result ≡ delayed_at delays.now (line.now.items ++ frame ∷ []) (length line.now.items) }
 {
-    let mut out = Frame::silence(delays.len());
+    let mut samples = [0; 16];
     'channels: for channel in 0..delays.len() {
-        out.set(channel, sample(line, frame, delays[channel], channel));
+        samples[channel] = sample(line, frame, delays[channel], channel);
     }
-    out
+    frame_of(delays.len(), samples)
 }
 
 /// The longest of the delays.

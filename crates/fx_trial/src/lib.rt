@@ -2,5 +2,6 @@
 #![tactic(auto)]
 
 pub mod delay;
+pub mod line;
 pub mod opening;
 pub mod upsample;
