@@ -26,6 +26,7 @@ macro_rules! sixteen {
 }
 
 pub mod frame;
+pub mod frozen;
 pub mod holds;
 pub mod inner;
 pub mod stage;
