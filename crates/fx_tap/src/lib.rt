@@ -2,3 +2,7 @@
 #![tactic(auto)]
 
 pub mod inner;
+pub mod mapped;
+pub mod vol;
+
+pub use vol::Vol;
