@@ -6,7 +6,7 @@ use Rattle.std.proofs.lemmas.Bool.Decides.{nat_tests}
 use Rattle.std.proofs.Math.Nat.{div-eq_of_lt}
 use Rattle.fx_fixed.specs.Rounding.{nearest_natural, nearest, signed}
 
-none_below_zero : (a : ℕ) → ltb a 0 ≡ false
+pub none_below_zero : (a : ℕ) → ltb a 0 ≡ false
 none_below_zero a = grind (arith, nat_tests)
 
 -- the sign of a rounded number is that of the number, also where one of them is 0

@@ -3,6 +3,7 @@
 
 pub mod inner;
 pub mod mapped;
+pub mod per_sample;
 pub mod vol;
 
 pub use vol::Vol;
