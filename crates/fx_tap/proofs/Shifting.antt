@@ -4,7 +4,7 @@ use Rattle.std.specs.Prelude.{int_lt, nat_lt, ◌==◌}
 use Rattle.std.proofs.Math.Nat.{mul-add-div, div-eq_of_lt, div-add-mod'}
 use Rattle.std.proofs.lemmas.Bool.Decides.{nat_tests}
 use borrow.Author.Differences.{up, down, same_in, sum_is_lem, product_is}
-use Rattle.fx_tap.specs.DcShift.{floor_of, over_of, steps_of, leaves_half}
+use Rattle.fx_tap.specs.DcShift.{floor_of, over_of, steps_of, leaves_half, raised}
 use Rattle.std.proofs.lemmas.Int.{ints}
 use Rattle.fx_fixed.specs.Rounding.{nearest_natural, nearest, signed}
 use Rattle.fx_fixed.proofs.Signs.{nearest-neg, none_below_zero}
@@ -60,10 +60,6 @@ nearest-half_down m r q l h =
     let one : suc m ≡ m + 1 = omega arith in
     ap (λ z. nearest z q) (sum-negative m r q l) ∙ nearest-neg ((m + 1) * q - r) q (omega arith) ∙ ap (signed true) (nearest_natural-lacks_little m r q (omega arith) (omega arith) ∙ sym one)
 
--- so many whole steps are added to a sample, and one more for half a step where the sum is not negative
-pub stepped : ℕ → Bool → ℤ → ℤ → ℤ
-stepped q half steps sample = cond (half && not (int_lt (sample +ℤ steps) (pos 0))) ((sample +ℤ steps) +ℤ pos 1) (sample +ℤ steps)
-
 -- the law of products of sums
 pub add-mul : (a b x : ℤ) → (a +ℤ b) *ℤ x ≡ (a *ℤ x) +ℤ (b *ℤ x)
 add-mul a b x =
@@ -91,9 +87,26 @@ over_of-below q (negsuc a) p = omega arith
 
 -- the steps that a sum goes up by, once it is known how much is beyond
 by_over : (a : ℤ) (over q : ℕ) (more half : Bool) → over < q → nat_lt q (2 * over) ≡ more → (2 * over == q) ≡ half
-    → cond (half && not (int_lt (cond more (a +ℤ pos 1) a) (pos 0))) (cond more (a +ℤ pos 1) a +ℤ pos 1) (cond more (a +ℤ pos 1) a) ≡ nearest ((a *ℤ pos q) +ℤ pos over) q
+    → raised half (cond more (a +ℤ pos 1) a) ≡ nearest ((a *ℤ pos q) +ℤ pos over) q
 by_over a over q true true l m h = absurd (grind (arith, nat_tests))
 by_over a over q true false l m h = sym (nearest-up a over q l (grind (arith, nat_tests)))
 by_over (pos n) over q false true l m h = rw (none_below_zero n) (sym (nearest-half_up n over q l (grind (arith, nat_tests))))
 by_over (negsuc n) over q false true l m h = sym (nearest-half_down n over q l (grind (arith, nat_tests)))
 by_over a over q false false l m h = sym (nearest-down a over q (grind (arith, nat_tests)))
+
+-- a step more of a sum
+sum-more : (sample floor : ℤ) (more : Bool) → sample +ℤ cond more (floor +ℤ pos 1) floor ≡ cond more ((sample +ℤ floor) +ℤ pos 1) (sample +ℤ floor)
+sum-more sample floor true = omega (arith, ints)
+sum-more sample floor false = refl
+
+-- a sample and a shift by whole steps is the exact sum, rounded
+pub raised-steps : (q : ℕ) (units sample : ℤ) → 0 < q → raised (leaves_half q units) (sample +ℤ steps_of q units) ≡ nearest ((sample *ℤ pos q) +ℤ units) q
+raised-steps q units sample p =
+    let floor : ℤ = floor_of q units in
+    let over : ℕ = over_of q units in
+    let exact : ((sample +ℤ floor) *ℤ pos q) +ℤ pos over ≡ (sample *ℤ pos q) +ℤ units =
+    ap (λ z. z +ℤ pos over) (add-mul sample floor (pos q)) ∙ (let assoc : ((sample *ℤ pos q) +ℤ (floor *ℤ pos q)) +ℤ pos over ≡ (sample *ℤ pos q) +ℤ ((floor *ℤ pos q) +ℤ pos over) = omega (arith, ints) in assoc)
+    ∙ ap (λ z. (sample *ℤ pos q) +ℤ z) (sym (units-split q units p)) in
+    ap (raised (leaves_half q units)) (sum-more sample floor (nat_lt q (2 * over)))
+    ∙ by_over (sample +ℤ floor) over q (nat_lt q (2 * over)) (2 * over == q) (over_of-below q units p) refl refl
+    ∙ ap (λ z. nearest z q) exact

@@ -1,6 +1,6 @@
 -- The effect `dcshift` (sox(1), EFFECTS, dcshift): each sample plus the shift, of which 1 is the greatest amplitude.
 -- Rounding and clips are this project's profile.
-use Rattle.std.specs.Prelude.{ℕ, ◌*◌, ◌^◌, ◌==◌, nat_lt, ℤ, pos, ◌+ℤ◌, ◌*ℤ◌, unsigned_abs, if◌then◌else◌, List, Bool, map}
+use Rattle.std.specs.Prelude.{ℕ, ◌*◌, ◌^◌, ◌==◌, nat_lt, ℤ, pos, ◌+ℤ◌, ◌*ℤ◌, unsigned_abs, if◌then◌else◌, int_lt, List, Bool, not, ◌&&◌, map}
 use Rattle.std.specs.Int.{int_div_euclid, int_rem_euclid}
 use Rattle.fx_fixed.specs.Rounding.{rounding}
 use Rattle.fx_fixed.specs.declared.gains.TheConstants.{UNIT}
@@ -39,3 +39,7 @@ steps_of q units = if nat_lt q (2 * over_of q units) then floor_of q units +ℤ 
 -- just half a step is beyond
 abbrev pub leaves_half : ℕ → ℤ → Bool
 leaves_half q units = 2 * over_of q units == q
+
+-- a sum and, where there is one, half a step beyond it, to the nearest step; a half goes away from zero
+abbrev pub raised : Bool → ℤ → ℤ
+raised half sum = if half && not (int_lt sum (pos 0)) then sum +ℤ pos 1 else sum
