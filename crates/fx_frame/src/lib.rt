@@ -1,13 +1,40 @@
-//! Readers and writers that count, and samples as bytes.
+//! Frames of samples, lines of frames, samples as bytes, and readers and writers that count.
 #![tactic(auto)]
+
+/// Sixteen places, each read from `$samples` by its number. A literal is written at once, where a loop is not.
+macro_rules! sixteen {
+    ($read:ident, $samples:expr) => {
+        [
+            $read($samples, 0),
+            $read($samples, 1),
+            $read($samples, 2),
+            $read($samples, 3),
+            $read($samples, 4),
+            $read($samples, 5),
+            $read($samples, 6),
+            $read($samples, 7),
+            $read($samples, 8),
+            $read($samples, 9),
+            $read($samples, 10),
+            $read($samples, 11),
+            $read($samples, 12),
+            $read($samples, 13),
+            $read($samples, 14),
+            $read($samples, 15),
+        ]
+    };
+}
 
 pub mod coding;
 pub mod copies;
 pub mod counted;
 pub mod device;
+pub mod frame;
+pub mod inner;
 pub mod io;
 pub mod sink;
 pub mod tape;
+pub mod wide;
 
 pub use coding::Coding;
 pub use counted::Counted;
