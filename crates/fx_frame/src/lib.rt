@@ -30,6 +30,7 @@ pub mod copies;
 pub mod counted;
 pub mod device;
 pub mod frame;
+mod frame_coding;
 pub mod inner;
 pub mod io;
 pub mod sink;
