@@ -14,7 +14,8 @@ use crate::inner::{frame_of, one, samples, two};
 pub fn decoded(coding: Coding, channels: usize, bytes: &[u8]) -> Frame
     requires channels { (1 ≤ channels) × (channels ≤ 16) }
     requires bytes { length bytes.now ≡ frame_size coding channels }
-    ensures { result ≡ samples_of coding channels bytes.now }
+    ensures samples { result ≡ samples_of coding channels bytes.now }
+    ensures channels { length result ≡ channels }
 {
     match channels {
         1 => one(coding.read(bytes)),
@@ -30,7 +31,8 @@ pub fn decoded(coding: Coding, channels: usize, bytes: &[u8]) -> Frame
 fn decoded_wide(coding: Coding, channels: usize, bytes: &[u8]) -> Frame
     requires channels { (1 ≤ channels) × (channels ≤ 16) }
     requires bytes { length bytes.now ≡ frame_size coding channels }
-    ensures { result ≡ samples_of coding channels bytes.now }
+    ensures samples { result ≡ samples_of coding channels bytes.now }
+    ensures channels { length result ≡ channels }
 {
     let width = coding.width();
     let mut samples = [0; 16];

@@ -1,2 +1,5 @@
 pub mod Known
 pub mod Source
+pub mod Kind
+pub mod Sound
+pub mod Fault

@@ -2,6 +2,10 @@
 #![tactic(auto)]
 
 pub mod buffer;
+pub mod head;
+pub mod progress;
 pub mod source;
 
+pub use head::{Head, HeadFault, Kind};
+pub use progress::{MOST_FRAMES, Progress, ReadFault, next_frame};
 pub use source::Source;

@@ -108,9 +108,26 @@ impl<R: ByteIn> Source<R> {
         Ok(n)
     }
 
-    // Sees that so many bytes are held, unless the input ends before.
+    // Sees that so many bytes are held, unless the input ends before. Mostly they are there.
+    #[inline(always)]
+    pub(crate) fn hold(&mut self, want: usize) -> Result<(), Failed>
+        requires { want ≤ BUFFER_SIZE }
+        ensures stays { OnOk result (Stays R.rest self.old self.new) }
+        ensures all { OnOk result (length self.new.bytes < want → HoldsAll R.rest self.old self.new) }
+        ensures told { Takes R.told self.old self.new 0 }
+        ensures short { OnErr result (length self.new.bytes < want) }
+        ensures failures { CountsFailure (R.failures self.old.reader) (R.failures self.new.reader) result }
+        ensures unread { want ≤ length self.old.bytes → self.new ≡ self.old }
+    {
+        if self.held() >= want {
+            return Ok(());
+        }
+        self.gather(want)
+    }
+
+    // The same, asking the reader for pieces.
     #[inline(never)]
-    pub(crate) fn gather(&mut self, want: usize) -> Result<(), Failed>
+    fn gather(&mut self, want: usize) -> Result<(), Failed>
         requires { want ≤ BUFFER_SIZE }
         ensures stays { OnOk result (Stays R.rest self.old self.new) }
         ensures all { OnOk result (length self.new.bytes < want → HoldsAll R.rest self.old self.new) }
@@ -138,7 +155,7 @@ impl<R: ByteIn> Source<R> {
         ensures short { OnErr result (FallsShort R.told self.old self.new.reader (length out.new)) }
         ensures failures { CountsFailure (R.failures self.old.reader) (R.failures self.new.reader) result }
     {
-        self.gather(out.len())?;
+        self.hold(out.len())?;
         let n = self.held().min(out.len());
         out[..n].copy_from_slice(self.peek(n));
         self.let_go(n);
@@ -157,7 +174,7 @@ impl<R: ByteIn> Source<R> {
     {
         let mut got = 0;
         while got < most {
-            self.gather(1)?;
+            self.hold(1)?;
             let n = self.held().min(most - got);
             if n == 0 {
                 return Ok(got);

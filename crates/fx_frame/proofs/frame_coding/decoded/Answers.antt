@@ -4,8 +4,8 @@ use Rattle.fx_frame.specs.Coding.{width_of, read_sample}
 use Rattle.fx_frame.specs.FrameCoding.{samples_of}
 use Rattle.fx_frame.proofs.frame_coding.decoded.Goals as goal
 
-pub returns-in-2 : goal.returns-in-2
-returns-in-2 c =
+pub returns-in-2-clause-samples : goal.returns-in-2-clause-samples
+returns-in-2-clause-samples c =
     let size : length c.args.bytes.now ≡ 2 * width_of c.args.coding = c.requires.bytes ∙ ap (λ n. n * width_of c.args.coding) c.in-2.is in
     let first : to_z w32 (of_z w32 c.read-in-2.result) ≡ c.read-in-2.result = search rules in
     let second : to_z w32 (of_z w32 c.read-in-2-2.result) ≡ c.read-in-2-2.result = search rules in
