@@ -3,3 +3,4 @@ pub mod Source
 pub mod Kind
 pub mod Sound
 pub mod Fault
+pub mod Writing

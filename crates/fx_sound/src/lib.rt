@@ -5,7 +5,9 @@ pub mod buffer;
 pub mod head;
 pub mod progress;
 pub mod source;
+pub mod writing;
 
 pub use head::{Head, HeadFault, Kind};
 pub use progress::{MOST_FRAMES, Progress, ReadFault, next_frame};
 pub use source::Source;
+pub use writing::{HeadBytes, head_bytes};
