@@ -29,6 +29,7 @@ pub enum Coding {
 
 impl Coding {
     /// How many bytes a sample takes, 1 to 4.
+    #[inline]
     pub fn width(self) -> usize
         ensures { result ≡ width_of self }
     {
@@ -41,6 +42,7 @@ impl Coding {
     }
 
     /// The sample that the bytes are: an n-bit number times `2^(32-n)`.
+    #[inline]
     pub fn read(self, bytes: &[u8]) -> i32
         requires { length bytes.now ≡ width_of self }
         ensures { result ≡ read_sample self bytes.now }
@@ -59,6 +61,7 @@ impl Coding {
 
     /// Writes the bytes of a sample, rounded to the coding's bits with halves upward, and tells
     /// whether it was clipped to the greatest number of so many bits.
+    #[inline]
     pub fn write(self, sample: i32, bytes: &mut [u8]) -> bool
         requires { length bytes.old ≡ width_of self }
         ensures bytes { bytes.new ≡ written self sample }
@@ -108,26 +111,58 @@ impl Coding {
 }
 
 // A sample in one byte, and whether it was clipped.
+#[tactic(auto, using(crate::proofs::Shifts::shift_floors))]
+#[inline(always)]
 fn in_one_byte(sample: i32) -> (i8, bool)
     ensures value { result.0 ≡ limited 1 sample }
     ensures clips { result.1 ≡ is_too_large 1 sample }
 {
-    let rounded = (i64::from(sample) + 0x80_0000).div_euclid(0x100_0000);
+    let rounded = (i64::from(sample) + 0x80_0000) >> 24;
     (rounded.min(0x7f) as i8, rounded > 0x7f)
 }
 
+#[tactic(auto, using(crate::proofs::Shifts::shift_floors))]
+#[inline(always)]
 fn in_two_bytes(sample: i32) -> (i16, bool)
     ensures value { result.0 ≡ limited 2 sample }
     ensures clips { result.1 ≡ is_too_large 2 sample }
 {
-    let rounded = (i64::from(sample) + 0x8000).div_euclid(0x1_0000);
+    let rounded = (i64::from(sample) + 0x8000) >> 16;
     (rounded.min(0x7fff) as i16, rounded > 0x7fff)
 }
 
+#[tactic(auto, using(crate::proofs::Shifts::shift_floors))]
+#[inline(always)]
 fn in_three_bytes(sample: i32) -> (i32, bool)
     ensures value { result.0 ≡ limited 3 sample }
     ensures clips { result.1 ≡ is_too_large 3 sample }
 {
-    let rounded = (i64::from(sample) + 0x80).div_euclid(0x100);
+    let rounded = (i64::from(sample) + 0x80) >> 8;
     (rounded.min(0x7f_ffff) as i32, rounded > 0x7f_ffff)
+}
+
+#[cfg(test)]
+mod tests {
+    use super::*;
+
+    #[test]
+    fn u8_writes_and_reads(rt: HostRuntime) {
+        let rows = [
+            (2147483647, 255, true),
+            (0, 128, false),
+            (-2147483648, 0, false),
+        ];
+        for (sample, byte, is_clipped) in rows {
+            let mut bytes = [77];
+            assert_eq!(rt;
+                Coding::U8.write(sample, &mut bytes),
+                is_clipped,
+                "at {sample}"
+            );
+            assert_eq!(rt; bytes[0], byte, "at {sample}");
+        }
+        for (byte, sample) in [(128, 0), (0, -2147483648)] {
+            assert_eq!(rt; Coding::U8.read(&[byte]), sample, "at {byte}");
+        }
+    }
 }

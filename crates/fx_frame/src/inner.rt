@@ -2,6 +2,8 @@
 ghost use Rattle.std.specs.Prelude.{◌≡◌, ◌≤◌, ◌∷◌, [], take, length};
 ghost use Rattle.fx_frame.specs.Frame.{padded, IsFrame, IsWideFrame};
 
+pub use crate::frame_coding::{decoded, encode};
+
 use crate::frame::Frame;
 use crate::wide::WideFrame;
 

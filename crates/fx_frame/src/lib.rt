@@ -1,5 +1,5 @@
-//! What all crates of soxchain share: readers and writers that count, samples as bytes, frames of samples, and lines
-//! of frames.
+//! What all crates of soxchain share: readers and writers that count, samples as bytes, frames of samples, lines of
+//! frames, and the interface of stages.
 #![tactic(auto)]
 
 /// Sixteen places, each read from `$samples` by its number. A literal is written at once, where a loop is not.
@@ -31,6 +31,7 @@ pub mod copies;
 pub mod counted;
 pub mod device;
 pub mod frame;
+mod frame_coding;
 pub mod frozen;
 pub mod holds;
 pub mod inner;

@@ -1,0 +1,111 @@
+-- Frames as bytes, sample by sample.
+use Rattle.std.proofs.Common.{◌≡◌, ℕ, zero, suc, ◌+◌, ◌-◌, ◌*◌, ◌<◌, ◌≤◌, Bool, true, false, cond, List, [], ◌∷◌, ◌++◌, length, take, drop, map, get_or, ℤ, pos, refl, sym, ap, ◌∙◌, arith, add-one, FitsSigned, to_z, of_z, to_z-of_z, w32}
+use Rattle.std.proofs.lemmas.List.{drop-drop, map-append, take_at, drop_at, take_all, take_more, flat_map_more, length-take, length-append, append_assoc, append-nil}
+use Rattle.std.proofs.lemmas.List.Sums.{count_by_more_yes, count_by_more_no}
+use Rattle.std.specs.List.{All}
+use Rattle.fx_frame.specs.declared.coding.Coding.{Coding}
+use Rattle.fx_frame.specs.declared.coding.Coding.TheVariants.{U8, S8, S16Le, S16Be, S24Le, S24Be, S32Le, S32Be}
+use Rattle.fx_frame.specs.Coding.{width_of, read_sample, written, clips_written}
+use Rattle.fx_frame.specs.Frame.{Samples}
+use Rattle.fx_frame.specs.FrameCoding.{samples_of, bytes_of, clips_of}
+use Rattle.fx_frame.specs.Pieces.{pieces}
+use borrow.Rule.Slice.PartMut.{put_mid}
+use mir.Val.{bool_byte}
+
+-- one piece more
+pub pieces-suc : (size n : ℕ) (xs : List ℕ) → pieces size (suc n) xs ≡ pieces size n xs ++ take size (drop (n * size) xs) ∷ []
+pieces-suc size zero xs = let e : 0 * size ≡ 0 = omega arith in rw e refl
+pieces-suc size (suc n) xs =
+    let e : size + n * size ≡ suc n * size = omega arith in
+    ap (λ l. take size xs ∷ l) (pieces-suc size n (drop size xs) ∙ ap (λ l. pieces size n (drop size xs) ++ take size l ∷ []) (drop-drop (n * size) size xs ∙ ap (λ m. drop m xs) e))
+
+-- one sample more is read
+pub samples_of-more : (coding : Coding) (n : ℕ) (bytes : List ℕ)
+    → samples_of coding (n + 1) bytes ≡ samples_of coding n bytes ++ read_sample coding (take (width_of coding) (drop (n * width_of coding) bytes)) ∷ []
+samples_of-more coding n bytes =
+    rw add-one (ap (map (read_sample coding)) (pieces-suc (width_of coding) n bytes)
+    ∙ map-append (read_sample coding) (pieces (width_of coding) n bytes) (take (width_of coding) (drop (n * width_of coding) bytes) ∷ []))
+
+-- how many bytes a sample takes
+pub length-written : (coding : Coding) (z : ℤ) → length (written coding z) ≡ width_of coding
+length-written U8 z = refl
+length-written S8 z = refl
+length-written S16Le z = refl
+length-written S16Be z = refl
+length-written S24Le z = refl
+length-written S24Be z = refl
+length-written S32Le z = refl
+length-written S32Be z = refl
+
+-- how many bytes a frame takes
+pub length-bytes_of : (coding : Coding) (xs : Samples) → length (bytes_of coding xs) ≡ length xs * width_of coding
+length-bytes_of coding [] = omega arith
+length-bytes_of coding (x ∷ xs) = omega (arith, length-append (written coding x) (bytes_of coding xs), length-written coding x, length-bytes_of coding xs)
+
+-- one sample more is written
+pub bytes_of-more : (coding : Coding) (xs : Samples) (k : ℕ) → k < length xs → bytes_of coding (take (k + 1) xs) ≡ bytes_of coding (take k xs) ++ written coding (get_or xs k (pos 0))
+bytes_of-more coding xs k h = ap (bytes_of coding) (take_more xs k (pos 0) h) ∙ sym (flat_map_more (written coding) [] (take k xs) (get_or xs k (pos 0)))
+
+-- a turn of the loop that writes a frame
+pub bytes_of-turn : (coding : Coding) (xs : Samples) (first out new : List ℕ) (k width : ℕ) → k < length xs → width ≡ width_of coding
+    → out ≡ bytes_of coding (take k xs) ++ drop (k * width_of coding) first
+    → new ≡ written coding (get_or xs k (pos 0))
+    → put_mid (k * width) (k * width + width - k * width) out new ≡ bytes_of coding (take (k + 1) xs) ++ drop ((k + 1) * width_of coding) first
+bytes_of-turn coding xs first out new k width h w e n =
+    let size : ℕ = width_of coding in
+    let front : length (bytes_of coding (take k xs)) ≡ k * size = length-bytes_of coding (take k xs) ∙ ap (λ m. m * size) (length-take k xs ∙ (omega arith)) in
+    let kept : take (k * size) out ≡ bytes_of coding (take k xs) = ap (take (k * size)) e ∙ take_at (bytes_of coding (take k xs)) (drop (k * size) first) (k * size) front in
+    let behind : drop (k * size) out ≡ drop (k * size) first = ap (drop (k * size)) e ∙ drop_at (bytes_of coding (take k xs)) (drop (k * size) first) (k * size) front in
+    let one : k * size + size - k * size ≡ size = omega arith in
+    let place : k * size + size ≡ (k + 1) * size = omega arith in
+    let left : drop (k * size + size - k * size) (drop (k * size) out) ≡ drop ((k + 1) * size) first =
+        ap (λ m. drop m (drop (k * size) out)) one ∙ ap (drop size) behind ∙ drop-drop size (k * size) first ∙ ap (λ m. drop m first) place in
+    rw (w, kept, left, n, bytes_of-more coding xs k h) (sym (append_assoc (bytes_of coding (take k xs)) (written coding (get_or xs k (pos 0))) (drop ((k + 1) * size) first)))
+
+-- a clip more, or none
+pub clips_of-yes : (coding : Coding) (xs : Samples) (k clips : ℕ) → k < length xs → clips ≡ clips_of coding (take k xs) → clips_written coding (get_or xs k (pos 0)) ≡ true → clips + 1 ≡ clips_of coding (take (k + 1) xs)
+clips_of-yes coding xs k clips h e p = ap (λ n. n + 1) e ∙ sym (count_by_more_yes (clips_written coding) xs k (pos 0) h p)
+
+pub clips_of-no : (coding : Coding) (xs : Samples) (k clips : ℕ) → k < length xs → clips ≡ clips_of coding (take k xs) → clips_written coding (get_or xs k (pos 0)) ≡ false → clips ≡ clips_of coding (take (k + 1) xs)
+clips_of-no coding xs k clips h e p = e ∙ sym (count_by_more_no (clips_written coding) xs k (pos 0) h p)
+
+-- a sample of 32 bits is stored as it is
+pub stored : (xs : Samples) (k : ℕ) → All (FitsSigned w32) xs → k < length xs → to_z w32 (of_z w32 (get_or xs k (pos 0))) ≡ get_or xs k (pos 0)
+stored xs k fits h =
+    let f : FitsSigned w32 (get_or xs k (pos 0)) = fits k (pos 0) h in
+    rw to_z-of_z refl
+
+-- a list of two
+pub pair_of : (xs : Samples) → length xs ≡ 2 → xs ≡ get_or xs 0 (pos 0) ∷ get_or xs 1 (pos 0) ∷ []
+pair_of [] e = absurd (omega arith)
+pair_of (x ∷ []) e = absurd (omega arith)
+pair_of (x ∷ y ∷ []) e = refl
+pair_of (x ∷ y ∷ z ∷ zs) e = absurd (omega arith)
+
+-- two clips are counted one by one
+both_counted : (p q : Bool) (m n : ℕ) → m ≡ bool_byte p → n ≡ bool_byte q → m + n ≡ 0 + cond p 1 0 + cond q 1 0
+both_counted true true m n i j = omega (arith, i, j)
+both_counted true false m n i j = omega (arith, i, j)
+both_counted false true m n i j = omega (arith, i, j)
+both_counted false false m n i j = omega (arith, i, j)
+
+-- a pair, written and counted
+pub bytes_of-pair : (coding : Coding) (xs : Samples) (first second : List ℕ) → length xs ≡ 2 → All (FitsSigned w32) xs
+    → first ≡ written coding (to_z w32 (of_z w32 (get_or xs 0 (pos 0)))) → second ≡ written coding (to_z w32 (of_z w32 (get_or xs 1 (pos 0))))
+    → first ++ second ≡ bytes_of coding xs
+bytes_of-pair coding xs first second two fits f s =
+    let a = stored xs 0 fits (omega arith) in
+    let b = stored xs 1 fits (omega arith) in
+    rw (f, s, a, b) (ap (λ l. written coding (get_or xs 0 (pos 0)) ++ l) (sym (append-nil (written coding (get_or xs 1 (pos 0))))) ∙ ap (bytes_of coding) (sym (pair_of xs two)))
+
+pub clips_of-pair : (coding : Coding) (xs : Samples) (p q : Bool) (m n : ℕ) → length xs ≡ 2 → All (FitsSigned w32) xs
+    → p ≡ clips_written coding (to_z w32 (of_z w32 (get_or xs 0 (pos 0)))) → q ≡ clips_written coding (to_z w32 (of_z w32 (get_or xs 1 (pos 0))))
+    → m ≡ bool_byte p → n ≡ bool_byte q
+    → m + n ≡ clips_of coding xs
+clips_of-pair coding xs p q m n two fits f s i j =
+    let a = stored xs 0 fits (omega arith) in
+    let b = stored xs 1 fits (omega arith) in
+    let x = f ∙ ap (clips_written coding) a in
+    let y = s ∙ ap (clips_written coding) b in
+    both_counted p q m n i j ∙ ap (λ r. 0 + cond r 1 0 + cond q 1 0) x ∙ ap (λ r. 0 + cond (clips_written coding (get_or xs 0 (pos 0))) 1 0 + cond r 1 0) y
+    ∙ ap (clips_of coding) (sym (pair_of xs two))

@@ -1,0 +1,59 @@
+-- The sound that follows a head (RIFF WAVE, Sun AU, this project's profile).
+use Rattle.std.specs.Prelude.{◌≡◌, ℕ, ◌+◌, ◌-◌, ◌*◌, ◌<◌, ◌≤◌, min, Bool, true, false, List, length, take, drop, Option, None, Some}
+use Rattle.fx_frame.specs.declared.coding.Coding.{Coding}
+use Rattle.fx_frame.specs.Frame.{Samples}
+use Rattle.fx_frame.specs.FrameCoding.{frame_size, samples_of}
+
+-- how far a sound was read: the announced bytes that are left, the frames, the bytes that lack, the bytes after the
+-- last frame, and whether the end was met
+pub record Reading : Type 0 where
+  pub coding : Coding
+  pub channels : ℕ
+  pub left : Option ℕ
+  pub frames : ℕ
+  pub missing : ℕ
+  pub stray : ℕ
+  pub over : Bool
+
+-- how many bytes a frame takes
+abbrev pub size_of : Reading → ℕ
+size_of p = frame_size p.coding p.channels
+
+-- at most the announced bytes
+abbrev pub within : Option ℕ → List ℕ → List ℕ
+within None bytes = bytes
+within (Some n) bytes = take n bytes
+
+-- n, or what is announced where that is less
+abbrev pub at_most_announced : Option ℕ → ℕ → ℕ
+at_most_announced None n = n
+at_most_announced (Some left) n = min left n
+
+-- what is announced beyond n bytes
+abbrev pub beyond : Option ℕ → ℕ → Option ℕ
+beyond None n = None
+beyond (Some left) n = Some (left - n)
+
+-- how many announced bytes lack where n are there
+abbrev pub lacking : Option ℕ → ℕ → ℕ
+lacking None n = 0
+lacking (Some left) n = left - n
+
+-- one frame more was read
+abbrev pub after_frame : Reading → Reading
+after_frame p = record p { left = beyond p.left (size_of p); frames = p.frames + 1 }
+
+-- the end was met after so many more bytes
+abbrev pub after_end : Reading → ℕ → Reading
+after_end p got = record p { missing = lacking p.left got; stray = got; over = true }
+
+-- a whole frame is at the front of the sound, and is taken off what is to come
+pub record TakesFrame (p : Reading) (bytes : List ℕ) (frame : Samples) (rest : Option (List ℕ)) : Type 0 where
+  pub whole : size_of p ≤ length (within p.left bytes)
+  pub samples : frame ≡ samples_of p.coding p.channels (take (size_of p) bytes)
+  pub others : rest ≡ Some (drop (size_of p) bytes)
+
+-- less than a whole frame is left of the sound
+pub record EndsSound (p : Reading) (bytes : List ℕ) (new : Reading) : Type 0 where
+  pub part : length (within p.left bytes) < size_of p
+  pub counts : new ≡ after_end p (length (within p.left bytes))

@@ -1,0 +1,13 @@
+//! Sounds in RIFF WAVE and Sun AU, read in pieces and written in pieces.
+#![tactic(auto)]
+
+pub mod buffer;
+pub mod head;
+pub mod progress;
+pub mod source;
+pub mod writing;
+
+pub use head::{Head, HeadFault, Kind};
+pub use progress::{MOST_FRAMES, Progress, ReadFault, next_frame};
+pub use source::Source;
+pub use writing::{HeadBytes, head_bytes};

@@ -1,0 +1,196 @@
+//! The frames of a sound, one after the other.
+
+ghost use Rattle.std.specs.Prelude.{◌≡◌, ◌≤◌, ◌<◌, ◌+◌, ◌-◌, false, true, None, IfOk, IfSome, IfNone, OnErr, OnSome, MatchBool, Ok, Err, length, min};
+ghost use Rattle.fx_frame.specs.Io.{saturated};
+ghost use Rattle.fx_sound.specs.Source.{to_come, Takes, FallsShort};
+ghost use Rattle.fx_sound.specs.Known.{IfKnown};
+ghost use Rattle.fx_sound.specs.Sound.{size_of, within, at_most_announced, after_frame, after_end, TakesFrame, EndsSound};
+ghost use Rattle.fx_sound.specs.Fault.{is_read_failed};
+
+use super::head::Head;
+use super::source::Source;
+use fx_frame::frame::Frame;
+use fx_frame::inner::decoded;
+use fx_frame::{ByteIn, Coding};
+use std::marker::Model;
+use thiserror::Error;
+
+/// The most frames of a sound that are read.
+pub const MOST_FRAMES: u64 = 1 << 40;
+
+/// Why there is no next frame.
+#[derive(Clone, Copy, Debug, PartialEq, Eq, Error)]
+pub enum ReadFault {
+    /// A read failed.
+    #[error("the reader failed")]
+    ReadFailed = 1,
+    /// A frame follows after 2^40 frames.
+    #[error("the sound is too long")]
+    TooLong = 2,
+}
+
+/// How far a sound was read.
+#[derive(Drop)]
+pub struct Progress {
+    coding: Coding,
+    channels: usize,
+    // How many bytes a frame takes.
+    size: usize,
+    left: Option<u64>,
+    frames: u64,
+    missing: u64,
+    stray: u64,
+    is_over: bool,
+}
+
+impl Model for Progress {
+    ghost use Rattle.std.specs.Prelude.{◌≡◌, ◌<◌, ◌≤◌};
+    ghost use Rattle.fx_frame.specs.FrameCoding.{frame_size};
+    ghost use Rattle.fx_sound.specs.Sound.{Reading};
+    ghost use Rattle.fx_sound.specs.declared.progress.TheConstants.{MOST_FRAMES};
+
+    ghost Value = { Reading };
+
+    ghost view = { λ p. record { coding = p.coding; channels = p.channels; left = p.left; frames = p.frames; missing = p.missing; stray = p.stray; over = p.is_over } };
+
+    ghost invariant = { λ p. (0 < p.channels) × (p.channels ≤ 16) × (p.size ≡ frame_size p.coding p.channels) × (p.frames ≤ MOST_FRAMES) };
+}
+
+impl Progress {
+    /// Nothing of the sound behind this head is read yet.
+    pub fn new(head: &Head) -> Progress
+        ensures { result ≡ record { coding = head.now.coding; channels = head.now.channels; left = head.now.announced; frames = 0; missing = 0; stray = 0; over = false } }
+    {
+        Progress {
+            coding: head.coding,
+            channels: head.channels,
+            size: head.channels * head.coding.width(),
+            left: head.announced,
+            frames: 0,
+            missing: 0,
+            stray: 0,
+            is_over: false,
+        }
+    }
+
+    /// How many frames were read.
+    pub fn frames(&self) -> u64
+        ensures { result ≡ self.now.frames }
+    {
+        self.frames
+    }
+
+    /// How many announced bytes were not there, once the end was met.
+    pub fn missing(&self) -> u64
+        ensures { result ≡ self.now.missing }
+    {
+        self.missing
+    }
+
+    /// How many bytes came after the last frame, once the end was met.
+    pub fn stray(&self) -> u64
+        ensures { result ≡ self.now.stray }
+    {
+        self.stray
+    }
+
+    // How many bytes the next frame asks for.
+    #[inline(always)]
+    fn wanted(&self) -> usize
+        ensures value { result ≡ at_most_announced self.now.left (size_of self.now) }
+        ensures most { result ≤ size_of self.now }
+        ensures few { size_of self.now ≤ 64 }
+    {
+        match self.left {
+            Some(left) if left < self.size as u64 => left as usize,
+            _ => self.size,
+        }
+    }
+
+    // Counts a frame.
+    #[inline(always)]
+    fn advance(&mut self)
+        requires { self.old.frames < MOST_FRAMES }
+        ensures { self.new ≡ after_frame self.old }
+    {
+        self.frames += 1;
+        self.left = match self.left {
+            Some(left) => Some(left.saturating_sub(self.size as u64)),
+            None => None,
+        };
+    }
+
+    // Counts the bytes after the last frame, and those that lack.
+    #[inline(never)]
+    fn finish(&mut self, got: usize)
+        ensures { self.new ≡ after_end self.old got }
+    {
+        self.stray = got as u64;
+        self.missing = match self.left {
+            Some(left) => left.saturating_sub(got as u64),
+            None => 0,
+        };
+        self.is_over = true;
+    }
+}
+
+/// The next frame of the sound; `None` for good at its end, that is, at the announced size or the
+/// end of the input.
+///
+/// No read is asked for once the announced bytes are there. After a `ReadFault` the source is used
+/// only for `into_inner`, and the progress only for its counts.
+#[inline]
+pub fn next_frame<R: ByteIn>(
+    source: &mut Source<R>,
+    progress: &mut Progress,
+) -> Result<Option<Frame>, ReadFault>
+    // A frame.
+    ensures frame { IfOk result (λ o. IfSome o (λ f. IfKnown (to_come R.rest source.old) (λ bytes.
+        TakesFrame progress.old bytes f (to_come R.rest source.new)))) }
+    ensures channels { IfOk result (λ o. IfSome o (λ f. length f ≡ progress.old.channels)) }
+    ensures told { IfOk result (λ o. OnSome o (Takes R.told source.old source.new (size_of progress.old))) }
+    ensures counted { IfOk result (λ o. OnSome o (progress.new ≡ after_frame progress.old)) }
+    ensures below { IfOk result (λ o. OnSome o ((progress.old.over ≡ false) × (progress.old.frames < MOST_FRAMES))) }
+
+    // The end, and from then on.
+    ensures end { IfOk result (λ o. IfNone o (progress.old.over ≡ false → IfKnown (to_come R.rest source.old) (λ bytes.
+        EndsSound progress.old bytes progress.new))) }
+    ensures over { IfOk result (λ o. IfNone o ((progress.new.over ≡ true) × (progress.new.frames ≡ progress.old.frames))) }
+    ensures stays { progress.old.over ≡ true → (result ≡ Ok None) × (progress.new ≡ progress.old) × (source.new ≡ source.old) }
+
+    // The faults.
+    ensures read_failed { result ≡ Err ReadFault.ReadFailed →
+        FallsShort R.told source.old source.new.reader (at_most_announced progress.old.left (size_of progress.old)) }
+    ensures too_long { result ≡ Err ReadFault.TooLong → (progress.old.frames ≡ MOST_FRAMES)
+        × IfKnown (to_come R.rest source.old) (λ bytes. size_of progress.old ≤ length (within progress.old.left bytes)) }
+    ensures err { OnErr result (progress.new ≡ progress.old) }
+    ensures failures { MatchBool (is_read_failed result)
+        (R.failures source.new.reader ≡ saturated (R.failures source.old.reader + 1))
+        (R.failures source.new.reader ≡ R.failures source.old.reader) }
+    ensures most { progress.new.frames ≤ MOST_FRAMES }
+
+    // No read where the bytes are there.
+    ensures unread { at_most_announced progress.old.left (size_of progress.old) ≤ length source.old.bytes → source.new.reader ≡ source.old.reader }
+{
+    if progress.is_over {
+        return Ok(None);
+    }
+    let wanted = progress.wanted();
+    let Ok(()) = source.hold(wanted) else {
+        return Err(ReadFault::ReadFailed);
+    };
+    let size = progress.size;
+    let got = source.held().min(wanted);
+    if got < size {
+        source.let_go(got);
+        progress.finish(got);
+        return Ok(None);
+    }
+    if progress.frames >= MOST_FRAMES {
+        return Err(ReadFault::TooLong);
+    }
+    let frame = decoded(progress.coding, progress.channels, source.peek(size));
+    source.let_go(size);
+    progress.advance();
+    Ok(Some(frame))
+}
