@@ -1,3 +1,4 @@
 pub mod Messages
+pub mod Run
 pub mod Telling
 pub mod Words
