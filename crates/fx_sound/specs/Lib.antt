@@ -4,3 +4,4 @@ pub mod Kind
 pub mod Sound
 pub mod Fault
 pub mod Writing
+pub mod Output

@@ -3,6 +3,8 @@
 
 pub mod buffer;
 pub mod head;
+pub mod inner;
+pub mod output;
 pub mod progress;
 pub mod source;
 pub mod writing;
