@@ -5,3 +5,6 @@ pub mod Sound
 pub mod Fault
 pub mod Writing
 pub mod Output
+pub mod Layout
+pub mod Reads
+pub mod Au
