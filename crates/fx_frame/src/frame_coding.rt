@@ -48,6 +48,7 @@ fn decoded_wide(coding: Coding, channels: usize, bytes: &[u8]) -> Frame
 pub fn encode(frame: &Frame, coding: Coding, out: &mut [u8]) -> u64
     requires { length out.old ≡ frame_size coding (length frame.now) }
     ensures bytes { out.new ≡ bytes_of coding frame.now }
+    ensures size { length out.new ≡ frame_size coding (length frame.now) }
     ensures clips { result ≡ clips_of coding frame.now }
 {
     match samples(frame) {
@@ -65,6 +66,7 @@ pub fn encode(frame: &Frame, coding: Coding, out: &mut [u8]) -> u64
 fn encode_wide(frame: &Frame, coding: Coding, out: &mut [u8]) -> u64
     requires { length out.old ≡ frame_size coding (length frame.now) }
     ensures bytes { out.new ≡ bytes_of coding frame.now }
+    ensures size { length out.new ≡ frame_size coding (length frame.now) }
     ensures clips { result ≡ clips_of coding frame.now }
 {
     let width = coding.width();

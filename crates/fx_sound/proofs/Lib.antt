@@ -1,2 +1,4 @@
 pub mod Held
 pub mod Sounds
+pub mod Sending
+pub mod AuLemmas

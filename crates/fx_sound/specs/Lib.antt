@@ -4,3 +4,7 @@ pub mod Kind
 pub mod Sound
 pub mod Fault
 pub mod Writing
+pub mod Output
+pub mod Layout
+pub mod Reads
+pub mod Au

@@ -6,6 +6,9 @@ ghost use Rattle.fx_sound.specs.Kind.{is_coding_of};
 use fx_frame::Coding;
 use thiserror::Error;
 
+/// The farthest place at which a sound may begin.
+pub const FARTHEST: u32 = 1 << 24;
+
 /// A container of sound.
 #[derive(Clone, Copy, Debug, PartialEq, Eq)]
 pub enum Kind {

@@ -1,8 +1,12 @@
 //! Sounds in RIFF WAVE and Sun AU, read in pieces and written in pieces.
 #![tactic(auto)]
 
+pub mod au;
 pub mod buffer;
 pub mod head;
+pub mod inner;
+pub mod layout;
+pub mod output;
 pub mod progress;
 pub mod source;
 pub mod writing;

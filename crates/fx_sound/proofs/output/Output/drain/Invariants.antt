@@ -1,0 +1,13 @@
+use Rattle.std.proofs.Common.{◌≡◌, length}
+use Rattle.fx_sound.specs.Output.{SendsOn, total}
+use Rattle.fx_sound.proofs.output.Output.drain.Given as goal
+
+abbrev pub invariant-loop-self : goal.invariant-loop-self
+invariant-loop-self g l = record {
+  sent : SendsOn (g.W.ByteOut.taken l.initial.writer) (g.W.ByteOut.taken l.writer) l.initial.self l.self;
+  count : total l.self ≡ total l.initial.self;
+  failures : g.W.ByteOut.failures l.writer ≡ g.W.ByteOut.failures l.initial.writer;
+}
+
+abbrev pub decreases-loop-self : goal.decreases-loop-self
+decreases-loop-self g l = length l.self.bytes

@@ -1,0 +1,27 @@
+-- What an output has handed on, and what it still holds.
+use Rattle.std.specs.Prelude.{◌≡◌, ℕ, ◌+◌, ◌≤◌, List, ◌++◌, length, take, drop, Option}
+use Rattle.std.specs.Io.KnownBytes.{Appends}
+
+-- bytes that wait, how many were written, and how many more there is room for
+pub record Pending : Type 0 where
+  pub bytes : List ℕ
+  pub written : ℕ
+  pub room : ℕ
+
+-- of all these bytes the writer took the first since it had `first`, and the others wait
+pub record Sent (first now : Option (List ℕ)) (out : Pending) (all : List ℕ) : Type 0 where
+  pub within : out.written ≤ length all
+  pub taken : Appends first now (take out.written all)
+  pub waiting : out.bytes ≡ drop out.written all
+
+-- all that was to be sent is still all, whatever it was
+abbrev pub SendsOn : Option (List ℕ) → Option (List ℕ) → Pending → Pending → Type 0
+SendsOn now new_now out new_out = (first : Option (List ℕ)) (all : List ℕ) → Sent first now out all → Sent first new_now new_out all
+
+-- these bytes come behind all that was to be sent
+abbrev pub SendsMore : Option (List ℕ) → Option (List ℕ) → Pending → Pending → List ℕ → Type 0
+SendsMore now new_now out new_out bytes = (first : Option (List ℕ)) (all : List ℕ) → Sent first now out all → Sent first new_now new_out (all ++ bytes)
+
+-- how many bytes were ever to be sent
+abbrev pub total : Pending → ℕ
+total out = out.written + length out.bytes

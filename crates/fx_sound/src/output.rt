@@ -1,0 +1,196 @@
+//! Bytes on their way to a writer, in a buffer.
+
+ghost use Rattle.std.specs.Prelude.{◌≡◌, ◌+◌, ◌-◌, ◌<◌, ◌≤◌, ◌^◌, ◌++◌, true, [], IsOk, OnOk, OnErr, IfOk, length};
+ghost use Rattle.fx_frame.specs.Io.{CountsFailure};
+ghost use Rattle.fx_frame.specs.FrameCoding.{frame_size, bytes_of, clips_of};
+ghost use Rattle.fx_sound.specs.Output.{SendsOn, SendsMore, total};
+
+use super::buffer::BUFFER_SIZE;
+use fx_frame::frame::Frame;
+use fx_frame::inner::encode;
+use fx_frame::{ByteOut, Coding, Failed};
+use std::marker::Model;
+
+/// An output buffer of 4,096 bytes. The writer comes with each call.
+///
+/// Bytes go to the writer where they leave no room for more, and at the end: a whole output of
+/// less than 4,096 bytes is written at the end alone.
+#[derive(Drop)]
+pub struct Output {
+    buffer: [u8; BUFFER_SIZE],
+    start: usize,
+    end: usize,
+    written: u64,
+}
+
+impl Model for Output {
+    ghost use Rattle.std.specs.Prelude.{◌≡◌, ◌≤◌, ◌<◌, ◌-◌, ◌+◌, ◌^◌, take, drop, length};
+    ghost use Rattle.fx_sound.specs.Output.{Pending};
+    ghost use Rattle.fx_sound.specs.declared.buffer.TheConstants.{BUFFER_SIZE};
+
+    ghost Value = { Pending };
+
+    ghost view = { λ o. record { bytes = take (o.end - o.start) (drop o.start o.buffer); written = o.written; room = BUFFER_SIZE - o.end } };
+
+    ghost invariant = { λ o. (o.start ≤ o.end) × (o.end ≤ BUFFER_SIZE) × (length o.buffer ≡ BUFFER_SIZE) × (o.written + (o.end - o.start) < 2 ^ 64) };
+}
+
+impl Output {
+    /// Nothing waits, and nothing was written. Takes no memory.
+    pub fn new() -> Output
+        ensures bytes { result.bytes ≡ [] }
+        ensures written { result.written ≡ 0 }
+        ensures room { result.room ≡ BUFFER_SIZE }
+    {
+        Output {
+            buffer: [0; BUFFER_SIZE],
+            start: 0,
+            end: 0,
+            written: 0,
+        }
+    }
+
+    /// How many bytes the writer took.
+    pub fn bytes_out(&self) -> u64
+        ensures { result ≡ self.now.written }
+    {
+        self.written
+    }
+
+    // How many bytes wait.
+    fn waiting(&self) -> usize
+        ensures { result ≡ length self.now.bytes }
+    {
+        self.end - self.start
+    }
+
+    // Hands the writer what waits, once.
+    fn write_some<W: ByteOut>(&mut self, writer: &mut W) -> Result<(), Failed>
+        requires { 0 < length self.old.bytes }
+        ensures sent { SendsOn (W.taken writer.old) (W.taken writer.new) self.old self.new }
+        ensures count { total self.new ≡ total self.old }
+        ensures ok { OnOk result (length self.new.bytes < length self.old.bytes) }
+        ensures failures { CountsFailure (W.failures writer.old) (W.failures writer.new) result }
+    {
+        let n = writer.write(&self.buffer[self.start..self.end])?;
+        self.start += n;
+        self.written += n as u64;
+        Ok(())
+    }
+
+    // Hands the writer all that waits.
+    #[inline(never)]
+    fn drain<W: ByteOut>(&mut self, writer: &mut W) -> Result<(), Failed>
+        ensures sent { SendsOn (W.taken writer.old) (W.taken writer.new) self.old self.new }
+        ensures count { total self.new ≡ total self.old }
+        ensures empty { OnOk result (self.new.bytes ≡ []) }
+        ensures room { OnOk result (self.new.room ≡ BUFFER_SIZE) }
+        ensures failures { CountsFailure (W.failures writer.old) (W.failures writer.new) result }
+    {
+        while self.waiting() > 0 {
+            self.write_some(writer)?;
+        }
+        self.start = 0;
+        self.end = 0;
+        Ok(())
+    }
+
+    // Sees that there is room for so many bytes. Mostly there is.
+    #[inline(always)]
+    fn make_room<W: ByteOut>(&mut self, writer: &mut W, size: usize) -> Result<(), Failed>
+        requires { size ≤ BUFFER_SIZE }
+        ensures sent { SendsOn (W.taken writer.old) (W.taken writer.new) self.old self.new }
+        ensures count { total self.new ≡ total self.old }
+        ensures room { OnOk result (size ≤ self.new.room) }
+        ensures failures { CountsFailure (W.failures writer.old) (W.failures writer.new) result }
+        ensures waits { size ≤ self.old.room → IsOk result × (writer.new ≡ writer.old) × (self.new ≡ self.old) }
+    {
+        if size <= BUFFER_SIZE - self.end {
+            return Ok(());
+        }
+        self.drain(writer)
+    }
+
+    // Puts bytes behind those that wait.
+    fn put(&mut self, bytes: &[u8])
+        requires room { length bytes.now ≤ self.old.room }
+        requires count { total self.old + length bytes.now < 2 ^ 64 }
+        ensures bytes { self.new.bytes ≡ self.old.bytes ++ bytes.now }
+        ensures written { self.new.written ≡ self.old.written }
+        ensures room { self.new.room ≡ self.old.room - length bytes.now }
+    {
+        let start = self.end;
+        let end = start + bytes.len();
+        self.buffer[start..end].copy_from_slice(bytes);
+        self.end = end;
+    }
+
+    // Puts the bytes of a frame behind those that wait, and tells its clips.
+    #[inline(always)]
+    fn put_coded(&mut self, frame: &Frame, coding: Coding) -> u64
+        requires room { frame_size coding (length frame.now) ≤ self.old.room }
+        requires count { total self.old + frame_size coding (length frame.now) < 2 ^ 64 }
+        ensures bytes { self.new.bytes ≡ self.old.bytes ++ bytes_of coding frame.now }
+        ensures count { total self.new ≡ total self.old + frame_size coding (length frame.now) }
+        ensures written { self.new.written ≡ self.old.written }
+        ensures room { self.new.room ≡ self.old.room - frame_size coding (length frame.now) }
+        ensures clips { result ≡ clips_of coding frame.now }
+    {
+        let size = frame.channels() * coding.width();
+        let start = self.end;
+        let end = start + size;
+        let clips = encode(frame, coding, &mut self.buffer[start..end]);
+        self.end = end;
+        clips
+    }
+
+    /// Puts at most 4,096 bytes behind those that wait, which go to the writer first where they
+    /// leave no room.
+    pub fn push<W: ByteOut>(&mut self, writer: &mut W, bytes: &[u8]) -> Result<(), Failed>
+        requires piece { length bytes.now ≤ BUFFER_SIZE }
+        requires count { total self.old + length bytes.now < 2 ^ 64 }
+        ensures sent { OnOk result (SendsMore (W.taken writer.old) (W.taken writer.new) self.old self.new bytes.now) }
+        ensures sent_err { OnErr result (SendsOn (W.taken writer.old) (W.taken writer.new) self.old self.new) }
+        ensures count { OnOk result (total self.new ≡ total self.old + length bytes.now) }
+        ensures failures { CountsFailure (W.failures writer.old) (W.failures writer.new) result }
+        ensures waits { length bytes.now ≤ self.old.room → IsOk result × (writer.new ≡ writer.old) × (self.new.room ≡ self.old.room - length bytes.now) }
+    {
+        self.make_room(writer, bytes.len())?;
+        self.put(bytes);
+        Ok(())
+    }
+
+    /// Puts the bytes of a frame behind those that wait, which go to the writer first where they
+    /// leave no room, and tells how many of its samples were clipped.
+    #[inline]
+    pub fn push_frame<W: ByteOut>(
+        &mut self,
+        writer: &mut W,
+        frame: &Frame,
+        coding: Coding,
+    ) -> Result<u64, Failed>
+        requires { total self.old + frame_size coding (length frame.now) < 2 ^ 64 }
+        ensures sent { OnOk result (SendsMore (W.taken writer.old) (W.taken writer.new) self.old self.new (bytes_of coding frame.now)) }
+        ensures clips { IfOk result (λ n. n ≡ clips_of coding frame.now) }
+        ensures sent_err { OnErr result (SendsOn (W.taken writer.old) (W.taken writer.new) self.old self.new) }
+        ensures count { OnOk result (total self.new ≡ total self.old + frame_size coding (length frame.now)) }
+        ensures failures { CountsFailure (W.failures writer.old) (W.failures writer.new) result }
+        ensures waits { frame_size coding (length frame.now) ≤ self.old.room
+            → IsOk result × (writer.new ≡ writer.old) × (self.new.room ≡ self.old.room - frame_size coding (length frame.now)) }
+    {
+        self.make_room(writer, frame.channels() * coding.width())?;
+        Ok(self.put_coded(frame, coding))
+    }
+
+    /// Hands the writer all that waits, and flushes it.
+    pub fn finish<W: ByteOut>(&mut self, writer: &mut W) -> Result<(), Failed>
+        ensures sent { SendsOn (W.taken writer.old) (W.taken writer.new) self.old self.new }
+        ensures count { total self.new ≡ total self.old }
+        ensures empty { OnOk result (self.new.bytes ≡ []) }
+        ensures flushed { OnOk result (W.flushed writer.new ≡ true) }
+        ensures failures { CountsFailure (W.failures writer.old) (W.failures writer.new) result }
+    {
+        self.drain(writer)?;
+        writer.flush()
+    }
+}
