@@ -1,4 +1,5 @@
 pub mod Messages
 pub mod Run
+pub mod Scaling
 pub mod Telling
 pub mod Words

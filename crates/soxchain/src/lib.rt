@@ -2,5 +2,9 @@
 #![tactic(auto)]
 
 pub mod messages;
+pub mod report;
+pub mod scaler;
 pub mod telling;
 pub mod words;
+
+pub use report::{Report, RunFault};
