@@ -1,2 +1,4 @@
 pub mod Running
+pub mod Sending
 pub mod TellingLemmas
+pub mod Turns

@@ -22,6 +22,15 @@ Takes-trans told a b c m k p q = record {
       omega arith;
 }
 
+pub Takes-more : {R : Type 0} (told : R → ℕ) (a b c : Held R) (m k : ℕ) → Takes told a b m → Takes told b c k → Takes told a c (m + k)
+Takes-more told a b c m k p q = record {
+  enough = omega (arith, p.enough, q.enough);
+  counted = λ h.
+      let e = q.counted h in
+      let f = p.counted (omega (arith, q.enough)) in
+      omega arith;
+}
+
 -- one frame more
 pub frames_of-more : (p : Reading) (n : ℕ) (bytes : List ℕ)
     → frames_of p (n + 1) bytes ≡ frames_of p n bytes ++ samples_of p.coding p.channels (take (size_of p) (drop (n * size_of p) bytes)) ∷ []

@@ -1,3 +1,4 @@
+pub mod Cause
 pub mod Messages
 pub mod Run
 pub mod Scaling

@@ -2,6 +2,7 @@
 #![tactic(auto)]
 
 pub mod messages;
+pub mod pump;
 pub mod report;
 pub mod scaler;
 pub mod telling;

@@ -22,6 +22,7 @@ pub struct Scaler {
 
 impl Scaler {
     /// Multiplies a frame, and puts it into the output. Its clips count whether or not that fails.
+    #[tactic(auto, using(crate::proofs::Sending::frame_size_le))]
     pub fn send<W: ByteOut>(
         &mut self,
         frame: Frame,
@@ -33,6 +34,7 @@ impl Scaler {
         ensures sent { OnOk result (SendsMore (W.taken writer.old) (W.taken writer.new) output.old output.new (bytes_of self.old.coding (scaled_given self.old.gain frame).samples)) }
         ensures sent_err { OnErr result (SendsOn (W.taken writer.old) (W.taken writer.new) output.old output.new) }
         ensures count { OnOk result (total output.new ≡ total output.old + frame_size self.old.coding (length frame)) }
+        ensures small { OnOk result (total output.new ≤ total output.old + 64) }
         ensures failures { CountsFailure (W.failures writer.old) (W.failures writer.new) result }
 
         // The counts.
