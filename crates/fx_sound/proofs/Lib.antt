@@ -2,3 +2,7 @@ pub mod Held
 pub mod Sounds
 pub mod Sending
 pub mod AuLemmas
+pub mod WaveLemmas
+pub mod WaveLocal
+pub mod WaveCut
+pub mod WaveRiff
