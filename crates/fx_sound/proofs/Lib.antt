@@ -6,3 +6,4 @@ pub mod WaveLemmas
 pub mod WaveLocal
 pub mod WaveCut
 pub mod WaveRiff
+pub mod HeadLemmas

@@ -9,3 +9,4 @@ pub mod Layout
 pub mod Reads
 pub mod Au
 pub mod Wave
+pub mod Head
