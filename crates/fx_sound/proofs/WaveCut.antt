@@ -18,9 +18,9 @@ cut-next m t o next seen format bytes h a b e l old k =
     let same : o - 12 + (next - o) ≡ next - 12 = omega arith in
     let far : o - 12 + (next - o + k) ≡ next - 12 + k = omega arith in
     let local : step_of o seen (take (next - o + k) (drop (o - 12) bytes)) ≡ Ok (step.Next next format) =
-        step_of-local o seen (drop (o - 12) bytes) (next - o + k) (step.Next next format) e b (omega arith) l in
+    step_of-local o seen (drop (o - 12) bytes) (next - o + k) (step.Next next format) e b (omega arith) l in
     let rest : drop (next - o) (take (next - o + k) (drop (o - 12) bytes)) ≡ take k (drop (next - 12) bytes) =
-        drop-take (next - o) k (drop (o - 12) bytes) ∙ ap (take k) (drop-drop (next - o) (o - 12) bytes ∙ ap (λ i. drop i bytes) same) in
+    drop-take (next - o) k (drop (o - 12) bytes) ∙ ap (take k) (drop-drop (next - o) (o - 12) bytes ∙ ap (λ i. drop i bytes) same) in
     ap (chunks_of (m - (t + 1)) next format) (sym rest)
     ∙ sym (turn-next m t o next seen format (take (next - o + k) (drop (o - 12) bytes)) h local)
     ∙ old (next - o + k)

@@ -53,6 +53,6 @@ step_of-local o seen rest k s e g h l =
     let four : take 4 (take k rest) ≡ take 4 rest = take-take 4 k rest (omega arith) in
     let fours : k ≡ 4 + (k - 4) = omega arith in
     let next : take 4 (drop 4 (take k rest)) ≡ take 4 (drop 4 rest) =
-        ap (λ i. take 4 (drop 4 (take i rest))) fours ∙ ap (take 4) (drop-take 4 (k - 4) rest) ∙ take-take 4 (k - 4) (drop 4 rest) (omega arith) in
+    ap (λ i. take 4 (drop 4 (take i rest))) fours ∙ ap (take 4) (drop-take 4 (k - 4) rest) ∙ take-take 4 (k - 4) (drop 4 rest) (omega arith) in
     let back : drop 8 (take k rest) ≡ take (k - 8) (drop 8 rest) = ap (λ i. drop 8 (take i rest)) parts ∙ drop-take 8 (k - 8) rest in
     rw (q, four, next, back) (with_body-local o seen (drop 8 rest) (k - 8) (demand_of o seen (take 4 rest) (long_at 4 rest)) s both.1 (omega arith) (omega (arith, length-drop 8 rest)))

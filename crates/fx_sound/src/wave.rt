@@ -6,7 +6,6 @@ ghost use Rattle.fx_sound.specs.Known.{IfKnown};
 ghost use Rattle.fx_sound.specs.Kind.{is_of_wav};
 ghost use Rattle.fx_sound.specs.Layout.{IsProper, is_read_failure};
 ghost use Rattle.fx_sound.specs.Wave.{half_at, long_at, wav_coding, IsProperSeen, plain_of, format_of, padded, demand_of, IsNear, AskedAt, format_read, with_body, step_of, end_of, GoesOn, chunks_of, most_chunks, behind_riff};
-
 ghost use Rattle.fx_sound.specs.Reads.{Reads, Refuses, Fails};
 
 use super::head::{FARTHEST, HeadFault, Kind};
@@ -131,7 +130,11 @@ fn asked(offset: u32, seen: Option<Format>, name: [u8; 4], size: u32) -> Result<
         return match seen {
             None => Err(HeadFault::BadHeader),
             Some(format) => {
-                let announced = if size < STREAMED { Some(size as u64) } else { None };
+                let announced = if size < STREAMED {
+                    Some(size as u64)
+                } else {
+                    None
+                };
                 Ok(Demand::Sound(Layout {
                     offset: offset + 8,
                     announced,
@@ -188,7 +191,12 @@ fn read_format<R: ByteIn>(source: &mut Source<R>, size: u32) -> Result<Format, H
 }
 
 // What comes of a demand.
-fn read_body<R: ByteIn>(source: &mut Source<R>, offset: u32, seen: Option<Format>, demand: Demand) -> Result<Step, HeadFault>
+fn read_body<R: ByteIn>(
+    source: &mut Source<R>,
+    offset: u32,
+    seen: Option<Format>,
+    demand: Demand,
+) -> Result<Step, HeadFault>
     requires demand { AskedAt offset demand }
     requires seen { IsProperSeen seen }
     ensures step { IfOk result (λ s. Reads R.rest (λ body. with_body offset seen body (Ok demand)) source.old source.new (end_of s - (offset + 8)) s) }
@@ -230,7 +238,11 @@ fn name_at(bytes: &[u8]) -> [u8; 4]
 }
 
 // One chunk, or its name and size alone, where the sound follows.
-fn read_step<R: ByteIn>(source: &mut Source<R>, offset: u32, seen: Option<Format>) -> Result<Step, HeadFault>
+fn read_step<R: ByteIn>(
+    source: &mut Source<R>,
+    offset: u32,
+    seen: Option<Format>,
+) -> Result<Step, HeadFault>
     requires place { offset + 8 ≤ 2 ^ 24 }
     requires seen { IsProperSeen seen }
     ensures step { IfOk result (λ s. Reads R.rest (step_of offset seen) source.old source.new (end_of s - offset) s) }

@@ -23,10 +23,11 @@ returns-in-Sound-clause-head g c = λ bytes known.
     let on : P (step.Sound c.in-Sound.head) = subst P c.in-Sound.is c.in-Ok.ensures.on in
     let here : c.in-Sound.head.offset ≡ c.loop-turn.offset + 8 = on.0 in
     let end : end_of c.in-Ok.step ≡ c.in-Sound.head.offset = ap end_of c.in-Sound.is in
-    let all : c.loop-turn.offset - 12 + (end_of c.in-Ok.step - c.loop-turn.offset) ≡ c.in-Sound.head.offset - 12 = omega arith in
-    (sym old.2 ∙ turn-sound most_chunks c.loop-turn._turn c.loop-turn.offset c.loop-turn.seen _ c.in-Sound.head (omega arith) (new.0 ∙ ap Ok c.in-Sound.is),
-     omega (arith, new.1, old.0, length-drop (c.loop-turn.offset - 12) bytes),
-     new.2 ∙ ap Some (drop-drop (end_of c.in-Ok.step - c.loop-turn.offset) (c.loop-turn.offset - 12) bytes ∙ ap (λ i. drop i bytes) all))
+    let all : c.loop-turn.offset - 12 + (end_of c.in-Ok.step - c.loop-turn.offset) ≡ c.in-Sound.head.offset - 12 = omega arith in (
+      sym old.2 ∙ turn-sound most_chunks c.loop-turn._turn c.loop-turn.offset c.loop-turn.seen _ c.in-Sound.head (omega arith) (new.0 ∙ ap Ok c.in-Sound.is),
+      omega (arith, new.1, old.0, length-drop (c.loop-turn.offset - 12) bytes),
+      new.2 ∙ ap Some (drop-drop (end_of c.in-Ok.step - c.loop-turn.offset) (c.loop-turn.offset - 12) bytes ∙ ap (λ i. drop i bytes) all),
+    )
 
 pub loop-turn-preserved : goal.loop-turn-preserved
 loop-turn-preserved g c =
@@ -42,12 +43,13 @@ loop-turn-preserved g c =
       seen = on.2;
       rest = λ bytes known.
           let old = c.loop-turn.invariant.rest bytes known in
-          let new = c.in-Ok.ensures.step _ old.1 in
-          (omega (arith, new.1, old.0, on.0, length-drop (c.loop-turn.offset - 12) bytes),
-           new.2 ∙ ap Some (drop-drop (end_of c.in-Ok.step - c.loop-turn.offset) (c.loop-turn.offset - 12) bytes ∙ ap (λ i. drop i bytes) all),
-           ap (chunks_of (most_chunks - (c.loop-turn._turn + 1)) c.in-Next.next c.in-Next.format) (ap (λ i. drop i bytes) (sym all-2) ∙ sym (drop-drop (c.in-Next.next - c.loop-turn.offset) (c.loop-turn.offset - 12) bytes))
-           ∙ sym (turn-next most_chunks c.loop-turn._turn c.loop-turn.offset c.in-Next.next c.loop-turn.seen c.in-Next.format _ (omega arith) (new.0 ∙ ap Ok c.in-Next.is))
-           ∙ old.2);
+          let new = c.in-Ok.ensures.step _ old.1 in (
+            omega (arith, new.1, old.0, on.0, length-drop (c.loop-turn.offset - 12) bytes),
+            new.2 ∙ ap Some (drop-drop (end_of c.in-Ok.step - c.loop-turn.offset) (c.loop-turn.offset - 12) bytes ∙ ap (λ i. drop i bytes) all),
+            ap (chunks_of (most_chunks - (c.loop-turn._turn + 1)) c.in-Next.next c.in-Next.format) (ap (λ i. drop i bytes) (sym all-2) ∙ sym (drop-drop (c.in-Next.next - c.loop-turn.offset) (c.loop-turn.offset - 12) bytes))
+                ∙ sym (turn-next most_chunks c.loop-turn._turn c.loop-turn.offset c.in-Next.next c.loop-turn.seen c.in-Next.format _ (omega arith) (new.0 ∙ ap Ok c.in-Next.is))
+                ∙ old.2,
+          );
       told = turn-told g.R.ByteIn.told _ _ _ _ _ _ all c.loop-turn.invariant.told c.in-Ok.ensures.told;
       cut = λ bytes known.
           let old = c.loop-turn.invariant.rest bytes known in

@@ -48,10 +48,11 @@ returns-in-Ok-format-clause-format g c = λ bytes known.
     let count = c.in-Ok.ensures.count in
     let count-2 = c.in-Ok-skip.ensures.count in
     let there : padded c.args.size ≤ length bytes = omega (arith, then.0, length-drop c.in-Ok.got bytes) in
-    let all : c.in-Ok.got + c.in-Ok-skip.skipped ≡ padded c.args.size = omega arith in
-    (format_read-whole c.args.size c.in-Ok.got bytes c.fill.new.out first.0 (omega arith) (omega arith) (omega arith) there ∙ sym c.in-Ok-format.ensures.value,
-     there,
-     then.1 ∙ ap Some (drop-drop c.in-Ok-skip.skipped c.in-Ok.got bytes ∙ ap (λ i. drop i bytes) all))
+    let all : c.in-Ok.got + c.in-Ok-skip.skipped ≡ padded c.args.size = omega arith in (
+      format_read-whole c.args.size c.in-Ok.got bytes c.fill.new.out first.0 (omega arith) (omega arith) (omega arith) there ∙ sym c.in-Ok-format.ensures.value,
+      there,
+      then.1 ∙ ap Some (drop-drop c.in-Ok-skip.skipped c.in-Ok.got bytes ∙ ap (λ i. drop i bytes) all),
+    )
 
 pub returns-in-Err-clause-fault : goal.returns-in-Err-clause-fault
 returns-in-Err-clause-fault g c = λ _ bytes known.

@@ -37,11 +37,12 @@ returns-in-Ok-read_body-clause-step g c = λ bytes known.
     let count = c.in-Ok.ensures.count in
     let body = c.in-Ok-read_body.ensures.step _ first.2 in
     let on = GoesOn-far c.args.offset c.in-Ok-read_body.step c.in-Ok-read_body.ensures.on in
-    let all : c.in-Ok.got + (end_of c.in-Ok-read_body.step - (c.args.offset + 8)) ≡ end_of c.in-Ok-read_body.step - c.args.offset = omega arith in
-    (step_of-asked c.args.offset c.args.seen bytes c.fill.new.out c.name_at-name.result c.in-Ok.got c.long-size.result _
-    first.0 first.1 (omega arith) (omega arith) (omega arith) c.name_at-name.ensures c.long-size.ensures c.in-Ok-asked.ensures.value ∙ body.0,
-    omega (arith, body.1, length-drop c.in-Ok.got bytes),
-    body.2 ∙ ap Some (drop-drop (end_of c.in-Ok-read_body.step - (c.args.offset + 8)) c.in-Ok.got bytes ∙ ap (λ i. drop i bytes) all))
+    let all : c.in-Ok.got + (end_of c.in-Ok-read_body.step - (c.args.offset + 8)) ≡ end_of c.in-Ok-read_body.step - c.args.offset = omega arith in (
+      step_of-asked c.args.offset c.args.seen bytes c.fill.new.out c.name_at-name.result c.in-Ok.got c.long-size.result _
+          first.0 first.1 (omega arith) (omega arith) (omega arith) c.name_at-name.ensures c.long-size.ensures c.in-Ok-asked.ensures.value ∙ body.0,
+      omega (arith, body.1, length-drop c.in-Ok.got bytes),
+      body.2 ∙ ap Some (drop-drop (end_of c.in-Ok-read_body.step - (c.args.offset + 8)) c.in-Ok.got bytes ∙ ap (λ i. drop i bytes) all),
+    )
 
 pub returns-in-Err-read_body-clause-fault : goal.returns-in-Err-read_body-clause-fault
 returns-in-Err-read_body-clause-fault g c = λ not_read bytes known.

@@ -36,10 +36,11 @@ returns-in-Ok-read_chunks-clause-layout g c = λ bytes known.
     let count = c.in-Ok.ensures.count in
     let far : 12 < c.in-Ok-read_chunks.head.offset = c.in-Ok-read_chunks.ensures.offset.0 in
     let then = c.in-Ok-read_chunks.ensures.head _ first.2 in
-    let all : c.in-Ok.got + (c.in-Ok-read_chunks.head.offset - 12) ≡ c.in-Ok-read_chunks.head.offset - 4 = omega arith in
-    (riff-chunks bytes c.fill.new.out c.name_at-name.result c.in-Ok.got first.0 first.1 (omega arith) (omega arith) (omega arith) (c.name_at-name.ensures ∙ take-take 4 4 (drop 4 c.fill.new.out) (omega arith)) c.if-ne.ensures ∙ then.0,
-     omega (arith, then.1, first.1, length-drop c.in-Ok.got bytes),
-     then.2 ∙ ap Some (drop-drop (c.in-Ok-read_chunks.head.offset - 12) c.in-Ok.got bytes ∙ ap (λ i. drop i bytes) all))
+    let all : c.in-Ok.got + (c.in-Ok-read_chunks.head.offset - 12) ≡ c.in-Ok-read_chunks.head.offset - 4 = omega arith in (
+      riff-chunks bytes c.fill.new.out c.name_at-name.result c.in-Ok.got first.0 first.1 (omega arith) (omega arith) (omega arith) (c.name_at-name.ensures ∙ take-take 4 4 (drop 4 c.fill.new.out) (omega arith)) c.if-ne.ensures ∙ then.0,
+      omega (arith, then.1, first.1, length-drop c.in-Ok.got bytes),
+      then.2 ∙ ap Some (drop-drop (c.in-Ok-read_chunks.head.offset - 12) c.in-Ok.got bytes ∙ ap (λ i. drop i bytes) all),
+    )
 
 pub returns-in-Err-clause-fault : goal.returns-in-Err-clause-fault
 returns-in-Err-clause-fault g c = λ not_read bytes known.
