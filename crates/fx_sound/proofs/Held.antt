@@ -30,8 +30,8 @@ take-refilled buffer more held room n h k =
     let post : List ℕ = drop room (drop held buffer) in
     let len : length (take held buffer ++ take n more) ≡ held + n = simp (length-append, length-take) (omega arith) in
     let parts : take held buffer ++ (more ++ post) ≡ (take held buffer ++ take n more) ++ (drop n more ++ post) =
-        ap (λ l. take held buffer ++ (l ++ post)) (sym (take-append-drop n more)) ∙ ap (λ l. take held buffer ++ l) (append_assoc (take n more) (drop n more) post)
-        ∙ sym (append_assoc (take held buffer) (take n more) (drop n more ++ post)) in
+    ap (λ l. take held buffer ++ (l ++ post)) (sym (take-append-drop n more)) ∙ ap (λ l. take held buffer ++ l) (append_assoc (take n more) (drop n more) post)
+    ∙ sym (append_assoc (take held buffer) (take n more) (drop n more ++ post)) in
     ap (take (held + n)) parts ∙ take_at (take held buffer ++ take n more) (drop n more ++ post) (held + n) len
 
 -- bytes that were read come behind those that are held

@@ -38,10 +38,10 @@ held-put buffer bytes start end n o w l =
     let held : List ℕ = take (end - start) (drop start buffer) in
     let front : length (take end buffer) ≡ end = length-take-le end buffer (omega arith) in
     let before : drop start (take end buffer) ≡ held =
-        let e : end ≡ start + (end - start) = omega arith in
-        ap (λ m. drop start (take m buffer)) e ∙ drop-take start (end - start) buffer in
+    let e : end ≡ start + (end - start) = omega arith in
+    ap (λ m. drop start (take m buffer)) e ∙ drop-take start (end - start) buffer in
     let cut : drop start (take end buffer ++ (bytes ++ post)) ≡ (held ++ bytes) ++ post =
-        drop-append-le start (take end buffer) (bytes ++ post) (omega (arith, front)) ∙ ap (λ m. m ++ (bytes ++ post)) before ∙ sym (append_assoc held bytes post) in
+    drop-append-le start (take end buffer) (bytes ++ post) (omega (arith, front)) ∙ ap (λ m. m ++ (bytes ++ post)) before ∙ sym (append_assoc held bytes post) in
     let size : length (held ++ bytes) ≡ end + n - start = simp (length-append, length-take, length-drop) (omega arith) in
     rw cut (take_at (held ++ bytes) post (end + n - start) size)
 

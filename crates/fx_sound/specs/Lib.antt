@@ -8,3 +8,5 @@ pub mod Output
 pub mod Layout
 pub mod Reads
 pub mod Au
+pub mod Wave
+pub mod Head

@@ -68,7 +68,11 @@ fn fields(words: &[u8]) -> Result<Layout, HeadFault>
             channels: channels as usize,
             coding,
         },
-        announced: if size == UNKNOWN_SIZE { None } else { Some(size as u64) },
+        announced: if size == UNKNOWN_SIZE {
+            None
+        } else {
+            Some(size as u64)
+        },
         offset,
     })
 }

@@ -8,10 +8,16 @@ pub mod inner;
 pub mod layout;
 pub mod output;
 pub mod progress;
+pub mod read;
 pub mod source;
+pub mod wave;
 pub mod writing;
 
 pub use head::{Head, HeadFault, Kind};
 pub use progress::{MOST_FRAMES, Progress, ReadFault, next_frame};
+pub use read::read_head;
 pub use source::Source;
 pub use writing::{HeadBytes, head_bytes};
+
+#[cfg(test)]
+mod tests;

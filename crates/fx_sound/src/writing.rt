@@ -157,7 +157,13 @@ fn au_bytes(rate: u32, channels: usize, width: usize, size: Option<u32>) -> Head
 /// The head of a sound of so many frames, or of an unknown number (streamed).
 ///
 /// A number of bytes that the container can't say is written as unknown.
-pub fn head_bytes(kind: Kind, rate: u32, channels: usize, coding: Coding, frames: Option<u64>) -> HeadBytes
+pub fn head_bytes(
+    kind: Kind,
+    rate: u32,
+    channels: usize,
+    coding: Coding,
+    frames: Option<u64>,
+) -> HeadBytes
     requires coding { IsTrue (is_coding_of kind coding) }
     requires channels { (1 ≤ channels) × (channels ≤ 16) }
     requires rate { 1 ≤ rate }
@@ -168,8 +174,16 @@ pub fn head_bytes(kind: Kind, rate: u32, channels: usize, coding: Coding, frames
     match kind {
         Kind::Wav => {
             let format = format_bytes(rate, channels, width);
-            wav_bytes(format.as_slice(), sound_size(WAV_UNKNOWN, frame_bytes, frames))
+            wav_bytes(
+                format.as_slice(),
+                sound_size(WAV_UNKNOWN, frame_bytes, frames),
+            )
         }
-        Kind::Au => au_bytes(rate, channels, width, sound_size(AU_UNKNOWN, frame_bytes, frames)),
+        Kind::Au => au_bytes(
+            rate,
+            channels,
+            width,
+            sound_size(AU_UNKNOWN, frame_bytes, frames),
+        ),
     }
 }

@@ -63,8 +63,9 @@ returns-clause-layout g c = λ bytes known.
     let count-2 = c.in-Ok-skip.ensures.count in
     let offset = c.in-Ok-fields.ensures.offset in
     let place : c.in-Ok.got + c.in-Ok-skip.skipped ≡ c.in-Ok-fields.layout.offset - 4 = omega (arith, offset.0) in
-    let there : c.in-Ok-fields.layout.offset - 4 ≤ length bytes = omega (arith, then.0, place, length-drop c.in-Ok.got bytes) in
-    (behind_snd-read bytes c.fill.new.out c.in-Ok.got _ first.0 first.1 (omega arith) (omega arith) (omega arith) c.in-Ok-fields.ensures.value
-     ∙ with_sound-whole (length bytes) c.in-Ok-fields.layout (omega (arith, there)),
-     there,
-     then.1 ∙ ap Some (drop-drop c.in-Ok-skip.skipped c.in-Ok.got bytes ∙ ap (λ i. drop i bytes) place))
+    let there : c.in-Ok-fields.layout.offset - 4 ≤ length bytes = omega (arith, then.0, place, length-drop c.in-Ok.got bytes) in (
+      behind_snd-read bytes c.fill.new.out c.in-Ok.got _ first.0 first.1 (omega arith) (omega arith) (omega arith) c.in-Ok-fields.ensures.value
+          ∙ with_sound-whole (length bytes) c.in-Ok-fields.layout (omega (arith, there)),
+      there,
+      then.1 ∙ ap Some (drop-drop c.in-Ok-skip.skipped c.in-Ok.got bytes ∙ ap (λ i. drop i bytes) place),
+    )

@@ -1,0 +1,94 @@
+//! Reading the head of a sound.
+
+ghost use Rattle.std.specs.Prelude.{◌≡◌, ◌+◌, ◌-◌, ◌<◌, ◌≤◌, IfOk, IfErr, MatchBool};
+ghost use Rattle.fx_frame.specs.Io.{saturated};
+ghost use Rattle.fx_sound.specs.Source.{to_come};
+ghost use Rattle.fx_sound.specs.Known.{IfKnown};
+ghost use Rattle.fx_sound.specs.Head.{kind_of, allowed, behind, head_of, ReadsHead};
+ghost use Rattle.fx_sound.specs.Layout.{IsProper, is_read_failure};
+ghost use Rattle.fx_sound.specs.Reads.{Reads, Refuses, Fails};
+
+use super::au::read_au;
+use super::head::{FARTHEST, Head, HeadFault, Kind};
+use super::layout::Layout;
+use super::source::Source;
+use super::wave::read_wav;
+use fx_frame::ByteIn;
+
+// The kind that the first four bytes name, unless the other was expected.
+fn found(expected: Option<Kind>, name: [u8; 4]) -> Option<Kind>
+    ensures { result ≡ allowed expected (kind_of name) }
+{
+    let kind = if name == *b"RIFF" {
+        Kind::Wav
+    } else if name == *b".snd" {
+        Kind::Au
+    } else {
+        return None;
+    };
+    match expected {
+        Some(other) if other != kind => None,
+        _ => Some(kind),
+    }
+}
+
+fn read_layout<R: ByteIn>(source: &mut Source<R>, kind: Kind) -> Result<Layout, HeadFault>
+    ensures layout { IfOk result (λ l. Reads R.rest (behind kind) source.old source.new (l.offset - 4) l) }
+    ensures offset { IfOk result (λ l. (4 < l.offset) × (l.offset ≤ FARTHEST)) }
+    ensures proper { IfOk result (λ l. IsProper kind l.format) }
+    ensures fault { IfErr result (Refuses R.rest (behind kind) source.old) }
+    ensures cut { IfErr result (Fails R.rest R.told (behind kind) source.old source.new) }
+    ensures failures { MatchBool (is_read_failure result)
+        (R.failures source.new.reader ≡ saturated (R.failures source.old.reader + 1))
+        (R.failures source.new.reader ≡ R.failures source.old.reader) }
+{
+    match kind {
+        Kind::Wav => match read_wav(source) {
+            Ok(layout) => Ok(layout),
+            Err(fault) => Err(fault),
+        },
+        Kind::Au => match read_au(source) {
+            Ok(layout) => Ok(layout),
+            Err(fault) => Err(fault),
+        },
+    }
+}
+
+/// Reads the head of a sound, up to the first byte of the sound; of the expected kind, or of
+/// either where none is expected.
+///
+/// The first fault is answered, in the order of the checks. After a fault the source has been read
+/// in part and is used only for `into_inner`.
+pub fn read_head<R: ByteIn>(
+    source: &mut Source<R>,
+    expected: Option<Kind>,
+) -> Result<Head, HeadFault>
+    ensures head { IfOk result (λ h. IfKnown (to_come R.rest source.old) (λ bytes. ReadsHead R.rest expected bytes source.new h)) }
+    ensures fault { IfErr result (Refuses R.rest (head_of expected) source.old) }
+    ensures read_failed { IfErr result (Fails R.rest R.told (head_of expected) source.old source.new) }
+    ensures failures { MatchBool (is_read_failure result)
+        (R.failures source.new.reader ≡ saturated (R.failures source.old.reader + 1))
+        (R.failures source.new.reader ≡ R.failures source.old.reader) }
+{
+    let mut name = [0; 4];
+    let Ok(got) = source.fill(&mut name) else {
+        return Err(HeadFault::ReadFailed);
+    };
+    if got < 4 {
+        return Err(HeadFault::Truncated);
+    }
+    let Some(kind) = found(expected, name) else {
+        return Err(HeadFault::UnknownType);
+    };
+    let layout = match read_layout(source, kind) {
+        Ok(layout) => layout,
+        Err(fault) => return Err(fault),
+    };
+    Ok(Head {
+        kind,
+        rate: layout.format.rate,
+        channels: layout.format.channels,
+        coding: layout.format.coding,
+        announced: layout.announced,
+    })
+}

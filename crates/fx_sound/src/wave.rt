@@ -1,0 +1,333 @@
+//! Reading the head of a RIFF WAVE sound.
+ghost use Rattle.std.specs.Prelude.{◌≡◌, ◌≢◌, ℕ, ◌+◌, ◌-◌, ◌*◌, ◌^◌, ◌<◌, ◌≤◌, List, Option, None, Some, false, IsTrue, IfSome, IfOk, IfErr, Ok, MatchBool, length, take, drop, min};
+ghost use Rattle.fx_frame.specs.Io.{saturated};
+ghost use Rattle.fx_sound.specs.Source.{to_come, Takes, FallsShort};
+ghost use Rattle.fx_sound.specs.Known.{IfKnown};
+ghost use Rattle.fx_sound.specs.Kind.{is_of_wav};
+ghost use Rattle.fx_sound.specs.Layout.{IsProper, is_read_failure};
+ghost use Rattle.fx_sound.specs.Wave.{half_at, long_at, wav_coding, IsProperSeen, plain_of, format_of, padded, demand_of, IsNear, AskedAt, format_read, with_body, step_of, end_of, GoesOn, chunks_of, most_chunks, behind_riff};
+ghost use Rattle.fx_sound.specs.Reads.{Reads, Refuses, Fails};
+
+use super::head::{FARTHEST, HeadFault, Kind};
+use super::layout::{Format, Layout};
+use super::source::Source;
+use fx_frame::{ByteIn, Coding};
+
+const STREAMED: u32 = 0x7FFF_F000;
+
+// The farthest place at which a chunk may begin.
+const FARTHEST_CHUNK: u64 = FARTHEST as u64 - 8;
+
+const GUID: [u8; 16] = [1, 0, 0, 0, 0, 0, 16, 0, 128, 0, 0, 170, 0, 56, 155, 113];
+
+/// What the name and size of a chunk ask for.
+#[derive(Clone, Copy, Debug, PartialEq, Eq)]
+pub enum Demand {
+    Sound(Layout),
+    Format(u32),
+    Other(u32),
+}
+
+/// What stands behind a chunk: the sound, or a chunk more.
+#[derive(Clone, Copy, Debug, PartialEq, Eq)]
+pub enum Step {
+    Sound(Layout),
+    Next(u32, Option<Format>),
+}
+
+fn half(bytes: &[u8], i: usize) -> u16
+    requires { i + 2 ≤ length bytes.now }
+    ensures { result ≡ half_at i bytes.now }
+{
+    u16::from_le_bytes([bytes[i], bytes[i + 1]])
+}
+
+fn long(bytes: &[u8], i: usize) -> u32
+    requires { i + 4 ≤ length bytes.now }
+    ensures { result ≡ long_at i bytes.now }
+{
+    u32::from_le_bytes([bytes[i], bytes[i + 1], bytes[i + 2], bytes[i + 3]])
+}
+
+fn coding_of(bits: u16) -> Option<Coding>
+    ensures value { result ≡ wav_coding bits }
+    ensures kind { IfSome result (λ c. IsTrue (is_of_wav c)) }
+{
+    match bits {
+        8 => Some(Coding::U8),
+        16 => Some(Coding::S16Le),
+        24 => Some(Coding::S24Le),
+        32 => Some(Coding::S32Le),
+        _ => None,
+    }
+}
+
+// The fields that both tags have.
+#[tactic(auto, unfolding(crate::specs::Wave::plain_of))]
+fn plain(bytes: &[u8]) -> Result<Format, HeadFault>
+    requires { 16 ≤ length bytes.now }
+    ensures value { result ≡ plain_of bytes.now }
+    ensures proper { IfOk result (IsProper Kind.Wav) }
+    ensures fault { is_read_failure result ≡ false }
+{
+    let channels = half(bytes, 2);
+    let rate = long(bytes, 4);
+    let align = half(bytes, 12);
+    let bits = half(bytes, 14);
+    if channels == 0 || rate == 0 {
+        return Err(HeadFault::BadHeader);
+    }
+    let Some(coding) = coding_of(bits) else {
+        return Err(HeadFault::NotInProfile);
+    };
+    if align as u32 != channels as u32 * (bits as u32 / 8) {
+        return Err(HeadFault::NotInProfile);
+    }
+    if channels > 16 {
+        return Err(HeadFault::TooManyChannels);
+    }
+    Ok(Format {
+        rate,
+        channels: channels as usize,
+        coding,
+    })
+}
+
+// The format that the first forty bytes of a body spell.
+#[tactic(auto, unfolding(crate::specs::Wave::format_of))]
+fn format(bytes: &[u8]) -> Result<Format, HeadFault>
+    requires { 16 ≤ length bytes.now }
+    ensures value { result ≡ format_of bytes.now }
+    ensures proper { IfOk result (IsProper Kind.Wav) }
+    ensures fault { is_read_failure result ≡ false }
+{
+    let tag = half(bytes, 0);
+    if tag == 1 {
+        return plain(bytes);
+    }
+    if tag != 0xFFFE {
+        return Err(HeadFault::NotInProfile);
+    }
+    if bytes.len() < 40 || half(bytes, 16) < 22 {
+        return Err(HeadFault::BadHeader);
+    }
+    if &bytes[24..40] != GUID.as_slice() {
+        return Err(HeadFault::NotInProfile);
+    }
+    plain(bytes)
+}
+
+// What a chunk asks for, whose name stands at `offset`.
+#[tactic(auto, unfolding(crate::specs::Wave::demand_of))]
+fn asked(offset: u32, seen: Option<Format>, name: [u8; 4], size: u32) -> Result<Demand, HeadFault>
+    requires place { offset + 8 ≤ 2 ^ 24 }
+    requires seen { IsProperSeen seen }
+    ensures value { result ≡ demand_of offset seen name size }
+    ensures near { IfOk result (IsNear offset) }
+    ensures fault { is_read_failure result ≡ false }
+{
+    if name == *b"data" {
+        return match seen {
+            None => Err(HeadFault::BadHeader),
+            Some(format) => {
+                let announced = if size < STREAMED {
+                    Some(size as u64)
+                } else {
+                    None
+                };
+                Ok(Demand::Sound(Layout {
+                    offset: offset + 8,
+                    announced,
+                    format,
+                }))
+            }
+        };
+    }
+    if offset as u64 + 8 + size as u64 + size as u64 % 2 > FARTHEST_CHUNK {
+        return Err(HeadFault::HeadTooLong);
+    }
+    if name != *b"fmt " {
+        return Ok(Demand::Other(size));
+    }
+    if seen.is_some() || size < 16 {
+        return Err(HeadFault::BadHeader);
+    }
+    Ok(Demand::Format(size))
+}
+
+// The format that a body of this size spells, and its pad byte.
+fn read_format<R: ByteIn>(source: &mut Source<R>, size: u32) -> Result<Format, HeadFault>
+    requires low { 16 ≤ size }
+    requires high { size < 2 ^ 24 }
+    ensures format { IfOk result (Reads R.rest (format_read size) source.old source.new (padded size)) }
+    ensures proper { IfOk result (IsProper Kind.Wav) }
+    ensures told { IfOk result (λ _. Takes R.told source.old source.new (padded size)) }
+    ensures fault { IfErr result (Refuses R.rest (format_read size) source.old) }
+    ensures cut { IfErr result (Fails R.rest R.told (format_read size) source.old source.new) }
+    ensures failures { MatchBool (is_read_failure result)
+        (R.failures source.new.reader ≡ saturated (R.failures source.old.reader + 1))
+        (R.failures source.new.reader ≡ R.failures source.old.reader) }
+{
+    let mut buffer = [0; 40];
+    let most = (size as usize).min(40);
+    let front = &mut buffer[..most];
+    let Ok(got) = source.fill(front) else {
+        return Err(HeadFault::ReadFailed);
+    };
+    if got < most {
+        return Err(HeadFault::Truncated);
+    }
+    let length = (size + size % 2) as usize - most;
+    let Ok(skipped) = source.skip(length) else {
+        return Err(HeadFault::ReadFailed);
+    };
+    if skipped < length {
+        return Err(HeadFault::Truncated);
+    }
+    match format(front) {
+        Ok(format) => Ok(format),
+        Err(fault) => Err(fault),
+    }
+}
+
+// What comes of a demand.
+fn read_body<R: ByteIn>(
+    source: &mut Source<R>,
+    offset: u32,
+    seen: Option<Format>,
+    demand: Demand,
+) -> Result<Step, HeadFault>
+    requires demand { AskedAt offset demand }
+    requires seen { IsProperSeen seen }
+    ensures step { IfOk result (λ s. Reads R.rest (λ body. with_body offset seen body (Ok demand)) source.old source.new (end_of s - (offset + 8)) s) }
+    ensures told { IfOk result (λ s. Takes R.told source.old source.new (end_of s - (offset + 8))) }
+    ensures on { IfOk result (GoesOn offset) }
+    ensures fault { IfErr result (Refuses R.rest (λ body. with_body offset seen body (Ok demand)) source.old) }
+    ensures cut { IfErr result (Fails R.rest R.told (λ body. with_body offset seen body (Ok demand)) source.old source.new) }
+    ensures failures { MatchBool (is_read_failure result)
+        (R.failures source.new.reader ≡ saturated (R.failures source.old.reader + 1))
+        (R.failures source.new.reader ≡ R.failures source.old.reader) }
+{
+    match demand {
+        Demand::Sound(head) => Ok(Step::Sound(head)),
+        Demand::Format(size) => {
+            let format = match read_format(source, size) {
+                Ok(format) => format,
+                Err(fault) => return Err(fault),
+            };
+            Ok(Step::Next(offset + 8 + size + size % 2, Some(format)))
+        }
+        Demand::Other(size) => {
+            let length = (size + size % 2) as usize;
+            let Ok(skipped) = source.skip(length) else {
+                return Err(HeadFault::ReadFailed);
+            };
+            if skipped < length {
+                return Err(HeadFault::Truncated);
+            }
+            Ok(Step::Next(offset + 8 + size + size % 2, seen))
+        }
+    }
+}
+
+fn name_at(bytes: &[u8]) -> [u8; 4]
+    requires { 4 ≤ length bytes.now }
+    ensures { result ≡ take 4 bytes.now }
+{
+    [bytes[0], bytes[1], bytes[2], bytes[3]]
+}
+
+// One chunk, or its name and size alone, where the sound follows.
+fn read_step<R: ByteIn>(
+    source: &mut Source<R>,
+    offset: u32,
+    seen: Option<Format>,
+) -> Result<Step, HeadFault>
+    requires place { offset + 8 ≤ 2 ^ 24 }
+    requires seen { IsProperSeen seen }
+    ensures step { IfOk result (λ s. Reads R.rest (step_of offset seen) source.old source.new (end_of s - offset) s) }
+    ensures told { IfOk result (λ s. Takes R.told source.old source.new (end_of s - offset)) }
+    ensures on { IfOk result (GoesOn offset) }
+    ensures fault { IfErr result (Refuses R.rest (step_of offset seen) source.old) }
+    ensures cut { IfErr result (Fails R.rest R.told (step_of offset seen) source.old source.new) }
+    ensures failures { MatchBool (is_read_failure result)
+        (R.failures source.new.reader ≡ saturated (R.failures source.old.reader + 1))
+        (R.failures source.new.reader ≡ R.failures source.old.reader) }
+{
+    let mut head = [0; 8];
+    let Ok(got) = source.fill(&mut head) else {
+        return Err(HeadFault::ReadFailed);
+    };
+    if got < 8 {
+        return Err(HeadFault::Truncated);
+    }
+    let name = name_at(&head);
+    let size = long(&head, 4);
+    match asked(offset, seen, name, size) {
+        Err(fault) => Err(fault),
+        Ok(demand) => match read_body(source, offset, seen, demand) {
+            Ok(step) => Ok(step),
+            Err(fault) => Err(fault),
+        },
+    }
+}
+
+const MOST_CHUNKS: u32 = 1 << 21;
+
+// The chunks behind `WAVE`, up to the sound.
+fn read_chunks<R: ByteIn>(source: &mut Source<R>) -> Result<Layout, HeadFault>
+    ensures head { IfOk result (λ h. Reads R.rest (chunks_of most_chunks 12 None) source.old source.new (h.offset - 12) h) }
+    ensures told { IfOk result (λ h. Takes R.told source.old source.new (h.offset - 12)) }
+    ensures offset { IfOk result (λ h. (12 < h.offset) × (h.offset ≤ 2 ^ 24)) }
+    ensures proper { IfOk result (λ h. IsProper Kind.Wav h.format) }
+    ensures fault { IfErr result (Refuses R.rest (chunks_of most_chunks 12 None) source.old) }
+    ensures cut { IfErr result (Fails R.rest R.told (chunks_of most_chunks 12 None) source.old source.new) }
+    ensures failures { MatchBool (is_read_failure result)
+        (R.failures source.new.reader ≡ saturated (R.failures source.old.reader + 1))
+        (R.failures source.new.reader ≡ R.failures source.old.reader) }
+{
+    let mut offset = 12;
+    let mut seen = None;
+    for _turn in 0..MOST_CHUNKS {
+        let step = match read_step(source, offset, seen) {
+            Ok(step) => step,
+            Err(fault) => return Err(fault),
+        };
+        match step {
+            Step::Sound(head) => return Ok(head),
+            Step::Next(next, format) => {
+                offset = next;
+                seen = format;
+            }
+        }
+    }
+    unreachable!()
+}
+
+/// The head of a WAVE sound behind `RIFF`, up to the sound.
+pub(crate) fn read_wav<R: ByteIn>(source: &mut Source<R>) -> Result<Layout, HeadFault>
+    ensures layout { IfOk result (λ h. Reads R.rest behind_riff source.old source.new (h.offset - 4) h) }
+    ensures offset { IfOk result (λ h. (4 < h.offset) × (h.offset ≤ FARTHEST)) }
+    ensures proper { IfOk result (λ h. IsProper Kind.Wav h.format) }
+    ensures fault { IfErr result (Refuses R.rest behind_riff source.old) }
+    ensures cut { IfErr result (Fails R.rest R.told behind_riff source.old source.new) }
+    ensures failures { MatchBool (is_read_failure result)
+        (R.failures source.new.reader ≡ saturated (R.failures source.old.reader + 1))
+        (R.failures source.new.reader ≡ R.failures source.old.reader) }
+{
+    let mut words = [0; 8];
+    let Ok(got) = source.fill(&mut words) else {
+        return Err(HeadFault::ReadFailed);
+    };
+    if got < 8 {
+        return Err(HeadFault::Truncated);
+    }
+    let name = name_at(&words[4..]);
+    if name != *b"WAVE" {
+        return Err(HeadFault::UnknownType);
+    }
+    match read_chunks(source) {
+        Ok(head) => Ok(head),
+        Err(fault) => Err(fault),
+    }
+}
