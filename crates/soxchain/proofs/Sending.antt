@@ -69,3 +69,7 @@ width_of-le S32Be = omega arith
 -- a frame takes at most 64 bytes
 pub frame_size_le : (coding : Coding) (n : ℕ) → n ≤ 16 → frame_size coding n ≤ 64
 frame_size_le coding n h = omega (arith, mul-le-mul h (width_of-le coding))
+
+-- what was sent is a front of itself
+pub WroteFront-whole : (first now : Option (List ℕ)) (out : Pending) (all : List ℕ) → Sent first now out all → WroteFront first now out.written all
+WroteFront-whole first now out all s = record { part = s.within; took = s.taken }

@@ -1,5 +1,5 @@
 -- What a run has taken off a sound and what it sends (this project's profile).
-use Rattle.std.specs.Prelude.{◌≡◌, ℕ, ◌+◌, ◌-◌, ◌*◌, ◌/◌, ◌%◌, ◌^◌, ◌<◌, ◌≤◌, List, length, map, take, drop, sum_by, Option, Some}
+use Rattle.std.specs.Prelude.{◌≡◌, ℕ, ◌+◌, ◌-◌, ◌*◌, ◌/◌, ◌%◌, ◌^◌, ◌<◌, ◌≤◌, false, List, length, map, take, drop, sum_by, Option, Some}
 use Rattle.std.specs.List.{flat_map}
 use Rattle.std.specs.Io.KnownBytes.{Appends}
 use Rattle.fx_frame.specs.declared.coding.Coding.{Coding}
@@ -7,8 +7,13 @@ use Rattle.fx_frame.specs.Frame.{Samples}
 use Rattle.fx_frame.specs.FrameCoding.{bytes_of, clips_of, samples_of}
 use Rattle.fx_frame.specs.Pieces.{pieces}
 use Rattle.fx_frame.specs.Stage.{Given}
+use Rattle.fx_sound.specs.declared.head.Head.{Head}
 use Rattle.fx_sound.specs.Sound.{Reading, size_of, within, beyond, lacking, at_most_announced}
 use Rattle.fx_sound.specs.Source.{Held}
+
+-- nothing of the sound behind a head was read yet
+abbrev pub start_of : Head → Reading
+start_of h = record { coding = h.coding; channels = h.channels; left = h.announced; frames = 0; missing = 0; stray = 0; over = false }
 
 -- the first n frames of a sound
 abbrev pub frames_of : Reading → ℕ → List ℕ → List Samples

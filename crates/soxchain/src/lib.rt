@@ -4,6 +4,7 @@
 pub mod messages;
 pub mod pump;
 pub mod report;
+pub mod run;
 pub mod scaler;
 pub mod telling;
 pub mod words;

@@ -55,6 +55,7 @@ pub fn pump<R: ByteIn, W: ByteOut>(
         RanToFailure R.told source.old source.new.reader progress.old progress.new.frames) }
     ensures too_long { result ≡ Err Cause.TooLong → (progress.new.frames ≡ MOST_FRAMES) × IfKnown (to_come R.rest source.old) (λ bytes.
         (MOST_FRAMES + 1) * size_of progress.old ≤ length (within progress.old.left bytes)) }
+    ensures most { progress.new.frames ≤ MOST_FRAMES }
     ensures counts { OnErr result ((progress.new.missing ≡ progress.old.missing) × (progress.new.stray ≡ progress.old.stray)) }
 
     // A fault is answered only where a failure was counted.
