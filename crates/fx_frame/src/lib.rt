@@ -1,4 +1,5 @@
-//! Frames of samples, lines of frames, samples as bytes, and readers and writers that count.
+//! What all crates of soxchain share: readers and writers that count, samples as bytes, frames of samples, lines of
+//! frames, and the interface of stages.
 #![tactic(auto)]
 
 /// Sixteen places, each read from `$samples` by its number. A literal is written at once, where a loop is not.
@@ -31,15 +32,21 @@ pub mod counted;
 pub mod device;
 pub mod frame;
 mod frame_coding;
+pub mod frozen;
+pub mod holds;
 pub mod inner;
 pub mod io;
 pub mod sink;
+pub mod stage;
 pub mod tape;
 pub mod wide;
 
 pub use coding::Coding;
 pub use counted::Counted;
 pub use device::Device;
+pub use frame::Frame;
 pub use io::{ByteIn, ByteOut, Failed};
 pub use sink::Sink;
+pub use stage::{Stage, ThawFault, Thaws};
 pub use tape::Tape;
+pub use wide::WideFrame;

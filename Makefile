@@ -1,0 +1,33 @@
+# What this repository makes. It needs the Rattle kit (the command rt), bash, make, a C compiler and Python 3.
+SHELL := /bin/bash
+.SHELLFLAGS := -eu -o pipefail -c
+SOURCES = crates.txt $(shell find crates -type f -not -path '*/out/*')
+PROGRAM = crates/soxchain_cli
+
+.PHONY: help test soxchain demo clean
+
+help:
+	@echo 'make demo      processes a sound of examples/ and says what it wrote'
+	@echo 'make test      the whole gate: every proof, the wrong edits, the tests, the programs, the checks of scripts/checks'
+	@echo 'make soxchain  builds the proved program as build/soxchain'
+	@echo 'make clean     removes build/ and what the checks kept'
+
+# The whole gate, from nothing.
+test:
+	@scripts/gate
+
+# The proved program. The command that builds it also runs it, on a sound of examples/.
+soxchain: build/soxchain
+build/soxchain: $(SOURCES)
+	@mkdir -p build
+	cd $(PROGRAM) && rt run -- - -t au - vol 0.5 <../../examples/tone.au >/dev/null
+	@cp $(PROGRAM)/out/soxchain_cli $@.new && mv $@.new $@
+
+# A sound half as loud. The proved program takes minutes to prove, so this runs it unproved, with checks.
+demo:
+	@mkdir -p build
+	@cd $(PROGRAM) && rt try -- - -t au - vol 0.5 <../../examples/tone.au >../../build/demo.au 2>../../build/demo.log || { cat ../../build/demo.log >&2; exit 1; }
+	@echo "wrote build/demo.au, $$(wc -c <build/demo.au) bytes: examples/tone.au half as loud (run unproved; make soxchain builds the proved program)"
+
+clean:
+	rm -rf build crates/*/out

@@ -1,0 +1,6 @@
+pub mod Cutting
+pub mod Keeping
+pub mod Powers
+pub mod Scaling
+pub mod Shifting
+pub mod Signs

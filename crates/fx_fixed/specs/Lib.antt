@@ -1,0 +1,5 @@
+pub mod Decimals
+pub mod Gains
+pub mod Kept
+pub mod Rounding
+pub mod Shown

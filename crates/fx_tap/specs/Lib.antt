@@ -1,0 +1,5 @@
+pub mod DcShift
+pub mod Mapped
+pub mod PerSample
+pub mod Rounded
+pub mod Vol

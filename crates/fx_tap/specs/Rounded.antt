@@ -1,0 +1,15 @@
+-- Samples that were rounded, one for each channel, each with whether it was clipped. Source: this project's profile.
+use Rattle.std.specs.Prelude.{ℕ, ℤ, List, Bool, map, count_by}
+use Rattle.fx_frame.specs.Stage.{Given}
+
+-- the frame of rounded samples
+abbrev pub samples_of : List (ℤ × Bool) → List ℤ
+samples_of rounds = map (λ r. r.0) rounds
+
+-- how many of them were clipped
+abbrev pub clips_of : List (ℤ × Bool) → ℕ
+clips_of rounds = count_by (λ r. r.1) rounds
+
+-- the frame and its clips
+abbrev pub given_of : List (ℤ × Bool) → Given
+given_of rounds = record { samples = samples_of rounds; clips = clips_of rounds }

@@ -1,0 +1,11 @@
+//! Effects that compute samples: each sample is one exact fraction, rounded once.
+#![tactic(auto)]
+
+pub mod dcshift;
+pub mod inner;
+pub mod mapped;
+pub mod per_sample;
+pub mod vol;
+
+pub use dcshift::DcShift;
+pub use vol::Vol;

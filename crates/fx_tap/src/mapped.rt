@@ -1,0 +1,158 @@
+//! Effects that map each frame alone: one frame out for each frame in, and no line.
+ghost use Rattle.std.specs.Prelude.{◌≡◌, ◌≤◌, ℕ, length};
+ghost use Rattle.fx_frame.specs.Frame.{Samples};
+ghost use Rattle.fx_frame.specs.Stage.{Given, IsNew};
+ghost use Rattle.fx_tap.specs.Mapped.{map_acts};
+
+use fx_frame::{Frame, Stage, WideFrame};
+use std::marker::Model;
+
+/// What an effect makes of a frame, whatever came before it.
+pub trait Mapping {
+    /// The channels of the frames that it takes.
+    ghost inputs: { Self → ℕ };
+
+    /// The channels of the frames that it makes.
+    ghost outputs: { Self → ℕ };
+
+    /// What it makes of a frame.
+    ghost mapped: { Self → Samples → Given };
+
+    /// The frame that it makes of a frame, and how many of its samples were clipped.
+    fn map(&self, frame: Frame) -> (Frame, u64)
+        requires { length frame ≡ inputs self.now }
+        ensures frame { result.0 ≡ (mapped self.now frame).samples }
+        ensures clips { result.1 ≡ (mapped self.now frame).clips }
+        ensures few { result.1 ≤ 16 }
+        ensures channels { length result.0 ≡ outputs self.now };
+
+    /// The channels of the frames that it takes.
+    fn in_channels(&self) -> usize
+        ensures { result ≡ inputs self.now };
+
+    /// The channels of the frames that it makes.
+    fn out_channels(&self) -> usize
+        ensures { result ≡ outputs self.now };
+}
+
+/// The stage of an effect that maps each frame alone. It takes up to `2^56` frames.
+#[derive(Drop)]
+pub struct Mapped<M: Mapping + Drop> {
+    hand: Option<Frame>,
+    hand_clips: u64,
+    taken: u64,
+    given: u64,
+    clips: u64,
+    ended: bool,
+    mapping: M,
+}
+
+impl<M: Mapping + Drop> Model for Mapped<M> {
+    ghost use Rattle.fx_tap.specs.Mapped.{MapState, IsMapState};
+
+    ghost Value = { MapState M };
+
+    ghost view = { λ s. record { mapping = s.mapping; hand = s.hand; hand_clips = s.hand_clips; taken = s.taken; given = s.given; clips = s.clips; ended = s.ended } };
+
+    ghost invariant = { λ s. IsMapState M.outputs (record { mapping = s.mapping; hand = s.hand; hand_clips = s.hand_clips; taken = s.taken; given = s.given; clips = s.clips; ended = s.ended }) };
+}
+
+impl<M: Mapping + Drop> Mapped<M> {
+    /// The stage of a mapping.
+    pub(crate) fn of(mapping: M) -> Mapped<M>
+        ensures { IsNew (map_acts M.inputs M.outputs M.mapped) mapping result }
+    {
+        Mapped {
+            hand: None,
+            hand_clips: 0,
+            taken: 0,
+            given: 0,
+            clips: 0,
+            ended: false,
+            mapping,
+        }
+    }
+}
+
+impl<M: Mapping + Drop> Stage for Mapped<M> {
+    ghost use Rattle.fx_tap.specs.Mapped.{IsMapState, map_acts};
+
+    ghost Recipe = { M };
+
+    ghost acts = { map_acts M.inputs M.outputs M.mapped };
+
+    ghost sound = { λ s. IsMapState M.outputs s };
+
+    ghost rises = { λ r m n h. h };
+
+    fn take(&mut self, frame: Frame) {
+        let (made, clips) = self.mapping.map(frame);
+        self.hand = Some(made);
+        self.hand_clips = clips;
+        self.taken += 1;
+    }
+
+    fn end(&mut self) {
+        self.ended = true;
+    }
+
+    fn give(&mut self) -> Option<Frame> {
+        let frame = self.hand?;
+        self.hand = None;
+        self.given += 1;
+        self.clips += self.hand_clips;
+        Some(frame)
+    }
+
+    fn is_dry(&self) -> bool {
+        self.hand.is_none()
+    }
+
+    fn is_ended(&self) -> bool {
+        self.ended
+    }
+
+    fn is_spent(&self) -> bool {
+        false
+    }
+
+    fn held(&self) -> u64 {
+        u64::from(self.hand.is_some())
+    }
+
+    fn hold(&self) -> u64 {
+        1
+    }
+
+    fn clips(&self) -> u64 {
+        self.clips
+    }
+
+    fn in_channels(&self) -> usize {
+        self.mapping.in_channels()
+    }
+
+    fn out_channels(&self) -> usize {
+        self.mapping.out_channels()
+    }
+
+    fn counters(&self) -> [u64; 8] {
+        [
+            self.taken,
+            self.given,
+            u64::from(self.ended),
+            self.clips,
+            self.held(),
+            self.hand_clips,
+            0,
+            0,
+        ]
+    }
+
+    fn stored(&self, _j: usize) -> WideFrame {
+        match self.hand {
+            Some(frame) => WideFrame::from_frame(frame),
+            None => WideFrame::from_frame(Frame::silence(1)),
+        }
+    }
+}

@@ -1,0 +1,187 @@
+ghost use Rattle.std.specs.Prelude.{◌≡◌, ◌<◌, ◌≤◌, ◌+◌, ◌*◌, ◌/◌, ◌^◌, ◌++◌, ◌∷◌, [], ℕ, List, length, slice_index_or, pos, false, true, IfOk, MatchResult, ◌↔◌, Some, slice_get};
+ghost use Rattle.fx_frame.specs.Frame.{Samples};
+ghost use Rattle.fx_frame.specs.Stage.{IsNew};
+ghost use Rattle.fx_trial.specs.Delay.{DelayState, IsDelay};
+ghost use Rattle.fx_trial.specs.Delay.{longest, sample_before, delayed_at, delayed};
+ghost use Rattle.fx_trial.specs.Delay.{delay_acts};
+
+use fx_frame::frame::Frame;
+use fx_frame::inner::frame_of;
+use crate::line::Line;
+use fx_frame::stage::Stage;
+use fx_frame::wide::WideFrame;
+use std::alloc::{AllocError, Global};
+use std::marker::Model;
+
+/// Delays each channel by its own number of frames.
+#[derive(Drop)]
+pub struct Delay {
+    delays: Vec<usize>,
+    line: Line,
+    hand: Option<Frame>,
+    tail: usize,
+    taken: u64,
+    given: u64,
+    ended: bool,
+}
+
+impl Model for Delay {
+    ghost use Rattle.fx_trial.specs.Delay.{DelayState, IsDelay};
+
+    ghost Value = { DelayState };
+
+    ghost view = { λ s. record { delays = s.delays.items; line = s.line; hand = s.hand; tail = s.tail; taken = s.taken; given = s.given; ended = s.ended } };
+
+    ghost invariant = { λ s. IsDelay (record { delays = s.delays.items; line = s.line; hand = s.hand; tail = s.tail; taken = s.taken; given = s.given; ended = s.ended }) };
+}
+
+/// The sample of a channel, or silence.
+fn channel_of(frame: Frame, channel: usize) -> i32
+    ensures { result ≡ slice_index_or frame channel (pos 0) }
+{
+    if channel < frame.channels() {
+        frame.get(channel)
+    } else {
+        0
+    }
+}
+
+/// A sample of the frame so many places before this one, which comes after those of the line.
+fn sample(line: &Line, frame: Frame, delay: usize, channel: usize) -> i32
+    ensures { result ≡ sample_before (line.now.items ++ frame ∷ []) (length line.now.items) delay channel }
+{
+    if delay == 0 {
+        return channel_of(frame, channel);
+    }
+    let Some(from) = line.back(delay - 1) else {
+        return 0;
+    };
+    channel_of(from, channel)
+}
+
+/// The frame whose channels are delayed.
+fn delayed_frame(line: &Line, delays: &[usize], frame: Frame) -> Frame
+    requires { (1 ≤ length delays.now) × (length delays.now ≤ 16) }
+    ensures { result ≡ delayed_at delays.now (line.now.items ++ frame ∷ []) (length line.now.items) }
+{
+    let mut samples = [0; 16];
+    'channels: for channel in 0..delays.len() {
+        samples[channel] = sample(line, frame, delays[channel], channel);
+    }
+    frame_of(delays.len(), samples)
+}
+
+/// The longest of the delays.
+fn longest_of(delays: &[usize]) -> usize
+    ensures { result ≡ longest delays.now }
+{
+    let mut most = 0;
+    'delays: for delay in delays {
+        most = most.max(*delay);
+    }
+    most
+}
+
+impl Delay {
+    /// Each channel is delayed by its own number of frames.
+    pub fn new(alloc: Global, delays: Vec<usize>) -> Result<Delay, AllocError>
+        requires { (1 ≤ length delays.items) × (length delays.items ≤ 16) × (longest delays.items ≤ 2 ^ 28) }
+        ensures { IfOk result (IsNew delay_acts delays.items) }
+    {
+        let line = Line::new(alloc, longest_of(&delays))?;
+        Ok(Delay {
+            delays,
+            line,
+            hand: None,
+            tail: 0,
+            taken: 0,
+            given: 0,
+            ended: false,
+        })
+    }
+}
+
+impl Stage for Delay {
+    ghost use Rattle.fx_trial.specs.Delay.{delay_rises};
+
+    ghost Recipe = { List ℕ };
+
+    ghost acts = { delay_acts };
+
+    ghost sound = { λ s. IsDelay s };
+
+    ghost rises = { delay_rises };
+
+    fn take(&mut self, frame: Frame) {
+        let out = delayed_frame(&self.line, &self.delays, frame);
+        self.line.push(frame);
+        self.hand = Some(out);
+        self.taken += 1;
+    }
+
+    fn end(&mut self) {
+        self.tail = self.line.capacity();
+        self.ended = true;
+    }
+
+    fn give(&mut self) -> Option<Frame> {
+        if let Some(frame) = self.hand {
+            self.hand = None;
+            self.given += 1;
+            return Some(frame);
+        }
+        if self.tail == 0 {
+            return None;
+        }
+        let quiet = Frame::silence(self.delays.len());
+        let out = delayed_frame(&self.line, &self.delays, quiet);
+        self.line.push(quiet);
+        self.tail -= 1;
+        self.given += 1;
+        Some(out)
+    }
+
+    fn is_dry(&self) -> bool {
+        self.hand.is_none() && self.tail == 0
+    }
+
+    fn is_ended(&self) -> bool {
+        self.ended
+    }
+
+    fn is_spent(&self) -> bool {
+        false
+    }
+
+    fn held(&self) -> u64 {
+        self.line.len() as u64 + u64::from(self.hand.is_some())
+    }
+
+    fn counters(&self) -> [u64; 8] {
+        [self.taken, self.given, u64::from(self.ended), 0, self.held(), self.tail as u64, u64::from(self.hand.is_some()), 0]
+    }
+
+    fn stored(&self, j: usize) -> WideFrame {
+        let inside = self.line.get(j).or(self.hand);
+        match inside {
+            Some(frame) => WideFrame::from_frame(frame),
+            None => WideFrame::from_frame(Frame::silence(1)),
+        }
+    }
+
+    fn hold(&self) -> u64 {
+        self.line.capacity() as u64 + 1
+    }
+
+    fn clips(&self) -> u64 {
+        0
+    }
+
+    fn in_channels(&self) -> usize {
+        self.delays.len()
+    }
+
+    fn out_channels(&self) -> usize {
+        self.delays.len()
+    }
+}

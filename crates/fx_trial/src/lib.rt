@@ -1,0 +1,7 @@
+//! Small stages, for the tests of the layers below the effects.
+#![tactic(auto)]
+
+pub mod delay;
+pub mod line;
+pub mod opening;
+pub mod upsample;

@@ -1,0 +1,130 @@
+ghost use Rattle.std.specs.Prelude.{◌≡◌, ◌<◌, ◌≤◌, ◌+◌, ◌*◌, ◌/◌, ◌^◌, ℕ, List, [], length, false, true, option_to_list, ℤ, Some, Ok, IfOk};
+
+use fx_frame::frame::Frame;
+use fx_frame::stage::Stage;
+use fx_frame::wide::WideFrame;
+use std::marker::Model;
+
+/// Follows each frame with silence.
+#[derive(Drop)]
+pub struct Upsample {
+    channels: usize,
+    factor: u64,
+    hand: Option<Frame>,
+    silent: u64,
+    taken: u64,
+    given: u64,
+    ended: bool,
+}
+
+impl Model for Upsample {
+    ghost use Rattle.fx_trial.specs.Upsample.{UpsampleState, IsUpsample};
+
+    ghost Value = { UpsampleState };
+
+    ghost view = { λ s. record { recipe = record { channels = s.channels; factor = s.factor }; hand = s.hand; silent = s.silent; taken = s.taken; given = s.given; ended = s.ended } };
+
+    ghost invariant = { λ s. IsUpsample (record { recipe = record { channels = s.channels; factor = s.factor }; hand = s.hand; silent = s.silent; taken = s.taken; given = s.given; ended = s.ended }) };
+}
+
+impl Upsample {
+    ghost use Rattle.fx_trial.specs.Upsample.{upsample_acts};
+    ghost use Rattle.fx_frame.specs.Stage.{IsNew};
+
+    /// Each frame is followed by `factor - 1` frames of silence.
+    pub fn new(channels: usize, factor: u64) -> Upsample
+        requires { (1 ≤ channels) × (channels ≤ 16) × (1 ≤ factor) }
+        ensures { IsNew upsample_acts (record { channels = channels; factor = factor }) result }
+    {
+        Upsample {
+            channels,
+            factor,
+            hand: None,
+            silent: 0,
+            taken: 0,
+            given: 0,
+            ended: false,
+        }
+    }
+}
+
+impl Stage for Upsample {
+    ghost use Rattle.fx_trial.specs.Upsample.{UpsampleArguments, IsUpsample};
+    ghost use Rattle.fx_trial.specs.Upsample.{upsample_acts};
+    ghost use Rattle.std.proofs.Math.Nat.{mul-le-mul_right};
+
+    ghost Recipe = { UpsampleArguments };
+
+    ghost acts = { upsample_acts };
+
+    ghost sound = { λ s. IsUpsample s };
+
+    ghost rises = { λ r m n h. mul-le-mul_right r.factor h };
+
+    fn take(&mut self, frame: Frame) {
+        self.hand = Some(frame);
+        self.silent = self.factor - 1;
+        self.taken += 1;
+    }
+
+    fn end(&mut self) {
+        self.ended = true;
+    }
+
+    fn give(&mut self) -> Option<Frame> {
+        if let Some(frame) = self.hand {
+            self.hand = None;
+            self.given += 1;
+            return Some(frame);
+        }
+        if self.silent == 0 {
+            return None;
+        }
+        self.silent -= 1;
+        self.given += 1;
+        Some(Frame::silence(self.channels))
+    }
+
+    fn is_dry(&self) -> bool {
+        self.hand.is_none() && self.silent == 0
+    }
+
+    fn is_ended(&self) -> bool {
+        self.ended
+    }
+
+    fn is_spent(&self) -> bool {
+        false
+    }
+
+    fn held(&self) -> u64 {
+        u64::from(self.hand.is_some())
+    }
+
+    fn counters(&self) -> [u64; 8] {
+        [self.taken, self.given, u64::from(self.ended), 0, self.held(), self.silent, 0, 0]
+    }
+
+    fn stored(&self, _j: usize) -> WideFrame {
+        match self.hand {
+            Some(frame) => WideFrame::from_frame(frame),
+            None => WideFrame::from_frame(Frame::silence(1)),
+        }
+    }
+
+    fn hold(&self) -> u64 {
+        1
+    }
+
+    fn clips(&self) -> u64 {
+        0
+    }
+
+    fn in_channels(&self) -> usize {
+        self.channels
+    }
+
+    fn out_channels(&self) -> usize {
+        self.channels
+    }
+}

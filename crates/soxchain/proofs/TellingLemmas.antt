@@ -1,0 +1,62 @@
+-- What stays true while texts go to a writer of messages.
+use Rattle.std.proofs.Common.{◌≡◌, ℕ, zero, suc, refl, ◌<◌, ◌+◌, ◌-◌, ◌≤◌, Bool, true, false, not, List, ◌++◌, length, take, drop, sym, ap, ◌∙◌, arith, Option}
+use Rattle.std.proofs.lemmas.List.{append_assoc, length-drop, length-append, take-append-le, take_all}
+use Rattle.std.proofs.Math.Seq.{take-add, take-append-add}
+use Rattle.std.proofs.KnownBytes.{Appends-trans}
+use Rattle.std.specs.Io.KnownBytes.{Appends}
+use Rattle.std.specs.Prelude.{MatchBool, codes, decimal}
+use Rattle.soxchain.specs.Messages.{line_feed, warning}
+use Rattle.soxchain.specs.Telling.{Told, ToldFront, ToldAll}
+
+-- a front is one of more bytes too
+pub ToldFront-longer : (first now : Option (List ℕ)) (failures new : ℕ) (all text : List ℕ) → ToldFront first now failures new all → ToldFront first now failures new (all ++ text)
+ToldFront-longer first now failures new all text t = record {
+  count = t.count;
+  part = omega (arith, t.part, length-append all text);
+  took = rw (take-append-le t.count all text t.part) t.took;
+  failed = t.failed;
+}
+
+-- a whole text behind all that was told
+pub ToldAll-more : (first now new : Option (List ℕ)) (failures before after : ℕ) (all text : List ℕ) → ToldAll first now failures before all → Appends now new text → after ≡ before → ToldAll first new failures after (all ++ text)
+ToldAll-more first now new failures before after all text t a e = record {
+  took = Appends-trans first now new all text t.took a;
+  unfailed = e ∙ t.unfailed;
+}
+
+-- a front of a text behind all that was told
+pub ToldFront-more : (first now new : Option (List ℕ)) (failures before after : ℕ) (all text : List ℕ) → ToldAll first now failures before all → ToldFront now new before after text → ToldFront first new failures after (all ++ text)
+ToldFront-more first now new failures before after all text t f = record {
+  count = length all + f.count;
+  part = omega (arith, f.part, length-append all text);
+  took = rw (take-append-add all text f.count) (Appends-trans first now new all (take f.count text) t.took f.took);
+  failed = rw t.unfailed at f.failed;
+}
+
+-- a text behind all that was told, wherever the writer failed
+pub Told-text : (whole : Bool) (first now new : Option (List ℕ)) (failures before after : ℕ) (all text : List ℕ) → ToldAll first now failures before all
+    → MatchBool whole (Appends now new text × (after ≡ before)) (ToldFront now new before after text) → Told (not whole) first new failures after (all ++ text)
+Told-text true first now new failures before after all text t h = ToldAll-more first now new failures before after all text t h.0 h.1
+Told-text false first now new failures before after all text t h = ToldFront-more first now new failures before after all text t h
+
+-- what is left of a text, as a slice of it
+left-all : (told : ℕ) (text : List ℕ) → take (length text - told) (drop told text) ≡ drop told text
+left-all told text = take_all (length text - told) (drop told text) (omega (arith, length-drop told text))
+
+-- n more bytes of a text
+pub Appends-part : (first now new : Option (List ℕ)) (told n : ℕ) (text : List ℕ) → Appends first now (take told text)
+    → Appends now new (take n (take (length text - told) (drop told text))) → Appends first new (take (told + n) text)
+Appends-part first now new told n text a b =
+    rw (take-add told n text) (Appends-trans first now new _ _ a (rw (left-all told text) at b))
+
+pub part-within : (told n : ℕ) (text : List ℕ) → told ≤ length text → n ≤ length (take (length text - told) (drop told text)) → told + n ≤ length text
+part-within told n text h k = omega (arith, length-drop told text, rw (left-all told text) at k)
+
+-- five texts behind all that was told
+pub five : (all a b c d e : List ℕ) → ((((all ++ a) ++ b) ++ c) ++ d) ++ e ≡ all ++ ((((a ++ b) ++ c) ++ d) ++ e)
+five all a b c d e = simp append_assoc
+
+-- what was counted has its line
+pub warning-counted : (counted : List ℕ) (n : ℕ) → 0 < n → warning counted n ≡ codes "soxchain: warning: " ++ counted ++ codes " " ++ decimal n ++ line_feed
+warning-counted counted zero h = absurd (omega arith)
+warning-counted counted (suc n) h = refl

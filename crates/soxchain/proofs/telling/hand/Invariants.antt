@@ -1,0 +1,13 @@
+use Rattle.std.proofs.Common.{◌≡◌, ℕ, ◌-◌, ◌≤◌, length, take}
+use Rattle.std.specs.Io.KnownBytes.{Appends}
+use Rattle.soxchain.proofs.telling.hand.Given as goal
+
+abbrev pub invariant-loop-told : goal.invariant-loop-told
+invariant-loop-told g l = record {
+  within : l.told ≤ length l.text;
+  took : Appends (g.M.ByteOut.taken l.fn.messages) (g.M.ByteOut.taken l.messages) (take l.told l.text);
+  unfailed : g.M.ByteOut.failures l.messages ≡ g.M.ByteOut.failures l.fn.messages;
+}
+
+abbrev pub decreases-loop-told : goal.decreases-loop-told
+decreases-loop-told g l = length l.text - l.told

@@ -1,0 +1,25 @@
+-- What was told to a writer of messages.
+use Rattle.std.specs.Prelude.{◌≡◌, ℕ, ◌+◌, ◌≤◌, Bool, true, false, List, ◌++◌, length, take, Option}
+use Rattle.std.specs.Io.KnownBytes.{Appends}
+use Rattle.fx_frame.specs.Io.{saturated}
+
+-- one call failed, and the writer has a front of these bytes
+pub record ToldFront (first now : Option (List ℕ)) (failures new_failures : ℕ) (all : List ℕ) : Type 0 where
+  pub count : ℕ
+  pub part : count ≤ length all
+  pub took : Appends first now (take count all)
+  pub failed : new_failures ≡ saturated (failures + 1)
+
+-- the writer has all of these bytes, and no call failed
+pub record ToldAll (first now : Option (List ℕ)) (failures new_failures : ℕ) (all : List ℕ) : Type 0 where
+  pub took : Appends first now all
+  pub unfailed : new_failures ≡ failures
+
+-- all was told, or a front of it where the writer failed
+abbrev pub Told : Bool → Option (List ℕ) → Option (List ℕ) → ℕ → ℕ → List ℕ → Type 0
+Told false = ToldAll
+Told true = ToldFront
+
+-- a text comes behind all that was to be told, whatever it was
+abbrev pub TellsMore : Bool → Bool → Option (List ℕ) → Option (List ℕ) → ℕ → ℕ → List ℕ → Type 0
+TellsMore old new taken new_taken failures new_failures text = (first : Option (List ℕ)) (count : ℕ) (all : List ℕ) → Told old first taken count failures all → Told new first new_taken count new_failures (all ++ text)
