@@ -8,16 +8,9 @@ use Rattle.fx_frame.specs.declared.coding.Coding.TheVariants.{U8, S8, S16Le, S16
 use Rattle.fx_frame.specs.Coding.{width_of, read_sample, written, clips_written}
 use Rattle.fx_frame.specs.Frame.{Samples}
 use Rattle.fx_frame.specs.FrameCoding.{samples_of, bytes_of, clips_of}
-use Rattle.fx_frame.specs.Pieces.{pieces}
+use Rattle.fx_frame.specs.Pieces.{pieces, pieces-suc}
 use borrow.Rule.Slice.PartMut.{put_mid}
 use mir.Val.{bool_byte}
-
--- one piece more
-pub pieces-suc : (size n : ℕ) (xs : List ℕ) → pieces size (suc n) xs ≡ pieces size n xs ++ take size (drop (n * size) xs) ∷ []
-pieces-suc size zero xs = let e : 0 * size ≡ 0 = omega arith in rw e refl
-pieces-suc size (suc n) xs =
-    let e : size + n * size ≡ suc n * size = omega arith in
-    ap (λ l. take size xs ∷ l) (pieces-suc size n (drop size xs) ∙ ap (λ l. pieces size n (drop size xs) ++ take size l ∷ []) (drop-drop (n * size) size xs ∙ ap (λ m. drop m xs) e))
 
 -- one sample more is read
 pub samples_of-more : (coding : Coding) (n : ℕ) (bytes : List ℕ)

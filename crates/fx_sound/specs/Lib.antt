@@ -10,3 +10,6 @@ pub mod Reads
 pub mod Au
 pub mod Wave
 pub mod Head
+pub mod Container
+pub mod Runs
+pub mod WholeSound

@@ -1,3 +1,4 @@
-//! What a run needs of the output, beyond the public calls.
+//! What a run needs of sounds, beyond the public calls.
 
 pub use crate::output::Output;
+pub use crate::sound::{Sound, SoundFault, read_frames, read_sound};

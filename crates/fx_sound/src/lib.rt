@@ -9,6 +9,7 @@ pub mod layout;
 pub mod output;
 pub mod progress;
 pub mod read;
+pub mod sound;
 pub mod source;
 pub mod wave;
 pub mod writing;

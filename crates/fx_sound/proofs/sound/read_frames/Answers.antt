@@ -1,0 +1,76 @@
+use Rattle.std.proofs.Common.{◌≡◌, ℕ, ◌+◌, ◌*◌, ◌≤◌, ◌++◌, ◌∷◌, [], drop, take, sym, ap, ◌∙◌, subst, arith}
+use Rattle.std.specs.Prelude.{Err}
+use Rattle.fx_frame.specs.FrameCoding.{samples_of}
+use Rattle.fx_sound.specs.Container.{first_frames, after_frames}
+use Rattle.fx_sound.specs.Runs.{after_frames-more, Ran-turn, Ran-end, Ran-whole, Ran-failed, Takes-more, first_frames-more, first_frames-within}
+use Rattle.fx_sound.specs.Sound.{Reading, size_of, within, after_frame}
+use Rattle.fx_sound.specs.Source.{Takes}
+use Rattle.fx_sound.specs.declared.progress.ReadFault.TheVariants.{ReadFailed, TooLong}
+use Rattle.fx_sound.proofs.sound.read_frames.Goals as goal
+
+pub returns-in-Ok-None-clause-frames : goal.returns-in-Ok-None-clause-frames
+returns-in-Ok-None-clause-frames g c = λ bytes known.
+    let old = c.loop-turn.invariant in
+    let p : Reading = c.args.progress.now in
+    let n : ℕ = c.loop-turn._turn in
+    let next = rw c.in-Ok-None.field-0-is at c.in-Ok-None.ensures in
+    let ran = old.ran bytes known in
+    let end = Ran-end p c.loop-turn.progress c.next_frame.new.progress bytes n _ ran (next.end (ap (λ q. q.over) old.now ∙ c.requires.begun) (drop (n * size_of p) bytes) ran.to_come_is) in
+    old.items bytes known ∙ sym (first_frames-within p.coding p.channels n p.left bytes ran.whole)
+    ∙ ap (λ m. first_frames p.coding p.channels m (within p.left bytes)) end.0
+
+pub returns-in-Ok-None-clause-end : goal.returns-in-Ok-None-clause-end
+returns-in-Ok-None-clause-end g c = λ bytes known.
+    let old = c.loop-turn.invariant in
+    let p : Reading = c.args.progress.now in
+    let n : ℕ = c.loop-turn._turn in
+    let next = rw c.in-Ok-None.field-0-is at c.in-Ok-None.ensures in
+    let ran = old.ran bytes known in
+    (Ran-end p c.loop-turn.progress c.next_frame.new.progress bytes n _ ran (next.end (ap (λ q. q.over) old.now ∙ c.requires.begun) (drop (n * size_of p) bytes) ran.to_come_is)).1
+
+pub returns-in-Err-clause-read_failed : goal.returns-in-Err-clause-read_failed
+returns-in-Err-clause-read_failed g c = λ e.
+    let old = c.loop-turn.invariant in
+    let p : Reading = c.args.progress.now in
+    let is : c.in-Err.fault ≡ ReadFailed = cc in
+    let none : p.frames + c.loop-turn._turn ≡ c.loop-turn._turn = omega (arith, c.requires.fresh) in
+    let count : c.next_frame.new.progress.frames ≡ c.loop-turn._turn = ap (λ q. q.frames) c.in-Err.ensures.err ∙ ap (λ q. q.frames) old.now ∙ none in
+    rw count (Ran-failed g.R.ByteIn.told p c.loop-turn.progress c.loop-turn._turn c.args.source.now c.loop-turn.source c.next_frame.new.source.reader old.now old.told (c.in-Err.ensures.read_failed (ap Err is)))
+
+pub returns-in-Err-clause-too_long : goal.returns-in-Err-clause-too_long
+returns-in-Err-clause-too_long g c = λ e bytes known.
+    let old = c.loop-turn.invariant in
+    let p : Reading = c.args.progress.now in
+    let is : c.in-Err.fault ≡ TooLong = cc in
+    let most = c.in-Err.ensures.too_long (ap Err is) in
+    let ran = old.ran bytes known in
+    let whole = Ran-whole p c.loop-turn.progress bytes c.loop-turn._turn _ ran (most.1 (drop (c.loop-turn._turn * size_of p) bytes) ran.to_come_is) in
+    let none : p.frames + c.loop-turn._turn ≡ c.loop-turn._turn = omega (arith, c.requires.fresh) in
+    let count : c.loop-turn._turn ≡ 1099511627776 = sym none ∙ sym (ap (λ q. q.frames) old.now) ∙ most.0 in
+    rw count at whole
+
+pub loop-turn-preserved : goal.loop-turn-preserved
+loop-turn-preserved g c =
+    let old = c.loop-turn.invariant in
+    let p : Reading = c.args.progress.now in
+    let n : ℕ = c.loop-turn._turn in
+    let size : ℕ = size_of p in
+    let next = rw c.in-Ok-Some.field-0-is at c.in-Ok-Some.ensures in
+    let same : size_of c.loop-turn.progress ≡ size = ap size_of old.now in
+    let more : n * size + size_of c.loop-turn.progress ≡ (n + 1) * size = omega (arith, same) in
+    let P : ℕ → Type 0 = Takes g.R.ByteIn.told c.args.source.now c.next_frame.new.source in
+    record {
+      now = next.counted ∙ ap after_frame old.now ∙ after_frames-more p n;
+      most = next.most;
+      ran = λ bytes known.
+          let ran = old.ran bytes known in
+          Ran-turn p c.loop-turn.progress c.next_frame.new.progress bytes c.in-Ok-Some.frame n _ _ ran (next.frame (drop (n * size) bytes) ran.to_come_is) next.counted;
+      items = λ bytes known.
+          let ran = old.ran bytes known in
+          let taken = next.frame (drop (n * size) bytes) ran.to_come_is in
+          let frame : c.in-Ok-Some.frame ≡ samples_of p.coding p.channels (take size (drop (n * size) bytes)) =
+              taken.samples ∙ ap (λ q. samples_of q.coding q.channels (take (size_of q) (drop (n * size) bytes))) old.now in
+          c.in-Ok.ensures.items ∙ ap (λ l. l ++ c.in-Ok-Some.frame ∷ []) (old.items bytes known)
+          ∙ ap (λ f. first_frames p.coding p.channels n bytes ++ f ∷ []) frame ∙ sym (first_frames-more p.coding p.channels n bytes);
+      told = subst P more (Takes-more g.R.ByteIn.told c.args.source.now c.loop-turn.source c.next_frame.new.source (n * size) (size_of c.loop-turn.progress) old.told next.told);
+    }

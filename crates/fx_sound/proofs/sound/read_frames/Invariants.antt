@@ -1,0 +1,17 @@
+use Rattle.std.proofs.Common.{◌≡◌, ◌*◌, ◌≤◌}
+use Rattle.fx_sound.specs.Container.{first_frames, after_frames}
+use Rattle.fx_sound.specs.Known.{IfKnown}
+use Rattle.fx_sound.specs.Runs.{Ran}
+use Rattle.fx_sound.specs.Sound.{size_of}
+use Rattle.fx_sound.specs.Source.{to_come, Takes}
+use Rattle.fx_sound.specs.declared.progress.TheConstants.{MOST_FRAMES}
+use Rattle.fx_sound.proofs.sound.read_frames.Given as goal
+
+abbrev pub invariant-loop-turn : goal.invariant-loop-turn
+invariant-loop-turn g l = record {
+  now : l.progress ≡ after_frames l.initial.progress l._turn;
+  most : l.progress.frames ≤ MOST_FRAMES;
+  ran : IfKnown (to_come g.R.ByteIn.rest l.initial.source) (λ bytes. Ran l.initial.progress l.progress bytes l._turn (to_come g.R.ByteIn.rest l.source));
+  items : IfKnown (to_come g.R.ByteIn.rest l.initial.source) (λ bytes. l.frames.items ≡ first_frames l.initial.progress.coding l.initial.progress.channels l._turn bytes);
+  told : Takes g.R.ByteIn.told l.initial.source l.source (l._turn * size_of l.initial.progress);
+}

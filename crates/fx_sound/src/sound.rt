@@ -1,0 +1,103 @@
+//! A whole sound in memory.
+
+ghost use Rattle.std.specs.Prelude.{◌≡◌, ◌+◌, ◌≤◌, ◌*◌, false, IfOk, IfErr, OnOk, Err, MatchResult, length};
+ghost use Rattle.fx_sound.specs.Container.{container, frames_of, at_end, ReadAllTold};
+ghost use Rattle.fx_sound.specs.Known.{IfKnown};
+ghost use Rattle.fx_sound.specs.Sound.{size_of, within};
+ghost use Rattle.fx_sound.specs.Source.{to_come};
+ghost use Rattle.fx_sound.specs.WholeSound.{outcome, IsBehindHead, IsHeadFault};
+
+use super::head::{Head, HeadFault, Kind};
+use super::progress::{MOST_FRAMES, Progress, ReadFault, next_frame};
+use super::read::read_head;
+use super::source::Source;
+use fx_frame::ByteIn;
+use fx_frame::frame::Frame;
+use std::alloc::Global;
+use thiserror::Error;
+
+/// A whole sound.
+#[derive(Drop)]
+pub struct Sound {
+    /// What its head says.
+    pub head: Head,
+    /// Its whole frames.
+    pub frames: Vec<Frame>,
+    /// How many announced bytes were not there.
+    pub missing: u64,
+    /// How many bytes came after the last frame.
+    pub stray: u64,
+}
+
+/// Why a sound was not read whole.
+#[derive(Clone, Copy, Debug, PartialEq, Eq, Error)]
+pub enum SoundFault {
+    /// What is wrong with its head.
+    #[error("the head: {0}")]
+    Head(HeadFault),
+    /// Why there was no next frame.
+    #[error("the sound: {0}")]
+    Read(ReadFault),
+    /// A growth was refused.
+    #[error("no memory")]
+    Memory,
+}
+
+/// The frames of a sound of which nothing was read, up to its end.
+pub fn read_frames<R: ByteIn>(
+    alloc: Global,
+    source: &mut Source<R>,
+    progress: &mut Progress,
+) -> Result<Vec<Frame>, SoundFault>
+    requires fresh { progress.old.frames ≡ 0 }
+    requires begun { progress.old.over ≡ false }
+    ensures frames { IfOk result (λ v. IfKnown (to_come R.rest source.old) (λ bytes.
+        v.items ≡ frames_of progress.old.coding progress.old.channels (within progress.old.left bytes))) }
+    ensures end { OnOk result (IfKnown (to_come R.rest source.old) (λ bytes.
+        progress.new ≡ at_end progress.old (within progress.old.left bytes))) }
+    ensures read_failed { result ≡ Err (SoundFault.Read ReadFault.ReadFailed)
+        → ReadAllTold R.told source.old source.new.reader progress.old progress.new.frames }
+    ensures behind_head { IfErr result IsBehindHead }
+    ensures too_long { result ≡ Err (SoundFault.Read ReadFault.TooLong) → IfKnown (to_come R.rest source.old) (λ bytes.
+        (MOST_FRAMES + 1) * size_of progress.old ≤ length (within progress.old.left bytes)) }
+{
+    let mut frames = Vec::new(alloc);
+    for _turn in 0..MOST_FRAMES + 1 {
+        match next_frame(source, progress) {
+            Ok(Some(frame)) => {
+                let Ok(()) = frames.push(frame) else {
+                    return Err(SoundFault::Memory);
+                };
+            }
+            Ok(None) => return Ok(frames),
+            Err(fault) => return Err(SoundFault::Read(fault)),
+        }
+    }
+    unreachable!()
+}
+
+/// A whole sound: its head and its frames, as the container says them of all the bytes at once.
+pub fn read_sound<R: ByteIn>(
+    alloc: Global,
+    source: &mut Source<R>,
+    expected: Option<Kind>,
+) -> Result<Sound, SoundFault>
+    ensures sound { IfOk result (λ s. IfKnown (to_come R.rest source.old) (λ bytes. container expected bytes ≡ Ok (outcome s))) }
+    ensures fault { IfErr result (λ e. IfKnown (to_come R.rest source.old) (λ bytes. IsHeadFault (container expected bytes) e)) }
+{
+    let head = match read_head(source, expected) {
+        Ok(head) => head,
+        Err(fault) => return Err(SoundFault::Head(fault)),
+    };
+    let mut progress = Progress::new(&head);
+    let frames = match read_frames(alloc, source, &mut progress) {
+        Ok(frames) => frames,
+        Err(fault) => return Err(fault),
+    };
+    Ok(Sound {
+        head,
+        frames,
+        missing: progress.missing(),
+        stray: progress.stray(),
+    })
+}
