@@ -1,3 +1,4 @@
+pub mod Converting
 pub mod Running
 pub mod Sending
 pub mod TellingLemmas

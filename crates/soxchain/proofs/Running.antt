@@ -6,8 +6,7 @@ use Rattle.std.specs.Prelude.{Option, None, Some}
 use Rattle.fx_frame.specs.declared.coding.Coding.{Coding}
 use Rattle.fx_frame.specs.Frame.{Samples}
 use Rattle.fx_frame.specs.FrameCoding.{samples_of}
-use Rattle.fx_frame.specs.Pieces.{pieces}
-use Rattle.fx_frame.proofs.FrameBytes.{pieces-suc}
+use Rattle.fx_frame.specs.Pieces.{pieces, pieces-suc}
 use Rattle.fx_sound.specs.Sound.{Reading, size_of, at_most_announced, within, beyond, lacking, after_frame, after_end, TakesFrame, EndsSound}
 use Rattle.fx_sound.specs.Source.{Held, Tells, Takes, FallsShort}
 use Rattle.soxchain.specs.Run.{Ran, RanToEnd, RanToFailure, frames_of}

@@ -1,4 +1,5 @@
 pub mod Cause
+pub mod Convert
 pub mod Messages
 pub mod Run
 pub mod Scaling

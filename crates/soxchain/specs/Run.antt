@@ -3,6 +3,7 @@ use Rattle.std.specs.Prelude.{◌≡◌, ℕ, ◌+◌, ◌-◌, ◌*◌, ◌/◌
 use Rattle.std.specs.List.{flat_map}
 use Rattle.std.specs.Io.KnownBytes.{Appends}
 use Rattle.fx_frame.specs.declared.coding.Coding.{Coding}
+use Rattle.fx_frame.specs.declared.coding.Coding.TheVariants.{U8, S8, S16Le, S16Be, S24Le, S24Be, S32Le, S32Be}
 use Rattle.fx_frame.specs.Frame.{Samples}
 use Rattle.fx_frame.specs.FrameCoding.{bytes_of, clips_of, samples_of}
 use Rattle.fx_frame.specs.Pieces.{pieces}
@@ -10,6 +11,17 @@ use Rattle.fx_frame.specs.Stage.{Given}
 use Rattle.fx_sound.specs.declared.head.Head.{Head}
 use Rattle.fx_sound.specs.Sound.{Reading, size_of, within, beyond, lacking, at_most_announced}
 use Rattle.fx_sound.specs.Source.{Held}
+
+-- the coding of AU of the same width
+abbrev pub au_coding : Coding → Coding
+au_coding U8 = S8
+au_coding S8 = S8
+au_coding S16Le = S16Be
+au_coding S16Be = S16Be
+au_coding S24Le = S24Be
+au_coding S24Be = S24Be
+au_coding S32Le = S32Be
+au_coding S32Be = S32Be
 
 -- nothing of the sound behind a head was read yet
 abbrev pub start_of : Head → Reading

@@ -1,6 +1,7 @@
 //! The conversion from words and bytes to bytes, messages and a status.
 #![tactic(auto)]
 
+pub mod convert;
 pub mod messages;
 pub mod pump;
 pub mod report;

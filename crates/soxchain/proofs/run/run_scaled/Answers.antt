@@ -81,7 +81,7 @@ returns-in-Err-TooLong-clause-reports g c = λ bytes known.
 
 pub returns-in-Err-TooLong-clause-too_long : goal.returns-in-Err-TooLong-clause-too_long
 returns-in-Err-TooLong-clause-too_long g c = λ _.
-    let q = c.pump-pumped.ensures.too_long (cc) in
+    let q = c.pump-pumped.ensures.too_long (search rules) in
     (c.report_of-report.ensures.frames_in ∙ q.0, λ bytes known. rw (c.new-progress.ensures) at (q.1 bytes known))
 
 pub returns-in-Err-TooLong-clause-due : goal.returns-in-Err-TooLong-clause-due

@@ -1,0 +1,30 @@
+-- A conversion, put together from its head and its run.
+use Rattle.std.proofs.Common.{◌≡◌, ◌≢◌, ℕ, ◌+◌, List, [], ◌++◌, refl, sym, ap, ◌∙◌}
+use Rattle.std.specs.Prelude.{MatchBool, Option, Some, Result, Err}
+use Rattle.std.specs.Io.KnownBytes.{prepend_known}
+use mathlib.Core.Path.{ap₂}
+use Rattle.fx_frame.specs.Io.{saturated}
+use Rattle.fx_sound.specs.declared.head.HeadFault.{HeadFault}
+use Rattle.fx_sound.specs.declared.head.HeadFault.TheVariants.{ReadFailed, UnknownType, Truncated, BadHeader, NotInProfile, TooManyChannels, HeadTooLong}
+use Rattle.fx_sound.specs.Layout.{is_read_failure}
+use Rattle.fx_sound.specs.Source.{Held, to_come}
+use Rattle.soxchain.specs.declared.convert.Stop.TheVariants.{Head}
+use Rattle.soxchain.specs.Convert.{StopHasCause}
+
+-- a new source holds nothing
+pub held-is : {R : Type 0} (s : Held R) (reader : R) → s.bytes ≡ [] → s.reader ≡ reader → s ≡ record { bytes = []; reader = reader }
+held-is s reader b r = ap₂ (λ bs x. record { bytes = bs; reader = x }) b r
+
+-- what is to come from it is what the reader has still to tell
+pub to_come-start : {R : Type 0} (rest : R → Option (List ℕ)) (s : Held R) (reader : R) (bytes : List ℕ) → s.bytes ≡ [] → s.reader ≡ reader → rest reader ≡ Some bytes → to_come rest s ≡ Some bytes
+to_come-start rest s reader bytes b r k = ap (to_come rest) (held-is s reader b r) ∙ ap (prepend_known []) k
+
+-- a refused head has its cause
+pub head-causes : (X : Type 0) (f : HeadFault) (reads new writes new_writes : ℕ) → MatchBool (is_read_failure ((λ (r : Result X HeadFault). r) (Err f))) (new ≡ saturated (reads + 1)) (new ≡ reads) → StopHasCause (Head f) reads new writes new_writes
+head-causes X ReadFailed reads new writes new_writes h = h
+head-causes X UnknownType reads new writes new_writes h = h
+head-causes X Truncated reads new writes new_writes h = h
+head-causes X BadHeader reads new writes new_writes h = h
+head-causes X NotInProfile reads new writes new_writes h = h
+head-causes X TooManyChannels reads new writes new_writes h = h
+head-causes X HeadTooLong reads new writes new_writes h = h
