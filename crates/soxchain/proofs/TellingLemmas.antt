@@ -1,12 +1,12 @@
 -- What stays true while texts go to a writer of messages.
-use Rattle.std.proofs.Common.{◌≡◌, ℕ, zero, suc, refl, ◌<◌, ◌+◌, ◌-◌, ◌≤◌, Bool, true, false, not, List, ◌++◌, length, take, drop, sym, ap, ◌∙◌, arith, Option}
+use Rattle.std.proofs.Common.{◌≡◌, ℕ, zero, suc, refl, ◌<◌, ◌+◌, ◌-◌, ◌≤◌, Bool, true, false, not, List, [], ◌++◌, length, take, drop, sym, ap, ◌∙◌, arith, Option}
 use Rattle.std.proofs.lemmas.List.{append_assoc, length-drop, length-append, take-append-le, take_all}
 use Rattle.std.proofs.Math.Seq.{take-add, take-append-add}
-use Rattle.std.proofs.KnownBytes.{Appends-trans}
+use Rattle.std.proofs.KnownBytes.{Appends-nil, Appends-trans}
 use Rattle.std.specs.Io.KnownBytes.{Appends}
 use Rattle.std.specs.Prelude.{MatchBool, codes, decimal}
 use Rattle.soxchain.specs.Messages.{line_feed, warning}
-use Rattle.soxchain.specs.Telling.{Told, ToldFront, ToldAll}
+use Rattle.soxchain.specs.Telling.{Told, ToldFront, ToldAll, TellsMore, Tells}
 
 -- a front is one of more bytes too
 pub ToldFront-longer : (first now : Option (List ℕ)) (failures new : ℕ) (all text : List ℕ) → ToldFront first now failures new all → ToldFront first now failures new (all ++ text)
@@ -60,3 +60,10 @@ five all a b c d e = simp append_assoc
 pub warning-counted : (counted : List ℕ) (n : ℕ) → 0 < n → warning counted n ≡ codes "soxchain: warning: " ++ counted ++ codes " " ++ decimal n ++ line_feed
 warning-counted counted zero h = absurd (omega arith)
 warning-counted counted (suc n) h = refl
+
+-- a text before which nothing was told
+pub Tells-first : (old new : Bool) (now after : Option (List ℕ)) (failures count : ℕ) (text : List ℕ) → old ≡ false → TellsMore old new now after failures count text → Tells now after failures count text
+Tells-first old new now after failures count text begun more = record {
+  has_failed = new;
+  told = more now failures [] (rw begun (record { took = Appends-nil now; unfailed = refl }));
+}

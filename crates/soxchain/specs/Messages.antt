@@ -1,5 +1,16 @@
 -- The messages of the program (this project's profile), as the bytes of a line each.
-use Rattle.std.specs.Prelude.{ℕ, zero, suc, List, [], ◌∷◌, ◌++◌, codes, decimal}
+use Rattle.std.specs.Prelude.{ℕ, zero, suc, slice_index_or, Result, Ok, Err, List, [], ◌∷◌, ◌++◌, codes, decimal}
+use Rattle.fx_fixed.specs.declared.gains.NumberFault.TheVariants.{NotANumber, TooLong, OutOfRange}
+use Rattle.fx_sound.specs.declared.head.HeadFault.{HeadFault}
+use Rattle.fx_sound.specs.declared.head.HeadFault.TheVariants as HeadFaults
+use Rattle.soxchain.specs.declared.convert.Stop.{Stop}
+use Rattle.soxchain.specs.declared.convert.Stop.TheVariants.{Head, Run}
+use Rattle.soxchain.specs.declared.report.Report.{Report}
+use Rattle.soxchain.specs.declared.report.RunFault.{RunFault}
+use Rattle.soxchain.specs.declared.report.RunFault.TheVariants as RunFaults
+use Rattle.soxchain.specs.declared.words.WordFault.{WordFault}
+use Rattle.soxchain.specs.declared.words.WordFault.TheVariants.{BadOption, BadGain}
+use Rattle.soxchain.specs.Scaling.{report_at}
 
 -- the end of a line
 abbrev pub line_feed : List ℕ
@@ -25,3 +36,44 @@ run_message fault frames = codes "soxchain: run: " ++ fault ++ codes " after fra
 abbrev pub warning : List ℕ → ℕ → List ℕ
 warning counted zero = []
 warning counted (suc n) = codes "soxchain: warning: " ++ counted ++ codes " " ++ decimal (suc n) ++ line_feed
+
+-- the message on words that are refused, of which the sixth stands for the gain
+abbrev pub word_message : WordFault → List ℕ → List ℕ
+word_message BadOption word = line_message (codes "2 BadOption")
+word_message (BadGain NotANumber) word = effect_message (codes "5 BadArgument") word
+word_message (BadGain TooLong) word = effect_message (codes "5 BadArgument") word
+word_message (BadGain OutOfRange) word = effect_message (codes "6 OutOfRange") word
+
+-- number and name of what is wrong with a head
+abbrev pub head_label : HeadFault → List ℕ
+head_label HeadFaults.ReadFailed = codes "1 ReadFailed"
+head_label HeadFaults.UnknownType = codes "2 UnknownType"
+head_label HeadFaults.Truncated = codes "3 Truncated"
+head_label HeadFaults.BadHeader = codes "4 BadHeader"
+head_label HeadFaults.NotInProfile = codes "5 NotInProfile"
+head_label HeadFaults.TooManyChannels = codes "6 TooManyChannels"
+head_label HeadFaults.HeadTooLong = codes "7 HeadTooLong"
+
+-- number and name of why a run stopped
+abbrev pub run_label : RunFault → List ℕ
+run_label (RunFaults.ReadFailed r) = codes "1 ReadFailed"
+run_label (RunFaults.WriteFailed r) = codes "2 WriteFailed"
+run_label (RunFaults.TooLong r) = codes "3 TooLong"
+
+-- the warnings of a run, a line each, in this order
+abbrev pub warnings : Report → List ℕ
+warnings r =
+    warning (codes "input: missing bytes") r.missing
+    ++ warning (codes "input: stray bytes") r.stray
+    ++ warning (codes "effect 1 vol: clipped samples") (slice_index_or r.clips 0 0)
+    ++ warning (codes "output: clipped samples") r.out_clips
+
+-- the messages on a stop
+abbrev pub stop_messages : Stop → List ℕ
+stop_messages (Head f) = input_message (head_label f)
+stop_messages (Run f) = warnings (report_at f) ++ run_message (run_label f) (report_at f).frames_in
+
+-- the messages on a conversion whose words were accepted
+abbrev pub outcome_messages : Result Report Stop → List ℕ
+outcome_messages (Ok r) = warnings r
+outcome_messages (Err s) = stop_messages s

@@ -42,3 +42,7 @@ pub record Reports (gain : ℤ) (coding : Coding) (h : Head) (bytes : List ℕ) 
   pub moves : r.moves ≡ 2 * r.frames_in
   pub clips : r.clips ≡ effect_clips (given_for gain h r.frames_in bytes) ∷ replicate 31 0
   pub out_clips : r.out_clips ≡ output_clips coding (given_for gain h r.frames_in bytes)
+
+-- the report of a conversion that ended before its run
+abbrev pub no_report : Report
+no_report = record { frames_in = 0; frames_out = 0; bytes_out = 0; moves = 0; clips = replicate 32 0; out_clips = 0; missing = 0; stray = 0 }

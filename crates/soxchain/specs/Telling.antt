@@ -23,3 +23,8 @@ Told true = ToldFront
 -- a text comes behind all that was to be told, whatever it was
 abbrev pub TellsMore : Bool → Bool → Option (List ℕ) → Option (List ℕ) → ℕ → ℕ → List ℕ → Type 0
 TellsMore old new taken new_taken failures new_failures text = (first : Option (List ℕ)) (count : ℕ) (all : List ℕ) → Told old first taken count failures all → Told new first new_taken count new_failures (all ++ text)
+
+-- these bytes were told, or a front of them where the writer failed, which is then counted
+pub record Tells (first now : Option (List ℕ)) (failures new_failures : ℕ) (all : List ℕ) : Type 0 where
+  pub has_failed : Bool
+  pub told : Told has_failed first now failures new_failures all

@@ -1,10 +1,16 @@
 //! The messages of the program, one line each.
 ghost use Rattle.std.specs.Prelude.{◌≡◌, ◌++◌};
-ghost use Rattle.soxchain.specs.Messages.{effect_message, input_message, line_message, run_message, warning};
+ghost use Rattle.soxchain.specs.Messages.{effect_message, head_label, input_message, line_message, run_label, run_message, stop_messages, warning, warnings, word_message};
+ghost use Rattle.soxchain.specs.Scaling.{report_at};
 ghost use Rattle.soxchain.specs.Telling.{TellsMore};
 
+use crate::convert::Stop;
+use crate::report::{Report, RunFault};
 use crate::telling::Telling;
+use crate::words::WordFault;
+use fx_fixed::NumberFault;
 use fx_frame::ByteOut;
+use fx_sound::HeadFault;
 use itoa::Buffer;
 
 /// `soxchain: command line: 2 BadOption`, with the number and name of the fault.
@@ -45,4 +51,74 @@ pub fn tell_warning<M: ByteOut>(telling: &mut Telling, messages: &mut M, counted
     }
     let mut buffer = Buffer::new();
     telling.sentence(messages, "soxchain: warning: ", counted, " ", buffer.format(count), "\n");
+}
+
+/// The message on words that are refused, of which `word` stands for the gain.
+pub fn tell_words<M: ByteOut>(
+    telling: &mut Telling,
+    messages: &mut M,
+    fault: WordFault,
+    word: &str,
+)
+    ensures { TellsMore telling.old.has_failed telling.new.has_failed (M.taken messages.old) (M.taken messages.new) (M.failures messages.old) (M.failures messages.new) (word_message fault word.now) }
+{
+    match fault {
+        WordFault::BadOption => tell_line(telling, messages, "2 BadOption"),
+        WordFault::BadGain(NumberFault::NotANumber | NumberFault::TooLong) => {
+            tell_effect(telling, messages, "5 BadArgument", word)
+        }
+        WordFault::BadGain(NumberFault::OutOfRange) => {
+            tell_effect(telling, messages, "6 OutOfRange", word)
+        }
+    }
+}
+
+// Number and name of what is wrong with a head.
+fn label_of_head(fault: HeadFault) -> &'static str
+    ensures { result.now ≡ head_label fault }
+{
+    match fault {
+        HeadFault::ReadFailed => "1 ReadFailed",
+        HeadFault::UnknownType => "2 UnknownType",
+        HeadFault::Truncated => "3 Truncated",
+        HeadFault::BadHeader => "4 BadHeader",
+        HeadFault::NotInProfile => "5 NotInProfile",
+        HeadFault::TooManyChannels => "6 TooManyChannels",
+        HeadFault::HeadTooLong => "7 HeadTooLong",
+    }
+}
+
+// Number and name of why a run stopped.
+fn label_of_run(fault: &RunFault) -> &'static str
+    ensures { result.now ≡ run_label fault.now }
+{
+    match fault {
+        RunFault::ReadFailed(_) => "1 ReadFailed",
+        RunFault::WriteFailed(_) => "2 WriteFailed",
+        RunFault::TooLong(_) => "3 TooLong",
+    }
+}
+
+/// The warnings of a run.
+pub fn tell_warnings<M: ByteOut>(telling: &mut Telling, messages: &mut M, report: &Report)
+    ensures { TellsMore telling.old.has_failed telling.new.has_failed (M.taken messages.old) (M.taken messages.new) (M.failures messages.old) (M.failures messages.new) (warnings report.now) }
+{
+    tell_warning(telling, messages, "input: missing bytes", report.missing);
+    tell_warning(telling, messages, "input: stray bytes", report.stray);
+    tell_warning(telling, messages, "effect 1 vol: clipped samples", report.clips[0]);
+    tell_warning(telling, messages, "output: clipped samples", report.out_clips);
+}
+
+/// The messages on a stop, behind the warnings where there was a run.
+pub fn tell_stop<M: ByteOut>(telling: &mut Telling, messages: &mut M, stop: &Stop)
+    ensures { TellsMore telling.old.has_failed telling.new.has_failed (M.taken messages.old) (M.taken messages.new) (M.failures messages.old) (M.failures messages.new) (stop_messages stop.now) }
+{
+    match stop {
+        Stop::Head(fault) => tell_input(telling, messages, label_of_head(*fault)),
+        Stop::Run(fault) => {
+            let report = fault.report();
+            tell_warnings(telling, messages, &report);
+            tell_run(telling, messages, label_of_run(fault), report.frames_in);
+        }
+    }
 }

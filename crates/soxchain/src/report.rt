@@ -1,4 +1,5 @@
 //! What a conversion did.
+ghost use Rattle.std.specs.Prelude.{◌≡◌, replicate};
 
 /// The most effects of a chain.
 pub const MOST_EFFECTS: usize = 32;
@@ -33,4 +34,37 @@ pub enum RunFault {
     WriteFailed(Report),
     /// A frame follows after 2^40 frames. Those were written.
     TooLong(Report),
+}
+
+impl RunFault {
+    ghost use Rattle.soxchain.specs.Scaling.{report_at};
+
+    /// What was done by then.
+    pub fn report(&self) -> Report
+        ensures { result ≡ report_at self.now }
+    {
+        match self {
+            RunFault::ReadFailed(report) | RunFault::WriteFailed(report) | RunFault::TooLong(report) => *report,
+        }
+    }
+}
+
+impl Report {
+    ghost use Rattle.soxchain.specs.Scaling.{no_report};
+
+    /// The report of a conversion that ended before its run.
+    pub fn none() -> Report
+        ensures { result ≡ no_report }
+    {
+        Report {
+            frames_in: 0,
+            frames_out: 0,
+            bytes_out: 0,
+            moves: 0,
+            clips: [0; MOST_EFFECTS],
+            out_clips: 0,
+            missing: 0,
+            stray: 0,
+        }
+    }
 }

@@ -34,6 +34,16 @@ pub fn gain_word(words: &[String]) -> &str
     words[5].as_str()
 }
 
+/// The sixth word; no text where there is none.
+pub fn sixth_word(words: &[String]) -> &str
+    ensures { result.now ≡ word_at (texts words.now) 5 }
+{
+    if words.len() <= 5 {
+        return "";
+    }
+    gain_word(words)
+}
+
 /// The gain that the words `- -t au - vol GAIN` ask for.
 ///
 /// Other words are `BadOption`; a last word that is no gain is `BadGain`.
