@@ -135,6 +135,7 @@ parts_fraction run more rest digits more_digits =
 pub record Split (body digits : List ℕ) (before after : ℕ) (rest : List ℕ) : Type 0 where
   pub form : is_decimal body ≡ (nat_lt 0 (before + after) && is_end rest)
   pub digits_are : is_end rest ≡ true → whole_digits body ++ fraction_digits body ≡ digits
+  pub whole_are : is_end rest ≡ true → length (whole_digits body) ≡ before
   pub places_are : is_end rest ≡ true → length (fraction_digits body) ≡ after
   pub exponent_is : exponent_text body ≡ exponent_text rest
 
@@ -151,6 +152,7 @@ ended : (body whole fraction digits rest : List ℕ) → Parts body whole fracti
 ended body whole fraction digits rest parts whole_passes fraction_passes digits_is end_is = record {
   form = is_decimal-parts body whole fraction rest parts ∙ rw (whole_passes, fraction_passes, end_is) refl;
   digits_are = λ _. rw (parts.whole_is, parts.fraction_is) digits_is;
+  whole_are = λ _. ap length parts.whole_is;
   places_are = λ _. ap length parts.fraction_is;
   exponent_is = parts.exponent_is;
 }
@@ -170,6 +172,7 @@ not_ended body whole fraction digits before after c cs parts fails other =
     record {
       form = is_decimal-parts body whole fraction (c ∷ cs) parts ∙ rw (fails, no_end, and-false) refl;
       digits_are = λ ends. absurd (true-is-false (sym ends ∙ no_end));
+      whole_are = λ ends. absurd (true-is-false (sym ends ∙ no_end));
       places_are = λ ends. absurd (true-is-false (sym ends ∙ no_end));
       exponent_is = parts.exponent_is;
     }
@@ -230,7 +233,7 @@ split_fraction run more (c ∷ cs) digits more_digits stops = go (is_mark c) ref
 
 pub shows_split : (body digits rest : List ℕ) (before after : ℕ) (sum : Digits) (r : Option Decimal) →
     Split body digits before after rest → Keeps sum digits →
-    (IsSome r ↔ IsTrue (nat_lt 0 (before + after) && is_end rest)) → IfSome r (λ d. Ends d sum after rest) →
+    (IsSome r ↔ IsTrue (nat_lt 0 (before + after) && is_end rest)) → IfSome r (λ d. Ends d sum before after rest) →
     (IsSome r ↔ IsTrue (is_decimal body)) × IfSome r (λ d. Shows d body)
 shows_split body digits rest before after sum None split keeps form ends =
     let form_is = split.form in
@@ -242,7 +245,9 @@ shows_split body digits rest before after sum (Some d) split keeps form ends =
       (λ some. rw form_is (form.0 some), λ passes. refl),
       record {
         digits = rw (ends.digits, split.digits_are ends_well) keeps;
+        whole = ends.whole ∙ sym (split.whole_are ends_well);
         places = ends.places ∙ sym (split.places_are ends_well);
+        exponent_digits = ends.exponent_digits ∙ rw exponent_is refl;
         raised = ends.raised ∙ rw exponent_is refl;
         lowered = ends.lowered ∙ rw exponent_is refl;
       },
@@ -260,7 +265,7 @@ run_and_rest text rest rest_is = rw rest_is (take-append-drop (prefix_len is_asc
 
 pub shows_whole : (body rest : List ℕ) (whole : ℕ) (sum : Digits) (r : Option Decimal) →
     rest ≡ drop (prefix_len is_ascii_digit body) body → HasNoPoint rest → whole ≡ length body - length rest → Keeps sum (take_while is_ascii_digit body) →
-    (IsSome r ↔ IsTrue (nat_lt 0 (whole + 0) && is_end rest)) → IfSome r (λ d. Ends d sum 0 rest) →
+    (IsSome r ↔ IsTrue (nat_lt 0 (whole + 0) && is_end rest)) → IfSome r (λ d. Ends d sum whole 0 rest) →
     (IsSome r ↔ IsTrue (is_decimal body)) × IfSome r (λ d. Shows d body)
 shows_whole body rest whole sum r rest_is point whole_is keeps form ends =
     let stops : Stops rest = rw rest_is (Stops-drop body) in
@@ -271,7 +276,7 @@ shows_whole body rest whole sum r rest_is point whole_is keeps form ends =
 pub shows_fraction : (body text rest : List ℕ) (whole places : ℕ) (sum : Digits) (r : Option Decimal) →
     46 ∷ text ≡ drop (prefix_len is_ascii_digit body) body → rest ≡ drop (prefix_len is_ascii_digit text) text →
     whole ≡ length body - length (46 ∷ text) → places ≡ length text - length rest → Keeps sum (take_while is_ascii_digit body ++ take_while is_ascii_digit text) →
-    (IsSome r ↔ IsTrue (nat_lt 0 (whole + places) && is_end rest)) → IfSome r (λ d. Ends d sum places rest) →
+    (IsSome r ↔ IsTrue (nat_lt 0 (whole + places) && is_end rest)) → IfSome r (λ d. Ends d sum whole places rest) →
     (IsSome r ↔ IsTrue (is_decimal body)) × IfSome r (λ d. Shows d body)
 shows_fraction body text rest whole places sum r text_is rest_is whole_is places_is keeps form ends =
     let stops : Stops rest = rw rest_is (Stops-drop text) in

@@ -1,3 +1,5 @@
+pub mod Clocking
+pub mod Counting
 pub mod Cutting
 pub mod Keeping
 pub mod Powers

@@ -1,3 +1,6 @@
+pub mod Clock
+pub mod ClockEnd
+pub mod Count
 pub mod Decimals
 pub mod Gains
 pub mod Kept

@@ -9,8 +9,14 @@ use crate::sums::Digits;
 /// An unsigned decimal number as it is written.
 #[derive(Clone, Copy)]
 pub struct Decimal {
+    /// All digits of the mantissa.
     pub digits: Digits,
+    /// How many of them stand before the point, and how many after it.
+    pub whole: usize,
     pub places: usize,
+    /// How many digits the exponent has; 0 where there is none.
+    pub exponent_digits: usize,
+    /// By how many places the exponent raises or lowers the number; 100 stands for more.
     pub raised: u32,
     pub lowered: u32,
     ghost few_places: { places < 100 },
