@@ -6,3 +6,4 @@ pub mod Powers
 pub mod Scaling
 pub mod Shifting
 pub mod Signs
+pub mod Splitting

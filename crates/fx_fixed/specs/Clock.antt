@@ -64,6 +64,10 @@ clock_by rate total count digits components fraction tail =
 abbrev pub clock_after : ℕ → ℕ → ℕ → ℕ → List ℕ → Result ℕ TimeFault
 clock_after rate total count digits text = clock_by rate total count digits (components_of text) (fraction_of text) (tail_of text)
 
+-- the form of a clock time
+abbrev pub has_clock_form : List ℕ → Bool
+has_clock_form text = is_clock 0 0 (components_of text) (fraction_of text) (tail_of text)
+
 -- the frames of a clock time, or its first fault
 abbrev pub clock_of : ℕ → List ℕ → Result ℕ TimeFault
 clock_of rate text = clock_after rate 0 0 0 text

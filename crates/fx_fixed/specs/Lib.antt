@@ -4,5 +4,8 @@ pub mod Count
 pub mod Decimals
 pub mod Gains
 pub mod Kept
+pub mod Later
 pub mod Rounding
 pub mod Shown
+pub mod TermEnd
+pub mod Times

@@ -10,6 +10,7 @@ pub mod inner;
 mod number;
 mod rounding;
 mod sums;
+mod terms;
 mod times;
 
 pub use gains::{DECIMALS, GREATEST_GAIN, Gain, NUMBER_BYTES, NumberFault, UNIT};
