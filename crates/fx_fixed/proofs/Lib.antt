@@ -1,6 +1,7 @@
 pub mod Clocking
 pub mod Counting
 pub mod Cutting
+pub mod Delaying
 pub mod Keeping
 pub mod Powers
 pub mod Scaling

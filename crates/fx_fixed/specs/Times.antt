@@ -70,10 +70,11 @@ terms_of rate text = if nat_lt 80 (length text) then Err BadTime else terms_by r
 abbrev pub frames_between : ℕ → ℕ → Result ℕ TimeFault
 frames_between ahead back = if nat_lt ahead back then Err Negative else within_reach (ahead - back)
 
+-- the frames of a time's terms
+abbrev pub time_by : Result Terms TimeFault → Result ℕ TimeFault
+time_by (Ok terms) = frames_between (terms.first + terms.added) terms.taken
+time_by (Err fault) = Err fault
+
 -- the frames of a time specification, or its first fault
 abbrev pub time_of : ℕ → List ℕ → Result ℕ TimeFault
-time_of rate text = sum_of (terms_of rate text)
-  where
-    sum_of : Result Terms TimeFault → Result ℕ TimeFault
-    sum_of (Ok terms) = frames_between (terms.first + terms.added) terms.taken
-    sum_of (Err fault) = Err fault
+time_of rate text = time_by (terms_of rate text)

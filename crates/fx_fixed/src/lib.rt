@@ -5,17 +5,21 @@
 mod clock;
 mod count;
 mod decimals;
+mod delays;
 mod gains;
 pub mod inner;
 mod number;
+mod positions;
 mod rounding;
 mod sums;
 mod terms;
 mod times;
 
+pub use delays::millis;
 pub use gains::{DECIMALS, GREATEST_GAIN, Gain, NUMBER_BYTES, NumberFault, UNIT};
+pub use positions::{Anchor, At, Position};
 pub use rounding::round_clip;
-pub use times::TimeFault;
+pub use times::{FARTHEST, TimeFault, TimeSpec};
 
 #[cfg(test)]
 mod tests;

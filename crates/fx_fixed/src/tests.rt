@@ -83,3 +83,124 @@ fn scaled_samples(rt: HostRuntime) -> Result<(), NumberFault> {
     }
     Ok(())
 }
+
+#[test]
+fn times_at_8000(rt: HostRuntime) {
+    for (text, frames) in [
+        ("5025", 40_200_000u64),
+        ("79:0285", 40_200_000),
+        ("1:23:45", 40_200_000),
+        ("83:45", 40_200_000),
+        ("1:0:1425", 40_200_000),
+        ("1:23:45.t", 40_200_000),
+        ("1.7e6s", 1_700_000),
+        ("1:", 480_000),
+        (":.5", 4000),
+        ("0.0000625", 1),
+        ("0.00006", 0),
+        ("17e+5s+0.0000625-.5e1s", 1_699_996),
+        ("000000000000000001.000000000000000000E00s", 1),
+        ("1099511627776s", 1_099_511_627_776),
+    ] {
+        assert_eq!(rt; TimeSpec::frames(text, 8000), Ok(frames), "{text}");
+    }
+}
+
+#[test]
+fn times_refused(rt: HostRuntime) {
+    for (text, fault) in [
+        ("0.5s", TimeFault::NotWhole),
+        ("1s-2s", TimeFault::Negative),
+        ("2e12s", TimeFault::TooFar),
+        ("1..2", TimeFault::BadTime),
+        (":", TimeFault::BadTime),
+        ("", TimeFault::BadTime),
+        (".e5s", TimeFault::BadTime),
+        ("e1s", TimeFault::BadTime),
+        ("1e+5", TimeFault::BadTime),
+        ("1e005s", TimeFault::BadTime),
+        ("+1", TimeFault::BadTime),
+        ("1:2:3:4", TimeFault::BadTime),
+        ("1000000000000000000", TimeFault::BadTime),
+        ("2e12s+0.5s", TimeFault::TooFar),
+        ("0.5s+2e12s", TimeFault::NotWhole),
+        ("2e12s+", TimeFault::BadTime),
+        ("999999999999999999.5s", TimeFault::NotWhole),
+        ("999999999999999999:0:0", TimeFault::TooFar),
+        ("1e99s", TimeFault::TooFar),
+        ("1e-99s", TimeFault::NotWhole),
+        ("1099511627776s+1s", TimeFault::TooFar),
+    ] {
+        assert_eq!(rt; TimeSpec::frames(text, 8000), Err(fault), "{text}");
+    }
+}
+
+#[test]
+fn positions_at_8000(rt: HostRuntime) {
+    for (text, default, previous, position) in [
+        ("-0.5+1s", Anchor::Start, At::Start(0), Ok(At::End(3999))),
+        (
+            "+0:12+10s",
+            Anchor::Start,
+            At::Start(100),
+            Ok(At::Start(96_110)),
+        ),
+        ("+5s", Anchor::Start, At::End(3), Ok(At::End(0))),
+        ("1.5", Anchor::Start, At::Start(0), Ok(At::Start(12_000))),
+        (
+            "+1",
+            Anchor::Start,
+            At::Start(12_000),
+            Ok(At::Start(20_000)),
+        ),
+        (
+            "3000s",
+            Anchor::Start,
+            At::Start(20_000),
+            Ok(At::Start(3000)),
+        ),
+        ("-1s-2s", Anchor::Start, At::Start(0), Ok(At::End(3))),
+        ("5s-7s", Anchor::Previous, At::End(3), Ok(At::End(5))),
+        ("1s", Anchor::End, At::Start(9), Ok(At::End(1))),
+        (
+            "=1s-2s",
+            Anchor::End,
+            At::Start(9),
+            Err(TimeFault::Negative),
+        ),
+        (
+            "+1s",
+            Anchor::End,
+            At::Start(u64::MAX),
+            Err(TimeFault::TooFar),
+        ),
+        ("=+1", Anchor::Start, At::Start(0), Err(TimeFault::BadTime)),
+        ("+-1", Anchor::Start, At::Start(0), Err(TimeFault::BadTime)),
+    ] {
+        assert_eq!(rt;
+            Position::resolve(text, 8000, default, previous),
+            position,
+            "{text}"
+        );
+    }
+}
+
+#[test]
+fn millis_at_8000(rt: HostRuntime) {
+    for (text, frames) in [
+        ("0.125", Ok(1u64)),
+        ("0", Ok(1)),
+        ("0.1", Ok(1)),
+        ("1000", Ok(8000)),
+        ("137438953472", Ok(1_099_511_627_776)),
+        ("2e11", Err(TimeFault::TooFar)),
+        ("1e31", Err(TimeFault::TooFar)),
+        ("-1", Err(TimeFault::Negative)),
+        ("x", Err(TimeFault::BadTime)),
+        ("-1e-10", Ok(1)),
+        ("-5e-10", Err(TimeFault::Negative)),
+        ("-1e30", Err(TimeFault::Negative)),
+    ] {
+        assert_eq!(rt; millis(text, 8000), frames, "{text}");
+    }
+}

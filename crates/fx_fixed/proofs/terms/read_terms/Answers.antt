@@ -12,7 +12,7 @@ returns-in_default c =
     let after = take (length text - end) (drop end text) in
     let rest : after ≡ drop end text = take_all (length text - end) (drop end text) (rw length-drop (omega arith)) in
     sym (terms_split c.args.rate text (take end text) after end c.if-text-gt-TIME_BYTES.false c.term_end-end.ensures.value refl rest
-      ∙ bad_later c.args.rate (take end text) (later_terms after) c.in_default.ensures)
+    ∙ bad_later c.args.rate (take end text) (later_terms after) c.in_default.ensures)
 
 pub returns-in_err-frames : goal.returns-in_err-frames
 returns-in_err-frames c =
@@ -22,7 +22,7 @@ returns-in_err-frames c =
     let rest : after ≡ drop end text = take_all (length text - end) (drop end text) (rw length-drop (omega arith)) in
     let fault = err_from_is_err_and c.from_residual.result c.from_residual.ensures.1 in
     rw (fault.1, fault.2) (sym (terms_split c.args.rate text (take end text) after end c.if-text-gt-TIME_BYTES.false c.term_end-end.ensures.value refl rest
-      ∙ bad_first c.args.rate (take end text) (later_terms after) c.in_err-frames.field-0.0 c.in-Some.ensures.form (sym c.in_err-frames.ensures.value)))
+    ∙ bad_first c.args.rate (take end text) (later_terms after) c.in_err-frames.field-0.0 c.in-Some.ensures.form (sym c.in_err-frames.ensures.value)))
 
 pub returns-in-Some-fault : goal.returns-in-Some-fault
 returns-in-Some-fault c =
@@ -31,8 +31,8 @@ returns-in-Some-fault c =
     let after = take (length text - end) (drop end text) in
     let rest : after ≡ drop end text = take_all (length text - end) (drop end text) (rw length-drop (omega arith)) in
     sym (terms_split c.args.rate text (take end text) after end c.if-text-gt-TIME_BYTES.false c.term_end-end.ensures.value refl rest
-      ∙ good_first c.args.rate (take end text) (later_terms after) c.in_ok-frames.frames c.in-Some.later c.in-Some.ensures (sym c.in_ok-frames.ensures.value)
-      ∙ rw c.in-Some-fault.is refl)
+    ∙ good_first c.args.rate (take end text) (later_terms after) c.in_ok-frames.frames c.in-Some.later c.in-Some.ensures (sym c.in_ok-frames.ensures.value)
+    ∙ rw c.in-Some-fault.is refl)
 
 pub returns : goal.returns
 returns c =
@@ -41,5 +41,5 @@ returns c =
     let after = take (length text - end) (drop end text) in
     let rest : after ≡ drop end text = take_all (length text - end) (drop end text) (rw length-drop (omega arith)) in
     sym (terms_split c.args.rate text (take end text) after end c.if-text-gt-TIME_BYTES.false c.term_end-end.ensures.value refl rest
-      ∙ good_first c.args.rate (take end text) (later_terms after) c.in_ok-frames.frames c.in-Some.later c.in-Some.ensures (sym c.in_ok-frames.ensures.value)
-      ∙ rw c.in_default-fault.is refl)
+    ∙ good_first c.args.rate (take end text) (later_terms after) c.in_ok-frames.frames c.in-Some.later c.in-Some.ensures (sym c.in_ok-frames.ensures.value)
+    ∙ rw c.in_default-fault.is refl)
