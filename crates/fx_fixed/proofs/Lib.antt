@@ -8,3 +8,4 @@ pub mod Scaling
 pub mod Shifting
 pub mod Signs
 pub mod Splitting
+pub mod Wording

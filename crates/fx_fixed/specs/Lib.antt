@@ -1,5 +1,6 @@
 pub mod Clock
 pub mod ClockEnd
+pub mod CoefficientFiles
 pub mod Count
 pub mod Decimals
 pub mod Delays
@@ -11,3 +12,4 @@ pub mod Rounding
 pub mod Shown
 pub mod TermEnd
 pub mod Times
+pub mod Words

@@ -60,10 +60,17 @@ impl Gain {
     pub fn parse(text: &str) -> Result<Gain, NumberFault>
         ensures { result ≡ gain_of UNIT text.now }
     {
+        Gain::parse_bytes(text.as_bytes())
+    }
+
+    /// The gain that a text's bytes are.
+    pub(crate) fn parse_bytes(text: &[u8]) -> Result<Gain, NumberFault>
+        ensures { result ≡ gain_of UNIT text.now }
+    {
         if text.len() > NUMBER_BYTES {
             return Err(NumberFault::TooLong);
         }
-        let (is_negative, body) = split_sign(text.as_bytes());
+        let (is_negative, body) = split_sign(text);
         let Some(number) = read_decimal(body) else {
             return Err(NumberFault::NotANumber);
         };

@@ -3,6 +3,7 @@
 #![tactic(auto)]
 
 mod clock;
+mod coefficient_files;
 mod count;
 mod decimals;
 mod delays;
@@ -15,6 +16,7 @@ mod sums;
 mod terms;
 mod times;
 
+pub use coefficient_files::{CoefFault, Coefficients, FILE_BYTES, MOST_COEFFICIENTS};
 pub use delays::millis;
 pub use gains::{DECIMALS, GREATEST_GAIN, Gain, NUMBER_BYTES, NumberFault, UNIT};
 pub use positions::{Anchor, At, Position};
