@@ -1,6 +1,8 @@
 //! The worked rows, in tables.
 
 use super::*;
+use std::alloc::Global;
+use std::test::Fail;
 
 fn trillionths(text: &str) -> Result<i64, NumberFault> {
     Ok(Gain::parse(text)?.trillionths())
@@ -203,4 +205,69 @@ fn millis_at_8000(rt: HostRuntime) {
     ] {
         assert_eq!(rt; millis(text, 8000), frames, "{text}");
     }
+}
+
+/// The number of coefficients in a file.
+fn coefficient_count(alloc: Global, file: &[u8]) -> Result<usize, CoefFault> {
+    Ok(Coefficients::parse(alloc, file)?.len())
+}
+
+#[test]
+fn coefficients_parsed(rt: HostRuntime) -> Result<(), Fail> {
+    let file = b"# low pass\n0.25 0.5 # mid\n0.25";
+    let gains = Coefficients::parse(rt.alloc(), file)?;
+    let mut values = gains.iter().map(|gain| gain.trillionths());
+    assert_eq!(rt; values.next(), Some(250_000_000_000));
+    assert_eq!(rt; values.next(), Some(500_000_000_000));
+    assert_eq!(rt; values.next(), Some(250_000_000_000));
+    assert_eq!(rt; values.next(), None);
+    Ok(())
+}
+
+#[test]
+fn coefficients_counted(rt: HostRuntime) {
+    let bad = Err(CoefFault::BadCoefficients);
+    for (file, count) in [
+        (b"#\xff\r#\n\x0b1#2\r3\n\x0c-3e1\r.5\t".as_slice(), Ok(3)),
+        (b"1", Ok(1)),
+        (b"", bad),
+        (b"#x", bad),
+        (b"1 y", bad),
+        (b"1\xff", bad),
+        (b"1\x002", bad),
+        (b"1\xa02", bad),
+    ] {
+        assert_eq!(rt; coefficient_count(rt.alloc(), file), count);
+    }
+}
+
+#[test]
+fn coefficients_at_limits(rt: HostRuntime) -> Result<(), Fail> {
+    let bad = Err(CoefFault::BadCoefficients);
+    for (word, times, count) in [
+        ("1 ", 1024, Ok(1024)),
+        ("1 ", 1025, bad),
+        ("  #\n  1\n", 256, Ok(256)),
+        (" ", 1_048_577, bad),
+    ] {
+        let file = word.repeat(rt.alloc(), times)?;
+        assert_eq!(rt; coefficient_count(rt.alloc(), file.as_bytes()), count);
+    }
+    Ok(())
+}
+
+#[test]
+fn growth_coefficients(rt: HostRuntime) -> Result<(), Fail> {
+    let file = b"1 2 3 4 5 6 7 8 9 10 11 12 13 14 15 16 17 18 19 20";
+    match Coefficients::parse(rt.alloc(), file) {
+        Ok(gains) => {
+            assert_eq!(rt; gains.len(), 20);
+            println!(rt; "made")?;
+        }
+        Err(fault) => {
+            assert_eq!(rt; fault, CoefFault::Memory);
+            println!(rt; "refused")?;
+        }
+    }
+    Ok(())
 }
