@@ -9,10 +9,11 @@
     scripts/compare_texts.py --write N [--seed S]
         prints N random lines
 
-A line is `KIND RATE TEXT`: kind `gain`, `time` or `millis`; or `position RATE DEFAULT PREVIOUS TEXT`,
-with DEFAULT one of `start`, `previous`, `end`, and PREVIOUS as `start:N` or `end:N`. One space stands
-between the words, and TEXT is the rest of the line, which may be empty or contain spaces. The answer is
-a line with a number, a position as `Start(N)` or `End(N)`, or the name of the fault.
+A line is `KIND RATE TEXT`, with the kinds `gain`, `time` and `millis`, or
+`position RATE DEFAULT PREVIOUS TEXT`, with DEFAULT one of `start`, `previous`, `end`, and PREVIOUS
+as `start:N` or `end:N`. One space stands between the words, and TEXT is the rest of the line, which
+may be empty or contain spaces. The answer is a line with a number, a position as `Start(N)` or
+`End(N)`, or the name of the fault.
 
 The rules here cut a whole text at its separators and add exact fractions.
 """
@@ -69,6 +70,10 @@ def mantissa_value(whole, fraction):
     return Fraction(int("0" + whole + fraction), 10 ** len(fraction))
 
 
+def decimal_value(whole, fraction, exponent):
+    return mantissa_value(whole, fraction) * Fraction(10) ** exponent_value(exponent)
+
+
 def gain(text):
     if len(text.encode()) > 40:
         raise Fault("TooLong")
@@ -76,10 +81,9 @@ def gain(text):
     if parts is None:
         raise Fault("NotANumber")
     sign, whole, fraction, exponent = parts
-    power = exponent_value(exponent)
-    if abs(power) > 30:
+    if abs(exponent_value(exponent)) > 30:
         raise Fault("OutOfRange")
-    value = nearest(sign * mantissa_value(whole, fraction) * Fraction(10) ** power * TRILLIONTHS)
+    value = nearest(sign * decimal_value(whole, fraction, exponent) * TRILLIONTHS)
     if abs(value) > 1000 * TRILLIONTHS:
         raise Fault("OutOfRange")
     return value
@@ -90,10 +94,9 @@ def millis(text, rate):
     if len(text.encode()) > 40 or parts is None:
         raise Fault("BadTime")
     sign, whole, fraction, exponent = parts
-    power = exponent_value(exponent)
-    if abs(power) > 30:
+    if abs(exponent_value(exponent)) > 30:
         raise Fault("TooFar")
-    billionths = nearest(sign * mantissa_value(whole, fraction) * Fraction(10) ** power * 10**9)
+    billionths = nearest(sign * decimal_value(whole, fraction, exponent) * 10**9)
     if billionths < 0:
         raise Fault("Negative")
     frames = max(1, floor(Fraction(billionths * rate, 1000 * 10**9)))
@@ -138,7 +141,7 @@ def count_value(body):
     _, whole, fraction, exponent = parts
     if len(whole) > 18 or len(fraction) > 18 or len((exponent or "").lstrip("+-")) > 2:
         return None
-    return mantissa_value(whole, fraction) * Fraction(10) ** exponent_value(exponent)
+    return decimal_value(whole, fraction, exponent)
 
 
 def term_value(term):
@@ -231,41 +234,62 @@ def digits(source, longest):
     return source.choice((plain, plain, "0" * source.randint(0, 3) + plain, "9" * length))
 
 
+def sign_of(source, signs=("", "", "-", "+")):
+    return source.choice(signs)
+
+
 def number(source, longest):
-    text = source.choice(("", "", "-", "+")) + digits(source, longest)
+    text = sign_of(source) + digits(source, longest)
     if source.random() < 0.6:
         text += "." + digits(source, longest)
     if source.random() < 0.4:
-        power = source.choice((str(source.randint(0, 33)), "0" * source.randint(0, 9) + str(source.randint(0, 40)), ""))
-        text += source.choice("eE") + source.choice(("", "-", "+")) + power
+        plain = str(source.randint(0, 33))
+        padded = "0" * source.randint(0, 9) + str(source.randint(0, 40))
+        text += source.choice("eE") + sign_of(source) + source.choice((plain, padded, ""))
     return text
 
 
 def half(source):
     """A number close to where the rounding or the range turns."""
+    sign = sign_of(source)
+    decimals = source.choice((0, 1, 499999999999, 999999999999))
+    after = source.choice(("5", "49999", "50", "5000000001", "4"))
+    power = source.choice((3, 12, -30, 30, 31, -31))
+    end = source.choice(
+        ("9999999999995", "9999999999994999", "0000000000004999", "0000000000005", "0", "")
+    )
     return source.choice(
         (
-            f"{source.randint(-3, 3)}.{source.choice((0, 1, 499999999999, 999999999999)):012}{source.choice(('5', '49999', '50', '5000000001', '4'))}",
-            f"{source.choice(('', '-'))}{source.randint(0, 99)}5e-{source.randint(8, 16)}",
-            f"{source.choice(('', '-'))}{source.choice((999, 1000))}.{source.choice(('9999999999995', '9999999999994999', '0000000000004999', '0000000000005', '0', ''))}",
-            f"{source.randint(1, 9)}e{source.choice((3, 12, -30, 30, 31, -31))}",
+            f"{sign}{source.randint(0, 3)}.{decimals:012}{after}",
+            f"{sign}{source.randint(0, 99)}5e-{source.randint(8, 16)}",
+            f"{sign}{source.choice((999, 1000))}.{end}",
+            f"{source.randint(1, 9)}e{power}",
+            f"{source.randint(0, 10**source.randint(36, 41))}",
+            f"{source.randint(0, 10**33)}e-{source.randint(28, 31)}",
         )
     )
 
 
-def term(source):
-    shape = source.random()
-    if shape < 0.4:
-        text = digits(source, 21)
-        if source.random() < 0.3:
-            text += "." + digits(source, 19)
-        if source.random() < 0.5:
-            text += source.choice("eE") + source.choice(("", "-", "+")) + source.choice((str(source.randint(0, 13)), "0" + str(source.randint(0, 9)), digits(source, 3)))
-        return text + "s"
-    text = ":".join(digits(source, source.choice((2, 2, 19))) for _ in range(source.choice((1, 1, 2, 3, 3, 4))))
+def sample_count(source):
+    text = digits(source, 21)
+    if source.random() < 0.3:
+        text += "." + digits(source, 19)
+    if source.random() < 0.5:
+        power = source.choice((str(source.randint(0, 13)), "0" + source.choice("0123456789")))
+        text += source.choice("eE") + sign_of(source) + source.choice((power, digits(source, 3)))
+    return text + "s"
+
+
+def clock(source):
+    count = source.choice((1, 1, 2, 3, 3, 4))
+    text = ":".join(digits(source, source.choice((2, 2, 19))) for _ in range(count))
     if source.random() < 0.5:
         text += "." + digits(source, 19)
     return text + source.choice(("", "", "", "t"))
+
+
+def term(source):
+    return sample_count(source) if source.random() < 0.4 else clock(source)
 
 
 def whole_term(source):
@@ -295,24 +319,34 @@ def spoiled(source, text):
     """A text with a few bytes changed, dropped or put in."""
     for _ in range(source.choice((1, 1, 2, 3))):
         place = source.randint(0, len(text))
-        byte = source.choice("0159.:+-eEst=x #é\t~")
-        text = source.choice((text[:place] + byte + text[place:], text[:place] + text[place + 1 :], text[:place] + byte + text[place + 1 :]))
+        put = source.choice(("", *"0159.:+-eEst=x #é\t~"))
+        kept = source.choice((place, place + 1))
+        text = text[:place] + put + text[kept:]
     return text
 
 
+RATES = (1, 2, 3, 7, 8000, 11025, 22050, 44100, 48000, 96000, 192000, 2**32 - 1)
+
+
 def random_line(source):
-    rate = source.choice((1, 2, 3, 7, 8000, 11025, 22050, 44100, 48000, 96000, 192000, 2**32 - 1, source.randint(1, 2**32 - 1)))
+    rate = source.choice((*RATES, source.randint(1, 2**32 - 1)))
     kind = source.choice(("gain", "time", "position", "millis"))
-    longest = source.choice((4, 4, 17, 42))
-    text = specification(source) if kind in ("time", "position") else source.choice((number, number, lambda s, _: half(s)))(source, longest)
+    if kind in ("time", "position"):
+        text = specification(source)
+    elif source.random() < 0.6:
+        text = number(source, source.choice((4, 4, 17, 42)))
+    else:
+        text = half(source)
     if kind == "position":
         text = source.choice(("", "=", "+", "-")) + text
     if source.random() < 0.15:
         text = spoiled(source, text)
-    if kind == "position":
-        far = source.choice((0, 3, 100, 20000, FARTHEST, GREATEST, source.randint(0, GREATEST)))
-        return f"position {rate} {source.choice(('start', 'previous', 'end'))} {source.choice(('start', 'end'))}:{far} {text}"
-    return f"{kind} {rate} {text}"
+    if kind != "position":
+        return f"{kind} {rate} {text}"
+    default = source.choice(("start", "previous", "end"))
+    base = source.choice(("start", "end"))
+    far = source.choice((0, 3, 100, 20000, FARTHEST, GREATEST, source.randint(0, GREATEST)))
+    return f"position {rate} {default} {base}:{far} {text}"
 
 
 def random_lines(count, seed):
@@ -328,7 +362,8 @@ def compare(program, count, seed):
     if run.returncode != 0 or len(given) != count + 1:
         print(f"texts: status {run.returncode}, {len(given) - 1} of {count} lines")
         return 1
-    differing = [(line, answer(line), got) for line, got in zip(lines, given) if answer(line) != got]
+    compared = [(line, answer(line), got) for line, got in zip(lines, given)]
+    differing = [row for row in compared if row[1] != row[2]]
     for line, wanted, got in differing[:20]:
         print(f"{line!r}: {wanted} by the rules, {got} by the program")
     print(f"texts: {count} compared, {len(differing)} differ")
@@ -336,7 +371,9 @@ def compare(program, count, seed):
 
 
 def main():
-    parser = argparse.ArgumentParser(description=__doc__, formatter_class=argparse.RawDescriptionHelpFormatter)
+    parser = argparse.ArgumentParser(
+        description=__doc__, formatter_class=argparse.RawDescriptionHelpFormatter
+    )
     parser.add_argument("program", nargs="?")
     parser.add_argument("--count", type=int, default=100_000)
     parser.add_argument("--seed", type=int, default=1)
@@ -348,7 +385,8 @@ def main():
         return 0
     if chosen.lines is not None:
         with open(chosen.lines, encoding="utf-8", newline="\n") as file:
-            sys.stdout.write("".join(answer(line) + "\n" for line in file.read().split("\n")[:-1]))
+            lines = file.read().split("\n")[:-1]
+        sys.stdout.write("".join(answer(line) + "\n" for line in lines))
         return 0
     if chosen.program is None:
         parser.error("name a program")

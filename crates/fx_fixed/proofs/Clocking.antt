@@ -15,7 +15,8 @@ use Rattle.fx_fixed.specs.Decimals.{is_point}
 use Rattle.fx_fixed.specs.Clock.{clock_after, clock_by, components_of, is_colon, fraction_of, frames_of, front_of, is_short, is_t, tail_of, within_reach}
 use Rattle.fx_fixed.specs.ClockEnd.{BeginsNot, after_components, after_fraction, by_parts, is_last}
 use Rattle.fx_fixed.specs.declared.times.TimeFault.TheVariants.{BadTime}
-use Rattle.fx_fixed.proofs.Cutting.{FailsDigits, Stops, Stops-drop, after_first-digits, after_first-no, after_first-yes, all_ascii_digits-take_while, before_first-digits, before_first-no, before_first-yes, fails-append, length-take_while, point_fails, run_and_rest}
+use Rattle.fx_fixed.proofs.Cutting.{FailsDigits, Stops, Stops-drop, after_first-digits, all_ascii_digits-take_while, before_first-digits, fails-append, length-take_while, none_of_digits, point_fails, run_and_rest}
+use Rattle.fx_fixed.proofs.Parting.{after_first-no, after_first-yes, before_first-no, before_first-yes, first_part, split_run}
 
 pub t_fails : FailsDigits is_t
 t_fails = record { no = λ c digit. grind (arith, nat_tests) }
@@ -139,19 +140,8 @@ pub colon_fails : FailsDigits is_colon
 colon_fails = record { no = λ c digit. grind (arith, nat_tests) }
 
 -- digits in front stay in the first part
-first_part : (run rest part : List ℕ) (parts : List (List ℕ)) → all_ascii_digits run ≡ true → slice_split is_colon rest ≡ part ∷ parts → slice_split is_colon (run ++ rest) ≡ (run ++ part) ∷ parts
-first_part [] rest part parts all rest_is = rest_is
-first_part (c ∷ cs) rest part parts all rest_is =
-    let passes = and_parts (is_ascii_digit c) (all_ascii_digits cs) all in
-    slice_split-cons_no is_colon c (cs ++ rest) (colon_fails.no c passes.0) ∙ ap (λ xs. onto_first c xs) (first_part cs rest part parts passes.1 rest_is)
-
--- there is a first part
-some_part : (rest : List ℕ) → (part : List ℕ) × (parts : List (List ℕ)) × (slice_split is_colon rest ≡ part ∷ parts)
-some_part [] = ([], [], refl)
-some_part (c ∷ cs) = go (is_colon c) refl (some_part cs) where
-  go : (b : Bool) → is_colon c ≡ b → (part : List ℕ) × (parts : List (List ℕ)) × (slice_split is_colon cs ≡ part ∷ parts) → (part : List ℕ) × (parts : List (List ℕ)) × (slice_split is_colon (c ∷ cs) ≡ part ∷ parts)
-  go true colon rest = ([], slice_split is_colon cs, slice_split-cons_yes is_colon c cs colon)
-  go false other rest = (c ∷ rest.0, rest.1, slice_split-cons_no is_colon c cs other ∙ ap (λ xs. onto_first c xs) rest.2)
+digits_first : (run rest part : List ℕ) (parts : List (List ℕ)) → all_ascii_digits run ≡ true → slice_split is_colon rest ≡ part ∷ parts → slice_split is_colon (run ++ rest) ≡ (run ++ part) ∷ parts
+digits_first run rest part parts all cut = split_run is_colon run rest part parts (none_of_digits is_colon colon_fails run all) cut
 
 -- what stands before the point, after digits
 front-digits : (run rest : List ℕ) → all_ascii_digits run ≡ true → front_of (run ++ rest) ≡ run ++ front_of rest
@@ -169,7 +159,7 @@ tail-digits run rest all = after_first-digits is_t t_fails run rest all
 clock_parts : (rate total count digits : ℕ) (run rest part : List ℕ) (parts : List (List ℕ)) → all_ascii_digits run ≡ true → slice_split is_colon (front_of rest) ≡ part ∷ parts →
     clock_after rate total count digits (run ++ rest) ≡ clock_by rate total count digits ((run ++ part) ∷ parts) (fraction_of rest) (tail_of rest)
 clock_parts rate total count digits run rest part parts all parts_is =
-    let components = ap (λ xs. slice_split is_colon xs) (front-digits run rest all) ∙ first_part run (front_of rest) part parts all parts_is in
+    let components = ap (λ xs. slice_split is_colon xs) (front-digits run rest all) ∙ digits_first run (front_of rest) part parts all parts_is in
     ap (λ xs. clock_by rate total count digits xs (fraction_of (run ++ rest)) (tail_of (run ++ rest))) components
     ∙ ap (λ xs. clock_by rate total count digits ((run ++ part) ∷ parts) xs (tail_of (run ++ rest))) (fraction-digits run rest all)
     ∙ ap (λ xs. clock_by rate total count digits ((run ++ part) ∷ parts) (fraction_of rest) xs) (tail-digits run rest all)
@@ -227,7 +217,7 @@ nothing_follows rate total count digits run rest short few front =
 other_follows : (rate total count digits c : ℕ) (run rest cs : List ℕ) → all_ascii_digits run ≡ true → front_of rest ≡ c ∷ cs → is_ascii_digit c ≡ false → is_colon c ≡ false →
     clock_after rate total count digits (run ++ rest) ≡ Err BadTime
 other_follows rate total count digits c run rest cs all front other colon =
-    let first = some_part cs in
+    let first = first_part is_colon cs in
     let parts : slice_split is_colon (front_of rest) ≡ (c ∷ first.0) ∷ first.1 =
     ap (λ xs. slice_split is_colon xs) front ∙ slice_split-cons_no is_colon c cs colon ∙ ap (λ xs. onto_first c xs) first.2 in
     let long : is_short (run ++ c ∷ first.0) ≡ false = and_left (all_ascii_digits (run ++ c ∷ first.0)) (nat_lt (length (run ++ c ∷ first.0)) 19) (fails-append run c first.0 all other) in
@@ -237,7 +227,7 @@ other_follows rate total count digits c run rest cs all front other colon =
 -- too many digits
 run_too_long : (rate total count digits : ℕ) (run rest : List ℕ) → all_ascii_digits run ≡ true → 19 ≤ length run → clock_after rate total count digits (run ++ rest) ≡ Err BadTime
 run_too_long rate total count digits run rest all long =
-    let first = some_part (front_of rest) in
+    let first = first_part is_colon (front_of rest) in
     let many : nat_lt (length (run ++ first.0)) 19 ≡ false = le-ltb (length (run ++ first.0)) 19 (simp length-append (omega arith)) in
     let bad : is_short (run ++ first.0) ≡ false = and_right (all_ascii_digits (run ++ first.0)) (nat_lt (length (run ++ first.0)) 19) many in
     clock_parts rate total count digits run rest first.0 first.1 all first.2
@@ -246,7 +236,7 @@ run_too_long rate total count digits run rest all long =
 -- too many components
 pub too_many : (rate total count digits : ℕ) (text : List ℕ) → 3 ≤ count → clock_after rate total count digits text ≡ Err BadTime
 too_many rate total count digits text many =
-    let first = some_part (front_of text) in
+    let first = first_part is_colon (front_of text) in
     let full : nat_lt (count + suc (length first.1)) 4 ≡ false = le-ltb (count + suc (length first.1)) 4 (omega arith) in
     ap (λ xs. clock_by rate total count digits xs (fraction_of text) (tail_of text)) first.2 ∙ full_by rate total count digits first.0 (fraction_of text) (tail_of text) first.1 full
   where

@@ -1,5 +1,5 @@
 -- A number over a power of ten, where that is whole.
-use Rattle.std.proofs.Common.{true≢false, length-append, Bool, true, List, [], ◌∷◌, ◌++◌, length, ◌≡◌, ℕ, zero, suc, ◌+◌, ◌-◌, ◌*◌, ◌/◌, ◌%◌, ◌^◌, ◌<◌, ◌≤◌, false, ap, ◌∙◌, sym, refl, arith, Err}
+use Rattle.std.proofs.Common.{length-append, Bool, true, List, ◌++◌, length, ◌≡◌, ℕ, zero, suc, ◌+◌, ◌-◌, ◌*◌, ◌/◌, ◌%◌, ◌^◌, ◌<◌, ◌≤◌, false, ap, ◌∙◌, sym, refl, arith, Err}
 use Rattle.std.specs.Prelude.{min, not, ◌&&◌, ◌||◌, nat_lt, ◌==◌, if◌then◌else◌}
 use Rattle.std.proofs.Math.Nat.{mul-mod_left, mul-div_left, mul-le-mul_left, mul-div-mul_right, div-add-mod', zero-mul, mod-eq_of_lt}
 use Rattle.std.proofs.lemmas.Nat.{mod-mul-add, mod_below, pow-add}
@@ -13,9 +13,10 @@ use Rattle.fx_fixed.specs.declared.number.Decimal.{Decimal}
 use Rattle.fx_fixed.specs.declared.times.TimeFault.TheVariants.{NotWhole, TooFar}
 use Rattle.std.specs.Str.{all_ascii_digits}
 use Rattle.std.specs.Str.Parse.{digits_value}
-use Rattle.std.specs.List.{after_first, list_any}
+use Rattle.std.specs.List.{list_any}
 use Rattle.std.proofs.lemmas.Str.Parse.{digits_value_short, numerals_by_value, tells_all_ascii_digits}
-use Rattle.fx_fixed.proofs.Cutting.{after_first-no, all_ascii_digits-append}
+use Rattle.fx_fixed.proofs.Cutting.{all_ascii_digits-append}
+use Rattle.fx_fixed.proofs.Parting.{after_first-none}
 use Rattle.fx_fixed.proofs.Powers.{power_at_most, power_positive}
 
 -- a common factor of a remainder
@@ -81,14 +82,6 @@ kept_whole kept zero lost value value_is few large small = omega arith
 kept_whole kept (suc dropped) lost value value_is few large small =
     let many = large (omega arith) in
     absurd (omega (arith, mul-le-mul_left kept (power_positive (suc dropped))))
-
--- without a mark there is no exponent
-after_first-none : (p : ℕ → Bool) (xs : List ℕ) → list_any p xs ≡ false → after_first p xs ≡ []
-after_first-none p [] none = refl
-after_first-none p (x ∷ xs) none = go (p x) refl (after_first-none p xs) where
-  go : (b : Bool) → p x ≡ b → (list_any p xs ≡ false → after_first p xs ≡ []) → after_first p (x ∷ xs) ≡ []
-  go true passes rest = absurd (true≢false (rw passes at none))
-  go false fails rest = after_first-no p x xs fails ∙ rest (rw fails at none)
 
 -- an exponent of two digits is below a hundred
 exponent_small : (text : List ℕ) → (not (list_any is_mark text) || is_numeral (unsigned (exponent_text text))) ≡ true → length (unsigned (exponent_text text)) ≤ 2 → exponent_size text < 100

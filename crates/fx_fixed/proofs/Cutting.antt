@@ -1,11 +1,12 @@
 -- A run of digits in front changes where a text is cut by nothing but itself.
-use Rattle.std.proofs.Common.{◌≡◌, ℕ, ◌+◌, Bool, true, false, not, ◌&&◌, ◌||◌, List, [], ◌∷◌, ◌++◌, length, drop, ap, ◌∙◌, sym, refl, arith, IsTrue, one-add, add-one, ◌-◌, append-nil, length-take, length-drop}
+use Rattle.std.proofs.Common.{◌≡◌, ℕ, ◌+◌, Bool, true, false, not, ◌&&◌, ◌||◌, List, [], ◌∷◌, ◌++◌, length, drop, ap, ◌∙◌, sym, refl, arith, IsTrue, one-add, ◌-◌, append-nil, length-take, length-drop}
 use Rattle.std.specs.Prelude.{nat_lt, IsSome, IfSome, ⊤, Option, Some, None, ◌↔◌}
 use Rattle.std.specs.Char.{is_ascii_digit}
 use Rattle.std.specs.Str.{all_ascii_digits}
 use Rattle.std.specs.List.{before_first, after_first, list_any, prefix_len, take_while}
 use Rattle.std.proofs.lemmas.Bool.{and_parts, and_left, and_right}
 use Rattle.std.proofs.lemmas.List.{take-append-drop}
+use Rattle.std.proofs.lemmas.List.Folds.{list_any-append}
 use Rattle.std.proofs.lemmas.List.Sums.{prefix_len-le-length}
 use Rattle.std.proofs.lemmas.Bool.Decides.{nat_tests}
 use Rattle.std.proofs.Math.Bool.{and-false}
@@ -13,21 +14,8 @@ use Rattle.fx_fixed.specs.Decimals.{exponent_text, fraction_digits, is_decimal, 
 use Rattle.fx_fixed.specs.Kept.{Keeps}
 use Rattle.fx_fixed.specs.declared.number.Decimal.{Decimal}
 use Rattle.fx_fixed.specs.declared.sums.Digits.{Digits}
+use Rattle.fx_fixed.proofs.Parting.{after_first-no, after_run, before_first-no, before_first-yes, before_run}
 use Rattle.fx_fixed.specs.Shown.{HasNoPoint, is_end, Ends, Shows}
-
--- ---- cuts of a list that begins with one more
-
-pub before_first-no : (p : ℕ → Bool) (c : ℕ) (cs : List ℕ) → p c ≡ false → before_first p (c ∷ cs) ≡ c ∷ before_first p cs
-before_first-no p c cs fails = rw (fails, one-add) refl
-
-pub before_first-yes : (p : ℕ → Bool) (c : ℕ) (cs : List ℕ) → p c ≡ true → before_first p (c ∷ cs) ≡ []
-before_first-yes p c cs passes = rw passes refl
-
-pub after_first-no : (p : ℕ → Bool) (c : ℕ) (cs : List ℕ) → p c ≡ false → after_first p (c ∷ cs) ≡ after_first p cs
-after_first-no p c cs fails = rw (fails, one-add, add-one, add-one) refl
-
-pub after_first-yes : (p : ℕ → Bool) (c : ℕ) (cs : List ℕ) → p c ≡ true → after_first p (c ∷ cs) ≡ cs
-after_first-yes p c cs passes = rw passes refl
 
 -- ---- digits in front
 
@@ -41,23 +29,20 @@ point_fails = record { no = λ c digit. grind (arith, nat_tests) }
 pub mark_fails : FailsDigits is_mark
 mark_fails = record { no = λ c digit. grind (arith, nat_tests) }
 
-pub before_first-digits : (p : ℕ → Bool) (fails : FailsDigits p) (run rest : List ℕ) → all_ascii_digits run ≡ true → before_first p (run ++ rest) ≡ run ++ before_first p rest
-before_first-digits p fails [] rest digits = refl
-before_first-digits p fails (c ∷ cs) rest digits =
+pub none_of_digits : (p : ℕ → Bool) (fails : FailsDigits p) (run : List ℕ) → all_ascii_digits run ≡ true → list_any p run ≡ false
+none_of_digits p fails [] digits = refl
+none_of_digits p fails (c ∷ cs) digits =
     let parts = and_parts (is_ascii_digit c) (all_ascii_digits cs) digits in
-    before_first-no p c (cs ++ rest) (fails.no c parts.0) ∙ ap (λ xs. c ∷ xs) (before_first-digits p fails cs rest parts.1)
+    rw (fails.no c parts.0) (none_of_digits p fails cs parts.1)
+
+pub before_first-digits : (p : ℕ → Bool) (fails : FailsDigits p) (run rest : List ℕ) → all_ascii_digits run ≡ true → before_first p (run ++ rest) ≡ run ++ before_first p rest
+before_first-digits p fails run rest digits = before_run p run rest (none_of_digits p fails run digits)
 
 pub after_first-digits : (p : ℕ → Bool) (fails : FailsDigits p) (run rest : List ℕ) → all_ascii_digits run ≡ true → after_first p (run ++ rest) ≡ after_first p rest
-after_first-digits p fails [] rest digits = refl
-after_first-digits p fails (c ∷ cs) rest digits =
-    let parts = and_parts (is_ascii_digit c) (all_ascii_digits cs) digits in
-    after_first-no p c (cs ++ rest) (fails.no c parts.0) ∙ after_first-digits p fails cs rest parts.1
+after_first-digits p fails run rest digits = after_run p run rest (none_of_digits p fails run digits)
 
-pub list_any-digits : (p : ℕ → Bool) (fails : FailsDigits p) (run rest : List ℕ) → all_ascii_digits run ≡ true → list_any p (run ++ rest) ≡ list_any p rest
-list_any-digits p fails [] rest digits = refl
-list_any-digits p fails (c ∷ cs) rest digits =
-    let parts = and_parts (is_ascii_digit c) (all_ascii_digits cs) digits in
-    rw (fails.no c parts.0) (list_any-digits p fails cs rest parts.1)
+list_any-digits : (p : ℕ → Bool) (fails : FailsDigits p) (run rest : List ℕ) → all_ascii_digits run ≡ true → list_any p (run ++ rest) ≡ list_any p rest
+list_any-digits p fails run rest digits = list_any-append p run rest ∙ ap (λ b. b || list_any p rest) (none_of_digits p fails run digits)
 
 pub all_ascii_digits-append : (run rest : List ℕ) → all_ascii_digits run ≡ true → all_ascii_digits (run ++ rest) ≡ all_ascii_digits rest
 all_ascii_digits-append [] rest digits = refl

@@ -1,6 +1,6 @@
 -- Delays that were read.
-use Rattle.std.proofs.Common.{inl, inr, ◌⊎◌, ◌≡◌, ℕ, ◌+◌, ◌*◌, ◌/◌, ◌^◌, ◌<◌, ◌≤◌, Bool, true, false, not, ◌&&◌, List, length, min, ap, ◌∙◌, sym, refl, arith, Err}
-use Rattle.std.specs.Prelude.{if◌then◌else◌, max, nat_lt}
+use Rattle.std.proofs.Common.{inl, inr, ◌⊎◌, ◌≡◌, ℕ, ◌+◌, ◌*◌, ◌^◌, ◌<◌, ◌≤◌, Bool, true, false, ◌&&◌, List, length, min, refl, arith, Err}
+use Rattle.std.specs.Prelude.{nat_lt}
 use Rattle.std.proofs.lemmas.Bool.{le-ltb, lt-ltb}
 use Rattle.std.proofs.lemmas.Nat.{le-div}
 use Rattle.std.proofs.Math.Nat.{mul-le-mul_left}
@@ -9,7 +9,7 @@ use Rattle.fx_fixed.specs.Decimals.{exponent_size, exponent_text, is_decimal, is
 use Rattle.fx_fixed.specs.Delays.{delay_of, millis_of}
 use Rattle.fx_fixed.specs.Shown.{Shows}
 use Rattle.fx_fixed.specs.declared.number.Decimal.{Decimal}
-use Rattle.fx_fixed.specs.declared.times.TimeFault.TheVariants.{Negative, TooFar}
+use Rattle.fx_fixed.specs.declared.times.TimeFault.TheVariants.{TooFar}
 
 -- at any rate, more billionths than these are too far
 pub too_far : (rate billionths : ℕ) → 0 < rate → (2 ^ 40 + 1) * 10 ^ 12 < billionths → within_reach (delay_of rate billionths) ≡ Err TooFar

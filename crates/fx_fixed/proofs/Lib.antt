@@ -3,6 +3,7 @@ pub mod Counting
 pub mod Cutting
 pub mod Delaying
 pub mod Keeping
+pub mod Parting
 pub mod Powers
 pub mod Scaling
 pub mod Shifting

@@ -1,7 +1,7 @@
 -- A time specification is its first term, and then the later ones.
-use Rattle.std.proofs.Common.{◌≡◌, ℕ, ◌+◌, ◌-◌, ◌*◌, ◌/◌, ◌%◌, ◌^◌, ◌++◌, length-take, Option, Some, None, ◌<◌, ◌≤◌, Bool, true, false, not, ◌&&◌, List, [], ◌∷◌, length, take, drop, ap, ◌∙◌, sym, refl, arith, one-add, length-drop, Result, Ok, Err}
+use Rattle.std.proofs.Common.{◌≡◌, ℕ, ◌+◌, ◌-◌, ◌*◌, ◌/◌, ◌%◌, ◌^◌, ◌++◌, length-take, Option, Some, None, ◌≤◌, Bool, true, false, not, ◌&&◌, List, [], ◌∷◌, length, take, drop, ap, ◌∙◌, sym, refl, arith, one-add, length-drop, Result, Ok, Err}
 use Rattle.std.specs.Prelude.{◌==◌, IfOk, if◌then◌else◌, nat_eq, nat_lt, sum_by}
-use Rattle.std.specs.List.{list_all, onto_first}
+use Rattle.std.specs.List.{list_all}
 use Rattle.std.specs.Option.{option_or}
 use Rattle.std.specs.Result.{result_err}
 use Rattle.std.specs.Str.Parse.{digits_value}
@@ -11,14 +11,13 @@ use Rattle.std.proofs.lemmas.List.{take_all}
 use Rattle.std.proofs.lemmas.List.Sums.{sum_by-cons}
 use Rattle.fx_fixed.specs.Clock.{clock_of, components_of, fraction_of, frames_of, has_clock_form, seconds_of, within_reach}
 use Rattle.fx_fixed.specs.Count.{count_of, is_count, whole_of}
-use Rattle.fx_fixed.specs.Decimals.{fraction_digits, is_mark, is_negative, is_sign, lowered_by, raised_by, unsigned, whole_digits}
-use Rattle.fx_fixed.specs.Later.{BeginsSigned, IsLater, IsNext, IsWithTerm, frames_in, is_bad}
+use Rattle.fx_fixed.specs.Decimals.{fraction_digits, is_mark, is_sign, lowered_by, raised_by, unsigned, whole_digits}
+use Rattle.fx_fixed.specs.Later.{BeginsSigned, IsLater, IsNext, frames_in, is_bad}
 use Rattle.fx_fixed.specs.TermEnd.{term_len}
 use Rattle.fx_fixed.specs.Times.{added_by, fault_in, is_counted, is_term, later_terms, taken_by, term_of, terms_unless, terms_after, terms_by, terms_of, without_last}
 use Rattle.fx_fixed.specs.declared.times.TimeFault.{TimeFault}
 use Rattle.fx_fixed.specs.declared.times.TimeFault.TheVariants.{BadTime, Negative, NotWhole, TooFar}
 use Rattle.fx_fixed.specs.declared.terms.Later.{Later}
-use Rattle.fx_fixed.specs.declared.terms.Terms.{Terms}
 
 -- the first term ends where the code finds its end
 pub terms_cut : (after_mark : Bool) (text : List ℕ) → terms_after after_mark text ≡ take (term_len after_mark text) text ∷ later_terms (drop (term_len after_mark text) text)

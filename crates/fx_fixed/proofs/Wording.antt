@@ -1,48 +1,15 @@
 -- The words of a coefficient file, one after the other.
-use Rattle.std.proofs.Common.{zero, suc, ◌≡◌, ℕ, ◌+◌, ◌<◌, ◌≤◌, Bool, true, false, not, ◌&&◌, ◌||◌, List, [], ◌∷◌, ◌++◌, length, drop, take, ap, ◌∙◌, sym, refl, arith, one-add, append-nil, length-take, get_or}
-use Rattle.std.specs.Prelude.{nat_lt, ⊤}
+use Rattle.std.proofs.Common.{zero, suc, ◌≡◌, ℕ, ◌+◌, ◌<◌, ◌≤◌, Bool, true, false, not, ◌&&◌, ◌||◌, List, [], ◌∷◌, ◌++◌, length, drop, take, ap, ◌∙◌, sym, refl, arith, append-nil, length-take, get_or}
+use Rattle.std.specs.Prelude.{⊤}
 use Rattle.std.proofs.Math.Seq.{drop-cons}
-use Rattle.std.specs.List.{before_first, filter, flat_map, list_any, onto_first, slice_split}
+use Rattle.std.specs.List.{before_first, filter, flat_map, list_any, slice_split}
 use Rattle.std.proofs.lemmas.Bool.{false≢true, lt-ltb}
 use Rattle.std.proofs.lemmas.Bool.Decides.{nat_tests}
 use Rattle.std.proofs.lemmas.List.{take-append-drop}
-use Rattle.std.proofs.lemmas.List.Splits.{slice_split-cons_no, slice_split-cons_yes}
+use Rattle.std.proofs.lemmas.List.Splits.{slice_split-cons_yes}
 use Rattle.fx_fixed.specs.CoefficientFiles.{has_bytes, is_feed, is_hash, is_white, words_in, words_of}
 use Rattle.fx_fixed.specs.Words.{BeginsBreak, BeginsWord, is_break, words_after}
-use Rattle.fx_fixed.proofs.Cutting.{before_first-no, before_first-yes}
-
--- ---- parts of a list
-
--- there is a first part
-first_part : (p : ℕ → Bool) (rest : List ℕ) → (part : List ℕ) × (parts : List (List ℕ)) × (slice_split p rest ≡ part ∷ parts)
-first_part p [] = ([], [], refl)
-first_part p (c ∷ cs) = go (p c) refl (first_part p cs) where
-  go : (b : Bool) → p c ≡ b → (part : List ℕ) × (parts : List (List ℕ)) × (slice_split p cs ≡ part ∷ parts) → (part : List ℕ) × (parts : List (List ℕ)) × (slice_split p (c ∷ cs) ≡ part ∷ parts)
-  go true passes rest = ([], slice_split p cs, slice_split-cons_yes p c cs passes)
-  go false fails rest = (c ∷ rest.0, rest.1, slice_split-cons_no p c cs fails ∙ ap (λ xs. onto_first c xs) rest.2)
-
--- one byte more in the first part
-split_more : (p : ℕ → Bool) (c : ℕ) (cs part : List ℕ) (parts : List (List ℕ)) → p c ≡ false → slice_split p cs ≡ part ∷ parts → slice_split p (c ∷ cs) ≡ (c ∷ part) ∷ parts
-split_more p c cs part parts fails cut = slice_split-cons_no p c cs fails ∙ ap (λ xs. onto_first c xs) cut
-
-none_here : (p : ℕ → Bool) (c : ℕ) (cs : List ℕ) → list_any p (c ∷ cs) ≡ false → (p c ≡ false) × (list_any p cs ≡ false)
-none_here p c cs none = go (p c) refl where
-  go : (b : Bool) → p c ≡ b → (p c ≡ false) × (list_any p cs ≡ false)
-  go true passes = absurd (false≢true (sym (rw passes at none)))
-  go false fails = (fails, rw fails at none)
-
--- a run of which nothing passes stays in the first part
-split_run : (p : ℕ → Bool) (run rest part : List ℕ) (parts : List (List ℕ)) → list_any p run ≡ false → slice_split p rest ≡ part ∷ parts → slice_split p (run ++ rest) ≡ (run ++ part) ∷ parts
-split_run p [] rest part parts none cut = cut
-split_run p (c ∷ cs) rest part parts none cut =
-    let fails = none_here p c cs none in
-    split_more p c (cs ++ rest) (cs ++ part) parts fails.0 (split_run p cs rest part parts fails.1 cut)
-
-before_run : (p : ℕ → Bool) (run rest : List ℕ) → list_any p run ≡ false → before_first p (run ++ rest) ≡ run ++ before_first p rest
-before_run p [] rest none = refl
-before_run p (c ∷ cs) rest none =
-    let fails = none_here p c cs none in
-    before_first-no p c (cs ++ rest) fails.0 ∙ ap (λ xs. c ∷ xs) (before_run p cs rest fails.1)
+use Rattle.fx_fixed.proofs.Parting.{before_first-no, before_first-yes, before_run, first_part, none_here, split_more, split_run}
 
 -- ---- the kinds of bytes
 

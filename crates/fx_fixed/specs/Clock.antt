@@ -1,10 +1,10 @@
--- Clock times as text, cut at their separators.
-use Rattle.std.specs.Prelude.{ℕ, ◌+◌, ◌*◌, ◌^◌, ◌==◌, nat_lt, not, ◌&&◌, Bool, if◌then◌else◌, List, [], ◌∷◌, length, Result, Ok, Err, fold, sum_by}
+-- Clock times as text, by sox(1), Effects, on time specifications, and this project's profile: cut at their separators.
+use Rattle.std.specs.Prelude.{ℕ, ◌+◌, ◌*◌, ◌^◌, ◌==◌, nat_lt, ◌&&◌, Bool, if◌then◌else◌, List, length, Result, Ok, Err, fold, sum_by}
 use Rattle.std.specs.List.{before_first, after_first, list_all, slice_split}
 use Rattle.std.specs.Str.{all_ascii_digits}
 use Rattle.std.specs.Str.Parse.{digits_value}
 use Rattle.fx_fixed.specs.Rounding.{nearest_natural}
-use Rattle.fx_fixed.specs.Decimals.{is_mark, is_point, is_sign}
+use Rattle.fx_fixed.specs.Decimals.{is_point}
 use Rattle.fx_fixed.specs.declared.times.TimeFault.{TimeFault}
 use Rattle.fx_fixed.specs.declared.times.TimeFault.TheVariants.{BadTime, TooFar}
 
@@ -34,11 +34,13 @@ is_short ds = all_ascii_digits ds && nat_lt (length ds) 19
 
 -- the seconds of the components, after those of components before
 abbrev pub seconds_of : ℕ → List (List ℕ) → ℕ
-seconds_of total components = fold (λ seconds component. 60 * seconds + digits_value 10 component) total components
+seconds_of total components =
+    fold (λ seconds component. 60 * seconds + digits_value 10 component) total components
 
 -- seconds and a fraction of a second in frames, to the nearest
 abbrev pub frames_of : ℕ → ℕ → ℕ → ℕ → ℕ
-frames_of rate seconds fraction places = nearest_natural ((seconds * 10 ^ places + fraction) * rate) (10 ^ places)
+frames_of rate seconds fraction places =
+    nearest_natural ((seconds * 10 ^ places + fraction) * rate) (10 ^ places)
 
 -- that number, or the fault that it is too far
 abbrev pub within_reach : ℕ → Result ℕ TimeFault
@@ -57,12 +59,14 @@ is_clock count digits components fraction tail =
 abbrev pub clock_by : ℕ → ℕ → ℕ → ℕ → List (List ℕ) → List ℕ → List ℕ → Result ℕ TimeFault
 clock_by rate total count digits components fraction tail =
     if is_clock count digits components fraction tail
-    then within_reach (frames_of rate (seconds_of total components) (digits_value 10 fraction) (length fraction))
+    then within_reach
+    (frames_of rate (seconds_of total components) (digits_value 10 fraction) (length fraction))
     else Err BadTime
 
 -- the same of a text, after what was read before
 abbrev pub clock_after : ℕ → ℕ → ℕ → ℕ → List ℕ → Result ℕ TimeFault
-clock_after rate total count digits text = clock_by rate total count digits (components_of text) (fraction_of text) (tail_of text)
+clock_after rate total count digits text =
+    clock_by rate total count digits (components_of text) (fraction_of text) (tail_of text)
 
 -- the form of a clock time
 abbrev pub has_clock_form : List ℕ → Bool

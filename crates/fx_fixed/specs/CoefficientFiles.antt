@@ -1,5 +1,5 @@
 -- Coefficient files, by sox(1), fir, and this project's profile: cut into lines, and these into words.
-use Rattle.std.specs.Prelude.{ℕ, ◌+◌, ◌^◌, ◌==◌, nat_lt, not, ◌&&◌, ◌||◌, Bool, if◌then◌else◌, List, length, map, ℤ, pos, Option, Some, None, is_ok}
+use Rattle.std.specs.Prelude.{ℕ, ◌^◌, ◌==◌, nat_lt, not, ◌&&◌, ◌||◌, Bool, if◌then◌else◌, List, length, map, ℤ, pos, Option, Some, None, is_ok}
 use Rattle.std.specs.List.{before_first, filter, flat_map, list_all, slice_split}
 use Rattle.std.specs.Result.{result_unwrap_or}
 use Rattle.fx_fixed.specs.Gains.{gain_of}

@@ -1,10 +1,9 @@
 -- What was read of a time's later terms.
 use Rattle.std.specs.Prelude.{ℕ, ◌≡◌, ◌+◌, ◌<◌, Bool, true, false, ⊤, if◌then◌else◌, List, [], ◌∷◌, length, sum_by, Result, Ok, Err}
-use Rattle.std.specs.List.{list_all}
 use Rattle.std.specs.Option.{option_or}
 use Rattle.std.specs.Result.{result_err, result_unwrap_or}
 use Rattle.fx_fixed.specs.Decimals.{is_negative, is_sign, unsigned}
-use Rattle.fx_fixed.specs.Times.{added_by, fault_in, is_term, later_terms, taken_by}
+use Rattle.fx_fixed.specs.Times.{added_by, are_terms, fault_in, later_terms, taken_by}
 use Rattle.fx_fixed.specs.declared.terms.Later.{Later}
 use Rattle.fx_fixed.specs.declared.times.TimeFault.{TimeFault}
 use Rattle.fx_fixed.specs.declared.times.TimeFault.TheVariants.{BadTime, Negative, NotWhole, TooFar}
@@ -45,7 +44,7 @@ pub record IsWithTerm (before : Later) (is_taken : Bool) (term : Result ℕ Time
 
 -- what was read of those terms, all of which have the form of a term
 pub record IsLater (rate : ℕ) (later : Later) (terms : List (List ℕ)) : Type 0 where
-  pub form : list_all (λ term. is_term (unsigned term)) terms ≡ true
+  pub form : are_terms terms ≡ true
   pub fault : later.fault ≡ fault_in rate terms
   pub added : later.added ≡ sum_by (added_by rate) terms
   pub taken : later.taken ≡ sum_by (taken_by rate) terms

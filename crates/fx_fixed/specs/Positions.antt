@@ -3,7 +3,6 @@ use Rattle.std.specs.Prelude.{ℕ, ◌+◌, ◌-◌, ◌^◌, ◌==◌, ◌||◌
 use Rattle.fx_fixed.specs.Decimals.{is_sign}
 use Rattle.fx_fixed.specs.Times.{frames_between, terms_of}
 use Rattle.fx_fixed.specs.declared.positions.Anchor.{Anchor}
-use Rattle.fx_fixed.specs.declared.positions.Anchor.TheVariants as Anchor
 use Rattle.fx_fixed.specs.declared.positions.At.{At}
 use Rattle.fx_fixed.specs.declared.positions.At.TheVariants.{Start, End}
 use Rattle.fx_fixed.specs.declared.terms.Terms.{Terms}
@@ -14,7 +13,10 @@ use Rattle.fx_fixed.specs.declared.times.TimeFault.TheVariants.{TooFar}
 abbrev pub anchor_of : Anchor → List ℕ → Anchor
 anchor_of default [] = default
 anchor_of default (c ∷ cs) =
-    if c == 61 then Anchor.Start else (if c == 43 then Anchor.Previous else (if c == 45 then Anchor.End else default))
+    if c == 61 then Anchor.Start
+    else (if c == 43 then Anchor.Previous
+    else (if c == 45 then Anchor.End
+    else default))
 
 -- a position without the sign that names its anchor
 abbrev pub distance_of : List ℕ → List ℕ
@@ -46,7 +48,8 @@ position_from anchor previous (Err fault) = Err fault
 
 -- the position that a text names, or its first fault
 abbrev pub position_of : ℕ → Anchor → At → List ℕ → Result At TimeFault
-position_of rate default previous text = position_from (anchor_of default text) previous (terms_of rate (distance_of text))
+position_of rate default previous text =
+    position_from (anchor_of default text) previous (terms_of rate (distance_of text))
 
 -- where a position lies in a sound of so many frames
 abbrev pub place_of : ℕ → At → ℕ
@@ -56,7 +59,9 @@ place_of total (End b) = total - b
 -- where positions lie in effect, one after the other: none before the one in front of it
 abbrev pub places_after : ℕ → ℕ → List At → List ℕ
 places_after total last [] = []
-places_after total last (position ∷ positions) = max last (place_of total position) ∷ places_after total (max last (place_of total position)) positions
+places_after total last (position ∷ positions) =
+    let place = max last (place_of total position) in
+    place ∷ places_after total place positions
 
 abbrev pub places_of : ℕ → List At → List ℕ
 places_of total positions = places_after total 0 positions

@@ -1,6 +1,6 @@
 -- What was read of a coefficient file's words.
-use Rattle.std.specs.Prelude.{ℕ, ◌≡◌, ◌<◌, ◌||◌, Bool, true, false, ⊤, List, [], ◌∷◌, drop, length}
-use Rattle.std.specs.List.{flat_map, list_any, slice_split}
+use Rattle.std.specs.Prelude.{ℕ, ◌≡◌, ◌||◌, Bool, true, false, ⊤, List, [], ◌∷◌, drop}
+use Rattle.std.specs.List.{flat_map, slice_split}
 use Rattle.fx_fixed.specs.CoefficientFiles.{is_feed, is_hash, is_white, words_in, words_of}
 
 -- what ends a word

@@ -10,6 +10,9 @@ ghost use Rattle.fx_fixed.specs.ClockEnd.{BeginsNot, after_components, after_fra
 use crate::number::power_of_ten;
 use crate::times::TimeFault;
 
+/// The greatest number of digits in a run.
+pub(crate) const RUN_DIGITS: usize = 18;
+
 /// The number of the digits at the front, of which there may be eighteen, and what follows them.
 #[tactic(auto, using(crate::proofs::Powers::run_powers))]
 fn digit_run(text: &[u8]) -> Option<(u64, &[u8])>
@@ -24,7 +27,7 @@ fn digit_run(text: &[u8]) -> Option<(u64, &[u8])>
         if !byte.is_ascii_digit() {
             return Some((value, &text[i..]));
         }
-        if i == 18 {
+        if i == RUN_DIGITS {
             return None;
         }
         value = value * 10 + u64::from(*byte - b'0');

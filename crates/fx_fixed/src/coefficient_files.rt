@@ -1,9 +1,9 @@
 //! Coefficient files.
 
-ghost use Rattle.std.specs.Prelude.{◌≡◌, ◌<◌, ◌≤◌, ◌&&◌, ◌||◌, not, ◌∷◌, [], IfOk, MatchOption, Some, None, Err, false, drop, length, take};
+ghost use Rattle.std.specs.Prelude.{◌≡◌, ◌<◌, ◌≤◌, ◌&&◌, ◌||◌, not, ◌∷◌, [], IfOk, IfSome, MatchOption, Some, None, Err, false, drop, length, take};
 ghost use Rattle.std.specs.List.{list_any};
 ghost use Rattle.fx_fixed.specs.CoefficientFiles;
-ghost use Rattle.fx_fixed.specs.CoefficientFiles.{coefficients_of, words_of};
+ghost use Rattle.fx_fixed.specs.CoefficientFiles.{coefficients_of, is_feed, is_hash, words_of};
 ghost use Rattle.fx_fixed.specs.Words;
 ghost use Rattle.fx_fixed.specs.Words.{BeginsBreak, BeginsWord};
 
@@ -11,10 +11,11 @@ use crate::gains::Gain;
 use std::alloc::Global;
 use thiserror::Error;
 
-/// The greatest number of bytes of a coefficient file, and of its numbers.
-pub const FILE_BYTES: usize = 1 << 20;
+/// The greatest number of bytes of a coefficient file.
+const FILE_BYTES: usize = 1 << 20;
 
-pub const MOST_COEFFICIENTS: usize = 1024;
+/// The greatest number of coefficients.
+const MOST_COEFFICIENTS: usize = 1024;
 
 /// Why there are no coefficients.
 #[derive(Clone, Copy, Debug, Drop, Eq, Error, PartialEq)]
@@ -25,7 +26,7 @@ pub enum CoefFault {
     Memory,
 }
 
-/// Whether a byte is white space: a space, tab, line feed, vertical tab, form feed or carriage return.
+/// Whether a byte is a space, tab, line feed, vertical tab, form feed or carriage return.
 fn is_white(byte: u8) -> bool
     ensures { result ≡ CoefficientFiles.is_white byte }
 {
@@ -48,7 +49,7 @@ fn is_skipped(in_comment: bool, byte: u8) -> bool
 
 /// Whether what follows a byte belongs to a comment.
 fn is_commented(in_comment: bool, byte: u8) -> bool
-    ensures { result ≡ (not (CoefficientFiles.is_feed byte) && (in_comment || CoefficientFiles.is_hash byte)) }
+    ensures { result ≡ (not (is_feed byte) && (in_comment || is_hash byte)) }
 {
     byte != b'\n' && (in_comment || byte == b'#')
 }
@@ -85,8 +86,9 @@ fn word_end(text: &[u8]) -> usize
 
 /// The first word of a text, and what follows it.
 fn next_word(text: &[u8]) -> Option<(&[u8], &[u8])>
-    ensures words { MatchOption result (words_of text.now ≡ []) (λ next. words_of text.now ≡ next.0.now ∷ words_of next.1.now) }
-    ensures shorter { MatchOption result (words_of text.now ≡ []) (λ next. length next.1.now < length text.now) }
+    ensures words { MatchOption result (words_of text.now ≡ [])
+        (λ next. words_of text.now ≡ next.0.now ∷ words_of next.1.now) }
+    ensures shorter { IfSome result (λ next. length next.1.now < length text.now) }
 {
     let start = word_start(text);
     if start == text.len() {
@@ -102,8 +104,8 @@ pub struct Coefficients;
 
 impl Coefficients {
     /// The gains that a file lists: 1 to 1024 numbers as `Gain::parse` reads them, between white
-    /// space (space, tab, line feed, vertical tab, form feed, carriage return) and comments from `#`
-    /// to a line feed.
+    /// space (space, tab, line feed, vertical tab, form feed, carriage return) and comments from
+    /// `#` to a line feed.
     ///
     /// `BadCoefficients` where the file has over `2^20` bytes, no number, over 1024 numbers or a word
     /// that is none; `Memory` where a growth of the list was refused.

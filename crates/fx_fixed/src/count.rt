@@ -3,6 +3,7 @@
 ghost use Rattle.std.specs.Prelude.{◌≡◌, ◌^◌, ◌<◌, ◌≤◌, length};
 ghost use Rattle.fx_fixed.specs.Count.{count_of, whole_of};
 
+use crate::clock::RUN_DIGITS;
 use crate::decimals::read_decimal;
 use crate::number::power_of_ten;
 use crate::times::TimeFault;
@@ -53,7 +54,7 @@ pub fn count_frames(text: &[u8]) -> Result<u64, TimeFault>
     let Some(number) = read_decimal(text) else {
         return Err(TimeFault::BadTime);
     };
-    if number.whole > 18 || number.places > 18 || number.exponent_digits > 2 {
+    if number.whole > RUN_DIGITS || number.places > RUN_DIGITS || number.exponent_digits > 2 {
         return Err(TimeFault::BadTime);
     }
     let lowered = number.places as u32 + number.lowered;

@@ -5,7 +5,7 @@ ghost use Rattle.std.specs.Str.Parse.{digits_value};
 ghost use Rattle.fx_fixed.specs.Decimals.{is_decimal, is_negative, is_numeral, unsigned};
 ghost use Rattle.fx_fixed.specs.Shown.{Ends, HasNoPoint, Shows, is_end};
 
-use crate::number::Decimal;
+use crate::number::{Decimal, EXPONENT_CAP};
 use crate::sums::Digits;
 
 /// Whether a text begins with a minus, and the text without its sign.
@@ -21,7 +21,7 @@ pub fn split_sign(text: &[u8]) -> (bool, &[u8])
     }
 }
 
-/// The number that is all of a text, or 100 where it is more.
+/// The number that is all of a text, or `EXPONENT_CAP` where it is more.
 fn capped_number(text: &[u8]) -> Option<u32>
     ensures form { IsSome result ↔ IsTrue (is_numeral text.now) }
     ensures value { IfSome result (λ n. n ≡ min (digits_value 10 text.now) 100) }
@@ -34,7 +34,7 @@ fn capped_number(text: &[u8]) -> Option<u32>
         if !byte.is_ascii_digit() {
             return None;
         }
-        number = (number * 10 + u32::from(*byte - b'0')).min(100);
+        number = (number * 10 + u32::from(*byte - b'0')).min(EXPONENT_CAP);
     }
     Some(number)
 }

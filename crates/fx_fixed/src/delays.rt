@@ -6,6 +6,7 @@ ghost use Rattle.fx_fixed.specs.Clock.{within_reach};
 
 use crate::decimals::{read_decimal, split_sign};
 use crate::gains::NUMBER_BYTES;
+use crate::number::GREATEST_EXPONENT;
 use crate::times::{FARTHEST, TimeFault};
 
 /// The decimals to which a number of milliseconds is rounded.
@@ -42,7 +43,7 @@ pub fn millis(text: &str, rate: u32) -> Result<u64, TimeFault>
     let Some(number) = read_decimal(body) else {
         return Err(TimeFault::BadTime);
     };
-    if number.raised > 30 || number.lowered > 30 {
+    if number.raised > GREATEST_EXPONENT || number.lowered > GREATEST_EXPONENT {
         return Err(TimeFault::TooFar);
     }
     // At one frame a second, more billionths than this are too far, and at any rate above too.

@@ -16,9 +16,9 @@ mod sums;
 mod terms;
 mod times;
 
-pub use coefficient_files::{CoefFault, Coefficients, FILE_BYTES, MOST_COEFFICIENTS};
+pub use coefficient_files::{CoefFault, Coefficients};
 pub use delays::millis;
-pub use gains::{DECIMALS, GREATEST_GAIN, Gain, NUMBER_BYTES, NumberFault, UNIT};
+pub use gains::{GREATEST_GAIN, Gain, NumberFault, UNIT};
 pub use positions::{Anchor, At, Position};
 pub use rounding::round_clip;
 pub use times::{FARTHEST, TimeFault, TimeSpec};

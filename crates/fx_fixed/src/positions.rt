@@ -75,9 +75,9 @@ pub struct Position;
 
 impl Position {
     /// The position that a text names at a rate of at least 1: `=` counts from the start, `+` from
-    /// the previous position, `-` back from the end, no sign from the default anchor. The first term
-    /// goes in the anchor's direction, and each later term moves the position itself; a position
-    /// behind the end is at the end.
+    /// the previous position, `-` back from the end, no sign from the default anchor. The first
+    /// term goes in the anchor's direction, and each later term moves the position itself; a
+    /// position behind the end is at the end.
     ///
     /// Refused are, in this order: what `TimeSpec::frames` refuses of the terms, the sign not
     /// counted; a position before the start (`Negative`); one over `2^40` frames from the start or

@@ -1,11 +1,9 @@
 //! The terms of a time specification.
 
 ghost use Rattle.std.specs.Prelude.{◌≡◌, ◌+◌, ◌^◌, ◌<◌, ◌≤◌, [], false, IfOk, MatchOption, length, take, drop};
-ghost use Rattle.std.specs.List.{list_all};
 ghost use Rattle.fx_fixed.specs.Decimals;
-ghost use Rattle.fx_fixed.specs.Decimals.{unsigned};
 ghost use Rattle.fx_fixed.specs.Later.{BeginsSigned, IsLater, IsNext, IsWithTerm};
-ghost use Rattle.fx_fixed.specs.Times.{is_term, later_terms, term_of, terms_of};
+ghost use Rattle.fx_fixed.specs.Times.{are_terms, later_terms, term_of, terms_of};
 ghost use Rattle.fx_fixed.specs.TermEnd.{term_len};
 
 use crate::clock::clock_frames;
@@ -13,7 +11,7 @@ use crate::count::count_frames;
 use crate::times::TimeFault;
 
 /// The greatest number of bytes of a time specification.
-pub const TIME_BYTES: usize = 80;
+const TIME_BYTES: usize = 80;
 
 /// The frames of a time's first term, and what its later terms add and take away.
 #[derive(Clone, Copy, Drop)]
@@ -37,7 +35,8 @@ impl Later {
         requires added { self.added < 2 ^ 63 }
         requires taken { self.taken < 2 ^ 63 }
         requires bound { IfOk term (λ frames. frames ≤ 2 ^ 40) }
-        ensures { MatchOption result (term ≡ Err TimeFault.BadTime) (λ later. IsWithTerm self is_taken term later) }
+        ensures { MatchOption result (term ≡ Err TimeFault.BadTime)
+            (λ later. IsWithTerm self is_taken term later) }
     {
         match term {
             Ok(frames) if is_taken => Some(Later {
@@ -103,7 +102,8 @@ fn term_frames(term: &[u8], rate: u32) -> Result<u64, TimeFault>
 /// The first of a text's later terms, whether it is to be taken away, and what follows it.
 fn next_term(text: &[u8]) -> Option<(bool, &[u8], &[u8])>
     requires { BeginsSigned text.now }
-    ensures { MatchOption result (text.now ≡ []) (λ next. IsNext text.now next.0 next.1.now next.2.now) }
+    ensures { MatchOption result (text.now ≡ [])
+        (λ next. IsNext text.now next.0 next.1.now next.2.now) }
 {
     let (sign, more) = text.split_first()?;
     let end = term_end(more);
@@ -115,7 +115,8 @@ fn read_later(text: &[u8], rate: u32) -> Option<Later>
     requires begins { BeginsSigned text.now }
     requires size { length text.now ≤ 80 }
     requires rate { 0 < rate }
-    ensures { MatchOption result (list_all (λ term. is_term (unsigned term)) (later_terms text.now) ≡ false) (λ later. IsLater rate later (later_terms text.now)) }
+    ensures { MatchOption result (are_terms (later_terms text.now) ≡ false)
+        (λ later. IsLater rate later (later_terms text.now)) }
 {
     let mut later = Later {
         added: 0,

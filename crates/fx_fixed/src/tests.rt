@@ -225,7 +225,7 @@ fn coefficients_parsed(rt: HostRuntime) -> Result<(), Fail> {
 }
 
 #[test]
-fn coefficients_counted(rt: HostRuntime) {
+fn coefficients_parsed_by_count(rt: HostRuntime) {
     let bad = Err(CoefFault::BadCoefficients);
     for (file, count) in [
         (b"#\xff\r#\n\x0b1#2\r3\n\x0c-3e1\r.5\t".as_slice(), Ok(3)),
@@ -242,7 +242,7 @@ fn coefficients_counted(rt: HostRuntime) {
 }
 
 #[test]
-fn coefficients_at_limits(rt: HostRuntime) -> Result<(), Fail> {
+fn coefficients_parsed_at_limits(rt: HostRuntime) -> Result<(), Fail> {
     let bad = Err(CoefFault::BadCoefficients);
     for (word, times, count) in [
         ("1 ", 1024, Ok(1024)),

@@ -1,4 +1,4 @@
-use Rattle.std.proofs.Common.{◌≡◌, ◌-◌, ◌<◌, ◌∙◌, arith, refl, take, drop, length, length-drop}
+use Rattle.std.proofs.Common.{◌≡◌, ◌-◌, ◌<◌, arith, refl, take, drop, length, length-drop}
 use Rattle.std.proofs.lemmas.List.{take_all}
 use Rattle.fx_fixed.proofs.coefficient_files.next_word.Goals as goal
 use Rattle.fx_fixed.proofs.Wording.{word_found}

@@ -1,7 +1,6 @@
-use Rattle.std.proofs.Common.{◌≡◌, ◌∙◌, ◌+◌, ◌≤◌, ◌^◌, arith, sym, refl}
-use Rattle.std.specs.Prelude.{if◌then◌else◌}
+use Rattle.std.proofs.Common.{◌∙◌, arith, sym}
 use Rattle.fx_fixed.proofs.terms.read_later.Goals as goal
-use Rattle.fx_fixed.specs.Later.{IsNext, frames_in}
+use Rattle.fx_fixed.specs.Later.{frames_in}
 use Rattle.fx_fixed.proofs.Splitting.{added_next, fault_next, form_bad, form_next, frames_few, moved_few, taken_next}
 
 pub returns-in_err-later : goal.returns-in_err-later

@@ -1,4 +1,4 @@
-use Rattle.std.proofs.Common.{◌≡◌, ◌-◌, ◌∙◌, arith, sym, refl, take, drop, length, length-drop, None}
+use Rattle.std.proofs.Common.{◌≡◌, ◌-◌, ◌∙◌, arith, sym, refl, take, drop, length, length-drop}
 use Rattle.std.proofs.lemmas.List.{take_all}
 use Rattle.std.proofs.lemmas.Result.{err_from_is_err_and}
 use Rattle.fx_fixed.specs.Times.{later_terms}
