@@ -1,8 +1,31 @@
 //! The worked rows, in tables.
 
+ghost use Rattle.std.specs.Prelude.{◌≡◌, ◌∷◌, [], Err, None, Ok, Some, codes, negsuc, pos};
+ghost use Rattle.fx_fixed.specs.CoefficientFiles.{coefficients_of};
+ghost use Rattle.fx_fixed.specs.Delays.{millis_of};
+ghost use Rattle.fx_fixed.specs.Gains.{gain_of};
+ghost use Rattle.fx_fixed.specs.Positions.{places_of, position_of};
+ghost use Rattle.fx_fixed.specs.Times.{time_of};
+
 use super::*;
 use std::alloc::Global;
 use std::test::Fail;
+
+/// The definitions give the worked values, by computation.
+fn worked_definitions()
+    ensures gain { gain_of UNIT (codes "-1e-9") ≡ Ok (negsuc 999) }
+    ensures gain_up { gain_of UNIT (codes "5e-13") ≡ Ok (pos 1) }
+    ensures gain_over { gain_of UNIT (codes "1000.0000000000005") ≡ Err NumberFault.OutOfRange }
+    ensures clock { time_of 8000 (codes "79:0285") ≡ Ok 40200000 }
+    ensures count { time_of 8000 (codes "1.7e6s-0:0:01+0.0000625") ≡ Ok 1692001 }
+    ensures order { time_of 8000 (codes "0.5s+2e12s") ≡ Err TimeFault.NotWhole }
+    ensures form { time_of 8000 (codes "2e12s+") ≡ Err TimeFault.BadTime }
+    ensures position { position_of 8000 Anchor.Start (At.Start 0) (codes "-0.5+1s") ≡ Ok (At.End 3999) }
+    ensures places { places_of 10 (At.Start 3 ∷ At.End 9 ∷ At.End 2 ∷ []) ≡ 3 ∷ 3 ∷ 8 ∷ [] }
+    ensures delay { millis_of 8000 (codes "-1e-10") ≡ Ok 1 }
+    ensures file { coefficients_of (codes "# x 1\n.5#4\n-1e-12 ") ≡ Some (pos 500000000000 ∷ negsuc 0 ∷ []) }
+    ensures no_file { coefficients_of (codes "#x") ≡ None }
+{}
 
 fn trillionths(text: &str) -> Result<i64, NumberFault> {
     Ok(Gain::parse(text)?.trillionths())
