@@ -1,11 +1,12 @@
 -- A run of digits in front changes where a text is cut by nothing but itself.
-use Rattle.std.proofs.Common.{◌≡◌, ℕ, ◌+◌, Bool, true, false, not, ◌&&◌, ◌||◌, List, [], ◌∷◌, ◌++◌, length, drop, ap, ◌∙◌, sym, refl, arith, IsTrue, one-add, add-one, ◌-◌, append-nil, length-take, length-drop}
+use Rattle.std.proofs.Common.{◌≡◌, ℕ, ◌+◌, Bool, true, false, not, ◌&&◌, ◌||◌, List, [], ◌∷◌, ◌++◌, length, drop, ap, ◌∙◌, sym, refl, arith, IsTrue, one-add, ◌-◌, append-nil, length-take, length-drop}
 use Rattle.std.specs.Prelude.{nat_lt, IsSome, IfSome, ⊤, Option, Some, None, ◌↔◌}
 use Rattle.std.specs.Char.{is_ascii_digit}
 use Rattle.std.specs.Str.{all_ascii_digits}
 use Rattle.std.specs.List.{before_first, after_first, list_any, prefix_len, take_while}
 use Rattle.std.proofs.lemmas.Bool.{and_parts, and_left, and_right}
 use Rattle.std.proofs.lemmas.List.{take-append-drop}
+use Rattle.std.proofs.lemmas.List.Folds.{list_any-append}
 use Rattle.std.proofs.lemmas.List.Sums.{prefix_len-le-length}
 use Rattle.std.proofs.lemmas.Bool.Decides.{nat_tests}
 use Rattle.std.proofs.Math.Bool.{and-false}
@@ -13,21 +14,8 @@ use Rattle.fx_fixed.specs.Decimals.{exponent_text, fraction_digits, is_decimal, 
 use Rattle.fx_fixed.specs.Kept.{Keeps}
 use Rattle.fx_fixed.specs.declared.number.Decimal.{Decimal}
 use Rattle.fx_fixed.specs.declared.sums.Digits.{Digits}
+use Rattle.fx_fixed.proofs.Parting.{after_first-no, after_run, before_first-no, before_first-yes, before_run}
 use Rattle.fx_fixed.specs.Shown.{HasNoPoint, is_end, Ends, Shows}
-
--- ---- cuts of a list that begins with one more
-
-pub before_first-no : (p : ℕ → Bool) (c : ℕ) (cs : List ℕ) → p c ≡ false → before_first p (c ∷ cs) ≡ c ∷ before_first p cs
-before_first-no p c cs fails = rw (fails, one-add) refl
-
-pub before_first-yes : (p : ℕ → Bool) (c : ℕ) (cs : List ℕ) → p c ≡ true → before_first p (c ∷ cs) ≡ []
-before_first-yes p c cs passes = rw passes refl
-
-pub after_first-no : (p : ℕ → Bool) (c : ℕ) (cs : List ℕ) → p c ≡ false → after_first p (c ∷ cs) ≡ after_first p cs
-after_first-no p c cs fails = rw (fails, one-add, add-one, add-one) refl
-
-pub after_first-yes : (p : ℕ → Bool) (c : ℕ) (cs : List ℕ) → p c ≡ true → after_first p (c ∷ cs) ≡ cs
-after_first-yes p c cs passes = rw passes refl
 
 -- ---- digits in front
 
@@ -41,23 +29,20 @@ point_fails = record { no = λ c digit. grind (arith, nat_tests) }
 pub mark_fails : FailsDigits is_mark
 mark_fails = record { no = λ c digit. grind (arith, nat_tests) }
 
-pub before_first-digits : (p : ℕ → Bool) (fails : FailsDigits p) (run rest : List ℕ) → all_ascii_digits run ≡ true → before_first p (run ++ rest) ≡ run ++ before_first p rest
-before_first-digits p fails [] rest digits = refl
-before_first-digits p fails (c ∷ cs) rest digits =
+pub none_of_digits : (p : ℕ → Bool) (fails : FailsDigits p) (run : List ℕ) → all_ascii_digits run ≡ true → list_any p run ≡ false
+none_of_digits p fails [] digits = refl
+none_of_digits p fails (c ∷ cs) digits =
     let parts = and_parts (is_ascii_digit c) (all_ascii_digits cs) digits in
-    before_first-no p c (cs ++ rest) (fails.no c parts.0) ∙ ap (λ xs. c ∷ xs) (before_first-digits p fails cs rest parts.1)
+    rw (fails.no c parts.0) (none_of_digits p fails cs parts.1)
+
+pub before_first-digits : (p : ℕ → Bool) (fails : FailsDigits p) (run rest : List ℕ) → all_ascii_digits run ≡ true → before_first p (run ++ rest) ≡ run ++ before_first p rest
+before_first-digits p fails run rest digits = before_run p run rest (none_of_digits p fails run digits)
 
 pub after_first-digits : (p : ℕ → Bool) (fails : FailsDigits p) (run rest : List ℕ) → all_ascii_digits run ≡ true → after_first p (run ++ rest) ≡ after_first p rest
-after_first-digits p fails [] rest digits = refl
-after_first-digits p fails (c ∷ cs) rest digits =
-    let parts = and_parts (is_ascii_digit c) (all_ascii_digits cs) digits in
-    after_first-no p c (cs ++ rest) (fails.no c parts.0) ∙ after_first-digits p fails cs rest parts.1
+after_first-digits p fails run rest digits = after_run p run rest (none_of_digits p fails run digits)
 
-pub list_any-digits : (p : ℕ → Bool) (fails : FailsDigits p) (run rest : List ℕ) → all_ascii_digits run ≡ true → list_any p (run ++ rest) ≡ list_any p rest
-list_any-digits p fails [] rest digits = refl
-list_any-digits p fails (c ∷ cs) rest digits =
-    let parts = and_parts (is_ascii_digit c) (all_ascii_digits cs) digits in
-    rw (fails.no c parts.0) (list_any-digits p fails cs rest parts.1)
+list_any-digits : (p : ℕ → Bool) (fails : FailsDigits p) (run rest : List ℕ) → all_ascii_digits run ≡ true → list_any p (run ++ rest) ≡ list_any p rest
+list_any-digits p fails run rest digits = list_any-append p run rest ∙ ap (λ b. b || list_any p rest) (none_of_digits p fails run digits)
 
 pub all_ascii_digits-append : (run rest : List ℕ) → all_ascii_digits run ≡ true → all_ascii_digits (run ++ rest) ≡ all_ascii_digits rest
 all_ascii_digits-append [] rest digits = refl
@@ -135,6 +120,7 @@ parts_fraction run more rest digits more_digits =
 pub record Split (body digits : List ℕ) (before after : ℕ) (rest : List ℕ) : Type 0 where
   pub form : is_decimal body ≡ (nat_lt 0 (before + after) && is_end rest)
   pub digits_are : is_end rest ≡ true → whole_digits body ++ fraction_digits body ≡ digits
+  pub whole_are : is_end rest ≡ true → length (whole_digits body) ≡ before
   pub places_are : is_end rest ≡ true → length (fraction_digits body) ≡ after
   pub exponent_is : exponent_text body ≡ exponent_text rest
 
@@ -151,6 +137,7 @@ ended : (body whole fraction digits rest : List ℕ) → Parts body whole fracti
 ended body whole fraction digits rest parts whole_passes fraction_passes digits_is end_is = record {
   form = is_decimal-parts body whole fraction rest parts ∙ rw (whole_passes, fraction_passes, end_is) refl;
   digits_are = λ _. rw (parts.whole_is, parts.fraction_is) digits_is;
+  whole_are = λ _. ap length parts.whole_is;
   places_are = λ _. ap length parts.fraction_is;
   exponent_is = parts.exponent_is;
 }
@@ -170,6 +157,7 @@ not_ended body whole fraction digits before after c cs parts fails other =
     record {
       form = is_decimal-parts body whole fraction (c ∷ cs) parts ∙ rw (fails, no_end, and-false) refl;
       digits_are = λ ends. absurd (true-is-false (sym ends ∙ no_end));
+      whole_are = λ ends. absurd (true-is-false (sym ends ∙ no_end));
       places_are = λ ends. absurd (true-is-false (sym ends ∙ no_end));
       exponent_is = parts.exponent_is;
     }
@@ -230,7 +218,7 @@ split_fraction run more (c ∷ cs) digits more_digits stops = go (is_mark c) ref
 
 pub shows_split : (body digits rest : List ℕ) (before after : ℕ) (sum : Digits) (r : Option Decimal) →
     Split body digits before after rest → Keeps sum digits →
-    (IsSome r ↔ IsTrue (nat_lt 0 (before + after) && is_end rest)) → IfSome r (λ d. Ends d sum after rest) →
+    (IsSome r ↔ IsTrue (nat_lt 0 (before + after) && is_end rest)) → IfSome r (λ d. Ends d sum before after rest) →
     (IsSome r ↔ IsTrue (is_decimal body)) × IfSome r (λ d. Shows d body)
 shows_split body digits rest before after sum None split keeps form ends =
     let form_is = split.form in
@@ -242,7 +230,9 @@ shows_split body digits rest before after sum (Some d) split keeps form ends =
       (λ some. rw form_is (form.0 some), λ passes. refl),
       record {
         digits = rw (ends.digits, split.digits_are ends_well) keeps;
+        whole = ends.whole ∙ sym (split.whole_are ends_well);
         places = ends.places ∙ sym (split.places_are ends_well);
+        exponent_digits = ends.exponent_digits ∙ rw exponent_is refl;
         raised = ends.raised ∙ rw exponent_is refl;
         lowered = ends.lowered ∙ rw exponent_is refl;
       },
@@ -260,7 +250,7 @@ run_and_rest text rest rest_is = rw rest_is (take-append-drop (prefix_len is_asc
 
 pub shows_whole : (body rest : List ℕ) (whole : ℕ) (sum : Digits) (r : Option Decimal) →
     rest ≡ drop (prefix_len is_ascii_digit body) body → HasNoPoint rest → whole ≡ length body - length rest → Keeps sum (take_while is_ascii_digit body) →
-    (IsSome r ↔ IsTrue (nat_lt 0 (whole + 0) && is_end rest)) → IfSome r (λ d. Ends d sum 0 rest) →
+    (IsSome r ↔ IsTrue (nat_lt 0 (whole + 0) && is_end rest)) → IfSome r (λ d. Ends d sum whole 0 rest) →
     (IsSome r ↔ IsTrue (is_decimal body)) × IfSome r (λ d. Shows d body)
 shows_whole body rest whole sum r rest_is point whole_is keeps form ends =
     let stops : Stops rest = rw rest_is (Stops-drop body) in
@@ -271,7 +261,7 @@ shows_whole body rest whole sum r rest_is point whole_is keeps form ends =
 pub shows_fraction : (body text rest : List ℕ) (whole places : ℕ) (sum : Digits) (r : Option Decimal) →
     46 ∷ text ≡ drop (prefix_len is_ascii_digit body) body → rest ≡ drop (prefix_len is_ascii_digit text) text →
     whole ≡ length body - length (46 ∷ text) → places ≡ length text - length rest → Keeps sum (take_while is_ascii_digit body ++ take_while is_ascii_digit text) →
-    (IsSome r ↔ IsTrue (nat_lt 0 (whole + places) && is_end rest)) → IfSome r (λ d. Ends d sum places rest) →
+    (IsSome r ↔ IsTrue (nat_lt 0 (whole + places) && is_end rest)) → IfSome r (λ d. Ends d sum whole places rest) →
     (IsSome r ↔ IsTrue (is_decimal body)) × IfSome r (λ d. Shows d body)
 shows_fraction body text rest whole places sum r text_is rest_is whole_is places_is keeps form ends =
     let stops : Stops rest = rw rest_is (Stops-drop text) in

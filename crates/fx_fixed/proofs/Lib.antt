@@ -1,6 +1,12 @@
+pub mod Clocking
+pub mod Counting
 pub mod Cutting
+pub mod Delaying
 pub mod Keeping
+pub mod Parting
 pub mod Powers
 pub mod Scaling
 pub mod Shifting
 pub mod Signs
+pub mod Splitting
+pub mod Wording

@@ -69,7 +69,7 @@ joined_powers d raised lowered places decimals =
     rw (above, ← pow-add 10 places lowered) refl
 
 -- a number below its cap is not capped
-not_capped : (n m : ℕ) → n ≡ min m 31 → n ≤ 30 → m ≡ n
+not_capped : (n m : ℕ) → n ≡ min m 100 → n ≤ 30 → m ≡ n
 not_capped n m is small = omega arith
 
 -- the parts of a number that was read

@@ -1,4 +1,4 @@
--- Decimal numbers as text, cut at their separators.
+-- Decimal numbers as text, by this project's profile: cut at their separators.
 use Rattle.std.specs.Prelude.{ℕ, ◌+◌, ◌*◌, ◌^◌, ◌==◌, nat_lt, Bool, false, not, ◌&&◌, ◌||◌, if◌then◌else◌, List, [], ◌∷◌, ◌++◌, length}
 use Rattle.std.specs.List.{before_first, after_first, list_any}
 use Rattle.std.specs.Str.{all_ascii_digits}
@@ -58,6 +58,12 @@ raised_by body = if is_negative (exponent_text body) then 0 else exponent_size b
 abbrev pub lowered_by : List ℕ → ℕ
 lowered_by body = if is_negative (exponent_text body) then exponent_size body else 0
 
+-- the number that the digits of the mantissa make, the point left out
+abbrev pub mantissa_of : List ℕ → ℕ
+mantissa_of body = digits_value 10 (whole_digits body ++ fraction_digits body)
+
 -- an unsigned decimal number, counted in parts of one and rounded, halves up
 abbrev pub parts_of : ℕ → List ℕ → ℕ
-parts_of units body = nearest_natural (digits_value 10 (whole_digits body ++ fraction_digits body) * 10 ^ raised_by body * units) (10 ^ length (fraction_digits body) * 10 ^ lowered_by body)
+parts_of units body =
+    nearest_natural (mantissa_of body * 10 ^ raised_by body * units)
+    (10 ^ length (fraction_digits body) * 10 ^ lowered_by body)

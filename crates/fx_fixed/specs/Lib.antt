@@ -1,5 +1,15 @@
+pub mod Clock
+pub mod ClockEnd
+pub mod CoefficientFiles
+pub mod Count
 pub mod Decimals
+pub mod Delays
 pub mod Gains
 pub mod Kept
+pub mod Later
+pub mod Positions
 pub mod Rounding
 pub mod Shown
+pub mod TermEnd
+pub mod Times
+pub mod Words

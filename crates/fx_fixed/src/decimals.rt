@@ -5,7 +5,7 @@ ghost use Rattle.std.specs.Str.Parse.{digits_value};
 ghost use Rattle.fx_fixed.specs.Decimals.{is_decimal, is_negative, is_numeral, unsigned};
 ghost use Rattle.fx_fixed.specs.Shown.{Ends, HasNoPoint, Shows, is_end};
 
-use crate::number::Decimal;
+use crate::number::{Decimal, EXPONENT_CAP};
 use crate::sums::Digits;
 
 /// Whether a text begins with a minus, and the text without its sign.
@@ -21,10 +21,10 @@ pub fn split_sign(text: &[u8]) -> (bool, &[u8])
     }
 }
 
-/// The number that is all of a text, or 31 where it is more.
+/// The number that is all of a text, or `EXPONENT_CAP` where it is more.
 fn capped_number(text: &[u8]) -> Option<u32>
     ensures form { IsSome result ↔ IsTrue (is_numeral text.now) }
-    ensures value { IfSome result (λ n. n ≡ min (digits_value 10 text.now) 31) }
+    ensures value { IfSome result (λ n. n ≡ min (digits_value 10 text.now) 100) }
 {
     if text.is_empty() {
         return None;
@@ -34,7 +34,7 @@ fn capped_number(text: &[u8]) -> Option<u32>
         if !byte.is_ascii_digit() {
             return None;
         }
-        number = (number * 10 + u32::from(*byte - b'0')).min(31);
+        number = (number * 10 + u32::from(*byte - b'0')).min(EXPONENT_CAP);
     }
     Some(number)
 }
@@ -44,7 +44,7 @@ fn capped_number(text: &[u8]) -> Option<u32>
 fn with_exponent(digits: Digits, whole: usize, places: usize, rest: &[u8]) -> Option<Decimal>
     requires { whole + places < 100 }
     ensures form { IsSome result ↔ IsTrue (nat_lt 0 (whole + places) && is_end rest.now) }
-    ensures value { IfSome result (λ d. Ends d digits places rest.now) }
+    ensures value { IfSome result (λ d. Ends d digits whole places rest.now) }
 {
     if whole + places == 0 {
         return None;
@@ -52,7 +52,9 @@ fn with_exponent(digits: Digits, whole: usize, places: usize, rest: &[u8]) -> Op
     match rest {
         [] => Some(Decimal {
             digits,
+            whole,
             places,
+            exponent_digits: 0,
             raised: 0,
             lowered: 0,
         }),
@@ -62,14 +64,18 @@ fn with_exponent(digits: Digits, whole: usize, places: usize, rest: &[u8]) -> Op
             if is_lowered {
                 return Some(Decimal {
                     digits,
+                    whole,
                     places,
+                    exponent_digits: number.len(),
                     raised: 0,
                     lowered: exponent,
                 });
             }
             Some(Decimal {
                 digits,
+                whole,
                 places,
+                exponent_digits: number.len(),
                 raised: exponent,
                 lowered: 0,
             })
@@ -90,7 +96,7 @@ fn after_point(text: &[u8]) -> Option<&[u8]>
 
 /// The number that an unsigned text is.
 pub fn read_decimal(body: &[u8]) -> Option<Decimal>
-    requires { length body.now ≤ 40 }
+    requires { length body.now < 100 }
     ensures form { IsSome result ↔ IsTrue (is_decimal body.now) }
     ensures value { IfSome result (λ d. Shows d body.now) }
 {

@@ -3,6 +3,7 @@
 ghost use Rattle.std.specs.Prelude.{◌≡◌, ◌*◌, ◌≤◌, unsigned_abs};
 
 use crate::decimals::{read_decimal, split_sign};
+use crate::number::GREATEST_EXPONENT;
 use std::marker::Model;
 use thiserror::Error;
 
@@ -10,13 +11,13 @@ use thiserror::Error;
 pub const UNIT: u64 = 1_000_000_000_000;
 
 /// The decimals of a gain: ten to this number is `UNIT`.
-pub const DECIMALS: u32 = 12;
+const DECIMALS: u32 = 12;
 
 /// The greatest magnitude of a gain.
 pub const GREATEST_GAIN: u64 = 1000;
 
 /// The greatest number of bytes of a number's text.
-pub const NUMBER_BYTES: usize = 40;
+pub(crate) const NUMBER_BYTES: usize = 40;
 
 /// Why a text is no gain.
 #[derive(Clone, Copy, Debug, Drop, Eq, Error, PartialEq)]
@@ -53,21 +54,29 @@ impl Gain {
     ghost use Rattle.fx_fixed.specs.Gains.{gain_of};
 
     /// The gain that a text is, rounded to whole trillionths, halves away from zero. The text is an
-    /// optional sign, digits with an optional point, and optionally `e` or `E` with a signed exponent.
+    /// optional sign, digits with an optional point, and optionally `e` or `E`, then an optional
+    /// sign and digits.
     ///
     /// Refused are, in this order: a text of over 40 bytes (`TooLong`), another form (`NotANumber`),
     /// an exponent outside -30 to 30, and a rounded magnitude over 1000 (`OutOfRange`).
     pub fn parse(text: &str) -> Result<Gain, NumberFault>
         ensures { result ≡ gain_of UNIT text.now }
     {
+        Gain::parse_bytes(text.as_bytes())
+    }
+
+    /// The gain that a text's bytes are.
+    pub(crate) fn parse_bytes(text: &[u8]) -> Result<Gain, NumberFault>
+        ensures { result ≡ gain_of UNIT text.now }
+    {
         if text.len() > NUMBER_BYTES {
             return Err(NumberFault::TooLong);
         }
-        let (is_negative, body) = split_sign(text.as_bytes());
+        let (is_negative, body) = split_sign(text);
         let Some(number) = read_decimal(body) else {
             return Err(NumberFault::NotANumber);
         };
-        if number.raised > 30 || number.lowered > 30 {
+        if number.raised > GREATEST_EXPONENT || number.lowered > GREATEST_EXPONENT {
             return Err(NumberFault::OutOfRange);
         }
         let most = u128::from(GREATEST_GAIN * UNIT);

@@ -2,15 +2,26 @@
 //! milliseconds and coefficient files, each read from text without any loss.
 #![tactic(auto)]
 
+mod clock;
+mod coefficient_files;
+mod count;
 mod decimals;
+mod delays;
 mod gains;
 pub mod inner;
 mod number;
+mod positions;
 mod rounding;
 mod sums;
+mod terms;
+mod times;
 
-pub use gains::{DECIMALS, Gain, NumberFault, UNIT};
+pub use coefficient_files::{CoefFault, Coefficients};
+pub use delays::millis;
+pub use gains::{GREATEST_GAIN, Gain, NumberFault, UNIT};
+pub use positions::{Anchor, At, Position};
 pub use rounding::round_clip;
+pub use times::{FARTHEST, TimeFault, TimeSpec};
 
 #[cfg(test)]
 mod tests;

@@ -6,11 +6,23 @@ ghost use Rattle.fx_fixed.specs.Rounding.{nearest_natural};
 
 use crate::sums::Digits;
 
+/// The greatest exponent of a number, up or down.
+pub(crate) const GREATEST_EXPONENT: u32 = 30;
+
+/// What stands for each exponent that is not below it: more than any number may have.
+pub(crate) const EXPONENT_CAP: u32 = 100;
+
 /// An unsigned decimal number as it is written.
 #[derive(Clone, Copy)]
 pub struct Decimal {
+    /// All digits of the mantissa.
     pub digits: Digits,
+    /// How many of them stand before the point, and how many after it.
+    pub whole: usize,
     pub places: usize,
+    /// How many digits the exponent has; 0 where there is none.
+    pub exponent_digits: usize,
+    /// By how many places the exponent raises or lowers the number, at most `EXPONENT_CAP`.
     pub raised: u32,
     pub lowered: u32,
     ghost few_places: { places < 100 },
@@ -68,7 +80,8 @@ impl Decimal {
         requires lowered { self.lowered ≤ 30 }
         requires decimals { decimals < 100 }
         requires limit { most < 10 ^ 37 }
-        ensures { (body : List ℕ) → Shows self body → SomeIff result (parts_of (10 ^ decimals) body ≤ most) (parts_of (10 ^ decimals) body) }
+        ensures { (body : List ℕ) → Shows self body →
+            SomeIff result (parts_of (10 ^ decimals) body ≤ most) (parts_of (10 ^ decimals) body) }
     {
         let raised = decimals + self.digits.dropped + self.raised;
         let lowered = self.places as u32 + self.lowered;

@@ -49,7 +49,8 @@ impl Digits {
     /// The digits at the front of a text in addition, and what follows them.
     pub fn read(self, text: &[u8]) -> (Digits, &[u8])
         requires room { self.dropped + length text.now < 100 }
-        ensures keeps { (ds : List ℕ) → Keeps self ds → Keeps result.0 (ds ++ take_while is_ascii_digit text.now) }
+        ensures keeps { (ds : List ℕ) → Keeps self ds →
+            Keeps result.0 (ds ++ take_while is_ascii_digit text.now) }
         ensures one_more { result.0.dropped + length result.1.now ≤ self.dropped + length text.now }
         ensures rest { result.1.now ≡ drop (prefix_len is_ascii_digit text.now) text.now }
     {

@@ -6,5 +6,5 @@ use Rattle.fx_fixed.proofs.decimals.capped_number.Given as goal
 abbrev pub invariant-loop-byte : goal.invariant-loop-byte
 invariant-loop-byte l = record {
   digits : all_ascii_digits (drop l.byte-index l.text) ≡ all_ascii_digits l.text;
-  value : l.number ≡ min (digits_value 10 (take l.byte-index l.text)) 31;
+  value : l.number ≡ min (digits_value 10 (take l.byte-index l.text)) 100;
 }

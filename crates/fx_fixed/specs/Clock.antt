@@ -1,0 +1,77 @@
+-- Clock times as text, by sox(1), Effects, on time specifications, and this project's profile: cut at their separators.
+use Rattle.std.specs.Prelude.{ℕ, ◌+◌, ◌*◌, ◌^◌, ◌==◌, nat_lt, ◌&&◌, Bool, if◌then◌else◌, List, length, Result, Ok, Err, fold, sum_by}
+use Rattle.std.specs.List.{before_first, after_first, list_all, slice_split}
+use Rattle.std.specs.Str.{all_ascii_digits}
+use Rattle.std.specs.Str.Parse.{digits_value}
+use Rattle.fx_fixed.specs.Rounding.{nearest_natural}
+use Rattle.fx_fixed.specs.Decimals.{is_point}
+use Rattle.fx_fixed.specs.declared.times.TimeFault.{TimeFault}
+use Rattle.fx_fixed.specs.declared.times.TimeFault.TheVariants.{BadTime, TooFar}
+
+-- a colon, and the `t` that may end a clock time
+abbrev pub is_colon : ℕ → Bool
+is_colon c = c == 58
+
+abbrev pub is_t : ℕ → Bool
+is_t c = c == 116
+
+-- the parts of a clock time
+abbrev pub front_of : List ℕ → List ℕ
+front_of text = before_first is_point (before_first is_t text)
+
+abbrev pub fraction_of : List ℕ → List ℕ
+fraction_of text = after_first is_point (before_first is_t text)
+
+abbrev pub tail_of : List ℕ → List ℕ
+tail_of text = after_first is_t text
+
+abbrev pub components_of : List ℕ → List (List ℕ)
+components_of text = slice_split is_colon (front_of text)
+
+-- at most eighteen digits, and nothing else
+abbrev pub is_short : List ℕ → Bool
+is_short ds = all_ascii_digits ds && nat_lt (length ds) 19
+
+-- the seconds of the components, after those of components before
+abbrev pub seconds_of : ℕ → List (List ℕ) → ℕ
+seconds_of total components =
+    fold (λ seconds component. 60 * seconds + digits_value 10 component) total components
+
+-- seconds and a fraction of a second in frames, to the nearest
+abbrev pub frames_of : ℕ → ℕ → ℕ → ℕ → ℕ
+frames_of rate seconds fraction places =
+    nearest_natural ((seconds * 10 ^ places + fraction) * rate) (10 ^ places)
+
+-- that number, or the fault that it is too far
+abbrev pub within_reach : ℕ → Result ℕ TimeFault
+within_reach frames = if nat_lt (2 ^ 40) frames then Err TooFar else Ok frames
+
+-- the form of a clock time of these parts, of which so many components with so many digits were read before
+abbrev pub is_clock : ℕ → ℕ → List (List ℕ) → List ℕ → List ℕ → Bool
+is_clock count digits components fraction tail =
+    list_all is_short components
+    && is_short fraction
+    && nat_lt (count + length components) 4
+    && nat_lt 0 (digits + sum_by length components + length fraction)
+    && (length tail == 0)
+
+-- the frames of such a clock time, or the first fault
+abbrev pub clock_by : ℕ → ℕ → ℕ → ℕ → List (List ℕ) → List ℕ → List ℕ → Result ℕ TimeFault
+clock_by rate total count digits components fraction tail =
+    if is_clock count digits components fraction tail
+    then within_reach
+    (frames_of rate (seconds_of total components) (digits_value 10 fraction) (length fraction))
+    else Err BadTime
+
+-- the same of a text, after what was read before
+abbrev pub clock_after : ℕ → ℕ → ℕ → ℕ → List ℕ → Result ℕ TimeFault
+clock_after rate total count digits text =
+    clock_by rate total count digits (components_of text) (fraction_of text) (tail_of text)
+
+-- the form of a clock time
+abbrev pub has_clock_form : List ℕ → Bool
+has_clock_form text = is_clock 0 0 (components_of text) (fraction_of text) (tail_of text)
+
+-- the frames of a clock time, or its first fault
+abbrev pub clock_of : ℕ → List ℕ → Result ℕ TimeFault
+clock_of rate text = clock_after rate 0 0 0 text
