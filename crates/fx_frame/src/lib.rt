@@ -27,4 +27,5 @@ macro_rules! sixteen {
 
 pub mod frame;
 pub mod inner;
+mod ring;
 pub mod wide;
