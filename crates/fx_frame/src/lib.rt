@@ -27,5 +27,6 @@ macro_rules! sixteen {
 
 pub mod frame;
 pub mod inner;
+pub mod line;
 mod ring;
 pub mod wide;
