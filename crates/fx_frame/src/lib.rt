@@ -30,3 +30,4 @@ pub mod inner;
 pub mod line;
 mod ring;
 pub mod wide;
+pub mod wide_line;
