@@ -28,6 +28,8 @@ macro_rules! sixteen {
 pub mod frame;
 pub mod inner;
 pub mod line;
+#[cfg(test)]
+mod line_tests;
 mod ring;
 pub mod wide;
 pub mod wide_line;
