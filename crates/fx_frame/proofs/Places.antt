@@ -5,7 +5,7 @@ use Rattle.std.specs.List.{All}
 use Rattle.std.proofs.Math.Seq.{drop-append_seam, take-append_seam}
 use Rattle.std.proofs.lemmas.List.{drop-replicate, length-replicate, drop_at, length-append}
 use Rattle.std.proofs.lemmas.List.Elements.{All-nil, All-cons, All-append, All-replicate}
-use Rattle.fx_frame.specs.Frame.{IsRead, IsPlaces}
+use Rattle.fx_frame.specs.Places.{IsRead, IsPlaces}
 
 module _ (w : Width) where
   -- these were read from xs at i, at i + 1, and so on

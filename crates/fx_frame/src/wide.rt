@@ -1,6 +1,7 @@
 ghost use Rattle.std.specs.Prelude.{◌≡◌, ◌<◌, ◌≤◌, ◌↔◌, length, take, slice_index_or, IsSome, IfSome, pos, ℤ};
 ghost use Rattle.std.specs.Int.{w64};
-ghost use Rattle.fx_frame.specs.Frame.{padded, IsWideFrame, IsPlaces, IsRead};
+ghost use Rattle.fx_frame.specs.Frame.{padded, IsWideFrame};
+ghost use Rattle.fx_frame.specs.Places.{IsPlaces, IsRead};
 
 use crate::frame::{Frame, MOST_CHANNELS};
 use std::marker::Model;
@@ -17,7 +18,8 @@ impl Model for WideFrame {
     ghost use Rattle.std.specs.Prelude.{ℕ, List, ℤ, length, take};
     ghost use Rattle.std.specs.Int.{w64};
     ghost use Rattle.std.proofs.Common.{ap};
-    ghost use Rattle.fx_frame.specs.Frame.{padded, padded-take, IsPlaces};
+    ghost use Rattle.fx_frame.specs.Frame.{padded};
+    ghost use Rattle.fx_frame.specs.Places.{padded-take, IsPlaces};
 
     ghost Value = { List ℤ };
 
