@@ -36,17 +36,24 @@ pub mod frozen;
 pub mod holds;
 pub mod inner;
 pub mod io;
+pub mod line;
+#[cfg(test)]
+mod line_tests;
+mod ring;
 pub mod sink;
 pub mod stage;
 pub mod tape;
 pub mod wide;
+pub mod wide_line;
 
 pub use coding::Coding;
 pub use counted::Counted;
 pub use device::Device;
 pub use frame::Frame;
 pub use io::{ByteIn, ByteOut, Failed};
+pub use line::Line;
 pub use sink::Sink;
 pub use stage::{Stage, ThawFault, Thaws};
 pub use tape::Tape;
 pub use wide::WideFrame;
+pub use wide_line::WideLine;
