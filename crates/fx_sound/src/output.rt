@@ -169,8 +169,9 @@ impl Output {
         frame: &Frame,
         coding: Coding,
     ) -> Result<u64, Failed>
-        requires { total self.old + frame_size coding (length frame.now) < 2 ^ 64 }
+        requires { total self.old + 64 < 2 ^ 64 }
         ensures sent { OnOk result (SendsMore (W.taken writer.old) (W.taken writer.new) self.old self.new (bytes_of coding frame.now)) }
+        ensures most { frame_size coding (length frame.now) ≤ 64 }
         ensures clips { IfOk result (λ n. n ≡ clips_of coding frame.now) }
         ensures sent_err { OnErr result (SendsOn (W.taken writer.old) (W.taken writer.new) self.old self.new) }
         ensures count { OnOk result (total self.new ≡ total self.old + frame_size coding (length frame.now)) }
