@@ -6,9 +6,8 @@ ghost use Rattle.fx_frame.specs.FrameCoding.{frame_size, bytes_of, clips_of};
 ghost use Rattle.fx_sound.specs.Output.{SendsOn, SendsMore, total};
 
 use super::buffer::BUFFER_SIZE;
-use fx_frame::frame::Frame;
 use fx_frame::inner::encode;
-use fx_frame::{ByteOut, Coding, Failed};
+use fx_frame::{ByteOut, Coding, Failed, Frame};
 use std::marker::Model;
 
 /// An output buffer of 4,096 bytes. The writer comes with each call.
