@@ -1,6 +1,6 @@
 //! Samples of 32 bits as bytes.
 
-ghost use Rattle.std.specs.Prelude.{◌≡◌, length};
+ghost use Rattle.std.specs.Prelude.{◌≡◌, ◌≤◌, length};
 ghost use Rattle.fx_frame.specs.Coding.{clips_written, is_too_large, limited, read_sample, width_of, written};
 
 use byteorder::{BigEndian, ByteOrder, LittleEndian};
@@ -31,7 +31,8 @@ impl Coding {
     /// How many bytes a sample takes, 1 to 4.
     #[inline]
     pub fn width(self) -> usize
-        ensures { result ≡ width_of self }
+        ensures value { result ≡ width_of self }
+        ensures range { (1 ≤ result) × (result ≤ 4) }
     {
         match self {
             Coding::U8 | Coding::S8 => 1,

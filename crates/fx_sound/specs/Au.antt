@@ -3,6 +3,7 @@ use Rattle.std.specs.Prelude.{ℕ, ◌+◌, ◌^◌, List, length, take, drop, O
 use Rattle.std.specs.Int.{w32, from_be_bytes}
 use Rattle.fx_frame.specs.declared.coding.Coding.{Coding}
 use Rattle.fx_frame.specs.declared.coding.Coding.TheVariants.{S8, S16Be, S24Be, S32Be}
+use Rattle.fx_sound.specs.Fields.{au_unknown}
 use Rattle.fx_sound.specs.declared.layout.Layout.{Layout}
 use Rattle.fx_sound.specs.declared.head.HeadFault.{HeadFault}
 use Rattle.fx_sound.specs.declared.head.HeadFault.TheVariants.{Truncated, BadHeader, NotInProfile, TooManyChannels, HeadTooLong}
@@ -21,7 +22,7 @@ au_coding encoding =
 
 -- the announced size, where it is known
 abbrev pub au_announced : ℕ → Option ℕ
-au_announced size = if size == 0xffffffff then None else Some size
+au_announced size = if size == au_unknown then None else Some size
 
 -- rate and channels, where the coding is one of the profile
 abbrev pub with_coding : List ℕ → Option Coding → Result Layout HeadFault

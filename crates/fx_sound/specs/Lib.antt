@@ -3,6 +3,7 @@ pub mod Source
 pub mod Kind
 pub mod Sound
 pub mod Fault
+pub mod Fields
 pub mod Writing
 pub mod Output
 pub mod Layout

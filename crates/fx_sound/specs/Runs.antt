@@ -66,7 +66,7 @@ Ran-turn first now new bytes frame n to_come new_to_come r t e =
     let left : now.left ≡ beyond first.left (n * size) = ap (λ p. p.left) r.now_is in
     let more : (n + 1) * size ≡ n * size + size = omega arith in
     let rest : length (within now.left (drop (n * size) bytes)) ≡ length (within first.left bytes) - n * size =
-        ap (λ o. length (within o (drop (n * size) bytes))) left ∙ length-within_beyond first.left (n * size) bytes in
+    ap (λ o. length (within o (drop (n * size) bytes))) left ∙ length-within_beyond first.left (n * size) bytes in
     record {
       whole = omega (arith, t.whole, rest, same, r.whole);
       now_is = e ∙ ap after_frame r.now_is ∙ after_frames-more first n;
@@ -82,14 +82,15 @@ Ran-end first now new bytes n to_come r e =
     let total : ℕ = length (within first.left bytes) in
     let same : size_of now ≡ size = ap size_of r.now_is in
     let rest : length (within now.left (drop (n * size) bytes)) ≡ total - n * size =
-        ap (λ p. length (within p.left (drop (n * size) bytes))) r.now_is ∙ length-within_beyond first.left (n * size) bytes in
-    let q = quotient_of n size (total - n * size) total (omega (arith, e.part, rest, same)) (omega (arith, r.whole)) in
-    (q.0,
-     e.counts ∙ ap (λ p. after_end p (length (within now.left (drop (n * size) bytes)))) r.now_is
-     ∙ ap (after_end (after_frames first n)) rest
-     ∙ ap (λ m. record first { left = beyond first.left (n * size); frames = first.frames + n; missing = m; stray = total - n * size; over = true }) (lacking-beyond first.left (n * size) total r.whole)
-     ∙ ap (λ k. record first { left = beyond first.left (n * size); frames = first.frames + n; missing = lacking first.left total; stray = k; over = true }) q.1
-     ∙ ap (λ k. record first { left = beyond first.left (k * size); frames = first.frames + k; missing = lacking first.left total; stray = total % size; over = true }) q.0)
+    ap (λ p. length (within p.left (drop (n * size) bytes))) r.now_is ∙ length-within_beyond first.left (n * size) bytes in
+    let q = quotient_of n size (total - n * size) total (omega (arith, e.part, rest, same)) (omega (arith, r.whole)) in (
+      q.0,
+      e.counts ∙ ap (λ p. after_end p (length (within now.left (drop (n * size) bytes)))) r.now_is
+          ∙ ap (after_end (after_frames first n)) rest
+          ∙ ap (λ m. record first { left = beyond first.left (n * size); frames = first.frames + n; missing = m; stray = total - n * size; over = true }) (lacking-beyond first.left (n * size) total r.whole)
+          ∙ ap (λ k. record first { left = beyond first.left (n * size); frames = first.frames + n; missing = lacking first.left total; stray = k; over = true }) q.1
+          ∙ ap (λ k. record first { left = beyond first.left (k * size); frames = first.frames + k; missing = lacking first.left total; stray = total % size; over = true }) q.0,
+    )
 
 -- the sound goes on for a frame behind the first n
 pub Ran-whole : (first now : Reading) (bytes : List ℕ) (n : ℕ) (to_come : Option (List ℕ))
@@ -97,7 +98,7 @@ pub Ran-whole : (first now : Reading) (bytes : List ℕ) (n : ℕ) (to_come : Op
 Ran-whole first now bytes n to_come r h =
     let same : size_of now ≡ size_of first = ap size_of r.now_is in
     let rest : length (within now.left (drop (n * size_of first) bytes)) ≡ length (within first.left bytes) - n * size_of first =
-        ap (λ p. length (within p.left (drop (n * size_of first) bytes))) r.now_is ∙ length-within_beyond first.left (n * size_of first) bytes in
+    ap (λ p. length (within p.left (drop (n * size_of first) bytes))) r.now_is ∙ length-within_beyond first.left (n * size_of first) bytes in
     let more : (n + 1) * size_of first ≡ n * size_of first + size_of first = omega arith in
     omega (arith, h, rest, same, r.whole)
 

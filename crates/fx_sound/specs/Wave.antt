@@ -1,5 +1,5 @@
 -- The head of a RIFF WAVE sound behind `RIFF`, on the whole list of bytes.
-use Rattle.std.specs.Prelude.{◌≡◌, ℕ, zero, suc, ◌+◌, ◌-◌, ◌*◌, ◌/◌, ◌%◌, ◌^◌, ◌<◌, ◌≤◌, min, List, [], ◌∷◌, length, take, drop, Option, None, Some, Result, Ok, Err, if◌then◌else◌, nat_lt, not, ◌==◌}
+use Rattle.std.specs.Prelude.{◌≡◌, ℕ, zero, suc, ◌+◌, ◌-◌, ◌*◌, ◌/◌, ◌%◌, ◌^◌, ◌<◌, ◌≤◌, min, List, length, take, drop, codes, Option, None, Some, Result, Ok, Err, if◌then◌else◌, nat_lt, not, ◌==◌}
 use Rattle.std.specs.Str.{bytes_eq}
 use Rattle.std.specs.Int.{w16, w32, from_le_bytes}
 use Rattle.fx_frame.specs.declared.coding.Coding.{Coding}
@@ -7,6 +7,7 @@ use Rattle.fx_frame.specs.declared.coding.Coding.TheVariants.{U8, S16Le, S24Le, 
 use Rattle.fx_sound.specs.declared.head.Kind.TheVariants.{Wav}
 use Rattle.fx_sound.specs.declared.layout.Format.{Format}
 use Rattle.fx_sound.specs.declared.layout.Layout.{Layout}
+use Rattle.fx_sound.specs.Fields.{wav_unknown, plain_tag, extensible_tag, pcm_guid}
 use Rattle.fx_sound.specs.Layout.{IsProper}
 use Rattle.fx_sound.specs.declared.wave.Demand.{Demand}
 use Rattle.fx_sound.specs.declared.wave.Demand.TheVariants as demand
@@ -49,12 +50,16 @@ plain_of body =
 -- the format that the first forty bytes of a body spell, or the first fault
 unfoldable pub format_of : List ℕ → Result Format HeadFault
 format_of body =
-    if half_at 0 body == 1 then plain_of body else
-    if not (half_at 0 body == 65534) then Err NotInProfile else
+    if half_at 0 body == plain_tag then plain_of body else
+    if not (half_at 0 body == extensible_tag) then Err NotInProfile else
     if nat_lt (length body) 40 then Err BadHeader else
     if nat_lt (half_at 16 body) 22 then Err BadHeader else
-    if not (bytes_eq (take 16 (drop 24 body)) (1 ∷ 0 ∷ 0 ∷ 0 ∷ 0 ∷ 0 ∷ 16 ∷ 0 ∷ 128 ∷ 0 ∷ 0 ∷ 170 ∷ 0 ∷ 56 ∷ 155 ∷ 113 ∷ [])) then Err NotInProfile else
+    if not (bytes_eq (take 16 (drop 24 body)) pcm_guid) then Err NotInProfile else
     plain_of body
+
+-- the farthest place at which a chunk may begin
+abbrev pub farthest_chunk : ℕ
+farthest_chunk = 0x1000000 - 8
 
 -- a size with its pad byte
 abbrev pub padded : ℕ → ℕ
@@ -62,7 +67,7 @@ padded size = size + size % 2
 
 -- the announced size, where it is known
 abbrev pub announced_of : ℕ → Option ℕ
-announced_of size = if nat_lt size 2147479552 then Some size else None
+announced_of size = if nat_lt size wav_unknown then Some size else None
 
 -- the head that ends at a chunk `data`
 abbrev pub sound_of : ℕ → Option Format → ℕ → Result Demand HeadFault
@@ -77,9 +82,9 @@ format_asked None size = if nat_lt size 16 then Err BadHeader else Ok (demand.Fo
 -- what the name and size of a chunk ask for, whose name stands at place o
 unfoldable pub demand_of : ℕ → Option Format → List ℕ → ℕ → Result Demand HeadFault
 demand_of o seen name size =
-    if bytes_eq name (100 ∷ 97 ∷ 116 ∷ 97 ∷ []) then sound_of o seen size else
-    if nat_lt 16777208 (o + 8 + size + size % 2) then Err HeadTooLong else
-    if not (bytes_eq name (102 ∷ 109 ∷ 116 ∷ 32 ∷ [])) then Ok (demand.Other size) else
+    if bytes_eq name (codes "data") then sound_of o seen size else
+    if nat_lt farthest_chunk (o + 8 + size + size % 2) then Err HeadTooLong else
+    if not (bytes_eq name (codes "fmt ")) then Ok (demand.Other size) else
     format_asked seen size
 
 -- a format that was read is proper
@@ -90,8 +95,8 @@ IsProperSeen (Some f) = IsProper Wav f
 -- a body that is asked for ends near
 abbrev pub IsNear : ℕ → Demand → Type 0
 IsNear o (demand.Sound h) = (h.offset ≡ o + 8) × IsProper Wav h.format
-IsNear o (demand.Format size) = (16 ≤ size) × (o + 8 + size + size % 2 ≤ 16777208)
-IsNear o (demand.Other size) = o + 8 + size + size % 2 ≤ 16777208
+IsNear o (demand.Format size) = (16 ≤ size) × (o + 8 + size + size % 2 ≤ farthest_chunk)
+IsNear o (demand.Other size) = o + 8 + size + size % 2 ≤ farthest_chunk
 
 -- the chunk behind, at place o, with the format that was read
 abbrev pub with_format : ℕ → Result Format HeadFault → Result Step HeadFault
@@ -125,7 +130,7 @@ end_of (step.Next o f) = o
 -- a step from place o goes on, and to a near place where a chunk follows
 abbrev pub GoesOn : ℕ → Step → Type 0
 GoesOn o (step.Sound h) = (h.offset ≡ o + 8) × IsProper Wav h.format
-GoesOn o (step.Next next f) = (o + 8 ≤ next) × (next ≤ 16777208) × IsProperSeen f
+GoesOn o (step.Next next f) = (o + 8 ≤ next) × (next ≤ farthest_chunk) × IsProperSeen f
 
 -- a demand at place o
 abbrev pub AskedAt : ℕ → Demand → Type 0
@@ -150,5 +155,5 @@ most_chunks = 2097152
 unfoldable pub behind_riff : List ℕ → Result Layout HeadFault
 behind_riff bytes =
     if nat_lt (length bytes) 8 then Err Truncated else
-    if not (bytes_eq (take 4 (drop 4 bytes)) (87 ∷ 65 ∷ 86 ∷ 69 ∷ [])) then Err UnknownType else
+    if not (bytes_eq (take 4 (drop 4 bytes)) (codes "WAVE")) then Err UnknownType else
     chunks_of most_chunks 12 None (drop 8 bytes)

@@ -1,27 +1,17 @@
 -- The heads that are written (RIFF WAVE, Sun AU, this project's profile).
-use Rattle.std.specs.Prelude.{ℕ, ◌+◌, ◌-◌, ◌*◌, ◌^◌, ◌%◌, min, Bool, ◌&&◌, nat_le, nat_lt, if◌then◌else◌, List, [], ◌∷◌, ◌++◌, length, codes, Option, Some, None}
+use Rattle.std.specs.Prelude.{ℕ, ◌+◌, ◌-◌, ◌*◌, ◌^◌, ◌%◌, min, Bool, ◌&&◌, nat_le, nat_lt, if◌then◌else◌, List, ◌++◌, length, codes, Option, Some, None}
 use Rattle.byteorder.specs.Endian.{little_bytes, big_bytes}
 use Rattle.fx_frame.specs.declared.coding.Coding.{Coding}
 use Rattle.fx_frame.specs.Coding.{width_of}
 use Rattle.fx_frame.specs.FrameCoding.{frame_size}
+use Rattle.fx_sound.specs.Fields.{wav_unknown, au_unknown, plain_tag, extensible_tag, pcm_guid}
 use Rattle.fx_sound.specs.declared.head.Kind.{Kind}
 use Rattle.fx_sound.specs.declared.head.Kind.TheVariants.{Wav, Au}
-
--- the bytes of sound from which on a size is written as unknown
-abbrev pub wav_unknown : ℕ
-wav_unknown = 0x7ffff000
-
-abbrev pub au_unknown : ℕ
-au_unknown = 0xffffffff
 
 -- the bytes of sound, where they are known and can be written
 abbrev pub known_size : ℕ → ℕ → Option ℕ → Option ℕ
 known_size limit size None = None
 known_size limit size (Some frames) = if nat_lt (frames * size) limit then Some (frames * size) else None
-
--- the identity of whole-number samples in an extensible head
-abbrev pub pcm_guid : List ℕ
-pcm_guid = 1 ∷ 0 ∷ 0 ∷ 0 ∷ 0 ∷ 0 ∷ 16 ∷ 0 ∷ 128 ∷ 0 ∷ 0 ∷ 170 ∷ 0 ∷ 56 ∷ 155 ∷ 113 ∷ []
 
 -- tag, channels, rate, byte rate, block align, bits
 abbrev pub format_fields : ℕ → ℕ → ℕ → ℕ → List ℕ
@@ -41,8 +31,8 @@ is_plain channels width = nat_le width 2 && nat_le channels 2
 -- the body of the format chunk, plain or extensible
 abbrev pub format_body : ℕ → ℕ → ℕ → List ℕ
 format_body rate channels width =
-    if is_plain channels width then format_fields 1 rate channels width
-    else format_fields 0xfffe rate channels width ++ extension_fields width
+    if is_plain channels width then format_fields plain_tag rate channels width
+    else format_fields extensible_tag rate channels width ++ extension_fields width
 
 -- the two sizes: what follows the first one with its pad byte, and the sound
 abbrev pub riff_size : ℕ → Option ℕ → ℕ

@@ -8,11 +8,9 @@ ghost use Rattle.fx_sound.specs.Layout.{IsProper, is_read_failure};
 ghost use Rattle.fx_sound.specs.Reads.{Reads, Refuses, Fails};
 
 use super::head::{FARTHEST, HeadFault, Kind};
-use super::layout::{Format, Layout};
+use super::layout::{AU_UNKNOWN, Format, Layout};
 use super::source::Source;
 use fx_frame::{ByteIn, Coding};
-
-const UNKNOWN_SIZE: u32 = 0xFFFF_FFFF;
 
 fn word(bytes: &[u8], i: usize) -> u32
     requires { i + 4 ≤ length bytes.now }
@@ -68,7 +66,7 @@ fn fields(words: &[u8]) -> Result<Layout, HeadFault>
             channels: channels as usize,
             coding,
         },
-        announced: if size == UNKNOWN_SIZE {
+        announced: if size == AU_UNKNOWN {
             None
         } else {
             Some(size as u64)

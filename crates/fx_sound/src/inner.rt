@@ -1,4 +1,5 @@
 //! What a run needs of sounds, beyond the public calls.
 
+pub use crate::buffer::BUFFER_SIZE;
 pub use crate::output::Output;
 pub use crate::sound::{Sound, SoundFault, read_frames, read_sound};

@@ -2,6 +2,21 @@
 
 use fx_frame::Coding;
 
+/// The size from which on a WAVE sound goes up to the end of the input.
+pub(crate) const WAV_UNKNOWN: u32 = 0x7FFF_F000;
+
+/// The size of an AU sound that goes up to the end of the input.
+pub(crate) const AU_UNKNOWN: u32 = 0xFFFF_FFFF;
+
+/// The tag of whole-number samples in WAVE.
+pub(crate) const PLAIN: u16 = 1;
+
+/// The tag of an extensible format in WAVE.
+pub(crate) const EXTENSIBLE: u16 = 0xFFFE;
+
+/// The identity of whole-number samples in an extensible format.
+pub(crate) const PCM_GUID: [u8; 16] = [1, 0, 0, 0, 0, 0, 16, 0, 128, 0, 0, 170, 0, 56, 155, 113];
+
 /// What a head says of the frames.
 #[derive(Clone, Copy, Debug, PartialEq, Eq)]
 pub struct Format {

@@ -1,18 +1,18 @@
 //! Sounds in RIFF WAVE and Sun AU, read in pieces and written in pieces.
 #![tactic(auto)]
 
-pub mod au;
-pub mod buffer;
+mod au;
+mod buffer;
 pub mod head;
 pub mod inner;
-pub mod layout;
-pub mod output;
+mod layout;
+mod output;
 pub mod progress;
-pub mod read;
-pub mod sound;
+mod read;
+mod sound;
 pub mod source;
-pub mod wave;
-pub mod writing;
+mod wave;
+mod writing;
 
 pub use head::{Head, HeadFault, Kind};
 pub use progress::{MOST_FRAMES, Progress, ReadFault, next_frame};

@@ -6,9 +6,8 @@ ghost use Rattle.fx_frame.specs.FrameCoding.{frame_size, bytes_of, clips_of};
 ghost use Rattle.fx_sound.specs.Output.{SendsOn, SendsMore, total};
 
 use super::buffer::BUFFER_SIZE;
-use fx_frame::frame::Frame;
 use fx_frame::inner::encode;
-use fx_frame::{ByteOut, Coding, Failed};
+use fx_frame::{ByteOut, Coding, Failed, Frame};
 use std::marker::Model;
 
 /// An output buffer of 4,096 bytes. The writer comes with each call.
@@ -169,8 +168,9 @@ impl Output {
         frame: &Frame,
         coding: Coding,
     ) -> Result<u64, Failed>
-        requires { total self.old + frame_size coding (length frame.now) < 2 ^ 64 }
+        requires { total self.old + 64 < 2 ^ 64 }
         ensures sent { OnOk result (SendsMore (W.taken writer.old) (W.taken writer.new) self.old self.new (bytes_of coding frame.now)) }
+        ensures most { frame_size coding (length frame.now) ≤ 64 }
         ensures clips { IfOk result (λ n. n ≡ clips_of coding frame.now) }
         ensures sent_err { OnErr result (SendsOn (W.taken writer.old) (W.taken writer.new) self.old self.new) }
         ensures count { OnOk result (total self.new ≡ total self.old + frame_size coding (length frame.now)) }

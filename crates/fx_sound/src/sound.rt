@@ -11,8 +11,7 @@ use super::head::{Head, HeadFault, Kind};
 use super::progress::{MOST_FRAMES, Progress, ReadFault, next_frame};
 use super::read::read_head;
 use super::source::Source;
-use fx_frame::ByteIn;
-use fx_frame::frame::Frame;
+use fx_frame::{ByteIn, Frame};
 use std::alloc::Global;
 use thiserror::Error;
 

@@ -1,6 +1,7 @@
+use super::inner::read_sound;
 use super::*;
-use fx_frame::frame::Frame;
-use fx_frame::{Coding, Tape};
+use fx_frame::inner::one;
+use fx_frame::{ByteIn, Coding, Frame, Tape};
 use std::alloc::Global;
 use std::test::Fail;
 
@@ -138,6 +139,26 @@ fn wave_24_stereo(rt: HostRuntime) -> Result<(), Fail> {
             (1, 0, 1)
         );
     }
+    Ok(())
+}
+
+#[test]
+fn au_two_frames(rt: HostRuntime) -> Result<(), Fail> {
+    let tape = Tape::new(from_hex(rt.alloc(), TWO_FRAMES)?, 1, 0, false);
+    let mut source = Source::new(tape);
+    let sound = read_sound(rt.alloc(), &mut source, Some(Kind::Au))?;
+    let head = Head {
+        kind: Kind::Au,
+        rate: 8000,
+        channels: 1,
+        coding: Coding::S32Be,
+        announced: Some(8),
+    };
+    assert_eq!(rt; sound.head, head);
+    assert_eq!(rt; sound.frames.as_slice(), [one(3), one(-3)].as_slice());
+    assert_eq!(rt; (sound.missing, sound.stray), (0, 0));
+    let mut tape = source.into_inner();
+    assert_eq!(rt; tape.read(&mut [0]), Ok(0));
     Ok(())
 }
 

@@ -9,28 +9,27 @@ ghost use Rattle.fx_sound.specs.Wave.{half_at, long_at, wav_coding, IsProperSeen
 ghost use Rattle.fx_sound.specs.Reads.{Reads, Refuses, Fails};
 
 use super::head::{FARTHEST, HeadFault, Kind};
-use super::layout::{Format, Layout};
+use super::layout::{EXTENSIBLE, Format, Layout, PCM_GUID, PLAIN, WAV_UNKNOWN};
 use super::source::Source;
 use fx_frame::{ByteIn, Coding};
-
-const STREAMED: u32 = 0x7FFF_F000;
 
 // The farthest place at which a chunk may begin.
 const FARTHEST_CHUNK: u64 = FARTHEST as u64 - 8;
 
-const GUID: [u8; 16] = [1, 0, 0, 0, 0, 0, 16, 0, 128, 0, 0, 170, 0, 56, 155, 113];
-
 /// What the name and size of a chunk ask for.
 #[derive(Clone, Copy, Debug, PartialEq, Eq)]
-pub enum Demand {
+pub(crate) enum Demand {
+    /// Nothing: the sound follows.
     Sound(Layout),
+    /// The format, in a body of this size.
     Format(u32),
+    /// To skip a body of this size.
     Other(u32),
 }
 
-/// What stands behind a chunk: the sound, or a chunk more.
+/// What stands behind a chunk: the sound, or one more chunk at a place, with the format if it was read.
 #[derive(Clone, Copy, Debug, PartialEq, Eq)]
-pub enum Step {
+pub(crate) enum Step {
     Sound(Layout),
     Next(u32, Option<Format>),
 }
@@ -102,16 +101,16 @@ fn format(bytes: &[u8]) -> Result<Format, HeadFault>
     ensures fault { is_read_failure result ≡ false }
 {
     let tag = half(bytes, 0);
-    if tag == 1 {
+    if tag == PLAIN {
         return plain(bytes);
     }
-    if tag != 0xFFFE {
+    if tag != EXTENSIBLE {
         return Err(HeadFault::NotInProfile);
     }
     if bytes.len() < 40 || half(bytes, 16) < 22 {
         return Err(HeadFault::BadHeader);
     }
-    if &bytes[24..40] != GUID.as_slice() {
+    if &bytes[24..40] != PCM_GUID.as_slice() {
         return Err(HeadFault::NotInProfile);
     }
     plain(bytes)
@@ -130,7 +129,7 @@ fn asked(offset: u32, seen: Option<Format>, name: [u8; 4], size: u32) -> Result<
         return match seen {
             None => Err(HeadFault::BadHeader),
             Some(format) => {
-                let announced = if size < STREAMED {
+                let announced = if size < WAV_UNKNOWN {
                     Some(size as u64)
                 } else {
                     None
@@ -272,6 +271,7 @@ fn read_step<R: ByteIn>(
     }
 }
 
+// No head has more chunks: each has 8 bytes, and the sound begins at 2^24 or before.
 const MOST_CHUNKS: u32 = 1 << 21;
 
 // The chunks behind `WAVE`, up to the sound.

@@ -7,22 +7,13 @@ ghost use Rattle.fx_sound.specs.Kind.{is_coding_of};
 ghost use Rattle.fx_sound.specs.Writing.{known_size, format_fields, extension_fields, format_body, wav_head, au_head, written_head};
 
 use super::head::Kind;
+use super::layout::{AU_UNKNOWN, EXTENSIBLE, PCM_GUID, PLAIN, WAV_UNKNOWN};
 use fx_frame::Coding;
 use fx_frame::copies::copy_part;
 use std::marker::Model;
 
 /// The most bytes of a head that is written.
 pub const MOST_HEAD: usize = 68;
-
-const WAV_UNKNOWN: u32 = 0x7FFF_F000;
-
-const AU_UNKNOWN: u32 = 0xFFFF_FFFF;
-
-const PLAIN: u16 = 1;
-
-const EXTENSIBLE: u16 = 0xFFFE;
-
-const PCM_GUID: [u8; 16] = [1, 0, 0, 0, 0, 0, 16, 0, 128, 0, 0, 170, 0, 56, 155, 113];
 
 /// The bytes of a head, at most 68.
 #[derive(Drop)]

@@ -8,7 +8,7 @@ use Rattle.fx_frame.proofs.frame_coding.decoded_wide.Goals as goal
 pub loop-k-preserved : goal.loop-k-preserved
 loop-k-preserved c =
     let width : c.loop-k.k * c.width-width.result + c.width-width.result - c.loop-k.k * c.width-width.result ≡ c.width-width.result = omega arith in
-    let same : c.width-width.result ≡ width_of c.args.coding = c.width-width.ensures in
+    let same : c.width-width.result ≡ width_of c.args.coding = c.width-width.ensures.value in
     let sample : c.read.result ≡ read_sample c.args.coding (take (width_of c.args.coding) (drop (c.loop-k.k * width_of c.args.coding) c.args.bytes.now)) =
         c.read.ensures ∙ ap (λ n. read_sample c.args.coding (take n (drop (c.loop-k.k * c.width-width.result) c.args.bytes.now))) width
         ∙ ap (λ n. read_sample c.args.coding (take n (drop (c.loop-k.k * n) c.args.bytes.now))) same in

@@ -17,7 +17,7 @@ loop-k-preserved c =
     let store = stored xs c.loop-k.k fits here in
     let clips = c.write.ensures.clips ∙ ap (clips_written c.args.coding) store in
     record {
-      written = bytes_of-turn c.args.coding xs c.args.out.now c.loop-k.out c.write.new.bytes c.loop-k.k c.width-width.result here c.width-width.ensures
+      written = bytes_of-turn c.args.coding xs c.args.out.now c.loop-k.out c.write.new.bytes c.loop-k.k c.width-width.result here c.width-width.ensures.value
           c.loop-k.invariant.written (c.write.ensures.bytes ∙ ap (written c.args.coding) store);
       counted = elim c.if-write.branch [
         | then-write w ↦ (w.clips-is ∙ clips_of-yes c.args.coding xs c.loop-k.k c.loop-k.clips here c.loop-k.invariant.counted (sym clips ∙ w.if-write.true))

@@ -69,7 +69,7 @@ loop-turn-preserved g c =
           let ran = old.ran bytes known in
           let taken = next.frame (drop (n * size) bytes) ran.to_come_is in
           let frame : c.in-Ok-Some.frame ≡ samples_of p.coding p.channels (take size (drop (n * size) bytes)) =
-              taken.samples ∙ ap (λ q. samples_of q.coding q.channels (take (size_of q) (drop (n * size) bytes))) old.now in
+          taken.samples ∙ ap (λ q. samples_of q.coding q.channels (take (size_of q) (drop (n * size) bytes))) old.now in
           c.in-Ok.ensures.items ∙ ap (λ l. l ++ c.in-Ok-Some.frame ∷ []) (old.items bytes known)
           ∙ ap (λ f. first_frames p.coding p.channels n bytes ++ f ∷ []) frame ∙ sym (first_frames-more p.coding p.channels n bytes);
       told = subst P more (Takes-more g.R.ByteIn.told c.args.source.now c.loop-turn.source c.next_frame.new.source (n * size) (size_of c.loop-turn.progress) old.told next.told);

@@ -29,9 +29,9 @@ returns-clause-sound g c = λ bytes known.
     let sound : List ℕ = within h.announced rest in
     let format : Format = record { rate = h.rate; channels = h.channels; coding = h.coding } in
     let made = λ (frames : List Samples) (missing stray : ℕ). let r : Result Outcome HeadFault =
-        Ok (record { kind = h.kind; format = format; announced = h.announced; frames = frames; missing = missing; stray = stray }) in r in
+    Ok (record { kind = h.kind; format = format; announced = h.announced; frames = frames; missing = missing; stray = stray }) in r in
     let same-frames : c.in-Ok-read_frames.frames.items ≡ frames_of h.coding h.channels sound =
-        frames ∙ ap (λ p. frames_of p.coding p.channels (within p.left rest)) c.new-progress.ensures in
+    frames ∙ ap (λ p. frames_of p.coding p.channels (within p.left rest)) c.new-progress.ensures in
     let ended = end ∙ ap (λ p. at_end p (within p.left rest)) c.new-progress.ensures in
     let same-missing = c.missing.ensures ∙ ap (λ p. p.missing) ended in
     let same-stray = c.stray.ensures ∙ ap (λ p. p.stray) ended in

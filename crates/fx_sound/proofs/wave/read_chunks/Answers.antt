@@ -3,7 +3,7 @@ use Rattle.std.specs.Prelude.{Some, None, Ok, Err}
 use Rattle.std.proofs.lemmas.List.{length-drop, drop-drop}
 use Rattle.fx_sound.specs.declared.wave.Step.{Step}
 use Rattle.fx_sound.specs.declared.wave.Step.TheVariants as step
-use Rattle.fx_sound.specs.Wave.{end_of, GoesOn, IsProperSeen, most_chunks, chunks_of}
+use Rattle.fx_sound.specs.Wave.{end_of, GoesOn, IsProperSeen, farthest_chunk, most_chunks, chunks_of}
 use Rattle.fx_sound.proofs.Held.{Tells-both}
 use Rattle.fx_sound.proofs.WaveLemmas.{turn-next, turn-sound, turn-fault, turn-told}
 use Rattle.fx_sound.proofs.WaveCut.{cut-next}
@@ -33,7 +33,7 @@ pub loop-turn-preserved : goal.loop-turn-preserved
 loop-turn-preserved g c =
     let far = c.loop-turn.invariant.far in
     let P : Step → Type 0 = GoesOn c.loop-turn.offset in
-    let on : (c.loop-turn.offset + 8 ≤ c.in-Next.next) × (c.in-Next.next ≤ 16777208) × IsProperSeen c.in-Next.format = subst P c.in-Next.is c.in-Ok.ensures.on in
+    let on : (c.loop-turn.offset + 8 ≤ c.in-Next.next) × (c.in-Next.next ≤ farthest_chunk) × IsProperSeen c.in-Next.format = subst P c.in-Next.is c.in-Ok.ensures.on in
     let end : end_of c.in-Ok.step ≡ c.in-Next.next = ap end_of c.in-Next.is in
     let all : c.loop-turn.offset - 12 + (end_of c.in-Ok.step - c.loop-turn.offset) ≡ c.in-Next.next - 12 = omega (arith, on.0) in
     let all-2 : c.loop-turn.offset - 12 + (c.in-Next.next - c.loop-turn.offset) ≡ c.in-Next.next - 12 = omega (arith, on.0) in

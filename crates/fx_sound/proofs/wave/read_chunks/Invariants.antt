@@ -1,13 +1,13 @@
 use Rattle.std.proofs.Common.{◌≡◌, ℕ, ◌+◌, ◌-◌, ◌*◌, ◌<◌, ◌≤◌, List, Option, None, Some, length, take, drop}
 use Rattle.fx_sound.specs.Source.{to_come, Takes}
 use Rattle.fx_sound.specs.Known.{IfKnown}
-use Rattle.fx_sound.specs.Wave.{IsProperSeen, chunks_of, most_chunks}
+use Rattle.fx_sound.specs.Wave.{IsProperSeen, farthest_chunk, chunks_of, most_chunks}
 use Rattle.fx_sound.proofs.wave.read_chunks.Given as goal
 
 abbrev pub invariant-loop-turn : goal.invariant-loop-turn
 invariant-loop-turn g l = record {
   far : 12 + 8 * l._turn ≤ l.offset;
-  near : l.offset ≤ 16777208;
+  near : l.offset ≤ farthest_chunk;
   seen : IsProperSeen l.seen;
   rest : IfKnown (to_come g.R.ByteIn.rest l.initial.source) (λ bytes.
       (l.offset - 12 ≤ length bytes)

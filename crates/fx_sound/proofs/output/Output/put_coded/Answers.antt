@@ -9,7 +9,7 @@ pub returns-clause-bytes : goal.returns-clause-bytes
 returns-clause-bytes c =
     let s = c.self.inside in
     let room : 4096 - s.end ≡ c.args.self.now.room = ap (λ o. o.room) c.self.view_is in
-    let size : c.channels.result * c.width.result ≡ length c.args.frame.now * width_of c.args.coding = rw (c.channels.ensures.count, c.width.ensures) refl in
+    let size : c.channels.result * c.width.result ≡ length c.args.frame.now * width_of c.args.coding = rw (c.channels.ensures.count, c.width.ensures.value) refl in
     rw (← c.encode-clips.ensures.bytes, ← c.self.view_is) (held-put s.buffer c.encode-clips.new.out s.start s.end (c.channels.result * c.width.result) (omega arith) (omega arith) (c.encode-clips.ensures.size ∙ sym size))
 
 pub returns-clause-count : goal.returns-clause-count
