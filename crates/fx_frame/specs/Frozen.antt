@@ -1,5 +1,5 @@
 -- What a stage stores and counts, read again. Source: this project's profile.
-use Rattle.std.specs.Prelude.{ℕ, List, Option, Some, length, option_to_list, ◌≡◌}
+use Rattle.std.specs.Prelude.{ℕ, Option, Some, length, ◌≡◌}
 use Rattle.fx_frame.specs.Frame.{Samples, IsFrame}
 
 -- a frame in hand, if there is one, has so many channels

@@ -3,3 +3,4 @@ pub mod Opening
 pub mod Upsample
 pub mod Line
 pub mod Delay
+pub mod Trial

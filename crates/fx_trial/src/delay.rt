@@ -5,9 +5,9 @@ ghost use Rattle.fx_trial.specs.Delay.{DelayState, IsDelay};
 ghost use Rattle.fx_trial.specs.Delay.{longest, sample_before, delayed_at, delayed};
 ghost use Rattle.fx_trial.specs.Delay.{delay_acts};
 
+use crate::line::Line;
 use fx_frame::frame::Frame;
 use fx_frame::inner::frame_of;
-use crate::line::Line;
 use fx_frame::stage::Stage;
 use fx_frame::wide::WideFrame;
 use std::alloc::{AllocError, Global};
@@ -158,7 +158,16 @@ impl Stage for Delay {
     }
 
     fn counters(&self) -> [u64; 8] {
-        [self.taken, self.given, u64::from(self.ended), 0, self.held(), self.tail as u64, u64::from(self.hand.is_some()), 0]
+        [
+            self.taken,
+            self.given,
+            u64::from(self.ended),
+            0,
+            self.held(),
+            self.tail as u64,
+            u64::from(self.hand.is_some()),
+            0,
+        ]
     }
 
     fn stored(&self, j: usize) -> WideFrame {

@@ -4,4 +4,5 @@
 pub mod delay;
 pub mod line;
 pub mod opening;
+pub mod trial;
 pub mod upsample;

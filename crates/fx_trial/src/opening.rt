@@ -108,7 +108,16 @@ impl Stage for Opening {
     }
 
     fn counters(&self) -> [u64; 8] {
-        [self.taken, self.given, u64::from(self.ended), 0, self.held(), 0, 0, 0]
+        [
+            self.taken,
+            self.given,
+            u64::from(self.ended),
+            0,
+            self.held(),
+            0,
+            0,
+            0,
+        ]
     }
 
     fn stored(&self, _j: usize) -> WideFrame {

@@ -1,8 +1,11 @@
-ghost use Rattle.std.specs.Prelude.{◌≡◌, ◌<◌, ◌≤◌, ◌+◌, ◌*◌, ◌/◌, ◌^◌, ℕ, List, [], length, false, true, option_to_list, ℤ, Some, Ok, IfOk};
+ghost use Rattle.std.specs.Prelude.{◌≡◌, ◌≤◌, Ok, IfOk, IfErr};
+ghost use Rattle.std.proofs.Common.{◌∙◌};
 
 use fx_frame::frame::Frame;
-use fx_frame::stage::Stage;
+use fx_frame::frozen::thawed_hand;
+use fx_frame::stage::{Stage, ThawFault, Thaws};
 use fx_frame::wide::WideFrame;
+use std::alloc::Global;
 use std::marker::Model;
 
 /// Follows each frame with silence.
@@ -29,7 +32,8 @@ impl Model for Upsample {
 
 impl Upsample {
     ghost use Rattle.fx_trial.specs.Upsample.{upsample_acts};
-    ghost use Rattle.fx_frame.specs.Stage.{IsNew};
+    ghost use Rattle.fx_frame.specs.Stage.{IsNew, Freezes};
+    ghost use Rattle.fx_trial.specs.Upsample.{UpsampleState, IsUpsample};
 
     /// Each frame is followed by `factor - 1` frames of silence.
     pub fn new(channels: usize, factor: u64) -> Upsample
@@ -45,6 +49,70 @@ impl Upsample {
             given: 0,
             ended: false,
         }
+    }
+
+    /// The stage that stored these frames and counted these numbers; BadSnapshot where there is none.
+    pub fn thaw(
+        channels: usize,
+        factor: u64,
+        frames: &[WideFrame],
+        numbers: &[u64; 8],
+    ) -> Result<Upsample, ThawFault>
+        requires { (1 ≤ channels) × (channels ≤ 16) × (1 ≤ factor) }
+        ensures recipe { IfOk result (λ t. t.recipe ≡ record { channels = channels; factor = factor }) }
+        ensures frozen { IfOk result (λ t. Freezes upsample_acts t frames.now numbers.now) }
+        ensures thawed { (s : UpsampleState) → IsUpsample s → s.recipe ≡ record { channels = channels; factor = factor } → Freezes upsample_acts s frames.now numbers.now → result ≡ Ok s }
+        ensures refused { IfErr result (λ e. e ≡ ThawFault.BadSnapshot) }
+    {
+        let [taken, given, ended, clips, held, silent, seventh, eighth] = *numbers;
+        if ended > 1 || clips != 0 || seventh != 0 || eighth != 0 {
+            return Err(ThawFault::BadSnapshot);
+        }
+        if held != frames.len() as u64 || taken > (1 << 56) / factor {
+            return Err(ThawFault::BadSnapshot);
+        }
+        let made = taken * factor;
+        if given > made || held > made - given || silent != made - given - held {
+            return Err(ThawFault::BadSnapshot);
+        }
+        let hand = thawed_hand(frames, channels)?;
+        Ok(Upsample {
+            channels,
+            factor,
+            hand,
+            silent,
+            taken,
+            given,
+            ended: ended == 1,
+        })
+    }
+}
+
+/// What an `Upsample` is made with.
+#[derive(Clone, Copy)]
+pub struct Upsampling {
+    pub channels: usize,
+    pub factor: u64,
+}
+
+impl Thaws for Upsample {
+    ghost use Rattle.fx_trial.specs.Upsample.{UpsampleArguments};
+
+    type Arguments = Upsampling;
+
+    ghost fits = { λ a. (1 ≤ a.channels) × (a.channels ≤ 16) × (1 ≤ a.factor) };
+
+    ghost made = { λ a s. ◌≡◌ {A = UpsampleArguments} s.recipe (record { channels = a.channels; factor = a.factor }) };
+
+    ghost made_stays = { λ a s t stays is. stays ∙ is };
+
+    fn thaw(
+        _alloc: Global,
+        arguments: &Upsampling,
+        frames: &[WideFrame],
+        numbers: &[u64; 8],
+    ) -> Result<Upsample, ThawFault> {
+        Upsample::thaw(arguments.channels, arguments.factor, frames, numbers)
     }
 }
 
@@ -102,7 +170,16 @@ impl Stage for Upsample {
     }
 
     fn counters(&self) -> [u64; 8] {
-        [self.taken, self.given, u64::from(self.ended), 0, self.held(), self.silent, 0, 0]
+        [
+            self.taken,
+            self.given,
+            u64::from(self.ended),
+            0,
+            self.held(),
+            self.silent,
+            0,
+            0,
+        ]
     }
 
     fn stored(&self, _j: usize) -> WideFrame {

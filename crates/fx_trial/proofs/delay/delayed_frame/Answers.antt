@@ -1,4 +1,4 @@
-use Rattle.std.proofs.Common.{◌≡◌, ◌<◌, ◌-◌, ◌++◌, ◌∷◌, [], ℕ, ℤ, pos, length, take, replicate, arith, rules, to_z, of_z, w32, ap, ◌∙◌}
+use Rattle.std.proofs.Common.{◌≡◌, ◌<◌, ◌-◌, ◌++◌, ◌∷◌, [], ℕ, ℤ, pos, length, replicate, arith, rules, to_z, of_z, w32, ap, ◌∙◌}
 use Rattle.std.proofs.Math.ListN.{set}
 use Rattle.fx_trial.specs.Lists.{tabulate}
 use Rattle.std.specs.Prelude.{slice_index}

@@ -1,0 +1,130 @@
+use crate::delay::Delay;
+use crate::opening::Opening;
+use crate::upsample::Upsample;
+use fx_frame::frame::Frame;
+use fx_frame::stage::Stage;
+use fx_frame::wide::WideFrame;
+
+/// A stage of a row.
+#[derive(Drop)]
+pub enum Trial {
+    Opened(Opening),
+    Upsampled(Upsample),
+    Delayed(Delay),
+}
+
+impl Stage for Trial {
+    ghost use Rattle.fx_trial.specs.Trial.{TrialRecipe, trial_acts, sound_of, rises_of};
+
+    ghost Recipe = { TrialRecipe };
+
+    ghost acts = { trial_acts };
+
+    ghost sound = { sound_of };
+
+    ghost rises = { rises_of };
+
+    fn take(&mut self, frame: Frame) {
+        match self {
+            Trial::Opened(stage) => stage.take(frame),
+            Trial::Upsampled(stage) => stage.take(frame),
+            Trial::Delayed(stage) => stage.take(frame),
+        }
+    }
+
+    fn end(&mut self) {
+        match self {
+            Trial::Opened(stage) => stage.end(),
+            Trial::Upsampled(stage) => stage.end(),
+            Trial::Delayed(stage) => stage.end(),
+        }
+    }
+
+    fn give(&mut self) -> Option<Frame> {
+        match self {
+            Trial::Opened(stage) => stage.give(),
+            Trial::Upsampled(stage) => stage.give(),
+            Trial::Delayed(stage) => stage.give(),
+        }
+    }
+
+    fn is_dry(&self) -> bool {
+        match self {
+            Trial::Opened(stage) => stage.is_dry(),
+            Trial::Upsampled(stage) => stage.is_dry(),
+            Trial::Delayed(stage) => stage.is_dry(),
+        }
+    }
+
+    fn is_ended(&self) -> bool {
+        match self {
+            Trial::Opened(stage) => stage.is_ended(),
+            Trial::Upsampled(stage) => stage.is_ended(),
+            Trial::Delayed(stage) => stage.is_ended(),
+        }
+    }
+
+    fn is_spent(&self) -> bool {
+        match self {
+            Trial::Opened(stage) => stage.is_spent(),
+            Trial::Upsampled(stage) => stage.is_spent(),
+            Trial::Delayed(stage) => stage.is_spent(),
+        }
+    }
+
+    fn held(&self) -> u64 {
+        match self {
+            Trial::Opened(stage) => stage.held(),
+            Trial::Upsampled(stage) => stage.held(),
+            Trial::Delayed(stage) => stage.held(),
+        }
+    }
+
+    fn hold(&self) -> u64 {
+        match self {
+            Trial::Opened(stage) => stage.hold(),
+            Trial::Upsampled(stage) => stage.hold(),
+            Trial::Delayed(stage) => stage.hold(),
+        }
+    }
+
+    fn clips(&self) -> u64 {
+        match self {
+            Trial::Opened(stage) => stage.clips(),
+            Trial::Upsampled(stage) => stage.clips(),
+            Trial::Delayed(stage) => stage.clips(),
+        }
+    }
+
+    fn in_channels(&self) -> usize {
+        match self {
+            Trial::Opened(stage) => stage.in_channels(),
+            Trial::Upsampled(stage) => stage.in_channels(),
+            Trial::Delayed(stage) => stage.in_channels(),
+        }
+    }
+
+    fn out_channels(&self) -> usize {
+        match self {
+            Trial::Opened(stage) => stage.out_channels(),
+            Trial::Upsampled(stage) => stage.out_channels(),
+            Trial::Delayed(stage) => stage.out_channels(),
+        }
+    }
+
+    fn counters(&self) -> [u64; 8] {
+        match self {
+            Trial::Opened(stage) => stage.counters(),
+            Trial::Upsampled(stage) => stage.counters(),
+            Trial::Delayed(stage) => stage.counters(),
+        }
+    }
+
+    fn stored(&self, j: usize) -> WideFrame {
+        match self {
+            Trial::Opened(stage) => stage.stored(j),
+            Trial::Upsampled(stage) => stage.stored(j),
+            Trial::Delayed(stage) => stage.stored(j),
+        }
+    }
+}
