@@ -1,3 +1,3 @@
 pub mod Parts
+pub mod Moving
 pub mod Sound
-pub mod Steps
