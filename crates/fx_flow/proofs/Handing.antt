@@ -2,7 +2,7 @@ use Rattle.std.proofs.Common.{ℕ, zero, suc, ◌+◌, ◌-◌, sub-one, ◌<◌
 use Rattle.std.proofs.Math.ListN.{set}
 use Rattle.fx_frame.specs.Frame.{Samples}
 use Rattle.fx_frame.specs.Stage.{Counts, Acts, Gave, Took, Ended, IsDry, kind}
-use Rattle.fx_flow.specs.Parts.{AllDry, AllSettled, AllEnded, IsLastWet, IsWetEnd, IsFirstOpen, CanHandOver, CanFeed, GaveAt, HandedOver, Fed, EndPassed}
+use Rattle.fx_flow.specs.Parts.{AllDry, AllSettled, AllEnded, IsLastWet, IsFirstOpen, CanHandOver, CanFeed, GaveAt, HandedOver, Fed, EndPassed, through}
 use Rattle.fx_flow.specs.Moving.{CanMove, Lifted, MovedFrom}
 
 module _ {S R : Type 0} (acts : Acts S R) where
@@ -162,6 +162,11 @@ module _ {S R : Type 0} (acts : Acts S R) where
   EndPassed-at zero (s ∷ stages) s' d n h = (h, refl)
   EndPassed-at (suc i) (s ∷ stages) s' d n h = (refl, EndPassed-at i stages s' d (omega arith) h)
 
+  pub IsLastWet-lt : (i : ℕ) (stages : List S) → IsLastWet acts i stages → i < length stages
+  IsLastWet-lt zero (s ∷ stages) wet = omega arith
+  IsLastWet-lt (suc i) (s ∷ stages) wet = let h = IsLastWet-lt i stages wet in omega arith
+  IsLastWet-lt i [] wet = absurd wet
+
   pub IsLastWet-not_dry : (i : ℕ) (stages : List S) → IsLastWet acts i stages → AllSettled acts stages → ⊥
   IsLastWet-not_dry zero (s ∷ stages) wet dry = absurd (cc (wet.0, dry.0))
   IsLastWet-not_dry (suc i) (s ∷ stages) wet dry = IsLastWet-not_dry i stages wet dry.2
@@ -181,3 +186,9 @@ module _ {S R : Type 0} (acts : Acts S R) where
   IsLastWet-dry zero (s ∷ stages) wet dry = absurd (cc (wet.0, dry.0))
   IsLastWet-dry (suc i) (s ∷ stages) wet dry = IsLastWet-dry i stages wet dry.1
   IsLastWet-dry i [] wet dry = wet
+
+  -- a stage that gives nothing hides what comes before it
+  pub through-silent : (i : ℕ) (stages : List S) (d : S) → i < length stages → ((z : List Samples) → acts.rest (get_or stages i d) z ≡ []) → (x y : List Samples) → through acts stages x ≡ through acts stages y
+  through-silent i [] d n h x y = absurd (omega arith)
+  through-silent zero (s ∷ stages) d n h x y = rw (h x, h y) refl
+  through-silent (suc i) (s ∷ stages) d n h x y = through-silent i stages d (omega arith) h _ _

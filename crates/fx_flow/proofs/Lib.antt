@@ -1,1 +1,4 @@
 pub mod Handing
+pub mod Laws
+pub mod Steps
+pub mod Moving

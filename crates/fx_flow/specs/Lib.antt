@@ -1,3 +1,4 @@
 pub mod Parts
 pub mod Moving
 pub mod Sound
+pub mod Steps

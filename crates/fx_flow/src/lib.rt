@@ -1,4 +1,5 @@
 //! Stages in a row, one frame at a time: what is the same for every effect.
 #![tactic(auto)]
 
-pub mod moves;
+pub mod flow;
+mod moves;

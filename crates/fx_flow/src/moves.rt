@@ -1,5 +1,6 @@
-ghost use Rattle.std.specs.Prelude.{◌≡◌, ◌<◌, ◌≤◌, ◌↔◌, true, false, drop, length, MatchOption};
-ghost use Rattle.fx_flow.specs.Parts.{AllSettled, AllEnded, IsWetEnd, IsFirstOpen, EndPassed, any_spent};
+ghost use Rattle.std.specs.Prelude.{◌≡◌, ◌<◌, ◌≤◌, ◌↔◌, ◌^◌, ℕ, true, None, drop, length, MatchOption, List};
+ghost use Rattle.fx_frame.specs.Frame.{Samples};
+ghost use Rattle.fx_flow.specs.Parts.{AllSettled, AllEnded, IsWetEnd, IsFirstOpen, EndPassed, any_spent, given_of, through};
 ghost use Rattle.fx_flow.specs.Moving.{CanMove, Lifted, MovedFrom};
 
 use fx_frame::frame::Frame;
@@ -70,7 +71,7 @@ pub fn first_open<S: Stage>(stages: &[S]) -> Option<usize>
 }
 
 /// Tells a stage the end.
-pub fn pass_end<S: Stage>(stages: &mut [S], i: usize)
+fn pass_end<S: Stage>(stages: &mut [S], i: usize)
     requires dry { AllSettled S.acts stages.old }
     requires first { IsFirstOpen S.acts i stages.old }
     ensures { EndPassed S.acts i stages.old stages.new }
@@ -80,12 +81,50 @@ pub fn pass_end<S: Stage>(stages: &mut [S], i: usize)
     stages[i].end();
 }
 
-/// Does some stage give nothing more, whatever comes?
-pub fn is_any_spent<S: Stage>(stages: &[S]) -> bool
-    ensures { result ≡ any_spent S.acts stages.now }
+/// Tells the first stage that is not ended the end. One place past the last stage that is not dry then,
+/// or 0 where all are dry.
+#[cold]
+#[inline(never)]
+pub fn pass_on<S: Stage>(stages: &mut [S]) -> usize
+    requires dry { AllSettled S.acts stages.old }
+    requires open { AllEnded S.acts stages.old → ⊥ }
+    ensures passed { (i : ℕ) × IsFirstOpen S.acts i stages.old × EndPassed S.acts i stages.old stages.new }
+    ensures wet { IsWetEnd S.acts result stages.new }
 {
+    let Some(place) = first_open(stages) else {
+        unreachable!()
+    };
+    pass_end(stages, place);
+    let count = stages.len();
+    wet_end(stages, count)
+}
+
+/// Is nothing to be moved, neither from a stage nor from the inlet?
+pub fn is_still(wet: usize, inlet: &Option<Frame>) -> bool
+    ensures { result ≡ true ↔ ((wet ≡ 0) × (inlet.now ≡ None)) }
+{
+    wet == 0 && inlet.is_none()
+}
+
+/// How many frames the stages gave.
+pub fn given_by_all<S: Stage>(stages: &[S]) -> u64
+    requires { given_of S.acts stages.now < 2 ^ 64 }
+    ensures { result ≡ given_of S.acts stages.now }
+{
+    let mut sum = 0;
     'stages: for stage in stages {
-        let spent = stage.is_spent();
+        sum += stage.counters()[1];
+    }
+    sum
+}
+
+/// Does some stage give nothing more, whatever comes? Then the last one gives the same, whatever comes.
+pub fn is_any_spent<S: Stage>(stages: &[S]) -> bool
+    ensures value { result ≡ any_spent S.acts stages.now }
+    ensures same { result ≡ true → (x y : List Samples) → through S.acts stages.now x ≡ through S.acts stages.now y }
+{
+    'stages: for i in 0..stages.len() {
+        let spent = stages[i].is_spent();
         if spent {
             return true;
         }

@@ -1,4 +1,4 @@
-use Rattle.std.proofs.Common.{◌<◌, length, arith}
+use Rattle.std.proofs.Common.{arith}
 use Rattle.fx_flow.proofs.Handing.{CanTake-lifted, MovedFrom-out, MovedFrom-on, length-Lifted, CanMove-le}
 use Rattle.fx_flow.proofs.moves.move_on.Goals as goal
 
