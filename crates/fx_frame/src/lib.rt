@@ -29,5 +29,8 @@ pub mod frame;
 pub mod frozen;
 pub mod holds;
 pub mod inner;
+pub mod line;
+mod ring;
 pub mod stage;
 pub mod wide;
+pub mod wide_line;

@@ -1,0 +1,66 @@
+-- What holds of the frames of a line, whatever their width.
+use Rattle.std.proofs.Common.{◌≡◌, ◌<◌, ◌-◌, ℕ, ℤ, List, [], ◌∷◌, ◌++◌, length, slice_get, get_or, Option, Some, None, true, false, cond, nat_lt, inl, inr, refl, sym, ap, ◌∙◌, arith, FitsSigned, MatchOption, IsSomeAnd}
+use Rattle.std.specs.Option.{option_map}
+use Rattle.std.specs.List.{All}
+use Rattle.std.specs.Int.{Width}
+use Rattle.std.proofs.lemmas.Bool.{cases_lt}
+use Rattle.std.proofs.lemmas.List.Elements.{All-push, All-drop}
+use Rattle.std.proofs.lemmas.Option.{slice_get-get_or}
+use Rattle.fx_frame.specs.Line.{Frames, pushed, pushed_out, IsShaped, IsLine}
+
+-- what `map` gives, where the function always gives f
+pub mapped : {A B : Type 0} (f : A → B) (o : Option A) (m : Option B) → MatchOption o (m ≡ None) (λ x. IsSomeAnd m (λ y. y ≡ f x)) → m ≡ option_map f o
+mapped f None m h = h
+mapped f (Some x) None h = absurd h
+mapped f (Some x) (Some y) h = ap Some h
+
+module _ {X : Type 0} where
+  -- a frame of one channel is its sample
+  pub one-sample : (f : List X) (d : X) → length f ≡ 1 → f ≡ get_or f 0 d ∷ []
+  one-sample [] d e = absurd (omega arith)
+  one-sample (x ∷ []) d e = refl
+  one-sample (x ∷ y ∷ f) d e = absurd (omega arith)
+
+  -- a frame of two channels is its two samples
+  pub two-samples : (f : List X) (d : X) → length f ≡ 2 → f ≡ get_or f 0 d ∷ get_or f 1 d ∷ []
+  two-samples [] d e = absurd (omega arith)
+  two-samples (x ∷ []) d e = absurd (omega arith)
+  two-samples (x ∷ y ∷ []) d e = refl
+  two-samples (x ∷ y ∷ z ∷ f) d e = absurd (omega arith)
+
+  -- what holds of each frame holds after a push
+  pub All-pushed : (P : List X → Type 0) (l : Frames X) (f : List X) (after : List (List X)) → All P l.items → P f → after ≡ pushed l f → All P after
+  All-pushed P l f after all h e = rw e (All-drop P (length (l.items ++ f ∷ []) - l.capacity) (l.items ++ f ∷ []) (All-push P l.items f all h))
+
+  pub frame-one : (l : Frames X) (k : ℕ) (f : List X) (x : X) → IsShaped l → 1 ≡ l.channels → k < length l.items → ((d : X) → x ≡ get_or (get_or l.items k []) 0 d) → f ≡ x ∷ [] → Some f ≡ slice_get l.items k
+  frame-one l k f x s one h is e-f =
+      let n : length (get_or l.items k []) ≡ 1 = s.each k [] h ∙ sym one in
+      sym (slice_get-get_or l.items k [] h ∙ ap Some (one-sample (get_or l.items k []) x n ∙ ap (λ y. y ∷ []) (sym (is x)) ∙ sym e-f))
+
+  pub frame-two : (l : Frames X) (k : ℕ) (f : List X) (x y : X) → IsShaped l → 2 ≡ l.channels → k < length l.items → ((d : X) → x ≡ get_or (get_or l.items k []) 0 d) → ((d : X) → y ≡ get_or (get_or l.items k []) 1 d) → f ≡ x ∷ y ∷ [] → Some f ≡ slice_get l.items k
+  frame-two l k f x y s two h is-x is-y e-f =
+      let n : length (get_or l.items k []) ≡ 2 = s.each k [] h ∙ sym two in
+      let e-x : x ≡ get_or (get_or l.items k []) 0 x = is-x x in
+      let e-y : y ≡ get_or (get_or l.items k []) 1 x = is-y x in
+      let whole : get_or l.items k [] ≡ x ∷ y ∷ [] = two-samples (get_or l.items k []) x n ∙ (let e : get_or (get_or l.items k []) 0 x ∷ get_or (get_or l.items k []) 1 x ∷ [] ≡ x ∷ y ∷ [] = cc in e) in
+      sym (slice_get-get_or l.items k [] h ∙ ap Some (whole ∙ sym e-f))
+
+  -- the oldest of a full line goes
+  pub oldest-out : (l : Frames X) (f : List X) (o : Option (List X)) → IsShaped l → (l.capacity ≡ 0 → ⊥) → o ≡ cond (nat_lt (length l.items) l.capacity) None (slice_get l.items 0) → o ≡ pushed_out l f
+  oldest-out l f o s some e = elim (cases_lt (length l.items) l.capacity) [
+    | inl lt ↦
+        let yes : nat_lt (length l.items) l.capacity ≡ true = grind arith in
+        rw (e, yes) refl
+    | inr ge ↦
+        let no : nat_lt (length l.items) l.capacity ≡ false = grind arith in
+        rw (e, no) (first l.items f (omega (arith, some)))
+  ]
+    where
+      first : (xs : List (List X)) (f : List X) → 0 < length xs → slice_get xs 0 ≡ slice_get (xs ++ f ∷ []) 0
+      first [] f h = absurd (omega arith)
+      first (x ∷ xs) f h = refl
+
+module _ (w : Width) where
+  -- a line is shaped, and each sample fits
+  pub is-line : (l : Frames ℤ) → IsShaped l → All (All (FitsSigned w)) l.items → IsLine w l
+  is-line l s fits = record { some = s.some; few = s.few; small = s.small; within = s.within; frames = λ k d h. record { count = s.each k d h; fits = fits k d h } }

@@ -1,0 +1,5 @@
+use Rattle.std.proofs.Common.{◌≡◌, ◌+◌, ◌*◌, ◌<◌, ℕ, get_or}
+use Rattle.fx_frame.proofs.ring.copy_every.Given as goal
+
+abbrev pub invariant-loop-k : goal.invariant-loop-k
+invariant-loop-k g l = (k : ℕ) → k < l.k → (d : g.row.T.Denot) → get_or l.out k d ≡ get_or l.source (l.from + k * l.step) d

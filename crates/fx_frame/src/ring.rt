@@ -1,0 +1,205 @@
+//! One ring of samples for whole frames, each of as many samples as there are channels.
+ghost use Rattle.std.specs.Prelude.{◌≡◌, ◌<◌, ◌≤◌, ◌^◌, ◌++◌, ◌+◌, ◌*◌, ◌∷◌, [], ℕ, length, take, drop, EachIndex, slice_get, slice_index_or, IfOk, Some};
+ghost use Rattle.std.specs.Option.{option_map};
+ghost use Rattle.fx_frame.specs.Line.{empty, pushed, pushed_out, channel_of, IsShaped};
+
+use circular_buffer::HeapCircularBuffer;
+use std::alloc::{AllocError, Global};
+use std::marker::Model;
+
+/// The latest frames, up to a capacity. A frame goes in and out as its samples.
+#[derive(Drop)]
+pub(crate) struct Ring<T: Copy> {
+    /// The frames one after another, in exactly `channels` times `capacity` places.
+    samples: HeapCircularBuffer<T>,
+    /// How many samples each frame has.
+    channels: usize,
+    /// How many frames there may be.
+    capacity: usize,
+    /// How many frames there are.
+    len: usize,
+}
+
+impl<T: Copy> Model for Ring<T> {
+    ghost use Rattle.fx_frame.specs.Line.{Frames, pieces, frames_code, IsRing};
+
+    ghost Value = { Frames T };
+
+    ghost coded = { frames_code T.code };
+
+    ghost view = { λ r. record { items = pieces r.channels r.len r.samples.items; capacity = r.capacity; channels = r.channels } };
+
+    ghost invariant = { λ r. IsRing r.channels r.capacity r.len r.samples };
+}
+
+impl<T: Copy> Ring<T> {
+    pub(crate) fn new(alloc: Global, channels: usize, capacity: usize) -> Result<Self, AllocError>
+        requires channels { (1 ≤ channels) × (channels ≤ 16) }
+        requires capacity { capacity ≤ 2 ^ 28 }
+        ensures { IfOk result (λ r. r ≡ empty channels capacity) }
+    {
+        Ok(Ring {
+            samples: HeapCircularBuffer::with_capacity(alloc, capacity * channels)?,
+            channels,
+            capacity,
+            len: 0,
+        })
+    }
+
+    /// How many frames there are.
+    #[inline(always)]
+    pub(crate) fn len(&self) -> usize
+        ensures len { result ≡ length self.now.items }
+        ensures shape { IsShaped self.now }
+    {
+        self.len
+    }
+
+    /// How many frames there may be.
+    #[inline(always)]
+    pub(crate) fn capacity(&self) -> usize
+        ensures capacity { result ≡ self.now.capacity }
+        ensures shape { IsShaped self.now }
+    {
+        self.capacity
+    }
+
+    /// How many samples each frame has.
+    #[inline(always)]
+    pub(crate) fn channels(&self) -> usize
+        ensures channels { result ≡ self.now.channels }
+        ensures shape { IsShaped self.now }
+    {
+        self.channels
+    }
+
+    /// Adds a frame of one sample. The oldest goes where there is no room.
+    #[inline(always)]
+    pub(crate) fn push_one(&mut self, sample: T) -> Option<T>
+        requires { self.old.channels ≡ 1 }
+        ensures items { self.new.items ≡ pushed self.old (sample ∷ []) }
+        ensures capacity { self.new.capacity ≡ self.old.capacity }
+        ensures channels { self.new.channels ≡ self.old.channels }
+        ensures oldest { option_map (λ x. x ∷ []) result ≡ pushed_out self.old (sample ∷ []) }
+    {
+        self.len = (self.len + 1).min(self.capacity);
+        self.samples.push_back(sample)
+    }
+
+    /// Adds a frame of two samples. The oldest goes where there is no room.
+    #[inline(always)]
+    pub(crate) fn push_two(&mut self, first: T, second: T) -> Option<(T, T)>
+        requires { self.old.channels ≡ 2 }
+        ensures items { self.new.items ≡ pushed self.old (first ∷ second ∷ []) }
+        ensures capacity { self.new.capacity ≡ self.old.capacity }
+        ensures channels { self.new.channels ≡ self.old.channels }
+        ensures oldest { option_map (λ p. p.0 ∷ p.1 ∷ []) result ≡ pushed_out self.old (first ∷ second ∷ []) }
+    {
+        self.len = (self.len + 1).min(self.capacity);
+        let first_out = self.samples.push_back(first);
+        let second_out = self.samples.push_back(second);
+        first_out.zip(second_out)
+    }
+
+    /// Adds a frame. The oldest goes where there is no room.
+    pub(crate) fn push(&mut self, frame: &[T])
+        requires { length frame.now ≡ self.old.channels }
+        ensures items { self.new.items ≡ pushed self.old frame.now }
+        ensures capacity { self.new.capacity ≡ self.old.capacity }
+        ensures channels { self.new.channels ≡ self.old.channels }
+    {
+        self.len = (self.len + 1).min(self.capacity);
+        self.samples.extend_from_slice(frame);
+    }
+
+    /// Takes the oldest frame away, if there is one.
+    pub(crate) fn drop_front(&mut self)
+        ensures items { self.new.items ≡ drop 1 self.old.items }
+        ensures capacity { self.new.capacity ≡ self.old.capacity }
+        ensures channels { self.new.channels ≡ self.old.channels }
+    {
+        self.len = self.len.saturating_sub(1);
+        self.samples.truncate_front(self.len * self.channels);
+    }
+
+    /// One sample of one frame, counted from the oldest.
+    #[inline(always)]
+    pub(crate) fn sample(&self, place: usize, channel: usize) -> T
+        requires place { place < length self.now.items }
+        requires channel { channel < self.now.channels }
+        ensures { (d : T) → result ≡ slice_index_or (slice_index_or self.now.items place []) channel d }
+    {
+        match self.samples.get(place * self.channels + channel) {
+            Some(sample) => *sample,
+            None => unreachable!(),
+        }
+    }
+
+    /// Copies one frame, counted from the oldest.
+    pub(crate) fn frame_into(&self, place: usize, out: &mut [T])
+        requires place { place < length self.now.items }
+        requires len { length out.old ≡ self.now.channels }
+        ensures { slice_get self.now.items place ≡ Some out.new }
+    {
+        let (front, back) = self.samples.as_slices();
+        copy_part(front, back, place * self.channels, out);
+    }
+
+    /// Copies one channel of every frame, the oldest first.
+    pub(crate) fn channel_into(&self, channel: usize, out: &mut [T])
+        requires channel { channel < self.now.channels }
+        requires len { length out.old ≡ length self.now.items }
+        ensures { (d : T) → out.new ≡ channel_of self.now.items channel d }
+    {
+        let (front, back) = self.samples.as_slices();
+        match self.channels {
+            1 => copy_part(front, back, 0, out),
+            2 => copy_channel(front, back, channel, 2, out),
+            channels => copy_channel(front, back, channel, channels, out),
+        }
+    }
+}
+
+/// Copies the part of the joined slices that begins at `start`.
+fn copy_part<T: Copy>(front: &[T], back: &[T], start: usize, out: &mut [T])
+    requires within { start + length out.old ≤ length (front.now ++ back.now) }
+    requires small { length (front.now ++ back.now) < 2 ^ 63 }
+    ensures { out.new ≡ take (length out.old) (drop start (front.now ++ back.now)) }
+{
+    let end = start + out.len();
+    let seam = front.len();
+    if end <= seam {
+        out.copy_from_slice(&front[start..end]);
+    } else if start >= seam {
+        out.copy_from_slice(&back[start - seam..end - seam]);
+    } else {
+        out[..seam - start].copy_from_slice(&front[start..]);
+        out[seam - start..].copy_from_slice(&back[..end - seam]);
+    }
+}
+
+/// Copies the samples of the joined slices that stand `step` places apart, from the place `from` on.
+#[inline(always)]
+fn copy_channel<T: Copy>(front: &[T], back: &[T], from: usize, step: usize, out: &mut [T])
+    requires within { (k : ℕ) → k < length out.old → from + k * step < length (front.now ++ back.now) }
+    requires small { length (front.now ++ back.now) < 2 ^ 62 }
+    requires step { (from < step) × (step ≤ 16) }
+    ensures { EachIndex out.new (λ k. (d : T) → slice_index_or out.new k d ≡ slice_index_or (front.now ++ back.now) (from + k * step) d) }
+{
+    let seam = front.len();
+    let in_front = seam.saturating_sub(from).div_ceil(step).min(out.len());
+    let past = (from + in_front * step).saturating_sub(seam);
+    copy_every(front, from, step, &mut out[..in_front]);
+    copy_every(back, past, step, &mut out[in_front..]);
+}
+
+/// Copies the samples that stand `step` places apart, from the place `from` on.
+#[inline(always)]
+fn copy_every<T: Copy>(source: &[T], from: usize, step: usize, out: &mut [T])
+    requires { (k : ℕ) → k < length out.old → from + k * step < length source.now }
+    ensures { EachIndex out.new (λ k. (d : T) → slice_index_or out.new k d ≡ slice_index_or source.now (from + k * step) d) }
+{
+    for (k, place) in out.iter_mut().enumerate() {
+        *place = source[from + k * step];
+    }
+}
