@@ -1,6 +1,5 @@
 pub mod Lists
 pub mod Opening
 pub mod Upsample
-pub mod Line
 pub mod Delay
 pub mod Trial

@@ -1,13 +1,13 @@
 ghost use Rattle.std.specs.Prelude.{◌≡◌, ◌<◌, ◌≤◌, ◌+◌, ◌*◌, ◌/◌, ◌^◌, ◌++◌, ◌∷◌, [], ℕ, List, length, slice_index_or, pos, false, true, IfOk, MatchResult, ◌↔◌, Some, slice_get};
-ghost use Rattle.fx_frame.specs.Frame.{Samples};
+ghost use Rattle.fx_frame.specs.Frame.{IsFrame};
 ghost use Rattle.fx_frame.specs.Stage.{IsNew};
 ghost use Rattle.fx_trial.specs.Delay.{DelayState, IsDelay};
 ghost use Rattle.fx_trial.specs.Delay.{longest, sample_before, delayed_at, delayed};
 ghost use Rattle.fx_trial.specs.Delay.{delay_acts};
 
-use crate::line::Line;
 use fx_frame::frame::Frame;
 use fx_frame::inner::frame_of;
+use fx_frame::line::Line;
 use fx_frame::stage::Stage;
 use fx_frame::wide::WideFrame;
 use std::alloc::{AllocError, Global};
@@ -62,13 +62,16 @@ fn sample(line: &Line, frame: Frame, delay: usize, channel: usize) -> i32
 /// The frame whose channels are delayed.
 fn delayed_frame(line: &Line, delays: &[usize], frame: Frame) -> Frame
     requires { (1 ≤ length delays.now) × (length delays.now ≤ 16) }
-    ensures { result ≡ delayed_at delays.now (line.now.items ++ frame ∷ []) (length line.now.items) }
+    ensures value { result ≡ delayed_at delays.now (line.now.items ++ frame ∷ []) (length line.now.items) }
+    ensures frame { IsFrame result × (length result ≡ length delays.now) }
 {
     let mut samples = [0; 16];
     'channels: for channel in 0..delays.len() {
         samples[channel] = sample(line, frame, delays[channel], channel);
     }
-    frame_of(delays.len(), samples)
+    let out = frame_of(delays.len(), samples);
+    let _channels = out.channels();
+    out
 }
 
 /// The longest of the delays.
@@ -88,7 +91,7 @@ impl Delay {
         requires { (1 ≤ length delays.items) × (length delays.items ≤ 16) × (longest delays.items ≤ 2 ^ 28) }
         ensures { IfOk result (IsNew delay_acts delays.items) }
     {
-        let line = Line::new(alloc, longest_of(&delays))?;
+        let line = Line::new(alloc, delays.len(), longest_of(&delays))?;
         Ok(Delay {
             delays,
             line,
@@ -115,6 +118,7 @@ impl Stage for Delay {
     fn take(&mut self, frame: Frame) {
         let out = delayed_frame(&self.line, &self.delays, frame);
         self.line.push(frame);
+        let _held = self.line.len();
         self.hand = Some(out);
         self.taken += 1;
     }
@@ -136,6 +140,7 @@ impl Stage for Delay {
         let quiet = Frame::silence(self.delays.len());
         let out = delayed_frame(&self.line, &self.delays, quiet);
         self.line.push(quiet);
+        let _held = self.line.len();
         self.tail -= 1;
         self.given += 1;
         Some(out)

@@ -2,7 +2,6 @@
 #![tactic(auto)]
 
 pub mod delay;
-pub mod line;
 pub mod opening;
 pub mod trial;
 pub mod upsample;
