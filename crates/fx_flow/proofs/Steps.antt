@@ -106,7 +106,7 @@ module _ {S R : Type 0} (acts : Acts S R) (rises : (r : R) (m n : ℕ) → m ≤
   pub CanFeed-sound : (f : Parts S) (frame : Samples) → IsSound acts f → AllSettled acts f.stages → f.inlet ≡ Some frame → CanFeed acts frame f.stages
   CanFeed-sound f frame sound dry e =
       let few : f.left < 2 ^ 40 = let h = rw e at sound.few in omega arith in
-      CanFeed-from acts rises frame f.stages f.left f.ended f.channels (2 ^ 40) dry (not_closed f frame sound e) sound.joined sound.planned.matching sound.planned.within few (sound.inlet frame e)
+      CanFeed-from acts rises frame f.stages f.left f.ended f.channels (2 ^ 40) dry (not_closed f frame sound e) sound.joined sound.planned.matching sound.planned.within few (sound.inlet frame e).1
 
   pub IsSound-feed : (f : Parts S) (frame : Samples) (out : Option Samples) (stages : List S) → IsSound acts f → AllSettled acts f.stages → f.inlet ≡ Some frame → Fed acts frame out f.stages stages → IsSound acts (after_feed f stages)
   IsSound-feed f frame out stages sound dry e h =

@@ -113,6 +113,7 @@ impl<S: Stage> Flow<S> {
         requires few { taken_of self.old < most_frames }
         ensures { self.new ≡ record self.old { inlet = Some frame } }
     {
+        let _channels = frame.channels();
         self.inlet = Some(frame);
     }
 

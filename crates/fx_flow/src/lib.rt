@@ -2,4 +2,5 @@
 #![tactic(auto)]
 
 pub mod flow;
+mod frozen;
 mod moves;

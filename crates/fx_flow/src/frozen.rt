@@ -1,0 +1,59 @@
+ghost use Rattle.std.specs.Prelude.{◌≡◌, ◌<◌, ◌≤◌, ◌+◌, ◌++◌, ◌↔◌, ℕ, true, List, length, take, IfOk, OnOk, Err};
+ghost use Rattle.std.specs.List.{All};
+ghost use Rattle.fx_frame.specs.Frame.{Samples};
+ghost use Rattle.fx_frame.specs.Stage.{Acts};
+ghost use Rattle.fx_flow.specs.Parts.{Joined};
+ghost use Rattle.fx_flow.specs.Frozen.{stored_all, numbers_all, AllMade, AllSound};
+
+use fx_frame::stage::{Stage, ThawFault, Thaws};
+use fx_frame::wide::WideFrame;
+use std::alloc::{AllocError, Global};
+
+/// Appends the numbers of all stages, eight for each.
+pub fn append_numbers<S: Stage>(stages: &[S], out: &mut Vec<u64>) -> Result<(), AllocError>
+    ensures numbers { OnOk result (out.new.items ≡ out.old.items ++ numbers_all S.acts stages.now) }
+    ensures sound { OnOk result (AllSound S.sound stages.now) }
+{
+    'stages: for stage in stages {
+        out.extend_from_slice(&stage.counters())?;
+    }
+    Ok(())
+}
+
+/// Appends the frames that all stages store.
+pub fn append_frames<S: Stage>(stages: &[S], out: &mut Vec<WideFrame>) -> Result<(), AllocError>
+    ensures { OnOk result (out.new.items ≡ out.old.items ++ stored_all S.acts stages.now) }
+{
+    'stages: for stage in stages {
+        append_stored(stage, out)?;
+    }
+    Ok(())
+}
+
+/// Appends the frames that a stage stores.
+fn append_stored<S: Stage>(stage: &S, out: &mut Vec<WideFrame>) -> Result<(), AllocError>
+    ensures { OnOk result (out.new.items ≡ out.old.items ++ S.acts.stored stage.now) }
+{
+    'places: for j in 0..stage.held() as usize {
+        out.push(stage.stored(j))?;
+    }
+    Ok(())
+}
+
+/// Has each stage taken what the one before gave, and is it ended only where that is ended and dry?
+pub fn is_joined<S: Stage>(stages: &[S], left: u64, ended: bool) -> bool
+    ensures { result ≡ true ↔ Joined S.acts left ended stages.now }
+{
+    let mut given = left;
+    let mut over = ended;
+    'stages: for stage in stages {
+        let numbers = stage.counters();
+        let stopped = stage.is_ended();
+        if numbers[0] != given || (stopped && !over) {
+            return false;
+        }
+        given = numbers[1];
+        over = stopped && stage.is_dry();
+    }
+    true
+}
