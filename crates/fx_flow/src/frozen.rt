@@ -1,4 +1,4 @@
-ghost use Rattle.std.specs.Prelude.{◌≡◌, ◌<◌, ◌≤◌, ◌+◌, ◌++◌, ◌↔◌, ℕ, true, List, length, take, IfOk, OnOk, Err};
+ghost use Rattle.std.specs.Prelude.{◌≡◌, ◌<◌, ◌≤◌, ◌+◌, ◌++◌, ◌↔◌, ℕ, true, List, length, take, IfOk, OnOk, Err, MatchResult, drop};
 ghost use Rattle.std.specs.List.{All};
 ghost use Rattle.fx_frame.specs.Frame.{Samples};
 ghost use Rattle.fx_frame.specs.Stage.{Acts};
@@ -56,4 +56,47 @@ pub fn is_joined<S: Stage>(stages: &[S], left: u64, ended: bool) -> bool
         over = stopped && stage.is_dry();
     }
     true
+}
+
+/// The stages of these arguments that stored these frames and counted these numbers. BadSnapshot where
+/// there are none, Memory where a growth was refused.
+pub fn thaw_all<S: Thaws + Drop>(
+    alloc: Global,
+    arguments: &[S::Arguments],
+    frames: &[WideFrame],
+    numbers: &[u64],
+) -> Result<Vec<S>, ThawFault>
+    requires { All S.fits arguments.now }
+    ensures made { IfOk result (λ ts. AllMade S.made arguments.now ts.items) }
+    ensures stored { IfOk result (λ ts. frames.now ≡ stored_all S.acts ts.items) }
+    ensures counted { IfOk result (λ ts. numbers.now ≡ numbers_all S.acts ts.items) }
+    ensures named { (result ≡ Err ThawFault.WrongPlan) → ⊥ }
+    ensures thawed { (stages : List S) → AllSound S.sound stages → AllMade S.made arguments.now stages → frames.now ≡ stored_all S.acts stages → numbers.now ≡ numbers_all S.acts stages → MatchResult result (λ ts. ts.items ≡ stages) (λ e. e ≡ ThawFault.Memory) }
+{
+    let mut out = Vec::new(alloc);
+    let mut later = frames;
+    let mut rest = numbers;
+    'arguments: for argument in arguments {
+        let Some((own, after)) = rest.split_first_chunk::<8>() else {
+            return Err(ThawFault::BadSnapshot);
+        };
+        let held = own[4];
+        if held > later.len() as u64 {
+            return Err(ThawFault::BadSnapshot);
+        }
+        let (mine, others) = later.split_at(held as usize);
+        let stage = match S::thaw(alloc, argument, mine, own) {
+            Ok(stage) => stage,
+            Err(fault) => return Err(fault),
+        };
+        let Ok(()) = out.push(stage) else {
+            return Err(ThawFault::Memory);
+        };
+        later = others;
+        rest = after;
+    }
+    if !later.is_empty() || !rest.is_empty() {
+        return Err(ThawFault::BadSnapshot);
+    }
+    Ok(out)
 }
