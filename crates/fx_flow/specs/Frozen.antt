@@ -1,13 +1,13 @@
 -- What a flow stores and counts (this project's profile): the frame of the inlet, then what each stage stores; eight
 -- numbers of the inlet, then eight of each stage.
-use Rattle.std.specs.Prelude.{ℕ, List, [], ◌∷◌, ◌++◌, ◌≡◌, cond, length, option_to_list}
+use Rattle.std.specs.Prelude.{ℕ, ◌+◌, Bool, Option, List, [], ◌∷◌, ◌++◌, ◌≡◌, cond, length, option_to_list}
 use Rattle.fx_frame.specs.Frame.{Samples}
 use Rattle.fx_frame.specs.Stage.{Acts, numbers_of}
-use Rattle.fx_flow.specs.Parts.{Parts, taken_of}
+use Rattle.fx_flow.specs.Parts.{Parts}
 
--- the frames taken, the frames handed on, 1 after the end and else 0, and the frames stored
-abbrev pub inlet_numbers : {S : Type 0} → Parts S → List ℕ
-inlet_numbers f = taken_of f ∷ f.left ∷ cond f.ended 1 0 ∷ 0 ∷ length (option_to_list f.inlet) ∷ 0 ∷ 0 ∷ 0 ∷ []
+-- of an inlet: the frames taken, the frames handed on, 1 after the end and else 0, and the frames stored
+abbrev pub inlet_numbers : ℕ → Option Samples → Bool → List ℕ
+inlet_numbers left frame ended = (left + length (option_to_list frame)) ∷ left ∷ cond ended 1 0 ∷ 0 ∷ length (option_to_list frame) ∷ 0 ∷ 0 ∷ 0 ∷ []
 
 module _ {S R : Type 0} (acts : Acts S R) where
   -- the frames that the stages store, one stage after the other
@@ -23,7 +23,7 @@ module _ {S R : Type 0} (acts : Acts S R) where
   -- these are the frames and numbers of a flow
   pub record FreezesFlow (f : Parts S) (frames : List Samples) (numbers : List ℕ) : Type 0 where
     pub stored : frames ≡ option_to_list f.inlet ++ stored_all f.stages
-    pub counted : numbers ≡ inlet_numbers f ++ numbers_all f.stages
+    pub counted : numbers ≡ inlet_numbers f.left f.inlet f.ended ++ numbers_all f.stages
 
 -- each stage was made with its arguments
 abbrev pub AllMade : {A S : Type 0} → (A → S → Type 0) → List A → List S → Type 0

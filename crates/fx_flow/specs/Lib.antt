@@ -4,3 +4,4 @@ pub mod Sound
 pub mod Steps
 pub mod Frozen
 pub mod Thawing
+pub mod Inlets

@@ -1,13 +1,23 @@
-ghost use Rattle.std.specs.Prelude.{◌≡◌, ◌<◌, ◌≤◌, ◌↔◌, ◌+◌, ◌^◌, ◌++◌, ℕ, Bool, true, false, List, [], ◌∷◌, length, map, slice_index, option_to_list, Option, Some, None};
+ghost use Rattle.std.specs.Prelude.{◌≡◌, ◌<◌, ◌≤◌, ◌↔◌, ◌+◌, ◌^◌, ◌++◌, ℕ, Bool, true, false, List, [], ◌∷◌, length, map, slice_index, option_to_list, Option, Some, None, IfOk, OnOk, MatchResult, Err, ◌*◌};
+ghost use Rattle.std.specs.List.{All};
+ghost use Rattle.fx_flow.specs.Frozen.{FreezesFlow, AllMade, AllSound};
 ghost use Rattle.fx_frame.specs.Frame.{Samples};
 ghost use Rattle.fx_frame.specs.Holds.{recipes, kinds, hold_sum, line_sum, held_sum, capacity_sum, total};
 ghost use Rattle.fx_flow.specs.Steps.{step_of};
 
+use crate::frozen::{
+    Inlet, append_frames, append_inlet, append_numbers, is_joined, thaw_all, thaw_inlet,
+};
 use crate::moves::{first_open, given_by_all, is_any_spent, is_still, move_on, pass_on, wet_end};
 use fx_frame::frame::Frame;
 use fx_frame::holds::{held_by, hold_by};
-use fx_frame::stage::Stage;
+use fx_frame::stage::{Stage, ThawFault, Thaws};
+use fx_frame::wide::WideFrame;
+use std::alloc::{AllocError, Global};
 use std::marker::Model;
+
+/// The most frames that a flow takes.
+pub const MOST_FRAMES: u64 = 1 << 40;
 
 /// What a flow waits for.
 #[derive(Clone, Copy, Debug, PartialEq, Eq)]
@@ -198,6 +208,34 @@ impl<S: Stage> Flow<S> {
         is_any_spent(&self.stages)
     }
 
+    /// The frames that it holds, first that of the inlet, then those of each stage; and eight numbers of the
+    /// inlet and eight of each stage.
+    pub fn freeze(&self, alloc: Global) -> Result<(Vec<WideFrame>, Vec<u64>), AllocError>
+        ensures frozen { IfOk result (λ p. FreezesFlow S.acts self.now p.0.items p.1.items) }
+        ensures frames { IfOk result (λ p. length p.0.items ≡ length (option_to_list self.now.inlet) + held_sum S.acts self.now.stages) }
+        ensures numbers { IfOk result (λ p. length p.1.items ≡ 8 * (length self.now.stages + 1)) }
+        ensures sound { OnOk result (IsSound S.acts self.now × AllSound S.sound self.now.stages) }
+    {
+        let held = u64::from(self.inlet.is_some());
+        let own = [
+            self.taken(),
+            self.left,
+            u64::from(self.ended),
+            0,
+            held,
+            0,
+            0,
+            0,
+        ];
+        let mut numbers = Vec::new(alloc);
+        numbers.extend_from_slice(&own)?;
+        append_numbers(&self.stages, &mut numbers)?;
+        let mut frames = Vec::new(alloc);
+        append_inlet(&self.inlet, &mut frames)?;
+        append_frames(&self.stages, &mut frames)?;
+        Ok((frames, numbers))
+    }
+
     /// The stages, in order.
     pub fn stages(&self) -> &[S]
         ensures value { result.now ≡ self.now.stages }
@@ -211,6 +249,59 @@ impl<S: Stage> Flow<S> {
         ensures { result ≡ self.now.inlet }
     {
         self.inlet
+    }
+}
+
+impl<S: Thaws + Drop> Flow<S> {
+    ghost use Rattle.fx_flow.specs.Parts.{Parts};
+    ghost use Rattle.fx_flow.specs.Sound.{IsPlanned, IsSound};
+
+    /// The flow of stages of these arguments, which takes frames of so many channels, that held these
+    /// frames and counted these numbers: whichever it was comes back, unless memory is wanting.
+    /// BadSnapshot where there is none, Memory where a growth was refused.
+    pub fn thaw(
+        alloc: Global,
+        arguments: &[S::Arguments],
+        channels: usize,
+        frames: &[WideFrame],
+        numbers: &[u64],
+    ) -> Result<Flow<S>, ThawFault>
+        requires fits { All S.fits arguments.now }
+        requires planned { (stages : List S) → AllMade S.made arguments.now stages → IsPlanned (kinds S.acts stages) channels }
+        ensures made { IfOk result (λ t. AllMade S.made arguments.now t.stages × (t.channels ≡ channels)) }
+        ensures frozen { IfOk result (λ t. FreezesFlow S.acts t frames.now numbers.now) }
+        ensures named { (result ≡ Err ThawFault.WrongPlan) → ⊥ }
+        ensures thawed { (f : Parts S) → IsSound S.acts f → AllSound S.sound f.stages → AllMade S.made arguments.now f.stages → f.channels ≡ channels → FreezesFlow S.acts f frames.now numbers.now → MatchResult result (λ t. t ≡ f) (λ e. e ≡ ThawFault.Memory) }
+    {
+        let Some((own, rest)) = numbers.split_first_chunk::<8>() else {
+            return Err(ThawFault::BadSnapshot);
+        };
+        let held = own[4];
+        if held > frames.len() as u64 {
+            return Err(ThawFault::BadSnapshot);
+        }
+        let (first, later) = frames.split_at(held as usize);
+        let inlet = match thaw_inlet(first, own, channels) {
+            Ok(inlet) => inlet,
+            Err(fault) => return Err(fault),
+        };
+        let stages = match thaw_all(alloc, arguments, later, rest) {
+            Ok(stages) => stages,
+            Err(fault) => return Err(fault),
+        };
+        let Inlet { frame, left, ended } = inlet;
+        if !is_joined(&stages, left, ended) {
+            return Err(ThawFault::BadSnapshot);
+        }
+        let wet = wet_end(&stages, stages.len());
+        Ok(Flow {
+            stages,
+            inlet: frame,
+            wet,
+            left,
+            channels,
+            ended,
+        })
     }
 }
 

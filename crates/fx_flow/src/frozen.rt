@@ -1,10 +1,15 @@
-ghost use Rattle.std.specs.Prelude.{◌≡◌, ◌<◌, ◌≤◌, ◌+◌, ◌++◌, ◌↔◌, ℕ, true, List, length, take, IfOk, OnOk, Err, MatchResult, drop};
+ghost use Rattle.std.specs.Prelude.{◌≡◌, ◌<◌, ◌≤◌, ◌+◌, ◌++◌, ◌↔◌, ℕ, true, List, length, take, IfOk, OnOk, Err, MatchResult, drop, IfErr, option_to_list};
 ghost use Rattle.std.specs.List.{All};
 ghost use Rattle.fx_frame.specs.Frame.{Samples};
 ghost use Rattle.fx_frame.specs.Stage.{Acts};
 ghost use Rattle.fx_flow.specs.Parts.{Joined};
 ghost use Rattle.fx_flow.specs.Frozen.{stored_all, numbers_all, AllMade, AllSound};
+ghost use Rattle.fx_flow.specs.Inlets.{IsInlet};
+ghost use Rattle.fx_flow.specs.declared.frozen.Inlet.{Inlet};
 
+use crate::flow::MOST_FRAMES;
+use fx_frame::frame::Frame;
+use fx_frame::frozen::thawed_hand;
 use fx_frame::stage::{Stage, ThawFault, Thaws};
 use fx_frame::wide::WideFrame;
 use std::alloc::{AllocError, Global};
@@ -38,6 +43,54 @@ fn append_stored<S: Stage>(stage: &S, out: &mut Vec<WideFrame>) -> Result<(), Al
         out.push(stage.stored(j))?;
     }
     Ok(())
+}
+
+/// Appends the frame of an inlet, if there is one.
+pub fn append_inlet(inlet: &Option<Frame>, out: &mut Vec<WideFrame>) -> Result<(), AllocError>
+    ensures { OnOk result (out.new.items ≡ out.old.items ++ option_to_list inlet.now) }
+{
+    if let Some(frame) = *inlet {
+        out.push(WideFrame::from_frame(frame))?;
+    }
+    Ok(())
+}
+
+/// What an inlet stores and counts.
+#[derive(Drop)]
+pub struct Inlet {
+    pub frame: Option<Frame>,
+    /// The frames that left it.
+    pub left: u64,
+    /// The end was given.
+    pub ended: bool,
+}
+
+/// The inlet of so many channels that stored these frames and counted these numbers. BadSnapshot where
+/// there is none.
+pub fn thaw_inlet(
+    frames: &[WideFrame],
+    numbers: &[u64; 8],
+    channels: usize,
+) -> Result<Inlet, ThawFault>
+    ensures found { IfOk result (IsInlet channels frames.now numbers.now) }
+    ensures refused { IfErr result (λ e. (e ≡ ThawFault.BadSnapshot) × ((i : Inlet) → IsInlet channels frames.now numbers.now i → ⊥)) }
+{
+    let [taken, left, ended, fourth, held, sixth, seventh, eighth] = *numbers;
+    if fourth != 0 || sixth != 0 || seventh != 0 || eighth != 0 {
+        return Err(ThawFault::BadSnapshot);
+    }
+    if held != frames.len() as u64 || taken > MOST_FRAMES || left > taken || taken - left != held {
+        return Err(ThawFault::BadSnapshot);
+    }
+    if ended > 1 || (ended == 1 && held != 0) {
+        return Err(ThawFault::BadSnapshot);
+    }
+    let frame = thawed_hand(frames, channels)?;
+    Ok(Inlet {
+        frame,
+        left,
+        ended: ended == 1,
+    })
 }
 
 /// Has each stage taken what the one before gave, and is it ended only where that is ended and dry?

@@ -24,5 +24,5 @@ arguments-preserved g c =
       stored = stored-more g.S.Stage.acts c.arguments.out.items c.in-Ok.stage c.args.frames.now c.arguments.later.now c.split_at.result.0.now c.split_at.result.1.now c.arguments.invariant.stored later-is frozen.stored;
       counted = numbers-more g.S.Stage.acts c.arguments.out.items c.in-Ok.stage c.args.numbers.now c.arguments.rest.now c.in-Some.own.now c.in-Some.after.now c.arguments.invariant.counted rest-is frozen.counted;
       thaws = ThawsOn-step g.S.Stage.acts g.S.Stage.sound g.S.Thaws.made c.arguments.out.items c.argument-item.result (drop (c.arguments.argument-index + 1) c.args.arguments.now) c.arguments.later.now c.split_at.result.0.now c.split_at.result.1.now c.arguments.rest.now c.in-Some.own.now c.in-Some.after.now c.in-Ok.stage
-      own-is after-is mine-is others-is (λ s k m f. search rules) c.args.arguments.now c.args.frames.now c.args.numbers.now (rw k at c.arguments.invariant.thaws);
+          own-is after-is mine-is others-is (λ s k m f. search rules) c.args.arguments.now c.args.frames.now c.args.numbers.now (rw k at c.arguments.invariant.thaws);
     })
