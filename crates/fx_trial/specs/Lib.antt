@@ -3,3 +3,4 @@ pub mod Opening
 pub mod Upsample
 pub mod Delay
 pub mod Trial
+pub mod Run

@@ -3,5 +3,9 @@
 
 pub mod delay;
 pub mod opening;
+pub mod run;
 pub mod trial;
 pub mod upsample;
+
+#[cfg(test)]
+mod tests;

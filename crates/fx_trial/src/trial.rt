@@ -4,6 +4,7 @@ use crate::upsample::Upsample;
 use fx_frame::frame::Frame;
 use fx_frame::stage::Stage;
 use fx_frame::wide::WideFrame;
+use std::alloc::{AllocError, Global};
 
 /// A stage of a row.
 #[derive(Drop)]
@@ -11,6 +12,37 @@ pub enum Trial {
     Opened(Opening),
     Upsampled(Upsample),
     Delayed(Delay),
+}
+
+impl Trial {
+    ghost use Rattle.std.specs.Prelude.{◌≤◌, ◌^◌, length, IfOk};
+    ghost use Rattle.fx_frame.specs.Stage.{IsNew};
+    ghost use Rattle.fx_trial.specs.Delay.{longest};
+    ghost use Rattle.fx_trial.specs.Trial.{Opens, Upsamples, Delays, trial_acts};
+
+    /// The first `count` frames.
+    pub fn opening(channels: usize, count: u64) -> Trial
+        requires { (1 ≤ channels) × (channels ≤ 16) }
+        ensures { IsNew trial_acts (Opens (record { channels = channels; count = count })) result }
+    {
+        Trial::Opened(Opening::new(channels, count))
+    }
+
+    /// Each frame, followed by `factor - 1` frames of silence.
+    pub fn upsample(channels: usize, factor: u64) -> Trial
+        requires { (1 ≤ channels) × (channels ≤ 16) × (1 ≤ factor) }
+        ensures { IsNew trial_acts (Upsamples (record { channels = channels; factor = factor })) result }
+    {
+        Trial::Upsampled(Upsample::new(channels, factor))
+    }
+
+    /// Each channel, delayed by its own number of frames.
+    pub fn delay(alloc: Global, delays: Vec<usize>) -> Result<Trial, AllocError>
+        requires { (1 ≤ length delays.items) × (length delays.items ≤ 16) × (longest delays.items ≤ 2 ^ 28) }
+        ensures { IfOk result (IsNew trial_acts (Delays delays.items)) }
+    {
+        Ok(Trial::Delayed(Delay::new(alloc, delays)?))
+    }
 }
 
 impl Stage for Trial {
