@@ -1,6 +1,6 @@
-ghost use Rattle.std.specs.Prelude.{◌≡◌, ◌<◌, ◌≤◌, ◌+◌, ◌*◌, ◌/◌, ◌^◌, ◌++◌, ◌∷◌, [], ℕ, List, length, slice_index_or, pos, false, true, IfOk, MatchResult, ◌↔◌, Some, slice_get};
+ghost use Rattle.std.specs.Prelude.{Err, ◌≡◌, ◌<◌, ◌≤◌, ◌+◌, ◌*◌, ◌/◌, ◌^◌, ◌++◌, ◌∷◌, [], ℕ, List, length, slice_index_or, pos, false, true, IfOk, MatchResult, ◌↔◌, Some, slice_get};
 ghost use Rattle.fx_frame.specs.Frame.{IsFrame};
-ghost use Rattle.fx_frame.specs.Stage.{IsNew};
+ghost use Rattle.fx_frame.specs.Stage.{IsNew, Freezes};
 ghost use Rattle.fx_trial.specs.Delay.{DelayState, IsDelay};
 ghost use Rattle.fx_trial.specs.Delay.{longest, sample_before, delayed_at, delayed};
 ghost use Rattle.fx_trial.specs.Delay.{delay_acts};
@@ -8,7 +8,8 @@ ghost use Rattle.fx_trial.specs.Delay.{delay_acts};
 use fx_frame::frame::Frame;
 use fx_frame::inner::frame_of;
 use fx_frame::line::Line;
-use fx_frame::stage::Stage;
+use fx_frame::frozen::thawed_line_and_hand;
+use fx_frame::stage::{Stage, ThawFault};
 use fx_frame::wide::WideFrame;
 use std::alloc::{AllocError, Global};
 use std::marker::Model;
@@ -100,6 +101,47 @@ impl Delay {
             taken: 0,
             given: 0,
             ended: false,
+        })
+    }
+
+    /// The stage that stored these frames and counted these numbers. BadSnapshot where there is none,
+    /// Memory where a growth was refused.
+    pub fn thaw(
+        alloc: Global,
+        delays: Vec<usize>,
+        frames: &[WideFrame],
+        numbers: &[u64; 8],
+    ) -> Result<Delay, ThawFault>
+        requires { (1 ≤ length delays.items) × (length delays.items ≤ 16) × (longest delays.items ≤ 2 ^ 28) }
+        ensures recipe { IfOk result (λ t. t.delays ≡ delays.items) }
+        ensures frozen { IfOk result (λ t. Freezes delay_acts t frames.now numbers.now) }
+        ensures named { (result ≡ Err ThawFault.WrongPlan) → ⊥ }
+        ensures thawed { (s : DelayState) → IsDelay s → s.delays ≡ delays.items → Freezes delay_acts s frames.now numbers.now → MatchResult result (λ t. t ≡ s) (λ e. e ≡ ThawFault.Memory) }
+    {
+        let [taken, given, ended, clips, held, tail, hands, eighth] = *numbers;
+        let longest = longest_of(&delays);
+        if ended > 1 || clips != 0 || eighth != 0 || held != frames.len() as u64 {
+            return Err(ThawFault::BadSnapshot);
+        }
+        if taken > 1 << 56 || (ended == 0 && tail != 0) {
+            return Err(ThawFault::BadSnapshot);
+        }
+        let made = taken + ended * longest as u64;
+        if given > made || hands > made - given || tail != made - given - hands {
+            return Err(ThawFault::BadSnapshot);
+        }
+        let (line, hand) = match thawed_line_and_hand(alloc, delays.len(), longest, frames, hands) {
+            Ok(stored) => stored,
+            Err(fault) => return Err(fault),
+        };
+        Ok(Delay {
+            delays,
+            line,
+            hand,
+            tail: tail as usize,
+            taken,
+            given,
+            ended: ended == 1,
         })
     }
 }
