@@ -2,7 +2,7 @@ use crate::delay::Delay;
 use crate::opening::Opening;
 use crate::upsample::Upsample;
 use fx_frame::frame::Frame;
-use fx_frame::stage::Stage;
+use fx_frame::stage::{Stage, ThawFault, Thaws};
 use fx_frame::wide::WideFrame;
 use std::alloc::{AllocError, Global};
 
@@ -157,6 +157,57 @@ impl Stage for Trial {
             Trial::Opened(stage) => stage.stored(j),
             Trial::Upsampled(stage) => stage.stored(j),
             Trial::Delayed(stage) => stage.stored(j),
+        }
+    }
+}
+
+/// What a `Trial` is made with.
+#[derive(Drop)]
+pub enum Making {
+    /// So many channels, and so many frames.
+    Opens(usize, u64),
+    /// So many channels, and a factor.
+    Upsamples(usize, u64),
+    /// The delay of each channel.
+    Delays(Vec<usize>),
+}
+
+impl Thaws for Trial {
+    ghost use Rattle.fx_trial.specs.Making.{making_of, fits_of};
+    ghost use Rattle.fx_trial.specs.Trial.{recipe_of};
+    ghost use Rattle.std.specs.Prelude.{◌≡◌};
+    ghost use Rattle.std.proofs.Common.{◌∙◌};
+
+    type Arguments = Making;
+
+    ghost fits = { fits_of };
+
+    ghost made = { λ a s. recipe_of s ≡ making_of a };
+
+    ghost made_stays = { λ a s t stays is. stays ∙ is };
+
+    fn thaw(
+        alloc: Global,
+        arguments: &Making,
+        frames: &[WideFrame],
+        numbers: &[u64; 8],
+    ) -> Result<Trial, ThawFault> {
+        match arguments {
+            Making::Opens(channels, count) => {
+                let stage = Opening::thaw(*channels, *count, frames, numbers)?;
+                Ok(Trial::Opened(stage))
+            }
+            Making::Upsamples(channels, factor) => {
+                let stage = Upsample::thaw(*channels, *factor, frames, numbers)?;
+                Ok(Trial::Upsampled(stage))
+            }
+            Making::Delays(delays) => {
+                let Ok(own) = delays.clone() else {
+                    return Err(ThawFault::Memory);
+                };
+                let stage = Delay::thaw(alloc, own, frames, numbers)?;
+                Ok(Trial::Delayed(stage))
+            }
         }
     }
 }

@@ -1,11 +1,9 @@
 ghost use Rattle.std.specs.Prelude.{◌≡◌, ◌≤◌, Ok, IfOk, IfErr};
-ghost use Rattle.std.proofs.Common.{◌∙◌};
 
 use fx_frame::frame::Frame;
 use fx_frame::frozen::thawed_hand;
-use fx_frame::stage::{Stage, ThawFault, Thaws};
+use fx_frame::stage::{Stage, ThawFault};
 use fx_frame::wide::WideFrame;
-use std::alloc::Global;
 use std::marker::Model;
 
 /// Follows each frame with silence.
@@ -85,34 +83,6 @@ impl Upsample {
             given,
             ended: ended == 1,
         })
-    }
-}
-
-/// What an `Upsample` is made with.
-#[derive(Clone, Copy)]
-pub struct Upsampling {
-    pub channels: usize,
-    pub factor: u64,
-}
-
-impl Thaws for Upsample {
-    ghost use Rattle.fx_trial.specs.Upsample.{UpsampleArguments};
-
-    type Arguments = Upsampling;
-
-    ghost fits = { λ a. (1 ≤ a.channels) × (a.channels ≤ 16) × (1 ≤ a.factor) };
-
-    ghost made = { λ a s. ◌≡◌ {A = UpsampleArguments} s.recipe (record { channels = a.channels; factor = a.factor }) };
-
-    ghost made_stays = { λ a s t stays is. stays ∙ is };
-
-    fn thaw(
-        _alloc: Global,
-        arguments: &Upsampling,
-        frames: &[WideFrame],
-        numbers: &[u64; 8],
-    ) -> Result<Upsample, ThawFault> {
-        Upsample::thaw(arguments.channels, arguments.factor, frames, numbers)
     }
 }
 
