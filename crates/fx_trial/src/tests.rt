@@ -117,6 +117,7 @@ fn whole_lists(rt: HostRuntime) -> Result<(), Fail> {
     let out = run_list(rt.alloc(), &mut flow, &[mono(5), mono(6)])?;
     assert_eq!(rt; out.as_slice(), [mono(0), mono(5), mono(0), mono(6), mono(0)].as_slice());
     assert_eq!(rt; flow.moves(), 11);
+    assert_eq!(rt; flow.stages().len(), 2);
     assert_eq!(rt; flow.clips(0), 0);
     Ok(())
 }
