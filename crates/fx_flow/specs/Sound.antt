@@ -1,5 +1,5 @@
-use Rattle.std.specs.Prelude.{ℕ, ◌+◌, ◌<◌, ◌≤◌, ◌^◌, true, List, ◌≡◌, length, Some, None}
-use Rattle.fx_frame.specs.Frame.{Samples}
+use Rattle.std.specs.Prelude.{ℕ, ◌+◌, ◌<◌, ◌≤◌, ◌^◌, true, List, ◌≡◌, None}
+use Rattle.fx_frame.specs.Frozen.{IsHand}
 use Rattle.fx_frame.specs.Stage.{Acts, Kind}
 use Rattle.fx_frame.specs.Holds.{kinds, hold_sum}
 use Rattle.fx_flow.specs.Parts.{Parts, taken_of, Matching, Within, work, Joined}
@@ -21,5 +21,5 @@ module _ {S R : Type 0} (acts : Acts S R) where
     pub planned : IsPlanned (kinds acts f.stages) f.channels
     pub joined : Joined acts f.left f.ended f.stages
     pub few : taken_of f ≤ most_frames
-    pub inlet : (x : Samples) → f.inlet ≡ Some x → length x ≡ f.channels
+    pub inlet : IsHand f.channels f.inlet
     pub closed : f.ended ≡ true → f.inlet ≡ None

@@ -58,7 +58,7 @@ module _ {S R : Type 0} (acts : Acts S R) where
     pub out : Option Samples
     pub last : IsLastWet acts place old.stages
     pub over : HandedOver acts place out old.stages new.stages
-    pub step : step ≡ step_of out
+    pub told : step ≡ step_of out
     pub others : new ≡ record old { stages = new.stages }
 
   -- where all were dry, the frame of the inlet went out or to the first stage
@@ -68,7 +68,7 @@ module _ {S R : Type 0} (acts : Acts S R) where
     pub dry : AllDry acts old.stages
     pub inlet : old.inlet ≡ Some frame
     pub fed : Fed acts frame out old.stages new.stages
-    pub step : step ≡ step_of out
+    pub told : step ≡ step_of out
     pub others : new ≡ record old { stages = new.stages; inlet = None; left = old.left + 1 }
 
   -- where all were dry and the inlet was empty, the first stage that was not ended was told the end
@@ -79,7 +79,7 @@ module _ {S R : Type 0} (acts : Acts S R) where
     pub ended : old.ended ≡ true
     pub first : IsFirstOpen acts place old.stages
     pub passed : EndPassed acts place old.stages new.stages
-    pub step : step ≡ Idle
+    pub told : step ≡ Idle
     pub others : new ≡ record old { stages = new.stages }
 
   -- one frame moved, or the end

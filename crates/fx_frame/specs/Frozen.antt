@@ -1,7 +1,22 @@
 -- What a stage stores and counts, read again. Source: this project's profile.
-use Rattle.std.specs.Prelude.{ℕ, List, Option, Some, length, option_to_list, ◌≡◌}
+use Rattle.std.specs.Prelude.{ℕ, ℤ, List, ◌++◌, Option, Some, length, option_to_list, ◌≡◌}
+use Rattle.std.specs.Int.{w32}
 use Rattle.fx_frame.specs.Frame.{Samples, IsFrame}
+use Rattle.fx_frame.specs.Line.{Frames, IsLine}
 
 -- a frame in hand, if there is one, has so many channels
 abbrev pub IsHand : ℕ → Option Samples → Type 0
 IsHand channels hand = (x : Samples) → hand ≡ Some x → IsFrame x × (length x ≡ channels)
+
+-- the line of so many channels and places that holds these frames
+abbrev pub line_of : ℕ → ℕ → List Samples → Frames ℤ
+line_of channels capacity frames = record { items = frames; capacity = capacity; channels = channels }
+
+-- a stage with such a line and so many frames in hand stores these frames
+pub record IsStored (channels capacity hands : ℕ) (frames : List Samples) (line : Frames ℤ) (hand : Option Samples) : Type 0 where
+  pub lined : IsLine w32 line
+  pub channels_are : line.channels ≡ channels
+  pub capacity_is : line.capacity ≡ capacity
+  pub held : IsHand channels hand
+  pub hands_are : length (option_to_list hand) ≡ hands
+  pub stored : frames ≡ line.items ++ option_to_list hand

@@ -1,14 +1,18 @@
 //! What a stage stored, read again.
-ghost use Rattle.std.specs.Prelude.{◌≡◌, ◌↔◌, IsSome, IfSome, IfOk, IfErr, FitsSigned, Option, option_to_list};
+ghost use Rattle.std.specs.Prelude.{◌≡◌, ◌≤◌, ◌^◌, ◌↔◌, ◌⊎◌, ℤ, IsSome, IfSome, IfOk, IfErr, FitsSigned, Option, option_to_list};
 ghost use Rattle.std.specs.List.{All};
-ghost use Rattle.std.specs.Int.{w32};
+ghost use Rattle.std.specs.Int.{w32, w64};
 ghost use Rattle.fx_frame.specs.Frame.{Samples};
-ghost use Rattle.fx_frame.specs.Frozen.{IsHand};
+ghost use Rattle.fx_frame.specs.Line.{Frames, IsLine};
+ghost use Rattle.fx_frame.specs.Frozen.{IsHand, IsStored, line_of};
 
 use crate::frame::Frame;
 use crate::inner::frame_of;
+use crate::line::Line;
 use crate::stage::ThawFault;
 use crate::wide::WideFrame;
+use crate::wide_line::WideLine;
+use std::alloc::Global;
 
 /// The frame of the same samples; None where one of them has more than 32 bits.
 pub fn narrowed(frame: &WideFrame) -> Option<Frame>
@@ -45,4 +49,94 @@ pub fn thawed_hand(frames: &[WideFrame], channels: usize) -> Result<Option<Frame
         }
         _ => Err(ThawFault::BadSnapshot),
     }
+}
+
+/// The line of so many channels and places that holds these frames, the oldest first. BadSnapshot where
+/// there is none: too many frames, or one of other channels or of wider samples. Memory where a growth
+/// was refused.
+pub fn thawed_line(alloc: Global, channels: usize, capacity: usize, frames: &[WideFrame]) -> Result<Line, ThawFault>
+    requires channels { (1 ≤ channels) × (channels ≤ 16) }
+    requires capacity { capacity ≤ 2 ^ 28 }
+    ensures found { IfOk result (λ l. l ≡ line_of channels capacity frames.now) }
+    ensures line { IfOk result (IsLine w32) }
+    ensures refused { IfErr result (λ e. (e ≡ ThawFault.Memory) ⊎ ((e ≡ ThawFault.BadSnapshot) × (IsLine w32 (line_of channels capacity frames.now) → ⊥))) }
+{
+    if frames.len() > capacity {
+        return Err(ThawFault::BadSnapshot);
+    }
+    let Ok(mut line) = Line::new(alloc, channels, capacity) else {
+        return Err(ThawFault::Memory);
+    };
+    'frames: for frame in frames {
+        let Some(narrow) = narrowed(frame) else {
+            return Err(ThawFault::BadSnapshot);
+        };
+        if narrow.channels() != channels {
+            return Err(ThawFault::BadSnapshot);
+        }
+        line.push(narrow);
+    }
+    let _held = line.len();
+    Ok(line)
+}
+
+/// The line of so many channels and places that holds these wide frames, the oldest first. BadSnapshot
+/// where there is none: too many frames, or one of other channels. Memory where a growth was refused.
+pub fn thawed_wide_line(
+    alloc: Global,
+    channels: usize,
+    capacity: usize,
+    frames: &[WideFrame],
+) -> Result<WideLine, ThawFault>
+    requires channels { (1 ≤ channels) × (channels ≤ 16) }
+    requires capacity { capacity ≤ 2 ^ 28 }
+    ensures found { IfOk result (λ l. l ≡ line_of channels capacity frames.now) }
+    ensures line { IfOk result (IsLine w64) }
+    ensures refused { IfErr result (λ e. (e ≡ ThawFault.Memory) ⊎ ((e ≡ ThawFault.BadSnapshot) × (IsLine w64 (line_of channels capacity frames.now) → ⊥))) }
+{
+    if frames.len() > capacity {
+        return Err(ThawFault::BadSnapshot);
+    }
+    let Ok(mut line) = WideLine::new(alloc, channels, capacity) else {
+        return Err(ThawFault::Memory);
+    };
+    'frames: for frame in frames {
+        if frame.channels() != channels {
+            return Err(ThawFault::BadSnapshot);
+        }
+        line.push(*frame);
+    }
+    let _held = line.len();
+    Ok(line)
+}
+
+/// The line and the frames in hand, none or one, of a stage that stored these frames. BadSnapshot where
+/// there are none, Memory where a growth was refused.
+pub fn thawed_line_and_hand(
+    alloc: Global,
+    channels: usize,
+    capacity: usize,
+    frames: &[WideFrame],
+    hands: u64,
+) -> Result<(Line, Option<Frame>), ThawFault>
+    requires channels { (1 ≤ channels) × (channels ≤ 16) }
+    requires capacity { capacity ≤ 2 ^ 28 }
+    ensures found { IfOk result (λ p. IsStored channels capacity hands frames.now p.0 p.1) }
+    ensures only { IfOk result (λ p. (line : Frames ℤ) (hand : Option Samples) → IsStored channels capacity hands frames.now line hand → (p.0 ≡ line) × (p.1 ≡ hand)) }
+    ensures refused { IfErr result (λ e. (e ≡ ThawFault.Memory) ⊎ ((e ≡ ThawFault.BadSnapshot) × ((line : Frames ℤ) (hand : Option Samples) → IsStored channels capacity hands frames.now line hand → ⊥))) }
+{
+    let count = frames.len() as u64;
+    if hands > 1 || hands > count {
+        return Err(ThawFault::BadSnapshot);
+    }
+    let (lined, held) = frames.split_at((count - hands) as usize);
+    let hand = match thawed_hand(held, channels) {
+        Ok(hand) => hand,
+        Err(fault) => return Err(fault),
+    };
+    let line = match thawed_line(alloc, channels, capacity, lined) {
+        Ok(line) => line,
+        Err(fault) => return Err(fault),
+    };
+    Ok((line, hand))
 }

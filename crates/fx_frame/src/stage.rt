@@ -140,7 +140,4 @@ pub trait Thaws: Stage {
 
     /// What a stage was made with stays where its recipe does.
     ghost made_stays: { (a : Self.Arguments) (s t : Self) → Self.acts.recipe t ≡ Self.acts.recipe s → made a s → made a t };
-
-    /// Stages that were made with the same arguments have one recipe.
-    ghost made_alike: { (a : Self.Arguments) (s t : Self) → made a s → made a t → Self.acts.recipe s ≡ Self.acts.recipe t };
 }

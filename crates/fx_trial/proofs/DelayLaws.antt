@@ -1,7 +1,8 @@
 use Rattle.std.proofs.Common.{ℕ, ℤ, pos, zero, suc, ◌+◌, ◌-◌, ◌<◌, ◌≤◌, ◌≡◌, Bool, true, false, cond, List, [], ◌∷◌, ◌++◌, length, drop, get_or, refl, sym, ap, ◌∙◌, arith, replicate, add-zero, zero-add, append_assoc, sub-one}
 use Rattle.std.specs.Prelude.{nat_le, nat_lt, slice_index, slice_get, Option, Some, None, is_none, nat_eq, ◌&&◌, ◌^◌}
 use Prim.Native.Nat.compare
-use Rattle.fx_trial.specs.Line.{Frames, pushed}
+use Rattle.std.specs.Int.{w32}
+use Rattle.fx_frame.specs.Line.{Frames, pushed, IsLine}
 use Rattle.fx_frame.specs.Stage.{Gave, Took}
 use Rattle.fx_trial.specs.Delay.{DelayState, IsDelay}
 use borrow.Author.Tests.{ltb-true, ltb-false}
@@ -10,7 +11,7 @@ use Rattle.std.proofs.Math.Seq.{set-append_seam}
 use Rattle.std.proofs.lemmas.Option.{get_or_from_slice_get, slice_get-get_or}
 use Rattle.std.proofs.lemmas.Bool.Decides.{nat_tests}
 use Rattle.std.proofs.lemmas.List.{get_or_append_left, get_or-drop, length-append, length-drop, length-replicate, drop-append-le}
-use Rattle.fx_frame.specs.Frame.{Samples, silence}
+use Rattle.fx_frame.specs.Frame.{Samples, silence, IsFrame}
 use Rattle.fx_trial.specs.Lists.{tabulate, plain}
 use Rattle.fx_trial.specs.Delay.{longest, sample_before, delayed_at, delayed}
 use Rattle.fx_trial.specs.Delay.{behind, delay_acts}
@@ -135,15 +136,15 @@ dry-hand None tail h = refl
 dry-hand (Some x) tail h = absurd (cc)
 
 -- the state after a frame came
-abbrev pub taken_delay : DelayState → Frames → Samples → DelayState
+abbrev pub taken_delay : DelayState → Frames ℤ → Samples → DelayState
 taken_delay s line out = record s { line = line; hand = Some out; taken = s.taken + 1 }
 
-pub Took-delay : (s : DelayState) (line : Frames) (frame out : Samples) → IsDelay s → delay_acts.dry s ≡ true → s.ended ≡ false
+pub Took-delay : (s : DelayState) (line : Frames ℤ) (frame out : Samples) → IsDelay s → delay_acts.dry s ≡ true → s.ended ≡ false
     → out ≡ delayed_at s.delays (s.line.items ++ frame ∷ []) (length s.line.items) → line.items ≡ pushed s.line frame → line.capacity ≡ s.line.capacity
     → Took delay_acts s (taken_delay s line out) frame
 Took-delay s line frame out is dry running e items capacity =
     let none = dry-hand s.hand s.tail dry in
-    let held = is.held in
+    let held = is.line.within in
     let long : longest s.delays ≤ s.line.capacity = let k = is.capacity in omega arith in
     record {
       rest = λ z. rw (none, running, e, items, capacity) (sym (behind-step s.delays s.line.items (z ++ replicate s.line.capacity (silence (length s.delays))) frame s.line.capacity held long));
@@ -151,25 +152,24 @@ Took-delay s line frame out is dry running e items capacity =
       recipe_stays = refl;
     }
 
-pub IsDelay-taken : (s : DelayState) (line : Frames) (frame out : Samples) → IsDelay s → delay_acts.dry s ≡ true → s.ended ≡ false → s.taken < 2 ^ 56
-    → out ≡ delayed_at s.delays (s.line.items ++ frame ∷ []) (length s.line.items) → line.items ≡ pushed s.line frame → line.capacity ≡ s.line.capacity
+pub IsDelay-taken : (s : DelayState) (line : Frames ℤ) (frame out : Samples) → IsDelay s → delay_acts.dry s ≡ true → s.ended ≡ false → s.taken < 2 ^ 56
+    → IsLine w32 line → line.capacity ≡ s.line.capacity → line.channels ≡ s.line.channels → IsFrame out → length out ≡ length s.delays
     → IsDelay (taken_delay s line out)
-IsDelay-taken s line frame out is dry running few e items capacity =
+IsDelay-taken s line frame out is dry running few lined capacity channels framed len =
     let none = dry-hand s.hand s.tail dry in
     let counted : s.given + 0 + s.tail ≡ s.taken + 0 = rw (none, running) at is.counted in
     record {
-      channels = is.channels;
+      line = lined;
+      channels = channels ∙ is.channels;
       capacity = capacity ∙ is.capacity;
-      small = rw capacity is.small;
-      held = rw (items, capacity, length-drop) (omega arith);
       counted = rw running (omega arith);
       few = omega arith;
       not_ended = is.not_ended;
-      fits = λ x q. let same : out ≡ x = cc in rw (← same, e) (length-tabulate _ 0 (length s.delays));
+      fits = λ x q. let same : out ≡ x = cc in (rw (← same) framed, rw (← same) len);
     }
 
 -- the state after a silent frame went through the line
-abbrev pub drained_delay : DelayState → Frames → DelayState
+abbrev pub drained_delay : DelayState → Frames ℤ → DelayState
 drained_delay s line = record s { line = line; tail = s.tail - 1; given = s.given + 1 }
 
 dry-tail : (hand : Option Samples) (tail : ℕ) → 0 < tail → (is_none hand && nat_eq tail 0) ≡ false
@@ -185,12 +185,12 @@ behind-quiet : (delays : List ℕ) (items : List Samples) (quiet : Samples) (tai
 behind-quiet delays items quiet zero c some held long = absurd (omega arith)
 behind-quiet delays items quiet (suc t) c some held long = rw sub-one (behind-step delays items (replicate t quiet) quiet c held long)
 
-pub Gave-tail : (s : DelayState) (line : Frames) (quiet out : Samples) → IsDelay s → s.hand ≡ None → 0 < s.tail → quiet ≡ silence (length s.delays)
+pub Gave-tail : (s : DelayState) (line : Frames ℤ) (quiet out : Samples) → IsDelay s → s.hand ≡ None → 0 < s.tail → quiet ≡ silence (length s.delays)
     → out ≡ delayed_at s.delays (s.line.items ++ quiet ∷ []) (length s.line.items) → line.items ≡ pushed s.line quiet → line.capacity ≡ s.line.capacity
     → Gave delay_acts s (drained_delay s line) out
 Gave-tail s line quiet out is none some q e items capacity =
     let over = ended-tail s is some in
-    let held = is.held in
+    let held = is.line.within in
     let long : longest s.delays ≤ s.line.capacity = let k = is.capacity in omega arith in
     let counted : s.given + 0 + s.tail ≡ s.taken + s.line.capacity = rw (none, over) at is.counted in
     record {

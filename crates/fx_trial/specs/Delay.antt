@@ -1,7 +1,9 @@
-use Rattle.std.specs.Prelude.{ℕ, ℤ, pos, ◌+◌, ◌-◌, ◌^◌, ◌≤◌, ◌≡◌, Bool, true, false, ◌&&◌, Option, Some, None, List, [], ◌∷◌, ◌++◌, length, map, max, replicate, option_to_list, is_none, slice_index, slice_index_or, nat_le, nat_eq, cond}
+use Rattle.std.specs.Prelude.{ℕ, ℤ, pos, ◌+◌, ◌-◌, ◌^◌, ◌≤◌, ◌≡◌, Bool, false, ◌&&◌, Option, Some, None, List, [], ◌∷◌, ◌++◌, length, map, max, replicate, option_to_list, is_none, slice_index, slice_index_or, nat_le, nat_eq, cond}
 use Rattle.std.proofs.Common.{arith}
 use Rattle.fx_frame.specs.Frame.{Samples, silence}
-use Rattle.fx_trial.specs.Line.{Frames}
+use Rattle.std.specs.Int.{w32}
+use Rattle.fx_frame.specs.Line.{Frames, IsLine}
+use Rattle.fx_frame.specs.Frozen.{IsHand}
 use Rattle.fx_frame.specs.Stage.{Given, Acts}
 use Rattle.fx_trial.specs.Lists.{tabulate, plain}
 
@@ -25,7 +27,7 @@ delayed delays x = tabulate (λ n. plain (delayed_at delays x n)) 0 (length x + 
 -- what a `Delay` stores; its recipe is the list of delays
 pub record DelayState : Type 0 where
   pub delays : List ℕ
-  pub line : Frames
+  pub line : Frames ℤ
   -- the frame to be given
   pub hand : Option Samples
   -- how many frames are to be given after it
@@ -36,14 +38,13 @@ pub record DelayState : Type 0 where
 
 -- what holds of it at every moment
 pub record IsDelay (s : DelayState) : Type 0 where
-  pub channels : (1 ≤ length s.delays) × (length s.delays ≤ 16)
+  pub line : IsLine w32 s.line
+  pub channels : s.line.channels ≡ length s.delays
   pub capacity : s.line.capacity ≡ longest s.delays
-  pub small : s.line.capacity ≤ 2 ^ 28
-  pub held : length s.line.items ≤ s.line.capacity
   pub counted : s.given + length (option_to_list s.hand) + s.tail ≡ s.taken + cond s.ended s.line.capacity 0
   pub few : s.taken ≤ 2 ^ 56
   pub not_ended : s.ended ≡ false → s.tail ≡ 0
-  pub fits : (x : Samples) → s.hand ≡ Some x → length x ≡ length s.delays
+  pub fits : IsHand (length s.delays) s.hand
 
 -- what is given for frames that come behind those of the line
 abbrev pub behind : List ℕ → List Samples → List Samples → List Given

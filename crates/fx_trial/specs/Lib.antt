@@ -1,5 +1,7 @@
 pub mod Lists
 pub mod Opening
 pub mod Upsample
-pub mod Line
 pub mod Delay
+pub mod Trial
+pub mod Making
+pub mod Run

@@ -1,6 +1,7 @@
 use Rattle.std.specs.Prelude.{ℕ, ◌+◌, ◌-◌, ◌^◌, ◌≤◌, ◌≡◌, Bool, List, ◌++◌, Option, Some, length, map, min, take, option_to_list, is_none}
 use Rattle.fx_frame.specs.Frame.{Samples}
 use Rattle.fx_frame.specs.Stage.{Given, Acts, coming}
+use Rattle.fx_frame.specs.Frozen.{IsHand}
 use Rattle.fx_trial.specs.Lists.{plain}
 
 -- how many frames of a sound are kept
@@ -21,7 +22,7 @@ pub record IsOpening (s : OpeningState) : Type 0 where
   pub channels : (1 ≤ s.recipe.channels) × (s.recipe.channels ≤ 16)
   pub counted : s.given + length (option_to_list s.hand) ≡ min s.taken s.recipe.count
   pub few : s.taken ≤ 2 ^ 56
-  pub fits : (x : Samples) → s.hand ≡ Some x → length x ≡ s.recipe.channels
+  pub fits : IsHand s.recipe.channels s.hand
 
 -- the first frames of a sound
 abbrev pub opening : ℕ → List Samples → List Given

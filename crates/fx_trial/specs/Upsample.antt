@@ -1,6 +1,7 @@
-use Rattle.std.specs.Prelude.{ℕ, ◌+◌, ◌*◌, ◌/◌, ◌%◌, ◌^◌, ◌≤◌, ◌≡◌, Bool, ◌&&◌, Option, Some, None, List, [], ◌++◌, length, map, replicate, option_to_list, is_none, slice_index_or, nat_eq, cond}
+use Rattle.std.specs.Prelude.{ℕ, ◌+◌, ◌*◌, ◌/◌, ◌%◌, ◌^◌, ◌≤◌, ◌≡◌, Bool, ◌&&◌, Option, None, List, [], ◌++◌, length, map, replicate, option_to_list, is_none, slice_index_or, nat_eq, cond}
 use Rattle.fx_frame.specs.Frame.{Samples, silence}
 use Rattle.fx_frame.specs.Stage.{Given, Acts, coming}
+use Rattle.fx_frame.specs.Frozen.{IsHand}
 use Rattle.fx_trial.specs.Lists.{tabulate, plain}
 
 -- frame n of the upsampled list
@@ -33,7 +34,7 @@ pub record IsUpsample (s : UpsampleState) : Type 0 where
   pub factor : 1 ≤ s.recipe.factor
   pub counted : s.given + length (option_to_list s.hand) + s.silent ≡ s.taken * s.recipe.factor
   pub few : s.taken ≤ 2 ^ 56 / s.recipe.factor
-  pub fits : (x : Samples) → s.hand ≡ Some x → length x ≡ s.recipe.channels
+  pub fits : IsHand s.recipe.channels s.hand
 
 abbrev pub upsample_acts : Acts UpsampleState UpsampleArguments
 upsample_acts = record {

@@ -1,14 +1,15 @@
-ghost use Rattle.std.specs.Prelude.{◌≡◌, ◌<◌, ◌≤◌, ◌+◌, ◌*◌, ◌/◌, ◌^◌, ◌++◌, ◌∷◌, [], ℕ, List, length, slice_index_or, pos, false, true, IfOk, MatchResult, ◌↔◌, Some, slice_get};
-ghost use Rattle.fx_frame.specs.Frame.{Samples};
-ghost use Rattle.fx_frame.specs.Stage.{IsNew};
+ghost use Rattle.std.specs.Prelude.{Err, ◌≡◌, ◌<◌, ◌≤◌, ◌+◌, ◌*◌, ◌/◌, ◌^◌, ◌++◌, ◌∷◌, [], ℕ, List, length, slice_index_or, pos, false, true, IfOk, MatchResult, ◌↔◌, Some, slice_get};
+ghost use Rattle.fx_frame.specs.Frame.{IsFrame};
+ghost use Rattle.fx_frame.specs.Stage.{IsNew, Freezes};
 ghost use Rattle.fx_trial.specs.Delay.{DelayState, IsDelay};
 ghost use Rattle.fx_trial.specs.Delay.{longest, sample_before, delayed_at, delayed};
 ghost use Rattle.fx_trial.specs.Delay.{delay_acts};
 
 use fx_frame::frame::Frame;
 use fx_frame::inner::frame_of;
-use crate::line::Line;
-use fx_frame::stage::Stage;
+use fx_frame::line::Line;
+use fx_frame::frozen::thawed_line_and_hand;
+use fx_frame::stage::{Stage, ThawFault};
 use fx_frame::wide::WideFrame;
 use std::alloc::{AllocError, Global};
 use std::marker::Model;
@@ -62,13 +63,16 @@ fn sample(line: &Line, frame: Frame, delay: usize, channel: usize) -> i32
 /// The frame whose channels are delayed.
 fn delayed_frame(line: &Line, delays: &[usize], frame: Frame) -> Frame
     requires { (1 ≤ length delays.now) × (length delays.now ≤ 16) }
-    ensures { result ≡ delayed_at delays.now (line.now.items ++ frame ∷ []) (length line.now.items) }
+    ensures value { result ≡ delayed_at delays.now (line.now.items ++ frame ∷ []) (length line.now.items) }
+    ensures frame { IsFrame result × (length result ≡ length delays.now) }
 {
     let mut samples = [0; 16];
     'channels: for channel in 0..delays.len() {
         samples[channel] = sample(line, frame, delays[channel], channel);
     }
-    frame_of(delays.len(), samples)
+    let out = frame_of(delays.len(), samples);
+    let _channels = out.channels();
+    out
 }
 
 /// The longest of the delays.
@@ -88,7 +92,7 @@ impl Delay {
         requires { (1 ≤ length delays.items) × (length delays.items ≤ 16) × (longest delays.items ≤ 2 ^ 28) }
         ensures { IfOk result (IsNew delay_acts delays.items) }
     {
-        let line = Line::new(alloc, longest_of(&delays))?;
+        let line = Line::new(alloc, delays.len(), longest_of(&delays))?;
         Ok(Delay {
             delays,
             line,
@@ -97,6 +101,47 @@ impl Delay {
             taken: 0,
             given: 0,
             ended: false,
+        })
+    }
+
+    /// The stage that stored these frames and counted these numbers. BadSnapshot where there is none,
+    /// Memory where a growth was refused.
+    pub fn thaw(
+        alloc: Global,
+        delays: Vec<usize>,
+        frames: &[WideFrame],
+        numbers: &[u64; 8],
+    ) -> Result<Delay, ThawFault>
+        requires { (1 ≤ length delays.items) × (length delays.items ≤ 16) × (longest delays.items ≤ 2 ^ 28) }
+        ensures recipe { IfOk result (λ t. t.delays ≡ delays.items) }
+        ensures frozen { IfOk result (λ t. Freezes delay_acts t frames.now numbers.now) }
+        ensures named { (result ≡ Err ThawFault.WrongPlan) → ⊥ }
+        ensures thawed { (s : DelayState) → IsDelay s → s.delays ≡ delays.items → Freezes delay_acts s frames.now numbers.now → MatchResult result (λ t. t ≡ s) (λ e. e ≡ ThawFault.Memory) }
+    {
+        let [taken, given, ended, clips, held, tail, hands, eighth] = *numbers;
+        let longest = longest_of(&delays);
+        if ended > 1 || clips != 0 || eighth != 0 || held != frames.len() as u64 {
+            return Err(ThawFault::BadSnapshot);
+        }
+        if taken > 1 << 56 || (ended == 0 && tail != 0) {
+            return Err(ThawFault::BadSnapshot);
+        }
+        let made = taken + ended * longest as u64;
+        if given > made || hands > made - given || tail != made - given - hands {
+            return Err(ThawFault::BadSnapshot);
+        }
+        let (line, hand) = match thawed_line_and_hand(alloc, delays.len(), longest, frames, hands) {
+            Ok(stored) => stored,
+            Err(fault) => return Err(fault),
+        };
+        Ok(Delay {
+            delays,
+            line,
+            hand,
+            tail: tail as usize,
+            taken,
+            given,
+            ended: ended == 1,
         })
     }
 }
@@ -115,6 +160,7 @@ impl Stage for Delay {
     fn take(&mut self, frame: Frame) {
         let out = delayed_frame(&self.line, &self.delays, frame);
         self.line.push(frame);
+        let _held = self.line.len();
         self.hand = Some(out);
         self.taken += 1;
     }
@@ -136,6 +182,7 @@ impl Stage for Delay {
         let quiet = Frame::silence(self.delays.len());
         let out = delayed_frame(&self.line, &self.delays, quiet);
         self.line.push(quiet);
+        let _held = self.line.len();
         self.tail -= 1;
         self.given += 1;
         Some(out)
@@ -158,7 +205,16 @@ impl Stage for Delay {
     }
 
     fn counters(&self) -> [u64; 8] {
-        [self.taken, self.given, u64::from(self.ended), 0, self.held(), self.tail as u64, u64::from(self.hand.is_some()), 0]
+        [
+            self.taken,
+            self.given,
+            u64::from(self.ended),
+            0,
+            self.held(),
+            self.tail as u64,
+            u64::from(self.hand.is_some()),
+            0,
+        ]
     }
 
     fn stored(&self, j: usize) -> WideFrame {

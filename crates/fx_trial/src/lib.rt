@@ -2,6 +2,10 @@
 #![tactic(auto)]
 
 pub mod delay;
-pub mod line;
 pub mod opening;
+pub mod run;
+pub mod trial;
 pub mod upsample;
+
+#[cfg(test)]
+mod tests;

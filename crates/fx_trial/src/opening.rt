@@ -1,7 +1,8 @@
-ghost use Rattle.std.specs.Prelude.{◌≡◌, ◌<◌, ◌≤◌, ◌^◌, length};
+ghost use Rattle.std.specs.Prelude.{◌≡◌, ◌<◌, ◌≤◌, ◌^◌, length, Ok, IfOk, IfErr};
 
 use fx_frame::frame::Frame;
-use fx_frame::stage::Stage;
+use fx_frame::frozen::thawed_hand;
+use fx_frame::stage::{Stage, ThawFault};
 use fx_frame::wide::WideFrame;
 use std::marker::Model;
 
@@ -27,8 +28,8 @@ impl Model for Opening {
 }
 
 impl Opening {
-    ghost use Rattle.fx_frame.specs.Stage.{IsNew};
-    ghost use Rattle.fx_trial.specs.Opening.{opening_acts};
+    ghost use Rattle.fx_frame.specs.Stage.{IsNew, Freezes};
+    ghost use Rattle.fx_trial.specs.Opening.{OpeningState, IsOpening, opening_acts};
 
     /// The first `count` frames.
     pub fn new(channels: usize, count: u64) -> Opening
@@ -43,6 +44,36 @@ impl Opening {
             given: 0,
             ended: false,
         }
+    }
+
+    /// The stage that stored these frames and counted these numbers; BadSnapshot where there is none.
+    pub fn thaw(channels: usize, count: u64, frames: &[WideFrame], numbers: &[u64; 8]) -> Result<Opening, ThawFault>
+        requires { (1 ≤ channels) × (channels ≤ 16) }
+        ensures recipe { IfOk result (λ t. t.recipe ≡ record { channels = channels; count = count }) }
+        ensures frozen { IfOk result (λ t. Freezes opening_acts t frames.now numbers.now) }
+        ensures thawed { (s : OpeningState) → IsOpening s → s.recipe ≡ record { channels = channels; count = count } → Freezes opening_acts s frames.now numbers.now → result ≡ Ok s }
+        ensures refused { IfErr result (λ e. e ≡ ThawFault.BadSnapshot) }
+    {
+        let [taken, given, ended, clips, held, sixth, seventh, eighth] = *numbers;
+        if clips != 0 || sixth != 0 || seventh != 0 || eighth != 0 {
+            return Err(ThawFault::BadSnapshot);
+        }
+        if ended > 1 || taken > 1 << 56 || held != frames.len() as u64 {
+            return Err(ThawFault::BadSnapshot);
+        }
+        let made = taken.min(count);
+        if given > made || held != made - given {
+            return Err(ThawFault::BadSnapshot);
+        }
+        let hand = thawed_hand(frames, channels)?;
+        Ok(Opening {
+            hand,
+            channels,
+            count,
+            taken,
+            given,
+            ended: ended == 1,
+        })
     }
 }
 
@@ -108,7 +139,16 @@ impl Stage for Opening {
     }
 
     fn counters(&self) -> [u64; 8] {
-        [self.taken, self.given, u64::from(self.ended), 0, self.held(), 0, 0, 0]
+        [
+            self.taken,
+            self.given,
+            u64::from(self.ended),
+            0,
+            self.held(),
+            0,
+            0,
+            0,
+        ]
     }
 
     fn stored(&self, _j: usize) -> WideFrame {

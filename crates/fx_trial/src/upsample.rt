@@ -1,7 +1,8 @@
-ghost use Rattle.std.specs.Prelude.{◌≡◌, ◌<◌, ◌≤◌, ◌+◌, ◌*◌, ◌/◌, ◌^◌, ℕ, List, [], length, false, true, option_to_list, ℤ, Some, Ok, IfOk};
+ghost use Rattle.std.specs.Prelude.{◌≡◌, ◌≤◌, Ok, IfOk, IfErr};
 
 use fx_frame::frame::Frame;
-use fx_frame::stage::Stage;
+use fx_frame::frozen::thawed_hand;
+use fx_frame::stage::{Stage, ThawFault};
 use fx_frame::wide::WideFrame;
 use std::marker::Model;
 
@@ -29,7 +30,8 @@ impl Model for Upsample {
 
 impl Upsample {
     ghost use Rattle.fx_trial.specs.Upsample.{upsample_acts};
-    ghost use Rattle.fx_frame.specs.Stage.{IsNew};
+    ghost use Rattle.fx_frame.specs.Stage.{IsNew, Freezes};
+    ghost use Rattle.fx_trial.specs.Upsample.{UpsampleState, IsUpsample};
 
     /// Each frame is followed by `factor - 1` frames of silence.
     pub fn new(channels: usize, factor: u64) -> Upsample
@@ -45,6 +47,42 @@ impl Upsample {
             given: 0,
             ended: false,
         }
+    }
+
+    /// The stage that stored these frames and counted these numbers; BadSnapshot where there is none.
+    pub fn thaw(
+        channels: usize,
+        factor: u64,
+        frames: &[WideFrame],
+        numbers: &[u64; 8],
+    ) -> Result<Upsample, ThawFault>
+        requires { (1 ≤ channels) × (channels ≤ 16) × (1 ≤ factor) }
+        ensures recipe { IfOk result (λ t. t.recipe ≡ record { channels = channels; factor = factor }) }
+        ensures frozen { IfOk result (λ t. Freezes upsample_acts t frames.now numbers.now) }
+        ensures thawed { (s : UpsampleState) → IsUpsample s → s.recipe ≡ record { channels = channels; factor = factor } → Freezes upsample_acts s frames.now numbers.now → result ≡ Ok s }
+        ensures refused { IfErr result (λ e. e ≡ ThawFault.BadSnapshot) }
+    {
+        let [taken, given, ended, clips, held, silent, seventh, eighth] = *numbers;
+        if ended > 1 || clips != 0 || seventh != 0 || eighth != 0 {
+            return Err(ThawFault::BadSnapshot);
+        }
+        if held != frames.len() as u64 || taken > (1 << 56) / factor {
+            return Err(ThawFault::BadSnapshot);
+        }
+        let made = taken * factor;
+        if given > made || held > made - given || silent != made - given - held {
+            return Err(ThawFault::BadSnapshot);
+        }
+        let hand = thawed_hand(frames, channels)?;
+        Ok(Upsample {
+            channels,
+            factor,
+            hand,
+            silent,
+            taken,
+            given,
+            ended: ended == 1,
+        })
     }
 }
 
@@ -102,7 +140,16 @@ impl Stage for Upsample {
     }
 
     fn counters(&self) -> [u64; 8] {
-        [self.taken, self.given, u64::from(self.ended), 0, self.held(), self.silent, 0, 0]
+        [
+            self.taken,
+            self.given,
+            u64::from(self.ended),
+            0,
+            self.held(),
+            self.silent,
+            0,
+            0,
+        ]
     }
 
     fn stored(&self, _j: usize) -> WideFrame {

@@ -1,4 +1,4 @@
-use Rattle.std.proofs.Common.{◌≡◌, ◌+◌, ◌-◌, length, drop}
+use Rattle.std.proofs.Common.{◌≡◌, ◌+◌, drop}
 use Rattle.fx_frame.specs.Holds.{kinds, hold_sum, line_sum, capacity_sum}
 use Rattle.fx_frame.proofs.holds.hold_by.Given as goal
 

@@ -3,13 +3,13 @@ use Rattle.fx_trial.proofs.delay.DelayStage.take.Goals as goal
 
 pub invariant_of-self : goal.invariant_of-self
 invariant_of-self c =
-    let e = rw c.deref.ensures.value at c.delayed_frame-out.ensures in
+    let framed = rw c.deref.ensures.value at c.delayed_frame-out.ensures.frame in
     IsDelay-taken _ _ c.args.frame c.delayed_frame-out.result c.self.invariant (rw (← c.self.view_is) at c.requires.dry) (rw (← c.self.view_is) at c.requires.not_ended) (rw (← c.self.view_is) at c.requires.below_limit)
-    e c.push-self-inside.ensures.items c.push-self-inside.ensures.capacity
+    c.len-held.ensures.line c.push-self-inside.ensures.capacity c.push-self-inside.ensures.channels framed.0 framed.1
 
 pub returns : goal.returns
 returns c =
-    let e = rw c.deref.ensures.value at c.delayed_frame-out.ensures in
+    let e = rw c.deref.ensures.value at c.delayed_frame-out.ensures.value in
     rw (← c.self.view_is)
     (Took-delay _ _ c.args.frame c.delayed_frame-out.result c.self.invariant (rw (← c.self.view_is) at c.requires.dry) (rw (← c.self.view_is) at c.requires.not_ended)
     e c.push-self-inside.ensures.items c.push-self-inside.ensures.capacity)

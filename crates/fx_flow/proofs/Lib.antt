@@ -1,0 +1,5 @@
+pub mod Handing
+pub mod Laws
+pub mod Steps
+pub mod Moving
+pub mod Thawing
