@@ -1,6 +1,6 @@
 -- Frames as bytes, sample by sample.
-use Rattle.std.proofs.Common.{◌≡◌, ℕ, zero, suc, ◌+◌, ◌-◌, ◌*◌, ◌<◌, ◌≤◌, Bool, true, false, cond, List, [], ◌∷◌, ◌++◌, length, take, drop, map, get_or, ℤ, pos, refl, sym, ap, ◌∙◌, arith, add-one, FitsSigned, to_z, of_z, to_z-of_z, w32}
-use Rattle.std.proofs.lemmas.List.{drop-drop, map-append, take_at, drop_at, take_all, take_more, flat_map_more, length-take, length-append, append_assoc, append-nil}
+use Rattle.std.proofs.Common.{◌≡◌, ℕ, ◌+◌, ◌-◌, ◌*◌, ◌<◌, Bool, true, false, cond, List, [], ◌∷◌, ◌++◌, length, take, drop, map, get_or, ℤ, pos, refl, sym, ap, ◌∙◌, arith, add-one, FitsSigned, to_z, of_z, to_z-of_z, w32}
+use Rattle.std.proofs.lemmas.List.{drop-drop, map-append, take_at, drop_at, take_more, flat_map_more, length-take, length-append, append_assoc, append-nil}
 use Rattle.std.proofs.lemmas.List.Sums.{count_by_more_yes, count_by_more_no}
 use Rattle.std.specs.List.{All}
 use Rattle.fx_frame.specs.declared.coding.Coding.{Coding}
@@ -52,7 +52,7 @@ bytes_of-turn coding xs first out new k width h w e n =
     let one : k * size + size - k * size ≡ size = omega arith in
     let place : k * size + size ≡ (k + 1) * size = omega arith in
     let left : drop (k * size + size - k * size) (drop (k * size) out) ≡ drop ((k + 1) * size) first =
-        ap (λ m. drop m (drop (k * size) out)) one ∙ ap (drop size) behind ∙ drop-drop size (k * size) first ∙ ap (λ m. drop m first) place in
+    ap (λ m. drop m (drop (k * size) out)) one ∙ ap (drop size) behind ∙ drop-drop size (k * size) first ∙ ap (λ m. drop m first) place in
     rw (w, kept, left, n, bytes_of-more coding xs k h) (sym (append_assoc (bytes_of coding (take k xs)) (written coding (get_or xs k (pos 0))) (drop ((k + 1) * size) first)))
 
 -- a clip more, or none

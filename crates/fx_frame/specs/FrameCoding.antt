@@ -1,5 +1,5 @@
 -- Frames as bytes: the samples one after the other, channel by channel (RIFF WAVE, Sun AU).
-use Rattle.std.specs.Prelude.{ℕ, ◌*◌, ℤ, List, map, count_by, length}
+use Rattle.std.specs.Prelude.{ℕ, ◌*◌, List, map, count_by}
 use Rattle.std.specs.List.{flat_map}
 use Rattle.fx_frame.specs.declared.coding.Coding.{Coding}
 use Rattle.fx_frame.specs.Coding.{width_of, read_sample, written, clips_written}

@@ -1,7 +1,7 @@
 -- The part of a buffer that is held.
-use Rattle.std.proofs.Common.{◌≡◌, ℕ, ◌+◌, ◌-◌, ◌<◌, ◌≤◌, List, [], ◌++◌, length, take, drop, refl, sym, ap, ◌∙◌, arith}
-use Rattle.std.proofs.lemmas.List.{drop-drop, drop-take, length-take, length-take-le, length-drop, length-append, take-append-drop, take_at, take_all, append_assoc, append-nil, drop-append-le, take-append-le}
-use Rattle.std.specs.Io.KnownBytes.{Consumes, IsAtEnd, prepend_known}
+use Rattle.std.proofs.Common.{◌≡◌, ℕ, ◌+◌, ◌-◌, ◌≤◌, List, ◌++◌, length, take, drop, refl, sym, ap, ◌∙◌, arith}
+use Rattle.std.proofs.lemmas.List.{drop-drop, drop-take, length-take, length-drop, length-append, take-append-drop, take_at, append_assoc, drop-append-le, take-append-le}
+use Rattle.std.specs.Io.KnownBytes.{Consumes, prepend_known}
 use Rattle.std.specs.List.{copy_within}
 use Rattle.std.specs.Prelude.{Option, None, Some}
 use borrow.Rule.Slice.PartMut.{put_mid}

@@ -1,12 +1,12 @@
 -- What stays true while bytes go to a writer.
 use Rattle.std.proofs.Common.{◌≡◌, ℕ, ◌+◌, ◌-◌, ◌≤◌, List, [], ◌++◌, length, take, drop, sym, ap, ◌∙◌, arith}
-use Rattle.std.proofs.lemmas.List.{drop-drop, length-drop, length-append, length-take, length-take-le, drop-take, append_assoc, take_at, take_all, take-append-le, drop-append-le}
+use Rattle.std.proofs.lemmas.List.{drop-drop, length-drop, length-append, length-take, length-take-le, drop-take, append_assoc, take_at, take-append-le, drop-append-le}
 use Rattle.std.proofs.Math.Seq.{take-add}
 use Rattle.std.proofs.KnownBytes.{Appends-trans, Appends-nil}
 use Rattle.std.specs.Io.KnownBytes.{Appends}
 use Rattle.std.specs.Prelude.{Option}
 use borrow.Rule.Slice.PartMut.{put_mid}
-use Rattle.fx_sound.specs.Output.{Pending, Sent, SendsOn, SendsMore}
+use Rattle.fx_sound.specs.Output.{Pending, Sent}
 
 -- the writer took the first n of those that wait
 pub Sent-taken : (first now new : Option (List ℕ)) (out new_out : Pending) (all : List ℕ) (n : ℕ) → Sent first now out all

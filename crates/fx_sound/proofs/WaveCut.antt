@@ -1,7 +1,7 @@
 -- What came before a read failed, chunk by chunk.
-use Rattle.std.proofs.Common.{◌≡◌, ℕ, ◌+◌, ◌-◌, ◌<◌, ◌≤◌, List, length, take, drop, refl, sym, ap, ◌∙◌, arith}
-use Rattle.std.specs.Prelude.{Ok, Err, Option, None, Some}
-use Rattle.std.proofs.lemmas.List.{drop-take, drop-drop, length-drop, length-take}
+use Rattle.std.proofs.Common.{◌≡◌, ℕ, ◌+◌, ◌-◌, ◌<◌, ◌≤◌, List, length, take, drop, sym, ap, ◌∙◌, arith}
+use Rattle.std.specs.Prelude.{Ok, Option, None}
+use Rattle.std.proofs.lemmas.List.{drop-take, drop-drop}
 use Rattle.fx_sound.specs.declared.layout.Format.{Format}
 use Rattle.fx_sound.specs.declared.wave.Step.TheVariants as step
 use Rattle.fx_sound.specs.Wave.{step_of, chunks_of}

@@ -1,7 +1,7 @@
 -- The head of a WAVE sound, from what was read of it.
-use Rattle.std.proofs.Common.{subst, ◌≡◌, ℕ, ◌+◌, ◌-◌, ◌%◌, ◌^◌, min, ◌<◌, ◌≤◌, List, [], ◌∷◌, length, take, drop, true, false, not, refl, sym, ap, ◌∙◌, arith, nat_lt}
-use Rattle.std.specs.Prelude.{Ok, Err, Result, Option, None, Some, suc}
-use Rattle.std.proofs.lemmas.List.{take_all, length-drop, length-take, take-take}
+use Rattle.std.proofs.Common.{subst, ◌≡◌, ℕ, ◌+◌, ◌-◌, min, ◌<◌, ◌≤◌, List, length, take, drop, true, false, refl, sym, ap, ◌∙◌, arith, nat_lt}
+use Rattle.std.specs.Prelude.{Ok, Err, Result, Option, suc}
+use Rattle.std.proofs.lemmas.List.{take_all, length-take, take-take}
 use Rattle.std.proofs.lemmas.Grind.{common_steps}
 use Rattle.fx_sound.specs.declared.layout.Format.{Format}
 use Rattle.fx_sound.specs.declared.layout.Layout.{Layout}

@@ -1,6 +1,6 @@
 -- A step depends on no byte behind its end.
-use Rattle.std.proofs.Common.{◌≡◌, ℕ, ◌+◌, ◌-◌, ◌%◌, ◌^◌, min, ◌<◌, ◌≤◌, List, [], ◌∷◌, length, take, drop, Bool, true, false, not, refl, sym, ap, ◌∙◌, arith, nat_lt}
-use Rattle.std.specs.Prelude.{Ok, Err, Result, Option, None, Some, suc, if◌then◌else◌}
+use Rattle.std.proofs.Common.{◌≡◌, ℕ, ◌+◌, ◌-◌, min, ◌≤◌, List, length, take, drop, Bool, true, false, refl, ap, ◌∙◌, arith, nat_lt}
+use Rattle.std.specs.Prelude.{Ok, Err, Result, Option, Some, if◌then◌else◌}
 use Rattle.fx_sound.specs.declared.layout.Format.{Format}
 use Rattle.fx_sound.specs.declared.wave.Demand.{Demand}
 use Rattle.fx_sound.specs.declared.wave.Demand.TheVariants as demand
@@ -10,7 +10,7 @@ use Rattle.fx_sound.specs.declared.head.HeadFault.{HeadFault}
 use Rattle.fx_sound.specs.declared.head.HeadFault.TheVariants.{Truncated}
 use Rattle.std.proofs.lemmas.List.{drop-take, length-drop, length-take, take-take}
 use Rattle.std.proofs.lemmas.Grind.{common_steps}
-use Rattle.fx_sound.specs.Wave.{format_read, format_of, padded, step_of, with_body, with_format, demand_of, long_at, end_of, GoesOn}
+use Rattle.fx_sound.specs.Wave.{format_read, padded, step_of, with_body, with_format, demand_of, long_at, end_of}
 
 -- a test that an `Ok` came through
 pub through : {X : Type 0} (b : Bool) (x : Result X HeadFault) (y : X) → (if b then Err Truncated else x) ≡ Ok y → (b ≡ false) × (x ≡ Ok y)

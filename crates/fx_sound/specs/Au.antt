@@ -1,5 +1,5 @@
 -- The head of a Sun AU sound behind `.snd`, on the whole list of bytes. Places count from there.
-use Rattle.std.specs.Prelude.{ℕ, ◌+◌, ◌^◌, List, length, take, drop, Option, None, Some, Result, Ok, Err, if◌then◌else◌, nat_lt, ◌==◌}
+use Rattle.std.specs.Prelude.{ℕ, ◌+◌, List, length, take, drop, Option, None, Some, Result, Ok, Err, if◌then◌else◌, nat_lt, ◌==◌}
 use Rattle.std.specs.Int.{w32, from_be_bytes}
 use Rattle.fx_frame.specs.declared.coding.Coding.{Coding}
 use Rattle.fx_frame.specs.declared.coding.Coding.TheVariants.{S8, S16Be, S24Be, S32Be}

@@ -1,5 +1,5 @@
 -- What stays true while the frames of a sound are read one by one: laws for who calls `next_frame` in a loop.
-use Rattle.std.specs.Prelude.{◌≡◌, ℕ, zero, suc, true, ◌+◌, ◌-◌, ◌*◌, ◌/◌, ◌%◌, ◌^◌, ◌<◌, ◌≤◌, min, List, [], ◌∷◌, ◌++◌, length, take, drop, map, Option, None, Some, refl}
+use Rattle.std.specs.Prelude.{◌≡◌, ℕ, zero, suc, true, ◌+◌, ◌-◌, ◌*◌, ◌/◌, ◌%◌, ◌<◌, ◌≤◌, min, List, [], ◌∷◌, ◌++◌, length, take, drop, map, Option, None, Some, refl}
 use Rattle.std.proofs.Common.{sym, ap, ◌∙◌, arith, add-one}
 use Rattle.std.proofs.lemmas.List.{drop-drop, length-drop, length-take, map-append, take-take, drop-take}
 use Rattle.std.proofs.Math.Arith.{digits_div, digits_mod}
@@ -9,7 +9,7 @@ use Rattle.fx_frame.specs.FrameCoding.{frame_size, samples_of}
 use Rattle.fx_frame.specs.Pieces.{pieces, pieces-suc}
 use Rattle.fx_sound.specs.Source.{Held, Tells, Takes, FallsShort}
 use Rattle.fx_sound.specs.Sound.{Reading, size_of, within, at_most_announced, beyond, lacking, after_frame, after_end, TakesFrame, EndsSound}
-use Rattle.fx_sound.specs.Container.{first_frames, frames_of, after_frames, at_end, ReadAllTold}
+use Rattle.fx_sound.specs.Container.{first_frames, after_frames, at_end, ReadAllTold}
 
 -- from `first` on, n frames were read, and `now` is how far that is
 pub record Ran (first now : Reading) (bytes : List ℕ) (n : ℕ) (to_come : Option (List ℕ)) : Type 0 where

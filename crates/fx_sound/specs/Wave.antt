@@ -1,5 +1,5 @@
 -- The head of a RIFF WAVE sound behind `RIFF`, on the whole list of bytes.
-use Rattle.std.specs.Prelude.{◌≡◌, ℕ, zero, suc, ◌+◌, ◌-◌, ◌*◌, ◌/◌, ◌%◌, ◌^◌, ◌<◌, ◌≤◌, min, List, length, take, drop, codes, Option, None, Some, Result, Ok, Err, if◌then◌else◌, nat_lt, not, ◌==◌}
+use Rattle.std.specs.Prelude.{◌≡◌, ℕ, zero, suc, ◌+◌, ◌-◌, ◌*◌, ◌/◌, ◌%◌, ◌^◌, ◌≤◌, min, List, length, take, drop, codes, Option, None, Some, Result, Ok, Err, if◌then◌else◌, nat_lt, not, ◌==◌}
 use Rattle.std.specs.Str.{bytes_eq}
 use Rattle.std.specs.Int.{w16, w32, from_le_bytes}
 use Rattle.fx_frame.specs.declared.coding.Coding.{Coding}
@@ -14,7 +14,7 @@ use Rattle.fx_sound.specs.declared.wave.Demand.TheVariants as demand
 use Rattle.fx_sound.specs.declared.wave.Step.{Step}
 use Rattle.fx_sound.specs.declared.wave.Step.TheVariants as step
 use Rattle.fx_sound.specs.declared.head.HeadFault.{HeadFault}
-use Rattle.fx_sound.specs.declared.head.HeadFault.TheVariants.{ReadFailed, UnknownType, Truncated, BadHeader, NotInProfile, TooManyChannels, HeadTooLong}
+use Rattle.fx_sound.specs.declared.head.HeadFault.TheVariants.{UnknownType, Truncated, BadHeader, NotInProfile, TooManyChannels, HeadTooLong}
 
 -- the 16-bit number at place i
 abbrev pub half_at : ℕ → List ℕ → ℕ

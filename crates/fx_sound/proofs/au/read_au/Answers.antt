@@ -1,7 +1,6 @@
-use Rattle.std.proofs.Common.{◌≡◌, ℕ, ◌+◌, ◌-◌, ◌<◌, ◌≤◌, length, take, drop, sym, ap, ◌∙◌, arith}
+use Rattle.std.proofs.Common.{◌≡◌, ◌+◌, ◌-◌, ◌≤◌, length, take, drop, ap, ◌∙◌, arith}
 use Rattle.std.specs.Prelude.{Some}
 use Rattle.std.proofs.lemmas.List.{length-drop, length-take, drop-drop}
-use Rattle.fx_sound.specs.Au.{with_sound}
 use Rattle.fx_sound.proofs.Held.{Tells-both}
 use Rattle.fx_sound.proofs.AuLemmas.{behind_snd-short, behind_snd-cut, behind_snd-read, behind_snd-read-cut, with_sound-short, with_sound-whole}
 use Rattle.fx_sound.proofs.au.read_au.Goals as goal

@@ -1,7 +1,7 @@
-use Rattle.std.proofs.Common.{◌≡◌, ◌+◌, ◌-◌, ◌<◌, ◌≤◌, length, take, drop, sym, ap, ◌∙◌, arith}
-use Rattle.std.specs.Prelude.{Some, Ok}
+use Rattle.std.proofs.Common.{◌≡◌, ◌+◌, ◌-◌, length, drop, ap, ◌∙◌, arith}
+use Rattle.std.specs.Prelude.{Some}
 use Rattle.std.proofs.lemmas.List.{length-drop, drop-drop}
-use Rattle.fx_sound.specs.Head.{with_kind, spelt_as}
+use Rattle.fx_sound.specs.Head.{spelt_as}
 use Rattle.fx_sound.proofs.Held.{Tells-both}
 use Rattle.fx_sound.proofs.HeadLemmas.{head_of-short, head_of-cut, head_of-read, head_of-read-cut}
 use Rattle.fx_sound.proofs.read.read_head.Goals as goal

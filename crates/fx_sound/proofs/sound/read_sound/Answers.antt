@@ -1,5 +1,5 @@
 use Rattle.std.proofs.Common.{◌≡◌, ℕ, ◌%◌, List, length, drop, sym, ap, ◌∙◌}
-use Rattle.std.specs.Prelude.{Ok, Err, Result}
+use Rattle.std.specs.Prelude.{Ok, Result}
 use Rattle.fx_sound.specs.declared.head.HeadFault.{HeadFault}
 use Rattle.fx_sound.specs.declared.sound.SoundFault.{SoundFault}
 use Rattle.fx_sound.specs.declared.sound.SoundFault.TheVariants as fault

@@ -1,5 +1,5 @@
-use Rattle.std.proofs.Common.{◌≡◌, ℕ, ◌+◌, ◌-◌, ◌*◌, ◌<◌, ◌≤◌, List, length, drop, take, sym, ap, ◌∙◌, arith, subst}
-use Rattle.std.specs.Prelude.{Some, None, Ok, Err}
+use Rattle.std.proofs.Common.{◌≡◌, ◌+◌, ◌-◌, ◌≤◌, drop, sym, ap, ◌∙◌, arith, subst}
+use Rattle.std.specs.Prelude.{Some, Ok}
 use Rattle.std.proofs.lemmas.List.{length-drop, drop-drop}
 use Rattle.fx_sound.specs.declared.wave.Step.{Step}
 use Rattle.fx_sound.specs.declared.wave.Step.TheVariants as step

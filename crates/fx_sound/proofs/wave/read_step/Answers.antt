@@ -1,7 +1,7 @@
-use Rattle.std.proofs.Common.{◌≡◌, ℕ, ◌+◌, ◌-◌, ◌%◌, ◌<◌, ◌≤◌, List, length, drop, take, sym, ap, ◌∙◌, arith}
-use Rattle.std.specs.Prelude.{Some, Ok, Err}
+use Rattle.std.proofs.Common.{◌≡◌, ◌+◌, ◌-◌, length, drop, ap, ◌∙◌, arith}
+use Rattle.std.specs.Prelude.{Some}
 use Rattle.std.proofs.lemmas.List.{length-drop, drop-drop}
-use Rattle.fx_sound.specs.Wave.{with_body, end_of}
+use Rattle.fx_sound.specs.Wave.{end_of}
 use Rattle.fx_sound.proofs.Held.{Tells-both}
 use Rattle.fx_sound.proofs.WaveLemmas.{step_of-short, step_of-cut, step_of-asked, step_of-asked-cut, GoesOn-far}
 use Rattle.fx_sound.proofs.wave.read_step.Goals as goal

@@ -1,4 +1,4 @@
-use Rattle.std.proofs.Common.{◌+◌, ◌≤◌, drop, length, ◌∙◌, sym, arith}
+use Rattle.std.proofs.Common.{◌+◌, ◌≤◌, drop, length, arith}
 use Rattle.fx_frame.proofs.Bytes.{take-copied, drop_in-two}
 use Rattle.fx_frame.proofs.tape.TapeByteIn.read.Goals as goal
 

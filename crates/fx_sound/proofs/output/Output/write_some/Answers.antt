@@ -1,4 +1,4 @@
-use Rattle.std.proofs.Common.{◌-◌, ◌≤◌, length, refl, arith}
+use Rattle.std.proofs.Common.{◌-◌, ◌≤◌, refl, arith}
 use Rattle.fx_sound.proofs.Held.{drop-held, length-held}
 use Rattle.fx_sound.proofs.Sending.{Sent-taken}
 use Rattle.fx_sound.proofs.output.Output.write_some.Goals as goal

@@ -1,4 +1,4 @@
-use Rattle.std.proofs.Common.{◌≡◌, ◌≤◌, ◌-◌, length, ap, sym, ◌∙◌, arith}
+use Rattle.std.proofs.Common.{◌≡◌, ◌-◌, length, ap, sym, ◌∙◌, arith}
 use Rattle.fx_sound.proofs.Held.{drop-held, length-held}
 use Rattle.fx_sound.proofs.source.Source.let_go.Goals as goal
 
