@@ -54,7 +54,12 @@ pub fn thawed_hand(frames: &[WideFrame], channels: usize) -> Result<Option<Frame
 /// The line of so many channels and places that holds these frames, the oldest first. BadSnapshot where
 /// there is none: too many frames, or one of other channels or of wider samples. Memory where a growth
 /// was refused.
-pub fn thawed_line(alloc: Global, channels: usize, capacity: usize, frames: &[WideFrame]) -> Result<Line, ThawFault>
+pub fn thawed_line(
+    alloc: Global,
+    channels: usize,
+    capacity: usize,
+    frames: &[WideFrame],
+) -> Result<Line, ThawFault>
     requires channels { (1 ≤ channels) × (channels ≤ 16) }
     requires capacity { capacity ≤ 2 ^ 28 }
     ensures found { IfOk result (λ l. l ≡ line_of channels capacity frames.now) }
