@@ -6,7 +6,8 @@ use Rattle.std.specs.Int.{Width}
 use Rattle.std.proofs.lemmas.Bool.{cases_lt}
 use Rattle.std.proofs.lemmas.List.Elements.{All-push, All-drop}
 use Rattle.std.proofs.lemmas.Option.{slice_get-get_or}
-use Rattle.fx_frame.specs.Line.{Frames, pushed, pushed_out, IsShaped, IsLine}
+use Rattle.fx_frame.specs.Line.{Frames, pushed, pushed_out, IsLine}
+use Rattle.fx_frame.specs.Ring.{IsShaped}
 
 -- what `map` gives, where the function always gives f
 pub mapped : {A B : Type 0} (f : A → B) (o : Option A) (m : Option B) → MatchOption o (m ≡ None) (λ x. IsSomeAnd m (λ y. y ≡ f x)) → m ≡ option_map f o

@@ -1,10 +1,11 @@
 -- Sixteen samples read one by one are the samples and then zeros.
-use Rattle.std.proofs.Common.{◌≡◌, ◌+◌, ℕ, suc, ℤ, pos, List, [], ◌∷◌, ◌++◌, ◌≤◌, ◌-◌, length, take, replicate, refl, arith, FitsSigned, to_z, of_z, to_z-of_z}
+use Rattle.std.proofs.Common.{◌≡◌, ◌+◌, ℕ, suc, ℤ, pos, List, [], ◌∷◌, ◌++◌, ◌≤◌, ◌-◌, length, take, drop, replicate, refl, arith, FitsSigned, to_z, of_z, to_z-of_z}
 use Rattle.std.specs.Int.{Width}
 use Rattle.std.specs.List.{All}
 use Rattle.std.proofs.Math.Seq.{drop-append_seam, take-append_seam}
-use Rattle.std.proofs.lemmas.List.Elements.{All-nil, All-cons}
-use Rattle.fx_frame.specs.Frame.{IsRead, IsPlaces}
+use Rattle.std.proofs.lemmas.List.{drop-replicate, length-replicate, drop_at, length-append}
+use Rattle.std.proofs.lemmas.List.Elements.{All-nil, All-cons, All-append, All-replicate}
+use Rattle.fx_frame.specs.Places.{IsRead, IsPlaces}
 
 module _ (w : Width) where
   -- these were read from xs at i, at i + 1, and so on
@@ -47,3 +48,15 @@ module _ (w : Width) where
   places-read xs read some few full h =
       let e : read ≡ xs ++ replicate (16 - length xs) (pos 0) = all-read xs read (16 - length xs) (omega arith) h in
       (record { some = some; few = few; count = full; rest = rw e (drop-append_seam xs _); fits = all-fit xs 0 read h }, rw e (take-append_seam xs _))
+
+  -- so many samples in front of places that were all zero
+  pub places-set : FitsSigned w (pos 0) → (xs : List ℤ) (n : ℕ) → length xs ≡ n → 1 ≤ n → n ≤ 16 → All (FitsSigned w) xs → IsPlaces w n (xs ++ drop n (replicate 16 (pos 0)))
+  places-set zero-fits xs n e some few fits =
+      let left : drop n (replicate 16 (pos 0)) ≡ replicate (16 - n) (pos 0) = drop-replicate n 16 (pos 0) in
+      rw left (record {
+        some = some;
+        few = few;
+        count = omega (arith, length-append xs (replicate (16 - n) (pos 0)), length-replicate (16 - n) (pos 0));
+        rest = drop_at xs (replicate (16 - n) (pos 0)) n e;
+        fits = All-append (FitsSigned w) xs (replicate (16 - n) (pos 0)) fits (All-replicate (FitsSigned w) (16 - n) (pos 0) zero-fits);
+      })

@@ -30,6 +30,8 @@ pub mod frozen;
 pub mod holds;
 pub mod inner;
 pub mod line;
+#[cfg(test)]
+mod line_tests;
 mod ring;
 pub mod stage;
 pub mod wide;

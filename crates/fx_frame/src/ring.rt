@@ -1,7 +1,8 @@
 //! One ring of samples for whole frames, each of as many samples as there are channels.
 ghost use Rattle.std.specs.Prelude.{◌≡◌, ◌<◌, ◌≤◌, ◌^◌, ◌++◌, ◌+◌, ◌*◌, ◌∷◌, [], ℕ, length, take, drop, EachIndex, slice_get, slice_index_or, IfOk, Some};
 ghost use Rattle.std.specs.Option.{option_map};
-ghost use Rattle.fx_frame.specs.Line.{empty, pushed, pushed_out, channel_of, IsShaped};
+ghost use Rattle.fx_frame.specs.Line.{empty, pushed, pushed_out, channel_of};
+ghost use Rattle.fx_frame.specs.Ring.{IsShaped};
 
 use circular_buffer::HeapCircularBuffer;
 use std::alloc::{AllocError, Global};
@@ -21,7 +22,8 @@ pub(crate) struct Ring<T: Copy> {
 }
 
 impl<T: Copy> Model for Ring<T> {
-    ghost use Rattle.fx_frame.specs.Line.{Frames, pieces, frames_code, IsRing};
+    ghost use Rattle.fx_frame.specs.Line.{Frames};
+    ghost use Rattle.fx_frame.specs.Ring.{pieces, frames_code, IsRing};
 
     ghost Value = { Frames T };
 

@@ -1,6 +1,7 @@
-ghost use Rattle.std.specs.Prelude.{◌≡◌, ◌<◌, ◌≤◌, ◌↔◌, length, slice_index_or, IsSome, IfSome, pos, ℤ};
+ghost use Rattle.std.specs.Prelude.{◌≡◌, ◌<◌, ◌≤◌, ◌↔◌, length, take, slice_index_or, IsSome, IfSome, pos, ℤ};
 ghost use Rattle.std.specs.Int.{w64};
-ghost use Rattle.fx_frame.specs.Frame.{padded, IsWideFrame, IsRead};
+ghost use Rattle.fx_frame.specs.Frame.{padded, IsWideFrame};
+ghost use Rattle.fx_frame.specs.Places.{IsPlaces, IsRead};
 
 use crate::frame::{Frame, MOST_CHANNELS};
 use std::marker::Model;
@@ -17,7 +18,8 @@ impl Model for WideFrame {
     ghost use Rattle.std.specs.Prelude.{ℕ, List, ℤ, length, take};
     ghost use Rattle.std.specs.Int.{w64};
     ghost use Rattle.std.proofs.Common.{ap};
-    ghost use Rattle.fx_frame.specs.Frame.{padded, padded-take, IsPlaces};
+    ghost use Rattle.fx_frame.specs.Frame.{padded};
+    ghost use Rattle.fx_frame.specs.Places.{padded-take, IsPlaces};
 
     ghost Value = { List ℤ };
 
@@ -109,6 +111,18 @@ impl WideFrame {
         let channels = self.channels as usize;
         prove!(channel < channels);
         self.samples[channel]
+    }
+
+    /// The frame that lies in the first places, where the others are zero.
+    #[inline(always)]
+    pub(crate) fn of_places(channels: usize, samples: [i64; 16]) -> WideFrame
+        requires { IsPlaces w64 channels samples }
+        ensures { result ≡ take channels samples }
+    {
+        WideFrame {
+            samples,
+            channels: channels as u8,
+        }
     }
 
     /// The samples, one for each channel.

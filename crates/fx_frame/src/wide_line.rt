@@ -58,6 +58,7 @@ impl WideLine {
     }
 
     /// The same, for any number of channels.
+    #[inline(never)]
     fn push_many(&mut self, frame: WideFrame) -> Option<WideFrame>
         requires { length frame ≡ self.old.channels }
         ensures items { self.new.items ≡ pushed self.old frame }
@@ -74,13 +75,15 @@ impl WideLine {
     }
 
     /// The oldest frame, where there is no room for one more.
+    #[inline(always)]
     fn front_where_full(&self) -> Option<WideFrame>
+        requires { 0 < self.now.capacity }
         ensures { result ≡ (if nat_lt (length self.now.items) self.now.capacity then None else slice_get self.now.items 0) }
     {
         if self.ring.len() < self.ring.capacity() {
             return None;
         }
-        self.get(0)
+        Some(self.get_many(0))
     }
 
     /// Takes the oldest frame out; None where there is none.
@@ -124,6 +127,7 @@ impl WideLine {
     }
 
     /// The same, for any number of channels.
+    #[inline(always)]
     fn get_many(&self, k: usize) -> WideFrame
         requires { k < length self.now.items }
         ensures { slice_get self.now.items k ≡ Some result }
@@ -131,7 +135,7 @@ impl WideLine {
         let channels = self.ring.channels();
         let mut samples = [0; MOST_CHANNELS];
         self.ring.frame_into(k, &mut samples[..channels]);
-        inner::wide_of(channels, samples)
+        WideFrame::of_places(channels, samples)
     }
 
     /// How many frames there are.

@@ -1,0 +1,5 @@
+use Rattle.std.proofs.Common.{◌≡◌}
+use Rattle.fx_frame.proofs.line_tests.agrees.Given as goal
+
+abbrev pub invariant-pushes : goal.invariant-pushes
+invariant-pushes g l = l.line.channels ≡ l.channels

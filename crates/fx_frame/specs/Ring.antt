@@ -1,0 +1,33 @@
+-- How the frames of a line lie in a ring of samples.
+use Rattle.std.specs.Prelude.{ℕ, zero, suc, List, [], ◌∷◌, ◌≤◌, ◌^◌, ◌*◌, length, take, drop, ◌≡◌, refl}
+use Rattle.std.specs.List.{All}
+use Rattle.std.specs.Coded.{Coded, code_by, coded×, coded_list, coded_ℕ}
+use Rattle.circular_buffer.specs.Buffer.{Buffer}
+use Rattle.fx_frame.specs.Line.{Frames}
+
+-- the first pieces of one size
+abbrev pub pieces : {X : Type 0} → ℕ → ℕ → List X → List (List X)
+pieces size zero xs = []
+pieces size (suc count) xs = take size xs ∷ pieces size count (drop size xs)
+
+-- a line as data
+abbrev pub frames_code : {X : Type 0} → Coded X → Coded (Frames X)
+frames_code {X} c =
+    code_by (List (List X) × (ℕ × ℕ)) (coded× (coded_list (coded_list c)) (coded× coded_ℕ coded_ℕ)) (λ l. (l.items, (l.capacity, l.channels))) (λ p. record { items = p.0; capacity = p.1.0; channels = p.1.1 }) (λ _. refl)
+
+-- 1 to 16 channels, at most 2^28 frames, no more frames than may be, and each frame with a sample for each channel
+pub record IsShaped {X : Type 0} (l : Frames X) : Type 0 where
+  pub some : 1 ≤ l.channels
+  pub few : l.channels ≤ 16
+  pub small : l.capacity ≤ 2 ^ 28
+  pub within : length l.items ≤ l.capacity
+  pub each : All (λ f. length f ≡ l.channels) l.items
+
+-- so many frames stand in exactly the places of all that may be
+pub record IsRing {X : Type 0} (channels capacity len : ℕ) (samples : Buffer X) : Type 0 where
+  pub some : 1 ≤ channels
+  pub few : channels ≤ 16
+  pub small : capacity ≤ 2 ^ 28
+  pub within : len ≤ capacity
+  pub filled : length samples.items ≡ len * channels
+  pub room : samples.capacity ≡ capacity * channels

@@ -1,0 +1,196 @@
+ghost use Rattle.std.specs.Prelude.{◌≡◌, ◌≤◌, ◌^◌, length};
+
+use crate::frame::Frame;
+use crate::inner;
+use crate::line::Line;
+use crate::wide::WideFrame;
+use crate::wide_line::WideLine;
+use std::alloc::Global;
+use std::process::Abort;
+use std::test::Fail;
+
+#[test]
+fn frames(rt: HostRuntime) -> Result<(), Fail> {
+    let pair = Frame::from_slice(&[5, -7]).ok_or("two samples")?;
+    assert_eq!(rt; pair.channels(), 2);
+    assert_eq!(rt; pair.get(1), -7);
+    assert_eq!(rt; pair, inner::two(5, -7));
+    assert_ne!(rt; pair, inner::one(5));
+    assert_eq!(rt; Frame::from_slice(&[]), None);
+    assert_eq!(rt; Frame::from_slice(&[0; 17]), None);
+    assert_eq!(rt; Frame::from_slice(&[0; 16]), Some(Frame::silence(16)));
+    assert_eq!(rt;
+        inner::frame_of(3, [9; 16]),
+        Frame::from_slice(&[9; 3]).ok_or("three samples")?
+    );
+    assert_eq!(rt; inner::places(&pair)[1], -7);
+    Ok(())
+}
+
+#[test]
+fn wide_frames(rt: HostRuntime) -> Result<(), Fail> {
+    let pair = WideFrame::from_slice(&[1 << 40, -7]).ok_or("two samples")?;
+    assert_eq!(rt; pair.channels(), 2);
+    assert_eq!(rt; pair.get(0), 1 << 40);
+    assert_eq!(rt; WideFrame::from_slice(&[]), None);
+    assert_eq!(rt; WideFrame::from_slice(&[0; 17]), None);
+    assert_eq!(rt;
+        WideFrame::from_frame(inner::two(5, -7)),
+        inner::wide_two(5, -7)
+    );
+    Ok(())
+}
+
+#[test]
+fn line_two_places(rt: HostRuntime) -> Result<(), Fail> {
+    let mut line = Line::new(rt.alloc(), 1, 2)?;
+    assert_eq!(rt; line.push(inner::one(7)), None);
+    assert_eq!(rt; line.push(inner::one(8)), None);
+    assert_eq!(rt; line.push(inner::one(9)), Some(inner::one(7)));
+    assert_eq!(rt; line.back(0), Some(inner::one(9)));
+    assert_eq!(rt; line.back(1), Some(inner::one(8)));
+    assert_eq!(rt; line.back(2), None);
+    assert_eq!(rt; line.pop_front(), Some(inner::one(8)));
+    Ok(())
+}
+
+#[test]
+fn line_no_place(rt: HostRuntime) -> Result<(), Fail> {
+    let mut line = Line::new(rt.alloc(), 1, 0)?;
+    assert_eq!(rt; line.push(inner::one(7)), Some(inner::one(7)));
+    assert_eq!(rt; line.len(), 0);
+    Ok(())
+}
+
+#[test]
+fn line_one_channel_out(rt: HostRuntime) -> Result<(), Fail> {
+    let mut line = Line::new(rt.alloc(), 2, 3)?;
+    line.push(inner::two(1, 2));
+    line.push(inner::two(3, 4));
+    line.push(inner::two(5, 6));
+    line.push(inner::two(7, 8));
+    let mut samples = [0; 3];
+    line.channel_into(1, &mut samples);
+    assert_eq!(rt; samples, [4, 6, 8]);
+    Ok(())
+}
+
+/// A frame whose samples all differ, and differ from those of the frames with other numbers below 16.
+fn numbered(channels: usize, number: i32) -> Frame
+    requires { (1 ≤ channels) × (channels ≤ 16) }
+    ensures { length result ≡ channels }
+{
+    let n = number;
+    inner::frame_of(
+        channels,
+        [
+            n,
+            n ^ 0x100,
+            n ^ 0x200,
+            n ^ 0x300,
+            n ^ 0x400,
+            n ^ 0x500,
+            n ^ 0x600,
+            n ^ 0x700,
+            n ^ 0x800,
+            n ^ 0x900,
+            n ^ 0xa00,
+            n ^ 0xb00,
+            n ^ 0xc00,
+            n ^ 0xd00,
+            n ^ 0xe00,
+            n ^ 0xf00,
+        ],
+    )
+}
+
+/// What a line does after forty pushes, a plain list does too.
+fn agrees(alloc: Global, rt: &impl Abort, channels: usize, capacity: usize) -> Result<(), Fail>
+    requires channels { (1 ≤ channels) × (channels ≤ 16) }
+    requires capacity { capacity ≤ 2 ^ 28 }
+{
+    let mut line = Line::new(alloc, channels, capacity)?;
+    let mut list = Vec::new(alloc);
+    'pushes: for number in 0..40 {
+        let frame = numbered(channels, number);
+        list.push(frame)?;
+        let oldest = if list.len() > capacity {
+            Some(list.remove(0))
+        } else {
+            None
+        };
+        assert_eq!(rt; line.push(frame), oldest);
+        if number % 7 == 6 {
+            let first = if list.is_empty() {
+                None
+            } else {
+                Some(list.remove(0))
+            };
+            assert_eq!(rt; line.pop_front(), first);
+        }
+        assert_eq!(rt; line.len(), list.len());
+        for (k, item) in list.iter().rev().enumerate() {
+            assert_eq!(rt; line.back(k), Some(*item));
+        }
+    }
+    Ok(())
+}
+
+#[test]
+fn line_agrees_with_list(rt: HostRuntime) -> Result<(), Fail> {
+    for channels in [1, 3, 16] {
+        for capacity in [0, 1, 5] {
+            agrees(rt.alloc(), &rt, channels, capacity)?;
+        }
+    }
+    Ok(())
+}
+
+#[test]
+fn wide_line_sums(rt: HostRuntime) -> Result<(), Fail> {
+    let mut line = WideLine::new(rt.alloc(), 1, 2)?;
+    assert_eq!(rt; line.push(inner::wide_one(1 << 40)), None);
+    assert_eq!(rt; line.push(inner::wide_one(-(1 << 40))), None);
+    assert_eq!(rt;
+        line.push(inner::wide_one(7)),
+        Some(inner::wide_one(1 << 40))
+    );
+    Ok(())
+}
+
+#[test]
+fn growth_line(rt: HostRuntime) -> Result<(), Fail> {
+    match Line::new(rt.alloc(), 2, 3) {
+        Ok(line) => {
+            assert_eq!(rt; line.capacity(), 3);
+            println!(rt; "made")?;
+        }
+        Err(_refused) => println!(rt; "refused")?,
+    }
+    Ok(())
+}
+
+#[test]
+fn growth_wide_line(rt: HostRuntime) -> Result<(), Fail> {
+    match WideLine::new(rt.alloc(), 2, 3) {
+        Ok(line) => {
+            assert_eq!(rt; line.capacity(), 3);
+            println!(rt; "made")?;
+        }
+        Err(_refused) => println!(rt; "refused")?,
+    }
+    Ok(())
+}
+
+#[test]
+fn lines_of_stored_frames(rt: HostRuntime) -> Result<(), Fail> {
+    let stored = [inner::wide_one(3), inner::wide_one(-4)];
+    let line = inner::line_of(rt.alloc(), 1, 3, &stored)?.ok_or("frames of one channel")?;
+    assert_eq!(rt; line.back(0), Some(inner::one(-4)));
+    assert_eq!(rt; line.get(0), Some(inner::one(3)));
+    let wide = inner::wide_line_of(rt.alloc(), 1, 3, &stored)?.ok_or("frames of one channel")?;
+    assert_eq!(rt; wide.back(0), Some(stored[1]));
+    assert!(rt; inner::line_of(rt.alloc(), 2, 3, &stored)?.is_none());
+    assert!(rt; inner::line_of(rt.alloc(), 1, 3, &[inner::wide_one(1 << 31)])?.is_none());
+    Ok(())
+}
