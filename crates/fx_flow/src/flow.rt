@@ -97,6 +97,7 @@ impl<S: Stage> Flow<S> {
 
     /// What it waits for. Where it is hungry, the last stage has given all frames that are due for
     /// those taken.
+    #[inline(always)]
     pub fn state(&self) -> State
         ensures state { StateIs S.acts result self.now }
         ensures due { result ≡ State.Hungry → given_by S.acts self.now.left self.now.stages ≡ due_of (kinds S.acts self.now.stages) (taken_of self.now) }
@@ -117,6 +118,7 @@ impl<S: Stage> Flow<S> {
     }
 
     /// Takes a frame.
+    #[inline(always)]
     pub fn take(&mut self, frame: Frame)
         requires hungry { IsHungry S.acts self.old }
         requires channels { length frame ≡ self.old.channels }
@@ -137,6 +139,7 @@ impl<S: Stage> Flow<S> {
 
     /// Moves one frame from the last stage that is not dry; where all are dry, from the inlet; where
     /// that is empty too and the end was given, tells the first stage that is not ended the end.
+    #[inline(always)]
     pub fn step(&mut self) -> Step
         requires { StateIs S.acts State.Busy self.old }
         ensures steps { Steps S.acts self.old result self.new }
@@ -306,6 +309,7 @@ impl<S: Thaws + Drop> Flow<S> {
 }
 
 /// The step that lets this frame out, or none.
+#[inline(always)]
 fn made(out: Option<Frame>) -> Step
     ensures { result ≡ step_of out }
 {

@@ -7,6 +7,7 @@ use fx_frame::frame::Frame;
 use fx_frame::stage::Stage;
 
 /// One place past the last stage that is not dry, or 0 where all are dry. From a place on all are.
+#[inline(always)]
 pub fn wet_end<S: Stage>(stages: &[S], from: usize) -> usize
     requires within { from ≤ length stages.now }
     requires dry { AllSettled S.acts (drop from stages.now) }
@@ -22,6 +23,7 @@ pub fn wet_end<S: Stage>(stages: &[S], from: usize) -> usize
 }
 
 /// Takes a frame out of the stage before a place, or out of the inlet before all.
+#[inline(always)]
 fn lift<S: Stage>(stages: &mut [S], inlet: &mut Option<Frame>, place: usize) -> Frame
     requires { CanMove S.acts place inlet.old stages.old }
     ensures { Lifted S.acts place inlet.old inlet.new result stages.old stages.new }
@@ -43,6 +45,7 @@ fn lift<S: Stage>(stages: &mut [S], inlet: &mut Option<Frame>, place: usize) -> 
 
 /// Moves a frame from the stage before a place, or from the inlet before all, to the stage at the
 /// place, or out where there is none.
+#[inline(always)]
 pub fn move_on<S: Stage>(stages: &mut [S], inlet: &mut Option<Frame>, place: usize) -> Option<Frame>
     requires { CanMove S.acts place inlet.old stages.old }
     ensures { MovedFrom S.acts place inlet.old inlet.new result stages.old stages.new }
@@ -100,6 +103,7 @@ pub fn pass_on<S: Stage>(stages: &mut [S]) -> usize
 }
 
 /// Is nothing to be moved, neither from a stage nor from the inlet?
+#[inline(always)]
 pub fn is_still(wet: usize, inlet: &Option<Frame>) -> bool
     ensures { result ≡ true ↔ ((wet ≡ 0) × (inlet.now ≡ None)) }
 {

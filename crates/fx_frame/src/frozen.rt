@@ -1,34 +1,17 @@
 //! What a stage stored, read again.
-ghost use Rattle.std.specs.Prelude.{◌≡◌, ◌≤◌, ◌^◌, ◌↔◌, ◌⊎◌, ℤ, IsSome, IfSome, IfOk, IfErr, FitsSigned, Option, option_to_list};
-ghost use Rattle.std.specs.List.{All};
+ghost use Rattle.std.specs.Prelude.{◌≡◌, ◌≤◌, ◌^◌, ◌⊎◌, ℤ, IfOk, IfErr, Option, option_to_list};
 ghost use Rattle.std.specs.Int.{w32, w64};
 ghost use Rattle.fx_frame.specs.Frame.{Samples};
 ghost use Rattle.fx_frame.specs.Line.{Frames, IsLine};
 ghost use Rattle.fx_frame.specs.Frozen.{IsHand, IsStored, line_of};
 
 use crate::frame::Frame;
-use crate::inner::frame_of;
+use crate::inner::narrowed;
 use crate::line::Line;
 use crate::stage::ThawFault;
 use crate::wide::WideFrame;
 use crate::wide_line::WideLine;
 use std::alloc::Global;
-
-/// The frame of the same samples; None where one of them has more than 32 bits.
-pub fn narrowed(frame: &WideFrame) -> Option<Frame>
-    ensures some { IsSome result ↔ All (FitsSigned w32) frame.now }
-    ensures value { IfSome result (λ f. f ≡ frame.now) }
-{
-    let channels = frame.channels();
-    let mut samples = [0; 16];
-    'channels: for channel in 0..channels {
-        let Ok(sample) = i32::try_from(frame.get(channel)) else {
-            return None;
-        };
-        samples[channel] = sample;
-    }
-    Some(frame_of(channels, samples))
-}
 
 /// The frame in hand of a stage that stored these frames and has no line. BadSnapshot where there is
 /// more than one frame, or one of other channels or of wider samples.
@@ -54,7 +37,12 @@ pub fn thawed_hand(frames: &[WideFrame], channels: usize) -> Result<Option<Frame
 /// The line of so many channels and places that holds these frames, the oldest first. BadSnapshot where
 /// there is none: too many frames, or one of other channels or of wider samples. Memory where a growth
 /// was refused.
-pub fn thawed_line(alloc: Global, channels: usize, capacity: usize, frames: &[WideFrame]) -> Result<Line, ThawFault>
+pub fn thawed_line(
+    alloc: Global,
+    channels: usize,
+    capacity: usize,
+    frames: &[WideFrame],
+) -> Result<Line, ThawFault>
     requires channels { (1 ≤ channels) × (channels ≤ 16) }
     requires capacity { capacity ≤ 2 ^ 28 }
     ensures found { IfOk result (λ l. l ≡ line_of channels capacity frames.now) }

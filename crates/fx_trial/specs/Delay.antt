@@ -1,4 +1,4 @@
-use Rattle.std.specs.Prelude.{ℕ, ℤ, pos, ◌+◌, ◌-◌, ◌^◌, ◌≤◌, ◌≡◌, Bool, false, ◌&&◌, Option, Some, None, List, [], ◌∷◌, ◌++◌, length, map, max, replicate, option_to_list, is_none, slice_index, slice_index_or, nat_le, nat_eq, cond}
+use Rattle.std.specs.Prelude.{ℕ, ℤ, pos, ◌+◌, ◌-◌, ◌^◌, ◌≤◌, ◌≡◌, Bool, false, ◌&&◌, Option, None, List, [], ◌∷◌, ◌++◌, length, map, max, replicate, option_to_list, is_none, slice_index, slice_index_or, nat_le, nat_eq, cond}
 use Rattle.std.proofs.Common.{arith}
 use Rattle.fx_frame.specs.Frame.{Samples, silence}
 use Rattle.std.specs.Int.{w32}

@@ -6,9 +6,9 @@ ghost use Rattle.fx_trial.specs.Delay.{longest, sample_before, delayed_at, delay
 ghost use Rattle.fx_trial.specs.Delay.{delay_acts};
 
 use fx_frame::frame::Frame;
+use fx_frame::frozen::thawed_line_and_hand;
 use fx_frame::inner::frame_of;
 use fx_frame::line::Line;
-use fx_frame::frozen::thawed_line_and_hand;
 use fx_frame::stage::{Stage, ThawFault};
 use fx_frame::wide::WideFrame;
 use std::alloc::{AllocError, Global};

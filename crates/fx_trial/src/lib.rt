@@ -4,8 +4,7 @@
 pub mod delay;
 pub mod opening;
 pub mod run;
-pub mod trial;
-pub mod upsample;
-
 #[cfg(test)]
 mod tests;
+pub mod trial;
+pub mod upsample;

@@ -47,7 +47,12 @@ impl Opening {
     }
 
     /// The stage that stored these frames and counted these numbers; BadSnapshot where there is none.
-    pub fn thaw(channels: usize, count: u64, frames: &[WideFrame], numbers: &[u64; 8]) -> Result<Opening, ThawFault>
+    pub fn thaw(
+        channels: usize,
+        count: u64,
+        frames: &[WideFrame],
+        numbers: &[u64; 8],
+    ) -> Result<Opening, ThawFault>
         requires { (1 ≤ channels) × (channels ≤ 16) }
         ensures recipe { IfOk result (λ t. t.recipe ≡ record { channels = channels; count = count }) }
         ensures frozen { IfOk result (λ t. Freezes opening_acts t frames.now numbers.now) }

@@ -28,7 +28,11 @@ pub fn drain<S: Stage>(flow: &mut Flow<S>, out: &mut Vec<Frame>) -> Result<(), A
 }
 
 /// All that a flow gives for these frames and then the end.
-pub fn run_list<S: Stage>(alloc: Global, flow: &mut Flow<S>, frames: &[Frame]) -> Result<Vec<Frame>, AllocError>
+pub fn run_list<S: Stage>(
+    alloc: Global,
+    flow: &mut Flow<S>,
+    frames: &[Frame],
+) -> Result<Vec<Frame>, AllocError>
     requires hungry { IsHungry S.acts flow.old }
     requires channels { All (λ frame. length frame ≡ flow.old.channels) frames.now }
     requires few { taken_of flow.old + length frames.now ≤ most_frames }
@@ -47,7 +51,11 @@ pub fn run_list<S: Stage>(alloc: Global, flow: &mut Flow<S>, frames: &[Frame]) -
 }
 
 /// What a new flow gives for these frames while the end is not known: all that is due for them.
-pub fn feed_list<S: Stage>(alloc: Global, flow: &mut Flow<S>, frames: &[Frame]) -> Result<Vec<Frame>, AllocError>
+pub fn feed_list<S: Stage>(
+    alloc: Global,
+    flow: &mut Flow<S>,
+    frames: &[Frame],
+) -> Result<Vec<Frame>, AllocError>
     requires hungry { IsHungry S.acts flow.old }
     requires new { given_by S.acts flow.old.left flow.old.stages ≡ 0 }
     requires channels { All (λ frame. length frame ≡ flow.old.channels) frames.now }

@@ -45,7 +45,13 @@ fn two_idle_steps(rt: HostRuntime) -> Result<(), Fail> {
     assert_eq!(rt; flow.hold(), 4);
     flow.take(mono(5));
     assert_eq!(rt; flow.held(), 1);
-    for step in [Step::Moved, Step::Moved, Step::Given(mono(0)), Step::Moved, Step::Given(mono(5))] {
+    for step in [
+        Step::Moved,
+        Step::Moved,
+        Step::Given(mono(0)),
+        Step::Moved,
+        Step::Given(mono(5)),
+    ] {
         assert_eq!(rt; next(&mut flow), Some(step));
         assert!(rt; flow.held() <= 4);
     }
@@ -94,9 +100,14 @@ fn numbers_after_one_step(rt: HostRuntime) -> Result<(), Fail> {
     flow.take(mono(5));
     assert_eq!(rt; next(&mut flow), Some(Step::Moved));
     let (frames, numbers) = flow.freeze(rt.alloc())?;
-    let want = [1, 1, 0, 0, 0, 0, 0, 0, 1, 0, 0, 0, 1, 1, 0, 0, 0, 0, 0, 0, 0, 0, 0, 0];
+    let want = [
+        1, 1, 0, 0, 0, 0, 0, 0, 1, 0, 0, 0, 1, 1, 0, 0, 0, 0, 0, 0, 0, 0, 0, 0,
+    ];
     assert_eq!(rt; numbers.as_slice(), want.as_slice());
-    assert_eq!(rt; frames.as_slice(), [WideFrame::from_frame(mono(5))].as_slice());
+    assert_eq!(rt;
+        frames.as_slice(),
+        [WideFrame::from_frame(mono(5))].as_slice()
+    );
     let refused = thawed(rt.alloc(), &frames, &want[..23]);
     assert!(rt; matches!(refused, Err(ThawFault::BadSnapshot)));
     Ok(())
@@ -106,7 +117,10 @@ fn numbers_after_one_step(rt: HostRuntime) -> Result<(), Fail> {
 fn all_that_is_due(rt: HostRuntime) -> Result<(), Fail> {
     let mut flow = upsample_then_delay(rt.alloc())?;
     let out = feed_list(rt.alloc(), &mut flow, &[mono(5), mono(6)])?;
-    assert_eq!(rt; out.as_slice(), [mono(0), mono(5), mono(0), mono(6)].as_slice());
+    assert_eq!(rt;
+        out.as_slice(),
+        [mono(0), mono(5), mono(0), mono(6)].as_slice()
+    );
     assert!(rt; !flow.is_spent());
     Ok(())
 }
@@ -115,7 +129,10 @@ fn all_that_is_due(rt: HostRuntime) -> Result<(), Fail> {
 fn whole_lists(rt: HostRuntime) -> Result<(), Fail> {
     let mut flow = upsample_then_delay(rt.alloc())?;
     let out = run_list(rt.alloc(), &mut flow, &[mono(5), mono(6)])?;
-    assert_eq!(rt; out.as_slice(), [mono(0), mono(5), mono(0), mono(6), mono(0)].as_slice());
+    assert_eq!(rt;
+        out.as_slice(),
+        [mono(0), mono(5), mono(0), mono(6), mono(0)].as_slice()
+    );
     assert_eq!(rt; flow.moves(), 11);
     assert_eq!(rt; flow.stages().len(), 2);
     assert_eq!(rt; flow.clips(0), 0);
