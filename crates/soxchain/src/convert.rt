@@ -99,7 +99,7 @@ pub fn convert<R: ByteIn, W: ByteOut, M: ByteOut>(
     // Words that ask for a gain.
     ensures converted { (gain : ℤ) → asked_gain (texts words.now) ≡ Ok gain →
         Answers (Converted R.rest R.told R.failures W.taken W.flushed W.failures gain reader result.2 output.old output.new)
-            (Tells (M.taken messages.old) (M.taken messages.new) (M.failures messages.old) (M.failures messages.new)) result.0 result.1 }
+        (Tells (M.taken messages.old) (M.taken messages.new) (M.failures messages.old) (M.failures messages.new)) result.0 result.1 }
 {
     let mut telling = Telling::new();
     let gain = match read_words(words) {

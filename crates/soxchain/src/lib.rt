@@ -11,3 +11,6 @@ pub mod telling;
 pub mod words;
 
 pub use report::{Report, RunFault};
+
+#[cfg(test)]
+mod tests;

@@ -24,7 +24,14 @@ pub fn tell_line<M: ByteOut>(telling: &mut Telling, messages: &mut M, fault: &st
 pub fn tell_effect<M: ByteOut>(telling: &mut Telling, messages: &mut M, fault: &str, word: &str)
     ensures { TellsMore telling.old.has_failed telling.new.has_failed (M.taken messages.old) (M.taken messages.new) (M.failures messages.old) (M.failures messages.new) (effect_message fault.now word.now) }
 {
-    telling.sentence(messages, "soxchain: effect 1 vol: ", fault, ": ", word, "\n");
+    telling.sentence(
+        messages,
+        "soxchain: effect 1 vol: ",
+        fault,
+        ": ",
+        word,
+        "\n",
+    );
 }
 
 /// `soxchain: input: 3 Truncated`, with the number and name of the fault.
@@ -39,7 +46,14 @@ pub fn tell_run<M: ByteOut>(telling: &mut Telling, messages: &mut M, fault: &str
     ensures { TellsMore telling.old.has_failed telling.new.has_failed (M.taken messages.old) (M.taken messages.new) (M.failures messages.old) (M.failures messages.new) (run_message fault.now frames) }
 {
     let mut buffer = Buffer::new();
-    telling.sentence(messages, "soxchain: run: ", fault, " after frames ", buffer.format(frames), "\n");
+    telling.sentence(
+        messages,
+        "soxchain: run: ",
+        fault,
+        " after frames ",
+        buffer.format(frames),
+        "\n",
+    );
 }
 
 /// `soxchain: warning: input: missing bytes 3`, with what is counted and how often; nothing where that is 0.
@@ -50,16 +64,18 @@ pub fn tell_warning<M: ByteOut>(telling: &mut Telling, messages: &mut M, counted
         return;
     }
     let mut buffer = Buffer::new();
-    telling.sentence(messages, "soxchain: warning: ", counted, " ", buffer.format(count), "\n");
+    telling.sentence(
+        messages,
+        "soxchain: warning: ",
+        counted,
+        " ",
+        buffer.format(count),
+        "\n",
+    );
 }
 
 /// The message on words that are refused, of which `word` stands for the gain.
-pub fn tell_words<M: ByteOut>(
-    telling: &mut Telling,
-    messages: &mut M,
-    fault: WordFault,
-    word: &str,
-)
+pub fn tell_words<M: ByteOut>(telling: &mut Telling, messages: &mut M, fault: WordFault, word: &str)
     ensures { TellsMore telling.old.has_failed telling.new.has_failed (M.taken messages.old) (M.taken messages.new) (M.failures messages.old) (M.failures messages.new) (word_message fault word.now) }
 {
     match fault {
@@ -105,8 +121,18 @@ pub fn tell_warnings<M: ByteOut>(telling: &mut Telling, messages: &mut M, report
 {
     tell_warning(telling, messages, "input: missing bytes", report.missing);
     tell_warning(telling, messages, "input: stray bytes", report.stray);
-    tell_warning(telling, messages, "effect 1 vol: clipped samples", report.clips[0]);
-    tell_warning(telling, messages, "output: clipped samples", report.out_clips);
+    tell_warning(
+        telling,
+        messages,
+        "effect 1 vol: clipped samples",
+        report.clips[0],
+    );
+    tell_warning(
+        telling,
+        messages,
+        "output: clipped samples",
+        report.out_clips,
+    );
 }
 
 /// The messages on a stop, behind the warnings where there was a run.

@@ -44,7 +44,9 @@ impl RunFault {
         ensures { result ≡ report_at self.now }
     {
         match self {
-            RunFault::ReadFailed(report) | RunFault::WriteFailed(report) | RunFault::TooLong(report) => *report,
+            RunFault::ReadFailed(report)
+            | RunFault::WriteFailed(report)
+            | RunFault::TooLong(report) => *report,
         }
     }
 }

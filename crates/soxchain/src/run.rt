@@ -114,14 +114,10 @@ pub fn run_scaled<R: ByteIn, W: ByteOut>(
         writer,
     );
     if is_write_failure(&pumped) {
-        return Err(RunFault::WriteFailed(report_of(
-            &progress, &output, &scaler,
-        )));
+        return Err(RunFault::WriteFailed(report_of(&progress, &output, &scaler)));
     }
     let Ok(()) = output.finish(writer) else {
-        return Err(RunFault::WriteFailed(report_of(
-            &progress, &output, &scaler,
-        )));
+        return Err(RunFault::WriteFailed(report_of(&progress, &output, &scaler)));
     };
     let report = report_of(&progress, &output, &scaler);
     match pumped {
