@@ -29,7 +29,7 @@ impl Scaler {
         output: &mut Output,
         writer: &mut W,
     ) -> Result<(), Failed>
-        requires room { total output.old + frame_size self.old.coding (length frame) < 2 ^ 64 }
+        requires room { total output.old + 64 < 2 ^ 64 }
         requires few { (self.old.clips < 2 ^ 60) × (self.old.out_clips < 2 ^ 60) }
         ensures sent { OnOk result (SendsMore (W.taken writer.old) (W.taken writer.new) output.old output.new (bytes_of self.old.coding (scaled_given self.old.gain frame).samples)) }
         ensures sent_err { OnErr result (SendsOn (W.taken writer.old) (W.taken writer.new) output.old output.new) }

@@ -1,4 +1,5 @@
 //! Whole conversions: worked rows, with readers of many pieces, and writers that fail.
+ghost use Rattle.std.specs.Prelude.{◌<◌};
 
 use crate::convert::convert;
 use crate::report::Report;
