@@ -7,3 +7,6 @@ pub mod upsample;
 
 pub use downsample::Downsample;
 pub use upsample::Upsample;
+
+#[cfg(test)]
+mod tests;
