@@ -1,0 +1,3 @@
+pub mod Tabulate
+pub mod UpsampleLaws
+pub mod DownsampleLaws

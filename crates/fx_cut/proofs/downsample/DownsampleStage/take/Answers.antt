@@ -1,0 +1,24 @@
+-- A frame is kept, or left out.
+use Rattle.std.proofs.Common.{arith, rules, ◌≡◌}
+use Rattle.std.specs.Prelude.{Some}
+use Rattle.fx_frame.specs.Frozen.{IsHand}
+use Rattle.fx_cut.proofs.DownsampleLaws.{Took-kept, IsDownsample-kept, IsDownsample-left}
+use Rattle.fx_cut.proofs.downsample.DownsampleStage.take.Goals as goal
+
+pub invariant_of-self : goal.invariant_of-self
+invariant_of-self c =
+    IsDownsample-left _ c.args.frame c.self.invariant (rw (← c.self.view_is) at c.requires.dry) (rw (← c.self.view_is) at c.requires.not_ended)
+    c.if-self-gt0.true (rw (← c.self.view_is) at c.requires.below_limit)
+
+pub invariant_of-self-2 : goal.invariant_of-self-2
+invariant_of-self-2 c =
+    let none : c.self.inside.skip ≡ 0 = omega arith in
+    let fits : IsHand c.self.inside.channels (Some c.args.frame) = search (rules, c.channels-channels.ensures) in
+    IsDownsample-kept _ c.args.frame c.self.invariant (rw (← c.self.view_is) at c.requires.dry) (rw (← c.self.view_is) at c.requires.not_ended)
+    none (rw (← c.self.view_is) at c.requires.below_limit) fits
+
+pub returns : goal.returns
+returns c =
+    let none : c.self.inside.skip ≡ 0 = omega arith in
+    rw (← c.self.view_is)
+    (Took-kept _ c.args.frame c.self.invariant (rw (← c.self.view_is) at c.requires.dry) (rw (← c.self.view_is) at c.requires.not_ended) none)

@@ -1,0 +1,15 @@
+-- What `upsample` and `downsample` are made with (this project's profile).
+use Rattle.std.specs.Prelude.{ℕ, ◌^◌, ◌≤◌}
+use Rattle.fx_cut.specs.declared.factor.TheConstants.{MOST_FACTOR}
+
+-- the channels of each frame, and the factor
+pub record FactorArguments : Type 0 where
+  pub channels : ℕ
+  pub factor : ℕ
+
+-- 1 to 16 channels, and a factor from 1 on
+pub record IsFactor (r : FactorArguments) : Type 0 where
+  pub some_channels : 1 ≤ r.channels
+  pub few_channels : r.channels ≤ 16
+  pub some_factor : 1 ≤ r.factor
+  pub few_factor : r.factor ≤ MOST_FACTOR

@@ -1,0 +1,5 @@
+pub mod Lists
+pub mod Factor
+pub mod Ceil
+pub mod Downsample
+pub mod Upsample

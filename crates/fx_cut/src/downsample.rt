@@ -1,0 +1,135 @@
+//! The effect `downsample` of sox(1): the first of every so many frames.
+ghost use Rattle.std.specs.Prelude.{◌≡◌, ◌≤◌};
+ghost use Rattle.fx_frame.specs.Stage.{IsNew};
+ghost use Rattle.fx_cut.specs.Factor.{FactorArguments, IsFactor};
+ghost use Rattle.fx_cut.specs.Downsample.{DownsampleState, IsDownsample, downsample_acts};
+
+use fx_frame::{Frame, Stage, WideFrame};
+use std::marker::Model;
+
+/// The stage of `downsample`: frames 0, f, 2f and so on of the sound, where f is the factor. It takes up to
+/// `2^56` frames.
+#[derive(Drop)]
+pub struct Downsample {
+    hand: Option<Frame>,
+    channels: usize,
+    factor: u64,
+    skip: u64,
+    taken: u64,
+    given: u64,
+    ended: bool,
+}
+
+impl Model for Downsample {
+    ghost use Rattle.fx_cut.specs.Downsample.{DownsampleState, IsDownsample};
+
+    ghost Value = { DownsampleState };
+
+    ghost view = { λ s. record { hand = s.hand; recipe = record { channels = s.channels; factor = s.factor }; skip = s.skip; taken = s.taken; given = s.given; ended = s.ended } };
+
+    ghost invariant = { λ s. IsDownsample (record { hand = s.hand; recipe = record { channels = s.channels; factor = s.factor }; skip = s.skip; taken = s.taken; given = s.given; ended = s.ended }) };
+}
+
+impl Downsample {
+    /// The stage for frames of 1 to 16 channels and a factor from 1 to 256. Takes no memory.
+    pub fn new(channels: usize, factor: u64) -> Downsample
+        requires { IsFactor (record { channels = channels; factor = factor }) }
+        ensures { IsNew downsample_acts (record { channels = channels; factor = factor }) result }
+    {
+        Downsample {
+            hand: None,
+            channels,
+            factor,
+            skip: 0,
+            taken: 0,
+            given: 0,
+            ended: false,
+        }
+    }
+}
+
+impl Stage for Downsample {
+    ghost use Rattle.fx_cut.specs.Ceil.{ceil_rises};
+
+    ghost Recipe = { FactorArguments };
+
+    ghost acts = { downsample_acts };
+
+    ghost sound = { λ s. IsDownsample s };
+
+    ghost rises = { λ r m n h. ceil_rises m n r.factor h };
+
+    fn take(&mut self, frame: Frame) {
+        let _channels = frame.channels();
+        self.taken += 1;
+        if self.skip > 0 {
+            self.skip -= 1;
+            return;
+        }
+        self.hand = Some(frame);
+        self.skip = self.factor - 1;
+    }
+
+    fn end(&mut self) {
+        self.ended = true;
+    }
+
+    fn give(&mut self) -> Option<Frame> {
+        let frame = self.hand?;
+        self.hand = None;
+        self.given += 1;
+        Some(frame)
+    }
+
+    fn is_dry(&self) -> bool {
+        self.hand.is_none()
+    }
+
+    fn is_ended(&self) -> bool {
+        self.ended
+    }
+
+    fn is_spent(&self) -> bool {
+        false
+    }
+
+    fn held(&self) -> u64 {
+        u64::from(self.hand.is_some())
+    }
+
+    fn hold(&self) -> u64 {
+        1
+    }
+
+    fn clips(&self) -> u64 {
+        0
+    }
+
+    fn in_channels(&self) -> usize {
+        self.channels
+    }
+
+    fn out_channels(&self) -> usize {
+        self.channels
+    }
+
+    fn counters(&self) -> [u64; 8] {
+        [
+            self.taken,
+            self.given,
+            u64::from(self.ended),
+            0,
+            self.held(),
+            self.skip,
+            0,
+            0,
+        ]
+    }
+
+    fn stored(&self, _j: usize) -> WideFrame {
+        match self.hand {
+            Some(frame) => WideFrame::from_frame(frame),
+            None => WideFrame::from_frame(Frame::silence(1)),
+        }
+    }
+}

@@ -1,0 +1,4 @@
+//! What `upsample` and `downsample` share.
+
+/// The greatest factor of a change of rate.
+pub const MOST_FACTOR: u64 = 256;

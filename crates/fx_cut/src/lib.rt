@@ -1,0 +1,12 @@
+//! Effects that cut a sound: they give frames as they are, in other places or not at all.
+#![tactic(auto)]
+
+pub mod downsample;
+pub mod factor;
+pub mod upsample;
+
+pub use downsample::Downsample;
+pub use upsample::Upsample;
+
+#[cfg(test)]
+mod tests;

@@ -1,0 +1,137 @@
+//! The effect `upsample` of sox(1): each frame is followed by silence.
+ghost use Rattle.std.specs.Prelude.{◌≡◌, ◌≤◌};
+ghost use Rattle.fx_frame.specs.Stage.{IsNew};
+ghost use Rattle.fx_cut.specs.Factor.{FactorArguments, IsFactor};
+ghost use Rattle.fx_cut.specs.Upsample.{UpsampleState, IsUpsample, upsample_acts};
+
+use fx_frame::{Frame, Stage, WideFrame};
+use std::marker::Model;
+
+/// The stage of `upsample`: each frame, followed by f - 1 silent frames, where f is the factor. It takes up to
+/// `2^56` divided by f frames.
+#[derive(Drop)]
+pub struct Upsample {
+    hand: Option<Frame>,
+    channels: usize,
+    factor: u64,
+    silent: u64,
+    taken: u64,
+    given: u64,
+    ended: bool,
+}
+
+impl Model for Upsample {
+    ghost use Rattle.fx_cut.specs.Upsample.{UpsampleState, IsUpsample};
+
+    ghost Value = { UpsampleState };
+
+    ghost view = { λ s. record { hand = s.hand; recipe = record { channels = s.channels; factor = s.factor }; silent = s.silent; taken = s.taken; given = s.given; ended = s.ended } };
+
+    ghost invariant = { λ s. IsUpsample (record { hand = s.hand; recipe = record { channels = s.channels; factor = s.factor }; silent = s.silent; taken = s.taken; given = s.given; ended = s.ended }) };
+}
+
+impl Upsample {
+    /// The stage for frames of 1 to 16 channels and a factor from 1 to 256. Takes no memory.
+    pub fn new(channels: usize, factor: u64) -> Upsample
+        requires { IsFactor (record { channels = channels; factor = factor }) }
+        ensures { IsNew upsample_acts (record { channels = channels; factor = factor }) result }
+    {
+        Upsample {
+            hand: None,
+            channels,
+            factor,
+            silent: 0,
+            taken: 0,
+            given: 0,
+            ended: false,
+        }
+    }
+}
+
+impl Stage for Upsample {
+    ghost use Rattle.std.proofs.Math.Nat.{mul-le-mul_right};
+
+    ghost Recipe = { FactorArguments };
+
+    ghost acts = { upsample_acts };
+
+    ghost sound = { λ s. IsUpsample s };
+
+    ghost rises = { λ r m n h. mul-le-mul_right r.factor h };
+
+    fn take(&mut self, frame: Frame) {
+        self.hand = Some(frame);
+        self.silent = self.factor - 1;
+        self.taken += 1;
+    }
+
+    fn end(&mut self) {
+        self.ended = true;
+    }
+
+    fn give(&mut self) -> Option<Frame> {
+        if let Some(frame) = self.hand {
+            self.hand = None;
+            self.given += 1;
+            return Some(frame);
+        }
+        if self.silent == 0 {
+            return None;
+        }
+        self.silent -= 1;
+        self.given += 1;
+        Some(Frame::silence(self.channels))
+    }
+
+    fn is_dry(&self) -> bool {
+        self.hand.is_none() && self.silent == 0
+    }
+
+    fn is_ended(&self) -> bool {
+        self.ended
+    }
+
+    fn is_spent(&self) -> bool {
+        false
+    }
+
+    fn held(&self) -> u64 {
+        u64::from(self.hand.is_some())
+    }
+
+    fn counters(&self) -> [u64; 8] {
+        [
+            self.taken,
+            self.given,
+            u64::from(self.ended),
+            0,
+            self.held(),
+            self.silent,
+            0,
+            0,
+        ]
+    }
+
+    fn stored(&self, _j: usize) -> WideFrame {
+        match self.hand {
+            Some(frame) => WideFrame::from_frame(frame),
+            None => WideFrame::from_frame(Frame::silence(1)),
+        }
+    }
+
+    fn hold(&self) -> u64 {
+        1
+    }
+
+    fn clips(&self) -> u64 {
+        0
+    }
+
+    fn in_channels(&self) -> usize {
+        self.channels
+    }
+
+    fn out_channels(&self) -> usize {
+        self.channels
+    }
+}
