@@ -2,10 +2,12 @@
 #![tactic(auto)]
 
 pub mod dcshift;
+pub mod delay;
 pub mod inner;
 pub mod mapped;
 pub mod per_sample;
 pub mod vol;
 
 pub use dcshift::DcShift;
+pub use delay::Delay;
 pub use vol::Vol;
