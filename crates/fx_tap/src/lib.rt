@@ -6,6 +6,8 @@ pub mod delay;
 pub mod inner;
 pub mod mapped;
 pub mod per_sample;
+#[cfg(test)]
+mod tests;
 pub mod vol;
 
 pub use dcshift::DcShift;
