@@ -1,2 +1,4 @@
+pub mod DelayLaws
 pub mod Rounds
 pub mod Shifting
+pub mod Tabulate

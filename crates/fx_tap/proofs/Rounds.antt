@@ -1,6 +1,6 @@
 -- One more rounded sample.
 use Rattle.std.proofs.Common.{◌≡◌, ℕ, ◌+◌, ◌<◌, ◌≤◌, Bool, true, false, cond, List, [], ◌∷◌, ◌++◌, map, length, get_or, take, set, refl, sym, ◌∙◌, ap, arith}
-use Rattle.std.specs.Prelude.{ℤ, pos, count_by}
+use Rattle.std.specs.Prelude.{ℤ, pos}
 use Rattle.std.specs.Int.{from_bool as bool_byte}
 use Rattle.std.proofs.lemmas.List.{take_more, take_more_set, map-append}
 use Rattle.std.proofs.lemmas.List.Sums.{sum_by-append}

@@ -1,6 +1,6 @@
 -- A sum rounded by whole steps.
-use Rattle.std.proofs.Common.{◌≡◌, ℕ, zero, suc, ◌+◌, ◌-◌, ◌*◌, ◌/◌, ◌%◌, ◌<◌, ◌≤◌, ap, ◌∙◌, refl, sym, arith, ℤ, pos, negsuc, neg_ℤ, ◌+ℤ◌, ◌*ℤ◌, Bool, true, false, not, cond, ◌&&◌}
-use Rattle.std.specs.Prelude.{int_lt, nat_lt, ◌==◌}
+use Rattle.std.proofs.Common.{◌≡◌, ℕ, suc, ◌+◌, ◌-◌, ◌*◌, ◌/◌, ◌%◌, ◌<◌, ◌≤◌, ap, ◌∙◌, refl, sym, arith, ℤ, pos, negsuc, neg_ℤ, ◌+ℤ◌, ◌*ℤ◌, Bool, true, false, cond}
+use Rattle.std.specs.Prelude.{nat_lt, ◌==◌}
 use Rattle.std.proofs.Math.Nat.{mul-add-div, div-eq_of_lt, div-add-mod'}
 use Rattle.std.proofs.lemmas.Bool.Decides.{nat_tests}
 use borrow.Author.Differences.{up, down, same_in, sum_is_lem, product_is}

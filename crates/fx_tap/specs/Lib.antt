@@ -1,4 +1,6 @@
 pub mod DcShift
+pub mod Delay
+pub mod Lists
 pub mod Mapped
 pub mod PerSample
 pub mod Rounded

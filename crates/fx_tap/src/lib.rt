@@ -2,10 +2,14 @@
 #![tactic(auto)]
 
 pub mod dcshift;
+pub mod delay;
 pub mod inner;
 pub mod mapped;
 pub mod per_sample;
+#[cfg(test)]
+mod tests;
 pub mod vol;
 
 pub use dcshift::DcShift;
+pub use delay::Delay;
 pub use vol::Vol;

@@ -1,9 +1,8 @@
-use Rattle.std.proofs.Common.{rules, ◌≡◌, ◌<◌, ℤ, ◌+ℤ◌, ap, ◌∙◌, sym, arith, to_z, of_z, w32, w64}
-use Rattle.std.specs.Prelude.{Bool}
+use Rattle.std.proofs.Common.{rules, ◌≡◌, ◌<◌, ℤ, ◌+ℤ◌, ap, ◌∙◌, arith, to_z, of_z, w32, w64}
 use Rattle.std.proofs.lemmas.Int.{ints}
 use Rattle.fx_fixed.specs.Rounding.{clipping}
 use Rattle.fx_fixed.specs.declared.gains.TheConstants.{UNIT}
-use Rattle.fx_tap.specs.DcShift.{raised, steps_of, leaves_half, units_of}
+use Rattle.fx_tap.specs.DcShift.{raised, leaves_half, units_of}
 use Rattle.fx_tap.proofs.Shifting.{raised-steps}
 use Rattle.fx_tap.proofs.dcshift.ShiftSampling.round.Goals as goal
 
