@@ -5,9 +5,8 @@ ghost use Rattle.std.specs.List.{All};
 ghost use Rattle.fx_frame.specs.Line.{IsSamples};
 ghost use Rattle.fx_frame.specs.Frame.{padded, IsFrame, IsWideFrame};
 
-pub use crate::frame_coding::{decoded, encode};
-
 use crate::frame::{Frame, MOST_CHANNELS};
+pub use crate::frame_coding::{decoded, encode};
 use crate::line::Line;
 use crate::wide::WideFrame;
 use crate::wide_line::WideLine;

@@ -5,9 +5,8 @@ use fx_frame::Counted;
 use soxchain::convert::convert;
 use soxchain::messages::tell_line;
 use soxchain::telling::Telling;
-use std::env;
-use std::io;
 use std::process::ExitCode;
+use std::{env, io};
 
 /// The words behind the program's name.
 fn words_of(rt: &HostRuntime) -> io::Result<Vec<String>> {
