@@ -91,6 +91,16 @@ Tells-both told old mid new n m p q = record {
       omega arith;
 }
 
+-- two parts taken one behind the other
+pub Takes-both : {R : Type 0} (told : R → ℕ) (old mid new : Held R) (n m k : ℕ) → n + m ≡ k → Takes told old mid n → Takes told mid new m → Takes told old new k
+Takes-both told old mid new n m k place p q = record {
+  enough = omega (arith, p.enough, q.enough, place);
+  counted = λ h.
+      let e = q.counted h in
+      let f = p.counted (omega (arith, q.enough)) in
+      omega (arith, place);
+}
+
 -- where all that is to come is held, and all of it was taken
 pub skip-end : {R : Type 0} (rest : R → Option (List ℕ)) (old mid : Held R) (bytes : List ℕ) (got : ℕ)
     → (got ≤ length bytes) × (to_come rest old ≡ Some (drop got bytes)) → HoldsAll rest old mid → length mid.bytes ≡ 0 → got ≡ length bytes

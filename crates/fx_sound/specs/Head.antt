@@ -8,7 +8,7 @@ use Rattle.fx_sound.specs.declared.head.HeadFault.{HeadFault}
 use Rattle.fx_sound.specs.declared.head.HeadFault.TheVariants.{UnknownType, Truncated}
 use Rattle.fx_sound.specs.declared.layout.Layout.{Layout}
 use Rattle.fx_sound.specs.Au.{behind_snd}
-use Rattle.fx_sound.specs.Source.{Held, to_come}
+use Rattle.fx_sound.specs.Source.{Held, Takes, to_come}
 use Rattle.fx_sound.specs.Wave.{behind_riff}
 
 -- the kind that the first four bytes name
@@ -57,10 +57,11 @@ spelling h offset = record {
   layout = record { format = record { rate = h.rate; channels = h.channels; coding = h.coding }; announced = h.announced; offset = offset };
 }
 
--- the bytes begin with this head, and what is to come are those from the sound on, which begins at 2^24 or before
-pub record ReadsHead {R : Type 0} (rest : R → Option (List ℕ)) (expected : Option Kind) (bytes : List ℕ) (new : Held R) (h : Head) : Type 0 where
+-- the bytes begin with this head, and those before the sound, which begins at 2^24 or before, were taken
+pub record ReadsHead {R : Type 0} (rest : R → Option (List ℕ)) (told : R → ℕ) (expected : Option Kind) (bytes : List ℕ) (old new : Held R) (h : Head) : Type 0 where
   pub offset : ℕ
   pub near : offset ≤ 0x1000000
   pub spelt : head_of expected bytes ≡ Ok (spelling h offset)
   pub there : offset ≤ length bytes
   pub others : to_come rest new ≡ Some (drop offset bytes)
+  pub tells : Takes told old new offset

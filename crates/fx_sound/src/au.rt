@@ -6,6 +6,7 @@ ghost use Rattle.fx_sound.specs.Au.{word_at, au_coding, au_fields, behind_snd};
 ghost use Rattle.fx_sound.specs.Kind.{is_of_au};
 ghost use Rattle.fx_sound.specs.Layout.{IsProper, is_read_failure};
 ghost use Rattle.fx_sound.specs.Reads.{Reads, Refuses, Fails};
+ghost use Rattle.fx_sound.specs.Source.{Takes};
 
 use super::head::{FARTHEST, HeadFault, Kind};
 use super::layout::{AU_UNKNOWN, Format, Layout};
@@ -78,6 +79,7 @@ fn fields(words: &[u8]) -> Result<Layout, HeadFault>
 /// The head of an AU sound behind `.snd`, up to the sound.
 pub(crate) fn read_au<R: ByteIn>(source: &mut Source<R>) -> Result<Layout, HeadFault>
     ensures layout { IfOk result (λ l. Reads R.rest behind_snd source.old source.new (l.offset - 4) l) }
+    ensures told { IfOk result (λ l. Takes R.told source.old source.new (l.offset - 4)) }
     ensures offset { IfOk result (λ l. (4 < l.offset) × (l.offset ≤ FARTHEST)) }
     ensures proper { IfOk result (λ l. IsProper Kind.Au l.format) }
     ensures fault { IfErr result (Refuses R.rest behind_snd source.old) }

@@ -2,7 +2,7 @@
 
 ghost use Rattle.std.specs.Prelude.{◌≡◌, ◌+◌, ◌-◌, ◌<◌, ◌≤◌, IfOk, IfErr, MatchBool};
 ghost use Rattle.fx_frame.specs.Io.{saturated};
-ghost use Rattle.fx_sound.specs.Source.{to_come};
+ghost use Rattle.fx_sound.specs.Source.{to_come, Takes};
 ghost use Rattle.fx_sound.specs.Known.{IfKnown};
 ghost use Rattle.fx_sound.specs.Head.{kind_of, allowed, behind, head_of, ReadsHead};
 ghost use Rattle.fx_sound.specs.Layout.{IsProper, is_read_failure};
@@ -34,6 +34,7 @@ fn found(expected: Option<Kind>, name: [u8; 4]) -> Option<Kind>
 
 fn read_layout<R: ByteIn>(source: &mut Source<R>, kind: Kind) -> Result<Layout, HeadFault>
     ensures layout { IfOk result (λ l. Reads R.rest (behind kind) source.old source.new (l.offset - 4) l) }
+    ensures told { IfOk result (λ l. Takes R.told source.old source.new (l.offset - 4)) }
     ensures offset { IfOk result (λ l. (4 < l.offset) × (l.offset ≤ FARTHEST)) }
     ensures proper { IfOk result (λ l. IsProper kind l.format) }
     ensures fault { IfErr result (Refuses R.rest (behind kind) source.old) }
@@ -63,7 +64,7 @@ pub fn read_head<R: ByteIn>(
     source: &mut Source<R>,
     expected: Option<Kind>,
 ) -> Result<Head, HeadFault>
-    ensures head { IfOk result (λ h. IfKnown (to_come R.rest source.old) (λ bytes. ReadsHead R.rest expected bytes source.new h)) }
+    ensures head { IfOk result (λ h. IfKnown (to_come R.rest source.old) (λ bytes. ReadsHead R.rest R.told expected bytes source.old source.new h)) }
     ensures fault { IfErr result (Refuses R.rest (head_of expected) source.old) }
     ensures read_failed { IfErr result (Fails R.rest R.told (head_of expected) source.old source.new) }
     ensures failures { MatchBool (is_read_failure result)

@@ -307,6 +307,7 @@ fn read_chunks<R: ByteIn>(source: &mut Source<R>) -> Result<Layout, HeadFault>
 /// The head of a WAVE sound behind `RIFF`, up to the sound.
 pub(crate) fn read_wav<R: ByteIn>(source: &mut Source<R>) -> Result<Layout, HeadFault>
     ensures layout { IfOk result (λ h. Reads R.rest behind_riff source.old source.new (h.offset - 4) h) }
+    ensures told { IfOk result (λ h. Takes R.told source.old source.new (h.offset - 4)) }
     ensures offset { IfOk result (λ h. (4 < h.offset) × (h.offset ≤ FARTHEST)) }
     ensures proper { IfOk result (λ h. IsProper Kind.Wav h.format) }
     ensures fault { IfErr result (Refuses R.rest behind_riff source.old) }

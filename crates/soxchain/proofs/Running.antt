@@ -1,5 +1,5 @@
 -- What stays true over the turns of a run.
-use Rattle.std.proofs.Common.{◌≡◌, ℕ, suc, ◌+◌, ◌-◌, ◌*◌, ◌/◌, ◌%◌, ◌≤◌, ◌<◌, min, List, [], ◌∷◌, ◌++◌, length, map, take, drop, refl, sym, ap, ◌∙◌, arith, add-one}
+use Rattle.std.proofs.Common.{◌≡◌, ℕ, suc, ◌+◌, ◌-◌, ◌*◌, ◌/◌, ◌%◌, ◌^◌, ◌≤◌, ◌<◌, min, List, [], ◌∷◌, ◌++◌, length, map, take, drop, refl, sym, ap, ◌∙◌, arith, add-one}
 use Rattle.std.proofs.lemmas.List.{append_assoc, drop-drop, length-drop, length-take, map-append}
 use Rattle.std.proofs.Math.Arith.{digits_div, digits_mod}
 use Rattle.std.specs.Prelude.{Option, None, Some}
@@ -142,7 +142,22 @@ Ran-failed told start now bytes n to_come first old new r t f = record {
       let e = all.counted h in
       let total : length first.bytes + (told new - told first.reader) ≡ n * size + f.came = omega (arith, all.enough) in
       rw total (at-most-quotient start.left now.left size n f.came left (rw same at f.few));
+  later = λ h.
+      let all = Takes-trans told first old new (n * size_of start) f.came t f.tells in
+      let e = all.counted h in
+      omega (arith, all.enough);
 }
 
 pub Takes-none : {R : Type 0} (told : R → ℕ) (s : Held R) → Takes told s s 0
 Takes-none told s = record { enough = omega arith; counted = λ _. omega arith }
+
+-- the frames that had come whole, by the reader's count from the first byte of the input on
+pub Ran-told : {R : Type 0} (told : R → ℕ) (first at : Held R) (reader new : R) (start : Reading) (offset n : ℕ) → first.bytes ≡ [] → first.reader ≡ reader → Takes told first at offset → RanToFailure told at new start n → told new < 2 ^ 64 - 1
+    → (told reader + offset ≤ told new) × (n ≡ at_most_announced start.left (told new - told reader - offset) / size_of start)
+Ran-told told first at reader new start offset n none is t r h =
+    let later = r.later h in
+    let here = t.counted (omega arith) in
+    let empty : length first.bytes ≡ 0 = ap length none in
+    let same : told first.reader ≡ told reader = ap told is in
+    let past : length at.bytes + (told new - told at.reader) ≡ told new - told reader - offset = omega arith in
+    (omega arith, r.count h ∙ ap (λ k. at_most_announced start.left k / size_of start) past)

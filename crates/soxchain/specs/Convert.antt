@@ -1,5 +1,5 @@
 -- The conversion of a sound whose words were accepted, on the whole list of bytes (this project's profile).
-use Rattle.std.specs.Prelude.{◌≡◌, ◌≢◌, ℕ, ◌+◌, ◌*◌, ◌≤◌, ℤ, Bool, true, List, drop, length, Option, Some, None, Result, Ok, Err, IfOk, []}
+use Rattle.std.specs.Prelude.{◌≡◌, ◌≢◌, ℕ, ◌+◌, ◌-◌, ◌*◌, ◌/◌, ◌^◌, ◌<◌, ◌≤◌, ℤ, Bool, true, List, drop, length, Option, Some, None, Result, Ok, Err, IfOk, []}
 use Rattle.fx_frame.specs.Io.{saturated}
 use Rattle.fx_sound.specs.declared.head.Head.{Head}
 use Rattle.fx_sound.specs.declared.head.HeadFault.{HeadFault}
@@ -9,15 +9,15 @@ use Rattle.fx_sound.specs.declared.progress.TheConstants.{MOST_FRAMES}
 use Rattle.fx_sound.specs.Head.{head_of, spelling}
 use Rattle.fx_sound.specs.Known.{IfKnown}
 use Rattle.fx_sound.specs.Reads.{CutOff}
-use Rattle.fx_sound.specs.Sound.{size_of, within}
-use Rattle.fx_sound.specs.Source.{Held, to_come}
+use Rattle.fx_sound.specs.Sound.{at_most_announced, size_of, within}
+use Rattle.fx_sound.specs.Source.{Held}
 use Rattle.soxchain.specs.declared.convert.Stop.{Stop}
 use Rattle.soxchain.specs.declared.convert.Stop.TheVariants as Stops
 use Rattle.soxchain.specs.declared.pump.Cause.TheVariants as Causes
 use Rattle.soxchain.specs.declared.report.Report.{Report}
 use Rattle.soxchain.specs.declared.report.RunFault.{RunFault}
 use Rattle.soxchain.specs.Cause.{HasCause, cause_of}
-use Rattle.soxchain.specs.Run.{RanToEnd, RanToFailure, WroteAll, WroteFront, au_coding, start_of}
+use Rattle.soxchain.specs.Run.{RanToEnd, WroteAll, WroteFront, au_coding, start_of}
 use Rattle.soxchain.specs.Scaling.{Reports, report_at, whole_output}
 
 -- the bytes begin with this head, which says that the sound begins at that place
@@ -41,7 +41,7 @@ pub record Whole (gain : ℤ) (bytes : List ℕ) (first now : Option (List ℕ))
 
 -- The run over the bytes stopped: after a failed read, and where the sound is too long, the frames that had come whole
 -- were written; after a failed write the writer has a front.
-pub record Stopped {R : Type 0} (rest : R → Option (List ℕ)) (told : R → ℕ) (gain : ℤ) (bytes : List ℕ) (new : R) (first now : Option (List ℕ)) (f : RunFault) : Type 0 where
+pub record Stopped {R : Type 0} (told : R → ℕ) (gain : ℤ) (bytes : List ℕ) (reader new : R) (first now : Option (List ℕ)) (f : RunFault) : Type 0 where
   pub head : Head
   pub offset : ℕ
   pub begins : Begins bytes head offset
@@ -50,10 +50,9 @@ pub record Stopped {R : Type 0} (rest : R → Option (List ℕ)) (told : R → �
   pub due : cause_of f ≢ Causes.WriteFailed → WroteAll first now (report_at f).bytes_out (output_for gain head offset (report_at f).frames_in bytes)
   pub no_ends : cause_of f ≢ Causes.WriteFailed → ((report_at f).missing ≡ 0) × ((report_at f).stray ≡ 0)
   pub too_long : cause_of f ≡ Causes.TooLong → ((report_at f).frames_in ≡ MOST_FRAMES) × ((MOST_FRAMES + 1) * size_of (start_of head) ≤ length (within head.announced (drop offset bytes)))
-  -- the frames that had come whole, by the reader's count from the sound's first byte on
-  pub at_sound : Held R
-  pub sound : to_come rest at_sound ≡ Some (drop offset bytes)
-  pub read_failed : cause_of f ≡ Causes.ReadFailed → RanToFailure told at_sound new (start_of head) (report_at f).frames_in
+  -- the reader told the head and so many bytes of the sound: all their whole frames had come
+  pub past_head : cause_of f ≡ Causes.ReadFailed → told new < 2 ^ 64 - 1 → told reader + offset ≤ told new
+  pub read_failed : cause_of f ≡ Causes.ReadFailed → told new < 2 ^ 64 - 1 → (report_at f).frames_in ≡ at_most_announced head.announced (told new - told reader - offset) / size_of (start_of head)
 
 -- a stop is answered only where its cause was counted
 abbrev pub StopHasCause : Stop → ℕ → ℕ → ℕ → ℕ → Type 0
@@ -71,5 +70,5 @@ pub record Converted {R W : Type 0} (rest : R → Option (List ℕ)) (told reads
   pub clean : (f : HeadFault) → outcome ≡ Err (Stops.Head f) → new_writer ≡ writer
   pub refused : (f : HeadFault) → outcome ≡ Err (Stops.Head f) → f ≢ HeadFaults.ReadFailed → IfKnown (rest reader) (λ bytes. head_of None bytes ≡ Err f)
   pub cut : outcome ≡ Err (Stops.Head HeadFaults.ReadFailed) → (new : Held R) × CutOff rest told (head_of None) (record { bytes = []; reader = reader }) new × (new.reader ≡ new_reader)
-  pub stopped : (f : RunFault) → outcome ≡ Err (Stops.Run f) → IfKnown (rest reader) (λ bytes. Stopped rest told gain bytes new_reader (taken writer) (taken new_writer) f)
+  pub stopped : (f : RunFault) → outcome ≡ Err (Stops.Run f) → IfKnown (rest reader) (λ bytes. Stopped told gain bytes reader new_reader (taken writer) (taken new_writer) f)
   pub causes : (s : Stop) → outcome ≡ Err s → StopHasCause s (reads reader) (reads new_reader) (writes writer) (writes new_writer)

@@ -58,6 +58,7 @@ pub record RanToEnd (start : Reading) (bytes : List ℕ) (n missing stray : ℕ)
 -- The reader failed after it had told so many bytes: all whole frames of them were taken.
 pub record RanToFailure {R : Type 0} (told : R → ℕ) (old : Held R) (new : R) (start : Reading) (n : ℕ) : Type 0 where
   pub count : told new < 2 ^ 64 - 1 → n ≡ at_most_announced start.left (length old.bytes + (told new - told old.reader)) / size_of start
+  pub later : told new < 2 ^ 64 - 1 → told old.reader ≤ told new
 
 -- the writer took the first `written` of these bytes
 pub record WroteFront (first now : Option (List ℕ)) (written : ℕ) (all : List ℕ) : Type 0 where

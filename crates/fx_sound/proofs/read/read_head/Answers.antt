@@ -2,7 +2,7 @@ use Rattle.std.proofs.Common.{◌≡◌, ◌+◌, ◌-◌, length, drop, ap, ◌
 use Rattle.std.specs.Prelude.{Some}
 use Rattle.std.proofs.lemmas.List.{length-drop, drop-drop}
 use Rattle.fx_sound.specs.Head.{spelt_as}
-use Rattle.fx_sound.proofs.Held.{Tells-both}
+use Rattle.fx_sound.proofs.Held.{Takes-both, Tells-both}
 use Rattle.fx_sound.proofs.HeadLemmas.{head_of-short, head_of-cut, head_of-read, head_of-read-cut}
 use Rattle.fx_sound.proofs.read.read_head.Goals as goal
 
@@ -65,5 +65,6 @@ returns-clause-head g c = λ bytes known.
       spelt = head_of-read c.args.expected bytes c.fill.new.out c.in-Ok.got _ first.0 first.1 (omega arith) (omega arith) (omega arith) c.in-Some.ensures
           ∙ ap (spelt_as c.in-Some.kind) then.0;
       there = omega (arith, then.1, first.1, place, length-drop c.in-Ok.got bytes);
+      tells = Takes-both g.R.ByteIn.told _ _ _ c.in-Ok.got (c.in-Ok-read_layout.layout.offset - 4) c.in-Ok-read_layout.layout.offset place c.in-Ok.ensures.told c.in-Ok-read_layout.ensures.told;
       others = then.2 ∙ ap Some (drop-drop (c.in-Ok-read_layout.layout.offset - 4) c.in-Ok.got bytes ∙ ap (λ i. drop i bytes) place);
     }

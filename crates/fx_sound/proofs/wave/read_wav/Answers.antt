@@ -1,7 +1,7 @@
 use Rattle.std.proofs.Common.{◌≡◌, ◌+◌, ◌-◌, ◌<◌, length, drop, ap, ◌∙◌, arith}
 use Rattle.std.specs.Prelude.{Some}
 use Rattle.std.proofs.lemmas.List.{length-drop, drop-drop, take-take}
-use Rattle.fx_sound.proofs.Held.{Tells-both}
+use Rattle.fx_sound.proofs.Held.{Takes-both, Tells-both}
 use Rattle.fx_sound.proofs.WaveLemmas.{}
 use Rattle.fx_sound.proofs.WaveRiff.{riff-short, riff-cut, riff-chunks, riff-unknown, riff-chunks-cut}
 use Rattle.fx_sound.proofs.wave.read_wav.Goals as goal
@@ -63,3 +63,11 @@ returns-in-Err-clause-cut g c = λ is_read.
           riff-chunks-cut bytes c.fill.new.out c.name_at-name.result c.in-Ok.got cut.came first.0 first.1 (omega arith) (omega arith) (omega arith) (c.name_at-name.ensures ∙ take-take 4 4 (drop 4 c.fill.new.out) (omega arith)) c.if-ne.ensures
           ∙ cut.undecided _ first.2;
     }
+
+pub returns-in-Ok-read_chunks-clause-told : goal.returns-in-Ok-read_chunks-clause-told
+returns-in-Ok-read_chunks-clause-told g c =
+    let eight = c.fill.auto.out in
+    let count = c.in-Ok.ensures.count in
+    let far : 12 < c.in-Ok-read_chunks.head.offset = c.in-Ok-read_chunks.ensures.offset.0 in
+    let all : c.in-Ok.got + (c.in-Ok-read_chunks.head.offset - 12) ≡ c.in-Ok-read_chunks.head.offset - 4 = omega arith in
+    Takes-both g.R.ByteIn.told _ _ _ c.in-Ok.got (c.in-Ok-read_chunks.head.offset - 12) _ all c.in-Ok.ensures.told c.in-Ok-read_chunks.ensures.told

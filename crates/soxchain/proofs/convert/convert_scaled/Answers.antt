@@ -5,6 +5,9 @@ use Rattle.soxchain.specs.declared.convert.Stop.{Stop}
 use Rattle.soxchain.specs.declared.convert.Stop.TheVariants.{Head, Run}
 use Rattle.soxchain.specs.declared.report.RunFault.{RunFault}
 use Rattle.soxchain.specs.Convert.{StopHasCause, Stopped}
+use Rattle.soxchain.specs.Run.{start_of}
+use Rattle.soxchain.specs.Scaling.{report_at}
+use Rattle.soxchain.proofs.Running.{Ran-told}
 use Rattle.soxchain.proofs.Converting.{held-is, to_come-start, head-causes}
 use Rattle.soxchain.proofs.convert.convert_scaled.Goals as goal
 
@@ -69,7 +72,7 @@ returns-in-Err-run_scaled g c =
       stopped = λ f e bytes known.
           let same : c.in-Err-run_scaled.fault ≡ f = cc in
           let head = c.in-Ok.ensures.head bytes (to_come-start g.R.ByteIn.rest c.new-source.result c.args.reader bytes new.bytes new.reader known) in
-          subst (λ (x : RunFault). Stopped g.R.ByteIn.rest g.R.ByteIn.told c.args.gain bytes c.into_inner-in-Err-run_scaled.result (g.W.ByteOut.taken c.args.output.now) (g.W.ByteOut.taken c.run_scaled.new.writer) x) same
+          subst (λ (x : RunFault). Stopped g.R.ByteIn.told c.args.gain bytes c.args.reader c.into_inner-in-Err-run_scaled.result (g.W.ByteOut.taken c.args.output.now) (g.W.ByteOut.taken c.run_scaled.new.writer) x) same
           (record {
             head = c.in-Ok.head;
             offset = head.offset;
@@ -79,9 +82,8 @@ returns-in-Err-run_scaled g c =
             due = λ h. rw (c.coding_of.ensures) at (ran.due h (drop head.offset bytes) head.others);
             no_ends = ran.no_ends;
             too_long = λ h. let q = ran.too_long h in (q.0, q.1 (drop head.offset bytes) head.others);
-            at_sound = c.read_head.new.source;
-            sound = head.others;
-            read_failed = λ h. rw reader (ran.read_failed h (drop head.offset bytes) head.others);
+            past_head = λ h few. (Ran-told g.R.ByteIn.told c.new-source.result c.read_head.new.source c.args.reader c.into_inner-in-Err-run_scaled.result (start_of c.in-Ok.head) head.offset (report_at c.in-Err-run_scaled.fault).frames_in new.bytes new.reader head.tells (rw reader (ran.read_failed h (drop head.offset bytes) head.others)) few).0;
+            read_failed = λ h few. (Ran-told g.R.ByteIn.told c.new-source.result c.read_head.new.source c.args.reader c.into_inner-in-Err-run_scaled.result (start_of c.in-Ok.head) head.offset (report_at c.in-Err-run_scaled.fault).frames_in new.bytes new.reader head.tells (rw reader (ran.read_failed h (drop head.offset bytes) head.others)) few).1;
           });
       causes = λ s e.
           let same : Run c.in-Err-run_scaled.fault ≡ s = cc in
