@@ -1,3 +1,4 @@
 pub mod Tabulate
 pub mod UpsampleLaws
 pub mod DownsampleLaws
+pub mod TrimLaws

@@ -1,0 +1,39 @@
+-- Which frames `trim` keeps, before the length of the sound is known.
+use Rattle.std.proofs.Common.{◌≡◌, ℕ, ◌+◌, ◌-◌, ◌<◌, ◌≤◌, ◌%◌, max, true, false, cond, leb, eqb, List, [], ◌∷◌, map, length, refl, sym, ◌∙◌, ap, arith}
+use Rattle.std.specs.Prelude.{count_by}
+use Rattle.std.proofs.lemmas.Bool.{lt-leb}
+use Rattle.std.proofs.lemmas.List.Sums.{sum_by-cons}
+use Rattle.fx_fixed.specs.Positions.{place_of, places_after, places_of}
+use Rattle.fx_fixed.specs.declared.positions.At.{At}
+use Rattle.fx_fixed.specs.declared.positions.At.TheVariants.{Start, End}
+use Rattle.fx_cut.specs.Trim.{keeps, greatest_end, starts}
+
+count_by-cons : (n q : ℕ) (qs : List ℕ) → count_by (λ q. leb q n) (q ∷ qs) ≡ cond (leb q n) 1 0 + count_by (λ q. leb q n) qs
+count_by-cons n q qs = sum_by-cons (λ y. cond (leb y n) 1 0) q qs
+
+-- no place from m on is at n or before it, where n is before m
+none_before : (len n m : ℕ) (ps : List At) → n < m → count_by (λ q. leb q n) (places_after len m ps) ≡ 0
+none_before len n m [] h = refl
+none_before len n m (p ∷ ps) h =
+    let q : ℕ = max m (place_of len p) in
+    count_by-cons n q (places_after len q ps)
+    ∙ (let e : leb q n ≡ false = lt-leb q n (omega arith) in
+    ap (λ b. cond b 1 0 + count_by (λ q. leb q n) (places_after len q ps)) e ∙ omega (arith, none_before len n q ps (omega arith)))
+
+-- before the end positions, only the positions before them count
+pub crossed : (len n m : ℕ) (ps : List At) → n + greatest_end ps < len
+    → count_by (λ q. leb q n) (places_after len m ps) ≡ count_by (λ q. leb q n) (places_after 0 m (starts ps))
+crossed len n m [] h = refl
+crossed len n m (Start p ∷ ps) h =
+    count_by-cons n (max m p) (places_after len (max m p) ps)
+    ∙ ap (λ k. cond (leb (max m p) n) 1 0 + k) (crossed len n (max m p) ps h)
+    ∙ sym (count_by-cons n (max m p) (places_after 0 (max m p) (starts ps)))
+crossed len n m (End b ∷ ps) h =
+    let q : ℕ = max m (len - b) in
+    count_by-cons n q (places_after len q ps)
+    ∙ (let e : leb q n ≡ false = lt-leb q n (omega arith) in
+    ap (λ t. cond t 1 0 + count_by (λ q. leb q n) (places_after len q ps)) e ∙ omega (arith, none_before len n q ps (omega arith)))
+
+-- a frame that lies before each end position is kept whatever the length
+pub kept-early : (len n : ℕ) (ps : List At) → n + greatest_end ps < len → keeps (places_of len ps) n ≡ keeps (places_of 0 (starts ps)) n
+kept-early len n ps h = ap (λ k. eqb (k % 2) 1) (crossed len n 0 ps h)
