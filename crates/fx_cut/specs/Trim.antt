@@ -1,6 +1,6 @@
 -- The effect `trim` (sox(1), EFFECTS, trim): the frames after an odd number of positions.
-use Rattle.std.specs.Prelude.{ℕ, ◌%◌, ◌==◌, max, nat_le, Bool, List, [], ◌∷◌, count_by, filter, length, map, slice_index_or}
-use Rattle.std.specs.List.{range_with_len}
+use Rattle.std.specs.Prelude.{ℕ, ◌+◌, ◌%◌, ◌==◌, max, nat_le, Bool, List, [], ◌∷◌, ◌++◌, count_by, filter, length, map, slice_index_or}
+use Rattle.std.specs.List.{range_with_len, enumerate_from}
 use Rattle.fx_fixed.specs.Positions.{places_of}
 use Rattle.fx_fixed.specs.declared.positions.At.{At}
 use Rattle.fx_fixed.specs.declared.positions.At.TheVariants.{Start, End}
@@ -25,3 +25,11 @@ abbrev pub starts : List At → List At
 starts [] = []
 starts (Start p ∷ ps) = Start p ∷ starts ps
 starts (End b ∷ ps) = []
+
+-- what is kept of the frames from place n on, in a sound of so many frames
+abbrev pub trimmed_from : ℕ → List At → ℕ → List Samples → List Samples
+trimmed_from len ps n x = map (λ e. e.1) (filter (λ e. keeps (places_of len ps) e.0) (enumerate_from n x))
+
+-- what is still to be given where the line holds the frames from place n on, and these frames come
+abbrev pub trim_rest : List At → ℕ → List Samples → List Samples → List Samples
+trim_rest ps n line z = trimmed_from (n + length (line ++ z)) ps n (line ++ z)
