@@ -1,5 +1,5 @@
 -- The effect `trim` (sox(1), EFFECTS, trim): the frames after an odd number of positions.
-use Rattle.std.specs.Prelude.{ℕ, ◌+◌, ◌%◌, ◌==◌, max, nat_le, Bool, List, [], ◌∷◌, ◌++◌, count_by, filter, length, map, slice_index_or}
+use Rattle.std.specs.Prelude.{ℕ, ◌+◌, ◌%◌, ◌==◌, max, nat_le, Bool, true, false, List, [], ◌∷◌, ◌++◌, count_by, filter, length, map, slice_index_or}
 use Rattle.std.specs.List.{range_with_len, enumerate_from}
 use Rattle.fx_fixed.specs.Positions.{places_of}
 use Rattle.fx_fixed.specs.declared.positions.At.{At}
@@ -33,3 +33,14 @@ trimmed_from len ps n x = map (λ e. e.1) (filter (λ e. keeps (places_of len ps
 -- what is still to be given where the line holds the frames from place n on, and these frames come
 abbrev pub trim_rest : List At → ℕ → List Samples → List Samples → List Samples
 trim_rest ps n line z = trimmed_from (n + length (line ++ z)) ps n (line ++ z)
+
+-- a position is counted from the start
+abbrev pub is_start : At → Bool
+is_start (Start p) = true
+is_start (End b) = false
+
+-- the greatest position from the start
+abbrev pub last_start : List At → ℕ
+last_start [] = 0
+last_start (Start p ∷ ps) = max p (last_start ps)
+last_start (End b ∷ ps) = last_start ps
