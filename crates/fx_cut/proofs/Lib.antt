@@ -1,3 +1,5 @@
 pub mod Tabulate
 pub mod UpsampleLaws
 pub mod DownsampleLaws
+pub mod TrimLaws
+pub mod TrimRest

@@ -1,5 +1,5 @@
 -- The effect `downsample` (sox(1), EFFECTS, downsample): the first of every so many frames.
-use Rattle.std.specs.Prelude.{ℕ, ◌+◌, ◌*◌, ◌^◌, ◌<◌, ◌≤◌, ◌≡◌, Bool, Option, None, List, [], ◌++◌, drop, length, map, option_to_list, is_none, slice_index_or}
+use Rattle.std.specs.Prelude.{ℕ, ◌+◌, ◌*◌, ◌^◌, ◌≤◌, ◌≡◌, Bool, Option, None, List, [], ◌++◌, drop, length, map, option_to_list, is_none, slice_index_or}
 use Rattle.std.specs.Int.{div_ceil}
 use Rattle.fx_frame.specs.Frame.{Samples}
 use Rattle.fx_frame.specs.Stage.{Given, Acts, coming}

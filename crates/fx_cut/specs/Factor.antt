@@ -1,5 +1,5 @@
 -- What `upsample` and `downsample` are made with (this project's profile).
-use Rattle.std.specs.Prelude.{ℕ, ◌^◌, ◌≤◌}
+use Rattle.std.specs.Prelude.{ℕ, ◌≤◌}
 use Rattle.fx_cut.specs.declared.factor.TheConstants.{MOST_FACTOR}
 
 -- the channels of each frame, and the factor

@@ -3,3 +3,4 @@ pub mod Factor
 pub mod Ceil
 pub mod Downsample
 pub mod Upsample
+pub mod Trim

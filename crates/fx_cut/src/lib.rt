@@ -3,6 +3,7 @@
 
 pub mod downsample;
 pub mod factor;
+pub mod trim;
 pub mod upsample;
 
 pub use downsample::Downsample;

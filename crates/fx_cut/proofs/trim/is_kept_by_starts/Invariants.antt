@@ -1,0 +1,11 @@
+use Rattle.std.proofs.Common.{◌≡◌, ◌+◌, ◌≤◌, drop}
+use Rattle.std.specs.Prelude.{count_by, nat_le}
+use Rattle.fx_fixed.specs.Positions.{places_after}
+use Rattle.fx_cut.specs.Trim.{starts}
+use Rattle.fx_cut.proofs.trim.is_kept_by_starts.Given as goal
+
+abbrev pub invariant-positions : goal.invariant-positions
+invariant-positions l = record {
+  counted : l.crossed + count_by (λ q. nat_le q l.place) (places_after 0 l.last (starts (drop l.at-index l.positions))) ≡ count_by (λ q. nat_le q l.place) (places_after 0 0 (starts l.positions));
+  few : l.crossed ≤ l.at-index;
+}
