@@ -2,9 +2,7 @@
 ghost use Rattle.std.specs.Prelude.{◌≡◌, ◌≤◌, ◌^◌, ◌++◌, ◌∷◌, [], ℕ, List, length, slice_index_or, pos, IfOk};
 ghost use Rattle.fx_frame.specs.Frame.{IsFrame};
 ghost use Rattle.fx_frame.specs.Stage.{IsNew};
-ghost use Rattle.fx_tap.specs.Delay.{DelayState, IsDelay};
-ghost use Rattle.fx_tap.specs.Delay.{longest, sample_before, delayed_at, every_delay};
-ghost use Rattle.fx_tap.specs.Delay.{delay_acts};
+ghost use Rattle.fx_tap.specs.Delay.{DelayState, IsDelay, delay_acts, delayed_at, every_delay, longest, sample_before};
 
 use fx_frame::inner::frame_of;
 use fx_frame::{Frame, Line, Stage, WideFrame};
