@@ -1,0 +1,3 @@
+pub mod Bits
+pub mod Line
+pub mod Spelling
