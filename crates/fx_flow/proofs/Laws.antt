@@ -1,8 +1,8 @@
-use Rattle.std.proofs.Common.{ℕ, zero, suc, ◌+◌, ◌<◌, ◌≤◌, Bool, true, false, List, [], ◌∷◌, ◌++◌, ◌≡◌, length, map, get_or, add-zero, arith, refl, sym, ap, ◌∙◌, Some, None, Option, option_to_list, ◌&&◌}
+use Rattle.std.proofs.Common.{ℕ, zero, suc, ◌+◌, ◌<◌, ◌≤◌, Bool, true, false, List, [], ◌∷◌, ◌++◌, ◌≡◌, length, map, get_or, add-zero, arith, refl, sym, ap, ◌∙◌, Some, None, Option, option_to_list, ◌&&◌, ◌||◌}
 use Rattle.fx_frame.specs.Frame.{Samples}
-use Rattle.fx_frame.specs.Stage.{Counts, Acts, Gave, Took, Ended, kind}
+use Rattle.fx_frame.specs.Stage.{Counts, Acts, Gave, Took, Ended, is_enough, kind}
 use Rattle.fx_frame.specs.Holds.{total, recipes, kinds}
-use Rattle.fx_flow.specs.Parts.{Whole, frames_of, clips_of, Matching, Within, work, due_of, through, wholes, given_by, given_of, ended_of, AllDry, AllSettled, AllEnded, AllNew, IsLastWet, IsFirstOpen, Joined, CanHandOver, HandedOver, CanFeed, Fed, EndPassed}
+use Rattle.fx_flow.specs.Parts.{Whole, frames_of, clips_of, Matching, Within, work, due_of, enough_for, most_of, any_spent, through, wholes, given_by, given_of, ended_of, AllDry, AllSettled, AllEnded, AllNew, IsLastWet, IsFirstOpen, Joined, CanHandOver, HandedOver, CanFeed, Fed, EndPassed}
 
 and-false : (b d : Bool) → d ≡ false → (b && d) ≡ false
 and-false true d h = h
@@ -205,6 +205,20 @@ module _ {S R : Type 0} (acts : Acts S R) where
       let due = dry.1.due open_ in
       given_by-due (acts.counts s).given _ stages (rw open_ refl) dry.2 j.3 ∙ ap (due_of (kinds acts stages)) (due ∙ ap (kind acts s).due j.0)
 
+  -- a dry flow is spent where enough frames have come
+  pub any_spent-enough : (n : ℕ) (over : Bool) (stages : List S) → over ≡ false → AllSettled acts stages → Joined acts n over stages → any_spent acts stages ≡ enough_for (kinds acts stages) n
+  any_spent-enough n over [] f dry j = refl
+  any_spent-enough n over (s ∷ stages) f dry j =
+      let open_ = none_true _ _ j.1 f in
+      let due = dry.1.due open_ in
+      rw (dry.0, j.0) (ap (λ b. is_enough (kind acts s).enough n || b)
+      (any_spent-enough (acts.counts s).given _ stages (rw open_ refl) dry.2 j.3 ∙ ap (enough_for (kinds acts stages)) (due ∙ ap (kind acts s).due j.0)))
+
+  -- new stages have given nothing
+  pub given_by-new : (stages : List S) → AllNew acts stages → given_by acts 0 stages ≡ 0
+  given_by-new [] new = refl
+  given_by-new (s ∷ stages) new = rw (ap (λ (c : Counts). c.given) new.0.counts) (given_by-new stages new.1)
+
   module _ (rises : (r : R) (m n : ℕ) → m ≤ n → (acts.kind_of r).most m ≤ (acts.kind_of r).most n) where
     -- each stage stays joined to the next
     pub Joined-HandedOver : (i : ℕ) (out : Option Samples) (old new : List S) (n : ℕ) (over : Bool) → CanHandOver acts i old → HandedOver acts i out old new → Joined acts n over old → Joined acts n over new
@@ -254,6 +268,18 @@ module _ {S R : Type 0} (acts : Acts S R) where
         let up = rises (acts.recipe s) n most h in
         let rest = work-le stages _ ((kind acts s).most most) _ j.3 (omega arith) in
         omega arith
+
+    pub most_of-le : (stages : List S) (m n : ℕ) → m ≤ n → most_of (kinds acts stages) m ≤ most_of (kinds acts stages) n
+    most_of-le [] m n h = h
+    most_of-le (s ∷ stages) m n h = most_of-le stages _ _ (rises (acts.recipe s) m n h)
+
+    -- the frames that the last gave are no more than the most
+    pub given_by-le : (stages : List S) (n most : ℕ) (over : Bool) → Joined acts n over stages → n ≤ most → given_by acts n stages ≤ most_of (kinds acts stages) most
+    given_by-le [] n most over j h = h
+    given_by-le (s ∷ stages) n most over j h =
+        let given = j.2 in
+        let up = rises (acts.recipe s) n most h in
+        given_by-le stages _ _ _ j.3 (omega arith)
 
     -- the last stage that is not dry may give its frame to the next one
     pub CanHandOver-from : (i : ℕ) (stages : List S) (n : ℕ) (over : Bool) (channels most : ℕ)

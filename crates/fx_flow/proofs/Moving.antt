@@ -46,6 +46,10 @@ module _ {S R : Type 0} (acts : Acts S R) where
   wet-some zero stages some wet dry = omega arith
   wet-some (suc i) stages some wet dry = IsLastWet-dry acts i stages wet dry
 
+  pub settled-dry : (place : ℕ) (stages : List S) → IsWetEnd acts place stages → AllDry acts stages → AllSettled acts stages
+  settled-dry zero stages wet dry = wet
+  settled-dry (suc i) stages wet dry = absurd (IsLastWet-dry acts i stages wet dry)
+
   -- there are fewer stages than frames that they may hold
   pub count-le : (stages : List S) → length stages ≤ hold_sum (kinds acts stages)
   count-le [] = omega arith

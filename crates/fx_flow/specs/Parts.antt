@@ -1,6 +1,6 @@
 use Rattle.std.specs.Prelude.{ℕ, zero, suc, ◌+◌, ◌<◌, ◌≤◌, Bool, true, false, ◌&&◌, ◌||◌, List, [], ◌∷◌, ◌≡◌, map, length, Option, Some, None, option_to_list, cond}
 use Rattle.fx_frame.specs.Frame.{Samples}
-use Rattle.fx_frame.specs.Stage.{Given, Kind, Acts, IsNew, Gave, Took, Ended, IsDry, kind, spent}
+use Rattle.fx_frame.specs.Stage.{Given, Kind, Acts, IsNew, Gave, Took, Ended, IsDry, is_enough, kind, spent}
 use Rattle.fx_frame.specs.Holds.{total}
 
 -- Stages in a row, each of which takes what the one before gives (this project's profile).
@@ -32,6 +32,16 @@ work (k ∷ ks) n = n + work ks (k.most n)
 abbrev pub due_of : List Kind → ℕ → ℕ
 due_of [] n = n
 due_of (k ∷ ks) n = due_of ks (k.due n)
+
+-- the most frames that the last gives where n frames come
+abbrev pub most_of : List Kind → ℕ → ℕ
+most_of [] n = n
+most_of (k ∷ ks) n = most_of ks (k.most n)
+
+-- enough frames have come to one of them after n frames, with no end: it gives nothing more, whatever comes
+abbrev pub enough_for : List Kind → ℕ → Bool
+enough_for [] n = false
+enough_for (k ∷ ks) n = is_enough k.enough n || enough_for ks (k.due n)
 
 -- what a stage gives in all
 pub record Whole : Type 0 where

@@ -71,7 +71,7 @@ impl<S: Stage> Model for Flow<S> {
 }
 
 impl<S: Stage> Flow<S> {
-    ghost use Rattle.fx_flow.specs.Parts.{Parts, taken_of, moves_of, ended_of, AllNew, given_by, due_of, work, any_spent, composed, composed_wholes};
+    ghost use Rattle.fx_flow.specs.Parts.{Parts, taken_of, moves_of, ended_of, AllNew, given_by, due_of, enough_for, most_of, work, any_spent, composed, composed_wholes};
     ghost use Rattle.fx_flow.specs.Sound.{IsPlanned, IsSound, most_frames};
     ghost use Rattle.fx_flow.specs.Steps.{StateIs, IsHungry, IsDone, Steps, MovedOn, rest_of, wholes_of};
 
@@ -83,6 +83,7 @@ impl<S: Stage> Flow<S> {
         ensures value { result ≡ record { stages = stages.items; inlet = None; ended = false; left = 0; channels = channels } }
         ensures rest { (z : List Samples) → rest_of S.acts result z ≡ composed S.acts (recipes S.acts stages.items) z }
         ensures whole { (z : List Samples) → wholes_of S.acts result z ≡ composed_wholes S.acts (recipes S.acts stages.items) z }
+        ensures none_given { given_by S.acts result.left result.stages ≡ 0 }
     {
         let wet = wet_end(&stages, stages.len());
         Flow {
@@ -206,6 +207,7 @@ impl<S: Stage> Flow<S> {
     /// still to be given.
     pub fn is_spent(&self) -> bool
         ensures value { result ≡ any_spent S.acts self.now.stages }
+        ensures enough { IsHungry S.acts self.now → result ≡ enough_for (kinds S.acts self.now.stages) (taken_of self.now) }
         ensures same { result ≡ true → (z : List Samples) → rest_of S.acts self.now z ≡ rest_of S.acts self.now [] }
     {
         is_any_spent(&self.stages)
@@ -239,9 +241,12 @@ impl<S: Stage> Flow<S> {
         Ok((frames, numbers))
     }
 
-    /// The stages, in order.
+    /// The stages, in order. The last has given no more frames than it may give for those taken, and where the flow is
+    /// hungry all that are due.
     pub fn stages(&self) -> &[S]
         ensures value { result.now ≡ self.now.stages }
+        ensures due { IsHungry S.acts self.now → given_by S.acts self.now.left self.now.stages ≡ due_of (kinds S.acts self.now.stages) (taken_of self.now) }
+        ensures most { given_by S.acts self.now.left self.now.stages ≤ most_of (kinds S.acts self.now.stages) (taken_of self.now) }
         ensures sound { IsSound S.acts self.now }
     {
         &self.stages

@@ -1,5 +1,5 @@
 use Rattle.std.proofs.Common.{refl, arith}
-use Rattle.fx_flow.proofs.Laws.{Joined-AllNew, AllNew-dry}
+use Rattle.fx_flow.proofs.Laws.{Joined-AllNew, AllNew-dry, given_by-new}
 use Rattle.fx_flow.proofs.Moving.{through-AllNew, wholes-AllNew}
 use Rattle.fx_flow.proofs.flow.Flow.new.Goals as goal
 
@@ -23,3 +23,6 @@ returns-clause-rest g c = λ z. through-AllNew g.S.Stage.acts _ c.requires.new z
 
 pub returns-clause-whole : goal.returns-clause-whole
 returns-clause-whole g c = λ z. wholes-AllNew g.S.Stage.acts _ c.requires.new z
+
+pub returns-clause-none_given : goal.returns-clause-none_given
+returns-clause-none_given g c = given_by-new g.S.Stage.acts _ c.requires.new

@@ -1,0 +1,3 @@
+pub mod Draining
+pub mod Passing
+pub mod Sending

@@ -1,0 +1,3 @@
+pub mod Outlet
+pub mod Run
+pub mod Through

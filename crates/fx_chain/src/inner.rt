@@ -1,0 +1,1 @@
+//! What the crates above use beyond the public surface.

@@ -1,0 +1,57 @@
+//! Frames on their way to a writer.
+ghost use Rattle.std.specs.Prelude.{◌≡◌, ◌+◌, ◌<◌, ◌≤◌, ◌^◌, OnErr, OnOk, length};
+ghost use Rattle.fx_frame.specs.FrameCoding.{bytes_of, clips_of};
+ghost use Rattle.fx_frame.specs.Io.{CountsFailure};
+ghost use Rattle.fx_sound.specs.Output.{SendsMore, SendsOn, total};
+
+use fx_frame::inner::encode;
+use fx_frame::{ByteOut, Coding, Failed, Frame};
+use fx_sound::inner::Output;
+
+/// Where frames go: their coding, the buffer before the writer, and how many samples were clipped when they were coded.
+#[derive(Drop)]
+pub struct Outlet {
+    pub coding: Coding,
+    pub clips: u64,
+    pub output: Output,
+}
+
+impl Outlet {
+    /// Codes a frame and sends it. Its clips count whether or not that fails.
+    #[inline(always)]
+    #[tactic(auto, using(crate::proofs::Sending::clips_of_le))]
+    pub fn send<W: ByteOut>(&mut self, writer: &mut W, frame: &Frame) -> Result<(), Failed>
+        requires room { total self.old.output + 64 < 2 ^ 64 }
+        requires few { self.old.clips < 2 ^ 62 }
+        ensures sent { OnOk result (SendsMore (W.taken writer.old) (W.taken writer.new) self.old.output self.new.output (bytes_of self.old.coding frame.now)) }
+        ensures sent_err { OnErr result (SendsOn (W.taken writer.old) (W.taken writer.new) self.old.output self.new.output) }
+        ensures small { OnOk result (total self.new.output ≤ total self.old.output + 64) }
+        ensures clips { self.new.clips ≡ self.old.clips + clips_of self.old.coding frame.now }
+        ensures few { self.new.clips ≤ self.old.clips + 16 }
+        ensures coding { self.new.coding ≡ self.old.coding }
+        ensures failures { CountsFailure (W.failures writer.old) (W.failures writer.new) result }
+    {
+        let _channels = frame.channels();
+        match self.output.push_frame(writer, frame, self.coding) {
+            Ok(clips) => {
+                self.clips += clips;
+                Ok(())
+            }
+            Err(Failed) => {
+                self.clips += clips_of_writing(frame, self.coding);
+                Err(Failed)
+            }
+        }
+    }
+}
+
+// How many samples of a frame are clipped when it is written.
+#[inline(never)]
+#[tactic(auto, using(crate::proofs::Sending::frame_size_le))]
+fn clips_of_writing(frame: &Frame, coding: Coding) -> u64
+    ensures { result ≡ clips_of coding frame.now }
+{
+    let size = frame.channels() * coding.width();
+    let mut bytes = [0; 64];
+    encode(frame, coding, &mut bytes[..size])
+}

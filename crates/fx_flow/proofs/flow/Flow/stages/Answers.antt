@@ -1,0 +1,14 @@
+use Rattle.std.proofs.Common.{◌≡◌, ◌≤◌, add-zero, arith}
+use Rattle.fx_flow.proofs.Laws.{given_by-due, given_by-le}
+use Rattle.fx_flow.proofs.Moving.{settled-dry}
+use Rattle.fx_flow.proofs.flow.Flow.stages.Goals as goal
+
+pub returns-clause-most : goal.returns-clause-most
+returns-clause-most g c =
+    rw (← c.self.view_is) (given_by-le g.S.Stage.acts g.met.S.Stage.rises _ _ _ _ c.self.invariant.0.joined (omega arith))
+
+pub returns-clause-due : goal.returns-clause-due
+returns-clause-due g c =
+    rw (← c.self.view_is) (λ h.
+    let dry = settled-dry g.S.Stage.acts _ _ c.self.invariant.1 h.dry in
+    rw (h.empty, add-zero) (given_by-due g.S.Stage.acts _ _ _ h.not_ended dry c.self.invariant.0.joined))
