@@ -8,7 +8,9 @@ ghost use Rattle.fx_flow.specs.Steps.{step_of};
 use crate::frozen::{
     Inlet, append_frames, append_inlet, append_numbers, is_joined, thaw_all, thaw_inlet,
 };
-use crate::moves::{first_open, given_by_all, is_any_spent, is_still, move_on, pass_on, wet_end};
+use crate::moves::{
+    first_open, given_by_all, given_by_last, is_any_spent, is_still, move_on, pass_on, wet_end,
+};
 use fx_frame::frame::Frame;
 use fx_frame::holds::{held_by, hold_by};
 use fx_frame::stage::{Stage, ThawFault, Thaws};
@@ -164,6 +166,13 @@ impl<S: Stage> Flow<S> {
         ensures few { result ≤ most_frames }
     {
         self.left + u64::from(self.inlet.is_some())
+    }
+
+    /// How many frames it gave.
+    pub fn given(&self) -> u64
+        ensures { result ≡ given_by S.acts self.now.left self.now.stages }
+    {
+        given_by_last(self.left, &self.stages)
     }
 
     /// How many frames left the inlet or a stage. For the frames taken it is at most their work; where

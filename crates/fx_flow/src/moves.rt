@@ -1,6 +1,6 @@
 ghost use Rattle.std.specs.Prelude.{◌≡◌, ◌<◌, ◌≤◌, ◌↔◌, ◌^◌, ℕ, true, None, drop, length, MatchOption, List};
 ghost use Rattle.fx_frame.specs.Frame.{Samples};
-ghost use Rattle.fx_flow.specs.Parts.{AllSettled, AllEnded, IsWetEnd, IsFirstOpen, EndPassed, any_spent, given_of, through};
+ghost use Rattle.fx_flow.specs.Parts.{AllSettled, AllEnded, IsWetEnd, IsFirstOpen, EndPassed, any_spent, given_by, given_of, through};
 ghost use Rattle.fx_flow.specs.Moving.{CanMove, Lifted, MovedFrom};
 
 use fx_frame::frame::Frame;
@@ -120,6 +120,19 @@ pub fn given_by_all<S: Stage>(stages: &[S]) -> u64
         sum += stage.counters()[1];
     }
     sum
+}
+
+/// How many frames the last stage gave; without a stage those that left the inlet.
+pub fn given_by_last<S: Stage>(left: u64, stages: &[S]) -> u64
+    ensures { result ≡ given_by S.acts left stages.now }
+{
+    let mut given = left;
+    let mut rest = stages;
+    while let Some((stage, more)) = rest.split_first() {
+        given = stage.counters()[1];
+        rest = more;
+    }
+    given
 }
 
 /// Does some stage give nothing more, whatever comes? Then the last one gives the same, whatever comes.

@@ -56,6 +56,13 @@ impl Output {
         self.written
     }
 
+    /// How many bytes were ever put into it: those that the writer took, and those that wait.
+    pub fn bytes_put(&self) -> u64
+        ensures { result ≡ total self.now }
+    {
+        self.written + self.waiting() as u64
+    }
+
     // How many bytes wait.
     fn waiting(&self) -> usize
         ensures { result ≡ length self.now.bytes }
