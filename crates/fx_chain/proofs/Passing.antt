@@ -158,3 +158,9 @@ module _ {S R : Type 0} (acts : Acts S R) where
     clipped = let c = coded_clips-append coding p.given q.given in omega (arith, c, q.clipped, p.clipped);
     front = rw (coded-append coding p.given q.given, ← append_assoc head (coded coding p.given) (coded coding q.given)) (q.front first (head ++ coded coding p.given) p.sent);
   }
+
+  -- where nothing that follows changes anything
+  pub settled : (start at : Parts S) (frames given z : List Samples) → Through acts start at frames given → at.ended ≡ false → ((y : List Samples) → rest_of acts at y ≡ rest_of acts at [])
+      → rest_of acts start (frames ++ z) ≡ rest_of acts start frames
+  settled start at frames given z p running same =
+      p.rest z (λ t. not-both at.ended running t) ∙ ap (λ l. given ++ l) (same z) ∙ sym (p.rest [] (λ t. refl)) ∙ ap (rest_of acts start) (append-nil frames)

@@ -1,3 +1,4 @@
 pub mod Outlet
+pub mod Report
 pub mod Run
 pub mod Through

@@ -1,8 +1,12 @@
 //! Sounds through chains of effects: a source, a flow of stages, and a writer.
 #![tactic(auto)]
 
-pub mod inner;
 mod drain;
+pub mod inner;
 mod outlet;
-pub mod pump;
+mod pump;
+mod report;
+mod run;
+mod target;
 
+pub use report::{MOST_EFFECTS, Report, RunFault};

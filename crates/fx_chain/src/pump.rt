@@ -1,10 +1,11 @@
 //! Frames from a source through a flow to a writer.
-ghost use Rattle.std.specs.Prelude.{◌≡◌, ◌+◌, ◌*◌, ◌<◌, ◌≤◌, ◌^◌, [], false, true, OnErr, OnOk, Err, MatchBool, length};
+ghost use Rattle.std.specs.Prelude.{◌≡◌, ◌+◌, ◌*◌, ◌<◌, ◌≤◌, ◌^◌, ◌++◌, [], false, true, List, OnErr, OnOk, Err, MatchBool, length};
 ghost use Rattle.fx_chain.specs.Run.{Flowed, FlowedFront, RanToEnd, RanToFailure, WantsMore, is_read_failed, is_write_failed, sound_frames};
 ghost use Rattle.fx_chain.specs.Through.{CutOff, Drained};
 ghost use Rattle.fx_flow.specs.Parts.{due_of, enough_for, given_by, most_of, taken_of};
 ghost use Rattle.fx_flow.specs.Sound.{most_frames};
-ghost use Rattle.fx_flow.specs.Steps.{IsDone, IsHungry};
+ghost use Rattle.fx_flow.specs.Steps.{IsDone, IsHungry, rest_of};
+ghost use Rattle.fx_frame.specs.Frame.{Samples};
 ghost use Rattle.fx_frame.specs.Holds.{kinds, recipes};
 ghost use Rattle.fx_frame.specs.Io.{CountsFailure, saturated};
 ghost use Rattle.fx_sound.specs.Known.{IfKnown};
@@ -43,10 +44,15 @@ fn end_flow<S: Stage, W: ByteOut>(
     ensures drained { OnOk result (Drained S.acts (record flow.old { ended = true }) flow.new outlet.old.coding outlet.old.clips outlet.new.clips (W.taken writer.old) (W.taken writer.new) outlet.old.output outlet.new.output) }
     ensures cut_off { OnErr result (CutOff S.acts (record flow.old { ended = true }) flow.new outlet.old.coding outlet.old.clips outlet.new.clips (W.taken writer.old) (W.taken writer.new) outlet.old.output outlet.new.output) }
     ensures done { OnOk result (IsDone S.acts flow.new) }
+    ensures room { OnOk result (total outlet.new.output ≤ 2 ^ 63) }
     ensures failures { CountsFailure (W.failures writer.old) (W.failures writer.new) result }
 {
     flow.end();
-    drain(flow, outlet, writer)
+    let Ok(()) = drain(flow, outlet, writer) else {
+        return Err(Failed);
+    };
+    let _stages = flow.stages();
+    Ok(())
 }
 
 /// Puts the head into the outlet, and what a flow gives for the frames of a sound behind it.
@@ -72,6 +78,8 @@ pub fn pump<R: ByteIn, S: Stage, W: ByteOut>(
     ensures write_failed { is_write_failed result ≡ true → IfKnown (to_come R.rest source.old) (λ bytes.
         FlowedFront S.acts flow.old flow.new outlet.old.coding (sound_frames progress.old progress.new.frames bytes) outlet.new.clips (W.taken writer.old) (W.taken writer.new) outlet.new.output head.now) }
 
+    ensures room { is_write_failed result ≡ false → total outlet.new.output ≤ 2 ^ 63 }
+
     // What the flow is.
     ensures done { OnOk result (IsDone S.acts flow.new) }
     ensures hungry { OnErr result (is_write_failed result ≡ false → IsHungry S.acts flow.new) }
@@ -87,6 +95,8 @@ pub fn pump<R: ByteIn, S: Stage, W: ByteOut>(
     ensures over { OnErr result (is_write_failed result ≡ false → progress.new.over ≡ false) }
     ensures wants { WantsMore (kinds S.acts flow.old.stages) progress.new.frames }
     ensures enough { OnOk result (MatchBool progress.new.over (enough_for (kinds S.acts flow.old.stages) progress.new.frames ≡ false) (enough_for (kinds S.acts flow.old.stages) progress.new.frames ≡ true)) }
+    ensures settled { OnOk result (progress.new.over ≡ false → IfKnown (to_come R.rest source.old) (λ bytes. (z : List Samples) →
+        rest_of S.acts flow.old (sound_frames progress.old progress.new.frames bytes ++ z) ≡ rest_of S.acts flow.old (sound_frames progress.old progress.new.frames bytes))) }
     ensures not_enough { OnErr result (is_write_failed result ≡ false → enough_for (kinds S.acts flow.old.stages) progress.new.frames ≡ false) }
     ensures read_failed { is_read_failed result ≡ true → RanToFailure R.told source.old source.new.reader progress.old progress.new.frames }
     ensures too_long { result ≡ Err Cause.TooLong → (progress.new.frames ≡ MOST_FRAMES) × IfKnown (to_come R.rest source.old) (λ bytes.

@@ -6,7 +6,8 @@ use Rattle.fx_sound.specs.Container.{after_frames}
 use Rattle.fx_sound.specs.Sound.{Reading, after_frame, size_of}
 use Rattle.fx_sound.specs.Source.{to_come}
 use Rattle.std.specs.Prelude.{Some}
-use Rattle.fx_chain.proofs.Passing.{Flowed-end, Flowed-start, Flowed-turn, FlowedFront-end, FlowedFront-start, FlowedFront-turn, RanToEnd-end, RanToFailure-failed, WantsMore-next, enough-same, sound_frames-more, taken-take}
+use Rattle.fx_chain.proofs.Draining.{given_by-few}
+use Rattle.fx_chain.proofs.Passing.{settled, Flowed-end, Flowed-start, Flowed-turn, FlowedFront-end, FlowedFront-start, FlowedFront-turn, RanToEnd-end, RanToFailure-failed, WantsMore-next, enough-same, sound_frames-more, taken-take}
 use Rattle.fx_chain.proofs.Sending.{Sent-start, WroteFront-sent}
 use Rattle.fx_chain.proofs.pump.pump.Goals as goal
 
@@ -169,3 +170,21 @@ loop-turn-preserved g c =
       reads = next.failures ∙ old.reads;
       writes = drained.failures ∙ old.writes;
     }
+
+pub returns-in-Err-ReadFailed-clause-room : goal.returns-in-Err-ReadFailed-clause-room
+returns-in-Err-ReadFailed-clause-room g c = λ _.
+    let old = c.loop-turn.invariant in
+    let few = given_by-few g.S.Stage.acts g.met.S.Stage.rises c.args.flow.now c.loop-turn.flow old.stay c.requires.fits c.stages-stages.ensures.most c.stages-stages.ensures.sound.few in
+    omega (arith, few, old.room)
+
+pub returns-in-Err-TooLong-clause-room : goal.returns-in-Err-TooLong-clause-room
+returns-in-Err-TooLong-clause-room g c = λ _.
+    let old = c.loop-turn.invariant in
+    let few = given_by-few g.S.Stage.acts g.met.S.Stage.rises c.args.flow.now c.loop-turn.flow old.stay c.requires.fits c.stages-stages.ensures.most c.stages-stages.ensures.sound.few in
+    omega (arith, few, old.room)
+
+pub returns-then-is_spent-clause-settled : goal.returns-then-is_spent-clause-settled
+returns-then-is_spent-clause-settled g c = λ _ bytes known z.
+    let old = c.loop-turn.invariant in
+    let same = c.is_spent.ensures.same c.if-is_spent.true in
+    rw (old.frames) (settled g.S.Stage.acts c.args.flow.now c.loop-turn.flow _ _ z (old.flowed bytes known).through old.hungry.not_ended (λ y. same y))

@@ -1,0 +1,19 @@
+//! What a run writes.
+ghost use Rattle.std.specs.Prelude.{◌≤◌, IsTrue};
+ghost use Rattle.fx_sound.specs.Kind.{is_coding_of};
+
+use fx_frame::Coding;
+use fx_sound::Kind;
+
+/// What is written: a container, a coding of it, a rate of at least 1, 1 to 16 channels, and whether it goes to a file.
+#[derive(Clone, Copy, Debug)]
+pub struct Target {
+    pub kind: Kind,
+    pub coding: Coding,
+    pub rate: u32,
+    pub channels: usize,
+    pub named: bool,
+    pub ghost coded: { IsTrue (is_coding_of kind coding) },
+    pub ghost rated: { 1 ≤ rate },
+    pub ghost some: { (1 ≤ channels) × (channels ≤ 16) },
+}
