@@ -1,5 +1,5 @@
 -- A conversion, put together from its head and its run.
-use Rattle.std.proofs.Common.{◌≡◌, ◌≢◌, ℕ, ◌+◌, List, [], ◌++◌, refl, sym, ap, ◌∙◌}
+use Rattle.std.proofs.Common.{◌≡◌, ◌≢◌, ℕ, ◌+◌, ◌-◌, ◌/◌, ◌^◌, ◌<◌, ◌≤◌, List, [], ◌++◌, length, refl, sym, ap, arith, ◌∙◌}
 use Rattle.std.specs.Prelude.{MatchBool, Option, Some, Result, Err}
 use Rattle.std.specs.Io.KnownBytes.{prepend_known}
 use mathlib.Core.Path.{ap₂}
@@ -7,8 +7,10 @@ use Rattle.fx_frame.specs.Io.{saturated}
 use Rattle.fx_sound.specs.declared.head.HeadFault.{HeadFault}
 use Rattle.fx_sound.specs.declared.head.HeadFault.TheVariants.{ReadFailed, UnknownType, Truncated, BadHeader, NotInProfile, TooManyChannels, HeadTooLong}
 use Rattle.fx_sound.specs.Layout.{is_read_failure}
-use Rattle.fx_sound.specs.Source.{Held, to_come}
-use Rattle.soxchain.specs.declared.convert.Stop.TheVariants.{Head}
+use Rattle.fx_chain.specs.Run.{RanToFailure}
+use Rattle.fx_sound.specs.Sound.{Reading, at_most_announced, size_of}
+use Rattle.fx_sound.specs.Source.{Held, Takes, to_come}
+use Rattle.soxchain.specs.declared.conversion.Stop.TheVariants.{Head}
 use Rattle.soxchain.specs.Convert.{StopHasCause}
 
 -- a new source holds nothing
@@ -28,3 +30,14 @@ head-causes X BadHeader reads new writes new_writes h = h
 head-causes X NotInProfile reads new writes new_writes h = h
 head-causes X TooManyChannels reads new writes new_writes h = h
 head-causes X HeadTooLong reads new writes new_writes h = h
+
+-- the frames that had come whole, by the reader's count from the first byte of the input on
+pub Ran-told : {R : Type 0} (told : R → ℕ) (first at : Held R) (reader new : R) (start : Reading) (offset n : ℕ) → first.bytes ≡ [] → first.reader ≡ reader → Takes told first at offset → RanToFailure told at new start n → told new < 2 ^ 64 - 1
+    → (told reader + offset ≤ told new) × (n ≡ at_most_announced start.left (told new - told reader - offset) / size_of start)
+Ran-told told first at reader new start offset n none is t r h =
+    let later = r.later h in
+    let here = t.counted (omega arith) in
+    let empty : length first.bytes ≡ 0 = ap length none in
+    let same : told first.reader ≡ told reader = ap told is in
+    let past : length at.bytes + (told new - told at.reader) ≡ told new - told reader - offset = omega arith in
+    (omega arith, r.count h ∙ ap (λ k. at_most_announced start.left k / size_of start) past)

@@ -1,5 +1,2 @@
 pub mod Converting
-pub mod Running
-pub mod Sending
 pub mod TellingLemmas
-pub mod Turns

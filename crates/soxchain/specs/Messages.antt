@@ -3,14 +3,16 @@ use Rattle.std.specs.Prelude.{ℕ, zero, suc, slice_index_or, Result, Ok, Err, L
 use Rattle.fx_fixed.specs.declared.gains.NumberFault.TheVariants.{NotANumber, TooLong, OutOfRange}
 use Rattle.fx_sound.specs.declared.head.HeadFault.{HeadFault}
 use Rattle.fx_sound.specs.declared.head.HeadFault.TheVariants as HeadFaults
-use Rattle.soxchain.specs.declared.convert.Stop.{Stop}
-use Rattle.soxchain.specs.declared.convert.Stop.TheVariants.{Head, Run}
-use Rattle.soxchain.specs.declared.report.Report.{Report}
-use Rattle.soxchain.specs.declared.report.RunFault.{RunFault}
-use Rattle.soxchain.specs.declared.report.RunFault.TheVariants as RunFaults
+use Rattle.soxchain.specs.declared.conversion.Stop.{Stop}
+use Rattle.soxchain.specs.declared.conversion.Stop.TheVariants.{Head, Memory, Run}
+use Rattle.fx_chain.specs.declared.report.Report.{Report}
+use Rattle.fx_chain.specs.declared.report.RunFault.{RunFault}
+use Rattle.fx_chain.specs.declared.report.RunFault.TheVariants as RunFaults
 use Rattle.soxchain.specs.declared.words.WordFault.{WordFault}
-use Rattle.soxchain.specs.declared.words.WordFault.TheVariants.{BadOption, BadGain}
-use Rattle.soxchain.specs.Scaling.{report_at}
+use Rattle.soxchain.specs.declared.words.WordFault.TheVariants.{Line, BadGain}
+use Rattle.fx_line.specs.declared.line.LineFault.{LineFault}
+use Rattle.fx_line.specs.declared.line.LineFault.TheVariants as LineFaults
+use Rattle.fx_chain.specs.Report.{report_at}
 
 -- the end of a line
 abbrev pub line_feed : List ℕ
@@ -37,9 +39,21 @@ abbrev pub warning : List ℕ → ℕ → List ℕ
 warning counted zero = []
 warning counted (suc n) = codes "soxchain: warning: " ++ counted ++ codes " " ++ decimal (suc n) ++ line_feed
 
--- the message on words that are refused, of which the sixth stands for the gain
+-- number and name of why a command line is refused
+abbrev pub line_label : LineFault → List ℕ
+line_label LineFaults.MissingFile = codes "1 MissingFile"
+line_label LineFaults.BadOption = codes "2 BadOption"
+line_label LineFaults.NoOutputType = codes "3 NoOutputType"
+line_label LineFaults.BadBits = codes "4 BadBits"
+line_label LineFaults.Memory = codes "5 Memory"
+
+-- a chain for which no memory was found
+abbrev pub chain_message : List ℕ
+chain_message = codes "soxchain: chain: no memory" ++ [] ++ [] ++ [] ++ line_feed
+
+-- the message on words that are refused, of which the last stands for the gain
 abbrev pub word_message : WordFault → List ℕ → List ℕ
-word_message BadOption word = line_message (codes "2 BadOption")
+word_message (Line fault) word = line_message (line_label fault)
 word_message (BadGain NotANumber) word = effect_message (codes "5 BadArgument") word
 word_message (BadGain TooLong) word = effect_message (codes "5 BadArgument") word
 word_message (BadGain OutOfRange) word = effect_message (codes "6 OutOfRange") word
@@ -71,6 +85,7 @@ warnings r =
 -- the messages on a stop
 abbrev pub stop_messages : Stop → List ℕ
 stop_messages (Head f) = input_message (head_label f)
+stop_messages Memory = chain_message
 stop_messages (Run f) = warnings (report_at f) ++ run_message (run_label f) (report_at f).frames_in
 
 -- the messages on a conversion whose words were accepted

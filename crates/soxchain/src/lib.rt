@@ -1,16 +1,14 @@
 //! The conversion from words and bytes to bytes, messages and a status.
 #![tactic(auto)]
 
-pub mod convert;
-pub mod messages;
-pub mod pump;
-pub mod report;
-pub mod run;
-pub mod scaler;
-pub mod telling;
-pub mod words;
+mod conversion;
+pub mod inner;
+mod messages;
+mod telling;
+mod words;
 
-pub use report::{Report, RunFault};
+pub use conversion::convert;
+pub use fx_chain::{MOST_EFFECTS, Report, RunFault};
 
 #[cfg(test)]
 mod tests;

@@ -1,15 +1,16 @@
 //! The messages of the program, one line each.
 ghost use Rattle.std.specs.Prelude.{◌≡◌, ◌++◌};
-ghost use Rattle.soxchain.specs.Messages.{effect_message, head_label, input_message, line_message, run_label, run_message, stop_messages, warning, warnings, word_message};
-ghost use Rattle.soxchain.specs.Scaling.{report_at};
+ghost use Rattle.soxchain.specs.Messages.{chain_message, effect_message, head_label, input_message, line_label, line_message, run_label, run_message, stop_messages, warning, warnings, word_message};
+ghost use Rattle.fx_chain.specs.Report.{report_at};
 ghost use Rattle.soxchain.specs.Telling.{TellsMore};
 
-use crate::convert::Stop;
-use crate::report::{Report, RunFault};
+use crate::conversion::Stop;
 use crate::telling::Telling;
 use crate::words::WordFault;
+use fx_chain::{Report, RunFault};
 use fx_fixed::NumberFault;
 use fx_frame::ByteOut;
+use fx_line::LineFault;
 use fx_sound::HeadFault;
 use itoa::Buffer;
 
@@ -79,7 +80,7 @@ pub fn tell_words<M: ByteOut>(telling: &mut Telling, messages: &mut M, fault: Wo
     ensures { TellsMore telling.old.has_failed telling.new.has_failed (M.taken messages.old) (M.taken messages.new) (M.failures messages.old) (M.failures messages.new) (word_message fault word.now) }
 {
     match fault {
-        WordFault::BadOption => tell_line(telling, messages, "2 BadOption"),
+        WordFault::Line(fault) => tell_line(telling, messages, label_of_line(fault)),
         WordFault::BadGain(NumberFault::NotANumber | NumberFault::TooLong) => {
             tell_effect(telling, messages, "5 BadArgument", word)
         }
@@ -87,6 +88,26 @@ pub fn tell_words<M: ByteOut>(telling: &mut Telling, messages: &mut M, fault: Wo
             tell_effect(telling, messages, "6 OutOfRange", word)
         }
     }
+}
+
+// Number and name of why a command line is refused.
+fn label_of_line(fault: LineFault) -> &'static str
+    ensures { result.now ≡ line_label fault }
+{
+    match fault {
+        LineFault::MissingFile => "1 MissingFile",
+        LineFault::BadOption => "2 BadOption",
+        LineFault::NoOutputType => "3 NoOutputType",
+        LineFault::BadBits => "4 BadBits",
+        LineFault::Memory => "5 Memory",
+    }
+}
+
+/// `soxchain: chain: no memory`.
+pub fn tell_chain<M: ByteOut>(telling: &mut Telling, messages: &mut M)
+    ensures { TellsMore telling.old.has_failed telling.new.has_failed (M.taken messages.old) (M.taken messages.new) (M.failures messages.old) (M.failures messages.new) chain_message }
+{
+    telling.sentence(messages, "soxchain: chain: no memory", "", "", "", "\n");
 }
 
 // Number and name of what is wrong with a head.
@@ -141,6 +162,7 @@ pub fn tell_stop<M: ByteOut>(telling: &mut Telling, messages: &mut M, stop: &Sto
 {
     match stop {
         Stop::Head(fault) => tell_input(telling, messages, label_of_head(*fault)),
+        Stop::Memory => tell_chain(telling, messages),
         Stop::Run(fault) => {
             let report = fault.report();
             tell_warnings(telling, messages, &report);

@@ -1,8 +1,8 @@
 //! Whole conversions: worked rows, with readers of many pieces, and writers that fail.
 ghost use Rattle.std.specs.Prelude.{◌<◌};
 
-use crate::convert::convert;
-use crate::report::Report;
+use crate::convert;
+use fx_chain::Report;
 use fx_frame::{Sink, Tape};
 use std::alloc::{AllocError, Global};
 use std::test::Fail;

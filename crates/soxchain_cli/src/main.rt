@@ -2,9 +2,8 @@
 #![tactic(auto)]
 
 use fx_frame::Counted;
-use soxchain::convert::convert;
-use soxchain::messages::tell_line;
-use soxchain::telling::Telling;
+use soxchain::convert;
+use soxchain::inner::{Telling, tell_line};
 use std::process::ExitCode;
 use std::{env, io};
 
