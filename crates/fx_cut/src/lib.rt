@@ -7,6 +7,7 @@ pub mod trim;
 pub mod upsample;
 
 pub use downsample::Downsample;
+pub use trim::Trim;
 pub use upsample::Upsample;
 
 #[cfg(test)]
