@@ -1,8 +1,12 @@
 pub mod Tabulate
 pub mod UpsampleLaws
 pub mod DownsampleLaws
+pub mod Hands
 pub mod Fallen
 pub mod Ranges
+pub mod Weighing
+pub mod FadeLaws
 pub mod TrimLaws
 pub mod TrimRest
 pub mod TrimSteps
+pub mod FadeSteps

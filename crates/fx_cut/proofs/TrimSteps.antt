@@ -1,6 +1,6 @@
 -- The steps of a trim.
 use Rattle.std.proofs.Common.{◌≡◌, ℕ, ℤ, ◌+◌, ◌-◌, ◌<◌, ◌≤◌, ◌%◌, ◌^◌, Bool, true, false, cond, eqb, ◌&&◌, List, [], ◌∷◌, ◌++◌, map, length, drop, refl, sym, ◌∙◌, ap, arith, length-append}
-use Rattle.std.specs.Prelude.{Option, Some, None, option_to_list, is_none, is_some, slice_get, filter}
+use Rattle.std.specs.Prelude.{Option, Some, None, option_to_list, is_none, slice_get, filter}
 use Rattle.std.specs.Int.{w32}
 use Rattle.std.specs.List.{enumerate_from, list_all}
 use Rattle.std.proofs.lemmas.Bool.{leb-true, and_parts, false≢true, eqb-true}
@@ -14,6 +14,7 @@ use Rattle.fx_frame.specs.Stage.{Gave, Took, coming, is_enough}
 use Rattle.fx_cut.specs.Lists.{plain}
 use Rattle.fx_cut.specs.Trim.{keeps, starts, greatest_end, is_start, last_start, trimmed_from, trim_rest, trim_after, trim_enough, TrimState, IsTrim, trim_acts}
 use Rattle.fx_cut.proofs.Fallen.{fallen, stays, no_fall, stays-room, is_full, oldest-first, oldest-channels, first-popped}
+use Rattle.fx_cut.proofs.Hands.{none_of, at_most_one}
 use Rattle.fx_cut.proofs.Ranges.{kept_next}
 use Rattle.fx_cut.proofs.TrimLaws.{none-late}
 use Rattle.fx_cut.proofs.TrimRest.{trim_taken, trim_let_go, trim_ended}
@@ -41,18 +42,6 @@ drained ps frames items items' o b e e' h k =
 -- the state after a frame came
 abbrev pub took : TrimState → Frames ℤ → Option Samples → TrimState
 took s line hand = record s { line = line; hand = hand; taken = s.taken + 1 }
-
-none_of : (hand : Option Samples) → is_none hand ≡ true → hand ≡ None
-none_of None h = refl
-none_of (Some x) h = absurd (cc)
-
-pub not-some : (hand : Option Samples) → is_some hand ≡ false → hand ≡ None
-not-some None h = refl
-not-some (Some x) h = absurd (cc)
-
-pub empty-hand : (hand : Option Samples) → is_none hand ≡ true → option_to_list hand ≡ []
-empty-hand None h = refl
-empty-hand (Some x) h = absurd (cc)
 
 module _ (s : TrimState) (frame : Samples) (is : IsTrim s) (dry : is_none s.hand ≡ true) (running : s.ended ≡ false) where
   none : s.hand ≡ None
@@ -154,10 +143,6 @@ module _ (s : TrimState) (frame : Samples) (is : IsTrim s) (dry : is_none s.hand
         over = λ r. absurd (cc (r, running));
         fits = fits;
       }
-    where
-      at_most_one : (h : Option Samples) → length (option_to_list h) ≤ 1
-      at_most_one None = omega arith
-      at_most_one (Some x) = omega arith
 
   pub fits-oldest : (line : Frames ℤ) (o : Samples) → Some o ≡ fallen s.line.capacity s.line.items frame → length frame ≡ s.recipe.channels → IsFrame o → IsHand s.recipe.channels (Some o)
   fits-oldest line o e f framed =

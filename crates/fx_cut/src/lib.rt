@@ -3,10 +3,12 @@
 
 pub mod downsample;
 pub mod factor;
+pub mod fade;
 pub mod trim;
 pub mod upsample;
 
 pub use downsample::Downsample;
+pub use fade::Fade;
 pub use trim::Trim;
 pub use upsample::Upsample;
 

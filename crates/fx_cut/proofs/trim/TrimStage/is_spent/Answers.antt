@@ -1,7 +1,8 @@
 use Rattle.std.proofs.Common.{◌≡◌, true, ap, ◌∙◌, sym}
 use Rattle.fx_frame.specs.Stage.{is_enough}
 use Rattle.fx_cut.specs.Trim.{trim_enough}
-use Rattle.fx_cut.proofs.TrimSteps.{not-some, spent-rest}
+use Rattle.fx_cut.proofs.TrimSteps.{spent-rest}
+use Rattle.fx_cut.proofs.Hands.{not-some}
 use Rattle.fx_cut.proofs.trim.TrimStage.is_spent.Goals as goal
 
 pub returns-then-is_none-clause-nothing : goal.returns-then-is_none-clause-nothing

@@ -1,6 +1,7 @@
 -- A frame comes: it stays in the line, or the oldest falls out and is kept or not.
 use Rattle.std.proofs.Common.{refl, ap, length}
-use Rattle.fx_cut.proofs.TrimSteps.{Took-inside, Took-fallen, IsTrim-inside, IsTrim-fallen, fits-oldest, empty-hand}
+use Rattle.fx_cut.proofs.TrimSteps.{Took-inside, Took-fallen, IsTrim-inside, IsTrim-fallen, fits-oldest}
+use Rattle.fx_cut.proofs.Hands.{empty-hand}
 use Rattle.fx_cut.proofs.trim.TrimStage.take.Goals as goal
 
 pub returns-in_default : goal.returns-in_default
