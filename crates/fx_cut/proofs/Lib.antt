@@ -8,5 +8,8 @@ pub mod Weighing
 pub mod FadeLaws
 pub mod TrimLaws
 pub mod TrimRest
+pub mod PadLaws
+pub mod PadRest
+pub mod PadSteps
 pub mod TrimSteps
 pub mod FadeSteps

@@ -6,3 +6,4 @@ pub mod Downsample
 pub mod Upsample
 pub mod Trim
 pub mod Fade
+pub mod Pad
