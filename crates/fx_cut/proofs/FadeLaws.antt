@@ -75,7 +75,7 @@ pub fade_taken : (f : Shape) (n : ℕ) (items : List Samples) (frame : Samples) 
 fade_taken f n items frame z = ap (λ y. faded_from f (n + length y) n y) (sym (append_assoc items (frame ∷ []) z))
 
 -- what is given of frames, where the stop is known
-abbrev given_by : Shape → Option ℕ → ℕ → List Samples → List Given
+abbrev pub given_by : Shape → Option ℕ → ℕ → List Samples → List Given
 given_by f stop n x = map (λ e. faded_frame f stop e.0 e.1) (enumerate_from n (before_stop stop n x))
 
 -- the first frame

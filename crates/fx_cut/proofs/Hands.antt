@@ -18,3 +18,7 @@ empty-hand (Some x) h = absurd (cc)
 pub at_most_one : (hand : Option Samples) → length (option_to_list hand) ≤ 1
 at_most_one None = omega arith
 at_most_one (Some x) = omega arith
+
+pub no-hand : (hand : Option Samples) → length (option_to_list hand) ≡ 0 → hand ≡ None
+no-hand None h = refl
+no-hand (Some x) h = absurd (omega arith)

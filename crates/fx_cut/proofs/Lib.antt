@@ -7,9 +7,13 @@ pub mod Ranges
 pub mod Weighing
 pub mod FadeLaws
 pub mod TrimLaws
+pub mod TrimCount
 pub mod TrimRest
 pub mod PadLaws
 pub mod PadRest
 pub mod PadSteps
 pub mod TrimSteps
+pub mod Thawing
+pub mod TrimThaw
+pub mod FadeThaw
 pub mod FadeSteps

@@ -1,6 +1,6 @@
 -- The effect `fade` (sox(1), EFFECTS, fade, of the type t): a linear rise at the start and a linear fall before the stop.
 -- Overlapping fades multiply, and both weights and the sample are one fraction that is rounded once (this project's profile).
-use Rattle.std.specs.Prelude.{ℕ, ℤ, pos, zero, suc, ◌+◌, ◌-◌, ◌*◌, ◌*ℤ◌, ◌^◌, ◌≤◌, ◌≡◌, min, nat_lt, Bool, true, false, if◌then◌else◌, List, [], ◌∷◌, ◌++◌, take, length, map, slice_index_or, Option, Some, None, option_to_list, is_none}
+use Rattle.std.specs.Prelude.{ℕ, ℤ, pos, zero, suc, ◌+◌, ◌-◌, ◌*◌, ◌*ℤ◌, ◌^◌, ◌≤◌, ◌≡◌, ◌⊎◌, min, nat_lt, Bool, true, false, if◌then◌else◌, List, [], ◌∷◌, ◌++◌, take, length, map, slice_index_or, Option, Some, None, option_to_list, is_none}
 use Rattle.std.specs.List.{range_with_len, enumerate_from}
 use Rattle.std.specs.Int.{w32}
 use Rattle.fx_fixed.specs.Positions.{place_of}
@@ -146,6 +146,12 @@ pub record IsFade (s : FadeState) : Type 0 where
   pub counted : s.ended ≡ false → s.given + length (option_to_list s.hand) ≡ fade_due s.recipe.shape s.taken
   pub over : s.ended ≡ true → s.hand ≡ None → fade_after s.recipe.shape s.taken s.line.items [] ≡ []
   pub fits : IsHand s.recipe.channels s.hand
+
+-- the same of its counts alone: so many frames taken and given, in the line and in hand
+pub record IsFadeCount (f : Shape) (taken given lined hands : ℕ) (ended : Bool) : Type 0 where
+  pub full : ended ≡ false → lined ≡ min taken (fade_line f)
+  pub counted : ended ≡ false → given + hands ≡ fade_due f taken
+  pub over : ended ≡ true → hands ≡ 0 → (lined ≡ 0) ⊎ (is_before (stop_in taken f.stop) (taken - lined) ≡ false)
 
 -- how the stages of `fade` behave; no sample is clipped, since no weight is over 1
 abbrev pub fade_acts : Acts FadeState FadeArguments

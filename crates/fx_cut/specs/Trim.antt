@@ -90,6 +90,12 @@ pub record IsTrim (s : TrimState) : Type 0 where
   pub over : s.ended ≡ true → s.hand ≡ None → s.line.items ≡ []
   pub fits : IsHand s.recipe.channels s.hand
 
+-- the same of its counts alone: so many frames taken and given, in the line and in hand
+pub record IsTrimCount (positions : List At) (taken given lined hands : ℕ) (ended : Bool) : Type 0 where
+  pub full : ended ≡ false → lined ≡ min taken (greatest_end positions)
+  pub counted : ended ≡ false → given + hands ≡ trim_due positions taken
+  pub over : ended ≡ true → hands ≡ 0 → lined ≡ 0
+
 -- what is kept of the frames of the line, the newest of which is the last that was taken, and of these that come
 abbrev pub trim_after : List At → ℕ → List Samples → List Samples → List Samples
 trim_after ps taken items z = trim_rest ps (taken - length items) items z

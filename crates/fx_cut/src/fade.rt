@@ -1,18 +1,19 @@
 //! The effect `fade` of sox(1), of the type t: a linear rise at the start and a linear fall before the stop.
-ghost use Rattle.std.specs.Prelude.{◌≡◌, ◌≤◌, ◌<◌, ◌+◌, ◌++◌, ◌*ℤ◌, ◌^◌, [], pos, length, map, IfOk, None, option_to_list};
+ghost use Rattle.std.specs.Prelude.{◌≡◌, ◌≤◌, ◌<◌, ◌+◌, ◌++◌, ◌*ℤ◌, ◌^◌, [], pos, length, map, Err, IfOk, MatchResult, None, option_to_list, true, false};
 ghost use Rattle.std.specs.Int.{w32};
 ghost use Rattle.fx_fixed.specs.Rounding.{rounding};
 ghost use Rattle.fx_frame.specs.Frame.{IsFrame};
 ghost use Rattle.fx_frame.specs.Frozen.{IsHand};
 ghost use Rattle.fx_frame.specs.Line.{IsLine};
-ghost use Rattle.fx_frame.specs.Stage.{IsNew};
+ghost use Rattle.fx_frame.specs.Stage.{Freezes, IsNew};
 ghost use Rattle.fx_cut.specs.Lists.{plain};
 ghost use Rattle.fx_cut.specs.Rounded.{unclipped};
-ghost use Rattle.fx_cut.specs.Fade.{FadeArguments, FadeState, IsFade, IsShape, fade_acts, fade_after, fade_line, faded_here, is_before, line_by, meant, stop_ahead, stop_in, weight, weighted, weights};
+ghost use Rattle.fx_cut.specs.Fade.{FadeArguments, FadeState, IsFade, IsFadeCount, IsShape, due_by, fade_acts, fade_after, fade_line, faded_here, is_before, line_by, meant, stop_ahead, stop_in, weight, weighted, weights};
 
 use fx_fixed::{At, round_clip};
+use fx_frame::frozen::thawed_line_and_hand;
 use fx_frame::inner::{frame_of, places};
-use fx_frame::{Frame, Line, Stage, WideFrame};
+use fx_frame::{Frame, Line, Stage, ThawFault, WideFrame};
 use std::alloc::{AllocError, Global};
 use std::marker::Model;
 
@@ -165,6 +166,35 @@ fn line_for(stop: Option<At>, fade_out: u64) -> u64
     }
 }
 
+/// Does a stage of this shape, with so many frames in its line and in hand, count so? Before the end it has given what is due,
+/// after the end it has a frame in hand unless its line is empty or lies behind the stop.
+fn is_count(shape: &Shape, taken: u64, given: u64, lined: u64, hands: u64, is_ended: bool) -> bool
+    requires line { fade_line shape.now ≤ 2 ^ 28 }
+    requires lined { lined ≤ taken }
+    requires given { given + hands ≤ taken }
+    ensures count { result ≡ true → IsFadeCount shape.now taken given lined hands is_ended }
+    ensures other { result ≡ false → IsFadeCount shape.now taken given lined hands is_ended → ⊥ }
+{
+    if is_ended {
+        return hands != 0 || lined == 0 || !is_ahead(shape.stop(taken), taken - lined);
+    }
+    if lined != taken.min(line_for(shape.stop, shape.fade_out)) {
+        return false;
+    }
+    given + hands == due_after(shape.stop, shape.fade_out, taken)
+}
+
+/// How many frames are given after so many, with no end.
+fn due_after(stop: Option<At>, fade_out: u64, taken: u64) -> u64
+    ensures { result ≡ due_by stop fade_out taken }
+{
+    match stop {
+        None => taken,
+        Some(At::Start(start)) => taken.min(start),
+        Some(At::End(distance)) => taken.saturating_sub(distance).saturating_sub(fade_out),
+    }
+}
+
 /// Takes the oldest frame out of the line, and tells what is given of it in a sound of so many frames that ends with those of
 /// the line; None where nothing more is given.
 #[inline(never)]
@@ -242,6 +272,56 @@ impl Fade {
             taken: 0,
             given: 0,
             ended: false,
+        })
+    }
+
+    /// The stage that stored these frames and counted these numbers: whichever stage of these arguments they came from, that
+    /// stage comes back, unless memory is refused. BadSnapshot where there is no such stage, Memory where memory is refused.
+    pub fn thaw(
+        alloc: Global,
+        channels: usize,
+        fade_in: u64,
+        stop: Option<At>,
+        fade_out: u64,
+        frames: &[WideFrame],
+        numbers: &[u64; 8],
+    ) -> Result<Fade, ThawFault>
+        requires channels { (1 ≤ channels) × (channels ≤ 16) }
+        requires fades { (fade_in ≤ 2 ^ 40) × (fade_out ≤ 2 ^ 40) }
+        requires line { line_by (meant stop) fade_out ≤ 2 ^ 28 }
+        ensures recipe { IfOk result (λ t. t.recipe ≡ record { channels = channels; shape = record { fade_in = fade_in; stop = meant stop; fade_out = fade_out } }) }
+        ensures frozen { IfOk result (λ t. Freezes fade_acts t frames.now numbers.now) }
+        ensures named { (result ≡ Err ThawFault.WrongPlan) → ⊥ }
+        ensures thawed { (s : FadeState) → IsFade s → s.recipe ≡ record { channels = channels; shape = record { fade_in = fade_in; stop = meant stop; fade_out = fade_out } } → Freezes fade_acts s frames.now numbers.now → MatchResult result (λ t. t ≡ s) (λ e. e ≡ ThawFault.Memory) }
+    {
+        let [taken, given, ended, clips, held, hands, seventh, eighth] = *numbers;
+        if ended > 1 || clips != 0 || seventh != 0 || eighth != 0 || held != frames.len() as u64 {
+            return Err(ThawFault::BadSnapshot);
+        }
+        if taken > 1 << 56 || given > taken || held > taken - given || hands > held {
+            return Err(ThawFault::BadSnapshot);
+        }
+        let shape = Shape {
+            fade_in,
+            stop: meant_stop(stop),
+            fade_out,
+        };
+        if !is_count(&shape, taken, given, held - hands, hands, ended == 1) {
+            return Err(ThawFault::BadSnapshot);
+        }
+        let capacity = line_for(shape.stop, fade_out) as usize;
+        let (line, hand) = match thawed_line_and_hand(alloc, channels, capacity, frames, hands) {
+            Ok(stored) => stored,
+            Err(fault) => return Err(fault),
+        };
+        Ok(Fade {
+            hand,
+            channels,
+            shape,
+            line,
+            taken,
+            given,
+            ended: ended == 1,
         })
     }
 }

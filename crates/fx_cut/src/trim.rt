@@ -1,14 +1,16 @@
 //! The effect `trim` of sox(1): the frames after an odd number of positions.
-ghost use Rattle.std.specs.Prelude.{◌≡◌, ◌≤◌, ◌+◌, ◌++◌, ◌^◌, [], length, IfOk, None, option_to_list};
+ghost use Rattle.std.specs.Prelude.{◌≡◌, ◌≤◌, ◌+◌, ◌-◌, ◌++◌, ◌^◌, [], length, count_by, if◌then◌else◌, Err, IfOk, MatchResult, None, option_to_list, true, false};
+ghost use Rattle.std.specs.List.{range_with_len};
 ghost use Rattle.std.specs.Int.{w32};
 ghost use Rattle.fx_fixed.specs.Positions.{places_of};
 ghost use Rattle.fx_frame.specs.Frozen.{IsHand};
 ghost use Rattle.fx_frame.specs.Line.{IsLine};
-ghost use Rattle.fx_frame.specs.Stage.{IsNew};
-ghost use Rattle.fx_cut.specs.Trim.{IsTrim, TrimArguments, TrimState, greatest_end, keeps, starts, trim_acts, trim_after, trim_enough};
+ghost use Rattle.fx_frame.specs.Stage.{Freezes, IsNew};
+ghost use Rattle.fx_cut.specs.Trim.{IsTrim, IsTrimCount, TrimArguments, TrimState, greatest_end, keeps, starts, trim_acts, trim_after, trim_enough};
 
 use fx_fixed::At;
-use fx_frame::{Frame, Line, Stage, WideFrame};
+use fx_frame::frozen::thawed_line_and_hand;
+use fx_frame::{Frame, Line, Stage, ThawFault, WideFrame};
 use std::alloc::{AllocError, Global};
 use std::marker::Model;
 
@@ -49,6 +51,32 @@ fn is_kept(positions: &[At], frames: u64, place: u64) -> bool
     crossed % 2 == 1
 }
 
+/// The frames from one place on to another, where they are kept.
+fn kept_between(is_kept: bool, from: u64, to: u64) -> u64
+    ensures { result ≡ (if is_kept then to - from else 0) }
+{
+    if is_kept { to.saturating_sub(from) } else { 0 }
+}
+
+/// How many frames before this place are kept, as far as the positions before the first one from the end say?
+fn kept_before(positions: &[At], end: u64) -> u64
+    ensures { result ≡ count_by (keeps (places_of 0 (starts positions.now))) (range_with_len 0 end) }
+{
+    let mut last = 0;
+    let mut is_kept = false;
+    let mut kept = 0;
+    'positions: for at in positions {
+        let At::Start(start) = at else {
+            return kept + kept_between(is_kept, last, end);
+        };
+        let next = last.max(end.min(*start));
+        kept += kept_between(is_kept, last, next);
+        is_kept = !is_kept;
+        last = next;
+    }
+    kept + kept_between(is_kept, last, end)
+}
+
 /// The greatest distance of a position from the end.
 fn greatest_end_of(positions: &[At]) -> u64
     ensures { result ≡ greatest_end positions.now }
@@ -77,6 +105,30 @@ fn enough_of(positions: &[At]) -> Option<u64>
         return None;
     }
     Some(last)
+}
+
+/// Does a stage of these positions, with so many frames in its line and in hand, count so? Before the end it has given what is
+/// due, after the end it has a frame in hand unless its line is empty.
+fn is_count(
+    positions: &[At],
+    taken: u64,
+    given: u64,
+    lined: u64,
+    hands: u64,
+    is_ended: bool,
+) -> bool
+    requires { given + hands ≤ taken }
+    ensures count { result ≡ true → IsTrimCount positions.now taken given lined hands is_ended }
+    ensures other { result ≡ false → IsTrimCount positions.now taken given lined hands is_ended → ⊥ }
+{
+    if is_ended {
+        return hands != 0 || lined == 0;
+    }
+    let reach = greatest_end_of(positions);
+    if lined != taken.min(reach) {
+        return false;
+    }
+    given + hands == kept_before(positions, taken.saturating_sub(reach))
 }
 
 /// Takes frames out of the line until one is kept, in a sound of so many frames that ends with those of the line; None where
@@ -150,6 +202,59 @@ impl Trim {
             taken: 0,
             given: 0,
             ended: false,
+        })
+    }
+
+    /// The stage that stored these frames and counted these numbers: whichever stage of these arguments they came from, that
+    /// stage comes back, unless memory is refused. BadSnapshot where there is no such stage, Memory where memory is refused.
+    pub fn thaw(
+        alloc: Global,
+        channels: usize,
+        positions: &[At],
+        frames: &[WideFrame],
+        numbers: &[u64; 8],
+    ) -> Result<Trim, ThawFault>
+        requires channels { (1 ≤ channels) × (channels ≤ 16) }
+        requires line { greatest_end positions.now ≤ 2 ^ 28 }
+        ensures recipe { IfOk result (λ t. t.recipe ≡ record { channels = channels; positions = positions.now }) }
+        ensures frozen { IfOk result (λ t. Freezes trim_acts t frames.now numbers.now) }
+        ensures named { (result ≡ Err ThawFault.WrongPlan) → ⊥ }
+        ensures thawed { (s : TrimState) → IsTrim s → s.recipe ≡ record { channels = channels; positions = positions.now } → Freezes trim_acts s frames.now numbers.now → MatchResult result (λ t. t ≡ s) (λ e. e ≡ ThawFault.Memory) }
+    {
+        let [taken, given, ended, clips, held, hands, seventh, eighth] = *numbers;
+        let capacity = greatest_end_of(positions);
+        if ended > 1 || clips != 0 || seventh != 0 || eighth != 0 || held != frames.len() as u64 {
+            return Err(ThawFault::BadSnapshot);
+        }
+        if taken > 1 << 56 || given > taken || held > taken - given || hands > held {
+            return Err(ThawFault::BadSnapshot);
+        }
+        if !is_count(positions, taken, given, held - hands, hands, ended == 1) {
+            return Err(ThawFault::BadSnapshot);
+        }
+        let mut own = Vec::new(alloc);
+        let Ok(()) = own.extend_from_slice(positions) else {
+            return Err(ThawFault::Memory);
+        };
+        let (line, hand) = match thawed_line_and_hand(
+            alloc,
+            channels,
+            capacity as usize,
+            frames,
+            hands,
+        ) {
+            Ok(stored) => stored,
+            Err(fault) => return Err(fault),
+        };
+        Ok(Trim {
+            hand,
+            channels,
+            positions: own,
+            enough: enough_of(positions),
+            line,
+            taken,
+            given,
+            ended: ended == 1,
         })
     }
 }
