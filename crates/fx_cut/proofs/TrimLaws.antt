@@ -9,11 +9,11 @@ use Rattle.fx_fixed.specs.declared.positions.At.{At}
 use Rattle.fx_fixed.specs.declared.positions.At.TheVariants.{Start, End}
 use Rattle.fx_cut.specs.Trim.{is_start, last_start, keeps, greatest_end, starts}
 
-count_by-cons : (n q : ℕ) (qs : List ℕ) → count_by (λ q. leb q n) (q ∷ qs) ≡ cond (leb q n) 1 0 + count_by (λ q. leb q n) qs
+pub count_by-cons : (n q : ℕ) (qs : List ℕ) → count_by (λ q. leb q n) (q ∷ qs) ≡ cond (leb q n) 1 0 + count_by (λ q. leb q n) qs
 count_by-cons n q qs = sum_by-cons (λ y. cond (leb y n) 1 0) q qs
 
 -- no place from m on is at n or before it, where n is before m
-none_before : (len n m : ℕ) (ps : List At) → n < m → count_by (λ q. leb q n) (places_after len m ps) ≡ 0
+pub none_before : (len n m : ℕ) (ps : List At) → n < m → count_by (λ q. leb q n) (places_after len m ps) ≡ 0
 none_before len n m [] h = refl
 none_before len n m (p ∷ ps) h =
     let q : ℕ = max m (place_of len p) in

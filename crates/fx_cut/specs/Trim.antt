@@ -1,10 +1,15 @@
 -- The effect `trim` (sox(1), EFFECTS, trim): the frames after an odd number of positions.
-use Rattle.std.specs.Prelude.{ℕ, ◌+◌, ◌%◌, ◌==◌, max, nat_le, Bool, true, false, List, [], ◌∷◌, ◌++◌, count_by, filter, length, map, slice_index_or}
-use Rattle.std.specs.List.{range_with_len, enumerate_from}
+use Rattle.std.specs.Prelude.{ℕ, ℤ, ◌+◌, ◌-◌, ◌%◌, ◌^◌, ◌≤◌, ◌≡◌, ◌==◌, ◌&&◌, max, min, nat_le, Bool, true, false, if◌then◌else◌, List, [], ◌∷◌, ◌++◌, count_by, filter, length, map, slice_index_or, Option, Some, None, option_to_list, is_none}
+use Rattle.std.specs.List.{range_with_len, enumerate_from, list_all}
+use Rattle.std.specs.Int.{w32}
 use Rattle.fx_fixed.specs.Positions.{places_of}
 use Rattle.fx_fixed.specs.declared.positions.At.{At}
 use Rattle.fx_fixed.specs.declared.positions.At.TheVariants.{Start, End}
 use Rattle.fx_frame.specs.Frame.{Samples}
+use Rattle.fx_frame.specs.Line.{Frames, IsLine}
+use Rattle.fx_frame.specs.Frozen.{IsHand}
+use Rattle.fx_frame.specs.Stage.{Acts, coming}
+use Rattle.fx_cut.specs.Lists.{plain}
 
 -- an odd number of the places are at n or before it
 abbrev pub keeps : List ℕ → ℕ → Bool
@@ -44,3 +49,67 @@ abbrev pub last_start : List At → ℕ
 last_start [] = 0
 last_start (Start p ∷ ps) = max p (last_start ps)
 last_start (End b ∷ ps) = last_start ps
+
+-- how many frames are given after so many, with no end: those before each end position, as far as the positions before the
+-- first one from the end keep them
+abbrev pub trim_due : List At → ℕ → ℕ
+trim_due ps s = count_by (keeps (places_of 0 (starts ps))) (range_with_len 0 (s - greatest_end ps))
+
+-- an even number of positions, all from the start: nothing is kept from the greatest one on, which is the last where they
+-- are in order
+abbrev pub trim_enough : List At → Option ℕ
+trim_enough ps = if list_all is_start ps && (length ps % 2 == 0) then Some (last_start ps) else None
+
+-- what a `Trim` is made with
+pub record TrimArguments : Type 0 where
+  pub channels : ℕ
+  pub positions : List At
+
+-- what a `Trim` stores
+pub record TrimState : Type 0 where
+  -- the frame to be given
+  pub hand : Option Samples
+  pub recipe : TrimArguments
+  -- how many frames are enough, by the positions
+  pub enough : Option ℕ
+  pub line : Frames ℤ
+  pub taken : ℕ
+  pub given : ℕ
+  pub ended : Bool
+
+-- what holds of it at every moment
+pub record IsTrim (s : TrimState) : Type 0 where
+  pub line : IsLine w32 s.line
+  pub channels : s.line.channels ≡ s.recipe.channels
+  pub capacity : s.line.capacity ≡ greatest_end s.recipe.positions
+  pub enough : s.enough ≡ trim_enough s.recipe.positions
+  pub few : s.taken ≤ 2 ^ 56
+  pub within : s.given + length (option_to_list s.hand) + length s.line.items ≤ s.taken
+  pub full : s.ended ≡ false → length s.line.items ≡ min s.taken s.line.capacity
+  pub counted : s.ended ≡ false → s.given + length (option_to_list s.hand) ≡ trim_due s.recipe.positions s.taken
+  pub over : s.ended ≡ true → s.hand ≡ None → s.line.items ≡ []
+  pub fits : IsHand s.recipe.channels s.hand
+
+-- the same of its counts alone: so many frames taken and given, in the line and in hand
+pub record IsTrimCount (positions : List At) (taken given lined hands : ℕ) (ended : Bool) : Type 0 where
+  pub full : ended ≡ false → lined ≡ min taken (greatest_end positions)
+  pub counted : ended ≡ false → given + hands ≡ trim_due positions taken
+  pub over : ended ≡ true → hands ≡ 0 → lined ≡ 0
+
+-- what is kept of the frames of the line, the newest of which is the last that was taken, and of these that come
+abbrev pub trim_after : List At → ℕ → List Samples → List Samples → List Samples
+trim_after ps taken items z = trim_rest ps (taken - length items) items z
+
+-- how the stages of `trim` behave
+abbrev pub trim_acts : Acts TrimState TrimArguments
+trim_acts = record {
+  recipe = λ s. s.recipe;
+  kind_of = λ r. record { inputs = r.channels; outputs = r.channels; line = greatest_end r.positions; limit = 2 ^ 56; due = trim_due r.positions; most = λ n. n; enough = trim_enough r.positions };
+  meaning = λ r z. map plain (trimmed r.positions z);
+  rest = λ s z. map plain (option_to_list s.hand ++ trim_after s.recipe.positions s.taken s.line.items (coming s.ended z));
+  counts = λ s. record { taken = s.taken; given = s.given; clips = 0; ended = s.ended };
+  dry = λ s. is_none s.hand;
+  stored = λ s. s.line.items ++ option_to_list s.hand;
+  capacity = λ s. s.line.capacity;
+  own = λ s. record { sixth = length (option_to_list s.hand); seventh = 0; eighth = 0 };
+}

@@ -1,10 +1,11 @@
 //! The effect `downsample` of sox(1): the first of every so many frames.
-ghost use Rattle.std.specs.Prelude.{◌≡◌, ◌≤◌};
-ghost use Rattle.fx_frame.specs.Stage.{IsNew};
+ghost use Rattle.std.specs.Prelude.{◌≡◌, ◌≤◌, Ok, IfOk, IfErr};
+ghost use Rattle.fx_frame.specs.Stage.{Freezes, IsNew};
 ghost use Rattle.fx_cut.specs.Factor.{FactorArguments, IsFactor};
 ghost use Rattle.fx_cut.specs.Downsample.{DownsampleState, IsDownsample, downsample_acts};
 
-use fx_frame::{Frame, Stage, WideFrame};
+use fx_frame::frozen::thawed_hand;
+use fx_frame::{Frame, Stage, ThawFault, WideFrame};
 use std::marker::Model;
 
 /// The stage of `downsample`: frames 0, f, 2f and so on of the sound, where f is the factor. It takes up to
@@ -45,6 +46,43 @@ impl Downsample {
             given: 0,
             ended: false,
         }
+    }
+
+    /// The stage that stored these frames and counted these numbers: whichever stage of these arguments they came from, that
+    /// stage comes back. BadSnapshot where there is none. Takes no memory.
+    pub fn thaw(
+        channels: usize,
+        factor: u64,
+        frames: &[WideFrame],
+        numbers: &[u64; 8],
+    ) -> Result<Downsample, ThawFault>
+        requires { IsFactor (record { channels = channels; factor = factor }) }
+        ensures recipe { IfOk result (λ t. t.recipe ≡ record { channels = channels; factor = factor }) }
+        ensures frozen { IfOk result (λ t. Freezes downsample_acts t frames.now numbers.now) }
+        ensures thawed { (s : DownsampleState) → IsDownsample s → s.recipe ≡ record { channels = channels; factor = factor } → Freezes downsample_acts s frames.now numbers.now → result ≡ Ok s }
+        ensures refused { IfErr result (λ e. e ≡ ThawFault.BadSnapshot) }
+    {
+        let [taken, given, ended, clips, held, skip, seventh, eighth] = *numbers;
+        if ended > 1 || clips != 0 || seventh != 0 || eighth != 0 {
+            return Err(ThawFault::BadSnapshot);
+        }
+        if held != frames.len() as u64 || taken > 1 << 56 {
+            return Err(ThawFault::BadSnapshot);
+        }
+        let made = taken.div_ceil(factor);
+        if given > made || held != made - given || skip != made * factor - taken {
+            return Err(ThawFault::BadSnapshot);
+        }
+        let hand = thawed_hand(frames, channels)?;
+        Ok(Downsample {
+            hand,
+            channels,
+            factor,
+            skip,
+            taken,
+            given,
+            ended: ended == 1,
+        })
     }
 }
 

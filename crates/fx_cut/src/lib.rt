@@ -3,10 +3,15 @@
 
 pub mod downsample;
 pub mod factor;
+pub mod fade;
+pub mod pad;
 pub mod trim;
 pub mod upsample;
 
 pub use downsample::Downsample;
+pub use fade::Fade;
+pub use pad::Pad;
+pub use trim::Trim;
 pub use upsample::Upsample;
 
 #[cfg(test)]

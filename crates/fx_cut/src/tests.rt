@@ -1,7 +1,11 @@
-ghost use Rattle.std.specs.Prelude.{◌≡◌, length};
+//! The worked rows, in tables.
+ghost use Rattle.std.specs.Prelude.{◌≡◌, ◌+◌, ◌≤◌, length};
+ghost use Rattle.fx_frame.specs.Stage.{kind};
 
-use crate::{Downsample, Upsample};
+use crate::{Downsample, Fade, Pad, Trim, Upsample};
+use fx_fixed::At;
 use fx_frame::{Frame, Stage};
+use std::alloc::{AllocError, Global};
 use std::test::Fail;
 
 /// The frame of one sample.
@@ -9,6 +13,201 @@ fn mono(sample: i32) -> Frame
     ensures { length result ≡ 1 }
 {
     fx_frame::inner::one(sample)
+}
+
+/// Writes the frames that a stage gives until it is dry.
+fn drain<S: Stage>(stage: &mut S, out: &mut Vec<i32>) -> Result<(), AllocError>
+    ensures taken { (S.acts.counts stage.new).taken ≡ (S.acts.counts stage.old).taken }
+    ensures recipe { S.acts.recipe stage.new ≡ S.acts.recipe stage.old }
+{
+    'given: while let Some(frame) = stage.give() {
+        out.push(first_sample(frame))?;
+    }
+    Ok(())
+}
+
+/// The sample of a frame's first channel.
+fn first_sample(frame: Frame) -> i32 {
+    let _channels = frame.channels();
+    frame.get(0)
+}
+
+/// What a stage of one channel gives for these samples and then the end, and how many of them before the end.
+fn through<S: Stage>(
+    alloc: Global,
+    stage: &mut S,
+    samples: &[i32],
+) -> Result<(Vec<i32>, usize), Fail>
+    requires { (S.acts.counts stage.old).taken + length samples.now ≤ (kind S.acts stage.old).limit }
+{
+    let mut out = Vec::new(alloc);
+    'samples: for sample in samples {
+        if !stage.is_dry() || stage.is_ended() || stage.in_channels() != 1 {
+            return Err("not ready for the frame".into());
+        }
+        stage.take(mono(*sample));
+        drain(stage, &mut out)?;
+    }
+    let early = out.len();
+    if !stage.is_dry() || stage.is_ended() {
+        return Err("not ready for the end".into());
+    }
+    stage.end();
+    drain(stage, &mut out)?;
+    Ok((out, early))
+}
+
+#[test]
+fn trim_two_positions(rt: HostRuntime) -> Result<(), Fail> {
+    let mut trim = Trim::new(rt.alloc(), 1, &[At::Start(2), At::Start(5)])?;
+    let (out, _early) = through(rt.alloc(), &mut trim, &[1, 2, 3, 4, 5, 6, 7, 8])?;
+    assert_eq!(rt; out.as_slice(), [3, 4, 5].as_slice());
+    Ok(())
+}
+
+#[test]
+fn trim_last_three(rt: HostRuntime) -> Result<(), Fail> {
+    let mut trim = Trim::new(rt.alloc(), 1, &[At::End(3)])?;
+    assert_eq!(rt; trim.hold(), 4);
+    let (out, early) = through(rt.alloc(), &mut trim, &[1, 2, 3, 4, 5])?;
+    assert_eq!(rt; out.as_slice(), [3, 4, 5].as_slice());
+    assert_eq!(rt; early, 0);
+    let mut short = Trim::new(rt.alloc(), 1, &[At::End(3)])?;
+    let (all, _early) = through(rt.alloc(), &mut short, &[1, 2])?;
+    assert_eq!(rt; all.as_slice(), [1, 2].as_slice());
+    Ok(())
+}
+
+#[test]
+fn trim_mixed_anchors(rt: HostRuntime) -> Result<(), Fail> {
+    let mut trim = Trim::new(rt.alloc(), 1, &[At::Start(4), At::End(3)])?;
+    let (out, _early) = through(rt.alloc(), &mut trim, &[1, 2, 3, 4, 5])?;
+    assert!(rt; out.is_empty());
+    Ok(())
+}
+
+#[test]
+fn trim_start_to_end(rt: HostRuntime) -> Result<(), Fail> {
+    let mut trim = Trim::new(rt.alloc(), 1, &[At::Start(0), At::End(2)])?;
+    let (out, early) = through(rt.alloc(), &mut trim, &[1, 2, 3, 4])?;
+    assert_eq!(rt; out.as_slice(), [1, 2].as_slice());
+    assert_eq!(rt; early, 2);
+    Ok(())
+}
+
+#[test]
+fn pad_empty_sound(rt: HostRuntime) -> Result<(), Fail> {
+    let mut pad = Pad::new(rt.alloc(), 1, &[(2, At::Start(0)), (1, At::End(0))])?;
+    let (out, early) = through(rt.alloc(), &mut pad, &[])?;
+    assert_eq!(rt; out.as_slice(), [0, 0, 0].as_slice());
+    assert_eq!(rt; early, 0);
+    Ok(())
+}
+
+#[test]
+fn pad_past_end(rt: HostRuntime) -> Result<(), Fail> {
+    let mut pad = Pad::new(rt.alloc(), 1, &[(1, At::Start(9)), (2, At::End(0))])?;
+    let (out, _early) = through(rt.alloc(), &mut pad, &[1, 2])?;
+    assert_eq!(rt; out.as_slice(), [1, 2, 0, 0].as_slice());
+    Ok(())
+}
+
+#[test]
+fn pad_mixed_anchors(rt: HostRuntime) -> Result<(), Fail> {
+    let mut pad = Pad::new(rt.alloc(), 1, &[(2, At::Start(1)), (1, At::End(1))])?;
+    let (out, early) = through(rt.alloc(), &mut pad, &[1, 2, 3])?;
+    assert_eq!(rt; out.as_slice(), [1, 0, 0, 2, 0, 3].as_slice());
+    assert_eq!(rt; early, 4);
+    let mut short = Pad::new(rt.alloc(), 1, &[(2, At::Start(1)), (1, At::End(1))])?;
+    let (one, _early) = through(rt.alloc(), &mut short, &[1])?;
+    assert_eq!(rt; one.as_slice(), [1, 0, 0, 0].as_slice());
+    let mut empty = Pad::new(rt.alloc(), 1, &[(2, At::Start(1)), (1, At::End(1))])?;
+    let (none, _early) = through(rt.alloc(), &mut empty, &[])?;
+    assert_eq!(rt; none.as_slice(), [0].as_slice());
+    Ok(())
+}
+
+#[test]
+fn fade_in_four(rt: HostRuntime) -> Result<(), Fail> {
+    let mut fade = Fade::new(rt.alloc(), 1, 4, None, 4)?;
+    let (out, early) = through(rt.alloc(), &mut fade, &[100, 100, 100, 100, 100])?;
+    assert_eq!(rt; out.as_slice(), [0, 25, 50, 75, 100].as_slice());
+    assert_eq!(rt; early, 5);
+    Ok(())
+}
+
+#[test]
+fn fade_out_two(rt: HostRuntime) -> Result<(), Fail> {
+    let mut fade = Fade::new(rt.alloc(), 1, 0, Some(At::Start(0)), 2)?;
+    assert_eq!(rt; fade.hold(), 3);
+    let (out, _early) = through(rt.alloc(), &mut fade, &[100, 100, 100, 100])?;
+    assert_eq!(rt; out.as_slice(), [100, 100, 100, 50].as_slice());
+    Ok(())
+}
+
+#[test]
+fn fade_overlap(rt: HostRuntime) -> Result<(), Fail> {
+    let mut fade = Fade::new(rt.alloc(), 1, 4, Some(At::End(0)), 4)?;
+    let (out, _early) = through(rt.alloc(), &mut fade, &[100, 100, 100])?;
+    assert_eq!(rt; out.as_slice(), [0, 13, 13].as_slice());
+    Ok(())
+}
+
+#[test]
+fn fade_start_stop(rt: HostRuntime) -> Result<(), Fail> {
+    let mut fade = Fade::new(rt.alloc(), 1, 2, Some(At::Start(3)), 1)?;
+    let (out, _early) = through(rt.alloc(), &mut fade, &[100, 100, 100, 100, 100])?;
+    assert_eq!(rt; out.as_slice(), [0, 50, 100].as_slice());
+    let mut short = Fade::new(rt.alloc(), 1, 2, Some(At::Start(3)), 1)?;
+    let (two, _early) = through(rt.alloc(), &mut short, &[100, 100])?;
+    assert_eq!(rt; two.as_slice(), [0, 50].as_slice());
+    Ok(())
+}
+
+#[test]
+fn fade_end_stop(rt: HostRuntime) -> Result<(), Fail> {
+    let mut fade = Fade::new(rt.alloc(), 1, 0, Some(At::End(2)), 2)?;
+    assert_eq!(rt; fade.hold(), 5);
+    let (out, early) = through(rt.alloc(), &mut fade, &[100, 100, 100, 100, 100])?;
+    assert_eq!(rt; out.as_slice(), [100, 100, 50].as_slice());
+    assert_eq!(rt; early, 1);
+    Ok(())
+}
+
+#[test]
+fn growth_cut_stages_trim(rt: HostRuntime) -> Result<(), Fail> {
+    match Trim::new(rt.alloc(), 2, &[At::Start(1), At::End(3)]) {
+        Ok(trim) => {
+            assert_eq!(rt; trim.hold(), 4);
+            println!(rt; "made")?;
+        }
+        Err(_refused) => println!(rt; "refused")?,
+    }
+    Ok(())
+}
+
+#[test]
+fn growth_cut_stages_pad(rt: HostRuntime) -> Result<(), Fail> {
+    match Pad::new(rt.alloc(), 2, &[(4, At::Start(1)), (1, At::End(3))]) {
+        Ok(pad) => {
+            assert_eq!(rt; pad.hold(), 4);
+            println!(rt; "made")?;
+        }
+        Err(_refused) => println!(rt; "refused")?,
+    }
+    Ok(())
+}
+
+#[test]
+fn growth_cut_stages_fade(rt: HostRuntime) -> Result<(), Fail> {
+    match Fade::new(rt.alloc(), 2, 4, Some(At::End(1)), 2) {
+        Ok(fade) => {
+            assert_eq!(rt; fade.hold(), 4);
+            println!(rt; "made")?;
+        }
+        Err(_refused) => println!(rt; "refused")?,
+    }
+    Ok(())
 }
 
 #[test]

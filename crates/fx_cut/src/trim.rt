@@ -1,12 +1,21 @@
-//! Which frames the effect `trim` of sox(1) keeps.
-ghost use Rattle.std.specs.Prelude.{◌≡◌};
+//! The effect `trim` of sox(1): the frames after an odd number of positions.
+ghost use Rattle.std.specs.Prelude.{◌≡◌, ◌≤◌, ◌+◌, ◌-◌, ◌++◌, ◌^◌, [], length, count_by, if◌then◌else◌, Err, IfOk, MatchResult, None, option_to_list, true, false};
+ghost use Rattle.std.specs.List.{range_with_len};
+ghost use Rattle.std.specs.Int.{w32};
 ghost use Rattle.fx_fixed.specs.Positions.{places_of};
-ghost use Rattle.fx_cut.specs.Trim.{keeps, starts};
+ghost use Rattle.fx_frame.specs.Frozen.{IsHand};
+ghost use Rattle.fx_frame.specs.Line.{IsLine};
+ghost use Rattle.fx_frame.specs.Stage.{Freezes, IsNew};
+ghost use Rattle.fx_cut.specs.Trim.{IsTrim, IsTrimCount, TrimArguments, TrimState, greatest_end, keeps, starts, trim_acts, trim_after, trim_enough};
 
 use fx_fixed::At;
+use fx_frame::frozen::thawed_line_and_hand;
+use fx_frame::{Frame, Line, Stage, ThawFault, WideFrame};
+use std::alloc::{AllocError, Global};
+use std::marker::Model;
 
 /// Is the frame at this place kept, as far as the positions before the first one from the end say?
-pub fn is_kept_by_starts(positions: &[At], place: u64) -> bool
+fn is_kept_by_starts(positions: &[At], place: u64) -> bool
     ensures { result ≡ keeps (places_of 0 (starts positions.now)) place }
 {
     let mut last = 0;
@@ -24,7 +33,7 @@ pub fn is_kept_by_starts(positions: &[At], place: u64) -> bool
 }
 
 /// Is the frame at this place kept, in a sound of so many frames?
-pub fn is_kept(positions: &[At], frames: u64, place: u64) -> bool
+fn is_kept(positions: &[At], frames: u64, place: u64) -> bool
     ensures { result ≡ keeps (places_of frames positions.now) place }
 {
     let mut last = 0;
@@ -40,4 +49,311 @@ pub fn is_kept(positions: &[At], frames: u64, place: u64) -> bool
         }
     }
     crossed % 2 == 1
+}
+
+/// The frames from one place on to another, where they are kept.
+fn kept_between(is_kept: bool, from: u64, to: u64) -> u64
+    ensures { result ≡ (if is_kept then to - from else 0) }
+{
+    if is_kept { to.saturating_sub(from) } else { 0 }
+}
+
+/// How many frames before this place are kept, as far as the positions before the first one from the end say?
+fn kept_before(positions: &[At], end: u64) -> u64
+    ensures { result ≡ count_by (keeps (places_of 0 (starts positions.now))) (range_with_len 0 end) }
+{
+    let mut last = 0;
+    let mut is_kept = false;
+    let mut kept = 0;
+    'positions: for at in positions {
+        let At::Start(start) = at else {
+            return kept + kept_between(is_kept, last, end);
+        };
+        let next = last.max(end.min(*start));
+        kept += kept_between(is_kept, last, next);
+        is_kept = !is_kept;
+        last = next;
+    }
+    kept + kept_between(is_kept, last, end)
+}
+
+/// The greatest distance of a position from the end.
+fn greatest_end_of(positions: &[At]) -> u64
+    ensures { result ≡ greatest_end positions.now }
+{
+    let mut greatest = 0;
+    'positions: for at in positions {
+        if let At::End(distance) = at {
+            greatest = greatest.max(*distance);
+        }
+    }
+    greatest
+}
+
+/// How many frames are enough, where the positions say so.
+fn enough_of(positions: &[At]) -> Option<u64>
+    ensures { result ≡ trim_enough positions.now }
+{
+    let mut last = 0;
+    'positions: for at in positions {
+        let At::Start(start) = at else {
+            return None;
+        };
+        last = last.max(*start);
+    }
+    if positions.len() % 2 != 0 {
+        return None;
+    }
+    Some(last)
+}
+
+/// Does a stage of these positions, with so many frames in its line and in hand, count so? Before the end it has given what is
+/// due, after the end it has a frame in hand unless its line is empty.
+fn is_count(
+    positions: &[At],
+    taken: u64,
+    given: u64,
+    lined: u64,
+    hands: u64,
+    is_ended: bool,
+) -> bool
+    requires { given + hands ≤ taken }
+    ensures count { result ≡ true → IsTrimCount positions.now taken given lined hands is_ended }
+    ensures other { result ≡ false → IsTrimCount positions.now taken given lined hands is_ended → ⊥ }
+{
+    if is_ended {
+        return hands != 0 || lined == 0;
+    }
+    let reach = greatest_end_of(positions);
+    if lined != taken.min(reach) {
+        return false;
+    }
+    given + hands == kept_before(positions, taken.saturating_sub(reach))
+}
+
+/// Takes frames out of the line until one is kept, in a sound of so many frames that ends with those of the line; None where
+/// none is left.
+#[inline(never)]
+fn next_kept(line: &mut Line, positions: &[At], frames: u64) -> Option<Frame>
+    requires { length line.old.items ≤ frames }
+    ensures rest { trim_after positions.now frames line.old.items [] ≡ option_to_list result ++ trim_after positions.now frames line.new.items [] }
+    ensures empty { result ≡ None → line.new.items ≡ [] }
+    ensures fewer { length (option_to_list result) + length line.new.items ≤ length line.old.items }
+    ensures hand { IsHand line.old.channels result }
+    ensures line { IsLine w32 line.new }
+    ensures capacity { line.new.capacity ≡ line.old.capacity }
+    ensures channels { line.new.channels ≡ line.old.channels }
+{
+    let mut left = line.len() as u64;
+    'frames: while let Some(oldest) = line.pop_front() {
+        let kept = is_kept(positions, frames, frames - left);
+        let _held = line.len();
+        left -= 1;
+        if kept {
+            let _channels = oldest.channels();
+            return Some(oldest);
+        }
+    }
+    None
+}
+
+/// The stage of `trim`: the frames after an odd number of positions, in order. It takes up to `2^56` frames.
+#[derive(Drop)]
+pub struct Trim {
+    hand: Option<Frame>,
+    channels: usize,
+    positions: Vec<At>,
+    /// From the positions, so that no call goes over them to tell whether it is spent.
+    enough: Option<u64>,
+    line: Line,
+    taken: u64,
+    given: u64,
+    ended: bool,
+}
+
+impl Model for Trim {
+    ghost use Rattle.fx_cut.specs.Trim.{IsTrim, TrimState};
+
+    ghost Value = { TrimState };
+
+    ghost view = { λ s. record { hand = s.hand; recipe = record { channels = s.channels; positions = s.positions.items }; enough = s.enough; line = s.line; taken = s.taken; given = s.given; ended = s.ended } };
+
+    ghost invariant = { λ s. IsTrim (record { hand = s.hand; recipe = record { channels = s.channels; positions = s.positions.items }; enough = s.enough; line = s.line; taken = s.taken; given = s.given; ended = s.ended }) };
+}
+
+impl Trim {
+    /// The stage for frames of 1 to 16 channels and these positions, one after the other: a position before the one in front
+    /// of it counts as that one. It holds as many frames as the greatest distance of a position from the end, at most `2^28`;
+    /// AllocError where memory is refused.
+    pub fn new(alloc: Global, channels: usize, positions: &[At]) -> Result<Trim, AllocError>
+        requires channels { (1 ≤ channels) × (channels ≤ 16) }
+        requires line { greatest_end positions.now ≤ 2 ^ 28 }
+        ensures { IfOk result (IsNew trim_acts (record { channels = channels; positions = positions.now })) }
+    {
+        let line = Line::new(alloc, channels, greatest_end_of(positions) as usize)?;
+        let mut own = Vec::new(alloc);
+        own.extend_from_slice(positions)?;
+        Ok(Trim {
+            hand: None,
+            channels,
+            positions: own,
+            enough: enough_of(positions),
+            line,
+            taken: 0,
+            given: 0,
+            ended: false,
+        })
+    }
+
+    /// The stage that stored these frames and counted these numbers: whichever stage of these arguments they came from, that
+    /// stage comes back, unless memory is refused. BadSnapshot where there is no such stage, Memory where memory is refused.
+    pub fn thaw(
+        alloc: Global,
+        channels: usize,
+        positions: &[At],
+        frames: &[WideFrame],
+        numbers: &[u64; 8],
+    ) -> Result<Trim, ThawFault>
+        requires channels { (1 ≤ channels) × (channels ≤ 16) }
+        requires line { greatest_end positions.now ≤ 2 ^ 28 }
+        ensures recipe { IfOk result (λ t. t.recipe ≡ record { channels = channels; positions = positions.now }) }
+        ensures frozen { IfOk result (λ t. Freezes trim_acts t frames.now numbers.now) }
+        ensures named { (result ≡ Err ThawFault.WrongPlan) → ⊥ }
+        ensures thawed { (s : TrimState) → IsTrim s → s.recipe ≡ record { channels = channels; positions = positions.now } → Freezes trim_acts s frames.now numbers.now → MatchResult result (λ t. t ≡ s) (λ e. e ≡ ThawFault.Memory) }
+    {
+        let [taken, given, ended, clips, held, hands, seventh, eighth] = *numbers;
+        let capacity = greatest_end_of(positions);
+        if ended > 1 || clips != 0 || seventh != 0 || eighth != 0 || held != frames.len() as u64 {
+            return Err(ThawFault::BadSnapshot);
+        }
+        if taken > 1 << 56 || given > taken || held > taken - given || hands > held {
+            return Err(ThawFault::BadSnapshot);
+        }
+        if !is_count(positions, taken, given, held - hands, hands, ended == 1) {
+            return Err(ThawFault::BadSnapshot);
+        }
+        let mut own = Vec::new(alloc);
+        let Ok(()) = own.extend_from_slice(positions) else {
+            return Err(ThawFault::Memory);
+        };
+        let (line, hand) = match thawed_line_and_hand(
+            alloc,
+            channels,
+            capacity as usize,
+            frames,
+            hands,
+        ) {
+            Ok(stored) => stored,
+            Err(fault) => return Err(fault),
+        };
+        Ok(Trim {
+            hand,
+            channels,
+            positions: own,
+            enough: enough_of(positions),
+            line,
+            taken,
+            given,
+            ended: ended == 1,
+        })
+    }
+}
+
+impl Stage for Trim {
+    ghost Recipe = { TrimArguments };
+
+    ghost acts = { trim_acts };
+
+    ghost sound = { λ s. IsTrim s };
+
+    ghost rises = { λ r m n h. h };
+
+    fn take(&mut self, frame: Frame) {
+        let place = self.taken - self.line.len() as u64;
+        self.taken += 1;
+        let fallen = self.line.push(frame);
+        let _held = self.line.len();
+        let Some(oldest) = fallen else {
+            return;
+        };
+        if !is_kept_by_starts(&self.positions, place) {
+            return;
+        }
+        let _channels = oldest.channels();
+        self.hand = Some(oldest);
+    }
+
+    fn end(&mut self) {
+        self.ended = true;
+        self.hand = next_kept(&mut self.line, &self.positions, self.taken);
+    }
+
+    fn give(&mut self) -> Option<Frame> {
+        let Some(frame) = self.hand else {
+            return None;
+        };
+        self.given += 1;
+        if !self.ended {
+            self.hand = None;
+            return Some(frame);
+        }
+        self.hand = next_kept(&mut self.line, &self.positions, self.taken);
+        Some(frame)
+    }
+
+    fn is_dry(&self) -> bool {
+        self.hand.is_none()
+    }
+
+    fn is_ended(&self) -> bool {
+        self.ended
+    }
+
+    fn is_spent(&self) -> bool {
+        let Some(enough) = self.enough else {
+            return false;
+        };
+        self.hand.is_none() && enough <= self.taken
+    }
+
+    fn held(&self) -> u64 {
+        self.line.len() as u64 + u64::from(self.hand.is_some())
+    }
+
+    fn hold(&self) -> u64 {
+        self.line.capacity() as u64 + 1
+    }
+
+    fn clips(&self) -> u64 {
+        0
+    }
+
+    fn in_channels(&self) -> usize {
+        self.channels
+    }
+
+    fn out_channels(&self) -> usize {
+        self.channels
+    }
+
+    fn counters(&self) -> [u64; 8] {
+        [
+            self.taken,
+            self.given,
+            u64::from(self.ended),
+            0,
+            self.held(),
+            u64::from(self.hand.is_some()),
+            0,
+            0,
+        ]
+    }
+
+    fn stored(&self, j: usize) -> WideFrame {
+        let inside = self.line.get(j).or(self.hand);
+        match inside {
+            Some(frame) => WideFrame::from_frame(frame),
+            None => WideFrame::from_frame(Frame::silence(1)),
+        }
+    }
 }

@@ -1,10 +1,11 @@
 //! The effect `upsample` of sox(1): each frame is followed by silence.
-ghost use Rattle.std.specs.Prelude.{◌≡◌, ◌≤◌};
-ghost use Rattle.fx_frame.specs.Stage.{IsNew};
+ghost use Rattle.std.specs.Prelude.{◌≡◌, ◌≤◌, Ok, IfOk, IfErr};
+ghost use Rattle.fx_frame.specs.Stage.{Freezes, IsNew};
 ghost use Rattle.fx_cut.specs.Factor.{FactorArguments, IsFactor};
 ghost use Rattle.fx_cut.specs.Upsample.{UpsampleState, IsUpsample, upsample_acts};
 
-use fx_frame::{Frame, Stage, WideFrame};
+use fx_frame::frozen::thawed_hand;
+use fx_frame::{Frame, Stage, ThawFault, WideFrame};
 use std::marker::Model;
 
 /// The stage of `upsample`: each frame, followed by f - 1 silent frames, where f is the factor. It takes up to
@@ -45,6 +46,43 @@ impl Upsample {
             given: 0,
             ended: false,
         }
+    }
+
+    /// The stage that stored these frames and counted these numbers: whichever stage of these arguments they came from, that
+    /// stage comes back. BadSnapshot where there is none. Takes no memory.
+    pub fn thaw(
+        channels: usize,
+        factor: u64,
+        frames: &[WideFrame],
+        numbers: &[u64; 8],
+    ) -> Result<Upsample, ThawFault>
+        requires { IsFactor (record { channels = channels; factor = factor }) }
+        ensures recipe { IfOk result (λ t. t.recipe ≡ record { channels = channels; factor = factor }) }
+        ensures frozen { IfOk result (λ t. Freezes upsample_acts t frames.now numbers.now) }
+        ensures thawed { (s : UpsampleState) → IsUpsample s → s.recipe ≡ record { channels = channels; factor = factor } → Freezes upsample_acts s frames.now numbers.now → result ≡ Ok s }
+        ensures refused { IfErr result (λ e. e ≡ ThawFault.BadSnapshot) }
+    {
+        let [taken, given, ended, clips, held, silent, seventh, eighth] = *numbers;
+        if ended > 1 || clips != 0 || seventh != 0 || eighth != 0 {
+            return Err(ThawFault::BadSnapshot);
+        }
+        if held != frames.len() as u64 || taken > (1 << 56) / factor {
+            return Err(ThawFault::BadSnapshot);
+        }
+        let made = taken * factor;
+        if given > made || held > made - given || silent != made - given - held {
+            return Err(ThawFault::BadSnapshot);
+        }
+        let hand = thawed_hand(frames, channels)?;
+        Ok(Upsample {
+            hand,
+            channels,
+            factor,
+            silent,
+            taken,
+            given,
+            ended: ended == 1,
+        })
     }
 }
 

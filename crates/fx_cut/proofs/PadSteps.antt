@@ -1,0 +1,279 @@
+-- The steps of a pad.
+use Rattle.std.proofs.Common.{◌≡◌, ℕ, ℤ, zero, suc, ◌+◌, ◌-◌, ◌<◌, ◌≤◌, ◌^◌, Bool, true, false, ◌&&◌, List, [], ◌∷◌, ◌++◌, map, length, drop, refl, sym, ◌∙◌, ap, arith, length-append, sub-one}
+use Rattle.std.specs.Prelude.{Option, Some, None, option_to_list, is_none, nat_eq, replicate, slice_get}
+use Rattle.std.specs.Int.{w32}
+use Rattle.std.proofs.lemmas.Bool.{false≢true, and_parts, eqb-true}
+use Rattle.std.proofs.lemmas.List.{length-replicate}
+use mathlib.Core.Path.{ap₂}
+use Rattle.fx_frame.specs.Frame.{Samples, silence, IsFrame}
+use Rattle.fx_frame.specs.Frozen.{IsHand}
+use Rattle.fx_frame.specs.Line.{Frames, IsLine}
+use Rattle.fx_frame.specs.Stage.{Gave, Took, Ended, coming}
+use Rattle.fx_cut.specs.Lists.{plain}
+use Rattle.fx_cut.specs.Trim.{greatest_end}
+use Rattle.fx_cut.specs.Pad.{PadArguments, PadState, IsPad, IsPads, ats, lengths, pad_acts, pad_after, pad_left, pad_rest, padded, pads_from_start, placed, silent_at, unless_last}
+use Rattle.fx_cut.proofs.Fallen.{fallen, stays, no_fall, stays-room, is_full, oldest-first, oldest-channels}
+use Rattle.fx_cut.proofs.Hands.{none_of}
+use Rattle.fx_cut.proofs.UpsampleLaws.{not_dry}
+use Rattle.fx_cut.proofs.PadLaws.{upto_more, length_padded, none-due}
+use Rattle.fx_cut.proofs.PadRest.{pad_new, pad_taken, pad_let_go, pad_drained}
+
+-- where it is dry nothing is in hand, and no silence is to be given
+pub dry-hand : (hand : Option Samples) (silent : ℕ) → (is_none hand && nat_eq silent 0) ≡ true → (hand ≡ None) × (silent ≡ 0)
+dry-hand hand silent h =
+    let p = and_parts (is_none hand) (nat_eq silent 0) h in
+    (none_of hand p.0, eqb-true silent 0 p.1)
+
+-- the frame that the line lets go, and the others
+popped-length : (items items' : List Samples) (hand : Option Samples) → hand ≡ slice_get items 0 → items' ≡ drop 1 items → length items' + length (option_to_list hand) ≡ length items
+popped-length [] items' hand e e' = rw (e, e') refl
+popped-length (x ∷ items) items' hand e e' = rw (e, e') (omega arith)
+
+popped-none : (items items' : List Samples) (hand : Option Samples) → hand ≡ slice_get items 0 → items' ≡ drop 1 items → hand ≡ None → items' ≡ []
+popped-none [] items' hand e e' none = e'
+popped-none (x ∷ items) items' hand e e' none = absurd (cc)
+
+-- what is to be given where it is dry, before the end
+left-now : (s : PadState) → pad_acts.dry s ≡ true → s.ended ≡ false → (z : List Samples) → pad_left s z ≡ pad_after s.recipe s.taken s.line.items z
+left-now s dry running z =
+    let d = dry-hand s.hand s.silent dry in
+    rw (d.0, d.1, running) refl
+
+-- the state after a frame came
+abbrev pub reached : PadState → Frames ℤ → ℕ → Option Samples → PadState
+reached s line silent hand = record s { line = line; silent = silent; hand = hand; taken = s.taken + 1 }
+
+module _ (s : PadState) (frame : Samples) (is : IsPad s) (dry : pad_acts.dry s ≡ true) (running : s.ended ≡ false) where
+  none : s.hand ≡ None
+  none = (dry-hand s.hand s.silent dry).0
+
+  quiet : s.silent ≡ 0
+  quiet = (dry-hand s.hand s.silent dry).1
+
+  -- it stays in the line
+  left-inside : (line : Frames ℤ) → None ≡ fallen s.line.capacity s.line.items frame → line.items ≡ stays s.line.capacity s.line.items frame → (z : List Samples)
+      → pad_left (reached s line s.silent s.hand) z ≡ pad_left s (frame ∷ z)
+  left-inside line e items z =
+      let l = no_fall _ _ _ e in
+      let i : line.items ≡ s.line.items ++ frame ∷ [] = items ∙ stays-room _ _ _ l in
+      let h = is.held in
+      let n : s.taken + 1 - length (s.line.items ++ frame ∷ []) ≡ s.taken - length s.line.items = omega (arith, length-append s.line.items (frame ∷ [])) in
+      rw (none, quiet, running, i, n) (sym (pad_taken s.recipe.channels s.recipe.pads (s.taken - length s.line.items) s.line.items frame z))
+
+  -- the oldest falls out
+  left-fallen : (line : Frames ℤ) (o : Samples) (silent : ℕ) → Some o ≡ fallen s.line.capacity s.line.items frame → line.items ≡ stays s.line.capacity s.line.items frame
+      → silent ≡ silent_at (pads_from_start s.recipe.pads) (s.taken - length s.line.items) → (z : List Samples)
+      → pad_left (reached s line silent (Some o)) z ≡ pad_left s (frame ∷ z)
+  left-fallen line o silent e items k z =
+      let within : length s.line.items ≤ s.line.capacity = is.line.within in
+      let split : s.line.items ++ frame ∷ [] ≡ o ∷ line.items = oldest-first _ _ _ _ e within ∙ ap (λ l. o ∷ l) (sym items) in
+      let full = is_full _ _ _ _ e in
+      let cap = is.capacity in
+      let h = is.held in
+      let long : length line.items ≡ length s.line.items = omega (arith, ap length split, length-append s.line.items (frame ∷ [])) in
+      let ends : greatest_end (ats s.recipe.pads) ≤ length line.items = omega arith in
+      let n : ℕ = s.taken - length s.line.items in
+      let next : s.taken + 1 - length line.items ≡ n + 1 = omega arith in
+      rw (none, quiet, running, k, next) (sym (
+      pad_taken s.recipe.channels s.recipe.pads n s.line.items frame z
+      ∙ ap (λ l. pad_rest s.recipe.channels s.recipe.pads n l z) split
+      ∙ pad_let_go s.recipe.channels s.recipe.pads n o line.items z is.pads.rising ends))
+
+  pub Took-inside : (line : Frames ℤ) → None ≡ fallen s.line.capacity s.line.items frame → line.items ≡ stays s.line.capacity s.line.items frame → Took pad_acts s (reached s line s.silent s.hand) frame
+  Took-inside line e items = record { rest = λ z. ap (map plain) (left-inside line e items z); counted = refl; recipe_stays = refl }
+
+  pub Took-fallen : (line : Frames ℤ) (o : Samples) (silent : ℕ) → Some o ≡ fallen s.line.capacity s.line.items frame → line.items ≡ stays s.line.capacity s.line.items frame
+      → silent ≡ silent_at (pads_from_start s.recipe.pads) (s.taken - length s.line.items) → Took pad_acts s (reached s line silent (Some o)) frame
+  Took-fallen line o silent e items k = record { rest = λ z. ap (map plain) (left-fallen line o silent e items k z); counted = refl; recipe_stays = refl }
+
+  pub IsPad-inside : (line : Frames ℤ) → None ≡ fallen s.line.capacity s.line.items frame → line.items ≡ stays s.line.capacity s.line.items frame
+      → IsLine w32 line → line.capacity ≡ s.line.capacity → line.channels ≡ s.line.channels → s.taken < 2 ^ 56 → IsPad (reached s line s.silent s.hand)
+  IsPad-inside line e items lined capacity channels below =
+      let l = no_fall _ _ _ e in
+      let i : line.items ≡ s.line.items ++ frame ∷ [] = items ∙ stays-room _ _ _ l in
+      let long : length line.items ≡ length s.line.items + 1 = ap length i ∙ length-append s.line.items (frame ∷ []) in
+      let w = is.held in
+      let f = is.full running in
+      let cap = is.capacity in
+      let early : s.taken + 1 - greatest_end (ats s.recipe.pads) ≡ s.taken - greatest_end (ats s.recipe.pads) = omega arith in
+      record {
+        line = lined;
+        channels = channels ∙ is.channels;
+        capacity = capacity ∙ is.capacity;
+        pads = is.pads;
+        few = omega arith;
+        held = omega arith;
+        within = λ z. let m = is.within (frame ∷ z) in let n : length (pad_left (reached s line s.silent s.hand) z) ≡ length (pad_left s (frame ∷ z)) = ap length (left-inside line e items z) in omega arith;
+        full = λ r. rw capacity (omega arith);
+        counted = λ r. rw early (is.counted running);
+        over = λ r. absurd (cc (r, running));
+        fits = is.fits;
+      }
+
+  pub IsPad-fallen : (line : Frames ℤ) (o : Samples) (silent : ℕ) → Some o ≡ fallen s.line.capacity s.line.items frame → line.items ≡ stays s.line.capacity s.line.items frame
+      → IsLine w32 line → line.capacity ≡ s.line.capacity → line.channels ≡ s.line.channels → s.taken < 2 ^ 56
+      → silent ≡ silent_at (pads_from_start s.recipe.pads) (s.taken - length s.line.items) → IsHand s.recipe.channels (Some o) → IsPad (reached s line silent (Some o))
+  IsPad-fallen line o silent e items lined capacity channels below k fits =
+      let within : length s.line.items ≤ s.line.capacity = is.line.within in
+      let split : s.line.items ++ frame ∷ [] ≡ o ∷ line.items = oldest-first _ _ _ _ e within ∙ ap (λ l. o ∷ l) (sym items) in
+      let full = is_full _ _ _ _ e in
+      let long : length line.items ≡ length s.line.items = omega (arith, ap length split, length-append s.line.items (frame ∷ [])) in
+      let w = is.held in
+      let f = is.full running in
+      let cap = is.capacity in
+      let n : ℕ = s.taken - greatest_end (ats s.recipe.pads) in
+      let same : s.taken - length s.line.items ≡ n = omega arith in
+      let next : s.taken + 1 - greatest_end (ats s.recipe.pads) ≡ n + 1 = omega arith in
+      let empty : length (option_to_list s.hand) ≡ 0 = ap (λ h. length (option_to_list h)) none in
+      let nothing : s.silent ≡ 0 = quiet in
+      let counted = is.counted running in
+      let k' : silent ≡ silent_at (pads_from_start s.recipe.pads) n = rw same at k in
+      let more = upto_more n (pads_from_start s.recipe.pads) in
+      record {
+        line = lined;
+        channels = channels ∙ is.channels;
+        capacity = capacity ∙ is.capacity;
+        pads = is.pads;
+        few = omega arith;
+        held = omega arith;
+        within = λ z. let m = is.within (frame ∷ z) in let n : length (pad_left (reached s line silent (Some o)) z) ≡ length (pad_left s (frame ∷ z)) = ap length (left-fallen line o silent e items k z) in omega arith;
+        full = λ r. rw capacity (omega arith);
+        counted = λ r. rw next (omega (arith, more, k', counted, empty, nothing));
+        over = λ r. absurd (cc (r, running));
+        fits = fits;
+      }
+
+  pub oldest-length : (o : Samples) → Some o ≡ fallen s.line.capacity s.line.items frame → length frame ≡ s.recipe.channels → IsFrame o → IsHand s.recipe.channels (Some o)
+  oldest-length o e f framed =
+      let split = oldest-first _ _ _ _ e is.line.within in
+      let same = is.channels in
+      let n : length o ≡ s.line.channels = oldest-channels s.line.channels _ _ frame o is.line.frames (f ∙ sym same) split in
+      λ x q. let w : o ≡ x = cc in (rw (← w) framed, rw (← w) (n ∙ same))
+
+-- ---- after the end
+
+-- what is to be given after the end
+left-ended : (r : PadArguments) (silent : ℕ) (hand : Option Samples) (taken : ℕ) (items : List Samples) (ended : Bool) (z : List Samples) → ended ≡ true
+    → replicate silent (silence r.channels) ++ (option_to_list hand ++ unless_last ended hand (pad_after r taken items (coming ended z)))
+    ≡ replicate silent (silence r.channels) ++ (option_to_list hand ++ unless_last true hand (pad_after r taken items []))
+left-ended r silent hand taken items false z e = absurd (false≢true e)
+left-ended r silent hand taken items true z e = refl
+
+-- the state after the oldest frame was taken out of the line, behind its silence
+abbrev pub drawn : PadState → Frames ℤ → ℕ → Option Samples → ℕ → Bool → PadState
+drawn s line silent hand given ended = record s { line = line; silent = silent; hand = hand; given = given; ended = ended }
+
+module _ (s : PadState) (line : Frames ℤ) (silent : ℕ) (hand : Option Samples) (given : ℕ) (ended : Bool) (is : IsPad s) (over : ended ≡ true)
+    (oldest : hand ≡ slice_get s.line.items 0) (items : line.items ≡ drop 1 s.line.items) (quiet : silent ≡ silent_at (placed s.taken s.recipe.pads) (s.taken - length s.line.items)) where
+  left-drawn : (z : List Samples) → pad_left (drawn s line silent hand given ended) z ≡ pad_after s.recipe s.taken s.line.items []
+  left-drawn z =
+      let h : length s.line.items ≤ s.taken = let w = is.held in omega arith in
+      left-ended s.recipe silent hand s.taken line.items ended z over
+      ∙ ap (λ k. replicate k (silence s.recipe.channels) ++ (option_to_list hand ++ unless_last true hand (pad_after s.recipe s.taken line.items []))) quiet
+      ∙ sym (pad_drained s.recipe s.taken s.line.items line.items hand oldest items h)
+
+  pub IsPad-drawn : IsLine w32 line → line.capacity ≡ s.line.capacity → line.channels ≡ s.line.channels → IsHand s.recipe.channels hand
+      → given + length (pad_after s.recipe s.taken s.line.items []) ≤ s.taken + lengths s.recipe.pads → IsPad (drawn s line silent hand given ended)
+  IsPad-drawn lined capacity channels fits within =
+      let held = is.held in
+      let popped = popped-length s.line.items line.items hand oldest items in
+      record {
+        line = lined;
+        channels = channels ∙ is.channels;
+        capacity = capacity ∙ is.capacity;
+        pads = is.pads;
+        few = is.few;
+        held = omega arith;
+        within = λ z. let n : length (pad_left (drawn s line silent hand given ended) z) ≡ length (pad_after s.recipe s.taken s.line.items []) = ap length (left-drawn z) in omega arith;
+        full = λ r. absurd (cc (r, over));
+        counted = λ r. absurd (cc (r, over));
+        over = λ e none. popped-none s.line.items line.items hand oldest items none;
+        fits = fits;
+      }
+
+  -- the end came
+  pub Ended-pad : pad_acts.dry s ≡ true → s.ended ≡ false → given ≡ s.given → Ended pad_acts s (drawn s line silent hand given ended)
+  Ended-pad dry running same =
+      record {
+        rest = λ z. ap (map plain) (left-drawn z ∙ sym (left-now s dry running []));
+        counted = rw (same, over) refl;
+        recipe_stays = refl;
+      }
+
+  -- the frame in hand was given
+  pub Gave-drawn : (frame : Samples) → s.hand ≡ Some frame → s.silent ≡ 0 → s.ended ≡ true → given ≡ s.given + 1 → ended ≡ s.ended → Gave pad_acts s (drawn s line silent hand given ended) frame
+  Gave-drawn frame e none was same still =
+      let first : (z : List Samples) → pad_left s z ≡ frame ∷ pad_left (drawn s line silent hand given ended) z = λ z.
+      left-ended s.recipe s.silent s.hand s.taken s.line.items s.ended z was
+      ∙ ap₂ (λ k o. replicate k (silence s.recipe.channels) ++ (option_to_list o ++ unless_last true o (pad_after s.recipe s.taken s.line.items []))) none e
+      ∙ ap (λ l. frame ∷ l) (sym (left-drawn z)) in
+      let long : length (pad_left s []) ≡ suc (length (pad_left (drawn s line silent hand given ended) [])) = ap length (first []) in
+      let within : s.given + length (pad_left s []) ≤ s.taken + 0 + lengths s.recipe.pads = is.within [] in
+      record {
+        was_wet = ap (λ o. is_none o && nat_eq s.silent 0) e;
+        gives = record { clips = 0; first = λ z. ap (map plain) (first z); counted = rw (same, still) refl };
+        channels = (is.fits frame e).1;
+        due = λ running. absurd (cc (running, was));
+        most = omega arith;
+        recipe_stays = refl;
+      }
+
+-- what is left at the end
+pub left-dry : (s : PadState) → IsPad s → pad_acts.dry s ≡ true → s.ended ≡ false → s.given + length (pad_after s.recipe s.taken s.line.items []) ≤ s.taken + lengths s.recipe.pads
+left-dry s is dry running =
+    let e : length (pad_left s []) ≡ length (pad_after s.recipe s.taken s.line.items []) = ap length (left-now s dry running []) in
+    let within : s.given + length (pad_left s []) ≤ s.taken + 0 + lengths s.recipe.pads = is.within [] in
+    omega arith
+
+-- what is left when the frame in hand was given after the end
+pub left-given : (s : PadState) (frame : Samples) → IsPad s → s.hand ≡ Some frame → s.silent ≡ 0 → s.ended ≡ true → s.given + 1 + length (pad_after s.recipe s.taken s.line.items []) ≤ s.taken + lengths s.recipe.pads
+left-given s frame is e none was =
+    let first : pad_left s [] ≡ frame ∷ pad_after s.recipe s.taken s.line.items [] =
+    left-ended s.recipe s.silent s.hand s.taken s.line.items s.ended [] was
+    ∙ ap₂ (λ k o. replicate k (silence s.recipe.channels) ++ (option_to_list o ++ unless_last true o (pad_after s.recipe s.taken s.line.items []))) none e in
+    let long : length (pad_left s []) ≡ suc (length (pad_after s.recipe s.taken s.line.items [])) = ap length first in
+    let within : s.given + length (pad_left s []) ≤ s.taken + 0 + lengths s.recipe.pads = is.within [] in
+    omega arith
+
+-- ---- silence is given
+
+silent-first : (n : ℕ) (x : Samples) (after : List Samples) → 0 < n → replicate n x ++ after ≡ x ∷ (replicate (n - 1) x ++ after)
+silent-first zero x after h = absurd (omega arith)
+silent-first (suc n) x after h = rw sub-one refl
+
+pub Gave-silence : (s : PadState) → IsPad s → 0 < s.silent → Gave pad_acts s (record s { silent = s.silent - 1; given = s.given + 1 }) (silence s.recipe.channels)
+Gave-silence s is some =
+    let first : (z : List Samples) → pad_left s z ≡ silence s.recipe.channels ∷ pad_left (record s { silent = s.silent - 1; given = s.given + 1 }) z = λ z. silent-first s.silent _ _ some in
+    let long : length (pad_left s []) ≡ suc (length (pad_left (record s { silent = s.silent - 1; given = s.given + 1 }) [])) = ap length (first []) in
+    let within : s.given + length (pad_left s []) ≤ s.taken + 0 + lengths s.recipe.pads = is.within [] in
+    record {
+      was_wet = not_dry s.hand s.silent some;
+      gives = record { clips = 0; first = λ z. ap (map plain) (first z); counted = refl };
+      channels = length-replicate _ _;
+      due = λ running. let k = is.counted running in omega arith;
+      most = omega arith;
+      recipe_stays = refl;
+    }
+
+-- a new stage
+pub IsPad-new : (r : PadArguments) (line : Frames ℤ) → IsLine w32 line → line.items ≡ [] → line.channels ≡ r.channels → line.capacity ≡ greatest_end (ats r.pads) → IsPads r.pads
+    → IsPad (record { hand = None; recipe = r; silent = 0; line = line; taken = 0; given = 0; ended = false })
+IsPad-new r line lined items channels capacity pads =
+    let empty : length line.items ≡ 0 = ap length items in
+    record {
+      line = lined;
+      channels = channels;
+      capacity = capacity;
+      pads = pads;
+      few = omega arith;
+      held = omega arith;
+      within = λ z.
+          let e : pad_after r 0 line.items z ≡ pad_rest r.channels r.pads 0 [] z = ap (λ l. pad_after r 0 l z) items in
+          let n : length (pad_after r 0 line.items z) ≡ length (padded r.channels r.pads z) = ap length (e ∙ sym (pad_new r.channels r.pads z)) in
+          let most = length_padded r.channels r.pads z in
+          omega arith;
+      full = λ e. omega arith;
+      counted = λ e. sym (none-due r.pads);
+      over = λ e none. items;
+      fits = λ x e. absurd (cc);
+    }

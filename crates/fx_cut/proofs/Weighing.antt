@@ -1,0 +1,97 @@
+-- A sample times a weight of at most 1 is not clipped, and is the sample where the weight is 1.
+use Rattle.std.proofs.Common.{◌≡◌, ℕ, ℤ, zero, suc, pos, negsuc, ◌+◌, ◌*◌, ◌/◌, ◌<◌, ◌≤◌, ◌^◌, false, true, refl, ap, ◌∙◌, sym, arith, List, [], ◌∷◌, map, length, take, get_or, set, Bool, min, ◌-◌}
+use Rattle.std.specs.Prelude.{FitsSigned, not, count_by}
+use Rattle.std.specs.Int.{w32}
+use Rattle.std.specs.List.{All}
+use Rattle.std.proofs.Math.Nat.{mul-le-mul_left}
+use Rattle.std.proofs.lemmas.Int.{ints}
+use Rattle.std.proofs.lemmas.Nat.{div_below, le-div}
+use Rattle.std.proofs.lemmas.Bool.{lt-ltb}
+use Rattle.std.proofs.lemmas.List.{take_more, take_more_set, map-append}
+use mathlib.Core.Path.{ap₂}
+use Rattle.fx_fixed.specs.Rounding.{nearest_natural, signed, clipping}
+use Rattle.fx_fixed.proofs.Signs.{nearest-neg}
+use Rattle.fx_cut.specs.Rounded.{given_of, unclipped}
+use Rattle.fx_cut.specs.Lists.{plain}
+use Rattle.fx_cut.specs.Fade.{weighted}
+
+nearest-le : (n w d : ℕ) → 0 < d → w ≤ d → nearest_natural (n * w) d ≤ n
+nearest-le n w d some h =
+    let p : n * w ≤ n * d = mul-le-mul_left n h in
+    let b : (2 * (n * w) + d) / (2 * d) < suc n = div_below (2 * (n * w) + d) (2 * d) (suc n) (omega arith) (omega arith) in
+    omega arith
+
+nearest-whole : (n d : ℕ) → 0 < d → nearest_natural (n * d) d ≡ n
+nearest-whole n d some =
+    let a : nearest_natural (n * d) d ≤ n = nearest-le n d d some (omega arith) in
+    let b : n ≤ (2 * (n * d) + d) / (2 * d) = le-div n (2 * (n * d) + d) (2 * d) (omega arith) (omega arith) in
+    omega arith
+
+fits-pos : (n : ℕ) → FitsSigned w32 (pos n) → n < 2 ^ 31
+fits-pos n h = omega (arith, ints)
+
+fits-neg : (n : ℕ) → FitsSigned w32 (negsuc n) → n < 2 ^ 31
+fits-neg n h = omega (arith, ints)
+
+unclipped-pos : (k : ℕ) → k < 2 ^ 31 → (clipping (pos k)).1 ≡ false
+unclipped-pos k h = ap not (lt-ltb k (2 ^ 31) h)
+
+unclipped-neg : (k n : ℕ) → k ≤ suc n → n < 2 ^ 31 → (clipping (signed true k)).1 ≡ false
+unclipped-neg zero n h f = refl
+unclipped-neg (suc k) n h f = ap not (lt-ltb k (2 ^ 31) (omega arith))
+
+-- no weight over 1 clips
+pub no_clip : (x : ℤ) (w d : ℕ) → 0 < d → w ≤ d → FitsSigned w32 x → (weighted (w, d) x).1 ≡ false
+no_clip (pos n) w d some h f =
+    let l = nearest-le n w d some h in
+    let g = fits-pos n f in
+    unclipped-pos (nearest_natural (n * w) d) (omega arith)
+no_clip (negsuc n) w d some h f =
+    ap (λ z. (clipping z).1) (nearest-neg (suc n * w) d some)
+    ∙ unclipped-neg (nearest_natural (suc n * w) d) n (nearest-le (suc n) w d some h) (fits-neg n f)
+
+-- the weight 1 changes nothing
+whole-sample : (x : ℤ) (d : ℕ) → 0 < d → FitsSigned w32 x → weighted (d, d) x ≡ unclipped x
+whole-sample (pos n) d some f =
+    let g = fits-pos n f in
+    let m : min n (2 ^ 31 - 1) ≡ n = omega arith in
+    ap (λ k. clipping (pos k)) (nearest-whole n d some) ∙ ap₂ (λ a b. (a, b)) (ap pos m) (unclipped-pos n g)
+whole-sample (negsuc n) d some f =
+    let g = fits-neg n f in
+    let m : min n (2 ^ 31 - 1) ≡ n = omega arith in
+    ap clipping (nearest-neg (suc n * d) d some ∙ ap (signed true) (nearest-whole (suc n) d some)) ∙ ap₂ (λ a b. (a, b)) (ap negsuc m) (unclipped-neg (suc n) n (omega arith) g)
+
+-- a frame with the weight 1
+pub whole-frame : (frame : List ℤ) (w : ℕ × ℕ) → w.0 ≡ w.1 → 0 < w.1 → All (FitsSigned w32) frame → map (weighted w) frame ≡ map unclipped frame
+whole-frame [] w same some f = refl
+whole-frame (x ∷ xs) (a, d) same some f =
+    let e : weighted (a, d) x ≡ unclipped x = rw same (whole-sample x d some (f 0 (pos 0) (omega arith))) in
+    let more = whole-frame xs (a, d) same some (λ k e h. f (suc k) e (omega arith)) in
+    cc (e, more)
+
+-- a rounded sample that was not clipped
+pub is-unclipped : (w : ℕ × ℕ) (x y : ℤ) (b : Bool) → (y, b) ≡ weighted w x → 0 < w.1 → w.0 ≤ w.1 → FitsSigned w32 x → weighted w x ≡ unclipped y
+is-unclipped (a, d) x y b e some h f =
+    let n = no_clip x a d some h f in
+    let c : b ≡ false = ap (λ r. r.1) e ∙ n in
+    sym e ∙ cc (c)
+
+-- one more sample
+pub weighted-more : (w : ℕ × ℕ) (xs out : List ℤ) (i : ℕ) (y : ℤ) → i < length xs → i < length out → map (weighted w) (take i xs) ≡ map unclipped (take i out) → weighted w (get_or xs i (pos 0)) ≡ unclipped y
+    → map (weighted w) (take (i + 1) xs) ≡ map unclipped (take (i + 1) (set out i y))
+weighted-more w xs out i y h k e v =
+    ap (map (weighted w)) (take_more xs i (pos 0) h) ∙ map-append (weighted w) (take i xs) (get_or xs i (pos 0) ∷ [])
+    ∙ cc (e, v)
+    ∙ sym (ap (map unclipped) (take_more_set out i y k) ∙ map-append unclipped (take i out) (y ∷ []))
+
+-- a frame of which nothing was clipped
+pub given-plain : (rounds : List (ℤ × Bool)) (frame : List ℤ) → rounds ≡ map unclipped frame → given_of rounds ≡ plain frame
+given-plain rounds frame e = ap given_of e ∙ cc (samples frame, clips frame)
+  where
+    samples : (xs : List ℤ) → map (λ r. r.0) (map unclipped xs) ≡ xs
+    samples [] = refl
+    samples (x ∷ xs) = ap (λ l. x ∷ l) (samples xs)
+
+    clips : (xs : List ℤ) → count_by (λ r. r.1) (map unclipped xs) ≡ 0
+    clips [] = refl
+    clips (x ∷ xs) = clips xs

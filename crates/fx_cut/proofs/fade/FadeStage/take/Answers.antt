@@ -1,0 +1,29 @@
+-- A frame comes: it stays in the line, or the oldest falls out and is given with its weight, or lies behind the stop.
+use Rattle.fx_cut.proofs.FadeSteps.{Took-inside, Took-fallen, IsFade-inside, IsFade-fallen, oldest-length}
+use Rattle.fx_cut.proofs.fade.FadeStage.take.Goals as goal
+
+pub returns-in_default : goal.returns-in_default
+returns-in_default c =
+    rw (← c.self.view_is)
+    (Took-inside _ c.args.frame c.self.invariant (rw (← c.self.view_is) at c.requires.dry) (rw (← c.self.view_is) at c.requires.not_ended) _ c.in_default.ensures.oldest c.in_default.ensures.items)
+
+pub invariant_of-self : goal.invariant_of-self
+invariant_of-self c =
+    IsFade-inside _ c.args.frame c.self.invariant (rw (← c.self.view_is) at c.requires.dry) (rw (← c.self.view_is) at c.requires.not_ended) _ c.in_default.ensures.oldest c.in_default.ensures.items
+    c.len-held.ensures.line c.in_default.ensures.capacity c.in_default.ensures.channels (rw (← c.self.view_is) at c.requires.below_limit)
+
+pub invariant_of-self-2 : goal.invariant_of-self-2
+invariant_of-self-2 c =
+    let dry = rw (← c.self.view_is) at c.requires.dry in
+    let running = rw (← c.self.view_is) at c.requires.not_ended in
+    let kept = rw (c.next_stop-stop.ensures, c.len.ensures.count) at c.faded-self-inside.ensures.value in
+    let long = oldest-length _ c.args.frame c.self.invariant dry running c.in-Some.oldest c.in-Some.ensures.oldest (rw (← c.self.view_is) at c.requires.channels) in
+    let fits = rw long at c.faded-self-inside.ensures.fits in
+    IsFade-fallen _ c.args.frame c.self.invariant dry running _ c.in-Some.oldest _ c.in-Some.ensures.oldest c.in-Some.ensures.items
+    c.len-held.ensures.line c.in-Some.ensures.capacity c.in-Some.ensures.channels (rw (← c.self.view_is) at c.requires.below_limit) kept fits
+
+pub returns : goal.returns
+returns c =
+    let kept = rw (c.next_stop-stop.ensures, c.len.ensures.count) at c.faded-self-inside.ensures.value in
+    rw (← c.self.view_is)
+    (Took-fallen _ c.args.frame c.self.invariant (rw (← c.self.view_is) at c.requires.dry) (rw (← c.self.view_is) at c.requires.not_ended) _ c.in-Some.oldest _ c.in-Some.ensures.oldest c.in-Some.ensures.items kept)

@@ -1,0 +1,28 @@
+-- A frame comes: it stays in the line, or the oldest falls out, behind its silence.
+use Rattle.fx_cut.proofs.PadSteps.{Took-inside, Took-fallen, IsPad-inside, IsPad-fallen, oldest-length}
+use Rattle.fx_cut.proofs.pad.PadStage.take.Goals as goal
+
+pub returns-in_default : goal.returns-in_default
+returns-in_default c =
+    rw (← c.self.view_is)
+    (Took-inside _ c.args.frame c.self.invariant (rw (← c.self.view_is) at c.requires.dry) (rw (← c.self.view_is) at c.requires.not_ended) _ c.in_default.ensures.oldest c.in_default.ensures.items)
+
+pub invariant_of-self : goal.invariant_of-self
+invariant_of-self c =
+    IsPad-inside _ c.args.frame c.self.invariant (rw (← c.self.view_is) at c.requires.dry) (rw (← c.self.view_is) at c.requires.not_ended) _ c.in_default.ensures.oldest c.in_default.ensures.items
+    c.len-held.ensures.line c.in_default.ensures.capacity c.in_default.ensures.channels (rw (← c.self.view_is) at c.requires.below_limit)
+
+pub invariant_of-self-2 : goal.invariant_of-self-2
+invariant_of-self-2 c =
+    let dry = rw (← c.self.view_is) at c.requires.dry in
+    let running = rw (← c.self.view_is) at c.requires.not_ended in
+    let quiet = rw (c.deref.ensures.value, c.len.ensures.count) at c.silence_by_starts-self-inside.ensures in
+    let fits = oldest-length _ c.args.frame c.self.invariant dry running c.in-Some.oldest c.in-Some.ensures.oldest (rw (← c.self.view_is) at c.requires.channels) c.channels-channels.ensures.frame in
+    IsPad-fallen _ c.args.frame c.self.invariant dry running _ c.in-Some.oldest _ c.in-Some.ensures.oldest c.in-Some.ensures.items
+    c.len-held.ensures.line c.in-Some.ensures.capacity c.in-Some.ensures.channels (rw (← c.self.view_is) at c.requires.below_limit) quiet fits
+
+pub returns : goal.returns
+returns c =
+    let quiet = rw (c.deref.ensures.value, c.len.ensures.count) at c.silence_by_starts-self-inside.ensures in
+    rw (← c.self.view_is)
+    (Took-fallen _ c.args.frame c.self.invariant (rw (← c.self.view_is) at c.requires.dry) (rw (← c.self.view_is) at c.requires.not_ended) _ c.in-Some.oldest _ c.in-Some.ensures.oldest c.in-Some.ensures.items quiet)

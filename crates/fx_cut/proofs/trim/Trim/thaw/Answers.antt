@@ -1,0 +1,12 @@
+use Rattle.std.proofs.Common.{ap, refl}
+use Rattle.fx_cut.proofs.TrimThaw.{frozen-count, IsTrim-thawed}
+use Rattle.fx_cut.proofs.trim.Trim.thaw.Goals as goal
+
+pub returns-then-not-is_count-clause-thawed : goal.returns-then-not-is_count-clause-thawed
+returns-then-not-is_count-clause-thawed c = λ s is recipe frozen.
+    absurd (c.if-not-is_count.ensures.other refl (frozen-count s c.args.positions.now c.args.numbers.now is (ap (λ r. r.positions) recipe) frozen.counted))
+
+pub invariant_of-result : goal.invariant_of-result
+invariant_of-result c =
+    rw (c.in-Ok.ensures.items, c.new-own.ensures.items)
+    (IsTrim-thawed c.args.channels _ _ _ _ _ _ c.args.positions.now _ c.args.frames.now _ _ c.in-Ok-thawed_line_and_hand.ensures.found c.greatest_end_of-capacity.ensures c.enough_of.ensures c.if-taken.false c.if-given-taken.false c.if-held-taken.false c.if-held-frames.false (c.if-not-is_count.ensures.count refl))

@@ -1,0 +1,137 @@
+-- The effect `pad` (sox(1), EFFECTS, pad): silence at positions. A pad at a start position past the end of the sound is taken
+-- out first (this project's profile).
+use Rattle.std.specs.Prelude.{ℕ, ℤ, ◌+◌, ◌-◌, ◌^◌, ◌≤◌, ◌≡◌, ◌==◌, min, nat_le, nat_lt, nat_eq, Bool, true, false, ◌&&◌, if◌then◌else◌, List, [], ◌∷◌, ◌++◌, filter, flat_map, length, map, replicate, slice_get, sum_by, zip, Option, Some, None, option_to_list, is_none}
+use Rattle.std.proofs.Common.{arith}
+use Rattle.std.specs.List.{range_with_len, enumerate_from}
+use Rattle.std.specs.Int.{w32}
+use Rattle.fx_fixed.specs.Positions.{places_after}
+use Rattle.fx_fixed.specs.declared.positions.At.{At}
+use Rattle.fx_fixed.specs.declared.positions.At.TheVariants.{Start, End}
+use Rattle.fx_frame.specs.Frame.{Samples, silence}
+use Rattle.fx_frame.specs.Line.{Frames, IsLine}
+use Rattle.fx_frame.specs.Frozen.{IsHand}
+use Rattle.fx_frame.specs.Stage.{Acts, coming}
+use Rattle.fx_cut.specs.Lists.{plain}
+use Rattle.fx_cut.specs.Trim.{greatest_end}
+
+-- the positions of pads, each of which is a length and a position
+abbrev pub ats : List (ℕ × At) → List At
+ats pads = map (λ p. p.1) pads
+
+-- the lengths of pads together
+abbrev pub lengths : List (ℕ × At) → ℕ
+lengths pads = sum_by (λ p. p.0) pads
+
+-- a pad is not past the end of a sound of so many frames
+abbrev pub is_inside : ℕ → ℕ × At → Bool
+is_inside len (n, Start p) = nat_le p len
+is_inside len (n, End b) = true
+
+-- the lengths of the pads that are not past the end, each with its place, where none lies before a place
+abbrev pub placed_after : ℕ → ℕ → List (ℕ × At) → List (ℕ × ℕ)
+placed_after len last pads = zip (map (λ p. p.0) (filter (is_inside len) pads)) (places_after len last (map (λ p. p.1) (filter (is_inside len) pads)))
+
+abbrev pub placed : ℕ → List (ℕ × At) → List (ℕ × ℕ)
+placed len pads = placed_after len 0 pads
+
+-- how many silent frames stand before frame n
+abbrev pub silent_at : List (ℕ × ℕ) → ℕ → ℕ
+silent_at pads n = sum_by (λ p. if p.1 == n then p.0 else 0) pads
+
+-- before each frame, and after the last one, the silence of the pads there
+abbrev pub padded : ℕ → List (ℕ × At) → List Samples → List Samples
+padded channels pads x = flat_map (λ n. replicate (silent_at (placed (length x) pads) n) (silence channels) ++ option_to_list (slice_get x n)) (range_with_len 0 (length x + 1))
+
+-- the pads before the first one that is counted from the end, with their places
+abbrev pub pads_from_start : List (ℕ × At) → List (ℕ × ℕ)
+pads_from_start [] = []
+pads_from_start ((n, Start p) ∷ pads) = (n, p) ∷ pads_from_start pads
+pads_from_start ((n, End b) ∷ pads) = []
+
+-- how many frames are given after so many, with no end: those before each end position, and the pads before them
+abbrev pub pad_due : List (ℕ × At) → ℕ → ℕ
+pad_due pads s = s - greatest_end (ats pads) + sum_by (λ p. p.0) (filter (λ p. nat_lt p.1 (s - greatest_end (ats pads))) (pads_from_start pads))
+
+-- the positions from the start that stand before the first one from the end are in order, from a place on
+abbrev pub RisesFrom : ℕ → List At → Type 0
+RisesFrom m [] = Unit {0}
+RisesFrom m (Start p ∷ ps) = (m ≤ p) × RisesFrom p ps
+RisesFrom m (End b ∷ ps) = Unit {0}
+
+-- pads in order, whose lengths together are at most those of 64 pads of 2^40 frames
+pub record IsPads (pads : List (ℕ × At)) : Type 0 where
+  pub rising : RisesFrom 0 (ats pads)
+  pub short : lengths pads ≤ 2 ^ 46
+
+-- what a `Pad` is made with
+pub record PadArguments : Type 0 where
+  pub channels : ℕ
+  pub pads : List (ℕ × At)
+
+-- what a `Pad` stores
+pub record PadState : Type 0 where
+  -- the frame to be given after the silence
+  pub hand : Option Samples
+  pub recipe : PadArguments
+  -- how many silent frames are to be given
+  pub silent : ℕ
+  pub line : Frames ℤ
+  pub taken : ℕ
+  pub given : ℕ
+  pub ended : Bool
+
+-- what is given for the frames from frame n on, in a sound of so many frames that ends with them
+abbrev pub padded_from : ℕ → ℕ → List (ℕ × At) → ℕ → List Samples → List Samples
+padded_from channels len pads n x =
+    flat_map (λ e. replicate (silent_at (placed len pads) e.0) (silence channels) ++ e.1 ∷ []) (enumerate_from n x)
+    ++ replicate (silent_at (placed len pads) len) (silence channels)
+
+-- what is still to be given where the line holds the frames from frame n on, and these frames come
+abbrev pub pad_rest : ℕ → List (ℕ × At) → ℕ → List Samples → List Samples → List Samples
+pad_rest channels pads n items z = padded_from channels (n + length (items ++ z)) pads n (items ++ z)
+
+-- the same where the newest frame of the line is the last of so many
+abbrev pub pad_after : PadArguments → ℕ → List Samples → List Samples → List Samples
+pad_after r taken items z = pad_rest r.channels r.pads (taken - length items) items z
+
+-- what comes after the frame in hand: after the end, nothing where there is none
+abbrev pub unless_last : Bool → Option Samples → List Samples → List Samples
+unless_last true None later = []
+unless_last true (Some x) later = later
+unless_last false hand later = later
+
+-- what is still to be given: silence, the frame in hand, and what is given for the frames of the line and those that come
+abbrev pub pad_left : PadState → List Samples → List Samples
+pad_left s z = replicate s.silent (silence s.recipe.channels) ++ (option_to_list s.hand ++ unless_last s.ended s.hand (pad_after s.recipe s.taken s.line.items (coming s.ended z)))
+
+-- what holds of it at every moment
+pub record IsPad (s : PadState) : Type 0 where
+  pub line : IsLine w32 s.line
+  pub channels : s.line.channels ≡ s.recipe.channels
+  pub capacity : s.line.capacity ≡ greatest_end (ats s.recipe.pads)
+  pub pads : IsPads s.recipe.pads
+  pub few : s.taken ≤ 2 ^ 56
+  pub held : length s.line.items + length (option_to_list s.hand) ≤ s.taken
+  pub within : (z : List Samples) → s.given + length (pad_left s z) ≤ s.taken + length z + lengths s.recipe.pads
+  pub full : s.ended ≡ false → length s.line.items ≡ min s.taken s.line.capacity
+  pub counted : s.ended ≡ false → s.given + s.silent + length (option_to_list s.hand) ≡ pad_due s.recipe.pads s.taken
+  pub over : s.ended ≡ true → s.hand ≡ None → s.line.items ≡ []
+  pub fits : IsHand s.recipe.channels s.hand
+
+-- how the stages of `pad` behave
+abbrev pub pad_acts : Acts PadState PadArguments
+pad_acts = record {
+  recipe = λ s. s.recipe;
+  kind_of = λ r. record { inputs = r.channels; outputs = r.channels; line = greatest_end (ats r.pads); limit = 2 ^ 56; due = pad_due r.pads; most = λ n. n + lengths r.pads; enough = None };
+  meaning = λ r z. map plain (padded r.channels r.pads z);
+  rest = λ s z. map plain (pad_left s z);
+  counts = λ s. record { taken = s.taken; given = s.given; clips = 0; ended = s.ended };
+  dry = λ s. is_none s.hand && nat_eq s.silent 0;
+  stored = λ s. s.line.items ++ option_to_list s.hand;
+  capacity = λ s. s.line.capacity;
+  own = λ s. record { sixth = s.silent; seventh = length (option_to_list s.hand); eighth = 0 };
+}
+
+-- more frames in give no fewer out
+pub pad_rises : (r : PadArguments) (m n : ℕ) → m ≤ n → m + lengths r.pads ≤ n + lengths r.pads
+pad_rises r m n h = omega arith

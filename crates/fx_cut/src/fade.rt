@@ -1,0 +1,423 @@
+//! The effect `fade` of sox(1), of the type t: a linear rise at the start and a linear fall before the stop.
+ghost use Rattle.std.specs.Prelude.{◌≡◌, ◌≤◌, ◌<◌, ◌+◌, ◌++◌, ◌*ℤ◌, ◌^◌, [], pos, length, map, Err, IfOk, MatchResult, None, option_to_list, true, false};
+ghost use Rattle.std.specs.Int.{w32};
+ghost use Rattle.fx_fixed.specs.Rounding.{rounding};
+ghost use Rattle.fx_frame.specs.Frame.{IsFrame};
+ghost use Rattle.fx_frame.specs.Frozen.{IsHand};
+ghost use Rattle.fx_frame.specs.Line.{IsLine};
+ghost use Rattle.fx_frame.specs.Stage.{Freezes, IsNew};
+ghost use Rattle.fx_cut.specs.Lists.{plain};
+ghost use Rattle.fx_cut.specs.Rounded.{unclipped};
+ghost use Rattle.fx_cut.specs.Fade.{FadeArguments, FadeState, IsFade, IsFadeCount, IsShape, due_by, fade_acts, fade_after, fade_line, faded_here, is_before, line_by, meant, stop_ahead, stop_in, weight, weighted, weights};
+
+use fx_fixed::{At, round_clip};
+use fx_frame::frozen::thawed_line_and_hand;
+use fx_frame::inner::{frame_of, places};
+use fx_frame::{Frame, Line, Stage, ThawFault, WideFrame};
+use std::alloc::{AllocError, Global};
+use std::marker::Model;
+
+/// What a fade does to a sound, whatever its channels.
+#[derive(Drop)]
+pub struct Shape {
+    /// The frames of the rise; 0 for no rise.
+    pub fade_in: u64,
+    /// Where the sound stops, if it does before its end or fades out at its end.
+    pub stop: Option<At>,
+    /// The frames of the fall before the stop; 0 for no fall.
+    pub fade_out: u64,
+}
+
+/// So many parts of a length, at most 1, as a numerator and a denominator.
+#[inline(always)]
+fn weight_of(length: u64, parts: u64) -> (u64, u64)
+    ensures { result ≡ weight length parts }
+{
+    if length == 0 {
+        return (1, 1);
+    }
+    (parts.min(length), length)
+}
+
+/// Does the frame at this place lie before the stop?
+#[inline(always)]
+fn is_ahead(stop: Option<u64>, place: u64) -> bool
+    ensures { result ≡ is_before stop place }
+{
+    match stop {
+        None => true,
+        Some(stop) => place < stop,
+    }
+}
+
+/// A sample times a weight of at most 1, rounded.
+#[inline(always)]
+fn weighted_sample(sample: i32, over: u128, under: u128) -> i32
+    requires weight { (over ≤ under) × (0 < under) }
+    requires small { under ≤ 2 ^ 80 }
+    ensures { weighted (over, under) sample ≡ unclipped result }
+{
+    let (rounded, _clipped) = round_clip(i128::from(sample) * over as i128, under as i128);
+    rounded
+}
+
+/// A frame times a weight of at most 1, each sample rounded. Where the weight is 1 no sample is touched.
+#[inline(always)]
+fn weighted_frame(frame: Frame, over: u128, under: u128) -> Frame
+    requires weight { (over ≤ under) × (0 < under) }
+    requires small { under ≤ 2 ^ 80 }
+    ensures samples { map (weighted (over, under)) frame ≡ map unclipped result }
+    ensures channels { length result ≡ length frame }
+    ensures frame { IsFrame result }
+{
+    let channels = frame.channels();
+    if over == under {
+        return frame;
+    }
+    let samples = places(&frame);
+    let mut out = [0; 16];
+    'channels: for channel in 0..channels {
+        out[channel] = weighted_sample(samples[channel], over, under);
+    }
+    let made = frame_of(channels, out);
+    let _channels = made.channels();
+    made
+}
+
+impl Shape {
+    /// The weight of the frame at this place, where the sound stops at another or does not stop.
+    #[inline(always)]
+    fn weight(&self, stop: Option<u64>, place: u64) -> (u128, u128)
+        requires { IsShape self.now }
+        ensures value { result ≡ weights self.now stop place }
+        ensures weight { (result.0 ≤ result.1) × (0 < result.1) }
+        ensures small { result.1 ≤ 2 ^ 80 }
+    {
+        let (over, under) = weight_of(self.fade_in, place);
+        let Some(stop) = stop else {
+            return (u128::from(over), u128::from(under));
+        };
+        let (out_over, out_under) = weight_of(self.fade_out, stop.saturating_sub(place));
+        (
+            u128::from(over) * u128::from(out_over),
+            u128::from(under) * u128::from(out_under),
+        )
+    }
+
+    /// What is given of the frame at this place: nothing behind the stop.
+    #[inline(always)]
+    fn faded(&self, frame: Frame, stop: Option<u64>, place: u64) -> Option<Frame>
+        requires { IsShape self.now }
+        ensures value { map plain (option_to_list result) ≡ faded_here self.now stop place frame }
+        ensures fits { IsHand (length frame) result }
+    {
+        if !is_ahead(stop, place) {
+            return None;
+        }
+        let (over, under) = self.weight(stop, place);
+        Some(weighted_frame(frame, over, under))
+    }
+
+    /// Where the stop lies in a sound of so many frames.
+    fn stop(&self, frames: u64) -> Option<u64>
+        ensures { result ≡ stop_in frames self.now.stop }
+    {
+        match self.stop {
+            None => None,
+            Some(At::Start(start)) => Some(start),
+            Some(At::End(distance)) => Some(frames.saturating_sub(distance)),
+        }
+    }
+
+    /// Where the stop lies as far as the line has shown it, when the frame at this place falls out of it: a stop from the end
+    /// lies further behind that frame than the fall is long.
+    #[inline(always)]
+    fn next_stop(&self, place: u64) -> Option<u64>
+        requires shape { IsShape self.now }
+        requires place { place ≤ 2 ^ 56 }
+        ensures { result ≡ stop_ahead self.now place }
+    {
+        match self.stop {
+            None => None,
+            Some(At::Start(start)) => Some(start),
+            Some(At::End(_)) => Some(place + self.fade_out + 1),
+        }
+    }
+}
+
+/// A stop at 0 from the start means the end.
+fn meant_stop(stop: Option<At>) -> Option<At>
+    ensures { result ≡ meant stop }
+{
+    if let Some(At::Start(0)) = stop {
+        return Some(At::End(0));
+    }
+    stop
+}
+
+/// The frames of the line that a stop needs.
+fn line_for(stop: Option<At>, fade_out: u64) -> u64
+    requires { line_by stop fade_out ≤ 2 ^ 28 }
+    ensures { result ≡ line_by stop fade_out }
+{
+    match stop {
+        Some(At::End(distance)) => distance + fade_out,
+        _ => 0,
+    }
+}
+
+/// Does a stage of this shape, with so many frames in its line and in hand, count so? Before the end it has given what is due,
+/// after the end it has a frame in hand unless its line is empty or lies behind the stop.
+fn is_count(shape: &Shape, taken: u64, given: u64, lined: u64, hands: u64, is_ended: bool) -> bool
+    requires line { fade_line shape.now ≤ 2 ^ 28 }
+    requires lined { lined ≤ taken }
+    requires given { given + hands ≤ taken }
+    ensures count { result ≡ true → IsFadeCount shape.now taken given lined hands is_ended }
+    ensures other { result ≡ false → IsFadeCount shape.now taken given lined hands is_ended → ⊥ }
+{
+    if is_ended {
+        return hands != 0 || lined == 0 || !is_ahead(shape.stop(taken), taken - lined);
+    }
+    if lined != taken.min(line_for(shape.stop, shape.fade_out)) {
+        return false;
+    }
+    given + hands == due_after(shape.stop, shape.fade_out, taken)
+}
+
+/// How many frames are given after so many, with no end.
+fn due_after(stop: Option<At>, fade_out: u64, taken: u64) -> u64
+    ensures { result ≡ due_by stop fade_out taken }
+{
+    match stop {
+        None => taken,
+        Some(At::Start(start)) => taken.min(start),
+        Some(At::End(distance)) => taken.saturating_sub(distance).saturating_sub(fade_out),
+    }
+}
+
+/// Takes the oldest frame out of the line, and tells what is given of it in a sound of so many frames that ends with those of
+/// the line; None where nothing more is given.
+#[inline(never)]
+fn next_faded(line: &mut Line, shape: &Shape, frames: u64) -> Option<Frame>
+    requires shape { IsShape shape.now }
+    requires frames { length line.old.items ≤ frames }
+    ensures rest { fade_after shape.now frames line.old.items [] ≡ map plain (option_to_list result) ++ fade_after shape.now frames line.new.items [] }
+    ensures empty { result ≡ None → fade_after shape.now frames line.new.items [] ≡ [] }
+    ensures fewer { length (option_to_list result) + length line.new.items ≤ length line.old.items }
+    ensures hand { IsHand line.old.channels result }
+    ensures line { IsLine w32 line.new }
+    ensures capacity { line.new.capacity ≡ line.old.capacity }
+    ensures channels { line.new.channels ≡ line.old.channels }
+{
+    let place = frames - line.len() as u64;
+    let stop = shape.stop(frames);
+    let first = line.pop_front();
+    let _held = line.len();
+    let Some(oldest) = first else {
+        return None;
+    };
+    shape.faded(oldest, stop, place)
+}
+
+/// The stage of `fade`: the frames before the stop, or all of them, each sample times the weights of the rise and of the fall,
+/// rounded once. No sample is clipped. It takes up to `2^56` frames.
+#[derive(Drop)]
+pub struct Fade {
+    hand: Option<Frame>,
+    channels: usize,
+    shape: Shape,
+    line: Line,
+    taken: u64,
+    given: u64,
+    ended: bool,
+}
+
+impl Model for Fade {
+    ghost use Rattle.fx_cut.specs.Fade.{FadeState, IsFade};
+
+    ghost Value = { FadeState };
+
+    ghost view = { λ s. record { hand = s.hand; recipe = record { channels = s.channels; shape = s.shape }; line = s.line; taken = s.taken; given = s.given; ended = s.ended } };
+
+    ghost invariant = { λ s. IsFade (record { hand = s.hand; recipe = record { channels = s.channels; shape = s.shape }; line = s.line; taken = s.taken; given = s.given; ended = s.ended }) };
+}
+
+impl Fade {
+    /// The stage for frames of 1 to 16 channels, with a rise and a fall of at most `2^40` frames. Without a stop there is no
+    /// fall; a stop at 0 from the start means the end. A stop from the end needs a line of its distance and the fall, at most
+    /// `2^28` frames; AllocError where memory for it is refused.
+    pub fn new(
+        alloc: Global,
+        channels: usize,
+        fade_in: u64,
+        stop: Option<At>,
+        fade_out: u64,
+    ) -> Result<Fade, AllocError>
+        requires channels { (1 ≤ channels) × (channels ≤ 16) }
+        requires fades { (fade_in ≤ 2 ^ 40) × (fade_out ≤ 2 ^ 40) }
+        requires line { line_by (meant stop) fade_out ≤ 2 ^ 28 }
+        ensures { IfOk result (IsNew fade_acts (record { channels = channels; shape = record { fade_in = fade_in; stop = meant stop; fade_out = fade_out } })) }
+    {
+        let stop = meant_stop(stop);
+        let line = Line::new(alloc, channels, line_for(stop, fade_out) as usize)?;
+        Ok(Fade {
+            hand: None,
+            channels,
+            shape: Shape {
+                fade_in,
+                stop,
+                fade_out,
+            },
+            line,
+            taken: 0,
+            given: 0,
+            ended: false,
+        })
+    }
+
+    /// The stage that stored these frames and counted these numbers: whichever stage of these arguments they came from, that
+    /// stage comes back, unless memory is refused. BadSnapshot where there is no such stage, Memory where memory is refused.
+    pub fn thaw(
+        alloc: Global,
+        channels: usize,
+        fade_in: u64,
+        stop: Option<At>,
+        fade_out: u64,
+        frames: &[WideFrame],
+        numbers: &[u64; 8],
+    ) -> Result<Fade, ThawFault>
+        requires channels { (1 ≤ channels) × (channels ≤ 16) }
+        requires fades { (fade_in ≤ 2 ^ 40) × (fade_out ≤ 2 ^ 40) }
+        requires line { line_by (meant stop) fade_out ≤ 2 ^ 28 }
+        ensures recipe { IfOk result (λ t. t.recipe ≡ record { channels = channels; shape = record { fade_in = fade_in; stop = meant stop; fade_out = fade_out } }) }
+        ensures frozen { IfOk result (λ t. Freezes fade_acts t frames.now numbers.now) }
+        ensures named { (result ≡ Err ThawFault.WrongPlan) → ⊥ }
+        ensures thawed { (s : FadeState) → IsFade s → s.recipe ≡ record { channels = channels; shape = record { fade_in = fade_in; stop = meant stop; fade_out = fade_out } } → Freezes fade_acts s frames.now numbers.now → MatchResult result (λ t. t ≡ s) (λ e. e ≡ ThawFault.Memory) }
+    {
+        let [taken, given, ended, clips, held, hands, seventh, eighth] = *numbers;
+        if ended > 1 || clips != 0 || seventh != 0 || eighth != 0 || held != frames.len() as u64 {
+            return Err(ThawFault::BadSnapshot);
+        }
+        if taken > 1 << 56 || given > taken || held > taken - given || hands > held {
+            return Err(ThawFault::BadSnapshot);
+        }
+        let shape = Shape {
+            fade_in,
+            stop: meant_stop(stop),
+            fade_out,
+        };
+        if !is_count(&shape, taken, given, held - hands, hands, ended == 1) {
+            return Err(ThawFault::BadSnapshot);
+        }
+        let capacity = line_for(shape.stop, fade_out) as usize;
+        let (line, hand) = match thawed_line_and_hand(alloc, channels, capacity, frames, hands) {
+            Ok(stored) => stored,
+            Err(fault) => return Err(fault),
+        };
+        Ok(Fade {
+            hand,
+            channels,
+            shape,
+            line,
+            taken,
+            given,
+            ended: ended == 1,
+        })
+    }
+}
+
+impl Stage for Fade {
+    ghost Recipe = { FadeArguments };
+
+    ghost acts = { fade_acts };
+
+    ghost sound = { λ s. IsFade s };
+
+    ghost rises = { λ r m n h. h };
+
+    fn take(&mut self, frame: Frame) {
+        let place = self.taken - self.line.len() as u64;
+        self.taken += 1;
+        let fallen = self.line.push(frame);
+        let _held = self.line.len();
+        let Some(oldest) = fallen else {
+            return;
+        };
+        let stop = self.shape.next_stop(place);
+        self.hand = self.shape.faded(oldest, stop, place);
+    }
+
+    fn end(&mut self) {
+        self.ended = true;
+        self.hand = next_faded(&mut self.line, &self.shape, self.taken);
+    }
+
+    fn give(&mut self) -> Option<Frame> {
+        let Some(frame) = self.hand else {
+            return None;
+        };
+        self.given += 1;
+        if !self.ended {
+            self.hand = None;
+            return Some(frame);
+        }
+        self.hand = next_faded(&mut self.line, &self.shape, self.taken);
+        Some(frame)
+    }
+
+    fn is_dry(&self) -> bool {
+        self.hand.is_none()
+    }
+
+    fn is_ended(&self) -> bool {
+        self.ended
+    }
+
+    fn is_spent(&self) -> bool {
+        let Some(At::Start(enough)) = self.shape.stop else {
+            return false;
+        };
+        self.hand.is_none() && enough <= self.taken
+    }
+
+    fn held(&self) -> u64 {
+        self.line.len() as u64 + u64::from(self.hand.is_some())
+    }
+
+    fn hold(&self) -> u64 {
+        self.line.capacity() as u64 + 1
+    }
+
+    fn clips(&self) -> u64 {
+        0
+    }
+
+    fn in_channels(&self) -> usize {
+        self.channels
+    }
+
+    fn out_channels(&self) -> usize {
+        self.channels
+    }
+
+    fn counters(&self) -> [u64; 8] {
+        [
+            self.taken,
+            self.given,
+            u64::from(self.ended),
+            0,
+            self.held(),
+            u64::from(self.hand.is_some()),
+            0,
+            0,
+        ]
+    }
+
+    fn stored(&self, j: usize) -> WideFrame {
+        let inside = self.line.get(j).or(self.hand);
+        match inside {
+            Some(frame) => WideFrame::from_frame(frame),
+            None => WideFrame::from_frame(Frame::silence(1)),
+        }
+    }
+}
