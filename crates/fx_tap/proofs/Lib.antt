@@ -2,3 +2,4 @@ pub mod DelayLaws
 pub mod Rounds
 pub mod Shifting
 pub mod Tabulate
+pub mod TapLaws

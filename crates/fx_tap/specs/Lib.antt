@@ -2,6 +2,8 @@ pub mod DcShift
 pub mod Delay
 pub mod Lists
 pub mod Mapped
+pub mod Near
 pub mod PerSample
 pub mod Rounded
+pub mod Tapped
 pub mod Vol

@@ -6,6 +6,7 @@ pub mod delay;
 pub mod inner;
 pub mod mapped;
 pub mod per_sample;
+pub mod tapped;
 #[cfg(test)]
 mod tests;
 pub mod vol;
