@@ -27,7 +27,7 @@ sample_before-drop x (suc j) m d k h =
     let i : suc j + (m - d) ≡ m + suc j - d = omega arith in
     rw (a, b, get_or-drop (suc j) x (m - d) [], i) refl
 
-quiet-sample : (channels k : ℕ) → get_or (replicate channels (pos 0)) k (pos 0) ≡ pos 0
+pub quiet-sample : (channels k : ℕ) → get_or (replicate channels (pos 0)) k (pos 0) ≡ pos 0
 quiet-sample zero k = refl
 quiet-sample (suc channels) zero = refl
 quiet-sample (suc channels) (suc k) = quiet-sample channels k

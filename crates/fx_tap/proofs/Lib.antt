@@ -1,5 +1,7 @@
 pub mod DelayLaws
+pub mod EchoLaws
 pub mod Rounds
 pub mod Shifting
+pub mod SumLaws
 pub mod Tabulate
 pub mod TapLaws

@@ -1,5 +1,6 @@
 pub mod DcShift
 pub mod Delay
+pub mod Echo
 pub mod Lists
 pub mod Mapped
 pub mod Near

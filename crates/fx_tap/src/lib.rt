@@ -3,9 +3,13 @@
 
 pub mod dcshift;
 pub mod delay;
+pub mod echo;
+#[cfg(test)]
+mod echo_tests;
 pub mod inner;
 pub mod mapped;
 pub mod per_sample;
+mod sums;
 pub mod tapped;
 #[cfg(test)]
 mod tests;
@@ -13,4 +17,5 @@ pub mod vol;
 
 pub use dcshift::DcShift;
 pub use delay::Delay;
+pub use echo::Echo;
 pub use vol::Vol;
