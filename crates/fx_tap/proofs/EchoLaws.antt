@@ -28,7 +28,7 @@ pub echo-first : (y o z p e : ℤ) → y ≡ o +ℤ z → o ≡ pos 0 → p ≡ 
 echo-first y o z p e a b h = omega (arith, ints, a, b, h)
 
 -- one more echo
-add-next : (y s z r w : ℤ) → y ≡ s +ℤ z → s +ℤ (z +ℤ r) ≡ w → y +ℤ r ≡ w
+pub add-next : (y s z r w : ℤ) → y ≡ s +ℤ z → s +ℤ (z +ℤ r) ≡ w → y +ℤ r ≡ w
 add-next y s z r w a b = omega (arith, ints, a, b)
 
 echoes-drop : (es : List (ℕ × ℤ)) (i : ℕ) (e d : ℕ × ℤ) (past : Past) (k : ℕ) → i < length es → e ≡ get_or es i d → echoes_of (drop i es) past k ≡ (e.1 *ℤ past e.0 k) +ℤ echoes_of (drop (i + 1) es) past k

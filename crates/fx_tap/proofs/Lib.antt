@@ -1,5 +1,6 @@
 pub mod DelayLaws
 pub mod EchoLaws
+pub mod MixLaws
 pub mod Rounds
 pub mod Shifting
 pub mod SumLaws

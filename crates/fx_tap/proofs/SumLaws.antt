@@ -97,3 +97,10 @@ scaled-high g s small few =
     let z : ℤ = g *ℤ s in
     let most = scaled-few g s _ _ small few in
     high_of z (omega (arith, most))
+
+-- a product in 128 bits
+pub plain-product : (p x f y : ℤ) → f ≡ p → y ≡ x → unsigned_abs p ≤ 2 ^ 63 → unsigned_abs x ≤ 2 ^ 31
+    → to_z w128 (of_z w128 (to_z w128 (of_z w128 f) *ℤ to_z w128 (of_z w128 y))) ≡ p *ℤ x
+plain-product p x f y e d small sample =
+    let product = scaled-few p x (2 ^ 63) (2 ^ 31) small sample in
+    rw (e, d, held p (omega arith), held x (omega arith), held (p *ℤ x) (omega (arith, product))) refl

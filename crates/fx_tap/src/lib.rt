@@ -9,13 +9,17 @@ mod echo_tests;
 pub mod inner;
 pub mod mapped;
 pub mod per_sample;
+pub mod remix;
 mod sums;
 pub mod tapped;
 #[cfg(test)]
 mod tests;
 pub mod vol;
+pub mod weight;
 
 pub use dcshift::DcShift;
 pub use delay::Delay;
 pub use echo::Echo;
+pub use remix::Remix;
 pub use vol::Vol;
+pub use weight::{OutSpec, Weight};

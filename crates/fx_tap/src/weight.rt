@@ -1,0 +1,18 @@
+//! How much of a channel goes into a channel that `remix` makes.
+
+use fx_fixed::Gain;
+use smallvec::SmallVec;
+
+/// How much of a channel goes into an output channel.
+#[derive(Clone, Copy, Debug, Drop, PartialEq, Eq)]
+pub enum Weight {
+    /// So much of it.
+    Given(Gain),
+    /// One over the number of contributions of its output channel, exactly.
+    Share,
+    /// All of it.
+    One,
+}
+
+/// What goes into an output channel: channels of the input, counted from 0, each with its weight. An empty one is silence.
+pub type OutSpec = SmallVec<(u8, Weight), 8>;
