@@ -10,6 +10,8 @@ pub mod inner;
 pub mod mapped;
 pub mod per_sample;
 pub mod remix;
+#[cfg(test)]
+mod remix_tests;
 mod sums;
 pub mod tapped;
 #[cfg(test)]

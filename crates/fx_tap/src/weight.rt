@@ -4,13 +4,14 @@ use fx_fixed::Gain;
 use smallvec::SmallVec;
 
 /// How much of a channel goes into an output channel.
-#[derive(Clone, Copy, Debug, Drop, PartialEq, Eq)]
+#[derive(Clone, Copy, Debug, Default, Drop, PartialEq, Eq)]
 pub enum Weight {
     /// So much of it.
     Given(Gain),
     /// One over the number of contributions of its output channel, exactly.
     Share,
-    /// All of it.
+    /// All of it; also what stands in the places of an `OutSpec` that are not used.
+    #[default]
     One,
 }
 
