@@ -126,3 +126,8 @@ module _ {M : Type 0} (taps : Taps M) (near : IsNear taps) where
         most = omega arith;
         recipe_stays = refl;
       }
+
+-- the flag that a number stands for
+pub ended-back : (b : Bool) → nat_eq (cond b 1 0) 1 ≡ b
+ended-back true = refl
+ended-back false = refl

@@ -1,15 +1,15 @@
 //! The effect `delay` of sox(1): each channel comes later by its own number of frames.
-ghost use Rattle.std.specs.Prelude.{◌≡◌, ◌≤◌, ◌^◌, ◌++◌, ◌∷◌, [], ℕ, List, length, slice_index_or, pos, IfOk};
+ghost use Rattle.std.specs.Prelude.{◌≡◌, ◌≤◌, ◌^◌, ◌++◌, ◌∷◌, [], ℕ, List, length, slice_index_or, pos, Err, IfOk, MatchResult};
 ghost use Rattle.fx_frame.specs.Frame.{IsFrame};
-ghost use Rattle.fx_frame.specs.Stage.{IsNew};
+ghost use Rattle.fx_frame.specs.Stage.{Freezes, IsNew};
 ghost use Rattle.fx_tap.specs.Delay.{delay_acts, delay_taps, delayed_frame, every_delay};
-ghost use Rattle.fx_tap.specs.Tapped.{longest, sample_before};
+ghost use Rattle.fx_tap.specs.Tapped.{IsTapState, TapState, longest, sample_before};
 ghost use Rattle.fx_tap.specs.Near.{delays-near};
 ghost use Rattle.std.proofs.Common.{zero-le};
 
 use crate::tapped::{Tapped, Tapping};
 use fx_frame::inner::frame_of;
-use fx_frame::{Frame, Line};
+use fx_frame::{Frame, Line, ThawFault, WideFrame};
 use std::alloc::{AllocError, Global};
 use std::marker::Model;
 
@@ -103,6 +103,10 @@ impl Tapping for Delays {
         self.delays.len()
     }
 
+    fn most_clips(&self) -> u64 {
+        0
+    }
+
     ghost near = { delays-near };
 
     ghost few_clips = { λ m. zero-le };
@@ -124,5 +128,29 @@ impl Tapped<Delays> {
         let reach = longest_of(delays) as usize;
         let delays = every_delay(alloc, channels, delays)?;
         Tapped::of(alloc, Delays { delays }, reach)
+    }
+    /// The stage that stored these frames and counted these numbers: whichever stage of these channels and delays they came
+    /// from, that stage comes back, unless memory is wanting. BadSnapshot where there is no such stage, Memory where a growth
+    /// was refused.
+    pub fn thaw(
+        alloc: Global,
+        channels: usize,
+        delays: &[u64],
+        frames: &[WideFrame],
+        numbers: &[u64; 8],
+    ) -> Result<Delay, ThawFault>
+        requires channels { (1 ≤ channels) × (channels ≤ 16) }
+        requires delays { length delays.now ≤ channels }
+        requires line { longest delays.now ≤ 2 ^ 28 }
+        ensures recipe { IfOk result (λ t. delay_acts.recipe t ≡ every_delay channels delays.now) }
+        ensures frozen { IfOk result (λ t. Freezes delay_acts t frames.now numbers.now) }
+        ensures thawed { (s : TapState (List ℕ)) → IsTapState delay_taps s → delay_acts.recipe s ≡ every_delay channels delays.now → Freezes delay_acts s frames.now numbers.now → MatchResult result (λ t. t ≡ s) (λ e. e ≡ ThawFault.Memory) }
+        ensures named { (result ≡ Err ThawFault.WrongPlan) → ⊥ }
+    {
+        let reach = longest_of(delays) as usize;
+        let Ok(delays) = every_delay(alloc, channels, delays) else {
+            return Err(ThawFault::Memory);
+        };
+        Tapped::thawed(alloc, Delays { delays }, reach, frames, numbers)
     }
 }

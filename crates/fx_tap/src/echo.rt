@@ -1,16 +1,16 @@
 //! The effect `echo` of sox(1): earlier frames come again, each with a decay.
-ghost use Rattle.std.specs.Prelude.{◌≡◌, ◌<◌, ◌≤◌, ◌+◌, ◌*◌, ◌^◌, ◌++◌, ◌∷◌, [], ℕ, pos, ◌+ℤ◌, ◌*ℤ◌, length, slice_index_or, unsigned_abs, IfOk};
+ghost use Rattle.std.specs.Prelude.{◌≡◌, ◌<◌, ◌≤◌, ◌+◌, ◌*◌, ◌^◌, ◌++◌, ◌∷◌, [], ℕ, pos, ◌+ℤ◌, ◌*ℤ◌, length, slice_index_or, unsigned_abs, Err, IfOk, MatchResult};
 ghost use Rattle.std.proofs.Common.{rules};
 ghost use Rattle.std.specs.List.{All};
-ghost use Rattle.fx_frame.specs.Stage.{IsNew};
-ghost use Rattle.fx_tap.specs.Echo.{echo_acts, echo_sum, echo_taps, latest};
+ghost use Rattle.fx_frame.specs.Stage.{Freezes, IsNew};
+ghost use Rattle.fx_tap.specs.Echo.{EchoArguments, echo_acts, echo_sum, echo_taps, latest};
 ghost use Rattle.fx_tap.specs.Near.{echoes-near};
-ghost use Rattle.fx_tap.specs.Tapped.{sample_before};
+ghost use Rattle.fx_tap.specs.Tapped.{IsTapState, TapState, sample_before};
 
 use crate::sums::{Sums, add_scaled, rounded_sums};
 use crate::tapped::{Tapped, Tapping};
 use fx_fixed::{Gain, UNIT};
-use fx_frame::{Frame, Line};
+use fx_frame::{Frame, Line, ThawFault, WideFrame};
 use std::alloc::{AllocError, Global};
 use std::marker::Model;
 
@@ -78,6 +78,10 @@ impl Tapping for Echoes {
         self.channels
     }
 
+    fn most_clips(&self) -> u64 {
+        16
+    }
+
     ghost near = { echoes-near };
 
     ghost few_clips = { λ m. Prim.search rules };
@@ -137,5 +141,40 @@ impl Tapped<Echoes> {
             echoes,
         };
         Tapped::of(alloc, arguments, reach)
+    }
+    /// The stage that stored these frames and counted these numbers: whichever stage of these arguments they came from, that
+    /// stage comes back, unless memory is wanting. BadSnapshot where there is no such stage, Memory where a growth was
+    /// refused.
+    pub fn thaw(
+        alloc: Global,
+        channels: usize,
+        gain_in: Gain,
+        gain_out: Gain,
+        echoes: &[(u64, Gain)],
+        frames: &[WideFrame],
+        numbers: &[u64; 8],
+    ) -> Result<Echo, ThawFault>
+        requires channels { (1 ≤ channels) × (channels ≤ 16) }
+        requires gain_in { unsigned_abs gain_in ≤ UNIT }
+        requires echoes { (1 ≤ length echoes.now) × (length echoes.now ≤ 7) }
+        requires delays { All (λ e. 1 ≤ e.0) echoes.now }
+        requires decays { All (λ e. unsigned_abs e.1 ≤ UNIT) echoes.now }
+        requires line { latest echoes.now ≤ 2 ^ 28 }
+        ensures recipe { IfOk result (λ t. echo_acts.recipe t ≡ record { channels = channels; gain_in = gain_in; gain_out = gain_out; echoes = echoes.now }) }
+        ensures frozen { IfOk result (λ t. Freezes echo_acts t frames.now numbers.now) }
+        ensures thawed { (s : TapState EchoArguments) → IsTapState echo_taps s → echo_acts.recipe s ≡ record { channels = channels; gain_in = gain_in; gain_out = gain_out; echoes = echoes.now } → Freezes echo_acts s frames.now numbers.now → MatchResult result (λ t. t ≡ s) (λ e. e ≡ ThawFault.Memory) }
+        ensures named { (result ≡ Err ThawFault.WrongPlan) → ⊥ }
+    {
+        let reach = latest_of(echoes) as usize;
+        let Ok(echoes) = copied(alloc, echoes) else {
+            return Err(ThawFault::Memory);
+        };
+        let arguments = Echoes {
+            channels,
+            gain_in,
+            gain_out,
+            echoes,
+        };
+        Tapped::thawed(alloc, arguments, reach, frames, numbers)
     }
 }

@@ -1,14 +1,15 @@
 //! The effect `remix` of sox(1): each channel is a sum of channels, each times a weight.
-ghost use Rattle.std.specs.Prelude.{◌≡◌, ◌<◌, ◌≤◌, ◌*◌, ◌^◌, pos, map, length, unsigned_abs, IfOk};
+ghost use Rattle.std.specs.Prelude.{◌≡◌, ◌<◌, ◌≤◌, ◌*◌, ◌^◌, pos, map, length, unsigned_abs, Err, IfOk, MatchResult};
 ghost use Rattle.std.specs.List.{All};
-ghost use Rattle.fx_frame.specs.Stage.{IsNew};
-ghost use Rattle.fx_tap.specs.Remix.{mixed_parts, parts_of, remix_acts, remixed_frame, remixed_sample};
+ghost use Rattle.fx_frame.specs.Stage.{Freezes, IsNew};
+ghost use Rattle.fx_tap.specs.Mapped.{IsMapState, MapState};
+ghost use Rattle.fx_tap.specs.Remix.{RemixArguments, mixed_parts, parts_of, remix_acts, remixed_frame, remixed_sample};
 
 use crate::mapped::{Mapped, Mapping};
 use crate::weight::{OutSpec, Weight};
 use fx_fixed::{UNIT, round_clip};
-use fx_frame::Frame;
 use fx_frame::inner::{frame_of, places};
+use fx_frame::{Frame, ThawFault, WideFrame};
 use std::alloc::{AllocError, Global};
 use std::marker::Model;
 
@@ -169,5 +170,30 @@ impl Mapped<Remixing> {
     {
         let mixes = mixes_of(alloc, outs)?;
         Ok(Mapped::of(Remixing { channels, mixes }))
+    }
+
+    /// The stage that stored these frames and counted these numbers: whichever stage of these channels and out-specs they
+    /// came from, that stage comes back, unless memory is wanting. BadSnapshot where there is no such stage, Memory where a
+    /// growth was refused.
+    pub fn thaw(
+        alloc: Global,
+        channels: usize,
+        outs: &[OutSpec],
+        frames: &[WideFrame],
+        numbers: &[u64; 8],
+    ) -> Result<Remix, ThawFault>
+        requires channels { (1 ≤ channels) × (channels ≤ 16) }
+        requires outs { (1 ≤ length outs.now) × (length outs.now ≤ 16) }
+        requires few { All (λ out. length out.items ≤ 64) outs.now }
+        requires named { All (λ out. All (λ c. c.0 < channels) out.items) outs.now }
+        ensures recipe { IfOk result (λ t. remix_acts.recipe t ≡ record { channels = channels; outs = map (λ out. out.items) outs.now }) }
+        ensures frozen { IfOk result (λ t. Freezes remix_acts t frames.now numbers.now) }
+        ensures thawed { (s : MapState RemixArguments) → IsMapState (λ a. length a.outs) s → remix_acts.recipe s ≡ record { channels = channels; outs = map (λ out. out.items) outs.now } → Freezes remix_acts s frames.now numbers.now → MatchResult result (λ t. t ≡ s) (λ e. e ≡ ThawFault.Memory) }
+        ensures named { (result ≡ Err ThawFault.WrongPlan) → ⊥ }
+    {
+        let Ok(mixes) = mixes_of(alloc, outs) else {
+            return Err(ThawFault::Memory);
+        };
+        Mapped::thawed(Remixing { channels, mixes }, frames, numbers)
     }
 }

@@ -1,9 +1,10 @@
 //! Effects that make each frame of that frame and of frames at fixed distances before it: a line, and a tail after the end.
-ghost use Rattle.std.specs.Prelude.{◌≡◌, ◌≤◌, ◌^◌, ◌++◌, ◌∷◌, [], None, true, length, IfOk, MatchOption};
-ghost use Rattle.fx_frame.specs.Stage.{Gave, IsNew};
+ghost use Rattle.std.specs.Prelude.{◌≡◌, ◌≤◌, ◌^◌, ◌++◌, ◌∷◌, [], None, true, length, Err, IfOk, MatchOption, MatchResult};
+ghost use Rattle.fx_frame.specs.Stage.{Freezes, Gave, IsNew};
 ghost use Rattle.fx_tap.specs.Tapped.{IsNear, Taps, TapState, sample_before, tap_acts};
 
-use fx_frame::{Frame, Line, Stage, WideFrame};
+use fx_frame::frozen::thawed_line_and_hand;
+use fx_frame::{Frame, Line, Stage, ThawFault, WideFrame};
 use std::alloc::{AllocError, Global};
 use std::marker::Model;
 
@@ -23,6 +24,10 @@ pub trait Tapping {
     fn channels(&self) -> usize
         ensures value { result ≡ taps.channels self.now }
         ensures some { (1 ≤ result) × (result ≤ 16) };
+
+    /// How many samples of a frame may be clipped.
+    fn most_clips(&self) -> u64
+        ensures { result ≡ taps.most_clips self.now };
 
     /// A frame is made of no frame before its reach.
     ghost near: { IsNear taps };
@@ -57,6 +62,8 @@ impl<T: Tapping + Drop> Model for Tapped<T> {
 }
 
 impl<T: Tapping + Drop> Tapped<T> {
+    ghost use Rattle.fx_tap.specs.Tapped.{IsTapState, TapState};
+
     /// The stage of an effect that reaches back so many frames; AllocError where memory for them is refused.
     pub(crate) fn of(alloc: Global, arguments: T, reach: usize) -> Result<Tapped<T>, AllocError>
         requires reach { reach ≡ T.taps.reach arguments }
@@ -72,6 +79,55 @@ impl<T: Tapping + Drop> Tapped<T> {
             clips: 0,
             ended: false,
             tail: 0,
+            line,
+            arguments,
+        })
+    }
+
+    /// The stage that stored these frames and counted these numbers. BadSnapshot where there is none, Memory where a growth
+    /// was refused.
+    pub(crate) fn thawed(
+        alloc: Global,
+        arguments: T,
+        reach: usize,
+        frames: &[WideFrame],
+        numbers: &[u64; 8],
+    ) -> Result<Tapped<T>, ThawFault>
+        requires reach { reach ≡ T.taps.reach arguments }
+        requires line { reach ≤ 2 ^ 28 }
+        ensures recipe { IfOk result (λ t. t.arguments ≡ arguments) }
+        ensures frozen { IfOk result (λ t. Freezes (tap_acts T.taps) t frames.now numbers.now) }
+        ensures thawed { (s : TapState T) → IsTapState T.taps s → s.arguments ≡ arguments → Freezes (tap_acts T.taps) s frames.now numbers.now → MatchResult result (λ t. t ≡ s) (λ e. e ≡ ThawFault.Memory) }
+        ensures named { (result ≡ Err ThawFault.WrongPlan) → ⊥ }
+    {
+        let [taken, given, ended, clips, held, tail, hands, hand_clips] = *numbers;
+        if ended > 1 || held != frames.len() as u64 {
+            return Err(ThawFault::BadSnapshot);
+        }
+        if taken > 1 << 56 || (ended == 0 && tail != 0) {
+            return Err(ThawFault::BadSnapshot);
+        }
+        let made = taken + ended * reach as u64;
+        if given > made || hands > made - given || tail != made - given - hands {
+            return Err(ThawFault::BadSnapshot);
+        }
+        let most = arguments.most_clips();
+        if hand_clips > most || clips > given * most {
+            return Err(ThawFault::BadSnapshot);
+        }
+        let channels = arguments.channels();
+        let (line, hand) = match thawed_line_and_hand(alloc, channels, reach, frames, hands) {
+            Ok(stored) => stored,
+            Err(fault) => return Err(fault),
+        };
+        Ok(Tapped {
+            hand,
+            hand_clips,
+            taken,
+            given,
+            clips,
+            ended: ended == 1,
+            tail: tail as usize,
             line,
             arguments,
         })
