@@ -10,7 +10,7 @@ use std::alloc::{AllocError, Global};
 use std::test::Fail;
 
 /// The decay or gain-in of a text, at most 1.
-fn decay(text: &str) -> Result<Gain, Fail>
+pub(crate) fn decay(text: &str) -> Result<Gain, Fail>
     ensures { IfOk result (λ decay. unsigned_abs decay ≤ UNIT) }
 {
     let decay = gain(text)?;

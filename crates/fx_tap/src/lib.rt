@@ -16,6 +16,8 @@ mod sums;
 pub mod tapped;
 #[cfg(test)]
 mod tests;
+#[cfg(test)]
+mod thaw_tests;
 pub mod vol;
 pub mod weight;
 

@@ -53,7 +53,7 @@ pub(crate) fn gain(text: &str) -> Result<Gain, Fail> {
 }
 
 /// The shift of a text, from -2 to 2.
-fn shift(text: &str) -> Result<Gain, Fail>
+pub(crate) fn shift(text: &str) -> Result<Gain, Fail>
     ensures { IfOk result (λ shift. unsigned_abs shift ≤ 2 * UNIT) }
 {
     let shift = gain(text)?;
