@@ -1,7 +1,12 @@
 pub mod DcShift
 pub mod Delay
+pub mod Echo
 pub mod Lists
 pub mod Mapped
+pub mod Mix
+pub mod Near
 pub mod PerSample
+pub mod Remix
 pub mod Rounded
+pub mod Tapped
 pub mod Vol

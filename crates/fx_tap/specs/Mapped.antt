@@ -1,6 +1,7 @@
 -- A stage that maps each frame alone (this project's profile).
-use Rattle.std.specs.Prelude.{ℕ, ◌+◌, ◌*◌, ◌^◌, ◌≤◌, ◌≡◌, Bool, List, ◌++◌, Option, Some, None, length, map, option_to_list, is_none}
+use Rattle.std.specs.Prelude.{ℕ, ◌+◌, ◌*◌, ◌^◌, ◌≤◌, ◌≡◌, Bool, List, ◌++◌, Option, None, length, map, option_to_list, is_none}
 use Rattle.fx_frame.specs.Frame.{Samples}
+use Rattle.fx_frame.specs.Frozen.{IsHand}
 use Rattle.fx_frame.specs.Stage.{Given, Acts, coming}
 
 -- the greatest number of frames that a stage takes
@@ -24,7 +25,7 @@ pub record IsMapState {M : Type 0} (outputs : M → ℕ) (s : MapState M) : Type
   pub few : s.taken ≤ most_taken
   pub few_clips : s.clips ≤ 16 * s.given
   pub hand_few : s.hand_clips ≤ 16
-  pub fits : (x : Samples) → s.hand ≡ Some x → length x ≡ outputs s.mapping
+  pub fits : IsHand (outputs s.mapping) s.hand
 
 -- the frame in hand
 abbrev pub in_hand : {M : Type 0} → MapState M → List Given

@@ -1,12 +1,15 @@
 //! The effect `dcshift` of sox(1): each sample plus a shift.
-ghost use Rattle.std.specs.Prelude.{◌≡◌, ◌*◌, ◌^◌, ◌≤◌, unsigned_abs};
+ghost use Rattle.std.specs.Prelude.{◌≡◌, ◌*◌, ◌^◌, ◌≤◌, ℤ, unsigned_abs, Ok, IfOk, IfErr};
 ghost use Rattle.fx_fixed.specs.Rounding.{clipping};
-ghost use Rattle.fx_frame.specs.Stage.{IsNew};
+ghost use Rattle.fx_frame.specs.Stage.{Freezes, IsNew};
+ghost use Rattle.fx_tap.specs.Mapped.{IsMapState, MapState};
+ghost use Rattle.fx_tap.specs.PerSample.{SampleArguments};
 ghost use Rattle.fx_tap.specs.DcShift.{dcshift_acts, leaves_half, raised, shifted_sample, steps_of};
 
 use crate::mapped::Mapped;
 use crate::per_sample::{PerSample, Sampling};
 use fx_fixed::{Gain, UNIT};
+use fx_frame::{ThawFault, WideFrame};
 use std::marker::Model;
 
 /// A shift, ready to be added: whole steps of a sample, and whether half a step is left.
@@ -101,5 +104,23 @@ impl Mapped<PerSample<Shift>> {
         ensures { IsNew dcshift_acts (record { channels = channels; sampling = shift }) result }
     {
         Mapped::each(channels, Shift::of(shift))
+    }
+
+    /// The stage that stored these frames and counted these numbers: whichever stage of these channels and this shift they
+    /// came from, that stage comes back. BadSnapshot where there is no such stage. Takes no memory.
+    pub fn thaw(
+        channels: usize,
+        shift: Gain,
+        frames: &[WideFrame],
+        numbers: &[u64; 8],
+    ) -> Result<DcShift, ThawFault>
+        requires channels { (1 ≤ channels) × (channels ≤ 16) }
+        requires shift { unsigned_abs shift ≤ 2 * UNIT }
+        ensures recipe { IfOk result (λ t. dcshift_acts.recipe t ≡ record { channels = channels; sampling = shift }) }
+        ensures frozen { IfOk result (λ t. Freezes dcshift_acts t frames.now numbers.now) }
+        ensures thawed { (s : MapState (SampleArguments ℤ)) → IsMapState (λ m. m.channels) s → dcshift_acts.recipe s ≡ record { channels = channels; sampling = shift } → Freezes dcshift_acts s frames.now numbers.now → result ≡ Ok s }
+        ensures refused { IfErr result (λ e. e ≡ ThawFault.BadSnapshot) }
+    {
+        Mapped::each_thawed(channels, Shift::of(shift), frames, numbers)
     }
 }

@@ -3,13 +3,27 @@
 
 pub mod dcshift;
 pub mod delay;
+pub mod echo;
+#[cfg(test)]
+mod echo_tests;
 pub mod inner;
 pub mod mapped;
 pub mod per_sample;
+pub mod remix;
+#[cfg(test)]
+mod remix_tests;
+mod sums;
+pub mod tapped;
 #[cfg(test)]
 mod tests;
+#[cfg(test)]
+mod thaw_tests;
 pub mod vol;
+pub mod weight;
 
 pub use dcshift::DcShift;
 pub use delay::Delay;
+pub use echo::Echo;
+pub use remix::Remix;
 pub use vol::Vol;
+pub use weight::{OutSpec, Weight};

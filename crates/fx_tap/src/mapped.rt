@@ -1,10 +1,10 @@
 //! Effects that map each frame alone: one frame out for each frame in, and no line.
-ghost use Rattle.std.specs.Prelude.{◌≡◌, ◌≤◌, ℕ, length};
+ghost use Rattle.std.specs.Prelude.{◌≡◌, ◌≤◌, ℕ, length, Ok, IfOk, IfErr};
 ghost use Rattle.fx_frame.specs.Frame.{Samples};
-ghost use Rattle.fx_frame.specs.Stage.{Given, IsNew};
-ghost use Rattle.fx_tap.specs.Mapped.{map_acts};
+ghost use Rattle.fx_frame.specs.Stage.{Freezes, Given, IsNew};
 
-use fx_frame::{Frame, Stage, WideFrame};
+use fx_frame::frozen::thawed_hand;
+use fx_frame::{Frame, Stage, ThawFault, WideFrame};
 use std::marker::Model;
 
 /// What an effect makes of a frame, whatever came before it.
@@ -58,6 +58,8 @@ impl<M: Mapping + Drop> Model for Mapped<M> {
 }
 
 impl<M: Mapping + Drop> Mapped<M> {
+    ghost use Rattle.fx_tap.specs.Mapped.{MapState, IsMapState, map_acts};
+
     /// The stage of a mapping.
     pub(crate) fn of(mapping: M) -> Mapped<M>
         ensures { IsNew (map_acts M.inputs M.outputs M.mapped) mapping result }
@@ -71,6 +73,48 @@ impl<M: Mapping + Drop> Mapped<M> {
             ended: false,
             mapping,
         }
+    }
+
+    /// The stage of a mapping that stored these frames and counted these numbers. BadSnapshot where there is none.
+    pub(crate) fn thawed(
+        mapping: M,
+        frames: &[WideFrame],
+        numbers: &[u64; 8],
+    ) -> Result<Mapped<M>, ThawFault>
+        ensures recipe { IfOk result (λ t. t.mapping ≡ mapping) }
+        ensures frozen { IfOk result (λ t. Freezes (map_acts M.inputs M.outputs M.mapped) t frames.now numbers.now) }
+        ensures thawed { (s : MapState M) → IsMapState M.outputs s → s.mapping ≡ mapping → Freezes (map_acts M.inputs M.outputs M.mapped) s frames.now numbers.now → result ≡ Ok s }
+        ensures refused { IfErr result (λ e. e ≡ ThawFault.BadSnapshot) }
+    {
+        let [
+            taken,
+            given,
+            ended,
+            clips,
+            held,
+            hand_clips,
+            seventh,
+            eighth,
+        ] = *numbers;
+        if ended > 1 || seventh != 0 || eighth != 0 || held != frames.len() as u64 {
+            return Err(ThawFault::BadSnapshot);
+        }
+        if taken > 1 << 56 || given > taken || held != taken - given {
+            return Err(ThawFault::BadSnapshot);
+        }
+        if hand_clips > 16 || clips > 16 * given {
+            return Err(ThawFault::BadSnapshot);
+        }
+        let hand = thawed_hand(frames, mapping.out_channels())?;
+        Ok(Mapped {
+            hand,
+            hand_clips,
+            taken,
+            given,
+            clips,
+            ended: ended == 1,
+            mapping,
+        })
     }
 }
 
@@ -87,6 +131,7 @@ impl<M: Mapping + Drop> Stage for Mapped<M> {
 
     fn take(&mut self, frame: Frame) {
         let (made, clips) = self.mapping.map(frame);
+        let _channels = made.channels();
         self.hand = Some(made);
         self.hand_clips = clips;
         self.taken += 1;

@@ -1,10 +1,10 @@
 //! Effects that round each sample alone, the same in every channel.
-ghost use Rattle.std.specs.Prelude.{◌≡◌, ◌≤◌, ℤ, Bool, length};
+ghost use Rattle.std.specs.Prelude.{◌≡◌, ◌≤◌, ℤ, Bool, length, Ok, IfOk, IfErr};
 ghost use Rattle.fx_tap.specs.PerSample.{rounded_given};
 
 use crate::mapped::{Mapped, Mapping};
-use fx_frame::Frame;
 use fx_frame::inner::{frame_of, places};
+use fx_frame::{Frame, ThawFault, WideFrame};
 use std::marker::Model;
 
 /// What an effect makes of a sample, whatever came before it and in whatever channel.
@@ -76,8 +76,9 @@ impl<S: Sampling + Drop> Mapping for PerSample<S> {
 }
 
 impl<S: Sampling + Drop> Mapped<PerSample<S>> {
-    ghost use Rattle.fx_frame.specs.Stage.{IsNew};
-    ghost use Rattle.fx_tap.specs.PerSample.{sample_acts};
+    ghost use Rattle.fx_frame.specs.Stage.{Freezes, IsNew};
+    ghost use Rattle.fx_tap.specs.Mapped.{IsMapState, MapState};
+    ghost use Rattle.fx_tap.specs.PerSample.{SampleArguments, sample_acts};
 
     /// The stage for frames of so many channels.
     pub(crate) fn each(channels: usize, sampling: S) -> Mapped<PerSample<S>>
@@ -85,5 +86,22 @@ impl<S: Sampling + Drop> Mapped<PerSample<S>> {
         ensures { IsNew (sample_acts S.rounded) (record { channels = channels; sampling = sampling }) result }
     {
         Mapped::of(PerSample { channels, sampling })
+    }
+
+    /// The stage for frames of so many channels that stored these frames and counted these numbers. BadSnapshot where there
+    /// is none.
+    pub(crate) fn each_thawed(
+        channels: usize,
+        sampling: S,
+        frames: &[WideFrame],
+        numbers: &[u64; 8],
+    ) -> Result<Mapped<PerSample<S>>, ThawFault>
+        requires { (1 ≤ channels) × (channels ≤ 16) }
+        ensures recipe { IfOk result (λ t. (sample_acts S.rounded).recipe t ≡ record { channels = channels; sampling = sampling }) }
+        ensures frozen { IfOk result (λ t. Freezes (sample_acts S.rounded) t frames.now numbers.now) }
+        ensures thawed { (s : MapState (SampleArguments S)) → IsMapState (λ m. m.channels) s → (sample_acts S.rounded).recipe s ≡ record { channels = channels; sampling = sampling } → Freezes (sample_acts S.rounded) s frames.now numbers.now → result ≡ Ok s }
+        ensures refused { IfErr result (λ e. e ≡ ThawFault.BadSnapshot) }
+    {
+        Mapped::thawed(PerSample { channels, sampling }, frames, numbers)
     }
 }

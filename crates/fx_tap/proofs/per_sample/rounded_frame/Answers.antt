@@ -20,7 +20,7 @@ loop-channel-preserved g c =
     let one = byte-le c.round-sample.result.1 in
     record {
       size = simp length-set (omega arith);
-      done = rw out (samples_of-more f xs c.loop-channel.out k c.round-sample.result.0 h (omega arith) c.loop-channel.invariant.done (ap (λ r. r.0) v));
-      counted = ap (λ n. c.loop-channel.clips + n) (c.from-clips.ensures ∙ byte_is c.round-sample.result.1) ∙ clips_of-more f xs k c.loop-channel.clips c.round-sample.result.1 h c.loop-channel.invariant.counted (ap (λ r. r.1) v);
+      done = rw out (samples_of-more f xs (pos 0) c.loop-channel.out k c.round-sample.result.0 h (omega arith) c.loop-channel.invariant.done (ap (λ r. r.0) v));
+      counted = ap (λ n. c.loop-channel.clips + n) (c.from-clips.ensures ∙ byte_is c.round-sample.result.1) ∙ clips_of-more f xs (pos 0) k c.loop-channel.clips c.round-sample.result.1 h c.loop-channel.invariant.counted (ap (λ r. r.1) v);
       few = omega (arith, c.from-clips.ensures, one, c.loop-channel.invariant.few);
     }

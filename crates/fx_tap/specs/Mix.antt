@@ -1,0 +1,14 @@
+-- What `remix` keeps of a contribution: its channel, its weight and the same in parts.
+use Rattle.std.specs.Prelude.{ℕ, ◌<◌, ◌≡◌}
+use Rattle.fx_tap.specs.Remix.{parts_of}
+use Rattle.fx_tap.specs.declared.weight.Weight.{Weight}
+use Rattle.fx_tap.specs.declared.remix.Contribution.{Contribution}
+
+-- its channel and weight
+abbrev pub pair_of : Contribution → ℕ × Weight
+pair_of c = (c.channel, c.weight)
+
+-- what holds of it among so many
+pub record IsContribution (count : ℕ) (c : Contribution) : Type 0 where
+  pub named : c.channel < 16
+  pub parts : c.parts ≡ parts_of count c.weight
