@@ -1,7 +1,9 @@
 pub mod DcShift
 pub mod Delay
+pub mod Lanes
 pub mod Lists
 pub mod Mapped
 pub mod PerSample
+pub mod Products
 pub mod Rounded
 pub mod Vol

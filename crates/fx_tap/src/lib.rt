@@ -3,13 +3,17 @@
 
 pub mod dcshift;
 pub mod delay;
+#[cfg(test)]
+mod dot_tests;
 pub mod inner;
 pub mod mapped;
 pub mod per_sample;
+pub mod products;
 #[cfg(test)]
 mod tests;
 pub mod vol;
 
 pub use dcshift::DcShift;
 pub use delay::Delay;
+pub use products::dot;
 pub use vol::Vol;
