@@ -1,7 +1,9 @@
 pub mod DelayLaws
+pub mod FirLaws
 pub mod ProductBounds
 pub mod ProductLanes
 pub mod Rounds
 pub mod SignedProducts
 pub mod Shifting
 pub mod Tabulate
+pub mod WindowSums

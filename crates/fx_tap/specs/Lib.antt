@@ -1,5 +1,6 @@
 pub mod DcShift
 pub mod Delay
+pub mod Fir
 pub mod Lanes
 pub mod Lists
 pub mod Mapped

@@ -5,6 +5,7 @@ pub mod dcshift;
 pub mod delay;
 #[cfg(test)]
 mod dot_tests;
+pub mod fir;
 pub mod inner;
 pub mod mapped;
 pub mod per_sample;
@@ -15,5 +16,6 @@ pub mod vol;
 
 pub use dcshift::DcShift;
 pub use delay::Delay;
+pub use fir::Fir;
 pub use products::dot;
 pub use vol::Vol;

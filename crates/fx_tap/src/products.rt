@@ -129,7 +129,9 @@ fn add_rest(start: i128, samples: &[i32], coefficients: &[i64], at: usize) -> i1
     requires low { neg_ℤ (pos (2 ^ 101)) ≤ℤ start }
     requires high { start ≤ℤ pos (2 ^ 101) }
     requires at { at ≤ length samples.now }
-    ensures { result ≡ (start +ℤ sum_of_products (drop at samples.now) (drop at coefficients.now)) }
+    ensures value { result ≡ (start +ℤ sum_of_products (drop at samples.now) (drop at coefficients.now)) }
+    ensures low { neg_ℤ (pos (2 ^ 102)) ≤ℤ result }
+    ensures high { result ≤ℤ pos (2 ^ 102) }
 {
     let mut sum = start;
     for i in at..samples.len() {
@@ -145,6 +147,8 @@ pub fn dot(samples: &[i32], coefficients: &[i64]) -> i128
     requires short { length samples.now ≤ 1024 }
     requires small { All (λ c. unsigned_abs c ≤ 10 ^ 15) coefficients.now }
     ensures sum { result ≡ sum_of_products samples.now coefficients.now }
+    ensures low { neg_ℤ (pos (2 ^ 102)) ≤ℤ result }
+    ensures high { result ≤ℤ pos (2 ^ 102) }
 {
     let mut high = i64x4::splat(0);
     let mut middle = i64x4::splat(0);
