@@ -9,7 +9,7 @@ use Prim.Native.Nat.compare
 use Rattle.fx_frame.specs.Frame.{Samples, IsFrame}
 use Rattle.fx_frame.specs.Line.{Frames, pushed, IsLine, channel_of}
 use Rattle.fx_frame.specs.Stage.{Given, Gave, Took, Ended}
-use Rattle.fx_tap.specs.Delay.{sample_before}
+use Rattle.fx_tap.specs.Tapped.{sample_before}
 use Rattle.fx_tap.specs.Fir.{FirArguments, FirState, IsFir, centre, samples_back, filtered_sample, filtered_frame, filtered_at, filtered, fir_behind, fir_tail, fir_acts, arguments_of}
 use Rattle.fx_tap.specs.Lists.{tabulate}
 use Rattle.fx_tap.specs.Products.{sum_of_products}

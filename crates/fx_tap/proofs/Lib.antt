@@ -1,9 +1,12 @@
 pub mod DelayLaws
+pub mod EchoLaws
 pub mod FirLaws
 pub mod ProductBounds
 pub mod ProductLanes
 pub mod Rounds
-pub mod SignedProducts
 pub mod Shifting
+pub mod SignedProducts
+pub mod SumLaws
 pub mod Tabulate
+pub mod TapLaws
 pub mod WindowSums

@@ -1,9 +1,11 @@
 -- One more rounded sample.
-use Rattle.std.proofs.Common.{◌≡◌, ℕ, ◌+◌, ◌<◌, ◌≤◌, Bool, true, false, cond, List, [], ◌∷◌, ◌++◌, map, length, get_or, take, set, refl, sym, ◌∙◌, ap, arith}
+use Rattle.std.proofs.Common.{◌≡◌, ℕ, ◌+◌, ◌<◌, ◌≤◌, Bool, true, false, cond, List, [], ◌∷◌, ◌++◌, map, length, get_or, take, set, zero-add, refl, sym, ◌∙◌, ap, arith}
 use Rattle.std.specs.Prelude.{ℤ, pos}
 use Rattle.std.specs.Int.{from_bool as bool_byte}
 use Rattle.std.proofs.lemmas.List.{take_more, take_more_set, map-append}
 use Rattle.std.proofs.lemmas.List.Sums.{sum_by-append}
+use Rattle.fx_tap.specs.Lists.{tabulate}
+use Rattle.fx_tap.proofs.Tabulate.{tabulate-append}
 use Rattle.fx_tap.specs.Rounded.{samples_of, clips_of}
 
 -- the roundings of one more sample
@@ -37,3 +39,25 @@ clips_of-more f xs i clips b h e v =
 pub byte-le : (b : Bool) → bool_byte b ≤ 1
 byte-le true = omega arith
 byte-le false = omega arith
+
+-- the roundings of one more channel
+rounds-next : (f : ℕ → ℤ × Bool) (i : ℕ) → tabulate f 0 (i + 1) ≡ tabulate f 0 i ++ f i ∷ []
+rounds-next f i = rw zero-add at (tabulate-append f 0 i 1)
+
+-- one more channel in its place
+pub samples_of-next : (f : ℕ → ℤ × Bool) (out : List ℤ) (i : ℕ) (y : ℤ) → i < length out → take i out ≡ samples_of (tabulate f 0 i) → y ≡ (f i).0
+    → take (i + 1) (set out i y) ≡ samples_of (tabulate f 0 (i + 1))
+samples_of-next f out i y k e v =
+    take_more_set out i y k ∙ ap (λ l. l ++ y ∷ []) e ∙ ap (λ z. samples_of (tabulate f 0 i) ++ z ∷ []) v
+    ∙ sym (ap samples_of (rounds-next f i) ∙ map-append (λ r. r.0) (tabulate f 0 i) (f i ∷ []))
+
+-- one more channel's flag counted
+pub clips_of-next : (f : ℕ → ℤ × Bool) (i clips : ℕ) (b : Bool) → clips ≡ clips_of (tabulate f 0 i) → b ≡ (f i).1
+    → clips + cond b 1 0 ≡ clips_of (tabulate f 0 (i + 1))
+clips_of-next f i clips b e v =
+    omega (
+      arith,
+      e,
+      ap {B = ℕ} (λ c. cond c 1 0) v,
+      ap clips_of (rounds-next f i) ∙ sum_by-append (λ r. cond (r.1) 1 0) (tabulate f 0 i) (f i ∷ []),
+    )

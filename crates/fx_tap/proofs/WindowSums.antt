@@ -79,6 +79,7 @@ reaching window place (c ∷ b) h =
     past [] (suc n) c b l = omega (arith, ints)
     past (x ∷ xs) zero c b l = absurd (omega arith)
     past (x ∷ xs) (suc n) c b l = past xs n c b (omega arith)
+
     step : (xs : List ℤ) (n : ℕ) (c : ℤ) (b : List ℤ) → (get_or xs n (pos 0) *ℤ c) +ℤ sum_of_products (drop (suc n) xs) b ≡ sum_of_products (drop n xs) (c ∷ b)
     step [] zero c b = past [] zero c b (omega arith)
     step [] (suc n) c b = past [] (suc n) c b (omega arith)

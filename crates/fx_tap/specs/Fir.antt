@@ -9,7 +9,7 @@ use Rattle.fx_frame.specs.Frame.{Samples}
 use Rattle.fx_frame.specs.Frozen.{IsHand}
 use Rattle.fx_frame.specs.Line.{Frames, IsLine}
 use Rattle.fx_frame.specs.Stage.{Given, Acts}
-use Rattle.fx_tap.specs.Delay.{sample_before}
+use Rattle.fx_tap.specs.Tapped.{sample_before}
 use Rattle.fx_tap.specs.Lists.{tabulate}
 use Rattle.fx_tap.specs.Mapped.{most_taken}
 use Rattle.fx_tap.specs.Products.{sum_of_products}

@@ -1,10 +1,13 @@
 pub mod DcShift
 pub mod Delay
+pub mod Echo
 pub mod Fir
 pub mod Lanes
 pub mod Lists
 pub mod Mapped
+pub mod Near
 pub mod PerSample
 pub mod Products
 pub mod Rounded
+pub mod Tapped
 pub mod Vol

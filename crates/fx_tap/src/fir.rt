@@ -210,8 +210,13 @@ impl Stage for Fir {
             self.taken += 1;
             return;
         }
-        let (out, clips) =
-            filtered_frame(&self.line, &[frame], self.channels, &self.backwards, held);
+        let (out, clips) = filtered_frame(
+            &self.line,
+            &[frame],
+            self.channels,
+            &self.backwards,
+            held,
+        );
         self.line.push(frame);
         let _held = self.line.len();
         self.hand = Some(out);

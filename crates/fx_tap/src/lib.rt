@@ -5,17 +5,25 @@ pub mod dcshift;
 pub mod delay;
 #[cfg(test)]
 mod dot_tests;
+pub mod echo;
+#[cfg(test)]
+mod echo_tests;
 pub mod fir;
+#[cfg(test)]
+mod fir_tests;
 pub mod inner;
 pub mod mapped;
 pub mod per_sample;
 pub mod products;
+mod sums;
+pub mod tapped;
 #[cfg(test)]
 mod tests;
 pub mod vol;
 
 pub use dcshift::DcShift;
 pub use delay::Delay;
+pub use echo::Echo;
 pub use fir::Fir;
 pub use products::dot;
 pub use vol::Vol;

@@ -21,7 +21,11 @@ fn drain<S: Stage>(stage: &mut S, out: &mut Vec<Frame>) -> Result<(), AllocError
 }
 
 /// What a stage gives for these frames and then the end.
-fn through<S: Stage>(alloc: Global, stage: &mut S, frames: &[Frame]) -> Result<Vec<Frame>, Fail>
+pub(crate) fn through<S: Stage>(
+    alloc: Global,
+    stage: &mut S,
+    frames: &[Frame],
+) -> Result<Vec<Frame>, Fail>
     requires { (S.acts.counts stage.old).taken + length frames.now ≤ (kind S.acts stage.old).limit }
 {
     let mut out = Vec::new(alloc);
@@ -41,7 +45,7 @@ fn through<S: Stage>(alloc: Global, stage: &mut S, frames: &[Frame]) -> Result<V
 }
 
 /// The gain of a text.
-fn gain(text: &str) -> Result<Gain, Fail> {
+pub(crate) fn gain(text: &str) -> Result<Gain, Fail> {
     let Ok(gain) = Gain::parse(text) else {
         return Err("not a gain".into());
     };

@@ -11,7 +11,7 @@ coefficients-preserved c =
     let back : to_z w64 (of_z w64 c.trillionths.result) ≡ c.trillionths.result = search rules in
     record {
       value = rw (c.in_ok-push.ensures.items, back) (append_assoc c.coefficients.numbers.items _ _
-    ∙ ap (λ l. c.coefficients.numbers.items ++ l) (ap (λ x. x ∷ drop (c.coefficients.coefficient-index + 1) c.args.coefficients.now) (c.trillionths.ensures.value ∙ c.coefficient-item.is) ∙ sym (drop_more c.args.coefficients.now c.coefficients.coefficient-index c.coefficient-item.result c.coefficients-test.true))
-    ∙ c.coefficients.invariant.value);
+          ∙ ap (λ l. c.coefficients.numbers.items ++ l) (ap (λ x. x ∷ drop (c.coefficients.coefficient-index + 1) c.args.coefficients.now) (c.trillionths.ensures.value ∙ c.coefficient-item.is) ∙ sym (drop_more c.args.coefficients.now c.coefficients.coefficient-index c.coefficient-item.result c.coefficients-test.true))
+          ∙ c.coefficients.invariant.value);
       small = rw (c.in_ok-push.ensures.items, back) (All-push (λ x. unsigned_abs x ≤ 10 ^ 15) c.coefficients.numbers.items _ c.coefficients.invariant.small c.trillionths.ensures.bound);
     }

@@ -1,0 +1,99 @@
+-- Sums of samples times gains, one for each channel.
+use Rattle.std.proofs.Common.{ℕ, ℤ, pos, suc, zero, ◌+◌, ◌-◌, ◌*◌, ◌^◌, ◌<◌, ◌≤◌, ◌≡◌, ◌+ℤ◌, ◌*ℤ◌, Bool, true, false, List, [], ◌∷◌, ◌++◌, length, get_or, set, refl, arith, to_z, of_z, replicate}
+use Rattle.std.specs.Prelude.{neg_ℤ, ◌≤ℤ◌, unsigned_abs, nat_eq}
+use Rattle.std.proofs.lemmas.Bool.Decides.{nat_tests}
+use Rattle.std.proofs.lemmas.Grind.{get_or-set_at}
+use Rattle.std.proofs.lemmas.Int.{ints, unsigned_abs-mul, fits_signed_from_abs, to_z-of_z}
+use Rattle.std.proofs.lemmas.List.{get_or-set_other}
+use Rattle.std.proofs.Math.Nat.{mul-le-mul}
+use Rattle.fx_fixed.specs.declared.gains.TheConstants.{UNIT}
+use Rattle.fx_tap.proofs.DelayLaws.{quiet-sample}
+use mir.Syntax.{w128}
+
+-- how large a product is
+pub scaled-few : (g x : ℤ) (u m : ℕ) → unsigned_abs g ≤ u → unsigned_abs x ≤ m → unsigned_abs (g *ℤ x) ≤ u * m
+scaled-few g x u m h k =
+    let most : unsigned_abs g * unsigned_abs x ≤ u * m = mul-le-mul h k in
+    rw unsigned_abs-mul most
+
+-- how large a sum is
+pub added-few : (s p : ℤ) (a b : ℕ) → unsigned_abs s ≤ a → unsigned_abs p ≤ b → unsigned_abs (s +ℤ p) ≤ a + b
+added-few s p a b h k = omega (arith, ints)
+
+-- it fits 128 bits
+pub held : (z : ℤ) → unsigned_abs z < 2 ^ 127 → to_z w128 (of_z w128 z) ≡ z
+held z h = to_z-of_z w128 z (fits_signed_from_abs w128 z h)
+
+-- what is small in magnitude is within both limits
+pub low_of : (z : ℤ) → unsigned_abs z ≤ 2 ^ 126 - 2 ^ 90 → neg_ℤ (pos (2 ^ 126 - 2 ^ 90)) ≤ℤ z
+low_of z h = omega (arith, ints)
+
+pub high_of : (z : ℤ) → unsigned_abs z ≤ 2 ^ 126 - 2 ^ 90 → z ≤ℤ pos (2 ^ 126 - 2 ^ 90)
+high_of z h = omega (arith, ints)
+
+-- one more channel is added
+added-at : (old sums : List ℤ) (p : ℕ → ℤ) (i k : ℕ) (y : ℤ) (b : Bool) → nat_eq k i ≡ b → i < length sums → y ≡ get_or old i (pos 0) +ℤ p i
+    → ((k : ℕ) → k < i → get_or sums k (pos 0) ≡ get_or old k (pos 0) +ℤ p k) → k < i + 1 → get_or (set sums i y) k (pos 0) ≡ get_or old k (pos 0) +ℤ p k
+added-at old sums p i k y true t h e done l =
+    let same : k ≡ i = grind (arith, nat_tests) in
+    rw (get_or-set_at sums i k y (pos 0) same, same) e
+added-at old sums p i k y false t h e done l =
+    let other : (k ≡ i → ⊥) = grind (arith, nat_tests) in
+    rw (get_or-set_other sums i k y (pos 0) other) (done k (omega arith))
+
+pub added-more : (old sums : List ℤ) (p : ℕ → ℤ) (i : ℕ) (y : ℤ) → i < length sums → y ≡ get_or old i (pos 0) +ℤ p i
+    → ((k : ℕ) → k < i → get_or sums k (pos 0) ≡ get_or old k (pos 0) +ℤ p k) → (k : ℕ) → k < i + 1 → get_or (set sums i y) k (pos 0) ≡ get_or old k (pos 0) +ℤ p k
+added-more old sums p i y h e done k l = added-at old sums p i k y (nat_eq k i) refl h e done l
+
+-- and the sums stay small
+few-at : (old sums : List ℤ) (i k m : ℕ) (y : ℤ) (b : Bool) → nat_eq k i ≡ b → i < length sums → unsigned_abs y ≤ unsigned_abs (get_or old i (pos 0)) + m
+    → ((k : ℕ) → unsigned_abs (get_or sums k (pos 0)) ≤ unsigned_abs (get_or old k (pos 0)) + m) → unsigned_abs (get_or (set sums i y) k (pos 0)) ≤ unsigned_abs (get_or old k (pos 0)) + m
+few-at old sums i k m y true t h e done =
+    let same : k ≡ i = grind (arith, nat_tests) in
+    rw (get_or-set_at sums i k y (pos 0) same, same) e
+few-at old sums i k m y false t h e done =
+    let other : (k ≡ i → ⊥) = grind (arith, nat_tests) in
+    rw (get_or-set_other sums i k y (pos 0) other) (done k)
+
+pub few-more : (old sums : List ℤ) (i m : ℕ) (y : ℤ) → i < length sums → unsigned_abs y ≤ unsigned_abs (get_or old i (pos 0)) + m
+    → ((k : ℕ) → unsigned_abs (get_or sums k (pos 0)) ≤ unsigned_abs (get_or old k (pos 0)) + m) → (k : ℕ) → unsigned_abs (get_or (set sums i y) k (pos 0)) ≤ unsigned_abs (get_or old k (pos 0)) + m
+few-more old sums i m y h e done k = few-at old sums i k m y (nat_eq k i) refl h e done
+
+-- a product added in 128 bits
+pub plain-sum : (s g x f y : ℤ) → f ≡ g → y ≡ x → unsigned_abs g ≤ 2 ^ 50 → unsigned_abs x ≤ 2 ^ 31 → unsigned_abs s ≤ 2 ^ 101
+    → to_z w128 (of_z w128 s) +ℤ to_z w128 (of_z w128 (to_z w128 (of_z w128 f) *ℤ to_z w128 (of_z w128 y))) ≡ s +ℤ (g *ℤ x)
+plain-sum s g x f y e d small sample room =
+    let product = scaled-few g x (2 ^ 50) (2 ^ 31) small sample in
+    rw (e, d, held s (omega arith), held g (omega arith), held x (omega arith), held (g *ℤ x) (omega arith)) refl
+
+-- places that are silent beyond the samples are as good as none
+pub filled-up : (xs : List ℤ) (n i : ℕ) → get_or (xs ++ replicate n (pos 0)) i (pos 0) ≡ get_or xs i (pos 0)
+filled-up [] n i = quiet-sample n i
+filled-up (x ∷ xs) n zero = refl
+filled-up (x ∷ xs) n (suc i) = filled-up xs n i
+
+-- silence adds nothing
+pub zero-echo : (s g x : ℤ) → pos 0 ≡ x → s ≡ s +ℤ (g *ℤ x)
+zero-echo s g x e =
+    let none : unsigned_abs (g *ℤ x) ≡ 0 = rw (unsigned_abs-mul g x, ← e) (omega arith) in
+    omega (arith, ints)
+
+-- a sum times a gain in 128 bits
+pub scaled-sum : (g s f : ℤ) → f ≡ g → unsigned_abs g ≤ 1000 * UNIT → unsigned_abs s ≤ 8 * (UNIT * 2 ^ 31)
+    → to_z w128 (of_z w128 (to_z w128 (of_z w128 f) *ℤ to_z w128 (of_z w128 s))) ≡ g *ℤ s
+scaled-sum g s f e small few =
+    let most = scaled-few g s _ _ small few in
+    rw (e, held s (omega arith), held g (omega arith), held (g *ℤ s) (omega (arith, most))) refl
+
+-- it is one that `round_clip` takes
+pub scaled-low : (g s : ℤ) → unsigned_abs g ≤ 1000 * UNIT → unsigned_abs s ≤ 8 * (UNIT * 2 ^ 31) → neg_ℤ (pos (2 ^ 126 - 2 ^ 90)) ≤ℤ (g *ℤ s)
+scaled-low g s small few =
+    let z : ℤ = g *ℤ s in
+    let most = scaled-few g s _ _ small few in
+    low_of z (omega (arith, most))
+
+pub scaled-high : (g s : ℤ) → unsigned_abs g ≤ 1000 * UNIT → unsigned_abs s ≤ 8 * (UNIT * 2 ^ 31) → (g *ℤ s) ≤ℤ pos (2 ^ 126 - 2 ^ 90)
+scaled-high g s small few =
+    let z : ℤ = g *ℤ s in
+    let most = scaled-few g s _ _ small few in
+    high_of z (omega (arith, most))

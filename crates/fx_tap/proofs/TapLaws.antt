@@ -1,0 +1,128 @@
+-- The steps of a stage that makes each frame of that frame and of those before it.
+use Rattle.std.proofs.Common.{ℕ, ℤ, pos, zero, suc, ◌+◌, ◌-◌, ◌<◌, ◌≤◌, ◌≡◌, Bool, true, false, cond, List, [], ◌∷◌, ◌++◌, length, drop, refl, sym, ap, ◌∙◌, arith, replicate, append_assoc, sub-one}
+use Rattle.std.specs.Prelude.{nat_le, Option, Some, None, is_none, nat_eq, ◌&&◌, ◌^◌}
+use Prim.Native.Nat.compare
+use Rattle.std.specs.Int.{w32}
+use Rattle.std.proofs.lemmas.List.{length-append, length-drop, length-replicate, drop-append-le}
+use Rattle.fx_frame.specs.Frame.{Samples, silence, IsFrame}
+use Rattle.fx_frame.specs.Line.{Frames, pushed, IsLine}
+use Rattle.fx_frame.specs.Stage.{Gave, Took}
+use Rattle.fx_tap.specs.Lists.{tabulate}
+use Rattle.fx_tap.specs.Tapped.{Taps, TapState, IsTapState, IsNear, behind, tapped, tap_acts, sample_before}
+use Rattle.fx_tap.proofs.DelayLaws.{sample_before-append, sample_before-drop, quiet-after}
+use Rattle.fx_tap.proofs.Tabulate.{tabulate-same}
+
+true_of : (b : Bool) → (b ≡ false → ⊥) → b ≡ true
+true_of true h = refl
+true_of false h = absurd (h refl)
+
+dry-hand : (hand : Option Samples) (tail : ℕ) → (is_none hand && nat_eq tail 0) ≡ true → hand ≡ None
+dry-hand None tail h = refl
+dry-hand (Some x) tail h = absurd (cc)
+
+dry-tail : (hand : Option Samples) (tail : ℕ) → 0 < tail → (is_none hand && nat_eq tail 0) ≡ false
+dry-tail None zero h = absurd (omega arith)
+dry-tail None (suc n) h = rw (compare.suc-zero) refl
+dry-tail (Some x) n h = refl
+
+module _ {M : Type 0} (taps : Taps M) (near : IsNear taps) where
+  -- one more frame comes
+  pub behind-step : (m : M) (items xs : List Samples) (f : Samples) (c : ℕ) → length items ≤ c → taps.reach m ≤ c
+      → behind taps m items (f ∷ xs) ≡ taps.made m (sample_before (items ++ f ∷ []) (length items)) ∷ behind taps m (drop (length (items ++ f ∷ []) - c) (items ++ f ∷ [])) xs
+  behind-step m items xs f c held long =
+      let whole : List Samples = items ++ f ∷ [] in
+      let n : length whole ≡ length items + 1 = length-append items (f ∷ []) in
+      let j : ℕ = length whole - c in
+      let split : items ++ f ∷ xs ≡ whole ++ xs = sym (append_assoc items (f ∷ []) xs) in
+      let first : taps.made m (sample_before (items ++ f ∷ xs) (length items)) ≡ taps.made m (sample_before whole (length items)) =
+      rw split (near m _ _ (λ d k l. sample_before-append whole xs (length items) d k (omega arith))) in
+      let left : length (drop j whole) ≡ length whole - j = length-drop j whole in
+      let dropped : drop j whole ++ xs ≡ drop j (whole ++ xs) = sym (drop-append-le j whole xs (omega arith)) in
+      let more : tabulate (λ n. taps.made m (sample_before (items ++ f ∷ xs) n)) (suc (length items)) (length xs) ≡ behind taps m (drop j whole) xs =
+      tabulate-same _ _ _ _ (length xs) (λ k l.
+      let at : length (drop j whole) + k + j ≡ suc (length items) + k = omega arith in
+      rw (split, dropped, ← at) (near m _ _ (λ d q short.
+      sym (sample_before-drop (whole ++ xs) j (length (drop j whole) + k) d q (λ p. omega arith))))) in
+      ap (λ y. y ∷ tabulate (λ n. taps.made m (sample_before (items ++ f ∷ xs) n)) (suc (length items)) (length xs)) first
+      ∙ ap (λ ys. taps.made m (sample_before whole (length items)) ∷ ys) more
+
+  -- with an empty line it is what is given for the whole sound
+  pub behind-all : (m : M) (z : List Samples) → behind taps m [] (z ++ replicate (taps.reach m) (silence (taps.channels m))) ≡ tapped taps m z
+  behind-all m z =
+      let n : length (z ++ replicate (taps.reach m) (silence (taps.channels m))) ≡ length z + taps.reach m = simp (length-append, length-replicate) in
+      rw n (tabulate-same _ _ 0 0 (length z + taps.reach m) (λ k l.
+      near m (sample_before (z ++ replicate (taps.reach m) (silence (taps.channels m))) (0 + k)) (sample_before z (0 + k)) (λ d q short.
+      ap (λ s. cond (nat_le d (0 + k)) s (pos 0)) (quiet-after z (taps.reach m) (taps.channels m) (0 + k - d) q))))
+
+  -- the state after a frame came
+  abbrev pub taken_tap : TapState M → Frames ℤ → Samples → ℕ → TapState M
+  taken_tap s line out clips = record s { line = line; hand = Some out; hand_clips = clips; taken = s.taken + 1 }
+
+  pub Took-tap : (s : TapState M) (line : Frames ℤ) (frame out : Samples) (clips : ℕ) → IsTapState taps s → (tap_acts taps).dry s ≡ true → s.ended ≡ false
+      → out ≡ (taps.made s.arguments (sample_before (s.line.items ++ frame ∷ []) (length s.line.items))).samples
+      → clips ≡ (taps.made s.arguments (sample_before (s.line.items ++ frame ∷ []) (length s.line.items))).clips
+      → line.items ≡ pushed s.line frame → line.capacity ≡ s.line.capacity
+      → Took (tap_acts taps) s (taken_tap s line out clips) frame
+  Took-tap s line frame out clips is dry running e f items capacity =
+      let none = dry-hand s.hand s.tail dry in
+      let held = is.line.within in
+      let long : taps.reach s.arguments ≤ s.line.capacity = let k = is.capacity in omega arith in
+      record {
+        rest = λ z. rw (none, running, e, f, items, capacity) (sym (behind-step s.arguments s.line.items (z ++ replicate s.line.capacity (silence (taps.channels s.arguments))) frame s.line.capacity held long));
+        counted = refl;
+        recipe_stays = refl;
+      }
+
+  pub IsTapState-taken : (s : TapState M) (line : Frames ℤ) (frame out : Samples) (clips : ℕ) → IsTapState taps s → (tap_acts taps).dry s ≡ true → s.ended ≡ false → s.taken < 2 ^ 56
+      → IsLine w32 line → line.capacity ≡ s.line.capacity → line.channels ≡ s.line.channels → IsFrame out → length out ≡ taps.channels s.arguments → clips ≤ taps.most_clips s.arguments
+      → IsTapState taps (taken_tap s line out clips)
+  IsTapState-taken s line frame out clips is dry running few lined capacity channels framed len little =
+      let none = dry-hand s.hand s.tail dry in
+      let counted : s.given + 0 + s.tail ≡ s.taken + 0 = rw (none, running) at is.counted in
+      record {
+        line = lined;
+        channels = channels ∙ is.channels;
+        capacity = capacity ∙ is.capacity;
+        counted = rw running (omega arith);
+        few = omega arith;
+        not_ended = is.not_ended;
+        few_clips = is.few_clips;
+        hand_few = little;
+        fits = λ x q. let same : out ≡ x = cc in (rw (← same) framed, rw (← same) len);
+      }
+
+  -- the state after a silent frame went through the line
+  abbrev pub drained_tap : TapState M → Frames ℤ → ℕ → TapState M
+  drained_tap s line clips = record s { line = line; tail = s.tail - 1; given = s.given + 1; clips = s.clips + clips }
+
+  ended-tail : (s : TapState M) → IsTapState taps s → 0 < s.tail → s.ended ≡ true
+  ended-tail s is some = true_of s.ended (λ e. let k = is.not_ended e in absurd (omega arith))
+
+  behind-quiet : (m : M) (items : List Samples) (quiet : Samples) (tail c : ℕ) → 0 < tail → length items ≤ c → taps.reach m ≤ c
+      → behind taps m items (replicate tail quiet) ≡ taps.made m (sample_before (items ++ quiet ∷ []) (length items)) ∷ behind taps m (drop (length (items ++ quiet ∷ []) - c) (items ++ quiet ∷ [])) (replicate (tail - 1) quiet)
+  behind-quiet m items quiet zero c some held long = absurd (omega arith)
+  behind-quiet m items quiet (suc t) c some held long = rw sub-one (behind-step m items (replicate t quiet) quiet c held long)
+
+  pub Gave-tail : (s : TapState M) (line : Frames ℤ) (quiet out : Samples) (clips : ℕ) → IsTapState taps s → s.hand ≡ None → 0 < s.tail → quiet ≡ silence (taps.channels s.arguments)
+      → out ≡ (taps.made s.arguments (sample_before (s.line.items ++ quiet ∷ []) (length s.line.items))).samples
+      → clips ≡ (taps.made s.arguments (sample_before (s.line.items ++ quiet ∷ []) (length s.line.items))).clips
+      → length out ≡ taps.channels s.arguments → line.items ≡ pushed s.line quiet → line.capacity ≡ s.line.capacity
+      → Gave (tap_acts taps) s (drained_tap s line clips) out
+  Gave-tail s line quiet out clips is none some q e f len items capacity =
+      let over = ended-tail s is some in
+      let held = is.line.within in
+      let long : taps.reach s.arguments ≤ s.line.capacity = let k = is.capacity in omega arith in
+      let counted : s.given + 0 + s.tail ≡ s.taken + s.line.capacity = rw (none, over) at is.counted in
+      let same = is.capacity in
+      record {
+        was_wet = dry-tail s.hand s.tail some;
+        gives = record {
+          clips = clips;
+          first = λ z. rw (none, over, e, f, items, q) (behind-quiet s.arguments s.line.items (silence (taps.channels s.arguments)) s.tail s.line.capacity some held long);
+          counted = refl;
+        };
+        channels = len;
+        due = λ running. absurd (cc (running, over));
+        most = omega arith;
+        recipe_stays = refl;
+      }

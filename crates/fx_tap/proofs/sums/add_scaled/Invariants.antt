@@ -1,0 +1,12 @@
+use Rattle.std.proofs.Common.{◌≡◌, ◌<◌, ◌≤◌, ◌+◌, ◌*◌, ◌^◌, ℕ, pos, ◌+ℤ◌, ◌*ℤ◌, length, slice_index_or, unsigned_abs}
+use Rattle.fx_fixed.specs.declared.gains.TheConstants.{UNIT}
+use Rattle.fx_tap.proofs.sums.add_scaled.Given as goal
+
+-- the channels so far are added, and the others are as they were
+abbrev pub invariant-loop-channel : goal.invariant-loop-channel
+invariant-loop-channel l = record {
+  size : length l.sums ≡ 16;
+  added : (k : ℕ) → k < l.channel → slice_index_or l.sums k (pos 0) ≡ slice_index_or l.fn.sums k (pos 0) +ℤ (l.fn.gain *ℤ slice_index_or l.fn.frame k (pos 0));
+  left : (k : ℕ) → l.channel ≤ k → slice_index_or l.sums k (pos 0) ≡ slice_index_or l.fn.sums k (pos 0);
+  few : (k : ℕ) → unsigned_abs (slice_index_or l.sums k (pos 0)) ≤ unsigned_abs (slice_index_or l.fn.sums k (pos 0)) + UNIT * 2 ^ 31;
+}

@@ -1,0 +1,101 @@
+-- A stage that makes each frame of that frame and of frames at fixed distances before it (this project's profile).
+use Rattle.std.specs.Prelude.{ℕ, ℤ, pos, ◌+◌, ◌-◌, ◌*◌, ◌≤◌, ◌≡◌, Bool, false, ◌&&◌, Option, None, List, [], ◌∷◌, ◌++◌, length, map, max, replicate, option_to_list, is_none, slice_index_or, nat_le, nat_eq, cond}
+use Rattle.std.proofs.Common.{arith}
+use Rattle.std.specs.Int.{w32}
+use Rattle.fx_frame.specs.Frame.{Samples, silence}
+use Rattle.fx_frame.specs.Line.{Frames, IsLine}
+use Rattle.fx_frame.specs.Frozen.{IsHand}
+use Rattle.fx_frame.specs.Stage.{Given, Acts}
+use Rattle.fx_tap.specs.Mapped.{most_taken}
+use Rattle.fx_tap.specs.Lists.{tabulate}
+
+-- the longest of the delays
+abbrev pub longest : List ℕ → ℕ
+longest [] = 0
+longest (d ∷ ds) = max d (longest ds)
+
+-- channel k of the frame that is d frames before frame n; before the first and after the last there is silence
+abbrev pub sample_before : List Samples → ℕ → ℕ → ℕ → ℤ
+sample_before x n d k = cond (nat_le d n) (slice_index_or (slice_index_or x (n - d) []) k (pos 0)) (pos 0)
+
+-- the samples that came: how many frames ago, and in which channel
+abbrev pub Past : Type 0
+Past = ℕ → ℕ → ℤ
+
+-- how effects of such arguments make frames
+pub record Taps (M : Type 0) : Type 0 where
+  pub channels : M → ℕ
+  -- how many frames before it a frame is made of
+  pub reach : M → ℕ
+  -- how many of its samples may be clipped
+  pub most_clips : M → ℕ
+  -- the frame that is made of the samples that came
+  pub made : M → Past → Given
+
+-- two pasts agree as far as that
+abbrev pub Agree : ℕ → Past → Past → Type 0
+Agree reach p q = (d k : ℕ) → d ≤ reach → p d k ≡ q d k
+
+-- no frame is made of frames before the reach
+abbrev pub IsNear : {M : Type 0} → Taps M → Type 0
+IsNear {M} taps = (m : M) (p q : Past) → Agree (taps.reach m) p q → taps.made m p ≡ taps.made m q
+
+-- what a stage stores that was made with such arguments
+pub record TapState (M : Type 0) : Type 0 where
+  pub arguments : M
+  pub line : Frames ℤ
+  -- the frame to be given, and how many of its samples were clipped
+  pub hand : Option Samples
+  pub hand_clips : ℕ
+  -- how many frames are to be given after it
+  pub tail : ℕ
+  pub taken : ℕ
+  pub given : ℕ
+  pub clips : ℕ
+  pub ended : Bool
+
+module _ {M : Type 0} (taps : Taps M) where
+  -- what is given for a whole sound
+  abbrev pub tapped : M → List Samples → List Given
+  tapped m x = tabulate (λ n. taps.made m (sample_before x n)) 0 (length x + taps.reach m)
+
+  -- what holds of a stage at every moment
+  pub record IsTapState (s : TapState M) : Type 0 where
+    pub line : IsLine w32 s.line
+    pub channels : s.line.channels ≡ taps.channels s.arguments
+    pub capacity : s.line.capacity ≡ taps.reach s.arguments
+    pub counted : s.given + length (option_to_list s.hand) + s.tail ≡ s.taken + cond s.ended s.line.capacity 0
+    pub few : s.taken ≤ most_taken
+    pub not_ended : s.ended ≡ false → s.tail ≡ 0
+    pub few_clips : s.clips ≤ s.given * taps.most_clips s.arguments
+    pub hand_few : s.hand_clips ≤ taps.most_clips s.arguments
+    pub fits : IsHand (taps.channels s.arguments) s.hand
+
+  -- what is given for frames that come behind those of the line
+  abbrev pub behind : M → List Samples → List Samples → List Given
+  behind m items coming = tabulate (λ n. taps.made m (sample_before (items ++ coming) n)) (length items) (length coming)
+
+  -- the frames that come, with silence where the sound has ended
+  abbrev pub coming_of : TapState M → List Samples → List Samples
+  coming_of s z = cond s.ended (replicate s.tail (silence (taps.channels s.arguments))) (z ++ replicate s.line.capacity (silence (taps.channels s.arguments)))
+
+  -- the frame in hand
+  abbrev pub tap_hand : TapState M → List Given
+  tap_hand s = map (λ x. record { samples = x; clips = s.hand_clips }) (option_to_list s.hand)
+
+  abbrev pub tap_acts : Acts (TapState M) M
+  tap_acts = record {
+    recipe = λ s. s.arguments;
+    kind_of = λ m. record { inputs = taps.channels m; outputs = taps.channels m; line = taps.reach m; limit = most_taken; due = λ n. n; most = λ n. n + taps.reach m; enough = None };
+    meaning = tapped;
+    rest = λ s z. tap_hand s ++ behind s.arguments s.line.items (coming_of s z);
+    counts = λ s. record { taken = s.taken; given = s.given; clips = s.clips; ended = s.ended };
+    dry = λ s. is_none s.hand && nat_eq s.tail 0;
+    stored = λ s. s.line.items ++ option_to_list s.hand;
+    capacity = λ s. s.line.capacity;
+    own = λ s. record { sixth = s.tail; seventh = length (option_to_list s.hand); eighth = s.hand_clips };
+  }
+
+-- more frames in give no fewer out
+pub tap_rises : (reach m n : ℕ) → m ≤ n → m + reach ≤ n + reach
+tap_rises reach m n h = omega arith

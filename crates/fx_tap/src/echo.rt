@@ -1,0 +1,141 @@
+//! The effect `echo` of sox(1): earlier frames come again, each with a decay.
+ghost use Rattle.std.specs.Prelude.{◌≡◌, ◌<◌, ◌≤◌, ◌+◌, ◌*◌, ◌^◌, ◌++◌, ◌∷◌, [], ℕ, pos, ◌+ℤ◌, ◌*ℤ◌, length, slice_index_or, unsigned_abs, IfOk};
+ghost use Rattle.std.proofs.Common.{rules};
+ghost use Rattle.std.specs.List.{All};
+ghost use Rattle.fx_frame.specs.Stage.{IsNew};
+ghost use Rattle.fx_tap.specs.Echo.{echo_acts, echo_sum, echo_taps, latest};
+ghost use Rattle.fx_tap.specs.Near.{echoes-near};
+ghost use Rattle.fx_tap.specs.Tapped.{sample_before};
+
+use crate::sums::{Sums, add_scaled, rounded_sums};
+use crate::tapped::{Tapped, Tapping};
+use fx_fixed::{Gain, UNIT};
+use fx_frame::{Frame, Line};
+use std::alloc::{AllocError, Global};
+use std::marker::Model;
+
+/// What an `echo` is made with.
+#[derive(Drop)]
+pub struct Echoes {
+    channels: usize,
+    gain_in: Gain,
+    gain_out: Gain,
+    echoes: Vec<(u64, Gain)>,
+}
+
+impl Model for Echoes {
+    ghost use Rattle.fx_tap.specs.Echo.{EchoArguments, IsEcho};
+
+    ghost Value = { EchoArguments };
+
+    ghost view = { λ s. record { channels = s.channels; gain_in = s.gain_in; gain_out = s.gain_out; echoes = s.echoes.items } };
+
+    ghost invariant = { λ s. IsEcho (record { channels = s.channels; gain_in = s.gain_in; gain_out = s.gain_out; echoes = s.echoes.items }) };
+}
+
+/// Adds the echo of a frame that comes after those of the line.
+#[inline(always)]
+fn add_echo(sums: &mut Sums, channels: usize, line: &Line, frame: Frame, echo: (u64, Gain))
+    requires channels { channels ≤ 16 }
+    requires late { 1 ≤ echo.0 }
+    requires decay { unsigned_abs echo.1 ≤ UNIT }
+    requires room { (k : ℕ) → unsigned_abs (slice_index_or sums.old k (pos 0)) ≤ 2 ^ 100 }
+    ensures added { (k : ℕ) → k < channels → slice_index_or sums.new k (pos 0) ≡ slice_index_or sums.old k (pos 0) +ℤ (echo.1 *ℤ sample_before (line.now.items ++ frame ∷ []) (length line.now.items) echo.0 k) }
+    ensures few { (k : ℕ) → unsigned_abs (slice_index_or sums.new k (pos 0)) ≤ unsigned_abs (slice_index_or sums.old k (pos 0)) + UNIT * 2 ^ 31 }
+{
+    let (late, decay) = echo;
+    let Some(from) = line.back(late as usize - 1) else {
+        return;
+    };
+    add_scaled(sums, channels, decay, from);
+}
+
+impl Echoes {
+    /// The frame times gain-in, and its echoes, added.
+    #[inline(always)]
+    fn sums(&self, line: &Line, frame: Frame) -> Sums
+        ensures value { (k : ℕ) → k < self.now.channels → slice_index_or result k (pos 0) ≡ echo_sum self.now (sample_before (line.now.items ++ frame ∷ []) (length line.now.items)) k }
+        ensures small { (k : ℕ) → unsigned_abs (slice_index_or result k (pos 0)) ≤ 8 * (UNIT * 2 ^ 31) }
+    {
+        let mut sums = [0; 16];
+        add_scaled(&mut sums, self.channels, self.gain_in, frame);
+        'echoes: for echo in &self.echoes {
+            add_echo(&mut sums, self.channels, line, frame, *echo);
+        }
+        sums
+    }
+}
+
+impl Tapping for Echoes {
+    ghost taps = { echo_taps };
+
+    fn tap(&self, line: &Line, frame: Frame) -> (Frame, u64) {
+        let sums = self.sums(line, frame);
+        rounded_sums(&sums, self.channels, self.gain_out)
+    }
+
+    fn channels(&self) -> usize {
+        self.channels
+    }
+
+    ghost near = { echoes-near };
+
+    ghost few_clips = { λ m. Prim.search rules };
+}
+
+/// How late the latest echo is.
+fn latest_of(echoes: &[(u64, Gain)]) -> u64
+    ensures { result ≡ latest echoes.now }
+{
+    let mut most = 0;
+    'echoes: for echo in echoes {
+        most = most.max(echo.0);
+    }
+    most
+}
+
+/// A list of the same echoes.
+fn copied(alloc: Global, echoes: &[(u64, Gain)]) -> Result<Vec<(u64, Gain)>, AllocError>
+    ensures { IfOk result (λ v. v.items ≡ echoes.now) }
+{
+    let mut copies = Vec::new(alloc);
+    'echoes: for echo in echoes {
+        copies.push(*echo)?;
+    }
+    Ok(copies)
+}
+
+/// The stage of `echo`: each frame times gain-in and the frames before it at the delays, each times its decay, added,
+/// times gain-out and rounded once. A sample that is clipped counts for one clip.
+pub type Echo = Tapped<Echoes>;
+
+impl Tapped<Echoes> {
+    /// The stage for frames of 1 to 16 channels, with 1 to 7 echoes, each with its delay in frames, at least 1, and its
+    /// decay. Gain-in and the decays are at most 1, gain-out is at most 1000. It holds as many frames as the longest delay has, at
+    /// most `2^28`; AllocError where memory for them is refused.
+    pub fn new(
+        alloc: Global,
+        channels: usize,
+        gain_in: Gain,
+        gain_out: Gain,
+        echoes: &[(u64, Gain)],
+    ) -> Result<Echo, AllocError>
+        requires channels { (1 ≤ channels) × (channels ≤ 16) }
+        requires gain_in { unsigned_abs gain_in ≤ UNIT }
+        requires echoes { (1 ≤ length echoes.now) × (length echoes.now ≤ 7) }
+        requires delays { All (λ e. 1 ≤ e.0) echoes.now }
+        requires decays { All (λ e. unsigned_abs e.1 ≤ UNIT) echoes.now }
+        requires line { latest echoes.now ≤ 2 ^ 28 }
+        ensures { IfOk result (IsNew echo_acts (record { channels = channels; gain_in = gain_in; gain_out = gain_out; echoes = echoes.now })) }
+    {
+        let reach = latest_of(echoes) as usize;
+        let echoes = copied(alloc, echoes)?;
+        let arguments = Echoes {
+            channels,
+            gain_in,
+            gain_out,
+            echoes,
+        };
+        Tapped::of(alloc, arguments, reach)
+    }
+}

@@ -1,0 +1,52 @@
+//! Sums of samples times gains, one for each channel, each rounded once.
+ghost use Rattle.std.specs.Prelude.{◌≡◌, ◌<◌, ◌≤◌, ◌+◌, ◌-◌, ◌*◌, ◌^◌, ℕ, pos, ◌+ℤ◌, ◌*ℤ◌, ◌<ℤ◌, ◌≤ℤ◌, length, slice_index_or, unsigned_abs};
+ghost use Rattle.fx_fixed.specs.Rounding.{rounding};
+ghost use Rattle.fx_tap.specs.Lists.{tabulate};
+ghost use Rattle.fx_tap.specs.Rounded.{given_of};
+
+use fx_fixed::{Gain, UNIT, round_clip};
+use fx_frame::Frame;
+use fx_frame::inner::{frame_of, places};
+
+/// One sum for each channel, in trillionths.
+pub(crate) type Sums = [i128; 16];
+
+/// Adds a gain times each sample of a frame; the gain is at most 1 in magnitude.
+#[inline(always)]
+pub(crate) fn add_scaled(sums: &mut Sums, channels: usize, gain: Gain, frame: Frame)
+    requires channels { channels ≤ 16 }
+    requires gain { unsigned_abs gain ≤ UNIT }
+    requires room { (k : ℕ) → unsigned_abs (slice_index_or sums.old k (pos 0)) ≤ 2 ^ 100 }
+    ensures added { (k : ℕ) → k < channels → slice_index_or sums.new k (pos 0) ≡ slice_index_or sums.old k (pos 0) +ℤ (gain *ℤ slice_index_or frame k (pos 0)) }
+    ensures few { (k : ℕ) → unsigned_abs (slice_index_or sums.new k (pos 0)) ≤ unsigned_abs (slice_index_or sums.old k (pos 0)) + UNIT * 2 ^ 31 }
+{
+    let factor = i128::from(gain.trillionths());
+    let samples = places(&frame);
+    for channel in 0..channels {
+        sums[channel] += factor * i128::from(samples[channel]);
+    }
+}
+
+/// The parts of one in a sum times a gain: each factor is in trillionths.
+const UNIT_SQUARED: i128 = 1_000_000_000_000_000_000_000_000;
+
+/// The frame of the sums, each times a gain, rounded once, and how many samples were clipped.
+#[inline(always)]
+pub(crate) fn rounded_sums(sums: &Sums, channels: usize, gain: Gain) -> (Frame, u64)
+    requires channels { (1 ≤ channels) × (channels ≤ 16) }
+    requires small { (k : ℕ) → unsigned_abs (slice_index_or sums.now k (pos 0)) ≤ 8 * (UNIT * 2 ^ 31) }
+    ensures frame { result.0 ≡ (given_of (tabulate (λ k. rounding (gain *ℤ slice_index_or sums.now k (pos 0)) (UNIT * UNIT)) 0 channels)).samples }
+    ensures clips { result.1 ≡ (given_of (tabulate (λ k. rounding (gain *ℤ slice_index_or sums.now k (pos 0)) (UNIT * UNIT)) 0 channels)).clips }
+    ensures few { result.1 ≤ 16 }
+    ensures channels { length result.0 ≡ channels }
+{
+    let factor = i128::from(gain.trillionths());
+    let mut out = [0; 16];
+    let mut clips = 0;
+    for channel in 0..channels {
+        let (sample, is_clipped) = round_clip(factor * sums[channel], UNIT_SQUARED);
+        out[channel] = sample;
+        clips += u64::from(is_clipped);
+    }
+    (frame_of(channels, out), clips)
+}
