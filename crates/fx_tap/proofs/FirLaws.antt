@@ -1,14 +1,15 @@
 -- How a `Fir` behaves.
 use Rattle.std.proofs.Common.{ℕ, ℤ, pos, zero, suc, ◌+◌, ◌-◌, ◌*◌, ◌/◌, ◌<◌, ◌≤◌, ◌≡◌, Bool, true, false, cond, min, take, List, [], ◌∷◌, ◌++◌, length, drop, get_or, set, map, reverse, refl, sym, ap, ◌∙◌, arith, replicate, add-zero, zero-add, append_assoc, append-nil, sub-one}
-use Rattle.std.specs.Prelude.{nat_le, slice_get, Option, Some, None, is_none, nat_eq, ◌&&◌, ◌^◌, option_to_list, unsigned_abs}
+use Rattle.std.specs.Prelude.{nat_le, slice_get, slice_index_or, Option, Some, None, is_none, nat_eq, ◌&&◌, ◌^◌, option_to_list, unsigned_abs}
 use Rattle.std.specs.Int.{w32}
 use Rattle.std.proofs.Math.Seq.{set-append_seam}
-use Rattle.std.proofs.lemmas.List.{length-append, length-drop, length-map, length-reverse, map-append, drop-append-le}
+use Rattle.std.proofs.lemmas.List.{length-append, length-drop, length-map, length-reverse, reverse-reverse, map-append, drop-append-le}
 use Rattle.std.proofs.lemmas.List.Sums.{sum_by-append}
 use Prim.Native.Nat.compare
 use Rattle.fx_frame.specs.Frame.{Samples, IsFrame}
 use Rattle.fx_frame.specs.Line.{Frames, pushed, IsLine, channel_of}
-use Rattle.fx_frame.specs.Stage.{Given, Gave, Took, Ended}
+use Rattle.fx_frame.specs.Frozen.{IsStored, IsHand}
+use Rattle.fx_frame.specs.Stage.{Given, Gave, Took, Ended, Freezes, numbers_of}
 use Rattle.fx_tap.specs.Tapped.{sample_before}
 use Rattle.fx_tap.specs.Fir.{FirArguments, FirState, IsFir, centre, samples_back, filtered_sample, filtered_frame, filtered_at, filtered, fir_behind, fir_tail, fir_acts, arguments_of}
 use Rattle.fx_tap.specs.Lists.{tabulate}
@@ -218,3 +219,36 @@ Gave-last s out clips is none some out_is clips_are long =
       most = omega arith;
       recipe_stays = refl;
     }
+
+-- the coefficients of a stage fix what it stores of them
+pub backwards_of : (s : FirState) (channels : ℕ) (h : List ℤ) → arguments_of s ≡ record { channels = channels; coefficients = h } → s.backwards ≡ reverse h
+backwards_of s channels h e = sym (reverse-reverse s.backwards) ∙ ap (λ (r : FirArguments). reverse r.coefficients) e
+
+-- a stage of these arguments that froze to these frames and numbers has such a line and hand
+pub stored-is : (s : FirState) (channels : ℕ) (h : List ℤ) (frames : List Samples) (numbers : List ℕ) → IsFir s → arguments_of s ≡ record { channels = channels; coefficients = h } → Freezes fir_acts s frames numbers
+    → IsStored channels (length h - 1) (slice_index_or numbers 6 0) frames s.line s.hand
+stored-is s channels h frames numbers is made froze =
+    let wide : s.channels ≡ channels = ap (λ (r : FirArguments). r.channels) made in
+    let same : length s.backwards ≡ length h = sym (length-reverse s.backwards) ∙ ap (λ (r : FirArguments). length r.coefficients) made in
+    let full = is.capacity in
+    record {
+      lined = is.line;
+      channels_are = is.channels ∙ wide;
+      capacity_is = omega arith;
+      held = rw (← wide) is.fits;
+      hands_are = rw froze.counted refl;
+      stored = froze.stored;
+    }
+
+flag-is : (b : Bool) → nat_eq (cond b 1 0) 1 ≡ b
+flag-is true = refl
+flag-is false = refl
+
+-- and it is the stage that is made of them
+pub thawed-is : (s : FirState) (channels : ℕ) (h backwards : List ℤ) (line : Frames ℤ) (hand : Option Samples) (numbers : List ℕ) → arguments_of s ≡ record { channels = channels; coefficients = h } → numbers ≡ numbers_of fir_acts s
+    → line ≡ s.line → hand ≡ s.hand → backwards ≡ reverse h
+    → record { channels = channels; backwards = backwards; line = line; hand = hand; hand_clips = slice_index_or numbers 7 0; tail = slice_index_or numbers 5 0; taken = slice_index_or numbers 0 0; given = slice_index_or numbers 1 0; clips = slice_index_or numbers 3 0; ended = nat_eq (slice_index_or numbers 2 0) 1 } ≡ s
+thawed-is s channels h backwards line hand numbers made counted line_is hand_is back_is =
+    let wide : channels ≡ s.channels = sym (ap (λ (r : FirArguments). r.channels) made) in
+    let back : backwards ≡ s.backwards = back_is ∙ sym (backwards_of s channels h made) in
+    rw (wide, back, line_is, hand_is, counted, flag-is s.ended) refl

@@ -1,16 +1,17 @@
 //! The effect `fir` of sox(1): each sample is a sum of the samples around it, times the coefficients.
-ghost use Rattle.std.specs.Prelude.{◌≡◌, ◌+◌, ◌-◌, ◌*◌, ◌/◌, ◌^◌, ◌<◌, ◌≤◌, ◌≤ℤ◌, ◌++◌, ℕ, List, length, reverse, pos, neg_ℤ, unsigned_abs, All, IfOk};
+ghost use Rattle.std.specs.Prelude.{◌≡◌, ◌+◌, ◌-◌, ◌*◌, ◌/◌, ◌^◌, ◌<◌, ◌≤◌, ◌≤ℤ◌, ◌++◌, ℕ, List, length, reverse, pos, neg_ℤ, unsigned_abs, All, IfOk, Err, MatchResult, cond, min, nat_eq};
 ghost use Rattle.fx_frame.specs.Frame.{IsFrame};
 ghost use Rattle.fx_frame.specs.Line.{channel_of};
-ghost use Rattle.fx_frame.specs.Stage.{IsNew};
-ghost use Rattle.fx_tap.specs.Fir.{FirArguments, IsFir, centre, filtered_frame, filtered_sample, fir_acts, samples_of_window};
+ghost use Rattle.fx_frame.specs.Stage.{Freezes, IsNew};
+ghost use Rattle.fx_tap.specs.Fir.{FirArguments, FirState, IsFir, centre, filtered_frame, filtered_sample, fir_acts, samples_of_window};
 ghost use Rattle.fx_fixed.specs.Rounding.{rounding};
 ghost use Rattle.fx_tap.specs.Products.{sum_of_products};
 
 use crate::products::dot;
 use fx_fixed::{Gain, UNIT, round_clip};
+use fx_frame::frozen::thawed_line_and_hand;
 use fx_frame::inner::frame_of;
-use fx_frame::{Frame, Line, Stage, WideFrame};
+use fx_frame::{Frame, Line, Stage, ThawFault, WideFrame};
 use std::alloc::{AllocError, Global};
 use std::marker::Model;
 
@@ -153,6 +154,16 @@ fn centre_of(count: usize) -> usize
     (count - 1) / 2
 }
 
+/// How many of the frames taken are not made yet: none after the end.
+fn due_late(ended: u64, taken: u64, centre: u64) -> u64
+    ensures { result ≡ cond (nat_eq ended 0) (min taken centre) 0 }
+{
+    if ended != 0 {
+        return 0;
+    }
+    taken.min(centre)
+}
+
 /// The coefficients in trillionths, the last one first.
 fn reversed(alloc: Global, coefficients: &[Gain]) -> Result<Vec<i64>, AllocError>
     ensures items { IfOk result (λ v. v.items ≡ reverse coefficients.now) }
@@ -187,6 +198,61 @@ impl Fir {
             given: 0,
             clips: 0,
             ended: false,
+        })
+    }
+}
+
+impl Fir {
+    /// The stage that stored these frames and counted these numbers, with the arguments of `new`. BadSnapshot where there is
+    /// none, Memory where a growth was refused.
+    pub fn thaw(
+        alloc: Global,
+        channels: usize,
+        coefficients: &[Gain],
+        frames: &[WideFrame],
+        numbers: &[u64; 8],
+    ) -> Result<Fir, ThawFault>
+        requires channels { (1 ≤ channels) × (channels ≤ 16) }
+        requires coefficients { (1 ≤ length coefficients.now) × (length coefficients.now ≤ 1024) }
+        ensures recipe { IfOk result (λ t. fir_acts.recipe t ≡ record { channels = channels; coefficients = coefficients.now }) }
+        ensures frozen { IfOk result (λ t. Freezes fir_acts t frames.now numbers.now) }
+        ensures named { (result ≡ Err ThawFault.WrongPlan) → ⊥ }
+        ensures thawed { (s : FirState) → IsFir s → fir_acts.recipe s ≡ record { channels = channels; coefficients = coefficients.now } → Freezes fir_acts s frames.now numbers.now → MatchResult result (λ t. t ≡ s) (λ e. e ≡ ThawFault.Memory) }
+    {
+        let [taken, given, ended, clips, held, tail, hands, hand_clips] = *numbers;
+        let centre = centre_of(coefficients.len()) as u64;
+        let capacity = coefficients.len() - 1;
+        if ended > 1 || taken > 1 << 56 || held != frames.len() as u64 {
+            return Err(ThawFault::BadSnapshot);
+        }
+        if hands > held || held - hands != taken.min(capacity as u64) || hand_clips > 16 {
+            return Err(ThawFault::BadSnapshot);
+        }
+        let made = taken - due_late(ended, taken, centre);
+        if given > made || hands > made - given || tail != made - given - hands {
+            return Err(ThawFault::BadSnapshot);
+        }
+        if clips > 16 * given || tail > centre || tail > held - hands || (ended == 0 && tail != 0) {
+            return Err(ThawFault::BadSnapshot);
+        }
+        let (line, hand) = match thawed_line_and_hand(alloc, channels, capacity, frames, hands) {
+            Ok(stored) => stored,
+            Err(fault) => return Err(fault),
+        };
+        let Ok(backwards) = reversed(alloc, coefficients) else {
+            return Err(ThawFault::Memory);
+        };
+        Ok(Fir {
+            hand,
+            hand_clips,
+            channels,
+            backwards,
+            line,
+            tail: tail as usize,
+            taken,
+            given,
+            clips,
+            ended: ended == 1,
         })
     }
 }
