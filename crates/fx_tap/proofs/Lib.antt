@@ -1,5 +1,7 @@
 pub mod DelayLaws
 pub mod EchoLaws
+pub mod EchosRow
+pub mod EchosSums
 pub mod FirLaws
 pub mod ProductBounds
 pub mod ProductLanes

@@ -1,6 +1,7 @@
 pub mod DcShift
 pub mod Delay
 pub mod Echo
+pub mod Echos
 pub mod Fir
 pub mod Lanes
 pub mod Lists

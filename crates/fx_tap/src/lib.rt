@@ -8,6 +8,7 @@ mod dot_tests;
 pub mod echo;
 #[cfg(test)]
 mod echo_tests;
+pub mod echos;
 pub mod fir;
 #[cfg(test)]
 mod fir_tests;
@@ -24,6 +25,7 @@ pub mod vol;
 pub use dcshift::DcShift;
 pub use delay::Delay;
 pub use echo::Echo;
+pub use echos::Echos;
 pub use fir::Fir;
 pub use products::dot;
 pub use vol::Vol;
