@@ -1,8 +1,15 @@
 pub mod DelayLaws
 pub mod EchoLaws
 pub mod MixLaws
+pub mod EchosRow
+pub mod EchosSums
+pub mod FirLaws
+pub mod ProductBounds
+pub mod ProductLanes
 pub mod Rounds
 pub mod Shifting
+pub mod SignedProducts
 pub mod SumLaws
 pub mod Tabulate
 pub mod TapLaws
+pub mod WindowSums

@@ -79,20 +79,20 @@ zero-echo s g x e =
     omega (arith, ints)
 
 -- a sum times a gain in 128 bits
-pub scaled-sum : (g s f : ℤ) → f ≡ g → unsigned_abs g ≤ 1000 * UNIT → unsigned_abs s ≤ 8 * (UNIT * 2 ^ 31)
+pub scaled-sum : (g s f : ℤ) → f ≡ g → unsigned_abs g ≤ 1000 * UNIT → unsigned_abs s ≤ 29 * (UNIT * 2 ^ 31)
     → to_z w128 (of_z w128 (to_z w128 (of_z w128 f) *ℤ to_z w128 (of_z w128 s))) ≡ g *ℤ s
 scaled-sum g s f e small few =
     let most = scaled-few g s _ _ small few in
     rw (e, held s (omega arith), held g (omega arith), held (g *ℤ s) (omega (arith, most))) refl
 
 -- it is one that `round_clip` takes
-pub scaled-low : (g s : ℤ) → unsigned_abs g ≤ 1000 * UNIT → unsigned_abs s ≤ 8 * (UNIT * 2 ^ 31) → neg_ℤ (pos (2 ^ 126 - 2 ^ 90)) ≤ℤ (g *ℤ s)
+pub scaled-low : (g s : ℤ) → unsigned_abs g ≤ 1000 * UNIT → unsigned_abs s ≤ 29 * (UNIT * 2 ^ 31) → neg_ℤ (pos (2 ^ 126 - 2 ^ 90)) ≤ℤ (g *ℤ s)
 scaled-low g s small few =
     let z : ℤ = g *ℤ s in
     let most = scaled-few g s _ _ small few in
     low_of z (omega (arith, most))
 
-pub scaled-high : (g s : ℤ) → unsigned_abs g ≤ 1000 * UNIT → unsigned_abs s ≤ 8 * (UNIT * 2 ^ 31) → (g *ℤ s) ≤ℤ pos (2 ^ 126 - 2 ^ 90)
+pub scaled-high : (g s : ℤ) → unsigned_abs g ≤ 1000 * UNIT → unsigned_abs s ≤ 29 * (UNIT * 2 ^ 31) → (g *ℤ s) ≤ℤ pos (2 ^ 126 - 2 ^ 90)
 scaled-high g s small few =
     let z : ℤ = g *ℤ s in
     let most = scaled-few g s _ _ small few in

@@ -1,12 +1,16 @@
 pub mod DcShift
 pub mod Delay
 pub mod Echo
+pub mod Echos
+pub mod Fir
+pub mod Lanes
 pub mod Lists
 pub mod Mapped
 pub mod Mix
 pub mod Near
 pub mod PerSample
 pub mod Remix
+pub mod Products
 pub mod Rounded
 pub mod Tapped
 pub mod Vol

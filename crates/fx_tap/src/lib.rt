@@ -3,15 +3,22 @@
 
 pub mod dcshift;
 pub mod delay;
+#[cfg(test)]
+mod dot_tests;
 pub mod echo;
 #[cfg(test)]
 mod echo_tests;
+pub mod echos;
+pub mod fir;
+#[cfg(test)]
+mod fir_tests;
 pub mod inner;
 pub mod mapped;
 pub mod per_sample;
 pub mod remix;
 #[cfg(test)]
 mod remix_tests;
+pub mod products;
 mod sums;
 pub mod tapped;
 #[cfg(test)]
@@ -25,5 +32,8 @@ pub use dcshift::DcShift;
 pub use delay::Delay;
 pub use echo::Echo;
 pub use remix::Remix;
+pub use echos::Echos;
+pub use fir::Fir;
+pub use products::dot;
 pub use vol::Vol;
 pub use weight::{OutSpec, Weight};

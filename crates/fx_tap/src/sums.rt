@@ -34,7 +34,7 @@ const UNIT_SQUARED: i128 = 1_000_000_000_000_000_000_000_000;
 #[inline(always)]
 pub(crate) fn rounded_sums(sums: &Sums, channels: usize, gain: Gain) -> (Frame, u64)
     requires channels { (1 ≤ channels) × (channels ≤ 16) }
-    requires small { (k : ℕ) → unsigned_abs (slice_index_or sums.now k (pos 0)) ≤ 8 * (UNIT * 2 ^ 31) }
+    requires small { (k : ℕ) → unsigned_abs (slice_index_or sums.now k (pos 0)) ≤ 29 * (UNIT * 2 ^ 31) }
     ensures frame { result.0 ≡ (given_of (tabulate (λ k. rounding (gain *ℤ slice_index_or sums.now k (pos 0)) (UNIT * UNIT)) 0 channels)).samples }
     ensures clips { result.1 ≡ (given_of (tabulate (λ k. rounding (gain *ℤ slice_index_or sums.now k (pos 0)) (UNIT * UNIT)) 0 channels)).clips }
     ensures few { result.1 ≤ 16 }

@@ -13,7 +13,7 @@ loop-channel-preserved c =
     let f : ℕ → ℤ × Bool = λ k. rounding (c.args.gain *ℤ slice_index_or c.args.sums.now k (pos 0)) (UNIT * UNIT) in
     let gain : c.from-factor.result ≡ c.args.gain = c.from-factor.ensures ∙ search rules ∙ c.trillionths.ensures.value in
     let small : unsigned_abs c.args.gain ≤ 1000 * UNIT = rw c.trillionths.ensures.value at c.trillionths.ensures.bound in
-    let few : unsigned_abs s ≤ 8 * (UNIT * 2 ^ 31) = c.requires.small i in
+    let few : unsigned_abs s ≤ 29 * (UNIT * 2 ^ 31) = c.requires.small i in
     let out : to_z w32 (of_z w32 c.round_clip-sample.result.0) ≡ c.round_clip-sample.result.0 = search rules in
     let v : c.round_clip-sample.result ≡ f i =
     c.round_clip-sample.ensures ∙ ap (λ z. rounding z (UNIT * UNIT)) (scaled-sum c.args.gain s c.from-factor.result gain small few) in
@@ -30,7 +30,7 @@ round_clip-sample-requires-clause-low c =
     let s : ℤ = slice_index_or c.args.sums.now c.loop-channel.channel (pos 0) in
     let gain : c.from-factor.result ≡ c.args.gain = c.from-factor.ensures ∙ search rules ∙ c.trillionths.ensures.value in
     let small : unsigned_abs c.args.gain ≤ 1000 * UNIT = rw c.trillionths.ensures.value at c.trillionths.ensures.bound in
-    let few : unsigned_abs s ≤ 8 * (UNIT * 2 ^ 31) = c.requires.small c.loop-channel.channel in
+    let few : unsigned_abs s ≤ 29 * (UNIT * 2 ^ 31) = c.requires.small c.loop-channel.channel in
     rw (scaled-sum c.args.gain s c.from-factor.result gain small few) (scaled-low c.args.gain s small few)
 
 pub round_clip-sample-requires-clause-high : goal.round_clip-sample-requires-clause-high
@@ -38,5 +38,5 @@ round_clip-sample-requires-clause-high c =
     let s : ℤ = slice_index_or c.args.sums.now c.loop-channel.channel (pos 0) in
     let gain : c.from-factor.result ≡ c.args.gain = c.from-factor.ensures ∙ search rules ∙ c.trillionths.ensures.value in
     let small : unsigned_abs c.args.gain ≤ 1000 * UNIT = rw c.trillionths.ensures.value at c.trillionths.ensures.bound in
-    let few : unsigned_abs s ≤ 8 * (UNIT * 2 ^ 31) = c.requires.small c.loop-channel.channel in
+    let few : unsigned_abs s ≤ 29 * (UNIT * 2 ^ 31) = c.requires.small c.loop-channel.channel in
     rw (scaled-sum c.args.gain s c.from-factor.result gain small few) (scaled-high c.args.gain s small few)
