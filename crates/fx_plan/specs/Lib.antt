@@ -1,0 +1,11 @@
+pub mod DcShift
+pub mod Delay
+pub mod Echo
+pub mod Factor
+pub mod Fade
+pub mod Faults
+pub mod Fir
+pub mod Numbers
+pub mod Pad
+pub mod Trim
+pub mod Vol

@@ -1,0 +1,1 @@
+//! What the crates above need beyond the public calls.

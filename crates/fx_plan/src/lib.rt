@@ -1,0 +1,9 @@
+//! Plans: the words of effects, read into effects with resolved arguments, or refused by the first fault.
+#![tactic(auto)]
+
+pub mod fault;
+pub mod inner;
+mod numbers;
+pub mod words;
+
+pub use fault::{PlanCause, PlanFault};
