@@ -5,7 +5,9 @@ pub mod Factor
 pub mod Fade
 pub mod Faults
 pub mod Fir
+pub mod Groups
 pub mod InSpecs
+pub mod Names
 pub mod Numbers
 pub mod Pad
 pub mod Remix

@@ -2,7 +2,9 @@
 #![tactic(auto)]
 
 pub mod fault;
+mod groups;
 pub mod inner;
+pub mod name;
 mod numbers;
 pub mod words;
 
