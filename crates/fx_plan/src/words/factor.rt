@@ -1,6 +1,6 @@
 //! The word of `upsample` and of `downsample`: a factor.
 
-ghost use Rattle.std.specs.Prelude.{◌≡◌, ◌<◌, ◌≤◌, ◌↔◌, IfOk, IfSome, IsSome, IsTrue, min};
+ghost use Rattle.std.specs.Prelude.{◌≡◌, ◌<◌, ◌≤◌, ◌*◌, ◌^◌, ◌↔◌, IfOk, IfSome, IsSome, IsTrue, min};
 ghost use Rattle.std.specs.Str.Parse.{digits_value};
 ghost use Rattle.fx_fixed.specs.Decimals.{is_numeral};
 ghost use Rattle.fx_plan.specs.Faults.{Reads, texts};
@@ -71,7 +71,7 @@ fn read_factor_word(words: &[String]) -> Result<(u32, usize), Refusal>
 /// The factor of an `upsample` with these words after its name.
 pub fn read_upsample(rate: u32, words: &[String]) -> Result<u32, Refusal>
     ensures read { Reads (λ factor. factor) result (upsample_faults rate (texts words.now)) (usable (factor_of (texts words.now))) }
-    ensures range { IfOk result (λ factor. (1 ≤ factor) × (factor ≤ 256)) }
+    ensures range { IfOk result (λ factor. (1 ≤ factor) × (factor ≤ 256) × (rate * factor < 2 ^ 32)) }
 {
     let (factor, number) = read_factor_word(words)?;
     if u64::from(rate) * u64::from(factor) > u64::from(u32::MAX) {
@@ -82,8 +82,9 @@ pub fn read_upsample(rate: u32, words: &[String]) -> Result<u32, Refusal>
 
 /// The factor of a `downsample` with these words after its name.
 pub fn read_downsample(rate: u32, words: &[String]) -> Result<u32, Refusal>
+    requires { 0 < rate }
     ensures read { Reads (λ factor. factor) result (downsample_faults rate (texts words.now)) (usable (factor_of (texts words.now))) }
-    ensures range { IfOk result (λ factor. (1 ≤ factor) × (factor ≤ 256)) }
+    ensures range { IfOk result (λ factor. (1 ≤ factor) × (factor ≤ 256) × (factor ≤ rate)) }
 {
     let (factor, number) = read_factor_word(words)?;
     if rate % factor != 0 {

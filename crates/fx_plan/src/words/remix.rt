@@ -166,7 +166,8 @@ fn read_specs(
     requires most { channels ≤ 16 }
     requires first { first < 10 }
     requires few { length words.now < 17 }
-    ensures { Reads specs_value result (spec_faults channels first (texts words.now)) (out_specs channels mixing (texts words.now)) }
+    ensures read { Reads specs_value result (spec_faults channels first (texts words.now)) (out_specs channels mixing (texts words.now)) }
+    ensures count { IfOk result (λ specs. length specs.items ≡ length words.now) }
 {
     let mut specs = Vec::new(alloc);
     let mut rest = words;
@@ -211,7 +212,8 @@ fn read_behind(
     requires some { 1 ≤ channels }
     requires most { channels ≤ 16 }
     requires before { before ≤ 1 }
-    ensures { Reads specs_value result (faults_behind channels before mixing (texts words.now)) (out_specs channels mixing (texts words.now)) }
+    ensures read { Reads specs_value result (faults_behind channels before mixing (texts words.now)) (out_specs channels mixing (texts words.now)) }
+    ensures count { IfOk result (λ specs. (1 ≤ length specs.items) × (length specs.items ≤ 16)) }
 {
     if words.is_empty() {
         return Err(marked(PlanCause::WrongCount, 1));
@@ -230,7 +232,8 @@ fn read_behind(
 pub fn read_remix(alloc: Global, channels: u32, words: &[String]) -> Result<Vec<OutSpec>, Refusal>
     requires some { 1 ≤ channels }
     requires most { channels ≤ 16 }
-    ensures { Reads specs_value result (remix_faults channels (texts words.now)) (remixed channels (texts words.now)) }
+    ensures read { Reads specs_value result (remix_faults channels (texts words.now)) (remixed channels (texts words.now)) }
+    ensures count { IfOk result (λ specs. (1 ≤ length specs.items) × (length specs.items ≤ 16)) }
 {
     let mixing = read_option(words);
     if mixing == Mixing::Usual {

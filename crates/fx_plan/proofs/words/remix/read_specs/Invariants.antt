@@ -10,5 +10,6 @@ abbrev pub invariant-loop-word : goal.invariant-loop-word
 invariant-loop-word l = record {
   faults : spec_faults l.channels l.number (texts l.rest) ≡ spec_faults l.channels l.first (texts l.words);
   values : specs_value l.specs ++ out_specs l.channels l.mixing (texts l.rest) ≡ out_specs l.channels l.mixing (texts l.words);
+  kept : length l.specs.items + length l.rest ≡ length l.words;
   counted : l.number + length l.rest ≡ l.first + length l.words;
 }
