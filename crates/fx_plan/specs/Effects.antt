@@ -135,3 +135,18 @@ Fits layout (OfFir gains) = ⊤
 Fits layout (OfRemix specs) = (1 ≤ length specs) × (length specs ≤ 16)
 Fits layout (OfUpsample factor) = (1 ≤ factor) × (factor ≤ 256) × (layout.rate * factor < 2 ^ 32)
 Fits layout (OfDownsample factor) = (1 ≤ factor) × (factor ≤ 256) × (factor ≤ layout.rate)
+
+-- an effect whose arguments are within the limits
+abbrev pub Usable : Act → Type 0
+Usable (OfTrim ps) = ⊤
+Usable (OfPad pads) = ⊤
+Usable (OfDelay ds) = ⊤
+Usable (OfEcho e) = ⊤
+Usable (OfEchos e) = ⊤
+Usable (OfFade fade) = ⊤
+Usable (OfVol gain) = ⊤
+Usable (OfDcShift shift) = ⊤
+Usable (OfFir gains) = ⊤
+Usable (OfRemix specs) = (1 ≤ length specs) × (length specs ≤ 16)
+Usable (OfUpsample factor) = (1 ≤ factor) × (factor ≤ 256)
+Usable (OfDownsample factor) = (1 ≤ factor) × (factor ≤ 256)

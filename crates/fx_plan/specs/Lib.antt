@@ -1,3 +1,4 @@
+pub mod Bounds
 pub mod DcShift
 pub mod Delay
 pub mod Echo
@@ -11,6 +12,7 @@ pub mod InSpecs
 pub mod Names
 pub mod Numbers
 pub mod Pad
+pub mod Plans
 pub mod Remix
 pub mod Trim
 pub mod Vol

@@ -2,7 +2,7 @@
 
 ghost use Rattle.std.specs.Prelude.{◌≡◌, IfOk, Some, ◌∷◌, string_bytes};
 ghost use Rattle.fx_plan.specs.Faults.{Reads, texts};
-ghost use Rattle.fx_plan.specs.Effects.{Fits, IsLayout, act, effect_act, effect_faults, layout_after, named_act, named_faults};
+ghost use Rattle.fx_plan.specs.Effects.{Fits, IsLayout, Usable, act, effect_act, effect_faults, layout_after, named_act, named_faults};
 
 use crate::fault::{PlanCause, Refusal, marked};
 use crate::name::{Name, read_name};
@@ -92,6 +92,8 @@ fn read_named(
     requires { IsLayout layout }
     ensures read { Reads (λ effect. Some (act effect)) result (named_faults name layout file.now (texts words.now)) (named_act name layout file.now (texts words.now)) }
     ensures fits { IfOk result (λ effect. Fits layout (act effect)) }
+    ensures usable { IfOk result (λ effect. Usable (act effect)) }
+    ensures after { IfOk result (λ effect. IsLayout (layout_after layout (Some (act effect)))) }
 {
     let rate = layout.rate;
     match name {
@@ -124,6 +126,8 @@ pub fn read_effect(
     requires { IsLayout layout }
     ensures read { Reads (λ effect. Some (act effect)) result (effect_faults layout file.now (string_bytes name.now ∷ texts words.now)) (effect_act layout file.now (string_bytes name.now ∷ texts words.now)) }
     ensures fits { IfOk result (λ effect. Fits layout (act effect)) }
+    ensures usable { IfOk result (λ effect. Usable (act effect)) }
+    ensures after { IfOk result (λ effect. IsLayout (layout_after layout (Some (act effect)))) }
 {
     read_named(alloc, layout, file, read_name(name), words)
 }
