@@ -4,7 +4,6 @@ use Rattle.std.specs.Int.{div_ceil}
 use Rattle.std.specs.List.{list_any}
 use Rattle.fx_fixed.specs.declared.positions.At.{At}
 use Rattle.fx_fixed.specs.declared.positions.At.TheVariants.{Start, End}
-use Rattle.fx_plan.specs.declared.words.fade.Fading.{Fading}
 use Rattle.fx_plan.specs.Pad.{Length}
 use Rattle.fx_plan.specs.Echo.{Tap}
 use Rattle.fx_plan.specs.Effects.{Act, OfTrim, OfPad, OfDelay, OfEcho, OfEchos, OfFade, OfVol, OfDcShift, OfFir, OfRemix, OfUpsample, OfDownsample}

@@ -1,5 +1,5 @@
 -- An effect with its resolved arguments: what its words give, and the layout behind it.
-use Rattle.std.specs.Prelude.{ℕ, ◌*◌, ◌/◌, ◌^◌, ◌<◌, ◌≤◌, Bool, List, [], ◌∷◌, length, ℤ, ⊤, Option, Some, None}
+use Rattle.std.specs.Prelude.{ℕ, ◌*◌, ◌/◌, ◌^◌, ◌<◌, ◌≤◌, ◌≡◌, nat_le, ◌&&◌, Bool, true, List, [], ◌∷◌, length, ℤ, ⊤, Option, Some, None}
 use Rattle.fx_fixed.specs.declared.positions.At.{At}
 use Rattle.fx_plan.specs.declared.effect.Layout.{Layout}
 use Rattle.fx_plan.specs.declared.effect.Effect.{Effect}
@@ -136,17 +136,20 @@ Fits layout (OfRemix specs) = (1 ≤ length specs) × (length specs ≤ 16)
 Fits layout (OfUpsample factor) = (1 ≤ factor) × (factor ≤ 256) × (layout.rate * factor < 2 ^ 32)
 Fits layout (OfDownsample factor) = (1 ≤ factor) × (factor ≤ 256) × (factor ≤ layout.rate)
 
--- an effect whose arguments are within the limits
+-- the arguments of an effect are within the limits
+abbrev pub is_usable : Act → Bool
+is_usable (OfTrim ps) = true
+is_usable (OfPad pads) = true
+is_usable (OfDelay ds) = true
+is_usable (OfEcho e) = true
+is_usable (OfEchos e) = true
+is_usable (OfFade fade) = true
+is_usable (OfVol gain) = true
+is_usable (OfDcShift shift) = true
+is_usable (OfFir gains) = true
+is_usable (OfRemix specs) = nat_le 1 (length specs) && nat_le (length specs) 16
+is_usable (OfUpsample factor) = nat_le 1 factor && nat_le factor 256
+is_usable (OfDownsample factor) = nat_le 1 factor && nat_le factor 256
+
 abbrev pub Usable : Act → Type 0
-Usable (OfTrim ps) = ⊤
-Usable (OfPad pads) = ⊤
-Usable (OfDelay ds) = ⊤
-Usable (OfEcho e) = ⊤
-Usable (OfEchos e) = ⊤
-Usable (OfFade fade) = ⊤
-Usable (OfVol gain) = ⊤
-Usable (OfDcShift shift) = ⊤
-Usable (OfFir gains) = ⊤
-Usable (OfRemix specs) = (1 ≤ length specs) × (length specs ≤ 16)
-Usable (OfUpsample factor) = (1 ≤ factor) × (factor ≤ 256)
-Usable (OfDownsample factor) = (1 ≤ factor) × (factor ≤ 256)
+Usable act = is_usable act ≡ true

@@ -12,6 +12,7 @@ pub mod InSpecs
 pub mod Names
 pub mod Numbers
 pub mod Pad
+pub mod Planning
 pub mod Plans
 pub mod Remix
 pub mod Trim

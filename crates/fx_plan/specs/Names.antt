@@ -1,5 +1,5 @@
 -- The names of effects: the twelve of this project's profile, and those of sox(1), EFFECTS, that are left out.
-use Rattle.std.specs.Prelude.{ℕ, Bool, true, false, not, if◌then◌else◌, List, [], ◌∷◌, codes}
+use Rattle.std.specs.Prelude.{Bool, true, false, not, if◌then◌else◌, List, [], ◌∷◌, codes}
 use Rattle.std.specs.Str.{bytes_eq}
 use Rattle.std.specs.List.{list_any}
 use Rattle.fx_plan.specs.declared.name.Name.{Name}

@@ -1,14 +1,17 @@
 //! Plans: the words of effects, read into effects with resolved arguments, or refused by the first fault.
 #![tactic(auto)]
 
+mod answers;
 mod bounds;
-pub mod effect;
-pub mod fault;
+mod effect;
+mod fault;
 mod groups;
 pub mod inner;
-pub mod name;
+mod name;
 mod numbers;
-pub mod planned;
-pub mod words;
+mod plan;
+mod planned;
+mod words;
 
 pub use fault::{PlanCause, PlanFault};
+pub use plan::Plan;

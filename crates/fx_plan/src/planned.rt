@@ -1,7 +1,9 @@
 //! Effects one after the other, each behind the layout that those before it leave.
 
-ghost use Rattle.std.specs.Prelude.{◌≡◌, ◌<◌, ◌≤◌, ◌∷◌, IfOk, Some, length, map, string_bytes};
+ghost use Rattle.std.specs.Prelude.{◌≡◌, ◌≤◌, ◌^◌, ◌∷◌, IfOk, Some, false, length, map, string_bytes};
 ghost use Rattle.std.specs.List.{All};
+ghost use Rattle.fx_plan.specs.Bounds;
+ghost use Rattle.fx_plan.specs.Bounds.{hold_all};
 ghost use Rattle.fx_plan.specs.Effects.{Fits, IsLayout, Usable, act, effect_act, layout_after};
 ghost use Rattle.fx_plan.specs.Faults.{texts};
 ghost use Rattle.fx_plan.specs.Groups.{effects_of};
@@ -168,6 +170,8 @@ pub fn read_plan(
     ensures usable { IfOk result (λ p. All Usable (map act p.effects.items)) }
     ensures layout { IfOk result (λ p. IsLayout p.layout) }
     ensures few { IfOk result (λ p. length p.effects.items ≤ 32) }
+    ensures held { IfOk result (λ p. hold_all (map act p.effects.items) ≤ 2 ^ 28) }
+    ensures short { IfOk result (λ p. Bounds.is_too_long (map act p.effects.items) ≡ false) }
 {
     let planned = match read_effects(alloc, layout, words, files) {
         Ok(planned) => planned,

@@ -1,4 +1,4 @@
-use Rattle.std.proofs.Common.{◌≡◌, ◌∷◌, take, drop, string_bytes, sym, ap, ◌∙◌}
+use Rattle.std.proofs.Common.{◌∷◌, drop, string_bytes, sym, ap, ◌∙◌}
 use Rattle.std.proofs.lemmas.List.{take-map, drop-map}
 use Rattle.fx_plan.specs.Faults.{texts}
 use Rattle.fx_plan.specs.Groups.{effects_of}

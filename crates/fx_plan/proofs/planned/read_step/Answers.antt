@@ -1,4 +1,4 @@
-use Rattle.std.proofs.Common.{◌∷◌, string_bytes, sym, arith}
+use Rattle.std.proofs.Common.{◌∷◌, string_bytes, arith}
 use Rattle.fx_plan.specs.Faults.{texts}
 use Rattle.fx_plan.proofs.Refusing.{refuses_step}
 use Rattle.fx_plan.proofs.planned.read_step.Goals as goal
