@@ -1,0 +1,14 @@
+use Rattle.std.proofs.Common.{◌≡◌, ◌+◌, ◌++◌, length}
+use Rattle.fx_plan.specs.Faults.{texts}
+use Rattle.fx_plan.specs.Fir.{gains_of, each_faults}
+use Rattle.fx_plan.proofs.words.fir.read_each.Given as goal
+
+abbrev pub decreases-loop-word : goal.decreases-loop-word
+decreases-loop-word l = length l.rest
+
+abbrev pub invariant-loop-word : goal.invariant-loop-word
+invariant-loop-word l = record {
+  faults : each_faults l.number (texts l.rest) ≡ each_faults 2 (texts l.words);
+  values : l.gains.items ++ gains_of (texts l.rest) ≡ gains_of (texts l.words);
+  counted : l.number + length l.rest ≡ 2 + length l.words;
+}

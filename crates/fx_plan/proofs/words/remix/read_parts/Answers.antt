@@ -1,0 +1,26 @@
+use Rattle.std.proofs.Common.{◌≡◌, ◌++◌, sym, ap, ◌∙◌, arith, rules, append_assoc}
+use Rattle.std.specs.List.{slice_split}
+use Rattle.std.proofs.lemmas.Grind.{common_steps}
+use Rattle.fx_plan.specs.InSpecs.{channels_from}
+use Rattle.fx_plan.specs.Remix.{contributions, is_comma, part_faults}
+use Rattle.fx_plan.proofs.Parts.{part_faults-step, contributions-step}
+use Rattle.fx_plan.proofs.words.remix.read_parts.Goals as goal
+
+pub loop-part-preserved : goal.loop-part-preserved
+loop-part-preserved c =
+    let part = c.in-Some.part.now in
+    let parts = slice_split is_comma c.in-Some.rest.now in
+    let found = c.in-Ok.found in
+    let channels = c.args.channels in
+    let cut = c.in-Some.ensures.parts in
+    let read = c.in-Ok.ensures.value in
+    let added : c.add_channels.new.sum.items ≡ c.loop-part.sum.items ++ channels_from found = grind (arith, common_steps) in
+    record {
+      faults = sym (part_faults-step channels c.args.number part parts found read) ∙ ap (part_faults channels c.args.number) (sym cut) ∙ c.loop-part.invariant.faults;
+      values =
+          ap (λ xs. xs ++ contributions channels parts) added
+          ∙ append_assoc c.loop-part.sum.items (channels_from found) (contributions channels parts)
+          ∙ ap (λ xs. c.loop-part.sum.items ++ xs) (sym (contributions-step channels part parts found read) ∙ ap (contributions channels) (sym cut))
+          ∙ c.loop-part.invariant.values;
+      utf8 = search rules;
+    }

@@ -1,0 +1,15 @@
+use Rattle.std.proofs.Common.{◌≡◌, ◌+◌, ◌++◌, length}
+use Rattle.fx_plan.specs.Faults.{texts}
+use Rattle.fx_plan.specs.Remix.{out_specs, spec_faults, specs_value}
+use Rattle.fx_plan.proofs.words.remix.read_specs.Given as goal
+
+abbrev pub decreases-loop-word : goal.decreases-loop-word
+decreases-loop-word l = length l.rest
+
+abbrev pub invariant-loop-word : goal.invariant-loop-word
+invariant-loop-word l = record {
+  faults : spec_faults l.channels l.number (texts l.rest) ≡ spec_faults l.channels l.first (texts l.words);
+  values : specs_value l.specs ++ out_specs l.channels l.mixing (texts l.rest) ≡ out_specs l.channels l.mixing (texts l.words);
+  kept : length l.specs.items + length l.rest ≡ length l.words;
+  counted : l.number + length l.rest ≡ l.first + length l.words;
+}

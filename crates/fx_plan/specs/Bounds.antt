@@ -1,0 +1,87 @@
+-- How many frames an effect holds, and how many frames can come out of it (this project's profile).
+use Rattle.std.specs.Prelude.{ℕ, ◌+◌, ◌-◌, ◌*◌, ◌^◌, nat_lt, nat_eq, max, if◌then◌else◌, Bool, List, [], ◌∷◌, length, map, sum, sum_by, Option, Some, None}
+use Rattle.std.specs.Int.{div_ceil}
+use Rattle.std.specs.List.{list_any}
+use Rattle.fx_fixed.specs.declared.positions.At.{At}
+use Rattle.fx_fixed.specs.declared.positions.At.TheVariants.{Start, End}
+use Rattle.fx_plan.specs.Pad.{Length}
+use Rattle.fx_plan.specs.Echo.{Tap}
+use Rattle.fx_plan.specs.Effects.{Act, OfTrim, OfPad, OfDelay, OfEcho, OfEchos, OfFade, OfVol, OfDcShift, OfFir, OfRemix, OfUpsample, OfDownsample}
+
+abbrev pub greatest : List ℕ → ℕ
+greatest [] = 0
+greatest (n ∷ ns) = max n (greatest ns)
+
+-- how far a position is from the end, where it is counted from there
+abbrev pub end_distance : At → ℕ
+end_distance (Start frames) = 0
+end_distance (End frames) = frames
+
+abbrev pub pad_distance : Length → ℕ
+pad_distance pad = end_distance pad.1
+
+abbrev pub pad_length : Length → ℕ
+pad_length pad = pad.0
+
+abbrev pub tap_delay : Tap → ℕ
+tap_delay tap = tap.0
+
+-- a fade out before the end waits for the end; one before a place from the start does not; a stop of 0 is the end
+abbrev pub stop_line : Option At → ℕ → ℕ
+stop_line None fade_out = 0
+stop_line (Some (Start frames)) fade_out = if nat_eq frames 0 then fade_out else 0
+stop_line (Some (End frames)) fade_out = frames + fade_out
+
+-- the frames that the line of an effect holds
+abbrev pub line_of : Act → ℕ
+line_of (OfTrim ps) = greatest (map end_distance ps)
+line_of (OfPad pads) = greatest (map pad_distance pads)
+line_of (OfDelay ds) = greatest ds
+line_of (OfEcho e) = greatest (map tap_delay e.taps)
+line_of (OfEchos e) = sum_by tap_delay e.taps
+line_of (OfFade fade) = stop_line fade.stop fade.fade_out
+line_of (OfVol gain) = 0
+line_of (OfDcShift shift) = 0
+line_of (OfFir gains) = length gains - 1
+line_of (OfRemix specs) = 0
+line_of (OfUpsample factor) = 0
+line_of (OfDownsample factor) = 0
+
+-- beside its line an effect has one frame in hand, and the chain one before the first effect
+abbrev pub hold_of : Act → ℕ
+hold_of act = line_of act + 1
+
+abbrev pub hold_all : List Act → ℕ
+hold_all acts = 1 + sum_by hold_of acts
+
+-- the most frames that an effect makes of n
+abbrev pub most_of : Act → ℕ → ℕ
+most_of (OfTrim ps) n = n
+most_of (OfPad pads) n = n + sum_by pad_length pads
+most_of (OfDelay ds) n = n + greatest ds
+most_of (OfEcho e) n = n + greatest (map tap_delay e.taps)
+most_of (OfEchos e) n = n + sum_by tap_delay e.taps
+most_of (OfFade fade) n = n
+most_of (OfVol gain) n = n
+most_of (OfDcShift shift) n = n
+most_of (OfFir gains) n = n
+most_of (OfRemix specs) n = n
+most_of (OfUpsample factor) n = n * factor
+most_of (OfDownsample factor) n = div_ceil n factor
+
+-- n, and the most frames behind each effect in turn
+abbrev pub mosts : List Act → ℕ → List ℕ
+mosts [] n = n ∷ []
+mosts (act ∷ acts) n = n ∷ mosts acts (most_of act n)
+
+-- how many frames the effects hand over for n at the most
+abbrev pub work_of : List Act → ℕ → ℕ
+work_of acts n = sum (mosts acts n)
+
+-- more than 2^56 frames
+abbrev pub is_past : ℕ → Bool
+is_past n = nat_lt (2 ^ 56) n
+
+-- the sound of 2^40 frames could become too long somewhere
+abbrev pub is_too_long : List Act → Bool
+is_too_long acts = list_any is_past (mosts acts (2 ^ 40))

@@ -1,0 +1,71 @@
+-- The names of effects: the twelve of this project's profile, and those of sox(1), EFFECTS, that are left out.
+use Rattle.std.specs.Prelude.{Bool, true, false, not, if◌then◌else◌, List, [], ◌∷◌, codes}
+use Rattle.std.specs.Str.{bytes_eq}
+use Rattle.std.specs.List.{list_any}
+use Rattle.fx_plan.specs.declared.name.Name.{Name}
+use Rattle.fx_plan.specs.declared.name.Name.TheVariants as names
+use Rattle.fx_plan.specs.Faults.{Word}
+
+-- effects that can begin only once all of the sound is there
+abbrev pub whole_sound : List Word
+whole_sound =
+    codes "reverse" ∷ codes "norm" ∷ codes "repeat" ∷ []
+
+-- the other effects of SoX
+abbrev pub left_out : List Word
+left_out =
+    codes "allpass" ∷ codes "band" ∷ codes "bandpass" ∷ codes "bandreject" ∷ codes "bass" ∷ codes "bend" ∷
+    codes "biquad" ∷ codes "channels" ∷ codes "chorus" ∷ codes "compand" ∷ codes "contrast" ∷ codes "deemph" ∷
+    codes "dither" ∷ codes "earwax" ∷ codes "equalizer" ∷ codes "flanger" ∷ codes "gain" ∷ codes "highpass" ∷
+    codes "hilbert" ∷ codes "ladspa" ∷ codes "loudness" ∷ codes "lowpass" ∷ codes "mcompand" ∷
+    codes "noiseprof" ∷ codes "noisered" ∷ codes "oops" ∷ codes "overdrive" ∷ codes "phaser" ∷ codes "pitch" ∷
+    codes "rate" ∷ codes "reverb" ∷ codes "riaa" ∷ codes "silence" ∷ codes "sinc" ∷ codes "spectrogram" ∷
+    codes "speed" ∷ codes "splice" ∷ codes "stat" ∷ codes "stats" ∷ codes "stretch" ∷ codes "swap" ∷
+    codes "synth" ∷ codes "tempo" ∷ codes "treble" ∷ codes "tremolo" ∷ codes "vad" ∷ []
+
+abbrev pub is_one_of : List Word → Word → Bool
+is_one_of names word = list_any (bytes_eq word) names
+
+abbrev pub refused_name : Word → Name
+refused_name word =
+    if is_one_of whole_sound word then names.WholeSound
+    else (if is_one_of left_out word then names.LeftOut
+    else names.Other)
+
+-- what a word is where a name may stand
+abbrev pub name_of : Word → Name
+name_of word =
+    if bytes_eq word (codes "trim") then names.Trim
+    else (if bytes_eq word (codes "pad") then names.Pad
+    else (if bytes_eq word (codes "delay") then names.Delay
+    else (if bytes_eq word (codes "echo") then names.Echo
+    else (if bytes_eq word (codes "echos") then names.Echos
+    else (if bytes_eq word (codes "fade") then names.Fade
+    else (if bytes_eq word (codes "vol") then names.Vol
+    else (if bytes_eq word (codes "dcshift") then names.DcShift
+    else (if bytes_eq word (codes "fir") then names.Fir
+    else (if bytes_eq word (codes "remix") then names.Remix
+    else (if bytes_eq word (codes "upsample") then names.Upsample
+    else (if bytes_eq word (codes "downsample") then names.Downsample
+    else refused_name word)))))))))))
+
+-- a word is the name of an effect, left out or not
+abbrev pub is_other : Name → Bool
+is_other names.Trim = false
+is_other names.Pad = false
+is_other names.Delay = false
+is_other names.Echo = false
+is_other names.Echos = false
+is_other names.Fade = false
+is_other names.Vol = false
+is_other names.DcShift = false
+is_other names.Fir = false
+is_other names.Remix = false
+is_other names.Upsample = false
+is_other names.Downsample = false
+is_other names.WholeSound = false
+is_other names.LeftOut = false
+is_other names.Other = true
+
+abbrev pub is_name : Word → Bool
+is_name word = not (is_other (name_of word))

@@ -1,0 +1,145 @@
+//! How a plan is made, and what it tells.
+
+ghost use Rattle.std.specs.Prelude.{◌≡◌, ◌<◌, ◌≤◌, ◌-◌, ◌^◌, IsTrue, Some, length, map, slice_get};
+ghost use Rattle.fx_sound.specs.Kind.{is_coding_of};
+ghost use Rattle.fx_plan.specs.Bounds.{hold_all, hold_of, work_of};
+ghost use Rattle.fx_plan.specs.Faults.{texts};
+ghost use Rattle.fx_plan.specs.Groups.{effects_of};
+ghost use Rattle.fx_plan.specs.Planning.{coding_for, head_layout, planning, planning_of, width_for};
+ghost use Rattle.fx_plan.specs.Plans.{PlanReads, all_faults, bytes_of};
+
+use crate::bounds::hold;
+use crate::effect::Layout;
+use crate::fault::PlanFault;
+use crate::plan::Plan;
+use crate::planned::read_plan;
+use fx_frame::Coding;
+use fx_sound::{Head, Kind};
+use std::alloc::Global;
+
+/// The coding of so many bytes a sample in a container.
+fn coding_for_width(kind: Kind, width: usize) -> Coding
+    ensures value { result ≡ coding_for kind width }
+    ensures kind { IsTrue (is_coding_of kind result) }
+{
+    match (kind, width) {
+        (Kind::Wav, 1) => Coding::U8,
+        (Kind::Wav, 2) => Coding::S16Le,
+        (Kind::Wav, 3) => Coding::S24Le,
+        (Kind::Wav, _) => Coding::S32Le,
+        (Kind::Au, 1) => Coding::S8,
+        (Kind::Au, 2) => Coding::S16Be,
+        (Kind::Au, 3) => Coding::S24Be,
+        (Kind::Au, _) => Coding::S32Be,
+    }
+}
+
+/// The bytes of a sample of so many bits; those of the input where none are asked for.
+fn output_width(bits: Option<u8>, input: Coding) -> usize
+    ensures { result ≡ width_for bits input }
+{
+    match bits {
+        Some(bits) => usize::from(bits) / 8,
+        None => input.width(),
+    }
+}
+
+/// A layout by its parts.
+fn layout_of(rate: u32, channels: usize) -> Layout
+    ensures value { result ≡ record { rate = rate; channels = channels } }
+    ensures fits { result.rate < 2 ^ 32 }
+{
+    Layout { rate, channels }
+}
+
+/// The plan of the effects that the words after the output are, behind a head; the output is of this kind, with
+/// samples of so many bits, or of the input's width.
+pub fn plan_words(
+    alloc: Global,
+    head: &Head,
+    words: &[String],
+    is_named: bool,
+    kind: Kind,
+    bits: Option<u8>,
+    files: &[Vec<u8>],
+) -> Result<Plan, PlanFault>
+    ensures { PlanReads planning result (all_faults (head_layout head.now) (bytes_of files.now) (effects_of (texts words.now))) (planning_of head.now is_named kind bits (bytes_of files.now) (effects_of (texts words.now))) }
+{
+    let layout = layout_of(head.rate, head.channels);
+    let planned = match read_plan(alloc, layout, words, files) {
+        Ok(planned) => planned,
+        Err(fault) => return Err(fault),
+    };
+    Ok(Plan {
+        head: *head,
+        kind,
+        coding: coding_for_width(kind, output_width(bits, head.coding)),
+        is_named,
+        effects: planned.effects,
+        layout: planned.layout,
+    })
+}
+
+impl Plan {
+    /// The head of the input.
+    pub fn head(&self) -> Head
+        ensures { result ≡ (planning self.now).head }
+    {
+        self.head
+    }
+
+    /// The container of the output.
+    pub fn kind(&self) -> Kind
+        ensures { result ≡ (planning self.now).kind }
+    {
+        self.kind
+    }
+
+    /// How a sample of the output stands in bytes.
+    pub fn coding(&self) -> Coding
+        ensures value { result ≡ (planning self.now).coding }
+        ensures kind { IsTrue (is_coding_of (planning self.now).kind result) }
+    {
+        self.coding
+    }
+
+    /// Whether the output is a file, and not standard output.
+    pub fn is_named(&self) -> bool
+        ensures { result ≡ (planning self.now).is_named }
+    {
+        self.is_named
+    }
+
+    /// Frames of the output in a second.
+    pub fn rate(&self) -> u32
+        ensures value { result ≡ (planning self.now).layout.rate }
+        ensures least { 0 < result }
+    {
+        self.layout.rate
+    }
+
+    /// Samples in a frame of the output, 1 to 16.
+    pub fn channels(&self) -> usize
+        ensures value { result ≡ (planning self.now).layout.channels }
+        ensures least { 0 < result }
+        ensures most { result ≤ 16 }
+    {
+        self.layout.channels
+    }
+
+    /// How many effects there are, at most 32.
+    pub fn effect_count(&self) -> usize
+        ensures value { result ≡ length (planning self.now).acts }
+        ensures most { result ≤ 32 }
+    {
+        self.effects.len()
+    }
+
+    /// How many frames a chain of the effects holds at most: one before the first effect, and what each holds.
+    pub fn hold(&self) -> u64
+        ensures value { result ≡ hold_all (planning self.now).acts }
+        ensures most { result ≤ 2 ^ 28 }
+    {
+        hold(&self.effects)
+    }
+}

@@ -1,0 +1,181 @@
+//! How many frames effects hold, and how many frames can come out of them.
+
+ghost use Rattle.std.specs.Prelude.{◌≡◌, ◌-◌, ◌^◌, map, min, sum_by};
+ghost use Rattle.std.specs.List.{All};
+ghost use Rattle.fx_plan.specs.Bounds;
+ghost use Rattle.fx_plan.specs.Bounds.{end_distance, greatest, hold_all, line_of, most_of, pad_distance, pad_length, tap_delay};
+ghost use Rattle.fx_plan.specs.Effects.{Usable, act};
+
+use crate::effect::Effect;
+use fx_fixed::{At, FARTHEST, Gain};
+
+/// The most frames that the sound may have behind any effect.
+pub const LONGEST: u64 = 1 << 56;
+
+/// How far a position is from the end, where it is counted from there.
+fn distance(position: At) -> u64
+    ensures { result ≡ end_distance position }
+{
+    match position {
+        At::Start(_) => 0,
+        At::End(frames) => frames,
+    }
+}
+
+/// The greatest distance of a position from the end.
+fn greatest_end(positions: &[At]) -> u64
+    ensures { result ≡ greatest (map end_distance positions.now) }
+{
+    let mut most = 0;
+    let mut rest = positions;
+    while let Some((position, more)) = rest.split_first() {
+        most = distance(*position).max(most);
+        rest = more;
+    }
+    most
+}
+
+/// The greatest distance of a pad from the end.
+fn greatest_pad_end(pads: &[(u64, At)]) -> u64
+    ensures { result ≡ greatest (map pad_distance pads.now) }
+{
+    let mut most = 0;
+    let mut rest = pads;
+    while let Some((pad, more)) = rest.split_first() {
+        most = distance(pad.1).max(most);
+        rest = more;
+    }
+    most
+}
+
+/// The longest delay.
+fn longest(delays: &[u64]) -> u64
+    ensures { result ≡ greatest delays.now }
+{
+    let mut most = 0;
+    let mut rest = delays;
+    while let Some((delay, more)) = rest.split_first() {
+        most = most.max(*delay);
+        rest = more;
+    }
+    most
+}
+
+/// The longest delay of an echo.
+fn longest_tap(taps: &[(u64, Gain)]) -> u64
+    ensures { result ≡ greatest (map tap_delay taps.now) }
+{
+    let mut most = 0;
+    let mut rest = taps;
+    while let Some((tap, more)) = rest.split_first() {
+        most = most.max(tap.0);
+        rest = more;
+    }
+    most
+}
+
+/// The sum of an effect's delays, or `u64::MAX` where it is more.
+fn all_taps(taps: &[(u64, Gain)]) -> u64
+    ensures { result ≡ min (sum_by tap_delay taps.now) (2 ^ 64 - 1) }
+{
+    let mut total: u64 = 0;
+    let mut rest = taps;
+    while let Some((tap, more)) = rest.split_first() {
+        total = total.saturating_add(tap.0);
+        rest = more;
+    }
+    total
+}
+
+/// The sum of the lengths of pads, or `u64::MAX` where it is more.
+fn all_pads(pads: &[(u64, At)]) -> u64
+    ensures { result ≡ min (sum_by pad_length pads.now) (2 ^ 64 - 1) }
+{
+    let mut total: u64 = 0;
+    let mut rest = pads;
+    while let Some((pad, more)) = rest.split_first() {
+        total = total.saturating_add(pad.0);
+        rest = more;
+    }
+    total
+}
+
+/// The frames that the line of a fade holds, or `u64::MAX` where it is more.
+fn stop_line(stop: Option<At>, fade_out: u64) -> u64
+    ensures { result ≡ min (Bounds.stop_line stop fade_out) (2 ^ 64 - 1) }
+{
+    match stop {
+        None => 0,
+        Some(At::Start(frames)) => {
+            if frames == 0 {
+                return fade_out;
+            }
+            0
+        }
+        Some(At::End(frames)) => frames.saturating_add(fade_out),
+    }
+}
+
+impl Effect {
+    /// The frames that the line of the effect holds, or `u64::MAX` where it is more.
+    pub fn line(&self) -> u64
+        ensures { result ≡ min (line_of (act self.now)) (2 ^ 64 - 1) }
+    {
+        match self {
+            Effect::Trim(positions) => greatest_end(positions),
+            Effect::Pad(pads) => greatest_pad_end(pads),
+            Effect::Delay(delays) => longest(delays),
+            Effect::Echo(echo) => longest_tap(&echo.taps),
+            Effect::Echos(echos) => all_taps(&echos.taps),
+            Effect::Fade(fade) => stop_line(fade.stop, fade.fade_out),
+            Effect::Fir(gains) => (gains.len() as u64).saturating_sub(1),
+            _ => 0,
+        }
+    }
+
+    /// The most frames that the effect makes of so many, or `u64::MAX` where it is more.
+    pub fn most_frames(&self, frames: u64) -> u64
+        requires { Usable (act self.now) }
+        ensures { result ≡ min (most_of (act self.now) frames) (2 ^ 64 - 1) }
+    {
+        match self {
+            Effect::Pad(pads) => frames.saturating_add(all_pads(pads)),
+            Effect::Delay(delays) => frames.saturating_add(longest(delays)),
+            Effect::Echo(echo) => frames.saturating_add(longest_tap(&echo.taps)),
+            Effect::Echos(echos) => frames.saturating_add(all_taps(&echos.taps)),
+            Effect::Upsample(factor) => frames.saturating_mul(u64::from(*factor)),
+            Effect::Downsample(factor) => frames.div_ceil(u64::from(*factor)),
+            _ => frames,
+        }
+    }
+}
+
+/// How many frames a chain of the effects holds, or `u64::MAX` where it is more.
+pub fn hold(effects: &[Effect]) -> u64
+    ensures { result ≡ min (hold_all (map act effects.now)) (2 ^ 64 - 1) }
+{
+    let mut total: u64 = 1;
+    let mut rest = effects;
+    while let Some((effect, more)) = rest.split_first() {
+        total = total.saturating_add(effect.line()).saturating_add(1);
+        rest = more;
+    }
+    total
+}
+
+/// Whether a sound of `2^40` frames could become longer than `LONGEST` behind some effect.
+pub fn is_too_long(effects: &[Effect]) -> bool
+    requires { All Usable (map act effects.now) }
+    ensures { result ≡ Bounds.is_too_long (map act effects.now) }
+{
+    let mut frames = FARTHEST;
+    let mut rest = effects;
+    while let Some((effect, more)) = rest.split_first() {
+        frames = effect.most_frames(frames);
+        if frames > LONGEST {
+            return true;
+        }
+        rest = more;
+    }
+    false
+}

@@ -1,0 +1,133 @@
+//! Effects with resolved arguments, and what they do to rate, channels and lengths.
+
+ghost use Rattle.std.specs.Prelude.{◌≡◌, IfOk, Some, ◌∷◌, string_bytes};
+ghost use Rattle.fx_plan.specs.Faults.{Reads, texts};
+ghost use Rattle.fx_plan.specs.Effects.{Fits, IsLayout, Usable, act, effect_act, effect_faults, layout_after, named_act, named_faults};
+
+use crate::fault::{PlanCause, Refusal, marked};
+use crate::name::{Name, read_name};
+use crate::words::dcshift::read_dcshift;
+use crate::words::delay::read_delay_words;
+use crate::words::echo::{Echoing, read_echo};
+use crate::words::factor::{read_downsample, read_upsample};
+use crate::words::fade::{Fading, read_fade};
+use crate::words::fir::read_fir;
+use crate::words::pad::read_pad;
+use crate::words::remix::{OutSpec, read_remix};
+use crate::words::trim::read_trim;
+use crate::words::vol::read_vol;
+use fx_fixed::{At, Gain};
+use std::alloc::Global;
+
+/// The rate and the channels of a sound.
+#[derive(Clone, Copy, Debug, Drop, PartialEq, Eq)]
+pub struct Layout {
+    /// Frames in a second, at least 1.
+    pub rate: u32,
+    /// Samples in a frame, 1 to 16.
+    pub channels: usize,
+}
+
+/// An effect with its resolved arguments; lengths and times are in frames.
+#[derive(Debug, Drop, PartialEq, Eq)]
+pub enum Effect {
+    /// The positions between which frames are kept.
+    Trim(Vec<At>),
+    /// Lengths of silence and where they go.
+    Pad(Vec<(u64, At)>),
+    /// The delays of the first channels.
+    Delay(Vec<u64>),
+    /// Echoes of the input.
+    Echo(Echoing),
+    /// Echoes in series.
+    Echos(Echoing),
+    /// Fades at both ends.
+    Fade(Fading),
+    /// A gain.
+    Vol(Gain),
+    /// A shift, where 1 is full scale.
+    DcShift(Gain),
+    /// Coefficients.
+    Fir(Vec<Gain>),
+    /// The sums that make the channels of the output.
+    Remix(Vec<OutSpec>),
+    /// A factor from 1 to 256.
+    Upsample(u32),
+    /// A factor from 1 to 256.
+    Downsample(u32),
+}
+
+impl Effect {
+    /// The layout of the sound behind the effect.
+    pub fn layout_after(&self, layout: Layout) -> Layout
+        requires { Fits layout (act self.now) }
+        ensures { result ≡ layout_after layout (Some (act self.now)) }
+    {
+        match self {
+            Effect::Upsample(factor) => Layout {
+                rate: layout.rate * factor,
+                ..layout
+            },
+            Effect::Downsample(factor) => Layout {
+                rate: layout.rate / factor,
+                ..layout
+            },
+            Effect::Remix(specs) => Layout {
+                channels: specs.len(),
+                ..layout
+            },
+            _ => layout,
+        }
+    }
+}
+
+/// The effect of this name with these words behind it.
+fn read_named(
+    alloc: Global,
+    layout: Layout,
+    file: &[u8],
+    name: Name,
+    words: &[String],
+) -> Result<Effect, Refusal>
+    requires { IsLayout layout }
+    ensures read { Reads (λ effect. Some (act effect)) result (named_faults name layout file.now (texts words.now)) (named_act name layout file.now (texts words.now)) }
+    ensures fits { IfOk result (λ effect. Fits layout (act effect)) }
+    ensures usable { IfOk result (λ effect. Usable (act effect)) }
+    ensures after { IfOk result (λ effect. IsLayout (layout_after layout (Some (act effect)))) }
+{
+    let rate = layout.rate;
+    match name {
+        Name::Trim => Ok(Effect::Trim(read_trim(alloc, rate, words)?)),
+        Name::Pad => Ok(Effect::Pad(read_pad(alloc, rate, words)?)),
+        Name::Delay => Ok(Effect::Delay(read_delay_words(alloc, rate, layout.channels, words)?)),
+        Name::Echo => Ok(Effect::Echo(read_echo(alloc, rate, words)?)),
+        Name::Echos => Ok(Effect::Echos(read_echo(alloc, rate, words)?)),
+        Name::Fade => Ok(Effect::Fade(read_fade(rate, words)?)),
+        Name::Vol => Ok(Effect::Vol(read_vol(words)?)),
+        Name::DcShift => Ok(Effect::DcShift(read_dcshift(words)?)),
+        Name::Fir => Ok(Effect::Fir(read_fir(alloc, file, words)?)),
+        Name::Remix => Ok(Effect::Remix(read_remix(alloc, layout.channels as u32, words)?)),
+        Name::Upsample => Ok(Effect::Upsample(read_upsample(rate, words)?)),
+        Name::Downsample => Ok(Effect::Downsample(read_downsample(rate, words)?)),
+        Name::WholeSound => Err(marked(PlanCause::NeedsWholeSound, 1)),
+        Name::LeftOut => Err(marked(PlanCause::NotInProfile, 1)),
+        Name::Other => Err(marked(PlanCause::UnknownEffect, 1)),
+    }
+}
+
+/// The effect of a name and the words behind it, of which a single one of `fir` names this file.
+pub fn read_effect(
+    alloc: Global,
+    layout: Layout,
+    file: &[u8],
+    name: &String,
+    words: &[String],
+) -> Result<Effect, Refusal>
+    requires { IsLayout layout }
+    ensures read { Reads (λ effect. Some (act effect)) result (effect_faults layout file.now (string_bytes name.now ∷ texts words.now)) (effect_act layout file.now (string_bytes name.now ∷ texts words.now)) }
+    ensures fits { IfOk result (λ effect. Fits layout (act effect)) }
+    ensures usable { IfOk result (λ effect. Usable (act effect)) }
+    ensures after { IfOk result (λ effect. IsLayout (layout_after layout (Some (act effect)))) }
+{
+    read_named(alloc, layout, file, read_name(name), words)
+}

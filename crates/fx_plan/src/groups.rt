@@ -1,0 +1,45 @@
+//! The words of effects, cut at the names.
+
+ghost use Rattle.std.specs.Prelude.{◌≡◌, ◌<◌, ◌≤◌, ◌∷◌, [], IfSome, MatchOption, length, string_bytes};
+ghost use Rattle.std.specs.List.{position_or_len};
+ghost use Rattle.fx_plan.specs.Faults.{texts};
+ghost use Rattle.fx_plan.specs.Groups.{effects_of};
+ghost use Rattle.fx_plan.specs.Names;
+
+use crate::name::{Name, read_name};
+
+/// Whether a word is the name of an effect, left out or not.
+fn is_name(word: &str) -> bool
+    ensures { result ≡ Names.is_name word.now }
+{
+    read_name(word) != Name::Other
+}
+
+/// How many words stand before the first name.
+#[tactic(auto, using(std::proofs::lemmas::List::Sums::position_or_len_is))]
+fn words_before_name(words: &[String]) -> usize
+    ensures value { result ≡ position_or_len Names.is_name (texts words.now) }
+    ensures within { result ≤ length words.now }
+{
+    let mut rest = words;
+    let mut count = 0;
+    while let Some((word, more)) = rest.split_first() {
+        if is_name(word) {
+            return count;
+        }
+        rest = more;
+        count += 1;
+    }
+    count
+}
+
+/// The first effect's name, its other words, and the words of the effects behind it.
+pub fn split_effect(words: &[String]) -> Option<(&String, &[String], &[String])>
+    ensures effects { MatchOption result (words.now ≡ [])
+        (λ x. effects_of (texts words.now) ≡ (string_bytes x.0.now ∷ texts x.1.now) ∷ effects_of (texts x.2.now)) }
+    ensures shorter { IfSome result (λ x. length x.2.now < length words.now) }
+{
+    let (name, others) = words.split_first()?;
+    let (arguments, rest) = others.split_at(words_before_name(others));
+    Some((name, arguments, rest))
+}

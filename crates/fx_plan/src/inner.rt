@@ -1,0 +1,7 @@
+//! What the crates above need beside the calls for everyone: the plan of words, and a plan's effects.
+
+pub use crate::answers::plan_words;
+pub use crate::effect::{Effect, Layout};
+pub use crate::words::echo::Echoing;
+pub use crate::words::fade::Fading;
+pub use crate::words::remix::{OutSpec, Weight};

@@ -1,0 +1,83 @@
+//! Numbers and times in the words of effects.
+
+ghost use Rattle.std.specs.Prelude.{◌≡◌, ◌<◌, ◌≤◌};
+ghost use Rattle.fx_plan.specs.Numbers;
+ghost use Rattle.fx_plan.specs.Numbers.{gain_in, gain_up_to, frames_in, delay_in, position_in};
+
+use crate::fault::PlanCause;
+use fx_fixed::{Anchor, At, Gain, NumberFault, Position, TimeFault, TimeSpec, UNIT, millis};
+
+/// The fault of a plan that a number's fault is.
+fn number_cause(fault: NumberFault) -> PlanCause
+    ensures { result ≡ Numbers.number_cause fault }
+{
+    match fault {
+        NumberFault::NotANumber | NumberFault::TooLong => PlanCause::BadArgument,
+        NumberFault::OutOfRange => PlanCause::OutOfRange,
+    }
+}
+
+/// The fault of a plan that a time's fault is.
+fn time_cause(fault: TimeFault) -> PlanCause
+    ensures { result ≡ Numbers.time_cause fault }
+{
+    match fault {
+        TimeFault::BadTime | TimeFault::NotWhole | TimeFault::Negative => PlanCause::BadArgument,
+        TimeFault::TooFar => PlanCause::OutOfRange,
+    }
+}
+
+/// The gain that a word is.
+pub fn read_gain(word: &str) -> Result<Gain, PlanCause>
+    ensures { result ≡ gain_in word.now }
+{
+    match Gain::parse(word) {
+        Ok(gain) => Ok(gain),
+        Err(fault) => Err(number_cause(fault)),
+    }
+}
+
+/// The gain from 0 to so many units that a word is.
+pub fn read_gain_up_to(most: u32, word: &str) -> Result<Gain, PlanCause>
+    requires { most ≤ 1000 }
+    ensures { result ≡ gain_up_to most word.now }
+{
+    let gain = read_gain(word)?;
+    if gain.trillionths() < 0 || gain.trillionths().unsigned_abs() > u64::from(most) * UNIT {
+        return Err(PlanCause::OutOfRange);
+    }
+    Ok(gain)
+}
+
+/// The frames of the time that a word is.
+pub fn read_frames(rate: u32, word: &str) -> Result<u64, PlanCause>
+    requires { 0 < rate }
+    ensures { result ≡ frames_in rate word.now }
+{
+    match TimeSpec::frames(word, rate) {
+        Ok(frames) => Ok(frames),
+        Err(fault) => Err(time_cause(fault)),
+    }
+}
+
+/// The frames of the delay in milliseconds that a word is.
+pub fn read_delay(rate: u32, word: &str) -> Result<u64, PlanCause>
+    requires { 0 < rate }
+    ensures { result ≡ delay_in rate word.now }
+{
+    match millis(word, rate) {
+        Ok(frames) => Ok(frames),
+        Err(fault) => Err(time_cause(fault)),
+    }
+}
+
+/// The position that a word is.
+pub fn read_position(rate: u32, default: Anchor, previous: At, word: &str) -> Result<At, PlanCause>
+    requires { 0 < rate }
+    ensures { result ≡ position_in rate default previous word.now }
+{
+    match Position::resolve(word, rate, default, previous) {
+        Ok(position) => Ok(position),
+        Err(fault) => Err(time_cause(fault)),
+    }
+}

@@ -1,0 +1,31 @@
+//! Plans: what is to be done to a sound, and how much that may hold and make.
+
+ghost use Rattle.std.specs.Prelude.{◌≡◌, ◌<◌, ◌≤◌, ◌^◌, IsTrue, false, length, map};
+ghost use Rattle.std.specs.List.{All};
+ghost use Rattle.fx_sound.specs.Kind.{is_coding_of};
+ghost use Rattle.fx_plan.specs.Bounds.{hold_all, is_too_long};
+ghost use Rattle.fx_plan.specs.Effects.{Usable, act};
+
+use crate::effect::{Effect, Layout};
+use fx_frame::Coding;
+use fx_sound::{Head, Kind};
+
+/// What is to be done to a sound, accepted: a chain of its effects holds at most `2^28` frames, and behind none of
+/// them is a sound of `2^40` frames longer than `2^56`.
+#[derive(Debug, Drop, PartialEq, Eq)]
+pub struct Plan {
+    pub(crate) head: Head,
+    pub(crate) kind: Kind,
+    pub(crate) coding: Coding,
+    pub(crate) is_named: bool,
+    pub(crate) effects: Vec<Effect>,
+    pub(crate) layout: Layout,
+    ghost few: { length effects.items ≤ 32 },
+    ghost usable: { All Usable (map act effects.items) },
+    ghost held: { hold_all (map act effects.items) ≤ 2 ^ 28 },
+    ghost short: { is_too_long (map act effects.items) ≡ false },
+    ghost rated: { 0 < layout.rate },
+    ghost some: { 0 < layout.channels },
+    ghost most: { layout.channels ≤ 16 },
+    ghost coded: { IsTrue (is_coding_of kind coding) },
+}

@@ -1,0 +1,187 @@
+//! Effects one after the other, each behind the layout that those before it leave.
+
+ghost use Rattle.std.specs.Prelude.{◌≡◌, ◌≤◌, ◌^◌, ◌∷◌, IfOk, Some, false, length, map, string_bytes};
+ghost use Rattle.std.specs.List.{All};
+ghost use Rattle.fx_plan.specs.Bounds;
+ghost use Rattle.fx_plan.specs.Bounds.{hold_all};
+ghost use Rattle.fx_plan.specs.Effects.{Fits, IsLayout, Usable, act, effect_act, layout_after};
+ghost use Rattle.fx_plan.specs.Faults.{texts};
+ghost use Rattle.fx_plan.specs.Groups.{effects_of};
+ghost use Rattle.fx_plan.specs.Plans;
+ghost use Rattle.fx_plan.specs.Plans.{PlanReads, acts_of, all_faults, bytes_of, effects_faults, fault, fault_of, files_after, last_layout, next_file, planned_value, step_faults};
+
+use crate::bounds::{hold, is_too_long};
+use crate::effect::{Effect, Layout, read_effect};
+use crate::fault::{PlanCause, PlanFault, Refusal};
+use crate::groups::split_effect;
+use crate::name::{Name, read_name};
+use std::alloc::Global;
+
+/// The most effects.
+const MOST_EFFECTS: usize = 32;
+
+/// The most frames that a chain may hold.
+const MOST_HELD: u64 = 1 << 28;
+
+/// Effects with resolved arguments, and the layout of the sound behind them.
+#[derive(Debug, Drop, PartialEq, Eq)]
+pub struct Planned {
+    pub effects: Vec<Effect>,
+    pub layout: Layout,
+}
+
+/// A fault of no one effect.
+fn plan_fault(cause: PlanCause) -> PlanFault
+    ensures { result ≡ fault cause 0 0 }
+{
+    PlanFault {
+        cause,
+        effect: 0,
+        word: 0,
+    }
+}
+
+/// Whether the words of a `fir` are the name of a coefficient file.
+fn is_file(words: &[String]) -> bool
+    ensures { result ≡ Plans.is_file (texts words.now) }
+{
+    let Some((word, more)) = words.split_first() else {
+        return false;
+    };
+    more.is_empty() && word.as_str() != "-"
+}
+
+/// Whether an effect of this name with these words behind it names a coefficient file.
+fn names_file(name: &String, words: &[String]) -> bool
+    ensures { result ≡ Plans.names_file (string_bytes name.now ∷ texts words.now) }
+{
+    read_name(name) == Name::Fir && is_file(words)
+}
+
+/// The next coefficient file; nothing where there is none.
+fn first_file(files: &[Vec<u8>]) -> &[u8]
+    ensures { result.now ≡ next_file (bytes_of files.now) }
+{
+    match files.split_first() {
+        Some((file, _)) => file,
+        None => &[],
+    }
+}
+
+/// The coefficient files behind an effect of this name with these words.
+fn files_behind<'a>(name: &String, words: &[String], files: &'a [Vec<u8>]) -> &'a [Vec<u8>]
+    ensures { bytes_of result.now ≡ files_after (string_bytes name.now ∷ texts words.now) (bytes_of files.now) }
+{
+    if !names_file(name, words) {
+        return files;
+    }
+    match files.split_first() {
+        Some((_, more)) => more,
+        None => files,
+    }
+}
+
+/// The fault of the effect of this number, which its words do not give.
+fn effect_fault(number: usize, refusal: Refusal) -> PlanFault
+    ensures { result ≡ fault_of number refusal }
+{
+    match refusal {
+        Refusal::Memory => plan_fault(PlanCause::Memory),
+        Refusal::Marked(mark) => PlanFault {
+            cause: mark.cause,
+            effect: number,
+            word: mark.word,
+        },
+    }
+}
+
+/// The effect of this number, of a name and the words behind it.
+fn read_step(
+    alloc: Global,
+    number: usize,
+    layout: Layout,
+    file: &[u8],
+    name: &String,
+    words: &[String],
+) -> Result<Effect, PlanFault>
+    requires { IsLayout layout }
+    ensures read { PlanReads (λ effect. Some (act effect)) result (step_faults number layout file.now (string_bytes name.now ∷ texts words.now)) (effect_act layout file.now (string_bytes name.now ∷ texts words.now)) }
+    ensures fits { IfOk result (λ effect. Fits layout (act effect)) }
+    ensures usable { IfOk result (λ effect. Usable (act effect)) }
+    ensures after { IfOk result (λ effect. IsLayout (layout_after layout (Some (act effect)))) }
+    ensures few { IfOk result (λ effect. number ≤ 32) }
+{
+    if number > MOST_EFFECTS {
+        return Err(PlanFault {
+            cause: PlanCause::TooManyEffects,
+            effect: number,
+            word: 1,
+        });
+    }
+    match read_effect(alloc, layout, file, name, words) {
+        Ok(effect) => Ok(effect),
+        Err(refusal) => Err(effect_fault(number, refusal)),
+    }
+}
+
+/// The effects that the words are, behind this layout.
+fn read_effects(
+    alloc: Global,
+    layout: Layout,
+    words: &[String],
+    files: &[Vec<u8>],
+) -> Result<Planned, PlanFault>
+    requires { IsLayout layout }
+    ensures read { PlanReads planned_value result (effects_faults 1 layout (bytes_of files.now) (effects_of (texts words.now))) (acts_of layout (bytes_of files.now) (effects_of (texts words.now)), last_layout layout (bytes_of files.now) (effects_of (texts words.now))) }
+    ensures usable { IfOk result (λ p. All Usable (map act p.effects.items)) }
+    ensures layout { IfOk result (λ p. IsLayout p.layout) }
+    ensures few { IfOk result (λ p. length p.effects.items ≤ 32) }
+{
+    let mut effects = Vec::new(alloc);
+    let mut rest = words;
+    let mut files = files;
+    let mut number = 1;
+    let mut layout = layout;
+    while let Some((name, arguments, more)) = split_effect(rest) {
+        let effect = match read_step(alloc, number, layout, first_file(files), name, arguments) {
+            Ok(effect) => effect,
+            Err(fault) => return Err(fault),
+        };
+        layout = effect.layout_after(layout);
+        files = files_behind(name, arguments, files);
+        if effects.push(effect).is_err() {
+            return Err(plan_fault(PlanCause::Memory));
+        }
+        rest = more;
+        number += 1;
+    }
+    Ok(Planned { effects, layout })
+}
+
+/// The effects that the words are, behind this layout, where a chain of them holds and makes no more than it may.
+pub fn read_plan(
+    alloc: Global,
+    layout: Layout,
+    words: &[String],
+    files: &[Vec<u8>],
+) -> Result<Planned, PlanFault>
+    requires { IsLayout layout }
+    ensures read { PlanReads planned_value result (all_faults layout (bytes_of files.now) (effects_of (texts words.now))) (acts_of layout (bytes_of files.now) (effects_of (texts words.now)), last_layout layout (bytes_of files.now) (effects_of (texts words.now))) }
+    ensures usable { IfOk result (λ p. All Usable (map act p.effects.items)) }
+    ensures layout { IfOk result (λ p. IsLayout p.layout) }
+    ensures few { IfOk result (λ p. length p.effects.items ≤ 32) }
+    ensures held { IfOk result (λ p. hold_all (map act p.effects.items) ≤ 2 ^ 28) }
+    ensures short { IfOk result (λ p. Bounds.is_too_long (map act p.effects.items) ≡ false) }
+{
+    let planned = match read_effects(alloc, layout, words, files) {
+        Ok(planned) => planned,
+        Err(fault) => return Err(fault),
+    };
+    if hold(&planned.effects) > MOST_HELD {
+        return Err(plan_fault(PlanCause::HoldTooLarge));
+    }
+    if is_too_long(&planned.effects) {
+        return Err(plan_fault(PlanCause::TooLong));
+    }
+    Ok(planned)
+}

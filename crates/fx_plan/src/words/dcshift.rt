@@ -1,0 +1,40 @@
+//! The word of `dcshift`: a shift.
+
+ghost use Rattle.std.specs.Prelude.{◌≡◌};
+ghost use Rattle.fx_plan.specs.Faults.{Reads, texts};
+ghost use Rattle.fx_plan.specs.DcShift.{shift_in, shift_faults, shift_gain};
+
+use crate::fault::{PlanCause, Refusal, marked};
+use crate::numbers::read_gain;
+use fx_fixed::{Gain, UNIT};
+
+/// The shift from -2 to 2 that a word is.
+fn read_shift(word: &str) -> Result<Gain, PlanCause>
+    ensures { result ≡ shift_in word.now }
+{
+    let shift = read_gain(word)?;
+    if shift.trillionths().unsigned_abs() > 2 * UNIT {
+        return Err(PlanCause::OutOfRange);
+    }
+    Ok(shift)
+}
+
+/// The shift of a `dcshift` with these words after its name.
+pub fn read_dcshift(words: &[String]) -> Result<Gain, Refusal>
+    ensures { Reads (λ shift. shift) result (shift_faults (texts words.now)) (shift_gain (texts words.now)) }
+{
+    let Some((word, more)) = words.split_first() else {
+        return Err(marked(PlanCause::WrongCount, 1));
+    };
+    if more.len() > 1 {
+        return Err(marked(PlanCause::WrongCount, 4));
+    }
+    let shift = match read_shift(word) {
+        Ok(shift) => shift,
+        Err(cause) => return Err(marked(cause, 2)),
+    };
+    if !more.is_empty() {
+        return Err(marked(PlanCause::NotInProfile, 3));
+    }
+    Ok(shift)
+}

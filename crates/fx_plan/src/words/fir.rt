@@ -1,0 +1,65 @@
+//! The words of `fir`: the name of a coefficient file, or coefficients.
+
+ghost use Rattle.std.specs.Prelude.{◌≡◌, ◌<◌, length};
+ghost use Rattle.fx_plan.specs.Faults.{Reads, texts};
+ghost use Rattle.fx_plan.specs.Fir.{coefficients, each_faults, file_faults, fir_faults, gains_of, in_file};
+
+use crate::fault::{PlanCause, Refusal, marked};
+use crate::numbers::read_gain;
+use fx_fixed::{CoefFault, Coefficients, Gain};
+use std::alloc::Global;
+
+/// The most coefficients.
+const MOST_COEFFICIENTS: usize = 1024;
+
+/// The coefficients that the words are.
+fn read_each(alloc: Global, words: &[String]) -> Result<Vec<Gain>, Refusal>
+    requires { length words.now < 1025 }
+    ensures { Reads (λ v. v.items) result (each_faults 2 (texts words.now)) (gains_of (texts words.now)) }
+{
+    let mut gains = Vec::new(alloc);
+    let mut rest = words;
+    let mut number = 2;
+    while let Some((word, more)) = rest.split_first() {
+        let gain = match read_gain(word) {
+            Ok(gain) => gain,
+            Err(cause) => return Err(marked(cause, number)),
+        };
+        if gains.push(gain).is_err() {
+            return Err(Refusal::Memory);
+        }
+        rest = more;
+        number += 1;
+    }
+    Ok(gains)
+}
+
+/// The coefficients in a file.
+fn read_file(alloc: Global, file: &[u8]) -> Result<Vec<Gain>, Refusal>
+    ensures { Reads (λ v. v.items) result (file_faults file.now) (in_file file.now) }
+{
+    match Coefficients::parse(alloc, file) {
+        Ok(gains) => Ok(gains),
+        Err(CoefFault::BadCoefficients) => Err(marked(PlanCause::BadCoefficients, 2)),
+        Err(CoefFault::Memory) => Err(Refusal::Memory),
+    }
+}
+
+/// The coefficients of a `fir` with these words after its name, of which a single one names this file.
+pub fn read_fir(alloc: Global, file: &[u8], words: &[String]) -> Result<Vec<Gain>, Refusal>
+    ensures { Reads (λ v. v.items) result (fir_faults file.now (texts words.now)) (coefficients file.now (texts words.now)) }
+{
+    if words.len() > MOST_COEFFICIENTS {
+        return Err(marked(PlanCause::WrongCount, MOST_COEFFICIENTS + 2));
+    }
+    let Some((word, more)) = words.split_first() else {
+        return Err(marked(PlanCause::NotInProfile, 1));
+    };
+    if !more.is_empty() {
+        return read_each(alloc, words);
+    }
+    if word.as_str() == "-" {
+        return Err(marked(PlanCause::NotInProfile, 2));
+    }
+    read_file(alloc, file)
+}
