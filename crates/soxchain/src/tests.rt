@@ -102,27 +102,87 @@ fn au_16_vol_half(rt: HostRuntime) -> Result<(), Fail> {
     Ok(())
 }
 
+/// Are the words refused with this message, and is nothing written?
+fn is_refused(alloc: Global, line: &str, message: &str) -> Result<bool, AllocError> {
+    let input = au(alloc, 8, &[3, -3])?;
+    let got = converted(alloc, line, &input, 4096, 4096)?;
+    let is_told = got.messages.taken() == message.as_bytes();
+    Ok(got.status == 1 && is_told && got.output.taken().is_empty())
+}
+
+#[test]
+fn vol_bad_word(rt: HostRuntime) -> Result<(), Fail> {
+    let message = "soxchain: effect 1 vol: 5 BadArgument: x\n";
+    assert!(rt; is_refused(rt.alloc(), "- -t au - vol x", message)?);
+    Ok(())
+}
+
 #[test]
 fn words_refused(rt: HostRuntime) -> Result<(), Fail> {
     let rows = [
-        (
-            "- -t au - vol x",
-            "soxchain: effect 1 vol: 5 BadArgument: x\n",
-        ),
+        ("-", "soxchain: command line: 1 MissingFile\n"),
+        ("- -r -", "soxchain: command line: 2 BadOption\n"),
+        ("- - vol 1", "soxchain: command line: 3 NoOutputType\n"),
+        ("- -b 12 -", "soxchain: command line: 4 BadBits\n"),
         (
             "- -t au - vol 1001",
             "soxchain: effect 1 vol: 6 OutOfRange: 1001\n",
         ),
         ("- -t au - vol", "soxchain: command line: 2 BadOption\n"),
-        ("- -t wav - vol 1", "soxchain: command line: 2 BadOption\n"),
+        ("in -t au - vol 1", "soxchain: command line: 2 BadOption\n"),
     ];
-    let input = au(rt.alloc(), 8, &[3, -3])?;
     for (line, message) in rows {
-        let got = converted(rt.alloc(), line, &input, 4096, 4096)?;
-        assert_eq!(rt; got.status, 1, "{line}");
-        assert_eq!(rt; got.messages.taken(), message.as_bytes(), "{line}");
-        assert!(rt; got.output.taken().is_empty(), "{line}");
+        assert!(rt; is_refused(rt.alloc(), line, message)?, "{line}");
     }
+    Ok(())
+}
+
+// The streamed head of WAVE, mono, 8000 frames a second, 16 bits, and then the sample 2.
+const WAVE_OF_TWO: [u8; 46] =
+    *b"RIFF\x24\xf0\xff\x7fWAVEfmt \x10\0\0\0\x01\0\x01\0\x40\x1f\0\0\x80\x3e\0\0\x02\0\x10\0data\0\xf0\xff\x7f\x02\0";
+
+#[test]
+fn au_to_wave(rt: HostRuntime) -> Result<(), Fail> {
+    let input = au(rt.alloc(), 4, &[131072])?;
+    for piece in PIECES {
+        let got = converted(rt.alloc(), "-D -t au - -t wav -b 16 -", &input, piece, 4096)?;
+        assert_eq!(rt; got.status, 0);
+        assert_eq!(rt; got.output.taken(), WAVE_OF_TWO.as_slice());
+        assert_eq!(rt; got.report.moves, 1);
+        assert_eq!(rt; got.report.frames_out, 1);
+    }
+    Ok(())
+}
+
+#[test]
+fn wave_to_au(rt: HostRuntime) -> Result<(), Fail> {
+    let want = written(rt.alloc(), &[131072])?;
+    for piece in PIECES {
+        let line = "- -D -t au -b 8 -b 32 -";
+        let got = converted(rt.alloc(), line, &WAVE_OF_TWO, piece, 4096)?;
+        assert_eq!(rt; got.status, 0);
+        assert_eq!(rt; got.output.taken(), want.as_slice());
+    }
+    let got = converted(rt.alloc(), "-t au - -t au -", &WAVE_OF_TWO, 4096, 4096)?;
+    assert_eq!(rt; got.status, 2);
+    assert_eq!(rt;
+        got.messages.taken(),
+        b"soxchain: input: 2 UnknownType\n".as_slice()
+    );
+    Ok(())
+}
+
+#[test]
+fn narrow_to_8_counts_output_clips(rt: HostRuntime) -> Result<(), Fail> {
+    let input = au(rt.alloc(), 8, &[2147483647, -2147483648])?;
+    let got = converted(rt.alloc(), "- -t au -b 8 -", &input, 4096, 4096)?;
+    assert_eq!(rt; got.status, 0);
+    assert_eq!(rt; got.report.out_clips, 1);
+    assert_eq!(rt; got.report.clips[0], 0);
+    assert_eq!(rt;
+        got.messages.taken(),
+        b"soxchain: warning: output: clipped samples 1\n".as_slice()
+    );
     Ok(())
 }
 
@@ -151,9 +211,11 @@ fn vol_trillionths(rt: HostRuntime) -> Result<(), Fail> {
         ("- -t au - vol 0.000000000233", 1),
         ("- -t au - vol 0.000000000232", 0),
     ] {
-        let got = converted(rt.alloc(), line, &input, 4096, 4096)?;
         let want = written(rt.alloc(), &[sample])?;
-        assert_eq!(rt; got.output.taken(), want.as_slice());
+        for piece in PIECES {
+            let got = converted(rt.alloc(), line, &input, piece, 4096)?;
+            assert_eq!(rt; got.output.taken(), want.as_slice());
+        }
     }
     Ok(())
 }
