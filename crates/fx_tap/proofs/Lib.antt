@@ -1,5 +1,7 @@
 pub mod DelayLaws
 pub mod EchoLaws
+pub mod EchosLaws
+pub mod EchosMeaning
 pub mod EchosRow
 pub mod EchosSums
 pub mod FirLaws
