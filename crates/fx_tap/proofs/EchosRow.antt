@@ -1,5 +1,5 @@
 -- A frame goes through a row of lines.
-use Rattle.std.proofs.Common.{ℕ, ℤ, pos, suc, zero, ◌+◌, ◌-◌, ◌*◌, ◌^◌, ◌<◌, ◌≤◌, ◌≡◌, ◌+ℤ◌, ◌*ℤ◌, Bool, true, false, cond, List, [], ◌∷◌, ◌++◌, length, get_or, set, take, drop, replicate, refl, sym, ap, ◌∙◌, arith, append_assoc}
+use Rattle.std.proofs.Common.{ℕ, ℤ, pos, suc, zero, ◌+◌, ◌-◌, ◌*◌, ◌^◌, ◌<◌, ◌≤◌, ◌≡◌, ◌+ℤ◌, ◌*ℤ◌, Bool, true, false, cond, List, [], ◌∷◌, ◌++◌, length, get_or, set, take, drop, replicate, refl, sym, ap, ◌∙◌, arith, append_assoc, zero-add}
 use Rattle.std.specs.Int.{w32}
 use Rattle.std.specs.Prelude.{FitsSigned, unsigned_abs, slice_index_or, slice_get, nat_lt, Some, None, if◌then◌else◌}
 use Rattle.std.specs.List.{All}
@@ -9,7 +9,11 @@ use Rattle.std.proofs.lemmas.List.Elements.{All-head, All-tail}
 use Rattle.fx_fixed.specs.declared.gains.TheConstants.{UNIT}
 use Rattle.fx_frame.specs.Frame.{Samples}
 use Rattle.fx_frame.specs.Line.{Frames, pushed_out, channel_of, empty}
-use Rattle.fx_tap.specs.Echos.{IsRowLine, after_push, fed, let_go, line_at, lines_after, or_silence, up_to}
+use Rattle.fx_fixed.specs.Rounding.{rounding}
+use Rattle.fx_tap.specs.Echo.{EchoArguments}
+use Rattle.fx_tap.specs.Rounded.{given_of}
+use Rattle.fx_tap.proofs.Tabulate.{tabulate-same}
+use Rattle.fx_tap.specs.Echos.{IsRowLine, after_push, decays, fed, frame_of_lines, let_go, line_at, lines_after, or_silence, up_to}
 use Rattle.fx_tap.specs.Lists.{tabulate}
 use Rattle.fx_tap.specs.Products.{sum_of_products}
 use borrow.Author.Tests.{ltb-true, ltb-false}
@@ -43,7 +47,7 @@ small-fed c j x before h b =
     let most = added-few (slice_index_or x k (pos 0)) (slice_index_or before k (pos 0)) _ _ (h k) (b k) in
     omega arith)
 
-small-silence : (m c : ℕ) → Small m (replicate c (pos 0))
+pub small-silence : (m c : ℕ) → Small m (replicate c (pos 0))
 small-silence m c k = rw (quiet-sample c k) (omega arith)
 
 gone-by : (m c : ℕ) (items : List Samples) (u : Samples) (b : Bool) → All (All (λ x. unsigned_abs x ≤ m)) items → Small m u → Small m (or_silence c (if b then None else slice_get (items ++ u ∷ []) 0))
@@ -122,3 +126,19 @@ few-by p c k S S' d g false t decay small few added left =
 pub few-more : (p c k : ℕ) (S S' d g : ℤ) → unsigned_abs d ≤ UNIT → unsigned_abs g ≤ (p + 1) * 2 ^ 31 → unsigned_abs S ≤ (1 + up_to p) * (UNIT * 2 ^ 31)
     → (k < c → S' ≡ S +ℤ (d *ℤ g)) → (c ≤ k → S' ≡ S) → unsigned_abs S' ≤ (1 + up_to (p + 1)) * (UNIT * 2 ^ 31)
 few-more p c k S S' d g decay small few added left = few-by p c k S S' d g (nat_lt k c) refl decay small few added left
+
+-- ---- the frame that is given, and the frames that are stored
+
+pub echoed-is : (a : EchoArguments) (x sums : Samples) (gone : List Samples) → ((k : ℕ) → k < a.channels → slice_index_or sums k (pos 0) ≡ (a.gain_in *ℤ slice_index_or x k (pos 0)) +ℤ sum_of_products (decays a.echoes) (channel_of gone k (pos 0)))
+    → given_of (tabulate (λ k. rounding (a.gain_out *ℤ slice_index_or sums k (pos 0)) (UNIT * UNIT)) 0 a.channels) ≡ frame_of_lines a x gone
+echoed-is a x sums gone h = ap given_of (tabulate-same _ _ 0 0 a.channels (λ k l. ap (λ z. rounding (a.gain_out *ℤ z) (UNIT * UNIT)) (h (0 + k) (rw zero-add l))))
+
+pub get-left : (xs ys : List Samples) (i : ℕ) → i < length xs → slice_get (xs ++ ys) i ≡ slice_get xs i
+get-left [] ys i h = absurd (omega arith)
+get-left (x ∷ xs) ys zero h = refl
+get-left (x ∷ xs) ys (suc i) h = get-left xs ys i (omega arith)
+
+pub get-right : (xs ys : List Samples) (i : ℕ) → length xs ≤ i → slice_get (xs ++ ys) i ≡ slice_get ys (i - length xs)
+get-right [] ys i h = ap (slice_get ys) (let e : i ≡ i - 0 = omega arith in e)
+get-right (x ∷ xs) ys zero h = absurd (omega arith)
+get-right (x ∷ xs) ys (suc i) h = get-right xs ys i (omega arith) ∙ ap (slice_get ys) (let e : i - length xs ≡ suc i - suc (length xs) = omega arith in e)

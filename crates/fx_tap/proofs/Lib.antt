@@ -1,6 +1,8 @@
 pub mod DelayLaws
 pub mod EchoLaws
 pub mod MixLaws
+pub mod EchosLaws
+pub mod EchosMeaning
 pub mod EchosRow
 pub mod EchosSums
 pub mod FirLaws

@@ -99,7 +99,7 @@ fn latest_of(echoes: &[(u64, Gain)]) -> u64
 }
 
 /// A list of the same echoes.
-fn copied(alloc: Global, echoes: &[(u64, Gain)]) -> Result<Vec<(u64, Gain)>, AllocError>
+pub(crate) fn copied(alloc: Global, echoes: &[(u64, Gain)]) -> Result<Vec<(u64, Gain)>, AllocError>
     ensures { IfOk result (λ v. v.items ≡ echoes.now) }
 {
     let mut copies = Vec::new(alloc);

@@ -9,6 +9,8 @@ pub mod echo;
 #[cfg(test)]
 mod echo_tests;
 pub mod echos;
+#[cfg(test)]
+mod echos_tests;
 pub mod fir;
 #[cfg(test)]
 mod fir_tests;

@@ -1,0 +1,6 @@
+use Rattle.std.proofs.Common.{ap, ◌∙◌, sym}
+use Rattle.fx_tap.proofs.EchosLaws.{places-late}
+use Rattle.fx_tap.proofs.echos.EchosStage.hold.Goals as goal
+
+pub returns-clause-capacity : goal.returns-clause-capacity
+returns-clause-capacity c = rw (← c.self.view_is) (places-late _ c.self.invariant)

@@ -1,0 +1,31 @@
+use Rattle.std.proofs.Common.{◌≡◌, ◌<◌, ◌∙◌, ap, ℕ, ℤ, pos, ◌+ℤ◌, ◌*ℤ◌, arith, replicate, zero-add, slice_index_or, List}
+use Rattle.std.proofs.lemmas.Int.{ints}
+use Rattle.fx_frame.specs.Frame.{Samples}
+use Rattle.fx_tap.specs.Echo.{EchoArguments}
+use Rattle.fx_tap.specs.Echos.{decays, let_go}
+use Rattle.fx_frame.specs.Line.{channel_of}
+use Rattle.fx_frame.specs.Stage.{Given}
+use Rattle.fx_tap.specs.Products.{sum_of_products}
+use Rattle.fx_tap.proofs.DelayLaws.{quiet-sample}
+use Rattle.fx_tap.proofs.EchosRow.{echoed-is}
+use Rattle.fx_tap.proofs.echos.echoed.Goals as goal
+
+pub returns-clause-frame : goal.returns-clause-frame
+returns-clause-frame c =
+    let gone : List Samples = let_go c.args.channels c.args.lines.now c.args.frame (replicate c.args.channels (pos 0)) in
+    let a : EchoArguments = record { channels = c.args.channels; gain_in = c.args.gains.0; gain_out = c.args.gains.1; echoes = c.args.echoes.now } in
+    let sums : (k : ℕ) → k < c.args.channels → slice_index_or c.pass.new.sums k (pos 0) ≡ (c.args.gains.0 *ℤ slice_index_or c.args.frame k (pos 0)) +ℤ sum_of_products (decays c.args.echoes.now) (channel_of gone k (pos 0)) = λ k l.
+    let none : slice_index_or (replicate 16 (pos 0)) k (pos 0) ≡ pos 0 = quiet-sample 16 k in
+    let first = c.add_scaled.ensures.added k l in
+    c.pass.ensures.sums k l ∙ ap (λ z. z +ℤ sum_of_products (decays c.args.echoes.now) (channel_of gone k (pos 0))) (first ∙ ap (λ z. z +ℤ (c.args.gains.0 *ℤ slice_index_or c.args.frame k (pos 0))) none ∙ omega (arith, ints)) in
+    c.rounded_sums-out.ensures.frame ∙ ap (λ (g : Given). g.samples) (echoed-is a c.args.frame c.pass.new.sums gone sums)
+
+pub returns-clause-clips : goal.returns-clause-clips
+returns-clause-clips c =
+    let gone : List Samples = let_go c.args.channels c.args.lines.now c.args.frame (replicate c.args.channels (pos 0)) in
+    let a : EchoArguments = record { channels = c.args.channels; gain_in = c.args.gains.0; gain_out = c.args.gains.1; echoes = c.args.echoes.now } in
+    let sums : (k : ℕ) → k < c.args.channels → slice_index_or c.pass.new.sums k (pos 0) ≡ (c.args.gains.0 *ℤ slice_index_or c.args.frame k (pos 0)) +ℤ sum_of_products (decays c.args.echoes.now) (channel_of gone k (pos 0)) = λ k l.
+    let none : slice_index_or (replicate 16 (pos 0)) k (pos 0) ≡ pos 0 = quiet-sample 16 k in
+    let first = c.add_scaled.ensures.added k l in
+    c.pass.ensures.sums k l ∙ ap (λ z. z +ℤ sum_of_products (decays c.args.echoes.now) (channel_of gone k (pos 0))) (first ∙ ap (λ z. z +ℤ (c.args.gains.0 *ℤ slice_index_or c.args.frame k (pos 0))) none ∙ omega (arith, ints)) in
+    c.rounded_sums-out.ensures.clips ∙ ap (λ (g : Given). g.clips) (echoed-is a c.args.frame c.pass.new.sums gone sums)
