@@ -11,7 +11,7 @@ use Rattle.fx_frame.specs.Line.{Frames}
 use Rattle.fx_frame.specs.Stage.{Freezes, coming, numbers_of}
 use Rattle.fx_cut.specs.Trim.{greatest_end}
 use Rattle.fx_cut.specs.Pad.{PadArguments, PadState, IsPad, IsPadCount, IsPads, ats, later_count, lengths, pad_acts, pad_after, pad_due, pad_left, padded_from, pads_from_start, placed, silence_from, silent_at, unless_last, RisesFrom}
-use Rattle.fx_cut.proofs.Hands.{no-hand}
+use Rattle.fx_cut.proofs.Hands.{no-hand, empty_of}
 use Rattle.fx_cut.proofs.PadLaws.{length_from, length_padded, pad_first, same_silence, upto_more}
 use Rattle.fx_cut.proofs.PadRest.{pad_new}
 use Rattle.fx_cut.proofs.Thawing.{flag, lined}
@@ -154,10 +154,6 @@ IsPad-thawed channels capacity taken given silent held hands ended ps frames lin
       fits = st.held;
     }
   where
-    empty_of : (l : List Samples) → length l ≡ 0 → l ≡ []
-    empty_of [] h = refl
-    empty_of (x ∷ l) h = absurd (omega arith)
-
     state : PadState
     state = record { hand = hand; recipe = record { channels = channels; pads = ps }; silent = silent; line = line; taken = taken; given = given; ended = ended }
 
