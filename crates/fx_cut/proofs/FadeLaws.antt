@@ -13,6 +13,7 @@ use Rattle.fx_frame.specs.Stage.{Given}
 use Rattle.fx_cut.specs.declared.fade.Shape.{Shape}
 use Rattle.fx_cut.specs.Fade.{weight, faded_frame, faded, stop_in, until, before_stop, faded_from, fade_rest, fade_after, is_before, faded_here, ahead_by, stop_ahead, line_by, due_by, fade_line}
 use Rattle.fx_cut.proofs.Fallen.{first-popped}
+use Rattle.fx_cut.proofs.TrimRest.{first_index, next_index}
 
 -- a weight is at most 1, and its denominator is not 0
 pub weight-most : (len n : ℕ) → ((weight len n).0 ≤ (weight len n).1) × (0 < (weight len n).1)
@@ -38,12 +39,6 @@ weight-far (suc len) k j h g = ap (λ n. (n, suc len)) (let e : min k (suc len) 
 map_same : {X : Type 0} (f g : ℕ → X) (a n : ℕ) → ((i : ℕ) → a ≤ i → i < a + n → f i ≡ g i) → map f (range_with_len a n) ≡ map g (range_with_len a n)
 map_same f g a zero h = refl
 map_same f g a (suc n) h = cc (h a (omega arith) (omega arith), map_same f g (a + 1) n (λ i low high. h i (omega arith) (omega arith)))
-
-next_index : (x : List Samples) (f : Samples) (a n : ℕ) → a + 1 ≤ n → slice_index_or (f ∷ x) (n - a) [] ≡ slice_index_or x (n - (a + 1)) []
-next_index x f a n h = ap (λ i. slice_index_or (f ∷ x) i []) (let e : n - a ≡ suc (n - (a + 1)) = omega arith in e)
-
-first_index : (x : List Samples) (f : Samples) (a : ℕ) → slice_index_or (f ∷ x) (a - a) [] ≡ f
-first_index x f a = ap (λ i. slice_index_or (f ∷ x) i []) (let e : a - a ≡ 0 = omega arith in e)
 
 mapped_along : {X : Type 0} (F : ℕ → Samples → X) (a : ℕ) (x : List Samples) → map (λ n. F n (slice_index_or x (n - a) [])) (range_with_len a (length x)) ≡ map (λ e. F e.0 e.1) (enumerate_from a x)
 mapped_along F a [] = refl

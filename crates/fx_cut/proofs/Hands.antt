@@ -1,5 +1,5 @@
--- A frame in hand, or none.
-use Rattle.std.proofs.Common.{◌≡◌, ◌≤◌, true, false, [], length, refl, arith}
+-- A frame in hand, or none; a line without frames.
+use Rattle.std.proofs.Common.{◌≡◌, ◌≤◌, true, false, List, [], ◌∷◌, length, refl, arith}
 use Rattle.std.specs.Prelude.{Option, Some, None, option_to_list, is_none, is_some}
 use Rattle.fx_frame.specs.Frame.{Samples}
 
@@ -22,3 +22,8 @@ at_most_one (Some x) = omega arith
 pub no-hand : (hand : Option Samples) → length (option_to_list hand) ≡ 0 → hand ≡ None
 no-hand None h = refl
 no-hand (Some x) h = absurd (omega arith)
+
+-- a list without elements
+pub empty_of : (l : List Samples) → length l ≡ 0 → l ≡ []
+empty_of [] h = refl
+empty_of (x ∷ l) h = absurd (omega arith)

@@ -16,4 +16,5 @@ pub mod TrimSteps
 pub mod Thawing
 pub mod TrimThaw
 pub mod FadeThaw
+pub mod PadThaw
 pub mod FadeSteps

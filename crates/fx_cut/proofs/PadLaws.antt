@@ -1,8 +1,8 @@
 -- Which pads stand before a frame, and how many frames that makes.
-use Rattle.std.proofs.Common.{◌≡◌, ℕ, zero, suc, ◌+◌, ◌-◌, ◌<◌, ◌≤◌, max, Bool, true, false, cond, ltb, leb, eqb, List, [], ◌∷◌, ◌++◌, map, length, refl, sym, ◌∙◌, ap, subst, inl, inr, arith, length-append, ◌⊎◌, add-one, add-zero, zero-add}
+use Rattle.std.proofs.Common.{◌≡◌, ℕ, zero, suc, ◌+◌, ◌-◌, ◌<◌, ◌≤◌, max, Bool, true, false, cond, ltb, leb, eqb, List, [], ◌∷◌, ◌++◌, map, length, refl, sym, ◌∙◌, ap, subst, inl, inr, arith, length-append, append_assoc, ◌⊎◌, add-one, add-zero, zero-add}
 use Rattle.std.specs.Prelude.{filter, sum_by, flat_map, zip, slice_get, option_to_list, replicate}
-use Rattle.std.specs.List.{range_with_len}
-use Rattle.std.proofs.lemmas.Bool.{leb-false, ne_eqb, eq-eqb, cond-true, lt-ltb, le-ltb, cases_order}
+use Rattle.std.specs.List.{range_with_len, enumerate_from}
+use Rattle.std.proofs.lemmas.Bool.{leb-false, ne_eqb, eq-eqb, cond-true, lt-ltb, le-ltb, cases_order, lt-leb, le-leb, leb-true}
 use Rattle.std.proofs.lemmas.List.{length-replicate}
 use Rattle.std.proofs.lemmas.List.Sums.{sum_by-cons, sum_by-append}
 use Rattle.std.proofs.lemmas.List.Concat.{length-flat_map}
@@ -12,7 +12,7 @@ use Rattle.fx_fixed.specs.declared.positions.At.{At}
 use Rattle.fx_fixed.specs.declared.positions.At.TheVariants.{Start, End}
 use Rattle.fx_frame.specs.Frame.{Samples, silence}
 use Rattle.fx_cut.specs.Trim.{greatest_end}
-use Rattle.fx_cut.specs.Pad.{ats, lengths, is_inside, placed, placed_after, padded, pads_from_start, pad_due, RisesFrom}
+use Rattle.fx_cut.specs.Pad.{ats, lengths, is_inside, placed, placed_after, silent_at, padded, padded_from, silence_from, pads_from_start, pad_due, RisesFrom}
 use Rattle.fx_cut.proofs.Ranges.{range_more}
 
 -- ---- which pads lie before a frame
@@ -152,3 +152,63 @@ none-due ps =
     go : (pads : List (ℕ × ℕ)) → 0 + sum_by (λ p. p.0) (filter (λ p. ltb p.1 0) pads) ≡ 0
     go [] = refl
     go ((k, p) ∷ pads) = ap (λ b. 0 + sum_by (λ p. p.0) (cond b ((k, p) ∷ filter (λ p. ltb p.1 0) pads) (filter (λ p. ltb p.1 0) pads))) (le-ltb p 0 (omega arith)) ∙ go pads
+
+-- ---- how many frames come after a place
+
+-- the pads at a place or behind it
+behind-step : (n : ℕ) (pads : List (ℕ × ℕ)) → silence_from pads n ≡ sum_by (here n) pads + silence_from pads (n + 1)
+behind-step n [] = refl
+behind-step n ((k, p) ∷ pads) = go (cases_order p n) (behind-step n pads) ∙ ap (λ s. s + silence_from ((k, p) ∷ pads) (n + 1)) (sym (sum_by-cons (here n) (k, p) pads))
+  where
+    yes : (m : ℕ) → m ≤ p → silence_from ((k, p) ∷ pads) m ≡ k + silence_from pads m
+    yes m h = ap (λ b. sum_by (λ p. p.0) (cond b ((k, p) ∷ filter (λ p. leb m p.1) pads) (filter (λ p. leb m p.1) pads))) (le-leb m p h) ∙ sum_by-cons (λ p. p.0) (k, p) (filter (λ p. leb m p.1) pads)
+
+    no : (m : ℕ) → p < m → silence_from ((k, p) ∷ pads) m ≡ silence_from pads m
+    no m h = ap (λ b. sum_by (λ p. p.0) (cond b ((k, p) ∷ filter (λ p. leb m p.1) pads) (filter (λ p. leb m p.1) pads))) (lt-leb m p h)
+
+    go : (p ≡ n) ⊎ ((p < n) ⊎ (n < p)) → silence_from pads n ≡ sum_by (here n) pads + silence_from pads (n + 1)
+        → silence_from ((k, p) ∷ pads) n ≡ (here n (k, p) + sum_by (here n) pads) + silence_from ((k, p) ∷ pads) (n + 1)
+    go (inl e) ih = let h : here n (k, p) ≡ k = cond-true (eqb p n) k 0 (eq-eqb p n e) in omega (arith, yes n (omega arith), no (n + 1) (omega arith), h, ih)
+    go (inr (inl l)) ih = omega (arith, no n l, no (n + 1) (omega arith), here_not n k p (λ e. omega arith), ih)
+    go (inr (inr g)) ih = omega (arith, yes n (omega arith), yes (n + 1) (omega arith), here_not n k p (λ e. omega arith), ih)
+
+-- no pad that is taken lies behind the end
+inside-le : (len k : ℕ) (p : At) → is_inside len (k, p) ≡ true → place_of len p ≤ len
+inside-le len k (Start p) h = leb-true p len h
+inside-le len k (End b) h = omega arith
+
+none_behind : (len m : ℕ) (ps : List (ℕ × At)) → m ≤ len → silence_from (placed_after len m ps) (len + 1) ≡ 0
+none_behind len m [] h = refl
+none_behind len m ((k, p) ∷ ps) h = go (is_inside len (k, p)) refl (none_behind len m ps h) (λ g. none_behind len (max m (place_of len p)) ps g)
+  where
+    go : (b : Bool) → is_inside len (k, p) ≡ b → silence_from (placed_after len m ps) (len + 1) ≡ 0 → (max m (place_of len p) ≤ len → silence_from (placed_after len (max m (place_of len p)) ps) (len + 1) ≡ 0)
+        → silence_from (placed_if b len m k p ps) (len + 1) ≡ 0
+    go false e skipped taken = skipped
+    go true e skipped taken =
+        let q : ℕ = max m (place_of len p) in
+        let i = inside-le len k p e in
+        let g : q ≤ len = omega arith in
+        ap (λ b. sum_by (λ p. p.0) (cond b ((k, q) ∷ filter (λ p. leb (len + 1) p.1) (placed_after len q ps)) (filter (λ p. leb (len + 1) p.1) (placed_after len q ps)))) (lt-leb (len + 1) q (omega arith)) ∙ taken g
+
+-- the first frame, behind its silence
+pub pad_first : (channels len : ℕ) (ps : List (ℕ × At)) (n : ℕ) (frame : Samples) (x : List Samples)
+    → padded_from channels len ps n (frame ∷ x) ≡ replicate (silent_at (placed len ps) n) (silence channels) ++ (frame ∷ padded_from channels len ps (n + 1) x)
+pad_first channels len ps n frame x =
+    append_assoc (replicate (silent_at (placed len ps) n) (silence channels) ++ frame ∷ [])
+    (flat_map (λ e. replicate (silent_at (placed len ps) e.0) (silence channels) ++ e.1 ∷ []) (enumerate_from (n + 1) x)) (replicate (silent_at (placed len ps) len) (silence channels))
+    ∙ append_assoc (replicate (silent_at (placed len ps) n) (silence channels)) (frame ∷ []) (padded_from channels len ps (n + 1) x)
+
+-- what is given for the frames from frame n on
+pub length_from : (channels len : ℕ) (ps : List (ℕ × At)) (n : ℕ) (x : List Samples) → n + length x ≡ len → length (padded_from channels len ps n x) ≡ length x + silence_from (placed len ps) n
+length_from channels len ps n [] h =
+    let e : n ≡ len = omega arith in
+    let last : silence_from (placed len ps) len ≡ sum_by (here len) (placed len ps) = behind-step len (placed len ps) ∙ ap (λ k. sum_by (here len) (placed len ps) + k) (none_behind len 0 ps (omega arith)) ∙ add-zero (sum_by (here len) (placed len ps)) in
+    length-replicate (silent_at (placed len ps) len) (silence channels) ∙ sym last ∙ ap (silence_from (placed len ps)) (sym e) ∙ sym (zero-add (silence_from (placed len ps) n))
+length_from channels len ps n (f ∷ x) h =
+    let pads : List (ℕ × ℕ) = placed len ps in
+    let quiet : List Samples = replicate (silent_at pads n) (silence channels) in
+    let more : length (padded_from channels len ps (n + 1) x) ≡ length x + silence_from pads (n + 1) = length_from channels len ps (n + 1) x (omega arith) in
+    let whole : length (padded_from channels len ps n (f ∷ x)) ≡ length quiet + (1 + length (padded_from channels len ps (n + 1) x)) =
+    ap length (pad_first channels len ps n f x) ∙ length-append quiet (f ∷ padded_from channels len ps (n + 1) x) ∙ ap (λ k. length quiet + k) (let e : suc (length (padded_from channels len ps (n + 1) x)) ≡ 1 + length (padded_from channels len ps (n + 1) x) = omega arith in e) in
+    let size : length quiet ≡ sum_by (here n) pads = length-replicate (silent_at pads n) (silence channels) in
+    omega (arith, whole, size, more, behind-step n pads)

@@ -7,7 +7,7 @@ use Rattle.fx_fixed.specs.declared.positions.At.{At}
 use Rattle.fx_frame.specs.Frame.{Samples, silence}
 use Rattle.fx_cut.specs.Trim.{greatest_end}
 use Rattle.fx_cut.specs.Pad.{PadArguments, ats, placed, silent_at, padded, padded_from, pad_rest, pad_after, pads_from_start, unless_last, RisesFrom}
-use Rattle.fx_cut.proofs.PadLaws.{same_silence}
+use Rattle.fx_cut.proofs.PadLaws.{pad_first, same_silence}
 
 flat_same : {X : Type 0} (f g : ℕ → List X) (a n : ℕ) → ((i : ℕ) → a ≤ i → i < a + n → f i ≡ g i) → flat_map f (range_with_len a n) ≡ flat_map g (range_with_len a n)
 flat_same f g a zero h = refl
@@ -35,13 +35,6 @@ pad_new channels ps z =
 
 pub pad_taken : (channels : ℕ) (ps : List (ℕ × At)) (n : ℕ) (items : List Samples) (frame : Samples) (z : List Samples) → pad_rest channels ps n items (frame ∷ z) ≡ pad_rest channels ps n (items ++ frame ∷ []) z
 pad_taken channels ps n items frame z = ap (λ y. padded_from channels (n + length y) ps n y) (sym (append_assoc items (frame ∷ []) z))
-
-pad_first : (channels len : ℕ) (ps : List (ℕ × At)) (n : ℕ) (frame : Samples) (x : List Samples)
-    → padded_from channels len ps n (frame ∷ x) ≡ replicate (silent_at (placed len ps) n) (silence channels) ++ (frame ∷ padded_from channels len ps (n + 1) x)
-pad_first channels len ps n frame x =
-    append_assoc (replicate (silent_at (placed len ps) n) (silence channels) ++ frame ∷ [])
-    (flat_map (λ e. replicate (silent_at (placed len ps) e.0) (silence channels) ++ e.1 ∷ []) (enumerate_from (n + 1) x)) (replicate (silent_at (placed len ps) len) (silence channels))
-    ∙ append_assoc (replicate (silent_at (placed len ps) n) (silence channels)) (frame ∷ []) (padded_from channels len ps (n + 1) x)
 
 pub pad_let_go : (channels : ℕ) (ps : List (ℕ × At)) (n : ℕ) (o : Samples) (items z : List Samples) → RisesFrom 0 (ats ps) → greatest_end (ats ps) ≤ length items
     → pad_rest channels ps n (o ∷ items) z ≡ replicate (silent_at (pads_from_start ps) n) (silence channels) ++ (o ∷ pad_rest channels ps (n + 1) items z)

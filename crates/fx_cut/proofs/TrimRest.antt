@@ -21,10 +21,10 @@ picked_same {X} f g p q a (suc n) same_test same =
     go true e = cc (same a (omega arith) (omega arith), e)
     go false e = e
 
-next_index : (x : List Samples) (f : Samples) (a n : ℕ) → a + 1 ≤ n → slice_index_or (f ∷ x) (n - a) [] ≡ slice_index_or x (n - (a + 1)) []
+pub next_index : (x : List Samples) (f : Samples) (a n : ℕ) → a + 1 ≤ n → slice_index_or (f ∷ x) (n - a) [] ≡ slice_index_or x (n - (a + 1)) []
 next_index x f a n h = ap (λ i. slice_index_or (f ∷ x) i []) (let e : n - a ≡ suc (n - (a + 1)) = omega arith in e)
 
-first_index : (x : List Samples) (f : Samples) (a : ℕ) → slice_index_or (f ∷ x) (a - a) [] ≡ f
+pub first_index : (x : List Samples) (f : Samples) (a : ℕ) → slice_index_or (f ∷ x) (a - a) [] ≡ f
 first_index x f a = ap (λ i. slice_index_or (f ∷ x) i []) (let e : a - a ≡ 0 = omega arith in e)
 
 picked_along : (p : ℕ → Bool) (a : ℕ) (x : List Samples) → map (λ n. slice_index_or x (n - a) []) (filter p (range_with_len a (length x))) ≡ map (λ e. e.1) (filter (λ e. p e.0) (enumerate_from a x))

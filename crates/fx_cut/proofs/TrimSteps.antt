@@ -14,7 +14,7 @@ use Rattle.fx_frame.specs.Stage.{Gave, Took, coming, is_enough}
 use Rattle.fx_cut.specs.Lists.{plain}
 use Rattle.fx_cut.specs.Trim.{keeps, starts, greatest_end, is_start, last_start, trimmed_from, trim_rest, trim_after, trim_enough, TrimState, IsTrim, trim_acts}
 use Rattle.fx_cut.proofs.Fallen.{fallen, stays, no_fall, stays-room, is_full, oldest-first, oldest-channels, first-popped}
-use Rattle.fx_cut.proofs.Hands.{none_of, at_most_one}
+use Rattle.fx_cut.proofs.Hands.{none_of, at_most_one, empty_of}
 use Rattle.fx_cut.proofs.Ranges.{kept_next}
 use Rattle.fx_cut.proofs.TrimLaws.{none-late}
 use Rattle.fx_cut.proofs.TrimRest.{trim_taken, trim_let_go, trim_ended}
@@ -192,10 +192,6 @@ none_from len n ps [] s even h = refl
 none_from len n ps (f ∷ x) s even h =
     ap (λ b. map (λ e. e.1) (cond b ((n, f) ∷ filter (λ e. keeps (places_of len ps) e.0) (enumerate_from (n + 1) x)) (filter (λ e. keeps (places_of len ps) e.0) (enumerate_from (n + 1) x)))) (none-late len n ps s even h)
     ∙ none_from len (n + 1) ps x s even (omega arith)
-
-empty_of : (l : List Samples) → length l ≡ 0 → l ≡ []
-empty_of [] h = refl
-empty_of (x ∷ l) h = absurd (omega arith)
 
 pub spent-rest : (s : TrimState) → IsTrim s → s.hand ≡ None → is_enough (trim_enough s.recipe.positions) s.taken ≡ true → (z : List Samples)
     → trim_acts.rest s z ≡ []

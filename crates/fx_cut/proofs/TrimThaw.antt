@@ -1,5 +1,5 @@
 -- A trim that comes back from its frames and numbers.
-use Rattle.std.proofs.Common.{◌≡◌, ℕ, ℤ, ◌+◌, ◌-◌, ◌≤◌, ◌^◌, Bool, List, [], ◌∷◌, length, refl, sym, ◌∙◌, ap, arith, length-append}
+use Rattle.std.proofs.Common.{◌≡◌, ℕ, ℤ, ◌+◌, ◌-◌, ◌≤◌, ◌^◌, Bool, List, length, sym, ◌∙◌, ap, arith, length-append}
 use Rattle.std.specs.Prelude.{Option, option_to_list, nat_eq, slice_index_or}
 use Rattle.fx_fixed.specs.declared.positions.At.{At}
 use Rattle.fx_frame.specs.Frame.{Samples}
@@ -7,7 +7,7 @@ use Rattle.fx_frame.specs.Frozen.{IsStored}
 use Rattle.fx_frame.specs.Line.{Frames}
 use Rattle.fx_frame.specs.Stage.{numbers_of}
 use Rattle.fx_cut.specs.Trim.{TrimState, IsTrim, IsTrimCount, greatest_end, trim_acts, trim_enough}
-use Rattle.fx_cut.proofs.Hands.{no-hand}
+use Rattle.fx_cut.proofs.Hands.{no-hand, empty_of}
 use Rattle.fx_cut.proofs.Thawing.{flag, lined}
 
 count-of : (s : TrimState) → IsTrim s → IsTrimCount s.recipe.positions s.taken s.given (length s.line.items) (length (option_to_list s.hand)) s.ended
@@ -23,10 +23,6 @@ pub frozen-count : (s : TrimState) (ps : List At) (numbers : List ℕ) → IsTri
 frozen-count s ps numbers is e f =
     let l = lined s.line.items (option_to_list s.hand) in
     rw (f, flag s.ended, l, ← e) (count-of s is)
-
-empty_of : (l : List Samples) → length l ≡ 0 → l ≡ []
-empty_of [] h = refl
-empty_of (x ∷ l) h = absurd (omega arith)
 
 -- a trim of such counts that stores these frames
 pub IsTrim-thawed : (channels capacity taken given held hands : ℕ) (ended : Bool) (ps : List At) (enough : Option ℕ) (frames : List Samples) (line : Frames ℤ) (hand : Option Samples)

@@ -118,6 +118,21 @@ pub record IsPad (s : PadState) : Type 0 where
   pub over : s.ended ≡ true → s.hand ≡ None → s.line.items ≡ []
   pub fits : IsHand s.recipe.channels s.hand
 
+-- how many silent frames stand at a place or behind it
+abbrev pub silence_from : List (ℕ × ℕ) → ℕ → ℕ
+silence_from pads n = sum_by (λ p. p.0) (filter (λ p. nat_le n p.1) pads)
+
+-- how many frames come after the one in hand, after the end of a sound of so many frames, the last of which are in the line
+abbrev pub later_count : List (ℕ × At) → ℕ → ℕ → ℕ → ℕ
+later_count pads taken lined hands = if nat_eq hands 0 then 0 else lined + silence_from (placed taken pads) (taken - lined)
+
+-- what holds of its counts alone: so many frames taken and given, in the line and in hand, and silent ones to be given
+pub record IsPadCount (pads : List (ℕ × At)) (taken given silent lined hands : ℕ) (ended : Bool) : Type 0 where
+  pub full : ended ≡ false → lined ≡ min taken (greatest_end (ats pads))
+  pub counted : ended ≡ false → given + silent + hands ≡ pad_due pads taken
+  pub over : ended ≡ true → hands ≡ 0 → lined ≡ 0
+  pub within : ended ≡ true → given + silent + hands + later_count pads taken lined hands ≤ taken + lengths pads
+
 -- how the stages of `pad` behave
 abbrev pub pad_acts : Acts PadState PadArguments
 pad_acts = record {

@@ -1,14 +1,15 @@
 //! The effect `pad` of sox(1): silence at positions.
-ghost use Rattle.std.specs.Prelude.{◌≡◌, ◌≤◌, ◌-◌, ◌^◌, drop, length, slice_get, IfOk};
+ghost use Rattle.std.specs.Prelude.{◌≡◌, ◌≤◌, ◌-◌, ◌^◌, drop, filter, length, nat_lt, slice_get, sum_by, Err, IfOk, MatchResult, true, false};
 ghost use Rattle.std.specs.Int.{w32};
 ghost use Rattle.fx_frame.specs.Frozen.{IsHand};
 ghost use Rattle.fx_frame.specs.Line.{IsLine};
-ghost use Rattle.fx_frame.specs.Stage.{IsNew};
+ghost use Rattle.fx_frame.specs.Stage.{Freezes, IsNew};
 ghost use Rattle.fx_cut.specs.Trim.{greatest_end};
-ghost use Rattle.fx_cut.specs.Pad.{IsPads, IsPad, PadArguments, PadState, ats, lengths, pad_acts, pad_rises, pads_from_start, placed, silent_at};
+ghost use Rattle.fx_cut.specs.Pad.{IsPad, IsPadCount, IsPads, PadArguments, PadState, ats, later_count, lengths, pad_acts, pad_rises, pads_from_start, placed, silence_from, silent_at};
 
 use fx_fixed::At;
-use fx_frame::{Frame, Line, Stage, WideFrame};
+use fx_frame::frozen::thawed_line_and_hand;
+use fx_frame::{Frame, Line, Stage, ThawFault, WideFrame};
 use std::alloc::{AllocError, Global};
 use std::marker::Model;
 
@@ -63,6 +64,101 @@ fn silence_in(pads: &[(u64, At)], frames: u64, place: u64) -> u64
         }
     }
     silent
+}
+
+/// How many silent frames the pads have together.
+fn lengths_of(pads: &[(u64, At)]) -> u64
+    requires { lengths pads.now ≤ 2 ^ 46 }
+    ensures { result ≡ lengths pads.now }
+{
+    let mut silent = 0;
+    'pads: for (length, _at) in pads {
+        silent += *length;
+    }
+    silent
+}
+
+/// How many silent frames stand before this place, as far as the pads before the first one from the end say.
+fn silence_before(pads: &[(u64, At)], end: u64) -> u64
+    requires { lengths pads.now ≤ 2 ^ 46 }
+    ensures { result ≡ sum_by (λ p. p.0) (filter (λ p. nat_lt p.1 end) (pads_from_start pads.now)) }
+{
+    let mut silent = 0;
+    'pads: for (length, at) in pads {
+        let At::Start(start) = at else {
+            return silent;
+        };
+        if *start < end {
+            silent += *length;
+        }
+    }
+    silent
+}
+
+/// How many silent frames stand at this place or behind it, in a sound of so many frames.
+fn silence_behind(pads: &[(u64, At)], frames: u64, place: u64) -> u64
+    requires { lengths pads.now ≤ 2 ^ 46 }
+    ensures { result ≡ silence_from (placed frames pads.now) place }
+{
+    let mut last = 0;
+    let mut silent = 0;
+    'pads: for (length, at) in pads {
+        let position = match at {
+            At::Start(start) => *start,
+            At::End(distance) => frames.saturating_sub(*distance),
+        };
+        if frames < position {
+            continue 'pads;
+        }
+        last = last.max(position);
+        if place <= last {
+            silent += *length;
+        }
+    }
+    silent
+}
+
+/// How many frames come after those in hand, after the end of a sound of so many frames, the last of which are in the line.
+fn later_frames(pads: &[(u64, At)], taken: u64, lined: u64, hands: u64) -> u128
+    requires lined { lined ≤ taken }
+    requires pads { lengths pads.now ≤ 2 ^ 46 }
+    ensures value { result ≡ later_count pads.now taken lined hands }
+    ensures few { result ≤ 2 ^ 65 }
+{
+    if hands == 0 {
+        return 0;
+    }
+    u128::from(lined) + u128::from(silence_behind(pads, taken, taken - lined))
+}
+
+/// Does a stage of these pads, with so many frames in its line and in hand, count so? Before the end it has given what is due,
+/// after the end no more than came and the pads have.
+fn is_count(
+    pads: &[(u64, At)],
+    taken: u64,
+    given: u64,
+    silent: u64,
+    lined: u64,
+    hands: u64,
+    is_ended: bool,
+) -> bool
+    requires lined { lined ≤ taken }
+    requires pads { lengths pads.now ≤ 2 ^ 46 }
+    ensures count { result ≡ true → IsPadCount pads.now taken given silent lined hands is_ended }
+    ensures other { result ≡ false → IsPadCount pads.now taken given silent lined hands is_ended → ⊥ }
+{
+    let made = u128::from(given) + u128::from(silent) + u128::from(hands);
+    if is_ended {
+        let most = u128::from(taken) + u128::from(lengths_of(pads));
+        let all = made + later_frames(pads, taken, lined, hands);
+        return (hands != 0 || lined == 0) && all <= most;
+    }
+    let reach = greatest_end_of(pads);
+    if lined != taken.min(reach) {
+        return false;
+    }
+    let before = taken.saturating_sub(reach);
+    made == u128::from(before) + u128::from(silence_before(pads, before))
 }
 
 /// The silent frames before the oldest frame of the line, and that frame, in a sound of so many frames that ends with those of
@@ -135,6 +231,60 @@ impl Pad {
             taken: 0,
             given: 0,
             ended: false,
+        })
+    }
+
+    /// The stage that stored these frames and counted these numbers: whichever stage of these arguments they came from, that
+    /// stage comes back, unless memory is refused. BadSnapshot where there is no such stage, Memory where memory is refused.
+    pub fn thaw(
+        alloc: Global,
+        channels: usize,
+        pads: &[(u64, At)],
+        frames: &[WideFrame],
+        numbers: &[u64; 8],
+    ) -> Result<Pad, ThawFault>
+        requires channels { (1 ≤ channels) × (channels ≤ 16) }
+        requires pads { IsPads pads.now }
+        requires line { greatest_end (ats pads.now) ≤ 2 ^ 28 }
+        ensures recipe { IfOk result (λ t. t.recipe ≡ record { channels = channels; pads = pads.now }) }
+        ensures frozen { IfOk result (λ t. Freezes pad_acts t frames.now numbers.now) }
+        ensures named { (result ≡ Err ThawFault.WrongPlan) → ⊥ }
+        ensures thawed { (s : PadState) → IsPad s → s.recipe ≡ record { channels = channels; pads = pads.now } → Freezes pad_acts s frames.now numbers.now → MatchResult result (λ t. t ≡ s) (λ e. e ≡ ThawFault.Memory) }
+    {
+        let [taken, given, ended, clips, held, silent, hands, eighth] = *numbers;
+        let capacity = greatest_end_of(pads);
+        if ended > 1 || clips != 0 || eighth != 0 || held != frames.len() as u64 {
+            return Err(ThawFault::BadSnapshot);
+        }
+        if taken > 1 << 56 || held > taken || hands > held {
+            return Err(ThawFault::BadSnapshot);
+        }
+        if !is_count(pads, taken, given, silent, held - hands, hands, ended == 1) {
+            return Err(ThawFault::BadSnapshot);
+        }
+        let mut own = Vec::new(alloc);
+        let Ok(()) = own.extend_from_slice(pads) else {
+            return Err(ThawFault::Memory);
+        };
+        let (line, hand) = match thawed_line_and_hand(
+            alloc,
+            channels,
+            capacity as usize,
+            frames,
+            hands,
+        ) {
+            Ok(stored) => stored,
+            Err(fault) => return Err(fault),
+        };
+        Ok(Pad {
+            hand,
+            channels,
+            pads: own,
+            silent,
+            line,
+            taken,
+            given,
+            ended: ended == 1,
         })
     }
 }

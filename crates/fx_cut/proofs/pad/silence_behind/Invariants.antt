@@ -1,0 +1,9 @@
+use Rattle.std.proofs.Common.{◌≡◌, ◌≤◌, ◌+◌, drop}
+use Rattle.fx_cut.specs.Pad.{lengths, placed, placed_after, silence_from}
+use Rattle.fx_cut.proofs.pad.silence_behind.Given as goal
+
+abbrev pub invariant-pads : goal.invariant-pads
+invariant-pads l = record {
+  counted : l.silent + silence_from (placed_after l.frames l.last (drop l.length-index l.pads)) l.place ≡ silence_from (placed l.frames l.pads) l.place;
+  few : l.silent + lengths (drop l.length-index l.pads) ≤ lengths l.pads;
+}
