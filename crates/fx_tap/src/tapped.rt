@@ -1,5 +1,5 @@
 //! Effects that make each frame of that frame and of frames at fixed distances before it: a line, and a tail after the end.
-ghost use Rattle.std.specs.Prelude.{◌≡◌, ◌≤◌, ◌^◌, ◌++◌, ◌∷◌, [], None, true, length, Err, IfOk, MatchOption, MatchResult};
+ghost use Rattle.std.specs.Prelude.{◌≡◌, ◌<◌, ◌≤◌, ◌^◌, ◌++◌, ◌∷◌, [], None, length, Err, IfOk, MatchResult};
 ghost use Rattle.fx_frame.specs.Stage.{Freezes, Gave, IsNew};
 ghost use Rattle.fx_tap.specs.Tapped.{IsNear, Taps, TapState, sample_before, tap_acts};
 
@@ -135,13 +135,11 @@ impl<T: Tapping + Drop> Tapped<T> {
 
     /// Gives a frame that is made of silence, which comes after those of the line.
     #[inline(never)]
-    fn give_of_tail(&mut self) -> Option<Frame>
-        requires { self.old.hand ≡ None }
-        ensures { MatchOption result (((tap_acts T.taps).dry self.old ≡ true) × (self.new ≡ self.old)) (Gave (tap_acts T.taps) self.old self.new) }
+    fn give_of_tail(&mut self) -> Frame
+        requires hand { self.old.hand ≡ None }
+        requires tail { 0 < self.old.tail }
+        ensures { Gave (tap_acts T.taps) self.old self.new result }
     {
-        if self.tail == 0 {
-            return None;
-        }
         let quiet = Frame::silence(self.arguments.channels());
         let (made, clips) = self.arguments.tap(&self.line, quiet);
         self.line.push(quiet);
@@ -149,7 +147,7 @@ impl<T: Tapping + Drop> Tapped<T> {
         self.tail -= 1;
         self.given += 1;
         self.clips += clips;
-        Some(made)
+        made
     }
 }
 
@@ -181,7 +179,10 @@ impl<T: Tapping + Drop> Stage for Tapped<T> {
 
     fn give(&mut self) -> Option<Frame> {
         let Some(frame) = self.hand else {
-            return self.give_of_tail();
+            if self.tail == 0 {
+                return None;
+            }
+            return Some(self.give_of_tail());
         };
         self.hand = None;
         self.given += 1;

@@ -1,11 +1,10 @@
-use Rattle.std.proofs.Common.{◌<◌, arith, ap, ◌∙◌}
+use Rattle.std.proofs.Common.{ap, ◌∙◌}
 use Rattle.fx_frame.specs.Frame.{silence}
 use Rattle.fx_tap.proofs.TapLaws.{Gave-tail}
 use Rattle.fx_tap.proofs.tapped.Tapped.give_of_tail.Goals as goal
 
 pub returns : goal.returns
 returns g c =
-    let some : 0 < c.self.inside.tail = omega arith in
     rw (← c.self.view_is)
-    (Gave-tail g.T.Tapping.taps g.met.T.Tapping.near _ _ c.silence-quiet.result c.tap-made.result.0 _ c.self.invariant (rw (← c.self.view_is) at c.requires) some (c.silence-quiet.ensures ∙ ap silence c.channels.ensures.value)
+    (Gave-tail g.T.Tapping.taps g.met.T.Tapping.near _ _ c.silence-quiet.result c.tap-made.result.0 _ c.self.invariant (rw (← c.self.view_is) at c.requires.hand) (rw (← c.self.view_is) at c.requires.tail) (c.silence-quiet.ensures ∙ ap silence c.channels.ensures.value)
     c.tap-made.ensures.frame c.tap-made.ensures.clips c.tap-made.ensures.channels c.push.ensures.items c.push.ensures.capacity)
