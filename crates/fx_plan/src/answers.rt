@@ -3,13 +3,15 @@
 ghost use Rattle.std.specs.Prelude.{◌≡◌, ◌<◌, ◌≤◌, ◌-◌, ◌^◌, IsTrue, Some, length, map, slice_get};
 ghost use Rattle.fx_sound.specs.Kind.{is_coding_of};
 ghost use Rattle.fx_plan.specs.Bounds.{hold_all, hold_of, work_of};
+ghost use Rattle.std.specs.List.{All};
+ghost use Rattle.fx_plan.specs.Effects.{Usable, act};
 ghost use Rattle.fx_plan.specs.Faults.{texts};
 ghost use Rattle.fx_plan.specs.Groups.{effects_of};
 ghost use Rattle.fx_plan.specs.Planning.{coding_for, head_layout, planning, planning_of, width_for};
 ghost use Rattle.fx_plan.specs.Plans.{PlanReads, all_faults, bytes_of};
 
-use crate::bounds::hold;
-use crate::effect::Layout;
+use crate::bounds::{hold, work};
+use crate::effect::{Effect, Layout};
 use crate::fault::PlanFault;
 use crate::plan::Plan;
 use crate::planned::read_plan;
@@ -141,5 +143,30 @@ impl Plan {
         ensures most { result ≤ 2 ^ 28 }
     {
         hold(&self.effects)
+    }
+
+    /// How many frames effect `number`, counted from 1, holds at most: its line and one in hand.
+    pub fn hold_of(&self, number: usize) -> u64
+        requires first { 1 ≤ number }
+        requires last { number ≤ length (planning self.now).acts }
+        ensures { slice_get (map hold_of (planning self.now).acts) (number - 1) ≡ Some result }
+    {
+        self.effects[number - 1].line() + 1
+    }
+
+    /// How many frames the first frame's place and the effects hand over for so many frames at the most.
+    pub fn work(&self, frames: u64) -> u64
+        requires { frames ≤ 2 ^ 40 }
+        ensures { result ≡ work_of (planning self.now).acts frames }
+    {
+        work(&self.effects, frames)
+    }
+
+    /// The effects with their arguments, in order.
+    pub fn effects(&self) -> &[Effect]
+        ensures value { map act result.now ≡ (planning self.now).acts }
+        ensures usable { All Usable (map act result.now) }
+    {
+        &self.effects
     }
 }
