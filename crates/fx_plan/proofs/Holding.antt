@@ -5,12 +5,12 @@ use Rattle.std.proofs.lemmas.Option.{slice_get-map, slice_get_read}
 use Rattle.std.proofs.lemmas.List.Sums.{get_or-le-sum_by}
 use Rattle.std.proofs.lemmas.List.{length-map, get_or-map}
 use Rattle.fx_plan.specs.declared.effect.Effect.{Effect}
-use Rattle.fx_plan.specs.Effects.{act}
+use Rattle.fx_plan.specs.Effects.{Act, act}
 use Rattle.fx_plan.specs.Bounds.{hold_all, hold_of, line_of}
 
-pub hold_at : (es : List Effect) (i : ℕ) (e : Effect) → i < length es → e ≡ get_or es i e → slice_get (map hold_of (map act es)) i ≡ Some (line_of (act e) + 1)
-hold_at es i e within is =
-    slice_get-map hold_of (map act es) i ∙ ap (option_map hold_of) (slice_get-map act es i ∙ ap (option_map act) (slice_get_read es (length es) i e refl within is))
+pub told_at : {X : Type 0} (f : Act → X) (es : List Effect) (i : ℕ) (e : Effect) → i < length es → e ≡ get_or es i e → slice_get (map f (map act es)) i ≡ Some (f (act e))
+told_at f es i e within is =
+    slice_get-map f (map act es) i ∙ ap (option_map f) (slice_get-map act es i ∙ ap (option_map act) (slice_get_read es (length es) i e refl within is))
 
 pub hold_part : (es : List Effect) (i : ℕ) (e : Effect) → i < length es → e ≡ get_or es i e → line_of (act e) + 1 ≤ hold_all (map act es)
 hold_part es i e within is =

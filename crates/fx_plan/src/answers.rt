@@ -1,10 +1,10 @@
 //! How a plan is made, and what it tells.
 
-ghost use Rattle.std.specs.Prelude.{◌≡◌, ◌<◌, ◌≤◌, ◌-◌, ◌^◌, IsTrue, Some, length, map, slice_get};
+ghost use Rattle.std.specs.Prelude.{◌≡◌, ◌<◌, ◌≤◌, ◌-◌, ◌^◌, IfOk, IsTrue, Some, length, map, slice_get};
 ghost use Rattle.fx_sound.specs.Kind.{is_coding_of};
 ghost use Rattle.fx_plan.specs.Bounds.{hold_all, hold_of, work_of};
 ghost use Rattle.std.specs.List.{All};
-ghost use Rattle.fx_plan.specs.Effects.{Usable, act};
+ghost use Rattle.fx_plan.specs.Effects.{Usable, act, name_text};
 ghost use Rattle.fx_plan.specs.Faults.{texts};
 ghost use Rattle.fx_plan.specs.Groups.{effects_of};
 ghost use Rattle.fx_plan.specs.Planning.{coding_for, head_layout, planning, planning_of, width_for};
@@ -14,10 +14,10 @@ use crate::bounds::{hold, work};
 use crate::effect::{Effect, Layout};
 use crate::fault::PlanFault;
 use crate::plan::Plan;
-use crate::planned::read_plan;
+use crate::planned::{copy_effects, read_plan};
 use fx_frame::Coding;
 use fx_sound::{Head, Kind};
-use std::alloc::Global;
+use std::alloc::{AllocError, Global};
 
 /// The coding of so many bytes a sample in a container.
 fn coding_for_width(kind: Kind, width: usize) -> Coding
@@ -160,6 +160,30 @@ impl Plan {
         ensures { result ≡ work_of (planning self.now).acts frames }
     {
         work(&self.effects, frames)
+    }
+
+    /// The name of effect `number`, counted from 1.
+    pub fn effect_name(&self, number: usize) -> &'static str
+        requires first { 1 ≤ number }
+        requires last { number ≤ length (planning self.now).acts }
+        ensures { slice_get (map name_text (planning self.now).acts) (number - 1) ≡ Some result.now }
+    {
+        self.effects[number - 1].name()
+    }
+
+    /// A plan with the same parts.
+    pub fn copy(&self, alloc: Global) -> Result<Plan, AllocError>
+        ensures { IfOk result (λ copy. planning copy ≡ planning self.now) }
+    {
+        let effects = copy_effects(alloc, &self.effects)?;
+        Ok(Plan {
+            head: self.head,
+            kind: self.kind,
+            coding: self.coding,
+            is_named: self.is_named,
+            effects,
+            layout: self.layout,
+        })
     }
 
     /// The effects with their arguments, in order.
