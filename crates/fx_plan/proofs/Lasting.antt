@@ -1,9 +1,13 @@
 -- Which lengths are past the limit.
-use Rattle.std.proofs.Common.{◌≡◌, ℕ, ◌^◌, ◌≤◌, ◌<◌, List, [], ◌∷◌, true, false, refl, arith}
+use Rattle.std.proofs.Common.{◌≡◌, ℕ, zero, suc, ◌+◌, ◌*◌, ◌^◌, ◌≤◌, ◌<◌, List, [], ◌∷◌, true, false, length, refl, arith, sym, ◌∙◌, mul-le-mul_right}
+use Rattle.std.specs.Int.{div_ceil}
+use Rattle.std.proofs.Math.Nat.{div-zero, mod-zero, lt_of_mul-lt-mul_right}
+use Rattle.std.proofs.lemmas.Grind.{div_ceil_times}
 use Rattle.std.specs.List.{list_any}
+use Rattle.std.proofs.lemmas.List.Sums.{sum_by-cons}
 use Rattle.std.proofs.lemmas.Bool.Decides.{nat_tests}
-use Rattle.fx_plan.specs.Effects.{Act}
-use Rattle.fx_plan.specs.Bounds.{is_past, mosts, most_of}
+use Rattle.fx_plan.specs.Effects.{Act, OfTrim, OfPad, OfDelay, OfEcho, OfEchos, OfFade, OfVol, OfDcShift, OfFir, OfRemix, OfUpsample, OfDownsample}
+use Rattle.fx_plan.specs.Bounds.{is_past, mosts, most_of, work_of}
 
 pub is_past-yes : (n : ℕ) → 2 ^ 56 < n → is_past n ≡ true
 is_past-yes n h = grind (arith, nat_tests)
@@ -17,3 +21,57 @@ mosts-past (a ∷ acts) n h = rw (is_past-yes n h) refl
 
 pub mosts-step : (a : Act) (acts : List Act) (n : ℕ) → n ≤ 2 ^ 56 → list_any is_past (mosts (a ∷ acts) n) ≡ list_any is_past (mosts acts (most_of a n))
 mosts-step a acts n h = rw (is_past-no n h) refl
+
+-- a quotient is no greater where its product is below the product of the one after
+pub by_products : (a b f s t : ℕ) → a * f < s + f → s ≤ t → t ≤ b * f → a ≤ b
+by_products a b f s t p q r =
+    let h : a * f < (b + 1) * f = omega arith in
+    let k : a < b + 1 = lt_of_mul-lt-mul_right f h in
+    omega arith
+
+-- rounded up, a greater number has no smaller part
+pub ceil_rises : (m n f : ℕ) → m ≤ n → div_ceil m f ≤ div_ceil n f
+ceil_rises m n zero h = rw (div-zero, mod-zero) (omega arith)
+ceil_rises m n (suc f) h = by_products (div_ceil m (suc f)) (div_ceil n (suc f)) (suc f) m n (div_ceil_times m (suc f) (omega arith)).1 h (div_ceil_times n (suc f) (omega arith)).0
+
+-- more frames in make no fewer out
+pub most_rises : (a : Act) (m n : ℕ) → m ≤ n → most_of a m ≤ most_of a n
+most_rises (OfTrim ps) m n h = h
+most_rises (OfPad pads) m n h = omega arith
+most_rises (OfDelay ds) m n h = omega arith
+most_rises (OfEcho e) m n h = omega arith
+most_rises (OfEchos e) m n h = omega arith
+most_rises (OfFade fade) m n h = h
+most_rises (OfVol gain) m n h = h
+most_rises (OfDcShift shift) m n h = h
+most_rises (OfFir gains) m n h = h
+most_rises (OfRemix specs) m n h = h
+most_rises (OfUpsample factor) m n h = mul-le-mul_right factor h
+most_rises (OfDownsample factor) m n h = ceil_rises m n factor h
+
+-- where nothing is past the limit, n is not, and nothing behind the first effect is
+pub within-here : (acts : List Act) (n : ℕ) → list_any is_past (mosts acts n) ≡ false → n ≤ 2 ^ 56
+within-here [] n h = grind (arith, nat_tests)
+within-here (a ∷ acts) n h = grind (arith, nat_tests)
+
+pub within-next : (a : Act) (acts : List Act) (n : ℕ) → list_any is_past (mosts (a ∷ acts) n) ≡ false → list_any is_past (mosts acts (most_of a n)) ≡ false
+within-next a acts n h = sym (mosts-step a acts n (within-here (a ∷ acts) n h)) ∙ h
+
+-- what is short of the limit for more frames is so for fewer
+pub within-fewer : (acts : List Act) (m n : ℕ) → m ≤ n → list_any is_past (mosts acts n) ≡ false → list_any is_past (mosts acts m) ≡ false
+within-fewer [] m n h e = let k = within-here [] n e in rw (is_past-no m (omega arith)) refl
+within-fewer (a ∷ acts) m n h e =
+    let k = within-here (a ∷ acts) n e in
+    mosts-step a acts m (omega arith) ∙ within-fewer acts (most_of a m) (most_of a n) (most_rises a m n h) (within-next a acts n e)
+
+-- the first frames, and the work behind them
+pub work-cons : (a : Act) (acts : List Act) (n : ℕ) → work_of (a ∷ acts) n ≡ n + work_of acts (most_of a n)
+work-cons a acts n = sum_by-cons (λ x. x) n (mosts acts (most_of a n))
+
+-- the work of at most 32 effects fits 64 bits
+pub work-bound : (acts : List Act) (n : ℕ) → list_any is_past (mosts acts n) ≡ false → work_of acts n ≤ (length acts + 1) * 2 ^ 56
+work-bound [] n h = let k = within-here [] n h in omega arith
+work-bound (a ∷ acts) n h =
+    let k = within-here (a ∷ acts) n h in
+    let rest = work-bound acts (most_of a n) (within-next a acts n h) in
+    omega (arith, work-cons a acts n, k, rest)

@@ -1,5 +1,5 @@
 -- An effect with its resolved arguments: what its words give, and the layout behind it.
-use Rattle.std.specs.Prelude.{ℕ, ◌*◌, ◌/◌, ◌^◌, ◌<◌, ◌≤◌, ◌≡◌, nat_le, ◌&&◌, Bool, true, List, [], ◌∷◌, length, ℤ, ⊤, Option, Some, None}
+use Rattle.std.specs.Prelude.{ℕ, ◌*◌, ◌/◌, ◌^◌, ◌<◌, ◌≤◌, ◌≡◌, nat_le, ◌&&◌, Bool, true, List, [], ◌∷◌, codes, length, ℤ, ⊤, Option, Some, None}
 use Rattle.fx_fixed.specs.declared.positions.At.{At}
 use Rattle.fx_plan.specs.declared.effect.Layout.{Layout}
 use Rattle.fx_plan.specs.declared.effect.Effect.{Effect}
@@ -153,3 +153,18 @@ is_usable (OfDownsample factor) = nat_le 1 factor && nat_le factor 256
 
 abbrev pub Usable : Act → Type 0
 Usable act = is_usable act ≡ true
+
+-- the name of an effect
+abbrev pub name_text : Act → Word
+name_text (OfTrim ps) = codes "trim"
+name_text (OfPad pads) = codes "pad"
+name_text (OfDelay ds) = codes "delay"
+name_text (OfEcho e) = codes "echo"
+name_text (OfEchos e) = codes "echos"
+name_text (OfFade fade) = codes "fade"
+name_text (OfVol gain) = codes "vol"
+name_text (OfDcShift shift) = codes "dcshift"
+name_text (OfFir gains) = codes "fir"
+name_text (OfRemix specs) = codes "remix"
+name_text (OfUpsample factor) = codes "upsample"
+name_text (OfDownsample factor) = codes "downsample"

@@ -65,8 +65,11 @@ spec_faults channels number [] = []
 spec_faults channels number (word ∷ words) = spec_fault channels number word ++ spec_faults channels (number + 1) words
 
 -- the out-specs as lists
+abbrev pub specs_in : List (SmallVec (ℕ × Weight)) → List (List (ℕ × Weight))
+specs_in specs = map (λ spec. spec.items) specs
+
 abbrev pub specs_value : {Z : Type 0} → Vec (SmallVec (ℕ × Weight)) Z → List (List (ℕ × Weight))
-specs_value specs = map (λ spec. spec.items) specs.items
+specs_value specs = specs_in specs.items
 
 abbrev pub out_specs : ℕ → Mixing → List Word → List (List (ℕ × Weight))
 out_specs channels mixing words = map (λ word. weighed mixing (summed channels word)) words

@@ -1,21 +1,23 @@
 //! How a plan is made, and what it tells.
 
-ghost use Rattle.std.specs.Prelude.{◌≡◌, ◌<◌, ◌≤◌, ◌-◌, ◌^◌, IsTrue, Some, length, map, slice_get};
+ghost use Rattle.std.specs.Prelude.{◌≡◌, ◌<◌, ◌≤◌, ◌-◌, ◌^◌, IfOk, IsTrue, Some, length, map, slice_get};
 ghost use Rattle.fx_sound.specs.Kind.{is_coding_of};
 ghost use Rattle.fx_plan.specs.Bounds.{hold_all, hold_of, work_of};
+ghost use Rattle.std.specs.List.{All};
+ghost use Rattle.fx_plan.specs.Effects.{Usable, act, name_text};
 ghost use Rattle.fx_plan.specs.Faults.{texts};
 ghost use Rattle.fx_plan.specs.Groups.{effects_of};
 ghost use Rattle.fx_plan.specs.Planning.{coding_for, head_layout, planning, planning_of, width_for};
 ghost use Rattle.fx_plan.specs.Plans.{PlanReads, all_faults, bytes_of};
 
-use crate::bounds::hold;
-use crate::effect::Layout;
+use crate::bounds::{hold, work};
+use crate::effect::{Effect, Layout};
 use crate::fault::PlanFault;
 use crate::plan::Plan;
-use crate::planned::read_plan;
+use crate::planned::{copy_effects, read_plan};
 use fx_frame::Coding;
 use fx_sound::{Head, Kind};
-use std::alloc::Global;
+use std::alloc::{AllocError, Global};
 
 /// The coding of so many bytes a sample in a container.
 fn coding_for_width(kind: Kind, width: usize) -> Coding
@@ -141,5 +143,54 @@ impl Plan {
         ensures most { result ≤ 2 ^ 28 }
     {
         hold(&self.effects)
+    }
+
+    /// How many frames effect `number`, counted from 1, holds at most: its line and one in hand.
+    pub fn hold_of(&self, number: usize) -> u64
+        requires first { 1 ≤ number }
+        requires last { number ≤ length (planning self.now).acts }
+        ensures { slice_get (map hold_of (planning self.now).acts) (number - 1) ≡ Some result }
+    {
+        self.effects[number - 1].line() + 1
+    }
+
+    /// How many frames the first frame's place and the effects hand over for so many frames at the most.
+    pub fn work(&self, frames: u64) -> u64
+        requires { frames ≤ 2 ^ 40 }
+        ensures { result ≡ work_of (planning self.now).acts frames }
+    {
+        work(&self.effects, frames)
+    }
+
+    /// The name of effect `number`, counted from 1.
+    pub fn effect_name(&self, number: usize) -> &'static str
+        requires first { 1 ≤ number }
+        requires last { number ≤ length (planning self.now).acts }
+        ensures { slice_get (map name_text (planning self.now).acts) (number - 1) ≡ Some result.now }
+    {
+        self.effects[number - 1].name()
+    }
+
+    /// A plan with the same parts.
+    pub fn copy(&self, alloc: Global) -> Result<Plan, AllocError>
+        ensures { IfOk result (λ copy. planning copy ≡ planning self.now) }
+    {
+        let effects = copy_effects(alloc, &self.effects)?;
+        Ok(Plan {
+            head: self.head,
+            kind: self.kind,
+            coding: self.coding,
+            is_named: self.is_named,
+            effects,
+            layout: self.layout,
+        })
+    }
+
+    /// The effects with their arguments, in order.
+    pub fn effects(&self) -> &[Effect]
+        ensures value { map act result.now ≡ (planning self.now).acts }
+        ensures usable { All Usable (map act result.now) }
+    {
+        &self.effects
     }
 }

@@ -1,9 +1,9 @@
 //! How many frames effects hold, and how many frames can come out of them.
 
-ghost use Rattle.std.specs.Prelude.{◌≡◌, ◌-◌, ◌^◌, map, min, sum_by};
-ghost use Rattle.std.specs.List.{All};
+ghost use Rattle.std.specs.Prelude.{◌≡◌, ◌≤◌, ◌-◌, ◌^◌, false, length, map, min, sum_by};
+ghost use Rattle.std.specs.List.{All, list_any};
 ghost use Rattle.fx_plan.specs.Bounds;
-ghost use Rattle.fx_plan.specs.Bounds.{end_distance, greatest, hold_all, line_of, most_of, pad_distance, pad_length, tap_delay};
+ghost use Rattle.fx_plan.specs.Bounds.{end_distance, greatest, hold_all, line_of, most_of, mosts, pad_distance, pad_length, tap_delay, work_of};
 ghost use Rattle.fx_plan.specs.Effects.{Usable, act};
 
 use crate::effect::Effect;
@@ -178,4 +178,22 @@ pub fn is_too_long(effects: &[Effect]) -> bool
         rest = more;
     }
     false
+}
+
+/// How many frames the effects hand over for so many at the most, where nothing behind them is longer than `LONGEST`.
+pub fn work(effects: &[Effect], frames: u64) -> u64
+    requires usable { All Usable (map act effects.now) }
+    requires few { length effects.now ≤ 32 }
+    requires short { list_any Bounds.is_past (mosts (map act effects.now) frames) ≡ false }
+    ensures { result ≡ work_of (map act effects.now) frames }
+{
+    let mut total = 0;
+    let mut frames = frames;
+    let mut rest = effects;
+    while let Some((effect, more)) = rest.split_first() {
+        total += frames;
+        frames = effect.most_frames(frames);
+        rest = more;
+    }
+    total + frames
 }

@@ -2,7 +2,9 @@
 
 ghost use Rattle.std.specs.Prelude.{◌≡◌, IfOk, Some, ◌∷◌, string_bytes};
 ghost use Rattle.fx_plan.specs.Faults.{Reads, texts};
-ghost use Rattle.fx_plan.specs.Effects.{Fits, IsLayout, Usable, act, effect_act, effect_faults, layout_after, named_act, named_faults};
+ghost use Rattle.fx_plan.specs.Effects.{Fits, IsLayout, Usable, act, effect_act, effect_faults, layout_after, name_text, named_act, named_faults};
+ghost use Rattle.fx_plan.specs.Echo.{echo_value};
+ghost use Rattle.fx_plan.specs.Remix.{specs_in};
 
 use crate::fault::{PlanCause, Refusal, marked};
 use crate::name::{Name, read_name};
@@ -17,7 +19,8 @@ use crate::words::remix::{OutSpec, read_remix};
 use crate::words::trim::read_trim;
 use crate::words::vol::read_vol;
 use fx_fixed::{At, Gain};
-use std::alloc::Global;
+use smallvec::SmallVec;
+use std::alloc::{AllocError, Global};
 
 /// The rate and the channels of a sound.
 #[derive(Clone, Copy, Debug, Drop, PartialEq, Eq)]
@@ -77,6 +80,72 @@ impl Effect {
                 ..layout
             },
             _ => layout,
+        }
+    }
+}
+
+/// A copy of out-specs.
+fn copy_specs(alloc: Global, specs: &[OutSpec]) -> Result<Vec<OutSpec>, AllocError>
+    ensures { IfOk result (λ copies. specs_in copies.items ≡ specs_in specs.now) }
+{
+    let mut copies = Vec::new(alloc);
+    let mut rest = specs;
+    while let Some((spec, more)) = rest.split_first() {
+        copies.push(SmallVec::from_slice(alloc, spec.as_slice())?)?;
+        rest = more;
+    }
+    Ok(copies)
+}
+
+/// A copy of what an echo does.
+fn copy_echo(alloc: Global, echo: &Echoing) -> Result<Echoing, AllocError>
+    ensures { IfOk result (λ copy. echo_value copy ≡ echo_value echo.now) }
+{
+    Ok(Echoing {
+        gain_in: echo.gain_in,
+        gain_out: echo.gain_out,
+        taps: Vec::from_slice(alloc, &echo.taps)?,
+    })
+}
+
+impl Effect {
+    /// The effect's name.
+    pub fn name(&self) -> &'static str
+        ensures { result.now ≡ name_text (act self.now) }
+    {
+        match self {
+            Effect::Trim(_) => "trim",
+            Effect::Pad(_) => "pad",
+            Effect::Delay(_) => "delay",
+            Effect::Echo(_) => "echo",
+            Effect::Echos(_) => "echos",
+            Effect::Fade(_) => "fade",
+            Effect::Vol(_) => "vol",
+            Effect::DcShift(_) => "dcshift",
+            Effect::Fir(_) => "fir",
+            Effect::Remix(_) => "remix",
+            Effect::Upsample(_) => "upsample",
+            Effect::Downsample(_) => "downsample",
+        }
+    }
+
+    /// A copy of the effect.
+    pub fn copy(&self, alloc: Global) -> Result<Effect, AllocError>
+        ensures { IfOk result (λ copy. act copy ≡ act self.now) }
+    {
+        match self {
+            Effect::Trim(positions) => Ok(Effect::Trim(Vec::from_slice(alloc, positions)?)),
+            Effect::Pad(pads) => Ok(Effect::Pad(Vec::from_slice(alloc, pads)?)),
+            Effect::Delay(delays) => Ok(Effect::Delay(Vec::from_slice(alloc, delays)?)),
+            Effect::Echo(echo) => Ok(Effect::Echo(copy_echo(alloc, echo)?)),
+            Effect::Echos(echos) => Ok(Effect::Echos(copy_echo(alloc, echos)?)),
+            Effect::Fade(fade) => Ok(Effect::Fade(*fade)),
+            Effect::Vol(gain) => Ok(Effect::Vol(*gain)),
+            Effect::DcShift(shift) => Ok(Effect::DcShift(*shift)),
+            Effect::Fir(gains) => Ok(Effect::Fir(Vec::from_slice(alloc, gains)?)),
+            Effect::Remix(specs) => Ok(Effect::Remix(copy_specs(alloc, specs)?)),
+            Effect::Upsample(factor) => Ok(Effect::Upsample(*factor)),
+            Effect::Downsample(factor) => Ok(Effect::Downsample(*factor)),
         }
     }
 }

@@ -15,3 +15,6 @@ mod words;
 
 pub use fault::{PlanCause, PlanFault};
 pub use plan::Plan;
+
+#[cfg(test)]
+mod tests;

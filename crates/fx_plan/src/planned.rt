@@ -15,7 +15,7 @@ use crate::effect::{Effect, Layout, read_effect};
 use crate::fault::{PlanCause, PlanFault, Refusal};
 use crate::groups::split_effect;
 use crate::name::{Name, read_name};
-use std::alloc::Global;
+use std::alloc::{AllocError, Global};
 
 /// The most effects.
 const MOST_EFFECTS: usize = 32;
@@ -184,4 +184,17 @@ pub fn read_plan(
         return Err(plan_fault(PlanCause::TooLong));
     }
     Ok(planned)
+}
+
+/// A copy of the effects.
+pub fn copy_effects(alloc: Global, effects: &[Effect]) -> Result<Vec<Effect>, AllocError>
+    ensures { IfOk result (λ copies. map act copies.items ≡ map act effects.now) }
+{
+    let mut copies = Vec::new(alloc);
+    let mut rest = effects;
+    while let Some((effect, more)) = rest.split_first() {
+        copies.push(effect.copy(alloc)?)?;
+        rest = more;
+    }
+    Ok(copies)
 }

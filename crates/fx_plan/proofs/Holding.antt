@@ -1,0 +1,20 @@
+-- What one effect of several holds.
+use Rattle.std.proofs.Common.{◌≡◌, ℕ, ◌+◌, ◌<◌, ◌≤◌, List, length, get_or, map, Some, refl, sym, ap, ◌∙◌, arith, slice_get, sum_by}
+use Rattle.std.specs.Option.{option_map}
+use Rattle.std.proofs.lemmas.Option.{slice_get-map, slice_get_read}
+use Rattle.std.proofs.lemmas.List.Sums.{get_or-le-sum_by}
+use Rattle.std.proofs.lemmas.List.{length-map, get_or-map}
+use Rattle.fx_plan.specs.declared.effect.Effect.{Effect}
+use Rattle.fx_plan.specs.Effects.{Act, act}
+use Rattle.fx_plan.specs.Bounds.{hold_all, hold_of, line_of}
+
+pub told_at : {X : Type 0} (f : Act → X) (es : List Effect) (i : ℕ) (e : Effect) → i < length es → e ≡ get_or es i e → slice_get (map f (map act es)) i ≡ Some (f (act e))
+told_at f es i e within is =
+    slice_get-map f (map act es) i ∙ ap (option_map f) (slice_get-map act es i ∙ ap (option_map act) (slice_get_read es (length es) i e refl within is))
+
+pub hold_part : (es : List Effect) (i : ℕ) (e : Effect) → i < length es → e ≡ get_or es i e → line_of (act e) + 1 ≤ hold_all (map act es)
+hold_part es i e within is =
+    let same : get_or (map act es) i (act e) ≡ act e = get_or-map act es i e (act e) within ∙ ap act (sym is) in
+    let part = get_or-le-sum_by hold_of (map act es) i (act e) (rw length-map within) in
+    let bound = rw same at part in
+    omega (arith, bound)

@@ -1,0 +1,31 @@
+use Rattle.std.proofs.Common.{◌≡◌, ◌+◌, ◌^◌, ◌≤◌, ◌∷◌, length, map, sym, ap, ◌∙◌, arith, add_assoc, false}
+use Rattle.std.specs.List.{list_any}
+use Rattle.std.proofs.lemmas.List.Elements.{All-tail}
+use Rattle.fx_plan.specs.Effects.{Usable, act}
+use Rattle.fx_plan.specs.Bounds.{is_past, mosts, most_of, work_of}
+use Rattle.fx_plan.proofs.Lasting.{within-here, within-next, work-cons}
+use Rattle.fx_plan.proofs.bounds.work.Goals as goal
+
+pub loop-effect-preserved : goal.loop-effect-preserved
+loop-effect-preserved c =
+    let a = act c.in-Some.effect.now in
+    let acts = map act c.in-Some.more.now in
+    let l = c.loop-effect in
+    let cut = c.in-Some.ensures.cases.0 in
+    let short : list_any is_past (mosts (a ∷ acts) l.frames) ≡ false = sym (ap (λ es. list_any is_past (mosts (map act es) l.frames)) cut) ∙ l.invariant.short in
+    let behind = within-next a acts l.frames short in
+    let here : l.frames ≤ 2 ^ 56 = within-here (a ∷ acts) l.frames short in
+    let next : most_of a l.frames ≤ 2 ^ 56 = within-here acts (most_of a l.frames) behind in
+    let same : c.most_frames-frames.result ≡ most_of a l.frames = omega (arith, c.most_frames-frames.ensures) in
+    let fewer = c.in-Some.ensures.cases.1 in
+    record {
+      value =
+          ap (λ n. l.total + l.frames + work_of acts n) same
+          ∙ add_assoc l.total l.frames (work_of acts (most_of a l.frames))
+          ∙ sym (ap (λ n. l.total + n) (work-cons a acts l.frames))
+          ∙ sym (ap (λ es. l.total + work_of (map act es) l.frames) cut)
+          ∙ l.invariant.value;
+      usable = All-tail Usable a acts (rw cut at l.invariant.usable);
+      short = ap (λ n. list_any is_past (mosts acts n)) same ∙ behind;
+      bound = omega (arith, fewer, here, l.invariant.bound);
+    }
