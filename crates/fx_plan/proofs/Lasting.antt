@@ -75,3 +75,10 @@ work-bound (a ∷ acts) n h =
     let k = within-here (a ∷ acts) n h in
     let rest = work-bound acts (most_of a n) (within-next a acts n h) in
     omega (arith, work-cons a acts n, k, rest)
+
+-- more frames in make no less work
+pub work-rises : (acts : List Act) (m n : ℕ) → m ≤ n → work_of acts m ≤ work_of acts n
+work-rises [] m n h = omega arith
+work-rises (a ∷ acts) m n h =
+    let behind = work-rises acts (most_of a m) (most_of a n) (most_rises a m n h) in
+    omega (arith, work-cons a acts m, work-cons a acts n, behind)

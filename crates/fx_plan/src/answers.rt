@@ -1,6 +1,6 @@
 //! How a plan is made, and what it tells.
 
-ghost use Rattle.std.specs.Prelude.{◌≡◌, ◌<◌, ◌≤◌, ◌-◌, ◌^◌, IfOk, IsTrue, Some, length, map, slice_get};
+ghost use Rattle.std.specs.Prelude.{◌≡◌, ℕ, ◌<◌, ◌≤◌, ◌-◌, ◌*◌, ◌^◌, IfOk, IsTrue, Some, length, map, slice_get};
 ghost use Rattle.fx_sound.specs.Kind.{is_coding_of};
 ghost use Rattle.fx_plan.specs.Bounds.{hold_all, hold_of, work_of};
 ghost use Rattle.std.specs.List.{All};
@@ -154,10 +154,13 @@ impl Plan {
         self.effects[number - 1].line() + 1
     }
 
-    /// How many frames the first frame's place and the effects hand over for so many frames at the most.
+    /// How many frames the inlet and the effects hand over for so many frames at the most. More frames never make it
+    /// less.
     pub fn work(&self, frames: u64) -> u64
         requires { frames ≤ 2 ^ 40 }
-        ensures { result ≡ work_of (planning self.now).acts frames }
+        ensures value { result ≡ work_of (planning self.now).acts frames }
+        ensures rises { (fewer : ℕ) → fewer ≤ frames → work_of (planning self.now).acts fewer ≤ result }
+        ensures most { result ≤ 33 * 2 ^ 56 }
     {
         work(&self.effects, frames)
     }

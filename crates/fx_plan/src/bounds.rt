@@ -1,6 +1,6 @@
 //! How many frames effects hold, and how many frames can come out of them.
 
-ghost use Rattle.std.specs.Prelude.{◌≡◌, ◌≤◌, ◌-◌, ◌^◌, false, length, map, min, sum_by};
+ghost use Rattle.std.specs.Prelude.{◌≡◌, ◌≤◌, ◌-◌, ◌*◌, ◌^◌, false, length, map, min, sum_by};
 ghost use Rattle.std.specs.List.{All, list_any};
 ghost use Rattle.fx_plan.specs.Bounds;
 ghost use Rattle.fx_plan.specs.Bounds.{end_distance, greatest, hold_all, line_of, most_of, mosts, pad_distance, pad_length, tap_delay, work_of};
@@ -185,7 +185,8 @@ pub fn work(effects: &[Effect], frames: u64) -> u64
     requires usable { All Usable (map act effects.now) }
     requires few { length effects.now ≤ 32 }
     requires short { list_any Bounds.is_past (mosts (map act effects.now) frames) ≡ false }
-    ensures { result ≡ work_of (map act effects.now) frames }
+    ensures value { result ≡ work_of (map act effects.now) frames }
+    ensures most { result ≤ 33 * 2 ^ 56 }
 {
     let mut total = 0;
     let mut frames = frames;
