@@ -1,0 +1,6 @@
+//! The stages of all twelve effects as one type.
+#![tactic(auto)]
+
+pub mod stage;
+
+pub use stage::EffectStage;
