@@ -4,7 +4,7 @@ ghost use Rattle.fx_frame.specs.Stage.{kind};
 
 use crate::{Downsample, Fade, Pad, Trim, Upsample};
 use fx_fixed::At;
-use fx_frame::{Frame, Stage};
+use fx_frame::{Frame, Stage, WideFrame};
 use std::alloc::{AllocError, Global};
 use std::test::Fail;
 
@@ -32,12 +32,8 @@ fn first_sample(frame: Frame) -> i32 {
     frame.get(0)
 }
 
-/// What a stage of one channel gives for these samples and then the end, and how many of them before the end.
-fn through<S: Stage>(
-    alloc: Global,
-    stage: &mut S,
-    samples: &[i32],
-) -> Result<(Vec<i32>, usize), Fail>
+/// What a stage of one channel gives for these samples, with no end.
+fn feed<S: Stage>(alloc: Global, stage: &mut S, samples: &[i32]) -> Result<Vec<i32>, Fail>
     requires { (S.acts.counts stage.old).taken + length samples.now ≤ (kind S.acts stage.old).limit }
 {
     let mut out = Vec::new(alloc);
@@ -48,6 +44,18 @@ fn through<S: Stage>(
         stage.take(mono(*sample));
         drain(stage, &mut out)?;
     }
+    Ok(out)
+}
+
+/// What a stage of one channel gives for these samples and then the end, and how many of them before the end.
+fn through<S: Stage>(
+    alloc: Global,
+    stage: &mut S,
+    samples: &[i32],
+) -> Result<(Vec<i32>, usize), Fail>
+    requires { (S.acts.counts stage.old).taken + length samples.now ≤ (kind S.acts stage.old).limit }
+{
+    let mut out = feed(alloc, stage, samples)?;
     let early = out.len();
     if !stage.is_dry() || stage.is_ended() {
         return Err("not ready for the end".into());
@@ -55,6 +63,15 @@ fn through<S: Stage>(
     stage.end();
     drain(stage, &mut out)?;
     Ok((out, early))
+}
+
+/// The frames that a stage stores.
+fn stored<S: Stage>(alloc: Global, stage: &S) -> Result<Vec<WideFrame>, AllocError> {
+    let mut frames = Vec::new(alloc);
+    'stored: for place in 0..stage.held() {
+        frames.push(stage.stored(place as usize))?;
+    }
+    Ok(frames)
 }
 
 #[test]
@@ -171,6 +188,60 @@ fn fade_end_stop(rt: HostRuntime) -> Result<(), Fail> {
     let (out, early) = through(rt.alloc(), &mut fade, &[100, 100, 100, 100, 100])?;
     assert_eq!(rt; out.as_slice(), [100, 100, 50].as_slice());
     assert_eq!(rt; early, 1);
+    Ok(())
+}
+
+#[test]
+fn trim_thaws(rt: HostRuntime) -> Result<(), Fail> {
+    let positions = [At::Start(1), At::End(1)];
+    let mut trim = Trim::new(rt.alloc(), 1, &positions)?;
+    let early = feed(rt.alloc(), &mut trim, &[1, 2, 3])?;
+    assert_eq!(rt; early.as_slice(), [2].as_slice());
+    let frames = stored(rt.alloc(), &trim)?;
+    let Ok(mut again) = Trim::thaw(rt.alloc(), 1, &positions, &frames, &trim.counters()) else {
+        return Err("no stage of these frames and numbers".into());
+    };
+    if again.counters()[0] != 3 {
+        return Err("another number of frames taken".into());
+    }
+    let (rest, _early) = through(rt.alloc(), &mut again, &[4, 5])?;
+    assert_eq!(rt; rest.as_slice(), [3, 4].as_slice());
+    Ok(())
+}
+
+#[test]
+fn pad_thaws(rt: HostRuntime) -> Result<(), Fail> {
+    let pads = [(2, At::Start(1)), (1, At::End(1))];
+    let mut pad = Pad::new(rt.alloc(), 1, &pads)?;
+    let early = feed(rt.alloc(), &mut pad, &[1, 2])?;
+    assert_eq!(rt; early.as_slice(), [1].as_slice());
+    let frames = stored(rt.alloc(), &pad)?;
+    let Ok(mut again) = Pad::thaw(rt.alloc(), 1, &pads, &frames, &pad.counters()) else {
+        return Err("no stage of these frames and numbers".into());
+    };
+    if again.counters()[0] != 2 {
+        return Err("another number of frames taken".into());
+    }
+    let (rest, _early) = through(rt.alloc(), &mut again, &[3])?;
+    assert_eq!(rt; rest.as_slice(), [0, 0, 2, 0, 3].as_slice());
+    Ok(())
+}
+
+#[test]
+fn fade_thaws(rt: HostRuntime) -> Result<(), Fail> {
+    let stop = Some(At::End(2));
+    let mut fade = Fade::new(rt.alloc(), 1, 0, stop, 2)?;
+    let early = feed(rt.alloc(), &mut fade, &[100, 100, 100, 100])?;
+    assert!(rt; early.is_empty());
+    let frames = stored(rt.alloc(), &fade)?;
+    let Ok(mut again) = Fade::thaw(rt.alloc(), 1, 0, stop, 2, &frames, &fade.counters()) else {
+        return Err("no stage of these frames and numbers".into());
+    };
+    if again.counters()[0] != 4 {
+        return Err("another number of frames taken".into());
+    }
+    let (rest, _early) = through(rt.alloc(), &mut again, &[100])?;
+    assert_eq!(rt; rest.as_slice(), [100, 100, 50].as_slice());
     Ok(())
 }
 
