@@ -1,5 +1,5 @@
 -- The first of all faults, and what the effects behind one are.
-use Rattle.std.proofs.Common.{◌≡◌, ℕ, ◌+◌, inl, inr, List, [], ◌∷◌, ◌++◌, map, Some, refl, ap, sym, ◌∙◌, ◌≤◌, arith, nat_lt, false}
+use Rattle.std.proofs.Common.{◌≡◌, ℕ, ◌+◌, inl, inr, List, [], ◌∷◌, ◌++◌, map, Some, refl, ap, sym, ◌∙◌, ◌≤◌, arith, nat_lt, Bool, ◌&&◌, false, true}
 use Rattle.std.proofs.lemmas.Bool.Decides.{nat_tests}
 use Rattle.fx_plan.specs.declared.effect.Layout.{Layout}
 use Rattle.fx_plan.specs.declared.fault.Mark.{Mark}
@@ -7,7 +7,7 @@ use Rattle.fx_plan.specs.declared.fault.PlanFault.{PlanFault}
 use Rattle.fx_plan.specs.declared.fault.Refusal.{Refusal}
 use Rattle.fx_plan.specs.declared.fault.Refusal.TheVariants as refusals
 use Rattle.fx_plan.specs.Faults.{Word, Refuses, first_of}
-use Rattle.fx_plan.specs.Effects.{Act, effect_faults, layout_after}
+use Rattle.fx_plan.specs.Effects.{Act, all_fit, effect_faults, fits_layout, layout_after, layout_behind}
 use Rattle.fx_plan.specs.Plans.{RefusesPlan, acts_of, at_effect, done, effects_faults, fault_of, files_after, last_layout, next_file, step_faults}
 
 -- a refusal of an effect's words refuses the plan
@@ -51,3 +51,19 @@ pub layout_next : (layout next : Layout) (files left : List (List ℕ)) (words :
     Some e ≡ done layout files words → next ≡ layout_after layout (Some e) → left ≡ files_after words files →
     last_layout layout files (words ∷ effects) ≡ last_layout next left effects
 layout_next layout next files left words effects e did next_is left_is = rw (next_is, left_is, sym did) refl
+
+-- both of two tests
+pub both : (s t : Bool) → (s && t) ≡ true → (s ≡ true) × (t ≡ true)
+both true t h = (refl, h)
+both false t h = cc
+
+-- one effect more
+pub behind-push : (layout : Layout) (acts : List Act) (a : Act) → layout_behind layout (acts ++ a ∷ []) ≡ layout_after (layout_behind layout acts) (Some a)
+behind-push layout [] a = refl
+behind-push layout (b ∷ acts) a = behind-push (layout_after layout (Some b)) acts a
+
+pub fit-push : (layout : Layout) (acts : List Act) (a : Act) → all_fit layout acts ≡ true → fits_layout (layout_behind layout acts) a ≡ true → all_fit layout (acts ++ a ∷ []) ≡ true
+fit-push layout [] a h k = rw k refl
+fit-push layout (b ∷ acts) a h k =
+    let parts = both (fits_layout layout b) (all_fit (layout_after layout (Some b)) acts) h in
+    rw (parts.0, fit-push (layout_after layout (Some b)) acts a parts.1 k) refl

@@ -1,6 +1,8 @@
 -- An effect with its resolved arguments: what its words give, and the layout behind it.
-use Rattle.std.specs.Prelude.{ℕ, ◌*◌, ◌/◌, ◌^◌, ◌<◌, ◌≤◌, ◌≡◌, nat_le, ◌&&◌, Bool, true, List, [], ◌∷◌, codes, length, ℤ, ⊤, Option, Some, None}
+use Rattle.std.specs.Prelude.{ℕ, ◌*◌, ◌/◌, ◌^◌, ◌<◌, ◌≤◌, ◌≡◌, nat_le, ◌&&◌, Bool, true, List, [], ◌∷◌, codes, length, ℤ, unsigned_abs, ⊤, Option, Some, None}
+use Rattle.fx_fixed.specs.declared.gains.TheConstants.{UNIT}
 use Rattle.fx_fixed.specs.declared.positions.At.{At}
+use Rattle.fx_sound.specs.declared.head.Head.{Head}
 use Rattle.fx_plan.specs.declared.effect.Layout.{Layout}
 use Rattle.fx_plan.specs.declared.effect.Effect.{Effect}
 use Rattle.fx_plan.specs.declared.effect.Effect.TheVariants as effects
@@ -114,6 +116,10 @@ layout_after layout (Some (OfRemix specs)) = record layout { channels = length s
 layout_after layout (Some (OfUpsample factor)) = record layout { rate = layout.rate * factor }
 layout_after layout (Some (OfDownsample factor)) = record layout { rate = layout.rate / factor }
 
+-- the layout of the input
+abbrev pub head_layout : Head → Layout
+head_layout head = record { rate = head.rate; channels = head.channels }
+
 -- a layout that a sound can have
 pub record IsLayout (layout : Layout) : Type 0 where
   pub rate : 0 < layout.rate
@@ -153,6 +159,31 @@ is_usable (OfDownsample factor) = nat_le 1 factor && nat_le factor 256
 
 abbrev pub Usable : Act → Type 0
 Usable act = is_usable act ≡ true
+
+-- an effect meets what its place behind a layout asks for: a delay for each channel at the most
+abbrev pub fits_layout : Layout → Act → Bool
+fits_layout layout (OfTrim ps) = true
+fits_layout layout (OfPad pads) = true
+fits_layout layout (OfDelay ds) = nat_le (length ds) layout.channels
+fits_layout layout (OfEcho e) = true
+fits_layout layout (OfEchos e) = true
+fits_layout layout (OfFade fade) = true
+fits_layout layout (OfVol gain) = true
+fits_layout layout (OfDcShift shift) = nat_le (unsigned_abs shift) (2 * UNIT)
+fits_layout layout (OfFir gains) = true
+fits_layout layout (OfRemix specs) = true
+fits_layout layout (OfUpsample factor) = true
+fits_layout layout (OfDownsample factor) = true
+
+-- each effect meets what its place asks for, the first of them behind this layout
+abbrev pub all_fit : Layout → List Act → Bool
+all_fit layout [] = true
+all_fit layout (a ∷ acts) = fits_layout layout a && all_fit (layout_after layout (Some a)) acts
+
+-- the layout behind effects
+abbrev pub layout_behind : Layout → List Act → Layout
+layout_behind layout [] = layout
+layout_behind layout (a ∷ acts) = layout_behind (layout_after layout (Some a)) acts
 
 -- the name of an effect
 abbrev pub name_text : Act → Word

@@ -8,7 +8,7 @@ use Rattle.fx_sound.specs.declared.head.Kind.{Kind}
 use Rattle.fx_sound.specs.declared.head.Kind.TheVariants.{Wav, Au}
 use Rattle.fx_plan.specs.declared.effect.Layout.{Layout}
 use Rattle.fx_plan.specs.declared.plan.Plan.{Plan}
-use Rattle.fx_plan.specs.Effects.{Act, act}
+use Rattle.fx_plan.specs.Effects.{Act, act, head_layout}
 use Rattle.fx_plan.specs.Faults.{Word}
 use Rattle.fx_plan.specs.Plans.{acts_of, last_layout}
 
@@ -41,10 +41,6 @@ coding_for Au width = if width == 1 then S8 else (if width == 2 then S16Be else 
 abbrev pub width_for : Option ℕ → Coding → ℕ
 width_for None input = width_of input
 width_for (Some bits) input = bits / 8
-
--- the layout of the input
-abbrev pub head_layout : Head → Layout
-head_layout head = record { rate = head.rate; channels = head.channels }
 
 -- the parts of the plan of these effects' words
 abbrev pub planning_of : Head → Bool → Kind → Option ℕ → List (List ℕ) → List (List Word) → Planning

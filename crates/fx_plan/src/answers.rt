@@ -1,13 +1,13 @@
 //! How a plan is made, and what it tells.
 
-ghost use Rattle.std.specs.Prelude.{◌≡◌, ℕ, ◌<◌, ◌≤◌, ◌-◌, ◌*◌, ◌^◌, IfOk, IsTrue, Some, length, map, slice_get};
+ghost use Rattle.std.specs.Prelude.{◌≡◌, ℕ, ◌<◌, ◌≤◌, ◌-◌, ◌*◌, ◌^◌, IfOk, IsTrue, Some, length, map, slice_get, true};
 ghost use Rattle.fx_sound.specs.Kind.{is_coding_of};
 ghost use Rattle.fx_plan.specs.Bounds.{hold_all, hold_of, work_of};
 ghost use Rattle.std.specs.List.{All};
-ghost use Rattle.fx_plan.specs.Effects.{Usable, act, name_text};
+ghost use Rattle.fx_plan.specs.Effects.{Usable, act, all_fit, head_layout, name_text};
 ghost use Rattle.fx_plan.specs.Faults.{texts};
 ghost use Rattle.fx_plan.specs.Groups.{effects_of};
-ghost use Rattle.fx_plan.specs.Planning.{coding_for, head_layout, planning, planning_of, width_for};
+ghost use Rattle.fx_plan.specs.Planning.{coding_for, planning, planning_of, width_for};
 ghost use Rattle.fx_plan.specs.Plans.{PlanReads, all_faults, bytes_of};
 
 use crate::bounds::{hold, work};
@@ -193,6 +193,7 @@ impl Plan {
     pub fn effects(&self) -> &[Effect]
         ensures value { map act result.now ≡ (planning self.now).acts }
         ensures usable { All Usable (map act result.now) }
+        ensures fit { all_fit (head_layout (planning self.now).head) (map act result.now) ≡ true }
     {
         &self.effects
     }

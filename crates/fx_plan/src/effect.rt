@@ -1,8 +1,8 @@
 //! Effects with resolved arguments, and what they do to rate, channels and lengths.
 
-ghost use Rattle.std.specs.Prelude.{◌≡◌, IfOk, Some, ◌∷◌, string_bytes};
+ghost use Rattle.std.specs.Prelude.{◌≡◌, IfOk, Some, true, ◌∷◌, string_bytes};
 ghost use Rattle.fx_plan.specs.Faults.{Reads, texts};
-ghost use Rattle.fx_plan.specs.Effects.{Fits, IsLayout, Usable, act, effect_act, effect_faults, layout_after, name_text, named_act, named_faults};
+ghost use Rattle.fx_plan.specs.Effects.{Fits, IsLayout, Usable, fits_layout, act, effect_act, effect_faults, layout_after, name_text, named_act, named_faults};
 ghost use Rattle.fx_plan.specs.Echo.{echo_value};
 ghost use Rattle.fx_plan.specs.Remix.{specs_in};
 
@@ -162,6 +162,7 @@ fn read_named(
     ensures read { Reads (λ effect. Some (act effect)) result (named_faults name layout file.now (texts words.now)) (named_act name layout file.now (texts words.now)) }
     ensures fits { IfOk result (λ effect. Fits layout (act effect)) }
     ensures usable { IfOk result (λ effect. Usable (act effect)) }
+    ensures place { IfOk result (λ effect. fits_layout layout (act effect) ≡ true) }
     ensures after { IfOk result (λ effect. IsLayout (layout_after layout (Some (act effect)))) }
 {
     let rate = layout.rate;
@@ -196,6 +197,7 @@ pub fn read_effect(
     ensures read { Reads (λ effect. Some (act effect)) result (effect_faults layout file.now (string_bytes name.now ∷ texts words.now)) (effect_act layout file.now (string_bytes name.now ∷ texts words.now)) }
     ensures fits { IfOk result (λ effect. Fits layout (act effect)) }
     ensures usable { IfOk result (λ effect. Usable (act effect)) }
+    ensures place { IfOk result (λ effect. fits_layout layout (act effect) ≡ true) }
     ensures after { IfOk result (λ effect. IsLayout (layout_after layout (Some (act effect)))) }
 {
     read_named(alloc, layout, file, read_name(name), words)

@@ -1,10 +1,10 @@
 //! Plans: what is to be done to a sound, and how much that may hold and make.
 
-ghost use Rattle.std.specs.Prelude.{◌≡◌, ◌<◌, ◌≤◌, ◌^◌, IsTrue, false, length, map};
+ghost use Rattle.std.specs.Prelude.{◌≡◌, ◌<◌, ◌≤◌, ◌^◌, IsTrue, false, length, map, true};
 ghost use Rattle.std.specs.List.{All};
 ghost use Rattle.fx_sound.specs.Kind.{is_coding_of};
 ghost use Rattle.fx_plan.specs.Bounds.{hold_all, is_too_long};
-ghost use Rattle.fx_plan.specs.Effects.{Usable, act};
+ghost use Rattle.fx_plan.specs.Effects.{Usable, act, all_fit, head_layout};
 
 use crate::effect::{Effect, Layout};
 use fx_frame::Coding;
@@ -22,6 +22,7 @@ pub struct Plan {
     pub(crate) layout: Layout,
     ghost few: { length effects.items ≤ 32 },
     ghost usable: { All Usable (map act effects.items) },
+    ghost fit: { all_fit (head_layout head) (map act effects.items) ≡ true },
     ghost held: { hold_all (map act effects.items) ≤ 2 ^ 28 },
     ghost short: { is_too_long (map act effects.items) ≡ false },
     ghost rated: { 0 < layout.rate },

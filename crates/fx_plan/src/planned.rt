@@ -1,10 +1,10 @@
 //! Effects one after the other, each behind the layout that those before it leave.
 
-ghost use Rattle.std.specs.Prelude.{◌≡◌, ◌≤◌, ◌^◌, ◌∷◌, IfOk, Some, false, length, map, string_bytes};
+ghost use Rattle.std.specs.Prelude.{◌≡◌, ◌≤◌, ◌^◌, ◌∷◌, IfOk, Some, true, false, length, map, string_bytes};
 ghost use Rattle.std.specs.List.{All};
 ghost use Rattle.fx_plan.specs.Bounds;
 ghost use Rattle.fx_plan.specs.Bounds.{hold_all};
-ghost use Rattle.fx_plan.specs.Effects.{Fits, IsLayout, Usable, act, effect_act, layout_after};
+ghost use Rattle.fx_plan.specs.Effects.{Fits, IsLayout, Usable, all_fit, fits_layout, act, effect_act, layout_after};
 ghost use Rattle.fx_plan.specs.Faults.{texts};
 ghost use Rattle.fx_plan.specs.Groups.{effects_of};
 ghost use Rattle.fx_plan.specs.Plans;
@@ -108,6 +108,7 @@ fn read_step(
     ensures read { PlanReads (λ effect. Some (act effect)) result (step_faults number layout file.now (string_bytes name.now ∷ texts words.now)) (effect_act layout file.now (string_bytes name.now ∷ texts words.now)) }
     ensures fits { IfOk result (λ effect. Fits layout (act effect)) }
     ensures usable { IfOk result (λ effect. Usable (act effect)) }
+    ensures place { IfOk result (λ effect. fits_layout layout (act effect) ≡ true) }
     ensures after { IfOk result (λ effect. IsLayout (layout_after layout (Some (act effect)))) }
     ensures few { IfOk result (λ effect. number ≤ 32) }
 {
@@ -134,6 +135,7 @@ fn read_effects(
     requires { IsLayout layout }
     ensures read { PlanReads planned_value result (effects_faults 1 layout (bytes_of files.now) (effects_of (texts words.now))) (acts_of layout (bytes_of files.now) (effects_of (texts words.now)), last_layout layout (bytes_of files.now) (effects_of (texts words.now))) }
     ensures usable { IfOk result (λ p. All Usable (map act p.effects.items)) }
+    ensures fit { IfOk result (λ p. all_fit layout (map act p.effects.items) ≡ true) }
     ensures layout { IfOk result (λ p. IsLayout p.layout) }
     ensures few { IfOk result (λ p. length p.effects.items ≤ 32) }
 {
@@ -168,6 +170,7 @@ pub fn read_plan(
     requires { IsLayout layout }
     ensures read { PlanReads planned_value result (all_faults layout (bytes_of files.now) (effects_of (texts words.now))) (acts_of layout (bytes_of files.now) (effects_of (texts words.now)), last_layout layout (bytes_of files.now) (effects_of (texts words.now))) }
     ensures usable { IfOk result (λ p. All Usable (map act p.effects.items)) }
+    ensures fit { IfOk result (λ p. all_fit layout (map act p.effects.items) ≡ true) }
     ensures layout { IfOk result (λ p. IsLayout p.layout) }
     ensures few { IfOk result (λ p. length p.effects.items ≤ 32) }
     ensures held { IfOk result (λ p. hold_all (map act p.effects.items) ≤ 2 ^ 28) }

@@ -1,6 +1,6 @@
 //! The word of `dcshift`: a shift.
 
-ghost use Rattle.std.specs.Prelude.{◌≡◌};
+ghost use Rattle.std.specs.Prelude.{◌≡◌, ◌*◌, ◌≤◌, IfOk, unsigned_abs};
 ghost use Rattle.fx_plan.specs.Faults.{Reads, texts};
 ghost use Rattle.fx_plan.specs.DcShift.{shift_in, shift_faults, shift_gain};
 
@@ -10,7 +10,8 @@ use fx_fixed::{Gain, UNIT};
 
 /// The shift from -2 to 2 that a word is.
 fn read_shift(word: &str) -> Result<Gain, PlanCause>
-    ensures { result ≡ shift_in word.now }
+    ensures value { result ≡ shift_in word.now }
+    ensures range { IfOk result (λ shift. unsigned_abs shift ≤ 2 * UNIT) }
 {
     let shift = read_gain(word)?;
     if shift.trillionths().unsigned_abs() > 2 * UNIT {
@@ -21,7 +22,8 @@ fn read_shift(word: &str) -> Result<Gain, PlanCause>
 
 /// The shift of a `dcshift` with these words after its name.
 pub fn read_dcshift(words: &[String]) -> Result<Gain, Refusal>
-    ensures { Reads (λ shift. shift) result (shift_faults (texts words.now)) (shift_gain (texts words.now)) }
+    ensures read { Reads (λ shift. shift) result (shift_faults (texts words.now)) (shift_gain (texts words.now)) }
+    ensures range { IfOk result (λ shift. unsigned_abs shift ≤ 2 * UNIT) }
 {
     let Some((word, more)) = words.split_first() else {
         return Err(marked(PlanCause::WrongCount, 1));

@@ -25,7 +25,8 @@ fn read_place(rate: u32, previous: u64, word: &str) -> Result<u64, PlanCause>
 fn read_delays(alloc: Global, rate: u32, words: &[String]) -> Result<Vec<u64>, Refusal>
     requires rate { 0 < rate }
     requires few { length words.now < 17 }
-    ensures { Reads (λ v. v.items) result (each_faults rate 2 0 (texts words.now)) (delays rate 0 (texts words.now)) }
+    ensures read { Reads (λ v. v.items) result (each_faults rate 2 0 (texts words.now)) (delays rate 0 (texts words.now)) }
+    ensures count { IfOk result (λ v. length v.items ≡ length words.now) }
 {
     let mut frames = Vec::new(alloc);
     let mut rest = words;
@@ -55,7 +56,8 @@ pub fn read_delay_words(
 ) -> Result<Vec<u64>, Refusal>
     requires rate { 0 < rate }
     requires channels { channels ≤ 16 }
-    ensures { Reads (λ v. v.items) result (delay_faults rate channels (texts words.now)) (delays rate 0 (texts words.now)) }
+    ensures read { Reads (λ v. v.items) result (delay_faults rate channels (texts words.now)) (delays rate 0 (texts words.now)) }
+    ensures count { IfOk result (λ v. length v.items ≤ channels) }
 {
     if words.is_empty() {
         return Err(marked(PlanCause::WrongCount, 1));

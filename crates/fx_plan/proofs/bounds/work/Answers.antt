@@ -1,4 +1,4 @@
-use Rattle.std.proofs.Common.{◌≡◌, ◌+◌, ◌^◌, ◌≤◌, ◌∷◌, length, map, sym, ap, ◌∙◌, arith, add_assoc, false}
+use Rattle.std.proofs.Common.{◌≡◌, ◌+◌, ◌^◌, ◌≤◌, ◌∷◌, map, sym, ap, ◌∙◌, arith, add_assoc, false}
 use Rattle.std.specs.List.{list_any}
 use Rattle.std.proofs.lemmas.List.Elements.{All-tail}
 use Rattle.fx_plan.specs.Effects.{Usable, act}

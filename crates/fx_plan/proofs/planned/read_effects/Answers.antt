@@ -1,4 +1,4 @@
-use Rattle.std.proofs.Common.{◌≡◌, ◌++◌, ◌∷◌, [], map, string_bytes, sym, ap, ◌∙◌, arith, append_assoc}
+use Rattle.std.proofs.Common.{refl, ◌≡◌, ◌++◌, ◌∷◌, [], map, string_bytes, sym, ap, ◌∙◌, arith, append_assoc}
 use Rattle.std.proofs.lemmas.List.{map-append}
 use Rattle.std.proofs.lemmas.List.Elements.{All-push}
 use Rattle.std.proofs.lemmas.Grind.{common_steps}
@@ -6,7 +6,7 @@ use Rattle.fx_plan.specs.Faults.{texts}
 use Rattle.fx_plan.specs.Groups.{effects_of}
 use Rattle.fx_plan.specs.Effects.{Usable, act}
 use Rattle.fx_plan.specs.Plans.{acts_of, bytes_of, effects_faults, last_layout}
-use Rattle.fx_plan.proofs.Refusing.{acts_next, faults_next, layout_next, refuses_all}
+use Rattle.fx_plan.proofs.Refusing.{acts_next, behind-push, faults_next, fit-push, layout_next, refuses_all}
 use Rattle.fx_plan.proofs.planned.read_effects.Goals as goal
 
 pub returns-in-Err-clause-read : goal.returns-in-Err-clause-read
@@ -44,6 +44,12 @@ loop-name-preserved c =
       usable =
           let all = All-push Usable (map act l.effects.items) did l.invariant.usable c.in-Ok.ensures.usable in
           rw (grown, map-append) all;
+      fit =
+          let here = rw (sym l.invariant.behind) at c.in-Ok.ensures.place in
+          rw (grown, map-append) (fit-push c.args.layout (map act l.effects.items) did l.invariant.fit here);
+      behind =
+          let pushed = behind-push c.args.layout (map act l.effects.items) did in
+          rw (grown, map-append, pushed, l.invariant.behind, layout_is) refl;
       layout = rw layout_is c.in-Ok.ensures.after;
       counted = omega (arith, c.in-Ok.ensures.few);
       kept = grind (arith, common_steps);

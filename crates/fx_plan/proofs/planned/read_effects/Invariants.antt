@@ -1,8 +1,8 @@
-use Rattle.std.proofs.Common.{◌≡◌, ◌+◌, ◌++◌, ◌≤◌, length, map}
+use Rattle.std.proofs.Common.{◌≡◌, ◌+◌, ◌++◌, ◌≤◌, length, map, true}
 use Rattle.std.specs.List.{All}
 use Rattle.fx_plan.specs.Faults.{texts}
 use Rattle.fx_plan.specs.Groups.{effects_of}
-use Rattle.fx_plan.specs.Effects.{IsLayout, Usable, act}
+use Rattle.fx_plan.specs.Effects.{IsLayout, Usable, act, all_fit, layout_behind}
 use Rattle.fx_plan.specs.Plans.{acts_of, bytes_of, effects_faults, last_layout}
 use Rattle.fx_plan.proofs.planned.read_effects.Given as goal
 
@@ -15,6 +15,8 @@ invariant-loop-name l = record {
   values : map act l.effects.items ++ acts_of l.layout (bytes_of l.files) (effects_of (texts l.rest)) ≡ acts_of l.fn.layout (bytes_of l.fn.files) (effects_of (texts l.words));
   last : last_layout l.layout (bytes_of l.files) (effects_of (texts l.rest)) ≡ last_layout l.fn.layout (bytes_of l.fn.files) (effects_of (texts l.words));
   usable : All Usable (map act l.effects.items);
+  fit : all_fit l.fn.layout (map act l.effects.items) ≡ true;
+  behind : layout_behind l.fn.layout (map act l.effects.items) ≡ l.layout;
   layout : IsLayout l.layout;
   counted : l.number ≤ 33;
   kept : length l.effects.items + 1 ≡ l.number;

@@ -1,4 +1,4 @@
-use Rattle.std.proofs.Common.{map, sym}
+use Rattle.std.proofs.Common.{map}
 use Rattle.fx_plan.specs.Effects.{act}
 use Rattle.fx_plan.proofs.Lasting.{within-fewer, work-rises}
 use Rattle.fx_plan.proofs.plan.Plan.work.Goals as goal

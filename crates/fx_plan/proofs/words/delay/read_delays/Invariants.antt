@@ -11,4 +11,5 @@ invariant-loop-word l = record {
   faults : each_faults l.rate l.number l.previous (texts l.rest) ≡ each_faults l.rate 2 0 (texts l.words);
   values : l.frames.items ++ delays l.rate l.previous (texts l.rest) ≡ delays l.rate 0 (texts l.words);
   counted : l.number + length l.rest ≡ 2 + length l.words;
+  kept : length l.frames.items + length l.rest ≡ length l.words;
 }
