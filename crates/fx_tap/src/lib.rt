@@ -17,10 +17,10 @@ mod fir_tests;
 pub mod inner;
 pub mod mapped;
 pub mod per_sample;
+pub mod products;
 pub mod remix;
 #[cfg(test)]
 mod remix_tests;
-pub mod products;
 mod sums;
 pub mod tapped;
 #[cfg(test)]
@@ -33,9 +33,9 @@ pub mod weight;
 pub use dcshift::DcShift;
 pub use delay::Delay;
 pub use echo::Echo;
-pub use remix::Remix;
 pub use echos::Echos;
 pub use fir::Fir;
 pub use products::dot;
+pub use remix::Remix;
 pub use vol::Vol;
 pub use weight::{OutSpec, Weight};
