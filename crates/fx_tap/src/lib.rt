@@ -14,7 +14,6 @@ mod echos_tests;
 pub mod fir;
 #[cfg(test)]
 mod fir_tests;
-pub mod inner;
 pub mod mapped;
 pub mod per_sample;
 pub mod products;
