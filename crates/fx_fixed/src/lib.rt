@@ -15,6 +15,7 @@ mod rounding;
 mod sums;
 mod terms;
 mod times;
+mod weights;
 
 pub use coefficient_files::{CoefFault, Coefficients};
 pub use delays::millis;
@@ -22,6 +23,7 @@ pub use gains::{GREATEST_GAIN, Gain, NumberFault, UNIT};
 pub use positions::{Anchor, At, Position};
 pub use rounding::round_clip;
 pub use times::{FARTHEST, TimeFault, TimeSpec};
+pub use weights::{OutSpec, Weight};
 
 #[cfg(test)]
 mod tests;

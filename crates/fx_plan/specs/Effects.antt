@@ -11,7 +11,7 @@ use Rattle.fx_plan.specs.declared.fault.PlanCause.TheVariants.{UnknownEffect, No
 use Rattle.fx_plan.specs.declared.name.Name.{Name}
 use Rattle.fx_plan.specs.declared.name.Name.TheVariants as names
 use Rattle.fx_plan.specs.declared.words.fade.Fading.{Fading}
-use Rattle.fx_plan.specs.declared.words.remix.Weight.{Weight}
+use Rattle.fx_fixed.specs.declared.weights.Weight.{Weight}
 use Rattle.fx_plan.specs.Faults.{Word, mark}
 use Rattle.fx_plan.specs.Names.{name_of}
 use Rattle.fx_plan.specs.Numbers.{beginning}

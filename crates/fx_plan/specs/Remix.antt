@@ -8,8 +8,8 @@ use Rattle.fx_plan.specs.declared.fault.PlanCause.{PlanCause}
 use Rattle.fx_plan.specs.declared.fault.PlanCause.TheVariants.{WrongCount, NotInProfile, OutOfRange, TooManyChannels}
 use Rattle.fx_plan.specs.declared.words.in_spec.InSpec.{InSpec}
 use Rattle.fx_plan.specs.declared.words.in_spec.Contribution.{Contribution}
-use Rattle.fx_plan.specs.declared.words.remix.Weight.{Weight}
-use Rattle.fx_plan.specs.declared.words.remix.Weight.TheVariants as weights
+use Rattle.fx_fixed.specs.declared.weights.Weight.{Weight}
+use Rattle.fx_fixed.specs.declared.weights.Weight.TheVariants as weights
 use Rattle.fx_plan.specs.declared.words.remix.Mixing.{Mixing}
 use Rattle.fx_plan.specs.declared.words.remix.Mixing.TheVariants as mixings
 use Rattle.fx_plan.specs.Faults.{Word, mark, when, fault_at}

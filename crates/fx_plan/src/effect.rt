@@ -15,10 +15,10 @@ use crate::words::factor::{read_downsample, read_upsample};
 use crate::words::fade::{Fading, read_fade};
 use crate::words::fir::read_fir;
 use crate::words::pad::read_pad;
-use crate::words::remix::{OutSpec, read_remix};
+use crate::words::remix::read_remix;
 use crate::words::trim::read_trim;
 use crate::words::vol::read_vol;
-use fx_fixed::{At, Gain};
+use fx_fixed::{At, Gain, OutSpec};
 use smallvec::SmallVec;
 use std::alloc::{AllocError, Global};
 

@@ -4,4 +4,3 @@ pub use crate::answers::plan_words;
 pub use crate::effect::{Effect, Layout};
 pub use crate::words::echo::Echoing;
 pub use crate::words::fade::Fading;
-pub use crate::words::remix::{OutSpec, Weight};

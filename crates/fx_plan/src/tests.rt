@@ -4,8 +4,8 @@ ghost use Rattle.std.specs.Prelude.{◌<◌, ◌≤◌};
 
 use super::*;
 use crate::effect::Effect;
-use crate::inner::{Weight, plan_words};
-use fx_fixed::{At, Gain};
+use crate::inner::plan_words;
+use fx_fixed::{At, Gain, Weight};
 use fx_frame::Coding;
 use fx_sound::{Head, Kind};
 use std::alloc::{AllocError, Global};

@@ -1,7 +1,7 @@
 -- What `remix` keeps of a contribution: its channel, its weight and the same in parts.
 use Rattle.std.specs.Prelude.{ℕ, ◌<◌, ◌≡◌}
 use Rattle.fx_tap.specs.Remix.{parts_of}
-use Rattle.fx_tap.specs.declared.weight.Weight.{Weight}
+use Rattle.fx_fixed.specs.declared.weights.Weight.{Weight}
 use Rattle.fx_tap.specs.declared.remix.Contribution.{Contribution}
 
 -- its channel and weight

@@ -8,8 +8,8 @@ use Rattle.fx_frame.specs.Stage.{Acts}
 use Rattle.fx_frame.specs.Stage.{Given as GivenFrame}
 use Rattle.fx_tap.specs.Mapped.{MapState, map_acts}
 use Rattle.fx_tap.specs.Rounded.{given_of}
-use Rattle.fx_tap.specs.declared.weight.Weight.{Weight}
-use Rattle.fx_tap.specs.declared.weight.Weight.TheVariants.{Given, Share, One}
+use Rattle.fx_fixed.specs.declared.weights.Weight.{Weight}
+use Rattle.fx_fixed.specs.declared.weights.Weight.TheVariants.{Given, Share, One}
 
 -- channels of the input, from 0, each with its weight
 abbrev pub Contributions : Type 0

@@ -27,7 +27,6 @@ mod tests;
 #[cfg(test)]
 mod thaw_tests;
 pub mod vol;
-pub mod weight;
 
 pub use dcshift::DcShift;
 pub use delay::Delay;
@@ -37,4 +36,3 @@ pub use fir::Fir;
 pub use products::dot;
 pub use remix::Remix;
 pub use vol::Vol;
-pub use weight::{OutSpec, Weight};

@@ -6,8 +6,7 @@ ghost use Rattle.fx_tap.specs.Mapped.{IsMapState, MapState};
 ghost use Rattle.fx_tap.specs.Remix.{RemixArguments, mixed_parts, parts_of, remix_acts, remixed_frame, remixed_sample};
 
 use crate::mapped::{Mapped, Mapping};
-use crate::weight::{OutSpec, Weight};
-use fx_fixed::{UNIT, round_clip};
+use fx_fixed::{OutSpec, UNIT, Weight, round_clip};
 use fx_frame::inner::{frame_of, places};
 use fx_frame::{Frame, ThawFault, WideFrame};
 use std::alloc::{AllocError, Global};

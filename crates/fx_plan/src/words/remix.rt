@@ -8,7 +8,7 @@ ghost use Rattle.fx_plan.specs.Remix.{contributions, faults_behind, is_comma, mi
 
 use crate::fault::{PlanCause, Refusal, marked};
 use crate::words::in_spec::{Contribution, add_channels, read_in_spec};
-use fx_fixed::Gain;
+use fx_fixed::{OutSpec, Weight};
 use smallvec::SmallVec;
 use std::alloc::{AllocError, Global};
 
@@ -17,22 +17,6 @@ const MOST_SPECS: usize = 16;
 
 /// The most contributions of one out-spec.
 const MOST_CONTRIBUTIONS: usize = 64;
-
-/// How a channel is weighed in a sum.
-#[derive(Clone, Copy, Debug, Default, Drop, PartialEq, Eq)]
-pub enum Weight {
-    /// By this gain.
-    Given(Gain),
-    /// By 1/n, where n channels go into the sum.
-    Share,
-    /// By one.
-    #[default]
-    One,
-}
-
-/// The channels of the input, counted from 0, that make one channel of the output, each with its weight; none of them
-/// is silence.
-pub type OutSpec = SmallVec<(u8, Weight), 8>;
 
 /// What weighs a channel to which no gain is given.
 #[derive(Clone, Copy, Debug, Drop, PartialEq, Eq)]

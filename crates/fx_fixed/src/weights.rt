@@ -1,6 +1,6 @@
-//! How much of a channel goes into a channel that `remix` makes.
+//! How much of a channel goes into a channel of the output.
 
-use fx_fixed::Gain;
+use crate::gains::Gain;
 use smallvec::SmallVec;
 
 /// How much of a channel goes into an output channel.
