@@ -1,1 +1,3 @@
 pub mod Effects
+pub mod Fits
+pub mod Made

@@ -1,0 +1,40 @@
+-- The chain of a plan's effects (this project's profile).
+use Rattle.std.specs.Prelude.{◌≡◌, ℕ, List}
+use Rattle.fx_chain.specs.declared.target.Target.{Target}
+use Rattle.fx_flow.specs.Parts.{Parts, Whole, composed, composed_wholes}
+use Rattle.fx_frame.specs.Frame.{Samples}
+use Rattle.fx_frame.specs.Holds.{recipes}
+use Rattle.fx_plan.specs.Planning.{Planning}
+use Rattle.fx_stages.specs.declared.stage.EffectStage.{EffectStage}
+use Rattle.fx_stages.specs.Effects.{EffectRecipe, effect_acts}
+use Rattle.fx_stages.specs.Made.{recipes_for}
+
+-- the stages of a plan's effects
+abbrev pub planned : Planning → List EffectRecipe
+planned p = recipes_for p.head.channels p.acts
+
+-- the frames that a plan's effects make of a whole sound, by their definitions one after the other
+abbrev pub chain_gives : Planning → List Samples → List Samples
+chain_gives p x = composed effect_acts (planned p) x
+
+-- of each effect how many frames it makes of a whole sound, and how many samples it clips
+abbrev pub chain_wholes : Planning → List Samples → List Whole
+chain_wholes p x = composed_wholes effect_acts (planned p) x
+
+-- a chain, to its callers: its plan, and its stages with the frames and counts that they have
+pub record ChainParts : Type 0 where
+  pub plan : Planning
+  pub flow : Parts EffectStage
+
+-- its stages are those of its plan
+pub record IsChain (c : ChainParts) : Type 0 where
+  pub made : recipes effect_acts c.flow.stages ≡ planned c.plan
+  pub channels : c.flow.channels ≡ c.plan.head.channels
+
+-- what is written where a plan is run
+pub record IsTarget (p : Planning) (t : Target) : Type 0 where
+  pub kind : t.kind ≡ p.kind
+  pub coding : t.coding ≡ p.coding
+  pub rate : t.rate ≡ p.layout.rate
+  pub channels : t.channels ≡ p.layout.channels
+  pub named : t.named ≡ p.is_named
