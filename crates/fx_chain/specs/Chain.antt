@@ -1,9 +1,10 @@
 -- The chain of a plan's effects (this project's profile).
-use Rattle.std.specs.Prelude.{◌≡◌, ℕ, List}
+use Rattle.std.specs.Prelude.{◌≡◌, ◌≤◌, false, ℕ, List, length}
 use Rattle.fx_chain.specs.declared.target.Target.{Target}
 use Rattle.fx_flow.specs.Parts.{Parts, Whole, composed, composed_wholes}
 use Rattle.fx_frame.specs.Frame.{Samples}
 use Rattle.fx_frame.specs.Holds.{recipes}
+use Rattle.fx_plan.specs.Bounds.{is_too_long}
 use Rattle.fx_plan.specs.Planning.{Planning}
 use Rattle.fx_stages.specs.declared.stage.EffectStage.{EffectStage}
 use Rattle.fx_stages.specs.Effects.{EffectRecipe, effect_acts}
@@ -30,11 +31,9 @@ pub record ChainParts : Type 0 where
 pub record IsChain (c : ChainParts) : Type 0 where
   pub made : recipes effect_acts c.flow.stages ≡ planned c.plan
   pub channels : c.flow.channels ≡ c.plan.head.channels
+  pub few : length c.plan.acts ≤ 32
+  pub short : is_too_long c.plan.acts ≡ false
 
 -- what is written where a plan is run
-pub record IsTarget (p : Planning) (t : Target) : Type 0 where
-  pub kind : t.kind ≡ p.kind
-  pub coding : t.coding ≡ p.coding
-  pub rate : t.rate ≡ p.layout.rate
-  pub channels : t.channels ≡ p.layout.channels
-  pub named : t.named ≡ p.is_named
+abbrev pub target_for : Planning → Target
+target_for p = record { kind = p.kind; coding = p.coding; rate = p.layout.rate; channels = p.layout.channels; named = p.is_named }

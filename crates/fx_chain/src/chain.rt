@@ -1,5 +1,5 @@
 //! The chain of a plan's effects.
-ghost use Rattle.std.specs.Prelude.{◌≡◌, ◌<◌, ◌≤◌, ◌+◌, ◌-◌, ℕ, IfOk, List, length, map, option_to_list, slice_index};
+ghost use Rattle.std.specs.Prelude.{◌≡◌, ◌<◌, ◌≤◌, ◌+◌, ◌-◌, ℕ, IfOk, List, Some, [], length, map, option_to_list, slice_index, true};
 ghost use Rattle.fx_chain.specs.Chain.{chain_gives, chain_wholes};
 ghost use Rattle.fx_flow.specs.Parts.{AllNew, any_spent, due_of, enough_for, given_by, moves_of, taken_of};
 ghost use Rattle.fx_flow.specs.Sound.{most_frames};
@@ -23,7 +23,7 @@ use std::marker::Model;
 /// A step moves one frame. At every moment it holds at most the frames of its plan's `hold()`.
 #[derive(Drop)]
 pub struct Chain {
-    flow: Flow<EffectStage>,
+    pub(crate) flow: Flow<EffectStage>,
     plan: Plan,
 }
 

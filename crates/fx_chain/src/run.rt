@@ -120,6 +120,7 @@ pub fn run_flow<R: ByteIn, S: Stage, W: ByteOut>(
     ensures work { (report_in result).moves ≤ work (kinds S.acts flow.old.stages) (report_in result).frames_in }
     ensures clips { (report_in result).clips ≡ clips_now S.acts flow.new.stages }
     ensures recipes { recipes S.acts flow.new.stages ≡ recipes S.acts flow.old.stages }
+    ensures width { flow.new.channels ≡ flow.old.channels }
 
     // A fault is answered only where its cause was counted.
     ensures causes { MatchResult result

@@ -1,8 +1,8 @@
 //! How a plan is made, and what it tells.
 
-ghost use Rattle.std.specs.Prelude.{◌≡◌, ℕ, ◌<◌, ◌≤◌, ◌-◌, ◌*◌, ◌^◌, IfOk, IsTrue, Some, length, map, slice_get, true};
+ghost use Rattle.std.specs.Prelude.{◌≡◌, ℕ, ◌<◌, ◌≤◌, ◌-◌, ◌*◌, ◌^◌, IfOk, IsTrue, Some, false, length, map, slice_get, true};
 ghost use Rattle.fx_sound.specs.Kind.{is_coding_of};
-ghost use Rattle.fx_plan.specs.Bounds.{hold_all, hold_of, work_of};
+ghost use Rattle.fx_plan.specs.Bounds.{hold_all, hold_of, is_too_long, work_of};
 ghost use Rattle.std.specs.List.{All};
 ghost use Rattle.fx_plan.specs.Effects.{Usable, act, all_fit, head_layout, name_text};
 ghost use Rattle.fx_plan.specs.Faults.{texts};
@@ -194,6 +194,9 @@ impl Plan {
         ensures value { map act result.now ≡ (planning self.now).acts }
         ensures usable { All Usable (map act result.now) }
         ensures fit { all_fit (head_layout (planning self.now).head) (map act result.now) ≡ true }
+        ensures few { length result.now ≤ 32 }
+        ensures held { hold_all (map act result.now) ≤ 2 ^ 28 }
+        ensures short { is_too_long (map act result.now) ≡ false }
     {
         &self.effects
     }
