@@ -3,14 +3,14 @@
 
 pub mod chain;
 mod drain;
+mod flow_run;
 pub mod inner;
 mod outlet;
+mod plan_run;
 mod pump;
 mod report;
-mod run;
-mod run_plan;
 mod target;
 
 pub use chain::Chain;
+pub use plan_run::run;
 pub use report::{MOST_EFFECTS, Report, RunFault};
-pub use run_plan::run;

@@ -13,9 +13,9 @@ ghost use Rattle.fx_sound.specs.Source.{to_come};
 ghost use Rattle.fx_stages.specs.Effects.{effect_acts};
 
 use crate::chain::Chain;
+use crate::flow_run::run_flow;
 use crate::pump::Cause;
 use crate::report::{Report, RunFault};
-use crate::run::run_flow;
 use crate::target::Target;
 use fx_frame::{ByteIn, ByteOut};
 use fx_plan::Plan;

@@ -8,7 +8,7 @@ use Rattle.fx_frame.specs.Holds.{kinds}
 use Rattle.fx_chain.specs.Report.{row_of, start_of}
 use Rattle.fx_chain.specs.Run.{sound_frames}
 use Rattle.fx_chain.proofs.Running.{Sent-total, all-given, clips-all, moves-all, ends-either, ended-known, not-over, sound-length, stopped-due, stopped-front, wrote-all, wrote-front}
-use Rattle.fx_chain.proofs.run.run_flow.Goals as goal
+use Rattle.fx_chain.proofs.flow_run.run_flow.Goals as goal
 
 pub returns-in_default-clause-stopped : goal.returns-in_default-clause-stopped
 returns-in_default-clause-stopped g c = λ bytes known.
