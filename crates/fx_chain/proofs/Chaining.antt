@@ -1,5 +1,5 @@
 -- What a plan says of its effects holds of its chain.
-use Rattle.std.proofs.Common.{◌≡◌, ℕ, ◌+◌, ◌*◌, ◌^◌, ◌≤◌, ◌<◌, List, [], ◌∷◌, length, map, true, false, refl, sym, ap, ◌∙◌, arith}
+use Rattle.std.proofs.Common.{◌≡◌, ℕ, suc, ◌+◌, ◌*◌, ◌^◌, ◌≤◌, ◌<◌, List, [], ◌∷◌, length, map, true, false, refl, sym, ap, ◌∙◌, arith}
 use Rattle.std.specs.List.{All}
 use Rattle.fx_chain.specs.Chain.{ChainParts, IsChain, planned}
 use Rattle.fx_flow.specs.Parts.{Parts, most_of, work}
@@ -33,11 +33,11 @@ lines-are c h = ap line_sum (kinds-made c.flow.stages c.plan.head.channels c.pla
 
 recipes-count : (channels : ℕ) (acts : List Act) → length (recipes_for channels acts) ≡ length acts
 recipes-count channels [] = refl
-recipes-count channels (a ∷ acts) = ap (λ n. n + 1) (recipes-count (channels_after channels a) acts)
+recipes-count channels (a ∷ acts) = ap suc (recipes-count (channels_after channels a) acts)
 
 made-count : (stages : List EffectStage) → length (recipes effect_acts stages) ≡ length stages
 made-count [] = refl
-made-count (s ∷ stages) = ap (λ n. n + 1) (made-count stages)
+made-count (s ∷ stages) = ap suc (made-count stages)
 
 pub count-is : (c : ChainParts) → IsChain c → length c.flow.stages ≡ length c.plan.acts
 count-is c h = sym (made-count c.flow.stages) ∙ ap length h.made ∙ recipes-count c.plan.head.channels c.plan.acts

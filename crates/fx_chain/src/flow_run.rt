@@ -1,5 +1,5 @@
 //! A whole sound through a flow, from its source to a writer.
-ghost use Rattle.std.specs.Prelude.{◌≡◌, ℕ, ◌+◌, ◌*◌, ◌<◌, ◌≤◌, ◌^◌, ◌++◌, [], true, IfErr, IfOk, List, MatchResult, OnErr, OnOk, Option, length, map};
+ghost use Rattle.std.specs.Prelude.{◌≡◌, ℕ, ◌+◌, ◌*◌, ◌<◌, ◌≤◌, ◌^◌, ◌++◌, [], true, IfErr, IfOk, IsTrue, List, MatchResult, OnErr, OnOk, Option, length, map};
 ghost use Rattle.fx_chain.specs.Outlet.{WroteAll, WroteFront};
 ghost use Rattle.fx_chain.specs.Report.{Completed, HasCause, StoppedAt, cause_of, clips_now, pad, report_at, report_in, start_of};
 ghost use Rattle.fx_chain.specs.Run.{RanToFailure, WantsMore, sound_frames};
@@ -8,6 +8,7 @@ ghost use Rattle.fx_flow.specs.Sound.{most_frames};
 ghost use Rattle.fx_flow.specs.Steps.{IsDone, IsHungry, wholes_of};
 ghost use Rattle.fx_frame.specs.Holds.{kinds, recipes, total as total_of};
 ghost use Rattle.fx_frame.specs.Io.{CountsFailure};
+ghost use Rattle.fx_sound.specs.Kind.{is_coding_of};
 ghost use Rattle.fx_sound.specs.Known.{IfKnown};
 ghost use Rattle.fx_sound.specs.Output.{Sent, total};
 ghost use Rattle.fx_sound.specs.Source.{to_come};
@@ -96,6 +97,9 @@ pub fn run_flow<R: ByteIn, S: Stage, W: ByteOut>(
     source: &mut Source<R>,
     writer: &mut W,
 ) -> Result<Report, RunFault>
+    requires coded { IsTrue (is_coding_of target.kind target.coding) }
+    requires rated { 1 ≤ target.rate }
+    requires channels { (1 ≤ target.channels) × (target.channels ≤ 16) }
     requires hungry { IsHungry S.acts flow.old }
     requires new { (taken_of flow.old ≡ 0) × (given_by S.acts flow.old.left flow.old.stages ≡ 0) }
     requires width { flow.old.channels ≡ head.now.channels }

@@ -13,13 +13,12 @@ use Rattle.fx_fixed.specs.declared.weights.Weight.{Weight}
 use Rattle.fx_flow.specs.Parts.{AllNew}
 use Rattle.fx_frame.specs.Stage.{IsNew}
 use Rattle.fx_plan.specs.declared.effect.Layout.{Layout}
-use Rattle.fx_plan.specs.Echo.{Echoes, Tap}
-use Rattle.fx_plan.specs.Pad.{Length}
-use Rattle.fx_plan.specs.Remix.{specs_in}
-use Rattle.fx_plan.specs.Effects.{Act, OfTrim, OfPad, OfDelay, OfEcho, OfEchos, OfFade, OfVol, OfDcShift, OfFir, OfRemix, OfUpsample, OfDownsample, Usable, layout_after}
+use Rattle.fx_plan.specs.Echo.{Echoes, Tap, are_echoes, is_tap}
+use Rattle.fx_plan.specs.Pad.{Length, are_pads, are_rising}
+use Rattle.fx_plan.specs.Remix.{is_mix, specs_in}
+use Rattle.fx_plan.specs.Effects.{Act, OfTrim, OfPad, OfDelay, OfEcho, OfEchos, OfFade, OfVol, OfDcShift, OfFir, OfRemix, OfUpsample, OfDownsample, Usable, all_fit, fits_layout, layout_after}
 use Rattle.fx_stages.specs.declared.stage.EffectStage.{EffectStage}
 use Rattle.fx_stages.specs.Effects.{EffectRecipe, effect_acts}
-use Rattle.fx_stages.specs.Fits.{all_fit, are_echoes, are_pads, are_rising, fits_layout, is_mix, is_tap}
 use Rattle.fx_stages.specs.Made.{all_suit, channels_after, recipe_for, recipes_for, suits}
 use Rattle.fx_frame.specs.Holds.{recipes}
 use Rattle.fx_plan.specs.Bounds.{hold_all, hold_of, line_of}

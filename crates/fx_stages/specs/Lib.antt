@@ -1,3 +1,2 @@
 pub mod Effects
-pub mod Fits
 pub mod Made
