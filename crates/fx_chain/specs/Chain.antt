@@ -1,7 +1,8 @@
 -- The chain of a plan's effects (this project's profile).
 use Rattle.std.specs.Prelude.{◌≡◌, ◌≤◌, false, ℕ, List, length}
 use Rattle.fx_chain.specs.declared.target.Target.{Target}
-use Rattle.fx_flow.specs.Parts.{Parts, Whole, composed, composed_wholes}
+use Rattle.fx_flow.specs.Parts.{Parts, Whole, composed, composed_wholes, given_by, taken_of}
+use Rattle.fx_flow.specs.Steps.{IsHungry, rest_of, wholes_of}
 use Rattle.fx_frame.specs.Frame.{Samples}
 use Rattle.fx_frame.specs.Holds.{recipes}
 use Rattle.fx_plan.specs.Bounds.{is_too_long}
@@ -37,3 +38,11 @@ pub record IsChain (c : ChainParts) : Type 0 where
 -- what is written where a plan is run
 abbrev pub target_for : Planning → Target
 target_for p = record { kind = p.kind; coding = p.coding; rate = p.layout.rate; channels = p.layout.channels; named = p.is_named }
+
+-- a chain of this plan that has taken nothing, and what it gives for a whole sound
+pub record IsNewChain (p : Planning) (c : ChainParts) : Type 0 where
+  pub plan : c.plan ≡ p
+  pub hungry : IsHungry effect_acts c.flow
+  pub nothing : (taken_of c.flow ≡ 0) × (given_by effect_acts c.flow.left c.flow.stages ≡ 0)
+  pub gives : (x : List Samples) → rest_of effect_acts c.flow x ≡ chain_gives p x
+  pub wholes : (x : List Samples) → wholes_of effect_acts c.flow x ≡ chain_wholes p x

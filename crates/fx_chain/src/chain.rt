@@ -1,6 +1,6 @@
 //! The chain of a plan's effects.
 ghost use Rattle.std.specs.Prelude.{◌≡◌, ◌<◌, ◌≤◌, ◌+◌, ◌-◌, ℕ, IfOk, List, Some, [], length, map, option_to_list, slice_index, true};
-ghost use Rattle.fx_chain.specs.Chain.{chain_gives, chain_wholes};
+ghost use Rattle.fx_chain.specs.Chain.{IsNewChain};
 ghost use Rattle.fx_flow.specs.Parts.{AllNew, any_spent, due_of, enough_for, given_by, moves_of, taken_of};
 ghost use Rattle.fx_flow.specs.Sound.{most_frames};
 ghost use Rattle.fx_flow.specs.Steps.{IsDone, IsHungry, MovedOn, StateIs, Steps, rest_of, wholes_of};
@@ -42,12 +42,8 @@ impl Chain {
     /// The chain of a plan, which has taken nothing; AllocError where memory is refused, for the lines of its effects or
     /// the copy of the plan. No other call takes memory but `freeze` and `thaw`.
     pub fn new(alloc: Global, plan: &Plan) -> Result<Chain, AllocError>
-        ensures plan { IfOk result (λ c. c.plan ≡ planning plan.now) }
-        ensures hungry { IfOk result (λ c. IsHungry effect_acts c.flow) }
+        ensures made { IfOk result (λ c. IsNewChain (planning plan.now) c) }
         ensures new { IfOk result (λ c. AllNew effect_acts c.flow.stages) }
-        ensures nothing { IfOk result (λ c. (taken_of c.flow ≡ 0) × (given_by effect_acts c.flow.left c.flow.stages ≡ 0)) }
-        ensures gives { IfOk result (λ c. (x : List Samples) → rest_of effect_acts c.flow x ≡ chain_gives (planning plan.now) x) }
-        ensures wholes { IfOk result (λ c. (x : List Samples) → wholes_of effect_acts c.flow x ≡ chain_wholes (planning plan.now) x) }
     {
         let plan = plan.copy(alloc)?;
         let channels = plan.head().channels;

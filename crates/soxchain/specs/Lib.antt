@@ -1,6 +1,5 @@
-pub mod Asked
 pub mod Convert
 pub mod Messages
+pub mod Preparing
 pub mod Program
 pub mod Telling
-pub mod Words
