@@ -1,15 +1,15 @@
 -- How an `Echos` behaves.
-use Rattle.std.proofs.Common.{ℕ, ℤ, pos, suc, zero, ◌+◌, ◌-◌, ◌*◌, ◌^◌, ◌<◌, ◌≤◌, ◌≡◌, Bool, true, false, cond, min, map, List, [], ◌∷◌, ◌++◌, length, get_or, take, drop, replicate, refl, sym, ap, ◌∙◌, arith, add-zero, zero-add, sub-one}
-use Rattle.std.specs.Prelude.{FitsSigned, unsigned_abs, slice_index_or, slice_get, option_to_list, Option, Some, None, is_none, nat_eq, ◌&&◌}
+use Rattle.std.proofs.Common.{ℕ, ℤ, pos, suc, zero, ◌+◌, ◌-◌, ◌*◌, ◌^◌, ◌<◌, ◌≤◌, ◌≡◌, Bool, true, false, map, List, [], ◌∷◌, ◌++◌, length, get_or, take, drop, replicate, refl, sym, ap, ◌∙◌, arith, add-zero, zero-add, sub-one}
+use Rattle.std.specs.Prelude.{FitsSigned, unsigned_abs, Option, Some, None, is_none, nat_eq, ◌&&◌}
 use Rattle.std.specs.List.{All}
-use Rattle.std.specs.Int.{w32, w64}
+use Rattle.std.specs.Int.{w64}
 use Prim.Native.Nat.compare
 use Rattle.std.proofs.lemmas.Int.{fits_signed_from_abs}
 use Rattle.std.proofs.lemmas.List.{length-append, length-drop, length-map, get_or-map, take_at}
-use Rattle.std.proofs.lemmas.List.Elements.{All-cons, All-head, All-tail, All-nil, All-drop, All-push, All-weaker, All-from_get_or, All-get_or}
+use Rattle.std.proofs.lemmas.List.Elements.{All-nil, All-drop, All-push, All-weaker, All-from_get_or, All-get_or}
 use Rattle.fx_frame.specs.Frame.{Samples, silence, IsFrame}
-use Rattle.fx_frame.specs.Line.{Frames, IsLine, IsSamples, pushed_out, empty}
-use Rattle.fx_frame.specs.Stage.{Given, Gave, Took}
+use Rattle.fx_frame.specs.Line.{Frames, IsSamples, pushed_out, empty}
+use Rattle.fx_frame.specs.Stage.{Gave, Took}
 use Rattle.fx_tap.specs.Echo.{EchoArguments, IsEcho}
 use Rattle.fx_tap.specs.Echos.{EchosState, IsEchos, IsEchoLine, IsRowLine, after_push, came_of, delay_at, echos_acts, fed, frame_of_lines, frames_of, late, let_go, line_at, lines_after, or_silence, places_of, through_lines}
 use Rattle.fx_tap.proofs.EchosRow.{Small, small-fed, small-gone}

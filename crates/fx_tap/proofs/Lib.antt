@@ -1,6 +1,7 @@
 pub mod DelayLaws
 pub mod EchoLaws
 pub mod MixLaws
+pub mod PartLaws
 pub mod EchosLaws
 pub mod EchosMeaning
 pub mod EchosRow

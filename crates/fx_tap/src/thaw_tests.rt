@@ -2,6 +2,7 @@
 use super::*;
 use crate::echo_tests::decay;
 use crate::tests::{gain, shift};
+use fx_fixed::Weight;
 use fx_frame::inner::two;
 use fx_frame::{Frame, Stage, WideFrame};
 use smallvec::SmallVec;
