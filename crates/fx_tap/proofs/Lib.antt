@@ -5,6 +5,7 @@ pub mod PartLaws
 pub mod EchosLaws
 pub mod EchosMeaning
 pub mod EchosRow
+pub mod EchosStored
 pub mod EchosSums
 pub mod FirLaws
 pub mod ProductBounds

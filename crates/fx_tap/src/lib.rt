@@ -22,6 +22,7 @@ pub mod products;
 pub mod remix;
 #[cfg(test)]
 mod remix_tests;
+mod rows;
 mod sums;
 pub mod tapped;
 #[cfg(test)]
