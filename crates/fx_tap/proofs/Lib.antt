@@ -1,4 +1,5 @@
 pub mod DelayLaws
+pub mod DryLaws
 pub mod EchoLaws
 pub mod MixLaws
 pub mod PartLaws
