@@ -1,5 +1,7 @@
 pub mod Convert
+pub mod Finishing
 pub mod Messages
 pub mod Preparing
 pub mod Program
+pub mod Readying
 pub mod Telling

@@ -6,10 +6,13 @@ pub mod inner;
 mod messages;
 mod prepared;
 mod preparing;
+mod ready;
 mod telling;
 
 pub use conversion::convert;
 pub use fx_chain::{MOST_EFFECTS, Report, RunFault};
+pub use prepared::Ready;
+pub use ready::{finish, prepare};
 
 #[cfg(test)]
 mod tests;
