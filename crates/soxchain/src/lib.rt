@@ -9,6 +9,3 @@ mod words;
 
 pub use conversion::convert;
 pub use fx_chain::{MOST_EFFECTS, Report, RunFault};
-
-#[cfg(test)]
-mod tests;
