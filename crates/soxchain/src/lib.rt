@@ -13,6 +13,3 @@ pub use conversion::convert;
 pub use fx_chain::{MOST_EFFECTS, Report, RunFault};
 pub use prepared::Ready;
 pub use ready::{finish, prepare};
-
-#[cfg(test)]
-mod tests;

@@ -1,9 +1,8 @@
 //! Whole conversions: worked rows, with readers of many pieces, and writers that fail.
 ghost use Rattle.std.specs.Prelude.{◌<◌};
 
-use crate::convert;
-use fx_chain::Report;
 use fx_frame::{Sink, Tape};
+use soxchain::{Report, convert};
 use std::alloc::{AllocError, Global};
 use std::test::Fail;
 
