@@ -48,4 +48,4 @@ Ran-told told first at reader new start offset n none is t r h =
 -- a line that was made is the words' line
 pub line-read : (found : Result Said LineFault) (line : Said) → LineReads found (Ok line) → found ≡ Ok line
 line-read (Ok said) line h = ap (λ (x : Said). Ok x) (sym h)
-line-read (Err fault) line h = h
+line-read (Err fault) line h = sym h
