@@ -1,13 +1,12 @@
 -- What a plan tells (this project's profile).
-use Rattle.std.specs.Prelude.{ℕ, ◌/◌, ◌==◌, Bool, if◌then◌else◌, List, map, Option, Some, None}
-use Rattle.fx_frame.specs.Coding.{width_of}
+use Rattle.std.specs.Prelude.{ℕ, Bool, List, map, Option, unwrap_or}
 use Rattle.fx_frame.specs.declared.coding.Coding.{Coding}
-use Rattle.fx_frame.specs.declared.coding.Coding.TheVariants.{U8, S8, S16Le, S16Be, S24Le, S24Be, S32Le, S32Be}
+use Rattle.fx_line.specs.Bits.{bits_in, coding_with}
+use Rattle.fx_line.specs.declared.bits.Bits.{Bits}
 use Rattle.fx_sound.specs.declared.head.Head.{Head}
 use Rattle.fx_sound.specs.declared.head.Kind.{Kind}
-use Rattle.fx_sound.specs.declared.head.Kind.TheVariants.{Wav, Au}
 use Rattle.fx_plan.specs.declared.effect.Layout.{Layout}
-use Rattle.fx_plan.specs.declared.plan.Plan.{Plan}
+use Rattle.fx_plan.specs.declared.accepted.Plan.{Plan}
 use Rattle.fx_plan.specs.Effects.{Act, act, head_layout}
 use Rattle.fx_plan.specs.Faults.{Word}
 use Rattle.fx_plan.specs.Plans.{acts_of, last_layout}
@@ -32,22 +31,12 @@ planning plan = record {
   layout = plan.layout;
 }
 
--- the coding of so many bytes a sample in a container
-abbrev pub coding_for : Kind → ℕ → Coding
-coding_for Wav width = if width == 1 then U8 else (if width == 2 then S16Le else (if width == 3 then S24Le else S32Le))
-coding_for Au width = if width == 1 then S8 else (if width == 2 then S16Be else (if width == 3 then S24Be else S32Be))
-
--- the bytes of a sample of so many bits, by default those of the input
-abbrev pub width_for : Option ℕ → Coding → ℕ
-width_for None input = width_of input
-width_for (Some bits) input = bits / 8
-
--- the parts of the plan of these effects' words
-abbrev pub planning_of : Head → Bool → Kind → Option ℕ → List (List ℕ) → List (List Word) → Planning
+-- the parts of the plan of these effects' words; the output has samples of so many bits, by default those of the input
+abbrev pub planning_of : Head → Bool → Kind → Option Bits → List (List ℕ) → List (List Word) → Planning
 planning_of head is_named kind bits files effects = record {
   head = head;
   kind = kind;
-  coding = coding_for kind (width_for bits head.coding);
+  coding = coding_with kind (unwrap_or bits (bits_in head.coding));
   is_named = is_named;
   acts = acts_of (head_layout head) files effects;
   layout = last_layout (head_layout head) files effects;

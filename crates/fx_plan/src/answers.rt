@@ -7,44 +7,18 @@ ghost use Rattle.std.specs.List.{All};
 ghost use Rattle.fx_plan.specs.Effects.{Usable, act, all_fit, head_layout, name_text};
 ghost use Rattle.fx_plan.specs.Faults.{texts};
 ghost use Rattle.fx_plan.specs.Groups.{effects_of};
-ghost use Rattle.fx_plan.specs.Planning.{coding_for, planning, planning_of, width_for};
+ghost use Rattle.fx_plan.specs.Planning.{planning, planning_of};
 ghost use Rattle.fx_plan.specs.Plans.{PlanReads, all_faults, bytes_of};
 
+use crate::accepted::Plan;
 use crate::bounds::{hold, work};
 use crate::effect::{Effect, Layout};
 use crate::fault::PlanFault;
-use crate::plan::Plan;
 use crate::planned::{copy_effects, read_plan};
 use fx_frame::Coding;
+use fx_line::Bits;
 use fx_sound::{Head, Kind};
 use std::alloc::{AllocError, Global};
-
-/// The coding of so many bytes a sample in a container.
-fn coding_for_width(kind: Kind, width: usize) -> Coding
-    ensures value { result ≡ coding_for kind width }
-    ensures kind { IsTrue (is_coding_of kind result) }
-{
-    match (kind, width) {
-        (Kind::Wav, 1) => Coding::U8,
-        (Kind::Wav, 2) => Coding::S16Le,
-        (Kind::Wav, 3) => Coding::S24Le,
-        (Kind::Wav, _) => Coding::S32Le,
-        (Kind::Au, 1) => Coding::S8,
-        (Kind::Au, 2) => Coding::S16Be,
-        (Kind::Au, 3) => Coding::S24Be,
-        (Kind::Au, _) => Coding::S32Be,
-    }
-}
-
-/// The bytes of a sample of so many bits; those of the input where none are asked for.
-fn output_width(bits: Option<u8>, input: Coding) -> usize
-    ensures { result ≡ width_for bits input }
-{
-    match bits {
-        Some(bits) => usize::from(bits) / 8,
-        None => input.width(),
-    }
-}
 
 /// A layout by its parts.
 fn layout_of(rate: u32, channels: usize) -> Layout
@@ -55,14 +29,14 @@ fn layout_of(rate: u32, channels: usize) -> Layout
 }
 
 /// The plan of the effects that the words after the output are, behind a head; the output is of this kind, with
-/// samples of so many bits, or of the input's width.
+/// samples of so many bits, or of those of the input.
 pub fn plan_words(
     alloc: Global,
     head: &Head,
     words: &[String],
     is_named: bool,
     kind: Kind,
-    bits: Option<u8>,
+    bits: Option<Bits>,
     files: &[Vec<u8>],
 ) -> Result<Plan, PlanFault>
     ensures { PlanReads planning result (all_faults (head_layout head.now) (bytes_of files.now) (effects_of (texts words.now))) (planning_of head.now is_named kind bits (bytes_of files.now) (effects_of (texts words.now))) }
@@ -75,7 +49,7 @@ pub fn plan_words(
     Ok(Plan {
         head: *head,
         kind,
-        coding: coding_for_width(kind, output_width(bits, head.coding)),
+        coding: bits.unwrap_or(Bits::of(head.coding)).coding(kind),
         is_named,
         effects: planned.effects,
         layout: planned.layout,

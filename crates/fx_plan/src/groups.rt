@@ -33,13 +33,24 @@ fn words_before_name(words: &[String]) -> usize
     count
 }
 
+/// The words of the first effect, its name in front, and the words of the effects behind it.
+pub fn next_effect(words: &[String]) -> Option<(&[String], &[String])>
+    ensures effects { MatchOption result (words.now ≡ [])
+        (λ x. effects_of (texts words.now) ≡ texts x.0.now ∷ effects_of (texts x.1.now)) }
+    ensures named { IfSome result (λ x. 0 < length x.0.now) }
+    ensures shorter { IfSome result (λ x. length x.1.now < length words.now) }
+{
+    let (_, others) = words.split_first()?;
+    Some(words.split_at(words_before_name(others) + 1))
+}
+
 /// The first effect's name, its other words, and the words of the effects behind it.
 pub fn split_effect(words: &[String]) -> Option<(&String, &[String], &[String])>
     ensures effects { MatchOption result (words.now ≡ [])
         (λ x. effects_of (texts words.now) ≡ (string_bytes x.0.now ∷ texts x.1.now) ∷ effects_of (texts x.2.now)) }
     ensures shorter { IfSome result (λ x. length x.2.now < length words.now) }
 {
-    let (name, others) = words.split_first()?;
-    let (arguments, rest) = others.split_at(words_before_name(others));
+    let (effect, rest) = next_effect(words)?;
+    let (name, arguments) = effect.split_first()?;
     Some((name, arguments, rest))
 }

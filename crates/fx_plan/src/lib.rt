@@ -1,20 +1,26 @@
 //! Plans: the words of effects, read into effects with resolved arguments, or refused by the first fault.
 #![tactic(auto)]
 
+mod accepted;
 mod answers;
 mod bounds;
+mod command_line;
 mod effect;
 mod fault;
 mod groups;
 pub mod inner;
+mod listing;
 mod name;
 mod numbers;
-mod plan;
 mod planned;
 mod words;
 
+pub use accepted::Plan;
+pub use command_line::{CommandLine, Stream, parse_line, plan};
 pub use fault::{PlanCause, PlanFault};
-pub use plan::Plan;
+pub use fx_line::{Bits, LineFault};
 
+#[cfg(test)]
+mod line_tests;
 #[cfg(test)]
 mod tests;

@@ -52,7 +52,7 @@ fn is_file(words: &[String]) -> bool
 }
 
 /// Whether an effect of this name with these words behind it names a coefficient file.
-fn names_file(name: &String, words: &[String]) -> bool
+pub fn names_file(name: &String, words: &[String]) -> bool
     ensures { result ≡ Plans.names_file (string_bytes name.now ∷ texts words.now) }
 {
     read_name(name) == Name::Fir && is_file(words)

@@ -293,7 +293,7 @@ fn growth_plan(rt: HostRuntime) -> Result<(), Fail> {
         &words,
         true,
         Kind::Wav,
-        Some(24),
+        Some(Bits::TwentyFour),
         &[],
     ) {
         Ok(plan) => {

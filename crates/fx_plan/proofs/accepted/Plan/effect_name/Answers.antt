@@ -2,7 +2,7 @@ use Rattle.std.proofs.Common.{◌-◌, ◌<◌, length, Some, sym, ap, ◌∙◌
 use Rattle.std.proofs.lemmas.List.{length-map}
 use Rattle.fx_plan.specs.Effects.{name_text}
 use Rattle.fx_plan.proofs.Holding.{told_at}
-use Rattle.fx_plan.proofs.plan.Plan.effect_name.Goals as goal
+use Rattle.fx_plan.proofs.accepted.Plan.effect_name.Goals as goal
 
 pub returns : goal.returns
 returns c =

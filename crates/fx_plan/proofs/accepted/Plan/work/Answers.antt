@@ -1,7 +1,7 @@
 use Rattle.std.proofs.Common.{map}
 use Rattle.fx_plan.specs.Effects.{act}
 use Rattle.fx_plan.proofs.Lasting.{within-fewer, work-rises}
-use Rattle.fx_plan.proofs.plan.Plan.work.Goals as goal
+use Rattle.fx_plan.proofs.accepted.Plan.work.Goals as goal
 
 pub work-requires-clause-short : goal.work-requires-clause-short
 work-requires-clause-short c =

@@ -3,7 +3,7 @@ use Rattle.std.proofs.lemmas.List.{length-map}
 use Rattle.fx_plan.specs.Effects.{act}
 use Rattle.fx_plan.specs.Bounds.{hold_of, line_of}
 use Rattle.fx_plan.proofs.Holding.{hold_part, told_at}
-use Rattle.fx_plan.proofs.plan.Plan.hold_of.Goals as goal
+use Rattle.fx_plan.proofs.accepted.Plan.hold_of.Goals as goal
 
 pub overflow_add-result : goal.overflow_add-result
 overflow_add-result c =

@@ -1,0 +1,14 @@
+use Rattle.std.proofs.Common.{◌≡◌, ◌+◌, ◌≤◌, length}
+use Rattle.fx_plan.specs.CommandLines.{coefficient_files}
+use Rattle.fx_plan.specs.Faults.{texts}
+use Rattle.fx_plan.specs.Groups.{effects_of}
+use Rattle.fx_plan.proofs.listing.count_files.Given as goal
+
+abbrev pub decreases-loop-effect : goal.decreases-loop-effect
+decreases-loop-effect l = length l.rest
+
+abbrev pub invariant-loop-effect : goal.invariant-loop-effect
+invariant-loop-effect l = record {
+  value : l.count + length (coefficient_files (effects_of (texts l.rest))) ≡ length (coefficient_files (effects_of (texts l.words)));
+  counted : l.count + length l.rest ≤ length l.words;
+}

@@ -1,0 +1,84 @@
+//! What the words of a line list: its effects, and the coefficient files that they name.
+
+ghost use Rattle.std.specs.Prelude.{◌≡◌, ◌∷◌, [], MatchOption, None, Some, length, slice_get, string_bytes, unwrap_or};
+ghost use Rattle.fx_plan.specs.CommandLines.{coefficient_files, file_in};
+ghost use Rattle.fx_plan.specs.Faults.{texts};
+ghost use Rattle.fx_plan.specs.Groups.{effects_of};
+
+use crate::groups::next_effect;
+use crate::planned::names_file;
+
+/// How many effects the words name.
+pub fn count_effects(words: &[String]) -> usize
+    ensures { result ≡ length (effects_of (texts words.now)) }
+{
+    let mut rest = words;
+    let mut count = 0;
+    while let Some((_, more)) = next_effect(rest) {
+        count += 1;
+        rest = more;
+    }
+    count
+}
+
+/// The words of the effect at this place, counted from 0; none where there is no such effect.
+pub fn effect_at(words: &[String], place: usize) -> &[String]
+    ensures { texts result.now ≡ unwrap_or (slice_get (effects_of (texts words.now)) place) [] }
+{
+    let mut rest = words;
+    let mut left = place;
+    while let Some((effect, more)) = next_effect(rest) {
+        if left == 0 {
+            return effect;
+        }
+        left -= 1;
+        rest = more;
+    }
+    &[]
+}
+
+/// The coefficient file that an effect names.
+fn read_file(effect: &[String]) -> Option<&String>
+    ensures { MatchOption result (file_in (texts effect.now) ≡ []) (λ name. file_in (texts effect.now) ≡ string_bytes name.now ∷ []) }
+{
+    let (name, words) = effect.split_first()?;
+    if !names_file(name, words) {
+        return None;
+    }
+    let (file, _) = words.split_first()?;
+    Some(file)
+}
+
+/// How many coefficient files the effects of the words name.
+pub fn count_files(words: &[String]) -> usize
+    ensures { result ≡ length (coefficient_files (effects_of (texts words.now))) }
+{
+    let mut rest = words;
+    let mut count = 0;
+    while let Some((effect, more)) = next_effect(rest) {
+        if read_file(effect).is_some() {
+            count += 1;
+        }
+        rest = more;
+    }
+    count
+}
+
+/// The name of the coefficient file at this place, counted from 0, if there are so many.
+pub fn file_at(words: &[String], place: usize) -> Option<&String>
+    ensures { MatchOption result (slice_get (coefficient_files (effects_of (texts words.now))) place ≡ None) (λ name. slice_get (coefficient_files (effects_of (texts words.now))) place ≡ Some (string_bytes name.now)) }
+{
+    let mut rest = words;
+    let mut left = place;
+    while let Some((effect, more)) = next_effect(rest) {
+        rest = more;
+        let Some(file) = read_file(effect) else {
+            continue;
+        };
+        if left == 0 {
+            return Some(file);
+        }
+        left -= 1;
+    }
+    None
+}
