@@ -1,3 +1,4 @@
+pub mod Chaining
 pub mod Draining
 pub mod Passing
 pub mod Running

@@ -1,3 +1,4 @@
+pub mod Chain
 pub mod Outlet
 pub mod Report
 pub mod Run

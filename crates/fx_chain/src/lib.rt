@@ -1,12 +1,16 @@
 //! Sounds through chains of effects: a source, a flow of stages, and a writer.
 #![tactic(auto)]
 
+pub mod chain;
 mod drain;
+mod flow_run;
 pub mod inner;
 mod outlet;
+mod plan_run;
 mod pump;
 mod report;
-mod run;
 mod target;
 
+pub use chain::Chain;
+pub use plan_run::run;
 pub use report::{MOST_EFFECTS, Report, RunFault};

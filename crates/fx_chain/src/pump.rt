@@ -85,6 +85,7 @@ pub fn pump<R: ByteIn, S: Stage, W: ByteOut>(
     ensures hungry { OnErr result (is_write_failed result ≡ false → IsHungry S.acts flow.new) }
     ensures due { OnErr result (is_write_failed result ≡ false → given_by S.acts flow.new.left flow.new.stages ≡ due_of (kinds S.acts flow.old.stages) progress.new.frames) }
     ensures recipes { recipes S.acts flow.new.stages ≡ recipes S.acts flow.old.stages }
+    ensures width { flow.new.channels ≡ flow.old.channels }
     ensures taken { taken_of flow.new ≡ progress.new.frames }
 
     // How many frames were taken.

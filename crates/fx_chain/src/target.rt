@@ -1,6 +1,4 @@
 //! What a run writes.
-ghost use Rattle.std.specs.Prelude.{◌≤◌, IsTrue};
-ghost use Rattle.fx_sound.specs.Kind.{is_coding_of};
 
 use fx_frame::Coding;
 use fx_sound::Kind;
@@ -13,7 +11,4 @@ pub struct Target {
     pub rate: u32,
     pub channels: usize,
     pub named: bool,
-    pub ghost coded: { IsTrue (is_coding_of kind coding) },
-    pub ghost rated: { 1 ≤ rate },
-    pub ghost some: { (1 ≤ channels) × (channels ≤ 16) },
 }

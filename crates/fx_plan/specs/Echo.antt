@@ -1,6 +1,8 @@
 -- The words of `echo` and `echos` (sox(1), EFFECTS, echo and echos): two gains, and 1 to 7 pairs of a delay and a decay.
-use Rattle.std.specs.Prelude.{ℕ, ◌+◌, ◌%◌, nat_lt, nat_eq, not, ◌||◌, List, [], ◌∷◌, ◌++◌, length, ℤ, pos}
+use Rattle.std.specs.Prelude.{ℕ, ◌+◌, ◌%◌, nat_le, nat_lt, nat_eq, not, ◌&&◌, ◌||◌, Bool, List, [], ◌∷◌, ◌++◌, length, ℤ, pos, unsigned_abs}
+use Rattle.std.specs.List.{list_all}
 use Rattle.std.specs.Result.{result_unwrap_or}
+use Rattle.fx_fixed.specs.declared.gains.TheConstants.{UNIT}
 use Rattle.fx_plan.specs.declared.fault.Mark.{Mark}
 use Rattle.fx_plan.specs.declared.fault.PlanCause.TheVariants.{WrongCount}
 use Rattle.fx_plan.specs.declared.words.echo.Echoing.{Echoing}
@@ -19,6 +21,14 @@ pub record Echoes : Type 0 where
 
 abbrev pub echo_value : Echoing → Echoes
 echo_value e = record { gain_in = e.gain_in; gain_out = e.gain_out; taps = e.taps.items }
+
+-- a delay of a frame at least, and a decay of one at most
+abbrev pub is_tap : Tap → Bool
+is_tap tap = nat_le 1 tap.0 && nat_le (unsigned_abs tap.1) UNIT
+
+-- a gain of the input of one at most, and 1 to 7 such pairs
+abbrev pub are_echoes : Echoes → Bool
+are_echoes e = nat_le (unsigned_abs e.gain_in) UNIT && (nat_le 1 (length e.taps) && (nat_le (length e.taps) 7 && list_all is_tap e.taps))
 
 -- the faults of pairs, the first word of which has this number
 abbrev pub tap_faults : ℕ → ℕ → List Word → List Mark

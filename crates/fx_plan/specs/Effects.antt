@@ -1,5 +1,6 @@
 -- An effect with its resolved arguments: what its words give, and the layout behind it.
 use Rattle.std.specs.Prelude.{ℕ, ◌*◌, ◌/◌, ◌^◌, ◌<◌, ◌≤◌, ◌≡◌, nat_le, ◌&&◌, Bool, true, List, [], ◌∷◌, codes, length, ℤ, unsigned_abs, ⊤, Option, Some, None}
+use Rattle.std.specs.List.{list_all}
 use Rattle.fx_fixed.specs.declared.gains.TheConstants.{UNIT}
 use Rattle.fx_fixed.specs.declared.positions.At.{At}
 use Rattle.fx_sound.specs.declared.head.Head.{Head}
@@ -16,14 +17,14 @@ use Rattle.fx_plan.specs.Faults.{Word, mark}
 use Rattle.fx_plan.specs.Names.{name_of}
 use Rattle.fx_plan.specs.Numbers.{beginning}
 use Rattle.fx_plan.specs.Trim.{trim_faults, places}
-use Rattle.fx_plan.specs.Pad.{Length, pad_faults, lengths}
+use Rattle.fx_plan.specs.Pad.{Length, are_pads, pad_faults, lengths}
 use Rattle.fx_plan.specs.Delay.{delay_faults, delays}
-use Rattle.fx_plan.specs.Echo.{Echoes, echo_faults, echo_value, echoing}
-use Rattle.fx_plan.specs.Fade.{fade_faults, fading}
+use Rattle.fx_plan.specs.Echo.{Echoes, are_echoes, echo_faults, echo_value, echoing}
+use Rattle.fx_plan.specs.Fade.{fade_faults, fading, is_fade}
 use Rattle.fx_plan.specs.Vol.{vol_faults, vol_gain}
 use Rattle.fx_plan.specs.DcShift.{shift_faults, shift_gain}
 use Rattle.fx_plan.specs.Fir.{fir_faults, coefficients}
-use Rattle.fx_plan.specs.Remix.{remix_faults, remixed, specs_value}
+use Rattle.fx_plan.specs.Remix.{is_mix, remix_faults, remixed, specs_value}
 use Rattle.fx_plan.specs.Factor.{upsample_faults, downsample_faults, factor_of, usable}
 
 -- what an effect does, by its resolved arguments
@@ -160,18 +161,19 @@ is_usable (OfDownsample factor) = nat_le 1 factor && nat_le factor 256
 abbrev pub Usable : Act → Type 0
 Usable act = is_usable act ≡ true
 
--- an effect meets what its place behind a layout asks for: a delay for each channel at the most
+-- an effect meets what its place behind a layout asks for: a delay for each channel at the most, no channel that is
+-- not there, and arguments within the limits
 abbrev pub fits_layout : Layout → Act → Bool
 fits_layout layout (OfTrim ps) = true
-fits_layout layout (OfPad pads) = true
+fits_layout layout (OfPad pads) = are_pads pads
 fits_layout layout (OfDelay ds) = nat_le (length ds) layout.channels
-fits_layout layout (OfEcho e) = true
-fits_layout layout (OfEchos e) = true
-fits_layout layout (OfFade fade) = true
+fits_layout layout (OfEcho e) = are_echoes e
+fits_layout layout (OfEchos e) = are_echoes e
+fits_layout layout (OfFade fade) = is_fade fade
 fits_layout layout (OfVol gain) = true
 fits_layout layout (OfDcShift shift) = nat_le (unsigned_abs shift) (2 * UNIT)
-fits_layout layout (OfFir gains) = true
-fits_layout layout (OfRemix specs) = true
+fits_layout layout (OfFir gains) = nat_le 1 (length gains) && nat_le (length gains) 1024
+fits_layout layout (OfRemix specs) = list_all (is_mix layout.channels) specs
 fits_layout layout (OfUpsample factor) = true
 fits_layout layout (OfDownsample factor) = true
 

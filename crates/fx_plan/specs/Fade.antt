@@ -1,5 +1,5 @@
 -- The words of `fade` (sox(1), EFFECTS, fade): the type `t` alone, a length in, and optionally a stop and a length out.
-use Rattle.std.specs.Prelude.{ℕ, nat_lt, nat_eq, not, ◌&&◌, List, [], ◌∷◌, ◌++◌, codes, length, Some, None}
+use Rattle.std.specs.Prelude.{ℕ, ◌^◌, nat_le, nat_lt, nat_eq, not, ◌&&◌, Bool, List, [], ◌∷◌, ◌++◌, codes, length, Some, None}
 use Rattle.std.specs.Str.{bytes_eq}
 use Rattle.std.specs.Result.{result_unwrap_or}
 use Rattle.fx_fixed.specs.declared.positions.Anchor.TheVariants as anchors
@@ -8,6 +8,10 @@ use Rattle.fx_plan.specs.declared.fault.PlanCause.TheVariants.{WrongCount, NotIn
 use Rattle.fx_plan.specs.declared.words.fade.Fading.{Fading}
 use Rattle.fx_plan.specs.Faults.{Word, mark, when, fault_at}
 use Rattle.fx_plan.specs.Numbers.{frames_in, position_in, beginning}
+
+-- lengths of 2^40 frames at most
+abbrev pub is_fade : Fading → Bool
+is_fade fade = nat_le fade.fade_in (2 ^ 40) && nat_le fade.fade_out (2 ^ 40)
 
 -- the faults of the length out, of the stop and what follows it, and of the length in and what follows it
 abbrev pub out_faults : ℕ → List Word → List Mark

@@ -1,5 +1,5 @@
 -- The words of `pad` (sox(1), EFFECTS, pad): 1 to 64 lengths, each with its position behind an `@`; the first and the last may go without.
-use Rattle.std.specs.Prelude.{ℕ, ◌+◌, ◌==◌, nat_lt, nat_eq, Bool, if◌then◌else◌, List, [], ◌∷◌, ◌++◌, length, map, Result, Ok, Err}
+use Rattle.std.specs.Prelude.{ℕ, ◌+◌, ◌^◌, ◌==◌, ◌&&◌, nat_le, nat_lt, nat_eq, Bool, true, if◌then◌else◌, List, [], ◌∷◌, ◌++◌, length, map, sum_by, Result, Ok, Err}
 use Rattle.std.specs.List.{before_first, after_first, position_or_len}
 use Rattle.fx_fixed.specs.declared.positions.Anchor.TheVariants as anchors
 use Rattle.fx_fixed.specs.declared.positions.At.{At}
@@ -17,6 +17,16 @@ Length = ℕ × At
 
 abbrev pub position_at : Length → At
 position_at pad = pad.1
+
+-- the positions from the start that stand before the first one from the end are in order, from a place on
+abbrev pub are_rising : ℕ → List At → Bool
+are_rising least [] = true
+are_rising least (Start p ∷ ps) = nat_le least p && are_rising p ps
+are_rising least (End b ∷ ps) = true
+
+-- lengths that can be put in: in order, and together at most those of 64 pads of 2^40 frames
+abbrev pub are_pads : List Length → Bool
+are_pads pads = are_rising 0 (map position_at pads) && nat_le (sum_by (λ (p : Length). p.0) pads) (2 ^ 46)
 
 -- an `@`, and whether a word has one
 abbrev pub is_at : ℕ → Bool

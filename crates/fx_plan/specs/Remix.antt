@@ -1,8 +1,8 @@
 -- The words of `remix` (sox(1), EFFECTS, remix): optionally `-a` or `-m`, then 1 to 16 out-specs; `-p` is left out.
-use Rattle.std.specs.Prelude.{ℕ, ◌+◌, ◌==◌, nat_lt, nat_eq, Bool, true, false, if◌then◌else◌, List, [], ◌∷◌, ◌++◌, codes, length, map, Some, None, is_some, drop, Vec, Result, Ok, Err}
+use Rattle.std.specs.Prelude.{ℕ, ◌+◌, ◌==◌, ◌&&◌, nat_le, nat_lt, nat_eq, Bool, true, false, if◌then◌else◌, List, [], ◌∷◌, ◌++◌, codes, length, map, Some, None, is_some, drop, Vec, Result, Ok, Err}
 use Rattle.std.specs.Str.{bytes_eq}
 use Rattle.smallvec.specs.SmallVec.{SmallVec}
-use Rattle.std.specs.List.{list_any, slice_split}
+use Rattle.std.specs.List.{list_all, list_any, slice_split}
 use Rattle.fx_plan.specs.declared.fault.Mark.{Mark}
 use Rattle.fx_plan.specs.declared.fault.PlanCause.{PlanCause}
 use Rattle.fx_plan.specs.declared.fault.PlanCause.TheVariants.{WrongCount, NotInProfile, OutOfRange, TooManyChannels}
@@ -46,6 +46,14 @@ has_gain c = is_some c.gain
 
 abbrev pub weighed : Mixing → List Contribution → List (ℕ × Weight)
 weighed mixing sum = map (weight_of (default_weight mixing (list_any has_gain sum))) sum
+
+-- a channel of the sum is one of so many
+abbrev pub is_there : ℕ → Contribution → Bool
+is_there channels c = nat_lt c.channel channels
+
+-- an out-spec of at most 64 channels, each one of so many
+abbrev pub is_mix : ℕ → List (ℕ × Weight) → Bool
+is_mix channels spec = nat_le (length spec) 64 && list_all (λ (c : ℕ × Weight). nat_lt c.0 channels) spec
 
 -- an out-spec: `0` is silence, anything else is parts between commas
 abbrev pub is_silence : Word → Bool

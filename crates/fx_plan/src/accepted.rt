@@ -4,7 +4,7 @@ ghost use Rattle.std.specs.Prelude.{◌≡◌, ◌<◌, ◌≤◌, ◌^◌, IsTr
 ghost use Rattle.std.specs.List.{All};
 ghost use Rattle.fx_sound.specs.Kind.{is_coding_of};
 ghost use Rattle.fx_plan.specs.Bounds.{hold_all, is_too_long};
-ghost use Rattle.fx_plan.specs.Effects.{Usable, act, all_fit, head_layout};
+ghost use Rattle.fx_plan.specs.Effects.{IsLayout, Usable, act, all_fit, head_layout};
 
 use crate::effect::{Effect, Layout};
 use fx_frame::Coding;
@@ -20,6 +20,7 @@ pub struct Plan {
     pub(crate) is_named: bool,
     pub(crate) effects: Vec<Effect>,
     pub(crate) layout: Layout,
+    ghost begins: { IsLayout (head_layout head) },
     ghost few: { length effects.items ≤ 32 },
     ghost usable: { All Usable (map act effects.items) },
     ghost fit: { all_fit (head_layout head) (map act effects.items) ≡ true },

@@ -1,10 +1,10 @@
 //! How a plan is made, and what it tells.
 
-ghost use Rattle.std.specs.Prelude.{◌≡◌, ℕ, ◌<◌, ◌≤◌, ◌-◌, ◌*◌, ◌^◌, IfOk, IsTrue, Some, length, map, slice_get, true};
+ghost use Rattle.std.specs.Prelude.{◌≡◌, ℕ, ◌<◌, ◌≤◌, ◌-◌, ◌*◌, ◌^◌, IfOk, IsTrue, Some, false, length, map, slice_get, true};
 ghost use Rattle.fx_sound.specs.Kind.{is_coding_of};
-ghost use Rattle.fx_plan.specs.Bounds.{hold_all, hold_of, work_of};
+ghost use Rattle.fx_plan.specs.Bounds.{hold_all, hold_of, is_too_long, work_of};
 ghost use Rattle.std.specs.List.{All};
-ghost use Rattle.fx_plan.specs.Effects.{Usable, act, all_fit, head_layout, name_text};
+ghost use Rattle.fx_plan.specs.Effects.{IsLayout, Usable, act, all_fit, head_layout, name_text};
 ghost use Rattle.fx_plan.specs.Faults.{texts};
 ghost use Rattle.fx_plan.specs.Groups.{effects_of};
 ghost use Rattle.fx_plan.specs.Planning.{planning, planning_of};
@@ -57,9 +57,12 @@ pub fn plan_words(
 }
 
 impl Plan {
-    /// The head of the input.
+    /// The head of the input: a rate of at least 1, and 1 to 16 channels.
     pub fn head(&self) -> Head
-        ensures { result ≡ (planning self.now).head }
+        ensures value { result ≡ (planning self.now).head }
+        ensures rated { 0 < result.rate }
+        ensures some { 0 < result.channels }
+        ensures most { result.channels ≤ 16 }
     {
         self.head
     }
@@ -163,11 +166,16 @@ impl Plan {
         })
     }
 
-    /// The effects with their arguments, in order.
+    /// The effects with their arguments, in order. The first of them is behind the layout of the head, each other one
+    /// behind that which those before it leave; there each meets what its place asks for.
     pub fn effects(&self) -> &[Effect]
         ensures value { map act result.now ≡ (planning self.now).acts }
+        ensures layout { IsLayout (head_layout (planning self.now).head) }
         ensures usable { All Usable (map act result.now) }
         ensures fit { all_fit (head_layout (planning self.now).head) (map act result.now) ≡ true }
+        ensures few { length result.now ≤ 32 }
+        ensures held { hold_all (map act result.now) ≤ 2 ^ 28 }
+        ensures short { is_too_long (map act result.now) ≡ false }
     {
         &self.effects
     }

@@ -193,14 +193,13 @@ impl CommandLine {
 }
 
 /// The plan of a line's effects behind the input's head, with the bytes of each coefficient file, in order; or the
-/// first of all faults, or want of memory.
+/// first of all faults, or want of memory. A coefficient file that is not there counts as one without a byte.
 pub fn plan(
     alloc: Global,
     line: &CommandLine,
     head: &Head,
     files: &[Vec<u8>],
 ) -> Result<Plan, PlanFault>
-    requires { length files.now ≡ length (coefficient_files (effects_in line.now)) }
     ensures { PlanReads planning result (all_faults (head_layout head.now) (bytes_of files.now) (effects_in line.now)) (planning_in head.now line.now (bytes_of files.now)) }
 {
     plan_words(

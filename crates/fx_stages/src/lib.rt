@@ -1,6 +1,8 @@
-//! The stages of all twelve effects as one type.
+//! The stages of all twelve effects as one type, and those that a plan's effects ask for.
 #![tactic(auto)]
 
+pub mod make;
 pub mod stage;
 
+pub use make::stages_of;
 pub use stage::EffectStage;

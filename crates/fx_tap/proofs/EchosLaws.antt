@@ -1,17 +1,17 @@
 -- How an `Echos` behaves.
-use Rattle.std.proofs.Common.{ℕ, ℤ, pos, suc, zero, ◌+◌, ◌-◌, ◌*◌, ◌^◌, ◌<◌, ◌≤◌, ◌≡◌, Bool, true, false, cond, min, map, List, [], ◌∷◌, ◌++◌, length, get_or, take, drop, replicate, refl, sym, ap, ◌∙◌, arith, add-zero, zero-add, sub-one}
-use Rattle.std.specs.Prelude.{FitsSigned, unsigned_abs, slice_index_or, slice_get, option_to_list, Option, Some, None, is_none, nat_eq, ◌&&◌}
+use Rattle.std.proofs.Common.{ℕ, ℤ, pos, suc, zero, ◌+◌, ◌-◌, ◌*◌, ◌^◌, ◌<◌, ◌≤◌, ◌≡◌, true, false, map, List, [], ◌∷◌, ◌++◌, length, get_or, take, drop, replicate, refl, sym, ap, ◌∙◌, arith, add-zero, zero-add, sub-one}
+use Rattle.std.specs.Prelude.{FitsSigned, unsigned_abs, Some, None}
 use Rattle.std.specs.List.{All}
-use Rattle.std.specs.Int.{w32, w64}
-use Prim.Native.Nat.compare
+use Rattle.std.specs.Int.{w64}
 use Rattle.std.proofs.lemmas.Int.{fits_signed_from_abs}
 use Rattle.std.proofs.lemmas.List.{length-append, length-drop, length-map, get_or-map, take_at}
-use Rattle.std.proofs.lemmas.List.Elements.{All-cons, All-head, All-tail, All-nil, All-drop, All-push, All-weaker, All-from_get_or, All-get_or}
+use Rattle.std.proofs.lemmas.List.Elements.{All-nil, All-drop, All-push, All-weaker, All-from_get_or, All-get_or}
 use Rattle.fx_frame.specs.Frame.{Samples, silence, IsFrame}
-use Rattle.fx_frame.specs.Line.{Frames, IsLine, IsSamples, pushed_out, empty}
-use Rattle.fx_frame.specs.Stage.{Given, Gave, Took}
+use Rattle.fx_frame.specs.Line.{Frames, IsSamples, pushed_out, empty}
+use Rattle.fx_frame.specs.Stage.{Gave, Took}
 use Rattle.fx_tap.specs.Echo.{EchoArguments, IsEcho}
 use Rattle.fx_tap.specs.Echos.{EchosState, IsEchos, IsEchoLine, IsRowLine, after_push, came_of, delay_at, echos_acts, fed, frame_of_lines, frames_of, late, let_go, line_at, lines_after, or_silence, places_of, through_lines}
+use Rattle.fx_tap.proofs.DryLaws.{dry-hand, dry-tail, true_of}
 use Rattle.fx_tap.proofs.EchosRow.{Small, small-fed, small-gone}
 use Rattle.fx_tap.proofs.Tabulate.{length-tabulate}
 
@@ -116,10 +116,6 @@ frames-late s is =
 
 -- ---- what comes and goes
 
-dry-hand : (hand : Option Samples) (tail : ℕ) → (is_none hand && nat_eq tail 0) ≡ true → hand ≡ None
-dry-hand None tail h = refl
-dry-hand (Some x) tail h = absurd (cc)
-
 -- what the lines let go for a frame
 abbrev pub row_gone : EchosState → Samples → List Samples
 row_gone s x = let_go s.arguments.channels s.lines x (replicate s.arguments.channels (pos 0))
@@ -160,15 +156,6 @@ IsEchos-taken s lines frame out clips is dry running few lines_are small clips_f
       hand_few = clips_few;
       fits = λ x q. let same : out ≡ x = cc in (rw (← same) framed, rw (← same) long);
     }
-
-dry-tail : (hand : Option Samples) (tail : ℕ) → 0 < tail → (is_none hand && nat_eq tail 0) ≡ false
-dry-tail None zero h = absurd (omega arith)
-dry-tail None (suc n) h = rw (compare.suc-zero) refl
-dry-tail (Some x) n h = refl
-
-true_of : (b : Bool) → (b ≡ false → ⊥) → b ≡ true
-true_of true h = refl
-true_of false h = absurd (h refl)
 
 ended-tail : (s : EchosState) → IsEchos s → 0 < s.tail → s.ended ≡ true
 ended-tail s is some = true_of s.ended (λ e. let k = is.not_ended e in absurd (omega arith))

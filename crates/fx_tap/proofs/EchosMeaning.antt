@@ -1,15 +1,14 @@
 -- What a row of empty lines gives is the definition of `echos`, by index.
 use Rattle.std.proofs.Common.{ℕ, ℤ, pos, suc, zero, ◌+◌, ◌-◌, ◌*◌, ◌<◌, ◌≤◌, ◌≡◌, ◌+ℤ◌, ◌*ℤ◌, Bool, true, false, cond, min, map, List, [], ◌∷◌, ◌++◌, length, get_or, take, drop, replicate, refl, sym, ap, ◌∙◌, arith, add-zero, zero-add}
-use Rattle.std.specs.Prelude.{nat_le, nat_lt, slice_get, slice_index_or, Some, None, if◌then◌else◌}
+use Rattle.std.specs.Prelude.{nat_le, nat_lt, slice_get, Some, None, if◌then◌else◌}
 use Rattle.std.proofs.lemmas.Bool.Decides.{nat_tests}
 use Rattle.std.proofs.lemmas.Int.{ints}
-use Rattle.std.proofs.lemmas.List.{drop_more, take_more, length-append, length-take, length-replicate, drop-append-le, length-drop}
+use Rattle.std.proofs.lemmas.List.{drop_more, take_more, length-append, length-take, length-replicate, drop-append-le}
 use borrow.Author.Tests.{ltb-true, ltb-false}
 use Rattle.fx_fixed.specs.Rounding.{rounding}
 use Rattle.fx_fixed.specs.declared.gains.TheConstants.{UNIT}
 use Rattle.fx_frame.specs.Frame.{Samples, silence}
-use Rattle.fx_frame.specs.Line.{Frames, pushed, pushed_out, channel_of, empty}
-use Rattle.fx_frame.specs.Stage.{Given}
+use Rattle.fx_frame.specs.Line.{Frames, pushed_out, channel_of, empty}
 use Rattle.fx_tap.specs.Echo.{EchoArguments}
 use Rattle.fx_tap.specs.Echos.{after_push, decays, delay_at, echos, echos_frame, fed, frame_of_lines, late, let_go, lines_after, or_silence, passed, sum_below, through_lines, way}
 use Rattle.fx_tap.specs.Lists.{tabulate}

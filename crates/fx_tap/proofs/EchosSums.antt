@@ -1,7 +1,7 @@
 -- What an `Echos` adds up.
-use Rattle.std.proofs.Common.{ℕ, ℤ, pos, suc, zero, ◌+◌, ◌-◌, ◌*◌, ◌^◌, ◌<◌, ◌≤◌, ◌≡◌, ◌+ℤ◌, ◌*ℤ◌, List, [], ◌∷◌, ◌++◌, length, get_or, refl, arith, to_z, of_z}
+use Rattle.std.proofs.Common.{ℤ, ◌^◌, ◌<◌, ◌≤◌, ◌≡◌, ◌+ℤ◌, ◌*ℤ◌, refl, arith, to_z, of_z}
 use Rattle.std.specs.Prelude.{unsigned_abs}
-use Rattle.std.proofs.lemmas.Int.{ints, fits_signed_from_abs, to_z-of_z}
+use Rattle.std.proofs.lemmas.Int.{fits_signed_from_abs, to_z-of_z}
 use Rattle.fx_tap.proofs.SumLaws.{held, scaled-few}
 use mir.Syntax.{w128, w64}
 

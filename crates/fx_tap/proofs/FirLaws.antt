@@ -1,24 +1,23 @@
 -- How a `Fir` behaves.
-use Rattle.std.proofs.Common.{ℕ, ℤ, pos, zero, suc, ◌+◌, ◌-◌, ◌*◌, ◌/◌, ◌<◌, ◌≤◌, ◌≡◌, Bool, true, false, cond, min, take, List, [], ◌∷◌, ◌++◌, length, drop, get_or, set, map, reverse, refl, sym, ap, ◌∙◌, arith, replicate, add-zero, zero-add, append_assoc, append-nil, sub-one}
-use Rattle.std.specs.Prelude.{nat_le, slice_get, slice_index_or, Option, Some, None, is_none, nat_eq, ◌&&◌, ◌^◌, option_to_list, unsigned_abs}
-use Rattle.std.specs.Int.{w32}
+use Rattle.std.proofs.Common.{ℕ, ℤ, pos, zero, suc, ◌+◌, ◌-◌, ◌<◌, ◌≤◌, ◌≡◌, Bool, true, false, cond, min, List, [], ◌∷◌, ◌++◌, length, drop, get_or, set, reverse, refl, sym, ap, ◌∙◌, arith, zero-add, append_assoc, append-nil}
+use Rattle.std.specs.Prelude.{slice_get, slice_index_or, Option, Some, None, nat_eq}
 use Rattle.std.proofs.Math.Seq.{set-append_seam}
 use Rattle.std.proofs.lemmas.List.{length-append, length-drop, length-map, length-reverse, reverse-reverse, map-append, drop-append-le}
 use Rattle.std.proofs.lemmas.List.Sums.{sum_by-append}
-use Prim.Native.Nat.compare
-use Rattle.fx_frame.specs.Frame.{Samples, IsFrame}
-use Rattle.fx_frame.specs.Line.{Frames, pushed, IsLine, channel_of}
-use Rattle.fx_frame.specs.Frozen.{IsStored, IsHand}
-use Rattle.fx_frame.specs.Stage.{Given, Gave, Took, Ended, Freezes, numbers_of}
+use Rattle.fx_frame.specs.Frame.{Samples}
+use Rattle.fx_frame.specs.Line.{Frames, pushed, channel_of}
+use Rattle.fx_frame.specs.Frozen.{IsStored}
+use Rattle.fx_frame.specs.Stage.{Gave, Took, Freezes, numbers_of}
 use Rattle.fx_tap.specs.Tapped.{sample_before}
-use Rattle.fx_tap.specs.Fir.{FirArguments, FirState, IsFir, centre, samples_back, filtered_sample, filtered_frame, filtered_at, filtered, fir_behind, fir_tail, fir_acts, arguments_of}
+use Rattle.fx_tap.specs.Fir.{FirArguments, FirState, IsFir, centre, filtered_frame, filtered_at, filtered, fir_behind, fir_tail, fir_acts, arguments_of}
 use Rattle.fx_tap.specs.Lists.{tabulate}
 use Rattle.fx_tap.specs.Products.{sum_of_products}
 use Rattle.fx_tap.specs.Rounded.{samples_of, clips_of, given_of}
 use Rattle.fx_fixed.specs.Rounding.{rounding}
 use Rattle.fx_fixed.specs.declared.gains.TheConstants.{UNIT}
+use Rattle.fx_tap.proofs.DryLaws.{dry-hand, dry-tail, true_of}
 use Rattle.fx_tap.proofs.DelayLaws.{sample_before-append, sample_before-drop}
-use Rattle.fx_tap.proofs.Tabulate.{tabulate-append, tabulate-same, length-tabulate}
+use Rattle.fx_tap.proofs.Tabulate.{tabulate-append, tabulate-same}
 
 -- ---- a window
 
@@ -141,10 +140,6 @@ behind-all r z =
     let count : min 0 (centre (length r.coefficients)) + length z ≡ length z = omega arith in
     rw (from, count) refl
 
-dry-hand : (hand : Option Samples) (tail : ℕ) → (is_none hand && nat_eq tail 0) ≡ true → hand ≡ None
-dry-hand None tail h = refl
-dry-hand (Some x) tail h = absurd (cc)
-
 -- the coefficients are as many as they are backwards
 count-back : (s : FirState) → IsFir s → s.line.capacity + 1 ≡ length (reverse s.backwards)
 count-back s is = is.capacity ∙ sym (length-reverse s.backwards)
@@ -181,15 +176,6 @@ Took-due s line frame out clips is dry running due out_is clips_are items =
       counted = refl;
       recipe_stays = refl;
     }
-
-dry-tail : (hand : Option Samples) (tail : ℕ) → 0 < tail → (is_none hand && nat_eq tail 0) ≡ false
-dry-tail None zero h = absurd (omega arith)
-dry-tail None (suc n) h = rw (compare.suc-zero) refl
-dry-tail (Some x) n h = refl
-
-true_of : (b : Bool) → (b ≡ false → ⊥) → b ≡ true
-true_of true h = refl
-true_of false h = absurd (h refl)
 
 ended-tail : (s : FirState) → IsFir s → 0 < s.tail → s.ended ≡ true
 ended-tail s is some = true_of s.ended (λ e. let k = is.not_ended e in absurd (omega arith))

@@ -1,9 +1,12 @@
 pub mod DelayLaws
+pub mod DryLaws
 pub mod EchoLaws
 pub mod MixLaws
+pub mod PartLaws
 pub mod EchosLaws
 pub mod EchosMeaning
 pub mod EchosRow
+pub mod EchosStored
 pub mod EchosSums
 pub mod FirLaws
 pub mod ProductBounds

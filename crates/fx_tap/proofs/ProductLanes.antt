@@ -1,5 +1,5 @@
 -- Sums of products, lane by lane.
-use Rattle.std.proofs.Common.{◌≡◌, ℕ, ◌+◌, ◌*◌, ◌^◌, ◌<◌, ◌≤◌, ap, ◌∙◌, refl, arith, ℤ, pos, negsuc, ◌*ℤ◌, ◌+ℤ◌, List, [], ◌∷◌, to_z, of_z, w64, FitsSigned, length, get_or, drop}
+use Rattle.std.proofs.Common.{◌≡◌, ℕ, zero, suc, ◌+◌, ◌*◌, ◌^◌, ◌<◌, ◌≤◌, ap, ◌∙◌, refl, arith, ℤ, pos, negsuc, ◌*ℤ◌, ◌+ℤ◌, List, [], ◌∷◌, to_z, of_z, w64, FitsSigned, length, get_or, drop, take}
 use Rattle.std.specs.Prelude.{map}
 use Rattle.std.specs.Simd.Lanes.{Each1, Each2, chunk, zip2}
 use Rattle.std.proofs.lemmas.Int.{ints, to_z-of_z, unsigned_abs-mul, fits_signed_from_abs}
@@ -163,6 +163,12 @@ lane_sum-four (a ∷ b ∷ c ∷ []) four = absurd (omega arith)
 lane_sum-four (a ∷ b ∷ c ∷ d ∷ []) four = omega (arith, ints)
 lane_sum-four (a ∷ b ∷ c ∷ d ∷ e ∷ xs) four = absurd (omega arith)
 
+pub lane_sum-within : (m : ℕ) (xs : List ℤ) → Each1 (Within m) xs → Within (length xs * m) (lane_sum xs)
+lane_sum-within m [] small = omega arith
+lane_sum-within m (x ∷ xs) small =
+    let more : suc (length xs) * m ≡ m + length xs * m = omega arith in
+    rw more (sum_within m (length xs * m) x (lane_sum xs) small.0 (lane_sum-within m xs small.1))
+
 pub lane_fits : (m i : ℕ) (xs : List ℤ) → m < 2 ^ 63 → i < 4 → LanesWithin m xs → FitsSigned w64 (get_or xs i (pos 0))
 lane_fits m i xs fits place small =
     let four = small.four in
@@ -210,11 +216,21 @@ sum_of_products-block xs cs at in_xs in_cs =
     place : (xs cs : List ℤ) (i : ℕ) → i < length xs → i < length cs → sum_of_products (drop i xs) (drop i cs) ≡ (get_or xs i (pos 0) *ℤ get_or cs i (pos 0)) +ℤ sum_of_products (drop (i + 1) xs) (drop (i + 1) cs)
     place xs cs i in_xs in_cs = rw (drop_more xs i (pos 0) in_xs, drop_more cs i (pos 0) in_cs) refl
 
-pub four_wider : (m n : ℕ) (xs : List ℤ) → m ≤ n → LanesWithin m xs → LanesWithin n xs
-four_wider m n xs le small = record { four = small.four; small = wider m n xs le small.small }
-
 -- one block more in the three sums
 pub block_added : (whole rest high middle low next_high next_middle next_low block high_part middle_part low_part : ℤ) →
     (joined high middle low +ℤ (block +ℤ rest)) ≡ whole → next_high ≡ (high +ℤ high_part) → next_middle ≡ (middle +ℤ middle_part) → next_low ≡ (low +ℤ low_part) → block ≡ joined high_part middle_part low_part →
     (joined next_high next_middle next_low +ℤ rest) ≡ whole
 block_added whole rest high middle low next_high next_middle next_low block high_part middle_part low_part before high_is middle_is low_is block_is = omega (arith, ints)
+
+-- a sum of products in two parts
+pub sum_of_products-parted : (xs cs : List ℤ) (n : ℕ) → sum_of_products xs cs ≡ (sum_of_products (take n xs) (take n cs) +ℤ sum_of_products (drop n xs) (drop n cs))
+sum_of_products-parted xs cs zero = omega (arith, ints)
+sum_of_products-parted [] cs (suc n) = refl
+sum_of_products-parted (x ∷ xs) [] (suc n) = none (drop n xs)
+  where
+    none : (l : List ℤ) → pos 0 ≡ (pos 0 +ℤ sum_of_products l [])
+    none [] = refl
+    none (a ∷ l) = refl
+sum_of_products-parted (x ∷ xs) (c ∷ cs) (suc n) =
+    let rest = sum_of_products-parted xs cs n in
+    omega (arith, ints)

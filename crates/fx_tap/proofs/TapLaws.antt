@@ -1,7 +1,6 @@
 -- The steps of a stage that makes each frame of that frame and of those before it.
 use Rattle.std.proofs.Common.{ℕ, ℤ, pos, zero, suc, ◌+◌, ◌-◌, ◌<◌, ◌≤◌, ◌≡◌, Bool, true, false, cond, List, [], ◌∷◌, ◌++◌, length, drop, refl, sym, ap, ◌∙◌, arith, replicate, append_assoc, sub-one}
-use Rattle.std.specs.Prelude.{nat_le, Option, Some, None, is_none, nat_eq, ◌&&◌, ◌^◌}
-use Prim.Native.Nat.compare
+use Rattle.std.specs.Prelude.{nat_le, Some, None, nat_eq, ◌^◌}
 use Rattle.std.specs.Int.{w32}
 use Rattle.std.proofs.lemmas.List.{length-append, length-drop, length-replicate, drop-append-le}
 use Rattle.fx_frame.specs.Frame.{Samples, silence, IsFrame}
@@ -9,21 +8,9 @@ use Rattle.fx_frame.specs.Line.{Frames, pushed, IsLine}
 use Rattle.fx_frame.specs.Stage.{Gave, Took}
 use Rattle.fx_tap.specs.Lists.{tabulate}
 use Rattle.fx_tap.specs.Tapped.{Taps, TapState, IsTapState, IsNear, behind, tapped, tap_acts, sample_before}
+use Rattle.fx_tap.proofs.DryLaws.{dry-hand, dry-tail, true_of}
 use Rattle.fx_tap.proofs.DelayLaws.{sample_before-append, sample_before-drop, quiet-after}
 use Rattle.fx_tap.proofs.Tabulate.{tabulate-same}
-
-true_of : (b : Bool) → (b ≡ false → ⊥) → b ≡ true
-true_of true h = refl
-true_of false h = absurd (h refl)
-
-dry-hand : (hand : Option Samples) (tail : ℕ) → (is_none hand && nat_eq tail 0) ≡ true → hand ≡ None
-dry-hand None tail h = refl
-dry-hand (Some x) tail h = absurd (cc)
-
-dry-tail : (hand : Option Samples) (tail : ℕ) → 0 < tail → (is_none hand && nat_eq tail 0) ≡ false
-dry-tail None zero h = absurd (omega arith)
-dry-tail None (suc n) h = rw (compare.suc-zero) refl
-dry-tail (Some x) n h = refl
 
 module _ {M : Type 0} (taps : Taps M) (near : IsNear taps) where
   -- one more frame comes

@@ -1,7 +1,6 @@
 -- The effect `fir` (sox(1), EFFECTS, fir): each sample is a sum of the samples around it, times the coefficients. That the
 -- sum is centred, so that nothing comes late, and rounding and clips are this project's profile.
 use Rattle.std.specs.Prelude.{ℕ, ℤ, pos, ◌+◌, ◌-◌, ◌*◌, ◌/◌, ◌^◌, ◌≤◌, ◌≡◌, Bool, false, ◌&&◌, Option, None, List, ◌++◌, length, map, min, reverse, option_to_list, is_none, nat_eq, nat_le, slice_index_or, cond, unsigned_abs, All}
-use Rattle.std.proofs.Common.{arith}
 use Rattle.std.specs.Int.{w32}
 use Rattle.fx_fixed.specs.Rounding.{rounding}
 use Rattle.fx_fixed.specs.declared.gains.TheConstants.{UNIT}

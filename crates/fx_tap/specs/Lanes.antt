@@ -1,5 +1,6 @@
 -- Four lanes of signed numbers (this project's profile).
-use Rattle.std.specs.Prelude.{ℕ, ◌≤◌, ◌≡◌, List, [], ◌∷◌, length, ℤ, pos, ◌*ℤ◌, ◌+ℤ◌, unsigned_abs}
+use Rattle.std.specs.Prelude.{ℕ, ◌≤◌, ◌≡◌, ◌^◌, List, [], ◌∷◌, length, ℤ, pos, ◌*ℤ◌, ◌+ℤ◌, unsigned_abs}
+use Rattle.std.specs.List.{All}
 use Rattle.std.specs.Simd.Lanes.{Each1, zip2}
 
 -- a number of at most that magnitude
@@ -27,3 +28,12 @@ joined high middle low = upper (upper high middle) low
 -- the same, lane by lane
 abbrev pub joined_lanes : List ℤ → List ℤ → List ℤ → List ℤ
 joined_lanes high middle low = zip2 upper (zip2 upper high middle) low
+
+-- the parts of so many coefficients
+pub record IsParts (count : ℕ) (highs middles lows : List ℤ) : Type 0 where
+  pub highs_are : length highs ≡ count
+  pub middles_are : length middles ≡ count
+  pub lows_are : length lows ≡ count
+  pub highs_small : All (Within (2 ^ 17)) highs
+  pub middles_small : All (Within (2 ^ 17)) middles
+  pub lows_small : All (Within (2 ^ 17)) lows

@@ -2,6 +2,7 @@ pub mod DcShift
 pub mod Delay
 pub mod Echo
 pub mod Echos
+pub mod EchosStored
 pub mod Fir
 pub mod Lanes
 pub mod Lists

@@ -1,18 +1,19 @@
 //! The effect `echos` of sox(1): echoes in series, each line taking the frame and what the line before it lets go.
-ghost use Rattle.std.specs.Prelude.{◌≡◌, ◌<◌, ◌≤◌, ◌+◌, ◌*◌, ◌^◌, ◌+ℤ◌, ◌*ℤ◌, ℕ, pos, length, map, unsigned_abs, slice_get, slice_index_or, replicate, IfOk};
+ghost use Rattle.std.specs.Prelude.{◌≡◌, ◌<◌, ◌≤◌, ◌+◌, ◌*◌, ◌^◌, ◌+ℤ◌, ◌*ℤ◌, ℕ, pos, length, map, unsigned_abs, slice_get, slice_index_or, replicate, Err, IfOk, MatchResult};
 ghost use Rattle.std.specs.List.{All};
 ghost use Rattle.fx_frame.specs.Frame.{IsFrame};
 ghost use Rattle.fx_frame.specs.Line.{channel_of, empty, pushed_out};
-ghost use Rattle.fx_frame.specs.Stage.{IsNew};
+ghost use Rattle.fx_frame.specs.Stage.{Freezes, IsNew};
 ghost use Rattle.fx_tap.specs.Echo.{EchoArguments};
-ghost use Rattle.fx_tap.specs.Echos.{IsEchos, IsRowLine, after_push, decays, echos_acts, fed, frame_of_lines, frames_of, late, let_go, line_at, lines_after, or_silence};
+ghost use Rattle.fx_tap.specs.Echos.{EchosState, IsEchos, IsRowLine, after_push, decays, echos_acts, fed, frame_of_lines, frames_of, late, let_go, line_at, lines_after, or_silence};
 ghost use Rattle.fx_tap.specs.Products.{sum_of_products};
 
 use crate::echo::copied;
+use crate::rows::thawed_row_and_hand;
 use crate::sums::{Sums, add_scaled, rounded_sums};
 use fx_fixed::{Gain, UNIT};
 use fx_frame::inner::{places, wide_of, wide_places};
-use fx_frame::{Frame, Stage, WideFrame, WideLine};
+use fx_frame::{Frame, Stage, ThawFault, WideFrame, WideLine};
 use std::alloc::{AllocError, Global};
 use std::marker::Model;
 
@@ -239,6 +240,71 @@ impl Echos {
             given: 0,
             clips: 0,
             ended: false,
+        })
+    }
+}
+
+impl Echos {
+    /// The stage that stored these frames and counted these numbers, with the arguments of `new`: whichever stage of these
+    /// arguments they came from, that stage comes back, unless memory is wanting. BadSnapshot where there is no such stage,
+    /// Memory where a growth was refused.
+    pub fn thaw(
+        alloc: Global,
+        channels: usize,
+        gain_in: Gain,
+        gain_out: Gain,
+        echoes: &[(u64, Gain)],
+        frames: &[WideFrame],
+        numbers: &[u64; 8],
+    ) -> Result<Echos, ThawFault>
+        requires channels { (1 ≤ channels) × (channels ≤ 16) }
+        requires gain_in { unsigned_abs gain_in ≤ UNIT }
+        requires echoes { (1 ≤ length echoes.now) × (length echoes.now ≤ 7) }
+        requires delays { All (λ e. 1 ≤ e.0) echoes.now }
+        requires decays { All (λ e. unsigned_abs e.1 ≤ UNIT) echoes.now }
+        requires lines { late echoes.now ≤ 2 ^ 28 }
+        ensures recipe { IfOk result (λ t. echos_acts.recipe t ≡ record { channels = channels; gain_in = gain_in; gain_out = gain_out; echoes = echoes.now }) }
+        ensures frozen { IfOk result (λ t. Freezes echos_acts t frames.now numbers.now) }
+        ensures thawed { (s : EchosState) → IsEchos s → echos_acts.recipe s ≡ record { channels = channels; gain_in = gain_in; gain_out = gain_out; echoes = echoes.now } → Freezes echos_acts s frames.now numbers.now → MatchResult result (λ t. t ≡ s) (λ e. e ≡ ThawFault.Memory) }
+        ensures named { (result ≡ Err ThawFault.WrongPlan) → ⊥ }
+    {
+        let [taken, given, ended, clips, held, tail, hands, hand_clips] = *numbers;
+        if ended > 1 || held != frames.len() as u64 || hands > held {
+            return Err(ThawFault::BadSnapshot);
+        }
+        if taken > 1 << 56 || (ended == 0 && tail != 0) {
+            return Err(ThawFault::BadSnapshot);
+        }
+        let made = taken + ended * late_of(echoes);
+        if given > made || hands > made - given || tail != made - given - hands {
+            return Err(ThawFault::BadSnapshot);
+        }
+        if hand_clips > 16 || clips > 16 * given {
+            return Err(ThawFault::BadSnapshot);
+        }
+        let came = given + hands;
+        let (lines, hand) = match thawed_row_and_hand(
+            alloc, channels, came, echoes, frames, hands,
+        ) {
+            Ok(stored) => stored,
+            Err(fault) => return Err(fault),
+        };
+        let Ok(echoes) = copied(alloc, echoes) else {
+            return Err(ThawFault::Memory);
+        };
+        Ok(Echos {
+            hand,
+            hand_clips,
+            channels,
+            gain_in,
+            gain_out,
+            echoes,
+            lines,
+            tail,
+            taken,
+            given,
+            clips,
+            ended: ended == 1,
         })
     }
 }

@@ -15,11 +15,14 @@ pub mod fir;
 #[cfg(test)]
 mod fir_tests;
 pub mod mapped;
+mod parts;
 pub mod per_sample;
+pub mod prepared;
 pub mod products;
 pub mod remix;
 #[cfg(test)]
 mod remix_tests;
+mod rows;
 mod sums;
 pub mod tapped;
 #[cfg(test)]

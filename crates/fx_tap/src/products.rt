@@ -1,30 +1,13 @@
 //! Sums of products of samples and coefficients, four lanes at a time.
 ghost use Rattle.std.specs.Prelude.{◌≡◌, ◌+◌, ◌*◌, ◌^◌, ◌≤◌, length, pos, neg_ℤ, ◌*ℤ◌, ◌+ℤ◌, ◌≤ℤ◌, unsigned_abs, All, drop};
-ghost use Rattle.std.specs.Simd.Lanes.{chunk, zip2};
+ghost use Rattle.std.specs.Simd.Lanes.{chunk};
 ghost use Rattle.fx_tap.specs.Products.{sum_of_products};
-ghost use Rattle.fx_tap.specs.Lanes.{LanesWithin, Within, joined, joined_lanes, lane_sum};
+ghost use Rattle.fx_tap.specs.Lanes.{IsParts, LanesWithin, Within, joined, joined_lanes, lane_sum};
 
+use crate::parts::split_all;
 use std::simd::prelude::*;
 
-/// A coefficient in three parts of 17 bits: the highest, which is signed, the middle and the lowest.
-#[inline(always)]
-fn split(coefficient: i64) -> (i64, i64, i64)
-    requires { unsigned_abs coefficient ≤ 10 ^ 15 }
-    ensures value { coefficient ≡ joined result.0 result.1 result.2 }
-    ensures high { Within (2 ^ 17) result.0 }
-    ensures middle { Within (2 ^ 17) result.1 }
-    ensures low { Within (2 ^ 17) result.2 }
-{
-    let raised = (coefficient + 1_125_899_906_842_624) as u64;
-    let upper = raised / 131_072;
-    (
-        (upper / 131_072) as i64 - 65_536,
-        (upper % 131_072) as i64,
-        (raised % 131_072) as i64,
-    )
-}
-
-/// Four samples.
+/// Four samples, or one part of four coefficients.
 #[inline(always)]
 fn load(samples: &[i32], at: usize) -> i64x4
     requires { at + 4 ≤ length samples.now }
@@ -37,27 +20,6 @@ fn load(samples: &[i32], at: usize) -> i64x4
         i64::from(samples[at + 2]),
         i64::from(samples[at + 3]),
     ])
-}
-
-/// The parts of four coefficients.
-#[inline(always)]
-fn load_parts(coefficients: &[i64], at: usize) -> (i64x4, i64x4, i64x4)
-    requires room { at + 4 ≤ length coefficients.now }
-    requires small { All (λ c. unsigned_abs c ≤ 10 ^ 15) coefficients.now }
-    ensures value { chunk at 4 coefficients.now ≡ joined_lanes result.0 result.1 result.2 }
-    ensures high { LanesWithin (2 ^ 17) result.0 }
-    ensures middle { LanesWithin (2 ^ 17) result.1 }
-    ensures low { LanesWithin (2 ^ 17) result.2 }
-{
-    let (h0, m0, l0) = split(coefficients[at]);
-    let (h1, m1, l1) = split(coefficients[at + 1]);
-    let (h2, m2, l2) = split(coefficients[at + 2]);
-    let (h3, m3, l3) = split(coefficients[at + 3]);
-    (
-        i64x4::from_array([h0, h1, h2, h3]),
-        i64x4::from_array([m0, m1, m2, m3]),
-        i64x4::from_array([l0, l1, l2, l3]),
-    )
 }
 
 /// Sums to which the products of two vectors are added, lane by lane.
@@ -83,61 +45,130 @@ fn sum_two(a: i64, b: i64) -> i128
     i128::from(a) + i128::from(b)
 }
 
-/// The lanes, added up.
+/// The lanes after so many places, added up.
 #[inline(always)]
-fn total(lanes: i64x4) -> i128
-    requires { LanesWithin (1024 * 2 ^ 48) lanes }
+fn total(lanes: i64x4, at: usize) -> i128
+    requires at { at ≤ 1024 }
+    requires lanes { LanesWithin (at * 2 ^ 48) lanes }
     ensures value { result ≡ lane_sum lanes }
-    ensures low { neg_ℤ (pos (2 ^ 65)) ≤ℤ result }
-    ensures high { result ≤ℤ pos (2 ^ 65) }
+    ensures low { neg_ℤ (pos (at * 2 ^ 50)) ≤ℤ result }
+    ensures high { result ≤ℤ pos (at * 2 ^ 50) }
 {
     let [a, b, c, d] = lanes.to_array();
     sum_two(a, b) + sum_two(c, d)
 }
 
-/// The sum whose parts are these.
+/// The sum whose parts, after so many places, are these.
 #[inline(always)]
-fn join(high: i128, middle: i128, low: i128) -> i128
-    requires high_low { neg_ℤ (pos (2 ^ 65)) ≤ℤ high }
-    requires high_high { high ≤ℤ pos (2 ^ 65) }
-    requires middle_low { neg_ℤ (pos (2 ^ 65)) ≤ℤ middle }
-    requires middle_high { middle ≤ℤ pos (2 ^ 65) }
-    requires low_low { neg_ℤ (pos (2 ^ 65)) ≤ℤ low }
-    requires low_high { low ≤ℤ pos (2 ^ 65) }
+fn join(high: i128, middle: i128, low: i128, at: usize) -> i128
+    requires at { at ≤ 1024 }
+    requires high_low { neg_ℤ (pos (at * 2 ^ 50)) ≤ℤ high }
+    requires high_high { high ≤ℤ pos (at * 2 ^ 50) }
+    requires middle_low { neg_ℤ (pos (at * 2 ^ 50)) ≤ℤ middle }
+    requires middle_high { middle ≤ℤ pos (at * 2 ^ 50) }
+    requires low_low { neg_ℤ (pos (at * 2 ^ 50)) ≤ℤ low }
+    requires low_high { low ≤ℤ pos (at * 2 ^ 50) }
     ensures value { result ≡ joined high middle low }
-    ensures low { neg_ℤ (pos (2 ^ 101)) ≤ℤ result }
-    ensures high { result ≤ℤ pos (2 ^ 101) }
+    ensures low { neg_ℤ (pos (at * 2 ^ 85)) ≤ℤ result }
+    ensures high { result ≤ℤ pos (at * 2 ^ 85) }
 {
     (high * 131_072 + middle) * 131_072 + low
 }
 
+/// The coefficient of these parts.
+fn coefficient_of(high: i32, middle: i32, low: i32) -> i64
+    requires high { Within (2 ^ 17) high }
+    requires middle { Within (2 ^ 17) middle }
+    requires low { Within (2 ^ 17) low }
+    ensures value { result ≡ joined high middle low }
+    ensures small { Within (2 ^ 52) result }
+{
+    (i64::from(high) * 131_072 + i64::from(middle)) * 131_072 + i64::from(low)
+}
+
 /// The product of a sample and a coefficient.
 fn product(sample: i32, coefficient: i64) -> i128
-    requires { unsigned_abs coefficient ≤ 10 ^ 15 }
+    requires { Within (2 ^ 52) coefficient }
     ensures value { result ≡ sample *ℤ coefficient }
-    ensures low { neg_ℤ (pos (2 ^ 31 * 10 ^ 15)) ≤ℤ result }
-    ensures high { result ≤ℤ pos (2 ^ 31 * 10 ^ 15) }
+    ensures low { neg_ℤ (pos (2 ^ 83)) ≤ℤ result }
+    ensures high { result ≤ℤ pos (2 ^ 83) }
 {
     i128::from(sample) * i128::from(coefficient)
 }
 
 /// The products from one place on, added to a sum.
-fn add_rest(start: i128, samples: &[i32], coefficients: &[i64], at: usize) -> i128
-    requires as_many { length coefficients.now ≡ length samples.now }
+fn add_rest(
+    start: i128,
+    samples: &[i32],
+    highs: &[i32],
+    middles: &[i32],
+    lows: &[i32],
+    at: usize,
+) -> i128
+    requires parts { IsParts (length samples.now) highs.now middles.now lows.now }
     requires short { length samples.now ≤ 1024 }
-    requires small { All (λ c. unsigned_abs c ≤ 10 ^ 15) coefficients.now }
-    requires low { neg_ℤ (pos (2 ^ 101)) ≤ℤ start }
-    requires high { start ≤ℤ pos (2 ^ 101) }
+    requires low { neg_ℤ (pos (at * 2 ^ 85)) ≤ℤ start }
+    requires high { start ≤ℤ pos (at * 2 ^ 85) }
     requires at { at ≤ length samples.now }
-    ensures value { result ≡ (start +ℤ sum_of_products (drop at samples.now) (drop at coefficients.now)) }
-    ensures low { neg_ℤ (pos (2 ^ 102)) ≤ℤ result }
-    ensures high { result ≤ℤ pos (2 ^ 102) }
+    ensures value { result ≡ (start +ℤ sum_of_products (drop at samples.now) (drop at (joined_lanes highs.now middles.now lows.now))) }
+    ensures low { neg_ℤ (pos (length samples.now * 2 ^ 85)) ≤ℤ result }
+    ensures high { result ≤ℤ pos (length samples.now * 2 ^ 85) }
 {
     let mut sum = start;
     for i in at..samples.len() {
-        sum += product(samples[i], coefficients[i]);
+        let coefficient = coefficient_of(highs[i], middles[i], lows[i]);
+        sum += product(samples[i], coefficient);
     }
     sum
+}
+
+/// The products of the samples and of the coefficients of these parts at the same places, added up: lane by lane, one sum
+/// for each part, and one by one where fewer than four are left.
+pub(crate) fn dot_in_parts(samples: &[i32], highs: &[i32], middles: &[i32], lows: &[i32]) -> i128
+    requires parts { IsParts (length samples.now) highs.now middles.now lows.now }
+    requires short { length samples.now ≤ 1024 }
+    ensures sum { result ≡ sum_of_products samples.now (joined_lanes highs.now middles.now lows.now) }
+    ensures low { neg_ℤ (pos (length samples.now * 2 ^ 85)) ≤ℤ result }
+    ensures high { result ≤ℤ pos (length samples.now * 2 ^ 85) }
+{
+    let mut high = i64x4::splat(0);
+    let mut middle = i64x4::splat(0);
+    let mut low = i64x4::splat(0);
+    let mut at = 0;
+    while at + 4 <= samples.len() {
+        let x = load(samples, at);
+        let y_high = load(highs, at);
+        let y_middle = load(middles, at);
+        let y_low = load(lows, at);
+        high = add_products(high, x, y_high, at);
+        middle = add_products(middle, x, y_middle, at);
+        low = add_products(low, x, y_low, at);
+        at += 4;
+    }
+    let start = join(total(high, at), total(middle, at), total(low, at), at);
+    add_rest(start, samples, highs, middles, lows, at)
+}
+
+/// The products of at most 64 samples and coefficients, added up.
+fn short_dot(samples: &[i32], coefficients: &[i64]) -> i128
+    requires as_many { length coefficients.now ≡ length samples.now }
+    requires short { length samples.now ≤ 64 }
+    requires small { All (λ c. unsigned_abs c ≤ 10 ^ 15) coefficients.now }
+    ensures sum { result ≡ sum_of_products samples.now coefficients.now }
+    ensures low { neg_ℤ (pos (length samples.now * 2 ^ 85)) ≤ℤ result }
+    ensures high { result ≤ℤ pos (length samples.now * 2 ^ 85) }
+{
+    let count = samples.len();
+    let mut highs = [0; 64];
+    let mut middles = [0; 64];
+    let mut lows = [0; 64];
+    split_all(
+        coefficients,
+        &mut highs[..count],
+        &mut middles[..count],
+        &mut lows[..count],
+    );
+    dot_in_parts(samples, &highs[..count], &middles[..count], &lows[..count])
 }
 
 /// The products of the samples and the coefficients at the same places, added up. There are as many of the ones as of the
@@ -150,18 +181,12 @@ pub fn dot(samples: &[i32], coefficients: &[i64]) -> i128
     ensures low { neg_ℤ (pos (2 ^ 102)) ≤ℤ result }
     ensures high { result ≤ℤ pos (2 ^ 102) }
 {
-    let mut high = i64x4::splat(0);
-    let mut middle = i64x4::splat(0);
-    let mut low = i64x4::splat(0);
+    let mut sum = 0;
     let mut at = 0;
-    while at + 4 <= samples.len() {
-        let x = load(samples, at);
-        let (y_high, y_middle, y_low) = load_parts(coefficients, at);
-        high = add_products(high, x, y_high, at);
-        middle = add_products(middle, x, y_middle, at);
-        low = add_products(low, x, y_low, at);
-        at += 4;
+    while at < samples.len() {
+        let end = samples.len().min(at + 64);
+        sum += short_dot(&samples[at..end], &coefficients[at..end]);
+        at = end;
     }
-    let start = join(total(high), total(middle), total(low));
-    add_rest(start, samples, coefficients, at)
+    sum
 }

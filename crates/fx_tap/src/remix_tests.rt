@@ -3,6 +3,7 @@ ghost use Rattle.std.specs.Prelude.{◌≡◌, IfOk};
 
 use super::*;
 use crate::tests::{gain, through};
+use fx_fixed::{OutSpec, Weight};
 use fx_frame::inner::{one, two};
 use fx_frame::{Frame, Stage};
 use smallvec::SmallVec;

@@ -2,6 +2,7 @@
 use super::*;
 use crate::echo_tests::decay;
 use crate::tests::{gain, shift};
+use fx_fixed::Weight;
 use fx_frame::inner::two;
 use fx_frame::{Frame, Stage, WideFrame};
 use smallvec::SmallVec;
@@ -88,5 +89,22 @@ fn echo_thawed(rt: HostRuntime) -> Result<(), Fail> {
         return Err("not thawed".into());
     };
     assert!(rt; agree(&mut echo, &mut thawed));
+    Ok(())
+}
+
+#[test]
+fn echos_thawed(rt: HostRuntime) -> Result<(), Fail> {
+    let half = decay("0.5")?;
+    let lines = [(2, half), (1, half)];
+    let mut echos = Echos::new(rt.alloc(), 2, half, half, &lines)?;
+    echos.take(two(50, 80));
+    let frames = stored(rt.alloc(), &echos)?;
+    let numbers = echos.counters();
+    assert_eq!(rt; frames.len(), 3);
+    let made = Echos::thaw(rt.alloc(), 2, half, half, &lines, &frames, &numbers);
+    let Ok(mut thawed) = made else {
+        return Err("not thawed".into());
+    };
+    assert!(rt; agree(&mut echos, &mut thawed));
     Ok(())
 }

@@ -10,8 +10,8 @@ use Rattle.fx_sound.specs.Layout.{is_read_failure}
 use Rattle.fx_chain.specs.Run.{RanToFailure}
 use Rattle.fx_sound.specs.Sound.{Reading, at_most_announced, size_of}
 use Rattle.fx_sound.specs.Source.{Held, Takes, to_come}
-use Rattle.soxchain.specs.declared.conversion.Stop.TheVariants.{Head}
-use Rattle.soxchain.specs.Convert.{StopHasCause}
+use Rattle.soxchain.specs.declared.preparing.Refusal.TheVariants.{Head}
+use Rattle.soxchain.specs.Preparing.{RefusalHasCause}
 
 -- a new source holds nothing
 pub held-is : {R : Type 0} (s : Held R) (reader : R) → s.bytes ≡ [] → s.reader ≡ reader → s ≡ record { bytes = []; reader = reader }
@@ -22,14 +22,14 @@ pub to_come-start : {R : Type 0} (rest : R → Option (List ℕ)) (s : Held R) (
 to_come-start rest s reader bytes b r k = ap (to_come rest) (held-is s reader b r) ∙ ap (prepend_known []) k
 
 -- a refused head has its cause
-pub head-causes : (X : Type 0) (f : HeadFault) (reads new writes new_writes : ℕ) → MatchBool (is_read_failure ((λ (r : Result X HeadFault). r) (Err f))) (new ≡ saturated (reads + 1)) (new ≡ reads) → StopHasCause (Head f) reads new writes new_writes
-head-causes X ReadFailed reads new writes new_writes h = h
-head-causes X UnknownType reads new writes new_writes h = h
-head-causes X Truncated reads new writes new_writes h = h
-head-causes X BadHeader reads new writes new_writes h = h
-head-causes X NotInProfile reads new writes new_writes h = h
-head-causes X TooManyChannels reads new writes new_writes h = h
-head-causes X HeadTooLong reads new writes new_writes h = h
+pub head-causes : (X : Type 0) (f : HeadFault) (reads new : ℕ) → MatchBool (is_read_failure ((λ (r : Result X HeadFault). r) (Err f))) (new ≡ saturated (reads + 1)) (new ≡ reads) → RefusalHasCause (Head f) reads new
+head-causes X ReadFailed reads new h = h
+head-causes X UnknownType reads new h = h
+head-causes X Truncated reads new h = h
+head-causes X BadHeader reads new h = h
+head-causes X NotInProfile reads new h = h
+head-causes X TooManyChannels reads new h = h
+head-causes X HeadTooLong reads new h = h
 
 -- the frames that had come whole, by the reader's count from the first byte of the input on
 pub Ran-told : {R : Type 0} (told : R → ℕ) (first at : Held R) (reader new : R) (start : Reading) (offset n : ℕ) → first.bytes ≡ [] → first.reader ≡ reader → Takes told first at offset → RanToFailure told at new start n → told new < 2 ^ 64 - 1

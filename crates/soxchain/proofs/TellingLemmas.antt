@@ -1,11 +1,12 @@
 -- What stays true while texts go to a writer of messages.
 use Rattle.std.proofs.Common.{◌≡◌, ℕ, zero, suc, refl, ◌<◌, ◌+◌, ◌-◌, ◌≤◌, Bool, true, false, not, List, [], ◌++◌, length, take, drop, sym, ap, ◌∙◌, arith, Option}
-use Rattle.std.proofs.lemmas.List.{append_assoc, length-drop, length-append, take-append-le, take_all}
+use Rattle.std.proofs.lemmas.List.{append_assoc, append-nil, length-drop, length-append, take-append-le, take_all}
 use Rattle.std.proofs.Math.Seq.{take-add, take-append-add}
 use Rattle.std.proofs.KnownBytes.{Appends-nil, Appends-trans}
 use Rattle.std.specs.Io.KnownBytes.{Appends}
-use Rattle.std.specs.Prelude.{MatchBool, codes, decimal}
-use Rattle.soxchain.specs.Messages.{line_feed, warning}
+use Rattle.std.specs.Prelude.{MatchBool, codes, decimal, slice_index_or}
+use Rattle.fx_plan.specs.Faults.{Word}
+use Rattle.soxchain.specs.Messages.{effect_warning, effect_warnings, line_feed, told_word, warning}
 use Rattle.soxchain.specs.Telling.{Told, ToldFront, ToldAll, TellsMore, Tells}
 
 -- a front is one of more bytes too
@@ -67,3 +68,23 @@ Tells-first old new now after failures count text begun more = record {
   has_failed = new;
   told = more now failures [] (rw begun (record { took = Appends-nil now; unfailed = refl }));
 }
+
+-- two texts, one behind the other
+pub TellsMore-then : (old mid new : Bool) (a b c : Option (List ℕ)) (d e f : ℕ) (s t : List ℕ) → TellsMore old mid a b d e s → TellsMore mid new b c e f t → TellsMore old new a c d f (s ++ t)
+TellsMore-then old mid new a b c d e f s t first second = λ start count all told. rw (sym (append_assoc all s t)) (second start count (all ++ s) (first start count all told))
+
+-- no text
+pub TellsMore-nothing : (old : Bool) (a : Option (List ℕ)) (d : ℕ) → TellsMore old old a a d d []
+TellsMore-nothing old a d = λ start count all told. rw (append-nil) told
+
+-- what an effect clipped has its line
+pub effect_warning-counted : (number : ℕ) (name : List ℕ) (n : ℕ) → 0 < n
+    → effect_warning number name n ≡ (codes "soxchain: warning: effect " ++ decimal number ++ codes " " ++ name ++ codes ": clipped samples ") ++ (decimal n ++ line_feed)
+effect_warning-counted number name zero h = absurd (omega arith)
+effect_warning-counted number name (suc n) h = refl
+
+-- the warnings of one more effect
+pub effect_warnings-more : (effects : List (List Word)) (clips : List ℕ) (n : ℕ) → effect_warnings effects clips (n + 1) ≡ effect_warnings effects clips n ++ effect_warning (n + 1) (told_word effects (n + 1) 1) (slice_index_or clips n 0)
+effect_warnings-more effects clips n =
+    let next : n + 1 ≡ suc n = omega arith in
+    ap (effect_warnings effects clips) next

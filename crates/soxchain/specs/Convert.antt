@@ -1,13 +1,21 @@
--- The conversion of a sound whose words were accepted, on the whole list of bytes (this project's profile).
-use Rattle.std.specs.Prelude.{◌≡◌, ◌≢◌, ℕ, ℤ, ◌+◌, ◌-◌, ◌/◌, ◌^◌, ◌<◌, ◌≤◌, Bool, true, List, drop, length, map, Option, None, Some, Result, Ok, Err, IfOk, []}
+-- The conversion of a sound whose command line was accepted, on the whole list of bytes (this project's profile).
+use Rattle.std.specs.Prelude.{◌≡◌, ◌≢◌, ℕ, ◌+◌, ◌-◌, ◌/◌, ◌^◌, ◌<◌, ◌≤◌, Bool, true, List, drop, length, map, Option, None, Some, Result, Ok, Err, IfOk, []}
 use Rattle.fx_chain.specs.declared.pump.Cause.TheVariants as Causes
 use Rattle.fx_chain.specs.declared.report.Report.{Report}
 use Rattle.fx_chain.specs.declared.report.RunFault.{RunFault}
-use Rattle.fx_chain.specs.declared.target.Target.{Target}
-use Rattle.fx_chain.specs.Report.{Completed, HasCause, StoppedAt, cause_of, clips_now, report_at, report_in, start_of}
+use Rattle.fx_chain.specs.Chain.{chain_gives, chain_wholes, target_for}
+use Rattle.fx_chain.specs.Report.{Completed, HasCause, StoppedAt, cause_of, clips_now, report_at, start_of}
 use Rattle.fx_chain.specs.Run.{sound_frames}
-use Rattle.fx_flow.specs.Parts.{Parts, moves_of, work}
-use Rattle.fx_frame.specs.Io.{saturated}
+use Rattle.fx_flow.specs.Parts.{Parts, moves_of}
+use Rattle.fx_flow.specs.Steps.{rest_of, wholes_of}
+use Rattle.fx_frame.specs.Frame.{Samples}
+use Rattle.fx_line.specs.Line.{Said}
+use Rattle.fx_plan.specs.declared.fault.PlanFault.{PlanFault}
+use Rattle.fx_plan.specs.Bounds.{work_of}
+use Rattle.fx_plan.specs.CommandLines.{effects_in, planning_in}
+use Rattle.fx_plan.specs.Effects.{head_layout}
+use Rattle.fx_plan.specs.Planning.{Planning}
+use Rattle.fx_plan.specs.Plans.{RefusesPlan, all_faults}
 use Rattle.fx_sound.specs.declared.head.Head.{Head}
 use Rattle.fx_sound.specs.declared.head.HeadFault.{HeadFault}
 use Rattle.fx_sound.specs.declared.head.HeadFault.TheVariants as HeadFaults
@@ -17,13 +25,13 @@ use Rattle.fx_sound.specs.Known.{IfKnown}
 use Rattle.fx_sound.specs.Reads.{CutOff}
 use Rattle.fx_sound.specs.Sound.{at_most_announced, size_of}
 use Rattle.fx_sound.specs.Source.{Held}
-use Rattle.fx_tap.specs.Mapped.{MapState}
-use Rattle.fx_tap.specs.PerSample.{SampleArguments}
-use Rattle.fx_tap.specs.Vol.{vol_acts}
+use Rattle.fx_stages.specs.declared.stage.EffectStage.{EffectStage}
+use Rattle.fx_stages.specs.Effects.{effect_acts}
 use Rattle.soxchain.specs.declared.conversion.Stop.{Stop}
 use Rattle.soxchain.specs.declared.conversion.Stop.TheVariants as Stops
-use Rattle.soxchain.specs.declared.words.Asked.{Asked}
-use Rattle.soxchain.specs.Asked.{IsChain, IsTarget}
+use Rattle.soxchain.specs.declared.preparing.Refusal.{Refusal}
+use Rattle.soxchain.specs.declared.preparing.Refusal.TheVariants as Refusals
+use Rattle.soxchain.specs.Preparing.{RefusalHasCause}
 
 -- the bytes begin with this head, which says that the sound begins at that place
 pub record Begins (expected : Option Kind) (bytes : List ℕ) (h : Head) (offset : ℕ) : Type 0 where
@@ -31,50 +39,58 @@ pub record Begins (expected : Option Kind) (bytes : List ℕ) (h : Head) (offset
   pub there : offset ≤ length bytes
   pub near : offset ≤ 0x1000000
 
--- A run over the bytes: the head, the chain that was asked for, new and after the run, and what was to be written.
-pub record Running (asked : Asked) (bytes : List ℕ) (r : Report) : Type 0 where
-  pub head : Head
+-- A run over the bytes: the head, the plan of the line behind it, and its chain, new and after the run.
+pub record Running (line : Said) (files : List (List ℕ)) (bytes : List ℕ) (r : Report) : Type 0 where
+  pub plan : Planning
   pub offset : ℕ
-  pub begins : Begins asked.input_kind bytes head offset
-  pub target : Target
-  pub is_target : IsTarget asked head target
-  pub start : Parts (MapState (SampleArguments ℤ))
-  pub is_chain : IsChain asked head start
-  pub at : Parts (MapState (SampleArguments ℤ))
-  pub clips : r.clips ≡ clips_now vol_acts at.stages
-  pub moves : r.moves ≡ moves_of vol_acts at
+  pub begins : Begins line.input_kind bytes plan.head offset
+  pub no_faults : all_faults (head_layout plan.head) files (effects_in line) ≡ []
+  pub planned : plan ≡ planning_in plan.head line files
+  pub start : Parts EffectStage
+  -- the new chain gives what the definitions of the plan's effects compose to, and counts the clips of each
+  pub gives : (x : List Samples) → rest_of effect_acts start x ≡ chain_gives plan x
+  pub wholes : (x : List Samples) → wholes_of effect_acts start x ≡ chain_wholes plan x
+  pub at : Parts EffectStage
+  pub clips : r.clips ≡ clips_now effect_acts at.stages
+  pub moves : r.moves ≡ moves_of effect_acts at
+  pub work : r.moves ≤ work_of plan.acts r.frames_in
 
 -- The bytes were a whole sound, or as much of it was read as is enough, and all that the chain gives for it was written.
-pub record Whole (asked : Asked) (bytes : List ℕ) (first now : Option (List ℕ)) (r : Report) : Type 0 where
-  pub run : Running asked bytes r
-  pub completed : Completed vol_acts run.start run.at run.target (start_of run.head) (drop run.offset bytes) (sound_frames (start_of run.head) r.frames_in (drop run.offset bytes)) first now r
+pub record Whole (line : Said) (files : List (List ℕ)) (bytes : List ℕ) (first now : Option (List ℕ)) (r : Report) : Type 0 where
+  pub run : Running line files bytes r
+  pub completed : Completed effect_acts run.start run.at (target_for run.plan) (start_of run.plan.head) (drop run.offset bytes) (sound_frames (start_of run.plan.head) r.frames_in (drop run.offset bytes)) first now r
 
 -- The run over the bytes stopped: after a failed read, and where the sound is too long, the frames then due were written;
 -- after a failed write the writer has a front.
-pub record Stopped {R : Type 0} (told : R → ℕ) (asked : Asked) (bytes : List ℕ) (reader new : R) (first now : Option (List ℕ)) (f : RunFault) : Type 0 where
-  pub run : Running asked bytes (report_at f)
-  pub stopped : StoppedAt vol_acts run.start run.at run.target (start_of run.head) (drop run.offset bytes) (sound_frames (start_of run.head) (report_at f).frames_in (drop run.offset bytes)) first now f
+pub record Stopped {R : Type 0} (told : R → ℕ) (line : Said) (files : List (List ℕ)) (bytes : List ℕ) (reader new : R) (first now : Option (List ℕ)) (f : RunFault) : Type 0 where
+  pub run : Running line files bytes (report_at f)
+  pub stopped : StoppedAt effect_acts run.start run.at (target_for run.plan) (start_of run.plan.head) (drop run.offset bytes) (sound_frames (start_of run.plan.head) (report_at f).frames_in (drop run.offset bytes)) first now f
   -- the reader told the head and so many bytes of the sound: all their whole frames had come
   pub past_head : cause_of f ≡ Causes.ReadFailed → told new < 2 ^ 64 - 1 → told reader + run.offset ≤ told new
-  pub read_failed : cause_of f ≡ Causes.ReadFailed → told new < 2 ^ 64 - 1 → (report_at f).frames_in ≡ at_most_announced run.head.announced (told new - told reader - run.offset) / size_of (start_of run.head)
+  pub read_failed : cause_of f ≡ Causes.ReadFailed → told new < 2 ^ 64 - 1 → (report_at f).frames_in ≡ at_most_announced run.plan.head.announced (told new - told reader - run.offset) / size_of (start_of run.plan.head)
 
 -- a stop is answered only where its cause was counted
 abbrev pub StopHasCause : Stop → ℕ → ℕ → ℕ → ℕ → Type 0
-StopHasCause (Stops.Head HeadFaults.ReadFailed) reads new_reads writes new_writes = new_reads ≡ saturated (reads + 1)
-StopHasCause (Stops.Head f) reads new_reads writes new_writes = new_reads ≡ reads
-StopHasCause Stops.Memory reads new_reads writes new_writes = new_reads ≡ reads
+StopHasCause (Stops.Refused r) reads new_reads writes new_writes = RefusalHasCause r reads new_reads
 StopHasCause (Stops.Run f) reads new_reads writes new_writes = HasCause (cause_of f) reads new_reads writes new_writes
+
+-- the bytes begin with a head behind which the plan of the line is refused, by its first fault or for want of memory
+pub record Unplanned (line : Said) (files : List (List ℕ)) (bytes : List ℕ) (f : PlanFault) : Type 0 where
+  pub head : Head
+  pub offset : ℕ
+  pub begins : Begins line.input_kind bytes head offset
+  pub refuses : RefusesPlan f (all_faults (head_layout head) files (effects_in line))
 
 -- a conversion, from one state of reader and writer to the next
 pub record Converted {R W : Type 0} (rest : R → Option (List ℕ)) (told reads : R → ℕ) (taken : W → Option (List ℕ)) (flushed : W → Bool) (writes : W → ℕ)
-    (asked : Asked) (reader new_reader : R) (writer new_writer : W) (outcome : Result Report Stop) : Type 0 where
-  pub whole : IfOk outcome (λ r. IfKnown (rest reader) (λ bytes. Whole asked bytes (taken writer) (taken new_writer) r))
+    (line : Said) (files : List (List ℕ)) (reader new_reader : R) (writer new_writer : W) (outcome : Result Report Stop) : Type 0 where
+  pub whole : IfOk outcome (λ r. IfKnown (rest reader) (λ bytes. Whole line files bytes (taken writer) (taken new_writer) r))
   pub all_flushed : IfOk outcome (λ _. flushed new_writer ≡ true)
   pub unfailed : IfOk outcome (λ _. (reads new_reader ≡ reads reader) × (writes new_writer ≡ writes writer))
-  -- a refused head has written nothing, nor has a chain for which no memory was found
-  pub clean : (f : HeadFault) → outcome ≡ Err (Stops.Head f) → new_writer ≡ writer
-  pub unmade : outcome ≡ Err Stops.Memory → new_writer ≡ writer
-  pub refused : (f : HeadFault) → outcome ≡ Err (Stops.Head f) → f ≢ HeadFaults.ReadFailed → IfKnown (rest reader) (λ bytes. head_of asked.input_kind bytes ≡ Err f)
-  pub cut : outcome ≡ Err (Stops.Head HeadFaults.ReadFailed) → (new : Held R) × CutOff rest told (head_of asked.input_kind) (record { bytes = []; reader = reader }) new × (new.reader ≡ new_reader)
-  pub stopped : (f : RunFault) → outcome ≡ Err (Stops.Run f) → IfKnown (rest reader) (λ bytes. Stopped told asked bytes reader new_reader (taken writer) (taken new_writer) f)
+  -- what is refused before the run has written nothing
+  pub clean : (r : Refusal) → outcome ≡ Err (Stops.Refused r) → new_writer ≡ writer
+  pub refused : (f : HeadFault) → outcome ≡ Err (Stops.Refused (Refusals.Head f)) → f ≢ HeadFaults.ReadFailed → IfKnown (rest reader) (λ bytes. head_of line.input_kind bytes ≡ Err f)
+  pub cut : outcome ≡ Err (Stops.Refused (Refusals.Head HeadFaults.ReadFailed)) → (new : Held R) × CutOff rest told (head_of line.input_kind) (record { bytes = []; reader = reader }) new × (new.reader ≡ new_reader)
+  pub unplanned : (f : PlanFault) → outcome ≡ Err (Stops.Refused (Refusals.Plan f)) → IfKnown (rest reader) (λ bytes. Unplanned line files bytes f)
+  pub stopped : (f : RunFault) → outcome ≡ Err (Stops.Run f) → IfKnown (rest reader) (λ bytes. Stopped told line files bytes reader new_reader (taken writer) (taken new_writer) f)
   pub causes : (s : Stop) → outcome ≡ Err s → StopHasCause s (reads reader) (reads new_reader) (writes writer) (writes new_writer)

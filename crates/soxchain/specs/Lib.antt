@@ -1,7 +1,6 @@
-pub mod Asked
 pub mod Convert
 pub mod FileMessages
 pub mod Messages
+pub mod Preparing
 pub mod Program
 pub mod Telling
-pub mod Words

@@ -1,18 +1,23 @@
 -- The messages of the program (this project's profile), as the bytes of a line each.
-use Rattle.std.specs.Prelude.{ℕ, zero, suc, slice_index_or, Result, Ok, Err, List, [], ◌∷◌, ◌++◌, codes, decimal}
-use Rattle.fx_fixed.specs.declared.gains.NumberFault.TheVariants.{NotANumber, TooLong, OutOfRange}
-use Rattle.fx_sound.specs.declared.head.HeadFault.{HeadFault}
-use Rattle.fx_sound.specs.declared.head.HeadFault.TheVariants as HeadFaults
-use Rattle.soxchain.specs.declared.conversion.Stop.{Stop}
-use Rattle.soxchain.specs.declared.conversion.Stop.TheVariants.{Head, Memory, Run}
+use Rattle.std.specs.Prelude.{ℕ, zero, suc, ◌+◌, ◌-◌, nat_lt, min, slice_get, slice_index_or, unwrap_or, Bool, true, false, ◌&&◌, if◌then◌else◌, Result, Ok, Err, List, [], ◌∷◌, ◌++◌, codes, decimal, length}
 use Rattle.fx_chain.specs.declared.report.Report.{Report}
 use Rattle.fx_chain.specs.declared.report.RunFault.{RunFault}
 use Rattle.fx_chain.specs.declared.report.RunFault.TheVariants as RunFaults
-use Rattle.soxchain.specs.declared.words.WordFault.{WordFault}
-use Rattle.soxchain.specs.declared.words.WordFault.TheVariants.{Line, BadGain}
+use Rattle.fx_chain.specs.Report.{report_at}
 use Rattle.fx_line.specs.declared.line.LineFault.{LineFault}
 use Rattle.fx_line.specs.declared.line.LineFault.TheVariants as LineFaults
-use Rattle.fx_chain.specs.Report.{report_at}
+use Rattle.fx_line.specs.Line.{Said}
+use Rattle.fx_plan.specs.declared.fault.PlanCause.{PlanCause}
+use Rattle.fx_plan.specs.declared.fault.PlanCause.TheVariants as causes
+use Rattle.fx_plan.specs.declared.fault.PlanFault.{PlanFault}
+use Rattle.fx_plan.specs.CommandLines.{effect_words, effects_in}
+use Rattle.fx_plan.specs.Faults.{Word}
+use Rattle.fx_sound.specs.declared.head.HeadFault.{HeadFault}
+use Rattle.fx_sound.specs.declared.head.HeadFault.TheVariants as HeadFaults
+use Rattle.soxchain.specs.declared.conversion.Stop.{Stop}
+use Rattle.soxchain.specs.declared.conversion.Stop.TheVariants.{Refused, Run}
+use Rattle.soxchain.specs.declared.preparing.Refusal.{Refusal}
+use Rattle.soxchain.specs.declared.preparing.Refusal.TheVariants as refusals
 
 -- the end of a line
 abbrev pub line_feed : List ℕ
@@ -22,9 +27,15 @@ line_feed = 10 ∷ []
 abbrev pub line_message : List ℕ → List ℕ
 line_message fault = codes "soxchain: command line: " ++ fault ++ [] ++ [] ++ line_feed
 
--- a word of the effect that is refused
-abbrev pub effect_message : List ℕ → List ℕ → List ℕ
-effect_message fault word = codes "soxchain: effect 1 vol: " ++ fault ++ codes ": " ++ word ++ line_feed
+-- a fault of an effect: its number and name, the fault's number and name, and the word
+abbrev pub effect_message : ℕ → List ℕ → List ℕ → List ℕ → List ℕ
+effect_message number name fault word =
+    (codes "soxchain: effect " ++ decimal number ++ codes " " ++ name ++ codes ": ")
+    ++ (fault ++ codes ": " ++ word ++ line_feed ++ [])
+
+-- a fault of all effects together
+abbrev pub effects_message : List ℕ → List ℕ
+effects_message fault = codes "soxchain: effects: " ++ fault ++ [] ++ [] ++ line_feed
 
 -- a head that is refused
 abbrev pub input_message : List ℕ → List ℕ
@@ -51,12 +62,43 @@ line_label LineFaults.Memory = codes "5 Memory"
 abbrev pub chain_message : List ℕ
 chain_message = codes "soxchain: chain: no memory" ++ [] ++ [] ++ [] ++ line_feed
 
--- the message on words that are refused, of which the last stands for the gain
-abbrev pub word_message : WordFault → List ℕ → List ℕ
-word_message (Line fault) word = line_message (line_label fault)
-word_message (BadGain NotANumber) word = effect_message (codes "5 BadArgument") word
-word_message (BadGain TooLong) word = effect_message (codes "5 BadArgument") word
-word_message (BadGain OutOfRange) word = effect_message (codes "6 OutOfRange") word
+-- number and name of why a plan is refused
+abbrev pub plan_label : PlanCause → List ℕ
+plan_label causes.UnknownEffect = codes "1 UnknownEffect"
+plan_label causes.NotInProfile = codes "2 NotInProfile"
+plan_label causes.NeedsWholeSound = codes "3 NeedsWholeSound"
+plan_label causes.WrongCount = codes "4 WrongCount"
+plan_label causes.BadArgument = codes "5 BadArgument"
+plan_label causes.OutOfRange = codes "6 OutOfRange"
+plan_label causes.PositionBehind = codes "7 PositionBehind"
+plan_label causes.NoSuchChannel = codes "8 NoSuchChannel"
+plan_label causes.TooManyChannels = codes "9 TooManyChannels"
+plan_label causes.RateNotDivisible = codes "10 RateNotDivisible"
+plan_label causes.RateTooLarge = codes "11 RateTooLarge"
+plan_label causes.TooManyEffects = codes "12 TooManyEffects"
+plan_label causes.BadCoefficients = codes "13 BadCoefficients"
+plan_label causes.HoldTooLarge = codes "14 HoldTooLarge"
+plan_label causes.TooLong = codes "15 TooLong"
+plan_label causes.Memory = codes "16 Memory"
+
+-- a fault of no one effect
+abbrev pub is_of_all : PlanCause → Bool
+is_of_all causes.HoldTooLarge = true
+is_of_all causes.TooLong = true
+is_of_all causes.Memory = true
+is_of_all cause = false
+
+-- a word of an effect, both counted from 1; no bytes where there is none
+abbrev pub told_word : List (List Word) → ℕ → ℕ → Word
+told_word effects number place =
+    if nat_lt 0 number && nat_lt 0 place then unwrap_or (slice_get (effect_words number effects) (place - 1)) [] else []
+
+-- the message on effects that are refused
+abbrev pub plan_message : List (List Word) → PlanFault → List ℕ
+plan_message effects f =
+    if is_of_all f.cause
+    then effects_message (plan_label f.cause)
+    else effect_message f.effect (told_word effects f.effect 1) (plan_label f.cause) (told_word effects f.effect f.word)
 
 -- number and name of what is wrong with a head
 abbrev pub head_label : HeadFault → List ℕ
@@ -74,21 +116,34 @@ run_label (RunFaults.ReadFailed r) = codes "1 ReadFailed"
 run_label (RunFaults.WriteFailed r) = codes "2 WriteFailed"
 run_label (RunFaults.TooLong r) = codes "3 TooLong"
 
+-- how many samples an effect clipped; no line where it clipped none
+abbrev pub effect_warning : ℕ → List ℕ → ℕ → List ℕ
+effect_warning number name zero = []
+effect_warning number name (suc n) =
+    (codes "soxchain: warning: effect " ++ decimal number ++ codes " " ++ name ++ codes ": clipped samples ")
+    ++ (decimal (suc n) ++ line_feed)
+
+-- the warnings of the first effects, so many of them
+abbrev pub effect_warnings : List (List Word) → List ℕ → ℕ → List ℕ
+effect_warnings effects clips zero = []
+effect_warnings effects clips (suc n) = effect_warnings effects clips n ++ effect_warning (n + 1) (told_word effects (n + 1) 1) (slice_index_or clips n 0)
+
 -- the warnings of a run, a line each, in this order
-abbrev pub warnings : Report → List ℕ
-warnings r =
+abbrev pub warnings : Said → Report → List ℕ
+warnings line r =
     warning (codes "input: missing bytes") r.missing
     ++ warning (codes "input: stray bytes") r.stray
-    ++ warning (codes "effect 1 vol: clipped samples") (slice_index_or r.clips 0 0)
+    ++ effect_warnings (effects_in line) r.clips (min (length (effects_in line)) 32)
     ++ warning (codes "output: clipped samples") r.out_clips
 
--- the messages on a stop
-abbrev pub stop_messages : Stop → List ℕ
-stop_messages (Head f) = input_message (head_label f)
-stop_messages Memory = chain_message
-stop_messages (Run f) = warnings (report_at f) ++ run_message (run_label f) (report_at f).frames_in
+-- the message on what is refused before the run
+abbrev pub refusal_message : Said → Refusal → List ℕ
+refusal_message line (refusals.Head f) = input_message (head_label f)
+refusal_message line (refusals.Plan f) = plan_message (effects_in line) f
+refusal_message line refusals.Chain = chain_message
 
--- the messages on a conversion whose words were accepted
-abbrev pub outcome_messages : Result Report Stop → List ℕ
-outcome_messages (Ok r) = warnings r
-outcome_messages (Err s) = stop_messages s
+-- the messages on a conversion whose command line was accepted
+abbrev pub outcome_messages : Said → Result Report Stop → List ℕ
+outcome_messages line (Ok r) = warnings line r
+outcome_messages line (Err (Refused r)) = refusal_message line r
+outcome_messages line (Err (Run f)) = warnings line (report_at f) ++ run_message (run_label f) (report_at f).frames_in

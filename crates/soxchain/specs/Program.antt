@@ -2,41 +2,58 @@
 use Rattle.std.specs.Prelude.{◌≡◌, ℕ, List, Result, Ok, Err}
 use Rattle.fx_chain.specs.declared.report.Report.{Report}
 use Rattle.fx_chain.specs.Report.{no_report, report_at}
+use Rattle.fx_line.specs.declared.line.LineFault.{LineFault}
 use Rattle.fx_line.specs.declared.line.LineFault.TheVariants as LineFaults
+use Rattle.fx_line.specs.Line.{Said}
+use Rattle.fx_plan.specs.declared.fault.PlanCause.{PlanCause}
+use Rattle.fx_plan.specs.declared.fault.PlanCause.TheVariants.{Memory}
 use Rattle.soxchain.specs.declared.conversion.Stop.{Stop}
-use Rattle.soxchain.specs.declared.conversion.Stop.TheVariants.{Head, Memory, Run}
-use Rattle.soxchain.specs.declared.words.WordFault.{WordFault}
-use Rattle.soxchain.specs.declared.words.WordFault.TheVariants.{Line, BadGain}
-use Rattle.soxchain.specs.Messages.{outcome_messages}
+use Rattle.soxchain.specs.declared.conversion.Stop.TheVariants.{Refused, Run}
+use Rattle.soxchain.specs.declared.preparing.Refusal.{Refusal}
+use Rattle.soxchain.specs.declared.preparing.Refusal.TheVariants.{Head, Plan, Chain}
+use Rattle.soxchain.specs.Messages.{line_label, line_message, outcome_messages}
 
--- 1 for words that are refused, and 2 where memory was wanting
-abbrev pub status_of_words : WordFault → ℕ
-status_of_words (Line LineFaults.MissingFile) = 1
-status_of_words (Line LineFaults.BadOption) = 1
-status_of_words (Line LineFaults.NoOutputType) = 1
-status_of_words (Line LineFaults.BadBits) = 1
-status_of_words (Line LineFaults.Memory) = 2
-status_of_words (BadGain fault) = 1
+-- 1 for a command line that is refused, and 2 where memory was wanting
+abbrev pub status_of_line : LineFault → ℕ
+status_of_line LineFaults.MissingFile = 1
+status_of_line LineFaults.BadOption = 1
+status_of_line LineFaults.NoOutputType = 1
+status_of_line LineFaults.BadBits = 1
+status_of_line LineFaults.Memory = 2
 
--- 0 where all went well, and else 2
+-- 1 for effects that are refused, and 2 where memory was wanting
+abbrev pub status_of_plan : PlanCause → ℕ
+status_of_plan Memory = 2
+status_of_plan cause = 1
+
+-- 1 for a fault of the plan, memory excepted, and 2 for all else
+abbrev pub status_of_refusal : Refusal → ℕ
+status_of_refusal (Head f) = 2
+status_of_refusal (Plan f) = status_of_plan f.cause
+status_of_refusal Chain = 2
+
+-- 0 where all went well
 abbrev pub outcome_status : Result Report Stop → ℕ
 outcome_status (Ok r) = 0
-outcome_status (Err s) = 2
+outcome_status (Err (Refused r)) = status_of_refusal r
+outcome_status (Err (Run f)) = 2
 
--- what was done by a stop: nothing where the head was refused or no memory was found
-abbrev pub report_of_stop : Stop → Report
-report_of_stop (Head f) = no_report
-report_of_stop Memory = no_report
-report_of_stop (Run f) = report_at f
-
+-- what was done: nothing where there was no run
 abbrev pub report_of : Result Report Stop → Report
 report_of (Ok r) = r
-report_of (Err s) = report_of_stop s
+report_of (Err (Refused r)) = no_report
+report_of (Err (Run f)) = report_at f
 
 -- an outcome that is so, and status, report and messages that follow from it
-pub record Answers (IsOutcome : Result Report Stop → Type 0) (IsTold : List ℕ → Type 0) (status : ℕ) (report : Report) : Type 0 where
+pub record Answers (line : Said) (IsOutcome : Result Report Stop → Type 0) (IsTold : List ℕ → Type 0) (status : ℕ) (report : Report) : Type 0 where
   pub outcome : Result Report Stop
   pub is : IsOutcome outcome
   pub status_is : status ≡ outcome_status outcome
   pub report_is : report ≡ report_of outcome
-  pub told : IsTold (outcome_messages outcome)
+  pub told : IsTold (outcome_messages line outcome)
+
+-- What a command line comes to: where it is refused one message, nothing being touched, and else the answers on it.
+abbrev pub Concludes : (Said → Result Report Stop → Type 0) → Type 0 → (List ℕ → Type 0) → ℕ → Report → Result Said LineFault → Type 0
+Concludes IsOutcome Untouched IsTold status report (Err fault) =
+    (status ≡ status_of_line fault) × (report ≡ no_report) × Untouched × IsTold (line_message (line_label fault))
+Concludes IsOutcome Untouched IsTold status report (Ok line) = Answers line (IsOutcome line) IsTold status report

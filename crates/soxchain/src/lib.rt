@@ -5,8 +5,9 @@ mod conversion;
 mod file_messages;
 pub mod inner;
 mod messages;
+mod prepared;
+mod preparing;
 mod telling;
-mod words;
 
 pub use conversion::convert;
 pub use fx_chain::{MOST_EFFECTS, Report, RunFault};

@@ -1,16 +1,17 @@
 //! The messages of the program, one line each.
-ghost use Rattle.std.specs.Prelude.{◌≡◌, ◌++◌};
-ghost use Rattle.soxchain.specs.Messages.{chain_message, effect_message, head_label, input_message, line_label, line_message, run_label, run_message, stop_messages, warning, warnings, word_message};
+ghost use Rattle.std.specs.Prelude.{◌≡◌, ◌++◌, length, min};
 ghost use Rattle.fx_chain.specs.Report.{report_at};
+ghost use Rattle.fx_plan.specs.CommandLines.{effects_in};
+ghost use Rattle.soxchain.specs.Messages;
+ghost use Rattle.soxchain.specs.Messages.{chain_message, effect_message, effect_warning, effect_warnings, effects_message, head_label, input_message, line_label, line_message, plan_label, plan_message, refusal_message, run_label, run_message, warning, warnings};
 ghost use Rattle.soxchain.specs.Telling.{TellsMore};
 
-use crate::conversion::Stop;
+use crate::preparing::Refusal;
 use crate::telling::Telling;
-use crate::words::WordFault;
-use fx_chain::{Report, RunFault};
-use fx_fixed::NumberFault;
+use fx_chain::{MOST_EFFECTS, Report, RunFault};
 use fx_frame::ByteOut;
 use fx_line::LineFault;
+use fx_plan::{CommandLine, PlanCause, PlanFault};
 use fx_sound::HeadFault;
 use itoa::Buffer;
 
@@ -21,18 +22,34 @@ pub fn tell_line<M: ByteOut>(telling: &mut Telling, messages: &mut M, fault: &st
     telling.sentence(messages, "soxchain: command line: ", fault, "", "", "\n");
 }
 
-/// `soxchain: effect 1 vol: 5 BadArgument: x`, with the number and name of the fault and its word.
-pub fn tell_effect<M: ByteOut>(telling: &mut Telling, messages: &mut M, fault: &str, word: &str)
-    ensures { TellsMore telling.old.has_failed telling.new.has_failed (M.taken messages.old) (M.taken messages.new) (M.failures messages.old) (M.failures messages.new) (effect_message fault.now word.now) }
+/// `soxchain: effect 1 vol: 5 BadArgument: x`, with the effect's number and name, the fault's number and name, and the word.
+pub fn tell_effect<M: ByteOut>(
+    telling: &mut Telling,
+    messages: &mut M,
+    number: usize,
+    name: &str,
+    fault: &str,
+    word: &str,
+)
+    ensures { TellsMore telling.old.has_failed telling.new.has_failed (M.taken messages.old) (M.taken messages.new) (M.failures messages.old) (M.failures messages.new) (effect_message number name.now fault.now word.now) }
 {
+    let mut buffer = Buffer::new();
     telling.sentence(
         messages,
-        "soxchain: effect 1 vol: ",
-        fault,
+        "soxchain: effect ",
+        buffer.format(number as u64),
+        " ",
+        name,
         ": ",
-        word,
-        "\n",
     );
+    telling.sentence(messages, fault, ": ", word, "\n", "");
+}
+
+/// `soxchain: effects: 14 HoldTooLarge`, with the number and name of the fault.
+pub fn tell_effects<M: ByteOut>(telling: &mut Telling, messages: &mut M, fault: &str)
+    ensures { TellsMore telling.old.has_failed telling.new.has_failed (M.taken messages.old) (M.taken messages.new) (M.failures messages.old) (M.failures messages.new) (effects_message fault.now) }
+{
+    telling.sentence(messages, "soxchain: effects: ", fault, "", "", "\n");
 }
 
 /// `soxchain: input: 3 Truncated`, with the number and name of the fault.
@@ -75,23 +92,8 @@ pub fn tell_warning<M: ByteOut>(telling: &mut Telling, messages: &mut M, counted
     );
 }
 
-/// The message on words that are refused, of which `word` stands for the gain.
-pub fn tell_words<M: ByteOut>(telling: &mut Telling, messages: &mut M, fault: WordFault, word: &str)
-    ensures { TellsMore telling.old.has_failed telling.new.has_failed (M.taken messages.old) (M.taken messages.new) (M.failures messages.old) (M.failures messages.new) (word_message fault word.now) }
-{
-    match fault {
-        WordFault::Line(fault) => tell_line(telling, messages, label_of_line(fault)),
-        WordFault::BadGain(NumberFault::NotANumber | NumberFault::TooLong) => {
-            tell_effect(telling, messages, "5 BadArgument", word)
-        }
-        WordFault::BadGain(NumberFault::OutOfRange) => {
-            tell_effect(telling, messages, "6 OutOfRange", word)
-        }
-    }
-}
-
-// Number and name of why a command line is refused.
-fn label_of_line(fault: LineFault) -> &'static str
+/// Number and name of why a command line is refused.
+pub fn label_of_line(fault: LineFault) -> &'static str
     ensures { result.now ≡ line_label fault }
 {
     match fault {
@@ -136,18 +138,129 @@ fn label_of_run(fault: &RunFault) -> &'static str
     }
 }
 
+// Number and name of why a plan is refused.
+fn label_of_plan(cause: PlanCause) -> &'static str
+    ensures { result.now ≡ plan_label cause }
+{
+    match cause {
+        PlanCause::UnknownEffect => "1 UnknownEffect",
+        PlanCause::NotInProfile => "2 NotInProfile",
+        PlanCause::NeedsWholeSound => "3 NeedsWholeSound",
+        PlanCause::WrongCount => "4 WrongCount",
+        PlanCause::BadArgument => "5 BadArgument",
+        PlanCause::OutOfRange => "6 OutOfRange",
+        PlanCause::PositionBehind => "7 PositionBehind",
+        PlanCause::NoSuchChannel => "8 NoSuchChannel",
+        PlanCause::TooManyChannels => "9 TooManyChannels",
+        PlanCause::RateNotDivisible => "10 RateNotDivisible",
+        PlanCause::RateTooLarge => "11 RateTooLarge",
+        PlanCause::TooManyEffects => "12 TooManyEffects",
+        PlanCause::BadCoefficients => "13 BadCoefficients",
+        PlanCause::HoldTooLarge => "14 HoldTooLarge",
+        PlanCause::TooLong => "15 TooLong",
+        PlanCause::Memory => "16 Memory",
+    }
+}
+
+// A fault of no one effect.
+fn is_of_all(cause: PlanCause) -> bool
+    ensures { result ≡ Messages.is_of_all cause }
+{
+    matches!(
+        cause,
+        PlanCause::HoldTooLarge | PlanCause::TooLong | PlanCause::Memory
+    )
+}
+
+// A word of an effect, both counted from 1; no text where there is none.
+fn told_word(line: &CommandLine, number: usize, place: usize) -> &str
+    ensures { result.now ≡ Messages.told_word (effects_in line.now) number place }
+{
+    if number == 0 || place == 0 || number > line.effect_count() {
+        return "";
+    }
+    if place > line.word_count(number) {
+        return "";
+    }
+    line.word(number, place)
+}
+
+/// The message on effects that are refused.
+pub fn tell_plan<M: ByteOut>(
+    telling: &mut Telling,
+    messages: &mut M,
+    line: &CommandLine,
+    fault: PlanFault,
+)
+    ensures { TellsMore telling.old.has_failed telling.new.has_failed (M.taken messages.old) (M.taken messages.new) (M.failures messages.old) (M.failures messages.new) (plan_message (effects_in line.now) fault) }
+{
+    let label = label_of_plan(fault.cause);
+    if is_of_all(fault.cause) {
+        tell_effects(telling, messages, label);
+        return;
+    }
+    let name = told_word(line, fault.effect, 1);
+    let word = told_word(line, fault.effect, fault.word);
+    tell_effect(telling, messages, fault.effect, name, label, word);
+}
+
+/// `soxchain: warning: effect 1 vol: clipped samples 2`, with the effect's number and name; nothing where the count is 0.
+pub fn tell_effect_warning<M: ByteOut>(
+    telling: &mut Telling,
+    messages: &mut M,
+    number: usize,
+    name: &str,
+    count: u64,
+)
+    ensures { TellsMore telling.old.has_failed telling.new.has_failed (M.taken messages.old) (M.taken messages.new) (M.failures messages.old) (M.failures messages.new) (effect_warning number name.now count) }
+{
+    if count == 0 {
+        return;
+    }
+    let mut buffer = Buffer::new();
+    telling.sentence(
+        messages,
+        "soxchain: warning: effect ",
+        buffer.format(number as u64),
+        " ",
+        name,
+        ": clipped samples ",
+    );
+    let mut digits = Buffer::new();
+    telling.text(messages, digits.format(count));
+    telling.text(messages, "\n");
+}
+
+/// The warnings of the effects, first to last.
+fn tell_effect_warnings<M: ByteOut>(
+    telling: &mut Telling,
+    messages: &mut M,
+    line: &CommandLine,
+    clips: &[u64; MOST_EFFECTS],
+)
+    ensures { TellsMore telling.old.has_failed telling.new.has_failed (M.taken messages.old) (M.taken messages.new) (M.failures messages.old) (M.failures messages.new) (effect_warnings (effects_in line.now) clips.now (min (length (effects_in line.now)) 32)) }
+{
+    let count = line.effect_count().min(MOST_EFFECTS);
+    let mut place = 0;
+    while place < count {
+        let name = told_word(line, place + 1, 1);
+        tell_effect_warning(telling, messages, place + 1, name, clips[place]);
+        place += 1;
+    }
+}
+
 /// The warnings of a run.
-pub fn tell_warnings<M: ByteOut>(telling: &mut Telling, messages: &mut M, report: &Report)
-    ensures { TellsMore telling.old.has_failed telling.new.has_failed (M.taken messages.old) (M.taken messages.new) (M.failures messages.old) (M.failures messages.new) (warnings report.now) }
+pub fn tell_warnings<M: ByteOut>(
+    telling: &mut Telling,
+    messages: &mut M,
+    line: &CommandLine,
+    report: &Report,
+)
+    ensures { TellsMore telling.old.has_failed telling.new.has_failed (M.taken messages.old) (M.taken messages.new) (M.failures messages.old) (M.failures messages.new) (warnings line.now report.now) }
 {
     tell_warning(telling, messages, "input: missing bytes", report.missing);
     tell_warning(telling, messages, "input: stray bytes", report.stray);
-    tell_warning(
-        telling,
-        messages,
-        "effect 1 vol: clipped samples",
-        report.clips[0],
-    );
+    tell_effect_warnings(telling, messages, line, &report.clips);
     tell_warning(
         telling,
         messages,
@@ -156,17 +269,32 @@ pub fn tell_warnings<M: ByteOut>(telling: &mut Telling, messages: &mut M, report
     );
 }
 
-/// The messages on a stop, behind the warnings where there was a run.
-pub fn tell_stop<M: ByteOut>(telling: &mut Telling, messages: &mut M, stop: &Stop)
-    ensures { TellsMore telling.old.has_failed telling.new.has_failed (M.taken messages.old) (M.taken messages.new) (M.failures messages.old) (M.failures messages.new) (stop_messages stop.now) }
+/// The message on what is refused before the run.
+pub fn tell_refusal<M: ByteOut>(
+    telling: &mut Telling,
+    messages: &mut M,
+    line: &CommandLine,
+    refusal: &Refusal,
+)
+    ensures { TellsMore telling.old.has_failed telling.new.has_failed (M.taken messages.old) (M.taken messages.new) (M.failures messages.old) (M.failures messages.new) (refusal_message line.now refusal.now) }
 {
-    match stop {
-        Stop::Head(fault) => tell_input(telling, messages, label_of_head(*fault)),
-        Stop::Memory => tell_chain(telling, messages),
-        Stop::Run(fault) => {
-            let report = fault.report();
-            tell_warnings(telling, messages, &report);
-            tell_run(telling, messages, label_of_run(fault), report.frames_in);
-        }
+    match refusal {
+        Refusal::Head(fault) => tell_input(telling, messages, label_of_head(*fault)),
+        Refusal::Plan(fault) => tell_plan(telling, messages, line, *fault),
+        Refusal::Chain => tell_chain(telling, messages),
     }
+}
+
+/// The messages on a run that stopped, behind its warnings.
+pub fn tell_fault<M: ByteOut>(
+    telling: &mut Telling,
+    messages: &mut M,
+    line: &CommandLine,
+    fault: &RunFault,
+)
+    ensures { TellsMore telling.old.has_failed telling.new.has_failed (M.taken messages.old) (M.taken messages.new) (M.failures messages.old) (M.failures messages.new) (warnings line.now (report_at fault.now) ++ run_message (run_label fault.now) (report_at fault.now).frames_in) }
+{
+    let report = fault.report();
+    tell_warnings(telling, messages, line, &report);
+    tell_run(telling, messages, label_of_run(fault), report.frames_in);
 }

@@ -1,8 +1,8 @@
 //! The words of `echo` and `echos`: two gains, and pairs of a delay and a decay.
 
-ghost use Rattle.std.specs.Prelude.{◌≡◌, ◌<◌, length};
+ghost use Rattle.std.specs.Prelude.{◌≡◌, ◌<◌, IfOk, length, true};
 ghost use Rattle.fx_plan.specs.Faults.{Reads, texts};
-ghost use Rattle.fx_plan.specs.Echo.{echo_faults, echo_value, echoing, tap_faults, taps};
+ghost use Rattle.fx_plan.specs.Echo.{are_echoes, echo_faults, echo_value, echoing, tap_faults, taps};
 
 use crate::fault::{PlanCause, Refusal, marked};
 use crate::numbers::{read_delay, read_gain_up_to};
@@ -59,7 +59,8 @@ fn read_taps(alloc: Global, rate: u32, words: &[String]) -> Result<Vec<(u64, Gai
 /// What an `echo` or `echos` with these words after its name does.
 pub fn read_echo(alloc: Global, rate: u32, words: &[String]) -> Result<Echoing, Refusal>
     requires { 0 < rate }
-    ensures { Reads echo_value result (echo_faults rate (texts words.now)) (echoing rate (texts words.now)) }
+    ensures read { Reads echo_value result (echo_faults rate (texts words.now)) (echoing rate (texts words.now)) }
+    ensures fit { IfOk result (λ echo. are_echoes (echo_value echo) ≡ true) }
 {
     if words.len() > MOST_WORDS {
         return Err(marked(PlanCause::WrongCount, MOST_WORDS + 2));

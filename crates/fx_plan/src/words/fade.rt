@@ -1,8 +1,8 @@
 //! The words of `fade`: the type `t`, the length in, and optionally the stop and the length out.
 
-ghost use Rattle.std.specs.Prelude.{◌≡◌, ◌<◌};
+ghost use Rattle.std.specs.Prelude.{◌≡◌, ◌<◌, IfOk, true};
 ghost use Rattle.fx_plan.specs.Faults.{Reads, texts};
-ghost use Rattle.fx_plan.specs.Fade.{fade_by, fade_faults, fade_of, fading, in_faults, length_out, out_faults, stop_faults};
+ghost use Rattle.fx_plan.specs.Fade.{fade_by, fade_faults, fade_of, fading, in_faults, is_fade, length_out, out_faults, stop_faults};
 
 use crate::fault::{PlanCause, Refusal, marked};
 use crate::numbers::{read_frames, read_position};
@@ -80,7 +80,8 @@ fn read_lengths(rate: u32, words: &[String]) -> Result<Fading, Refusal>
 /// What a `fade` with these words after its name does.
 pub fn read_fade(rate: u32, words: &[String]) -> Result<Fading, Refusal>
     requires { 0 < rate }
-    ensures { Reads (λ fade. fade) result (fade_faults rate (texts words.now)) (fading rate (texts words.now)) }
+    ensures read { Reads (λ fade. fade) result (fade_faults rate (texts words.now)) (fading rate (texts words.now)) }
+    ensures fit { IfOk result (λ fade. is_fade fade ≡ true) }
 {
     let Some((kind, lengths)) = words.split_first() else {
         return Err(marked(PlanCause::WrongCount, 1));

@@ -1,6 +1,6 @@
 //! The words of `fir`: the name of a coefficient file, or coefficients.
 
-ghost use Rattle.std.specs.Prelude.{◌≡◌, ◌<◌, length};
+ghost use Rattle.std.specs.Prelude.{◌≡◌, ◌<◌, ◌≤◌, IfOk, length};
 ghost use Rattle.fx_plan.specs.Faults.{Reads, texts};
 ghost use Rattle.fx_plan.specs.Fir.{coefficients, each_faults, file_faults, fir_faults, gains_of, in_file};
 
@@ -15,7 +15,8 @@ const MOST_COEFFICIENTS: usize = 1024;
 /// The coefficients that the words are.
 fn read_each(alloc: Global, words: &[String]) -> Result<Vec<Gain>, Refusal>
     requires { length words.now < 1025 }
-    ensures { Reads (λ v. v.items) result (each_faults 2 (texts words.now)) (gains_of (texts words.now)) }
+    ensures read { Reads (λ v. v.items) result (each_faults 2 (texts words.now)) (gains_of (texts words.now)) }
+    ensures count { IfOk result (λ v. length v.items ≡ length words.now) }
 {
     let mut gains = Vec::new(alloc);
     let mut rest = words;
@@ -36,7 +37,9 @@ fn read_each(alloc: Global, words: &[String]) -> Result<Vec<Gain>, Refusal>
 
 /// The coefficients in a file.
 fn read_file(alloc: Global, file: &[u8]) -> Result<Vec<Gain>, Refusal>
-    ensures { Reads (λ v. v.items) result (file_faults file.now) (in_file file.now) }
+    ensures read { Reads (λ v. v.items) result (file_faults file.now) (in_file file.now) }
+    ensures some { IfOk result (λ v. 1 ≤ length v.items) }
+    ensures most { IfOk result (λ v. length v.items ≤ 1024) }
 {
     match Coefficients::parse(alloc, file) {
         Ok(gains) => Ok(gains),
@@ -47,7 +50,9 @@ fn read_file(alloc: Global, file: &[u8]) -> Result<Vec<Gain>, Refusal>
 
 /// The coefficients of a `fir` with these words after its name, of which a single one names this file.
 pub fn read_fir(alloc: Global, file: &[u8], words: &[String]) -> Result<Vec<Gain>, Refusal>
-    ensures { Reads (λ v. v.items) result (fir_faults file.now (texts words.now)) (coefficients file.now (texts words.now)) }
+    ensures read { Reads (λ v. v.items) result (fir_faults file.now (texts words.now)) (coefficients file.now (texts words.now)) }
+    ensures some { IfOk result (λ v. 1 ≤ length v.items) }
+    ensures most { IfOk result (λ v. length v.items ≤ 1024) }
 {
     if words.len() > MOST_COEFFICIENTS {
         return Err(marked(PlanCause::WrongCount, MOST_COEFFICIENTS + 2));

@@ -1,9 +1,9 @@
 //! The words of `pad`: lengths, each with a position or without one.
 
-ghost use Rattle.std.specs.Prelude.{◌≡◌, ◌<◌, IfOk, length, map};
+ghost use Rattle.std.specs.Prelude.{◌≡◌, ◌<◌, IfOk, length, map, true};
 ghost use Rattle.fx_plan.specs.Faults.{Reads, texts};
 ghost use Rattle.fx_plan.specs.Numbers.{beginning};
-ghost use Rattle.fx_plan.specs.Pad.{length_faults, lengths, pad_faults, pad_in, position_at};
+ghost use Rattle.fx_plan.specs.Pad.{are_pads, length_faults, lengths, pad_faults, pad_in, position_at};
 ghost use Rattle.fx_plan.specs.Trim.{order_faults};
 
 use crate::fault::{PlanCause, Refusal, marked};
@@ -84,7 +84,8 @@ fn check_order(pads: &[(u64, At)]) -> Result<(), Refusal>
 /// The lengths and positions of a `pad` with these words after its name.
 pub fn read_pad(alloc: Global, rate: u32, words: &[String]) -> Result<Vec<(u64, At)>, Refusal>
     requires { 0 < rate }
-    ensures { Reads (λ v. v.items) result (pad_faults rate (texts words.now)) (lengths rate 2 beginning (texts words.now)) }
+    ensures read { Reads (λ v. v.items) result (pad_faults rate (texts words.now)) (lengths rate 2 beginning (texts words.now)) }
+    ensures fit { IfOk result (λ v. are_pads v.items ≡ true) }
 {
     if words.is_empty() {
         return Err(marked(PlanCause::WrongCount, 1));

@@ -1,10 +1,10 @@
 //! The words of `remix`: out-specs, one for each channel of the output.
 
-ghost use Rattle.std.specs.Prelude.{◌≡◌, ◌<◌, ◌≤◌, ◌+◌, ◌∷◌, [], IfOk, IfSome, MatchOption, length, map};
-ghost use Rattle.std.specs.List.{list_any, slice_split};
+ghost use Rattle.std.specs.Prelude.{◌≡◌, ◌<◌, ◌≤◌, ◌+◌, ◌∷◌, [], IfOk, IfSome, MatchOption, length, map, true};
+ghost use Rattle.std.specs.List.{list_all, list_any, slice_split};
 ghost use Rattle.fx_plan.specs.Faults.{Reads, texts};
 ghost use Rattle.fx_plan.specs.Remix;
-ghost use Rattle.fx_plan.specs.Remix.{contributions, faults_behind, is_comma, mixing_of, out_specs, part_faults, remix_faults, remixed, spec_fault, spec_faults, specs_value, summed, weighed, weight_of};
+ghost use Rattle.fx_plan.specs.Remix.{contributions, faults_behind, is_comma, is_mix, is_there, mixing_of, out_specs, part_faults, remix_faults, remixed, spec_fault, spec_faults, specs_value, summed, weighed, weight_of};
 
 use crate::fault::{PlanCause, Refusal, marked};
 use crate::words::in_spec::{Contribution, add_channels, read_in_spec};
@@ -50,7 +50,8 @@ fn read_parts(
 ) -> Result<Vec<Contribution>, Refusal>
     requires some { 1 ≤ channels }
     requires most { channels ≤ 16 }
-    ensures { Reads (λ v. v.items) result (part_faults channels number (slice_split is_comma word.now)) (contributions channels (slice_split is_comma word.now)) }
+    ensures read { Reads (λ v. v.items) result (part_faults channels number (slice_split is_comma word.now)) (contributions channels (slice_split is_comma word.now)) }
+    ensures there { IfOk result (λ v. list_all (is_there channels) v.items ≡ true) }
 {
     let mut sum = Vec::new(alloc);
     let mut text = word;
@@ -123,7 +124,8 @@ fn read_spec(
 ) -> Result<OutSpec, Refusal>
     requires some { 1 ≤ channels }
     requires most { channels ≤ 16 }
-    ensures { Reads (λ spec. spec.items) result (spec_fault channels number word.now) (weighed mixing (summed channels word.now)) }
+    ensures read { Reads (λ spec. spec.items) result (spec_fault channels number word.now) (weighed mixing (summed channels word.now)) }
+    ensures fit { IfOk result (λ spec. is_mix channels spec.items ≡ true) }
 {
     if word == "0" {
         return Ok(SmallVec::new(alloc));
@@ -152,6 +154,7 @@ fn read_specs(
     requires few { length words.now < 17 }
     ensures read { Reads specs_value result (spec_faults channels first (texts words.now)) (out_specs channels mixing (texts words.now)) }
     ensures count { IfOk result (λ specs. length specs.items ≡ length words.now) }
+    ensures fit { IfOk result (λ specs. list_all (is_mix channels) (specs_value specs) ≡ true) }
 {
     let mut specs = Vec::new(alloc);
     let mut rest = words;
@@ -198,6 +201,7 @@ fn read_behind(
     requires before { before ≤ 1 }
     ensures read { Reads specs_value result (faults_behind channels before mixing (texts words.now)) (out_specs channels mixing (texts words.now)) }
     ensures count { IfOk result (λ specs. (1 ≤ length specs.items) × (length specs.items ≤ 16)) }
+    ensures fit { IfOk result (λ specs. list_all (is_mix channels) (specs_value specs) ≡ true) }
 {
     if words.is_empty() {
         return Err(marked(PlanCause::WrongCount, 1));
@@ -218,6 +222,7 @@ pub fn read_remix(alloc: Global, channels: u32, words: &[String]) -> Result<Vec<
     requires most { channels ≤ 16 }
     ensures read { Reads specs_value result (remix_faults channels (texts words.now)) (remixed channels (texts words.now)) }
     ensures count { IfOk result (λ specs. (1 ≤ length specs.items) × (length specs.items ≤ 16)) }
+    ensures fit { IfOk result (λ specs. list_all (is_mix channels) (specs_value specs) ≡ true) }
 {
     let mixing = read_option(words);
     if mixing == Mixing::Usual {

@@ -26,6 +26,7 @@ invariant-loop-turn g l =
       taken : taken_of l.flow ≡ l._turn;
       width : l.flow.channels ≡ l.progress.channels;
       stay : recipes acts l.flow.stages ≡ recipes acts l.fn.flow.stages;
+      kept : l.flow.channels ≡ l.fn.flow.channels;
       wants : WantsMore (kinds acts l.fn.flow.stages) l._turn;
       room : total l.outlet.output ≤ 68 + 64 * given_by acts l.flow.left l.flow.stages;
       few : l.outlet.clips ≤ 16 * given_by acts l.flow.left l.flow.stages;

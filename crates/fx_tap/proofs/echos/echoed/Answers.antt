@@ -1,4 +1,4 @@
-use Rattle.std.proofs.Common.{◌≡◌, ◌<◌, ◌∙◌, ap, ℕ, ℤ, pos, ◌+ℤ◌, ◌*ℤ◌, arith, replicate, zero-add, slice_index_or, List}
+use Rattle.std.proofs.Common.{◌≡◌, ◌<◌, ◌∙◌, ap, ℕ, pos, ◌+ℤ◌, ◌*ℤ◌, arith, replicate, slice_index_or, List}
 use Rattle.std.proofs.lemmas.Int.{ints}
 use Rattle.fx_frame.specs.Frame.{Samples}
 use Rattle.fx_tap.specs.Echo.{EchoArguments}

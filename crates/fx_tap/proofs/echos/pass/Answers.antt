@@ -1,4 +1,4 @@
-use Rattle.std.proofs.Common.{rules, ◌≡◌, ◌<◌, ◌≤◌, ◌+◌, ◌*◌, ◌^◌, ◌∙◌, ap, sym, refl, List, ℕ, ℤ, pos, ◌+ℤ◌, ◌*ℤ◌, length, get_or, arith, unsigned_abs, slice_index_or}
+use Rattle.std.proofs.Common.{◌≡◌, ◌<◌, ◌≤◌, ◌+◌, ◌*◌, ◌^◌, ◌∙◌, List, ℕ, ℤ, pos, ◌+ℤ◌, ◌*ℤ◌, length, get_or, arith, unsigned_abs, slice_index_or}
 use Rattle.std.proofs.lemmas.List.{get_or-map, length-map, length-set}
 use Rattle.std.proofs.lemmas.List.Elements.{All-get_or}
 use Rattle.fx_fixed.specs.declared.gains.TheConstants.{UNIT}

@@ -1,4 +1,4 @@
-use Rattle.std.proofs.Common.{◌≡◌, ◌<◌, ◌+◌, ◌-◌, ◌≤◌, ◌∷◌, ◌++◌, drop, length, get_or, arith, sym, ap, ◌∙◌}
+use Rattle.std.proofs.Common.{◌<◌, ◌+◌, ◌-◌, ◌≤◌, ◌++◌, drop, length, arith, sym, ap, ◌∙◌}
 use Rattle.std.specs.Prelude.{slice_get}
 use Rattle.std.proofs.lemmas.List.{drop_more}
 use Rattle.fx_tap.specs.Echos.{frames_of}

@@ -1,4 +1,4 @@
-use Rattle.std.proofs.Common.{◌≡◌, rules, arith, sym, ◌∙◌, ap, to_z, of_z, ◌++◌, drop, set, length}
+use Rattle.std.proofs.Common.{◌≡◌, rules, sym, to_z, of_z}
 use Rattle.std.specs.Int.{w32}
 use Rattle.fx_tap.proofs.FirLaws.{window-filled}
 use Rattle.fx_tap.proofs.fir.fill_window.Goals as goal

@@ -1,6 +1,5 @@
-use Rattle.std.proofs.Common.{◌≡◌, ◌+◌, ◌<◌, ◌-◌, ◌++◌, ◌∷◌, [], ℕ, ℤ, pos, length, reverse, replicate, arith, rules, to_z, of_z, w32, ap, sym, ◌∙◌, Bool, set}
+use Rattle.std.proofs.Common.{◌≡◌, ◌+◌, ◌<◌, ◌++◌, ℕ, ℤ, length, reverse, arith, rules, to_z, of_z, w32, ap, sym, ◌∙◌, Bool, set}
 use Rattle.fx_tap.specs.Fir.{filtered_sample}
-use Rattle.fx_tap.specs.Lists.{tabulate}
 use Rattle.fx_tap.proofs.Tabulate.{take-tabulate, length-tabulate}
 use Rattle.fx_tap.proofs.DelayLaws.{channel-set}
 use Rattle.fx_tap.proofs.FirLaws.{clips_of-channel, samples_of-tabulate}

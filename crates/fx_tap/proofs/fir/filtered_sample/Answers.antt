@@ -1,4 +1,4 @@
-use Rattle.std.proofs.Common.{◌≡◌, ◌+◌, ◌-◌, ◌≤◌, ◌++◌, ℕ, ℤ, length, drop, take, refl, arith, rules, sym, ap, ◌∙◌, to_z, of_z, reverse}
+use Rattle.std.proofs.Common.{◌≡◌, ◌+◌, ◌++◌, length, arith, rules, sym, ap, ◌∙◌, to_z, of_z, reverse}
 use Rattle.std.specs.Int.{w128}
 use Rattle.std.proofs.lemmas.List.{length-append, length-map, take_at}
 use Rattle.fx_tap.specs.Fir.{samples_of_window}

@@ -1,15 +1,12 @@
-use Rattle.std.proofs.Common.{◌≡◌, ◌*◌, ◌^◌, ◌-◌, ◌≤◌, length, drop, ◌+ℤ◌, to_z, w64}
-use Rattle.std.specs.Prelude.{map}
+use Rattle.std.proofs.Common.{◌≡◌, ◌*◌, ◌^◌, ◌-◌, ◌≤◌, length, drop, pos, neg_ℤ, ◌+ℤ◌, ◌≤ℤ◌}
 use Rattle.fx_tap.specs.Products.{sum_of_products}
-use Rattle.fx_tap.specs.Lanes.{LanesWithin, joined, lane_sum}
 use Rattle.fx_tap.proofs.products.dot.Given as goal
 
 abbrev pub invariant-loop-at : goal.invariant-loop-at
 invariant-loop-at l = record {
-  value : (joined (lane_sum (map (to_z w64) l.high)) (lane_sum (map (to_z w64) l.middle)) (lane_sum (map (to_z w64) l.low)) +ℤ sum_of_products (drop l.at l.samples) (drop l.at l.coefficients)) ≡ sum_of_products l.samples l.coefficients;
-  high : LanesWithin (l.at * 2 ^ 48) (map (to_z w64) l.high);
-  middle : LanesWithin (l.at * 2 ^ 48) (map (to_z w64) l.middle);
-  low : LanesWithin (l.at * 2 ^ 48) (map (to_z w64) l.low);
+  value : (l.sum +ℤ sum_of_products (drop l.at l.samples) (drop l.at l.coefficients)) ≡ sum_of_products l.samples l.coefficients;
+  low : neg_ℤ (pos (l.at * 2 ^ 85)) ≤ℤ l.sum;
+  high : l.sum ≤ℤ pos (l.at * 2 ^ 85);
   place : l.at ≤ length l.samples;
 }
 

@@ -1,16 +1,29 @@
-use Rattle.std.proofs.Common.{◌≡◌, arith, pos, get_or, ◌+ℤ◌, ◌*◌, ◌^◌}
+use Rattle.std.proofs.Common.{◌≡◌, arith, pos, get_or, ◌+ℤ◌, ◌≤◌, ◌*◌, ◌^◌}
 use Rattle.std.proofs.lemmas.Int.{ints, to_z-of_z}
+use Rattle.std.specs.Prelude.{unsigned_abs}
+use Rattle.fx_tap.specs.Lanes.{lane_sum}
+use Rattle.fx_tap.proofs.ProductBounds.{within_abs}
 use Rattle.fx_tap.proofs.products.total.Goals as goal
-use Rattle.fx_tap.proofs.ProductLanes.{lane_fits, lane_sum-four, lanes_back}
+use Rattle.fx_tap.proofs.ProductLanes.{lane_fits, lane_sum-four, lane_sum-within, lanes_back}
 
 pub returns-clause-value : goal.returns-clause-value
 returns-clause-value c =
-    let back = lanes_back (1024 * 2 ^ 48) c.args.lanes (omega arith) c.requires.small in
-    let f0 = lane_fits (1024 * 2 ^ 48) 0 c.args.lanes (omega arith) (omega arith) c.requires in
-    let f1 = lane_fits (1024 * 2 ^ 48) 1 c.args.lanes (omega arith) (omega arith) c.requires in
-    let f2 = lane_fits (1024 * 2 ^ 48) 2 c.args.lanes (omega arith) (omega arith) c.requires in
-    let f3 = lane_fits (1024 * 2 ^ 48) 3 c.args.lanes (omega arith) (omega arith) c.requires in
+    let back = lanes_back (c.args.at * 2 ^ 48) c.args.lanes (omega arith) c.requires.lanes.small in
+    let f0 = lane_fits (c.args.at * 2 ^ 48) 0 c.args.lanes (omega arith) (omega arith) c.requires.lanes in
+    let f1 = lane_fits (c.args.at * 2 ^ 48) 1 c.args.lanes (omega arith) (omega arith) c.requires.lanes in
+    let f2 = lane_fits (c.args.at * 2 ^ 48) 2 c.args.lanes (omega arith) (omega arith) c.requires.lanes in
+    let f3 = lane_fits (c.args.at * 2 ^ 48) 3 c.args.lanes (omega arith) (omega arith) c.requires.lanes in
     let first : c.sum_two.result ≡ (get_or c.args.lanes 0 (pos 0) +ℤ get_or c.args.lanes 1 (pos 0)) = grind (arith, to_z-of_z, back) in
     let second : c.sum_two-2.result ≡ (get_or c.args.lanes 2 (pos 0) +ℤ get_or c.args.lanes 3 (pos 0)) = grind (arith, to_z-of_z, back) in
-    let four = lane_sum-four c.args.lanes c.requires.four in
+    let four = lane_sum-four c.args.lanes c.requires.lanes.four in
     omega (arith, ints)
+
+pub returns-clause-low : goal.returns-clause-low
+returns-clause-low c =
+    let most : unsigned_abs (lane_sum c.args.lanes) ≤ c.args.at * 2 ^ 50 = omega (arith, rw c.requires.lanes.four at (lane_sum-within (c.args.at * 2 ^ 48) c.args.lanes c.requires.lanes.small)) in
+    rw (returns-clause-value c) (within_abs (lane_sum c.args.lanes) (c.args.at * 2 ^ 50) most).0
+
+pub returns-clause-high : goal.returns-clause-high
+returns-clause-high c =
+    let most : unsigned_abs (lane_sum c.args.lanes) ≤ c.args.at * 2 ^ 50 = omega (arith, rw c.requires.lanes.four at (lane_sum-within (c.args.at * 2 ^ 48) c.args.lanes c.requires.lanes.small)) in
+    rw (returns-clause-value c) (within_abs (lane_sum c.args.lanes) (c.args.at * 2 ^ 50) most).1

@@ -10,5 +10,6 @@ abbrev pub invariant-loop-word : goal.invariant-loop-word
 invariant-loop-word l = record {
   faults : each_faults l.number (texts l.rest) ≡ each_faults 2 (texts l.words);
   values : l.gains.items ++ gains_of (texts l.rest) ≡ gains_of (texts l.words);
+  kept : length l.gains.items + length l.rest ≡ length l.words;
   counted : l.number + length l.rest ≡ 2 + length l.words;
 }

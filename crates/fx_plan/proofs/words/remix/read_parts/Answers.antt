@@ -3,6 +3,7 @@ use Rattle.std.specs.List.{slice_split}
 use Rattle.std.proofs.lemmas.Grind.{common_steps}
 use Rattle.fx_plan.specs.InSpecs.{channels_from}
 use Rattle.fx_plan.specs.Remix.{contributions, is_comma, part_faults}
+use Rattle.fx_plan.proofs.Mixing.{channels_join, channels_within}
 use Rattle.fx_plan.proofs.Parts.{part_faults-step, contributions-step}
 use Rattle.fx_plan.proofs.words.remix.read_parts.Goals as goal
 
@@ -22,5 +23,17 @@ loop-part-preserved c =
           ∙ append_assoc c.loop-part.sum.items (channels_from found) (contributions channels parts)
           ∙ ap (λ xs. c.loop-part.sum.items ++ xs) (sym (contributions-step channels part parts found read) ∙ ap (contributions channels) (sym cut))
           ∙ c.loop-part.invariant.values;
+      there = channels_join channels c.loop-part.sum.items (channels_from found) c.add_channels.new.sum.items added c.loop-part.invariant.there
+          (channels_within channels found c.in-Ok.ensures.counted c.in-Ok.ensures.order c.in-Ok.ensures.range);
       utf8 = search rules;
     }
+
+pub returns-clause-there : goal.returns-clause-there
+returns-clause-there c =
+    let found = c.in-Ok-read_in_spec.found in
+    let sum = c.loop-part.sum.items in
+    let channels = c.args.channels in
+    let added : c.add_channels-2.new.sum.items ≡ sum ++ channels_from found = grind (arith, common_steps) in
+    let within = c.in-Ok-read_in_spec.ensures in
+    channels_join channels sum (channels_from found) c.add_channels-2.new.sum.items added c.loop-part.invariant.there
+    (channels_within channels found within.counted within.order within.range)

@@ -1,4 +1,4 @@
-use Rattle.std.proofs.Common.{arith, ap, ◌≡◌, ◌≤◌, ◌+◌, ◌^◌, ◌∙◌, length}
+use Rattle.std.proofs.Common.{arith, ap, ◌≤◌, ◌+◌, ◌∙◌, length}
 use Rattle.fx_tap.specs.Echos.{frames_of, late}
 use Rattle.fx_tap.proofs.Rounds.{byte-le}
 use Rattle.fx_tap.proofs.EchosLaws.{frames-late}

@@ -1,4 +1,3 @@
-use Rattle.std.proofs.Common.{ap, ◌∙◌, sym}
 use Rattle.fx_tap.proofs.EchosLaws.{places-late}
 use Rattle.fx_tap.proofs.echos.EchosStage.hold.Goals as goal
 

@@ -1,0 +1,48 @@
+-- The chain of a plan's effects (this project's profile).
+use Rattle.std.specs.Prelude.{◌≡◌, ◌≤◌, false, ℕ, List, length}
+use Rattle.fx_chain.specs.declared.target.Target.{Target}
+use Rattle.fx_flow.specs.Parts.{Parts, Whole, composed, composed_wholes, given_by, taken_of}
+use Rattle.fx_flow.specs.Steps.{IsHungry, rest_of, wholes_of}
+use Rattle.fx_frame.specs.Frame.{Samples}
+use Rattle.fx_frame.specs.Holds.{recipes}
+use Rattle.fx_plan.specs.Bounds.{is_too_long}
+use Rattle.fx_plan.specs.Planning.{Planning}
+use Rattle.fx_stages.specs.declared.stage.EffectStage.{EffectStage}
+use Rattle.fx_stages.specs.Effects.{EffectRecipe, effect_acts}
+use Rattle.fx_stages.specs.Made.{recipes_for}
+
+-- the stages of a plan's effects
+abbrev pub planned : Planning → List EffectRecipe
+planned p = recipes_for p.head.channels p.acts
+
+-- the frames that a plan's effects make of a whole sound, by their definitions one after the other
+abbrev pub chain_gives : Planning → List Samples → List Samples
+chain_gives p x = composed effect_acts (planned p) x
+
+-- of each effect how many frames it makes of a whole sound, and how many samples it clips
+abbrev pub chain_wholes : Planning → List Samples → List Whole
+chain_wholes p x = composed_wholes effect_acts (planned p) x
+
+-- a chain, to its callers: its plan, and its stages with the frames and counts that they have
+pub record ChainParts : Type 0 where
+  pub plan : Planning
+  pub flow : Parts EffectStage
+
+-- its stages are those of its plan
+pub record IsChain (c : ChainParts) : Type 0 where
+  pub made : recipes effect_acts c.flow.stages ≡ planned c.plan
+  pub channels : c.flow.channels ≡ c.plan.head.channels
+  pub few : length c.plan.acts ≤ 32
+  pub short : is_too_long c.plan.acts ≡ false
+
+-- what is written where a plan is run
+abbrev pub target_for : Planning → Target
+target_for p = record { kind = p.kind; coding = p.coding; rate = p.layout.rate; channels = p.layout.channels; named = p.is_named }
+
+-- a chain of this plan that has taken nothing, and what it gives for a whole sound
+pub record IsNewChain (p : Planning) (c : ChainParts) : Type 0 where
+  pub plan : c.plan ≡ p
+  pub hungry : IsHungry effect_acts c.flow
+  pub nothing : (taken_of c.flow ≡ 0) × (given_by effect_acts c.flow.left c.flow.stages ≡ 0)
+  pub gives : (x : List Samples) → rest_of effect_acts c.flow x ≡ chain_gives p x
+  pub wholes : (x : List Samples) → wholes_of effect_acts c.flow x ≡ chain_wholes p x

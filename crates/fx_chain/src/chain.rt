@@ -1,0 +1,147 @@
+//! The chain of a plan's effects.
+ghost use Rattle.std.specs.Prelude.{◌≡◌, ◌<◌, ◌≤◌, ◌+◌, ◌-◌, ℕ, IfOk, List, Some, [], length, map, option_to_list, slice_index, true};
+ghost use Rattle.fx_chain.specs.Chain.{IsNewChain};
+ghost use Rattle.fx_flow.specs.Parts.{AllNew, any_spent, due_of, enough_for, given_by, moves_of, taken_of};
+ghost use Rattle.fx_flow.specs.Sound.{most_frames};
+ghost use Rattle.fx_flow.specs.Steps.{IsDone, IsHungry, MovedOn, StateIs, Steps, rest_of, wholes_of};
+ghost use Rattle.fx_frame.specs.Frame.{Samples};
+ghost use Rattle.fx_frame.specs.Holds.{capacity_sum, held_sum, kinds, total};
+ghost use Rattle.fx_plan.specs.Bounds.{hold_all, line_of, work_of};
+ghost use Rattle.fx_plan.specs.Planning.{planning};
+ghost use Rattle.fx_stages.specs.Effects.{effect_acts};
+
+use fx_flow::flow::{Flow, State, Step};
+use fx_frame::Frame;
+use fx_plan::Plan;
+use fx_stages::{EffectStage, stages_of};
+use std::alloc::{AllocError, Global};
+use std::marker::Model;
+
+/// The effects of a plan in a row, behind an inlet of one frame, and a copy of the plan.
+///
+/// It takes a frame, or is told the end, only where it is hungry; then it is stepped until it is hungry again, or done.
+/// A step moves one frame. At every moment it holds at most the frames of its plan's `hold()`.
+#[derive(Drop)]
+pub struct Chain {
+    pub(crate) flow: Flow<EffectStage>,
+    plan: Plan,
+}
+
+impl Model for Chain {
+    ghost use Rattle.fx_chain.specs.Chain.{ChainParts, IsChain};
+    ghost use Rattle.fx_plan.specs.Planning.{planning};
+
+    ghost Value = { ChainParts };
+
+    ghost view = { λ c. record { plan = planning c.plan; flow = c.flow } };
+
+    ghost invariant = { λ c. IsChain (record { plan = planning c.plan; flow = c.flow }) };
+}
+
+impl Chain {
+    /// The chain of a plan, which has taken nothing; AllocError where memory is refused, for the lines of its effects or
+    /// the copy of the plan. No other call takes memory but `freeze` and `thaw`.
+    pub fn new(alloc: Global, plan: &Plan) -> Result<Chain, AllocError>
+        ensures made { IfOk result (λ c. IsNewChain (planning plan.now) c) }
+        ensures new { IfOk result (λ c. AllNew effect_acts c.flow.stages) }
+    {
+        let plan = plan.copy(alloc)?;
+        let channels = plan.head().channels;
+        let stages = stages_of(alloc, channels, plan.effects())?;
+        let flow = Flow::new(stages, channels);
+        Ok(Chain { flow, plan })
+    }
+
+    /// What it waits for. Where it is hungry, it has given all frames that are due for those taken.
+    #[inline(always)]
+    pub fn state(&self) -> State
+        ensures state { StateIs effect_acts result self.now.flow }
+        ensures due { result ≡ State.Hungry → given_by effect_acts self.now.flow.left self.now.flow.stages ≡ due_of (kinds effect_acts self.now.flow.stages) (taken_of self.now.flow) }
+    {
+        self.flow.state()
+    }
+
+    /// Takes a frame of the input's channels; at most `2^40` of them.
+    #[inline(always)]
+    pub fn take(&mut self, frame: Frame)
+        requires hungry { IsHungry effect_acts self.old.flow }
+        requires channels { length frame ≡ self.old.plan.head.channels }
+        requires few { taken_of self.old.flow < most_frames }
+        ensures { self.new ≡ record self.old { flow = record self.old.flow { inlet = Some frame } } }
+    {
+        self.flow.take(frame);
+    }
+
+    /// Tells it that no frame will come.
+    pub fn end(&mut self)
+        requires { IsHungry effect_acts self.old.flow }
+        ensures { self.new ≡ record self.old { flow = record self.old.flow { ended = true } } }
+    {
+        self.flow.end();
+    }
+
+    /// Moves one frame from the last effect that is not dry; where all are dry, from the inlet; where that is empty too and
+    /// the end was given, tells the first effect that is not ended the end.
+    #[inline(always)]
+    pub fn step(&mut self) -> Step
+        requires { StateIs effect_acts State.Busy self.old.flow }
+        ensures steps { Steps effect_acts self.old.flow result self.new.flow }
+        ensures moved { MovedOn effect_acts self.old.flow result self.new.flow }
+        ensures plan { self.new.plan ≡ self.old.plan }
+    {
+        self.flow.step()
+    }
+
+    /// How many frames it took.
+    pub fn taken(&self) -> u64
+        ensures value { result ≡ taken_of self.now.flow }
+        ensures few { result ≤ most_frames }
+    {
+        self.flow.taken()
+    }
+
+    /// How many frames left the inlet or an effect. For the frames taken it is at most the plan's `work`; where the chain is
+    /// done, it is the frames taken and the frames that each effect gives in all.
+    pub fn moves(&self) -> u64
+        ensures value { result ≡ moves_of effect_acts self.now.flow }
+        ensures within { result ≤ work_of self.now.plan.acts (taken_of self.now.flow) }
+        ensures done { IsDone effect_acts self.now.flow → result ≡ taken_of self.now.flow + total (λ w. w.given) (wholes_of effect_acts self.now.flow []) }
+    {
+        self.flow.moves()
+    }
+
+    /// How many frames it holds: in the inlet, in the lines of its effects, and in their hands. At most the plan's `hold`.
+    pub fn held(&self) -> u64
+        ensures value { result ≡ length (option_to_list self.now.flow.inlet) + held_sum effect_acts self.now.flow.stages }
+        ensures within { result ≤ hold_all self.now.plan.acts }
+    {
+        self.flow.held()
+    }
+
+    /// How many frames it may hold: the plan's `hold`. The lines of its effects have as many places as the plan says.
+    pub fn hold(&self) -> u64
+        ensures value { result ≡ hold_all self.now.plan.acts }
+        ensures capacities { capacity_sum effect_acts self.now.flow.stages ≡ total line_of self.now.plan.acts }
+    {
+        self.flow.hold()
+    }
+
+    /// How many samples were clipped in the frames that effect `number`, counted from 1, gave.
+    pub fn clips(&self, number: usize) -> u64
+        requires first { 1 ≤ number }
+        requires last { number ≤ length self.now.plan.acts }
+        ensures value { result ≡ slice_index (map (λ s. (effect_acts.counts s).clips) self.now.flow.stages) (number - 1) }
+        ensures done { IsDone effect_acts self.now.flow → result ≡ slice_index (map (λ w. w.clips) (wholes_of effect_acts self.now.flow [])) (number - 1) }
+    {
+        self.flow.clips(number - 1)
+    }
+
+    /// Does some effect give nothing more, whatever comes? Then no frame that comes changes what is still to be given.
+    pub fn is_spent(&self) -> bool
+        ensures value { result ≡ any_spent effect_acts self.now.flow.stages }
+        ensures enough { IsHungry effect_acts self.now.flow → result ≡ enough_for (kinds effect_acts self.now.flow.stages) (taken_of self.now.flow) }
+        ensures same { result ≡ true → (z : List Samples) → rest_of effect_acts self.now.flow z ≡ rest_of effect_acts self.now.flow [] }
+    {
+        self.flow.is_spent()
+    }
+}

@@ -1,0 +1,82 @@
+//! A whole sound through the chain of a plan.
+ghost use Rattle.std.specs.Prelude.{◌≡◌, ◌≤◌, IfErr, IfOk, MatchResult, OnOk, true};
+ghost use Rattle.fx_chain.specs.Chain.{target_for};
+ghost use Rattle.fx_chain.specs.Report.{Completed, HasCause, StoppedAt, cause_of, clips_now, report_at, report_in, start_of};
+ghost use Rattle.fx_chain.specs.Run.{RanToFailure, WantsMore, sound_frames};
+ghost use Rattle.fx_flow.specs.Parts.{given_by, moves_of, taken_of};
+ghost use Rattle.fx_flow.specs.Steps.{IsDone, IsHungry};
+ghost use Rattle.fx_frame.specs.Holds.{kinds};
+ghost use Rattle.fx_plan.specs.Bounds.{work_of};
+ghost use Rattle.fx_plan.specs.Planning.{planning};
+ghost use Rattle.fx_sound.specs.Known.{IfKnown};
+ghost use Rattle.fx_sound.specs.Source.{to_come};
+ghost use Rattle.fx_stages.specs.Effects.{effect_acts};
+
+use crate::chain::Chain;
+use crate::flow_run::run_flow;
+use crate::pump::Cause;
+use crate::report::{Report, RunFault};
+use crate::target::Target;
+use fx_frame::{ByteIn, ByteOut};
+use fx_plan::Plan;
+use fx_sound::Source;
+
+/// What is written where a plan is run.
+fn target_of(plan: &Plan) -> Target
+    ensures { result ≡ target_for (planning plan.now) }
+{
+    Target {
+        kind: plan.kind(),
+        coding: plan.coding(),
+        rate: plan.rate(),
+        channels: plan.channels(),
+        named: plan.is_named(),
+    }
+}
+
+/// Writes a streamed head, and what the new chain of this plan gives for all frames of the sound, whose head was read.
+///
+/// Reads no more frames than some effect has enough of. After a failed read, and where the sound is too long, the frames
+/// then due are written; after a failed write the writer has a front of the whole output. Takes no memory.
+pub fn run<R: ByteIn, W: ByteOut>(
+    chain: &mut Chain,
+    plan: &Plan,
+    source: &mut Source<R>,
+    writer: &mut W,
+) -> Result<Report, RunFault>
+    requires plan { chain.old.plan ≡ planning plan.now }
+    requires hungry { IsHungry effect_acts chain.old.flow }
+    requires nothing { (taken_of chain.old.flow ≡ 0) × (given_by effect_acts chain.old.flow.left chain.old.flow.stages ≡ 0) }
+
+    // Without a fault all that the chain gives for the sound was written.
+    ensures completed { IfOk result (λ r. IfKnown (to_come R.rest source.old) (λ bytes.
+        Completed effect_acts chain.old.flow chain.new.flow (target_for chain.old.plan) (start_of chain.old.plan.head) bytes (sound_frames (start_of chain.old.plan.head) r.frames_in bytes) (W.taken writer.old) (W.taken writer.new) r)) }
+    ensures flushed { OnOk result (W.flushed writer.new ≡ true) }
+    ensures done { OnOk result (IsDone effect_acts chain.new.flow) }
+
+    // After a fault the frames then due were written, or a front.
+    ensures stopped { IfErr result (λ f. IfKnown (to_come R.rest source.old) (λ bytes.
+        StoppedAt effect_acts chain.old.flow chain.new.flow (target_for chain.old.plan) (start_of chain.old.plan.head) bytes (sound_frames (start_of chain.old.plan.head) (report_at f).frames_in bytes) (W.taken writer.old) (W.taken writer.new) f)) }
+    ensures read_failed { IfErr result (λ f. cause_of f ≡ Cause.ReadFailed → RanToFailure R.told source.old source.new.reader (start_of chain.old.plan.head) (report_at f).frames_in) }
+
+    // The counts.
+    ensures wants { WantsMore (kinds effect_acts chain.old.flow.stages) (report_in result).frames_in }
+    ensures taken { (report_in result).frames_in ≡ taken_of chain.new.flow }
+    ensures moves { (report_in result).moves ≡ moves_of effect_acts chain.new.flow }
+    ensures work { (report_in result).moves ≤ work_of chain.old.plan.acts (report_in result).frames_in }
+    ensures clips { (report_in result).clips ≡ clips_now effect_acts chain.new.flow.stages }
+    ensures plan_stays { chain.new.plan ≡ chain.old.plan }
+
+    // A fault is answered only where its cause was counted.
+    ensures causes { MatchResult result
+        (λ _. (R.failures source.new.reader ≡ R.failures source.old.reader) × (W.failures writer.new ≡ W.failures writer.old))
+        (λ f. HasCause (cause_of f) (R.failures source.old.reader) (R.failures source.new.reader) (W.failures writer.old) (W.failures writer.new)) }
+{
+    run_flow(
+        &mut chain.flow,
+        &plan.head(),
+        target_of(plan),
+        source,
+        writer,
+    )
+}

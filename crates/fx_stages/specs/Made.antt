@@ -1,0 +1,50 @@
+-- The stages that the effects of a plan ask for (this project's profile).
+use Rattle.std.specs.Prelude.{ℕ, Bool, true, ◌&&◌, List, [], ◌∷◌, length}
+use Rattle.fx_cut.specs.Fade.{meant}
+use Rattle.fx_plan.specs.Effects.{Act, OfTrim, OfPad, OfDelay, OfEcho, OfEchos, OfFade, OfVol, OfDcShift, OfFir, OfRemix, OfUpsample, OfDownsample, fits_layout}
+use Rattle.fx_stages.specs.Effects.{EffectRecipe, Trims, Pads, Fades, Upsamples, Downsamples, Delays, Echoes, EchoesInRow, Filters, Remixes, Scales, Shifts}
+use Rattle.fx_tap.specs.Delay.{every_delay}
+
+-- the stage of an effect that takes frames of so many channels
+abbrev pub recipe_for : ℕ → Act → EffectRecipe
+recipe_for channels (OfTrim ps) = Trims (record { channels = channels; positions = ps })
+recipe_for channels (OfPad pads) = Pads (record { channels = channels; pads = pads })
+recipe_for channels (OfDelay ds) = Delays (every_delay channels ds)
+recipe_for channels (OfEcho e) = Echoes (record { channels = channels; gain_in = e.gain_in; gain_out = e.gain_out; echoes = e.taps })
+recipe_for channels (OfEchos e) = EchoesInRow (record { channels = channels; gain_in = e.gain_in; gain_out = e.gain_out; echoes = e.taps })
+recipe_for channels (OfFade f) = Fades (record { channels = channels; shape = record { fade_in = f.fade_in; stop = meant f.stop; fade_out = f.fade_out } })
+recipe_for channels (OfVol gain) = Scales (record { channels = channels; sampling = gain })
+recipe_for channels (OfDcShift shift) = Shifts (record { channels = channels; sampling = shift })
+recipe_for channels (OfFir gains) = Filters (record { channels = channels; coefficients = gains })
+recipe_for channels (OfRemix specs) = Remixes (record { channels = channels; outs = specs })
+recipe_for channels (OfUpsample factor) = Upsamples (record { channels = channels; factor = factor })
+recipe_for channels (OfDownsample factor) = Downsamples (record { channels = channels; factor = factor })
+
+-- the channels of the frames that an effect gives
+abbrev pub channels_after : ℕ → Act → ℕ
+channels_after channels (OfTrim ps) = channels
+channels_after channels (OfPad pads) = channels
+channels_after channels (OfDelay ds) = channels
+channels_after channels (OfEcho e) = channels
+channels_after channels (OfEchos e) = channels
+channels_after channels (OfFade f) = channels
+channels_after channels (OfVol gain) = channels
+channels_after channels (OfDcShift shift) = channels
+channels_after channels (OfFir gains) = channels
+channels_after channels (OfRemix specs) = length specs
+channels_after channels (OfUpsample factor) = channels
+channels_after channels (OfDownsample factor) = channels
+
+-- the stages of effects, the first of which takes frames of so many channels
+abbrev pub recipes_for : ℕ → List Act → List EffectRecipe
+recipes_for channels [] = []
+recipes_for channels (act ∷ acts) = recipe_for channels act ∷ recipes_for (channels_after channels act) acts
+
+-- an effect can be a stage that takes frames of so many channels
+abbrev pub suits : ℕ → Act → Bool
+suits channels act = fits_layout (record { rate = 1; channels = channels }) act
+
+-- the same of effects, the first of which takes frames of so many channels
+abbrev pub all_suit : ℕ → List Act → Bool
+all_suit channels [] = true
+all_suit channels (act ∷ acts) = suits channels act && all_suit (channels_after channels act) acts

@@ -1,0 +1,10 @@
+use Rattle.std.proofs.Common.{rules, ◌≡◌, ◌++◌, ◌+◌, ◌<◌, ◌≤◌, List, arith}
+use Rattle.std.proofs.lemmas.Bool.Decides.{nat_tests}
+use Rattle.soxchain.proofs.TellingLemmas.{TellsMore-then, effect_warnings-more}
+use Rattle.soxchain.proofs.messages.tell_effect_warnings.Goals as goal
+
+pub loop-place-preserved : goal.loop-place-preserved
+loop-place-preserved g c = record {
+  within = omega arith;
+  told = rw (effect_warnings-more _ c.args.clips.now c.loop-place.place) (rw (c.told_word-name.ensures) at (TellsMore-then _ _ _ _ _ _ _ _ _ _ _ c.loop-place.invariant.told c.tell_effect_warning.ensures));
+}

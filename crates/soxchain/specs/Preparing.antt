@@ -1,0 +1,28 @@
+-- What comes before a run (this project's profile).
+use Rattle.std.specs.Prelude.{◌≡◌, ℕ, ◌+◌, List, Option}
+use Rattle.fx_frame.specs.Io.{saturated}
+use Rattle.fx_line.specs.Line.{Said}
+use Rattle.fx_plan.specs.declared.fault.PlanFault.{PlanFault}
+use Rattle.fx_plan.specs.CommandLines.{effects_in}
+use Rattle.fx_plan.specs.Effects.{head_layout}
+use Rattle.fx_plan.specs.Plans.{RefusesPlan, all_faults}
+use Rattle.fx_sound.specs.declared.head.Head.{Head}
+use Rattle.fx_sound.specs.declared.head.HeadFault.TheVariants as HeadFaults
+use Rattle.fx_sound.specs.Known.{IfKnown}
+use Rattle.fx_sound.specs.Head.{ReadsHead}
+use Rattle.fx_sound.specs.Source.{Held, to_come}
+use Rattle.soxchain.specs.declared.preparing.Refusal.{Refusal}
+use Rattle.soxchain.specs.declared.preparing.Refusal.TheVariants as Refusals
+
+-- The plan of a line behind the head that was read is refused, by its first fault or for want of memory.
+pub record PlanIsRefused {R : Type 0} (rest : R → Option (List ℕ)) (told : R → ℕ) (line : Said) (files : List (List ℕ)) (old new : Held R) (f : PlanFault) : Type 0 where
+  pub head : Head
+  pub read : IfKnown (to_come rest old) (λ bytes. ReadsHead rest told line.input_kind bytes old new head)
+  pub refuses : RefusesPlan f (all_faults (head_layout head) files (effects_in line))
+
+-- a refusal is answered only where its cause was counted
+abbrev pub RefusalHasCause : Refusal → ℕ → ℕ → Type 0
+RefusalHasCause (Refusals.Head HeadFaults.ReadFailed) reads new_reads = new_reads ≡ saturated (reads + 1)
+RefusalHasCause (Refusals.Head f) reads new_reads = new_reads ≡ reads
+RefusalHasCause (Refusals.Plan f) reads new_reads = new_reads ≡ reads
+RefusalHasCause Refusals.Chain reads new_reads = new_reads ≡ reads

@@ -1,0 +1,11 @@
+//! A plan and its new chain.
+
+use fx_chain::Chain;
+use fx_plan::Plan;
+
+/// A plan and its chain.
+#[derive(Drop)]
+pub struct Prepared {
+    pub plan: Plan,
+    pub chain: Chain,
+}

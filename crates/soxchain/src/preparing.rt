@@ -1,0 +1,66 @@
+//! What is done before a run: the head is read, the plan and its chain are made.
+ghost use Rattle.std.specs.Prelude.{◌≡◌, [], IfOk, Err, MatchResult, ℕ};
+ghost use Rattle.fx_chain.specs.Chain.{IsNewChain};
+ghost use Rattle.fx_plan.specs.CommandLines.{effects_in, planning_in};
+ghost use Rattle.fx_plan.specs.Effects.{head_layout};
+ghost use Rattle.fx_plan.specs.Plans.{all_faults, bytes_of};
+ghost use Rattle.fx_plan.specs.Planning.{planning};
+ghost use Rattle.fx_sound.specs.Head.{ReadsHead, head_of};
+ghost use Rattle.fx_sound.specs.Known.{IfKnown};
+ghost use Rattle.fx_sound.specs.Reads.{Fails, Refuses};
+ghost use Rattle.fx_sound.specs.Source.{to_come};
+ghost use Rattle.soxchain.specs.Preparing.{PlanIsRefused, RefusalHasCause};
+
+use crate::prepared::Prepared;
+use fx_chain::Chain;
+use fx_frame::ByteIn;
+use fx_plan::{CommandLine, PlanFault, plan};
+use fx_sound::{HeadFault, Source, read_head};
+use std::alloc::{AllocError, Global};
+
+/// Why a conversion whose command line was accepted stopped before its run. Nothing was written.
+#[derive(Clone, Copy, Debug, Drop, PartialEq, Eq)]
+pub enum Refusal {
+    /// The head is refused.
+    Head(HeadFault),
+    /// The effects are refused.
+    Plan(PlanFault),
+    /// No memory was found for the chain.
+    Chain,
+}
+
+/// Reads the head of a sound, and makes the plan of a line's effects behind it, and its chain.
+pub fn prepare_line<R: ByteIn>(
+    alloc: Global,
+    line: &CommandLine,
+    files: &[Vec<u8>],
+    source: &mut Source<R>,
+) -> Result<Prepared, Refusal>
+    // The plan is that of the line behind the head that was read.
+    ensures head { IfOk result (λ p. IfKnown (to_come R.rest source.old) (λ bytes. ReadsHead R.rest R.told line.now.input_kind bytes source.old source.new p.plan.head)) }
+    ensures no_faults { IfOk result (λ p. all_faults (head_layout p.plan.head) (bytes_of files.now) (effects_in line.now) ≡ []) }
+    ensures planned { IfOk result (λ p. planning p.plan ≡ planning_in p.plan.head line.now (bytes_of files.now)) }
+
+    ensures chain { IfOk result (λ p. IsNewChain (planning p.plan) p.chain) }
+
+    // A head or a plan is refused by its first fault.
+    ensures head_refused { (f : HeadFault) → result ≡ Err (Refusal.Head f) → Refuses R.rest (head_of line.now.input_kind) source.old f }
+    ensures head_cut { (f : HeadFault) → result ≡ Err (Refusal.Head f) → Fails R.rest R.told (head_of line.now.input_kind) source.old source.new f }
+    ensures plan_refused { (f : PlanFault) → result ≡ Err (Refusal.Plan f) → PlanIsRefused R.rest R.told line.now (bytes_of files.now) source.old source.new f }
+
+    // A read has failed only where the head says so.
+    ensures failures { MatchResult result (λ _. R.failures source.new.reader ≡ R.failures source.old.reader) (λ r. RefusalHasCause r (R.failures source.old.reader) (R.failures source.new.reader)) }
+{
+    let head = match read_head(source, line.input_kind()) {
+        Ok(head) => head,
+        Err(fault) => return Err(Refusal::Head(fault)),
+    };
+    let plan = match plan(alloc, line, &head, files) {
+        Ok(plan) => plan,
+        Err(fault) => return Err(Refusal::Plan(fault)),
+    };
+    match Chain::new(alloc, &plan) {
+        Ok(chain) => Ok(Prepared { plan, chain }),
+        Err(AllocError) => Err(Refusal::Chain),
+    }
+}
