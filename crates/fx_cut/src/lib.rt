@@ -13,6 +13,3 @@ pub use fade::Fade;
 pub use pad::Pad;
 pub use trim::Trim;
 pub use upsample::Upsample;
-
-#[cfg(test)]
-mod tests;

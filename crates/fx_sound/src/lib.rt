@@ -19,6 +19,3 @@ pub use progress::{MOST_FRAMES, Progress, ReadFault, next_frame};
 pub use read::read_head;
 pub use source::Source;
 pub use writing::{HeadBytes, head_bytes};
-
-#[cfg(test)]
-mod tests;

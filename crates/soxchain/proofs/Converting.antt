@@ -1,6 +1,9 @@
 -- A conversion, put together from its head and its run.
 use Rattle.std.proofs.Common.{◌≡◌, ◌≢◌, ℕ, ◌+◌, ◌-◌, ◌/◌, ◌^◌, ◌<◌, ◌≤◌, List, [], ◌++◌, length, refl, sym, ap, arith, ◌∙◌}
-use Rattle.std.specs.Prelude.{MatchBool, Option, Some, Result, Err}
+use Rattle.std.specs.Prelude.{MatchBool, Option, Some, Result, Ok, Err}
+use Rattle.fx_line.specs.declared.line.LineFault.{LineFault}
+use Rattle.fx_line.specs.Line.{Said}
+use Rattle.fx_plan.specs.CommandLines.{LineReads}
 use Rattle.std.specs.Io.KnownBytes.{prepend_known}
 use mathlib.Core.Path.{ap₂}
 use Rattle.fx_frame.specs.Io.{saturated}
@@ -41,3 +44,8 @@ Ran-told told first at reader new start offset n none is t r h =
     let same : told first.reader ≡ told reader = ap told is in
     let past : length at.bytes + (told new - told at.reader) ≡ told new - told reader - offset = omega arith in
     (omega arith, r.count h ∙ ap (λ k. at_most_announced start.left k / size_of start) past)
+
+-- a line that was made is the words' line
+pub line-read : (found : Result Said LineFault) (line : Said) → LineReads found (Ok line) → found ≡ Ok line
+line-read (Ok said) line h = ap (λ (x : Said). Ok x) (sym h)
+line-read (Err fault) line h = sym h

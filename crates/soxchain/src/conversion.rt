@@ -49,8 +49,8 @@ pub fn convert_line<R: ByteIn, W: ByteOut>(
     }
 }
 
-// The status where the command line is refused.
-fn status_of_fault(fault: LineFault) -> u8
+/// The status where a command line is refused.
+pub fn status_of_fault(fault: LineFault) -> u8
     ensures { result ≡ status_of_line fault }
 {
     match fault {

@@ -7,10 +7,10 @@ pub mod inner;
 mod messages;
 mod prepared;
 mod preparing;
+mod ready;
 mod telling;
 
 pub use conversion::convert;
 pub use fx_chain::{MOST_EFFECTS, Report, RunFault};
-
-#[cfg(test)]
-mod tests;
+pub use prepared::Ready;
+pub use ready::{finish, prepare};

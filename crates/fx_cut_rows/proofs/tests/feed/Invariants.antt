@@ -1,5 +1,5 @@
 use Rattle.std.proofs.Common.{◌≡◌, ◌+◌}
-use Rattle.fx_cut.proofs.tests.feed.Given as goal
+use Rattle.fx_cut_rows.proofs.tests.feed.Given as goal
 
 abbrev pub invariant-samples : goal.invariant-samples
 invariant-samples g l = record {

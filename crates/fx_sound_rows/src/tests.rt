@@ -1,7 +1,7 @@
-use super::inner::read_sound;
-use super::*;
 use fx_frame::inner::one;
 use fx_frame::{ByteIn, Coding, Frame, Tape};
+use fx_sound::inner::read_sound;
+use fx_sound::{Head, Kind, Progress, Source, head_bytes, next_frame, read_head};
 use std::alloc::Global;
 use std::test::Fail;
 

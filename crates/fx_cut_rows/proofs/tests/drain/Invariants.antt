@@ -1,5 +1,5 @@
 use Rattle.std.proofs.Common.{◌≡◌, [], length}
-use Rattle.fx_cut.proofs.tests.drain.Given as goal
+use Rattle.fx_cut_rows.proofs.tests.drain.Given as goal
 
 abbrev pub decreases-given : goal.decreases-given
 decreases-given g l = length (g.S.Stage.acts.rest l.stage [])

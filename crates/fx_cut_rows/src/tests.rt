@@ -2,7 +2,7 @@
 ghost use Rattle.std.specs.Prelude.{◌≡◌, ◌+◌, ◌≤◌, length};
 ghost use Rattle.fx_frame.specs.Stage.{kind};
 
-use crate::{Downsample, Fade, Pad, Trim, Upsample};
+use fx_cut::{Downsample, Fade, Pad, Trim, Upsample};
 use fx_fixed::At;
 use fx_frame::{Frame, Stage, WideFrame};
 use std::alloc::{AllocError, Global};

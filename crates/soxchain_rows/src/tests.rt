@@ -1,9 +1,8 @@
 //! Whole conversions: worked rows, with readers of many pieces, and writers that fail.
 ghost use Rattle.std.specs.Prelude.{◌<◌};
 
-use crate::convert;
-use fx_chain::Report;
 use fx_frame::{Sink, Tape};
+use soxchain::{Report, convert};
 use std::alloc::{AllocError, Global};
 use std::test::Fail;
 
@@ -128,8 +127,18 @@ fn words_refused(rt: HostRuntime) -> Result<(), Fail> {
             "- -t au - vol 1001",
             "soxchain: effect 1 vol: 6 OutOfRange: 1001\n",
         ),
-        ("- -t au - vol", "soxchain: command line: 2 BadOption\n"),
-        ("in -t au - vol 1", "soxchain: command line: 2 BadOption\n"),
+        (
+            "- -t au - vol",
+            "soxchain: effect 1 vol: 4 WrongCount: vol\n",
+        ),
+        (
+            "- -t au - vol 1 reverse",
+            "soxchain: effect 2 reverse: 3 NeedsWholeSound: reverse\n",
+        ),
+        (
+            "- -t au - delay 300000000s",
+            "soxchain: effects: 14 HoldTooLarge\n",
+        ),
     ];
     for (line, message) in rows {
         assert!(rt; is_refused(rt.alloc(), line, message)?, "{line}");

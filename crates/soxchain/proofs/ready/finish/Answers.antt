@@ -1,0 +1,32 @@
+use Rattle.std.proofs.Common.{rules, ◌≡◌, refl, sym, ap}
+use Rattle.std.specs.Prelude.{Ok, Err}
+use Rattle.soxchain.proofs.TellingLemmas.{Tells-first}
+use Rattle.soxchain.proofs.ready.finish.Goals as goal
+
+pub returns-in-Ok : goal.returns-in-Ok
+returns-in-Ok g c = record {
+  outcome = Ok c.in-Ok.report;
+  at = c.run.new.chain.flow;
+  completed = rw (c.requires.plan) at c.in-Ok.ensures.completed;
+  all_flushed = c.in-Ok.ensures.flushed;
+  stopped = tt;
+  read_failed = tt;
+  causes = c.in-Ok.ensures.causes;
+  status_is = refl;
+  report_is = refl;
+  told_is = Tells-first _ _ _ _ _ _ _ c.new-telling.ensures c.tell_warnings.ensures;
+}
+
+pub returns : goal.returns
+returns g c = record {
+  outcome = Err c.in-Err.fault;
+  at = c.run.new.chain.flow;
+  completed = tt;
+  all_flushed = tt;
+  stopped = rw (c.requires.plan) at c.in-Err.ensures.stopped;
+  read_failed = rw (c.requires.plan) at c.in-Err.ensures.read_failed;
+  causes = c.in-Err.ensures.causes;
+  status_is = refl;
+  report_is = c.report.ensures;
+  told_is = Tells-first _ _ _ _ _ _ _ c.new-telling.ensures c.tell_fault.ensures;
+}

@@ -1,0 +1,35 @@
+-- Why nothing is ready for a run (this project's profile).
+use Rattle.std.specs.Prelude.{◌≡◌, ℕ, List, Option, Result, Ok, Err}
+use Rattle.fx_line.specs.declared.line.LineFault.{LineFault}
+use Rattle.fx_line.specs.Line.{Said, line_of}
+use Rattle.fx_plan.specs.declared.fault.PlanFault.{PlanFault}
+use Rattle.fx_plan.specs.CommandLines.{LineReads}
+use Rattle.fx_sound.specs.declared.head.HeadFault.{HeadFault}
+use Rattle.fx_sound.specs.Head.{head_of}
+use Rattle.fx_sound.specs.Reads.{Fails, Refuses}
+use Rattle.fx_sound.specs.Source.{Held}
+use Rattle.soxchain.specs.declared.preparing.Refusal.{Refusal}
+use Rattle.soxchain.specs.declared.preparing.Refusal.TheVariants.{Head, Plan}
+use Rattle.soxchain.specs.Messages.{line_label, line_message, refusal_message}
+use Rattle.soxchain.specs.Preparing.{PlanIsRefused, RefusalHasCause}
+use Rattle.soxchain.specs.Program.{status_of_line, status_of_refusal}
+
+-- The words are no command line, or no memory was found for it: nothing was read, and one message says why.
+pub record LineRefused {R : Type 0} (words : List (List ℕ)) (old new : Held R) (IsTold : List ℕ → Type 0) (status : ℕ) : Type 0 where
+  pub fault : LineFault
+  pub reads : LineReads (line_of words) ((λ (x : Result Said LineFault). x) (Err fault))
+  pub status_is : status ≡ status_of_line fault
+  pub unread : new ≡ old
+  pub told : IsTold (line_message (line_label fault))
+
+-- The head or the plan is refused, or no memory was found for the chain: one message says why.
+pub record LineUnready {R : Type 0} (rest : R → Option (List ℕ)) (told_by reads : R → ℕ) (words : List (List ℕ)) (files : List (List ℕ)) (old new : Held R) (IsTold : List ℕ → Type 0) (status : ℕ) : Type 0 where
+  pub line : Said
+  pub is_line : line_of words ≡ Ok line
+  pub refusal : Refusal
+  pub head_refused : (f : HeadFault) → refusal ≡ Head f → Refuses rest (head_of line.input_kind) old f
+  pub head_cut : (f : HeadFault) → refusal ≡ Head f → Fails rest told_by (head_of line.input_kind) old new f
+  pub plan_refused : (f : PlanFault) → refusal ≡ Plan f → PlanIsRefused rest told_by line files old new f
+  pub cause : RefusalHasCause refusal (reads old.reader) (reads new.reader)
+  pub status_is : status ≡ status_of_refusal refusal
+  pub told : IsTold (refusal_message line refusal)

@@ -1,0 +1,100 @@
+//! A conversion in two parts: what comes before the output is opened, and the run.
+ghost use Rattle.std.specs.Prelude.{◌≡◌, ◌⊎◌, [], IfErr, IfOk, OnOk, Ok, Result};
+ghost use Rattle.fx_chain.specs.Chain.{IsNewChain};
+ghost use Rattle.fx_line.specs.Line.{line_of, texts};
+ghost use Rattle.fx_plan.specs.CommandLines.{effects_in, planning_in};
+ghost use Rattle.fx_plan.specs.Effects.{head_layout};
+ghost use Rattle.fx_plan.specs.Planning.{planning};
+ghost use Rattle.fx_plan.specs.Plans.{all_faults, bytes_of};
+ghost use Rattle.fx_sound.specs.Head.{ReadsHead};
+ghost use Rattle.fx_sound.specs.Known.{IfKnown};
+ghost use Rattle.fx_sound.specs.Source.{to_come};
+ghost use Rattle.soxchain.specs.Finishing.{Finished};
+ghost use Rattle.soxchain.specs.Readying.{LineRefused, LineUnready};
+ghost use Rattle.soxchain.specs.Telling.{Tells};
+
+use crate::conversion::status_of_fault;
+use crate::messages::{label_of_line, tell_fault, tell_line, tell_refusal, tell_warnings};
+use crate::prepared::{Prepared, Ready};
+use crate::preparing::prepare_line;
+use crate::telling::Telling;
+use fx_chain::{Report, run};
+use fx_frame::{ByteIn, ByteOut};
+use fx_plan::{Plan, parse_line};
+use fx_sound::Source;
+use std::alloc::Global;
+
+impl Ready {
+    /// The plan: of the line's effects, behind the head that was read.
+    pub fn plan(&self) -> &Plan
+        ensures { result.now ≡ self.now.prepared.plan }
+    {
+        &self.prepared.plan
+    }
+}
+
+/// Reads the words of a command line and the head of a sound, and makes the plan and its chain; `files` are the bytes of the
+/// line's coefficient files, in order. Where they are refused, says why in one message and answers the status: 1 for a fault
+/// of the words, 2 for every other.
+pub fn prepare<R: ByteIn, M: ByteOut>(
+    alloc: Global,
+    words: &[String],
+    files: &[Vec<u8>],
+    source: &mut Source<R>,
+    messages: &mut M,
+) -> Result<Ready, u8>
+    // The line, the head, the plan and its chain, and no message.
+    ensures line { IfOk result (λ ready. line_of (texts words.now) ≡ Ok ready.line) }
+    ensures head { IfOk result (λ ready. IfKnown (to_come R.rest source.old) (λ bytes. ReadsHead R.rest R.told ready.line.input_kind bytes source.old source.new ready.prepared.plan.head)) }
+    ensures no_faults { IfOk result (λ ready. all_faults (head_layout ready.prepared.plan.head) (bytes_of files.now) (effects_in ready.line) ≡ []) }
+    ensures planned { IfOk result (λ ready. planning ready.prepared.plan ≡ planning_in ready.prepared.plan.head ready.line (bytes_of files.now)) }
+    ensures chain { IfOk result (λ ready. IsNewChain (planning ready.prepared.plan) ready.prepared.chain) }
+    ensures silent { OnOk result (messages.new ≡ messages.old) }
+
+    // The line is refused, or what it asks for is.
+    ensures refused { IfErr result (λ status.
+        LineRefused (texts words.now) source.old source.new (Tells (M.taken messages.old) (M.taken messages.new) (M.failures messages.old) (M.failures messages.new)) status
+        ⊎ LineUnready R.rest R.told R.failures (texts words.now) (bytes_of files.now) source.old source.new (Tells (M.taken messages.old) (M.taken messages.new) (M.failures messages.old) (M.failures messages.new)) status) }
+{
+    let mut telling = Telling::new();
+    let line = match parse_line(alloc, words) {
+        Ok(line) => line,
+        Err(fault) => {
+            tell_line(&mut telling, messages, label_of_line(fault));
+            return Err(status_of_fault(fault));
+        }
+    };
+    match prepare_line(alloc, &line, files, source) {
+        Ok(prepared) => Ok(Ready { line, prepared }),
+        Err(refusal) => {
+            tell_refusal(&mut telling, messages, &line, &refusal);
+            Err(refusal.status())
+        }
+    }
+}
+
+/// Runs what is ready, over the sound behind the head, and tells warnings and the fault that stopped it. Answers the status,
+/// 0 without a fault and else 2, and what was done. Takes no memory.
+pub fn finish<R: ByteIn, W: ByteOut, M: ByteOut>(
+    ready: Ready,
+    source: &mut Source<R>,
+    output: &mut W,
+    messages: &mut M,
+) -> (u8, Report)
+    requires { IsNewChain (planning ready.prepared.plan) ready.prepared.chain }
+    ensures { Finished R.rest R.told R.failures W.taken W.flushed W.failures ready source.old source.new output.old output.new (Tells (M.taken messages.old) (M.taken messages.new) (M.failures messages.old) (M.failures messages.new)) result.0 result.1 }
+{
+    let mut telling = Telling::new();
+    let Ready { line, prepared } = ready;
+    let Prepared { plan, mut chain } = prepared;
+    match run(&mut chain, &plan, source, output) {
+        Ok(report) => {
+            tell_warnings(&mut telling, messages, &line, &report);
+            (0, report)
+        }
+        Err(fault) => {
+            tell_fault(&mut telling, messages, &line, &fault);
+            (2, fault.report())
+        }
+    }
+}
