@@ -9,10 +9,14 @@ returns-in-Err g c =
     (Err c.in-Err.fault, c.in-Err.ensures, (c.status_of_fault.ensures, c.none.ensures, (refl, refl), Tells-first _ _ _ _ _ _ _ c.new-telling.ensures told))
 
 pub returns : goal.returns
-returns g c = (Ok c.in-Ok.line, c.in-Ok.ensures, record {
-  outcome = c.convert_line-outcome.result.0;
-  is = c.convert_line-outcome.ensures;
-  status_is = c.tell_outcome-status.ensures.status;
-  report_is = c.tell_outcome-status.ensures.report;
-  told = Tells-first _ _ _ _ _ _ _ c.new-telling.ensures c.tell_outcome-status.ensures.told;
-})
+returns g c = (
+  Ok c.in-Ok.line,
+  c.in-Ok.ensures,
+  record {
+    outcome = c.convert_line-outcome.result.0;
+    is = c.convert_line-outcome.ensures;
+    status_is = c.tell_outcome-status.ensures.status;
+    report_is = c.tell_outcome-status.ensures.report;
+    told = Tells-first _ _ _ _ _ _ _ c.new-telling.ensures c.tell_outcome-status.ensures.told;
+  },
+)
