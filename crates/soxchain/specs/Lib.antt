@@ -1,4 +1,5 @@
 pub mod Convert
+pub mod FileMessages
 pub mod Finishing
 pub mod Messages
 pub mod Preparing

@@ -2,6 +2,7 @@
 #![tactic(auto)]
 
 mod conversion;
+mod file_messages;
 pub mod inner;
 mod messages;
 mod prepared;

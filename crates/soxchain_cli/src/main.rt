@@ -1,11 +1,23 @@
-//! The program soxchain: from standard input to standard output, messages on standard error.
+//! The program soxchain: from a file or standard input to a file or standard output, messages on standard error.
 #![tactic(auto)]
 
-use fx_frame::Counted;
-use soxchain::convert;
-use soxchain::inner::{Telling, tell_line};
+ghost use Rattle.std.specs.Prelude.{◌≡◌};
+ghost use Rattle.soxchain.specs.Messages.{line_label, line_message};
+ghost use Rattle.soxchain.specs.Program.{status_of_line};
+ghost use Rattle.soxchain.specs.Telling.{Tells};
+
+mod coefficients;
+mod files;
+mod until_fault;
+
+use coefficients::read_files;
+use files::{Asked, process};
+use fx_frame::{ByteOut, Counted};
+use fx_plan::{LineFault, parse_line};
+use soxchain::inner::{Telling, label_of_line, status_of_fault, tell_line};
 use std::process::ExitCode;
 use std::{env, io};
+use until_fault::UntilFault;
 
 /// The words behind the program's name.
 fn words_of(rt: &HostRuntime) -> io::Result<Vec<String>> {
@@ -16,32 +28,46 @@ fn words_of(rt: &HostRuntime) -> io::Result<Vec<String>> {
     Ok(words)
 }
 
-/// Says why the words could not be had, and answers the status: 1 where one of them is not UTF-8, 2 where memory was wanting.
-fn refused(rt: &HostRuntime, kind: io::ErrorKind) -> u8 {
-    let mut telling = Telling::new();
-    let mut messages = Counted::new(rt.stderr());
-    if kind == io::ErrorKind::OutOfMemory {
-        tell_line(&mut telling, &mut messages, "5 Memory");
-        return 2;
+/// The fault of words that could not be had: want of memory, or a word that is not UTF-8.
+fn fault_of(error: &io::Error) -> LineFault {
+    match error.kind() {
+        io::ErrorKind::OutOfMemory => LineFault::Memory,
+        _ => LineFault::BadOption,
     }
-    tell_line(&mut telling, &mut messages, "2 BadOption");
-    1
+}
+
+/// Tells why the words are refused, and answers the status.
+fn refused<M: ByteOut>(messages: &mut M, fault: LineFault) -> u8
+    ensures status { result ≡ status_of_line fault }
+    ensures told { Tells (M.taken messages.old) (M.taken messages.new) (M.failures messages.old) (M.failures messages.new) (line_message (line_label fault)) }
+{
+    let mut telling = Telling::new();
+    tell_line(&mut telling, messages, label_of_line(fault));
+    status_of_fault(fault)
+}
+
+/// Does what the words ask for, and answers the status.
+fn work<M: ByteOut>(rt: &HostRuntime, messages: &mut M) -> Result<u8, u8> {
+    let words = match words_of(rt) {
+        Ok(words) => words,
+        Err(error) => return Err(refused(messages, fault_of(&error))),
+    };
+    let line = match parse_line(rt.alloc(), &words) {
+        Ok(line) => line,
+        Err(fault) => return Err(refused(messages, fault)),
+    };
+    let files = read_files(rt, &line, messages)?;
+    let asked = Asked {
+        words: &words,
+        line: &line,
+        files: &files,
+    };
+    Ok(process(rt, &asked, messages))
 }
 
 fn main(rt: HostRuntime) -> ExitCode {
-    let words = match words_of(&rt) {
-        Ok(words) => words,
-        Err(error) => return ExitCode::from(refused(&rt, error.kind())),
-    };
-    let mut output = Counted::new(rt.stdout());
-    let mut messages = Counted::new(rt.stderr());
-    let (status, _report, _input) = convert(
-        rt.alloc(),
-        &words,
-        &[],
-        Counted::new(rt.stdin()),
-        &mut output,
-        &mut messages,
-    );
-    ExitCode::from(status)
+    let mut messages = Counted::new(UntilFault::new(rt.stderr()));
+    match work(&rt, &mut messages) {
+        Ok(status) | Err(status) => ExitCode::from(status),
+    }
 }
