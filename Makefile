@@ -4,12 +4,14 @@ SHELL := /bin/bash
 SOURCES = crates.txt $(shell find crates -type f -not -path '*/out/*')
 PROGRAM = crates/soxchain_cli
 
-.PHONY: help test soxchain demo clean
+.PHONY: help test soxchain demo conformance bench clean
 
 help:
 	@echo 'make demo      processes a sound of examples/ and says what it wrote'
 	@echo 'make test      the whole gate: every proof, the wrong edits, the tests, the programs, the checks of scripts/checks'
 	@echo 'make soxchain  builds the proved program as build/soxchain'
+	@echo 'make conformance  runs the proved program on 3,000 cases with known bytes, messages and statuses'
+	@echo 'make bench     times the proved program beside sox, effect by effect'
 	@echo 'make clean     removes build/ and what the checks kept'
 
 # The whole gate, from nothing.
@@ -28,6 +30,14 @@ demo:
 	@mkdir -p build
 	@cd $(PROGRAM) && rt try -- - -t au - vol 0.5 <../../examples/tone.au >../../build/demo.au 2>../../build/demo.log || { cat ../../build/demo.log >&2; exit 1; }
 	@echo "wrote build/demo.au, $$(wc -c <build/demo.au) bytes: examples/tone.au half as loud (run unproved; make soxchain builds the proved program)"
+
+# The proved program on all cases of conformance/.
+conformance: build/soxchain
+	@scripts/conformance
+
+# The proved program beside sox, which has to be installed.
+bench: build/soxchain
+	@scripts/bench build/soxchain
 
 clean:
 	rm -rf build crates/*/out
