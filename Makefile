@@ -4,13 +4,14 @@ SHELL := /bin/bash
 SOURCES = crates.txt $(shell find crates -type f -not -path '*/out/*')
 PROGRAM = crates/soxchain_cli
 
-.PHONY: help test soxchain demo conformance bench clean
+.PHONY: help test soxchain demo conformance wrong-bodies bench clean
 
 help:
 	@echo 'make demo      processes a sound of examples/ and says what it wrote'
-	@echo 'make test      the whole gate: every proof, the wrong edits, the tests, the programs, the checks of scripts/checks'
+	@echo 'make test      the whole gate: every proof, the tests, the programs, the checks of scripts/checks, some wrong bodies'
 	@echo 'make soxchain  builds the proved program as build/soxchain'
 	@echo 'make conformance  runs the proved program on 3,000 cases with known bytes, messages and statuses'
+	@echo 'make wrong-bodies  has the prover refuse each wrong body of wrong-bodies/'
 	@echo 'make bench     times the proved program beside sox, effect by effect'
 	@echo 'make clean     removes build/ and what the checks kept'
 
@@ -34,6 +35,10 @@ demo:
 # The proved program on all cases of conformance/.
 conformance: build/soxchain
 	@scripts/conformance
+
+# All wrong bodies: the prover has to refuse each. Proves the crates first where that is still to be done.
+wrong-bodies:
+	@scripts/wrong_bodies
 
 # The proved program beside sox, which has to be installed.
 bench: build/soxchain

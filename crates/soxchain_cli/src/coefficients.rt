@@ -1,5 +1,5 @@
 //! The coefficient files that the words name.
-ghost use Rattle.std.specs.Prelude.{◌≡◌, IfOk, IfSome, OnOk, length, take};
+ghost use Rattle.std.specs.Prelude.{◌≡◌, ◌+◌, ◌^◌, IfOk, IfSome, OnOk, length, take};
 ghost use Rattle.fx_plan.specs.CommandLines.{coefficient_files, effects_in};
 
 use crate::files::cannot_open;
@@ -15,7 +15,7 @@ const MOST_READ: u64 = 0x10_0001;
 
 /// What a reader tells, at most `MOST_READ` bytes of it.
 fn read_front<R: Read + Drop>(alloc: Global, reader: R) -> io::Result<Vec<u8>>
-    ensures { IfOk result (λ bytes. IfSome (R.remaining reader) (λ all. bytes.items ≡ take MOST_READ all)) }
+    ensures { IfOk result (λ bytes. IfSome (R.remaining reader) (λ all. bytes.items ≡ take (2 ^ 20 + 1) all)) }
 {
     let mut bytes = Vec::new(alloc);
     reader.take(MOST_READ).read_to_end(&mut bytes)?;

@@ -2,12 +2,15 @@
 ghost use Rattle.std.specs.Prelude.{◌≡◌};
 ghost use Rattle.fx_chain.specs.Chain.{IsNewChain};
 ghost use Rattle.fx_plan.specs.Planning.{planning};
+ghost use Rattle.fx_chain.specs.declared.report.Report.{Report};
 ghost use Rattle.soxchain.specs.FileMessages.{open_message, rewrite_message};
+ghost use Rattle.soxchain.specs.Finishing.{Finished};
 ghost use Rattle.soxchain.specs.Telling.{Tells};
+ghost use Rattle.soxchain_cli.specs.Heads.{true_head};
 
 use fx_frame::{ByteIn, ByteOut, Counted};
 use fx_plan::{CommandLine, Stream};
-use fx_sound::{Source, head_bytes};
+use fx_sound::{HeadBytes, Source, head_bytes};
 use soxchain::inner::{Telling, tell_cannot_open, tell_cannot_rewrite};
 use soxchain::{Ready, finish, prepare};
 use std::fs::File;
@@ -81,6 +84,26 @@ fn process_from<R: ByteIn + Drop, M: ByteOut>(
     }
 }
 
+/// Runs what is ready. Answers the status, and the head with the true number of frames.
+fn finish_with_head<R: ByteIn, W: ByteOut, M: ByteOut>(
+    ready: Ready,
+    source: &mut Source<R>,
+    output: &mut W,
+    messages: &mut M,
+) -> (u8, HeadBytes)
+    requires { IsNewChain (planning ready.prepared.plan) ready.prepared.chain }
+    ensures { (report : Report)
+        × Finished R.rest R.told R.failures W.taken W.flushed W.failures ready source.old source.new output.old output.new (Tells (M.taken messages.old) (M.taken messages.new) (M.failures messages.old) (M.failures messages.new)) result.0 report
+        × (result.1 ≡ true_head (planning ready.prepared.plan) report) }
+{
+    let plan = ready.plan();
+    let (kind, coding) = (plan.kind(), plan.coding());
+    let (rate, channels) = (plan.rate(), plan.channels());
+    let (status, report) = finish(ready, source, output, messages);
+    let head = head_bytes(kind, rate, channels, coding, Some(report.frames_out));
+    (status, head)
+}
+
 /// Runs what is ready and writes it to a new file. Without a fault the head is then written once more, with the true sizes.
 fn process_to<R: ByteIn, F: Write + Seek + Drop, M: ByteOut>(
     ready: Ready,
@@ -91,15 +114,11 @@ fn process_to<R: ByteIn, F: Write + Seek + Drop, M: ByteOut>(
 ) -> u8
     requires { IsNewChain (planning ready.prepared.plan) ready.prepared.chain }
 {
-    let plan = ready.plan();
-    let (kind, coding) = (plan.kind(), plan.coding());
-    let (rate, channels) = (plan.rate(), plan.channels());
     let mut output = Counted::new(file);
-    let (status, report) = finish(ready, source, &mut output, messages);
+    let (status, head) = finish_with_head(ready, source, &mut output, messages);
     if status != 0 {
         return status;
     }
-    let head = head_bytes(kind, rate, channels, coding, Some(report.frames_out));
     match write_over(&mut output.into_inner(), head.as_slice()) {
         Ok(()) => 0,
         Err(_) => cannot_rewrite(messages, name),
