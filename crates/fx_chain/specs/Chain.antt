@@ -42,6 +42,7 @@ target_for p = record { kind = p.kind; coding = p.coding; rate = p.layout.rate; 
 -- a chain of this plan that has taken nothing, and what it gives for a whole sound
 pub record IsNewChain (p : Planning) (c : ChainParts) : Type 0 where
   pub plan : c.plan ≡ p
+  pub made : recipes effect_acts c.flow.stages ≡ planned p
   pub hungry : IsHungry effect_acts c.flow
   pub nothing : (taken_of c.flow ≡ 0) × (given_by effect_acts c.flow.left c.flow.stages ≡ 0)
   pub gives : (x : List Samples) → rest_of effect_acts c.flow x ≡ chain_gives p x

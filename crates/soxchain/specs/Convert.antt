@@ -3,12 +3,13 @@ use Rattle.std.specs.Prelude.{◌≡◌, ◌≢◌, ℕ, ◌+◌, ◌-◌, ◌/�
 use Rattle.fx_chain.specs.declared.pump.Cause.TheVariants as Causes
 use Rattle.fx_chain.specs.declared.report.Report.{Report}
 use Rattle.fx_chain.specs.declared.report.RunFault.{RunFault}
-use Rattle.fx_chain.specs.Chain.{chain_gives, chain_wholes, target_for}
+use Rattle.fx_chain.specs.Chain.{chain_gives, chain_wholes, planned as stages_planned, target_for}
 use Rattle.fx_chain.specs.Report.{Completed, HasCause, StoppedAt, cause_of, clips_now, report_at, start_of}
 use Rattle.fx_chain.specs.Run.{sound_frames}
 use Rattle.fx_flow.specs.Parts.{Parts, moves_of}
 use Rattle.fx_flow.specs.Steps.{rest_of, wholes_of}
 use Rattle.fx_frame.specs.Frame.{Samples}
+use Rattle.fx_frame.specs.Holds.{recipes}
 use Rattle.fx_line.specs.Line.{Said}
 use Rattle.fx_plan.specs.declared.fault.PlanFault.{PlanFault}
 use Rattle.fx_plan.specs.Bounds.{work_of}
@@ -47,6 +48,8 @@ pub record Running (line : Said) (files : List (List ℕ)) (bytes : List ℕ) (r
   pub no_faults : all_faults (head_layout plan.head) files (effects_in line) ≡ []
   pub planned : plan ≡ planning_in plan.head line files
   pub start : Parts EffectStage
+  -- the new chain's stages are those of the plan's effects, which settles what is due and what is enough
+  pub made : recipes effect_acts start.stages ≡ stages_planned plan
   -- the new chain gives what the definitions of the plan's effects compose to, and counts the clips of each
   pub gives : (x : List Samples) → rest_of effect_acts start x ≡ chain_gives plan x
   pub wholes : (x : List Samples) → wholes_of effect_acts start x ≡ chain_wholes plan x

@@ -1,278 +1,217 @@
-//! Whole conversions: worked rows, with readers of many pieces, and writers that fail.
-ghost use Rattle.std.specs.Prelude.{◌<◌};
+//! Conversions whose requests for memory are refused in turn.
+ghost use Rattle.std.specs.Prelude.{◌≡◌, IfSome};
+ghost use Rattle.fx_chain.specs.Chain.{IsNewChain};
+ghost use Rattle.fx_plan.specs.Planning.{planning};
 
 use fx_frame::{Sink, Tape};
-use soxchain::{Report, convert};
+use fx_sound::Source;
+use soxchain::{Ready, Report, convert, finish, prepare};
 use std::alloc::{AllocError, Global};
 use std::test::Fail;
 
-/// What a conversion answered, wrote and told.
+const TWELVE_LINE: &str =
+    "- -t au - trim -3s pad 1s 1s delay 1s echo 1 1 0.125 0.5 echos 1 1 0.125 0.5 0.125 0.5 fade t 1s -0 vol 1 dcshift 0 fir 0 1 0 remix 1 upsample 2 downsample 2";
+
+/// The streamed head of an AU of 32 bits, mono, 8000 frames a second.
+const WRITTEN_HEAD: [u8; 28] =
+    *b".snd\0\0\0\x1c\xff\xff\xff\xff\0\0\0\x05\0\0\x1f\x40\0\0\0\x01\0\0\0\0";
+
+/// What stands ready for a conversion.
 #[derive(Drop)]
-struct Conversion {
-    status: u8,
-    report: Report,
+struct Making {
+    words: Vec<String>,
+    reader: Tape,
     output: Sink,
     messages: Sink,
 }
 
-fn words_of(alloc: Global, line: &str) -> Result<Vec<String>, AllocError> {
+/// The words and the devices of a conversion of these samples.
+fn making(alloc: Global, line: &str, samples: &[i32]) -> Result<Making, AllocError> {
     let mut words = Vec::new(alloc);
     for word in line.split(' ') {
         words.push(String::from_str(alloc, word)?)?;
     }
-    Ok(words)
-}
-
-/// Converts bytes that a reader tells in pieces; the writer takes `room` bytes and then fails.
-fn converted(
-    alloc: Global,
-    line: &str,
-    input: &[u8],
-    piece: usize,
-    room: usize,
-) -> Result<Conversion, AllocError>
-    requires { 0 < piece }
-{
-    let words = words_of(alloc, line)?;
-    let tape = Tape::new(Vec::from_slice(alloc, input)?, piece, 0, false);
-    let mut output = Sink::new(alloc, room, piece, 0, false)?;
-    let mut messages = Sink::new(alloc, 4096, 7, 0, false)?;
-    let (status, report, _tape) = convert(alloc, &words, &[], tape, &mut output, &mut messages);
-    Ok(Conversion {
-        status,
-        report,
-        output,
-        messages,
+    let mut input = Vec::from_slice(alloc, b".snd\0\0\0\x18\xff\xff\xff\xff")?;
+    input.extend_from_slice(b"\0\0\0\x05\0\0\x1f\x40\0\0\0\x01")?;
+    add_samples(&mut input, samples)?;
+    Ok(Making {
+        words,
+        reader: Tape::new(input, 4096, 0, false),
+        output: Sink::new(alloc, 4096, 4096, 0, false)?,
+        messages: Sink::new(alloc, 4096, 4096, 0, false)?,
     })
 }
 
-/// The head of an AU sound of 32 bits, mono, 8000 frames a second, and then the samples.
-fn au(alloc: Global, announced: u32, samples: &[i32]) -> Result<Vec<u8>, AllocError> {
-    let mut bytes = Vec::from_slice(alloc, b".snd\0\0\0\x18")?;
-    bytes.extend_from_slice(&announced.to_be_bytes())?;
-    bytes.extend_from_slice(b"\0\0\0\x05\0\0\x1f\x40\0\0\0\x01")?;
+fn add_samples(bytes: &mut Vec<u8>, samples: &[i32]) -> Result<(), AllocError> {
     for sample in samples {
         bytes.extend_from_slice(&sample.to_be_bytes())?;
     }
-    Ok(bytes)
+    Ok(())
 }
 
-/// The streamed head of what is written, and then the samples.
-fn written(alloc: Global, samples: &[i32]) -> Result<Vec<u8>, AllocError> {
-    let mut bytes = Vec::from_slice(
-        alloc,
-        b".snd\0\0\0\x1c\xff\xff\xff\xff\0\0\0\x05\0\0\x1f\x40\0\0\0\x01\0\0\0\0",
-    )?;
+/// Is that the output with these samples?
+fn is_output(bytes: &[u8], samples: &[i32]) -> bool {
+    let Some((head, sound)) = bytes.split_first_chunk::<28>() else {
+        return false;
+    };
+    *head == WRITTEN_HEAD && is_sound(sound, samples)
+}
+
+fn is_sound(sound: &[u8], samples: &[i32]) -> bool {
+    let mut rest = sound;
     for sample in samples {
-        bytes.extend_from_slice(&sample.to_be_bytes())?;
-    }
-    Ok(bytes)
-}
-
-const PIECES: [usize; 3] = [1, 5, 4096];
-
-#[test]
-fn au_vol_half(rt: HostRuntime) -> Result<(), Fail> {
-    let input = au(rt.alloc(), 8, &[3, -3])?;
-    let want = written(rt.alloc(), &[2, -2])?;
-    for piece in PIECES {
-        let got = converted(rt.alloc(), "- -t au - vol 0.5", &input, piece, 4096)?;
-        assert_eq!(rt; got.status, 0);
-        assert_eq!(rt; got.output.taken(), want.as_slice());
-        assert!(rt; got.messages.taken().is_empty());
-        assert_eq!(rt; got.report.frames_in, 2);
-        assert_eq!(rt; got.report.frames_out, 2);
-        assert_eq!(rt; got.report.bytes_out, 36);
-    }
-    Ok(())
-}
-
-#[test]
-fn au_16_vol_half(rt: HostRuntime) -> Result<(), Fail> {
-    let input = b".snd\0\0\0\x18\0\0\0\x04\0\0\0\x03\0\0\x1f\x40\0\0\0\x01\0\x03\xff\xfd";
-    let want =
-        b".snd\0\0\0\x1c\xff\xff\xff\xff\0\0\0\x03\0\0\x1f\x40\0\0\0\x01\0\0\0\0\0\x02\xff\xff";
-    for piece in PIECES {
-        let got = converted(rt.alloc(), "- -t au - vol 0.5", input, piece, 4096)?;
-        assert_eq!(rt; got.status, 0);
-        assert_eq!(rt; got.output.taken(), want.as_slice());
-        assert!(rt; got.messages.taken().is_empty());
-    }
-    Ok(())
-}
-
-/// Are the words refused with this message, and is nothing written?
-fn is_refused(alloc: Global, line: &str, message: &str) -> Result<bool, AllocError> {
-    let input = au(alloc, 8, &[3, -3])?;
-    let got = converted(alloc, line, &input, 4096, 4096)?;
-    let is_told = got.messages.taken() == message.as_bytes();
-    Ok(got.status == 1 && is_told && got.output.taken().is_empty())
-}
-
-#[test]
-fn vol_bad_word(rt: HostRuntime) -> Result<(), Fail> {
-    let message = "soxchain: effect 1 vol: 5 BadArgument: x\n";
-    assert!(rt; is_refused(rt.alloc(), "- -t au - vol x", message)?);
-    Ok(())
-}
-
-#[test]
-fn words_refused(rt: HostRuntime) -> Result<(), Fail> {
-    let rows = [
-        ("-", "soxchain: command line: 1 MissingFile\n"),
-        ("- -r -", "soxchain: command line: 2 BadOption\n"),
-        ("- - vol 1", "soxchain: command line: 3 NoOutputType\n"),
-        ("- -b 12 -", "soxchain: command line: 4 BadBits\n"),
-        (
-            "- -t au - vol 1001",
-            "soxchain: effect 1 vol: 6 OutOfRange: 1001\n",
-        ),
-        (
-            "- -t au - vol",
-            "soxchain: effect 1 vol: 4 WrongCount: vol\n",
-        ),
-        (
-            "- -t au - vol 1 reverse",
-            "soxchain: effect 2 reverse: 3 NeedsWholeSound: reverse\n",
-        ),
-        (
-            "- -t au - delay 300000000s",
-            "soxchain: effects: 14 HoldTooLarge\n",
-        ),
-    ];
-    for (line, message) in rows {
-        assert!(rt; is_refused(rt.alloc(), line, message)?, "{line}");
-    }
-    Ok(())
-}
-
-// The streamed head of WAVE, mono, 8000 frames a second, 16 bits, and then the sample 2.
-const WAVE_OF_TWO: [u8; 46] =
-    *b"RIFF\x24\xf0\xff\x7fWAVEfmt \x10\0\0\0\x01\0\x01\0\x40\x1f\0\0\x80\x3e\0\0\x02\0\x10\0data\0\xf0\xff\x7f\x02\0";
-
-#[test]
-fn au_to_wave(rt: HostRuntime) -> Result<(), Fail> {
-    let input = au(rt.alloc(), 4, &[131072])?;
-    for piece in PIECES {
-        let got = converted(rt.alloc(), "-D -t au - -t wav -b 16 -", &input, piece, 4096)?;
-        assert_eq!(rt; got.status, 0);
-        assert_eq!(rt; got.output.taken(), WAVE_OF_TWO.as_slice());
-        assert_eq!(rt; got.report.moves, 1);
-        assert_eq!(rt; got.report.frames_out, 1);
-    }
-    Ok(())
-}
-
-#[test]
-fn wave_to_au(rt: HostRuntime) -> Result<(), Fail> {
-    let want = written(rt.alloc(), &[131072])?;
-    for piece in PIECES {
-        let line = "- -D -t au -b 8 -b 32 -";
-        let got = converted(rt.alloc(), line, &WAVE_OF_TWO, piece, 4096)?;
-        assert_eq!(rt; got.status, 0);
-        assert_eq!(rt; got.output.taken(), want.as_slice());
-    }
-    let got = converted(rt.alloc(), "-t au - -t au -", &WAVE_OF_TWO, 4096, 4096)?;
-    assert_eq!(rt; got.status, 2);
-    assert_eq!(rt;
-        got.messages.taken(),
-        b"soxchain: input: 2 UnknownType\n".as_slice()
-    );
-    Ok(())
-}
-
-#[test]
-fn narrow_to_8_counts_output_clips(rt: HostRuntime) -> Result<(), Fail> {
-    let input = au(rt.alloc(), 8, &[2147483647, -2147483648])?;
-    let got = converted(rt.alloc(), "- -t au -b 8 -", &input, 4096, 4096)?;
-    assert_eq!(rt; got.status, 0);
-    assert_eq!(rt; got.report.out_clips, 1);
-    assert_eq!(rt; got.report.clips[0], 0);
-    assert_eq!(rt;
-        got.messages.taken(),
-        b"soxchain: warning: output: clipped samples 1\n".as_slice()
-    );
-    Ok(())
-}
-
-#[test]
-fn vol_clips(rt: HostRuntime) -> Result<(), Fail> {
-    let input = au(rt.alloc(), 20, &[2147483647, -2147483648, 1, -1, 3])?;
-    let want = written(rt.alloc(), &[2147483647, -2147483648, 2, -2, 5])?;
-    for piece in PIECES {
-        let got = converted(rt.alloc(), "- -t au - vol 1.5", &input, piece, 4096)?;
-        assert_eq!(rt; got.status, 0);
-        assert_eq!(rt; got.output.taken(), want.as_slice());
-        assert_eq!(rt; got.report.clips[0], 2);
-        assert_eq!(rt; got.report.out_clips, 0);
-        assert_eq!(rt;
-            got.messages.taken(),
-            b"soxchain: warning: effect 1 vol: clipped samples 2\n".as_slice()
-        );
-    }
-    Ok(())
-}
-
-#[test]
-fn vol_trillionths(rt: HostRuntime) -> Result<(), Fail> {
-    let input = au(rt.alloc(), 4, &[2147483647])?;
-    for (line, sample) in [
-        ("- -t au - vol 0.000000000233", 1),
-        ("- -t au - vol 0.000000000232", 0),
-    ] {
-        let want = written(rt.alloc(), &[sample])?;
-        for piece in PIECES {
-            let got = converted(rt.alloc(), line, &input, piece, 4096)?;
-            assert_eq!(rt; got.output.taken(), want.as_slice());
+        let Some((front, more)) = rest.split_first_chunk::<4>() else {
+            return false;
+        };
+        if *front != sample.to_be_bytes() {
+            return false;
         }
+        rest = more;
     }
-    Ok(())
+    rest.is_empty()
+}
+
+/// Are these the messages where memory is wanting, before the chain stands?
+fn is_want_of_memory(messages: &[u8]) -> bool {
+    messages == b"soxchain: command line: 5 Memory\n".as_slice()
+        || messages == b"soxchain: effects: 16 Memory\n".as_slice()
+        || messages == b"soxchain: chain: no memory\n".as_slice()
 }
 
 #[test]
-fn au_cut_at_each_byte(rt: HostRuntime) -> Result<(), Fail> {
-    let input = au(rt.alloc(), 8, &[3, -3])?;
-    for cut in 0..24usize {
-        for piece in PIECES {
-            let front = input.get(..cut).ok_or("short")?;
-            let got = converted(rt.alloc(), "- -t au - vol 0.5", front, piece, 4096)?;
-            assert_eq!(rt; got.status, 2);
-            assert_eq!(rt;
-                got.messages.taken(),
-                b"soxchain: input: 3 Truncated\n".as_slice()
-            );
-            assert!(rt; got.output.taken().is_empty());
-        }
-    }
-    let front = input.get(..27).ok_or("short")?;
-    let got = converted(rt.alloc(), "- -t au - vol 0.5", front, 4096, 4096)?;
-    let want = written(rt.alloc(), &[])?;
-    assert_eq!(rt; got.status, 0);
-    assert_eq!(rt; got.output.taken(), want.as_slice());
-    assert_eq!(rt; got.report.missing, 5);
-    assert_eq!(rt; got.report.stray, 3);
-    assert_eq!(rt;
-        got.messages.taken(),
-        b"soxchain: warning: input: missing bytes 5\nsoxchain: warning: input: stray bytes 3\n".as_slice()
+fn growth_twelve_line(rt: HostRuntime) -> Result<(), Fail> {
+    let Ok(made) = making(rt.alloc(), TWELVE_LINE, &[8, 8, 8, 8]) else {
+        return Ok(println!(rt; "refused")?);
+    };
+    let Making {
+        words,
+        reader,
+        mut output,
+        mut messages,
+    } = made;
+    let (status, report, _reader) = convert(
+        rt.alloc(),
+        &words,
+        &[],
+        reader,
+        &mut output,
+        &mut messages,
     );
-    Ok(())
+    if status == 2 {
+        assert!(rt; is_want_of_memory(messages.taken()));
+        assert!(rt; output.taken().is_empty());
+        assert!(rt; report == Report::none());
+        return Ok(println!(rt; "refused")?);
+    }
+    assert_eq!(rt; status, 0);
+    assert_eq!(rt; report.moves, 106);
+    assert!(rt; is_output(output.taken(), &[0, 0, 8, 20, 28, 22, 10, 2, 0]));
+    Ok(println!(rt; "made")?)
 }
 
 #[test]
-fn failing_writer(rt: HostRuntime) -> Result<(), Fail> {
-    let input = au(rt.alloc(), 8, &[3, -3])?;
-    let whole = written(rt.alloc(), &[2, -2])?;
-    let want = whole.as_slice().get(..30).ok_or("short")?;
-    for piece in PIECES {
-        let got = converted(rt.alloc(), "- -t au - vol 0.5", &input, piece, 30)?;
-        assert_eq!(rt; got.status, 2);
-        assert_eq!(rt; got.output.taken(), want);
-        assert_eq!(rt; got.report.bytes_out, 30);
-        assert_eq!(rt; got.report.frames_out, 2);
-        assert_eq!(rt;
-            got.messages.taken(),
-            b"soxchain: run: 2 WriteFailed after frames 2\n".as_slice()
-        );
+fn growth_bad_word(rt: HostRuntime) -> Result<(), Fail> {
+    let Ok(made) = making(rt.alloc(), "- -t au - vol x", &[8]) else {
+        return Ok(println!(rt; "refused")?);
+    };
+    let Making {
+        words,
+        reader,
+        mut output,
+        mut messages,
+    } = made;
+    let (status, report, _reader) = convert(
+        rt.alloc(),
+        &words,
+        &[],
+        reader,
+        &mut output,
+        &mut messages,
+    );
+    assert!(rt; output.taken().is_empty());
+    assert!(rt; report == Report::none());
+    if status == 2 {
+        assert!(rt; is_want_of_memory(messages.taken()));
+        return Ok(println!(rt; "refused")?);
     }
-    Ok(())
+    assert_eq!(rt; status, 1);
+    assert!(rt; messages.taken() == b"soxchain: effect 1 vol: 5 BadArgument: x\n".as_slice());
+    Ok(println!(rt; "made")?)
+}
+
+/// What stands ready to run.
+#[derive(Drop)]
+struct Running {
+    ready: Ready,
+    source: Source<Tape>,
+    output: Sink,
+    messages: Sink,
+    ghost new: { IsNewChain (planning ready.prepared.plan) ready.prepared.chain },
+}
+
+/// A conversion that is ready to run; None where memory is wanting.
+fn running(alloc: Global, line: &str, samples: &[i32]) -> Option<Running> {
+    let Making {
+        words,
+        reader,
+        output,
+        mut messages,
+    } = making(alloc, line, samples).ok()?;
+    let mut source = Source::new(reader);
+    match prepare(alloc, &words, &[], &mut source, &mut messages) {
+        Ok(ready) => Some(Running {
+            ready,
+            source,
+            output,
+            messages,
+        }),
+        Err(_) => None,
+    }
+}
+
+#[test]
+fn growth_during_run(rt: HostRuntime) -> Result<(), Fail> {
+    let Some(made) = running(rt.alloc(), TWELVE_LINE, &[8, 8, 8, 8]) else {
+        return Ok(println!(rt; "refused")?);
+    };
+    let Running {
+        ready,
+        mut source,
+        mut output,
+        mut messages,
+    } = made;
+    let (status, report) = finish(ready, &mut source, &mut output, &mut messages);
+    assert_eq!(rt; status, 0);
+    assert_eq!(rt; report.moves, 106);
+    assert!(rt; is_output(output.taken(), &[0, 0, 8, 20, 28, 22, 10, 2, 0]));
+    Ok(println!(rt; "made")?)
+}
+
+/// The samples from 1 to 100000.
+fn many_samples(alloc: Global) -> Result<Vec<i32>, AllocError> {
+    let mut samples = Vec::new(alloc);
+    for sample in 1..=100_000 {
+        samples.push(sample)?;
+    }
+    Ok(samples)
+}
+
+#[test]
+fn growth_during_long_run(rt: HostRuntime) -> Result<(), Fail> {
+    let Ok(samples) = many_samples(rt.alloc()) else {
+        return Ok(println!(rt; "refused")?);
+    };
+    let Some(made) = running(rt.alloc(), "- -t au - trim -3s", &samples) else {
+        return Ok(println!(rt; "refused")?);
+    };
+    let Running {
+        ready,
+        mut source,
+        mut output,
+        mut messages,
+    } = made;
+    let (status, _report) = finish(ready, &mut source, &mut output, &mut messages);
+    assert_eq!(rt; status, 0);
+    assert!(rt; is_output(output.taken(), &[99998, 99999, 100_000]));
+    Ok(println!(rt; "made")?)
 }

@@ -1,0 +1,229 @@
+//! What the lines of a row say.
+
+ghost use Rattle.std.specs.Prelude.{◌≡◌, ◌<◌, IfSome};
+
+use crate::show::show_row;
+use std::alloc::{AllocError, Global};
+use std::io;
+
+/// When a device fails.
+#[derive(Clone, Copy, Debug, Drop, PartialEq, Eq)]
+pub enum Failing {
+    /// Never.
+    Never,
+    /// At the call behind those that move all bytes.
+    Behind,
+    /// At the call of that number.
+    Once(u64),
+    /// At each call from that number on.
+    Ever(u64),
+}
+
+/// What is converted, and how the devices behave.
+#[derive(Drop)]
+pub struct Row {
+    pub name: String,
+    pub input: Vec<u8>,
+    pub files: Vec<Vec<u8>>,
+    pub reader: Failing,
+    pub writer: Failing,
+    pub room: usize,
+    pub messages_room: usize,
+    /// The most bytes that a call moves, where it was said.
+    pub piece: Option<usize>,
+}
+
+/// The bytes that a device in memory takes where nothing else is said.
+const ROOM: usize = 4096;
+
+impl Row {
+    /// A row of this name, of which nothing was said.
+    pub fn new(alloc: Global, name: &str) -> Result<Row, AllocError> {
+        Ok(Row {
+            name: String::from_str(alloc, name)?,
+            input: Vec::new(alloc),
+            files: Vec::new(alloc),
+            reader: Failing::Never,
+            writer: Failing::Never,
+            room: ROOM,
+            messages_room: ROOM,
+            piece: None,
+        })
+    }
+
+    /// The head of an AU of 32 bits.
+    fn add_head(&mut self, announced: u32) -> Result<(), AllocError> {
+        self.input.extend_from_slice(b".snd\0\0\0\x18")?;
+        self.input.extend_from_slice(&announced.to_be_bytes())?;
+        self.input
+            .extend_from_slice(b"\0\0\0\x05\0\0\x1f\x40\0\0\0\x01")
+    }
+}
+
+/// The value of a hexadecimal digit.
+fn digit_value(byte: u8) -> Option<u8>
+    ensures { IfSome result (λ value. value < 16) }
+{
+    match byte {
+        b'0'..=b'9' => Some(byte - b'0'),
+        b'a'..=b'f' => Some(byte - b'a' + 10),
+        _ => None,
+    }
+}
+
+/// The byte of two digits.
+fn byte_of(digits: &[u8]) -> Option<u8> {
+    let [high, low] = digits else {
+        return None;
+    };
+    Some(digit_value(*high)? * 16 + digit_value(*low)?)
+}
+
+/// Appends the bytes of hexadecimal digits. Is that what the text has?
+fn add_bytes(input: &mut Vec<u8>, text: &str) -> Result<bool, AllocError> {
+    for digits in text.as_bytes().chunks(2) {
+        let Some(byte) = byte_of(digits) else {
+            return Ok(false);
+        };
+        input.push(byte)?;
+    }
+    Ok(true)
+}
+
+/// Appends all of these bytes in hexadecimal digits. Is that what the text has?
+fn add_all_bytes(input: &mut Vec<u8>, text: &str) -> Result<bool, AllocError> {
+    for word in text.split(' ') {
+        if !add_bytes(input, word)? {
+            return Ok(false);
+        }
+    }
+    Ok(true)
+}
+
+/// Appends samples. Is that what the text has?
+fn add_samples(input: &mut Vec<u8>, text: &str) -> Result<bool, AllocError> {
+    for word in text.split(' ') {
+        let Ok(sample) = word.parse::<i32>() else {
+            return Ok(false);
+        };
+        input.extend_from_slice(&sample.to_be_bytes())?;
+    }
+    Ok(true)
+}
+
+/// The bytes of a coefficient file.
+fn file_of(alloc: Global, text: &str) -> Result<Vec<u8>, AllocError> {
+    let mut bytes = Vec::new(alloc);
+    for letter in text.as_bytes() {
+        bytes.push(if *letter == b'|' { b'\n' } else { *letter })?;
+    }
+    Ok(bytes)
+}
+
+/// When a device fails of which this is said.
+fn failing_of(text: &str) -> Option<Failing> {
+    let (call, often) = text.split_once(' ')?;
+    let call = call.parse::<u64>().ok()?;
+    match often {
+        "once" => Some(Failing::Once(call)),
+        "ever" => Some(Failing::Ever(call)),
+        _ => None,
+    }
+}
+
+/// Keeps what is said of a device: when it fails, or for how many bytes it has room. Is it that?
+fn keep_device(failing: &mut Failing, room: &mut usize, text: &str) -> bool {
+    match text.split_once(' ') {
+        None if text == "fails" => {
+            *failing = Failing::Behind;
+            true
+        }
+        Some(("fails", calls)) => match failing_of(calls) {
+            Some(said) => {
+                *failing = said;
+                true
+            }
+            None => false,
+        },
+        Some(("room", bytes)) => match bytes.parse::<usize>() {
+            Ok(bytes) => {
+                *room = bytes;
+                true
+            }
+            Err(_) => false,
+        },
+        _ => false,
+    }
+}
+
+/// Keeps what a line says of the input. Is it that?
+fn keep_input(row: &mut Row, word: &str, text: &str) -> Result<bool, AllocError> {
+    match word {
+        "head" => {
+            let Ok(announced) = text.parse::<u32>() else {
+                return Ok(false);
+            };
+            row.add_head(announced)?;
+            Ok(true)
+        }
+        "samples" => add_samples(&mut row.input, text),
+        "bytes" => add_all_bytes(&mut row.input, text),
+        _ => Ok(false),
+    }
+}
+
+/// Keeps what a line says. Is it of a known form?
+fn keep(alloc: Global, row: &mut Row, word: &str, text: &str) -> Result<bool, AllocError> {
+    match word {
+        "row" => {
+            *row = Row::new(alloc, text)?;
+            Ok(true)
+        }
+        "file" => {
+            row.files.push(file_of(alloc, text)?)?;
+            Ok(true)
+        }
+        "reader" => {
+            let mut room = ROOM;
+            Ok(keep_device(&mut row.reader, &mut room, text))
+        }
+        "writer" => Ok(keep_device(&mut row.writer, &mut row.room, text)),
+        "messages" => {
+            let mut failing = Failing::Never;
+            Ok(keep_device(&mut failing, &mut row.messages_room, text))
+        }
+        "pieces" => {
+            row.piece = text.parse::<usize>().ok().filter(|piece| *piece > 0);
+            Ok(row.piece.is_some())
+        }
+        _ => keep_input(row, word, text),
+    }
+}
+
+/// The words of a text.
+fn words_of(alloc: Global, text: &str) -> Result<Vec<String>, AllocError> {
+    let mut words = Vec::new(alloc);
+    if text.is_empty() {
+        return Ok(words);
+    }
+    for word in text.split(' ') {
+        words.push(String::from_str(alloc, word)?)?;
+    }
+    Ok(words)
+}
+
+/// Keeps what a line says, or prints the answer to it.
+pub fn follow(rt: &HostRuntime, row: &mut Row, line: &str) -> io::Result<()> {
+    if line.is_empty() || line.starts_with("#") {
+        return Ok(());
+    }
+    let (word, text) = line.split_once(' ').unwrap_or((line, ""));
+    if word == "convert" {
+        let words = words_of(rt.alloc(), text)?;
+        return show_row(rt, row, &words);
+    }
+    if keep(rt.alloc(), row, word, text)? {
+        return Ok(());
+    }
+    println!(rt; "?")
+}
