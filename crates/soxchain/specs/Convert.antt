@@ -5,11 +5,11 @@ use Rattle.fx_chain.specs.declared.report.Report.{Report}
 use Rattle.fx_chain.specs.declared.report.RunFault.{RunFault}
 use Rattle.fx_chain.specs.Chain.{chain_gives, chain_wholes, planned as stages_planned, target_for}
 use Rattle.fx_chain.specs.Report.{Completed, HasCause, StoppedAt, cause_of, clips_now, report_at, start_of}
-use Rattle.fx_chain.specs.Run.{sound_frames}
+use Rattle.fx_chain.specs.Run.{WantsMore, sound_frames}
 use Rattle.fx_flow.specs.Parts.{Parts, moves_of}
 use Rattle.fx_flow.specs.Steps.{rest_of, wholes_of}
 use Rattle.fx_frame.specs.Frame.{Samples}
-use Rattle.fx_frame.specs.Holds.{recipes}
+use Rattle.fx_frame.specs.Holds.{kinds, recipes}
 use Rattle.fx_line.specs.Line.{Said}
 use Rattle.fx_plan.specs.declared.fault.PlanFault.{PlanFault}
 use Rattle.fx_plan.specs.Bounds.{work_of}
@@ -53,6 +53,8 @@ pub record Running (line : Said) (files : List (List ℕ)) (bytes : List ℕ) (r
   -- the new chain gives what the definitions of the plan's effects compose to, and counts the clips of each
   pub gives : (x : List Samples) → rest_of effect_acts start x ≡ chain_gives plan x
   pub wholes : (x : List Samples) → wholes_of effect_acts start x ≡ chain_wholes plan x
+  -- no frame was read past those that are enough for some effect
+  pub wants : WantsMore (kinds effect_acts start.stages) r.frames_in
   pub at : Parts EffectStage
   pub clips : r.clips ≡ clips_now effect_acts at.stages
   pub moves : r.moves ≡ moves_of effect_acts at

@@ -4,10 +4,12 @@ use Rattle.fx_chain.specs.declared.pump.Cause.TheVariants as Causes
 use Rattle.fx_chain.specs.declared.report.Report.{Report}
 use Rattle.fx_chain.specs.declared.report.RunFault.{RunFault}
 use Rattle.fx_chain.specs.Chain.{target_for}
-use Rattle.fx_chain.specs.Report.{Completed, HasCause, StoppedAt, cause_of, report_at, report_in, start_of}
-use Rattle.fx_chain.specs.Run.{RanToFailure, sound_frames}
-use Rattle.fx_flow.specs.Parts.{Parts}
+use Rattle.fx_chain.specs.Report.{Completed, HasCause, StoppedAt, cause_of, clips_now, report_at, report_in, start_of}
+use Rattle.fx_chain.specs.Run.{RanToFailure, WantsMore, sound_frames}
+use Rattle.fx_flow.specs.Parts.{Parts, moves_of}
+use Rattle.fx_frame.specs.Holds.{kinds}
 use Rattle.fx_line.specs.Line.{Said}
+use Rattle.fx_plan.specs.Bounds.{work_of}
 use Rattle.fx_plan.specs.Planning.{planning}
 use Rattle.fx_sound.specs.Known.{IfKnown}
 use Rattle.fx_sound.specs.Source.{Held, to_come}
@@ -37,6 +39,11 @@ pub record Finished {R W : Type 0} (rest : R → Option (List ℕ)) (told reads 
   pub stopped : IfErr outcome (λ f. IfKnown (to_come rest source) (λ bytes.
       StoppedAt effect_acts ready.prepared.chain.flow at (target_for (planning ready.prepared.plan)) (start_of ready.prepared.plan.head) bytes (sound_frames (start_of ready.prepared.plan.head) (report_at f).frames_in bytes) (taken writer) (taken new_writer) f))
   pub read_failed : IfErr outcome (λ f. cause_of f ≡ Causes.ReadFailed → RanToFailure told source new_source.reader (start_of ready.prepared.plan.head) (report_at f).frames_in)
+  -- the counts: no frame was read past those that are enough for some effect
+  pub wants : WantsMore (kinds effect_acts ready.prepared.chain.flow.stages) (report_in outcome).frames_in
+  pub clips : (report_in outcome).clips ≡ clips_now effect_acts at.stages
+  pub moves : (report_in outcome).moves ≡ moves_of effect_acts at
+  pub work : (report_in outcome).moves ≤ work_of (planning ready.prepared.plan).acts (report_in outcome).frames_in
   pub causes : MatchResult outcome
       (λ _. (reads new_source.reader ≡ reads source.reader) × (writes new_writer ≡ writes writer))
       (λ f. HasCause (cause_of f) (reads source.reader) (reads new_source.reader) (writes writer) (writes new_writer))
