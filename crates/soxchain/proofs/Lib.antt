@@ -1,2 +1,3 @@
+pub mod Concluding
 pub mod Converting
 pub mod TellingLemmas

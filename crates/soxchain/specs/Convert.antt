@@ -28,11 +28,10 @@ use Rattle.fx_sound.specs.Sound.{at_most_announced, size_of}
 use Rattle.fx_sound.specs.Source.{Held}
 use Rattle.fx_stages.specs.declared.stage.EffectStage.{EffectStage}
 use Rattle.fx_stages.specs.Effects.{effect_acts}
-use Rattle.soxchain.specs.declared.conversion.Stop.{Stop}
-use Rattle.soxchain.specs.declared.conversion.Stop.TheVariants as Stops
 use Rattle.soxchain.specs.declared.preparing.Refusal.{Refusal}
 use Rattle.soxchain.specs.declared.preparing.Refusal.TheVariants as Refusals
 use Rattle.soxchain.specs.Preparing.{RefusalHasCause}
+use Rattle.soxchain.specs.Stops.{Stop, Refused, Run}
 
 -- the bytes begin with this head, which says that the sound begins at that place
 pub record Begins (expected : Option Kind) (bytes : List ℕ) (h : Head) (offset : ℕ) : Type 0 where
@@ -76,8 +75,8 @@ pub record Stopped {R : Type 0} (told : R → ℕ) (line : Said) (files : List (
 
 -- a stop is answered only where its cause was counted
 abbrev pub StopHasCause : Stop → ℕ → ℕ → ℕ → ℕ → Type 0
-StopHasCause (Stops.Refused r) reads new_reads writes new_writes = RefusalHasCause r reads new_reads
-StopHasCause (Stops.Run f) reads new_reads writes new_writes = HasCause (cause_of f) reads new_reads writes new_writes
+StopHasCause (Refused r) reads new_reads writes new_writes = RefusalHasCause r reads new_reads
+StopHasCause (Run f) reads new_reads writes new_writes = HasCause (cause_of f) reads new_reads writes new_writes
 
 -- the bytes begin with a head behind which the plan of the line is refused, by its first fault or for want of memory
 pub record Unplanned (line : Said) (files : List (List ℕ)) (bytes : List ℕ) (f : PlanFault) : Type 0 where
@@ -93,9 +92,9 @@ pub record Converted {R W : Type 0} (rest : R → Option (List ℕ)) (told reads
   pub all_flushed : IfOk outcome (λ _. flushed new_writer ≡ true)
   pub unfailed : IfOk outcome (λ _. (reads new_reader ≡ reads reader) × (writes new_writer ≡ writes writer))
   -- what is refused before the run has written nothing
-  pub clean : (r : Refusal) → outcome ≡ Err (Stops.Refused r) → new_writer ≡ writer
-  pub refused : (f : HeadFault) → outcome ≡ Err (Stops.Refused (Refusals.Head f)) → f ≢ HeadFaults.ReadFailed → IfKnown (rest reader) (λ bytes. head_of line.input_kind bytes ≡ Err f)
-  pub cut : outcome ≡ Err (Stops.Refused (Refusals.Head HeadFaults.ReadFailed)) → (new : Held R) × CutOff rest told (head_of line.input_kind) (record { bytes = []; reader = reader }) new × (new.reader ≡ new_reader)
-  pub unplanned : (f : PlanFault) → outcome ≡ Err (Stops.Refused (Refusals.Plan f)) → IfKnown (rest reader) (λ bytes. Unplanned line files bytes f)
-  pub stopped : (f : RunFault) → outcome ≡ Err (Stops.Run f) → IfKnown (rest reader) (λ bytes. Stopped told line files bytes reader new_reader (taken writer) (taken new_writer) f)
+  pub clean : (r : Refusal) → outcome ≡ Err (Refused r) → new_writer ≡ writer
+  pub refused : (f : HeadFault) → outcome ≡ Err (Refused (Refusals.Head f)) → f ≢ HeadFaults.ReadFailed → IfKnown (rest reader) (λ bytes. head_of line.input_kind bytes ≡ Err f)
+  pub cut : outcome ≡ Err (Refused (Refusals.Head HeadFaults.ReadFailed)) → (new : Held R) × CutOff rest told (head_of line.input_kind) (record { bytes = []; reader = reader }) new × (new.reader ≡ new_reader)
+  pub unplanned : (f : PlanFault) → outcome ≡ Err (Refused (Refusals.Plan f)) → IfKnown (rest reader) (λ bytes. Unplanned line files bytes f)
+  pub stopped : (f : RunFault) → outcome ≡ Err (Run f) → IfKnown (rest reader) (λ bytes. Stopped told line files bytes reader new_reader (taken writer) (taken new_writer) f)
   pub causes : (s : Stop) → outcome ≡ Err s → StopHasCause s (reads reader) (reads new_reader) (writes writer) (writes new_writer)

@@ -5,4 +5,5 @@ pub mod Messages
 pub mod Preparing
 pub mod Program
 pub mod Readying
+pub mod Stops
 pub mod Telling

@@ -14,10 +14,9 @@ use Rattle.fx_plan.specs.CommandLines.{effect_words, effects_in}
 use Rattle.fx_plan.specs.Faults.{Word}
 use Rattle.fx_sound.specs.declared.head.HeadFault.{HeadFault}
 use Rattle.fx_sound.specs.declared.head.HeadFault.TheVariants as HeadFaults
-use Rattle.soxchain.specs.declared.conversion.Stop.{Stop}
-use Rattle.soxchain.specs.declared.conversion.Stop.TheVariants.{Refused, Run}
 use Rattle.soxchain.specs.declared.preparing.Refusal.{Refusal}
 use Rattle.soxchain.specs.declared.preparing.Refusal.TheVariants as refusals
+use Rattle.soxchain.specs.Stops.{Stop, Refused, Run}
 
 -- the end of a line
 abbrev pub line_feed : List ℕ

@@ -7,11 +7,10 @@ use Rattle.fx_line.specs.declared.line.LineFault.TheVariants as LineFaults
 use Rattle.fx_line.specs.Line.{Said}
 use Rattle.fx_plan.specs.declared.fault.PlanCause.{PlanCause}
 use Rattle.fx_plan.specs.declared.fault.PlanCause.TheVariants.{Memory}
-use Rattle.soxchain.specs.declared.conversion.Stop.{Stop}
-use Rattle.soxchain.specs.declared.conversion.Stop.TheVariants.{Refused, Run}
 use Rattle.soxchain.specs.declared.preparing.Refusal.{Refusal}
 use Rattle.soxchain.specs.declared.preparing.Refusal.TheVariants.{Head, Plan, Chain}
 use Rattle.soxchain.specs.Messages.{line_label, line_message, outcome_messages}
+use Rattle.soxchain.specs.Stops.{Stop, Refused, Run}
 
 -- 1 for a command line that is refused, and 2 where memory was wanting
 abbrev pub status_of_line : LineFault → ℕ

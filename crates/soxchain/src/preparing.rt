@@ -10,11 +10,13 @@ ghost use Rattle.fx_sound.specs.Known.{IfKnown};
 ghost use Rattle.fx_sound.specs.Reads.{Fails, Refuses};
 ghost use Rattle.fx_sound.specs.Source.{to_come};
 ghost use Rattle.soxchain.specs.Preparing.{PlanIsRefused, RefusalHasCause};
+ghost use Rattle.soxchain.specs.Program.{status_of_line, status_of_refusal};
 
 use crate::prepared::Prepared;
 use fx_chain::Chain;
 use fx_frame::ByteIn;
-use fx_plan::{CommandLine, PlanFault, plan};
+use fx_line::LineFault;
+use fx_plan::{CommandLine, PlanCause, PlanFault, plan};
 use fx_sound::{HeadFault, Source, read_head};
 use std::alloc::{AllocError, Global};
 
@@ -62,5 +64,27 @@ pub fn prepare_line<R: ByteIn>(
     match Chain::new(alloc, &plan) {
         Ok(chain) => Ok(Prepared { plan, chain }),
         Err(AllocError) => Err(Refusal::Chain),
+    }
+}
+
+impl Refusal {
+    /// The status where a conversion was refused.
+    pub fn status(&self) -> u8
+        ensures { result ≡ status_of_refusal self.now }
+    {
+        match self {
+            Refusal::Plan(fault) if fault.cause != PlanCause::Memory => 1,
+            _ => 2,
+        }
+    }
+}
+
+/// The status where a command line is refused.
+pub fn status_of_fault(fault: LineFault) -> u8
+    ensures { result ≡ status_of_line fault }
+{
+    match fault {
+        LineFault::Memory => 2,
+        _ => 1,
     }
 }

@@ -13,10 +13,9 @@ ghost use Rattle.soxchain.specs.Finishing.{Finished};
 ghost use Rattle.soxchain.specs.Readying.{LineRefused, LineUnready};
 ghost use Rattle.soxchain.specs.Telling.{Tells};
 
-use crate::conversion::status_of_fault;
 use crate::messages::{label_of_line, tell_fault, tell_line, tell_refusal, tell_warnings};
 use crate::prepared::{Prepared, Ready};
-use crate::preparing::prepare_line;
+use crate::preparing::{prepare_line, status_of_fault};
 use crate::telling::Telling;
 use fx_chain::{Report, run};
 use fx_frame::{ByteIn, ByteOut};
@@ -49,6 +48,7 @@ pub fn prepare<R: ByteIn, M: ByteOut>(
     ensures no_faults { IfOk result (λ ready. all_faults (head_layout ready.prepared.plan.head) (bytes_of files.now) (effects_in ready.line) ≡ []) }
     ensures planned { IfOk result (λ ready. planning ready.prepared.plan ≡ planning_in ready.prepared.plan.head ready.line (bytes_of files.now)) }
     ensures chain { IfOk result (λ ready. IsNewChain (planning ready.prepared.plan) ready.prepared.chain) }
+    ensures unfailed { OnOk result (R.failures source.new.reader ≡ R.failures source.old.reader) }
     ensures silent { OnOk result (messages.new ≡ messages.old) }
 
     // The line is refused, or what it asks for is.

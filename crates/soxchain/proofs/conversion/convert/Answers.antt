@@ -1,22 +1,32 @@
-use Rattle.std.proofs.Common.{rules, ◌≡◌, refl, sym, ap, ◌∙◌}
-use Rattle.std.specs.Prelude.{Result, Ok, Err}
-use Rattle.soxchain.proofs.TellingLemmas.{Tells-first}
+use Rattle.std.proofs.Common.{rules, ◌≡◌, ◌∙◌, refl, sym, ap}
+use Rattle.fx_line.specs.Line.{texts}
+use Rattle.fx_plan.specs.Plans.{bytes_of}
+use Rattle.soxchain.specs.Telling.{Tells}
+use Rattle.soxchain.proofs.Concluding.{concluded, refused}
+use Rattle.soxchain.proofs.Converting.{held-is}
 use Rattle.soxchain.proofs.conversion.convert.Goals as goal
 
 pub returns-in-Err : goal.returns-in-Err
 returns-in-Err g c =
-    let told = rw (c.label_of_line.ensures) at c.tell_line.ensures in
-    (Err c.in-Err.fault, c.in-Err.ensures, (c.status_of_fault.ensures, c.none.ensures, (refl, refl), Tells-first _ _ _ _ _ _ _ c.new-telling.ensures told))
+    let new = c.new-source.ensures in
+    rw (c.none.ensures) (refused g.R.ByteIn.rest g.R.ByteIn.told g.R.ByteIn.failures g.W.ByteOut.taken g.W.ByteOut.flushed g.W.ByteOut.failures (texts c.args.words.now) (bytes_of c.args.files.now) c.args.reader
+    (Tells (g.M.ByteOut.taken c.args.messages.now) (g.M.ByteOut.taken c.prepare.new.messages) (g.M.ByteOut.failures c.args.messages.now) (g.M.ByteOut.failures c.prepare.new.messages))
+    c.prepare.new.source c.args.output.now c.into_inner.result c.in-Err.status c.into_inner.ensures (rw (held-is c.new-source.result c.args.reader new.bytes new.reader) at c.in-Err.ensures.refused))
 
 pub returns : goal.returns
-returns g c = (
-  Ok c.in-Ok.line,
-  c.in-Ok.ensures,
-  record {
-    outcome = c.convert_line-outcome.result.0;
-    is = c.convert_line-outcome.ensures;
-    status_is = c.tell_outcome-status.ensures.status;
-    report_is = c.tell_outcome-status.ensures.report;
-    told = Tells-first _ _ _ _ _ _ _ c.new-telling.ensures c.tell_outcome-status.ensures.told;
-  },
-)
+returns g c =
+    let new = c.new-source.ensures in
+    let told = c.in-Ok.ensures in
+    let start = held-is c.new-source.result c.args.reader new.bytes new.reader in
+    concluded g.R.ByteIn.rest g.R.ByteIn.told g.R.ByteIn.failures g.W.ByteOut.taken g.W.ByteOut.flushed g.W.ByteOut.failures (texts c.args.words.now) (bytes_of c.args.files.now) c.args.reader
+    (Tells (g.M.ByteOut.taken c.args.messages.now) (g.M.ByteOut.taken c.finish-status.new.messages) (g.M.ByteOut.failures c.args.messages.now) (g.M.ByteOut.failures c.finish-status.new.messages))
+    c.prepare.new.source c.finish-status.new.source c.in-Ok.ready c.args.output.now c.finish-status.new.output c.into_inner-2.result c.finish-status.result.0 c.finish-status.result.1
+    (record {
+      line = told.line;
+      head = rw start at told.head;
+      no_faults = told.no_faults;
+      planned = told.planned;
+      chain = told.chain;
+      unfailed = told.unfailed ∙ ap g.R.ByteIn.failures new.reader;
+    })
+    (rw (told.silent) at c.finish-status.ensures) c.into_inner-2.ensures

@@ -1,0 +1,183 @@
+-- A conversion, concluded from its two halves: what is prepared, and what is finished.
+use Rattle.std.proofs.Common.{rules, ◌≡◌, ℕ, List, [], refl, sym, ap, subst, ◌∙◌, ◌⊎◌, inl, inr, drop}
+use Rattle.std.specs.Prelude.{Bool, Option, Result, Ok, Err, IfOk}
+use Rattle.fx_chain.specs.declared.report.Report.{Report}
+use Rattle.fx_chain.specs.declared.report.RunFault.{RunFault}
+use Rattle.fx_chain.specs.Chain.{IsNewChain}
+use Rattle.fx_chain.specs.Report.{no_report, report_at, report_in, start_of}
+use Rattle.fx_line.specs.declared.line.LineFault.{LineFault}
+use Rattle.fx_line.specs.Line.{Said, line_of}
+use Rattle.fx_plan.specs.CommandLines.{LineReads, effects_in, planning_in}
+use Rattle.fx_plan.specs.Effects.{head_layout}
+use Rattle.fx_plan.specs.Planning.{planning}
+use Rattle.fx_plan.specs.Plans.{all_faults}
+use Rattle.fx_sound.specs.declared.head.HeadFault.TheVariants.{ReadFailed}
+use Rattle.fx_sound.specs.Head.{ReadsHead}
+use Rattle.fx_sound.specs.Known.{IfKnown}
+use Rattle.fx_sound.specs.Source.{Held, to_come}
+use Rattle.soxchain.specs.declared.prepared.Ready.{Ready}
+use Rattle.soxchain.specs.declared.preparing.Refusal.{Refusal}
+use Rattle.soxchain.specs.declared.preparing.Refusal.TheVariants.{Head, Plan}
+use Rattle.soxchain.specs.Convert.{Begins, Converted, Running, StopHasCause, Stopped}
+use Rattle.soxchain.specs.Finishing.{Finished, run_messages, run_status}
+use Rattle.soxchain.specs.Program.{Answers, Concludes}
+use Rattle.soxchain.specs.Readying.{LineRefused, LineUnready}
+use Rattle.soxchain.specs.Stops.{Stop, Refused, Run}
+use Rattle.soxchain.proofs.Converting.{Ran-told, to_come-start}
+
+-- a source that holds nothing yet
+abbrev pub fresh : {R : Type 0} → R → Held R
+fresh reader = record { bytes = []; reader = reader }
+
+-- the line that the words are is read
+pub line-reads : (found : Result Said LineFault) (line : Said) → found ≡ Ok line → LineReads found (Ok line)
+line-reads found line h = subst (λ (x : Result Said LineFault). LineReads x (Ok line)) (sym h) refl
+
+module _ {R W : Type 0} (rest : R → Option (List ℕ)) (told reads : R → ℕ) (taken : W → Option (List ℕ)) (flushed : W → Bool) (writes : W → ℕ)
+    (words files : List (List ℕ)) (reader : R) (IsTold : List ℕ → Type 0) where
+  -- what a conversion comes to
+  abbrev pub Concluded : W → W → R → ℕ → Report → Type 0
+  Concluded writer new_writer inner status report =
+      (found : Result Said LineFault) × LineReads (line_of words) found × Concludes (λ line. Converted rest told reads taken flushed writes line files reader inner writer new_writer) ((inner ≡ reader) × (new_writer ≡ writer)) IsTold status report found
+
+  -- nothing was ready: the line, the head or the plan was refused, or memory was wanting
+  pub refused : (new : Held R) (writer : W) (inner : R) (status : ℕ) → inner ≡ new.reader
+      → LineRefused words (fresh reader) new IsTold status ⊎ LineUnready rest told reads words files (fresh reader) new IsTold status
+      → Concluded writer writer inner status no_report
+  refused new writer inner status is (inl r) =
+      (Err r.fault, r.reads, (r.status_is, refl, (is ∙ ap (λ (s : Held R). s.reader) r.unread, refl), r.told))
+  refused new writer inner status is (inr u) = (
+    Ok u.line,
+    line-reads (line_of words) u.line u.is_line,
+    record {
+      outcome = Err (Refused u.refusal);
+      is = record {
+        whole = tt;
+        all_flushed = tt;
+        unfailed = tt;
+        clean = λ r e. refl;
+        refused = λ f e other bytes known.
+            let same : u.refusal ≡ Head f = cc in
+            u.head_refused f same other bytes (to_come-start rest (fresh reader) reader bytes refl refl known);
+        cut = λ e.
+            let same : u.refusal ≡ Head ReadFailed = cc in
+            (new, u.head_cut ReadFailed same refl, sym is);
+        unplanned = λ f e bytes known.
+            let same : u.refusal ≡ Plan f = cc in
+            let found = u.plan_refused f same in
+            let head = found.read bytes (to_come-start rest (fresh reader) reader bytes refl refl known) in
+            record {
+              head = found.head;
+              offset = head.offset;
+              begins = record { spelt = head.spelt; there = head.there; near = head.near };
+              refuses = found.refuses;
+            };
+        stopped = λ f e. absurd (cc);
+        causes = λ s e.
+            let same : Refused u.refusal ≡ s = cc in
+            subst (λ (t : Stop). StopHasCause t (reads reader) (reads inner) (writes writer) (writes writer)) same (rw (← is) at u.cause);
+      };
+      status_is = u.status_is;
+      report_is = refl;
+      told = u.told;
+    },
+  )
+
+  -- what was ready when a run began
+  pub record Began (middle : Held R) (ready : Ready) : Type 0 where
+    pub line : line_of words ≡ Ok ready.line
+    pub head : IfKnown (to_come rest (fresh reader)) (λ bytes. ReadsHead rest told ready.line.input_kind bytes (fresh reader) middle ready.prepared.plan.head)
+    pub no_faults : all_faults (head_layout ready.prepared.plan.head) files (effects_in ready.line) ≡ []
+    pub planned : planning ready.prepared.plan ≡ planning_in ready.prepared.plan.head ready.line files
+    pub chain : IsNewChain (planning ready.prepared.plan) ready.prepared.chain
+    pub unfailed : reads middle.reader ≡ reads reader
+
+  module _ (middle new : Held R) (ready : Ready) (writer new_writer : W) (inner : R) (status : ℕ) (report : Report)
+      (began : Began middle ready) (f : Finished rest told reads taken flushed writes ready middle new writer new_writer IsTold status report) (is : inner ≡ new.reader) where
+    -- the head that the bytes begin with
+    abbrev pub head-in : (bytes : List ℕ) → rest reader ≡ Option.Some bytes → ReadsHead rest told ready.line.input_kind bytes (fresh reader) middle ready.prepared.plan.head
+    head-in bytes known = began.head bytes (to_come-start rest (fresh reader) reader bytes refl refl known)
+
+    -- the run, as far as it came
+    abbrev pub running : (bytes : List ℕ) (r : Report) → rest reader ≡ Option.Some bytes → report_in f.outcome ≡ r → Running ready.line files bytes r
+    running bytes r known e =
+        let head = head-in bytes known in
+        record {
+          plan = planning ready.prepared.plan;
+          offset = head.offset;
+          begins = record { spelt = head.spelt; there = head.there; near = head.near };
+          no_faults = began.no_faults;
+          planned = began.planned;
+          start = ready.prepared.chain.flow;
+          made = began.chain.made;
+          gives = began.chain.gives;
+          wholes = began.chain.wholes;
+          wants = rw e at f.wants;
+          at = f.at;
+          clips = rw e at f.clips;
+          moves = rw e at f.moves;
+          work = rw e at f.work;
+        }
+
+    -- what was ready ran, and the run ended so
+    pub ran : (o : Result Report RunFault) → f.outcome ≡ o → Concluded writer new_writer inner status report
+    ran (Ok r) e = (
+      Ok ready.line,
+      line-reads (line_of words) ready.line began.line,
+      record {
+        outcome = Ok r;
+        is = record {
+          whole = λ bytes known.
+              let head = head-in bytes known in
+              record { run = running bytes r known (ap report_in e); completed = rw e at f.completed (drop head.offset bytes) head.others };
+          all_flushed = rw e at f.all_flushed;
+          unfailed = let went = rw e at f.causes in (ap reads is ∙ went.0 ∙ began.unfailed, went.1);
+          clean = λ r e. absurd (cc);
+          refused = λ f e. absurd (cc);
+          cut = λ e. absurd (cc);
+          unplanned = λ f e. absurd (cc);
+          stopped = λ f e. absurd (cc);
+          causes = λ s e. absurd (cc);
+        };
+        status_is = f.status_is ∙ ap run_status e;
+        report_is = f.report_is ∙ ap report_in e;
+        told = rw e at f.told_is;
+      },
+    )
+    ran (Err fault) e = (
+      Ok ready.line,
+      line-reads (line_of words) ready.line began.line,
+      record {
+        outcome = Err (Run fault);
+        is = record {
+          whole = tt;
+          all_flushed = tt;
+          unfailed = tt;
+          clean = λ r e. absurd (cc);
+          refused = λ f e. absurd (cc);
+          cut = λ e. absurd (cc);
+          unplanned = λ f e. absurd (cc);
+          stopped = λ x h bytes known.
+              let same : fault ≡ x = cc in
+              let head = head-in bytes known in
+              let told-of = Ran-told told (fresh reader) middle reader new.reader (start_of ready.prepared.plan.head) head.offset (report_at fault).frames_in refl refl head.tells in
+              subst (λ (y : RunFault). Stopped told ready.line files bytes reader inner (taken writer) (taken new_writer) y) same
+              (record {
+                run = running bytes (report_at fault) known (ap report_in e);
+                stopped = rw e at f.stopped (drop head.offset bytes) head.others;
+                past_head = λ c few. rw (← is) at (told-of (rw e at f.read_failed c) (rw is at few)).0;
+                read_failed = λ c few. rw (← is) at (told-of (rw e at f.read_failed c) (rw is at few)).1;
+              });
+          causes = λ s h.
+              let same : Run fault ≡ s = cc in
+              subst (λ (t : Stop). StopHasCause t (reads reader) (reads inner) (writes writer) (writes new_writer)) same (rw (← is, began.unfailed, e) at f.causes);
+        };
+        status_is = f.status_is ∙ ap run_status e;
+        report_is = f.report_is ∙ ap report_in e;
+        told = rw e at f.told_is;
+      },
+    )
+
+    -- what was ready ran
+    pub concluded : Concluded writer new_writer inner status report
+    concluded = ran f.outcome refl
