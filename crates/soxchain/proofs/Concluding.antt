@@ -1,6 +1,6 @@
 -- A conversion, concluded from its two halves: what is prepared, and what is finished.
-use Rattle.std.proofs.Common.{rules, ◌≡◌, ℕ, List, [], refl, sym, ap, subst, ◌∙◌, ◌⊎◌, inl, inr, drop}
-use Rattle.std.specs.Prelude.{Bool, Option, Result, Ok, Err, IfOk}
+use Rattle.std.proofs.Common.{◌≡◌, ℕ, List, [], refl, sym, ap, subst, ◌∙◌, ◌⊎◌, inl, inr, drop}
+use Rattle.std.specs.Prelude.{Bool, Option, Result, Ok, Err}
 use Rattle.fx_chain.specs.declared.report.Report.{Report}
 use Rattle.fx_chain.specs.declared.report.RunFault.{RunFault}
 use Rattle.fx_chain.specs.Chain.{IsNewChain}
@@ -16,11 +16,10 @@ use Rattle.fx_sound.specs.Head.{ReadsHead}
 use Rattle.fx_sound.specs.Known.{IfKnown}
 use Rattle.fx_sound.specs.Source.{Held, to_come}
 use Rattle.soxchain.specs.declared.prepared.Ready.{Ready}
-use Rattle.soxchain.specs.declared.preparing.Refusal.{Refusal}
 use Rattle.soxchain.specs.declared.preparing.Refusal.TheVariants.{Head, Plan}
-use Rattle.soxchain.specs.Convert.{Begins, Converted, Running, StopHasCause, Stopped}
-use Rattle.soxchain.specs.Finishing.{Finished, run_messages, run_status}
-use Rattle.soxchain.specs.Program.{Answers, Concludes}
+use Rattle.soxchain.specs.Convert.{Converted, Running, StopHasCause, Stopped}
+use Rattle.soxchain.specs.Finishing.{Finished, run_status}
+use Rattle.soxchain.specs.Program.{Concludes}
 use Rattle.soxchain.specs.Readying.{LineRefused, LineUnready}
 use Rattle.soxchain.specs.Stops.{Stop, Refused, Run}
 use Rattle.soxchain.proofs.Converting.{Ran-told, to_come-start}

@@ -1,4 +1,4 @@
-use Rattle.std.proofs.Common.{rules, ◌≡◌, ◌∙◌, refl, sym, ap}
+use Rattle.std.proofs.Common.{◌∙◌, ap}
 use Rattle.fx_line.specs.Line.{texts}
 use Rattle.fx_plan.specs.Plans.{bytes_of}
 use Rattle.soxchain.specs.Telling.{Tells}

@@ -1,4 +1,3 @@
-use Rattle.std.proofs.Common.{rules, ◌≡◌, ◌++◌, List}
 use Rattle.soxchain.proofs.TellingLemmas.{TellsMore-then}
 use Rattle.soxchain.proofs.messages.tell_effect.Goals as goal
 

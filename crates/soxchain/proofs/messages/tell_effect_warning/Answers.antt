@@ -1,4 +1,4 @@
-use Rattle.std.proofs.Common.{rules, ◌≡◌, ◌++◌, List, arith}
+use Rattle.std.proofs.Common.{arith}
 use Rattle.std.proofs.lemmas.Bool.Decides.{nat_tests}
 use Rattle.soxchain.proofs.TellingLemmas.{TellsMore-then, effect_warning-counted}
 use Rattle.soxchain.proofs.messages.tell_effect_warning.Goals as goal

@@ -1,5 +1,4 @@
-use Rattle.std.proofs.Common.{rules, ◌≡◌, ◌++◌, ◌+◌, ◌<◌, ◌≤◌, List, arith}
-use Rattle.std.proofs.lemmas.Bool.Decides.{nat_tests}
+use Rattle.std.proofs.Common.{arith}
 use Rattle.soxchain.proofs.TellingLemmas.{TellsMore-then, effect_warnings-more}
 use Rattle.soxchain.proofs.messages.tell_effect_warnings.Goals as goal
 

@@ -1,4 +1,4 @@
-use Rattle.std.proofs.Common.{◌-◌, ◌≡◌, ◌≤◌}
+use Rattle.std.proofs.Common.{◌-◌, ◌≤◌}
 use Rattle.fx_plan.specs.CommandLines.{effects_in}
 use Rattle.soxchain.specs.Messages.{effect_warnings}
 use Rattle.soxchain.specs.Telling.{TellsMore}

@@ -1,4 +1,4 @@
-use Rattle.std.proofs.Common.{◌≡◌, ◌<◌, arith}
+use Rattle.std.proofs.Common.{◌<◌, arith}
 use Rattle.soxchain.proofs.TellingLemmas.{warning-counted}
 use Rattle.soxchain.proofs.messages.tell_warning.Goals as goal
 

@@ -1,4 +1,4 @@
-use Rattle.std.proofs.Common.{rules, ◌≡◌}
+use Rattle.std.proofs.Common.{◌≡◌}
 use Rattle.soxchain.proofs.preparing.prepare_line.Goals as goal
 
 pub returns-in-Err-plan-clause-plan_refused : goal.returns-in-Err-plan-clause-plan_refused

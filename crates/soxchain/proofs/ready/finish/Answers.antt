@@ -1,4 +1,4 @@
-use Rattle.std.proofs.Common.{rules, ◌≡◌, refl, sym, ap}
+use Rattle.std.proofs.Common.{refl}
 use Rattle.std.specs.Prelude.{Ok, Err}
 use Rattle.soxchain.proofs.TellingLemmas.{Tells-first}
 use Rattle.soxchain.proofs.ready.finish.Goals as goal

@@ -1,4 +1,4 @@
-use Rattle.std.proofs.Common.{rules, ◌≡◌, refl, sym, ap, inl, inr}
+use Rattle.std.proofs.Common.{refl, ap, inl, inr}
 use Rattle.std.specs.Prelude.{Err}
 use Rattle.soxchain.specs.declared.preparing.Refusal.{Refusal}
 use Rattle.soxchain.proofs.Converting.{line-read}

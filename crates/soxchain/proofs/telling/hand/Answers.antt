@@ -1,4 +1,4 @@
-use Rattle.std.proofs.Common.{◌∙◌, arith, length}
+use Rattle.std.proofs.Common.{◌∙◌, arith}
 use Rattle.soxchain.proofs.TellingLemmas.{Appends-part, part-within}
 use Rattle.soxchain.proofs.telling.hand.Goals as goal
 
