@@ -31,21 +31,18 @@ impl Outcome {
 fn call_of(failing: Failing, bytes: usize, piece: usize) -> (u64, bool)
     requires { 0 < piece }
 {
+    let begun = u64::from(bytes % piece > 0);
     match failing {
         Failing::Never => (0, false),
-        Failing::Behind => (
-            (bytes / piece) as u64 + u64::from(bytes % piece > 0) + 1,
-            true,
-        ),
+        Failing::Behind => (((bytes / piece) as u64).saturating_add(begun + 1), true),
         Failing::Once(call) => (call, false),
         Failing::Ever(call) => (call, true),
     }
 }
 
-/// The devices of a row: its reader, its writer, and the writer of its messages.
-fn devices(alloc: Global, row: &Row, piece: usize) -> Result<(Tape, Sink, Sink), AllocError>
-    requires { 0 < piece }
-{
+/// The devices of a row: its reader, its writer, and the writer of its messages. A call moves at least one byte.
+fn devices(alloc: Global, row: &Row, piece: usize) -> Result<(Tape, Sink, Sink), AllocError> {
+    let piece = piece.max(1);
     let (call, for_good) = call_of(row.reader, row.input.len(), piece);
     let reader = Tape::new(Vec::from_slice(alloc, &row.input)?, piece, call, for_good);
     let (call, for_good) = call_of(row.writer, row.room, piece);
@@ -60,9 +57,7 @@ pub fn at_once(
     row: &Row,
     words: &[String],
     piece: usize,
-) -> Result<Outcome, AllocError>
-    requires { 0 < piece }
-{
+) -> Result<Outcome, AllocError> {
     let (reader, mut output, mut messages) = devices(alloc, row, piece)?;
     let (status, report, _reader) = convert(
         alloc,
@@ -86,9 +81,7 @@ pub fn in_two(
     row: &Row,
     words: &[String],
     piece: usize,
-) -> Result<Outcome, AllocError>
-    requires { 0 < piece }
-{
+) -> Result<Outcome, AllocError> {
     let (reader, mut output, mut messages) = devices(alloc, row, piece)?;
     let mut source = Source::new(reader);
     let (status, report) = match prepare(alloc, words, &row.files, &mut source, &mut messages) {

@@ -29,12 +29,15 @@ pub struct Row {
     pub writer: Failing,
     pub room: usize,
     pub messages_room: usize,
-    /// The most bytes that a call moves, where it was said.
-    pub piece: Option<usize>,
+    /// The most bytes that a call moves, for each way to try it.
+    pub pieces: Vec<usize>,
 }
 
 /// The bytes that a device in memory takes where nothing else is said.
 const ROOM: usize = 4096;
+
+/// The sizes of pieces in which a row is tried where it names none.
+const PIECES: [usize; 3] = [4096, 5, 1];
 
 impl Row {
     /// A row of this name, of which nothing was said.
@@ -47,7 +50,7 @@ impl Row {
             writer: Failing::Never,
             room: ROOM,
             messages_room: ROOM,
-            piece: None,
+            pieces: Vec::from_slice(alloc, &PIECES)?,
         })
     }
 
@@ -193,8 +196,12 @@ fn keep(alloc: Global, row: &mut Row, word: &str, text: &str) -> Result<bool, Al
             Ok(keep_device(&mut failing, &mut row.messages_room, text))
         }
         "pieces" => {
-            row.piece = text.parse::<usize>().ok().filter(|piece| *piece > 0);
-            Ok(row.piece.is_some())
+            let Ok(piece) = text.parse::<usize>() else {
+                return Ok(false);
+            };
+            row.pieces.clear();
+            row.pieces.push(piece)?;
+            Ok(true)
         }
         _ => keep_input(row, word, text),
     }

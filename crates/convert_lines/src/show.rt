@@ -5,9 +5,6 @@ use crate::row::Row;
 use soxchain::Report;
 use std::{io, str};
 
-/// The sizes of pieces in which a row is tried where it names none.
-const PIECES: [usize; 3] = [4096, 5, 1];
-
 /// Prints bytes in hexadecimal digits, four bytes a word.
 fn show_bytes(rt: &HostRuntime, bytes: &[u8]) -> io::Result<()> {
     print!(rt; " ")?;
@@ -77,13 +74,15 @@ fn show_other(rt: &HostRuntime, name: &str, first: &Outcome, other: &Outcome) ->
 /// Prints what comes of converting a row.
 pub fn show_row(rt: &HostRuntime, row: &Row, words: &[String]) -> io::Result<()> {
     let name = row.name.as_str();
-    let first = at_once(rt.alloc(), row, words, row.piece.unwrap_or(4096))?;
+    let Some(piece) = row.pieces.first() else {
+        return Ok(());
+    };
+    let first = at_once(rt.alloc(), row, words, *piece)?;
     show_outcome(rt, name, &first)?;
-    for piece in PIECES {
-        let piece = row.piece.unwrap_or(piece);
-        let whole = at_once(rt.alloc(), row, words, piece)?;
+    for piece in &row.pieces {
+        let whole = at_once(rt.alloc(), row, words, *piece)?;
         show_other(rt, name, &first, &whole)?;
-        let parts = in_two(rt.alloc(), row, words, piece)?;
+        let parts = in_two(rt.alloc(), row, words, *piece)?;
         show_other(rt, name, &first, &parts)?;
     }
     Ok(())
