@@ -1,8 +1,8 @@
 -- What a plan says of its effects holds of its chain.
-use Rattle.std.proofs.Common.{◌≡◌, ℕ, suc, ◌+◌, ◌*◌, ◌^◌, ◌≤◌, ◌<◌, List, [], ◌∷◌, length, map, true, false, refl, sym, ap, ◌∙◌, arith}
+use Rattle.std.proofs.Common.{◌≡◌, ℕ, suc, ◌+◌, ◌*◌, ◌^◌, ◌≤◌, List, [], ◌∷◌, length, map, true, false, refl, sym, ap, ◌∙◌, arith}
 use Rattle.std.specs.List.{All}
-use Rattle.fx_chain.specs.Chain.{ChainParts, IsChain, planned}
-use Rattle.fx_flow.specs.Parts.{Parts, most_of, work}
+use Rattle.fx_chain.specs.Chain.{ChainParts, IsChain}
+use Rattle.fx_flow.specs.Parts.{most_of, work}
 use Rattle.fx_flow.specs.Sound.{IsPlanned}
 use Rattle.fx_frame.specs.Holds.{hold_sum, kinds, line_sum, recipes, total}
 use Rattle.fx_frame.specs.Stage.{Kind}
@@ -10,7 +10,7 @@ use Rattle.fx_plan.specs.Bounds.{hold_all, is_too_long, line_of, work_of}
 use Rattle.fx_plan.specs.Effects.{Act, Usable}
 use Rattle.fx_plan.proofs.Lasting.{work-bound}
 use Rattle.fx_stages.specs.declared.stage.EffectStage.{EffectStage}
-use Rattle.fx_stages.specs.Effects.{EffectRecipe, effect_acts, kind_of_recipe}
+use Rattle.fx_stages.specs.Effects.{effect_acts, kind_of_recipe}
 use Rattle.fx_stages.specs.Made.{all_suit, channels_after, recipes_for}
 use Rattle.fx_stages.proofs.KindLaws.{hold-for, kinds_for, line-is, matching-for, most-for, within-for, work-for}
 

@@ -3,3 +3,4 @@ pub mod Draining
 pub mod Passing
 pub mod Running
 pub mod Sending
+pub mod Thawing

@@ -1,5 +1,5 @@
 -- The chain of a plan's effects (this project's profile).
-use Rattle.std.specs.Prelude.{◌≡◌, ◌≤◌, false, ℕ, List, length}
+use Rattle.std.specs.Prelude.{◌≡◌, ◌≤◌, false, List, length}
 use Rattle.fx_chain.specs.declared.target.Target.{Target}
 use Rattle.fx_flow.specs.Parts.{Parts, Whole, composed, composed_wholes, given_by, taken_of}
 use Rattle.fx_flow.specs.Steps.{IsHungry, rest_of, wholes_of}

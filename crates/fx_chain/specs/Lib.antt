@@ -2,4 +2,5 @@ pub mod Chain
 pub mod Outlet
 pub mod Report
 pub mod Run
+pub mod Snapshot
 pub mod Through

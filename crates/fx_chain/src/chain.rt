@@ -24,7 +24,7 @@ use std::marker::Model;
 #[derive(Drop)]
 pub struct Chain {
     pub(crate) flow: Flow<EffectStage>,
-    plan: Plan,
+    pub(crate) plan: Plan,
 }
 
 impl Model for Chain {

@@ -9,8 +9,10 @@ mod outlet;
 mod plan_run;
 mod pump;
 mod report;
+mod snapshot;
 mod target;
 
 pub use chain::Chain;
 pub use plan_run::run;
 pub use report::{MOST_EFFECTS, Report, RunFault};
+pub use snapshot::Snapshot;

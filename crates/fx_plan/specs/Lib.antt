@@ -4,6 +4,7 @@ pub mod DcShift
 pub mod Delay
 pub mod Echo
 pub mod Effects
+pub mod Equality
 pub mod Factor
 pub mod Fade
 pub mod Faults

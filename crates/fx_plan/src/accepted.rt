@@ -12,7 +12,7 @@ use fx_sound::{Head, Kind};
 
 /// What is to be done to a sound, accepted: a chain of its effects holds at most `2^28` frames, and behind none of
 /// them is a sound of `2^40` frames longer than `2^56`.
-#[derive(Debug, Drop, PartialEq, Eq)]
+#[derive(Debug, Drop)]
 pub struct Plan {
     pub(crate) head: Head,
     pub(crate) kind: Kind,

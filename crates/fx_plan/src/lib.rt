@@ -6,6 +6,7 @@ mod answers;
 mod bounds;
 mod command_line;
 mod effect;
+mod equality;
 mod fault;
 mod groups;
 pub mod inner;

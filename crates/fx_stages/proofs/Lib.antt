@@ -1,2 +1,4 @@
 pub mod KindLaws
 pub mod Making
+pub mod NarrowLaws
+pub mod Thawing

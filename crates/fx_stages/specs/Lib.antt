@@ -1,2 +1,4 @@
 pub mod Effects
 pub mod Made
+pub mod Narrow
+pub mod Thawed

@@ -3,6 +3,8 @@
 
 pub mod make;
 pub mod stage;
+pub mod thaw;
 
 pub use make::stages_of;
 pub use stage::EffectStage;
+pub use thaw::{EffectArguments, arguments_of};

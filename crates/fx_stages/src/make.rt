@@ -72,7 +72,7 @@ fn stage_of(alloc: Global, channels: usize, effect: &Effect) -> Result<EffectSta
 }
 
 /// The channels of the frames that an effect gives.
-fn channels_after(channels: usize, effect: &Effect) -> usize
+pub fn channels_after(channels: usize, effect: &Effect) -> usize
     ensures { result ≡ Made.channels_after channels (act effect.now) }
 {
     match effect {

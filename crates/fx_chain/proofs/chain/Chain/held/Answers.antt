@@ -1,4 +1,3 @@
-use Rattle.std.proofs.Common.{rules, ◌≡◌, ◌≤◌, ◌+◌, arith}
 use Rattle.fx_chain.proofs.Chaining.{hold-is}
 use Rattle.fx_chain.proofs.chain.Chain.held.Goals as goal
 

@@ -1,0 +1,56 @@
+use Rattle.std.proofs.Common.{◌≤◌, map, refl, sym, ◌∙◌, arith}
+use Rattle.std.proofs.lemmas.List.{length-map}
+use Rattle.fx_chain.proofs.Chaining.{planned-is}
+use Rattle.fx_chain.proofs.Thawing.{IsChain-made, chain-same, channels-planned, made-planned, planned-made}
+use Rattle.fx_plan.specs.Effects.{act, head_layout}
+use Rattle.fx_plan.specs.Planning.{planning}
+use Rattle.fx_stages.proofs.Making.{suit-fit}
+use Rattle.fx_stages.proofs.Thawing.{fits-with}
+use Rattle.fx_chain.proofs.chain.Chain.thaw.Goals as goal
+
+pub thaw-frozen-requires-clause-fits : goal.thaw-frozen-requires-clause-fits
+thaw-frozen-requires-clause-fits c =
+    let told = c.effects.ensures in
+    let channels = c.head-channels.result.channels in
+    let acts = map act c.effects.result.now in
+    let some : 1 ≤ c.head-channels.result.channels = omega (arith, c.head-channels.ensures.some) in
+    rw (c.deref.ensures.value)
+    (fits-with c.in-Ok-arguments_of.arguments.items channels acts c.in-Ok-arguments_of.ensures some c.head-channels.ensures.most told.usable
+    (rw (c.head-channels.ensures.value) (suit-fit (head_layout c.in-Ok.plan.head) acts told.fit)) told.held)
+
+pub thaw-frozen-requires-clause-planned : goal.thaw-frozen-requires-clause-planned
+thaw-frozen-requires-clause-planned c = λ stages made.
+    let told = c.effects.ensures in
+    let channels = c.head-channels.result.channels in
+    let acts = map act c.effects.result.now in
+    planned-is stages channels acts
+    (planned-made c.in-Ok-arguments_of.arguments.items channels acts c.in-Ok-arguments_of.ensures stages (rw (c.deref.ensures.value) at made))
+    told.usable (rw (c.head-channels.ensures.value) (suit-fit (head_layout c.in-Ok.plan.head) acts told.fit)) (rw length-map (told.few)) told.held told.short
+
+pub invariant_of-result : goal.invariant_of-result
+invariant_of-result c =
+    let told = c.effects.ensures in
+    let made = rw (c.deref.ensures.value) at c.in-Ok-frozen.ensures.made in
+    IsChain-made c.in-Ok-arguments_of.arguments.items c.head-channels.result.channels (map act c.effects.result.now) c.in-Ok-arguments_of.ensures
+    (planning c.in-Ok.plan) (rw (c.head-channels.ensures.value) refl) told.value c.in-Ok-frozen.flow made.0 made.1 (rw length-map (told.few)) told.short
+
+pub returns-in-Err-clause-thawed : goal.returns-in-Err-clause-thawed
+returns-in-Err-clause-thawed c = λ chain sound plan snapshot.
+    let items = c.in-Ok-arguments_of.arguments.items in
+    let channels = c.head-channels.result.channels in
+    let acts = map act c.effects.result.now in
+    let same = plan ∙ sym c.in-Ok.ensures in
+    let made = made-planned items channels acts c.in-Ok-arguments_of.ensures (planning c.in-Ok.plan) (rw (c.head-channels.ensures.value) refl) c.effects.ensures.value chain sound.chain same in
+    let channels-are = channels-planned items channels acts c.in-Ok-arguments_of.ensures (planning c.in-Ok.plan) (rw (c.head-channels.ensures.value) refl) c.effects.ensures.value chain sound.chain same in
+    c.in-Err.ensures.thawed chain.flow sound.flow sound.stages (rw (c.deref.ensures.value) made) channels-are (rw (c.deref-2.ensures.value, c.deref-3.ensures.value) snapshot.flow)
+
+pub returns-clause-thawed : goal.returns-clause-thawed
+returns-clause-thawed c = λ chain sound plan snapshot.
+    let items = c.in-Ok-arguments_of.arguments.items in
+    let channels = c.head-channels.result.channels in
+    let acts = map act c.effects.result.now in
+    let same = plan ∙ sym c.in-Ok.ensures in
+    let made = made-planned items channels acts c.in-Ok-arguments_of.ensures (planning c.in-Ok.plan) (rw (c.head-channels.ensures.value) refl) c.effects.ensures.value chain sound.chain same in
+    let channels-are = channels-planned items channels acts c.in-Ok-arguments_of.ensures (planning c.in-Ok.plan) (rw (c.head-channels.ensures.value) refl) c.effects.ensures.value chain sound.chain same in
+    chain-same chain (planning c.in-Ok.plan) c.in-Ok-frozen.flow same
+    (c.in-Ok-frozen.ensures.thawed chain.flow sound.flow sound.stages (rw (c.deref.ensures.value) made) channels-are (rw (c.deref-2.ensures.value, c.deref-3.ensures.value) snapshot.flow))

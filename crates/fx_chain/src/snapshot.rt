@@ -1,0 +1,91 @@
+//! A chain as frames and numbers, and the chain that they came from.
+ghost use Rattle.std.specs.Prelude.{◌≡◌, ◌≤◌, ◌+◌, ◌*◌, ◌↔◌, Err, IfOk, MatchResult, OnOk, length, option_to_list};
+ghost use Rattle.std.specs.List.{All};
+ghost use Rattle.fx_chain.specs.Chain.{ChainParts};
+ghost use Rattle.fx_chain.specs.Snapshot.{IsSnapshotOf, IsSoundChain};
+ghost use Rattle.fx_frame.specs.Holds.{held_sum};
+ghost use Rattle.fx_plan.specs.Bounds.{hold_all};
+ghost use Rattle.fx_plan.specs.Planning.{planning};
+ghost use Rattle.fx_stages.specs.Effects.{effect_acts};
+ghost use Rattle.fx_stages.specs.Narrow.{AreNarrow, IsNarrow};
+
+use crate::chain::Chain;
+use fx_flow::flow::Flow;
+use fx_frame::WideFrame;
+use fx_frame::stage::ThawFault;
+use fx_plan::Plan;
+use fx_stages::arguments_of;
+use std::alloc::{AllocError, Global};
+
+/// All that decides what a chain still gives: its plan, the frames that it holds, and what it counted.
+#[derive(Drop)]
+pub struct Snapshot {
+    /// The chain's plan.
+    pub plan: Plan,
+    /// The frame in the inlet, if there is one; then of each effect in order its line from the oldest frame to the newest
+    /// and the frame in hand, if there is one. The line of `echos` is its lines from the first to the last.
+    pub frames: Vec<WideFrame>,
+    /// Eight of the inlet, then eight of each effect: frames taken, frames given, 1 after the end and else 0, clips, frames
+    /// stored, and three of its own.
+    pub numbers: Vec<u64>,
+}
+
+impl Chain {
+    /// The chain as it is now, as frames and numbers; AllocError where memory for them is refused. The chain stays as it
+    /// is. There are exactly `held()` frames, and 8 numbers for each effect and the inlet.
+    ///
+    /// Samples in a line of `echos` may be sums beyond 32 bits, no others.
+    pub fn freeze(&self, alloc: Global) -> Result<Snapshot, AllocError>
+        ensures frozen { IfOk result (λ s. IsSnapshotOf self.now s) }
+        ensures frames { IfOk result (λ s. length s.frames.items ≡ length (option_to_list self.now.flow.inlet) + held_sum effect_acts self.now.flow.stages) }
+        ensures within { IfOk result (λ s. length s.frames.items ≤ hold_all self.now.plan.acts) }
+        ensures numbers { IfOk result (λ s. length s.numbers.items ≡ 8 * (length self.now.plan.acts + 1)) }
+        ensures narrow { OnOk result (AreNarrow (option_to_list self.now.flow.inlet) × All IsNarrow self.now.flow.stages) }
+        ensures sound { OnOk result (IsSoundChain self.now) }
+    {
+        let _held = self.held();
+        let (frames, numbers) = self.flow.freeze(alloc)?;
+        let plan = self.plan.copy(alloc)?;
+        Ok(Snapshot {
+            plan,
+            frames,
+            numbers,
+        })
+    }
+
+    /// The chain of this plan that was frozen as the snapshot. Whichever chain that was comes back, with the same value: so
+    /// it answers every call, now and later, as that one does.
+    ///
+    /// WrongPlan exactly where the plan is not equal to the snapshot's, BadSnapshot where no chain of the plan stores these
+    /// frames and counts these numbers, Memory where a growth was refused.
+    pub fn thaw(alloc: Global, plan: &Plan, snapshot: &Snapshot) -> Result<Chain, ThawFault>
+        ensures wrong_plan { (result ≡ Err ThawFault.WrongPlan) ↔ (planning plan.now ≡ planning snapshot.now.plan → ⊥) }
+        ensures plan { IfOk result (λ c. c.plan ≡ planning plan.now) }
+        ensures frozen { IfOk result (λ c. IsSnapshotOf c snapshot.now) }
+        ensures thawed { (c : ChainParts) → IsSoundChain c → c.plan ≡ planning plan.now → IsSnapshotOf c snapshot.now → MatchResult result (λ t. t ≡ c) (λ e. e ≡ ThawFault.Memory) }
+    {
+        let is_same = *plan == snapshot.plan;
+        if !is_same {
+            return Err(ThawFault::WrongPlan);
+        }
+        let Ok(plan) = plan.copy(alloc) else {
+            return Err(ThawFault::Memory);
+        };
+        let channels = plan.head().channels;
+        let Ok(arguments) = arguments_of(alloc, channels, plan.effects()) else {
+            return Err(ThawFault::Memory);
+        };
+        let frozen = Flow::thaw(
+            alloc,
+            &arguments,
+            channels,
+            &snapshot.frames,
+            &snapshot.numbers,
+        );
+        let flow = match frozen {
+            Ok(flow) => flow,
+            Err(fault) => return Err(fault),
+        };
+        Ok(Chain { flow, plan })
+    }
+}

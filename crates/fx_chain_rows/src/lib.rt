@@ -1,0 +1,7 @@
+//! The worked rows of fx_chain. They stand in a crate of their own, so that fx_chain is not proved once more for them.
+#![tactic(auto)]
+
+#[cfg(test)]
+mod driving;
+#[cfg(test)]
+mod tests;

@@ -1,0 +1,72 @@
+-- What is said of the arguments of stages holds of a plan's effects.
+use Rattle.std.proofs.Common.{◌≡◌, ℕ, ◌≤◌, ◌^◌, List, [], ◌∷◌, ◌++◌, true, map, drop, length, refl, arith, sym, ap, ◌∙◌, append_assoc}
+use Rattle.std.specs.List.{All}
+use Rattle.std.specs.Prelude.{slice_index_or}
+use Rattle.std.proofs.lemmas.Bool.{and_parts}
+use Rattle.std.proofs.lemmas.List.{map-append}
+use Rattle.std.proofs.lemmas.List.Elements.{All-cons, All-head, All-nil, All-tail}
+use Rattle.fx_flow.specs.Frozen.{AllMade}
+use Rattle.fx_frame.specs.Holds.{recipes}
+use Rattle.fx_plan.specs.Bounds.{hold_all}
+use Rattle.fx_plan.specs.Effects.{Act, Usable}
+use Rattle.fx_stages.specs.declared.stage.EffectStage.{EffectStage}
+use Rattle.fx_stages.specs.declared.thaw.EffectArguments.{EffectArguments}
+use Rattle.fx_stages.specs.Effects.{EffectRecipe, effect_acts, recipe_of}
+use Rattle.fx_stages.specs.Made.{all_suit, channels_after, recipe_for, recipes_for, suits}
+use Rattle.fx_stages.specs.Thawed.{FitsEffect, fits_stage, placed, placing, recipe_with}
+use Rattle.fx_stages.proofs.Making.{behind-few, behind-some, hold-tail}
+
+-- arguments behind others
+pub placed-more : (xs : List EffectArguments) (x : EffectArguments) (channels : ℕ) (a : Act) (acts : List Act) (all : List (ℕ × Act))
+    → placing x ≡ (channels, a)
+    → map placing xs ++ placed channels (a ∷ acts) ≡ all
+    → map placing (xs ++ x ∷ []) ++ placed (channels_after channels a) acts ≡ all
+placed-more xs x channels a acts all is h =
+    let one : map placing (xs ++ x ∷ []) ≡ map placing xs ++ placing x ∷ [] = map-append placing xs (x ∷ []) in
+    rw (one, append_assoc (map placing xs) (placing x ∷ []) (placed (channels_after channels a) acts), is) h
+
+-- the stages of effects are those of the effects with their channels
+pub recipes-placed : (channels : ℕ) (acts : List Act) → map (λ (p : ℕ × Act). recipe_for p.0 p.1) (placed channels acts) ≡ recipes_for channels acts
+recipes-placed channels [] = refl
+recipes-placed channels (a ∷ acts) = ap (λ (rs : List EffectRecipe). recipe_for channels a ∷ rs) (recipes-placed (channels_after channels a) acts)
+
+recipes-placing : (xs : List EffectArguments) → map (λ (p : ℕ × Act). recipe_for p.0 p.1) (map placing xs) ≡ map recipe_with xs
+recipes-placing [] = refl
+recipes-placing (x ∷ xs) = ap (λ (rs : List EffectRecipe). recipe_with x ∷ rs) (recipes-placing xs)
+
+pub recipes-with : (xs : List EffectArguments) (channels : ℕ) (acts : List Act) → map placing xs ≡ placed channels acts → map recipe_with xs ≡ recipes_for channels acts
+recipes-with xs channels acts h = sym (recipes-placing xs) ∙ ap (map (λ (p : ℕ × Act). recipe_for p.0 p.1)) h ∙ recipes-placed channels acts
+
+pub recipes-made : (xs : List EffectArguments) (stages : List EffectStage) → AllMade (λ a s. recipe_of s ≡ recipe_with a) xs stages → recipes effect_acts stages ≡ map recipe_with xs
+recipes-made [] [] h = refl
+recipes-made (x ∷ xs) (s ∷ stages) h = rw (h.0, recipes-made xs stages h.1) refl
+recipes-made [] (s ∷ stages) h = absurd h
+recipes-made (x ∷ xs) [] h = absurd h
+
+pub made-recipes : (xs : List EffectArguments) (stages : List EffectStage) → recipes effect_acts stages ≡ map recipe_with xs → AllMade (λ a s. recipe_of s ≡ recipe_with a) xs stages
+made-recipes [] [] h = tt
+made-recipes (x ∷ xs) (s ∷ stages) h = (ap (λ (rs : List EffectRecipe). slice_index_or rs 0 (recipe_of s)) h, made-recipes xs stages (ap (λ (rs : List EffectRecipe). drop 1 rs) h))
+made-recipes [] (s ∷ stages) h = let e = ap length h in absurd (omega (arith, e))
+made-recipes (x ∷ xs) [] h = let e = ap length h in absurd (omega (arith, e))
+
+-- a plan's effects can be made stages of
+fits-placed : (channels : ℕ) (acts : List Act) → 1 ≤ channels → channels ≤ 16 → All Usable acts → all_suit channels acts ≡ true → hold_all acts ≤ 2 ^ 28
+    → All (λ (p : ℕ × Act). FitsEffect p.0 p.1) (placed channels acts)
+fits-placed channels [] some few usable suit hold = All-nil (λ (p : ℕ × Act). FitsEffect p.0 p.1)
+fits-placed channels (a ∷ acts) some few usable suit hold =
+    let parts = and_parts (suits channels a) (all_suit (channels_after channels a) acts) suit in
+    let held = hold-tail a acts (2 ^ 28) hold in
+    let here = All-head Usable a acts usable in
+    All-cons (λ (p : ℕ × Act). FitsEffect p.0 p.1) (channels, a) (placed (channels_after channels a) acts)
+    (record { some = some; few = few; usable = here; suits = parts.0; line = held.0 })
+    (fits-placed (channels_after channels a) acts (behind-some channels a here some) (behind-few channels a here few) (All-tail Usable a acts usable) parts.1 held.1)
+
+fits-placing : (xs : List EffectArguments) → All (λ (p : ℕ × Act). FitsEffect p.0 p.1) (map placing xs) → All fits_stage xs
+fits-placing [] h = All-nil fits_stage
+fits-placing (x ∷ xs) h =
+    All-cons fits_stage x xs (All-head (λ (p : ℕ × Act). FitsEffect p.0 p.1) (placing x) (map placing xs) h)
+    (fits-placing xs (All-tail (λ (p : ℕ × Act). FitsEffect p.0 p.1) (placing x) (map placing xs) h))
+
+pub fits-with : (xs : List EffectArguments) (channels : ℕ) (acts : List Act) → map placing xs ≡ placed channels acts
+    → 1 ≤ channels → channels ≤ 16 → All Usable acts → all_suit channels acts ≡ true → hold_all acts ≤ 2 ^ 28 → All fits_stage xs
+fits-with xs channels acts h some few usable suit hold = fits-placing xs (rw h (fits-placed channels acts some few usable suit hold))

@@ -1,0 +1,32 @@
+-- The stages of effects, made again from what they stored and counted (this project's profile).
+use Rattle.std.specs.Prelude.{◌≡◌, ◌≤◌, ◌^◌, ℕ, true, List, [], ◌∷◌}
+use Rattle.fx_plan.specs.Bounds.{line_of}
+use Rattle.fx_plan.specs.Effects.{Act, Usable, act}
+use Rattle.fx_stages.specs.declared.thaw.EffectArguments.{EffectArguments}
+use Rattle.fx_stages.specs.Effects.{EffectRecipe}
+use Rattle.fx_stages.specs.Made.{channels_after, recipe_for, suits}
+
+-- an effect can be a stage that takes frames of so many channels, with a line that is short enough
+pub record FitsEffect (channels : ℕ) (a : Act) : Type 0 where
+  pub some : 1 ≤ channels
+  pub few : channels ≤ 16
+  pub usable : Usable a
+  pub suits : suits channels a ≡ true
+  pub line : line_of a ≤ 2 ^ 28
+
+-- the channels and what the effect does
+abbrev pub placing : EffectArguments → ℕ × Act
+placing arguments = (arguments.channels, act arguments.effect)
+
+-- what the arguments have to meet
+abbrev pub fits_stage : EffectArguments → Type 0
+fits_stage arguments = FitsEffect arguments.channels (act arguments.effect)
+
+-- the stage that they are for
+abbrev pub recipe_with : EffectArguments → EffectRecipe
+recipe_with arguments = recipe_for arguments.channels (act arguments.effect)
+
+-- effects with the channels of the frames that each takes, the first of which takes so many
+abbrev pub placed : ℕ → List Act → List (ℕ × Act)
+placed channels [] = []
+placed channels (a ∷ acts) = (channels, a) ∷ placed (channels_after channels a) acts
