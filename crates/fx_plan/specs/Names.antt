@@ -1,5 +1,5 @@
 -- The names of effects: the twelve of this project's profile, and those of sox(1), EFFECTS, that are left out.
-use Rattle.std.specs.Prelude.{Bool, true, false, not, if◌then◌else◌, List, [], ◌∷◌, codes}
+use Rattle.std.specs.Prelude.{Bool, true, false, not, ◌||◌, if◌then◌else◌, List, [], ◌∷◌, codes}
 use Rattle.std.specs.Str.{bytes_eq}
 use Rattle.std.specs.List.{list_any}
 use Rattle.fx_plan.specs.declared.name.Name.{Name}
@@ -11,17 +11,22 @@ abbrev pub whole_sound : List Word
 whole_sound =
     codes "reverse" ∷ codes "norm" ∷ codes "repeat" ∷ []
 
+-- the filters of SoX that are left out
+abbrev pub filters : List Word
+filters =
+    codes "allpass" ∷ codes "band" ∷ codes "bandpass" ∷ codes "bandreject" ∷ codes "bass" ∷ codes "biquad" ∷
+    codes "deemph" ∷ codes "equalizer" ∷ codes "highpass" ∷ codes "hilbert" ∷ codes "lowpass" ∷ codes "riaa" ∷
+    codes "sinc" ∷ codes "treble" ∷ []
+
 -- the other effects of SoX
-abbrev pub left_out : List Word
-left_out =
-    codes "allpass" ∷ codes "band" ∷ codes "bandpass" ∷ codes "bandreject" ∷ codes "bass" ∷ codes "bend" ∷
-    codes "biquad" ∷ codes "channels" ∷ codes "chorus" ∷ codes "compand" ∷ codes "contrast" ∷ codes "deemph" ∷
-    codes "dither" ∷ codes "earwax" ∷ codes "equalizer" ∷ codes "flanger" ∷ codes "gain" ∷ codes "highpass" ∷
-    codes "hilbert" ∷ codes "ladspa" ∷ codes "loudness" ∷ codes "lowpass" ∷ codes "mcompand" ∷
+abbrev pub others : List Word
+others =
+    codes "bend" ∷ codes "channels" ∷ codes "chorus" ∷ codes "compand" ∷ codes "contrast" ∷ codes "dither" ∷
+    codes "earwax" ∷ codes "flanger" ∷ codes "gain" ∷ codes "ladspa" ∷ codes "loudness" ∷ codes "mcompand" ∷
     codes "noiseprof" ∷ codes "noisered" ∷ codes "oops" ∷ codes "overdrive" ∷ codes "phaser" ∷ codes "pitch" ∷
-    codes "rate" ∷ codes "reverb" ∷ codes "riaa" ∷ codes "silence" ∷ codes "sinc" ∷ codes "spectrogram" ∷
-    codes "speed" ∷ codes "splice" ∷ codes "stat" ∷ codes "stats" ∷ codes "stretch" ∷ codes "swap" ∷
-    codes "synth" ∷ codes "tempo" ∷ codes "treble" ∷ codes "tremolo" ∷ codes "vad" ∷ []
+    codes "rate" ∷ codes "reverb" ∷ codes "silence" ∷ codes "spectrogram" ∷ codes "speed" ∷ codes "splice" ∷
+    codes "stat" ∷ codes "stats" ∷ codes "stretch" ∷ codes "swap" ∷ codes "synth" ∷ codes "tempo" ∷
+    codes "tremolo" ∷ codes "vad" ∷ []
 
 abbrev pub is_one_of : List Word → Word → Bool
 is_one_of names word = list_any (bytes_eq word) names
@@ -29,7 +34,7 @@ is_one_of names word = list_any (bytes_eq word) names
 abbrev pub refused_name : Word → Name
 refused_name word =
     if is_one_of whole_sound word then names.WholeSound
-    else (if is_one_of left_out word then names.LeftOut
+    else (if is_one_of filters word || is_one_of others word then names.LeftOut
     else names.Other)
 
 -- what a word is where a name may stand

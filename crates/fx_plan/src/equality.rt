@@ -8,7 +8,8 @@ ghost use Rattle.fx_plan.specs.Planning.{planning};
 
 use crate::accepted::Plan;
 
-// Two plans are equal exactly where they have the same parts and their effects do the same.
+// Two plans are equal exactly where they have the same parts and their effects do the same. Of two references `*p == *q`
+// tells so; `p == q` tells only the test.
 impl PartialEq for Plan {
     ghost eq = { same_parts };
 

@@ -20,8 +20,3 @@ pub use accepted::Plan;
 pub use command_line::{CommandLine, Stream, parse_line, plan};
 pub use fault::{PlanCause, PlanFault};
 pub use fx_line::{Bits, LineFault};
-
-#[cfg(test)]
-mod line_tests;
-#[cfg(test)]
-mod tests;

@@ -1,7 +1,7 @@
 //! The names of effects.
 
 ghost use Rattle.std.specs.Prelude.{◌≡◌};
-ghost use Rattle.fx_plan.specs.Names.{is_one_of, left_out, name_of, whole_sound};
+ghost use Rattle.fx_plan.specs.Names.{filters, is_one_of, name_of, others, whole_sound};
 
 /// What a word is where the name of an effect may stand.
 #[derive(Clone, Copy, Debug, Drop, PartialEq, Eq)]
@@ -33,9 +33,9 @@ fn needs_whole_sound(word: &str) -> bool
     matches!(word, "reverse" | "norm" | "repeat")
 }
 
-/// Whether a word names an effect of SoX that is left out.
-fn is_left_out(word: &str) -> bool
-    ensures { result ≡ is_one_of left_out word.now }
+/// Whether a word names a filter of SoX that is left out.
+fn is_filter(word: &str) -> bool
+    ensures { result ≡ is_one_of filters word.now }
 {
     matches!(
         word,
@@ -44,23 +44,35 @@ fn is_left_out(word: &str) -> bool
             | "bandpass"
             | "bandreject"
             | "bass"
-            | "bend"
             | "biquad"
+            | "deemph"
+            | "equalizer"
+            | "highpass"
+            | "hilbert"
+            | "lowpass"
+            | "riaa"
+            | "sinc"
+            | "treble"
+    )
+}
+
+/// Whether a word names another effect of SoX that is left out.
+fn is_other_effect(word: &str) -> bool
+    ensures { result ≡ is_one_of others word.now }
+{
+    matches!(
+        word,
+        "bend"
             | "channels"
             | "chorus"
             | "compand"
             | "contrast"
-            | "deemph"
             | "dither"
             | "earwax"
-            | "equalizer"
             | "flanger"
             | "gain"
-            | "highpass"
-            | "hilbert"
             | "ladspa"
             | "loudness"
-            | "lowpass"
             | "mcompand"
             | "noiseprof"
             | "noisered"
@@ -70,9 +82,7 @@ fn is_left_out(word: &str) -> bool
             | "pitch"
             | "rate"
             | "reverb"
-            | "riaa"
             | "silence"
-            | "sinc"
             | "spectrogram"
             | "speed"
             | "splice"
@@ -82,7 +92,6 @@ fn is_left_out(word: &str) -> bool
             | "swap"
             | "synth"
             | "tempo"
-            | "treble"
             | "tremolo"
             | "vad"
     )
@@ -109,7 +118,7 @@ pub fn read_name(word: &str) -> Name
             if needs_whole_sound(word) {
                 return Name::WholeSound;
             }
-            if is_left_out(word) {
+            if is_filter(word) || is_other_effect(word) {
                 return Name::LeftOut;
             }
             Name::Other

@@ -1,0 +1,9 @@
+//! The worked rows of fx_plan. They stand in a crate of their own, so that fx_plan is not proved once more for them.
+#![tactic(auto)]
+
+#[cfg(test)]
+mod line_tests;
+#[cfg(test)]
+mod plan_tests;
+#[cfg(test)]
+mod texts;
