@@ -15,9 +15,7 @@ pub mod fir;
 #[cfg(test)]
 mod fir_tests;
 pub mod mapped;
-mod parts;
 pub mod per_sample;
-pub mod prepared;
 pub mod products;
 pub mod remix;
 #[cfg(test)]
