@@ -1,7 +1,7 @@
 //! The worked rows of `dot`.
 ghost use Rattle.std.specs.Prelude.{◌≡◌, ◌≤◌, ◌^◌, true, length, unsigned_abs, All};
 
-use super::dot;
+use fx_tap::dot;
 use std::test::Fail;
 
 /// The plain loop: the products of the samples and the coefficients at the same places, added up one by one.
@@ -25,37 +25,47 @@ fn are_small(coefficients: &[i64]) -> bool
         .all(|c| c.unsigned_abs() <= 1_000_000_000_000_000)
 }
 
-#[test]
-fn dot_great(rt: HostRuntime) -> Result<(), Fail> {
-    let samples = [-2_147_483_648; 1024];
-    assert_eq!(rt;
-        dot(&samples, &[-1_000_000_000_000; 1024]),
-        2_199_023_255_552_000_000_000_000
-    );
-    assert_eq!(rt;
-        dot(&samples, &[1_000_000_000_000; 1024]),
-        -2_199_023_255_552_000_000_000_000
-    );
-    assert_eq!(rt; dot(&[], &[]), 0);
+/// Is this the sum of the least sample times each coefficient?
+fn sums_to(coefficients: &[i64; 1024], want: i128) -> Result<(), Fail> {
+    if !are_small(coefficients) {
+        return Err("a coefficient is too great".into());
+    }
+    if dot(&[-2_147_483_648; 1024], coefficients) != want {
+        return Err("another sum".into());
+    }
     Ok(())
 }
 
 #[test]
-fn dot_greatest(rt: HostRuntime) -> Result<(), Fail> {
-    let samples = [-2_147_483_648; 1024];
-    assert_eq!(rt;
-        dot(&samples, &[-1_000_000_000_000_000; 1024]),
-        2_199_023_255_552_000_000_000_000_000
-    );
-    assert_eq!(rt;
-        dot(&samples, &[1_000_000_000_000_000; 1024]),
-        -2_199_023_255_552_000_000_000_000_000
-    );
+fn dot_great() -> Result<(), Fail> {
+    sums_to(
+        &[-1_000_000_000_000; 1024],
+        2_199_023_255_552_000_000_000_000,
+    )?;
+    sums_to(
+        &[1_000_000_000_000; 1024],
+        -2_199_023_255_552_000_000_000_000,
+    )?;
+    if dot(&[], &[]) != 0 {
+        return Err("no products have a sum".into());
+    }
     Ok(())
 }
 
 #[test]
-fn dot_every_length(rt: HostRuntime) -> Result<(), Fail> {
+fn dot_greatest() -> Result<(), Fail> {
+    sums_to(
+        &[-1_000_000_000_000_000; 1024],
+        2_199_023_255_552_000_000_000_000_000,
+    )?;
+    sums_to(
+        &[1_000_000_000_000_000; 1024],
+        -2_199_023_255_552_000_000_000_000_000,
+    )
+}
+
+#[test]
+fn dot_every_length() -> Result<(), Fail> {
     let mut samples = [0i32; 70];
     let mut coefficients = [0i64; 70];
     let mut seed = 1u32;
@@ -70,7 +80,9 @@ fn dot_every_length(rt: HostRuntime) -> Result<(), Fail> {
         if !are_small(factors) {
             return Err("a coefficient is too great".into());
         }
-        assert_eq!(rt; dot(some, factors), plain(some, factors), "{count}");
+        if dot(some, factors) != plain(some, factors) {
+            return Err("another sum than the plain loop's".into());
+        }
     }
     Ok(())
 }
