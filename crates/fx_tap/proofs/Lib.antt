@@ -2,7 +2,6 @@ pub mod DelayLaws
 pub mod DryLaws
 pub mod EchoLaws
 pub mod MixLaws
-pub mod PartLaws
 pub mod EchosLaws
 pub mod EchosMeaning
 pub mod EchosRow

@@ -7,7 +7,7 @@ use Rattle.std.proofs.lemmas.List.{drop_more}
 use Rattle.std.proofs.lemmas.Nat.{mul-le}
 use Rattle.std.proofs.lemmas.Simd.{Each1-get_or, length-zip2}
 use Rattle.fx_tap.specs.Products.{sum_of_products}
-use Rattle.fx_tap.specs.Lanes.{LanesWithin, Within, upper, joined, joined_lanes, lane_sum}
+use Rattle.fx_tap.specs.Lanes.{LanesWithin, Within, joined, joined_lanes, lane_sum}
 use Rattle.fx_tap.proofs.SignedProducts.{mul-add, mul_assoc}
 use borrow.Rule.Simd.Lanes.{act2, Asks2}
 use borrow.Table.Row.{s_int}
@@ -176,27 +176,21 @@ lane_fits m i xs fits place small =
 
 -- ---- sums of products, block by block
 
-upper-mul : (x h l : ℤ) → x *ℤ upper h l ≡ upper (x *ℤ h) (x *ℤ l)
-upper-mul x h l = mul-add x (h *ℤ pos 131072) l ∙ ap (λ z. z +ℤ (x *ℤ l)) (mul_assoc x h (pos 131072))
+joined-mul : (x h l : ℤ) → x *ℤ joined h l ≡ joined (x *ℤ h) (x *ℤ l)
+joined-mul x h l = mul-add x (h *ℤ pos 33554432) l ∙ ap (λ z. z +ℤ (x *ℤ l)) (mul_assoc x h (pos 33554432))
 
-sum_of_products-upper : (xs hs ls : List ℤ) → length hs ≡ length xs → length ls ≡ length xs →
-    sum_of_products xs (zip2 upper hs ls) ≡ upper (sum_of_products xs hs) (sum_of_products xs ls)
-sum_of_products-upper [] [] [] h_same l_same = refl
-sum_of_products-upper [] [] (l ∷ ls) h_same l_same = absurd (omega arith)
-sum_of_products-upper [] (h ∷ hs) ls h_same l_same = absurd (omega arith)
-sum_of_products-upper (x ∷ xs) [] ls h_same l_same = absurd (omega arith)
-sum_of_products-upper (x ∷ xs) (h ∷ hs) [] h_same l_same = absurd (omega arith)
-sum_of_products-upper (x ∷ xs) (h ∷ hs) (l ∷ ls) h_same l_same =
-    let rest = sum_of_products-upper xs hs ls (omega arith) (omega arith) in
-    let first = upper-mul x h l in
+-- the sum of products with coefficients in two parts
+pub sum_of_products-joined : (xs hs ls : List ℤ) → length hs ≡ length xs → length ls ≡ length xs →
+    sum_of_products xs (joined_lanes hs ls) ≡ joined (sum_of_products xs hs) (sum_of_products xs ls)
+sum_of_products-joined [] [] [] h_same l_same = refl
+sum_of_products-joined [] [] (l ∷ ls) h_same l_same = absurd (omega arith)
+sum_of_products-joined [] (h ∷ hs) ls h_same l_same = absurd (omega arith)
+sum_of_products-joined (x ∷ xs) [] ls h_same l_same = absurd (omega arith)
+sum_of_products-joined (x ∷ xs) (h ∷ hs) [] h_same l_same = absurd (omega arith)
+sum_of_products-joined (x ∷ xs) (h ∷ hs) (l ∷ ls) h_same l_same =
+    let rest = sum_of_products-joined xs hs ls (omega arith) (omega arith) in
+    let first = joined-mul x h l in
     omega (arith, ints)
-
--- the sum of products with coefficients in three parts
-pub sum_of_products-joined : (xs hs ms ls : List ℤ) → length hs ≡ length xs → length ms ≡ length xs → length ls ≡ length xs →
-    sum_of_products xs (joined_lanes hs ms ls) ≡ joined (sum_of_products xs hs) (sum_of_products xs ms) (sum_of_products xs ls)
-sum_of_products-joined xs hs ms ls h_same m_same l_same =
-    let both = length-zip2 upper hs ms (omega arith) in
-    sum_of_products-upper xs (zip2 upper hs ms) ls (omega arith) l_same ∙ ap (λ z. upper z (sum_of_products xs ls)) (sum_of_products-upper xs hs ms h_same m_same)
 
 pub sum_of_products-block : (xs cs : List ℤ) (at : ℕ) → at + 4 ≤ length xs → at + 4 ≤ length cs →
     sum_of_products (drop at xs) (drop at cs) ≡ (sum_of_products (chunk at 4 xs) (chunk at 4 cs) +ℤ sum_of_products (drop (at + 4) xs) (drop (at + 4) cs))
@@ -216,11 +210,11 @@ sum_of_products-block xs cs at in_xs in_cs =
     place : (xs cs : List ℤ) (i : ℕ) → i < length xs → i < length cs → sum_of_products (drop i xs) (drop i cs) ≡ (get_or xs i (pos 0) *ℤ get_or cs i (pos 0)) +ℤ sum_of_products (drop (i + 1) xs) (drop (i + 1) cs)
     place xs cs i in_xs in_cs = rw (drop_more xs i (pos 0) in_xs, drop_more cs i (pos 0) in_cs) refl
 
--- one block more in the three sums
-pub block_added : (whole rest high middle low next_high next_middle next_low block high_part middle_part low_part : ℤ) →
-    (joined high middle low +ℤ (block +ℤ rest)) ≡ whole → next_high ≡ (high +ℤ high_part) → next_middle ≡ (middle +ℤ middle_part) → next_low ≡ (low +ℤ low_part) → block ≡ joined high_part middle_part low_part →
-    (joined next_high next_middle next_low +ℤ rest) ≡ whole
-block_added whole rest high middle low next_high next_middle next_low block high_part middle_part low_part before high_is middle_is low_is block_is = omega (arith, ints)
+-- one block more in the two sums
+pub block_added : (whole rest high low next_high next_low block high_part low_part : ℤ) →
+    (joined high low +ℤ (block +ℤ rest)) ≡ whole → next_high ≡ (high +ℤ high_part) → next_low ≡ (low +ℤ low_part) → block ≡ joined high_part low_part →
+    (joined next_high next_low +ℤ rest) ≡ whole
+block_added whole rest high low next_high next_low block high_part low_part before high_is low_is block_is = omega (arith, ints)
 
 -- a sum of products in two parts
 pub sum_of_products-parted : (xs cs : List ℤ) (n : ℕ) → sum_of_products xs cs ≡ (sum_of_products (take n xs) (take n cs) +ℤ sum_of_products (drop n xs) (drop n cs))

@@ -1,6 +1,6 @@
 -- Sums of samples times gains, one for each channel.
 use Rattle.std.proofs.Common.{ℕ, ℤ, pos, suc, zero, ◌+◌, ◌-◌, ◌*◌, ◌^◌, ◌<◌, ◌≤◌, ◌≡◌, ◌+ℤ◌, ◌*ℤ◌, Bool, true, false, List, [], ◌∷◌, ◌++◌, length, get_or, set, refl, arith, to_z, of_z, replicate}
-use Rattle.std.specs.Prelude.{neg_ℤ, ◌≤ℤ◌, unsigned_abs, nat_eq}
+use Rattle.std.specs.Prelude.{neg_ℤ, ◌≤ℤ◌, unsigned_abs, nat_eq, nat_lt}
 use Rattle.std.proofs.lemmas.Bool.Decides.{nat_tests}
 use Rattle.std.proofs.lemmas.Grind.{get_or-set_at}
 use Rattle.std.proofs.lemmas.Int.{ints, unsigned_abs-mul, fits_signed_from_abs, to_z-of_z}
@@ -46,25 +46,21 @@ pub added-more : (old sums : List ℤ) (p : ℕ → ℤ) (i : ℕ) (y : ℤ) →
 added-more old sums p i y h e done k l = added-at old sums p i k y (nat_eq k i) refl h e done l
 
 -- and the sums stay small
-few-at : (old sums : List ℤ) (i k m : ℕ) (y : ℤ) (b : Bool) → nat_eq k i ≡ b → i < length sums → unsigned_abs y ≤ unsigned_abs (get_or old i (pos 0)) + m
-    → ((k : ℕ) → unsigned_abs (get_or sums k (pos 0)) ≤ unsigned_abs (get_or old k (pos 0)) + m) → unsigned_abs (get_or (set sums i y) k (pos 0)) ≤ unsigned_abs (get_or old k (pos 0)) + m
-few-at old sums i k m y true t h e done =
-    let same : k ≡ i = grind (arith, nat_tests) in
-    rw (get_or-set_at sums i k y (pos 0) same, same) e
-few-at old sums i k m y false t h e done =
-    let other : (k ≡ i → ⊥) = grind (arith, nat_tests) in
-    rw (get_or-set_other sums i k y (pos 0) other) (done k)
+few-by : (sum next g x : ℤ) (channels k : ℕ) (b : Bool) → nat_lt k channels ≡ b → unsigned_abs g ≤ UNIT → unsigned_abs x ≤ 2 ^ 31 → (k < channels → next ≡ sum +ℤ (g *ℤ x)) → (channels ≤ k → next ≡ sum)
+    → unsigned_abs next ≤ unsigned_abs sum + UNIT * 2 ^ 31
+few-by sum next g x channels k true t gain sample added left = rw (added (grind (arith, nat_tests))) (added-few sum (g *ℤ x) _ _ (omega arith) (scaled-few g x UNIT (2 ^ 31) gain sample))
+few-by sum next g x channels k false t gain sample added left = rw (left (grind (arith, nat_tests))) (omega arith)
 
-pub few-more : (old sums : List ℤ) (i m : ℕ) (y : ℤ) → i < length sums → unsigned_abs y ≤ unsigned_abs (get_or old i (pos 0)) + m
-    → ((k : ℕ) → unsigned_abs (get_or sums k (pos 0)) ≤ unsigned_abs (get_or old k (pos 0)) + m) → (k : ℕ) → unsigned_abs (get_or (set sums i y) k (pos 0)) ≤ unsigned_abs (get_or old k (pos 0)) + m
-few-more old sums i m y h e done k = few-at old sums i k m y (nat_eq k i) refl h e done
+pub few-more : (sum next g x : ℤ) (channels k : ℕ) → unsigned_abs g ≤ UNIT → unsigned_abs x ≤ 2 ^ 31 → (k < channels → next ≡ sum +ℤ (g *ℤ x)) → (channels ≤ k → next ≡ sum)
+    → unsigned_abs next ≤ unsigned_abs sum + UNIT * 2 ^ 31
+few-more sum next g x channels k = few-by sum next g x channels k (nat_lt k channels) refl
 
 -- a product added in 128 bits
-pub plain-sum : (s g x f y : ℤ) → f ≡ g → y ≡ x → unsigned_abs g ≤ 2 ^ 50 → unsigned_abs x ≤ 2 ^ 31 → unsigned_abs s ≤ 2 ^ 101
+pub plain-sum : (s g x f y : ℤ) → f ≡ g → y ≡ x → unsigned_abs g ≤ 2 ^ 50 → unsigned_abs x ≤ 2 ^ 34 → unsigned_abs s ≤ 2 ^ 101
     → to_z w128 (of_z w128 s) +ℤ to_z w128 (of_z w128 (to_z w128 (of_z w128 f) *ℤ to_z w128 (of_z w128 y))) ≡ s +ℤ (g *ℤ x)
 plain-sum s g x f y e d small sample room =
-    let product = scaled-few g x (2 ^ 50) (2 ^ 31) small sample in
-    rw (e, d, held s (omega arith), held g (omega arith), held x (omega arith), held (g *ℤ x) (omega arith)) refl
+    let product = scaled-few g x (2 ^ 50) (2 ^ 34) small sample in
+    rw (e, d, held s (omega arith), held g (omega arith), held x (omega arith), held (g *ℤ x) (omega (arith, product))) refl
 
 -- places that are silent beyond the samples are as good as none
 pub filled-up : (xs : List ℤ) (n i : ℕ) → get_or (xs ++ replicate n (pos 0)) i (pos 0) ≡ get_or xs i (pos 0)

@@ -10,7 +10,7 @@ ghost use Rattle.fx_tap.specs.Products.{sum_of_products};
 
 use crate::echo::copied;
 use crate::rows::thawed_row_and_hand;
-use crate::sums::{Sums, add_scaled, rounded_sums};
+use crate::sums::{Sums, add_places, add_scaled, rounded_sums};
 use fx_fixed::{Gain, UNIT};
 use fx_frame::inner::{places, wide_of, wide_places};
 use fx_frame::{Frame, Stage, ThawFault, WideFrame, WideLine};
@@ -89,11 +89,7 @@ fn add_gone(sums: &mut Sums, channels: usize, decay: Gain, gone: WideFrame)
     ensures added { (k : ℕ) → k < channels → slice_index_or sums.new k (pos 0) ≡ slice_index_or sums.old k (pos 0) +ℤ (decay *ℤ slice_index_or gone k (pos 0)) }
     ensures left { (k : ℕ) → channels ≤ k → slice_index_or sums.new k (pos 0) ≡ slice_index_or sums.old k (pos 0) }
 {
-    let factor = i128::from(decay.trillionths());
-    let samples = wide_places(&gone);
-    for channel in 0..channels {
-        sums[channel] += factor * i128::from(samples[channel]);
-    }
+    add_places(sums, channels, decay, &wide_places(&gone));
 }
 
 /// Lets a frame go through the lines, and adds what each lets go, times its decay.

@@ -7,7 +7,7 @@ ghost use Rattle.fx_tap.specs.Fir.{FirArguments, FirState, IsFir, centre, filter
 ghost use Rattle.fx_fixed.specs.Rounding.{rounding};
 ghost use Rattle.fx_tap.specs.Products.{sum_of_products};
 
-use crate::prepared::Prepared;
+use crate::products::dot;
 use fx_fixed::{Gain, UNIT, round_clip};
 use fx_frame::frozen::thawed_line_and_hand;
 use fx_frame::inner::frame_of;
@@ -21,7 +21,7 @@ pub struct Fir {
     hand: Option<Frame>,
     hand_clips: u64,
     channels: usize,
-    backwards: Prepared,
+    backwards: Vec<i64>,
     line: Line,
     tail: usize,
     taken: u64,
@@ -35,15 +35,16 @@ impl Model for Fir {
 
     ghost Value = { FirState };
 
-    ghost view = { λ s. record { channels = s.channels; backwards = s.backwards; line = s.line; hand = s.hand; hand_clips = s.hand_clips; tail = s.tail; taken = s.taken; given = s.given; clips = s.clips; ended = s.ended } };
+    ghost view = { λ s. record { channels = s.channels; backwards = s.backwards.items; line = s.line; hand = s.hand; hand_clips = s.hand_clips; tail = s.tail; taken = s.taken; given = s.given; clips = s.clips; ended = s.ended } };
 
-    ghost invariant = { λ s. IsFir (record { channels = s.channels; backwards = s.backwards; line = s.line; hand = s.hand; hand_clips = s.hand_clips; tail = s.tail; taken = s.taken; given = s.given; clips = s.clips; ended = s.ended }) };
+    ghost invariant = { λ s. IsFir (record { channels = s.channels; backwards = s.backwards.items; line = s.line; hand = s.hand; hand_clips = s.hand_clips; tail = s.tail; taken = s.taken; given = s.given; clips = s.clips; ended = s.ended }) };
 }
 
 /// The sum of the coefficients times the samples from one place of a window on backwards, in trillionths. Outside of the
 /// window there is silence.
-fn weigh(window: &[i32], backwards: &Prepared, place: usize) -> i128
+fn weigh(window: &[i32], backwards: &[i64], place: usize) -> i128
     requires count { length backwards.now ≤ 1024 }
+    requires small { All (λ c. unsigned_abs c ≤ 10 ^ 15) backwards.now }
     requires place { place ≤ 2 ^ 20 }
     requires end { length window.now ≤ place + 1 }
     requires start { place + 1 ≤ length backwards.now + length window.now }
@@ -53,9 +54,11 @@ fn weigh(window: &[i32], backwards: &Prepared, place: usize) -> i128
 {
     let count = backwards.len();
     if place < count {
-        return backwards.dot(window, count - 1 - place);
+        let from = count - 1 - place;
+        return dot(window, &backwards[from..from + window.len()]);
     }
-    backwards.dot(&window[place + 1 - count..], 0)
+    let inside = &window[place + 1 - count..];
+    dot(inside, &backwards[..inside.len()])
 }
 
 /// A sample in trillionths, rounded; true beside it where it was clipped.
@@ -88,10 +91,11 @@ fn filtered_sample(
     line: &Line,
     latest: &[Frame],
     channel: usize,
-    backwards: &Prepared,
+    backwards: &[i64],
     place: usize,
 ) -> (i32, bool)
     requires count { length backwards.now ≤ 1024 }
+    requires small { All (λ c. unsigned_abs c ≤ 10 ^ 15) backwards.now }
     requires channel { channel < line.now.channels }
     requires latest { length latest.now ≤ 1 }
     requires fits { All (λ f. length f ≡ line.now.channels) latest.now }
@@ -112,10 +116,11 @@ fn filtered_frame(
     line: &Line,
     latest: &[Frame],
     channels: usize,
-    backwards: &Prepared,
+    backwards: &[i64],
     place: usize,
 ) -> (Frame, u64)
     requires count { length backwards.now ≤ 1024 }
+    requires small { All (λ c. unsigned_abs c ≤ 10 ^ 15) backwards.now }
     requires channels { channels ≡ line.now.channels }
     requires some { (1 ≤ channels) × (channels ≤ 16) }
     requires latest { length latest.now ≤ 1 }
@@ -172,15 +177,6 @@ fn reversed(alloc: Global, coefficients: &[Gain]) -> Result<Vec<i64>, AllocError
     Ok(numbers)
 }
 
-/// The coefficients, the last one first, prepared for sums of products.
-fn prepared(alloc: Global, coefficients: &[Gain]) -> Result<Prepared, AllocError>
-    ensures items { IfOk result (λ p. p ≡ reverse coefficients.now) }
-    ensures small { IfOk result (λ p. All (λ c. unsigned_abs c ≤ 10 ^ 15) p) }
-{
-    let numbers = reversed(alloc, coefficients)?;
-    Prepared::of(alloc, &numbers)
-}
-
 impl Fir {
     /// The stage for frames of 1 to 16 channels, with 1 to 1024 coefficients. It holds one frame fewer than it has
     /// coefficients; AllocError where memory for them is refused.
@@ -189,7 +185,7 @@ impl Fir {
         requires coefficients { (1 ≤ length coefficients.now) × (length coefficients.now ≤ 1024) }
         ensures { IfOk result (IsNew fir_acts (record { channels = channels; coefficients = coefficients.now })) }
     {
-        let backwards = prepared(alloc, coefficients)?;
+        let backwards = reversed(alloc, coefficients)?;
         let line = Line::new(alloc, channels, coefficients.len() - 1)?;
         Ok(Fir {
             hand: None,
@@ -243,7 +239,7 @@ impl Fir {
             Ok(stored) => stored,
             Err(fault) => return Err(fault),
         };
-        let Ok(backwards) = prepared(alloc, coefficients) else {
+        let Ok(backwards) = reversed(alloc, coefficients) else {
             return Err(ThawFault::Memory);
         };
         Ok(Fir {

@@ -3,32 +3,16 @@
 
 pub mod dcshift;
 pub mod delay;
-#[cfg(test)]
-mod dot_tests;
 pub mod echo;
-#[cfg(test)]
-mod echo_tests;
 pub mod echos;
-#[cfg(test)]
-mod echos_tests;
 pub mod fir;
-#[cfg(test)]
-mod fir_tests;
 pub mod mapped;
-mod parts;
 pub mod per_sample;
-pub mod prepared;
 pub mod products;
 pub mod remix;
-#[cfg(test)]
-mod remix_tests;
 mod rows;
 mod sums;
 pub mod tapped;
-#[cfg(test)]
-mod tests;
-#[cfg(test)]
-mod thaw_tests;
 pub mod vol;
 
 pub use dcshift::DcShift;

@@ -1,5 +1,5 @@
 //! Sums of samples times gains, one for each channel, each rounded once.
-ghost use Rattle.std.specs.Prelude.{◌≡◌, ◌<◌, ◌≤◌, ◌+◌, ◌-◌, ◌*◌, ◌^◌, ℕ, pos, ◌+ℤ◌, ◌*ℤ◌, ◌<ℤ◌, ◌≤ℤ◌, length, slice_index_or, unsigned_abs};
+ghost use Rattle.std.specs.Prelude.{◌≡◌, ◌<◌, ◌≤◌, ◌+◌, ◌-◌, ◌*◌, ◌^◌, ℕ, ℤ, List, pos, ◌+ℤ◌, ◌*ℤ◌, ◌<ℤ◌, ◌≤ℤ◌, length, slice_index_or, unsigned_abs};
 ghost use Rattle.fx_fixed.specs.Rounding.{rounding};
 ghost use Rattle.fx_tap.specs.Lists.{tabulate};
 ghost use Rattle.fx_tap.specs.Rounded.{given_of};
@@ -11,6 +11,51 @@ use fx_frame::inner::{frame_of, places};
 /// One sum for each channel, in trillionths.
 pub(crate) type Sums = [i128; 16];
 
+/// The sixteen places of a frame, whatever the width of its samples.
+pub(crate) trait Places {
+    /// The samples.
+    ghost list: { Self → List ℤ };
+
+    /// The sample of a place.
+    fn at(&self, place: usize) -> i64
+        requires { place < 16 }
+        ensures { result ≡ slice_index_or (list self.now) place (pos 0) };
+}
+
+impl Places for [i32; 16] {
+    ghost list = { λ places. places };
+
+    #[inline(always)]
+    fn at(&self, place: usize) -> i64 {
+        i64::from(self[place])
+    }
+}
+
+impl Places for [i64; 16] {
+    ghost list = { λ places. places };
+
+    #[inline(always)]
+    fn at(&self, place: usize) -> i64 {
+        self[place]
+    }
+}
+
+/// Adds a gain times the sample of each channel; the gain is at most 1 in magnitude.
+#[inline(always)]
+pub(crate) fn add_places<P: Places>(sums: &mut Sums, channels: usize, gain: Gain, samples: &P)
+    requires channels { channels ≤ 16 }
+    requires gain { unsigned_abs gain ≤ UNIT }
+    requires small { (k : ℕ) → unsigned_abs (slice_index_or (P.list samples.now) k (pos 0)) ≤ 2 ^ 34 }
+    requires room { (k : ℕ) → unsigned_abs (slice_index_or sums.old k (pos 0)) ≤ 2 ^ 100 }
+    ensures added { (k : ℕ) → k < channels → slice_index_or sums.new k (pos 0) ≡ slice_index_or sums.old k (pos 0) +ℤ (gain *ℤ slice_index_or (P.list samples.now) k (pos 0)) }
+    ensures left { (k : ℕ) → channels ≤ k → slice_index_or sums.new k (pos 0) ≡ slice_index_or sums.old k (pos 0) }
+{
+    let factor = i128::from(gain.trillionths());
+    for channel in 0..channels {
+        sums[channel] += factor * i128::from(samples.at(channel));
+    }
+}
+
 /// Adds a gain times each sample of a frame; the gain is at most 1 in magnitude.
 #[inline(always)]
 pub(crate) fn add_scaled(sums: &mut Sums, channels: usize, gain: Gain, frame: Frame)
@@ -20,11 +65,7 @@ pub(crate) fn add_scaled(sums: &mut Sums, channels: usize, gain: Gain, frame: Fr
     ensures added { (k : ℕ) → k < channels → slice_index_or sums.new k (pos 0) ≡ slice_index_or sums.old k (pos 0) +ℤ (gain *ℤ slice_index_or frame k (pos 0)) }
     ensures few { (k : ℕ) → unsigned_abs (slice_index_or sums.new k (pos 0)) ≤ unsigned_abs (slice_index_or sums.old k (pos 0)) + UNIT * 2 ^ 31 }
 {
-    let factor = i128::from(gain.trillionths());
-    let samples = places(&frame);
-    for channel in 0..channels {
-        sums[channel] += factor * i128::from(samples[channel]);
-    }
+    add_places(sums, channels, gain, &places(&frame));
 }
 
 /// The parts of one in a sum times a gain: each factor is in trillionths.

@@ -1,9 +1,7 @@
-use Rattle.std.proofs.Common.{arith, rules, pos, ◌<◌, ◌≤◌, ◌*◌, ◌^◌, ℕ, List, ℤ, length, get_or, ◌*ℤ◌, ◌≡◌, to_z, of_z}
+use Rattle.std.proofs.Common.{arith, rules, pos, ◌<◌, ◌≤◌, ◌*◌, ◌^◌, length, get_or, ◌*ℤ◌, ◌≡◌, to_z, of_z}
 use Rattle.std.specs.Int.{w128}
 use Rattle.std.proofs.lemmas.Int.{ints, to_z-of_z}
-use Rattle.fx_tap.specs.Lanes.{joined_lanes}
 use Rattle.fx_tap.proofs.products.add_rest.Goals as goal
-use Rattle.fx_tap.proofs.PartLaws.{joined-at, length-parts}
 use Rattle.fx_tap.proofs.ProductBounds.{sum-fits, sum_of_products-drop}
 
 pub overflow_add-sum : goal.overflow_add-sum
@@ -14,16 +12,9 @@ overflow_add-sum c =
 
 pub loop-i-preserved : goal.loop-i-preserved
 loop-i-preserved c =
-    let i : ℕ = c.loop-i.i in
-    let xs : List ℤ = c.args.samples.now in
-    let cs : List ℤ = joined_lanes c.args.highs.now c.args.middles.now c.args.lows.now in
-    let p = c.requires.parts in
-    let long = length-parts (length xs) c.args.highs.now c.args.middles.now c.args.lows.now p in
-    let in_cs : i < length cs = rw long c.loop-i-test.true in
-    let step = sum_of_products-drop xs cs i (pos 0) (pos 0) c.loop-i-test.true in_cs in
-    let at = joined-at c.args.highs.now c.args.middles.now c.args.lows.now (length xs) i (pos 0) p.highs_are p.middles_are p.lows_are c.loop-i-test.true in
-    let coefficient : c.coefficient_of-coefficient.result ≡ get_or cs i (pos 0) = grind (arith, to_z-of_z, at) in
-    let product : c.product-sum.result ≡ (get_or xs i (pos 0) *ℤ get_or cs i (pos 0)) = grind (arith, to_z-of_z) in
+    let in_coefficients : c.loop-i.i < length c.args.coefficients.now = omega arith in
+    let step = sum_of_products-drop c.args.samples.now c.args.coefficients.now c.loop-i.i (pos 0) (pos 0) c.loop-i-test.true in_coefficients in
+    let product : c.product-sum.result ≡ (get_or c.args.samples.now c.loop-i.i (pos 0) *ℤ get_or c.args.coefficients.now c.loop-i.i (pos 0)) = grind (arith, to_z-of_z) in
     record {
       low = omega (arith, ints);
       high = omega (arith, ints);

@@ -1,0 +1,170 @@
+//! Each stage frozen with a frame in hand and made again. The `growth_` tests print `refused` where memory is wanting, in
+//! `new`, for the stored frames or in `thaw`, and `made` where none was.
+use crate::driving::{decay, gain};
+use crate::row_tests::spec;
+use fx_fixed::Weight;
+use fx_frame::inner::two;
+use fx_frame::{Stage, ThawFault, WideFrame};
+use fx_tap::{DcShift, Delay, Echo, Echos, Fir, Remix, Vol};
+use std::alloc::{AllocError, Global};
+use std::test::Fail;
+
+/// The frames that a stage stores.
+fn stored<S: Stage>(alloc: Global, stage: &S) -> Result<Vec<WideFrame>, AllocError> {
+    let mut frames = Vec::new(alloc);
+    for place in 0..stage.held() as usize {
+        frames.push(stage.stored(place))?;
+    }
+    Ok(frames)
+}
+
+/// Was the stage made again, or was memory wanting? Both count the same then, and give the same frame.
+fn comes_back<S: Stage + Drop>(
+    stage: &mut S,
+    made: Result<S, ThawFault>,
+) -> Result<&'static str, Fail> {
+    let mut again = match made {
+        Ok(again) => again,
+        Err(ThawFault::Memory) => return Ok("refused"),
+        Err(_fault) => return Err("no stage of these frames and numbers".into()),
+    };
+    if stage.counters() != again.counters() || stage.give() != again.give() {
+        return Err("another stage".into());
+    }
+    Ok("made")
+}
+
+#[test]
+fn vol_thawed(rt: HostRuntime) -> Result<(), Fail> {
+    let gain = gain("1.5")?;
+    let mut vol = Vol::new(2, gain);
+    vol.take(two(2147483647, 3));
+    let frames = stored(rt.alloc(), &vol)?;
+    let made = Vol::thaw(2, gain, &frames, &vol.counters());
+    comes_back(&mut vol, made)?;
+    Ok(())
+}
+
+#[test]
+fn dcshift_thawed(rt: HostRuntime) -> Result<(), Fail> {
+    let shift = decay("0.5")?;
+    let mut dcshift = DcShift::new(2, shift);
+    dcshift.take(two(2147483647, 3));
+    let frames = stored(rt.alloc(), &dcshift)?;
+    let made = DcShift::thaw(2, shift, &frames, &dcshift.counters());
+    comes_back(&mut dcshift, made)?;
+    Ok(())
+}
+
+/// What a `delay` says that was frozen.
+fn delay_said(alloc: Global) -> Result<&'static str, Fail> {
+    let Ok(mut delay) = Delay::new(alloc, 2, &[1]) else {
+        return Ok("refused");
+    };
+    delay.take(two(50, 80));
+    let Ok(frames) = stored(alloc, &delay) else {
+        return Ok("refused");
+    };
+    let made = Delay::thaw(alloc, 2, &[1], &frames, &delay.counters());
+    comes_back(&mut delay, made)
+}
+
+#[test]
+fn growth_tap_stages_delay(rt: HostRuntime) -> Result<(), Fail> {
+    let said = delay_said(rt.alloc())?;
+    println!(rt; "{said}")?;
+    Ok(())
+}
+
+/// What an `echo` says that was frozen.
+fn echo_said(alloc: Global) -> Result<&'static str, Fail> {
+    let half = decay("0.5")?;
+    let Ok(mut echo) = Echo::new(alloc, 2, half, half, &[(1, half)]) else {
+        return Ok("refused");
+    };
+    echo.take(two(50, 80));
+    let Ok(frames) = stored(alloc, &echo) else {
+        return Ok("refused");
+    };
+    let numbers = echo.counters();
+    let made = Echo::thaw(alloc, 2, half, half, &[(1, half)], &frames, &numbers);
+    comes_back(&mut echo, made)
+}
+
+#[test]
+fn growth_tap_stages_echo(rt: HostRuntime) -> Result<(), Fail> {
+    let said = echo_said(rt.alloc())?;
+    println!(rt; "{said}")?;
+    Ok(())
+}
+
+/// What an `echos` says that was frozen.
+fn echos_said(alloc: Global) -> Result<&'static str, Fail> {
+    let half = decay("0.5")?;
+    let lines = [(2, half), (1, half)];
+    let Ok(mut echos) = Echos::new(alloc, 2, half, half, &lines) else {
+        return Ok("refused");
+    };
+    echos.take(two(50, 80));
+    let Ok(frames) = stored(alloc, &echos) else {
+        return Ok("refused");
+    };
+    let numbers = echos.counters();
+    let made = Echos::thaw(alloc, 2, half, half, &lines, &frames, &numbers);
+    comes_back(&mut echos, made)
+}
+
+#[test]
+fn growth_tap_stages_echos(rt: HostRuntime) -> Result<(), Fail> {
+    let said = echos_said(rt.alloc())?;
+    println!(rt; "{said}")?;
+    Ok(())
+}
+
+/// What a `fir` says that was frozen.
+fn fir_said(alloc: Global) -> Result<&'static str, Fail> {
+    let half = gain("0.5")?;
+    let Ok(mut fir) = Fir::new(alloc, 2, &[half, half]) else {
+        return Ok("refused");
+    };
+    fir.take(two(50, 80));
+    let Ok(frames) = stored(alloc, &fir) else {
+        return Ok("refused");
+    };
+    let made = Fir::thaw(alloc, 2, &[half, half], &frames, &fir.counters());
+    comes_back(&mut fir, made)
+}
+
+#[test]
+fn growth_tap_stages_fir(rt: HostRuntime) -> Result<(), Fail> {
+    let said = fir_said(rt.alloc())?;
+    println!(rt; "{said}")?;
+    Ok(())
+}
+
+/// What a `remix` to the mean of two channels and to silence says that was frozen.
+fn remix_said(alloc: Global) -> Result<&'static str, Fail> {
+    let Ok(mean) = spec(alloc, &[(0, Weight::Share), (1, Weight::Share)]) else {
+        return Ok("refused");
+    };
+    let Ok(silent) = spec(alloc, &[]) else {
+        return Ok("refused");
+    };
+    let outs = [mean, silent];
+    let Ok(mut remix) = Remix::new(alloc, 2, &outs) else {
+        return Ok("refused");
+    };
+    remix.take(two(50, 80));
+    let Ok(frames) = stored(alloc, &remix) else {
+        return Ok("refused");
+    };
+    let made = Remix::thaw(alloc, 2, &outs, &frames, &remix.counters());
+    comes_back(&mut remix, made)
+}
+
+#[test]
+fn growth_tap_stages_remix(rt: HostRuntime) -> Result<(), Fail> {
+    let said = remix_said(rt.alloc())?;
+    println!(rt; "{said}")?;
+    Ok(())
+}
