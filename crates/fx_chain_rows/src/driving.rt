@@ -1,5 +1,5 @@
 //! Chains of words, driven frame by frame.
-ghost use Rattle.std.specs.Prelude.{◌≡◌, IfOk, length};
+ghost use Rattle.std.specs.Prelude.{◌≡◌, IfOk, IfSome, length};
 ghost use Rattle.fx_plan.specs.Planning.{planning};
 
 use fx_chain::Chain;
@@ -12,6 +12,10 @@ use std::test::Fail;
 
 /// More steps than a chain of these rows makes between two frames.
 const MOST_STEPS: u32 = 1000;
+
+/// Each effect once.
+pub(crate) const TWELVE_EFFECTS: &str =
+    "trim -3s pad 1s 1s delay 1s echo 1 1 0.125 0.5 echos 1 1 0.125 0.5 0.125 0.5 fade t 1s -0 vol 1 dcshift 0 fir 0 1 0 remix 1 upsample 2 downsample 2";
 
 /// What a chain did: the samples of the frames that it gave, and the most frames that it held after a call.
 #[derive(Drop)]
@@ -43,20 +47,21 @@ pub(crate) fn mono(sample: i32) -> Frame
 }
 
 /// The sample of a frame's first channel.
-fn first_sample(frame: Frame) -> i32 {
+pub(crate) fn first_sample(frame: Frame) -> i32 {
     let _channels = frame.channels();
     frame.get(0)
 }
 
-/// The plan of these effects behind the head of an AU of 8000 frames a second, one channel and samples of 32 bits.
-pub(crate) fn plan_of(alloc: Global, effects: &str) -> Result<Plan, Fail>
-    ensures mono { IfOk result (λ p. (planning p).head.channels ≡ 1) }
+/// The plan of these effects behind the head of an AU of 8000 frames a second, one channel and samples of 32 bits. None where
+/// the words are refused, or memory for the plan.
+pub(crate) fn found_plan(alloc: Global, effects: &str) -> Option<Plan>
+    ensures mono { IfSome result (λ p. (planning p).head.channels ≡ 1) }
 {
     let mut words = Vec::new(alloc);
     for word in "- -t au -".split(' ').chain(effects.split_whitespace()) {
-        words.push(String::from_str(alloc, word)?)?;
+        words.push(String::from_str(alloc, word).ok()?).ok()?;
     }
-    let line = parse_line(alloc, &words)?;
+    let line = parse_line(alloc, &words).ok()?;
     let head = Head {
         kind: Kind::Au,
         rate: 8000,
@@ -64,11 +69,21 @@ pub(crate) fn plan_of(alloc: Global, effects: &str) -> Result<Plan, Fail>
         coding: Coding::S32Be,
         announced: None,
     };
-    let planned = plan(alloc, &line, &head, &[])?;
+    let planned = plan(alloc, &line, &head, &[]).ok()?;
     if planned.head().channels != 1 {
-        return Err("a plan of another head".into());
+        return None;
     }
-    Ok(planned)
+    Some(planned)
+}
+
+/// The same plan, where memory for it is found.
+pub(crate) fn plan_of(alloc: Global, effects: &str) -> Result<Plan, Fail>
+    ensures mono { IfOk result (λ p. (planning p).head.channels ≡ 1) }
+{
+    match found_plan(alloc, effects) {
+        Some(plan) => Ok(plan),
+        None => Err("no plan of these effects".into()),
+    }
 }
 
 /// The next step of a chain that is busy.

@@ -4,4 +4,6 @@
 #[cfg(test)]
 mod driving;
 #[cfg(test)]
+mod freeze_tests;
+#[cfg(test)]
 mod tests;

@@ -1,15 +1,12 @@
 //! The worked rows of bounds and steps.
 
-use crate::driving::{Driven, feed, finish, mono, next_step, plan_of};
+use crate::driving::{Driven, TWELVE_EFFECTS, feed, finish, mono, next_step, plan_of};
 use fx_chain::Chain;
 use fx_flow::flow::{State, Step};
 use std::alloc::Global;
 use std::test::Fail;
 
 const THREE_EFFECTS: &str = "pad 3s delay 4s echo 1 1 0.25 0.5";
-
-const TWELVE_EFFECTS: &str =
-    "trim -3s pad 1s 1s delay 1s echo 1 1 0.125 0.5 echos 1 1 0.125 0.5 0.125 0.5 fade t 1s -0 vol 1 dcshift 0 fir 0 1 0 remix 1 upsample 2 downsample 2";
 
 /// What a chain did with a whole sound, and the bounds of its plan.
 #[derive(Drop)]
