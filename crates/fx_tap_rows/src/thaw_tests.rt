@@ -1,5 +1,8 @@
 //! Each stage frozen with a frame in hand and made again. The `growth_` tests print `refused` where memory is wanting, in
 //! `new`, for the stored frames or in `thaw`, and `made` where none was.
+ghost use Rattle.std.specs.Prelude.{◌≤◌, IfOk};
+ghost use Rattle.fx_frame.specs.Stage.{kind};
+
 use crate::driving::{decay, gain};
 use crate::row_tests::spec;
 use fx_fixed::Weight;
@@ -16,6 +19,29 @@ fn stored<S: Stage>(alloc: Global, stage: &S) -> Result<Vec<WideFrame>, AllocErr
         frames.push(stage.stored(place))?;
     }
     Ok(frames)
+}
+
+/// A new stage of two channels that took a frame, and what it stores; None where memory was wanting.
+fn frozen<S: Stage + Drop>(
+    alloc: Global,
+    new: Result<S, AllocError>,
+) -> Result<Option<(S, Vec<WideFrame>)>, Fail>
+    requires { IfOk new (λ stage. 1 ≤ (kind S.acts stage).limit) }
+{
+    let Ok(mut stage) = new else {
+        return Ok(None);
+    };
+    if !stage.is_dry() || stage.is_ended() || stage.in_channels() != 2 {
+        return Err("not ready for the frame".into());
+    }
+    if stage.counters()[0] != 0 {
+        return Err("not a new stage".into());
+    }
+    stage.take(two(2147483647, 3));
+    let Ok(frames) = stored(alloc, &stage) else {
+        return Ok(None);
+    };
+    Ok(Some((stage, frames)))
 }
 
 /// Was the stage made again, or was memory wanting? Both count the same then, and give the same frame.
@@ -37,9 +63,9 @@ fn comes_back<S: Stage + Drop>(
 #[test]
 fn vol_thawed(rt: HostRuntime) -> Result<(), Fail> {
     let gain = gain("1.5")?;
-    let mut vol = Vol::new(2, gain);
-    vol.take(two(2147483647, 3));
-    let frames = stored(rt.alloc(), &vol)?;
+    let Some((mut vol, frames)) = frozen(rt.alloc(), Ok(Vol::new(2, gain)))? else {
+        return Err("out of memory".into());
+    };
     let made = Vol::thaw(2, gain, &frames, &vol.counters());
     comes_back(&mut vol, made)?;
     Ok(())
@@ -48,9 +74,9 @@ fn vol_thawed(rt: HostRuntime) -> Result<(), Fail> {
 #[test]
 fn dcshift_thawed(rt: HostRuntime) -> Result<(), Fail> {
     let shift = decay("0.5")?;
-    let mut dcshift = DcShift::new(2, shift);
-    dcshift.take(two(2147483647, 3));
-    let frames = stored(rt.alloc(), &dcshift)?;
+    let Some((mut dcshift, frames)) = frozen(rt.alloc(), Ok(DcShift::new(2, shift)))? else {
+        return Err("out of memory".into());
+    };
     let made = DcShift::thaw(2, shift, &frames, &dcshift.counters());
     comes_back(&mut dcshift, made)?;
     Ok(())
@@ -58,11 +84,7 @@ fn dcshift_thawed(rt: HostRuntime) -> Result<(), Fail> {
 
 /// What a `delay` says that was frozen.
 fn delay_said(alloc: Global) -> Result<&'static str, Fail> {
-    let Ok(mut delay) = Delay::new(alloc, 2, &[1]) else {
-        return Ok("refused");
-    };
-    delay.take(two(50, 80));
-    let Ok(frames) = stored(alloc, &delay) else {
+    let Some((mut delay, frames)) = frozen(alloc, Delay::new(alloc, 2, &[1]))? else {
         return Ok("refused");
     };
     let made = Delay::thaw(alloc, 2, &[1], &frames, &delay.counters());
@@ -79,15 +101,12 @@ fn growth_tap_stages_delay(rt: HostRuntime) -> Result<(), Fail> {
 /// What an `echo` says that was frozen.
 fn echo_said(alloc: Global) -> Result<&'static str, Fail> {
     let half = decay("0.5")?;
-    let Ok(mut echo) = Echo::new(alloc, 2, half, half, &[(1, half)]) else {
-        return Ok("refused");
-    };
-    echo.take(two(50, 80));
-    let Ok(frames) = stored(alloc, &echo) else {
+    let taps = [(1, half)];
+    let Some((mut echo, frames)) = frozen(alloc, Echo::new(alloc, 2, half, half, &taps))? else {
         return Ok("refused");
     };
     let numbers = echo.counters();
-    let made = Echo::thaw(alloc, 2, half, half, &[(1, half)], &frames, &numbers);
+    let made = Echo::thaw(alloc, 2, half, half, &taps, &frames, &numbers);
     comes_back(&mut echo, made)
 }
 
@@ -102,11 +121,7 @@ fn growth_tap_stages_echo(rt: HostRuntime) -> Result<(), Fail> {
 fn echos_said(alloc: Global) -> Result<&'static str, Fail> {
     let half = decay("0.5")?;
     let lines = [(2, half), (1, half)];
-    let Ok(mut echos) = Echos::new(alloc, 2, half, half, &lines) else {
-        return Ok("refused");
-    };
-    echos.take(two(50, 80));
-    let Ok(frames) = stored(alloc, &echos) else {
+    let Some((mut echos, frames)) = frozen(alloc, Echos::new(alloc, 2, half, half, &lines))? else {
         return Ok("refused");
     };
     let numbers = echos.counters();
@@ -124,11 +139,7 @@ fn growth_tap_stages_echos(rt: HostRuntime) -> Result<(), Fail> {
 /// What a `fir` says that was frozen.
 fn fir_said(alloc: Global) -> Result<&'static str, Fail> {
     let half = gain("0.5")?;
-    let Ok(mut fir) = Fir::new(alloc, 2, &[half, half]) else {
-        return Ok("refused");
-    };
-    fir.take(two(50, 80));
-    let Ok(frames) = stored(alloc, &fir) else {
+    let Some((mut fir, frames)) = frozen(alloc, Fir::new(alloc, 2, &[half, half]))? else {
         return Ok("refused");
     };
     let made = Fir::thaw(alloc, 2, &[half, half], &frames, &fir.counters());
@@ -151,11 +162,7 @@ fn remix_said(alloc: Global) -> Result<&'static str, Fail> {
         return Ok("refused");
     };
     let outs = [mean, silent];
-    let Ok(mut remix) = Remix::new(alloc, 2, &outs) else {
-        return Ok("refused");
-    };
-    remix.take(two(50, 80));
-    let Ok(frames) = stored(alloc, &remix) else {
+    let Some((mut remix, frames)) = frozen(alloc, Remix::new(alloc, 2, &outs))? else {
         return Ok("refused");
     };
     let made = Remix::thaw(alloc, 2, &outs, &frames, &remix.counters());
