@@ -9,7 +9,7 @@ ghost use Rattle.fx_plan.specs.Planning.{planning};
 use crate::accepted::Plan;
 
 // Two plans are equal exactly where they have the same parts and their effects do the same. Of two references `*p == *q`
-// tells so; `p == q` tells only the test.
+// tells so; `p == q` and `!=` tell only the test, of which the lemma `plan_exact` says what it tests.
 impl PartialEq for Plan {
     ghost eq = { same_parts };
 

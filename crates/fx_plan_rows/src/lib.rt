@@ -2,8 +2,4 @@
 #![tactic(auto)]
 
 #[cfg(test)]
-mod line_tests;
-#[cfg(test)]
-mod plan_tests;
-#[cfg(test)]
-mod texts;
+mod tests;
