@@ -53,8 +53,9 @@ impl Chain {
         })
     }
 
-    /// The chain of this plan that was frozen as the snapshot. Whichever chain that was comes back, with the same value: so
-    /// it answers every call, now and later, as that one does.
+    /// The chain of this plan that was frozen as the snapshot. Whichever chain that was, one of the same value comes back. No
+    /// answer of a chain depends on anything but its value, as the clauses of its calls show: so the two answer every call,
+    /// now and later, alike.
     ///
     /// WrongPlan exactly where the plan is not equal to the snapshot's, BadSnapshot where no chain of the plan stores these
     /// frames and counts these numbers, Memory where a growth was refused.
