@@ -5,7 +5,7 @@ ghost use Rattle.fx_cut.specs.Factor.{FactorArguments, IsFactor};
 ghost use Rattle.fx_cut.specs.Downsample.{DownsampleState, IsDownsample, downsample_acts};
 
 use fx_frame::frozen::thawed_hand;
-use fx_frame::{Frame, Stage, ThawFault, WideFrame};
+use fx_frame::{Feeds, Frame, Stage, ThawFault, WideFrame};
 use std::marker::Model;
 
 /// The stage of `downsample`: frames 0, f, 2f and so on of the sound, where f is the factor. It takes up to
@@ -171,3 +171,5 @@ impl Stage for Downsample {
         }
     }
 }
+
+impl Feeds for Downsample {}

@@ -13,7 +13,7 @@ ghost use Rattle.fx_cut.specs.Fade.{FadeArguments, FadeState, IsFade, IsFadeCoun
 use fx_fixed::{At, round_clip};
 use fx_frame::frozen::thawed_line_and_hand;
 use fx_frame::inner::{frame_of, places};
-use fx_frame::{Frame, Line, Stage, ThawFault, WideFrame};
+use fx_frame::{Feeds, Frame, Line, Stage, ThawFault, WideFrame};
 use std::alloc::{AllocError, Global};
 use std::marker::Model;
 
@@ -421,3 +421,5 @@ impl Stage for Fade {
         }
     }
 }
+
+impl Feeds for Fade {}

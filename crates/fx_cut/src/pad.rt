@@ -9,7 +9,7 @@ ghost use Rattle.fx_cut.specs.Pad.{IsPad, IsPadCount, IsPads, PadArguments, PadS
 
 use fx_fixed::At;
 use fx_frame::frozen::thawed_line_and_hand;
-use fx_frame::{Frame, Line, Stage, ThawFault, WideFrame};
+use fx_frame::{Feeds, Frame, Line, Stage, ThawFault, WideFrame};
 use std::alloc::{AllocError, Global};
 use std::marker::Model;
 
@@ -391,3 +391,5 @@ impl Stage for Pad {
         }
     }
 }
+
+impl Feeds for Pad {}

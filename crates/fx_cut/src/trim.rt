@@ -10,7 +10,7 @@ ghost use Rattle.fx_cut.specs.Trim.{IsTrim, IsTrimCount, TrimArguments, TrimStat
 
 use fx_fixed::At;
 use fx_frame::frozen::thawed_line_and_hand;
-use fx_frame::{Frame, Line, Stage, ThawFault, WideFrame};
+use fx_frame::{Feeds, Frame, Line, Stage, ThawFault, WideFrame};
 use std::alloc::{AllocError, Global};
 use std::marker::Model;
 
@@ -357,3 +357,5 @@ impl Stage for Trim {
         }
     }
 }
+
+impl Feeds for Trim {}

@@ -5,7 +5,7 @@ ghost use Rattle.fx_cut.specs.Factor.{FactorArguments, IsFactor};
 ghost use Rattle.fx_cut.specs.Upsample.{UpsampleState, IsUpsample, upsample_acts};
 
 use fx_frame::frozen::thawed_hand;
-use fx_frame::{Frame, Stage, ThawFault, WideFrame};
+use fx_frame::{Feeds, Frame, Stage, ThawFault, WideFrame};
 use std::marker::Model;
 
 /// The stage of `upsample`: each frame, followed by f - 1 silent frames, where f is the factor. It takes up to
@@ -173,3 +173,5 @@ impl Stage for Upsample {
         self.channels
     }
 }
+
+impl Feeds for Upsample {}

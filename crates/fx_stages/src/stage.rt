@@ -1,7 +1,7 @@
 //! The stage of any effect.
 use fx_cut::{Downsample, Fade, Pad, Trim, Upsample};
 use fx_frame::stage::Stage;
-use fx_frame::{Frame, WideFrame};
+use fx_frame::{Feeds, Frame, Passed, WideFrame};
 use fx_tap::{DcShift, Delay, Echo, Echos, Fir, Remix, Vol};
 
 /// The stage of an effect.
@@ -250,6 +250,25 @@ impl Stage for EffectStage {
             EffectStage::Remix(stage) => stage.stored(j),
             EffectStage::Vol(stage) => stage.stored(j),
             EffectStage::DcShift(stage) => stage.stored(j),
+        }
+    }
+}
+
+impl Feeds for EffectStage {
+    fn feed(&mut self, input: &[i32], output: &mut [i32]) -> Passed {
+        match self {
+            EffectStage::Trim(stage) => stage.feed(input, output),
+            EffectStage::Pad(stage) => stage.feed(input, output),
+            EffectStage::Fade(stage) => stage.feed(input, output),
+            EffectStage::Upsample(stage) => stage.feed(input, output),
+            EffectStage::Downsample(stage) => stage.feed(input, output),
+            EffectStage::Delay(stage) => stage.feed(input, output),
+            EffectStage::Echo(stage) => stage.feed(input, output),
+            EffectStage::Echos(stage) => stage.feed(input, output),
+            EffectStage::Fir(stage) => stage.feed(input, output),
+            EffectStage::Remix(stage) => stage.feed(input, output),
+            EffectStage::Vol(stage) => stage.feed(input, output),
+            EffectStage::DcShift(stage) => stage.feed(input, output),
         }
     }
 }
