@@ -1,3 +1,4 @@
+pub mod Blocks
 pub mod Chaining
 pub mod Draining
 pub mod Passing

@@ -21,7 +21,7 @@ use Rattle.fx_chain.specs.Through.{CutOff, Drained, Gives, Through}
 use Rattle.fx_chain.proofs.Sending.{coded-append, coded_clips-append}
 
 -- what is not so is not otherwise
-not-both : {X : Type 0} (b : Bool) → b ≡ false → b ≡ true → X
+pub not-both : {X : Type 0} (b : Bool) → b ≡ false → b ≡ true → X
 not-both b f t = absurd (cc)
 
 -- one frame more was not enough

@@ -4,3 +4,5 @@ pub mod Report
 pub mod Run
 pub mod Snapshot
 pub mod Through
+pub mod Block
+pub mod Pump

@@ -19,7 +19,7 @@ use crate::report::{MOST_EFFECTS, Report, RunFault};
 use crate::target::Target;
 use fx_flow::flow::Flow;
 use fx_frame::stage::Stage;
-use fx_frame::{ByteIn, ByteOut, Failed};
+use fx_frame::{ByteIn, ByteOut, Failed, Feeds};
 use fx_sound::inner::Output;
 use fx_sound::{Head, Kind, Progress, Source, head_bytes};
 
@@ -90,7 +90,7 @@ fn close<W: ByteOut>(outlet: &mut Outlet, writer: &mut W, last: &[u8]) -> Result
 ///
 /// Reads no more frames than some effect has enough of. After a failed read, and where the sound is too long, the frames
 /// then due are written; after a failed write the writer has a front of the whole output. Takes no memory.
-pub fn run_flow<R: ByteIn, S: Stage, W: ByteOut>(
+pub fn run_flow<R: ByteIn, S: Feeds, W: ByteOut>(
     flow: &mut Flow<S>,
     head: &Head,
     target: Target,

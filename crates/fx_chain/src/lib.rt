@@ -1,6 +1,7 @@
 //! Sounds through chains of effects: a source, a flow of stages, and a writer.
 #![tactic(auto)]
 
+mod block;
 pub mod chain;
 mod drain;
 mod flow_run;

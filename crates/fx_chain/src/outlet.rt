@@ -1,12 +1,13 @@
 //! Frames on their way to a writer.
-ghost use Rattle.std.specs.Prelude.{◌≡◌, ◌+◌, ◌<◌, ◌≤◌, ◌^◌, OnErr, OnOk, length};
-ghost use Rattle.fx_frame.specs.FrameCoding.{bytes_of, clips_of};
+ghost use Rattle.std.specs.Prelude.{◌≡◌, ◌+◌, ◌*◌, ◌<◌, ◌≤◌, ◌^◌, ◌++◌, OnErr, OnOk, length};
+ghost use Rattle.fx_frame.specs.Coding.{width_of};
+ghost use Rattle.fx_frame.specs.FrameCoding.{bytes_of, clips_of, frame_size};
 ghost use Rattle.fx_frame.specs.Io.{CountsFailure};
 ghost use Rattle.fx_sound.specs.Output.{SendsMore, SendsOn, total};
 
 use fx_frame::inner::encode;
 use fx_frame::{ByteOut, Coding, Failed, Frame};
-use fx_sound::inner::Output;
+use fx_sound::inner::{BUFFER_SIZE, Output};
 
 /// Where frames go: their coding, the buffer before the writer, and how many samples were clipped when they were coded.
 #[derive(Drop)]
@@ -42,6 +43,34 @@ impl Outlet {
                 Err(Failed)
             }
         }
+    }
+}
+
+impl Outlet {
+    /// For how many frames of so many channels there is room before bytes have to go to the writer.
+    pub fn room(&self, channels: usize) -> usize
+        requires { (1 ≤ channels) × (channels ≤ 16) }
+        ensures room { result * channels * width_of self.now.coding ≤ self.now.output.room }
+        ensures most { result * channels ≤ BUFFER_SIZE }
+    {
+        let size = channels * self.coding.width();
+        self.output.room() / size
+    }
+
+    /// Codes samples for which there is room.
+    pub fn put(&mut self, samples: &[i32])
+        requires few_samples { length samples.now ≤ BUFFER_SIZE }
+        requires room { frame_size self.old.coding (length samples.now) ≤ self.old.output.room }
+        requires count { total self.old.output < 2 ^ 63 }
+        requires few { self.old.clips < 2 ^ 62 }
+        ensures bytes { self.new.output.bytes ≡ self.old.output.bytes ++ bytes_of self.old.coding samples.now }
+        ensures written { self.new.output.written ≡ self.old.output.written }
+        ensures count { total self.new.output ≤ total self.old.output + 4 * length samples.now }
+        ensures clips { self.new.clips ≡ self.old.clips + clips_of self.old.coding samples.now }
+        ensures few { self.new.clips ≤ self.old.clips + length samples.now }
+        ensures coding { self.new.coding ≡ self.old.coding }
+    {
+        self.clips += self.output.put_samples(samples, self.coding);
     }
 }
 

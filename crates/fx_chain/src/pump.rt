@@ -13,11 +13,13 @@ ghost use Rattle.fx_sound.specs.Output.{total};
 ghost use Rattle.fx_sound.specs.Sound.{size_of, within};
 ghost use Rattle.fx_sound.specs.Source.{to_come};
 
+use crate::block::pump_block;
 use crate::drain::drain;
 use crate::outlet::Outlet;
 use fx_flow::flow::Flow;
 use fx_frame::stage::Stage;
-use fx_frame::{ByteIn, ByteOut, Failed};
+use fx_frame::{ByteIn, ByteOut, Failed, Feeds};
+use fx_sound::inner::BUFFER_SIZE;
 use fx_sound::{MOST_FRAMES, Progress, ReadFault, Source, next_frame};
 
 /// Why a run stopped.
@@ -56,7 +58,7 @@ fn end_flow<S: Stage, W: ByteOut>(
 }
 
 /// Puts the head into the outlet, and what a flow gives for the frames of a sound behind it.
-pub fn pump<R: ByteIn, S: Stage, W: ByteOut>(
+pub fn pump<R: ByteIn, S: Feeds, W: ByteOut>(
     head: &[u8],
     flow: &mut Flow<S>,
     source: &mut Source<R>,
@@ -115,6 +117,8 @@ pub fn pump<R: ByteIn, S: Stage, W: ByteOut>(
     let Ok(()) = outlet.output.push(writer, head) else {
         return Err(Cause::WriteFailed);
     };
+    let mut input = [0; BUFFER_SIZE];
+    let mut output = [0; BUFFER_SIZE];
     for _turn in 0..MOST_FRAMES + 1 {
         let _stages = flow.stages();
         if flow.is_spent() {
@@ -139,6 +143,18 @@ pub fn pump<R: ByteIn, S: Stage, W: ByteOut>(
             Err(ReadFault::ReadFailed) => return Err(Cause::ReadFailed),
             Err(ReadFault::TooLong) => return Err(Cause::TooLong),
         }
+        let blocks = pump_block(
+            flow,
+            source,
+            progress,
+            outlet,
+            writer,
+            &mut input,
+            &mut output,
+        );
+        let Ok(()) = blocks else {
+            return Err(Cause::WriteFailed);
+        };
     }
     unreachable!()
 }

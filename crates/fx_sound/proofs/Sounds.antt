@@ -1,13 +1,21 @@
 -- The sound behind a head, frame by frame.
-use Rattle.std.proofs.Common.{◌≡◌, ℕ, ◌≤◌, List, length, take, drop, ap, ◌∙◌, arith}
-use Rattle.std.proofs.lemmas.List.{length-take}
+use Rattle.std.proofs.Common.{◌≡◌, ℕ, zero, suc, ◌+◌, ◌-◌, ◌*◌, ◌≤◌, List, ◌∷◌, ◌++◌, length, map, take, drop, refl, sym, ap, ◌∙◌, arith}
+use Rattle.std.proofs.Math.Nat.{mul-le-mul_right}
+use Rattle.std.proofs.lemmas.List.{length-map, length-take, map-append, take_at}
 use Rattle.std.specs.Prelude.{Option, None, Some}
 use Rattle.std.specs.Io.KnownBytes.{prepend_known}
 use Rattle.fx_frame.specs.Frame.{Samples}
-use Rattle.fx_frame.specs.FrameCoding.{samples_of}
+use Rattle.fx_frame.specs.declared.coding.Coding.{Coding}
+use Rattle.fx_frame.specs.FrameCoding.{frame_size, samples_of}
+use Rattle.fx_frame.specs.Pieces.{pieces}
+use Rattle.fx_frame.specs.Ring as any
+use Rattle.fx_frame.proofs.Feeding.{pieces-take}
+use Rattle.fx_frame.proofs.FeedParts.{pieces-split}
+use Rattle.fx_frame.proofs.Pieces.{length-pieces}
+use Rattle.fx_sound.specs.Container.{first_frames}
 use Rattle.fx_sound.specs.Known.{IfKnown}
 use Rattle.fx_sound.specs.Source.{Held, to_come, Stays}
-use Rattle.fx_sound.specs.Sound.{Reading, size_of, within, at_most_announced, TakesFrame}
+use Rattle.fx_sound.specs.Sound.{AreHeld, Reading, size_of, within, at_most_announced, TakesFrame}
 use Rattle.fx_sound.proofs.Held.{to_come-front, to_come-dropped}
 
 -- a whole frame is announced and there
@@ -30,3 +38,69 @@ TakesFrame-held rest p old mid new wanted size frame held stays s w h k t f b r 
       samples = f ∙ ap (samples_of p.coding p.channels) (t ∙ front.0 ∙ ap (λ n. take n bytes) s);
       others = ap (λ l. prepend_known l (rest new.reader)) b ∙ ap (λ x. prepend_known (drop size mid.bytes) (rest x)) r ∙ back.1 ∙ ap (λ n. Some (drop n bytes)) s;
     }
+
+-- both words for the pieces of bytes say the same
+same-pieces : (size n : ℕ) (xs : List ℕ) → pieces size n xs ≡ any.pieces size n xs
+same-pieces size zero xs = refl
+same-pieces size (suc n) xs = ap (λ ps. take size xs ∷ ps) (same-pieces size n (drop size xs))
+
+-- the first frames of a sound need no more of its bytes than they take
+pub first_frames-taken : (coding : Coding) (channels n : ℕ) (bytes : List ℕ) → n * frame_size coding channels ≤ length bytes
+    → map (samples_of coding channels) (any.pieces (frame_size coding channels) n (take (n * frame_size coding channels) bytes)) ≡ first_frames coding channels n bytes
+first_frames-taken coding channels n bytes h =
+    ap (map (samples_of coding channels)) (pieces-take (frame_size coding channels) n bytes h ∙ sym (same-pieces (frame_size coding channels) n bytes))
+
+-- the first frames, and those behind them
+pub first_frames-add : (coding : Coding) (channels n k : ℕ) (bytes : List ℕ)
+    → first_frames coding channels (n + k) bytes ≡ first_frames coding channels n bytes ++ first_frames coding channels k (drop (n * frame_size coding channels) bytes)
+first_frames-add coding channels n k bytes =
+    let size : ℕ = frame_size coding channels in
+    let cut : pieces size (n + k) bytes ≡ pieces size n bytes ++ pieces size k (drop (n * size) bytes) =
+    rw (same-pieces size (n + k) bytes, same-pieces size n bytes, same-pieces size k (drop (n * size) bytes)) (pieces-split size n k bytes) in
+    ap (map (samples_of coding channels)) cut ∙ map-append (samples_of coding channels) (pieces size n bytes) (pieces size k (drop (n * size) bytes))
+
+pub length-first_frames : (coding : Coding) (channels n : ℕ) (bytes : List ℕ) → length (first_frames coding channels n bytes) ≡ n
+length-first_frames coding channels n bytes =
+    let size : ℕ = frame_size coding channels in
+    length-map (pieces size n bytes) (samples_of coding channels) ∙ ap length (same-pieces size n bytes) ∙ length-pieces size n bytes
+
+-- the frames that a source holds are the next ones of the sound
+pub held-next : {R : Type 0} (rest : R → Option (List ℕ)) (p : Reading) (s : Held R) (n : ℕ) → AreHeld p s.bytes n
+    → IfKnown (to_come rest s) (λ bytes. (n * size_of p ≤ length (within p.left bytes)) × (first_frames p.coding p.channels n s.bytes ≡ first_frames p.coding p.channels n bytes))
+held-next rest p s n held bytes known =
+    let front = to_come-front rest s (n * size_of p) held.there bytes known in (
+      whole_within p.left bytes (n * size_of p) held.announced front.1,
+      sym (first_frames-taken p.coding p.channels n s.bytes held.there) ∙ ap (λ bs. map (samples_of p.coding p.channels) (any.pieces (size_of p) n bs)) front.0 ∙ first_frames-taken p.coding p.channels n bytes front.1,
+    )
+
+-- they are taken off what is to come
+pub held-passed : {R : Type 0} (rest : R → Option (List ℕ)) (s new : Held R) (n : ℕ) → n ≤ length s.bytes → new.bytes ≡ drop n s.bytes → new.reader ≡ s.reader
+    → IfKnown (to_come rest s) (λ bytes. to_come rest new ≡ Some (drop n bytes))
+held-passed rest s new n h b r bytes known =
+    let back = to_come-dropped s.bytes (rest s.reader) bytes n h known in
+    ap (λ l. prepend_known l (rest new.reader)) b ∙ ap (λ x. prepend_known (drop n s.bytes) (rest x)) r ∙ back.1
+
+at_most-fewer : (left : Option ℕ) (few many : ℕ) → few ≤ many → many ≤ at_most_announced left many → few ≤ at_most_announced left few
+at_most-fewer None few many h k = omega arith
+at_most-fewer (Some n) few many h k = omega arith
+
+-- fewer frames are held, too
+pub AreHeld-fewer : (p : Reading) (bytes : List ℕ) (few many : ℕ) → few ≤ many → AreHeld p bytes many → AreHeld p bytes few
+AreHeld-fewer p bytes few many h held =
+    let size : few * size_of p ≤ many * size_of p = mul-le-mul_right (size_of p) h in
+    record {
+      there = omega (arith, size, held.there);
+      announced = at_most-fewer p.left _ _ size held.announced;
+      few = omega (arith, held.few);
+      begun = λ over. let none = held.begun over in omega arith;
+    }
+
+-- where samples are so many frames of a sound, they are fewer of them
+pub first_frames-fewer : (coding : Coding) (channels few many : ℕ) (samples : Samples) (bytes : List ℕ) → few ≤ many
+    → any.pieces channels many samples ≡ first_frames coding channels many bytes → any.pieces channels few samples ≡ first_frames coding channels few bytes
+first_frames-fewer coding channels few many samples bytes h e =
+    let more : ℕ = many - few in
+    let parts : many ≡ few + more = omega arith in
+    let left : any.pieces channels many samples ≡ any.pieces channels few samples ++ any.pieces channels more (drop (few * channels) samples) = ap (λ n. any.pieces channels n samples) parts ∙ pieces-split channels few more samples in
+    let right : first_frames coding channels many bytes ≡ first_frames coding channels few bytes ++ first_frames coding channels more (drop (few * frame_size coding channels) bytes) = ap (λ n. first_frames coding channels n bytes) parts ∙ first_frames-add coding channels few more bytes in
+    sym (take_at (any.pieces channels few samples) _ few (length-pieces channels few samples)) ∙ ap (take few) (sym left ∙ e ∙ right) ∙ take_at (first_frames coding channels few bytes) _ few (length-first_frames coding channels few bytes)

@@ -57,6 +57,32 @@ after_frames-more p n =
     ap (λ o. record p { left = o; frames = p.frames + n + 1 }) (beyond-beyond p.left (n * size) size ∙ ap (beyond p.left) more)
     ∙ ap (λ f. record p { left = beyond p.left ((n + 1) * size); frames = f }) (omega arith)
 
+-- so many frames more are counted
+pub after_frames-add : (p : Reading) (n k : ℕ) → after_frames (after_frames p n) k ≡ after_frames p (n + k)
+after_frames-add p n k =
+    let size : ℕ = size_of p in
+    let more : n * size + k * size ≡ (n + k) * size = omega arith in
+    ap (λ o. record p { left = o; frames = p.frames + n + k }) (beyond-beyond p.left (n * size) (k * size) ∙ ap (beyond p.left) more)
+    ∙ ap (λ f. record p { left = beyond p.left ((n + k) * size); frames = f }) (omega arith)
+
+-- so many frames more
+pub Ran-block : (first now new : Reading) (bytes : List ℕ) (n k : ℕ) (to_come new_to_come : Option (List ℕ))
+    → Ran first now bytes n to_come → k * size_of now ≤ length (within now.left (drop (n * size_of first) bytes)) → new ≡ after_frames now k
+    → new_to_come ≡ Some (drop (k * size_of now) (drop (n * size_of first) bytes)) → Ran first new bytes (n + k) new_to_come
+Ran-block first now new bytes n k to_come new_to_come r h e o =
+    let size : ℕ = size_of first in
+    let same : size_of now ≡ size = ap size_of r.now_is in
+    let left : now.left ≡ beyond first.left (n * size) = ap (λ p. p.left) r.now_is in
+    let more : (n + k) * size ≡ n * size + k * size = omega arith in
+    let room : k * size ≤ length (within now.left (drop (n * size) bytes)) = rw same at h in
+    let rest : length (within now.left (drop (n * size) bytes)) ≡ length (within first.left bytes) - n * size =
+    ap (λ o. length (within o (drop (n * size) bytes))) left ∙ length-within_beyond first.left (n * size) bytes in
+    record {
+      whole = omega (arith, room, rest, more, r.whole);
+      now_is = e ∙ ap (λ p. after_frames p k) r.now_is ∙ after_frames-add first n k;
+      to_come_is = o ∙ ap (λ m. Some (drop (k * m) (drop (n * size) bytes))) same ∙ ap Some (drop-drop (k * size) (n * size) bytes ∙ ap (λ m. drop m bytes) (omega (arith, more)));
+    }
+
 -- one frame more
 pub Ran-turn : (first now new : Reading) (bytes : List ℕ) (frame : Samples) (n : ℕ) (to_come new_to_come : Option (List ℕ))
     → Ran first now bytes n to_come → TakesFrame now (drop (n * size_of first) bytes) frame new_to_come → new ≡ after_frame now → Ran first new bytes (n + 1) new_to_come

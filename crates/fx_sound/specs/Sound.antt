@@ -1,5 +1,5 @@
 -- The sound that follows a head (RIFF WAVE, Sun AU, this project's profile).
-use Rattle.std.specs.Prelude.{◌≡◌, ℕ, ◌+◌, ◌-◌, ◌<◌, ◌≤◌, min, Bool, true, List, length, take, drop, Option, None, Some}
+use Rattle.std.specs.Prelude.{◌≡◌, ℕ, ◌+◌, ◌-◌, ◌*◌, ◌^◌, ◌<◌, ◌≤◌, min, Bool, true, List, length, take, drop, Option, None, Some}
 use Rattle.fx_frame.specs.declared.coding.Coding.{Coding}
 use Rattle.fx_frame.specs.Frame.{Samples}
 use Rattle.fx_frame.specs.FrameCoding.{frame_size, samples_of}
@@ -57,3 +57,10 @@ pub record TakesFrame (p : Reading) (bytes : List ℕ) (frame : Samples) (rest :
 pub record EndsSound (p : Reading) (bytes : List ℕ) (new : Reading) : Type 0 where
   pub part : length (within p.left bytes) < size_of p
   pub counts : new ≡ after_end p (length (within p.left bytes))
+
+-- so many whole frames stand in front of these bytes, they are announced, and no more than may be read
+pub record AreHeld (p : Reading) (bytes : List ℕ) (n : ℕ) : Type 0 where
+  pub there : n * size_of p ≤ length bytes
+  pub announced : n * size_of p ≤ at_most_announced p.left (n * size_of p)
+  pub few : p.frames + n ≤ 2 ^ 40
+  pub begun : p.over ≡ true → n ≡ 0

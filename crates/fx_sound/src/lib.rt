@@ -2,6 +2,7 @@
 #![tactic(auto)]
 
 mod au;
+mod block;
 mod buffer;
 pub mod head;
 pub mod inner;

@@ -6,6 +6,7 @@ ghost use Rattle.fx_frame.specs.FrameCoding.{frame_size, bytes_of, clips_of};
 ghost use Rattle.fx_sound.specs.Output.{SendsOn, SendsMore, total};
 
 use super::buffer::BUFFER_SIZE;
+use fx_frame::bulk::encode_into;
 use fx_frame::inner::encode;
 use fx_frame::{ByteOut, Coding, Failed, Frame};
 use std::marker::Model;
@@ -187,6 +188,32 @@ impl Output {
     {
         self.make_room(writer, frame.channels() * coding.width())?;
         Ok(self.put_coded(frame, coding))
+    }
+
+    /// How many more bytes it takes before some have to go to the writer.
+    pub fn room(&self) -> usize
+        ensures value { result ≡ self.now.room }
+        ensures most { result ≤ BUFFER_SIZE }
+    {
+        BUFFER_SIZE - self.end
+    }
+
+    /// Puts the bytes of samples behind those that wait, for which there is room, and tells how many samples were clipped.
+    pub fn put_samples(&mut self, samples: &[i32], coding: Coding) -> u64
+        requires room { frame_size coding (length samples.now) ≤ self.old.room }
+        requires count { total self.old + frame_size coding (length samples.now) < 2 ^ 64 }
+        ensures bytes { self.new.bytes ≡ self.old.bytes ++ bytes_of coding samples.now }
+        ensures count { total self.new ≡ total self.old + frame_size coding (length samples.now) }
+        ensures written { self.new.written ≡ self.old.written }
+        ensures room { self.new.room ≡ self.old.room - frame_size coding (length samples.now) }
+        ensures clips { result ≡ clips_of coding samples.now }
+    {
+        let size = samples.len() * coding.width();
+        let start = self.end;
+        let end = start + size;
+        let clips = encode_into(coding, samples, &mut self.buffer[start..end]);
+        self.end = end;
+        clips
     }
 
     /// Hands the writer all that waits, and flushes it.

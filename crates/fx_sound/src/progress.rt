@@ -1,10 +1,11 @@
 //! The frames of a sound, one after the other.
 
-ghost use Rattle.std.specs.Prelude.{◌≡◌, ◌≤◌, ◌<◌, ◌+◌, ◌-◌, false, true, None, IfOk, IfSome, IfNone, OnErr, OnSome, MatchBool, Ok, Err, length, min};
+ghost use Rattle.std.specs.Prelude.{◌≡◌, ◌≤◌, ◌<◌, ◌+◌, ◌-◌, ◌*◌, false, true, None, IfOk, IfSome, IfNone, OnErr, OnSome, MatchBool, Ok, Err, length, min};
 ghost use Rattle.fx_frame.specs.Io.{saturated};
 ghost use Rattle.fx_sound.specs.Source.{to_come, Takes, FallsShort};
 ghost use Rattle.fx_sound.specs.Known.{IfKnown};
 ghost use Rattle.fx_sound.specs.Sound.{size_of, within, at_most_announced, after_frame, after_end, TakesFrame, EndsSound};
+ghost use Rattle.fx_sound.specs.Container.{after_frames};
 ghost use Rattle.fx_sound.specs.Fault.{is_read_failed};
 
 use super::head::Head;
@@ -104,6 +105,63 @@ impl Progress {
             Some(left) if left < self.size as u64 => left as usize,
             _ => self.size,
         }
+    }
+
+    /// The channels of the frames.
+    pub fn channels(&self) -> usize
+        ensures value { result ≡ self.now.channels }
+        ensures some { 1 ≤ result }
+        ensures few { result ≤ 16 }
+    {
+        self.channels
+    }
+
+    // The coding of the samples.
+    pub(crate) fn coding(&self) -> Coding
+        ensures { result ≡ self.now.coding }
+    {
+        self.coding
+    }
+
+    // How many bytes a frame takes.
+    pub(crate) fn frame_size(&self) -> usize
+        ensures value { result ≡ size_of self.now }
+        ensures some { 1 ≤ result }
+        ensures few { result ≤ 64 }
+    {
+        let _width = self.coding.width();
+        self.size
+    }
+
+    // How many whole frames lie in so many bytes, as far as they are announced and few enough to be read.
+    pub(crate) fn frames_in(&self, held: usize) -> usize
+        ensures held { result * size_of self.now ≤ held }
+        ensures announced { result * size_of self.now ≤ at_most_announced self.now.left (result * size_of self.now) }
+        ensures few { self.now.frames + result ≤ MOST_FRAMES }
+        ensures begun { self.now.over ≡ true → result ≡ 0 }
+    {
+        if self.is_over {
+            return 0;
+        }
+        let announced = match self.left {
+            Some(left) => left.min(held as u64),
+            None => held as u64,
+        };
+        let frames = announced / self.frame_size() as u64;
+        frames.min(MOST_FRAMES - self.frames) as usize
+    }
+
+    // Counts so many frames.
+    pub(crate) fn advance_by(&mut self, count: usize)
+        requires { self.old.frames + count ≤ MOST_FRAMES }
+        ensures { self.new ≡ after_frames self.old count }
+    {
+        let size = self.frame_size();
+        self.frames += count as u64;
+        self.left = match self.left {
+            Some(left) => Some(left.saturating_sub((count * size) as u64)),
+            None => None,
+        };
     }
 
     // Counts a frame.

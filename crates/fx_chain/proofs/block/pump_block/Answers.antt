@@ -1,0 +1,22 @@
+use Rattle.std.proofs.Common.{◌≡◌, ◌+◌, ◌≤◌, ◌∙◌, ap, arith}
+use Rattle.fx_sound.specs.Sound.{Reading}
+use Rattle.fx_chain.specs.Through.{CutOff, Drained}
+use Rattle.fx_chain.proofs.Blocks.{Pumped-block, Pumped-cut}
+use Rattle.fx_chain.proofs.block.pump_block.Goals as goal
+
+pub returns-clause-pumped : goal.returns-clause-pumped
+returns-clause-pumped g c = λ first p.
+    let passed = c.pass_block.ensures in
+    rw (c.in-Ok.ensures.coding ∙ passed.coding)
+    (Pumped-block g.S.Stage.acts _ _ _ first _ _ _ _ _ _ _ _ _ _ _ _ p passed.blocked _ _ _ _ (rw passed.coding at c.in-Ok.ensures.drained) c.in-Ok.ensures.waits c.in-Ok.ensures.room c.in-Ok.ensures.few)
+
+pub returns-clause-more : goal.returns-clause-more
+returns-clause-more g c = let count = ap (λ (p : Reading). p.frames) c.pass_block.ensures.blocked.counted in omega (arith, count)
+
+pub returns-in_default-clause-cut_off : goal.returns-in_default-clause-cut_off
+returns-in_default-clause-cut_off g c = λ first p.
+    let passed = c.pass_block.ensures in
+    Pumped-cut g.S.Stage.acts _ _ _ first _ _ _ _ _ _ _ _ _ _ _ _ p passed.blocked _ _ _ _ (rw passed.coding at c.in_default.ensures.cut_off)
+
+pub returns-in_default-clause-more : goal.returns-in_default-clause-more
+returns-in_default-clause-more g c = let count = ap (λ (p : Reading). p.frames) c.pass_block.ensures.blocked.counted in omega (arith, count)
