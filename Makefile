@@ -4,12 +4,13 @@ SHELL := /bin/bash
 SOURCES = crates.txt $(shell find crates -type f -not -path '*/out/*')
 PROGRAM = crates/soxchain_cli
 
-.PHONY: help test soxchain demo conformance wrong-bodies bench clean
+.PHONY: help test soxchain soxchain-plan demo conformance wrong-bodies bench clean
 
 help:
 	@echo 'make demo      processes a sound of examples/ and says what it wrote'
 	@echo 'make test      the whole gate: every proof, the tests, the programs, the checks of scripts/checks, some wrong bodies'
 	@echo 'make soxchain  builds the proved program as build/soxchain'
+	@echo 'make soxchain-plan  builds the program that says in advance what soxchain would do, as build/soxchain-plan'
 	@echo 'make conformance  runs the proved program on 3,000 cases with known bytes, messages and statuses, and on 2,000 random ones'
 	@echo 'make wrong-bodies  has the prover refuse each wrong body of wrong-bodies/'
 	@echo 'make bench     times the proved program beside sox, effect by effect'
@@ -25,6 +26,13 @@ build/soxchain: $(SOURCES)
 	@mkdir -p build
 	cd $(PROGRAM) && rt run -- - -t au - vol 0.5 <../../examples/tone.au >/dev/null
 	@cp $(PROGRAM)/out/soxchain_cli $@.new && mv $@.new $@
+
+# The program that says in advance what soxchain would do.
+soxchain-plan: build/soxchain-plan
+build/soxchain-plan: $(SOURCES)
+	@mkdir -p build
+	cd crates/soxchain_plan && rt run -- - -t au - vol 0.5 <../../examples/tone.au >/dev/null
+	@cp crates/soxchain_plan/out/soxchain_plan $@.new && mv $@.new $@
 
 # A sound half as loud. The proved program takes minutes to prove, so this runs it unproved, with checks.
 demo:
