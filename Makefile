@@ -4,7 +4,7 @@ SHELL := /bin/bash
 SOURCES = crates.txt $(shell find crates -type f -not -path '*/out/*')
 PROGRAM = crates/soxchain_cli
 
-.PHONY: help test soxchain soxchain-plan demo conformance wrong-bodies bench clean
+.PHONY: help test soxchain soxchain-plan demo conformance wrong-bodies bench pictures clean
 
 help:
 	@echo 'make demo      processes a sound of examples/ and says what it wrote'
@@ -14,6 +14,7 @@ help:
 	@echo 'make conformance  runs the proved program on 3,000 cases with known bytes, messages and statuses, and on 2,000 random ones'
 	@echo 'make wrong-bodies  has the prover refuse each wrong body of wrong-bodies/'
 	@echo 'make bench     times the proved program beside sox, effect by effect'
+	@echo 'make pictures  draws the pictures of docs/effects.md; needs gnuplot'
 	@echo 'make clean     removes build/ and what the checks kept'
 
 # The whole gate, from nothing.
@@ -52,6 +53,10 @@ wrong-bodies:
 # The proved program beside sox, which has to be installed.
 bench: build/soxchain
 	@scripts/bench build/soxchain
+
+# What each effect does to a sound, from the proved program's own output.
+pictures: build/soxchain
+	@scripts/pictures
 
 clean:
 	rm -rf build crates/*/out
