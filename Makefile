@@ -3,8 +3,12 @@ SHELL := /bin/bash
 .SHELLFLAGS := -eu -o pipefail -c
 SOURCES = crates.txt $(shell find crates -type f -not -path '*/out/*')
 PROGRAM = crates/soxchain_cli
+PREFIX = /usr/local
+DESTDIR =
+# The one place of the version is the program.
+VERSION := $(shell sed -n 's/^pub const VERSION.*"soxchain \([0-9.]*\)\\n.*/\1/p' crates/soxchain_about/src/lib.rt)
 
-.PHONY: help test soxchain soxchain-plan demo conformance wrong-bodies bench pictures clean
+.PHONY: help test soxchain soxchain-plan demo conformance wrong-bodies bench pictures install uninstall deb dist check-docs same-bytes clean
 
 help:
 	@echo 'make demo      processes a sound of examples/ and says what it wrote'
@@ -15,6 +19,11 @@ help:
 	@echo 'make wrong-bodies  has the prover refuse each wrong body of wrong-bodies/'
 	@echo 'make bench     times the proved program beside sox, effect by effect'
 	@echo 'make pictures  draws the pictures of docs/effects.md; needs gnuplot'
+	@echo 'make install [PREFIX=/usr/local] [DESTDIR=]  programs, manual and completion; make uninstall takes them away'
+	@echo 'make deb       a Debian package of what make install installs, in build/'
+	@echo 'make dist      the sources and the package with checksums, in build/dist'
+	@echo 'make check-docs  runs each command of the documents, and looks through the manual and the package; installs what it needs'
+	@echo 'make same-bytes  builds both programs in two folders, and compares their bytes'
 	@echo 'make clean     removes build/ and what the checks kept'
 
 # The whole gate, from nothing.
@@ -57,6 +66,32 @@ bench: build/soxchain
 # What each effect does to a sound, from the proved program's own output.
 pictures: build/soxchain
 	@scripts/pictures
+
+# What is installed: the programs, the pages of the manual with the version, and completion for bash, zsh and fish.
+install: build/soxchain build/soxchain-plan
+	@scripts/install '$(DESTDIR)$(PREFIX)' '$(VERSION)'
+
+uninstall:
+	@scripts/install --remove '$(DESTDIR)$(PREFIX)'
+
+# A package, by dpkg-deb and dpkg-shlibdeps.
+deb: build/soxchain build/soxchain-plan
+	@scripts/deb '$(VERSION)'
+
+# What is released. The sources are those of the last commit.
+dist: deb
+	@scripts/dist '$(VERSION)'
+
+# Each command of the documents as it stands there; the gate runs those that need no other tools.
+check-docs: build/soxchain build/soxchain-plan
+	@scripts/docs_tools
+	@scripts/check_docs --all
+	@mandoc -T lint man/*.1
+	@scripts/checks/completion
+
+# Two builds in two folders give the same bytes.
+same-bytes:
+	@scripts/same_bytes
 
 clean:
 	rm -rf build crates/*/out
