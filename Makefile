@@ -3,16 +3,27 @@ SHELL := /bin/bash
 .SHELLFLAGS := -eu -o pipefail -c
 SOURCES = crates.txt $(shell find crates -type f -not -path '*/out/*')
 PROGRAM = crates/soxchain_cli
+PREFIX = /usr/local
+DESTDIR =
+# The one place of the version is the program.
+VERSION := $(shell sed -n 's/^pub const VERSION.*"soxchain \([0-9.]*\)\\n.*/\1/p' crates/soxchain_about/src/lib.rt)
 
-.PHONY: help test soxchain demo conformance wrong-bodies bench clean
+.PHONY: help test soxchain soxchain-plan demo conformance wrong-bodies bench pictures install uninstall deb dist check-docs same-bytes clean
 
 help:
 	@echo 'make demo      processes a sound of examples/ and says what it wrote'
 	@echo 'make test      the whole gate: every proof, the tests, the programs, the checks of scripts/checks, some wrong bodies'
 	@echo 'make soxchain  builds the proved program as build/soxchain'
+	@echo 'make soxchain-plan  builds the program that says in advance what soxchain would do, as build/soxchain-plan'
 	@echo 'make conformance  runs the proved program on 3,000 cases with known bytes, messages and statuses, and on 2,000 random ones'
 	@echo 'make wrong-bodies  has the prover refuse each wrong body of wrong-bodies/'
 	@echo 'make bench     times the proved program beside sox, effect by effect'
+	@echo 'make pictures  draws the pictures of docs/effects.md; needs gnuplot'
+	@echo 'make install [PREFIX=/usr/local] [DESTDIR=]  programs, manual and completion; make uninstall takes them away'
+	@echo 'make deb       a Debian package of what make install installs, in build/'
+	@echo 'make dist      the sources and the package with checksums, in build/dist'
+	@echo 'make check-docs  runs each command of the documents, and looks through the manual and the package; installs what it needs'
+	@echo 'make same-bytes  builds both programs in two folders, and compares their bytes'
 	@echo 'make clean     removes build/ and what the checks kept'
 
 # The whole gate, from nothing.
@@ -25,6 +36,13 @@ build/soxchain: $(SOURCES)
 	@mkdir -p build
 	cd $(PROGRAM) && rt run -- - -t au - vol 0.5 <../../examples/tone.au >/dev/null
 	@cp $(PROGRAM)/out/soxchain_cli $@.new && mv $@.new $@
+
+# The program that says in advance what soxchain would do.
+soxchain-plan: build/soxchain-plan
+build/soxchain-plan: $(SOURCES)
+	@mkdir -p build
+	cd crates/soxchain_plan && rt run -- - -t au - vol 0.5 <../../examples/tone.au >/dev/null
+	@cp crates/soxchain_plan/out/soxchain_plan $@.new && mv $@.new $@
 
 # A sound half as loud. The proved program takes minutes to prove, so this runs it unproved, with checks.
 demo:
@@ -44,6 +62,36 @@ wrong-bodies:
 # The proved program beside sox, which has to be installed.
 bench: build/soxchain
 	@scripts/bench build/soxchain
+
+# What each effect does to a sound, from the proved program's own output.
+pictures: build/soxchain
+	@scripts/pictures
+
+# What is installed: the programs, the pages of the manual with the version, and completion for bash, zsh and fish.
+install: build/soxchain build/soxchain-plan
+	@scripts/install '$(DESTDIR)$(PREFIX)' '$(VERSION)'
+
+uninstall:
+	@scripts/install --remove '$(DESTDIR)$(PREFIX)'
+
+# A package, by dpkg-deb and dpkg-shlibdeps.
+deb: build/soxchain build/soxchain-plan
+	@scripts/deb '$(VERSION)'
+
+# What is released. The sources are those of the last commit.
+dist: deb
+	@scripts/dist '$(VERSION)'
+
+# Each command of the documents as it stands there; the gate runs those that need no other tools.
+check-docs: build/soxchain build/soxchain-plan
+	@scripts/docs_tools
+	@scripts/check_docs --all
+	@mandoc -T lint man/*.1
+	@scripts/checks/completion
+
+# Two builds in two folders give the same bytes.
+same-bytes:
+	@scripts/same_bytes
 
 clean:
 	rm -rf build crates/*/out

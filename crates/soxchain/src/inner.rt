@@ -2,7 +2,7 @@
 //! prepared for a command line that was read.
 
 pub use crate::file_messages::{tell_cannot_open, tell_cannot_rewrite};
-pub use crate::messages::{label_of_line, tell_line};
+pub use crate::messages::{label_of_line, tell_line, tell_refusal};
 pub use crate::prepared::Prepared;
 pub use crate::preparing::{Refusal, prepare_line, status_of_fault};
 pub use crate::telling::Telling;

@@ -8,6 +8,7 @@ ghost use Rattle.soxchain.specs.Finishing.{Finished};
 ghost use Rattle.soxchain.specs.Telling.{Tells};
 ghost use Rattle.soxchain_cli.specs.Heads.{true_head};
 
+use crate::same_file::create_beside;
 use fx_frame::{ByteIn, ByteOut, Counted};
 use fx_plan::{CommandLine, Stream};
 use fx_sound::{HeadBytes, Source, head_bytes};
@@ -77,7 +78,7 @@ fn process_from<R: ByteIn + Drop, M: ByteOut>(
             let (status, _report) = finish(ready, &mut source, &mut output, messages);
             status
         }
-        Stream::Named(name) => match File::create(rt, name) {
+        Stream::Named(name) => match create_beside(rt, asked.line.input(), name) {
             Ok(file) => process_to(ready, &mut source, file, name, messages),
             Err(_) => cannot_open(messages, name),
         },

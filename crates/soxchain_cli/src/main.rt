@@ -8,12 +8,15 @@ ghost use Rattle.soxchain.specs.Telling.{Tells};
 
 mod coefficients;
 mod files;
+mod help;
+mod same_file;
 mod until_fault;
 
 use coefficients::read_files;
 use files::{Asked, process};
 use fx_frame::{ByteOut, Counted};
 use fx_plan::{LineFault, parse_line};
+use help::{answer_of, tell_answer};
 use soxchain::inner::{Telling, label_of_line, status_of_fault, tell_line};
 use std::process::ExitCode;
 use std::{env, io};
@@ -52,6 +55,9 @@ fn work<M: ByteOut>(rt: &HostRuntime, messages: &mut M) -> Result<u8, u8> {
         Ok(words) => words,
         Err(error) => return Err(refused(messages, fault_of(&error))),
     };
+    if let Some(answer) = answer_of(&words) {
+        return Ok(tell_answer(rt, answer, messages));
+    }
     let line = match parse_line(rt.alloc(), &words) {
         Ok(line) => line,
         Err(fault) => return Err(refused(messages, fault)),

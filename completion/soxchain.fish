@@ -1,0 +1,34 @@
+# Completion of soxchain and soxchain-plan for fish.
+
+# How many of IN and OUT stand before the word that is completed.
+function __soxchain_files
+    set -l files 0
+    set -l skip 0
+    for word in (commandline -opc)[2..-1]
+        if test $skip = 1
+            set skip 0
+        else if contains -- $word -t -b; and test $files -lt 2
+            set skip 1
+        else if test $word = -; or not string match -q -- '-*' $word
+            set files (math $files + 1)
+        end
+    end
+    echo $files
+end
+
+function __soxchain_before
+    set -l words (commandline -opc)
+    contains -- $words[-1] $argv
+end
+
+for program in soxchain soxchain-plan
+    complete -c $program -n 'test (__soxchain_files) -ge 2; and not __soxchain_before fir' -f
+    complete -c $program -n 'test (__soxchain_files) -ge 2; and not __soxchain_before fade fir' -a 'trim pad delay echo echos fade vol dcshift fir remix upsample downsample'
+    complete -c $program -n 'test (__soxchain_files) -ge 2; and __soxchain_before fade' -a t
+    complete -c $program -n 'test (__soxchain_files) -lt 2' -o t -x -a 'wav au' -d 'the container of the file behind it'
+    complete -c $program -n 'test (__soxchain_files) -eq 1' -o b -x -a '8 16 24 32' -d 'the bits of a sample'
+    complete -c $program -n 'test (__soxchain_files) -lt 2' -o D -d 'changes nothing'
+    complete -c $program -n 'test (count (commandline -opc)) -eq 1' -l help -d 'prints the usage'
+    complete -c $program -n 'test (count (commandline -opc)) -eq 1' -l version -d 'prints the version'
+end
+complete -c soxchain-plan -n 'test (count (commandline -opc)) -eq 1' -l json -d 'prints one JSON object'

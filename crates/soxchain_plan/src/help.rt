@@ -1,0 +1,19 @@
+//! What the program says of itself.
+
+/// The answer to `--help`.
+pub const HELP: &str = "usage: soxchain-plan [--json] WORD ..
+       soxchain-plan --help | --version
+
+Says what soxchain would do with the same words, and changes nothing. Of IN only the head is read; OUT is not made.
+
+For IN and OUT it prints kind, rate, channels, bits and frames; for each effect and for the chain the frames that it may
+hold, with the bytes of their samples; and by how many frames an effect gives later than it takes. Lengths are those of a
+sound as long as its head announces. With --json as the first word it prints the same as one JSON object.
+
+A refusal has the message and the status of soxchain, and then a line that says what to do.
+
+effects:
+  trim pad delay echo echos fade vol dcshift fir remix upsample downsample (soxchain --help has their words)
+
+status: 0 there is a plan, 1 the words are refused, 2 any other fault. The manual: man soxchain-plan
+";

@@ -1,0 +1,123 @@
+//! The program soxchain-plan: what soxchain would do with the same words, known from the words and the head of IN alone.
+//!
+//! On standard output comes what the plan says, as text or, behind `--json`, as one JSON object. A refusal has the message
+//! and the status of soxchain, and then a line that says what to do.
+#![tactic(auto)]
+
+mod advice;
+mod help;
+mod lengths;
+mod outline;
+mod quoting;
+mod reading;
+mod stop;
+mod style;
+
+use fx_frame::Counted;
+use fx_plan::{CommandLine, LineFault, parse_line, plan};
+use fx_sound::Head;
+use help::HELP;
+use outline::{Outline, outline_of};
+use reading::{head_of, read_files};
+use soxchain::inner::Refusal;
+use soxchain_about::{VERSION, answer_to, show};
+use std::process::ExitCode;
+use std::{env, io};
+use stop::Stop;
+use style::Style;
+
+/// The words behind the program's name.
+fn words_of(rt: &HostRuntime) -> io::Result<Vec<String>> {
+    let mut words = Vec::new(rt.alloc());
+    for word in env::args(rt)?.skip(1) {
+        words.push(word)?;
+    }
+    Ok(words)
+}
+
+/// The fault of words that could not be had: want of memory, or a word that is not UTF-8.
+fn fault_of(error: &io::Error) -> LineFault {
+    match error.kind() {
+        io::ErrorKind::OutOfMemory => LineFault::Memory,
+        _ => LineFault::BadOption,
+    }
+}
+
+/// The status where something was shown on standard output.
+fn shown(rt: &HostRuntime, done: io::Result<()>) -> u8 {
+    match done {
+        Ok(()) => 0,
+        Err(_) => Stop::CannotOpen("-").tell(&mut Counted::new(rt.stderr())),
+    }
+}
+
+/// Tells why there is no plan and what to do, and answers the status. As JSON it stands on standard output too.
+fn stopped(rt: &HostRuntime, style: Style, stop: &Stop<'_>) -> u8 {
+    let status = stop.tell(&mut Counted::new(rt.stderr()));
+    if style == Style::Text {
+        return status;
+    }
+    let mut message = Counted::new(Vec::new(rt.alloc()));
+    stop.tell_message(&mut message);
+    match quoting::show_stop(
+        &mut rt.stdout(),
+        status,
+        &message.into_inner(),
+        stop.advice(),
+    ) {
+        Ok(()) => status,
+        Err(_) => shown(rt, Err(io::Error::from(io::ErrorKind::BrokenPipe))),
+    }
+}
+
+/// What the plan of a line says, behind the head of its input.
+fn plan_line(
+    rt: &HostRuntime,
+    style: Style,
+    line: &CommandLine,
+    head: &Head,
+    files: &[Vec<u8>],
+) -> u8 {
+    let plan = match plan(rt.alloc(), line, head, files) {
+        Ok(plan) => plan,
+        Err(fault) => return stopped(rt, style, &Stop::Refused(line, Refusal::Plan(fault))),
+    };
+    let outline: Outline = match outline_of(rt.alloc(), head, &plan) {
+        Ok(outline) => outline,
+        Err(_) => return stopped(rt, style, &Stop::Refused(line, Refusal::Chain)),
+    };
+    shown(rt, outline.show(&mut rt.stdout(), style))
+}
+
+/// Does what a command line asks for, and answers the status.
+fn answer_line(rt: &HostRuntime, style: Style, line: &CommandLine) -> u8 {
+    let files = match read_files(rt, line) {
+        Ok(files) => files,
+        Err(name) => return stopped(rt, style, &Stop::CannotOpen(name)),
+    };
+    match head_of(rt, line) {
+        Ok(Ok(head)) => plan_line(rt, style, line, &head, &files),
+        Ok(Err(fault)) => stopped(rt, style, &Stop::Refused(line, Refusal::Head(fault))),
+        Err(name) => stopped(rt, style, &Stop::CannotOpen(name)),
+    }
+}
+
+/// Does what the words ask for, and answers the status.
+fn answer_words(rt: &HostRuntime, words: &[String]) -> u8 {
+    if let Some(text) = answer_to(words, HELP, VERSION) {
+        return shown(rt, show(&mut rt.stdout(), text));
+    }
+    let (style, words) = style::split(words);
+    match parse_line(rt.alloc(), words) {
+        Ok(line) => answer_line(rt, style, &line),
+        Err(fault) => stopped(rt, style, &Stop::Line(fault)),
+    }
+}
+
+fn main(rt: HostRuntime) -> ExitCode {
+    let status = match words_of(&rt) {
+        Ok(words) => answer_words(&rt, &words),
+        Err(error) => stopped(&rt, Style::Text, &Stop::Line(fault_of(&error))),
+    };
+    ExitCode::from(status)
+}

@@ -1,0 +1,77 @@
+//! Why there is no plan: the message of soxchain and its status, and what to do.
+
+use crate::advice::{
+    OPENING, REACHING, advice_on_head, advice_on_line, advice_on_memory, advice_on_plan,
+};
+use fx_frame::ByteOut;
+use fx_plan::{CommandLine, LineFault};
+use soxchain::inner::{
+    Refusal, Telling, label_of_line, status_of_fault, tell_cannot_open, tell_line, tell_refusal,
+};
+
+/// Why there is no plan.
+#[derive(Clone, Copy, Drop)]
+pub enum Stop<'a> {
+    /// The command line is refused.
+    Line(LineFault),
+    /// A file cannot be opened or read; `-` is standard output.
+    CannotOpen(&'a str),
+    /// What the line asks for is refused.
+    Refused(&'a CommandLine, Refusal),
+}
+
+/// The name of this effect of a line, counted from 1; no text where there is none.
+fn name_of(line: &CommandLine, number: usize) -> &str {
+    if number == 0 || number > line.effect_count() {
+        return "";
+    }
+    if line.word_count(number) == 0 {
+        return "";
+    }
+    line.word(number, 1)
+}
+
+impl Stop<'_> {
+    /// The status of soxchain.
+    pub fn status(&self) -> u8 {
+        match self {
+            Stop::Line(fault) => status_of_fault(*fault),
+            Stop::CannotOpen(_) => 2,
+            Stop::Refused(_, refusal) => refusal.status(),
+        }
+    }
+
+    /// What to do.
+    pub fn advice(&self) -> &'static str {
+        match self {
+            Stop::Line(fault) => advice_on_line(*fault),
+            Stop::CannotOpen("-") => REACHING,
+            Stop::CannotOpen(_) => OPENING,
+            Stop::Refused(_, Refusal::Head(fault)) => advice_on_head(*fault),
+            Stop::Refused(line, Refusal::Plan(fault)) => {
+                advice_on_plan(fault.cause, name_of(line, fault.effect))
+            }
+            Stop::Refused(_, Refusal::Chain) => advice_on_memory(),
+        }
+    }
+
+    /// Tells the message of soxchain.
+    pub fn tell_message<M: ByteOut>(&self, messages: &mut M) {
+        let mut telling = Telling::new();
+        match self {
+            Stop::Line(fault) => tell_line(&mut telling, messages, label_of_line(*fault)),
+            Stop::CannotOpen(name) => tell_cannot_open(&mut telling, messages, name),
+            Stop::Refused(line, refusal) => tell_refusal(&mut telling, messages, line, refusal),
+        }
+    }
+
+    /// Tells the message of soxchain and what to do, a line each, and answers the status.
+    pub fn tell<M: ByteOut>(&self, messages: &mut M) -> u8 {
+        self.tell_message(messages);
+        let mut telling = Telling::new();
+        telling.text(messages, "soxchain-plan: ");
+        telling.text(messages, self.advice());
+        telling.text(messages, "\n");
+        self.status()
+    }
+}

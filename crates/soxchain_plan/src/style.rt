@@ -1,0 +1,18 @@
+//! As what a plan is shown.
+
+/// As what a plan is shown.
+#[derive(Clone, Copy, Debug, Drop, PartialEq, Eq)]
+pub enum Style {
+    /// Lines for people.
+    Text,
+    /// One JSON object.
+    Json,
+}
+
+/// The style that the first word asks for, and the words of the command line.
+pub fn split(words: &[String]) -> (Style, &[String]) {
+    match words.split_first() {
+        Some((word, more)) if word.as_str() == "--json" => (Style::Json, more),
+        _ => (Style::Text, words),
+    }
+}
