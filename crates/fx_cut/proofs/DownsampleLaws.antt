@@ -93,6 +93,8 @@ module _ (s : DownsampleState) (frame : Samples) (is : IsDownsample s) (dry : is
         counted = rw next (omega arith);
         skipped = rw next after;
         few = omega arith;
+        behind = λ held. omega arith;
+        over = λ ended. absurd (cc (running, ended));
         fits = fits;
       }
 
@@ -109,5 +111,7 @@ module _ (s : DownsampleState) (frame : Samples) (is : IsDownsample s) (dry : is
         counted = rw next is.counted;
         skipped = rw next after;
         few = omega arith;
+        behind = λ held. absurd (let none = dry-count s.hand dry in omega arith);
+        over = λ ended. absurd (cc (running, ended));
         fits = is.fits;
       }

@@ -6,10 +6,10 @@ use Rattle.std.proofs.lemmas.Bool.{lt-leb, le-leb}
 use Rattle.std.proofs.lemmas.List.Sums.{sum_by-append}
 use Rattle.std.proofs.lemmas.List.{drop_more, drop_all}
 use mathlib.Core.Path.{ap₂}
-use Rattle.fx_fixed.specs.Positions.{places_after, places_of}
+use Rattle.fx_fixed.specs.Positions.{place_of, places_after, places_of}
 use Rattle.fx_fixed.specs.declared.positions.At.{At}
 use Rattle.fx_fixed.specs.declared.positions.At.TheVariants.{Start, End}
-use Rattle.fx_cut.specs.Trim.{keeps, starts}
+use Rattle.fx_cut.specs.Trim.{keeps, kept_count, starts}
 use Rattle.fx_cut.proofs.Ranges.{range_split, count_same, count_const}
 use Rattle.fx_cut.proofs.TrimLaws.{count_by-cons, none_before}
 
@@ -25,24 +25,22 @@ odd-none : (kept : Bool) → odd_from kept 0 ≡ kept
 odd-none true = refl
 odd-none false = refl
 
--- how many frames from a place on to another are kept by positions, none of which lies before that place
-abbrev pub kept_in : Bool → ℕ → ℕ → List At → ℕ
-kept_in kept last end ps = count_by (λ n. odd_from kept (count_by (λ q. leb q n) (places_after 0 last (starts ps)))) (range_with_len last (end - last))
+-- how many frames from a place on to another are kept by positions in a sound of so many frames, none of which lies before that place
+abbrev pub kept_from : Bool → ℕ → ℕ → ℕ → List At → ℕ
+kept_from kept frames last end ps = count_by (λ n. odd_from kept (count_by (λ q. leb q n) (places_after frames last ps))) (range_with_len last (end - last))
 
-pub kept-nil : (kept : Bool) (last end : ℕ) → kept_in kept last end [] ≡ cond kept (end - last) 0
-kept-nil kept last end = count_same (λ n. odd_from kept 0) (λ n. kept) last (end - last) (λ i low high. odd-none kept) ∙ count_const kept last (end - last)
-
-pub kept-end : (kept : Bool) (last end b : ℕ) (ps : List At) → kept_in kept last end (End b ∷ ps) ≡ cond kept (end - last) 0
-kept-end kept last end b ps = kept-nil kept last end
+pub kept-nil : (kept : Bool) (frames last end : ℕ) → kept_from kept frames last end [] ≡ cond kept (end - last) 0
+kept-nil kept frames last end = count_same (λ n. odd_from kept 0) (λ n. kept) last (end - last) (λ i low high. odd-none kept) ∙ count_const kept last (end - last)
 
 -- one more position
-pub kept-start : (kept : Bool) (last end p : ℕ) (ps : List At) → last ≤ end
-    → kept_in kept last end (Start p ∷ ps) ≡ cond kept (max last (min end p) - last) 0 + kept_in (not kept) (max last (min end p)) end ps
-kept-start kept last end p ps h =
+pub kept-more : (kept : Bool) (frames last end : ℕ) (a : At) (ps : List At) → last ≤ end
+    → kept_from kept frames last end (a ∷ ps) ≡ cond kept (max last (min end (place_of frames a)) - last) 0 + kept_from (not kept) frames (max last (min end (place_of frames a))) end ps
+kept-more kept frames last end a ps h =
+    let p : ℕ = place_of frames a in
     let next : ℕ = max last (min end p) in
     let q : ℕ = max last p in
-    let F : ℕ → Bool = λ n. odd_from kept (count_by (λ q. leb q n) (q ∷ places_after 0 q (starts ps))) in
-    let G : ℕ → Bool = λ n. odd_from (not kept) (count_by (λ q. leb q n) (places_after 0 next (starts ps))) in
+    let F : ℕ → Bool = λ n. odd_from kept (count_by (λ q. leb q n) (q ∷ places_after frames q ps)) in
+    let G : ℕ → Bool = λ n. odd_from (not kept) (count_by (λ q. leb q n) (places_after frames next ps)) in
     let parts : end - last ≡ (next - last) + (end - next) = omega arith in
     let middle : last + (next - last) ≡ next = omega arith in
     ap (λ k. count_by F (range_with_len last k)) parts
@@ -52,22 +50,26 @@ kept-start kept last end p ps h =
     (count_same F (λ n. kept) last (next - last) (λ i low high.
     let away : i < q = omega arith in
     let none : leb q i ≡ false = lt-leb q i away in
-    ap (odd_from kept) (count_by-cons i q (places_after 0 q (starts ps)) ∙ ap (λ b. cond b 1 0 + count_by (λ q. leb q i) (places_after 0 q (starts ps))) none ∙ zero-add (count_by (λ q. leb q i) (places_after 0 q (starts ps))) ∙ none_before 0 i q (starts ps) away) ∙ odd-none kept)
+    ap (odd_from kept) (count_by-cons i q (places_after frames q ps) ∙ ap (λ b. cond b 1 0 + count_by (λ q. leb q i) (places_after frames q ps)) none ∙ zero-add (count_by (λ q. leb q i) (places_after frames q ps)) ∙ none_before frames i q ps away) ∙ odd-none kept)
     ∙ count_const kept last (next - last))
     (count_same F G next (end - next) (λ i low high.
     let same : q ≡ next = omega arith in
     let one : leb q i ≡ true = le-leb q i (omega arith) in
-    ap (odd_from kept) (count_by-cons i q (places_after 0 q (starts ps)) ∙ ap (λ b. cond b 1 0 + count_by (λ q. leb q i) (places_after 0 q (starts ps))) one)
-    ∙ odd-one kept (count_by (λ q. leb q i) (places_after 0 q (starts ps)))
-    ∙ ap (λ l. odd_from (not kept) (count_by (λ q. leb q i) (places_after 0 l (starts ps)))) same))
+    ap (odd_from kept) (count_by-cons i q (places_after frames q ps) ∙ ap (λ b. cond b 1 0 + count_by (λ q. leb q i) (places_after frames q ps)) one)
+    ∙ odd-one kept (count_by (λ q. leb q i) (places_after frames q ps))
+    ∙ ap (λ l. odd_from (not kept) (count_by (λ q. leb q i) (places_after frames l ps))) same))
 
 -- all of them
-pub kept-all : (end : ℕ) (ps : List At) → kept_in false 0 end ps ≡ count_by (keeps (places_of 0 (starts ps))) (range_with_len 0 end)
-kept-all end ps =
+pub kept-all : (frames end : ℕ) (ps : List At) → kept_from false frames 0 end ps ≡ kept_count ps frames end
+kept-all frames end ps =
     let whole : end - 0 ≡ end = omega arith in
-    ap (λ k. count_by (λ n. odd_from false (count_by (λ q. leb q n) (places_after 0 0 (starts ps)))) (range_with_len 0 k)) whole
-    ∙ count_same (λ n. odd_from false (count_by (λ q. leb q n) (places_after 0 0 (starts ps)))) (keeps (places_of 0 (starts ps))) 0 end
-    (λ i low high. ap (λ k. eqb (k % 2) 1) (zero-add (count_by (λ q. leb q i) (places_after 0 0 (starts ps)))))
+    ap (λ k. count_by (λ n. odd_from false (count_by (λ q. leb q n) (places_after frames 0 ps))) (range_with_len 0 k)) whole
+    ∙ count_same (λ n. odd_from false (count_by (λ q. leb q n) (places_after frames 0 ps))) (keeps (places_of frames ps)) 0 end
+    (λ i low high. ap (λ k. eqb (k % 2) 1) (zero-add (count_by (λ q. leb q i) (places_after frames 0 ps))))
+
+-- the same of the positions before the first one from the end
+abbrev pub kept_in : Bool → ℕ → ℕ → List At → ℕ
+kept_in kept last end ps = kept_from kept 0 last end (starts ps)
 
 between-le : (kept : Bool) (n : ℕ) → cond kept n 0 ≤ n
 between-le true n = omega arith
@@ -79,13 +81,13 @@ between-le false n = omega arith
 pub count-over : (ps : List At) (i kept last end : ℕ) (is_kept : Bool) → length ps ≤ i → kept + kept_in is_kept last end (drop i ps) ≡ kept_in false 0 end ps
     → kept + cond is_kept (end - last) 0 ≡ count_by (keeps (places_of 0 (starts ps))) (range_with_len 0 end)
 count-over ps i kept last end is_kept h e =
-    ap (λ k. kept + k) (sym (kept-nil is_kept last end)) ∙ ap (λ l. kept + kept_in is_kept last end l) (sym (drop_all i ps h)) ∙ e ∙ kept-all end ps
+    ap (λ k. kept + k) (sym (kept-nil is_kept 0 last end)) ∙ ap (λ l. kept + kept_in is_kept last end l) (sym (drop_all i ps h)) ∙ e ∙ kept-all 0 end (starts ps)
 
 -- at a position from the end
 pub count-end : (ps : List At) (i kept last end b : ℕ) (is_kept : Bool) → i < length ps → get_or ps i (Start 0) ≡ End b → kept + kept_in is_kept last end (drop i ps) ≡ kept_in false 0 end ps
     → kept + cond is_kept (end - last) 0 ≡ count_by (keeps (places_of 0 (starts ps))) (range_with_len 0 end)
 count-end ps i kept last end b is_kept h g e =
-    ap (λ k. kept + k) (sym (kept-end is_kept last end b (drop (i + 1) ps))) ∙ ap (λ l. kept + kept_in is_kept last end l) (sym (drop_more ps i (Start 0) h ∙ ap (λ a. a ∷ drop (i + 1) ps) g)) ∙ e ∙ kept-all end ps
+    ap (λ k. kept + k) (sym (kept-nil is_kept 0 last end)) ∙ ap (λ l. kept + kept_in is_kept last end l) (sym (drop_more ps i (Start 0) h ∙ ap (λ a. a ∷ drop (i + 1) ps) g)) ∙ e ∙ kept-all 0 end (starts ps)
 
 -- at a position from the start
 pub count-start : (ps : List At) (i kept last end p next : ℕ) (is_kept : Bool) → i < length ps → get_or ps i (Start 0) ≡ Start p → last ≤ end → next ≡ max last (min end p) → kept ≤ last
@@ -94,6 +96,23 @@ pub count-start : (ps : List At) (i kept last end p next : ℕ) (is_kept : Bool)
 count-start ps i kept last end p next is_kept h g w n f e =
     let whole : kept + kept_in is_kept last end (Start p ∷ drop (i + 1) ps) ≡ kept_in false 0 end ps =
     ap (λ l. kept + kept_in is_kept last end l) (sym (drop_more ps i (Start 0) h ∙ ap (λ a. a ∷ drop (i + 1) ps) g)) ∙ e in
-    let step = kept-start is_kept last end p (drop (i + 1) ps) w in
+    let step = kept-more is_kept 0 last end (Start p) (starts (drop (i + 1) ps)) w in
+    let few = between-le is_kept (next - last) in
+    (rw n (omega (arith, whole, step)), omega arith)
+
+-- ---- the same of all positions
+
+pub whole-over : (ps : List At) (frames i kept last end : ℕ) (is_kept : Bool) → length ps ≤ i → kept + kept_from is_kept frames last end (drop i ps) ≡ kept_from false frames 0 end ps
+    → kept + cond is_kept (end - last) 0 ≡ kept_count ps frames end
+whole-over ps frames i kept last end is_kept h e =
+    ap (λ k. kept + k) (sym (kept-nil is_kept frames last end)) ∙ ap (λ l. kept + kept_from is_kept frames last end l) (sym (drop_all i ps h)) ∙ e ∙ kept-all frames end ps
+
+pub whole-more : (ps : List At) (frames i kept last end next : ℕ) (a : At) (is_kept : Bool) → i < length ps → get_or ps i (Start 0) ≡ a → last ≤ end → next ≡ max last (min end (place_of frames a)) → kept ≤ last
+    → kept + kept_from is_kept frames last end (drop i ps) ≡ kept_from false frames 0 end ps
+    → (kept + cond is_kept (next - last) 0 + kept_from (not is_kept) frames next end (drop (i + 1) ps) ≡ kept_from false frames 0 end ps) × (kept + cond is_kept (next - last) 0 ≤ next)
+whole-more ps frames i kept last end next a is_kept h g w n f e =
+    let whole : kept + kept_from is_kept frames last end (a ∷ drop (i + 1) ps) ≡ kept_from false frames 0 end ps =
+    ap (λ l. kept + kept_from is_kept frames last end l) (sym (drop_more ps i (Start 0) h ∙ ap (λ b. b ∷ drop (i + 1) ps) g)) ∙ e in
+    let step = kept-more is_kept frames last end a (drop (i + 1) ps) w in
     let few = between-le is_kept (next - last) in
     (rw n (omega (arith, whole, step)), omega arith)

@@ -12,11 +12,11 @@ use Rattle.fx_frame.specs.Frozen.{IsHand}
 use Rattle.fx_frame.specs.Line.{Frames, IsLine}
 use Rattle.fx_frame.specs.Stage.{Gave, Took, coming, is_enough}
 use Rattle.fx_cut.specs.Lists.{plain}
-use Rattle.fx_cut.specs.Trim.{keeps, starts, greatest_end, is_start, last_start, trimmed_from, trim_rest, trim_after, trim_enough, TrimState, IsTrim, trim_acts}
+use Rattle.fx_cut.specs.Trim.{keeps, kept_count, starts, greatest_end, is_start, last_start, trimmed_from, trim_rest, trim_after, trim_enough, TrimState, IsTrim, trim_acts}
 use Rattle.fx_cut.proofs.Fallen.{fallen, stays, no_fall, stays-room, is_full, oldest-first, oldest-channels, first-popped}
 use Rattle.fx_cut.proofs.Hands.{none_of, at_most_one, empty_of}
-use Rattle.fx_cut.proofs.Ranges.{kept_next}
-use Rattle.fx_cut.proofs.TrimLaws.{none-late}
+use Rattle.fx_cut.proofs.Ranges.{count_same, kept_next}
+use Rattle.fx_cut.proofs.TrimLaws.{kept-early, none-late}
 use Rattle.fx_cut.proofs.TrimRest.{trim_taken, trim_let_go, trim_ended}
 
 -- ---- after the end
@@ -36,6 +36,49 @@ drained ps frames items items' o b e e' h k =
     ap (λ l. trim_after ps frames l []) split
     ∙ trim_ended ps n o items'
     ∙ ap₂ (λ c m. cond c (o ∷ []) [] ++ trim_rest ps m items' []) keeping next
+
+-- and is counted, where it is kept
+pub kept-popped : (ps : List At) (frames : ℕ) (items items' : List Samples) (o : Samples) (b : Bool) → Some o ≡ slice_get items 0 → items' ≡ drop 1 items → length items ≤ frames
+    → b ≡ keeps (places_of frames ps) (frames - length items)
+    → kept_count ps frames (frames - length items) + cond b 1 0 ≡ kept_count ps frames (frames - length items')
+kept-popped ps frames items items' o b e e' h k =
+    let long : length items ≡ length (o ∷ items') = ap length (first-popped items items' o e e') in
+    let next : frames - length items' ≡ frames - length items + 1 = omega arith in
+    ap (λ c. kept_count ps frames (frames - length items) + cond c 1 0) k
+    ∙ sym (kept_next (keeps (places_of frames ps)) (frames - length items))
+    ∙ ap (kept_count ps frames) (sym next)
+
+-- where the end comes, all that is due was given
+pub kept-due : (s : TrimState) → IsTrim s → s.ended ≡ false → s.given + length (option_to_list s.hand) ≡ kept_count s.recipe.positions s.taken (s.taken - length s.line.items)
+kept-due s is running =
+    let f = is.full running in
+    let cap = is.capacity in
+    let ps : List At = s.recipe.positions in
+    let same : s.taken - length s.line.items ≡ s.taken - greatest_end ps = omega arith in
+    is.counted running
+    ∙ count_same (keeps (places_of 0 (starts ps))) (keeps (places_of s.taken ps)) 0 (s.taken - greatest_end ps) (λ i low high. sym (kept-early s.taken i ps (omega arith)))
+    ∙ ap (kept_count ps s.taken) (sym same)
+
+-- after the end, the next frame that is kept is in hand
+pub IsTrim-over : (s : TrimState) (line : Frames ℤ) (hand : Option Samples) (given : ℕ) → IsTrim s → given + length s.line.items ≤ s.taken
+    → given ≡ kept_count s.recipe.positions s.taken (s.taken - length s.line.items)
+    → kept_count s.recipe.positions s.taken (s.taken - length s.line.items) + length (option_to_list hand) ≡ kept_count s.recipe.positions s.taken (s.taken - length line.items)
+    → (hand ≡ None → line.items ≡ []) → length (option_to_list hand) + length line.items ≤ length s.line.items → IsHand s.line.channels hand
+    → IsLine w32 line → line.capacity ≡ s.line.capacity → line.channels ≡ s.line.channels
+    → IsTrim (record s { line = line; hand = hand; given = given; ended = true })
+IsTrim-over s line hand given is low before kept empty fewer fits lined capacity channels = record {
+  line = lined;
+  channels = channels ∙ is.channels;
+  capacity = capacity ∙ is.capacity;
+  enough = is.enough;
+  few = is.few;
+  within = omega arith;
+  full = λ r. absurd (false≢true (sym r));
+  counted = λ r. absurd (false≢true (sym r));
+  over = λ e none. empty none;
+  gone = λ e. ap (λ n. n + length (option_to_list hand)) before ∙ kept;
+  fits = rw is.channels at fits;
+}
 
 -- ---- a frame comes
 
@@ -109,6 +152,7 @@ module _ (s : TrimState) (frame : Samples) (is : IsTrim s) (dry : is_none s.hand
         full = λ r. rw capacity (omega arith);
         counted = λ r. rw early (is.counted running);
         over = λ r. absurd (cc (r, running));
+        gone = λ r. absurd (cc (r, running));
         fits = is.fits;
       }
 
@@ -141,6 +185,7 @@ module _ (s : TrimState) (frame : Samples) (is : IsTrim s) (dry : is_none s.hand
         full = λ r. rw capacity (omega arith);
         counted = λ r. rw next (omega (arith, more, k', kept, counted, empty));
         over = λ r. absurd (cc (r, running));
+        gone = λ r. absurd (cc (r, running));
         fits = fits;
       }
 

@@ -15,6 +15,7 @@ count-of s is = record {
   full = λ e. let f = is.full e in let c = is.capacity in omega arith;
   counted = is.counted;
   over = λ e none. ap length (is.over e (no-hand s.hand none));
+  gone = is.gone;
 }
 
 -- the numbers of a trim count so
@@ -44,5 +45,6 @@ IsTrim-thawed channels capacity taken given held hands ended ps enough frames li
       full = λ e. let f = count.full e in omega arith;
       counted = λ e. let k = count.counted e in omega (arith, k);
       over = λ e none. let z : hands ≡ 0 = sym h ∙ ap (λ o. length (option_to_list o)) none in let k = count.over e z in empty_of line.items (omega arith);
+      gone = λ e. rw (h, ← items) (count.gone e);
       fits = st.held;
     }

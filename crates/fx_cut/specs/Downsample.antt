@@ -1,5 +1,5 @@
 -- The effect `downsample` (sox(1), EFFECTS, downsample): the first of every so many frames.
-use Rattle.std.specs.Prelude.{ℕ, ◌+◌, ◌*◌, ◌^◌, ◌≤◌, ◌≡◌, Bool, Option, None, List, [], ◌++◌, drop, length, map, option_to_list, is_none, slice_index_or}
+use Rattle.std.specs.Prelude.{ℕ, ◌+◌, ◌*◌, ◌^◌, ◌<◌, ◌≤◌, ◌≡◌, Bool, true, Option, None, List, [], ◌++◌, drop, length, map, option_to_list, is_none, slice_index_or}
 use Rattle.std.specs.Int.{div_ceil}
 use Rattle.fx_frame.specs.Frame.{Samples}
 use Rattle.fx_frame.specs.Stage.{Given, Acts, coming}
@@ -27,6 +27,9 @@ pub record IsDownsample (s : DownsampleState) : Type 0 where
   pub arguments : IsFactor s.recipe
   pub counted : s.given + length (option_to_list s.hand) ≡ div_ceil s.taken s.recipe.factor
   pub skipped : s.taken + s.skip ≡ div_ceil s.taken s.recipe.factor * s.recipe.factor
+  -- a frame is in hand only before the frames that are left out, and none after the end
+  pub behind : 0 < length (option_to_list s.hand) → s.skip + 1 ≡ s.recipe.factor
+  pub over : s.ended ≡ true → length (option_to_list s.hand) ≡ 0
   pub few : s.taken ≤ 2 ^ 56
   pub fits : IsHand s.recipe.channels s.hand
 

@@ -15,6 +15,10 @@ use Rattle.fx_cut.specs.Lists.{plain}
 abbrev pub keeps : List ℕ → ℕ → Bool
 keeps places n = count_by (λ q. nat_le q n) places % 2 == 1
 
+-- how many of the frames before place n are kept, in a sound of so many frames
+abbrev pub kept_count : List At → ℕ → ℕ → ℕ
+kept_count ps frames n = count_by (keeps (places_of frames ps)) (range_with_len 0 n)
+
 -- the frames after an odd number of positions
 abbrev pub trimmed : List At → List Samples → List Samples
 trimmed ps x = map (λ n. slice_index_or x n []) (filter (keeps (places_of (length x) ps)) (range_with_len 0 (length x)))
@@ -88,6 +92,8 @@ pub record IsTrim (s : TrimState) : Type 0 where
   pub full : s.ended ≡ false → length s.line.items ≡ min s.taken s.line.capacity
   pub counted : s.ended ≡ false → s.given + length (option_to_list s.hand) ≡ trim_due s.recipe.positions s.taken
   pub over : s.ended ≡ true → s.hand ≡ None → s.line.items ≡ []
+  -- after the end, those given and in hand are those that are kept before the frames of the line
+  pub gone : s.ended ≡ true → s.given + length (option_to_list s.hand) ≡ kept_count s.recipe.positions s.taken (s.taken - length s.line.items)
   pub fits : IsHand s.recipe.channels s.hand
 
 -- the same of its counts alone: so many frames taken and given, in the line and in hand
@@ -95,6 +101,7 @@ pub record IsTrimCount (positions : List At) (taken given lined hands : ℕ) (en
   pub full : ended ≡ false → lined ≡ min taken (greatest_end positions)
   pub counted : ended ≡ false → given + hands ≡ trim_due positions taken
   pub over : ended ≡ true → hands ≡ 0 → lined ≡ 0
+  pub gone : ended ≡ true → given + hands ≡ kept_count positions taken (taken - lined)
 
 -- what is kept of the frames of the line, the newest of which is the last that was taken, and of these that come
 abbrev pub trim_after : List At → ℕ → List Samples → List Samples → List Samples

@@ -1,5 +1,5 @@
 -- The effect `upsample` (sox(1), EFFECTS, upsample): each frame is followed by silence.
-use Rattle.std.specs.Prelude.{ℕ, ◌+◌, ◌*◌, ◌/◌, ◌%◌, ◌^◌, ◌≤◌, ◌≡◌, Bool, ◌&&◌, Option, None, List, [], ◌++◌, length, map, replicate, option_to_list, is_none, slice_index_or, nat_eq, cond}
+use Rattle.std.specs.Prelude.{ℕ, ◌+◌, ◌*◌, ◌/◌, ◌%◌, ◌^◌, ◌<◌, ◌≤◌, ◌≡◌, Bool, true, ◌&&◌, Option, None, List, [], ◌++◌, length, map, replicate, option_to_list, is_none, slice_index_or, nat_eq, cond}
 use Rattle.fx_frame.specs.Frame.{Samples, silence}
 use Rattle.fx_frame.specs.Stage.{Given, Acts, coming}
 use Rattle.fx_frame.specs.Frozen.{IsHand}
@@ -29,6 +29,10 @@ pub record UpsampleState : Type 0 where
 pub record IsUpsample (s : UpsampleState) : Type 0 where
   pub arguments : IsFactor s.recipe
   pub counted : s.given + length (option_to_list s.hand) + s.silent ≡ s.taken * s.recipe.factor
+  -- all silent frames are left behind a frame in hand, and nothing is left after the end
+  pub fewer : s.silent < s.recipe.factor
+  pub behind : 0 < length (option_to_list s.hand) → s.silent + 1 ≡ s.recipe.factor
+  pub over : s.ended ≡ true → length (option_to_list s.hand) + s.silent ≡ 0
   pub few : s.taken ≤ 2 ^ 56 / s.recipe.factor
   pub fits : IsHand s.recipe.channels s.hand
 

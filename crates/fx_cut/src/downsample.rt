@@ -73,6 +73,9 @@ impl Downsample {
         if given > made || held != made - given || skip != made * factor - taken {
             return Err(ThawFault::BadSnapshot);
         }
+        if held != 0 && (ended != 0 || skip + 1 != factor) {
+            return Err(ThawFault::BadSnapshot);
+        }
         let hand = thawed_hand(frames, channels)?;
         Ok(Downsample {
             hand,

@@ -2,11 +2,11 @@
 ghost use Rattle.std.specs.Prelude.{◌≡◌, ◌≤◌, ◌+◌, ◌-◌, ◌++◌, ◌^◌, [], length, count_by, if◌then◌else◌, Err, IfOk, MatchResult, None, option_to_list, true, false};
 ghost use Rattle.std.specs.List.{range_with_len};
 ghost use Rattle.std.specs.Int.{w32};
-ghost use Rattle.fx_fixed.specs.Positions.{places_of};
+ghost use Rattle.fx_fixed.specs.Positions.{place_of, places_of};
 ghost use Rattle.fx_frame.specs.Frozen.{IsHand};
 ghost use Rattle.fx_frame.specs.Line.{IsLine};
 ghost use Rattle.fx_frame.specs.Stage.{Freezes, IsNew};
-ghost use Rattle.fx_cut.specs.Trim.{IsTrim, IsTrimCount, TrimArguments, TrimState, greatest_end, keeps, starts, trim_acts, trim_after, trim_enough};
+ghost use Rattle.fx_cut.specs.Trim.{IsTrim, IsTrimCount, TrimArguments, TrimState, greatest_end, keeps, kept_count, starts, trim_acts, trim_after, trim_enough};
 
 use fx_fixed::At;
 use fx_frame::frozen::thawed_line_and_hand;
@@ -32,6 +32,16 @@ fn is_kept_by_starts(positions: &[At], place: u64) -> bool
     crossed % 2 == 1
 }
 
+/// Where a position lies in a sound of so many frames.
+fn place_in(frames: u64, at: At) -> u64
+    ensures { result ≡ place_of frames at }
+{
+    match at {
+        At::Start(start) => start,
+        At::End(distance) => frames.saturating_sub(distance),
+    }
+}
+
 /// Is the frame at this place kept, in a sound of so many frames?
 fn is_kept(positions: &[At], frames: u64, place: u64) -> bool
     ensures { result ≡ keeps (places_of frames positions.now) place }
@@ -39,10 +49,7 @@ fn is_kept(positions: &[At], frames: u64, place: u64) -> bool
     let mut last = 0;
     let mut crossed: usize = 0;
     'positions: for at in positions {
-        let position = match at {
-            At::Start(start) => *start,
-            At::End(distance) => frames.saturating_sub(*distance),
-        };
+        let position = place_in(frames, *at);
         last = last.max(position);
         if last <= place {
             crossed += 1;
@@ -70,6 +77,23 @@ fn kept_before(positions: &[At], end: u64) -> u64
             return kept + kept_between(is_kept, last, end);
         };
         let next = last.max(end.min(*start));
+        kept += kept_between(is_kept, last, next);
+        is_kept = !is_kept;
+        last = next;
+    }
+    kept + kept_between(is_kept, last, end)
+}
+
+/// How many frames before this place are kept, in a sound of so many frames?
+fn kept_in_sound(positions: &[At], frames: u64, end: u64) -> u64
+    ensures { result ≡ kept_count positions.now frames end }
+{
+    let mut last: u64 = 0;
+    let mut is_kept = false;
+    let mut kept = 0;
+    'positions: for at in positions {
+        let position = place_in(frames, *at);
+        let next = last.max(end.min(position));
         kept += kept_between(is_kept, last, next);
         is_kept = !is_kept;
         last = next;
@@ -108,7 +132,7 @@ fn enough_of(positions: &[At]) -> Option<u64>
 }
 
 /// Does a stage of these positions, with so many frames in its line and in hand, count so? Before the end it has given what is
-/// due, after the end it has a frame in hand unless its line is empty.
+/// due, after the end those that are kept before the line, and it has a frame in hand unless its line is empty.
 fn is_count(
     positions: &[At],
     taken: u64,
@@ -117,12 +141,13 @@ fn is_count(
     hands: u64,
     is_ended: bool,
 ) -> bool
-    requires { given + hands ≤ taken }
+    requires { given + hands + lined ≤ taken }
     ensures count { result ≡ true → IsTrimCount positions.now taken given lined hands is_ended }
     ensures other { result ≡ false → IsTrimCount positions.now taken given lined hands is_ended → ⊥ }
 {
     if is_ended {
-        return hands != 0 || lined == 0;
+        let is_over = hands != 0 || lined == 0;
+        return is_over && given + hands == kept_in_sound(positions, taken, taken - lined);
     }
     let reach = greatest_end_of(positions);
     if lined != taken.min(reach) {
@@ -137,6 +162,7 @@ fn is_count(
 fn next_kept(line: &mut Line, positions: &[At], frames: u64) -> Option<Frame>
     requires { length line.old.items ≤ frames }
     ensures rest { trim_after positions.now frames line.old.items [] ≡ option_to_list result ++ trim_after positions.now frames line.new.items [] }
+    ensures kept { kept_count positions.now frames (frames - length line.old.items) + length (option_to_list result) ≡ kept_count positions.now frames (frames - length line.new.items) }
     ensures empty { result ≡ None → line.new.items ≡ [] }
     ensures fewer { length (option_to_list result) + length line.new.items ≤ length line.old.items }
     ensures hand { IsHand line.old.channels result }

@@ -73,6 +73,12 @@ impl Upsample {
         if given > made || held > made - given || silent != made - given - held {
             return Err(ThawFault::BadSnapshot);
         }
+        if silent >= factor
+            || (held != 0 && silent + 1 != factor)
+            || (ended != 0 && given != made)
+        {
+            return Err(ThawFault::BadSnapshot);
+        }
         let hand = thawed_hand(frames, channels)?;
         Ok(Upsample {
             hand,

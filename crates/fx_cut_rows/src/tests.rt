@@ -4,7 +4,7 @@ ghost use Rattle.fx_frame.specs.Stage.{kind};
 
 use fx_cut::{Downsample, Fade, Pad, Trim, Upsample};
 use fx_fixed::At;
-use fx_frame::{Frame, Stage, WideFrame};
+use fx_frame::{Frame, Stage, ThawFault, WideFrame};
 use std::alloc::{AllocError, Global};
 use std::test::Fail;
 
@@ -242,6 +242,31 @@ fn fade_thaws(rt: HostRuntime) -> Result<(), Fail> {
     }
     let (rest, _early) = through(rt.alloc(), &mut again, &[100])?;
     assert_eq!(rt; rest.as_slice(), [100, 100, 50].as_slice());
+    Ok(())
+}
+
+/// Is that no snapshot of the stage?
+fn is_refused<S: Drop>(made: &Result<S, ThawFault>) -> bool {
+    matches!(made, Err(ThawFault::BadSnapshot))
+}
+
+/// More silence than a factor of 3 leaves, a frame in hand after the end, and a sound of five frames of which `trim 0` gives
+/// one.
+#[test]
+fn unreached_refused(rt: HostRuntime) -> Result<(), Fail> {
+    let frames = [WideFrame::from_frame(mono(7))];
+    let silent = Upsample::thaw(1, 3, &[], &[3, 0, 0, 0, 0, 9, 0, 0]);
+    assert!(rt; is_refused(&silent));
+    let over = Downsample::thaw(1, 2, &frames, &[1, 0, 1, 0, 1, 1, 0, 0]);
+    assert!(rt; is_refused(&over));
+    let few = Trim::thaw(
+        rt.alloc(),
+        1,
+        &[At::Start(0)],
+        &frames,
+        &[5, 0, 1, 0, 1, 1, 0, 0],
+    );
+    assert!(rt; is_refused(&few));
     Ok(())
 }
 

@@ -73,6 +73,10 @@ pub record Own : Type 0 where
   pub seventh : ℕ
   pub eighth : ℕ
 
+-- those of a new stage
+abbrev pub no_own : Own
+no_own = record { sixth = 0; seventh = 0; eighth = 0 }
+
 -- the eight numbers of a stage that stores so many frames
 abbrev pub numbered : Counts → ℕ → Own → List ℕ
 numbered c stored own = c.taken ∷ c.given ∷ cond c.ended 1 0 ∷ c.clips ∷ stored ∷ own.sixth ∷ own.seventh ∷ own.eighth ∷ []
@@ -114,6 +118,7 @@ module _ {S R : Type 0} (acts : Acts S R) where
     pub counts : acts.counts s ≡ no_counts
     pub dry : acts.dry s ≡ true
     pub stored : acts.stored s ≡ []
+    pub own : acts.own s ≡ no_own
 
   -- these are the frames and numbers of a stage
   pub record Freezes (s : S) (frames : List Samples) (numbers : List ℕ) : Type 0 where

@@ -29,12 +29,18 @@ abbrev pub first_of : {A : Type 0} → List A → Option A
 first_of [] = None
 first_of (x ∷ xs) = Some x
 
--- a refusal of words with these faults: the first of them, or want of memory
+-- what a call that takes no memory answers for words with these faults: the first of them, or this value where there
+-- is none
+abbrev pub Finds : {X : Type 0} → Result X Mark → List Mark → X → Type 0
+Finds (Ok x) faults value = (faults ≡ []) × (x ≡ value)
+Finds (Err m) faults value = first_of faults ≡ Some m
+
+-- a refusal by a call that takes memory, of words with these faults: the first of them, or want of memory
 abbrev pub Refuses : Refusal → List Mark → Type 0
 Refuses refusals.Memory faults = Unit {0}
 Refuses (refusals.Marked m) faults = first_of faults ≡ Some m
 
--- what is answered for words with these faults: this value where there is none
+-- what a call that takes memory answers for words with these faults: this value where there is none
 abbrev pub Reads : {X Y : Type 0} → (X → Y) → Result X Refusal → List Mark → Y → Type 0
 Reads view (Ok x) faults value = (faults ≡ []) × (view x ≡ value)
 Reads view (Err e) faults value = Refuses e faults

@@ -71,14 +71,15 @@ pub struct PlanFault {
     pub word: usize,
 }
 
-/// Why the words of an effect are refused, and the number of the word.
+/// Why the words of an effect are refused, and the number of the word. A call that takes no memory answers no other
+/// fault.
 #[derive(Clone, Copy, Debug, Drop, PartialEq, Eq)]
 pub struct Mark {
     pub cause: PlanCause,
     pub word: usize,
 }
 
-/// Why an effect's words give no effect.
+/// Why an effect's words give no effect, of a call that takes memory.
 #[derive(Clone, Copy, Debug, Drop, PartialEq, Eq)]
 pub enum Refusal {
     /// A growth was refused.
@@ -87,9 +88,26 @@ pub enum Refusal {
     Marked(Mark),
 }
 
-/// A refused word.
+impl From<Mark> for Refusal {
+    ghost use Rattle.fx_plan.specs.declared.fault.Refusal.TheVariants.{Marked};
+
+    ghost from_gives = { λ m refusal. refusal ≡ Marked m };
+
+    fn from(mark: Mark) -> Refusal {
+        Refusal::Marked(mark)
+    }
+}
+
+/// The fault of the word of this number.
+pub fn at_word(cause: PlanCause, word: usize) -> Mark
+    ensures { result ≡ mark cause word }
+{
+    Mark { cause, word }
+}
+
+/// A refused word, of a call that takes memory.
 pub fn marked(cause: PlanCause, word: usize) -> Refusal
     ensures { result ≡ Refusal.Marked (mark cause word) }
 {
-    Refusal::Marked(Mark { cause, word })
+    at_word(cause, word).into()
 }

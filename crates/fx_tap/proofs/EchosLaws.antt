@@ -154,6 +154,8 @@ IsEchos-taken s lines frame out clips is dry running few lines_are small clips_f
       not_ended = is.not_ended;
       few_clips = is.few_clips;
       hand_few = clips_few;
+      idle = λ none. absurd (omega arith);
+      over = λ ended. absurd (cc (running, ended));
       fits = λ x q. let same : out ≡ x = cc in (rw (← same) framed, rw (← same) long);
     }
 
@@ -204,6 +206,8 @@ IsEchos-drained s lines quiet clips is none some small lines_are clips_few =
       not_ended = λ e. let k = is.not_ended e in omega arith;
       few_clips = omega arith;
       hand_few = is.hand_few;
+      idle = is.idle;
+      over = is.over;
       fits = is.fits;
     }
 
@@ -248,6 +252,8 @@ IsEchos-new a is whole = record {
   not_ended = λ e. refl;
   few_clips = omega arith;
   hand_few = omega arith;
+  idle = λ none. refl;
+  over = λ ended. refl;
   fits = λ x q. absurd (cc);
 }
 

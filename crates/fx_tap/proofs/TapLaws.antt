@@ -1,5 +1,6 @@
 -- The steps of a stage that makes each frame of that frame and of those before it.
-use Rattle.std.proofs.Common.{ℕ, ℤ, pos, zero, suc, ◌+◌, ◌-◌, ◌<◌, ◌≤◌, ◌≡◌, Bool, true, false, cond, List, [], ◌∷◌, ◌++◌, length, drop, refl, sym, ap, ◌∙◌, arith, replicate, append_assoc, sub-one}
+use Rattle.std.proofs.Common.{ℕ, ℤ, pos, zero, suc, ◌+◌, ◌-◌, ◌<◌, ◌≤◌, ◌≡◌, Bool, true, false, cond, List, [], ◌∷◌, ◌++◌, length, drop, refl, sym, ap, ◌∙◌, ◌*◌, min, arith, replicate, append_assoc, add-one, sub-one}
+use Rattle.std.proofs.Math.Nat.{suc-mul}
 use Rattle.std.specs.Prelude.{nat_le, Some, None, nat_eq, ◌^◌}
 use Rattle.std.specs.Int.{w32}
 use Rattle.std.proofs.lemmas.List.{length-append, length-drop, length-replicate, drop-append-le}
@@ -60,17 +61,30 @@ module _ {M : Type 0} (taps : Taps M) (near : IsNear taps) where
         recipe_stays = refl;
       }
 
+  -- so many frames are in the line after a push
+  pub length-pushed : (l : Frames ℤ) (f : Samples) → length (pushed l f) ≡ min (length l.items + 1) l.capacity
+  length-pushed l f =
+      let whole : List Samples = l.items ++ f ∷ [] in
+      let n : length whole ≡ length l.items + 1 = length-append l.items (f ∷ []) in
+      let d : length (drop (length whole - l.capacity) whole) ≡ length whole - (length whole - l.capacity) = length-drop (length whole - l.capacity) whole in
+      omega (arith, n, d)
+
   pub IsTapState-taken : (s : TapState M) (line : Frames ℤ) (frame out : Samples) (clips : ℕ) → IsTapState taps s → (tap_acts taps).dry s ≡ true → s.ended ≡ false → s.taken < 2 ^ 56
-      → IsLine w32 line → line.capacity ≡ s.line.capacity → line.channels ≡ s.line.channels → IsFrame out → length out ≡ taps.channels s.arguments → clips ≤ taps.most_clips s.arguments
+      → IsLine w32 line → line.items ≡ pushed s.line frame → line.capacity ≡ s.line.capacity → line.channels ≡ s.line.channels → IsFrame out → length out ≡ taps.channels s.arguments → clips ≤ taps.most_clips s.arguments
       → IsTapState taps (taken_tap s line out clips)
-  IsTapState-taken s line frame out clips is dry running few lined capacity channels framed len little =
+  IsTapState-taken s line frame out clips is dry running few lined items capacity channels framed len little =
       let none = dry-hand s.hand s.tail dry in
       let counted : s.given + 0 + s.tail ≡ s.taken + 0 = rw (none, running) at is.counted in
+      let before : length s.line.items ≡ min (s.given + 0) s.line.capacity = rw none at is.held in
+      let after : length line.items ≡ min (length s.line.items + 1) s.line.capacity = ap length items ∙ length-pushed s.line frame in
       record {
         line = lined;
         channels = channels ∙ is.channels;
         capacity = capacity ∙ is.capacity;
         counted = rw running (omega arith);
+        held = omega (arith, before, after, capacity);
+        idle = λ none. absurd (omega arith);
+        over = λ ended. absurd (cc (running, ended));
         few = omega arith;
         not_ended = is.not_ended;
         few_clips = is.few_clips;
@@ -84,6 +98,29 @@ module _ {M : Type 0} (taps : Taps M) (near : IsNear taps) where
 
   ended-tail : (s : TapState M) → IsTapState taps s → 0 < s.tail → s.ended ≡ true
   ended-tail s is some = true_of s.ended (λ e. let k = is.not_ended e in absurd (omega arith))
+
+  pub IsTapState-drained : (s : TapState M) (line : Frames ℤ) (quiet : Samples) (clips : ℕ) → IsTapState taps s → s.hand ≡ None → 0 < s.tail
+      → IsLine w32 line → line.items ≡ pushed s.line quiet → line.capacity ≡ s.line.capacity → line.channels ≡ s.line.channels → clips ≤ taps.most_clips s.arguments
+      → IsTapState taps (drained_tap s line clips)
+  IsTapState-drained s line quiet clips is none some lined items capacity channels little =
+      let over = ended-tail s is some in
+      let counted : s.given + 0 + s.tail ≡ s.taken + s.line.capacity = rw (none, over) at is.counted in
+      let before : length s.line.items ≡ min (s.given + 0) s.line.capacity = rw none at is.held in
+      let after : length line.items ≡ min (length s.line.items + 1) s.line.capacity = ap length items ∙ length-pushed s.line quiet in
+      record {
+        line = lined;
+        channels = channels ∙ is.channels;
+        capacity = capacity ∙ is.capacity;
+        counted = rw (none, over, capacity) (omega (arith, counted));
+        held = rw none (omega (arith, before, after, capacity));
+        idle = is.idle;
+        over = is.over;
+        few = is.few;
+        not_ended = λ running. absurd (cc (running, over));
+        few_clips = omega (arith, is.few_clips, little, suc-mul s.given (taps.most_clips s.arguments), add-one s.given);
+        hand_few = is.hand_few;
+        fits = is.fits;
+      }
 
   behind-quiet : (m : M) (items : List Samples) (quiet : Samples) (tail c : ℕ) → 0 < tail → length items ≤ c → taps.reach m ≤ c
       → behind taps m items (replicate tail quiet) ≡ taps.made m (sample_before (items ++ quiet ∷ []) (length items)) ∷ behind taps m (drop (length (items ++ quiet ∷ []) - c) (items ++ quiet ∷ [])) (replicate (tail - 1) quiet)

@@ -23,7 +23,7 @@ dcshift shift x = map (rounded_given (shifted_sample shift)) x
 
 -- how the stages of `dcshift` behave
 abbrev pub dcshift_acts : Acts (MapState (SampleArguments ℤ)) (SampleArguments ℤ)
-dcshift_acts = sample_acts shifted_sample
+dcshift_acts = record (sample_acts shifted_sample) { meaning = λ a x. dcshift a.sampling x }
 
 -- A shift in units, q to a step: the whole steps below it, and the units beyond them.
 abbrev pub floor_of : ℕ → ℤ → ℤ

@@ -24,4 +24,4 @@ delay_taps = record { channels = length; reach = longest; most_clips = λ delays
 
 -- how the stages of `delay` behave
 abbrev pub delay_acts : Acts (TapState (List ℕ)) (List ℕ)
-delay_acts = tap_acts delay_taps
+delay_acts = record (tap_acts delay_taps) { meaning = delayed }

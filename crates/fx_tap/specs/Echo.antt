@@ -58,4 +58,4 @@ echo_taps = record { channels = λ a. a.channels; reach = λ a. latest a.echoes;
 
 -- how the stages of `echo` behave
 abbrev pub echo_acts : Acts (TapState EchoArguments) EchoArguments
-echo_acts = tap_acts echo_taps
+echo_acts = record (tap_acts echo_taps) { meaning = echo }

@@ -1,7 +1,7 @@
 -- The effect `echos` (sox(1), EFFECTS, echos: echoes in series): each frame times gain-in, and what each of a row of lines
 -- lets go, times a decay, added and times gain-out. That the next line takes the frame and what the line before it lets go,
 -- not decayed, that a decay is not relative to gain-in, rounding and clips are this project's profile.
-use Rattle.std.specs.Prelude.{ℕ, ℤ, pos, zero, suc, ◌+◌, ◌*◌, ◌^◌, ◌<◌, ◌≤◌, ◌≡◌, ◌+ℤ◌, ◌*ℤ◌, Bool, false, ◌&&◌, Option, Some, None, List, [], ◌∷◌, ◌++◌, length, map, min, replicate, drop, take, option_to_list, is_none, slice_index_or, nat_eq, cond, unsigned_abs}
+use Rattle.std.specs.Prelude.{ℕ, ℤ, pos, zero, suc, ◌+◌, ◌*◌, ◌^◌, ◌<◌, ◌≤◌, ◌≡◌, ◌+ℤ◌, ◌*ℤ◌, Bool, true, false, ◌&&◌, Option, Some, None, List, [], ◌∷◌, ◌++◌, length, map, min, replicate, drop, take, option_to_list, is_none, slice_index_or, nat_eq, cond, unsigned_abs}
 use Rattle.std.specs.List.{All}
 use Rattle.std.specs.Int.{w64}
 use Rattle.fx_fixed.specs.Rounding.{rounding}
@@ -140,6 +140,9 @@ pub record IsEchos (s : EchosState) : Type 0 where
   pub not_ended : s.ended ≡ false → s.tail ≡ 0
   pub few_clips : s.clips ≤ 16 * s.given
   pub hand_few : s.hand_clips ≤ 16
+  -- no clips without a frame in hand, and no frame in hand after the end
+  pub idle : length (option_to_list s.hand) ≡ 0 → s.hand_clips ≡ 0
+  pub over : s.ended ≡ true → length (option_to_list s.hand) ≡ 0
   pub fits : IsHand s.arguments.channels s.hand
 
 -- the frames that come, with silence where the sound has ended

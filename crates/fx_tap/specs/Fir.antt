@@ -1,6 +1,6 @@
 -- The effect `fir` (sox(1), EFFECTS, fir): each sample is a sum of the samples around it, times the coefficients. That the
 -- sum is centred, so that nothing comes late, and rounding and clips are this project's profile.
-use Rattle.std.specs.Prelude.{ℕ, ℤ, pos, ◌+◌, ◌-◌, ◌*◌, ◌/◌, ◌^◌, ◌≤◌, ◌≡◌, Bool, false, ◌&&◌, Option, None, List, ◌++◌, length, map, min, reverse, option_to_list, is_none, nat_eq, nat_le, slice_index_or, cond, unsigned_abs, All}
+use Rattle.std.specs.Prelude.{ℕ, ℤ, pos, ◌+◌, ◌-◌, ◌*◌, ◌/◌, ◌^◌, ◌≤◌, ◌≡◌, Bool, true, false, ◌&&◌, Option, None, List, ◌++◌, length, map, min, reverse, option_to_list, is_none, nat_eq, nat_le, slice_index_or, cond, unsigned_abs, All}
 use Rattle.std.specs.Int.{w32}
 use Rattle.fx_fixed.specs.Rounding.{rounding}
 use Rattle.fx_fixed.specs.declared.gains.TheConstants.{UNIT}
@@ -82,6 +82,9 @@ pub record IsFir (s : FirState) : Type 0 where
   pub few : s.taken ≤ most_taken
   pub few_clips : s.clips ≤ 16 * s.given
   pub hand_few : s.hand_clips ≤ 16
+  -- no clips without a frame in hand, and no frame in hand after the end
+  pub idle : length (option_to_list s.hand) ≡ 0 → s.hand_clips ≡ 0
+  pub over : s.ended ≡ true → length (option_to_list s.hand) ≡ 0
   pub fits : IsHand s.channels s.hand
 
 -- the frame in hand

@@ -53,4 +53,4 @@ pub record IsRemix (a : RemixArguments) : Type 0 where
 
 -- how the stages of `remix` behave
 abbrev pub remix_acts : Acts (MapState RemixArguments) RemixArguments
-remix_acts = map_acts (λ a. a.channels) (λ a. length a.outs) (λ a frame. remixed_frame a.outs frame)
+remix_acts = record (map_acts (λ a. a.channels) (λ a. length a.outs) (λ a frame. remixed_frame a.outs frame)) { meaning = λ a x. remix a.outs x }

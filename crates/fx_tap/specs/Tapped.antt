@@ -1,5 +1,5 @@
 -- A stage that makes each frame of that frame and of frames at fixed distances before it (this project's profile).
-use Rattle.std.specs.Prelude.{ℕ, ℤ, pos, ◌+◌, ◌-◌, ◌*◌, ◌≤◌, ◌≡◌, Bool, false, ◌&&◌, Option, None, List, [], ◌∷◌, ◌++◌, length, map, max, replicate, option_to_list, is_none, slice_index_or, nat_le, nat_eq, cond}
+use Rattle.std.specs.Prelude.{ℕ, ℤ, pos, ◌+◌, ◌-◌, ◌*◌, ◌≤◌, ◌≡◌, Bool, true, false, ◌&&◌, Option, None, List, [], ◌∷◌, ◌++◌, length, map, max, min, replicate, option_to_list, is_none, slice_index_or, nat_le, nat_eq, cond}
 use Rattle.std.proofs.Common.{arith}
 use Rattle.std.specs.Int.{w32}
 use Rattle.fx_frame.specs.Frame.{Samples, silence}
@@ -65,6 +65,11 @@ module _ {M : Type 0} (taps : Taps M) where
     pub channels : s.line.channels ≡ taps.channels s.arguments
     pub capacity : s.line.capacity ≡ taps.reach s.arguments
     pub counted : s.given + length (option_to_list s.hand) + s.tail ≡ s.taken + cond s.ended s.line.capacity 0
+    -- each frame that went by is in the line, or was pushed out of it
+    pub held : length s.line.items ≡ min (s.given + length (option_to_list s.hand)) s.line.capacity
+    -- no clips without a frame in hand, and no frame in hand after the end
+    pub idle : length (option_to_list s.hand) ≡ 0 → s.hand_clips ≡ 0
+    pub over : s.ended ≡ true → length (option_to_list s.hand) ≡ 0
     pub few : s.taken ≤ most_taken
     pub not_ended : s.ended ≡ false → s.tail ≡ 0
     pub few_clips : s.clips ≤ s.given * taps.most_clips s.arguments

@@ -17,4 +17,4 @@ vol gain x = map (rounded_given (scaled_sample gain)) x
 
 -- how the stages of `vol` behave
 abbrev pub vol_acts : Acts (MapState (SampleArguments ℤ)) (SampleArguments ℤ)
-vol_acts = sample_acts scaled_sample
+vol_acts = record (sample_acts scaled_sample) { meaning = λ a x. vol a.sampling x }

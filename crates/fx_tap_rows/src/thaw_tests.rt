@@ -175,3 +175,24 @@ fn growth_tap_stages_remix(rt: HostRuntime) -> Result<(), Fail> {
     println!(rt; "{said}")?;
     Ok(())
 }
+
+/// Is that no snapshot of the stage?
+fn is_refused<S: Drop>(made: &Result<S, ThawFault>) -> bool {
+    matches!(made, Err(ThawFault::BadSnapshot))
+}
+
+/// A line with fewer frames than went by, clips without a frame in hand, and a frame in hand after the end.
+#[test]
+fn unreached_refused(rt: HostRuntime) -> Result<(), Fail> {
+    let unity = gain("1")?;
+    let frames = [WideFrame::from_frame(two(7, 7))];
+    let short = Delay::thaw(rt.alloc(), 1, &[3], &[], &[5, 5, 0, 0, 0, 0, 0, 0]);
+    assert!(rt; is_refused(&short));
+    let idle = Vol::thaw(2, unity, &[], &[1, 1, 0, 0, 0, 2, 0, 0]);
+    assert!(rt; is_refused(&idle));
+    let over = Vol::thaw(2, unity, &frames, &[1, 0, 1, 0, 1, 0, 0, 0]);
+    assert!(rt; is_refused(&over));
+    let fir = Fir::thaw(rt.alloc(), 2, &[unity], &frames, &[1, 0, 1, 0, 1, 0, 1, 0]);
+    assert!(rt; is_refused(&fir));
+    Ok(())
+}

@@ -1,10 +1,10 @@
 //! The word of `dcshift`: a shift.
 
 ghost use Rattle.std.specs.Prelude.{◌≡◌, ◌*◌, ◌≤◌, IfOk, unsigned_abs};
-ghost use Rattle.fx_plan.specs.Faults.{Reads, texts};
+ghost use Rattle.fx_plan.specs.Faults.{Finds, texts};
 ghost use Rattle.fx_plan.specs.DcShift.{shift_in, shift_faults, shift_gain};
 
-use crate::fault::{PlanCause, Refusal, marked};
+use crate::fault::{Mark, PlanCause, at_word};
 use crate::numbers::read_gain;
 use fx_fixed::{Gain, UNIT};
 
@@ -21,22 +21,22 @@ fn read_shift(word: &str) -> Result<Gain, PlanCause>
 }
 
 /// The shift of a `dcshift` with these words after its name.
-pub fn read_dcshift(words: &[String]) -> Result<Gain, Refusal>
-    ensures read { Reads (λ shift. shift) result (shift_faults (texts words.now)) (shift_gain (texts words.now)) }
+pub fn read_dcshift(words: &[String]) -> Result<Gain, Mark>
+    ensures read { Finds result (shift_faults (texts words.now)) (shift_gain (texts words.now)) }
     ensures range { IfOk result (λ shift. unsigned_abs shift ≤ 2 * UNIT) }
 {
     let Some((word, more)) = words.split_first() else {
-        return Err(marked(PlanCause::WrongCount, 1));
+        return Err(at_word(PlanCause::WrongCount, 1));
     };
     if more.len() > 1 {
-        return Err(marked(PlanCause::WrongCount, 4));
+        return Err(at_word(PlanCause::WrongCount, 4));
     }
     let shift = match read_shift(word) {
         Ok(shift) => shift,
-        Err(cause) => return Err(marked(cause, 2)),
+        Err(cause) => return Err(at_word(cause, 2)),
     };
     if !more.is_empty() {
-        return Err(marked(PlanCause::NotInProfile, 3));
+        return Err(at_word(PlanCause::NotInProfile, 3));
     }
     Ok(shift)
 }

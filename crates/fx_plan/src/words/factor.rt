@@ -3,11 +3,11 @@
 ghost use Rattle.std.specs.Prelude.{◌≡◌, ◌<◌, ◌≤◌, ◌*◌, ◌^◌, ◌↔◌, IfOk, IfSome, IsSome, IsTrue, min};
 ghost use Rattle.std.specs.Str.Parse.{digits_value};
 ghost use Rattle.fx_fixed.specs.Decimals.{is_numeral};
-ghost use Rattle.fx_plan.specs.Faults.{Reads, texts};
+ghost use Rattle.fx_plan.specs.Faults.{Finds, texts};
 ghost use Rattle.fx_plan.specs.Factor;
 ghost use Rattle.fx_plan.specs.Factor.{downsample_faults, factor_in, factor_of, upsample_faults, usable};
 
-use crate::fault::{PlanCause, Refusal, marked};
+use crate::fault::{Mark, PlanCause, at_word};
 
 /// The greatest factor.
 const GREATEST_FACTOR: u32 = 256;
@@ -52,43 +52,43 @@ fn read_factor(word: &str) -> Result<u32, PlanCause>
 }
 
 /// The factor that the words name or leave out, and the number of the word to blame for it.
-fn read_factor_word(words: &[String]) -> Result<(u32, usize), Refusal>
-    ensures read { Reads (λ found. found) result (Factor.word_faults (texts words.now)) (usable (factor_of (texts words.now)), Factor.factor_word (texts words.now)) }
+fn read_factor_word(words: &[String]) -> Result<(u32, usize), Mark>
+    ensures read { Finds result (Factor.word_faults (texts words.now)) (usable (factor_of (texts words.now)), Factor.factor_word (texts words.now)) }
     ensures range { IfOk result (λ found. (1 ≤ found.0) × (found.0 ≤ 256)) }
 {
     let Some((word, more)) = words.split_first() else {
         return Ok((DEFAULT_FACTOR, 1));
     };
     if !more.is_empty() {
-        return Err(marked(PlanCause::WrongCount, 3));
+        return Err(at_word(PlanCause::WrongCount, 3));
     }
     match read_factor(word) {
         Ok(factor) => Ok((factor, 2)),
-        Err(cause) => Err(marked(cause, 2)),
+        Err(cause) => Err(at_word(cause, 2)),
     }
 }
 
 /// The factor of an `upsample` with these words after its name.
-pub fn read_upsample(rate: u32, words: &[String]) -> Result<u32, Refusal>
-    ensures read { Reads (λ factor. factor) result (upsample_faults rate (texts words.now)) (usable (factor_of (texts words.now))) }
+pub fn read_upsample(rate: u32, words: &[String]) -> Result<u32, Mark>
+    ensures read { Finds result (upsample_faults rate (texts words.now)) (usable (factor_of (texts words.now))) }
     ensures range { IfOk result (λ factor. (1 ≤ factor) × (factor ≤ 256) × (rate * factor < 2 ^ 32)) }
 {
     let (factor, number) = read_factor_word(words)?;
     if u64::from(rate) * u64::from(factor) > u64::from(u32::MAX) {
-        return Err(marked(PlanCause::RateTooLarge, number));
+        return Err(at_word(PlanCause::RateTooLarge, number));
     }
     Ok(factor)
 }
 
 /// The factor of a `downsample` with these words after its name.
-pub fn read_downsample(rate: u32, words: &[String]) -> Result<u32, Refusal>
+pub fn read_downsample(rate: u32, words: &[String]) -> Result<u32, Mark>
     requires { 0 < rate }
-    ensures read { Reads (λ factor. factor) result (downsample_faults rate (texts words.now)) (usable (factor_of (texts words.now))) }
+    ensures read { Finds result (downsample_faults rate (texts words.now)) (usable (factor_of (texts words.now))) }
     ensures range { IfOk result (λ factor. (1 ≤ factor) × (factor ≤ 256) × (factor ≤ rate)) }
 {
     let (factor, number) = read_factor_word(words)?;
     if rate % factor != 0 {
-        return Err(marked(PlanCause::RateNotDivisible, number));
+        return Err(at_word(PlanCause::RateNotDivisible, number));
     }
     Ok(factor)
 }

@@ -1,10 +1,10 @@
 //! The words of `fade`: the type `t`, the length in, and optionally the stop and the length out.
 
 ghost use Rattle.std.specs.Prelude.{◌≡◌, ◌<◌, IfOk, true};
-ghost use Rattle.fx_plan.specs.Faults.{Reads, texts};
+ghost use Rattle.fx_plan.specs.Faults.{Finds, texts};
 ghost use Rattle.fx_plan.specs.Fade.{fade_by, fade_faults, fade_of, fading, in_faults, is_fade, length_out, out_faults, stop_faults};
 
-use crate::fault::{PlanCause, Refusal, marked};
+use crate::fault::{Mark, PlanCause, at_word};
 use crate::numbers::{read_frames, read_position};
 use fx_fixed::{Anchor, At};
 
@@ -20,23 +20,23 @@ pub struct Fading {
 }
 
 /// The length out that the words are, or this one where there is none.
-fn read_length_out(rate: u32, fade_in: u64, words: &[String]) -> Result<u64, Refusal>
+fn read_length_out(rate: u32, fade_in: u64, words: &[String]) -> Result<u64, Mark>
     requires { 0 < rate }
-    ensures { Reads (λ n. n) result (out_faults rate (texts words.now)) (length_out rate fade_in (texts words.now)) }
+    ensures { Finds result (out_faults rate (texts words.now)) (length_out rate fade_in (texts words.now)) }
 {
     let Some((word, _)) = words.split_first() else {
         return Ok(fade_in);
     };
     match read_frames(rate, word) {
         Ok(frames) => Ok(frames),
-        Err(cause) => Err(marked(cause, 5)),
+        Err(cause) => Err(at_word(cause, 5)),
     }
 }
 
 /// The fade of this length in with these words behind it.
-fn read_stop(rate: u32, fade_in: u64, words: &[String]) -> Result<Fading, Refusal>
+fn read_stop(rate: u32, fade_in: u64, words: &[String]) -> Result<Fading, Mark>
     requires { 0 < rate }
-    ensures { Reads (λ fade. fade) result (stop_faults rate (texts words.now)) (fade_by rate fade_in (texts words.now)) }
+    ensures { Finds result (stop_faults rate (texts words.now)) (fade_by rate fade_in (texts words.now)) }
 {
     let Some((word, more)) = words.split_first() else {
         return Ok(Fading {
@@ -47,7 +47,7 @@ fn read_stop(rate: u32, fade_in: u64, words: &[String]) -> Result<Fading, Refusa
     };
     let stop = match read_position(rate, Anchor::Start, At::Start(0), word) {
         Ok(stop) => stop,
-        Err(cause) => return Err(marked(cause, 4)),
+        Err(cause) => return Err(at_word(cause, 4)),
     };
     let fade_out = read_length_out(rate, fade_in, more)?;
     Ok(Fading {
@@ -58,9 +58,9 @@ fn read_stop(rate: u32, fade_in: u64, words: &[String]) -> Result<Fading, Refusa
 }
 
 /// The fade whose length in is the first of these words.
-fn read_lengths(rate: u32, words: &[String]) -> Result<Fading, Refusal>
+fn read_lengths(rate: u32, words: &[String]) -> Result<Fading, Mark>
     requires { 0 < rate }
-    ensures { Reads (λ fade. fade) result (in_faults rate (texts words.now)) (fade_of rate (texts words.now)) }
+    ensures { Finds result (in_faults rate (texts words.now)) (fade_of rate (texts words.now)) }
 {
     let Some((word, more)) = words.split_first() else {
         return Ok(Fading {
@@ -71,29 +71,29 @@ fn read_lengths(rate: u32, words: &[String]) -> Result<Fading, Refusal>
     };
     let fade_in = match read_frames(rate, word) {
         Ok(frames) => frames,
-        Err(cause) => return Err(marked(cause, 3)),
+        Err(cause) => return Err(at_word(cause, 3)),
     };
     let fade = read_stop(rate, fade_in, more)?;
     Ok(fade)
 }
 
 /// What a `fade` with these words after its name does.
-pub fn read_fade(rate: u32, words: &[String]) -> Result<Fading, Refusal>
+pub fn read_fade(rate: u32, words: &[String]) -> Result<Fading, Mark>
     requires { 0 < rate }
-    ensures read { Reads (λ fade. fade) result (fade_faults rate (texts words.now)) (fading rate (texts words.now)) }
+    ensures read { Finds result (fade_faults rate (texts words.now)) (fading rate (texts words.now)) }
     ensures fit { IfOk result (λ fade. is_fade fade ≡ true) }
 {
     let Some((kind, lengths)) = words.split_first() else {
-        return Err(marked(PlanCause::WrongCount, 1));
+        return Err(at_word(PlanCause::WrongCount, 1));
     };
     if lengths.len() > 3 {
-        return Err(marked(PlanCause::WrongCount, 6));
+        return Err(at_word(PlanCause::WrongCount, 6));
     }
     if kind.as_str() != "t" {
-        return Err(marked(PlanCause::NotInProfile, 2));
+        return Err(at_word(PlanCause::NotInProfile, 2));
     }
     if lengths.is_empty() {
-        return Err(marked(PlanCause::WrongCount, 1));
+        return Err(at_word(PlanCause::WrongCount, 1));
     }
     let fade = read_lengths(rate, lengths)?;
     Ok(fade)

@@ -1,12 +1,12 @@
 //! The words of `pad`: lengths, each with a position or without one.
 
 ghost use Rattle.std.specs.Prelude.{◌≡◌, ◌<◌, IfOk, length, map, true};
-ghost use Rattle.fx_plan.specs.Faults.{Reads, texts};
+ghost use Rattle.fx_plan.specs.Faults.{Finds, Reads, texts};
 ghost use Rattle.fx_plan.specs.Numbers.{beginning};
 ghost use Rattle.fx_plan.specs.Pad.{are_pads, length_faults, lengths, pad_faults, pad_in, position_at};
 ghost use Rattle.fx_plan.specs.Trim.{order_faults};
 
-use crate::fault::{PlanCause, Refusal, marked};
+use crate::fault::{Mark, PlanCause, Refusal, at_word, marked};
 use crate::numbers::{read_frames, read_position};
 use crate::words::trim::{MOST_POSITIONS, is_behind};
 use fx_fixed::{Anchor, At};
@@ -65,15 +65,15 @@ fn read_lengths(alloc: Global, rate: u32, words: &[String]) -> Result<Vec<(u64, 
 
 /// Refuses the first position that lies behind.
 #[tactic(auto, using(crate::proofs::Orders::pad_orders))]
-fn check_order(pads: &[(u64, At)]) -> Result<(), Refusal>
+fn check_order(pads: &[(u64, At)]) -> Result<(), Mark>
     requires { length pads.now < 2000 }
-    ensures { Reads (λ v. v) result (order_faults 3 (map position_at pads.now)) tt }
+    ensures { Finds result (order_faults 3 (map position_at pads.now)) tt }
 {
     let mut rest = pads;
     let mut number = 3;
     while let [front, next, ..] = rest {
         if is_behind(front.1, next.1) {
-            return Err(marked(PlanCause::PositionBehind, number));
+            return Err(at_word(PlanCause::PositionBehind, number));
         }
         rest = &rest[1..];
         number += 1;

@@ -1,12 +1,12 @@
 //! The words of `trim`: positions.
 
 ghost use Rattle.std.specs.Prelude.{◌≡◌, ◌<◌, IfOk, length};
-ghost use Rattle.fx_plan.specs.Faults.{Reads, texts};
+ghost use Rattle.fx_plan.specs.Faults.{Finds, Reads, texts};
 ghost use Rattle.fx_plan.specs.Numbers.{beginning};
 ghost use Rattle.fx_plan.specs.Trim;
 ghost use Rattle.fx_plan.specs.Trim.{order_faults, place_faults, places, trim_faults};
 
-use crate::fault::{PlanCause, Refusal, marked};
+use crate::fault::{Mark, PlanCause, Refusal, at_word, marked};
 use crate::numbers::read_position;
 use fx_fixed::{Anchor, At};
 use std::alloc::Global;
@@ -53,15 +53,15 @@ pub fn is_behind(front: At, next: At) -> bool
 
 /// Refuses the first position that lies behind.
 #[tactic(auto, using(crate::proofs::Orders::orders))]
-fn check_order(positions: &[At]) -> Result<(), Refusal>
+fn check_order(positions: &[At]) -> Result<(), Mark>
     requires { length positions.now < 2000 }
-    ensures { Reads (λ v. v) result (order_faults 3 positions.now) tt }
+    ensures { Finds result (order_faults 3 positions.now) tt }
 {
     let mut rest = positions;
     let mut number = 3;
     while let [front, next, ..] = rest {
         if is_behind(*front, *next) {
-            return Err(marked(PlanCause::PositionBehind, number));
+            return Err(at_word(PlanCause::PositionBehind, number));
         }
         rest = &rest[1..];
         number += 1;

@@ -1,11 +1,11 @@
 //! The words of `vol`: a gain, and optionally `amplitude`.
 
 ghost use Rattle.std.specs.Prelude.{◌≡◌};
-ghost use Rattle.fx_plan.specs.Faults.{Reads, texts};
+ghost use Rattle.fx_plan.specs.Faults.{Finds, texts};
 ghost use Rattle.fx_plan.specs.Vol;
 ghost use Rattle.fx_plan.specs.Vol.{type_faults, vol_faults, vol_gain};
 
-use crate::fault::{PlanCause, Refusal, marked};
+use crate::fault::{Mark, PlanCause, at_word};
 use crate::numbers::read_gain;
 use fx_fixed::Gain;
 
@@ -18,40 +18,40 @@ fn has_type(word: &str) -> bool
 }
 
 /// Refuses all words after the gain but `amplitude`.
-fn check_type(words: &[String]) -> Result<(), Refusal>
-    ensures { Reads (λ v. v) result (type_faults (texts words.now)) tt }
+fn check_type(words: &[String]) -> Result<(), Mark>
+    ensures { Finds result (type_faults (texts words.now)) tt }
 {
     let Some((word, more)) = words.split_first() else {
         return Ok(());
     };
     if word.as_str() == "power" || word.as_str() == "dB" {
-        return Err(marked(PlanCause::NotInProfile, 3));
+        return Err(at_word(PlanCause::NotInProfile, 3));
     }
     if word.as_str() != "amplitude" {
-        return Err(marked(PlanCause::BadArgument, 3));
+        return Err(at_word(PlanCause::BadArgument, 3));
     }
     if !more.is_empty() {
-        return Err(marked(PlanCause::NotInProfile, 4));
+        return Err(at_word(PlanCause::NotInProfile, 4));
     }
     Ok(())
 }
 
 /// The gain of a `vol` with these words after its name.
-pub fn read_vol(words: &[String]) -> Result<Gain, Refusal>
-    ensures { Reads (λ gain. gain) result (vol_faults (texts words.now)) (vol_gain (texts words.now)) }
+pub fn read_vol(words: &[String]) -> Result<Gain, Mark>
+    ensures { Finds result (vol_faults (texts words.now)) (vol_gain (texts words.now)) }
 {
     let Some((word, more)) = words.split_first() else {
-        return Err(marked(PlanCause::WrongCount, 1));
+        return Err(at_word(PlanCause::WrongCount, 1));
     };
     if more.len() > 2 {
-        return Err(marked(PlanCause::WrongCount, 5));
+        return Err(at_word(PlanCause::WrongCount, 5));
     }
     if has_type(word) {
-        return Err(marked(PlanCause::NotInProfile, 2));
+        return Err(at_word(PlanCause::NotInProfile, 2));
     }
     let gain = match read_gain(word) {
         Ok(gain) => gain,
-        Err(cause) => return Err(marked(cause, 2)),
+        Err(cause) => return Err(at_word(cause, 2)),
     };
     check_type(more)?;
     Ok(gain)

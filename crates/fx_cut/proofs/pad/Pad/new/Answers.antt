@@ -10,7 +10,7 @@ use Rattle.fx_cut.proofs.pad.Pad.new.Goals as goal
 pub returns : goal.returns
 returns c =
     rw (c.in_ok-line.ensures, c.in_ok-extend_from_slice.ensures.items, c.new-own.ensures.items)
-    (record { recipe = refl; rest = λ z. ap (map plain) (sym (pad_new c.args.channels c.args.pads.now z)); counts = refl; dry = refl; stored = refl })
+    (record { recipe = refl; rest = λ z. ap (map plain) (sym (pad_new c.args.channels c.args.pads.now z)); counts = refl; dry = refl; stored = refl; own = refl })
 
 pub invariant_of-result : goal.invariant_of-result
 invariant_of-result c =

@@ -19,4 +19,4 @@ pub returns : goal.returns
 returns c =
     let a : EchoArguments = record { channels = c.args.channels; gain_in = c.args.gain_in; gain_out = c.args.gain_out; echoes = c.args.echoes.now } in
     rw (c.in_ok-lines.ensures, c.in_ok-echoes.ensures)
-    (record { recipe = refl; rest = λ z. through-all a z (λ i lt. All-get_or (λ e. 1 ≤ e.0) c.args.echoes.now i (0, pos 0) lt c.requires.delays); counts = refl; dry = refl; stored = frames-none c.args.channels c.args.echoes.now })
+    (record { recipe = refl; rest = λ z. through-all a z (λ i lt. All-get_or (λ e. 1 ≤ e.0) c.args.echoes.now i (0, pos 0) lt c.requires.delays); counts = refl; dry = refl; stored = frames-none c.args.channels c.args.echoes.now; own = refl })

@@ -1,4 +1,5 @@
-use Rattle.std.proofs.Common.{refl, sym, ap, ◌∙◌, ◌≤◌, ◌^◌, ◌*◌, arith, slice_index_or}
+use Rattle.std.proofs.Common.{rules, refl, sym, ap, ◌∙◌, ◌≡◌, ◌≤◌, ◌+◌, ◌^◌, ◌*◌, min, length, length-append, arith, slice_index_or}
+use Rattle.std.specs.Prelude.{option_to_list}
 use Rattle.std.proofs.Math.Nat.{mul-le-mul}
 use Rattle.fx_tap.proofs.TapLaws.{ended-back}
 use Rattle.fx_tap.proofs.tapped.Tapped.thawed.Goals as goal
@@ -24,3 +25,11 @@ returns-clause-thawed g c =
       stored = freezes.stored;
     }) in
     rw (found.0, found.1, freezes.counted, ← same, ended-back s.ended) refl
+
+pub invariant_of-result : goal.invariant_of-result
+invariant_of-result g c =
+    let st = c.in-Ok.ensures.found in
+    let all = ap length st.stored ∙ length-append c.in-Ok.stored.0.items (option_to_list c.in-Ok.stored.1) in
+    let lined : length c.in-Ok.stored.0.items ≡ min (slice_index_or c.args.numbers.now 1 0 + length (option_to_list c.in-Ok.stored.1)) c.args.reach =
+    omega (arith, all, st.hands_are, c.if-hands-held.false, c.if-held-hands.false, c.if-held-frames.false) in
+    search (rules, lined)
