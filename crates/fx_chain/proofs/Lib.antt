@@ -1,6 +1,7 @@
 pub mod Chaining
 pub mod Draining
 pub mod Passing
+pub mod Reaching
 pub mod Running
 pub mod Sending
 pub mod Thawing

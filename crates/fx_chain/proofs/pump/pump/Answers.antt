@@ -49,14 +49,14 @@ pub returns-in_default-end_flow-clause-write_failed : goal.returns-in_default-en
 returns-in_default-end_flow-clause-write_failed g c = λ _ bytes known.
     let old = c.loop-turn.invariant in
     rw (old.frames)
-    (FlowedFront-end g.S.Stage.acts c.args.flow.now c.loop-turn.flow _ c.end_flow.new.flow c.args.outlet.now.coding _ _ _ _ _ _ _ _ c.args.head.now (old.flowed bytes known) old.hungry.not_ended refl
+    (FlowedFront-end g.S.Stage.acts c.args.flow.now c.loop-turn.flow _ c.end_flow.new.flow c.args.outlet.now.coding _ _ _ _ _ _ _ _ c.args.head.now (old.flowed bytes known) old.hungry refl
     (rw (old.coding) at c.in_default-end_flow.ensures.cut_off))
 
 pub returns-then-is_spent-clause-sent : goal.returns-then-is_spent-clause-sent
 returns-then-is_spent-clause-sent g c = λ _ bytes known.
     let old = c.loop-turn.invariant in
     rw (old.frames)
-    (Flowed-end g.S.Stage.acts c.args.flow.now c.loop-turn.flow _ c.end_flow.new.flow c.args.outlet.now.coding _ _ _ _ _ _ _ _ c.args.head.now (old.flowed bytes known) old.hungry.not_ended refl
+    (Flowed-end g.S.Stage.acts c.args.flow.now c.loop-turn.flow _ c.end_flow.new.flow c.args.outlet.now.coding _ _ _ _ _ _ _ _ c.args.head.now (old.flowed bytes known) old.hungry refl
     (rw (old.coding) at c.in-Ok-end_flow.ensures.drained))
 
 pub returns-in_default-drain-clause-write_failed : goal.returns-in_default-drain-clause-write_failed
@@ -68,7 +68,7 @@ returns-in_default-drain-clause-write_failed g c = λ _ bytes known.
     let ran = old.ran bytes known in
     let taken = next.frame (drop (turn * size_of c.args.progress.now) bytes) ran.to_come_is in
     rw (count, sound_frames-more _ _ _ _ _ _ _ ran taken)
-    (FlowedFront-turn g.S.Stage.acts c.args.flow.now c.loop-turn.flow c.take.new.self c.drain.new.flow c.args.outlet.now.coding _ _ _ _ _ _ _ _ _ c.args.head.now (old.flowed bytes known) old.hungry.empty old.hungry.not_ended c.take.ensures
+    (FlowedFront-turn g.S.Stage.acts c.args.flow.now c.loop-turn.flow c.take.new.self c.drain.new.flow c.args.outlet.now.coding _ _ _ _ _ _ _ _ _ c.args.head.now (old.flowed bytes known) old.hungry c.take.ensures
     (rw (old.coding) at c.in_default-drain.ensures.cut_off))
 
 pub returns-in_default-drain-clause-whole : goal.returns-in_default-drain-clause-whole
@@ -85,7 +85,7 @@ returns-in_default-end_flow-2-clause-write_failed g c = λ _ bytes known.
     let old = c.loop-turn.invariant in
     let next = rw c.in-Ok-None.field-0-is at c.in-Ok-None.ensures in
     rw (next.over.1 ∙ old.frames)
-    (FlowedFront-end g.S.Stage.acts c.args.flow.now c.loop-turn.flow _ c.end_flow-in-Ok-None.new.flow c.args.outlet.now.coding _ _ _ _ _ _ _ _ c.args.head.now (old.flowed bytes known) old.hungry.not_ended refl
+    (FlowedFront-end g.S.Stage.acts c.args.flow.now c.loop-turn.flow _ c.end_flow-in-Ok-None.new.flow c.args.outlet.now.coding _ _ _ _ _ _ _ _ c.args.head.now (old.flowed bytes known) old.hungry refl
     (rw (old.coding) at c.in_default-end_flow-2.ensures.cut_off))
 
 pub returns-in_default-end_flow-2-clause-ends : goal.returns-in_default-end_flow-2-clause-ends
@@ -101,7 +101,7 @@ returns-in-Ok-None-clause-sent g c = λ _ bytes known.
     let old = c.loop-turn.invariant in
     let next = rw c.in-Ok-None.field-0-is at c.in-Ok-None.ensures in
     rw (next.over.1 ∙ old.frames)
-    (Flowed-end g.S.Stage.acts c.args.flow.now c.loop-turn.flow _ c.end_flow-in-Ok-None.new.flow c.args.outlet.now.coding _ _ _ _ _ _ _ _ c.args.head.now (old.flowed bytes known) old.hungry.not_ended refl
+    (Flowed-end g.S.Stage.acts c.args.flow.now c.loop-turn.flow _ c.end_flow-in-Ok-None.new.flow c.args.outlet.now.coding _ _ _ _ _ _ _ _ c.args.head.now (old.flowed bytes known) old.hungry refl
     (rw (old.coding) at c.in-Ok-end_flow-2.ensures.drained))
 
 pub returns-in-Ok-None-clause-ends : goal.returns-in-Ok-None-clause-ends
@@ -166,7 +166,7 @@ loop-turn-preserved g c =
           let ran = old.ran bytes known in
           let taken = next.frame (drop (turn * size) bytes) ran.to_come_is in
           rw (sound_frames-more _ _ _ _ _ _ _ ran taken)
-          (Flowed-turn acts c.args.flow.now c.loop-turn.flow c.take.new.self c.drain.new.flow c.args.outlet.now.coding _ _ _ _ _ _ _ _ _ c.args.head.now (old.flowed bytes known) old.hungry.empty old.hungry.not_ended c.take.ensures
+          (Flowed-turn acts c.args.flow.now c.loop-turn.flow c.take.new.self c.drain.new.flow c.args.outlet.now.coding _ _ _ _ _ _ _ _ _ c.args.head.now (old.flowed bytes known) old.hungry c.take.ensures
           (rw (old.coding) at drained.drained));
       told = rw more (Takes-more g.R.ByteIn.told _ _ _ (turn * size) size old.told (rw old.size at next.told));
       reads = next.failures ∙ old.reads;
