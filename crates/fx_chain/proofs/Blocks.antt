@@ -1,5 +1,5 @@
 -- What a whole buffer of frames adds to what was read, passed on and sent.
-use Rattle.std.proofs.Common.{◌≡◌, ℕ, ◌+◌, ◌-◌, ◌*◌, ◌<◌, ◌≤◌, ◌^◌, inl, inr, map, Bool, true, false, List, [], ◌++◌, length, drop, refl, subst, sym, ap, ◌∙◌, arith}
+use Rattle.std.proofs.Common.{◌≡◌, ℕ, ◌+◌, ◌-◌, ◌*◌, ◌<◌, ◌≤◌, ◌^◌, inl, inr, map, Bool, true, false, List, [], ◌∷◌, ◌++◌, length, drop, refl, subst, sym, ap, ◌∙◌, arith}
 use Rattle.std.proofs.lemmas.Bool.{cases_lt}
 use Rattle.std.proofs.lemmas.List.{append_assoc, append-nil, length-append}
 use Rattle.std.specs.Prelude.{Option, Some}
@@ -8,9 +8,9 @@ use Rattle.fx_frame.specs.Frame.{Samples}
 use Rattle.fx_frame.specs.Holds.{kinds, recipes}
 use Rattle.fx_frame.specs.Stage.{Acts}
 use Rattle.fx_flow.proofs.Feeding.{FlowGave-none}
-use Rattle.fx_flow.specs.Feed.{FlowGave}
+use Rattle.fx_flow.specs.Feed.{FlowFed, FlowGave, stepped, taken_in, untouched}
 use Rattle.fx_flow.specs.Parts.{Parts, enough_for, given_by, taken_of}
-use Rattle.fx_flow.specs.Steps.{rest_of, wholes_of}
+use Rattle.fx_flow.specs.Steps.{given_out, rest_of, wholes_of}
 use Rattle.fx_sound.proofs.Held.{Takes-turn}
 use Rattle.fx_sound.proofs.Sending.{Sent-put}
 use Rattle.fx_sound.proofs.Sounds.{first_frames-add, held-next, held-passed, length-first_frames}
@@ -25,20 +25,30 @@ use Rattle.fx_chain.specs.Block.{Blocked}
 use Rattle.fx_chain.specs.Outlet.{coded, coded_clips}
 use Rattle.fx_chain.specs.Pump.{Pumped, PumpedFront, Start}
 use Rattle.fx_chain.specs.Run.{Flowed, FlowedFront, WantsMore, sound_frames}
-use Rattle.fx_chain.specs.Through.{CutOff, Drained, Gives, Through, Waits}
+use Rattle.fx_chain.specs.Through.{CutOff, Drained, Gives, Reached, Through, Waits, took}
+use Rattle.fx_chain.specs.Through as reach
 use Rattle.fx_chain.proofs.Passing.{Flowed-turn, WantsMore-next, enough-same, not-both, sound_frames-more, taken-take}
 use Rattle.fx_chain.proofs.Sending.{coded-append, coded_clips-append}
 
 module _ {S R : Type 0} (acts : Acts S R) where
+  -- a row of calls, behind those that came before
+  Reached-fed : (first at mid : Parts S) (frames xs given gs : List Samples) → Reached acts first frames given at → FlowFed acts at xs gs mid → Reached acts first (frames ++ xs) (given ++ gs) mid
+  Reached-fed first at mid frames xs given gs r untouched = rw (append-nil frames, append-nil given) r
+  Reached-fed first at mid frames xs given gs r (taken_in ys hs x f f' fed t) =
+      rw (← append_assoc frames ys (x ∷ [])) (took (frames ++ ys) (given ++ hs) x f f' (Reached-fed first at f frames ys given hs r fed) t.hungry t.took)
+  Reached-fed first at mid frames xs given gs r (stepped ys hs step f f' fed s) =
+      rw (← append_assoc given hs (given_out step)) (reach.stepped (frames ++ ys) (given ++ hs) step f f' (Reached-fed first at f frames ys given hs r fed) s.moved)
+
   -- frames were taken, and others given
-  Through-block : (start at mid : Parts S) (frames xs given gs : List Samples) → Through acts start at frames given → at.ended ≡ false → FlowGave acts at xs gs mid → Through acts start mid (frames ++ xs) (given ++ gs)
-  Through-block start at mid frames xs given gs p running q = record {
+  Through-block : (start at mid : Parts S) (frames xs given gs : List Samples) → Through acts start at frames given → at.ended ≡ false → FlowFed acts at xs gs mid → FlowGave acts at xs gs mid → Through acts start mid (frames ++ xs) (given ++ gs)
+  Through-block start at mid frames xs given gs p running fed q = record {
     rest = λ z over.
         ap (rest_of acts start) (append_assoc frames xs z) ∙ p.rest (xs ++ z) (λ t. not-both at.ended running t)
         ∙ ap (λ l. given ++ l) (q.rest z (λ t. not-both at.ended running t)) ∙ sym (append_assoc given gs (rest_of acts mid z));
     whole = λ z over.
         q.whole z (λ t. not-both at.ended running t) ∙ p.whole (xs ++ z) (λ t. not-both at.ended running t) ∙ sym (ap (wholes_of acts start) (append_assoc frames xs z));
     counted = omega (arith, q.given, p.counted, length-append given gs);
+    reached = Reached-fed start at mid frames xs given gs p.reached fed;
   }
 
   -- what the flow then gave
@@ -48,15 +58,16 @@ module _ {S R : Type 0} (acts : Acts S R) where
         p.rest z (λ t. not-both at.ended running t) ∙ ap (λ l. given ++ l) (q.rest z (λ t. not-both at.ended running t)) ∙ sym (append_assoc given more (rest_of acts new z));
     whole = λ z over. q.whole z (λ t. not-both at.ended running t) ∙ p.whole z (λ t. not-both at.ended running t);
     counted = omega (arith, q.counted, p.counted, length-append given more);
+    reached = q.reached start frames given p.reached;
   }
 
   -- what it gave waits behind what was sent
   Flowed-put : (start at mid : Parts S) (coding : Coding) (frames xs gs : List Samples) (clips new_clips : ℕ) (first now : Option (List ℕ)) (out new_out : Pending) (head : List ℕ)
-      → Flowed acts start at coding frames clips first now out head → at.ended ≡ false → FlowGave acts at xs gs mid → new_clips ≡ clips + coded_clips coding gs
+      → Flowed acts start at coding frames clips first now out head → at.ended ≡ false → FlowFed acts at xs gs mid → FlowGave acts at xs gs mid → new_clips ≡ clips + coded_clips coding gs
       → new_out.bytes ≡ out.bytes ++ coded coding gs → new_out.written ≡ out.written → Flowed acts start mid coding (frames ++ xs) new_clips first now new_out head
-  Flowed-put start at mid coding frames xs gs clips new_clips first now out new_out head p running q c b w = record {
+  Flowed-put start at mid coding frames xs gs clips new_clips first now out new_out head p running fed q c b w = record {
     given = p.given ++ gs;
-    through = Through-block start at mid frames xs p.given gs p.through running q;
+    through = Through-block start at mid frames xs p.given gs p.through running fed q;
     clipped = omega (arith, coded_clips-append coding p.given gs, c, p.clipped);
     sent = rw (coded-append coding p.given gs, ← append_assoc head (coded coding p.given) (coded coding gs)) (Sent-put first now out new_out (head ++ coded coding p.given) (coded coding gs) p.sent b w);
   }
@@ -92,6 +103,7 @@ Blocked-none acts f s p coding clips out few =
       bytes = rw none refl;
       reader = refl;
       counted = (Ran-start p [] (Some []) refl).now_is;
+      fed = untouched;
       gave = FlowGave-none acts f;
       wants = λ m h. absurd (omega arith);
       clipped = omega arith;
@@ -140,7 +152,7 @@ module _ {S R X : Type 0} (acts : Acts S R) (rest : X → Option (List ℕ)) (to
 
     flowed-block : Flowed acts first.flow mid first.coding (sound_frames first.progress progress'.frames bytes) mid_clips first.wrote wrote mid_out first.head
     flowed-block = rw frames-more
-        (Flowed-put acts first.flow flow mid first.coding _ _ b.given clips mid_clips first.wrote wrote out mid_out first.head (p.flowed bytes known) p.hungry.not_ended b.gave (rw p.coded at b.clipped) (rw p.coded at b.put) b.written)
+        (Flowed-put acts first.flow flow mid first.coding _ _ b.given clips mid_clips first.wrote wrote out mid_out first.head (p.flowed bytes known) p.hungry.not_ended b.fed b.gave (rw p.coded at b.clipped) (rw p.coded at b.put) b.written)
 
   -- a whole buffer of frames went through the flow, and then it was stepped until it waited
   pub Pumped-block : (new : Parts S) (new_clips : ℕ) (new_out : Pending) (new_wrote : Option (List ℕ)) → Drained acts mid new coding mid_clips new_clips wrote new_wrote mid_out new_out → Waits acts new
@@ -228,7 +240,7 @@ Pumped-turn acts rest told failures first flow took new source source' progress 
           let taken = takes (drop (turn * size) bytes) ran.to_come_is in
           let frames = ap (λ n. sound_frames first.progress n bytes) count ∙ sound_frames-more _ _ _ _ _ _ _ ran taken in
           rw frames
-          (Flowed-turn acts first.flow flow took new first.coding _ _ _ _ _ _ _ _ _ first.head (p.flowed bytes known) p.hungry.empty p.hungry.not_ended is (rw p.coded at q));
+          (Flowed-turn acts first.flow flow took new first.coding _ _ _ _ _ _ _ _ _ first.head (p.flowed bytes known) p.hungry is (rw p.coded at q));
       takes =
           let Taken : ℕ → Type 0 = λ n. Takes told first.source source' n in
           subst Taken (sym (ap (λ n. n * size) count ∙ more)) (Takes-more told _ _ _ (turn * size) size p.takes (rw p.size at taken));

@@ -11,11 +11,18 @@ use Rattle.fx_flow.specs.Parts.{Parts, given_by, most_of, taken_of}
 use Rattle.fx_flow.specs.Sound.{most_frames}
 use Rattle.fx_flow.proofs.Laws.{most_of-le}
 use Rattle.fx_flow.specs.declared.flow.Step.{Step}
-use Rattle.fx_flow.specs.Steps.{Steps, given_out, rest_of, wholes_of}
+use Rattle.fx_flow.specs.declared.flow.Step.TheVariants.{Given, Idle, Moved}
+use Rattle.fx_flow.specs.Steps.{MovedOn, Steps, given_out, rest_of, wholes_of}
 use Rattle.fx_sound.specs.Output.{Pending, SendsMore, SendsOn}
 use Rattle.fx_chain.specs.Outlet.{WroteFront, coded, coded_clips}
-use Rattle.fx_chain.specs.Through.{CutOff, Drained, Gives, SendsFront}
+use Rattle.fx_chain.specs.Through.{CutOff, Drained, Gives, SendsFront, stepped}
 use Rattle.fx_chain.proofs.Sending.{WroteFront-sent, coded-more, coded_clips-append}
+
+-- a step that let no frame out
+pub no_frame : (s : Step) → ((frame : Samples) → s ≡ Given frame → ⊥) → given_out s ≡ []
+no_frame (Given frame) h = absurd (h frame refl)
+no_frame Moved h = refl
+no_frame Idle h = refl
 
 module _ {S R : Type 0} (acts : Acts S R) where
   -- before the first step
@@ -28,11 +35,12 @@ module _ {S R : Type 0} (acts : Acts S R) where
     ended = refl;
     channels = refl;
     counted = omega arith;
+    reached = λ first xs gs r. rw (append-nil gs) r;
   }
 
   -- one step more
-  pub Gives-step : (old at new : Parts S) (step : Step) (given : List Samples) → Gives acts old at given → Steps acts at step new → Gives acts old new (given ++ given_out step)
-  Gives-step old at new step given p s = record {
+  pub Gives-step : (old at new : Parts S) (step : Step) (given : List Samples) → Gives acts old at given → Steps acts at step new → MovedOn acts at step new → Gives acts old new (given ++ given_out step)
+  Gives-step old at new step given p s m = record {
     rest = λ z over. p.rest z over ∙ ap (λ l. given ++ l) (s.rest z (λ e. over (sym p.ended ∙ e))) ∙ sym (append_assoc given (given_out step) (rest_of acts new z));
     whole = λ z over. s.whole z (λ e. over (sym p.ended ∙ e)) ∙ p.whole z over;
     recipes_stay = s.recipes_stay ∙ p.recipes_stay;
@@ -40,6 +48,7 @@ module _ {S R : Type 0} (acts : Acts S R) where
     ended = s.ended ∙ p.ended;
     channels = s.channels ∙ p.channels;
     counted = omega (arith, s.given, p.counted, length-append given (given_out step));
+    reached = λ first xs gs r. rw (append_assoc gs given (given_out step)) at (stepped xs (gs ++ given) step at new (p.reached first xs gs r) m);
   }
 
   pub Drained-none : (f : Parts S) (coding : Coding) (clips : ℕ) (now : Option (List ℕ)) (out : Pending) → Drained acts f f coding clips clips now now out out
@@ -52,34 +61,34 @@ module _ {S R : Type 0} (acts : Acts S R) where
 
   -- a step that gave nothing
   pub Drained-still : (old at new : Parts S) (step : Step) (coding : Coding) (clips at_clips : ℕ) (now at_now : Option (List ℕ)) (out at_out : Pending)
-      → Drained acts old at coding clips at_clips now at_now out at_out → Steps acts at step new → given_out step ≡ [] → Drained acts old new coding clips at_clips now at_now out at_out
-  Drained-still old at new step coding clips at_clips now at_now out at_out p s none = record {
+      → Drained acts old at coding clips at_clips now at_now out at_out → Steps acts at step new → MovedOn acts at step new → given_out step ≡ [] → Drained acts old new coding clips at_clips now at_now out at_out
+  Drained-still old at new step coding clips at_clips now at_now out at_out p s m none = record {
     given = p.given;
-    gives = rw (none, append-nil p.given) at (Gives-step old at new step p.given p.gives s);
+    gives = rw (none, append-nil p.given) at (Gives-step old at new step p.given p.gives s m);
     clipped = p.clipped;
     sends = p.sends;
   }
 
   -- a step that gave a frame, which was sent
   pub Drained-more : (old at new : Parts S) (step : Step) (frame : Samples) (coding : Coding) (clips at_clips new_clips : ℕ) (now at_now new_now : Option (List ℕ)) (out at_out new_out : Pending)
-      → Drained acts old at coding clips at_clips now at_now out at_out → Steps acts at step new → given_out step ≡ frame ∷ []
+      → Drained acts old at coding clips at_clips now at_now out at_out → Steps acts at step new → MovedOn acts at step new → given_out step ≡ frame ∷ []
       → new_clips ≡ at_clips + clips_of coding frame → SendsMore at_now new_now at_out new_out (bytes_of coding frame)
       → Drained acts old new coding clips new_clips now new_now out new_out
-  Drained-more old at new step frame coding clips at_clips new_clips now at_now new_now out at_out new_out p s gave c m = record {
+  Drained-more old at new step frame coding clips at_clips new_clips now at_now new_now out at_out new_out p s on gave c m = record {
     given = p.given ++ frame ∷ [];
-    gives = rw gave at (Gives-step old at new step p.given p.gives s);
+    gives = rw gave at (Gives-step old at new step p.given p.gives s on);
     clipped = let e = coded_clips-append coding p.given (frame ∷ []) in omega (arith, e, c, p.clipped);
     sends = λ first all t. rw (← coded-more coding all p.given frame) (m first (all ++ coded coding p.given) (p.sends first all t));
   }
 
   -- a step that gave a frame, at which the writer failed
   pub CutOff-more : (old at new : Parts S) (step : Step) (frame : Samples) (coding : Coding) (clips at_clips new_clips : ℕ) (now at_now new_now : Option (List ℕ)) (out at_out new_out : Pending)
-      → Drained acts old at coding clips at_clips now at_now out at_out → Steps acts at step new → given_out step ≡ frame ∷ []
+      → Drained acts old at coding clips at_clips now at_now out at_out → Steps acts at step new → MovedOn acts at step new → given_out step ≡ frame ∷ []
       → new_clips ≡ at_clips + clips_of coding frame → SendsOn at_now new_now at_out new_out
       → CutOff acts old new coding clips new_clips now new_now out new_out
-  CutOff-more old at new step frame coding clips at_clips new_clips now at_now new_now out at_out new_out p s gave c m = record {
+  CutOff-more old at new step frame coding clips at_clips new_clips now at_now new_now out at_out new_out p s on gave c m = record {
     given = p.given ++ frame ∷ [];
-    gives = rw gave at (Gives-step old at new step p.given p.gives s);
+    gives = rw gave at (Gives-step old at new step p.given p.gives s on);
     clipped = let e = coded_clips-append coding p.given (frame ∷ []) in omega (arith, e, c, p.clipped);
     front = λ first all t. rw (← coded-more coding all p.given frame)
         (WroteFront-sent first new_now new_out (all ++ coded coding p.given) (bytes_of coding frame) (m first (all ++ coded coding p.given) (p.sends first all t)));

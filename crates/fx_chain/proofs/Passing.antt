@@ -9,7 +9,7 @@ use Rattle.fx_frame.specs.FrameCoding.{samples_of}
 use Rattle.fx_frame.specs.Holds.{kinds, recipes}
 use Rattle.fx_frame.specs.Stage.{Acts, Kind}
 use Rattle.fx_flow.specs.Parts.{Parts, enough_for, given_by, taken_of, through}
-use Rattle.fx_flow.specs.Steps.{rest_of, wholes_of}
+use Rattle.fx_flow.specs.Steps.{IsHungry, rest_of, wholes_of}
 use Rattle.fx_sound.specs.Output.{Pending, Sent}
 use Rattle.fx_sound.specs.Container.{after_frames, first_frames}
 use Rattle.fx_sound.specs.Runs.{Ran, Ran-end, Ran-failed, Tells-more, first_frames-more}
@@ -17,7 +17,7 @@ use Rattle.fx_sound.specs.Sound.{Reading, EndsSound, TakesFrame, at_most_announc
 use Rattle.fx_sound.specs.Source.{FallsShort, Held, Takes}
 use Rattle.fx_chain.specs.Outlet.{WroteFront, coded, coded_clips}
 use Rattle.fx_chain.specs.Run.{Flowed, FlowedFront, RanToEnd, RanToFailure, WantsMore, sound_frames}
-use Rattle.fx_chain.specs.Through.{CutOff, Drained, Gives, Through}
+use Rattle.fx_chain.specs.Through.{CutOff, Drained, Gives, Through, took, told_end, untouched}
 use Rattle.fx_chain.proofs.Sending.{coded-append, coded_clips-append}
 
 -- what is not so is not otherwise
@@ -77,12 +77,14 @@ module _ {S R : Type 0} (acts : Acts S R) where
   taken-take f g frame none e = rw (e, none) (omega arith)
 
   Through-start : (start : Parts S) → given_by acts start.left start.stages ≡ 0 → Through acts start start [] []
-  Through-start start none = record { rest = λ z over. refl; whole = λ z over. refl; counted = none }
+  Through-start start none = record { rest = λ z over. refl; whole = λ z over. refl; counted = none; reached = untouched }
 
   -- a frame was taken, and what the flow then gave
-  Through-turn : (start at g new : Parts S) (frames given more : List Samples) (frame : Samples) → Through acts start at frames given → at.inlet ≡ None → at.ended ≡ false
+  Through-turn : (start at g new : Parts S) (frames given more : List Samples) (frame : Samples) → Through acts start at frames given → IsHungry acts at
       → g ≡ record at { inlet = Some frame } → Gives acts g new more → Through acts start new (frames ++ frame ∷ []) (given ++ more)
-  Through-turn start at g new frames given more frame p none running e q =
+  Through-turn start at g new frames given more frame p hungry e q =
+      let none = hungry.empty in
+      let running = hungry.not_ended in
       let still : g.ended ≡ false = ap (λ (h : Parts S). h.ended) e ∙ running in
       record {
         rest = λ z over.
@@ -92,12 +94,14 @@ module _ {S R : Type 0} (acts : Acts S R) where
             q.whole z (λ t. not-both g.ended still t) ∙ whole-take at g frame z none e ∙ p.whole (frame ∷ z) (λ t. not-both at.ended running t)
             ∙ sym (ap (wholes_of acts start) (append_assoc frames (frame ∷ []) z));
         counted = let same : given_by acts g.left g.stages ≡ given_by acts at.left at.stages = ap (λ (h : Parts S). given_by acts h.left h.stages) e in omega (arith, q.counted, p.counted, same, length-append given more);
+        reached = q.reached start (frames ++ frame ∷ []) given (took frames given frame at g p.reached hungry e);
       }
 
   -- the end was told, and what the flow then gave
-  Through-end : (start at g new : Parts S) (frames given more : List Samples) → Through acts start at frames given → at.ended ≡ false
+  Through-end : (start at g new : Parts S) (frames given more : List Samples) → Through acts start at frames given → IsHungry acts at
       → g ≡ record at { ended = true } → Gives acts g new more → Through acts start new frames (given ++ more)
-  Through-end start at g new frames given more p running e q =
+  Through-end start at g new frames given more p hungry e q =
+      let running = hungry.not_ended in
       let over : new.ended ≡ true = q.ended ∙ ap (λ (h : Parts S). h.ended) e in
       record {
         rest = λ z none.
@@ -105,6 +109,7 @@ module _ {S R : Type 0} (acts : Acts S R) where
             ∙ ap (λ l. given ++ l) (sym (ap (λ (h : Parts S). rest_of acts h z) e) ∙ q.rest z (λ t. none over)) ∙ sym (append_assoc given more (rest_of acts new z));
         whole = λ z none. q.whole z (λ t. none over) ∙ ap (λ (h : Parts S). wholes_of acts h z) e ∙ p.whole z (λ t. not-both at.ended running t);
         counted = let same : given_by acts g.left g.stages ≡ given_by acts at.left at.stages = ap (λ (h : Parts S). given_by acts h.left h.stages) e in omega (arith, q.counted, p.counted, same, length-append given more);
+        reached = q.reached start frames given (told_end frames given at g p.reached hungry e);
       }
 
   pub Flowed-start : (start : Parts S) (coding : Coding) (clips : ℕ) (first now : Option (List ℕ)) (out : Pending) (head : List ℕ) → given_by acts start.left start.stages ≡ 0 → clips ≡ 0 → Sent first now out head
@@ -117,44 +122,44 @@ module _ {S R : Type 0} (acts : Acts S R) where
 
   -- a frame was taken, and what the flow then gave was sent
   pub Flowed-turn : (start at g new : Parts S) (coding : Coding) (frames : List Samples) (frame : Samples) (clips new_clips : ℕ) (first now new_now : Option (List ℕ)) (out new_out : Pending) (head : List ℕ)
-      → Flowed acts start at coding frames clips first now out head → at.inlet ≡ None → at.ended ≡ false → g ≡ record at { inlet = Some frame } → Drained acts g new coding clips new_clips now new_now out new_out
+      → Flowed acts start at coding frames clips first now out head → IsHungry acts at → g ≡ record at { inlet = Some frame } → Drained acts g new coding clips new_clips now new_now out new_out
       → Flowed acts start new coding (frames ++ frame ∷ []) new_clips first new_now new_out head
-  Flowed-turn start at g new coding frames frame clips new_clips first now new_now out new_out head p none running e q = record {
+  Flowed-turn start at g new coding frames frame clips new_clips first now new_now out new_out head p hungry e q = record {
     given = p.given ++ q.given;
-    through = Through-turn start at g new frames p.given q.given frame p.through none running e q.gives;
+    through = Through-turn start at g new frames p.given q.given frame p.through hungry e q.gives;
     clipped = let c = coded_clips-append coding p.given q.given in omega (arith, c, q.clipped, p.clipped);
     sent = rw (coded-append coding p.given q.given, ← append_assoc head (coded coding p.given) (coded coding q.given)) (q.sends first (head ++ coded coding p.given) p.sent);
   }
 
   -- the end was told, and what the flow then gave was sent
   pub Flowed-end : (start at g new : Parts S) (coding : Coding) (frames : List Samples) (clips new_clips : ℕ) (first now new_now : Option (List ℕ)) (out new_out : Pending) (head : List ℕ)
-      → Flowed acts start at coding frames clips first now out head → at.ended ≡ false → g ≡ record at { ended = true } → Drained acts g new coding clips new_clips now new_now out new_out
+      → Flowed acts start at coding frames clips first now out head → IsHungry acts at → g ≡ record at { ended = true } → Drained acts g new coding clips new_clips now new_now out new_out
       → Flowed acts start new coding frames new_clips first new_now new_out head
-  Flowed-end start at g new coding frames clips new_clips first now new_now out new_out head p running e q = record {
+  Flowed-end start at g new coding frames clips new_clips first now new_now out new_out head p hungry e q = record {
     given = p.given ++ q.given;
-    through = Through-end start at g new frames p.given q.given p.through running e q.gives;
+    through = Through-end start at g new frames p.given q.given p.through hungry e q.gives;
     clipped = let c = coded_clips-append coding p.given q.given in omega (arith, c, q.clipped, p.clipped);
     sent = rw (coded-append coding p.given q.given, ← append_assoc head (coded coding p.given) (coded coding q.given)) (q.sends first (head ++ coded coding p.given) p.sent);
   }
 
   -- a frame was taken, and the writer failed at what the flow then gave
   pub FlowedFront-turn : (start at g new : Parts S) (coding : Coding) (frames : List Samples) (frame : Samples) (clips new_clips : ℕ) (first now new_now : Option (List ℕ)) (out new_out : Pending) (head : List ℕ)
-      → Flowed acts start at coding frames clips first now out head → at.inlet ≡ None → at.ended ≡ false → g ≡ record at { inlet = Some frame } → CutOff acts g new coding clips new_clips now new_now out new_out
+      → Flowed acts start at coding frames clips first now out head → IsHungry acts at → g ≡ record at { inlet = Some frame } → CutOff acts g new coding clips new_clips now new_now out new_out
       → FlowedFront acts start new coding (frames ++ frame ∷ []) new_clips first new_now new_out head
-  FlowedFront-turn start at g new coding frames frame clips new_clips first now new_now out new_out head p none running e q = record {
+  FlowedFront-turn start at g new coding frames frame clips new_clips first now new_now out new_out head p hungry e q = record {
     given = p.given ++ q.given;
-    through = Through-turn start at g new frames p.given q.given frame p.through none running e q.gives;
+    through = Through-turn start at g new frames p.given q.given frame p.through hungry e q.gives;
     clipped = let c = coded_clips-append coding p.given q.given in omega (arith, c, q.clipped, p.clipped);
     front = rw (coded-append coding p.given q.given, ← append_assoc head (coded coding p.given) (coded coding q.given)) (q.front first (head ++ coded coding p.given) p.sent);
   }
 
   -- the end was told, and the writer failed at what the flow then gave
   pub FlowedFront-end : (start at g new : Parts S) (coding : Coding) (frames : List Samples) (clips new_clips : ℕ) (first now new_now : Option (List ℕ)) (out new_out : Pending) (head : List ℕ)
-      → Flowed acts start at coding frames clips first now out head → at.ended ≡ false → g ≡ record at { ended = true } → CutOff acts g new coding clips new_clips now new_now out new_out
+      → Flowed acts start at coding frames clips first now out head → IsHungry acts at → g ≡ record at { ended = true } → CutOff acts g new coding clips new_clips now new_now out new_out
       → FlowedFront acts start new coding frames new_clips first new_now new_out head
-  FlowedFront-end start at g new coding frames clips new_clips first now new_now out new_out head p running e q = record {
+  FlowedFront-end start at g new coding frames clips new_clips first now new_now out new_out head p hungry e q = record {
     given = p.given ++ q.given;
-    through = Through-end start at g new frames p.given q.given p.through running e q.gives;
+    through = Through-end start at g new frames p.given q.given p.through hungry e q.gives;
     clipped = let c = coded_clips-append coding p.given q.given in omega (arith, c, q.clipped, p.clipped);
     front = rw (coded-append coding p.given q.given, ← append_assoc head (coded coding p.given) (coded coding q.given)) (q.front first (head ++ coded coding p.given) p.sent);
   }

@@ -5,10 +5,10 @@ use Rattle.std.specs.Prelude.{◌⊎◌, MatchBool, Option, Some, slice_index, s
 use Rattle.fx_sound.specs.Known.{IfKnown}
 use Rattle.fx_frame.specs.declared.coding.Coding.{Coding}
 use Rattle.fx_frame.specs.Frame.{Samples}
-use Rattle.fx_frame.specs.Holds.{kinds, total as total_of}
+use Rattle.fx_frame.specs.Holds.{kinds, recipes, total as total_of}
 use Rattle.fx_frame.specs.Stage.{Acts}
-use Rattle.fx_flow.specs.Parts.{Parts, Whole, AllSettled, AllEnded, due_of, enough_for, given_by, taken_of, wholes}
-use Rattle.fx_flow.specs.Steps.{IsDone, rest_of, wholes_of}
+use Rattle.fx_flow.specs.Parts.{AllNew, Parts, Whole, AllSettled, AllEnded, due_of, enough_for, given_by, moves_of, taken_of, wholes}
+use Rattle.fx_flow.specs.Steps.{IsDone, IsHungry, rest_of, wholes_of}
 use Rattle.fx_flow.proofs.Laws.{through-Done, wholes-Done}
 use Rattle.fx_sound.specs.declared.progress.TheConstants.{MOST_FRAMES}
 use Rattle.fx_sound.specs.Output.{Pending, Sent, total}
@@ -18,9 +18,11 @@ use Rattle.fx_chain.specs.declared.report.Report.{Report}
 use Rattle.fx_chain.specs.declared.report.RunFault.{RunFault}
 use Rattle.fx_chain.specs.declared.target.Target.{Target}
 use Rattle.fx_chain.specs.Outlet.{WroteAll, WroteFront, coded, coded_clips}
-use Rattle.fx_chain.specs.Report.{Completed, Reports, StoppedAt, cause_of, clips_now, head_for, output_of, pad, report_at, row_of}
+use Rattle.fx_chain.specs.Due.{clips_in, dues}
+use Rattle.fx_chain.specs.Report.{Completed, Reports, StoppedAt, cause_of, clips_now, head_for, met_end, output_of, pad, report_at, row_of}
 use Rattle.fx_chain.specs.Run.{RanToEnd}
 use Rattle.fx_chain.specs.Through.{Through}
+use Rattle.fx_chain.proofs.Reaching.{clips-stopped, moves-stopped}
 
 -- one more count in a row
 row-set : (counts : List ℕ) (i k : ℕ) → i < length counts → slice_set (take i counts ++ replicate (suc k) 0) i (slice_index counts i) ≡ take (suc i) counts ++ replicate k 0
@@ -38,20 +40,18 @@ row-more row counts i n e h few is =
 pub Sent-total : (first now : Option (List ℕ)) (out : Pending) (all : List ℕ) → Sent first now out all → total out ≡ length all
 Sent-total first now out all s = let e = ap length s.waiting ∙ length-drop out.written all in omega (arith, s.within, e)
 
--- one or the other holds
-either : {P Q T : Type 0} (b : Bool) → MatchBool b P Q → (P → T) → T ⊎ Q
-either true p f = inl (f p)
-either false q f = inr q
-
 -- the end was met where no effect had enough
 ended-either : {P Q T : Type 0} (over enough : Bool) → MatchBool over (enough ≡ false) (enough ≡ true) → MatchBool over P Q → (P → T) → ((enough ≡ false) × T) ⊎ ((enough ≡ true) × Q)
 ended-either true enough e p f = inl (e, f p)
 ended-either false enough e q f = inr (e, q)
 
--- the end of the sound was met or not
-pub ends-either : (known : Option (List ℕ)) (bytes : List ℕ) (sound : Reading) (n missing stray : ℕ) (over : Bool) → known ≡ Some bytes
-    → MatchBool over (IfKnown known (λ b. RanToEnd sound b n missing stray)) ((missing ≡ 0) × (stray ≡ 0)) → RanToEnd sound bytes n missing stray ⊎ ((missing ≡ 0) × (stray ≡ 0))
-ends-either known bytes sound n missing stray over is e = either over e (λ (f : IfKnown known (λ b. RanToEnd sound b n missing stray)). f bytes is)
+-- where the end of the sound was met, the counts are those of the end
+pub ends-known : (known : Option (List ℕ)) (bytes : List ℕ) (sound : Reading) (n missing stray : ℕ) (over met : Bool) → known ≡ Some bytes → over ≡ met
+    → MatchBool over (IfKnown known (λ b. RanToEnd sound b n missing stray)) ((missing ≡ 0) × (stray ≡ 0)) → MatchBool met (RanToEnd sound bytes n missing stray) ((missing ≡ 0) × (stray ≡ 0))
+ends-known known bytes sound n missing stray true true is e p = p bytes is
+ends-known known bytes sound n missing stray false false is e p = p
+ends-known known bytes sound n missing stray true false is e p = absurd (cc)
+ends-known known bytes sound n missing stray false true is e p = absurd (cc)
 
 -- the end was met where no effect had enough, and the counts are those of the end
 pub ended-known : (known : Option (List ℕ)) (bytes : List ℕ) (sound : Reading) (n missing stray : ℕ) (over enough : Bool) → known ≡ Some bytes → MatchBool over (enough ≡ false) (enough ≡ true)
@@ -87,20 +87,29 @@ module _ {S R : Type 0} (acts : Acts S R) where
         part = omega (arith, count, sum);
         wholes = p.whole [] (λ t. refl) ∙ ap (wholes_of acts start) (append-nil frames);
         out_clips = clips ∙ ap (coded_clips coding) (sym first);
+        reached = rw first p.reached;
       }
 
   -- a run that stopped before its end, and wrote the frames then due
   pub stopped-due : (start at : Parts S) (target : Target) (sound : Reading) (bytes : List ℕ) (frames given : List Samples) (first now : Option (List ℕ)) (f : RunFault)
-      → Through acts start at frames given → at.ended ≡ false → (report_at f).frames_out ≡ given_by acts at.left at.stages → (report_at f).out_clips ≡ coded_clips target.coding given
+      → Through acts start at frames given → IsHungry acts start → IsHungry acts at → recipes acts at.stages ≡ recipes acts start.stages → taken_of at ≡ (report_at f).frames_in
+      → map (λ s. (acts.counts s).given) at.stages ≡ dues (kinds acts at.stages) (taken_of at) → (report_at f).moves ≡ moves_of acts at → (report_at f).clips ≡ clips_now acts at.stages
+      → (report_at f).frames_in * size_of sound ≤ length (within sound.left bytes)
+      → (report_at f).frames_out ≡ given_by acts at.left at.stages → (report_at f).out_clips ≡ coded_clips target.coding given
       → (cause_of f ≡ WriteFailed → ⊥) → (report_at f).frames_out ≡ due_of (kinds acts start.stages) (report_at f).frames_in
       → WroteAll first now (report_at f).bytes_out (head_for target ++ coded target.coding given) → ((report_at f).missing ≡ 0) × ((report_at f).stray ≡ 0)
       → enough_for (kinds acts start.stages) (report_at f).frames_in ≡ false
       → (cause_of f ≡ TooLong → ((report_at f).frames_in ≡ MOST_FRAMES) × ((MOST_FRAMES + 1) * size_of sound ≤ length (within sound.left bytes)))
       → StoppedAt acts start at target sound bytes frames first now f
-  stopped-due start at target sound bytes frames given first now f p running out clips other due wrote zeros unspent long =
+  stopped-due start at target sound bytes frames given first now f p fresh hungry stay taken all moves counted whole out clips other due wrote zeros unspent long =
+      let running = hungry.not_ended in
       let front = given-is start at frames given (report_at f).frames_out p out in
       record {
+        whole = whole;
         reports = Reports-from start at target.coding frames given (report_at f) p out clips;
+        hungry = λ n. hungry;
+        moves = λ n. moves-stopped acts start at (report_at f).frames_in (report_at f).moves hungry stay taken all moves;
+        clips = λ n new. counted ∙ ap row_of (clips-stopped acts start at frames given (report_at f).frames_in fresh hungry stay taken all p.reached new);
         due = λ n. (due, rw front wrote);
         whatever = λ n z. ap (take (report_at f).frames_out) (p.rest z (λ t. absurd (cc (running, t)))) ∙ take_at given (rest_of acts at z) (report_at f).frames_out (sym (out ∙ p.counted)) ∙ sym front;
         front = λ e. absurd (other e);
@@ -115,12 +124,17 @@ module _ {S R : Type 0} (acts : Acts S R) where
       → Through acts start at frames given → (report_at f).frames_out ≡ given_by acts at.left at.stages → (report_at f).out_clips ≡ coded_clips target.coding given
       → cause_of f ≡ WriteFailed
       → (WroteFront first now (report_at f).bytes_out (head_for target ++ coded target.coding given) ⊎ (IsDone acts at × WroteFront first now (report_at f).bytes_out (output_of target (rest_of acts start frames))))
-      → (RanToEnd sound bytes (report_at f).frames_in (report_at f).missing (report_at f).stray ⊎ (((report_at f).missing ≡ 0) × ((report_at f).stray ≡ 0)))
+      → (report_at f).frames_in * size_of sound ≤ length (within sound.left bytes)
+      → MatchBool (met_end at.ended (enough_for (kinds acts start.stages) (report_at f).frames_in)) (RanToEnd sound bytes (report_at f).frames_in (report_at f).missing (report_at f).stray) (((report_at f).missing ≡ 0) × ((report_at f).stray ≡ 0))
       → StoppedAt acts start at target sound bytes frames first now f
-  stopped-front start at target sound bytes frames given first now f p out clips is front ends =
+  stopped-front start at target sound bytes frames given first now f p out clips is front whole ends =
       let part = given-is start at frames given (report_at f).frames_out p out in
       record {
+        whole = whole;
         reports = Reports-from start at target.coding frames given (report_at f) p out clips;
+        hungry = λ n. absurd (n is);
+        moves = λ n. absurd (n is);
+        clips = λ n new. absurd (n is);
         due = λ n. absurd (n is);
         whatever = λ n. absurd (n is);
         front = λ e. rw part front;

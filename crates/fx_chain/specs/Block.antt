@@ -4,7 +4,7 @@ use Rattle.fx_frame.specs.declared.coding.Coding.{Coding}
 use Rattle.fx_frame.specs.Frame.{Samples}
 use Rattle.fx_frame.specs.Holds.{kinds}
 use Rattle.fx_frame.specs.Stage.{Acts}
-use Rattle.fx_flow.specs.Feed.{FlowGave}
+use Rattle.fx_flow.specs.Feed.{FlowFed, FlowGave}
 use Rattle.fx_flow.specs.Parts.{Parts, enough_for, taken_of}
 use Rattle.fx_sound.specs.Container.{after_frames, first_frames}
 use Rattle.fx_sound.specs.Output.{Pending}
@@ -22,6 +22,7 @@ module _ {S R X : Type 0} (acts : Acts S R) where
     pub bytes : s'.bytes ≡ drop (count * size_of p) s.bytes
     pub reader : s'.reader ≡ s.reader
     pub counted : p' ≡ after_frames p count
+    pub fed : FlowFed acts f (first_frames p.coding p.channels count s.bytes) given f'
     pub gave : FlowGave acts f (first_frames p.coding p.channels count s.bytes) given f'
     pub wants : (m : ℕ) → m < count → enough_for (kinds acts f.stages) (taken_of f + m) ≡ false
     pub clipped : clips' ≡ clips + coded_clips coding given

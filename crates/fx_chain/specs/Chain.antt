@@ -1,7 +1,7 @@
 -- The chain of a plan's effects (this project's profile).
 use Rattle.std.specs.Prelude.{◌≡◌, ◌≤◌, false, List, length}
 use Rattle.fx_chain.specs.declared.target.Target.{Target}
-use Rattle.fx_flow.specs.Parts.{Parts, Whole, composed, composed_wholes, given_by, taken_of}
+use Rattle.fx_flow.specs.Parts.{AllNew, Parts, Whole, composed, composed_wholes, given_by, taken_of}
 use Rattle.fx_flow.specs.Steps.{IsHungry, rest_of, wholes_of}
 use Rattle.fx_frame.specs.Frame.{Samples}
 use Rattle.fx_frame.specs.Holds.{recipes}
@@ -43,6 +43,7 @@ target_for p = record { kind = p.kind; coding = p.coding; rate = p.layout.rate; 
 pub record IsNewChain (p : Planning) (c : ChainParts) : Type 0 where
   pub plan : c.plan ≡ p
   pub made : recipes effect_acts c.flow.stages ≡ planned p
+  pub fresh : AllNew effect_acts c.flow.stages
   pub hungry : IsHungry effect_acts c.flow
   pub nothing : (taken_of c.flow ≡ 0) × (given_by effect_acts c.flow.left c.flow.stages ≡ 0)
   pub gives : (x : List Samples) → rest_of effect_acts c.flow x ≡ chain_gives p x

@@ -1,4 +1,5 @@
 pub mod Chain
+pub mod Due
 pub mod Outlet
 pub mod Report
 pub mod Run

@@ -1,7 +1,8 @@
 //! A whole sound through a flow, from its source to a writer.
 ghost use Rattle.std.specs.Prelude.{◌≡◌, ℕ, ◌+◌, ◌*◌, ◌<◌, ◌≤◌, ◌^◌, ◌++◌, [], true, IfErr, IfOk, IsTrue, List, MatchResult, OnErr, OnOk, Option, length, map};
+ghost use Rattle.fx_chain.specs.Due.{dues};
 ghost use Rattle.fx_chain.specs.Outlet.{WroteAll, WroteFront};
-ghost use Rattle.fx_chain.specs.Report.{Completed, HasCause, StoppedAt, cause_of, clips_now, pad, report_at, report_in, start_of};
+ghost use Rattle.fx_chain.specs.Report.{Completed, HasCause, ReadBefore, StoppedAt, cause_of, clips_now, pad, report_at, report_in, start_of};
 ghost use Rattle.fx_chain.specs.Run.{RanToFailure, WantsMore, sound_frames};
 ghost use Rattle.fx_flow.specs.Parts.{given_by, moves_of, most_of, taken_of, work};
 ghost use Rattle.fx_flow.specs.Sound.{most_frames};
@@ -57,9 +58,11 @@ fn report_of<S: Stage>(flow: &Flow<S>, progress: &Progress, outlet: &Outlet) -> 
     ensures work { result.moves ≤ work (kinds S.acts flow.now.stages) (taken_of flow.now) }
     ensures done { IsDone S.acts flow.now → result.moves ≡ taken_of flow.now + total_of (λ w. w.given) (wholes_of S.acts flow.now []) }
     ensures clips { result.clips ≡ clips_now S.acts flow.now.stages }
+    ensures due { IsHungry S.acts flow.now → map (λ s. (S.acts.counts s).given) flow.now.stages ≡ dues (kinds S.acts flow.now.stages) (taken_of flow.now) }
     ensures out_clips { result.out_clips ≡ outlet.now.clips }
     ensures ends { (result.missing ≡ progress.now.missing) × (result.stray ≡ progress.now.stray) }
 {
+    let _stages = flow.stages();
     Report {
         frames_in: progress.frames(),
         frames_out: flow.given(),
@@ -129,7 +132,7 @@ pub fn run_flow<R: ByteIn, S: Feeds, W: ByteOut>(
     // A fault is answered only where its cause was counted.
     ensures causes { MatchResult result
         (λ _. (R.failures source.new.reader ≡ R.failures source.old.reader) × (W.failures writer.new ≡ W.failures writer.old))
-        (λ f. HasCause (cause_of f) (R.failures source.old.reader) (R.failures source.new.reader) (W.failures writer.old) (W.failures writer.new)) }
+        (λ f. HasCause (cause_of f) (ReadBefore S.acts R.told source.old source.new.reader flow.old flow.new (start_of head.now) (report_at f).frames_in) (R.failures source.old.reader) (R.failures source.new.reader) (W.failures writer.old) (W.failures writer.new)) }
 {
     let mut progress = Progress::new(head);
     let mut outlet = Outlet {

@@ -1,7 +1,7 @@
 //! A whole sound through the chain of a plan.
 ghost use Rattle.std.specs.Prelude.{◌≡◌, ◌≤◌, IfErr, IfOk, MatchResult, OnOk, true};
 ghost use Rattle.fx_chain.specs.Chain.{target_for};
-ghost use Rattle.fx_chain.specs.Report.{Completed, HasCause, StoppedAt, cause_of, clips_now, report_at, report_in, start_of};
+ghost use Rattle.fx_chain.specs.Report.{Completed, HasCause, ReadBefore, StoppedAt, cause_of, clips_now, report_at, report_in, start_of};
 ghost use Rattle.fx_chain.specs.Run.{RanToFailure, WantsMore, sound_frames};
 ghost use Rattle.fx_flow.specs.Parts.{given_by, moves_of, taken_of};
 ghost use Rattle.fx_flow.specs.Steps.{IsDone, IsHungry};
@@ -70,7 +70,7 @@ pub fn run<R: ByteIn, W: ByteOut>(
     // A fault is answered only where its cause was counted.
     ensures causes { MatchResult result
         (λ _. (R.failures source.new.reader ≡ R.failures source.old.reader) × (W.failures writer.new ≡ W.failures writer.old))
-        (λ f. HasCause (cause_of f) (R.failures source.old.reader) (R.failures source.new.reader) (W.failures writer.old) (W.failures writer.new)) }
+        (λ f. HasCause (cause_of f) (ReadBefore effect_acts R.told source.old source.new.reader chain.old.flow chain.new.flow (start_of chain.old.plan.head) (report_at f).frames_in) (R.failures source.old.reader) (R.failures source.new.reader) (W.failures writer.old) (W.failures writer.new)) }
 {
     run_flow(
         &mut chain.flow,

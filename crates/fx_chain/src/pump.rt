@@ -1,5 +1,6 @@
 //! Frames from a source through a flow to a writer.
 ghost use Rattle.std.specs.Prelude.{◌≡◌, ◌+◌, ◌*◌, ◌<◌, ◌≤◌, ◌^◌, ◌++◌, [], false, true, List, OnErr, OnOk, Err, MatchBool, length};
+ghost use Rattle.fx_chain.specs.Report.{met_end};
 ghost use Rattle.fx_chain.specs.Run.{Flowed, FlowedFront, RanToEnd, RanToFailure, WantsMore, is_read_failed, is_write_failed, sound_frames};
 ghost use Rattle.fx_chain.specs.Through.{CutOff, Drained};
 ghost use Rattle.fx_flow.specs.Parts.{due_of, enough_for, given_by, most_of, taken_of};
@@ -95,6 +96,7 @@ pub fn pump<R: ByteIn, S: Feeds, W: ByteOut>(
     ensures ends { MatchBool progress.new.over
         (IfKnown (to_come R.rest source.old) (λ bytes. RanToEnd progress.old bytes progress.new.frames progress.new.missing progress.new.stray))
         ((progress.new.missing ≡ 0) × (progress.new.stray ≡ 0)) }
+    ensures met { progress.new.over ≡ met_end flow.new.ended (enough_for (kinds S.acts flow.old.stages) progress.new.frames) }
     ensures over { OnErr result (is_write_failed result ≡ false → progress.new.over ≡ false) }
     ensures wants { WantsMore (kinds S.acts flow.old.stages) progress.new.frames }
     ensures enough { OnOk result (MatchBool progress.new.over (enough_for (kinds S.acts flow.old.stages) progress.new.frames ≡ false) (enough_for (kinds S.acts flow.old.stages) progress.new.frames ≡ true)) }

@@ -1,6 +1,8 @@
 //! What a run did.
 ghost use Rattle.std.specs.Prelude.{◌≡◌, replicate};
 
+use thiserror::Error;
+
 /// The most effects of a chain.
 pub const MOST_EFFECTS: usize = 32;
 
@@ -26,13 +28,16 @@ pub struct Report {
 }
 
 /// Why a run stopped, with what it had done by then.
-#[derive(Clone, Copy, Debug, Drop, PartialEq, Eq)]
+#[derive(Clone, Copy, Debug, Drop, PartialEq, Eq, Error)]
 pub enum RunFault {
     /// A read failed. The frames that had come whole were written.
+    #[error("the reader failed")]
     ReadFailed(Report),
     /// A write or the last flush failed. The writer has a front of the whole output.
+    #[error("the writer failed")]
     WriteFailed(Report),
     /// A frame follows after 2^40 frames. Those were written.
+    #[error("the sound is too long")]
     TooLong(Report),
 }
 

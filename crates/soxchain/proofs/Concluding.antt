@@ -4,7 +4,7 @@ use Rattle.std.specs.Prelude.{Bool, Option, Result, Ok, Err}
 use Rattle.fx_chain.specs.declared.report.Report.{Report}
 use Rattle.fx_chain.specs.declared.report.RunFault.{RunFault}
 use Rattle.fx_chain.specs.Chain.{IsNewChain}
-use Rattle.fx_chain.specs.Report.{no_report, report_at, report_in, start_of}
+use Rattle.fx_chain.specs.Report.{cause_of, no_report, report_at, report_in, start_of}
 use Rattle.fx_line.specs.declared.line.LineFault.{LineFault}
 use Rattle.fx_line.specs.Line.{Said, line_of}
 use Rattle.fx_plan.specs.CommandLines.{LineReads, effects_in, planning_in}
@@ -16,13 +16,13 @@ use Rattle.fx_sound.specs.Head.{ReadsHead}
 use Rattle.fx_sound.specs.Known.{IfKnown}
 use Rattle.fx_sound.specs.Source.{Held, to_come}
 use Rattle.soxchain.specs.declared.prepared.Ready.{Ready}
-use Rattle.soxchain.specs.declared.preparing.Refusal.TheVariants.{Head, Plan}
-use Rattle.soxchain.specs.Convert.{Converted, Running, StopHasCause, Stopped}
+use Rattle.soxchain.specs.declared.preparing.Refusal.TheVariants.{Chain, Head, Plan}
+use Rattle.soxchain.specs.Convert.{Converted, ReadFirst, Running, StopHasCause, Stopped}
 use Rattle.soxchain.specs.Finishing.{Finished, run_status}
 use Rattle.soxchain.specs.Program.{Concludes}
 use Rattle.soxchain.specs.Readying.{LineRefused, LineUnready}
 use Rattle.soxchain.specs.Stops.{Stop, Refused, Run}
-use Rattle.soxchain.proofs.Converting.{Ran-told, to_come-start}
+use Rattle.soxchain.proofs.Converting.{HasCause-any, HasCause-before, Ran-told, to_come-start}
 
 -- a source that holds nothing yet
 abbrev pub fresh : {R : Type 0} → R → Held R
@@ -71,6 +71,16 @@ module _ {R W : Type 0} (rest : R → Option (List ℕ)) (told reads : R → ℕ
               begins = record { spelt = head.spelt; there = head.there; near = head.near };
               refuses = found.refuses;
             };
+        unchained = λ e bytes known.
+            let same : u.refusal ≡ Chain = cc in
+            let found = u.chain_refused same in
+            let head = found.read bytes (to_come-start rest (fresh reader) reader bytes refl refl known) in
+            record {
+              head = found.head;
+              offset = head.offset;
+              begins = record { spelt = head.spelt; there = head.there; near = head.near };
+              no_faults = found.no_faults;
+            };
         stopped = λ f e. absurd (cc);
         causes = λ s e.
             let same : Refused u.refusal ≡ s = cc in
@@ -109,10 +119,13 @@ module _ {R W : Type 0} (rest : R → Option (List ℕ)) (told reads : R → ℕ
           planned = began.planned;
           start = ready.prepared.chain.flow;
           made = began.chain.made;
+          fresh = began.chain.fresh;
+          hungry = began.chain.hungry;
           gives = began.chain.gives;
           wholes = began.chain.wholes;
           wants = rw e at f.wants;
           at = f.at;
+          read = rw e at f.read;
           clips = rw e at f.clips;
           moves = rw e at f.moves;
           work = rw e at f.work;
@@ -135,6 +148,7 @@ module _ {R W : Type 0} (rest : R → Option (List ℕ)) (told reads : R → ℕ
           refused = λ f e. absurd (cc);
           cut = λ e. absurd (cc);
           unplanned = λ f e. absurd (cc);
+          unchained = λ e. absurd (cc);
           stopped = λ f e. absurd (cc);
           causes = λ s e. absurd (cc);
         };
@@ -156,20 +170,21 @@ module _ {R W : Type 0} (rest : R → Option (List ℕ)) (told reads : R → ℕ
           refused = λ f e. absurd (cc);
           cut = λ e. absurd (cc);
           unplanned = λ f e. absurd (cc);
+          unchained = λ e. absurd (cc);
           stopped = λ x h bytes known.
               let same : fault ≡ x = cc in
               let head = head-in bytes known in
               let told-of = Ran-told told (fresh reader) middle reader new.reader (start_of ready.prepared.plan.head) head.offset (report_at fault).frames_in refl refl head.tells in
-              subst (λ (y : RunFault). Stopped told ready.line files bytes reader inner (taken writer) (taken new_writer) y) same
+              subst (λ (y : RunFault). Stopped told reads ready.line files bytes reader inner (taken writer) (taken new_writer) y) same
               (record {
                 run = running bytes (report_at fault) known (ap report_in e);
                 stopped = rw e at f.stopped (drop head.offset bytes) head.others;
-                past_head = λ c few. rw (← is) at (told-of (rw e at f.read_failed c) (rw is at few)).0;
-                read_failed = λ c few. rw (← is) at (told-of (rw e at f.read_failed c) (rw is at few)).1;
+                read_failed = λ c few. rw (← is) at (told-of (rw e at f.read_failed c) (rw is at few));
+                read_before = λ c. rw (is, ← began.unfailed) (HasCause-before _ (ReadFirst told reader new.reader ready.prepared.chain.flow f.at ready.prepared.plan.head head.offset (report_at fault).frames_in) (cause_of fault) _ _ _ _ c (rw e at f.causes) (λ q. record { hungry = q.hungry; not_enough = q.not_enough; took_all = λ few. told-of q.read_failed few }));
               });
           causes = λ s h.
               let same : Run fault ≡ s = cc in
-              subst (λ (t : Stop). StopHasCause t (reads reader) (reads inner) (writes writer) (writes new_writer)) same (rw (← is, began.unfailed, e) at f.causes);
+              subst (λ (t : Stop). StopHasCause t (reads reader) (reads inner) (writes writer) (writes new_writer)) same (HasCause-any _ (cause_of fault) _ _ _ _ (rw (← is, began.unfailed, e) at f.causes));
         };
         status_is = f.status_is ∙ ap run_status e;
         report_is = f.report_is ∙ ap report_in e;

@@ -1,5 +1,5 @@
 -- A conversion, put together from its head and its run.
-use Rattle.std.proofs.Common.{◌≡◌, ℕ, ◌+◌, ◌-◌, ◌/◌, ◌^◌, ◌<◌, ◌≤◌, List, [], length, sym, ap, arith, ◌∙◌}
+use Rattle.std.proofs.Common.{◌⊎◌, inl, inr, ◌≡◌, ℕ, ◌+◌, ◌-◌, ◌/◌, ◌^◌, ◌<◌, ◌≤◌, List, [], length, sym, ap, arith, ◌∙◌}
 use Rattle.std.specs.Prelude.{MatchBool, Option, Some, Result, Ok, Err}
 use Rattle.fx_line.specs.declared.line.LineFault.{LineFault}
 use Rattle.fx_line.specs.Line.{Said}
@@ -10,6 +10,9 @@ use Rattle.fx_frame.specs.Io.{saturated}
 use Rattle.fx_sound.specs.declared.head.HeadFault.{HeadFault}
 use Rattle.fx_sound.specs.declared.head.HeadFault.TheVariants.{ReadFailed, UnknownType, Truncated, BadHeader, NotInProfile, TooManyChannels, HeadTooLong}
 use Rattle.fx_sound.specs.Layout.{is_read_failure}
+use Rattle.fx_chain.specs.declared.pump.Cause.{Cause}
+use Rattle.fx_chain.specs.declared.pump.Cause.TheVariants as Causes
+use Rattle.fx_chain.specs.Report.{HasCause}
 use Rattle.fx_chain.specs.Run.{RanToFailure}
 use Rattle.fx_sound.specs.Sound.{Reading, at_most_announced, size_of}
 use Rattle.fx_sound.specs.Source.{Held, Takes, to_come}
@@ -49,3 +52,18 @@ Ran-told told first at reader new start offset n none is t r h =
 pub line-read : (found : Result Said LineFault) (line : Said) → LineReads found (Ok line) → found ≡ Ok line
 line-read (Ok said) line h = ap (λ (x : Said). Ok x) (sym h)
 line-read (Err fault) line h = sym h
+
+-- a fault has its cause, whatever came before
+pub HasCause-any : (P : Type 0) (cause : Cause) (reads new_reads writes new_writes : ℕ) → HasCause cause P reads new_reads writes new_writes → HasCause cause (Unit {0}) reads new_reads writes new_writes
+HasCause-any P Causes.ReadFailed reads new_reads writes new_writes h = h
+HasCause-any P Causes.WriteFailed reads new_reads writes new_writes (inl same, failed) = (inl same, failed)
+HasCause-any P Causes.WriteFailed reads new_reads writes new_writes (inr before, failed) = (inr (before.0, tt), failed)
+HasCause-any P Causes.TooLong reads new_reads writes new_writes h = h
+
+-- where the writer failed, no read had failed, or one before it
+pub HasCause-before : (P Q : Type 0) (cause : Cause) (reads new_reads writes new_writes : ℕ) → cause ≡ Causes.WriteFailed → HasCause cause P reads new_reads writes new_writes → (P → Q)
+    → (new_reads ≡ reads) ⊎ ((new_reads ≡ saturated (reads + 1)) × Q)
+HasCause-before P Q Causes.ReadFailed reads new_reads writes new_writes is h f = absurd (cc)
+HasCause-before P Q Causes.WriteFailed reads new_reads writes new_writes is (inl same, failed) f = inl same
+HasCause-before P Q Causes.WriteFailed reads new_reads writes new_writes is (inr before, failed) f = inr (before.0, f before.1)
+HasCause-before P Q Causes.TooLong reads new_reads writes new_writes is h f = absurd (cc)

@@ -1,15 +1,16 @@
 -- The conversion of a sound whose command line was accepted, on the whole list of bytes (this project's profile).
-use Rattle.std.specs.Prelude.{◌≡◌, ◌≢◌, ℕ, ◌+◌, ◌-◌, ◌/◌, ◌^◌, ◌<◌, ◌≤◌, Bool, true, List, drop, length, Option, Result, Ok, Err, IfOk, []}
+use Rattle.std.specs.Prelude.{◌≡◌, ◌≢◌, ◌⊎◌, ℕ, ◌+◌, ◌-◌, ◌/◌, ◌^◌, ◌<◌, ◌≤◌, Bool, true, false, List, drop, length, Option, Result, Ok, Err, IfOk, []}
 use Rattle.fx_chain.specs.declared.pump.Cause.TheVariants as Causes
 use Rattle.fx_chain.specs.declared.report.Report.{Report}
 use Rattle.fx_chain.specs.declared.report.RunFault.{RunFault}
 use Rattle.fx_chain.specs.Chain.{chain_gives, chain_wholes, planned as stages_planned, target_for}
 use Rattle.fx_chain.specs.Report.{Completed, HasCause, StoppedAt, cause_of, clips_now, report_at, start_of}
 use Rattle.fx_chain.specs.Run.{WantsMore, sound_frames}
-use Rattle.fx_flow.specs.Parts.{Parts, moves_of}
-use Rattle.fx_flow.specs.Steps.{rest_of, wholes_of}
+use Rattle.fx_flow.specs.Parts.{AllNew, Parts, enough_for, moves_of, taken_of}
+use Rattle.fx_flow.specs.Steps.{IsHungry, rest_of, wholes_of}
 use Rattle.fx_frame.specs.Frame.{Samples}
 use Rattle.fx_frame.specs.Holds.{kinds, recipes}
+use Rattle.fx_frame.specs.Io.{saturated}
 use Rattle.fx_line.specs.Line.{Said}
 use Rattle.fx_plan.specs.declared.fault.PlanFault.{PlanFault}
 use Rattle.fx_plan.specs.Bounds.{work_of}
@@ -49,12 +50,16 @@ pub record Running (line : Said) (files : List (List ℕ)) (bytes : List ℕ) (r
   pub start : Parts EffectStage
   -- the new chain's stages are those of the plan's effects, which settles what is due and what is enough
   pub made : recipes effect_acts start.stages ≡ stages_planned plan
+  -- nothing had happened to it
+  pub fresh : AllNew effect_acts start.stages
+  pub hungry : IsHungry effect_acts start
   -- the new chain gives what the definitions of the plan's effects compose to, and counts the clips of each
   pub gives : (x : List Samples) → rest_of effect_acts start x ≡ chain_gives plan x
   pub wholes : (x : List Samples) → wholes_of effect_acts start x ≡ chain_wholes plan x
   -- no frame was read past those that are enough for some effect
   pub wants : WantsMore (kinds effect_acts start.stages) r.frames_in
   pub at : Parts EffectStage
+  pub read : r.frames_in ≡ taken_of at
   pub clips : r.clips ≡ clips_now effect_acts at.stages
   pub moves : r.moves ≡ moves_of effect_acts at
   pub work : r.moves ≤ work_of plan.acts r.frames_in
@@ -64,19 +69,31 @@ pub record Whole (line : Said) (files : List (List ℕ)) (bytes : List ℕ) (fir
   pub run : Running line files bytes r
   pub completed : Completed effect_acts run.start run.at (target_for run.plan) (start_of run.plan.head) (drop run.offset bytes) (sound_frames (start_of run.plan.head) r.frames_in (drop run.offset bytes)) first now r
 
+-- the reader told the head and so many bytes of the sound: n are all their whole frames
+abbrev pub TookAllTold : {R : Type 0} → (R → ℕ) → R → R → Head → ℕ → ℕ → Type 0
+TookAllTold told reader new h offset n = told new < 2 ^ 64 - 1 → (told reader + offset ≤ told new) × (n ≡ at_most_announced h.announced (told new - told reader - offset) / size_of (start_of h))
+
+-- a read had failed before: all whole frames had come, and what was due was given
+pub record ReadFirst {R : Type 0} (told : R → ℕ) (reader new : R) (start at : Parts EffectStage) (h : Head) (offset n : ℕ) : Type 0 where
+  pub hungry : IsHungry effect_acts at
+  pub not_enough : enough_for (kinds effect_acts start.stages) n ≡ false
+  pub took_all : TookAllTold told reader new h offset n
+
 -- The run over the bytes stopped: after a failed read, and where the sound is too long, the frames then due were written;
 -- after a failed write the writer has a front.
-pub record Stopped {R : Type 0} (told : R → ℕ) (line : Said) (files : List (List ℕ)) (bytes : List ℕ) (reader new : R) (first now : Option (List ℕ)) (f : RunFault) : Type 0 where
+pub record Stopped {R : Type 0} (told reads : R → ℕ) (line : Said) (files : List (List ℕ)) (bytes : List ℕ) (reader new : R) (first now : Option (List ℕ)) (f : RunFault) : Type 0 where
   pub run : Running line files bytes (report_at f)
   pub stopped : StoppedAt effect_acts run.start run.at (target_for run.plan) (start_of run.plan.head) (drop run.offset bytes) (sound_frames (start_of run.plan.head) (report_at f).frames_in (drop run.offset bytes)) first now f
-  -- the reader told the head and so many bytes of the sound: all their whole frames had come
-  pub past_head : cause_of f ≡ Causes.ReadFailed → told new < 2 ^ 64 - 1 → told reader + run.offset ≤ told new
-  pub read_failed : cause_of f ≡ Causes.ReadFailed → told new < 2 ^ 64 - 1 → (report_at f).frames_in ≡ at_most_announced run.plan.head.announced (told new - told reader - run.offset) / size_of (start_of run.plan.head)
+  -- after a failed read all whole frames had come
+  pub read_failed : cause_of f ≡ Causes.ReadFailed → TookAllTold told reader new run.plan.head run.offset (report_at f).frames_in
+  -- where the writer failed no read had failed, or one had before
+  pub read_before : cause_of f ≡ Causes.WriteFailed → (reads new ≡ reads reader)
+      ⊎ ((reads new ≡ saturated (reads reader + 1)) × ReadFirst told reader new run.start run.at run.plan.head run.offset (report_at f).frames_in)
 
 -- a stop is answered only where its cause was counted
 abbrev pub StopHasCause : Stop → ℕ → ℕ → ℕ → ℕ → Type 0
 StopHasCause (Refused r) reads new_reads writes new_writes = RefusalHasCause r reads new_reads
-StopHasCause (Run f) reads new_reads writes new_writes = HasCause (cause_of f) reads new_reads writes new_writes
+StopHasCause (Run f) reads new_reads writes new_writes = HasCause (cause_of f) (Unit {0}) reads new_reads writes new_writes
 
 -- the bytes begin with a head behind which the plan of the line is refused, by its first fault or for want of memory
 pub record Unplanned (line : Said) (files : List (List ℕ)) (bytes : List ℕ) (f : PlanFault) : Type 0 where
@@ -84,6 +101,13 @@ pub record Unplanned (line : Said) (files : List (List ℕ)) (bytes : List ℕ) 
   pub offset : ℕ
   pub begins : Begins line.input_kind bytes head offset
   pub refuses : RefusesPlan f (all_faults (head_layout head) files (effects_in line))
+
+-- the bytes begin with a head behind which the plan of the line has no fault
+pub record Unchained (line : Said) (files : List (List ℕ)) (bytes : List ℕ) : Type 0 where
+  pub head : Head
+  pub offset : ℕ
+  pub begins : Begins line.input_kind bytes head offset
+  pub no_faults : all_faults (head_layout head) files (effects_in line) ≡ []
 
 -- a conversion, from one state of reader and writer to the next
 pub record Converted {R W : Type 0} (rest : R → Option (List ℕ)) (told reads : R → ℕ) (taken : W → Option (List ℕ)) (flushed : W → Bool) (writes : W → ℕ)
@@ -96,5 +120,7 @@ pub record Converted {R W : Type 0} (rest : R → Option (List ℕ)) (told reads
   pub refused : (f : HeadFault) → outcome ≡ Err (Refused (Refusals.Head f)) → f ≢ HeadFaults.ReadFailed → IfKnown (rest reader) (λ bytes. head_of line.input_kind bytes ≡ Err f)
   pub cut : outcome ≡ Err (Refused (Refusals.Head HeadFaults.ReadFailed)) → (new : Held R) × CutOff rest told (head_of line.input_kind) (record { bytes = []; reader = reader }) new × (new.reader ≡ new_reader)
   pub unplanned : (f : PlanFault) → outcome ≡ Err (Refused (Refusals.Plan f)) → IfKnown (rest reader) (λ bytes. Unplanned line files bytes f)
-  pub stopped : (f : RunFault) → outcome ≡ Err (Run f) → IfKnown (rest reader) (λ bytes. Stopped told line files bytes reader new_reader (taken writer) (taken new_writer) f)
+  -- no memory for the chain: head and plan had stood
+  pub unchained : outcome ≡ Err (Refused Refusals.Chain) → IfKnown (rest reader) (λ bytes. Unchained line files bytes)
+  pub stopped : (f : RunFault) → outcome ≡ Err (Run f) → IfKnown (rest reader) (λ bytes. Stopped told reads line files bytes reader new_reader (taken writer) (taken new_writer) f)
   pub causes : (s : Stop) → outcome ≡ Err s → StopHasCause s (reads reader) (reads new_reader) (writes writer) (writes new_writer)

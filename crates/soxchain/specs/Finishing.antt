@@ -4,9 +4,9 @@ use Rattle.fx_chain.specs.declared.pump.Cause.TheVariants as Causes
 use Rattle.fx_chain.specs.declared.report.Report.{Report}
 use Rattle.fx_chain.specs.declared.report.RunFault.{RunFault}
 use Rattle.fx_chain.specs.Chain.{target_for}
-use Rattle.fx_chain.specs.Report.{Completed, HasCause, StoppedAt, cause_of, clips_now, report_at, report_in, start_of}
+use Rattle.fx_chain.specs.Report.{Completed, HasCause, ReadBefore, StoppedAt, cause_of, clips_now, report_at, report_in, start_of}
 use Rattle.fx_chain.specs.Run.{RanToFailure, WantsMore, sound_frames}
-use Rattle.fx_flow.specs.Parts.{Parts, moves_of}
+use Rattle.fx_flow.specs.Parts.{Parts, moves_of, taken_of}
 use Rattle.fx_frame.specs.Holds.{kinds}
 use Rattle.fx_line.specs.Line.{Said}
 use Rattle.fx_plan.specs.Bounds.{work_of}
@@ -41,12 +41,13 @@ pub record Finished {R W : Type 0} (rest : R → Option (List ℕ)) (told reads 
   pub read_failed : IfErr outcome (λ f. cause_of f ≡ Causes.ReadFailed → RanToFailure told source new_source.reader (start_of ready.prepared.plan.head) (report_at f).frames_in)
   -- the counts: no frame was read past those that are enough for some effect
   pub wants : WantsMore (kinds effect_acts ready.prepared.chain.flow.stages) (report_in outcome).frames_in
+  pub read : (report_in outcome).frames_in ≡ taken_of at
   pub clips : (report_in outcome).clips ≡ clips_now effect_acts at.stages
   pub moves : (report_in outcome).moves ≡ moves_of effect_acts at
   pub work : (report_in outcome).moves ≤ work_of (planning ready.prepared.plan).acts (report_in outcome).frames_in
   pub causes : MatchResult outcome
       (λ _. (reads new_source.reader ≡ reads source.reader) × (writes new_writer ≡ writes writer))
-      (λ f. HasCause (cause_of f) (reads source.reader) (reads new_source.reader) (writes writer) (writes new_writer))
+      (λ f. HasCause (cause_of f) (ReadBefore effect_acts told source new_source.reader ready.prepared.chain.flow at (start_of ready.prepared.plan.head) (report_at f).frames_in) (reads source.reader) (reads new_source.reader) (writes writer) (writes new_writer))
   pub status_is : status ≡ run_status outcome
   pub report_is : report ≡ report_in outcome
   pub told_is : IsTold (run_messages ready.line outcome)

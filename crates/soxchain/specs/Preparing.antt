@@ -1,5 +1,5 @@
 -- What comes before a run (this project's profile).
-use Rattle.std.specs.Prelude.{◌≡◌, ℕ, ◌+◌, List, Option}
+use Rattle.std.specs.Prelude.{◌≡◌, ℕ, ◌+◌, List, [], Option}
 use Rattle.fx_frame.specs.Io.{saturated}
 use Rattle.fx_line.specs.Line.{Said}
 use Rattle.fx_plan.specs.declared.fault.PlanFault.{PlanFault}
@@ -19,6 +19,12 @@ pub record PlanIsRefused {R : Type 0} (rest : R → Option (List ℕ)) (told : R
   pub head : Head
   pub read : IfKnown (to_come rest old) (λ bytes. ReadsHead rest told line.input_kind bytes old new head)
   pub refuses : RefusesPlan f (all_faults (head_layout head) files (effects_in line))
+
+-- No memory was found for the chain of a line: the head stood, and the plan behind it has no fault.
+pub record ChainIsRefused {R : Type 0} (rest : R → Option (List ℕ)) (told : R → ℕ) (line : Said) (files : List (List ℕ)) (old new : Held R) : Type 0 where
+  pub head : Head
+  pub read : IfKnown (to_come rest old) (λ bytes. ReadsHead rest told line.input_kind bytes old new head)
+  pub no_faults : all_faults (head_layout head) files (effects_in line) ≡ []
 
 -- a refusal is answered only where its cause was counted
 abbrev pub RefusalHasCause : Refusal → ℕ → ℕ → Type 0

@@ -9,9 +9,9 @@ use Rattle.fx_sound.specs.Head.{head_of}
 use Rattle.fx_sound.specs.Reads.{Fails, Refuses}
 use Rattle.fx_sound.specs.Source.{Held}
 use Rattle.soxchain.specs.declared.preparing.Refusal.{Refusal}
-use Rattle.soxchain.specs.declared.preparing.Refusal.TheVariants.{Head, Plan}
+use Rattle.soxchain.specs.declared.preparing.Refusal.TheVariants.{Chain, Head, Plan}
 use Rattle.soxchain.specs.Messages.{line_label, line_message, refusal_message}
-use Rattle.soxchain.specs.Preparing.{PlanIsRefused, RefusalHasCause}
+use Rattle.soxchain.specs.Preparing.{ChainIsRefused, PlanIsRefused, RefusalHasCause}
 use Rattle.soxchain.specs.Program.{status_of_line, status_of_refusal}
 
 -- The words are no command line, or no memory was found for it: nothing was read, and one message says why.
@@ -30,6 +30,7 @@ pub record LineUnready {R : Type 0} (rest : R → Option (List ℕ)) (told_by re
   pub head_refused : (f : HeadFault) → refusal ≡ Head f → Refuses rest (head_of line.input_kind) old f
   pub head_cut : (f : HeadFault) → refusal ≡ Head f → Fails rest told_by (head_of line.input_kind) old new f
   pub plan_refused : (f : PlanFault) → refusal ≡ Plan f → PlanIsRefused rest told_by line files old new f
+  pub chain_refused : refusal ≡ Chain → ChainIsRefused rest told_by line files old new
   pub cause : RefusalHasCause refusal (reads old.reader) (reads new.reader)
   pub status_is : status ≡ status_of_refusal refusal
   pub told : IsTold (refusal_message line refusal)

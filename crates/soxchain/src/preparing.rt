@@ -9,7 +9,7 @@ ghost use Rattle.fx_sound.specs.Head.{ReadsHead, head_of};
 ghost use Rattle.fx_sound.specs.Known.{IfKnown};
 ghost use Rattle.fx_sound.specs.Reads.{Fails, Refuses};
 ghost use Rattle.fx_sound.specs.Source.{to_come};
-ghost use Rattle.soxchain.specs.Preparing.{PlanIsRefused, RefusalHasCause};
+ghost use Rattle.soxchain.specs.Preparing.{ChainIsRefused, PlanIsRefused, RefusalHasCause};
 ghost use Rattle.soxchain.specs.Program.{status_of_line, status_of_refusal};
 
 use crate::prepared::Prepared;
@@ -49,6 +49,9 @@ pub fn prepare_line<R: ByteIn>(
     ensures head_refused { (f : HeadFault) → result ≡ Err (Refusal.Head f) → Refuses R.rest (head_of line.now.input_kind) source.old f }
     ensures head_cut { (f : HeadFault) → result ≡ Err (Refusal.Head f) → Fails R.rest R.told (head_of line.now.input_kind) source.old source.new f }
     ensures plan_refused { (f : PlanFault) → result ≡ Err (Refusal.Plan f) → PlanIsRefused R.rest R.told line.now (bytes_of files.now) source.old source.new f }
+
+    // Where no memory was found for the chain, head and plan had stood.
+    ensures chain_refused { result ≡ Err Refusal.Chain → ChainIsRefused R.rest R.told line.now (bytes_of files.now) source.old source.new }
 
     // A read has failed only where the head says so.
     ensures failures { MatchResult result (λ _. R.failures source.new.reader ≡ R.failures source.old.reader) (λ r. RefusalHasCause r (R.failures source.old.reader) (R.failures source.new.reader)) }

@@ -7,7 +7,7 @@ use Rattle.fx_frame.specs.Ring.{pieces}
 use Rattle.fx_frame.proofs.ManyBytes.{encoded-clips, encoded-frames}
 use Rattle.fx_frame.proofs.Pieces.{length-pieces}
 use Rattle.fx_flow.proofs.Feeding.{FlowFed-wants}
-use Rattle.fx_flow.specs.Feed.{FlowGave}
+use Rattle.fx_flow.specs.Feed.{FlowFed, FlowGave}
 use Rattle.fx_sound.proofs.Sounds.{AreHeld-fewer, first_frames-fewer}
 use Rattle.fx_chain.proofs.Blocks.{Blocked-none}
 use Rattle.fx_chain.proofs.Draining.{given_by-few}
@@ -88,6 +88,8 @@ returns-clause-blocked g c =
     let few : taken ≤ count = frames-fit taken count channels (length samples) c.channels-channels.ensures.some within size in
     let frames = first_frames-fewer p.coding p.channels taken count samples c.args.source.now.bytes few c.decode_held.ensures in
     let In : List Samples → Type 0 = λ xs. FlowGave acts c.args.flow.now xs (pieces outputs given out) c.feed-passed.new.self in
+    let Fed : List Samples → Type 0 = λ xs. FlowFed acts c.args.flow.now xs (pieces outputs given out) c.feed-passed.new.self in
+    let same_frames = ap (λ n. pieces n taken samples) c.requires.width ∙ frames in
     record {
       count = taken;
       given = pieces outputs given out;
@@ -95,7 +97,8 @@ returns-clause-blocked g c =
       bytes = c.pass_held.ensures.bytes;
       reader = c.pass_held.ensures.reader;
       counted = c.pass_held.ensures.counted;
-      gave = subst In (ap (λ n. pieces n taken samples) c.requires.width ∙ frames) (rw (← c.out_channels-outputs.ensures) at c.feed-passed.ensures.gave);
+      fed = subst Fed same_frames (rw (← c.out_channels-outputs.ensures) at c.feed-passed.ensures.fed);
+      gave = subst In same_frames (rw (← c.out_channels-outputs.ensures) at c.feed-passed.ensures.gave);
       wants = λ m h. FlowFed-wants acts c.args.flow.now c.feed-passed.new.self _ _ c.feed-passed.ensures.fed m (rw (length-pieces c.args.flow.now.channels taken samples) h);
       clipped = c.put.ensures.clips ∙ ap (λ n. c.args.outlet.now.clips + n) (sym (encoded-clips coding outputs given out));
       put = c.put.ensures.bytes ∙ ap (λ bs. c.args.outlet.now.output.bytes ++ bs) (sym (encoded-frames coding outputs given out));

@@ -1,5 +1,5 @@
 use Rattle.std.proofs.Common.{◌≡◌, ◌+◌, ◌∙◌, refl, sym, ap, arith, length}
-use Rattle.fx_chain.proofs.Draining.{Drained-more, CutOff-more, given_by-few}
+use Rattle.fx_chain.proofs.Draining.{Drained-more, Drained-none, Drained-still, CutOff-more, given_by-few, no_frame}
 use Rattle.fx_chain.proofs.drain.drain.Goals as goal
 
 pub send-requires-clause-room : goal.send-requires-clause-room
@@ -14,6 +14,30 @@ send-requires-clause-few g c =
     let few = given_by-few g.S.Stage.acts g.met.S.Stage.rises c.args.flow.now c.loop-flow.flow old.recipes_stay c.requires.fits c.stages-stages.ensures.most c.stages-stages.ensures.sound.few in
     omega (arith, few, old.few)
 
+pub loop-flow-init : goal.loop-flow-init
+loop-flow-init g c = record {
+  drained = Drained-none g.S.Stage.acts c.args.flow.now c.args.outlet.now.coding c.args.outlet.now.clips _ c.args.outlet.now.output;
+  room = c.requires.room;
+  few = c.requires.few;
+  coding = refl;
+  failures = refl;
+  recipes_stay = refl;
+}
+
+pub loop-flow-preserved : goal.loop-flow-preserved
+loop-flow-preserved g c =
+    let old = c.loop-flow.invariant in
+    let steps = c.step.ensures.steps in
+    let none = no_frame c.step.result c.in_default-step.not-Given in
+    record {
+      drained = Drained-still g.S.Stage.acts c.args.flow.now c.loop-flow.flow c.step.new.self c.step.result c.args.outlet.now.coding _ _ _ _ _ _ old.drained steps c.step.ensures.moved none;
+      room = omega (arith, steps.given, ap length none, old.room);
+      few = omega (arith, steps.given, ap length none, old.few);
+      coding = old.coding;
+      failures = old.failures;
+      recipes_stay = steps.recipes_stay ∙ old.recipes_stay;
+    }
+
 pub loop-flow-preserved-in-Ok-1 : goal.loop-flow-preserved-in-Ok-1
 loop-flow-preserved-in-Ok-1 g c =
     let old = c.loop-flow.invariant in
@@ -21,7 +45,7 @@ loop-flow-preserved-in-Ok-1 g c =
     let sent = c.in-Ok.ensures in
     let one = steps.given in
     record {
-      drained = Drained-more g.S.Stage.acts c.args.flow.now c.loop-flow.flow c.step.new.self _ c.in-Given.frame c.args.outlet.now.coding _ _ _ _ _ _ _ _ _ old.drained steps refl (rw old.coding at sent.clips) (rw old.coding at sent.sent);
+      drained = Drained-more g.S.Stage.acts c.args.flow.now c.loop-flow.flow c.step.new.self _ c.in-Given.frame c.args.outlet.now.coding _ _ _ _ _ _ _ _ _ old.drained steps c.in-Given.ensures.moved refl (rw old.coding at sent.clips) (rw old.coding at sent.sent);
       room = omega (arith, one, sent.small, old.room);
       few = omega (arith, one, sent.few, old.few);
       coding = sent.coding ∙ old.coding;
@@ -33,4 +57,4 @@ pub returns-in_default-send-clause-cut_off : goal.returns-in_default-send-clause
 returns-in_default-send-clause-cut_off g c =
     let old = c.loop-flow.invariant in
     let sent = c.in_default-send.ensures in
-    CutOff-more g.S.Stage.acts c.args.flow.now c.loop-flow.flow c.step.new.self _ c.in-Given.frame c.args.outlet.now.coding _ _ _ _ _ _ _ _ _ old.drained c.in-Given.ensures.steps refl (rw old.coding at sent.clips) sent.sent_err
+    CutOff-more g.S.Stage.acts c.args.flow.now c.loop-flow.flow c.step.new.self _ c.in-Given.frame c.args.outlet.now.coding _ _ _ _ _ _ _ _ _ old.drained c.in-Given.ensures.steps c.in-Given.ensures.moved refl (rw old.coding at sent.clips) sent.sent_err

@@ -7,7 +7,7 @@ use Rattle.fx_flow.specs.Parts.{due_of}
 use Rattle.fx_frame.specs.Holds.{kinds}
 use Rattle.fx_chain.specs.Report.{row_of, start_of}
 use Rattle.fx_chain.specs.Run.{sound_frames}
-use Rattle.fx_chain.proofs.Running.{Sent-total, all-given, clips-all, moves-all, ends-either, ended-known, not-over, sound-length, stopped-due, stopped-front, wrote-all, wrote-front}
+use Rattle.fx_chain.proofs.Running.{Sent-total, all-given, clips-all, moves-all, ended-known, ends-known, not-over, sound-length, stopped-due, stopped-front, wrote-all, wrote-front}
 use Rattle.fx_chain.proofs.flow_run.run_flow.Goals as goal
 
 pub returns-in_default-clause-stopped : goal.returns-in_default-clause-stopped
@@ -28,7 +28,8 @@ returns-in_default-clause-stopped g c = λ bytes known.
     (stopped-front acts start at c.args.target (start_of c.args.head.now) bytes frames flowed.given _ _ _ flowed.through
     r.frames_out (r.out_clips ∙ c.close.ensures.clips ∙ flowed.clipped) refl
     (inr (p.done, rw (r.bytes_out) (wrote-front acts start at c.args.target frames _ _ _ _ _ all long closed)))
-    (rw (r.ends.0, r.ends.1) (ends-either _ bytes _ _ _ _ _ known p.ends)))
+    (p.whole bytes known)
+    (rw (r.ends.0, r.ends.1) (ends-known _ bytes _ _ _ _ _ _ known p.met p.ends)))
 
 pub returns-in-Ok-close-clause-completed : goal.returns-in-Ok-close-clause-completed
 returns-in-Ok-close-clause-completed g c = λ bytes known.
@@ -46,6 +47,7 @@ returns-in-Ok-close-clause-completed g c = λ bytes known.
     let all = all-given acts start at frames _ flowed.through p.done in
     rw (r.frames_in)
     (record {
+      whole = p.whole bytes known;
       wrote = rw (r.bytes_out) (wrote-all acts start at c.args.target frames _ _ _ _ _ all long closed);
       frames_out = r.frames_out ∙ flowed.through.counted ∙ ap length (sym all);
       out_clips = r.out_clips ∙ c.close.ensures.clips ∙ flowed.clipped ∙ ap (coded_clips c.args.target.coding) (sym all);
@@ -70,7 +72,8 @@ returns-in-Err-WriteFailed-clause-stopped g c = λ bytes known.
     (stopped-front acts start at c.args.target (start_of c.args.head.now) bytes frames flowed.given _ _ _ flowed.through
     r.frames_out (r.out_clips ∙ flowed.clipped) refl
     (inl (rw (r.bytes_out) flowed.front))
-    (rw (r.ends.0, r.ends.1) (ends-either _ bytes _ _ _ _ _ known p.ends)))
+    (p.whole bytes known)
+    (rw (r.ends.0, r.ends.1) (ends-known _ bytes _ _ _ _ _ _ known p.met p.ends)))
 
 pub returns-in_default-close-clause-stopped : goal.returns-in_default-close-clause-stopped
 returns-in_default-close-clause-stopped g c = λ bytes known.
@@ -88,7 +91,8 @@ returns-in_default-close-clause-stopped g c = λ bytes known.
     (stopped-front acts start at c.args.target (start_of c.args.head.now) bytes frames flowed.given _ _ _ flowed.through
     r.frames_out (r.out_clips ∙ c.close-in-Err-ReadFailed.ensures.clips ∙ flowed.clipped) refl
     (inl (rw (r.bytes_out) closed))
-    (rw (r.ends.0, r.ends.1) (ends-either _ bytes _ _ _ _ _ known p.ends)))
+    (p.whole bytes known)
+    (rw (r.ends.0, r.ends.1) (ends-known _ bytes _ _ _ _ _ _ known p.met p.ends)))
 
 pub returns-in-Ok-close-2-clause-stopped : goal.returns-in-Ok-close-2-clause-stopped
 returns-in-Ok-close-2-clause-stopped g c = λ bytes known.
@@ -104,7 +108,7 @@ returns-in-Ok-close-2-clause-stopped g c = λ bytes known.
     let closed = rw (append-nil _) at (c.in-Ok-close-2.ensures.wrote _ _ flowed.sent) in
     let zeros = rw (p.over refl) at p.ends in
     rw (r.frames_in)
-    (stopped-due acts start at c.args.target (start_of c.args.head.now) bytes frames flowed.given _ _ _ flowed.through (p.hungry refl).not_ended
+    (stopped-due acts start at c.args.target (start_of c.args.head.now) bytes frames flowed.given _ _ _ flowed.through c.requires.hungry (p.hungry refl) p.recipes p.taken (r.due (p.hungry refl)) r.moves r.clips (p.whole bytes known)
     r.frames_out (r.out_clips ∙ c.close-in-Err-ReadFailed.ensures.clips ∙ flowed.clipped) (λ e. absurd (cc))
     (r.frames_out ∙ p.due refl)
     (rw (r.bytes_out) closed)
@@ -128,7 +132,8 @@ returns-in_default-close-2-clause-stopped g c = λ bytes known.
     (stopped-front acts start at c.args.target (start_of c.args.head.now) bytes frames flowed.given _ _ _ flowed.through
     r.frames_out (r.out_clips ∙ c.close-in-Err-TooLong.ensures.clips ∙ flowed.clipped) refl
     (inl (rw (r.bytes_out) closed))
-    (rw (r.ends.0, r.ends.1) (ends-either _ bytes _ _ _ _ _ known p.ends)))
+    (p.whole bytes known)
+    (rw (r.ends.0, r.ends.1) (ends-known _ bytes _ _ _ _ _ _ known p.met p.ends)))
 
 pub returns-in-Ok-close-3-clause-stopped : goal.returns-in-Ok-close-3-clause-stopped
 returns-in-Ok-close-3-clause-stopped g c = λ bytes known.
@@ -144,7 +149,7 @@ returns-in-Ok-close-3-clause-stopped g c = λ bytes known.
     let closed = rw (append-nil _) at (c.in-Ok-close-3.ensures.wrote _ _ flowed.sent) in
     let zeros = rw (p.over refl) at p.ends in
     rw (r.frames_in)
-    (stopped-due acts start at c.args.target (start_of c.args.head.now) bytes frames flowed.given _ _ _ flowed.through (p.hungry refl).not_ended
+    (stopped-due acts start at c.args.target (start_of c.args.head.now) bytes frames flowed.given _ _ _ flowed.through c.requires.hungry (p.hungry refl) p.recipes p.taken (r.due (p.hungry refl)) r.moves r.clips (p.whole bytes known)
     r.frames_out (r.out_clips ∙ c.close-in-Err-TooLong.ensures.clips ∙ flowed.clipped) (λ e. absurd (cc))
     (r.frames_out ∙ p.due refl)
     (rw (r.bytes_out) closed)

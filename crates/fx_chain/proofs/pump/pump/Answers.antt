@@ -58,13 +58,13 @@ loop-turn-init g c =
 pub returns-in_default-end_flow-clause-write_failed : goal.returns-in_default-end_flow-clause-write_failed
 returns-in_default-end_flow-clause-write_failed g c = λ _ bytes known.
     let old = c.loop-turn.invariant.pumped in
-    (FlowedFront-end g.S.Stage.acts c.args.flow.now c.loop-turn.flow _ c.end_flow.new.flow c.args.outlet.now.coding _ _ _ _ _ _ _ _ c.args.head.now (old.flowed bytes known) old.hungry.not_ended refl
+    (FlowedFront-end g.S.Stage.acts c.args.flow.now c.loop-turn.flow _ c.end_flow.new.flow c.args.outlet.now.coding _ _ _ _ _ _ _ _ c.args.head.now (old.flowed bytes known) old.hungry refl
     (rw (old.coded) at c.in_default-end_flow.ensures.cut_off))
 
 pub returns-then-is_spent-clause-sent : goal.returns-then-is_spent-clause-sent
 returns-then-is_spent-clause-sent g c = λ _ bytes known.
     let old = c.loop-turn.invariant.pumped in
-    (Flowed-end g.S.Stage.acts c.args.flow.now c.loop-turn.flow _ c.end_flow.new.flow c.args.outlet.now.coding _ _ _ _ _ _ _ _ c.args.head.now (old.flowed bytes known) old.hungry.not_ended refl
+    (Flowed-end g.S.Stage.acts c.args.flow.now c.loop-turn.flow _ c.end_flow.new.flow c.args.outlet.now.coding _ _ _ _ _ _ _ _ c.args.head.now (old.flowed bytes known) old.hungry refl
     (rw (old.coded) at c.in-Ok-end_flow.ensures.drained))
 
 pub returns-in_default-drain-clause-write_failed : goal.returns-in_default-drain-clause-write_failed
@@ -76,7 +76,7 @@ returns-in_default-drain-clause-write_failed g c = λ _ bytes known.
     let ran = old.ran bytes known in
     let taken = next.frame (drop (turn * size_of c.args.progress.now) bytes) ran.to_come_is in
     rw (count, sound_frames-more _ _ _ _ _ _ _ ran taken)
-    (FlowedFront-turn g.S.Stage.acts c.args.flow.now c.loop-turn.flow c.take.new.self c.drain.new.flow c.args.outlet.now.coding _ _ _ _ _ _ _ _ _ c.args.head.now (old.flowed bytes known) old.hungry.empty old.hungry.not_ended c.take.ensures
+    (FlowedFront-turn g.S.Stage.acts c.args.flow.now c.loop-turn.flow c.take.new.self c.drain.new.flow c.args.outlet.now.coding _ _ _ _ _ _ _ _ _ c.args.head.now (old.flowed bytes known) old.hungry c.take.ensures
     (rw (old.coded) at c.in_default-drain.ensures.cut_off))
 
 pub returns-in_default-drain-clause-whole : goal.returns-in_default-drain-clause-whole
@@ -93,7 +93,7 @@ returns-in_default-end_flow-2-clause-write_failed g c = λ _ bytes known.
     let old = c.loop-turn.invariant.pumped in
     let next = rw c.in-Ok-None.field-0-is at c.in-Ok-None.ensures in
     rw (next.over.1)
-    (FlowedFront-end g.S.Stage.acts c.args.flow.now c.loop-turn.flow _ c.end_flow-in-Ok-None.new.flow c.args.outlet.now.coding _ _ _ _ _ _ _ _ c.args.head.now (old.flowed bytes known) old.hungry.not_ended refl
+    (FlowedFront-end g.S.Stage.acts c.args.flow.now c.loop-turn.flow _ c.end_flow-in-Ok-None.new.flow c.args.outlet.now.coding _ _ _ _ _ _ _ _ c.args.head.now (old.flowed bytes known) old.hungry refl
     (rw (old.coded) at c.in_default-end_flow-2.ensures.cut_off))
 
 pub returns-in_default-end_flow-2-clause-ends : goal.returns-in_default-end_flow-2-clause-ends
@@ -109,7 +109,7 @@ returns-in-Ok-None-clause-sent g c = λ _ bytes known.
     let old = c.loop-turn.invariant.pumped in
     let next = rw c.in-Ok-None.field-0-is at c.in-Ok-None.ensures in
     rw (next.over.1)
-    (Flowed-end g.S.Stage.acts c.args.flow.now c.loop-turn.flow _ c.end_flow-in-Ok-None.new.flow c.args.outlet.now.coding _ _ _ _ _ _ _ _ c.args.head.now (old.flowed bytes known) old.hungry.not_ended refl
+    (Flowed-end g.S.Stage.acts c.args.flow.now c.loop-turn.flow _ c.end_flow-in-Ok-None.new.flow c.args.outlet.now.coding _ _ _ _ _ _ _ _ c.args.head.now (old.flowed bytes known) old.hungry refl
     (rw (old.coded) at c.in-Ok-end_flow-2.ensures.drained))
 
 pub returns-in-Ok-None-clause-ends : goal.returns-in-Ok-None-clause-ends

@@ -24,6 +24,7 @@ returns-in-Err-prepare_line-clause-refused g c =
       head_refused = λ f e. refused.head_refused f (ap (λ (r : Refusal). Err r) e);
       head_cut = λ f e. refused.head_cut f (ap (λ (r : Refusal). Err r) e);
       plan_refused = λ f e. refused.plan_refused f (ap (λ (r : Refusal). Err r) e);
+      chain_refused = λ e. refused.chain_refused (ap (λ (r : Refusal). Err r) e);
       cause = refused.failures;
       status_is = c.status.ensures;
       told = Tells-first _ _ _ _ _ _ _ c.new-telling.ensures c.tell_refusal.ensures;

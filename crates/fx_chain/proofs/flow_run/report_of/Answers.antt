@@ -1,0 +1,11 @@
+use Rattle.std.proofs.Common.{◌∙◌, ap, add-zero}
+use Rattle.fx_chain.specs.Due.{dues}
+use Rattle.fx_chain.proofs.Reaching.{givens-due}
+use Rattle.fx_frame.specs.Holds.{kinds}
+use Rattle.fx_chain.proofs.flow_run.report_of.Goals as goal
+
+pub returns-clause-due : goal.returns-clause-due
+returns-clause-due g c = λ hungry.
+    let acts = g.S.Stage.acts in
+    let stages = c.stages-stages.ensures in
+    rw (hungry.empty, add-zero) (givens-due acts _ _ c.args.flow.now.stages hungry.not_ended (stages.settled hungry) stages.sound.joined)
