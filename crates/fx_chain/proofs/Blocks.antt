@@ -200,20 +200,20 @@ module _ {S R X : Type 0} (acts : Acts S R) (rest : X → Option (List ℕ)) (to
   }
 
 -- one frame that was read went through the flow, which was stepped until it waited
-pub Pumped-turn : {S R X : Type 0} (acts : Acts S R) (rest : X → Option (List ℕ)) (told failures : X → ℕ) (first : Start S X) (flow took new : Parts S) (source source' : Held X) (progress progress' : Reading) (coding : Coding)
+pub Pumped-turn : {S R X : Type 0} (acts : Acts S R) (rest : X → Option (List ℕ)) (told failures : X → ℕ) (first : Start S X) (flow fed new : Parts S) (source source' : Held X) (progress progress' : Reading) (coding : Coding)
     (clips new_clips : ℕ) (out new_out : Pending) (wrote new_wrote : Option (List ℕ)) (frame : Samples)
     → Pumped acts rest told failures first flow source progress coding clips out wrote
     → progress' ≡ after_frame progress → progress'.frames ≤ MOST_FRAMES → IfKnown (to_come rest source) (λ bytes. TakesFrame progress bytes frame (to_come rest source')) → Takes told source source' (size_of progress)
-    → failures source'.reader ≡ failures source.reader → enough_for (kinds acts flow.stages) (taken_of flow) ≡ false → took ≡ record flow { inlet = Some frame }
-    → Drained acts took new coding clips new_clips wrote new_wrote out new_out → Waits acts new → total new_out ≤ 68 + 64 * given_by acts new.left new.stages → new_clips ≤ 16 * given_by acts new.left new.stages
+    → failures source'.reader ≡ failures source.reader → enough_for (kinds acts flow.stages) (taken_of flow) ≡ false → fed ≡ record flow { inlet = Some frame }
+    → Drained acts fed new coding clips new_clips wrote new_wrote out new_out → Waits acts new → total new_out ≤ 68 + 64 * given_by acts new.left new.stages → new_clips ≤ 16 * given_by acts new.left new.stages
     → Pumped acts rest told failures first new source' progress' coding new_clips new_out new_wrote
-Pumped-turn acts rest told failures first flow took new source source' progress progress' coding clips new_clips out new_out wrote new_wrote frame p counted most takes taken reads unspent is q waits room few =
+Pumped-turn acts rest told failures first flow fed new source source' progress progress' coding clips new_clips out new_out wrote new_wrote frame p counted most takes taken reads unspent is q waits room few =
     let turn : ℕ = progress.frames in
     let size : ℕ = size_of first.progress in
     let more : (turn + 1) * size ≡ turn * size + size = omega arith in
     let count : progress'.frames ≡ turn + 1 = ap (λ (r : Reading). r.frames) counted in
     let gives = q.gives in
-    let going : took.ended ≡ false = ap (λ (h : Parts _). h.ended) is ∙ p.hungry.not_ended in
+    let going : fed.ended ≡ false = ap (λ (h : Parts _). h.ended) is ∙ p.hungry.not_ended in
     let wide : WantsMore (kinds acts first.flow.stages) (turn + 1) =
     WantsMore-next (kinds acts first.flow.stages) turn p.wants (sym (enough-same acts first.flow flow turn p.stay p.taken) ∙ unspent) in
     record {
@@ -223,7 +223,7 @@ Pumped-turn acts rest told failures first flow took new source source' progress 
       at = counted ∙ ap after_frame p.at ∙ after_frames-more first.progress turn ∙ ap (after_frames first.progress) (sym count);
       size = ap size_of counted ∙ p.size;
       hungry = waits.hungry (gives.ended ∙ going);
-      taken = gives.taken ∙ taken-take acts flow took frame p.hungry.empty is ∙ ap (λ m. m + 1) p.taken ∙ sym count;
+      taken = gives.taken ∙ taken-take acts flow fed frame p.hungry.empty is ∙ ap (λ m. m + 1) p.taken ∙ sym count;
       width = gives.channels ∙ ap (λ (h : Parts _). h.channels) is ∙ p.width ∙ sym (ap (λ (r : Reading). r.channels) counted);
       stay = gives.recipes_stay ∙ ap (λ (h : Parts _). recipes acts h.stages) is ∙ p.stay;
       kept = gives.channels ∙ ap (λ (h : Parts _). h.channels) is ∙ p.kept;
@@ -240,7 +240,7 @@ Pumped-turn acts rest told failures first flow took new source source' progress 
           let taken = takes (drop (turn * size) bytes) ran.to_come_is in
           let frames = ap (λ n. sound_frames first.progress n bytes) count ∙ sound_frames-more _ _ _ _ _ _ _ ran taken in
           rw frames
-          (Flowed-turn acts first.flow flow took new first.coding _ _ _ _ _ _ _ _ _ first.head (p.flowed bytes known) p.hungry is (rw p.coded at q));
+          (Flowed-turn acts first.flow flow fed new first.coding _ _ _ _ _ _ _ _ _ first.head (p.flowed bytes known) p.hungry is (rw p.coded at q));
       takes =
           let Taken : ℕ → Type 0 = λ n. Takes told first.source source' n in
           subst Taken (sym (ap (λ n. n * size) count ∙ more)) (Takes-more told _ _ _ (turn * size) size p.takes (rw p.size at taken));
