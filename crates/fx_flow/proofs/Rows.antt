@@ -1,0 +1,124 @@
+-- A frame that goes through stages in a row, one after another.
+use Rattle.std.proofs.Common.{ℕ, zero, suc, ◌+◌, ◌<◌, ◌≤◌, true, false, List, [], ◌∷◌, ◌++◌, ◌≡◌, length, drop, get_or, refl, sym, ap, ◌∙◌, subst, arith, inl, inr, Bool, ◌||◌, ◌&&◌, Option, Some, None, option_to_list}
+use Rattle.std.specs.Prelude.{if◌then◌else◌}
+use Rattle.std.proofs.Math.ListN.{set}
+use Rattle.fx_frame.specs.declared.feed.Passing.{Passing}
+use Rattle.fx_frame.specs.declared.feed.Passing.TheVariants.{Kept, Through, More}
+use Rattle.fx_frame.specs.Feed.{GaveNext, IsHeld, PassedOn, TookNext}
+use Rattle.fx_frame.specs.Frame.{Samples}
+use Rattle.fx_frame.specs.Holds.{held_sum, hold_sum, kinds, recipes}
+use Rattle.fx_frame.specs.Stage.{Acts, Counts, after_taking, kind, spent}
+use Rattle.fx_flow.specs.Parts.{AllDry, Joined, Matching, Within, any_spent}
+use Rattle.fx_flow.specs.Row.{AllHeld, AreReady, CameTo, WentThrough}
+
+module _ {S R : Type 0} (acts : Acts S R) where
+  -- together they hold no more than they may
+  pub AllHeld-sum : (stages : List S) → AllHeld acts stages → held_sum acts stages ≤ hold_sum (kinds acts stages)
+  AllHeld-sum [] h = omega arith
+  AllHeld-sum (s ∷ stages) h = let more = AllHeld-sum stages h.1 in let here : IsHeld acts s = h.0 in omega arith
+
+  -- one stage more holds no more than it may
+  pub AllHeld-drop : (i : ℕ) (stages : List S) (d : S) → i < length stages → IsHeld acts (get_or stages i d) → AllHeld acts (drop (suc i) stages) → AllHeld acts (drop i stages)
+  AllHeld-drop i [] d h w r = absurd (omega arith)
+  AllHeld-drop zero (x ∷ stages) d h w r = (w, r)
+  AllHeld-drop (suc i) (x ∷ stages) d h w r = AllHeld-drop i stages d (omega arith) w r
+
+  -- what the stage at a place asks of a frame
+  pub record MayPass (t : S) (frame : Samples) : Type 0 where
+    pub dry : acts.dry t ≡ true
+    pub not_ended : (acts.counts t).ended ≡ false
+    pub not_spent : spent acts t ≡ false
+    pub channels : length frame ≡ (kind acts t).inputs
+    pub below_limit : (acts.counts t).taken < (kind acts t).limit
+
+  -- what a stage that took a frame gives has its channels
+  pub given-channels : (s mid s' : S) (x g : Samples) → TookNext acts s mid x → GaveNext acts mid s' g → length g ≡ (kind acts s).outputs
+  given-channels s mid s' x g took gave = gave.gave.channels ∙ ap (λ (r : R). (acts.kind_of r).outputs) took.took.recipe_stays
+
+  module _ (rises : (r : R) (m n : ℕ) → m ≤ n → (acts.kind_of r).most m ≤ (acts.kind_of r).most n) where
+    -- a stage that took a frame and gave one has given fewer than it may in all
+    given-fewer : (s mid s' : S) (x g : Samples) (taken most : ℕ) → TookNext acts s mid x → GaveNext acts mid s' g → (acts.counts s).taken ≡ taken → taken < most → (acts.counts s).given < (kind acts s).most most
+    given-fewer s mid s' x g taken most took gave e h =
+        let counted = took.took.counted in
+        let gives = gave.gave.gives.counted in
+        let given : (acts.counts s').given ≡ (acts.counts s).given + 1 = ap (λ (n : Counts). n.given) gives ∙ ap (λ (n : Counts). n.given + 1) counted in
+        let count : (acts.counts s').taken ≡ taken + 1 = ap (λ (n : Counts). n.taken) gives ∙ ap (λ (n : Counts). n.taken) counted ∙ ap (λ n. n + 1) e in
+        let within : (acts.counts s').given ≤ (kind acts s).most (taken + 1) = rw count at (subst (λ (r : R). (acts.counts s').given ≤ (acts.kind_of r).most (acts.counts s').taken) took.took.recipe_stays gave.gave.most) in
+        let up : (kind acts s).most (taken + 1) ≤ (kind acts s).most most = rises (acts.recipe s) (taken + 1) most (omega arith) in
+        omega arith
+
+    -- the stage that the frame came to takes it
+    pub MayPass-at : (i channels taken most : ℕ) (first frame : Samples) (old new : List S) (d : S) → length first ≡ channels → taken < most → AreReady acts channels taken most old → CameTo acts i first frame old new → i < length new → MayPass (get_or new i d) frame
+    MayPass-at zero channels taken most first frame [] new d e h ready came n = absurd (let none = ap length came.1 in omega arith)
+    MayPass-at zero channels taken most first frame (s ∷ stages) new d e h ready came n =
+        rw (came.0, came.1) (record { dry = ready.0; not_ended = ready.1; not_spent = ready.2; channels = e ∙ ready.3; below_limit = omega (arith, ready.4, ready.5) })
+    MayPass-at (suc i) channels taken most first frame (s ∷ stages) (s' ∷ stages') d e h ready came n =
+        MayPass-at i (kind acts s).outputs (acts.counts s).given ((kind acts s).most most) came.1 frame stages stages' d (given-channels s came.0 s' first came.1 came.2 came.3)
+        (given-fewer s came.0 s' first came.1 taken most came.2 came.3 ready.4 h) ready.6 came.4 (omega arith)
+    MayPass-at (suc i) channels taken most first frame [] new d e h ready came n = absurd came
+    MayPass-at (suc i) channels taken most first frame (s ∷ stages) [] d e h ready came n = absurd came
+
+  -- it gave a frame for it, which came to the next place
+  pub CameTo-next : (i : ℕ) (first frame next : Samples) (old new : List S) (mid s' d : S) → i < length new → CameTo acts i first frame old new → TookNext acts (get_or new i d) mid frame → GaveNext acts mid s' next
+      → CameTo acts (suc i) first next old (set new i s')
+  CameTo-next zero first frame next [] new mid s' d n came took gave = absurd (let none = ap length came.1 in omega arith)
+  CameTo-next zero first frame next (s ∷ stages) [] mid s' d n came took gave = absurd (omega arith)
+  CameTo-next zero first frame next (s ∷ stages) (t ∷ stages') mid s' d n came took gave =
+      let head : t ≡ s = cc (came.1) in
+      let tail : stages' ≡ stages = cc (came.1) in
+      (mid, next, rw (head, came.0) at took, gave, (refl, tail))
+  CameTo-next (suc i) first frame next (s ∷ stages) (t ∷ stages') mid s' d n came took gave =
+      (came.0, came.1, came.2, came.3, CameTo-next i came.1 frame next stages stages' mid s' d (omega arith) came.4 took gave)
+  CameTo-next (suc i) first frame next [] new mid s' d n came took gave = absurd came
+  CameTo-next (suc i) first frame next (s ∷ stages) [] mid s' d n came took gave = absurd came
+
+  -- it took it and gave none
+  pub WentThrough-kept : (i : ℕ) (first frame : Samples) (old new : List S) (s' d : S) → i < length new → CameTo acts i first frame old new → TookNext acts (get_or new i d) s' frame → WentThrough acts first None old (set new i s')
+  WentThrough-kept zero first frame [] new s' d n came took = absurd (let none = ap length came.1 in omega arith)
+  WentThrough-kept zero first frame (s ∷ stages) [] s' d n came took = absurd (omega arith)
+  WentThrough-kept zero first frame (s ∷ stages) (t ∷ stages') s' d n came took =
+      let head : t ≡ s = cc (came.1) in
+      let tail : stages' ≡ stages = cc (came.1) in
+      inl (rw (head, came.0) at took, refl, tail)
+  WentThrough-kept (suc i) first frame (s ∷ stages) (t ∷ stages') s' d n came took =
+      inr (came.0, came.1, came.2, came.3, WentThrough-kept i came.1 frame stages stages' s' d (omega arith) came.4 took)
+  WentThrough-kept (suc i) first frame [] new s' d n came took = absurd came
+  WentThrough-kept (suc i) first frame (s ∷ stages) [] s' d n came took = absurd came
+
+  -- it came out behind the last
+  pub WentThrough-out : (i : ℕ) (first frame : Samples) (old new : List S) → length new ≤ i → CameTo acts i first frame old new → WentThrough acts first (Some frame) old new
+  WentThrough-out zero first frame [] [] n came = ap Some came.0
+  WentThrough-out zero first frame [] (t ∷ stages') n came = absurd (omega arith)
+  WentThrough-out zero first frame (s ∷ stages) new n came = absurd (let many = ap length came.1 in omega arith)
+  WentThrough-out (suc i) first frame (s ∷ stages) (t ∷ stages') n came = inr (came.0, came.1, came.2, came.3, WentThrough-out i came.1 frame stages stages' (omega arith) came.4)
+  WentThrough-out (suc i) first frame [] new n came = absurd came
+  WentThrough-out (suc i) first frame (s ∷ stages) [] n came = absurd came
+
+  -- a stage that did not keep a frame gave one for it
+  pub PassedOn-gave : (r : Passing) (s s' : S) (x y : Samples) → (r ≡ Kept → ⊥) → PassedOn acts r s s' x y → (mid : S) × TookNext acts s mid x × GaveNext acts mid s' y
+  PassedOn-gave Kept s s' x y n p = absurd (n refl)
+  PassedOn-gave Through s s' x y n p = (p.0, p.1, p.2)
+  PassedOn-gave More s s' x y n p = (p.0, p.1, p.2)
+
+  neither : (a b : Bool) → a || b ≡ false → (a ≡ false) × (b ≡ false)
+  neither false false e = (refl, refl)
+  neither true b e = absurd (cc e)
+  neither false true e = absurd (cc e)
+
+  not_over : (ended over : Bool) → (ended ≡ true → over ≡ true) → over ≡ false → ended ≡ false
+  not_over true over h e = let t = h refl in absurd (cc)
+  not_over false over h e = refl
+
+  -- stages in a row that are dry, of which none was told the end or is spent, may be passed a frame
+  pub AreReady-from : (channels taken most : ℕ) (over : Bool) (stages : List S) → over ≡ false → AllDry acts stages → any_spent acts stages ≡ false → Matching channels (kinds acts stages) → Within (kinds acts stages) most → Joined acts taken over stages
+      → AreReady acts channels taken most stages
+  AreReady-from channels taken most over [] going dry unspent match within joined = tt
+  AreReady-from channels taken most over (s ∷ stages) going dry unspent match within joined =
+      let open_ = not_over _ _ joined.1 going in
+      let both = neither (spent acts s) (any_spent acts stages) unspent in
+      (dry.0, open_, both.0, sym match.0, joined.0, within.0, AreReady-from (kind acts s).outputs (acts.counts s).given ((kind acts s).most most) ((acts.counts s).ended && acts.dry s) stages (rw open_ refl) dry.1 both.1 match.1 within.1 joined.3)
+
+-- what a flag lets out
+pub if-out : {X : Type 0} (b : Bool) (x : X) → option_to_list (if b then Some x else None) ≡ (if b then x ∷ [] else [])
+if-out true x = refl
+if-out false x = refl
