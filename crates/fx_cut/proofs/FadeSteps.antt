@@ -1,17 +1,18 @@
 -- The steps of a fade.
-use Rattle.std.proofs.Common.{◌≡◌, ℕ, ℤ, ◌+◌, ◌-◌, ◌<◌, ◌≤◌, ◌^◌, Bool, true, false, List, [], ◌∷◌, ◌++◌, map, length, refl, sym, ◌∙◌, ap, arith, length-append}
-use Rattle.std.specs.Prelude.{Option, Some, None, option_to_list, is_none}
+use Rattle.std.proofs.Common.{◌≡◌, ℕ, ℤ, ◌+◌, ◌-◌, ◌<◌, ◌≤◌, ◌^◌, min, Bool, true, false, cond, List, [], ◌∷◌, ◌++◌, map, length, drop, refl, sym, ◌∙◌, ap, arith, length-append, inl, inr, ◌⊎◌}
+use Rattle.std.specs.Prelude.{Option, Some, None, option_to_list, is_none, nat_lt, slice_get}
 use Rattle.std.specs.Int.{w32}
-use Rattle.std.proofs.lemmas.Bool.{false≢true}
+use Rattle.std.proofs.lemmas.Bool.{cases_lt, false≢true, le-ltb, lt-ltb}
 use Rattle.std.proofs.lemmas.List.{length-map}
+use Rattle.fx_fixed.specs.declared.positions.At.{At}
 use Rattle.fx_frame.specs.Frame.{Samples}
 use Rattle.fx_frame.specs.Frozen.{IsHand}
 use Rattle.fx_frame.specs.Line.{Frames, IsLine}
 use Rattle.fx_frame.specs.Stage.{Gave, Took, coming}
 use Rattle.fx_cut.specs.declared.fade.Shape.{Shape}
 use Rattle.fx_cut.specs.Lists.{plain}
-use Rattle.fx_cut.specs.Fade.{FadeState, IsFade, faded_here, fade_acts, fade_after, fade_line, fade_rest, stop_ahead}
-use Rattle.fx_cut.proofs.Fallen.{fallen, stays, no_fall, stays-room, is_full, oldest-first, oldest-channels}
+use Rattle.fx_cut.specs.Fade.{FadeState, IsFade, due_by, faded_frame, faded_here, fade_acts, fade_after, fade_line, fade_rest, is_before, line_by, stop_ahead, stop_in, until}
+use Rattle.fx_cut.proofs.Fallen.{fallen, stays, no_fall, stays-room, is_full, oldest-first, oldest-channels, first-popped}
 use Rattle.fx_cut.proofs.FadeLaws.{fade_taken, fade_let_go, due-next, due-early}
 use Rattle.fx_cut.proofs.Hands.{empty-hand, at_most_one}
 
@@ -79,6 +80,7 @@ module _ (s : FadeState) (frame : Samples) (is : IsFade s) (dry : is_none s.hand
         full = λ r. rw capacity (omega arith);
         counted = λ r. is.counted running ∙ sym early;
         over = λ r. absurd (cc (r, running));
+        gone = λ r. absurd (cc (r, running));
         fits = is.fits;
       }
 
@@ -111,6 +113,7 @@ module _ (s : FadeState) (frame : Samples) (is : IsFade s) (dry : is_none s.hand
         full = λ r. rw capacity (omega arith);
         counted = λ r. omega (arith, next, given, counted, empty);
         over = λ r. absurd (cc (r, running));
+        gone = λ r. absurd (cc (r, running));
         fits = fits;
       }
 
@@ -119,6 +122,71 @@ module _ (s : FadeState) (frame : Samples) (is : IsFade s) (dry : is_none s.hand
       let split = oldest-first _ _ _ _ e is.line.within in
       let same = is.channels in
       oldest-channels s.line.channels _ _ frame o is.line.frames (f ∙ sym same) split ∙ same
+
+-- ---- after the end
+
+until-next : (stop : Option ℕ) (n : ℕ) → until stop n + cond (is_before stop n) 1 0 ≡ until stop (n + 1)
+until-next None n = refl
+until-next (Some s) n = go (cases_lt n s)
+  where
+    go : (n < s) ⊎ (s ≤ n) → min n s + cond (nat_lt n s) 1 0 ≡ min (n + 1) s
+    go (inl l) = let e : nat_lt n s ≡ true = lt-ltb n s l in rw e (omega arith)
+    go (inr g) = let e : nat_lt n s ≡ false = le-ltb n s g in rw e (omega arith)
+
+length-here : (f : Shape) (stop : Option ℕ) (n : ℕ) (o : Samples) → length (faded_here f stop n o) ≡ cond (is_before stop n) 1 0
+length-here f stop n o = go (is_before stop n)
+  where
+    go : (b : Bool) → length (cond b (faded_frame f stop n o ∷ []) []) ≡ cond b 1 0
+    go true = refl
+    go false = refl
+
+-- the oldest frame of the line goes, and is given up to the stop
+pub until-popped : (f : Shape) (frames : ℕ) (items items' : List Samples) (o : Samples) (hand : Option Samples) → Some o ≡ slice_get items 0 → items' ≡ drop 1 items → length items ≤ frames
+    → map plain (option_to_list hand) ≡ faded_here f (stop_in frames f.stop) (frames - length items) o
+    → until (stop_in frames f.stop) (frames - length items) + length (option_to_list hand) ≡ until (stop_in frames f.stop) (frames - length items')
+until-popped f frames items items' o hand e e' h kept =
+    let stop : Option ℕ = stop_in frames f.stop in
+    let long : length items ≡ length (o ∷ items') = ap length (first-popped items items' o e e') in
+    let next : frames - length items' ≡ frames - length items + 1 = omega arith in
+    let one : length (option_to_list hand) ≡ cond (is_before stop (frames - length items)) 1 0 =
+    sym (length-map (option_to_list hand) plain) ∙ ap length kept ∙ length-here f stop (frames - length items) o in
+    ap (λ k. until stop (frames - length items) + k) one ∙ until-next stop (frames - length items) ∙ ap (until stop) (sym next)
+
+due-until : (stop : Option At) (out s : ℕ) → due_by stop out s ≡ until (stop_in s stop) (s - line_by stop out)
+due-until None out s = omega arith
+due-until (Some (At.Start p)) out s = omega arith
+due-until (Some (At.End b)) out s = omega arith
+
+-- where the end comes, all that is due was given
+pub until-due : (s : FadeState) → IsFade s → s.ended ≡ false → s.given + length (option_to_list s.hand) ≡ until (stop_in s.taken s.recipe.shape.stop) (s.taken - length s.line.items)
+until-due s is running =
+    let f = is.full running in
+    let cap = is.capacity in
+    let same : s.taken - length s.line.items ≡ s.taken - fade_line s.recipe.shape = omega arith in
+    is.counted running
+    ∙ due-until s.recipe.shape.stop s.recipe.shape.fade_out s.taken
+    ∙ ap (until (stop_in s.taken s.recipe.shape.stop)) (sym same)
+
+-- the oldest frame of the line is in hand, or nothing more is given
+pub IsFade-over : (s : FadeState) (line : Frames ℤ) (hand : Option Samples) (given : ℕ) → IsFade s → given + length s.line.items ≤ s.taken
+    → given ≡ until (stop_in s.taken s.recipe.shape.stop) (s.taken - length s.line.items)
+    → until (stop_in s.taken s.recipe.shape.stop) (s.taken - length s.line.items) + length (option_to_list hand) ≡ until (stop_in s.taken s.recipe.shape.stop) (s.taken - length line.items)
+    → (hand ≡ None → fade_after s.recipe.shape s.taken line.items [] ≡ []) → length (option_to_list hand) + length line.items ≤ length s.line.items → IsHand s.line.channels hand
+    → IsLine w32 line → line.capacity ≡ s.line.capacity → line.channels ≡ s.line.channels
+    → IsFade (record s { line = line; hand = hand; given = given; ended = true })
+IsFade-over s line hand given is low before counted empty fewer fits lined capacity channels = record {
+  line = lined;
+  channels = channels ∙ is.channels;
+  capacity = capacity ∙ is.capacity;
+  shaped = is.shaped;
+  few = is.few;
+  within = omega arith;
+  full = λ r. absurd (false≢true (sym r));
+  counted = λ r. absurd (false≢true (sym r));
+  over = λ e none. empty none;
+  gone = λ e. ap (λ n. n + length (option_to_list hand)) before ∙ counted;
+  fits = rw is.channels at fits;
+}
 
 -- ---- a frame is given
 

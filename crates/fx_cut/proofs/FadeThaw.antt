@@ -58,6 +58,7 @@ count-of s is =
       full = λ e. let f = is.full e in let c = is.capacity in omega arith;
       counted = is.counted;
       over = λ e none. nothing-left s.recipe.shape s.taken s.line.items (omega arith) (is.over e (no-hand s.hand none));
+      gone = is.gone;
     }
 
 -- the numbers of a fade count so
@@ -88,5 +89,6 @@ IsFade-thawed channels capacity taken given held hands ended f frames line hand 
       counted = λ e. let k = count.counted e in omega (arith, k);
       over = λ e none. let z : hands ≡ 0 = sym h ∙ ap (λ o. length (option_to_list o)) none in
           over-from f taken line.items (omega arith) (rw items at (count.over e z));
+      gone = λ e. rw (h, ← items) (count.gone e);
       fits = st.held;
     }

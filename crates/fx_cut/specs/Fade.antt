@@ -145,6 +145,8 @@ pub record IsFade (s : FadeState) : Type 0 where
   pub full : s.ended ≡ false → length s.line.items ≡ min s.taken s.line.capacity
   pub counted : s.ended ≡ false → s.given + length (option_to_list s.hand) ≡ fade_due s.recipe.shape s.taken
   pub over : s.ended ≡ true → s.hand ≡ None → fade_after s.recipe.shape s.taken s.line.items [] ≡ []
+  -- after the end, those given and in hand are the frames before those of the line, up to the stop
+  pub gone : s.ended ≡ true → s.given + length (option_to_list s.hand) ≡ until (stop_in s.taken s.recipe.shape.stop) (s.taken - length s.line.items)
   pub fits : IsHand s.recipe.channels s.hand
 
 -- the same of its counts alone: so many frames taken and given, in the line and in hand
@@ -152,6 +154,7 @@ pub record IsFadeCount (f : Shape) (taken given lined hands : ℕ) (ended : Bool
   pub full : ended ≡ false → lined ≡ min taken (fade_line f)
   pub counted : ended ≡ false → given + hands ≡ fade_due f taken
   pub over : ended ≡ true → hands ≡ 0 → (lined ≡ 0) ⊎ (is_before (stop_in taken f.stop) (taken - lined) ≡ false)
+  pub gone : ended ≡ true → given + hands ≡ until (stop_in taken f.stop) (taken - lined)
 
 -- how the stages of `fade` behave; no sample is clipped, since no weight is over 1
 abbrev pub fade_acts : Acts FadeState FadeArguments

@@ -1,5 +1,5 @@
 //! The effect `fade` of sox(1), of the type t: a linear rise at the start and a linear fall before the stop.
-ghost use Rattle.std.specs.Prelude.{◌≡◌, ◌≤◌, ◌<◌, ◌+◌, ◌++◌, ◌*ℤ◌, ◌^◌, [], pos, length, map, Err, IfOk, MatchResult, None, option_to_list, true, false};
+ghost use Rattle.std.specs.Prelude.{◌≡◌, ◌≤◌, ◌<◌, ◌+◌, ◌-◌, ◌++◌, ◌*ℤ◌, ◌^◌, [], pos, length, map, Err, IfOk, MatchResult, None, option_to_list, true, false};
 ghost use Rattle.std.specs.Int.{w32};
 ghost use Rattle.fx_fixed.specs.Rounding.{rounding};
 ghost use Rattle.fx_frame.specs.Frame.{IsFrame};
@@ -8,7 +8,7 @@ ghost use Rattle.fx_frame.specs.Line.{IsLine};
 ghost use Rattle.fx_frame.specs.Stage.{Freezes, IsNew};
 ghost use Rattle.fx_cut.specs.Lists.{plain};
 ghost use Rattle.fx_cut.specs.Rounded.{unclipped};
-ghost use Rattle.fx_cut.specs.Fade.{FadeArguments, FadeState, IsFade, IsFadeCount, IsShape, due_by, fade_acts, fade_after, fade_line, faded_here, is_before, line_by, meant, stop_ahead, stop_in, weight, weighted, weights};
+ghost use Rattle.fx_cut.specs.Fade.{FadeArguments, FadeState, IsFade, IsFadeCount, IsShape, due_by, fade_acts, fade_after, fade_line, faded_here, is_before, line_by, meant, stop_ahead, stop_in, until, weight, weighted, weights};
 
 use fx_fixed::{At, round_clip};
 use fx_frame::frozen::thawed_line_and_hand;
@@ -166,8 +166,18 @@ fn line_for(stop: Option<At>, fade_out: u64) -> u64
     }
 }
 
+/// How many of so many frames lie before the stop.
+fn frames_until(stop: Option<u64>, frames: u64) -> u64
+    ensures { result ≡ until stop frames }
+{
+    match stop {
+        Some(stop) => frames.min(stop),
+        None => frames,
+    }
+}
+
 /// Does a stage of this shape, with so many frames in its line and in hand, count so? Before the end it has given what is due,
-/// after the end it has a frame in hand unless its line is empty or lies behind the stop.
+/// after the end those before its line and the stop, and it has a frame in hand unless its line is empty or lies behind the stop.
 fn is_count(shape: &Shape, taken: u64, given: u64, lined: u64, hands: u64, is_ended: bool) -> bool
     requires line { fade_line shape.now ≤ 2 ^ 28 }
     requires lined { lined ≤ taken }
@@ -176,7 +186,9 @@ fn is_count(shape: &Shape, taken: u64, given: u64, lined: u64, hands: u64, is_en
     ensures other { result ≡ false → IsFadeCount shape.now taken given lined hands is_ended → ⊥ }
 {
     if is_ended {
-        return hands != 0 || lined == 0 || !is_ahead(shape.stop(taken), taken - lined);
+        let stop = shape.stop(taken);
+        let is_over = hands != 0 || lined == 0 || !is_ahead(stop, taken - lined);
+        return is_over && given + hands == frames_until(stop, taken - lined);
     }
     if lined != taken.min(line_for(shape.stop, shape.fade_out)) {
         return false;
@@ -202,6 +214,7 @@ fn next_faded(line: &mut Line, shape: &Shape, frames: u64) -> Option<Frame>
     requires shape { IsShape shape.now }
     requires frames { length line.old.items ≤ frames }
     ensures rest { fade_after shape.now frames line.old.items [] ≡ map plain (option_to_list result) ++ fade_after shape.now frames line.new.items [] }
+    ensures gone { until (stop_in frames shape.now.stop) (frames - length line.old.items) + length (option_to_list result) ≡ until (stop_in frames shape.now.stop) (frames - length line.new.items) }
     ensures empty { result ≡ None → fade_after shape.now frames line.new.items [] ≡ [] }
     ensures fewer { length (option_to_list result) + length line.new.items ≤ length line.old.items }
     ensures hand { IsHand line.old.channels result }
