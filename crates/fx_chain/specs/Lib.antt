@@ -4,4 +4,5 @@ pub mod Outlet
 pub mod Report
 pub mod Run
 pub mod Snapshot
+pub mod Theorem
 pub mod Through

@@ -141,7 +141,7 @@ module _ {R W : Type 0} (rest : R → Option (List ℕ)) (told reads : R → ℕ
         is = record {
           whole = λ bytes known.
               let head = head-in bytes known in
-              record { run = running bytes r known (ap report_in e); completed = rw e at f.completed (drop head.offset bytes) head.others };
+              record { run = running bytes r known (ap report_in e); ran = rw e at f.ran (drop head.offset bytes) head.others; completed = rw e at f.completed (drop head.offset bytes) head.others };
           all_flushed = rw e at f.all_flushed;
           unfailed = let went = rw e at f.causes in (ap reads is ∙ went.0 ∙ began.unfailed, went.1);
           clean = λ r e. absurd (cc);
@@ -178,6 +178,7 @@ module _ {R W : Type 0} (rest : R → Option (List ℕ)) (told reads : R → ℕ
               subst (λ (y : RunFault). Stopped told reads ready.line files bytes reader inner (taken writer) (taken new_writer) y) same
               (record {
                 run = running bytes (report_at fault) known (ap report_in e);
+                ran = rw e at f.ran (drop head.offset bytes) head.others;
                 stopped = rw e at f.stopped (drop head.offset bytes) head.others;
                 read_failed = λ c few. rw (← is) at (told-of (rw e at f.read_failed c) (rw is at few));
                 read_before = λ c. rw (is, ← began.unfailed) (HasCause-before _ (ReadFirst told reader new.reader ready.prepared.chain.flow f.at ready.prepared.plan.head head.offset (report_at fault).frames_in) (cause_of fault) _ _ _ _ c (rw e at f.causes) (λ q. record { hungry = q.hungry; not_enough = q.not_enough; took_all = λ few. told-of q.read_failed few }));

@@ -6,6 +6,7 @@ use Rattle.fx_chain.specs.declared.report.RunFault.{RunFault}
 use Rattle.fx_chain.specs.Chain.{chain_gives, chain_wholes, planned as stages_planned, target_for}
 use Rattle.fx_chain.specs.Report.{Completed, HasCause, StoppedAt, cause_of, clips_now, report_at, start_of}
 use Rattle.fx_chain.specs.Run.{WantsMore, sound_frames}
+use Rattle.fx_chain.specs.Theorem.{Ran}
 use Rattle.fx_flow.specs.Parts.{AllNew, Parts, enough_for, moves_of, taken_of}
 use Rattle.fx_flow.specs.Steps.{IsHungry, rest_of, wholes_of}
 use Rattle.fx_frame.specs.Frame.{Samples}
@@ -67,6 +68,8 @@ pub record Running (line : Said) (files : List (List ℕ)) (bytes : List ℕ) (r
 -- The bytes were a whole sound, or as much of it was read as is enough, and all that the chain gives for it was written.
 pub record Whole (line : Said) (files : List (List ℕ)) (bytes : List ℕ) (first now : Option (List ℕ)) (r : Report) : Type 0 where
   pub run : Running line files bytes r
+  -- what was written and is reported, as functions of the plan and the bytes
+  pub ran : Ran run.plan (drop run.offset bytes) first now (Ok r)
   pub completed : Completed effect_acts run.start run.at (target_for run.plan) (start_of run.plan.head) (drop run.offset bytes) (sound_frames (start_of run.plan.head) r.frames_in (drop run.offset bytes)) first now r
 
 -- the reader told the head and so many bytes of the sound: n are all their whole frames
@@ -83,6 +86,7 @@ pub record ReadFirst {R : Type 0} (told : R → ℕ) (reader new : R) (start at 
 -- after a failed write the writer has a front.
 pub record Stopped {R : Type 0} (told reads : R → ℕ) (line : Said) (files : List (List ℕ)) (bytes : List ℕ) (reader new : R) (first now : Option (List ℕ)) (f : RunFault) : Type 0 where
   pub run : Running line files bytes (report_at f)
+  pub ran : Ran run.plan (drop run.offset bytes) first now (Err f)
   pub stopped : StoppedAt effect_acts run.start run.at (target_for run.plan) (start_of run.plan.head) (drop run.offset bytes) (sound_frames (start_of run.plan.head) (report_at f).frames_in (drop run.offset bytes)) first now f
   -- after a failed read all whole frames had come
   pub read_failed : cause_of f ≡ Causes.ReadFailed → TookAllTold told reader new run.plan.head run.offset (report_at f).frames_in

@@ -6,6 +6,7 @@ use Rattle.fx_chain.specs.declared.report.RunFault.{RunFault}
 use Rattle.fx_chain.specs.Chain.{target_for}
 use Rattle.fx_chain.specs.Report.{Completed, HasCause, ReadBefore, StoppedAt, cause_of, clips_now, report_at, report_in, start_of}
 use Rattle.fx_chain.specs.Run.{RanToFailure, WantsMore, sound_frames}
+use Rattle.fx_chain.specs.Theorem.{Ran}
 use Rattle.fx_flow.specs.Parts.{Parts, moves_of, taken_of}
 use Rattle.fx_frame.specs.Holds.{kinds}
 use Rattle.fx_line.specs.Line.{Said}
@@ -32,6 +33,8 @@ run_messages line (Err f) = warnings line (report_at f) ++ run_message (run_labe
 pub record Finished {R W : Type 0} (rest : R → Option (List ℕ)) (told reads : R → ℕ) (taken : W → Option (List ℕ)) (flushed : W → Bool) (writes : W → ℕ)
     (ready : Ready) (source new_source : Held R) (writer new_writer : W) (IsTold : List ℕ → Type 0) (status : ℕ) (report : Report) : Type 0 where
   pub outcome : Result Report RunFault
+  -- what was written and is reported, as functions of the plan and the bytes
+  pub ran : IfKnown (to_come rest source) (λ bytes. Ran (planning ready.prepared.plan) bytes (taken writer) (taken new_writer) outcome)
   pub at : Parts EffectStage
   pub completed : IfOk outcome (λ r. IfKnown (to_come rest source) (λ bytes.
       Completed effect_acts ready.prepared.chain.flow at (target_for (planning ready.prepared.plan)) (start_of ready.prepared.plan.head) bytes (sound_frames (start_of ready.prepared.plan.head) r.frames_in bytes) (taken writer) (taken new_writer) r))

@@ -6,6 +6,7 @@ use Rattle.soxchain.proofs.ready.finish.Goals as goal
 pub returns-in-Ok : goal.returns-in-Ok
 returns-in-Ok g c = record {
   outcome = Ok c.in-Ok.report;
+  ran = c.in-Ok.ensures.ran c.requires;
   at = c.run.new.chain.flow;
   completed = rw (c.requires.plan) at c.in-Ok.ensures.completed;
   all_flushed = c.in-Ok.ensures.flushed;
@@ -25,6 +26,7 @@ returns-in-Ok g c = record {
 pub returns : goal.returns
 returns g c = record {
   outcome = Err c.in-Err.fault;
+  ran = c.in-Err.ensures.ran c.requires;
   at = c.run.new.chain.flow;
   completed = tt;
   all_flushed = tt;
