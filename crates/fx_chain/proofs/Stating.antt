@@ -124,12 +124,16 @@ module _ (p : Planning) (c : ChainParts) (new : IsNewChain p c) where
       let gives : rest_of effect_acts c.flow x ≡ chain_gives p (frames_read p bytes) = new.gives x ∙ ap (chain_gives p) same in
       let wholes : wholes_of effect_acts c.flow x ≡ chain_wholes p (frames_read p bytes) = new.wholes x ∙ ap (chain_wholes p) same in
       let output = ap (output_of (target_for p)) gives in
-      let ends = counted done.ended count in (
-        rw (← output) done.wrote.took,
-        same-report r (reported p bytes) count (done.frames_out ∙ ap length gives) (done.wrote.whole ∙ ap length output) (done.moves ∙ ap (λ m. m + total (λ (w : Whole). w.given) (wholes_of effect_acts c.flow x)) count ∙ ap (λ ws. length (frames_read p bytes) + total (λ (w : Whole). w.given) ws) wholes)
-            (done.clips ∙ ap (λ ws. row_of (map (λ (w : Whole). w.clips) ws)) wholes) (done.out_clips ∙ ap (coded_clips p.coding) gives) ends.0 ends.1,
-        whole-sound x first-is read done.ended done.settled,
-      )
+      let ends = counted done.ended count in
+      record {
+        wrote = rw (← output) done.wrote.took;
+        reports = same-report r (reported p bytes) count (done.frames_out ∙ ap length gives) (done.wrote.whole ∙ ap length output)
+            (done.moves ∙ ap (λ m. m + total (λ (w : Whole). w.given) (wholes_of effect_acts c.flow x)) count ∙ ap (λ ws. length (frames_read p bytes) + total (λ (w : Whole). w.given) ws) wholes)
+            (done.clips ∙ ap (λ ws. row_of (map (λ (w : Whole). w.clips) ws)) wholes) (done.out_clips ∙ ap (coded_clips p.coding) gives) ends.0 ends.1;
+        whole_sound = whole-sound x first-is read done.ended done.settled;
+        whatever = λ enough z.
+            ap (λ y. chain_gives p (y ++ z)) (sym same) ∙ sym (new.gives (x ++ z)) ∙ done.settled (ap (λ ks. enough_for ks r.frames_in) kinds-are ∙ enough) z ∙ gives;
+      }
     where
       ended : ((enough_for (kinds effect_acts c.flow.stages) r.frames_in ≡ false) × RanToEnd (start_of p.head) bytes r.frames_in r.missing r.stray) ⊎ ((enough_for (kinds effect_acts c.flow.stages) r.frames_in ≡ true) × ((r.missing ≡ 0) × (r.stray ≡ 0)))
           → (enough_for (kinds effect_acts c.flow.stages) r.frames_in ≡ true) ⊎ (r.frames_in ≡ length (sound_in p.head bytes))
@@ -208,6 +212,8 @@ module _ (p : Planning) (c : ChainParts) (new : IsNewChain p c) where
         at = at;
         reached = rw (← first-is) done.reports.reached;
         front = ap (take r.frames_out) gives;
+        gave = sym gives ∙ done.reports.gave;
+        wholes = done.reports.wholes ∙ new.wholes x ∙ ap (chain_wholes p) first-is;
         frames_out = sym (length-take-le r.frames_out (rest_of effect_acts c.flow x) done.reports.part);
         moves = moves;
         clips = clips;

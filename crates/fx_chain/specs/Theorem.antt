@@ -1,6 +1,6 @@
 -- What a run makes of a plan and the bytes behind the head that was read, to be read from top to bottom (this project's
 -- profile). Each is a function of the plan and the bytes, so an example is computed by hand.
-use Rattle.std.specs.Prelude.{◌≡◌, ◌⊎◌, ℕ, ◌+◌, ◌*◌, ◌%◌, ◌<◌, ◌≤◌, cond, false, MatchBool, sum, List, [], ◌∷◌, ◌++◌, length, map, take, Option, Result, Ok, Err}
+use Rattle.std.specs.Prelude.{◌≡◌, ◌⊎◌, ℕ, ◌+◌, ◌*◌, ◌%◌, ◌<◌, ◌≤◌, cond, false, true, MatchBool, sum, List, [], ◌∷◌, ◌++◌, length, map, take, Option, Result, Ok, Err}
 use Rattle.std.specs.Io.KnownBytes.{Appends}
 use Rattle.fx_chain.specs.declared.report.Report.{Report}
 use Rattle.fx_chain.specs.declared.report.RunFault.{RunFault}
@@ -8,10 +8,11 @@ use Rattle.fx_chain.specs.declared.report.RunFault.TheVariants.{ReadFailed, Writ
 use Rattle.fx_chain.specs.Chain.{chain_gives, chain_wholes, planned, target_for}
 use Rattle.fx_chain.specs.Due.{clips_in, dues}
 use Rattle.fx_chain.specs.Outlet.{WroteFront, coded, coded_clips}
-use Rattle.fx_chain.specs.Report.{clips_now, head_for, met_end, output_of, row_of}
+use Rattle.fx_chain.specs.Report.{clips_now, head_for, met_end, output_of, row_of, start_of}
+use Rattle.fx_chain.specs.Run.{RanToFailure}
 use Rattle.fx_chain.specs.Through.{Reached}
 use Rattle.fx_flow.specs.Parts.{AllNew, Parts, Whole, due_of, enough_for, moves_of, taken_of}
-use Rattle.fx_flow.specs.Steps.{IsDone, IsHungry}
+use Rattle.fx_flow.specs.Steps.{IsDone, IsHungry, rest_of, wholes_of}
 use Rattle.fx_frame.specs.Frame.{Samples}
 use Rattle.fx_frame.specs.FrameCoding.{frame_size}
 use Rattle.fx_frame.specs.Holds.{recipes, total}
@@ -21,6 +22,7 @@ use Rattle.fx_sound.specs.declared.head.Head.{Head}
 use Rattle.fx_sound.specs.declared.progress.TheConstants.{MOST_FRAMES}
 use Rattle.fx_sound.specs.Container.{frames_of}
 use Rattle.fx_sound.specs.Sound.{lacking, within}
+use Rattle.fx_sound.specs.Source.{Held}
 use Rattle.fx_stages.specs.declared.stage.EffectStage.{EffectStage}
 use Rattle.fx_stages.specs.Effects.{effect_acts}
 
@@ -64,6 +66,13 @@ reported p bytes = record {
   missing = lacks p bytes;
   stray = strays p bytes;
 }
+
+-- a run to the end: the output is that of the whole sound, also where no more of it was read than some effect has enough of
+pub record Complete (p : Planning) (bytes : List ℕ) (first now : Option (List ℕ)) (r : Report) : Type 0 where
+  pub wrote : Appends first now (written p bytes)
+  pub reports : r ≡ reported p bytes
+  pub whole_sound : chain_gives p (frames_read p bytes) ≡ chain_gives p (sound_in p.head bytes)
+  pub whatever : enough_for (kinds_of p) r.frames_in ≡ true → (z : List Samples) → chain_gives p (frames_read p bytes ++ z) ≡ chain_gives p (frames_read p bytes)
 
 -- AFTER A FAILED READ, and where the sound is too long, with the frames x that had come whole: the frames then due
 abbrev pub given_due : Planning → List Samples → List Samples
@@ -111,6 +120,9 @@ pub record Broken (p : Planning) (bytes : List ℕ) (first now : Option (List �
   pub at : Parts EffectStage
   pub reached : Reached effect_acts start (take r.frames_in (sound_in p.head bytes)) given at
   pub front : given ≡ take r.frames_out (chain_gives p (take r.frames_in (sound_in p.head bytes)))
+  -- it is still to give what the definitions give behind that, and each effect what its own does
+  pub gave : chain_gives p (take r.frames_in (sound_in p.head bytes)) ≡ given ++ rest_of effect_acts at []
+  pub wholes : wholes_of effect_acts at [] ≡ chain_wholes p (take r.frames_in (sound_in p.head bytes))
   pub frames_out : r.frames_out ≡ length given
   pub moves : r.moves ≡ moves_of effect_acts at
   pub clips : r.clips ≡ clips_now effect_acts at.stages
@@ -122,10 +134,14 @@ pub record Broken (p : Planning) (bytes : List ℕ) (first now : Option (List �
       ((r.missing ≡ lacking p.head.announced (length (within p.head.announced bytes))) × (r.stray ≡ length (within p.head.announced bytes) % frame_size p.head.coding p.head.channels))
       ((r.missing ≡ 0) × (r.stray ≡ 0))
 
--- What a run of a new chain came to, over these bytes behind the head. Without a fault the output is that of the whole sound,
--- also where no more of it was read than some effect has enough of.
+-- where the writer failed a read had failed before: all whole frames that were told had come, and no effect had enough of them
+pub record ReadFirst {R : Type 0} (told : R → ℕ) (old : Held R) (new : R) (p : Planning) (n : ℕ) : Type 0 where
+  pub not_enough : enough_for (kinds_of p) n ≡ false
+  pub read_failed : RanToFailure told old new (start_of p.head) n
+
+-- what a run of a new chain came to, over these bytes behind the head
 abbrev pub Ran : Planning → List ℕ → Option (List ℕ) → Option (List ℕ) → Result Report RunFault → Type 0
-Ran p bytes first now (Ok r) = Appends first now (written p bytes) × (r ≡ reported p bytes) × (chain_gives p (frames_read p bytes) ≡ chain_gives p (sound_in p.head bytes))
+Ran p bytes first now (Ok r) = Complete p bytes first now r
 Ran p bytes first now (Err (ReadFailed r)) = Due p bytes first now r
 Ran p bytes first now (Err (TooLong r)) = Due p bytes first now r × (r.frames_in ≡ MOST_FRAMES) × (MOST_FRAMES + 1 ≤ length (sound_in p.head bytes))
 Ran p bytes first now (Err (WriteFailed r)) = Broken p bytes first now r
