@@ -1,9 +1,8 @@
 -- What a run came to, as functions of the plan and the bytes.
-use Rattle.std.proofs.Common.{◌≡◌, ℕ, zero, suc, ◌+◌, ◌*◌, ◌/◌, ◌%◌, ◌<◌, ◌≤◌, ◌⊎◌, inl, inr, map, Bool, true, false, cond, List, [], ◌∷◌, ◌++◌, length, drop, take, refl, sym, ap, ◌∙◌, arith, Some, None, Option}
+use Rattle.std.proofs.Common.{◌≡◌, ℕ, zero, suc, ◌+◌, ◌*◌, ◌/◌, ◌%◌, ◌<◌, ◌≤◌, ◌⊎◌, inl, inr, map, Bool, true, false, cond, List, [], ◌∷◌, ◌++◌, length, drop, take, refl, sym, ap, ◌∙◌, arith, Option}
 use Rattle.std.proofs.lemmas.List.{length-map, length-take-le, take-append-drop, take-map, take_all}
 use Rattle.std.proofs.lemmas.Nat.{le-div}
 use Rattle.std.specs.Prelude.{IfErr, IfOk, MatchBool, Result, Ok, Err, sum}
-use Rattle.std.specs.Io.KnownBytes.{Appends}
 use Rattle.fx_frame.specs.declared.coding.Coding.{Coding}
 use Rattle.fx_frame.specs.declared.coding.Coding.TheVariants.{U8, S8, S16Le, S16Be, S24Le, S24Be, S32Le, S32Be}
 use Rattle.fx_frame.specs.Frame.{Samples}
@@ -20,7 +19,7 @@ use Rattle.fx_sound.specs.declared.head.Head.{Head}
 use Rattle.fx_sound.specs.declared.progress.TheConstants.{MOST_FRAMES}
 use Rattle.fx_sound.specs.Known.{IfKnown}
 use Rattle.fx_sound.specs.Runs.{first_frames-within}
-use Rattle.fx_sound.specs.Sound.{lacking, size_of, within}
+use Rattle.fx_sound.specs.Sound.{lacking, within}
 use Rattle.fx_chain.specs.declared.report.Report.{Report}
 use Rattle.fx_chain.specs.declared.pump.Cause.TheVariants as Causes
 use Rattle.fx_chain.specs.declared.report.RunFault.{RunFault}
@@ -28,7 +27,7 @@ use Rattle.fx_chain.specs.declared.report.RunFault.TheVariants.{ReadFailed, Writ
 use Rattle.fx_chain.specs.Chain.{ChainParts, IsNewChain, chain_gives, chain_wholes, planned, target_for}
 use Rattle.fx_chain.specs.Due.{clips_in, dues}
 use Rattle.fx_chain.specs.Outlet.{WroteFront, coded, coded_clips}
-use Rattle.fx_chain.specs.Report.{Completed, StoppedAt, cause_of, clips_now, head_for, met_end, output_of, report_at, report_in, row_of, start_of}
+use Rattle.fx_chain.specs.Report.{Completed, StoppedAt, cause_of, clips_now, head_for, output_of, report_at, report_in, row_of, start_of}
 use Rattle.fx_chain.specs.Run.{RanToEnd, WantsMore, sound_frames}
 use Rattle.fx_chain.proofs.Passing.{WantsMore-next}
 use Rattle.fx_chain.specs.Theorem.{Broken, Due, Ran, frames_read, given_due, kinds_of, lacks, reported, reported_due, sound_in, strays, until_enough, written_due}

@@ -16,7 +16,7 @@ use Rattle.fx_chain.specs.Chain.{ChainParts, IsNewChain}
 use Rattle.fx_chain.specs.Report.{HasCause, ReadBefore, start_of}
 use Rattle.fx_chain.specs.Run.{RanToFailure, WantsMore}
 use Rattle.fx_chain.specs.Theorem.{ReadFirst, kinds_of}
-use Rattle.fx_flow.specs.Parts.{Parts, enough_for}
+use Rattle.fx_flow.specs.Parts.{Parts}
 use Rattle.fx_frame.specs.Holds.{kinds}
 use Rattle.fx_plan.specs.Planning.{Planning}
 use Rattle.fx_stages.specs.declared.stage.EffectStage.{EffectStage}

@@ -1,5 +1,5 @@
 -- What a run that was ready comes to (this project's profile).
-use Rattle.std.specs.Prelude.{◌≡◌, ◌≤◌, ℕ, Bool, true, List, Option, Result, Ok, Err, IfErr, IfOk, OnOk, MatchResult, ◌++◌}
+use Rattle.std.specs.Prelude.{◌≡◌, ◌≤◌, ℕ, Bool, true, List, Option, Result, Ok, Err, IfErr, OnOk, MatchResult, ◌++◌}
 use Rattle.fx_chain.specs.declared.pump.Cause.TheVariants as Causes
 use Rattle.fx_chain.specs.declared.report.Report.{Report}
 use Rattle.fx_chain.specs.declared.report.RunFault.{RunFault}

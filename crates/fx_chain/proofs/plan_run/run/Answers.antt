@@ -1,4 +1,4 @@
-use Rattle.std.proofs.Common.{rules, ◌≡◌, ◌<◌, ◌≤◌, ◌+◌, length, arith}
+use Rattle.std.proofs.Common.{◌<◌, arith}
 use Rattle.fx_chain.proofs.Stating.{Ran-result}
 use Rattle.fx_chain.proofs.Chaining.{count-is, short-is, work-is}
 use Rattle.fx_plan.specs.Planning.{planning}

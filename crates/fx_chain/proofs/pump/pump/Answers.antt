@@ -1,8 +1,7 @@
-use Rattle.std.proofs.Common.{rules, ◌≡◌, ℕ, ◌+◌, ◌*◌, ◌∙◌, List, [], ◌∷◌, ◌++◌, length, drop, refl, sym, ap, arith, false}
-use Rattle.fx_flow.specs.Parts.{Parts, enough_for, taken_of}
+use Rattle.std.proofs.Common.{◌≡◌, ℕ, ◌+◌, ◌*◌, ◌∙◌, [], length, drop, refl, sym, ap, arith}
+use Rattle.fx_flow.specs.Parts.{Parts}
 use Rattle.fx_frame.specs.Holds.{kinds, recipes}
 use Rattle.fx_sound.specs.Runs.{Ran-start, Ran-turn, Ran-whole, Takes-more, Takes-none, after_frames-more}
-use Rattle.fx_sound.specs.Container.{after_frames}
 use Rattle.fx_sound.specs.Sound.{Reading, after_frame, size_of}
 use Rattle.fx_sound.specs.Source.{to_come}
 use Rattle.std.specs.Prelude.{Some}

@@ -1,4 +1,4 @@
-use Rattle.std.proofs.Common.{◌≡◌, ◌+◌, ◌*◌, ◌≤◌, ◌^◌, false}
+use Rattle.std.proofs.Common.{◌≡◌, ◌+◌, ◌*◌, ◌≤◌, false}
 use Rattle.fx_chain.specs.Run.{Flowed, WantsMore, sound_frames}
 use Rattle.fx_flow.specs.Parts.{given_by, taken_of}
 use Rattle.fx_flow.specs.Steps.{IsHungry}

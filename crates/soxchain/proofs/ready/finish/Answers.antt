@@ -1,7 +1,6 @@
-use Rattle.std.proofs.Common.{refl, ap, map}
+use Rattle.std.proofs.Common.{refl}
 use Rattle.std.specs.Prelude.{Ok, Err}
 use Rattle.fx_chain.specs.Report.{cause_of}
-use Rattle.fx_stages.specs.Effects.{effect_acts}
 use Rattle.soxchain.proofs.Converting.{HasCause-map, ReadFirst-new, wants-new}
 use Rattle.soxchain.proofs.TellingLemmas.{Tells-first}
 use Rattle.soxchain.proofs.ready.finish.Goals as goal
