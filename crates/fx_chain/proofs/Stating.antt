@@ -30,6 +30,7 @@ use Rattle.fx_chain.specs.Outlet.{WroteFront, coded, coded_clips}
 use Rattle.fx_chain.specs.Report.{Completed, StoppedAt, cause_of, clips_now, head_for, output_of, report_at, report_in, row_of, start_of}
 use Rattle.fx_chain.specs.Run.{RanToEnd, WantsMore, sound_frames}
 use Rattle.fx_chain.proofs.Passing.{WantsMore-next}
+use Rattle.fx_chain.proofs.Reaching.{clips-reached}
 use Rattle.fx_chain.specs.Theorem.{Broken, Due, Ran, frames_read, given_due, kinds_of, lacks, reported, reported_due, sound_in, strays, until_enough, written_due}
 
 -- a frame takes some bytes
@@ -216,6 +217,9 @@ module _ (p : Planning) (c : ChainParts) (new : IsNewChain p c) where
         frames_out = sym (length-take-le r.frames_out (rest_of effect_acts c.flow x) done.reports.part);
         moves = moves;
         clips = clips;
+        counted = λ running.
+            clips ∙ ap row_of (clips-reached effect_acts c.flow at x _ new.fresh new.hungry.empty done.reports.reached running)
+            ∙ ap (λ rs. row_of (clips_in effect_acts (map (λ s. (effect_acts.counts s).given) at.stages) rs x)) new.made ∙ ap (λ y. row_of (clips_in effect_acts (map (λ s. (effect_acts.counts s).given) at.stages) (planned p) y)) first-is;
         out_clips = done.reports.out_clips;
         wrote = wrote (done.front is);
         ends = ended _ (rw kinds-are at (done.ends is));

@@ -126,6 +126,8 @@ pub record Broken (p : Planning) (bytes : List ℕ) (first now : Option (List �
   pub frames_out : r.frames_out ≡ length given
   pub moves : r.moves ≡ moves_of effect_acts at
   pub clips : r.clips ≡ clips_now effect_acts at.stages
+  -- before the end these are the clips of the first frames of each effect, so many as it gave
+  pub counted : at.ended ≡ false → r.clips ≡ row_of (clips_in effect_acts (map (λ s. (effect_acts.counts s).given) at.stages) (planned p) (take r.frames_in (sound_in p.head bytes)))
   pub out_clips : r.out_clips ≡ coded_clips p.coding given
   pub wrote : WroteFront first now r.bytes_out (head_for (target_for p) ++ coded p.coding given)
       ⊎ (IsDone effect_acts at × WroteFront first now r.bytes_out (output_of (target_for p) (chain_gives p (take r.frames_in (sound_in p.head bytes)))))
