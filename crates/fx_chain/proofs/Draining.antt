@@ -1,5 +1,5 @@
 -- What stays true while a flow is stepped and what it gives is sent.
-use Rattle.std.proofs.Common.{◌≡◌, ℕ, ◌+◌, ◌≤◌, ◌^◌, map, true, List, [], ◌∷◌, ◌++◌, length, refl, sym, ap, ◌∙◌, arith}
+use Rattle.std.proofs.Common.{◌≡◌, ℕ, ◌+◌, ◌≤◌, ◌^◌, map, List, [], ◌∷◌, ◌++◌, refl, sym, ap, ◌∙◌, arith}
 use Rattle.std.proofs.lemmas.List.{append_assoc, append-nil, length-append}
 use Rattle.std.specs.Prelude.{Option}
 use Rattle.fx_frame.specs.declared.coding.Coding.{Coding}
@@ -12,10 +12,10 @@ use Rattle.fx_flow.specs.Sound.{most_frames}
 use Rattle.fx_flow.proofs.Laws.{most_of-le}
 use Rattle.fx_flow.specs.declared.flow.Step.{Step}
 use Rattle.fx_flow.specs.declared.flow.Step.TheVariants.{Given, Idle, Moved}
-use Rattle.fx_flow.specs.Steps.{MovedOn, Steps, given_out, rest_of, wholes_of}
+use Rattle.fx_flow.specs.Steps.{MovedOn, Steps, given_out, rest_of}
 use Rattle.fx_sound.specs.Output.{Pending, SendsMore, SendsOn}
-use Rattle.fx_chain.specs.Outlet.{WroteFront, coded, coded_clips}
-use Rattle.fx_chain.specs.Through.{CutOff, Drained, Gives, SendsFront, stepped}
+use Rattle.fx_chain.specs.Outlet.{coded}
+use Rattle.fx_chain.specs.Through.{CutOff, Drained, Gives, stepped}
 use Rattle.fx_chain.proofs.Sending.{WroteFront-sent, coded-more, coded_clips-append}
 
 -- a step that let no frame out

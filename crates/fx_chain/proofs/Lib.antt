@@ -5,4 +5,5 @@ pub mod Passing
 pub mod Reaching
 pub mod Running
 pub mod Sending
+pub mod Stating
 pub mod Thawing

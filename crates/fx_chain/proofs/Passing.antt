@@ -1,5 +1,5 @@
 -- What stays true while frames go through a flow to a writer.
-use Rattle.std.proofs.Common.{◌≡◌, ℕ, ◌+◌, ◌*◌, ◌<◌, ◌≤◌, map, Bool, true, false, List, [], ◌∷◌, ◌++◌, length, drop, take, refl, sym, ap, ◌∙◌, arith, Some, None, option_to_list}
+use Rattle.std.proofs.Common.{◌≡◌, ℕ, ◌+◌, ◌*◌, ◌≤◌, map, Bool, true, false, List, [], ◌∷◌, ◌++◌, drop, take, refl, sym, ap, ◌∙◌, arith, Some, None, option_to_list}
 use Rattle.std.proofs.lemmas.List.{append_assoc, append-nil, length-append}
 use Rattle.std.specs.Prelude.{Option, nat_lt}
 use borrow.Author.Tests.{ltb-true, ltb-false}
@@ -11,11 +11,11 @@ use Rattle.fx_frame.specs.Stage.{Acts, Kind}
 use Rattle.fx_flow.specs.Parts.{Parts, enough_for, given_by, taken_of, through}
 use Rattle.fx_flow.specs.Steps.{IsHungry, rest_of, wholes_of}
 use Rattle.fx_sound.specs.Output.{Pending, Sent}
-use Rattle.fx_sound.specs.Container.{after_frames, first_frames}
+use Rattle.fx_sound.specs.Container.{after_frames}
 use Rattle.fx_sound.specs.Runs.{Ran, Ran-end, Ran-failed, Tells-more, first_frames-more}
 use Rattle.fx_sound.specs.Sound.{Reading, EndsSound, TakesFrame, at_most_announced, size_of}
 use Rattle.fx_sound.specs.Source.{FallsShort, Held, Takes}
-use Rattle.fx_chain.specs.Outlet.{WroteFront, coded, coded_clips}
+use Rattle.fx_chain.specs.Outlet.{WroteFront, coded}
 use Rattle.fx_chain.specs.Run.{Flowed, FlowedFront, RanToEnd, RanToFailure, WantsMore, sound_frames}
 use Rattle.fx_chain.specs.Through.{CutOff, Drained, Gives, Through, took, told_end, untouched}
 use Rattle.fx_chain.proofs.Sending.{coded-append, coded_clips-append}

@@ -1,13 +1,13 @@
 -- What a run reports.
-use Rattle.std.proofs.Common.{zero, suc, ◌≡◌, ℕ, ◌+◌, ◌-◌, ◌*◌, ◌<◌, ◌≤◌, map, inl, inr, Bool, true, false, List, [], ◌∷◌, ◌++◌, length, drop, take, replicate, refl, sym, ap, ◌∙◌, arith, add-one}
-use Rattle.std.proofs.lemmas.List.{append_assoc, append-nil, length-append, length-drop, take_at}
+use Rattle.std.proofs.Common.{zero, suc, ◌≡◌, ℕ, ◌+◌, ◌-◌, ◌*◌, ◌<◌, ◌≤◌, map, inl, inr, Bool, true, false, List, [], ◌∷◌, ◌++◌, length, take, replicate, refl, sym, ap, ◌∙◌, arith}
+use Rattle.std.proofs.lemmas.List.{append-nil, length-append, length-drop, take_at}
 use Rattle.std.specs.Prelude.{◌⊎◌, MatchBool, Option, Some, slice_index, slice_set}
 use Rattle.fx_sound.specs.Known.{IfKnown}
 use Rattle.fx_frame.specs.declared.coding.Coding.{Coding}
 use Rattle.fx_frame.specs.Frame.{Samples}
 use Rattle.fx_frame.specs.Holds.{kinds, recipes, total as total_of}
 use Rattle.fx_frame.specs.Stage.{Acts}
-use Rattle.fx_flow.specs.Parts.{AllNew, Parts, Whole, AllSettled, AllEnded, due_of, enough_for, given_by, moves_of, taken_of, wholes}
+use Rattle.fx_flow.specs.Parts.{Parts, Whole, due_of, enough_for, given_by, moves_of, taken_of}
 use Rattle.fx_flow.specs.Steps.{IsDone, IsHungry, rest_of, wholes_of}
 use Rattle.fx_flow.proofs.Laws.{through-Done, wholes-Done}
 use Rattle.fx_sound.specs.declared.progress.TheConstants.{MOST_FRAMES}
@@ -18,8 +18,8 @@ use Rattle.fx_chain.specs.declared.report.Report.{Report}
 use Rattle.fx_chain.specs.declared.report.RunFault.{RunFault}
 use Rattle.fx_chain.specs.declared.target.Target.{Target}
 use Rattle.fx_chain.specs.Outlet.{WroteAll, WroteFront, coded, coded_clips}
-use Rattle.fx_chain.specs.Due.{clips_in, dues}
-use Rattle.fx_chain.specs.Report.{Completed, Reports, StoppedAt, cause_of, clips_now, head_for, met_end, output_of, pad, report_at, row_of}
+use Rattle.fx_chain.specs.Due.{dues}
+use Rattle.fx_chain.specs.Report.{Reports, StoppedAt, cause_of, clips_now, head_for, met_end, output_of, pad, report_at, row_of}
 use Rattle.fx_chain.specs.Run.{RanToEnd}
 use Rattle.fx_chain.specs.Through.{Through}
 use Rattle.fx_chain.proofs.Reaching.{clips-stopped, moves-stopped}

@@ -4,6 +4,7 @@ pub mod Outlet
 pub mod Report
 pub mod Run
 pub mod Snapshot
+pub mod Theorem
 pub mod Through
 pub mod Block
 pub mod Pump

@@ -1,8 +1,9 @@
 //! A whole sound through the chain of a plan.
 ghost use Rattle.std.specs.Prelude.{◌≡◌, ◌≤◌, IfErr, IfOk, MatchResult, OnOk, true};
-ghost use Rattle.fx_chain.specs.Chain.{target_for};
+ghost use Rattle.fx_chain.specs.Chain.{IsNewChain, target_for};
 ghost use Rattle.fx_chain.specs.Report.{Completed, HasCause, ReadBefore, StoppedAt, cause_of, clips_now, report_at, report_in, start_of};
 ghost use Rattle.fx_chain.specs.Run.{RanToFailure, WantsMore, sound_frames};
+ghost use Rattle.fx_chain.specs.Theorem.{Ran};
 ghost use Rattle.fx_flow.specs.Parts.{given_by, moves_of, taken_of};
 ghost use Rattle.fx_flow.specs.Steps.{IsDone, IsHungry};
 ghost use Rattle.fx_frame.specs.Holds.{kinds};
@@ -47,6 +48,9 @@ pub fn run<R: ByteIn, W: ByteOut>(
     requires plan { chain.old.plan ≡ planning plan.now }
     requires hungry { IsHungry effect_acts chain.old.flow }
     requires nothing { (taken_of chain.old.flow ≡ 0) × (given_by effect_acts chain.old.flow.left chain.old.flow.stages ≡ 0) }
+
+    // What a run of a new chain comes to, as functions of the plan and the bytes.
+    ensures ran { IsNewChain (planning plan.now) chain.old → IfKnown (to_come R.rest source.old) (λ bytes. Ran (planning plan.now) bytes (W.taken writer.old) (W.taken writer.new) result) }
 
     // Without a fault all that the chain gives for the sound was written.
     ensures completed { IfOk result (λ r. IfKnown (to_come R.rest source.old) (λ bytes.

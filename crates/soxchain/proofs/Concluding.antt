@@ -17,12 +17,12 @@ use Rattle.fx_sound.specs.Known.{IfKnown}
 use Rattle.fx_sound.specs.Source.{Held, to_come}
 use Rattle.soxchain.specs.declared.prepared.Ready.{Ready}
 use Rattle.soxchain.specs.declared.preparing.Refusal.TheVariants.{Chain, Head, Plan}
-use Rattle.soxchain.specs.Convert.{Converted, ReadFirst, Running, StopHasCause, Stopped}
+use Rattle.soxchain.specs.Convert.{Converted, Running, StopHasCause, Stopped, ToldFirst}
 use Rattle.soxchain.specs.Finishing.{Finished, run_status}
 use Rattle.soxchain.specs.Program.{Concludes}
 use Rattle.soxchain.specs.Readying.{LineRefused, LineUnready}
 use Rattle.soxchain.specs.Stops.{Stop, Refused, Run}
-use Rattle.soxchain.proofs.Converting.{HasCause-any, HasCause-before, Ran-told, to_come-start}
+use Rattle.soxchain.proofs.Converting.{HasCause-before, HasCause-map, Ran-told, to_come-start}
 
 -- a source that holds nothing yet
 abbrev pub fresh : {R : Type 0} → R → Held R
@@ -117,17 +117,7 @@ module _ {R W : Type 0} (rest : R → Option (List ℕ)) (told reads : R → ℕ
           begins = record { spelt = head.spelt; there = head.there; near = head.near };
           no_faults = began.no_faults;
           planned = began.planned;
-          start = ready.prepared.chain.flow;
-          made = began.chain.made;
-          fresh = began.chain.fresh;
-          hungry = began.chain.hungry;
-          gives = began.chain.gives;
-          wholes = began.chain.wholes;
           wants = rw e at f.wants;
-          at = f.at;
-          read = rw e at f.read;
-          clips = rw e at f.clips;
-          moves = rw e at f.moves;
           work = rw e at f.work;
         }
 
@@ -141,7 +131,7 @@ module _ {R W : Type 0} (rest : R → Option (List ℕ)) (told reads : R → ℕ
         is = record {
           whole = λ bytes known.
               let head = head-in bytes known in
-              record { run = running bytes r known (ap report_in e); completed = rw e at f.completed (drop head.offset bytes) head.others };
+              record { run = running bytes r known (ap report_in e); ran = rw e at f.ran (drop head.offset bytes) head.others };
           all_flushed = rw e at f.all_flushed;
           unfailed = let went = rw e at f.causes in (ap reads is ∙ went.0 ∙ began.unfailed, went.1);
           clean = λ r e. absurd (cc);
@@ -178,13 +168,13 @@ module _ {R W : Type 0} (rest : R → Option (List ℕ)) (told reads : R → ℕ
               subst (λ (y : RunFault). Stopped told reads ready.line files bytes reader inner (taken writer) (taken new_writer) y) same
               (record {
                 run = running bytes (report_at fault) known (ap report_in e);
-                stopped = rw e at f.stopped (drop head.offset bytes) head.others;
+                ran = rw e at f.ran (drop head.offset bytes) head.others;
                 read_failed = λ c few. rw (← is) at (told-of (rw e at f.read_failed c) (rw is at few));
-                read_before = λ c. rw (is, ← began.unfailed) (HasCause-before _ (ReadFirst told reader new.reader ready.prepared.chain.flow f.at ready.prepared.plan.head head.offset (report_at fault).frames_in) (cause_of fault) _ _ _ _ c (rw e at f.causes) (λ q. record { hungry = q.hungry; not_enough = q.not_enough; took_all = λ few. told-of q.read_failed few }));
+                read_before = λ c. rw (is, ← began.unfailed) (HasCause-before _ (ToldFirst told reader new.reader (planning ready.prepared.plan) head.offset (report_at fault).frames_in) (cause_of fault) _ _ _ _ c (rw e at f.causes) (λ q. record { not_enough = q.not_enough; took_all = λ few. told-of q.read_failed few }));
               });
           causes = λ s h.
               let same : Run fault ≡ s = cc in
-              subst (λ (t : Stop). StopHasCause t (reads reader) (reads inner) (writes writer) (writes new_writer)) same (HasCause-any _ (cause_of fault) _ _ _ _ (rw (← is, began.unfailed, e) at f.causes));
+              subst (λ (t : Stop). StopHasCause t (reads reader) (reads inner) (writes writer) (writes new_writer)) same (HasCause-map _ _ (λ _. tt) (cause_of fault) _ _ _ _ (rw (← is, began.unfailed, e) at f.causes));
         };
         status_is = f.status_is ∙ ap run_status e;
         report_is = f.report_is ∙ ap report_in e;

@@ -1,5 +1,5 @@
 -- A conversion, put together from its head and its run.
-use Rattle.std.proofs.Common.{◌⊎◌, inl, inr, ◌≡◌, ℕ, ◌+◌, ◌-◌, ◌/◌, ◌^◌, ◌<◌, ◌≤◌, List, [], length, sym, ap, arith, ◌∙◌}
+use Rattle.std.proofs.Common.{map, ◌⊎◌, inl, inr, ◌≡◌, ℕ, ◌+◌, ◌-◌, ◌/◌, ◌^◌, ◌<◌, ◌≤◌, List, [], length, sym, ap, arith, ◌∙◌}
 use Rattle.std.specs.Prelude.{MatchBool, Option, Some, Result, Ok, Err}
 use Rattle.fx_line.specs.declared.line.LineFault.{LineFault}
 use Rattle.fx_line.specs.Line.{Said}
@@ -12,8 +12,15 @@ use Rattle.fx_sound.specs.declared.head.HeadFault.TheVariants.{ReadFailed, Unkno
 use Rattle.fx_sound.specs.Layout.{is_read_failure}
 use Rattle.fx_chain.specs.declared.pump.Cause.{Cause}
 use Rattle.fx_chain.specs.declared.pump.Cause.TheVariants as Causes
-use Rattle.fx_chain.specs.Report.{HasCause}
-use Rattle.fx_chain.specs.Run.{RanToFailure}
+use Rattle.fx_chain.specs.Chain.{ChainParts, IsNewChain}
+use Rattle.fx_chain.specs.Report.{HasCause, ReadBefore, start_of}
+use Rattle.fx_chain.specs.Run.{RanToFailure, WantsMore}
+use Rattle.fx_chain.specs.Theorem.{ReadFirst, kinds_of}
+use Rattle.fx_flow.specs.Parts.{Parts}
+use Rattle.fx_frame.specs.Holds.{kinds}
+use Rattle.fx_plan.specs.Planning.{Planning}
+use Rattle.fx_stages.specs.declared.stage.EffectStage.{EffectStage}
+use Rattle.fx_stages.specs.Effects.{effect_acts}
 use Rattle.fx_sound.specs.Sound.{Reading, at_most_announced, size_of}
 use Rattle.fx_sound.specs.Source.{Held, Takes, to_come}
 use Rattle.soxchain.specs.declared.preparing.Refusal.TheVariants.{Head}
@@ -53,12 +60,12 @@ pub line-read : (found : Result Said LineFault) (line : Said) → LineReads foun
 line-read (Ok said) line h = ap (λ (x : Said). Ok x) (sym h)
 line-read (Err fault) line h = sym h
 
--- a fault has its cause, whatever came before
-pub HasCause-any : (P : Type 0) (cause : Cause) (reads new_reads writes new_writes : ℕ) → HasCause cause P reads new_reads writes new_writes → HasCause cause (Unit {0}) reads new_reads writes new_writes
-HasCause-any P Causes.ReadFailed reads new_reads writes new_writes h = h
-HasCause-any P Causes.WriteFailed reads new_reads writes new_writes (inl same, failed) = (inl same, failed)
-HasCause-any P Causes.WriteFailed reads new_reads writes new_writes (inr before, failed) = (inr (before.0, tt), failed)
-HasCause-any P Causes.TooLong reads new_reads writes new_writes h = h
+-- a fault has its cause, whatever is said of a read that failed before
+pub HasCause-map : (P Q : Type 0) → (P → Q) → (cause : Cause) (reads new_reads writes new_writes : ℕ) → HasCause cause P reads new_reads writes new_writes → HasCause cause Q reads new_reads writes new_writes
+HasCause-map P Q f Causes.ReadFailed reads new_reads writes new_writes h = h
+HasCause-map P Q f Causes.WriteFailed reads new_reads writes new_writes (inl same, failed) = (inl same, failed)
+HasCause-map P Q f Causes.WriteFailed reads new_reads writes new_writes (inr before, failed) = (inr (before.0, f before.1), failed)
+HasCause-map P Q f Causes.TooLong reads new_reads writes new_writes h = h
 
 -- where the writer failed, no read had failed, or one before it
 pub HasCause-before : (P Q : Type 0) (cause : Cause) (reads new_reads writes new_writes : ℕ) → cause ≡ Causes.WriteFailed → HasCause cause P reads new_reads writes new_writes → (P → Q)
@@ -67,3 +74,16 @@ HasCause-before P Q Causes.ReadFailed reads new_reads writes new_writes is h f =
 HasCause-before P Q Causes.WriteFailed reads new_reads writes new_writes is (inl same, failed) f = inl same
 HasCause-before P Q Causes.WriteFailed reads new_reads writes new_writes is (inr before, failed) f = inr (before.0, f before.1)
 HasCause-before P Q Causes.TooLong reads new_reads writes new_writes is h f = absurd (cc)
+
+-- the kinds of a new chain's effects are those of its plan
+kinds-new : (p : Planning) (c : ChainParts) → IsNewChain p c → kinds effect_acts c.flow.stages ≡ kinds_of p
+kinds-new p c new = ap (map effect_acts.kind_of) new.made
+
+pub wants-new : (p : Planning) (c : ChainParts) → IsNewChain p c → (n : ℕ) → WantsMore (kinds effect_acts c.flow.stages) n → WantsMore (kinds_of p) n
+wants-new p c new n wants = λ m few. rw (← kinds-new p c new) (wants m few)
+
+pub ReadFirst-new : {R : Type 0} (told : R → ℕ) (p : Planning) (c : ChainParts) → IsNewChain p c → (at : Parts EffectStage) (old : Held R) (new : R) (n : ℕ) → ReadBefore effect_acts told old new c.flow at (start_of p.head) n → ReadFirst told old new p n
+ReadFirst-new told p c is at old new n before = record {
+  not_enough = rw (← kinds-new p c is) before.not_enough;
+  read_failed = before.read_failed;
+}

@@ -53,6 +53,10 @@ Appends-part first now new told n text a b =
 pub part-within : (told n : ℕ) (text : List ℕ) → told ≤ length text → n ≤ length (take (length text - told) (drop told text)) → told + n ≤ length text
 part-within told n text h k = omega (arith, length-drop told text, rw (left-all told text) at k)
 
+-- three texts behind all that was told
+pub three : (all a b c : List ℕ) → ((all ++ a) ++ b) ++ c ≡ all ++ ((a ++ b) ++ c)
+three all a b c = simp append_assoc
+
 -- five texts behind all that was told
 pub five : (all a b c d e : List ℕ) → ((((all ++ a) ++ b) ++ c) ++ d) ++ e ≡ all ++ ((((a ++ b) ++ c) ++ d) ++ e)
 five all a b c d e = simp append_assoc

@@ -3,13 +3,10 @@ use Rattle.std.specs.Prelude.{◌≡◌, ◌≢◌, ◌⊎◌, ℕ, ◌+◌, ◌
 use Rattle.fx_chain.specs.declared.pump.Cause.TheVariants as Causes
 use Rattle.fx_chain.specs.declared.report.Report.{Report}
 use Rattle.fx_chain.specs.declared.report.RunFault.{RunFault}
-use Rattle.fx_chain.specs.Chain.{chain_gives, chain_wholes, planned as stages_planned, target_for}
-use Rattle.fx_chain.specs.Report.{Completed, HasCause, StoppedAt, cause_of, clips_now, report_at, start_of}
-use Rattle.fx_chain.specs.Run.{WantsMore, sound_frames}
-use Rattle.fx_flow.specs.Parts.{AllNew, Parts, enough_for, moves_of, taken_of}
-use Rattle.fx_flow.specs.Steps.{IsHungry, rest_of, wholes_of}
-use Rattle.fx_frame.specs.Frame.{Samples}
-use Rattle.fx_frame.specs.Holds.{kinds, recipes}
+use Rattle.fx_chain.specs.Report.{HasCause, cause_of, report_at, start_of}
+use Rattle.fx_chain.specs.Run.{WantsMore}
+use Rattle.fx_chain.specs.Theorem.{Ran, kinds_of}
+use Rattle.fx_flow.specs.Parts.{enough_for}
 use Rattle.fx_frame.specs.Io.{saturated}
 use Rattle.fx_line.specs.Line.{Said}
 use Rattle.fx_plan.specs.declared.fault.PlanFault.{PlanFault}
@@ -27,8 +24,6 @@ use Rattle.fx_sound.specs.Known.{IfKnown}
 use Rattle.fx_sound.specs.Reads.{CutOff}
 use Rattle.fx_sound.specs.Sound.{at_most_announced, size_of}
 use Rattle.fx_sound.specs.Source.{Held}
-use Rattle.fx_stages.specs.declared.stage.EffectStage.{EffectStage}
-use Rattle.fx_stages.specs.Effects.{effect_acts}
 use Rattle.soxchain.specs.declared.preparing.Refusal.{Refusal}
 use Rattle.soxchain.specs.declared.preparing.Refusal.TheVariants as Refusals
 use Rattle.soxchain.specs.Preparing.{RefusalHasCause}
@@ -40,55 +35,42 @@ pub record Begins (expected : Option Kind) (bytes : List ℕ) (h : Head) (offset
   pub there : offset ≤ length bytes
   pub near : offset ≤ 0x1000000
 
--- A run over the bytes: the head, the plan of the line behind it, and its chain, new and after the run.
+-- A run over the bytes: the head, the plan of the line behind it, and how far it went.
 pub record Running (line : Said) (files : List (List ℕ)) (bytes : List ℕ) (r : Report) : Type 0 where
   pub plan : Planning
   pub offset : ℕ
   pub begins : Begins line.input_kind bytes plan.head offset
   pub no_faults : all_faults (head_layout plan.head) files (effects_in line) ≡ []
   pub planned : plan ≡ planning_in plan.head line files
-  pub start : Parts EffectStage
-  -- the new chain's stages are those of the plan's effects, which settles what is due and what is enough
-  pub made : recipes effect_acts start.stages ≡ stages_planned plan
-  -- nothing had happened to it
-  pub fresh : AllNew effect_acts start.stages
-  pub hungry : IsHungry effect_acts start
-  -- the new chain gives what the definitions of the plan's effects compose to, and counts the clips of each
-  pub gives : (x : List Samples) → rest_of effect_acts start x ≡ chain_gives plan x
-  pub wholes : (x : List Samples) → wholes_of effect_acts start x ≡ chain_wholes plan x
-  -- no frame was read past those that are enough for some effect
-  pub wants : WantsMore (kinds effect_acts start.stages) r.frames_in
-  pub at : Parts EffectStage
-  pub read : r.frames_in ≡ taken_of at
-  pub clips : r.clips ≡ clips_now effect_acts at.stages
-  pub moves : r.moves ≡ moves_of effect_acts at
+  -- no frame was read past those that are enough for some effect, and no more were handed over than the plan says
+  pub wants : WantsMore (kinds_of plan) r.frames_in
   pub work : r.moves ≤ work_of plan.acts r.frames_in
 
--- The bytes were a whole sound, or as much of it was read as is enough, and all that the chain gives for it was written.
+-- The bytes were a whole sound, or as much of it was read as is enough: what was written and is reported, as functions of the
+-- plan and the bytes.
 pub record Whole (line : Said) (files : List (List ℕ)) (bytes : List ℕ) (first now : Option (List ℕ)) (r : Report) : Type 0 where
   pub run : Running line files bytes r
-  pub completed : Completed effect_acts run.start run.at (target_for run.plan) (start_of run.plan.head) (drop run.offset bytes) (sound_frames (start_of run.plan.head) r.frames_in (drop run.offset bytes)) first now r
+  pub ran : Ran run.plan (drop run.offset bytes) first now (Ok r)
 
 -- the reader told the head and so many bytes of the sound: n are all their whole frames
 abbrev pub TookAllTold : {R : Type 0} → (R → ℕ) → R → R → Head → ℕ → ℕ → Type 0
 TookAllTold told reader new h offset n = told new < 2 ^ 64 - 1 → (told reader + offset ≤ told new) × (n ≡ at_most_announced h.announced (told new - told reader - offset) / size_of (start_of h))
 
--- a read had failed before: all whole frames had come, and what was due was given
-pub record ReadFirst {R : Type 0} (told : R → ℕ) (reader new : R) (start at : Parts EffectStage) (h : Head) (offset n : ℕ) : Type 0 where
-  pub hungry : IsHungry effect_acts at
-  pub not_enough : enough_for (kinds effect_acts start.stages) n ≡ false
-  pub took_all : TookAllTold told reader new h offset n
+-- a read had failed before: all whole frames had come, and no effect had enough of them
+pub record ToldFirst {R : Type 0} (told : R → ℕ) (reader new : R) (plan : Planning) (offset n : ℕ) : Type 0 where
+  pub not_enough : enough_for (kinds_of plan) n ≡ false
+  pub took_all : TookAllTold told reader new plan.head offset n
 
--- The run over the bytes stopped: after a failed read, and where the sound is too long, the frames then due were written;
--- after a failed write the writer has a front.
+-- The run over the bytes stopped: what was written and is reported. After a failed read, and where the sound is too long, the
+-- frames then due were written; after a failed write the writer has a front.
 pub record Stopped {R : Type 0} (told reads : R → ℕ) (line : Said) (files : List (List ℕ)) (bytes : List ℕ) (reader new : R) (first now : Option (List ℕ)) (f : RunFault) : Type 0 where
   pub run : Running line files bytes (report_at f)
-  pub stopped : StoppedAt effect_acts run.start run.at (target_for run.plan) (start_of run.plan.head) (drop run.offset bytes) (sound_frames (start_of run.plan.head) (report_at f).frames_in (drop run.offset bytes)) first now f
+  pub ran : Ran run.plan (drop run.offset bytes) first now (Err f)
   -- after a failed read all whole frames had come
   pub read_failed : cause_of f ≡ Causes.ReadFailed → TookAllTold told reader new run.plan.head run.offset (report_at f).frames_in
   -- where the writer failed no read had failed, or one had before
   pub read_before : cause_of f ≡ Causes.WriteFailed → (reads new ≡ reads reader)
-      ⊎ ((reads new ≡ saturated (reads reader + 1)) × ReadFirst told reader new run.start run.at run.plan.head run.offset (report_at f).frames_in)
+      ⊎ ((reads new ≡ saturated (reads reader + 1)) × ToldFirst told reader new run.plan run.offset (report_at f).frames_in)
 
 -- a stop is answered only where its cause was counted
 abbrev pub StopHasCause : Stop → ℕ → ℕ → ℕ → ℕ → Type 0

@@ -24,21 +24,20 @@ line_feed = 10 ∷ []
 
 -- a command line that is refused, with the fault's number and name
 abbrev pub line_message : List ℕ → List ℕ
-line_message fault = codes "soxchain: command line: " ++ fault ++ [] ++ [] ++ line_feed
+line_message fault = codes "soxchain: command line: " ++ fault ++ line_feed
 
 -- a fault of an effect: its number and name, the fault's number and name, and the word
 abbrev pub effect_message : ℕ → List ℕ → List ℕ → List ℕ → List ℕ
 effect_message number name fault word =
-    (codes "soxchain: effect " ++ decimal number ++ codes " " ++ name ++ codes ": ")
-    ++ (fault ++ codes ": " ++ word ++ line_feed ++ [])
+    (codes "soxchain: effect " ++ decimal number ++ codes " " ++ name ++ codes ": ") ++ fault ++ (codes ": " ++ word ++ line_feed)
 
 -- a fault of all effects together
 abbrev pub effects_message : List ℕ → List ℕ
-effects_message fault = codes "soxchain: effects: " ++ fault ++ [] ++ [] ++ line_feed
+effects_message fault = codes "soxchain: effects: " ++ fault ++ line_feed
 
 -- a head that is refused
 abbrev pub input_message : List ℕ → List ℕ
-input_message fault = codes "soxchain: input: " ++ fault ++ [] ++ [] ++ line_feed
+input_message fault = codes "soxchain: input: " ++ fault ++ line_feed
 
 -- a run that stopped, with the number of frames that were read
 abbrev pub run_message : List ℕ → ℕ → List ℕ
@@ -59,7 +58,7 @@ line_label LineFaults.Memory = codes "5 Memory"
 
 -- a chain for which no memory was found
 abbrev pub chain_message : List ℕ
-chain_message = codes "soxchain: chain: no memory" ++ [] ++ [] ++ [] ++ line_feed
+chain_message = codes "soxchain: chain: " ++ codes "no memory" ++ line_feed
 
 -- number and name of why a plan is refused
 abbrev pub plan_label : PlanCause → List ℕ

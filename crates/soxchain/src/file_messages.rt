@@ -10,12 +10,12 @@ use fx_frame::ByteOut;
 pub fn tell_cannot_open<M: ByteOut>(telling: &mut Telling, messages: &mut M, name: &str)
     ensures { TellsMore telling.old.has_failed telling.new.has_failed (M.taken messages.old) (M.taken messages.new) (M.failures messages.old) (M.failures messages.new) (open_message name.now) }
 {
-    telling.sentence(messages, "soxchain: cannot open ", name, "", "", "\n");
+    telling.note(messages, "soxchain: cannot open ", name);
 }
 
 /// `soxchain: cannot rewrite NAME`, where the head of this file cannot be written again with its true sizes.
 pub fn tell_cannot_rewrite<M: ByteOut>(telling: &mut Telling, messages: &mut M, name: &str)
     ensures { TellsMore telling.old.has_failed telling.new.has_failed (M.taken messages.old) (M.taken messages.new) (M.failures messages.old) (M.failures messages.new) (rewrite_message name.now) }
 {
-    telling.sentence(messages, "soxchain: cannot rewrite ", name, "", "", "\n");
+    telling.note(messages, "soxchain: cannot rewrite ", name);
 }

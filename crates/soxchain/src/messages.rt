@@ -19,7 +19,7 @@ use itoa::Buffer;
 pub fn tell_line<M: ByteOut>(telling: &mut Telling, messages: &mut M, fault: &str)
     ensures { TellsMore telling.old.has_failed telling.new.has_failed (M.taken messages.old) (M.taken messages.new) (M.failures messages.old) (M.failures messages.new) (line_message fault.now) }
 {
-    telling.sentence(messages, "soxchain: command line: ", fault, "", "", "\n");
+    telling.note(messages, "soxchain: command line: ", fault);
 }
 
 /// `soxchain: effect 1 vol: 5 BadArgument: x`, with the effect's number and name, the fault's number and name, and the word.
@@ -42,21 +42,22 @@ pub fn tell_effect<M: ByteOut>(
         name,
         ": ",
     );
-    telling.sentence(messages, fault, ": ", word, "\n", "");
+    telling.text(messages, fault);
+    telling.note(messages, ": ", word);
 }
 
 /// `soxchain: effects: 14 HoldTooLarge`, with the number and name of the fault.
 pub fn tell_effects<M: ByteOut>(telling: &mut Telling, messages: &mut M, fault: &str)
     ensures { TellsMore telling.old.has_failed telling.new.has_failed (M.taken messages.old) (M.taken messages.new) (M.failures messages.old) (M.failures messages.new) (effects_message fault.now) }
 {
-    telling.sentence(messages, "soxchain: effects: ", fault, "", "", "\n");
+    telling.note(messages, "soxchain: effects: ", fault);
 }
 
 /// `soxchain: input: 3 Truncated`, with the number and name of the fault.
 pub fn tell_input<M: ByteOut>(telling: &mut Telling, messages: &mut M, fault: &str)
     ensures { TellsMore telling.old.has_failed telling.new.has_failed (M.taken messages.old) (M.taken messages.new) (M.failures messages.old) (M.failures messages.new) (input_message fault.now) }
 {
-    telling.sentence(messages, "soxchain: input: ", fault, "", "", "\n");
+    telling.note(messages, "soxchain: input: ", fault);
 }
 
 /// `soxchain: run: 1 ReadFailed after frames 5`, with the number and name of the fault and the frames that were read.
@@ -109,7 +110,7 @@ pub fn label_of_line(fault: LineFault) -> &'static str
 pub fn tell_chain<M: ByteOut>(telling: &mut Telling, messages: &mut M)
     ensures { TellsMore telling.old.has_failed telling.new.has_failed (M.taken messages.old) (M.taken messages.new) (M.failures messages.old) (M.failures messages.new) chain_message }
 {
-    telling.sentence(messages, "soxchain: chain: no memory", "", "", "", "\n");
+    telling.note(messages, "soxchain: chain: ", "no memory");
 }
 
 // Number and name of what is wrong with a head.

@@ -1,6 +1,7 @@
 //! Messages on their way to a writer that may fail.
 ghost use Rattle.std.specs.Prelude.{◌≡◌, ℕ, ◌++◌, ◌^◌, ◌<◌, Bool, false, MatchBool, length};
 ghost use Rattle.std.specs.Io.KnownBytes.{Appends};
+ghost use Rattle.soxchain.specs.Messages.{line_feed};
 ghost use Rattle.soxchain.specs.Telling.{ToldFront, TellsMore};
 
 use fx_frame::{ByteOut, Failed};
@@ -28,6 +29,15 @@ impl Telling {
         }
         let is_whole = hand(messages, text.as_bytes());
         self.has_failed = !is_whole;
+    }
+
+    /// Writes what a line is about, what it says of that, and the end of the line.
+    pub fn note<M: ByteOut>(&mut self, messages: &mut M, subject: &str, what: &str)
+        ensures { TellsMore self.old.has_failed self.new.has_failed (M.taken messages.old) (M.taken messages.new) (M.failures messages.old) (M.failures messages.new) (subject.now ++ what.now ++ line_feed) }
+    {
+        self.text(messages, subject);
+        self.text(messages, what);
+        self.text(messages, "\n");
     }
 
     /// Writes five texts, one behind the other.

@@ -1,4 +1,4 @@
-use Rattle.std.proofs.Common.{◌≡◌, ◌+◌, ◌∙◌, refl, sym, ap, arith, length}
+use Rattle.std.proofs.Common.{◌∙◌, refl, ap, arith, length}
 use Rattle.fx_chain.proofs.Draining.{Drained-more, Drained-none, Drained-still, CutOff-more, given_by-few, no_frame}
 use Rattle.fx_chain.proofs.drain.drain.Goals as goal
 

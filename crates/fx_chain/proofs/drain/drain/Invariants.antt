@@ -1,4 +1,4 @@
-use Rattle.std.proofs.Common.{◌≡◌, ◌+◌, ◌-◌, ◌*◌, ◌≤◌, ◌^◌, length}
+use Rattle.std.proofs.Common.{◌≡◌, ◌+◌, ◌-◌, ◌*◌, ◌≤◌, length}
 use Rattle.fx_chain.specs.Through.{Drained}
 use Rattle.fx_flow.specs.Parts.{given_by, work, taken_of, ended_of, moves_of}
 use Rattle.fx_frame.specs.Holds.{kinds, recipes}

@@ -1,4 +1,4 @@
-use Rattle.std.proofs.Common.{◌≡◌, ℕ, ◌≤◌, ◌+◌, ◌++◌, ◌-◌, map, replicate, length, arith, ap, sym, ◌∙◌}
+use Rattle.std.proofs.Common.{ℕ, ◌+◌, ◌++◌, ◌-◌, map, replicate, arith, ap, sym, ◌∙◌}
 use Rattle.std.proofs.lemmas.List.{length-map, take-map}
 use Rattle.fx_chain.proofs.Running.{row-more}
 use Rattle.fx_chain.proofs.flow_run.clips_of_stages.Goals as goal

@@ -1,7 +1,5 @@
-use Rattle.std.proofs.Common.{◌∙◌, ap, add-zero}
-use Rattle.fx_chain.specs.Due.{dues}
+use Rattle.std.proofs.Common.{add-zero}
 use Rattle.fx_chain.proofs.Reaching.{givens-due}
-use Rattle.fx_frame.specs.Holds.{kinds}
 use Rattle.fx_chain.proofs.flow_run.report_of.Goals as goal
 
 pub returns-clause-due : goal.returns-clause-due

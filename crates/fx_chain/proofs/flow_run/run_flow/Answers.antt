@@ -1,10 +1,8 @@
-use Rattle.std.proofs.Common.{rules, ◌≡◌, ◌∙◌, [], ◌++◌, inl, inr, length, refl, sym, ap}
+use Rattle.std.proofs.Common.{rules, ◌≡◌, ◌∙◌, inl, inr, length, refl, sym, ap}
 use Rattle.std.specs.Prelude.{Err}
 use Rattle.fx_chain.specs.declared.pump.Cause.TheVariants.{ReadFailed, WriteFailed, TooLong}
 use Rattle.fx_chain.specs.Outlet.{coded_clips}
 use Rattle.std.proofs.lemmas.List.{append-nil}
-use Rattle.fx_flow.specs.Parts.{due_of}
-use Rattle.fx_frame.specs.Holds.{kinds}
 use Rattle.fx_chain.specs.Report.{row_of, start_of}
 use Rattle.fx_chain.specs.Run.{sound_frames}
 use Rattle.fx_chain.proofs.Running.{Sent-total, all-given, clips-all, moves-all, ended-known, ends-known, not-over, sound-length, stopped-due, stopped-front, wrote-all, wrote-front}

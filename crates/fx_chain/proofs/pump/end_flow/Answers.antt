@@ -1,4 +1,4 @@
-use Rattle.std.proofs.Common.{◌≤◌, ◌∙◌, ap, arith}
+use Rattle.std.proofs.Common.{◌∙◌, ap, arith}
 use Rattle.fx_flow.specs.Parts.{Parts}
 use Rattle.fx_frame.specs.Holds.{recipes}
 use Rattle.fx_chain.proofs.Draining.{given_by-few}

@@ -1,20 +1,17 @@
 use Rattle.std.proofs.Common.{refl}
 use Rattle.std.specs.Prelude.{Ok, Err}
+use Rattle.fx_chain.specs.Report.{cause_of}
+use Rattle.soxchain.proofs.Converting.{HasCause-map, ReadFirst-new, wants-new}
 use Rattle.soxchain.proofs.TellingLemmas.{Tells-first}
 use Rattle.soxchain.proofs.ready.finish.Goals as goal
 
 pub returns-in-Ok : goal.returns-in-Ok
 returns-in-Ok g c = record {
   outcome = Ok c.in-Ok.report;
-  at = c.run.new.chain.flow;
-  completed = rw (c.requires.plan) at c.in-Ok.ensures.completed;
+  ran = c.in-Ok.ensures.ran c.requires;
   all_flushed = c.in-Ok.ensures.flushed;
-  stopped = tt;
   read_failed = tt;
-  wants = c.in-Ok.ensures.wants;
-  read = c.in-Ok.ensures.taken;
-  clips = c.in-Ok.ensures.clips;
-  moves = c.in-Ok.ensures.moves;
+  wants = wants-new _ _ c.requires _ c.in-Ok.ensures.wants;
   work = rw (c.requires.plan) at c.in-Ok.ensures.work;
   causes = c.in-Ok.ensures.causes;
   status_is = refl;
@@ -23,20 +20,17 @@ returns-in-Ok g c = record {
 }
 
 pub returns : goal.returns
-returns g c = record {
-  outcome = Err c.in-Err.fault;
-  at = c.run.new.chain.flow;
-  completed = tt;
-  all_flushed = tt;
-  stopped = rw (c.requires.plan) at c.in-Err.ensures.stopped;
-  read_failed = rw (c.requires.plan) at c.in-Err.ensures.read_failed;
-  wants = c.in-Err.ensures.wants;
-  read = c.in-Err.ensures.taken;
-  clips = c.in-Err.ensures.clips;
-  moves = c.in-Err.ensures.moves;
-  work = rw (c.requires.plan) at c.in-Err.ensures.work;
-  causes = rw (c.requires.plan) at c.in-Err.ensures.causes;
-  status_is = refl;
-  report_is = c.report.ensures;
-  told_is = Tells-first _ _ _ _ _ _ _ c.new-telling.ensures c.tell_fault.ensures;
-}
+returns g c =
+    let caused = rw (c.requires.plan) at c.in-Err.ensures.causes in
+    record {
+      outcome = Err c.in-Err.fault;
+      ran = c.in-Err.ensures.ran c.requires;
+      all_flushed = tt;
+      read_failed = rw (c.requires.plan) at c.in-Err.ensures.read_failed;
+      wants = wants-new _ _ c.requires _ c.in-Err.ensures.wants;
+      work = rw (c.requires.plan) at c.in-Err.ensures.work;
+      causes = HasCause-map _ _ (ReadFirst-new g.R.ByteIn.told _ _ c.requires _ _ _ _) (cause_of c.in-Err.fault) _ _ _ _ caused;
+      status_is = refl;
+      report_is = c.report.ensures;
+      told_is = Tells-first _ _ _ _ _ _ _ c.new-telling.ensures c.tell_fault.ensures;
+    }

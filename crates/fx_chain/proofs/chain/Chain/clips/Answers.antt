@@ -1,4 +1,4 @@
-use Rattle.std.proofs.Common.{rules, ◌≡◌, ◌≤◌, ◌+◌, ◌-◌, ◌<◌, length, arith}
+use Rattle.std.proofs.Common.{arith}
 use Rattle.fx_chain.proofs.Chaining.{count-is}
 use Rattle.fx_chain.proofs.chain.Chain.clips.Goals as goal
 

@@ -1,4 +1,4 @@
-use Rattle.std.proofs.Common.{rules, ◌≡◌, ◌≤◌, ◌+◌, ◌∙◌, arith}
+use Rattle.std.proofs.Common.{◌∙◌}
 use Rattle.fx_chain.proofs.Chaining.{hold-is, lines-are}
 use Rattle.fx_chain.proofs.chain.Chain.hold.Goals as goal
 

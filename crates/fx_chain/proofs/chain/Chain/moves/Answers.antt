@@ -1,4 +1,3 @@
-use Rattle.std.proofs.Common.{rules, ◌≡◌, ◌≤◌, ◌+◌, arith}
 use Rattle.fx_chain.proofs.Chaining.{work-is}
 use Rattle.fx_chain.proofs.chain.Chain.moves.Goals as goal
 

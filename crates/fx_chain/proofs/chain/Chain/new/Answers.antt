@@ -1,4 +1,4 @@
-use Rattle.std.proofs.Common.{rules, ◌≡◌, ◌≤◌, ◌+◌, ◌∙◌, map, arith}
+use Rattle.std.proofs.Common.{map}
 use Rattle.std.proofs.lemmas.List.{length-map}
 use Rattle.fx_chain.proofs.Chaining.{planned-is}
 use Rattle.fx_plan.specs.Effects.{act, head_layout}
