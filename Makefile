@@ -87,7 +87,7 @@ dist: deb
 check-docs: build/soxchain build/soxchain-plan
 	@scripts/docs_tools
 	@scripts/check_docs --all
-	@mandoc -T lint man/*.1
+	@cd man && mandoc -T lint *.1
 	@scripts/checks/completion
 
 # Two builds in two folders give the same bytes.

@@ -5,33 +5,37 @@ use fx_frame::ByteOut;
 use soxchain_about::{VERSION, answer_to, show};
 
 /// The answer to `--help`.
-const HELP: &str =
-    "usage: soxchain [-D] [-t wav|au] IN|- [-D] [-t wav|au] [-b 8|16|24|32] OUT|- [EFFECT [WORD ..] ..]
+const HELP: &str = "usage: soxchain [-D] [-t wav|au] IN [-D] [-t wav|au] [-b 8|16|24|32] OUT
+                [EFFECT [WORD ..] ..]
        soxchain --help | --version
 
-Puts the sound of IN (WAVE or AU) through the effects, in their order, into OUT. - is standard input or output.
+Puts the sound of IN (WAVE or AU) through the effects, in their order, into OUT.
+As IN or OUT, - is standard input or standard output.
 
-  -t KIND   the container of the file behind it: wav or au (OUT: else by its ending, .wav, .au or .snd)
+  -t KIND   the container of the file behind it: wav or au
+            (else IN is looked at, and OUT has to end in .wav, .au or .snd)
   -b BITS   the bits of a sample of OUT: 8, 16, 24 or 32 (else those of IN)
   -D        nothing: no dither is ever added
 
 effects:
-  trim {POSITION}                          keeps what lies between positions, in turn
-  pad {LENGTH[@POSITION]}                  puts silence in
-  delay {POSITION}                         delays each channel by its own time
-  echo GAIN-IN GAIN-OUT <DELAY DECAY>      adds echoes, delays in milliseconds
-  echos GAIN-IN GAIN-OUT <DELAY DECAY>     adds echoes in series
-  fade t IN [STOP [OUT]]                   fades in and out, in straight lines
-  vol GAIN [amplitude]                     multiplies each sample
-  dcshift SHIFT                            shifts each sample, 1 is full scale
-  fir FILE | fir NUMBER ..                 filters by coefficients
-  remix [-a|-m] OUT-SPEC ..                mixes channels: 1,2 or 2-3v0.5 or 0
-  upsample [FACTOR]                        puts silent frames between
-  downsample [FACTOR]                      keeps each frame at a multiple of FACTOR
+  trim {POSITION}                        keeps what lies between positions
+  pad {LENGTH[@POSITION]}                puts silence in
+  delay {POSITION}                       delays each channel by its own time
+  echo GAIN-IN GAIN-OUT <DELAY DECAY>    adds echoes, delays in milliseconds
+  echos GAIN-IN GAIN-OUT <DELAY DECAY>   adds echoes in series
+  fade t IN [STOP [OUT]]                 fades in and out, in straight lines
+  vol GAIN [amplitude]                   multiplies each sample
+  dcshift SHIFT                          shifts each sample, 1 is full scale
+  fir FILE | fir NUMBER ..               filters by coefficients
+  remix [-a|-m] OUT-SPEC ..              mixes channels: 1,2 or 2-3v0.5 or 0
+  upsample [FACTOR]                      puts silent frames between
+  downsample [FACTOR]                    keeps frames at multiples of FACTOR
 
-status: 0 done, 1 the words are refused, 2 any other fault; each fault and warning is a line on standard error
+status: 0 done, 1 the words are refused, 2 any other fault
+Each fault and each warning is one line on standard error.
 
-soxchain-plan, with the same words, says in advance what a chain holds and gives. The manual: man soxchain
+soxchain-plan says in advance, with the same words, what a chain would do.
+The manual: man soxchain
 ";
 
 /// The answer to the words, where they are `--help` or `--version` alone.

@@ -88,6 +88,23 @@ fn limits_of(name: &str) -> &'static str {
     }
 }
 
+/// The effect that was meant by a word that is none.
+fn meant_by(word: &str) -> &'static str {
+    match word {
+        "volume" | "amplify" => "say vol and a factor: vol 0.5",
+        "cut" | "crop" | "slice" =>
+            "say trim and two positions: trim 1.5 =3 keeps what lies between",
+        "fadein" | "fadeout" | "fade-in" | "fade-out" =>
+            "say fade t: fade t 1 -0 2 fades in over 1 second and out over 2",
+        "mix" | "merge" | "mono" | "stereo" =>
+            "say remix: remix 1,2 makes one channel of two, remix 1 1 two of one",
+        "filter" => "say fir and a file of coefficients, or the numbers: fir 0.25 0.5 0.25",
+        "silent" | "padding" => "say pad and a length: pad 1 or pad 1@30",
+        "echoes" => "say echo, or echos: echo 0.8 0.9 100 0.3",
+        _ => EFFECTS,
+    }
+}
+
 /// What stands for words that are left out.
 fn instead_of(name: &str) -> &'static str {
     match name {
@@ -95,6 +112,8 @@ fn instead_of(name: &str) -> &'static str {
         "vol" => "say a factor: vol 0.501187 for vol -6dB, by 10 ^ (dB / 20); there is no limiter",
         "remix" => "say factors: 1v0.5; neither -p nor decibels",
         "fir" => "name a file, or say the numbers: fir 0.25 0.5 0.25",
+        "gain" => "say a factor with vol: vol 0.501187 for gain -6, by 10 ^ (dB / 20)",
+        "channels" => "say remix: remix 1,2 makes one channel of two, remix 1 1 two of one",
         "rate" => "sox has it: soxchain IN -t au - .. | sox -t au - OUT rate 8k",
         _ => "sox has it: soxchain IN -t au - .. | sox -t au - OUT EFFECT ..",
     }
@@ -103,7 +122,7 @@ fn instead_of(name: &str) -> &'static str {
 /// Where the effects are refused; the name is that of the effect, or no text.
 pub fn advice_on_plan(cause: PlanCause, name: &str) -> &'static str {
     match cause {
-        PlanCause::UnknownEffect => EFFECTS,
+        PlanCause::UnknownEffect => meant_by(name),
         PlanCause::NotInProfile => instead_of(name),
         PlanCause::NeedsWholeSound =>
             "it needs the whole sound before it gives a frame: sox IN OUT EFFECT .. holds it",

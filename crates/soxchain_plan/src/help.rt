@@ -4,16 +4,22 @@
 pub const HELP: &str = "usage: soxchain-plan [--json] WORD ..
        soxchain-plan --help | --version
 
-Says what soxchain would do with the same words, and changes nothing. Of IN only the head is read; OUT is not made.
+Says what soxchain would do with the same words, and changes nothing. Of IN only
+the head is read; OUT is not made.
 
-For IN and OUT it prints kind, rate, channels, bits and frames; for each effect and for the chain the frames that it may
-hold, with the bytes of their samples; and by how many frames an effect gives later than it takes. Lengths are those of a
-sound as long as its head announces. With --json as the first word it prints the same as one JSON object.
+For IN and OUT it prints kind, rate, channels, bits and frames; for each effect
+and for the chain the frames that it may hold, with the bytes of their samples;
+and by how many frames of its input an effect gives later than it takes. Lengths
+are those of a sound as long as its head announces.
 
-A refusal has the message and the status of soxchain, and then a line that says what to do.
+  --json    as the first word: prints the same as one JSON object
 
-effects:
-  trim pad delay echo echos fade vol dcshift fir remix upsample downsample (soxchain --help has their words)
+A refusal has the message and the status of soxchain, and then a line that says
+what to do.
 
-status: 0 there is a plan, 1 the words are refused, 2 any other fault. The manual: man soxchain-plan
+effects (soxchain --help has their words):
+  trim pad delay echo echos fade vol dcshift fir remix upsample downsample
+
+status: 0 there is a plan, 1 the words are refused, 2 any other fault
+The manual: man soxchain-plan
 ";

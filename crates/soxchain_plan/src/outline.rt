@@ -1,4 +1,7 @@
 //! What a plan says, and how it is shown.
+ghost use Rattle.std.specs.Prelude.{◌≡◌, IfOk};
+ghost use Rattle.fx_plan.specs.Bounds.{hold_all};
+ghost use Rattle.fx_plan.specs.Planning.{planning};
 
 use crate::lengths::{bytes_held, channels_behind, frames_behind, lateness};
 use crate::quoting::{bits_of, name_of_kind};
@@ -62,7 +65,11 @@ fn input_of(head: &Head) -> SoundOutline {
 }
 
 /// What a plan says, behind the head of the input.
-pub fn outline_of(alloc: Global, head: &Head, plan: &Plan) -> Result<Outline, AllocError> {
+pub fn outline_of(alloc: Global, head: &Head, plan: &Plan) -> Result<Outline, AllocError>
+    ensures hold { IfOk result (λ outline. outline.hold ≡ hold_all (planning plan.now).acts) }
+    ensures rate { IfOk result (λ outline. outline.output.rate ≡ (planning plan.now).layout.rate) }
+    ensures channels { IfOk result (λ outline. outline.output.channels ≡ (planning plan.now).layout.channels) }
+{
     let input = input_of(head);
     let mut effects = Vec::new(alloc);
     let mut frames = input.frames;

@@ -1,4 +1,7 @@
 //! Why there is no plan: the message of soxchain and its status, and what to do.
+ghost use Rattle.std.specs.Prelude.{◌≡◌};
+ghost use Rattle.soxchain.specs.Telling.{Tells};
+ghost use Rattle.soxchain_plan.specs.Stops.{message_of, status_of};
 
 use crate::advice::{
     OPENING, REACHING, advice_on_head, advice_on_line, advice_on_memory, advice_on_plan,
@@ -33,7 +36,9 @@ fn name_of(line: &CommandLine, number: usize) -> &str {
 
 impl Stop<'_> {
     /// The status of soxchain.
-    pub fn status(&self) -> u8 {
+    pub fn status(&self) -> u8
+        ensures { result ≡ status_of self.now }
+    {
         match self {
             Stop::Line(fault) => status_of_fault(*fault),
             Stop::CannotOpen(_) => 2,
@@ -56,7 +61,9 @@ impl Stop<'_> {
     }
 
     /// Tells the message of soxchain.
-    pub fn tell_message<M: ByteOut>(&self, messages: &mut M) {
+    pub fn tell_message<M: ByteOut>(&self, messages: &mut M)
+        ensures { Tells (M.taken messages.old) (M.taken messages.new) (M.failures messages.old) (M.failures messages.new) (message_of self.now) }
+    {
         let mut telling = Telling::new();
         match self {
             Stop::Line(fault) => tell_line(&mut telling, messages, label_of_line(*fault)),
@@ -66,7 +73,9 @@ impl Stop<'_> {
     }
 
     /// Tells the message of soxchain and what to do, a line each, and answers the status.
-    pub fn tell<M: ByteOut>(&self, messages: &mut M) -> u8 {
+    pub fn tell<M: ByteOut>(&self, messages: &mut M) -> u8
+        ensures { result ≡ status_of self.now }
+    {
         self.tell_message(messages);
         let mut telling = Telling::new();
         telling.text(messages, "soxchain-plan: ");

@@ -1,4 +1,4 @@
-use Rattle.std.proofs.Common.{◌≡◌, ◌≤◌, ◌-◌, length}
+use Rattle.std.proofs.Common.{◌≤◌, ◌-◌, length}
 use Rattle.fx_plan.specs.CommandLines.{coefficient_files, effects_in}
 use Rattle.soxchain_plan.proofs.reading.read_files.Given as goal
 
