@@ -136,8 +136,10 @@ pub record Broken (p : Planning) (bytes : List ℕ) (first now : Option (List �
       ((r.frames_in ≡ length (sound_in p.head bytes)) × (r.missing ≡ lacking p.head.announced (length (within p.head.announced bytes))) × (r.stray ≡ length (within p.head.announced bytes) % frame_size p.head.coding p.head.channels))
       ((r.missing ≡ 0) × (r.stray ≡ 0))
 
--- where the writer failed a read had failed before: all whole frames that were told had come, and no effect had enough of them
-pub record ReadFirst {R : Type 0} (told : R → ℕ) (old : Held R) (new : R) (p : Planning) (n : ℕ) : Type 0 where
+-- where the writer failed a read had failed before: all whole frames that were told had come, no effect had enough of them, and
+-- all that was due had been given
+pub record ReadFirst {R : Type 0} (told : R → ℕ) (old : Held R) (new : R) (p : Planning) (n given : ℕ) : Type 0 where
+  pub due : given ≡ due_of (kinds_of p) n
   pub not_enough : enough_for (kinds_of p) n ≡ false
   pub read_failed : RanToFailure told old new (start_of p.head) n
 
