@@ -233,8 +233,8 @@ module _ (p : Planning) (c : ChainParts) (new : IsNewChain p c) where
       wrote (inr all) = inr (all.0, rw (ap (output_of (target_for p)) (new.gives (sound_frames (start_of p.head) (report_at f).frames_in bytes) ∙ ap (chain_gives p) (sound-first p.head (report_at f).frames_in bytes some done.whole))) at all.1)
 
       ended : (b : Bool) → MatchBool b (RanToEnd (start_of p.head) bytes (report_at f).frames_in (report_at f).missing (report_at f).stray) (((report_at f).missing ≡ 0) × ((report_at f).stray ≡ 0))
-          → MatchBool b (((report_at f).missing ≡ lacking p.head.announced (length (within p.head.announced bytes))) × ((report_at f).stray ≡ length (within p.head.announced bytes) % frame_size p.head.coding p.head.channels)) (((report_at f).missing ≡ 0) × ((report_at f).stray ≡ 0))
-      ended true over = (over.lacks, over.strays)
+          → MatchBool b (((report_at f).frames_in ≡ length (sound_in p.head bytes)) × ((report_at f).missing ≡ lacking p.head.announced (length (within p.head.announced bytes))) × ((report_at f).stray ≡ length (within p.head.announced bytes) % frame_size p.head.coding p.head.channels)) (((report_at f).missing ≡ 0) × ((report_at f).stray ≡ 0))
+      ended true over = (over.count ∙ sym (sound-count p.head bytes), over.lacks, over.strays)
       ended false zeros = zeros
 
   -- a run that stopped, whatever stopped it

@@ -94,7 +94,8 @@ module _ {S R : Type 0} (acts : Acts S R) where
     pub reached : Reached acts start frames (take r.frames_out (rest_of acts start frames)) at
 
   -- A read had failed before: all whole frames of what was told had been taken, and all that was due had been given.
-  pub record ReadBefore {D : Type 0} (told : D → ℕ) (old : Held D) (new : D) (start at : Parts S) (sound : Reading) (n : ℕ) : Type 0 where
+  pub record ReadBefore {D : Type 0} (told : D → ℕ) (old : Held D) (new : D) (start at : Parts S) (sound : Reading) (n given : ℕ) : Type 0 where
+    pub due : given ≡ due_of (kinds acts start.stages) n
     pub hungry : IsHungry acts at
     pub not_enough : enough_for (kinds acts start.stages) n ≡ false
     pub read_failed : RanToFailure told old new sound n

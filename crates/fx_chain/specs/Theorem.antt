@@ -131,13 +131,15 @@ pub record Broken (p : Planning) (bytes : List ℕ) (first now : Option (List �
   pub out_clips : r.out_clips ≡ coded_clips p.coding given
   pub wrote : WroteFront first now r.bytes_out (head_for (target_for p) ++ coded p.coding given)
       ⊎ (IsDone effect_acts at × WroteFront first now r.bytes_out (output_of (target_for p) (chain_gives p (take r.frames_in (sound_in p.head bytes)))))
-  -- where the end of the sound was met, its bytes that lack or are stray are counted
+  -- where the end of the sound was met, all of it had been read, and its bytes that lack or are stray are counted
   pub ends : MatchBool (met_end at.ended (enough_for (kinds_of p) r.frames_in))
-      ((r.missing ≡ lacking p.head.announced (length (within p.head.announced bytes))) × (r.stray ≡ length (within p.head.announced bytes) % frame_size p.head.coding p.head.channels))
+      ((r.frames_in ≡ length (sound_in p.head bytes)) × (r.missing ≡ lacking p.head.announced (length (within p.head.announced bytes))) × (r.stray ≡ length (within p.head.announced bytes) % frame_size p.head.coding p.head.channels))
       ((r.missing ≡ 0) × (r.stray ≡ 0))
 
--- where the writer failed a read had failed before: all whole frames that were told had come, and no effect had enough of them
-pub record ReadFirst {R : Type 0} (told : R → ℕ) (old : Held R) (new : R) (p : Planning) (n : ℕ) : Type 0 where
+-- where the writer failed a read had failed before: all whole frames that were told had come, no effect had enough of them, and
+-- all that was due had been given
+pub record ReadFirst {R : Type 0} (told : R → ℕ) (old : Held R) (new : R) (p : Planning) (n given : ℕ) : Type 0 where
+  pub due : given ≡ due_of (kinds_of p) n
   pub not_enough : enough_for (kinds_of p) n ≡ false
   pub read_failed : RanToFailure told old new (start_of p.head) n
 

@@ -132,7 +132,7 @@ pub fn run_flow<R: ByteIn, S: Feeds, W: ByteOut>(
     // A fault is answered only where its cause was counted.
     ensures causes { MatchResult result
         (λ _. (R.failures source.new.reader ≡ R.failures source.old.reader) × (W.failures writer.new ≡ W.failures writer.old))
-        (λ f. HasCause (cause_of f) (ReadBefore S.acts R.told source.old source.new.reader flow.old flow.new (start_of head.now) (report_at f).frames_in) (R.failures source.old.reader) (R.failures source.new.reader) (W.failures writer.old) (W.failures writer.new)) }
+        (λ f. HasCause (cause_of f) (ReadBefore S.acts R.told source.old source.new.reader flow.old flow.new (start_of head.now) (report_at f).frames_in (report_at f).frames_out) (R.failures source.old.reader) (R.failures source.new.reader) (W.failures writer.old) (W.failures writer.new)) }
 {
     let mut progress = Progress::new(head);
     let mut outlet = Outlet {

@@ -74,7 +74,7 @@ pub fn run<R: ByteIn, W: ByteOut>(
     // A fault is answered only where its cause was counted.
     ensures causes { MatchResult result
         (λ _. (R.failures source.new.reader ≡ R.failures source.old.reader) × (W.failures writer.new ≡ W.failures writer.old))
-        (λ f. HasCause (cause_of f) (ReadBefore effect_acts R.told source.old source.new.reader chain.old.flow chain.new.flow (start_of chain.old.plan.head) (report_at f).frames_in) (R.failures source.old.reader) (R.failures source.new.reader) (W.failures writer.old) (W.failures writer.new)) }
+        (λ f. HasCause (cause_of f) (ReadBefore effect_acts R.told source.old source.new.reader chain.old.flow chain.new.flow (start_of chain.old.plan.head) (report_at f).frames_in (report_at f).frames_out) (R.failures source.old.reader) (R.failures source.new.reader) (W.failures writer.old) (W.failures writer.new)) }
 {
     run_flow(
         &mut chain.flow,

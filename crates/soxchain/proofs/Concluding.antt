@@ -170,7 +170,7 @@ module _ {R W : Type 0} (rest : R → Option (List ℕ)) (told reads : R → ℕ
                 run = running bytes (report_at fault) known (ap report_in e);
                 ran = rw e at f.ran (drop head.offset bytes) head.others;
                 read_failed = λ c few. rw (← is) at (told-of (rw e at f.read_failed c) (rw is at few));
-                read_before = λ c. rw (is, ← began.unfailed) (HasCause-before _ (ToldFirst told reader new.reader (planning ready.prepared.plan) head.offset (report_at fault).frames_in) (cause_of fault) _ _ _ _ c (rw e at f.causes) (λ q. record { not_enough = q.not_enough; took_all = λ few. told-of q.read_failed few }));
+                read_before = λ c. rw (is, ← began.unfailed) (HasCause-before _ (ToldFirst told reader new.reader (planning ready.prepared.plan) head.offset (report_at fault).frames_in (report_at fault).frames_out) (cause_of fault) _ _ _ _ c (rw e at f.causes) (λ q. record { due = q.due; not_enough = q.not_enough; took_all = λ few. told-of q.read_failed few }));
               });
           causes = λ s h.
               let same : Run fault ≡ s = cc in

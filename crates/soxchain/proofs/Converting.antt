@@ -82,8 +82,9 @@ kinds-new p c new = ap (map effect_acts.kind_of) new.made
 pub wants-new : (p : Planning) (c : ChainParts) → IsNewChain p c → (n : ℕ) → WantsMore (kinds effect_acts c.flow.stages) n → WantsMore (kinds_of p) n
 wants-new p c new n wants = λ m few. rw (← kinds-new p c new) (wants m few)
 
-pub ReadFirst-new : {R : Type 0} (told : R → ℕ) (p : Planning) (c : ChainParts) → IsNewChain p c → (at : Parts EffectStage) (old : Held R) (new : R) (n : ℕ) → ReadBefore effect_acts told old new c.flow at (start_of p.head) n → ReadFirst told old new p n
-ReadFirst-new told p c is at old new n before = record {
+pub ReadFirst-new : {R : Type 0} (told : R → ℕ) (p : Planning) (c : ChainParts) → IsNewChain p c → (at : Parts EffectStage) (old : Held R) (new : R) (n given : ℕ) → ReadBefore effect_acts told old new c.flow at (start_of p.head) n given → ReadFirst told old new p n given
+ReadFirst-new told p c is at old new n given before = record {
+  due = rw (← kinds-new p c is) before.due;
   not_enough = rw (← kinds-new p c is) before.not_enough;
   read_failed = before.read_failed;
 }

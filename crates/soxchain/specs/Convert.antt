@@ -6,7 +6,7 @@ use Rattle.fx_chain.specs.declared.report.RunFault.{RunFault}
 use Rattle.fx_chain.specs.Report.{HasCause, cause_of, report_at, start_of}
 use Rattle.fx_chain.specs.Run.{WantsMore}
 use Rattle.fx_chain.specs.Theorem.{Ran, kinds_of}
-use Rattle.fx_flow.specs.Parts.{enough_for}
+use Rattle.fx_flow.specs.Parts.{due_of, enough_for}
 use Rattle.fx_frame.specs.Io.{saturated}
 use Rattle.fx_line.specs.Line.{Said}
 use Rattle.fx_plan.specs.declared.fault.PlanFault.{PlanFault}
@@ -56,8 +56,9 @@ pub record Whole (line : Said) (files : List (List ℕ)) (bytes : List ℕ) (fir
 abbrev pub TookAllTold : {R : Type 0} → (R → ℕ) → R → R → Head → ℕ → ℕ → Type 0
 TookAllTold told reader new h offset n = told new < 2 ^ 64 - 1 → (told reader + offset ≤ told new) × (n ≡ at_most_announced h.announced (told new - told reader - offset) / size_of (start_of h))
 
--- a read had failed before: all whole frames had come, and no effect had enough of them
-pub record ToldFirst {R : Type 0} (told : R → ℕ) (reader new : R) (plan : Planning) (offset n : ℕ) : Type 0 where
+-- a read had failed before: all whole frames had come, no effect had enough of them, and all that was due had been given
+pub record ToldFirst {R : Type 0} (told : R → ℕ) (reader new : R) (plan : Planning) (offset n given : ℕ) : Type 0 where
+  pub due : given ≡ due_of (kinds_of plan) n
   pub not_enough : enough_for (kinds_of plan) n ≡ false
   pub took_all : TookAllTold told reader new plan.head offset n
 
@@ -70,7 +71,7 @@ pub record Stopped {R : Type 0} (told reads : R → ℕ) (line : Said) (files : 
   pub read_failed : cause_of f ≡ Causes.ReadFailed → TookAllTold told reader new run.plan.head run.offset (report_at f).frames_in
   -- where the writer failed no read had failed, or one had before
   pub read_before : cause_of f ≡ Causes.WriteFailed → (reads new ≡ reads reader)
-      ⊎ ((reads new ≡ saturated (reads reader + 1)) × ToldFirst told reader new run.plan run.offset (report_at f).frames_in)
+      ⊎ ((reads new ≡ saturated (reads reader + 1)) × ToldFirst told reader new run.plan run.offset (report_at f).frames_in (report_at f).frames_out)
 
 -- a stop is answered only where its cause was counted
 abbrev pub StopHasCause : Stop → ℕ → ℕ → ℕ → ℕ → Type 0

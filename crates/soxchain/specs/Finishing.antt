@@ -38,7 +38,7 @@ pub record Finished {R W : Type 0} (rest : R → Option (List ℕ)) (told reads 
   pub work : (report_in outcome).moves ≤ work_of (planning ready.prepared.plan).acts (report_in outcome).frames_in
   pub causes : MatchResult outcome
       (λ _. (reads new_source.reader ≡ reads source.reader) × (writes new_writer ≡ writes writer))
-      (λ f. HasCause (cause_of f) (ReadFirst told source new_source.reader (planning ready.prepared.plan) (report_at f).frames_in) (reads source.reader) (reads new_source.reader) (writes writer) (writes new_writer))
+      (λ f. HasCause (cause_of f) (ReadFirst told source new_source.reader (planning ready.prepared.plan) (report_at f).frames_in (report_at f).frames_out) (reads source.reader) (reads new_source.reader) (writes writer) (writes new_writer))
   pub status_is : status ≡ run_status outcome
   pub report_is : report ≡ report_in outcome
   pub told_is : IsTold (run_messages ready.line outcome)
