@@ -32,3 +32,4 @@ for program in soxchain soxchain-plan
     complete -c $program -n 'test (count (commandline -opc)) -eq 1' -l version -d 'prints the version'
 end
 complete -c soxchain-plan -n 'test (count (commandline -opc)) -eq 1' -l json -d 'prints one JSON object'
+set -e program

@@ -59,6 +59,14 @@ def size_of_head(data):
     return chunk_place(data, b'data') if data[:4] == b'RIFF' else struct.unpack_from('>I', data, 4)[0]
 
 
+def link_refusing(crate, target):
+    """Links the proved object of a program once more, with a malloc that refuses the request that REFUSE names."""
+    kit = os.path.dirname(subprocess.run(['rt', 'doc'], capture_output=True, text=True, check=True).stdout.strip())
+    parts = [os.path.join(TOP, 'crates', crate, 'out', f'{crate}.o'), os.path.join(TOP, 'scripts', 'growth', 'refuse.c')]
+    libraries = [os.path.join(kit, 'c', 'libos_c.a'), os.path.join(kit, 'c', 'liblibc_c.a')]
+    subprocess.run([os.environ.get('CC', 'cc'), '-o', target] + parts + libraries + ['-Wl,--wrap=malloc,--wrap=realloc'], check=True)
+
+
 def content(name):
     with open(name, 'rb') as file:
         return file.read()
