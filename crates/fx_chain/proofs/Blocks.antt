@@ -190,6 +190,7 @@ module _ {S R X : Type 0} (acts : Acts S R) (rest : X → Option (List ℕ)) (to
     most = rw frames-block b.held.few;
     begun = ap (λ (r : Reading). r.over) b.counted ∙ p.begun;
     ends = (ap (λ (r : Reading). r.missing) b.counted ∙ p.ends.0, ap (λ (r : Reading). r.stray) b.counted ∙ p.ends.1);
+    running = q.gives.ended ∙ running-block;
     taken = q.gives.taken ∙ taken-block;
     stay = q.gives.recipes_stay ∙ b.gave.recipes_stay ∙ p.stay;
     kept = q.gives.channels ∙ b.gave.channels ∙ p.kept;

@@ -52,6 +52,7 @@ module _ {S R X : Type 0} (acts : Acts S R) (rest : X → Option (List ℕ)) (to
     pub most : progress.frames ≤ MOST_FRAMES
     pub begun : progress.over ≡ false
     pub ends : (progress.missing ≡ 0) × (progress.stray ≡ 0)
+    pub running : flow.ended ≡ false
     pub taken : taken_of flow ≡ progress.frames
     pub stay : recipes acts flow.stages ≡ recipes acts first.flow.stages
     pub kept : flow.channels ≡ first.flow.channels

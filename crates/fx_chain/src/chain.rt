@@ -1,6 +1,8 @@
 //! The chain of a plan's effects.
-ghost use Rattle.std.specs.Prelude.{◌≡◌, ◌<◌, ◌≤◌, ◌+◌, ◌-◌, ℕ, IfOk, List, Some, [], length, map, option_to_list, slice_index, true};
+ghost use Rattle.std.specs.Prelude.{◌≡◌, ◌<◌, ◌≤◌, ◌+◌, ◌-◌, ◌*◌, ℕ, false, drop, IfOk, List, Some, [], length, map, option_to_list, slice_index, true};
 ghost use Rattle.fx_chain.specs.Chain.{IsNewChain};
+ghost use Rattle.fx_flow.specs.Feed.{FlowFed, outputs_of};
+ghost use Rattle.fx_frame.specs.Ring.{pieces};
 ghost use Rattle.fx_flow.specs.Parts.{AllNew, any_spent, due_of, enough_for, given_by, moves_of, taken_of};
 ghost use Rattle.fx_flow.specs.Sound.{most_frames};
 ghost use Rattle.fx_flow.specs.Steps.{IsDone, IsHungry, MovedOn, StateIs, Steps, rest_of, wholes_of};
@@ -11,7 +13,7 @@ ghost use Rattle.fx_plan.specs.Planning.{planning};
 ghost use Rattle.fx_stages.specs.Effects.{effect_acts};
 
 use fx_flow::flow::{Flow, State, Step};
-use fx_frame::Frame;
+use fx_frame::{Frame, Passed};
 use fx_plan::Plan;
 use fx_stages::{EffectStage, stages_of};
 use std::alloc::{AllocError, Global};
@@ -90,6 +92,25 @@ impl Chain {
         ensures plan { self.new.plan ≡ self.old.plan }
     {
         self.flow.step()
+    }
+
+    /// Takes frames from the front of the input, and writes those that are given to the front of the output: samples of
+    /// frames lie one after another, channel by channel. Each frame goes through all effects before the next one is taken, as
+    /// by `take` and `step`; until the output has no room for another frame, or the chain is done, or it is hungry and takes
+    /// none, since the input is used up or some effect gives nothing more.
+    pub fn feed(&mut self, input: &[i32], output: &mut [i32]) -> Passed
+        requires channels { (1 ≤ self.old.plan.head.channels) × (self.old.plan.head.channels ≤ 16) }
+        requires few { (n : ℕ) → n * self.old.plan.head.channels ≤ length input.now → taken_of self.old.flow + n ≤ most_frames }
+        ensures fed { FlowFed effect_acts self.old.flow (pieces self.old.plan.head.channels result.taken input.now) (pieces (outputs_of self.old.plan.head.channels (kinds effect_acts self.old.flow.stages)) result.given output.new) self.new.flow }
+        ensures read { result.taken * self.old.plan.head.channels ≤ length input.now }
+        ensures written { result.given * outputs_of self.old.plan.head.channels (kinds effect_acts self.old.flow.stages) ≤ length output.new }
+        ensures behind { drop (result.given * outputs_of self.old.plan.head.channels (kinds effect_acts self.old.flow.stages)) output.new ≡ drop (result.given * outputs_of self.old.plan.head.channels (kinds effect_acts self.old.flow.stages)) output.old }
+        ensures waits { let outputs = outputs_of self.old.plan.head.channels (kinds effect_acts self.old.flow.stages) in result.given * outputs + outputs ≤ length output.new → StateIs effect_acts State.Busy self.new.flow → ⊥ }
+        ensures used { let outputs = outputs_of self.old.plan.head.channels (kinds effect_acts self.old.flow.stages) in result.given * outputs + outputs ≤ length output.new → self.new.flow.ended ≡ false → any_spent effect_acts self.new.flow.stages ≡ false
+            → length input.now < result.taken * self.old.plan.head.channels + self.old.plan.head.channels }
+        ensures plan { self.new.plan ≡ self.old.plan }
+    {
+        self.flow.feed(input, output)
     }
 
     /// How many frames it took.

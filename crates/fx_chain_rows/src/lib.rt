@@ -4,6 +4,8 @@
 #[cfg(test)]
 mod driving;
 #[cfg(test)]
+mod feed_tests;
+#[cfg(test)]
 mod freeze_tests;
 #[cfg(test)]
 mod tests;

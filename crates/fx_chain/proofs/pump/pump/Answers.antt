@@ -242,6 +242,18 @@ returns-in_default-blocks-clause-wants g c =
     let front = c.in_default-blocks.ensures.cut_off first (rw drained.coding turned) in
     front.wants
 
+pub returns-in_default-blocks-clause-met : goal.returns-in_default-blocks-clause-met
+returns-in_default-blocks-clause-met g c =
+    let next = rw c.in-Ok-Some.field-0-is at c.in-Ok-Some.ensures in
+    let drained = c.in-Ok-drain.ensures in
+    let old = c.loop-turn.invariant.pumped in
+    let turned = Pumped-turn g.S.Stage.acts g.R.ByteIn.rest g.R.ByteIn.told g.R.ByteIn.failures _ c.loop-turn.flow c.take.new.self c.drain.new.flow c.loop-turn.source c.next_frame.new.source c.loop-turn.progress c.next_frame.new.progress
+    _ _ _ _ _ _ _ _ old next.counted next.most next.frame next.told next.failures (sym (c.is_spent.ensures.enough old.hungry) ∙ c.if-is_spent.false) c.take.ensures drained.drained drained.waits drained.room drained.few in
+    let first : Start g.row.S.Denot g.row.R.Denot =
+    record { flow = c.args.flow.now; source = c.args.source.now; progress = c.args.progress.now; coding = c.args.outlet.now.coding; head = c.args.head.now; wrote = g.W.ByteOut.taken c.args.writer.now } in
+    let front = c.in_default-blocks.ensures.cut_off first (rw drained.coding turned) in
+    rw (front.begun, front.running) refl
+
 pub returns-in_default-blocks-clause-most : goal.returns-in_default-blocks-clause-most
 returns-in_default-blocks-clause-most g c =
     let next = rw c.in-Ok-Some.field-0-is at c.in-Ok-Some.ensures in
