@@ -39,6 +39,7 @@ const ROWS: [&str; 18] = [
 ];
 
 /// Numbers that look random, and are the same each time.
+#[derive(Drop)]
 struct Dice {
     state: u64,
 }
