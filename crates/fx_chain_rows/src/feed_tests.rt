@@ -127,35 +127,99 @@ fn are_alike(alloc: Global, fed: &Chain, stepped: &Chain) -> Result<bool, Fail> 
     Ok(counts && one.numbers == other.numbers && one.frames == other.frames)
 }
 
+/// A chain that is fed, and one of the same plan that takes frames one by one.
+#[derive(Drop)]
+struct Pair {
+    chain: Chain,
+    fed: Driven,
+    other: Chain,
+    stepped: Driven,
+}
+
+impl Pair {
+    /// Two new chains of these effects.
+    fn new(alloc: Global, effects: &str) -> Result<Pair, Fail>
+        ensures { IfOk result (λ p. (p.chain.plan.head.channels ≡ 1) × (p.other.plan.head.channels ≡ 1)) }
+    {
+        let plan = plan_of(alloc, effects)?;
+        Ok(Pair {
+            chain: Chain::new(alloc, &plan)?,
+            fed: Driven::new(alloc),
+            other: Chain::new(alloc, &plan)?,
+            stepped: Driven::new(alloc),
+        })
+    }
+
+    /// Feeds one a piece, and lets the other take the frames that the first one took; how many that are.
+    fn take_piece(&mut self, piece: &[i32], dice: &mut Dice) -> Result<usize, Fail>
+        requires fed { self.old.chain.plan.head.channels ≡ 1 }
+        requires stepped { self.old.other.plan.head.channels ≡ 1 }
+        ensures fed { self.new.chain.plan ≡ self.old.chain.plan }
+        ensures stepped { self.new.other.plan ≡ self.old.other.plan }
+    {
+        let before = self.chain.taken();
+        feed_piece(&mut self.chain, &mut self.fed, piece, dice)?;
+        let taken = self.chain.taken().saturating_sub(before) as usize;
+        if taken > piece.len() {
+            return Err("more taken than there is".into());
+        }
+        feed(&mut self.other, &mut self.stepped, &piece[..taken])?;
+        Ok(taken)
+    }
+
+    /// Tells both the end, and steps them until they are done.
+    fn finish(&mut self) -> Result<(), Fail> {
+        finish(&mut self.chain, &mut self.fed)?;
+        finish(&mut self.other, &mut self.stepped)
+    }
+
+    /// The fault of two that are not alike: in what they gave, or to their callers.
+    fn compare(&self, alloc: Global) -> Result<(), Fail> {
+        if self.fed.samples != self.stepped.samples {
+            return Err("other samples".into());
+        }
+        if !are_alike(alloc, &self.chain, &self.other)? {
+            return Err("other counts or snapshots".into());
+        }
+        Ok(())
+    }
+}
+
+/// Feeds a sound in random pieces, beside frames one by one.
+fn feed_sound(
+    alloc: Global,
+    pair: &mut Pair,
+    samples: &[i32],
+    dice: &mut Dice,
+) -> Result<(), Fail>
+    requires fed { pair.old.chain.plan.head.channels ≡ 1 }
+    requires stepped { pair.old.other.plan.head.channels ≡ 1 }
+{
+    let mut rest = samples;
+    'pieces: for _piece in 0..MOST_PIECES {
+        if rest.is_empty() || pair.other.is_spent() {
+            return Ok(());
+        }
+        let size = rest.len().min(1 + dice.next_below(50) as usize);
+        let taken = pair.take_piece(&rest[..size], dice)?;
+        if taken > size {
+            return Err("more taken than there is".into());
+        }
+        rest = &rest[taken..];
+        pair.compare(alloc)?;
+    }
+    Err("pieces without end".into())
+}
+
 #[test]
 fn feed_is_steps(rt: HostRuntime) -> Result<(), Fail> {
     let mut dice = Dice { state: 1 };
     for effects in ROWS {
-        let plan = plan_of(rt.alloc(), effects)?;
-        let mut chain = Chain::new(rt.alloc(), &plan)?;
-        let mut other = Chain::new(rt.alloc(), &plan)?;
-        let mut fed = Driven::new(rt.alloc());
-        let mut stepped = Driven::new(rt.alloc());
+        let mut pair = Pair::new(rt.alloc(), effects)?;
         let samples = sound(rt.alloc(), &mut dice)?;
-        let mut rest = samples.as_slice();
-        'pieces: for _piece in 0..MOST_PIECES {
-            if rest.is_empty() || other.is_spent() {
-                break;
-            }
-            let size = rest.len().min(1 + dice.next_below(50) as usize);
-            let before = chain.taken();
-            feed_piece(&mut chain, &mut fed, &rest[..size], &mut dice)?;
-            let taken = (chain.taken().saturating_sub(before)) as usize;
-            assert!(rt; taken <= size, "{effects}");
-            feed(&mut other, &mut stepped, &rest[..taken])?;
-            rest = &rest[taken..];
-            assert!(rt; are_alike(rt.alloc(), &chain, &other)?, "{effects}");
-            assert!(rt; fed.samples == stepped.samples, "{effects}");
-        }
-        finish(&mut chain, &mut fed)?;
-        finish(&mut other, &mut stepped)?;
-        assert!(rt; fed.samples == stepped.samples, "{effects}");
-        assert!(rt; are_alike(rt.alloc(), &chain, &other)?, "{effects}");
+        feed_sound(rt.alloc(), &mut pair, &samples, &mut dice)?;
+        pair.finish()?;
+        pair.compare(rt.alloc())?;
     }
     Ok(())
 }

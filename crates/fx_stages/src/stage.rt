@@ -1,7 +1,7 @@
 //! The stage of any effect.
 use fx_cut::{Downsample, Fade, Pad, Trim, Upsample};
 use fx_frame::stage::Stage;
-use fx_frame::{Feeds, Frame, Passed, WideFrame};
+use fx_frame::{Feeds, Frame, Passed, Passing, WideFrame};
 use fx_tap::{DcShift, Delay, Echo, Echos, Fir, Remix, Vol};
 
 /// The stage of an effect.
@@ -269,6 +269,23 @@ impl Feeds for EffectStage {
             EffectStage::Remix(stage) => stage.feed(input, output),
             EffectStage::Vol(stage) => stage.feed(input, output),
             EffectStage::DcShift(stage) => stage.feed(input, output),
+        }
+    }
+
+    fn pass(&mut self, frame: &mut Frame) -> Passing {
+        match self {
+            EffectStage::Trim(stage) => stage.pass(frame),
+            EffectStage::Pad(stage) => stage.pass(frame),
+            EffectStage::Fade(stage) => stage.pass(frame),
+            EffectStage::Upsample(stage) => stage.pass(frame),
+            EffectStage::Downsample(stage) => stage.pass(frame),
+            EffectStage::Delay(stage) => stage.pass(frame),
+            EffectStage::Echo(stage) => stage.pass(frame),
+            EffectStage::Echos(stage) => stage.pass(frame),
+            EffectStage::Fir(stage) => stage.pass(frame),
+            EffectStage::Remix(stage) => stage.pass(frame),
+            EffectStage::Vol(stage) => stage.pass(frame),
+            EffectStage::DcShift(stage) => stage.pass(frame),
         }
     }
 }
