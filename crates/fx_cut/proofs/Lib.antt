@@ -2,6 +2,7 @@ pub mod Tabulate
 pub mod UpsampleLaws
 pub mod DownsampleLaws
 pub mod Hands
+pub mod Pieces
 pub mod Fallen
 pub mod Ranges
 pub mod Weighing
@@ -13,6 +14,7 @@ pub mod PadLaws
 pub mod PadRest
 pub mod PadSteps
 pub mod TrimSteps
+pub mod TrimMany
 pub mod Thawing
 pub mod TrimThaw
 pub mod FadeThaw
