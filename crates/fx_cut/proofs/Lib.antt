@@ -1,6 +1,7 @@
 pub mod Tabulate
 pub mod UpsampleLaws
 pub mod DownsampleLaws
+pub mod DownsampleMany
 pub mod Hands
 pub mod Pieces
 pub mod Fallen

@@ -1,10 +1,10 @@
 -- A piece that a stage passed at once, and the frames behind it.
-use Rattle.std.proofs.Common.{◌≡◌, ◌<◌, ◌+◌, ◌-◌, ◌*◌, ◌≤◌, ℕ, zero, suc, true, false, List, [], ◌++◌, length, take, drop, refl, sym, ap, ◌∙◌, arith, append-nil, length-append, length-drop}
+use Rattle.std.proofs.Common.{◌≡◌, ◌<◌, ◌+◌, ◌-◌, ◌*◌, ◌/◌, ◌≤◌, ℕ, zero, suc, true, false, List, [], ◌++◌, length, take, drop, refl, sym, ap, ◌∙◌, arith, append-nil, append_assoc, length-append, length-drop}
 use Rattle.std.specs.Prelude.{ℤ}
 use Rattle.std.specs.List.{All}
 use Rattle.std.proofs.lemmas.List.Elements.{All-cons, All-nil}
 use Rattle.std.proofs.lemmas.List.{drop-drop, drop_all, drop_at, length-take, length-take-le, take-take, take_all}
-use Rattle.std.proofs.Math.Nat.{add-mul, suc-mul, mul-le-mul_left, le_of_mul-le-mul_right}
+use Rattle.std.proofs.Math.Nat.{add-mul, div-mul-le_self, mul-le-mul_right, suc-mul, mul-le-mul_left, le_of_mul-le-mul_right}
 use Rattle.fx_frame.specs.Feed.{Fed}
 use Rattle.fx_frame.specs.Ring.{pieces}
 use Rattle.fx_frame.specs.Stage.{Acts, kind, spent}
@@ -25,6 +25,12 @@ module _ {X : Type 0} where
       let none : drop (length xs - a) (drop a xs) ≡ [] = drop_all (length xs - a) (drop a xs) (omega (arith, length-drop a xs)) in
       rw none (ap (λ l. take a xs ++ l) (append-nil ys))
 
+-- a slice after a frame was written at a place
+pub put-piece : {X : Type 0} (at size : ℕ) (out f : List X) → length f ≡ size → put_mid at (at + size - at) out f ≡ take at out ++ f ++ drop (at + length f) out
+put-piece at size out f long =
+    let many : at + size - at ≡ length f = omega (arith, long) in
+    ap (λ n. take at out ++ (f ++ drop n (drop at out))) many ∙ ap (λ l. take at out ++ (f ++ l)) (drop-drop (length f) at out) ∙ sym (append_assoc (take at out) f (drop (at + length f) out))
+
 -- the frames of a list that is long enough have their channels
 pub pieces-sides : {X : Type 0} (size n : ℕ) (xs : List X) → n * size ≤ length xs → All (λ (f : List X). length f ≡ size) (pieces size n xs)
 pieces-sides {X} size zero xs h = All-nil (λ (f : List X). length f ≡ size)
@@ -35,6 +41,10 @@ pieces-sides {X} size (suc n) xs h =
 -- frames of at least one sample are no more than the samples
 pub few-frames : (n w len : ℕ) → 1 ≤ w → n * w ≤ len → n ≤ len
 few-frames n w len h k = let m : n * 1 ≤ n * w = mul-le-mul_left n h in omega arith
+
+-- no more frames than there are
+pub frames-room : (n w len : ℕ) → n ≤ len / w → n * w ≤ len
+frames-room n w len h = let all : n * w ≤ len / w * w = mul-le-mul_right w h in omega (arith, all, div-mul-le_self len w)
 
 -- as many frames as fit in those of a number
 pub few-pieces : (n m w : ℕ) → 1 ≤ w → n * w ≤ m * w → n ≤ m

@@ -1,5 +1,5 @@
 -- Lists by index, and frames without clips (this project's profile).
-use Rattle.std.specs.Prelude.{ℕ, zero, suc, List, [], ◌∷◌}
+use Rattle.std.specs.Prelude.{ℕ, zero, suc, ◌*◌, List, [], ◌∷◌, take, drop}
 use Rattle.fx_frame.specs.Frame.{Samples}
 use Rattle.fx_frame.specs.Stage.{Given}
 
@@ -11,3 +11,8 @@ tabulate f from (suc count) = f from ∷ tabulate f (suc from) count
 -- a frame without clips
 abbrev pub plain : Samples → Given
 plain frame = record { samples = frame; clips = 0 }
+
+-- the first frames, of so many samples, of groups of so many
+abbrev pub firsts : {X : Type 0} → ℕ → ℕ → ℕ → List X → List (List X)
+firsts size step zero xs = []
+firsts size step (suc count) xs = take size xs ∷ firsts size step count (drop (step * size) xs)
