@@ -12,7 +12,7 @@ use Rattle.fx_frame.proofs.FeedParts.{pieces-split}
 use Rattle.fx_frame.proofs.Pieces.{length-pieces}
 use Rattle.fx_cut.specs.Downsample.{DownsampleState, IsDownsample, downsample_acts, downsampled}
 use Rattle.fx_cut.specs.Lists.{firsts}
-use Rattle.fx_cut.proofs.Pieces.{frames-room}
+use Rattle.fx_cut.proofs.Pieces.{first-piece, frames-room}
 use Rattle.fx_cut.proofs.DownsampleLaws.{ceil_is, kept, left, Took-kept, IsDownsample-left}
 
 module _ {X : Type 0} where
@@ -23,10 +23,6 @@ module _ {X : Type 0} where
       let back : at ≡ step * size + n * (step * size) = omega (arith, suc-mul n (step * size)) in
       let more : suc n + 1 ≡ suc (n + 1) = omega arith in
       rw more (ap (λ l. take size xs ∷ l) (firsts-more size step n (n * (step * size)) (drop (step * size) xs) refl ∙ ap (λ l. firsts size step n (drop (step * size) xs) ++ take size l ∷ []) (drop-drop (n * (step * size)) (step * size) xs ∙ ap (λ i. drop i xs) (sym back))))
-
-  first-piece : (size n : ℕ) (xs : List X) → 1 ≤ n → pieces size n xs ≡ take size xs ∷ pieces size (n - 1) (drop size xs)
-  first-piece size zero xs h = absurd (omega arith)
-  first-piece size (suc n) xs h = let e : suc n - 1 ≡ n = omega arith in rw e refl
 
 -- such a stage with no frame in hand, before the end
 pub record Ready (s : DownsampleState) : Type 0 where

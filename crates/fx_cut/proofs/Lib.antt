@@ -1,5 +1,6 @@
 pub mod Tabulate
 pub mod UpsampleLaws
+pub mod UpsampleMany
 pub mod DownsampleLaws
 pub mod DownsampleMany
 pub mod Hands

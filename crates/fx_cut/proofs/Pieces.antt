@@ -1,5 +1,5 @@
 -- A piece that a stage passed at once, and the frames behind it.
-use Rattle.std.proofs.Common.{◌≡◌, ◌<◌, ◌+◌, ◌-◌, ◌*◌, ◌/◌, ◌≤◌, ℕ, zero, suc, true, false, List, [], ◌++◌, length, take, drop, refl, sym, ap, ◌∙◌, arith, append-nil, append_assoc, length-append, length-drop}
+use Rattle.std.proofs.Common.{◌≡◌, ◌<◌, ◌+◌, ◌-◌, ◌*◌, ◌/◌, ◌≤◌, ℕ, zero, suc, true, false, List, [], ◌∷◌, ◌++◌, length, take, drop, refl, sym, ap, ◌∙◌, arith, append-nil, append_assoc, length-append, length-drop}
 use Rattle.std.specs.Prelude.{ℤ}
 use Rattle.std.specs.List.{All}
 use Rattle.std.proofs.lemmas.List.Elements.{All-cons, All-nil}
@@ -24,6 +24,11 @@ module _ {X : Type 0} where
   put-from a xs ys =
       let none : drop (length xs - a) (drop a xs) ≡ [] = drop_all (length xs - a) (drop a xs) (omega (arith, length-drop a xs)) in
       rw none (ap (λ l. take a xs ++ l) (append-nil ys))
+
+-- the first frame, and those behind it
+pub first-piece : {X : Type 0} (size n : ℕ) (xs : List X) → 1 ≤ n → pieces size n xs ≡ take size xs ∷ pieces size (n - 1) (drop size xs)
+first-piece size zero xs h = absurd (omega arith)
+first-piece size (suc n) xs h = let e : suc n - 1 ≡ n = omega arith in rw e refl
 
 -- a slice after a frame was written at a place
 pub put-piece : {X : Type 0} (at size : ℕ) (out f : List X) → length f ≡ size → put_mid at (at + size - at) out f ≡ take at out ++ f ++ drop (at + length f) out
@@ -68,6 +73,12 @@ module _ {S R : Type 0} (acts : Acts S R) where
   pub record FedOut (first s : S) (input out : List ℤ) (n k : ℕ) : Type 0 where
     pub dry : k * (kind acts first).outputs + (kind acts first).outputs ≤ length out → acts.dry s ≡ true
     pub used : k * (kind acts first).outputs + (kind acts first).outputs ≤ length out → (acts.counts s).ended ≡ false → spent acts s ≡ false → length input < n * (kind acts first).inputs + (kind acts first).inputs
+
+  -- what took none of an input is the same of any other
+  pub front-any : (first s : S) (input start out : List ℤ) (n k : ℕ) → FedFront first s [] start out n k → FedFront first s input start out n k
+  front-any first s input start out n k one =
+      let none = one.read in
+      record { fed = rw (← pieces-cut (kind acts first).inputs n 0 input none) one.fed; read = omega arith; written = one.written; behind = one.behind }
 
   module _ (first s t : S) (input start mid behind : List ℤ) (n m k j : ℕ) (one : FedFront first s input start mid n k) where
     pub kind-stays : kind acts s ≡ kind acts first

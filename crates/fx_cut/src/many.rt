@@ -20,8 +20,8 @@ pub trait PassesMany: Stage {
         ensures behind { drop (result.given * (kind Self.acts self.old).outputs) output.new ≡ drop (result.given * (kind Self.acts self.old).outputs) output.old };
 }
 
-/// What `feed` does for a stage that can pass many frames: a piece first, then frame by frame.
-pub fn feed_by_pieces<S: PassesMany>(stage: &mut S, input: &[i32], output: &mut [i32]) -> Passed
+/// Passes a piece first, and then frame by frame.
+fn feed_piece<S: PassesMany>(stage: &mut S, input: &[i32], output: &mut [i32]) -> Passed
     requires channels { (1 ≤ (kind S.acts stage.old).inputs) × ((kind S.acts stage.old).inputs ≤ 16) }
     requires below_limit { (n : ℕ) → n * (kind S.acts stage.old).inputs ≤ length input.now → (S.acts.counts stage.old).taken + n ≤ (kind S.acts stage.old).limit }
     ensures fed { Fed S.acts stage.old (pieces (kind S.acts stage.old).inputs result.taken input.now) (pieces (kind S.acts stage.old).outputs result.given output.new) stage.new }
@@ -44,5 +44,33 @@ pub fn feed_by_pieces<S: PassesMany>(stage: &mut S, input: &[i32], output: &mut 
     Passed {
         taken: piece.taken + rest.taken,
         given: piece.given + rest.given,
+    }
+}
+
+/// What `feed` does for a stage that can pass many frames: it gives what waits, passes a piece, and then goes on frame by
+/// frame.
+pub fn feed_by_pieces<S: PassesMany>(stage: &mut S, input: &[i32], output: &mut [i32]) -> Passed
+    requires channels { (1 ≤ (kind S.acts stage.old).inputs) × ((kind S.acts stage.old).inputs ≤ 16) }
+    requires below_limit { (n : ℕ) → n * (kind S.acts stage.old).inputs ≤ length input.now → (S.acts.counts stage.old).taken + n ≤ (kind S.acts stage.old).limit }
+    ensures fed { Fed S.acts stage.old (pieces (kind S.acts stage.old).inputs result.taken input.now) (pieces (kind S.acts stage.old).outputs result.given output.new) stage.new }
+    ensures read { result.taken * (kind S.acts stage.old).inputs ≤ length input.now }
+    ensures written { result.given * (kind S.acts stage.old).outputs ≤ length output.new }
+    ensures behind { drop (result.given * (kind S.acts stage.old).outputs) output.new ≡ drop (result.given * (kind S.acts stage.old).outputs) output.old }
+    ensures dry { result.given * (kind S.acts stage.old).outputs + (kind S.acts stage.old).outputs ≤ length output.new → S.acts.dry stage.new ≡ true }
+    ensures used { result.given * (kind S.acts stage.old).outputs + (kind S.acts stage.old).outputs ≤ length output.new → (S.acts.counts stage.new).ended ≡ false → spent S.acts stage.new ≡ false
+        → length input.now < result.taken * (kind S.acts stage.old).inputs + (kind S.acts stage.old).inputs }
+{
+    let inputs = stage.in_channels();
+    let outputs = stage.out_channels();
+    if outputs == 0 {
+        return feed_by_frames(stage, input, output);
+    }
+    let waiting = feed_by_frames(stage, &input[..0], output);
+    let read = waiting.taken * inputs;
+    let written = waiting.given * outputs;
+    let rest = feed_piece(stage, &input[read..], &mut output[written..]);
+    Passed {
+        taken: waiting.taken + rest.taken,
+        given: waiting.given + rest.given,
     }
 }

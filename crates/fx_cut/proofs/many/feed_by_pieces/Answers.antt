@@ -1,32 +1,34 @@
-use Rattle.std.proofs.Common.{rules, ◌≡◌, ◌*◌, ◌+◌, ◌-◌, ◌≤◌, length, drop, take, arith}
+use Rattle.std.proofs.Common.{rules, ◌≡◌, ◌*◌, ◌+◌, ◌-◌, ◌≤◌, [], length, drop, take, arith}
 use Rattle.fx_frame.specs.Stage.{kind}
-use Rattle.fx_cut.proofs.Pieces.{FedFront, part-from, put-from, kind-stays, counted, few-frames, read-both, long-both, front-both, out-both}
+use Rattle.fx_cut.proofs.Pieces.{FedFront, front-any, part-from, put-from, kind-stays, counted, few-frames, read-both, long-both, front-both, out-both}
 use Rattle.fx_cut.proofs.many.feed_by_pieces.Goals as goal
 
-pub feed_by_frames-rest-requires-clause-channels : goal.feed_by_frames-rest-requires-clause-channels
-feed_by_frames-rest-requires-clause-channels g c =
+pub feed_piece-rest-requires-clause-channels : goal.feed_piece-rest-requires-clause-channels
+feed_piece-rest-requires-clause-channels g c =
     let acts = g.S.Stage.acts in
-    let p = c.pass_many-piece.ensures in
-    let n = c.pass_many-piece.result.taken in
-    let k = c.pass_many-piece.result.given in
+    let p = c.feed_by_frames-waiting.ensures in
+    let n = c.feed_by_frames-waiting.result.taken in
+    let k = c.feed_by_frames-waiting.result.given in
     let first = c.args.stage.now in
-    let s = c.pass_many-piece.new.self in
+    let s = c.feed_by_frames-waiting.new.stage in
     let input = c.args.input.now in
-    let mid = c.pass_many-piece.new.output in
-    let one : FedFront acts first s input c.args.output.now mid n k = record { fed = p.fed; read = p.read; written = p.written; behind = p.behind } in
+    let mid = c.feed_by_frames-waiting.new.output in
+    let none : FedFront acts first s [] c.args.output.now mid n k = record { fed = p.fed; read = p.read; written = p.written; behind = p.behind } in
+    let one = front-any acts first s input c.args.output.now mid n k none in
     rw (kind-stays acts first s s input c.args.output.now mid mid n 0 k 0 one) c.requires.channels
 
-pub feed_by_frames-rest-requires-clause-below_limit : goal.feed_by_frames-rest-requires-clause-below_limit
-feed_by_frames-rest-requires-clause-below_limit g c =
+pub feed_piece-rest-requires-clause-below_limit : goal.feed_piece-rest-requires-clause-below_limit
+feed_piece-rest-requires-clause-below_limit g c =
     let acts = g.S.Stage.acts in
-    let p = c.pass_many-piece.ensures in
-    let n = c.pass_many-piece.result.taken in
-    let k = c.pass_many-piece.result.given in
+    let p = c.feed_by_frames-waiting.ensures in
+    let n = c.feed_by_frames-waiting.result.taken in
+    let k = c.feed_by_frames-waiting.result.given in
     let first = c.args.stage.now in
-    let s = c.pass_many-piece.new.self in
+    let s = c.feed_by_frames-waiting.new.stage in
     let input = c.args.input.now in
-    let mid = c.pass_many-piece.new.output in
-    let one : FedFront acts first s input c.args.output.now mid n k = record { fed = p.fed; read = p.read; written = p.written; behind = p.behind } in
+    let mid = c.feed_by_frames-waiting.new.output in
+    let none : FedFront acts first s [] c.args.output.now mid n k = record { fed = p.fed; read = p.read; written = p.written; behind = p.behind } in
+    let one = front-any acts first s input c.args.output.now mid n k none in
     let kinds = kind-stays acts first s s input c.args.output.now mid mid n 0 k 0 one in
     let count = counted acts first s s input c.args.output.now mid mid n 0 k 0 one in
     λ i h.
@@ -38,19 +40,20 @@ feed_by_frames-rest-requires-clause-below_limit g c =
 pub returns : goal.returns
 returns g c =
     let acts = g.S.Stage.acts in
-    let p = c.pass_many-piece.ensures in
-    let n = c.pass_many-piece.result.taken in
-    let k = c.pass_many-piece.result.given in
+    let p = c.feed_by_frames-waiting.ensures in
+    let n = c.feed_by_frames-waiting.result.taken in
+    let k = c.feed_by_frames-waiting.result.given in
     let first = c.args.stage.now in
-    let s = c.pass_many-piece.new.self in
+    let s = c.feed_by_frames-waiting.new.stage in
     let input = c.args.input.now in
-    let mid = c.pass_many-piece.new.output in
-    let one : FedFront acts first s input c.args.output.now mid n k = record { fed = p.fed; read = p.read; written = p.written; behind = p.behind } in
-    let q = c.feed_by_frames-rest.ensures in
-    let m = c.feed_by_frames-rest.result.taken in
-    let j = c.feed_by_frames-rest.result.given in
-    let t = c.feed_by_frames-rest.new.stage in
-    let behind = c.feed_by_frames-rest.new.output in
+    let mid = c.feed_by_frames-waiting.new.output in
+    let none : FedFront acts first s [] c.args.output.now mid n k = record { fed = p.fed; read = p.read; written = p.written; behind = p.behind } in
+    let one = front-any acts first s input c.args.output.now mid n k none in
+    let q = c.feed_piece-rest.ensures in
+    let m = c.feed_piece-rest.result.taken in
+    let j = c.feed_piece-rest.result.given in
+    let t = c.feed_piece-rest.new.stage in
+    let behind = c.feed_piece-rest.new.output in
     let part = take (length input - n * c.in_channels-inputs.result) (drop (n * c.in_channels-inputs.result) input) in
     let room = take (length mid - k * c.out_channels-outputs.result) (drop (k * c.out_channels-outputs.result) mid) in
     let is-part : part ≡ drop (n * (kind acts first).inputs) input = rw (← c.in_channels-inputs.ensures) (part-from (n * c.in_channels-inputs.result) input) in
@@ -63,19 +66,20 @@ returns g c =
 pub overflow_add-result : goal.overflow_add-result
 overflow_add-result g c =
     let acts = g.S.Stage.acts in
-    let p = c.pass_many-piece.ensures in
-    let n = c.pass_many-piece.result.taken in
-    let k = c.pass_many-piece.result.given in
+    let p = c.feed_by_frames-waiting.ensures in
+    let n = c.feed_by_frames-waiting.result.taken in
+    let k = c.feed_by_frames-waiting.result.given in
     let first = c.args.stage.now in
-    let s = c.pass_many-piece.new.self in
+    let s = c.feed_by_frames-waiting.new.stage in
     let input = c.args.input.now in
-    let mid = c.pass_many-piece.new.output in
-    let one : FedFront acts first s input c.args.output.now mid n k = record { fed = p.fed; read = p.read; written = p.written; behind = p.behind } in
-    let q = c.feed_by_frames-rest.ensures in
-    let m = c.feed_by_frames-rest.result.taken in
-    let j = c.feed_by_frames-rest.result.given in
-    let t = c.feed_by_frames-rest.new.stage in
-    let behind = c.feed_by_frames-rest.new.output in
+    let mid = c.feed_by_frames-waiting.new.output in
+    let none : FedFront acts first s [] c.args.output.now mid n k = record { fed = p.fed; read = p.read; written = p.written; behind = p.behind } in
+    let one = front-any acts first s input c.args.output.now mid n k none in
+    let q = c.feed_piece-rest.ensures in
+    let m = c.feed_piece-rest.result.taken in
+    let j = c.feed_piece-rest.result.given in
+    let t = c.feed_piece-rest.new.stage in
+    let behind = c.feed_piece-rest.new.output in
     let part = take (length input - n * c.in_channels-inputs.result) (drop (n * c.in_channels-inputs.result) input) in
     let room = take (length mid - k * c.out_channels-outputs.result) (drop (k * c.out_channels-outputs.result) mid) in
     let is-part : part ≡ drop (n * (kind acts first).inputs) input = rw (← c.in_channels-inputs.ensures) (part-from (n * c.in_channels-inputs.result) input) in
@@ -88,19 +92,20 @@ overflow_add-result g c =
 pub overflow_add-result-2 : goal.overflow_add-result-2
 overflow_add-result-2 g c =
     let acts = g.S.Stage.acts in
-    let p = c.pass_many-piece.ensures in
-    let n = c.pass_many-piece.result.taken in
-    let k = c.pass_many-piece.result.given in
+    let p = c.feed_by_frames-waiting.ensures in
+    let n = c.feed_by_frames-waiting.result.taken in
+    let k = c.feed_by_frames-waiting.result.given in
     let first = c.args.stage.now in
-    let s = c.pass_many-piece.new.self in
+    let s = c.feed_by_frames-waiting.new.stage in
     let input = c.args.input.now in
-    let mid = c.pass_many-piece.new.output in
-    let one : FedFront acts first s input c.args.output.now mid n k = record { fed = p.fed; read = p.read; written = p.written; behind = p.behind } in
-    let q = c.feed_by_frames-rest.ensures in
-    let m = c.feed_by_frames-rest.result.taken in
-    let j = c.feed_by_frames-rest.result.given in
-    let t = c.feed_by_frames-rest.new.stage in
-    let behind = c.feed_by_frames-rest.new.output in
+    let mid = c.feed_by_frames-waiting.new.output in
+    let none : FedFront acts first s [] c.args.output.now mid n k = record { fed = p.fed; read = p.read; written = p.written; behind = p.behind } in
+    let one = front-any acts first s input c.args.output.now mid n k none in
+    let q = c.feed_piece-rest.ensures in
+    let m = c.feed_piece-rest.result.taken in
+    let j = c.feed_piece-rest.result.given in
+    let t = c.feed_piece-rest.new.stage in
+    let behind = c.feed_piece-rest.new.output in
     let part = take (length input - n * c.in_channels-inputs.result) (drop (n * c.in_channels-inputs.result) input) in
     let room = take (length mid - k * c.out_channels-outputs.result) (drop (k * c.out_channels-outputs.result) mid) in
     let is-part : part ≡ drop (n * (kind acts first).inputs) input = rw (← c.in_channels-inputs.ensures) (part-from (n * c.in_channels-inputs.result) input) in
@@ -108,6 +113,6 @@ overflow_add-result-2 g c =
     let two : FedFront acts s t part room behind m j = record { fed = q.fed; read = q.read; written = q.written; behind = q.behind } in
     let both = front-both acts first s t input c.args.output.now mid behind n m k j one part room is-part is-room two in
     let some : 1 ≤ (kind acts first).outputs = omega (arith, c.if-outputs-eq0.false, c.out_channels-outputs.ensures) in
-    let long = long-both acts first s t input c.args.output.now mid behind n m k j one part room is-part is-room two c.feed_by_frames-rest.auto.output in
+    let long = long-both acts first s t input c.args.output.now mid behind n m k j one part room is-part is-room two c.feed_piece-rest.auto.output in
     let few = few-frames (k + j) (kind acts first).outputs (length mid) some (rw long at both.written) in
     search rules
