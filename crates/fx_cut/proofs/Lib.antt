@@ -15,6 +15,7 @@ pub mod TrimRest
 pub mod PadLaws
 pub mod PadRest
 pub mod PadSteps
+pub mod PadMany
 pub mod TrimSteps
 pub mod TrimMany
 pub mod Thawing
