@@ -1,7 +1,10 @@
 pub mod Tabulate
 pub mod UpsampleLaws
+pub mod UpsampleMany
 pub mod DownsampleLaws
+pub mod DownsampleMany
 pub mod Hands
+pub mod Pieces
 pub mod Fallen
 pub mod Ranges
 pub mod Weighing
@@ -12,7 +15,9 @@ pub mod TrimRest
 pub mod PadLaws
 pub mod PadRest
 pub mod PadSteps
+pub mod PadMany
 pub mod TrimSteps
+pub mod TrimMany
 pub mod Thawing
 pub mod TrimThaw
 pub mod FadeThaw

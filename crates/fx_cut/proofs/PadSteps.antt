@@ -61,7 +61,7 @@ module _ (s : PadState) (frame : Samples) (is : IsPad s) (dry : pad_acts.dry s �
       rw (none, quiet, running, i, n) (sym (pad_taken s.recipe.channels s.recipe.pads (s.taken - length s.line.items) s.line.items frame z))
 
   -- the oldest falls out
-  left-fallen : (line : Frames ℤ) (o : Samples) (silent : ℕ) → Some o ≡ fallen s.line.capacity s.line.items frame → line.items ≡ stays s.line.capacity s.line.items frame
+  pub left-fallen : (line : Frames ℤ) (o : Samples) (silent : ℕ) → Some o ≡ fallen s.line.capacity s.line.items frame → line.items ≡ stays s.line.capacity s.line.items frame
       → silent ≡ silent_at (pads_from_start s.recipe.pads) (s.taken - length s.line.items) → (z : List Samples)
       → pad_left (reached s line silent (Some o)) z ≡ pad_left s (frame ∷ z)
   left-fallen line o silent e items k z =

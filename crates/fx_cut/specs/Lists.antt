@@ -1,6 +1,6 @@
 -- Lists by index, and frames without clips (this project's profile).
-use Rattle.std.specs.Prelude.{ℕ, zero, suc, List, [], ◌∷◌}
-use Rattle.fx_frame.specs.Frame.{Samples}
+use Rattle.std.specs.Prelude.{ℕ, ℤ, zero, suc, ◌*◌, ◌-◌, List, [], ◌∷◌, ◌++◌, take, drop, replicate}
+use Rattle.fx_frame.specs.Frame.{Samples, silence}
 use Rattle.fx_frame.specs.Stage.{Given}
 
 -- f at so many numbers from the first one on
@@ -11,3 +11,13 @@ tabulate f from (suc count) = f from ∷ tabulate f (suc from) count
 -- a frame without clips
 abbrev pub plain : Samples → Given
 plain frame = record { samples = frame; clips = 0 }
+
+-- the first frames, of so many samples, of groups of so many
+abbrev pub firsts : {X : Type 0} → ℕ → ℕ → ℕ → List X → List (List X)
+firsts size step zero xs = []
+firsts size step (suc count) xs = take size xs ∷ firsts size step count (drop (step * size) xs)
+
+-- the frames, of so many samples, of a list of samples, each followed by as many silent ones as a factor asks
+abbrev pub spread : ℕ → ℕ → ℕ → List ℤ → List Samples
+spread size factor zero xs = []
+spread size factor (suc count) xs = (take size xs ∷ replicate (factor - 1) (silence size)) ++ spread size factor count (drop size xs)

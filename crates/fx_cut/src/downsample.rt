@@ -1,12 +1,32 @@
 //! The effect `downsample` of sox(1): the first of every so many frames.
-ghost use Rattle.std.specs.Prelude.{◌≡◌, ◌≤◌, Ok, IfOk, IfErr};
+ghost use Rattle.std.specs.Prelude.{◌≡◌, ◌≤◌, ◌*◌, Ok, IfOk, IfErr, drop, length};
+ghost use Rattle.fx_frame.specs.Ring.{pieces};
 ghost use Rattle.fx_frame.specs.Stage.{Freezes, IsNew};
 ghost use Rattle.fx_cut.specs.Factor.{FactorArguments, IsFactor};
 ghost use Rattle.fx_cut.specs.Downsample.{DownsampleState, IsDownsample, downsample_acts};
+ghost use Rattle.fx_cut.specs.Lists.{firsts};
 
+use crate::many::{PassesMany, feed_by_pieces};
 use fx_frame::frozen::thawed_hand;
-use fx_frame::{Feeds, Frame, Stage, ThawFault, WideFrame};
+use fx_frame::{Feeds, Frame, Passed, Stage, ThawFault, WideFrame};
 use std::marker::Model;
+
+/// Copies the first frame of each of so many groups in front of the input to the front of the output.
+fn copy_firsts(input: &[i32], output: &mut [i32], channels: usize, step: usize, groups: usize)
+    requires step { 1 ≤ step }
+    requires input { groups * (step * channels) ≤ length input.now }
+    requires output { groups * channels ≤ length output.old }
+    ensures frames { pieces channels groups output.new ≡ firsts channels step groups input.now }
+    ensures behind { drop (groups * channels) output.new ≡ drop (groups * channels) output.old }
+{
+    let mut read = 0;
+    let mut written = 0;
+    'groups: for _group in 0..groups {
+        output[written..written + channels].copy_from_slice(&input[read..read + channels]);
+        read += step * channels;
+        written += channels;
+    }
+}
 
 /// The stage of `downsample`: frames 0, f, 2f and so on of the sound, where f is the factor. It takes up to
 /// `2^56` frames.
@@ -175,4 +195,43 @@ impl Stage for Downsample {
     }
 }
 
-impl Feeds for Downsample {}
+impl PassesMany for Downsample {
+    /// Passes the frames that are to be left out, and then whole groups of a frame that is kept and those left out behind it.
+    fn pass_many(&mut self, input: &[i32], output: &mut [i32]) -> Passed {
+        let channels = self.channels;
+        if self.hand.is_some() || self.ended || output.len() < channels {
+            return Passed { taken: 0, given: 0 };
+        }
+        let frames = input.len() / channels;
+        let left_out = self.skip.min(frames as u64) as usize;
+        self.skip -= left_out as u64;
+        self.taken += left_out as u64;
+        if self.skip != 0 {
+            return Passed {
+                taken: left_out,
+                given: 0,
+            };
+        }
+        let factor = self.factor as usize;
+        let groups = ((frames - left_out) / factor).min(output.len() / channels);
+        copy_firsts(
+            &input[left_out * channels..],
+            output,
+            channels,
+            factor,
+            groups,
+        );
+        self.taken += (groups * factor) as u64;
+        self.given += groups as u64;
+        Passed {
+            taken: left_out + groups * factor,
+            given: groups,
+        }
+    }
+}
+
+impl Feeds for Downsample {
+    fn feed(&mut self, input: &[i32], output: &mut [i32]) -> Passed {
+        feed_by_pieces(self, input, output)
+    }
+}

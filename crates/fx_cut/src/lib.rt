@@ -4,6 +4,7 @@
 pub mod downsample;
 pub mod factor;
 pub mod fade;
+mod many;
 pub mod pad;
 pub mod trim;
 pub mod upsample;

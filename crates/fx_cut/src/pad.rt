@@ -1,5 +1,5 @@
 //! The effect `pad` of sox(1): silence at positions.
-ghost use Rattle.std.specs.Prelude.{◌≡◌, ◌≤◌, ◌-◌, ◌^◌, drop, filter, length, nat_lt, slice_get, sum_by, Err, IfOk, MatchResult, true, false};
+ghost use Rattle.std.specs.Prelude.{ℕ, ◌≡◌, ◌<◌, ◌≤◌, ◌+◌, ◌-◌, ◌^◌, drop, filter, length, nat_lt, slice_get, sum_by, Err, IfOk, MatchResult, true, false};
 ghost use Rattle.std.specs.Int.{w32};
 ghost use Rattle.fx_frame.specs.Frozen.{IsHand};
 ghost use Rattle.fx_frame.specs.Line.{IsLine};
@@ -7,9 +7,11 @@ ghost use Rattle.fx_frame.specs.Stage.{Freezes, IsNew};
 ghost use Rattle.fx_cut.specs.Trim.{greatest_end};
 ghost use Rattle.fx_cut.specs.Pad.{IsPad, IsPadCount, IsPads, PadArguments, PadState, ats, later_count, lengths, pad_acts, pad_rises, pads_from_start, placed, silence_from, silent_at};
 
+use crate::many::{PassesMany, feed_by_pieces};
 use fx_fixed::At;
+use fx_frame::feed::copy_frames;
 use fx_frame::frozen::thawed_line_and_hand;
-use fx_frame::{Feeds, Frame, Line, Stage, ThawFault, WideFrame};
+use fx_frame::{Feeds, Frame, Line, Passed, Stage, ThawFault, WideFrame};
 use std::alloc::{AllocError, Global};
 use std::marker::Model;
 
@@ -41,6 +43,22 @@ fn silence_by_starts(pads: &[(u64, At)], place: u64) -> u64
         }
     }
     silent
+}
+
+/// How many frames from a place on have no silence before them, as far as the pads before the first one from the end say.
+fn quiet_from(pads: &[(u64, At)], place: u64) -> u64
+    ensures { (n : ℕ) → n < result → silent_at (pads_from_start pads.now) (place + n) ≡ 0 }
+{
+    let mut quiet = u64::MAX;
+    'pads: for (_length, at) in pads {
+        let At::Start(start) = at else {
+            return quiet;
+        };
+        if place <= *start {
+            quiet = quiet.min(*start - place);
+        }
+    }
+    quiet
 }
 
 /// How many silent frames stand before the frame at this place, in a sound of so many frames.
@@ -392,4 +410,27 @@ impl Stage for Pad {
     }
 }
 
-impl Feeds for Pad {}
+impl PassesMany for Pad {
+    /// Where it has no line, copies the frames up to the next pad.
+    fn pass_many(&mut self, input: &[i32], output: &mut [i32]) -> Passed {
+        let channels = self.channels;
+        if self.line.capacity() != 0 || self.hand.is_some() || self.silent != 0 || self.ended {
+            return Passed { taken: 0, given: 0 };
+        }
+        let quiet = quiet_from(&self.pads, self.taken);
+        let count = quiet.min((input.len() / channels) as u64) as usize;
+        let copied = copy_frames(&input[..count * channels], output, channels);
+        self.taken += copied as u64;
+        self.given += copied as u64;
+        Passed {
+            taken: copied,
+            given: copied,
+        }
+    }
+}
+
+impl Feeds for Pad {
+    fn feed(&mut self, input: &[i32], output: &mut [i32]) -> Passed {
+        feed_by_pieces(self, input, output)
+    }
+}

@@ -1,16 +1,18 @@
 //! The effect `trim` of sox(1): the frames after an odd number of positions.
-ghost use Rattle.std.specs.Prelude.{◌≡◌, ◌≤◌, ◌+◌, ◌-◌, ◌++◌, ◌^◌, [], length, count_by, if◌then◌else◌, Err, IfOk, MatchResult, None, option_to_list, true, false};
+ghost use Rattle.std.specs.Prelude.{ℕ, ◌≡◌, ◌<◌, ◌≤◌, ◌+◌, ◌-◌, ◌++◌, ◌^◌, [], length, count_by, if◌then◌else◌, Err, IfOk, MatchResult, None, option_to_list, true, false};
 ghost use Rattle.std.specs.List.{range_with_len};
 ghost use Rattle.std.specs.Int.{w32};
 ghost use Rattle.fx_fixed.specs.Positions.{place_of, places_of};
 ghost use Rattle.fx_frame.specs.Frozen.{IsHand};
 ghost use Rattle.fx_frame.specs.Line.{IsLine};
-ghost use Rattle.fx_frame.specs.Stage.{Freezes, IsNew};
+ghost use Rattle.fx_frame.specs.Stage.{Freezes, IsNew, is_enough};
 ghost use Rattle.fx_cut.specs.Trim.{IsTrim, IsTrimCount, TrimArguments, TrimState, greatest_end, keeps, kept_count, starts, trim_acts, trim_after, trim_enough};
 
+use crate::many::{PassesMany, feed_by_pieces};
 use fx_fixed::At;
+use fx_frame::feed::copy_frames;
 use fx_frame::frozen::thawed_line_and_hand;
-use fx_frame::{Feeds, Frame, Line, Stage, ThawFault, WideFrame};
+use fx_frame::{Feeds, Frame, Line, Passed, Stage, ThawFault, WideFrame};
 use std::alloc::{AllocError, Global};
 use std::marker::Model;
 
@@ -30,6 +32,52 @@ fn is_kept_by_starts(positions: &[At], place: u64) -> bool
         }
     }
     crossed % 2 == 1
+}
+
+/// Frames that follow one another and are all kept, or all left out.
+#[derive(Clone, Copy, Drop)]
+struct Stretch {
+    is_kept: bool,
+    frames: u64,
+}
+
+/// The frames from a place on, up to the next position, as far as the positions before the first one from the end say.
+fn stretch_from(positions: &[At], place: u64) -> Stretch
+    ensures { (n : ℕ) → n < result.frames → keeps (places_of 0 (starts positions.now)) (place + n) ≡ result.is_kept }
+{
+    let mut last: u64 = 0;
+    let mut crossed: usize = 0;
+    'positions: for at in positions {
+        let At::Start(start) = at else {
+            return Stretch {
+                is_kept: crossed % 2 == 1,
+                frames: u64::MAX,
+            };
+        };
+        let next = last.max(*start);
+        if place < next {
+            return Stretch {
+                is_kept: crossed % 2 == 1,
+                frames: next - place,
+            };
+        }
+        last = next;
+        crossed += 1;
+    }
+    Stretch {
+        is_kept: crossed % 2 == 1,
+        frames: u64::MAX,
+    }
+}
+
+/// How many frames a stage may still take before it has enough.
+fn wanted(enough: Option<u64>, taken: u64) -> u64
+    ensures { (n : ℕ) → n < result → is_enough enough (taken + n) ≡ false }
+{
+    match enough {
+        None => u64::MAX,
+        Some(enough) => enough.saturating_sub(taken),
+    }
 }
 
 /// Where a position lies in a sound of so many frames.
@@ -384,4 +432,39 @@ impl Stage for Trim {
     }
 }
 
-impl Feeds for Trim {}
+impl PassesMany for Trim {
+    /// Where it has no line, passes the frames up to the next position: by one copy, or none of them.
+    fn pass_many(&mut self, input: &[i32], output: &mut [i32]) -> Passed {
+        let channels = self.channels;
+        if self.line.capacity() != 0
+            || self.hand.is_some()
+            || self.ended
+            || output.len() < channels
+        {
+            return Passed { taken: 0, given: 0 };
+        }
+        let stretch = stretch_from(&self.positions, self.taken);
+        let ahead = stretch.frames.min(wanted(self.enough, self.taken));
+        let count = ahead.min((input.len() / channels) as u64) as usize;
+        if stretch.is_kept {
+            let copied = copy_frames(&input[..count * channels], output, channels);
+            self.taken += copied as u64;
+            self.given += copied as u64;
+            return Passed {
+                taken: copied,
+                given: copied,
+            };
+        }
+        self.taken += count as u64;
+        Passed {
+            taken: count,
+            given: 0,
+        }
+    }
+}
+
+impl Feeds for Trim {
+    fn feed(&mut self, input: &[i32], output: &mut [i32]) -> Passed {
+        feed_by_pieces(self, input, output)
+    }
+}

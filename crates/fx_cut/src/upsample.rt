@@ -1,12 +1,43 @@
 //! The effect `upsample` of sox(1): each frame is followed by silence.
-ghost use Rattle.std.specs.Prelude.{◌≡◌, ◌≤◌, Ok, IfOk, IfErr};
+ghost use Rattle.std.specs.Prelude.{◌≡◌, ◌≤◌, ◌-◌, ◌*◌, ◌++◌, Ok, IfOk, IfErr, drop, length, pos, replicate};
+ghost use Rattle.fx_frame.specs.Ring.{pieces};
 ghost use Rattle.fx_frame.specs.Stage.{Freezes, IsNew};
 ghost use Rattle.fx_cut.specs.Factor.{FactorArguments, IsFactor};
 ghost use Rattle.fx_cut.specs.Upsample.{UpsampleState, IsUpsample, upsample_acts};
+ghost use Rattle.fx_cut.specs.Lists.{spread};
 
+use crate::many::{PassesMany, feed_by_pieces};
 use fx_frame::frozen::thawed_hand;
-use fx_frame::{Feeds, Frame, Stage, ThawFault, WideFrame};
+use fx_frame::{Feeds, Frame, Passed, Stage, ThawFault, WideFrame};
 use std::marker::Model;
+
+/// Fills a group with a frame and silence behind it.
+fn fill_group(group: &mut [i32], frame: &[i32])
+    requires { length frame.now ≤ length group.old }
+    ensures { group.new ≡ frame.now ++ replicate (length group.old - length frame.now) (pos 0) }
+{
+    let channels = frame.len();
+    group[..channels].copy_from_slice(frame);
+    group[channels..].fill(0);
+}
+
+/// Copies so many frames in front of the input to the front of the output, each with the silence behind it.
+fn spread_frames(input: &[i32], output: &mut [i32], channels: usize, factor: usize, count: usize)
+    requires factor { 1 ≤ factor }
+    requires input { count * channels ≤ length input.now }
+    requires output { count * (factor * channels) ≤ length output.old }
+    ensures frames { pieces channels (count * factor) output.new ≡ spread channels factor count input.now }
+    ensures behind { drop (count * (factor * channels)) output.new ≡ drop (count * (factor * channels)) output.old }
+{
+    let mut read = 0;
+    let mut written = 0;
+    'frames: for _frame in 0..count {
+        let group = &mut output[written..written + factor * channels];
+        fill_group(group, &input[read..read + channels]);
+        read += channels;
+        written += factor * channels;
+    }
+}
 
 /// The stage of `upsample`: each frame, followed by f - 1 silent frames, where f is the factor. It takes up to
 /// `2^56` divided by f frames.
@@ -180,4 +211,27 @@ impl Stage for Upsample {
     }
 }
 
-impl Feeds for Upsample {}
+impl PassesMany for Upsample {
+    /// Passes each frame with the silence behind it.
+    fn pass_many(&mut self, input: &[i32], output: &mut [i32]) -> Passed {
+        let channels = self.channels;
+        if self.hand.is_some() || self.silent != 0 || self.ended {
+            return Passed { taken: 0, given: 0 };
+        }
+        let factor = self.factor as usize;
+        let count = (input.len() / channels).min(output.len() / channels / factor);
+        spread_frames(input, output, channels, factor, count);
+        self.taken += count as u64;
+        self.given += (count * factor) as u64;
+        Passed {
+            taken: count,
+            given: count * factor,
+        }
+    }
+}
+
+impl Feeds for Upsample {
+    fn feed(&mut self, input: &[i32], output: &mut [i32]) -> Passed {
+        feed_by_pieces(self, input, output)
+    }
+}

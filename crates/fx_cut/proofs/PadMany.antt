@@ -1,0 +1,152 @@
+-- Frames that a pad without a line passes many at a time, as far as no silence stands before them.
+use Rattle.std.proofs.Common.{◌≡◌, ◌+◌, ◌-◌, ◌*◌, ◌<◌, ◌≤◌, ◌^◌, ℕ, ℤ, suc, true, false, List, [], ◌∷◌, length, refl, sym, ap, ◌∙◌, arith, add-zero}
+use Rattle.std.specs.Prelude.{Some, None, option_to_list}
+use Rattle.std.specs.List.{All}
+use Rattle.std.proofs.lemmas.List.Elements.{All-head, All-tail}
+use Rattle.fx_frame.specs.Feed.{Fed, GaveNext, TookNext, nothing, taken, given}
+use Rattle.fx_frame.specs.Frame.{Samples}
+use Rattle.fx_frame.specs.Ring.{pieces}
+use Rattle.fx_frame.proofs.FedLaws.{Fed-then}
+use Rattle.fx_frame.proofs.Pieces.{length-pieces}
+use Rattle.fx_cut.specs.Pad.{PadState, IsPad, ats, pad_acts, pad_due, pad_left, pads_from_start, silent_at}
+use Rattle.fx_cut.specs.Trim.{greatest_end}
+use Rattle.fx_cut.proofs.Fallen.{fallen, stays}
+use Rattle.fx_cut.proofs.Hands.{empty_of}
+use Rattle.fx_cut.proofs.PadLaws.{upto_more}
+use Rattle.fx_cut.proofs.PadSteps.{Took-fallen, left-fallen, reached}
+use Rattle.fx_cut.proofs.Pieces.{pieces-sides}
+
+-- so many frames later, with no frame to give
+abbrev pub later : PadState → ℕ → PadState
+later s n = record s { hand = None; silent = 0; taken = s.taken + n; given = s.given + n }
+
+-- what a pad without a line meets before so many frames with no silence before them
+pub record Quiet (s : PadState) (n : ℕ) : Type 0 where
+  pub is : IsPad s
+  pub short : s.line.capacity ≡ 0
+  pub empty : s.hand ≡ None
+  pub none : s.silent ≡ 0
+  pub running : s.ended ≡ false
+  pub quiet : (i : ℕ) → i < n → silent_at (pads_from_start s.recipe.pads) (s.taken + i) ≡ 0
+  pub few : s.taken + n ≤ 2 ^ 56
+
+module _ (s : PadState) (n : ℕ) (x : Samples) (a : Quiet s (suc n)) where
+  no-line : s.line.items ≡ []
+  no-line = let short = a.short in let full = a.is.full a.running in empty_of s.line.items (omega arith)
+
+  no-ends : greatest_end (ats s.recipe.pads) ≡ 0
+  no-ends = sym a.is.capacity ∙ a.short
+
+  here : silent_at (pads_from_start s.recipe.pads) s.taken ≡ 0
+  here = let q = a.quiet 0 (omega arith) in rw add-zero at q
+
+  dry : pad_acts.dry s ≡ true
+  dry = rw (a.empty, a.none) refl
+
+  out : Some x ≡ fallen s.line.capacity s.line.items x
+  out = rw (a.short, no-line) refl
+
+  stay : s.line.items ≡ stays s.line.capacity s.line.items x
+  stay = rw (a.short, no-line) refl
+
+  place : s.taken - 0 ≡ s.taken
+  place = omega arith
+
+  silent : 0 ≡ silent_at (pads_from_start s.recipe.pads) (s.taken - length s.line.items)
+  silent = rw (no-line, place) (sym here)
+
+  due : pad_due s.recipe.pads (s.taken + 1) ≡ pad_due s.recipe.pads s.taken + 1
+  due =
+      let next : s.taken + 1 - 0 ≡ s.taken + 1 = omega arith in
+      let more = upto_more s.taken (pads_from_start s.recipe.pads) in
+      let h = here in
+      rw (no-ends, next, place) (omega (arith, more, h))
+
+  pub is-next : IsPad (later s 1)
+  is-next =
+      let is = a.is in
+      let few = a.few in
+      let short = a.short in
+      let none = a.none in
+      let lined : length s.line.items ≡ 0 = ap length no-line in
+      let hand : length (option_to_list s.hand) ≡ 0 = ap (λ h. length (option_to_list h)) a.empty in
+      let counted = is.counted a.running in
+      let next = due in
+      record {
+        line = is.line;
+        channels = is.channels;
+        capacity = is.capacity;
+        pads = is.pads;
+        few = omega arith;
+        held = omega arith;
+        within = λ z.
+            let m = is.within (x ∷ z) in
+            let left = ap length (left-fallen s x is dry a.running s.line x 0 out stay silent z) in
+            let left' = rw a.running at left in
+            let same : length (x ∷ pad_left (later s 1) z) ≡ length (pad_left s (x ∷ z)) = rw a.running left' in
+            omega arith;
+        full = λ r. omega arith;
+        counted = λ r. omega arith;
+        over = λ r. absurd (cc (r, a.running));
+        fits = λ y e. absurd (cc);
+      }
+
+  pub quiet-next : Quiet (later s 1) n
+  quiet-next = record {
+    is = is-next;
+    short = a.short;
+    empty = refl;
+    none = refl;
+    running = a.running;
+    quiet = λ i h. let e : s.taken + (i + 1) ≡ s.taken + 1 + i = omega arith in let q = a.quiet (i + 1) (omega arith) in rw e at q;
+    few = let few = a.few in omega arith;
+  }
+
+  pub one-fed : length x ≡ s.recipe.channels → Fed pad_acts s (x ∷ []) (x ∷ []) (later s 1)
+  one-fed sides =
+      let mid : PadState = reached s s.line 0 (Some x) in
+      let last : PadState = later s 1 in
+      let is = is-next in
+      let counted = is.counted a.running in
+      let old = a.is.counted a.running in
+      let within = is.within [] in
+      let took : TookNext pad_acts s mid x = record {
+        dry = dry;
+        not_ended = a.running;
+        not_spent = rw dry refl;
+        took = Took-fallen s x a.is dry a.running s.line x 0 out stay silent;
+        held = rw no-line (omega arith);
+      } in
+      let gave : GaveNext pad_acts mid last x = record {
+        gave = record {
+          was_wet = refl;
+          gives = record { clips = 0; first = λ z. rw a.running refl; counted = refl };
+          channels = sides;
+          due = λ e. omega arith;
+          most = omega arith;
+          recipe_stays = refl;
+        };
+        held = rw no-line (omega arith);
+      } in
+      given (x ∷ []) [] x mid last (taken [] [] x s mid nothing took) gave
+
+pub quiet-fed : (xs : List Samples) (s : PadState) → Quiet s (length xs) → All (λ (x : Samples). length x ≡ s.recipe.channels) xs → Fed pad_acts s xs xs (later s (length xs)) × IsPad (later s (length xs))
+quiet-fed [] s a sides =
+    let same : ◌≡◌ {A = PadState} (later s 0) s = rw (add-zero s.taken, add-zero s.given, ← a.empty, ← a.none) refl in
+    rw same (nothing, a.is)
+quiet-fed (x ∷ xs) s a sides =
+    let one = one-fed s (length xs) x a (All-head (λ (y : Samples). length y ≡ s.recipe.channels) x xs sides) in
+    let rest = quiet-fed xs (later s 1) (quiet-next s (length xs) x a) (All-tail (λ (y : Samples). length y ≡ s.recipe.channels) x xs sides) in
+    let count : s.taken + suc (length xs) ≡ s.taken + 1 + length xs = omega arith in
+    let made : s.given + suc (length xs) ≡ s.given + 1 + length xs = omega arith in
+    rw (count, made) (Fed-then pad_acts s (later s 1) (later (later s 1) (length xs)) (x ∷ []) (x ∷ []) xs xs one rest.0, rest.1)
+
+-- so many frames in front of the input
+pub quiet-passed : (s : PadState) (n : ℕ) (input out : List ℤ) → Quiet s n → n * s.recipe.channels ≤ length input → pieces s.recipe.channels n out ≡ pieces s.recipe.channels n input
+    → Fed pad_acts s (pieces s.recipe.channels n input) (pieces s.recipe.channels n out) (record s { taken = s.taken + n; given = s.given + n }) × IsPad (record s { taken = s.taken + n; given = s.given + n })
+quiet-passed s n input out a room same =
+    let ch : ℕ = s.recipe.channels in
+    let many : length (pieces ch n input) ≡ n = length-pieces ch n input in
+    let all = quiet-fed (pieces ch n input) s (rw many a) (pieces-sides ch n input room) in
+    let last : ◌≡◌ {A = PadState} (record s { taken = s.taken + n; given = s.given + n }) (later s n) = rw (a.empty, a.none) refl in
+    rw (last, same) (rw many at all)

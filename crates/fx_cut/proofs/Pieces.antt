@@ -1,0 +1,136 @@
+-- A piece that a stage passed at once, and the frames behind it.
+use Rattle.std.proofs.Common.{◌≡◌, ◌<◌, ◌+◌, ◌-◌, ◌*◌, ◌/◌, ◌≤◌, ℕ, zero, suc, true, false, List, [], ◌∷◌, ◌++◌, length, take, drop, refl, sym, ap, ◌∙◌, arith, append-nil, append_assoc, length-append, length-drop}
+use Rattle.std.specs.Prelude.{ℤ}
+use Rattle.std.specs.List.{All}
+use Rattle.std.proofs.lemmas.List.Elements.{All-cons, All-nil}
+use Rattle.std.proofs.lemmas.List.{drop-drop, drop_all, drop_at, length-take, length-take-le, take-take, take_all}
+use Rattle.std.proofs.Math.Nat.{add-mul, div-mul-le_self, mul-le-mul_right, suc-mul, mul-le-mul_left, le_of_mul-le-mul_right}
+use Rattle.fx_frame.specs.Feed.{Fed}
+use Rattle.fx_frame.specs.Ring.{pieces}
+use Rattle.fx_frame.specs.Stage.{Acts, kind, spent}
+use Rattle.fx_frame.proofs.FedLaws.{Fed-gives}
+use Rattle.fx_frame.proofs.FeedParts.{Fed-behind}
+use Rattle.fx_frame.proofs.Feeding.{pieces-same}
+use Rattle.fx_frame.proofs.Pieces.{length-pieces}
+use borrow.Rule.Slice.PartMut.{put_mid}
+
+module _ {X : Type 0} where
+  -- the part of a slice from a place on
+  pub part-from : (a : ℕ) (xs : List X) → take (length xs - a) (drop a xs) ≡ drop a xs
+  part-from a xs = take_all (length xs - a) (drop a xs) (omega (arith, length-drop a xs))
+
+  -- and the slice after that part was written
+  pub put-from : (a : ℕ) (xs ys : List X) → put_mid a (length xs - a) xs ys ≡ take a xs ++ ys
+  put-from a xs ys =
+      let none : drop (length xs - a) (drop a xs) ≡ [] = drop_all (length xs - a) (drop a xs) (omega (arith, length-drop a xs)) in
+      rw none (ap (λ l. take a xs ++ l) (append-nil ys))
+
+-- the first frame, and those behind it
+pub first-piece : {X : Type 0} (size n : ℕ) (xs : List X) → 1 ≤ n → pieces size n xs ≡ take size xs ∷ pieces size (n - 1) (drop size xs)
+first-piece size zero xs h = absurd (omega arith)
+first-piece size (suc n) xs h = let e : suc n - 1 ≡ n = omega arith in rw e refl
+
+-- a slice after a frame was written at a place
+pub put-piece : {X : Type 0} (at size : ℕ) (out f : List X) → length f ≡ size → put_mid at (at + size - at) out f ≡ take at out ++ f ++ drop (at + length f) out
+put-piece at size out f long =
+    let many : at + size - at ≡ length f = omega (arith, long) in
+    ap (λ n. take at out ++ (f ++ drop n (drop at out))) many ∙ ap (λ l. take at out ++ (f ++ l)) (drop-drop (length f) at out) ∙ sym (append_assoc (take at out) f (drop (at + length f) out))
+
+-- the frames of a list that is long enough have their channels
+pub pieces-sides : {X : Type 0} (size n : ℕ) (xs : List X) → n * size ≤ length xs → All (λ (f : List X). length f ≡ size) (pieces size n xs)
+pieces-sides {X} size zero xs h = All-nil (λ (f : List X). length f ≡ size)
+pieces-sides {X} size (suc n) xs h =
+    let more : suc n * size ≡ size + n * size = omega (arith, suc-mul n size) in
+    All-cons (λ (f : List X). length f ≡ size) (take size xs) (pieces size n (drop size xs)) (length-take-le size xs (omega arith)) (pieces-sides size n (drop size xs) (omega (arith, length-drop size xs)))
+
+-- frames of at least one sample are no more than the samples
+pub few-frames : (n w len : ℕ) → 1 ≤ w → n * w ≤ len → n ≤ len
+few-frames n w len h k = let m : n * 1 ≤ n * w = mul-le-mul_left n h in omega arith
+
+-- no more frames than there are
+pub frames-room : (n w len : ℕ) → n ≤ len / w → n * w ≤ len
+frames-room n w len h = let all : n * w ≤ len / w * w = mul-le-mul_right w h in omega (arith, all, div-mul-le_self len w)
+
+-- as many frames as fit in those of a number
+pub few-pieces : (n m w : ℕ) → 1 ≤ w → n * w ≤ m * w → n ≤ m
+few-pieces n m w h k = le_of_mul-le-mul_right k (omega arith)
+
+-- what lies behind frames does not matter
+pub pieces-cut : {X : Type 0} (size n m : ℕ) (xs : List X) → n * size ≤ length (take m xs) → pieces size n (take m xs) ≡ pieces size n xs
+pieces-cut size n m xs h =
+    let long : n * size ≤ length xs = omega (arith, h, length-take m xs) in
+    pieces-same size n (take m xs) xs h long (take-take (n * size) m xs (omega (arith, h, length-take m xs)))
+
+module _ {S R : Type 0} (acts : Acts S R) where
+  -- what one call passed: so many frames of the input, and so many to the output
+  pub record FedFront (first s : S) (input start out : List ℤ) (n k : ℕ) : Type 0 where
+    pub fed : Fed acts first (pieces (kind acts first).inputs n input) (pieces (kind acts first).outputs k out) s
+    pub read : n * (kind acts first).inputs ≤ length input
+    pub written : k * (kind acts first).outputs ≤ length out
+    pub behind : drop (k * (kind acts first).outputs) out ≡ drop (k * (kind acts first).outputs) start
+
+  -- and that it passed all that it could
+  pub record FedOut (first s : S) (input out : List ℤ) (n k : ℕ) : Type 0 where
+    pub dry : k * (kind acts first).outputs + (kind acts first).outputs ≤ length out → acts.dry s ≡ true
+    pub used : k * (kind acts first).outputs + (kind acts first).outputs ≤ length out → (acts.counts s).ended ≡ false → spent acts s ≡ false → length input < n * (kind acts first).inputs + (kind acts first).inputs
+
+  -- what took none of an input is the same of any other
+  pub front-any : (first s : S) (input start out : List ℤ) (n k : ℕ) → FedFront first s [] start out n k → FedFront first s input start out n k
+  front-any first s input start out n k one =
+      let none = one.read in
+      record { fed = rw (← pieces-cut (kind acts first).inputs n 0 input none) one.fed; read = omega arith; written = one.written; behind = one.behind }
+
+  module _ (first s t : S) (input start mid behind : List ℤ) (n m k j : ℕ) (one : FedFront first s input start mid n k) where
+    pub kind-stays : kind acts s ≡ kind acts first
+    kind-stays = ap acts.kind_of (Fed-gives acts first s _ _ one.fed).recipe_stays
+
+    pub counted : (acts.counts s).taken ≡ (acts.counts first).taken + n
+    counted = (Fed-gives acts first s _ _ one.fed).taken ∙ ap (λ l. (acts.counts first).taken + l) (length-pieces (kind acts first).inputs n input)
+
+    -- as many frames of the rest are there as of the whole
+    pub read-both : (i : ℕ) → i * (kind acts s).inputs ≤ length (drop (n * (kind acts first).inputs) input) → (n + i) * (kind acts first).inputs ≤ length input
+    read-both i h =
+        let h' = rw kind-stays at h in
+        let r = one.read in
+        omega (arith, h', add-mul n i (kind acts first).inputs, length-drop (n * (kind acts first).inputs) input)
+
+    module _ (part room : List ℤ) (is-part : part ≡ drop (n * (kind acts first).inputs) input) (is-room : room ≡ drop (k * (kind acts first).outputs) mid) (two : FedFront s t part room behind m j) where
+      abbrev pub new : List ℤ
+      new = take (k * (kind acts first).outputs) mid ++ behind
+
+      front : length (take (k * (kind acts first).outputs) mid) ≡ k * (kind acts first).outputs
+      front = length-take-le (k * (kind acts first).outputs) mid one.written
+
+      long : length new ≡ k * (kind acts first).outputs + length behind
+      long = omega (arith, front, length-append (take (k * (kind acts first).outputs) mid) behind)
+
+      pub long-both : length behind ≡ length room → length new ≡ length mid
+      long-both same = let w = one.written in omega (arith, long, same, ap length is-room, length-drop (k * (kind acts first).outputs) mid)
+
+      pub front-both : FedFront first t input start new (n + m) (k + j)
+      front-both =
+          let ins : ℕ = (kind acts first).inputs in
+          let outs : ℕ = (kind acts first).outputs in
+          let fed = rw (kind-stays, is-part) at two.fed in
+          let wrote = rw kind-stays at two.written in
+          let rest = rw (kind-stays, is-room) at two.behind in
+          let more : (k + j) * outs ≡ k * outs + j * outs = add-mul k j outs in
+          record {
+            fed = Fed-behind acts ins outs n m k j input mid behind new first s t one.written refl one.fed fed;
+            read = read-both m (rw is-part at two.read);
+            written = omega (arith, more, wrote, long);
+            behind = rw more (sym (drop-drop (j * outs) (k * outs) new) ∙ ap (drop (j * outs)) (drop_at (take (k * outs) mid) behind (k * outs) front) ∙ rest ∙ ap (drop (j * outs)) one.behind ∙ drop-drop (j * outs) (k * outs) start);
+          }
+
+      pub out-both : FedOut s t part behind m j → FedOut first t input new (n + m) (k + j)
+      out-both out =
+          let ins : ℕ = (kind acts first).inputs in
+          let outs : ℕ = (kind acts first).outputs in
+          let more : (k + j) * outs ≡ k * outs + j * outs = add-mul k j outs in
+          let dry = rw kind-stays at out.dry in
+          let used = rw (kind-stays, is-part) at out.used in
+          let r = one.read in
+          record {
+            dry = λ h. dry (omega (arith, h, more, long));
+            used = λ h running some. let u = used (omega (arith, h, more, long)) running some in omega (arith, u, add-mul n m ins, length-drop (n * ins) input);
+          }

@@ -1,0 +1,76 @@
+//! Stages that pass many frames in one piece, and the rest one at a time.
+ghost use Rattle.std.specs.Prelude.{◌≡◌, ◌<◌, ◌≤◌, ◌+◌, ◌*◌, ℕ, true, false, drop, length};
+ghost use Rattle.fx_frame.specs.Feed.{Fed};
+ghost use Rattle.fx_frame.specs.Ring.{pieces};
+ghost use Rattle.fx_frame.specs.Stage.{kind, spent};
+
+use fx_frame::feed::feed_by_frames;
+use fx_frame::{Passed, Stage};
+
+/// A stage that can pass many frames in one piece.
+pub trait PassesMany: Stage {
+    /// Takes frames from the front of the input, and writes those that are given to the front of the output, as far as one
+    /// piece goes; none where the stage is in no state for that.
+    fn pass_many(&mut self, input: &[i32], output: &mut [i32]) -> Passed
+        requires channels { (1 ≤ (kind Self.acts self.old).inputs) × ((kind Self.acts self.old).inputs ≤ 16) }
+        requires below_limit { (n : ℕ) → n * (kind Self.acts self.old).inputs ≤ length input.now → (Self.acts.counts self.old).taken + n ≤ (kind Self.acts self.old).limit }
+        ensures fed { Fed Self.acts self.old (pieces (kind Self.acts self.old).inputs result.taken input.now) (pieces (kind Self.acts self.old).outputs result.given output.new) self.new }
+        ensures read { result.taken * (kind Self.acts self.old).inputs ≤ length input.now }
+        ensures written { result.given * (kind Self.acts self.old).outputs ≤ length output.new }
+        ensures behind { drop (result.given * (kind Self.acts self.old).outputs) output.new ≡ drop (result.given * (kind Self.acts self.old).outputs) output.old };
+}
+
+/// Passes a piece first, and then frame by frame.
+fn feed_piece<S: PassesMany>(stage: &mut S, input: &[i32], output: &mut [i32]) -> Passed
+    requires channels { (1 ≤ (kind S.acts stage.old).inputs) × ((kind S.acts stage.old).inputs ≤ 16) }
+    requires below_limit { (n : ℕ) → n * (kind S.acts stage.old).inputs ≤ length input.now → (S.acts.counts stage.old).taken + n ≤ (kind S.acts stage.old).limit }
+    ensures fed { Fed S.acts stage.old (pieces (kind S.acts stage.old).inputs result.taken input.now) (pieces (kind S.acts stage.old).outputs result.given output.new) stage.new }
+    ensures read { result.taken * (kind S.acts stage.old).inputs ≤ length input.now }
+    ensures written { result.given * (kind S.acts stage.old).outputs ≤ length output.new }
+    ensures behind { drop (result.given * (kind S.acts stage.old).outputs) output.new ≡ drop (result.given * (kind S.acts stage.old).outputs) output.old }
+    ensures dry { result.given * (kind S.acts stage.old).outputs + (kind S.acts stage.old).outputs ≤ length output.new → S.acts.dry stage.new ≡ true }
+    ensures used { result.given * (kind S.acts stage.old).outputs + (kind S.acts stage.old).outputs ≤ length output.new → (S.acts.counts stage.new).ended ≡ false → spent S.acts stage.new ≡ false
+        → length input.now < result.taken * (kind S.acts stage.old).inputs + (kind S.acts stage.old).inputs }
+{
+    let inputs = stage.in_channels();
+    let outputs = stage.out_channels();
+    if outputs == 0 {
+        return feed_by_frames(stage, input, output);
+    }
+    let piece = stage.pass_many(input, output);
+    let read = piece.taken * inputs;
+    let written = piece.given * outputs;
+    let rest = feed_by_frames(stage, &input[read..], &mut output[written..]);
+    Passed {
+        taken: piece.taken + rest.taken,
+        given: piece.given + rest.given,
+    }
+}
+
+/// What `feed` does for a stage that can pass many frames: it gives what waits, passes a piece, and then goes on frame by
+/// frame.
+pub fn feed_by_pieces<S: PassesMany>(stage: &mut S, input: &[i32], output: &mut [i32]) -> Passed
+    requires channels { (1 ≤ (kind S.acts stage.old).inputs) × ((kind S.acts stage.old).inputs ≤ 16) }
+    requires below_limit { (n : ℕ) → n * (kind S.acts stage.old).inputs ≤ length input.now → (S.acts.counts stage.old).taken + n ≤ (kind S.acts stage.old).limit }
+    ensures fed { Fed S.acts stage.old (pieces (kind S.acts stage.old).inputs result.taken input.now) (pieces (kind S.acts stage.old).outputs result.given output.new) stage.new }
+    ensures read { result.taken * (kind S.acts stage.old).inputs ≤ length input.now }
+    ensures written { result.given * (kind S.acts stage.old).outputs ≤ length output.new }
+    ensures behind { drop (result.given * (kind S.acts stage.old).outputs) output.new ≡ drop (result.given * (kind S.acts stage.old).outputs) output.old }
+    ensures dry { result.given * (kind S.acts stage.old).outputs + (kind S.acts stage.old).outputs ≤ length output.new → S.acts.dry stage.new ≡ true }
+    ensures used { result.given * (kind S.acts stage.old).outputs + (kind S.acts stage.old).outputs ≤ length output.new → (S.acts.counts stage.new).ended ≡ false → spent S.acts stage.new ≡ false
+        → length input.now < result.taken * (kind S.acts stage.old).inputs + (kind S.acts stage.old).inputs }
+{
+    let inputs = stage.in_channels();
+    let outputs = stage.out_channels();
+    if outputs == 0 {
+        return feed_by_frames(stage, input, output);
+    }
+    let waiting = feed_by_frames(stage, &input[..0], output);
+    let read = waiting.taken * inputs;
+    let written = waiting.given * outputs;
+    let rest = feed_piece(stage, &input[read..], &mut output[written..]);
+    Passed {
+        taken: waiting.taken + rest.taken,
+        given: waiting.given + rest.given,
+    }
+}
