@@ -7,7 +7,7 @@ ghost use Rattle.fx_tap.specs.Tapped.{IsTapState, TapState, longest, sample_befo
 ghost use Rattle.fx_tap.specs.Near.{delays-near};
 ghost use Rattle.std.proofs.Common.{zero-le};
 
-use crate::tapped::{Tapped, Tapping};
+use crate::tapped::{Tapped, Tapping, TapsMany};
 use fx_frame::inner::frame_of;
 use fx_frame::{Frame, Line, ThawFault, WideFrame};
 use std::alloc::{AllocError, Global};
@@ -154,3 +154,5 @@ impl Tapped<Delays> {
         Tapped::thawed(alloc, Delays { delays }, reach, frames, numbers)
     }
 }
+
+impl TapsMany for Delays {}

@@ -8,7 +8,7 @@ ghost use Rattle.fx_tap.specs.Near.{echoes-near};
 ghost use Rattle.fx_tap.specs.Tapped.{IsTapState, TapState, sample_before};
 
 use crate::sums::{Sums, add_scaled, rounded_sums};
-use crate::tapped::{Tapped, Tapping};
+use crate::tapped::{Tapped, Tapping, TapsMany};
 use fx_fixed::{Gain, UNIT};
 use fx_frame::{Frame, Line, ThawFault, WideFrame};
 use std::alloc::{AllocError, Global};
@@ -178,3 +178,5 @@ impl Tapped<Echoes> {
         Tapped::thawed(alloc, arguments, reach, frames, numbers)
     }
 }
+
+impl TapsMany for Echoes {}
