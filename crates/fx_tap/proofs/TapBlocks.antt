@@ -1,5 +1,5 @@
 -- Frames that lie one after another, each made of itself and of those before it.
-use Rattle.std.proofs.Common.{◌≡◌, ◌+◌, ◌-◌, ◌*◌, ◌≤◌, ℕ, ℤ, false, List, [], ◌∷◌, ◌++◌, length, map, min, refl, sym, ap, ◌∙◌, arith, add-zero, append-nil, append_assoc, length-append, length-drop, subst, replicate}
+use Rattle.std.proofs.Common.{◌≡◌, ◌+◌, ◌-◌, ◌*◌, ◌≤◌, ℕ, ℤ, false, List, [], ◌∷◌, ◌++◌, length, map, min, refl, sym, ap, ◌∙◌, arith, add-zero, append-nil, append_assoc, length-append, length-drop, subst, replicate, get_or, pos}
 use Rattle.std.specs.Prelude.{None, Some, ◌^◌}
 use Rattle.std.specs.Int.{w32}
 use Rattle.std.proofs.Math.Nat.{add-mul}
@@ -17,6 +17,18 @@ use Rattle.fx_frame.proofs.Pieces.{keep-twice, length-pieces}
 use Rattle.fx_tap.specs.Tapped.{Taps, TapState, IsNear, IsTapState, behind, clips_behind, frames_behind, last_of, sample_before, tap_acts}
 use Rattle.fx_tap.proofs.Blocks.{pieces-sides}
 use Rattle.fx_tap.proofs.TapLaws.{behind-step}
+
+-- the samples of one channel, and of two
+pub one-sample : (xs : List ℤ) → length xs ≡ 1 → get_or xs 0 (pos 0) ∷ [] ≡ xs
+one-sample [] h = absurd (omega arith)
+one-sample (x ∷ []) h = refl
+one-sample (x ∷ y ∷ xs) h = absurd (omega arith)
+
+pub two-samples : (xs : List ℤ) → length xs ≡ 2 → get_or xs 0 (pos 0) ∷ get_or xs 1 (pos 0) ∷ [] ≡ xs
+two-samples [] h = absurd (omega arith)
+two-samples (x ∷ []) h = absurd (omega arith)
+two-samples (x ∷ y ∷ []) h = refl
+two-samples (x ∷ y ∷ z ∷ xs) h = absurd (omega arith)
 
 -- one more frame behind the last ones
 pub last-more : (c : ℕ) (items xs : List Samples) (x : Samples) → last_of c (last_of c (items ++ xs) ++ x ∷ []) ≡ last_of c (items ++ (xs ++ x ∷ []))

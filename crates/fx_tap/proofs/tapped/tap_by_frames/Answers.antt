@@ -1,4 +1,6 @@
-use Rattle.std.proofs.Common.{◌≡◌, ◌+◌, ◌-◌, ◌*◌, ◌≤◌, ℕ, List, [], ◌∷◌, ◌++◌, length, take, drop, sym, refl, ap, ◌∙◌, arith, add-one, suc}
+use Rattle.std.proofs.Common.{rules, append_assoc, ◌≡◌, ◌+◌, ◌-◌, ◌*◌, ◌≤◌, ℕ, List, [], ◌∷◌, ◌++◌, length, take, drop, sym, refl, ap, ◌∙◌, arith, add-one, suc}
+use Rattle.std.specs.Prelude.{ℤ}
+use Rattle.std.proofs.lemmas.List.{drop-drop}
 use Rattle.std.proofs.Math.Nat.{suc-mul, mul-le-mul_right}
 use Rattle.fx_frame.specs.Frame.{Samples}
 use Rattle.fx_frame.specs.Ring.{pieces}
@@ -35,33 +37,41 @@ frames-preserved g c =
     let held : length items ≤ room = c.len-held.ensures.line.within in
     let long : taps.reach m ≤ room = let e = c.requires.capacity in omega arith in
     let xs : List Samples = pieces size turn c.args.input.now in
-    let x : Samples = c.frame_at-frame.result in
-    let made : Samples = c.tap-made.result.0 in
+    let x : Samples = take size (drop c.frames.at c.args.input.now) in
+    let made : Samples = c.tap_into-clips.new.out in
+    let is_size : c.channels-channels.result ≡ size = c.channels-channels.ensures.value in
+    let width : c.frames.at + size - c.frames.at ≡ size = omega arith in
     let behind : List Samples = last_of room (items ++ xs) in
     let is_made : Given = taps.made m (sample_before (behind ++ x ∷ []) (length behind)) in
-    let sides : length made ≡ size = c.tap-made.ensures.channels in
     let next : suc turn * size ≤ c.args.count * size = mul-le-mul_right size (omega arith) in
     let fits : c.frames.at + size ≤ length c.frames.output = omega (arith, next, suc-mul turn size, old.at_is, c.requires.output, c.frames.auto.output) in
-    let is : x ≡ take size (drop c.frames.at c.args.input.now) = rw c.channels-channels.ensures.value at c.frame_at-frame.ensures.frame in
-    let more : pieces size (turn + 1) c.args.input.now ≡ xs ++ x ∷ [] = pieces-more size turn c.frames.at c.args.input.now old.at_is ∙ ap (λ y. xs ++ y ∷ []) (sym is) in
-    let framed : made ≡ is_made.samples = c.tap-made.ensures.frame ∙ ap (λ (l : List Samples). (taps.made m (sample_before (l ++ x ∷ []) (length l))).samples) old.line in
-    let clipped : c.tap-made.result.1 ≡ is_made.clips = c.tap-made.ensures.clips ∙ ap (λ (l : List Samples). (taps.made m (sample_before (l ++ x ∷ []) (length l))).clips) old.line in
+    let sides : length made ≡ size = search (rules, is_size, fits) in
+    let out : List ℤ = take c.frames.at c.frames.output ++ (made ++ drop size (drop c.frames.at c.frames.output)) in
+    let put : out ≡ take c.frames.at c.frames.output ++ made ++ drop (c.frames.at + length made) c.frames.output =
+    sym (append_assoc (take c.frames.at c.frames.output) made (drop size (drop c.frames.at c.frames.output)))
+    ∙ ap (λ rest. take c.frames.at c.frames.output ++ made ++ rest) (drop-drop size c.frames.at c.frames.output ∙ ap (λ n. drop (c.frames.at + n) c.frames.output) (sym sides)) in
+    let more : pieces size (turn + 1) c.args.input.now ≡ xs ++ x ∷ [] = pieces-more size turn c.frames.at c.args.input.now old.at_is in
+    let ensured = rw (is_size, width) at c.tap_into-clips.ensures in
+    let pushes = rw (is_size, width) at c.push_samples.ensures.items in
+    let framed : made ≡ is_made.samples = ensured.frame ∙ ap (λ (l : List Samples). (taps.made m (sample_before (l ++ x ∷ []) (length l))).samples) old.line in
+    let clipped : c.tap_into-clips.result ≡ is_made.clips = ensured.clips ∙ ap (λ (l : List Samples). (taps.made m (sample_before (l ++ x ∷ []) (length l))).clips) old.line in
     let few16 : taps.most_clips m ≤ 16 = g.met.T.Tapping.few_clips m in
+    rw (is_size, width)
     record {
-      at_is = omega (arith, old.at_is, c.channels-channels.ensures.value, suc-mul turn size, add-one turn);
+      at_is = omega (arith, old.at_is, suc-mul turn size, add-one turn);
       done =
-          pieces-put size turn c.frames.at c.frames.output made c.put_frame.new.output old.at_is sides fits c.put_frame.ensures
+          pieces-put size turn c.frames.at c.frames.output made out old.at_is sides fits put
           ∙ ap (λ ps. ps ++ made ∷ []) old.done ∙ ap (λ y. frames_behind taps m items xs ++ y ∷ []) framed
           ∙ sym (ap (frames_behind taps m items) more ∙ frames-more taps g.met.T.Tapping.near m room xs items x held long);
-      behind = rw c.channels-channels.ensures.value (drop-put c.frames.at size c.args.output.now c.frames.output made c.put_frame.new.output sides fits c.put_frame.ensures old.behind);
+      behind = (drop-put c.frames.at size c.args.output.now c.frames.output made out sides fits put old.behind);
       counted =
-          ap (λ n. n + c.tap-made.result.1) old.counted ∙ ap (λ n. clips_behind taps m items xs + n) clipped
+          ap (λ n. n + c.tap_into-clips.result) old.counted ∙ ap (λ n. clips_behind taps m items xs + n) clipped
           ∙ sym (ap (clips_behind taps m items) more ∙ clips-more taps g.met.T.Tapping.near m room xs items x held long);
-      few = omega (arith, old.few, c.tap-made.ensures.few, suc-mul turn (taps.most_clips m), add-one turn);
-      small = omega (arith, old.small, c.tap-made.ensures.few, few16);
+      few = omega (arith, old.few, c.tap_into-clips.ensures.few, suc-mul turn (taps.most_clips m), add-one turn);
+      small = omega (arith, old.small, c.tap_into-clips.ensures.few, few16);
       line =
-          c.push.ensures.items ∙ ap (λ n. drop (length (c.frames.line.items ++ x ∷ []) - n) (c.frames.line.items ++ x ∷ [])) old.line_capacity
+          pushes ∙ ap (λ n. drop (length (c.frames.line.items ++ x ∷ []) - n) (c.frames.line.items ++ x ∷ [])) old.line_capacity
           ∙ ap (λ (l : List Samples). last_of room (l ++ x ∷ [])) old.line ∙ last-more room items xs x ∙ sym (ap (λ ys. last_of room (items ++ ys)) more);
-      line_capacity = c.push.ensures.capacity ∙ old.line_capacity;
-      line_channels = c.push.ensures.channels ∙ old.line_channels;
+      line_capacity = c.push_samples.ensures.capacity ∙ old.line_capacity;
+      line_channels = c.push_samples.ensures.channels ∙ old.line_channels;
     }
