@@ -1,10 +1,11 @@
 -- A stage that makes each frame of that frame and of frames at fixed distances before it (this project's profile).
-use Rattle.std.specs.Prelude.{ℕ, ℤ, pos, ◌+◌, ◌-◌, ◌*◌, ◌≤◌, ◌≡◌, Bool, true, false, ◌&&◌, Option, None, List, [], ◌∷◌, ◌++◌, length, map, max, min, replicate, option_to_list, is_none, slice_index_or, nat_le, nat_eq, cond}
+use Rattle.std.specs.Prelude.{ℕ, ℤ, pos, ◌+◌, ◌-◌, ◌*◌, ◌≤◌, ◌≡◌, Bool, true, false, ◌&&◌, Option, None, List, [], ◌∷◌, ◌++◌, length, drop, map, max, min, replicate, option_to_list, is_none, slice_index_or, nat_le, nat_eq, cond}
 use Rattle.std.proofs.Common.{arith}
 use Rattle.std.specs.Int.{w32}
 use Rattle.fx_frame.specs.Frame.{Samples, silence}
 use Rattle.fx_frame.specs.Line.{Frames, IsLine}
 use Rattle.fx_frame.specs.Frozen.{IsHand}
+use Rattle.fx_frame.specs.Holds.{total}
 use Rattle.fx_frame.specs.Stage.{Given, Acts}
 use Rattle.fx_tap.specs.Mapped.{most_taken}
 use Rattle.fx_tap.specs.Lists.{tabulate}
@@ -31,6 +32,10 @@ pub record Taps (M : Type 0) : Type 0 where
   pub most_clips : M → ℕ
   -- the frame that is made of the samples that came
   pub made : M → Past → Given
+
+-- the last so many frames
+abbrev pub last_of : ℕ → List Samples → List Samples
+last_of count frames = drop (length frames - count) frames
 
 -- two pasts agree as far as that
 abbrev pub Agree : ℕ → Past → Past → Type 0
@@ -79,6 +84,14 @@ module _ {M : Type 0} (taps : Taps M) where
   -- what is given for frames that come behind those of the line
   abbrev pub behind : M → List Samples → List Samples → List Given
   behind m items coming = tabulate (λ n. taps.made m (sample_before (items ++ coming) n)) (length items) (length coming)
+
+  -- the frames that are given for them
+  abbrev pub frames_behind : M → List Samples → List Samples → List Samples
+  frames_behind m items coming = map (λ (g : Given). g.samples) (behind m items coming)
+
+  -- how many of their samples were clipped
+  abbrev pub clips_behind : M → List Samples → List Samples → ℕ
+  clips_behind m items coming = total (λ (g : Given). g.clips) (behind m items coming)
 
   -- the frames that come, with silence where the sound has ended
   abbrev pub coming_of : TapState M → List Samples → List Samples

@@ -7,8 +7,9 @@ ghost use Rattle.fx_tap.specs.Tapped.{IsTapState, TapState, longest, sample_befo
 ghost use Rattle.fx_tap.specs.Near.{delays-near};
 ghost use Rattle.std.proofs.Common.{zero-le};
 
-use crate::tapped::{Tapped, Tapping};
-use fx_frame::inner::frame_of;
+use crate::sums::sample_or_silence;
+use crate::tapped::{Tapped, Tapping, TapsMany};
+use fx_frame::inner::{frame_of, samples};
 use fx_frame::{Frame, Line, ThawFault, WideFrame};
 use std::alloc::{AllocError, Global};
 use std::marker::Model;
@@ -29,28 +30,29 @@ impl Model for Delays {
     ghost invariant = { λ s. (1 ≤ length s.delays.items) × (length s.delays.items ≤ 16) };
 }
 
-/// The sample of a channel, or silence.
-fn channel_of(frame: Frame, channel: usize) -> i32
-    ensures { result ≡ slice_index_or frame channel (pos 0) }
-{
-    if channel < frame.channels() {
-        frame.get(channel)
-    } else {
-        0
-    }
-}
-
 /// A sample of the frame so many places before this one, which comes after those of the line.
-fn sample(line: &Line, frame: Frame, delay: usize, channel: usize) -> i32
-    ensures { result ≡ sample_before (line.now.items ++ frame ∷ []) (length line.now.items) delay channel }
+#[inline(always)]
+fn sample(line: &Line, frame: &[i32], delay: usize, channel: usize) -> i32
+    ensures { result ≡ sample_before (line.now.items ++ frame.now ∷ []) (length line.now.items) delay channel }
 {
     if delay == 0 {
-        return channel_of(frame, channel);
+        return sample_or_silence(frame, channel);
     }
     let Some(from) = line.back(delay - 1) else {
         return 0;
     };
-    channel_of(from, channel)
+    sample_or_silence(samples(&from), channel)
+}
+
+/// Writes the samples of the frame whose channels are delayed.
+#[inline(always)]
+fn delayed_into(line: &Line, delays: &[u64], frame: &[i32], out: &mut [i32])
+    requires { length out.old ≡ length delays.now }
+    ensures { out.new ≡ delayed_frame delays.now (sample_before (line.now.items ++ frame.now ∷ []) (length line.now.items)) }
+{
+    'channels: for channel in 0..delays.len() {
+        out[channel] = sample(line, frame, delays[channel] as usize, channel);
+    }
 }
 
 /// The frame whose channels are delayed.
@@ -59,13 +61,11 @@ fn delayed_frame(line: &Line, delays: &[u64], frame: Frame) -> Frame
     ensures value { result ≡ delayed_frame delays.now (sample_before (line.now.items ++ frame ∷ []) (length line.now.items)) }
     ensures frame { IsFrame result × (length result ≡ length delays.now) }
 {
-    let mut samples = [0; 16];
-    'channels: for channel in 0..delays.len() {
-        samples[channel] = sample(line, frame, delays[channel] as usize, channel);
-    }
-    let out = frame_of(delays.len(), samples);
-    let _channels = out.channels();
-    out
+    let mut out = [0; 16];
+    delayed_into(line, delays, samples(&frame), &mut out[..delays.len()]);
+    let made = frame_of(delays.len(), out);
+    let _channels = made.channels();
+    made
 }
 
 /// The longest of the delays.
@@ -97,6 +97,11 @@ impl Tapping for Delays {
 
     fn tap(&self, line: &Line, frame: Frame) -> (Frame, u64) {
         (delayed_frame(line, &self.delays, frame), 0)
+    }
+
+    fn tap_into(&self, line: &Line, frame: &[i32], out: &mut [i32]) -> u64 {
+        delayed_into(line, &self.delays, frame, out);
+        0
     }
 
     fn channels(&self) -> usize {
@@ -154,3 +159,5 @@ impl Tapped<Delays> {
         Tapped::thawed(alloc, Delays { delays }, reach, frames, numbers)
     }
 }
+
+impl TapsMany for Delays {}

@@ -7,9 +7,10 @@ ghost use Rattle.fx_tap.specs.Echo.{EchoArguments, echo_acts, echo_sum, echo_tap
 ghost use Rattle.fx_tap.specs.Near.{echoes-near};
 ghost use Rattle.fx_tap.specs.Tapped.{IsTapState, TapState, sample_before};
 
-use crate::sums::{Sums, add_scaled, rounded_sums};
-use crate::tapped::{Tapped, Tapping};
+use crate::sums::{Sums, add_scaled, rounded_sums, sums_into};
+use crate::tapped::{Tapped, Tapping, TapsMany};
 use fx_fixed::{Gain, UNIT};
+use fx_frame::feed::frame_at;
 use fx_frame::{Frame, Line, ThawFault, WideFrame};
 use std::alloc::{AllocError, Global};
 use std::marker::Model;
@@ -72,6 +73,11 @@ impl Tapping for Echoes {
     fn tap(&self, line: &Line, frame: Frame) -> (Frame, u64) {
         let sums = self.sums(line, frame);
         rounded_sums(&sums, self.channels, self.gain_out)
+    }
+
+    fn tap_into(&self, line: &Line, frame: &[i32], out: &mut [i32]) -> u64 {
+        let sums = self.sums(line, frame_at(frame, 0, self.channels));
+        sums_into(&sums, self.gain_out, out)
     }
 
     fn channels(&self) -> usize {
@@ -178,3 +184,5 @@ impl Tapped<Echoes> {
         Tapped::thawed(alloc, arguments, reach, frames, numbers)
     }
 }
+
+impl TapsMany for Echoes {}

@@ -11,6 +11,18 @@ use fx_frame::inner::{frame_of, places};
 /// One sum for each channel, in trillionths.
 pub(crate) type Sums = [i128; 16];
 
+/// The sample of a channel, or silence.
+#[inline(always)]
+pub(crate) fn sample_or_silence(samples: &[i32], channel: usize) -> i32
+    ensures { result ≡ slice_index_or samples.now channel (pos 0) }
+{
+    if channel < samples.len() {
+        samples[channel]
+    } else {
+        0
+    }
+}
+
 /// The sixteen places of a frame, whatever the width of its samples.
 pub(crate) trait Places {
     /// The samples.
@@ -71,6 +83,25 @@ pub(crate) fn add_scaled(sums: &mut Sums, channels: usize, gain: Gain, frame: Fr
 /// The parts of one in a sum times a gain: each factor is in trillionths.
 const UNIT_SQUARED: i128 = 1_000_000_000_000_000_000_000_000;
 
+/// Writes the sums, each times a gain, rounded once, and counts how many samples were clipped.
+#[inline(always)]
+pub(crate) fn sums_into(sums: &Sums, gain: Gain, out: &mut [i32]) -> u64
+    requires channels { length out.old ≤ 16 }
+    requires small { (k : ℕ) → unsigned_abs (slice_index_or sums.now k (pos 0)) ≤ 29 * (UNIT * 2 ^ 31) }
+    ensures frame { out.new ≡ (given_of (tabulate (λ k. rounding (gain *ℤ slice_index_or sums.now k (pos 0)) (UNIT * UNIT)) 0 (length out.old))).samples }
+    ensures clips { result ≡ (given_of (tabulate (λ k. rounding (gain *ℤ slice_index_or sums.now k (pos 0)) (UNIT * UNIT)) 0 (length out.old))).clips }
+    ensures few { result ≤ length out.old }
+{
+    let factor = i128::from(gain.trillionths());
+    let mut clips = 0;
+    for channel in 0..out.len() {
+        let (sample, is_clipped) = round_clip(factor * sums[channel], UNIT_SQUARED);
+        out[channel] = sample;
+        clips += u64::from(is_clipped);
+    }
+    clips
+}
+
 /// The frame of the sums, each times a gain, rounded once, and how many samples were clipped.
 #[inline(always)]
 pub(crate) fn rounded_sums(sums: &Sums, channels: usize, gain: Gain) -> (Frame, u64)
@@ -81,13 +112,7 @@ pub(crate) fn rounded_sums(sums: &Sums, channels: usize, gain: Gain) -> (Frame, 
     ensures few { result.1 ≤ 16 }
     ensures channels { length result.0 ≡ channels }
 {
-    let factor = i128::from(gain.trillionths());
     let mut out = [0; 16];
-    let mut clips = 0;
-    for channel in 0..channels {
-        let (sample, is_clipped) = round_clip(factor * sums[channel], UNIT_SQUARED);
-        out[channel] = sample;
-        clips += u64::from(is_clipped);
-    }
+    let clips = sums_into(sums, gain, &mut out[..channels]);
     (frame_of(channels, out), clips)
 }

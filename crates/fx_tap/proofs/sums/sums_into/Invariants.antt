@@ -1,14 +1,13 @@
-use Rattle.std.proofs.Common.{◌≡◌, ◌≤◌, pos, ◌*ℤ◌, length, take, ◌*◌, slice_index_or}
+use Rattle.std.proofs.Common.{◌≡◌, ◌≤◌, pos, ◌*ℤ◌, take, ◌*◌, slice_index_or}
 use Rattle.fx_fixed.specs.Rounding.{rounding}
 use Rattle.fx_fixed.specs.declared.gains.TheConstants.{UNIT}
 use Rattle.fx_tap.specs.Lists.{tabulate}
 use Rattle.fx_tap.specs.Rounded.{clips_of, samples_of}
-use Rattle.fx_tap.proofs.sums.rounded_sums.Given as goal
+use Rattle.fx_tap.proofs.sums.sums_into.Given as goal
 
 -- the sums so far are rounded, and their clips counted
 abbrev pub invariant-loop-channel : goal.invariant-loop-channel
 invariant-loop-channel l = record {
-  size : length l.out ≡ 16;
   done : take l.channel l.out ≡ samples_of (tabulate (λ k. rounding (l.fn.gain *ℤ slice_index_or l.sums k (pos 0)) (UNIT * UNIT)) 0 l.channel);
   counted : l.clips ≡ clips_of (tabulate (λ k. rounding (l.fn.gain *ℤ slice_index_or l.sums k (pos 0)) (UNIT * UNIT)) 0 l.channel);
   few : l.clips ≤ l.channel;

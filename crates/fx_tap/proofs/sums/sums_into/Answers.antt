@@ -1,10 +1,9 @@
 use Rattle.std.proofs.Common.{rules, arith, ◌≡◌, ◌≤◌, ◌+◌, ◌^◌, ◌∙◌, ap, ℕ, ℤ, pos, ◌*ℤ◌, Bool, to_z, of_z, w32, ◌*◌, slice_index_or, unsigned_abs}
-use Rattle.std.proofs.Math.ListN.{length-set}
 use Rattle.fx_fixed.specs.Rounding.{rounding}
 use Rattle.fx_fixed.specs.declared.gains.TheConstants.{UNIT}
 use Rattle.fx_tap.proofs.Rounds.{samples_of-next, clips_of-next, byte_is, byte-le}
 use Rattle.fx_tap.proofs.SumLaws.{scaled-sum, scaled-low, scaled-high}
-use Rattle.fx_tap.proofs.sums.rounded_sums.Goals as goal
+use Rattle.fx_tap.proofs.sums.sums_into.Goals as goal
 
 pub loop-channel-preserved : goal.loop-channel-preserved
 loop-channel-preserved c =
@@ -19,7 +18,6 @@ loop-channel-preserved c =
     c.round_clip-sample.ensures ∙ ap (λ z. rounding z (UNIT * UNIT)) (scaled-sum c.args.gain s c.from-factor.result gain small few) in
     let one = byte-le c.round_clip-sample.result.1 in
     record {
-      size = simp length-set (omega arith);
       done = rw out (samples_of-next f c.loop-channel.out i c.round_clip-sample.result.0 (omega arith) c.loop-channel.invariant.done (ap (λ r. r.0) v));
       counted = ap (λ n. c.loop-channel.clips + n) (c.from-clips.ensures ∙ byte_is c.round_clip-sample.result.1) ∙ clips_of-next f i c.loop-channel.clips c.round_clip-sample.result.1 c.loop-channel.invariant.counted (ap (λ r. r.1) v);
       few = omega (arith, c.from-clips.ensures, one, c.loop-channel.invariant.few);

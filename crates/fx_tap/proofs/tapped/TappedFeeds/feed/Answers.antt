@@ -1,0 +1,47 @@
+use Rattle.std.proofs.Common.{rules, ◌≡◌, ◌*◌, ◌^◌, ◌≤◌, ℕ, false, length, refl, arith}
+use Rattle.std.specs.Prelude.{None}
+use Rattle.std.proofs.Math.Nat.{mul-le-mul}
+use Rattle.fx_frame.proofs.Pieces.{length-pieces}
+use Rattle.fx_tap.proofs.Blocks.{none-of}
+use Rattle.fx_tap.proofs.TapBlocks.{IsTapState-block, block-fed}
+use Rattle.fx_tap.proofs.tapped.TappedFeeds.feed.Goals as goal
+
+pub overflow_add-self : goal.overflow_add-self
+overflow_add-self g c =
+    let s = c.self-2.inside in
+    let most : ℕ = g.T.Tapping.taps.most_clips s.arguments in
+    let over : s.ended ≡ false = search rules in
+    let counted = rw over at c.self-2.invariant.counted in
+    let few : s.given ≤ 2 ^ 56 = omega (arith, counted, c.self-2.invariant.few) in
+    let all : s.given * most ≤ 2 ^ 56 * 16 = mul-le-mul few (g.met.T.Tapping.few_clips s.arguments) in
+    let read : c.min-count.result * g.T.Tapping.taps.channels s.arguments ≤ length c.args.input.now = search rules in
+    let count = (rw (← c.self-2.view_is) at c.requires.below_limit) c.min-count.result read in
+    omega (arith, all, count, c.self-2.invariant.few_clips, c.tap_many.ensures.small)
+
+pub invariant_of-self : goal.invariant_of-self
+invariant_of-self g c =
+    let s = c.self-2.inside in
+    let taps = g.T.Tapping.taps in
+    let none : s.hand ≡ None = none-of s.hand (search rules) in
+    let over : s.ended ≡ false = search rules in
+    let read : c.min-count.result * taps.channels s.arguments ≤ length c.args.input.now = search rules in
+    let count = (rw (← c.self-2.view_is) at c.requires.below_limit) c.min-count.result read in
+    let ensured = c.tap_many.ensures in
+    IsTapState-block taps _ c.tap_many.new.line c.min-count.result c.tap_many.result _ c.self-2.invariant none over count (length-pieces (taps.channels s.arguments) c.min-count.result c.args.input.now) c.len-held.ensures.line ensured.line ensured.line_capacity ensured.line_channels ensured.few
+
+pub returns-clause-fed : goal.returns-clause-fed
+returns-clause-fed g c =
+    let s = c.self-2.inside in
+    let taps = g.T.Tapping.taps in
+    let is = c.self-2.invariant in
+    let none : s.hand ≡ None = none-of s.hand (search rules) in
+    let over : s.ended ≡ false = search rules in
+    let zero : s.hand_clips ≡ 0 = is.idle (rw none refl) in
+    let quiet : s.tail ≡ 0 = is.not_ended over in
+    let counted = rw (none, over) at is.counted in
+    let even : s.given ≡ s.taken = omega (arith, counted, quiet) in
+    let long : c.min-count.result * taps.channels s.arguments ≤ length c.tap_many.new.output = search rules in
+    let ensured = c.tap_many.ensures in
+    rw (← c.self-2.view_is)
+    (block-fed taps g.met.T.Tapping.near s.arguments (record { arguments = s.arguments; line = s.line; hand = s.hand; hand_clips = s.hand_clips; tail = s.tail; taken = s.taken; given = s.given; clips = s.clips; ended = s.ended }) c.tap_many.new.line c.min-count.result c.tap_many.result c.args.input.now c.tap_many.new.output
+    refl none zero quiet over even is.capacity is.line.within long ensured.frames ensured.clips ensured.line ensured.line_capacity ensured.line_channels)
