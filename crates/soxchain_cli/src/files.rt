@@ -1,5 +1,5 @@
 //! The files of the program: what comes from IN and goes to OUT, each a standard stream or a file.
-ghost use Rattle.std.specs.Prelude.{◌≡◌};
+ghost use Rattle.std.specs.Prelude.{◌≡◌, OnOk};
 ghost use Rattle.fx_chain.specs.Chain.{IsNewChain};
 ghost use Rattle.fx_plan.specs.Planning.{planning};
 ghost use Rattle.fx_chain.specs.declared.report.Report.{Report};
@@ -7,6 +7,7 @@ ghost use Rattle.soxchain.specs.FileMessages.{open_message, rewrite_message};
 ghost use Rattle.soxchain.specs.Finishing.{Finished};
 ghost use Rattle.soxchain.specs.Telling.{Tells};
 ghost use Rattle.soxchain_cli.specs.Heads.{true_head};
+ghost use Rattle.soxchain_cli.specs.Named.{Files, WritesOver};
 
 use crate::same_file::create_beside;
 use fx_frame::{ByteIn, ByteOut, Counted};
@@ -79,7 +80,10 @@ fn process_from<R: ByteIn + Drop, M: ByteOut>(
             status
         }
         Stream::Named(name) => match create_beside(rt, asked.line.input(), name) {
-            Ok(file) => process_to(ready, &mut source, file, name, messages),
+            Ok(file) => {
+                let (status, _file) = process_to(ready, &mut source, file, name, messages);
+                status
+            }
             Err(_) => cannot_open(messages, name),
         },
     }
@@ -106,28 +110,33 @@ fn finish_with_head<R: ByteIn, W: ByteOut, M: ByteOut>(
 }
 
 /// Runs what is ready and writes it to a new file. Without a fault the head is then written once more, with the true sizes.
-fn process_to<R: ByteIn, F: Write + Seek + Drop, M: ByteOut>(
+/// Answers the status, and the file.
+fn process_to<R: ByteIn, F: Write + Seek, M: ByteOut>(
     ready: Ready,
     source: &mut Source<R>,
     file: F,
     name: &str,
     messages: &mut M,
-) -> u8
+) -> (u8, F)
     requires { IsNewChain (planning ready.prepared.plan) ready.prepared.chain }
+    ensures { Files R.rest R.told R.failures F.contents F.stream_position M.taken M.failures ready source.old source.new file result.1 name.now messages.old messages.new result.0 }
 {
     let mut output = Counted::new(file);
     let (status, head) = finish_with_head(ready, source, &mut output, messages);
+    let mut file = output.into_inner();
     if status != 0 {
-        return status;
+        return (status, file);
     }
-    match write_over(&mut output.into_inner(), head.as_slice()) {
-        Ok(()) => 0,
-        Err(_) => cannot_rewrite(messages, name),
+    match write_over(&mut file, head.as_slice()) {
+        Ok(()) => (0, file),
+        Err(_) => (cannot_rewrite(messages, name), file),
     }
 }
 
 /// Writes bytes over the beginning of a file.
-fn write_over<F: Write + Seek>(file: &mut F, bytes: &[u8]) -> io::Result<()> {
+fn write_over<F: Write + Seek>(file: &mut F, bytes: &[u8]) -> io::Result<()>
+    ensures { OnOk result (WritesOver F.contents F.stream_position file.old file.new bytes.now) }
+{
     file.rewind()?;
     file.write_all(bytes)?;
     file.flush()

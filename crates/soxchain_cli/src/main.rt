@@ -6,38 +6,19 @@ ghost use Rattle.soxchain.specs.Messages.{line_label, line_message};
 ghost use Rattle.soxchain.specs.Program.{status_of_line};
 ghost use Rattle.soxchain.specs.Telling.{Tells};
 
-mod coefficients;
 mod files;
 mod help;
 mod same_file;
 mod until_fault;
 
-use coefficients::read_files;
-use files::{Asked, process};
+use files::{Asked, cannot_open, process};
 use fx_frame::{ByteOut, Counted};
 use fx_plan::{LineFault, parse_line};
 use help::{answer_of, tell_answer};
 use soxchain::inner::{Telling, label_of_line, status_of_fault, tell_line};
+use soxchain_words::{fault_of, read_files, words_of};
 use std::process::ExitCode;
-use std::{env, io};
 use until_fault::UntilFault;
-
-/// The words behind the program's name.
-fn words_of(rt: &HostRuntime) -> io::Result<Vec<String>> {
-    let mut words = Vec::new(rt.alloc());
-    for word in env::args(rt)?.skip(1) {
-        words.push(word)?;
-    }
-    Ok(words)
-}
-
-/// The fault of words that could not be had: want of memory, or a word that is not UTF-8.
-fn fault_of(error: &io::Error) -> LineFault {
-    match error.kind() {
-        io::ErrorKind::OutOfMemory => LineFault::Memory,
-        _ => LineFault::BadOption,
-    }
-}
 
 /// Tells why the words are refused, and answers the status.
 fn refused<M: ByteOut>(messages: &mut M, fault: LineFault) -> u8
@@ -62,7 +43,10 @@ fn work<M: ByteOut>(rt: &HostRuntime, messages: &mut M) -> Result<u8, u8> {
         Ok(line) => line,
         Err(fault) => return Err(refused(messages, fault)),
     };
-    let files = read_files(rt, &line, messages)?;
+    let files = match read_files(rt.alloc(), rt, &line) {
+        Ok(files) => files,
+        Err(name) => return Err(cannot_open(messages, name)),
+    };
     let asked = Asked {
         words: &words,
         line: &line,

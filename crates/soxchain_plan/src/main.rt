@@ -14,34 +14,18 @@ mod stop;
 mod style;
 
 use fx_frame::Counted;
-use fx_plan::{CommandLine, LineFault, parse_line, plan};
+use fx_plan::{CommandLine, parse_line, plan};
 use fx_sound::Head;
 use help::HELP;
 use outline::{Outline, outline_of};
-use reading::{head_of, read_files};
+use reading::head_of;
 use soxchain::inner::Refusal;
 use soxchain_about::{VERSION, answer_to, show};
+use soxchain_words::{fault_of, read_files, words_of};
+use std::io;
 use std::process::ExitCode;
-use std::{env, io};
 use stop::Stop;
 use style::Style;
-
-/// The words behind the program's name.
-fn words_of(rt: &HostRuntime) -> io::Result<Vec<String>> {
-    let mut words = Vec::new(rt.alloc());
-    for word in env::args(rt)?.skip(1) {
-        words.push(word)?;
-    }
-    Ok(words)
-}
-
-/// The fault of words that could not be had: want of memory, or a word that is not UTF-8.
-fn fault_of(error: &io::Error) -> LineFault {
-    match error.kind() {
-        io::ErrorKind::OutOfMemory => LineFault::Memory,
-        _ => LineFault::BadOption,
-    }
-}
 
 /// The status where something was shown on standard output.
 fn shown(rt: &HostRuntime, done: io::Result<()>) -> u8 {
@@ -91,7 +75,7 @@ fn plan_line(
 
 /// Does what a command line asks for, and answers the status.
 fn answer_line(rt: &HostRuntime, style: Style, line: &CommandLine) -> u8 {
-    let files = match read_files(rt, line) {
+    let files = match read_files(rt.alloc(), rt, line) {
         Ok(files) => files,
         Err(name) => return stopped(rt, style, &Stop::CannotOpen(name)),
     };

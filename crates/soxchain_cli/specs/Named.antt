@@ -1,0 +1,36 @@
+-- What becomes of a named OUT (this project's profile).
+use Rattle.std.specs.Prelude.{◌≡◌, ◌≤◌, ◌⊎◌, ℕ, Bool, List, Option, Some, IfSome}
+use Rattle.std.specs.Io.KnownBytes.{Appends, Keeps}
+use Rattle.fx_chain.specs.declared.report.Report.{Report}
+use Rattle.fx_frame.specs.Counted.{Counts}
+use Rattle.fx_plan.specs.Planning.{planning}
+use Rattle.fx_sound.specs.Source.{Held}
+use Rattle.soxchain.specs.declared.prepared.Ready.{Ready}
+use Rattle.soxchain.specs.FileMessages.{rewrite_message}
+use Rattle.soxchain.specs.Finishing.{Finished}
+use Rattle.soxchain.specs.Telling.{Tells}
+use Rattle.soxchain_cli.specs.Heads.{true_head}
+
+-- Bytes were written over the beginning of a file: it went back to its first byte, took them all there, and was flushed.
+pub record WritesOver {F : Type 0} (contents : F → Option (List ℕ)) (position : F → Option ℕ) (old new : F) (bytes : List ℕ) : Type 0 where
+  pub start : F
+  pub back : IfSome (position old) (λ _. position start ≡ Some 0)
+  pub filled : F
+  pub took : Appends (contents start) (contents filled) bytes
+  pub flushed : Keeps (contents filled) (contents new)
+
+-- A run into a new file: after a fault the file is left as the run left it, and else the true head is written over its beginning.
+pub record Files {R F M : Type 0} (rest : R → Option (List ℕ)) (told reads : R → ℕ) (contents : F → Option (List ℕ)) (position : F → Option ℕ) (taken : M → Option (List ℕ)) (failures : M → ℕ)
+    (ready : Ready) (source new_source : Held R) (file new_file : F) (name : List ℕ) (messages new_messages : M) (status : ℕ) : Type 0 where
+  pub opened : Counts F
+  pub is_file : opened.inner ≡ file
+  pub unfailed : opened.failures ≡ 0
+  pub left : Counts F
+  pub told_so_far : M
+  pub run_status : ℕ
+  pub report : Report
+  pub ran : Finished rest told reads (λ w. contents w.inner) (λ w. w.flushed) (λ w. w.failures) ready source new_source opened left (Tells (taken messages) (taken told_so_far) (failures messages) (failures told_so_far)) run_status report
+  pub stopped : 1 ≤ run_status → (status ≡ run_status) × (new_file ≡ left.inner) × (new_messages ≡ told_so_far)
+  pub headed : run_status ≡ 0 →
+      ((status ≡ 0) × WritesOver contents position left.inner new_file (true_head (planning ready.prepared.plan) report) × (new_messages ≡ told_so_far))
+      ⊎ ((status ≡ 2) × Tells (taken told_so_far) (taken new_messages) (failures told_so_far) (failures new_messages) (rewrite_message name))
