@@ -1,5 +1,4 @@
-use Rattle.std.proofs.Common.{refl, arith, ◌≡◌, ◌≤◌, inl, inr}
-use Rattle.soxchain.proofs.TellingLemmas.{Tells-first}
+use Rattle.std.proofs.Common.{refl, arith, inl, inr}
 use Rattle.soxchain_cli.proofs.files.process_to.Goals as goal
 
 pub returns-then-status-ne0 : goal.returns-then-status-ne0
