@@ -186,12 +186,7 @@ impl Pair {
 }
 
 /// Feeds a sound in random pieces, beside frames one by one.
-fn feed_sound(
-    alloc: Global,
-    pair: &mut Pair,
-    samples: &[i32],
-    dice: &mut Dice,
-) -> Result<(), Fail>
+fn feed_sound(alloc: Global, pair: &mut Pair, samples: &[i32], dice: &mut Dice) -> Result<(), Fail>
     requires fed { pair.old.chain.plan.head.channels ≡ 1 }
     requires stepped { pair.old.other.plan.head.channels ≡ 1 }
 {
