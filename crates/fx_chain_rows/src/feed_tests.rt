@@ -108,7 +108,7 @@ fn feed_piece(
     'calls: for _call in 0..MOST_PIECES {
         let room = dice.next_below(MOST_ROOM) as usize;
         let (taken, waits) = feed_once(chain, driven, rest, room)?;
-        if taken > rest.len() {
+        if taken > rest.len().min(SAMPLES) {
             return Err("more taken than there is".into());
         }
         rest = &rest[taken..];
