@@ -1,5 +1,5 @@
 -- What a derived `==` of two enums says: where it is exact at each variant, it is exact.
-use Rattle.std.proofs.Common.{◌≡◌, ℕ, ◌+◌, suc, Bool, true, false, List, [], ◌∷◌, refl, sym, ap, ◌∙◌, subst, true≢false, arith}
+use Rattle.std.proofs.Common.{◌≡◌, ℕ, ◌+◌, suc, Bool, false, List, [], ◌∷◌, sym, ap, ◌∙◌, true≢false, arith}
 use Rattle.std.specs.Bool.{Decides}
 use mathlib.Core.Logic.{inl, inr}
 use denote.Struct.Field.{Field}

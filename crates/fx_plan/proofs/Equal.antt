@@ -1,5 +1,5 @@
 -- What `==` says of the parts of a plan: it is exact.
-use Rattle.std.proofs.Common.{◌≡◌, ℕ, ℤ, Bool, true, false, pos, ◌<◌, ◌≤◌, ◌&&◌, List, [], ◌∷◌, map, Option, Some, None, refl, sym, ap, ◌∙◌, true≢false}
+use Rattle.std.proofs.Common.{◌≡◌, ℕ, ℤ, Bool, true, pos, ◌<◌, ◌≤◌, ◌&&◌, List, [], ◌∷◌, map, Option, Some, None, refl, sym, ap, true≢false}
 use Rattle.std.proofs.Props.{props}
 use Rattle.std.specs.Bool.{Decides, IsTrue}
 use Rattle.std.specs.Option.{option_eq}

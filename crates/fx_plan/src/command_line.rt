@@ -1,6 +1,6 @@
 //! The command line, read once and kept: where the sounds are, their kinds, and the words of the effects.
 
-ghost use Rattle.std.specs.Prelude.{◌≡◌, ◌≤◌, ◌-◌, IfOk, Some, is_some, length, slice_get, string_bytes};
+ghost use Rattle.std.specs.Prelude.{◌≡◌, ◌≤◌, ◌-◌, IfOk, Some, is_some, length, map, slice_get, string_bytes};
 ghost use Rattle.fx_line.specs.Line.{line_of, shown};
 ghost use Rattle.fx_plan.specs.CommandLines.{LineReads, coefficient_files, effect_words, effects_in, file_name, name_in, planning_in};
 ghost use Rattle.fx_plan.specs.Effects.{head_layout};
@@ -11,7 +11,7 @@ ghost use Rattle.fx_plan.specs.Plans.{PlanReads, all_faults, bytes_of};
 use crate::accepted::Plan;
 use crate::answers::plan_words;
 use crate::fault::PlanFault;
-use crate::listing::{count_effects, count_files, effect_at, file_at};
+use crate::listing::{count_effects, count_files, effect_at, file_at, list_files};
 use fx_line::{Bits, CommandWords, LineFault, read_line};
 use fx_sound::{Head, Kind};
 use std::alloc::{AllocError, Global};
@@ -182,6 +182,14 @@ impl CommandLine {
             Some(name) => name,
             None => unreachable!(),
         }
+    }
+
+    /// The names of all coefficient files, in the order of the effects; AllocError where memory for the list is refused. It goes
+    /// over the words once.
+    pub fn coefficient_files(&self, alloc: Global) -> Result<Vec<&str>, AllocError>
+        ensures { IfOk result (λ names. map (λ name. name.now) names.items ≡ coefficient_files (effects_in self.now)) }
+    {
+        list_files(alloc, &self.words)
     }
 
     /// Whether the output is a file, and not standard output.

@@ -1,12 +1,13 @@
 //! What the words of a line list: its effects, and the coefficient files that they name.
 
-ghost use Rattle.std.specs.Prelude.{◌≡◌, ◌∷◌, [], MatchOption, None, Some, length, slice_get, string_bytes, unwrap_or};
+ghost use Rattle.std.specs.Prelude.{◌≡◌, ◌∷◌, [], IfOk, MatchOption, None, Some, length, map, slice_get, string_bytes, unwrap_or};
 ghost use Rattle.fx_plan.specs.CommandLines.{coefficient_files, file_in};
 ghost use Rattle.fx_plan.specs.Faults.{texts};
 ghost use Rattle.fx_plan.specs.Groups.{effects_of};
 
 use crate::groups::next_effect;
 use crate::planned::names_file;
+use std::alloc::{AllocError, Global};
 
 /// How many effects the words name.
 pub fn count_effects(words: &[String]) -> usize
@@ -81,4 +82,19 @@ pub fn file_at(words: &[String], place: usize) -> Option<&String>
         left -= 1;
     }
     None
+}
+
+/// The names of all coefficient files, in order; AllocError where memory for the list is refused.
+pub fn list_files(alloc: Global, words: &[String]) -> Result<Vec<&str>, AllocError>
+    ensures { IfOk result (λ names. map (λ name. name.now) names.items ≡ coefficient_files (effects_of (texts words.now))) }
+{
+    let mut names = Vec::new(alloc);
+    let mut rest = words;
+    while let Some((effect, more)) = next_effect(rest) {
+        if let Some(file) = read_file(effect) {
+            names.push(file.as_str())?;
+        }
+        rest = more;
+    }
+    Ok(names)
 }

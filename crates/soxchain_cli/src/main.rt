@@ -16,7 +16,7 @@ use fx_frame::{ByteOut, Counted};
 use fx_plan::{LineFault, parse_line};
 use help::{answer_of, tell_answer};
 use soxchain::inner::{Telling, label_of_line, status_of_fault, tell_line};
-use soxchain_words::{fault_of, read_files, words_of};
+use soxchain_words::{FilesFault, fault_of, read_files, words_of};
 use std::process::ExitCode;
 use until_fault::UntilFault;
 
@@ -45,7 +45,8 @@ fn work<M: ByteOut>(rt: &HostRuntime, messages: &mut M) -> Result<u8, u8> {
     };
     let files = match read_files(rt.alloc(), rt, &line) {
         Ok(files) => files,
-        Err(name) => return Err(cannot_open(messages, name)),
+        Err(FilesFault::CannotRead(name)) => return Err(cannot_open(messages, name)),
+        Err(FilesFault::Memory) => return Err(refused(messages, LineFault::Memory)),
     };
     let asked = Asked {
         words: &words,

@@ -14,14 +14,14 @@ mod stop;
 mod style;
 
 use fx_frame::Counted;
-use fx_plan::{CommandLine, parse_line, plan};
+use fx_plan::{CommandLine, LineFault, parse_line, plan};
 use fx_sound::Head;
 use help::HELP;
 use outline::{Outline, outline_of};
 use reading::head_of;
 use soxchain::inner::Refusal;
 use soxchain_about::{VERSION, answer_to, show};
-use soxchain_words::{fault_of, read_files, words_of};
+use soxchain_words::{FilesFault, fault_of, read_files, words_of};
 use std::io;
 use std::process::ExitCode;
 use stop::Stop;
@@ -77,7 +77,10 @@ fn plan_line(
 fn answer_line(rt: &HostRuntime, style: Style, line: &CommandLine) -> u8 {
     let files = match read_files(rt.alloc(), rt, line) {
         Ok(files) => files,
-        Err(name) => return stopped(rt, style, &Stop::CannotOpen(name)),
+        Err(FilesFault::CannotRead(name)) => {
+            return stopped(rt, style, &Stop::CannotOpen(name));
+        }
+        Err(FilesFault::Memory) => return stopped(rt, style, &Stop::Line(LineFault::Memory)),
     };
     match head_of(rt, line) {
         Ok(Ok(head)) => plan_line(rt, style, line, &head, &files),

@@ -1,5 +1,7 @@
 -- The coefficient files as they are read (this project's profile).
-use Rattle.std.specs.Prelude.{◌≡◌, ℕ, ◌+◌, ◌^◌, List, Option, Some, IfSome, slice_get, take}
+use Rattle.std.specs.Prelude.{◌≡◌, ℕ, ◌+◌, ◌<◌, ◌^◌, List, [], ◌∷◌, ◌++◌, Option, Some, IfSome, length, min, slice_get, slice_index_or, take, if◌then◌else◌, nat_lt, ⊤}
+use Rattle.soxchain_words.specs.declared.files.FilesFault.{FilesFault}
+use Rattle.soxchain_words.specs.declared.files.FilesFault.TheVariants.{CannotRead, Memory}
 
 -- the first 2^20 + 1 bytes of a file that was opened by this name
 pub record IsFront {R : Type 0} (opened : List ℕ → R → Type 0) (remaining : R → Option (List ℕ)) (name bytes : List ℕ) : Type 0 where
@@ -11,3 +13,17 @@ pub record IsFront {R : Type 0} (opened : List ℕ → R → Type 0) (remaining 
 pub record IsNamed (names : List (List ℕ)) (name : List ℕ) : Type 0 where
   pub place : ℕ
   pub is_there : slice_get names place ≡ Some name
+
+-- the files so far, and one more where they are fewer than 32
+abbrev pub kept_with : List (List ℕ) → List ℕ → List (List ℕ)
+kept_with files bytes = if nat_lt (length files) 32 then files ++ bytes ∷ [] else files
+
+-- the first 32 files of these names have these bytes: each its own, in order
+pub record AreFronts {R : Type 0} (opened : List ℕ → R → Type 0) (remaining : R → Option (List ℕ)) (names files : List (List ℕ)) : Type 0 where
+  pub count : length files ≡ min 32 (length names)
+  pub each : (place : ℕ) → place < length files → IsFront opened remaining (slice_index_or names place []) (slice_index_or files place [])
+
+-- the fault is of one of the files of these names, or want of memory
+abbrev pub IsOfFiles : List (List ℕ) → FilesFault → Type 0
+IsOfFiles names (CannotRead name) = IsNamed names name.now
+IsOfFiles names Memory = ⊤

@@ -1,7 +1,8 @@
 //! The coefficient files that the words name.
-ghost use Rattle.std.specs.Prelude.{◌≡◌, ◌+◌, ◌^◌, List, ℕ, IfErr, IfOk, IfSome, length, take, ⊤};
+ghost use Rattle.std.specs.Prelude.{◌≡◌, ◌+◌, ◌^◌, true, List, ℕ, IfErr, IfOk, IfSome, take, ⊤};
 ghost use Rattle.fx_plan.specs.CommandLines.{coefficient_files, effects_in};
-ghost use Rattle.soxchain_words.specs.Files.{IsFront, IsNamed};
+ghost use Rattle.fx_plan.specs.Plans.{bytes_of};
+ghost use Rattle.soxchain_words.specs.Files.{AreFronts, IsFront, IsOfFiles, kept_with};
 
 use fx_plan::CommandLine;
 use std::alloc::Global;
@@ -11,6 +12,9 @@ use std::io::Read;
 
 /// The most bytes that are read of a coefficient file: one more than it may have.
 const MOST_READ: u64 = 0x10_0001;
+
+/// The most files whose bytes are kept: as many as a line may have effects.
+const MOST_KEPT: usize = 32;
 
 /// What opens files to read.
 pub trait Openings {
@@ -52,24 +56,44 @@ fn read_file<H: Openings>(alloc: Global, host: &H, name: &str) -> io::Result<Vec
     read_front(alloc, reader)
 }
 
-/// The bytes of each coefficient file, in the order of the effects; or the name of the first that cannot be read.
+/// Reads the file of this name, and adds its bytes to those of the files before it where they are to be kept. False where it
+/// cannot be opened or read, or its bytes find no memory.
+fn read_next<H: Openings>(alloc: Global, host: &H, name: &str, files: &mut Vec<Vec<u8>>) -> bool
+    ensures { result ≡ true → (bytes : List ℕ) × IsFront (H.opened host.now) H.Reader.remaining name.now bytes × (bytes_of files.new.items ≡ kept_with (bytes_of files.old.items) bytes) }
+{
+    let Ok(bytes) = read_file(alloc, host, name) else {
+        return false;
+    };
+    files.len() >= MOST_KEPT || files.push(bytes).is_ok()
+}
+
+/// Why the coefficient files of a line are not there.
+#[derive(Clone, Copy, Debug, Drop, PartialEq, Eq)]
+pub enum FilesFault<'a> {
+    /// The file of this name cannot be opened or read, or no memory was found for its bytes.
+    CannotRead(&'a str),
+    /// No memory was found for the list of names.
+    Memory,
+}
+
+/// The bytes of the coefficient files, in the order of the effects; or why they are not there, which is told of the first file
+/// that cannot be read. Each is read once. Only the first 32 are kept, since a line of more effects is refused.
 pub fn read_files<'a, H: Openings>(
     alloc: Global,
     host: &H,
     line: &'a CommandLine,
-) -> Result<Vec<Vec<u8>>, &'a str>
-    ensures each { IfOk result (λ files. length files.items ≡ length (coefficient_files (effects_in line.now))) }
-    ensures named { IfErr result (λ name. IsNamed (coefficient_files (effects_in line.now)) name.now) }
+) -> Result<Vec<Vec<u8>>, FilesFault<'a>>
+    ensures each { IfOk result (λ files. AreFronts (H.opened host.now) H.Reader.remaining (coefficient_files (effects_in line.now)) (bytes_of files.items)) }
+    ensures named { IfErr result (IsOfFiles (coefficient_files (effects_in line.now))) }
 {
+    let Ok(names) = line.coefficient_files(alloc) else {
+        return Err(FilesFault::Memory);
+    };
     let mut files = Vec::new(alloc);
-    while files.len() < line.coefficient_file_count() {
-        let name = line.coefficient_file(files.len() + 1);
-        let is_kept = match read_file(alloc, host, name) {
-            Ok(bytes) => files.push(bytes).is_ok(),
-            Err(_) => false,
-        };
-        if !is_kept {
-            return Err(name);
+    for place in 0..names.len() {
+        let name = names[place];
+        if !read_next(alloc, host, name, &mut files) {
+            return Err(FilesFault::CannotRead(name));
         }
     }
     Ok(files)

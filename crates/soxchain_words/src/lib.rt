@@ -4,5 +4,5 @@
 mod files;
 mod words;
 
-pub use files::{Openings, read_files};
+pub use files::{FilesFault, Openings, read_files};
 pub use words::{fault_of, words_of};

@@ -1,11 +1,7 @@
-use Rattle.std.proofs.Common.{◌≤◌, ◌-◌, length}
 use Rattle.fx_plan.specs.CommandLines.{coefficient_files, effects_in}
+use Rattle.fx_plan.specs.Plans.{bytes_of}
+use Rattle.soxchain_words.proofs.Fronts.{AreSoFar}
 use Rattle.soxchain_words.proofs.files.read_files.Given as goal
 
-abbrev pub decreases-loop-alloc : goal.decreases-loop-alloc
-decreases-loop-alloc g l = length (coefficient_files (effects_in l.line)) - length l.files.items
-
-abbrev pub invariant-loop-alloc : goal.invariant-loop-alloc
-invariant-loop-alloc g l = record {
-  within : length l.files.items ≤ length (coefficient_files (effects_in l.line));
-}
+abbrev pub invariant-loop-place : goal.invariant-loop-place
+invariant-loop-place g l = AreSoFar (g.H.Openings.opened l.host) g.H.Reader.Read.remaining (coefficient_files (effects_in l.line)) (bytes_of l.files.items) l.place
