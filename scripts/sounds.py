@@ -68,6 +68,9 @@ def link_refusing(crate, target):
 
 
 def content(name):
+    """The bytes of a file; none where there is no such file, so that what expects some fails by its name."""
+    if not os.path.exists(name):
+        return b''
     with open(name, 'rb') as file:
         return file.read()
 
@@ -78,9 +81,12 @@ def keep(name, data):
 
 
 def run(words, given=b'', program=None, **how):
-    """Status, standard output and messages of a run, by default of soxchain."""
-    done = subprocess.run([program or built('soxchain')] + list(words), input=given, capture_output=True, timeout=100, **how)
-    return done.returncode, done.stdout, done.stderr.decode()
+    """Status, standard output and messages of a run, by default of soxchain. One that does not end has no status."""
+    try:
+        done = subprocess.run([program or built('soxchain')] + list(words), input=given, capture_output=True, timeout=60, **how)
+    except subprocess.TimeoutExpired:
+        return None, b'', 'it did not end within a minute'
+    return done.returncode, done.stdout, done.stderr.decode(errors='replace')
 
 
 class Expectations:
@@ -91,10 +97,12 @@ class Expectations:
         self.made = self.failed = 0
 
     def expect(self, name, got, want):
+        """Whether it is so."""
         self.made += 1
         if got != want:
             self.failed += 1
             print(f'{self.check}: {name}: got {shown(got)}, want {shown(want)}')
+        return got == want
 
     def ended(self):
         """Prints the count, and answers the exit status."""
