@@ -24,3 +24,4 @@ pub mod FadeThaw
 pub mod PadThaw
 pub mod FadeSteps
 pub mod Onto
+pub mod FadeMany
