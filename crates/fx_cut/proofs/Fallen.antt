@@ -15,10 +15,10 @@ fallen capacity items frame = cond (nat_lt (length items) capacity) None (slice_
 abbrev pub stays : ℕ → List Samples → Samples → List Samples
 stays capacity items frame = drop (length (items ++ frame ∷ []) - capacity) (items ++ frame ∷ [])
 
-full_out : (capacity : ℕ) (items : List Samples) (frame : Samples) → capacity ≤ length items → fallen capacity items frame ≡ slice_get (items ++ frame ∷ []) 0
+pub full_out : (capacity : ℕ) (items : List Samples) (frame : Samples) → capacity ≤ length items → fallen capacity items frame ≡ slice_get (items ++ frame ∷ []) 0
 full_out capacity items frame h = ap (λ b. cond b None (slice_get (items ++ frame ∷ []) 0)) (le-ltb (length items) capacity h)
 
-room_out : (capacity : ℕ) (items : List Samples) (frame : Samples) → length items < capacity → fallen capacity items frame ≡ None
+pub room_out : (capacity : ℕ) (items : List Samples) (frame : Samples) → length items < capacity → fallen capacity items frame ≡ None
 room_out capacity items frame h = ap (λ b. cond b None (slice_get (items ++ frame ∷ []) 0)) (lt-ltb (length items) capacity h)
 
 first_some : (items : List Samples) (frame : Samples) → slice_get (items ++ frame ∷ []) 0 ≡ None → ⊥

@@ -23,3 +23,5 @@ pub mod TrimThaw
 pub mod FadeThaw
 pub mod PadThaw
 pub mod FadeSteps
+pub mod Onto
+pub mod FadeMany

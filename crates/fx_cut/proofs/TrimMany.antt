@@ -1,26 +1,28 @@
--- Frames that a trim without a line keeps or leaves out many at a time.
-use Rattle.std.proofs.Common.{◌≡◌, ◌+◌, ◌-◌, ◌*◌, ◌<◌, ◌≤◌, ◌^◌, ◌%◌, ℕ, ℤ, suc, max, Bool, true, false, cond, leb, eqb, List, [], ◌∷◌, ◌++◌, length, drop, get_or, refl, sym, ap, ◌∙◌, arith, add-zero}
+-- Frames that a trim keeps or leaves out many at a time, as they fall out of its line.
+use Rattle.std.proofs.Common.{◌≡◌, ◌+◌, ◌-◌, ◌*◌, ◌<◌, ◌≤◌, ◌^◌, ◌%◌, ℕ, ℤ, suc, max, Bool, true, false, cond, leb, eqb, inl, inr, ◌⊎◌, List, [], ◌∷◌, ◌++◌, length, drop, take, get_or, refl, sym, ap, ◌∙◌, arith, add-zero, length-append}
 use Rattle.std.specs.Prelude.{count_by, Option, Some, None, option_to_list, is_none}
+use Rattle.std.specs.Int.{w32}
 use Rattle.std.specs.List.{All, range_with_len}
-use Rattle.std.proofs.lemmas.Bool.{le-leb, lt-leb}
+use Rattle.std.proofs.lemmas.Bool.{cases_lt, le-leb, lt-leb}
 use Rattle.std.proofs.lemmas.List.{drop_more, drop_all}
-use Rattle.std.proofs.lemmas.List.Elements.{All-head, All-tail}
+use Rattle.std.proofs.lemmas.List.Elements.{All-cons, All-head, All-nil, All-tail}
 use Rattle.fx_fixed.specs.Positions.{places_after, places_of}
 use Rattle.fx_fixed.specs.declared.positions.At.{At}
 use Rattle.fx_fixed.specs.declared.positions.At.TheVariants.{Start, End}
 use Rattle.fx_frame.specs.Feed.{Fed, GaveNext, TookNext, nothing, taken, given}
-use Rattle.fx_frame.specs.Frame.{Samples}
+use Rattle.fx_frame.specs.Frame.{IsFrame, Samples}
+use Rattle.fx_frame.specs.Line.{Frames, IsLine, IsSamples, pushed_all}
 use Rattle.fx_frame.specs.Ring.{pieces}
 use Rattle.fx_frame.specs.Stage.{is_enough}
 use Rattle.fx_frame.proofs.FedLaws.{Fed-then}
+use Rattle.fx_frame.proofs.Feeding.{pieces-take}
 use Rattle.fx_frame.proofs.Pieces.{length-pieces}
 use Rattle.fx_cut.specs.Trim.{keeps, starts, greatest_end, trim_due, trim_enough, TrimState, IsTrim, trim_acts}
-use Rattle.fx_cut.proofs.Fallen.{fallen, stays}
-use Rattle.fx_cut.proofs.Hands.{at_most_one, empty_of}
-use Rattle.fx_cut.proofs.Pieces.{pieces-sides}
-use Rattle.fx_cut.proofs.Ranges.{kept_next}
+use Rattle.fx_cut.proofs.Fallen.{fallen, stays, oldest-first}
+use Rattle.fx_cut.proofs.Hands.{at_most_one}
+use Rattle.fx_cut.proofs.Onto.{gone, onto, onto-line, onto-long, onto-more, onto-none, out-full, out-long, out-more, out-room, out-samples, out_of, same-line}
 use Rattle.fx_cut.proofs.TrimLaws.{count_by-cons, none_before}
-use Rattle.fx_cut.proofs.TrimSteps.{Took-fallen, took}
+use Rattle.fx_cut.proofs.TrimSteps.{IsTrim-inside, IsTrim-fallen, Took-inside, Took-fallen, took}
 
 -- ---- how far frames are alike
 
@@ -57,156 +59,265 @@ alike ps n crossed rest z e = let same : count_by (λ q. leb q n) (places_after 
 
 -- ---- frame by frame
 
--- so many frames later, with no frame in hand
-abbrev pub later : Bool → TrimState → ℕ → TrimState
-later b s n = record s { hand = None; taken = s.taken + n; given = cond b (s.given + n) s.given }
+-- after these frames, with no frame in hand
+abbrev pub later : Bool → TrimState → List Samples → TrimState
+later b s xs = record s { hand = None; line = onto s.line xs; taken = s.taken + length xs; given = cond b (s.given + gone s.line (length xs)) s.given }
 
--- what a trim without a line meets that keeps, or leaves out, so many frames
+-- what a trim meets that keeps, or leaves out, all the frames that fall out when so many come
 pub record Alike (b : Bool) (s : TrimState) (n : ℕ) : Type 0 where
   pub is : IsTrim s
-  pub short : s.line.capacity ≡ 0
   pub empty : s.hand ≡ None
   pub running : s.ended ≡ false
-  pub kept : (i : ℕ) → i < n → keeps (places_of 0 (starts s.recipe.positions)) (s.taken + i) ≡ b
+  pub kept : (i : ℕ) → i < gone s.line n → keeps (places_of 0 (starts s.recipe.positions)) (s.taken - length s.line.items + i) ≡ b
   pub wanted : (i : ℕ) → i < n → is_enough s.enough (s.taken + i) ≡ false
   pub few : s.taken + n ≤ 2 ^ 56
 
-more : (b : Bool) (g n : ℕ) → cond b (g + n) g ≡ g + cond b n 0
-more true g n = refl
-more false g n = omega arith
+-- the frame in hand was given
+given-next : (s : TrimState) (o : Samples) → IsTrim s → s.hand ≡ Some o → s.ended ≡ false → IsTrim (record s { hand = None; given = s.given + 1 })
+given-next s o is has running =
+    let one : length (option_to_list s.hand) ≡ 1 = ap (λ h. length (option_to_list h)) has in
+    let w = is.within in
+    let counted = is.counted running in
+    record {
+      line = is.line;
+      channels = is.channels;
+      capacity = is.capacity;
+      enough = is.enough;
+      few = is.few;
+      within = omega arith;
+      full = is.full;
+      counted = λ r. omega arith;
+      over = λ r. absurd (cc (r, running));
+      gone = λ r. absurd (cc (r, running));
+      fits = λ x e. absurd (cc);
+    }
 
-at-most : (b : Bool) (n : ℕ) → cond b n 0 ≤ n
-at-most true n = omega arith
-at-most false n = omega arith
+-- what one frame leads to
+abbrev Next : Bool → TrimState → Samples → Type 0
+Next b s x = Fed trim_acts s (x ∷ []) (cond b (out_of s.line (x ∷ [])) []) (later b s (x ∷ [])) × IsTrim (later b s (x ∷ []))
 
-module _ (b : Bool) (s : TrimState) (n : ℕ) (a : Alike b s (suc n)) where
-  no-line : s.line.items ≡ []
-  no-line = let short = a.short in let full = a.is.full a.running in empty_of s.line.items (omega arith)
+module _ (b : Bool) (s : TrimState) (n : ℕ) (x : Samples) (a : Alike b s (suc n)) (sample : IsSamples w32 s.line.channels x) where
+  dry : is_none s.hand ≡ true
+  dry = ap is_none a.empty
 
-  no-ends : greatest_end s.recipe.positions ≡ 0
-  no-ends = sym a.is.capacity ∙ a.short
+  within : length s.line.items ≤ s.line.capacity
+  within = a.is.line.within
 
-  here : keeps (places_of 0 (starts s.recipe.positions)) s.taken ≡ b
-  here = let k = a.kept 0 (omega arith) in rw add-zero at k
+  lined : IsLine w32 (onto s.line (x ∷ []))
+  lined = onto-line s.line (x ∷ []) a.is.line (All-cons (IsSamples w32 s.line.channels) x [] sample (All-nil (IsSamples w32 s.line.channels)))
 
-  due : trim_due s.recipe.positions (s.taken + 1) ≡ trim_due s.recipe.positions s.taken + cond b 1 0
-  due =
-      let next : s.taken + 1 - 0 ≡ s.taken + 1 = omega arith in
-      let now : s.taken - 0 ≡ s.taken = omega arith in
-      rw (no-ends, next, now) (kept_next (keeps (places_of 0 (starts s.recipe.positions))) s.taken ∙ ap (λ c. count_by (keeps (places_of 0 (starts s.recipe.positions))) (range_with_len 0 s.taken) + cond c 1 0) here)
+  next-line : Frames ℤ
+  next-line = onto s.line (x ∷ [])
 
-  pub is-next : IsTrim (later b s 1)
-  is-next =
-      let is = a.is in
-      let given = more b s.given 1 in
-      let one = at-most b 1 in
-      let w = is.within in
-      let few = a.few in
-      let short = a.short in
-      let lined : length s.line.items ≡ 0 = ap length no-line in
-      let hand : length (option_to_list s.hand) ≡ 0 = ap (λ h. length (option_to_list h)) a.empty in
-      let counted = is.counted a.running in
-      let next = due in
-      record {
-        line = is.line;
-        channels = is.channels;
-        capacity = is.capacity;
-        enough = is.enough;
-        few = omega arith;
-        within = omega arith;
-        full = λ r. omega arith;
-        counted = λ r. omega arith;
-        over = λ r. absurd (cc (r, a.running));
-        gone = λ r. absurd (cc (r, a.running));
-        fits = λ x e. absurd (cc);
-      }
+  some : is_enough (trim_enough s.recipe.positions) s.taken ≡ false
+  some = let k = a.wanted 0 (omega arith) in rw (a.is.enough, add-zero) at k
 
-  pub alike-next : Alike b (later b s 1) n
-  alike-next = record {
-    is = is-next;
-    short = a.short;
-    empty = refl;
-    running = a.running;
-    kept = λ i h. let e : s.taken + (i + 1) ≡ s.taken + 1 + i = omega arith in let k = a.kept (i + 1) (omega arith) in rw e at k;
-    wanted = λ i h. let e : s.taken + (i + 1) ≡ s.taken + 1 + i = omega arith in let k = a.wanted (i + 1) (omega arith) in rw e at k;
-    few = let few = a.few in omega arith;
-  }
+  below : s.taken < 2 ^ 56
+  below = let few = a.few in omega arith
 
-  -- a frame is taken, and in hand where it is kept
-  took-one : (x : Samples) (hand : Option Samples) → option_to_list hand ≡ cond b (x ∷ []) [] → TookNext trim_acts s (took s s.line hand) x
-  took-one x hand kept =
-      let place : s.taken - 0 ≡ s.taken = omega arith in
-      let dry : is_none s.hand ≡ true = ap is_none a.empty in
-      let out : Some x ≡ fallen s.line.capacity s.line.items x = rw (a.short, no-line) refl in
-      let stay : s.line.items ≡ stays s.line.capacity s.line.items x = rw (a.short, no-line) refl in
-      let keep : b ≡ keeps (places_of 0 (starts s.recipe.positions)) (s.taken - length s.line.items) = rw (no-line, place) (sym here) in
-      let some : is_enough (trim_enough s.recipe.positions) s.taken ≡ false = let k = a.wanted 0 (omega arith) in rw (a.is.enough, add-zero) at k in
-      record {
+  -- it stays in the line
+  inside : length s.line.items < s.line.capacity → Next b s x
+  inside h =
+      let room = out-room s.line x within h in
+      let none : gone s.line 1 ≡ 0 = omega arith in
+      let same : cond b (s.given + gone s.line 1) s.given ≡ s.given = alike-counts b s.given (gone s.line 1) none in
+      let nothing-out : cond b (out_of s.line (x ∷ [])) [] ≡ [] = nothing-given b (out_of s.line (x ∷ [])) room.1 in
+      let mid : TrimState = took s (onto s.line (x ∷ [])) s.hand in
+      let last : ◌≡◌ {A = TrimState} (later b s (x ∷ [])) mid = rw (same, a.empty) refl in
+      let long = onto-long s.line (x ∷ []) in
+      let step : TookNext trim_acts s mid x = record {
         dry = dry;
         not_ended = a.running;
         not_spent = rw a.empty some;
-        took = Took-fallen s x a.is dry a.running s.line x b hand out stay keep kept;
-        held = let one = at_most_one hand in rw no-line (omega arith);
+        took = Took-inside s x a.is dry a.running (onto s.line (x ∷ [])) room.0 refl;
+        held = let cap = a.is.capacity in let one = at_most_one s.hand in omega (arith, length-append (onto s.line (x ∷ [])).items (option_to_list s.hand));
+      } in
+      rw (last, nothing-out) (taken [] [] x s mid nothing step, IsTrim-inside s x a.is dry a.running (onto s.line (x ∷ [])) room.0 refl lined refl refl below)
+    where
+      alike-counts : (c : Bool) (g k : ℕ) → k ≡ 0 → cond c (g + k) g ≡ g
+      alike-counts true g k e = omega arith
+      alike-counts false g k e = refl
+
+      nothing-given : (c : Bool) (os : List Samples) → os ≡ [] → cond c os [] ≡ []
+      nothing-given true os e = e
+      nothing-given false os e = refl
+
+  -- the oldest falls out: it is kept, and given, or left out
+  full : s.line.capacity ≤ length s.line.items → Next b s x
+  full h = go b refl
+    where
+      out : (o : Samples) × (Some o ≡ fallen s.line.capacity s.line.items x) × (out_of s.line (x ∷ []) ≡ o ∷ [])
+      out = out-full s.line x within h
+
+      one : gone s.line 1 ≡ 1
+      one = let w = within in omega arith
+
+      keep : b ≡ keeps (places_of 0 (starts s.recipe.positions)) (s.taken - length s.line.items)
+      keep =
+          let some-out : 0 < gone s.line (suc n) = let w = within in omega arith in
+          let k = a.kept 0 some-out in
+          sym (rw add-zero at k)
+
+      split : s.line.items ++ x ∷ [] ≡ out.0 ∷ stays s.line.capacity s.line.items x
+      split = oldest-first _ _ _ _ out.1 within
+
+      long : length (onto s.line (x ∷ [])).items ≡ length s.line.items
+      long = omega (arith, ap length split, length-append s.line.items (x ∷ []))
+
+      oldest : IsSamples w32 s.line.channels out.0
+      oldest = out-samples s.line x out.0 a.is.line.frames sample split
+
+      whole : length out.0 ≡ s.recipe.channels
+      whole = oldest.count ∙ a.is.channels
+
+      framed : IsFrame out.0
+      framed = let l = a.is.line in let few = l.few in let some-channels = l.some in let n = oldest.count in record { some = omega arith; few = omega arith; fits = oldest.fits }
+
+      go : (c : Bool) → c ≡ b → Next c s x
+      go false e =
+          let none-out : cond false (out_of s.line (x ∷ [])) [] ≡ [] = refl in
+          let mid : TrimState = took s (onto s.line (x ∷ [])) None in
+          let keep' : false ≡ keeps (places_of 0 (starts s.recipe.positions)) (s.taken - length s.line.items) = e ∙ keep in
+          let step : TookNext trim_acts s mid x = record {
+            dry = dry;
+            not_ended = a.running;
+            not_spent = rw a.empty some;
+            took = Took-fallen s x a.is dry a.running (onto s.line (x ∷ [])) out.0 false None out.1 refl keep' refl;
+            held = let cap = a.is.capacity in let l = long in let w = within in omega (arith, length-append (onto s.line (x ∷ [])).items []);
+          } in (
+            taken [] [] x s mid nothing step,
+            IsTrim-fallen s x a.is dry a.running (onto s.line (x ∷ [])) out.0 false None out.1 refl lined refl refl below keep' refl (λ y q. absurd (cc)),
+          )
+      go true e =
+          let mid : TrimState = took s (onto s.line (x ∷ [])) (Some out.0) in
+          let last : TrimState = record mid { hand = None; given = mid.given + 1 } in
+          let keep' : true ≡ keeps (places_of 0 (starts s.recipe.positions)) (s.taken - length s.line.items) = e ∙ keep in
+          let same : ◌≡◌ {A = TrimState} (later true s (x ∷ [])) last = rw one refl in
+          let is-mid : IsTrim mid =
+          IsTrim-fallen s x a.is dry a.running (onto s.line (x ∷ [])) out.0 true (Some out.0) out.1 refl lined refl refl below keep' refl (λ y q. let w : out.0 ≡ y = cc in (rw (← w) framed, rw (← w) whole)) in
+          let is-last = given-next mid out.0 is-mid refl a.running in
+          let counted = is-last.counted a.running in
+          let low = is-last.within in
+          let step : TookNext trim_acts s mid x = record {
+            dry = dry;
+            not_ended = a.running;
+            not_spent = rw a.empty some;
+            took = Took-fallen s x a.is dry a.running (onto s.line (x ∷ [])) out.0 true (Some out.0) out.1 refl keep' refl;
+            held = let cap = a.is.capacity in let l = long in let w = within in omega (arith, length-append (onto s.line (x ∷ [])).items (out.0 ∷ []));
+          } in
+          let gave : GaveNext trim_acts mid last out.0 = record {
+            gave = record {
+              was_wet = refl;
+              gives = record { clips = 0; first = λ z. refl; counted = refl };
+              channels = whole;
+              due = λ r. omega arith;
+              most = omega arith;
+              recipe_stays = refl;
+            };
+            held = let cap = a.is.capacity in let l = long in let w = within in omega (arith, length-append (onto s.line (x ∷ [])).items []);
+          } in
+          rw (same, out.2) (given (x ∷ []) [] out.0 mid last (taken [] [] x s mid nothing step) gave, is-last)
+
+  pub one-fed : Next b s x
+  one-fed = go (cases_lt (length s.line.items) s.line.capacity)
+    where
+      go : (length s.line.items < s.line.capacity) ⊎ (s.line.capacity ≤ length s.line.items) → Next b s x
+      go (inl l) = inside l
+      go (inr g) = full g
+
+  -- and the others find it so
+  pub alike-next : Alike b (later b s (x ∷ [])) n
+  alike-next =
+      let w = within in
+      let low = a.is.within in
+      let long = onto-long s.line (x ∷ []) in
+      let now : ℕ = length (onto s.line (x ∷ [])).items in
+      record {
+        is = one-fed.1;
+        empty = refl;
+        running = a.running;
+        kept = λ i h.
+            let e : s.taken - length s.line.items + (gone s.line 1 + i) ≡ s.taken + 1 - now + i = omega arith in
+            let k = a.kept (gone s.line 1 + i) (omega arith) in
+            rw e at k;
+        wanted = λ i h. let e : s.taken + (i + 1) ≡ s.taken + 1 + i = omega arith in let k = a.wanted (i + 1) (omega arith) in rw e at k;
+        few = let few = a.few in omega arith;
       }
 
--- the frame that is kept is given
-one-fed : (b : Bool) (s : TrimState) (n : ℕ) (x : Samples) → Alike b s (suc n) → length x ≡ s.recipe.channels → Fed trim_acts s (x ∷ []) (cond b (x ∷ []) []) (later b s 1)
-one-fed false s n x a sides = taken [] [] x s (later false s 1) nothing (took-one false s n a x None refl)
-one-fed true s n x a sides =
-    let mid : TrimState = took s s.line (Some x) in
-    let last : TrimState = later true s 1 in
-    let is = is-next true s n a in
-    let counted = is.counted a.running in
-    let within = is.within in
-    let gave : GaveNext trim_acts mid last x = record {
-      gave = record {
-        was_wet = refl;
-        gives = record { clips = 0; first = λ z. refl; counted = refl };
-        channels = sides;
-        due = λ e. omega arith;
-        most = omega arith;
-        recipe_stays = refl;
-      };
-      held = rw (no-line true s n a) (omega arith);
-    } in
-    given (x ∷ []) [] x mid last (taken [] [] x s mid nothing (took-one true s n a x (Some x) refl)) gave
+gives-more : (b : Bool) (os ps : List Samples) → cond b os [] ++ cond b ps [] ≡ cond b (os ++ ps) []
+gives-more true os ps = refl
+gives-more false os ps = refl
 
-later-none : (b : Bool) (s : TrimState) → s.hand ≡ None → later b s 0 ≡ s
-later-none true s e = rw (← e, add-zero s.taken, add-zero s.given) refl
-later-none false s e = rw (← e, add-zero s.taken) refl
+counts-more : (b : Bool) (g k j n : ℕ) → n ≡ k + j → cond b (cond b (g + k) g + j) (cond b (g + k) g) ≡ cond b (g + n) g
+counts-more true g k j n e = omega arith
+counts-more false g k j n e = refl
 
-later-more : (b : Bool) (s : TrimState) (n : ℕ) → later b (later b s 1) n ≡ later b s (suc n)
-later-more true s n = let t : s.taken + 1 + n ≡ s.taken + suc n = omega arith in let g : s.given + 1 + n ≡ s.given + suc n = omega arith in rw (t, g) refl
-later-more false s n = let t : s.taken + 1 + n ≡ s.taken + suc n = omega arith in rw t refl
+same-state : (s : TrimState) (l m : Frames ℤ) (t u g h : ℕ) → l ≡ m → t ≡ u → g ≡ h → ◌≡◌ {A = TrimState} (record s { hand = None; line = l; taken = t; given = g }) (record s { hand = None; line = m; taken = u; given = h })
+same-state s l m t u g h e e' e'' = rw (e, e', e'') refl
 
-gives-more : (b : Bool) (x : Samples) (xs : List Samples) → cond b (x ∷ []) [] ++ cond b xs [] ≡ cond b (x ∷ xs) []
-gives-more true x xs = refl
-gives-more false x xs = refl
+no-counts : (b : Bool) (g k : ℕ) → k ≡ 0 → cond b (g + k) g ≡ g
+no-counts true g k e = omega arith
+no-counts false g k e = refl
 
-pub stretch-fed : (b : Bool) (xs : List Samples) (s : TrimState) → Alike b s (length xs) → All (λ (x : Samples). length x ≡ s.recipe.channels) xs → Fed trim_acts s xs (cond b xs []) (later b s (length xs)) × IsTrim (later b s (length xs))
-stretch-fed true [] s a sides = rw (later-none true s a.empty) (nothing, a.is)
-stretch-fed false [] s a sides = rw (later-none false s a.empty) (nothing, a.is)
-stretch-fed b (x ∷ xs) s a sides =
-    let one = one-fed b s (length xs) x a (All-head (λ (y : Samples). length y ≡ s.recipe.channels) x xs sides) in
-    let rest = stretch-fed b xs (later b s 1) (alike-next b s (length xs) a) (All-tail (λ (y : Samples). length y ≡ s.recipe.channels) x xs sides) in
-    rw (← later-more b s (length xs), ← gives-more b x xs) (Fed-then trim_acts s (later b s 1) (later b (later b s 1) (length xs)) (x ∷ []) (cond b (x ∷ []) []) xs (cond b xs []) one rest.0, rest.1)
+later-none : (b : Bool) (s : TrimState) → IsTrim s → s.hand ≡ None → (later b s [] ≡ s) × (cond b (out_of s.line []) [] ≡ [])
+later-none b s is e =
+    let within = is.line.within in
+    let none = onto-none s.line within in
+    let gone-none : gone s.line 0 ≡ 0 = omega arith in
+    let back : ◌≡◌ {A = TrimState} (record s { hand = None }) s = rw (← e) refl in
+    (same-state s (onto s.line []) s.line (s.taken + 0) s.taken (cond b (s.given + gone s.line 0) s.given) s.given none.0 (add-zero s.taken) (no-counts b s.given (gone s.line 0) gone-none) ∙ back, nothing-given b none.1)
+  where
+    nothing-given : (c : Bool) → out_of s.line [] ≡ [] → cond c (out_of s.line []) [] ≡ []
+    nothing-given true h = h
+    nothing-given false h = refl
 
-chosen : (b : Bool) (size n : ℕ) (xs : List ℤ) → pieces size (cond b n 0) xs ≡ cond b (pieces size n xs) []
-chosen true size n xs = refl
-chosen false size n xs = refl
+later-more : (b : Bool) (s : TrimState) (x : Samples) (xs : List Samples) → length s.line.items ≤ s.line.capacity → later b (later b s (x ∷ [])) xs ≡ later b s (x ∷ xs)
+later-more b s x xs within =
+    let next : Frames ℤ = onto s.line (x ∷ []) in
+    let long = onto-long s.line (x ∷ []) in
+    let t : s.taken + 1 + length xs ≡ s.taken + length (x ∷ xs) = omega arith in
+    let k : gone s.line (length (x ∷ xs)) ≡ gone s.line 1 + gone next (length xs) = omega arith in
+    same-state s (onto next xs) (onto s.line (x ∷ xs)) (s.taken + 1 + length xs) (s.taken + length (x ∷ xs)) _ (cond b (s.given + gone s.line (length (x ∷ xs))) s.given) (onto-more s.line x xs within) t (counts-more b s.given (gone s.line 1) (gone next (length xs)) (gone s.line (length (x ∷ xs))) k)
 
--- so many frames in front of the input
-pub piece-fed : (b : Bool) (s : TrimState) (n : ℕ) (input out : List ℤ) → Alike b s n → n * s.recipe.channels ≤ length input → pieces s.recipe.channels (cond b n 0) out ≡ pieces s.recipe.channels (cond b n 0) input
-    → Fed trim_acts s (pieces s.recipe.channels n input) (pieces s.recipe.channels (cond b n 0) out) (later b s n) × IsTrim (later b s n)
-piece-fed b s n input out a room same =
-    let ch : ℕ = s.recipe.channels in
-    let many : length (pieces ch n input) ≡ n = length-pieces ch n input in
-    let all = stretch-fed b (pieces ch n input) s (rw many a) (pieces-sides ch n input room) in
-    rw (same, chosen b ch n input) (rw many at all)
+pub stretch-fed : (b : Bool) (xs : List Samples) (s : TrimState) → Alike b s (length xs) → All (IsSamples w32 s.line.channels) xs → Fed trim_acts s xs (cond b (out_of s.line xs) []) (later b s xs) × IsTrim (later b s xs)
+stretch-fed b [] s a samples = let none = later-none b s a.is a.empty in rw (none.0, none.1) (nothing, a.is)
+stretch-fed b (x ∷ xs) s a samples =
+    let within = a.is.line.within in
+    let sample = All-head (IsSamples w32 s.line.channels) x xs samples in
+    let one = one-fed b s (length xs) x a sample in
+    let rest = stretch-fed b xs (later b s (x ∷ [])) (alike-next b s (length xs) x a sample) (All-tail (IsSamples w32 s.line.channels) x xs samples) in
+    let next : TrimState = later b s (x ∷ []) in
+    let both = Fed-then trim_acts s next (later b next xs) (x ∷ []) (cond b (out_of s.line (x ∷ [])) []) xs (cond b (out_of next.line xs) []) one.0 rest.0 in
+    let out : cond b (out_of s.line (x ∷ [])) [] ++ cond b (out_of next.line xs) [] ≡ cond b (out_of s.line (x ∷ xs)) [] = gives-more b (out_of s.line (x ∷ [])) (out_of next.line xs) ∙ ap (λ os. cond b os []) (out-more s.line x xs within) in
+    let last = later-more b s x xs within in
+    rw (← last, ← out) (both, rest.1)
 
--- the same where the hand stays as it is
-pub stretch-passed : (b : Bool) (s : TrimState) (n : ℕ) (input out : List ℤ) → Alike b s n → n * s.recipe.channels ≤ length input → pieces s.recipe.channels (cond b n 0) out ≡ pieces s.recipe.channels (cond b n 0) input
-    → Fed trim_acts s (pieces s.recipe.channels n input) (pieces s.recipe.channels (cond b n 0) out) (record s { taken = s.taken + n; given = cond b (s.given + n) s.given }) × IsTrim (record s { taken = s.taken + n; given = cond b (s.given + n) s.given })
-stretch-passed b s n input out a room same =
-    let last : ◌≡◌ {A = TrimState} (record s { taken = s.taken + n; given = cond b (s.given + n) s.given }) (later b s n) = rw a.empty refl in
-    rw last (piece-fed b s n input out a room same)
+-- what the trim is after so many frames of the input
+abbrev pub passed : TrimState → Frames ℤ → ℕ → ℕ → TrimState
+passed s line n k = record s { line = line; taken = s.taken + n; given = s.given + k }
+
+-- so many frames in front of the input came to the line, and those that fell out are given where they are kept
+pub piece-passed : (b : Bool) (s : TrimState) (n k : ℕ) (line : Frames ℤ) (input out : List ℤ) → Alike b s n → n * s.recipe.channels ≤ length input
+    → let xs = pieces s.line.channels n (take (n * s.recipe.channels) input) in
+    line.items ≡ pushed_all s.line xs → line.capacity ≡ s.line.capacity → line.channels ≡ s.line.channels → All (IsSamples w32 s.line.channels) xs
+    → k ≡ cond b (gone s.line n) 0 → pieces s.line.channels k out ≡ take k (s.line.items ++ xs)
+    → Fed trim_acts s (pieces s.recipe.channels n input) (pieces s.recipe.channels k out) (passed s line n k) × IsTrim (passed s line n k)
+piece-passed b s n k line input out a room items capacity channels samples number is =
+    let same = a.is.channels in
+    let xs : List Samples = pieces s.line.channels n (take (n * s.recipe.channels) input) in
+    let many : length xs ≡ n = length-pieces s.line.channels n (take (n * s.recipe.channels) input) in
+    let front : xs ≡ pieces s.recipe.channels n input = ap (λ w. pieces w n (take (n * s.recipe.channels) input)) same ∙ pieces-take s.recipe.channels n input room in
+    let all = stretch-fed b xs s (rw many a) samples in
+    let onto-is : line ≡ onto s.line xs = same-line line (onto s.line xs) items capacity channels in
+    let gave : pieces s.recipe.channels k out ≡ cond b (out_of s.line xs) [] = ap (λ w. pieces w k out) (sym same) ∙ is ∙ chosen b k xs number many in
+    let empty : ◌≡◌ {A = TrimState} (passed s line n k) (record s { hand = None; line = line; taken = s.taken + n; given = s.given + k }) = rw a.empty refl in
+    let last : passed s line n k ≡ later b s xs = empty ∙ same-state s line (onto s.line xs) (s.taken + n) (s.taken + length xs) (s.given + k) (cond b (s.given + gone s.line (length xs)) s.given) onto-is (ap (λ m. s.taken + m) (sym many)) (counts b k xs number many) in
+    rw (gave, ← front, last) all
+  where
+    chosen : (c : Bool) (k' : ℕ) (ys : List Samples) → k' ≡ cond c (gone s.line n) 0 → length ys ≡ n → take k' (s.line.items ++ ys) ≡ cond c (out_of s.line ys) []
+    chosen true k' ys e m = rw (e, m) refl
+    chosen false k' ys e m = rw e refl
+
+    counts : (c : Bool) (k' : ℕ) (ys : List Samples) → k' ≡ cond c (gone s.line n) 0 → length ys ≡ n → s.given + k' ≡ cond c (s.given + gone s.line (length ys)) s.given
+    counts true k' ys e m = rw (e, m) refl
+    counts false k' ys e m = rw e (add-zero s.given)

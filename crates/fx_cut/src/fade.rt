@@ -1,5 +1,5 @@
 //! The effect `fade` of sox(1), of the type t: a linear rise at the start and a linear fall before the stop.
-ghost use Rattle.std.specs.Prelude.{◌≡◌, ◌≤◌, ◌<◌, ◌+◌, ◌-◌, ◌++◌, ◌*ℤ◌, ◌^◌, [], pos, length, map, Err, IfOk, MatchResult, None, option_to_list, true, false};
+ghost use Rattle.std.specs.Prelude.{ℕ, ◌≡◌, ◌≤◌, ◌<◌, ◌+◌, ◌-◌, ◌++◌, ◌*ℤ◌, ◌^◌, [], pos, length, map, Err, IfOk, MatchResult, None, option_to_list, true, false};
 ghost use Rattle.std.specs.Int.{w32};
 ghost use Rattle.fx_fixed.specs.Rounding.{rounding};
 ghost use Rattle.fx_frame.specs.Frame.{IsFrame};
@@ -10,10 +10,11 @@ ghost use Rattle.fx_cut.specs.Lists.{plain};
 ghost use Rattle.fx_cut.specs.Rounded.{unclipped};
 ghost use Rattle.fx_cut.specs.Fade.{FadeArguments, FadeState, IsFade, IsFadeCount, IsShape, due_by, fade_acts, fade_after, fade_line, faded_here, is_before, line_by, meant, stop_ahead, stop_in, until, weight, weighted, weights};
 
+use crate::many::{PassesMany, feed_by_pieces};
 use fx_fixed::{At, round_clip};
 use fx_frame::frozen::thawed_line_and_hand;
 use fx_frame::inner::{frame_of, places};
-use fx_frame::{Feeds, Frame, Line, Stage, ThawFault, WideFrame};
+use fx_frame::{Feeds, Frame, Line, Passed, Stage, ThawFault, WideFrame};
 use std::alloc::{AllocError, Global};
 use std::marker::Model;
 
@@ -142,6 +143,21 @@ impl Shape {
             Some(At::Start(start)) => Some(start),
             Some(At::End(_)) => Some(place + self.fade_out + 1),
         }
+    }
+
+    /// How many frames from this place on lie between the rise and the fall, as far as the line shows it when they fall out of
+    /// it.
+    fn flat_from(&self, place: u64) -> u64
+        ensures before { (n : ℕ) → n < result → is_before (stop_ahead self.now (place + n)) (place + n) ≡ true }
+        ensures whole { (n : ℕ) → n < result → (weights self.now (stop_ahead self.now (place + n)) (place + n)).0 ≡ (weights self.now (stop_ahead self.now (place + n)) (place + n)).1 }
+    {
+        if place < self.fade_in {
+            return 0;
+        }
+        let Some(At::Start(start)) = self.stop else {
+            return u64::MAX;
+        };
+        start.saturating_sub(self.fade_out).saturating_sub(place)
     }
 }
 
@@ -435,4 +451,35 @@ impl Stage for Fade {
     }
 }
 
-impl Feeds for Fade {}
+impl PassesMany for Fade {
+    /// Passes the frames that fall out of the line between the rise and the fall, which are given unchanged.
+    fn pass_many(&mut self, input: &[i32], output: &mut [i32]) -> Passed {
+        let channels = self.channels;
+        if self.hand.is_some() || self.ended || output.len() < channels {
+            return Passed { taken: 0, given: 0 };
+        }
+        let lined = self.line.len();
+        let room = self.line.capacity() - lined;
+        let flat = self.shape.flat_from(self.taken - lined as u64);
+        let ahead = flat.saturating_add(room as u64);
+        let most = (input.len() / channels).min(output.len() / channels + room);
+        let count = ahead.min(most as u64) as usize;
+        let fallen = count.saturating_sub(room);
+        let frames = &input[..count * channels];
+        self.line.oldest_into(frames, fallen, output);
+        self.line.push_frames(frames, count);
+        let _held = self.line.len();
+        self.taken += count as u64;
+        self.given += fallen as u64;
+        Passed {
+            taken: count,
+            given: fallen,
+        }
+    }
+}
+
+impl Feeds for Fade {
+    fn feed(&mut self, input: &[i32], output: &mut [i32]) -> Passed {
+        feed_by_pieces(self, input, output)
+    }
+}

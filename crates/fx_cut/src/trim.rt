@@ -10,7 +10,6 @@ ghost use Rattle.fx_cut.specs.Trim.{IsTrim, IsTrimCount, TrimArguments, TrimStat
 
 use crate::many::{PassesMany, feed_by_pieces};
 use fx_fixed::At;
-use fx_frame::feed::copy_frames;
 use fx_frame::frozen::thawed_line_and_hand;
 use fx_frame::{Feeds, Frame, Line, Passed, Stage, ThawFault, WideFrame};
 use std::alloc::{AllocError, Global};
@@ -78,6 +77,13 @@ fn wanted(enough: Option<u64>, taken: u64) -> u64
         None => u64::MAX,
         Some(enough) => enough.saturating_sub(taken),
     }
+}
+
+/// How many of the frames that fell out of the line are given, where they are kept.
+fn given_of(is_kept: bool, fallen: usize) -> usize
+    ensures { result ≡ (if is_kept then fallen else 0) }
+{
+    if is_kept { fallen } else { 0 }
 }
 
 /// Where a position lies in a sound of so many frames.
@@ -433,32 +439,31 @@ impl Stage for Trim {
 }
 
 impl PassesMany for Trim {
-    /// Where it has no line, passes the frames up to the next position: by one copy, or none of them.
+    /// Passes the frames up to those that a position lets fall out of the line, which are all kept, or all left out.
     fn pass_many(&mut self, input: &[i32], output: &mut [i32]) -> Passed {
         let channels = self.channels;
-        if self.line.capacity() != 0
-            || self.hand.is_some()
-            || self.ended
-            || output.len() < channels
-        {
+        if self.hand.is_some() || self.ended || output.len() < channels {
             return Passed { taken: 0, given: 0 };
         }
-        let stretch = stretch_from(&self.positions, self.taken);
-        let ahead = stretch.frames.min(wanted(self.enough, self.taken));
-        let count = ahead.min((input.len() / channels) as u64) as usize;
-        if stretch.is_kept {
-            let copied = copy_frames(&input[..count * channels], output, channels);
-            self.taken += copied as u64;
-            self.given += copied as u64;
-            return Passed {
-                taken: copied,
-                given: copied,
-            };
-        }
+        let lined = self.line.len();
+        let room = self.line.capacity() - lined;
+        let stretch = stretch_from(&self.positions, self.taken - lined as u64);
+        let ahead = stretch
+            .frames
+            .saturating_add(room as u64)
+            .min(wanted(self.enough, self.taken));
+        let most = (input.len() / channels).min(output.len() / channels + room);
+        let count = ahead.min(most as u64) as usize;
+        let given = given_of(stretch.is_kept, count.saturating_sub(room));
+        let frames = &input[..count * channels];
+        self.line.oldest_into(frames, given, output);
+        self.line.push_frames(frames, count);
+        let _held = self.line.len();
         self.taken += count as u64;
+        self.given += given as u64;
         Passed {
             taken: count,
-            given: 0,
+            given,
         }
     }
 }

@@ -1,8 +1,8 @@
 //! One ring of samples for whole frames, each of as many samples as there are channels.
 ghost use Rattle.std.specs.Prelude.{◌≡◌, ◌<◌, ◌≤◌, ◌^◌, ◌++◌, ◌+◌, ◌*◌, ◌∷◌, [], ℕ, length, take, drop, EachIndex, slice_get, slice_index_or, IfOk, Some};
 ghost use Rattle.std.specs.Option.{option_map};
-ghost use Rattle.fx_frame.specs.Line.{empty, pushed, pushed_out, channel_of};
-ghost use Rattle.fx_frame.specs.Ring.{IsShaped};
+ghost use Rattle.fx_frame.specs.Line.{empty, pushed, pushed_all, pushed_out, channel_of};
+ghost use Rattle.fx_frame.specs.Ring.{IsShaped, pieces};
 
 use circular_buffer::HeapCircularBuffer;
 use std::alloc::{AllocError, Global};
@@ -112,6 +112,32 @@ impl<T: Copy> Ring<T> {
     {
         self.len = (self.len + 1).min(self.capacity);
         self.samples.extend_from_slice(frame);
+    }
+
+    /// Adds so many frames, which lie one after another. The oldest go where there is no room.
+    pub(crate) fn push_frames(&mut self, frames: &[T], count: usize)
+        requires { length frames.now ≡ count * self.old.channels }
+        ensures items { self.new.items ≡ pushed_all self.old (pieces self.old.channels count frames.now) }
+        ensures capacity { self.new.capacity ≡ self.old.capacity }
+        ensures channels { self.new.channels ≡ self.old.channels }
+    {
+        self.len += count.min(self.capacity - self.len);
+        self.samples.extend_from_slice(frames);
+    }
+
+    /// Copies so many of the oldest frames to the front of `out`: those of the ring first, and then those of `coming`, which
+    /// would come after them.
+    pub(crate) fn oldest_into(&self, coming: &[T], count: usize, out: &mut [T])
+        requires enough { count * self.now.channels ≤ length self.now.items * self.now.channels + length coming.now }
+        requires room { count * self.now.channels ≤ length out.old }
+        ensures frames { (n : ℕ) → n * self.now.channels ≤ length coming.now → count ≤ length self.now.items + n → pieces self.now.channels count out.new ≡ take count (self.now.items ++ pieces self.now.channels n coming.now) }
+        ensures behind { drop (count * self.now.channels) out.new ≡ drop (count * self.now.channels) out.old }
+    {
+        let end = count * self.channels;
+        let own = end.min(self.len * self.channels);
+        let (front, back) = self.samples.as_slices();
+        copy_part(front, back, 0, &mut out[..own]);
+        out[own..end].copy_from_slice(&coming[..end - own]);
     }
 
     /// Takes the oldest frame away, if there is one.

@@ -1,6 +1,8 @@
 //! The effect `delay` of sox(1): each channel comes later by its own number of frames.
-ghost use Rattle.std.specs.Prelude.{◌≡◌, ◌≤◌, ◌^◌, ◌++◌, ◌∷◌, [], ℕ, List, length, slice_index_or, pos, Err, IfOk, MatchResult};
-ghost use Rattle.fx_frame.specs.Frame.{IsFrame};
+ghost use Rattle.std.specs.Prelude.{◌≡◌, ◌<◌, ◌≤◌, ◌-◌, ◌*◌, ◌^◌, ◌++◌, ◌∷◌, [], ℕ, List, true, length, drop, take, replicate, slice_index, slice_index_or, pos, Err, IfOk, MatchResult};
+ghost use Rattle.fx_frame.specs.Frame.{IsFrame, silence};
+ghost use Rattle.fx_frame.specs.Line.{pushed_all};
+ghost use Rattle.fx_frame.specs.Ring.{pieces};
 ghost use Rattle.fx_frame.specs.Stage.{Freezes, IsNew};
 ghost use Rattle.fx_tap.specs.Delay.{delay_acts, delay_taps, delayed_frame, every_delay};
 ghost use Rattle.fx_tap.specs.Tapped.{IsTapState, TapState, longest, sample_before};
@@ -8,7 +10,7 @@ ghost use Rattle.fx_tap.specs.Near.{delays-near};
 ghost use Rattle.std.proofs.Common.{zero-le};
 
 use crate::sums::sample_or_silence;
-use crate::tapped::{Tapped, Tapping, TapsMany};
+use crate::tapped::{Tapped, Tapping, TapsMany, tap_by_frames};
 use fx_frame::inner::{frame_of, samples};
 use fx_frame::{Frame, Line, ThawFault, WideFrame};
 use std::alloc::{AllocError, Global};
@@ -160,4 +162,51 @@ impl Tapped<Delays> {
     }
 }
 
-impl TapsMany for Delays {}
+/// Is each of the delays so long?
+fn all_are(delays: &[u64], reach: u64) -> bool
+    ensures { result ≡ true → (k : ℕ) → k < length delays.now → slice_index delays.now k ≡ reach }
+{
+    'delays: for delay in delays {
+        if *delay != reach {
+            return false;
+        }
+    }
+    true
+}
+
+/// Writes silence over so many frames in front of the output.
+fn write_silence(output: &mut [i32], channels: usize, count: usize)
+    requires { count * channels ≤ length output.old }
+    ensures { output.new ≡ replicate (count * channels) (pos 0) ++ drop (count * channels) output.old }
+{
+    output[..count * channels].fill(0);
+}
+
+/// Writes so many frames, each as many frames after its own as the line has places, and silence before the first. Those that
+/// come go into the line.
+fn delay_evenly(line: &mut Line, channels: usize, frames: &[i32], count: usize, output: &mut [i32])
+    requires channels { channels ≡ line.old.channels }
+    requires frames { length frames.now ≡ count * line.old.channels }
+    requires room { count * line.old.channels ≤ length output.old }
+    ensures frames { pieces line.old.channels count output.new ≡ take count (replicate (line.old.capacity - length line.old.items) (silence line.old.channels) ++ (line.old.items ++ pieces line.old.channels count frames.now)) }
+    ensures behind { drop (count * line.old.channels) output.new ≡ drop (count * line.old.channels) output.old }
+    ensures items { line.new.items ≡ pushed_all line.old (pieces line.old.channels count frames.now) }
+    ensures capacity { line.new.capacity ≡ line.old.capacity }
+    ensures channels { line.new.channels ≡ line.old.channels }
+{
+    let quiet = (line.capacity() - line.len()).min(count);
+    write_silence(output, channels, quiet);
+    line.oldest_into(frames, count - quiet, &mut output[quiet * channels..]);
+    line.push_frames(frames, count);
+}
+
+impl TapsMany for Delays {
+    fn tap_many(&self, line: &mut Line, input: &[i32], output: &mut [i32], count: usize) -> u64 {
+        if !all_are(&self.delays, line.capacity() as u64) {
+            return tap_by_frames(self, line, input, output, count);
+        }
+        let channels = self.channels();
+        delay_evenly(line, channels, &input[..count * channels], count, output);
+        0
+    }
+}

@@ -1,105 +1,89 @@
--- Up to the next position the frames are kept, or left out, all of them.
-use Rattle.std.proofs.Common.{rules, ◌≡◌, ◌≤◌, ◌*◌, true, false, length, take, refl, ◌∙◌, arith}
+-- The frames that fall out up to the next position are kept, or left out, all of them.
+use Rattle.std.proofs.Common.{ℕ, ℤ, ◌≡◌, ◌≤◌, ◌*◌, ◌+◌, ◌-◌, length, take, List, sym, ◌∙◌, ap, arith}
 use Rattle.std.proofs.lemmas.List.{length-take-le}
 use Rattle.fx_frame.specs.Feed.{nothing}
-use Rattle.fx_frame.specs.Ring.{pieces}
 use Rattle.fx_cut.specs.Trim.{TrimState}
 use Rattle.fx_cut.proofs.Hands.{not-some}
-use Rattle.fx_cut.proofs.Pieces.{few-pieces, pieces-cut}
-use Rattle.fx_cut.proofs.TrimMany.{Alike, stretch-passed}
+use Rattle.fx_cut.proofs.Onto.{IsPiece, piece-fits}
+use Rattle.fx_cut.proofs.TrimMany.{Alike, piece-passed}
 use Rattle.fx_cut.proofs.trim.TrimPassesMany.pass_many.Goals as goal
 
-pub returns-then-capacity-ne0-clause-fed : goal.returns-then-capacity-ne0-clause-fed
-returns-then-capacity-ne0-clause-fed c = nothing
+pub returns-then-is_some-clause-fed : goal.returns-then-is_some-clause-fed
+returns-then-is_some-clause-fed c = nothing
 
-pub invariant_of-self-2 : goal.invariant_of-self-2
-invariant_of-self-2 c =
-    let s : TrimState = record { hand = c.self.inside.hand; recipe = record { channels = c.self.inside.channels; positions = c.self.inside.positions.items }; enough = c.self.inside.enough; line = c.self.inside.line; taken = c.self.inside.taken; given = c.self.inside.given; ended = c.self.inside.ended } in
-    let n = c.min-count.result in
-    let below = rw (← c.self.view_is) at c.requires.below_limit in
-    let room : n * c.self.inside.channels ≤ length c.args.input.now = search rules in
-    let few = below n room in
-    let kept = rw c.deref.ensures.value at c.stretch_from-stretch.ensures in
-    let ahead : n ≤ c.min-ahead.result = omega (arith, c.min-count.ensures) in
-    let a : Alike false s n = record {
-      is = c.self.invariant;
-      short = search rules;
-      empty = not-some c.self.inside.hand (search rules);
-      running = c.if-self.false;
-      kept = λ i h. kept i (omega (arith, h, ahead, c.min-ahead.ensures)) ∙ c.if-stretch.false;
-      wanted = λ i h. c.wanted.ensures i (omega (arith, h, ahead, c.min-ahead.ensures));
-      few = few;
-    } in
-    (stretch-passed false s n c.args.input.now c.args.output.now a room refl).1
+pub oldest_into-requires-clause-enough : goal.oldest_into-requires-clause-enough
+oldest_into-requires-clause-enough c =
+    let within = c.self.invariant.line.within in
+    let n : ℕ = c.min-count.result in
+    let w : ℕ = c.self.inside.channels in
+    let fits = piece-fits c.stretch_from-stretch.result.is_kept c.self.inside.line n c.given_of-given.result (c.capacity.result - c.len-lined.result) w (length c.args.input.now) (length c.args.output.now) within (omega arith) (omega arith) (omega arith) (rw c.saturating_sub.ensures at c.given_of-given.ensures) in
+    let long : length (take (n * w) c.args.input.now) ≡ n * w = length-take-le (n * w) c.args.input.now fits.read in
+    rw (c.self.invariant.channels, long) fits.enough
 
-pub returns-clause-fed : goal.returns-clause-fed
-returns-clause-fed c =
-    let s : TrimState = record { hand = c.self.inside.hand; recipe = record { channels = c.self.inside.channels; positions = c.self.inside.positions.items }; enough = c.self.inside.enough; line = c.self.inside.line; taken = c.self.inside.taken; given = c.self.inside.given; ended = c.self.inside.ended } in
-    let n = c.min-count.result in
-    let below = rw (← c.self.view_is) at c.requires.below_limit in
-    let room : n * c.self.inside.channels ≤ length c.args.input.now = search rules in
-    let few = below n room in
-    let kept = rw c.deref.ensures.value at c.stretch_from-stretch.ensures in
-    let ahead : n ≤ c.min-ahead.result = omega (arith, c.min-count.ensures) in
-    let a : Alike false s n = record {
-      is = c.self.invariant;
-      short = search rules;
-      empty = not-some c.self.inside.hand (search rules);
-      running = c.if-self.false;
-      kept = λ i h. kept i (omega (arith, h, ahead, c.min-ahead.ensures)) ∙ c.if-stretch.false;
-      wanted = λ i h. c.wanted.ensures i (omega (arith, h, ahead, c.min-ahead.ensures));
-      few = few;
-    } in
-    rw (← c.self.view_is) ((stretch-passed false s n c.args.input.now c.args.output.now a room refl).0)
+pub oldest_into-requires-clause-room : goal.oldest_into-requires-clause-room
+oldest_into-requires-clause-room c =
+    let within = c.self.invariant.line.within in
+    let n : ℕ = c.min-count.result in
+    let w : ℕ = c.self.inside.channels in
+    let fits = piece-fits c.stretch_from-stretch.result.is_kept c.self.inside.line n c.given_of-given.result (c.capacity.result - c.len-lined.result) w (length c.args.input.now) (length c.args.output.now) within (omega arith) (omega arith) (omega arith) (rw c.saturating_sub.ensures at c.given_of-given.ensures) in
+    rw c.self.invariant.channels fits.written
 
 pub invariant_of-self : goal.invariant_of-self
 invariant_of-self c =
+    let within = c.self.invariant.line.within in
+    let n : ℕ = c.min-count.result in
+    let w : ℕ = c.self.inside.channels in
+    let fits = piece-fits c.stretch_from-stretch.result.is_kept c.self.inside.line n c.given_of-given.result (c.capacity.result - c.len-lined.result) w (length c.args.input.now) (length c.args.output.now) within (omega arith) (omega arith) (omega arith) (rw c.saturating_sub.ensures at c.given_of-given.ensures) in
     let s : TrimState = record { hand = c.self.inside.hand; recipe = record { channels = c.self.inside.channels; positions = c.self.inside.positions.items }; enough = c.self.inside.enough; line = c.self.inside.line; taken = c.self.inside.taken; given = c.self.inside.given; ended = c.self.inside.ended } in
-    let n = c.copy_frames-copied.result in
+    let low = c.self.invariant.within in
     let below = rw (← c.self.view_is) at c.requires.below_limit in
-    let count = c.min-count.result in
-    let long : count * c.self.inside.channels ≤ length c.args.input.now = search rules in
-    let cut : length (take (count * c.self.inside.channels) c.args.input.now) ≡ count * c.self.inside.channels = length-take-le (count * c.self.inside.channels) c.args.input.now long in
-    let read = c.copy_frames-copied.ensures.read in
-    let fewer : n ≤ count = few-pieces n count c.self.inside.channels (rw (← c.self.view_is) at c.requires.channels.0) (omega (arith, read, cut)) in
-    let room : n * c.self.inside.channels ≤ length c.args.input.now = omega (arith, read, cut, long) in
-    let few = below n room in
     let kept = rw c.deref.ensures.value at c.stretch_from-stretch.ensures in
-    let ahead : n ≤ c.min-ahead.result = omega (arith, c.min-count.ensures) in
-    let a : Alike true s n = record {
+    let a : Alike c.stretch_from-stretch.result.is_kept s n = record {
       is = c.self.invariant;
-      short = search rules;
-      empty = not-some c.self.inside.hand (search rules);
+      empty = not-some c.self.inside.hand (sym c.if-is_some.ensures);
       running = c.if-self.false;
-      kept = λ i h. kept i (omega (arith, h, ahead, c.min-ahead.ensures)) ∙ c.if-stretch.true;
-      wanted = λ i h. c.wanted.ensures i (omega (arith, h, ahead, c.min-ahead.ensures));
-      few = few;
+      kept = λ i h.
+          let at : c.self.inside.taken - c.len-lined.result ≡ c.self.inside.taken - length c.self.inside.line.items = omega arith in
+          rw at at (kept i (omega arith));
+      wanted = λ i h. c.wanted.ensures i (omega arith);
+      few = below n fits.read;
     } in
-    let same : pieces c.self.inside.channels n c.copy_frames-copied.new.output ≡ pieces c.self.inside.channels n c.args.input.now = c.copy_frames-copied.ensures.frames ∙ pieces-cut c.self.inside.channels n (count * c.self.inside.channels) c.args.input.now (omega (arith, read, cut)) in
-    (stretch-passed true s n c.args.input.now c.copy_frames-copied.new.output a room same).1
+    let long : length (take (n * w) c.args.input.now) ≡ n * w = length-take-le (n * w) c.args.input.now fits.read in
+    let there : n * c.self.inside.line.channels ≤ length (take (n * w) c.args.input.now) = rw (c.self.invariant.channels, long) (omega arith) in
+    let out = c.oldest_into.ensures.frames n there fits.few in
+    let both = piece-passed c.stretch_from-stretch.result.is_kept s n c.given_of-given.result c.push_frames.new.self c.args.input.now c.oldest_into.new.out a fits.read c.push_frames.ensures.items c.push_frames.ensures.capacity c.push_frames.ensures.channels c.push_frames.ensures.frames fits.number out in
+    both.1
 
-pub returns-then-stretch-clause-fed : goal.returns-then-stretch-clause-fed
-returns-then-stretch-clause-fed c =
+pub returns-clause-fed : goal.returns-clause-fed
+returns-clause-fed c =
+    let within = c.self.invariant.line.within in
+    let n : ℕ = c.min-count.result in
+    let w : ℕ = c.self.inside.channels in
+    let fits = piece-fits c.stretch_from-stretch.result.is_kept c.self.inside.line n c.given_of-given.result (c.capacity.result - c.len-lined.result) w (length c.args.input.now) (length c.args.output.now) within (omega arith) (omega arith) (omega arith) (rw c.saturating_sub.ensures at c.given_of-given.ensures) in
     let s : TrimState = record { hand = c.self.inside.hand; recipe = record { channels = c.self.inside.channels; positions = c.self.inside.positions.items }; enough = c.self.inside.enough; line = c.self.inside.line; taken = c.self.inside.taken; given = c.self.inside.given; ended = c.self.inside.ended } in
-    let n = c.copy_frames-copied.result in
+    let low = c.self.invariant.within in
     let below = rw (← c.self.view_is) at c.requires.below_limit in
-    let count = c.min-count.result in
-    let long : count * c.self.inside.channels ≤ length c.args.input.now = search rules in
-    let cut : length (take (count * c.self.inside.channels) c.args.input.now) ≡ count * c.self.inside.channels = length-take-le (count * c.self.inside.channels) c.args.input.now long in
-    let read = c.copy_frames-copied.ensures.read in
-    let fewer : n ≤ count = few-pieces n count c.self.inside.channels (rw (← c.self.view_is) at c.requires.channels.0) (omega (arith, read, cut)) in
-    let room : n * c.self.inside.channels ≤ length c.args.input.now = omega (arith, read, cut, long) in
-    let few = below n room in
     let kept = rw c.deref.ensures.value at c.stretch_from-stretch.ensures in
-    let ahead : n ≤ c.min-ahead.result = omega (arith, c.min-count.ensures) in
-    let a : Alike true s n = record {
+    let a : Alike c.stretch_from-stretch.result.is_kept s n = record {
       is = c.self.invariant;
-      short = search rules;
-      empty = not-some c.self.inside.hand (search rules);
+      empty = not-some c.self.inside.hand (sym c.if-is_some.ensures);
       running = c.if-self.false;
-      kept = λ i h. kept i (omega (arith, h, ahead, c.min-ahead.ensures)) ∙ c.if-stretch.true;
-      wanted = λ i h. c.wanted.ensures i (omega (arith, h, ahead, c.min-ahead.ensures));
-      few = few;
+      kept = λ i h.
+          let at : c.self.inside.taken - c.len-lined.result ≡ c.self.inside.taken - length c.self.inside.line.items = omega arith in
+          rw at at (kept i (omega arith));
+      wanted = λ i h. c.wanted.ensures i (omega arith);
+      few = below n fits.read;
     } in
-    let same : pieces c.self.inside.channels n c.copy_frames-copied.new.output ≡ pieces c.self.inside.channels n c.args.input.now = c.copy_frames-copied.ensures.frames ∙ pieces-cut c.self.inside.channels n (count * c.self.inside.channels) c.args.input.now (omega (arith, read, cut)) in
-    rw (← c.self.view_is) ((stretch-passed true s n c.args.input.now c.copy_frames-copied.new.output a room same).0)
+    let long : length (take (n * w) c.args.input.now) ≡ n * w = length-take-le (n * w) c.args.input.now fits.read in
+    let there : n * c.self.inside.line.channels ≤ length (take (n * w) c.args.input.now) = rw (c.self.invariant.channels, long) (omega arith) in
+    let out = c.oldest_into.ensures.frames n there fits.few in
+    let both = piece-passed c.stretch_from-stretch.result.is_kept s n c.given_of-given.result c.push_frames.new.self c.args.input.now c.oldest_into.new.out a fits.read c.push_frames.ensures.items c.push_frames.ensures.capacity c.push_frames.ensures.channels c.push_frames.ensures.frames fits.number out in
+    rw (← c.self.view_is) both.0
+
+pub returns-clause-written : goal.returns-clause-written
+returns-clause-written c =
+    let within = c.self.invariant.line.within in
+    let n : ℕ = c.min-count.result in
+    let w : ℕ = c.self.inside.channels in
+    let fits = piece-fits c.stretch_from-stretch.result.is_kept c.self.inside.line n c.given_of-given.result (c.capacity.result - c.len-lined.result) w (length c.args.input.now) (length c.args.output.now) within (omega arith) (omega arith) (omega arith) (rw c.saturating_sub.ensures at c.given_of-given.ensures) in
+    rw (← c.self.view_is, c.oldest_into.auto.out) fits.written

@@ -1,0 +1,155 @@
+-- Many frames that come to a ring, and those that fall out of it.
+use Rattle.std.proofs.Common.{◌≡◌, ◌+◌, ◌*◌, ◌-◌, ◌≤◌, ℕ, zero, suc, min, inl, inr, List, ◌∷◌, ◌++◌, length, take, drop, refl, sym, ap, ◌∙◌, arith, length-append, length-drop, append_assoc, append-nil}
+use Rattle.std.specs.List.{All}
+use Rattle.std.specs.Int.{Width}
+use Rattle.std.specs.Prelude.{ℤ, FitsSigned}
+use Rattle.std.proofs.lemmas.Bool.{cases_lt}
+use Rattle.std.proofs.lemmas.List.{drop-drop, drop_at, length-take-le, take-append-le, take_all, take_at}
+use Rattle.std.proofs.lemmas.List.Elements.{All-append, All-cons, All-drop, All-nil, All-take}
+use Rattle.std.proofs.Math.Nat.{add-mul, mul-le-mul_right, suc-mul}
+use Rattle.std.proofs.Math.Seq.{take-append-add}
+use Rattle.circular_buffer.specs.Buffer.{Buffer, buffer, keep_last}
+use Rattle.fx_frame.specs.Line.{Frames, IsSamples, pushed_all}
+use Rattle.fx_frame.specs.Ring.{IsRing, pieces}
+use Rattle.fx_frame.proofs.FeedParts.{pieces-split}
+use Rattle.fx_frame.proofs.Feeding.{pieces-take}
+use Rattle.fx_frame.proofs.Pieces.{frames_of, length-pieces, pieces-front, ring-len}
+use borrow.Rule.Slice.PartMut.{put_mid}
+
+module _ {X : Type 0} where
+  -- the first of the pieces
+  pub pieces-first : (size n m : ℕ) (xs : List X) → n ≤ m → take n (pieces size m xs) ≡ pieces size n xs
+  pieces-first size zero m xs h = refl
+  pieces-first size (suc n) zero xs h = absurd (omega arith)
+  pieces-first size (suc n) (suc m) xs h = ap (λ ps. take size xs ∷ ps) (pieces-first size n m (drop size xs) (omega arith))
+
+  -- the pieces of two lists
+  pub pieces-joined : (size n m : ℕ) (xs ys : List X) → length xs ≡ n * size → pieces size (n + m) (xs ++ ys) ≡ pieces size n xs ++ pieces size m ys
+  pieces-joined size n m xs ys e =
+      pieces-split size n m (xs ++ ys) ∙ ap (λ ps. ps ++ pieces size m (drop (n * size) (xs ++ ys))) (pieces-front size n xs ys e) ∙ ap (λ zs. pieces size n xs ++ pieces size m zs) (drop_at xs ys (n * size) e)
+
+  -- the pieces behind the first so many
+  pieces-past : (size k m : ℕ) (xs : List X) → pieces size m (drop (k * size) xs) ≡ drop k (pieces size (k + m) xs)
+  pieces-past size k m xs =
+      sym (ap (drop k) (pieces-split size k m xs) ∙ drop_at (pieces size k xs) (pieces size m (drop (k * size) xs)) k (length-pieces size k xs))
+
+  -- what holds of every element holds in each piece
+  pub All-pieces : (P : X → Type 0) (size n : ℕ) (xs : List X) → All P xs → All (All P) (pieces size n xs)
+  All-pieces P size zero xs all = All-nil (All P)
+  All-pieces P size (suc n) xs all = All-cons (All P) (take size xs) (pieces size n (drop size xs)) (All-take P size xs all) (All-pieces P size n (drop size xs) (All-drop P size xs all))
+
+  -- and in each frame of a line to which they came
+  pub All-pushed_all : (P : List X → Type 0) (l : Frames X) (fs after : List (List X)) → All P l.items → All P fs → after ≡ pushed_all l fs → All P after
+  All-pushed_all P l fs after all more e = rw e (All-drop P (length (l.items ++ fs) - l.capacity) (l.items ++ fs) (All-append P l.items fs all more))
+
+  -- each piece of a list that is long enough is whole
+  each-whole : (size n : ℕ) (xs : List X) → length xs ≡ n * size → All (λ (f : List X). length f ≡ size) (pieces size n xs)
+  each-whole size zero xs e = All-nil (λ (f : List X). length f ≡ size)
+  each-whole size (suc n) xs e =
+      let more : suc n * size ≡ n * size + size = suc-mul n size in
+      All-cons (λ (f : List X). length f ≡ size) (take size xs) (pieces size n (drop size xs)) (length-take-le size xs (omega arith)) (each-whole size n (drop size xs) (omega (arith, length-drop size xs)))
+
+  -- what stays of the samples is what stays of the frames
+  keep-frames : (size len count room : ℕ) (xs ys : List X) → length xs ≡ len * size → length ys ≡ count * size → len ≤ room
+      → (length (keep_last (room * size) (xs ++ ys)) ≡ min (len + count) room * size) × (pieces size (min (len + count) room) (keep_last (room * size) (xs ++ ys)) ≡ keep_last room (pieces size len xs ++ pieces size count ys))
+  keep-frames size len count room xs ys e f le =
+      let all : length (xs ++ ys) ≡ (len + count) * size = omega (arith, length-append xs ys, add-mul len count size) in
+      let many : length (pieces size len xs ++ pieces size count ys) ≡ len + count = omega (arith, length-append (pieces size len xs) (pieces size count ys), length-pieces size len xs, length-pieces size count ys) in
+      let joined : pieces size (len + count) (xs ++ ys) ≡ pieces size len xs ++ pieces size count ys = pieces-joined size len count xs ys e in
+      elim (cases_lt room (len + count)) [
+        | inl h ↦
+            let k : ℕ = len + count - room in
+            let m : min (len + count) room ≡ room = omega arith in
+            let whole : len + count ≡ k + room = omega arith in
+            let long : length (xs ++ ys) ≡ k * size + room * size = all ∙ ap (λ i. i * size) whole ∙ add-mul k room size in
+            let past : length (xs ++ ys) - room * size ≡ k * size = omega arith in
+            let past' : length (pieces size len xs ++ pieces size count ys) - room ≡ k = omega arith in
+            rw (m, past, past') (omega (arith, length-drop (k * size) (xs ++ ys)), pieces-past size k room (xs ++ ys) ∙ ap (λ i. drop k (pieces size i (xs ++ ys))) (sym whole) ∙ ap (drop k) joined)
+        | inr h ↦
+            let m : min (len + count) room ≡ len + count = omega arith in
+            let wide : (len + count) * size ≤ room * size = mul-le-mul_right size h in
+            let none : length (xs ++ ys) - room * size ≡ 0 = omega arith in
+            let none' : length (pieces size len xs ++ pieces size count ys) - room ≡ 0 = omega arith in
+            rw (m, none, none') (all, joined)
+      ]
+
+  -- what was copied to the front
+  pub own-copied : (xs out a : List X) (end own : ℕ) → own ≡ min end (length xs) → end ≤ length out → a ≡ take (length (take own out)) (drop 0 xs) → (a ≡ take own xs) × (length a ≡ own) × (own ≤ end)
+  own-copied xs out a end own e room is =
+      let same : length (take own out) ≡ own = length-take-le own out (omega arith) in
+      let copied : a ≡ take own xs = is ∙ ap (λ n. take n xs) same in
+      (copied, ap length copied ∙ length-take-le own xs (omega arith), omega arith)
+
+  -- what is to be written behind it has the length of what is written there
+  pub rest-long : (a out ys : List X) (end own : ℕ) → length a ≡ own → own ≤ end → end ≤ length out → end - own ≤ length ys → length (take (end - own) (drop own (a ++ drop own out))) ≡ length (take (end - own) ys)
+  rest-long a out ys end own l h room rest =
+      let tail : drop own (a ++ drop own out) ≡ drop own out = drop_at a (drop own out) own l in
+      let left : end - own ≤ length (drop own out) = omega (arith, length-drop own out) in
+      rw tail (length-take-le (end - own) (drop own out) left ∙ sym (length-take-le (end - own) ys rest))
+
+  -- the front of two lists, written over the front of a third
+  pub front-written : (xs ys out a b : List X) (end own rest : ℕ) → own ≡ min end (length xs) → end ≤ length out → end ≤ length (xs ++ ys) → a ≡ take own xs → b ≡ take (end - own) ys → rest ≡ end - own
+      → put_mid own rest (a ++ drop own out) b ≡ take end (xs ++ ys) ++ drop end out
+  front-written xs ys out a b end own rest e-own room within e-a e-b e-rest =
+      let l-a : length a ≡ own = ap length e-a ∙ length-take-le own xs (omega arith) in
+      let head : take own (a ++ drop own out) ≡ a = take_at a (drop own out) own l-a in
+      let tail : drop own (a ++ drop own out) ≡ drop own out = drop_at a (drop own out) own l-a in
+      let both : own + (end - own) ≡ end = omega arith in
+      let left : drop rest (drop own out) ≡ drop end out = ap (λ n. drop n (drop own out)) e-rest ∙ drop-drop (end - own) own out ∙ ap (λ n. drop n out) both in
+      let joined : a ++ b ≡ take end (xs ++ ys) = front in
+      rw (head, tail, left) (sym (append_assoc a b (drop end out)) ∙ ap (λ l. l ++ drop end out) joined)
+    where
+      front : a ++ b ≡ take end (xs ++ ys)
+      front = elim (cases_lt (length xs) end) [
+        | inl h ↦
+            let all : own ≡ length xs = omega arith in
+            let more : end ≡ length xs + (end - own) = omega arith in
+            let whole : a ≡ xs = e-a ∙ ap (λ n. take n xs) all ∙ take_all (length xs) xs (omega arith) in
+            rw (whole, e-b) (sym (ap (λ n. take n (xs ++ ys)) more ∙ take-append-add xs ys (end - own)))
+        | inr h ↦
+            let all : own ≡ end = omega arith in
+            let none : end - own ≡ 0 = omega arith in
+            rw (e-a, e-b, none, append-nil, all) (sym (take-append-le end xs ys h))
+      ]
+
+  module _ (channels capacity len : ℕ) (samples : Buffer X) (l : Frames X) (is-l : frames_of channels capacity len samples ≡ l) (r : IsRing channels capacity len samples) where
+    pub ring-push_frames : (len' count : ℕ) (after : Buffer X) (fs : List X) → length fs ≡ count * l.channels → len' ≡ min (len + count) capacity → after ≡ buffer (keep_last samples.capacity (samples.items ++ fs)) samples.capacity
+        → IsRing channels capacity len' after × (pieces channels len' after.items ≡ pushed_all l (pieces l.channels count fs))
+    ring-push_frames len' count after fs e-fs e-len is =
+        let same : channels ≡ l.channels = ap (λ v. v.channels) is-l in
+        let long : length fs ≡ count * channels = e-fs ∙ ap (λ n. count * n) (sym same) in
+        let both = keep-frames channels len count capacity samples.items fs r.filled long r.within in
+        rw (← is-l, e-len, is, r.room) (record { some = r.some; few = r.few; small = r.small; within = omega arith; filled = both.0; room = refl }, both.1)
+
+    -- where the frames of the ring end
+    pub record IsSeam (coming : List X) (end own : ℕ) : Type 0 where
+      pub is : own ≡ min end (length samples.items)
+      pub rest : end - own ≤ length coming
+      pub within : end ≤ length (samples.items ++ coming)
+
+    pub ring-seam : (coming : List X) (count own : ℕ) → own ≡ min (count * channels) (len * channels) → count * l.channels ≤ length l.items * l.channels + length coming → IsSeam coming (count * channels) own
+    ring-seam coming count own e enough =
+        let lined : length l.items ≡ len = sym ring-count in
+        let room : count * channels ≤ len * channels + length coming = rw (lined, ← ap (λ v. v.channels) is-l) at enough in
+        let all = r.filled in
+        record { is = omega arith; rest = omega arith; within = omega (arith, length-append samples.items coming) }
+      where
+        ring-count : len ≡ length l.items
+        ring-count = ring-len channels capacity len samples l is-l r
+
+    -- the oldest frames, and behind them those that come
+    pub ring-oldest : (coming old new : List X) (count : ℕ) → new ≡ take (count * channels) (samples.items ++ coming) ++ drop (count * channels) old → count * channels ≤ length (samples.items ++ coming)
+        → (n : ℕ) → n * l.channels ≤ length coming → count ≤ length l.items + n → pieces l.channels count new ≡ take count (l.items ++ pieces l.channels n coming)
+    ring-oldest coming old new count is within n h few =
+        rw (← is-l) (let h' : n * channels ≤ length coming = rw (← is-l) at h in let few' : count ≤ length (pieces channels len samples.items) + n = rw (← is-l) at few in
+        let many : length (pieces channels len samples.items) ≡ len = length-pieces channels len samples.items in
+        let cut : length (take (count * channels) (samples.items ++ coming)) ≡ count * channels = length-take-le (count * channels) (samples.items ++ coming) within in
+        ap (pieces channels count) is
+        ∙ pieces-front channels count (take (count * channels) (samples.items ++ coming)) (drop (count * channels) old) cut
+        ∙ pieces-take channels count (samples.items ++ coming) within
+        ∙ sym (pieces-first channels count (len + n) (samples.items ++ coming) (omega arith))
+        ∙ ap (take count) (pieces-joined channels len n samples.items coming r.filled))
+
+-- samples that fit, in frames of a line
+pub frames-samples : (w : Width) (channels n : ℕ) (xs : List ℤ) → length xs ≡ n * channels → All (FitsSigned w) xs → All (IsSamples w channels) (pieces channels n xs)
+frames-samples w channels n xs e all k d h = record { count = each-whole channels n xs e k d h; fits = All-pieces (FitsSigned w) channels n xs all k d h }
