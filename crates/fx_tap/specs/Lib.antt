@@ -4,6 +4,7 @@ pub mod Echo
 pub mod Echos
 pub mod EchosStored
 pub mod Fir
+pub mod Fractions
 pub mod Lanes
 pub mod Lists
 pub mod Mapped
