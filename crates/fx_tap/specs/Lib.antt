@@ -1,6 +1,7 @@
 pub mod DcShift
 pub mod Delay
 pub mod Echo
+pub mod EchoWeights
 pub mod Echos
 pub mod EchosStored
 pub mod Fir
