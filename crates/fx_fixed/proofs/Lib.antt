@@ -5,6 +5,8 @@ pub mod Delaying
 pub mod Keeping
 pub mod Parting
 pub mod Powers
+pub mod Reciprocals
+pub mod Reductions
 pub mod Scaling
 pub mod Shifting
 pub mod Signs

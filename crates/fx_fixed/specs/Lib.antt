@@ -8,6 +8,8 @@ pub mod Gains
 pub mod Kept
 pub mod Later
 pub mod Positions
+pub mod Reciprocal
+pub mod Reduced
 pub mod Rounding
 pub mod Shown
 pub mod TermEnd

@@ -4,6 +4,8 @@ ghost use Rattle.std.specs.Prelude.{◌≡◌, ◌*ℤ◌};
 ghost use Rattle.fx_fixed.specs.Rounding.{rounding};
 
 use crate::gains::{Gain, UNIT};
+pub use crate::reciprocal::Denominator;
+pub use crate::reduced::reduce;
 use crate::rounding::clip;
 
 /// A sample times a gain: the nearest sample, halves away from zero, and whether it was clipped. It

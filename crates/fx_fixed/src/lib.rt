@@ -11,6 +11,8 @@ mod gains;
 pub mod inner;
 mod number;
 mod positions;
+mod reciprocal;
+mod reduced;
 mod rounding;
 mod sums;
 mod terms;

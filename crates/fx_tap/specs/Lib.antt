@@ -1,9 +1,11 @@
 pub mod DcShift
 pub mod Delay
 pub mod Echo
+pub mod EchoWeights
 pub mod Echos
 pub mod EchosStored
 pub mod Fir
+pub mod Fractions
 pub mod Lanes
 pub mod Lists
 pub mod Mapped

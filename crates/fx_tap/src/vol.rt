@@ -3,32 +3,111 @@ ghost use Rattle.std.specs.Prelude.{◌≡◌, ◌≤◌, ℤ, Ok, IfOk, IfErr};
 ghost use Rattle.fx_frame.specs.Stage.{Freezes, IsNew};
 ghost use Rattle.fx_tap.specs.Mapped.{IsMapState, MapState};
 ghost use Rattle.fx_tap.specs.PerSample.{SampleArguments};
+ghost use Rattle.fx_tap.specs.Fractions.{fraction_sample};
 ghost use Rattle.fx_tap.specs.Vol.{scaled_sample, vol_acts};
 
 use crate::mapped::Mapped;
-use crate::per_sample::{PerSample, Sampling};
-use fx_fixed::Gain;
-use fx_fixed::inner::scale;
+use crate::per_sample::{PerSample, SamplesMany, Sampling, rounded_samples};
+use fx_fixed::inner::{Denominator, reduce, scale};
+use fx_fixed::{Gain, UNIT};
 use fx_frame::{ThawFault, WideFrame};
+use std::marker::Model;
 
-impl Sampling for Gain {
+/// A gain in lowest terms: a weight of at most `2^30` in magnitude, over a prepared denominator.
+#[derive(Drop)]
+pub struct Fraction {
+    weight: i32,
+    denominator: Denominator,
+}
+
+impl Model for Fraction {
+    ghost use Rattle.std.specs.Prelude.{◌≤◌, ◌^◌, unsigned_abs};
+    ghost use Rattle.fx_tap.specs.Fractions.{Ratio};
+
+    ghost Value = { Ratio };
+
+    ghost view = { λ f. record { weight = f.weight; denominator = f.denominator } };
+
+    ghost invariant = { λ f. unsigned_abs f.weight ≤ 2 ^ 30 };
+}
+
+impl Sampling for Fraction {
+    ghost rounded = { fraction_sample };
+
+    #[inline(always)]
+    fn round(&self, sample: i32) -> (i32, bool) {
+        self.denominator
+            .round(i64::from(self.weight) * i64::from(sample))
+    }
+}
+
+/// A gain, and the same in lowest terms, where these are small.
+#[derive(Drop)]
+pub struct Scale {
+    gain: Gain,
+    fraction: Option<Fraction>,
+}
+
+// It is the gain.
+impl Model for Scale {
+    ghost use Rattle.std.specs.Prelude.{ℤ, IfSome};
+    ghost use Rattle.fx_tap.specs.Fractions.{Rounds};
+
+    ghost Value = { ℤ };
+
+    ghost view = { λ s. s.gain };
+
+    ghost invariant = { λ s. IfSome s.fraction (Rounds s.gain) };
+}
+
+impl Scale {
+    /// The gain, prepared.
+    fn of(gain: Gain) -> Scale
+        ensures { result ≡ gain }
+    {
+        let mut weights = [0];
+        let reduced = reduce(&[gain.trillionths()], 1, u128::from(UNIT), &mut weights);
+        let fraction = match reduced {
+            Some(denominator) => Some(Fraction {
+                weight: weights[0],
+                denominator,
+            }),
+            None => None,
+        };
+        Scale { gain, fraction }
+    }
+}
+
+impl Sampling for Scale {
     ghost rounded = { scaled_sample };
 
     fn round(&self, sample: i32) -> (i32, bool) {
-        scale(*self, sample)
+        match &self.fraction {
+            Some(fraction) => fraction.round(sample),
+            None => scale(self.gain, sample),
+        }
+    }
+}
+
+impl SamplesMany for Scale {
+    fn round_many(&self, input: &[i32], output: &mut [i32]) -> u64 {
+        match &self.fraction {
+            Some(fraction) => rounded_samples(fraction, input, output),
+            None => rounded_samples(self, input, output),
+        }
     }
 }
 
 /// The stage of `vol`: each sample times the gain, rounded once. A sample that is clipped counts for one clip.
-pub type Vol = Mapped<PerSample<Gain>>;
+pub type Vol = Mapped<PerSample<Scale>>;
 
-impl Mapped<PerSample<Gain>> {
+impl Mapped<PerSample<Scale>> {
     /// The stage for frames of 1 to 16 channels. Takes no memory.
     pub fn new(channels: usize, gain: Gain) -> Vol
         requires { (1 ≤ channels) × (channels ≤ 16) }
         ensures { IsNew vol_acts (record { channels = channels; sampling = gain }) result }
     {
-        Mapped::each(channels, gain)
+        Mapped::each(channels, Scale::of(gain))
     }
 
     /// The stage that stored these frames and counted these numbers: whichever stage of these channels and this gain they
@@ -45,6 +124,6 @@ impl Mapped<PerSample<Gain>> {
         ensures thawed { (s : MapState (SampleArguments ℤ)) → IsMapState (λ m. m.channels) s → vol_acts.recipe s ≡ record { channels = channels; sampling = gain } → Freezes vol_acts s frames.now numbers.now → result ≡ Ok s }
         ensures refused { IfErr result (λ e. e ≡ ThawFault.BadSnapshot) }
     {
-        Mapped::each_thawed(channels, gain, frames, numbers)
+        Mapped::each_thawed(channels, Scale::of(gain), frames, numbers)
     }
 }

@@ -1,0 +1,54 @@
+-- A gain in lowest terms rounds as the gain.
+use Rattle.std.proofs.Common.{ℕ, ℤ, pos, ◌≡◌, ◌*◌, ◌*ℤ◌, ◌<◌, ◌^◌, ◌≤◌, ◌∙◌, [], ◌∷◌, ap, arith, refl, sym, zero, suc, to_z, of_z, unsigned_abs, List, get_or}
+use Rattle.std.specs.Prelude.{sum_by}
+use Rattle.std.specs.Int.{w32, w64}
+use Rattle.std.proofs.lemmas.List.Sums.{sum_by-cons}
+use Rattle.std.proofs.lemmas.Int.{fits_signed_from_abs, ints, to_z-of_z}
+use Rattle.fx_fixed.specs.Rounding.{rounding}
+use Rattle.fx_fixed.specs.Reduced.{IsReduced}
+use Rattle.fx_fixed.specs.declared.gains.TheConstants.{UNIT}
+use Rattle.fx_fixed.proofs.Reductions.{rounding-reduced}
+use Rattle.fx_tap.specs.Fractions.{fraction_sample, Ratio, Rounds}
+use Rattle.fx_tap.proofs.SignedProducts.{mul_assoc}
+use Rattle.fx_tap.proofs.SumLaws.{scaled-few}
+
+-- a factor of what is not 0 is not 0
+pub below-positive : (by q n : ℕ) → by * q ≡ n → 0 < n → 0 < q
+below-positive by zero n e positive = omega (arith, e, positive)
+below-positive by (suc q) n e positive = omega arith
+
+one-times : (z : ℤ) → pos 1 *ℤ z ≡ z
+one-times z = omega (arith, ints)
+
+-- the weight is that of the reduced gain
+pub reduced-rounds : (gain g : ℤ) (whole : ℕ) (weights : List ℤ) (f : Ratio) → g ≡ gain → whole ≡ UNIT → f.weight ≡ get_or weights 0 (pos 0) → IsReduced (pos 1) whole (g ∷ []) weights f.denominator → Rounds gain f
+reduced-rounds gain g whole weights f same unit is reduced sample =
+    let q = below-positive reduced.by f.denominator whole reduced.below (omega (arith, unit)) in
+    let first : pos reduced.by *ℤ f.weight ≡ gain = ap (λ z. pos reduced.by *ℤ z) is ∙ reduced.above 0 (omega arith) ∙ one-times g ∙ same in
+    let above : pos reduced.by *ℤ (f.weight *ℤ sample) ≡ gain *ℤ sample = mul_assoc (pos reduced.by) f.weight sample ∙ ap (λ z. z *ℤ sample) first in
+    let fraction = rounding-reduced reduced.by f.denominator (f.weight *ℤ sample) reduced.positive q in
+    sym fraction ∙ ap (λ z. rounding z (reduced.by * f.denominator)) above ∙ ap (λ n. rounding (gain *ℤ sample) n) (reduced.below ∙ unit)
+
+-- a weight is at most the sum of their magnitudes
+pub weight-few : (weights : List ℤ) (i : ℕ) → unsigned_abs (get_or weights i (pos 0)) ≤ sum_by unsigned_abs weights
+weight-few [] i = omega arith
+weight-few (w ∷ ws) zero = rw (sum_by-cons unsigned_abs w ws) (omega arith)
+weight-few (w ∷ ws) (suc i) =
+    let rest = weight-few ws i in
+    rw (sum_by-cons unsigned_abs w ws) (omega (arith, rest))
+
+-- it fits 32 bits
+pub held-32 : (weights : List ℤ) (i : ℕ) → sum_by unsigned_abs weights ≤ 2 ^ 30 → to_z w32 (of_z w32 (get_or weights i (pos 0))) ≡ get_or weights i (pos 0)
+held-32 weights i small =
+    let few = weight-few weights i in
+    to_z-of_z w32 (get_or weights i (pos 0)) (fits_signed_from_abs w32 (get_or weights i (pos 0)) (omega (arith, few, small)))
+
+-- a product fits 64 bits
+pub held-64 : (z : ℤ) → unsigned_abs z ≤ 2 ^ 62 → to_z w64 (of_z w64 z) ≡ z
+held-64 z h = to_z-of_z w64 z (fits_signed_from_abs w64 z (omega (arith, h)))
+
+pub plain-product-64 : (w x f y : ℤ) → f ≡ w → y ≡ x → unsigned_abs w ≤ 2 ^ 31 → unsigned_abs x ≤ 2 ^ 31
+    → to_z w64 (of_z w64 (to_z w64 (of_z w64 f) *ℤ to_z w64 (of_z w64 y))) ≡ w *ℤ x
+plain-product-64 w x f y e d small sample =
+    let product = scaled-few w x (2 ^ 31) (2 ^ 31) small sample in
+    rw (e, d, held-64 w (omega (arith, small)), held-64 x (omega (arith, sample)), held-64 (w *ℤ x) (omega (arith, product))) refl

@@ -1,0 +1,11 @@
+use Rattle.std.proofs.Common.{◌≡◌, ◌≤◌, ◌*◌, length, refl, arith, rules, to_z, of_z}
+use Rattle.std.specs.Int.{w64}
+use Rattle.std.proofs.lemmas.Int.{to_z-of_z}
+use Rattle.fx_tap.proofs.EchoWeights.{reduced-sounds}
+use Rattle.fx_tap.proofs.echo.small_of.Goals as goal
+
+pub returns : goal.returns
+returns c =
+    let gain : to_z w64 (of_z w64 c.trillionths.result) ≡ c.args.gain_out = search (rules, to_z-of_z) in
+    let count : length c.coefficients_of-coefficients.result ≡ 8 = search rules in
+    reduced-sounds c.args.gain_in c.args.gain_out _ c.args.echoes.now c.coefficients_of-coefficients.result (record { weights = c.reduce.new.weights; denominator = c.in_ok-denominator.denominator }) gain c.requires count c.coefficients_of-coefficients.ensures.gain_in c.coefficients_of-coefficients.ensures.decays c.in_ok-denominator.ensures.reduced
