@@ -435,4 +435,11 @@ impl Stage for Fade {
     }
 }
 
-impl Feeds for Fade {}
+impl Feeds for Fade {
+    fn ahead(&self) -> u64 {
+        let Some(At::Start(enough)) = self.shape.stop else {
+            return u64::MAX;
+        };
+        enough.saturating_sub(self.taken)
+    }
+}
