@@ -1,14 +1,15 @@
 -- Frames that go through stages in a row one after another.
-use Rattle.std.proofs.Common.{ℕ, zero, suc, ◌+◌, ◌-◌, ◌*◌, ◌<◌, ◌≤◌, ◌≡◌, Bool, true, false, List, [], ◌∷◌, ◌++◌, get_or, length, take, drop, set, refl, sym, ap, ◌∙◌, subst, arith, inl, inr, Option, Some, None, ◌||◌, ◌&&◌, option_to_list, add-one}
+use Rattle.std.proofs.Common.{ℕ, zero, suc, ◌+◌, ◌-◌, ◌*◌, ◌/◌, ◌<◌, ◌≤◌, ◌≡◌, Bool, true, false, List, [], ◌∷◌, ◌++◌, get_or, length, take, drop, set, refl, sym, ap, ◌∙◌, subst, arith, inl, inr, Option, Some, None, ◌||◌, ◌&&◌, option_to_list, max, add-one}
 use Rattle.std.specs.Prelude.{ℤ, if◌then◌else◌, ◌⊎◌}
-use Rattle.std.proofs.lemmas.List.{append_assoc, drop-drop, length-append, length-drop, length-take-le, take_all}
+use Rattle.std.proofs.lemmas.List.{append-nil, append_assoc, drop-drop, drop_all, length-append, length-drop, length-take-le, take_all}
+use Rattle.std.proofs.Math.Nat.{div-mul-le_self, mul-le-mul_right}
 use Rattle.fx_frame.specs.Feed.{GaveNext, IsHeld, TookNext}
 use Rattle.fx_frame.specs.Frame.{IsFrame, Samples}
 use Rattle.fx_frame.specs.Holds.{kinds, recipes}
 use Rattle.fx_frame.specs.Ring.{pieces}
 use Rattle.fx_frame.specs.Stage.{Acts, Counts, IsDry, Kind, after_taking, is_enough, kind, spent}
 use Rattle.fx_flow.specs.Feed.{outputs_of}
-use Rattle.fx_flow.specs.Parts.{AllSettled, Parts, any_spent, ended_of, moves_of}
+use Rattle.fx_flow.specs.Parts.{AllDry, AllSettled, Parts, any_spent, ended_of, moves_of}
 use Rattle.fx_flow.specs.Row.{AllHeld, AreReady, CameTo, WentThrough}
 use Rattle.fx_flow.specs.Runs.{AllAhead, AllKeep, MayRun, RanOn, flow_of}
 use Rattle.fx_flow.specs.Sound.{IsSound, most_frames}
@@ -49,6 +50,20 @@ Wrote channels b frame out out' written written' given given' =
 pub put-mid : (at size : ℕ) (out frame out' : List ℤ) → out' ≡ take at out ++ (frame ++ drop size (drop at out)) → out' ≡ take at out ++ frame ++ drop (at + size) out
 put-mid at size out frame out' e = e ∙ ap (λ l. take at out ++ (frame ++ l)) (drop-drop size at out) ∙ sym (append_assoc (take at out) frame (drop (at + size) out))
 
+-- where it reaches to the end
+pub put-rest : (at : ℕ) (out new out' : List ℤ) → out' ≡ take at out ++ (new ++ drop (length out - at) (drop at out)) → out' ≡ take at out ++ new
+put-rest at out new out' e =
+    let none : drop (length out - at) (drop at out) ≡ [] = drop_all (length out - at) (drop at out) (omega (arith, length-drop at out)) in
+    e ∙ ap (λ l. take at out ++ (new ++ l)) none ∙ ap (λ l. take at out ++ l) (append-nil new)
+
+-- so many frames, or one, lie in samples that hold that many, and one
+pub frames-fit : (count least channels long : ℕ) → count ≡ max least 1 → least ≤ long / channels → channels ≤ long → count * channels ≤ long
+frames-fit count zero channels long e h one = let same : count ≡ 1 = omega arith in rw same (omega arith)
+frames-fit count (suc least) channels long e h one =
+    let same : count ≡ suc least = omega arith in
+    let some : suc least * channels ≤ long / channels * channels = mul-le-mul_right channels h in
+    rw same (omega (arith, some, div-mul-le_self long channels))
+
 put-long : (at size : ℕ) (out frame out' : List ℤ) → length frame ≡ size → at + size ≤ length out → out' ≡ take at out ++ frame ++ drop (at + size) out → length out' ≡ length out
 put-long at size out frame out' e h w =
     rw w (omega (arith, e, length-append (take at out ++ frame) (drop (at + size) out), length-append (take at out) frame, length-take-le at out (omega arith), length-drop (at + size) out))
@@ -81,6 +96,23 @@ module _ {S R : Type 0} (acts : Acts S R) where
   enough-same s t m n e k h =
       let same : ◌≡◌ {A = R × ℕ} (acts.recipe s, m) (acts.recipe t, n) = rw (e, k) refl in
       subst (λ (p : R × ℕ). is_enough (acts.kind_of p.0).enough p.1 ≡ false) (sym same) h
+
+  -- where none is spent, each wants one frame
+  pub AllAhead-one : (stages : List S) → AllDry acts stages → any_spent acts stages ≡ false → AllAhead acts 1 stages
+  AllAhead-one [] dry unspent = tt
+  AllAhead-one (s ∷ stages) dry unspent =
+      let both = neither (spent acts s) (any_spent acts stages) unspent in
+      let here : is_enough (kind acts s).enough (acts.counts s).taken ≡ false = rw dry.0 at both.0 in
+      ((λ n h. let same : (acts.counts s).taken + n ≡ (acts.counts s).taken = omega (arith, h) in rw same here), AllAhead-one stages dry.1 both.1)
+    where
+      neither : (a b : Bool) → a || b ≡ false → (a ≡ false) × (b ≡ false)
+      neither false false e = (refl, refl)
+      neither true b e = absurd (cc e)
+      neither false true e = absurd (cc e)
+
+  pub AllAhead-some : (count : ℕ) (stages : List S) → AllDry acts stages → any_spent acts stages ≡ false → AllAhead acts count stages → AllAhead acts (max count 1) stages
+  AllAhead-some zero stages dry unspent all = AllAhead-one stages dry unspent
+  AllAhead-some (suc count) stages dry unspent all = let e : max (suc count) 1 ≡ suc count = omega arith in rw e all
 
   -- a stage that took a frame wants one fewer
   ahead-took : (count : ℕ) (s s' : S) (x : Samples) → TookNext acts s s' x → ((n : ℕ) → n < suc count → is_enough (kind acts s).enough ((acts.counts s).taken + n) ≡ false)
