@@ -289,6 +289,7 @@ impl Feeds for EffectStage {
         }
     }
 
+    #[inline(always)]
     fn pass_samples(&mut self, samples: &mut [i32]) -> Passing {
         match self {
             EffectStage::Trim(stage) => stage.pass_samples(samples),
