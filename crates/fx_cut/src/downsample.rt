@@ -234,4 +234,8 @@ impl Feeds for Downsample {
     fn feed(&mut self, input: &[i32], output: &mut [i32]) -> Passed {
         feed_by_pieces(self, input, output)
     }
+
+    fn ahead(&self) -> u64 {
+        u64::MAX
+    }
 }

@@ -482,4 +482,11 @@ impl Feeds for Fade {
     fn feed(&mut self, input: &[i32], output: &mut [i32]) -> Passed {
         feed_by_pieces(self, input, output)
     }
+
+    fn ahead(&self) -> u64 {
+        let Some(At::Start(enough)) = self.shape.stop else {
+            return u64::MAX;
+        };
+        enough.saturating_sub(self.taken)
+    }
 }

@@ -433,4 +433,8 @@ impl Feeds for Pad {
     fn feed(&mut self, input: &[i32], output: &mut [i32]) -> Passed {
         feed_by_pieces(self, input, output)
     }
+
+    fn ahead(&self) -> u64 {
+        u64::MAX
+    }
 }

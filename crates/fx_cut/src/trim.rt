@@ -472,4 +472,8 @@ impl Feeds for Trim {
     fn feed(&mut self, input: &[i32], output: &mut [i32]) -> Passed {
         feed_by_pieces(self, input, output)
     }
+
+    fn ahead(&self) -> u64 {
+        wanted(self.enough, self.taken)
+    }
 }

@@ -10,7 +10,7 @@ use Rattle.fx_flow.specs.Row.{AllHeld, WentThrough}
 use Rattle.fx_flow.specs.Sound.{IsSound, most_frames}
 use Rattle.fx_flow.specs.Steps.{IsHungry, given_out, step_of}
 use Rattle.fx_flow.proofs.Feeding.{FlowGave-none, FlowGave-stepped, FlowGave-took}
-use Rattle.fx_flow.proofs.Feedings.{flow_of}
+use Rattle.fx_flow.specs.Runs.{flow_of}
 use Rattle.fx_flow.proofs.Handing.{AllSettled-dry}
 use Rattle.fx_flow.proofs.Laws.{any_spent-enough}
 use Rattle.fx_flow.proofs.Rows.{AllHeld-sum, given-channels}

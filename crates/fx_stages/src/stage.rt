@@ -288,4 +288,39 @@ impl Feeds for EffectStage {
             EffectStage::DcShift(stage) => stage.pass(frame),
         }
     }
+
+    #[inline(always)]
+    fn pass_samples(&mut self, samples: &mut [i32]) -> Passing {
+        match self {
+            EffectStage::Trim(stage) => stage.pass_samples(samples),
+            EffectStage::Pad(stage) => stage.pass_samples(samples),
+            EffectStage::Fade(stage) => stage.pass_samples(samples),
+            EffectStage::Upsample(stage) => stage.pass_samples(samples),
+            EffectStage::Downsample(stage) => stage.pass_samples(samples),
+            EffectStage::Delay(stage) => stage.pass_samples(samples),
+            EffectStage::Echo(stage) => stage.pass_samples(samples),
+            EffectStage::Echos(stage) => stage.pass_samples(samples),
+            EffectStage::Fir(stage) => stage.pass_samples(samples),
+            EffectStage::Remix(stage) => stage.pass_samples(samples),
+            EffectStage::Vol(stage) => stage.pass_samples(samples),
+            EffectStage::DcShift(stage) => stage.pass_samples(samples),
+        }
+    }
+
+    fn ahead(&self) -> u64 {
+        match self {
+            EffectStage::Trim(stage) => stage.ahead(),
+            EffectStage::Pad(stage) => stage.ahead(),
+            EffectStage::Fade(stage) => stage.ahead(),
+            EffectStage::Upsample(stage) => stage.ahead(),
+            EffectStage::Downsample(stage) => stage.ahead(),
+            EffectStage::Delay(stage) => stage.ahead(),
+            EffectStage::Echo(stage) => stage.ahead(),
+            EffectStage::Echos(stage) => stage.ahead(),
+            EffectStage::Fir(stage) => stage.ahead(),
+            EffectStage::Remix(stage) => stage.ahead(),
+            EffectStage::Vol(stage) => stage.ahead(),
+            EffectStage::DcShift(stage) => stage.ahead(),
+        }
+    }
 }

@@ -6,7 +6,8 @@ use Rattle.std.proofs.Math.Nat.{add-mul}
 use Rattle.std.specs.List.{All}
 use Rattle.std.proofs.lemmas.List.Elements.{All-head, All-tail}
 use Rattle.std.proofs.lemmas.List.{map-append}
-use Rattle.fx_frame.specs.Feed.{Fed, GaveNext, TookNext, nothing, taken, given}
+use Rattle.fx_frame.specs.declared.feed.Passing.TheVariants.{Through}
+use Rattle.fx_frame.specs.Feed.{Fed, GaveNext, PassedOn, TookNext, nothing, taken, given}
 use Rattle.fx_frame.specs.Frame.{Samples, silence}
 use Rattle.fx_frame.specs.Line.{Frames, IsLine}
 use Rattle.fx_frame.specs.Ring.{pieces}
@@ -118,9 +119,9 @@ module _ {M : Type 0} (taps : Taps M) (near : IsNear taps) where
     abbrev pub holding : Frames ℤ → ℕ → ℕ → Samples → TapState M
     holding line count clips x = record { arguments = m; line = through line (x ∷ []); hand = Some (made_behind line x).samples; hand_clips = (made_behind line x).clips; tail = 0; taken = count + 1; given = count; clips = clips; ended = false }
 
-    one-fed : (line : Frames ℤ) (count clips : ℕ) (x : Samples) → line.capacity ≡ taps.reach m → length line.items ≤ line.capacity → length (made_behind line x).samples ≡ taps.channels m
-        → Fed acts (ready line count clips) (x ∷ []) ((made_behind line x).samples ∷ []) (ready (through line (x ∷ [])) (count + 1) (clips + (made_behind line x).clips))
-    one-fed line count clips x size within sides =
+    one-passed : (line : Frames ℤ) (count clips : ℕ) (x : Samples) → line.capacity ≡ taps.reach m → length line.items ≤ line.capacity → length (made_behind line x).samples ≡ taps.channels m
+        → PassedOn acts Through (ready line count clips) (ready (through line (x ∷ [])) (count + 1) (clips + (made_behind line x).clips)) x (made_behind line x).samples
+    one-passed line count clips x size within sides =
         let first : TapState M = ready line count clips in
         let mid : TapState M = holding line count clips x in
         let last : TapState M = ready (through line (x ∷ [])) (count + 1) (clips + (made_behind line x).clips) in
@@ -147,7 +148,34 @@ module _ {M : Type 0} (taps : Taps M) (near : IsNear taps) where
           };
           held = omega (arith, few, length-append (last_of line.capacity (line.items ++ x ∷ [])) []);
         } in
-        given (x ∷ []) [] (made_behind line x).samples mid last (taken [] [] x first mid nothing took) gave
+        (mid, took, gave, refl)
+
+    one-fed : (line : Frames ℤ) (count clips : ℕ) (x : Samples) → line.capacity ≡ taps.reach m → length line.items ≤ line.capacity → length (made_behind line x).samples ≡ taps.channels m
+        → Fed acts (ready line count clips) (x ∷ []) ((made_behind line x).samples ∷ []) (ready (through line (x ∷ [])) (count + 1) (clips + (made_behind line x).clips))
+    one-fed line count clips x size within sides =
+        let passed = one-passed line count clips x size within sides in
+        given (x ∷ []) [] (made_behind line x).samples passed.0 (ready (through line (x ∷ [])) (count + 1) (clips + (made_behind line x).clips)) (taken [] [] x (ready line count clips) passed.0 nothing passed.1) passed.2
+
+    -- one frame, passed on in its place
+    pub frame-passed : (s : TapState M) (line : Frames ℤ) (x y : Samples) (clips : ℕ) → s.arguments ≡ m → s.hand ≡ None → s.hand_clips ≡ 0 → s.tail ≡ 0 → s.ended ≡ false → s.given ≡ s.taken
+        → s.line.capacity ≡ taps.reach m → length s.line.items ≤ s.line.capacity → length y ≡ taps.channels m → y ≡ (made_behind s.line x).samples → clips ≡ (made_behind s.line x).clips
+        → line.items ≡ last_of s.line.capacity (s.line.items ++ x ∷ []) → line.capacity ≡ s.line.capacity → line.channels ≡ s.line.channels
+        → PassedOn acts Through s (record s { line = line; taken = s.taken + 1; given = s.given + 1; clips = s.clips + clips }) x y
+    frame-passed s line x y clips e h k t over g size within wide made counted items capacity channels =
+        let went : ◌≡◌ {A = Frames ℤ} (record { items = line.items; capacity = line.capacity; channels = line.channels }) (through s.line (x ∷ [])) = rw (items, capacity, channels) refl in
+        let now : line ≡ through s.line (x ∷ []) = went in
+        let next : TapState M = ready (through s.line (x ∷ [])) (s.taken + 1) (s.clips + (made_behind s.line x).clips) in
+        let whole : ◌≡◌ {A = TapState M} (record { arguments = s.arguments; line = s.line; hand = s.hand; hand_clips = s.hand_clips; tail = s.tail; taken = s.taken; given = s.given; clips = s.clips; ended = s.ended }) (ready s.line s.taken s.clips) = rw (e, h, k, t, over, g) refl in
+        let left : ◌≡◌ {A = TapState M} (record { arguments = s.arguments; line = line; hand = s.hand; hand_clips = s.hand_clips; tail = s.tail; taken = s.taken + 1; given = s.given + 1; clips = s.clips + clips; ended = s.ended }) (ready line (s.taken + 1) (s.clips + clips)) = rw (e, h, k, t, over, g) refl in
+        let last : ◌≡◌ {A = TapState M} (record { arguments = s.arguments; line = line; hand = s.hand; hand_clips = s.hand_clips; tail = s.tail; taken = s.taken + 1; given = s.given + 1; clips = s.clips + clips; ended = s.ended }) next =
+        left ∙ ap (λ (j : ℕ). ready line (s.taken + 1) (s.clips + j)) counted ∙ ap (λ (l : Frames ℤ). ready l (s.taken + 1) (s.clips + (made_behind s.line x).clips)) now in
+        let start : s ≡ ready s.line s.taken s.clips = whole in
+        let sides : length (made_behind s.line x).samples ≡ taps.channels m = sym (ap length made) ∙ wide in
+        let passed : PassedOn acts Through (ready s.line s.taken s.clips) next x (made_behind s.line x).samples = one-passed s.line s.taken s.clips x size within sides in
+        let new : record s { line = line; taken = s.taken + 1; given = s.given + 1; clips = s.clips + clips } ≡ next = last in
+        let From : TapState M → Type 0 = λ u. PassedOn acts Through u next x (made_behind s.line x).samples in
+        let To : TapState M → Type 0 = λ u. PassedOn acts Through s u x (made_behind s.line x).samples in
+        rw made (subst To (sym new) (subst From (sym start) passed))
 
     -- frame by frame
     pub taps-fed : (xs : List Samples) (line : Frames ℤ) (count clips : ℕ) → line.capacity ≡ taps.reach m → length line.items ≤ line.capacity → All (λ (y : Samples). length y ≡ taps.channels m) (frames_behind taps m line.items xs)

@@ -1,7 +1,7 @@
 use Rattle.std.proofs.Common.{◌≡◌, ◌+◌, ◌<◌, ◌∙◌, false, length, refl, ap, arith, Some, None}
 use Rattle.std.specs.Prelude.{if◌then◌else◌}
 use Rattle.fx_flow.specs.Sound.{IsSound, most_frames}
-use Rattle.fx_flow.proofs.Feedings.{flow_of}
+use Rattle.fx_flow.specs.Runs.{flow_of}
 use Rattle.fx_flow.proofs.Moving.{settled-dry}
 use Rattle.fx_flow.proofs.RowSteps.{WentThrough-sides, passed-row}
 use Rattle.fx_flow.proofs.Rows.{AreReady-from, if-out}

@@ -1,0 +1,272 @@
+-- Frames that go through stages in a row one after another.
+use Rattle.std.proofs.Common.{ℕ, zero, suc, ◌+◌, ◌-◌, ◌*◌, ◌/◌, ◌<◌, ◌≤◌, ◌≡◌, Bool, true, false, List, [], ◌∷◌, ◌++◌, get_or, length, take, drop, set, refl, sym, ap, ◌∙◌, subst, arith, inl, inr, Option, Some, None, ◌||◌, ◌&&◌, option_to_list, max, add-one}
+use Rattle.std.specs.Prelude.{ℤ, if◌then◌else◌, ◌⊎◌}
+use Rattle.std.proofs.lemmas.List.{append-nil, append_assoc, drop-drop, drop_all, length-append, length-drop, length-take-le, take_all}
+use Rattle.std.proofs.Math.Nat.{div-mul-le_self, mul-le-mul_right}
+use Rattle.fx_frame.specs.Feed.{GaveNext, IsHeld, TookNext}
+use Rattle.fx_frame.specs.Frame.{IsFrame, Samples}
+use Rattle.fx_frame.specs.Holds.{kinds, recipes}
+use Rattle.fx_frame.specs.Ring.{pieces}
+use Rattle.fx_frame.specs.Stage.{Acts, Counts, IsDry, Kind, after_taking, is_enough, kind, spent}
+use Rattle.fx_flow.specs.Feed.{outputs_of}
+use Rattle.fx_flow.specs.Parts.{AllDry, AllSettled, Parts, any_spent, ended_of, moves_of}
+use Rattle.fx_flow.specs.Row.{AllHeld, AreReady, CameTo, WentThrough}
+use Rattle.fx_flow.specs.Runs.{AllAhead, AllKeep, MayRun, RanOn, flow_of}
+use Rattle.fx_flow.specs.Sound.{IsSound, most_frames}
+use Rattle.fx_flow.proofs.Feeding.{Turned, Turned-kept, Turned-none, Turned-through}
+use Rattle.fx_frame.proofs.Pieces.{length-pieces}
+use Rattle.fx_flow.proofs.Handing.{AllSettled-dry}
+use Rattle.fx_flow.proofs.Rows.{AreReady-from}
+use Rattle.fx_flow.proofs.RowSteps.{passed-row}
+
+-- what comes out has as many channels as what goes in
+pub outputs-keep : (channels : ℕ) (ks : List Kind) → AllKeep channels ks → outputs_of channels ks ≡ channels
+outputs-keep channels [] h = refl
+outputs-keep channels (k ∷ ks) h = rw h.0 (outputs-keep channels ks h.1)
+
+-- one sample, or two, stored each as such
+pub set-one : (xs ys : List ℤ) (d : ℤ) → length xs ≡ 1 → length ys ≡ 1 → set ys 0 (get_or xs 0 d) ≡ xs
+set-one (x ∷ []) (y ∷ []) d e h = refl
+set-one [] ys d e h = absurd (omega arith)
+set-one (x ∷ []) [] d e h = absurd (omega arith)
+set-one (x ∷ []) (y ∷ z ∷ ys) d e h = absurd (omega arith)
+set-one (x ∷ w ∷ xs) ys d e h = absurd (omega arith)
+
+pub set-two : (xs ys : List ℤ) (d : ℤ) → length xs ≡ 2 → length ys ≡ 2 → set (set ys 0 (get_or xs 0 d)) 1 (get_or xs 1 d) ≡ xs
+set-two (x ∷ w ∷ []) (y ∷ z ∷ []) d e h = refl
+set-two [] ys d e h = absurd (omega arith)
+set-two (x ∷ []) ys d e h = absurd (omega arith)
+set-two (x ∷ w ∷ v ∷ xs) ys d e h = absurd (omega arith)
+set-two (x ∷ w ∷ []) [] d e h = absurd (omega arith)
+set-two (x ∷ w ∷ []) (y ∷ []) d e h = absurd (omega arith)
+set-two (x ∷ w ∷ []) (y ∷ z ∷ t ∷ ys) d e h = absurd (omega arith)
+
+-- a frame was written behind those that were, or none
+abbrev pub Wrote : ℕ → Bool → Samples → List ℤ → List ℤ → ℕ → ℕ → ℕ → ℕ → Type 0
+Wrote channels b frame out out' written written' given given' =
+    ((b ≡ true) × (out' ≡ take written out ++ frame ++ drop (written + channels) out) × (written' ≡ written + channels) × (given' ≡ given + 1))
+    ⊎ ((b ≡ false) × (out' ≡ out) × (written' ≡ written) × (given' ≡ given))
+
+pub put-mid : (at size : ℕ) (out frame out' : List ℤ) → out' ≡ take at out ++ (frame ++ drop size (drop at out)) → out' ≡ take at out ++ frame ++ drop (at + size) out
+put-mid at size out frame out' e = e ∙ ap (λ l. take at out ++ (frame ++ l)) (drop-drop size at out) ∙ sym (append_assoc (take at out) frame (drop (at + size) out))
+
+-- where it reaches to the end
+pub put-rest : (at : ℕ) (out new out' : List ℤ) → out' ≡ take at out ++ (new ++ drop (length out - at) (drop at out)) → out' ≡ take at out ++ new
+put-rest at out new out' e =
+    let none : drop (length out - at) (drop at out) ≡ [] = drop_all (length out - at) (drop at out) (omega (arith, length-drop at out)) in
+    e ∙ ap (λ l. take at out ++ (new ++ l)) none ∙ ap (λ l. take at out ++ l) (append-nil new)
+
+-- so many frames, or one, lie in samples that hold that many, and one
+pub frames-fit : (count least channels long : ℕ) → count ≡ max least 1 → least ≤ long / channels → channels ≤ long → count * channels ≤ long
+frames-fit count zero channels long e h one = let same : count ≡ 1 = omega arith in rw same (omega arith)
+frames-fit count (suc least) channels long e h one =
+    let same : count ≡ suc least = omega arith in
+    let some : suc least * channels ≤ long / channels * channels = mul-le-mul_right channels h in
+    rw same (omega (arith, some, div-mul-le_self long channels))
+
+put-long : (at size : ℕ) (out frame out' : List ℤ) → length frame ≡ size → at + size ≤ length out → out' ≡ take at out ++ frame ++ drop (at + size) out → length out' ≡ length out
+put-long at size out frame out' e h w =
+    rw w (omega (arith, e, length-append (take at out ++ frame) (drop (at + size) out), length-append (take at out) frame, length-take-le at out (omega arith), length-drop (at + size) out))
+
+module _ {S R : Type 0} (acts : Acts S R) where
+  pub AllAhead-less : (m n : ℕ) (stages : List S) → m ≤ n → AllAhead acts n stages → AllAhead acts m stages
+  AllAhead-less m n [] h all = tt
+  AllAhead-less m n (s ∷ stages) h all = ((λ k l. all.0 k (omega arith)), AllAhead-less m n stages h all.1)
+
+  -- the stage at a place, and those behind it
+  pub AllAhead-drop : (i count : ℕ) (stages : List S) (d : S) → i < length stages → ((n : ℕ) → n < count → is_enough (kind acts (get_or stages i d)).enough ((acts.counts (get_or stages i d)).taken + n) ≡ false) → AllAhead acts count (drop (suc i) stages)
+      → AllAhead acts count (drop i stages)
+  AllAhead-drop i count [] d h here more = absurd (omega arith)
+  AllAhead-drop zero count (s ∷ stages) d h here more = (here, more)
+  AllAhead-drop (suc i) count (s ∷ stages) d h here more = AllAhead-drop i count stages d (omega arith) here more
+
+  -- none is spent
+  pub AllAhead-unspent : (count : ℕ) (stages : List S) → 1 ≤ count → AllAhead acts count stages → any_spent acts stages ≡ false
+  AllAhead-unspent count [] h all = refl
+  AllAhead-unspent count (s ∷ stages) h all =
+      let zero-more : (acts.counts s).taken + 0 ≡ (acts.counts s).taken = omega arith in
+      let here : is_enough (kind acts s).enough (acts.counts s).taken ≡ false = rw zero-more at (all.0 0 (omega arith)) in
+      rw (here, AllAhead-unspent count stages h all.1) (dry-or (acts.dry s))
+    where
+      dry-or : (b : Bool) → (b && false) || false ≡ false
+      dry-or true = refl
+      dry-or false = refl
+
+  enough-same : (s t : S) (m n : ℕ) → acts.recipe s ≡ acts.recipe t → m ≡ n → is_enough (kind acts t).enough n ≡ false → is_enough (kind acts s).enough m ≡ false
+  enough-same s t m n e k h =
+      let same : ◌≡◌ {A = R × ℕ} (acts.recipe s, m) (acts.recipe t, n) = rw (e, k) refl in
+      subst (λ (p : R × ℕ). is_enough (acts.kind_of p.0).enough p.1 ≡ false) (sym same) h
+
+  -- where none is spent, each wants one frame
+  pub AllAhead-one : (stages : List S) → AllDry acts stages → any_spent acts stages ≡ false → AllAhead acts 1 stages
+  AllAhead-one [] dry unspent = tt
+  AllAhead-one (s ∷ stages) dry unspent =
+      let both = neither (spent acts s) (any_spent acts stages) unspent in
+      let here : is_enough (kind acts s).enough (acts.counts s).taken ≡ false = rw dry.0 at both.0 in
+      ((λ n h. let same : (acts.counts s).taken + n ≡ (acts.counts s).taken = omega (arith, h) in rw same here), AllAhead-one stages dry.1 both.1)
+    where
+      neither : (a b : Bool) → a || b ≡ false → (a ≡ false) × (b ≡ false)
+      neither false false e = (refl, refl)
+      neither true b e = absurd (cc e)
+      neither false true e = absurd (cc e)
+
+  pub AllAhead-some : (count : ℕ) (stages : List S) → AllDry acts stages → any_spent acts stages ≡ false → AllAhead acts count stages → AllAhead acts (max count 1) stages
+  AllAhead-some zero stages dry unspent all = AllAhead-one stages dry unspent
+  AllAhead-some (suc count) stages dry unspent all = let e : max (suc count) 1 ≡ suc count = omega arith in rw e all
+
+  -- a stage that took a frame wants one fewer
+  ahead-took : (count : ℕ) (s s' : S) (x : Samples) → TookNext acts s s' x → ((n : ℕ) → n < suc count → is_enough (kind acts s).enough ((acts.counts s).taken + n) ≡ false)
+      → (n : ℕ) → n < count → is_enough (kind acts s').enough ((acts.counts s').taken + n) ≡ false
+  ahead-took count s s' x took all n h =
+      let counted : (acts.counts s').taken ≡ (acts.counts s).taken + 1 = ap (λ (c : Counts). c.taken) took.took.counted in
+      let same : (acts.counts s').taken + n ≡ (acts.counts s).taken + suc n = omega (arith, counted) in
+      enough-same s' s ((acts.counts s').taken + n) ((acts.counts s).taken + suc n) took.took.recipe_stays same (all (suc n) (omega arith))
+
+  ahead-gave : (count : ℕ) (mid s' : S) (g : Samples) → GaveNext acts mid s' g → ((n : ℕ) → n < count → is_enough (kind acts mid).enough ((acts.counts mid).taken + n) ≡ false)
+      → (n : ℕ) → n < count → is_enough (kind acts s').enough ((acts.counts s').taken + n) ≡ false
+  ahead-gave count mid s' g gave all n h =
+      let counted : (acts.counts s').taken ≡ (acts.counts mid).taken = ap (λ (c : Counts). c.taken) gave.gave.gives.counted in
+      enough-same s' mid ((acts.counts s').taken + n) ((acts.counts mid).taken + n) gave.gave.recipe_stays (ap (λ m. m + n) counted) (all n h)
+
+  pub AllAhead-went : (count : ℕ) (x : Samples) (out : Option Samples) (old new : List S) → WentThrough acts x out old new → AllAhead acts (suc count) old → AllAhead acts count new
+  AllAhead-went count x out [] [] went all = tt
+  AllAhead-went count x out (s ∷ stages) (s' ∷ stages') (inl kept) all =
+      rw kept.2 (ahead-took count s s' x kept.0 all.0, AllAhead-less count (suc count) stages (omega arith) all.1)
+  AllAhead-went count x out (s ∷ stages) (s' ∷ stages') (inr went) all =
+      (ahead-gave count went.0 s' went.1 went.3 (ahead-took count s went.0 x went.2 all.0), AllAhead-went count went.1 out stages stages' went.4 all.1)
+  AllAhead-went count x out [] (s' ∷ stages') went all = absurd went
+  AllAhead-went count x out (s ∷ stages) [] went all = absurd went
+
+  pub AllHeld-went : (x : Samples) (out : Option Samples) (old new : List S) → WentThrough acts x out old new → AllHeld acts old → AllHeld acts new
+  AllHeld-went x out [] [] went all = tt
+  AllHeld-went x out (s ∷ stages) (s' ∷ stages') (inl kept) all = rw kept.2 (kept.0.held, all.1)
+  AllHeld-went x out (s ∷ stages) (s' ∷ stages') (inr went) all = (went.3.held, AllHeld-went went.1 out stages stages' went.4 all.1)
+  AllHeld-went x out [] (s' ∷ stages') went all = absurd went
+  AllHeld-went x out (s ∷ stages) [] went all = absurd went
+
+  -- the stage that a frame came to gives as many channels
+  pub AllKeep-at : (i channels : ℕ) (first frame : Samples) (old new : List S) (d : S) → CameTo acts i first frame old new → AllKeep channels (kinds acts old) → i < length new → (kind acts (get_or new i d)).outputs ≡ channels
+  AllKeep-at zero channels first frame [] new d came keep h = absurd (let none = ap length came.1 in omega arith)
+  AllKeep-at zero channels first frame (s ∷ stages) new d came keep h = rw came.1 keep.0
+  AllKeep-at (suc i) channels first frame (s ∷ stages) (s' ∷ stages') d came keep h = AllKeep-at i channels came.1 frame stages stages' d came.4 keep.1 (omega arith)
+  AllKeep-at (suc i) channels first frame [] new d came keep h = absurd came
+  AllKeep-at (suc i) channels first frame (s ∷ stages) [] d came keep h = absurd came
+
+  -- stages before a place that have given what is due, and one more
+  pub settled-next : (i : ℕ) (new : List S) (s' : S) → i < length new → AllSettled acts (take i new) → acts.dry s' ≡ true → IsDry acts s' → AllSettled acts (take (suc i) (set new i s'))
+  settled-next i [] s' h all dry is = absurd (omega arith)
+  settled-next zero (t ∷ stages) s' h all dry is = (dry, is, tt)
+  settled-next (suc i) (t ∷ stages) s' h all dry is = (all.0, all.1, settled-next i stages s' (omega arith) all.2 dry is)
+
+  -- the frame stayed in a stage; those behind it stayed as they were
+  pub settled-kept : (i : ℕ) (first frame : Samples) (old new : List S) (s' : S) → i < length new → CameTo acts i first frame old new → AllSettled acts old → AllSettled acts (take i new) → acts.dry s' ≡ true → IsDry acts s' → AllSettled acts (set new i s')
+  settled-kept zero first frame old [] s' h came before all dry is = absurd (omega arith)
+  settled-kept zero first frame [] (t ∷ stages') s' h came before all dry is = absurd (let many = ap length came.1 in omega arith)
+  settled-kept zero first frame (s ∷ stages) (t ∷ stages') s' h came before all dry is =
+      let tail : stages' ≡ stages = cc (came.1) in
+      rw tail (dry, is, before.2)
+  settled-kept (suc i) first frame (s ∷ stages) (t ∷ stages') s' h came before all dry is =
+      (all.0, all.1, settled-kept i came.1 frame stages stages' s' (omega arith) came.4 before.2 all.2 dry is)
+  settled-kept (suc i) first frame [] new s' h came before all dry is = absurd came
+  settled-kept (suc i) first frame (s ∷ stages) [] s' h came before all dry is = absurd came
+
+  pub settled-all : (i : ℕ) (new : List S) → length new ≤ i → AllSettled acts (take i new) → AllSettled acts new
+  settled-all i new h all = rw (take_all i new h) at all
+
+  module _ (rises : (r : R) (m n : ℕ) → m ≤ n → (acts.kind_of r).most m ≤ (acts.kind_of r).most n) (channels count left : ℕ) (first : List S) (input start : List ℤ) where
+    -- how far the frames have gone through the stages
+    pub record Running (stages : List S) (out : List ℤ) (read written taken given : ℕ) : Type 0 where
+      pub turned : Turned acts (flow_of acts channels first left) input start (flow_of acts channels stages (left + taken)) out read written taken given
+      pub sound : IsSound acts (flow_of acts channels stages (left + taken))
+      pub moves : moves_of acts (flow_of acts channels first left) + ended_of acts first ≤ moves_of acts (flow_of acts channels stages (left + taken)) + ended_of acts stages
+      pub held : AllHeld acts stages
+      pub ahead : (m : ℕ) → taken + m ≡ count → AllAhead acts m stages
+      pub keep : AllKeep channels (kinds acts stages)
+      pub fewer : given ≤ taken
+
+    pub Running-none : MayRun acts channels count first left → AllHeld acts first → AllAhead acts count first → AllKeep channels (kinds acts first) → Running first start 0 0 0 0
+    Running-none may held ahead keep =
+        let e : left + 0 ≡ left = omega arith in
+        record {
+          turned = rw e (Turned-none acts (flow_of acts channels first left) input start);
+          sound = rw e may.sound;
+          moves = rw e (omega arith);
+          held = held;
+          ahead = λ m is. let same : m ≡ count = omega arith in rw same ahead;
+          keep = keep;
+          fewer = omega arith;
+        }
+
+    -- none is spent, and all may be passed a frame
+    Running-unspent : (stages : List S) (out : List ℤ) (read written taken given : ℕ) → Running stages out read written taken given → taken < count → any_spent acts stages ≡ false
+    Running-unspent stages out read written taken given run more = AllAhead-unspent 1 stages (omega arith) (AllAhead-less 1 (count - taken) stages (omega arith) (run.ahead (count - taken) (omega arith)))
+
+    pub Running-ready : (stages : List S) (out : List ℤ) (read written taken given : ℕ) → Running stages out read written taken given → taken < count → AllSettled acts stages → AreReady acts channels (left + taken) most_frames stages
+    Running-ready stages out read written taken given run more settled =
+        let sound = run.sound in
+        AreReady-from acts channels (left + taken) most_frames false stages refl (AllSettled-dry acts stages settled) (Running-unspent stages out read written taken given run more) sound.planned.matching sound.planned.within sound.joined
+
+    -- what the run did so far
+    pub Running-ran : (stages : List S) (out : List ℤ) (read written taken given : ℕ) → Running stages out read written taken given → taken * channels ≤ length input → AllKeep channels (kinds acts first)
+        → RanOn acts channels (pieces channels taken input) (pieces channels given out) first stages left
+    Running-ran stages out read written taken given run room keep =
+        let outs : outputs_of channels (kinds acts first) ≡ channels = outputs-keep channels (kinds acts first) keep in
+        let many : length (pieces channels taken input) ≡ taken = length-pieces channels taken input in
+        record { fed = rw many (rw outs at run.turned.fed); gave = rw many (rw outs at run.turned.gave); sound = rw many run.sound; moves = rw many run.moves }
+
+    module _ (stages stages' : List S) (out : List ℤ) (read written taken given : ℕ) (x : Samples) (run : Running stages out read written taken given) (few : left + count ≤ most_frames) (more : taken < count) (settled : AllSettled acts stages) (shape : IsFrame x) (width : length x ≡ channels) (is : x ≡ take channels (drop read input)) (some : 1 ≤ channels) (room : read + channels ≤ length input) where
+      -- of what a frame that goes through the stages keeps
+      keeps : (o : Option Samples) → WentThrough acts x o stages stages' → recipes acts stages' ≡ recipes acts stages → (m : ℕ) → taken + 1 + m ≡ count → AllAhead acts m stages'
+      keeps o went same m e = AllAhead-went m x o stages stages' went (run.ahead (suc m) (omega (arith, e)))
+
+      unspent : any_spent acts stages ≡ false
+      unspent = Running-unspent stages out read written taken given run more
+
+      -- the frame stayed in a stage
+      pub Running-kept : WentThrough acts x None stages stages' → Running stages' out (read + channels) written (taken + 1) given
+      Running-kept went =
+          let going = passed-row acts rises channels (left + taken) x shape width (omega arith) None stages stages' run.sound settled unspent run.held went in
+          let e : left + (taken + 1) ≡ left + taken + 1 = omega arith in
+          record {
+            turned = rw e (Turned-kept acts (flow_of acts channels first left) input start (flow_of acts channels stages (left + taken)) (flow_of acts channels stages' (left + taken + 1)) x out read written taken given run.turned refl going.fed going.gave some room is);
+            sound = rw e going.sound;
+            moves = rw e (omega (arith, run.moves, going.moves));
+            held = AllHeld-went x None stages stages' went run.held;
+            ahead = λ m n. keeps None went going.gave.recipes_stay m n;
+            keep = rw going.gave.recipes_stay run.keep;
+            fewer = let h = run.fewer in omega arith;
+          }
+
+      -- a frame came out
+      pub Running-through : (frame : Samples) (out' : List ℤ) → WentThrough acts x (Some frame) stages stages' → length frame ≡ channels → written + channels ≤ length out → out' ≡ take written out ++ frame ++ drop (written + channels) out → length out' ≡ length out → AllKeep channels (kinds acts first)
+          → Running stages' out' (read + channels) (written + channels) (taken + 1) (given + 1)
+      Running-through frame out' went sides free put same keep =
+          let going = passed-row acts rises channels (left + taken) x shape width (omega arith) (Some frame) stages stages' run.sound settled unspent run.held went in
+          let e : left + (taken + 1) ≡ left + taken + 1 = omega arith in
+          let outs : outputs_of channels (kinds acts first) ≡ channels = outputs-keep channels (kinds acts first) keep in
+          let put' : out' ≡ take written out ++ frame ++ drop (written + length frame) out = put ∙ ap (λ n. take written out ++ frame ++ drop (written + n) out) (sym sides) in
+          let through = Turned-through acts (flow_of acts channels first left) input start (flow_of acts channels stages (left + taken)) (flow_of acts channels stages' (left + taken + 1)) x frame out out' read written taken given run.turned refl going.fed going.gave some room is
+            (sides ∙ sym outs) (omega (arith, sides)) (omega (arith, outs)) put' same in
+          record {
+            turned = rw e (rw sides at through);
+            sound = rw e going.sound;
+            moves = rw e (omega (arith, run.moves, going.moves));
+            held = AllHeld-went x (Some frame) stages stages' went run.held;
+            ahead = λ m n. keeps (Some frame) went going.gave.recipes_stay m n;
+            keep = rw going.gave.recipes_stay run.keep;
+            fewer = let h = run.fewer in omega arith;
+          }
+
+      -- the one or the other
+      pub Running-turn : (b : Bool) (frame : Samples) (out' : List ℤ) (written' given' : ℕ) → WentThrough acts x (if b then Some frame else None) stages stages' → length frame ≡ channels → written + channels ≤ length out → AllKeep channels (kinds acts first)
+          → Wrote channels b frame out out' written written' given given' → Running stages' out' (read + channels) written' (taken + 1) given'
+      Running-turn b frame out' written' given' went sides free keep (inl wrote) =
+          let went' = rw wrote.0 at went in
+          rw (wrote.2, wrote.3) (Running-through frame out' went' sides free wrote.1 (put-long written channels out frame out' sides free wrote.1) keep)
+      Running-turn b frame out' written' given' went sides free keep (inr wrote) =
+          let went' = rw wrote.0 at went in
+          rw (wrote.1, wrote.2, wrote.3) (Running-kept went')
+
+    -- what was written, and what was not
+    pub Running-behind : (stages : List S) (out : List ℤ) (read written taken given : ℕ) → Running stages out read written taken given → AllKeep channels (kinds acts first) → written ≡ given * channels
+    Running-behind stages out read written taken given run keep = rw (outputs-keep channels (kinds acts first) keep) at run.turned.written_is
