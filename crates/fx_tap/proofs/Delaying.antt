@@ -95,7 +95,7 @@ index-take ys from (suc count) d h =
     let rest : tabulate (λ k. get_or ys k d) (suc from) count ≡ take count (drop (suc from) ys) = index-take ys (suc from) count d (omega arith) in
     rw more (ap (λ l. get_or ys from d ∷ l) (rest ∙ ap (λ n. take count (drop n ys)) next))
 
-map-tabulate : {X Y : Type 0} (f : X → Y) (g : ℕ → X) (from count : ℕ) → map f (tabulate g from count) ≡ tabulate (λ n. f (g n)) from count
+pub map-tabulate : {X Y : Type 0} (f : X → Y) (g : ℕ → X) (from count : ℕ) → map f (tabulate g from count) ≡ tabulate (λ n. f (g n)) from count
 map-tabulate f g from zero = refl
 map-tabulate f g from (suc count) = ap (λ l. f (g from) ∷ l) (map-tabulate f g (suc from) count)
 

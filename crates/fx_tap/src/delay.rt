@@ -1,10 +1,11 @@
 //! The effect `delay` of sox(1): each channel comes later by its own number of frames.
-ghost use Rattle.std.specs.Prelude.{◌≡◌, ◌<◌, ◌≤◌, ◌-◌, ◌*◌, ◌^◌, ◌++◌, ◌∷◌, [], ℕ, List, true, length, drop, take, replicate, slice_index, slice_index_or, pos, Err, IfOk, MatchResult};
+ghost use Rattle.std.specs.Prelude.{◌≡◌, ◌<◌, ◌≤◌, ◌==◌, ◌⊎◌, if◌then◌else◌, ◌-◌, ◌*◌, ◌^◌, ◌++◌, ◌∷◌, [], ℕ, List, true, length, drop, take, replicate, slice_index, slice_index_or, pos, Err, IfOk, MatchResult};
 ghost use Rattle.fx_frame.specs.Frame.{IsFrame, silence};
 ghost use Rattle.fx_frame.specs.Line.{pushed_all};
 ghost use Rattle.fx_frame.specs.Ring.{pieces};
 ghost use Rattle.fx_frame.specs.Stage.{Freezes, IsNew};
-ghost use Rattle.fx_tap.specs.Delay.{delay_acts, delay_taps, delayed_frame, every_delay};
+ghost use Rattle.fx_tap.specs.Delay.{delay_acts, delay_taps, delayed_frame, every_delay, merged};
+ghost use Rattle.fx_tap.specs.Lists.{tabulate};
 ghost use Rattle.fx_tap.specs.Tapped.{IsTapState, TapState, longest, sample_before};
 ghost use Rattle.fx_tap.specs.Near.{delays-near};
 ghost use Rattle.std.proofs.Common.{zero-le};
@@ -174,6 +175,63 @@ fn all_are(delays: &[u64], reach: u64) -> bool
     true
 }
 
+/// Is each of the delays so long, or none?
+fn are_none_or(delays: &[u64], reach: u64) -> bool
+    ensures { result ≡ true → (k : ℕ) → k < length delays.now → (slice_index delays.now k ≡ 0) ⊎ (slice_index delays.now k ≡ reach) }
+{
+    'delays: for delay in delays {
+        if *delay != 0 && *delay != reach {
+            return false;
+        }
+    }
+    true
+}
+
+/// The sample of a channel that comes now, where it is not delayed, and else the late one.
+#[inline(always)]
+fn chosen(delay: u64, now: &[i32], late: &[i32], channel: usize) -> i32
+    requires now { channel < length now.now }
+    requires late { channel < length late.now }
+    ensures { result ≡ (if delay == 0 then slice_index_or now.now channel (pos 0) else slice_index_or late.now channel (pos 0)) }
+{
+    if delay == 0 {
+        now[channel]
+    } else {
+        late[channel]
+    }
+}
+
+/// Puts the samples that come in the place of the late ones, in the channels that are not delayed.
+#[inline(always)]
+fn merge_frame(delays: &[u64], now: &[i32], late: &mut [i32])
+    requires now { length now.now ≡ length delays.now }
+    requires late { length late.old ≡ length delays.now }
+    ensures { late.new ≡ merged delays.now now.now late.old }
+{
+    'channels: for channel in 0..delays.len() {
+        late[channel] = chosen(delays[channel], now, late, channel);
+    }
+}
+
+/// The same for so many frames in front of the output, which are late, and those that come.
+fn merge_frames(delays: &[u64], frames: &[i32], output: &mut [i32], count: usize)
+    requires frames { count * length delays.now ≤ length frames.now }
+    requires room { count * length delays.now ≤ length output.old }
+    ensures frames { pieces (length delays.now) count output.new ≡ tabulate (λ i. merged delays.now (slice_index_or (pieces (length delays.now) count frames.now) i []) (slice_index_or (pieces (length delays.now) count output.old) i [])) 0 count }
+    ensures behind { drop (count * length delays.now) output.new ≡ drop (count * length delays.now) output.old }
+{
+    let channels = delays.len();
+    let mut at = 0;
+    'frames: for _turn in 0..count {
+        merge_frame(
+            delays,
+            &frames[at..at + channels],
+            &mut output[at..at + channels],
+        );
+        at += channels;
+    }
+}
+
 /// Writes silence over so many frames in front of the output.
 fn write_silence(output: &mut [i32], channels: usize, count: usize)
     requires { count * channels ≤ length output.old }
@@ -202,11 +260,18 @@ fn delay_evenly(line: &mut Line, channels: usize, frames: &[i32], count: usize, 
 
 impl TapsMany for Delays {
     fn tap_many(&self, line: &mut Line, input: &[i32], output: &mut [i32], count: usize) -> u64 {
-        if !all_are(&self.delays, line.capacity() as u64) {
-            return tap_by_frames(self, line, input, output, count);
-        }
+        let reach = line.capacity() as u64;
         let channels = self.channels();
-        delay_evenly(line, channels, &input[..count * channels], count, output);
-        0
+        if all_are(&self.delays, reach) {
+            delay_evenly(line, channels, &input[..count * channels], count, output);
+            return 0;
+        }
+        if are_none_or(&self.delays, reach) {
+            let frames = &input[..count * channels];
+            delay_evenly(line, channels, frames, count, output);
+            merge_frames(&self.delays, frames, output, count);
+            return 0;
+        }
+        tap_by_frames(self, line, input, output, count)
     }
 }
