@@ -23,3 +23,4 @@ pub mod TrimThaw
 pub mod FadeThaw
 pub mod PadThaw
 pub mod FadeSteps
+pub mod TrimPassing
