@@ -25,3 +25,4 @@ pub mod PadThaw
 pub mod FadeSteps
 pub mod Onto
 pub mod FadeMany
+pub mod TrimPassing

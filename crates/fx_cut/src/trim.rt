@@ -10,8 +10,9 @@ ghost use Rattle.fx_cut.specs.Trim.{IsTrim, IsTrimCount, TrimArguments, TrimStat
 
 use crate::many::{PassesMany, feed_by_pieces};
 use fx_fixed::At;
+use fx_frame::feed::{frame_at, put_frame};
 use fx_frame::frozen::thawed_line_and_hand;
-use fx_frame::{Feeds, Frame, Line, Passed, Stage, ThawFault, WideFrame};
+use fx_frame::{Feeds, Frame, Line, Passed, Passing, Stage, ThawFault, WideFrame};
 use std::alloc::{AllocError, Global};
 use std::marker::Model;
 
@@ -471,6 +472,25 @@ impl PassesMany for Trim {
 impl Feeds for Trim {
     fn feed(&mut self, input: &[i32], output: &mut [i32]) -> Passed {
         feed_by_pieces(self, input, output)
+    }
+
+    fn pass_samples(&mut self, samples: &mut [i32]) -> Passing {
+        let place = self.taken - self.line.len() as u64;
+        let channels = samples.len();
+        let came = frame_at(samples, 0, channels);
+        self.taken += 1;
+        let fallen = self.line.push(came);
+        let _held = self.line.len();
+        let Some(oldest) = fallen else {
+            return Passing::Kept;
+        };
+        if !is_kept_by_starts(&self.positions, place) {
+            return Passing::Kept;
+        }
+        let _channels = oldest.channels();
+        self.given += 1;
+        put_frame(samples, 0, &oldest);
+        Passing::Through
     }
 
     fn ahead(&self) -> u64 {

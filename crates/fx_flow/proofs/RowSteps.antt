@@ -1,14 +1,14 @@
 -- A frame that went through stages in a row, as steps of their flow.
-use Rattle.std.proofs.Common.{ℕ, zero, suc, ◌+◌, ◌<◌, ◌≤◌, ◌≡◌, true, false, List, [], ◌∷◌, ◌++◌, length, refl, sym, ap, ◌∙◌, arith, inl, inr, Option, Some, None, option_to_list, append-nil, append_assoc}
-use Rattle.fx_frame.specs.Feed.{GaveNext, IsHeld, TookNext}
+use Rattle.std.proofs.Common.{ℕ, suc, ◌+◌, ◌<◌, ◌≤◌, ◌≡◌, false, List, [], ◌∷◌, ◌++◌, length, refl, sym, ap, ◌∙◌, arith, inl, inr, Option, Some, None, option_to_list, append-nil, append_assoc}
+use Rattle.fx_frame.specs.Feed.{GaveNext, IsHeld}
 use Rattle.fx_frame.specs.Frame.{IsFrame, Samples}
 use Rattle.fx_frame.specs.Holds.{kinds}
 use Rattle.fx_frame.specs.Stage.{Acts}
-use Rattle.fx_flow.specs.Feed.{FlowFed, FlowGave, HoldsFew, Stepped, TookIn, outputs_of, stepped, taken_in, untouched}
+use Rattle.fx_flow.specs.Feed.{FlowFed, FlowGave, HoldsFew, Stepped, outputs_of, stepped, taken_in, untouched}
 use Rattle.fx_flow.specs.Parts.{AllSettled, Fed, HandedOver, IsLastWet, Parts, any_spent, ended_of, enough_for, moves_of, taken_of}
 use Rattle.fx_flow.specs.Row.{AllHeld, WentThrough}
 use Rattle.fx_flow.specs.Sound.{IsSound, most_frames}
-use Rattle.fx_flow.specs.Steps.{IsHungry, given_out, step_of}
+use Rattle.fx_flow.specs.Steps.{IsHungry, step_of}
 use Rattle.fx_flow.proofs.Feeding.{FlowGave-none, FlowGave-stepped, FlowGave-took}
 use Rattle.fx_flow.specs.Runs.{flow_of}
 use Rattle.fx_flow.proofs.Handing.{AllSettled-dry}

@@ -1,13 +1,13 @@
 -- A frame that goes through stages in a row, one after another.
-use Rattle.std.proofs.Common.{ℕ, zero, suc, ◌+◌, ◌<◌, ◌≤◌, true, false, List, [], ◌∷◌, ◌++◌, ◌≡◌, length, drop, get_or, refl, sym, ap, ◌∙◌, subst, arith, inl, inr, Bool, ◌||◌, ◌&&◌, Option, Some, None, option_to_list}
+use Rattle.std.proofs.Common.{ℕ, zero, suc, ◌+◌, ◌<◌, ◌≤◌, true, false, List, [], ◌∷◌, ◌≡◌, length, drop, get_or, refl, sym, ap, ◌∙◌, subst, arith, inl, inr, Bool, ◌||◌, ◌&&◌, Some, None, option_to_list}
 use Rattle.std.specs.Prelude.{if◌then◌else◌}
 use Rattle.std.proofs.Math.ListN.{set}
 use Rattle.fx_frame.specs.declared.feed.Passing.{Passing}
 use Rattle.fx_frame.specs.declared.feed.Passing.TheVariants.{Kept, Through, More}
 use Rattle.fx_frame.specs.Feed.{GaveNext, IsHeld, PassedOn, TookNext}
 use Rattle.fx_frame.specs.Frame.{Samples}
-use Rattle.fx_frame.specs.Holds.{held_sum, hold_sum, kinds, recipes}
-use Rattle.fx_frame.specs.Stage.{Acts, Counts, after_taking, kind, spent}
+use Rattle.fx_frame.specs.Holds.{held_sum, hold_sum, kinds}
+use Rattle.fx_frame.specs.Stage.{Acts, Counts, kind, spent}
 use Rattle.fx_flow.specs.Parts.{AllDry, Joined, Matching, Within, any_spent}
 use Rattle.fx_flow.specs.Row.{AllHeld, AreReady, CameTo, WentThrough}
 

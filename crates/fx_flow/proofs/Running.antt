@@ -1,15 +1,15 @@
 -- Frames that go through stages in a row one after another.
-use Rattle.std.proofs.Common.{ℕ, zero, suc, ◌+◌, ◌-◌, ◌*◌, ◌/◌, ◌<◌, ◌≤◌, ◌≡◌, Bool, true, false, List, [], ◌∷◌, ◌++◌, get_or, length, take, drop, set, refl, sym, ap, ◌∙◌, subst, arith, inl, inr, Option, Some, None, ◌||◌, ◌&&◌, option_to_list, max, add-one}
+use Rattle.std.proofs.Common.{ℕ, zero, suc, ◌+◌, ◌-◌, ◌*◌, ◌/◌, ◌<◌, ◌≤◌, ◌≡◌, Bool, true, false, List, [], ◌∷◌, ◌++◌, get_or, length, take, drop, set, refl, sym, ap, ◌∙◌, subst, arith, inl, inr, Option, Some, None, ◌||◌, ◌&&◌, max}
 use Rattle.std.specs.Prelude.{ℤ, if◌then◌else◌, ◌⊎◌}
 use Rattle.std.proofs.lemmas.List.{append-nil, append_assoc, drop-drop, drop_all, length-append, length-drop, length-take-le, take_all}
 use Rattle.std.proofs.Math.Nat.{div-mul-le_self, mul-le-mul_right}
-use Rattle.fx_frame.specs.Feed.{GaveNext, IsHeld, TookNext}
+use Rattle.fx_frame.specs.Feed.{GaveNext, TookNext}
 use Rattle.fx_frame.specs.Frame.{IsFrame, Samples}
 use Rattle.fx_frame.specs.Holds.{kinds, recipes}
 use Rattle.fx_frame.specs.Ring.{pieces}
-use Rattle.fx_frame.specs.Stage.{Acts, Counts, IsDry, Kind, after_taking, is_enough, kind, spent}
+use Rattle.fx_frame.specs.Stage.{Acts, Counts, IsDry, Kind, is_enough, kind, spent}
 use Rattle.fx_flow.specs.Feed.{outputs_of}
-use Rattle.fx_flow.specs.Parts.{AllDry, AllSettled, Parts, any_spent, ended_of, moves_of}
+use Rattle.fx_flow.specs.Parts.{AllDry, AllSettled, any_spent, ended_of, moves_of}
 use Rattle.fx_flow.specs.Row.{AllHeld, AreReady, CameTo, WentThrough}
 use Rattle.fx_flow.specs.Runs.{AllAhead, AllKeep, MayRun, RanOn, flow_of}
 use Rattle.fx_flow.specs.Sound.{IsSound, most_frames}
@@ -246,7 +246,7 @@ module _ {S R : Type 0} (acts : Acts S R) where
           let outs : outputs_of channels (kinds acts first) ≡ channels = outputs-keep channels (kinds acts first) keep in
           let put' : out' ≡ take written out ++ frame ++ drop (written + length frame) out = put ∙ ap (λ n. take written out ++ frame ++ drop (written + n) out) (sym sides) in
           let through = Turned-through acts (flow_of acts channels first left) input start (flow_of acts channels stages (left + taken)) (flow_of acts channels stages' (left + taken + 1)) x frame out out' read written taken given run.turned refl going.fed going.gave some room is
-            (sides ∙ sym outs) (omega (arith, sides)) (omega (arith, outs)) put' same in
+          (sides ∙ sym outs) (omega (arith, sides)) (omega (arith, outs)) put' same in
           record {
             turned = rw e (rw sides at through);
             sound = rw e going.sound;

@@ -1,4 +1,4 @@
-use Rattle.std.proofs.Common.{◌≡◌, ◌*◌, ◌≤◌, length, arith}
+use Rattle.std.proofs.Common.{arith}
 use Rattle.fx_flow.proofs.Feeding.{le-times}
 use Rattle.fx_flow.proofs.Running.{outputs-keep}
 use Rattle.fx_flow.proofs.feed.feed_hungry.Goals as goal

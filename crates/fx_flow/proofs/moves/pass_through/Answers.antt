@@ -1,4 +1,4 @@
-use Rattle.std.proofs.Common.{◌≡◌, ◌<◌, ℕ, length, refl, arith, add-one}
+use Rattle.std.proofs.Common.{refl, arith, add-one}
 use Rattle.fx_flow.proofs.Rows.{CameTo-next, MayPass, MayPass-at, PassedOn-gave, WentThrough-kept, WentThrough-out}
 use Rattle.fx_flow.proofs.moves.pass_through.Goals as goal
 

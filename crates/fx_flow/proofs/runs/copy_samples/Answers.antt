@@ -1,4 +1,4 @@
-use Rattle.std.proofs.Common.{rules, ◌≡◌, ◌∙◌, get_or, length, of_z, to_z}
+use Rattle.std.proofs.Common.{rules, ◌≡◌, ◌∙◌, get_or, of_z, to_z}
 use Rattle.std.specs.Int.{w32}
 use Rattle.std.specs.Prelude.{pos}
 use Rattle.fx_flow.proofs.Running.{set-one, set-two}

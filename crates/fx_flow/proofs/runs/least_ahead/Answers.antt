@@ -1,4 +1,4 @@
-use Rattle.std.proofs.Common.{◌≡◌, ◌-◌, ◌<◌, suc, arith}
+use Rattle.std.proofs.Common.{◌≡◌, ◌-◌, suc, arith}
 use Rattle.fx_flow.proofs.Running.{AllAhead-drop, AllAhead-less}
 use Rattle.fx_flow.proofs.runs.least_ahead.Goals as goal
 

@@ -1,7 +1,6 @@
-use Rattle.std.proofs.Common.{◌≡◌, ◌<◌, ◌∙◌, ℕ, false, get_or, length, refl, sym, arith, add-one}
-use Rattle.fx_frame.specs.Stage.{kind}
+use Rattle.std.proofs.Common.{◌<◌, ◌∙◌, get_or, length, refl, sym, arith, add-one}
 use Rattle.fx_flow.proofs.Rows.{CameTo-next, MayPass, MayPass-at, WentThrough-kept, WentThrough-out}
-use Rattle.fx_flow.proofs.Running.{AllKeep-at, settled-all, settled-kept, settled-next}
+use Rattle.fx_flow.proofs.Running.{AllKeep-at, settled-kept, settled-next}
 use Rattle.fx_flow.proofs.runs.pass_along.Given as given
 use Rattle.fx_flow.proofs.runs.pass_along.Goals as goal
 use Rattle.fx_flow.proofs.runs.pass_along.Goals.{in-Through, in-More}

@@ -1,4 +1,4 @@
-use Rattle.std.proofs.Common.{◌≡◌, false, length, take}
+use Rattle.std.proofs.Common.{◌≡◌, false, take}
 use Rattle.fx_flow.specs.Parts.{AllSettled}
 use Rattle.fx_flow.specs.Row.{CameTo}
 use Rattle.fx_flow.proofs.runs.pass_along.Given as goal

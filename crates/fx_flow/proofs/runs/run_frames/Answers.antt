@@ -1,4 +1,4 @@
-use Rattle.std.proofs.Common.{◌≡◌, ◌+◌, ◌-◌, ◌*◌, ◌<◌, ◌≤◌, ◌∙◌, ℕ, drop, length, take, inl, inr, refl, sym, ap, arith, add-one}
+use Rattle.std.proofs.Common.{◌≡◌, ◌+◌, ◌-◌, ◌*◌, ◌<◌, ◌≤◌, ◌∙◌, ℕ, drop, length, take, inl, inr, refl, ap, arith, add-one}
 use Rattle.std.proofs.Math.Nat.{suc-mul, mul-le-mul_right}
 use Rattle.fx_frame.specs.Frame.{IsFrame}
 use Rattle.fx_flow.specs.Runs.{MayRun}
@@ -25,9 +25,13 @@ pass_along-passage-requires-clause-ready g c =
     let may = c.requires.may_run.1 in
     let width : length c.copy_samples.new.to ≡ c.args.channels = ap length c.copy_samples.ensures ∙ ap length c.samples.ensures.samples ∙ c.frame_at-frame.ensures.channels in
     let few : left + c.frames.taken < most_frames = omega (arith, may.few, c.frames-test.true) in
-    rw width
-    (left + c.frames.taken, most_frames, few, Running-ready g.S.Stage.acts g.met.S.Stage.rises c.args.channels c.args.count left c.args.stages.now c.args.input.now c.args.output.now c.frames.stages c.frames.output c.frames.read c.frames.written c.frames.taken c.frames.given
-    (c.frames.invariant.runs left may) c.frames-test.true c.frames.invariant.settled)
+    rw width (
+      left + c.frames.taken,
+      most_frames,
+      few,
+      Running-ready g.S.Stage.acts g.met.S.Stage.rises c.args.channels c.args.count left c.args.stages.now c.args.input.now c.args.output.now c.frames.stages c.frames.output c.frames.read c.frames.written c.frames.taken c.frames.given
+          (c.frames.invariant.runs left may) c.frames-test.true c.frames.invariant.settled,
+    )
 
 pub returns-then-passage-2-clause-ran : goal.returns-then-passage-2-clause-ran
 returns-then-passage-2-clause-ran g c =
@@ -53,7 +57,7 @@ returns-then-passage-2-clause-ran g c =
     let free : c.frames.written + channels ≤ length c.frames.output = omega (arith, one, turns, c.requires.output, c.frames.invariant.written_room, c.frames.auto.output) in
     let next : (left : ℕ) → MayRun acts channels c.args.count c.args.stages.now left → Running acts g.met.S.Stage.rises channels c.args.count left c.args.stages.now c.args.input.now c.args.output.now c.pass_along-passage.new.stages c.if-passage.output (c.frames.read + channels) c.if-passage.written (c.frames.taken + 1) c.if-passage.given =
     λ left may. Running-turn acts g.met.S.Stage.rises channels c.args.count left c.args.stages.now c.args.input.now c.args.output.now c.frames.stages c.pass_along-passage.new.stages c.frames.output c.frames.read c.frames.written c.frames.taken c.frames.given x
-      (c.frames.invariant.runs left may) may.few more c.frames.invariant.settled shape width is some room c.pass_along-passage.result.is_given c.pass_along-passage.new.samples c.if-passage.output c.if-passage.written c.if-passage.given c.pass_along-passage.ensures.went sides free c.requires.keep wrote in
+    (c.frames.invariant.runs left may) may.few more c.frames.invariant.settled shape width is some room c.pass_along-passage.result.is_given c.pass_along-passage.new.samples c.if-passage.output c.if-passage.written c.if-passage.given c.pass_along-passage.ensures.went sides free c.requires.keep wrote in
     λ left may. Running-ran acts g.met.S.Stage.rises channels c.args.count left c.args.stages.now c.args.input.now c.args.output.now c.pass_along-passage.new.stages c.if-passage.output (c.frames.read + channels) c.if-passage.written (c.frames.taken + 1) c.if-passage.given (next left may) (omega (arith, one, room)) c.requires.keep
 
 pub returns-then-passage-2-clause-behind : goal.returns-then-passage-2-clause-behind
@@ -80,7 +84,7 @@ returns-then-passage-2-clause-behind g c =
     let free : c.frames.written + channels ≤ length c.frames.output = omega (arith, one, turns, c.requires.output, c.frames.invariant.written_room, c.frames.auto.output) in
     let next : (left : ℕ) → MayRun acts channels c.args.count c.args.stages.now left → Running acts g.met.S.Stage.rises channels c.args.count left c.args.stages.now c.args.input.now c.args.output.now c.pass_along-passage.new.stages c.if-passage.output (c.frames.read + channels) c.if-passage.written (c.frames.taken + 1) c.if-passage.given =
     λ left may. Running-turn acts g.met.S.Stage.rises channels c.args.count left c.args.stages.now c.args.input.now c.args.output.now c.frames.stages c.pass_along-passage.new.stages c.frames.output c.frames.read c.frames.written c.frames.taken c.frames.given x
-      (c.frames.invariant.runs left may) may.few more c.frames.invariant.settled shape width is some room c.pass_along-passage.result.is_given c.pass_along-passage.new.samples c.if-passage.output c.if-passage.written c.if-passage.given c.pass_along-passage.ensures.went sides free c.requires.keep wrote in
+    (c.frames.invariant.runs left may) may.few more c.frames.invariant.settled shape width is some room c.pass_along-passage.result.is_given c.pass_along-passage.new.samples c.if-passage.output c.if-passage.written c.if-passage.given c.pass_along-passage.ensures.went sides free c.requires.keep wrote in
     let run = next c.requires.may_run.0 c.requires.may_run.1 in
     let count = Running-behind acts g.met.S.Stage.rises channels c.args.count c.requires.may_run.0 c.args.stages.now c.args.input.now c.args.output.now _ _ _ _ _ _ run c.requires.keep in
     rw (← count) run.turned.behind
@@ -109,7 +113,7 @@ frames-preserved g c =
     let free : c.frames.written + channels ≤ length c.frames.output = omega (arith, one, turns, c.requires.output, c.frames.invariant.written_room, c.frames.auto.output) in
     let next : (left : ℕ) → MayRun acts channels c.args.count c.args.stages.now left → Running acts g.met.S.Stage.rises channels c.args.count left c.args.stages.now c.args.input.now c.args.output.now c.pass_along-passage.new.stages c.if-passage.output (c.frames.read + channels) c.if-passage.written (c.frames.taken + 1) c.if-passage.given =
     λ left may. Running-turn acts g.met.S.Stage.rises channels c.args.count left c.args.stages.now c.args.input.now c.args.output.now c.frames.stages c.pass_along-passage.new.stages c.frames.output c.frames.read c.frames.written c.frames.taken c.frames.given x
-      (c.frames.invariant.runs left may) may.few more c.frames.invariant.settled shape width is some room c.pass_along-passage.result.is_given c.pass_along-passage.new.samples c.if-passage.output c.if-passage.written c.if-passage.given c.pass_along-passage.ensures.went sides free c.requires.keep wrote in
+    (c.frames.invariant.runs left may) may.few more c.frames.invariant.settled shape width is some room c.pass_along-passage.result.is_given c.pass_along-passage.new.samples c.if-passage.output c.if-passage.written c.if-passage.given c.pass_along-passage.ensures.went sides free c.requires.keep wrote in
     let run = next c.requires.may_run.0 c.requires.may_run.1 in
     let count = Running-behind acts g.met.S.Stage.rises channels c.args.count c.requires.may_run.0 c.args.stages.now c.args.input.now c.args.output.now _ _ _ _ _ _ run c.requires.keep in
     let under : c.if-passage.given * channels ≤ (c.frames.taken + 1) * channels = mul-le-mul_right channels run.fewer in

@@ -1,4 +1,4 @@
-use Rattle.std.proofs.Common.{◌≡◌, ◌+◌, ◌<◌, ◌∙◌, false, length, refl, ap, arith, Some, None}
+use Rattle.std.proofs.Common.{◌≡◌, ◌<◌, ◌∙◌, false, length, refl, ap, arith, Some, None}
 use Rattle.std.specs.Prelude.{if◌then◌else◌}
 use Rattle.fx_flow.specs.Sound.{IsSound, most_frames}
 use Rattle.fx_flow.specs.Runs.{flow_of}

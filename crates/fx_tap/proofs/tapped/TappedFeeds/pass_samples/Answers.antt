@@ -31,7 +31,7 @@ invariant_of-self g c =
     let few : s.taken + 1 ≤ 2 ^ 56 = omega (arith, limit) in
     let little : c.tap_into-clips.result ≤ 1 * taps.most_clips s.arguments = omega (arith, c.tap_into-clips.ensures.few) in
     let pushed = c.push.ensures in
-    IsTapState-block taps _ c.push.new.self 1 c.tap_into-clips.result (c.frame_at-frame.result ∷ []) is none over few refl c.len-held.ensures.line pushed.items pushed.capacity pushed.channels little
+    IsTapState-block taps _ c.push.new.self 1 c.tap_into-clips.result (c.frame_at-came.result ∷ []) is none over few refl c.len-held.ensures.line pushed.items pushed.capacity pushed.channels little
 
 pub returns-clause-passed : goal.returns-clause-passed
 returns-clause-passed g c =
@@ -45,7 +45,7 @@ returns-clause-passed g c =
     let counted = rw (none, over) at is.counted in
     let even : s.given ≡ s.taken = omega (arith, counted, quiet) in
     let width = rw (← c.self.view_is) at c.requires.channels in
-    let whole : c.frame_at-frame.result ≡ c.args.samples.now = c.frame_at-frame.ensures.frame ∙ take_all (length c.args.samples.now) c.args.samples.now (omega arith) in
+    let whole : c.frame_at-came.result ≡ c.args.samples.now = c.frame_at-came.ensures.frame ∙ take_all (length c.args.samples.now) c.args.samples.now (omega arith) in
     let pushed = rw whole at c.push.ensures in
     let seen = rw (c.samples.ensures.samples, whole) at c.tap_into-clips.ensures in
     rw (← c.self.view_is)
