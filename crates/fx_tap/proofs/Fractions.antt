@@ -8,7 +8,7 @@ use Rattle.fx_fixed.specs.Rounding.{rounding}
 use Rattle.fx_fixed.specs.Reduced.{IsReduced}
 use Rattle.fx_fixed.specs.declared.gains.TheConstants.{UNIT}
 use Rattle.fx_fixed.proofs.Reductions.{rounding-reduced}
-use Rattle.fx_tap.specs.Fractions.{fraction_sample, Ratio, Rounds}
+use Rattle.fx_tap.specs.Fractions.{Ratio, Rounds}
 use Rattle.fx_tap.proofs.SignedProducts.{mul_assoc}
 use Rattle.fx_tap.proofs.SumLaws.{scaled-few}
 

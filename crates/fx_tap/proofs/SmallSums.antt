@@ -1,5 +1,5 @@
 -- Sums of samples times small weights, in 64 bits.
-use Rattle.std.proofs.Common.{ℕ, ℤ, pos, ◌+◌, ◌*◌, ◌^◌, ◌<◌, ◌≤◌, ◌≡◌, ◌+ℤ◌, ◌*ℤ◌, Bool, true, false, List, [], ◌∷◌, refl, arith, to_z, of_z}
+use Rattle.std.proofs.Common.{ℕ, ℤ, ◌+◌, ◌^◌, ◌<◌, ◌≤◌, ◌≡◌, ◌+ℤ◌, ◌*ℤ◌, Bool, true, false, refl, arith, to_z, of_z}
 use Rattle.std.specs.Prelude.{unsigned_abs, nat_lt}
 use Rattle.std.specs.Int.{w64}
 use Rattle.std.proofs.lemmas.Bool.Decides.{nat_tests}

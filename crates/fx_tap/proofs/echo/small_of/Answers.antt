@@ -1,4 +1,4 @@
-use Rattle.std.proofs.Common.{◌≡◌, ◌≤◌, ◌*◌, length, refl, arith, rules, to_z, of_z}
+use Rattle.std.proofs.Common.{◌≡◌, length, rules, to_z, of_z}
 use Rattle.std.specs.Int.{w64}
 use Rattle.std.proofs.lemmas.Int.{to_z-of_z}
 use Rattle.fx_tap.proofs.EchoWeights.{reduced-sounds}

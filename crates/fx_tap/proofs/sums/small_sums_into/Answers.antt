@@ -1,5 +1,4 @@
-use Rattle.std.proofs.Common.{rules, arith, ◌≡◌, ◌≤◌, ◌+◌, ◌∙◌, ap, ℕ, ℤ, pos, Bool, to_z, of_z, w32, slice_index_or}
-use Rattle.std.specs.Int.{w64}
+use Rattle.std.proofs.Common.{rules, arith, ◌≡◌, ◌+◌, ◌∙◌, ap, ℕ, ℤ, pos, Bool, to_z, of_z, w32, slice_index_or}
 use Rattle.fx_fixed.specs.Rounding.{rounding}
 use Rattle.fx_tap.proofs.Rounds.{samples_of-next, clips_of-next, byte_is, byte-le}
 use Rattle.fx_tap.proofs.sums.small_sums_into.Goals as goal

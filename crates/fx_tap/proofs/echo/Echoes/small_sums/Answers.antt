@@ -1,4 +1,4 @@
-use Rattle.std.proofs.Common.{◌≡◌, ◌<◌, ◌≤◌, ◌+◌, ◌∙◌, ◌*ℤ◌, ap, arith, length, List, ℕ, ℤ, drop, pos, rules, sym, to_z, of_z, w32, slice_index_or}
+use Rattle.std.proofs.Common.{◌<◌, ◌≤◌, ◌+◌, ◌*ℤ◌, ap, arith, length, List, ℕ, ℤ, drop, pos, slice_index_or}
 use Rattle.fx_tap.specs.EchoWeights.{weighed_echoes}
 use Rattle.fx_tap.proofs.DelayLaws.{quiet-sample}
 use Rattle.fx_tap.proofs.EchoLaws.{echo-first, echo-next, echo-last, sample-now}

@@ -1,4 +1,4 @@
-use Rattle.std.proofs.Common.{ℤ, ◌≡◌, arith, rules, refl, pos, get_or, to_z, of_z}
+use Rattle.std.proofs.Common.{◌≡◌, rules, pos, get_or, to_z, of_z}
 use Rattle.std.specs.Int.{w32, w64}
 use Rattle.std.proofs.lemmas.Int.{to_z-of_z}
 use Rattle.fx_tap.proofs.vol.Scale.of.Goals as goal
