@@ -1,10 +1,10 @@
 -- Frames that a fade gives many at a time, as they fall out of its line.
-use Rattle.std.proofs.Common.{◌≡◌, ◌+◌, ◌-◌, ◌*◌, ◌<◌, ◌≤◌, ◌^◌, ℕ, ℤ, suc, Bool, true, false, cond, inl, inr, ◌⊎◌, List, [], ◌∷◌, ◌++◌, map, length, take, refl, sym, ap, ◌∙◌, arith, add-zero, length-append}
-use Rattle.std.specs.Prelude.{Option, Some, None, option_to_list, is_none}
+use Rattle.std.proofs.Common.{◌≡◌, ◌+◌, ◌-◌, ◌*◌, ◌<◌, ◌≤◌, ◌^◌, ℕ, ℤ, suc, true, false, inl, inr, ◌⊎◌, List, [], ◌∷◌, ◌++◌, map, length, take, refl, sym, ap, ◌∙◌, arith, add-zero, length-append, length-take-le}
+use Rattle.std.specs.Prelude.{FitsSigned, Option, Some, None, option_to_list, is_none}
 use Rattle.std.specs.Int.{w32}
-use Rattle.std.specs.List.{All, enumerate_from}
+use Rattle.std.specs.List.{All}
 use Rattle.std.proofs.lemmas.Bool.{cases_lt, lt-leb, ltb-true}
-use Rattle.std.proofs.lemmas.List.Elements.{All-append, All-cons, All-head, All-nil, All-tail, All-take}
+use Rattle.std.proofs.lemmas.List.Elements.{All-cons, All-head, All-nil, All-tail, All-take}
 use Rattle.fx_fixed.specs.declared.positions.At.{At}
 use Rattle.fx_fixed.specs.declared.positions.At.TheVariants.{Start, End}
 use Rattle.fx_frame.specs.Feed.{Fed, GaveNext, TookNext, nothing, taken, given}
@@ -14,15 +14,17 @@ use Rattle.fx_frame.specs.Ring.{pieces}
 use Rattle.fx_frame.specs.Stage.{Given, is_enough}
 use Rattle.fx_frame.proofs.FedLaws.{Fed-then}
 use Rattle.fx_frame.proofs.Feeding.{pieces-take}
+use Rattle.fx_frame.proofs.ManyFrames.{frames-samples}
 use Rattle.fx_frame.proofs.Pieces.{length-pieces}
 use Rattle.fx_cut.specs.declared.fade.Shape.{Shape}
-use Rattle.fx_cut.specs.Fade.{FadeState, IsFade, IsShape, ahead_by, fade_acts, fade_enough, fade_line, faded_frame, faded_here, is_before, line_by, stop_ahead, weighted, weights}
+use Rattle.fx_cut.specs.Fade.{FadeState, IsFade, ahead_by, fade_acts, fade_enough, faded_along, faded_frame, faded_here, is_before, line_by, stop_ahead, weighted, weights}
 use Rattle.fx_cut.specs.Lists.{plain}
 use Rattle.fx_cut.proofs.Fallen.{fallen, stays, oldest-first}
 use Rattle.fx_cut.proofs.FadeSteps.{IsFade-inside, IsFade-fallen, Took-inside, Took-fallen, came}
 use Rattle.fx_cut.proofs.FadeLaws.{product-most, weight-most}
 use Rattle.fx_cut.proofs.Hands.{at_most_one}
-use Rattle.fx_cut.proofs.Onto.{gone, onto, onto-line, onto-long, onto-more, onto-none, out-full, out-long, out-more, out-room, out-samples, out_of, same-line}
+use Rattle.fx_cut.proofs.Onto.{gone, onto, onto-line, onto-long, onto-more, onto-none, out-full, out-more, out-room, out_of, same-line}
+use Rattle.fx_cut.proofs.Pieces.{all-pieces}
 use Rattle.fx_cut.proofs.Weighing.{given-plain, whole-frame}
 
 -- ---- before the stop
@@ -36,10 +38,6 @@ not-enough (Some (Start p)) out seen lined n i h before k =
     let at : seen - lined + i ≡ seen + i = omega arith in
     let b : seen - lined + i < p = ltb-true (seen - lined + i) p (before i (omega arith)) in
     lt-leb p (seen + i) (omega arith)
-
--- what is given of frames that fall out one after another
-abbrev pub faded_along : Shape → ℕ → List Samples → List Given
-faded_along f n os = map (λ e. faded_frame f (stop_ahead f e.0) e.0 e.1) (enumerate_from n os)
 
 -- ---- frame by frame
 
@@ -299,26 +297,42 @@ all-flat f channels n (o ∷ os) whole samples =
 abbrev pub passed : FadeState → Frames ℤ → ℕ → ℕ → FadeState
 passed s line n k = record s { line = line; taken = s.taken + n; given = s.given + k }
 
--- so many frames in front of the input came to the line, and those that fell out are given unchanged
-pub flat-passed : (s : FadeState) (n k : ℕ) (line : Frames ℤ) (input out : List ℤ) → IsGiving s n → n * s.recipe.channels ≤ length input
+-- the samples of frames that fell out of a line fit
+pub fell-fit : (channels k : ℕ) (os : List Samples) (fell : List ℤ) → k * channels ≤ length fell → pieces channels k fell ≡ take k os → All (IsSamples w32 channels) os → All (FitsSigned w32) (take (k * channels) fell)
+fell-fit channels k os fell room is samples =
+    let front : pieces channels k (take (k * channels) fell) ≡ take k os = pieces-take channels k fell room ∙ is in
+    let fit : All (All (FitsSigned w32)) (take k os) = λ i x h. (All-take (IsSamples w32 channels) k os samples i x h).fits in
+    all-pieces (FitsSigned w32) channels k (take (k * channels) fell) (length-take-le (k * channels) fell room) (rw front fit)
+
+-- so many frames in front of the input came to the line, and those that fell out are given, each with its weight
+pub faded-passed : (s : FadeState) (n k : ℕ) (line : Frames ℤ) (input fell weighed out : List ℤ) → IsGiving s n → n * s.recipe.channels ≤ length input → k * s.recipe.channels ≤ length fell
     → let xs = pieces s.line.channels n (take (n * s.recipe.channels) input) in
     line.items ≡ pushed_all s.line xs → line.capacity ≡ s.line.capacity → line.channels ≡ s.line.channels → All (IsSamples w32 s.line.channels) xs
-    → k ≡ gone s.line n → pieces s.line.channels k out ≡ take k (s.line.items ++ xs)
-    → ((i : ℕ) → i < k → (weights s.recipe.shape (stop_ahead s.recipe.shape (s.taken - length s.line.items + i)) (s.taken - length s.line.items + i)).0 ≡ (weights s.recipe.shape (stop_ahead s.recipe.shape (s.taken - length s.line.items + i)) (s.taken - length s.line.items + i)).1)
+    → k ≡ gone s.line n → pieces s.line.channels k fell ≡ take k (s.line.items ++ xs)
+    → map plain (pieces s.recipe.channels k weighed) ≡ faded_along s.recipe.shape (s.taken - length s.line.items) (pieces s.recipe.channels k (take (k * s.recipe.channels) fell))
+    → All (FitsSigned w32) weighed → length weighed ≡ k * s.recipe.channels → pieces s.recipe.channels k out ≡ pieces s.recipe.channels k weighed
     → Fed fade_acts s (pieces s.recipe.channels n input) (pieces s.recipe.channels k out) (passed s line n k) × IsFade (passed s line n k)
-flat-passed s n k line input out a room items capacity channels samples number is whole =
+faded-passed s n k line input fell weighed out a room cut items capacity channels samples number is made fits long put =
     let same = a.is.channels in
     let xs : List Samples = pieces s.line.channels n (take (n * s.recipe.channels) input) in
+    let gs : List Samples = pieces s.recipe.channels k weighed in
     let many : length xs ≡ n = length-pieces s.line.channels n (take (n * s.recipe.channels) input) in
     let front : xs ≡ pieces s.recipe.channels n input = ap (λ w. pieces w n (take (n * s.recipe.channels) input)) same ∙ pieces-take s.recipe.channels n input room in
     let count : k ≡ gone s.line (length xs) = rw many number in
-    let fell : take k (s.line.items ++ xs) ≡ out_of s.line xs = ap (λ m. take m (s.line.items ++ xs)) count in
-    let gave : pieces s.recipe.channels k out ≡ out_of s.line xs = ap (λ w. pieces w k out) (sym same) ∙ is ∙ fell in
-    let fit = All-take (IsSamples w32 s.line.channels) (gone s.line (length xs)) (s.line.items ++ xs) (All-append (IsSamples w32 s.line.channels) s.line.items xs a.is.line.frames samples) in
-    let long : length (out_of s.line xs) ≡ k = out-long s.line xs ∙ sym count in
-    let made = all-flat s.recipe.shape s.line.channels (s.taken - length s.line.items) (out_of s.line xs) (λ i h. whole i (omega arith)) fit in
-    let all = stretch-fed xs (out_of s.line xs) s (rw many a) samples made fit in
+    let out-is : pieces s.recipe.channels k (take (k * s.recipe.channels) fell) ≡ out_of s.line xs =
+    pieces-take s.recipe.channels k fell cut ∙ ap (λ w. pieces w k fell) (sym same) ∙ is ∙ ap (λ m. take m (s.line.items ++ xs)) count in
+    let gave : map plain gs ≡ faded_along s.recipe.shape (s.taken - length s.line.items) (out_of s.line xs) = made ∙ ap (faded_along s.recipe.shape (s.taken - length s.line.items)) out-is in
+    let fit : All (IsSamples w32 s.line.channels) gs = rw same (frames-samples w32 s.recipe.channels k weighed long fits) in
+    let all = stretch-fed xs gs s (rw many a) samples gave fit in
     let onto-is : line ≡ onto s.line xs = same-line line (onto s.line xs) items capacity channels in
     let empty : ◌≡◌ {A = FadeState} (passed s line n k) (record s { hand = None; line = line; taken = s.taken + n; given = s.given + k }) = rw a.empty refl in
     let last : passed s line n k ≡ later s xs = empty ∙ same-state s line (onto s.line xs) (s.taken + n) (s.taken + length xs) (s.given + k) (s.given + gone s.line (length xs)) onto-is (ap (λ m. s.taken + m) (sym many)) (ap (λ m. s.given + m) count) in
-    rw (gave, ← front, last) all
+    rw (put, ← front, last) all
+
+-- one more frame falls out
+pub faded_along-more : (f : Shape) (n : ℕ) (xs : List Samples) (x : Samples) → faded_along f n (xs ++ x ∷ []) ≡ faded_along f n xs ++ faded_frame f (stop_ahead f (n + length xs)) (n + length xs) x ∷ []
+faded_along-more f n [] x = let e : n + 0 ≡ n = omega arith in rw e refl
+faded_along-more f n (y ∷ ys) x =
+    let e : n + 1 + length ys ≡ n + length (y ∷ ys) = omega arith in
+    let rest = rw e at (faded_along-more f (n + 1) ys x) in
+    ap (λ l. faded_frame f (stop_ahead f n) n y ∷ l) rest

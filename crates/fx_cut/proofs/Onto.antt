@@ -1,6 +1,6 @@
 -- Many frames that come to a line, and those that fall out of it.
 use Rattle.std.proofs.Common.{◌≡◌, ◌+◌, ◌-◌, ◌*◌, ◌/◌, Bool, true, false, cond, ◌<◌, ◌≤◌, ℕ, ℤ, List, [], ◌∷◌, ◌++◌, length, take, drop, refl, sym, ap, ◌∙◌, arith, append_assoc, length-append, length-drop, length-take-le, take-add, append-nil}
-use Rattle.std.specs.Prelude.{Option, None, Some, slice_get}
+use Rattle.std.specs.Prelude.{None, Some, slice_get}
 use Rattle.std.specs.Int.{w32}
 use Rattle.std.specs.List.{All}
 use Rattle.std.proofs.lemmas.List.{drop-append-le, take-append-le}

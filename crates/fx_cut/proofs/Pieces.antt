@@ -1,9 +1,9 @@
 -- A piece that a stage passed at once, and the frames behind it.
-use Rattle.std.proofs.Common.{◌≡◌, ◌<◌, ◌+◌, ◌-◌, ◌*◌, ◌/◌, ◌≤◌, ℕ, zero, suc, true, false, List, [], ◌∷◌, ◌++◌, length, take, drop, refl, sym, ap, ◌∙◌, arith, append-nil, append_assoc, length-append, length-drop}
+use Rattle.std.proofs.Common.{◌≡◌, ◌<◌, ◌+◌, ◌-◌, ◌*◌, ◌/◌, ◌≤◌, ℕ, zero, suc, true, false, List, [], ◌∷◌, ◌++◌, length, take, drop, refl, sym, ap, ◌∙◌, arith, append-nil, append_assoc, length-append, length-drop, subst}
 use Rattle.std.specs.Prelude.{ℤ}
 use Rattle.std.specs.List.{All}
-use Rattle.std.proofs.lemmas.List.Elements.{All-cons, All-nil}
-use Rattle.std.proofs.lemmas.List.{drop-drop, drop_all, drop_at, length-take, length-take-le, take-take, take_all}
+use Rattle.std.proofs.lemmas.List.Elements.{All-append, All-cons, All-head, All-nil, All-tail}
+use Rattle.std.proofs.lemmas.List.{drop-drop, drop_all, drop_at, length-take, length-take-le, nil_from_length, take-take, take_all}
 use Rattle.std.proofs.Math.Nat.{add-mul, div-mul-le_self, mul-le-mul_right, suc-mul, mul-le-mul_left, le_of_mul-le-mul_right}
 use Rattle.fx_frame.specs.Feed.{Fed}
 use Rattle.fx_frame.specs.Ring.{pieces}
@@ -42,6 +42,19 @@ pieces-sides {X} size zero xs h = All-nil (λ (f : List X). length f ≡ size)
 pieces-sides {X} size (suc n) xs h =
     let more : suc n * size ≡ size + n * size = omega (arith, suc-mul n size) in
     All-cons (λ (f : List X). length f ≡ size) (take size xs) (pieces size n (drop size xs)) (length-take-le size xs (omega arith)) (pieces-sides size n (drop size xs) (omega (arith, length-drop size xs)))
+
+joined : {X : Type 0} (n : ℕ) (xs : List X) → take n xs ++ drop n xs ≡ xs
+joined zero xs = refl
+joined (suc n) [] = refl
+joined (suc n) (x ∷ xs) = ap (λ l. x ∷ l) (joined n xs)
+
+-- what holds of every element of whole frames holds of every sample
+pub all-pieces : {X : Type 0} (P : X → Type 0) (size n : ℕ) (xs : List X) → length xs ≡ n * size → All (All P) (pieces size n xs) → All P xs
+all-pieces {X} P size zero xs e all = let none : xs ≡ [] = nil_from_length xs (omega (arith, e)) in rw none (All-nil P)
+all-pieces {X} P size (suc n) xs e all =
+    let first = All-head (All P) (take size xs) (pieces size n (drop size xs)) all in
+    let rest = all-pieces P size n (drop size xs) (omega (arith, e, suc-mul n size, length-drop size xs)) (All-tail (All P) (take size xs) (pieces size n (drop size xs)) all) in
+    subst (All P) (joined size xs) (All-append P (take size xs) (drop size xs) first rest)
 
 -- frames of at least one sample are no more than the samples
 pub few-frames : (n w len : ℕ) → 1 ≤ w → n * w ≤ len → n ≤ len

@@ -1,8 +1,8 @@
 -- Frames that a trim keeps or leaves out many at a time, as they fall out of its line.
 use Rattle.std.proofs.Common.{◌≡◌, ◌+◌, ◌-◌, ◌*◌, ◌<◌, ◌≤◌, ◌^◌, ◌%◌, ℕ, ℤ, suc, max, Bool, true, false, cond, leb, eqb, inl, inr, ◌⊎◌, List, [], ◌∷◌, ◌++◌, length, drop, take, get_or, refl, sym, ap, ◌∙◌, arith, add-zero, length-append}
-use Rattle.std.specs.Prelude.{count_by, Option, Some, None, option_to_list, is_none}
+use Rattle.std.specs.Prelude.{count_by, Some, None, option_to_list, is_none}
 use Rattle.std.specs.Int.{w32}
-use Rattle.std.specs.List.{All, range_with_len}
+use Rattle.std.specs.List.{All}
 use Rattle.std.proofs.lemmas.Bool.{cases_lt, le-leb, lt-leb}
 use Rattle.std.proofs.lemmas.List.{drop_more, drop_all}
 use Rattle.std.proofs.lemmas.List.Elements.{All-cons, All-head, All-nil, All-tail}
@@ -17,10 +17,10 @@ use Rattle.fx_frame.specs.Stage.{is_enough}
 use Rattle.fx_frame.proofs.FedLaws.{Fed-then}
 use Rattle.fx_frame.proofs.Feeding.{pieces-take}
 use Rattle.fx_frame.proofs.Pieces.{length-pieces}
-use Rattle.fx_cut.specs.Trim.{keeps, starts, greatest_end, trim_due, trim_enough, TrimState, IsTrim, trim_acts}
+use Rattle.fx_cut.specs.Trim.{keeps, starts, trim_enough, TrimState, IsTrim, trim_acts}
 use Rattle.fx_cut.proofs.Fallen.{fallen, stays, oldest-first}
 use Rattle.fx_cut.proofs.Hands.{at_most_one}
-use Rattle.fx_cut.proofs.Onto.{gone, onto, onto-line, onto-long, onto-more, onto-none, out-full, out-long, out-more, out-room, out-samples, out_of, same-line}
+use Rattle.fx_cut.proofs.Onto.{gone, onto, onto-line, onto-long, onto-more, onto-none, out-full, out-more, out-room, out-samples, out_of, same-line}
 use Rattle.fx_cut.proofs.TrimLaws.{count_by-cons, none_before}
 use Rattle.fx_cut.proofs.TrimSteps.{IsTrim-inside, IsTrim-fallen, Took-inside, Took-fallen, took}
 

@@ -1,19 +1,20 @@
 -- A sample times a weight of at most 1 is not clipped, and is the sample where the weight is 1.
-use Rattle.std.proofs.Common.{◌≡◌, ℕ, ℤ, zero, suc, pos, negsuc, ◌+◌, ◌*◌, ◌/◌, ◌<◌, ◌≤◌, ◌^◌, false, true, refl, ap, ◌∙◌, sym, arith, List, [], ◌∷◌, map, length, take, get_or, set, Bool, min, ◌-◌}
-use Rattle.std.specs.Prelude.{FitsSigned, not, count_by}
-use Rattle.std.specs.Int.{w32}
+use Rattle.std.proofs.Common.{◌≡◌, ℕ, ℤ, zero, suc, pos, negsuc, ◌+◌, ◌*◌, ◌/◌, ◌<◌, ◌≤◌, ◌^◌, false, true, refl, ap, ◌∙◌, sym, arith, List, [], ◌∷◌, map, length, take, get_or, set, Bool, min, ◌-◌, ◌*ℤ◌, to_z, of_z}
+use Rattle.std.specs.Prelude.{FitsSigned, not, count_by, unsigned_abs}
+use Rattle.std.specs.Int.{w32, w64}
 use Rattle.std.specs.List.{All}
-use Rattle.std.proofs.Math.Nat.{mul-le-mul_left}
-use Rattle.std.proofs.lemmas.Int.{ints}
-use Rattle.std.proofs.lemmas.Nat.{div_below, le-div}
+use Rattle.std.proofs.Math.Nat.{mul-le-mul, mul-le-mul_left}
+use Rattle.std.proofs.lemmas.Int.{fits_signed_from_abs, ints, to_z-of_z, to_z_pos, unsigned_abs-mul}
+use Rattle.std.proofs.lemmas.Nat.{div_below, le-div, mul-lt}
 use Rattle.std.proofs.lemmas.Bool.{lt-ltb}
 use Rattle.std.proofs.lemmas.List.{take_more, take_more_set, map-append}
 use mathlib.Core.Path.{ap₂}
-use Rattle.fx_fixed.specs.Rounding.{nearest_natural, signed, clipping}
+use Rattle.fx_fixed.specs.Rounding.{nearest, nearest_natural, signed, clipping}
+use Rattle.fx_fixed.proofs.Shifting.{nearest_natural-cancel}
 use Rattle.fx_fixed.proofs.Signs.{nearest-neg}
 use Rattle.fx_cut.specs.Rounded.{given_of, unclipped}
 use Rattle.fx_cut.specs.Lists.{plain}
-use Rattle.fx_cut.specs.Fade.{weighted}
+use Rattle.fx_cut.specs.Fade.{both, weighted}
 
 nearest-le : (n w d : ℕ) → 0 < d → w ≤ d → nearest_natural (n * w) d ≤ n
 nearest-le n w d some h =
@@ -49,6 +50,45 @@ no_clip (pos n) w d some h f =
 no_clip (negsuc n) w d some h f =
     ap (λ z. (clipping z).1) (nearest-neg (suc n * w) d some)
     ∙ unclipped-neg (nearest_natural (suc n * w) d) n (nearest-le (suc n) w d some h) (fits-neg n f)
+
+-- a sample times a short length fits 64 bits
+small-abs : (x : ℤ) (n : ℕ) → unsigned_abs x ≤ 2 ^ 31 → n ≤ 2 ^ 30 → unsigned_abs (x *ℤ pos n) ≤ 2 ^ 61
+small-abs x n h g = omega (arith, unsigned_abs-mul x (pos n), mul-le-mul h g)
+
+pub small-product : (x y : ℤ) (n : ℕ) → y ≡ x → FitsSigned w32 x → n ≤ 2 ^ 30 → (to_z w64 (of_z w64 (to_z w64 (of_z w64 y) *ℤ to_z w64 n)) ≡ x *ℤ pos n) × (unsigned_abs (x *ℤ pos n) ≤ 2 ^ 61)
+small-product x y n same fits g =
+    let m : unsigned_abs x ≤ 2 ^ 31 = omega (arith, ints) in
+    let few = small-abs x n m g in
+    let one : to_z w64 (of_z w64 x) ≡ x = to_z-of_z w64 x (fits_signed_from_abs w64 x (omega arith)) in
+    let two : to_z w64 n ≡ pos n = to_z_pos w64 n (omega arith) in
+    let all : to_z w64 (of_z w64 (x *ℤ pos n)) ≡ x *ℤ pos n = to_z-of_z w64 (x *ℤ pos n) (fits_signed_from_abs w64 (x *ℤ pos n) (omega arith)) in
+    (rw (same, one, two) all, few)
+
+-- a weight of 1 beside another changes nothing
+nearest-times : (x : ℤ) (a b q : ℕ) → 0 < a → 0 < q → nearest (x *ℤ pos (a * b)) (a * q) ≡ nearest (x *ℤ pos b) q
+nearest-times (pos n) a b q some positive =
+    let above : n * (a * b) ≡ n * b * a = omega arith in
+    let below : a * q ≡ q * a = omega arith in
+    rw (above, below) (ap (signed false) (nearest_natural-cancel (n * b) q a some))
+nearest-times (negsuc n) a b q some positive =
+    let above : suc n * (a * b) ≡ suc n * b * a = omega arith in
+    let below : a * q ≡ q * a = omega arith in
+    let whole : 0 < a * q = mul-lt 0 0 a q some positive in
+    nearest-neg (suc n * (a * b)) (a * q) whole ∙ rw (above, below) (ap (signed true) (nearest_natural-cancel (suc n * b) q a some)) ∙ sym (nearest-neg (suc n * b) q positive)
+
+weighted-times : (x : ℤ) (a b q : ℕ) → 0 < a → 0 < q → weighted (a * b, a * q) x ≡ weighted (b, q) x
+weighted-times x a b q some positive = ap clipping (nearest-times x a b q some positive)
+
+pub whole-left : (v w : ℕ × ℕ) (xs : List ℤ) → v.0 ≡ v.1 → 0 < v.1 → 0 < w.1 → map (weighted (both v w)) xs ≡ map (weighted w) xs
+whole-left v w [] same some positive = refl
+whole-left (a, c) (b, q) (x ∷ xs) same some positive =
+    let one : weighted (a * b, c * q) x ≡ weighted (b, q) x = rw same (weighted-times x c b q some positive) in
+    cc (one, whole-left (a, c) (b, q) xs same some positive)
+
+pub whole-right : (v w : ℕ × ℕ) (xs : List ℤ) → w.0 ≡ w.1 → 0 < v.1 → 0 < w.1 → map (weighted (both v w)) xs ≡ map (weighted v) xs
+whole-right (a, c) (b, q) xs same positive some =
+    let turned : ◌≡◌ {A = ℕ × ℕ} (a * b, c * q) (b * a, q * c) = ap₂ (λ m n. (m, n)) (let e : a * b ≡ b * a = omega arith in e) (let e : c * q ≡ q * c = omega arith in e) in
+    rw turned (whole-left (b, q) (a, c) xs same some positive)
 
 -- the weight 1 changes nothing
 whole-sample : (x : ℤ) (d : ℕ) → 0 < d → FitsSigned w32 x → weighted (d, d) x ≡ unclipped x

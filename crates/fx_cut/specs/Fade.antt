@@ -129,6 +129,10 @@ ahead_by None fade_out n = None
 abbrev pub stop_ahead : Shape → ℕ → Option ℕ
 stop_ahead f n = ahead_by f.stop f.fade_out n
 
+-- what is given of frames that fall out of the line one after another, the first of which is frame n
+abbrev pub faded_along : Shape → ℕ → List Samples → List Given
+faded_along f n frames = map (λ e. faded_frame f (stop_ahead f e.0) e.0 e.1) (enumerate_from n frames)
+
 -- fades of at most 2^40 frames
 pub record IsShape (f : Shape) : Type 0 where
   pub short_in : f.fade_in ≤ 2 ^ 40

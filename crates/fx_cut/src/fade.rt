@@ -1,17 +1,19 @@
 //! The effect `fade` of sox(1), of the type t: a linear rise at the start and a linear fall before the stop.
-ghost use Rattle.std.specs.Prelude.{ℕ, ◌≡◌, ◌≤◌, ◌<◌, ◌+◌, ◌-◌, ◌++◌, ◌*ℤ◌, ◌^◌, [], pos, length, map, Err, IfOk, MatchResult, None, option_to_list, true, false};
+ghost use Rattle.std.specs.Prelude.{ℕ, ◌≡◌, ◌≤◌, ◌<◌, ◌+◌, ◌-◌, ◌*◌, ◌++◌, ◌^◌, [], length, map, Err, FitsSigned, IfOk, MatchResult, None, option_to_list, true, false};
 ghost use Rattle.std.specs.Int.{w32};
-ghost use Rattle.fx_fixed.specs.Rounding.{rounding};
+ghost use Rattle.std.specs.List.{All};
 ghost use Rattle.fx_frame.specs.Frame.{IsFrame};
 ghost use Rattle.fx_frame.specs.Frozen.{IsHand};
 ghost use Rattle.fx_frame.specs.Line.{IsLine};
+ghost use Rattle.fx_frame.specs.Ring.{pieces};
 ghost use Rattle.fx_frame.specs.Stage.{Freezes, IsNew};
 ghost use Rattle.fx_cut.specs.Lists.{plain};
 ghost use Rattle.fx_cut.specs.Rounded.{unclipped};
-ghost use Rattle.fx_cut.specs.Fade.{FadeArguments, FadeState, IsFade, IsFadeCount, IsShape, due_by, fade_acts, fade_after, fade_line, faded_here, is_before, line_by, meant, stop_ahead, stop_in, until, weight, weighted, weights};
+ghost use Rattle.fx_cut.specs.Fade.{FadeArguments, FadeState, IsFade, IsFadeCount, IsShape, fade_acts, fade_after, fade_due, fade_enough, fade_line, faded_along, faded_here, is_before, line_by, meant, stop_ahead, stop_in, until, weighted, weights};
 
 use crate::many::{PassesMany, feed_by_pieces};
-use fx_fixed::{At, round_clip};
+use crate::slopes::{Slope, weigh_by};
+use fx_fixed::At;
 use fx_frame::frozen::thawed_line_and_hand;
 use fx_frame::inner::{frame_of, places};
 use fx_frame::{Feeds, Frame, Line, Passed, Stage, ThawFault, WideFrame};
@@ -29,17 +31,6 @@ pub struct Shape {
     pub fade_out: u64,
 }
 
-/// So many parts of a length, at most 1, as a numerator and a denominator.
-#[inline(always)]
-fn weight_of(length: u64, parts: u64) -> (u64, u64)
-    ensures { result ≡ weight length parts }
-{
-    if length == 0 {
-        return (1, 1);
-    }
-    (parts.min(length), length)
-}
-
 /// Does the frame at this place lie before the stop?
 #[inline(always)]
 fn is_ahead(stop: Option<u64>, place: u64) -> bool
@@ -51,82 +42,81 @@ fn is_ahead(stop: Option<u64>, place: u64) -> bool
     }
 }
 
-/// A sample times a weight of at most 1, rounded.
-#[inline(always)]
-fn weighted_sample(sample: i32, over: u128, under: u128) -> i32
-    requires weight { (over ≤ under) × (0 < under) }
-    requires small { under ≤ 2 ^ 80 }
-    ensures { weighted (over, under) sample ≡ unclipped result }
-{
-    let (rounded, _clipped) = round_clip(i128::from(sample) * over as i128, under as i128);
-    rounded
+/// What a fade does to a sound, with its rise and its fall prepared.
+#[derive(Drop)]
+struct Fading {
+    shape: Shape,
+    rise: Slope,
+    fall: Slope,
 }
 
-/// A frame times a weight of at most 1, each sample rounded. Where the weight is 1 no sample is touched.
-#[inline(always)]
-fn weighted_frame(frame: Frame, over: u128, under: u128) -> Frame
-    requires weight { (over ≤ under) × (0 < under) }
-    requires small { under ≤ 2 ^ 80 }
-    ensures samples { map (weighted (over, under)) frame ≡ map unclipped result }
-    ensures channels { length result ≡ length frame }
-    ensures frame { IsFrame result }
-{
-    let channels = frame.channels();
-    if over == under {
-        return frame;
-    }
-    let samples = places(&frame);
-    let mut out = [0; 16];
-    'channels: for channel in 0..channels {
-        out[channel] = weighted_sample(samples[channel], over, under);
-    }
-    let made = frame_of(channels, out);
-    let _channels = made.channels();
-    made
+// It is that shape.
+impl Model for Fading {
+    ghost use Rattle.std.specs.Prelude.{◌≡◌};
+    ghost use Rattle.fx_cut.specs.Fade.{IsShape};
+    ghost use Rattle.fx_cut.specs.declared.fade.Shape.{Shape};
+
+    ghost Value = { Shape };
+
+    ghost view = { λ s. s.shape };
+
+    ghost invariant = { λ s. IsShape s.shape × ((s.rise ≡ s.shape.fade_in) × (s.fall ≡ s.shape.fade_out)) };
 }
 
-impl Shape {
-    /// The weight of the frame at this place, where the sound stops at another or does not stop.
-    #[inline(always)]
-    fn weight(&self, stop: Option<u64>, place: u64) -> (u128, u128)
-        requires { IsShape self.now }
-        ensures value { result ≡ weights self.now stop place }
-        ensures weight { (result.0 ≤ result.1) × (0 < result.1) }
-        ensures small { result.1 ≤ 2 ^ 80 }
+impl Fading {
+    /// Prepares the rise and the fall of a shape.
+    fn of(shape: Shape) -> Fading
+        requires { IsShape shape }
+        ensures { result ≡ shape }
     {
-        let (over, under) = weight_of(self.fade_in, place);
-        let Some(stop) = stop else {
-            return (u128::from(over), u128::from(under));
-        };
-        let (out_over, out_under) = weight_of(self.fade_out, stop.saturating_sub(place));
-        (
-            u128::from(over) * u128::from(out_over),
-            u128::from(under) * u128::from(out_under),
-        )
-    }
-
-    /// What is given of the frame at this place: nothing behind the stop.
-    #[inline(always)]
-    fn faded(&self, frame: Frame, stop: Option<u64>, place: u64) -> Option<Frame>
-        requires { IsShape self.now }
-        ensures value { map plain (option_to_list result) ≡ faded_here self.now stop place frame }
-        ensures fits { IsHand (length frame) result }
-    {
-        if !is_ahead(stop, place) {
-            return None;
-        }
-        let (over, under) = self.weight(stop, place);
-        Some(weighted_frame(frame, over, under))
+        let rise = Slope::new(shape.fade_in);
+        let fall = Slope::new(shape.fade_out);
+        Fading { shape, rise, fall }
     }
 
     /// Where the stop lies in a sound of so many frames.
     fn stop(&self, frames: u64) -> Option<u64>
         ensures { result ≡ stop_in frames self.now.stop }
     {
-        match self.stop {
+        match self.shape.stop {
             None => None,
             Some(At::Start(start)) => Some(start),
             Some(At::End(distance)) => Some(frames.saturating_sub(distance)),
+        }
+    }
+
+    /// How many frames are enough: those before a stop from the start.
+    #[inline(always)]
+    fn enough(&self) -> Option<u64>
+        ensures { result ≡ fade_enough self.now.stop }
+    {
+        match self.shape.stop {
+            Some(At::Start(enough)) => Some(enough),
+            _ => None,
+        }
+    }
+
+    /// The frames of the line that the stop needs.
+    fn line(&self) -> u64
+        requires { fade_line self.now ≤ 2 ^ 28 }
+        ensures { result ≡ fade_line self.now }
+    {
+        match self.shape.stop {
+            Some(At::End(distance)) => distance + self.shape.fade_out,
+            _ => 0,
+        }
+    }
+
+    /// How many frames are given after so many, with no end.
+    fn due(&self, taken: u64) -> u64
+        ensures { result ≡ fade_due self.now taken }
+    {
+        match self.shape.stop {
+            None => taken,
+            Some(At::Start(start)) => taken.min(start),
+            Some(At::End(distance)) => taken
+                .saturating_sub(distance)
+                .saturating_sub(self.shape.fade_out),
         }
     }
 
@@ -134,30 +124,107 @@ impl Shape {
     /// lies further behind that frame than the fall is long.
     #[inline(always)]
     fn next_stop(&self, place: u64) -> Option<u64>
-        requires shape { IsShape self.now }
         requires place { place ≤ 2 ^ 56 }
         ensures { result ≡ stop_ahead self.now place }
     {
-        match self.stop {
+        match self.shape.stop {
             None => None,
             Some(At::Start(start)) => Some(start),
-            Some(At::End(_)) => Some(place + self.fade_out + 1),
+            Some(At::End(_)) => Some(place + self.shape.fade_out + 1),
         }
+    }
+
+    /// How many frames from this place on lie before the stop, as far as the line shows it when they fall out of it.
+    fn ahead_from(&self, place: u64) -> u64
+        ensures { (n : ℕ) → n < result → is_before (stop_ahead self.now (place + n)) (place + n) ≡ true }
+    {
+        let Some(At::Start(start)) = self.shape.stop else {
+            return u64::MAX;
+        };
+        start.saturating_sub(place)
     }
 
     /// How many frames from this place on lie between the rise and the fall, as far as the line shows it when they fall out of
     /// it.
     fn flat_from(&self, place: u64) -> u64
-        ensures before { (n : ℕ) → n < result → is_before (stop_ahead self.now (place + n)) (place + n) ≡ true }
-        ensures whole { (n : ℕ) → n < result → (weights self.now (stop_ahead self.now (place + n)) (place + n)).0 ≡ (weights self.now (stop_ahead self.now (place + n)) (place + n)).1 }
+        ensures { (n : ℕ) → n < result → (weights self.now (stop_ahead self.now (place + n)) (place + n)).0 ≡ (weights self.now (stop_ahead self.now (place + n)) (place + n)).1 }
     {
-        if place < self.fade_in {
+        if place < self.shape.fade_in {
             return 0;
         }
-        let Some(At::Start(start)) = self.stop else {
+        let Some(At::Start(start)) = self.shape.stop else {
             return u64::MAX;
         };
-        start.saturating_sub(self.fade_out).saturating_sub(place)
+        start
+            .saturating_sub(self.shape.fade_out)
+            .saturating_sub(place)
+    }
+
+    /// Weighs the samples of the frame at this place, where the sound stops at another or does not stop, in their place.
+    #[inline(always)]
+    fn weigh(&self, samples: &mut [i32], stop: Option<u64>, place: u64)
+        requires fit { All (FitsSigned w32) samples.old }
+        ensures samples { map (weighted (weights self.now stop place)) samples.old ≡ map unclipped samples.new }
+        ensures fit { All (FitsSigned w32) samples.new }
+        ensures len { length samples.new ≡ length samples.old }
+    {
+        let Some(stop) = stop else {
+            self.rise.weigh(samples, place);
+            return;
+        };
+        let left = stop.saturating_sub(place);
+        let (over, under) = self.rise.at(place);
+        let (out_over, out_under) = self.fall.at(left);
+        if over == under {
+            self.fall.weigh(samples, left);
+        } else if out_over == out_under {
+            self.rise.weigh(samples, place);
+        } else {
+            let over = u128::from(over) * u128::from(out_over);
+            weigh_by(
+                samples,
+                over,
+                u128::from(under) * u128::from(out_under),
+                &None,
+            );
+        }
+    }
+
+    /// What is given of the frame at this place: nothing behind the stop.
+    #[inline(always)]
+    fn faded(&self, frame: Frame, stop: Option<u64>, place: u64) -> Option<Frame>
+        ensures value { map plain (option_to_list result) ≡ faded_here self.now stop place frame }
+        ensures fits { IsHand (length frame) result }
+    {
+        if !is_ahead(stop, place) {
+            return None;
+        }
+        let channels = frame.channels();
+        let mut samples = places(&frame);
+        self.weigh(&mut samples[..channels], stop, place);
+        Some(frame_of(channels, samples))
+    }
+
+    /// Weighs so many frames in their place, the first of which is that at this place, where they fall out of the line.
+    fn weigh_many(&self, samples: &mut [i32], channels: usize, count: usize, place: u64)
+        requires channels { 1 ≤ channels }
+        requires frames { length samples.old ≡ count * channels }
+        requires fit { All (FitsSigned w32) samples.old }
+        requires place { place + count ≤ 2 ^ 56 }
+        ensures frames { map plain (pieces channels count samples.new) ≡ faded_along self.now place (pieces channels count samples.old) }
+        ensures fit { All (FitsSigned w32) samples.new }
+        ensures len { length samples.new ≡ length samples.old }
+    {
+        if count as u64 <= self.flat_from(place) {
+            return;
+        }
+        let mut at = 0;
+        'frames: for turn in 0..count {
+            let here = place + turn as u64;
+            let stop = self.next_stop(here);
+            self.weigh(&mut samples[at..at + channels], stop, here);
+            at += channels;
+        }
     }
 }
 
@@ -169,17 +236,6 @@ fn meant_stop(stop: Option<At>) -> Option<At>
         return Some(At::End(0));
     }
     stop
-}
-
-/// The frames of the line that a stop needs.
-fn line_for(stop: Option<At>, fade_out: u64) -> u64
-    requires { line_by stop fade_out ≤ 2 ^ 28 }
-    ensures { result ≡ line_by stop fade_out }
-{
-    match stop {
-        Some(At::End(distance)) => distance + fade_out,
-        _ => 0,
-    }
 }
 
 /// How many of so many frames lie before the stop.
@@ -194,44 +250,32 @@ fn frames_until(stop: Option<u64>, frames: u64) -> u64
 
 /// Does a stage of this shape, with so many frames in its line and in hand, count so? Before the end it has given what is due,
 /// after the end those before its line and the stop, and it has a frame in hand unless its line is empty or lies behind the stop.
-fn is_count(shape: &Shape, taken: u64, given: u64, lined: u64, hands: u64, is_ended: bool) -> bool
-    requires line { fade_line shape.now ≤ 2 ^ 28 }
+fn is_count(fading: &Fading, taken: u64, given: u64, lined: u64, hands: u64, is_ended: bool) -> bool
+    requires line { fade_line fading.now ≤ 2 ^ 28 }
     requires lined { lined ≤ taken }
     requires given { given + hands ≤ taken }
-    ensures count { result ≡ true → IsFadeCount shape.now taken given lined hands is_ended }
-    ensures other { result ≡ false → IsFadeCount shape.now taken given lined hands is_ended → ⊥ }
+    ensures count { result ≡ true → IsFadeCount fading.now taken given lined hands is_ended }
+    ensures other { result ≡ false → IsFadeCount fading.now taken given lined hands is_ended → ⊥ }
 {
     if is_ended {
-        let stop = shape.stop(taken);
+        let stop = fading.stop(taken);
         let is_over = hands != 0 || lined == 0 || !is_ahead(stop, taken - lined);
         return is_over && given + hands == frames_until(stop, taken - lined);
     }
-    if lined != taken.min(line_for(shape.stop, shape.fade_out)) {
+    if lined != taken.min(fading.line()) {
         return false;
     }
-    given + hands == due_after(shape.stop, shape.fade_out, taken)
-}
-
-/// How many frames are given after so many, with no end.
-fn due_after(stop: Option<At>, fade_out: u64, taken: u64) -> u64
-    ensures { result ≡ due_by stop fade_out taken }
-{
-    match stop {
-        None => taken,
-        Some(At::Start(start)) => taken.min(start),
-        Some(At::End(distance)) => taken.saturating_sub(distance).saturating_sub(fade_out),
-    }
+    given + hands == fading.due(taken)
 }
 
 /// Takes the oldest frame out of the line, and tells what is given of it in a sound of so many frames that ends with those of
 /// the line; None where nothing more is given.
 #[inline(never)]
-fn next_faded(line: &mut Line, shape: &Shape, frames: u64) -> Option<Frame>
-    requires shape { IsShape shape.now }
+fn next_faded(line: &mut Line, fading: &Fading, frames: u64) -> Option<Frame>
     requires frames { length line.old.items ≤ frames }
-    ensures rest { fade_after shape.now frames line.old.items [] ≡ map plain (option_to_list result) ++ fade_after shape.now frames line.new.items [] }
-    ensures gone { until (stop_in frames shape.now.stop) (frames - length line.old.items) + length (option_to_list result) ≡ until (stop_in frames shape.now.stop) (frames - length line.new.items) }
-    ensures empty { result ≡ None → fade_after shape.now frames line.new.items [] ≡ [] }
+    ensures rest { fade_after fading.now frames line.old.items [] ≡ map plain (option_to_list result) ++ fade_after fading.now frames line.new.items [] }
+    ensures gone { until (stop_in frames fading.now.stop) (frames - length line.old.items) + length (option_to_list result) ≡ until (stop_in frames fading.now.stop) (frames - length line.new.items) }
+    ensures empty { result ≡ None → fade_after fading.now frames line.new.items [] ≡ [] }
     ensures fewer { length (option_to_list result) + length line.new.items ≤ length line.old.items }
     ensures hand { IsHand line.old.channels result }
     ensures line { IsLine w32 line.new }
@@ -239,13 +283,13 @@ fn next_faded(line: &mut Line, shape: &Shape, frames: u64) -> Option<Frame>
     ensures channels { line.new.channels ≡ line.old.channels }
 {
     let place = frames - line.len() as u64;
-    let stop = shape.stop(frames);
+    let stop = fading.stop(frames);
     let first = line.pop_front();
     let _held = line.len();
     let Some(oldest) = first else {
         return None;
     };
-    shape.faded(oldest, stop, place)
+    fading.faded(oldest, stop, place)
 }
 
 /// The stage of `fade`: the frames before the stop, or all of them, each sample times the weights of the rise and of the fall,
@@ -254,7 +298,7 @@ fn next_faded(line: &mut Line, shape: &Shape, frames: u64) -> Option<Frame>
 pub struct Fade {
     hand: Option<Frame>,
     channels: usize,
-    shape: Shape,
+    fading: Fading,
     line: Line,
     taken: u64,
     given: u64,
@@ -266,9 +310,9 @@ impl Model for Fade {
 
     ghost Value = { FadeState };
 
-    ghost view = { λ s. record { hand = s.hand; recipe = record { channels = s.channels; shape = s.shape }; line = s.line; taken = s.taken; given = s.given; ended = s.ended } };
+    ghost view = { λ s. record { hand = s.hand; recipe = record { channels = s.channels; shape = s.fading }; line = s.line; taken = s.taken; given = s.given; ended = s.ended } };
 
-    ghost invariant = { λ s. IsFade (record { hand = s.hand; recipe = record { channels = s.channels; shape = s.shape }; line = s.line; taken = s.taken; given = s.given; ended = s.ended }) };
+    ghost invariant = { λ s. IsFade (record { hand = s.hand; recipe = record { channels = s.channels; shape = s.fading }; line = s.line; taken = s.taken; given = s.given; ended = s.ended }) };
 }
 
 impl Fade {
@@ -288,15 +332,16 @@ impl Fade {
         ensures { IfOk result (IsNew fade_acts (record { channels = channels; shape = record { fade_in = fade_in; stop = meant stop; fade_out = fade_out } })) }
     {
         let stop = meant_stop(stop);
-        let line = Line::new(alloc, channels, line_for(stop, fade_out) as usize)?;
+        let fading = Fading::of(Shape {
+            fade_in,
+            stop,
+            fade_out,
+        });
+        let line = Line::new(alloc, channels, fading.line() as usize)?;
         Ok(Fade {
             hand: None,
             channels,
-            shape: Shape {
-                fade_in,
-                stop,
-                fade_out,
-            },
+            fading,
             line,
             taken: 0,
             given: 0,
@@ -330,15 +375,15 @@ impl Fade {
         if taken > 1 << 56 || given > taken || held > taken - given || hands > held {
             return Err(ThawFault::BadSnapshot);
         }
-        let shape = Shape {
+        let fading = Fading::of(Shape {
             fade_in,
             stop: meant_stop(stop),
             fade_out,
-        };
-        if !is_count(&shape, taken, given, held - hands, hands, ended == 1) {
+        });
+        if !is_count(&fading, taken, given, held - hands, hands, ended == 1) {
             return Err(ThawFault::BadSnapshot);
         }
-        let capacity = line_for(shape.stop, fade_out) as usize;
+        let capacity = fading.line() as usize;
         let (line, hand) = match thawed_line_and_hand(alloc, channels, capacity, frames, hands) {
             Ok(stored) => stored,
             Err(fault) => return Err(fault),
@@ -346,7 +391,7 @@ impl Fade {
         Ok(Fade {
             hand,
             channels,
-            shape,
+            fading,
             line,
             taken,
             given,
@@ -372,13 +417,13 @@ impl Stage for Fade {
         let Some(oldest) = fallen else {
             return;
         };
-        let stop = self.shape.next_stop(place);
-        self.hand = self.shape.faded(oldest, stop, place);
+        let stop = self.fading.next_stop(place);
+        self.hand = self.fading.faded(oldest, stop, place);
     }
 
     fn end(&mut self) {
         self.ended = true;
-        self.hand = next_faded(&mut self.line, &self.shape, self.taken);
+        self.hand = next_faded(&mut self.line, &self.fading, self.taken);
     }
 
     fn give(&mut self) -> Option<Frame> {
@@ -390,7 +435,7 @@ impl Stage for Fade {
             self.hand = None;
             return Some(frame);
         }
-        self.hand = next_faded(&mut self.line, &self.shape, self.taken);
+        self.hand = next_faded(&mut self.line, &self.fading, self.taken);
         Some(frame)
     }
 
@@ -403,7 +448,7 @@ impl Stage for Fade {
     }
 
     fn is_spent(&self) -> bool {
-        let Some(At::Start(enough)) = self.shape.stop else {
+        let Some(enough) = self.fading.enough() else {
             return false;
         };
         self.hand.is_none() && enough <= self.taken
@@ -452,7 +497,7 @@ impl Stage for Fade {
 }
 
 impl PassesMany for Fade {
-    /// Passes the frames that fall out of the line between the rise and the fall, which are given unchanged.
+    /// Passes the frames that fall out of the line before the stop.
     fn pass_many(&mut self, input: &[i32], output: &mut [i32]) -> Passed {
         let channels = self.channels;
         if self.hand.is_some() || self.ended || output.len() < channels {
@@ -460,14 +505,16 @@ impl PassesMany for Fade {
         }
         let lined = self.line.len();
         let room = self.line.capacity() - lined;
-        let flat = self.shape.flat_from(self.taken - lined as u64);
-        let ahead = flat.saturating_add(room as u64);
+        let place = self.taken - lined as u64;
+        let ahead = self.fading.ahead_from(place).saturating_add(room as u64);
         let most = (input.len() / channels).min(output.len() / channels + room);
         let count = ahead.min(most as u64) as usize;
         let fallen = count.saturating_sub(room);
         let frames = &input[..count * channels];
         self.line.oldest_into(frames, fallen, output);
         self.line.push_frames(frames, count);
+        let given = &mut output[..fallen * channels];
+        self.fading.weigh_many(given, channels, fallen, place);
         let _held = self.line.len();
         self.taken += count as u64;
         self.given += fallen as u64;
@@ -484,7 +531,7 @@ impl Feeds for Fade {
     }
 
     fn ahead(&self) -> u64 {
-        let Some(At::Start(enough)) = self.shape.stop else {
+        let Some(enough) = self.fading.enough() else {
             return u64::MAX;
         };
         enough.saturating_sub(self.taken)

@@ -6,6 +6,7 @@ pub mod factor;
 pub mod fade;
 mod many;
 pub mod pad;
+mod slopes;
 pub mod trim;
 pub mod upsample;
 

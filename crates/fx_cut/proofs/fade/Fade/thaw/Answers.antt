@@ -4,9 +4,11 @@ use Rattle.fx_cut.proofs.fade.Fade.thaw.Goals as goal
 
 pub returns-then-not-is_count-clause-thawed : goal.returns-then-not-is_count-clause-thawed
 returns-then-not-is_count-clause-thawed c = λ s is recipe frozen.
-    let other = rw c.meant_stop.ensures at (c.if-not-is_count.ensures.other refl) in
+    let other = rw (c.of-fading.ensures, c.meant_stop.ensures) at (c.if-not-is_count.ensures.other refl) in
     absurd (other (frozen-count s _ c.args.numbers.now is (ap (λ r. r.shape) recipe) frozen.counted))
 
 pub invariant_of-result : goal.invariant_of-result
 invariant_of-result c =
-    IsFade-thawed c.args.channels _ _ _ _ _ _ _ c.args.frames.now _ _ c.in-Ok.ensures.found c.line_for-capacity.ensures (record { short_in = c.requires.fades.0; short_out = c.requires.fades.1 }) c.if-taken.false c.if-given-taken.false c.if-held-taken.false c.if-held-frames.false (c.if-not-is_count.ensures.count refl)
+    let line = rw c.of-fading.ensures at c.line-capacity.ensures in
+    let count = rw c.of-fading.ensures at (c.if-not-is_count.ensures.count refl) in
+    rw c.of-fading.ensures (IsFade-thawed c.args.channels _ _ _ _ _ _ _ c.args.frames.now _ _ c.in-Ok.ensures.found line (record { short_in = c.requires.fades.0; short_out = c.requires.fades.1 }) c.if-taken.false c.if-given-taken.false c.if-held-taken.false c.if-held-frames.false count)

@@ -1,10 +1,10 @@
 -- The frames that fall out up to the next position are kept, or left out, all of them.
-use Rattle.std.proofs.Common.{ℕ, ℤ, ◌≡◌, ◌≤◌, ◌*◌, ◌+◌, ◌-◌, length, take, List, sym, ◌∙◌, ap, arith}
+use Rattle.std.proofs.Common.{ℕ, ◌≡◌, ◌≤◌, ◌*◌, ◌-◌, length, take, sym, arith}
 use Rattle.std.proofs.lemmas.List.{length-take-le}
 use Rattle.fx_frame.specs.Feed.{nothing}
 use Rattle.fx_cut.specs.Trim.{TrimState}
 use Rattle.fx_cut.proofs.Hands.{not-some}
-use Rattle.fx_cut.proofs.Onto.{IsPiece, piece-fits}
+use Rattle.fx_cut.proofs.Onto.{piece-fits}
 use Rattle.fx_cut.proofs.TrimMany.{Alike, piece-passed}
 use Rattle.fx_cut.proofs.trim.TrimPassesMany.pass_many.Goals as goal
 

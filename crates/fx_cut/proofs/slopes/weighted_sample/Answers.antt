@@ -2,11 +2,11 @@ use Rattle.std.proofs.Common.{◌≡◌, ◌≤◌, ◌^◌, ◌*ℤ◌, pos, �
 use Rattle.std.specs.Prelude.{FitsSigned, unsigned_abs}
 use Rattle.std.specs.Int.{w128}
 use Rattle.std.proofs.lemmas.Int.{to_z-of_z, fits_signed_mul, ints}
-use Rattle.fx_cut.proofs.Weighing.{is-unclipped}
-use Rattle.fx_cut.proofs.fade.weighted_sample.Goals as goal
+use Rattle.fx_cut.proofs.Weighing.{is-unclipped, small-product}
+use Rattle.fx_cut.proofs.slopes.weighted_sample.Goals as goal
 
-pub returns : goal.returns
-returns c =
+pub returns-in_default : goal.returns-in_default
+returns-in_default c =
     let f : to_z w32 (of_z w32 c.args.sample) ≡ c.args.sample = to_z-of_z w32 c.args.sample c.ranges.sample in
     let r : c.from.result ≡ c.args.sample = c.from.ensures ∙ f in
     let wide : to_z w128 (of_z w128 c.from.result) ≡ c.from.result = search rules in
@@ -18,3 +18,21 @@ returns c =
     let k = rw (wide, r, o, u, to_z-of_z w128 (c.args.sample *ℤ pos c.args.over) fits) at c.round_clip-rounded.ensures in
     let same : to_z w32 (of_z w32 c.round_clip-rounded.result.0) ≡ c.round_clip-rounded.result.0 = search rules in
     rw same (is-unclipped (c.args.over, c.args.under) c.args.sample c.round_clip-rounded.result.0 c.round_clip-rounded.result.1 k c.requires.weight.1 c.requires.weight.0 c.ranges.sample)
+
+pub round-rounded-requires : goal.round-rounded-requires
+round-rounded-requires c =
+    let prepared = rw c.in-Some.is at c.requires.prepared in
+    let same : c.from-2.result ≡ c.args.sample = c.from-2.ensures ∙ to_z-of_z w32 c.args.sample c.ranges.sample in
+    let least = c.requires.weight.0 in
+    let product = small-product c.args.sample c.from-2.result c.args.over same c.ranges.sample (omega (arith, prepared.1)) in
+    rw product.0 product.1
+
+pub returns : goal.returns
+returns c =
+    let prepared = rw c.in-Some.is at c.requires.prepared in
+    let same : c.from-2.result ≡ c.args.sample = c.from-2.ensures ∙ to_z-of_z w32 c.args.sample c.ranges.sample in
+    let least = c.requires.weight.0 in
+    let product = small-product c.args.sample c.from-2.result c.args.over same c.ranges.sample (omega (arith, prepared.1)) in
+    let k = rw (product.0, prepared.0) at c.round-rounded.ensures in
+    let out : to_z w32 (of_z w32 c.round-rounded.result.0) ≡ c.round-rounded.result.0 = search rules in
+    rw out (is-unclipped (c.args.over, c.args.under) c.args.sample c.round-rounded.result.0 c.round-rounded.result.1 k c.requires.weight.1 c.requires.weight.0 c.ranges.sample)
