@@ -1,20 +1,39 @@
 -- Many frames that come to a ring, and those that fall out of it.
-use Rattle.std.proofs.Common.{◌≡◌, ◌+◌, ◌*◌, ◌-◌, ◌≤◌, ℕ, zero, suc, min, inl, inr, List, ◌∷◌, ◌++◌, length, take, drop, refl, sym, ap, ◌∙◌, arith, length-append, length-drop, append_assoc, append-nil}
+use Rattle.std.proofs.Common.{◌≡◌, ◌+◌, ◌*◌, ◌-◌, ◌≤◌, ℕ, zero, suc, min, inl, inr, ◌⊎◌, ◌<◌, List, ◌∷◌, ◌++◌, length, take, drop, replicate, refl, sym, ap, ◌∙◌, arith, length-append, length-drop, append_assoc, append-nil}
 use Rattle.std.specs.List.{All}
 use Rattle.std.specs.Int.{Width}
 use Rattle.std.specs.Prelude.{ℤ, FitsSigned}
 use Rattle.std.proofs.lemmas.Bool.{cases_lt}
-use Rattle.std.proofs.lemmas.List.{drop-drop, drop_at, length-take-le, take-append-le, take_all, take_at}
+use Rattle.std.proofs.lemmas.List.{drop-drop, drop-replicate, drop-take, drop_at, length-replicate, length-take-le, take-append-le, take-replicate, take_all, take_at}
 use Rattle.std.proofs.lemmas.List.Elements.{All-append, All-cons, All-drop, All-nil, All-take}
 use Rattle.std.proofs.Math.Nat.{add-mul, mul-le-mul_right, suc-mul}
 use Rattle.std.proofs.Math.Seq.{take-append-add}
 use Rattle.circular_buffer.specs.Buffer.{Buffer, buffer, keep_last}
-use Rattle.fx_frame.specs.Line.{Frames, IsSamples, pushed_all}
+use Rattle.fx_frame.specs.Line.{Frames, IsSamples, latest_frames, pushed_all}
 use Rattle.fx_frame.specs.Ring.{IsRing, pieces}
 use Rattle.fx_frame.proofs.FeedParts.{pieces-split}
 use Rattle.fx_frame.proofs.Feeding.{pieces-take}
 use Rattle.fx_frame.proofs.Pieces.{frames_of, length-pieces, pieces-front, ring-len}
 use borrow.Rule.Slice.PartMut.{put_mid}
+
+-- the same so many times, and others behind it
+pub replicate-front : {Y : Type 0} (s : Y) (quiet n : ℕ) (ys : List Y) (first : ℕ) → first ≡ min quiet n → take n (replicate quiet s ++ ys) ≡ replicate first s ++ take (n - first) ys
+replicate-front {Y} s quiet n ys first e = go (cases_lt quiet n)
+  where
+    go : (quiet < n) ⊎ (n ≤ quiet) → take n (replicate quiet s ++ ys) ≡ replicate first s ++ take (n - first) ys
+    go (inl l) =
+        let all : first ≡ quiet = omega arith in
+        let more : n ≡ length (replicate quiet s) + (n - quiet) = omega (arith, length-replicate quiet s) in
+        rw all (ap (λ m. take m (replicate quiet s ++ ys)) more ∙ take-append-add (replicate quiet s) ys (n - quiet))
+    go (inr g) =
+        let all : first ≡ n = omega arith in
+        let none : n - n ≡ 0 = omega arith in
+        rw (all, none, append-nil) (take-append-le n (replicate quiet s) ys (omega (arith, length-replicate quiet s)) ∙ take-replicate n quiet s g)
+
+-- of a rest that begins elsewhere nothing is taken
+take-same : {Y : Type 0} (n i j : ℕ) (ys : List Y) → (0 < n → i ≡ j) → take n (drop i ys) ≡ take n (drop j ys)
+take-same zero i j ys h = refl
+take-same (suc n) i j ys h = ap (λ m. take (suc n) (drop m ys)) (h (omega arith))
 
 module _ {X : Type 0} where
   -- the first of the pieces
@@ -27,6 +46,24 @@ module _ {X : Type 0} where
   pub pieces-joined : (size n m : ℕ) (xs ys : List X) → length xs ≡ n * size → pieces size (n + m) (xs ++ ys) ≡ pieces size n xs ++ pieces size m ys
   pieces-joined size n m xs ys e =
       pieces-split size n m (xs ++ ys) ∙ ap (λ ps. ps ++ pieces size m (drop (n * size) (xs ++ ys))) (pieces-front size n xs ys e) ∙ ap (λ zs. pieces size n xs ++ pieces size m zs) (drop_at xs ys (n * size) e)
+
+  -- the pieces of one sample everywhere
+  pub pieces-replicate : (size n : ℕ) (x : X) → pieces size n (replicate (n * size) x) ≡ replicate n (replicate size x)
+  pieces-replicate size zero x = refl
+  pieces-replicate size (suc n) x =
+      let e : suc n * size ≡ n * size + size = suc-mul n size in
+      let first : take size (replicate (n * size + size) x) ≡ replicate size x = take-replicate size (n * size + size) x (omega arith) in
+      let left : n * size + size - size ≡ n * size = omega arith in
+      let rest : drop size (replicate (n * size + size) x) ≡ replicate (n * size) x = drop-replicate size (n * size + size) x ∙ ap (λ m. replicate m x) left in
+      rw (e, first, rest) (ap (λ l. replicate size x ∷ l) (pieces-replicate size n x))
+
+  -- so many frames more are written
+  pub pieces-put_many : (size n m at : ℕ) (out fs new : List X) → at ≡ n * size → length fs ≡ m * size → at + m * size ≤ length out → new ≡ take at out ++ fs ++ drop (at + length fs) out → pieces size (n + m) new ≡ pieces size n out ++ pieces size m fs
+  pieces-put_many size n m at out fs new e l h w =
+      let cut : length (take at out) ≡ n * size = length-take-le at out (omega arith) ∙ e in
+      let two : length (take at out ++ fs) ≡ (n + m) * size = omega (arith, length-append (take at out) fs, add-mul n m size) in
+      let kept : pieces size n (take at out) ≡ pieces size n out = ap (λ i. pieces size n (take i out)) e ∙ pieces-take size n out (omega arith) in
+      rw w (pieces-front size (n + m) (take at out ++ fs) (drop (at + length fs) out) two ∙ pieces-joined size n m (take at out) fs cut ∙ ap (λ ps. ps ++ pieces size m fs) kept)
 
   -- the pieces behind the first so many
   pieces-past : (size k m : ℕ) (xs : List X) → pieces size m (drop (k * size) xs) ≡ drop k (pieces size (k + m) xs)
@@ -149,6 +186,45 @@ module _ {X : Type 0} where
         ∙ pieces-take channels count (samples.items ++ coming) within
         ∙ sym (pieces-first channels count (len + n) (samples.items ++ coming) (omega arith))
         ∙ ap (take count) (pieces-joined channels len n samples.items coming r.filled))
+
+    -- where frames stand that come so many places before the next one, silent ones first
+    pub record IsBefore (count quiet first : ℕ) : Type 0 where
+      pub few : quiet ≤ count
+      pub whole : quiet * channels + (count - quiet) * channels ≡ count * channels
+      pub inside : first + (count - quiet) ≤ len
+      pub room : first * channels + (count - quiet) * channels ≤ length samples.items
+
+    pub ring-places_before : (late count quiet first : ℕ) → count ≤ late → quiet ≡ min (late - len) count → first ≡ len + quiet - late → IsBefore count quiet first
+    ring-places_before late count quiet first h e-quiet e-first =
+        let few : quiet ≤ count = omega arith in
+        let inside : first + (count - quiet) ≤ len = omega arith in
+        let both : quiet + (count - quiet) ≡ count = omega arith in
+        record {
+          few = few;
+          whole = sym (add-mul quiet (count - quiet) channels) ∙ ap (λ n. n * channels) both;
+          inside = inside;
+          room = omega (arith, mul-le-mul_right channels inside, add-mul first (count - quiet) channels, r.filled);
+        }
+
+    -- silence, and the frames that stand so many places before the next one
+    pub ring-before : (s : X) (late count quiet first : ℕ) (silent own : List X) → count ≤ late → quiet ≡ min (late - len) count → first ≡ len + quiet - late
+        → silent ≡ replicate (quiet * channels) s → own ≡ take ((count - quiet) * channels) (drop (first * channels) samples.items)
+        → pieces l.channels count (silent ++ own) ≡ take count (latest_frames s late l)
+    ring-before s late count quiet first silent own h e-quiet e-first e-silent e-own =
+        let at = ring-places_before late count quiet first h e-quiet e-first in
+        let frames : List (List X) = pieces channels len samples.items in
+        let both : count ≡ quiet + (count - quiet) = omega arith in
+        let long : length silent ≡ quiet * channels = ap length e-silent ∙ length-replicate (quiet * channels) s in
+        let many : length (pieces channels len samples.items) ≡ len = length-pieces channels len samples.items in
+        let left : (count - quiet) * channels ≤ length (drop (first * channels) samples.items) = omega (arith, length-drop (first * channels) samples.items, at.room) in
+        let front : pieces channels quiet silent ≡ replicate quiet (replicate channels s) = ap (pieces channels quiet) e-silent ∙ pieces-replicate channels quiet s in
+        let back : pieces channels (count - quiet) own ≡ take (count - quiet) (drop first frames) =
+        ap (pieces channels (count - quiet)) e-own ∙ pieces-take channels (count - quiet) (drop (first * channels) samples.items) left ∙ pieces-past channels first (count - quiet) samples.items
+        ∙ ap (drop first) (sym (pieces-first channels (first + (count - quiet)) len samples.items at.inside)) ∙ drop-take first (count - quiet) frames in
+        let same : take (count - quiet) (drop first frames) ≡ take (count - quiet) (drop (len - late) frames) = take-same (count - quiet) first (len - late) frames (λ some. omega arith) in
+        rw (← is-l, many) (ap (λ n. pieces channels n (silent ++ own)) both ∙ pieces-joined channels quiet (count - quiet) silent own long
+        ∙ ap (λ ps. ps ++ pieces channels (count - quiet) own) front ∙ ap (λ ps. replicate quiet (replicate channels s) ++ ps) (back ∙ same)
+        ∙ sym (replicate-front (replicate channels s) (late - len) count (drop (len - late) frames) quiet e-quiet))
 
 -- samples that fit, in frames of a line
 pub frames-samples : (w : Width) (channels n : ℕ) (xs : List ℤ) → length xs ≡ n * channels → All (FitsSigned w) xs → All (IsSamples w channels) (pieces channels n xs)

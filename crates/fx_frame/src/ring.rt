@@ -1,7 +1,7 @@
 //! One ring of samples for whole frames, each of as many samples as there are channels.
-ghost use Rattle.std.specs.Prelude.{◌≡◌, ◌<◌, ◌≤◌, ◌^◌, ◌++◌, ◌+◌, ◌*◌, ◌∷◌, [], ℕ, length, take, drop, EachIndex, slice_get, slice_index_or, IfOk, Some};
+ghost use Rattle.std.specs.Prelude.{◌≡◌, ◌<◌, ◌≤◌, ◌^◌, ◌++◌, ◌+◌, ◌*◌, ◌∷◌, [], ℕ, length, take, drop, replicate, EachIndex, slice_get, slice_index_or, IfOk, Some};
 ghost use Rattle.std.specs.Option.{option_map};
-ghost use Rattle.fx_frame.specs.Line.{empty, pushed, pushed_all, pushed_out, channel_of};
+ghost use Rattle.fx_frame.specs.Line.{empty, pushed, pushed_all, pushed_out, latest_frames, channel_of};
 ghost use Rattle.fx_frame.specs.Ring.{IsShaped, pieces};
 
 use circular_buffer::HeapCircularBuffer;
@@ -140,6 +140,21 @@ impl<T: Copy> Ring<T> {
         out[own..end].copy_from_slice(&coming[..end - own]);
     }
 
+    /// Copies the samples of so many frames, of which the first stands `late` places before the next one to come; each is
+    /// `silence` where the ring does not reach back so far.
+    pub(crate) fn before_into(&self, late: usize, count: usize, silence: T, out: &mut [T])
+        requires late { count ≤ late }
+        requires len { length out.old ≡ count * self.now.channels }
+        ensures { pieces self.now.channels count out.new ≡ take count (latest_frames silence late self.now) }
+    {
+        let quiet = late.saturating_sub(self.len).min(count);
+        let first = (self.len + quiet).saturating_sub(late);
+        let (silent, own) = out.split_at_mut(quiet * self.channels);
+        fill(silent, silence);
+        let (front, back) = self.samples.as_slices();
+        copy_part(front, back, first * self.channels, own);
+    }
+
     /// Takes the oldest frame away, if there is one.
     pub(crate) fn drop_front(&mut self)
         ensures items { self.new.items ≡ drop 1 self.old.items }
@@ -185,6 +200,16 @@ impl<T: Copy> Ring<T> {
             2 => copy_channel(front, back, channel, 2, out),
             channels => copy_channel(front, back, channel, channels, out),
         }
+    }
+}
+
+/// Writes the same sample to each place.
+#[inline(always)]
+fn fill<T: Copy>(out: &mut [T], sample: T)
+    ensures { out.new ≡ replicate (length out.old) sample }
+{
+    for place in out.iter_mut() {
+        *place = sample;
     }
 }
 

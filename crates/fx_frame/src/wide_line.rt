@@ -1,6 +1,8 @@
-ghost use Rattle.std.specs.Prelude.{◌≡◌, ◌<◌, ◌≤◌, ◌^◌, [], ◌∷◌, ℕ, length, drop, slice_get, IfOk, nat_lt, None, Some, if◌then◌else◌};
+ghost use Rattle.std.specs.Prelude.{◌≡◌, ◌<◌, ◌≤◌, ◌*◌, ◌^◌, [], ◌∷◌, ℕ, pos, length, drop, take, slice_get, IfOk, nat_lt, None, Some, FitsSigned, if◌then◌else◌};
 ghost use Rattle.std.specs.Int.{w64};
-ghost use Rattle.fx_frame.specs.Line.{empty, pushed, pushed_out, from_newest, IsLine};
+ghost use Rattle.std.specs.List.{All};
+ghost use Rattle.fx_frame.specs.Line.{empty, pushed, pushed_all, pushed_out, from_newest, latest_frames, IsLine};
+ghost use Rattle.fx_frame.specs.Ring.{pieces};
 
 use crate::frame::MOST_CHANNELS;
 use crate::inner;
@@ -72,6 +74,27 @@ impl WideLine {
         let oldest = self.front_where_full();
         self.ring.push(frame.samples());
         oldest
+    }
+
+    /// Adds so many frames of the line's channels, whose samples lie one after another. The oldest go where there is no room.
+    pub fn push_frames(&mut self, frames: &[i64], count: usize)
+        requires len { length frames.now ≡ count * self.old.channels }
+        requires fits { All (FitsSigned w64) frames.now }
+        ensures items { self.new.items ≡ pushed_all self.old (pieces self.old.channels count frames.now) }
+        ensures capacity { self.new.capacity ≡ self.old.capacity }
+        ensures channels { self.new.channels ≡ self.old.channels }
+    {
+        self.ring.push_frames(frames, count);
+    }
+
+    /// Copies the samples of so many frames, of which the first stands `late` places before the next one to come; there is
+    /// silence where the line does not reach back so far.
+    pub fn before_into(&self, late: usize, count: usize, out: &mut [i64])
+        requires late { count ≤ late }
+        requires len { length out.old ≡ count * self.now.channels }
+        ensures { pieces self.now.channels count out.new ≡ take count (latest_frames (pos 0) late self.now) }
+    {
+        self.ring.before_into(late, count, 0, out);
     }
 
     /// The oldest frame, where there is no room for one more.

@@ -32,6 +32,13 @@ quiet-sample zero k = refl
 quiet-sample (suc channels) zero = refl
 quiet-sample (suc channels) (suc k) = quiet-sample channels k
 
+-- a part of silence
+pub quiet-part : (m n k : ℕ) → get_or (take m (replicate n (pos 0))) k (pos 0) ≡ pos 0
+quiet-part zero n k = refl
+quiet-part (suc m) zero k = refl
+quiet-part (suc m) (suc n) zero = refl
+quiet-part (suc m) (suc n) (suc k) = quiet-part m n k
+
 quiet-frame : (count channels i k : ℕ) → get_or (get_or (replicate count (silence channels)) i []) k (pos 0) ≡ pos 0
 quiet-frame zero channels i k = refl
 quiet-frame (suc count) channels zero k = quiet-sample channels k

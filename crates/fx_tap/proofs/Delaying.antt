@@ -1,20 +1,19 @@
 -- Frames that all channels delay by as many frames as the line has places.
-use Rattle.std.proofs.Common.{◌≡◌, ◌+◌, ◌-◌, ◌*◌, ◌<◌, ◌≤◌, ℕ, ℤ, zero, suc, min, inl, inr, ◌⊎◌, List, [], ◌∷◌, ◌++◌, length, take, drop, get_or, map, pos, refl, sym, ap, ◌∙◌, arith, add-zero, zero-add, append-nil, length-append, length-drop, replicate}
+use Rattle.std.proofs.Common.{◌≡◌, ◌+◌, ◌-◌, ◌*◌, ◌<◌, ◌≤◌, ℕ, ℤ, zero, suc, min, inl, inr, ◌⊎◌, List, [], ◌∷◌, ◌++◌, length, take, drop, get_or, map, pos, refl, sym, ap, ◌∙◌, arith, zero-add, append-nil, length-append, length-drop, replicate}
 use Rattle.std.specs.Prelude.{nat_le, slice_index, true, false}
 use Rattle.std.specs.Int.{w32}
 use Rattle.std.specs.List.{All}
 use Rattle.std.proofs.lemmas.Bool.{cases_lt, le-leb, lt-leb}
-use Rattle.std.proofs.lemmas.List.{drop-drop, drop-replicate, drop_all, drop_at, drop_more, get_or-append_right, get_or_append_left, get_or-replicate, length-replicate, take-append-le, take-replicate, take_all, take_at}
+use Rattle.std.proofs.lemmas.List.{drop-drop, drop_all, drop_at, drop_more, get_or-append_right, get_or_append_left, get_or-replicate, length-replicate, take_all, take_at}
 use Rattle.std.proofs.lemmas.List.Elements.{All-append}
-use Rattle.std.proofs.Math.Nat.{add-mul, suc-mul}
-use Rattle.std.proofs.Math.Seq.{take-append-add}
+use Rattle.std.proofs.Math.Nat.{add-mul}
 use Rattle.fx_frame.specs.Frame.{Samples, silence}
 use Rattle.fx_frame.specs.Holds.{total}
 use Rattle.fx_frame.specs.Line.{Frames, IsLine, pushed_all}
 use Rattle.fx_frame.specs.Ring.{pieces}
 use Rattle.fx_frame.specs.Stage.{Given}
 use Rattle.fx_frame.proofs.Feeding.{pieces-take}
-use Rattle.fx_frame.proofs.ManyFrames.{pieces-joined}
+use Rattle.fx_frame.proofs.ManyFrames.{pieces-joined, pieces-replicate, replicate-front}
 use Rattle.fx_frame.proofs.Pieces.{length-pieces}
 use Rattle.fx_tap.specs.Delay.{delay_taps, delayed_frame}
 use Rattle.fx_tap.specs.Lists.{plain, tabulate}
@@ -35,29 +34,6 @@ put-from a xs ys =
     let none : drop (length xs - a) (drop a xs) ≡ [] = drop_all (length xs - a) (drop a xs) (omega (arith, length-drop a xs)) in
     rw none (ap (λ l. take a xs ++ l) (append-nil ys))
 
-silent-pieces : (size n : ℕ) → pieces size n (replicate (n * size) (pos 0)) ≡ replicate n (silence size)
-silent-pieces size zero = refl
-silent-pieces size (suc n) =
-    let e : suc n * size ≡ n * size + size = suc-mul n size in
-    let first : take size (replicate (n * size + size) (pos 0)) ≡ silence size = take-replicate size (n * size + size) (pos 0) (omega arith) in
-    let left : n * size + size - size ≡ n * size = omega arith in
-    let rest : drop size (replicate (n * size + size) (pos 0)) ≡ replicate (n * size) (pos 0) = drop-replicate size (n * size + size) (pos 0) ∙ ap (λ m. replicate m (pos 0)) left in
-    rw (e, first, rest) (ap (λ l. silence size ∷ l) (silent-pieces size n))
-
--- silence, and frames behind it
-silent-front : (s : Samples) (quiet n : ℕ) (ys : List Samples) (first : ℕ) → first ≡ min quiet n → take n (replicate quiet s ++ ys) ≡ replicate first s ++ take (n - first) ys
-silent-front s quiet n ys first e = go (cases_lt quiet n)
-  where
-    go : (quiet < n) ⊎ (n ≤ quiet) → take n (replicate quiet s ++ ys) ≡ replicate first s ++ take (n - first) ys
-    go (inl l) =
-        let all : first ≡ quiet = omega arith in
-        let more : n ≡ length (replicate quiet s) + (n - quiet) = omega (arith, length-replicate quiet s) in
-        rw all (ap (λ m. take m (replicate quiet s ++ ys)) more ∙ take-append-add (replicate quiet s) ys (n - quiet))
-    go (inr g) =
-        let all : first ≡ n = omega arith in
-        let none : n - n ≡ 0 = omega arith in
-        rw (all, none, append-nil) (take-append-le n (replicate quiet s) ys (omega (arith, length-replicate quiet s)) ∙ take-replicate n quiet s g)
-
 module _ (ch quiet count : ℕ) (old mid behind : List ℤ) (few : quiet ≤ count) (is : mid ≡ replicate (quiet * ch) (pos 0) ++ drop (quiet * ch) old) where
   whole : put_mid (quiet * ch) (length mid - quiet * ch) mid behind ≡ replicate (quiet * ch) (pos 0) ++ behind
   whole = put-from (quiet * ch) mid behind ∙ ap (λ l. l ++ behind) (ap (take (quiet * ch)) is ∙ take_at (replicate (quiet * ch) (pos 0)) (drop (quiet * ch) old) (quiet * ch) (length-replicate (quiet * ch) (pos 0)))
@@ -70,9 +46,9 @@ module _ (ch quiet count : ℕ) (old mid behind : List ℤ) (few : quiet ≤ cou
       ap (pieces ch count) whole
       ∙ ap (λ n. pieces ch n (replicate (quiet * ch) (pos 0) ++ behind)) both
       ∙ pieces-joined ch quiet (count - quiet) (replicate (quiet * ch) (pos 0)) behind front
-      ∙ ap (λ l. l ++ pieces ch (count - quiet) behind) (silent-pieces ch quiet)
+      ∙ ap (λ l. l ++ pieces ch (count - quiet) behind) (pieces-replicate ch quiet (pos 0))
       ∙ ap (λ l. replicate quiet (silence ch) ++ l) made
-      ∙ sym (silent-front (silence ch) places count ys quiet e)
+      ∙ sym (replicate-front (silence ch) places count ys quiet e)
 
   -- and the output behind them stays
   pub even-behind : drop ((count - quiet) * ch) behind ≡ drop ((count - quiet) * ch) (take (length mid - quiet * ch) (drop (quiet * ch) mid)) → drop (count * ch) (put_mid (quiet * ch) (length mid - quiet * ch) mid behind) ≡ drop (count * ch) old

@@ -45,6 +45,20 @@ pub added-more : (old sums : List ℤ) (p : ℕ → ℤ) (i : ℕ) (y : ℤ) →
     → ((k : ℕ) → k < i → get_or sums k (pos 0) ≡ get_or old k (pos 0) +ℤ p k) → (k : ℕ) → k < i + 1 → get_or (set sums i y) k (pos 0) ≡ get_or old k (pos 0) +ℤ p k
 added-more old sums p i y h e done k l = added-at old sums p i k y (nat_eq k i) refl h e done l
 
+-- and no sum grew by more than so much
+few-at : (old sums : List ℤ) (i m k : ℕ) (y : ℤ) (b : Bool) → nat_eq k i ≡ b → i < length sums → unsigned_abs y ≤ unsigned_abs (get_or old i (pos 0)) + m
+    → ((k : ℕ) → unsigned_abs (get_or sums k (pos 0)) ≤ unsigned_abs (get_or old k (pos 0)) + m) → unsigned_abs (get_or (set sums i y) k (pos 0)) ≤ unsigned_abs (get_or old k (pos 0)) + m
+few-at old sums i m k y true t h e few =
+    let same : k ≡ i = grind (arith, nat_tests) in
+    rw (get_or-set_at sums i k y (pos 0) same, same) e
+few-at old sums i m k y false t h e few =
+    let other : (k ≡ i → ⊥) = grind (arith, nat_tests) in
+    rw (get_or-set_other sums i k y (pos 0) other) (few k)
+
+pub few-at-more : (old sums : List ℤ) (i m : ℕ) (y : ℤ) → i < length sums → unsigned_abs y ≤ unsigned_abs (get_or old i (pos 0)) + m
+    → ((k : ℕ) → unsigned_abs (get_or sums k (pos 0)) ≤ unsigned_abs (get_or old k (pos 0)) + m) → (k : ℕ) → unsigned_abs (get_or (set sums i y) k (pos 0)) ≤ unsigned_abs (get_or old k (pos 0)) + m
+few-at-more old sums i m y h e few k = few-at old sums i m k y (nat_eq k i) refl h e few
+
 -- and the sums stay small
 few-by : (sum next g x : ℤ) (channels k : ℕ) (b : Bool) → nat_lt k channels ≡ b → unsigned_abs g ≤ UNIT → unsigned_abs x ≤ 2 ^ 31 → (k < channels → next ≡ sum +ℤ (g *ℤ x)) → (channels ≤ k → next ≡ sum)
     → unsigned_abs next ≤ unsigned_abs sum + UNIT * 2 ^ 31

@@ -31,13 +31,17 @@ two-samples (x ∷ []) h = absurd (omega arith)
 two-samples (x ∷ y ∷ []) h = refl
 two-samples (x ∷ y ∷ z ∷ xs) h = absurd (omega arith)
 
--- one more frame behind the last ones
+-- more frames behind the last ones
+pub last-joined : (c : ℕ) (items xs ys : List Samples) → last_of c (last_of c (items ++ xs) ++ ys) ≡ last_of c (items ++ (xs ++ ys))
+last-joined c items xs ys = keep-twice c (items ++ xs) ys ∙ ap (last_of c) (append_assoc items xs ys)
+
+-- one more
 pub last-more : (c : ℕ) (items xs : List Samples) (x : Samples) → last_of c (last_of c (items ++ xs) ++ x ∷ []) ≡ last_of c (items ++ (xs ++ x ∷ []))
-last-more c items xs x = keep-twice c (items ++ xs) (x ∷ []) ∙ ap (last_of c) (append_assoc items xs (x ∷ []))
+last-more c items xs x = last-joined c items xs (x ∷ [])
 
 -- the first of more frames goes through the line
 last-first : (c : ℕ) (items xs : List Samples) (x : Samples) → last_of c (last_of c (items ++ x ∷ []) ++ xs) ≡ last_of c (items ++ x ∷ xs)
-last-first c items xs x = keep-twice c (items ++ x ∷ []) xs ∙ ap (last_of c) (append_assoc items (x ∷ []) xs)
+last-first c items xs x = last-joined c items (x ∷ []) xs
 
 -- no more than those there are
 pub length-last : (c : ℕ) (xs : List Samples) → length (last_of c xs) ≡ min (length xs) c
@@ -74,30 +78,34 @@ IsTapState-block taps s line n clips xs is none running few many lined items cap
     }
 
 module _ {M : Type 0} (taps : Taps M) (near : IsNear taps) where
-  -- what is given for the frames so far, and for one more
-  pub behind-more : (m : M) (c : ℕ) (xs items : List Samples) (x : Samples) → length items ≤ c → taps.reach m ≤ c
-      → behind taps m items (xs ++ x ∷ []) ≡ behind taps m items xs ++ taps.made m (sample_before (last_of c (items ++ xs) ++ x ∷ []) (length (last_of c (items ++ xs)))) ∷ []
-  behind-more m c [] items x held long = rw (last-whole c items held) (behind-step taps near m items [] x c held long)
-  behind-more m c (y ∷ ys) items x held long =
-      let next : List Samples = last_of c (items ++ y ∷ []) in
-      let room : length next ≤ c = let n = length-last c (items ++ y ∷ []) in omega arith in
-      let more = behind-more m c ys next x room long in
-      let same : last_of c (next ++ ys) ≡ last_of c (items ++ y ∷ ys) = last-first c items ys y in
-      behind-step taps near m items (ys ++ x ∷ []) y c held long
-      ∙ ap (λ gs. taps.made m (sample_before (items ++ y ∷ []) (length items)) ∷ gs) (rw same at more)
-      ∙ ap (λ gs. gs ++ taps.made m (sample_before (last_of c (items ++ y ∷ ys) ++ x ∷ []) (length (last_of c (items ++ y ∷ ys)))) ∷ []) (sym (behind-step taps near m items ys y c held long))
+  -- what is given for some frames, and for others behind them
+  pub behind-joined : (m : M) (c : ℕ) (xs ys items : List Samples) → length items ≤ c → taps.reach m ≤ c → behind taps m items (xs ++ ys) ≡ behind taps m items xs ++ behind taps m (last_of c (items ++ xs)) ys
+  behind-joined m c [] ys items held long = rw (last-whole c items held) refl
+  behind-joined m c (x ∷ xs) ys items held long =
+      let next : List Samples = last_of c (items ++ x ∷ []) in
+      let room : length next ≤ c = let n = length-last c (items ++ x ∷ []) in omega arith in
+      let more = behind-joined m c xs ys next room long in
+      let same : last_of c (next ++ xs) ≡ last_of c (items ++ x ∷ xs) = last-first c items xs x in
+      behind-step taps near m items (xs ++ ys) x c held long
+      ∙ ap (λ gs. taps.made m (sample_before (items ++ x ∷ []) (length items)) ∷ gs) (rw same at more)
+      ∙ ap (λ gs. gs ++ behind taps m (last_of c (items ++ x ∷ xs)) ys) (sym (behind-step taps near m items xs x c held long))
 
+  pub frames-joined : (m : M) (c : ℕ) (xs ys items : List Samples) → length items ≤ c → taps.reach m ≤ c → frames_behind taps m items (xs ++ ys) ≡ frames_behind taps m items xs ++ frames_behind taps m (last_of c (items ++ xs)) ys
+  frames-joined m c xs ys items held long =
+      ap (map (λ (g : Given). g.samples)) (behind-joined m c xs ys items held long) ∙ map-append (λ (g : Given). g.samples) (behind taps m items xs) (behind taps m (last_of c (items ++ xs)) ys)
+
+  pub clips-joined : (m : M) (c : ℕ) (xs ys items : List Samples) → length items ≤ c → taps.reach m ≤ c → clips_behind taps m items (xs ++ ys) ≡ clips_behind taps m items xs + clips_behind taps m (last_of c (items ++ xs)) ys
+  clips-joined m c xs ys items held long =
+      ap (total (λ (g : Given). g.clips)) (behind-joined m c xs ys items held long) ∙ total-append (λ (g : Given). g.clips) (behind taps m items xs) (behind taps m (last_of c (items ++ xs)) ys)
+
+  -- and for one more
   pub frames-more : (m : M) (c : ℕ) (xs items : List Samples) (x : Samples) → length items ≤ c → taps.reach m ≤ c
       → frames_behind taps m items (xs ++ x ∷ []) ≡ frames_behind taps m items xs ++ (taps.made m (sample_before (last_of c (items ++ xs) ++ x ∷ []) (length (last_of c (items ++ xs))))).samples ∷ []
-  frames-more m c xs items x held long =
-      ap (map (λ (g : Given). g.samples)) (behind-more m c xs items x held long) ∙ map-append (λ (g : Given). g.samples) (behind taps m items xs) _
+  frames-more m c xs items x held long = frames-joined m c xs (x ∷ []) items held long
 
   pub clips-more : (m : M) (c : ℕ) (xs items : List Samples) (x : Samples) → length items ≤ c → taps.reach m ≤ c
       → clips_behind taps m items (xs ++ x ∷ []) ≡ clips_behind taps m items xs + (taps.made m (sample_before (last_of c (items ++ xs) ++ x ∷ []) (length (last_of c (items ++ xs))))).clips
-  clips-more m c xs items x held long =
-      let made : Given = taps.made m (sample_before (last_of c (items ++ xs) ++ x ∷ []) (length (last_of c (items ++ xs)))) in
-      let all = behind-more m c xs items x held long in
-      rw all (omega (arith, total-append (λ (g : Given). g.clips) (behind taps m items xs) (made ∷ [])))
+  clips-more m c xs items x held long = clips-joined m c xs (x ∷ []) items held long ∙ ap (λ n. clips_behind taps m items xs + n) (add-zero _)
 
   module _ (m : M) where
     abbrev pub acts : Acts (TapState M) M

@@ -2,17 +2,18 @@
 ghost use Rattle.std.specs.Prelude.{◌≡◌, ◌<◌, ◌≤◌, ◌+◌, ◌*◌, ◌^◌, ◌++◌, ◌∷◌, [], ℕ, pos, ◌+ℤ◌, ◌*ℤ◌, length, slice_index_or, unsigned_abs, Err, IfOk, IfSome, IsTrue, MatchResult};
 ghost use Rattle.std.proofs.Common.{rules};
 ghost use Rattle.std.specs.List.{All};
+ghost use Rattle.fx_frame.specs.Ring.{pieces};
 ghost use Rattle.fx_frame.specs.Stage.{Freezes, IsNew};
 ghost use Rattle.fx_tap.specs.Echo.{EchoArguments, IsEcho, echo_acts, echo_sum, echo_taps, latest};
 ghost use Rattle.fx_tap.specs.EchoWeights.{AreSmall, SoundsAs, weighed};
 ghost use Rattle.fx_tap.specs.Near.{echoes-near};
-ghost use Rattle.fx_tap.specs.Tapped.{IsTapState, TapState, sample_before};
+ghost use Rattle.fx_tap.specs.Tapped.{IsTapState, TapState, clips_behind, frames_behind, sample_before};
 
 use crate::sums::{
-    SmallSums, Sums, add_scaled, add_weighed_frame, rounded_small_sums, rounded_sums,
-    small_sums_into, sums_into,
+    SmallSums, Sums, add_products, add_scaled, add_weighed_frame, round_sums, rounded_small_sums,
+    rounded_sums, small_sums_into, sums_into,
 };
-use crate::tapped::{Tapped, Tapping, TapsMany};
+use crate::tapped::{Tapped, Tapping, TapsMany, tap_by_frames};
 use fx_fixed::inner::{Denominator, reduce};
 use fx_fixed::{Gain, UNIT};
 use fx_frame::feed::frame_at;
@@ -315,4 +316,90 @@ impl Tapped<Echoes> {
     }
 }
 
-impl TapsMany for Echoes {}
+/// The most samples of a piece: frames that are made at once.
+const SAMPLES_OF_PIECE: usize = 256;
+
+impl Echoes {
+    /// The most frames of a piece: there is room for their samples, and none of them is an echo of another.
+    fn frames_of_piece(&self) -> usize
+        ensures some { 1 ≤ result }
+        ensures room { result * self.now.channels ≤ 256 }
+        ensures late { All (λ e. result ≤ e.0) self.now.echoes }
+    {
+        let mut most = SAMPLES_OF_PIECE / self.channels;
+        'echoes: for echo in &self.echoes {
+            most = most.min(echo.0 as usize);
+        }
+        most
+    }
+
+    /// Adds to the sums so many frames that come behind those of the line, and their echoes, each times its weight.
+    fn add_piece(&self, small: &Small, line: &Line, frames: &[i32], count: usize, sums: &mut [i64])
+        requires channels { line.now.channels ≡ self.now.channels }
+        requires late { All (λ e. count ≤ e.0) self.now.echoes }
+        requires room { count * self.now.channels ≤ 256 }
+        requires frames { length frames.now ≡ count * self.now.channels }
+        requires sums { length sums.old ≡ count * self.now.channels }
+        requires empty { (k : ℕ) → slice_index_or sums.old k (pos 0) ≡ pos 0 }
+        ensures value { (i k : ℕ) → i < count → k < self.now.channels → slice_index_or sums.new (i * self.now.channels + k) (pos 0) ≡ echo_sum (weighed self.now small.now.weights) (sample_before (line.now.items ++ pieces self.now.channels count frames.now) (length line.now.items + i)) k }
+        ensures small { (k : ℕ) → unsigned_abs (slice_index_or sums.new k (pos 0)) ≤ 2 ^ 61 }
+    {
+        add_products(sums, frames, small.weights[0]);
+        let mut places = [0; SAMPLES_OF_PIECE];
+        let earlier = &mut places[..frames.len()];
+        'echoes: for place in 0..self.echoes.len() {
+            let (late, _) = self.echoes[place];
+            line.before_into(late as usize, count, earlier);
+            add_products(sums, earlier, small.weights[place + 1]);
+        }
+    }
+
+    /// Writes so many frames with their echoes, which come behind those of the line, and counts how many of their samples
+    /// were clipped. None of them is an echo of another.
+    fn tap_piece(
+        &self,
+        small: &Small,
+        line: &Line,
+        frames: &[i32],
+        count: usize,
+        out: &mut [i32],
+    ) -> u64
+        requires sounds { SoundsAs self.now.gain_in self.now.gain_out self.now.echoes small.now }
+        requires channels { line.now.channels ≡ self.now.channels }
+        requires late { All (λ e. count ≤ e.0) self.now.echoes }
+        requires room { count * self.now.channels ≤ 256 }
+        requires frames { length frames.now ≡ count * self.now.channels }
+        requires out { length out.old ≡ count * self.now.channels }
+        ensures frames { pieces self.now.channels count out.new ≡ frames_behind echo_taps self.now line.now.items (pieces self.now.channels count frames.now) }
+        ensures clips { result ≡ clips_behind echo_taps self.now line.now.items (pieces self.now.channels count frames.now) }
+        ensures few { result ≤ count * self.now.channels }
+    {
+        let mut places = [0; SAMPLES_OF_PIECE];
+        let sums = &mut places[..frames.len()];
+        self.add_piece(small, line, frames, count, sums);
+        round_sums(sums, &small.denominator, out)
+    }
+}
+
+impl TapsMany for Echoes {
+    fn tap_many(&self, line: &mut Line, input: &[i32], output: &mut [i32], count: usize) -> u64 {
+        let Some(small) = &self.small else {
+            return tap_by_frames(self, line, input, output, count);
+        };
+        let channels = self.channels;
+        let most = self.frames_of_piece();
+        let _held = line.len();
+        let mut done = 0;
+        let mut clips = 0;
+        'pieces: while done < count {
+            let now = most.min(count - done);
+            let from = done * channels;
+            let to = from + now * channels;
+            let frames = &input[from..to];
+            clips += self.tap_piece(small, line, frames, now, &mut output[from..to]);
+            line.push_frames(frames, now);
+            done += now;
+        }
+        clips
+    }
+}

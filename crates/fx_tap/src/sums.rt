@@ -1,8 +1,8 @@
 //! Sums of samples times gains, one for each channel, each rounded once.
-ghost use Rattle.std.specs.Prelude.{◌≡◌, ◌<◌, ◌≤◌, ◌+◌, ◌-◌, ◌*◌, ◌^◌, ℕ, ℤ, List, pos, ◌+ℤ◌, ◌*ℤ◌, ◌<ℤ◌, ◌≤ℤ◌, length, slice_index_or, unsigned_abs};
+ghost use Rattle.std.specs.Prelude.{◌≡◌, ◌<◌, ◌≤◌, ◌+◌, ◌-◌, ◌*◌, ◌^◌, ℕ, ℤ, List, pos, ◌+ℤ◌, ◌*ℤ◌, ◌<ℤ◌, ◌≤ℤ◌, length, map, slice_index_or, unsigned_abs};
 ghost use Rattle.fx_fixed.specs.Rounding.{rounding};
 ghost use Rattle.fx_tap.specs.Lists.{tabulate};
-ghost use Rattle.fx_tap.specs.Rounded.{given_of};
+ghost use Rattle.fx_tap.specs.Rounded.{clips_of, given_of, samples_of};
 
 use fx_fixed::inner::Denominator;
 use fx_fixed::{Gain, UNIT, round_clip};
@@ -152,6 +152,39 @@ pub(crate) fn add_weighed_frame(sums: &mut SmallSums, channels: usize, weight: i
     ensures few { (k : ℕ) → unsigned_abs (slice_index_or sums.new k (pos 0)) ≤ unsigned_abs (slice_index_or sums.old k (pos 0)) + 2 ^ 58 }
 {
     add_weighed(sums, channels, weight, &places(&frame));
+}
+
+/// Adds a weight times each sample to the sum at its place.
+#[inline(always)]
+pub(crate) fn add_products(sums: &mut [i64], samples: &[i32], weight: i32)
+    requires places { length samples.now ≡ length sums.old }
+    requires weight { unsigned_abs weight ≤ 2 ^ 27 }
+    requires room { (k : ℕ) → unsigned_abs (slice_index_or sums.old k (pos 0)) ≤ 2 ^ 61 }
+    ensures added { (k : ℕ) → k < length sums.old → slice_index_or sums.new k (pos 0) ≡ slice_index_or sums.old k (pos 0) +ℤ (weight *ℤ slice_index_or samples.now k (pos 0)) }
+    ensures few { (k : ℕ) → unsigned_abs (slice_index_or sums.new k (pos 0)) ≤ unsigned_abs (slice_index_or sums.old k (pos 0)) + 2 ^ 58 }
+{
+    let factor = i64::from(weight);
+    for place in 0..samples.len() {
+        sums[place] += factor * i64::from(samples[place]);
+    }
+}
+
+/// Writes the sample of each sum over the denominator, rounded once, and counts how many were clipped.
+#[inline(always)]
+pub(crate) fn round_sums(sums: &[i64], denominator: &Denominator, out: &mut [i32]) -> u64
+    requires places { length out.old ≡ length sums.now }
+    requires small { (k : ℕ) → unsigned_abs (slice_index_or sums.now k (pos 0)) ≤ 2 ^ 61 }
+    ensures samples { out.new ≡ samples_of (map (λ z. rounding z denominator.now) sums.now) }
+    ensures clips { result ≡ clips_of (map (λ z. rounding z denominator.now) sums.now) }
+    ensures few { result ≤ length sums.now }
+{
+    let mut clips = 0;
+    'sums: for place in 0..sums.len() {
+        let (sample, is_clipped) = denominator.round(sums[place]);
+        out[place] = sample;
+        clips += u64::from(is_clipped);
+    }
+    clips
 }
 
 /// Writes the sums over the denominator, each rounded once, and counts how many samples were clipped.

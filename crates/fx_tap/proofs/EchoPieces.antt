@@ -1,0 +1,114 @@
+-- Frames with their echoes, many of them made at once.
+use Rattle.std.proofs.Common.{◌≡◌, ◌+◌, ◌-◌, ◌*◌, ◌<◌, ◌≤◌, ◌⊎◌, ℕ, ℤ, suc, inl, inr, pos, true, false, List, [], ◌∷◌, ◌++◌, length, map, take, drop, get_or, replicate, refl, sym, ap, ◌∙◌, arith, add-zero, zero-add}
+use Rattle.std.specs.Prelude.{nat_le}
+use Rattle.std.proofs.lemmas.Bool.{cases_lt, le-leb, lt-leb}
+use Rattle.std.proofs.lemmas.List.{get_or-append-add, get_or-append_right, get_or_append_left, get_or-drop, get_or-replicate, get_or-take, length-replicate, take_all}
+use Rattle.std.proofs.lemmas.Nat.{mul-add-lt}
+use Rattle.std.proofs.lemmas.Simd.{map-map}
+use Rattle.std.proofs.Math.Nat.{mul_comm}
+use Rattle.fx_fixed.specs.Rounding.{rounding}
+use Rattle.fx_frame.specs.Frame.{Samples, silence}
+use Rattle.fx_frame.specs.Holds.{total}
+use Rattle.fx_frame.specs.Line.{Frames, latest_frames}
+use Rattle.fx_frame.specs.Ring.{pieces}
+use Rattle.fx_frame.specs.Stage.{Given}
+use Rattle.fx_frame.proofs.Pieces.{get_or-piece, length-pieces}
+use Rattle.fx_tap.specs.Echo.{EchoArguments, echo_sum, echo_taps, echoed_frame}
+use Rattle.fx_tap.specs.EchoWeights.{SoundsAs, Weights, weighed}
+use Rattle.fx_tap.specs.Lists.{tabulate}
+use Rattle.fx_tap.specs.Mapped.{clips_in}
+use Rattle.fx_tap.specs.PerSample.{rounded_given}
+use Rattle.fx_tap.specs.Rounded.{clips_of, given_of, samples_of}
+use Rattle.fx_tap.specs.Tapped.{Past, behind, clips_behind, frames_behind, sample_before}
+use Rattle.fx_tap.proofs.Blocks.{clips-samples, pieces-samples, pieces-sides}
+use Rattle.fx_tap.proofs.DelayLaws.{quiet-sample}
+use Rattle.fx_tap.proofs.EchoWeights.{small-is}
+
+-- ---- samples
+
+-- where a sample of a frame stands among all
+pub flat-place : (channels n i k : ℕ) → i < n → k < channels → i * channels + k < n * channels
+flat-place channels n i k lt within = omega (arith, mul-add-lt i channels k n lt within, mul_comm channels n)
+
+-- a sample of an earlier frame, as it was copied
+copied-sample : (l : Frames ℤ) (out : List ℤ) (coming : List Samples) (late n i k : ℕ) → n ≤ late → i < n → k < l.channels → pieces l.channels n out ≡ take n (latest_frames (pos 0) late l)
+    → get_or out (i * l.channels + k) (pos 0) ≡ sample_before (l.items ++ coming) (length l.items + i) late k
+copied-sample l out coming late n i k h lt within e =
+    sym (get_or-piece l.channels n out i k (pos 0) lt within) ∙ ap (λ (ps : List Samples). get_or (get_or ps i []) k (pos 0)) e ∙ ap (λ (f : Samples). get_or f k (pos 0)) (get_or-take n (latest_frames (pos 0) late l) i [] lt)
+    ∙ go (cases_lt i (late - length l.items))
+  where
+    go : (i < late - length l.items) ⊎ (late - length l.items ≤ i) → get_or (get_or (latest_frames (pos 0) late l) i []) k (pos 0) ≡ sample_before (l.items ++ coming) (length l.items + i) late k
+    go (inl q) =
+        let front : length (replicate (late - length l.items) (silence l.channels)) ≡ late - length l.items = length-replicate (late - length l.items) (silence l.channels) in
+        let none : nat_le late (length l.items + i) ≡ false = lt-leb late (length l.items + i) (omega arith) in
+        rw none (ap (λ (f : Samples). get_or f k (pos 0))
+        (get_or_append_left (replicate (late - length l.items) (silence l.channels)) (drop (length l.items - late) l.items) [] i (omega arith) ∙ get_or-replicate (late - length l.items) i (silence l.channels) [] q)
+        ∙ quiet-sample l.channels k)
+    go (inr q) =
+        let front : length (replicate (late - length l.items) (silence l.channels)) ≡ late - length l.items = length-replicate (late - length l.items) (silence l.channels) in
+        let there : nat_le late (length l.items + i) ≡ true = le-leb late (length l.items + i) (omega arith) in
+        let at : length l.items - late + (i - (late - length l.items)) ≡ length l.items + i - late = omega arith in
+        let inside : length l.items + i - late < length l.items = omega arith in
+        rw there (ap (λ (f : Samples). get_or f k (pos 0))
+        (get_or-append_right (replicate (late - length l.items) (silence l.channels)) (drop (length l.items - late) l.items) (late - length l.items) i [] front q
+        ∙ get_or-drop (length l.items - late) l.items (i - (late - length l.items)) [] ∙ ap (λ n. get_or l.items n []) at ∙ sym (get_or_append_left l.items coming [] (length l.items + i - late) inside)))
+
+pub earlier-sample : (l : Frames ℤ) (out : List ℤ) (coming : List Samples) (channels late n i k : ℕ) → l.channels ≡ channels → n ≤ late → i < n → k < channels → pieces l.channels n out ≡ take n (latest_frames (pos 0) late l)
+    → get_or out (i * channels + k) (pos 0) ≡ sample_before (l.items ++ coming) (length l.items + i) late k
+earlier-sample l out coming channels late n i k same h lt within e =
+    let inside : k < l.channels = omega arith in
+    ap (λ m. get_or out (i * m + k) (pos 0)) (sym same) ∙ copied-sample l out coming late n i k h lt inside e
+
+-- a sample of a frame that comes
+pub coming-sample : (channels n i k : ℕ) (items : List Samples) (frames : List ℤ) → i < n → k < channels → sample_before (items ++ pieces channels n frames) (length items + i) 0 k ≡ get_or frames (i * channels + k) (pos 0)
+coming-sample channels n i k items frames lt within =
+    let there : nat_le 0 (length items + i) ≡ true = le-leb 0 (length items + i) (omega arith) in
+    let at : length items + i - 0 ≡ length items + i = omega arith in
+    rw (there, at) (ap (λ (f : Samples). get_or f k (pos 0)) (get_or-append-add items (pieces channels n frames) i []) ∙ get_or-piece channels n frames i k (pos 0) lt within)
+
+-- ---- frames
+
+-- what is made of each element, by its place
+pub map-table : {X Y : Type 0} (g : X → Y) (h : ℕ → Y) (d : X) (xs : List X) (from : ℕ) → ((i : ℕ) → i < length xs → g (get_or xs i d) ≡ h (from + i)) → map g xs ≡ tabulate h from (length xs)
+map-table g h d [] from e = refl
+map-table g h d (x ∷ xs) from e =
+    let here : g x ≡ h from = simp add-zero at (e 0 (omega arith)) in
+    let more : (i : ℕ) → i < length xs → g (get_or xs i d) ≡ h (suc from + i) = λ i l.
+    let at : suc from + i ≡ from + suc i = omega arith in
+    rw at (e (suc i) (omega arith)) in
+    rw here (ap (λ l. h from ∷ l) (map-table g h d xs (suc from) more))
+
+module _ (a : EchoArguments) (w : Weights) (sounds : SoundsAs a.gain_in a.gain_out a.echoes w) where
+  -- the rounded sums of a frame are the frame with its echoes
+  one-frame : (past : Past) (sums : Samples) → length sums ≡ a.channels → ((k : ℕ) → k < a.channels → get_or sums k (pos 0) ≡ echo_sum (weighed a w.weights) past k) → rounded_given (λ z. rounding z w.denominator) sums ≡ echoed_frame a past
+  one-frame past sums long h =
+      ap given_of (map-table (λ z. rounding z w.denominator) (λ k. rounding (get_or sums k (pos 0)) w.denominator) (pos 0) sums 0 (λ k l. let e : 0 + k ≡ k = zero-add k in rw e refl)
+      ∙ ap (tabulate (λ k. rounding (get_or sums k (pos 0)) w.denominator) 0) long ∙ small-is a w past sums h sounds)
+
+  module _ (items coming : List Samples) (n : ℕ) (sums : List ℤ) (many : length coming ≡ n) (long : length sums ≡ n * a.channels)
+      (h : (i k : ℕ) → i < n → k < a.channels → get_or sums (i * a.channels + k) (pos 0) ≡ echo_sum (weighed a w.weights) (sample_before (items ++ coming) (length items + i)) k) where
+    piece-made : map (rounded_given (λ z. rounding z w.denominator)) (pieces a.channels n sums) ≡ behind echo_taps a items coming
+    piece-made =
+        let ps : List Samples = pieces a.channels n sums in
+        let count : length (pieces a.channels n sums) ≡ n = length-pieces a.channels n sums in
+        map-table (rounded_given (λ z. rounding z w.denominator)) (λ q. echoed_frame a (sample_before (items ++ coming) q)) [] ps (length items) (λ i l.
+        let inside : i < n = omega arith in
+        one-frame (sample_before (items ++ coming) (length items + i)) (get_or ps i []) (pieces-sides a.channels n sums (omega arith) i [] l) (λ k q. get_or-piece a.channels n sums i k (pos 0) inside q ∙ h i k inside q))
+        ∙ ap (tabulate (λ q. echoed_frame a (sample_before (items ++ coming) q)) (length items)) (count ∙ sym many)
+
+    -- the rounded sums of so many frames
+    pub piece-frames : (out : List ℤ) → out ≡ samples_of (map (λ z. rounding z w.denominator) sums) → pieces a.channels n out ≡ frames_behind echo_taps a items coming
+    piece-frames out is =
+        ap (pieces a.channels n) is ∙ pieces-samples (λ z. rounding z w.denominator) a.channels n sums
+        ∙ sym (map-map (λ (g : Given). g.samples) (rounded_given (λ z. rounding z w.denominator)) (pieces a.channels n sums)) ∙ ap (map (λ (g : Given). g.samples)) piece-made
+
+    -- and their clips
+    pub piece-clips : (clips : ℕ) → clips ≡ clips_of (map (λ z. rounding z w.denominator) sums) → clips ≡ clips_behind echo_taps a items coming
+    piece-clips clips is =
+        let whole : take (n * a.channels) sums ≡ sums = take_all (n * a.channels) sums (omega arith) in
+        is ∙ ap (λ l. clips_of (map (λ z. rounding z w.denominator) l)) (sym whole) ∙ clips-samples (λ z. rounding z w.denominator) a.channels n sums
+        ∙ totals (pieces a.channels n sums) ∙ ap (total (λ (g : Given). g.clips)) piece-made
+      where
+        totals : (ps : List Samples) → clips_in (rounded_given (λ z. rounding z w.denominator)) ps ≡ total (λ (g : Given). g.clips) (map (rounded_given (λ z. rounding z w.denominator)) ps)
+        totals [] = refl
+        totals (p ∷ ps) = ap (λ m. clips_of (map (λ z. rounding z w.denominator) p) + m) (totals ps)
