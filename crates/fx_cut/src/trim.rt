@@ -10,7 +10,6 @@ ghost use Rattle.fx_cut.specs.Trim.{IsTrim, IsTrimCount, TrimArguments, TrimStat
 
 use crate::many::{PassesMany, feed_by_pieces};
 use fx_fixed::At;
-use fx_frame::feed::{frame_at, put_frame};
 use fx_frame::frozen::thawed_line_and_hand;
 use fx_frame::{Feeds, Frame, Line, Passed, Passing, Stage, ThawFault, WideFrame};
 use std::alloc::{AllocError, Global};
@@ -476,20 +475,16 @@ impl Feeds for Trim {
 
     fn pass_samples(&mut self, samples: &mut [i32]) -> Passing {
         let place = self.taken - self.line.len() as u64;
-        let channels = samples.len();
-        let came = frame_at(samples, 0, channels);
         self.taken += 1;
-        let fallen = self.line.push(came);
+        let is_out = self.line.push_over(samples);
         let _held = self.line.len();
-        let Some(oldest) = fallen else {
+        if !is_out {
             return Passing::Kept;
-        };
+        }
         if !is_kept_by_starts(&self.positions, place) {
             return Passing::Kept;
         }
-        let _channels = oldest.channels();
         self.given += 1;
-        put_frame(samples, 0, &oldest);
         Passing::Through
     }
 

@@ -1,11 +1,11 @@
 -- What holds of the frames of a line, whatever their width.
-use Rattle.std.proofs.Common.{◌≡◌, ◌<◌, ◌-◌, ℕ, ℤ, List, [], ◌∷◌, ◌++◌, length, slice_get, get_or, Option, Some, None, true, false, cond, nat_lt, inl, inr, refl, sym, ap, ◌∙◌, arith, FitsSigned, MatchOption, IsSomeAnd}
+use Rattle.std.proofs.Common.{◌≡◌, Bool, ◌<◌, ◌-◌, ℕ, ℤ, List, [], ◌∷◌, ◌++◌, length, slice_get, get_or, Option, Some, None, true, false, cond, nat_lt, inl, inr, refl, sym, ap, ◌∙◌, arith, FitsSigned, MatchOption, IsSomeAnd}
 use Rattle.std.specs.Option.{option_map}
 use Rattle.std.specs.List.{All}
 use Rattle.std.specs.Int.{Width}
 use Rattle.std.proofs.lemmas.Bool.{cases_lt}
-use Rattle.std.proofs.lemmas.List.Elements.{All-push, All-drop}
-use Rattle.std.proofs.lemmas.Option.{slice_get-get_or}
+use Rattle.std.proofs.lemmas.List.Elements.{All-head, All-push, All-drop}
+use Rattle.std.proofs.lemmas.Option.{same_Some, slice_get-get_or}
 use Rattle.fx_frame.specs.Line.{Frames, pushed, pushed_out, IsLine}
 use Rattle.fx_frame.specs.Ring.{IsShaped}
 
@@ -45,6 +45,15 @@ module _ {X : Type 0} where
       let e-y : y ≡ get_or (get_or l.items k []) 1 x = is-y x in
       let whole : get_or l.items k [] ≡ x ∷ y ∷ [] = two-samples (get_or l.items k []) x n ∙ (let e : get_or (get_or l.items k []) 0 x ∷ get_or (get_or l.items k []) 1 x ∷ [] ≡ x ∷ y ∷ [] = cc in e) in
       sym (slice_get-get_or l.items k [] h ∙ ap Some (whole ∙ sym e-f))
+
+  -- a frame that goes has the samples of the others
+  pub out-long : (l : Frames X) (f x : List X) → IsShaped l → length f ≡ l.channels → pushed_out l f ≡ Some x → length x ≡ l.channels
+  out-long l f x shaped long e = go (nat_lt (length l.items) l.capacity) l.items shaped.each e
+    where
+      go : (b : Bool) (items : List (List X)) → All (λ (g : List X). length g ≡ l.channels) items → cond b None (slice_get (items ++ f ∷ []) 0) ≡ Some x → length x ≡ l.channels
+      go true items all is = absurd (cc (is))
+      go false [] all is = let same : f ≡ x = same_Some f x is in rw (← same) long
+      go false (y ∷ ys) all is = let same : y ≡ x = same_Some y x is in rw (← same) (All-head (λ (g : List X). length g ≡ l.channels) y ys all)
 
   -- the oldest of a full line goes
   pub oldest-out : (l : Frames X) (f : List X) (o : Option (List X)) → IsShaped l → (l.capacity ≡ 0 → ⊥) → o ≡ cond (nat_lt (length l.items) l.capacity) None (slice_get l.items 0) → o ≡ pushed_out l f
