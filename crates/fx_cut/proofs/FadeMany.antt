@@ -54,7 +54,7 @@ pub record IsGiving (s : FadeState) (n : ℕ) : Type 0 where
   pub few : s.taken + n ≤ 2 ^ 56
 
 -- the frame in hand was given
-given-next : (s : FadeState) (g : Samples) → IsFade s → s.hand ≡ Some g → s.ended ≡ false → IsFade (record s { hand = None; given = s.given + 1 })
+pub given-next : (s : FadeState) (g : Samples) → IsFade s → s.hand ≡ Some g → s.ended ≡ false → IsFade (record s { hand = None; given = s.given + 1 })
 given-next s g is has running =
     let one : length (option_to_list s.hand) ≡ 1 = ap (λ h. length (option_to_list h)) has in
     let w = is.within in

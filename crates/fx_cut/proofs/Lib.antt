@@ -25,4 +25,5 @@ pub mod PadThaw
 pub mod FadeSteps
 pub mod Onto
 pub mod FadeMany
+pub mod FadePassing
 pub mod TrimPassing

@@ -16,7 +16,7 @@ use crate::slopes::{Slope, weigh_by};
 use fx_fixed::At;
 use fx_frame::frozen::thawed_line_and_hand;
 use fx_frame::inner::{frame_of, places};
-use fx_frame::{Feeds, Frame, Line, Passed, Stage, ThawFault, WideFrame};
+use fx_frame::{Feeds, Frame, Line, Passed, Passing, Stage, ThawFault, WideFrame};
 use std::alloc::{AllocError, Global};
 use std::marker::Model;
 
@@ -528,6 +528,23 @@ impl PassesMany for Fade {
 impl Feeds for Fade {
     fn feed(&mut self, input: &[i32], output: &mut [i32]) -> Passed {
         feed_by_pieces(self, input, output)
+    }
+
+    fn pass_samples(&mut self, samples: &mut [i32]) -> Passing {
+        let place = self.taken - self.line.len() as u64;
+        self.taken += 1;
+        let is_out = self.line.push_over(samples);
+        let _held = self.line.len();
+        if !is_out {
+            return Passing::Kept;
+        }
+        let stop = self.fading.next_stop(place);
+        if !is_ahead(stop, place) {
+            return Passing::Kept;
+        }
+        self.fading.weigh(samples, stop, place);
+        self.given += 1;
+        Passing::Through
     }
 
     fn ahead(&self) -> u64 {

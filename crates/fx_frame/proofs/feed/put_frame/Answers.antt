@@ -1,4 +1,4 @@
-use Rattle.std.proofs.Common.{rules, ◌≡◌, ◌+◌, ◌<◌, ◌∙◌, length, of_z, sym, to_z, arith}
+use Rattle.std.proofs.Common.{rules, ◌≡◌, ◌<◌, ◌∙◌, length, of_z, sym, to_z, arith}
 use Rattle.std.specs.Int.{w32}
 use Rattle.std.specs.Prelude.{pos}
 use Rattle.fx_frame.proofs.Feeding.{put-one}
