@@ -1,12 +1,13 @@
 -- What holds of the frames of a line, whatever their width.
-use Rattle.std.proofs.Common.{◌≡◌, Bool, ◌<◌, ◌-◌, ℕ, ℤ, List, [], ◌∷◌, ◌++◌, length, slice_get, get_or, Option, Some, None, true, false, cond, nat_lt, inl, inr, refl, sym, ap, ◌∙◌, arith, FitsSigned, MatchOption, IsSomeAnd}
+use Rattle.std.proofs.Common.{◌≡◌, Bool, ◌<◌, ◌-◌, ℕ, ℤ, List, [], ◌∷◌, ◌++◌, length, slice_get, get_or, Option, Some, None, true, false, cond, nat_lt, inl, inr, refl, sym, ap, ◌∙◌, arith, FitsSigned, MatchOption, IsSomeAnd, ◌≤◌, unwrap_or}
 use Rattle.std.specs.Option.{option_map}
 use Rattle.std.specs.List.{All}
 use Rattle.std.specs.Int.{Width}
 use Rattle.std.proofs.lemmas.Bool.{cases_lt}
 use Rattle.std.proofs.lemmas.List.Elements.{All-head, All-push, All-drop}
 use Rattle.std.proofs.lemmas.Option.{same_Some, slice_get-get_or}
-use Rattle.fx_frame.specs.Line.{Frames, pushed, pushed_out, IsLine}
+use Rattle.fx_frame.specs.Line.{Frames, pushed, pushed_out, IsLine, from_newest}
+use Rattle.std.proofs.lemmas.List.{get_or_past}
 use Rattle.fx_frame.specs.Ring.{IsShaped}
 
 -- what `map` gives, where the function always gives f
@@ -32,6 +33,14 @@ module _ {X : Type 0} where
   -- what holds of each frame holds after a push
   pub All-pushed : (P : List X → Type 0) (l : Frames X) (f : List X) (after : List (List X)) → All P l.items → P f → after ≡ pushed l f → All P after
   All-pushed P l f after all h e = rw e (All-drop P (length (l.items ++ f ∷ []) - l.capacity) (l.items ++ f ∷ []) (All-push P l.items f all h))
+
+  -- no frame has a sample past its channels
+  pub none-past : (l : Frames X) (k channel : ℕ) (d : X) → IsShaped l → k < length l.items → l.channels ≤ channel → d ≡ get_or (unwrap_or (from_newest l k) []) channel d
+  none-past l k channel d s lt h =
+      let yes : nat_lt k (length l.items) ≡ true = grind arith in
+      let at : length l.items - k - 1 < length l.items = omega arith in
+      let side : length (get_or l.items (length l.items - k - 1) []) ≡ l.channels = s.each (length l.items - k - 1) [] at in
+      rw (yes, slice_get-get_or l.items (length l.items - k - 1) [] at) (sym (get_or_past (get_or l.items (length l.items - k - 1) []) channel d (omega arith)))
 
   pub frame-one : (l : Frames X) (k : ℕ) (f : List X) (x : X) → IsShaped l → 1 ≡ l.channels → k < length l.items → ((d : X) → x ≡ get_or (get_or l.items k []) 0 d) → f ≡ x ∷ [] → Some f ≡ slice_get l.items k
   frame-one l k f x s one h is e-f =

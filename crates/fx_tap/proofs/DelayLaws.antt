@@ -1,5 +1,5 @@
 use Rattle.std.proofs.Common.{ℕ, ℤ, pos, zero, suc, ◌+◌, ◌-◌, ◌<◌, ◌≤◌, ◌≡◌, Bool, true, false, cond, max, take, List, [], ◌∷◌, ◌++◌, length, drop, get_or, refl, sym, ap, arith, replicate, add-zero, zero-add, append_assoc}
-use Rattle.std.specs.Prelude.{nat_le, nat_lt, slice_get, Some, None}
+use Rattle.std.specs.Prelude.{nat_le, nat_lt, slice_get, unwrap_or, Option, Some, None}
 use borrow.Author.Tests.{ltb-true, ltb-false}
 use Rattle.std.proofs.Math.ListN.{set}
 use Rattle.std.proofs.Math.Seq.{set-append_seam}
@@ -78,6 +78,14 @@ sample-some items f x d k some e = back-some items f x d k _ refl some e
 
 pub sample-none : (items : List Samples) (f : Samples) (d k : ℕ) → 0 < d → None ≡ cond (nat_lt (d - 1) (length items)) (slice_get items (length items - (d - 1) - 1)) None → pos 0 ≡ sample_before (items ++ f ∷ []) (length items) d k
 sample-none items f d k some e = back-none items f d k _ refl some e
+
+-- and where there is none, silence
+sample-of : (items : List Samples) (f : Samples) (d k : ℕ) (o : Option Samples) → 0 < d → o ≡ cond (nat_lt (d - 1) (length items)) (slice_get items (length items - (d - 1) - 1)) None → get_or (unwrap_or o []) k (pos 0) ≡ sample_before (items ++ f ∷ []) (length items) d k
+sample-of items f d k (Some x) some e = sample-some items f x d k some e
+sample-of items f d k None some e = sample-none items f d k some e
+
+pub sample-back : (items : List Samples) (f : Samples) (d k : ℕ) → 0 < d → get_or (unwrap_or (cond (nat_lt (d - 1) (length items)) (slice_get items (length items - (d - 1) - 1)) None) []) k (pos 0) ≡ sample_before (items ++ f ∷ []) (length items) d k
+sample-back items f d k some = sample-of items f d k _ some refl
 
 -- one more channel
 pub channel-set : (f : ℕ → ℤ) (n k : ℕ) → k < n → set (tabulate f 0 k ++ replicate (n - k) (pos 0)) k (f k) ≡ tabulate f 0 (k + 1) ++ replicate (n - (k + 1)) (pos 0)

@@ -13,22 +13,18 @@ use Rattle.fx_frame.specs.Line.{Frames, latest_frames}
 use Rattle.fx_frame.specs.Ring.{pieces}
 use Rattle.fx_frame.specs.Stage.{Given}
 use Rattle.fx_frame.proofs.Pieces.{get_or-piece, length-pieces}
-use Rattle.fx_tap.specs.Echo.{EchoArguments, echo_sum, echo_taps, echoed_frame}
+use Rattle.fx_tap.specs.Echo.{EchoArguments, echo_sum, echo_taps, echoed_frame, echoed_sample}
 use Rattle.fx_tap.specs.EchoWeights.{SoundsAs, Weights, weighed}
 use Rattle.fx_tap.specs.Lists.{tabulate}
 use Rattle.fx_tap.specs.Mapped.{clips_in}
 use Rattle.fx_tap.specs.PerSample.{rounded_given}
 use Rattle.fx_tap.specs.Rounded.{clips_of, given_of, samples_of}
 use Rattle.fx_tap.specs.Tapped.{Past, behind, clips_behind, frames_behind, sample_before}
-use Rattle.fx_tap.proofs.Blocks.{clips-samples, pieces-samples, pieces-sides}
 use Rattle.fx_tap.proofs.DelayLaws.{quiet-sample}
-use Rattle.fx_tap.proofs.EchoWeights.{small-is}
+use Rattle.fx_tap.proofs.EchoWeights.{small-sample}
+use Rattle.fx_tap.proofs.SumPieces.{rounded-clips, rounded-frame, rounded-frames}
 
 -- ---- samples
-
--- where a sample of a frame stands among all
-pub flat-place : (channels n i k : ℕ) → i < n → k < channels → i * channels + k < n * channels
-flat-place channels n i k lt within = omega (arith, mul-add-lt i channels k n lt within, mul_comm channels n)
 
 -- a sample of an earlier frame, as it was copied
 copied-sample : (l : Frames ℤ) (out : List ℤ) (coming : List Samples) (late n i k : ℕ) → n ≤ late → i < n → k < l.channels → pieces l.channels n out ≡ take n (latest_frames (pos 0) late l)
@@ -68,47 +64,20 @@ coming-sample channels n i k items frames lt within =
 
 -- ---- frames
 
--- what is made of each element, by its place
-pub map-table : {X Y : Type 0} (g : X → Y) (h : ℕ → Y) (d : X) (xs : List X) (from : ℕ) → ((i : ℕ) → i < length xs → g (get_or xs i d) ≡ h (from + i)) → map g xs ≡ tabulate h from (length xs)
-map-table g h d [] from e = refl
-map-table g h d (x ∷ xs) from e =
-    let here : g x ≡ h from = simp add-zero at (e 0 (omega arith)) in
-    let more : (i : ℕ) → i < length xs → g (get_or xs i d) ≡ h (suc from + i) = λ i l.
-    let at : suc from + i ≡ from + suc i = omega arith in
-    rw at (e (suc i) (omega arith)) in
-    rw here (ap (λ l. h from ∷ l) (map-table g h d xs (suc from) more))
+-- the rounded sums of so many frames are the frames with their echoes
+module _ (a : EchoArguments) (w : Weights) (sounds : SoundsAs a.gain_in a.gain_out a.echoes w) (items coming : List Samples) (n : ℕ) (sums : List ℤ) (many : length coming ≡ n) (long : length sums ≡ n * a.channels)
+    (h : (i k : ℕ) → i < n → k < a.channels → get_or sums (i * a.channels + k) (pos 0) ≡ echo_sum (weighed a w.weights) (sample_before (items ++ coming) (length items + i)) k) where
+  each-frame : (i : ℕ) → i < n → rounded_given (λ z. rounding z w.denominator) (get_or (pieces a.channels n sums) i []) ≡ echoed_frame a (sample_before (items ++ coming) (length items + i))
+  each-frame i lt =
+      rounded-frame (λ z. rounding z w.denominator) a.channels n sums long (echoed_sample a (sample_before (items ++ coming) (length items + i))) i lt (λ k l.
+      ap (λ z. rounding z w.denominator) (h i k lt l) ∙ small-sample a w (sample_before (items ++ coming) (length items + i)) k sounds)
 
-module _ (a : EchoArguments) (w : Weights) (sounds : SoundsAs a.gain_in a.gain_out a.echoes w) where
-  -- the rounded sums of a frame are the frame with its echoes
-  one-frame : (past : Past) (sums : Samples) → length sums ≡ a.channels → ((k : ℕ) → k < a.channels → get_or sums k (pos 0) ≡ echo_sum (weighed a w.weights) past k) → rounded_given (λ z. rounding z w.denominator) sums ≡ echoed_frame a past
-  one-frame past sums long h =
-      ap given_of (map-table (λ z. rounding z w.denominator) (λ k. rounding (get_or sums k (pos 0)) w.denominator) (pos 0) sums 0 (λ k l. let e : 0 + k ≡ k = zero-add k in rw e refl)
-      ∙ ap (tabulate (λ k. rounding (get_or sums k (pos 0)) w.denominator) 0) long ∙ small-is a w past sums h sounds)
+  pub piece-frames : (out : List ℤ) → out ≡ samples_of (map (λ z. rounding z w.denominator) sums) → pieces a.channels n out ≡ frames_behind echo_taps a items coming
+  piece-frames out is =
+      rounded-frames (λ z. rounding z w.denominator) a.channels n sums long (λ q. echoed_frame a (sample_before (items ++ coming) q)) (length items) each-frame out is
+      ∙ ap (λ m. map (λ (g : Given). g.samples) (tabulate (λ q. echoed_frame a (sample_before (items ++ coming) q)) (length items) m)) (sym many)
 
-  module _ (items coming : List Samples) (n : ℕ) (sums : List ℤ) (many : length coming ≡ n) (long : length sums ≡ n * a.channels)
-      (h : (i k : ℕ) → i < n → k < a.channels → get_or sums (i * a.channels + k) (pos 0) ≡ echo_sum (weighed a w.weights) (sample_before (items ++ coming) (length items + i)) k) where
-    piece-made : map (rounded_given (λ z. rounding z w.denominator)) (pieces a.channels n sums) ≡ behind echo_taps a items coming
-    piece-made =
-        let ps : List Samples = pieces a.channels n sums in
-        let count : length (pieces a.channels n sums) ≡ n = length-pieces a.channels n sums in
-        map-table (rounded_given (λ z. rounding z w.denominator)) (λ q. echoed_frame a (sample_before (items ++ coming) q)) [] ps (length items) (λ i l.
-        let inside : i < n = omega arith in
-        one-frame (sample_before (items ++ coming) (length items + i)) (get_or ps i []) (pieces-sides a.channels n sums (omega arith) i [] l) (λ k q. get_or-piece a.channels n sums i k (pos 0) inside q ∙ h i k inside q))
-        ∙ ap (tabulate (λ q. echoed_frame a (sample_before (items ++ coming) q)) (length items)) (count ∙ sym many)
-
-    -- the rounded sums of so many frames
-    pub piece-frames : (out : List ℤ) → out ≡ samples_of (map (λ z. rounding z w.denominator) sums) → pieces a.channels n out ≡ frames_behind echo_taps a items coming
-    piece-frames out is =
-        ap (pieces a.channels n) is ∙ pieces-samples (λ z. rounding z w.denominator) a.channels n sums
-        ∙ sym (map-map (λ (g : Given). g.samples) (rounded_given (λ z. rounding z w.denominator)) (pieces a.channels n sums)) ∙ ap (map (λ (g : Given). g.samples)) piece-made
-
-    -- and their clips
-    pub piece-clips : (clips : ℕ) → clips ≡ clips_of (map (λ z. rounding z w.denominator) sums) → clips ≡ clips_behind echo_taps a items coming
-    piece-clips clips is =
-        let whole : take (n * a.channels) sums ≡ sums = take_all (n * a.channels) sums (omega arith) in
-        is ∙ ap (λ l. clips_of (map (λ z. rounding z w.denominator) l)) (sym whole) ∙ clips-samples (λ z. rounding z w.denominator) a.channels n sums
-        ∙ totals (pieces a.channels n sums) ∙ ap (total (λ (g : Given). g.clips)) piece-made
-      where
-        totals : (ps : List Samples) → clips_in (rounded_given (λ z. rounding z w.denominator)) ps ≡ total (λ (g : Given). g.clips) (map (rounded_given (λ z. rounding z w.denominator)) ps)
-        totals [] = refl
-        totals (p ∷ ps) = ap (λ m. clips_of (map (λ z. rounding z w.denominator) p) + m) (totals ps)
+  pub piece-clips : (clips : ℕ) → clips ≡ clips_of (map (λ z. rounding z w.denominator) sums) → clips ≡ clips_behind echo_taps a items coming
+  piece-clips clips is =
+      rounded-clips (λ z. rounding z w.denominator) a.channels n sums long (λ q. echoed_frame a (sample_before (items ++ coming) q)) (length items) each-frame clips is
+      ∙ ap (λ m. total (λ (g : Given). g.clips) (tabulate (λ q. echoed_frame a (sample_before (items ++ coming) q)) (length items) m)) (sym many)

@@ -10,8 +10,7 @@ ghost use Rattle.fx_tap.specs.Tapped.{IsTapState, TapState, longest, sample_befo
 ghost use Rattle.fx_tap.specs.Near.{delays-near};
 ghost use Rattle.std.proofs.Common.{zero-le};
 
-use crate::sums::sample_or_silence;
-use crate::tapped::{Tapped, Tapping, TapsMany, tap_by_frames};
+use crate::tapped::{Tapped, Tapping, TapsMany, sample, tap_by_frames};
 use fx_frame::inner::{frame_of, samples};
 use fx_frame::{Frame, Line, ThawFault, WideFrame};
 use std::alloc::{AllocError, Global};
@@ -31,20 +30,6 @@ impl Model for Delays {
     ghost view = { λ s. s.delays.items };
 
     ghost invariant = { λ s. (1 ≤ length s.delays.items) × (length s.delays.items ≤ 16) };
-}
-
-/// A sample of the frame so many places before this one, which comes after those of the line.
-#[inline(always)]
-fn sample(line: &Line, frame: &[i32], delay: usize, channel: usize) -> i32
-    ensures { result ≡ sample_before (line.now.items ++ frame.now ∷ []) (length line.now.items) delay channel }
-{
-    if delay == 0 {
-        return sample_or_silence(frame, channel);
-    }
-    let Some(from) = line.back(delay - 1) else {
-        return 0;
-    };
-    sample_or_silence(samples(&from), channel)
 }
 
 /// Writes the samples of the frame whose channels are delayed.

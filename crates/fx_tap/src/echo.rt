@@ -4,91 +4,23 @@ ghost use Rattle.std.proofs.Common.{rules};
 ghost use Rattle.std.specs.List.{All};
 ghost use Rattle.fx_frame.specs.Ring.{pieces};
 ghost use Rattle.fx_frame.specs.Stage.{Freezes, IsNew};
-ghost use Rattle.fx_tap.specs.Echo.{EchoArguments, IsEcho, echo_acts, echo_sum, echo_taps, latest};
-ghost use Rattle.fx_tap.specs.EchoWeights.{AreSmall, SoundsAs, weighed};
+ghost use Rattle.fx_tap.specs.Echo.{EchoArguments, IsEcho, echo_acts, echo_sum, echo_taps, echoed_frame, latest};
+ghost use Rattle.fx_tap.specs.EchoWeights.{SoundsAs, weighed};
 ghost use Rattle.fx_tap.specs.Near.{echoes-near};
 ghost use Rattle.fx_tap.specs.Tapped.{IsTapState, TapState, clips_behind, frames_behind, sample_before};
 
-use crate::sums::{
-    SmallSums, Sums, add_products, add_scaled, add_weighed_frame, round_sums, rounded_small_sums,
-    rounded_sums, small_sums_into, sums_into,
-};
-use crate::tapped::{Tapped, Tapping, TapsMany, tap_by_frames};
-use fx_fixed::inner::{Denominator, reduce};
+use crate::sums::{Sums, add_products, add_scaled, product, round_sums, rounded_sums, sums_into};
+use crate::tapped::{Tapped, Tapping, TapsMany, sample, tap_by_frames};
+use crate::weights::{Small, small_of};
 use fx_fixed::{Gain, UNIT};
 use fx_frame::feed::frame_at;
+use fx_frame::inner::{frame_of, samples};
 use fx_frame::{Frame, Line, ThawFault, WideFrame};
 use std::alloc::{AllocError, Global};
 use std::marker::Model;
 
-/// Gain-in and the decays, each times gain-out and in lowest terms: weights of at most `2^27` in magnitude over one
-/// prepared denominator, that of gain-in first.
-#[derive(Drop)]
-struct Small {
-    weights: [i32; 8],
-    denominator: Denominator,
-}
-
-impl Model for Small {
-    ghost use Rattle.fx_tap.specs.EchoWeights.{AreSmall, Weights};
-
-    ghost Value = { Weights };
-
-    ghost view = { λ s. record { weights = s.weights; denominator = s.denominator } };
-
-    ghost invariant = { λ s. AreSmall s.weights };
-}
-
-/// The parts of one in a gain times a gain.
-const UNIT_SQUARED: u128 = 1_000_000_000_000_000_000_000_000;
-
-/// Whether no weight is greater than `2^27` in magnitude.
-fn are_small(weights: &[i32; 8]) -> bool
-    ensures { IsTrue result → AreSmall weights.now }
-{
-    for place in 0..8 {
-        if weights[place].unsigned_abs() > 1 << 27 {
-            return false;
-        }
-    }
-    true
-}
-
-/// Gain-in and the decays in trillionths, and zeros.
-fn coefficients_of(gain_in: Gain, echoes: &[(u64, Gain)]) -> [i64; 8]
-    requires { length echoes.now ≤ 7 }
-    ensures gain_in { slice_index_or result 0 (pos 0) ≡ gain_in }
-    ensures decays { (k : ℕ) → k < length echoes.now → slice_index_or result (k + 1) (pos 0) ≡ (slice_index_or echoes.now k (0, pos 0)).1 }
-{
-    let mut coefficients = [0; 8];
-    coefficients[0] = gain_in.trillionths();
-    'echoes: for place in 0..echoes.len() {
-        coefficients[place + 1] = echoes[place].1.trillionths();
-    }
-    coefficients
-}
-
-/// Gain-in and the decays, each times gain-out, in lowest terms. None where the weights are not small.
-fn small_of(gain_in: Gain, gain_out: Gain, echoes: &[(u64, Gain)]) -> Option<Small>
-    requires { length echoes.now ≤ 7 }
-    ensures { IfSome result (SoundsAs gain_in gain_out echoes.now) }
-{
-    let coefficients = coefficients_of(gain_in, echoes);
-    let mut weights = [0; 8];
-    let denominator = reduce(
-        &coefficients,
-        gain_out.trillionths(),
-        UNIT_SQUARED,
-        &mut weights,
-    )?;
-    if !are_small(&weights) {
-        return None;
-    }
-    Some(Small {
-        weights,
-        denominator,
-    })
-}
+/// The greatest weight of small ones: of eight such products of samples the sum fits 61 bits.
+const GREATEST_WEIGHT: u32 = 1 << 27;
 
 /// What an `echo` is made with, and the same in lowest terms, where these are small.
 #[derive(Drop)]
@@ -110,29 +42,6 @@ impl Model for Echoes {
     ghost view = { λ s. record { channels = s.channels; gain_in = s.gain_in; gain_out = s.gain_out; echoes = s.echoes.items } };
 
     ghost invariant = { λ s. IsEcho (record { channels = s.channels; gain_in = s.gain_in; gain_out = s.gain_out; echoes = s.echoes.items }) × IfSome s.small (SoundsAs s.gain_in s.gain_out s.echoes.items) };
-}
-
-/// Adds the echo of a frame that comes after those of the line, so many frames late, times a weight.
-#[inline(always)]
-fn add_weighed_echo(
-    sums: &mut SmallSums,
-    channels: usize,
-    line: &Line,
-    frame: Frame,
-    late: u64,
-    weight: i32,
-)
-    requires channels { channels ≤ 16 }
-    requires late { 1 ≤ late }
-    requires weight { unsigned_abs weight ≤ 2 ^ 27 }
-    requires room { (k : ℕ) → unsigned_abs (slice_index_or sums.old k (pos 0)) ≤ 2 ^ 61 }
-    ensures added { (k : ℕ) → k < channels → slice_index_or sums.new k (pos 0) ≡ slice_index_or sums.old k (pos 0) +ℤ (weight *ℤ sample_before (line.now.items ++ frame ∷ []) (length line.now.items) late k) }
-    ensures few { (k : ℕ) → unsigned_abs (slice_index_or sums.new k (pos 0)) ≤ unsigned_abs (slice_index_or sums.old k (pos 0)) + 2 ^ 58 }
-{
-    let Some(from) = line.back(late as usize - 1) else {
-        return;
-    };
-    add_weighed_frame(sums, channels, weight, from);
 }
 
 /// Adds the echo of a frame that comes after those of the line.
@@ -158,7 +67,7 @@ impl Echoes {
         requires { IsEcho (record { channels = channels; gain_in = gain_in; gain_out = gain_out; echoes = echoes.items }) }
         ensures { result ≡ record { channels = channels; gain_in = gain_in; gain_out = gain_out; echoes = echoes.items } }
     {
-        let small = small_of(gain_in, gain_out, &echoes);
+        let small = small_of(gain_in, gain_out, &echoes, GREATEST_WEIGHT);
         Echoes {
             channels,
             gain_in,
@@ -168,20 +77,38 @@ impl Echoes {
         }
     }
 
-    /// The frame and its echoes, each times its weight, added.
+    /// A sample of a frame that comes after those of the line, and its echoes, each times its weight, added.
     #[inline(always)]
-    fn small_sums(&self, small: &Small, line: &Line, frame: Frame) -> SmallSums
-        ensures value { (k : ℕ) → k < self.now.channels → slice_index_or result k (pos 0) ≡ echo_sum (weighed self.now small.now.weights) (sample_before (line.now.items ++ frame ∷ []) (length line.now.items)) k }
-        ensures small { (k : ℕ) → unsigned_abs (slice_index_or result k (pos 0)) ≤ 2 ^ 61 }
+    fn small_sum(&self, small: &Small, line: &Line, frame: &[i32], channel: usize) -> i64
+        ensures value { result ≡ echo_sum (weighed self.now small.now.weights) (sample_before (line.now.items ++ frame.now ∷ []) (length line.now.items)) channel }
+        ensures small { unsigned_abs result ≤ 2 ^ 61 }
     {
-        let mut sums = [0; 16];
-        add_weighed_frame(&mut sums, self.channels, small.weights[0], frame);
+        let mut sum = product(small.weights[0], sample(line, frame, 0, channel));
         'echoes: for place in 0..self.echoes.len() {
             let (late, _) = self.echoes[place];
-            let weight = small.weights[place + 1];
-            add_weighed_echo(&mut sums, self.channels, line, frame, late, weight);
+            let earlier = sample(line, frame, late as usize, channel);
+            sum += product(small.weights[place + 1], earlier);
         }
-        sums
+        sum
+    }
+
+    /// Writes the samples of a frame that comes after those of the line, with their echoes, and counts how many were clipped.
+    #[inline(always)]
+    fn small_into(&self, small: &Small, line: &Line, frame: &[i32], out: &mut [i32]) -> u64
+        requires sounds { SoundsAs self.now.gain_in self.now.gain_out self.now.echoes small.now }
+        requires out { length out.old ≡ self.now.channels }
+        ensures frame { out.new ≡ (echoed_frame self.now (sample_before (line.now.items ++ frame.now ∷ []) (length line.now.items))).samples }
+        ensures clips { result ≡ (echoed_frame self.now (sample_before (line.now.items ++ frame.now ∷ []) (length line.now.items))).clips }
+        ensures few { result ≤ length out.old }
+    {
+        let mut clips = 0;
+        'channels: for channel in 0..out.len() {
+            let sum = self.small_sum(small, line, frame, channel);
+            let (sample, is_clipped) = small.denominator.round(sum);
+            out[channel] = sample;
+            clips += u64::from(is_clipped);
+        }
+        clips
     }
 
     /// The frame times gain-in, and its echoes, added.
@@ -204,19 +131,19 @@ impl Tapping for Echoes {
 
     fn tap(&self, line: &Line, frame: Frame) -> (Frame, u64) {
         if let Some(small) = &self.small {
-            let sums = self.small_sums(small, line, frame);
-            return rounded_small_sums(&sums, self.channels, &small.denominator);
+            let mut out = [0; 16];
+            let clips = self.small_into(small, line, samples(&frame), &mut out[..self.channels]);
+            return (frame_of(self.channels, out), clips);
         }
         let sums = self.sums(line, frame);
         rounded_sums(&sums, self.channels, self.gain_out)
     }
 
     fn tap_into(&self, line: &Line, frame: &[i32], out: &mut [i32]) -> u64 {
-        let frame = frame_at(frame, 0, self.channels);
         if let Some(small) = &self.small {
-            let sums = self.small_sums(small, line, frame);
-            return small_sums_into(&sums, &small.denominator, out);
+            return self.small_into(small, line, frame, out);
         }
+        let frame = frame_at(frame, 0, self.channels);
         let sums = self.sums(line, frame);
         sums_into(&sums, self.gain_out, out)
     }

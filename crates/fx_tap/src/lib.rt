@@ -14,6 +14,7 @@ mod rows;
 mod sums;
 pub mod tapped;
 pub mod vol;
+mod weights;
 
 pub use dcshift::DcShift;
 pub use delay::Delay;

@@ -118,40 +118,14 @@ pub(crate) fn rounded_sums(sums: &Sums, channels: usize, gain: Gain) -> (Frame, 
     (frame_of(channels, out), clips)
 }
 
-/// One sum for each channel, in the parts of a prepared denominator.
-pub(crate) type SmallSums = [i64; 16];
-
-/// Adds a weight times the sample of each channel.
+/// A weight times a sample.
 #[inline(always)]
-pub(crate) fn add_weighed<P: Places>(
-    sums: &mut SmallSums,
-    channels: usize,
-    weight: i32,
-    samples: &P,
-)
-    requires channels { channels ≤ 16 }
-    requires weight { unsigned_abs weight ≤ 2 ^ 27 }
-    requires samples { (k : ℕ) → unsigned_abs (slice_index_or (P.list samples.now) k (pos 0)) ≤ 2 ^ 31 }
-    requires room { (k : ℕ) → unsigned_abs (slice_index_or sums.old k (pos 0)) ≤ 2 ^ 61 }
-    ensures added { (k : ℕ) → k < channels → slice_index_or sums.new k (pos 0) ≡ slice_index_or sums.old k (pos 0) +ℤ (weight *ℤ slice_index_or (P.list samples.now) k (pos 0)) }
-    ensures few { (k : ℕ) → unsigned_abs (slice_index_or sums.new k (pos 0)) ≤ unsigned_abs (slice_index_or sums.old k (pos 0)) + 2 ^ 58 }
+pub(crate) fn product(weight: i32, sample: i32) -> i64
+    requires { unsigned_abs weight ≤ 2 ^ 27 }
+    ensures value { result ≡ weight *ℤ sample }
+    ensures few { unsigned_abs result ≤ 2 ^ 58 }
 {
-    let factor = i64::from(weight);
-    for channel in 0..channels {
-        sums[channel] += factor * samples.at(channel);
-    }
-}
-
-/// Adds a weight times each sample of a frame.
-#[inline(always)]
-pub(crate) fn add_weighed_frame(sums: &mut SmallSums, channels: usize, weight: i32, frame: Frame)
-    requires channels { channels ≤ 16 }
-    requires weight { unsigned_abs weight ≤ 2 ^ 27 }
-    requires room { (k : ℕ) → unsigned_abs (slice_index_or sums.old k (pos 0)) ≤ 2 ^ 61 }
-    ensures added { (k : ℕ) → k < channels → slice_index_or sums.new k (pos 0) ≡ slice_index_or sums.old k (pos 0) +ℤ (weight *ℤ slice_index_or frame k (pos 0)) }
-    ensures few { (k : ℕ) → unsigned_abs (slice_index_or sums.new k (pos 0)) ≤ unsigned_abs (slice_index_or sums.old k (pos 0)) + 2 ^ 58 }
-{
-    add_weighed(sums, channels, weight, &places(&frame));
+    i64::from(weight) * i64::from(sample)
 }
 
 /// Adds a weight times each sample to the sum at its place.
@@ -185,41 +159,4 @@ pub(crate) fn round_sums(sums: &[i64], denominator: &Denominator, out: &mut [i32
         clips += u64::from(is_clipped);
     }
     clips
-}
-
-/// Writes the sums over the denominator, each rounded once, and counts how many samples were clipped.
-#[inline(always)]
-pub(crate) fn small_sums_into(sums: &SmallSums, denominator: &Denominator, out: &mut [i32]) -> u64
-    requires channels { length out.old ≤ 16 }
-    requires small { (k : ℕ) → unsigned_abs (slice_index_or sums.now k (pos 0)) ≤ 2 ^ 61 }
-    ensures frame { out.new ≡ (given_of (tabulate (λ k. rounding (slice_index_or sums.now k (pos 0)) denominator.now) 0 (length out.old))).samples }
-    ensures clips { result ≡ (given_of (tabulate (λ k. rounding (slice_index_or sums.now k (pos 0)) denominator.now) 0 (length out.old))).clips }
-    ensures few { result ≤ length out.old }
-{
-    let mut clips = 0;
-    for channel in 0..out.len() {
-        let (sample, is_clipped) = denominator.round(sums[channel]);
-        out[channel] = sample;
-        clips += u64::from(is_clipped);
-    }
-    clips
-}
-
-/// The frame of the sums over the denominator, each rounded once, and how many samples were clipped.
-#[inline(always)]
-pub(crate) fn rounded_small_sums(
-    sums: &SmallSums,
-    channels: usize,
-    denominator: &Denominator,
-) -> (Frame, u64)
-    requires channels { (1 ≤ channels) × (channels ≤ 16) }
-    requires small { (k : ℕ) → unsigned_abs (slice_index_or sums.now k (pos 0)) ≤ 2 ^ 61 }
-    ensures frame { result.0 ≡ (given_of (tabulate (λ k. rounding (slice_index_or sums.now k (pos 0)) denominator.now) 0 channels)).samples }
-    ensures clips { result.1 ≡ (given_of (tabulate (λ k. rounding (slice_index_or sums.now k (pos 0)) denominator.now) 0 channels)).clips }
-    ensures few { result.1 ≤ 16 }
-    ensures channels { length result.0 ≡ channels }
-{
-    let mut out = [0; 16];
-    let clips = small_sums_into(sums, denominator, &mut out[..channels]);
-    (frame_of(channels, out), clips)
 }

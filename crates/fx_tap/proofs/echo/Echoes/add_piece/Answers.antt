@@ -2,8 +2,9 @@ use Rattle.std.proofs.Common.{◌<◌, ◌≤◌, ◌+◌, ◌*◌, ◌+ℤ◌, 
 use Rattle.fx_frame.specs.Ring.{pieces}
 use Rattle.fx_tap.specs.EchoWeights.{weighed_echoes}
 use Rattle.fx_tap.proofs.EchoLaws.{echo-first, echo-next, echo-last}
-use Rattle.fx_tap.proofs.EchoPieces.{coming-sample, earlier-sample, flat-place}
+use Rattle.fx_tap.proofs.EchoPieces.{coming-sample, earlier-sample}
 use Rattle.fx_tap.proofs.EchoWeights.{held-weight, weighed-at, weighed-length}
+use Rattle.fx_tap.proofs.SumPieces.{flat-place}
 use Rattle.fx_tap.proofs.echo.Echoes.add_piece.Goals as goal
 
 pub echoes-init : goal.echoes-init

@@ -2,9 +2,8 @@ use Rattle.std.proofs.Common.{◌∙◌, ◌++◌, ◌∷◌, [], length, ap}
 use Rattle.fx_tap.specs.Tapped.{sample_before}
 use Rattle.fx_tap.specs.Rounded.{clips_of, samples_of}
 use Rattle.fx_tap.specs.Echo.{EchoArguments}
-use Rattle.fx_tap.specs.EchoWeights.{SoundsAs, Weights}
+use Rattle.fx_tap.specs.EchoWeights.{SoundsAs}
 use Rattle.fx_tap.proofs.EchoLaws.{echoed-is}
-use Rattle.fx_tap.proofs.EchoWeights.{small-is}
 use Rattle.fx_tap.proofs.echo.EchoesTapping.tap.Goals as goal
 
 pub returns-clause-frame : goal.returns-clause-frame
@@ -17,20 +16,7 @@ returns-clause-clips c =
     let value = rw (← c.self.view_is) at c.sums-sums.ensures.value in
     rw (← c.self.view_is) (c.rounded_sums.ensures.clips ∙ ap clips_of (echoed-is (record { channels = c.self.inside.channels; gain_in = c.self.inside.gain_in; gain_out = c.self.inside.gain_out; echoes = c.self.inside.echoes.items }) (sample_before (c.args.line.now.items ++ c.args.frame ∷ []) (length c.args.line.now.items)) c.sums-sums.result value))
 
-pub returns-in-Some-clause-frame : goal.returns-in-Some-clause-frame
-returns-in-Some-clause-frame c =
-    let a : EchoArguments = record { channels = c.self.inside.channels; gain_in = c.self.inside.gain_in; gain_out = c.self.inside.gain_out; echoes = c.self.inside.echoes.items } in
-    let w : Weights = record { weights = c.small.inside.weights; denominator = c.small.inside.denominator } in
-    let told : SoundsAs a.gain_in a.gain_out a.echoes c.in-Some.small = rw c.in-Some.is at c.self.invariant.1 in
-    let sounds : SoundsAs a.gain_in a.gain_out a.echoes w = rw (← c.small.view_is) at told in
-    let value = rw (← c.self.view_is, ← c.small.view_is) at c.small_sums-sums.ensures.value in
-    rw (← c.self.view_is) (c.rounded_small_sums.ensures.frame ∙ ap samples_of (small-is a w (sample_before (c.args.line.now.items ++ c.args.frame ∷ []) (length c.args.line.now.items)) c.small_sums-sums.result value sounds))
-
-pub returns-in-Some-clause-clips : goal.returns-in-Some-clause-clips
-returns-in-Some-clause-clips c =
-    let a : EchoArguments = record { channels = c.self.inside.channels; gain_in = c.self.inside.gain_in; gain_out = c.self.inside.gain_out; echoes = c.self.inside.echoes.items } in
-    let w : Weights = record { weights = c.small.inside.weights; denominator = c.small.inside.denominator } in
-    let told : SoundsAs a.gain_in a.gain_out a.echoes c.in-Some.small = rw c.in-Some.is at c.self.invariant.1 in
-    let sounds : SoundsAs a.gain_in a.gain_out a.echoes w = rw (← c.small.view_is) at told in
-    let value = rw (← c.self.view_is, ← c.small.view_is) at c.small_sums-sums.ensures.value in
-    rw (← c.self.view_is) (c.rounded_small_sums.ensures.clips ∙ ap clips_of (small-is a w (sample_before (c.args.line.now.items ++ c.args.frame ∷ []) (length c.args.line.now.items)) c.small_sums-sums.result value sounds))
+pub small_into-clips-requires-clause-sounds : goal.small_into-clips-requires-clause-sounds
+small_into-clips-requires-clause-sounds c =
+    let told : SoundsAs c.self.inside.gain_in c.self.inside.gain_out c.self.inside.echoes.items c.in-Some.small = rw c.in-Some.is at c.self.invariant.1 in
+    rw (← c.self.view_is) told

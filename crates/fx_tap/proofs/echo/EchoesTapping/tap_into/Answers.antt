@@ -3,9 +3,8 @@ use Rattle.std.proofs.lemmas.List.{take_all}
 use Rattle.fx_tap.specs.Tapped.{sample_before}
 use Rattle.fx_tap.specs.Rounded.{clips_of, samples_of}
 use Rattle.fx_tap.specs.Echo.{EchoArguments}
-use Rattle.fx_tap.specs.EchoWeights.{SoundsAs, Weights}
+use Rattle.fx_tap.specs.EchoWeights.{SoundsAs}
 use Rattle.fx_tap.proofs.EchoLaws.{echoed-is}
-use Rattle.fx_tap.proofs.EchoWeights.{small-is}
 use Rattle.fx_tap.proofs.echo.EchoesTapping.tap_into.Goals as goal
 
 pub returns-clause-frame : goal.returns-clause-frame
@@ -24,26 +23,7 @@ returns-clause-clips c =
     let clips = rw count at c.sums_into.ensures.clips in
     rw (← c.self.view_is) (clips ∙ ap clips_of (echoed-is (record { channels = c.self.inside.channels; gain_in = c.self.inside.gain_in; gain_out = c.self.inside.gain_out; echoes = c.self.inside.echoes.items }) (sample_before (c.args.line.now.items ++ c.args.frame.now ∷ []) (length c.args.line.now.items)) c.sums-sums.result value))
 
-pub returns-in-Some-clause-frame : goal.returns-in-Some-clause-frame
-returns-in-Some-clause-frame c =
-    let a : EchoArguments = record { channels = c.self.inside.channels; gain_in = c.self.inside.gain_in; gain_out = c.self.inside.gain_out; echoes = c.self.inside.echoes.items } in
-    let w : Weights = record { weights = c.small.inside.weights; denominator = c.small.inside.denominator } in
-    let told : SoundsAs a.gain_in a.gain_out a.echoes c.in-Some.small = rw c.in-Some.is at c.self.invariant.1 in
-    let sounds : SoundsAs a.gain_in a.gain_out a.echoes w = rw (← c.small.view_is) at told in
-    let whole : c.frame_at-frame.result ≡ c.args.frame.now = c.frame_at-frame.ensures.frame ∙ take_all c.self.inside.channels c.args.frame.now (omega (arith, rw (← c.self.view_is) at c.requires.frame)) in
-    let count = rw (← c.self.view_is) at c.requires.out in
-    let value = rw (← c.self.view_is, ← c.small.view_is, whole) at c.small_sums-sums.ensures.value in
-    let made = rw count at c.small_sums_into.ensures.frame in
-    rw (← c.self.view_is) (made ∙ ap samples_of (small-is a w (sample_before (c.args.line.now.items ++ c.args.frame.now ∷ []) (length c.args.line.now.items)) c.small_sums-sums.result value sounds))
-
-pub returns-in-Some-clause-clips : goal.returns-in-Some-clause-clips
-returns-in-Some-clause-clips c =
-    let a : EchoArguments = record { channels = c.self.inside.channels; gain_in = c.self.inside.gain_in; gain_out = c.self.inside.gain_out; echoes = c.self.inside.echoes.items } in
-    let w : Weights = record { weights = c.small.inside.weights; denominator = c.small.inside.denominator } in
-    let told : SoundsAs a.gain_in a.gain_out a.echoes c.in-Some.small = rw c.in-Some.is at c.self.invariant.1 in
-    let sounds : SoundsAs a.gain_in a.gain_out a.echoes w = rw (← c.small.view_is) at told in
-    let whole : c.frame_at-frame.result ≡ c.args.frame.now = c.frame_at-frame.ensures.frame ∙ take_all c.self.inside.channels c.args.frame.now (omega (arith, rw (← c.self.view_is) at c.requires.frame)) in
-    let count = rw (← c.self.view_is) at c.requires.out in
-    let value = rw (← c.self.view_is, ← c.small.view_is, whole) at c.small_sums-sums.ensures.value in
-    let made = rw count at c.small_sums_into.ensures.clips in
-    rw (← c.self.view_is) (made ∙ ap clips_of (small-is a w (sample_before (c.args.line.now.items ++ c.args.frame.now ∷ []) (length c.args.line.now.items)) c.small_sums-sums.result value sounds))
+pub small_into-requires-clause-sounds : goal.small_into-requires-clause-sounds
+small_into-requires-clause-sounds c =
+    let told : SoundsAs c.self.inside.gain_in c.self.inside.gain_out c.self.inside.echoes.items c.in-Some.small = rw c.in-Some.is at c.self.invariant.1 in
+    rw (← c.self.view_is) told

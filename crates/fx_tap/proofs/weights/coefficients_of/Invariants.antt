@@ -1,5 +1,5 @@
 use Rattle.std.proofs.Common.{◌≡◌, ◌<◌, ◌+◌, ℕ, pos, length, slice_index_or}
-use Rattle.fx_tap.proofs.echo.coefficients_of.Given as goal
+use Rattle.fx_tap.proofs.weights.coefficients_of.Given as goal
 
 abbrev pub invariant-echoes : goal.invariant-echoes
 invariant-echoes l = record {
