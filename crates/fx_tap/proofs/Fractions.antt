@@ -17,7 +17,7 @@ pub below-positive : (by q n : ℕ) → by * q ≡ n → 0 < n → 0 < q
 below-positive by zero n e positive = omega (arith, e, positive)
 below-positive by (suc q) n e positive = omega arith
 
-one-times : (z : ℤ) → pos 1 *ℤ z ≡ z
+pub one-times : (z : ℤ) → pos 1 *ℤ z ≡ z
 one-times z = omega (arith, ints)
 
 -- the weight is that of the reduced gain

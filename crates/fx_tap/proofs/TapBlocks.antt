@@ -40,7 +40,7 @@ pub last-more : (c : ℕ) (items xs : List Samples) (x : Samples) → last_of c 
 last-more c items xs x = last-joined c items xs (x ∷ [])
 
 -- the first of more frames goes through the line
-last-first : (c : ℕ) (items xs : List Samples) (x : Samples) → last_of c (last_of c (items ++ x ∷ []) ++ xs) ≡ last_of c (items ++ x ∷ xs)
+pub last-first : (c : ℕ) (items xs : List Samples) (x : Samples) → last_of c (last_of c (items ++ x ∷ []) ++ xs) ≡ last_of c (items ++ x ∷ xs)
 last-first c items xs x = last-joined c items (x ∷ []) xs
 
 -- no more than those there are

@@ -8,7 +8,7 @@ use Rattle.fx_frame.specs.Frame.{Samples}
 use Rattle.fx_frame.specs.Frozen.{IsHand}
 use Rattle.fx_frame.specs.Line.{Frames, IsLine}
 use Rattle.fx_frame.specs.Stage.{Given, Acts}
-use Rattle.fx_tap.specs.Tapped.{sample_before}
+use Rattle.fx_tap.specs.Tapped.{Taps, sample_before}
 use Rattle.fx_tap.specs.Lists.{tabulate}
 use Rattle.fx_tap.specs.Mapped.{most_taken}
 use Rattle.fx_tap.specs.Products.{sum_of_products}
@@ -38,6 +38,15 @@ filtered_sample h x m channel = rounding (sum_of_products (samples_back x m chan
 -- those of all channels
 abbrev pub filtered_frame : FirArguments → List Samples → ℕ → Given
 filtered_frame r x m = given_of (tabulate (filtered_sample r.coefficients x m) 0 r.channels)
+
+-- the frame that is made of a frame and of as many before it as there are further coefficients
+abbrev pub fir_taps : Taps FirArguments
+fir_taps = record {
+  channels = λ r. r.channels;
+  reach = λ r. length r.coefficients - 1;
+  most_clips = λ r. 16;
+  made = λ r past. given_of (tabulate (λ c. rounding (sum_of_products (tabulate (λ k. past k c) 0 (length r.coefficients)) r.coefficients) UNIT) 0 r.channels);
+}
 
 -- frame n of the filtered list: the sum of h_k * x[n + centre - k]
 abbrev pub filtered_at : FirArguments → List Samples → ℕ → Given

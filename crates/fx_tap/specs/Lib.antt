@@ -5,6 +5,7 @@ pub mod EchoWeights
 pub mod Echos
 pub mod EchosStored
 pub mod Fir
+pub mod FirWeights
 pub mod Fractions
 pub mod Lanes
 pub mod Lists

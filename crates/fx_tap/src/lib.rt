@@ -1,11 +1,14 @@
 //! Effects that compute samples: each sample is one exact fraction, rounded once.
 #![tactic(auto)]
 
+mod channels;
+mod convolve;
 pub mod dcshift;
 pub mod delay;
 pub mod echo;
 pub mod echos;
 pub mod fir;
+mod kernel;
 pub mod mapped;
 pub mod per_sample;
 pub mod products;

@@ -21,7 +21,7 @@ fn split(coefficient: i64) -> (i32, i32)
 
 /// Four samples.
 #[inline(always)]
-fn load(samples: &[i32], at: usize) -> i64x4
+pub(crate) fn load(samples: &[i32], at: usize) -> i64x4
     requires { at + 4 ≤ length samples.now }
     ensures value { result ≡ chunk at 4 samples.now }
     ensures small { LanesWithin (2 ^ 31) result }

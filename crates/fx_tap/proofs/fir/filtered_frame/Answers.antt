@@ -10,7 +10,7 @@ pub channels-preserved : goal.channels-preserved
 channels-preserved c =
     let k : ℕ = c.channels.channel in
     let h : k < 16 = omega arith in
-    let G : ℕ → ℤ × Bool = filtered_sample (reverse c.args.backwards.now) (c.args.line.now.items ++ c.args.latest.now) c.args.place in
+    let G : ℕ → ℤ × Bool = filtered_sample (reverse c.args.kernel.now) (c.args.line.now.items ++ c.args.latest.now) c.args.place in
     let w : to_z w32 (of_z w32 c.filtered_sample-sample.result.0) ≡ c.filtered_sample-sample.result.0 = search rules in
     let e : to_z w32 (of_z w32 c.filtered_sample-sample.result.0) ≡ (G k).0 = w ∙ ap (λ r. r.0) c.filtered_sample-sample.ensures in
     let one = byte-le c.filtered_sample-sample.result.1 in
@@ -23,7 +23,7 @@ channels-preserved c =
 pub returns-clause-frame : goal.returns-clause-frame
 returns-clause-frame c =
     let e : c.channels.channel ≡ c.args.channels = omega arith in
-    let G : ℕ → ℤ × Bool = filtered_sample (reverse c.args.backwards.now) (c.args.line.now.items ++ c.args.latest.now) c.args.place in
+    let G : ℕ → ℤ × Bool = filtered_sample (reverse c.args.kernel.now) (c.args.line.now.items ++ c.args.latest.now) c.args.place in
     rw (c.frame_of-out.ensures, c.channels.invariant.samples, e) (take-tabulate _ _ 0 c.args.channels) ∙ sym (samples_of-tabulate G 0 c.args.channels)
 
 pub returns-clause-fits : goal.returns-clause-fits

@@ -8,14 +8,14 @@ pub returns-clause-thawed : goal.returns-clause-thawed
 returns-clause-thawed c s is made froze =
     let stored = stored-is s c.args.channels c.args.coefficients.now c.args.frames.now c.args.numbers.now is made froze in
     let same = c.in-Ok.ensures.only s.line s.hand stored in
-    thawed-is s c.args.channels c.args.coefficients.now _ _ _ c.args.numbers.now made froze.counted same.0 same.1 c.in-Ok-reversed.ensures.items
+    thawed-is s c.args.channels c.args.coefficients.now _ _ _ c.args.numbers.now made froze.counted same.0 same.1 c.in-Ok-of.ensures.value
 
 pub invariant_of-result : goal.invariant_of-result
 invariant_of-result c =
     let st = c.in-Ok.ensures.found in
     let all = ap length st.stored ∙ length-append c.in-Ok.stored.0.items (option_to_list c.in-Ok.stored.1) in
     let lined : length c.in-Ok.stored.0.items ≡ slice_index_or c.args.numbers.now 4 0 - slice_index_or c.args.numbers.now 6 0 = omega (arith, all, st.hands_are, c.if-held-frames.false) in
-    let size : length c.in-Ok-reversed.backwards.items ≡ length c.args.coefficients.now = ap length c.in-Ok-reversed.ensures.items ∙ length-reverse c.args.coefficients.now in
+    let size : length c.in-Ok-of.kernel ≡ length c.args.coefficients.now = ap length c.in-Ok-of.ensures.value ∙ length-reverse c.args.coefficients.now in
     record {
       line = st.lined;
       channels = st.channels_are;

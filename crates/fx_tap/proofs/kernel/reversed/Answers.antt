@@ -2,7 +2,7 @@ use Rattle.std.proofs.Common.{◌≡◌, ◌≤◌, ◌+◌, ◌^◌, ◌++◌, 
 use Rattle.std.specs.Int.{w64}
 use Rattle.std.proofs.lemmas.List.{drop_more}
 use Rattle.std.proofs.lemmas.List.Elements.{All-push}
-use Rattle.fx_tap.proofs.fir.reversed.Goals as goal
+use Rattle.fx_tap.proofs.kernel.reversed.Goals as goal
 
 pub coefficients-preserved : goal.coefficients-preserved
 coefficients-preserved c =

@@ -1,5 +1,5 @@
 use Rattle.std.proofs.Common.{◌≡◌, ◌≤◌, ◌^◌, ◌++◌, drop, unsigned_abs, All}
-use Rattle.fx_tap.proofs.fir.reversed.Given as goal
+use Rattle.fx_tap.proofs.kernel.reversed.Given as goal
 
 abbrev pub invariant-coefficients : goal.invariant-coefficients
 invariant-coefficients l = record {
