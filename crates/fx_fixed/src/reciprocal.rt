@@ -100,11 +100,13 @@ impl Denominator {
 fn clip_whole(number: i64) -> (i32, bool)
     ensures { result ≡ clipping number }
 {
-    if number > 0x7fff_ffff {
-        (i32::MAX, true)
-    } else if number < -0x8000_0000 {
+    // A number that is a sample is told by one comparison: that is nearly every one.
+    if number >= -0x8000_0000 && number <= 0x7fff_ffff {
+        return (number as i32, false);
+    }
+    if number < 0 {
         (i32::MIN, true)
     } else {
-        (number as i32, false)
+        (i32::MAX, true)
     }
 }
