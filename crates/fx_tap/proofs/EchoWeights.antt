@@ -1,6 +1,6 @@
 -- The gains of an `echo` or `echos` in lowest terms.
 use Rattle.std.proofs.Common.{ℕ, ℤ, pos, zero, suc, ◌+◌, ◌*◌, ◌^◌, ◌<◌, ◌≤◌, ◌≡◌, ◌+ℤ◌, ◌*ℤ◌, List, [], ◌∷◌, drop, length, map, get_or, refl, sym, ap, ◌∙◌, arith, zero-add, to_z, of_z}
-use Rattle.std.specs.Prelude.{slice_index_or}
+use Rattle.std.specs.Prelude.{slice_index_or, IfSome, None, Option, Some}
 use Rattle.std.specs.Int.{w32}
 use Rattle.std.proofs.lemmas.Int.{fits_signed_from_abs, ints, to_z-of_z}
 use Rattle.std.proofs.lemmas.List.{length-drop, length-map}
@@ -10,7 +10,7 @@ use Rattle.fx_fixed.specs.declared.gains.TheConstants.{UNIT}
 use Rattle.fx_fixed.proofs.Reductions.{rounding-reduced}
 use Rattle.fx_tap.specs.Lists.{tabulate}
 use Rattle.fx_tap.specs.Echo.{EchoArguments, echo_sum, echoed_sample, echoes_of}
-use Rattle.fx_tap.specs.EchoWeights.{AreSmall, SoundsAs, Weights, weighed, weighed_echoes}
+use Rattle.fx_tap.specs.EchoWeights.{AreSmall, SoundsAs, Suits, Weights, weighed, weighed_echoes}
 use Rattle.fx_tap.specs.Products.{sum_of_products}
 use Rattle.fx_tap.specs.Tapped.{Past}
 use Rattle.fx_tap.proofs.Fractions.{below-positive}
@@ -108,3 +108,8 @@ pub small-is : (a : EchoArguments) (w : Weights) (past : Past) (sums : List ℤ)
 small-is a w past sums h sounds =
     tabulate-same (λ k. rounding (slice_index_or sums k (pos 0)) w.denominator) (echoed_sample a past) 0 0 a.channels (λ k l.
     rw zero-add (ap (λ z. rounding z w.denominator) (h k l) ∙ small-sample a w past k sounds))
+
+-- small weights that sound as the gains suit an `echos`
+pub suits-of : (a : EchoArguments) (o : Option Weights) → IfSome o (SoundsAs a.gain_in a.gain_out a.echoes) → IfSome o (λ w. AreSmall (2 ^ 24) w.weights) → IfSome o (Suits a)
+suits-of a None sounds small = tt
+suits-of a (Some w) sounds small = record { sounds = sounds; small = small }

@@ -69,7 +69,7 @@ after-sound c came j d (l ∷ ls) x b few xs bs h (suc i) lt =
     rw (← at) (after-sound c came (suc j) (λ i. d (suc i)) ls x (or_silence c (pushed_out l (fed c x b))) (omega arith) xs gone
     (λ i l. let at : suc j + i ≡ j + suc i = omega arith in rw at (h (suc i) (omega arith))) i (omega arith))
 
-length-after : (c : ℕ) (ls : List (Frames ℤ)) (x b : Samples) → length (lines_after c ls x b) ≡ length ls
+pub length-after : (c : ℕ) (ls : List (Frames ℤ)) (x b : Samples) → length (lines_after c ls x b) ≡ length ls
 length-after c [] x b = refl
 length-after c (l ∷ ls) x b = ap suc (length-after c ls x (or_silence c (pushed_out l (fed c x b))))
 

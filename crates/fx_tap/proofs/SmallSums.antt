@@ -23,6 +23,16 @@ plain-small-sum s w x f y e d small sample room =
     let product = weighed-few w x small sample in
     rw (e, d, held-in-64 s (omega (arith, room)), held-in-64 w (omega (arith, small)), held-in-64 x (omega (arith, sample)), held-in-64 (w *ℤ x) (omega (arith, product))) refl
 
+-- the same for larger samples and smaller weights
+pub wide-few : (w x : ℤ) → unsigned_abs w ≤ 2 ^ 24 → unsigned_abs x ≤ 2 ^ 34 → unsigned_abs (w *ℤ x) ≤ 2 ^ 58
+wide-few w x small sample = scaled-few w x (2 ^ 24) (2 ^ 34) small sample
+
+pub plain-wide-sum : (s w x f : ℤ) → f ≡ w → unsigned_abs w ≤ 2 ^ 24 → unsigned_abs x ≤ 2 ^ 34 → unsigned_abs s ≤ 2 ^ 62
+    → to_z w64 (of_z w64 s) +ℤ to_z w64 (of_z w64 (to_z w64 (of_z w64 f) *ℤ to_z w64 (of_z w64 x))) ≡ s +ℤ (w *ℤ x)
+plain-wide-sum s w x f e small sample room =
+    let product = wide-few w x small sample in
+    rw (e, held-in-64 s (omega (arith, room)), held-in-64 w (omega (arith, small)), held-in-64 x (omega (arith, sample)), held-in-64 (w *ℤ x) (omega (arith, product))) refl
+
 -- a sum and a product in 64 bits
 pub plain-added : (s p : ℤ) → unsigned_abs s ≤ 2 ^ 62 → unsigned_abs p ≤ 2 ^ 58 → (FitsSigned w64 (s +ℤ to_z w64 (of_z w64 p))) × (to_z w64 (of_z w64 (s +ℤ to_z w64 (of_z w64 p))) ≡ s +ℤ p)
 plain-added s p room few =

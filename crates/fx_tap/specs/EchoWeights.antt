@@ -1,5 +1,5 @@
 -- The gains of an `echo` or `echos` in lowest terms.
-use Rattle.std.specs.Prelude.{ℕ, ℤ, pos, ◌≡◌, ◌*◌, ◌≤◌, ◌*ℤ◌, ◌+ℤ◌, List, [], ◌∷◌, length, map, drop, slice_index_or, unsigned_abs}
+use Rattle.std.specs.Prelude.{ℕ, ℤ, pos, ◌≡◌, ◌*◌, ◌^◌, ◌≤◌, ◌*ℤ◌, ◌+ℤ◌, List, [], ◌∷◌, length, map, drop, slice_index_or, unsigned_abs}
 use Rattle.fx_fixed.specs.Rounding.{rounding}
 use Rattle.fx_fixed.specs.declared.gains.TheConstants.{UNIT}
 use Rattle.fx_tap.specs.Echo.{EchoArguments}
@@ -28,3 +28,8 @@ abbrev pub SoundsAs : ℤ → ℤ → List (ℕ × ℤ) → Weights → Type 0
 SoundsAs gain_in gain_out echoes w =
     (x : ℤ) (ys : List ℤ) → length ys ≡ length echoes → rounding ((slice_index_or w.weights 0 (pos 0) *ℤ x) +ℤ sum_of_products (drop 1 w.weights) ys) w.denominator
     ≡ rounding (gain_out *ℤ ((gain_in *ℤ x) +ℤ sum_of_products (map (λ e. e.1) echoes) ys)) (UNIT * UNIT)
+
+-- weights that an `echos` may take in place of its gains: what a line lets go may be as large as eight samples
+pub record Suits (a : EchoArguments) (w : Weights) : Type 0 where
+  pub sounds : SoundsAs a.gain_in a.gain_out a.echoes w
+  pub small : AreSmall (2 ^ 24) w.weights

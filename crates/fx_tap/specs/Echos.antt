@@ -76,6 +76,15 @@ abbrev pub lines_after : ℕ → List (Frames ℤ) → Samples → Samples → L
 lines_after channels [] x before = []
 lines_after channels (l ∷ ls) x before = after_push l (fed channels x before) ∷ lines_after channels ls x (or_silence channels (pushed_out l (fed channels x before)))
 
+-- the lines after so many frames came, one after the other
+abbrev pub rows_after : ℕ → List (Frames ℤ) → List Samples → List (Frames ℤ)
+rows_after channels lines [] = lines
+rows_after channels lines (x ∷ xs) = rows_after channels (lines_after channels lines x (replicate channels (pos 0))) xs
+
+-- what the lines let go for the frame at a place of those that come
+abbrev pub gone_at : ℕ → List (Frames ℤ) → List Samples → ℕ → List Samples
+gone_at channels lines xs i = let_go channels (rows_after channels lines (take i xs)) (slice_index_or xs i []) (replicate channels (pos 0))
+
 -- the frame that is given for a frame and what the lines let go
 abbrev pub frame_of_lines : EchoArguments → Samples → List Samples → Given
 frame_of_lines a x gone = given_of (tabulate (λ k. rounding (a.gain_out *ℤ ((a.gain_in *ℤ slice_index_or x k (pos 0)) +ℤ sum_of_products (decays a.echoes) (channel_of gone k (pos 0)))) (UNIT * UNIT)) 0 a.channels)

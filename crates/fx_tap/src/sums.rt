@@ -136,10 +136,40 @@ pub(crate) fn add_products(sums: &mut [i64], samples: &[i32], weight: i32)
     requires room { (k : ℕ) → unsigned_abs (slice_index_or sums.old k (pos 0)) ≤ 2 ^ 61 }
     ensures added { (k : ℕ) → k < length sums.old → slice_index_or sums.new k (pos 0) ≡ slice_index_or sums.old k (pos 0) +ℤ (weight *ℤ slice_index_or samples.now k (pos 0)) }
     ensures few { (k : ℕ) → unsigned_abs (slice_index_or sums.new k (pos 0)) ≤ unsigned_abs (slice_index_or sums.old k (pos 0)) + 2 ^ 58 }
+    ensures samples { (k : ℕ) → k < length samples.now → unsigned_abs (slice_index_or samples.now k (pos 0)) ≤ 2 ^ 31 }
 {
     let factor = i64::from(weight);
     for place in 0..samples.len() {
         sums[place] += factor * i64::from(samples[place]);
+    }
+}
+
+/// Adds a weight times each sample, of at most `2^34`, to the sum at its place.
+#[inline(always)]
+pub(crate) fn add_wide_products(sums: &mut [i64], samples: &[i64], weight: i32)
+    requires places { length samples.now ≡ length sums.old }
+    requires weight { unsigned_abs weight ≤ 2 ^ 24 }
+    requires samples { (k : ℕ) → unsigned_abs (slice_index_or samples.now k (pos 0)) ≤ 2 ^ 34 }
+    requires room { (k : ℕ) → unsigned_abs (slice_index_or sums.old k (pos 0)) ≤ 2 ^ 61 }
+    ensures added { (k : ℕ) → k < length sums.old → slice_index_or sums.new k (pos 0) ≡ slice_index_or sums.old k (pos 0) +ℤ (weight *ℤ slice_index_or samples.now k (pos 0)) }
+    ensures few { (k : ℕ) → unsigned_abs (slice_index_or sums.new k (pos 0)) ≤ unsigned_abs (slice_index_or sums.old k (pos 0)) + 2 ^ 58 }
+{
+    let factor = i64::from(weight);
+    for place in 0..samples.len() {
+        sums[place] += factor * samples[place];
+    }
+}
+
+/// Writes the sum of each sample and the wide one at its place, which is at most `2^34`.
+#[inline(always)]
+pub(crate) fn add_samples(out: &mut [i64], samples: &[i32], wide: &[i64])
+    requires places { (length samples.now ≡ length out.old) × (length wide.now ≡ length out.old) }
+    requires wide { (k : ℕ) → unsigned_abs (slice_index_or wide.now k (pos 0)) ≤ 2 ^ 34 }
+    ensures added { (k : ℕ) → k < length out.old → slice_index_or out.new k (pos 0) ≡ slice_index_or samples.now k (pos 0) +ℤ slice_index_or wide.now k (pos 0) }
+    ensures few { (k : ℕ) → k < length out.old → unsigned_abs (slice_index_or out.new k (pos 0)) ≤ unsigned_abs (slice_index_or wide.now k (pos 0)) + 2 ^ 31 }
+{
+    for place in 0..samples.len() {
+        out[place] = i64::from(samples[place]) + wide[place];
     }
 }
 

@@ -1,4 +1,4 @@
-use Rattle.std.proofs.Common.{rules, ◌≡◌, ◌<◌, ◌≤◌, ◌^◌, ◌∙◌, refl, List, ℕ, ℤ, pos, ◌+ℤ◌, ◌*ℤ◌, length, arith, slice_index_or, unsigned_abs, FitsSigned, to_z, of_z}
+use Rattle.std.proofs.Common.{rules, ◌≡◌, ◌<◌, ◌≤◌, ◌^◌, ◌∙◌, refl, List, ℕ, ℤ, pos, ◌+ℤ◌, ◌*ℤ◌, length, arith, slice_index_or, unsigned_abs, FitsSigned, to_z, of_z, below_more}
 use Rattle.std.specs.Int.{w32, w64}
 use Rattle.std.proofs.lemmas.Int.{fits_signed_from_abs, ints}
 use Rattle.std.proofs.lemmas.List.{get_or-set_other}
@@ -44,5 +44,6 @@ loop-place-preserved c =
     record {
       added = added-more old sums (λ k. c.args.weight *ℤ slice_index_or c.args.samples.now k (pos 0)) i z in_range (rw first refl) (rw weight at c.loop-place.invariant.added);
       few = few-at-more old sums i (2 ^ 58) z in_range (rw first (added-few (slice_index_or old i (pos 0)) (c.args.weight *ℤ x) _ _ (omega arith) product)) c.loop-place.invariant.few;
+      seen = below_more _ _ c.loop-place.invariant.seen sample;
       left = λ k l. get_or-set_other sums i k z (pos 0) (λ e. omega arith) ∙ c.loop-place.invariant.left k (omega arith);
     }

@@ -6,5 +6,6 @@ abbrev pub invariant-loop-place : goal.invariant-loop-place
 invariant-loop-place l = record {
   added : (k : ℕ) → k < l.place → slice_index_or l.sums k (pos 0) ≡ slice_index_or l.fn.sums k (pos 0) +ℤ (l.fn.weight *ℤ slice_index_or l.samples k (pos 0));
   few : (k : ℕ) → unsigned_abs (slice_index_or l.sums k (pos 0)) ≤ unsigned_abs (slice_index_or l.fn.sums k (pos 0)) + 2 ^ 58;
+  seen : (k : ℕ) → k < l.place → unsigned_abs (slice_index_or l.samples k (pos 0)) ≤ 2 ^ 31;
   left : (k : ℕ) → l.place ≤ k → slice_index_or l.sums k (pos 0) ≡ slice_index_or l.fn.sums k (pos 0);
 }

@@ -2,6 +2,7 @@ use Rattle.std.proofs.Common.{refl, arith, ◌≤◌}
 use Rattle.std.specs.Prelude.{pos}
 use Rattle.std.proofs.lemmas.List.Elements.{All-get_or}
 use Rattle.fx_tap.specs.Echo.{EchoArguments, IsEcho}
+use Rattle.fx_tap.proofs.EchoWeights.{suits-of}
 use Rattle.fx_tap.proofs.EchosLaws.{IsEchos-new, frames-none, late-each}
 use Rattle.fx_tap.proofs.EchosMeaning.{through-all}
 use Rattle.fx_tap.proofs.echos.Echos.new.Goals as goal
@@ -13,7 +14,7 @@ pub invariant_of-result : goal.invariant_of-result
 invariant_of-result c =
     let a : EchoArguments = record { channels = c.args.channels; gain_in = c.args.gain_in; gain_out = c.args.gain_out; echoes = c.args.echoes.now } in
     let fit : IsEcho a = record { some = c.requires.channels.0; few = c.requires.channels.1; gain_in = c.requires.gain_in; few_echoes = c.requires.echoes.1; delays = c.requires.delays; decays = c.requires.decays } in
-    rw (c.in_ok-lines.ensures, c.in_ok-echoes.ensures) (IsEchos-new a fit c.requires.lines)
+    rw (c.in_ok-lines.ensures, c.in_ok-echoes.ensures) (IsEchos-new a fit c.requires.lines, suits-of a c.small_of-small.result c.small_of-small.ensures.sounds c.small_of-small.ensures.small)
 
 pub returns : goal.returns
 returns c =

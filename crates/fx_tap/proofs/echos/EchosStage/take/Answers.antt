@@ -20,6 +20,8 @@ invariant_of-self c =
     let row : c.echoed-out.new.lines ≡ row_after s c.args.frame = rw (c.deref_mut.ensures.value) at c.echoed-out.ensures.lines in
     let size : length c.echoed-out.new.lines ≡ length c.self.inside.lines.items = ap length row ∙ length-row s c.args.frame in
     let small = small-frame c.args.frame c.channels-count.ensures.frame.fits in
-    rw (kept-lines c.self.inside.lines.len c.echoed-out.new.lines c.self.inside.lines.items c.self.inside.lines.ok.0 size)
-    (IsEchos-taken s c.echoed-out.new.lines c.args.frame c.echoed-out.result.0 c.echoed-out.result.1 c.self.invariant (rw (← c.self.view_is) at c.requires.dry) (rw (← c.self.view_is) at c.requires.not_ended) (rw (← c.self.view_is) at c.requires.below_limit)
-    row small c.echoed-out.ensures.few c.echoed-out.ensures.fits.0 c.echoed-out.ensures.fits.1)
+    rw (kept-lines c.self.inside.lines.len c.echoed-out.new.lines c.self.inside.lines.items c.self.inside.lines.ok.0 size) (
+      (IsEchos-taken s c.echoed-out.new.lines c.args.frame c.echoed-out.result.0 c.echoed-out.result.1 c.self.invariant.0 (rw (← c.self.view_is) at c.requires.dry) (rw (← c.self.view_is) at c.requires.not_ended) (rw (← c.self.view_is) at c.requires.below_limit)
+          row small c.echoed-out.ensures.few c.echoed-out.ensures.fits.0 c.echoed-out.ensures.fits.1),
+      c.self.invariant.1,
+    )
