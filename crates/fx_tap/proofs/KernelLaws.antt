@@ -1,4 +1,4 @@
--- The coefficients of a `fir` in lowest terms.
+-- Coefficients over a denominator, in lowest terms.
 use Rattle.std.proofs.Common.{◌≡◌, ℕ, zero, suc, ◌+◌, ◌*◌, ◌<◌, ◌≤◌, List, [], ◌∷◌, length, take, drop, get_or, refl, sym, ap, ◌∙◌, arith, ℤ, pos, ◌+ℤ◌, ◌*ℤ◌}
 use Rattle.std.specs.Prelude.{sum_by, unsigned_abs}
 use Rattle.std.proofs.lemmas.Int.{ints}
@@ -6,10 +6,9 @@ use Rattle.std.proofs.lemmas.List.{get_or-drop, length-drop}
 use Rattle.std.proofs.lemmas.List.Sums.{sum_by-cons}
 use Rattle.fx_fixed.specs.Reduced.{IsReduced}
 use Rattle.fx_fixed.specs.Rounding.{rounding}
-use Rattle.fx_fixed.specs.declared.gains.TheConstants.{UNIT}
 use Rattle.fx_fixed.proofs.Reductions.{rounding-reduced}
 use Rattle.fx_tap.specs.EchoWeights.{Weights}
-use Rattle.fx_tap.specs.FirWeights.{FiltersAs}
+use Rattle.fx_tap.specs.SmallWeights.{SumsAs}
 use Rattle.fx_tap.specs.Products.{sum_of_products}
 use Rattle.fx_tap.proofs.Fractions.{below-positive, one-times}
 use Rattle.fx_tap.proofs.SignedProducts.{mul-add, mul_assoc}
@@ -34,10 +33,10 @@ scaled-products by (x ∷ xs) (w ∷ ws) [] same scaled = absurd (omega (arith, 
 scaled-products by (x ∷ xs) (w ∷ ws) (c ∷ cs) same scaled =
     one-more by x w c (sum_of_products xs ws) (sum_of_products xs cs) (scaled 0 (omega arith)) (scaled-products by xs ws cs (omega (arith, same)) (λ k l. scaled (suc k) (omega (arith, l))))
 
-pub reduced-filters : (cs : List ℤ) (w : Weights) (gain : ℤ) (whole : ℕ) → gain ≡ pos 1 → whole ≡ UNIT → length w.weights ≡ length cs → IsReduced gain whole cs w.weights w.denominator → FiltersAs cs w
-reduced-filters cs w gain whole one unit count reduced =
+pub reduced-sums : (cs : List ℤ) (w : Weights) (gain : ℤ) (whole : ℕ) → gain ≡ pos 1 → 0 < whole → length w.weights ≡ length cs → IsReduced gain whole cs w.weights w.denominator → SumsAs cs whole w
+reduced-sums cs w gain whole one some count reduced =
     let by : ℤ = pos reduced.by in
-    let q = below-positive reduced.by w.denominator whole reduced.below (omega (arith, unit)) in
+    let q = below-positive reduced.by w.denominator whole reduced.below some in
     let above : (k : ℕ) → k < length cs → by *ℤ get_or w.weights k (pos 0) ≡ get_or cs k (pos 0) = λ k l. reduced.above k l ∙ ap (λ g. g *ℤ get_or cs k (pos 0)) one ∙ one-times (get_or cs k (pos 0)) in
     record {
       count = count;
@@ -50,7 +49,7 @@ reduced-filters cs w gain whole one unit count reduced =
           rw (get_or-drop n w.weights k (pos 0), get_or-drop n cs k (pos 0)) (above (n + k) (omega (arith, right, l)))) in
           sym (rounding-reduced reduced.by w.denominator (sum_of_products xs (drop n w.weights)) reduced.positive q)
           ∙ ap (λ z. rounding z (reduced.by * w.denominator)) sum
-          ∙ ap (λ m. rounding (sum_of_products xs (drop n cs)) m) (reduced.below ∙ unit);
+          ∙ ap (λ m. rounding (sum_of_products xs (drop n cs)) m) reduced.below;
     }
 
 -- ---- some of the weights
@@ -87,5 +86,5 @@ taken-products (x ∷ xs) (c ∷ cs) zero same = absurd (omega (arith, same))
 taken-products (x ∷ xs) (c ∷ cs) (suc n) same = ap (λ z. (x *ℤ c) +ℤ z) (taken-products xs cs n (omega (arith, same)))
 
 -- a sum of the weights, rounded, is that of the coefficients
-pub rounded-as : (cs xs : List ℤ) (w : Weights) (sum : ℤ) → FiltersAs cs w → sum ≡ sum_of_products xs w.weights → rounding sum w.denominator ≡ rounding (sum_of_products xs cs) UNIT
-rounded-as cs xs w sum filters is = ap (λ z. rounding z w.denominator) is ∙ filters.rounds xs 0
+pub rounded-as : (cs xs : List ℤ) (whole : ℕ) (w : Weights) (sum : ℤ) → SumsAs cs whole w → sum ≡ sum_of_products xs w.weights → rounding sum w.denominator ≡ rounding (sum_of_products xs cs) whole
+rounded-as cs xs whole w sum sums is = ap (λ z. rounding z w.denominator) is ∙ sums.rounds xs 0

@@ -1,13 +1,23 @@
 -- The contributions of an output channel, added one after the other.
-use Rattle.std.proofs.Common.{ℕ, ℤ, pos, ◌+◌, ◌<◌, ◌≤◌, ◌≡◌, ◌+ℤ◌, ◌*ℤ◌, List, [], length, drop, get_or, map, refl, sym, ap, ◌∙◌, arith, add-one, drop-cons}
-use Rattle.std.specs.Prelude.{slice_index_or}
+use Rattle.std.proofs.Common.{ℕ, ℤ, pos, ◌+◌, ◌<◌, ◌≤◌, ◌≡◌, ◌+ℤ◌, ◌*ℤ◌, List, [], ◌∷◌, ◌*◌, length, drop, get_or, map, refl, sym, ap, ◌∙◌, arith, add-one, drop-cons}
+use Rattle.std.specs.Prelude.{◌^◌, slice_index_or, unsigned_abs}
 use Rattle.std.proofs.lemmas.Int.{ints}
 use Rattle.std.proofs.lemmas.List.{drop_all}
 use Rattle.fx_frame.specs.Frame.{Samples}
 use Rattle.fx_tap.specs.declared.remix.Contribution.{Contribution}
 use Rattle.std.specs.List.{All}
-use Rattle.fx_tap.specs.Mix.{IsContribution, pair_of}
-use Rattle.fx_tap.specs.Remix.{mixed_parts, parts_of}
+use Rattle.std.proofs.lemmas.List.{get_or-map, length-map}
+use Rattle.std.proofs.lemmas.List.Elements.{All-head, All-tail}
+use Rattle.fx_fixed.specs.Rounding.{rounding}
+use Rattle.fx_fixed.specs.declared.gains.TheConstants.{UNIT}
+use Rattle.fx_fixed.specs.declared.weights.Weight.{Weight}
+use Rattle.fx_tap.specs.EchoWeights.{Weights}
+use Rattle.fx_tap.specs.Mix.{IsContribution, all_parts, pair_of}
+use Rattle.fx_tap.specs.Products.{sum_of_products}
+use Rattle.fx_tap.specs.SmallWeights.{SumsAs}
+use Rattle.fx_tap.proofs.Convolving.{Adding, Adding-next}
+use Rattle.fx_tap.proofs.KernelLaws.{rounded-as}
+use Rattle.fx_tap.specs.Remix.{mixed_parts, parts_of, remixed_sample}
 use Rattle.fx_tap.proofs.EchoLaws.{add-next}
 
 -- one more contribution
@@ -32,3 +42,43 @@ pub made-at : (n : ℕ) (cs : List Contribution) (i : ℕ) (c : Contribution) �
 made-at n cs i c all h is =
     let made : IsContribution n c = rw (← is) at (all i c h) in
     made.parts
+
+-- ---- in lowest terms
+
+turned : (x y rest more : ℤ) → rest ≡ more → (x *ℤ y) +ℤ rest ≡ (y *ℤ x) +ℤ more
+turned x y rest more same = omega (arith, ints, same)
+
+-- the channels that contribute, in that order
+abbrev pub gathered : List (ℕ × Weight) → Samples → List ℤ
+gathered pairs frame = map (λ (p : ℕ × Weight). slice_index_or frame p.0 (pos 0)) pairs
+
+pub mixed-products : (n : ℕ) (cs : List Contribution) (frame : Samples) → All (IsContribution n) cs → mixed_parts n (map pair_of cs) frame ≡ sum_of_products (gathered (map pair_of cs) frame) (all_parts cs)
+mixed-products n [] frame all = refl
+mixed-products n (c ∷ cs) frame all =
+    let made : IsContribution n c = All-head (IsContribution n) c cs all in
+    let rest = mixed-products n cs frame (All-tail (IsContribution n) c cs all) in
+    rw (← made.parts) (turned c.parts (slice_index_or frame c.channel (pos 0)) _ _ rest)
+
+-- the sum of the weights rounds to the sample
+pub small-mix : (cs : List Contribution) (frame : Samples) (w : Weights) (sum : ℤ) → 0 < length cs → All (IsContribution (length cs)) cs → SumsAs (all_parts cs) (length cs * UNIT) w → sum ≡ sum_of_products (gathered (map pair_of cs) frame) w.weights
+    → rounding sum w.denominator ≡ remixed_sample (map pair_of cs) frame
+small-mix [] frame w sum some all sums is = absurd (omega (arith, some))
+small-mix (c ∷ cs) frame w sum some all sums is =
+    let n : length (map pair_of (c ∷ cs)) ≡ length (c ∷ cs) = length-map (c ∷ cs) pair_of in
+    rounded-as (all_parts (c ∷ cs)) (gathered (map pair_of (c ∷ cs)) frame) (length (c ∷ cs) * UNIT) w sum sums is
+    ∙ ap (λ z. rounding z (length (c ∷ cs) * UNIT)) (sym (mixed-products (length (c ∷ cs)) (c ∷ cs) frame all))
+    ∙ ap (λ k. rounding (mixed_parts k (map pair_of (c ∷ cs)) frame) (k * UNIT)) (sym n)
+
+pub gathered-at : (cs : List Contribution) (frame : Samples) (i : ℕ) (c : Contribution) → i < length cs → c ≡ get_or cs i c → get_or (gathered (map pair_of cs) frame) i (pos 0) ≡ slice_index_or frame c.channel (pos 0)
+gathered-at cs frame i c h is =
+    let n : length (map pair_of cs) ≡ length cs = length-map cs pair_of in
+    get_or-map (λ (p : ℕ × Weight). slice_index_or frame p.0 (pos 0)) (map pair_of cs) i (pair_of c) (pos 0) (omega (arith, n, h))
+    ∙ ap (λ (p : ℕ × Weight). slice_index_or frame p.0 (pos 0)) (get_or-map pair_of cs i c (pair_of c) h ∙ ap pair_of (sym is))
+
+-- one weight more is added
+pub mixing-next : (cs : List Contribution) (frame : Samples) (ws : List ℤ) (i : ℕ) (c : Contribution) (s : ℤ) → i < length cs → i < length ws → c ≡ get_or cs i c → unsigned_abs (slice_index_or frame c.channel (pos 0)) ≤ 2 ^ 31
+    → Adding (gathered (map pair_of cs) frame) ws i s → Adding (gathered (map pair_of cs) frame) ws (i + 1) (s +ℤ (slice_index_or frame c.channel (pos 0) *ℤ get_or ws i (pos 0)))
+mixing-next cs frame ws i c s h k is sample old =
+    let here = gathered-at cs frame i c h is in
+    let size : length (gathered (map pair_of cs) frame) ≡ length cs = length-map (map pair_of cs) (λ (p : ℕ × Weight). slice_index_or frame p.0 (pos 0)) ∙ length-map cs pair_of in
+    Adding-next (gathered (map pair_of cs) frame) ws i s _ k (omega (arith, size, h)) (rw here sample) (ap (λ x. s +ℤ (x *ℤ get_or ws i (pos 0))) (sym here)) old

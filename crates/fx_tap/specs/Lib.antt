@@ -5,7 +5,6 @@ pub mod EchoWeights
 pub mod Echos
 pub mod EchosStored
 pub mod Fir
-pub mod FirWeights
 pub mod Fractions
 pub mod Lanes
 pub mod Lists
@@ -16,5 +15,6 @@ pub mod PerSample
 pub mod Remix
 pub mod Products
 pub mod Rounded
+pub mod SmallWeights
 pub mod Tapped
 pub mod Vol

@@ -1,5 +1,5 @@
 -- What `remix` keeps of a contribution: its channel, its weight and the same in parts.
-use Rattle.std.specs.Prelude.{ℕ, ◌<◌, ◌≡◌}
+use Rattle.std.specs.Prelude.{ℕ, ℤ, ◌<◌, ◌≡◌, List, map}
 use Rattle.fx_tap.specs.Remix.{parts_of}
 use Rattle.fx_fixed.specs.declared.weights.Weight.{Weight}
 use Rattle.fx_tap.specs.declared.remix.Contribution.{Contribution}
@@ -12,3 +12,7 @@ pair_of c = (c.channel, c.weight)
 pub record IsContribution (count : ℕ) (c : Contribution) : Type 0 where
   pub named : c.channel < 16
   pub parts : c.parts ≡ parts_of count c.weight
+
+-- the parts of each
+abbrev pub all_parts : List Contribution → List ℤ
+all_parts cs = map (λ c. c.parts) cs

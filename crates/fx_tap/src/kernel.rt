@@ -2,7 +2,7 @@
 ghost use Rattle.std.specs.Prelude.{◌≡◌, ◌+◌, ◌*◌, ◌^◌, ◌<◌, ◌≤◌, ℕ, pos, neg_ℤ, ◌≤ℤ◌, length, drop, reverse, slice_index_or, unsigned_abs, All, IfOk, IfSome};
 ghost use Rattle.fx_fixed.specs.Rounding.{rounding};
 ghost use Rattle.fx_tap.specs.Fir.{samples_of_window};
-ghost use Rattle.fx_tap.specs.FirWeights.{FiltersAs};
+ghost use Rattle.fx_tap.specs.SmallWeights.{SumsAs};
 ghost use Rattle.fx_tap.specs.Lists.{tabulate};
 ghost use Rattle.fx_tap.specs.Products.{sum_of_products};
 ghost use Rattle.fx_tap.specs.Rounded.{clips_of};
@@ -10,41 +10,10 @@ ghost use Rattle.fx_tap.specs.Rounded.{clips_of};
 use crate::channels::round_channel;
 use crate::convolve::{convolve, small_dot};
 use crate::products::dot;
-use fx_fixed::inner::{Denominator, reduce};
+use crate::small::{Small, small_of};
 use fx_fixed::{Gain, UNIT, round_clip};
 use std::alloc::{AllocError, Global};
 use std::marker::Model;
-
-/// Coefficients in lowest terms: weights over one prepared denominator.
-#[derive(Drop)]
-pub(crate) struct Small {
-    pub(crate) weights: Vec<i32>,
-    pub(crate) denominator: Denominator,
-}
-
-impl Model for Small {
-    ghost use Rattle.fx_tap.specs.EchoWeights.{Weights};
-
-    ghost Value = { Weights };
-
-    ghost view = { λ s. record { weights = s.weights.items; denominator = s.denominator } };
-}
-
-/// The coefficients in lowest terms. None where they are not small.
-fn small_of(alloc: Global, coefficients: &[i64]) -> Result<Option<Small>, AllocError>
-    requires { length coefficients.now ≤ 1024 }
-    ensures { IfOk result (λ small. IfSome small (FiltersAs coefficients.now)) }
-{
-    let mut weights = Vec::new(alloc);
-    weights.resize(coefficients.len(), 0)?;
-    let Some(denominator) = reduce(coefficients, 1, u128::from(UNIT), &mut weights) else {
-        return Ok(None);
-    };
-    Ok(Some(Small {
-        weights,
-        denominator,
-    }))
-}
 
 /// The coefficients in trillionths, the last one first.
 fn reversed(alloc: Global, coefficients: &[Gain]) -> Result<Vec<i64>, AllocError>
@@ -68,13 +37,14 @@ pub(crate) struct Kernel {
 
 impl Model for Kernel {
     ghost use Rattle.std.specs.Prelude.{◌≤◌, ◌^◌, ℤ, List, length, unsigned_abs, All, IfSome};
-    ghost use Rattle.fx_tap.specs.FirWeights.{FiltersAs};
+    ghost use Rattle.fx_fixed.specs.declared.gains.TheConstants.{UNIT};
+    ghost use Rattle.fx_tap.specs.SmallWeights.{SumsAs};
 
     ghost Value = { List ℤ };
 
     ghost view = { λ s. s.backwards.items };
 
-    ghost invariant = { λ s. (length s.backwards.items ≤ 1024) × All (λ c. unsigned_abs c ≤ 10 ^ 15) s.backwards.items × IfSome s.small (FiltersAs s.backwards.items) };
+    ghost invariant = { λ s. (length s.backwards.items ≤ 1024) × All (λ c. unsigned_abs c ≤ 10 ^ 15) s.backwards.items × IfSome s.small (SumsAs s.backwards.items UNIT) };
 }
 
 /// A sample in trillionths, rounded; true beside it where it was clipped.
@@ -94,7 +64,7 @@ impl Kernel {
         ensures small { IfOk result (λ k. All (λ c. unsigned_abs c ≤ 10 ^ 15) k) }
     {
         let backwards = reversed(alloc, coefficients)?;
-        let small = small_of(alloc, &backwards)?;
+        let small = small_of(alloc, &backwards, UNIT)?;
         Ok(Kernel { backwards, small })
     }
 

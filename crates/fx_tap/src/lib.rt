@@ -14,6 +14,7 @@ pub mod per_sample;
 pub mod products;
 pub mod remix;
 mod rows;
+mod small;
 mod sums;
 pub mod tapped;
 pub mod vol;
