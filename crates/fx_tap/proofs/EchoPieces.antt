@@ -1,25 +1,21 @@
 -- Frames with their echoes, many of them made at once.
-use Rattle.std.proofs.Common.{◌≡◌, ◌+◌, ◌-◌, ◌*◌, ◌<◌, ◌≤◌, ◌⊎◌, ℕ, ℤ, suc, inl, inr, pos, true, false, List, [], ◌∷◌, ◌++◌, length, map, take, drop, get_or, replicate, refl, sym, ap, ◌∙◌, arith, add-zero, zero-add}
+use Rattle.std.proofs.Common.{◌≡◌, ◌+◌, ◌-◌, ◌*◌, ◌<◌, ◌≤◌, ◌⊎◌, ℕ, ℤ, inl, inr, pos, true, false, List, [], ◌++◌, length, map, take, drop, get_or, replicate, sym, ap, ◌∙◌, arith}
 use Rattle.std.specs.Prelude.{nat_le}
 use Rattle.std.proofs.lemmas.Bool.{cases_lt, le-leb, lt-leb}
-use Rattle.std.proofs.lemmas.List.{get_or-append-add, get_or-append_right, get_or_append_left, get_or-drop, get_or-replicate, get_or-take, length-replicate, take_all}
-use Rattle.std.proofs.lemmas.Nat.{mul-add-lt}
-use Rattle.std.proofs.lemmas.Simd.{map-map}
-use Rattle.std.proofs.Math.Nat.{mul_comm}
+use Rattle.std.proofs.lemmas.List.{get_or-append-add, get_or-append_right, get_or_append_left, get_or-drop, get_or-replicate, get_or-take, length-replicate}
 use Rattle.fx_fixed.specs.Rounding.{rounding}
 use Rattle.fx_frame.specs.Frame.{Samples, silence}
 use Rattle.fx_frame.specs.Holds.{total}
 use Rattle.fx_frame.specs.Line.{Frames, latest_frames}
 use Rattle.fx_frame.specs.Ring.{pieces}
 use Rattle.fx_frame.specs.Stage.{Given}
-use Rattle.fx_frame.proofs.Pieces.{get_or-piece, length-pieces}
+use Rattle.fx_frame.proofs.Pieces.{get_or-piece}
 use Rattle.fx_tap.specs.Echo.{EchoArguments, echo_sum, echo_taps, echoed_frame, echoed_sample}
 use Rattle.fx_tap.specs.EchoWeights.{SoundsAs, Weights, weighed}
 use Rattle.fx_tap.specs.Lists.{tabulate}
-use Rattle.fx_tap.specs.Mapped.{clips_in}
 use Rattle.fx_tap.specs.PerSample.{rounded_given}
-use Rattle.fx_tap.specs.Rounded.{clips_of, given_of, samples_of}
-use Rattle.fx_tap.specs.Tapped.{Past, behind, clips_behind, frames_behind, sample_before}
+use Rattle.fx_tap.specs.Rounded.{clips_of, samples_of}
+use Rattle.fx_tap.specs.Tapped.{clips_behind, frames_behind, sample_before}
 use Rattle.fx_tap.proofs.DelayLaws.{quiet-sample}
 use Rattle.fx_tap.proofs.EchoWeights.{small-sample}
 use Rattle.fx_tap.proofs.SumPieces.{rounded-clips, rounded-frame, rounded-frames}

@@ -1,5 +1,5 @@
 -- What an `echos` gives for a piece of frames.
-use Rattle.std.proofs.Common.{◌≡◌, ◌+◌, ◌*◌, ◌<◌, ◌+ℤ◌, ◌*ℤ◌, ℕ, ℤ, suc, pos, List, [], ◌∷◌, length, map, drop, take, replicate, get_or, refl, sym, ap, ◌∙◌, arith, zero-add}
+use Rattle.std.proofs.Common.{◌≡◌, ◌+◌, ◌*◌, ◌<◌, ◌+ℤ◌, ◌*ℤ◌, ℕ, ℤ, suc, pos, List, [], ◌∷◌, length, map, drop, take, replicate, get_or, refl, sym, ap, ◌∙◌, zero-add}
 use Rattle.std.proofs.lemmas.List.{length-map}
 use Rattle.fx_fixed.specs.Rounding.{rounding}
 use Rattle.fx_fixed.specs.declared.gains.TheConstants.{UNIT}
@@ -15,7 +15,7 @@ use Rattle.fx_tap.specs.Echos.{decays, fed, frame_of_lines, gone_at, let_go, lin
 use Rattle.fx_tap.specs.Lists.{tabulate}
 use Rattle.fx_tap.specs.PerSample.{rounded_given}
 use Rattle.fx_tap.specs.Products.{sum_of_products}
-use Rattle.fx_tap.specs.Rounded.{clips_of, given_of, samples_of}
+use Rattle.fx_tap.specs.Rounded.{clips_of, samples_of}
 use Rattle.fx_tap.proofs.EchosLaws.{length-after}
 use Rattle.fx_tap.proofs.EchosPieces.{through-table}
 use Rattle.fx_tap.proofs.SumPieces.{rounded-clips, rounded-frame, rounded-frames}

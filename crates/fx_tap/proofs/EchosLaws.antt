@@ -10,7 +10,7 @@ use Rattle.fx_frame.specs.Frame.{Samples, silence, IsFrame}
 use Rattle.fx_frame.specs.Line.{Frames, IsSamples, pushed_out, empty}
 use Rattle.fx_frame.specs.Stage.{Gave, Took}
 use Rattle.fx_tap.specs.Echo.{EchoArguments, IsEcho}
-use Rattle.fx_tap.specs.Echos.{EchosState, IsEchos, IsEchoLine, IsRowLine, after_push, came_of, delay_at, echos_acts, fed, frame_of_lines, frames_of, late, let_go, line_at, lines_after, or_silence, places_of, through_lines}
+use Rattle.fx_tap.specs.Echos.{EchosState, IsEchos, IsEchoLine, IsRowLine, after_push, came_of, delay_at, echos_acts, fed, frame_of_lines, frames_of, late, let_go, line_at, lines_after, or_silence, places_of, rows_after, through_lines}
 use Rattle.fx_tap.proofs.DryLaws.{dry-hand, dry-tail, true_of}
 use Rattle.fx_tap.proofs.EchosRow.{Small, small-fed, small-gone}
 use Rattle.fx_tap.proofs.Tabulate.{length-tabulate}
@@ -73,19 +73,28 @@ pub length-after : (c : ℕ) (ls : List (Frames ℤ)) (x b : Samples) → length
 length-after c [] x b = refl
 length-after c (l ∷ ls) x b = ap suc (length-after c ls x (or_silence c (pushed_out l (fed c x b))))
 
+small-none : (c : ℕ) → Small (0 * 2 ^ 31) (replicate c (pos 0))
+small-none zero k = omega arith
+small-none (suc c) zero = omega arith
+small-none (suc c) (suc k) = small-none c k
+
+-- the lines after one frame more, and after many
+row-sound : (c came : ℕ) (d : ℕ → ℕ) (ls : List (Frames ℤ)) (x : Samples) → length ls ≤ 7 → Small (2 ^ 31) x → ((j : ℕ) → j < length ls → IsEchoLine c came j (d j) (line_at ls j))
+    → (j : ℕ) → j < length (lines_after c ls x (replicate c (pos 0))) → IsEchoLine c (came + 1) j (d j) (line_at (lines_after c ls x (replicate c (pos 0))) j)
+row-sound c came d ls x few xs h j lt = rw zero-add at (after-sound c came 0 d ls x (replicate c (pos 0)) (omega arith) xs (small-none c) (λ i l. rw zero-add (h i l)) j lt)
+
+pub rows-sound : (c came : ℕ) (d : ℕ → ℕ) (ls : List (Frames ℤ)) (xs : List Samples) → length ls ≤ 7 → ((i : ℕ) → i < length xs → Small (2 ^ 31) (get_or xs i [])) → ((j : ℕ) → j < length ls → IsEchoLine c came j (d j) (line_at ls j))
+    → (j : ℕ) → j < length (rows_after c ls xs) → IsEchoLine c (came + length xs) j (d j) (line_at (rows_after c ls xs) j)
+rows-sound c came d ls [] few small h j lt = rw add-zero (h j lt)
+rows-sound c came d ls (x ∷ xs) few small h j lt =
+    let next : List (Frames ℤ) = lines_after c ls x (replicate c (pos 0)) in
+    let at : came + 1 + length xs ≡ came + length (x ∷ xs) = omega arith in
+    rw at at (rows-sound c (came + 1) d next xs (omega (arith, length-after c ls x (replicate c (pos 0)))) (λ i l. small (suc i) (omega arith)) (row-sound c came d ls x few (small 0 (omega arith)) h) j lt)
+
 -- the lines of a state after one frame more
 lines-sound : (s : EchosState) (x : Samples) → IsEchos s → Small (2 ^ 31) x → (j : ℕ) → j < length (lines_after s.arguments.channels s.lines x (replicate s.arguments.channels (pos 0)))
     → IsEchoLine s.arguments.channels (came_of s + 1) j (delay_at s.arguments.echoes j) (line_at (lines_after s.arguments.channels s.lines x (replicate s.arguments.channels (pos 0))) j)
-lines-sound s x is xs j lt =
-    let few = is.arguments.few_echoes in
-    let many = is.as_many in
-    rw zero-add at (after-sound s.arguments.channels (came_of s) 0 (delay_at s.arguments.echoes) s.lines x (replicate s.arguments.channels (pos 0)) (omega arith) xs (small-none s.arguments.channels)
-    (λ i l. rw zero-add (is.lines i l)) j lt)
-  where
-    small-none : (c : ℕ) → Small (0 * 2 ^ 31) (replicate c (pos 0))
-    small-none zero k = omega arith
-    small-none (suc c) zero = omega arith
-    small-none (suc c) (suc k) = small-none c k
+lines-sound s x is xs j lt = row-sound s.arguments.channels (came_of s) (delay_at s.arguments.echoes) s.lines x (let few = is.arguments.few_echoes in let many = is.as_many in omega arith) xs is.lines j lt
 
 -- ---- places and frames
 

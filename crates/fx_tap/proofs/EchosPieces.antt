@@ -1,25 +1,25 @@
 -- A piece of frames goes through a row of lines, line after line.
-use Rattle.std.proofs.Common.{◌≡◌, ◌+◌, ◌-◌, ◌*◌, ◌^◌, ◌<◌, ◌≤◌, ◌⊎◌, ◌+ℤ◌, ◌*ℤ◌, ℕ, ℤ, zero, suc, inl, inr, pos, Bool, true, false, List, [], ◌∷◌, ◌++◌, length, map, take, drop, get_or, set, replicate, refl, sym, ap, ◌∙◌, arith, add-zero, zero-add, append_assoc, append-nil, length-append, length-drop}
-use Rattle.std.specs.Prelude.{FitsSigned, unsigned_abs, nat_lt, slice_get, None, Some, if◌then◌else◌}
+use Rattle.std.proofs.Common.{◌≡◌, ◌+◌, ◌-◌, ◌*◌, ◌^◌, ◌<◌, ◌≤◌, ◌⊎◌, ◌+ℤ◌, ◌*ℤ◌, ℕ, ℤ, zero, suc, inl, inr, pos, true, false, List, [], ◌∷◌, ◌++◌, length, map, take, drop, get_or, set, replicate, refl, sym, ap, ◌∙◌, arith, add-zero, zero-add, append_assoc, length-append, length-drop}
+use Rattle.std.specs.Prelude.{FitsSigned, unsigned_abs, nat_lt, slice_get}
 use Rattle.std.specs.Int.{w64}
 use Rattle.std.specs.List.{All}
 use Rattle.std.proofs.lemmas.Bool.{cases_lt}
 use Rattle.std.proofs.lemmas.Bool.Decides.{nat_tests}
 use Rattle.std.proofs.lemmas.Int.{fits_signed_from_abs, ints}
 use Rattle.std.proofs.lemmas.List.{drop_more, get_or-take, get_or-drop, get_or_past, length-replicate, take-append-le, take_more_set}
-use Rattle.std.proofs.lemmas.List.Elements.{All-append, All-drop, All-from_get_or, All-head, All-replicate, All-tail, All-take, All-nil, All-cons}
+use Rattle.std.proofs.lemmas.List.Elements.{All-append, All-drop, All-from_get_or, All-head, All-replicate, All-tail, All-take}
 use Rattle.std.proofs.Math.Nat.{suc-mul}
 use Rattle.fx_frame.specs.Frame.{Samples}
 use Rattle.fx_frame.specs.Line.{Frames, channel_of, empty, latest_frames, pushed, pushed_all, pushed_out}
 use Rattle.fx_frame.specs.Ring.{pieces}
-use Rattle.fx_frame.specs.Stage.{Given}
 use Rattle.fx_frame.proofs.Pieces.{get_or-piece, length-pieces}
 use Rattle.fx_tap.specs.Echo.{EchoArguments}
-use Rattle.fx_tap.specs.Echos.{IsRowLine, after_push, fed, frame_of_lines, gone_at, let_go, line_at, lines_after, or_silence, rows_after, through_lines}
+use Rattle.fx_tap.specs.Echos.{after_push, fed, frame_of_lines, gone_at, let_go, line_at, lines_after, or_silence, rows_after, through_lines}
 use Rattle.fx_tap.specs.Lists.{tabulate}
 use Rattle.fx_tap.specs.Products.{sum_of_products}
-use Rattle.fx_tap.specs.Tapped.{last_of}
+use Rattle.fx_tap.proofs.Blocks.{pieces-sides}
 use Rattle.fx_tap.proofs.EchosRow.{Small, small_of}
+use Rattle.fx_tap.proofs.SumPieces.{flat-place}
 use Rattle.fx_tap.proofs.EchosStored.{same-line}
 use Rattle.fx_tap.proofs.TapBlocks.{last-joined, last-whole, length-last}
 use Rattle.fx_tap.proofs.Tabulate.{tabulate-same}
@@ -66,7 +66,7 @@ out-by c l f within (inr ge) =
     first-is c [] f = refl
     first-is c (x ∷ xs) f = refl
 
-pushed-within : (l : Frames ℤ) (f : Samples) → length (pushed l f) ≤ l.capacity
+pub pushed-within : (l : Frames ℤ) (f : Samples) → length (pushed l f) ≤ l.capacity
 pushed-within l f = let n = length-last l.capacity (l.items ++ f ∷ []) in omega (arith, n)
 
 first-of : (xs ys : List Samples) (f : Samples) (n : ℕ) → take (suc n) (xs ++ f ∷ ys) ≡ get_or (xs ++ f ∷ []) 0 [] ∷ take n (drop 1 (xs ++ f ∷ []) ++ ys)
@@ -218,6 +218,15 @@ latest-small m n late l small =
     All-take (All (λ x. unsigned_abs x ≤ m)) n (latest_frames (pos 0) late l)
     (All-append (All (λ x. unsigned_abs x ≤ m)) (replicate (late - length l.items) (replicate l.channels (pos 0))) (drop (length l.items - late) l.items)
     (All-replicate (All (λ x. unsigned_abs x ≤ m)) (late - length l.items) (replicate l.channels (pos 0)) quiet) (All-drop (All (λ x. unsigned_abs x ≤ m)) (length l.items - late) l.items small))
+
+pub piece-small : (c n m : ℕ) (xs : List ℤ) → n * c ≤ length xs → ((k : ℕ) → k < length xs → unsigned_abs (get_or xs k (pos 0)) ≤ m) → (i : ℕ) → i < n → Small m (get_or (pieces c n xs) i [])
+piece-small c n m xs room h i lt k = go (cases_lt k c)
+  where
+    go : (k < c) ⊎ (c ≤ k) → unsigned_abs (get_or (get_or (pieces c n xs) i []) k (pos 0)) ≤ m
+    go (inl l) = rw (get_or-piece c n xs i k (pos 0) lt l) (h (i * c + k) (omega (arith, flat-place c n i k lt l, room)))
+    go (inr g) =
+        let side : length (get_or (pieces c n xs) i []) ≡ c = pieces-sides c n xs room i [] (omega (arith, lt, length-pieces c n xs)) in
+        rw (get_or_past (get_or (pieces c n xs) i []) k (pos 0) (omega arith)) (omega arith)
 
 pub flat-fits : (xs : List ℤ) → ((k : ℕ) → k < length xs → unsigned_abs (get_or xs k (pos 0)) ≤ 2 ^ 35) → All (FitsSigned w64) xs
 flat-fits xs h = All-from_get_or (FitsSigned w64) xs (pos 0) (λ i l. fits_signed_from_abs w64 (get_or xs i (pos 0)) (let few = h i l in omega (arith, few)))

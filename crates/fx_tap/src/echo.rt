@@ -244,22 +244,24 @@ impl Tapped<Echoes> {
 }
 
 /// The most samples of a piece: frames that are made at once.
-const SAMPLES_OF_PIECE: usize = 256;
+pub(crate) const SAMPLES_OF_PIECE: usize = 256;
+
+/// The most frames of a piece: there is room for their samples, and none of them is an echo of another.
+pub(crate) fn frames_of_piece(channels: usize, echoes: &[(u64, Gain)]) -> usize
+    requires channels { (1 ≤ channels) × (channels ≤ 16) }
+    requires delays { All (λ e. 1 ≤ e.0) echoes.now }
+    ensures some { 1 ≤ result }
+    ensures room { result * channels ≤ 256 }
+    ensures late { All (λ e. result ≤ e.0) echoes.now }
+{
+    let mut most = SAMPLES_OF_PIECE / channels;
+    'echoes: for echo in echoes {
+        most = most.min(echo.0 as usize);
+    }
+    most
+}
 
 impl Echoes {
-    /// The most frames of a piece: there is room for their samples, and none of them is an echo of another.
-    fn frames_of_piece(&self) -> usize
-        ensures some { 1 ≤ result }
-        ensures room { result * self.now.channels ≤ 256 }
-        ensures late { All (λ e. result ≤ e.0) self.now.echoes }
-    {
-        let mut most = SAMPLES_OF_PIECE / self.channels;
-        'echoes: for echo in &self.echoes {
-            most = most.min(echo.0 as usize);
-        }
-        most
-    }
-
     /// Adds to the sums so many frames that come behind those of the line, and their echoes, each times its weight.
     fn add_piece(&self, small: &Small, line: &Line, frames: &[i32], count: usize, sums: &mut [i64])
         requires channels { line.now.channels ≡ self.now.channels }
@@ -314,7 +316,7 @@ impl TapsMany for Echoes {
             return tap_by_frames(self, line, input, output, count);
         };
         let channels = self.channels;
-        let most = self.frames_of_piece();
+        let most = frames_of_piece(channels, &self.echoes);
         let _held = line.len();
         let mut done = 0;
         let mut clips = 0;

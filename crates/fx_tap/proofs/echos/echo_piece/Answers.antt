@@ -1,11 +1,5 @@
-use Rattle.std.proofs.Common.{◌≡◌, ◌<◌, ◌≤◌, ◌+◌, ◌*◌, ◌∙◌, sym, ap, arith, zero-add, length, map, replicate, take, List, ℕ, ℤ, pos, get_or}
+use Rattle.std.proofs.Common.{◌≡◌, ◌≤◌, ◌*◌, ◌∙◌, arith, length, replicate, pos}
 use Rattle.std.proofs.lemmas.List.{length-replicate, length-take-le}
-use Rattle.fx_frame.specs.Frame.{Samples}
-use Rattle.fx_frame.specs.Holds.{total}
-use Rattle.fx_frame.specs.Ring.{pieces}
-use Rattle.fx_frame.specs.Stage.{Given}
-use Rattle.fx_frame.proofs.Pieces.{length-pieces}
-use Rattle.fx_tap.specs.Echo.{EchoArguments}
 use Rattle.fx_tap.specs.EchoWeights.{Suits, Weights}
 use Rattle.fx_tap.proofs.DelayLaws.{quiet-part}
 use Rattle.fx_tap.proofs.EchosGiven.{given-clips, given-frames}

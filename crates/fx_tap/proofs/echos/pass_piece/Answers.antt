@@ -1,5 +1,4 @@
-use Rattle.std.proofs.Common.{rules, ◌≡◌, ◌<◌, ◌≤◌, ◌+◌, ◌*◌, ◌^◌, ◌++◌, ◌∙◌, [], List, ℕ, ℤ, pos, ◌+ℤ◌, ◌*ℤ◌, length, get_or, take, drop, replicate, sym, ap, refl, arith, unsigned_abs, slice_index_or}
-use Rattle.std.specs.Int.{w32, w64}
+use Rattle.std.proofs.Common.{◌≡◌, ◌<◌, ◌≤◌, ◌+◌, ◌*◌, ◌^◌, ◌∙◌, [], List, ℕ, ℤ, pos, ◌+ℤ◌, ◌*ℤ◌, length, get_or, take, drop, replicate, sym, ap, refl, arith, unsigned_abs, slice_index_or}
 use Rattle.std.specs.List.{All}
 use Rattle.std.proofs.lemmas.Int.{ints}
 use Rattle.std.proofs.lemmas.List.{append-nil, drop_all, length-replicate, length-set, length-take-le, take-replicate, take_all}
@@ -14,7 +13,7 @@ use Rattle.fx_tap.proofs.DelayLaws.{quiet-part}
 use Rattle.fx_tap.proofs.EchoLaws.{echo-first}
 use Rattle.fx_tap.proofs.EchoWeights.{held-weight}
 use Rattle.fx_tap.proofs.EchosRow.{any-default, left-step, same-line}
-use Rattle.fx_tap.proofs.EchosPieces.{after_all-is, column, column-is, fed-pieces, fed_all, let_out, after_all, pushed-is, rows-step, sums-step, flat-fits, flat-small, latest-small, let_out-is, row_after, row_after-is, row_gone, sum-none}
+use Rattle.fx_tap.proofs.EchosPieces.{column, column-is, fed-pieces, fed_all, let_out, after_all, pushed-is, rows-step, sums-step, flat-fits, flat-small, latest-small, let_out-is, row_after, row_after-is, row_gone, sum-none}
 use Rattle.fx_tap.proofs.SumPieces.{flat-place}
 use Rattle.fx_tap.proofs.echos.pass_piece.Goals as goal
 

@@ -1,4 +1,4 @@
-use Rattle.std.proofs.Common.{◌<◌, ◌≤◌, ◌^◌, ℕ, pos, slice_index_or, unsigned_abs}
+use Rattle.std.proofs.Common.{◌<◌, ◌≤◌, ℕ, pos, slice_index_or, unsigned_abs}
 use Rattle.fx_tap.proofs.weights.are_small.Given as goal
 
 abbrev pub invariant-loop-place : goal.invariant-loop-place
