@@ -325,3 +325,34 @@ block-fed s line n clips input output h k t over counted full within due made cl
     let From : FirState → Type 0 = λ u. Fed fir_acts u xs (frames_behind fir_taps (made_with s.channels b) s.line.items xs) (Ready Through (s.taken + length xs) (s.given + length xs) (s.clips + clips_behind fir_taps (made_with s.channels b) s.line.items xs)) in
     let To : FirState → Type 0 = λ u. Fed fir_acts s xs (frames_behind fir_taps (made_with s.channels b) s.line.items xs) u in
     rw made (subst To (sym new) (subst From (sym start) fed))
+
+-- one frame, passed on in its place
+pub frame-passed : (s : FirState) (line : Frames ℤ) (x y : Samples) (clips : ℕ) → s.hand ≡ None → s.hand_clips ≡ 0 → s.tail ≡ 0 → s.ended ≡ false → s.given + centre (length (reverse s.backwards)) ≡ s.taken
+    → s.line.capacity + 1 ≡ length (reverse s.backwards) → length s.line.items ≤ s.line.capacity → centre (length (reverse s.backwards)) ≤ length s.line.items
+    → y ≡ (made_behind s.channels s.backwards s.line x).samples → clips ≡ (made_behind s.channels s.backwards s.line x).clips
+    → line.items ≡ last_of s.line.capacity (s.line.items ++ x ∷ []) → line.capacity ≡ s.line.capacity → line.channels ≡ s.line.channels
+    → PassedOn fir_acts Through s (record s { line = line; taken = s.taken + 1; given = s.given + 1; clips = s.clips + clips }) x y
+frame-passed s line x y clips h k t over counted full within due made clipped items capacity channels =
+    let b : List ℤ = s.backwards in
+    let Ready : Frames ℤ → ℕ → ℕ → ℕ → FirState = ready s.channels b in
+    let Next : Frames ℤ = record { items = last_of s.line.capacity (s.line.items ++ x ∷ []); capacity = s.line.capacity; channels = s.line.channels } in
+    let same : ◌≡◌ {A = Frames ℤ} (record { items = line.items; capacity = line.capacity; channels = line.channels }) Next = rw (items, capacity, channels) refl in
+    let went : line ≡ Next = same in
+    let all : ℕ = s.clips + (made_behind s.channels b s.line x).clips in
+    let passed : PassedOn fir_acts Through (Ready s.line s.taken s.given s.clips) (Ready Next (s.taken + 1) (s.given + 1) all) x (made_behind s.channels b s.line x).samples =
+    one-passed s.channels b s.line s.taken s.given s.clips x full within due counted in
+    let whole : ◌≡◌ {A = FirState} (record { channels = s.channels; backwards = s.backwards; line = s.line; hand = s.hand; hand_clips = s.hand_clips; tail = s.tail; taken = s.taken; given = s.given; clips = s.clips; ended = s.ended }) (Ready s.line s.taken s.given s.clips) = rw (h, k, t, over) refl in
+    let start : s ≡ Ready s.line s.taken s.given s.clips = whole in
+    let left : ◌≡◌ {A = FirState} (record { channels = s.channels; backwards = s.backwards; line = line; hand = s.hand; hand_clips = s.hand_clips; tail = s.tail; taken = s.taken + 1; given = s.given + 1; clips = s.clips + clips; ended = s.ended }) (Ready line (s.taken + 1) (s.given + 1) (s.clips + clips)) = rw (h, k, t, over) refl in
+    let last : ◌≡◌ {A = FirState} (record { channels = s.channels; backwards = s.backwards; line = line; hand = s.hand; hand_clips = s.hand_clips; tail = s.tail; taken = s.taken + 1; given = s.given + 1; clips = s.clips + clips; ended = s.ended }) (Ready Next (s.taken + 1) (s.given + 1) all) =
+    left ∙ ap (λ (l : Frames ℤ). Ready l (s.taken + 1) (s.given + 1) (s.clips + clips)) went ∙ ap (λ (j : ℕ). Ready Next (s.taken + 1) (s.given + 1) (s.clips + j)) clipped in
+    let new : record s { line = line; taken = s.taken + 1; given = s.given + 1; clips = s.clips + clips } ≡ Ready Next (s.taken + 1) (s.given + 1) all = last in
+    let From : FirState → Type 0 = λ u. PassedOn fir_acts Through u (Ready Next (s.taken + 1) (s.given + 1) all) x (made_behind s.channels b s.line x).samples in
+    let To : FirState → Type 0 = λ u. PassedOn fir_acts Through s u x (made_behind s.channels b s.line x).samples in
+    rw made (subst To (sym new) (subst From (sym start) passed))
+
+-- a frame that was put over all of the samples
+pub put-whole : (xs out : List ℤ) → length out ≡ length xs → take 0 xs ++ out ++ drop (0 + length out) xs ≡ out
+put-whole xs out same =
+    let none : drop (0 + length out) xs ≡ [] = drop_all (0 + length out) xs (omega (arith, same)) in
+    rw (none, append-nil) refl
