@@ -1,3 +1,4 @@
-pub mod Words
+pub mod Conversions
 pub mod Steps
 pub mod Values
+pub mod Words

@@ -1,13 +1,17 @@
 //! A conversion in memory, to C.
 ghost use Rattle.std.specs.Prelude.{◌≡◌, ℕ, List, length};
-ghost use Rattle.soxchain_c.specs.Conversion.{told_report};
+ghost use Rattle.fx_line.specs.Line.{texts};
+ghost use Rattle.fx_plan.specs.Plans.{bytes_of};
+ghost use Rattle.fx_sound.specs.Known.{IfKnown};
+ghost use Rattle.soxchain_c.specs.Conversion.{Conversion, told_report};
 ghost use Rattle.soxchain_c.specs.Room.{filled};
 
 use crate::asked::{Asked, read_asked, refuse};
 use crate::room::put;
 use crate::status::number_of;
+use crate::texts::TextFault;
 use fx_chain::{MOST_EFFECTS, Report};
-use fx_frame::{ByteOut, Counted};
+use fx_frame::{ByteIn, Counted};
 use soxchain::convert;
 use std::alloc::Global;
 
@@ -45,24 +49,54 @@ fn report_of(report: &Report, output_length: usize, messages_length: usize) -> S
     }
 }
 
-/// Converts a sound.
-fn convert_asked<W: ByteOut, M: ByteOut>(
-    alloc: Global,
-    asked: &Asked,
-    input: &[u8],
-    output: &mut W,
-    messages: &mut M,
-) -> (i32, Report) {
-    let reader = Counted::new(input);
+/// What a conversion answered, wrote and told.
+#[derive(Drop)]
+struct Done {
+    status: i32,
+    report: Report,
+    output: Vec<u8>,
+    messages: Vec<u8>,
+}
+
+/// Converts the sound of a reader, in memory.
+fn convert_from<R: ByteIn + Drop>(alloc: Global, asked: &Asked, reader: R) -> Done
+    ensures { IfKnown (R.rest reader) (λ input. Conversion (texts asked.now.words.items) (bytes_of asked.now.files.items) input result.output.items result.messages.items result.status result.report) }
+{
+    let mut output = Counted::new(Vec::new(alloc));
+    let mut messages = Counted::new(Vec::new(alloc));
     let (status, report, _reader) = convert(
         alloc,
         &asked.words,
         &asked.files,
         reader,
-        output,
-        messages,
+        &mut output,
+        &mut messages,
     );
-    (i32::from(status), report)
+    Done {
+        status: i32::from(status),
+        report,
+        output: output.into_inner(),
+        messages: messages.into_inner(),
+    }
+}
+
+/// Converts a sound in memory.
+fn convert_asked(alloc: Global, asked: &Asked, input: &[u8]) -> Done
+    ensures { Conversion (texts asked.now.words.items) (bytes_of asked.now.files.items) input.now result.output.items result.messages.items result.status result.report }
+{
+    convert_from(alloc, asked, Counted::new(input))
+}
+
+/// What is answered where words or files cannot be read.
+fn unread(alloc: Global, fault: TextFault) -> Done {
+    let mut told = Counted::new(Vec::new(alloc));
+    let status = number_of(refuse(&mut told, fault));
+    Done {
+        status,
+        report: Report::none(),
+        output: Vec::new(alloc),
+        messages: told.into_inner(),
+    }
 }
 
 /// Converts a sound in memory: the words are those of the command line, the files the bytes of the coefficient files, in order.
@@ -82,15 +116,12 @@ pub extern "C" fn soxchain_convert(
     ensures output { (bytes : List ℕ) × (report.new.output_length ≡ length bytes) × (output.new ≡ filled bytes output.old) }
     ensures messages { (bytes : List ℕ) × (report.new.messages_length ≡ length bytes) × (messages.new ≡ filled bytes messages.old) }
 {
-    let mut given = Counted::new(Vec::new(alloc));
-    let mut told = Counted::new(Vec::new(alloc));
-    let (status, done) = match read_asked(alloc, words, word_ends, files, file_ends) {
-        Ok(asked) => convert_asked(alloc, &asked, input, &mut given, &mut told),
-        Err(fault) => (number_of(refuse(&mut told, fault)), Report::none()),
+    let done = match read_asked(alloc, words, word_ends, files, file_ends) {
+        Ok(asked) => convert_asked(alloc, &asked, input),
+        Err(fault) => unread(alloc, fault),
     };
-    let (given, told) = (given.into_inner(), told.into_inner());
-    *report = report_of(&done, given.len(), told.len());
-    put(output, &given);
-    put(messages, &told);
-    status
+    *report = report_of(&done.report, done.output.len(), done.messages.len());
+    put(output, &done.output);
+    put(messages, &done.messages);
+    done.status
 }
