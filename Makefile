@@ -8,13 +8,14 @@ DESTDIR =
 # The one place of the version is the program.
 VERSION := $(shell sed -n 's/^pub const VERSION.*"soxchain \([0-9.]*\)\\n.*/\1/p' crates/soxchain_about/src/lib.rt)
 
-.PHONY: help test soxchain soxchain-plan demo conformance wrong-bodies bench pictures install uninstall deb dist check-docs same-bytes clean
+.PHONY: help test soxchain soxchain-plan lib demo conformance wrong-bodies bench pictures install uninstall deb dist check-docs same-bytes clean
 
 help:
 	@echo 'make demo      processes a sound of examples/ and says what it wrote'
 	@echo 'make test      the whole gate: every proof, the tests, the programs, the checks of scripts/checks, some wrong bodies'
 	@echo 'make soxchain  builds the proved program as build/soxchain'
 	@echo 'make soxchain-plan  builds the program that says in advance what soxchain would do, as build/soxchain-plan'
+	@echo 'make lib       builds the proved library for C in build/: libsoxchain.a, libsoxchain.so, soxchain.h, soxchain.pc'
 	@echo 'make conformance  runs the proved program on 3,000 cases with known bytes, messages and statuses, and on 2,000 random ones'
 	@echo 'make wrong-bodies  has the prover refuse each wrong body of wrong-bodies/'
 	@echo 'make bench     times the proved program beside sox, effect by effect'
@@ -43,6 +44,12 @@ build/soxchain-plan: $(SOURCES)
 	@mkdir -p build
 	cd crates/soxchain_plan && rt run -- - -t au - vol 0.5 <../../examples/tone.au >/dev/null
 	@cp crates/soxchain_plan/out/soxchain_plan $@.new && mv $@.new $@
+
+# The proved library for C, with its header and what pkg-config reads; docs/library.md.
+lib: build/libsoxchain.so
+build/libsoxchain.so: $(SOURCES) $(wildcard packaging/soxchain.* packaging/strerror.c) scripts/library
+	cd crates/soxchain_c && rt lib
+	@scripts/library '$(VERSION)' '$(PREFIX)'
 
 # A sound half as loud. The proved program takes minutes to prove, so this runs it unproved, with checks.
 demo:

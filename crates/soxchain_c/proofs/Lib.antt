@@ -1,0 +1,4 @@
+pub mod Conversions
+pub mod Steps
+pub mod Values
+pub mod Words

@@ -1,0 +1,16 @@
+use Rattle.std.proofs.Common.{◌≡◌, ◌++◌, ◌≤◌, length}
+use Rattle.fx_line.specs.Line.{texts}
+use Rattle.soxchain_c.specs.Texts.{AreEnds, AreTexts, cut}
+use Rattle.soxchain_c.proofs.texts.read_words.Given as goal
+
+abbrev pub invariant-loop-end : goal.invariant-loop-end
+invariant-loop-end l = record {
+  within : l.start ≤ length l.bytes;
+  words : texts l.words.items ++ cut l.bytes l.start l.rest ≡ cut l.bytes 0 l.ends;
+  ends : AreEnds l.bytes l.start l.rest → AreEnds l.bytes 0 l.ends;
+  orders : AreEnds l.bytes 0 l.ends → AreEnds l.bytes l.start l.rest;
+  texts : AreTexts (cut l.bytes 0 l.ends) → AreTexts (cut l.bytes l.start l.rest);
+}
+
+abbrev pub decreases-loop-end : goal.decreases-loop-end
+decreases-loop-end l = length l.rest

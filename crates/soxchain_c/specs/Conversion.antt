@@ -1,0 +1,62 @@
+-- A conversion in memory (this project's profile; packaging/soxchain.h).
+use Rattle.std.specs.Prelude.{◌≡◌, ◌≢◌, ℕ, ℤ, pos, List, [], drop, Some, Result, Err, IfOk}
+use Rattle.fx_chain.specs.declared.report.Report.{Report}
+use Rattle.fx_chain.specs.declared.report.RunFault.{RunFault}
+use Rattle.fx_chain.specs.Report.{report_at}
+use Rattle.fx_chain.specs.Theorem.{Ran}
+use Rattle.fx_line.specs.declared.line.LineFault.{LineFault}
+use Rattle.fx_line.specs.Line.{Said, line_of}
+use Rattle.fx_plan.specs.declared.fault.PlanFault.{PlanFault}
+use Rattle.fx_plan.specs.CommandLines.{LineReads}
+use Rattle.fx_sound.specs.declared.head.HeadFault.{HeadFault}
+use Rattle.fx_sound.specs.declared.head.HeadFault.TheVariants as HeadFaults
+use Rattle.fx_sound.specs.Head.{head_of}
+use Rattle.soxchain.specs.declared.preparing.Refusal.{Refusal}
+use Rattle.soxchain.specs.declared.preparing.Refusal.TheVariants as Refusals
+use Rattle.soxchain.specs.Convert.{Running, Unchained, Unplanned, Whole}
+use Rattle.soxchain.specs.Program.{Concludes}
+use Rattle.soxchain.specs.Stops.{Stop, Refused, Run}
+use Rattle.soxchain.specs.Telling.{Tells}
+use Rattle.soxchain_c.specs.declared.conversion.SoxchainReport.{SoxchainReport}
+
+-- a report to C, with the bytes of the output and of the messages
+abbrev pub told_report : Report → ℕ → ℕ → SoxchainReport
+told_report r output messages = record {
+  output_length = output;
+  messages_length = messages;
+  frames_in = r.frames_in;
+  frames_out = r.frames_out;
+  bytes_out = r.bytes_out;
+  moves = r.moves;
+  clips = r.clips;
+  out_clips = r.out_clips;
+  missing = r.missing;
+  stray = r.stray;
+}
+
+-- these bytes were told as messages: all of the text, or a front of it where memory was wanting
+abbrev pub ToldBytes : List ℕ → List ℕ → Type 0
+ToldBytes messages text = (count : ℕ) × Tells (Some []) (Some messages) 0 count text
+
+-- The run over the bytes stopped, since memory for the output was wanting, or the sound was too long.
+pub record StoppedBytes (line : Said) (files : List (List ℕ)) (input output : List ℕ) (f : RunFault) : Type 0 where
+  pub run : Running line files input (report_at f)
+  pub ran : Ran run.plan (drop run.offset input) (Some []) (Some output) (Err f)
+
+-- A sound in memory whose command line was accepted: as `Converted` says of a reader that tells these bytes, and of a writer that
+-- took none and then these.
+pub record ConvertedBytes (line : Said) (files : List (List ℕ)) (input output : List ℕ) (outcome : Result Report Stop) : Type 0 where
+  pub whole : IfOk outcome (λ r. Whole line files input (Some []) (Some output) r)
+  pub clean : (r : Refusal) → outcome ≡ Err (Refused r) → output ≡ []
+  pub refused : (f : HeadFault) → outcome ≡ Err (Refused (Refusals.Head f)) → f ≢ HeadFaults.ReadFailed → head_of line.input_kind input ≡ Err f
+  pub unplanned : (f : PlanFault) → outcome ≡ Err (Refused (Refusals.Plan f)) → Unplanned line files input f
+  pub unchained : outcome ≡ Err (Refused Refusals.Chain) → Unchained line files input
+  pub stopped : (f : RunFault) → outcome ≡ Err (Run f) → StoppedBytes line files input output f
+
+-- What these words make of a sound in memory.
+pub record Conversion (words files : List (List ℕ)) (input output messages : List ℕ) (status : ℤ) (report : Report) : Type 0 where
+  pub number : ℕ
+  pub status_is : status ≡ pos number
+  pub found : Result Said LineFault
+  pub reads : LineReads (line_of words) found
+  pub concludes : Concludes (λ line. ConvertedBytes line files input output) (output ≡ []) (ToldBytes messages) number report found

@@ -1,0 +1,18 @@
+-- Words and files that lie in bytes one behind the other, each up to its end (packaging/soxchain.h).
+use Rattle.std.specs.Prelude.{ℕ, ◌≤◌, List, [], ◌∷◌, length, slice_range}
+use Rattle.std.specs.Str.{IsUtf8}
+
+-- ends in order from this place on, none past the bytes
+abbrev pub AreEnds : List ℕ → ℕ → List ℕ → Type 0
+AreEnds bytes start [] = Unit {0}
+AreEnds bytes start (end ∷ ends) = (start ≤ end) × (end ≤ length bytes) × AreEnds bytes end ends
+
+-- the pieces between this place and the ends
+abbrev pub cut : List ℕ → ℕ → List ℕ → List (List ℕ)
+cut bytes start [] = []
+cut bytes start (end ∷ ends) = slice_range bytes start end ∷ cut bytes end ends
+
+-- each piece is UTF-8
+abbrev pub AreTexts : List (List ℕ) → Type 0
+AreTexts [] = Unit {0}
+AreTexts (word ∷ words) = IsUtf8 word × AreTexts words

@@ -1,0 +1,74 @@
+//! The words and files of a call, and why they cannot be read.
+ghost use Rattle.std.specs.Prelude.{◌≡◌, ◌≢◌, Err, IfOk, OnOk};
+ghost use Rattle.fx_line.specs.Line.{texts};
+ghost use Rattle.fx_plan.specs.Plans.{bytes_of};
+ghost use Rattle.soxchain.specs.Messages.{line_label, line_message};
+ghost use Rattle.soxchain.specs.Telling.{Tells};
+ghost use Rattle.soxchain_c.specs.Texts.{AreEnds, AreTexts, cut};
+
+use crate::status::Status;
+use crate::texts::{TextFault, read_files, read_words};
+use fx_frame::ByteOut;
+use fx_plan::LineFault;
+use soxchain::inner::{Telling, label_of_line, tell_line};
+use std::alloc::Global;
+
+/// The words and files of a call.
+#[derive(Drop)]
+pub struct Asked {
+    pub words: Vec<String>,
+    pub files: Vec<Vec<u8>>,
+}
+
+/// The words and files that lie in bytes, each up to its end; or the first fault.
+pub fn read_asked(
+    alloc: Global,
+    words: &[u8],
+    word_ends: &[usize],
+    files: &[u8],
+    file_ends: &[usize],
+) -> Result<Asked, TextFault>
+    ensures words { IfOk result (λ a. texts a.words.items ≡ cut words.now 0 word_ends.now) }
+    ensures files { IfOk result (λ a. bytes_of a.files.items ≡ cut files.now 0 file_ends.now) }
+    ensures ends { OnOk result (AreEnds words.now 0 word_ends.now × AreEnds files.now 0 file_ends.now) }
+    ensures bad_ends { result ≡ Err TextFault.BadEnds → (AreEnds words.now 0 word_ends.now × AreEnds files.now 0 file_ends.now) → ⊥ }
+    ensures not_text { result ≡ Err TextFault.NotText → AreTexts (cut words.now 0 word_ends.now) → ⊥ }
+{
+    let words = match read_words(alloc, words, word_ends) {
+        Ok(words) => words,
+        Err(fault) => return Err(fault),
+    };
+    match read_files(alloc, files, file_ends) {
+        Ok(files) => Ok(Asked { words, files }),
+        Err(fault) => Err(fault),
+    }
+}
+
+/// Tells why a line is refused.
+fn tell_refused<M: ByteOut>(messages: &mut M, fault: LineFault)
+    ensures { Tells (M.taken messages.old) (M.taken messages.new) (M.failures messages.old) (M.failures messages.new) (line_message (line_label fault)) }
+{
+    let mut telling = Telling::new();
+    tell_line(&mut telling, messages, label_of_line(fault));
+}
+
+/// The status of words and files that cannot be read, and a message: a word that is not UTF-8 and want of memory are told as the
+/// program tells them.
+pub fn refuse<M: ByteOut>(messages: &mut M, fault: TextFault) -> Status
+    ensures fault { result ≢ Status.Fine }
+    ensures bad_ends { fault ≡ TextFault.BadEnds → (result ≡ Status.BadEnds) × (messages.new ≡ messages.old) }
+    ensures not_text { fault ≡ TextFault.NotText → (result ≡ Status.Refused) × Tells (M.taken messages.old) (M.taken messages.new) (M.failures messages.old) (M.failures messages.new) (line_message (line_label LineFault.BadOption)) }
+    ensures memory { fault ≡ TextFault.Memory → (result ≡ Status.Failed) × Tells (M.taken messages.old) (M.taken messages.new) (M.failures messages.old) (M.failures messages.new) (line_message (line_label LineFault.Memory)) }
+{
+    match fault {
+        TextFault::BadEnds => Status::BadEnds,
+        TextFault::NotText => {
+            tell_refused(messages, LineFault::BadOption);
+            Status::Refused
+        }
+        TextFault::Memory => {
+            tell_refused(messages, LineFault::Memory);
+            Status::Failed
+        }
+    }
+}

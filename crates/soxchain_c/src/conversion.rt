@@ -1,0 +1,127 @@
+//! A conversion in memory, to C.
+ghost use Rattle.std.specs.Prelude.{◌≡◌, ℕ, List, length};
+ghost use Rattle.fx_line.specs.Line.{texts};
+ghost use Rattle.fx_plan.specs.Plans.{bytes_of};
+ghost use Rattle.fx_sound.specs.Known.{IfKnown};
+ghost use Rattle.soxchain_c.specs.Conversion.{Conversion, told_report};
+ghost use Rattle.soxchain_c.specs.Room.{filled};
+
+use crate::asked::{Asked, read_asked, refuse};
+use crate::room::put;
+use crate::status::number_of;
+use crate::texts::TextFault;
+use fx_chain::{MOST_EFFECTS, Report};
+use fx_frame::{ByteIn, Counted};
+use soxchain::convert;
+use std::alloc::Global;
+
+/// What a conversion did, and the bytes of what it wrote and told.
+#[repr(C)]
+#[derive(Drop)]
+pub struct SoxchainReport {
+    pub output_length: usize,
+    pub messages_length: usize,
+    pub frames_in: u64,
+    pub frames_out: u64,
+    pub bytes_out: u64,
+    pub moves: u64,
+    pub clips: [u64; MOST_EFFECTS],
+    pub out_clips: u64,
+    pub missing: u64,
+    pub stray: u64,
+}
+
+/// A report to C.
+fn report_of(report: &Report, output_length: usize, messages_length: usize) -> SoxchainReport
+    ensures { result ≡ told_report report.now output_length messages_length }
+{
+    SoxchainReport {
+        output_length,
+        messages_length,
+        frames_in: report.frames_in,
+        frames_out: report.frames_out,
+        bytes_out: report.bytes_out,
+        moves: report.moves,
+        clips: report.clips,
+        out_clips: report.out_clips,
+        missing: report.missing,
+        stray: report.stray,
+    }
+}
+
+/// What a conversion answered, wrote and told.
+#[derive(Drop)]
+struct Done {
+    status: i32,
+    report: Report,
+    output: Vec<u8>,
+    messages: Vec<u8>,
+}
+
+/// Converts the sound of a reader, in memory.
+fn convert_from<R: ByteIn + Drop>(alloc: Global, asked: &Asked, reader: R) -> Done
+    ensures { IfKnown (R.rest reader) (λ input. Conversion (texts asked.now.words.items) (bytes_of asked.now.files.items) input result.output.items result.messages.items result.status result.report) }
+{
+    let mut output = Counted::new(Vec::new(alloc));
+    let mut messages = Counted::new(Vec::new(alloc));
+    let (status, report, _reader) = convert(
+        alloc,
+        &asked.words,
+        &asked.files,
+        reader,
+        &mut output,
+        &mut messages,
+    );
+    Done {
+        status: i32::from(status),
+        report,
+        output: output.into_inner(),
+        messages: messages.into_inner(),
+    }
+}
+
+/// Converts a sound in memory.
+fn convert_asked(alloc: Global, asked: &Asked, input: &[u8]) -> Done
+    ensures { Conversion (texts asked.now.words.items) (bytes_of asked.now.files.items) input.now result.output.items result.messages.items result.status result.report }
+{
+    convert_from(alloc, asked, Counted::new(input))
+}
+
+/// What is answered where words or files cannot be read.
+fn unread(alloc: Global, fault: TextFault) -> Done {
+    let mut told = Counted::new(Vec::new(alloc));
+    let status = number_of(refuse(&mut told, fault));
+    Done {
+        status,
+        report: Report::none(),
+        output: Vec::new(alloc),
+        messages: told.into_inner(),
+    }
+}
+
+/// Converts a sound in memory: the words are those of the command line, the files the bytes of the coefficient files, in order.
+/// Output and messages are copied where the room has place for all their bytes; the report tells both lengths, also where not.
+#[unsafe(no_mangle)]
+pub extern "C" fn soxchain_convert(
+    alloc: Global,
+    words: &[u8],
+    word_ends: &[usize],
+    files: &[u8],
+    file_ends: &[usize],
+    input: &[u8],
+    output: &mut [u8],
+    messages: &mut [u8],
+    report: &mut SoxchainReport,
+) -> i32
+    ensures output { (bytes : List ℕ) × (report.new.output_length ≡ length bytes) × (output.new ≡ filled bytes output.old) }
+    ensures messages { (bytes : List ℕ) × (report.new.messages_length ≡ length bytes) × (messages.new ≡ filled bytes messages.old) }
+{
+    let done = match read_asked(alloc, words, word_ends, files, file_ends) {
+        Ok(asked) => convert_asked(alloc, &asked, input),
+        Err(fault) => unread(alloc, fault),
+    };
+    *report = report_of(&done.report, done.output.len(), done.messages.len());
+    put(output, &done.output);
+    put(messages, &done.messages);
+    done.status
+}

@@ -1,0 +1,74 @@
+//! Words and files that C tells as bytes and ends.
+ghost use Rattle.std.specs.Prelude.{◌≡◌, Err, IfOk, OnOk};
+ghost use Rattle.fx_line.specs.Line.{texts};
+ghost use Rattle.fx_plan.specs.Plans.{bytes_of};
+ghost use Rattle.soxchain_c.specs.Texts.{AreEnds, AreTexts, cut};
+
+use std::alloc::Global;
+use std::str;
+
+/// Why words or files are not told rightly.
+#[derive(Clone, Copy, Debug, PartialEq, Eq)]
+pub enum TextFault {
+    /// An end lies before the one before it, or past the bytes.
+    BadEnds,
+    /// A word is not UTF-8.
+    NotText,
+    /// No memory was found.
+    Memory,
+}
+
+/// The words that lie in bytes one behind the other, each up to its end; or the first fault.
+pub fn read_words(alloc: Global, bytes: &[u8], ends: &[usize]) -> Result<Vec<String>, TextFault>
+    ensures words { IfOk result (λ words. texts words.items ≡ cut bytes.now 0 ends.now) }
+    ensures ends { OnOk result (AreEnds bytes.now 0 ends.now) }
+    ensures bad_ends { result ≡ Err TextFault.BadEnds → AreEnds bytes.now 0 ends.now → ⊥ }
+    ensures not_text { result ≡ Err TextFault.NotText → AreTexts (cut bytes.now 0 ends.now) → ⊥ }
+{
+    let mut words = Vec::new(alloc);
+    let mut start = 0;
+    let mut rest = ends;
+    while let Some((end, more)) = rest.split_first() {
+        if *end < start || bytes.len() < *end {
+            return Err(TextFault::BadEnds);
+        }
+        let Ok(text) = str::from_utf8(&bytes[start..*end]) else {
+            return Err(TextFault::NotText);
+        };
+        let Ok(word) = String::from_str(alloc, text) else {
+            return Err(TextFault::Memory);
+        };
+        let Ok(()) = words.push(word) else {
+            return Err(TextFault::Memory);
+        };
+        start = *end;
+        rest = more;
+    }
+    Ok(words)
+}
+
+/// The files that lie in bytes one behind the other, each up to its end; or the first fault.
+pub fn read_files(alloc: Global, bytes: &[u8], ends: &[usize]) -> Result<Vec<Vec<u8>>, TextFault>
+    ensures files { IfOk result (λ files. bytes_of files.items ≡ cut bytes.now 0 ends.now) }
+    ensures ends { OnOk result (AreEnds bytes.now 0 ends.now) }
+    ensures bad_ends { result ≡ Err TextFault.BadEnds → AreEnds bytes.now 0 ends.now → ⊥ }
+    ensures text { result ≡ Err TextFault.NotText → ⊥ }
+{
+    let mut files = Vec::new(alloc);
+    let mut start = 0;
+    let mut rest = ends;
+    while let Some((end, more)) = rest.split_first() {
+        if *end < start || bytes.len() < *end {
+            return Err(TextFault::BadEnds);
+        }
+        let Ok(file) = Vec::from_slice(alloc, &bytes[start..*end]) else {
+            return Err(TextFault::Memory);
+        };
+        let Ok(()) = files.push(file) else {
+            return Err(TextFault::Memory);
+        };
+        start = *end;
+        rest = more;
+    }
+    Ok(files)
+}

@@ -1,0 +1,129 @@
+/* soxchain: exact sound effects in one pass and in bounded memory.
+ *
+ * One call converts a sound in memory; a stream is fed a block at a time. docs/library.md says what is proved of these calls.
+ *
+ * What the caller owes. No pointer is NULL, also where the length behind it is 0. Buffers that a call reads and those that it
+ * writes do not overlap. Words and files are told as bytes that lie one behind the other, and the end of each, counted from the
+ * first byte: "vol" and "0.5" are the bytes vol0.5 with the ends 3 and 6. A call keeps no pointer that it was given. There is no
+ * global state: threads may use streams at the same time, each its own.
+ */
+#ifndef SOXCHAIN_H
+#define SOXCHAIN_H
+
+#include <stddef.h>
+#include <stdint.h>
+
+#ifdef __cplusplus
+extern "C" {
+#endif
+
+/* What a call answers. The first three are also the statuses of the program soxchain. */
+enum {
+    SOXCHAIN_OK = 0,
+    SOXCHAIN_REFUSED = 1,         /* the words or the coefficient files are refused; a message says why */
+    SOXCHAIN_FAILED = 2,          /* the sound is refused or cut off, or no memory was found; a message says why */
+    SOXCHAIN_NO_MEMORY = 3,       /* no memory was found */
+    SOXCHAIN_BAD_ENDS = 4,        /* the ends of words or files are out of order, or past their bytes */
+    SOXCHAIN_NO_STREAM = 5,       /* there is no stream behind the handle */
+    SOXCHAIN_BAD_RATE = 6,        /* a rate of 0 */
+    SOXCHAIN_BAD_CHANNELS = 7,    /* no channel, or more than 16 */
+    SOXCHAIN_PART_OF_FRAME = 8,   /* samples that make no whole frames */
+    SOXCHAIN_TOO_LONG = 9,        /* more than 2^40 frames */
+    SOXCHAIN_NOT_WAITING = 10,    /* the end, where the stream does not wait for frames */
+    SOXCHAIN_BAD_SNAPSHOT = 11    /* bytes to which no stream of these words, rate and channels was frozen */
+};
+
+/* What a status says, in English. The text is never freed. */
+const char *soxchain_strerror(int status);
+
+/* What soxchain_convert did. */
+typedef struct soxchain_report {
+    size_t output_length;    /* the bytes of the output */
+    size_t messages_length;  /* the bytes of the messages, a line each */
+    uint64_t frames_in;      /* the frames that were read */
+    uint64_t frames_out;     /* the frames that the effects gave */
+    uint64_t bytes_out;      /* the bytes of the output, the head among them */
+    uint64_t moves;          /* how often a frame was handed on */
+    uint64_t clips[32];      /* the samples that each effect clipped */
+    uint64_t out_clips;      /* the samples that were clipped when they were written */
+    uint64_t missing;        /* the announced bytes that were not there */
+    uint64_t stray;          /* the bytes behind the last whole frame */
+} soxchain_report;
+
+/* Converts a sound in memory. The words are those of the program's command line, as - -t wav - vol 0.5; the files are the bytes of
+ * the coefficient files that they name, in order. Output and messages are copied where the room has place for all their bytes,
+ * and else not at all; the report tells both lengths, also then. */
+int soxchain_convert(const uint8_t *words, size_t words_length, const size_t *word_ends, size_t word_count,
+                     const uint8_t *files, size_t files_length, const size_t *file_ends, size_t file_count,
+                     const uint8_t *input, size_t input_length,
+                     uint8_t *output, size_t output_room,
+                     uint8_t *messages, size_t messages_room,
+                     soxchain_report *report);
+
+/* The handle of a stream. It begins as SOXCHAIN_NO_HANDLE, with no stream. It is not to be copied: one handle has the stream. */
+typedef struct soxchain_stream {
+    void *at;
+} soxchain_stream;
+
+#define SOXCHAIN_NO_HANDLE {NULL}
+
+/* What a stream waits for. */
+enum {
+    SOXCHAIN_WAITS_FOR_FRAMES = 0,  /* or for the end */
+    SOXCHAIN_WAITS_FOR_ROOM = 1,    /* in the output */
+    SOXCHAIN_WAITS_FOR_NOTHING = 2, /* all was given */
+    SOXCHAIN_WAITS_FOR_END = 3      /* no frame changes what is still to be given */
+};
+
+/* How many frames soxchain_feed took and gave, and what the stream then waits for. */
+typedef struct soxchain_passed {
+    size_t taken;
+    size_t given;
+    uint32_t waits;
+} soxchain_passed;
+
+/* Makes the stream of effects, whose words are those behind OUT on the program's command line, as vol 0.5, for frames of so many
+ * channels at this rate, and puts it behind the handle; a stream that was there is freed. messages_length gets the bytes of the
+ * message where the words are refused, which is copied where the room has place for all of it. */
+int soxchain_new(const uint8_t *words, size_t words_length, const size_t *word_ends, size_t word_count,
+                 const uint8_t *files, size_t files_length, const size_t *file_ends, size_t file_count,
+                 uint32_t rate, size_t channels,
+                 uint8_t *messages, size_t messages_room, size_t *messages_length,
+                 soxchain_stream *stream);
+
+/* Takes frames from the front of the input and writes those that are given to the front of the output, until the output has no
+ * room for another frame, or no frame is left that can be taken. The samples of a frame lie one behind the other, channel by
+ * channel; lengths are counted in samples. The output may have any room; what lies behind the frames given stays as it was. */
+int soxchain_feed(soxchain_stream *stream, const int32_t *input, size_t input_length, int32_t *output, size_t output_room,
+                  soxchain_passed *passed);
+
+/* Tells the stream that no frame will come; then soxchain_feed with an input of length 0 gives what is left. */
+int soxchain_end(soxchain_stream *stream);
+
+/* The frames that the stream holds, and the most that it may hold; 0 where there is no stream. */
+uint64_t soxchain_held(soxchain_stream *stream);
+uint64_t soxchain_hold(soxchain_stream *stream);
+
+/* The samples that an effect clipped; effects count from 1. 0 where there is no such effect, or no stream. */
+uint64_t soxchain_clips(soxchain_stream *stream, size_t effect);
+
+/* Frames in a second and samples in a frame that the stream gives; 0 where there is no stream. */
+uint32_t soxchain_rate(soxchain_stream *stream);
+size_t soxchain_channels(soxchain_stream *stream);
+
+/* The stream as bytes, of the form that docs/library.md describes. They are copied where the room has place for all of them;
+ * length gets their number. The stream stays as it is. */
+int soxchain_freeze(soxchain_stream *stream, uint8_t *room, size_t room_length, size_t *length);
+
+/* Goes on from a stream that was frozen to these bytes, in this process or another. This stream has to be made of the same words,
+ * files, rate and channels. Where it answers another status than SOXCHAIN_OK the stream is as it was. */
+int soxchain_thaw(soxchain_stream *stream, const uint8_t *bytes, size_t bytes_length);
+
+/* Frees the stream, if there is one. The handle is then as it began. */
+void soxchain_free(soxchain_stream *stream);
+
+#ifdef __cplusplus
+}
+#endif
+
+#endif
