@@ -102,13 +102,6 @@ small-sample a w past k sounds =
     ∙ sounds (past 0 k) (map (λ e. past e.0 k) a.echoes) (length-map a.echoes (λ e. past e.0 k))
     ∙ ap (λ z. rounding (a.gain_out *ℤ ((a.gain_in *ℤ past 0 k) +ℤ z)) (UNIT * UNIT)) (sym (echoes-products a.echoes past k))
 
--- the rounded sums are the rounded echoes
-pub small-is : (a : EchoArguments) (w : Weights) (past : Past) (sums : List ℤ) → ((k : ℕ) → k < a.channels → slice_index_or sums k (pos 0) ≡ echo_sum (weighed a w.weights) past k) → SoundsAs a.gain_in a.gain_out a.echoes w
-    → tabulate (λ k. rounding (slice_index_or sums k (pos 0)) w.denominator) 0 a.channels ≡ tabulate (echoed_sample a past) 0 a.channels
-small-is a w past sums h sounds =
-    tabulate-same (λ k. rounding (slice_index_or sums k (pos 0)) w.denominator) (echoed_sample a past) 0 0 a.channels (λ k l.
-    rw zero-add (ap (λ z. rounding z w.denominator) (h k l) ∙ small-sample a w past k sounds))
-
 -- small weights that sound as the gains suit an `echos`
 pub suits-of : (a : EchoArguments) (o : Option Weights) → IfSome o (SoundsAs a.gain_in a.gain_out a.echoes) → IfSome o (λ w. AreSmall (2 ^ 24) w.weights) → IfSome o (Suits a)
 suits-of a None sounds small = tt
