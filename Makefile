@@ -8,7 +8,7 @@ DESTDIR =
 # The one place of the version is the program.
 VERSION := $(shell sed -n 's/^pub const VERSION.*"soxchain \([0-9.]*\)\\n.*/\1/p' crates/soxchain_about/src/lib.rt)
 
-.PHONY: help test soxchain soxchain-plan lib demo conformance wrong-bodies bench pictures install uninstall deb dist check-docs same-bytes clean
+.PHONY: help test soxchain soxchain-plan lib demo conformance wrong-bodies bench pictures install uninstall deb dist check-docs check-library same-bytes clean
 
 help:
 	@echo 'make demo      processes a sound of examples/ and says what it wrote'
@@ -24,6 +24,7 @@ help:
 	@echo 'make deb       a Debian package of what make install installs, in build/'
 	@echo 'make dist      the sources and the package with checksums, in build/dist'
 	@echo 'make check-docs  runs each command of the documents, and looks through the manual and the package; installs what it needs'
+	@echo 'make check-library  runs the examples of the library for C and Python beside the proved program'
 	@echo 'make same-bytes  builds both programs in two folders, and compares their bytes'
 	@echo 'make clean     removes build/ and what the checks kept'
 
@@ -50,6 +51,10 @@ lib: build/libsoxchain.so
 build/libsoxchain.so: $(SOURCES) $(wildcard packaging/soxchain.* packaging/strerror.c) scripts/library
 	cd crates/soxchain_c && rt lib
 	@scripts/library '$(VERSION)' '$(PREFIX)'
+
+# The library beside the program. Not a part of `make test`: `rt lib` proves every crate below the library once more.
+check-library: build/soxchain
+	@scripts/check_library
 
 # A sound half as loud. The proved program takes minutes to prove, so this runs it unproved, with checks.
 demo:
