@@ -1,11 +1,12 @@
 -- Frames that all channels delay by as many frames as the line has places.
-use Rattle.std.proofs.Common.{◌≡◌, ◌+◌, ◌-◌, ◌*◌, ◌<◌, ◌≤◌, ℕ, ℤ, zero, suc, min, inl, inr, ◌⊎◌, List, [], ◌∷◌, ◌++◌, length, take, drop, get_or, map, pos, refl, sym, ap, ◌∙◌, arith, zero-add, append-nil, length-append, length-drop, replicate}
-use Rattle.std.specs.Prelude.{nat_le, slice_index, true, false}
+use Rattle.std.proofs.Common.{◌≡◌, ◌+◌, ◌-◌, ◌*◌, ◌<◌, ◌≤◌, ℕ, ℤ, zero, suc, min, inl, inr, ◌⊎◌, cond, List, [], ◌∷◌, ◌++◌, length, take, drop, get_or, map, pos, refl, sym, ap, ◌∙◌, arith, zero-add, append-nil, length-append, length-drop, replicate}
+use Rattle.std.specs.Prelude.{Bool, nat_le, nat_lt, slice_index, true, false}
 use Rattle.std.specs.Int.{w32}
 use Rattle.std.specs.List.{All}
+use borrow.Author.Tests.{ltb-true, ltb-false}
 use Rattle.std.proofs.lemmas.Bool.{cases_lt, le-leb, lt-leb}
 use Rattle.std.proofs.lemmas.List.{drop-drop, drop_all, drop_at, drop_more, get_or-append_right, get_or_append_left, get_or-replicate, length-replicate, take_all, take_at}
-use Rattle.std.proofs.lemmas.List.Elements.{All-append}
+use Rattle.std.proofs.lemmas.List.Elements.{All-append, All-cons, All-nil}
 use Rattle.std.proofs.Math.Nat.{add-mul}
 use Rattle.fx_frame.specs.Frame.{Samples, silence}
 use Rattle.fx_frame.specs.Holds.{total}
@@ -133,6 +134,23 @@ module _ (delays : List ℕ) (reach : ℕ) (all : (k : ℕ) → k < length delay
 -- and no sample is clipped
 pub even-clips : (delays : List ℕ) (items coming : List Samples) → clips_behind delay_taps delays items coming ≡ 0
 even-clips delays items coming = no-clips (λ n. delayed_frame delays (sample_before (items ++ coming) n)) (length items) (length coming)
+
+-- the frame that takes the place of one behind those of a line
+pub even-one : (delays : List ℕ) (line : Frames ℤ) (x : Samples) → ((k : ℕ) → k < length delays → slice_index delays k ≡ line.capacity) → IsLine w32 line → line.channels ≡ length delays → length x ≡ length delays
+    → cond (nat_lt (length line.items) line.capacity) (silence (length x)) (get_or (line.items ++ x ∷ []) 0 []) ≡ delayed_frame delays (sample_before (line.items ++ x ∷ []) (length line.items))
+even-one delays line x all is same wide = go (nat_lt (length line.items) line.capacity) refl
+  where
+    go : (b : Bool) → nat_lt (length line.items) line.capacity ≡ b → cond b (silence (length x)) (get_or (line.items ++ x ∷ []) 0 []) ≡ delayed_frame delays (sample_before (line.items ++ x ∷ []) (length line.items))
+    go true t =
+        let few : length line.items < line.capacity = ltb-true _ _ t in
+        ap silence wide ∙ sym (quiet-now delays line.capacity all (line.items ++ x ∷ []) (length line.items) few)
+    go false t =
+        let full : line.capacity ≤ length line.items = ltb-false _ _ t in
+        let first : length line.items - line.capacity ≡ 0 = omega (arith, is.within) in
+        let sides : All (λ (f : Samples). length f ≡ length delays) line.items = λ k d h. (is.frames k d h).count ∙ same in
+        let each : All (λ (f : Samples). length f ≡ length delays) (line.items ++ x ∷ []) = All-append (λ (f : Samples). length f ≡ length delays) line.items (x ∷ []) sides (All-cons (λ (f : Samples). length f ≡ length delays) x [] wide (All-nil (λ (f : Samples). length f ≡ length delays))) in
+        let some : 0 < length (line.items ++ x ∷ []) = omega (arith, length-append line.items (x ∷ [])) in
+        sym (rw first at (frame-now delays line.capacity all (line.items ++ x ∷ []) (length line.items) full (rw first (each 0 [] some))))
 
 -- so many frames behind those of a line, as they were written
 pub even-all : (delays : List ℕ) (line : Frames ℤ) (width n : ℕ) (input out : List ℤ) → ((k : ℕ) → k < length delays → slice_index delays k ≡ line.capacity) → IsLine w32 line → line.channels ≡ length delays → width ≡ length delays → n * length delays ≤ length input

@@ -1,5 +1,5 @@
 -- Frames that lie one after another, each made of itself and of those before it.
-use Rattle.std.proofs.Common.{◌≡◌, ◌+◌, ◌-◌, ◌*◌, ◌≤◌, ℕ, ℤ, false, List, [], ◌∷◌, ◌++◌, length, map, min, refl, sym, ap, ◌∙◌, arith, add-zero, append-nil, append_assoc, length-append, length-drop, subst, replicate, get_or, pos}
+use Rattle.std.proofs.Common.{◌≡◌, ◌+◌, ◌-◌, ◌*◌, ◌≤◌, ℕ, ℤ, false, List, [], ◌∷◌, ◌++◌, length, map, min, refl, sym, ap, ◌∙◌, arith, add-zero, append-nil, append_assoc, length-append, length-drop, subst, replicate, get_or, pos, slice_set}
 use Rattle.std.specs.Prelude.{None, Some, ◌^◌}
 use Rattle.std.specs.Int.{w32}
 use Rattle.std.proofs.Math.Nat.{add-mul}
@@ -30,6 +30,18 @@ two-samples [] h = absurd (omega arith)
 two-samples (x ∷ []) h = absurd (omega arith)
 two-samples (x ∷ y ∷ []) h = refl
 two-samples (x ∷ y ∷ z ∷ xs) h = absurd (omega arith)
+
+-- a slice of one sample, or of two, after each was written
+pub set-one : (xs ys : List ℤ) → length xs ≡ 1 → length ys ≡ 1 → slice_set ys 0 (get_or xs 0 (pos 0)) ≡ xs
+set-one xs [] h k = absurd (omega arith)
+set-one xs (y ∷ []) h k = one-sample xs h
+set-one xs (y ∷ z ∷ ys) h k = absurd (omega arith)
+
+pub set-two : (xs ys : List ℤ) → length xs ≡ 2 → length ys ≡ 2 → slice_set (slice_set ys 0 (get_or xs 0 (pos 0))) 1 (get_or xs 1 (pos 0)) ≡ xs
+set-two xs [] h k = absurd (omega arith)
+set-two xs (y ∷ []) h k = absurd (omega arith)
+set-two xs (y ∷ z ∷ []) h k = two-samples xs h
+set-two xs (y ∷ z ∷ w ∷ ys) h k = absurd (omega arith)
 
 -- more frames behind the last ones
 pub last-joined : (c : ℕ) (items xs ys : List Samples) → last_of c (last_of c (items ++ xs) ++ ys) ≡ last_of c (items ++ (xs ++ ys))

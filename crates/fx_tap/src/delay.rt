@@ -1,7 +1,7 @@
 //! The effect `delay` of sox(1): each channel comes later by its own number of frames.
-ghost use Rattle.std.specs.Prelude.{◌≡◌, ◌<◌, ◌≤◌, ◌==◌, ◌⊎◌, if◌then◌else◌, ◌-◌, ◌*◌, ◌^◌, ◌++◌, ◌∷◌, [], ℕ, List, true, length, drop, take, replicate, slice_index, slice_index_or, pos, Err, IfOk, MatchResult};
+ghost use Rattle.std.specs.Prelude.{◌≡◌, ◌<◌, ◌≤◌, ◌==◌, ◌⊎◌, nat_lt, if◌then◌else◌, ◌-◌, ◌*◌, ◌^◌, ◌++◌, ◌∷◌, [], ℕ, List, true, length, drop, take, replicate, slice_index, slice_index_or, pos, Err, IfOk, MatchResult};
 ghost use Rattle.fx_frame.specs.Frame.{IsFrame, silence};
-ghost use Rattle.fx_frame.specs.Line.{pushed_all};
+ghost use Rattle.fx_frame.specs.Line.{pushed, pushed_all};
 ghost use Rattle.fx_frame.specs.Ring.{pieces};
 ghost use Rattle.fx_frame.specs.Stage.{Freezes, IsNew};
 ghost use Rattle.fx_tap.specs.Delay.{delay_acts, delay_taps, delayed_frame, every_delay, merged};
@@ -10,7 +10,7 @@ ghost use Rattle.fx_tap.specs.Tapped.{IsTapState, TapState, longest, sample_befo
 ghost use Rattle.fx_tap.specs.Near.{delays-near};
 ghost use Rattle.std.proofs.Common.{zero-le};
 
-use crate::tapped::{Tapped, Tapping, TapsMany, sample, tap_by_frames};
+use crate::tapped::{Tapped, Tapping, TapsMany, sample, tap_and_push, tap_by_frames};
 use fx_frame::inner::{frame_of, samples};
 use fx_frame::{Frame, Line, ThawFault, WideFrame};
 use std::alloc::{AllocError, Global};
@@ -243,6 +243,21 @@ fn delay_evenly(line: &mut Line, channels: usize, frames: &[i32], count: usize, 
     line.push_frames(frames, count);
 }
 
+/// Writes the samples of the frame that came as many frames before one as the line has places over those of that one, which
+/// goes into the line; silence where there was none.
+#[inline(always)]
+fn delay_over(line: &mut Line, samples: &mut [i32])
+    requires { length samples.old ≡ line.old.channels }
+    ensures frame { samples.new ≡ (if nat_lt (length line.old.items) line.old.capacity then silence (length samples.old) else slice_index_or (line.old.items ++ samples.old ∷ []) 0 []) }
+    ensures items { line.new.items ≡ pushed line.old samples.old }
+    ensures capacity { line.new.capacity ≡ line.old.capacity }
+    ensures channels { line.new.channels ≡ line.old.channels }
+{
+    if !line.push_over(samples) {
+        samples.fill(0);
+    }
+}
+
 impl TapsMany for Delays {
     fn tap_many(&self, line: &mut Line, input: &[i32], output: &mut [i32], count: usize) -> u64 {
         let reach = line.capacity() as u64;
@@ -258,5 +273,13 @@ impl TapsMany for Delays {
             return 0;
         }
         tap_by_frames(self, line, input, output, count)
+    }
+
+    fn tap_over(&self, line: &mut Line, samples: &mut [i32]) -> u64 {
+        if all_are(&self.delays, line.capacity() as u64) {
+            delay_over(line, samples);
+            return 0;
+        }
+        tap_and_push(self, line, samples)
     }
 }
