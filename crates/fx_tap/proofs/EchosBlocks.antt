@@ -2,7 +2,8 @@
 use Rattle.std.proofs.Common.{◌≡◌, ◌+◌, ◌*◌, ◌<◌, ◌≤◌, ◌^◌, ℕ, ℤ, pos, false, List, [], ◌∷◌, length, map, replicate, refl, sym, ap, ◌∙◌, arith, add-zero, length-append, subst}
 use Rattle.std.specs.Prelude.{None, Some}
 use Rattle.std.proofs.lemmas.List.{length-map}
-use Rattle.fx_frame.specs.Feed.{Fed, GaveNext, TookNext, nothing, taken, given}
+use Rattle.fx_frame.specs.declared.feed.Passing.TheVariants.{Through}
+use Rattle.fx_frame.specs.Feed.{Fed, GaveNext, PassedOn, TookNext, nothing, taken, given}
 use Rattle.fx_frame.specs.Frame.{Samples}
 use Rattle.fx_frame.specs.Holds.{total}
 use Rattle.fx_frame.specs.Line.{Frames, pushed, pushed_out}
@@ -41,9 +42,9 @@ module _ (a : EchoArguments) where
   abbrev pub next : List (Frames ℤ) → Samples → List (Frames ℤ)
   next lines x = lines_after a.channels lines x (replicate a.channels (pos 0))
 
-  one-fed : (lines : List (Frames ℤ)) (count clips : ℕ) (x : Samples) → places_of lines ≡ late a.echoes
-      → Fed echos_acts (ready lines count clips) (x ∷ []) ((made lines x).samples ∷ []) (ready (next lines x) (count + 1) (clips + (made lines x).clips))
-  one-fed lines count clips x places =
+  one-passed : (lines : List (Frames ℤ)) (count clips : ℕ) (x : Samples) → places_of lines ≡ late a.echoes
+      → PassedOn echos_acts Through (ready lines count clips) (ready (next lines x) (count + 1) (clips + (made lines x).clips)) x (made lines x).samples
+  one-passed lines count clips x places =
       let first : EchosState = ready lines count clips in
       let mid : EchosState = record { arguments = a; lines = next lines x; hand = Some (made lines x).samples; hand_clips = (made lines x).clips; tail = 0; taken = count + 1; given = count; clips = clips; ended = false } in
       let last : EchosState = ready (next lines x) (count + 1) (clips + (made lines x).clips) in
@@ -66,7 +67,13 @@ module _ (a : EchoArguments) where
         };
         held = omega (arith, few, places, length-append (frames_of (next lines x)) []);
       } in
-      given (x ∷ []) [] (made lines x).samples mid last (taken [] [] x first mid nothing took) gave
+      (mid, took, gave, refl)
+
+  one-fed : (lines : List (Frames ℤ)) (count clips : ℕ) (x : Samples) → places_of lines ≡ late a.echoes
+      → Fed echos_acts (ready lines count clips) (x ∷ []) ((made lines x).samples ∷ []) (ready (next lines x) (count + 1) (clips + (made lines x).clips))
+  one-fed lines count clips x places =
+      let passed = one-passed lines count clips x places in
+      given (x ∷ []) [] (made lines x).samples passed.0 (ready (next lines x) (count + 1) (clips + (made lines x).clips)) (taken [] [] x (ready lines count clips) passed.0 nothing passed.1) passed.2
 
   -- frame by frame
   pub lines-fed : (xs : List Samples) (lines : List (Frames ℤ)) (count clips : ℕ) → places_of lines ≡ late a.echoes
@@ -79,6 +86,25 @@ module _ (a : EchoArguments) where
       let many : count + 1 + length xs ≡ count + length (x ∷ xs) = omega arith in
       let clipped : clips + (made lines x).clips + total (λ (g : Given). g.clips) (through_lines a (next lines x) xs) ≡ clips + total (λ (g : Given). g.clips) (through_lines a lines (x ∷ xs)) = omega arith in
       rw (many, clipped) at all
+
+-- one frame, passed on in its place
+pub frame-passed : (s : EchosState) (lines : List (Frames ℤ)) (x y : Samples) (clips : ℕ) → s.hand ≡ None → s.hand_clips ≡ 0 → s.tail ≡ 0 → s.ended ≡ false → s.given ≡ s.taken → places_of s.lines ≡ late s.arguments.echoes
+    → y ≡ (made s.arguments s.lines x).samples → clips ≡ (made s.arguments s.lines x).clips → lines ≡ next s.arguments s.lines x
+    → PassedOn echos_acts Through s (record s { lines = lines; taken = s.taken + 1; given = s.given + 1; clips = s.clips + clips }) x y
+frame-passed s lines x y clips h k t over g places out_is counted went =
+    let a : EchoArguments = s.arguments in
+    let one = one-passed a s.lines s.taken s.clips x places in
+    let whole : ◌≡◌ {A = EchosState} (record { arguments = s.arguments; lines = s.lines; hand = s.hand; hand_clips = s.hand_clips; tail = s.tail; taken = s.taken; given = s.given; clips = s.clips; ended = s.ended }) (ready a s.lines s.taken s.clips) = rw (h, k, t, over, g) refl in
+    let left : ◌≡◌ {A = EchosState} (record { arguments = s.arguments; lines = lines; hand = s.hand; hand_clips = s.hand_clips; tail = s.tail; taken = s.taken + 1; given = s.given + 1; clips = s.clips + clips; ended = s.ended }) (ready a lines (s.taken + 1) (s.clips + clips)) = rw (h, k, t, over, g) refl in
+    let last : ◌≡◌ {A = EchosState} (record { arguments = s.arguments; lines = lines; hand = s.hand; hand_clips = s.hand_clips; tail = s.tail; taken = s.taken + 1; given = s.given + 1; clips = s.clips + clips; ended = s.ended })
+    (ready a (next a s.lines x) (s.taken + 1) (s.clips + (made a s.lines x).clips)) =
+    left ∙ ap (λ (j : ℕ). ready a lines (s.taken + 1) (s.clips + j)) counted
+    ∙ ap (λ (ls : List (Frames ℤ)). ready a ls (s.taken + 1) (s.clips + (made a s.lines x).clips)) went in
+    let start : s ≡ ready a s.lines s.taken s.clips = whole in
+    let new : record s { lines = lines; taken = s.taken + 1; given = s.given + 1; clips = s.clips + clips } ≡ ready a (next a s.lines x) (s.taken + 1) (s.clips + (made a s.lines x).clips) = last in
+    let From : EchosState → Type 0 = λ u. PassedOn echos_acts Through u (ready a (next a s.lines x) (s.taken + 1) (s.clips + (made a s.lines x).clips)) x (made a s.lines x).samples in
+    let To : EchosState → Type 0 = λ u. PassedOn echos_acts Through s u x (made a s.lines x).samples in
+    rw out_is (subst To (sym new) (subst From (sym start) one))
 
 -- a block of frames: the counters are added to once
 pub block-fed : (s : EchosState) (lines : List (Frames ℤ)) (n clips : ℕ) (input output : List ℤ) → s.hand ≡ None → s.hand_clips ≡ 0 → s.tail ≡ 0 → s.ended ≡ false → s.given ≡ s.taken → places_of s.lines ≡ late s.arguments.echoes

@@ -92,7 +92,7 @@ rows-sound c came d ls (x ∷ xs) few small h j lt =
     rw at at (rows-sound c (came + 1) d next xs (omega (arith, length-after c ls x (replicate c (pos 0)))) (λ i l. small (suc i) (omega arith)) (row-sound c came d ls x few (small 0 (omega arith)) h) j lt)
 
 -- the lines of a state after one frame more
-lines-sound : (s : EchosState) (x : Samples) → IsEchos s → Small (2 ^ 31) x → (j : ℕ) → j < length (lines_after s.arguments.channels s.lines x (replicate s.arguments.channels (pos 0)))
+pub lines-sound : (s : EchosState) (x : Samples) → IsEchos s → Small (2 ^ 31) x → (j : ℕ) → j < length (lines_after s.arguments.channels s.lines x (replicate s.arguments.channels (pos 0)))
     → IsEchoLine s.arguments.channels (came_of s + 1) j (delay_at s.arguments.echoes j) (line_at (lines_after s.arguments.channels s.lines x (replicate s.arguments.channels (pos 0))) j)
 lines-sound s x is xs j lt = row-sound s.arguments.channels (came_of s) (delay_at s.arguments.echoes) s.lines x (let few = is.arguments.few_echoes in let many = is.as_many in omega arith) xs is.lines j lt
 

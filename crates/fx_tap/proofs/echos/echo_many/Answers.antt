@@ -22,8 +22,8 @@ slice_bounds-frames-end c =
     let within : c.pieces.done + c.min-now.result ≤ c.args.count = omega arith in
     omega (arith, mul-le-mul_right c.args.channels within, add-mul c.pieces.done c.min-now.result c.args.channels, c.requires.input)
 
-pub slice_bounds-echo_piece-end : goal.slice_bounds-echo_piece-end
-slice_bounds-echo_piece-end c =
+pub slice_bounds-out-end : goal.slice_bounds-out-end
+slice_bounds-out-end c =
     let within : c.pieces.done + c.min-now.result ≤ c.args.count = omega arith in
     omega (arith, mul-le-mul_right c.args.channels within, add-mul c.pieces.done c.min-now.result c.args.channels, c.requires.output, c.pieces.auto.output)
 

@@ -18,22 +18,22 @@ use Rattle.fx_tap.proofs.SumPieces.{flat-place}
 use Rattle.fx_tap.proofs.echos.pass_piece.Goals as goal
 
 pub lines-init : goal.lines-init
-lines-init c =
+lines-init g c =
     let n : ℕ = c.args.count in
     let ch : ℕ = c.args.channels in
     let ws : List ℤ = c.small.inside.weights in
     let old : List (Frames ℤ) = c.args.lines.now in
     let xs : List Samples = pieces ch n c.args.frames.now in
-    let start : List ℤ = take (length c.args.frames.now) (replicate 256 (pos 0)) in
+    let start : List ℤ = take (length c.args.frames.now) (replicate g.row.N (pos 0)) in
     let weight = held-weight ws 0 c.small.invariant in
     let quiet : pieces ch n start ≡ replicate n (replicate ch (pos 0)) =
-    ap (pieces ch n) (ap (λ m. take m (replicate 256 (pos 0))) c.requires.frames ∙ take-replicate (n * ch) 256 (pos 0) c.requires.room) ∙ pieces-replicate ch n (pos 0) in
+    ap (pieces ch n) (ap (λ m. take m (replicate g.row.N (pos 0))) c.requires.frames ∙ take-replicate (n * ch) g.row.N (pos 0) c.requires.room) ∙ pieces-replicate ch n (pos 0) in
     rw (← c.small.view_is)
     record {
       many = refl;
       left = refl;
       lines = ap (row_after ch old xs) quiet;
-      before = λ k. rw (quiet-part (length c.args.frames.now) 256 k) (omega arith);
+      before = λ k. rw (quiet-part (length c.args.frames.now) g.row.N k) (omega arith);
       sums = λ i k lt within.
           let at : i * ch + k < length c.args.sums.now = omega (arith, flat-place ch n i k lt within, c.requires.sums) in
           echo-first _ _ _ _ (sum_of_products (drop 1 ws) (channel_of (column i (row_gone ch old xs (pieces ch n start))) k (pos 0))) (rw weight at c.add_products.ensures.added (i * ch + k) at) (c.requires.empty (i * ch + k)) refl
@@ -45,7 +45,7 @@ lines-init c =
     }
 
 pub before_into-requires-clause-late : goal.before_into-requires-clause-late
-before_into-requires-clause-late c =
+before_into-requires-clause-late g c =
     let n : ℕ = c.args.count in
     let ch : ℕ = c.args.channels in
     let p : ℕ = c.lines.place in
@@ -58,7 +58,7 @@ before_into-requires-clause-late c =
     omega (arith, late, c.requires.late p lt)
 
 pub before_into-requires-clause-len : goal.before_into-requires-clause-len
-before_into-requires-clause-len c =
+before_into-requires-clause-len g c =
     let n : ℕ = c.args.count in
     let ch : ℕ = c.args.channels in
     let p : ℕ = c.lines.place in
@@ -67,11 +67,11 @@ before_into-requires-clause-len c =
     let l : Frames ℤ = line_at old p in
     let is = c.requires.lines p lt in
     let read : get_or c.lines.lines p c.index-lines-place.result ≡ line_at old p = any-default c.lines.lines p c.index-lines-place.result (empty 0 0) (omega arith) ∙ same-line p old c.lines.lines c.lines.invariant.left in
-    let none : length (take (length c.args.frames.now) (replicate 256 (pos 0))) ≡ n * ch = length-take-le (length c.args.frames.now) (replicate 256 (pos 0)) (omega (arith, length-replicate 256 (pos 0), c.requires.frames, c.requires.room)) ∙ c.requires.frames in
+    let none : length (take (length c.args.frames.now) (replicate g.row.N (pos 0))) ≡ n * ch = length-take-le (length c.args.frames.now) (replicate g.row.N (pos 0)) (omega (arith, length-replicate g.row.N (pos 0), c.requires.frames, c.requires.room)) ∙ c.requires.frames in
     rw (read, is.channels_are) (c.lines.auto.before ∙ none)
 
 pub push_frames-requires-clause-len : goal.push_frames-requires-clause-len
-push_frames-requires-clause-len c =
+push_frames-requires-clause-len g c =
     let n : ℕ = c.args.count in
     let ch : ℕ = c.args.channels in
     let p : ℕ = c.lines.place in
@@ -80,18 +80,18 @@ push_frames-requires-clause-len c =
     let l : Frames ℤ = line_at old p in
     let is = c.requires.lines p lt in
     let read : get_or c.lines.lines p c.index-lines-place.result ≡ line_at old p = any-default c.lines.lines p c.index-lines-place.result (empty 0 0) (omega arith) ∙ same-line p old c.lines.lines c.lines.invariant.left in
-    let none : length (take (length c.args.frames.now) (replicate 256 (pos 0))) ≡ n * ch = length-take-le (length c.args.frames.now) (replicate 256 (pos 0)) (omega (arith, length-replicate 256 (pos 0), c.requires.frames, c.requires.room)) ∙ c.requires.frames in
+    let none : length (take (length c.args.frames.now) (replicate g.row.N (pos 0))) ≡ n * ch = length-take-le (length c.args.frames.now) (replicate g.row.N (pos 0)) (omega (arith, length-replicate g.row.N (pos 0), c.requires.frames, c.requires.room)) ∙ c.requires.frames in
     rw (read, is.channels_are) (c.add_samples.auto.out ∙ c.lines.auto.fed ∙ none)
 
 pub push_frames-requires-clause-fits : goal.push_frames-requires-clause-fits
-push_frames-requires-clause-fits c =
+push_frames-requires-clause-fits g c =
     flat-fits c.add_samples.new.out (λ k l.
     let few = c.add_samples.ensures.few k (omega (arith, l, c.add_samples.auto.out)) in
     let so = c.lines.invariant.before k in
     omega (arith, few, so, c.lines-test.true, c.requires.few))
 
 pub add_wide_products-requires-clause-samples : goal.add_wide_products-requires-clause-samples
-add_wide_products-requires-clause-samples c k =
+add_wide_products-requires-clause-samples g c k =
     let n : ℕ = c.args.count in
     let ch : ℕ = c.args.channels in
     let p : ℕ = c.lines.place in
@@ -100,7 +100,7 @@ add_wide_products-requires-clause-samples c k =
     let l : Frames ℤ = line_at old p in
     let is = c.requires.lines p lt in
     let read : get_or c.lines.lines p c.index-lines-place.result ≡ line_at old p = any-default c.lines.lines p c.index-lines-place.result (empty 0 0) (omega arith) ∙ same-line p old c.lines.lines c.lines.invariant.left in
-    let none : length (take (length c.args.frames.now) (replicate 256 (pos 0))) ≡ n * ch = length-take-le (length c.args.frames.now) (replicate 256 (pos 0)) (omega (arith, length-replicate 256 (pos 0), c.requires.frames, c.requires.room)) ∙ c.requires.frames in
+    let none : length (take (length c.args.frames.now) (replicate g.row.N (pos 0))) ≡ n * ch = length-take-le (length c.args.frames.now) (replicate g.row.N (pos 0)) (omega (arith, length-replicate g.row.N (pos 0), c.requires.frames, c.requires.room)) ∙ c.requires.frames in
     let late = rw read at c.capacity.ensures.capacity in
     let copied = rw (read, late) at c.before_into.ensures in
     let frames : All (All (λ x. unsigned_abs x ≤ (p + 1) * 2 ^ 31)) (pieces ch n c.before_into.new.out) = rw (ap (λ m. pieces m n c.before_into.new.out) (sym is.channels_are) ∙ copied) (latest-small ((p + 1) * 2 ^ 31) n l.capacity l is.small) in
@@ -109,7 +109,7 @@ add_wide_products-requires-clause-samples c k =
     omega (arith, few, lt, c.requires.few)
 
 pub lines-preserved : goal.lines-preserved
-lines-preserved c =
+lines-preserved g c =
     let n : ℕ = c.args.count in
     let ch : ℕ = c.args.channels in
     let p : ℕ = c.lines.place in
@@ -118,7 +118,7 @@ lines-preserved c =
     let l : Frames ℤ = line_at old p in
     let is = c.requires.lines p lt in
     let read : get_or c.lines.lines p c.index-lines-place.result ≡ line_at old p = any-default c.lines.lines p c.index-lines-place.result (empty 0 0) (omega arith) ∙ same-line p old c.lines.lines c.lines.invariant.left in
-    let none : length (take (length c.args.frames.now) (replicate 256 (pos 0))) ≡ n * ch = length-take-le (length c.args.frames.now) (replicate 256 (pos 0)) (omega (arith, length-replicate 256 (pos 0), c.requires.frames, c.requires.room)) ∙ c.requires.frames in
+    let none : length (take (length c.args.frames.now) (replicate g.row.N (pos 0))) ≡ n * ch = length-take-le (length c.args.frames.now) (replicate g.row.N (pos 0)) (omega (arith, length-replicate g.row.N (pos 0), c.requires.frames, c.requires.room)) ∙ c.requires.frames in
     let xs : List Samples = pieces ch n c.args.frames.now in
     let bs : List Samples = pieces ch n c.lines.before in
     let ws : List ℤ = c.small.inside.weights in
@@ -155,7 +155,7 @@ lines-preserved c =
     }
 
 pub returns-clause-lines : goal.returns-clause-lines
-returns-clause-lines c =
+returns-clause-lines g c =
     let n : ℕ = c.args.count in
     let ch : ℕ = c.args.channels in
     let p : ℕ = c.lines.place in
@@ -169,7 +169,7 @@ returns-clause-lines c =
     lines ∙ ap (λ m. row_after ch old xs (replicate m (replicate ch (pos 0)))) (sym many) ∙ row_after-is ch old xs
 
 pub returns-clause-value : goal.returns-clause-value
-returns-clause-value c i k lt within =
+returns-clause-value g c i k lt within =
     let n : ℕ = c.args.count in
     let ch : ℕ = c.args.channels in
     let p : ℕ = c.lines.place in

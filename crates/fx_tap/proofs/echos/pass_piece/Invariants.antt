@@ -7,7 +7,7 @@ use Rattle.fx_tap.proofs.echos.pass_piece.Given as goal
 
 -- the frames went through the lines so far
 abbrev pub invariant-lines : goal.invariant-lines
-invariant-lines l = record {
+invariant-lines g l = record {
   many : length l.lines ≡ length l.fn.lines;
   left : drop l.place l.lines ≡ drop l.place l.fn.lines;
   lines : take l.place l.lines ++ row_after l.channels (drop l.place l.fn.lines) (pieces l.channels l.count l.frames) (pieces l.channels l.count l.before) ≡ row_after l.channels l.fn.lines (pieces l.channels l.count l.frames) (replicate l.count (replicate l.channels (pos 0)));

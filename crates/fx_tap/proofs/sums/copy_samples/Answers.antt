@@ -2,7 +2,7 @@ use Rattle.std.proofs.Common.{rules, ◌≡◌, ◌∙◌, get_or, of_z, to_z}
 use Rattle.std.specs.Int.{w32}
 use Rattle.std.specs.Prelude.{pos}
 use Rattle.fx_tap.proofs.TapBlocks.{set-one, set-two}
-use Rattle.fx_tap.proofs.tapped.copy_samples.Goals as goal
+use Rattle.fx_tap.proofs.sums.copy_samples.Goals as goal
 
 pub returns-then-from-eq1 : goal.returns-then-from-eq1
 returns-then-from-eq1 c =
