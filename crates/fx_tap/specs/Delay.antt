@@ -1,5 +1,5 @@
 -- The effect `delay` (sox(1), EFFECTS, delay): each channel comes later by its own number of frames.
-use Rattle.std.specs.Prelude.{ℕ, pos, ◌+◌, ◌-◌, ◌==◌, if◌then◌else◌, List, ◌++◌, length, replicate, slice_index, slice_index_or}
+use Rattle.std.specs.Prelude.{ℕ, ◌+◌, ◌-◌, List, ◌++◌, length, replicate, slice_index}
 use Rattle.fx_frame.specs.Frame.{Samples}
 use Rattle.fx_frame.specs.Stage.{Given, Acts}
 use Rattle.fx_tap.specs.Lists.{tabulate, plain}
@@ -9,10 +9,6 @@ use Rattle.fx_tap.specs.Tapped.{Past, Taps, TapState, tap_acts}
 -- the frame whose channel k is delayed by delay k
 abbrev pub delayed_frame : List ℕ → Past → Samples
 delayed_frame delays past = tabulate (λ k. past (slice_index delays k) k) 0 (length delays)
-
--- the samples that come in the channels that are not delayed, and the late ones in the others
-abbrev pub merged : List ℕ → Samples → Samples → Samples
-merged delays now late = tabulate (λ k. if slice_index delays k == 0 then slice_index_or now k (pos 0) else slice_index_or late k (pos 0)) 0 (length delays)
 
 -- each channel delayed by its own delay
 abbrev pub delayed : List ℕ → List Samples → List Given

@@ -23,6 +23,29 @@ pub(crate) fn take_channel(frames: &[i32], channels: usize, channel: usize, out:
     }
 }
 
+/// Copies one channel of so many frames over that of as many others.
+#[inline(always)]
+pub(crate) fn copy_channel(
+    from: &[i32],
+    channels: usize,
+    channel: usize,
+    count: usize,
+    to: &mut [i32],
+)
+    requires channel { channel < channels }
+    requires channels { channels ≤ 16 }
+    requires from { count * channels ≤ length from.now }
+    requires to { count * channels ≤ length to.old }
+    ensures put { (i : ℕ) → i < count → slice_index_or to.new (i * channels + channel) (pos 0) ≡ slice_index_or from.now (i * channels + channel) (pos 0) }
+    ensures others { (i c : ℕ) → c < channels → (c ≡ channel → ⊥) → slice_index_or to.new (i * channels + c) (pos 0) ≡ slice_index_or to.old (i * channels + c) (pos 0) }
+{
+    let mut at = channel;
+    'frames: for _turn in 0..count {
+        to[at] = from[at];
+        at += channels;
+    }
+}
+
 /// Writes sums over a denominator, each rounded once, as one channel of as many frames, and counts how many samples were
 /// clipped.
 #[inline(always)]

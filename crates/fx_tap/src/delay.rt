@@ -4,12 +4,13 @@ ghost use Rattle.fx_frame.specs.Frame.{IsFrame, silence};
 ghost use Rattle.fx_frame.specs.Line.{pushed, pushed_all};
 ghost use Rattle.fx_frame.specs.Ring.{pieces};
 ghost use Rattle.fx_frame.specs.Stage.{Freezes, IsNew};
-ghost use Rattle.fx_tap.specs.Delay.{delay_acts, delay_taps, delayed_frame, every_delay, merged};
-ghost use Rattle.fx_tap.specs.Lists.{tabulate};
-ghost use Rattle.fx_tap.specs.Tapped.{IsTapState, TapState, longest, sample_before};
+ghost use Rattle.fx_tap.specs.Delay.{delay_acts, delay_taps, delayed_frame, every_delay};
+ghost use Rattle.fx_tap.specs.Tapped.{IsTapState, TapState, frames_behind, last_of, longest, sample_before};
 ghost use Rattle.fx_tap.specs.Near.{delays-near};
 ghost use Rattle.std.proofs.Common.{zero-le};
 
+use crate::channels::copy_channel;
+use crate::echo::SAMPLES_OF_PIECE;
 use crate::tapped::{Tapped, Tapping, TapsMany, sample, tap_and_push, tap_by_frames};
 use fx_frame::inner::{frame_of, samples};
 use fx_frame::{Frame, Line, ThawFault, WideFrame};
@@ -160,63 +161,6 @@ fn all_are(delays: &[u64], reach: u64) -> bool
     true
 }
 
-/// Is each of the delays so long, or none?
-fn are_none_or(delays: &[u64], reach: u64) -> bool
-    ensures { result ≡ true → (k : ℕ) → k < length delays.now → (slice_index delays.now k ≡ 0) ⊎ (slice_index delays.now k ≡ reach) }
-{
-    'delays: for delay in delays {
-        if *delay != 0 && *delay != reach {
-            return false;
-        }
-    }
-    true
-}
-
-/// The sample of a channel that comes now, where it is not delayed, and else the late one.
-#[inline(always)]
-fn chosen(delay: u64, now: &[i32], late: &[i32], channel: usize) -> i32
-    requires now { channel < length now.now }
-    requires late { channel < length late.now }
-    ensures { result ≡ (if delay == 0 then slice_index_or now.now channel (pos 0) else slice_index_or late.now channel (pos 0)) }
-{
-    if delay == 0 {
-        now[channel]
-    } else {
-        late[channel]
-    }
-}
-
-/// Puts the samples that come in the place of the late ones, in the channels that are not delayed.
-#[inline(always)]
-fn merge_frame(delays: &[u64], now: &[i32], late: &mut [i32])
-    requires now { length now.now ≡ length delays.now }
-    requires late { length late.old ≡ length delays.now }
-    ensures { late.new ≡ merged delays.now now.now late.old }
-{
-    'channels: for channel in 0..delays.len() {
-        late[channel] = chosen(delays[channel], now, late, channel);
-    }
-}
-
-/// The same for so many frames in front of the output, which are late, and those that come.
-fn merge_frames(delays: &[u64], frames: &[i32], output: &mut [i32], count: usize)
-    requires frames { count * length delays.now ≤ length frames.now }
-    requires room { count * length delays.now ≤ length output.old }
-    ensures frames { pieces (length delays.now) count output.new ≡ tabulate (λ i. merged delays.now (slice_index_or (pieces (length delays.now) count frames.now) i []) (slice_index_or (pieces (length delays.now) count output.old) i [])) 0 count }
-    ensures behind { drop (count * length delays.now) output.new ≡ drop (count * length delays.now) output.old }
-{
-    let channels = delays.len();
-    let mut at = 0;
-    'frames: for _turn in 0..count {
-        merge_frame(
-            delays,
-            &frames[at..at + channels],
-            &mut output[at..at + channels],
-        );
-        at += channels;
-    }
-}
-
 /// Writes silence over so many frames in front of the output.
 fn write_silence(output: &mut [i32], channels: usize, count: usize)
     requires { count * channels ≤ length output.old }
@@ -258,21 +202,99 @@ fn delay_over(line: &mut Line, samples: &mut [i32])
     }
 }
 
+/// The fewest frames of a piece: fewer take longer at once than one at a time.
+const FEWEST_OF_PIECE: usize = 8;
+
+/// The most frames of a piece: there is room for their samples, and where a channel is late, it is by no fewer.
+fn frames_of_piece(delays: &[u64]) -> usize
+    requires { (1 ≤ length delays.now) × (length delays.now ≤ 16) }
+    ensures some { 1 ≤ result }
+    ensures room { result * length delays.now ≤ 256 }
+    ensures late { (k : ℕ) → k < length delays.now → (slice_index delays.now k ≡ 0) ⊎ (result ≤ slice_index delays.now k) }
+{
+    let mut most = SAMPLES_OF_PIECE / delays.len();
+    'delays: for delay in delays {
+        if *delay != 0 {
+            most = most.min(*delay as usize);
+        }
+    }
+    most
+}
+
+/// Writes so many frames that come behind those of the line, each channel as late as its delay. No channel is late by fewer.
+fn delay_piece(delays: &[u64], line: &Line, frames: &[i32], count: usize, out: &mut [i32])
+    requires some { (1 ≤ length delays.now) × (length delays.now ≤ 16) }
+    requires channels { line.now.channels ≡ length delays.now }
+    requires late { (k : ℕ) → k < length delays.now → (slice_index delays.now k ≡ 0) ⊎ (count ≤ slice_index delays.now k) }
+    requires room { count * length delays.now ≤ 256 }
+    requires frames { length frames.now ≡ count * length delays.now }
+    requires out { length out.old ≡ count * length delays.now }
+    ensures { pieces (length delays.now) count out.new ≡ frames_behind delay_taps delays.now line.now.items (pieces (length delays.now) count frames.now) }
+{
+    let channels = delays.len();
+    let mut places = [0; SAMPLES_OF_PIECE];
+    let earlier = &mut places[..frames.len()];
+    out.copy_from_slice(frames);
+    'channels: for channel in 0..channels {
+        let late = delays[channel] as usize;
+        if late != 0 {
+            line.before_into(late, count, earlier);
+            copy_channel(earlier, channels, channel, count, out);
+        }
+    }
+}
+
+/// Writes so many frames of those in front of the input, which come behind those of the line, each channel as late as its
+/// delay, to the front of the output, some at a time. They go through the line.
+fn delay_pieces(
+    delays: &[u64],
+    line: &mut Line,
+    most: usize,
+    input: &[i32],
+    output: &mut [i32],
+    count: usize,
+)
+    requires some { (1 ≤ length delays.now) × (length delays.now ≤ 16) }
+    requires channels { line.old.channels ≡ length delays.now }
+    requires capacity { line.old.capacity ≡ longest delays.now }
+    requires most { (1 ≤ most) × (most * length delays.now ≤ 256) }
+    requires late { (k : ℕ) → k < length delays.now → (slice_index delays.now k ≡ 0) ⊎ (most ≤ slice_index delays.now k) }
+    requires few { count ≤ 2 ^ 56 }
+    requires input { count * length delays.now ≤ length input.now }
+    requires output { count * length delays.now ≤ length output.old }
+    ensures frames { pieces (length delays.now) count output.new ≡ frames_behind delay_taps delays.now line.old.items (pieces (length delays.now) count input.now) }
+    ensures behind { drop (count * length delays.now) output.new ≡ drop (count * length delays.now) output.old }
+    ensures line { line.new.items ≡ last_of line.old.capacity (line.old.items ++ pieces (length delays.now) count input.now) }
+    ensures line_capacity { line.new.capacity ≡ line.old.capacity }
+    ensures line_channels { line.new.channels ≡ line.old.channels }
+{
+    let channels = delays.len();
+    let _held = line.len();
+    let mut done = 0;
+    'pieces: while done < count {
+        let now = most.min(count - done);
+        let from = done * channels;
+        let to = from + now * channels;
+        let frames = &input[from..to];
+        delay_piece(delays, line, frames, now, &mut output[from..to]);
+        line.push_frames(frames, now);
+        done += now;
+    }
+}
+
 impl TapsMany for Delays {
     fn tap_many(&self, line: &mut Line, input: &[i32], output: &mut [i32], count: usize) -> u64 {
-        let reach = line.capacity() as u64;
         let channels = self.channels();
-        if all_are(&self.delays, reach) {
+        if all_are(&self.delays, line.capacity() as u64) {
             delay_evenly(line, channels, &input[..count * channels], count, output);
             return 0;
         }
-        if are_none_or(&self.delays, reach) {
-            let frames = &input[..count * channels];
-            delay_evenly(line, channels, frames, count, output);
-            merge_frames(&self.delays, frames, output, count);
-            return 0;
+        let most = frames_of_piece(&self.delays);
+        if most < FEWEST_OF_PIECE {
+            return tap_by_frames(self, line, input, output, count);
         }
-        tap_by_frames(self, line, input, output, count)
+        delay_pieces(&self.delays, line, most, input, output, count);
+        0
     }
 
     fn tap_over(&self, line: &mut Line, samples: &mut [i32]) -> u64 {

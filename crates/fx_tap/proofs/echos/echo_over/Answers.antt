@@ -1,4 +1,4 @@
-use Rattle.std.proofs.Common.{◌≡◌, ◌<◌, ◌≤◌, ◌∙◌, ◌⊎◌, refl, inl, inr, [], ◌∷◌, add-zero, map, sym, take, get_or, length, ap, ℕ, ℤ, pos, ◌+ℤ◌, ◌*ℤ◌, ◌^◌, arith, replicate, slice_index_or, unsigned_abs, List}
+use Rattle.std.proofs.Common.{◌≡◌, ◌<◌, ◌≤◌, ◌∙◌, ◌⊎◌, refl, inl, inr, [], ◌∷◌, add-zero, map, sym, get_or, length, ap, ℕ, pos, ◌+ℤ◌, ◌*ℤ◌, ◌^◌, arith, replicate, slice_index_or, unsigned_abs, List}
 use Rattle.std.proofs.lemmas.Bool.{cases_lt}
 use Rattle.std.proofs.lemmas.Int.{ints}
 use Rattle.std.proofs.lemmas.List.{get_or_past, length-replicate, length-take-le, take_all}

@@ -1,4 +1,4 @@
-use Rattle.std.proofs.Common.{◌≡◌, ◌+◌, ◌≤◌, ◌<◌, ◌^◌, ◌∙◌, ap, ℕ, false, length, refl, sym, arith}
+use Rattle.std.proofs.Common.{◌≡◌, ◌+◌, ◌≤◌, ◌<◌, ◌^◌, ◌∙◌, ap, ℕ, false, length, refl, arith}
 use Rattle.std.specs.Prelude.{None}
 use Rattle.fx_frame.specs.Frame.{Samples}
 use Rattle.fx_tap.specs.Echos.{EchosState, IsEchos, IsEchoLine, came_of, delay_at, line_at}

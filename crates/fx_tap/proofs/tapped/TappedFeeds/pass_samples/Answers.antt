@@ -1,7 +1,6 @@
-use Rattle.std.proofs.Common.{◌≡◌, ◌+◌, ◌*◌, ◌<◌, ◌≤◌, ◌∙◌, ◌^◌, [], ◌∷◌, ℕ, false, length, refl, sym, ap, arith}
+use Rattle.std.proofs.Common.{◌≡◌, ◌+◌, ◌*◌, ◌≤◌, ◌∙◌, ◌^◌, [], ◌∷◌, ℕ, false, refl, arith}
 use Rattle.std.specs.Prelude.{None}
 use Rattle.std.proofs.Math.Nat.{mul-le-mul}
-use Rattle.std.proofs.lemmas.List.{take_all}
 use Rattle.fx_tap.proofs.TapBlocks.{IsTapState-block, frame-passed}
 use Rattle.fx_tap.proofs.DryLaws.{dry-hand}
 use Rattle.fx_tap.proofs.tapped.TappedFeeds.pass_samples.Goals as goal
