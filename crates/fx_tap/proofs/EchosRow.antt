@@ -108,7 +108,7 @@ pub few-seven : (p : ℕ) (s : ℤ) → p ≤ 7 → unsigned_abs s ≤ (1 + up_t
 few-seven p s h few = let most = up_to-le p 7 h in omega arith
 
 -- whatever stands for no line
-pub any-default : (ls : List (Frames ℤ)) (p : ℕ) (d e : Frames ℤ) → p < length ls → get_or ls p d ≡ get_or ls p e
+pub any-default : {X : Type 0} (ls : List X) (p : ℕ) (d e : X) → p < length ls → get_or ls p d ≡ get_or ls p e
 any-default [] p d e h = absurd (omega arith)
 any-default (l ∷ ls) zero d e h = refl
 any-default (l ∷ ls) (suc p) d e h = any-default ls p d e (omega arith)

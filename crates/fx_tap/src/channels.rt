@@ -1,5 +1,5 @@
 //! One channel of frames whose samples lie one after another.
-ghost use Rattle.std.specs.Prelude.{◌≡◌, ◌<◌, ◌≤◌, ◌+◌, ◌*◌, ◌^◌, ℕ, pos, length, slice_index_or, unsigned_abs};
+ghost use Rattle.std.specs.Prelude.{◌≡◌, ◌<◌, ◌≤◌, ◌+◌, ◌*◌, ◌^◌, ◌+ℤ◌, ◌*ℤ◌, ℕ, pos, length, slice_index_or, unsigned_abs};
 ghost use Rattle.fx_fixed.specs.Rounding.{rounding};
 ghost use Rattle.fx_frame.specs.Line.{channel_of};
 ghost use Rattle.fx_frame.specs.Ring.{pieces};
@@ -19,6 +19,30 @@ pub(crate) fn take_channel(frames: &[i32], channels: usize, channel: usize, out:
     let mut at = channel;
     'frames: for place in 0..out.len() {
         out[place] = frames[at];
+        at += channels;
+    }
+}
+
+/// Adds the samples of one channel of as many frames, each times a weight, to the sums.
+#[inline(always)]
+pub(crate) fn add_channel(
+    frames: &[i32],
+    channels: usize,
+    channel: usize,
+    weight: i32,
+    sums: &mut [i64],
+)
+    requires channel { channel < channels }
+    requires channels { channels ≤ 16 }
+    requires frames { length sums.old * channels ≤ length frames.now }
+    requires room { (i : ℕ) → i < length sums.old → unsigned_abs (slice_index_or frames.now (i * channels + channel) (pos 0)) ≤ 2 ^ 31 → unsigned_abs (slice_index_or sums.old i (pos 0) +ℤ (slice_index_or frames.now (i * channels + channel) (pos 0) *ℤ weight)) ≤ 2 ^ 62 }
+    ensures added { (i : ℕ) → i < length sums.old → slice_index_or sums.new i (pos 0) ≡ slice_index_or sums.old i (pos 0) +ℤ (slice_index_or frames.now (i * channels + channel) (pos 0) *ℤ weight) }
+    ensures samples { (i : ℕ) → i < length sums.old → unsigned_abs (slice_index_or frames.now (i * channels + channel) (pos 0)) ≤ 2 ^ 31 }
+{
+    let factor = i64::from(weight);
+    let mut at = channel;
+    'frames: for place in 0..sums.len() {
+        sums[place] += i64::from(frames[at]) * factor;
         at += channels;
     }
 }

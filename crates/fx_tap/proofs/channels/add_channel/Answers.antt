@@ -1,0 +1,66 @@
+use Rattle.std.proofs.Common.{rules, ◌≡◌, ◌<◌, ◌≤◌, ◌+◌, ◌*◌, ◌^◌, ◌∙◌, ap, List, ℕ, ℤ, pos, ◌+ℤ◌, ◌*ℤ◌, length, arith, slice_index_or, unsigned_abs, FitsSigned, add-one, to_z, of_z, below_more}
+use Rattle.std.specs.Int.{w32, w64}
+use Rattle.std.proofs.Math.Nat.{suc-mul}
+use Rattle.std.proofs.lemmas.Int.{fits_signed_from_abs, ints}
+use Rattle.std.proofs.lemmas.List.{get_or-set_other}
+use Rattle.fx_tap.proofs.Fractions.{held-64, plain-product-64}
+use Rattle.fx_tap.proofs.SumLaws.{added-more}
+use Rattle.fx_tap.proofs.channels.add_channel.Goals as goal
+
+pub overflow_add-sums : goal.overflow_add-sums
+overflow_add-sums c =
+    let i : ℕ = c.frames.place in
+    let ch : ℕ = c.args.channels in
+    let q : ℕ = c.args.channel in
+    let frames : List ℤ = c.args.frames.now in
+    let old : List ℤ = c.args.sums.now in
+    let sums : List ℤ = c.frames.sums in
+    let s : ℤ = slice_index_or sums i (pos 0) in
+    let x : ℤ = slice_index_or frames c.frames.at (pos 0) in
+    let w : ℤ = c.args.weight in
+    let first : s ≡ slice_index_or old i (pos 0) = c.frames.invariant.left i (omega arith) in
+    let there : x ≡ slice_index_or frames (i * ch + q) (pos 0) = ap (λ k. slice_index_or frames k (pos 0)) c.frames.invariant.at_is in
+    let sample_fits : FitsSigned w32 x = search rules in
+    let sample : unsigned_abs x ≤ 2 ^ 31 = omega (arith, ints) in
+    let weight_fits : FitsSigned w32 w = search rules in
+    let weight : unsigned_abs w ≤ 2 ^ 31 = omega (arith, ints) in
+    let f : c.from.result ≡ x = search rules in
+    let y : c.from-factor.result ≡ w = search rules in
+    let whole : to_z w64 (of_z w64 s) ≡ s = search rules in
+    let inside : i < length old = omega (arith, c.frames-test.true, c.frames.auto.sums) in
+    let room : unsigned_abs (s +ℤ (x *ℤ w)) ≤ 2 ^ 62 = rw (first, there) (c.requires.room i inside (rw (← there) sample)) in
+    rw (plain-product-64 x w c.from.result c.from-factor.result f y sample weight, whole) (fits_signed_from_abs w64 (s +ℤ (x *ℤ w)) (omega (arith, room)))
+
+pub frames-preserved : goal.frames-preserved
+frames-preserved c =
+    let i : ℕ = c.frames.place in
+    let ch : ℕ = c.args.channels in
+    let q : ℕ = c.args.channel in
+    let frames : List ℤ = c.args.frames.now in
+    let old : List ℤ = c.args.sums.now in
+    let sums : List ℤ = c.frames.sums in
+    let s : ℤ = slice_index_or sums i (pos 0) in
+    let x : ℤ = slice_index_or frames c.frames.at (pos 0) in
+    let w : ℤ = c.args.weight in
+    let first : s ≡ slice_index_or old i (pos 0) = c.frames.invariant.left i (omega arith) in
+    let there : x ≡ slice_index_or frames (i * ch + q) (pos 0) = ap (λ k. slice_index_or frames k (pos 0)) c.frames.invariant.at_is in
+    let sample_fits : FitsSigned w32 x = search rules in
+    let sample : unsigned_abs x ≤ 2 ^ 31 = omega (arith, ints) in
+    let weight_fits : FitsSigned w32 w = search rules in
+    let weight : unsigned_abs w ≤ 2 ^ 31 = omega (arith, ints) in
+    let f : c.from.result ≡ x = search rules in
+    let y : c.from-factor.result ≡ w = search rules in
+    let whole : to_z w64 (of_z w64 s) ≡ s = search rules in
+    let inside : i < length old = omega (arith, c.frames-test.true, c.frames.auto.sums) in
+    let room : unsigned_abs (s +ℤ (x *ℤ w)) ≤ 2 ^ 62 = rw (first, there) (c.requires.room i inside (rw (← there) sample)) in
+    let z : ℤ = s +ℤ (x *ℤ w) in
+    let in_range : i < length sums = omega (arith, c.frames-test.true) in
+    let F : ℕ → ℤ = λ k. slice_index_or frames (k * ch + q) (pos 0) *ℤ w in
+    let kept : to_z w32 (of_z w32 w) ≡ w = search rules in
+    rw (plain-product-64 x w c.from.result c.from-factor.result f y sample weight, whole, held-64 z room, kept)
+    record {
+      at_is = omega (arith, c.frames.invariant.at_is, suc-mul i ch, add-one i);
+      added = added-more old sums F i z in_range (ap (λ u. u +ℤ (x *ℤ w)) first ∙ ap (λ v. slice_index_or old i (pos 0) +ℤ (v *ℤ w)) there) (rw kept at c.frames.invariant.added);
+      seen = below_more _ _ c.frames.invariant.seen (rw (← there) sample);
+      left = λ k l. get_or-set_other sums i k z (pos 0) (λ e. omega arith) ∙ c.frames.invariant.left k (omega arith);
+    }
