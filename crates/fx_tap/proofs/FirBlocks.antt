@@ -350,9 +350,3 @@ frame-passed s line x y clips h k t over counted full within due made clipped it
     let From : FirState → Type 0 = λ u. PassedOn fir_acts Through u (Ready Next (s.taken + 1) (s.given + 1) all) x (made_behind s.channels b s.line x).samples in
     let To : FirState → Type 0 = λ u. PassedOn fir_acts Through s u x (made_behind s.channels b s.line x).samples in
     rw made (subst To (sym new) (subst From (sym start) passed))
-
--- a frame that was put over all of the samples
-pub put-whole : (xs out : List ℤ) → length out ≡ length xs → take 0 xs ++ out ++ drop (0 + length out) xs ≡ out
-put-whole xs out same =
-    let none : drop (0 + length out) xs ≡ [] = drop_all (0 + length out) xs (omega (arith, same)) in
-    rw (none, append-nil) refl

@@ -126,6 +126,24 @@ impl Echoes {
     }
 }
 
+impl Echoes {
+    /// Writes the samples of a frame that comes after those of the line, with their echoes, whatever the gains, and counts how
+    /// many were clipped.
+    // Room for the wide sums is taken where this is called alone.
+    #[inline(never)]
+    fn wide_into(&self, line: &Line, frame: &[i32], out: &mut [i32]) -> u64
+        requires frame { length frame.now ≡ self.now.channels }
+        requires out { length out.old ≡ self.now.channels }
+        ensures frame { out.new ≡ (echoed_frame self.now (sample_before (line.now.items ++ frame.now ∷ []) (length line.now.items))).samples }
+        ensures clips { result ≡ (echoed_frame self.now (sample_before (line.now.items ++ frame.now ∷ []) (length line.now.items))).clips }
+        ensures few { result ≤ length out.old }
+    {
+        let frame = frame_at(frame, 0, self.channels);
+        let sums = self.sums(line, frame);
+        sums_into(&sums, self.gain_out, out)
+    }
+}
+
 impl Tapping for Echoes {
     ghost taps = { echo_taps };
 
@@ -139,13 +157,12 @@ impl Tapping for Echoes {
         rounded_sums(&sums, self.channels, self.gain_out)
     }
 
+    #[inline(always)]
     fn tap_into(&self, line: &Line, frame: &[i32], out: &mut [i32]) -> u64 {
-        if let Some(small) = &self.small {
-            return self.small_into(small, line, frame, out);
-        }
-        let frame = frame_at(frame, 0, self.channels);
-        let sums = self.sums(line, frame);
-        sums_into(&sums, self.gain_out, out)
+        let Some(small) = &self.small else {
+            return self.wide_into(line, frame, out);
+        };
+        self.small_into(small, line, frame, out)
     }
 
     fn channels(&self) -> usize {

@@ -1,4 +1,4 @@
-use Rattle.std.proofs.Common.{rules, ◌≡◌, ◌+◌, ◌*◌, ◌<◌, ◌≤◌, ◌∙◌, [], ap, sym, ℕ, ℤ, Bool, List, get_or, length, arith, add-one, refl, zero-add}
+use Rattle.std.proofs.Common.{◌≡◌, ◌+◌, ◌≤◌, ◌∙◌, [], ap, sym, ℕ, ℤ, Bool, List, get_or, length, arith, add-one, refl, zero-add}
 use Rattle.std.proofs.Math.Nat.{suc-mul}
 use Rattle.fx_frame.specs.Frame.{Samples}
 use Rattle.fx_frame.specs.Ring.{pieces}

@@ -1,9 +1,9 @@
-use Rattle.std.proofs.Common.{rules, ◌≡◌, ◌+◌, ◌≤◌, ◌∙◌, ap, sym, ℕ, List, ℤ, false, length, refl, reverse, arith}
+use Rattle.std.proofs.Common.{◌≡◌, ◌+◌, ◌≤◌, ◌∙◌, List, ℤ, false, length, refl, reverse, arith}
 use Rattle.std.specs.Prelude.{None}
 use Rattle.std.proofs.lemmas.List.{length-reverse, take_all}
 use Rattle.fx_tap.specs.Fir.{centre}
 use Rattle.fx_tap.proofs.DryLaws.{dry-hand}
-use Rattle.fx_tap.proofs.FirBlocks.{frame-passed, put-whole}
+use Rattle.fx_tap.proofs.FirBlocks.{frame-passed}
 use Rattle.fx_tap.proofs.fir.FirFeeds.pass_samples.Goals as goal
 
 pub returns-clause-passed : goal.returns-clause-passed
@@ -23,11 +23,9 @@ returns-clause-passed c =
     let due : centre (length (reverse s.kernel)) ≤ length s.line.items = rw same late in
     let even : s.given + centre (length (reverse s.kernel)) ≡ s.taken = rw same (omega (arith, counted, quiet, held, late, room)) in
     let places : s.line.capacity + 1 ≡ length (reverse s.kernel) = rw same room in
-    let width = rw (← c.self.view_is) at c.requires.channels in
     let whole : c.frame_at-came.result ≡ xs = c.frame_at-came.ensures.frame ∙ take_all (length xs) xs (omega arith) in
-    let made = rw (whole, c.len-held.ensures.count) at c.filtered_frame-out.ensures in
-    let out = c.put_frame.ensures ∙ put-whole xs c.filtered_frame-out.result.0 (made.fits.1 ∙ sym width) in
+    let made = rw (whole, c.len-held.ensures.count) at c.filtered_into-clips.ensures in
     let pushed = rw whole at c.push-2.ensures in
     rw (← c.self.view_is)
-    (frame-passed (record { channels = s.channels; backwards = s.kernel; line = s.line; hand = s.hand; hand_clips = s.hand_clips; tail = s.tail; taken = s.taken; given = s.given; clips = s.clips; ended = s.ended }) c.push-2.new.self xs c.put_frame.new.output c.filtered_frame-out.result.1
-    none zero quiet over even places is.line.within due (out ∙ made.frame) made.clips pushed.items pushed.capacity pushed.channels)
+    (frame-passed (record { channels = s.channels; backwards = s.kernel; line = s.line; hand = s.hand; hand_clips = s.hand_clips; tail = s.tail; taken = s.taken; given = s.given; clips = s.clips; ended = s.ended }) c.push-2.new.self xs c.filtered_into-clips.new.out c.filtered_into-clips.result
+    none zero quiet over even places is.line.within due made.frame made.clips pushed.items pushed.capacity pushed.channels)

@@ -1,5 +1,5 @@
-use Rattle.std.proofs.Common.{rules, ◌≡◌, ◌+◌, ◌-◌, ◌*◌, ◌<◌, ◌≤◌, ◌∙◌, [], ap, sym, ℕ, ℤ, pos, suc, Bool, List, length, take, drop, arith, add-one, get_or, to_z, of_z, w32}
-use Rattle.std.proofs.Math.Nat.{suc-mul, mul-le-mul_right}
+use Rattle.std.proofs.Common.{rules, ◌≡◌, ◌+◌, ◌-◌, ◌<◌, ◌∙◌, [], ap, sym, ℕ, ℤ, Bool, length, take, drop, arith, add-one, get_or, to_z, of_z, w32}
+use Rattle.std.proofs.Math.Nat.{suc-mul}
 use Rattle.fx_frame.specs.Frame.{Samples}
 use Rattle.fx_frame.specs.Ring.{pieces}
 use Rattle.fx_frame.proofs.Pieces.{get_or-pieces}
