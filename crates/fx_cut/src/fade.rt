@@ -146,8 +146,10 @@ impl Fading {
 
     /// How many frames from this place on lie between the rise and the fall, as far as the line shows it when they fall out of
     /// it.
+    #[inline(always)]
     fn flat_from(&self, place: u64) -> u64
-        ensures { (n : ℕ) → n < result → (weights self.now (stop_ahead self.now (place + n)) (place + n)).0 ≡ (weights self.now (stop_ahead self.now (place + n)) (place + n)).1 }
+        ensures whole { (n : ℕ) → n < result → (weights self.now (stop_ahead self.now (place + n)) (place + n)).0 ≡ (weights self.now (stop_ahead self.now (place + n)) (place + n)).1 }
+        ensures before { (n : ℕ) → n < result → is_before (stop_ahead self.now (place + n)) (place + n) ≡ true }
     {
         if place < self.shape.fade_in {
             return 0;
@@ -188,6 +190,40 @@ impl Fading {
                 &None,
             );
         }
+    }
+
+    /// Weighs the samples of the frame at this place, which falls out of the line, in their place. Does it lie before the stop?
+    #[inline(always)]
+    fn weigh_next(&self, samples: &mut [i32], place: u64) -> bool
+        requires fit { All (FitsSigned w32) samples.old }
+        requires place { place ≤ 2 ^ 56 }
+        ensures before { result ≡ is_before (stop_ahead self.now place) place }
+        ensures samples { result ≡ true → map (weighted (weights self.now (stop_ahead self.now place) place)) samples.old ≡ map unclipped samples.new }
+        ensures fit { All (FitsSigned w32) samples.new }
+        ensures len { length samples.new ≡ length samples.old }
+    {
+        if self.flat_from(place) > 0 {
+            return true;
+        }
+        self.weigh_sloped(samples, place)
+    }
+
+    /// The same, for a frame that may lie on the rise or the fall.
+    #[inline(never)]
+    fn weigh_sloped(&self, samples: &mut [i32], place: u64) -> bool
+        requires fit { All (FitsSigned w32) samples.old }
+        requires place { place ≤ 2 ^ 56 }
+        ensures before { result ≡ is_before (stop_ahead self.now place) place }
+        ensures samples { result ≡ true → map (weighted (weights self.now (stop_ahead self.now place) place)) samples.old ≡ map unclipped samples.new }
+        ensures fit { All (FitsSigned w32) samples.new }
+        ensures len { length samples.new ≡ length samples.old }
+    {
+        let stop = self.next_stop(place);
+        if !is_ahead(stop, place) {
+            return false;
+        }
+        self.weigh(samples, stop, place);
+        true
     }
 
     /// What is given of the frame at this place: nothing behind the stop.
@@ -530,6 +566,7 @@ impl Feeds for Fade {
         feed_by_pieces(self, input, output)
     }
 
+    #[inline(always)]
     fn pass_samples(&mut self, samples: &mut [i32]) -> Passing {
         let place = self.taken - self.line.len() as u64;
         self.taken += 1;
@@ -538,11 +575,9 @@ impl Feeds for Fade {
         if !is_out {
             return Passing::Kept;
         }
-        let stop = self.fading.next_stop(place);
-        if !is_ahead(stop, place) {
+        if !self.fading.weigh_next(samples, place) {
             return Passing::Kept;
         }
-        self.fading.weigh(samples, stop, place);
         self.given += 1;
         Passing::Through
     }
