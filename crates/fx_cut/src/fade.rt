@@ -11,6 +11,7 @@ ghost use Rattle.fx_cut.specs.Lists.{plain};
 ghost use Rattle.fx_cut.specs.Rounded.{unclipped};
 ghost use Rattle.fx_cut.specs.Fade.{FadeArguments, FadeState, IsFade, IsFadeCount, IsShape, fade_acts, fade_after, fade_due, fade_enough, fade_line, faded_along, faded_here, is_before, line_by, meant, stop_ahead, stop_in, until, weighted, weights};
 
+use crate::lines::push_over;
 use crate::many::{PassesMany, feed_by_pieces};
 use crate::slopes::{Slope, weigh_by};
 use fx_fixed::At;
@@ -570,7 +571,7 @@ impl Feeds for Fade {
     fn pass_samples(&mut self, samples: &mut [i32]) -> Passing {
         let place = self.taken - self.line.len() as u64;
         self.taken += 1;
-        let is_out = self.line.push_over(samples);
+        let is_out = push_over(&mut self.line, samples);
         let _held = self.line.len();
         if !is_out {
             return Passing::Kept;

@@ -8,6 +8,7 @@ ghost use Rattle.fx_frame.specs.Line.{IsLine};
 ghost use Rattle.fx_frame.specs.Stage.{Freezes, IsNew, is_enough};
 ghost use Rattle.fx_cut.specs.Trim.{IsTrim, IsTrimCount, TrimArguments, TrimState, greatest_end, keeps, kept_count, starts, trim_acts, trim_after, trim_enough};
 
+use crate::lines::push_over;
 use crate::many::{PassesMany, feed_by_pieces};
 use fx_fixed::At;
 use fx_frame::frozen::thawed_line_and_hand;
@@ -532,7 +533,7 @@ impl Feeds for Trim {
     fn pass_samples(&mut self, samples: &mut [i32]) -> Passing {
         let place = self.taken - self.line.len() as u64;
         self.taken += 1;
-        let is_out = self.line.push_over(samples);
+        let is_out = push_over(&mut self.line, samples);
         let _held = self.line.len();
         if !is_out {
             return Passing::Kept;

@@ -11,7 +11,7 @@ returns-then-not-is_out-clause-passed c =
     let unspent = rw (← c.self.view_is) at c.requires.not_spent in
     let below = rw (← c.self.view_is) at c.requires.below_limit in
     let pushed = c.if-not-is_out.ensures in
-    let passed = passed-inside s c.args.samples.now c.push_over-is_out.new.samples c.self.invariant dry running unspent c.push_over-is_out.new.self pushed.items c.len-held.ensures.line pushed.capacity pushed.channels below (sym pushed.oldest) in
+    let passed = passed-inside s c.args.samples.now c.push_over-is_out.new.samples c.self.invariant dry running unspent c.push_over-is_out.new.line pushed.items c.len-held.ensures.line pushed.capacity pushed.channels below (sym pushed.oldest) in
     rw (← c.self.view_is) passed.0
 
 pub invariant_of-self : goal.invariant_of-self
@@ -22,7 +22,7 @@ invariant_of-self c =
     let unspent = rw (← c.self.view_is) at c.requires.not_spent in
     let below = rw (← c.self.view_is) at c.requires.below_limit in
     let pushed = c.if-not-is_out.ensures in
-    let passed = passed-inside s c.args.samples.now c.push_over-is_out.new.samples c.self.invariant dry running unspent c.push_over-is_out.new.self pushed.items c.len-held.ensures.line pushed.capacity pushed.channels below (sym pushed.oldest) in
+    let passed = passed-inside s c.args.samples.now c.push_over-is_out.new.samples c.self.invariant dry running unspent c.push_over-is_out.new.line pushed.items c.len-held.ensures.line pushed.capacity pushed.channels below (sym pushed.oldest) in
     passed.1
 
 pub returns-then-not-is_out-clause-settled : goal.returns-then-not-is_out-clause-settled
@@ -33,7 +33,7 @@ returns-then-not-is_out-clause-settled c =
     let unspent = rw (← c.self.view_is) at c.requires.not_spent in
     let below = rw (← c.self.view_is) at c.requires.below_limit in
     let pushed = c.if-not-is_out.ensures in
-    let passed = passed-inside s c.args.samples.now c.push_over-is_out.new.samples c.self.invariant dry running unspent c.push_over-is_out.new.self pushed.items c.len-held.ensures.line pushed.capacity pushed.channels below (sym pushed.oldest) in
+    let passed = passed-inside s c.args.samples.now c.push_over-is_out.new.samples c.self.invariant dry running unspent c.push_over-is_out.new.line pushed.items c.len-held.ensures.line pushed.capacity pushed.channels below (sym pushed.oldest) in
     λ none. settled-trim _ passed.1 running none
 
 pub returns-then-not-keeps-clause-passed : goal.returns-then-not-keeps-clause-passed
@@ -45,7 +45,7 @@ returns-then-not-keeps-clause-passed c =
     let below = rw (← c.self.view_is) at c.requires.below_limit in
     let kept = rw c.len.ensures.count at c.if-not-keeps.ensures.kept in
     let pushed = c.if-not-is_out.ensures in
-    let passed = passed-out s c.args.samples.now c.push_over-is_out.new.samples c.self.invariant dry running unspent c.push_over-is_out.new.self pushed.items c.len-held.ensures.line pushed.capacity pushed.channels below c.push_over-is_out.new.samples (sym pushed.oldest) kept in
+    let passed = passed-out s c.args.samples.now c.push_over-is_out.new.samples c.self.invariant dry running unspent c.push_over-is_out.new.line pushed.items c.len-held.ensures.line pushed.capacity pushed.channels below c.push_over-is_out.new.samples (sym pushed.oldest) kept in
     rw (c.if-not-keeps.ensures.same, ← c.self.view_is) passed.0
 
 pub invariant_of-self-then-not-keeps : goal.invariant_of-self-then-not-keeps
@@ -57,7 +57,7 @@ invariant_of-self-then-not-keeps c =
     let below = rw (← c.self.view_is) at c.requires.below_limit in
     let kept = rw c.len.ensures.count at c.if-not-keeps.ensures.kept in
     let pushed = c.if-not-is_out.ensures in
-    let passed = passed-out s c.args.samples.now c.push_over-is_out.new.samples c.self.invariant dry running unspent c.push_over-is_out.new.self pushed.items c.len-held.ensures.line pushed.capacity pushed.channels below c.push_over-is_out.new.samples (sym pushed.oldest) kept in
+    let passed = passed-out s c.args.samples.now c.push_over-is_out.new.samples c.self.invariant dry running unspent c.push_over-is_out.new.line pushed.items c.len-held.ensures.line pushed.capacity pushed.channels below c.push_over-is_out.new.samples (sym pushed.oldest) kept in
     rw c.if-not-keeps.ensures.same passed.1
 
 pub returns-then-not-keeps-clause-settled : goal.returns-then-not-keeps-clause-settled
@@ -69,7 +69,7 @@ returns-then-not-keeps-clause-settled c =
     let below = rw (← c.self.view_is) at c.requires.below_limit in
     let kept = rw c.len.ensures.count at c.if-not-keeps.ensures.kept in
     let pushed = c.if-not-is_out.ensures in
-    let passed = passed-out s c.args.samples.now c.push_over-is_out.new.samples c.self.invariant dry running unspent c.push_over-is_out.new.self pushed.items c.len-held.ensures.line pushed.capacity pushed.channels below c.push_over-is_out.new.samples (sym pushed.oldest) kept in
+    let passed = passed-out s c.args.samples.now c.push_over-is_out.new.samples c.self.invariant dry running unspent c.push_over-is_out.new.line pushed.items c.len-held.ensures.line pushed.capacity pushed.channels below c.push_over-is_out.new.samples (sym pushed.oldest) kept in
     λ none. rw c.if-not-keeps.ensures.same (settled-trim _ passed.1 running none)
 
 pub returns-clause-passed : goal.returns-clause-passed
@@ -82,7 +82,7 @@ returns-clause-passed c =
     let kept = rw c.len.ensures.count at c.if-not-keeps.ensures.kept in
     let pushed = c.if-not-is_out.ensures in
     let width = rw (← c.self.view_is) at c.requires.channels in
-    let passed = passed-oldest s c.args.samples.now c.push_over-is_out.new.samples c.self.invariant dry running unspent c.push_over-is_out.new.self pushed.items c.len-held.ensures.line pushed.capacity pushed.channels below c.push_over-is_out.new.samples (sym pushed.oldest) kept width (pushed.frame refl) in
+    let passed = passed-oldest s c.args.samples.now c.push_over-is_out.new.samples c.self.invariant dry running unspent c.push_over-is_out.new.line pushed.items c.len-held.ensures.line pushed.capacity pushed.channels below c.push_over-is_out.new.samples (sym pushed.oldest) kept width (pushed.frame refl) in
     rw (c.if-not-keeps.ensures.same, ← c.self.view_is) passed.0
 
 pub invariant_of-self-2 : goal.invariant_of-self-2
@@ -95,7 +95,7 @@ invariant_of-self-2 c =
     let kept = rw c.len.ensures.count at c.if-not-keeps.ensures.kept in
     let pushed = c.if-not-is_out.ensures in
     let width = rw (← c.self.view_is) at c.requires.channels in
-    let passed = passed-oldest s c.args.samples.now c.push_over-is_out.new.samples c.self.invariant dry running unspent c.push_over-is_out.new.self pushed.items c.len-held.ensures.line pushed.capacity pushed.channels below c.push_over-is_out.new.samples (sym pushed.oldest) kept width (pushed.frame refl) in
+    let passed = passed-oldest s c.args.samples.now c.push_over-is_out.new.samples c.self.invariant dry running unspent c.push_over-is_out.new.line pushed.items c.len-held.ensures.line pushed.capacity pushed.channels below c.push_over-is_out.new.samples (sym pushed.oldest) kept width (pushed.frame refl) in
     rw c.if-not-keeps.ensures.same passed.1
 
 pub returns-clause-settled : goal.returns-clause-settled
@@ -108,5 +108,5 @@ returns-clause-settled c =
     let kept = rw c.len.ensures.count at c.if-not-keeps.ensures.kept in
     let pushed = c.if-not-is_out.ensures in
     let width = rw (← c.self.view_is) at c.requires.channels in
-    let passed = passed-oldest s c.args.samples.now c.push_over-is_out.new.samples c.self.invariant dry running unspent c.push_over-is_out.new.self pushed.items c.len-held.ensures.line pushed.capacity pushed.channels below c.push_over-is_out.new.samples (sym pushed.oldest) kept width (pushed.frame refl) in
+    let passed = passed-oldest s c.args.samples.now c.push_over-is_out.new.samples c.self.invariant dry running unspent c.push_over-is_out.new.line pushed.items c.len-held.ensures.line pushed.capacity pushed.channels below c.push_over-is_out.new.samples (sym pushed.oldest) kept width (pushed.frame refl) in
     λ none. rw c.if-not-keeps.ensures.same (settled-trim _ passed.1 running none)
