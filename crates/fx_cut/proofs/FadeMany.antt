@@ -278,7 +278,7 @@ stretch-fed (x ∷ xs) = leads-more x xs (stretch-fed xs)
 
 -- ---- between the rise and the fall
 
-weights-some : (f : Shape) (stop : Option ℕ) (n : ℕ) → 0 < (weights f stop n).1
+pub weights-some : (f : Shape) (stop : Option ℕ) (n : ℕ) → 0 < (weights f stop n).1
 weights-some f None n = (weight-most f.fade_in n).1
 weights-some f (Some stop) n = (product-most _ _ _ _ (weight-most f.fade_in n) (weight-most f.fade_out (stop - n))).1
 

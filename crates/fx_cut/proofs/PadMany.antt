@@ -1,11 +1,13 @@
 -- Frames that a pad without a line passes many at a time, as far as no silence stands before them.
-use Rattle.std.proofs.Common.{◌≡◌, ◌+◌, ◌-◌, ◌*◌, ◌<◌, ◌≤◌, ◌^◌, ℕ, ℤ, suc, true, false, List, [], ◌∷◌, length, refl, sym, ap, ◌∙◌, arith, add-zero}
-use Rattle.std.specs.Prelude.{Some, None, option_to_list}
+use Rattle.std.proofs.Common.{◌≡◌, ◌+◌, ◌-◌, ◌*◌, ◌<◌, ◌≤◌, ◌^◌, ℕ, ℤ, suc, true, false, List, [], ◌∷◌, length, refl, subst, sym, ap, ◌∙◌, arith, add-zero}
+use Rattle.std.specs.Prelude.{Some, None, option_to_list, is_none}
 use Rattle.std.specs.List.{All}
 use Rattle.std.proofs.lemmas.List.Elements.{All-head, All-tail}
-use Rattle.fx_frame.specs.Feed.{Fed, GaveNext, TookNext, nothing, taken, given}
+use Rattle.fx_frame.specs.declared.feed.Passing.TheVariants.{Through}
+use Rattle.fx_frame.specs.Feed.{Fed, GaveNext, PassedOn, TookNext, nothing, taken, given}
 use Rattle.fx_frame.specs.Frame.{Samples}
 use Rattle.fx_frame.specs.Ring.{pieces}
+use Rattle.fx_frame.specs.Stage.{IsDry}
 use Rattle.fx_frame.proofs.FedLaws.{Fed-then}
 use Rattle.fx_frame.proofs.Pieces.{length-pieces}
 use Rattle.fx_cut.specs.Pad.{PadState, IsPad, ats, pad_acts, pad_due, pad_left, pads_from_start, silent_at}
@@ -13,7 +15,7 @@ use Rattle.fx_cut.specs.Trim.{greatest_end}
 use Rattle.fx_cut.proofs.Fallen.{fallen, stays}
 use Rattle.fx_cut.proofs.Hands.{empty_of}
 use Rattle.fx_cut.proofs.PadLaws.{upto_more}
-use Rattle.fx_cut.proofs.PadSteps.{Took-fallen, left-fallen, reached}
+use Rattle.fx_cut.proofs.PadSteps.{Took-fallen, dry-hand, left-fallen, reached}
 use Rattle.fx_cut.proofs.Pieces.{pieces-sides}
 
 -- so many frames later, with no frame to give
@@ -102,22 +104,23 @@ module _ (s : PadState) (n : ℕ) (x : Samples) (a : Quiet s (suc n)) where
     few = let few = a.few in omega arith;
   }
 
-  pub one-fed : length x ≡ s.recipe.channels → Fed pad_acts s (x ∷ []) (x ∷ []) (later s 1)
-  one-fed sides =
-      let mid : PadState = reached s s.line 0 (Some x) in
-      let last : PadState = later s 1 in
+  -- it is taken, and given
+  one-taken : TookNext pad_acts s (reached s s.line 0 (Some x)) x
+  one-taken = record {
+    dry = dry;
+    not_ended = a.running;
+    not_spent = rw dry refl;
+    took = Took-fallen s x a.is dry a.running s.line x 0 out stay silent;
+    held = rw no-line (omega arith);
+  }
+
+  one-given : length x ≡ s.recipe.channels → GaveNext pad_acts (reached s s.line 0 (Some x)) (later s 1) x
+  one-given sides =
       let is = is-next in
       let counted = is.counted a.running in
       let old = a.is.counted a.running in
       let within = is.within [] in
-      let took : TookNext pad_acts s mid x = record {
-        dry = dry;
-        not_ended = a.running;
-        not_spent = rw dry refl;
-        took = Took-fallen s x a.is dry a.running s.line x 0 out stay silent;
-        held = rw no-line (omega arith);
-      } in
-      let gave : GaveNext pad_acts mid last x = record {
+      record {
         gave = record {
           was_wet = refl;
           gives = record { clips = 0; first = λ z. rw a.running refl; counted = refl };
@@ -127,8 +130,24 @@ module _ (s : PadState) (n : ℕ) (x : Samples) (a : Quiet s (suc n)) where
           recipe_stays = refl;
         };
         held = rw no-line (omega arith);
-      } in
-      given (x ∷ []) [] x mid last (taken [] [] x s mid nothing took) gave
+      }
+
+  pub one-fed : length x ≡ s.recipe.channels → Fed pad_acts s (x ∷ []) (x ∷ []) (later s 1)
+  one-fed sides = given (x ∷ []) [] x (reached s s.line 0 (Some x)) (later s 1) (taken [] [] x s (reached s s.line 0 (Some x)) nothing one-taken) (one-given sides)
+
+  -- passed in its place
+  pub one-passed : length x ≡ s.recipe.channels → PassedOn pad_acts Through s (record s { taken = s.taken + 1; given = s.given + 1 }) x x × IsPad (record s { taken = s.taken + 1; given = s.given + 1 })
+  one-passed sides =
+      let same : ◌≡◌ {A = PadState} (record s { taken = s.taken + 1; given = s.given + 1 }) (later s 1) = rw (a.empty, a.none) refl in
+      subst (λ (u : PadState). PassedOn pad_acts Through s u x x × IsPad u) (sym same) ((reached s s.line 0 (Some x), one-taken, one-given sides, refl), is-next)
+
+-- before the end, where it has nothing to give it has given what is due
+pub settled-pad : (s : PadState) → IsPad s → s.ended ≡ false → pad_acts.dry s ≡ true → IsDry pad_acts s
+settled-pad s is running dry =
+    let d = dry-hand s.hand s.silent dry in
+    let empty : length (option_to_list s.hand) ≡ 0 = ap (λ h. length (option_to_list h)) d.0 in
+    let none = d.1 in
+    record { due = λ r. let counted = is.counted r in omega (arith, counted, empty, none); over = λ r. absurd (cc (r, running)) }
 
 pub quiet-fed : (xs : List Samples) (s : PadState) → Quiet s (length xs) → All (λ (x : Samples). length x ≡ s.recipe.channels) xs → Fed pad_acts s xs xs (later s (length xs)) × IsPad (later s (length xs))
 quiet-fed [] s a sides =

@@ -12,7 +12,8 @@ use fx_frame::{Feeds, Frame, Passed, Stage, ThawFault, WideFrame};
 use std::marker::Model;
 
 /// Copies the first frame of each of so many groups in front of the input to the front of the output.
-fn copy_firsts(input: &[i32], output: &mut [i32], channels: usize, step: usize, groups: usize)
+#[inline(always)]
+fn copy_groups(input: &[i32], output: &mut [i32], channels: usize, step: usize, groups: usize)
     requires step { 1 ≤ step }
     requires input { groups * (step * channels) ≤ length input.now }
     requires output { groups * channels ≤ length output.old }
@@ -25,6 +26,22 @@ fn copy_firsts(input: &[i32], output: &mut [i32], channels: usize, step: usize, 
         output[written..written + channels].copy_from_slice(&input[read..read + channels]);
         read += step * channels;
         written += channels;
+    }
+}
+
+/// As `copy_groups`, where the number of channels is often known beforehand: a copy of a known size is no call.
+fn copy_firsts(input: &[i32], output: &mut [i32], channels: usize, step: usize, groups: usize)
+    requires step { 1 ≤ step }
+    requires input { groups * (step * channels) ≤ length input.now }
+    requires output { groups * channels ≤ length output.old }
+    ensures frames { pieces channels groups output.new ≡ firsts channels step groups input.now }
+    ensures behind { drop (groups * channels) output.new ≡ drop (groups * channels) output.old }
+{
+    match channels {
+        1 => copy_groups(input, output, 1, step, groups),
+        2 => copy_groups(input, output, 2, step, groups),
+        8 => copy_groups(input, output, 8, step, groups),
+        _ => copy_groups(input, output, channels, step, groups),
     }
 }
 

@@ -11,6 +11,7 @@ ghost use Rattle.fx_cut.specs.Lists.{plain};
 ghost use Rattle.fx_cut.specs.Rounded.{unclipped};
 ghost use Rattle.fx_cut.specs.Fade.{FadeArguments, FadeState, IsFade, IsFadeCount, IsShape, fade_acts, fade_after, fade_due, fade_enough, fade_line, faded_along, faded_here, is_before, line_by, meant, stop_ahead, stop_in, until, weighted, weights};
 
+use crate::lines::push_over;
 use crate::many::{PassesMany, feed_by_pieces};
 use crate::slopes::{Slope, weigh_by};
 use fx_fixed::At;
@@ -146,8 +147,10 @@ impl Fading {
 
     /// How many frames from this place on lie between the rise and the fall, as far as the line shows it when they fall out of
     /// it.
+    #[inline(always)]
     fn flat_from(&self, place: u64) -> u64
-        ensures { (n : ℕ) → n < result → (weights self.now (stop_ahead self.now (place + n)) (place + n)).0 ≡ (weights self.now (stop_ahead self.now (place + n)) (place + n)).1 }
+        ensures whole { (n : ℕ) → n < result → (weights self.now (stop_ahead self.now (place + n)) (place + n)).0 ≡ (weights self.now (stop_ahead self.now (place + n)) (place + n)).1 }
+        ensures before { (n : ℕ) → n < result → is_before (stop_ahead self.now (place + n)) (place + n) ≡ true }
     {
         if place < self.shape.fade_in {
             return 0;
@@ -188,6 +191,40 @@ impl Fading {
                 &None,
             );
         }
+    }
+
+    /// Weighs the samples of the frame at this place, which falls out of the line, in their place. Does it lie before the stop?
+    #[inline(always)]
+    fn weigh_next(&self, samples: &mut [i32], place: u64) -> bool
+        requires fit { All (FitsSigned w32) samples.old }
+        requires place { place ≤ 2 ^ 56 }
+        ensures before { result ≡ is_before (stop_ahead self.now place) place }
+        ensures samples { result ≡ true → map (weighted (weights self.now (stop_ahead self.now place) place)) samples.old ≡ map unclipped samples.new }
+        ensures fit { All (FitsSigned w32) samples.new }
+        ensures len { length samples.new ≡ length samples.old }
+    {
+        if self.flat_from(place) > 0 {
+            return true;
+        }
+        self.weigh_sloped(samples, place)
+    }
+
+    /// The same, for a frame that may lie on the rise or the fall.
+    #[inline(never)]
+    fn weigh_sloped(&self, samples: &mut [i32], place: u64) -> bool
+        requires fit { All (FitsSigned w32) samples.old }
+        requires place { place ≤ 2 ^ 56 }
+        ensures before { result ≡ is_before (stop_ahead self.now place) place }
+        ensures samples { result ≡ true → map (weighted (weights self.now (stop_ahead self.now place) place)) samples.old ≡ map unclipped samples.new }
+        ensures fit { All (FitsSigned w32) samples.new }
+        ensures len { length samples.new ≡ length samples.old }
+    {
+        let stop = self.next_stop(place);
+        if !is_ahead(stop, place) {
+            return false;
+        }
+        self.weigh(samples, stop, place);
+        true
     }
 
     /// What is given of the frame at this place: nothing behind the stop.
@@ -530,19 +567,18 @@ impl Feeds for Fade {
         feed_by_pieces(self, input, output)
     }
 
+    #[inline(always)]
     fn pass_samples(&mut self, samples: &mut [i32]) -> Passing {
         let place = self.taken - self.line.len() as u64;
         self.taken += 1;
-        let is_out = self.line.push_over(samples);
+        let is_out = push_over(&mut self.line, samples);
         let _held = self.line.len();
         if !is_out {
             return Passing::Kept;
         }
-        let stop = self.fading.next_stop(place);
-        if !is_ahead(stop, place) {
+        if !self.fading.weigh_next(samples, place) {
             return Passing::Kept;
         }
-        self.fading.weigh(samples, stop, place);
         self.given += 1;
         Passing::Through
     }

@@ -4,6 +4,7 @@
 pub mod downsample;
 pub mod factor;
 pub mod fade;
+mod lines;
 mod many;
 pub mod pad;
 mod slopes;

@@ -1,11 +1,11 @@
 //! Stages that pass many frames in one piece, and the rest one at a time.
 ghost use Rattle.std.specs.Prelude.{◌≡◌, ◌<◌, ◌≤◌, ◌+◌, ◌*◌, ℕ, true, false, drop, length};
-ghost use Rattle.fx_frame.specs.Feed.{Fed};
+ghost use Rattle.fx_frame.specs.Feed.{Fed, PassedOn};
 ghost use Rattle.fx_frame.specs.Ring.{pieces};
-ghost use Rattle.fx_frame.specs.Stage.{kind, spent};
+ghost use Rattle.fx_frame.specs.Stage.{IsDry, kind, spent};
 
-use fx_frame::feed::feed_by_frames;
-use fx_frame::{Passed, Stage};
+use fx_frame::feed::{feed_by_frames, frame_at, pass_by_calls, put_frame};
+use fx_frame::{Passed, Passing, Stage};
 
 /// A stage that can pass many frames in one piece.
 pub trait PassesMany: Stage {
@@ -73,4 +73,29 @@ pub fn feed_by_pieces<S: PassesMany>(stage: &mut S, input: &[i32], output: &mut 
         taken: waiting.taken + rest.taken,
         given: waiting.given + rest.given,
     }
+}
+
+/// What `pass_samples` does for any stage that gives as many channels as it takes, by `take` and `give`.
+#[inline(never)]
+pub fn pass_by_frame<S: Stage>(stage: &mut S, samples: &mut [i32]) -> Passing
+    requires dry { S.acts.dry stage.old ≡ true }
+    requires not_ended { (S.acts.counts stage.old).ended ≡ false }
+    requires not_spent { spent S.acts stage.old ≡ false }
+    requires channels { length samples.old ≡ (kind S.acts stage.old).inputs }
+    requires same_channels { (kind S.acts stage.old).outputs ≡ (kind S.acts stage.old).inputs }
+    requires frame { (1 ≤ length samples.old) × (length samples.old ≤ 16) }
+    requires below_limit { (S.acts.counts stage.old).taken < (kind S.acts stage.old).limit }
+    ensures passed { PassedOn S.acts result stage.old stage.new samples.old samples.new }
+    ensures channels { length samples.new ≡ length samples.old }
+    ensures settled { S.acts.dry stage.new ≡ true → IsDry S.acts stage.new }
+{
+    let channels = samples.len();
+    let mut frame = frame_at(samples, 0, channels);
+    let passing = pass_by_calls(stage, &mut frame);
+    let _dry = stage.is_dry();
+    if let Passing::Kept = passing {
+        return Passing::Kept;
+    }
+    put_frame(samples, 0, &frame);
+    passing
 }

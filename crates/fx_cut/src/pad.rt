@@ -7,11 +7,11 @@ ghost use Rattle.fx_frame.specs.Stage.{Freezes, IsNew};
 ghost use Rattle.fx_cut.specs.Trim.{greatest_end};
 ghost use Rattle.fx_cut.specs.Pad.{IsPad, IsPadCount, IsPads, PadArguments, PadState, ats, later_count, lengths, pad_acts, pad_rises, pads_from_start, placed, silence_from, silent_at};
 
-use crate::many::{PassesMany, feed_by_pieces};
+use crate::many::{PassesMany, feed_by_pieces, pass_by_frame};
 use fx_fixed::At;
 use fx_frame::feed::copy_frames;
 use fx_frame::frozen::thawed_line_and_hand;
-use fx_frame::{Feeds, Frame, Line, Passed, Stage, ThawFault, WideFrame};
+use fx_frame::{Feeds, Frame, Line, Passed, Passing, Stage, ThawFault, WideFrame};
 use std::alloc::{AllocError, Global};
 use std::marker::Model;
 
@@ -59,6 +59,71 @@ fn quiet_from(pads: &[(u64, At)], place: u64) -> u64
         }
     }
     quiet
+}
+
+/// Pads, and the frames with no silence before them that were looked up last.
+#[derive(Drop)]
+struct Pads {
+    pads: Vec<(u64, At)>,
+    /// The place of the first of these frames.
+    first: u64,
+    /// How many there are. From the pads, so that no call goes over them for one of these frames.
+    quiet: u64,
+}
+
+// They are the pads.
+impl Model for Pads {
+    ghost use Rattle.std.specs.Prelude.{ℕ, List, ◌≡◌, ◌<◌, ◌+◌};
+    ghost use Rattle.fx_fixed.specs.declared.positions.At.{At};
+    ghost use Rattle.fx_cut.specs.Pad.{pads_from_start, silent_at};
+
+    ghost Value = { List (ℕ × At) };
+
+    ghost view = { λ p. p.pads.items };
+
+    ghost invariant = { λ p. (n : ℕ) → n < p.quiet → silent_at (pads_from_start p.pads.items) (p.first + n) ≡ 0 };
+}
+
+impl Pads {
+    /// The pads, of which nothing was looked up.
+    fn of(pads: Vec<(u64, At)>) -> Pads
+        ensures { result ≡ pads.items }
+    {
+        Pads {
+            pads,
+            first: 0,
+            quiet: 0,
+        }
+    }
+
+    /// The pads.
+    fn all(&self) -> &[(u64, At)]
+        ensures { result.now ≡ self.now }
+    {
+        &self.pads
+    }
+
+    /// Is it known that the frame at this place has no silence before it, as far as the pads before the first one from the end
+    /// say?
+    #[inline(always)]
+    fn is_quiet(&self, place: u64) -> bool
+        ensures { result ≡ true → silent_at (pads_from_start self.now) place ≡ 0 }
+    {
+        self.first <= place && place - self.first < self.quiet
+    }
+
+    /// How many silent frames stand before the frame at this place, as far as the pads before the first one from the end say.
+    /// It looks up the frames behind that one.
+    fn silence_at(&mut self, place: u64) -> u64
+        requires { lengths self.old ≤ 2 ^ 46 }
+        ensures silent { result ≡ silent_at (pads_from_start self.old) place }
+        ensures same { self.new ≡ self.old }
+    {
+        let first = place.saturating_add(1);
+        self.quiet = quiet_from(&self.pads, first);
+        self.first = first;
+        silence_by_starts(&self.pads, place)
+    }
 }
 
 /// How many silent frames stand before the frame at this place, in a sound of so many frames.
@@ -209,7 +274,7 @@ fn next_padded(line: &mut Line, pads: &[(u64, At)], frames: u64) -> (u64, Option
 pub struct Pad {
     hand: Option<Frame>,
     channels: usize,
-    pads: Vec<(u64, At)>,
+    pads: Pads,
     silent: u64,
     line: Line,
     taken: u64,
@@ -222,9 +287,9 @@ impl Model for Pad {
 
     ghost Value = { PadState };
 
-    ghost view = { λ s. record { hand = s.hand; recipe = record { channels = s.channels; pads = s.pads.items }; silent = s.silent; line = s.line; taken = s.taken; given = s.given; ended = s.ended } };
+    ghost view = { λ s. record { hand = s.hand; recipe = record { channels = s.channels; pads = s.pads }; silent = s.silent; line = s.line; taken = s.taken; given = s.given; ended = s.ended } };
 
-    ghost invariant = { λ s. IsPad (record { hand = s.hand; recipe = record { channels = s.channels; pads = s.pads.items }; silent = s.silent; line = s.line; taken = s.taken; given = s.given; ended = s.ended }) };
+    ghost invariant = { λ s. IsPad (record { hand = s.hand; recipe = record { channels = s.channels; pads = s.pads }; silent = s.silent; line = s.line; taken = s.taken; given = s.given; ended = s.ended }) };
 }
 
 impl Pad {
@@ -243,7 +308,7 @@ impl Pad {
         Ok(Pad {
             hand: None,
             channels,
-            pads: own,
+            pads: Pads::of(own),
             silent: 0,
             line,
             taken: 0,
@@ -297,7 +362,7 @@ impl Pad {
         Ok(Pad {
             hand,
             channels,
-            pads: own,
+            pads: Pads::of(own),
             silent,
             line,
             taken,
@@ -325,13 +390,13 @@ impl Stage for Pad {
             return;
         };
         let _channels = oldest.channels();
-        self.silent = silence_by_starts(&self.pads, place);
+        self.silent = self.pads.silence_at(place);
         self.hand = Some(oldest);
     }
 
     fn end(&mut self) {
         self.ended = true;
-        let (silent, hand) = next_padded(&mut self.line, &self.pads, self.taken);
+        let (silent, hand) = next_padded(&mut self.line, self.pads.all(), self.taken);
         self.silent = silent;
         self.hand = hand;
     }
@@ -350,7 +415,7 @@ impl Stage for Pad {
             self.hand = None;
             return Some(frame);
         }
-        let (silent, hand) = next_padded(&mut self.line, &self.pads, self.taken);
+        let (silent, hand) = next_padded(&mut self.line, self.pads.all(), self.taken);
         self.silent = silent;
         self.hand = hand;
         Some(frame)
@@ -417,7 +482,7 @@ impl PassesMany for Pad {
         if self.line.capacity() != 0 || self.hand.is_some() || self.silent != 0 || self.ended {
             return Passed { taken: 0, given: 0 };
         }
-        let quiet = quiet_from(&self.pads, self.taken);
+        let quiet = quiet_from(self.pads.all(), self.taken);
         let count = quiet.min((input.len() / channels) as u64) as usize;
         let copied = copy_frames(&input[..count * channels], output, channels);
         self.taken += copied as u64;
@@ -432,6 +497,17 @@ impl PassesMany for Pad {
 impl Feeds for Pad {
     fn feed(&mut self, input: &[i32], output: &mut [i32]) -> Passed {
         feed_by_pieces(self, input, output)
+    }
+
+    #[inline(always)]
+    fn pass_samples(&mut self, samples: &mut [i32]) -> Passing {
+        let is_known = self.line.capacity() == 0 && self.pads.is_quiet(self.taken);
+        if is_known {
+            self.taken += 1;
+            self.given += 1;
+            return Passing::Through;
+        }
+        pass_by_frame(self, samples)
     }
 
     fn ahead(&self) -> u64 {

@@ -8,30 +8,13 @@ ghost use Rattle.fx_frame.specs.Line.{IsLine};
 ghost use Rattle.fx_frame.specs.Stage.{Freezes, IsNew, is_enough};
 ghost use Rattle.fx_cut.specs.Trim.{IsTrim, IsTrimCount, TrimArguments, TrimState, greatest_end, keeps, kept_count, starts, trim_acts, trim_after, trim_enough};
 
+use crate::lines::push_over;
 use crate::many::{PassesMany, feed_by_pieces};
 use fx_fixed::At;
 use fx_frame::frozen::thawed_line_and_hand;
 use fx_frame::{Feeds, Frame, Line, Passed, Passing, Stage, ThawFault, WideFrame};
 use std::alloc::{AllocError, Global};
 use std::marker::Model;
-
-/// Is the frame at this place kept, as far as the positions before the first one from the end say?
-fn is_kept_by_starts(positions: &[At], place: u64) -> bool
-    ensures { result ≡ keeps (places_of 0 (starts positions.now)) place }
-{
-    let mut last = 0;
-    let mut crossed: usize = 0;
-    'positions: for at in positions {
-        let At::Start(start) = at else {
-            return crossed % 2 == 1;
-        };
-        last = last.max(*start);
-        if last <= place {
-            crossed += 1;
-        }
-    }
-    crossed % 2 == 1
-}
 
 /// Frames that follow one another and are all kept, or all left out.
 #[derive(Clone, Copy, Drop)]
@@ -42,7 +25,8 @@ struct Stretch {
 
 /// The frames from a place on, up to the next position, as far as the positions before the first one from the end say.
 fn stretch_from(positions: &[At], place: u64) -> Stretch
-    ensures { (n : ℕ) → n < result.frames → keeps (places_of 0 (starts positions.now)) (place + n) ≡ result.is_kept }
+    ensures some { 1 ≤ result.frames }
+    ensures alike { (n : ℕ) → n < result.frames → keeps (places_of 0 (starts positions.now)) (place + n) ≡ result.is_kept }
 {
     let mut last: u64 = 0;
     let mut crossed: usize = 0;
@@ -66,6 +50,78 @@ fn stretch_from(positions: &[At], place: u64) -> Stretch
     Stretch {
         is_kept: crossed % 2 == 1,
         frames: u64::MAX,
+    }
+}
+
+/// Positions, and the stretch of frames that was looked up last.
+#[derive(Drop)]
+struct Cuts {
+    positions: Vec<At>,
+    /// The place where that stretch begins.
+    first: u64,
+    /// From the positions, so that no call goes over them for a frame inside it.
+    stretch: Stretch,
+}
+
+// They are the positions.
+impl Model for Cuts {
+    ghost use Rattle.std.specs.Prelude.{ℕ, List, ◌≡◌, ◌<◌, ◌+◌};
+    ghost use Rattle.fx_fixed.specs.Positions.{places_of};
+    ghost use Rattle.fx_fixed.specs.declared.positions.At.{At};
+    ghost use Rattle.fx_cut.specs.Trim.{keeps, starts};
+
+    ghost Value = { List At };
+
+    ghost view = { λ c. c.positions.items };
+
+    ghost invariant = { λ c. (n : ℕ) → n < c.stretch.frames → keeps (places_of 0 (starts c.positions.items)) (c.first + n) ≡ c.stretch.is_kept };
+}
+
+impl Cuts {
+    /// The positions, of which no stretch was looked up.
+    fn of(positions: Vec<At>) -> Cuts
+        ensures { result ≡ positions.items }
+    {
+        Cuts {
+            positions,
+            first: 0,
+            stretch: Stretch {
+                is_kept: false,
+                frames: 0,
+            },
+        }
+    }
+
+    /// The positions.
+    fn positions(&self) -> &[At]
+        ensures { result.now ≡ self.now }
+    {
+        &self.positions
+    }
+
+    /// Is the frame at this place kept, as far as the positions before the first one from the end say?
+    #[inline(always)]
+    fn keeps(&mut self, place: u64) -> bool
+        ensures kept { result ≡ keeps (places_of 0 (starts self.old)) place }
+        ensures same { self.new ≡ self.old }
+    {
+        let stretch = self.stretch;
+        if place < self.first || place - self.first >= stretch.frames {
+            return self.look_up(place);
+        }
+        stretch.is_kept
+    }
+
+    /// The same, for a place outside the stretch that was looked up last.
+    #[inline(never)]
+    fn look_up(&mut self, place: u64) -> bool
+        ensures kept { result ≡ keeps (places_of 0 (starts self.old)) place }
+        ensures same { self.new ≡ self.old }
+    {
+        let stretch = stretch_from(&self.positions, place);
+        self.first = place;
+        self.stretch = stretch;
+        stretch.is_kept
     }
 }
 
@@ -242,7 +298,7 @@ fn next_kept(line: &mut Line, positions: &[At], frames: u64) -> Option<Frame>
 pub struct Trim {
     hand: Option<Frame>,
     channels: usize,
-    positions: Vec<At>,
+    cuts: Cuts,
     /// From the positions, so that no call goes over them to tell whether it is spent.
     enough: Option<u64>,
     line: Line,
@@ -256,9 +312,9 @@ impl Model for Trim {
 
     ghost Value = { TrimState };
 
-    ghost view = { λ s. record { hand = s.hand; recipe = record { channels = s.channels; positions = s.positions.items }; enough = s.enough; line = s.line; taken = s.taken; given = s.given; ended = s.ended } };
+    ghost view = { λ s. record { hand = s.hand; recipe = record { channels = s.channels; positions = s.cuts }; enough = s.enough; line = s.line; taken = s.taken; given = s.given; ended = s.ended } };
 
-    ghost invariant = { λ s. IsTrim (record { hand = s.hand; recipe = record { channels = s.channels; positions = s.positions.items }; enough = s.enough; line = s.line; taken = s.taken; given = s.given; ended = s.ended }) };
+    ghost invariant = { λ s. IsTrim (record { hand = s.hand; recipe = record { channels = s.channels; positions = s.cuts }; enough = s.enough; line = s.line; taken = s.taken; given = s.given; ended = s.ended }) };
 }
 
 impl Trim {
@@ -276,7 +332,7 @@ impl Trim {
         Ok(Trim {
             hand: None,
             channels,
-            positions: own,
+            cuts: Cuts::of(own),
             enough: enough_of(positions),
             line,
             taken: 0,
@@ -329,7 +385,7 @@ impl Trim {
         Ok(Trim {
             hand,
             channels,
-            positions: own,
+            cuts: Cuts::of(own),
             enough: enough_of(positions),
             line,
             taken,
@@ -356,7 +412,7 @@ impl Stage for Trim {
         let Some(oldest) = fallen else {
             return;
         };
-        if !is_kept_by_starts(&self.positions, place) {
+        if !self.cuts.keeps(place) {
             return;
         }
         let _channels = oldest.channels();
@@ -365,7 +421,7 @@ impl Stage for Trim {
 
     fn end(&mut self) {
         self.ended = true;
-        self.hand = next_kept(&mut self.line, &self.positions, self.taken);
+        self.hand = next_kept(&mut self.line, self.cuts.positions(), self.taken);
     }
 
     fn give(&mut self) -> Option<Frame> {
@@ -377,7 +433,7 @@ impl Stage for Trim {
             self.hand = None;
             return Some(frame);
         }
-        self.hand = next_kept(&mut self.line, &self.positions, self.taken);
+        self.hand = next_kept(&mut self.line, self.cuts.positions(), self.taken);
         Some(frame)
     }
 
@@ -447,7 +503,7 @@ impl PassesMany for Trim {
         }
         let lined = self.line.len();
         let room = self.line.capacity() - lined;
-        let stretch = stretch_from(&self.positions, self.taken - lined as u64);
+        let stretch = stretch_from(self.cuts.positions(), self.taken - lined as u64);
         let ahead = stretch
             .frames
             .saturating_add(room as u64)
@@ -473,15 +529,16 @@ impl Feeds for Trim {
         feed_by_pieces(self, input, output)
     }
 
+    #[inline(always)]
     fn pass_samples(&mut self, samples: &mut [i32]) -> Passing {
         let place = self.taken - self.line.len() as u64;
         self.taken += 1;
-        let is_out = self.line.push_over(samples);
+        let is_out = push_over(&mut self.line, samples);
         let _held = self.line.len();
         if !is_out {
             return Passing::Kept;
         }
-        if !is_kept_by_starts(&self.positions, place) {
+        if !self.cuts.keeps(place) {
             return Passing::Kept;
         }
         self.given += 1;

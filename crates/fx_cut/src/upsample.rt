@@ -12,6 +12,7 @@ use fx_frame::{Feeds, Frame, Passed, Stage, ThawFault, WideFrame};
 use std::marker::Model;
 
 /// Fills a group with a frame and silence behind it.
+#[inline(always)]
 fn fill_group(group: &mut [i32], frame: &[i32])
     requires { length frame.now ≤ length group.old }
     ensures { group.new ≡ frame.now ++ replicate (length group.old - length frame.now) (pos 0) }
@@ -22,7 +23,8 @@ fn fill_group(group: &mut [i32], frame: &[i32])
 }
 
 /// Copies so many frames in front of the input to the front of the output, each with the silence behind it.
-fn spread_frames(input: &[i32], output: &mut [i32], channels: usize, factor: usize, count: usize)
+#[inline(always)]
+fn spread_each(input: &[i32], output: &mut [i32], channels: usize, factor: usize, count: usize)
     requires factor { 1 ≤ factor }
     requires input { count * channels ≤ length input.now }
     requires output { count * (factor * channels) ≤ length output.old }
@@ -36,6 +38,22 @@ fn spread_frames(input: &[i32], output: &mut [i32], channels: usize, factor: usi
         fill_group(group, &input[read..read + channels]);
         read += channels;
         written += factor * channels;
+    }
+}
+
+/// As `spread_each`, where the number of channels is often known beforehand: a copy of a known size is no call.
+fn spread_frames(input: &[i32], output: &mut [i32], channels: usize, factor: usize, count: usize)
+    requires factor { 1 ≤ factor }
+    requires input { count * channels ≤ length input.now }
+    requires output { count * (factor * channels) ≤ length output.old }
+    ensures frames { pieces channels (count * factor) output.new ≡ spread channels factor count input.now }
+    ensures behind { drop (count * (factor * channels)) output.new ≡ drop (count * (factor * channels)) output.old }
+{
+    match channels {
+        1 => spread_each(input, output, 1, factor, count),
+        2 => spread_each(input, output, 2, factor, count),
+        8 => spread_each(input, output, 8, factor, count),
+        _ => spread_each(input, output, channels, factor, count),
     }
 }
 

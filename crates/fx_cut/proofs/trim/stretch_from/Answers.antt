@@ -3,15 +3,15 @@ use Rattle.std.proofs.Common.{◌≡◌, ◌<◌, ◌≤◌, ◌+◌, max, arith
 use Rattle.fx_cut.proofs.TrimMany.{alike, before-next, behind-next, no-start, no-more}
 use Rattle.fx_cut.proofs.trim.stretch_from.Goals as goal
 
-pub returns-in_default : goal.returns-in_default
-returns-in_default c = λ n h.
+pub returns-in_default-clause-alike : goal.returns-in_default-clause-alike
+returns-in_default-clause-alike c = λ n h.
     let ps = c.args.positions.now in
     let i = c.positions.invariant in
     let at = c.args.place + n in
     alike ps at c.positions.crossed _ (no-start ps c.positions.at-index c.positions.last at c.in_default.field-0 c.positions-test.true c.in_default.is) (i.counted at (omega arith))
 
-pub returns-then-place-next : goal.returns-then-place-next
-returns-then-place-next c = λ n h.
+pub returns-then-place-next-clause-alike : goal.returns-then-place-next-clause-alike
+returns-then-place-next-clause-alike c = λ n h.
     let ps = c.args.positions.now in
     let i = c.positions.invariant in
     let at = c.args.place + n in
@@ -35,8 +35,8 @@ positions-preserved c =
       few = omega arith;
     }
 
-pub returns : goal.returns
-returns c = λ n h.
+pub returns-clause-alike : goal.returns-clause-alike
+returns-clause-alike c = λ n h.
     let ps = c.args.positions.now in
     let i = c.positions.invariant in
     let at = c.args.place + n in

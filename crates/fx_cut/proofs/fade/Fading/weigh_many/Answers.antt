@@ -19,7 +19,7 @@ pub returns-then-count-flat_from-clause-frames : goal.returns-then-count-flat_fr
 returns-then-count-flat_from-clause-frames c =
     let xs : List Samples = pieces c.args.channels c.args.count c.args.samples.now in
     let many : length xs ≡ c.args.count = length-pieces c.args.channels c.args.count c.args.samples.now in
-    all-flat c.args.self.now c.args.channels c.args.place xs (λ i h. c.flat_from.ensures i (omega (arith, many, c.if-count-flat_from.true))) (frames-samples w32 c.args.channels c.args.count c.args.samples.now c.requires.frames c.requires.fit)
+    all-flat c.args.self.now c.args.channels c.args.place xs (λ i h. c.flat_from.ensures.whole i (omega (arith, many, c.if-count-flat_from.true))) (frames-samples w32 c.args.channels c.args.count c.args.samples.now c.requires.frames c.requires.fit)
 
 pub frames-preserved : goal.frames-preserved
 frames-preserved c =

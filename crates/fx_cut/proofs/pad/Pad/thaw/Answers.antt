@@ -14,12 +14,12 @@ returns-in-Err-clause-thawed c = λ s is recipe frozen.
 
 pub invariant_of-result : goal.invariant_of-result
 invariant_of-result c =
-    rw (c.in-Ok.ensures.items, c.new-own.ensures.items)
+    rw (c.of.ensures, c.in-Ok.ensures.items, c.new-own.ensures.items)
     (IsPad-thawed c.args.channels _ _ _ _ _ _ _ c.args.pads.now c.args.frames.now _ _ c.in-Ok-thawed_line_and_hand.ensures.found c.greatest_end_of-capacity.ensures c.requires.pads c.if-taken.false c.if-held-taken.false c.if-held-frames.false (c.if-not-is_count.ensures.count refl))
 
 pub returns-clause-thawed : goal.returns-clause-thawed
 returns-clause-thawed c = λ s is recipe frozen.
     let stored = stored-of s c.args.channels c.args.pads.now c.args.frames.now c.args.numbers.now is recipe frozen in
     let only = (rw c.greatest_end_of-capacity.ensures at c.in-Ok-thawed_line_and_hand.ensures.only) s.line s.hand stored in
-    rw (c.in-Ok.ensures.items, c.new-own.ensures.items)
+    rw (c.of.ensures, c.in-Ok.ensures.items, c.new-own.ensures.items)
     (same-pad s c.args.channels c.args.pads.now c.args.numbers.now _ _ recipe frozen.counted only.0 only.1)

@@ -14,7 +14,7 @@ returns-then-capacity-ne0-clause-fed c = nothing
 
 pub invariant_of-self : goal.invariant_of-self
 invariant_of-self c =
-    let s : PadState = record { hand = c.self.inside.hand; recipe = record { channels = c.self.inside.channels; pads = c.self.inside.pads.items }; silent = c.self.inside.silent; line = c.self.inside.line; taken = c.self.inside.taken; given = c.self.inside.given; ended = c.self.inside.ended } in
+    let s : PadState = record { hand = c.self.inside.hand; recipe = record { channels = c.self.inside.channels; pads = c.self.inside.pads }; silent = c.self.inside.silent; line = c.self.inside.line; taken = c.self.inside.taken; given = c.self.inside.given; ended = c.self.inside.ended } in
     let n = c.copy_frames-copied.result in
     let ch = c.self.inside.channels in
     let input = c.args.input.now in
@@ -26,7 +26,7 @@ invariant_of-self c =
     let fewer : n ≤ count = few-pieces n count ch (rw (← c.self.view_is) at c.requires.channels.0) (omega (arith, read, cut)) in
     let room : n * ch ≤ length input = omega (arith, read, cut, long) in
     let few = below n room in
-    let quiet = rw c.deref.ensures.value at c.quiet_from-quiet.ensures in
+    let quiet = rw c.all.ensures at c.quiet_from-quiet.ensures in
     let ahead : n ≤ c.quiet_from-quiet.result = omega (arith, fewer, c.min-count.ensures) in
     let a : Quiet s n = record {
       is = c.self.invariant;
@@ -43,7 +43,7 @@ invariant_of-self c =
 
 pub returns-clause-fed : goal.returns-clause-fed
 returns-clause-fed c =
-    let s : PadState = record { hand = c.self.inside.hand; recipe = record { channels = c.self.inside.channels; pads = c.self.inside.pads.items }; silent = c.self.inside.silent; line = c.self.inside.line; taken = c.self.inside.taken; given = c.self.inside.given; ended = c.self.inside.ended } in
+    let s : PadState = record { hand = c.self.inside.hand; recipe = record { channels = c.self.inside.channels; pads = c.self.inside.pads }; silent = c.self.inside.silent; line = c.self.inside.line; taken = c.self.inside.taken; given = c.self.inside.given; ended = c.self.inside.ended } in
     let n = c.copy_frames-copied.result in
     let ch = c.self.inside.channels in
     let input = c.args.input.now in
@@ -55,7 +55,7 @@ returns-clause-fed c =
     let fewer : n ≤ count = few-pieces n count ch (rw (← c.self.view_is) at c.requires.channels.0) (omega (arith, read, cut)) in
     let room : n * ch ≤ length input = omega (arith, read, cut, long) in
     let few = below n room in
-    let quiet = rw c.deref.ensures.value at c.quiet_from-quiet.ensures in
+    let quiet = rw c.all.ensures at c.quiet_from-quiet.ensures in
     let ahead : n ≤ c.quiet_from-quiet.result = omega (arith, fewer, c.min-count.ensures) in
     let a : Quiet s n = record {
       is = c.self.invariant;

@@ -6,7 +6,7 @@ use Rattle.fx_cut.proofs.pad.PadStage.end.Goals as goal
 pub invariant_of-self : goal.invariant_of-self
 invariant_of-self c =
     let e = c.next_padded-silent.ensures in
-    let quiet = rw c.deref.ensures.value at e.silent in
+    let quiet = rw c.all.ensures at e.silent in
     let dry = rw (← c.self.view_is) at c.requires.dry in
     let running = rw (← c.self.view_is) at c.requires.not_ended in
     IsPad-drawn _ _ _ _ _ _ c.self.invariant refl e.oldest e.items quiet e.line e.capacity e.channels (rw c.self.invariant.channels at e.hand) (left-dry _ c.self.invariant dry running)
@@ -14,7 +14,7 @@ invariant_of-self c =
 pub returns : goal.returns
 returns c =
     let e = c.next_padded-silent.ensures in
-    let quiet = rw c.deref.ensures.value at e.silent in
+    let quiet = rw c.all.ensures at e.silent in
     let dry = rw (← c.self.view_is) at c.requires.dry in
     let running = rw (← c.self.view_is) at c.requires.not_ended in
     rw (← c.self.view_is) (Ended-pad _ _ _ _ _ _ c.self.invariant refl e.oldest e.items quiet dry running refl)

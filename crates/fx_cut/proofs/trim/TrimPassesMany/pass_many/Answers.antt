@@ -34,10 +34,10 @@ invariant_of-self c =
     let n : ℕ = c.min-count.result in
     let w : ℕ = c.self.inside.channels in
     let fits = piece-fits c.stretch_from-stretch.result.is_kept c.self.inside.line n c.given_of-given.result (c.capacity.result - c.len-lined.result) w (length c.args.input.now) (length c.args.output.now) within (omega arith) (omega arith) (omega arith) (rw c.saturating_sub.ensures at c.given_of-given.ensures) in
-    let s : TrimState = record { hand = c.self.inside.hand; recipe = record { channels = c.self.inside.channels; positions = c.self.inside.positions.items }; enough = c.self.inside.enough; line = c.self.inside.line; taken = c.self.inside.taken; given = c.self.inside.given; ended = c.self.inside.ended } in
+    let s : TrimState = record { hand = c.self.inside.hand; recipe = record { channels = c.self.inside.channels; positions = c.self.inside.cuts }; enough = c.self.inside.enough; line = c.self.inside.line; taken = c.self.inside.taken; given = c.self.inside.given; ended = c.self.inside.ended } in
     let low = c.self.invariant.within in
     let below = rw (← c.self.view_is) at c.requires.below_limit in
-    let kept = rw c.deref.ensures.value at c.stretch_from-stretch.ensures in
+    let kept = rw c.positions.ensures at c.stretch_from-stretch.ensures.alike in
     let a : Alike c.stretch_from-stretch.result.is_kept s n = record {
       is = c.self.invariant;
       empty = not-some c.self.inside.hand (sym c.if-is_some.ensures);
@@ -60,10 +60,10 @@ returns-clause-fed c =
     let n : ℕ = c.min-count.result in
     let w : ℕ = c.self.inside.channels in
     let fits = piece-fits c.stretch_from-stretch.result.is_kept c.self.inside.line n c.given_of-given.result (c.capacity.result - c.len-lined.result) w (length c.args.input.now) (length c.args.output.now) within (omega arith) (omega arith) (omega arith) (rw c.saturating_sub.ensures at c.given_of-given.ensures) in
-    let s : TrimState = record { hand = c.self.inside.hand; recipe = record { channels = c.self.inside.channels; positions = c.self.inside.positions.items }; enough = c.self.inside.enough; line = c.self.inside.line; taken = c.self.inside.taken; given = c.self.inside.given; ended = c.self.inside.ended } in
+    let s : TrimState = record { hand = c.self.inside.hand; recipe = record { channels = c.self.inside.channels; positions = c.self.inside.cuts }; enough = c.self.inside.enough; line = c.self.inside.line; taken = c.self.inside.taken; given = c.self.inside.given; ended = c.self.inside.ended } in
     let low = c.self.invariant.within in
     let below = rw (← c.self.view_is) at c.requires.below_limit in
-    let kept = rw c.deref.ensures.value at c.stretch_from-stretch.ensures in
+    let kept = rw c.positions.ensures at c.stretch_from-stretch.ensures.alike in
     let a : Alike c.stretch_from-stretch.result.is_kept s n = record {
       is = c.self.invariant;
       empty = not-some c.self.inside.hand (sym c.if-is_some.ensures);

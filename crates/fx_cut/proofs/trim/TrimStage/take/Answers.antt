@@ -14,34 +14,36 @@ invariant_of-self c =
     IsTrim-inside _ c.args.frame c.self.invariant (rw (← c.self.view_is) at c.requires.dry) (rw (← c.self.view_is) at c.requires.not_ended) _ c.in_default.ensures.oldest c.in_default.ensures.items
     c.len-held.ensures.line c.in_default.ensures.capacity c.in_default.ensures.channels (rw (← c.self.view_is) at c.requires.below_limit)
 
-pub invariant_of-self-then-not-is_kept_by_starts : goal.invariant_of-self-then-not-is_kept_by_starts
-invariant_of-self-then-not-is_kept_by_starts c =
+pub invariant_of-self-then-not-keeps : goal.invariant_of-self-then-not-keeps
+invariant_of-self-then-not-keeps c =
     let dry = rw (← c.self.view_is) at c.requires.dry in
-    let kept = rw (c.deref.ensures.value, c.len.ensures.count) at c.if-not-is_kept_by_starts.ensures in
-    IsTrim-fallen _ c.args.frame c.self.invariant dry (rw (← c.self.view_is) at c.requires.not_ended) _ c.in-Some.oldest _ c.self.inside.hand c.in-Some.ensures.oldest c.in-Some.ensures.items
+    let kept = rw c.len.ensures.count at c.if-not-keeps.ensures.kept in
+    rw c.if-not-keeps.ensures.same
+    (IsTrim-fallen _ c.args.frame c.self.invariant dry (rw (← c.self.view_is) at c.requires.not_ended) _ c.in-Some.oldest _ c.self.inside.hand c.in-Some.ensures.oldest c.in-Some.ensures.items
     c.len-held.ensures.line c.in-Some.ensures.capacity c.in-Some.ensures.channels (rw (← c.self.view_is) at c.requires.below_limit)
-    kept (ap length (empty-hand _ dry)) c.self.invariant.fits
+    kept (ap length (empty-hand _ dry)) c.self.invariant.fits)
 
-pub returns-then-not-is_kept_by_starts : goal.returns-then-not-is_kept_by_starts
-returns-then-not-is_kept_by_starts c =
+pub returns-then-not-keeps : goal.returns-then-not-keeps
+returns-then-not-keeps c =
     let dry = rw (← c.self.view_is) at c.requires.dry in
-    let kept = rw (c.deref.ensures.value, c.len.ensures.count) at c.if-not-is_kept_by_starts.ensures in
-    rw (← c.self.view_is)
+    let kept = rw c.len.ensures.count at c.if-not-keeps.ensures.kept in
+    rw (c.if-not-keeps.ensures.same, ← c.self.view_is)
     (Took-fallen _ c.args.frame c.self.invariant dry (rw (← c.self.view_is) at c.requires.not_ended) _ c.in-Some.oldest _ c.self.inside.hand c.in-Some.ensures.oldest c.in-Some.ensures.items kept (empty-hand _ dry))
 
 pub invariant_of-self-2 : goal.invariant_of-self-2
 invariant_of-self-2 c =
     let dry = rw (← c.self.view_is) at c.requires.dry in
     let running = rw (← c.self.view_is) at c.requires.not_ended in
-    let kept = rw (c.deref.ensures.value, c.len.ensures.count) at c.if-not-is_kept_by_starts.ensures in
+    let kept = rw c.len.ensures.count at c.if-not-keeps.ensures.kept in
     let fits = fits-oldest _ c.args.frame c.self.invariant dry running c.push-fallen.new.self c.in-Some.oldest c.in-Some.ensures.oldest (rw (← c.self.view_is) at c.requires.channels) c.channels-channels.ensures.frame in
-    IsTrim-fallen _ c.args.frame c.self.invariant dry running _ c.in-Some.oldest _ _ c.in-Some.ensures.oldest c.in-Some.ensures.items
+    rw c.if-not-keeps.ensures.same
+    (IsTrim-fallen _ c.args.frame c.self.invariant dry running _ c.in-Some.oldest _ _ c.in-Some.ensures.oldest c.in-Some.ensures.items
     c.len-held.ensures.line c.in-Some.ensures.capacity c.in-Some.ensures.channels (rw (← c.self.view_is) at c.requires.below_limit)
-    kept refl fits
+    kept refl fits)
 
 pub returns : goal.returns
 returns c =
     let dry = rw (← c.self.view_is) at c.requires.dry in
-    let kept = rw (c.deref.ensures.value, c.len.ensures.count) at c.if-not-is_kept_by_starts.ensures in
-    rw (← c.self.view_is)
+    let kept = rw c.len.ensures.count at c.if-not-keeps.ensures.kept in
+    rw (c.if-not-keeps.ensures.same, ← c.self.view_is)
     (Took-fallen _ c.args.frame c.self.invariant dry (rw (← c.self.view_is) at c.requires.not_ended) _ c.in-Some.oldest _ _ c.in-Some.ensures.oldest c.in-Some.ensures.items kept refl)

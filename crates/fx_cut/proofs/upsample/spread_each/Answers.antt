@@ -8,7 +8,7 @@ use Rattle.fx_frame.proofs.Feeding.{drop-put}
 use Rattle.fx_cut.specs.Lists.{spread}
 use Rattle.fx_cut.proofs.Pieces.{put-piece}
 use Rattle.fx_cut.proofs.UpsampleMany.{group-pieces, pieces-group, spread-more}
-use Rattle.fx_cut.proofs.upsample.spread_frames.Goals as goal
+use Rattle.fx_cut.proofs.upsample.spread_each.Goals as goal
 
 pub frames-preserved : goal.frames-preserved
 frames-preserved c =

@@ -6,7 +6,7 @@ use Rattle.fx_frame.proofs.Feeding.{drop-put, pieces-put}
 use Rattle.fx_cut.specs.Lists.{firsts}
 use Rattle.fx_cut.proofs.DownsampleMany.{firsts-more}
 use Rattle.fx_cut.proofs.Pieces.{put-piece}
-use Rattle.fx_cut.proofs.downsample.copy_firsts.Goals as goal
+use Rattle.fx_cut.proofs.downsample.copy_groups.Goals as goal
 
 pub groups-preserved : goal.groups-preserved
 groups-preserved c =

@@ -1,7 +1,7 @@
 use Rattle.std.proofs.Common.{◌≡◌, ◌*◌, drop}
 use Rattle.fx_frame.specs.Ring.{pieces}
 use Rattle.fx_cut.specs.Lists.{spread}
-use Rattle.fx_cut.proofs.upsample.spread_frames.Given as goal
+use Rattle.fx_cut.proofs.upsample.spread_each.Given as goal
 
 abbrev pub invariant-frames : goal.invariant-frames
 invariant-frames l = record {

@@ -1,0 +1,23 @@
+use Rattle.std.proofs.Common.{◌≡◌, ◌∙◌, [], ◌≤◌, refl, sym, arith, length, take, drop}
+use Rattle.std.proofs.lemmas.List.{take_all}
+use Rattle.fx_cut.proofs.Hands.{empty_of}
+use Rattle.fx_cut.proofs.lines.push_over.Goals as goal
+
+pub returns-then-capacity-eq0-clause-items : goal.returns-then-capacity-eq0-clause-items
+returns-then-capacity-eq0-clause-items c =
+    let within = c.capacity.ensures.line.within in
+    let short : c.args.line.now.capacity ≡ 0 = sym c.capacity.ensures.capacity ∙ c.if-capacity-eq0.true in
+    let none : c.args.line.now.items ≡ [] = empty_of c.args.line.now.items (omega (arith, within, short)) in
+    rw (short, none) refl
+
+pub returns-then-capacity-eq0-clause-oldest : goal.returns-then-capacity-eq0-clause-oldest
+returns-then-capacity-eq0-clause-oldest c =
+    let within = c.capacity.ensures.line.within in
+    let short : c.args.line.now.capacity ≡ 0 = sym c.capacity.ensures.capacity ∙ c.if-capacity-eq0.true in
+    let none : c.args.line.now.items ≡ [] = empty_of c.args.line.now.items (omega (arith, within, short)) in
+    rw (short, none) refl
+
+pub returns-then-capacity-eq0-clause-frame : goal.returns-then-capacity-eq0-clause-frame
+returns-then-capacity-eq0-clause-frame c = λ out.
+    let whole : take (length c.args.samples.now) (drop 0 c.args.samples.now) ≡ c.args.samples.now = take_all (length c.args.samples.now) c.args.samples.now (omega arith) in
+    rw (c.frame_at-frame.ensures.frame, whole) at c.channels-channels.ensures.frame

@@ -1,0 +1,28 @@
+//! Lines that may have no places.
+ghost use Rattle.std.specs.Prelude.{◌≡◌, ◌≤◌, length, true, None, Some, if◌then◌else◌};
+ghost use Rattle.fx_frame.specs.Frame.{IsFrame};
+ghost use Rattle.fx_frame.specs.Line.{pushed, pushed_out};
+
+use fx_frame::Line;
+use fx_frame::feed::frame_at;
+
+/// What `push_over` of a line does. A line with no places stays as it is, and hands the frame back.
+#[inline(always)]
+pub fn push_over(line: &mut Line, samples: &mut [i32]) -> bool
+    requires channels { length samples.old ≡ line.old.channels }
+    requires frame { (1 ≤ length samples.old) × (length samples.old ≤ 16) }
+    ensures items { line.new.items ≡ pushed line.old samples.old }
+    ensures capacity { line.new.capacity ≡ line.old.capacity }
+    ensures channels { line.new.channels ≡ line.old.channels }
+    ensures oldest { pushed_out line.old samples.old ≡ (if result then Some samples.new else None) }
+    ensures frame { result ≡ true → IsFrame samples.new }
+    ensures len { length samples.new ≡ length samples.old }
+{
+    if line.capacity() == 0 {
+        // That its samples fit is known of a frame: this makes one for that alone, and nothing is left of it in the program.
+        let frame = frame_at(samples, 0, samples.len());
+        let _channels = frame.channels();
+        return true;
+    }
+    line.push_over(samples)
+}
