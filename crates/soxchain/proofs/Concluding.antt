@@ -49,21 +49,21 @@ module _ {R W : Type 0} (rest : R → Option (List ℕ)) (told reads : R → ℕ
     Ok u.line,
     line-reads (line_of words) u.line u.is_line,
     record {
-      outcome = Err (Refused u.refusal);
+      outcome = Err (Refused u.unready.refusal);
       is = record {
         whole = tt;
         all_flushed = tt;
         unfailed = tt;
         clean = λ r e. refl;
         refused = λ f e other bytes known.
-            let same : u.refusal ≡ Head f = cc in
-            u.head_refused f same other bytes (to_come-start rest (fresh reader) reader bytes refl refl known);
+            let same : u.unready.refusal ≡ Head f = cc in
+            u.unready.head_refused f same other bytes (to_come-start rest (fresh reader) reader bytes refl refl known);
         cut = λ e.
-            let same : u.refusal ≡ Head ReadFailed = cc in
-            (new, u.head_cut ReadFailed same refl, sym is);
+            let same : u.unready.refusal ≡ Head ReadFailed = cc in
+            (new, u.unready.head_cut ReadFailed same refl, sym is);
         unplanned = λ f e bytes known.
-            let same : u.refusal ≡ Plan f = cc in
-            let found = u.plan_refused f same in
+            let same : u.unready.refusal ≡ Plan f = cc in
+            let found = u.unready.plan_refused f same in
             let head = found.read bytes (to_come-start rest (fresh reader) reader bytes refl refl known) in
             record {
               head = found.head;
@@ -72,8 +72,8 @@ module _ {R W : Type 0} (rest : R → Option (List ℕ)) (told reads : R → ℕ
               refuses = found.refuses;
             };
         unchained = λ e bytes known.
-            let same : u.refusal ≡ Chain = cc in
-            let found = u.chain_refused same in
+            let same : u.unready.refusal ≡ Chain = cc in
+            let found = u.unready.chain_refused same in
             let head = found.read bytes (to_come-start rest (fresh reader) reader bytes refl refl known) in
             record {
               head = found.head;
@@ -83,12 +83,12 @@ module _ {R W : Type 0} (rest : R → Option (List ℕ)) (told reads : R → ℕ
             };
         stopped = λ f e. absurd (cc);
         causes = λ s e.
-            let same : Refused u.refusal ≡ s = cc in
-            subst (λ (t : Stop). StopHasCause t (reads reader) (reads inner) (writes writer) (writes writer)) same (rw (← is) at u.cause);
+            let same : Refused u.unready.refusal ≡ s = cc in
+            subst (λ (t : Stop). StopHasCause t (reads reader) (reads inner) (writes writer) (writes writer)) same (rw (← is) at u.unready.cause);
       };
-      status_is = u.status_is;
+      status_is = u.unready.status_is;
       report_is = refl;
-      told = u.told;
+      told = u.unready.told;
     },
   )
 

@@ -22,10 +22,8 @@ pub record LineRefused {R : Type 0} (words : List (List ℕ)) (old new : Held R)
   pub unread : new ≡ old
   pub told : IsTold (line_message (line_label fault))
 
--- The head or the plan is refused, or no memory was found for the chain: one message says why.
-pub record LineUnready {R : Type 0} (rest : R → Option (List ℕ)) (told_by reads : R → ℕ) (words : List (List ℕ)) (files : List (List ℕ)) (old new : Held R) (IsTold : List ℕ → Type 0) (status : ℕ) : Type 0 where
-  pub line : Said
-  pub is_line : line_of words ≡ Ok line
+-- Nothing is ready for a line: its head or its plan is refused, or no memory was found for its chain. One message says why.
+pub record Unready {R : Type 0} (rest : R → Option (List ℕ)) (told_by reads : R → ℕ) (line : Said) (files : List (List ℕ)) (old new : Held R) (IsTold : List ℕ → Type 0) (status : ℕ) : Type 0 where
   pub refusal : Refusal
   pub head_refused : (f : HeadFault) → refusal ≡ Head f → Refuses rest (head_of line.input_kind) old f
   pub head_cut : (f : HeadFault) → refusal ≡ Head f → Fails rest told_by (head_of line.input_kind) old new f
@@ -34,3 +32,9 @@ pub record LineUnready {R : Type 0} (rest : R → Option (List ℕ)) (told_by re
   pub cause : RefusalHasCause refusal (reads old.reader) (reads new.reader)
   pub status_is : status ≡ status_of_refusal refusal
   pub told : IsTold (refusal_message line refusal)
+
+-- The words are a command line, and nothing is ready for it.
+pub record LineUnready {R : Type 0} (rest : R → Option (List ℕ)) (told_by reads : R → ℕ) (words : List (List ℕ)) (files : List (List ℕ)) (old new : Held R) (IsTold : List ℕ → Type 0) (status : ℕ) : Type 0 where
+  pub line : Said
+  pub is_line : line_of words ≡ Ok line
+  pub unready : Unready rest told_by reads line files old new IsTold status

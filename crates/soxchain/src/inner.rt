@@ -5,4 +5,5 @@ pub use crate::file_messages::{tell_cannot_open, tell_cannot_rewrite};
 pub use crate::messages::{label_of_line, tell_line, tell_refusal};
 pub use crate::prepared::Prepared;
 pub use crate::preparing::{Refusal, prepare_line, status_of_fault};
+pub use crate::ready::{finish_for, prepare_for, refuse_line};
 pub use crate::telling::Telling;

@@ -10,7 +10,9 @@ ghost use Rattle.fx_sound.specs.Head.{ReadsHead};
 ghost use Rattle.fx_sound.specs.Known.{IfKnown};
 ghost use Rattle.fx_sound.specs.Source.{to_come};
 ghost use Rattle.soxchain.specs.Finishing.{Finished};
-ghost use Rattle.soxchain.specs.Readying.{LineRefused, LineUnready};
+ghost use Rattle.soxchain.specs.Messages.{line_label, line_message};
+ghost use Rattle.soxchain.specs.Program.{status_of_line};
+ghost use Rattle.soxchain.specs.Readying.{LineRefused, LineUnready, Unready};
 ghost use Rattle.soxchain.specs.Telling.{Tells};
 
 use crate::messages::{label_of_line, tell_fault, tell_line, tell_refusal, tell_warnings};
@@ -19,7 +21,8 @@ use crate::preparing::{prepare_line, status_of_fault};
 use crate::telling::Telling;
 use fx_chain::{Report, run};
 use fx_frame::{ByteIn, ByteOut};
-use fx_plan::{Plan, parse_line};
+use fx_line::LineFault;
+use fx_plan::{CommandLine, Plan, parse_line};
 use fx_sound::Source;
 use std::alloc::Global;
 
@@ -30,6 +33,47 @@ impl Ready {
     {
         &self.prepared.plan
     }
+}
+
+/// Reads the head of a sound behind a command line that was read, and makes the plan of its effects and their chain; `files`
+/// are the bytes of the line's coefficient files, in order. Where they are refused, says why in one message and answers the
+/// status: 1 for a fault of the effects' words, 2 for every other.
+pub fn prepare_for<R: ByteIn, M: ByteOut>(
+    alloc: Global,
+    line: &CommandLine,
+    files: &[Vec<u8>],
+    source: &mut Source<R>,
+    messages: &mut M,
+) -> Result<Prepared, u8>
+    // The head, the plan and its chain, and no message.
+    ensures head { IfOk result (λ p. IfKnown (to_come R.rest source.old) (λ bytes. ReadsHead R.rest R.told line.now.input_kind bytes source.old source.new p.plan.head)) }
+    ensures no_faults { IfOk result (λ p. all_faults (head_layout p.plan.head) (bytes_of files.now) (effects_in line.now) ≡ []) }
+    ensures planned { IfOk result (λ p. planning p.plan ≡ planning_in p.plan.head line.now (bytes_of files.now)) }
+    ensures chain { IfOk result (λ p. IsNewChain (planning p.plan) p.chain) }
+    ensures unfailed { OnOk result (R.failures source.new.reader ≡ R.failures source.old.reader) }
+    ensures silent { OnOk result (messages.new ≡ messages.old) }
+
+    // What the line asks for is refused.
+    ensures refused { IfErr result (λ status. Unready R.rest R.told R.failures line.now (bytes_of files.now) source.old source.new (Tells (M.taken messages.old) (M.taken messages.new) (M.failures messages.old) (M.failures messages.new)) status) }
+{
+    match prepare_line(alloc, line, files, source) {
+        Ok(prepared) => Ok(prepared),
+        Err(refusal) => {
+            let mut telling = Telling::new();
+            tell_refusal(&mut telling, messages, line, &refusal);
+            Err(refusal.status())
+        }
+    }
+}
+
+/// Says in one message why a command line is refused, and answers the status.
+pub fn refuse_line<M: ByteOut>(fault: LineFault, messages: &mut M) -> u8
+    ensures status { result ≡ status_of_line fault }
+    ensures told { Tells (M.taken messages.old) (M.taken messages.new) (M.failures messages.old) (M.failures messages.new) (line_message (line_label fault)) }
+{
+    let mut telling = Telling::new();
+    tell_line(&mut telling, messages, label_of_line(fault));
+    status_of_fault(fault)
 }
 
 /// Reads the words of a command line and the head of a sound, and makes the plan and its chain; `files` are the bytes of the
@@ -56,19 +100,37 @@ pub fn prepare<R: ByteIn, M: ByteOut>(
         LineRefused (texts words.now) source.old source.new (Tells (M.taken messages.old) (M.taken messages.new) (M.failures messages.old) (M.failures messages.new)) status
         ⊎ LineUnready R.rest R.told R.failures (texts words.now) (bytes_of files.now) source.old source.new (Tells (M.taken messages.old) (M.taken messages.new) (M.failures messages.old) (M.failures messages.new)) status) }
 {
-    let mut telling = Telling::new();
     let line = match parse_line(alloc, words) {
         Ok(line) => line,
-        Err(fault) => {
-            tell_line(&mut telling, messages, label_of_line(fault));
-            return Err(status_of_fault(fault));
-        }
+        Err(fault) => return Err(refuse_line(fault, messages)),
     };
-    match prepare_line(alloc, &line, files, source) {
+    match prepare_for(alloc, &line, files, source, messages) {
         Ok(prepared) => Ok(Ready { line, prepared }),
-        Err(refusal) => {
-            tell_refusal(&mut telling, messages, &line, &refusal);
-            Err(refusal.status())
+        Err(status) => Err(status),
+    }
+}
+
+/// As `finish`, for a command line that is kept.
+pub fn finish_for<R: ByteIn, W: ByteOut, M: ByteOut>(
+    line: &CommandLine,
+    prepared: Prepared,
+    source: &mut Source<R>,
+    output: &mut W,
+    messages: &mut M,
+) -> (u8, Report)
+    requires { IsNewChain (planning prepared.plan) prepared.chain }
+    ensures { Finished R.rest R.told R.failures W.taken W.flushed W.failures (record { line = line.now; prepared = prepared }) source.old source.new output.old output.new (Tells (M.taken messages.old) (M.taken messages.new) (M.failures messages.old) (M.failures messages.new)) result.0 result.1 }
+{
+    let mut telling = Telling::new();
+    let Prepared { plan, mut chain } = prepared;
+    match run(&mut chain, &plan, source, output) {
+        Ok(report) => {
+            tell_warnings(&mut telling, messages, line, &report);
+            (0, report)
+        }
+        Err(fault) => {
+            tell_fault(&mut telling, messages, line, &fault);
+            (2, fault.report())
         }
     }
 }
@@ -84,17 +146,6 @@ pub fn finish<R: ByteIn, W: ByteOut, M: ByteOut>(
     requires { IsNewChain (planning ready.prepared.plan) ready.prepared.chain }
     ensures { Finished R.rest R.told R.failures W.taken W.flushed W.failures ready source.old source.new output.old output.new (Tells (M.taken messages.old) (M.taken messages.new) (M.failures messages.old) (M.failures messages.new)) result.0 result.1 }
 {
-    let mut telling = Telling::new();
     let Ready { line, prepared } = ready;
-    let Prepared { plan, mut chain } = prepared;
-    match run(&mut chain, &plan, source, output) {
-        Ok(report) => {
-            tell_warnings(&mut telling, messages, &line, &report);
-            (0, report)
-        }
-        Err(fault) => {
-            tell_fault(&mut telling, messages, &line, &fault);
-            (2, fault.report())
-        }
-    }
+    finish_for(&line, prepared, source, output, messages)
 }

@@ -2,20 +2,22 @@
 ghost use Rattle.std.specs.Prelude.{◌≡◌, OnOk};
 ghost use Rattle.fx_chain.specs.Chain.{IsNewChain};
 ghost use Rattle.fx_plan.specs.Planning.{planning};
+ghost use Rattle.fx_plan.specs.Plans.{bytes_of};
 ghost use Rattle.fx_chain.specs.declared.report.Report.{Report};
 ghost use Rattle.soxchain.specs.FileMessages.{open_message, rewrite_message};
 ghost use Rattle.soxchain.specs.Finishing.{Finished};
 ghost use Rattle.soxchain.specs.Telling.{Tells};
 ghost use Rattle.soxchain_cli.specs.Heads.{true_head};
 ghost use Rattle.soxchain_cli.specs.Named.{Files, WritesOver};
+ghost use Rattle.soxchain_cli.specs.Working.{Lines, Sounds, ready_for};
 
-use crate::same_file::create_beside;
+use crate::host::Host;
 use fx_frame::{ByteIn, ByteOut, Counted};
 use fx_plan::{CommandLine, Stream};
 use fx_sound::{HeadBytes, Source, head_bytes};
-use soxchain::inner::{Telling, tell_cannot_open, tell_cannot_rewrite};
-use soxchain::{Ready, finish, prepare};
-use std::fs::File;
+use soxchain::inner::{
+    Prepared, Telling, finish_for, prepare_for, tell_cannot_open, tell_cannot_rewrite,
+};
 use std::io;
 use std::io::{Seek, Write};
 
@@ -39,49 +41,55 @@ fn cannot_rewrite<M: ByteOut>(messages: &mut M, name: &str) -> u8
     2
 }
 
-/// What the command line asks for: its words, read, and the bytes of its coefficient files.
-#[derive(Drop)]
-pub struct Asked<'a> {
-    /// All words, without the program's name.
-    pub words: &'a [String],
-    /// The words, read.
-    pub line: &'a CommandLine,
-    /// The bytes of each coefficient file, in order.
-    pub files: &'a [Vec<u8>],
-}
-
-/// Does what is asked, from IN to OUT, and answers the status.
-pub fn process<M: ByteOut>(rt: &HostRuntime, asked: &Asked<'_>, messages: &mut M) -> u8 {
-    match asked.line.input() {
-        Stream::Standard => process_from(rt, asked, Counted::new(rt.stdin()), messages),
-        Stream::Named(name) => match File::open(rt, name) {
-            Ok(file) => process_from(rt, asked, Counted::new(file), messages),
+/// Does what a line asks for, from IN to OUT, with the bytes of its coefficient files, and answers the status.
+pub fn process<H: Host, M: ByteOut>(
+    host: &H,
+    line: &CommandLine,
+    files: &[Vec<u8>],
+    messages: &mut M,
+) -> u8
+    ensures { Lines (record { input = H.Input.remaining; file = H.Reader.remaining; output = H.Output.contents; created = H.Created.contents; position = H.Created.stream_position })
+        (H.machine host.now) (record { taken = M.taken; failures = M.failures }) (record { opened = H.opened host.now; unopened = H.unopened host.now })
+        line.now (bytes_of files.now) messages.old messages.new result }
+{
+    match line.input() {
+        Stream::Standard => {
+            let reader = Counted::new(host.input());
+            process_from(host, line, files, reader, messages)
+        }
+        Stream::Named(name) => match host.open(name) {
+            Ok(file) => process_from(host, line, files, Counted::new(file), messages),
             Err(_) => cannot_open(messages, name),
         },
     }
 }
 
-/// Does what is asked to the sound of a reader. OUT is created only once the chain stands.
-fn process_from<R: ByteIn + Drop, M: ByteOut>(
-    rt: &HostRuntime,
-    asked: &Asked<'_>,
+/// Does what a line asks for to the sound of a reader. OUT is created only once the chain stands.
+fn process_from<H: Host, R: ByteIn + Drop, M: ByteOut>(
+    host: &H,
+    line: &CommandLine,
+    files: &[Vec<u8>],
     reader: R,
     messages: &mut M,
-) -> u8 {
+) -> u8
+    ensures { Sounds (record { input = H.Input.remaining; file = H.Reader.remaining; output = H.Output.contents; created = H.Created.contents; position = H.Created.stream_position })
+        (H.machine host.now) (record { taken = M.taken; failures = M.failures }) (record { rest = R.rest; told = R.told; failures = R.failures })
+        line.now (bytes_of files.now) reader messages.old messages.new result }
+{
     let mut source = Source::new(reader);
-    let ready = match prepare(rt.alloc(), asked.words, asked.files, &mut source, messages) {
-        Ok(ready) => ready,
+    let prepared = match prepare_for(host.memory(), line, files, &mut source, messages) {
+        Ok(prepared) => prepared,
         Err(status) => return status,
     };
-    match asked.line.output() {
+    match line.output() {
         Stream::Standard => {
-            let mut output = Counted::new(rt.stdout());
-            let (status, _report) = finish(ready, &mut source, &mut output, messages);
+            let mut output = Counted::new(host.output());
+            let (status, _report) = finish_for(line, prepared, &mut source, &mut output, messages);
             status
         }
-        Stream::Named(name) => match create_beside(rt, asked.line.input(), name) {
+        Stream::Named(name) => match host.create(line.input(), name) {
             Ok(file) => {
-                let (status, _file) = process_to(ready, &mut source, file, name, messages);
+                let (status, _file) = process_to(line, prepared, &mut source, file, name, messages);
                 status
             }
             Err(_) => cannot_open(messages, name),
@@ -89,40 +97,42 @@ fn process_from<R: ByteIn + Drop, M: ByteOut>(
     }
 }
 
-/// Runs what is ready. Answers the status, and the head with the true number of frames.
+/// Runs what is prepared for a line. Answers the status, and the head with the true number of frames.
 fn finish_with_head<R: ByteIn, W: ByteOut, M: ByteOut>(
-    ready: Ready,
+    line: &CommandLine,
+    prepared: Prepared,
     source: &mut Source<R>,
     output: &mut W,
     messages: &mut M,
 ) -> (u8, HeadBytes)
-    requires { IsNewChain (planning ready.prepared.plan) ready.prepared.chain }
+    requires { IsNewChain (planning prepared.plan) prepared.chain }
     ensures { (report : Report)
-        × Finished R.rest R.told R.failures W.taken W.flushed W.failures ready source.old source.new output.old output.new (Tells (M.taken messages.old) (M.taken messages.new) (M.failures messages.old) (M.failures messages.new)) result.0 report
-        × (result.1 ≡ true_head (planning ready.prepared.plan) report) }
+        × Finished R.rest R.told R.failures W.taken W.flushed W.failures (ready_for line.now prepared) source.old source.new output.old output.new (Tells (M.taken messages.old) (M.taken messages.new) (M.failures messages.old) (M.failures messages.new)) result.0 report
+        × (result.1 ≡ true_head (planning prepared.plan) report) }
 {
-    let plan = ready.plan();
+    let plan = &prepared.plan;
     let (kind, coding) = (plan.kind(), plan.coding());
     let (rate, channels) = (plan.rate(), plan.channels());
-    let (status, report) = finish(ready, source, output, messages);
+    let (status, report) = finish_for(line, prepared, source, output, messages);
     let head = head_bytes(kind, rate, channels, coding, Some(report.frames_out));
     (status, head)
 }
 
-/// Runs what is ready and writes it to a new file. Without a fault the head is then written once more, with the true sizes.
+/// Runs what is prepared and writes it to a new file. Without a fault the head is then written once more, with the true sizes.
 /// Answers the status, and the file.
 fn process_to<R: ByteIn, F: Write + Seek, M: ByteOut>(
-    ready: Ready,
+    line: &CommandLine,
+    prepared: Prepared,
     source: &mut Source<R>,
     file: F,
     name: &str,
     messages: &mut M,
 ) -> (u8, F)
-    requires { IsNewChain (planning ready.prepared.plan) ready.prepared.chain }
-    ensures { Files R.rest R.told R.failures F.contents F.stream_position M.taken M.failures ready source.old source.new file result.1 name.now messages.old messages.new result.0 }
+    requires { IsNewChain (planning prepared.plan) prepared.chain }
+    ensures { Files R.rest R.told R.failures F.contents F.stream_position M.taken M.failures (ready_for line.now prepared) source.old source.new file result.1 name.now messages.old messages.new result.0 }
 {
     let mut output = Counted::new(file);
-    let (status, head) = finish_with_head(ready, source, &mut output, messages);
+    let (status, head) = finish_with_head(line, prepared, source, &mut output, messages);
     let mut file = output.into_inner();
     if status != 0 {
         return (status, file);

@@ -1,11 +1,13 @@
 //! What the program says of itself, on standard output.
+ghost use Rattle.soxchain_cli.specs.Working.{IsShown};
 
 use crate::files::cannot_open;
+use crate::host::Host;
 use fx_frame::ByteOut;
-use soxchain_about::{VERSION, answer_to, show};
+use soxchain_about::show;
 
 /// The answer to `--help`.
-const HELP: &str = "usage: soxchain [-D] [-t wav|au] IN [-D] [-t wav|au] [-b 8|16|24|32] OUT
+pub const HELP: &str = "usage: soxchain [-D] [-t wav|au] IN [-D] [-t wav|au] [-b 8|16|24|32] OUT
                 [EFFECT [WORD ..] ..]
        soxchain --help | --version
 
@@ -38,14 +40,12 @@ soxchain-plan says in advance, with the same words, what a chain would do.
 The manual: man soxchain
 ";
 
-/// The answer to the words, where they are `--help` or `--version` alone.
-pub fn answer_of(words: &[String]) -> Option<&'static str> {
-    answer_to(words, HELP, VERSION)
-}
-
 /// Writes an answer to standard output, and answers the status.
-pub fn tell_answer<M: ByteOut>(rt: &HostRuntime, answer: &str, messages: &mut M) -> u8 {
-    match show(&mut rt.stdout(), answer) {
+pub fn tell_answer<H: Host, M: ByteOut>(host: &H, answer: &str, messages: &mut M) -> u8
+    ensures { IsShown (record { input = H.Input.remaining; file = H.Reader.remaining; output = H.Output.contents; created = H.Created.contents; position = H.Created.stream_position })
+        (H.machine host.now) (record { taken = M.taken; failures = M.failures }) answer.now messages.old messages.new result }
+{
+    match show(&mut host.output(), answer) {
         Ok(()) => 0,
         Err(_) => cannot_open(messages, "-"),
     }

@@ -1,64 +1,60 @@
 //! The program soxchain: from a file or standard input to a file or standard output, messages on standard error.
 #![tactic(auto)]
 
-ghost use Rattle.std.specs.Prelude.{◌≡◌};
-ghost use Rattle.soxchain.specs.Messages.{line_label, line_message};
-ghost use Rattle.soxchain.specs.Program.{status_of_line};
-ghost use Rattle.soxchain.specs.Telling.{Tells};
+ghost use Rattle.soxchain_about.specs.About.{answer_of};
+ghost use Rattle.soxchain_cli.specs.Working.{Answers, Works};
 
 mod files;
 mod help;
+mod host;
 mod same_file;
 mod until_fault;
 
-use files::{Asked, cannot_open, process};
+use files::{cannot_open, process};
 use fx_frame::{ByteOut, Counted};
-use fx_plan::{LineFault, parse_line};
-use help::{answer_of, tell_answer};
-use soxchain::inner::{Telling, label_of_line, status_of_fault, tell_line};
-use soxchain_words::{FilesFault, fault_of, read_files, words_of};
+use fx_plan::{CommandLine, LineFault, parse_line};
+use help::{HELP, tell_answer};
+use host::Host;
+use soxchain::inner::refuse_line;
+use soxchain_about::{VERSION, answer_to};
+use soxchain_words::{FilesFault, fault_of, read_files};
 use std::process::ExitCode;
 use until_fault::UntilFault;
 
-/// Tells why the words are refused, and answers the status.
-fn refused<M: ByteOut>(messages: &mut M, fault: LineFault) -> u8
-    ensures status { result ≡ status_of_line fault }
-    ensures told { Tells (M.taken messages.old) (M.taken messages.new) (M.failures messages.old) (M.failures messages.new) (line_message (line_label fault)) }
+/// Does what a line asks for, and answers the status.
+fn work_line<H: Host, M: ByteOut>(host: &H, line: &CommandLine, messages: &mut M) -> u8
+    ensures { Works (record { input = H.Input.remaining; file = H.Reader.remaining; output = H.Output.contents; created = H.Created.contents; position = H.Created.stream_position })
+        (H.machine host.now) (record { taken = M.taken; failures = M.failures }) (record { opened = H.opened host.now; unopened = H.unopened host.now })
+        line.now messages.old messages.new result }
 {
-    let mut telling = Telling::new();
-    tell_line(&mut telling, messages, label_of_line(fault));
-    status_of_fault(fault)
+    let files = match read_files(host.memory(), host, line) {
+        Ok(files) => files,
+        Err(FilesFault::CannotRead(name)) => return cannot_open(messages, name),
+        Err(FilesFault::Memory) => return refuse_line(LineFault::Memory, messages),
+    };
+    process(host, line, &files, messages)
 }
 
 /// Does what the words ask for, and answers the status.
-fn work<M: ByteOut>(rt: &HostRuntime, messages: &mut M) -> Result<u8, u8> {
-    let words = match words_of(rt) {
+fn work<H: Host, M: ByteOut>(host: &H, messages: &mut M) -> u8
+    ensures { Answers (record { input = H.Input.remaining; file = H.Reader.remaining; output = H.Output.contents; created = H.Created.contents; position = H.Created.stream_position })
+        (H.machine host.now) (record { taken = M.taken; failures = M.failures }) (record { opened = H.opened host.now; unopened = H.unopened host.now })
+        (answer_of HELP.now VERSION.now) messages.old messages.new result }
+{
+    let words = match host.words() {
         Ok(words) => words,
-        Err(error) => return Err(refused(messages, fault_of(&error))),
+        Err(error) => return refuse_line(fault_of(&error), messages),
     };
-    if let Some(answer) = answer_of(&words) {
-        return Ok(tell_answer(rt, answer, messages));
+    if let Some(answer) = answer_to(&words, HELP, VERSION) {
+        return tell_answer(host, answer, messages);
     }
-    let line = match parse_line(rt.alloc(), &words) {
-        Ok(line) => line,
-        Err(fault) => return Err(refused(messages, fault)),
-    };
-    let files = match read_files(rt.alloc(), rt, &line) {
-        Ok(files) => files,
-        Err(FilesFault::CannotRead(name)) => return Err(cannot_open(messages, name)),
-        Err(FilesFault::Memory) => return Err(refused(messages, LineFault::Memory)),
-    };
-    let asked = Asked {
-        words: &words,
-        line: &line,
-        files: &files,
-    };
-    Ok(process(rt, &asked, messages))
+    match parse_line(host.memory(), &words) {
+        Ok(line) => work_line(host, &line, messages),
+        Err(fault) => refuse_line(fault, messages),
+    }
 }
 
 fn main(rt: HostRuntime) -> ExitCode {
     let mut messages = Counted::new(UntilFault::new(rt.stderr()));
-    match work(&rt, &mut messages) {
-        Ok(status) | Err(status) => ExitCode::from(status),
-    }
+    ExitCode::from(work(&rt, &mut messages))
 }

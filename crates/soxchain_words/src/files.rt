@@ -23,9 +23,13 @@ pub trait Openings {
     // Was the file of this name opened so?
     ghost opened: { Self → List ℕ → Self.Reader → Type 0 };
 
+    // Was an opening of the file of this name refused?
+    ghost unopened: { Self → List ℕ → Type 0 };
+
     /// Opens the file of this name.
     fn open(&self, name: &str) -> io::Result<Self::Reader>
-        ensures { IfOk result (λ reader. opened self.now name.now reader) };
+        ensures opened { IfOk result (λ reader. opened self.now name.now reader) }
+        ensures refused { IfErr result (λ _. unopened self.now name.now) };
 }
 
 impl Openings for HostRuntime {
@@ -33,6 +37,8 @@ impl Openings for HostRuntime {
 
     // Of the files of the machine nothing is known.
     ghost opened = { λ _ _ _. ⊤ };
+
+    ghost unopened = { λ _ _. ⊤ };
 
     fn open(&self, name: &str) -> io::Result<File> {
         File::open(self, name)

@@ -1,5 +1,5 @@
 use Rattle.soxchain.proofs.TellingLemmas.{Tells-first}
-use Rattle.soxchain_cli.proofs.refused.Goals as goal
+use Rattle.soxchain.proofs.ready.refuse_line.Goals as goal
 
 pub returns-clause-told : goal.returns-clause-told
 returns-clause-told g c = Tells-first _ _ _ _ _ _ _ c.new-telling.ensures (rw (c.label_of_line.ensures) at c.tell_line.ensures)

@@ -3,7 +3,7 @@ use Rattle.std.specs.Prelude.{Ok, Err}
 use Rattle.fx_chain.specs.Report.{cause_of}
 use Rattle.soxchain.proofs.Converting.{HasCause-map, ReadFirst-new, wants-new}
 use Rattle.soxchain.proofs.TellingLemmas.{Tells-first}
-use Rattle.soxchain.proofs.ready.finish.Goals as goal
+use Rattle.soxchain.proofs.ready.finish_for.Goals as goal
 
 pub returns-in-Ok : goal.returns-in-Ok
 returns-in-Ok g c = record {

@@ -1,0 +1,192 @@
+-- What the program does, on any machine (this project's profile).
+use Rattle.std.specs.Prelude.{◌≡◌, ◌≢◌, ℕ, true, List, [], Option, Some, None, Ok, Err, codes}
+use Rattle.std.specs.Io.KnownBytes.{Appends}
+use Rattle.std.specs.declared.io.ErrorKind.{ErrorKind}
+use Rattle.std.specs.declared.io.ErrorKind.TheVariants as ErrorKinds
+use Rattle.fx_chain.specs.Chain.{IsNewChain}
+use Rattle.fx_chain.specs.declared.report.Report.{Report}
+use Rattle.fx_frame.specs.Counted.{Counts}
+use Rattle.fx_line.specs.declared.line.LineFault.{LineFault}
+use Rattle.fx_line.specs.declared.line.LineFault.TheVariants as LineFaults
+use Rattle.fx_line.specs.Line.{Said, line_of}
+use Rattle.fx_plan.specs.CommandLines.{LineReads, coefficient_files, effects_in, file_name, planning_in}
+use Rattle.fx_plan.specs.Effects.{head_layout}
+use Rattle.fx_plan.specs.Planning.{planning}
+use Rattle.fx_plan.specs.Plans.{all_faults}
+use Rattle.fx_sound.specs.Head.{ReadsHead}
+use Rattle.fx_sound.specs.Known.{IfKnown}
+use Rattle.fx_sound.specs.Source.{Held, to_come}
+use Rattle.soxchain.specs.declared.prepared.Prepared.{Prepared}
+use Rattle.soxchain.specs.declared.prepared.Ready.{Ready}
+use Rattle.soxchain.specs.FileMessages.{open_message}
+use Rattle.soxchain.specs.Finishing.{Finished}
+use Rattle.soxchain.specs.Messages.{line_label, line_message}
+use Rattle.soxchain.specs.Program.{status_of_line}
+use Rattle.soxchain.specs.Readying.{Unready}
+use Rattle.soxchain.specs.Telling.{Tells}
+use Rattle.soxchain_cli.specs.Named.{Files}
+use Rattle.soxchain_words.specs.Files.{AreFronts, IsNamed}
+
+-- A machine, by what it answered: the words behind the program's name, or why they could not be had; its standard streams; and the
+-- files that it created beside an input of a name, or beside standard input, or refused to create.
+pub record Machine (I O F : Type 0) : Type 1 where
+  pub asked : List (List ℕ) → Type 0
+  pub mute : ErrorKind → Type 0
+  pub is_input : I → Type 0
+  pub is_output : O → Type 0
+  pub created : Option (List ℕ) → List ℕ → F → Type 0
+  pub uncreated : Option (List ℕ) → List ℕ → Type 0
+
+-- The files that were opened to read, by their names, and the names whose opening was refused.
+pub record Opened (R : Type 0) : Type 1 where
+  pub opened : List ℕ → R → Type 0
+  pub unopened : List ℕ → Type 0
+
+-- how streams and files are known: the bytes to come of standard input and of a file that is read, the bytes of standard output and
+-- of a file that was created, and the place in that file
+pub record Devices (I R O F : Type 0) : Type 0 where
+  pub input : I → Option (List ℕ)
+  pub file : R → Option (List ℕ)
+  pub output : O → Option (List ℕ)
+  pub created : F → Option (List ℕ)
+  pub position : F → Option ℕ
+
+-- how a reader is known: the bytes to come, how many were told, and how many reads failed
+pub record Inlet (R : Type 0) : Type 0 where
+  pub rest : R → Option (List ℕ)
+  pub told : R → ℕ
+  pub failures : R → ℕ
+
+-- how a writer of messages is known: the bytes that it took, and how many calls failed
+pub record Outlet (M : Type 0) : Type 0 where
+  pub taken : M → Option (List ℕ)
+  pub failures : M → ℕ
+
+-- a reader with its counts
+abbrev pub counted : {R : Type 0} → (R → Option (List ℕ)) → Inlet (Counts R)
+counted rest = record { rest = λ c. rest c.inner; told = λ c. c.told; failures = λ c. c.failures }
+
+-- a reader or writer that has counted nothing
+abbrev pub uncounted : {T : Type 0} → T → Counts T
+uncounted inner = record { inner = inner; told = 0; failures = 0; flushed = true }
+
+-- a message was written, or a front of it where the writer failed
+abbrev pub Says : {M : Type 0} → Outlet M → M → M → List ℕ → Type 0
+Says outlet old new = Tells (outlet.taken old) (outlet.taken new) (outlet.failures old) (outlet.failures new)
+
+-- What a line asks for is prepared behind the head of a sound: its plan, without a fault, and the chain, which is new.
+pub record IsPrepared {R : Type 0} (inlet : Inlet R) (line : Said) (files : List (List ℕ)) (reader : R) (source : Held R) (prepared : Prepared) : Type 0 where
+  pub head : IfKnown (to_come inlet.rest (record { bytes = []; reader = reader })) (λ bytes. ReadsHead inlet.rest inlet.told line.input_kind bytes (record { bytes = []; reader = reader }) source prepared.plan.head)
+  pub no_faults : all_faults (head_layout prepared.plan.head) files (effects_in line) ≡ []
+  pub planned : planning prepared.plan ≡ planning_in prepared.plan.head line files
+  pub chain : IsNewChain (planning prepared.plan) prepared.chain
+  pub unfailed : inlet.failures source.reader ≡ inlet.failures reader
+
+-- a line, and what is prepared for it
+abbrev pub ready_for : Said → Prepared → Ready
+ready_for line prepared = record { line = line; prepared = prepared }
+
+module _ {I R O F M : Type 0} (d : Devices I R O F) (m : Machine I O F) (outlet : Outlet M) where
+  -- What becomes of a sound: nothing was ready for it; or OUT could not be created; or it ran to standard output, or into the new
+  -- file of OUT's own name.
+  pub data Sounds {X : Type 0} (inlet : Inlet X) (line : Said) (files : List (List ℕ)) (reader : X) (old new : M) (status : ℕ) : Type 0 where
+    Refused : (source : Held X)
+        → Unready inlet.rest inlet.told inlet.failures line files (record { bytes = []; reader = reader }) source (Says outlet old new) status
+        → Sounds inlet line files reader old new status
+    Uncreated : (source : Held X) (prepared : Prepared) (name : List ℕ)
+        → IsPrepared inlet line files reader source prepared
+        → file_name line.output ≡ Some name
+        → m.uncreated (file_name line.input) name
+        → status ≡ 2
+        → Says outlet old new (open_message name)
+        → Sounds inlet line files reader old new status
+    Streamed : (source left : Held X) (prepared : Prepared) (output : O) (ended : Counts O) (report : Report)
+        → IsPrepared inlet line files reader source prepared
+        → file_name line.output ≡ None
+        → m.is_output output
+        → Finished inlet.rest inlet.told inlet.failures (λ (w : Counts O). d.output w.inner) (λ (w : Counts O). w.flushed) (λ (w : Counts O). w.failures) (ready_for line prepared) source left (uncounted output) ended (Says outlet old new) status report
+        → Sounds inlet line files reader old new status
+    Filed : (source left : Held X) (prepared : Prepared) (name : List ℕ) (file ended : F)
+        → IsPrepared inlet line files reader source prepared
+        → file_name line.output ≡ Some name
+        → m.created (file_name line.input) name file
+        → Files inlet.rest inlet.told inlet.failures d.created d.position outlet.taken outlet.failures (ready_for line prepared) source left file ended name old new status
+        → Sounds inlet line files reader old new status
+
+  -- What becomes of a line whose coefficient files are there: IN could not be opened; or its sound was gone through, from standard
+  -- input or from the file of IN's own name.
+  pub data Lines (o : Opened R) (line : Said) (files : List (List ℕ)) (old new : M) (status : ℕ) : Type 0 where
+    Unopened : (name : List ℕ)
+        → file_name line.input ≡ Some name
+        → o.unopened name
+        → status ≡ 2
+        → Says outlet old new (open_message name)
+        → Lines o line files old new status
+    Standard : (input : I)
+        → file_name line.input ≡ None
+        → m.is_input input
+        → Sounds (counted d.input) line files (uncounted input) old new status
+        → Lines o line files old new status
+    Named : (name : List ℕ) (reader : R)
+        → file_name line.input ≡ Some name
+        → o.opened name reader
+        → Sounds (counted d.file) line files (uncounted reader) old new status
+        → Lines o line files old new status
+
+  -- What becomes of a line: a coefficient file that it names could not be read; or there was no memory for their names; or they
+  -- are there, each its own.
+  pub data Works (o : Opened R) (line : Said) (old new : M) (status : ℕ) : Type 0 where
+    Unread : (name : List ℕ)
+        → IsNamed (coefficient_files (effects_in line)) name
+        → status ≡ 2
+        → Says outlet old new (open_message name)
+        → Works o line old new status
+    Forgotten :
+        status ≡ status_of_line LineFaults.Memory
+        → Says outlet old new (line_message (line_label LineFaults.Memory))
+        → Works o line old new status
+    Read : (files : List (List ℕ))
+        → AreFronts o.opened d.file (coefficient_files (effects_in line)) files
+        → Lines o line files old new status
+        → Works o line old new status
+
+  -- A text was shown on standard output, or could not be.
+  pub data IsShown (text : List ℕ) (old new : M) (status : ℕ) : Type 0 where
+    Whole : (output ended : O)
+        → m.is_output output
+        → Appends (d.output output) (d.output ended) text
+        → status ≡ 0
+        → new ≡ old
+        → IsShown text old new status
+    Cut :
+        status ≡ 2
+        → Says outlet old new (open_message (codes "-"))
+        → IsShown text old new status
+
+  -- What the program does: the words could not be had; or they ask for a text; or they are refused; or they are a line.
+  pub data Answers (o : Opened R) (answer : List (List ℕ) → Option (List ℕ)) (old new : M) (status : ℕ) : Type 0 where
+    Mute : (kind : ErrorKind) (fault : LineFault)
+        → m.mute kind
+        → (kind ≡ ErrorKinds.OutOfMemory → fault ≡ LineFaults.Memory)
+        → (kind ≢ ErrorKinds.OutOfMemory → fault ≡ LineFaults.BadOption)
+        → status ≡ status_of_line fault
+        → Says outlet old new (line_message (line_label fault))
+        → Answers o answer old new status
+    Shown : (words : List (List ℕ)) (text : List ℕ)
+        → m.asked words
+        → answer words ≡ Some text
+        → IsShown text old new status
+        → Answers o answer old new status
+    BadWords : (words : List (List ℕ)) (fault : LineFault)
+        → m.asked words
+        → answer words ≡ None
+        → LineReads (line_of words) (Err fault)
+        → status ≡ status_of_line fault
+        → Says outlet old new (line_message (line_label fault))
+        → Answers o answer old new status
+    Worked : (words : List (List ℕ)) (line : Said)
+        → m.asked words
+        → answer words ≡ None
+        → line_of words ≡ Ok line
+        → Works o line old new status
+        → Answers o answer old new status

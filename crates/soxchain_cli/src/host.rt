@@ -1,0 +1,81 @@
+//! The machine that the program works on: its words, its standard streams and its files.
+ghost use Rattle.std.specs.Prelude.{IfErr, IfOk, ⊤};
+ghost use Rattle.std.specs.IoError.{error_kind};
+ghost use Rattle.fx_line.specs.Line.{texts};
+ghost use Rattle.fx_plan.specs.CommandLines.{name_in};
+ghost use Rattle.soxchain_cli.specs.Working.{Machine};
+
+use crate::same_file::create_beside;
+use fx_plan::Stream;
+use soxchain_words::{Openings, words_of};
+use std::alloc::Global;
+use std::fs::File;
+use std::io;
+use std::io::{Read, Seek, Stdin, Stdout, Write};
+
+/// What the program asks of the machine. What it does with the answers is proved over any such machine.
+pub trait Host: Openings {
+    /// Standard input.
+    type Input: Read + Drop;
+
+    /// Standard output.
+    type Output: Write + Drop;
+
+    /// A file that was created.
+    type Created: Write + Seek + Drop;
+
+    // What it answered.
+    ghost machine: { Self → Machine Self.Input Self.Output Self.Created };
+
+    /// Where memory comes from.
+    fn memory(&self) -> Global;
+
+    /// The words behind the program's name.
+    fn words(&self) -> io::Result<Vec<String>>
+        ensures words { IfOk result (λ words. (machine self.now).asked (texts words.items)) }
+        ensures refused { IfErr result (λ error. (machine self.now).mute (error_kind error)) };
+
+    /// Standard input.
+    fn input(&self) -> Self::Input
+        ensures { (machine self.now).is_input result };
+
+    /// Standard output.
+    fn output(&self) -> Self::Output
+        ensures { (machine self.now).is_output result };
+
+    /// Creates the file of this name, or empties an older one. Refused where it is the input.
+    fn create(&self, input: Stream<'_>, name: &str) -> io::Result<Self::Created>
+        ensures created { IfOk result (λ file. (machine self.now).created (name_in input.entry) name.now file) }
+        ensures refused { IfErr result (λ _. (machine self.now).uncreated (name_in input.entry) name.now) };
+}
+
+impl Host for HostRuntime {
+    type Input = Stdin;
+
+    type Output = Stdout;
+
+    type Created = File;
+
+    // Of the machine itself nothing is known.
+    ghost machine = { λ _. record { asked = λ _. ⊤; mute = λ _. ⊤; is_input = λ _. ⊤; is_output = λ _. ⊤; created = λ _ _ _. ⊤; uncreated = λ _ _. ⊤ } };
+
+    fn memory(&self) -> Global {
+        self.alloc()
+    }
+
+    fn words(&self) -> io::Result<Vec<String>> {
+        words_of(self)
+    }
+
+    fn input(&self) -> Stdin {
+        self.stdin()
+    }
+
+    fn output(&self) -> Stdout {
+        self.stdout()
+    }
+
+    fn create(&self, input: Stream<'_>, name: &str) -> io::Result<File> {
+        create_beside(self, input, name)
+    }
+}
