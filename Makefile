@@ -15,12 +15,12 @@ help:
 	@echo 'make test      the whole gate: every proof, the tests, the programs, the checks of scripts/checks, some wrong bodies'
 	@echo 'make soxchain  builds the proved program as build/soxchain'
 	@echo 'make soxchain-plan  builds the program that says in advance what soxchain would do, as build/soxchain-plan'
-	@echo 'make lib       builds the proved library for C in build/: libsoxchain.a, libsoxchain.so, soxchain.h, soxchain.pc'
+	@echo 'make lib       builds the proved library for C in build/: libsoxchain.a, libsoxchain.so, soxchain.h'
 	@echo 'make conformance  runs the proved program on 3,000 cases with known bytes, messages and statuses, and on 2,000 random ones'
 	@echo 'make wrong-bodies  has the prover refuse each wrong body of wrong-bodies/'
 	@echo 'make bench     times the proved program beside sox, effect by effect'
 	@echo 'make pictures  draws the pictures of docs/effects.md; needs gnuplot'
-	@echo 'make install [PREFIX=/usr/local] [DESTDIR=]  programs, manual and completion; make uninstall takes them away'
+	@echo 'make install [PREFIX=/usr/local] [DESTDIR=]  programs, library, manual and completion; make uninstall takes them away'
 	@echo 'make deb       a Debian package of what make install installs, in build/'
 	@echo 'make dist      the sources and the package with checksums, in build/dist'
 	@echo 'make check-docs  runs each command of the documents, and looks through the manual and the package; installs what it needs'
@@ -46,14 +46,14 @@ build/soxchain-plan: $(SOURCES)
 	cd crates/soxchain_plan && rt run -- - -t au - vol 0.5 <../../examples/tone.au >/dev/null
 	@cp crates/soxchain_plan/out/soxchain_plan $@.new && mv $@.new $@
 
-# The proved library for C, with its header and what pkg-config reads; docs/library.md.
+# The proved library for C, with its header; docs/library.md. PROVED=--proved is for the gate, which has just run rt ci.
+PROVED =
 lib: build/libsoxchain.so
-build/libsoxchain.so: $(SOURCES) $(wildcard packaging/soxchain.* packaging/strerror.c) scripts/library
-	cd crates/soxchain_c && rt lib
-	@scripts/library '$(VERSION)' '$(PREFIX)'
+build/libsoxchain.so: $(SOURCES) packaging/soxchain.h packaging/strerror.c scripts/library
+	@scripts/library $(PROVED) '$(VERSION)'
 
-# The library beside the program. Not a part of `make test`: `rt lib` proves every crate below the library once more.
-check-library: build/soxchain
+# The library beside the program. The gate does the same over what rt ci has proved.
+check-library: build/soxchain build/soxchain-plan
 	@scripts/check_library
 
 # A sound half as loud. The proved program takes minutes to prove, so this runs it unproved, with checks.
@@ -80,15 +80,16 @@ bench: build/soxchain
 pictures: build/soxchain
 	@scripts/pictures
 
-# What is installed: the programs, the pages of the manual with the version, and completion for bash, zsh and fish.
-install: build/soxchain build/soxchain-plan
-	@scripts/install '$(DESTDIR)$(PREFIX)' '$(VERSION)'
+# What is installed: the programs, the library with its header, soxchain.pc and the module for Python, the pages of the manual with
+# the version, and completion for bash, zsh and fish.
+install: build/soxchain build/soxchain-plan build/libsoxchain.so
+	@scripts/install '$(DESTDIR)' '$(PREFIX)' '$(VERSION)'
 
 uninstall:
-	@scripts/install --remove '$(DESTDIR)$(PREFIX)'
+	@scripts/install --remove '$(DESTDIR)' '$(PREFIX)' '$(VERSION)'
 
 # A package, by dpkg-deb and dpkg-shlibdeps.
-deb: build/soxchain build/soxchain-plan
+deb: build/soxchain build/soxchain-plan build/libsoxchain.so
 	@scripts/deb '$(VERSION)'
 
 # What is released. The sources are those of the last commit.

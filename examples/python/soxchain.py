@@ -8,8 +8,8 @@
             play(stream.feed(block))
         play(stream.end())
 
-The library is found by its path in SOXCHAIN_LIBRARY, or else as libsoxchain.so. Where NumPy is there, an array that is fed
-comes back as an array of a row for each frame; bytes come back as bytes.
+The library is found by its path in SOXCHAIN_LIBRARY, or else as libsoxchain.so; an installed module knows its own. Where NumPy is
+there, an array of int32 that is fed, with a row for each frame, comes back as such an array; bytes come back as bytes.
 """
 import ctypes
 import itertools
@@ -115,7 +115,7 @@ class Stream:
 
     def __init__(self, words: Sequence[str], rate: int, channels: int, files: Sequence[bytes] = ()):
         self._handle, length = _Handle(), _size()
-        self._inputs = channels
+        self._inputs, self._gives_arrays = channels, False
         messages = ctypes.create_string_buffer(4096)
         asked = _pieces(_words(words)) + _pieces(files)
         status = _library().soxchain_new(*asked, ctypes.c_uint32(rate), _size(channels), messages, _size(len(messages)),
@@ -141,20 +141,29 @@ class Stream:
             if passed.waits != _WAITS_FOR_ROOM and not (left and passed.waits == _WAITS_FOR_FRAMES):
                 return b''.join(given)
 
+    def _array(self, given: bytes) -> Any:
+        """Bytes of samples as an array of a row for each frame."""
+        return numpy.frombuffer(given, dtype=numpy.int32).reshape(-1, self.channels)
+
     def feed(self, frames: Any) -> Any:
         """What is given for frames: bytes for bytes of 32-bit samples as this machine has them, an array for an array."""
-        if numpy is not None and isinstance(frames, numpy.ndarray):
-            given = self._feed(numpy.ascontiguousarray(frames, dtype=numpy.int32).tobytes())
-            return numpy.frombuffer(given, dtype=numpy.int32).reshape(-1, self.channels)
+        self._gives_arrays = numpy is not None and isinstance(frames, numpy.ndarray)
+        if self._gives_arrays:
+            if not numpy.can_cast(frames.dtype, numpy.int32, 'safe'):
+                raise TypeError('an array of int32 is wanted')
+            if frames.ndim != 2 or frames.shape[1] != self._inputs:
+                raise ValueError('an array with a row for each frame is wanted')
+            return self._array(self._feed(numpy.ascontiguousarray(frames, dtype=numpy.int32).tobytes()))
         data = bytes(frames)
         if len(data) % 4:
             raise ValueError('bytes of whole samples are wanted')
         return self._feed(data)
 
-    def end(self) -> bytes:
-        """What is left, when no frame will come."""
+    def end(self) -> Any:
+        """What is left, when no frame will come: an array where the last frames were one, and else bytes."""
         self._check(_library().soxchain_end(ctypes.byref(self._handle)))
-        return self._feed(b'')
+        given = self._feed(b'')
+        return self._array(given) if self._gives_arrays else given
 
     def freeze(self) -> bytes:
         """The stream as bytes; it stays as it is."""

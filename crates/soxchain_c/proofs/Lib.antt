@@ -1,4 +1,5 @@
 pub mod Conversions
+pub mod Faults
 pub mod Steps
 pub mod Values
 pub mod Words

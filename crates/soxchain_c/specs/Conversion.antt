@@ -1,8 +1,8 @@
 -- A conversion in memory (this project's profile; packaging/soxchain.h).
-use Rattle.std.specs.Prelude.{◌≡◌, ◌≢◌, ℕ, ℤ, pos, List, [], drop, Some, Result, Err, IfOk}
+use Rattle.std.specs.Prelude.{◌≡◌, ◌≢◌, ◌⊎◌, ℕ, ℤ, pos, List, [], drop, Some, Result, Err, IfOk}
 use Rattle.fx_chain.specs.declared.report.Report.{Report}
 use Rattle.fx_chain.specs.declared.report.RunFault.{RunFault}
-use Rattle.fx_chain.specs.Report.{report_at}
+use Rattle.fx_chain.specs.Report.{no_report, report_at}
 use Rattle.fx_chain.specs.Theorem.{Ran}
 use Rattle.fx_line.specs.declared.line.LineFault.{LineFault}
 use Rattle.fx_line.specs.Line.{Said, line_of}
@@ -18,6 +18,10 @@ use Rattle.soxchain.specs.Program.{Concludes}
 use Rattle.soxchain.specs.Stops.{Stop, Refused, Run}
 use Rattle.soxchain.specs.Telling.{Tells}
 use Rattle.soxchain_c.specs.declared.conversion.SoxchainReport.{SoxchainReport}
+use Rattle.soxchain_c.specs.declared.status.Status.{Status}
+use Rattle.soxchain_c.specs.Asked.{Unread}
+use Rattle.soxchain_c.specs.Status.{code}
+use Rattle.soxchain_c.specs.Texts.{AreEnds, AreTexts, cut}
 
 -- a report to C, with the bytes of the output and of the messages
 abbrev pub told_report : Report → ℕ → ℕ → SoxchainReport
@@ -60,3 +64,24 @@ pub record Conversion (words files : List (List ℕ)) (input output messages : L
   pub found : Result Said LineFault
   pub reads : LineReads (line_of words) found
   pub concludes : Concludes (λ line. ConvertedBytes line files input output) (output ≡ []) (ToldBytes messages) number report found
+
+-- The words and files could not be read, so nothing was converted.
+pub record Unconverted (words word_ends files file_ends output messages : List ℕ) (number : ℤ) (report : Report) : Type 0 where
+  pub status : Status
+  pub number_is : number ≡ code status
+  pub unread : Unread words word_ends files file_ends (ToldBytes messages) (messages ≡ []) status
+  pub output_is : output ≡ []
+  pub report_is : report ≡ no_report
+
+-- The words and files were read, and these are what they make of a sound in memory.
+pub record Read (words word_ends files file_ends input output messages : List ℕ) (number : ℤ) (report : Report) : Type 0 where
+  pub words_end : AreEnds words 0 word_ends
+  pub files_end : AreEnds files 0 file_ends
+  pub are_texts : AreTexts (cut words 0 word_ends)
+  pub is : Conversion (cut words 0 word_ends) (cut files 0 file_ends) input output messages number report
+
+-- What words and files that lie in bytes, each up to its end, make of a sound in memory.
+abbrev pub ConversionOf : List ℕ → List ℕ → List ℕ → List ℕ → List ℕ → List ℕ → List ℕ → ℤ → Report → Type 0
+ConversionOf words word_ends files file_ends input output messages number report =
+    Read words word_ends files file_ends input output messages number report
+    ⊎ Unconverted words word_ends files file_ends output messages number report

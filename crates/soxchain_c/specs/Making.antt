@@ -1,20 +1,28 @@
 -- The stream that words make, or why there is none (this project's profile).
-use Rattle.std.specs.Prelude.{◌≡◌, ◌⊎◌, ℕ, List, [], ◌∷◌, codes, None, Some}
+use Rattle.std.specs.Prelude.{◌≡◌, ◌≢◌, ◌⊎◌, ◌<◌, ℕ, pos, List, [], ◌∷◌, codes, Option, None, Some, Result, Ok, Err}
 use Rattle.fx_chain.specs.Chain.{IsNewChain}
 use Rattle.fx_frame.specs.declared.coding.Coding.TheVariants.{S32Be}
 use Rattle.fx_line.specs.declared.bits.Bits.TheVariants.{ThirtyTwo}
 use Rattle.fx_line.specs.declared.line.LineFault.TheVariants.{Memory}
-use Rattle.fx_line.specs.Line.{Said}
+use Rattle.fx_line.specs.Line.{Said, texts}
 use Rattle.fx_plan.specs.CommandLines.{effects_in, planning_in}
 use Rattle.fx_plan.specs.Effects.{head_layout}
-use Rattle.fx_plan.specs.Plans.{RefusesPlan, all_faults}
+use Rattle.fx_plan.specs.Plans.{RefusesPlan, all_faults, bytes_of}
 use Rattle.fx_sound.specs.declared.head.Head.{Head}
 use Rattle.fx_sound.specs.declared.head.Kind.TheVariants.{Au}
 use Rattle.soxchain.specs.declared.preparing.Refusal.{Refusal}
 use Rattle.soxchain.specs.declared.preparing.Refusal.TheVariants as Refusals
 use Rattle.soxchain.specs.Messages.{line_label, line_message, refusal_message}
 use Rattle.soxchain.specs.Program.{status_of_refusal}
+use Rattle.soxchain_c.specs.declared.asked.Asked.{Asked}
+use Rattle.soxchain_c.specs.declared.status.Status.{Status}
+use Rattle.soxchain_c.specs.declared.status.Status.TheVariants.{BadChannels, BadRate, Fine, NoMemory}
 use Rattle.soxchain_c.specs.declared.stream.Stream.{Stream}
+use Rattle.soxchain_c.specs.declared.texts.TextFault.{TextFault}
+use Rattle.soxchain_c.specs.Asked.{FaultAnswers, Unread}
+use Rattle.soxchain_c.specs.Conversion.{ToldBytes}
+use Rattle.soxchain_c.specs.Status.{code}
+use Rattle.soxchain_c.specs.Texts.{AreEnds, AreTexts, cut}
 
 -- the head of a sound of 32 bits whose length is not known
 pub record IsHeadAt (rate channels : ℕ) (head : Head) : Type 0 where
@@ -55,3 +63,47 @@ pub record RefusesEffects (line : Said) (files : List (List ℕ)) (head : Head) 
 abbrev pub RefusesStream : Said → List (List ℕ) → Head → (List ℕ → Type 0) → ℕ → Type 0
 RefusesStream line files head IsTold status =
     RefusesEffects line files head IsTold status ⊎ ((status ≡ 2) × IsTold (line_message (line_label Memory)))
+
+-- why C gets no stream of a line's effects: as the message says, or since no memory was found for the stream itself
+abbrev pub LacksStream : Said → List (List ℕ) → Head → (List ℕ → Type 0) → Type 0 → Status → Type 0
+LacksStream line files head IsTold IsSilent status =
+    ((number : ℕ) × (code status ≡ pos number) × RefusesStream line files head IsTold number) ⊎ ((status ≡ NoMemory) × IsSilent)
+
+-- A stream of these words and files stands behind the handle; or it is as it was, and this is why.
+abbrev pub MakeAnswers : Result Asked TextFault → Head → Option Stream → Option Stream → (List ℕ → Type 0) → Type 0 → Status → Type 0
+MakeAnswers (Ok asked) head old new IsTold IsSilent status =
+    ((status ≡ Fine) × IsSilent × ((s : Stream) × (new ≡ Some s) × IsStreamOf (stream_line (texts asked.words.items)) (bytes_of asked.files.items) head s))
+    ⊎ ((status ≢ Fine) × (new ≡ old) × LacksStream (stream_line (texts asked.words.items)) (bytes_of asked.files.items) head IsTold IsSilent status)
+MakeAnswers (Err fault) head old new IsTold IsSilent status = (status ≢ Fine) × (new ≡ old) × FaultAnswers fault IsTold IsSilent status
+
+-- The words and files were read, and make this stream, at this rate and for so many channels.
+pub record Makes (words word_ends files file_ends : List ℕ) (rate channels : ℕ) (s : Stream) : Type 0 where
+  pub words_end : AreEnds words 0 word_ends
+  pub files_end : AreEnds files 0 file_ends
+  pub are_texts : AreTexts (cut words 0 word_ends)
+  pub head : Head
+  pub is_head : IsHeadAt rate channels head
+  pub is : IsStreamOf (stream_line (cut words 0 word_ends)) (cut files 0 file_ends) head s
+
+-- The words and files were read, and make no stream.
+pub record MakesNone (words word_ends files file_ends : List ℕ) (rate channels : ℕ) (told : List ℕ) (status : Status) : Type 0 where
+  pub words_end : AreEnds words 0 word_ends
+  pub files_end : AreEnds files 0 file_ends
+  pub are_texts : AreTexts (cut words 0 word_ends)
+  pub head : Head
+  pub is_head : IsHeadAt rate channels head
+  pub lacks : LacksStream (stream_line (cut words 0 word_ends)) (cut files 0 file_ends) head (ToldBytes told) (told ≡ []) status
+
+-- why no stream is made, and what is told then
+abbrev pub RefusesNew : List ℕ → List ℕ → List ℕ → List ℕ → ℕ → ℕ → List ℕ → Status → Type 0
+RefusesNew words word_ends files file_ends rate channels told status =
+    ((status ≡ BadRate) × (rate ≡ 0) × (told ≡ []))
+    ⊎ ((status ≡ BadChannels) × ((channels ≡ 0) ⊎ (16 < channels)) × (told ≡ []))
+    ⊎ Unread words word_ends files file_ends (ToldBytes told) (told ≡ []) status
+    ⊎ MakesNone words word_ends files file_ends rate channels told status
+
+-- A new stream stands behind the handle, and nothing is told; or it is as it was, and this is why.
+abbrev pub NewAnswers : List ℕ → List ℕ → List ℕ → List ℕ → ℕ → ℕ → List ℕ → Option Stream → Option Stream → Status → Type 0
+NewAnswers words word_ends files file_ends rate channels told old new status =
+    ((status ≡ Fine) × (told ≡ []) × ((s : Stream) × (new ≡ Some s) × Makes words word_ends files file_ends rate channels s))
+    ⊎ ((status ≢ Fine) × (new ≡ old) × RefusesNew words word_ends files file_ends rate channels told status)

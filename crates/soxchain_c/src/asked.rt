@@ -1,9 +1,10 @@
 //! The words and files of a call, and why they cannot be read.
-ghost use Rattle.std.specs.Prelude.{◌≡◌, ◌≢◌, Err, IfOk, OnOk};
+ghost use Rattle.std.specs.Prelude.{◌≡◌, ◌≢◌, IfErr, IfOk, OnOk};
 ghost use Rattle.fx_line.specs.Line.{texts};
 ghost use Rattle.fx_plan.specs.Plans.{bytes_of};
 ghost use Rattle.soxchain.specs.Messages.{line_label, line_message};
 ghost use Rattle.soxchain.specs.Telling.{Tells};
+ghost use Rattle.soxchain_c.specs.Asked.{FaultAnswers, IsFault};
 ghost use Rattle.soxchain_c.specs.Texts.{AreEnds, AreTexts, cut};
 
 use crate::status::Status;
@@ -31,8 +32,8 @@ pub fn read_asked(
     ensures words { IfOk result (λ a. texts a.words.items ≡ cut words.now 0 word_ends.now) }
     ensures files { IfOk result (λ a. bytes_of a.files.items ≡ cut files.now 0 file_ends.now) }
     ensures ends { OnOk result (AreEnds words.now 0 word_ends.now × AreEnds files.now 0 file_ends.now) }
-    ensures bad_ends { result ≡ Err TextFault.BadEnds → (AreEnds words.now 0 word_ends.now × AreEnds files.now 0 file_ends.now) → ⊥ }
-    ensures not_text { result ≡ Err TextFault.NotText → AreTexts (cut words.now 0 word_ends.now) → ⊥ }
+    ensures texts { OnOk result (AreTexts (cut words.now 0 word_ends.now)) }
+    ensures fault { IfErr result (λ fault. IsFault fault words.now word_ends.now files.now file_ends.now) }
 {
     let words = match read_words(alloc, words, word_ends) {
         Ok(words) => words,
@@ -56,9 +57,7 @@ fn tell_refused<M: ByteOut>(messages: &mut M, fault: LineFault)
 /// program tells them.
 pub fn refuse<M: ByteOut>(messages: &mut M, fault: TextFault) -> Status
     ensures fault { result ≢ Status.Fine }
-    ensures bad_ends { fault ≡ TextFault.BadEnds → (result ≡ Status.BadEnds) × (messages.new ≡ messages.old) }
-    ensures not_text { fault ≡ TextFault.NotText → (result ≡ Status.Refused) × Tells (M.taken messages.old) (M.taken messages.new) (M.failures messages.old) (M.failures messages.new) (line_message (line_label LineFault.BadOption)) }
-    ensures memory { fault ≡ TextFault.Memory → (result ≡ Status.Failed) × Tells (M.taken messages.old) (M.taken messages.new) (M.failures messages.old) (M.failures messages.new) (line_message (line_label LineFault.Memory)) }
+    ensures answers { FaultAnswers fault (Tells (M.taken messages.old) (M.taken messages.new) (M.failures messages.old) (M.failures messages.new)) (messages.new ≡ messages.old) result }
 {
     match fault {
         TextFault::BadEnds => Status::BadEnds,

@@ -1,14 +1,17 @@
 //! A conversion in memory, to C.
-ghost use Rattle.std.specs.Prelude.{◌≡◌, ℕ, List, length};
+ghost use Rattle.std.specs.Prelude.{◌≡◌, ℕ, List, [], length};
+ghost use Rattle.fx_chain.specs.Report.{no_report};
 ghost use Rattle.fx_line.specs.Line.{texts};
 ghost use Rattle.fx_plan.specs.Plans.{bytes_of};
 ghost use Rattle.fx_sound.specs.Known.{IfKnown};
-ghost use Rattle.soxchain_c.specs.Conversion.{Conversion, told_report};
+ghost use Rattle.soxchain_c.specs.Asked.{FaultAnswers};
+ghost use Rattle.soxchain_c.specs.Conversion.{Conversion, ConversionOf, ToldBytes, told_report};
 ghost use Rattle.soxchain_c.specs.Room.{filled};
+ghost use Rattle.soxchain_c.specs.Status.{code};
 
 use crate::asked::{Asked, read_asked, refuse};
 use crate::room::put;
-use crate::status::number_of;
+use crate::status::{Status, number_of};
 use crate::texts::TextFault;
 use fx_chain::{MOST_EFFECTS, Report};
 use fx_frame::{ByteIn, Counted};
@@ -88,7 +91,11 @@ fn convert_asked(alloc: Global, asked: &Asked, input: &[u8]) -> Done
 }
 
 /// What is answered where words or files cannot be read.
-fn unread(alloc: Global, fault: TextFault) -> Done {
+fn unread(alloc: Global, fault: TextFault) -> Done
+    ensures answers { (status : Status) × (result.status ≡ code status) × FaultAnswers fault (ToldBytes result.messages.items) (result.messages.items ≡ []) status }
+    ensures output { result.output.items ≡ [] }
+    ensures report { result.report ≡ no_report }
+{
     let mut told = Counted::new(Vec::new(alloc));
     let status = number_of(refuse(&mut told, fault));
     Done {
@@ -113,8 +120,8 @@ pub extern "C" fn soxchain_convert(
     messages: &mut [u8],
     report: &mut SoxchainReport,
 ) -> i32
-    ensures output { (bytes : List ℕ) × (report.new.output_length ≡ length bytes) × (output.new ≡ filled bytes output.old) }
-    ensures messages { (bytes : List ℕ) × (report.new.messages_length ≡ length bytes) × (messages.new ≡ filled bytes messages.old) }
+    ensures { (bytes : List ℕ) × (told : List ℕ) × (done : Report) × ConversionOf words.now word_ends.now files.now file_ends.now input.now bytes told result done
+        × (report.new ≡ told_report done (length bytes) (length told)) × (output.new ≡ filled bytes output.old) × (messages.new ≡ filled told messages.old) }
 {
     let done = match read_asked(alloc, words, word_ends, files, file_ends) {
         Ok(asked) => convert_asked(alloc, &asked, input),

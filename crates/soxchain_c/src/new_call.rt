@@ -1,10 +1,11 @@
 //! How C makes a stream.
-ghost use Rattle.std.specs.Prelude.{◌≡◌, ◌≢◌, IfErr, IfOk, IsOk, Some};
+ghost use Rattle.std.specs.Prelude.{◌≡◌, ◌≢◌, ℕ, List, length, IfErr, IfOk, OnOk};
 ghost use Rattle.fx_line.specs.Line.{texts};
 ghost use Rattle.fx_plan.specs.Plans.{bytes_of};
-ghost use Rattle.soxchain_c.specs.Making.{IsHeadAt, IsStreamOf, stream_line};
+ghost use Rattle.soxchain.specs.Telling.{Tells};
+ghost use Rattle.soxchain_c.specs.Making.{IsStreamOf, LacksStream, MakeAnswers, NewAnswers, stream_line};
+ghost use Rattle.soxchain_c.specs.Room.{filled};
 ghost use Rattle.soxchain_c.specs.Status.{code};
-ghost use Rattle.soxchain_c.specs.Texts.{cut};
 
 use crate::asked::{Asked, read_asked, refuse};
 use crate::handle::Handle;
@@ -26,7 +27,9 @@ fn stream_for<M: ByteOut>(
     messages: &mut M,
 ) -> Result<Box<Stream>, Status>
     ensures made { IfOk result (λ b. IsStreamOf (stream_line (texts asked.now.words.items)) (bytes_of asked.now.files.items) head.now b.value) }
+    ensures silent { OnOk result (messages.new ≡ messages.old) }
     ensures fault { IfErr result (λ status. status ≢ Status.Fine) }
+    ensures lacks { IfErr result (LacksStream (stream_line (texts asked.now.words.items)) (bytes_of asked.now.files.items) head.now (Tells (M.taken messages.old) (M.taken messages.new) (M.failures messages.old) (M.failures messages.new)) (messages.new ≡ messages.old)) }
 {
     let stream = match make_stream(alloc, &asked.words, &asked.files, head, messages) {
         Ok(stream) => stream,
@@ -47,9 +50,7 @@ fn make<M: ByteOut>(
     messages: &mut M,
     handle: &mut Handle,
 ) -> Status
-    ensures made { result ≡ Status.Fine → IfOk asked.now (λ a. (s : Stream) × (handle.new.value ≡ Some s) × IsStreamOf (stream_line (texts a.words.items)) (bytes_of a.files.items) head.now s) }
-    ensures read { result ≡ Status.Fine → IsOk asked.now }
-    ensures kept { result ≢ Status.Fine → handle.new.value ≡ handle.old.value }
+    ensures { MakeAnswers asked.now head.now handle.old.value handle.new.value (Tells (M.taken messages.old) (M.taken messages.new) (M.failures messages.old) (M.failures messages.new)) (messages.new ≡ messages.old) result }
 {
     let asked = match asked {
         Ok(asked) => asked,
@@ -80,9 +81,8 @@ pub extern "C" fn soxchain_new(
     messages_length: &mut usize,
     handle: &mut Handle,
 ) -> i32
-    ensures answers { (status : Status) × (result ≡ code status)
-        × (status ≡ Status.Fine → (s : Stream) × (head : Head) × (handle.new.value ≡ Some s) × IsHeadAt rate channels head × IsStreamOf (stream_line (cut words.now 0 word_ends.now)) (cut files.now 0 file_ends.now) head s)
-        × (status ≢ Status.Fine → handle.new.value ≡ handle.old.value) }
+    ensures { (status : Status) × (told : List ℕ) × (result ≡ code status) × (messages_length.new ≡ length told) × (messages.new ≡ filled told messages.old)
+        × NewAnswers words.now word_ends.now files.now file_ends.now rate channels told handle.old.value handle.new.value status }
 {
     *messages_length = 0;
     let head = match head_of(rate, channels) {

@@ -22,6 +22,7 @@ pub enum TextFault {
 pub fn read_words(alloc: Global, bytes: &[u8], ends: &[usize]) -> Result<Vec<String>, TextFault>
     ensures words { IfOk result (λ words. texts words.items ≡ cut bytes.now 0 ends.now) }
     ensures ends { OnOk result (AreEnds bytes.now 0 ends.now) }
+    ensures texts { OnOk result (AreTexts (cut bytes.now 0 ends.now)) }
     ensures bad_ends { result ≡ Err TextFault.BadEnds → AreEnds bytes.now 0 ends.now → ⊥ }
     ensures not_text { result ≡ Err TextFault.NotText → AreTexts (cut bytes.now 0 ends.now) → ⊥ }
 {

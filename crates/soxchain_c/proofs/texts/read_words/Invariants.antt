@@ -10,6 +10,7 @@ invariant-loop-end l = record {
   ends : AreEnds l.bytes l.start l.rest → AreEnds l.bytes 0 l.ends;
   orders : AreEnds l.bytes 0 l.ends → AreEnds l.bytes l.start l.rest;
   texts : AreTexts (cut l.bytes 0 l.ends) → AreTexts (cut l.bytes l.start l.rest);
+  are_texts : AreTexts (cut l.bytes l.start l.rest) → AreTexts (cut l.bytes 0 l.ends);
 }
 
 abbrev pub decreases-loop-end : goal.decreases-loop-end
