@@ -22,13 +22,13 @@ pub fn drain<S: Stage, W: ByteOut>(
     requires fits { most_of (kinds S.acts flow.old.stages) most_frames ≤ 2 ^ 56 }
     requires room { total outlet.old.output ≤ 68 + 64 * given_by S.acts flow.old.left flow.old.stages }
     requires few { outlet.old.clips ≤ 16 * given_by S.acts flow.old.left flow.old.stages }
-    ensures drained { OnOk result (Drained S.acts flow.old flow.new outlet.old.coding outlet.old.clips outlet.new.clips (W.taken writer.old) (W.taken writer.new) outlet.old.output outlet.new.output) }
-    ensures cut_off { OnErr result (CutOff S.acts flow.old flow.new outlet.old.coding outlet.old.clips outlet.new.clips (W.taken writer.old) (W.taken writer.new) outlet.old.output outlet.new.output) }
+    ensures drained { OnOk result (Drained S.acts flow.old flow.new outlet.old.coding outlet.old.clips outlet.new.clips (W.writes.taken writer.old) (W.writes.taken writer.new) outlet.old.output outlet.new.output) }
+    ensures cut_off { OnErr result (CutOff S.acts flow.old flow.new outlet.old.coding outlet.old.clips outlet.new.clips (W.writes.taken writer.old) (W.writes.taken writer.new) outlet.old.output outlet.new.output) }
     ensures waits { OnOk result (Waits S.acts flow.new) }
     ensures room { OnOk result (total outlet.new.output ≤ 68 + 64 * given_by S.acts flow.new.left flow.new.stages) }
     ensures few { outlet.new.clips ≤ 16 * given_by S.acts flow.new.left flow.new.stages }
     ensures coding { outlet.new.coding ≡ outlet.old.coding }
-    ensures failures { CountsFailure (W.failures writer.old) (W.failures writer.new) result }
+    ensures failures { CountsFailure (W.writes.failures writer.old) (W.writes.failures writer.new) result }
 {
     while let State::Busy = flow.state() {
         let _stages = flow.stages();

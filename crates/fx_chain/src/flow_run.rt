@@ -79,11 +79,11 @@ fn report_of<S: Stage>(flow: &Flow<S>, progress: &Progress, outlet: &Outlet) -> 
 fn close<W: ByteOut>(outlet: &mut Outlet, writer: &mut W, last: &[u8]) -> Result<(), Failed>
     requires short { length last.now ≤ 1 }
     requires room { total outlet.old.output + 1 < 2 ^ 64 }
-    ensures wrote { OnOk result ((first : Option (List ℕ)) (all : List ℕ) → Sent first (W.taken writer.old) outlet.old.output all → WroteAll first (W.taken writer.new) outlet.new.output.written (all ++ last.now)) }
-    ensures front { OnErr result ((first : Option (List ℕ)) (all : List ℕ) → Sent first (W.taken writer.old) outlet.old.output all → WroteFront first (W.taken writer.new) outlet.new.output.written (all ++ last.now)) }
-    ensures flushed { OnOk result (W.flushed writer.new ≡ true) }
+    ensures wrote { OnOk result ((first : Option (List ℕ)) (all : List ℕ) → Sent first (W.writes.taken writer.old) outlet.old.output all → WroteAll first (W.writes.taken writer.new) outlet.new.output.written (all ++ last.now)) }
+    ensures front { OnErr result ((first : Option (List ℕ)) (all : List ℕ) → Sent first (W.writes.taken writer.old) outlet.old.output all → WroteFront first (W.writes.taken writer.new) outlet.new.output.written (all ++ last.now)) }
+    ensures flushed { OnOk result (W.writes.flushed writer.new ≡ true) }
     ensures clips { outlet.new.clips ≡ outlet.old.clips }
-    ensures failures { CountsFailure (W.failures writer.old) (W.failures writer.new) result }
+    ensures failures { CountsFailure (W.writes.failures writer.old) (W.writes.failures writer.new) result }
 {
     outlet.output.push(writer, last)?;
     outlet.output.finish(writer)
@@ -110,15 +110,15 @@ pub fn run_flow<R: ByteIn, S: Feeds, W: ByteOut>(
     requires fits { most_of (kinds S.acts flow.old.stages) most_frames ≤ 2 ^ 56 }
 
     // Without a fault all that the flow gives for the sound was written.
-    ensures completed { IfOk result (λ r. IfKnown (to_come R.rest source.old) (λ bytes.
-        Completed S.acts flow.old flow.new target (start_of head.now) bytes (sound_frames (start_of head.now) r.frames_in bytes) (W.taken writer.old) (W.taken writer.new) r)) }
-    ensures flushed { OnOk result (W.flushed writer.new ≡ true) }
+    ensures completed { IfOk result (λ r. IfKnown (to_come R.reads.rest source.old) (λ bytes.
+        Completed S.acts flow.old flow.new target (start_of head.now) bytes (sound_frames (start_of head.now) r.frames_in bytes) (W.writes.taken writer.old) (W.writes.taken writer.new) r)) }
+    ensures flushed { OnOk result (W.writes.flushed writer.new ≡ true) }
     ensures done { OnOk result (IsDone S.acts flow.new) }
 
     // After a fault the frames then due were written, or a front.
-    ensures stopped { IfErr result (λ f. IfKnown (to_come R.rest source.old) (λ bytes.
-        StoppedAt S.acts flow.old flow.new target (start_of head.now) bytes (sound_frames (start_of head.now) (report_at f).frames_in bytes) (W.taken writer.old) (W.taken writer.new) f)) }
-    ensures read_failed { IfErr result (λ f. cause_of f ≡ Cause.ReadFailed → RanToFailure R.told source.old source.new.reader (start_of head.now) (report_at f).frames_in) }
+    ensures stopped { IfErr result (λ f. IfKnown (to_come R.reads.rest source.old) (λ bytes.
+        StoppedAt S.acts flow.old flow.new target (start_of head.now) bytes (sound_frames (start_of head.now) (report_at f).frames_in bytes) (W.writes.taken writer.old) (W.writes.taken writer.new) f)) }
+    ensures read_failed { IfErr result (λ f. cause_of f ≡ Cause.ReadFailed → RanToFailure R.reads.told source.old source.new.reader (start_of head.now) (report_at f).frames_in) }
 
     // The counts.
     ensures wants { WantsMore (kinds S.acts flow.old.stages) (report_in result).frames_in }
@@ -131,8 +131,8 @@ pub fn run_flow<R: ByteIn, S: Feeds, W: ByteOut>(
 
     // A fault is answered only where its cause was counted.
     ensures causes { MatchResult result
-        (λ _. (R.failures source.new.reader ≡ R.failures source.old.reader) × (W.failures writer.new ≡ W.failures writer.old))
-        (λ f. HasCause (cause_of f) (ReadBefore S.acts R.told source.old source.new.reader flow.old flow.new (start_of head.now) (report_at f).frames_in (report_at f).frames_out) (R.failures source.old.reader) (R.failures source.new.reader) (W.failures writer.old) (W.failures writer.new)) }
+        (λ _. (R.reads.failures source.new.reader ≡ R.reads.failures source.old.reader) × (W.writes.failures writer.new ≡ W.writes.failures writer.old))
+        (λ f. HasCause (cause_of f) (ReadBefore S.acts R.reads.told source.old source.new.reader flow.old flow.new (start_of head.now) (report_at f).frames_in (report_at f).frames_out) (R.reads.failures source.old.reader) (R.reads.failures source.new.reader) (W.writes.failures writer.old) (W.writes.failures writer.new)) }
 {
     let mut progress = Progress::new(head);
     let mut outlet = Outlet {

@@ -24,13 +24,13 @@ impl Outlet {
     pub fn send<W: ByteOut>(&mut self, writer: &mut W, frame: &Frame) -> Result<(), Failed>
         requires room { total self.old.output + 64 < 2 ^ 64 }
         requires few { self.old.clips < 2 ^ 62 }
-        ensures sent { OnOk result (SendsMore (W.taken writer.old) (W.taken writer.new) self.old.output self.new.output (bytes_of self.old.coding frame.now)) }
-        ensures sent_err { OnErr result (SendsOn (W.taken writer.old) (W.taken writer.new) self.old.output self.new.output) }
+        ensures sent { OnOk result (SendsMore (W.writes.taken writer.old) (W.writes.taken writer.new) self.old.output self.new.output (bytes_of self.old.coding frame.now)) }
+        ensures sent_err { OnErr result (SendsOn (W.writes.taken writer.old) (W.writes.taken writer.new) self.old.output self.new.output) }
         ensures small { OnOk result (total self.new.output ≤ total self.old.output + 64) }
         ensures clips { self.new.clips ≡ self.old.clips + clips_of self.old.coding frame.now }
         ensures few { self.new.clips ≤ self.old.clips + 16 }
         ensures coding { self.new.coding ≡ self.old.coding }
-        ensures failures { CountsFailure (W.failures writer.old) (W.failures writer.new) result }
+        ensures failures { CountsFailure (W.writes.failures writer.old) (W.writes.failures writer.new) result }
     {
         let _channels = frame.channels();
         match self.output.push_frame(writer, frame, self.coding) {

@@ -50,18 +50,18 @@ pub fn run<R: ByteIn, W: ByteOut>(
     requires nothing { (taken_of chain.old.flow ≡ 0) × (given_by effect_acts chain.old.flow.left chain.old.flow.stages ≡ 0) }
 
     // What a run of a new chain comes to, as functions of the plan and the bytes.
-    ensures ran { IsNewChain (planning plan.now) chain.old → IfKnown (to_come R.rest source.old) (λ bytes. Ran (planning plan.now) bytes (W.taken writer.old) (W.taken writer.new) result) }
+    ensures ran { IsNewChain (planning plan.now) chain.old → IfKnown (to_come R.reads.rest source.old) (λ bytes. Ran (planning plan.now) bytes (W.writes.taken writer.old) (W.writes.taken writer.new) result) }
 
     // Without a fault all that the chain gives for the sound was written.
-    ensures completed { IfOk result (λ r. IfKnown (to_come R.rest source.old) (λ bytes.
-        Completed effect_acts chain.old.flow chain.new.flow (target_for chain.old.plan) (start_of chain.old.plan.head) bytes (sound_frames (start_of chain.old.plan.head) r.frames_in bytes) (W.taken writer.old) (W.taken writer.new) r)) }
-    ensures flushed { OnOk result (W.flushed writer.new ≡ true) }
+    ensures completed { IfOk result (λ r. IfKnown (to_come R.reads.rest source.old) (λ bytes.
+        Completed effect_acts chain.old.flow chain.new.flow (target_for chain.old.plan) (start_of chain.old.plan.head) bytes (sound_frames (start_of chain.old.plan.head) r.frames_in bytes) (W.writes.taken writer.old) (W.writes.taken writer.new) r)) }
+    ensures flushed { OnOk result (W.writes.flushed writer.new ≡ true) }
     ensures done { OnOk result (IsDone effect_acts chain.new.flow) }
 
     // After a fault the frames then due were written, or a front.
-    ensures stopped { IfErr result (λ f. IfKnown (to_come R.rest source.old) (λ bytes.
-        StoppedAt effect_acts chain.old.flow chain.new.flow (target_for chain.old.plan) (start_of chain.old.plan.head) bytes (sound_frames (start_of chain.old.plan.head) (report_at f).frames_in bytes) (W.taken writer.old) (W.taken writer.new) f)) }
-    ensures read_failed { IfErr result (λ f. cause_of f ≡ Cause.ReadFailed → RanToFailure R.told source.old source.new.reader (start_of chain.old.plan.head) (report_at f).frames_in) }
+    ensures stopped { IfErr result (λ f. IfKnown (to_come R.reads.rest source.old) (λ bytes.
+        StoppedAt effect_acts chain.old.flow chain.new.flow (target_for chain.old.plan) (start_of chain.old.plan.head) bytes (sound_frames (start_of chain.old.plan.head) (report_at f).frames_in bytes) (W.writes.taken writer.old) (W.writes.taken writer.new) f)) }
+    ensures read_failed { IfErr result (λ f. cause_of f ≡ Cause.ReadFailed → RanToFailure R.reads.told source.old source.new.reader (start_of chain.old.plan.head) (report_at f).frames_in) }
 
     // The counts.
     ensures wants { WantsMore (kinds effect_acts chain.old.flow.stages) (report_in result).frames_in }
@@ -73,8 +73,8 @@ pub fn run<R: ByteIn, W: ByteOut>(
 
     // A fault is answered only where its cause was counted.
     ensures causes { MatchResult result
-        (λ _. (R.failures source.new.reader ≡ R.failures source.old.reader) × (W.failures writer.new ≡ W.failures writer.old))
-        (λ f. HasCause (cause_of f) (ReadBefore effect_acts R.told source.old source.new.reader chain.old.flow chain.new.flow (start_of chain.old.plan.head) (report_at f).frames_in (report_at f).frames_out) (R.failures source.old.reader) (R.failures source.new.reader) (W.failures writer.old) (W.failures writer.new)) }
+        (λ _. (R.reads.failures source.new.reader ≡ R.reads.failures source.old.reader) × (W.writes.failures writer.new ≡ W.writes.failures writer.old))
+        (λ f. HasCause (cause_of f) (ReadBefore effect_acts R.reads.told source.old source.new.reader chain.old.flow chain.new.flow (start_of chain.old.plan.head) (report_at f).frames_in (report_at f).frames_out) (R.reads.failures source.old.reader) (R.reads.failures source.new.reader) (W.writes.failures writer.old) (W.writes.failures writer.new)) }
 {
     run_flow(
         &mut chain.flow,

@@ -44,11 +44,11 @@ fn end_flow<S: Stage, W: ByteOut>(
     requires fits { most_of (kinds S.acts flow.old.stages) most_frames ≤ 2 ^ 56 }
     requires room { total outlet.old.output ≤ 68 + 64 * given_by S.acts flow.old.left flow.old.stages }
     requires few { outlet.old.clips ≤ 16 * given_by S.acts flow.old.left flow.old.stages }
-    ensures drained { OnOk result (Drained S.acts (record flow.old { ended = true }) flow.new outlet.old.coding outlet.old.clips outlet.new.clips (W.taken writer.old) (W.taken writer.new) outlet.old.output outlet.new.output) }
-    ensures cut_off { OnErr result (CutOff S.acts (record flow.old { ended = true }) flow.new outlet.old.coding outlet.old.clips outlet.new.clips (W.taken writer.old) (W.taken writer.new) outlet.old.output outlet.new.output) }
+    ensures drained { OnOk result (Drained S.acts (record flow.old { ended = true }) flow.new outlet.old.coding outlet.old.clips outlet.new.clips (W.writes.taken writer.old) (W.writes.taken writer.new) outlet.old.output outlet.new.output) }
+    ensures cut_off { OnErr result (CutOff S.acts (record flow.old { ended = true }) flow.new outlet.old.coding outlet.old.clips outlet.new.clips (W.writes.taken writer.old) (W.writes.taken writer.new) outlet.old.output outlet.new.output) }
     ensures done { OnOk result (IsDone S.acts flow.new) }
     ensures room { OnOk result (total outlet.new.output ≤ 2 ^ 63) }
-    ensures failures { CountsFailure (W.failures writer.old) (W.failures writer.new) result }
+    ensures failures { CountsFailure (W.writes.failures writer.old) (W.writes.failures writer.new) result }
 {
     flow.end();
     let Ok(()) = drain(flow, outlet, writer) else {
@@ -76,10 +76,10 @@ pub fn pump<R: ByteIn, S: Feeds, W: ByteOut>(
     requires fits { most_of (kinds S.acts flow.old.stages) most_frames ≤ 2 ^ 56 }
 
     // What was sent.
-    ensures sent { is_write_failed result ≡ false → IfKnown (to_come R.rest source.old) (λ bytes.
-        Flowed S.acts flow.old flow.new outlet.old.coding (sound_frames progress.old progress.new.frames bytes) outlet.new.clips (W.taken writer.old) (W.taken writer.new) outlet.new.output head.now) }
-    ensures write_failed { is_write_failed result ≡ true → IfKnown (to_come R.rest source.old) (λ bytes.
-        FlowedFront S.acts flow.old flow.new outlet.old.coding (sound_frames progress.old progress.new.frames bytes) outlet.new.clips (W.taken writer.old) (W.taken writer.new) outlet.new.output head.now) }
+    ensures sent { is_write_failed result ≡ false → IfKnown (to_come R.reads.rest source.old) (λ bytes.
+        Flowed S.acts flow.old flow.new outlet.old.coding (sound_frames progress.old progress.new.frames bytes) outlet.new.clips (W.writes.taken writer.old) (W.writes.taken writer.new) outlet.new.output head.now) }
+    ensures write_failed { is_write_failed result ≡ true → IfKnown (to_come R.reads.rest source.old) (λ bytes.
+        FlowedFront S.acts flow.old flow.new outlet.old.coding (sound_frames progress.old progress.new.frames bytes) outlet.new.clips (W.writes.taken writer.old) (W.writes.taken writer.new) outlet.new.output head.now) }
 
     ensures room { is_write_failed result ≡ false → total outlet.new.output ≤ 2 ^ 63 }
 
@@ -92,29 +92,29 @@ pub fn pump<R: ByteIn, S: Feeds, W: ByteOut>(
     ensures taken { taken_of flow.new ≡ progress.new.frames }
 
     // How many frames were taken.
-    ensures whole { IfKnown (to_come R.rest source.old) (λ bytes. progress.new.frames * size_of progress.old ≤ length (within progress.old.left bytes)) }
+    ensures whole { IfKnown (to_come R.reads.rest source.old) (λ bytes. progress.new.frames * size_of progress.old ≤ length (within progress.old.left bytes)) }
     ensures ends { MatchBool progress.new.over
-        (IfKnown (to_come R.rest source.old) (λ bytes. RanToEnd progress.old bytes progress.new.frames progress.new.missing progress.new.stray))
+        (IfKnown (to_come R.reads.rest source.old) (λ bytes. RanToEnd progress.old bytes progress.new.frames progress.new.missing progress.new.stray))
         ((progress.new.missing ≡ 0) × (progress.new.stray ≡ 0)) }
     ensures met { progress.new.over ≡ met_end flow.new.ended (enough_for (kinds S.acts flow.old.stages) progress.new.frames) }
     ensures over { OnErr result (is_write_failed result ≡ false → progress.new.over ≡ false) }
     ensures wants { WantsMore (kinds S.acts flow.old.stages) progress.new.frames }
     ensures enough { OnOk result (MatchBool progress.new.over (enough_for (kinds S.acts flow.old.stages) progress.new.frames ≡ false) (enough_for (kinds S.acts flow.old.stages) progress.new.frames ≡ true)) }
-    ensures settled { OnOk result (progress.new.over ≡ false → IfKnown (to_come R.rest source.old) (λ bytes. (z : List Samples) →
+    ensures settled { OnOk result (progress.new.over ≡ false → IfKnown (to_come R.reads.rest source.old) (λ bytes. (z : List Samples) →
         rest_of S.acts flow.old (sound_frames progress.old progress.new.frames bytes ++ z) ≡ rest_of S.acts flow.old (sound_frames progress.old progress.new.frames bytes))) }
     ensures not_enough { OnErr result (is_write_failed result ≡ false → enough_for (kinds S.acts flow.old.stages) progress.new.frames ≡ false) }
-    ensures read_failed { is_read_failed result ≡ true → RanToFailure R.told source.old source.new.reader progress.old progress.new.frames }
-    ensures too_long { result ≡ Err Cause.TooLong → (progress.new.frames ≡ MOST_FRAMES) × IfKnown (to_come R.rest source.old) (λ bytes.
+    ensures read_failed { is_read_failed result ≡ true → RanToFailure R.reads.told source.old source.new.reader progress.old progress.new.frames }
+    ensures too_long { result ≡ Err Cause.TooLong → (progress.new.frames ≡ MOST_FRAMES) × IfKnown (to_come R.reads.rest source.old) (λ bytes.
         (MOST_FRAMES + 1) * size_of progress.old ≤ length (within progress.old.left bytes)) }
     ensures most { progress.new.frames ≤ MOST_FRAMES }
 
     // A fault is answered only where a failure was counted.
     ensures reads { MatchBool (is_read_failed result)
-        (R.failures source.new.reader ≡ saturated (R.failures source.old.reader + 1))
-        (R.failures source.new.reader ≡ R.failures source.old.reader) }
+        (R.reads.failures source.new.reader ≡ saturated (R.reads.failures source.old.reader + 1))
+        (R.reads.failures source.new.reader ≡ R.reads.failures source.old.reader) }
     ensures writes { MatchBool (is_write_failed result)
-        (W.failures writer.new ≡ saturated (W.failures writer.old + 1))
-        (W.failures writer.new ≡ W.failures writer.old) }
+        (W.writes.failures writer.new ≡ saturated (W.writes.failures writer.old + 1))
+        (W.writes.failures writer.new ≡ W.writes.failures writer.old) }
 {
     let Ok(()) = outlet.output.push(writer, head) else {
         return Err(Cause::WriteFailed);

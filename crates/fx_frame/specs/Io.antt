@@ -1,5 +1,17 @@
--- What the clauses of readers and writers share.
-use Rattle.std.specs.Prelude.{◌≡◌, ℕ, ◌+◌, ◌-◌, ◌^◌, min, Bool, ◌&&◌, ◌==◌, Result, Ok, Err, MatchResult}
+-- What is said of readers and writers of bytes.
+use Rattle.std.specs.Prelude.{◌≡◌, ℕ, ◌+◌, ◌-◌, ◌^◌, min, Bool, ◌&&◌, ◌==◌, List, Option, Result, Ok, Err, MatchResult}
+
+-- a reader: the bytes that are still to be told, where they are known; how many were told; how many calls failed
+pub record Reads (R : Type 0) : Type 0 where
+  pub rest : R → Option (List ℕ)
+  pub told : R → ℕ
+  pub failures : R → ℕ
+
+-- a writer: the bytes that were taken, where they are known; whether all of them were flushed; how many calls failed
+pub record Writes (W : Type 0) : Type 0 where
+  pub taken : W → Option (List ℕ)
+  pub flushed : W → Bool
+  pub failures : W → ℕ
 
 -- a count that stays at the greatest u64
 abbrev pub saturated : ℕ → ℕ

@@ -56,11 +56,9 @@ impl<T> Counted<T> {
 }
 
 impl<T: Read> ByteIn for Counted<T> {
-    ghost rest = { λ c. T.remaining c.inner };
+    ghost use Rattle.fx_frame.specs.Counted.{counted_reads};
 
-    ghost told = { λ c. c.told };
-
-    ghost failures = { λ c. c.failures };
+    ghost reads = { counted_reads T.remaining };
 
     fn read(&mut self, buffer: &mut [u8]) -> Result<usize, Failed> {
         match self.inner.read(buffer) {
@@ -77,11 +75,9 @@ impl<T: Read> ByteIn for Counted<T> {
 }
 
 impl<T: Write> ByteOut for Counted<T> {
-    ghost taken = { λ c. T.contents c.inner };
+    ghost use Rattle.fx_frame.specs.Counted.{counted_writes};
 
-    ghost flushed = { λ c. c.flushed };
-
-    ghost failures = { λ c. c.failures };
+    ghost writes = { counted_writes T.contents };
 
     fn write(&mut self, bytes: &[u8]) -> Result<usize, Failed> {
         match self.inner.write(bytes) {

@@ -1,8 +1,8 @@
 //! What reads bytes and what takes bytes.
 
-ghost use Rattle.std.specs.Prelude.{◌≡◌, ℕ, ◌<◌, ◌≤◌, List, Option, Bool, ◌||◌, is_ok, IfOk, length, take};
+ghost use Rattle.std.specs.Prelude.{◌≡◌, ℕ, ◌<◌, ◌≤◌, ◌||◌, is_ok, IfOk, length, take};
 ghost use Rattle.std.specs.Io.KnownBytes.{Consumes, IsAtEnd, Keeps, WriteAppends};
-ghost use Rattle.fx_frame.specs.Io.{CountsBytes, CountsFailure, flushed_after};
+ghost use Rattle.fx_frame.specs.Io.{CountsBytes, CountsFailure, Reads, Writes, flushed_after};
 
 use thiserror::Error;
 
@@ -15,14 +15,8 @@ pub struct Failed;
 ///
 /// Its counts stay at `u64::MAX` once they have reached it.
 pub trait ByteIn {
-    // The bytes that are still to be told, where they are known.
-    ghost rest: { Self → Option (List ℕ) };
-
-    // How many bytes were told.
-    ghost told: { Self → ℕ };
-
-    // How many calls failed.
-    ghost failures: { Self → ℕ };
+    // What is still to be told, and what was counted.
+    ghost reads: { Reads Self };
 
     /// Tells some of the next bytes, at the front of `buffer`, and how many.
     ///
@@ -30,37 +24,31 @@ pub trait ByteIn {
     /// bytes still to be told are then unknown.
     fn read(&mut self, buffer: &mut [u8]) -> Result<usize, Failed>
         ensures bound { IfOk result (λ n. n ≤ length buffer.new) }
-        ensures bytes { IfOk result (λ n. Consumes (rest self.old) (rest self.new) (take n buffer.new)) }
-        ensures end { IfOk result (λ n. n ≡ 0 → 0 < length buffer.new → IsAtEnd (rest self.new)) }
-        ensures told { CountsBytes (told self.old) (told self.new) result }
-        ensures failures { CountsFailure (failures self.old) (failures self.new) result };
+        ensures bytes { IfOk result (λ n. Consumes (reads.rest self.old) (reads.rest self.new) (take n buffer.new)) }
+        ensures end { IfOk result (λ n. n ≡ 0 → 0 < length buffer.new → IsAtEnd (reads.rest self.new)) }
+        ensures told { CountsBytes (reads.told self.old) (reads.told self.new) result }
+        ensures failures { CountsFailure (reads.failures self.old) (reads.failures self.new) result };
 }
 
 /// A writer of bytes that counts how often it failed.
 ///
 /// Its count stays at `u64::MAX` once it has reached it.
 pub trait ByteOut {
-    // The bytes that were taken, where they are known.
-    ghost taken: { Self → Option (List ℕ) };
-
-    // Were all bytes that were taken flushed?
-    ghost flushed: { Self → Bool };
-
-    // How many calls failed.
-    ghost failures: { Self → ℕ };
+    // What was taken, and what was counted.
+    ghost writes: { Writes Self };
 
     /// Takes some of the first bytes, and tells how many: of a slice that is not empty at least
     /// one. A `Failed` takes none.
     fn write(&mut self, bytes: &[u8]) -> Result<usize, Failed>
         ensures bound { IfOk result (λ n. n ≤ length bytes.now) }
         ensures some { IfOk result (λ n. 0 < length bytes.now → 0 < n) }
-        ensures bytes { WriteAppends (taken self.old) (taken self.new) result bytes.now }
-        ensures flushed { flushed self.new ≡ flushed_after (flushed self.old) result }
-        ensures failures { CountsFailure (failures self.old) (failures self.new) result };
+        ensures bytes { WriteAppends (writes.taken self.old) (writes.taken self.new) result bytes.now }
+        ensures flushed { writes.flushed self.new ≡ flushed_after (writes.flushed self.old) result }
+        ensures failures { CountsFailure (writes.failures self.old) (writes.failures self.new) result };
 
     /// Hands on the bytes that were taken. It takes none.
     fn flush(&mut self) -> Result<(), Failed>
-        ensures bytes { Keeps (taken self.old) (taken self.new) }
-        ensures flushed { flushed self.new ≡ (is_ok result || flushed self.old) }
-        ensures failures { CountsFailure (failures self.old) (failures self.new) result };
+        ensures bytes { Keeps (writes.taken self.old) (writes.taken self.new) }
+        ensures flushed { writes.flushed self.new ≡ (is_ok result || writes.flushed self.old) }
+        ensures failures { CountsFailure (writes.failures self.old) (writes.failures self.new) result };
 }

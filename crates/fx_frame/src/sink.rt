@@ -74,11 +74,7 @@ impl Sink {
 }
 
 impl ByteOut for Sink {
-    ghost taken = { λ s. Some s.bytes };
-
-    ghost flushed = { λ s. s.flushed };
-
-    ghost failures = { λ s. s.device.failures };
+    ghost writes = { record { taken = λ s. Some s.bytes; flushed = λ s. s.flushed; failures = λ s. s.device.failures } };
 
     fn write(&mut self, bytes: &[u8]) -> Result<usize, Failed>
         ensures bound { IfOk result (λ n. n ≤ length bytes.now) }

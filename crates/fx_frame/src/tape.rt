@@ -54,11 +54,7 @@ impl Tape {
 }
 
 impl ByteIn for Tape {
-    ghost rest = { λ t. Some t.bytes };
-
-    ghost told = { λ t. t.told };
-
-    ghost failures = { λ t. t.device.failures };
+    ghost reads = { record { rest = λ t. Some t.bytes; told = λ t. t.told; failures = λ t. t.device.failures } };
 
     fn read(&mut self, buffer: &mut [u8]) -> Result<usize, Failed>
         ensures bound { IfOk result (λ n. n ≤ length buffer.new) }

@@ -78,15 +78,15 @@ fn fields(words: &[u8]) -> Result<Layout, HeadFault>
 
 /// The head of an AU sound behind `.snd`, up to the sound.
 pub(crate) fn read_au<R: ByteIn>(source: &mut Source<R>) -> Result<Layout, HeadFault>
-    ensures layout { IfOk result (λ l. Reads R.rest behind_snd source.old source.new (l.offset - 4) l) }
-    ensures told { IfOk result (λ l. Takes R.told source.old source.new (l.offset - 4)) }
+    ensures layout { IfOk result (λ l. Reads R.reads.rest behind_snd source.old source.new (l.offset - 4) l) }
+    ensures told { IfOk result (λ l. Takes R.reads.told source.old source.new (l.offset - 4)) }
     ensures offset { IfOk result (λ l. (4 < l.offset) × (l.offset ≤ FARTHEST)) }
     ensures proper { IfOk result (λ l. IsProper Kind.Au l.format) }
-    ensures fault { IfErr result (Refuses R.rest behind_snd source.old) }
-    ensures cut { IfErr result (Fails R.rest R.told behind_snd source.old source.new) }
+    ensures fault { IfErr result (Refuses R.reads.rest behind_snd source.old) }
+    ensures cut { IfErr result (Fails R.reads.rest R.reads.told behind_snd source.old source.new) }
     ensures failures { MatchBool (is_read_failure result)
-        (R.failures source.new.reader ≡ saturated (R.failures source.old.reader + 1))
-        (R.failures source.new.reader ≡ R.failures source.old.reader) }
+        (R.reads.failures source.new.reader ≡ saturated (R.reads.failures source.old.reader + 1))
+        (R.reads.failures source.new.reader ≡ R.reads.failures source.old.reader) }
 {
     let mut words = [0; 20];
     let Ok(got) = source.fill(&mut words) else {

@@ -74,10 +74,10 @@ impl Output {
     // Hands the writer what waits, once.
     fn write_some<W: ByteOut>(&mut self, writer: &mut W) -> Result<(), Failed>
         requires { 0 < length self.old.bytes }
-        ensures sent { SendsOn (W.taken writer.old) (W.taken writer.new) self.old self.new }
+        ensures sent { SendsOn (W.writes.taken writer.old) (W.writes.taken writer.new) self.old self.new }
         ensures count { total self.new ≡ total self.old }
         ensures ok { OnOk result (length self.new.bytes < length self.old.bytes) }
-        ensures failures { CountsFailure (W.failures writer.old) (W.failures writer.new) result }
+        ensures failures { CountsFailure (W.writes.failures writer.old) (W.writes.failures writer.new) result }
     {
         let n = writer.write(&self.buffer[self.start..self.end])?;
         self.start += n;
@@ -88,11 +88,11 @@ impl Output {
     // Hands the writer all that waits.
     #[inline(never)]
     fn drain<W: ByteOut>(&mut self, writer: &mut W) -> Result<(), Failed>
-        ensures sent { SendsOn (W.taken writer.old) (W.taken writer.new) self.old self.new }
+        ensures sent { SendsOn (W.writes.taken writer.old) (W.writes.taken writer.new) self.old self.new }
         ensures count { total self.new ≡ total self.old }
         ensures empty { OnOk result (self.new.bytes ≡ []) }
         ensures room { OnOk result (self.new.room ≡ BUFFER_SIZE) }
-        ensures failures { CountsFailure (W.failures writer.old) (W.failures writer.new) result }
+        ensures failures { CountsFailure (W.writes.failures writer.old) (W.writes.failures writer.new) result }
     {
         while self.waiting() > 0 {
             self.write_some(writer)?;
@@ -106,10 +106,10 @@ impl Output {
     #[inline(always)]
     fn make_room<W: ByteOut>(&mut self, writer: &mut W, size: usize) -> Result<(), Failed>
         requires { size ≤ BUFFER_SIZE }
-        ensures sent { SendsOn (W.taken writer.old) (W.taken writer.new) self.old self.new }
+        ensures sent { SendsOn (W.writes.taken writer.old) (W.writes.taken writer.new) self.old self.new }
         ensures count { total self.new ≡ total self.old }
         ensures room { OnOk result (size ≤ self.new.room) }
-        ensures failures { CountsFailure (W.failures writer.old) (W.failures writer.new) result }
+        ensures failures { CountsFailure (W.writes.failures writer.old) (W.writes.failures writer.new) result }
         ensures waits { size ≤ self.old.room → IsOk result × (writer.new ≡ writer.old) × (self.new ≡ self.old) }
     {
         if size <= BUFFER_SIZE - self.end {
@@ -156,10 +156,10 @@ impl Output {
     pub fn push<W: ByteOut>(&mut self, writer: &mut W, bytes: &[u8]) -> Result<(), Failed>
         requires piece { length bytes.now ≤ BUFFER_SIZE }
         requires count { total self.old + length bytes.now < 2 ^ 64 }
-        ensures sent { OnOk result (SendsMore (W.taken writer.old) (W.taken writer.new) self.old self.new bytes.now) }
-        ensures sent_err { OnErr result (SendsOn (W.taken writer.old) (W.taken writer.new) self.old self.new) }
+        ensures sent { OnOk result (SendsMore (W.writes.taken writer.old) (W.writes.taken writer.new) self.old self.new bytes.now) }
+        ensures sent_err { OnErr result (SendsOn (W.writes.taken writer.old) (W.writes.taken writer.new) self.old self.new) }
         ensures count { OnOk result (total self.new ≡ total self.old + length bytes.now) }
-        ensures failures { CountsFailure (W.failures writer.old) (W.failures writer.new) result }
+        ensures failures { CountsFailure (W.writes.failures writer.old) (W.writes.failures writer.new) result }
         ensures waits { length bytes.now ≤ self.old.room → IsOk result × (writer.new ≡ writer.old) × (self.new.room ≡ self.old.room - length bytes.now) }
     {
         self.make_room(writer, bytes.len())?;
@@ -177,12 +177,12 @@ impl Output {
         coding: Coding,
     ) -> Result<u64, Failed>
         requires { total self.old + 64 < 2 ^ 64 }
-        ensures sent { OnOk result (SendsMore (W.taken writer.old) (W.taken writer.new) self.old self.new (bytes_of coding frame.now)) }
+        ensures sent { OnOk result (SendsMore (W.writes.taken writer.old) (W.writes.taken writer.new) self.old self.new (bytes_of coding frame.now)) }
         ensures most { frame_size coding (length frame.now) ≤ 64 }
         ensures clips { IfOk result (λ n. n ≡ clips_of coding frame.now) }
-        ensures sent_err { OnErr result (SendsOn (W.taken writer.old) (W.taken writer.new) self.old self.new) }
+        ensures sent_err { OnErr result (SendsOn (W.writes.taken writer.old) (W.writes.taken writer.new) self.old self.new) }
         ensures count { OnOk result (total self.new ≡ total self.old + frame_size coding (length frame.now)) }
-        ensures failures { CountsFailure (W.failures writer.old) (W.failures writer.new) result }
+        ensures failures { CountsFailure (W.writes.failures writer.old) (W.writes.failures writer.new) result }
         ensures waits { frame_size coding (length frame.now) ≤ self.old.room
             → IsOk result × (writer.new ≡ writer.old) × (self.new.room ≡ self.old.room - frame_size coding (length frame.now)) }
     {
@@ -218,11 +218,11 @@ impl Output {
 
     /// Hands the writer all that waits, and flushes it.
     pub fn finish<W: ByteOut>(&mut self, writer: &mut W) -> Result<(), Failed>
-        ensures sent { SendsOn (W.taken writer.old) (W.taken writer.new) self.old self.new }
+        ensures sent { SendsOn (W.writes.taken writer.old) (W.writes.taken writer.new) self.old self.new }
         ensures count { total self.new ≡ total self.old }
         ensures empty { OnOk result (self.new.bytes ≡ []) }
-        ensures flushed { OnOk result (W.flushed writer.new ≡ true) }
-        ensures failures { CountsFailure (W.failures writer.old) (W.failures writer.new) result }
+        ensures flushed { OnOk result (W.writes.flushed writer.new ≡ true) }
+        ensures failures { CountsFailure (W.writes.failures writer.old) (W.writes.failures writer.new) result }
     {
         self.drain(writer)?;
         writer.flush()

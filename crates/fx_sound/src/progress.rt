@@ -202,28 +202,28 @@ pub fn next_frame<R: ByteIn>(
     progress: &mut Progress,
 ) -> Result<Option<Frame>, ReadFault>
     // A frame.
-    ensures frame { IfOk result (λ o. IfSome o (λ f. IfKnown (to_come R.rest source.old) (λ bytes.
-        TakesFrame progress.old bytes f (to_come R.rest source.new)))) }
+    ensures frame { IfOk result (λ o. IfSome o (λ f. IfKnown (to_come R.reads.rest source.old) (λ bytes.
+        TakesFrame progress.old bytes f (to_come R.reads.rest source.new)))) }
     ensures channels { IfOk result (λ o. IfSome o (λ f. length f ≡ progress.old.channels)) }
-    ensures told { IfOk result (λ o. OnSome o (Takes R.told source.old source.new (size_of progress.old))) }
+    ensures told { IfOk result (λ o. OnSome o (Takes R.reads.told source.old source.new (size_of progress.old))) }
     ensures counted { IfOk result (λ o. OnSome o (progress.new ≡ after_frame progress.old)) }
     ensures below { IfOk result (λ o. OnSome o ((progress.old.over ≡ false) × (progress.old.frames < MOST_FRAMES))) }
 
     // The end, and from then on.
-    ensures end { IfOk result (λ o. IfNone o (progress.old.over ≡ false → IfKnown (to_come R.rest source.old) (λ bytes.
+    ensures end { IfOk result (λ o. IfNone o (progress.old.over ≡ false → IfKnown (to_come R.reads.rest source.old) (λ bytes.
         EndsSound progress.old bytes progress.new))) }
     ensures over { IfOk result (λ o. IfNone o ((progress.new.over ≡ true) × (progress.new.frames ≡ progress.old.frames))) }
     ensures stays { progress.old.over ≡ true → (result ≡ Ok None) × (progress.new ≡ progress.old) × (source.new ≡ source.old) }
 
     // The faults.
     ensures read_failed { result ≡ Err ReadFault.ReadFailed →
-        FallsShort R.told source.old source.new.reader (at_most_announced progress.old.left (size_of progress.old)) }
+        FallsShort R.reads.told source.old source.new.reader (at_most_announced progress.old.left (size_of progress.old)) }
     ensures too_long { result ≡ Err ReadFault.TooLong → (progress.old.frames ≡ MOST_FRAMES)
-        × IfKnown (to_come R.rest source.old) (λ bytes. size_of progress.old ≤ length (within progress.old.left bytes)) }
+        × IfKnown (to_come R.reads.rest source.old) (λ bytes. size_of progress.old ≤ length (within progress.old.left bytes)) }
     ensures err { OnErr result (progress.new ≡ progress.old) }
     ensures failures { MatchBool (is_read_failed result)
-        (R.failures source.new.reader ≡ saturated (R.failures source.old.reader + 1))
-        (R.failures source.new.reader ≡ R.failures source.old.reader) }
+        (R.reads.failures source.new.reader ≡ saturated (R.reads.failures source.old.reader + 1))
+        (R.reads.failures source.new.reader ≡ R.reads.failures source.old.reader) }
     ensures most { progress.new.frames ≤ MOST_FRAMES }
 
     // No read where the bytes are there.

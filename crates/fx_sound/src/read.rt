@@ -33,15 +33,15 @@ fn found(expected: Option<Kind>, name: [u8; 4]) -> Option<Kind>
 }
 
 fn read_layout<R: ByteIn>(source: &mut Source<R>, kind: Kind) -> Result<Layout, HeadFault>
-    ensures layout { IfOk result (λ l. Reads R.rest (behind kind) source.old source.new (l.offset - 4) l) }
-    ensures told { IfOk result (λ l. Takes R.told source.old source.new (l.offset - 4)) }
+    ensures layout { IfOk result (λ l. Reads R.reads.rest (behind kind) source.old source.new (l.offset - 4) l) }
+    ensures told { IfOk result (λ l. Takes R.reads.told source.old source.new (l.offset - 4)) }
     ensures offset { IfOk result (λ l. (4 < l.offset) × (l.offset ≤ FARTHEST)) }
     ensures proper { IfOk result (λ l. IsProper kind l.format) }
-    ensures fault { IfErr result (Refuses R.rest (behind kind) source.old) }
-    ensures cut { IfErr result (Fails R.rest R.told (behind kind) source.old source.new) }
+    ensures fault { IfErr result (Refuses R.reads.rest (behind kind) source.old) }
+    ensures cut { IfErr result (Fails R.reads.rest R.reads.told (behind kind) source.old source.new) }
     ensures failures { MatchBool (is_read_failure result)
-        (R.failures source.new.reader ≡ saturated (R.failures source.old.reader + 1))
-        (R.failures source.new.reader ≡ R.failures source.old.reader) }
+        (R.reads.failures source.new.reader ≡ saturated (R.reads.failures source.old.reader + 1))
+        (R.reads.failures source.new.reader ≡ R.reads.failures source.old.reader) }
 {
     match kind {
         Kind::Wav => match read_wav(source) {
@@ -64,12 +64,12 @@ pub fn read_head<R: ByteIn>(
     source: &mut Source<R>,
     expected: Option<Kind>,
 ) -> Result<Head, HeadFault>
-    ensures head { IfOk result (λ h. IfKnown (to_come R.rest source.old) (λ bytes. ReadsHead R.rest R.told expected bytes source.old source.new h)) }
-    ensures fault { IfErr result (Refuses R.rest (head_of expected) source.old) }
-    ensures read_failed { IfErr result (Fails R.rest R.told (head_of expected) source.old source.new) }
+    ensures head { IfOk result (λ h. IfKnown (to_come R.reads.rest source.old) (λ bytes. ReadsHead R.reads.rest R.reads.told expected bytes source.old source.new h)) }
+    ensures fault { IfErr result (Refuses R.reads.rest (head_of expected) source.old) }
+    ensures read_failed { IfErr result (Fails R.reads.rest R.reads.told (head_of expected) source.old source.new) }
     ensures failures { MatchBool (is_read_failure result)
-        (R.failures source.new.reader ≡ saturated (R.failures source.old.reader + 1))
-        (R.failures source.new.reader ≡ R.failures source.old.reader) }
+        (R.reads.failures source.new.reader ≡ saturated (R.reads.failures source.old.reader + 1))
+        (R.reads.failures source.new.reader ≡ R.reads.failures source.old.reader) }
 {
     let mut name = [0; 4];
     let Ok(got) = source.fill(&mut name) else {

@@ -50,14 +50,14 @@ pub fn read_frames<R: ByteIn>(
 ) -> Result<Vec<Frame>, SoundFault>
     requires fresh { progress.old.frames ≡ 0 }
     requires begun { progress.old.over ≡ false }
-    ensures frames { IfOk result (λ v. IfKnown (to_come R.rest source.old) (λ bytes.
+    ensures frames { IfOk result (λ v. IfKnown (to_come R.reads.rest source.old) (λ bytes.
         v.items ≡ frames_of progress.old.coding progress.old.channels (within progress.old.left bytes))) }
-    ensures end { OnOk result (IfKnown (to_come R.rest source.old) (λ bytes.
+    ensures end { OnOk result (IfKnown (to_come R.reads.rest source.old) (λ bytes.
         progress.new ≡ at_end progress.old (within progress.old.left bytes))) }
     ensures read_failed { result ≡ Err (SoundFault.Read ReadFault.ReadFailed)
-        → ReadAllTold R.told source.old source.new.reader progress.old progress.new.frames }
+        → ReadAllTold R.reads.told source.old source.new.reader progress.old progress.new.frames }
     ensures behind_head { IfErr result IsBehindHead }
-    ensures too_long { result ≡ Err (SoundFault.Read ReadFault.TooLong) → IfKnown (to_come R.rest source.old) (λ bytes.
+    ensures too_long { result ≡ Err (SoundFault.Read ReadFault.TooLong) → IfKnown (to_come R.reads.rest source.old) (λ bytes.
         (MOST_FRAMES + 1) * size_of progress.old ≤ length (within progress.old.left bytes)) }
 {
     let mut frames = Vec::new(alloc);
@@ -81,8 +81,8 @@ pub fn read_sound<R: ByteIn>(
     source: &mut Source<R>,
     expected: Option<Kind>,
 ) -> Result<Sound, SoundFault>
-    ensures sound { IfOk result (λ s. IfKnown (to_come R.rest source.old) (λ bytes. container expected bytes ≡ Ok (outcome s))) }
-    ensures fault { IfErr result (λ e. IfKnown (to_come R.rest source.old) (λ bytes. IsHeadFault (container expected bytes) e)) }
+    ensures sound { IfOk result (λ s. IfKnown (to_come R.reads.rest source.old) (λ bytes. container expected bytes ≡ Ok (outcome s))) }
+    ensures fault { IfErr result (λ e. IfKnown (to_come R.reads.rest source.old) (λ bytes. IsHeadFault (container expected bytes) e)) }
 {
     let head = match read_head(source, expected) {
         Ok(head) => head,

@@ -93,11 +93,11 @@ impl<R: ByteIn> Source<R> {
     fn refill(&mut self) -> Result<usize, Failed>
         requires { length self.old.bytes < BUFFER_SIZE }
         ensures grows { IfOk result (λ n. length self.new.bytes ≡ length self.old.bytes + n) }
-        ensures stays { OnOk result (Stays R.rest self.old self.new) }
-        ensures end { IfOk result (λ n. n ≡ 0 → HoldsAll R.rest self.old self.new) }
+        ensures stays { OnOk result (Stays R.reads.rest self.old self.new) }
+        ensures end { IfOk result (λ n. n ≡ 0 → HoldsAll R.reads.rest self.old self.new) }
         ensures err { OnErr result (self.new.bytes ≡ self.old.bytes) }
-        ensures told { Takes R.told self.old self.new 0 }
-        ensures failures { CountsFailure (R.failures self.old.reader) (R.failures self.new.reader) result }
+        ensures told { Takes R.reads.told self.old self.new 0 }
+        ensures failures { CountsFailure (R.reads.failures self.old.reader) (R.reads.failures self.new.reader) result }
     {
         let held = self.end - self.start;
         self.buffer.copy_within(self.start..self.end, 0);
@@ -112,11 +112,11 @@ impl<R: ByteIn> Source<R> {
     #[inline(always)]
     pub(crate) fn hold(&mut self, want: usize) -> Result<(), Failed>
         requires { want ≤ BUFFER_SIZE }
-        ensures stays { OnOk result (Stays R.rest self.old self.new) }
-        ensures all { OnOk result (length self.new.bytes < want → HoldsAll R.rest self.old self.new) }
-        ensures told { Takes R.told self.old self.new 0 }
+        ensures stays { OnOk result (Stays R.reads.rest self.old self.new) }
+        ensures all { OnOk result (length self.new.bytes < want → HoldsAll R.reads.rest self.old self.new) }
+        ensures told { Takes R.reads.told self.old self.new 0 }
         ensures short { OnErr result (length self.new.bytes < want) }
-        ensures failures { CountsFailure (R.failures self.old.reader) (R.failures self.new.reader) result }
+        ensures failures { CountsFailure (R.reads.failures self.old.reader) (R.reads.failures self.new.reader) result }
         ensures unread { want ≤ length self.old.bytes → self.new ≡ self.old }
     {
         if self.held() >= want {
@@ -129,11 +129,11 @@ impl<R: ByteIn> Source<R> {
     #[inline(never)]
     fn gather(&mut self, want: usize) -> Result<(), Failed>
         requires { want ≤ BUFFER_SIZE }
-        ensures stays { OnOk result (Stays R.rest self.old self.new) }
-        ensures all { OnOk result (length self.new.bytes < want → HoldsAll R.rest self.old self.new) }
-        ensures told { Takes R.told self.old self.new 0 }
+        ensures stays { OnOk result (Stays R.reads.rest self.old self.new) }
+        ensures all { OnOk result (length self.new.bytes < want → HoldsAll R.reads.rest self.old self.new) }
+        ensures told { Takes R.reads.told self.old self.new 0 }
         ensures short { OnErr result (length self.new.bytes < want) }
-        ensures failures { CountsFailure (R.failures self.old.reader) (R.failures self.new.reader) result }
+        ensures failures { CountsFailure (R.reads.failures self.old.reader) (R.reads.failures self.new.reader) result }
         ensures unread { want ≤ length self.old.bytes → self.new ≡ self.old }
     {
         while self.held() < want {
@@ -148,12 +148,12 @@ impl<R: ByteIn> Source<R> {
     pub(crate) fn fill(&mut self, out: &mut [u8]) -> Result<usize, Failed>
         requires { length out.old ≤ BUFFER_SIZE }
         ensures count { IfOk result (λ n. n ≤ length out.new) }
-        ensures known { IfOk result (λ n. IfKnown (to_come R.rest self.old) (λ bytes.
-            (take n out.new ≡ take n bytes) × (n ≤ length bytes) × (to_come R.rest self.new ≡ Some (drop n bytes)))) }
-        ensures all { IfOk result (λ n. n < length out.new → IfKnown (to_come R.rest self.old) (λ bytes. n ≡ length bytes)) }
-        ensures told { IfOk result (Takes R.told self.old self.new) }
-        ensures short { OnErr result (FallsShort R.told self.old self.new.reader (length out.new)) }
-        ensures failures { CountsFailure (R.failures self.old.reader) (R.failures self.new.reader) result }
+        ensures known { IfOk result (λ n. IfKnown (to_come R.reads.rest self.old) (λ bytes.
+            (take n out.new ≡ take n bytes) × (n ≤ length bytes) × (to_come R.reads.rest self.new ≡ Some (drop n bytes)))) }
+        ensures all { IfOk result (λ n. n < length out.new → IfKnown (to_come R.reads.rest self.old) (λ bytes. n ≡ length bytes)) }
+        ensures told { IfOk result (Takes R.reads.told self.old self.new) }
+        ensures short { OnErr result (FallsShort R.reads.told self.old self.new.reader (length out.new)) }
+        ensures failures { CountsFailure (R.reads.failures self.old.reader) (R.reads.failures self.new.reader) result }
     {
         self.hold(out.len())?;
         let n = self.held().min(out.len());
@@ -165,12 +165,12 @@ impl<R: ByteIn> Source<R> {
     /// Takes `most` bytes off what is to come, or all there are, and says how many.
     pub(crate) fn skip(&mut self, most: usize) -> Result<usize, Failed>
         ensures count { IfOk result (λ n. n ≤ most) }
-        ensures bytes { IfOk result (λ n. IfKnown (to_come R.rest self.old) (λ bytes.
-            (n ≤ length bytes) × (to_come R.rest self.new ≡ Some (drop n bytes)))) }
-        ensures all { IfOk result (λ n. n < most → IfKnown (to_come R.rest self.old) (λ bytes. n ≡ length bytes)) }
-        ensures told { IfOk result (Takes R.told self.old self.new) }
-        ensures short { OnErr result (FallsShort R.told self.old self.new.reader most) }
-        ensures failures { CountsFailure (R.failures self.old.reader) (R.failures self.new.reader) result }
+        ensures bytes { IfOk result (λ n. IfKnown (to_come R.reads.rest self.old) (λ bytes.
+            (n ≤ length bytes) × (to_come R.reads.rest self.new ≡ Some (drop n bytes)))) }
+        ensures all { IfOk result (λ n. n < most → IfKnown (to_come R.reads.rest self.old) (λ bytes. n ≡ length bytes)) }
+        ensures told { IfOk result (Takes R.reads.told self.old self.new) }
+        ensures short { OnErr result (FallsShort R.reads.told self.old self.new.reader most) }
+        ensures failures { CountsFailure (R.reads.failures self.old.reader) (R.reads.failures self.new.reader) result }
     {
         let mut got = 0;
         while got < most {

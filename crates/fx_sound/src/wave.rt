@@ -158,14 +158,14 @@ fn asked(offset: u32, seen: Option<Format>, name: [u8; 4], size: u32) -> Result<
 fn read_format<R: ByteIn>(source: &mut Source<R>, size: u32) -> Result<Format, HeadFault>
     requires low { 16 ≤ size }
     requires high { size < 2 ^ 24 }
-    ensures format { IfOk result (Reads R.rest (format_read size) source.old source.new (padded size)) }
+    ensures format { IfOk result (Reads R.reads.rest (format_read size) source.old source.new (padded size)) }
     ensures proper { IfOk result (IsProper Kind.Wav) }
-    ensures told { IfOk result (λ _. Takes R.told source.old source.new (padded size)) }
-    ensures fault { IfErr result (Refuses R.rest (format_read size) source.old) }
-    ensures cut { IfErr result (Fails R.rest R.told (format_read size) source.old source.new) }
+    ensures told { IfOk result (λ _. Takes R.reads.told source.old source.new (padded size)) }
+    ensures fault { IfErr result (Refuses R.reads.rest (format_read size) source.old) }
+    ensures cut { IfErr result (Fails R.reads.rest R.reads.told (format_read size) source.old source.new) }
     ensures failures { MatchBool (is_read_failure result)
-        (R.failures source.new.reader ≡ saturated (R.failures source.old.reader + 1))
-        (R.failures source.new.reader ≡ R.failures source.old.reader) }
+        (R.reads.failures source.new.reader ≡ saturated (R.reads.failures source.old.reader + 1))
+        (R.reads.failures source.new.reader ≡ R.reads.failures source.old.reader) }
 {
     let mut buffer = [0; 40];
     let most = (size as usize).min(40);
@@ -198,14 +198,14 @@ fn read_body<R: ByteIn>(
 ) -> Result<Step, HeadFault>
     requires demand { AskedAt offset demand }
     requires seen { IsProperSeen seen }
-    ensures step { IfOk result (λ s. Reads R.rest (λ body. with_body offset seen body (Ok demand)) source.old source.new (end_of s - (offset + 8)) s) }
-    ensures told { IfOk result (λ s. Takes R.told source.old source.new (end_of s - (offset + 8))) }
+    ensures step { IfOk result (λ s. Reads R.reads.rest (λ body. with_body offset seen body (Ok demand)) source.old source.new (end_of s - (offset + 8)) s) }
+    ensures told { IfOk result (λ s. Takes R.reads.told source.old source.new (end_of s - (offset + 8))) }
     ensures on { IfOk result (GoesOn offset) }
-    ensures fault { IfErr result (Refuses R.rest (λ body. with_body offset seen body (Ok demand)) source.old) }
-    ensures cut { IfErr result (Fails R.rest R.told (λ body. with_body offset seen body (Ok demand)) source.old source.new) }
+    ensures fault { IfErr result (Refuses R.reads.rest (λ body. with_body offset seen body (Ok demand)) source.old) }
+    ensures cut { IfErr result (Fails R.reads.rest R.reads.told (λ body. with_body offset seen body (Ok demand)) source.old source.new) }
     ensures failures { MatchBool (is_read_failure result)
-        (R.failures source.new.reader ≡ saturated (R.failures source.old.reader + 1))
-        (R.failures source.new.reader ≡ R.failures source.old.reader) }
+        (R.reads.failures source.new.reader ≡ saturated (R.reads.failures source.old.reader + 1))
+        (R.reads.failures source.new.reader ≡ R.reads.failures source.old.reader) }
 {
     match demand {
         Demand::Sound(head) => Ok(Step::Sound(head)),
@@ -244,14 +244,14 @@ fn read_step<R: ByteIn>(
 ) -> Result<Step, HeadFault>
     requires place { offset + 8 ≤ 2 ^ 24 }
     requires seen { IsProperSeen seen }
-    ensures step { IfOk result (λ s. Reads R.rest (step_of offset seen) source.old source.new (end_of s - offset) s) }
-    ensures told { IfOk result (λ s. Takes R.told source.old source.new (end_of s - offset)) }
+    ensures step { IfOk result (λ s. Reads R.reads.rest (step_of offset seen) source.old source.new (end_of s - offset) s) }
+    ensures told { IfOk result (λ s. Takes R.reads.told source.old source.new (end_of s - offset)) }
     ensures on { IfOk result (GoesOn offset) }
-    ensures fault { IfErr result (Refuses R.rest (step_of offset seen) source.old) }
-    ensures cut { IfErr result (Fails R.rest R.told (step_of offset seen) source.old source.new) }
+    ensures fault { IfErr result (Refuses R.reads.rest (step_of offset seen) source.old) }
+    ensures cut { IfErr result (Fails R.reads.rest R.reads.told (step_of offset seen) source.old source.new) }
     ensures failures { MatchBool (is_read_failure result)
-        (R.failures source.new.reader ≡ saturated (R.failures source.old.reader + 1))
-        (R.failures source.new.reader ≡ R.failures source.old.reader) }
+        (R.reads.failures source.new.reader ≡ saturated (R.reads.failures source.old.reader + 1))
+        (R.reads.failures source.new.reader ≡ R.reads.failures source.old.reader) }
 {
     let mut head = [0; 8];
     let Ok(got) = source.fill(&mut head) else {
@@ -276,15 +276,15 @@ const MOST_CHUNKS: u32 = 1 << 21;
 
 // The chunks behind `WAVE`, up to the sound.
 fn read_chunks<R: ByteIn>(source: &mut Source<R>) -> Result<Layout, HeadFault>
-    ensures head { IfOk result (λ h. Reads R.rest (chunks_of most_chunks 12 None) source.old source.new (h.offset - 12) h) }
-    ensures told { IfOk result (λ h. Takes R.told source.old source.new (h.offset - 12)) }
+    ensures head { IfOk result (λ h. Reads R.reads.rest (chunks_of most_chunks 12 None) source.old source.new (h.offset - 12) h) }
+    ensures told { IfOk result (λ h. Takes R.reads.told source.old source.new (h.offset - 12)) }
     ensures offset { IfOk result (λ h. (12 < h.offset) × (h.offset ≤ 2 ^ 24)) }
     ensures proper { IfOk result (λ h. IsProper Kind.Wav h.format) }
-    ensures fault { IfErr result (Refuses R.rest (chunks_of most_chunks 12 None) source.old) }
-    ensures cut { IfErr result (Fails R.rest R.told (chunks_of most_chunks 12 None) source.old source.new) }
+    ensures fault { IfErr result (Refuses R.reads.rest (chunks_of most_chunks 12 None) source.old) }
+    ensures cut { IfErr result (Fails R.reads.rest R.reads.told (chunks_of most_chunks 12 None) source.old source.new) }
     ensures failures { MatchBool (is_read_failure result)
-        (R.failures source.new.reader ≡ saturated (R.failures source.old.reader + 1))
-        (R.failures source.new.reader ≡ R.failures source.old.reader) }
+        (R.reads.failures source.new.reader ≡ saturated (R.reads.failures source.old.reader + 1))
+        (R.reads.failures source.new.reader ≡ R.reads.failures source.old.reader) }
 {
     let mut offset = 12;
     let mut seen = None;
@@ -306,15 +306,15 @@ fn read_chunks<R: ByteIn>(source: &mut Source<R>) -> Result<Layout, HeadFault>
 
 /// The head of a WAVE sound behind `RIFF`, up to the sound.
 pub(crate) fn read_wav<R: ByteIn>(source: &mut Source<R>) -> Result<Layout, HeadFault>
-    ensures layout { IfOk result (λ h. Reads R.rest behind_riff source.old source.new (h.offset - 4) h) }
-    ensures told { IfOk result (λ h. Takes R.told source.old source.new (h.offset - 4)) }
+    ensures layout { IfOk result (λ h. Reads R.reads.rest behind_riff source.old source.new (h.offset - 4) h) }
+    ensures told { IfOk result (λ h. Takes R.reads.told source.old source.new (h.offset - 4)) }
     ensures offset { IfOk result (λ h. (4 < h.offset) × (h.offset ≤ FARTHEST)) }
     ensures proper { IfOk result (λ h. IsProper Kind.Wav h.format) }
-    ensures fault { IfErr result (Refuses R.rest behind_riff source.old) }
-    ensures cut { IfErr result (Fails R.rest R.told behind_riff source.old source.new) }
+    ensures fault { IfErr result (Refuses R.reads.rest behind_riff source.old) }
+    ensures cut { IfErr result (Fails R.reads.rest R.reads.told behind_riff source.old source.new) }
     ensures failures { MatchBool (is_read_failure result)
-        (R.failures source.new.reader ≡ saturated (R.failures source.old.reader + 1))
-        (R.failures source.new.reader ≡ R.failures source.old.reader) }
+        (R.reads.failures source.new.reader ≡ saturated (R.reads.failures source.old.reader + 1))
+        (R.reads.failures source.new.reader ≡ R.reads.failures source.old.reader) }
 {
     let mut words = [0; 8];
     let Ok(got) = source.fill(&mut words) else {

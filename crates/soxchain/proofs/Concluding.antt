@@ -1,10 +1,11 @@
 -- A conversion, concluded from its two halves: what is prepared, and what is finished.
 use Rattle.std.proofs.Common.{◌≡◌, ℕ, List, [], refl, sym, ap, subst, ◌∙◌, ◌⊎◌, inl, inr, drop}
-use Rattle.std.specs.Prelude.{Bool, Option, Result, Ok, Err}
+use Rattle.std.specs.Prelude.{Option, Result, Ok, Err}
 use Rattle.fx_chain.specs.declared.report.Report.{Report}
 use Rattle.fx_chain.specs.declared.report.RunFault.{RunFault}
 use Rattle.fx_chain.specs.Chain.{IsNewChain}
 use Rattle.fx_chain.specs.Report.{cause_of, no_report, report_at, report_in, start_of}
+use Rattle.fx_frame.specs.Io.{Reads, Writes}
 use Rattle.fx_line.specs.declared.line.LineFault.{LineFault}
 use Rattle.fx_line.specs.Line.{Said, line_of}
 use Rattle.fx_plan.specs.CommandLines.{LineReads, effects_in, planning_in}
@@ -32,16 +33,16 @@ fresh reader = record { bytes = []; reader = reader }
 pub line-reads : (found : Result Said LineFault) (line : Said) → found ≡ Ok line → LineReads found (Ok line)
 line-reads found line h = subst (λ (x : Result Said LineFault). LineReads x (Ok line)) (sym h) refl
 
-module _ {R W : Type 0} (rest : R → Option (List ℕ)) (told reads : R → ℕ) (taken : W → Option (List ℕ)) (flushed : W → Bool) (writes : W → ℕ)
+module _ {R W : Type 0} (reads : Reads R) (writes : Writes W)
     (words files : List (List ℕ)) (reader : R) (IsTold : List ℕ → Type 0) where
   -- what a conversion comes to
   abbrev pub Concluded : W → W → R → ℕ → Report → Type 0
   Concluded writer new_writer inner status report =
-      (found : Result Said LineFault) × LineReads (line_of words) found × Concludes (λ line. Converted rest told reads taken flushed writes line files reader inner writer new_writer) ((inner ≡ reader) × (new_writer ≡ writer)) IsTold status report found
+      (found : Result Said LineFault) × LineReads (line_of words) found × Concludes (λ line. Converted reads writes line files reader inner writer new_writer) ((inner ≡ reader) × (new_writer ≡ writer)) IsTold status report found
 
   -- nothing was ready: the line, the head or the plan was refused, or memory was wanting
   pub refused : (new : Held R) (writer : W) (inner : R) (status : ℕ) → inner ≡ new.reader
-      → LineRefused words (fresh reader) new IsTold status ⊎ LineUnready rest told reads words files (fresh reader) new IsTold status
+      → LineRefused words (fresh reader) new IsTold status ⊎ LineUnready reads words files (fresh reader) new IsTold status
       → Concluded writer writer inner status no_report
   refused new writer inner status is (inl r) =
       (Err r.fault, r.reads, (r.status_is, refl, (is ∙ ap (λ (s : Held R). s.reader) r.unread, refl), r.told))
@@ -57,14 +58,14 @@ module _ {R W : Type 0} (rest : R → Option (List ℕ)) (told reads : R → ℕ
         clean = λ r e. refl;
         refused = λ f e other bytes known.
             let same : u.unready.refusal ≡ Head f = cc in
-            u.unready.head_refused f same other bytes (to_come-start rest (fresh reader) reader bytes refl refl known);
+            u.unready.head_refused f same other bytes (to_come-start reads.rest (fresh reader) reader bytes refl refl known);
         cut = λ e.
             let same : u.unready.refusal ≡ Head ReadFailed = cc in
             (new, u.unready.head_cut ReadFailed same refl, sym is);
         unplanned = λ f e bytes known.
             let same : u.unready.refusal ≡ Plan f = cc in
             let found = u.unready.plan_refused f same in
-            let head = found.read bytes (to_come-start rest (fresh reader) reader bytes refl refl known) in
+            let head = found.read bytes (to_come-start reads.rest (fresh reader) reader bytes refl refl known) in
             record {
               head = found.head;
               offset = head.offset;
@@ -74,7 +75,7 @@ module _ {R W : Type 0} (rest : R → Option (List ℕ)) (told reads : R → ℕ
         unchained = λ e bytes known.
             let same : u.unready.refusal ≡ Chain = cc in
             let found = u.unready.chain_refused same in
-            let head = found.read bytes (to_come-start rest (fresh reader) reader bytes refl refl known) in
+            let head = found.read bytes (to_come-start reads.rest (fresh reader) reader bytes refl refl known) in
             record {
               head = found.head;
               offset = head.offset;
@@ -84,7 +85,7 @@ module _ {R W : Type 0} (rest : R → Option (List ℕ)) (told reads : R → ℕ
         stopped = λ f e. absurd (cc);
         causes = λ s e.
             let same : Refused u.unready.refusal ≡ s = cc in
-            subst (λ (t : Stop). StopHasCause t (reads reader) (reads inner) (writes writer) (writes writer)) same (rw (← is) at u.unready.cause);
+            subst (λ (t : Stop). StopHasCause t (reads.failures reader) (reads.failures inner) (writes.failures writer) (writes.failures writer)) same (rw (← is) at u.unready.cause);
       };
       status_is = u.unready.status_is;
       report_is = refl;
@@ -95,20 +96,20 @@ module _ {R W : Type 0} (rest : R → Option (List ℕ)) (told reads : R → ℕ
   -- what was ready when a run began
   pub record Began (middle : Held R) (ready : Ready) : Type 0 where
     pub line : line_of words ≡ Ok ready.line
-    pub head : IfKnown (to_come rest (fresh reader)) (λ bytes. ReadsHead rest told ready.line.input_kind bytes (fresh reader) middle ready.prepared.plan.head)
+    pub head : IfKnown (to_come reads.rest (fresh reader)) (λ bytes. ReadsHead reads.rest reads.told ready.line.input_kind bytes (fresh reader) middle ready.prepared.plan.head)
     pub no_faults : all_faults (head_layout ready.prepared.plan.head) files (effects_in ready.line) ≡ []
     pub planned : planning ready.prepared.plan ≡ planning_in ready.prepared.plan.head ready.line files
     pub chain : IsNewChain (planning ready.prepared.plan) ready.prepared.chain
-    pub unfailed : reads middle.reader ≡ reads reader
+    pub unfailed : reads.failures middle.reader ≡ reads.failures reader
 
   module _ (middle new : Held R) (ready : Ready) (writer new_writer : W) (inner : R) (status : ℕ) (report : Report)
-      (began : Began middle ready) (f : Finished rest told reads taken flushed writes ready middle new writer new_writer IsTold status report) (is : inner ≡ new.reader) where
+      (began : Began middle ready) (f : Finished reads writes ready middle new writer new_writer IsTold status report) (is : inner ≡ new.reader) where
     -- the head that the bytes begin with
-    abbrev pub head-in : (bytes : List ℕ) → rest reader ≡ Option.Some bytes → ReadsHead rest told ready.line.input_kind bytes (fresh reader) middle ready.prepared.plan.head
-    head-in bytes known = began.head bytes (to_come-start rest (fresh reader) reader bytes refl refl known)
+    abbrev pub head-in : (bytes : List ℕ) → reads.rest reader ≡ Option.Some bytes → ReadsHead reads.rest reads.told ready.line.input_kind bytes (fresh reader) middle ready.prepared.plan.head
+    head-in bytes known = began.head bytes (to_come-start reads.rest (fresh reader) reader bytes refl refl known)
 
     -- the run, as far as it came
-    abbrev pub running : (bytes : List ℕ) (r : Report) → rest reader ≡ Option.Some bytes → report_in f.outcome ≡ r → Running ready.line files bytes r
+    abbrev pub running : (bytes : List ℕ) (r : Report) → reads.rest reader ≡ Option.Some bytes → report_in f.outcome ≡ r → Running ready.line files bytes r
     running bytes r known e =
         let head = head-in bytes known in
         record {
@@ -133,7 +134,7 @@ module _ {R W : Type 0} (rest : R → Option (List ℕ)) (told reads : R → ℕ
               let head = head-in bytes known in
               record { run = running bytes r known (ap report_in e); ran = rw e at f.ran (drop head.offset bytes) head.others };
           all_flushed = rw e at f.all_flushed;
-          unfailed = let went = rw e at f.causes in (ap reads is ∙ went.0 ∙ began.unfailed, went.1);
+          unfailed = let went = rw e at f.causes in (ap reads.failures is ∙ went.0 ∙ began.unfailed, went.1);
           clean = λ r e. absurd (cc);
           refused = λ f e. absurd (cc);
           cut = λ e. absurd (cc);
@@ -164,17 +165,17 @@ module _ {R W : Type 0} (rest : R → Option (List ℕ)) (told reads : R → ℕ
           stopped = λ x h bytes known.
               let same : fault ≡ x = cc in
               let head = head-in bytes known in
-              let told-of = Ran-told told (fresh reader) middle reader new.reader (start_of ready.prepared.plan.head) head.offset (report_at fault).frames_in refl refl head.tells in
-              subst (λ (y : RunFault). Stopped told reads ready.line files bytes reader inner (taken writer) (taken new_writer) y) same
+              let told-of = Ran-told reads.told (fresh reader) middle reader new.reader (start_of ready.prepared.plan.head) head.offset (report_at fault).frames_in refl refl head.tells in
+              subst (λ (y : RunFault). Stopped reads ready.line files bytes reader inner (writes.taken writer) (writes.taken new_writer) y) same
               (record {
                 run = running bytes (report_at fault) known (ap report_in e);
                 ran = rw e at f.ran (drop head.offset bytes) head.others;
                 read_failed = λ c few. rw (← is) at (told-of (rw e at f.read_failed c) (rw is at few));
-                read_before = λ c. rw (is, ← began.unfailed) (HasCause-before _ (ToldFirst told reader new.reader (planning ready.prepared.plan) head.offset (report_at fault).frames_in (report_at fault).frames_out) (cause_of fault) _ _ _ _ c (rw e at f.causes) (λ q. record { due = q.due; not_enough = q.not_enough; took_all = λ few. told-of q.read_failed few }));
+                read_before = λ c. rw (is, ← began.unfailed) (HasCause-before _ (ToldFirst reads reader new.reader (planning ready.prepared.plan) head.offset (report_at fault).frames_in (report_at fault).frames_out) (cause_of fault) _ _ _ _ c (rw e at f.causes) (λ q. record { due = q.due; not_enough = q.not_enough; took_all = λ few. told-of q.read_failed few }));
               });
           causes = λ s h.
               let same : Run fault ≡ s = cc in
-              subst (λ (t : Stop). StopHasCause t (reads reader) (reads inner) (writes writer) (writes new_writer)) same (HasCause-map _ _ (λ _. tt) (cause_of fault) _ _ _ _ (rw (← is, began.unfailed, e) at f.causes));
+              subst (λ (t : Stop). StopHasCause t (reads.failures reader) (reads.failures inner) (writes.failures writer) (writes.failures new_writer)) same (HasCause-map _ _ (λ _. tt) (cause_of fault) _ _ _ _ (rw (← is, began.unfailed, e) at f.causes));
         };
         status_is = f.status_is ∙ ap run_status e;
         report_is = f.report_is ∙ ap report_in e;

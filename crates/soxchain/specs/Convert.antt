@@ -7,7 +7,7 @@ use Rattle.fx_chain.specs.Report.{HasCause, cause_of, report_at, start_of}
 use Rattle.fx_chain.specs.Run.{WantsMore}
 use Rattle.fx_chain.specs.Theorem.{Ran, kinds_of}
 use Rattle.fx_flow.specs.Parts.{due_of, enough_for}
-use Rattle.fx_frame.specs.Io.{saturated}
+use Rattle.fx_frame.specs.Io.{Reads, Writes, saturated}
 use Rattle.fx_line.specs.Line.{Said}
 use Rattle.fx_plan.specs.declared.fault.PlanFault.{PlanFault}
 use Rattle.fx_plan.specs.Bounds.{work_of}
@@ -53,25 +53,25 @@ pub record Whole (line : Said) (files : List (List ℕ)) (bytes : List ℕ) (fir
   pub ran : Ran run.plan (drop run.offset bytes) first now (Ok r)
 
 -- the reader told the head and so many bytes of the sound: n are all their whole frames
-abbrev pub TookAllTold : {R : Type 0} → (R → ℕ) → R → R → Head → ℕ → ℕ → Type 0
-TookAllTold told reader new h offset n = told new < 2 ^ 64 - 1 → (told reader + offset ≤ told new) × (n ≡ at_most_announced h.announced (told new - told reader - offset) / size_of (start_of h))
+abbrev pub TookAllTold : {R : Type 0} → Reads R → R → R → Head → ℕ → ℕ → Type 0
+TookAllTold reads reader new h offset n = reads.told new < 2 ^ 64 - 1 → (reads.told reader + offset ≤ reads.told new) × (n ≡ at_most_announced h.announced (reads.told new - reads.told reader - offset) / size_of (start_of h))
 
 -- a read had failed before: all whole frames had come, no effect had enough of them, and all that was due had been given
-pub record ToldFirst {R : Type 0} (told : R → ℕ) (reader new : R) (plan : Planning) (offset n given : ℕ) : Type 0 where
+pub record ToldFirst {R : Type 0} (reads : Reads R) (reader new : R) (plan : Planning) (offset n given : ℕ) : Type 0 where
   pub due : given ≡ due_of (kinds_of plan) n
   pub not_enough : enough_for (kinds_of plan) n ≡ false
-  pub took_all : TookAllTold told reader new plan.head offset n
+  pub took_all : TookAllTold reads reader new plan.head offset n
 
 -- The run over the bytes stopped: what was written and is reported. After a failed read, and where the sound is too long, the
 -- frames then due were written; after a failed write the writer has a front.
-pub record Stopped {R : Type 0} (told reads : R → ℕ) (line : Said) (files : List (List ℕ)) (bytes : List ℕ) (reader new : R) (first now : Option (List ℕ)) (f : RunFault) : Type 0 where
+pub record Stopped {R : Type 0} (reads : Reads R) (line : Said) (files : List (List ℕ)) (bytes : List ℕ) (reader new : R) (first now : Option (List ℕ)) (f : RunFault) : Type 0 where
   pub run : Running line files bytes (report_at f)
   pub ran : Ran run.plan (drop run.offset bytes) first now (Err f)
   -- after a failed read all whole frames had come
-  pub read_failed : cause_of f ≡ Causes.ReadFailed → TookAllTold told reader new run.plan.head run.offset (report_at f).frames_in
+  pub read_failed : cause_of f ≡ Causes.ReadFailed → TookAllTold reads reader new run.plan.head run.offset (report_at f).frames_in
   -- where the writer failed no read had failed, or one had before
-  pub read_before : cause_of f ≡ Causes.WriteFailed → (reads new ≡ reads reader)
-      ⊎ ((reads new ≡ saturated (reads reader + 1)) × ToldFirst told reader new run.plan run.offset (report_at f).frames_in (report_at f).frames_out)
+  pub read_before : cause_of f ≡ Causes.WriteFailed → (reads.failures new ≡ reads.failures reader)
+      ⊎ ((reads.failures new ≡ saturated (reads.failures reader + 1)) × ToldFirst reads reader new run.plan run.offset (report_at f).frames_in (report_at f).frames_out)
 
 -- a stop is answered only where its cause was counted
 abbrev pub StopHasCause : Stop → ℕ → ℕ → ℕ → ℕ → Type 0
@@ -93,17 +93,17 @@ pub record Unchained (line : Said) (files : List (List ℕ)) (bytes : List ℕ) 
   pub no_faults : all_faults (head_layout head) files (effects_in line) ≡ []
 
 -- a conversion, from one state of reader and writer to the next
-pub record Converted {R W : Type 0} (rest : R → Option (List ℕ)) (told reads : R → ℕ) (taken : W → Option (List ℕ)) (flushed : W → Bool) (writes : W → ℕ)
+pub record Converted {R W : Type 0} (reads : Reads R) (writes : Writes W)
     (line : Said) (files : List (List ℕ)) (reader new_reader : R) (writer new_writer : W) (outcome : Result Report Stop) : Type 0 where
-  pub whole : IfOk outcome (λ r. IfKnown (rest reader) (λ bytes. Whole line files bytes (taken writer) (taken new_writer) r))
-  pub all_flushed : IfOk outcome (λ _. flushed new_writer ≡ true)
-  pub unfailed : IfOk outcome (λ _. (reads new_reader ≡ reads reader) × (writes new_writer ≡ writes writer))
+  pub whole : IfOk outcome (λ r. IfKnown (reads.rest reader) (λ bytes. Whole line files bytes (writes.taken writer) (writes.taken new_writer) r))
+  pub all_flushed : IfOk outcome (λ _. writes.flushed new_writer ≡ true)
+  pub unfailed : IfOk outcome (λ _. (reads.failures new_reader ≡ reads.failures reader) × (writes.failures new_writer ≡ writes.failures writer))
   -- what is refused before the run has written nothing
   pub clean : (r : Refusal) → outcome ≡ Err (Refused r) → new_writer ≡ writer
-  pub refused : (f : HeadFault) → outcome ≡ Err (Refused (Refusals.Head f)) → f ≢ HeadFaults.ReadFailed → IfKnown (rest reader) (λ bytes. head_of line.input_kind bytes ≡ Err f)
-  pub cut : outcome ≡ Err (Refused (Refusals.Head HeadFaults.ReadFailed)) → (new : Held R) × CutOff rest told (head_of line.input_kind) (record { bytes = []; reader = reader }) new × (new.reader ≡ new_reader)
-  pub unplanned : (f : PlanFault) → outcome ≡ Err (Refused (Refusals.Plan f)) → IfKnown (rest reader) (λ bytes. Unplanned line files bytes f)
+  pub refused : (f : HeadFault) → outcome ≡ Err (Refused (Refusals.Head f)) → f ≢ HeadFaults.ReadFailed → IfKnown (reads.rest reader) (λ bytes. head_of line.input_kind bytes ≡ Err f)
+  pub cut : outcome ≡ Err (Refused (Refusals.Head HeadFaults.ReadFailed)) → (new : Held R) × CutOff reads.rest reads.told (head_of line.input_kind) (record { bytes = []; reader = reader }) new × (new.reader ≡ new_reader)
+  pub unplanned : (f : PlanFault) → outcome ≡ Err (Refused (Refusals.Plan f)) → IfKnown (reads.rest reader) (λ bytes. Unplanned line files bytes f)
   -- no memory for the chain: head and plan had stood
-  pub unchained : outcome ≡ Err (Refused Refusals.Chain) → IfKnown (rest reader) (λ bytes. Unchained line files bytes)
-  pub stopped : (f : RunFault) → outcome ≡ Err (Run f) → IfKnown (rest reader) (λ bytes. Stopped told reads line files bytes reader new_reader (taken writer) (taken new_writer) f)
-  pub causes : (s : Stop) → outcome ≡ Err s → StopHasCause s (reads reader) (reads new_reader) (writes writer) (writes new_writer)
+  pub unchained : outcome ≡ Err (Refused Refusals.Chain) → IfKnown (reads.rest reader) (λ bytes. Unchained line files bytes)
+  pub stopped : (f : RunFault) → outcome ≡ Err (Run f) → IfKnown (reads.rest reader) (λ bytes. Stopped reads line files bytes reader new_reader (writes.taken writer) (writes.taken new_writer) f)
+  pub causes : (s : Stop) → outcome ≡ Err s → StopHasCause s (reads.failures reader) (reads.failures new_reader) (writes.failures writer) (writes.failures new_writer)

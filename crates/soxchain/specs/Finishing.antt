@@ -1,11 +1,12 @@
 -- What a run that was ready comes to (this project's profile).
-use Rattle.std.specs.Prelude.{◌≡◌, ◌≤◌, ℕ, Bool, true, List, Option, Result, Ok, Err, IfErr, OnOk, MatchResult, ◌++◌}
+use Rattle.std.specs.Prelude.{◌≡◌, ◌≤◌, ℕ, true, List, Result, Ok, Err, IfErr, OnOk, MatchResult, ◌++◌}
 use Rattle.fx_chain.specs.declared.pump.Cause.TheVariants as Causes
 use Rattle.fx_chain.specs.declared.report.Report.{Report}
 use Rattle.fx_chain.specs.declared.report.RunFault.{RunFault}
 use Rattle.fx_chain.specs.Report.{HasCause, cause_of, report_at, report_in, start_of}
 use Rattle.fx_chain.specs.Run.{RanToFailure, WantsMore}
 use Rattle.fx_chain.specs.Theorem.{Ran, ReadFirst, kinds_of}
+use Rattle.fx_frame.specs.Io.{Reads, Writes}
 use Rattle.fx_line.specs.Line.{Said}
 use Rattle.fx_plan.specs.Bounds.{work_of}
 use Rattle.fx_plan.specs.Planning.{planning}
@@ -25,20 +26,20 @@ run_messages line (Ok r) = warnings line r
 run_messages line (Err f) = warnings line (report_at f) ++ run_message (run_label f) (report_at f).frames_in
 
 -- A run of what was ready: how it went, and status, report and messages that follow from it.
-pub record Finished {R W : Type 0} (rest : R → Option (List ℕ)) (told reads : R → ℕ) (taken : W → Option (List ℕ)) (flushed : W → Bool) (writes : W → ℕ)
+pub record Finished {R W : Type 0} (reads : Reads R) (writes : Writes W)
     (ready : Ready) (source new_source : Held R) (writer new_writer : W) (IsTold : List ℕ → Type 0) (status : ℕ) (report : Report) : Type 0 where
   pub outcome : Result Report RunFault
   -- what was written and is reported, as functions of the plan and the bytes
-  pub ran : IfKnown (to_come rest source) (λ bytes. Ran (planning ready.prepared.plan) bytes (taken writer) (taken new_writer) outcome)
-  pub all_flushed : OnOk outcome (flushed new_writer ≡ true)
+  pub ran : IfKnown (to_come reads.rest source) (λ bytes. Ran (planning ready.prepared.plan) bytes (writes.taken writer) (writes.taken new_writer) outcome)
+  pub all_flushed : OnOk outcome (writes.flushed new_writer ≡ true)
   -- after a failed read all whole frames that were told had come
-  pub read_failed : IfErr outcome (λ f. cause_of f ≡ Causes.ReadFailed → RanToFailure told source new_source.reader (start_of ready.prepared.plan.head) (report_at f).frames_in)
+  pub read_failed : IfErr outcome (λ f. cause_of f ≡ Causes.ReadFailed → RanToFailure reads.told source new_source.reader (start_of ready.prepared.plan.head) (report_at f).frames_in)
   -- no frame was read past those that are enough for some effect, and no more were handed over than the plan says
   pub wants : WantsMore (kinds_of (planning ready.prepared.plan)) (report_in outcome).frames_in
   pub work : (report_in outcome).moves ≤ work_of (planning ready.prepared.plan).acts (report_in outcome).frames_in
   pub causes : MatchResult outcome
-      (λ _. (reads new_source.reader ≡ reads source.reader) × (writes new_writer ≡ writes writer))
-      (λ f. HasCause (cause_of f) (ReadFirst told source new_source.reader (planning ready.prepared.plan) (report_at f).frames_in (report_at f).frames_out) (reads source.reader) (reads new_source.reader) (writes writer) (writes new_writer))
+      (λ _. (reads.failures new_source.reader ≡ reads.failures source.reader) × (writes.failures new_writer ≡ writes.failures writer))
+      (λ f. HasCause (cause_of f) (ReadFirst reads.told source new_source.reader (planning ready.prepared.plan) (report_at f).frames_in (report_at f).frames_out) (reads.failures source.reader) (reads.failures new_source.reader) (writes.failures writer) (writes.failures new_writer))
   pub status_is : status ≡ run_status outcome
   pub report_is : report ≡ report_in outcome
   pub told_is : IsTold (run_messages ready.line outcome)

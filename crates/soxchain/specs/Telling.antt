@@ -1,7 +1,7 @@
 -- What was told to a writer of messages.
 use Rattle.std.specs.Prelude.{◌≡◌, ℕ, ◌+◌, ◌≤◌, Bool, true, false, List, ◌++◌, length, take, Option}
 use Rattle.std.specs.Io.KnownBytes.{Appends}
-use Rattle.fx_frame.specs.Io.{saturated}
+use Rattle.fx_frame.specs.Io.{Writes, saturated}
 
 -- one call failed, and the writer has a front of these bytes
 pub record ToldFront (first now : Option (List ℕ)) (failures new_failures : ℕ) (all : List ℕ) : Type 0 where
@@ -21,10 +21,14 @@ Told false = ToldAll
 Told true = ToldFront
 
 -- a text comes behind all that was to be told, whatever it was
-abbrev pub TellsMore : Bool → Bool → Option (List ℕ) → Option (List ℕ) → ℕ → ℕ → List ℕ → Type 0
-TellsMore old new taken new_taken failures new_failures text = (first : Option (List ℕ)) (count : ℕ) (all : List ℕ) → Told old first taken count failures all → Told new first new_taken count new_failures (all ++ text)
+abbrev pub TellsMore : {M : Type 0} → Writes M → Bool → Bool → M → M → List ℕ → Type 0
+TellsMore writes had_failed has_failed old new text = (first : Option (List ℕ)) (count : ℕ) (all : List ℕ) → Told had_failed first (writes.taken old) count (writes.failures old) all → Told has_failed first (writes.taken new) count (writes.failures new) (all ++ text)
 
 -- these bytes were told, or a front of them where the writer failed, which is then counted
-pub record Tells (first now : Option (List ℕ)) (failures new_failures : ℕ) (all : List ℕ) : Type 0 where
+pub record TellsBytes (first now : Option (List ℕ)) (failures new_failures : ℕ) (all : List ℕ) : Type 0 where
   pub has_failed : Bool
   pub told : Told has_failed first now failures new_failures all
+
+-- the same, from one state of a writer to the next
+abbrev pub Tells : {M : Type 0} → Writes M → M → M → List ℕ → Type 0
+Tells writes old new = TellsBytes (writes.taken old) (writes.taken new) (writes.failures old) (writes.failures new)

@@ -32,9 +32,9 @@ pub fn convert<R: ByteIn, W: ByteOut, M: ByteOut>(
     // The words are a command line, or have a fault, or no memory was found for the line. A line that is refused reads and
     // writes nothing.
     ensures { (found : Result Said LineFault) × LineReads (line_of (texts words.now)) found × Concludes
-        (λ line. Converted R.rest R.told R.failures W.taken W.flushed W.failures line (bytes_of files.now) reader result.2 output.old output.new)
+        (λ line. Converted R.reads W.writes line (bytes_of files.now) reader result.2 output.old output.new)
         ((result.2 ≡ reader) × (output.new ≡ output.old))
-        (Tells (M.taken messages.old) (M.taken messages.new) (M.failures messages.old) (M.failures messages.new)) result.0 result.1 found }
+        (Tells M.writes messages.old messages.new) result.0 result.1 found }
 {
     let mut source = Source::new(reader);
     let ready = match prepare(alloc, words, files, &mut source, messages) {

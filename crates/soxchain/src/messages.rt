@@ -17,7 +17,7 @@ use itoa::Buffer;
 
 /// `soxchain: command line: 2 BadOption`, with the number and name of the fault.
 pub fn tell_line<M: ByteOut>(telling: &mut Telling, messages: &mut M, fault: &str)
-    ensures { TellsMore telling.old.has_failed telling.new.has_failed (M.taken messages.old) (M.taken messages.new) (M.failures messages.old) (M.failures messages.new) (line_message fault.now) }
+    ensures { TellsMore M.writes telling.old.has_failed telling.new.has_failed messages.old messages.new (line_message fault.now) }
 {
     telling.note(messages, "soxchain: command line: ", fault);
 }
@@ -31,7 +31,7 @@ pub fn tell_effect<M: ByteOut>(
     fault: &str,
     word: &str,
 )
-    ensures { TellsMore telling.old.has_failed telling.new.has_failed (M.taken messages.old) (M.taken messages.new) (M.failures messages.old) (M.failures messages.new) (effect_message number name.now fault.now word.now) }
+    ensures { TellsMore M.writes telling.old.has_failed telling.new.has_failed messages.old messages.new (effect_message number name.now fault.now word.now) }
 {
     let mut buffer = Buffer::new();
     telling.sentence(
@@ -48,21 +48,21 @@ pub fn tell_effect<M: ByteOut>(
 
 /// `soxchain: effects: 14 HoldTooLarge`, with the number and name of the fault.
 pub fn tell_effects<M: ByteOut>(telling: &mut Telling, messages: &mut M, fault: &str)
-    ensures { TellsMore telling.old.has_failed telling.new.has_failed (M.taken messages.old) (M.taken messages.new) (M.failures messages.old) (M.failures messages.new) (effects_message fault.now) }
+    ensures { TellsMore M.writes telling.old.has_failed telling.new.has_failed messages.old messages.new (effects_message fault.now) }
 {
     telling.note(messages, "soxchain: effects: ", fault);
 }
 
 /// `soxchain: input: 3 Truncated`, with the number and name of the fault.
 pub fn tell_input<M: ByteOut>(telling: &mut Telling, messages: &mut M, fault: &str)
-    ensures { TellsMore telling.old.has_failed telling.new.has_failed (M.taken messages.old) (M.taken messages.new) (M.failures messages.old) (M.failures messages.new) (input_message fault.now) }
+    ensures { TellsMore M.writes telling.old.has_failed telling.new.has_failed messages.old messages.new (input_message fault.now) }
 {
     telling.note(messages, "soxchain: input: ", fault);
 }
 
 /// `soxchain: run: 1 ReadFailed after frames 5`, with the number and name of the fault and the frames that were read.
 pub fn tell_run<M: ByteOut>(telling: &mut Telling, messages: &mut M, fault: &str, frames: u64)
-    ensures { TellsMore telling.old.has_failed telling.new.has_failed (M.taken messages.old) (M.taken messages.new) (M.failures messages.old) (M.failures messages.new) (run_message fault.now frames) }
+    ensures { TellsMore M.writes telling.old.has_failed telling.new.has_failed messages.old messages.new (run_message fault.now frames) }
 {
     let mut buffer = Buffer::new();
     telling.sentence(
@@ -77,7 +77,7 @@ pub fn tell_run<M: ByteOut>(telling: &mut Telling, messages: &mut M, fault: &str
 
 /// `soxchain: warning: input: missing bytes 3`, with what is counted and how often; nothing where that is 0.
 pub fn tell_warning<M: ByteOut>(telling: &mut Telling, messages: &mut M, counted: &str, count: u64)
-    ensures { TellsMore telling.old.has_failed telling.new.has_failed (M.taken messages.old) (M.taken messages.new) (M.failures messages.old) (M.failures messages.new) (warning counted.now count) }
+    ensures { TellsMore M.writes telling.old.has_failed telling.new.has_failed messages.old messages.new (warning counted.now count) }
 {
     if count == 0 {
         return;
@@ -108,7 +108,7 @@ pub fn label_of_line(fault: LineFault) -> &'static str
 
 /// `soxchain: chain: no memory`.
 pub fn tell_chain<M: ByteOut>(telling: &mut Telling, messages: &mut M)
-    ensures { TellsMore telling.old.has_failed telling.new.has_failed (M.taken messages.old) (M.taken messages.new) (M.failures messages.old) (M.failures messages.new) chain_message }
+    ensures { TellsMore M.writes telling.old.has_failed telling.new.has_failed messages.old messages.new chain_message }
 {
     telling.note(messages, "soxchain: chain: ", "no memory");
 }
@@ -193,7 +193,7 @@ pub fn tell_plan<M: ByteOut>(
     line: &CommandLine,
     fault: PlanFault,
 )
-    ensures { TellsMore telling.old.has_failed telling.new.has_failed (M.taken messages.old) (M.taken messages.new) (M.failures messages.old) (M.failures messages.new) (plan_message (effects_in line.now) fault) }
+    ensures { TellsMore M.writes telling.old.has_failed telling.new.has_failed messages.old messages.new (plan_message (effects_in line.now) fault) }
 {
     let label = label_of_plan(fault.cause);
     if is_of_all(fault.cause) {
@@ -213,7 +213,7 @@ pub fn tell_effect_warning<M: ByteOut>(
     name: &str,
     count: u64,
 )
-    ensures { TellsMore telling.old.has_failed telling.new.has_failed (M.taken messages.old) (M.taken messages.new) (M.failures messages.old) (M.failures messages.new) (effect_warning number name.now count) }
+    ensures { TellsMore M.writes telling.old.has_failed telling.new.has_failed messages.old messages.new (effect_warning number name.now count) }
 {
     if count == 0 {
         return;
@@ -239,7 +239,7 @@ fn tell_effect_warnings<M: ByteOut>(
     line: &CommandLine,
     clips: &[u64; MOST_EFFECTS],
 )
-    ensures { TellsMore telling.old.has_failed telling.new.has_failed (M.taken messages.old) (M.taken messages.new) (M.failures messages.old) (M.failures messages.new) (effect_warnings (effects_in line.now) clips.now (min (length (effects_in line.now)) 32)) }
+    ensures { TellsMore M.writes telling.old.has_failed telling.new.has_failed messages.old messages.new (effect_warnings (effects_in line.now) clips.now (min (length (effects_in line.now)) 32)) }
 {
     let count = line.effect_count().min(MOST_EFFECTS);
     let mut place = 0;
@@ -257,7 +257,7 @@ pub fn tell_warnings<M: ByteOut>(
     line: &CommandLine,
     report: &Report,
 )
-    ensures { TellsMore telling.old.has_failed telling.new.has_failed (M.taken messages.old) (M.taken messages.new) (M.failures messages.old) (M.failures messages.new) (warnings line.now report.now) }
+    ensures { TellsMore M.writes telling.old.has_failed telling.new.has_failed messages.old messages.new (warnings line.now report.now) }
 {
     tell_warning(telling, messages, "input: missing bytes", report.missing);
     tell_warning(telling, messages, "input: stray bytes", report.stray);
@@ -277,7 +277,7 @@ pub fn tell_refusal<M: ByteOut>(
     line: &CommandLine,
     refusal: &Refusal,
 )
-    ensures { TellsMore telling.old.has_failed telling.new.has_failed (M.taken messages.old) (M.taken messages.new) (M.failures messages.old) (M.failures messages.new) (refusal_message line.now refusal.now) }
+    ensures { TellsMore M.writes telling.old.has_failed telling.new.has_failed messages.old messages.new (refusal_message line.now refusal.now) }
 {
     match refusal {
         Refusal::Head(fault) => tell_input(telling, messages, label_of_head(*fault)),
@@ -293,7 +293,7 @@ pub fn tell_fault<M: ByteOut>(
     line: &CommandLine,
     fault: &RunFault,
 )
-    ensures { TellsMore telling.old.has_failed telling.new.has_failed (M.taken messages.old) (M.taken messages.new) (M.failures messages.old) (M.failures messages.new) (warnings line.now (report_at fault.now) ++ run_message (run_label fault.now) (report_at fault.now).frames_in) }
+    ensures { TellsMore M.writes telling.old.has_failed telling.new.has_failed messages.old messages.new (warnings line.now (report_at fault.now) ++ run_message (run_label fault.now) (report_at fault.now).frames_in) }
 {
     let report = fault.report();
     tell_warnings(telling, messages, line, &report);

@@ -39,22 +39,22 @@ pub fn prepare_line<R: ByteIn>(
     source: &mut Source<R>,
 ) -> Result<Prepared, Refusal>
     // The plan is that of the line behind the head that was read.
-    ensures head { IfOk result (λ p. IfKnown (to_come R.rest source.old) (λ bytes. ReadsHead R.rest R.told line.now.input_kind bytes source.old source.new p.plan.head)) }
+    ensures head { IfOk result (λ p. IfKnown (to_come R.reads.rest source.old) (λ bytes. ReadsHead R.reads.rest R.reads.told line.now.input_kind bytes source.old source.new p.plan.head)) }
     ensures no_faults { IfOk result (λ p. all_faults (head_layout p.plan.head) (bytes_of files.now) (effects_in line.now) ≡ []) }
     ensures planned { IfOk result (λ p. planning p.plan ≡ planning_in p.plan.head line.now (bytes_of files.now)) }
 
     ensures chain { IfOk result (λ p. IsNewChain (planning p.plan) p.chain) }
 
     // A head or a plan is refused by its first fault.
-    ensures head_refused { (f : HeadFault) → result ≡ Err (Refusal.Head f) → Refuses R.rest (head_of line.now.input_kind) source.old f }
-    ensures head_cut { (f : HeadFault) → result ≡ Err (Refusal.Head f) → Fails R.rest R.told (head_of line.now.input_kind) source.old source.new f }
-    ensures plan_refused { (f : PlanFault) → result ≡ Err (Refusal.Plan f) → PlanIsRefused R.rest R.told line.now (bytes_of files.now) source.old source.new f }
+    ensures head_refused { (f : HeadFault) → result ≡ Err (Refusal.Head f) → Refuses R.reads.rest (head_of line.now.input_kind) source.old f }
+    ensures head_cut { (f : HeadFault) → result ≡ Err (Refusal.Head f) → Fails R.reads.rest R.reads.told (head_of line.now.input_kind) source.old source.new f }
+    ensures plan_refused { (f : PlanFault) → result ≡ Err (Refusal.Plan f) → PlanIsRefused R.reads line.now (bytes_of files.now) source.old source.new f }
 
     // Where no memory was found for the chain, head and plan had stood.
-    ensures chain_refused { result ≡ Err Refusal.Chain → ChainIsRefused R.rest R.told line.now (bytes_of files.now) source.old source.new }
+    ensures chain_refused { result ≡ Err Refusal.Chain → ChainIsRefused R.reads line.now (bytes_of files.now) source.old source.new }
 
     // A read has failed only where the head says so.
-    ensures failures { MatchResult result (λ _. R.failures source.new.reader ≡ R.failures source.old.reader) (λ r. RefusalHasCause r (R.failures source.old.reader) (R.failures source.new.reader)) }
+    ensures failures { MatchResult result (λ _. R.reads.failures source.new.reader ≡ R.reads.failures source.old.reader) (λ r. RefusalHasCause r (R.reads.failures source.old.reader) (R.reads.failures source.new.reader)) }
 {
     let head = match read_head(source, line.input_kind()) {
         Ok(head) => head,

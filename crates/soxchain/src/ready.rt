@@ -46,15 +46,15 @@ pub fn prepare_for<R: ByteIn, M: ByteOut>(
     messages: &mut M,
 ) -> Result<Prepared, u8>
     // The head, the plan and its chain, and no message.
-    ensures head { IfOk result (λ p. IfKnown (to_come R.rest source.old) (λ bytes. ReadsHead R.rest R.told line.now.input_kind bytes source.old source.new p.plan.head)) }
+    ensures head { IfOk result (λ p. IfKnown (to_come R.reads.rest source.old) (λ bytes. ReadsHead R.reads.rest R.reads.told line.now.input_kind bytes source.old source.new p.plan.head)) }
     ensures no_faults { IfOk result (λ p. all_faults (head_layout p.plan.head) (bytes_of files.now) (effects_in line.now) ≡ []) }
     ensures planned { IfOk result (λ p. planning p.plan ≡ planning_in p.plan.head line.now (bytes_of files.now)) }
     ensures chain { IfOk result (λ p. IsNewChain (planning p.plan) p.chain) }
-    ensures unfailed { OnOk result (R.failures source.new.reader ≡ R.failures source.old.reader) }
+    ensures unfailed { OnOk result (R.reads.failures source.new.reader ≡ R.reads.failures source.old.reader) }
     ensures silent { OnOk result (messages.new ≡ messages.old) }
 
     // What the line asks for is refused.
-    ensures refused { IfErr result (λ status. Unready R.rest R.told R.failures line.now (bytes_of files.now) source.old source.new (Tells (M.taken messages.old) (M.taken messages.new) (M.failures messages.old) (M.failures messages.new)) status) }
+    ensures refused { IfErr result (λ status. Unready R.reads line.now (bytes_of files.now) source.old source.new (Tells M.writes messages.old messages.new) status) }
 {
     match prepare_line(alloc, line, files, source) {
         Ok(prepared) => Ok(prepared),
@@ -69,7 +69,7 @@ pub fn prepare_for<R: ByteIn, M: ByteOut>(
 /// Says in one message why a command line is refused, and answers the status.
 pub fn refuse_line<M: ByteOut>(fault: LineFault, messages: &mut M) -> u8
     ensures status { result ≡ status_of_line fault }
-    ensures told { Tells (M.taken messages.old) (M.taken messages.new) (M.failures messages.old) (M.failures messages.new) (line_message (line_label fault)) }
+    ensures told { Tells M.writes messages.old messages.new (line_message (line_label fault)) }
 {
     let mut telling = Telling::new();
     tell_line(&mut telling, messages, label_of_line(fault));
@@ -88,17 +88,17 @@ pub fn prepare<R: ByteIn, M: ByteOut>(
 ) -> Result<Ready, u8>
     // The line, the head, the plan and its chain, and no message.
     ensures line { IfOk result (λ ready. line_of (texts words.now) ≡ Ok ready.line) }
-    ensures head { IfOk result (λ ready. IfKnown (to_come R.rest source.old) (λ bytes. ReadsHead R.rest R.told ready.line.input_kind bytes source.old source.new ready.prepared.plan.head)) }
+    ensures head { IfOk result (λ ready. IfKnown (to_come R.reads.rest source.old) (λ bytes. ReadsHead R.reads.rest R.reads.told ready.line.input_kind bytes source.old source.new ready.prepared.plan.head)) }
     ensures no_faults { IfOk result (λ ready. all_faults (head_layout ready.prepared.plan.head) (bytes_of files.now) (effects_in ready.line) ≡ []) }
     ensures planned { IfOk result (λ ready. planning ready.prepared.plan ≡ planning_in ready.prepared.plan.head ready.line (bytes_of files.now)) }
     ensures chain { IfOk result (λ ready. IsNewChain (planning ready.prepared.plan) ready.prepared.chain) }
-    ensures unfailed { OnOk result (R.failures source.new.reader ≡ R.failures source.old.reader) }
+    ensures unfailed { OnOk result (R.reads.failures source.new.reader ≡ R.reads.failures source.old.reader) }
     ensures silent { OnOk result (messages.new ≡ messages.old) }
 
     // The line is refused, or what it asks for is.
     ensures refused { IfErr result (λ status.
-        LineRefused (texts words.now) source.old source.new (Tells (M.taken messages.old) (M.taken messages.new) (M.failures messages.old) (M.failures messages.new)) status
-        ⊎ LineUnready R.rest R.told R.failures (texts words.now) (bytes_of files.now) source.old source.new (Tells (M.taken messages.old) (M.taken messages.new) (M.failures messages.old) (M.failures messages.new)) status) }
+        LineRefused (texts words.now) source.old source.new (Tells M.writes messages.old messages.new) status
+        ⊎ LineUnready R.reads (texts words.now) (bytes_of files.now) source.old source.new (Tells M.writes messages.old messages.new) status) }
 {
     let line = match parse_line(alloc, words) {
         Ok(line) => line,
@@ -119,7 +119,7 @@ pub fn finish_for<R: ByteIn, W: ByteOut, M: ByteOut>(
     messages: &mut M,
 ) -> (u8, Report)
     requires { IsNewChain (planning prepared.plan) prepared.chain }
-    ensures { Finished R.rest R.told R.failures W.taken W.flushed W.failures (record { line = line.now; prepared = prepared }) source.old source.new output.old output.new (Tells (M.taken messages.old) (M.taken messages.new) (M.failures messages.old) (M.failures messages.new)) result.0 result.1 }
+    ensures { Finished R.reads W.writes (record { line = line.now; prepared = prepared }) source.old source.new output.old output.new (Tells M.writes messages.old messages.new) result.0 result.1 }
 {
     let mut telling = Telling::new();
     let Prepared { plan, mut chain } = prepared;
@@ -144,7 +144,7 @@ pub fn finish<R: ByteIn, W: ByteOut, M: ByteOut>(
     messages: &mut M,
 ) -> (u8, Report)
     requires { IsNewChain (planning ready.prepared.plan) ready.prepared.chain }
-    ensures { Finished R.rest R.told R.failures W.taken W.flushed W.failures ready source.old source.new output.old output.new (Tells (M.taken messages.old) (M.taken messages.new) (M.failures messages.old) (M.failures messages.new)) result.0 result.1 }
+    ensures { Finished R.reads W.writes ready source.old source.new output.old output.new (Tells M.writes messages.old messages.new) result.0 result.1 }
 {
     let Ready { line, prepared } = ready;
     finish_for(&line, prepared, source, output, messages)

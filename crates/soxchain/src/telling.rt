@@ -22,7 +22,7 @@ impl Telling {
 
     /// Writes a text behind what was told, unless the writer has failed.
     pub fn text<M: ByteOut>(&mut self, messages: &mut M, text: &str)
-        ensures { TellsMore self.old.has_failed self.new.has_failed (M.taken messages.old) (M.taken messages.new) (M.failures messages.old) (M.failures messages.new) text.now }
+        ensures { TellsMore M.writes self.old.has_failed self.new.has_failed messages.old messages.new text.now }
     {
         if self.has_failed {
             return;
@@ -33,7 +33,7 @@ impl Telling {
 
     /// Writes what a line is about, what it says of that, and the end of the line.
     pub fn note<M: ByteOut>(&mut self, messages: &mut M, subject: &str, what: &str)
-        ensures { TellsMore self.old.has_failed self.new.has_failed (M.taken messages.old) (M.taken messages.new) (M.failures messages.old) (M.failures messages.new) (subject.now ++ what.now ++ line_feed) }
+        ensures { TellsMore M.writes self.old.has_failed self.new.has_failed messages.old messages.new (subject.now ++ what.now ++ line_feed) }
     {
         self.text(messages, subject);
         self.text(messages, what);
@@ -50,7 +50,7 @@ impl Telling {
         value: &str,
         end: &str,
     )
-        ensures { TellsMore self.old.has_failed self.new.has_failed (M.taken messages.old) (M.taken messages.new) (M.failures messages.old) (M.failures messages.new) (subject.now ++ label.now ++ link.now ++ value.now ++ end.now) }
+        ensures { TellsMore M.writes self.old.has_failed self.new.has_failed messages.old messages.new (subject.now ++ label.now ++ link.now ++ value.now ++ end.now) }
     {
         self.text(messages, subject);
         self.text(messages, label);
@@ -63,8 +63,8 @@ impl Telling {
 // Hands the writer a whole text: `false` where it failed before the end.
 fn hand<M: ByteOut>(messages: &mut M, text: &[u8]) -> bool
     ensures { MatchBool result
-        ((Appends (M.taken messages.old) (M.taken messages.new) text.now) × (M.failures messages.new ≡ M.failures messages.old))
-        (ToldFront (M.taken messages.old) (M.taken messages.new) (M.failures messages.old) (M.failures messages.new) text.now) }
+        ((Appends (M.writes.taken messages.old) (M.writes.taken messages.new) text.now) × (M.writes.failures messages.new ≡ M.writes.failures messages.old))
+        (ToldFront (M.writes.taken messages.old) (M.writes.taken messages.new) (M.writes.failures messages.old) (M.writes.failures messages.new) text.now) }
 {
     let mut told = 0;
     while told < text.len() {

@@ -1,7 +1,8 @@
 -- A conversion in memory, from what `convert` says of readers and writers.
-use Rattle.std.proofs.Common.{◌≡◌, ℕ, List, [], Option, Some, Bool, Result, Ok, Err, ap, drop, subst, sym, ◌∙◌}
+use Rattle.std.proofs.Common.{◌≡◌, ℕ, List, [], Option, Some, Result, Ok, Err, ap, drop, subst, sym, ◌∙◌}
 use Rattle.fx_chain.specs.declared.report.Report.{Report}
 use Rattle.fx_chain.specs.Theorem.{Ran}
+use Rattle.fx_frame.specs.Io.{Reads, Writes}
 use Rattle.fx_line.specs.declared.line.LineFault.{LineFault}
 use Rattle.fx_line.specs.Line.{Said}
 use Rattle.soxchain.specs.Convert.{Converted}
@@ -16,19 +17,19 @@ pub concludes-more : {P Q : Said → Result Report Stop → Type 0} {U V : Type 
 concludes-more status report (Err fault) is untouched told c = (c.0, c.1, untouched c.2, told _ c.3)
 concludes-more status report (Ok line) is untouched told c = record { outcome = c.outcome; is = is line c.outcome c.is; status_is = c.status_is; report_is = c.report_is; told = told _ c.told }
 
-pub converted-bytes : {R W : Type 0} (rest : R → Option (List ℕ)) (told reads : R → ℕ) (taken : W → Option (List ℕ)) (flushed : W → Bool) (writes : W → ℕ)
+pub converted-bytes : {R W : Type 0} (reads : Reads R) (writes : Writes W)
     (line : Said) (files : List (List ℕ)) (reader new_reader : R) (writer new_writer : W) (outcome : Result Report Stop) (input output : List ℕ)
-    → rest reader ≡ Some input → taken writer ≡ Some [] → taken new_writer ≡ Some output
-    → Converted rest told reads taken flushed writes line files reader new_reader writer new_writer outcome → ConvertedBytes line files input output outcome
-converted-bytes rest told reads taken flushed writes line files reader new_reader writer new_writer outcome input output known first now c = record {
+    → reads.rest reader ≡ Some input → writes.taken writer ≡ Some [] → writes.taken new_writer ≡ Some output
+    → Converted reads writes line files reader new_reader writer new_writer outcome → ConvertedBytes line files input output outcome
+converted-bytes reads writes line files reader new_reader writer new_writer outcome input output known first now c = record {
   whole = if_ok-more outcome (λ r whole. rw (first, now) at (whole input known)) c.whole;
-  clean = λ r e. (let same : Some output ≡ Some [] = sym now ∙ ap taken (c.clean r e) ∙ first in cc);
+  clean = λ r e. (let same : Some output ≡ Some [] = sym now ∙ ap writes.taken (c.clean r e) ∙ first in cc);
   refused = λ f e ne. c.refused f e ne input known;
   unplanned = λ f e. c.unplanned f e input known;
   unchained = λ e. c.unchained e input known;
   stopped = λ f e.
       let s = c.stopped f e input known in
-      let P : Option (List ℕ) → Type 0 = λ t. Ran s.run.plan (drop s.run.offset input) t (taken new_writer) (Err f) in
+      let P : Option (List ℕ) → Type 0 = λ t. Ran s.run.plan (drop s.run.offset input) t (writes.taken new_writer) (Err f) in
       let Q : Option (List ℕ) → Type 0 = λ t. Ran s.run.plan (drop s.run.offset input) (Some []) t (Err f) in
       record { run = s.run; ran = subst Q now (subst P first s.ran) };
 }

@@ -16,7 +16,7 @@ use Rattle.soxchain.specs.declared.preparing.Refusal.TheVariants as Refusals
 use Rattle.soxchain.specs.Convert.{Running, Unchained, Unplanned, Whole}
 use Rattle.soxchain.specs.Program.{Concludes}
 use Rattle.soxchain.specs.Stops.{Stop, Refused, Run}
-use Rattle.soxchain.specs.Telling.{Tells}
+use Rattle.soxchain.specs.Telling.{TellsBytes}
 use Rattle.soxchain_c.specs.declared.conversion.SoxchainReport.{SoxchainReport}
 use Rattle.soxchain_c.specs.declared.status.Status.{Status}
 use Rattle.soxchain_c.specs.Asked.{Unread}
@@ -40,7 +40,7 @@ told_report r output messages = record {
 
 -- these bytes were told as messages: all of the text, or a front of it where memory was wanting
 abbrev pub ToldBytes : List ℕ → List ℕ → Type 0
-ToldBytes messages text = (count : ℕ) × Tells (Some []) (Some messages) 0 count text
+ToldBytes messages text = (count : ℕ) × TellsBytes (Some []) (Some messages) 0 count text
 
 -- The run over the bytes stopped, since memory for the output was wanting, or the sound was too long.
 pub record StoppedBytes (line : Said) (files : List (List ℕ)) (input output : List ℕ) (f : RunFault) : Type 0 where

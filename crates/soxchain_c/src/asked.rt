@@ -47,7 +47,7 @@ pub fn read_asked(
 
 /// Tells why a line is refused.
 fn tell_refused<M: ByteOut>(messages: &mut M, fault: LineFault)
-    ensures { Tells (M.taken messages.old) (M.taken messages.new) (M.failures messages.old) (M.failures messages.new) (line_message (line_label fault)) }
+    ensures { Tells M.writes messages.old messages.new (line_message (line_label fault)) }
 {
     let mut telling = Telling::new();
     tell_line(&mut telling, messages, label_of_line(fault));
@@ -57,7 +57,7 @@ fn tell_refused<M: ByteOut>(messages: &mut M, fault: LineFault)
 /// program tells them.
 pub fn refuse<M: ByteOut>(messages: &mut M, fault: TextFault) -> Status
     ensures fault { result ≢ Status.Fine }
-    ensures answers { FaultAnswers fault (Tells (M.taken messages.old) (M.taken messages.new) (M.failures messages.old) (M.failures messages.new)) (messages.new ≡ messages.old) result }
+    ensures answers { FaultAnswers fault (Tells M.writes messages.old messages.new) (messages.new ≡ messages.old) result }
 {
     match fault {
         TextFault::BadEnds => Status::BadEnds,

@@ -63,7 +63,7 @@ struct Done {
 
 /// Converts the sound of a reader, in memory.
 fn convert_from<R: ByteIn + Drop>(alloc: Global, asked: &Asked, reader: R) -> Done
-    ensures { IfKnown (R.rest reader) (λ input. Conversion (texts asked.now.words.items) (bytes_of asked.now.files.items) input result.output.items result.messages.items result.status result.report) }
+    ensures { IfKnown (R.reads.rest reader) (λ input. Conversion (texts asked.now.words.items) (bytes_of asked.now.files.items) input result.output.items result.messages.items result.status result.report) }
 {
     let mut output = Counted::new(Vec::new(alloc));
     let mut messages = Counted::new(Vec::new(alloc));

@@ -29,7 +29,7 @@ fn stream_for<M: ByteOut>(
     ensures made { IfOk result (λ b. IsStreamOf (stream_line (texts asked.now.words.items)) (bytes_of asked.now.files.items) head.now b.value) }
     ensures silent { OnOk result (messages.new ≡ messages.old) }
     ensures fault { IfErr result (λ status. status ≢ Status.Fine) }
-    ensures lacks { IfErr result (LacksStream (stream_line (texts asked.now.words.items)) (bytes_of asked.now.files.items) head.now (Tells (M.taken messages.old) (M.taken messages.new) (M.failures messages.old) (M.failures messages.new)) (messages.new ≡ messages.old)) }
+    ensures lacks { IfErr result (LacksStream (stream_line (texts asked.now.words.items)) (bytes_of asked.now.files.items) head.now (Tells M.writes messages.old messages.new) (messages.new ≡ messages.old)) }
 {
     let stream = match make_stream(alloc, &asked.words, &asked.files, head, messages) {
         Ok(stream) => stream,
@@ -50,7 +50,7 @@ fn make<M: ByteOut>(
     messages: &mut M,
     handle: &mut Handle,
 ) -> Status
-    ensures { MakeAnswers asked.now head.now handle.old.value handle.new.value (Tells (M.taken messages.old) (M.taken messages.new) (M.failures messages.old) (M.failures messages.new)) (messages.new ≡ messages.old) result }
+    ensures { MakeAnswers asked.now head.now handle.old.value handle.new.value (Tells M.writes messages.old messages.new) (messages.new ≡ messages.old) result }
 {
     let asked = match asked {
         Ok(asked) => asked,

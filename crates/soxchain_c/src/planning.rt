@@ -114,7 +114,7 @@ pub fn make_stream<M: ByteOut>(
 ) -> Result<Stream, u8>
     ensures made { IfOk result (λ s. IsStreamOf (stream_line (texts words.now)) (bytes_of files.now) head.now s) }
     ensures silent { OnOk result (messages.new ≡ messages.old) }
-    ensures refused { IfErr result (RefusesStream (stream_line (texts words.now)) (bytes_of files.now) head.now (Tells (M.taken messages.old) (M.taken messages.new) (M.failures messages.old) (M.failures messages.new))) }
+    ensures refused { IfErr result (RefusesStream (stream_line (texts words.now)) (bytes_of files.now) head.now (Tells M.writes messages.old messages.new)) }
 {
     let mut telling = Telling::new();
     let line = match read_words_of(alloc, words) {

@@ -2,7 +2,8 @@
 use Rattle.std.specs.Prelude.{◌≡◌, ◌≤◌, ◌⊎◌, ℕ, List, Option, Some, IfSome}
 use Rattle.std.specs.Io.KnownBytes.{Appends, Keeps}
 use Rattle.fx_chain.specs.declared.report.Report.{Report}
-use Rattle.fx_frame.specs.Counted.{Counts}
+use Rattle.fx_frame.specs.Counted.{Counts, counted_writes}
+use Rattle.fx_frame.specs.Io.{Reads, Writes}
 use Rattle.fx_plan.specs.Planning.{planning}
 use Rattle.fx_sound.specs.Source.{Held}
 use Rattle.soxchain.specs.declared.prepared.Ready.{Ready}
@@ -20,7 +21,7 @@ pub record WritesOver {F : Type 0} (contents : F → Option (List ℕ)) (positio
   pub flushed : Keeps (contents filled) (contents new)
 
 -- A run into a new file: after a fault the file is left as the run left it, and else the true head is written over its beginning.
-pub record Files {R F M : Type 0} (rest : R → Option (List ℕ)) (told reads : R → ℕ) (contents : F → Option (List ℕ)) (position : F → Option ℕ) (taken : M → Option (List ℕ)) (failures : M → ℕ)
+pub record Files {R F M : Type 0} (reads : Reads R) (contents : F → Option (List ℕ)) (position : F → Option ℕ) (writes : Writes M)
     (ready : Ready) (source new_source : Held R) (file new_file : F) (name : List ℕ) (messages new_messages : M) (status : ℕ) : Type 0 where
   pub opened : Counts F
   pub is_file : opened.inner ≡ file
@@ -29,8 +30,8 @@ pub record Files {R F M : Type 0} (rest : R → Option (List ℕ)) (told reads :
   pub told_so_far : M
   pub run_status : ℕ
   pub report : Report
-  pub ran : Finished rest told reads (λ w. contents w.inner) (λ w. w.flushed) (λ w. w.failures) ready source new_source opened left (Tells (taken messages) (taken told_so_far) (failures messages) (failures told_so_far)) run_status report
+  pub ran : Finished reads (counted_writes contents) ready source new_source opened left (Tells writes messages told_so_far) run_status report
   pub stopped : 1 ≤ run_status → (status ≡ run_status) × (new_file ≡ left.inner) × (new_messages ≡ told_so_far)
   pub headed : run_status ≡ 0 →
       ((status ≡ 0) × WritesOver contents position left.inner new_file (true_head (planning ready.prepared.plan) report) × (new_messages ≡ told_so_far))
-      ⊎ ((status ≡ 2) × Tells (taken told_so_far) (taken new_messages) (failures told_so_far) (failures new_messages) (rewrite_message name))
+      ⊎ ((status ≡ 2) × Tells writes told_so_far new_messages (rewrite_message name))

@@ -5,7 +5,8 @@ use Rattle.std.specs.declared.io.ErrorKind.{ErrorKind}
 use Rattle.std.specs.declared.io.ErrorKind.TheVariants as ErrorKinds
 use Rattle.fx_chain.specs.Chain.{IsNewChain}
 use Rattle.fx_chain.specs.declared.report.Report.{Report}
-use Rattle.fx_frame.specs.Counted.{Counts}
+use Rattle.fx_frame.specs.Counted.{Counts, counted_reads, counted_writes}
+use Rattle.fx_frame.specs.Io.{Reads, Writes}
 use Rattle.fx_line.specs.declared.line.LineFault.{LineFault}
 use Rattle.fx_line.specs.declared.line.LineFault.TheVariants as LineFaults
 use Rattle.fx_line.specs.Line.{Said, line_of}
@@ -51,67 +52,48 @@ pub record Devices (I R O F : Type 0) : Type 0 where
   pub created : F → Option (List ℕ)
   pub position : F → Option ℕ
 
--- how a reader is known: the bytes to come, how many were told, and how many reads failed
-pub record Inlet (R : Type 0) : Type 0 where
-  pub rest : R → Option (List ℕ)
-  pub told : R → ℕ
-  pub failures : R → ℕ
-
--- how a writer of messages is known: the bytes that it took, and how many calls failed
-pub record Outlet (M : Type 0) : Type 0 where
-  pub taken : M → Option (List ℕ)
-  pub failures : M → ℕ
-
--- a reader with its counts
-abbrev pub counted : {R : Type 0} → (R → Option (List ℕ)) → Inlet (Counts R)
-counted rest = record { rest = λ c. rest c.inner; told = λ c. c.told; failures = λ c. c.failures }
-
 -- a reader or writer that has counted nothing
 abbrev pub uncounted : {T : Type 0} → T → Counts T
 uncounted inner = record { inner = inner; told = 0; failures = 0; flushed = true }
 
--- a message was written, or a front of it where the writer failed
-abbrev pub Says : {M : Type 0} → Outlet M → M → M → List ℕ → Type 0
-Says outlet old new = Tells (outlet.taken old) (outlet.taken new) (outlet.failures old) (outlet.failures new)
-
 -- What a line asks for is prepared behind the head of a sound: its plan, without a fault, and the chain, which is new.
-pub record IsPrepared {R : Type 0} (inlet : Inlet R) (line : Said) (files : List (List ℕ)) (reader : R) (source : Held R) (prepared : Prepared) : Type 0 where
-  pub head : IfKnown (to_come inlet.rest (record { bytes = []; reader = reader })) (λ bytes. ReadsHead inlet.rest inlet.told line.input_kind bytes (record { bytes = []; reader = reader }) source prepared.plan.head)
+pub record IsPrepared {R : Type 0} (reads : Reads R) (line : Said) (files : List (List ℕ)) (reader : R) (source : Held R) (prepared : Prepared) : Type 0 where
+  pub head : IfKnown (to_come reads.rest (record { bytes = []; reader = reader })) (λ bytes. ReadsHead reads.rest reads.told line.input_kind bytes (record { bytes = []; reader = reader }) source prepared.plan.head)
   pub no_faults : all_faults (head_layout prepared.plan.head) files (effects_in line) ≡ []
   pub planned : planning prepared.plan ≡ planning_in prepared.plan.head line files
   pub chain : IsNewChain (planning prepared.plan) prepared.chain
-  pub unfailed : inlet.failures source.reader ≡ inlet.failures reader
+  pub unfailed : reads.failures source.reader ≡ reads.failures reader
 
 -- a line, and what is prepared for it
 abbrev pub ready_for : Said → Prepared → Ready
 ready_for line prepared = record { line = line; prepared = prepared }
 
-module _ {I R O F M : Type 0} (d : Devices I R O F) (m : Machine I O F) (outlet : Outlet M) where
+module _ {I R O F M : Type 0} (d : Devices I R O F) (m : Machine I O F) (writes : Writes M) where
   -- What becomes of a sound: nothing was ready for it; or OUT could not be created; or it ran to standard output, or into the new
   -- file of OUT's own name.
-  pub data Sounds {X : Type 0} (inlet : Inlet X) (line : Said) (files : List (List ℕ)) (reader : X) (old new : M) (status : ℕ) : Type 0 where
+  pub data Sounds {X : Type 0} (reads : Reads X) (line : Said) (files : List (List ℕ)) (reader : X) (old new : M) (status : ℕ) : Type 0 where
     Refused : (source : Held X)
-        → Unready inlet.rest inlet.told inlet.failures line files (record { bytes = []; reader = reader }) source (Says outlet old new) status
-        → Sounds inlet line files reader old new status
+        → Unready reads line files (record { bytes = []; reader = reader }) source (Tells writes old new) status
+        → Sounds reads line files reader old new status
     Uncreated : (source : Held X) (prepared : Prepared) (name : List ℕ)
-        → IsPrepared inlet line files reader source prepared
+        → IsPrepared reads line files reader source prepared
         → file_name line.output ≡ Some name
         → m.uncreated (file_name line.input) name
         → status ≡ 2
-        → Says outlet old new (open_message name)
-        → Sounds inlet line files reader old new status
+        → Tells writes old new (open_message name)
+        → Sounds reads line files reader old new status
     Streamed : (source left : Held X) (prepared : Prepared) (output : O) (ended : Counts O) (report : Report)
-        → IsPrepared inlet line files reader source prepared
+        → IsPrepared reads line files reader source prepared
         → file_name line.output ≡ None
         → m.is_output output
-        → Finished inlet.rest inlet.told inlet.failures (λ (w : Counts O). d.output w.inner) (λ (w : Counts O). w.flushed) (λ (w : Counts O). w.failures) (ready_for line prepared) source left (uncounted output) ended (Says outlet old new) status report
-        → Sounds inlet line files reader old new status
+        → Finished reads (counted_writes d.output) (ready_for line prepared) source left (uncounted output) ended (Tells writes old new) status report
+        → Sounds reads line files reader old new status
     Filed : (source left : Held X) (prepared : Prepared) (name : List ℕ) (file ended : F)
-        → IsPrepared inlet line files reader source prepared
+        → IsPrepared reads line files reader source prepared
         → file_name line.output ≡ Some name
         → m.created (file_name line.input) name file
-        → Files inlet.rest inlet.told inlet.failures d.created d.position outlet.taken outlet.failures (ready_for line prepared) source left file ended name old new status
-        → Sounds inlet line files reader old new status
+        → Files reads d.created d.position writes (ready_for line prepared) source left file ended name old new status
+        → Sounds reads line files reader old new status
 
   -- What becomes of a line whose coefficient files are there: IN could not be opened; or its sound was gone through, from standard
   -- input or from the file of IN's own name.
@@ -120,17 +102,17 @@ module _ {I R O F M : Type 0} (d : Devices I R O F) (m : Machine I O F) (outlet 
         → file_name line.input ≡ Some name
         → o.unopened name
         → status ≡ 2
-        → Says outlet old new (open_message name)
+        → Tells writes old new (open_message name)
         → Lines o line files old new status
     Standard : (input : I)
         → file_name line.input ≡ None
         → m.is_input input
-        → Sounds (counted d.input) line files (uncounted input) old new status
+        → Sounds (counted_reads d.input) line files (uncounted input) old new status
         → Lines o line files old new status
     Named : (name : List ℕ) (reader : R)
         → file_name line.input ≡ Some name
         → o.opened name reader
-        → Sounds (counted d.file) line files (uncounted reader) old new status
+        → Sounds (counted_reads d.file) line files (uncounted reader) old new status
         → Lines o line files old new status
 
   -- What becomes of a line: a coefficient file that it names could not be read; or there was no memory for their names; or they
@@ -139,11 +121,11 @@ module _ {I R O F M : Type 0} (d : Devices I R O F) (m : Machine I O F) (outlet 
     Unread : (name : List ℕ)
         → IsNamed (coefficient_files (effects_in line)) name
         → status ≡ 2
-        → Says outlet old new (open_message name)
+        → Tells writes old new (open_message name)
         → Works o line old new status
     Forgotten :
         status ≡ status_of_line LineFaults.Memory
-        → Says outlet old new (line_message (line_label LineFaults.Memory))
+        → Tells writes old new (line_message (line_label LineFaults.Memory))
         → Works o line old new status
     Read : (files : List (List ℕ))
         → AreFronts o.opened d.file (coefficient_files (effects_in line)) files
@@ -160,7 +142,7 @@ module _ {I R O F M : Type 0} (d : Devices I R O F) (m : Machine I O F) (outlet 
         → IsShown text old new status
     Cut :
         status ≡ 2
-        → Says outlet old new (open_message (codes "-"))
+        → Tells writes old new (open_message (codes "-"))
         → IsShown text old new status
 
   -- What the program does: the words could not be had; or they ask for a text; or they are refused; or they are a line.
@@ -170,7 +152,7 @@ module _ {I R O F M : Type 0} (d : Devices I R O F) (m : Machine I O F) (outlet 
         → (kind ≡ ErrorKinds.OutOfMemory → fault ≡ LineFaults.Memory)
         → (kind ≢ ErrorKinds.OutOfMemory → fault ≡ LineFaults.BadOption)
         → status ≡ status_of_line fault
-        → Says outlet old new (line_message (line_label fault))
+        → Tells writes old new (line_message (line_label fault))
         → Answers o answer old new status
     Shown : (words : List (List ℕ)) (text : List ℕ)
         → m.asked words
@@ -182,7 +164,7 @@ module _ {I R O F M : Type 0} (d : Devices I R O F) (m : Machine I O F) (outlet 
         → answer words ≡ None
         → LineReads (line_of words) (Err fault)
         → status ≡ status_of_line fault
-        → Says outlet old new (line_message (line_label fault))
+        → Tells writes old new (line_message (line_label fault))
         → Answers o answer old new status
     Worked : (words : List (List ℕ)) (line : Said)
         → m.asked words

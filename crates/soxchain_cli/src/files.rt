@@ -24,7 +24,7 @@ use std::io::{Seek, Write};
 /// Tells that a file cannot be opened, read or created, and answers the status.
 pub fn cannot_open<M: ByteOut>(messages: &mut M, name: &str) -> u8
     ensures status { result ≡ 2 }
-    ensures told { Tells (M.taken messages.old) (M.taken messages.new) (M.failures messages.old) (M.failures messages.new) (open_message name.now) }
+    ensures told { Tells M.writes messages.old messages.new (open_message name.now) }
 {
     let mut telling = Telling::new();
     tell_cannot_open(&mut telling, messages, name);
@@ -34,7 +34,7 @@ pub fn cannot_open<M: ByteOut>(messages: &mut M, name: &str) -> u8
 /// Tells that the head of a file cannot be written again, and answers the status.
 fn cannot_rewrite<M: ByteOut>(messages: &mut M, name: &str) -> u8
     ensures status { result ≡ 2 }
-    ensures told { Tells (M.taken messages.old) (M.taken messages.new) (M.failures messages.old) (M.failures messages.new) (rewrite_message name.now) }
+    ensures told { Tells M.writes messages.old messages.new (rewrite_message name.now) }
 {
     let mut telling = Telling::new();
     tell_cannot_rewrite(&mut telling, messages, name);
@@ -49,7 +49,7 @@ pub fn process<H: Host, M: ByteOut>(
     messages: &mut M,
 ) -> u8
     ensures { Lines (record { input = H.Input.remaining; file = H.Reader.remaining; output = H.Output.contents; created = H.Created.contents; position = H.Created.stream_position })
-        (H.machine host.now) (record { taken = M.taken; failures = M.failures }) (record { opened = H.opened host.now; unopened = H.unopened host.now })
+        (H.machine host.now) M.writes (record { opened = H.opened host.now; unopened = H.unopened host.now })
         line.now (bytes_of files.now) messages.old messages.new result }
 {
     match line.input() {
@@ -73,7 +73,7 @@ fn process_from<H: Host, R: ByteIn + Drop, M: ByteOut>(
     messages: &mut M,
 ) -> u8
     ensures { Sounds (record { input = H.Input.remaining; file = H.Reader.remaining; output = H.Output.contents; created = H.Created.contents; position = H.Created.stream_position })
-        (H.machine host.now) (record { taken = M.taken; failures = M.failures }) (record { rest = R.rest; told = R.told; failures = R.failures })
+        (H.machine host.now) M.writes R.reads
         line.now (bytes_of files.now) reader messages.old messages.new result }
 {
     let mut source = Source::new(reader);
@@ -107,7 +107,7 @@ fn finish_with_head<R: ByteIn, W: ByteOut, M: ByteOut>(
 ) -> (u8, HeadBytes)
     requires { IsNewChain (planning prepared.plan) prepared.chain }
     ensures { (report : Report)
-        × Finished R.rest R.told R.failures W.taken W.flushed W.failures (ready_for line.now prepared) source.old source.new output.old output.new (Tells (M.taken messages.old) (M.taken messages.new) (M.failures messages.old) (M.failures messages.new)) result.0 report
+        × Finished R.reads W.writes (ready_for line.now prepared) source.old source.new output.old output.new (Tells M.writes messages.old messages.new) result.0 report
         × (result.1 ≡ true_head (planning prepared.plan) report) }
 {
     let plan = &prepared.plan;
@@ -129,7 +129,7 @@ fn process_to<R: ByteIn, F: Write + Seek, M: ByteOut>(
     messages: &mut M,
 ) -> (u8, F)
     requires { IsNewChain (planning prepared.plan) prepared.chain }
-    ensures { Files R.rest R.told R.failures F.contents F.stream_position M.taken M.failures (ready_for line.now prepared) source.old source.new file result.1 name.now messages.old messages.new result.0 }
+    ensures { Files R.reads F.contents F.stream_position M.writes (ready_for line.now prepared) source.old source.new file result.1 name.now messages.old messages.new result.0 }
 {
     let mut output = Counted::new(file);
     let (status, head) = finish_with_head(line, prepared, source, &mut output, messages);

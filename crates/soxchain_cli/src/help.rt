@@ -43,7 +43,7 @@ The manual: man soxchain
 /// Writes an answer to standard output, and answers the status.
 pub fn tell_answer<H: Host, M: ByteOut>(host: &H, answer: &str, messages: &mut M) -> u8
     ensures { IsShown (record { input = H.Input.remaining; file = H.Reader.remaining; output = H.Output.contents; created = H.Created.contents; position = H.Created.stream_position })
-        (H.machine host.now) (record { taken = M.taken; failures = M.failures }) answer.now messages.old messages.new result }
+        (H.machine host.now) M.writes answer.now messages.old messages.new result }
 {
     match show(&mut host.output(), answer) {
         Ok(()) => 0,

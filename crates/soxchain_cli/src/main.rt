@@ -24,7 +24,7 @@ use until_fault::UntilFault;
 /// Does what a line asks for, and answers the status.
 fn work_line<H: Host, M: ByteOut>(host: &H, line: &CommandLine, messages: &mut M) -> u8
     ensures { Works (record { input = H.Input.remaining; file = H.Reader.remaining; output = H.Output.contents; created = H.Created.contents; position = H.Created.stream_position })
-        (H.machine host.now) (record { taken = M.taken; failures = M.failures }) (record { opened = H.opened host.now; unopened = H.unopened host.now })
+        (H.machine host.now) M.writes (record { opened = H.opened host.now; unopened = H.unopened host.now })
         line.now messages.old messages.new result }
 {
     let files = match read_files(host.memory(), host, line) {
@@ -38,7 +38,7 @@ fn work_line<H: Host, M: ByteOut>(host: &H, line: &CommandLine, messages: &mut M
 /// Does what the words ask for, and answers the status.
 fn work<H: Host, M: ByteOut>(host: &H, messages: &mut M) -> u8
     ensures { Answers (record { input = H.Input.remaining; file = H.Reader.remaining; output = H.Output.contents; created = H.Created.contents; position = H.Created.stream_position })
-        (H.machine host.now) (record { taken = M.taken; failures = M.failures }) (record { opened = H.opened host.now; unopened = H.unopened host.now })
+        (H.machine host.now) M.writes (record { opened = H.opened host.now; unopened = H.unopened host.now })
         (answer_of HELP.now VERSION.now) messages.old messages.new result }
 {
     let words = match host.words() {

@@ -62,7 +62,7 @@ impl Stop<'_> {
 
     /// Tells the message of soxchain.
     pub fn tell_message<M: ByteOut>(&self, messages: &mut M)
-        ensures { Tells (M.taken messages.old) (M.taken messages.new) (M.failures messages.old) (M.failures messages.new) (message_of self.now) }
+        ensures { Tells M.writes messages.old messages.new (message_of self.now) }
     {
         let mut telling = Telling::new();
         match self {

@@ -7,11 +7,11 @@ use Rattle.fx_chain.proofs.drain.drain.Given as goal
 
 abbrev pub invariant-loop-flow : goal.invariant-loop-flow
 invariant-loop-flow g l = record {
-  drained : Drained g.S.Stage.acts l.fn.flow l.flow l.fn.outlet.coding l.fn.outlet.clips l.outlet.clips (g.W.ByteOut.taken l.fn.writer) (g.W.ByteOut.taken l.writer) l.fn.outlet.output l.outlet.output;
+  drained : Drained g.S.Stage.acts l.fn.flow l.flow l.fn.outlet.coding l.fn.outlet.clips l.outlet.clips (g.W.ByteOut.writes.taken l.fn.writer) (g.W.ByteOut.writes.taken l.writer) l.fn.outlet.output l.outlet.output;
   room : total l.outlet.output ≤ 68 + 64 * given_by g.S.Stage.acts l.flow.left l.flow.stages;
   few : l.outlet.clips ≤ 16 * given_by g.S.Stage.acts l.flow.left l.flow.stages;
   coding : l.outlet.coding ≡ l.fn.outlet.coding;
-  failures : g.W.ByteOut.failures l.writer ≡ g.W.ByteOut.failures l.fn.writer;
+  failures : g.W.ByteOut.writes.failures l.writer ≡ g.W.ByteOut.writes.failures l.fn.writer;
   recipes_stay : recipes g.S.Stage.acts l.flow.stages ≡ recipes g.S.Stage.acts l.fn.flow.stages;
 }
 

@@ -18,7 +18,7 @@ pub returns-in_default-clause-write_failed : goal.returns-in_default-clause-writ
 returns-in_default-clause-write_failed g c = λ _ bytes known.
     rw (c.requires.fresh.0)
     (FlowedFront-start g.S.Stage.acts c.args.flow.now c.args.outlet.now.coding _ _ _ _ c.args.head.now c.requires.new.1 c.requires.empty.2
-    (WroteFront-sent _ _ _ [] c.args.head.now (c.in_default.ensures.sent_err (g.W.ByteOut.taken c.args.writer.now) [] (Sent-start _ _ c.requires.empty.0 c.requires.empty.1))))
+    (WroteFront-sent _ _ _ [] c.args.head.now (c.in_default.ensures.sent_err (g.W.ByteOut.writes.taken c.args.writer.now) [] (Sent-start _ _ c.requires.empty.0 c.requires.empty.1))))
 
 pub loop-turn-init : goal.loop-turn-init
 loop-turn-init g c =
@@ -43,13 +43,13 @@ loop-turn-init g c =
         few = omega (arith, c.requires.empty.2);
         coded = refl;
         ran = λ bytes known.
-            let Read : ℕ → Type 0 = λ n. Ran p p bytes n (to_come g.R.ByteIn.rest c.args.source.now) in
-            subst Read (sym fresh) (Ran-start p bytes (to_come g.R.ByteIn.rest c.args.source.now) known);
+            let Read : ℕ → Type 0 = λ n. Ran p p bytes n (to_come g.R.ByteIn.reads.rest c.args.source.now) in
+            subst Read (sym fresh) (Ran-start p bytes (to_come g.R.ByteIn.reads.rest c.args.source.now) known);
         flowed = λ bytes known.
             rw fresh
             (Flowed-start g.S.Stage.acts c.args.flow.now c.args.outlet.now.coding _ _ _ _ c.args.head.now c.requires.new.1 c.requires.empty.2
-            (c.in-Ok.ensures.sent (g.W.ByteOut.taken c.args.writer.now) [] (Sent-start _ _ c.requires.empty.0 c.requires.empty.1)));
-        takes = rw (fresh, none) (Takes-none g.R.ByteIn.told c.args.source.now);
+            (c.in-Ok.ensures.sent (g.W.ByteOut.writes.taken c.args.writer.now) [] (Sent-start _ _ c.requires.empty.0 c.requires.empty.1)));
+        takes = rw (fresh, none) (Takes-none g.R.ByteIn.reads.told c.args.source.now);
         reads = refl;
       };
       writes = c.in-Ok.ensures.failures;
@@ -125,7 +125,7 @@ returns-in-Err-ReadFailed-clause-read_failed g c = λ _.
     let old = c.loop-turn.invariant.pumped in
     let next = rw c.in-Err-ReadFailed.field-0-is at c.in-Err-ReadFailed.ensures in
     let count : c.next_frame.new.progress.frames ≡ c.loop-turn.progress.frames = ap (λ (p : Reading). p.frames) next.err in
-    rw count (RanToFailure-failed g.R.ByteIn.told c.args.progress.now c.loop-turn.progress c.loop-turn.progress.frames c.args.source.now c.loop-turn.source _ old.at old.takes (next.read_failed refl))
+    rw count (RanToFailure-failed g.R.ByteIn.reads.told c.args.progress.now c.loop-turn.progress c.loop-turn.progress.frames c.args.source.now c.loop-turn.source _ old.at old.takes (next.read_failed refl))
 
 pub returns-in-Err-TooLong-clause-too_long : goal.returns-in-Err-TooLong-clause-too_long
 returns-in-Err-TooLong-clause-too_long g c = λ _.
@@ -163,10 +163,10 @@ returns-in_default-blocks-clause-write_failed g c =
     let next = rw c.in-Ok-Some.field-0-is at c.in-Ok-Some.ensures in
     let drained = c.in-Ok-drain.ensures in
     let old = c.loop-turn.invariant.pumped in
-    let turned = Pumped-turn g.S.Stage.acts g.R.ByteIn.rest g.R.ByteIn.told g.R.ByteIn.failures _ c.loop-turn.flow c.take.new.self c.drain.new.flow c.loop-turn.source c.next_frame.new.source c.loop-turn.progress c.next_frame.new.progress
+    let turned = Pumped-turn g.S.Stage.acts g.R.ByteIn.reads.rest g.R.ByteIn.reads.told g.R.ByteIn.reads.failures _ c.loop-turn.flow c.take.new.self c.drain.new.flow c.loop-turn.source c.next_frame.new.source c.loop-turn.progress c.next_frame.new.progress
     _ _ _ _ _ _ _ _ old next.counted next.most next.frame next.told next.failures (sym (c.is_spent.ensures.enough old.hungry) ∙ c.if-is_spent.false) c.take.ensures drained.drained drained.waits drained.room drained.few in
     let first : Start g.row.S.Denot g.row.R.Denot =
-    record { flow = c.args.flow.now; source = c.args.source.now; progress = c.args.progress.now; coding = c.args.outlet.now.coding; head = c.args.head.now; wrote = g.W.ByteOut.taken c.args.writer.now } in
+    record { flow = c.args.flow.now; source = c.args.source.now; progress = c.args.progress.now; coding = c.args.outlet.now.coding; head = c.args.head.now; wrote = g.W.ByteOut.writes.taken c.args.writer.now } in
     let front = c.in_default-blocks.ensures.cut_off first (rw drained.coding turned) in
     λ _. front.flowed
 
@@ -175,10 +175,10 @@ returns-in_default-blocks-clause-recipes g c =
     let next = rw c.in-Ok-Some.field-0-is at c.in-Ok-Some.ensures in
     let drained = c.in-Ok-drain.ensures in
     let old = c.loop-turn.invariant.pumped in
-    let turned = Pumped-turn g.S.Stage.acts g.R.ByteIn.rest g.R.ByteIn.told g.R.ByteIn.failures _ c.loop-turn.flow c.take.new.self c.drain.new.flow c.loop-turn.source c.next_frame.new.source c.loop-turn.progress c.next_frame.new.progress
+    let turned = Pumped-turn g.S.Stage.acts g.R.ByteIn.reads.rest g.R.ByteIn.reads.told g.R.ByteIn.reads.failures _ c.loop-turn.flow c.take.new.self c.drain.new.flow c.loop-turn.source c.next_frame.new.source c.loop-turn.progress c.next_frame.new.progress
     _ _ _ _ _ _ _ _ old next.counted next.most next.frame next.told next.failures (sym (c.is_spent.ensures.enough old.hungry) ∙ c.if-is_spent.false) c.take.ensures drained.drained drained.waits drained.room drained.few in
     let first : Start g.row.S.Denot g.row.R.Denot =
-    record { flow = c.args.flow.now; source = c.args.source.now; progress = c.args.progress.now; coding = c.args.outlet.now.coding; head = c.args.head.now; wrote = g.W.ByteOut.taken c.args.writer.now } in
+    record { flow = c.args.flow.now; source = c.args.source.now; progress = c.args.progress.now; coding = c.args.outlet.now.coding; head = c.args.head.now; wrote = g.W.ByteOut.writes.taken c.args.writer.now } in
     let front = c.in_default-blocks.ensures.cut_off first (rw drained.coding turned) in
     front.stay
 
@@ -187,10 +187,10 @@ returns-in_default-blocks-clause-width g c =
     let next = rw c.in-Ok-Some.field-0-is at c.in-Ok-Some.ensures in
     let drained = c.in-Ok-drain.ensures in
     let old = c.loop-turn.invariant.pumped in
-    let turned = Pumped-turn g.S.Stage.acts g.R.ByteIn.rest g.R.ByteIn.told g.R.ByteIn.failures _ c.loop-turn.flow c.take.new.self c.drain.new.flow c.loop-turn.source c.next_frame.new.source c.loop-turn.progress c.next_frame.new.progress
+    let turned = Pumped-turn g.S.Stage.acts g.R.ByteIn.reads.rest g.R.ByteIn.reads.told g.R.ByteIn.reads.failures _ c.loop-turn.flow c.take.new.self c.drain.new.flow c.loop-turn.source c.next_frame.new.source c.loop-turn.progress c.next_frame.new.progress
     _ _ _ _ _ _ _ _ old next.counted next.most next.frame next.told next.failures (sym (c.is_spent.ensures.enough old.hungry) ∙ c.if-is_spent.false) c.take.ensures drained.drained drained.waits drained.room drained.few in
     let first : Start g.row.S.Denot g.row.R.Denot =
-    record { flow = c.args.flow.now; source = c.args.source.now; progress = c.args.progress.now; coding = c.args.outlet.now.coding; head = c.args.head.now; wrote = g.W.ByteOut.taken c.args.writer.now } in
+    record { flow = c.args.flow.now; source = c.args.source.now; progress = c.args.progress.now; coding = c.args.outlet.now.coding; head = c.args.head.now; wrote = g.W.ByteOut.writes.taken c.args.writer.now } in
     let front = c.in_default-blocks.ensures.cut_off first (rw drained.coding turned) in
     front.kept
 
@@ -199,10 +199,10 @@ returns-in_default-blocks-clause-taken g c =
     let next = rw c.in-Ok-Some.field-0-is at c.in-Ok-Some.ensures in
     let drained = c.in-Ok-drain.ensures in
     let old = c.loop-turn.invariant.pumped in
-    let turned = Pumped-turn g.S.Stage.acts g.R.ByteIn.rest g.R.ByteIn.told g.R.ByteIn.failures _ c.loop-turn.flow c.take.new.self c.drain.new.flow c.loop-turn.source c.next_frame.new.source c.loop-turn.progress c.next_frame.new.progress
+    let turned = Pumped-turn g.S.Stage.acts g.R.ByteIn.reads.rest g.R.ByteIn.reads.told g.R.ByteIn.reads.failures _ c.loop-turn.flow c.take.new.self c.drain.new.flow c.loop-turn.source c.next_frame.new.source c.loop-turn.progress c.next_frame.new.progress
     _ _ _ _ _ _ _ _ old next.counted next.most next.frame next.told next.failures (sym (c.is_spent.ensures.enough old.hungry) ∙ c.if-is_spent.false) c.take.ensures drained.drained drained.waits drained.room drained.few in
     let first : Start g.row.S.Denot g.row.R.Denot =
-    record { flow = c.args.flow.now; source = c.args.source.now; progress = c.args.progress.now; coding = c.args.outlet.now.coding; head = c.args.head.now; wrote = g.W.ByteOut.taken c.args.writer.now } in
+    record { flow = c.args.flow.now; source = c.args.source.now; progress = c.args.progress.now; coding = c.args.outlet.now.coding; head = c.args.head.now; wrote = g.W.ByteOut.writes.taken c.args.writer.now } in
     let front = c.in_default-blocks.ensures.cut_off first (rw drained.coding turned) in
     front.taken
 
@@ -211,10 +211,10 @@ returns-in_default-blocks-clause-whole g c =
     let next = rw c.in-Ok-Some.field-0-is at c.in-Ok-Some.ensures in
     let drained = c.in-Ok-drain.ensures in
     let old = c.loop-turn.invariant.pumped in
-    let turned = Pumped-turn g.S.Stage.acts g.R.ByteIn.rest g.R.ByteIn.told g.R.ByteIn.failures _ c.loop-turn.flow c.take.new.self c.drain.new.flow c.loop-turn.source c.next_frame.new.source c.loop-turn.progress c.next_frame.new.progress
+    let turned = Pumped-turn g.S.Stage.acts g.R.ByteIn.reads.rest g.R.ByteIn.reads.told g.R.ByteIn.reads.failures _ c.loop-turn.flow c.take.new.self c.drain.new.flow c.loop-turn.source c.next_frame.new.source c.loop-turn.progress c.next_frame.new.progress
     _ _ _ _ _ _ _ _ old next.counted next.most next.frame next.told next.failures (sym (c.is_spent.ensures.enough old.hungry) ∙ c.if-is_spent.false) c.take.ensures drained.drained drained.waits drained.room drained.few in
     let first : Start g.row.S.Denot g.row.R.Denot =
-    record { flow = c.args.flow.now; source = c.args.source.now; progress = c.args.progress.now; coding = c.args.outlet.now.coding; head = c.args.head.now; wrote = g.W.ByteOut.taken c.args.writer.now } in
+    record { flow = c.args.flow.now; source = c.args.source.now; progress = c.args.progress.now; coding = c.args.outlet.now.coding; head = c.args.head.now; wrote = g.W.ByteOut.writes.taken c.args.writer.now } in
     let front = c.in_default-blocks.ensures.cut_off first (rw drained.coding turned) in
     front.whole
 
@@ -223,10 +223,10 @@ returns-in_default-blocks-clause-ends g c =
     let next = rw c.in-Ok-Some.field-0-is at c.in-Ok-Some.ensures in
     let drained = c.in-Ok-drain.ensures in
     let old = c.loop-turn.invariant.pumped in
-    let turned = Pumped-turn g.S.Stage.acts g.R.ByteIn.rest g.R.ByteIn.told g.R.ByteIn.failures _ c.loop-turn.flow c.take.new.self c.drain.new.flow c.loop-turn.source c.next_frame.new.source c.loop-turn.progress c.next_frame.new.progress
+    let turned = Pumped-turn g.S.Stage.acts g.R.ByteIn.reads.rest g.R.ByteIn.reads.told g.R.ByteIn.reads.failures _ c.loop-turn.flow c.take.new.self c.drain.new.flow c.loop-turn.source c.next_frame.new.source c.loop-turn.progress c.next_frame.new.progress
     _ _ _ _ _ _ _ _ old next.counted next.most next.frame next.told next.failures (sym (c.is_spent.ensures.enough old.hungry) ∙ c.if-is_spent.false) c.take.ensures drained.drained drained.waits drained.room drained.few in
     let first : Start g.row.S.Denot g.row.R.Denot =
-    record { flow = c.args.flow.now; source = c.args.source.now; progress = c.args.progress.now; coding = c.args.outlet.now.coding; head = c.args.head.now; wrote = g.W.ByteOut.taken c.args.writer.now } in
+    record { flow = c.args.flow.now; source = c.args.source.now; progress = c.args.progress.now; coding = c.args.outlet.now.coding; head = c.args.head.now; wrote = g.W.ByteOut.writes.taken c.args.writer.now } in
     let front = c.in_default-blocks.ensures.cut_off first (rw drained.coding turned) in
     rw front.begun front.ends
 
@@ -235,10 +235,10 @@ returns-in_default-blocks-clause-wants g c =
     let next = rw c.in-Ok-Some.field-0-is at c.in-Ok-Some.ensures in
     let drained = c.in-Ok-drain.ensures in
     let old = c.loop-turn.invariant.pumped in
-    let turned = Pumped-turn g.S.Stage.acts g.R.ByteIn.rest g.R.ByteIn.told g.R.ByteIn.failures _ c.loop-turn.flow c.take.new.self c.drain.new.flow c.loop-turn.source c.next_frame.new.source c.loop-turn.progress c.next_frame.new.progress
+    let turned = Pumped-turn g.S.Stage.acts g.R.ByteIn.reads.rest g.R.ByteIn.reads.told g.R.ByteIn.reads.failures _ c.loop-turn.flow c.take.new.self c.drain.new.flow c.loop-turn.source c.next_frame.new.source c.loop-turn.progress c.next_frame.new.progress
     _ _ _ _ _ _ _ _ old next.counted next.most next.frame next.told next.failures (sym (c.is_spent.ensures.enough old.hungry) ∙ c.if-is_spent.false) c.take.ensures drained.drained drained.waits drained.room drained.few in
     let first : Start g.row.S.Denot g.row.R.Denot =
-    record { flow = c.args.flow.now; source = c.args.source.now; progress = c.args.progress.now; coding = c.args.outlet.now.coding; head = c.args.head.now; wrote = g.W.ByteOut.taken c.args.writer.now } in
+    record { flow = c.args.flow.now; source = c.args.source.now; progress = c.args.progress.now; coding = c.args.outlet.now.coding; head = c.args.head.now; wrote = g.W.ByteOut.writes.taken c.args.writer.now } in
     let front = c.in_default-blocks.ensures.cut_off first (rw drained.coding turned) in
     front.wants
 
@@ -247,10 +247,10 @@ returns-in_default-blocks-clause-met g c =
     let next = rw c.in-Ok-Some.field-0-is at c.in-Ok-Some.ensures in
     let drained = c.in-Ok-drain.ensures in
     let old = c.loop-turn.invariant.pumped in
-    let turned = Pumped-turn g.S.Stage.acts g.R.ByteIn.rest g.R.ByteIn.told g.R.ByteIn.failures _ c.loop-turn.flow c.take.new.self c.drain.new.flow c.loop-turn.source c.next_frame.new.source c.loop-turn.progress c.next_frame.new.progress
+    let turned = Pumped-turn g.S.Stage.acts g.R.ByteIn.reads.rest g.R.ByteIn.reads.told g.R.ByteIn.reads.failures _ c.loop-turn.flow c.take.new.self c.drain.new.flow c.loop-turn.source c.next_frame.new.source c.loop-turn.progress c.next_frame.new.progress
     _ _ _ _ _ _ _ _ old next.counted next.most next.frame next.told next.failures (sym (c.is_spent.ensures.enough old.hungry) ∙ c.if-is_spent.false) c.take.ensures drained.drained drained.waits drained.room drained.few in
     let first : Start g.row.S.Denot g.row.R.Denot =
-    record { flow = c.args.flow.now; source = c.args.source.now; progress = c.args.progress.now; coding = c.args.outlet.now.coding; head = c.args.head.now; wrote = g.W.ByteOut.taken c.args.writer.now } in
+    record { flow = c.args.flow.now; source = c.args.source.now; progress = c.args.progress.now; coding = c.args.outlet.now.coding; head = c.args.head.now; wrote = g.W.ByteOut.writes.taken c.args.writer.now } in
     let front = c.in_default-blocks.ensures.cut_off first (rw drained.coding turned) in
     rw (front.begun, front.running) refl
 
@@ -259,10 +259,10 @@ returns-in_default-blocks-clause-most g c =
     let next = rw c.in-Ok-Some.field-0-is at c.in-Ok-Some.ensures in
     let drained = c.in-Ok-drain.ensures in
     let old = c.loop-turn.invariant.pumped in
-    let turned = Pumped-turn g.S.Stage.acts g.R.ByteIn.rest g.R.ByteIn.told g.R.ByteIn.failures _ c.loop-turn.flow c.take.new.self c.drain.new.flow c.loop-turn.source c.next_frame.new.source c.loop-turn.progress c.next_frame.new.progress
+    let turned = Pumped-turn g.S.Stage.acts g.R.ByteIn.reads.rest g.R.ByteIn.reads.told g.R.ByteIn.reads.failures _ c.loop-turn.flow c.take.new.self c.drain.new.flow c.loop-turn.source c.next_frame.new.source c.loop-turn.progress c.next_frame.new.progress
     _ _ _ _ _ _ _ _ old next.counted next.most next.frame next.told next.failures (sym (c.is_spent.ensures.enough old.hungry) ∙ c.if-is_spent.false) c.take.ensures drained.drained drained.waits drained.room drained.few in
     let first : Start g.row.S.Denot g.row.R.Denot =
-    record { flow = c.args.flow.now; source = c.args.source.now; progress = c.args.progress.now; coding = c.args.outlet.now.coding; head = c.args.head.now; wrote = g.W.ByteOut.taken c.args.writer.now } in
+    record { flow = c.args.flow.now; source = c.args.source.now; progress = c.args.progress.now; coding = c.args.outlet.now.coding; head = c.args.head.now; wrote = g.W.ByteOut.writes.taken c.args.writer.now } in
     let front = c.in_default-blocks.ensures.cut_off first (rw drained.coding turned) in
     front.most
 
@@ -271,10 +271,10 @@ returns-in_default-blocks-clause-reads g c =
     let next = rw c.in-Ok-Some.field-0-is at c.in-Ok-Some.ensures in
     let drained = c.in-Ok-drain.ensures in
     let old = c.loop-turn.invariant.pumped in
-    let turned = Pumped-turn g.S.Stage.acts g.R.ByteIn.rest g.R.ByteIn.told g.R.ByteIn.failures _ c.loop-turn.flow c.take.new.self c.drain.new.flow c.loop-turn.source c.next_frame.new.source c.loop-turn.progress c.next_frame.new.progress
+    let turned = Pumped-turn g.S.Stage.acts g.R.ByteIn.reads.rest g.R.ByteIn.reads.told g.R.ByteIn.reads.failures _ c.loop-turn.flow c.take.new.self c.drain.new.flow c.loop-turn.source c.next_frame.new.source c.loop-turn.progress c.next_frame.new.progress
     _ _ _ _ _ _ _ _ old next.counted next.most next.frame next.told next.failures (sym (c.is_spent.ensures.enough old.hungry) ∙ c.if-is_spent.false) c.take.ensures drained.drained drained.waits drained.room drained.few in
     let first : Start g.row.S.Denot g.row.R.Denot =
-    record { flow = c.args.flow.now; source = c.args.source.now; progress = c.args.progress.now; coding = c.args.outlet.now.coding; head = c.args.head.now; wrote = g.W.ByteOut.taken c.args.writer.now } in
+    record { flow = c.args.flow.now; source = c.args.source.now; progress = c.args.progress.now; coding = c.args.outlet.now.coding; head = c.args.head.now; wrote = g.W.ByteOut.writes.taken c.args.writer.now } in
     let front = c.in_default-blocks.ensures.cut_off first (rw drained.coding turned) in
     front.reads
 
@@ -283,7 +283,7 @@ loop-turn-preserved g c =
     let next = rw c.in-Ok-Some.field-0-is at c.in-Ok-Some.ensures in
     let drained = c.in-Ok-drain.ensures in
     let old = c.loop-turn.invariant.pumped in
-    let turned = Pumped-turn g.S.Stage.acts g.R.ByteIn.rest g.R.ByteIn.told g.R.ByteIn.failures _ c.loop-turn.flow c.take.new.self c.drain.new.flow c.loop-turn.source c.next_frame.new.source c.loop-turn.progress c.next_frame.new.progress
+    let turned = Pumped-turn g.S.Stage.acts g.R.ByteIn.reads.rest g.R.ByteIn.reads.told g.R.ByteIn.reads.failures _ c.loop-turn.flow c.take.new.self c.drain.new.flow c.loop-turn.source c.next_frame.new.source c.loop-turn.progress c.next_frame.new.progress
     _ _ _ _ _ _ _ _ old next.counted next.most next.frame next.told next.failures (sym (c.is_spent.ensures.enough old.hungry) ∙ c.if-is_spent.false) c.take.ensures drained.drained drained.waits drained.room drained.few in
     let count = ap (λ (p : Reading). p.frames) next.counted in
     record {

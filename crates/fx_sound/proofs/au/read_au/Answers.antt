@@ -36,7 +36,7 @@ returns-in_default-skip-clause-cut g c = λ _.
     let offset = c.in-Ok-fields.ensures.offset in
     record {
       came = c.in-Ok.got + short.came;
-      tells = Tells-both g.R.ByteIn.told _ _ _ c.in-Ok.got short.came c.in-Ok.ensures.told short.tells;
+      tells = Tells-both g.R.ByteIn.reads.told _ _ _ c.in-Ok.got short.came c.in-Ok.ensures.told short.tells;
       undecided = λ bytes known.
           let first = c.in-Ok.ensures.known bytes known in
           behind_snd-read-cut bytes c.fill.new.out c.in-Ok.got short.came _ first.0 first.1 (omega arith) (omega arith) (omega arith) c.in-Ok-fields.ensures.value

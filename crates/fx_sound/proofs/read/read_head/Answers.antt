@@ -44,7 +44,7 @@ returns-in-Err-clause-read_failed g c = λ is_read.
     let cut = c.in-Err.ensures.cut is_read in
     record {
       came = c.in-Ok.got + cut.came;
-      tells = Tells-both g.R.ByteIn.told _ _ _ c.in-Ok.got cut.came c.in-Ok.ensures.told cut.tells;
+      tells = Tells-both g.R.ByteIn.reads.told _ _ _ c.in-Ok.got cut.came c.in-Ok.ensures.told cut.tells;
       undecided = λ bytes known.
           let first = c.in-Ok.ensures.known bytes known in
           head_of-read-cut c.args.expected bytes c.fill.new.out c.in-Ok.got cut.came _ first.0 first.1 (omega arith) (omega arith) (omega arith) c.in-Some.ensures
@@ -65,6 +65,6 @@ returns-clause-head g c = λ bytes known.
       spelt = head_of-read c.args.expected bytes c.fill.new.out c.in-Ok.got _ first.0 first.1 (omega arith) (omega arith) (omega arith) c.in-Some.ensures
           ∙ ap (spelt_as c.in-Some.kind) then.0;
       there = omega (arith, then.1, first.1, place, length-drop c.in-Ok.got bytes);
-      tells = Takes-both g.R.ByteIn.told _ _ _ c.in-Ok.got (c.in-Ok-read_layout.layout.offset - 4) c.in-Ok-read_layout.layout.offset place c.in-Ok.ensures.told c.in-Ok-read_layout.ensures.told;
+      tells = Takes-both g.R.ByteIn.reads.told _ _ _ c.in-Ok.got (c.in-Ok-read_layout.layout.offset - 4) c.in-Ok-read_layout.layout.offset place c.in-Ok.ensures.told c.in-Ok-read_layout.ensures.told;
       others = then.2 ∙ ap Some (drop-drop (c.in-Ok-read_layout.layout.offset - 4) c.in-Ok.got bytes ∙ ap (λ i. drop i bytes) place);
     }

@@ -35,7 +35,7 @@ returns-in-Err-clause-read_failed g c = λ e.
     let is : c.in-Err.fault ≡ ReadFailed = cc in
     let none : p.frames + c.loop-turn._turn ≡ c.loop-turn._turn = omega (arith, c.requires.fresh) in
     let count : c.next_frame.new.progress.frames ≡ c.loop-turn._turn = ap (λ q. q.frames) c.in-Err.ensures.err ∙ ap (λ q. q.frames) old.now ∙ none in
-    rw count (Ran-failed g.R.ByteIn.told p c.loop-turn.progress c.loop-turn._turn c.args.source.now c.loop-turn.source c.next_frame.new.source.reader old.now old.told (c.in-Err.ensures.read_failed (ap Err is)))
+    rw count (Ran-failed g.R.ByteIn.reads.told p c.loop-turn.progress c.loop-turn._turn c.args.source.now c.loop-turn.source c.next_frame.new.source.reader old.now old.told (c.in-Err.ensures.read_failed (ap Err is)))
 
 pub returns-in-Err-clause-too_long : goal.returns-in-Err-clause-too_long
 returns-in-Err-clause-too_long g c = λ e bytes known.
@@ -58,7 +58,7 @@ loop-turn-preserved g c =
     let next = rw c.in-Ok-Some.field-0-is at c.in-Ok-Some.ensures in
     let same : size_of c.loop-turn.progress ≡ size = ap size_of old.now in
     let more : n * size + size_of c.loop-turn.progress ≡ (n + 1) * size = omega (arith, same) in
-    let P : ℕ → Type 0 = Takes g.R.ByteIn.told c.args.source.now c.next_frame.new.source in
+    let P : ℕ → Type 0 = Takes g.R.ByteIn.reads.told c.args.source.now c.next_frame.new.source in
     record {
       now = next.counted ∙ ap after_frame old.now ∙ after_frames-more p n;
       most = next.most;
@@ -72,5 +72,5 @@ loop-turn-preserved g c =
           taken.samples ∙ ap (λ q. samples_of q.coding q.channels (take (size_of q) (drop (n * size) bytes))) old.now in
           c.in-Ok.ensures.items ∙ ap (λ l. l ++ c.in-Ok-Some.frame ∷ []) (old.items bytes known)
           ∙ ap (λ f. first_frames p.coding p.channels n bytes ++ f ∷ []) frame ∙ sym (first_frames-more p.coding p.channels n bytes);
-      told = subst P more (Takes-more g.R.ByteIn.told c.args.source.now c.loop-turn.source c.next_frame.new.source (n * size) (size_of c.loop-turn.progress) old.told next.told);
+      told = subst P more (Takes-more g.R.ByteIn.reads.told c.args.source.now c.loop-turn.source c.next_frame.new.source (n * size) (size_of c.loop-turn.progress) old.told next.told);
     }

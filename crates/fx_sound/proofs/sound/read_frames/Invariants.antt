@@ -11,7 +11,7 @@ abbrev pub invariant-loop-turn : goal.invariant-loop-turn
 invariant-loop-turn g l = record {
   now : l.progress ≡ after_frames l.initial.progress l._turn;
   most : l.progress.frames ≤ MOST_FRAMES;
-  ran : IfKnown (to_come g.R.ByteIn.rest l.initial.source) (λ bytes. Ran l.initial.progress l.progress bytes l._turn (to_come g.R.ByteIn.rest l.source));
-  items : IfKnown (to_come g.R.ByteIn.rest l.initial.source) (λ bytes. l.frames.items ≡ first_frames l.initial.progress.coding l.initial.progress.channels l._turn bytes);
-  told : Takes g.R.ByteIn.told l.initial.source l.source (l._turn * size_of l.initial.progress);
+  ran : IfKnown (to_come g.R.ByteIn.reads.rest l.initial.source) (λ bytes. Ran l.initial.progress l.progress bytes l._turn (to_come g.R.ByteIn.reads.rest l.source));
+  items : IfKnown (to_come g.R.ByteIn.reads.rest l.initial.source) (λ bytes. l.frames.items ≡ first_frames l.initial.progress.coding l.initial.progress.channels l._turn bytes);
+  told : Takes g.R.ByteIn.reads.told l.initial.source l.source (l._turn * size_of l.initial.progress);
 }

@@ -50,7 +50,7 @@ loop-turn-preserved g c =
                 ∙ sym (turn-next most_chunks c.loop-turn._turn c.loop-turn.offset c.in-Next.next c.loop-turn.seen c.in-Next.format _ (omega arith) (new.0 ∙ ap Ok c.in-Next.is))
                 ∙ old.2,
           );
-      told = turn-told g.R.ByteIn.told _ _ _ _ _ _ all c.loop-turn.invariant.told c.in-Ok.ensures.told;
+      told = turn-told g.R.ByteIn.reads.told _ _ _ _ _ _ all c.loop-turn.invariant.told c.in-Ok.ensures.told;
       cut = λ bytes known.
           let old = c.loop-turn.invariant.rest bytes known in
           let new = c.in-Ok.ensures.step _ old.1 in
@@ -64,7 +64,7 @@ returns-in-Err-clause-cut g c = λ is_read.
     let cut = c.in-Err.ensures.cut is_read in
     record {
       came = c.loop-turn.offset - 12 + cut.came;
-      tells = Tells-both g.R.ByteIn.told _ _ _ (c.loop-turn.offset - 12) cut.came c.loop-turn.invariant.told cut.tells;
+      tells = Tells-both g.R.ByteIn.reads.told _ _ _ (c.loop-turn.offset - 12) cut.came c.loop-turn.invariant.told cut.tells;
       undecided = λ bytes known.
           let old = c.loop-turn.invariant.rest bytes known in
           sym (c.loop-turn.invariant.cut bytes known cut.came)

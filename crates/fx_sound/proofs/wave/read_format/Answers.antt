@@ -28,7 +28,7 @@ returns-in_default-skip-clause-cut g c = λ _.
     let short = c.in_default-skip.ensures.short in
     record {
       came = c.in-Ok.got + short.came;
-      tells = Tells-both g.R.ByteIn.told _ _ _ c.in-Ok.got short.came c.in-Ok.ensures.told short.tells;
+      tells = Tells-both g.R.ByteIn.reads.told _ _ _ c.in-Ok.got short.came c.in-Ok.ensures.told short.tells;
       undecided = λ bytes known. format_read-cut c.args.size (c.in-Ok.got + short.came) bytes (omega (arith, short.few, c.in-Ok.ensures.count));
     }
 

@@ -60,7 +60,7 @@ returns-in-Err-read_body-clause-cut g c = λ is_read.
     let cut = c.in-Err-read_body.ensures.cut is_read in
     record {
       came = c.in-Ok.got + cut.came;
-      tells = Tells-both g.R.ByteIn.told _ _ _ c.in-Ok.got cut.came c.in-Ok.ensures.told cut.tells;
+      tells = Tells-both g.R.ByteIn.reads.told _ _ _ c.in-Ok.got cut.came c.in-Ok.ensures.told cut.tells;
       undecided = λ bytes known.
           let first = c.in-Ok.ensures.known bytes known in
           step_of-asked-cut c.args.offset c.args.seen bytes c.fill.new.out c.name_at-name.result c.in-Ok.got c.long-size.result cut.came _

@@ -57,7 +57,7 @@ returns-in-Err-clause-cut g c = λ is_read.
     let cut = c.in-Err.ensures.cut is_read in
     record {
       came = c.in-Ok.got + cut.came;
-      tells = Tells-both g.R.ByteIn.told _ _ _ c.in-Ok.got cut.came c.in-Ok.ensures.told cut.tells;
+      tells = Tells-both g.R.ByteIn.reads.told _ _ _ c.in-Ok.got cut.came c.in-Ok.ensures.told cut.tells;
       undecided = λ bytes known.
           let first = c.in-Ok.ensures.known bytes known in
           riff-chunks-cut bytes c.fill.new.out c.name_at-name.result c.in-Ok.got cut.came first.0 first.1 (omega arith) (omega arith) (omega arith) (c.name_at-name.ensures ∙ take-take 4 4 (drop 4 c.fill.new.out) (omega arith)) c.if-ne.ensures
@@ -70,4 +70,4 @@ returns-in-Ok-read_chunks-clause-told g c =
     let count = c.in-Ok.ensures.count in
     let far : 12 < c.in-Ok-read_chunks.head.offset = c.in-Ok-read_chunks.ensures.offset.0 in
     let all : c.in-Ok.got + (c.in-Ok-read_chunks.head.offset - 12) ≡ c.in-Ok-read_chunks.head.offset - 4 = omega arith in
-    Takes-both g.R.ByteIn.told _ _ _ c.in-Ok.got (c.in-Ok-read_chunks.head.offset - 12) _ all c.in-Ok.ensures.told c.in-Ok-read_chunks.ensures.told
+    Takes-both g.R.ByteIn.reads.told _ _ _ c.in-Ok.got (c.in-Ok-read_chunks.head.offset - 12) _ all c.in-Ok.ensures.told c.in-Ok-read_chunks.ensures.told

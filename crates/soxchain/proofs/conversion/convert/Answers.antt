@@ -9,8 +9,8 @@ use Rattle.soxchain.proofs.conversion.convert.Goals as goal
 pub returns-in-Err : goal.returns-in-Err
 returns-in-Err g c =
     let new = c.new-source.ensures in
-    rw (c.none.ensures) (refused g.R.ByteIn.rest g.R.ByteIn.told g.R.ByteIn.failures g.W.ByteOut.taken g.W.ByteOut.flushed g.W.ByteOut.failures (texts c.args.words.now) (bytes_of c.args.files.now) c.args.reader
-    (Tells (g.M.ByteOut.taken c.args.messages.now) (g.M.ByteOut.taken c.prepare.new.messages) (g.M.ByteOut.failures c.args.messages.now) (g.M.ByteOut.failures c.prepare.new.messages))
+    rw (c.none.ensures) (refused g.R.ByteIn.reads g.W.ByteOut.writes (texts c.args.words.now) (bytes_of c.args.files.now) c.args.reader
+    (Tells g.M.ByteOut.writes c.args.messages.now c.prepare.new.messages)
     c.prepare.new.source c.args.output.now c.into_inner.result c.in-Err.status c.into_inner.ensures (rw (held-is c.new-source.result c.args.reader new.bytes new.reader) at c.in-Err.ensures.refused))
 
 pub returns : goal.returns
@@ -18,8 +18,8 @@ returns g c =
     let new = c.new-source.ensures in
     let told = c.in-Ok.ensures in
     let start = held-is c.new-source.result c.args.reader new.bytes new.reader in
-    concluded g.R.ByteIn.rest g.R.ByteIn.told g.R.ByteIn.failures g.W.ByteOut.taken g.W.ByteOut.flushed g.W.ByteOut.failures (texts c.args.words.now) (bytes_of c.args.files.now) c.args.reader
-    (Tells (g.M.ByteOut.taken c.args.messages.now) (g.M.ByteOut.taken c.finish-status.new.messages) (g.M.ByteOut.failures c.args.messages.now) (g.M.ByteOut.failures c.finish-status.new.messages))
+    concluded g.R.ByteIn.reads g.W.ByteOut.writes (texts c.args.words.now) (bytes_of c.args.files.now) c.args.reader
+    (Tells g.M.ByteOut.writes c.args.messages.now c.finish-status.new.messages)
     c.prepare.new.source c.finish-status.new.source c.in-Ok.ready c.args.output.now c.finish-status.new.output c.into_inner-2.result c.finish-status.result.0 c.finish-status.result.1
     (record {
       line = told.line;
@@ -27,6 +27,6 @@ returns g c =
       no_faults = told.no_faults;
       planned = told.planned;
       chain = told.chain;
-      unfailed = told.unfailed ∙ ap g.R.ByteIn.failures new.reader;
+      unfailed = told.unfailed ∙ ap g.R.ByteIn.reads.failures new.reader;
     })
     (rw (told.silent) at c.finish-status.ensures) c.into_inner-2.ensures

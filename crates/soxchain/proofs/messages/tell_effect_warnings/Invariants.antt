@@ -7,7 +7,7 @@ use Rattle.soxchain.proofs.messages.tell_effect_warnings.Given as goal
 abbrev pub invariant-loop-place : goal.invariant-loop-place
 invariant-loop-place g l = record {
   within : l.place ≤ l.count;
-  told : TellsMore l.fn.telling.has_failed l.telling.has_failed (g.M.ByteOut.taken l.fn.messages) (g.M.ByteOut.taken l.messages) (g.M.ByteOut.failures l.fn.messages) (g.M.ByteOut.failures l.messages) (effect_warnings (effects_in l.line) l.clips l.place);
+  told : TellsMore g.M.ByteOut.writes l.fn.telling.has_failed l.telling.has_failed l.fn.messages l.messages (effect_warnings (effects_in l.line) l.clips l.place);
 }
 
 abbrev pub decreases-loop-place : goal.decreases-loop-place

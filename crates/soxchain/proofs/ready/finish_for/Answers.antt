@@ -16,7 +16,7 @@ returns-in-Ok g c = record {
   causes = c.in-Ok.ensures.causes;
   status_is = refl;
   report_is = refl;
-  told_is = Tells-first _ _ _ _ _ _ _ c.new-telling.ensures c.tell_warnings.ensures;
+  told_is = Tells-first g.M.ByteOut.writes _ _ _ _ _ c.new-telling.ensures c.tell_warnings.ensures;
 }
 
 pub returns : goal.returns
@@ -29,8 +29,8 @@ returns g c =
       read_failed = rw (c.requires.plan) at c.in-Err.ensures.read_failed;
       wants = wants-new _ _ c.requires _ c.in-Err.ensures.wants;
       work = rw (c.requires.plan) at c.in-Err.ensures.work;
-      causes = HasCause-map _ _ (ReadFirst-new g.R.ByteIn.told _ _ c.requires _ _ _ _ _) (cause_of c.in-Err.fault) _ _ _ _ caused;
+      causes = HasCause-map _ _ (ReadFirst-new g.R.ByteIn.reads.told _ _ c.requires _ _ _ _ _) (cause_of c.in-Err.fault) _ _ _ _ caused;
       status_is = refl;
       report_is = c.report.ensures;
-      told_is = Tells-first _ _ _ _ _ _ _ c.new-telling.ensures c.tell_fault.ensures;
+      told_is = Tells-first g.M.ByteOut.writes _ _ _ _ _ c.new-telling.ensures c.tell_fault.ensures;
     }

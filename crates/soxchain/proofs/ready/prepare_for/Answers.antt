@@ -15,5 +15,5 @@ returns-in-Err-clause-refused g c =
       chain_refused = λ e. refused.chain_refused (ap (λ (r : Refusal). Err r) e);
       cause = refused.failures;
       status_is = c.status.ensures;
-      told = Tells-first _ _ _ _ _ _ _ c.new-telling.ensures c.tell_refusal.ensures;
+      told = Tells-first g.M.ByteOut.writes _ _ _ _ _ c.new-telling.ensures c.tell_refusal.ensures;
     }

@@ -2,4 +2,4 @@ use Rattle.soxchain.proofs.TellingLemmas.{Tells-first}
 use Rattle.soxchain.proofs.ready.refuse_line.Goals as goal
 
 pub returns-clause-told : goal.returns-clause-told
-returns-clause-told g c = Tells-first _ _ _ _ _ _ _ c.new-telling.ensures (rw (c.label_of_line.ensures) at c.tell_line.ensures)
+returns-clause-told g c = Tells-first g.M.ByteOut.writes _ _ _ _ _ c.new-telling.ensures (rw (c.label_of_line.ensures) at c.tell_line.ensures)

@@ -17,7 +17,7 @@ returns g c = λ input known.
       found = e.0;
       reads = rw c.deref.ensures.value at e.1;
       concludes = rw (sym c.deref-2.ensures.value) (concludes-more _ _ e.0
-          (λ line outcome converted. converted-bytes _ _ _ _ _ _ line _ _ _ _ _ outcome input c.into_inner.result.items known (ap Some before) (ap Some after) converted)
+          (λ line outcome converted. converted-bytes _ _ line _ _ _ _ _ outcome input c.into_inner.result.items known (ap Some before) (ap Some after) converted)
           (λ untouched. sym after ∙ ap (λ o. o.inner.items) untouched.1 ∙ before)
           (λ text told. (c.convert-status.new.messages.failures, rw (silent, said, c.new-messages.ensures.failures) at told))
           e.2);

@@ -21,7 +21,7 @@ returns-in-Standard g c =
       no_faults = told.no_faults;
       planned = told.planned;
       chain = told.chain;
-      unfailed = told.unfailed ∙ ap g.R.ByteIn.failures new.reader;
+      unfailed = told.unfailed ∙ ap g.R.ByteIn.reads.failures new.reader;
     })
     (sym c.in-Standard.ensures) c.output-in-Standard.ensures
     (rw (uncounted-is c.new-output.result c.output-in-Standard.result fresh.inner fresh.told fresh.failures fresh.flushed, told.silent) at c.finish_for-status.ensures)
@@ -37,7 +37,7 @@ returns-in-Ok-create g c =
       no_faults = told.no_faults;
       planned = told.planned;
       chain = told.chain;
-      unfailed = told.unfailed ∙ ap g.R.ByteIn.failures new.reader;
+      unfailed = told.unfailed ∙ ap g.R.ByteIn.reads.failures new.reader;
     })
     (sym c.in-Named.ensures) (rw (c.input.ensures) at c.in-Ok-create.ensures.created) (rw (told.silent) at c.process_to-status.ensures)
 
@@ -52,6 +52,6 @@ returns g c =
       no_faults = told.no_faults;
       planned = told.planned;
       chain = told.chain;
-      unfailed = told.unfailed ∙ ap g.R.ByteIn.failures new.reader;
+      unfailed = told.unfailed ∙ ap g.R.ByteIn.reads.failures new.reader;
     })
     (sym c.in-Named.ensures) (rw (c.input.ensures) at c.in-Err-create.ensures.refused) c.cannot_open.ensures.status (rw (told.silent) at c.cannot_open.ensures.told)

@@ -4,9 +4,9 @@ use Rattle.fx_sound.proofs.output.Output.drain.Given as goal
 
 abbrev pub invariant-loop-self : goal.invariant-loop-self
 invariant-loop-self g l = record {
-  sent : SendsOn (g.W.ByteOut.taken l.initial.writer) (g.W.ByteOut.taken l.writer) l.initial.self l.self;
+  sent : SendsOn (g.W.ByteOut.writes.taken l.initial.writer) (g.W.ByteOut.writes.taken l.writer) l.initial.self l.self;
   count : total l.self ≡ total l.initial.self;
-  failures : g.W.ByteOut.failures l.writer ≡ g.W.ByteOut.failures l.initial.writer;
+  failures : g.W.ByteOut.writes.failures l.writer ≡ g.W.ByteOut.writes.failures l.initial.writer;
 }
 
 abbrev pub decreases-loop-self : goal.decreases-loop-self

@@ -4,9 +4,9 @@ use Rattle.fx_sound.proofs.source.Source.gather.Given as goal
 
 abbrev pub invariant-loop-self : goal.invariant-loop-self
 invariant-loop-self g l = record {
-  stays : Stays g.R.ByteIn.rest l.initial.self l.self;
-  told : Takes g.R.ByteIn.told l.initial.self l.self 0;
-  failures : g.R.ByteIn.failures l.self.reader ≡ g.R.ByteIn.failures l.initial.self.reader;
+  stays : Stays g.R.ByteIn.reads.rest l.initial.self l.self;
+  told : Takes g.R.ByteIn.reads.told l.initial.self l.self 0;
+  failures : g.R.ByteIn.reads.failures l.self.reader ≡ g.R.ByteIn.reads.failures l.initial.self.reader;
   unread : l.want ≤ length l.initial.self.bytes → l.self ≡ l.initial.self;
 }
 

@@ -10,7 +10,7 @@ loop-got-preserved g c =
     let count : c.min-n.result ≤ length c.hold.new.self.bytes = omega arith in
     record {
       within = omega arith;
-      bytes = λ bytes known. skip-turn g.R.ByteIn.rest c.loop-got.self c.hold.new.self c.let_go.new.self bytes c.loop-got.got c.min-n.result (old.bytes bytes known) mid.stays count went.bytes went.reader;
-      told = Takes-turn g.R.ByteIn.told _ _ _ _ c.loop-got.got c.min-n.result old.told mid.told went.bytes went.reader count;
-      failures = ap g.R.ByteIn.failures went.reader ∙ mid.failures ∙ old.failures;
+      bytes = λ bytes known. skip-turn g.R.ByteIn.reads.rest c.loop-got.self c.hold.new.self c.let_go.new.self bytes c.loop-got.got c.min-n.result (old.bytes bytes known) mid.stays count went.bytes went.reader;
+      told = Takes-turn g.R.ByteIn.reads.told _ _ _ _ c.loop-got.got c.min-n.result old.told mid.told went.bytes went.reader count;
+      failures = ap g.R.ByteIn.reads.failures went.reader ∙ mid.failures ∙ old.failures;
     }
