@@ -2,13 +2,13 @@
 use Rattle.std.specs.Prelude.{◌≡◌, ℕ, ◌+◌, ◌-◌, ◌^◌, min, Bool, ◌&&◌, ◌==◌, List, Option, Result, Ok, Err, MatchResult}
 
 -- a reader: the bytes that are still to be told, where they are known; how many were told; how many calls failed
-pub record Reads (R : Type 0) : Type 0 where
+pub record ByteReader (R : Type 0) : Type 0 where
   pub rest : R → Option (List ℕ)
   pub told : R → ℕ
   pub failures : R → ℕ
 
 -- a writer: the bytes that were taken, where they are known; whether all of them were flushed; how many calls failed
-pub record Writes (W : Type 0) : Type 0 where
+pub record ByteWriter (W : Type 0) : Type 0 where
   pub taken : W → Option (List ℕ)
   pub flushed : W → Bool
   pub failures : W → ℕ

@@ -2,7 +2,7 @@
 
 ghost use Rattle.std.specs.Prelude.{◌≡◌, ℕ, ◌<◌, ◌≤◌, ◌||◌, is_ok, IfOk, length, take};
 ghost use Rattle.std.specs.Io.KnownBytes.{Consumes, IsAtEnd, Keeps, WriteAppends};
-ghost use Rattle.fx_frame.specs.Io.{CountsBytes, CountsFailure, Reads, Writes, flushed_after};
+ghost use Rattle.fx_frame.specs.Io.{ByteReader, ByteWriter, CountsBytes, CountsFailure, flushed_after};
 
 use thiserror::Error;
 
@@ -16,7 +16,7 @@ pub struct Failed;
 /// Its counts stay at `u64::MAX` once they have reached it.
 pub trait ByteIn {
     // What is still to be told, and what was counted.
-    ghost reads: { Reads Self };
+    ghost reads: { ByteReader Self };
 
     /// Tells some of the next bytes, at the front of `buffer`, and how many.
     ///
@@ -35,7 +35,7 @@ pub trait ByteIn {
 /// Its count stays at `u64::MAX` once it has reached it.
 pub trait ByteOut {
     // What was taken, and what was counted.
-    ghost writes: { Writes Self };
+    ghost writes: { ByteWriter Self };
 
     /// Takes some of the first bytes, and tells how many: of a slice that is not empty at least
     /// one. A `Failed` takes none.

@@ -5,7 +5,7 @@ use Rattle.fx_chain.specs.declared.report.Report.{Report}
 use Rattle.fx_chain.specs.declared.report.RunFault.{RunFault}
 use Rattle.fx_chain.specs.Chain.{IsNewChain}
 use Rattle.fx_chain.specs.Report.{cause_of, no_report, report_at, report_in, start_of}
-use Rattle.fx_frame.specs.Io.{Reads, Writes}
+use Rattle.fx_frame.specs.Io.{ByteReader, ByteWriter}
 use Rattle.fx_line.specs.declared.line.LineFault.{LineFault}
 use Rattle.fx_line.specs.Line.{Said, line_of}
 use Rattle.fx_plan.specs.CommandLines.{LineReads, effects_in, planning_in}
@@ -33,7 +33,7 @@ fresh reader = record { bytes = []; reader = reader }
 pub line-reads : (found : Result Said LineFault) (line : Said) → found ≡ Ok line → LineReads found (Ok line)
 line-reads found line h = subst (λ (x : Result Said LineFault). LineReads x (Ok line)) (sym h) refl
 
-module _ {R W : Type 0} (reads : Reads R) (writes : Writes W)
+module _ {R W : Type 0} (reads : ByteReader R) (writes : ByteWriter W)
     (words files : List (List ℕ)) (reader : R) (IsTold : List ℕ → Type 0) where
   -- what a conversion comes to
   abbrev pub Concluded : W → W → R → ℕ → Report → Type 0

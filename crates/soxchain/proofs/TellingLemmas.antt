@@ -5,7 +5,7 @@ use Rattle.std.proofs.Math.Seq.{take-add, take-append-add}
 use Rattle.std.proofs.KnownBytes.{Appends-nil, Appends-trans}
 use Rattle.std.specs.Io.KnownBytes.{Appends}
 use Rattle.std.specs.Prelude.{MatchBool, codes, decimal, slice_index_or}
-use Rattle.fx_frame.specs.Io.{Writes}
+use Rattle.fx_frame.specs.Io.{ByteWriter}
 use Rattle.fx_plan.specs.Faults.{Word}
 use Rattle.soxchain.specs.Messages.{effect_warning, effect_warnings, line_feed, told_word, warning}
 use Rattle.soxchain.specs.Telling.{Told, ToldFront, ToldAll, TellsMore, Tells}
@@ -68,18 +68,18 @@ warning-counted counted zero h = absurd (omega arith)
 warning-counted counted (suc n) h = refl
 
 -- a text before which nothing was told
-pub Tells-first : {M : Type 0} (writes : Writes M) (old new : Bool) (from to : M) (text : List ℕ) → old ≡ false → TellsMore writes old new from to text → Tells writes from to text
+pub Tells-first : {M : Type 0} (writes : ByteWriter M) (old new : Bool) (from to : M) (text : List ℕ) → old ≡ false → TellsMore writes old new from to text → Tells writes from to text
 Tells-first writes old new from to text begun more = record {
   has_failed = new;
   told = more (writes.taken from) (writes.failures from) [] (rw begun (record { took = Appends-nil (writes.taken from); unfailed = refl }));
 }
 
 -- two texts, one behind the other
-pub TellsMore-then : {M : Type 0} (writes : Writes M) (old mid new : Bool) (a b c : M) (s t : List ℕ) → TellsMore writes old mid a b s → TellsMore writes mid new b c t → TellsMore writes old new a c (s ++ t)
+pub TellsMore-then : {M : Type 0} (writes : ByteWriter M) (old mid new : Bool) (a b c : M) (s t : List ℕ) → TellsMore writes old mid a b s → TellsMore writes mid new b c t → TellsMore writes old new a c (s ++ t)
 TellsMore-then writes old mid new a b c s t first second = λ start count all told. rw (sym (append_assoc all s t)) (second start count (all ++ s) (first start count all told))
 
 -- no text
-pub TellsMore-nothing : {M : Type 0} (writes : Writes M) (old : Bool) (a : M) → TellsMore writes old old a a []
+pub TellsMore-nothing : {M : Type 0} (writes : ByteWriter M) (old : Bool) (a : M) → TellsMore writes old old a a []
 TellsMore-nothing writes old a = λ start count all told. rw (append-nil) told
 
 -- what an effect clipped has its line

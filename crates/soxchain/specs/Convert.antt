@@ -7,7 +7,7 @@ use Rattle.fx_chain.specs.Report.{HasCause, cause_of, report_at, start_of}
 use Rattle.fx_chain.specs.Run.{WantsMore}
 use Rattle.fx_chain.specs.Theorem.{Ran, kinds_of}
 use Rattle.fx_flow.specs.Parts.{due_of, enough_for}
-use Rattle.fx_frame.specs.Io.{Reads, Writes, saturated}
+use Rattle.fx_frame.specs.Io.{ByteReader, ByteWriter, saturated}
 use Rattle.fx_line.specs.Line.{Said}
 use Rattle.fx_plan.specs.declared.fault.PlanFault.{PlanFault}
 use Rattle.fx_plan.specs.Bounds.{work_of}
@@ -53,18 +53,18 @@ pub record Whole (line : Said) (files : List (List ℕ)) (bytes : List ℕ) (fir
   pub ran : Ran run.plan (drop run.offset bytes) first now (Ok r)
 
 -- the reader told the head and so many bytes of the sound: n are all their whole frames
-abbrev pub TookAllTold : {R : Type 0} → Reads R → R → R → Head → ℕ → ℕ → Type 0
+abbrev pub TookAllTold : {R : Type 0} → ByteReader R → R → R → Head → ℕ → ℕ → Type 0
 TookAllTold reads reader new h offset n = reads.told new < 2 ^ 64 - 1 → (reads.told reader + offset ≤ reads.told new) × (n ≡ at_most_announced h.announced (reads.told new - reads.told reader - offset) / size_of (start_of h))
 
 -- a read had failed before: all whole frames had come, no effect had enough of them, and all that was due had been given
-pub record ToldFirst {R : Type 0} (reads : Reads R) (reader new : R) (plan : Planning) (offset n given : ℕ) : Type 0 where
+pub record ToldFirst {R : Type 0} (reads : ByteReader R) (reader new : R) (plan : Planning) (offset n given : ℕ) : Type 0 where
   pub due : given ≡ due_of (kinds_of plan) n
   pub not_enough : enough_for (kinds_of plan) n ≡ false
   pub took_all : TookAllTold reads reader new plan.head offset n
 
 -- The run over the bytes stopped: what was written and is reported. After a failed read, and where the sound is too long, the
 -- frames then due were written; after a failed write the writer has a front.
-pub record Stopped {R : Type 0} (reads : Reads R) (line : Said) (files : List (List ℕ)) (bytes : List ℕ) (reader new : R) (first now : Option (List ℕ)) (f : RunFault) : Type 0 where
+pub record Stopped {R : Type 0} (reads : ByteReader R) (line : Said) (files : List (List ℕ)) (bytes : List ℕ) (reader new : R) (first now : Option (List ℕ)) (f : RunFault) : Type 0 where
   pub run : Running line files bytes (report_at f)
   pub ran : Ran run.plan (drop run.offset bytes) first now (Err f)
   -- after a failed read all whole frames had come
@@ -93,7 +93,7 @@ pub record Unchained (line : Said) (files : List (List ℕ)) (bytes : List ℕ) 
   pub no_faults : all_faults (head_layout head) files (effects_in line) ≡ []
 
 -- a conversion, from one state of reader and writer to the next
-pub record Converted {R W : Type 0} (reads : Reads R) (writes : Writes W)
+pub record Converted {R W : Type 0} (reads : ByteReader R) (writes : ByteWriter W)
     (line : Said) (files : List (List ℕ)) (reader new_reader : R) (writer new_writer : W) (outcome : Result Report Stop) : Type 0 where
   pub whole : IfOk outcome (λ r. IfKnown (reads.rest reader) (λ bytes. Whole line files bytes (writes.taken writer) (writes.taken new_writer) r))
   pub all_flushed : IfOk outcome (λ _. writes.flushed new_writer ≡ true)

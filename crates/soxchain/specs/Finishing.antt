@@ -6,7 +6,7 @@ use Rattle.fx_chain.specs.declared.report.RunFault.{RunFault}
 use Rattle.fx_chain.specs.Report.{HasCause, cause_of, report_at, report_in, start_of}
 use Rattle.fx_chain.specs.Run.{RanToFailure, WantsMore}
 use Rattle.fx_chain.specs.Theorem.{Ran, ReadFirst, kinds_of}
-use Rattle.fx_frame.specs.Io.{Reads, Writes}
+use Rattle.fx_frame.specs.Io.{ByteReader, ByteWriter}
 use Rattle.fx_line.specs.Line.{Said}
 use Rattle.fx_plan.specs.Bounds.{work_of}
 use Rattle.fx_plan.specs.Planning.{planning}
@@ -26,7 +26,7 @@ run_messages line (Ok r) = warnings line r
 run_messages line (Err f) = warnings line (report_at f) ++ run_message (run_label f) (report_at f).frames_in
 
 -- A run of what was ready: how it went, and status, report and messages that follow from it.
-pub record Finished {R W : Type 0} (reads : Reads R) (writes : Writes W)
+pub record Finished {R W : Type 0} (reads : ByteReader R) (writes : ByteWriter W)
     (ready : Ready) (source new_source : Held R) (writer new_writer : W) (IsTold : List ℕ → Type 0) (status : ℕ) (report : Report) : Type 0 where
   pub outcome : Result Report RunFault
   -- what was written and is reported, as functions of the plan and the bytes

@@ -1,6 +1,6 @@
 -- What comes before a run (this project's profile).
 use Rattle.std.specs.Prelude.{◌≡◌, ℕ, ◌+◌, List, []}
-use Rattle.fx_frame.specs.Io.{Reads, saturated}
+use Rattle.fx_frame.specs.Io.{ByteReader, saturated}
 use Rattle.fx_line.specs.Line.{Said}
 use Rattle.fx_plan.specs.declared.fault.PlanFault.{PlanFault}
 use Rattle.fx_plan.specs.CommandLines.{effects_in}
@@ -15,13 +15,13 @@ use Rattle.soxchain.specs.declared.preparing.Refusal.{Refusal}
 use Rattle.soxchain.specs.declared.preparing.Refusal.TheVariants as Refusals
 
 -- The plan of a line behind the head that was read is refused, by its first fault or for want of memory.
-pub record PlanIsRefused {R : Type 0} (reads : Reads R) (line : Said) (files : List (List ℕ)) (old new : Held R) (f : PlanFault) : Type 0 where
+pub record PlanIsRefused {R : Type 0} (reads : ByteReader R) (line : Said) (files : List (List ℕ)) (old new : Held R) (f : PlanFault) : Type 0 where
   pub head : Head
   pub read : IfKnown (to_come reads.rest old) (λ bytes. ReadsHead reads.rest reads.told line.input_kind bytes old new head)
   pub refuses : RefusesPlan f (all_faults (head_layout head) files (effects_in line))
 
 -- No memory was found for the chain of a line: the head stood, and the plan behind it has no fault.
-pub record ChainIsRefused {R : Type 0} (reads : Reads R) (line : Said) (files : List (List ℕ)) (old new : Held R) : Type 0 where
+pub record ChainIsRefused {R : Type 0} (reads : ByteReader R) (line : Said) (files : List (List ℕ)) (old new : Held R) : Type 0 where
   pub head : Head
   pub read : IfKnown (to_come reads.rest old) (λ bytes. ReadsHead reads.rest reads.told line.input_kind bytes old new head)
   pub no_faults : all_faults (head_layout head) files (effects_in line) ≡ []

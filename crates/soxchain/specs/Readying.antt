@@ -1,6 +1,6 @@
 -- Why nothing is ready for a run (this project's profile).
 use Rattle.std.specs.Prelude.{◌≡◌, ℕ, List, Result, Ok, Err}
-use Rattle.fx_frame.specs.Io.{Reads}
+use Rattle.fx_frame.specs.Io.{ByteReader}
 use Rattle.fx_line.specs.declared.line.LineFault.{LineFault}
 use Rattle.fx_line.specs.Line.{Said, line_of}
 use Rattle.fx_plan.specs.declared.fault.PlanFault.{PlanFault}
@@ -24,7 +24,7 @@ pub record LineRefused {R : Type 0} (words : List (List ℕ)) (old new : Held R)
   pub told : IsTold (line_message (line_label fault))
 
 -- Nothing is ready for a line: its head or its plan is refused, or no memory was found for its chain. One message says why.
-pub record Unready {R : Type 0} (reads : Reads R) (line : Said) (files : List (List ℕ)) (old new : Held R) (IsTold : List ℕ → Type 0) (status : ℕ) : Type 0 where
+pub record Unready {R : Type 0} (reads : ByteReader R) (line : Said) (files : List (List ℕ)) (old new : Held R) (IsTold : List ℕ → Type 0) (status : ℕ) : Type 0 where
   pub refusal : Refusal
   pub head_refused : (f : HeadFault) → refusal ≡ Head f → Refuses reads.rest (head_of line.input_kind) old f
   pub head_cut : (f : HeadFault) → refusal ≡ Head f → Fails reads.rest reads.told (head_of line.input_kind) old new f
@@ -35,7 +35,7 @@ pub record Unready {R : Type 0} (reads : Reads R) (line : Said) (files : List (L
   pub told : IsTold (refusal_message line refusal)
 
 -- The words are a command line, and nothing is ready for it.
-pub record LineUnready {R : Type 0} (reads : Reads R) (words : List (List ℕ)) (files : List (List ℕ)) (old new : Held R) (IsTold : List ℕ → Type 0) (status : ℕ) : Type 0 where
+pub record LineUnready {R : Type 0} (reads : ByteReader R) (words : List (List ℕ)) (files : List (List ℕ)) (old new : Held R) (IsTold : List ℕ → Type 0) (status : ℕ) : Type 0 where
   pub line : Said
   pub is_line : line_of words ≡ Ok line
   pub unready : Unready reads line files old new IsTold status

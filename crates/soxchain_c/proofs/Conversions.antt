@@ -2,7 +2,7 @@
 use Rattle.std.proofs.Common.{◌≡◌, ℕ, List, [], Option, Some, Result, Ok, Err, ap, drop, subst, sym, ◌∙◌}
 use Rattle.fx_chain.specs.declared.report.Report.{Report}
 use Rattle.fx_chain.specs.Theorem.{Ran}
-use Rattle.fx_frame.specs.Io.{Reads, Writes}
+use Rattle.fx_frame.specs.Io.{ByteReader, ByteWriter}
 use Rattle.fx_line.specs.declared.line.LineFault.{LineFault}
 use Rattle.fx_line.specs.Line.{Said}
 use Rattle.soxchain.specs.Convert.{Converted}
@@ -17,7 +17,7 @@ pub concludes-more : {P Q : Said → Result Report Stop → Type 0} {U V : Type 
 concludes-more status report (Err fault) is untouched told c = (c.0, c.1, untouched c.2, told _ c.3)
 concludes-more status report (Ok line) is untouched told c = record { outcome = c.outcome; is = is line c.outcome c.is; status_is = c.status_is; report_is = c.report_is; told = told _ c.told }
 
-pub converted-bytes : {R W : Type 0} (reads : Reads R) (writes : Writes W)
+pub converted-bytes : {R W : Type 0} (reads : ByteReader R) (writes : ByteWriter W)
     (line : Said) (files : List (List ℕ)) (reader new_reader : R) (writer new_writer : W) (outcome : Result Report Stop) (input output : List ℕ)
     → reads.rest reader ≡ Some input → writes.taken writer ≡ Some [] → writes.taken new_writer ≡ Some output
     → Converted reads writes line files reader new_reader writer new_writer outcome → ConvertedBytes line files input output outcome

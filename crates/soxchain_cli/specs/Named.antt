@@ -3,7 +3,7 @@ use Rattle.std.specs.Prelude.{◌≡◌, ◌≤◌, ◌⊎◌, ℕ, List, Option
 use Rattle.std.specs.Io.KnownBytes.{Appends, Keeps}
 use Rattle.fx_chain.specs.declared.report.Report.{Report}
 use Rattle.fx_frame.specs.Counted.{Counts, counted_writes}
-use Rattle.fx_frame.specs.Io.{Reads, Writes}
+use Rattle.fx_frame.specs.Io.{ByteReader, ByteWriter}
 use Rattle.fx_plan.specs.Planning.{planning}
 use Rattle.fx_sound.specs.Source.{Held}
 use Rattle.soxchain.specs.declared.prepared.Ready.{Ready}
@@ -21,7 +21,7 @@ pub record WritesOver {F : Type 0} (contents : F → Option (List ℕ)) (positio
   pub flushed : Keeps (contents filled) (contents new)
 
 -- A run into a new file: after a fault the file is left as the run left it, and else the true head is written over its beginning.
-pub record Files {R F M : Type 0} (reads : Reads R) (contents : F → Option (List ℕ)) (position : F → Option ℕ) (writes : Writes M)
+pub record Files {R F M : Type 0} (reads : ByteReader R) (contents : F → Option (List ℕ)) (position : F → Option ℕ) (writes : ByteWriter M)
     (ready : Ready) (source new_source : Held R) (file new_file : F) (name : List ℕ) (messages new_messages : M) (status : ℕ) : Type 0 where
   pub opened : Counts F
   pub is_file : opened.inner ≡ file

@@ -6,7 +6,7 @@ use Rattle.std.specs.declared.io.ErrorKind.TheVariants as ErrorKinds
 use Rattle.fx_chain.specs.Chain.{IsNewChain}
 use Rattle.fx_chain.specs.declared.report.Report.{Report}
 use Rattle.fx_frame.specs.Counted.{Counts, counted_reads, counted_writes}
-use Rattle.fx_frame.specs.Io.{Reads, Writes}
+use Rattle.fx_frame.specs.Io.{ByteReader, ByteWriter}
 use Rattle.fx_line.specs.declared.line.LineFault.{LineFault}
 use Rattle.fx_line.specs.declared.line.LineFault.TheVariants as LineFaults
 use Rattle.fx_line.specs.Line.{Said, line_of}
@@ -57,7 +57,7 @@ abbrev pub uncounted : {T : Type 0} → T → Counts T
 uncounted inner = record { inner = inner; told = 0; failures = 0; flushed = true }
 
 -- What a line asks for is prepared behind the head of a sound: its plan, without a fault, and the chain, which is new.
-pub record IsPrepared {R : Type 0} (reads : Reads R) (line : Said) (files : List (List ℕ)) (reader : R) (source : Held R) (prepared : Prepared) : Type 0 where
+pub record IsPrepared {R : Type 0} (reads : ByteReader R) (line : Said) (files : List (List ℕ)) (reader : R) (source : Held R) (prepared : Prepared) : Type 0 where
   pub head : IfKnown (to_come reads.rest (record { bytes = []; reader = reader })) (λ bytes. ReadsHead reads.rest reads.told line.input_kind bytes (record { bytes = []; reader = reader }) source prepared.plan.head)
   pub no_faults : all_faults (head_layout prepared.plan.head) files (effects_in line) ≡ []
   pub planned : planning prepared.plan ≡ planning_in prepared.plan.head line files
@@ -68,10 +68,10 @@ pub record IsPrepared {R : Type 0} (reads : Reads R) (line : Said) (files : List
 abbrev pub ready_for : Said → Prepared → Ready
 ready_for line prepared = record { line = line; prepared = prepared }
 
-module _ {I R O F M : Type 0} (d : Devices I R O F) (m : Machine I O F) (writes : Writes M) where
+module _ {I R O F M : Type 0} (d : Devices I R O F) (m : Machine I O F) (writes : ByteWriter M) where
   -- What becomes of a sound: nothing was ready for it; or OUT could not be created; or it ran to standard output, or into the new
   -- file of OUT's own name.
-  pub data Sounds {X : Type 0} (reads : Reads X) (line : Said) (files : List (List ℕ)) (reader : X) (old new : M) (status : ℕ) : Type 0 where
+  pub data Sounds {X : Type 0} (reads : ByteReader X) (line : Said) (files : List (List ℕ)) (reader : X) (old new : M) (status : ℕ) : Type 0 where
     Refused : (source : Held X)
         → Unready reads line files (record { bytes = []; reader = reader }) source (Tells writes old new) status
         → Sounds reads line files reader old new status
