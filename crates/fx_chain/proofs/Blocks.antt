@@ -6,6 +6,7 @@ use Rattle.std.specs.Prelude.{Option, Some}
 use Rattle.fx_frame.specs.declared.coding.Coding.{Coding}
 use Rattle.fx_frame.specs.Frame.{Samples}
 use Rattle.fx_frame.specs.Holds.{kinds, recipes}
+use Rattle.fx_frame.specs.Io.{ByteReader}
 use Rattle.fx_frame.specs.Stage.{Acts}
 use Rattle.fx_flow.proofs.Feeding.{FlowGave-none}
 use Rattle.fx_flow.specs.Feed.{FlowFed, FlowGave, stepped, taken_in, untouched}
@@ -111,9 +112,9 @@ Blocked-none acts f s p coding clips out few =
       written = refl;
     }
 
-module _ {S R X : Type 0} (acts : Acts S R) (rest : X → Option (List ℕ)) (told failures : X → ℕ) (first : Start S X)
+module _ {S R X : Type 0} (acts : Acts S R) (device : ByteReader X) (first : Start S X)
     (flow mid : Parts S) (source source' : Held X) (progress progress' : Reading) (coding : Coding) (clips mid_clips : ℕ) (out mid_out : Pending) (wrote : Option (List ℕ))
-    (p : Pumped acts rest told failures first flow source progress coding clips out wrote)
+    (p : Pumped acts device first flow source progress coding clips out wrote)
     (b : Blocked acts flow mid source source' progress progress' coding clips mid_clips out mid_out) where
   frames-block : progress'.frames ≡ progress.frames + b.count
   frames-block = ap (λ (q : Reading). q.frames) b.counted
@@ -134,18 +135,18 @@ module _ {S R X : Type 0} (acts : Acts S R) (rest : X → Option (List ℕ)) (to
         sym (ap (λ ks. enough_for ks m) (ap (map acts.kind_of) p.stay)) ∙ ap (enough_for (kinds acts flow.stages)) (sym place) ∙ b.wants n there
   ]
 
-  module _ (bytes : List ℕ) (known : to_come rest first.source ≡ Some bytes) where
-    ran-block : Ran first.progress progress' bytes progress'.frames (to_come rest source')
+  module _ (bytes : List ℕ) (known : to_come device.rest first.source ≡ Some bytes) where
+    ran-block : Ran first.progress progress' bytes progress'.frames (to_come device.rest source')
     ran-block =
         let r = p.ran bytes known in
-        let next = held-next rest progress source b.count b.held _ r.to_come_is in
-        let Read : ℕ → Type 0 = λ n. Ran first.progress progress' bytes n (to_come rest source') in
-        subst Read (sym frames-block) (Ran-block _ _ _ bytes progress.frames b.count _ _ r next.0 b.counted (held-passed rest source source' (b.count * size_of progress) b.held.there b.bytes b.reader _ r.to_come_is))
+        let next = held-next device.rest progress source b.count b.held _ r.to_come_is in
+        let Read : ℕ → Type 0 = λ n. Ran first.progress progress' bytes n (to_come device.rest source') in
+        subst Read (sym frames-block) (Ran-block _ _ _ bytes progress.frames b.count _ _ r next.0 b.counted (held-passed device.rest source source' (b.count * size_of progress) b.held.there b.bytes b.reader _ r.to_come_is))
 
     frames-more : sound_frames first.progress progress'.frames bytes ≡ sound_frames first.progress progress.frames bytes ++ first_frames progress.coding progress.channels b.count source.bytes
     frames-more =
         let r = p.ran bytes known in
-        let next = held-next rest progress source b.count b.held _ r.to_come_is in
+        let next = held-next device.rest progress source b.count b.held _ r.to_come_is in
         let here : first_frames progress.coding progress.channels b.count source.bytes ≡ sound_frames first.progress b.count (drop (progress.frames * size_of first.progress) bytes) =
         next.1 ∙ ap (λ (q : Reading). first_frames q.coding q.channels b.count (drop (progress.frames * size_of first.progress) bytes)) p.at in
         rw (frames-block, here) (first_frames-add first.progress.coding first.progress.channels progress.frames b.count bytes)
@@ -157,7 +158,7 @@ module _ {S R X : Type 0} (acts : Acts S R) (rest : X → Option (List ℕ)) (to
   -- a whole buffer of frames went through the flow, and then it was stepped until it waited
   pub Pumped-block : (new : Parts S) (new_clips : ℕ) (new_out : Pending) (new_wrote : Option (List ℕ)) → Drained acts mid new coding mid_clips new_clips wrote new_wrote mid_out new_out → Waits acts new
       → total new_out ≤ 68 + 64 * given_by acts new.left new.stages → new_clips ≤ 16 * given_by acts new.left new.stages
-      → Pumped acts rest told failures first new source' progress' coding new_clips new_out new_wrote
+      → Pumped acts device first new source' progress' coding new_clips new_out new_wrote
   Pumped-block new new_clips new_out new_wrote q waits room few = record {
     most = rw frames-block b.held.few;
     begun = ap (λ (r : Reading). r.over) b.counted ∙ p.begun;
@@ -179,13 +180,13 @@ module _ {S R X : Type 0} (acts : Acts S R) (rest : X → Option (List ℕ)) (to
         let size : ℕ = size_of first.progress in
         let same : b.count * size_of progress ≡ b.count * size = ap (λ n. b.count * n) p.size in
         let all : progress.frames * size + b.count * size_of progress ≡ progress'.frames * size = rw (frames-block, same) (omega arith) in
-        rw (← all) (Takes-turn told first.source source source source' (progress.frames * size) (b.count * size_of progress) p.takes (Takes-none told source) b.bytes b.reader b.held.there);
-    reads = ap failures b.reader ∙ p.reads;
+        rw (← all) (Takes-turn device.told first.source source source source' (progress.frames * size) (b.count * size_of progress) p.takes (Takes-none device.told source) b.bytes b.reader b.held.there);
+    reads = ap device.failures b.reader ∙ p.reads;
   }
 
   -- the writer failed while it was stepped
   pub Pumped-cut : (new : Parts S) (new_clips : ℕ) (new_out : Pending) (new_wrote : Option (List ℕ)) → CutOff acts mid new coding mid_clips new_clips wrote new_wrote mid_out new_out
-      → PumpedFront acts rest told failures first new source' progress' new_clips new_out new_wrote
+      → PumpedFront acts device first new source' progress' new_clips new_out new_wrote
   Pumped-cut new new_clips new_out new_wrote q = record {
     most = rw frames-block b.held.few;
     begun = ap (λ (r : Reading). r.over) b.counted ∙ p.begun;
@@ -197,18 +198,18 @@ module _ {S R X : Type 0} (acts : Acts S R) (rest : X → Option (List ℕ)) (to
     wants = wants-block;
     whole = λ bytes known. (ran-block bytes known).whole;
     flowed = λ bytes known. Flowed-cut acts first.flow mid new first.coding _ mid_clips new_clips first.wrote wrote new_wrote mid_out new_out first.head (flowed-block bytes known) running-block (rw p.coded at q);
-    reads = ap failures b.reader ∙ p.reads;
+    reads = ap device.failures b.reader ∙ p.reads;
   }
 
 -- one frame that was read went through the flow, which was stepped until it waited
-pub Pumped-turn : {S R X : Type 0} (acts : Acts S R) (rest : X → Option (List ℕ)) (told failures : X → ℕ) (first : Start S X) (flow fed new : Parts S) (source source' : Held X) (progress progress' : Reading) (coding : Coding)
+pub Pumped-turn : {S R X : Type 0} (acts : Acts S R) (device : ByteReader X) (first : Start S X) (flow fed new : Parts S) (source source' : Held X) (progress progress' : Reading) (coding : Coding)
     (clips new_clips : ℕ) (out new_out : Pending) (wrote new_wrote : Option (List ℕ)) (frame : Samples)
-    → Pumped acts rest told failures first flow source progress coding clips out wrote
-    → progress' ≡ after_frame progress → progress'.frames ≤ MOST_FRAMES → IfKnown (to_come rest source) (λ bytes. TakesFrame progress bytes frame (to_come rest source')) → Takes told source source' (size_of progress)
-    → failures source'.reader ≡ failures source.reader → enough_for (kinds acts flow.stages) (taken_of flow) ≡ false → fed ≡ record flow { inlet = Some frame }
+    → Pumped acts device first flow source progress coding clips out wrote
+    → progress' ≡ after_frame progress → progress'.frames ≤ MOST_FRAMES → IfKnown (to_come device.rest source) (λ bytes. TakesFrame progress bytes frame (to_come device.rest source')) → Takes device.told source source' (size_of progress)
+    → device.failures source'.reader ≡ device.failures source.reader → enough_for (kinds acts flow.stages) (taken_of flow) ≡ false → fed ≡ record flow { inlet = Some frame }
     → Drained acts fed new coding clips new_clips wrote new_wrote out new_out → Waits acts new → total new_out ≤ 68 + 64 * given_by acts new.left new.stages → new_clips ≤ 16 * given_by acts new.left new.stages
-    → Pumped acts rest told failures first new source' progress' coding new_clips new_out new_wrote
-Pumped-turn acts rest told failures first flow fed new source source' progress progress' coding clips new_clips out new_out wrote new_wrote frame p counted most takes taken reads unspent is q waits room few =
+    → Pumped acts device first new source' progress' coding new_clips new_out new_wrote
+Pumped-turn acts device first flow fed new source source' progress progress' coding clips new_clips out new_out wrote new_wrote frame p counted most takes taken reads unspent is q waits room few =
     let turn : ℕ = progress.frames in
     let size : ℕ = size_of first.progress in
     let more : (turn + 1) * size ≡ turn * size + size = omega arith in
@@ -234,7 +235,7 @@ Pumped-turn acts rest told failures first flow fed new source source' progress p
       coded = p.coded;
       ran = λ bytes known.
           let ran = p.ran bytes known in
-          let Read : ℕ → Type 0 = λ n. Ran first.progress progress' bytes n (to_come rest source') in
+          let Read : ℕ → Type 0 = λ n. Ran first.progress progress' bytes n (to_come device.rest source') in
           subst Read (sym count) (Ran-turn _ _ _ bytes _ turn _ _ ran (takes (drop (turn * size) bytes) ran.to_come_is) counted);
       flowed = λ bytes known.
           let ran = p.ran bytes known in
@@ -243,7 +244,7 @@ Pumped-turn acts rest told failures first flow fed new source source' progress p
           rw frames
           (Flowed-turn acts first.flow flow fed new first.coding _ _ _ _ _ _ _ _ _ first.head (p.flowed bytes known) p.hungry is (rw p.coded at q));
       takes =
-          let Taken : ℕ → Type 0 = λ n. Takes told first.source source' n in
-          subst Taken (sym (ap (λ n. n * size) count ∙ more)) (Takes-more told _ _ _ (turn * size) size p.takes (rw p.size at taken));
+          let Taken : ℕ → Type 0 = λ n. Takes device.told first.source source' n in
+          subst Taken (sym (ap (λ n. n * size) count ∙ more)) (Takes-more device.told _ _ _ (turn * size) size p.takes (rw p.size at taken));
       reads = reads ∙ p.reads;
     }

@@ -2,6 +2,7 @@
 use Rattle.std.specs.Prelude.{◌≡◌, ℕ, ◌+◌, ◌*◌, ◌≤◌, false, List, Option, length}
 use Rattle.fx_frame.specs.declared.coding.Coding.{Coding}
 use Rattle.fx_frame.specs.Holds.{kinds, recipes}
+use Rattle.fx_frame.specs.Io.{ByteReader}
 use Rattle.fx_frame.specs.Stage.{Acts}
 use Rattle.fx_flow.specs.Parts.{Parts, given_by, taken_of}
 use Rattle.fx_flow.specs.Steps.{IsHungry}
@@ -24,7 +25,7 @@ pub record Start (S X : Type 0) : Type 0 where
   pub head : List ℕ
   pub wrote : Option (List ℕ)
 
-module _ {S R X : Type 0} (acts : Acts S R) (rest : X → Option (List ℕ)) (told failures : X → ℕ) (first : Start S X) where
+module _ {S R X : Type 0} (acts : Acts S R) (device : ByteReader X) (first : Start S X) where
   -- the frames read so far went through the flow, which waits for the next, and what it gave was sent
   pub record Pumped (flow : Parts S) (source : Held X) (progress : Reading) (coding : Coding) (clips : ℕ) (out : Pending) (wrote : Option (List ℕ)) : Type 0 where
     pub most : progress.frames ≤ MOST_FRAMES
@@ -41,11 +42,11 @@ module _ {S R X : Type 0} (acts : Acts S R) (rest : X → Option (List ℕ)) (to
     pub room : total out ≤ 68 + 64 * given_by acts flow.left flow.stages
     pub few : clips ≤ 16 * given_by acts flow.left flow.stages
     pub coded : coding ≡ first.coding
-    pub ran : IfKnown (to_come rest first.source) (λ bytes. Ran first.progress progress bytes progress.frames (to_come rest source))
-    pub flowed : IfKnown (to_come rest first.source) (λ bytes.
+    pub ran : IfKnown (to_come device.rest first.source) (λ bytes. Ran first.progress progress bytes progress.frames (to_come device.rest source))
+    pub flowed : IfKnown (to_come device.rest first.source) (λ bytes.
         Flowed acts first.flow flow first.coding (sound_frames first.progress progress.frames bytes) clips first.wrote wrote out first.head)
-    pub takes : Takes told first.source source (progress.frames * size_of first.progress)
-    pub reads : failures source.reader ≡ failures first.source.reader
+    pub takes : Takes device.told first.source source (progress.frames * size_of first.progress)
+    pub reads : device.failures source.reader ≡ device.failures first.source.reader
 
   -- the same where the writer failed
   pub record PumpedFront (flow : Parts S) (source : Held X) (progress : Reading) (clips : ℕ) (out : Pending) (wrote : Option (List ℕ)) : Type 0 where
@@ -57,7 +58,7 @@ module _ {S R X : Type 0} (acts : Acts S R) (rest : X → Option (List ℕ)) (to
     pub stay : recipes acts flow.stages ≡ recipes acts first.flow.stages
     pub kept : flow.channels ≡ first.flow.channels
     pub wants : WantsMore (kinds acts first.flow.stages) progress.frames
-    pub whole : IfKnown (to_come rest first.source) (λ bytes. progress.frames * size_of first.progress ≤ length (within first.progress.left bytes))
-    pub flowed : IfKnown (to_come rest first.source) (λ bytes.
+    pub whole : IfKnown (to_come device.rest first.source) (λ bytes. progress.frames * size_of first.progress ≤ length (within first.progress.left bytes))
+    pub flowed : IfKnown (to_come device.rest first.source) (λ bytes.
         FlowedFront acts first.flow flow first.coding (sound_frames first.progress progress.frames bytes) clips first.wrote wrote out first.head)
-    pub reads : failures source.reader ≡ failures first.source.reader
+    pub reads : device.failures source.reader ≡ device.failures first.source.reader

@@ -84,10 +84,10 @@ pub fn pump_block<R: ByteIn, S: Feeds, W: ByteOut>(
     requires fits { most_of (kinds S.acts flow.old.stages) most_frames ≤ 2 ^ 56 }
     requires room { total outlet.old.output ≤ 68 + 64 * given_by S.acts flow.old.left flow.old.stages }
     requires few { outlet.old.clips ≤ 16 * given_by S.acts flow.old.left flow.old.stages }
-    ensures pumped { OnOk result ((first : Start S R) → Pumped S.acts R.reads.rest R.reads.told R.reads.failures first flow.old source.old progress.old outlet.old.coding outlet.old.clips outlet.old.output (W.writes.taken writer.old)
-        → Pumped S.acts R.reads.rest R.reads.told R.reads.failures first flow.new source.new progress.new outlet.new.coding outlet.new.clips outlet.new.output (W.writes.taken writer.new)) }
-    ensures cut_off { OnErr result ((first : Start S R) → Pumped S.acts R.reads.rest R.reads.told R.reads.failures first flow.old source.old progress.old outlet.old.coding outlet.old.clips outlet.old.output (W.writes.taken writer.old)
-        → PumpedFront S.acts R.reads.rest R.reads.told R.reads.failures first flow.new source.new progress.new outlet.new.clips outlet.new.output (W.writes.taken writer.new)) }
+    ensures pumped { OnOk result ((first : Start S R) → Pumped S.acts R.reads first flow.old source.old progress.old outlet.old.coding outlet.old.clips outlet.old.output (W.writes.taken writer.old)
+        → Pumped S.acts R.reads first flow.new source.new progress.new outlet.new.coding outlet.new.clips outlet.new.output (W.writes.taken writer.new)) }
+    ensures cut_off { OnErr result ((first : Start S R) → Pumped S.acts R.reads first flow.old source.old progress.old outlet.old.coding outlet.old.clips outlet.old.output (W.writes.taken writer.old)
+        → PumpedFront S.acts R.reads first flow.new source.new progress.new outlet.new.clips outlet.new.output (W.writes.taken writer.new)) }
     ensures more { progress.old.frames ≤ progress.new.frames }
     ensures failures { CountsFailure (W.writes.failures writer.old) (W.writes.failures writer.new) result }
 {

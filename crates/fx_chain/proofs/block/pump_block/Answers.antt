@@ -8,7 +8,7 @@ pub returns-clause-pumped : goal.returns-clause-pumped
 returns-clause-pumped g c = λ first p.
     let passed = c.pass_block.ensures in
     rw (c.in-Ok.ensures.coding ∙ passed.coding)
-    (Pumped-block g.S.Stage.acts _ _ _ first _ _ _ _ _ _ _ _ _ _ _ _ p passed.blocked _ _ _ _ (rw passed.coding at c.in-Ok.ensures.drained) c.in-Ok.ensures.waits c.in-Ok.ensures.room c.in-Ok.ensures.few)
+    (Pumped-block g.S.Stage.acts g.R.ByteIn.reads first _ _ _ _ _ _ _ _ _ _ _ _ p passed.blocked _ _ _ _ (rw passed.coding at c.in-Ok.ensures.drained) c.in-Ok.ensures.waits c.in-Ok.ensures.room c.in-Ok.ensures.few)
 
 pub returns-clause-more : goal.returns-clause-more
 returns-clause-more g c = let count = ap (λ (p : Reading). p.frames) c.pass_block.ensures.blocked.counted in omega (arith, count)
@@ -16,7 +16,7 @@ returns-clause-more g c = let count = ap (λ (p : Reading). p.frames) c.pass_blo
 pub returns-in_default-clause-cut_off : goal.returns-in_default-clause-cut_off
 returns-in_default-clause-cut_off g c = λ first p.
     let passed = c.pass_block.ensures in
-    Pumped-cut g.S.Stage.acts _ _ _ first _ _ _ _ _ _ _ _ _ _ _ _ p passed.blocked _ _ _ _ (rw passed.coding at c.in_default.ensures.cut_off)
+    Pumped-cut g.S.Stage.acts g.R.ByteIn.reads first _ _ _ _ _ _ _ _ _ _ _ _ p passed.blocked _ _ _ _ (rw passed.coding at c.in_default.ensures.cut_off)
 
 pub returns-in_default-clause-more : goal.returns-in_default-clause-more
 returns-in_default-clause-more g c = let count = ap (λ (p : Reading). p.frames) c.pass_block.ensures.blocked.counted in omega (arith, count)

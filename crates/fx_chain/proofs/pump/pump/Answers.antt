@@ -163,7 +163,7 @@ returns-in_default-blocks-clause-write_failed g c =
     let next = rw c.in-Ok-Some.field-0-is at c.in-Ok-Some.ensures in
     let drained = c.in-Ok-drain.ensures in
     let old = c.loop-turn.invariant.pumped in
-    let turned = Pumped-turn g.S.Stage.acts g.R.ByteIn.reads.rest g.R.ByteIn.reads.told g.R.ByteIn.reads.failures _ c.loop-turn.flow c.take.new.self c.drain.new.flow c.loop-turn.source c.next_frame.new.source c.loop-turn.progress c.next_frame.new.progress
+    let turned = Pumped-turn g.S.Stage.acts g.R.ByteIn.reads _ c.loop-turn.flow c.take.new.self c.drain.new.flow c.loop-turn.source c.next_frame.new.source c.loop-turn.progress c.next_frame.new.progress
     _ _ _ _ _ _ _ _ old next.counted next.most next.frame next.told next.failures (sym (c.is_spent.ensures.enough old.hungry) ∙ c.if-is_spent.false) c.take.ensures drained.drained drained.waits drained.room drained.few in
     let first : Start g.row.S.Denot g.row.R.Denot =
     record { flow = c.args.flow.now; source = c.args.source.now; progress = c.args.progress.now; coding = c.args.outlet.now.coding; head = c.args.head.now; wrote = g.W.ByteOut.writes.taken c.args.writer.now } in
@@ -175,7 +175,7 @@ returns-in_default-blocks-clause-recipes g c =
     let next = rw c.in-Ok-Some.field-0-is at c.in-Ok-Some.ensures in
     let drained = c.in-Ok-drain.ensures in
     let old = c.loop-turn.invariant.pumped in
-    let turned = Pumped-turn g.S.Stage.acts g.R.ByteIn.reads.rest g.R.ByteIn.reads.told g.R.ByteIn.reads.failures _ c.loop-turn.flow c.take.new.self c.drain.new.flow c.loop-turn.source c.next_frame.new.source c.loop-turn.progress c.next_frame.new.progress
+    let turned = Pumped-turn g.S.Stage.acts g.R.ByteIn.reads _ c.loop-turn.flow c.take.new.self c.drain.new.flow c.loop-turn.source c.next_frame.new.source c.loop-turn.progress c.next_frame.new.progress
     _ _ _ _ _ _ _ _ old next.counted next.most next.frame next.told next.failures (sym (c.is_spent.ensures.enough old.hungry) ∙ c.if-is_spent.false) c.take.ensures drained.drained drained.waits drained.room drained.few in
     let first : Start g.row.S.Denot g.row.R.Denot =
     record { flow = c.args.flow.now; source = c.args.source.now; progress = c.args.progress.now; coding = c.args.outlet.now.coding; head = c.args.head.now; wrote = g.W.ByteOut.writes.taken c.args.writer.now } in
@@ -187,7 +187,7 @@ returns-in_default-blocks-clause-width g c =
     let next = rw c.in-Ok-Some.field-0-is at c.in-Ok-Some.ensures in
     let drained = c.in-Ok-drain.ensures in
     let old = c.loop-turn.invariant.pumped in
-    let turned = Pumped-turn g.S.Stage.acts g.R.ByteIn.reads.rest g.R.ByteIn.reads.told g.R.ByteIn.reads.failures _ c.loop-turn.flow c.take.new.self c.drain.new.flow c.loop-turn.source c.next_frame.new.source c.loop-turn.progress c.next_frame.new.progress
+    let turned = Pumped-turn g.S.Stage.acts g.R.ByteIn.reads _ c.loop-turn.flow c.take.new.self c.drain.new.flow c.loop-turn.source c.next_frame.new.source c.loop-turn.progress c.next_frame.new.progress
     _ _ _ _ _ _ _ _ old next.counted next.most next.frame next.told next.failures (sym (c.is_spent.ensures.enough old.hungry) ∙ c.if-is_spent.false) c.take.ensures drained.drained drained.waits drained.room drained.few in
     let first : Start g.row.S.Denot g.row.R.Denot =
     record { flow = c.args.flow.now; source = c.args.source.now; progress = c.args.progress.now; coding = c.args.outlet.now.coding; head = c.args.head.now; wrote = g.W.ByteOut.writes.taken c.args.writer.now } in
@@ -199,7 +199,7 @@ returns-in_default-blocks-clause-taken g c =
     let next = rw c.in-Ok-Some.field-0-is at c.in-Ok-Some.ensures in
     let drained = c.in-Ok-drain.ensures in
     let old = c.loop-turn.invariant.pumped in
-    let turned = Pumped-turn g.S.Stage.acts g.R.ByteIn.reads.rest g.R.ByteIn.reads.told g.R.ByteIn.reads.failures _ c.loop-turn.flow c.take.new.self c.drain.new.flow c.loop-turn.source c.next_frame.new.source c.loop-turn.progress c.next_frame.new.progress
+    let turned = Pumped-turn g.S.Stage.acts g.R.ByteIn.reads _ c.loop-turn.flow c.take.new.self c.drain.new.flow c.loop-turn.source c.next_frame.new.source c.loop-turn.progress c.next_frame.new.progress
     _ _ _ _ _ _ _ _ old next.counted next.most next.frame next.told next.failures (sym (c.is_spent.ensures.enough old.hungry) ∙ c.if-is_spent.false) c.take.ensures drained.drained drained.waits drained.room drained.few in
     let first : Start g.row.S.Denot g.row.R.Denot =
     record { flow = c.args.flow.now; source = c.args.source.now; progress = c.args.progress.now; coding = c.args.outlet.now.coding; head = c.args.head.now; wrote = g.W.ByteOut.writes.taken c.args.writer.now } in
@@ -211,7 +211,7 @@ returns-in_default-blocks-clause-whole g c =
     let next = rw c.in-Ok-Some.field-0-is at c.in-Ok-Some.ensures in
     let drained = c.in-Ok-drain.ensures in
     let old = c.loop-turn.invariant.pumped in
-    let turned = Pumped-turn g.S.Stage.acts g.R.ByteIn.reads.rest g.R.ByteIn.reads.told g.R.ByteIn.reads.failures _ c.loop-turn.flow c.take.new.self c.drain.new.flow c.loop-turn.source c.next_frame.new.source c.loop-turn.progress c.next_frame.new.progress
+    let turned = Pumped-turn g.S.Stage.acts g.R.ByteIn.reads _ c.loop-turn.flow c.take.new.self c.drain.new.flow c.loop-turn.source c.next_frame.new.source c.loop-turn.progress c.next_frame.new.progress
     _ _ _ _ _ _ _ _ old next.counted next.most next.frame next.told next.failures (sym (c.is_spent.ensures.enough old.hungry) ∙ c.if-is_spent.false) c.take.ensures drained.drained drained.waits drained.room drained.few in
     let first : Start g.row.S.Denot g.row.R.Denot =
     record { flow = c.args.flow.now; source = c.args.source.now; progress = c.args.progress.now; coding = c.args.outlet.now.coding; head = c.args.head.now; wrote = g.W.ByteOut.writes.taken c.args.writer.now } in
@@ -223,7 +223,7 @@ returns-in_default-blocks-clause-ends g c =
     let next = rw c.in-Ok-Some.field-0-is at c.in-Ok-Some.ensures in
     let drained = c.in-Ok-drain.ensures in
     let old = c.loop-turn.invariant.pumped in
-    let turned = Pumped-turn g.S.Stage.acts g.R.ByteIn.reads.rest g.R.ByteIn.reads.told g.R.ByteIn.reads.failures _ c.loop-turn.flow c.take.new.self c.drain.new.flow c.loop-turn.source c.next_frame.new.source c.loop-turn.progress c.next_frame.new.progress
+    let turned = Pumped-turn g.S.Stage.acts g.R.ByteIn.reads _ c.loop-turn.flow c.take.new.self c.drain.new.flow c.loop-turn.source c.next_frame.new.source c.loop-turn.progress c.next_frame.new.progress
     _ _ _ _ _ _ _ _ old next.counted next.most next.frame next.told next.failures (sym (c.is_spent.ensures.enough old.hungry) ∙ c.if-is_spent.false) c.take.ensures drained.drained drained.waits drained.room drained.few in
     let first : Start g.row.S.Denot g.row.R.Denot =
     record { flow = c.args.flow.now; source = c.args.source.now; progress = c.args.progress.now; coding = c.args.outlet.now.coding; head = c.args.head.now; wrote = g.W.ByteOut.writes.taken c.args.writer.now } in
@@ -235,7 +235,7 @@ returns-in_default-blocks-clause-wants g c =
     let next = rw c.in-Ok-Some.field-0-is at c.in-Ok-Some.ensures in
     let drained = c.in-Ok-drain.ensures in
     let old = c.loop-turn.invariant.pumped in
-    let turned = Pumped-turn g.S.Stage.acts g.R.ByteIn.reads.rest g.R.ByteIn.reads.told g.R.ByteIn.reads.failures _ c.loop-turn.flow c.take.new.self c.drain.new.flow c.loop-turn.source c.next_frame.new.source c.loop-turn.progress c.next_frame.new.progress
+    let turned = Pumped-turn g.S.Stage.acts g.R.ByteIn.reads _ c.loop-turn.flow c.take.new.self c.drain.new.flow c.loop-turn.source c.next_frame.new.source c.loop-turn.progress c.next_frame.new.progress
     _ _ _ _ _ _ _ _ old next.counted next.most next.frame next.told next.failures (sym (c.is_spent.ensures.enough old.hungry) ∙ c.if-is_spent.false) c.take.ensures drained.drained drained.waits drained.room drained.few in
     let first : Start g.row.S.Denot g.row.R.Denot =
     record { flow = c.args.flow.now; source = c.args.source.now; progress = c.args.progress.now; coding = c.args.outlet.now.coding; head = c.args.head.now; wrote = g.W.ByteOut.writes.taken c.args.writer.now } in
@@ -247,7 +247,7 @@ returns-in_default-blocks-clause-met g c =
     let next = rw c.in-Ok-Some.field-0-is at c.in-Ok-Some.ensures in
     let drained = c.in-Ok-drain.ensures in
     let old = c.loop-turn.invariant.pumped in
-    let turned = Pumped-turn g.S.Stage.acts g.R.ByteIn.reads.rest g.R.ByteIn.reads.told g.R.ByteIn.reads.failures _ c.loop-turn.flow c.take.new.self c.drain.new.flow c.loop-turn.source c.next_frame.new.source c.loop-turn.progress c.next_frame.new.progress
+    let turned = Pumped-turn g.S.Stage.acts g.R.ByteIn.reads _ c.loop-turn.flow c.take.new.self c.drain.new.flow c.loop-turn.source c.next_frame.new.source c.loop-turn.progress c.next_frame.new.progress
     _ _ _ _ _ _ _ _ old next.counted next.most next.frame next.told next.failures (sym (c.is_spent.ensures.enough old.hungry) ∙ c.if-is_spent.false) c.take.ensures drained.drained drained.waits drained.room drained.few in
     let first : Start g.row.S.Denot g.row.R.Denot =
     record { flow = c.args.flow.now; source = c.args.source.now; progress = c.args.progress.now; coding = c.args.outlet.now.coding; head = c.args.head.now; wrote = g.W.ByteOut.writes.taken c.args.writer.now } in
@@ -259,7 +259,7 @@ returns-in_default-blocks-clause-most g c =
     let next = rw c.in-Ok-Some.field-0-is at c.in-Ok-Some.ensures in
     let drained = c.in-Ok-drain.ensures in
     let old = c.loop-turn.invariant.pumped in
-    let turned = Pumped-turn g.S.Stage.acts g.R.ByteIn.reads.rest g.R.ByteIn.reads.told g.R.ByteIn.reads.failures _ c.loop-turn.flow c.take.new.self c.drain.new.flow c.loop-turn.source c.next_frame.new.source c.loop-turn.progress c.next_frame.new.progress
+    let turned = Pumped-turn g.S.Stage.acts g.R.ByteIn.reads _ c.loop-turn.flow c.take.new.self c.drain.new.flow c.loop-turn.source c.next_frame.new.source c.loop-turn.progress c.next_frame.new.progress
     _ _ _ _ _ _ _ _ old next.counted next.most next.frame next.told next.failures (sym (c.is_spent.ensures.enough old.hungry) ∙ c.if-is_spent.false) c.take.ensures drained.drained drained.waits drained.room drained.few in
     let first : Start g.row.S.Denot g.row.R.Denot =
     record { flow = c.args.flow.now; source = c.args.source.now; progress = c.args.progress.now; coding = c.args.outlet.now.coding; head = c.args.head.now; wrote = g.W.ByteOut.writes.taken c.args.writer.now } in
@@ -271,7 +271,7 @@ returns-in_default-blocks-clause-reads g c =
     let next = rw c.in-Ok-Some.field-0-is at c.in-Ok-Some.ensures in
     let drained = c.in-Ok-drain.ensures in
     let old = c.loop-turn.invariant.pumped in
-    let turned = Pumped-turn g.S.Stage.acts g.R.ByteIn.reads.rest g.R.ByteIn.reads.told g.R.ByteIn.reads.failures _ c.loop-turn.flow c.take.new.self c.drain.new.flow c.loop-turn.source c.next_frame.new.source c.loop-turn.progress c.next_frame.new.progress
+    let turned = Pumped-turn g.S.Stage.acts g.R.ByteIn.reads _ c.loop-turn.flow c.take.new.self c.drain.new.flow c.loop-turn.source c.next_frame.new.source c.loop-turn.progress c.next_frame.new.progress
     _ _ _ _ _ _ _ _ old next.counted next.most next.frame next.told next.failures (sym (c.is_spent.ensures.enough old.hungry) ∙ c.if-is_spent.false) c.take.ensures drained.drained drained.waits drained.room drained.few in
     let first : Start g.row.S.Denot g.row.R.Denot =
     record { flow = c.args.flow.now; source = c.args.source.now; progress = c.args.progress.now; coding = c.args.outlet.now.coding; head = c.args.head.now; wrote = g.W.ByteOut.writes.taken c.args.writer.now } in
@@ -283,7 +283,7 @@ loop-turn-preserved g c =
     let next = rw c.in-Ok-Some.field-0-is at c.in-Ok-Some.ensures in
     let drained = c.in-Ok-drain.ensures in
     let old = c.loop-turn.invariant.pumped in
-    let turned = Pumped-turn g.S.Stage.acts g.R.ByteIn.reads.rest g.R.ByteIn.reads.told g.R.ByteIn.reads.failures _ c.loop-turn.flow c.take.new.self c.drain.new.flow c.loop-turn.source c.next_frame.new.source c.loop-turn.progress c.next_frame.new.progress
+    let turned = Pumped-turn g.S.Stage.acts g.R.ByteIn.reads _ c.loop-turn.flow c.take.new.self c.drain.new.flow c.loop-turn.source c.next_frame.new.source c.loop-turn.progress c.next_frame.new.progress
     _ _ _ _ _ _ _ _ old next.counted next.most next.frame next.told next.failures (sym (c.is_spent.ensures.enough old.hungry) ∙ c.if-is_spent.false) c.take.ensures drained.drained drained.waits drained.room drained.few in
     let count = ap (λ (p : Reading). p.frames) next.counted in
     record {
