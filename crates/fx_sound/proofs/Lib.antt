@@ -6,4 +6,6 @@ pub mod WaveLemmas
 pub mod WaveLocal
 pub mod WaveCut
 pub mod WaveRiff
+pub mod Chunks
+pub mod ChunksFound
 pub mod HeadLemmas

@@ -10,6 +10,7 @@ pub mod Layout
 pub mod Reads
 pub mod Au
 pub mod Wave
+pub mod Chunks
 pub mod Head
 pub mod Container
 pub mod Runs

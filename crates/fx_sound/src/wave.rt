@@ -6,6 +6,7 @@ ghost use Rattle.fx_sound.specs.Known.{IfKnown};
 ghost use Rattle.fx_sound.specs.Kind.{is_of_wav};
 ghost use Rattle.fx_sound.specs.Layout.{IsProper, is_read_failure};
 ghost use Rattle.fx_sound.specs.Wave.{half_at, long_at, wav_coding, IsProperSeen, plain_of, format_of, padded, demand_of, IsNear, AskedAt, format_read, with_body, step_of, end_of, GoesOn, chunks_of, most_chunks, behind_riff};
+ghost use Rattle.fx_sound.specs.Chunks.{WaveIsRead};
 ghost use Rattle.fx_sound.specs.Reads.{Reads, Refuses, Fails};
 
 use super::head::{FARTHEST, HeadFault, Kind};
@@ -332,3 +333,8 @@ pub(crate) fn read_wav<R: ByteIn>(source: &mut Source<R>) -> Result<Layout, Head
         Err(fault) => Err(fault),
     }
 }
+
+// What is read as a WAVE head is a row of chunks, and each such row is read.
+pub fn wave_is_read()
+    ensures { WaveIsRead }
+{}

@@ -1,5 +1,4 @@
-use Rattle.std.proofs.Common.{◌≡◌, ◌-◌, ◌*◌, length, ap, sym, ◌∙◌, arith, refl}
-use Rattle.std.proofs.lemmas.List.{length-append}
+use Rattle.std.proofs.Common.{◌≡◌, ◌-◌, ◌*◌, length, ap, arith}
 use Rattle.fx_frame.specs.Coding.{width_of}
 use Rattle.fx_sound.proofs.Sending.{held-put}
 use Rattle.fx_sound.proofs.output.Output.put_samples.Goals as goal

@@ -1,8 +1,6 @@
-use Rattle.std.proofs.Common.{◌≡◌, ◌*◌, ◌≤◌, ℕ, length, take, refl, sym, ap, ◌∙◌, arith}
+use Rattle.std.proofs.Common.{◌≡◌, ◌*◌, length, ap, ◌∙◌, arith}
 use Rattle.std.proofs.lemmas.List.{length-take-le}
-use Rattle.fx_frame.specs.Coding.{width_of}
 use Rattle.fx_frame.specs.FrameCoding.{frame_size}
-use Rattle.fx_sound.specs.Container.{first_frames}
 use Rattle.fx_sound.proofs.Sounds.{first_frames-taken}
 use Rattle.fx_sound.proofs.source.Source.decode_held.Goals as goal
 
