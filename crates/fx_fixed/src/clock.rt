@@ -73,7 +73,7 @@ fn frames_at(
     let rate = u128::from(rate);
     let part = (2 * u128::from(fraction) * rate + power) / (2 * power);
     let frames = seconds * rate + part;
-    if frames > 1 << 40 {
+    if frames > u128::from(FARTHEST) {
         return Err(TimeFault::TooFar);
     }
     Ok(frames as u64)

@@ -85,7 +85,7 @@ pub fn reduce(
 {
     let divisor = divisor_of(coefficients, gain, denominator);
     let below = denominator / divisor;
-    if below > 1 << 61 {
+    if below > GREATEST_DENOMINATOR {
         return None;
     }
     'coefficients: for place in 0..coefficients.len() {
