@@ -8,7 +8,7 @@ ghost use Rattle.fx_fixed.specs.Clock.{clock_of};
 ghost use Rattle.fx_fixed.specs.ClockEnd.{BeginsNot, after_components, after_fraction};
 
 use crate::number::power_of_ten;
-use crate::times::TimeFault;
+use crate::times::{FARTHEST, TimeFault};
 
 /// The greatest number of digits in a run.
 pub(crate) const RUN_DIGITS: usize = 18;
