@@ -1,6 +1,6 @@
 """The rules of command lines and plans, computed from whole texts with exact fractions.
 
-It shares nothing with the program. `answers(lines)` gives what has to come of lines as crates/plan_lines reads them.
+It shares nothing with the program. `answers(lines)` gives what has to come of lines as crates/tests_plan_lines reads them.
 """
 
 import re
@@ -435,7 +435,7 @@ def take(line, known):
 
 
 def answers(lines):
-    """What has to come of lines, by the forms that crates/plan_lines reads; `?` where one has another form."""
+    """What has to come of lines, by the forms that crates/tests_plan_lines reads; `?` where one has another form."""
     known, given = {"head": None, "files": {}}, []
     for line in lines:
         try:

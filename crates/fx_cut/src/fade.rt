@@ -17,6 +17,7 @@ use crate::slopes::{Slope, weigh_by};
 use fx_fixed::At;
 use fx_frame::frozen::thawed_line_and_hand;
 use fx_frame::inner::{frame_of, places};
+use fx_frame::stage::MOST_TAKEN;
 use fx_frame::{Feeds, Frame, Line, Passed, Passing, Stage, ThawFault, WideFrame};
 use std::alloc::{AllocError, Global};
 use std::marker::Model;
@@ -405,11 +406,13 @@ impl Fade {
         ensures named { (result ≡ Err ThawFault.WrongPlan) → ⊥ }
         ensures thawed { (s : FadeState) → IsFade s → s.recipe ≡ record { channels = channels; shape = record { fade_in = fade_in; stop = meant stop; fade_out = fade_out } } → Freezes fade_acts s frames.now numbers.now → MatchResult result (λ t. t ≡ s) (λ e. e ≡ ThawFault.Memory) }
     {
-        let [taken, given, ended, clips, held, hands, seventh, eighth] = *numbers;
-        if ended > 1 || clips != 0 || seventh != 0 || eighth != 0 || held != frames.len() as u64 {
+        let [taken, given, ended, 0, held, hands, 0, 0] = *numbers else {
+            return Err(ThawFault::BadSnapshot);
+        };
+        if ended > 1 || held != frames.len() as u64 {
             return Err(ThawFault::BadSnapshot);
         }
-        if taken > 1 << 56 || given > taken || held > taken - given || hands > held {
+        if taken > MOST_TAKEN || given > taken || held > taken - given || hands > held {
             return Err(ThawFault::BadSnapshot);
         }
         let fading = Fading::of(Shape {
@@ -421,10 +424,7 @@ impl Fade {
             return Err(ThawFault::BadSnapshot);
         }
         let capacity = fading.line() as usize;
-        let (line, hand) = match thawed_line_and_hand(alloc, channels, capacity, frames, hands) {
-            Ok(stored) => stored,
-            Err(fault) => return Err(fault),
-        };
+        let (line, hand) = thawed_line_and_hand(alloc, channels, capacity, frames, hands)?;
         Ok(Fade {
             hand,
             channels,

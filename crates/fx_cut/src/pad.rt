@@ -11,6 +11,7 @@ use crate::many::{PassesMany, feed_by_pieces, pass_by_frame};
 use fx_fixed::At;
 use fx_frame::feed::copy_frames;
 use fx_frame::frozen::thawed_line_and_hand;
+use fx_frame::stage::MOST_TAKEN;
 use fx_frame::{Feeds, Frame, Line, Passed, Passing, Stage, ThawFault, WideFrame};
 use std::alloc::{AllocError, Global};
 use std::marker::Model;
@@ -334,12 +335,14 @@ impl Pad {
         ensures named { (result ≡ Err ThawFault.WrongPlan) → ⊥ }
         ensures thawed { (s : PadState) → IsPad s → s.recipe ≡ record { channels = channels; pads = pads.now } → Freezes pad_acts s frames.now numbers.now → MatchResult result (λ t. t ≡ s) (λ e. e ≡ ThawFault.Memory) }
     {
-        let [taken, given, ended, clips, held, silent, hands, eighth] = *numbers;
+        let [taken, given, ended, 0, held, silent, hands, 0] = *numbers else {
+            return Err(ThawFault::BadSnapshot);
+        };
         let capacity = greatest_end_of(pads);
-        if ended > 1 || clips != 0 || eighth != 0 || held != frames.len() as u64 {
+        if ended > 1 || held != frames.len() as u64 {
             return Err(ThawFault::BadSnapshot);
         }
-        if taken > 1 << 56 || held > taken || hands > held {
+        if taken > MOST_TAKEN || held > taken || hands > held {
             return Err(ThawFault::BadSnapshot);
         }
         if !is_count(pads, taken, given, silent, held - hands, hands, ended == 1) {

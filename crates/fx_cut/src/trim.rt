@@ -12,6 +12,7 @@ use crate::lines::push_over;
 use crate::many::{PassesMany, feed_by_pieces};
 use fx_fixed::At;
 use fx_frame::frozen::thawed_line_and_hand;
+use fx_frame::stage::MOST_TAKEN;
 use fx_frame::{Feeds, Frame, Line, Passed, Passing, Stage, ThawFault, WideFrame};
 use std::alloc::{AllocError, Global};
 use std::marker::Model;
@@ -357,12 +358,14 @@ impl Trim {
         ensures named { (result ≡ Err ThawFault.WrongPlan) → ⊥ }
         ensures thawed { (s : TrimState) → IsTrim s → s.recipe ≡ record { channels = channels; positions = positions.now } → Freezes trim_acts s frames.now numbers.now → MatchResult result (λ t. t ≡ s) (λ e. e ≡ ThawFault.Memory) }
     {
-        let [taken, given, ended, clips, held, hands, seventh, eighth] = *numbers;
+        let [taken, given, ended, 0, held, hands, 0, 0] = *numbers else {
+            return Err(ThawFault::BadSnapshot);
+        };
         let capacity = greatest_end_of(positions);
-        if ended > 1 || clips != 0 || seventh != 0 || eighth != 0 || held != frames.len() as u64 {
+        if ended > 1 || held != frames.len() as u64 {
             return Err(ThawFault::BadSnapshot);
         }
-        if taken > 1 << 56 || given > taken || held > taken - given || hands > held {
+        if taken > MOST_TAKEN || given > taken || held > taken - given || hands > held {
             return Err(ThawFault::BadSnapshot);
         }
         if !is_count(positions, taken, given, held - hands, hands, ended == 1) {
@@ -372,16 +375,7 @@ impl Trim {
         let Ok(()) = own.extend_from_slice(positions) else {
             return Err(ThawFault::Memory);
         };
-        let (line, hand) = match thawed_line_and_hand(
-            alloc,
-            channels,
-            capacity as usize,
-            frames,
-            hands,
-        ) {
-            Ok(stored) => stored,
-            Err(fault) => return Err(fault),
-        };
+        let (line, hand) = thawed_line_and_hand(alloc, channels, capacity as usize, frames, hands)?;
         Ok(Trim {
             hand,
             channels,

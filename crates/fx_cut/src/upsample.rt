@@ -8,6 +8,7 @@ ghost use Rattle.fx_cut.specs.Lists.{spread};
 
 use crate::many::{PassesMany, feed_by_pieces};
 use fx_frame::frozen::thawed_hand;
+use fx_frame::stage::MOST_TAKEN;
 use fx_frame::{Feeds, Frame, Passed, Stage, ThawFault, WideFrame};
 use std::marker::Model;
 
@@ -111,11 +112,10 @@ impl Upsample {
         ensures thawed { (s : UpsampleState) → IsUpsample s → s.recipe ≡ record { channels = channels; factor = factor } → Freezes upsample_acts s frames.now numbers.now → result ≡ Ok s }
         ensures refused { IfErr result (λ e. e ≡ ThawFault.BadSnapshot) }
     {
-        let [taken, given, ended, clips, held, silent, seventh, eighth] = *numbers;
-        if ended > 1 || clips != 0 || seventh != 0 || eighth != 0 {
+        let [taken, given, ended, 0, held, silent, 0, 0] = *numbers else {
             return Err(ThawFault::BadSnapshot);
-        }
-        if held != frames.len() as u64 || taken > (1 << 56) / factor {
+        };
+        if ended > 1 || held != frames.len() as u64 || taken > MOST_TAKEN / factor {
             return Err(ThawFault::BadSnapshot);
         }
         let made = taken * factor;

@@ -6,7 +6,7 @@ ghost use Rattle.fx_fixed.specs.Count.{count_of, whole_of};
 use crate::clock::RUN_DIGITS;
 use crate::decimals::read_decimal;
 use crate::number::power_of_ten;
-use crate::times::TimeFault;
+use crate::times::{FARTHEST, TimeFault};
 
 /// A number, raised and lowered by so many places, where that is whole and not too far.
 #[tactic(auto, using(crate::proofs::Counting::whole_numbers))]
@@ -23,11 +23,11 @@ fn whole_frames(number: u128, raised: u32, lowered: u32) -> Result<u64, TimeFaul
         if raised - lowered > 12 {
             return Err(TimeFault::TooFar);
         }
-        if number > 1 << 40 {
+        if number > u128::from(FARTHEST) {
             return Err(TimeFault::TooFar);
         }
         let frames = number * power_of_ten(raised - lowered);
-        if frames > 1 << 40 {
+        if frames > u128::from(FARTHEST) {
             return Err(TimeFault::TooFar);
         }
         return Ok(frames as u64);
@@ -40,7 +40,7 @@ fn whole_frames(number: u128, raised: u32, lowered: u32) -> Result<u64, TimeFaul
         return Err(TimeFault::NotWhole);
     }
     let frames = number / power;
-    if frames > 1 << 40 {
+    if frames > u128::from(FARTHEST) {
         return Err(TimeFault::TooFar);
     }
     Ok(frames as u64)

@@ -9,6 +9,9 @@ use crate::reciprocal::Denominator;
 /// The greatest sum of the magnitudes of reduced weights: times samples they make sums that a `Denominator` rounds.
 const GREATEST_WEIGHTS: u64 = 1 << 30;
 
+/// The greatest denominator over which a `Denominator` rounds.
+const GREATEST_DENOMINATOR: u128 = 1 << 61;
+
 /// The greatest common divisor.
 fn common_divisor(a: u128, b: u128) -> u128
     ensures { IsGcd a b result }
@@ -85,7 +88,7 @@ pub fn reduce(
 {
     let divisor = divisor_of(coefficients, gain, denominator);
     let below = denominator / divisor;
-    if below > 1 << 61 {
+    if below > GREATEST_DENOMINATOR {
         return None;
     }
     'coefficients: for place in 0..coefficients.len() {

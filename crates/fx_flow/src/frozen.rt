@@ -14,6 +14,9 @@ use fx_frame::stage::{Stage, ThawFault, Thaws};
 use fx_frame::wide::WideFrame;
 use std::alloc::{AllocError, Global};
 
+/// The place of the frames held among the eight numbers of an inlet or a stage.
+pub const HELD: usize = 4;
+
 /// Appends the numbers of all stages, eight for each.
 pub fn append_numbers<S: Stage>(stages: &[S], out: &mut Vec<u64>) -> Result<(), AllocError>
     ensures numbers { OnOk result (out.new.items ≡ out.old.items ++ numbers_all S.acts stages.now) }
@@ -75,10 +78,9 @@ pub fn thaw_inlet(
     ensures found { IfOk result (IsInlet channels frames.now numbers.now) }
     ensures refused { IfErr result (λ e. (e ≡ ThawFault.BadSnapshot) × ((i : Inlet) → IsInlet channels frames.now numbers.now i → ⊥)) }
 {
-    let [taken, left, ended, fourth, held, sixth, seventh, eighth] = *numbers;
-    if fourth != 0 || sixth != 0 || seventh != 0 || eighth != 0 {
+    let [taken, left, ended, 0, held, 0, 0, 0] = *numbers else {
         return Err(ThawFault::BadSnapshot);
-    }
+    };
     if held != frames.len() as u64 || taken > MOST_FRAMES || left > taken || taken - left != held {
         return Err(ThawFault::BadSnapshot);
     }
@@ -100,12 +102,12 @@ pub fn is_joined<S: Stage>(stages: &[S], left: u64, ended: bool) -> bool
     let mut given = left;
     let mut over = ended;
     'stages: for stage in stages {
-        let numbers = stage.counters();
+        let [taken, gave, ..] = stage.counters();
         let stopped = stage.is_ended();
-        if numbers[0] != given || (stopped && !over) {
+        if taken != given || (stopped && !over) {
             return false;
         }
-        given = numbers[1];
+        given = gave;
         over = stopped && stage.is_dry();
     }
     true
@@ -133,15 +135,12 @@ pub fn thaw_all<S: Thaws + Drop>(
         let Some((own, after)) = rest.split_first_chunk::<8>() else {
             return Err(ThawFault::BadSnapshot);
         };
-        let held = own[4];
+        let held = own[HELD];
         if held > later.len() as u64 {
             return Err(ThawFault::BadSnapshot);
         }
         let (mine, others) = later.split_at(held as usize);
-        let stage = match S::thaw(alloc, argument, mine, own) {
-            Ok(stage) => stage,
-            Err(fault) => return Err(fault),
-        };
+        let stage = S::thaw(alloc, argument, mine, own)?;
         let Ok(()) = out.push(stage) else {
             return Err(ThawFault::Memory);
         };

@@ -118,13 +118,7 @@ pub fn thawed_line_and_hand(
         return Err(ThawFault::BadSnapshot);
     }
     let (lined, held) = frames.split_at((count - hands) as usize);
-    let hand = match thawed_hand(held, channels) {
-        Ok(hand) => hand,
-        Err(fault) => return Err(fault),
-    };
-    let line = match thawed_line(alloc, channels, capacity, lined) {
-        Ok(line) => line,
-        Err(fault) => return Err(fault),
-    };
+    let hand = thawed_hand(held, channels)?;
+    let line = thawed_line(alloc, channels, capacity, lined)?;
     Ok((line, hand))
 }

@@ -7,6 +7,9 @@ use crate::wide::WideFrame;
 use std::alloc::Global;
 use thiserror::Error;
 
+/// The most frames that the stage of an effect takes, where its arguments set no smaller limit.
+pub const MOST_TAKEN: u64 = 1 << 56;
+
 /// Takes frames one at a time and gives frames one at a time.
 ///
 /// A stage is dry where it has no frame to give now. It takes a frame, or is told the end, only where

@@ -1,5 +1,5 @@
 //! The command line: `[-D] [-t wav|au] IN|- [-D] [-t wav|au] [-b 8|16|24|32] OUT|- [EFFECT [WORD ..] ..]`.
-ghost use Rattle.std.specs.Prelude.{◌≡◌, map, MatchResult, Ok, Err};
+ghost use Rattle.std.specs.Prelude.{◌≡◌, ◌∷◌, [], map, MatchResult, Ok, Err, string_bytes};
 ghost use Rattle.std.specs.Char.{to_ascii_lowercase};
 ghost use Rattle.fx_line.specs.Line.{bits_of, ending_kind, ends_in, front, front_of, kind_of, line_of, nothing_set, shape_of, shown, texts};
 ghost use Rattle.fx_line.specs.Spelling.{FrontIsRead};
@@ -105,6 +105,13 @@ fn read_bits(word: &str) -> Option<Bits>
     }
 }
 
+// The value of an option, the first of these words, and the words after it.
+fn read_value(words: &[String]) -> Result<(&String, &[String]), LineFault>
+    ensures { MatchResult result (λ found. texts words.now ≡ string_bytes found.0.now ∷ texts found.1.now) (λ fault. (words.now ≡ []) × (fault ≡ LineFault.BadOption)) }
+{
+    words.split_first().ok_or(LineFault::BadOption)
+}
+
 // The options before a file, the file, and the words after it.
 fn read_front(
     takes_bits: bool,
@@ -125,9 +132,7 @@ fn read_front(
                 continue;
             }
             Shape::Typed => {
-                let Some((value, after)) = after.split_first() else {
-                    return Err(LineFault::BadOption);
-                };
+                let (value, after) = read_value(after)?;
                 let Some(kind) = read_kind(value) else {
                     return Err(LineFault::BadOption);
                 };
@@ -139,9 +144,7 @@ fn read_front(
                 if !takes_bits {
                     return Err(LineFault::BadOption);
                 }
-                let Some((value, after)) = after.split_first() else {
-                    return Err(LineFault::BadOption);
-                };
+                let (value, after) = read_value(after)?;
                 let Some(bits) = read_bits(value) else {
                     return Err(LineFault::BadBits);
                 };

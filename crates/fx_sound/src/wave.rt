@@ -211,10 +211,7 @@ fn read_body<R: ByteIn>(
     match demand {
         Demand::Sound(head) => Ok(Step::Sound(head)),
         Demand::Format(size) => {
-            let format = match read_format(source, size) {
-                Ok(format) => format,
-                Err(fault) => return Err(fault),
-            };
+            let format = read_format(source, size)?;
             Ok(Step::Next(offset + 8 + size + size % 2, Some(format)))
         }
         Demand::Other(size) => {

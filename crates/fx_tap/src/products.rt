@@ -16,7 +16,7 @@ fn split(coefficient: i64) -> (i32, i32)
     ensures low { Within (2 ^ 25) result.1 }
 {
     let high = coefficient >> 25;
-    (high as i32, (coefficient - high * 33_554_432) as i32)
+    (high as i32, (coefficient - high * (1 << 25)) as i32)
 }
 
 /// Four samples.
@@ -101,7 +101,7 @@ fn join(high: i128, low: i128, at: usize) -> i128
     ensures low { neg_ℤ (pos (at * 2 ^ 85)) ≤ℤ result }
     ensures high { result ≤ℤ pos (at * 2 ^ 85) }
 {
-    high * 33_554_432 + low
+    high * (1 << 25) + low
 }
 
 /// The product of a sample and a coefficient.

@@ -118,13 +118,7 @@ pub(crate) fn thawed_row_and_hand(
         return Err(ThawFault::BadSnapshot);
     }
     let (lined, held) = frames.split_at((count - hands) as usize);
-    let hand = match thawed_hand(held, channels) {
-        Ok(hand) => hand,
-        Err(fault) => return Err(fault),
-    };
-    let lines = match thawed_row(alloc, channels, came, echoes, lined) {
-        Ok(lines) => lines,
-        Err(fault) => return Err(fault),
-    };
+    let hand = thawed_hand(held, channels)?;
+    let lines = thawed_row(alloc, channels, came, echoes, lined)?;
     Ok((lines, hand))
 }

@@ -10,19 +10,19 @@ arguments-preserved g c =
     let item : slice_index_or c.args.arguments.now c.arguments.argument-index c.argument-item.result ≡ c.argument-item.result = search rules in
     let j = drop-next c.args.arguments.now c.arguments.argument-index c.argument-item.result some in
     let k : drop c.arguments.argument-index c.args.arguments.now ≡ c.argument-item.result ∷ drop (c.arguments.argument-index + 1) c.args.arguments.now = search rules in
-    let out : c.push.new.self.items ≡ c.arguments.out.items ++ c.in-Ok.stage ∷ [] = search rules in
+    let out : c.push.new.self.items ≡ c.arguments.out.items ++ c.in_ok-stage.stage ∷ [] = search rules in
     let own-is : c.in-Some.own.now ≡ take 8 c.arguments.rest.now = search rules in
     let after-is : c.in-Some.after.now ≡ drop 8 c.arguments.rest.now = search rules in
     let mine-is : c.split_at.result.0.now ≡ take (slice_index_or c.in-Some.own.now 4 0) c.arguments.later.now = search rules in
     let others-is : c.split_at.result.1.now ≡ drop (slice_index_or c.in-Some.own.now 4 0) c.arguments.later.now = search rules in
-    let frozen : Freezes g.S.Stage.acts c.in-Ok.stage c.split_at.result.0.now c.in-Some.own.now = search rules in
+    let frozen : Freezes g.S.Stage.acts c.in_ok-stage.stage c.split_at.result.0.now c.in-Some.own.now = search rules in
     let later-is : c.arguments.later.now ≡ c.split_at.result.0.now ++ c.split_at.result.1.now = search rules in
     let rest-is : c.arguments.rest.now ≡ c.in-Some.own.now ++ c.in-Some.after.now = search rules in
     rw out
     (record {
-      made = AllMade-more g.S.Thaws.made c.args.arguments.now c.arguments.argument-index c.arguments.out.items c.argument-item.result c.argument-item.result c.in-Ok.stage some item c.arguments.invariant.made (search rules);
-      stored = stored-more g.S.Stage.acts c.arguments.out.items c.in-Ok.stage c.args.frames.now c.arguments.later.now c.split_at.result.0.now c.split_at.result.1.now c.arguments.invariant.stored later-is frozen.stored;
-      counted = numbers-more g.S.Stage.acts c.arguments.out.items c.in-Ok.stage c.args.numbers.now c.arguments.rest.now c.in-Some.own.now c.in-Some.after.now c.arguments.invariant.counted rest-is frozen.counted;
-      thaws = ThawsOn-step g.S.Stage.acts g.S.Stage.sound g.S.Thaws.made c.arguments.out.items c.argument-item.result (drop (c.arguments.argument-index + 1) c.args.arguments.now) c.arguments.later.now c.split_at.result.0.now c.split_at.result.1.now c.arguments.rest.now c.in-Some.own.now c.in-Some.after.now c.in-Ok.stage
+      made = AllMade-more g.S.Thaws.made c.args.arguments.now c.arguments.argument-index c.arguments.out.items c.argument-item.result c.argument-item.result c.in_ok-stage.stage some item c.arguments.invariant.made (search rules);
+      stored = stored-more g.S.Stage.acts c.arguments.out.items c.in_ok-stage.stage c.args.frames.now c.arguments.later.now c.split_at.result.0.now c.split_at.result.1.now c.arguments.invariant.stored later-is frozen.stored;
+      counted = numbers-more g.S.Stage.acts c.arguments.out.items c.in_ok-stage.stage c.args.numbers.now c.arguments.rest.now c.in-Some.own.now c.in-Some.after.now c.arguments.invariant.counted rest-is frozen.counted;
+      thaws = ThawsOn-step g.S.Stage.acts g.S.Stage.sound g.S.Thaws.made c.arguments.out.items c.argument-item.result (drop (c.arguments.argument-index + 1) c.args.arguments.now) c.arguments.later.now c.split_at.result.0.now c.split_at.result.1.now c.arguments.rest.now c.in-Some.own.now c.in-Some.after.now c.in_ok-stage.stage
           own-is after-is mine-is others-is (λ s k m f. search rules) c.args.arguments.now c.args.frames.now c.args.numbers.now (rw k at c.arguments.invariant.thaws);
     })

@@ -9,8 +9,8 @@ loop-word-preserved-in-NoDither c =
 
 pub loop-word-preserved-in-Typed : goal.loop-word-preserved-in-Typed
 loop-word-preserved-in-Typed c =
-    past_kind _ _ _ _ _ _ _ _ _ _ c.in-Typed.ensures c.deref.ensures (ap texts c.in-Some.ensures.cases.0) c.in-Some-read_kind.ensures c.deref-in-Typed.ensures (ap texts c.in-Some-split_first.ensures.cases.0) ∙ c.loop-word.invariant
+    past_kind _ _ _ _ _ _ _ _ _ _ c.in-Typed.ensures c.deref.ensures (ap texts c.in-Some.ensures.cases.0) c.in-Some-read_kind.ensures c.deref-in-Typed.ensures c.in_ok-value-in-Typed.ensures ∙ c.loop-word.invariant
 
 pub loop-word-preserved : goal.loop-word-preserved
 loop-word-preserved c =
-    past_bits _ _ _ _ _ _ _ _ _ _ (sym c.if-not-takes_bits.false) c.in-Depth.ensures c.deref.ensures (ap texts c.in-Some.ensures.cases.0) c.in-Some-read_bits.ensures c.deref-in-Depth.ensures (ap texts c.in-Some-split_first-2.ensures.cases.0) ∙ c.loop-word.invariant
+    past_bits _ _ _ _ _ _ _ _ _ _ (sym c.if-not-takes_bits.false) c.in-Depth.ensures c.deref.ensures (ap texts c.in-Some.ensures.cases.0) c.in-Some-read_bits.ensures c.deref-in-Depth.ensures c.in_ok-value-in-Depth.ensures ∙ c.loop-word.invariant

@@ -11,4 +11,4 @@ pub invariant_of-result : goal.invariant_of-result
 invariant_of-result c =
     let line = rw c.of-fading.ensures at c.line-capacity.ensures in
     let count = rw c.of-fading.ensures at (c.if-not-is_count.ensures.count refl) in
-    rw c.of-fading.ensures (IsFade-thawed c.args.channels _ _ _ _ _ _ _ c.args.frames.now _ _ c.in-Ok.ensures.found line (record { short_in = c.requires.fades.0; short_out = c.requires.fades.1 }) c.if-taken.false c.if-given-taken.false c.if-held-taken.false c.if-held-frames.false count)
+    rw c.of-fading.ensures (IsFade-thawed c.args.channels _ _ _ _ _ _ _ c.args.frames.now _ _ c.in_ok-line.ensures.found line (record { short_in = c.requires.fades.0; short_out = c.requires.fades.1 }) c.if-taken-gt-MOST_TAKEN.false c.if-given-taken.false c.if-held-taken.false c.if-held-frames.false count)

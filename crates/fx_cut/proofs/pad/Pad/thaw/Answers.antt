@@ -15,7 +15,7 @@ returns-in-Err-clause-thawed c = λ s is recipe frozen.
 pub invariant_of-result : goal.invariant_of-result
 invariant_of-result c =
     rw (c.of.ensures, c.in-Ok.ensures.items, c.new-own.ensures.items)
-    (IsPad-thawed c.args.channels _ _ _ _ _ _ _ c.args.pads.now c.args.frames.now _ _ c.in-Ok-thawed_line_and_hand.ensures.found c.greatest_end_of-capacity.ensures c.requires.pads c.if-taken.false c.if-held-taken.false c.if-held-frames.false (c.if-not-is_count.ensures.count refl))
+    (IsPad-thawed c.args.channels _ _ _ _ _ _ _ c.args.pads.now c.args.frames.now _ _ c.in-Ok-thawed_line_and_hand.ensures.found c.greatest_end_of-capacity.ensures c.requires.pads c.if-taken-gt-MOST_TAKEN.false c.if-held-taken.false c.if-held-frames.false (c.if-not-is_count.ensures.count refl))
 
 pub returns-clause-thawed : goal.returns-clause-thawed
 returns-clause-thawed c = λ s is recipe frozen.

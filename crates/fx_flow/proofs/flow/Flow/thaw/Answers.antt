@@ -3,8 +3,8 @@ use Rattle.std.specs.Prelude.{slice_index_or}
 use Rattle.fx_flow.proofs.Thawing.{IsInlet-of}
 use Rattle.fx_flow.proofs.flow.Flow.thaw.Goals as goal
 
-pub returns-in-Err-clause-thawed : goal.returns-in-Err-clause-thawed
-returns-in-Err-clause-thawed g c = λ f sound all made channels frozen.
+pub returns-in_err-frame-clause-thawed : goal.returns-in_err-frame-clause-thawed
+returns-in_err-frame-clause-thawed g c = λ f sound all made channels frozen.
     let own-is : c.in-Some.own.now ≡ take 8 c.args.numbers.now = search rules in
     let first-is : c.split_at.result.0.now ≡ take (slice_index_or c.in-Some.own.now 4 0) c.args.frames.now = search rules in
-    absurd (c.in-Err.ensures.refused.1 _ (IsInlet-of g.S.Stage.acts f c.args.channels c.args.frames.now c.split_at.result.0.now c.args.numbers.now c.in-Some.own.now sound channels frozen own-is first-is))
+    absurd (c.in_err-frame.ensures.refused.1 _ (IsInlet-of g.S.Stage.acts f c.args.channels c.args.frames.now c.split_at.result.0.now c.args.numbers.now c.in-Some.own.now sound channels frozen own-is first-is))

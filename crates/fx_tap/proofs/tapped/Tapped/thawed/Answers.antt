@@ -8,7 +8,7 @@ pub overflow_mul-given : goal.overflow_mul-given
 overflow_mul-given g c =
     let given : slice_index_or c.args.numbers.now 1 0 ≤ 2 ^ 58 =
     let tail : slice_index_or c.args.numbers.now 2 0 * c.args.reach ≤ 1 * 2 ^ 28 = mul-le-mul c.if-ended-gt1.false c.requires.line in
-    omega (arith, tail, c.if-given-made.false, c.if-taken.false) in
+    omega (arith, tail, c.if-given-made.false, c.if-taken-gt-MOST_TAKEN.false) in
     let few : c.most_clips-most.result ≤ 16 = rw c.most_clips-most.ensures (g.met.T.Tapping.few_clips c.args.arguments) in
     let most : slice_index_or c.args.numbers.now 1 0 * c.most_clips-most.result ≤ 2 ^ 58 * 16 = mul-le-mul given few in
     omega (arith, most)

@@ -1,4 +1,0 @@
-pub mod Tabulate
-pub mod UpsampleLaws
-pub mod DelayLaws
-pub mod Runs

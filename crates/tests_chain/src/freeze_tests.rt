@@ -1,0 +1,324 @@
+//! The worked rows of freezing and thawing.
+ghost use Rattle.std.specs.Prelude.{◌≡◌, IfOk, IfSome};
+ghost use Rattle.fx_plan.specs.Planning.{planning};
+
+use crate::driving::{
+    Driven, TWELVE_EFFECTS, feed, finish, first_sample, found_plan, mono, next_step, plan_of,
+};
+use fx_chain::{Chain, Snapshot};
+use fx_flow::flow::{MOST_FRAMES, State, Step};
+use fx_frame::WideFrame;
+use fx_frame::stage::ThawFault;
+use fx_plan::Plan;
+use std::alloc::Global;
+use std::test::Fail;
+
+/// More calls than a chain of these rows is given.
+const MOST_CALLS: u32 = 1000;
+
+const TWELVE_SAMPLES: [i32; 4] = [8, 8, 8, 8];
+
+const TWELVE_OUTPUT: [i32; 9] = [0, 0, 8, 20, 28, 22, 10, 2, 0];
+
+/// The chain of these effects after it took frames of these samples, hungry again, and what it did.
+fn fed(alloc: Global, effects: &str, samples: &[i32]) -> Result<(Chain, Driven), Fail> {
+    let plan = plan_of(alloc, effects)?;
+    let mut chain = Chain::new(alloc, &plan)?;
+    let mut driven = Driven::new(alloc);
+    feed(&mut chain, &mut driven, samples)?;
+    Ok((chain, driven))
+}
+
+/// The snapshot of `trim -3s` after 1 2 3 4 5.
+fn trim_snapshot(alloc: Global) -> Result<Snapshot, Fail> {
+    let (chain, _driven) = fed(alloc, "trim -3s", &[1, 2, 3, 4, 5])?;
+    Ok(chain.freeze(alloc)?)
+}
+
+/// The chain that a snapshot came from.
+fn thawed(alloc: Global, snapshot: &Snapshot) -> Result<Chain, Fail>
+    ensures { IfOk result (λ c. c.plan ≡ planning snapshot.now.plan) }
+{
+    match Chain::thaw(alloc, &snapshot.plan, snapshot) {
+        Ok(chain) => Ok(chain),
+        Err(_fault) => Err("no chain of this snapshot".into()),
+    }
+}
+
+/// The fault for which a snapshot is refused with this plan, if it is.
+fn refusal(alloc: Global, plan: &Plan, snapshot: &Snapshot) -> Option<ThawFault> {
+    match Chain::thaw(alloc, plan, snapshot) {
+        Ok(_chain) => None,
+        Err(fault) => Some(fault),
+    }
+}
+
+/// The sample of a frame's first channel.
+fn first_wide(frame: &WideFrame) -> i64 {
+    let _channels = frame.channels();
+    frame.get(0)
+}
+
+#[test]
+fn freeze_trim(rt: HostRuntime) -> Result<(), Fail> {
+    let (mut chain, mut driven) = fed(rt.alloc(), "trim -3s", &[1, 2, 3, 4, 5])?;
+    let mut snapshot = chain.freeze(rt.alloc())?;
+    let mut frames = Vec::new(rt.alloc());
+    for frame in &snapshot.frames {
+        frames.push(first_wide(frame))?;
+    }
+    assert_eq!(rt; frames.as_slice(), [3, 4, 5].as_slice());
+
+    let mut again = thawed(rt.alloc(), &snapshot)?;
+    let mut further = Driven::new(rt.alloc());
+    finish(&mut again, &mut further)?;
+    assert_eq!(rt; further.samples.as_slice(), [3, 4, 5].as_slice());
+    finish(&mut chain, &mut driven)?;
+    assert_eq!(rt; driven.samples.as_slice(), [3, 4, 5].as_slice());
+
+    let other = plan_of(rt.alloc(), "trim -2s")?;
+    assert_eq!(rt;
+        refusal(rt.alloc(), &other, &snapshot),
+        Some(ThawFault::WrongPlan)
+    );
+    snapshot.numbers.clear();
+    let refused = refusal(rt.alloc(), &snapshot.plan, &snapshot);
+    assert_eq!(rt; refused, Some(ThawFault::BadSnapshot));
+    Ok(())
+}
+
+#[test]
+fn freeze_numbers(rt: HostRuntime) -> Result<(), Fail> {
+    let snapshot = trim_snapshot(rt.alloc())?;
+    assert_eq!(rt;
+        snapshot.numbers.as_slice(),
+        [5, 5, 0, 0, 0, 0, 0, 0, 5, 0, 0, 0, 3, 0, 0, 0].as_slice()
+    );
+    let copy = snapshot.plan.copy(rt.alloc())?;
+    assert!(rt; copy == snapshot.plan);
+    Ok(())
+}
+
+#[test]
+fn freeze_after_one_step(rt: HostRuntime) -> Result<(), Fail> {
+    let plan = plan_of(rt.alloc(), "upsample 2 delay 1s")?;
+    let mut chain = Chain::new(rt.alloc(), &plan)?;
+    chain.take(mono(5));
+    assert_eq!(rt; next_step(&mut chain), Some(Step::Moved));
+    let mut snapshot = chain.freeze(rt.alloc())?;
+    assert_eq!(rt;
+        snapshot.numbers.as_slice(),
+        [
+            1, 1, 0, 0, 0, 0, 0, 0, 1, 0, 0, 0, 1, 1, 0, 0, 0, 0, 0, 0, 0, 0, 0, 0
+        ]
+        .as_slice()
+    );
+    assert_eq!(rt;
+        snapshot.frames.as_slice(),
+        [WideFrame::from_frame(mono(5))].as_slice()
+    );
+    snapshot.numbers.truncate(23);
+    let refused = refusal(rt.alloc(), &snapshot.plan, &snapshot);
+    assert_eq!(rt; refused, Some(ThawFault::BadSnapshot));
+    Ok(())
+}
+
+#[test]
+fn thaw_after_each_step(rt: HostRuntime) -> Result<(), Fail> {
+    let plan = plan_of(rt.alloc(), "upsample 2 delay 1s")?;
+    let mut chain = Chain::new(rt.alloc(), &plan)?;
+    chain.take(mono(5));
+    for _step in 0..5 {
+        let snapshot = chain.freeze(rt.alloc())?;
+        let mut again = thawed(rt.alloc(), &snapshot)?;
+        assert_eq!(rt; again.held(), chain.held());
+        assert_eq!(rt; next_step(&mut again), next_step(&mut chain));
+        assert_eq!(rt; again.moves(), chain.moves());
+    }
+    Ok(())
+}
+
+#[test]
+fn thaw_echos(rt: HostRuntime) -> Result<(), Fail> {
+    let (chain, _driven) = fed(rt.alloc(), "echos 1 1 0.25 0.5 0.125 0.5", &[8])?;
+    let snapshot = chain.freeze(rt.alloc())?;
+    let mut again = thawed(rt.alloc(), &snapshot)?;
+    let mut further = Driven::new(rt.alloc());
+    finish(&mut again, &mut further)?;
+    assert_eq!(rt; further.samples.as_slice(), [4, 4, 4].as_slice());
+    Ok(())
+}
+
+/// What is wrong with a snapshot of one effect.
+#[derive(Clone, Copy)]
+enum Damage {
+    /// The inlet took more than 2^40 frames.
+    TooManyTaken,
+    /// The third entry of the effect, 0 or 1, is 2.
+    HalfEnded,
+    /// A frame has two channels.
+    Stereo,
+    /// A sample has 33 bits.
+    Wide,
+    /// The last frame is not there.
+    OneLess,
+}
+
+/// The frame of these samples.
+fn wide(samples: &[i64]) -> Result<WideFrame, Fail> {
+    match WideFrame::from_slice(samples) {
+        Some(frame) => Ok(frame),
+        None => Err("no frame".into()),
+    }
+}
+
+/// Does the damage to a snapshot.
+fn spoil(snapshot: &mut Snapshot, damage: Damage) -> Result<(), Fail> {
+    if snapshot.numbers.len() != 16 || snapshot.frames.len() != 3 {
+        return Err("another snapshot".into());
+    }
+    match damage {
+        Damage::TooManyTaken => snapshot.numbers[0] = MOST_FRAMES + 1,
+        Damage::HalfEnded => snapshot.numbers[10] = 2,
+        Damage::Stereo => snapshot.frames[0] = wide(&[3, 3])?,
+        Damage::Wide => snapshot.frames[0] = wide(&[1 << 31])?,
+        Damage::OneLess => snapshot.frames.truncate(2),
+    }
+    Ok(())
+}
+
+#[test]
+fn thaw_refused(rt: HostRuntime) -> Result<(), Fail> {
+    for kind in [
+        Damage::TooManyTaken,
+        Damage::HalfEnded,
+        Damage::Stereo,
+        Damage::Wide,
+        Damage::OneLess,
+    ] {
+        let mut snapshot = trim_snapshot(rt.alloc())?;
+        spoil(&mut snapshot, kind)?;
+        let refused = refusal(rt.alloc(), &snapshot.plan, &snapshot);
+        assert_eq!(rt; refused, Some(ThawFault::BadSnapshot));
+    }
+    Ok(())
+}
+
+/// The next call on the way of a chain of one channel through these samples and the end: a step, a frame or the end. False
+/// where it is done.
+fn advance(chain: &mut Chain, samples: &[i32], out: &mut Vec<i32>) -> Result<bool, Fail>
+    requires { chain.old.plan.head.channels ≡ 1 }
+    ensures { chain.new.plan ≡ chain.old.plan }
+{
+    if let Some(step) = next_step(chain) {
+        if let Step::Given(frame) = step {
+            out.push(first_sample(frame))?;
+        }
+        return Ok(true);
+    }
+    let State::Hungry = chain.state() else {
+        return Ok(false);
+    };
+    let taken = chain.taken();
+    if taken >= MOST_FRAMES {
+        return Err("too many frames".into());
+    }
+    match samples.get(taken as usize) {
+        Some(sample) => chain.take(mono(*sample)),
+        None => chain.end(),
+    }
+    Ok(true)
+}
+
+/// Lets a chain of one channel go on through the rest of these samples and the end.
+fn go_on(chain: &mut Chain, samples: &[i32], out: &mut Vec<i32>) -> Result<(), Fail>
+    requires { chain.old.plan.head.channels ≡ 1 }
+{
+    'calls: for _call in 0..MOST_CALLS {
+        if !advance(chain, samples, out)? {
+            return Ok(());
+        }
+    }
+    Err("calls without end".into())
+}
+
+/// What the chain of a snapshot comes to where it goes on from there: all that is given, with what was given before, and all
+/// numbers at the end.
+fn outcome(alloc: Global, snapshot: &Snapshot, given: &[i32]) -> Result<(Vec<i32>, Snapshot), Fail>
+    requires { (planning snapshot.now.plan).head.channels ≡ 1 }
+{
+    let mut again = thawed(alloc, snapshot)?;
+    let mut out = Vec::from_slice(alloc, given)?;
+    go_on(&mut again, &TWELVE_SAMPLES, &mut out)?;
+    if again.moves() != 106 {
+        return Err("another number of hand-overs".into());
+    }
+    Ok((out, again.freeze(alloc)?))
+}
+
+/// The chain of twelve effects, thawed after every call.
+#[test]
+fn freeze_twelve_line(rt: HostRuntime) -> Result<(), Fail> {
+    let plan = plan_of(rt.alloc(), TWELVE_EFFECTS)?;
+    let mut chain = Chain::new(rt.alloc(), &plan)?;
+    let (_all, whole) = outcome(rt.alloc(), &chain.freeze(rt.alloc())?, &[])?;
+    let mut out = Vec::new(rt.alloc());
+    'calls: for _call in 0..MOST_CALLS {
+        let snapshot = chain.freeze(rt.alloc())?;
+        assert!(rt; snapshot.frames.len() <= 23);
+        assert_eq!(rt; snapshot.numbers.len(), 104);
+        if snapshot.plan.head().channels != 1 {
+            return Err("another plan".into());
+        }
+        let (all, end) = outcome(rt.alloc(), &snapshot, &out)?;
+        assert_eq!(rt; all.as_slice(), TWELVE_OUTPUT.as_slice());
+        assert_eq!(rt; end.numbers.as_slice(), whole.numbers.as_slice());
+        if !advance(&mut chain, &TWELVE_SAMPLES, &mut out)? {
+            return Ok(());
+        }
+    }
+    Err("calls without end".into())
+}
+
+/// Freezes a chain and thaws it.
+fn freeze_and_thaw(alloc: Global, chain: &Chain) -> Result<Chain, ThawFault> {
+    let Ok(snapshot) = chain.freeze(alloc) else {
+        return Err(ThawFault::Memory);
+    };
+    Chain::thaw(alloc, &snapshot.plan, &snapshot)
+}
+
+/// The new chain of twelve effects, and room for what it gives; None where memory for them is refused.
+fn found_chain(alloc: Global) -> Option<(Chain, Driven)>
+    ensures { IfSome result (λ p. p.0.plan.head.channels ≡ 1) }
+{
+    let plan = found_plan(alloc, TWELVE_EFFECTS)?;
+    let chain = Chain::new(alloc, &plan).ok()?;
+    let samples = Vec::with_capacity(alloc, TWELVE_OUTPUT.len()).ok()?;
+    let driven = Driven {
+        samples,
+        most_held: 0,
+    };
+    Some((chain, driven))
+}
+
+/// Each request for memory refused in turn; the frozen chain then runs on as if nothing had been asked.
+#[test]
+fn growth_freeze_thaw(rt: HostRuntime) -> Result<(), Fail> {
+    let Some((mut chain, mut driven)) = found_chain(rt.alloc()) else {
+        println!(rt; "refused")?;
+        return Ok(());
+    };
+    feed(&mut chain, &mut driven, &TWELVE_SAMPLES)?;
+    let fault = freeze_and_thaw(rt.alloc(), &chain).err();
+    finish(&mut chain, &mut driven)?;
+    assert_eq!(rt; driven.samples.as_slice(), TWELVE_OUTPUT.as_slice());
+    match fault {
+        None => println!(rt; "made")?,
+        Some(fault) => {
+            assert_eq!(rt; fault, ThawFault::Memory);
+            println!(rt; "refused")?;
+        }
+    }
+    Ok(())
+}
