@@ -1,5 +1,5 @@
 //! A whole sound through a flow, from its source to a writer.
-ghost use Rattle.std.specs.Prelude.{◌≡◌, ℕ, ◌+◌, ◌*◌, ◌<◌, ◌≤◌, ◌^◌, ◌++◌, [], true, IfErr, IfOk, IsTrue, List, MatchResult, OnErr, OnOk, Option, length, map};
+ghost use Rattle.std.specs.Prelude.{◌≡◌, ℕ, ◌+◌, ◌*◌, ◌<◌, ◌≤◌, ◌^◌, ◌++◌, [], true, IfErr, IfOk, IsTrue, List, MatchResult, None, OnErr, OnOk, Option, length, map};
 ghost use Rattle.fx_chain.specs.Due.{dues};
 ghost use Rattle.fx_chain.specs.Outlet.{WroteAll, WroteFront};
 ghost use Rattle.fx_chain.specs.Report.{Completed, HasCause, ReadBefore, StoppedAt, cause_of, clips_now, pad, report_at, report_in, start_of};
@@ -13,6 +13,7 @@ ghost use Rattle.fx_sound.specs.Kind.{is_coding_of};
 ghost use Rattle.fx_sound.specs.Known.{IfKnown};
 ghost use Rattle.fx_sound.specs.Output.{Sent, total};
 ghost use Rattle.fx_sound.specs.Source.{to_come};
+ghost use Rattle.fx_sound.specs.Writing.{written_head};
 
 use crate::outlet::Outlet;
 use crate::pump::{Cause, pump};
@@ -22,7 +23,7 @@ use fx_flow::flow::Flow;
 use fx_frame::stage::Stage;
 use fx_frame::{ByteIn, ByteOut, Failed, Feeds};
 use fx_sound::inner::Output;
-use fx_sound::{Head, Kind, Progress, Source, head_bytes};
+use fx_sound::{Head, HeadBytes, Kind, Progress, Source, head_bytes};
 
 // A zero byte behind an odd number of bytes of sound in a WAVE file.
 fn padding(target: Target, bytes: u64) -> &'static [u8]
@@ -89,6 +90,22 @@ fn close<W: ByteOut>(outlet: &mut Outlet, writer: &mut W, last: &[u8]) -> Result
     outlet.output.finish(writer)
 }
 
+// The head of what is written, where its length is not known beforehand.
+fn streamed_head(target: Target) -> HeadBytes
+    requires coded { IsTrue (is_coding_of target.kind target.coding) }
+    requires rated { 1 ≤ target.rate }
+    requires channels { (1 ≤ target.channels) × (target.channels ≤ 16) }
+    ensures { result ≡ written_head target.kind target.rate target.channels target.coding None }
+{
+    head_bytes(
+        target.kind,
+        target.rate,
+        target.channels,
+        target.coding,
+        None,
+    )
+}
+
 /// Writes a streamed head, and what a new flow gives for all frames of the sound behind `head`.
 ///
 /// Reads no more frames than some effect has enough of. After a failed read, and where the sound is too long, the frames
@@ -140,13 +157,7 @@ pub fn run_flow<R: ByteIn, S: Feeds, W: ByteOut>(
         clips: 0,
         output: Output::new(),
     };
-    let written = head_bytes(
-        target.kind,
-        target.rate,
-        target.channels,
-        target.coding,
-        None,
-    );
+    let written = streamed_head(target);
     let pumped = pump(
         written.as_slice(),
         flow,

@@ -38,140 +38,76 @@ pub data EffectRecipe : Type 0 where
   Scales : (r : SampleArguments ℤ) → EffectRecipe
   Shifts : (r : SampleArguments ℤ) → EffectRecipe
 
--- what the arguments settle for a stage's whole life
+-- what a recipe settles for a stage's whole life, and the definition of its effect
+pub record Settled : Type 0 where
+  pub kind : Kind
+  pub meaning : List Samples → List Given
+
+-- what a recipe settles, by how the stages of its effect behave
+abbrev pub settled : {S R : Type 0} → Acts S R → R → Settled
+settled acts r = record { kind = acts.kind_of r; meaning = acts.meaning r }
+
+-- what any recipe settles
+abbrev pub settled_of : EffectRecipe → Settled
+settled_of (Trims r) = settled trim_acts r
+settled_of (Pads r) = settled pad_acts r
+settled_of (Fades r) = settled fade_acts r
+settled_of (Upsamples r) = settled upsample_acts r
+settled_of (Downsamples r) = settled downsample_acts r
+settled_of (Delays r) = settled delay_acts r
+settled_of (Echoes r) = settled echo_acts r
+settled_of (EchoesInRow r) = settled echos_acts r
+settled_of (Filters r) = settled fir_acts r
+settled_of (Remixes r) = settled remix_acts r
+settled_of (Scales r) = settled vol_acts r
+settled_of (Shifts r) = settled dcshift_acts r
+
+-- what a stage shows of itself: its recipe, what is still to be given, what it counted, that it has nothing to give now,
+-- the frames that it holds, the places of its line, and its own numbers
+pub record Look : Type 0 where
+  pub recipe : EffectRecipe
+  pub rest : List Samples → List Given
+  pub counts : Counts
+  pub dry : Bool
+  pub stored : List Samples
+  pub capacity : ℕ
+  pub own : Own
+
+-- the look of a stage, by how the stages of its effect behave
+abbrev pub look : {S R : Type 0} → Acts S R → (R → EffectRecipe) → S → Look
+look acts named s = record {
+  recipe = named (acts.recipe s);
+  rest = acts.rest s;
+  counts = acts.counts s;
+  dry = acts.dry s;
+  stored = acts.stored s;
+  capacity = acts.capacity s;
+  own = acts.own s;
+}
+
+-- the look of any stage
+abbrev pub look_of : EffectStage → Look
+look_of (stages.Trim s) = look trim_acts Trims s
+look_of (stages.Pad s) = look pad_acts Pads s
+look_of (stages.Fade s) = look fade_acts Fades s
+look_of (stages.Upsample s) = look upsample_acts Upsamples s
+look_of (stages.Downsample s) = look downsample_acts Downsamples s
+look_of (stages.Delay s) = look delay_acts Delays s
+look_of (stages.Echo s) = look echo_acts Echoes s
+look_of (stages.Echos s) = look echos_acts EchoesInRow s
+look_of (stages.Fir s) = look fir_acts Filters s
+look_of (stages.Remix s) = look remix_acts Remixes s
+look_of (stages.Vol s) = look vol_acts Scales s
+look_of (stages.DcShift s) = look dcshift_acts Shifts s
+
 abbrev pub kind_of_recipe : EffectRecipe → Kind
-kind_of_recipe (Trims r) = trim_acts.kind_of r
-kind_of_recipe (Pads r) = pad_acts.kind_of r
-kind_of_recipe (Fades r) = fade_acts.kind_of r
-kind_of_recipe (Upsamples r) = upsample_acts.kind_of r
-kind_of_recipe (Downsamples r) = downsample_acts.kind_of r
-kind_of_recipe (Delays r) = delay_acts.kind_of r
-kind_of_recipe (Echoes r) = echo_acts.kind_of r
-kind_of_recipe (EchoesInRow r) = echos_acts.kind_of r
-kind_of_recipe (Filters r) = fir_acts.kind_of r
-kind_of_recipe (Remixes r) = remix_acts.kind_of r
-kind_of_recipe (Scales r) = vol_acts.kind_of r
-kind_of_recipe (Shifts r) = dcshift_acts.kind_of r
+kind_of_recipe r = (settled_of r).kind
 
--- the definition of the effect
-abbrev pub meaning_of_recipe : EffectRecipe → List Samples → List Given
-meaning_of_recipe (Trims r) = trim_acts.meaning r
-meaning_of_recipe (Pads r) = pad_acts.meaning r
-meaning_of_recipe (Fades r) = fade_acts.meaning r
-meaning_of_recipe (Upsamples r) = upsample_acts.meaning r
-meaning_of_recipe (Downsamples r) = downsample_acts.meaning r
-meaning_of_recipe (Delays r) = delay_acts.meaning r
-meaning_of_recipe (Echoes r) = echo_acts.meaning r
-meaning_of_recipe (EchoesInRow r) = echos_acts.meaning r
-meaning_of_recipe (Filters r) = fir_acts.meaning r
-meaning_of_recipe (Remixes r) = remix_acts.meaning r
-meaning_of_recipe (Scales r) = vol_acts.meaning r
-meaning_of_recipe (Shifts r) = dcshift_acts.meaning r
-
--- its recipe
 abbrev pub recipe_of : EffectStage → EffectRecipe
-recipe_of (stages.Trim s) = Trims (trim_acts.recipe s)
-recipe_of (stages.Pad s) = Pads (pad_acts.recipe s)
-recipe_of (stages.Fade s) = Fades (fade_acts.recipe s)
-recipe_of (stages.Upsample s) = Upsamples (upsample_acts.recipe s)
-recipe_of (stages.Downsample s) = Downsamples (downsample_acts.recipe s)
-recipe_of (stages.Delay s) = Delays (delay_acts.recipe s)
-recipe_of (stages.Echo s) = Echoes (echo_acts.recipe s)
-recipe_of (stages.Echos s) = EchoesInRow (echos_acts.recipe s)
-recipe_of (stages.Fir s) = Filters (fir_acts.recipe s)
-recipe_of (stages.Remix s) = Remixes (remix_acts.recipe s)
-recipe_of (stages.Vol s) = Scales (vol_acts.recipe s)
-recipe_of (stages.DcShift s) = Shifts (dcshift_acts.recipe s)
+recipe_of s = (look_of s).recipe
 
--- what is still to be given
-abbrev pub rest_of : EffectStage → List Samples → List Given
-rest_of (stages.Trim s) = trim_acts.rest s
-rest_of (stages.Pad s) = pad_acts.rest s
-rest_of (stages.Fade s) = fade_acts.rest s
-rest_of (stages.Upsample s) = upsample_acts.rest s
-rest_of (stages.Downsample s) = downsample_acts.rest s
-rest_of (stages.Delay s) = delay_acts.rest s
-rest_of (stages.Echo s) = echo_acts.rest s
-rest_of (stages.Echos s) = echos_acts.rest s
-rest_of (stages.Fir s) = fir_acts.rest s
-rest_of (stages.Remix s) = remix_acts.rest s
-rest_of (stages.Vol s) = vol_acts.rest s
-rest_of (stages.DcShift s) = dcshift_acts.rest s
-
--- what it counted
-abbrev pub counts_of : EffectStage → Counts
-counts_of (stages.Trim s) = trim_acts.counts s
-counts_of (stages.Pad s) = pad_acts.counts s
-counts_of (stages.Fade s) = fade_acts.counts s
-counts_of (stages.Upsample s) = upsample_acts.counts s
-counts_of (stages.Downsample s) = downsample_acts.counts s
-counts_of (stages.Delay s) = delay_acts.counts s
-counts_of (stages.Echo s) = echo_acts.counts s
-counts_of (stages.Echos s) = echos_acts.counts s
-counts_of (stages.Fir s) = fir_acts.counts s
-counts_of (stages.Remix s) = remix_acts.counts s
-counts_of (stages.Vol s) = vol_acts.counts s
-counts_of (stages.DcShift s) = dcshift_acts.counts s
-
--- it has nothing to give now
-abbrev pub dry_of : EffectStage → Bool
-dry_of (stages.Trim s) = trim_acts.dry s
-dry_of (stages.Pad s) = pad_acts.dry s
-dry_of (stages.Fade s) = fade_acts.dry s
-dry_of (stages.Upsample s) = upsample_acts.dry s
-dry_of (stages.Downsample s) = downsample_acts.dry s
-dry_of (stages.Delay s) = delay_acts.dry s
-dry_of (stages.Echo s) = echo_acts.dry s
-dry_of (stages.Echos s) = echos_acts.dry s
-dry_of (stages.Fir s) = fir_acts.dry s
-dry_of (stages.Remix s) = remix_acts.dry s
-dry_of (stages.Vol s) = vol_acts.dry s
-dry_of (stages.DcShift s) = dcshift_acts.dry s
-
--- the frames that it holds
 abbrev pub stored_of : EffectStage → List Samples
-stored_of (stages.Trim s) = trim_acts.stored s
-stored_of (stages.Pad s) = pad_acts.stored s
-stored_of (stages.Fade s) = fade_acts.stored s
-stored_of (stages.Upsample s) = upsample_acts.stored s
-stored_of (stages.Downsample s) = downsample_acts.stored s
-stored_of (stages.Delay s) = delay_acts.stored s
-stored_of (stages.Echo s) = echo_acts.stored s
-stored_of (stages.Echos s) = echos_acts.stored s
-stored_of (stages.Fir s) = fir_acts.stored s
-stored_of (stages.Remix s) = remix_acts.stored s
-stored_of (stages.Vol s) = vol_acts.stored s
-stored_of (stages.DcShift s) = dcshift_acts.stored s
-
--- the places of its line
-abbrev pub capacity_of : EffectStage → ℕ
-capacity_of (stages.Trim s) = trim_acts.capacity s
-capacity_of (stages.Pad s) = pad_acts.capacity s
-capacity_of (stages.Fade s) = fade_acts.capacity s
-capacity_of (stages.Upsample s) = upsample_acts.capacity s
-capacity_of (stages.Downsample s) = downsample_acts.capacity s
-capacity_of (stages.Delay s) = delay_acts.capacity s
-capacity_of (stages.Echo s) = echo_acts.capacity s
-capacity_of (stages.Echos s) = echos_acts.capacity s
-capacity_of (stages.Fir s) = fir_acts.capacity s
-capacity_of (stages.Remix s) = remix_acts.capacity s
-capacity_of (stages.Vol s) = vol_acts.capacity s
-capacity_of (stages.DcShift s) = dcshift_acts.capacity s
-
--- its own numbers
-abbrev pub own_of : EffectStage → Own
-own_of (stages.Trim s) = trim_acts.own s
-own_of (stages.Pad s) = pad_acts.own s
-own_of (stages.Fade s) = fade_acts.own s
-own_of (stages.Upsample s) = upsample_acts.own s
-own_of (stages.Downsample s) = downsample_acts.own s
-own_of (stages.Delay s) = delay_acts.own s
-own_of (stages.Echo s) = echo_acts.own s
-own_of (stages.Echos s) = echos_acts.own s
-own_of (stages.Fir s) = fir_acts.own s
-own_of (stages.Remix s) = remix_acts.own s
-own_of (stages.Vol s) = vol_acts.own s
-own_of (stages.DcShift s) = dcshift_acts.own s
+stored_of s = (look_of s).stored
 
 -- what holds of it at every moment
 abbrev pub sound_of : EffectStage → Type 0
@@ -193,13 +129,13 @@ abbrev pub effect_acts : Acts EffectStage EffectRecipe
 effect_acts = record {
   recipe = recipe_of;
   kind_of = kind_of_recipe;
-  meaning = meaning_of_recipe;
-  rest = rest_of;
-  counts = counts_of;
-  dry = dry_of;
+  meaning = λ r. (settled_of r).meaning;
+  rest = λ s. (look_of s).rest;
+  counts = λ s. (look_of s).counts;
+  dry = λ s. (look_of s).dry;
   stored = stored_of;
-  capacity = capacity_of;
-  own = own_of;
+  capacity = λ s. (look_of s).capacity;
+  own = λ s. (look_of s).own;
 }
 
 -- more frames in give no fewer out

@@ -13,7 +13,7 @@ ghost use Rattle.fx_stages.specs.Made.{all_suit, recipe_for, recipes_for, suits}
 
 use crate::stage::EffectStage;
 use fx_cut::{Downsample, Fade, Pad, Trim, Upsample};
-use fx_plan::inner::{Echoing, Effect, Fading};
+use fx_plan::inner::Effect;
 use fx_tap::{DcShift, Delay, Echo, Echos, Fir, Remix, Vol};
 use std::alloc::{AllocError, Global};
 
@@ -29,33 +29,15 @@ fn stage_of(alloc: Global, channels: usize, effect: &Effect) -> Result<EffectSta
         Effect::Trim(at) => Ok(EffectStage::Trim(Trim::new(alloc, channels, at)?)),
         Effect::Pad(pads) => Ok(EffectStage::Pad(Pad::new(alloc, channels, pads)?)),
         Effect::Delay(delays) => Ok(EffectStage::Delay(Delay::new(alloc, channels, delays)?)),
-        Effect::Echo(echo) => {
-            let Echoing {
-                gain_in,
-                gain_out,
-                taps,
-            } = echo;
-            let echo = Echo::new(alloc, channels, *gain_in, *gain_out, taps)?;
-            Ok(EffectStage::Echo(echo))
-        }
-        Effect::Echos(echo) => {
-            let Echoing {
-                gain_in,
-                gain_out,
-                taps,
-            } = echo;
-            let echos = Echos::new(alloc, channels, *gain_in, *gain_out, taps)?;
-            Ok(EffectStage::Echos(echos))
-        }
-        Effect::Fade(fade) => {
-            let Fading {
-                fade_in,
-                stop,
-                fade_out,
-            } = *fade;
-            let fade = Fade::new(alloc, channels, fade_in, stop, fade_out)?;
-            Ok(EffectStage::Fade(fade))
-        }
+        Effect::Echo(e) => Ok(EffectStage::Echo(Echo::new(
+            alloc, channels, e.gain_in, e.gain_out, &e.taps,
+        )?)),
+        Effect::Echos(e) => Ok(EffectStage::Echos(Echos::new(
+            alloc, channels, e.gain_in, e.gain_out, &e.taps,
+        )?)),
+        Effect::Fade(f) => Ok(EffectStage::Fade(Fade::new(
+            alloc, channels, f.fade_in, f.stop, f.fade_out,
+        )?)),
         Effect::Vol(gain) => Ok(EffectStage::Vol(Vol::new(channels, *gain))),
         Effect::DcShift(shift) => Ok(EffectStage::DcShift(DcShift::new(channels, *shift))),
         Effect::Fir(gains) => Ok(EffectStage::Fir(Fir::new(alloc, channels, gains)?)),
