@@ -1,0 +1,4 @@
+pub mod Numbers
+pub mod Residues
+pub mod Cyclic
+pub mod Halves

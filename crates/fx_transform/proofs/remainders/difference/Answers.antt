@@ -1,0 +1,15 @@
+use Rattle.std.proofs.Common.{rules, arith, ◌≡◌, ◌+◌, ◌-◌, ◌*◌, ◌/◌, ◌%◌, ◌<◌, ◌≤◌, ◌^◌, ◌∙◌, ap, sym, ℕ, ℤ, pos, neg_ℤ, ◌+ℤ◌, ◌*ℤ◌, to_z, of_z, w32, w64}
+use Rattle.std.specs.Prelude.{◌-ℤ◌}
+use Rattle.std.proofs.lemmas.Int.{ints}
+use Rattle.std.proofs.Math.Nat.{div-add-mod}
+use Rattle.fx_transform.specs.Residues.{Same}
+use Rattle.fx_transform.proofs.Residues.{same_is, same_less, same_more}
+use Rattle.fx_transform.proofs.remainders.difference.Goals as goal
+
+pub returns-then-b-a-clause-same : goal.returns-then-b-a-clause-same
+returns-then-b-a-clause-same g c = same_is (pos g.row.P) (pos (c.args.a - c.args.b)) (pos c.args.a -ℤ pos c.args.b) (omega (arith, ints))
+
+pub returns-else-b-a-clause-same : goal.returns-else-b-a-clause-same
+returns-else-b-a-clause-same g c =
+    let once : pos g.row.P *ℤ pos 1 ≡ pos g.row.P = ap pos (omega arith) in
+    (pos 1, omega (arith, ints))

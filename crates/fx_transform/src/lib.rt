@@ -1,0 +1,5 @@
+//! Sums of a long list of weights times the samples of a window, by transforms modulo two numbers.
+#![tactic(auto)]
+
+mod remainders;
+mod transform;
