@@ -1,4 +1,6 @@
 pub mod Numbers
 pub mod Residues
+pub mod Writes
 pub mod Cyclic
 pub mod Halves
+pub mod Steps

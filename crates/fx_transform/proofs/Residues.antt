@@ -1,6 +1,9 @@
 -- Numbers that are the same modulo another one.
-use Rattle.std.proofs.Common.{◌≡◌, ◌+◌, ◌*◌, ◌%◌, ◌/◌, ℕ, ap, sym, arith, ℤ, pos, neg_ℤ, ◌*ℤ◌, ◌+ℤ◌}
-use Rattle.std.proofs.lemmas.Int.{ints}
+use Rattle.std.proofs.Common.{◌≡◌, ◌+◌, ◌-◌, ◌*◌, ◌%◌, ◌/◌, ◌^◌, ◌<◌, ◌≤◌, ℕ, suc, ap, sym, arith, ℤ, pos, negsuc, neg_ℤ, ◌*ℤ◌, ◌+ℤ◌, to_z, of_z, w64, unsigned_abs}
+use Rattle.std.proofs.Math.IntN.{nat_abs}
+use lib.Signed.{mag}
+use Rattle.std.specs.Prelude.{◌-ℤ◌}
+use Rattle.std.proofs.lemmas.Int.{ints, fits_signed_from_abs, to_z-of_z}
 use Rattle.std.proofs.Math.IntN.{*ℤ_comm}
 use borrow.Author.Differences.{product_is}
 use Rattle.fx_transform.specs.Residues.{Same}
@@ -45,3 +48,30 @@ pub same_more : (p a b k : ℕ) → a ≡ b + p * k → Same (pos p) (pos a) (po
 same_more p a b k e =
     let product : pos p *ℤ pos k ≡ pos (p * k) = ap pos (omega arith) in
     (pos k, omega (arith, ints))
+
+pub same_opposite : (p a b c d : ℤ) → Same p a b → Same p c d → Same p (a -ℤ c) (b -ℤ d)
+same_opposite p a b c d h g = let e = h.1 in let f = g.1 in let turned = mul-neg p g.0 in let parts = mul-add p h.0 (neg_ℤ g.0) in (h.0 +ℤ neg_ℤ g.0, omega (arith, ints))
+
+-- a sample of 32 bits, made positive
+pub same_shifted : (p : ℕ) (x : ℤ) → mag x < 2 ^ 31 → 2 ^ 30 < p → Same (pos p) (pos (nat_abs (x +ℤ pos 2147483648) + (2 * p - 2147483648))) x
+same_shifted p (pos n) small least =
+    let twice : pos p *ℤ pos 2 ≡ pos (p * 2) = ap pos (omega arith) in
+    (pos 2, omega (arith, ints))
+same_shifted p (negsuc n) small least =
+    let twice : pos p *ℤ pos 2 ≡ pos (p * 2) = ap pos (omega arith) in
+    let up : negsuc n +ℤ pos 2147483648 ≡ pos (2147483648 - suc n) = omega (arith, ints) in
+    rw up (pos 2, omega (arith, ints))
+
+pub shifted_few : (x : ℤ) → mag x < 2 ^ 31 → unsigned_abs (x +ℤ pos 2147483648) ≤ 2 ^ 32
+shifted_few (pos n) small = omega (arith, ints)
+shifted_few (negsuc n) small =
+    let up : negsuc n +ℤ pos 2147483648 ≡ pos (2147483648 - suc n) = omega (arith, ints) in
+    rw up (omega arith)
+
+pub sample_few : (x : ℤ) → mag x < 2 ^ 31 → unsigned_abs x ≤ 2 ^ 31
+sample_few (pos n) small = omega (arith, ints)
+sample_few (negsuc n) small = omega (arith, ints)
+
+-- what fits 64 bits
+pub held : (z : ℤ) → unsigned_abs z ≤ 2 ^ 62 → to_z w64 (of_z w64 z) ≡ z
+held z few = to_z-of_z w64 z (fits_signed_from_abs w64 z (omega (arith, few)))

@@ -7,9 +7,9 @@ use Rattle.fx_transform.proofs.Residues.{same_is, same_less, same_more}
 use Rattle.fx_transform.proofs.remainders.difference.Goals as goal
 
 pub returns-then-b-a-clause-same : goal.returns-then-b-a-clause-same
-returns-then-b-a-clause-same g c = same_is (pos g.row.P) (pos (c.args.a - c.args.b)) (pos c.args.a -ℤ pos c.args.b) (omega (arith, ints))
+returns-then-b-a-clause-same c = same_is (pos c.args.p) (pos (c.args.a - c.args.b)) (pos c.args.a -ℤ pos c.args.b) (omega (arith, ints))
 
 pub returns-else-b-a-clause-same : goal.returns-else-b-a-clause-same
-returns-else-b-a-clause-same g c =
-    let once : pos g.row.P *ℤ pos 1 ≡ pos g.row.P = ap pos (omega arith) in
+returns-else-b-a-clause-same c =
+    let once : pos c.args.p *ℤ pos 1 ≡ pos c.args.p = ap pos (omega arith) in
     (pos 1, omega (arith, ints))

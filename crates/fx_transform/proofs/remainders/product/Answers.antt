@@ -7,6 +7,7 @@ use Rattle.fx_transform.proofs.Residues.{same_is, same_less, same_more}
 use Rattle.fx_transform.proofs.remainders.product.Goals as goal
 
 pub returns-clause-same : goal.returns-clause-same
-returns-clause-same g c =
-    let whole = div-add-mod (c.args.a * c.args.b) g.row.P in
-    rw (c.from.ensures, c.from-2.ensures) (same_less g.row.P ((c.args.a * c.args.b) % g.row.P) (c.args.a * c.args.b) ((c.args.a * c.args.b) / g.row.P) (omega arith))
+returns-clause-same c =
+    let whole = div-add-mod (c.args.a * c.args.b) c.args.p in
+    let is : c.modulo.result ≡ (c.args.a * c.args.b) % c.args.p = rw (c.from.ensures, c.from-2.ensures) at c.modulo.ensures in
+    same_less c.args.p c.modulo.result (c.args.a * c.args.b) ((c.args.a * c.args.b) / c.args.p) (omega arith)

@@ -6,8 +6,8 @@ use Rattle.fx_transform.specs.Residues.{Same}
 use Rattle.fx_transform.proofs.Residues.{same_is, same_less, same_more}
 use Rattle.fx_transform.proofs.remainders.sum.Goals as goal
 
-pub returns-then-from-clause-same : goal.returns-then-from-clause-same
-returns-then-from-clause-same g c = same_less g.row.P (c.args.a + c.args.b) (c.args.a + c.args.b) 0 (omega arith)
+pub returns-then-total-p-clause-same : goal.returns-then-total-p-clause-same
+returns-then-total-p-clause-same c = same_less c.args.p (c.args.a + c.args.b) (c.args.a + c.args.b) 0 (omega arith)
 
-pub returns-else-from-clause-same : goal.returns-else-from-clause-same
-returns-else-from-clause-same g c = same_less g.row.P (c.args.a + c.args.b - g.row.P) (c.args.a + c.args.b) 1 (omega arith)
+pub returns-else-total-p-clause-same : goal.returns-else-total-p-clause-same
+returns-else-total-p-clause-same c = same_less c.args.p (c.args.a + c.args.b - c.args.p) (c.args.a + c.args.b) 1 (omega arith)

@@ -1,4 +1,4 @@
 use Rattle.fx_transform.proofs.transform.+multiply.Given as goal
 
 abbrev pub decreases-multiply : goal.decreases-multiply
-decreases-multiply g l = l.levels
+decreases-multiply l = l.levels
