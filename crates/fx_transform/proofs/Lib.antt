@@ -4,3 +4,5 @@ pub mod Writes
 pub mod Cyclic
 pub mod Halves
 pub mod Steps
+pub mod Sums
+pub mod Joined

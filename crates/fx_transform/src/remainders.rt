@@ -10,7 +10,7 @@ pub(crate) const SECOND: u32 = 1_811_939_329;
 
 /// The remainder of a number. Each modulus is a constant where it divides, since that is a multiplication and shifts.
 #[inline(always)]
-fn modulo(number: u64, p: u32) -> u32
+pub(crate) fn modulo(number: u64, p: u32) -> u32
     requires modulus { IsModulus p }
     ensures { result ≡ number % p }
 {
