@@ -75,3 +75,12 @@ sample_few (negsuc n) small = omega (arith, ints)
 -- what fits 64 bits
 pub held : (z : ℤ) → unsigned_abs z ≤ 2 ^ 62 → to_z w64 (of_z w64 z) ≡ z
 held z few = to_z-of_z w64 z (fits_signed_from_abs w64 z (omega (arith, few)))
+
+-- what adds up to 0
+pub same_negative : (p a b c : ℤ) → Same p b a → Same p (pos 0) (b +ℤ c) → Same p a (neg_ℤ c)
+same_negative p a b c is none =
+    let e = is.1 in
+    let f = none.1 in
+    let turned = mul-neg p (is.0 +ℤ none.0) in
+    let parts = mul-add p is.0 none.0 in
+    (neg_ℤ (is.0 +ℤ none.0), omega (arith, ints))

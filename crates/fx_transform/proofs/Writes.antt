@@ -1,9 +1,9 @@
 -- Lists of remainders that are written place by place.
-use Rattle.std.proofs.Common.{◌≡◌, ◌≢◌, ◌+◌, ◌-◌, ◌<◌, ◌≤◌, refl, ℕ, List, ◌++◌, length, get_or, set, take, drop, arith, below_more, get_or-set_other, get_or-set_same}
+use Rattle.std.proofs.Common.{◌≡◌, ◌≢◌, ◌+◌, ◌-◌, ◌<◌, ◌≤◌, ◌∙◌, refl, ℕ, zero, suc, ℤ, pos, List, [], ◌∷◌, ◌++◌, length, get_or, set, take, drop, arith, below_more, get_or-set_other, get_or-set_same}
 use Rattle.std.proofs.lemmas.Bool.{cases_lt}
-use Rattle.std.proofs.lemmas.List.{length-set, length-take, length-drop, length-append, get_or-take, get_or-drop, get_or_append_left, get_or-append_right}
+use Rattle.std.proofs.lemmas.List.{length-set, length-take, length-drop, length-append, get_or-take, get_or-drop, get_or_append_left, get_or-append_right, get_or_at}
 use mathlib.Core.Logic.{inl, inr}
-use Rattle.fx_transform.specs.Residues.{AreRemainders}
+use Rattle.fx_transform.specs.Residues.{Same, AreRemainders, AreSame}
 
 -- one place more
 pub each_more : (P : ℕ → ℕ → Type 0) (xs : List ℕ) (i v : ℕ) → i < length xs → P i v → ((k : ℕ) → k < i → P k (get_or xs k 0)) →
@@ -47,4 +47,22 @@ remainders_both p xs ys first second i lt =
     elim (cases_lt i (length xs)) [
       | inl below ↦ rw (get_or_append_left xs ys 0 i below) (first i below)
       | inr above ↦ rw (get_or-append_right xs ys (length xs) i 0 refl above) (second (i - length xs) (omega arith))
+    ]
+
+-- one remainder more behind others
+pub remainder_pushed : (p : ℕ) (xs : List ℕ) (v : ℕ) → v < p → AreRemainders p xs → AreRemainders p (xs ++ v ∷ [])
+remainder_pushed p xs v less are = remainders_both p xs (v ∷ []) are (one v less)
+  where
+    one : (v : ℕ) → v < p → (i : ℕ) → i < 1 → get_or (v ∷ []) i 0 < p
+    one v less zero lt = less
+    one v less (suc i) lt = absurd (omega arith)
+
+pub same_pushed : (p : ℕ) (xs : List ℕ) (v n : ℕ) (zs : List ℤ) → length xs ≡ n → Same (pos p) (pos v) (get_or zs n (pos 0)) → AreSame p xs zs → AreSame p (xs ++ v ∷ []) zs
+same_pushed p xs v n zs long is same i lt =
+    let whole = length-append xs (v ∷ []) in
+    elim (cases_lt i n) [
+      | inl below ↦ rw (get_or_append_left xs (v ∷ []) 0 i (omega arith)) (same i (omega arith))
+      | inr above ↦
+          let here : n ≡ i = omega arith in
+          rw (get_or_at xs v [] 0 i (long ∙ here)) (rw here at is)
     ]

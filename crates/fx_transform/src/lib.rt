@@ -5,4 +5,7 @@ mod joining;
 mod remainders;
 mod roots;
 mod side;
+mod spectrum;
 mod transform;
+
+pub use spectrum::Spectrum;

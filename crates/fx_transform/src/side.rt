@@ -80,6 +80,17 @@ pub(crate) fn prepared(
     }))
 }
 
+/// The sample before a place: 0 before the first one, and beyond the last.
+#[inline(always)]
+fn sample_before(window: &[i32], place: usize) -> i32
+    ensures { result ≡ slice_index_or (pos 0 ∷ window.now) place (pos 0) }
+{
+    if place == 0 || window.len() < place {
+        return 0;
+    }
+    window[place - 1]
+}
+
 /// Writes a zero, the remainders of samples, and zeros behind them.
 fn load(window: &[i32], values: &mut [u32], p: u32)
     requires modulus { IsModulus p }
@@ -89,11 +100,7 @@ fn load(window: &[i32], values: &mut [u32], p: u32)
     ensures same { AreSame p values.new (pos 0 ∷ window.now) }
 {
     'places: for place in 0..values.len() {
-        values[place] = if 0 < place && place <= window.len() {
-            remainder(window[place - 1], p)
-        } else {
-            0
-        };
+        values[place] = remainder(sample_before(window, place), p);
     }
 }
 
