@@ -1,11 +1,11 @@
 -- A cyclic product of padded lists is a list of plain sums.
-use Rattle.std.proofs.Common.{◌≡◌, ◌+◌, ◌-◌, ◌*◌, ◌<◌, ◌≤◌, ◌^◌, ap, ◌∙◌, sym, refl, ℕ, zero, suc, arith, ℤ, pos, negsuc, ◌*ℤ◌, ◌+ℤ◌, List, [], ◌∷◌, ◌++◌, length, get_or, drop, unsigned_abs}
+use Rattle.std.proofs.Common.{◌≡◌, ◌+◌, ◌-◌, ◌*◌, ◌<◌, ◌≤◌, ◌^◌, ap, ◌∙◌, sym, refl, ℕ, zero, suc, arith, ℤ, pos, negsuc, ◌*ℤ◌, ◌+ℤ◌, List, [], ◌∷◌, ◌++◌, length, get_or, drop, take, unsigned_abs}
 use Rattle.std.specs.Prelude.{map, replicate, sum_by}
 use Rattle.std.proofs.Math.IntN.{*ℤ_comm}
 use Rattle.std.proofs.lemmas.Int.{ints, unsigned_abs-mul}
 use Rattle.std.proofs.lemmas.Nat.{mul-le}
 use Rattle.std.proofs.lemmas.Bool.{cases_lt}
-use Rattle.std.proofs.lemmas.List.{length-drop, length-append, length-replicate, length-map, get_or-drop, get_or-replicate, get_or_past}
+use Rattle.std.proofs.lemmas.List.{length-drop, length-append, length-replicate, length-map, length-take-le, get_or-drop, get_or-take, get_or-replicate, get_or_past}
 use Rattle.std.proofs.lemmas.List.Sums.{sum_by-cons}
 use borrow.Author.Differences.{product_is}
 use mathlib.Core.Logic.{inl, inr}
@@ -27,6 +27,16 @@ agree (x ∷ xs) (y ∷ ys) (c ∷ cs) x_long y_long are =
     let rest = agree xs ys cs (omega arith) (omega arith) (λ k h. are (suc k) (omega arith)) in
     let first : x ≡ y = are 0 (omega arith) in
     rw (first, rest) refl
+
+-- a window that is cut behind the places that count
+pub cut : (n i : ℕ) (w ws : List ℤ) → n ≤ length w → i + length ws ≤ n → sum_of_products (drop i (take n w)) ws ≡ sum_of_products (drop i w) ws
+cut n i w ws few lt =
+    let front = length-take-le n w few in
+    let short = length-drop i (take n w) in
+    let long = length-drop i w in
+    agree (drop i (take n w)) (drop i w) ws (omega arith) (omega arith) (λ k below.
+    let inside : i + k < n = omega arith in
+    get_or-drop i (take n w) k (pos 0) ∙ get_or-take n w (i + k) (pos 0) inside ∙ sym (get_or-drop i w k (pos 0)))
 
 zeros : (xs cs : List ℤ) → ((k : ℕ) → get_or cs k (pos 0) ≡ pos 0) → sum_of_products xs cs ≡ pos 0
 zeros [] cs none = refl
@@ -118,7 +128,7 @@ apart (pos x) (negsuc y) = omega (arith, ints)
 apart (negsuc x) (pos y) = omega (arith, ints)
 apart (negsuc x) (negsuc y) = omega (arith, ints)
 
-pub sum-within : (most : ℕ) (xs cs : List ℤ) → ((k : ℕ) → unsigned_abs (get_or xs k (pos 0)) ≤ most) → unsigned_abs (sum_of_products xs cs) ≤ most * sum_by unsigned_abs cs
+sum-within : (most : ℕ) (xs cs : List ℤ) → ((k : ℕ) → unsigned_abs (get_or xs k (pos 0)) ≤ most) → unsigned_abs (sum_of_products xs cs) ≤ most * sum_by unsigned_abs cs
 sum-within most [] cs small = omega arith
 sum-within most (x ∷ xs) [] small = omega arith
 sum-within most (x ∷ xs) (c ∷ cs) small =
@@ -131,3 +141,9 @@ sum-within most (x ∷ xs) (c ∷ cs) small =
     let gain = sum_by-cons unsigned_abs c cs in
     let total : most * (unsigned_abs c + sum_by unsigned_abs cs) ≡ most * unsigned_abs c + most * sum_by unsigned_abs cs = omega arith in
     rw gain (omega arith)
+
+-- a sum of samples of 32 bits and small weights
+pub sum_few : (w ws : List ℤ) (i : ℕ) → ((k : ℕ) → unsigned_abs (get_or w k (pos 0)) ≤ 2 ^ 31) → sum_by unsigned_abs ws ≤ 2 ^ 29 → unsigned_abs (sum_of_products (drop i w) ws) ≤ 2 ^ 60
+sum_few w ws i samples small =
+    let whole = sum-within (2 ^ 31) (drop i w) ws (λ k. rw (get_or-drop i w k (pos 0)) (samples (i + k))) in
+    omega arith

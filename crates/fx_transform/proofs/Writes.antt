@@ -6,9 +6,9 @@ use mathlib.Core.Logic.{inl, inr}
 use Rattle.fx_transform.specs.Residues.{Same, AreRemainders, AreSame}
 
 -- one place more
-pub each_more : (P : ℕ → ℕ → Type 0) (xs : List ℕ) (i v : ℕ) → i < length xs → P i v → ((k : ℕ) → k < i → P k (get_or xs k 0)) →
-    (k : ℕ) → k < i + 1 → P k (get_or (set xs i v) k 0)
-each_more P xs i v lt here before = below_more _ _ (λ k h. let ne : k ≢ i = omega arith in rw get_or-set_other (before k h)) (rw get_or-set_same here)
+pub each_more : {X : Type 0} (d : X) (P : ℕ → X → Type 0) (xs : List X) (i : ℕ) (v : X) → i < length xs → P i v → ((k : ℕ) → k < i → P k (get_or xs k d)) →
+    (k : ℕ) → k < i + 1 → P k (get_or (set xs i v) k d)
+each_more d P xs i v lt here before = below_more _ _ (λ k h. let ne : k ≢ i = omega arith in rw get_or-set_other (before k h)) (rw get_or-set_same here)
 
 -- the places behind it
 pub left_more : (xs ys : List ℕ) (i v : ℕ) → ((k : ℕ) → i ≤ k → get_or xs k 0 ≡ get_or ys k 0) → (k : ℕ) → i + 1 ≤ k → get_or (set xs i v) k 0 ≡ get_or ys k 0
@@ -24,9 +24,9 @@ remainder_set p xs i v lt less are k h =
     first k long = elim (cases_lt k i) [
       | inl below ↦ let ne : k ≢ i = omega arith in rw get_or-set_other (are k long)
       | inr above ↦ elim (cases_lt i k) [
-          | inl over ↦ let ne : k ≢ i = omega arith in rw get_or-set_other (are k long)
-          | inr not ↦ let e : k ≡ i = omega arith in rw (e, get_or-set_same) less
-        ]
+        | inl over ↦ let ne : k ≢ i = omega arith in rw get_or-set_other (are k long)
+        | inr not ↦ let e : k ≡ i = omega arith in rw (e, get_or-set_same) less
+      ]
     ]
 
 -- parts of remainders, and two lists of them joined

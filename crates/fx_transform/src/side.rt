@@ -1,5 +1,5 @@
 //! The work modulo one prime: weights prepared, and the remainders of sums.
-ghost use Rattle.std.specs.Prelude.{◌≡◌, ◌<◌, ◌≤◌, ◌+◌, ℕ, ℤ, List, pos, ◌∷◌, ◌*ℤ◌, drop, length, map, slice_index_or, IfOk, IfSome};
+ghost use Rattle.std.specs.Prelude.{◌≡◌, ◌<◌, ◌≤◌, ◌+◌, ◌^◌, ℕ, ℤ, List, pos, ◌∷◌, ◌*ℤ◌, drop, length, map, slice_index_or, unsigned_abs, IfOk, IfSome};
 ghost use Rattle.fx_transform.specs.Products.{sum_of_products};
 ghost use Rattle.fx_transform.specs.Residues.{AreRemainders, AreSame, IsModulus, Same};
 ghost use Rattle.fx_transform.specs.Sides.{IsSide};
@@ -27,12 +27,7 @@ pub(crate) struct Side {
 }
 
 /// The remainders of weights, each times a scale, with zeros behind them: 2,048 in all.
-fn scaled(
-    alloc: Global,
-    weights: &[i32],
-    scale: u32,
-    p: u32,
-) -> Result<Vec<u32>, AllocError>
+fn scaled(alloc: Global, weights: &[i32], scale: u32, p: u32) -> Result<Vec<u32>, AllocError>
     requires modulus { IsModulus p }
     requires scale { scale < p }
     requires few { length weights.now ≤ 1024 }
@@ -83,7 +78,8 @@ pub(crate) fn prepared(
 /// The sample before a place: 0 before the first one, and beyond the last.
 #[inline(always)]
 fn sample_before(window: &[i32], place: usize) -> i32
-    ensures { result ≡ slice_index_or (pos 0 ∷ window.now) place (pos 0) }
+    ensures sample { result ≡ slice_index_or (pos 0 ∷ window.now) place (pos 0) }
+    ensures few { unsigned_abs result ≤ 2 ^ 31 }
 {
     if place == 0 || window.len() < place {
         return 0;
@@ -98,6 +94,7 @@ fn load(window: &[i32], values: &mut [u32], p: u32)
     requires values { length values.old ≡ 2048 }
     ensures remainders { AreRemainders p values.new }
     ensures same { AreSame p values.new (pos 0 ∷ window.now) }
+    ensures samples { (k : ℕ) → unsigned_abs (slice_index_or window.now k (pos 0)) ≤ 2 ^ 31 }
 {
     'places: for place in 0..values.len() {
         values[place] = remainder(sample_before(window, place), p);
@@ -113,6 +110,7 @@ impl Side {
         requires sums { length sums.old ≡ 2048 }
         ensures remainders { AreRemainders p sums.new }
         ensures sums { (weights : List ℤ) → IsSide p weights self.now.roots.items self.now.inverses.items self.now.spectrum.items → (i : ℕ) → i + length weights ≤ length window.now → Same (pos p) (pos (slice_index_or sums.new i 0)) (sum_of_products (drop i window.now) weights) }
+        ensures samples { (k : ℕ) → unsigned_abs (slice_index_or window.now k (pos 0)) ≤ 2 ^ 31 }
     {
         load(window, sums, p);
         multiply(&self.roots, &self.inverses, 11, 0, &self.spectrum, sums, p);

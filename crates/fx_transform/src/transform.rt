@@ -48,13 +48,7 @@ fn gather(inverse: u32, low: &mut [u32], high: &mut [u32], p: u32)
 }
 
 /// Transforms 2^levels numbers that stand backwards, from a place of the table of roots on.
-pub(crate) fn forward(
-    roots: &[u32],
-    levels: usize,
-    place: usize,
-    values: &mut [u32],
-    p: u32,
-)
+pub(crate) fn forward(roots: &[u32], levels: usize, place: usize, values: &mut [u32], p: u32)
     requires modulus { IsModulus p }
     requires table { length roots.now ≡ 1024 }
     requires roots { AreRemainders p roots.now }
@@ -106,7 +100,23 @@ pub(crate) fn multiply(
     let half = values.len() / 2;
     let (low, high) = values.split_at_mut(half);
     spread(roots[place], low, high, p);
-    multiply(roots, inverses, levels - 1, 2 * place, &spectrum[half..], low, p);
-    multiply(roots, inverses, levels - 1, 2 * place + 1, &spectrum[..half], high, p);
+    multiply(
+        roots,
+        inverses,
+        levels - 1,
+        2 * place,
+        &spectrum[half..],
+        low,
+        p,
+    );
+    multiply(
+        roots,
+        inverses,
+        levels - 1,
+        2 * place + 1,
+        &spectrum[..half],
+        high,
+        p,
+    );
     gather(inverses[place], low, high, p);
 }

@@ -28,6 +28,6 @@ pairs-preserved c =
       high = remainder_set c.args.p c.pairs.high i c.product.result high_lt c.product.ensures.less c.pairs.invariant.high;
       low_left = left_more c.pairs.low c.args.low.now i c.sum.result c.pairs.invariant.low_left;
       high_left = left_more c.pairs.high c.args.high.now i c.product.result c.pairs.invariant.high_left;
-      plus = each_more (λ k v. Same p (pos v) (pos (get_or c.args.low.now k 0) +ℤ pos (get_or c.args.high.now k 0))) c.pairs.low i c.sum.result low_lt added c.pairs.invariant.plus;
-      minus = each_more (λ k v. Same p (pos v) (pos c.args.inverse *ℤ (pos (get_or c.args.low.now k 0) -ℤ pos (get_or c.args.high.now k 0)))) c.pairs.high i c.product.result high_lt scaled c.pairs.invariant.minus;
+      plus = each_more 0 (λ k v. Same p (pos v) (pos (get_or c.args.low.now k 0) +ℤ pos (get_or c.args.high.now k 0))) c.pairs.low i c.sum.result low_lt added c.pairs.invariant.plus;
+      minus = each_more 0 (λ k v. Same p (pos v) (pos c.args.inverse *ℤ (pos (get_or c.args.low.now k 0) -ℤ pos (get_or c.args.high.now k 0)))) c.pairs.high i c.product.result high_lt scaled c.pairs.invariant.minus;
     }

@@ -6,7 +6,7 @@ use Rattle.fx_transform.proofs.spectrum.Spectrum.convolve.Given as goal
 abbrev pub invariant-pieces : goal.invariant-pieces
 invariant-pieces l = record {
   place : l.at ≤ length l.sums;
-  done : (i : ℕ) → i < l.at → get_or l.sums i (pos 0) ≡ sum_of_products (drop i l.window) l.self.weights.items;
+  done : (i : ℕ) → i < l.at → get_or l.sums i (pos 0) ≡ sum_of_products (drop i l.window) l.self;
   few : (i : ℕ) → i < l.at → unsigned_abs (get_or l.sums i (pos 0)) ≤ 2 ^ 61;
 }
 
