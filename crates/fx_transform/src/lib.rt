@@ -9,3 +9,6 @@ mod spectrum;
 mod transform;
 
 pub use spectrum::Spectrum;
+
+#[cfg(test)]
+mod tests;
