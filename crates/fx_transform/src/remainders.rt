@@ -1,5 +1,5 @@
 //! Sums, differences and products of remainders modulo one of two primes.
-ghost use Rattle.std.specs.Prelude.{◌≡◌, ◌<◌, ◌%◌, pos, ◌+ℤ◌, ◌-ℤ◌, ◌*ℤ◌};
+ghost use Rattle.std.specs.Prelude.{◌≡◌, ◌<◌, ◌≤◌, ◌+◌, ◌*◌, ◌%◌, pos, ◌+ℤ◌, ◌-ℤ◌, ◌*ℤ◌};
 ghost use Rattle.fx_transform.specs.Residues.{IsModulus, Same};
 
 /// The first modulus, a prime: 15 * 2^27 + 1.
@@ -8,16 +8,37 @@ pub(crate) const FIRST: u32 = 2_013_265_921;
 /// The second modulus, a prime: 27 * 2^26 + 1.
 pub(crate) const SECOND: u32 = 1_811_939_329;
 
-/// The remainder of a number. Each modulus is a constant where it divides, since that is a multiplication and shifts.
+/// 2^64 over the first modulus, rounded down.
+const FIRST_RECIPROCAL: u128 = 9_162_596_893;
+
+/// 2^64 over the second modulus, rounded down.
+const SECOND_RECIPROCAL: u128 = 10_180_663_214;
+
+/// A number over a modulus, rounded down, or one less. A multiplication by a reciprocal, since divisions are slow.
+#[inline(always)]
+fn quotient(number: u64, p: u32) -> u64
+    requires modulus { IsModulus p }
+    ensures low { result * p ≤ number }
+    ensures high { number < result * p + 2 * p }
+{
+    if p == FIRST {
+        return ((u128::from(number) * FIRST_RECIPROCAL) >> 64) as u64;
+    }
+    ((u128::from(number) * SECOND_RECIPROCAL) >> 64) as u64
+}
+
+/// The remainder of a number.
 #[inline(always)]
 pub(crate) fn modulo(number: u64, p: u32) -> u32
     requires modulus { IsModulus p }
     ensures { result ≡ number % p }
 {
-    if p == FIRST {
-        return (number % u64::from(FIRST)) as u32;
+    let rest = number - quotient(number, p) * u64::from(p);
+    if rest < u64::from(p) {
+        rest as u32
+    } else {
+        (rest - u64::from(p)) as u32
     }
-    (number % u64::from(SECOND)) as u32
 }
 
 /// The remainder of a sum.
