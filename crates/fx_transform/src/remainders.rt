@@ -1,5 +1,5 @@
 //! Sums, differences and products of remainders modulo one of two primes.
-ghost use Rattle.std.specs.Prelude.{◌≡◌, ◌<◌, ◌≤◌, ◌+◌, ◌*◌, ◌%◌, pos, ◌+ℤ◌, ◌-ℤ◌, ◌*ℤ◌};
+ghost use Rattle.std.specs.Prelude.{◌≡◌, ◌<◌, ◌≤◌, ◌+◌, ◌*◌, ◌%◌, ◌^◌, pos, ◌+ℤ◌, ◌-ℤ◌, ◌*ℤ◌};
 ghost use Rattle.fx_transform.specs.Residues.{IsModulus, Same};
 
 /// The first modulus, a prime: 15 * 2^27 + 1.
@@ -8,37 +8,44 @@ pub(crate) const FIRST: u32 = 2_013_265_921;
 /// The second modulus, a prime: 27 * 2^26 + 1.
 pub(crate) const SECOND: u32 = 1_811_939_329;
 
-/// 2^64 over the first modulus, rounded down.
-const FIRST_RECIPROCAL: u128 = 9_162_596_893;
+/// 2^62 over the first modulus, rounded down.
+const FIRST_RECIPROCAL: u64 = 2_290_649_223;
 
-/// 2^64 over the second modulus, rounded down.
-const SECOND_RECIPROCAL: u128 = 10_180_663_214;
+/// 2^62 over the second modulus, rounded down.
+const SECOND_RECIPROCAL: u64 = 2_545_165_803;
 
-/// A number over a modulus, rounded down, or one less. A multiplication by a reciprocal, since divisions are slow.
+/// A number over a modulus, rounded down, or at most two less. Products of 32 bits by a reciprocal: divisions are slow, and
+/// products of 64 bits keep the compiler from several at once.
 #[inline(always)]
 fn quotient(number: u64, p: u32) -> u64
     requires modulus { IsModulus p }
+    requires number { number < 2 ^ 62 }
     ensures low { result * p ≤ number }
-    ensures high { number < result * p + 2 * p }
+    ensures high { number < result * p + 3 * p }
 {
+    let high = u64::from((number >> 30) as u32);
     if p == FIRST {
-        return ((u128::from(number) * FIRST_RECIPROCAL) >> 64) as u64;
+        return (high * FIRST_RECIPROCAL) >> 32;
     }
-    ((u128::from(number) * SECOND_RECIPROCAL) >> 64) as u64
+    (high * SECOND_RECIPROCAL) >> 32
 }
 
 /// The remainder of a number.
 #[inline(always)]
 pub(crate) fn modulo(number: u64, p: u32) -> u32
     requires modulus { IsModulus p }
+    requires number { number < 2 ^ 62 }
     ensures { result ≡ number % p }
 {
-    let rest = number - quotient(number, p) * u64::from(p);
-    if rest < u64::from(p) {
-        rest as u32
-    } else {
-        (rest - u64::from(p)) as u32
+    let modulus = u64::from(p);
+    let rest = number - quotient(number, p) * modulus;
+    if rest < modulus {
+        return rest as u32;
     }
+    if rest < 2 * modulus {
+        return (rest - modulus) as u32;
+    }
+    (rest - 2 * modulus) as u32
 }
 
 /// The remainder of a sum.
