@@ -1,9 +1,8 @@
 -- A product of two lists modulo x^n - s, and the same by two products of half the size: the step of a number-theoretic transform.
-use Rattle.std.proofs.Common.{◌≡◌, ℕ, zero, suc, ◌+◌, ◌-◌, ◌<◌, ◌≤◌, ap, ◌∙◌, sym, refl, arith, ℤ, pos, ◌*ℤ◌, ◌+ℤ◌, List, [], ◌∷◌, ◌++◌, length, drop}
+use Rattle.std.proofs.Common.{◌≡◌, ℕ, zero, suc, ◌+◌, ◌-◌, ◌<◌, ◌≤◌, ap, ◌∙◌, refl, arith, ℤ, pos, ◌*ℤ◌, ◌+ℤ◌, List, [], ◌∷◌, ◌++◌, length, drop}
 use Rattle.std.proofs.lemmas.Int.{ints}
 use Rattle.std.proofs.lemmas.List.{drop_all, length-drop, length-append, drop-append-le}
 use borrow.Author.Differences.{product_is}
-use Rattle.std.proofs.Math.IntN.{*ℤ_comm}
 use Rattle.fx_transform.specs.Products.{sum_of_products}
 use Rattle.fx_transform.specs.Transform.{cyclic, combined}
 use Rattle.fx_transform.proofs.Numbers.{mul-add, add-mul, mul_assoc, mul_swap}

@@ -1,5 +1,5 @@
 -- The product modulo x^2m - s and a number p, by two products modulo x^m - r and x^m + r, where r is a root of s.
-use Rattle.std.proofs.Common.{◌≡◌, ℕ, ◌+◌, ◌*◌, ◌-◌, ◌<◌, ap, ◌∙◌, sym, refl, arith, ℤ, pos, neg_ℤ, ◌*ℤ◌, ◌+ℤ◌, List, ◌++◌, length, drop}
+use Rattle.std.proofs.Common.{◌≡◌, ℕ, ◌+◌, ◌*◌, ◌-◌, ◌<◌, ap, ◌∙◌, refl, arith, ℤ, pos, neg_ℤ, ◌*ℤ◌, ◌+ℤ◌, List, ◌++◌, length, drop}
 use Rattle.std.specs.Prelude.{◌-ℤ◌}
 use Rattle.std.proofs.lemmas.Int.{ints}
 use Rattle.std.proofs.lemmas.List.{length-drop}

@@ -1,5 +1,5 @@
 -- One step of a transform of 2^levels numbers, and what each half is.
-use Rattle.std.proofs.Common.{◌≡◌, ◌+◌, ◌-◌, ◌*◌, ◌/◌, ◌^◌, ◌<◌, ◌≤◌, ◌∙◌, sym, ap, refl, ℕ, zero, suc, ℤ, pos, neg_ℤ, ◌*ℤ◌, ◌+ℤ◌, List, [], ◌∷◌, ◌++◌, length, get_or, take, drop, arith, subst}
+use Rattle.std.proofs.Common.{◌≡◌, ◌+◌, ◌-◌, ◌*◌, ◌/◌, ◌^◌, ◌<◌, ◌≤◌, ◌∙◌, ap, refl, ℕ, zero, suc, ℤ, pos, neg_ℤ, ◌*ℤ◌, ◌+ℤ◌, List, [], ◌∷◌, ◌++◌, length, get_or, take, drop, arith}
 use Rattle.std.specs.Prelude.{◌-ℤ◌}
 use Rattle.std.proofs.Math.Nat.{pow-suc}
 use Rattle.std.proofs.lemmas.Int.{ints}
@@ -8,10 +8,9 @@ use Rattle.std.proofs.lemmas.Nat.{mul-le}
 use Rattle.std.proofs.lemmas.List.{length-drop, length-take-le, take-append-drop, drop_at, get_or_append_left, get_or-append_right, get_or-take, get_or-drop}
 use borrow.Author.Differences.{product_is}
 use mathlib.Core.Logic.{inl, inr}
-use Rattle.fx_transform.specs.Residues.{Same, AreRemainders, AreSame}
-use Rattle.fx_transform.specs.Transform.{AreRoots, IsTransform, IsProduct, combined, cyclic, root_at}
+use Rattle.fx_transform.specs.Residues.{Same, AreSame}
+use Rattle.fx_transform.specs.Transform.{IsTransform, IsProduct, combined, root_at}
 use Rattle.fx_transform.proofs.Residues.{same_is, same_on, same_add, same_mul, same_times}
-use Rattle.fx_transform.proofs.Cyclic.{length-combined}
 use Rattle.fx_transform.proofs.Halves.{low_half, high_half}
 
 -- ---- sizes

@@ -1,5 +1,5 @@
 -- Whole numbers modulo another one.
-use Rattle.std.specs.Prelude.{ℕ, ◌≡◌, ◌<◌, ◌+◌, ◌^◌, ◌⊎◌, List, ℤ, pos, ◌*ℤ◌, ◌+ℤ◌, length, slice_index_or}
+use Rattle.std.specs.Prelude.{ℕ, ◌≡◌, ◌<◌, ◌^◌, ◌⊎◌, List, ℤ, pos, ◌*ℤ◌, ◌+ℤ◌, length, slice_index_or}
 
 -- equal but for a multiple of p
 abbrev pub Same : ℤ → ℤ → ℤ → Type 0

@@ -1,5 +1,5 @@
 -- The product of two lists modulo x^n - s and a number p, by a transform.
-use Rattle.std.specs.Prelude.{ℕ, zero, suc, ◌+◌, ◌-◌, ◌*◌, ◌^◌, ◌<◌, ◌≡◌, List, [], ◌∷◌, ℤ, pos, neg_ℤ, ◌*ℤ◌, ◌+ℤ◌, length, drop, take, slice_index_or}
+use Rattle.std.specs.Prelude.{ℕ, zero, suc, ◌+◌, ◌-◌, ◌*◌, ◌^◌, ◌<◌, List, [], ◌∷◌, ℤ, pos, neg_ℤ, ◌*ℤ◌, ◌+ℤ◌, length, drop, take, slice_index_or}
 use Rattle.fx_transform.specs.Products.{sum_of_products}
 use Rattle.fx_transform.specs.Residues.{Same}
 

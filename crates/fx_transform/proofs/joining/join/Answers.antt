@@ -1,4 +1,4 @@
-use Rattle.std.proofs.Common.{arith, rules, to_z, of_z, w64, ◌≡◌, ◌%◌, ◌+◌, ◌*◌, refl}
+use Rattle.std.proofs.Common.{rules, to_z, of_z, w64, ◌≡◌, ◌%◌, ◌+◌, ◌*◌, refl}
 use Rattle.fx_transform.proofs.Joined.{joined}
 use Rattle.fx_transform.proofs.joining.join.Goals as goal
 

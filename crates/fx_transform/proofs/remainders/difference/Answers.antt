@@ -1,9 +1,7 @@
-use Rattle.std.proofs.Common.{rules, arith, ◌≡◌, ◌+◌, ◌-◌, ◌*◌, ◌/◌, ◌%◌, ◌<◌, ◌≤◌, ◌^◌, ◌∙◌, ap, sym, ℕ, ℤ, pos, neg_ℤ, ◌+ℤ◌, ◌*ℤ◌, to_z, of_z, w32, w64}
+use Rattle.std.proofs.Common.{arith, ◌≡◌, ◌-◌, ap, pos, ◌*ℤ◌}
 use Rattle.std.specs.Prelude.{◌-ℤ◌}
 use Rattle.std.proofs.lemmas.Int.{ints}
-use Rattle.std.proofs.Math.Nat.{div-add-mod}
-use Rattle.fx_transform.specs.Residues.{Same}
-use Rattle.fx_transform.proofs.Residues.{same_is, same_less, same_more}
+use Rattle.fx_transform.proofs.Residues.{same_is}
 use Rattle.fx_transform.proofs.remainders.difference.Goals as goal
 
 pub returns-then-b-a-clause-same : goal.returns-then-b-a-clause-same

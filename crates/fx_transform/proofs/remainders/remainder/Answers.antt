@@ -1,7 +1,6 @@
-use Rattle.std.proofs.Common.{rules, arith, ◌≡◌, ◌+◌, ◌-◌, ◌*◌, ◌/◌, ◌%◌, ◌<◌, ◌≤◌, ◌^◌, ◌∙◌, ap, ℕ, ℤ, pos, ◌+ℤ◌, to_z, of_z, w32, w64, unsigned_abs}
+use Rattle.std.proofs.Common.{rules, arith, ◌≡◌, ◌+◌, ◌-◌, ◌*◌, ◌/◌, ◌%◌, ◌∙◌, ℕ, ℤ, pos, ◌+ℤ◌}
 use Rattle.std.proofs.Math.IntN.{nat_abs}
 use Rattle.std.proofs.Math.Nat.{div-add-mod}
-use Rattle.fx_transform.specs.Residues.{Same}
 use Rattle.fx_transform.proofs.Residues.{same_less, same_on, same_shifted, shifted_few, sample_few, held}
 use Rattle.fx_transform.proofs.remainders.remainder.Goals as goal
 

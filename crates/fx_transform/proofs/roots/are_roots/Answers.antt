@@ -1,7 +1,7 @@
-use Rattle.std.proofs.Common.{arith, ◌≡◌, ◌+◌, ◌*◌, ◌<◌, ◌≤◌, ℕ, ℤ, pos, neg_ℤ, ◌+ℤ◌, ◌*ℤ◌, get_or, below_more, ap}
+use Rattle.std.proofs.Common.{arith, ◌≡◌, ◌+◌, ◌*◌, ℤ, pos, neg_ℤ, ◌*ℤ◌, get_or, below_more, ap}
 use Rattle.fx_transform.specs.Residues.{Same}
 use Rattle.fx_transform.specs.Transform.{root_at}
-use Rattle.fx_transform.proofs.Residues.{same_negative, same_is, same_sym, same_on}
+use Rattle.fx_transform.proofs.Residues.{same_negative, same_is, same_sym}
 use Rattle.fx_transform.proofs.roots.are_roots.Goals as goal
 
 pub squares-preserved : goal.squares-preserved

@@ -1,4 +1,4 @@
-use Rattle.std.proofs.Common.{arith, rules, ◌≡◌, ◌<◌, ◌≤◌, ◌^◌, suc, unsigned_abs, below_more, ℕ, ℤ, pos, ◌∷◌, length, get_or, to_z, of_z, w32}
+use Rattle.std.proofs.Common.{arith, rules, ◌≡◌, ◌<◌, ◌≤◌, ◌^◌, suc, unsigned_abs, below_more, ℤ, pos, ◌∷◌, length, get_or, to_z, of_z, w32}
 use Rattle.std.proofs.lemmas.Bool.{cases_lt}
 use Rattle.std.proofs.lemmas.List.{get_or_past}
 use mathlib.Core.Logic.{inl, inr}

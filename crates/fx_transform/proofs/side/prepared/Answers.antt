@@ -1,9 +1,9 @@
-use Rattle.std.proofs.Common.{arith, rules, ap, ◌≡◌, ◌+◌, ◌*◌, ◌<◌, ◌≤◌, ◌∙◌, ℕ, ℤ, pos, ◌*ℤ◌, List, ◌++◌, length, get_or, drop, take}
+use Rattle.std.proofs.Common.{arith, rules, ap, ◌≡◌, ℕ, ℤ, pos, ◌*ℤ◌, List, ◌++◌, length, drop, take}
 use Rattle.std.specs.Bool.{IsTrue}
 use Rattle.std.specs.Prelude.{map, true}
 use Rattle.std.proofs.lemmas.List.{take_at, length-map}
-use Rattle.fx_transform.specs.Residues.{Same, AreRemainders, AreSame}
-use Rattle.fx_transform.specs.Sides.{IsSide, padded}
+use Rattle.fx_transform.specs.Residues.{AreSame}
+use Rattle.fx_transform.specs.Sides.{padded}
 use Rattle.fx_transform.proofs.Residues.{same_sym}
 use Rattle.fx_transform.proofs.Sums.{padded_at, length-padded}
 use Rattle.fx_transform.proofs.side.prepared.Goals as goal

@@ -1,7 +1,7 @@
-use Rattle.std.proofs.Common.{arith, rules, to_z, of_z, w32, ◌≡◌, ◌+◌, ◌-◌, ◌<◌, ◌≤◌, ◌∙◌, sym, ℕ, ℤ, pos, ◌*ℤ◌, List, ◌++◌, ◌∷◌, [], length, get_or, refl}
+use Rattle.std.proofs.Common.{arith, rules, to_z, of_z, w32, ◌≡◌, ◌<◌, ℕ, ℤ, pos, ◌*ℤ◌, ◌∷◌, [], get_or, refl}
 use Rattle.std.specs.Prelude.{map}
 use Rattle.std.proofs.lemmas.List.{get_or_past, get_or-map, length-map, length-append}
-use Rattle.fx_transform.specs.Residues.{Same, AreRemainders, AreSame}
+use Rattle.fx_transform.specs.Residues.{Same}
 use Rattle.fx_transform.proofs.Residues.{same_is, same_on, same_mul}
 use Rattle.fx_transform.proofs.Writes.{remainder_pushed, same_pushed}
 use Rattle.fx_transform.proofs.side.scaled.Goals as goal

@@ -1,4 +1,4 @@
-use Rattle.std.proofs.Common.{◌≡◌, ◌<◌, ℕ, pos, ◌*ℤ◌, length}
+use Rattle.std.proofs.Common.{◌≡◌, pos, ◌*ℤ◌, length}
 use Rattle.std.specs.Prelude.{map}
 use Rattle.fx_transform.specs.Residues.{AreRemainders, AreSame}
 use Rattle.fx_transform.proofs.side.scaled.Given as goal

@@ -1,8 +1,8 @@
-use Rattle.std.proofs.Common.{rules, arith, ◌≡◌, ◌+◌, ◌-◌, ◌*◌, ◌/◌, ◌^◌, ◌<◌, ◌≤◌, ◌∙◌, ap, sym, ℕ, ℤ, List, pos, neg_ℤ, ◌+ℤ◌, ◌*ℤ◌, length, take, drop}
+use Rattle.std.proofs.Common.{arith, ◌≡◌, ◌-◌, ◌/◌, ◌∙◌, ℕ, ℤ, neg_ℤ, length, take, drop}
 use Rattle.std.proofs.lemmas.List.{length-drop, length-take-le}
-use Rattle.fx_transform.specs.Residues.{Same, AreRemainders, AreSame}
-use Rattle.fx_transform.specs.Transform.{IsTransform, combined, root_at}
-use Rattle.fx_transform.proofs.Steps.{Halved, halved, place_left, place_right, place_less, transform_one, transform_both, combined_same, same_front, same_back}
+use Rattle.fx_transform.specs.Residues.{AreSame}
+use Rattle.fx_transform.specs.Transform.{combined, root_at}
+use Rattle.fx_transform.proofs.Steps.{halved, place_left, place_right, place_less, transform_one, transform_both, combined_same, same_front, same_back}
 use Rattle.fx_transform.proofs.Cyclic.{length-combined}
 use Rattle.fx_transform.proofs.transform.+forward.Goals as goal
 

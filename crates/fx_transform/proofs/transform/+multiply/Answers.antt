@@ -1,10 +1,10 @@
-use Rattle.std.proofs.Common.{rules, arith, ◌≡◌, ◌+◌, ◌-◌, ◌*◌, ◌/◌, ◌^◌, ◌<◌, ◌≤◌, ◌∙◌, ap, sym, refl, ℕ, ℤ, List, pos, neg_ℤ, ◌+ℤ◌, ◌*ℤ◌, length, take, drop, get_or-set_same}
+use Rattle.std.proofs.Common.{arith, ◌≡◌, ◌-◌, ◌/◌, ◌∙◌, refl, ℕ, ℤ, neg_ℤ, length, take, drop, get_or-set_same}
 use Rattle.std.proofs.lemmas.List.{length-drop, length-take-le, take_all}
-use Rattle.fx_transform.specs.Residues.{Same, AreRemainders, AreSame}
-use Rattle.fx_transform.specs.Transform.{IsTransform, IsProduct, combined, root_at}
+use Rattle.fx_transform.specs.Residues.{AreSame}
+use Rattle.fx_transform.specs.Transform.{IsProduct, combined, root_at}
 use Rattle.fx_transform.proofs.Cyclic.{length-combined}
 use Rattle.fx_transform.proofs.Writes.{remainders_front, remainders_back, remainders_both}
-use Rattle.fx_transform.proofs.Steps.{Halved, halved, place_left, place_right, place_less, place_even, one_transform, both_transforms, combined_same, same_front, same_back, product_one, product_both}
+use Rattle.fx_transform.proofs.Steps.{halved, place_left, place_right, place_less, place_even, one_transform, both_transforms, combined_same, same_front, same_back, product_one, product_both}
 use Rattle.fx_transform.proofs.transform.+multiply.Goals as goal
 
 pub returns-then-levels-eq0-clause-product : goal.returns-then-levels-eq0-clause-product

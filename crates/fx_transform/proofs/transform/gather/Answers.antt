@@ -1,9 +1,7 @@
-use Rattle.std.proofs.Common.{rules, arith, ◌≡◌, ◌+◌, ◌<◌, ◌≤◌, ◌∙◌, ap, sym, ℕ, ℤ, pos, neg_ℤ, ◌+ℤ◌, ◌*ℤ◌, length, get_or, get_or-set_same}
+use Rattle.std.proofs.Common.{arith, ◌<◌, ap, ℤ, pos, ◌+ℤ◌, ◌*ℤ◌, length, get_or}
 use Rattle.std.specs.Prelude.{◌-ℤ◌}
-use Rattle.std.proofs.lemmas.Int.{ints}
-use Rattle.fx_transform.specs.Residues.{Same, AreRemainders}
-use Rattle.fx_transform.proofs.Numbers.{neg-mul}
-use Rattle.fx_transform.proofs.Residues.{same_refl, same_is, same_on, same_add, same_mul, same_opposite}
+use Rattle.fx_transform.specs.Residues.{Same}
+use Rattle.fx_transform.proofs.Residues.{same_is, same_on, same_add, same_mul, same_opposite}
 use Rattle.fx_transform.proofs.Writes.{each_more, left_more, remainder_set}
 use Rattle.fx_transform.proofs.transform.gather.Goals as goal
 

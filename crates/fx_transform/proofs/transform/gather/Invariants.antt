@@ -1,4 +1,4 @@
-use Rattle.std.proofs.Common.{◌≡◌, ◌<◌, ◌≤◌, ℕ, pos, neg_ℤ, ◌+ℤ◌, ◌*ℤ◌, length, slice_index_or}
+use Rattle.std.proofs.Common.{◌≡◌, ◌<◌, ◌≤◌, ℕ, pos, ◌+ℤ◌, ◌*ℤ◌, slice_index_or}
 use Rattle.std.specs.Prelude.{◌-ℤ◌}
 use Rattle.fx_transform.specs.Residues.{Same, AreRemainders}
 use Rattle.fx_transform.proofs.transform.gather.Given as goal

@@ -1,5 +1,4 @@
-use Rattle.std.proofs.Common.{◌≡◌, ◌<◌, ◌≤◌, ℕ, pos, neg_ℤ, ◌+ℤ◌, ◌*ℤ◌, length, slice_index_or}
-use Rattle.std.specs.Prelude.{◌-ℤ◌}
+use Rattle.std.proofs.Common.{◌≡◌, ◌<◌, ◌≤◌, ℕ, pos, neg_ℤ, ◌+ℤ◌, ◌*ℤ◌, slice_index_or}
 use Rattle.fx_transform.specs.Residues.{Same, AreRemainders}
 use Rattle.fx_transform.proofs.transform.spread.Given as goal
 

@@ -1,10 +1,10 @@
-use Rattle.std.proofs.Common.{arith, rules, ◌≡◌, ◌+◌, ◌*◌, ◌<◌, ◌≤◌, ◌∙◌, ℕ, ℤ, pos, ◌*ℤ◌, List, ◌∷◌, length, get_or, drop}
+use Rattle.std.proofs.Common.{arith, ◌≡◌, ℤ, pos, ◌*ℤ◌, List, ◌∷◌, length, get_or}
 use Rattle.std.specs.Prelude.{map}
 use Rattle.std.proofs.lemmas.List.{length-map}
 use Rattle.fx_transform.specs.Residues.{Same, AreSame}
 use Rattle.fx_transform.specs.Transform.{IsTransform, root_at}
-use Rattle.fx_transform.specs.Sides.{IsSide, padded}
-use Rattle.fx_transform.proofs.Residues.{same_on, same_mul}
+use Rattle.fx_transform.specs.Sides.{padded}
+use Rattle.fx_transform.proofs.Residues.{same_on}
 use Rattle.fx_transform.proofs.Sums.{plain_sum, padded_at, length-padded}
 use Rattle.fx_transform.proofs.side.Side.sums.Goals as goal
 

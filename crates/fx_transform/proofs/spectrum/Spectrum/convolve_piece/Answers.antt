@@ -1,4 +1,4 @@
-use Rattle.std.proofs.Common.{arith, rules, ap, ◌≡◌, ◌+◌, ◌*◌, ◌<◌, ◌≤◌, ◌^◌, ◌∙◌, ℕ, ℤ, pos, List, length, get_or, drop, take, to_z, of_z, w64, unsigned_abs}
+use Rattle.std.proofs.Common.{arith, rules, ap, ◌≡◌, ◌<◌, ◌≤◌, ◌^◌, ℕ, ℤ, pos, List, length, get_or, drop, take, to_z, of_z, w64, unsigned_abs}
 use Rattle.std.proofs.lemmas.List.{length-take-le}
 use Rattle.fx_transform.specs.Products.{sum_of_products}
 use Rattle.fx_transform.specs.Residues.{Same}
