@@ -4,8 +4,8 @@ use Rattle.std.specs.Prelude.{◌-ℤ◌}
 use Rattle.std.proofs.Math.Nat.{pow-suc}
 use Rattle.std.proofs.lemmas.Int.{ints}
 use Rattle.std.proofs.lemmas.Bool.{cases_lt}
-use Rattle.std.proofs.lemmas.Nat.{mul-le}
-use Rattle.std.proofs.lemmas.List.{length-drop, length-take-le, take-append-drop, drop_at, get_or_append_left, get_or-append_right, get_or-take, get_or-drop}
+use Rattle.std.proofs.lemmas.Nat.{mul-le, pow_pos}
+use Rattle.std.proofs.lemmas.List.{length-drop, length-take-le, take-append-drop, take_at, drop_at, get_or_append_left, get_or-append_right, get_or-take, get_or-drop}
 use borrow.Author.Differences.{product_is}
 use mathlib.Core.Logic.{inl, inr}
 use Rattle.fx_transform.specs.Residues.{Same, AreSame}
@@ -14,10 +14,6 @@ use Rattle.fx_transform.proofs.Residues.{same_is, same_on, same_add, same_mul, s
 use Rattle.fx_transform.proofs.Halves.{low_half, high_half}
 
 -- ---- sizes
-
-pub power_some : (k : ℕ) → 0 < 2 ^ k
-power_some zero = omega arith
-power_some (suc k) = let rest = power_some k in let e = pow-suc 2 k in omega arith
 
 -- n is 2^levels, k is one level less, and m half of n
 pub record Halved (levels n k m : ℕ) : Type 0 where
@@ -31,7 +27,7 @@ halved zero n is some = absurd (omega arith)
 halved (suc k) n is some =
     let e : suc k - 1 ≡ k = omega arith in
     let double = pow-suc 2 k in
-    let least = power_some k in
+    let least = pow_pos k in
     let half : n / 2 ≡ 2 ^ k = omega arith in
     rw e (record { level = refl; power = half; twice = omega arith; some = omega arith })
 
@@ -55,12 +51,6 @@ place_even levels n place is some few =
     omega arith
 
 -- ---- lists
-
-pub take_front : {X : Type 0} (a b : List X) (m : ℕ) → length a ≡ m → take m (a ++ b) ≡ a
-take_front [] b zero same = refl
-take_front [] b (suc m) same = absurd (omega arith)
-take_front (x ∷ a) b zero same = absurd (omega arith)
-take_front (x ∷ a) b (suc m) same = ap (λ z. x ∷ z) (take_front a b m (omega arith))
 
 pub at_combined : (r : ℤ) (u v : List ℤ) (i : ℕ) → length u ≡ length v → i < length u → get_or (combined r u v) i (pos 0) ≡ get_or u i (pos 0) +ℤ (r *ℤ get_or v i (pos 0))
 at_combined r [] v i long lt = absurd (omega arith)
@@ -87,7 +77,7 @@ pub transform_both : (p : ℕ) (roots : List ℕ) (levels n k m place : ℕ) (h 
 unfolding IsTransform
 transform_both p roots levels n k m place h xs ys half long left right =
     let back = drop_at ys xs (2 ^ k) (omega (arith, half.power)) in
-    let front = take_front ys xs (2 ^ k) (omega (arith, half.power)) in
+    let front = take_at ys xs (2 ^ k) (omega (arith, half.power)) in
     rw (half.level, back, front) (rw half.power at left, rw half.power at right)
 
 pub both_transforms : (p : ℕ) (roots : List ℕ) (levels n k m place : ℕ) (h : List ℤ) (f : List ℕ) → Halved levels n k m → IsTransform p roots levels place h f →
