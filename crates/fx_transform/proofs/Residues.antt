@@ -1,0 +1,86 @@
+-- Numbers that are the same modulo another one.
+use Rattle.std.proofs.Common.{◌≡◌, ◌+◌, ◌-◌, ◌*◌, ◌^◌, ◌<◌, ◌≤◌, ℕ, suc, ap, sym, arith, ℤ, pos, negsuc, neg_ℤ, ◌*ℤ◌, ◌+ℤ◌, to_z, of_z, w64, unsigned_abs}
+use Rattle.std.proofs.Math.IntN.{nat_abs}
+use lib.Signed.{mag}
+use Rattle.std.specs.Prelude.{◌-ℤ◌}
+use Rattle.std.proofs.lemmas.Int.{ints, fits_signed_from_abs, to_z-of_z}
+use Rattle.std.proofs.Math.IntN.{*ℤ_comm}
+use borrow.Author.Differences.{product_is}
+use Rattle.fx_transform.specs.Residues.{Same}
+use Rattle.fx_transform.proofs.Numbers.{mul-add, mul-neg, mul_swap}
+
+pub same_refl : (p a : ℤ) → Same p a a
+same_refl p a = let z = product_is p (pos 0) in (pos 0, omega (arith, ints))
+
+pub same_is : (p a b : ℤ) → a ≡ b → Same p a b
+same_is p a b e = let z = product_is p (pos 0) in (pos 0, omega (arith, ints))
+
+pub same_sym : (p a b : ℤ) → Same p a b → Same p b a
+same_sym p a b h = let z = mul-neg p h.0 in (neg_ℤ h.0, let e = h.1 in omega (arith, ints))
+
+pub same_on : (p a b c : ℤ) → Same p a b → Same p b c → Same p a c
+same_on p a b c h g = let e = h.1 in let f = g.1 in let parts = mul-add p h.0 g.0 in (h.0 +ℤ g.0, omega (arith, ints))
+
+pub same_add : (p a b c d : ℤ) → Same p a b → Same p c d → Same p (a +ℤ c) (b +ℤ d)
+same_add p a b c d h g = let e = h.1 in let f = g.1 in let parts = mul-add p h.0 g.0 in (h.0 +ℤ g.0, omega (arith, ints))
+
+pub same_mul : (p c a b : ℤ) → Same p a b → Same p (c *ℤ a) (c *ℤ b)
+same_mul p c a b h =
+    let e = ap (λ z. c *ℤ z) h.1 in
+    let parts = mul-add c b (p *ℤ h.0) in
+    let turned = mul_swap c p h.0 in
+    (c *ℤ h.0, omega (arith, ints))
+
+pub same_times : (p c a b : ℤ) → Same p a b → Same p (a *ℤ c) (b *ℤ c)
+same_times p c a b h =
+    let first = *ℤ_comm a c in
+    let second = *ℤ_comm b c in
+    same_on p (a *ℤ c) (c *ℤ a) (b *ℤ c) (same_is p (a *ℤ c) (c *ℤ a) first) (same_on p (c *ℤ a) (c *ℤ b) (b *ℤ c) (same_mul p c a b h) (same_is p (c *ℤ b) (b *ℤ c) (sym second)))
+
+-- a remainder
+pub same_less : (p a b k : ℕ) → a + p * k ≡ b → Same (pos p) (pos a) (pos b)
+same_less p a b k e =
+    let turned = mul-neg (pos p) (pos k) in
+    let product : pos p *ℤ pos k ≡ pos (p * k) = ap pos (omega arith) in
+    (neg_ℤ (pos k), omega (arith, ints))
+
+pub same_more : (p a b k : ℕ) → a ≡ b + p * k → Same (pos p) (pos a) (pos b)
+same_more p a b k e =
+    let product : pos p *ℤ pos k ≡ pos (p * k) = ap pos (omega arith) in
+    (pos k, omega (arith, ints))
+
+pub same_opposite : (p a b c d : ℤ) → Same p a b → Same p c d → Same p (a -ℤ c) (b -ℤ d)
+same_opposite p a b c d h g = let e = h.1 in let f = g.1 in let turned = mul-neg p g.0 in let parts = mul-add p h.0 (neg_ℤ g.0) in (h.0 +ℤ neg_ℤ g.0, omega (arith, ints))
+
+-- a sample of 32 bits, made positive
+pub same_shifted : (p : ℕ) (x : ℤ) → mag x < 2 ^ 31 → 2 ^ 30 < p → Same (pos p) (pos (nat_abs (x +ℤ pos 2147483648) + (2 * p - 2147483648))) x
+same_shifted p (pos n) small least =
+    let twice : pos p *ℤ pos 2 ≡ pos (p * 2) = ap pos (omega arith) in
+    (pos 2, omega (arith, ints))
+same_shifted p (negsuc n) small least =
+    let twice : pos p *ℤ pos 2 ≡ pos (p * 2) = ap pos (omega arith) in
+    let up : negsuc n +ℤ pos 2147483648 ≡ pos (2147483648 - suc n) = omega (arith, ints) in
+    rw up (pos 2, omega (arith, ints))
+
+pub shifted_few : (x : ℤ) → mag x < 2 ^ 31 → unsigned_abs (x +ℤ pos 2147483648) ≤ 2 ^ 32
+shifted_few (pos n) small = omega (arith, ints)
+shifted_few (negsuc n) small =
+    let up : negsuc n +ℤ pos 2147483648 ≡ pos (2147483648 - suc n) = omega (arith, ints) in
+    rw up (omega arith)
+
+pub sample_few : (x : ℤ) → mag x < 2 ^ 31 → unsigned_abs x ≤ 2 ^ 31
+sample_few (pos n) small = omega (arith, ints)
+sample_few (negsuc n) small = omega (arith, ints)
+
+-- what fits 64 bits
+pub held : (z : ℤ) → unsigned_abs z ≤ 2 ^ 62 → to_z w64 (of_z w64 z) ≡ z
+held z few = to_z-of_z w64 z (fits_signed_from_abs w64 z (omega (arith, few)))
+
+-- what adds up to 0
+pub same_negative : (p a b c : ℤ) → Same p b a → Same p (pos 0) (b +ℤ c) → Same p a (neg_ℤ c)
+same_negative p a b c is none =
+    let e = is.1 in
+    let f = none.1 in
+    let turned = mul-neg p (is.0 +ℤ none.0) in
+    let parts = mul-add p is.0 none.0 in
+    (neg_ℤ (is.0 +ℤ none.0), omega (arith, ints))

@@ -1,0 +1,5 @@
+use Rattle.fx_transform.specs.Residues.{AreRemainders}
+use Rattle.fx_transform.proofs.roots.steps.Given as goal
+
+abbrev pub invariant-orders : goal.invariant-orders
+invariant-orders l = AreRemainders l.p l.steps

@@ -1,0 +1,4 @@
+pub mod Products
+pub mod Residues
+pub mod Transform
+pub mod Sides

@@ -1,0 +1,20 @@
+-- Whole numbers modulo another one.
+use Rattle.std.specs.Prelude.{ℕ, ◌≡◌, ◌<◌, ◌^◌, ◌⊎◌, List, ℤ, pos, ◌*ℤ◌, ◌+ℤ◌, length, slice_index_or}
+
+-- equal but for a multiple of p
+abbrev pub Same : ℤ → ℤ → ℤ → Type 0
+Same p a b = (k : ℤ) × (a ≡ b +ℤ (p *ℤ k))
+
+-- the two moduli, primes with a root of order 2,048, and their size
+pub record IsModulus (p : ℕ) : Type 0 where
+  pub known : (p ≡ 2013265921) ⊎ (p ≡ 1811939329)
+  pub above : 2 ^ 30 < p
+  pub below : p < 2 ^ 31
+
+-- remainders modulo p
+abbrev pub AreRemainders : ℕ → List ℕ → Type 0
+AreRemainders p xs = (i : ℕ) → i < length xs → slice_index_or xs i 0 < p
+
+-- each remainder is the same as the number at its place of a list
+abbrev pub AreSame : ℕ → List ℕ → List ℤ → Type 0
+AreSame p xs zs = (i : ℕ) → i < length xs → Same (pos p) (pos (slice_index_or xs i 0)) (slice_index_or zs i (pos 0))
