@@ -27,8 +27,7 @@ pub pass_along-passage-requires-clause-ready : goal.pass_along-passage-requires-
 pass_along-passage-requires-clause-ready g c =
     let left = c.requires.may_run.0 in
     let may = c.requires.may_run.1 in
-    let few : left + c.frames.taken < most_frames = omega (arith, may.few, c.frames-test.true) in
-    (
+    let few : left + c.frames.taken < most_frames = omega (arith, may.few, c.frames-test.true) in (
       left + c.frames.taken,
       most_frames,
       few,

@@ -213,4 +213,3 @@ returns-clause-behind g c =
     let inputs : c.args.widths.inputs ≡ s.channels = rw (← c.self.view_is) at c.requires.inputs in
     let outputs : c.args.widths.outputs ≡ outputs_of s.channels (kinds acts s.stages.items) = rw (← c.self.view_is) at c.requires.outputs in
     rw (← c.self.view_is) (rw outputs at c.run-passed.ensures.behind)
-
