@@ -1,5 +1,5 @@
 -- Frames that go through stages in a row one after another.
-use Rattle.std.proofs.Common.{ℕ, zero, suc, ◌+◌, ◌-◌, ◌*◌, ◌/◌, ◌<◌, ◌≤◌, ◌≡◌, Bool, true, false, List, [], ◌∷◌, ◌++◌, get_or, length, take, drop, set, refl, sym, ap, ◌∙◌, subst, arith, inl, inr, Option, Some, None, ◌||◌, ◌&&◌, max}
+use Rattle.std.proofs.Common.{ℕ, zero, suc, ◌+◌, ◌-◌, ◌*◌, ◌/◌, ◌<◌, ◌≤◌, ◌≡◌, Bool, true, false, map, List, [], ◌∷◌, ◌++◌, get_or, length, take, drop, set, refl, sym, ap, ◌∙◌, subst, arith, inl, inr, Option, Some, None, ◌||◌, ◌&&◌, max}
 use Rattle.std.specs.Prelude.{ℤ, if◌then◌else◌, ◌⊎◌}
 use Rattle.std.proofs.lemmas.List.{append-nil, append_assoc, drop-drop, drop_all, length-append, length-drop, length-take-le, take_all}
 use Rattle.std.proofs.Math.Nat.{div-mul-le_self, mul-le-mul_right}
@@ -13,6 +13,7 @@ use Rattle.fx_flow.specs.Parts.{AllDry, AllSettled, any_spent, ended_of, moves_o
 use Rattle.fx_flow.specs.Row.{AllHeld, AreReady, CameTo, WentThrough}
 use Rattle.fx_flow.specs.Runs.{AllAhead, AllKeep, MayRun, RanOn, flow_of}
 use Rattle.fx_flow.specs.Sound.{IsSound, most_frames}
+use Rattle.fx_flow.specs.declared.runs.Widths.{Widths}
 use Rattle.fx_flow.proofs.Feeding.{Turned, Turned-kept, Turned-none, Turned-through}
 use Rattle.fx_frame.proofs.Pieces.{length-pieces}
 use Rattle.fx_flow.proofs.Handing.{AllSettled-dry}
@@ -24,22 +25,11 @@ pub outputs-keep : (channels : ℕ) (ks : List Kind) → AllKeep channels ks →
 outputs-keep channels [] h = refl
 outputs-keep channels (k ∷ ks) h = rw h.0 (outputs-keep channels ks h.1)
 
--- one sample, or two, stored each as such
-pub set-one : (xs ys : List ℤ) (d : ℤ) → length xs ≡ 1 → length ys ≡ 1 → set ys 0 (get_or xs 0 d) ≡ xs
-set-one (x ∷ []) (y ∷ []) d e h = refl
-set-one [] ys d e h = absurd (omega arith)
-set-one (x ∷ []) [] d e h = absurd (omega arith)
-set-one (x ∷ []) (y ∷ z ∷ ys) d e h = absurd (omega arith)
-set-one (x ∷ w ∷ xs) ys d e h = absurd (omega arith)
-
-pub set-two : (xs ys : List ℤ) (d : ℤ) → length xs ≡ 2 → length ys ≡ 2 → set (set ys 0 (get_or xs 0 d)) 1 (get_or xs 1 d) ≡ xs
-set-two (x ∷ w ∷ []) (y ∷ z ∷ []) d e h = refl
-set-two [] ys d e h = absurd (omega arith)
-set-two (x ∷ []) ys d e h = absurd (omega arith)
-set-two (x ∷ w ∷ v ∷ xs) ys d e h = absurd (omega arith)
-set-two (x ∷ w ∷ []) [] d e h = absurd (omega arith)
-set-two (x ∷ w ∷ []) (y ∷ []) d e h = absurd (omega arith)
-set-two (x ∷ w ∷ []) (y ∷ z ∷ t ∷ ys) d e h = absurd (omega arith)
+-- the widths of stages that each give as many channels as go in
+pub kept-is : (w : Widths) (channels : ℕ) → w.keeps ≡ true → w.inputs ≡ channels → w.outputs ≡ w.inputs → record { inputs = channels; outputs = channels; keeps = true } ≡ w
+kept-is w channels keeps inputs outputs =
+    let same : ◌≡◌ {A = ℕ × (ℕ × Bool)} (channels, (channels, true)) (w.inputs, (w.outputs, w.keeps)) = rw (keeps, outputs, inputs) refl in
+    ap (λ (p : ℕ × (ℕ × Bool)). record { inputs = p.0; outputs = p.1.0; keeps = p.1.1 }) same
 
 -- a frame was written behind those that were, or none
 abbrev pub Wrote : ℕ → Bool → Samples → List ℤ → List ℤ → ℕ → ℕ → ℕ → ℕ → Type 0
@@ -63,6 +53,11 @@ frames-fit count (suc least) channels long e h one =
     let same : count ≡ suc least = omega arith in
     let some : suc least * channels ≤ long / channels * channels = mul-le-mul_right channels h in
     rw same (omega (arith, some, div-mul-le_self long channels))
+
+-- the same where the frames that come out may have no samples
+pub outs-fit : (count least outputs wide long : ℕ) → count ≡ max least 1 → wide ≡ max outputs 1 → least ≤ long / wide → outputs ≤ long → count * outputs ≤ long
+outs-fit count least zero wide long e w h one = omega arith
+outs-fit count least (suc outputs) wide long e w h one = let same : wide ≡ suc outputs = omega arith in frames-fit count least (suc outputs) long e (rw same at h) one
 
 put-long : (at size : ℕ) (out frame out' : List ℤ) → length frame ≡ size → at + size ≤ length out → out' ≡ take at out ++ frame ++ drop (at + size) out → length out' ≡ length out
 put-long at size out frame out' e h w =
@@ -173,7 +168,7 @@ module _ {S R : Type 0} (acts : Acts S R) where
   pub settled-all : (i : ℕ) (new : List S) → length new ≤ i → AllSettled acts (take i new) → AllSettled acts new
   settled-all i new h all = rw (take_all i new h) at all
 
-  module _ (rises : (r : R) (m n : ℕ) → m ≤ n → (acts.kind_of r).most m ≤ (acts.kind_of r).most n) (channels count left : ℕ) (first : List S) (input start : List ℤ) where
+  module _ (rises : (r : R) (m n : ℕ) → m ≤ n → (acts.kind_of r).most m ≤ (acts.kind_of r).most n) (channels outputs count left : ℕ) (first : List S) (input start : List ℤ) where
     -- how far the frames have gone through the stages
     pub record Running (stages : List S) (out : List ℤ) (read written taken given : ℕ) : Type 0 where
       pub turned : Turned acts (flow_of acts channels first left) input start (flow_of acts channels stages (left + taken)) out read written taken given
@@ -181,11 +176,11 @@ module _ {S R : Type 0} (acts : Acts S R) where
       pub moves : moves_of acts (flow_of acts channels first left) + ended_of acts first ≤ moves_of acts (flow_of acts channels stages (left + taken)) + ended_of acts stages
       pub held : AllHeld acts stages
       pub ahead : (m : ℕ) → taken + m ≡ count → AllAhead acts m stages
-      pub keep : AllKeep channels (kinds acts stages)
+      pub same : kinds acts stages ≡ kinds acts first
       pub fewer : given ≤ taken
 
-    pub Running-none : MayRun acts channels count first left → AllHeld acts first → AllAhead acts count first → AllKeep channels (kinds acts first) → Running first start 0 0 0 0
-    Running-none may held ahead keep =
+    pub Running-none : MayRun acts channels count first left → AllHeld acts first → AllAhead acts count first → Running first start 0 0 0 0
+    Running-none may held ahead =
         let e : left + 0 ≡ left = omega arith in
         record {
           turned = rw e (Turned-none acts (flow_of acts channels first left) input start);
@@ -193,7 +188,7 @@ module _ {S R : Type 0} (acts : Acts S R) where
           moves = rw e (omega arith);
           held = held;
           ahead = λ m is. let same : m ≡ count = omega arith in rw same ahead;
-          keep = keep;
+          same = refl;
           fewer = omega arith;
         }
 
@@ -207,10 +202,9 @@ module _ {S R : Type 0} (acts : Acts S R) where
         AreReady-from acts channels (left + taken) most_frames false stages refl (AllSettled-dry acts stages settled) (Running-unspent stages out read written taken given run more) sound.planned.matching sound.planned.within sound.joined
 
     -- what the run did so far
-    pub Running-ran : (stages : List S) (out : List ℤ) (read written taken given : ℕ) → Running stages out read written taken given → taken * channels ≤ length input → AllKeep channels (kinds acts first)
-        → RanOn acts channels (pieces channels taken input) (pieces channels given out) first stages left
-    Running-ran stages out read written taken given run room keep =
-        let outs : outputs_of channels (kinds acts first) ≡ channels = outputs-keep channels (kinds acts first) keep in
+    pub Running-ran : (stages : List S) (out : List ℤ) (read written taken given : ℕ) → Running stages out read written taken given → taken * channels ≤ length input → outputs_of channels (kinds acts first) ≡ outputs
+        → RanOn acts channels (pieces channels taken input) (pieces outputs given out) first stages left
+    Running-ran stages out read written taken given run room outs =
         let many : length (pieces channels taken input) ≡ taken = length-pieces channels taken input in
         record { fed = rw many (rw outs at run.turned.fed); gave = rw many (rw outs at run.turned.gave); sound = rw many run.sound; moves = rw many run.moves }
 
@@ -233,40 +227,39 @@ module _ {S R : Type 0} (acts : Acts S R) where
             moves = rw e (omega (arith, run.moves, going.moves));
             held = AllHeld-went x None stages stages' went run.held;
             ahead = λ m n. keeps None went going.gave.recipes_stay m n;
-            keep = rw going.gave.recipes_stay run.keep;
+            same = ap (map acts.kind_of) going.gave.recipes_stay ∙ run.same;
             fewer = let h = run.fewer in omega arith;
           }
 
       -- a frame came out
-      pub Running-through : (frame : Samples) (out' : List ℤ) → WentThrough acts x (Some frame) stages stages' → length frame ≡ channels → written + channels ≤ length out → out' ≡ take written out ++ frame ++ drop (written + channels) out → length out' ≡ length out → AllKeep channels (kinds acts first)
-          → Running stages' out' (read + channels) (written + channels) (taken + 1) (given + 1)
-      Running-through frame out' went sides free put same keep =
+      pub Running-through : (frame : Samples) (out' : List ℤ) → WentThrough acts x (Some frame) stages stages' → length frame ≡ outputs → 1 ≤ length frame → written + outputs ≤ length out → out' ≡ take written out ++ frame ++ drop (written + outputs) out → length out' ≡ length out → outputs_of channels (kinds acts first) ≡ outputs
+          → Running stages' out' (read + channels) (written + outputs) (taken + 1) (given + 1)
+      Running-through frame out' went sides one free put same outs =
           let going = passed-row acts rises channels (left + taken) x shape width (omega arith) (Some frame) stages stages' run.sound settled unspent run.held went in
           let e : left + (taken + 1) ≡ left + taken + 1 = omega arith in
-          let outs : outputs_of channels (kinds acts first) ≡ channels = outputs-keep channels (kinds acts first) keep in
           let put' : out' ≡ take written out ++ frame ++ drop (written + length frame) out = put ∙ ap (λ n. take written out ++ frame ++ drop (written + n) out) (sym sides) in
           let through = Turned-through acts (flow_of acts channels first left) input start (flow_of acts channels stages (left + taken)) (flow_of acts channels stages' (left + taken + 1)) x frame out out' read written taken given run.turned refl going.fed going.gave some room is
-          (sides ∙ sym outs) (omega (arith, sides)) (omega (arith, outs)) put' same in
+          (sides ∙ sym outs) one (omega (arith, outs)) put' same in
           record {
             turned = rw e (rw sides at through);
             sound = rw e going.sound;
             moves = rw e (omega (arith, run.moves, going.moves));
             held = AllHeld-went x (Some frame) stages stages' went run.held;
             ahead = λ m n. keeps (Some frame) went going.gave.recipes_stay m n;
-            keep = rw going.gave.recipes_stay run.keep;
+            same = ap (map acts.kind_of) going.gave.recipes_stay ∙ run.same;
             fewer = let h = run.fewer in omega arith;
           }
 
       -- the one or the other
-      pub Running-turn : (b : Bool) (frame : Samples) (out' : List ℤ) (written' given' : ℕ) → WentThrough acts x (if b then Some frame else None) stages stages' → length frame ≡ channels → written + channels ≤ length out → AllKeep channels (kinds acts first)
-          → Wrote channels b frame out out' written written' given given' → Running stages' out' (read + channels) written' (taken + 1) given'
-      Running-turn b frame out' written' given' went sides free keep (inl wrote) =
+      pub Running-turn : (b : Bool) (frame : Samples) (out' : List ℤ) (written' given' : ℕ) → WentThrough acts x (if b then Some frame else None) stages stages' → (b ≡ true → (length frame ≡ outputs) × (1 ≤ length frame)) → written + outputs ≤ length out → outputs_of channels (kinds acts first) ≡ outputs
+          → Wrote outputs b frame out out' written written' given given' → Running stages' out' (read + channels) written' (taken + 1) given'
+      Running-turn b frame out' written' given' went sides free outs (inl wrote) =
           let went' = rw wrote.0 at went in
-          rw (wrote.2, wrote.3) (Running-through frame out' went' sides free wrote.1 (put-long written channels out frame out' sides free wrote.1) keep)
-      Running-turn b frame out' written' given' went sides free keep (inr wrote) =
+          rw (wrote.2, wrote.3) (Running-through frame out' went' (sides wrote.0).0 (sides wrote.0).1 free wrote.1 (put-long written outputs out frame out' (sides wrote.0).0 free wrote.1) outs)
+      Running-turn b frame out' written' given' went sides free outs (inr wrote) =
           let went' = rw wrote.0 at went in
           rw (wrote.1, wrote.2, wrote.3) (Running-kept went')
 
     -- what was written, and what was not
-    pub Running-behind : (stages : List S) (out : List ℤ) (read written taken given : ℕ) → Running stages out read written taken given → AllKeep channels (kinds acts first) → written ≡ given * channels
-    Running-behind stages out read written taken given run keep = rw (outputs-keep channels (kinds acts first) keep) at run.turned.written_is
+    pub Running-behind : (stages : List S) (out : List ℤ) (read written taken given : ℕ) → Running stages out read written taken given → outputs_of channels (kinds acts first) ≡ outputs → written ≡ given * outputs
+    Running-behind stages out read written taken given run outs = rw outs at run.turned.written_is

@@ -1,12 +1,15 @@
 //! Frames that go through stages one after another, with nothing asked between two of them.
-ghost use Rattle.std.specs.Prelude.{◌≡◌, ◌<◌, ◌≤◌, ◌*◌, ℕ, Some, None, true, false, drop, length, if◌then◌else◌};
+ghost use Rattle.std.specs.Prelude.{◌≡◌, ◌<◌, ◌≤◌, ◌*◌, ℕ, Some, None, true, false, drop, length, take, if◌then◌else◌};
+ghost use Rattle.fx_flow.specs.Feed.{outputs_of};
 ghost use Rattle.fx_flow.specs.Parts.{AllSettled};
 ghost use Rattle.fx_flow.specs.Row.{AllHeld, AreReady, WentThrough};
 ghost use Rattle.fx_flow.specs.Runs.{AllAhead, AllKeep, MayRun, RanOn};
+ghost use Rattle.fx_frame.specs.Feed.{PassedOn};
 ghost use Rattle.fx_frame.specs.Holds.{kinds};
 ghost use Rattle.fx_frame.specs.Ring.{pieces};
+ghost use Rattle.fx_frame.specs.Stage.{IsDry, kind, spent};
 
-use fx_frame::feed::frame_at;
+use fx_frame::feed::{copy_samples, frame_at};
 use fx_frame::inner::samples as samples_of;
 use fx_frame::stage::Stage;
 use fx_frame::{Feeds, Passed, Passing};
@@ -45,40 +48,80 @@ pub fn least_ahead<S: Feeds>(stages: &[S], most: usize) -> usize
     least
 }
 
-/// Copies samples over as many others.
-#[inline(always)]
-fn copy_samples(from: &[i32], to: &mut [i32])
-    requires { length to.old ≡ length from.now }
-    ensures { to.new ≡ from.now }
-{
-    // One or two samples are stored as such: a copy of so few is a call.
-    if from.len() == 1 {
-        to[0] = from[0];
-        return;
-    }
-    if from.len() == 2 {
-        to[0] = from[0];
-        to[1] = from[1];
-        return;
-    }
-    to.copy_from_slice(from);
+/// The channels of the frames that go through stages.
+#[derive(Clone, Copy)]
+pub struct Widths {
+    /// Those of the frames that go in.
+    pub inputs: usize,
+    /// Those of the frames that come out.
+    pub outputs: usize,
+    /// Each stage gives as many as go in.
+    pub keeps: bool,
 }
 
-/// Passes the samples of a frame through stages that are dry and give as many channels, one after another. Where the last
-/// gives a frame, its samples are then in their place.
+impl Widths {
+    /// Those of stages that each give as many as go in.
+    #[inline(always)]
+    fn kept(channels: usize) -> Widths
+        ensures { result ≡ record { inputs = channels; outputs = channels; keeps = true } }
+    {
+        Widths {
+            inputs: channels,
+            outputs: channels,
+            keeps: true,
+        }
+    }
+}
+
+/// Passes a frame of so many channels, whose samples are in front of sixteen places, to a stage. Where it gives one then, its
+/// samples are in front, and its channels are told.
 #[inline(always)]
-fn pass_along<S: Feeds>(stages: &mut [S], samples: &mut [i32]) -> Passage
-    requires frame { (1 ≤ length samples.old) × (length samples.old ≤ 16) }
-    requires ready { (taken most : ℕ) × (taken < most) × AreReady S.acts (length samples.old) taken most stages.old }
-    requires keep { AllKeep (length samples.old) (kinds S.acts stages.old) }
+fn pass_to<S: Feeds>(
+    stage: &mut S,
+    keeps: bool,
+    places: &mut [i32; 16],
+    channels: &mut usize,
+) -> Passing
+    requires dry { S.acts.dry stage.old ≡ true }
+    requires not_ended { (S.acts.counts stage.old).ended ≡ false }
+    requires not_spent { spent S.acts stage.old ≡ false }
+    requires channels { channels.old ≡ (kind S.acts stage.old).inputs }
+    requires frame { (1 ≤ channels.old) × (channels.old ≤ 16) }
+    requires keep { keeps ≡ true → (kind S.acts stage.old).outputs ≡ (kind S.acts stage.old).inputs }
+    requires below_limit { (S.acts.counts stage.old).taken < (kind S.acts stage.old).limit }
+    ensures passed { PassedOn S.acts result stage.old stage.new (take channels.old places.old) (take channels.new places.new) }
+    ensures frame { (1 ≤ channels.new) × (channels.new ≤ 16) }
+    ensures kept { keeps ≡ true → channels.new ≡ channels.old }
+    ensures settled { S.acts.dry stage.new ≡ true → IsDry S.acts stage.new }
+{
+    if keeps {
+        stage.pass_samples(&mut places[..*channels])
+    } else {
+        stage.pass_places(places, channels)
+    }
+}
+
+/// Passes a frame of so many channels, whose samples are in front of sixteen places, through stages that are dry, one after
+/// another. Where the last gives a frame, its samples are then in front.
+#[inline(always)]
+fn pass_along<S: Feeds>(
+    stages: &mut [S],
+    keeps: bool,
+    channels: usize,
+    places: &mut [i32; 16],
+) -> Passage
+    requires frame { (1 ≤ channels) × (channels ≤ 16) }
+    requires ready { (taken most : ℕ) × (taken < most) × AreReady S.acts channels taken most stages.old }
+    requires keep { keeps ≡ true → AllKeep channels (kinds S.acts stages.old) }
     requires settled { AllSettled S.acts stages.old }
-    ensures went { WentThrough S.acts samples.old (if result.is_given then Some samples.new else None) stages.old stages.new }
-    ensures channels { length samples.new ≡ length samples.old }
+    ensures went { WentThrough S.acts (take channels places.old) (if result.is_given then Some (take (outputs_of channels (kinds S.acts stages.old)) places.new) else None) stages.old stages.new }
+    ensures frame { result.is_given ≡ true → (1 ≤ outputs_of channels (kinds S.acts stages.old)) × (outputs_of channels (kinds S.acts stages.old) ≤ 16) }
     ensures settled { result.is_wet ≡ false → AllSettled S.acts stages.new }
 {
     let mut is_wet = false;
+    let mut width = channels;
     'stages: for place in 0..stages.len() {
-        match stages[place].pass_samples(samples) {
+        match pass_to(&mut stages[place], keeps, places, &mut width) {
             Passing::Kept => {
                 return Passage {
                     is_given: false,
@@ -95,43 +138,47 @@ fn pass_along<S: Feeds>(stages: &mut [S], samples: &mut [i32]) -> Passage
     }
 }
 
-/// Passes so many frames in front of the input, of so many channels, through stages that are dry, each through all of them
-/// before the next, and writes those that come out to the front of the output; fewer where a stage has more to give.
+/// Passes so many frames in front of the input through stages that are dry, each through all of them before the next, and
+/// writes those that come out to the front of the output; fewer where a stage has more to give.
 #[inline(always)]
 fn run_frames<S: Feeds>(
     stages: &mut [S],
-    channels: usize,
+    widths: Widths,
     count: usize,
     input: &[i32],
     output: &mut [i32],
 ) -> Passed
-    requires frame { (1 ≤ channels) × (channels ≤ 16) }
-    requires input { count * channels ≤ length input.now }
-    requires output { count * channels ≤ length output.old }
-    requires may_run { (left : ℕ) × MayRun S.acts channels count stages.old left }
+    requires frame { (1 ≤ widths.inputs) × (widths.inputs ≤ 16) }
+    requires outputs { widths.outputs ≡ outputs_of widths.inputs (kinds S.acts stages.old) }
+    requires keep { widths.keeps ≡ true → AllKeep widths.inputs (kinds S.acts stages.old) }
+    requires input { count * widths.inputs ≤ length input.now }
+    requires output { count * widths.outputs ≤ length output.old }
+    requires may_run { (left : ℕ) × MayRun S.acts widths.inputs count stages.old left }
     requires settled { AllSettled S.acts stages.old }
     requires held { AllHeld S.acts stages.old }
     requires ahead { AllAhead S.acts count stages.old }
-    requires keep { AllKeep channels (kinds S.acts stages.old) }
-    ensures ran { (left : ℕ) → MayRun S.acts channels count stages.old left → RanOn S.acts channels (pieces channels result.taken input.now) (pieces channels result.given output.new) stages.old stages.new left }
+    ensures ran { (left : ℕ) → MayRun S.acts widths.inputs count stages.old left → RanOn S.acts widths.inputs (pieces widths.inputs result.taken input.now) (pieces widths.outputs result.given output.new) stages.old stages.new left }
     ensures read { result.taken ≤ count }
     ensures written { result.given ≤ result.taken }
+    ensures small { result.given ≤ result.given * widths.outputs }
     ensures some { 1 ≤ count → 1 ≤ result.taken }
-    ensures behind { drop (result.given * channels) output.new ≡ drop (result.given * channels) output.old }
+    ensures behind { drop (result.given * widths.outputs) output.new ≡ drop (result.given * widths.outputs) output.old }
 {
     let mut places = [0; 16];
     let mut read = 0;
     let mut written = 0;
     let mut given = 0;
     'frames: for taken in 0..count {
-        let frame = frame_at(input, read, channels);
-        let samples = &mut places[..channels];
-        copy_samples(samples_of(&frame), samples);
-        let passage = pass_along(stages, samples);
-        read += channels;
+        let next = read + widths.inputs;
+        copy_samples(&input[read..next], &mut places[..widths.inputs]);
+        let frame = frame_at(input, read, widths.inputs);
+        let _samples = samples_of(&frame);
+        let passage = pass_along(stages, widths.keeps, widths.inputs, &mut places);
+        read = next;
         if passage.is_given {
-            copy_samples(samples, &mut output[written..written + channels]);
-            written += channels;
+            let end = written + widths.outputs;
+            copy_samples(&places[..widths.outputs], &mut output[written..end]);
+            written = end;
             given += 1;
         }
         if passage.is_wet {
@@ -147,32 +194,37 @@ fn run_frames<S: Feeds>(
     }
 }
 
-/// As `run_frames`, where the number of channels is often known beforehand.
+/// As `run_frames`, where the channels are often known beforehand.
 pub fn run<S: Feeds>(
     stages: &mut [S],
-    channels: usize,
+    widths: Widths,
     count: usize,
     input: &[i32],
     output: &mut [i32],
 ) -> Passed
-    requires frame { (1 ≤ channels) × (channels ≤ 16) }
-    requires input { count * channels ≤ length input.now }
-    requires output { count * channels ≤ length output.old }
-    requires may_run { (left : ℕ) × MayRun S.acts channels count stages.old left }
+    requires frame { (1 ≤ widths.inputs) × (widths.inputs ≤ 16) }
+    requires outputs { widths.outputs ≡ outputs_of widths.inputs (kinds S.acts stages.old) }
+    requires keep { widths.keeps ≡ true → AllKeep widths.inputs (kinds S.acts stages.old) }
+    requires input { count * widths.inputs ≤ length input.now }
+    requires output { count * widths.outputs ≤ length output.old }
+    requires may_run { (left : ℕ) × MayRun S.acts widths.inputs count stages.old left }
     requires settled { AllSettled S.acts stages.old }
     requires held { AllHeld S.acts stages.old }
     requires ahead { AllAhead S.acts count stages.old }
-    requires keep { AllKeep channels (kinds S.acts stages.old) }
-    ensures ran { (left : ℕ) → MayRun S.acts channels count stages.old left → RanOn S.acts channels (pieces channels result.taken input.now) (pieces channels result.given output.new) stages.old stages.new left }
+    ensures ran { (left : ℕ) → MayRun S.acts widths.inputs count stages.old left → RanOn S.acts widths.inputs (pieces widths.inputs result.taken input.now) (pieces widths.outputs result.given output.new) stages.old stages.new left }
     ensures read { result.taken ≤ count }
     ensures written { result.given ≤ result.taken }
+    ensures small { result.given ≤ result.given * widths.outputs }
     ensures some { 1 ≤ count → 1 ≤ result.taken }
-    ensures behind { drop (result.given * channels) output.new ≡ drop (result.given * channels) output.old }
+    ensures behind { drop (result.given * widths.outputs) output.new ≡ drop (result.given * widths.outputs) output.old }
 {
-    match channels {
-        1 => run_frames(stages, 1, count, input, output),
-        2 => run_frames(stages, 2, count, input, output),
-        8 => run_frames(stages, 8, count, input, output),
-        _ => run_frames(stages, channels, count, input, output),
+    if !widths.keeps {
+        return run_frames(stages, widths, count, input, output);
+    }
+    match widths.inputs {
+        1 => run_frames(stages, Widths::kept(1), count, input, output),
+        2 => run_frames(stages, Widths::kept(2), count, input, output),
+        8 => run_frames(stages, Widths::kept(8), count, input, output),
+        channels => run_frames(stages, Widths::kept(channels), count, input, output),
     }
 }

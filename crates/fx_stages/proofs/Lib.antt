@@ -2,3 +2,4 @@ pub mod KindLaws
 pub mod Making
 pub mod NarrowLaws
 pub mod Thawing
+pub mod Widths

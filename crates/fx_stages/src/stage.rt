@@ -119,6 +119,14 @@ impl Feeds for EffectStage {
         each!(self, stage => stage.pass_samples(samples))
     }
 
+    #[inline(always)]
+    fn pass_places(&mut self, places: &mut [i32; 16], channels: &mut usize) -> Passing {
+        match self {
+            EffectStage::Remix(stage) => stage.pass_places(places, channels),
+            _ => self.pass_samples(&mut places[..*channels]),
+        }
+    }
+
     fn ahead(&self) -> u64 {
         each!(self, stage => stage.ahead())
     }

@@ -24,25 +24,6 @@ pub(crate) fn sample_or_silence(samples: &[i32], channel: usize) -> i32
     }
 }
 
-/// Copies samples over as many others.
-#[inline(always)]
-pub(crate) fn copy_samples(from: &[i32], to: &mut [i32])
-    requires { length to.old ≡ length from.now }
-    ensures { to.new ≡ from.now }
-{
-    // One or two samples are stored as such: a copy of so few is a call.
-    if from.len() == 1 {
-        to[0] = from[0];
-        return;
-    }
-    if from.len() == 2 {
-        to[0] = from[0];
-        to[1] = from[1];
-        return;
-    }
-    to.copy_from_slice(from);
-}
-
 /// The sixteen places of a frame, whatever the width of its samples.
 pub(crate) trait Places {
     /// The samples.
