@@ -12,7 +12,8 @@ use Rattle.std.proofs.lemmas.Bool.Decides.{nat_tests}
 use Rattle.std.proofs.lemmas.List.Splits.{slice_split-cons_no, slice_split-cons_yes}
 use Rattle.std.proofs.lemmas.List.Sums.{prefix_len-le-length, sum_by-cons}
 use Rattle.fx_fixed.specs.Decimals.{is_point}
-use Rattle.fx_fixed.specs.Clock.{clock_after, clock_by, components_of, is_colon, fraction_of, frames_of, front_of, is_short, is_t, tail_of, within_reach}
+use Rattle.fx_fixed.proofs.ClockAfter.{clock_after, clock_by}
+use Rattle.fx_fixed.specs.Clock.{components_of, is_colon, fraction_of, frames_of, front_of, is_short, is_t, tail_of, within_reach}
 use Rattle.fx_fixed.specs.ClockEnd.{BeginsNot, after_components, after_fraction, by_parts, is_last}
 use Rattle.fx_fixed.specs.declared.times.TimeFault.TheVariants.{BadTime}
 use Rattle.fx_fixed.proofs.Cutting.{FailsDigits, Stops, Stops-drop, after_first-digits, all_ascii_digits-take_while, before_first-digits, fails-append, length-take_while, none_of_digits, point_fails, run_and_rest}

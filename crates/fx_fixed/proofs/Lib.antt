@@ -1,3 +1,4 @@
+pub mod ClockAfter
 pub mod Clocking
 pub mod Counting
 pub mod Cutting

@@ -73,7 +73,7 @@ is_count-by text = go (is_count text) refl where
   go false other = rw other refl
 
 has_clock_form-by : (rate : ℕ) (text : List ℕ) → has_clock_form text ≡ not (is_bad (clock_of rate text))
-has_clock_form-by rate text = by_form (has_clock_form text) (frames_of rate (seconds_of 0 (components_of text)) (digits_value 10 (fraction_of text)) (length (fraction_of text))) where
+has_clock_form-by rate text = by_form (has_clock_form text) (frames_of rate (seconds_of (components_of text)) (digits_value 10 (fraction_of text)) (length (fraction_of text))) where
   by_form : (b : Bool) (frames : ℕ) → b ≡ not (is_bad (if b then within_reach frames else Err BadTime))
   by_form true frames = rw (not_bad_reach frames) refl
   by_form false frames = refl

@@ -32,10 +32,9 @@ components_of text = slice_split is_colon (front_of text)
 abbrev pub is_short : List ℕ → Bool
 is_short ds = all_ascii_digits ds && nat_lt (length ds) 19
 
--- the seconds of the components, after those of components before
-abbrev pub seconds_of : ℕ → List (List ℕ) → ℕ
-seconds_of total components =
-    fold (λ seconds component. 60 * seconds + digits_value 10 component) total components
+-- the seconds of hours, minutes and seconds, of minutes and seconds, or of seconds
+abbrev pub seconds_of : List (List ℕ) → ℕ
+seconds_of components = fold (λ seconds component. 60 * seconds + digits_value 10 component) 0 components
 
 -- seconds and a fraction of a second in frames, to the nearest
 abbrev pub frames_of : ℕ → ℕ → ℕ → ℕ → ℕ
@@ -46,32 +45,19 @@ frames_of rate seconds fraction places =
 abbrev pub within_reach : ℕ → Result ℕ TimeFault
 within_reach frames = if nat_lt (2 ^ 40) frames then Err TooFar else Ok frames
 
--- the form of a clock time of these parts, of which so many components with so many digits were read before
-abbrev pub is_clock : ℕ → ℕ → List (List ℕ) → List ℕ → List ℕ → Bool
-is_clock count digits components fraction tail =
-    list_all is_short components
-    && is_short fraction
-    && nat_lt (count + length components) 4
-    && nat_lt 0 (digits + sum_by length components + length fraction)
-    && (length tail == 0)
-
--- the frames of such a clock time, or the first fault
-abbrev pub clock_by : ℕ → ℕ → ℕ → ℕ → List (List ℕ) → List ℕ → List ℕ → Result ℕ TimeFault
-clock_by rate total count digits components fraction tail =
-    if is_clock count digits components fraction tail
-    then within_reach
-    (frames_of rate (seconds_of total components) (digits_value 10 fraction) (length fraction))
-    else Err BadTime
-
--- the same of a text, after what was read before
-abbrev pub clock_after : ℕ → ℕ → ℕ → ℕ → List ℕ → Result ℕ TimeFault
-clock_after rate total count digits text =
-    clock_by rate total count digits (components_of text) (fraction_of text) (tail_of text)
-
--- the form of a clock time
+-- the form of a clock time: one to three components, a digit in these or in the fraction, and nothing behind a `t`
 abbrev pub has_clock_form : List ℕ → Bool
-has_clock_form text = is_clock 0 0 (components_of text) (fraction_of text) (tail_of text)
+has_clock_form text =
+    list_all is_short (components_of text)
+    && is_short (fraction_of text)
+    && nat_lt (length (components_of text)) 4
+    && nat_lt 0 (sum_by length (components_of text) + length (fraction_of text))
+    && (length (tail_of text) == 0)
 
 -- the frames of a clock time, or its first fault
 abbrev pub clock_of : ℕ → List ℕ → Result ℕ TimeFault
-clock_of rate text = clock_after rate 0 0 0 text
+clock_of rate text =
+    if has_clock_form text
+    then within_reach
+    (frames_of rate (seconds_of (components_of text)) (digits_value 10 (fraction_of text)) (length (fraction_of text)))
+    else Err BadTime

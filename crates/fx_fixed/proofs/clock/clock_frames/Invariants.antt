@@ -1,5 +1,6 @@
 use Rattle.std.proofs.Common.{◌≡◌, ◌*◌, ◌^◌, ◌≤◌, ◌<◌}
-use Rattle.fx_fixed.specs.Clock.{clock_after, clock_of}
+use Rattle.fx_fixed.specs.Clock.{clock_of}
+use Rattle.fx_fixed.proofs.ClockAfter.{clock_after}
 use Rattle.fx_fixed.proofs.clock.clock_frames.Given as goal
 
 abbrev pub invariant-loop-count : goal.invariant-loop-count
