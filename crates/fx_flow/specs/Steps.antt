@@ -1,3 +1,4 @@
+-- What a step does to stages in a row (this project's profile).
 use Rattle.std.specs.Prelude.{ℕ, ◌+◌, ◌≤◌, true, false, List, [], ◌∷◌, ◌++◌, ◌≡◌, ◌⊎◌, length, Option, Some, None, option_to_list}
 use Rattle.fx_frame.specs.Frame.{Samples}
 use Rattle.fx_frame.specs.Stage.{Acts}

@@ -1,3 +1,4 @@
+-- Sums over stages in a row: the frames that they may hold, and those that they hold (this project's profile).
 use Rattle.std.specs.Prelude.{ℕ, ◌+◌, List, [], ◌∷◌, length, map}
 use Rattle.fx_frame.specs.Stage.{Kind, Acts, hold_of}
 

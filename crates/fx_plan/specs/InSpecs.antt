@@ -21,10 +21,9 @@ is_minus c = c == 45
 abbrev pub has : (ℕ → Bool) → Word → Bool
 has test text = nat_lt (position_or_len test text) (length text)
 
--- the channel, from 1 on, that a text of digits is; 1000 stands for each that is more, since no sound has those
+-- the channel, from 1 on, that a text of digits is
 abbrev pub channel_in : Word → Option ℕ
-channel_in text =
-    if is_numeral text && nat_lt 0 (digits_value 10 text) then Some (min (digits_value 10 text) 1000) else None
+channel_in text = if is_numeral text && nat_lt 0 (digits_value 10 text) then Some (digits_value 10 text) else None
 
 -- an end of a range, which may be left out
 abbrev pub end_in : ℕ → Word → Option ℕ

@@ -1,4 +1,5 @@
 pub mod Bounds
+pub mod Capped
 pub mod CommandLines
 pub mod DcShift
 pub mod Delay

@@ -1,7 +1,8 @@
 //! The parts of an out-spec of `remix`: each a range of channels and a vol-spec.
 
-ghost use Rattle.std.specs.Prelude.{◌≡◌, ◌<◌, ◌≤◌, ◌+◌, ◌-◌, ◌++◌, IfOk, IfSome, OnOk, length, map, slice_index};
+ghost use Rattle.std.specs.Prelude.{◌≡◌, ◌<◌, ◌≤◌, ◌+◌, ◌-◌, ◌++◌, IfOk, IfSome, OnOk, length, map, option_map, slice_index};
 ghost use Rattle.std.specs.List.{position_or_len, range_with_len};
+ghost use Rattle.fx_plan.specs.Capped.{both_capped, capped};
 ghost use Rattle.fx_plan.specs.InSpecs.{channel_in, channels_from, end_in, ends_in, given_by, in_range, in_spec, is_letter, vol_spec};
 
 use crate::fault::PlanCause;
@@ -27,7 +28,7 @@ pub struct Contribution {
 
 /// The channel that a text is, counted from 1; `NUMBER_CAP` stands for each that is more.
 fn read_channel(text: &str) -> Option<u32>
-    ensures value { result ≡ channel_in text.now }
+    ensures value { result ≡ option_map capped (channel_in text.now) }
     ensures counted { IfSome result (λ channel. 1 ≤ channel) }
 {
     let channel = capped_number(text.as_bytes())?;
@@ -37,10 +38,11 @@ fn read_channel(text: &str) -> Option<u32>
     Some(channel)
 }
 
-/// The end of a range, which stands for this channel where it is left out.
+/// The end of a range, which stands for this channel where it is left out; `NUMBER_CAP` stands for each that is more.
 fn read_end(default: u32, text: &str) -> Option<u32>
-    requires { 1 ≤ default }
-    ensures value { result ≡ end_in default text.now }
+    requires some { 1 ≤ default }
+    requires most { default ≤ 16 }
+    ensures value { result ≡ option_map capped (end_in default text.now) }
     ensures counted { IfSome result (λ channel. 1 ≤ channel) }
 {
     if text.is_empty() {
@@ -49,10 +51,11 @@ fn read_end(default: u32, text: &str) -> Option<u32>
     read_channel(text)
 }
 
-/// The ends of the range that a text is, at so many channels.
+/// The ends of the range that a text is, at so many channels; `NUMBER_CAP` stands for each that is more.
 fn read_ends(channels: u32, text: &str) -> Option<(u32, u32)>
-    requires { 1 ≤ channels }
-    ensures value { result ≡ ends_in channels text.now }
+    requires some { 1 ≤ channels }
+    requires most { channels ≤ 16 }
+    ensures value { result ≡ option_map both_capped (ends_in channels text.now) }
     ensures counted { IfSome result (λ ends. (1 ≤ ends.0) × (1 ≤ ends.1)) }
 {
     if let Some((front, back)) = text.split_once('-') {
@@ -129,7 +132,8 @@ fn in_order(channels: u32, first: u32, second: u32, gain: Option<Gain>) -> Resul
 
 /// What an in-spec says, at so many channels.
 pub fn read_in_spec(channels: u32, text: &str) -> Result<InSpec, PlanCause>
-    requires { 1 ≤ channels }
+    requires some { 1 ≤ channels }
+    requires most { channels ≤ 16 }
     ensures value { result ≡ in_spec channels text.now }
     ensures counted { IfOk result (λ found. 1 ≤ found.low) }
     ensures order { IfOk result (λ found. found.low ≤ found.high) }
