@@ -1,5 +1,5 @@
 -- Numbers of which 1000 stands for each that is more.
-use Rattle.std.specs.Prelude.{ℕ, min, Option, option_map}
+use Rattle.std.specs.Prelude.{ℕ, min}
 
 -- the number, or 1000 where it is more
 abbrev pub capped : ℕ → ℕ
