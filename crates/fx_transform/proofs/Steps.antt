@@ -1,7 +1,8 @@
 -- One step of a transform of 2^levels numbers, and what each half is.
-use Rattle.std.proofs.Common.{◌≡◌, ◌+◌, ◌-◌, ◌*◌, ◌/◌, ◌^◌, ◌<◌, ◌≤◌, ◌∙◌, ap, refl, ℕ, zero, suc, ℤ, pos, neg_ℤ, ◌*ℤ◌, ◌+ℤ◌, List, [], ◌∷◌, ◌++◌, length, get_or, take, drop, arith}
+use Rattle.std.proofs.Common.{◌≡◌, ◌+◌, ◌-◌, ◌*◌, ◌/◌, ◌^◌, ◌<◌, ◌≤◌, ◌∙◌, refl, ℕ, zero, suc, ℤ, pos, neg_ℤ, ◌*ℤ◌, ◌+ℤ◌, List, [], ◌∷◌, ◌++◌, length, get_or, take, drop, arith}
 use Rattle.std.specs.Prelude.{◌-ℤ◌}
 use Rattle.std.proofs.Math.Nat.{pow-suc}
+use Rattle.std.proofs.Math.IntN.{*ℤ_comm}
 use Rattle.std.proofs.lemmas.Int.{ints}
 use Rattle.std.proofs.lemmas.Bool.{cases_lt}
 use Rattle.std.proofs.lemmas.Nat.{mul-le, pow_pos}
@@ -111,7 +112,7 @@ same_back p m xs u same i lt =
 
 pub product_one : (p : ℕ) (s : ℤ) (a h : List ℤ) (f xs ys : List ℕ) → length a ≡ 1 → length h ≡ 1 → length xs ≡ 1 → AreSame p xs a →
     Same (pos p) (pos (get_or f 0 0)) (get_or h 0 (pos 0)) →
-    Same (pos p) (pos (get_or ys 0 0)) (pos (get_or xs 0 0) *ℤ pos (get_or f 0 0)) →
+    Same (pos p) (pos (get_or ys 0 0)) (pos (get_or f 0 0) *ℤ pos (get_or xs 0 0)) →
     IsProduct p 1 s a h ys
 product_one p s [] h f xs ys a_long h_long long same transform is i lt = absurd (omega arith)
 product_one p s (x ∷ y ∷ a) h f xs ys a_long h_long long same transform is i lt = absurd (omega arith)
@@ -122,9 +123,10 @@ product_one p s (x ∷ []) (c ∷ []) f xs ys a_long h_long long same transform 
     let none = product_is s (pos 0) in
     let unit = product_is (pos 1) ((x *ℤ c +ℤ pos 0) +ℤ (s *ℤ pos 0)) in
     let whole : x *ℤ c ≡ pos 1 *ℤ ((x *ℤ c +ℤ pos 0) +ℤ (s *ℤ pos 0)) = omega (arith, ints) in
-    let left = same_times (pos p) (pos (get_or f 0 0)) (pos (get_or xs 0 0)) x (same 0 (omega arith)) in
-    let right = same_mul (pos p) x (pos (get_or f 0 0)) c transform in
-    let product : Same (pos p) (pos (get_or ys 0 0)) (x *ℤ c) = same_on (pos p) _ _ _ is (same_on (pos p) (pos (get_or xs 0 0) *ℤ pos (get_or f 0 0)) (x *ℤ pos (get_or f 0 0)) (x *ℤ c) left right) in
+    let left = same_mul (pos p) (pos (get_or f 0 0)) (pos (get_or xs 0 0)) x (same 0 (omega arith)) in
+    let right = same_times (pos p) x (pos (get_or f 0 0)) c transform in
+    let turned = *ℤ_comm c x in
+    let product : Same (pos p) (pos (get_or ys 0 0)) (x *ℤ c) = rw turned at (same_on (pos p) _ _ _ is (same_on (pos p) (pos (get_or f 0 0) *ℤ pos (get_or xs 0 0)) (pos (get_or f 0 0) *ℤ x) (c *ℤ x) left right)) in
     rw (← first) (same_on (pos p) (pos (get_or ys 0 0)) (x *ℤ c) (pos 1 *ℤ ((x *ℤ c +ℤ pos 0) +ℤ (s *ℤ pos 0))) product (same_is (pos p) (x *ℤ c) (pos 1 *ℤ ((x *ℤ c +ℤ pos 0) +ℤ (s *ℤ pos 0))) whole))
 
 pub product_both : (p m : ℕ) (s r w : ℤ) (a h : List ℤ) (u v xs ys : List ℕ) → length a ≡ 2 * m → length h ≡ 2 * m → length xs ≡ m →
