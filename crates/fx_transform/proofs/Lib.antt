@@ -5,4 +5,5 @@ pub mod Cyclic
 pub mod Halves
 pub mod Steps
 pub mod Sums
-pub mod Joined
+pub mod Factors
+pub mod Prepared

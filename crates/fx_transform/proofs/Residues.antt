@@ -1,12 +1,13 @@
 -- Numbers that are the same modulo another one.
-use Rattle.std.proofs.Common.{◌≡◌, ◌+◌, ◌-◌, ◌*◌, ◌^◌, ◌<◌, ◌≤◌, ℕ, suc, ap, sym, arith, ℤ, pos, negsuc, neg_ℤ, ◌*ℤ◌, ◌+ℤ◌, to_z, of_z, w64, unsigned_abs}
+use Rattle.std.proofs.Common.{◌≡◌, ◌+◌, ◌-◌, ◌*◌, ◌^◌, ◌<◌, ℕ, suc, ap, sym, arith, ℤ, pos, negsuc, neg_ℤ, ◌*ℤ◌, ◌+ℤ◌, refl, to_z, of_z, w64, unsigned_abs}
 use Rattle.std.proofs.Math.IntN.{nat_abs}
-use lib.Signed.{mag}
+use Rattle.std.specs.Prelude.{true, false}
+use lib.Signed.{mag, lt_z}
 use Rattle.std.specs.Prelude.{◌-ℤ◌}
 use Rattle.std.proofs.lemmas.Int.{ints, fits_signed_from_abs, to_z-of_z}
 use Rattle.std.proofs.Math.IntN.{*ℤ_comm}
 use borrow.Author.Differences.{product_is}
-use Rattle.fx_transform.specs.Residues.{Same}
+use Rattle.fx_transform.specs.Residues.{Same, modulus}
 use Rattle.fx_transform.proofs.Numbers.{mul-add, mul-neg, mul_swap}
 
 pub same_refl : (p a : ℤ) → Same p a a
@@ -52,29 +53,24 @@ same_more p a b k e =
 pub same_opposite : (p a b c d : ℤ) → Same p a b → Same p c d → Same p (a -ℤ c) (b -ℤ d)
 same_opposite p a b c d h g = let e = h.1 in let f = g.1 in let turned = mul-neg p g.0 in let parts = mul-add p h.0 (neg_ℤ g.0) in (h.0 +ℤ neg_ℤ g.0, omega (arith, ints))
 
--- a sample of 32 bits, made positive
-pub same_shifted : (p : ℕ) (x : ℤ) → mag x < 2 ^ 31 → 2 ^ 30 < p → Same (pos p) (pos (nat_abs (x +ℤ pos 2147483648) + (2 * p - 2147483648))) x
-same_shifted p (pos n) small least =
-    let twice : pos p *ℤ pos 2 ≡ pos (p * 2) = ap pos (omega arith) in
-    (pos 2, omega (arith, ints))
-same_shifted p (negsuc n) small least =
-    let twice : pos p *ℤ pos 2 ≡ pos (p * 2) = ap pos (omega arith) in
-    let up : negsuc n +ℤ pos 2147483648 ≡ pos (2147483648 - suc n) = omega (arith, ints) in
-    rw up (pos 2, omega (arith, ints))
+-- a sample of 32 bits below 0, and the modulus
+pub lifted : (x : ℤ) → mag x < 2 ^ 31 → lt_z x (pos 0) ≡ true → Same (pos modulus) (pos (nat_abs (x +ℤ pos modulus))) x
+lifted (pos n) small below = absurd (omega (arith, ints))
+lifted (negsuc n) small below =
+    let once : pos modulus *ℤ pos 1 ≡ pos modulus = ap pos (omega arith) in
+    let up : negsuc n +ℤ pos modulus ≡ pos (modulus - suc n) = omega (arith, ints) in
+    rw up (pos 1, omega (arith, ints))
 
-pub shifted_few : (x : ℤ) → mag x < 2 ^ 31 → unsigned_abs (x +ℤ pos 2147483648) ≤ 2 ^ 32
-shifted_few (pos n) small = omega (arith, ints)
-shifted_few (negsuc n) small =
-    let up : negsuc n +ℤ pos 2147483648 ≡ pos (2147483648 - suc n) = omega (arith, ints) in
-    rw up (omega arith)
+pub lifted_fits : (x : ℤ) → mag x < 2 ^ 31 → lt_z x (pos 0) ≡ true → to_z w64 (of_z w64 (x +ℤ pos modulus)) ≡ x +ℤ pos modulus
+lifted_fits (pos n) small below = absurd (omega (arith, ints))
+lifted_fits (negsuc n) small below =
+    let up : negsuc n +ℤ pos modulus ≡ pos (modulus - suc n) = omega (arith, ints) in
+    let few : unsigned_abs (negsuc n +ℤ pos modulus) < 2 ^ 63 = rw up (omega arith) in
+    to_z-of_z w64 (negsuc n +ℤ pos modulus) (fits_signed_from_abs w64 (negsuc n +ℤ pos modulus) few)
 
-pub sample_few : (x : ℤ) → mag x < 2 ^ 31 → unsigned_abs x ≤ 2 ^ 31
-sample_few (pos n) small = omega (arith, ints)
-sample_few (negsuc n) small = omega (arith, ints)
-
--- what fits 64 bits
-pub held : (z : ℤ) → unsigned_abs z ≤ 2 ^ 62 → to_z w64 (of_z w64 z) ≡ z
-held z few = to_z-of_z w64 z (fits_signed_from_abs w64 z (omega (arith, few)))
+pub kept : (x : ℤ) → lt_z x (pos 0) ≡ false → pos (nat_abs x) ≡ x
+kept (pos n) below = refl
+kept (negsuc n) below = absurd (omega (arith, ints))
 
 -- what adds up to 0
 pub same_negative : (p a b c : ℤ) → Same p b a → Same p (pos 0) (b +ℤ c) → Same p a (neg_ℤ c)

@@ -1,7 +1,8 @@
 -- One step of a transform of 2^levels numbers, and what each half is.
-use Rattle.std.proofs.Common.{◌≡◌, ◌+◌, ◌-◌, ◌*◌, ◌/◌, ◌^◌, ◌<◌, ◌≤◌, ◌∙◌, ap, refl, ℕ, zero, suc, ℤ, pos, neg_ℤ, ◌*ℤ◌, ◌+ℤ◌, List, [], ◌∷◌, ◌++◌, length, get_or, take, drop, arith}
+use Rattle.std.proofs.Common.{◌≡◌, ◌+◌, ◌-◌, ◌*◌, ◌/◌, ◌^◌, ◌<◌, ◌≤◌, ◌∙◌, refl, ℕ, zero, suc, ℤ, pos, neg_ℤ, ◌*ℤ◌, ◌+ℤ◌, List, [], ◌∷◌, ◌++◌, length, get_or, set, take, drop, arith}
 use Rattle.std.specs.Prelude.{◌-ℤ◌}
 use Rattle.std.proofs.Math.Nat.{pow-suc}
+use Rattle.std.proofs.Math.IntN.{*ℤ_comm}
 use Rattle.std.proofs.lemmas.Int.{ints}
 use Rattle.std.proofs.lemmas.Bool.{cases_lt}
 use Rattle.std.proofs.lemmas.Nat.{mul-le, pow_pos}
@@ -11,6 +12,7 @@ use mathlib.Core.Logic.{inl, inr}
 use Rattle.fx_transform.specs.Residues.{Same, AreSame}
 use Rattle.fx_transform.specs.Transform.{IsTransform, IsProduct, combined, root_at}
 use Rattle.fx_transform.proofs.Residues.{same_is, same_on, same_add, same_mul, same_times}
+use Rattle.fx_transform.proofs.Cyclic.{length-combined}
 use Rattle.fx_transform.proofs.Halves.{low_half, high_half}
 
 -- ---- sizes
@@ -111,7 +113,7 @@ same_back p m xs u same i lt =
 
 pub product_one : (p : ℕ) (s : ℤ) (a h : List ℤ) (f xs ys : List ℕ) → length a ≡ 1 → length h ≡ 1 → length xs ≡ 1 → AreSame p xs a →
     Same (pos p) (pos (get_or f 0 0)) (get_or h 0 (pos 0)) →
-    Same (pos p) (pos (get_or ys 0 0)) (pos (get_or xs 0 0) *ℤ pos (get_or f 0 0)) →
+    Same (pos p) (pos (get_or ys 0 0)) (pos (get_or f 0 0) *ℤ pos (get_or xs 0 0)) →
     IsProduct p 1 s a h ys
 product_one p s [] h f xs ys a_long h_long long same transform is i lt = absurd (omega arith)
 product_one p s (x ∷ y ∷ a) h f xs ys a_long h_long long same transform is i lt = absurd (omega arith)
@@ -122,9 +124,10 @@ product_one p s (x ∷ []) (c ∷ []) f xs ys a_long h_long long same transform 
     let none = product_is s (pos 0) in
     let unit = product_is (pos 1) ((x *ℤ c +ℤ pos 0) +ℤ (s *ℤ pos 0)) in
     let whole : x *ℤ c ≡ pos 1 *ℤ ((x *ℤ c +ℤ pos 0) +ℤ (s *ℤ pos 0)) = omega (arith, ints) in
-    let left = same_times (pos p) (pos (get_or f 0 0)) (pos (get_or xs 0 0)) x (same 0 (omega arith)) in
-    let right = same_mul (pos p) x (pos (get_or f 0 0)) c transform in
-    let product : Same (pos p) (pos (get_or ys 0 0)) (x *ℤ c) = same_on (pos p) _ _ _ is (same_on (pos p) (pos (get_or xs 0 0) *ℤ pos (get_or f 0 0)) (x *ℤ pos (get_or f 0 0)) (x *ℤ c) left right) in
+    let left = same_mul (pos p) (pos (get_or f 0 0)) (pos (get_or xs 0 0)) x (same 0 (omega arith)) in
+    let right = same_times (pos p) x (pos (get_or f 0 0)) c transform in
+    let turned = *ℤ_comm c x in
+    let product : Same (pos p) (pos (get_or ys 0 0)) (x *ℤ c) = rw turned at (same_on (pos p) _ _ _ is (same_on (pos p) (pos (get_or f 0 0) *ℤ pos (get_or xs 0 0)) (pos (get_or f 0 0) *ℤ x) (c *ℤ x) left right)) in
     rw (← first) (same_on (pos p) (pos (get_or ys 0 0)) (x *ℤ c) (pos 1 *ℤ ((x *ℤ c +ℤ pos 0) +ℤ (s *ℤ pos 0))) product (same_is (pos p) (x *ℤ c) (pos 1 *ℤ ((x *ℤ c +ℤ pos 0) +ℤ (s *ℤ pos 0))) whole))
 
 pub product_both : (p m : ℕ) (s r w : ℤ) (a h : List ℤ) (u v xs ys : List ℕ) → length a ≡ 2 * m → length h ≡ 2 * m → length xs ≡ m →
@@ -151,3 +154,61 @@ product_both p m s r w a h u v xs ys a_long h_long long square inverse left righ
           (same_on (pos p) _ _ _ (minus (i - m) below)
           (rw (take-append-drop m a, take-append-drop m h, place) at (high_half m (i - m) (pos p) s r w (take m a) (drop m a) (take m h) (drop m h) _ _ a0 a1 h0 h1 below square inverse (left (i - m) below) (right (i - m) below))))
     ]
+
+-- ---- two numbers
+
+only : (P : ℕ → Type 0) → P 0 → (i : ℕ) → i < 1 → P i
+only P here zero lt = here
+only P here (suc i) lt = absurd (omega arith)
+
+pub product_two : (p : ℕ) (roots : List ℕ) (place : ℕ) (s r w : ℤ) (a h : List ℤ) (low high behind front x y u v i j : ℕ) → root_at roots place ≡ r → length a ≡ 2 → length h ≡ 2 →
+    Same (pos p) (r *ℤ r) s → Same (pos p) (w *ℤ r) (pos 1) → AreSame p (low ∷ high ∷ []) a → IsTransform p roots 1 place h (behind ∷ front ∷ []) →
+    Same (pos p) (pos x) (pos low +ℤ (r *ℤ pos high)) → Same (pos p) (pos y) (pos low +ℤ (neg_ℤ r *ℤ pos high)) →
+    Same (pos p) (pos u) (pos front *ℤ pos x) → Same (pos p) (pos v) (pos behind *ℤ pos y) →
+    Same (pos p) (pos i) (pos u +ℤ pos v) → Same (pos p) (pos j) (w *ℤ (pos u -ℤ pos v)) →
+    IsProduct p 2 s a h (i ∷ j ∷ [])
+product_two p roots place s r w a h low high behind front x y u v i j root a_long h_long square inverse same transform x_is y_is u_is v_is i_is j_is =
+    let half : Halved 1 2 0 1 = halved 1 2 refl (omega arith) in
+    let parts = rw root at (both_transforms p roots 1 2 0 1 place h (behind ∷ front ∷ []) half transform) in
+    let front_is = one_transform p roots 0 (2 * place) (combined r (drop 1 h) (take 1 h)) (front ∷ []) refl parts.0 in
+    let behind_is = one_transform p roots 0 (2 * place + 1) (combined (neg_ℤ r) (drop 1 h) (take 1 h)) (behind ∷ []) refl parts.1 in
+    let a0 = length-take-le 1 a (omega arith) in
+    let a1 = length-drop 1 a in
+    let h0 = length-take-le 1 h (omega arith) in
+    let h1 = length-drop 1 h in
+    let first : AreSame p (low ∷ []) (take 1 a) = same_front p 1 (low ∷ high ∷ []) a (omega arith) same in
+    let second : AreSame p (high ∷ []) (drop 1 a) = same_back p 1 (low ∷ high ∷ []) a same in
+    let x_same = combined_same p r (take 1 a) (drop 1 a) (low ∷ []) (high ∷ []) (x ∷ []) (omega arith) (omega arith) (omega arith) (omega arith) first second (only (λ k. Same (pos p) (pos (get_or (x ∷ []) k 0)) (pos (get_or (low ∷ []) k 0) +ℤ (r *ℤ pos (get_or (high ∷ []) k 0)))) x_is) in
+    let y_same = combined_same p (neg_ℤ r) (take 1 a) (drop 1 a) (low ∷ []) (high ∷ []) (y ∷ []) (omega arith) (omega arith) (omega arith) (omega arith) first second (only (λ k. Same (pos p) (pos (get_or (y ∷ []) k 0)) (pos (get_or (low ∷ []) k 0) +ℤ (neg_ℤ r *ℤ pos (get_or (high ∷ []) k 0)))) y_is) in
+    let left_a = length-combined r (take 1 a) (drop 1 a) (omega arith) in
+    let left_h = length-combined r (drop 1 h) (take 1 h) (omega arith) in
+    let right_a = length-combined (neg_ℤ r) (take 1 a) (drop 1 a) (omega arith) in
+    let right_h = length-combined (neg_ℤ r) (drop 1 h) (take 1 h) (omega arith) in
+    let left = product_one p r (combined r (take 1 a) (drop 1 a)) (combined r (drop 1 h) (take 1 h)) (front ∷ []) (x ∷ []) (u ∷ []) (omega arith) (omega arith) refl x_same front_is u_is in
+    let right = product_one p (neg_ℤ r) (combined (neg_ℤ r) (take 1 a) (drop 1 a)) (combined (neg_ℤ r) (drop 1 h) (take 1 h)) (behind ∷ []) (y ∷ []) (v ∷ []) (omega arith) (omega arith) refl y_same behind_is v_is in
+    product_both p 1 s r w a h (u ∷ []) (v ∷ []) (i ∷ []) (j ∷ []) a_long h_long refl square inverse left right
+    (only (λ k. Same (pos p) (pos (get_or (i ∷ []) k 0)) (pos (get_or (u ∷ []) k 0) +ℤ pos (get_or (v ∷ []) k 0))) i_is)
+    (only (λ k. Same (pos p) (pos (get_or (j ∷ []) k 0)) (w *ℤ (pos (get_or (u ∷ []) k 0) -ℤ pos (get_or (v ∷ []) k 0)))) j_is)
+
+-- ---- four numbers
+
+pub both_of : (P : ℕ → Type 0) → P 0 → P 1 → (i : ℕ) → i < 2 → P i
+both_of P first second zero lt = first
+both_of P first second (suc zero) lt = second
+both_of P first second (suc (suc i)) lt = absurd (omega arith)
+
+pub four_of : (xs : List ℕ) → length xs ≡ 4 → xs ≡ get_or xs 0 0 ∷ get_or xs 1 0 ∷ get_or xs 2 0 ∷ get_or xs 3 0 ∷ []
+four_of (x ∷ y ∷ z ∷ u ∷ []) long = refl
+four_of [] long = absurd (omega arith)
+four_of (x ∷ []) long = absurd (omega arith)
+four_of (x ∷ y ∷ []) long = absurd (omega arith)
+four_of (x ∷ y ∷ z ∷ []) long = absurd (omega arith)
+four_of (x ∷ y ∷ z ∷ u ∷ v ∷ xs) long = absurd (omega arith)
+
+pub four_set : (xs : List ℕ) (a b c d : ℕ) → length xs ≡ 4 → set (set (set (set xs 0 a) 1 b) 2 c) 3 d ≡ a ∷ b ∷ c ∷ d ∷ []
+four_set (x ∷ y ∷ z ∷ u ∷ []) a b c d long = refl
+four_set [] a b c d long = absurd (omega arith)
+four_set (x ∷ []) a b c d long = absurd (omega arith)
+four_set (x ∷ y ∷ []) a b c d long = absurd (omega arith)
+four_set (x ∷ y ∷ z ∷ []) a b c d long = absurd (omega arith)
+four_set (x ∷ y ∷ z ∷ u ∷ v ∷ xs) a b c d long = absurd (omega arith)

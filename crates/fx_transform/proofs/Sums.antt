@@ -12,7 +12,7 @@ use mathlib.Core.Logic.{inl, inr}
 use Rattle.fx_transform.specs.Products.{sum_of_products}
 use Rattle.fx_transform.specs.Residues.{Same}
 use Rattle.fx_transform.specs.Transform.{cyclic}
-use Rattle.fx_transform.specs.Sides.{padded}
+use Rattle.fx_transform.specs.Prepared.{padded}
 use Rattle.fx_transform.proofs.Numbers.{mul-add, mul_assoc, mul_swap}
 use Rattle.fx_transform.proofs.Residues.{same_is, same_on, same_times}
 use Rattle.fx_transform.proofs.Cyclic.{append_right, nothing}
@@ -143,7 +143,7 @@ sum-within most (x ∷ xs) (c ∷ cs) small =
     rw gain (omega arith)
 
 -- a sum of samples of 32 bits and small weights
-pub sum_few : (w ws : List ℤ) (i : ℕ) → ((k : ℕ) → unsigned_abs (get_or w k (pos 0)) ≤ 2 ^ 31) → sum_by unsigned_abs ws ≤ 2 ^ 29 → unsigned_abs (sum_of_products (drop i w) ws) ≤ 2 ^ 60
+pub sum_few : (w ws : List ℤ) (i : ℕ) → ((k : ℕ) → unsigned_abs (get_or w k (pos 0)) ≤ 2 ^ 31) → sum_by unsigned_abs ws ≤ 2 ^ 30 → unsigned_abs (sum_of_products (drop i w) ws) ≤ 2 ^ 61
 sum_few w ws i samples small =
     let whole = sum-within (2 ^ 31) (drop i w) ws (λ k. rw (get_or-drop i w k (pos 0)) (samples (i + k))) in
     omega arith

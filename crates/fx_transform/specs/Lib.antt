@@ -1,4 +1,4 @@
 pub mod Products
 pub mod Residues
 pub mod Transform
-pub mod Sides
+pub mod Prepared

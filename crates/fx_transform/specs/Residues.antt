@@ -1,15 +1,13 @@
 -- Whole numbers modulo another one.
-use Rattle.std.specs.Prelude.{ℕ, ◌≡◌, ◌<◌, ◌^◌, ◌⊎◌, List, ℤ, pos, ◌*ℤ◌, ◌+ℤ◌, length, slice_index_or}
+use Rattle.std.specs.Prelude.{ℕ, ◌≡◌, ◌<◌, List, ℤ, pos, ◌*ℤ◌, ◌+ℤ◌, length, slice_index_or}
 
 -- equal but for a multiple of p
 abbrev pub Same : ℤ → ℤ → ℤ → Type 0
 Same p a b = (k : ℤ) × (a ≡ b +ℤ (p *ℤ k))
 
--- the two moduli, primes with a root of order 2,048, and their size
-pub record IsModulus (p : ℕ) : Type 0 where
-  pub known : (p ≡ 2013265921) ⊎ (p ≡ 1811939329)
-  pub above : 2 ^ 30 < p
-  pub below : p < 2 ^ 31
+-- the modulus, a prime with a root of order 2,048
+abbrev pub modulus : ℕ
+modulus = 6269010681299730433
 
 -- remainders modulo p
 abbrev pub AreRemainders : ℕ → List ℕ → Type 0

@@ -1,10 +1,10 @@
-//! Sums of a long list of weights times the samples of a window, by transforms modulo two numbers.
+//! Sums of a long list of weights times the samples of a window, by transforms modulo a prime.
 #![tactic(auto)]
 
-mod joining;
+mod factor;
+mod loading;
 mod remainders;
 mod roots;
-mod side;
 mod spectrum;
 mod transform;
 

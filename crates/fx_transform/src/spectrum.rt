@@ -2,53 +2,47 @@
 ghost use Rattle.std.specs.Prelude.{◌≡◌, ◌<◌, ◌≤◌, ◌+◌, ◌^◌, ℕ, pos, drop, length, slice_index_or, sum_by, unsigned_abs, IfOk, IfSome, IsTrue};
 ghost use Rattle.fx_transform.specs.Products.{sum_of_products};
 
-use crate::joining::join;
-use crate::remainders::{FIRST, SECOND};
-use crate::side::{Prime, Side, prepared};
+use crate::factor::Factor;
+use crate::loading::{load, transformed};
+use crate::remainders::centered;
+use crate::roots::{are_roots, table};
+use crate::transform::multiply;
 use std::alloc::{AllocError, Global};
 use std::marker::Model;
 
-/// The first prime: the roots are powers of 31.
-const FIRST_PRIME: Prime = Prime {
-    p: FIRST,
-    root: 1_340_477_990,
-    inverse: 449_056_851,
-    scale: 2_012_282_881,
-};
+/// A root of order 2,048: a power of 5.
+const ROOT: u64 = 2_102_239_801_028_878_810;
 
-/// The second prime: the roots are powers of 13.
-const SECOND_PRIME: Prime = Prime {
-    p: SECOND,
-    root: 1_154_101_769,
-    inverse: 488_136_043,
-    scale: 1_811_054_593,
-};
+/// Its inverse.
+const INVERSE: u64 = 2_803_148_625_741_918_422;
 
-/// Weights prepared for sums by transforms: the weights, and what is prepared modulo each prime.
+/// Weights prepared for sums by transforms: the weights, a table of roots and their inverses, and the transform of the
+/// weights.
 #[derive(Drop)]
 pub struct Spectrum {
     weights: Vec<i32>,
-    first: Side,
-    second: Side,
+    roots: Vec<Factor>,
+    inverses: Vec<Factor>,
+    spectrum: Vec<Factor>,
 }
 
 // A spectrum is the list of its weights.
 impl Model for Spectrum {
     ghost use Rattle.std.specs.Prelude.{◌≤◌, ◌^◌, ℤ, List, length, sum_by, unsigned_abs};
-    ghost use Rattle.fx_transform.specs.Sides.{IsSide};
+    ghost use Rattle.fx_transform.specs.Prepared.{IsPrepared};
 
     ghost Value = { List ℤ };
 
     ghost view = { λ s. s.weights.items };
 
-    ghost invariant = { λ s. (length s.weights.items ≤ 1024) × (sum_by unsigned_abs s.weights.items ≤ 2 ^ 29) × IsSide 2013265921 s.weights.items s.first.roots.items s.first.inverses.items s.first.spectrum.items × IsSide 1811939329 s.weights.items s.second.roots.items s.second.inverses.items s.second.spectrum.items };
+    ghost invariant = { λ s. (length s.weights.items ≤ 1024) × (sum_by unsigned_abs s.weights.items ≤ 2 ^ 30) × IsPrepared s.weights.items s.roots.items s.inverses.items s.spectrum.items };
 }
 
-/// Tests that the magnitudes of weights add up to at most 2^29.
+/// Tests that the magnitudes of weights add up to at most 2^30.
 fn is_small(weights: &[i32]) -> bool
-    ensures { IsTrue result → sum_by unsigned_abs weights.now ≤ 2 ^ 29 }
+    ensures { IsTrue result → sum_by unsigned_abs weights.now ≤ 2 ^ 30 }
 {
-    let mut left = 536_870_912;
+    let mut left = 1_073_741_824;
     'weights: for weight in weights {
         let size = weight.unsigned_abs();
         if left < size {
@@ -60,7 +54,7 @@ fn is_small(weights: &[i32]) -> bool
 }
 
 impl Spectrum {
-    /// That of at most 1,024 weights. None where there are more, or where their magnitudes add up to more than 2^29;
+    /// That of at most 1,024 weights. None where there are more, or where their magnitudes add up to more than 2^30;
     /// `AllocError` where memory is refused.
     pub fn of(alloc: Global, weights: &[i32]) -> Result<Option<Spectrum>, AllocError>
         ensures value { IfOk result (λ s. IfSome s (λ v. v ≡ weights.now)) }
@@ -68,19 +62,27 @@ impl Spectrum {
         if weights.len() > 1024 || !is_small(weights) {
             return Ok(None);
         }
-        let Some(first) = prepared(alloc, weights, FIRST_PRIME)? else {
+        let roots = table(alloc, ROOT)?;
+        let inverses = table(alloc, INVERSE)?;
+        if !are_roots(&roots, &inverses) {
             return Ok(None);
-        };
-        let Some(second) = prepared(alloc, weights, SECOND_PRIME)? else {
-            return Ok(None);
-        };
+        }
+        let spectrum = transformed(alloc, &roots, weights)?;
         let mut own = Vec::new(alloc);
         own.extend_from_slice(weights)?;
         Ok(Some(Spectrum {
             weights: own,
-            first,
-            second,
+            roots,
+            inverses,
+            spectrum,
         }))
+    }
+
+    /// As many as there are weights.
+    pub fn len(&self) -> usize
+        ensures { result ≡ length self.now }
+    {
+        self.weights.len()
     }
 
     /// As `convolve`, at most as many sums as one transform gives.
@@ -91,12 +93,18 @@ impl Spectrum {
         ensures few { (i : ℕ) → i < length sums.new → unsigned_abs (slice_index_or sums.new i (pos 0)) ≤ 2 ^ 61 }
     {
         let piece = &window[..window.len().min(2047)];
-        let mut first = [0; 2048];
-        self.first.sums(piece, &mut first, FIRST);
-        let mut second = [0; 2048];
-        self.second.sums(piece, &mut second, SECOND);
+        let mut values = [0; 2048];
+        load(piece, &mut values);
+        multiply(
+            &self.roots,
+            &self.inverses,
+            11,
+            0,
+            &self.spectrum,
+            &mut values,
+        );
         'places: for place in 0..sums.len() {
-            sums[place] = join(first[place], second[place]);
+            sums[place] = centered(values[place]);
         }
     }
 

@@ -25,11 +25,11 @@ fn samples(alloc: Global, count: usize) -> Result<Vec<i32>, AllocError> {
     Ok(samples)
 }
 
-/// At most 1,024 weights whose magnitudes add up to at most 2^29.
+/// At most 1,024 weights whose magnitudes add up to at most 2^30.
 fn weights(alloc: Global, count: usize) -> Result<Vec<i32>, AllocError> {
     let mut weights = Vec::new(alloc);
     for place in 0..count {
-        weights.push(noise(place.wrapping_add(77_777)) / 4096)?;
+        weights.push(noise(place.wrapping_add(77_777)) / 2048)?;
     }
     Ok(weights)
 }
@@ -83,12 +83,12 @@ fn sums_of_all_lengths(rt: HostRuntime) -> Result<(), AllocError> {
 fn greatest_sums(rt: HostRuntime) -> Result<(), AllocError> {
     let alloc = rt.alloc();
     for (sample, weight, taps) in [
-        (i32::MIN, 536_870_912, 1),
-        (i32::MIN, -536_870_912, 1),
-        (i32::MAX, 536_870_912, 1),
-        (i32::MIN, 524_288, 1024),
-        (i32::MIN, -524_288, 1024),
-        (i32::MAX, -524_288, 1024),
+        (i32::MIN, 1_073_741_824, 1),
+        (i32::MIN, -1_073_741_824, 1),
+        (i32::MAX, 1_073_741_824, 1),
+        (i32::MIN, 1_048_576, 1024),
+        (i32::MIN, -1_048_576, 1024),
+        (i32::MAX, -1_048_576, 1024),
     ] {
         let mut weights = Vec::new(alloc);
         weights.resize(taps, weight)?;
@@ -108,13 +108,13 @@ fn greatest_sums(rt: HostRuntime) -> Result<(), AllocError> {
 fn weights_refused(rt: HostRuntime) -> Result<(), AllocError> {
     let alloc = rt.alloc();
     for (weight, taps, is_fine) in [
-        (536_870_912, 1, true),
-        (536_870_913, 1, false),
-        (-536_870_913, 1, false),
+        (1_073_741_824, 1, true),
+        (1_073_741_825, 1, false),
+        (-1_073_741_825, 1, false),
         (i32::MIN, 1, false),
-        (524_288, 1024, true),
-        (524_289, 1024, false),
-        (-524_289, 1024, false),
+        (1_048_576, 1024, true),
+        (1_048_577, 1024, false),
+        (-1_048_577, 1024, false),
         (0, 1025, false),
     ] {
         let mut weights = Vec::new(alloc);

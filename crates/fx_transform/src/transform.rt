@@ -1,105 +1,191 @@
-//! Transforms of 2^levels remainders modulo a prime, in place.
-ghost use Rattle.std.specs.Prelude.{◌≡◌, ◌<◌, ◌≤◌, ◌+◌, ◌*◌, ◌^◌, ℕ, ℤ, List, pos, neg_ℤ, ◌+ℤ◌, ◌-ℤ◌, ◌*ℤ◌, length, slice_index_or};
-ghost use Rattle.fx_transform.specs.Residues.{IsModulus, Same, AreRemainders, AreSame};
+//! Transforms of 2^levels remainders, in place.
+ghost use Rattle.std.specs.Prelude.{◌≡◌, ◌<◌, ◌≤◌, ◌+◌, ◌*◌, ◌^◌, ℕ, ℤ, List, [], ◌∷◌, pos, neg_ℤ, ◌+ℤ◌, ◌-ℤ◌, ◌*ℤ◌, length, slice_index_or};
+ghost use Rattle.fx_transform.specs.Residues.{Same, AreRemainders, AreSame};
 ghost use Rattle.fx_transform.specs.Transform.{AreRoots, IsProduct, IsTransform, root_at};
 
-use crate::remainders::{difference, product, sum};
+use crate::factor::Factor;
+use crate::remainders::{MODULUS, difference, sum};
+
+/// `low + root * high` and `low - root * high`.
+#[inline(always)]
+fn spread_pair(root: Factor, low: u64, high: u64) -> (u64, u64)
+    requires low { low < MODULUS }
+    requires high { high < MODULUS }
+    ensures low { result.0 < MODULUS }
+    ensures high { result.1 < MODULUS }
+    ensures plus { Same (pos MODULUS) (pos result.0) (pos low +ℤ (pos root *ℤ pos high)) }
+    ensures minus { Same (pos MODULUS) (pos result.1) (pos low +ℤ (neg_ℤ (pos root) *ℤ pos high)) }
+{
+    let part = root.times(high);
+    (sum(low, part), difference(low, part))
+}
+
+/// `low + high` and `inverse * (low - high)`.
+#[inline(always)]
+fn gather_pair(inverse: Factor, low: u64, high: u64) -> (u64, u64)
+    requires low { low < MODULUS }
+    requires high { high < MODULUS }
+    ensures low { result.0 < MODULUS }
+    ensures high { result.1 < MODULUS }
+    ensures plus { Same (pos MODULUS) (pos result.0) (pos low +ℤ pos high) }
+    ensures minus { Same (pos MODULUS) (pos result.1) (pos inverse *ℤ (pos low -ℤ pos high)) }
+{
+    (sum(low, high), inverse.times(difference(low, high)))
+}
 
 /// Sets each pair of numbers to `low + root * high` and `low - root * high`.
 #[inline(always)]
-fn spread(root: u32, low: &mut [u32], high: &mut [u32], p: u32)
-    requires modulus { IsModulus p }
-    requires root { root < p }
+fn spread(root: Factor, low: &mut [u64], high: &mut [u64])
     requires as_many { length low.old ≡ length high.old }
-    requires low { AreRemainders p low.old }
-    requires high { AreRemainders p high.old }
-    ensures low { AreRemainders p low.new }
-    ensures high { AreRemainders p high.new }
-    ensures plus { (i : ℕ) → i < length low.new → Same (pos p) (pos (slice_index_or low.new i 0)) (pos (slice_index_or low.old i 0) +ℤ (pos root *ℤ pos (slice_index_or high.old i 0))) }
-    ensures minus { (i : ℕ) → i < length low.new → Same (pos p) (pos (slice_index_or high.new i 0)) (pos (slice_index_or low.old i 0) +ℤ (neg_ℤ (pos root) *ℤ pos (slice_index_or high.old i 0))) }
+    requires low { AreRemainders MODULUS low.old }
+    requires high { AreRemainders MODULUS high.old }
+    ensures low { AreRemainders MODULUS low.new }
+    ensures high { AreRemainders MODULUS high.new }
+    ensures plus { (i : ℕ) → i < length low.new → Same (pos MODULUS) (pos (slice_index_or low.new i 0)) (pos (slice_index_or low.old i 0) +ℤ (pos root *ℤ pos (slice_index_or high.old i 0))) }
+    ensures minus { (i : ℕ) → i < length low.new → Same (pos MODULUS) (pos (slice_index_or high.new i 0)) (pos (slice_index_or low.old i 0) +ℤ (neg_ℤ (pos root) *ℤ pos (slice_index_or high.old i 0))) }
 {
     'pairs: for place in 0..low.len() {
-        let part = product(root, high[place], p);
-        let here = low[place];
-        low[place] = sum(here, part, p);
-        high[place] = difference(here, part, p);
+        let pair: (u64, u64) = spread_pair(root, low[place], high[place]);
+        low[place] = pair.0;
+        high[place] = pair.1;
     }
 }
 
 /// Sets each pair of numbers to `low + high` and `inverse * (low - high)`.
 #[inline(always)]
-fn gather(inverse: u32, low: &mut [u32], high: &mut [u32], p: u32)
-    requires modulus { IsModulus p }
-    requires inverse { inverse < p }
+fn gather(inverse: Factor, low: &mut [u64], high: &mut [u64])
     requires as_many { length low.old ≡ length high.old }
-    requires low { AreRemainders p low.old }
-    requires high { AreRemainders p high.old }
-    ensures low { AreRemainders p low.new }
-    ensures high { AreRemainders p high.new }
-    ensures plus { (i : ℕ) → i < length low.new → Same (pos p) (pos (slice_index_or low.new i 0)) (pos (slice_index_or low.old i 0) +ℤ pos (slice_index_or high.old i 0)) }
-    ensures minus { (i : ℕ) → i < length low.new → Same (pos p) (pos (slice_index_or high.new i 0)) (pos inverse *ℤ (pos (slice_index_or low.old i 0) -ℤ pos (slice_index_or high.old i 0))) }
+    requires low { AreRemainders MODULUS low.old }
+    requires high { AreRemainders MODULUS high.old }
+    ensures low { AreRemainders MODULUS low.new }
+    ensures high { AreRemainders MODULUS high.new }
+    ensures plus { (i : ℕ) → i < length low.new → Same (pos MODULUS) (pos (slice_index_or low.new i 0)) (pos (slice_index_or low.old i 0) +ℤ pos (slice_index_or high.old i 0)) }
+    ensures minus { (i : ℕ) → i < length low.new → Same (pos MODULUS) (pos (slice_index_or high.new i 0)) (pos inverse *ℤ (pos (slice_index_or low.old i 0) -ℤ pos (slice_index_or high.old i 0))) }
 {
     'pairs: for place in 0..low.len() {
-        let here = low[place];
-        let there = high[place];
-        low[place] = sum(here, there, p);
-        high[place] = product(inverse, difference(here, there, p), p);
+        let pair: (u64, u64) = gather_pair(inverse, low[place], high[place]);
+        low[place] = pair.0;
+        high[place] = pair.1;
     }
 }
 
 /// Transforms 2^levels numbers that stand backwards, from a place of the table of roots on.
-pub(crate) fn forward(roots: &[u32], levels: usize, place: usize, values: &mut [u32], p: u32)
-    requires modulus { IsModulus p }
+pub(crate) fn forward(roots: &[Factor], levels: usize, place: usize, values: &mut [u64])
     requires table { length roots.now ≡ 1024 }
-    requires roots { AreRemainders p roots.now }
     requires power { length values.old ≡ 2 ^ levels }
     requires place { (place + 1) * length values.old ≤ 2048 }
-    requires values { AreRemainders p values.old }
-    ensures values { AreRemainders p values.new }
-    ensures transform { (h : List ℤ) → length h ≡ length values.old → AreSame p values.old h → IsTransform p roots.now levels place h values.new }
+    requires values { AreRemainders MODULUS values.old }
+    ensures values { AreRemainders MODULUS values.new }
+    ensures transform { (h : List ℤ) → length h ≡ length values.old → AreSame MODULUS values.old h → IsTransform MODULUS roots.now levels place h values.new }
 {
     if levels == 0 {
         return;
     }
     let half = values.len() / 2;
     let (low, high) = values.split_at_mut(half);
-    spread(roots[place], high, low, p);
-    forward(roots, levels - 1, 2 * place, high, p);
-    forward(roots, levels - 1, 2 * place + 1, low, p);
+    spread(roots[place], high, low);
+    forward(roots, levels - 1, 2 * place, high);
+    forward(roots, levels - 1, 2 * place + 1, low);
 }
 
-/// Multiplies 2^levels numbers by those whose transform stands backwards in a spectrum, modulo x^n - s, where s is the
-/// square of the root at a place of the table.
-pub(crate) fn multiply(
-    roots: &[u32],
-    inverses: &[u32],
-    levels: usize,
+/// Multiplies two numbers by those whose transform is `behind` and `front`, modulo x^2 - s, where s is the square of the root.
+#[inline(always)]
+fn multiply_two(
+    root: Factor,
+    inverse: Factor,
+    behind: Factor,
+    front: Factor,
+    low: u64,
+    high: u64,
+) -> (u64, u64)
+    requires inverse { Same (pos MODULUS) (pos inverse *ℤ pos root) (pos 1) }
+    requires low { low < MODULUS }
+    requires high { high < MODULUS }
+    ensures low { result.0 < MODULUS }
+    ensures high { result.1 < MODULUS }
+    ensures product { (roots : List ℕ) (place : ℕ) (s : ℤ) (a h : List ℤ) → slice_index_or roots place 0 ≡ root → Same (pos MODULUS) (pos root *ℤ pos root) s → length a ≡ 2 → length h ≡ 2 → AreSame MODULUS (low ∷ high ∷ []) a → IsTransform MODULUS roots 1 place h (behind ∷ front ∷ []) → IsProduct MODULUS 2 s a h (result.0 ∷ result.1 ∷ []) }
+{
+    let parts: (u64, u64) = spread_pair(root, low, high);
+    gather_pair(inverse, front.times(parts.0), behind.times(parts.1))
+}
+
+/// As `multiply`, four numbers.
+#[inline(always)]
+fn multiply_four(
+    roots: &[Factor],
+    inverses: &[Factor],
     place: usize,
-    spectrum: &[u32],
-    values: &mut [u32],
-    p: u32,
+    spectrum: &[Factor],
+    values: &mut [u64],
 )
-    requires modulus { IsModulus p }
     requires table { length roots.now ≡ 1024 }
     requires beside { length inverses.now ≡ 1024 }
-    requires roots { AreRemainders p roots.now }
-    requires inverses { AreRemainders p inverses.now }
-    requires are { AreRoots p roots.now inverses.now }
+    requires are { AreRoots MODULUS roots.now inverses.now }
+    requires four { length values.old ≡ 4 }
+    requires as_many { length spectrum.now ≡ 4 }
+    requires place { place < 512 }
+    requires values { AreRemainders MODULUS values.old }
+    ensures values { AreRemainders MODULUS values.new }
+    ensures product { (s : ℤ) (a h : List ℤ) → Same (pos MODULUS) (root_at roots.now place *ℤ root_at roots.now place) s → length a ≡ 4 → length h ≡ 4 → AreSame MODULUS values.old a → IsTransform MODULUS roots.now 2 place h spectrum.now → IsProduct MODULUS 4 s a h values.new }
+{
+    let root = roots[place];
+    let first: (u64, u64) = spread_pair(root, values[0], values[2]);
+    let second: (u64, u64) = spread_pair(root, values[1], values[3]);
+    let even = 2 * place;
+    let low: (u64, u64) = multiply_two(
+        roots[even],
+        inverses[even],
+        spectrum[2],
+        spectrum[3],
+        first.0,
+        second.0,
+    );
+    let odd = 2 * place + 1;
+    let high: (u64, u64) = multiply_two(
+        roots[odd],
+        inverses[odd],
+        spectrum[0],
+        spectrum[1],
+        first.1,
+        second.1,
+    );
+    let inverse = inverses[place];
+    let first: (u64, u64) = gather_pair(inverse, low.0, high.0);
+    let second: (u64, u64) = gather_pair(inverse, low.1, high.1);
+    values[0] = first.0;
+    values[1] = second.0;
+    values[2] = first.1;
+    values[3] = second.1;
+}
+
+/// Multiplies 2^levels numbers, at least four, by those whose transform stands backwards in a spectrum, modulo x^n - s, where s is the
+/// square of the root at a place of the table.
+pub(crate) fn multiply(
+    roots: &[Factor],
+    inverses: &[Factor],
+    levels: usize,
+    place: usize,
+    spectrum: &[Factor],
+    values: &mut [u64],
+)
+    requires table { length roots.now ≡ 1024 }
+    requires beside { length inverses.now ≡ 1024 }
+    requires are { AreRoots MODULUS roots.now inverses.now }
+    requires levels { 2 ≤ levels }
     requires power { length values.old ≡ 2 ^ levels }
     requires as_many { length spectrum.now ≡ length values.old }
     requires place { (place + 1) * length values.old ≤ 2048 }
-    requires spectrum { AreRemainders p spectrum.now }
-    requires values { AreRemainders p values.old }
-    ensures values { AreRemainders p values.new }
-    ensures product { (s : ℤ) (a h : List ℤ) → (0 < levels → Same (pos p) (root_at roots.now place *ℤ root_at roots.now place) s) → length a ≡ length values.old → length h ≡ length values.old → AreSame p values.old a → IsTransform p roots.now levels place h spectrum.now → IsProduct p (length values.old) s a h values.new }
+    requires values { AreRemainders MODULUS values.old }
+    ensures values { AreRemainders MODULUS values.new }
+    ensures product { (s : ℤ) (a h : List ℤ) → Same (pos MODULUS) (root_at roots.now place *ℤ root_at roots.now place) s → length a ≡ length values.old → length h ≡ length values.old → AreSame MODULUS values.old a → IsTransform MODULUS roots.now levels place h spectrum.now → IsProduct MODULUS (length values.old) s a h values.new }
 {
-    if levels == 0 {
-        values[0] = product(values[0], spectrum[0], p);
+    if levels == 2 {
+        multiply_four(roots, inverses, place, spectrum, values);
         return;
     }
     let half = values.len() / 2;
     let (low, high) = values.split_at_mut(half);
-    spread(roots[place], low, high, p);
+    spread(roots[place], low, high);
     multiply(
         roots,
         inverses,
@@ -107,7 +193,6 @@ pub(crate) fn multiply(
         2 * place,
         &spectrum[half..],
         low,
-        p,
     );
     multiply(
         roots,
@@ -116,7 +201,6 @@ pub(crate) fn multiply(
         2 * place + 1,
         &spectrum[..half],
         high,
-        p,
     );
-    gather(inverses[place], low, high, p);
+    gather(inverses[place], low, high);
 }

@@ -1,25 +1,20 @@
-use Rattle.std.proofs.Common.{arith, ◌≡◌, ◌-◌, ◌/◌, ◌∙◌, ℕ, ℤ, neg_ℤ, length, take, drop}
+use Rattle.std.proofs.Common.{arith, ◌≡◌, ◌-◌, ◌/◌, ◌∙◌, ℕ, ℤ, neg_ℤ, length, get_or, take, drop}
+use Rattle.std.proofs.lemmas.Grind.{get_or_default_zero}
 use Rattle.std.proofs.lemmas.List.{length-drop, length-take-le}
-use Rattle.fx_transform.specs.Residues.{AreSame}
+use Rattle.fx_transform.specs.Residues.{AreSame, modulus}
 use Rattle.fx_transform.specs.Transform.{combined, root_at}
 use Rattle.fx_transform.proofs.Steps.{halved, place_left, place_right, place_less, transform_one, transform_both, combined_same, same_front, same_back}
 use Rattle.fx_transform.proofs.Cyclic.{length-combined}
 use Rattle.fx_transform.proofs.transform.+forward.Goals as goal
 
 pub returns-then-levels-eq0-clause-transform : goal.returns-then-levels-eq0-clause-transform
-returns-then-levels-eq0-clause-transform t c = λ h long same. transform_one c.args.p c.args.roots.now c.args.levels c.args.place h c.args.values.now (omega arith) c.requires.power same
+returns-then-levels-eq0-clause-transform t c = λ h long same. transform_one modulus c.args.roots.now c.args.levels c.args.place h c.args.values.now (omega arith) c.requires.power same
 
 pub bounds-roots-place : goal.bounds-roots-place
 bounds-roots-place t c =
     let half = halved c.args.levels (length c.args.values.now) c.requires.power (omega arith) in
     let few = place_less c.args.place (length c.args.values.now) 2 (omega arith) c.requires.place in
     omega arith
-
-pub spread-requires-clause-root : goal.spread-requires-clause-root
-spread-requires-clause-root t c =
-    let half = halved c.args.levels (length c.args.values.now) c.requires.power (omega arith) in
-    let few = place_less c.args.place (length c.args.values.now) 2 (omega arith) c.requires.place in
-    c.requires.roots c.args.place (omega arith)
 
 pub spread-requires-clause-as_many : goal.spread-requires-clause-as_many
 spread-requires-clause-as_many t c =
@@ -30,13 +25,13 @@ pub forward-requires : goal.forward-requires
 forward-requires t c =
     let half = halved c.args.levels (length c.args.values.now) c.requires.power (omega arith) in
     let long : length c.spread.new.low ≡ length c.args.values.now / 2 = omega (arith, c.spread.auto.low, c.split_at_mut-low.ensures.front_len, c.split_at_mut-low.ensures.back_len) in
-    (omega arith, (c.requires.modulus, (c.requires.table, (c.requires.roots, (long ∙ half.power, (rw long (place_left c.args.place (length c.args.values.now) (length c.args.values.now / 2) half.twice c.requires.place), c.spread.ensures.low))))))
+    (omega arith, (c.requires.table, (long ∙ half.power, (rw long (place_left c.args.place (length c.args.values.now) (length c.args.values.now / 2) half.twice c.requires.place), c.spread.ensures.low))))
 
 pub forward-requires-2 : goal.forward-requires-2
 forward-requires-2 t c =
     let half = halved c.args.levels (length c.args.values.now) c.requires.power (omega arith) in
     let long : length c.spread.new.high ≡ length c.args.values.now / 2 = omega (arith, c.spread.auto.high, c.split_at_mut-low.ensures.front_len, c.split_at_mut-low.ensures.back_len) in
-    (omega arith, (c.requires.modulus, (c.requires.table, (c.requires.roots, (long ∙ half.power, (rw long (place_right c.args.place (length c.args.values.now) (length c.args.values.now / 2) half.twice c.requires.place), c.spread.ensures.high))))))
+    (omega arith, (c.requires.table, (long ∙ half.power, (rw long (place_right c.args.place (length c.args.values.now) (length c.args.values.now / 2) half.twice c.requires.place), c.spread.ensures.high))))
 
 pub returns-clause-transform : goal.returns-clause-transform
 returns-clause-transform t c = λ h h_long same.
@@ -55,13 +50,15 @@ returns-clause-transform t c = λ h h_long same.
     let right_long = c.spread.auto.high in
     let front = length-take-le m h (omega arith) in
     let back = length-drop m h in
-    let low_same : AreSame c.args.p low (take m h) = rw c.split_at_mut-low.ensures.front (same_front c.args.p m v h (omega arith) same) in
-    let high_same : AreSame c.args.p high (drop m h) = rw c.split_at_mut-low.ensures.back (same_back c.args.p m v h same) in
-    let left_same = combined_same c.args.p r (drop m h) (take m h) high low xs (omega arith) (omega arith) (omega arith) (omega arith) high_same low_same c.spread.ensures.plus in
-    let right_same = combined_same c.args.p (neg_ℤ r) (drop m h) (take m h) high low ys (omega arith) (omega arith) (omega arith) (omega arith) high_same low_same (λ i lt. c.spread.ensures.minus i (omega arith)) in
+    let low_same : AreSame modulus low (take m h) = rw c.split_at_mut-low.ensures.front (same_front modulus m v h (omega arith) same) in
+    let high_same : AreSame modulus high (drop m h) = rw c.split_at_mut-low.ensures.back (same_back modulus m v h same) in
+    let few = place_less c.args.place n 2 (omega arith) c.requires.place in
+    let root : c.index-roots-place.result ≡ get_or c.args.roots.now c.args.place 0 = c.index-roots-place.is ∙ get_or_default_zero c.args.roots.now c.args.place c.index-roots-place.result (omega arith) in
+    let left_same = combined_same modulus r (drop m h) (take m h) high low xs (omega arith) (omega arith) (omega arith) (omega arith) high_same low_same (rw root at c.spread.ensures.plus) in
+    let right_same = combined_same modulus (neg_ℤ r) (drop m h) (take m h) high low ys (omega arith) (omega arith) (omega arith) (omega arith) high_same low_same (λ i lt. rw root at (c.spread.ensures.minus i (omega arith))) in
     let left_size = length-combined r (drop m h) (take m h) (omega arith) in
     let right_size = length-combined (neg_ℤ r) (drop m h) (take m h) (omega arith) in
     let left = c.forward.ensures.transform (combined r (drop m h) (take m h)) (omega arith) left_same in
     let right = c.forward-2.ensures.transform (combined (neg_ℤ r) (drop m h) (take m h)) (omega arith) right_same in
     let new_long = c.forward-2.auto.values in
-    transform_both c.args.p c.args.roots.now c.args.levels n (c.args.levels - 1) m c.args.place h c.forward.new.values c.forward-2.new.values half (omega arith) left right
+    transform_both modulus c.args.roots.now c.args.levels n (c.args.levels - 1) m c.args.place h c.forward.new.values c.forward-2.new.values half (omega arith) left right

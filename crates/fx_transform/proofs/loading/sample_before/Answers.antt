@@ -1,5 +1,5 @@
 use Rattle.std.proofs.Common.{arith, rules, ◌≡◌, ◌<◌, ◌-◌, ◌∙◌, ℕ, zero, suc, ℤ, pos, List, ◌∷◌, get_or, refl, to_z, of_z, w32}
-use Rattle.fx_transform.proofs.side.sample_before.Goals as goal
+use Rattle.fx_transform.proofs.loading.sample_before.Goals as goal
 
 before : (w : List ℤ) (place : ℕ) → 0 < place → get_or w (place - 1) (pos 0) ≡ get_or (pos 0 ∷ w) place (pos 0)
 before w zero some = absurd (omega arith)
