@@ -1,6 +1,6 @@
 -- The gains of an `echo` or `echos` in lowest terms.
-use Rattle.std.proofs.Common.{ℕ, ℤ, pos, zero, suc, ◌+◌, ◌*◌, ◌^◌, ◌<◌, ◌≤◌, ◌≡◌, ◌+ℤ◌, ◌*ℤ◌, List, [], ◌∷◌, drop, length, map, get_or, refl, sym, ap, ◌∙◌, arith, zero-add, to_z, of_z}
-use Rattle.std.specs.Prelude.{slice_index_or, IfSome, None, Option, Some}
+use Rattle.std.proofs.Common.{ℕ, ℤ, pos, zero, suc, ◌+◌, ◌*◌, ◌^◌, ◌<◌, ◌≤◌, ◌≡◌, ◌+ℤ◌, ◌*ℤ◌, List, [], ◌∷◌, drop, length, map, get_or, refl, sym, ap, ◌∙◌, arith, to_z, of_z}
+use Rattle.std.specs.Prelude.{IfSome, None, Option, Some}
 use Rattle.std.specs.Int.{w32}
 use Rattle.std.proofs.lemmas.Int.{fits_signed_from_abs, ints, to_z-of_z}
 use Rattle.std.proofs.lemmas.List.{length-drop, length-map}
@@ -8,14 +8,12 @@ use Rattle.fx_fixed.specs.Reduced.{IsReduced}
 use Rattle.fx_fixed.specs.Rounding.{rounding}
 use Rattle.fx_fixed.specs.declared.gains.TheConstants.{UNIT}
 use Rattle.fx_fixed.proofs.Reductions.{rounding-reduced}
-use Rattle.fx_tap.specs.Lists.{tabulate}
 use Rattle.fx_tap.specs.Echo.{EchoArguments, echo_sum, echoed_sample, echoes_of}
 use Rattle.fx_tap.specs.EchoWeights.{AreSmall, SoundsAs, Suits, Weights, weighed, weighed_echoes}
-use Rattle.fx_tap.specs.Products.{sum_of_products}
+use Rattle.fx_transform.specs.Products.{sum_of_products}
 use Rattle.fx_tap.specs.Tapped.{Past}
 use Rattle.fx_tap.proofs.Fractions.{below-positive}
 use Rattle.fx_tap.proofs.SignedProducts.{mul-add, mul_assoc}
-use Rattle.fx_tap.proofs.Tabulate.{tabulate-same}
 
 -- ---- places of the weighed echoes
 

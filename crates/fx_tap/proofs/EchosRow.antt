@@ -15,7 +15,7 @@ use Rattle.fx_tap.specs.Rounded.{given_of}
 use Rattle.fx_tap.proofs.Tabulate.{tabulate-same}
 use Rattle.fx_tap.specs.Echos.{IsRowLine, after_push, decays, fed, frame_of_lines, let_go, line_at, lines_after, or_silence, up_to}
 use Rattle.fx_tap.specs.Lists.{tabulate}
-use Rattle.fx_tap.specs.Products.{sum_of_products}
+use Rattle.fx_transform.specs.Products.{sum_of_products}
 use borrow.Author.Tests.{ltb-true, ltb-false}
 use Rattle.fx_tap.proofs.DelayLaws.{quiet-sample}
 use Rattle.fx_tap.proofs.SumLaws.{added-few, scaled-few}

@@ -11,7 +11,7 @@ use Rattle.fx_frame.specs.Stage.{Gave, Took, Freezes, numbers_of}
 use Rattle.fx_tap.specs.Tapped.{sample_before}
 use Rattle.fx_tap.specs.Fir.{FirArguments, FirState, IsFir, centre, filtered_frame, filtered_at, filtered, fir_behind, fir_tail, fir_acts, arguments_of}
 use Rattle.fx_tap.specs.Lists.{tabulate}
-use Rattle.fx_tap.specs.Products.{sum_of_products}
+use Rattle.fx_transform.specs.Products.{sum_of_products}
 use Rattle.fx_tap.specs.Rounded.{samples_of, clips_of, given_of}
 use Rattle.fx_fixed.specs.Rounding.{rounding}
 use Rattle.fx_fixed.specs.declared.gains.TheConstants.{UNIT}

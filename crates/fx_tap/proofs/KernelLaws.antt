@@ -9,7 +9,7 @@ use Rattle.fx_fixed.specs.Rounding.{rounding}
 use Rattle.fx_fixed.proofs.Reductions.{rounding-reduced}
 use Rattle.fx_tap.specs.EchoWeights.{Weights}
 use Rattle.fx_tap.specs.SmallWeights.{SumsAs}
-use Rattle.fx_tap.specs.Products.{sum_of_products}
+use Rattle.fx_transform.specs.Products.{sum_of_products}
 use Rattle.fx_tap.proofs.Fractions.{below-positive, one-times}
 use Rattle.fx_tap.proofs.SignedProducts.{mul-add, mul_assoc}
 

@@ -13,7 +13,7 @@ use Rattle.fx_fixed.specs.declared.gains.TheConstants.{UNIT}
 use Rattle.fx_fixed.specs.declared.weights.Weight.{Weight}
 use Rattle.fx_tap.specs.EchoWeights.{Weights}
 use Rattle.fx_tap.specs.Mix.{IsContribution, all_parts, pair_of}
-use Rattle.fx_tap.specs.Products.{sum_of_products}
+use Rattle.fx_transform.specs.Products.{sum_of_products}
 use Rattle.fx_tap.specs.SmallWeights.{SumsAs}
 use Rattle.fx_tap.proofs.Convolving.{Adding, Adding-next}
 use Rattle.fx_tap.proofs.KernelLaws.{rounded-as}

@@ -10,7 +10,7 @@ use Rattle.fx_frame.specs.Frame.{Samples}
 use Rattle.fx_frame.specs.Line.{channel_of}
 use Rattle.fx_tap.specs.Fir.{samples_of_window, samples_back, filtered_sample}
 use Rattle.fx_tap.specs.Lists.{tabulate}
-use Rattle.fx_tap.specs.Products.{sum_of_products}
+use Rattle.fx_transform.specs.Products.{sum_of_products}
 use Rattle.fx_tap.proofs.Tabulate.{tabulate-append, tabulate-same, length-tabulate}
 
 -- one product more

@@ -11,7 +11,7 @@ use Rattle.fx_frame.specs.Stage.{Given, Acts}
 use Rattle.fx_tap.specs.Tapped.{Taps, sample_before}
 use Rattle.fx_tap.specs.Lists.{tabulate}
 use Rattle.fx_tap.specs.Mapped.{most_taken}
-use Rattle.fx_tap.specs.Products.{sum_of_products}
+use Rattle.fx_transform.specs.Products.{sum_of_products}
 use Rattle.fx_tap.specs.Rounded.{given_of}
 
 -- what a `Fir` is made with: its channels, and its coefficients in trillionths

@@ -13,7 +13,6 @@ pub mod Mix
 pub mod Near
 pub mod PerSample
 pub mod Remix
-pub mod Products
 pub mod Rounded
 pub mod SmallWeights
 pub mod Tapped

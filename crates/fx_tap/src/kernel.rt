@@ -4,13 +4,12 @@ ghost use Rattle.fx_fixed.specs.Rounding.{rounding};
 ghost use Rattle.fx_tap.specs.Fir.{samples_of_window};
 ghost use Rattle.fx_tap.specs.SmallWeights.{SumsAs};
 ghost use Rattle.fx_tap.specs.Lists.{tabulate};
-ghost use Rattle.fx_tap.specs.Products.{sum_of_products};
+ghost use Rattle.fx_transform.specs.Products.{sum_of_products};
 ghost use Rattle.fx_tap.specs.Rounded.{clips_of};
 
 use crate::channels::round_channel;
-use crate::convolve::{convolve, small_dot};
 use crate::products::dot;
-use crate::small::{Small, small_of};
+use crate::reduced::{Reduced, SUMS_OF_PIECE};
 use fx_fixed::{Gain, UNIT, round_clip};
 use std::alloc::{AllocError, Global};
 use std::marker::Model;
@@ -32,7 +31,7 @@ fn reversed(alloc: Global, coefficients: &[Gain]) -> Result<Vec<i64>, AllocError
 #[derive(Drop)]
 pub(crate) struct Kernel {
     backwards: Vec<i64>,
-    small: Option<Small>,
+    reduced: Option<Reduced>,
 }
 
 impl Model for Kernel {
@@ -44,7 +43,7 @@ impl Model for Kernel {
 
     ghost view = { λ s. s.backwards.items };
 
-    ghost invariant = { λ s. (length s.backwards.items ≤ 1024) × All (λ c. unsigned_abs c ≤ 10 ^ 15) s.backwards.items × IfSome s.small (SumsAs s.backwards.items UNIT) };
+    ghost invariant = { λ s. (length s.backwards.items ≤ 1024) × All (λ c. unsigned_abs c ≤ 10 ^ 15) s.backwards.items × IfSome s.reduced (SumsAs s.backwards.items UNIT) };
 }
 
 /// A sample in trillionths, rounded; true beside it where it was clipped.
@@ -64,8 +63,8 @@ impl Kernel {
         ensures small { IfOk result (λ k. All (λ c. unsigned_abs c ≤ 10 ^ 15) k) }
     {
         let backwards = reversed(alloc, coefficients)?;
-        let small = small_of(alloc, &backwards, UNIT)?;
-        Ok(Kernel { backwards, small })
+        let reduced = Reduced::of(alloc, &backwards, UNIT)?;
+        Ok(Kernel { backwards, reduced })
     }
 
     /// How many coefficients there are.
@@ -76,15 +75,26 @@ impl Kernel {
         self.backwards.len()
     }
 
+    /// How many frames are best filtered at once.
+    pub(crate) fn most_at_once(&self) -> usize
+        ensures some { 1 ≤ result }
+        ensures few { result ≤ 1920 }
+        ensures fits { length self.now + result ≤ 2048 }
+    {
+        match &self.reduced {
+            Some(reduced) => reduced.most_at_once(),
+            None => SUMS_OF_PIECE,
+        }
+    }
+
     /// The sum of the coefficients from one on times as many samples, rounded; true beside it where it was clipped.
     #[inline(always)]
     fn weigh_from(&self, from: usize, samples: &[i32]) -> (i32, bool)
         requires { from + length samples.now ≤ length self.now }
         ensures { result ≡ rounding (sum_of_products samples.now (drop from self.now)) UNIT }
     {
-        if let Some(small) = &self.small {
-            let weights = &small.weights[from..from + samples.len()];
-            return small.denominator.round(small_dot(weights, samples));
+        if let Some(reduced) = &self.reduced {
+            return reduced.weigh(from, samples);
         }
         let coefficients = &self.backwards[from..from + samples.len()];
         rounded(dot(samples, coefficients))
@@ -136,32 +146,29 @@ impl Kernel {
         clips
     }
 
-    /// Writes one channel of so many frames, at most 256, and counts how many samples were clipped: the sums of the
-    /// coefficients times as many samples of the window from each of its places on, rounded.
+    /// Writes one channel of as many frames as there are places for sums, and counts how many samples were clipped: the sums
+    /// of the coefficients times as many samples of the window from each of its places on, rounded.
     pub(crate) fn filter_channel(
         &self,
         window: &[i32],
-        count: usize,
+        sums: &mut [i64],
         channels: usize,
         channel: usize,
         out: &mut [i32],
     ) -> u64
         requires channel { channel < channels }
         requires channels { channels ≤ 16 }
-        requires count { count ≤ 256 }
-        requires window { length self.now + count ≤ length window.now + 1 }
-        requires out { count * channels ≤ length out.old }
-        ensures put { (i : ℕ) → i < count → slice_index_or out.new (i * channels + channel) (pos 0) ≡ (rounding (sum_of_products (drop i window.now) self.now) UNIT).0 }
+        requires window { length self.now + length sums.old ≤ length window.now + 1 }
+        requires out { length sums.old * channels ≤ length out.old }
+        ensures put { (i : ℕ) → i < length sums.old → slice_index_or out.new (i * channels + channel) (pos 0) ≡ (rounding (sum_of_products (drop i window.now) self.now) UNIT).0 }
         ensures others { (i c : ℕ) → c < channels → (c ≡ channel → ⊥) → slice_index_or out.new (i * channels + c) (pos 0) ≡ slice_index_or out.old (i * channels + c) (pos 0) }
-        ensures clips { result ≡ clips_of (tabulate (λ i. rounding (sum_of_products (drop i window.now) self.now) UNIT) 0 count) }
-        ensures few { result ≤ count }
+        ensures clips { result ≡ clips_of (tabulate (λ i. rounding (sum_of_products (drop i window.now) self.now) UNIT) 0 (length sums.old)) }
+        ensures few { result ≤ length sums.old }
     {
-        if let Some(small) = &self.small {
-            let mut sums = [0; 256];
-            let sums = &mut sums[..count];
-            convolve(&small.weights, window, sums);
-            return round_channel(sums, &small.denominator, channels, channel, out);
+        if let Some(reduced) = &self.reduced {
+            reduced.convolve(window, sums);
+            return round_channel(sums, reduced.denominator(), channels, channel, out);
         }
-        self.weigh_channel(window, count, channels, channel, out)
+        self.weigh_channel(window, sums.len(), channels, channel, out)
     }
 }

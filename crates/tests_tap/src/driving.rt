@@ -8,7 +8,7 @@ use std::alloc::{AllocError, Global};
 use std::test::Fail;
 
 /// Writes the samples of the frames that a stage gives until it is dry.
-fn drain<S: Stage>(stage: &mut S, out: &mut Vec<i32>) -> Result<(), AllocError>
+pub(crate) fn drain<S: Stage>(stage: &mut S, out: &mut Vec<i32>) -> Result<(), AllocError>
     ensures { S.acts.recipe stage.new ≡ S.acts.recipe stage.old }
 {
     'given: while let Some(frame) = stage.give() {

@@ -6,6 +6,8 @@ mod dot_tests;
 #[cfg(test)]
 mod driving;
 #[cfg(test)]
+mod fir_tests;
+#[cfg(test)]
 mod row_tests;
 #[cfg(test)]
 mod thaw_tests;

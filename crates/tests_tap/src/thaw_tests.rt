@@ -13,7 +13,7 @@ use std::alloc::{AllocError, Global};
 use std::test::Fail;
 
 /// The frames that a stage stores.
-fn stored<S: Stage>(alloc: Global, stage: &S) -> Result<Vec<WideFrame>, AllocError> {
+pub(crate) fn stored<S: Stage>(alloc: Global, stage: &S) -> Result<Vec<WideFrame>, AllocError> {
     let mut frames = Vec::new(alloc);
     for place in 0..stage.held() as usize {
         frames.push(stage.stored(place))?;

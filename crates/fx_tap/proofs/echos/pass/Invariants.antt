@@ -2,7 +2,7 @@ use Rattle.std.proofs.Common.{◌≡◌, ◌<◌, ◌≤◌, ◌+◌, ◌*◌, �
 use Rattle.fx_fixed.specs.declared.gains.TheConstants.{UNIT}
 use Rattle.fx_frame.specs.Line.{channel_of}
 use Rattle.fx_tap.specs.Echos.{decays, let_go, lines_after, up_to}
-use Rattle.fx_tap.specs.Products.{sum_of_products}
+use Rattle.fx_transform.specs.Products.{sum_of_products}
 use Rattle.fx_tap.proofs.EchosRow.{Small}
 use Rattle.fx_tap.proofs.echos.pass.Given as goal
 

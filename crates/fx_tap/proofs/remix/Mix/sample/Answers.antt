@@ -3,7 +3,7 @@ use Rattle.fx_fixed.specs.Rounding.{rounding}
 use Rattle.fx_fixed.specs.declared.gains.TheConstants.{UNIT}
 use Rattle.fx_tap.specs.EchoWeights.{Weights}
 use Rattle.fx_tap.specs.Mix.{all_parts, pair_of}
-use Rattle.fx_tap.specs.Products.{sum_of_products}
+use Rattle.fx_transform.specs.Products.{sum_of_products}
 use Rattle.fx_tap.specs.SmallWeights.{SumsAs}
 use Rattle.fx_tap.proofs.MixLaws.{gathered, small-mix}
 use Rattle.fx_tap.proofs.remix.Mix.sample.Goals as goal
