@@ -1,4 +1,4 @@
-use Rattle.std.proofs.Common.{ℕ, ◌≡◌, ◌≤◌, ◌*◌, ◌-◌, ◌++◌, length, sym, ap, ◌∙◌, arith}
+use Rattle.std.proofs.Common.{◌≤◌, ◌*◌, ◌-◌, ◌++◌, length, arith}
 use Rattle.fx_frame.specs.Ring.{pieces}
 use Rattle.fx_tap.proofs.Delaying.{even-behind, even-frames}
 use Rattle.fx_tap.proofs.delay.delay_evenly.Goals as goal

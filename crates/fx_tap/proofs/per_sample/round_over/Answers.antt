@@ -1,7 +1,6 @@
 use Rattle.std.proofs.Common.{rules, arith, ◌≡◌, ◌<◌, ◌+◌, ◌∙◌, ap, sym, get_or, drop, length, ℕ, Bool, to_z, of_z, List, ◌∷◌}
 use Rattle.std.specs.Prelude.{ℤ, pos}
 use Rattle.std.specs.Int.{w32}
-use Rattle.std.proofs.Math.ListN.{length-set}
 use Rattle.std.proofs.lemmas.List.{drop-set-lt, drop_more}
 use Rattle.fx_tap.proofs.Rounds.{samples_of-more, clips_of-more, byte_is, byte-le}
 use Rattle.fx_tap.proofs.per_sample.round_over.Goals as goal

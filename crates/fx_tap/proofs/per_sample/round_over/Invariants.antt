@@ -1,4 +1,4 @@
-use Rattle.std.proofs.Common.{◌≡◌, ◌≤◌, length, map, take, drop}
+use Rattle.std.proofs.Common.{◌≡◌, ◌≤◌, map, take, drop}
 use Rattle.fx_tap.specs.Rounded.{clips_of, samples_of}
 use Rattle.fx_tap.proofs.per_sample.round_over.Given as goal
 
