@@ -1,19 +1,26 @@
 -- The contributions of an output channel, added one after the other.
-use Rattle.std.proofs.Common.{ℕ, ℤ, pos, ◌+◌, ◌<◌, ◌≤◌, ◌≡◌, ◌+ℤ◌, ◌*ℤ◌, List, [], ◌∷◌, ◌*◌, length, drop, get_or, map, refl, sym, ap, ◌∙◌, arith, add-one, drop-cons}
-use Rattle.std.specs.Prelude.{◌^◌, slice_index_or, unsigned_abs}
+use Rattle.std.proofs.Common.{ℕ, ℤ, zero, suc, pos, negsuc, ◌+◌, ◌-◌, ◌/◌, ◌<◌, ◌≤◌, ◌≡◌, ◌+ℤ◌, ◌*ℤ◌, Bool, true, false, cond, List, [], ◌∷◌, ◌*◌, length, drop, get_or, map, min, refl, sym, ap, ◌∙◌, arith, add-one, add-zero, zero-add, drop-cons, FitsSigned}
+use Rattle.std.specs.Prelude.{◌^◌, not, slice_index_or, unsigned_abs}
+use Rattle.std.specs.Int.{w32}
+use Rattle.std.proofs.lemmas.Bool.{lt-ltb}
+use mathlib.Core.Path.{ap₂}
 use Rattle.std.proofs.lemmas.Int.{ints}
 use Rattle.std.proofs.lemmas.List.{drop_all}
+use Rattle.std.proofs.lemmas.List.Sums.{sum_by-cons}
 use Rattle.fx_frame.specs.Frame.{Samples}
 use Rattle.fx_tap.specs.declared.remix.Contribution.{Contribution}
 use Rattle.std.specs.List.{All}
 use Rattle.std.proofs.lemmas.List.{get_or-map, length-map}
 use Rattle.std.proofs.lemmas.List.Elements.{All-head, All-tail}
-use Rattle.fx_fixed.specs.Rounding.{rounding}
+use Rattle.fx_fixed.specs.Rounding.{clipping, rounding, signed}
+use Rattle.fx_fixed.proofs.Reductions.{rounding-reduced}
 use Rattle.fx_fixed.specs.declared.gains.TheConstants.{UNIT}
 use Rattle.fx_fixed.specs.declared.weights.Weight.{Weight}
 use Rattle.fx_tap.specs.EchoWeights.{Weights}
-use Rattle.fx_tap.specs.Mix.{IsContribution, all_parts, pair_of}
+use Rattle.fx_tap.specs.Lists.{tabulate}
+use Rattle.fx_tap.specs.Mix.{Copies, IsContribution, all_parts, pair_of}
 use Rattle.fx_transform.specs.Products.{sum_of_products}
+use Rattle.fx_tap.specs.Rounded.{clips_of}
 use Rattle.fx_tap.specs.SmallWeights.{SumsAs}
 use Rattle.fx_tap.proofs.Convolving.{Adding, Adding-next}
 use Rattle.fx_tap.proofs.KernelLaws.{rounded-as}
@@ -82,3 +89,39 @@ mixing-next cs frame ws i c s h k is sample old =
     let here = gathered-at cs frame i c h is in
     let size : length (gathered (map pair_of cs) frame) ≡ length cs = length-map (map pair_of cs) (λ (p : ℕ × Weight). slice_index_or frame p.0 (pos 0)) ∙ length-map cs pair_of in
     Adding-next (gathered (map pair_of cs) frame) ws i s _ k (omega (arith, size, h)) (rw here sample) (ap (λ x. s +ℤ (x *ℤ get_or ws i (pos 0))) (sym here)) old
+
+-- ---- one channel as it is
+
+-- a sample over one is that sample
+plain : (x : ℤ) → FitsSigned w32 x → rounding x 1 ≡ (x, false)
+plain (pos n) f =
+    let g : n < 2 ^ 31 = omega (arith, ints) in
+    let e : (2 * n + 1) / 2 ≡ n = omega arith in
+    let m : min n (2 ^ 31 - 1) ≡ n = omega arith in
+    ap (λ k. clipping (pos k)) e ∙ ap₂ (λ a b. (a, b)) (ap pos m) (ap not (lt-ltb n (2 ^ 31) g))
+plain (negsuc n) f =
+    let g : n < 2 ^ 31 = omega (arith, ints) in
+    let e : (2 * suc n + 1) / 2 ≡ suc n = omega arith in
+    let m : min n (2 ^ 31 - 1) ≡ n = omega arith in
+    ap (λ k. clipping (signed true k)) e ∙ ap₂ (λ a b. (a, b)) (ap negsuc m) (ap not (lt-ltb n (2 ^ 31) g))
+
+copied-of : (channel : ℕ) (weight : Weight) (frame : Samples) → parts_of 1 weight ≡ pos UNIT → FitsSigned w32 (slice_index_or frame channel (pos 0)) → remixed_sample ((channel, weight) ∷ []) frame ≡ (slice_index_or frame channel (pos 0), false)
+copied-of channel weight frame whole fits =
+    let x : ℤ = slice_index_or frame channel (pos 0) in
+    let alone : (pos UNIT *ℤ x) +ℤ pos 0 ≡ pos UNIT *ℤ x = omega (arith, ints) in
+    ap (λ w. rounding ((w *ℤ x) +ℤ pos 0) UNIT) whole ∙ ap (λ z. rounding z UNIT) alone ∙ rounding-reduced UNIT 1 x (omega arith) (omega arith) ∙ plain x fits
+
+-- the sample of an output channel that is a channel of the input
+pub copied-sample : (cs : List Contribution) (channel : ℕ) (frame : Samples) → Copies cs channel → FitsSigned w32 (slice_index_or frame channel (pos 0)) → remixed_sample (map pair_of cs) frame ≡ (slice_index_or frame channel (pos 0), false)
+copied-sample cs channel frame copies fits = ap (λ l. remixed_sample l frame) copies.alone ∙ copied-of channel copies.weight frame copies.whole fits
+
+-- none of them are clipped
+pub none-clipped : (f : ℕ → ℤ × Bool) (from count : ℕ) → ((i : ℕ) → i < count → (f (from + i)).1 ≡ false) → clips_of (tabulate f from count) ≡ 0
+none-clipped f from zero h = refl
+none-clipped f from (suc count) h =
+    let here : (f from).1 ≡ false = simp add-zero at (h 0 (omega arith)) in
+    let more : (i : ℕ) → i < count → (f (suc from + i)).1 ≡ false = λ i l.
+    let a : suc from + i ≡ from + suc i = omega arith in
+    rw a (h (suc i) (omega arith)) in
+    sum_by-cons (λ (r : ℤ × Bool). cond r.1 1 0) (f from) (tabulate f (suc from) count) ∙ ap (λ b. cond b 1 0 + clips_of (tabulate f (suc from) count)) here
+    ∙ zero-add (clips_of (tabulate f (suc from) count)) ∙ none-clipped f (suc from) count more

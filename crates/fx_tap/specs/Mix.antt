@@ -1,6 +1,7 @@
 -- What `remix` keeps of a contribution: its channel, its weight and the same in parts.
-use Rattle.std.specs.Prelude.{ℕ, ℤ, ◌<◌, ◌≡◌, List, map}
+use Rattle.std.specs.Prelude.{ℕ, ℤ, pos, ◌<◌, ◌≡◌, List, [], ◌∷◌, map}
 use Rattle.fx_tap.specs.Remix.{parts_of}
+use Rattle.fx_fixed.specs.declared.gains.TheConstants.{UNIT}
 use Rattle.fx_fixed.specs.declared.weights.Weight.{Weight}
 use Rattle.fx_tap.specs.declared.remix.Contribution.{Contribution}
 
@@ -16,3 +17,9 @@ pub record IsContribution (count : ℕ) (c : Contribution) : Type 0 where
 -- the parts of each
 abbrev pub all_parts : List Contribution → List ℤ
 all_parts cs = map (λ c. c.parts) cs
+
+-- that channel alone contributes, with a weight of one
+pub record Copies (cs : List Contribution) (channel : ℕ) : Type 0 where
+  pub weight : Weight
+  pub alone : map pair_of cs ≡ (channel, weight) ∷ []
+  pub whole : parts_of 1 weight ≡ pos UNIT

@@ -1,5 +1,6 @@
 //! One channel of frames whose samples lie one after another.
-ghost use Rattle.std.specs.Prelude.{◌≡◌, ◌<◌, ◌≤◌, ◌+◌, ◌*◌, ◌^◌, ◌+ℤ◌, ◌*ℤ◌, ℕ, pos, length, slice_index_or, unsigned_abs};
+ghost use Rattle.std.specs.Prelude.{◌≡◌, ◌<◌, ◌≤◌, ◌+◌, ◌*◌, ◌^◌, ◌+ℤ◌, ◌*ℤ◌, ℕ, pos, length, slice_index_or, unsigned_abs, FitsSigned};
+ghost use Rattle.std.specs.Int.{w32};
 ghost use Rattle.fx_fixed.specs.Rounding.{rounding};
 ghost use Rattle.fx_frame.specs.Line.{channel_of};
 ghost use Rattle.fx_frame.specs.Ring.{pieces};
@@ -67,6 +68,36 @@ pub(crate) fn copy_channel(
     'frames: for _turn in 0..count {
         to[at] = from[at];
         at += channels;
+    }
+}
+
+/// Copies one channel of so many frames over one of as many frames of other channels.
+#[inline(always)]
+pub(crate) fn place_channel(
+    from: &[i32],
+    inputs: usize,
+    channel: usize,
+    count: usize,
+    to: &mut [i32],
+    outputs: usize,
+    place: usize,
+)
+    requires channel { channel < inputs }
+    requires inputs { inputs ≤ 16 }
+    requires from { count * inputs ≤ length from.now }
+    requires place { place < outputs }
+    requires outputs { outputs ≤ 16 }
+    requires to { count * outputs ≤ length to.old }
+    ensures put { (i : ℕ) → i < count → slice_index_or to.new (i * outputs + place) (pos 0) ≡ slice_index_or from.now (i * inputs + channel) (pos 0) }
+    ensures others { (i c : ℕ) → c < outputs → (c ≡ place → ⊥) → slice_index_or to.new (i * outputs + c) (pos 0) ≡ slice_index_or to.old (i * outputs + c) (pos 0) }
+    ensures samples { (i : ℕ) → i < count → FitsSigned w32 (slice_index_or from.now (i * inputs + channel) (pos 0)) }
+{
+    let mut read = channel;
+    let mut at = place;
+    'frames: for _turn in 0..count {
+        to[at] = from[read];
+        read += inputs;
+        at += outputs;
     }
 }
 

@@ -81,6 +81,7 @@ impl Scale {
 impl Sampling for Scale {
     ghost rounded = { scaled_sample };
 
+    #[inline(always)]
     fn round(&self, sample: i32) -> (i32, bool) {
         match &self.fraction {
             Some(fraction) => fraction.round(sample),

@@ -1,27 +1,50 @@
-use Rattle.std.proofs.Common.{rules, ◌≡◌, ◌<◌, ◌≤◌, ◌+◌, ◌*◌, ◌∙◌, [], ap, ℕ, List, pos, map, get_or, length, take, replicate, arith, slice_index_or, zero-add}
+use Rattle.std.proofs.Common.{rules, ◌≡◌, ◌<◌, ◌≤◌, ◌+◌, ◌*◌, ◌∙◌, [], ap, sym, false, Bool, ℕ, ℤ, List, pos, map, get_or, length, take, replicate, arith, slice_index_or, zero-add}
 use Rattle.std.proofs.lemmas.List.{length-replicate, length-take-le}
 use Rattle.fx_fixed.specs.Rounding.{rounding}
 use Rattle.fx_fixed.specs.declared.gains.TheConstants.{UNIT}
 use Rattle.fx_frame.specs.Frame.{Samples}
 use Rattle.fx_frame.specs.Ring.{pieces}
+use Rattle.fx_frame.proofs.Pieces.{get_or-piece}
 use Rattle.fx_tap.specs.EchoWeights.{Weights}
-use Rattle.fx_tap.specs.Mix.{all_parts, pair_of}
+use Rattle.fx_tap.specs.Mix.{Copies, all_parts, pair_of}
 use Rattle.fx_tap.specs.Remix.{remixed_sample}
 use Rattle.fx_tap.specs.Rounded.{clips_of}
 use Rattle.fx_tap.specs.SmallWeights.{SumsAs}
 use Rattle.fx_tap.proofs.DelayLaws.{quiet-part}
-use Rattle.fx_tap.proofs.MixLaws.{small-mix}
+use Rattle.fx_tap.proofs.MixLaws.{copied-sample, none-clipped, small-mix}
 use Rattle.fx_tap.proofs.Tabulate.{tabulate-same}
 use Rattle.fx_tap.proofs.remix.Mix.channel_into.Goals as goal
 
 pub add_channels-requires-clause-empty : goal.add_channels-requires-clause-empty
 add_channels-requires-clause-empty c = λ i. quiet-part c.args.count 256 i
 
+pub returns-then-from-inputs-clause-put : goal.returns-then-from-inputs-clause-put
+returns-then-from-inputs-clause-put c =
+    let cs = c.self.inside.contributions.items in
+    let channel : ℕ = c.in-Some.from in
+    let copies : Copies cs channel = rw c.in-Some.is at c.self.invariant.3 in
+    let xs : List Samples = pieces c.args.inputs c.args.count c.args.frames.now in
+    let read : (i : ℕ) → i < c.args.count → get_or (get_or xs i []) channel (pos 0) ≡ get_or c.args.frames.now (i * c.args.inputs + channel) (pos 0) = λ i l. get_or-piece c.args.inputs c.args.count c.args.frames.now i channel (pos 0) l c.if-from-inputs.true in
+    let one : (i : ℕ) → i < c.args.count → remixed_sample (map pair_of cs) (get_or xs i []) ≡ (get_or c.args.frames.now (i * c.args.inputs + channel) (pos 0), false) = λ i l.
+    rw (read i l) at (copied-sample cs channel (get_or xs i []) copies (rw (← read i l) at (c.place_channel.ensures.samples i l))) in
+    rw (← c.self.view_is) (λ i l. c.place_channel.ensures.put i l ∙ sym (ap (λ r. r.0) (one i l)))
+
+pub returns-then-from-inputs-clause-clips : goal.returns-then-from-inputs-clause-clips
+returns-then-from-inputs-clause-clips c =
+    let cs = c.self.inside.contributions.items in
+    let channel : ℕ = c.in-Some.from in
+    let copies : Copies cs channel = rw c.in-Some.is at c.self.invariant.3 in
+    let xs : List Samples = pieces c.args.inputs c.args.count c.args.frames.now in
+    let read : (i : ℕ) → i < c.args.count → get_or (get_or xs i []) channel (pos 0) ≡ get_or c.args.frames.now (i * c.args.inputs + channel) (pos 0) = λ i l. get_or-piece c.args.inputs c.args.count c.args.frames.now i channel (pos 0) l c.if-from-inputs.true in
+    rw (← c.self.view_is) (sym (none-clipped (λ i. remixed_sample (map pair_of cs) (get_or xs i [])) 0 c.args.count (λ i l.
+    let e : 0 + i ≡ i = zero-add i in
+    rw e (ap (λ (r : ℤ × Bool). r.1) (copied-sample cs channel (get_or xs i []) copies (rw (← read i l) at (c.place_channel.ensures.samples i l)))))))
+
 pub returns-clause-put : goal.returns-clause-put
 returns-clause-put c =
     let cs = c.self.inside.contributions.items in
     let w : Weights = record { weights = c.small.inside.weights.items; denominator = c.small.inside.denominator } in
-    let told : SumsAs (all_parts cs) (length cs * UNIT) c.in-Some.small = rw c.in-Some.is at c.self.invariant.2 in
+    let told : SumsAs (all_parts cs) (length cs * UNIT) c.in-Some-small.small = rw c.in-Some-small.is at c.self.invariant.2 in
     let sums : SumsAs (all_parts cs) (length cs * UNIT) w = rw (← c.small.view_is) at told in
     let some : 0 < length cs = search rules in
     let xs : List Samples = pieces c.args.inputs c.args.count c.args.frames.now in
@@ -38,7 +61,7 @@ pub returns-clause-clips : goal.returns-clause-clips
 returns-clause-clips c =
     let cs = c.self.inside.contributions.items in
     let w : Weights = record { weights = c.small.inside.weights.items; denominator = c.small.inside.denominator } in
-    let told : SumsAs (all_parts cs) (length cs * UNIT) c.in-Some.small = rw c.in-Some.is at c.self.invariant.2 in
+    let told : SumsAs (all_parts cs) (length cs * UNIT) c.in-Some-small.small = rw c.in-Some-small.is at c.self.invariant.2 in
     let sums : SumsAs (all_parts cs) (length cs * UNIT) w = rw (← c.small.view_is) at told in
     let some : 0 < length cs = search rules in
     let xs : List Samples = pieces c.args.inputs c.args.count c.args.frames.now in
