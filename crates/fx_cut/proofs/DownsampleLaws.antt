@@ -9,9 +9,9 @@ use Rattle.std.proofs.lemmas.Bool.{cases_lt}
 use Rattle.std.proofs.lemmas.List.{get_or-drop}
 use Rattle.fx_frame.specs.Frozen.{IsHand}
 use Rattle.fx_cut.specs.Ceil.{by_products}
-use Rattle.fx_cut.specs.Lists.{tabulate, plain}
+use Rattle.fx_frame.specs.Lists.{tabulate, plain}
 use Rattle.fx_cut.specs.Downsample.{downsampled, DownsampleState, IsDownsample, downsample_acts}
-use Rattle.fx_cut.proofs.Tabulate.{tabulate-same}
+use Rattle.fx_frame.proofs.Tabulate.{tabulate-same}
 
 -- the quotient, by its product
 pub ceil_is : (s k q f : ℕ) → 0 < f → s + k ≡ q * f → k < f → div_ceil s f ≡ q

@@ -18,7 +18,7 @@ use Rattle.fx_frame.proofs.ManyFrames.{frames-samples}
 use Rattle.fx_frame.proofs.Pieces.{length-pieces}
 use Rattle.fx_cut.specs.declared.fade.Shape.{Shape}
 use Rattle.fx_cut.specs.Fade.{FadeState, IsFade, ahead_by, fade_acts, fade_enough, faded_along, faded_frame, faded_here, is_before, line_by, stop_ahead, weighted, weights}
-use Rattle.fx_cut.specs.Lists.{plain}
+use Rattle.fx_frame.specs.Lists.{plain}
 use Rattle.fx_cut.proofs.Fallen.{fallen, stays, oldest-first}
 use Rattle.fx_cut.proofs.FadeSteps.{IsFade-inside, IsFade-fallen, Took-inside, Took-fallen, came}
 use Rattle.fx_cut.proofs.FadeLaws.{product-most, weight-most}

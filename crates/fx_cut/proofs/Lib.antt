@@ -1,4 +1,3 @@
-pub mod Tabulate
 pub mod UpsampleLaws
 pub mod UpsampleMany
 pub mod DownsampleLaws

@@ -9,7 +9,7 @@ use Rattle.fx_frame.specs.Frame.{Samples, silence, IsFrame}
 use Rattle.fx_frame.specs.Frozen.{IsHand}
 use Rattle.fx_frame.specs.Line.{Frames, IsLine}
 use Rattle.fx_frame.specs.Stage.{Gave, Took, Ended, coming}
-use Rattle.fx_cut.specs.Lists.{plain}
+use Rattle.fx_frame.specs.Lists.{plain}
 use Rattle.fx_cut.specs.Trim.{greatest_end}
 use Rattle.fx_cut.specs.Pad.{PadArguments, PadState, IsPad, IsPads, ats, lengths, pad_acts, pad_after, pad_left, pad_rest, padded, pads_from_start, placed, silent_at, unless_last}
 use Rattle.fx_cut.proofs.Fallen.{fallen, stays, no_fall, stays-room, is_full, oldest-first, oldest-channels}

@@ -11,7 +11,7 @@ use Rattle.fx_frame.specs.Frame.{Samples, IsFrame}
 use Rattle.fx_frame.specs.Frozen.{IsHand}
 use Rattle.fx_frame.specs.Line.{Frames, IsLine}
 use Rattle.fx_frame.specs.Stage.{Gave, Took, coming, is_enough}
-use Rattle.fx_cut.specs.Lists.{plain}
+use Rattle.fx_frame.specs.Lists.{plain}
 use Rattle.fx_cut.specs.Trim.{keeps, kept_count, starts, greatest_end, is_start, last_start, trimmed_from, trim_rest, trim_after, trim_enough, TrimState, IsTrim, trim_acts}
 use Rattle.fx_cut.proofs.Fallen.{fallen, stays, no_fall, stays-room, is_full, oldest-first, oldest-channels, first-popped}
 use Rattle.fx_cut.proofs.Hands.{none_of, at_most_one, empty_of}

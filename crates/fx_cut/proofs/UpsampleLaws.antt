@@ -9,9 +9,9 @@ use Rattle.fx_cut.specs.Upsample.{upsample_acts}
 use Prim.Native.Nat.compare
 use Rattle.fx_frame.specs.Frame.{Samples, silence}
 use Rattle.fx_frame.specs.Stage.{Given}
-use Rattle.fx_cut.specs.Lists.{tabulate, plain}
+use Rattle.fx_frame.specs.Lists.{tabulate, plain}
 use Rattle.fx_cut.specs.Upsample.{upsampled, upsampled_at}
-use Rattle.fx_cut.proofs.Tabulate.{tabulate-append, tabulate-same, tabulate-replicate}
+use Rattle.fx_frame.proofs.Tabulate.{tabulate-append, tabulate-same, tabulate-replicate}
 
 module _ (channels factor : ℕ) (some : 0 < factor) (x : Samples) (z : List Samples) where
   at_first : upsampled_at channels factor (x ∷ z) 0 ≡ x

@@ -4,7 +4,7 @@ use Rattle.std.specs.Int.{div_ceil}
 use Rattle.fx_frame.specs.Frame.{Samples}
 use Rattle.fx_frame.specs.Stage.{Given, Acts, coming}
 use Rattle.fx_frame.specs.Frozen.{IsHand}
-use Rattle.fx_cut.specs.Lists.{tabulate, plain}
+use Rattle.fx_frame.specs.Lists.{tabulate, plain}
 use Rattle.fx_cut.specs.Factor.{FactorArguments, IsFactor}
 
 -- the frames whose numbers are multiples of the factor

@@ -11,8 +11,8 @@ use Rattle.fx_frame.specs.Frame.{Samples}
 use Rattle.fx_frame.specs.Line.{Frames, IsLine}
 use Rattle.fx_frame.specs.Frozen.{IsHand}
 use Rattle.fx_frame.specs.Stage.{Acts, Given, coming}
-use Rattle.fx_cut.specs.Lists.{plain}
-use Rattle.fx_cut.specs.Rounded.{given_of}
+use Rattle.fx_frame.specs.Lists.{plain}
+use Rattle.fx_frame.specs.Rounded.{given_of}
 use Rattle.fx_cut.specs.declared.fade.Shape.{Shape}
 
 -- a stop at 0 from the start means the end

@@ -1,5 +1,3 @@
-pub mod Lists
-pub mod Rounded
 pub mod Factor
 pub mod Ceil
 pub mod Downsample
@@ -7,3 +5,4 @@ pub mod Upsample
 pub mod Trim
 pub mod Fade
 pub mod Pad
+pub mod Strides

@@ -11,7 +11,7 @@ use Rattle.fx_frame.specs.Frame.{Samples, silence}
 use Rattle.fx_frame.specs.Line.{Frames, IsLine}
 use Rattle.fx_frame.specs.Frozen.{IsHand}
 use Rattle.fx_frame.specs.Stage.{Acts, coming}
-use Rattle.fx_cut.specs.Lists.{plain}
+use Rattle.fx_frame.specs.Lists.{plain}
 use Rattle.fx_cut.specs.Trim.{greatest_end}
 
 -- the positions of pads, each of which is a length and a position

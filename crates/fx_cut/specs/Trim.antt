@@ -9,7 +9,7 @@ use Rattle.fx_frame.specs.Frame.{Samples}
 use Rattle.fx_frame.specs.Line.{Frames, IsLine}
 use Rattle.fx_frame.specs.Frozen.{IsHand}
 use Rattle.fx_frame.specs.Stage.{Acts, coming}
-use Rattle.fx_cut.specs.Lists.{plain}
+use Rattle.fx_frame.specs.Lists.{plain}
 
 -- an odd number of the places are at n or before it
 abbrev pub keeps : List ℕ → ℕ → Bool

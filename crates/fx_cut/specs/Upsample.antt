@@ -3,7 +3,7 @@ use Rattle.std.specs.Prelude.{ℕ, ◌+◌, ◌*◌, ◌/◌, ◌%◌, ◌^◌, 
 use Rattle.fx_frame.specs.Frame.{Samples, silence}
 use Rattle.fx_frame.specs.Stage.{Given, Acts, coming}
 use Rattle.fx_frame.specs.Frozen.{IsHand}
-use Rattle.fx_cut.specs.Lists.{tabulate, plain}
+use Rattle.fx_frame.specs.Lists.{tabulate, plain}
 use Rattle.fx_cut.specs.Factor.{FactorArguments, IsFactor}
 
 -- frame n of the upsampled list

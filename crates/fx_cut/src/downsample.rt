@@ -4,7 +4,7 @@ ghost use Rattle.fx_frame.specs.Ring.{pieces};
 ghost use Rattle.fx_frame.specs.Stage.{Freezes, IsNew};
 ghost use Rattle.fx_cut.specs.Factor.{FactorArguments, IsFactor};
 ghost use Rattle.fx_cut.specs.Downsample.{DownsampleState, IsDownsample, downsample_acts};
-ghost use Rattle.fx_cut.specs.Lists.{firsts};
+ghost use Rattle.fx_cut.specs.Strides.{firsts};
 
 use crate::many::{PassesMany, feed_by_pieces};
 use fx_frame::frozen::thawed_hand;

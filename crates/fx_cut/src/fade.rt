@@ -7,8 +7,8 @@ ghost use Rattle.fx_frame.specs.Frozen.{IsHand};
 ghost use Rattle.fx_frame.specs.Line.{IsLine};
 ghost use Rattle.fx_frame.specs.Ring.{pieces};
 ghost use Rattle.fx_frame.specs.Stage.{Freezes, IsNew};
-ghost use Rattle.fx_cut.specs.Lists.{plain};
-ghost use Rattle.fx_cut.specs.Rounded.{unclipped};
+ghost use Rattle.fx_frame.specs.Lists.{plain};
+ghost use Rattle.fx_frame.specs.Rounded.{unclipped};
 ghost use Rattle.fx_cut.specs.Fade.{FadeArguments, FadeState, IsFade, IsFadeCount, IsShape, fade_acts, fade_after, fade_due, fade_enough, fade_line, faded_along, faded_here, is_before, line_by, meant, stop_ahead, stop_in, until, weighted, weights};
 
 use crate::lines::push_over;

@@ -7,9 +7,9 @@ use Rattle.std.proofs.lemmas.Option.{get_or_from_slice_get, slice_get-get_or}
 use Rattle.std.proofs.lemmas.Bool.Decides.{nat_tests}
 use Rattle.std.proofs.lemmas.List.{get_or_append_left, get_or-drop}
 use Rattle.fx_frame.specs.Frame.{Samples, silence}
-use Rattle.fx_tap.specs.Lists.{tabulate}
+use Rattle.fx_frame.specs.Lists.{tabulate}
 use Rattle.fx_tap.specs.Tapped.{longest, sample_before}
-use Rattle.fx_tap.proofs.Tabulate.{tabulate-append, length-tabulate}
+use Rattle.fx_frame.proofs.Tabulate.{tabulate-append, length-tabulate}
 
 -- what comes later is not read
 pub sample_before-append : (x y : List Samples) (n d k : ℕ) → n < length x → sample_before (x ++ y) n d k ≡ sample_before x n d k

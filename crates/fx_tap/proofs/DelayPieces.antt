@@ -8,7 +8,7 @@ use Rattle.fx_tap.specs.Delay.{delay_taps, delayed_frame}
 use Rattle.fx_tap.specs.Tapped.{frames_behind, sample_before}
 use Rattle.fx_tap.proofs.Delaying.{map-tabulate}
 use Rattle.fx_tap.proofs.FirBlocks.{pieces-table}
-use Rattle.fx_tap.proofs.Tabulate.{tabulate-same}
+use Rattle.fx_frame.proofs.Tabulate.{tabulate-same}
 
 -- so many frames behind those of a line, sample by sample
 pub delay-frames : (delays : List ℕ) (items xs : List Samples) (n : ℕ) (out : List ℤ) → length xs ≡ n → n * length delays ≤ length out

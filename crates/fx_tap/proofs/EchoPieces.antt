@@ -12,9 +12,9 @@ use Rattle.fx_frame.specs.Stage.{Given}
 use Rattle.fx_frame.proofs.Pieces.{get_or-piece}
 use Rattle.fx_tap.specs.Echo.{EchoArguments, echo_sum, echo_taps, echoed_frame, echoed_sample}
 use Rattle.fx_tap.specs.EchoWeights.{SoundsAs, Weights, weighed}
-use Rattle.fx_tap.specs.Lists.{tabulate}
+use Rattle.fx_frame.specs.Lists.{tabulate}
 use Rattle.fx_tap.specs.PerSample.{rounded_given}
-use Rattle.fx_tap.specs.Rounded.{clips_of, samples_of}
+use Rattle.fx_frame.specs.Rounded.{clips_of, samples_of}
 use Rattle.fx_tap.specs.Tapped.{clips_behind, frames_behind, sample_before}
 use Rattle.fx_tap.proofs.DelayLaws.{quiet-sample}
 use Rattle.fx_tap.proofs.EchoWeights.{small-sample}

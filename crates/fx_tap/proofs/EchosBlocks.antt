@@ -14,7 +14,7 @@ use Rattle.fx_frame.proofs.Pieces.{length-pieces}
 use Rattle.fx_tap.specs.Echo.{EchoArguments}
 use Rattle.fx_tap.specs.Echos.{EchosState, IsEchoLine, IsEchos, came_of, delay_at, echos_acts, fed, frame_of_lines, frames_of, late, let_go, line_at, lines_after, or_silence, places_of, rows_after, through_lines}
 use Rattle.fx_tap.proofs.EchosPieces.{pushed-within}
-use Rattle.fx_tap.proofs.Tabulate.{length-tabulate}
+use Rattle.fx_frame.proofs.Tabulate.{length-tabulate}
 
 after-few : (c : ℕ) (ls : List (Frames ℤ)) (x b : Samples) → length (frames_of (lines_after c ls x b)) ≤ places_of ls
 after-few c [] x b = omega arith

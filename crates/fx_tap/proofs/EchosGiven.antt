@@ -12,10 +12,10 @@ use Rattle.fx_frame.proofs.Pieces.{get_or-piece, length-pieces}
 use Rattle.fx_tap.specs.Echo.{EchoArguments}
 use Rattle.fx_tap.specs.EchoWeights.{Suits, Weights}
 use Rattle.fx_tap.specs.Echos.{decays, fed, frame_of_lines, gone_at, let_go, lines_after, or_silence, rows_after, through_lines}
-use Rattle.fx_tap.specs.Lists.{tabulate}
+use Rattle.fx_frame.specs.Lists.{tabulate}
 use Rattle.fx_tap.specs.PerSample.{rounded_given}
 use Rattle.fx_transform.specs.Products.{sum_of_products}
-use Rattle.fx_tap.specs.Rounded.{clips_of, samples_of}
+use Rattle.fx_frame.specs.Rounded.{clips_of, samples_of}
 use Rattle.fx_tap.proofs.EchosLaws.{length-after}
 use Rattle.fx_tap.proofs.EchosPieces.{through-table}
 use Rattle.fx_tap.proofs.SumPieces.{rounded-clips, rounded-frame, rounded-frames}

@@ -13,7 +13,7 @@ use Rattle.fx_tap.specs.Echo.{EchoArguments, IsEcho}
 use Rattle.fx_tap.specs.Echos.{EchosState, IsEchos, IsEchoLine, IsRowLine, after_push, came_of, delay_at, echos_acts, fed, frame_of_lines, frames_of, late, let_go, line_at, lines_after, or_silence, places_of, rows_after, through_lines}
 use Rattle.fx_tap.proofs.DryLaws.{dry-hand, dry-tail, true_of}
 use Rattle.fx_tap.proofs.EchosRow.{Small, small-fed, small-gone}
-use Rattle.fx_tap.proofs.Tabulate.{length-tabulate}
+use Rattle.fx_frame.proofs.Tabulate.{length-tabulate}
 
 -- ---- the lines after one frame more
 

@@ -15,14 +15,14 @@ use Rattle.fx_frame.specs.Ring.{pieces}
 use Rattle.fx_frame.proofs.Pieces.{get_or-piece, length-pieces}
 use Rattle.fx_tap.specs.Echo.{EchoArguments}
 use Rattle.fx_tap.specs.Echos.{after_push, fed, frame_of_lines, gone_at, let_go, line_at, lines_after, or_silence, rows_after, through_lines}
-use Rattle.fx_tap.specs.Lists.{tabulate}
+use Rattle.fx_frame.specs.Lists.{tabulate}
 use Rattle.fx_transform.specs.Products.{sum_of_products}
 use Rattle.fx_tap.proofs.Blocks.{pieces-sides}
 use Rattle.fx_tap.proofs.EchosRow.{Small, small_of}
 use Rattle.fx_tap.proofs.SumPieces.{flat-place}
 use Rattle.fx_tap.proofs.EchosStored.{same-line}
 use Rattle.fx_tap.proofs.TapBlocks.{last-joined, last-whole, length-last}
-use Rattle.fx_tap.proofs.Tabulate.{tabulate-same}
+use Rattle.fx_frame.proofs.Tabulate.{tabulate-same}
 
 -- ---- one line
 

@@ -11,10 +11,10 @@ use Rattle.fx_frame.specs.Frame.{Samples}
 use Rattle.fx_frame.specs.Line.{Frames, pushed_out, channel_of, empty}
 use Rattle.fx_fixed.specs.Rounding.{rounding}
 use Rattle.fx_tap.specs.Echo.{EchoArguments}
-use Rattle.fx_tap.specs.Rounded.{given_of}
-use Rattle.fx_tap.proofs.Tabulate.{tabulate-same}
+use Rattle.fx_frame.specs.Rounded.{given_of}
+use Rattle.fx_frame.proofs.Tabulate.{tabulate-same}
 use Rattle.fx_tap.specs.Echos.{IsRowLine, after_push, decays, fed, frame_of_lines, let_go, line_at, lines_after, or_silence, up_to}
-use Rattle.fx_tap.specs.Lists.{tabulate}
+use Rattle.fx_frame.specs.Lists.{tabulate}
 use Rattle.fx_transform.specs.Products.{sum_of_products}
 use borrow.Author.Tests.{ltb-true, ltb-false}
 use Rattle.fx_tap.proofs.DelayLaws.{quiet-sample}

@@ -20,14 +20,14 @@ use Rattle.fx_frame.proofs.FeedParts.{pieces-split}
 use Rattle.fx_frame.proofs.Feeding.{pieces-more, pieces-same}
 use Rattle.fx_frame.proofs.Pieces.{length-pieces, pieces-front}
 use Rattle.fx_tap.specs.Fir.{FirArguments, FirState, IsFir, centre, filtered_frame, filtered_sample, fir_acts, fir_taps}
-use Rattle.fx_tap.specs.Lists.{tabulate}
+use Rattle.fx_frame.specs.Lists.{tabulate}
 use Rattle.fx_transform.specs.Products.{sum_of_products}
-use Rattle.fx_tap.specs.Rounded.{clips_of, samples_of}
+use Rattle.fx_frame.specs.Rounded.{clips_of, samples_of}
 use Rattle.fx_tap.specs.Tapped.{IsNear, Taps, behind, clips_behind, frames_behind, last_of, sample_before}
 use Rattle.fx_tap.proofs.Delaying.{map-tabulate}
 use Rattle.fx_tap.proofs.FirLaws.{behind-due, samples_of-tabulate}
 use Rattle.fx_tap.proofs.Rounds.{clips_of-next}
-use Rattle.fx_tap.proofs.Tabulate.{length-tabulate, tabulate-append, tabulate-same}
+use Rattle.fx_frame.proofs.Tabulate.{length-tabulate, tabulate-append, tabulate-same}
 use Rattle.fx_tap.proofs.TapBlocks.{last-first, last-whole, length-last}
 use Rattle.fx_tap.proofs.TapLaws.{behind-step}
 use Rattle.fx_tap.proofs.WindowSums.{back_sum-is, filtered-is}

@@ -10,14 +10,14 @@ use Rattle.fx_frame.specs.Frozen.{IsStored}
 use Rattle.fx_frame.specs.Stage.{Gave, Took, Freezes, numbers_of}
 use Rattle.fx_tap.specs.Tapped.{sample_before}
 use Rattle.fx_tap.specs.Fir.{FirArguments, FirState, IsFir, centre, filtered_frame, filtered_at, filtered, fir_behind, fir_tail, fir_acts, arguments_of}
-use Rattle.fx_tap.specs.Lists.{tabulate}
+use Rattle.fx_frame.specs.Lists.{tabulate}
 use Rattle.fx_transform.specs.Products.{sum_of_products}
-use Rattle.fx_tap.specs.Rounded.{samples_of, clips_of, given_of}
+use Rattle.fx_frame.specs.Rounded.{samples_of, clips_of, given_of}
 use Rattle.fx_fixed.specs.Rounding.{rounding}
 use Rattle.fx_fixed.specs.declared.gains.TheConstants.{UNIT}
 use Rattle.fx_tap.proofs.DryLaws.{dry-hand, dry-tail, true_of}
 use Rattle.fx_tap.proofs.DelayLaws.{sample_before-append, sample_before-drop}
-use Rattle.fx_tap.proofs.Tabulate.{tabulate-append, tabulate-same}
+use Rattle.fx_frame.proofs.Tabulate.{tabulate-append, tabulate-same}
 
 -- ---- a window
 

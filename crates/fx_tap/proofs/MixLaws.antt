@@ -17,10 +17,10 @@ use Rattle.fx_fixed.proofs.Reductions.{rounding-reduced}
 use Rattle.fx_fixed.specs.declared.gains.TheConstants.{UNIT}
 use Rattle.fx_fixed.specs.declared.weights.Weight.{Weight}
 use Rattle.fx_tap.specs.EchoWeights.{Weights}
-use Rattle.fx_tap.specs.Lists.{tabulate}
+use Rattle.fx_frame.specs.Lists.{tabulate}
 use Rattle.fx_tap.specs.Mix.{Copies, IsContribution, all_parts, pair_of}
 use Rattle.fx_transform.specs.Products.{sum_of_products}
-use Rattle.fx_tap.specs.Rounded.{clips_of}
+use Rattle.fx_frame.specs.Rounded.{clips_of}
 use Rattle.fx_tap.specs.SmallWeights.{SumsAs}
 use Rattle.fx_tap.proofs.Convolving.{Adding, Adding-next}
 use Rattle.fx_tap.proofs.KernelLaws.{rounded-as}

@@ -6,18 +6,18 @@ use Rattle.fx_frame.specs.Frame.{Samples}
 use Rattle.fx_frame.specs.Ring.{pieces}
 use Rattle.fx_frame.proofs.Pieces.{get_or-piece, length-pieces}
 use Rattle.fx_tap.specs.declared.remix.Contribution.{Contribution}
-use Rattle.fx_tap.specs.Lists.{tabulate}
+use Rattle.fx_frame.specs.Lists.{tabulate}
 use Rattle.fx_tap.specs.Mapped.{clips_in, made_of}
 use Rattle.fx_tap.specs.Mix.{pair_of}
 use Rattle.fx_tap.specs.Remix.{Contributions, remixed_frame, remixed_sample}
-use Rattle.fx_tap.specs.Rounded.{clips_of, samples_of}
+use Rattle.fx_frame.specs.Rounded.{clips_of, samples_of}
 use Rattle.fx_tap.proofs.Blocks.{pieces-sides}
 use Rattle.fx_tap.proofs.Convolving.{Adding}
 use Rattle.fx_tap.proofs.FirBlocks.{all_clips, pieces-table}
 use Rattle.fx_tap.proofs.FirLaws.{samples_of-tabulate}
 use Rattle.fx_tap.proofs.MixLaws.{gathered, mixing-next}
 use Rattle.fx_tap.proofs.SumPieces.{map-table}
-use Rattle.fx_tap.proofs.Tabulate.{tabulate-same}
+use Rattle.fx_frame.proofs.Tabulate.{tabulate-same}
 
 -- the samples of a frame, channel by channel
 outs-table : (outs : List Contributions) (x : Samples) → map (λ o. remixed_sample o x) outs ≡ tabulate (λ k. remixed_sample (get_or outs k []) x) 0 (length outs)

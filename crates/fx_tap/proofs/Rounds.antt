@@ -4,9 +4,9 @@ use Rattle.std.specs.Prelude.{ℤ}
 use Rattle.std.specs.Int.{from_bool as bool_byte}
 use Rattle.std.proofs.lemmas.List.{take_more, take_more_set, map-append}
 use Rattle.std.proofs.lemmas.List.Sums.{sum_by-append}
-use Rattle.fx_tap.specs.Lists.{tabulate}
-use Rattle.fx_tap.proofs.Tabulate.{tabulate-append}
-use Rattle.fx_tap.specs.Rounded.{samples_of, clips_of}
+use Rattle.fx_frame.specs.Lists.{tabulate}
+use Rattle.fx_frame.proofs.Tabulate.{tabulate-append}
+use Rattle.fx_frame.specs.Rounded.{samples_of, clips_of}
 
 -- the roundings of one more sample
 rounds-more : {X : Type 0} (f : X → ℤ × Bool) (xs : List X) (d : X) (i : ℕ) → i < length xs → map f (take (i + 1) xs) ≡ map f (take i xs) ++ f (get_or xs i d) ∷ []

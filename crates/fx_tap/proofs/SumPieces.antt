@@ -9,10 +9,10 @@ use Rattle.fx_frame.specs.Holds.{total}
 use Rattle.fx_frame.specs.Ring.{pieces}
 use Rattle.fx_frame.specs.Stage.{Given}
 use Rattle.fx_frame.proofs.Pieces.{get_or-piece, length-pieces}
-use Rattle.fx_tap.specs.Lists.{tabulate}
+use Rattle.fx_frame.specs.Lists.{tabulate}
 use Rattle.fx_tap.specs.Mapped.{clips_in}
 use Rattle.fx_tap.specs.PerSample.{rounded_given}
-use Rattle.fx_tap.specs.Rounded.{clips_of, given_of, samples_of}
+use Rattle.fx_frame.specs.Rounded.{clips_of, given_of, samples_of}
 use Rattle.fx_tap.proofs.Blocks.{clips-samples, pieces-samples, pieces-sides}
 
 -- where a sample of a frame stands among all

@@ -7,11 +7,11 @@ use Rattle.std.proofs.lemmas.List.{length-append, length-drop, length-replicate,
 use Rattle.fx_frame.specs.Frame.{Samples, silence, IsFrame}
 use Rattle.fx_frame.specs.Line.{Frames, pushed, IsLine}
 use Rattle.fx_frame.specs.Stage.{Gave, Took}
-use Rattle.fx_tap.specs.Lists.{tabulate}
+use Rattle.fx_frame.specs.Lists.{tabulate}
 use Rattle.fx_tap.specs.Tapped.{Taps, TapState, IsTapState, IsNear, behind, tapped, tap_acts, sample_before}
 use Rattle.fx_tap.proofs.DryLaws.{dry-hand, dry-tail, true_of}
 use Rattle.fx_tap.proofs.DelayLaws.{sample_before-append, sample_before-drop, quiet-after}
-use Rattle.fx_tap.proofs.Tabulate.{tabulate-same}
+use Rattle.fx_frame.proofs.Tabulate.{tabulate-same}
 
 module _ {M : Type 0} (taps : Taps M) (near : IsNear taps) where
   -- one more frame comes

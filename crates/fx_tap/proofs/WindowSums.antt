@@ -9,9 +9,9 @@ use Rattle.fx_fixed.specs.declared.gains.TheConstants.{UNIT}
 use Rattle.fx_frame.specs.Frame.{Samples}
 use Rattle.fx_frame.specs.Line.{channel_of}
 use Rattle.fx_tap.specs.Fir.{samples_of_window, samples_back, filtered_sample}
-use Rattle.fx_tap.specs.Lists.{tabulate}
+use Rattle.fx_frame.specs.Lists.{tabulate}
 use Rattle.fx_transform.specs.Products.{sum_of_products}
-use Rattle.fx_tap.proofs.Tabulate.{tabulate-append, tabulate-same, length-tabulate}
+use Rattle.fx_frame.proofs.Tabulate.{tabulate-append, tabulate-same, length-tabulate}
 
 -- one product more
 pub sum_of_products-more : (xs cs : List ℤ) (x c : ℤ) → length xs ≡ length cs → sum_of_products (xs ++ x ∷ []) (cs ++ c ∷ []) ≡ (x *ℤ c) +ℤ sum_of_products xs cs

@@ -2,7 +2,7 @@
 use Rattle.std.specs.Prelude.{ℕ, ◌+◌, ◌-◌, List, ◌++◌, length, replicate, slice_index}
 use Rattle.fx_frame.specs.Frame.{Samples}
 use Rattle.fx_frame.specs.Stage.{Given, Acts}
-use Rattle.fx_tap.specs.Lists.{tabulate, plain}
+use Rattle.fx_frame.specs.Lists.{tabulate, plain}
 pub use Rattle.fx_tap.specs.Tapped.{longest, sample_before}
 use Rattle.fx_tap.specs.Tapped.{Past, Taps, TapState, tap_acts}
 

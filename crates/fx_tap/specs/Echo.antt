@@ -6,8 +6,8 @@ use Rattle.fx_fixed.specs.Rounding.{rounding}
 use Rattle.fx_fixed.specs.declared.gains.TheConstants.{UNIT}
 use Rattle.fx_frame.specs.Frame.{Samples}
 use Rattle.fx_frame.specs.Stage.{Given, Acts}
-use Rattle.fx_tap.specs.Lists.{tabulate}
-use Rattle.fx_tap.specs.Rounded.{given_of}
+use Rattle.fx_frame.specs.Lists.{tabulate}
+use Rattle.fx_frame.specs.Rounded.{given_of}
 use Rattle.fx_tap.specs.Tapped.{Past, Taps, TapState, longest, sample_before, tap_acts}
 
 -- what an `echo` is made with; gains and decays are in trillionths

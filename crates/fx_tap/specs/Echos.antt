@@ -11,10 +11,10 @@ use Rattle.fx_frame.specs.Frozen.{IsHand}
 use Rattle.fx_frame.specs.Line.{Frames, IsLine, pushed, pushed_out, channel_of, empty}
 use Rattle.fx_frame.specs.Stage.{Given, Acts}
 use Rattle.fx_tap.specs.Echo.{EchoArguments, IsEcho}
-use Rattle.fx_tap.specs.Lists.{tabulate}
+use Rattle.fx_frame.specs.Lists.{tabulate}
 use Rattle.fx_tap.specs.Mapped.{most_taken}
 use Rattle.fx_transform.specs.Products.{sum_of_products}
-use Rattle.fx_tap.specs.Rounded.{given_of}
+use Rattle.fx_frame.specs.Rounded.{given_of}
 use Rattle.fx_tap.specs.Tapped.{Past, sample_before}
 
 -- f at the numbers below n, added

@@ -9,10 +9,10 @@ use Rattle.fx_frame.specs.Frozen.{IsHand}
 use Rattle.fx_frame.specs.Line.{Frames, IsLine}
 use Rattle.fx_frame.specs.Stage.{Given, Acts}
 use Rattle.fx_tap.specs.Tapped.{Taps, sample_before}
-use Rattle.fx_tap.specs.Lists.{tabulate}
+use Rattle.fx_frame.specs.Lists.{tabulate}
 use Rattle.fx_tap.specs.Mapped.{most_taken}
 use Rattle.fx_transform.specs.Products.{sum_of_products}
-use Rattle.fx_tap.specs.Rounded.{given_of}
+use Rattle.fx_frame.specs.Rounded.{given_of}
 
 -- what a `Fir` is made with: its channels, and its coefficients in trillionths
 pub record FirArguments : Type 0 where

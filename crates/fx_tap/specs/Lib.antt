@@ -7,13 +7,11 @@ pub mod EchosStored
 pub mod Fir
 pub mod Fractions
 pub mod Lanes
-pub mod Lists
 pub mod Mapped
 pub mod Mix
 pub mod Near
 pub mod PerSample
 pub mod Remix
-pub mod Rounded
 pub mod SmallWeights
 pub mod Tapped
 pub mod Vol

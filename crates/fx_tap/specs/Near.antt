@@ -1,8 +1,8 @@
 -- Each effect with a line looks no farther back than it says.
 use Rattle.std.specs.Prelude.{ℕ, ℤ, ◌≤◌, ◌≡◌, List, [], ◌∷◌, length, slice_index}
 use Rattle.std.proofs.Common.{zero, suc, refl, ap, arith}
-use Rattle.fx_tap.specs.Lists.{tabulate, plain}
-use Rattle.fx_tap.specs.Rounded.{given_of}
+use Rattle.fx_frame.specs.Lists.{tabulate, plain}
+use Rattle.fx_frame.specs.Rounded.{given_of}
 use Rattle.fx_tap.specs.Tapped.{Agree, IsNear, Past, longest}
 use Rattle.fx_tap.specs.Delay.{delay_taps}
 use Rattle.fx_tap.specs.Echo.{echo_taps, echoed_sample, echoes_of, latest}

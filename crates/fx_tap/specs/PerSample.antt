@@ -3,7 +3,7 @@ use Rattle.std.specs.Prelude.{ℕ, ℤ, Bool, map}
 use Rattle.fx_frame.specs.Frame.{Samples}
 use Rattle.fx_frame.specs.Stage.{Acts, Given}
 use Rattle.fx_tap.specs.Mapped.{MapState, map_acts}
-use Rattle.fx_tap.specs.Rounded.{given_of}
+use Rattle.fx_frame.specs.Rounded.{given_of}
 
 -- what such an effect is made with
 pub record SampleArguments (S : Type 0) : Type 0 where

@@ -7,7 +7,7 @@ use Rattle.fx_frame.specs.Frame.{Samples}
 use Rattle.fx_frame.specs.Stage.{Acts}
 use Rattle.fx_frame.specs.Stage.{Given as GivenFrame}
 use Rattle.fx_tap.specs.Mapped.{MapState, map_acts}
-use Rattle.fx_tap.specs.Rounded.{given_of}
+use Rattle.fx_frame.specs.Rounded.{given_of}
 use Rattle.fx_fixed.specs.declared.weights.Weight.{Weight}
 use Rattle.fx_fixed.specs.declared.weights.Weight.TheVariants.{Given, Share, One}
 

@@ -4,8 +4,8 @@ ghost use Rattle.std.specs.Int.{w32};
 ghost use Rattle.fx_fixed.specs.Rounding.{rounding};
 ghost use Rattle.fx_frame.specs.Line.{channel_of};
 ghost use Rattle.fx_frame.specs.Ring.{pieces};
-ghost use Rattle.fx_tap.specs.Lists.{tabulate};
-ghost use Rattle.fx_tap.specs.Rounded.{clips_of};
+ghost use Rattle.fx_frame.specs.Lists.{tabulate};
+ghost use Rattle.fx_frame.specs.Rounded.{clips_of};
 
 use fx_fixed::inner::Denominator;
 

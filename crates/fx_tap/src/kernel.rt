@@ -3,9 +3,9 @@ ghost use Rattle.std.specs.Prelude.{◌≡◌, ◌+◌, ◌*◌, ◌^◌, ◌<�
 ghost use Rattle.fx_fixed.specs.Rounding.{rounding};
 ghost use Rattle.fx_tap.specs.Fir.{samples_of_window};
 ghost use Rattle.fx_tap.specs.SmallWeights.{SumsAs};
-ghost use Rattle.fx_tap.specs.Lists.{tabulate};
+ghost use Rattle.fx_frame.specs.Lists.{tabulate};
 ghost use Rattle.fx_transform.specs.Products.{sum_of_products};
-ghost use Rattle.fx_tap.specs.Rounded.{clips_of};
+ghost use Rattle.fx_frame.specs.Rounded.{clips_of};
 
 use crate::channels::round_channel;
 use crate::products::dot;

@@ -1,8 +1,8 @@
 //! Sums of samples times gains, one for each channel, each rounded once.
 ghost use Rattle.std.specs.Prelude.{◌≡◌, ◌<◌, ◌≤◌, ◌+◌, ◌-◌, ◌*◌, ◌^◌, ℕ, ℤ, List, pos, ◌+ℤ◌, ◌*ℤ◌, ◌<ℤ◌, ◌≤ℤ◌, length, map, slice_index_or, unsigned_abs};
 ghost use Rattle.fx_fixed.specs.Rounding.{rounding};
-ghost use Rattle.fx_tap.specs.Lists.{tabulate};
-ghost use Rattle.fx_tap.specs.Rounded.{clips_of, given_of, samples_of};
+ghost use Rattle.fx_frame.specs.Lists.{tabulate};
+ghost use Rattle.fx_frame.specs.Rounded.{clips_of, given_of, samples_of};
 
 use fx_fixed::inner::Denominator;
 use fx_fixed::{Gain, UNIT, round_clip};

@@ -3,7 +3,7 @@ use Rattle.std.proofs.Common.{◌≡◌, ◌≤◌, ◌*◌, ◌+◌, ◌-◌, �
 use Rattle.std.proofs.lemmas.List.{length-drop, length-take-le}
 use Rattle.std.proofs.Math.Nat.{suc-mul, mul-le-mul_right}
 use Rattle.fx_frame.proofs.Feeding.{drop-put, pieces-put}
-use Rattle.fx_cut.specs.Lists.{firsts}
+use Rattle.fx_cut.specs.Strides.{firsts}
 use Rattle.fx_cut.proofs.DownsampleMany.{firsts-more}
 use Rattle.fx_cut.proofs.Pieces.{put-piece}
 use Rattle.fx_cut.proofs.downsample.copy_groups.Goals as goal

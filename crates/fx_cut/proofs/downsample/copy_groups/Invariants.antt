@@ -1,6 +1,6 @@
 use Rattle.std.proofs.Common.{◌≡◌, ◌*◌, drop}
 use Rattle.fx_frame.specs.Ring.{pieces}
-use Rattle.fx_cut.specs.Lists.{firsts}
+use Rattle.fx_cut.specs.Strides.{firsts}
 use Rattle.fx_cut.proofs.downsample.copy_groups.Given as goal
 
 abbrev pub invariant-groups : goal.invariant-groups

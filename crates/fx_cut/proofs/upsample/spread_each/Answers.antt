@@ -5,7 +5,7 @@ use Rattle.std.proofs.lemmas.List.{length-append, length-drop, length-replicate,
 use Rattle.std.proofs.Math.Nat.{suc-mul, mul-le-mul_right, mul_assoc}
 use Rattle.fx_frame.specs.Ring.{pieces}
 use Rattle.fx_frame.proofs.Feeding.{drop-put}
-use Rattle.fx_cut.specs.Lists.{spread}
+use Rattle.fx_cut.specs.Strides.{spread}
 use Rattle.fx_cut.proofs.Pieces.{put-piece}
 use Rattle.fx_cut.proofs.UpsampleMany.{group-pieces, pieces-group, spread-more}
 use Rattle.fx_cut.proofs.upsample.spread_each.Goals as goal

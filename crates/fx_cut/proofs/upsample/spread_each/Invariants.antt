@@ -1,6 +1,6 @@
 use Rattle.std.proofs.Common.{◌≡◌, ◌*◌, drop}
 use Rattle.fx_frame.specs.Ring.{pieces}
-use Rattle.fx_cut.specs.Lists.{spread}
+use Rattle.fx_cut.specs.Strides.{spread}
 use Rattle.fx_cut.proofs.upsample.spread_each.Given as goal
 
 abbrev pub invariant-frames : goal.invariant-frames

@@ -1,7 +1,7 @@
 use Rattle.std.proofs.Common.{◌≡◌, ◌<◌, ◌≤◌, ◌+◌, ◌*◌, ℕ, pos, slice_index_or}
 use Rattle.fx_fixed.specs.Rounding.{rounding}
-use Rattle.fx_tap.specs.Lists.{tabulate}
-use Rattle.fx_tap.specs.Rounded.{clips_of}
+use Rattle.fx_frame.specs.Lists.{tabulate}
+use Rattle.fx_frame.specs.Rounded.{clips_of}
 use Rattle.fx_tap.proofs.channels.round_channel.Given as goal
 
 abbrev pub invariant-frames : goal.invariant-frames

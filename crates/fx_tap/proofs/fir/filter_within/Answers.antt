@@ -7,11 +7,11 @@ use Rattle.fx_frame.specs.Line.{channel_of}
 use Rattle.fx_frame.specs.Ring.{pieces}
 use Rattle.fx_frame.proofs.Pieces.{length-pieces}
 use Rattle.fx_tap.specs.Fir.{FirArguments, filtered_sample}
-use Rattle.fx_tap.specs.Lists.{tabulate}
+use Rattle.fx_frame.specs.Lists.{tabulate}
 use Rattle.fx_transform.specs.Products.{sum_of_products}
-use Rattle.fx_tap.specs.Rounded.{clips_of}
+use Rattle.fx_frame.specs.Rounded.{clips_of}
 use Rattle.fx_tap.proofs.FirBlocks.{all_clips-more, all_clips-none, block-clips, block-frames, channel-put, filtered-window}
-use Rattle.fx_tap.proofs.Tabulate.{tabulate-same}
+use Rattle.fx_frame.proofs.Tabulate.{tabulate-same}
 use Rattle.fx_tap.proofs.fir.filter_within.Goals as goal
 
 pub channels-init : goal.channels-init

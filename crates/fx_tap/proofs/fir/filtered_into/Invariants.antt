@@ -1,7 +1,7 @@
 use Rattle.std.proofs.Common.{◌≡◌, ◌≤◌, ◌++◌, reverse, take}
 use Rattle.fx_tap.specs.Fir.{filtered_sample}
-use Rattle.fx_tap.specs.Lists.{tabulate}
-use Rattle.fx_tap.specs.Rounded.{clips_of, samples_of}
+use Rattle.fx_frame.specs.Lists.{tabulate}
+use Rattle.fx_frame.specs.Rounded.{clips_of, samples_of}
 use Rattle.fx_tap.proofs.fir.filtered_into.Given as goal
 
 -- the samples of the channels so far, and how many of them were clipped

@@ -1,5 +1,5 @@
 use Rattle.std.proofs.Common.{◌≡◌, ◌≤◌, map, take, drop}
-use Rattle.fx_tap.specs.Rounded.{clips_of, samples_of}
+use Rattle.fx_frame.specs.Rounded.{clips_of, samples_of}
 use Rattle.fx_tap.proofs.per_sample.round_over.Given as goal
 
 abbrev pub invariant-samples : goal.invariant-samples

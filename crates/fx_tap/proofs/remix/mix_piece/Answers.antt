@@ -3,9 +3,9 @@ use Rattle.std.proofs.Math.Nat.{suc-mul}
 use Rattle.fx_frame.specs.Frame.{Samples}
 use Rattle.fx_frame.specs.Ring.{pieces}
 use Rattle.fx_frame.proofs.Pieces.{length-pieces}
-use Rattle.fx_tap.specs.Lists.{tabulate}
+use Rattle.fx_frame.specs.Lists.{tabulate}
 use Rattle.fx_tap.specs.Remix.{Contributions, remixed_sample}
-use Rattle.fx_tap.specs.Rounded.{clips_of}
+use Rattle.fx_frame.specs.Rounded.{clips_of}
 use Rattle.fx_tap.proofs.EchosRow.{any-default}
 use Rattle.fx_tap.proofs.FirBlocks.{all_clips, all_clips-more, all_clips-none, channel-put}
 use Rattle.fx_tap.proofs.MixPieces.{mixed-clips, mixed-frames}

@@ -2,8 +2,8 @@ use Rattle.std.proofs.Common.{refl, ◌≡◌, ◌∷◌, ◌-◌, [], ap, sym, 
 use Rattle.std.specs.Prelude.{ℤ}
 use Rattle.std.proofs.lemmas.List.{take_at}
 use Rattle.fx_cut.specs.Fade.{faded_frame, weighted, weights}
-use Rattle.fx_cut.specs.Lists.{plain}
-use Rattle.fx_cut.specs.Rounded.{unclipped}
+use Rattle.fx_frame.specs.Lists.{plain}
+use Rattle.fx_frame.specs.Rounded.{unclipped}
 use Rattle.fx_cut.proofs.Weighing.{given-plain}
 use Rattle.fx_cut.proofs.fade.Fading.faded.Goals as goal
 

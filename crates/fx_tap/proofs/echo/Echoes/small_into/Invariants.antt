@@ -1,7 +1,7 @@
 use Rattle.std.proofs.Common.{◌≡◌, ◌≤◌, ◌++◌, ◌∷◌, [], length, take}
 use Rattle.fx_tap.specs.Echo.{echoed_sample}
-use Rattle.fx_tap.specs.Lists.{tabulate}
-use Rattle.fx_tap.specs.Rounded.{clips_of, samples_of}
+use Rattle.fx_frame.specs.Lists.{tabulate}
+use Rattle.fx_frame.specs.Rounded.{clips_of, samples_of}
 use Rattle.fx_tap.specs.Tapped.{sample_before}
 use Rattle.fx_tap.proofs.echo.Echoes.small_into.Given as goal
 

@@ -1,7 +1,7 @@
 use Rattle.std.proofs.Common.{◌∙◌, ◌≡◌, ◌++◌, ◌∷◌, [], length, ap, arith}
 use Rattle.std.proofs.lemmas.List.{take_all}
 use Rattle.fx_tap.specs.Tapped.{sample_before}
-use Rattle.fx_tap.specs.Rounded.{clips_of, samples_of}
+use Rattle.fx_frame.specs.Rounded.{clips_of, samples_of}
 use Rattle.fx_tap.proofs.EchoLaws.{echoed-is}
 use Rattle.fx_tap.proofs.echo.Echoes.wide_into.Goals as goal
 

@@ -1,6 +1,6 @@
 use Rattle.std.proofs.Common.{◌∙◌, ◌++◌, ◌∷◌, [], length, ap}
 use Rattle.fx_tap.specs.Tapped.{sample_before}
-use Rattle.fx_tap.specs.Rounded.{clips_of, samples_of}
+use Rattle.fx_frame.specs.Rounded.{clips_of, samples_of}
 use Rattle.fx_tap.specs.EchoWeights.{SoundsAs}
 use Rattle.fx_tap.proofs.EchoLaws.{echoed-is}
 use Rattle.fx_tap.proofs.echo.EchoesTapping.tap.Goals as goal

@@ -4,9 +4,9 @@ use Rattle.fx_fixed.specs.declared.gains.TheConstants.{UNIT}
 use Rattle.fx_tap.specs.EchoWeights.{Weights}
 use Rattle.fx_tap.specs.SmallWeights.{SumsAs}
 use Rattle.fx_transform.specs.Products.{sum_of_products}
-use Rattle.fx_tap.specs.Rounded.{clips_of}
+use Rattle.fx_frame.specs.Rounded.{clips_of}
 use Rattle.fx_tap.proofs.KernelLaws.{rounded-as}
-use Rattle.fx_tap.proofs.Tabulate.{tabulate-same}
+use Rattle.fx_frame.proofs.Tabulate.{tabulate-same}
 use Rattle.fx_tap.proofs.kernel.Kernel.filter_channel.Goals as goal
 
 pub convolve-requires : goal.convolve-requires

@@ -1,8 +1,8 @@
 use Rattle.std.proofs.Common.{◌≡◌, ◌<◌, ◌≤◌, ◌+◌, ◌*◌, [], ℕ, pos, slice_index_or}
 use Rattle.fx_frame.specs.Ring.{pieces}
-use Rattle.fx_tap.specs.Lists.{tabulate}
+use Rattle.fx_frame.specs.Lists.{tabulate}
 use Rattle.fx_tap.specs.Remix.{remixed_sample}
-use Rattle.fx_tap.specs.Rounded.{clips_of}
+use Rattle.fx_frame.specs.Rounded.{clips_of}
 use Rattle.fx_tap.proofs.remix.Mix.channel_by_frames.Given as goal
 
 abbrev pub invariant-frames : goal.invariant-frames

@@ -8,11 +8,11 @@ use Rattle.fx_frame.proofs.Pieces.{get_or-piece}
 use Rattle.fx_tap.specs.EchoWeights.{Weights}
 use Rattle.fx_tap.specs.Mix.{Copies, all_parts, pair_of}
 use Rattle.fx_tap.specs.Remix.{remixed_sample}
-use Rattle.fx_tap.specs.Rounded.{clips_of}
+use Rattle.fx_frame.specs.Rounded.{clips_of}
 use Rattle.fx_tap.specs.SmallWeights.{SumsAs}
 use Rattle.fx_tap.proofs.DelayLaws.{quiet-part}
 use Rattle.fx_tap.proofs.MixLaws.{copied-sample, none-clipped, small-mix}
-use Rattle.fx_tap.proofs.Tabulate.{tabulate-same}
+use Rattle.fx_frame.proofs.Tabulate.{tabulate-same}
 use Rattle.fx_tap.proofs.remix.Mix.channel_into.Goals as goal
 
 pub add_channels-requires-clause-empty : goal.add_channels-requires-clause-empty

@@ -1,16 +1,6 @@
--- Lists by index, and frames without clips (this project's profile).
+-- Frames of a list of samples by strides (this project's profile).
 use Rattle.std.specs.Prelude.{ℕ, ℤ, zero, suc, ◌*◌, ◌-◌, List, [], ◌∷◌, ◌++◌, take, drop, replicate}
 use Rattle.fx_frame.specs.Frame.{Samples, silence}
-use Rattle.fx_frame.specs.Stage.{Given}
-
--- f at so many numbers from the first one on
-abbrev pub tabulate : {X : Type 0} → (ℕ → X) → ℕ → ℕ → List X
-tabulate f from zero = []
-tabulate f from (suc count) = f from ∷ tabulate f (suc from) count
-
--- a frame without clips
-abbrev pub plain : Samples → Given
-plain frame = record { samples = frame; clips = 0 }
 
 -- the first frames, of so many samples, of groups of so many
 abbrev pub firsts : {X : Type 0} → ℕ → ℕ → ℕ → List X → List (List X)

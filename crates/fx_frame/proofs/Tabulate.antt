@@ -1,5 +1,5 @@
 use Rattle.std.proofs.Common.{ℕ, zero, suc, ◌+◌, ◌<◌, ◌≡◌, List, ◌∷◌, ◌++◌, length, take, refl, ap, arith, replicate, add-zero, zero-add}
-use Rattle.fx_tap.specs.Lists.{tabulate}
+use Rattle.fx_frame.specs.Lists.{tabulate}
 
 pub tabulate-append : {X : Type 0} (f : ℕ → X) (from m n : ℕ) → tabulate f from (m + n) ≡ tabulate f from m ++ tabulate f (from + m) n
 tabulate-append f from zero n = rw (zero-add, add-zero) refl

@@ -1,5 +1,5 @@
--- Samples that were rounded, one for each channel, each with whether it was clipped. Source: this project's profile.
-use Rattle.std.specs.Prelude.{ℕ, ℤ, List, Bool, map, count_by}
+-- Samples that were rounded, one for each channel, each with whether it was clipped (this project's profile).
+use Rattle.std.specs.Prelude.{ℕ, ℤ, List, Bool, false, map, count_by}
 use Rattle.fx_frame.specs.Stage.{Given}
 
 -- the frame of rounded samples
@@ -13,3 +13,7 @@ clips_of rounds = count_by (λ r. r.1) rounds
 -- the frame and its clips
 abbrev pub given_of : List (ℤ × Bool) → Given
 given_of rounds = record { samples = samples_of rounds; clips = clips_of rounds }
+
+-- a sample that was not clipped
+abbrev pub unclipped : ℤ → ℤ × Bool
+unclipped sample = (sample, false)
