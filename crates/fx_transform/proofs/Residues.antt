@@ -53,6 +53,12 @@ same_more p a b k e =
 pub same_opposite : (p a b c d : ℤ) → Same p a b → Same p c d → Same p (a -ℤ c) (b -ℤ d)
 same_opposite p a b c d h g = let e = h.1 in let f = g.1 in let turned = mul-neg p g.0 in let parts = mul-add p h.0 (neg_ℤ g.0) in (h.0 +ℤ neg_ℤ g.0, omega (arith, ints))
 
+-- a difference, made positive
+pub same_difference : (p a b : ℕ) → b < p → Same (pos p) (pos (a + (p - b))) (pos a -ℤ pos b)
+same_difference p a b less =
+    let once : pos p *ℤ pos 1 ≡ pos p = ap pos (omega arith) in
+    (pos 1, omega (arith, ints))
+
 -- a sample of 32 bits below 0, and the modulus
 pub lifted : (x : ℤ) → mag x < 2 ^ 31 → lt_z x (pos 0) ≡ true → Same (pos modulus) (pos (nat_abs (x +ℤ pos modulus))) x
 lifted (pos n) small below = absurd (omega (arith, ints))

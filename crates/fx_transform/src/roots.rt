@@ -4,7 +4,7 @@ ghost use Rattle.fx_transform.specs.Residues.{AreRemainders};
 ghost use Rattle.fx_transform.specs.Transform.{AreRoots};
 
 use crate::factor::Factor;
-use crate::remainders::{MODULUS, sum};
+use crate::remainders::{MODULUS, reduced};
 use std::alloc::{AllocError, Global};
 
 /// The powers of a root of order 2,048 that have the orders 4, 8, up to 2,048.
@@ -52,7 +52,7 @@ pub(crate) fn are_roots(roots: &[Factor], inverses: &[Factor]) -> bool
         if even.times(even.value()) != roots[place].value() {
             return false;
         }
-        if sum(odd.times(odd.value()), roots[place].value()) != 0 {
+        if reduced(odd.times(odd.value()) + roots[place].value()) != 0 {
             return false;
         }
     }

@@ -18,7 +18,7 @@ squares-preserved c =
     let even_is : c.times.result ≡ get_or roots i 0 = c.if-times-value.false ∙ c.value-in-squares-2.ensures.value ∙ here in
     let even : Same p (root_at roots (2 * i) *ℤ root_at roots (2 * i)) (root_at roots i) = same_sym p (root_at roots i) (root_at roots (2 * i) *ℤ root_at roots (2 * i)) (rw even_is at even_square) in
     let odd_square : Same p (pos c.times-in-squares.result) (root_at roots (2 * i + 1) *ℤ root_at roots (2 * i + 1)) = rw (c.value-in-squares-3.ensures.value, odd_at) at c.times-in-squares.ensures.same in
-    let odd : Same p (root_at roots (2 * i + 1) *ℤ root_at roots (2 * i + 1)) (neg_ℤ (root_at roots i)) = same_negative p (root_at roots (2 * i + 1) *ℤ root_at roots (2 * i + 1)) (pos c.times-in-squares.result) (root_at roots i) odd_square (rw (c.if-sum-ne0.false, c.value-in-squares-4.ensures.value, there) at c.sum.ensures.same) in
+    let odd : Same p (root_at roots (2 * i + 1) *ℤ root_at roots (2 * i + 1)) (neg_ℤ (root_at roots i)) = same_negative p (root_at roots (2 * i + 1) *ℤ root_at roots (2 * i + 1)) (pos c.times-in-squares.result) (root_at roots i) odd_square (rw (c.if-reduced-ne0.false, c.value-in-squares-4.ensures.value, there) at c.reduced.ensures.same) in
     record {
       even = below_more (λ j. Same p (root_at roots (2 * j) *ℤ root_at roots (2 * j)) (root_at roots j)) i c.squares.invariant.even even;
       odd = below_more (λ j. Same p (root_at roots (2 * j + 1) *ℤ root_at roots (2 * j + 1)) (neg_ℤ (root_at roots j))) i c.squares.invariant.odd odd;
