@@ -7,3 +7,4 @@ pub mod Steps
 pub mod Sums
 pub mod Factors
 pub mod Prepared
+pub mod Doubling

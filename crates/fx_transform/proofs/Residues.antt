@@ -45,13 +45,14 @@ same_less p a b k e =
     let product : pos p *ℤ pos k ≡ pos (p * k) = ap pos (omega arith) in
     (neg_ℤ (pos k), omega (arith, ints))
 
-pub same_more : (p a b k : ℕ) → a ≡ b + p * k → Same (pos p) (pos a) (pos b)
-same_more p a b k e =
-    let product : pos p *ℤ pos k ≡ pos (p * k) = ap pos (omega arith) in
-    (pos k, omega (arith, ints))
-
 pub same_opposite : (p a b c d : ℤ) → Same p a b → Same p c d → Same p (a -ℤ c) (b -ℤ d)
 same_opposite p a b c d h g = let e = h.1 in let f = g.1 in let turned = mul-neg p g.0 in let parts = mul-add p h.0 (neg_ℤ g.0) in (h.0 +ℤ neg_ℤ g.0, omega (arith, ints))
+
+-- a difference, made positive
+pub same_difference : (p a b : ℕ) → b < p → Same (pos p) (pos (a + (p - b))) (pos a -ℤ pos b)
+same_difference p a b less =
+    let once : pos p *ℤ pos 1 ≡ pos p = ap pos (omega arith) in
+    (pos 1, omega (arith, ints))
 
 -- a sample of 32 bits below 0, and the modulus
 pub lifted : (x : ℤ) → mag x < 2 ^ 31 → lt_z x (pos 0) ≡ true → Same (pos modulus) (pos (nat_abs (x +ℤ pos modulus))) x
@@ -72,11 +73,9 @@ pub kept : (x : ℤ) → lt_z x (pos 0) ≡ false → pos (nat_abs x) ≡ x
 kept (pos n) below = refl
 kept (negsuc n) below = absurd (omega (arith, ints))
 
--- what adds up to 0
-pub same_negative : (p a b c : ℤ) → Same p b a → Same p (pos 0) (b +ℤ c) → Same p a (neg_ℤ c)
-same_negative p a b c is none =
-    let e = is.1 in
-    let f = none.1 in
-    let turned = mul-neg p (is.0 +ℤ none.0) in
-    let parts = mul-add p is.0 none.0 in
-    (neg_ℤ (is.0 +ℤ none.0), omega (arith, ints))
+-- the negatives
+pub same_negated : (p a b : ℤ) → Same p a b → Same p (neg_ℤ a) (neg_ℤ b)
+same_negated p a b h =
+    let e = h.1 in
+    let turned = mul-neg p h.0 in
+    (neg_ℤ h.0, omega (arith, ints))

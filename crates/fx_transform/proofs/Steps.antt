@@ -1,5 +1,5 @@
 -- One step of a transform of 2^levels numbers, and what each half is.
-use Rattle.std.proofs.Common.{◌≡◌, ◌+◌, ◌-◌, ◌*◌, ◌/◌, ◌^◌, ◌<◌, ◌≤◌, ◌∙◌, refl, ℕ, zero, suc, ℤ, pos, neg_ℤ, ◌*ℤ◌, ◌+ℤ◌, List, [], ◌∷◌, ◌++◌, length, get_or, set, take, drop, arith}
+use Rattle.std.proofs.Common.{◌≡◌, ◌+◌, ◌-◌, ◌*◌, ◌/◌, ◌^◌, ◌<◌, ◌≤◌, refl, ℕ, zero, suc, ℤ, pos, neg_ℤ, ◌*ℤ◌, ◌+ℤ◌, List, [], ◌∷◌, ◌++◌, length, get_or, set, take, drop, arith}
 use Rattle.std.specs.Prelude.{◌-ℤ◌}
 use Rattle.std.proofs.Math.Nat.{pow-suc}
 use Rattle.std.proofs.Math.IntN.{*ℤ_comm}
@@ -62,11 +62,9 @@ at_combined r (x ∷ u) (y ∷ v) (suc i) long lt = at_combined r u v i (omega a
 
 -- ---- transforms
 
-pub transform_one : (p : ℕ) (roots : List ℕ) (levels place : ℕ) (h : List ℤ) (f : List ℕ) → levels ≡ 0 → length f ≡ 2 ^ levels → AreSame p f h → IsTransform p roots levels place h f
+pub transform_one : (p : ℕ) (roots : List ℕ) (levels place : ℕ) (h : List ℤ) (f : List ℕ) → levels ≡ 0 → Same (pos p) (pos (get_or f 0 0)) (get_or h 0 (pos 0)) → IsTransform p roots levels place h f
 unfolding IsTransform
-transform_one p roots levels place h f none long same =
-    let one : length f ≡ 1 = long ∙ rw none refl in
-    rw none (same 0 (omega arith))
+transform_one p roots levels place h f none same = rw none same
 
 pub one_transform : (p : ℕ) (roots : List ℕ) (levels place : ℕ) (h : List ℤ) (f : List ℕ) → levels ≡ 0 → IsTransform p roots levels place h f → Same (pos p) (pos (get_or f 0 0)) (get_or h 0 (pos 0))
 unfolding IsTransform

@@ -1,7 +1,7 @@
 -- Lists of remainders that are written place by place.
-use Rattle.std.proofs.Common.{◌≡◌, ◌≢◌, ◌+◌, ◌-◌, ◌<◌, ◌≤◌, ◌∙◌, refl, ℕ, zero, suc, ℤ, pos, List, [], ◌∷◌, ◌++◌, length, get_or, set, take, drop, arith, below_more, get_or-set_other, get_or-set_same}
+use Rattle.std.proofs.Common.{◌≡◌, ◌≢◌, ◌+◌, ◌-◌, ◌<◌, ◌≤◌, ◌∙◌, refl, ℕ, zero, suc, ℤ, pos, List, [], ◌∷◌, ◌++◌, length, get_or, set, arith, below_more, get_or-set_other, get_or-set_same}
 use Rattle.std.proofs.lemmas.Bool.{cases_lt}
-use Rattle.std.proofs.lemmas.List.{length-set, length-take, length-drop, length-append, get_or-take, get_or-drop, get_or_append_left, get_or-append_right, get_or_at}
+use Rattle.std.proofs.lemmas.List.{length-set, length-append, get_or_append_left, get_or-append_right, get_or_at}
 use mathlib.Core.Logic.{inl, inr}
 use Rattle.fx_transform.specs.Residues.{Same, AreRemainders, AreSame}
 
@@ -29,18 +29,7 @@ remainder_set p xs i v lt less are k h =
       ]
     ]
 
--- parts of remainders, and two lists of them joined
-pub remainders_front : (p m : ℕ) (xs : List ℕ) → AreRemainders p xs → AreRemainders p (take m xs)
-remainders_front p m xs are i lt =
-    let long = length-take m xs in
-    let below : i < m = omega arith in
-    rw (get_or-take m xs i 0 below) (are i (omega arith))
-
-pub remainders_back : (p m : ℕ) (xs : List ℕ) → AreRemainders p xs → AreRemainders p (drop m xs)
-remainders_back p m xs are i lt =
-    let long = length-drop m xs in
-    rw (get_or-drop m xs i 0) (are (m + i) (omega arith))
-
+-- two lists of remainders joined
 pub remainders_both : (p : ℕ) (xs ys : List ℕ) → AreRemainders p xs → AreRemainders p ys → AreRemainders p (xs ++ ys)
 remainders_both p xs ys first second i lt =
     let long = length-append xs ys in

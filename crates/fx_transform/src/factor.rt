@@ -2,7 +2,7 @@
 ghost use Rattle.std.specs.Prelude.{◌≡◌, ◌<◌, ◌≤◌, ◌+◌, ◌*◌, ◌/◌, ◌^◌, pos, ◌*ℤ◌};
 ghost use Rattle.fx_transform.specs.Residues.{Same};
 
-use crate::remainders::MODULUS;
+use crate::remainders::{MODULUS, reduced};
 use std::marker::Model;
 
 /// A remainder by which others are multiplied, with 2^64 times it over the modulus, rounded down.
@@ -50,16 +50,15 @@ impl Factor {
         self.value
     }
 
-    /// The remainder of a product. The quotient is that of the product, or one less.
+    /// The remainder of a product with any number. The quotient is that of the product, or one less.
     #[inline(always)]
     pub(crate) fn times(self, number: u64) -> u64
-        requires { number < MODULUS }
         ensures less { result < MODULUS }
         ensures same { Same (pos MODULUS) (pos result) (pos self *ℤ pos number) }
     {
         let quotient = (u128::from(self.quotient) * u128::from(number)) >> 64;
         let product = u128::from(self.value) * u128::from(number);
         let rest = (product - quotient * u128::from(MODULUS)) as u64;
-        if rest < MODULUS { rest } else { rest - MODULUS }
+        reduced(rest)
     }
 }

@@ -1,5 +1,5 @@
-//! Sums and differences of remainders modulo a prime, and the numbers that have them.
-ghost use Rattle.std.specs.Prelude.{◌≡◌, ◌<◌, ◌≤◌, ◌^◌, ℤ, pos, ◌+ℤ◌, ◌-ℤ◌, unsigned_abs};
+//! Remainders modulo a prime, and the numbers that have them.
+ghost use Rattle.std.specs.Prelude.{◌≡◌, ◌<◌, ◌≤◌, ◌*◌, ◌^◌, ℤ, pos, unsigned_abs};
 ghost use Rattle.fx_transform.specs.Residues.{Same};
 
 /// The modulus, a prime: 87 * 2^56 + 1. It lies between 2^62 and 2^63.
@@ -8,31 +8,18 @@ pub(crate) const MODULUS: u64 = 6_269_010_681_299_730_433;
 /// Half of the modulus, rounded down.
 const HALF: u64 = 3_134_505_340_649_865_216;
 
-/// The remainder of a sum.
+/// The remainder of a number below twice the modulus.
 #[inline(always)]
-pub(crate) fn sum(a: u64, b: u64) -> u64
-    requires a { a < MODULUS }
-    requires b { b < MODULUS }
+pub(crate) fn reduced(number: u64) -> u64
+    requires { number < 2 * MODULUS }
     ensures less { result < MODULUS }
-    ensures same { Same (pos MODULUS) (pos result) (pos a +ℤ pos b) }
+    ensures same { Same (pos MODULUS) (pos result) (pos number) }
 {
-    let total = a + b;
-    if total < MODULUS {
-        total
+    if number < MODULUS {
+        number
     } else {
-        total - MODULUS
+        number - MODULUS
     }
-}
-
-/// The remainder of a difference.
-#[inline(always)]
-pub(crate) fn difference(a: u64, b: u64) -> u64
-    requires a { a < MODULUS }
-    requires b { b < MODULUS }
-    ensures less { result < MODULUS }
-    ensures same { Same (pos MODULUS) (pos result) (pos a -ℤ pos b) }
-{
-    if b <= a { a - b } else { a + (MODULUS - b) }
 }
 
 /// The remainder of a sample.

@@ -1,28 +1,20 @@
 //! Weights prepared for sums by transforms.
-ghost use Rattle.std.specs.Prelude.{◌≡◌, ◌<◌, ◌≤◌, ◌+◌, ◌^◌, ℕ, pos, drop, length, slice_index_or, sum_by, unsigned_abs, IfOk, IfSome, IsTrue};
+ghost use Rattle.std.specs.Prelude.{◌≡◌, ◌<◌, ◌≤◌, ◌+◌, ◌^◌, ◌⊎◌, ℕ, pos, true, false, drop, length, slice_index_or, sum_by, unsigned_abs, IfOk, IfNone, IfSome};
 ghost use Rattle.fx_transform.specs.Products.{sum_of_products};
 
 use crate::factor::Factor;
 use crate::loading::{load, transformed};
 use crate::remainders::centered;
-use crate::roots::{are_roots, table};
+use crate::roots::{RootTable, table};
 use crate::transform::multiply;
 use std::alloc::{AllocError, Global};
 use std::marker::Model;
 
-/// A root of order 2,048: a power of 5.
-const ROOT: u64 = 2_102_239_801_028_878_810;
-
-/// Its inverse.
-const INVERSE: u64 = 2_803_148_625_741_918_422;
-
-/// Weights prepared for sums by transforms: the weights, a table of roots and their inverses, and the transform of the
-/// weights.
+/// Weights prepared for sums by transforms: the weights, a table of roots, and the transform of the weights.
 #[derive(Drop)]
 pub struct Spectrum {
     weights: Vec<i32>,
-    roots: Vec<Factor>,
-    inverses: Vec<Factor>,
+    table: RootTable,
     spectrum: Vec<Factor>,
 }
 
@@ -35,12 +27,13 @@ impl Model for Spectrum {
 
     ghost view = { λ s. s.weights.items };
 
-    ghost invariant = { λ s. (length s.weights.items ≤ 1024) × (sum_by unsigned_abs s.weights.items ≤ 2 ^ 30) × IsPrepared s.weights.items s.roots.items s.inverses.items s.spectrum.items };
+    ghost invariant = { λ s. (length s.weights.items ≤ 1024) × (sum_by unsigned_abs s.weights.items ≤ 2 ^ 30) × IsPrepared s.weights.items s.table.roots.items s.table.inverses.items s.spectrum.items };
 }
 
 /// Tests that the magnitudes of weights add up to at most 2^30.
 fn is_small(weights: &[i32]) -> bool
-    ensures { IsTrue result → sum_by unsigned_abs weights.now ≤ 2 ^ 30 }
+    ensures small { result ≡ true → sum_by unsigned_abs weights.now ≤ 2 ^ 30 }
+    ensures large { result ≡ false → 2 ^ 30 < sum_by unsigned_abs weights.now }
 {
     let mut left = 1_073_741_824;
     'weights: for weight in weights {
@@ -54,26 +47,23 @@ fn is_small(weights: &[i32]) -> bool
 }
 
 impl Spectrum {
-    /// That of at most 1,024 weights. None where there are more, or where their magnitudes add up to more than 2^30;
-    /// `AllocError` where memory is refused.
+    /// That of at most 1,024 weights whose magnitudes add up to at most 2^30. None where there are more weights, or where
+    /// their magnitudes add up to more, and nowhere else; `AllocError` where memory is refused.
     pub fn of(alloc: Global, weights: &[i32]) -> Result<Option<Spectrum>, AllocError>
         ensures value { IfOk result (λ s. IfSome s (λ v. v ≡ weights.now)) }
+        ensures some { IfOk result (λ s. IfSome s (λ _. (length weights.now ≤ 1024) × (sum_by unsigned_abs weights.now ≤ 2 ^ 30))) }
+        ensures none { IfOk result (λ s. IfNone s ((1024 < length weights.now) ⊎ (2 ^ 30 < sum_by unsigned_abs weights.now))) }
     {
         if weights.len() > 1024 || !is_small(weights) {
             return Ok(None);
         }
-        let roots = table(alloc, ROOT)?;
-        let inverses = table(alloc, INVERSE)?;
-        if !are_roots(&roots, &inverses) {
-            return Ok(None);
-        }
-        let spectrum = transformed(alloc, &roots, weights)?;
+        let table = table(alloc)?;
+        let spectrum = transformed(alloc, &table.roots, weights)?;
         let mut own = Vec::new(alloc);
         own.extend_from_slice(weights)?;
         Ok(Some(Spectrum {
             weights: own,
-            roots,
-            inverses,
+            table,
             spectrum,
         }))
     }
@@ -96,8 +86,8 @@ impl Spectrum {
         let mut values = [0; 2048];
         load(piece, &mut values);
         multiply(
-            &self.roots,
-            &self.inverses,
+            &self.table.roots,
+            &self.table.inverses,
             11,
             0,
             &self.spectrum,

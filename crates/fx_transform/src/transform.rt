@@ -1,26 +1,26 @@
-//! Transforms of 2^levels remainders, in place.
+//! Transforms of 2^levels remainders, in place. On the way in the numbers are below twice the modulus: one correction less a pair.
 ghost use Rattle.std.specs.Prelude.{◌≡◌, ◌<◌, ◌≤◌, ◌+◌, ◌*◌, ◌^◌, ℕ, ℤ, List, [], ◌∷◌, pos, neg_ℤ, ◌+ℤ◌, ◌-ℤ◌, ◌*ℤ◌, length, slice_index_or};
 ghost use Rattle.fx_transform.specs.Residues.{Same, AreRemainders, AreSame};
 ghost use Rattle.fx_transform.specs.Transform.{AreRoots, IsProduct, IsTransform, root_at};
 
 use crate::factor::Factor;
-use crate::remainders::{MODULUS, difference, sum};
+use crate::remainders::{MODULUS, reduced};
 
-/// `low + root * high` and `low - root * high`.
+/// `low + root * high` and `low - root * high`, below twice the modulus as `low` is.
 #[inline(always)]
 fn spread_pair(root: Factor, low: u64, high: u64) -> (u64, u64)
-    requires low { low < MODULUS }
-    requires high { high < MODULUS }
-    ensures low { result.0 < MODULUS }
-    ensures high { result.1 < MODULUS }
+    requires low { low < 2 * MODULUS }
+    ensures low { result.0 < 2 * MODULUS }
+    ensures high { result.1 < 2 * MODULUS }
     ensures plus { Same (pos MODULUS) (pos result.0) (pos low +ℤ (pos root *ℤ pos high)) }
     ensures minus { Same (pos MODULUS) (pos result.1) (pos low +ℤ (neg_ℤ (pos root) *ℤ pos high)) }
 {
     let part = root.times(high);
-    (sum(low, part), difference(low, part))
+    let rest = reduced(low);
+    (rest + part, rest + (MODULUS - part))
 }
 
-/// `low + high` and `inverse * (low - high)`.
+/// `low + high` and `inverse * (low - high)`, remainders as both are.
 #[inline(always)]
 fn gather_pair(inverse: Factor, low: u64, high: u64) -> (u64, u64)
     requires low { low < MODULUS }
@@ -30,17 +30,17 @@ fn gather_pair(inverse: Factor, low: u64, high: u64) -> (u64, u64)
     ensures plus { Same (pos MODULUS) (pos result.0) (pos low +ℤ pos high) }
     ensures minus { Same (pos MODULUS) (pos result.1) (pos inverse *ℤ (pos low -ℤ pos high)) }
 {
-    (sum(low, high), inverse.times(difference(low, high)))
+    (reduced(low + high), inverse.times(low + (MODULUS - high)))
 }
 
-/// Sets each pair of numbers to `low + root * high` and `low - root * high`.
+/// Sets each pair of numbers to `low + root * high` and `low - root * high`, all below twice the modulus.
 #[inline(always)]
 fn spread(root: Factor, low: &mut [u64], high: &mut [u64])
     requires as_many { length low.old ≡ length high.old }
-    requires low { AreRemainders MODULUS low.old }
-    requires high { AreRemainders MODULUS high.old }
-    ensures low { AreRemainders MODULUS low.new }
-    ensures high { AreRemainders MODULUS high.new }
+    requires low { AreRemainders (2 * MODULUS) low.old }
+    requires high { AreRemainders (2 * MODULUS) high.old }
+    ensures low { AreRemainders (2 * MODULUS) low.new }
+    ensures high { AreRemainders (2 * MODULUS) high.new }
     ensures plus { (i : ℕ) → i < length low.new → Same (pos MODULUS) (pos (slice_index_or low.new i 0)) (pos (slice_index_or low.old i 0) +ℤ (pos root *ℤ pos (slice_index_or high.old i 0))) }
     ensures minus { (i : ℕ) → i < length low.new → Same (pos MODULUS) (pos (slice_index_or high.new i 0)) (pos (slice_index_or low.old i 0) +ℤ (neg_ℤ (pos root) *ℤ pos (slice_index_or high.old i 0))) }
 {
@@ -74,11 +74,12 @@ pub(crate) fn forward(roots: &[Factor], levels: usize, place: usize, values: &mu
     requires table { length roots.now ≡ 1024 }
     requires power { length values.old ≡ 2 ^ levels }
     requires place { (place + 1) * length values.old ≤ 2048 }
-    requires values { AreRemainders MODULUS values.old }
+    requires values { AreRemainders (2 * MODULUS) values.old }
     ensures values { AreRemainders MODULUS values.new }
     ensures transform { (h : List ℤ) → length h ≡ length values.old → AreSame MODULUS values.old h → IsTransform MODULUS roots.now levels place h values.new }
 {
     if levels == 0 {
+        values[0] = reduced(values[0]);
         return;
     }
     let half = values.len() / 2;
@@ -99,8 +100,7 @@ fn multiply_two(
     high: u64,
 ) -> (u64, u64)
     requires inverse { Same (pos MODULUS) (pos inverse *ℤ pos root) (pos 1) }
-    requires low { low < MODULUS }
-    requires high { high < MODULUS }
+    requires low { low < 2 * MODULUS }
     ensures low { result.0 < MODULUS }
     ensures high { result.1 < MODULUS }
     ensures product { (roots : List ℕ) (place : ℕ) (s : ℤ) (a h : List ℤ) → slice_index_or roots place 0 ≡ root → Same (pos MODULUS) (pos root *ℤ pos root) s → length a ≡ 2 → length h ≡ 2 → AreSame MODULUS (low ∷ high ∷ []) a → IsTransform MODULUS roots 1 place h (behind ∷ front ∷ []) → IsProduct MODULUS 2 s a h (result.0 ∷ result.1 ∷ []) }
@@ -124,7 +124,7 @@ fn multiply_four(
     requires four { length values.old ≡ 4 }
     requires as_many { length spectrum.now ≡ 4 }
     requires place { place < 512 }
-    requires values { AreRemainders MODULUS values.old }
+    requires values { AreRemainders (2 * MODULUS) values.old }
     ensures values { AreRemainders MODULUS values.new }
     ensures product { (s : ℤ) (a h : List ℤ) → Same (pos MODULUS) (root_at roots.now place *ℤ root_at roots.now place) s → length a ≡ 4 → length h ≡ 4 → AreSame MODULUS values.old a → IsTransform MODULUS roots.now 2 place h spectrum.now → IsProduct MODULUS 4 s a h values.new }
 {
@@ -175,7 +175,7 @@ pub(crate) fn multiply(
     requires power { length values.old ≡ 2 ^ levels }
     requires as_many { length spectrum.now ≡ length values.old }
     requires place { (place + 1) * length values.old ≤ 2048 }
-    requires values { AreRemainders MODULUS values.old }
+    requires values { AreRemainders (2 * MODULUS) values.old }
     ensures values { AreRemainders MODULUS values.new }
     ensures product { (s : ℤ) (a h : List ℤ) → Same (pos MODULUS) (root_at roots.now place *ℤ root_at roots.now place) s → length a ≡ length values.old → length h ≡ length values.old → AreSame MODULUS values.old a → IsTransform MODULUS roots.now levels place h spectrum.now → IsProduct MODULUS (length values.old) s a h values.new }
 {

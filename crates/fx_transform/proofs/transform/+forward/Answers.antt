@@ -1,14 +1,18 @@
-use Rattle.std.proofs.Common.{arith, ◌≡◌, ◌-◌, ◌/◌, ◌∙◌, ℕ, ℤ, neg_ℤ, length, get_or, take, drop}
+use Rattle.std.proofs.Common.{arith, ◌≡◌, ◌-◌, ◌/◌, ◌∙◌, ℕ, ℤ, neg_ℤ, pos, refl, length, get_or, set, take, drop, get_or-set_same}
 use Rattle.std.proofs.lemmas.Grind.{get_or_default_zero}
 use Rattle.std.proofs.lemmas.List.{length-drop, length-take-le}
 use Rattle.fx_transform.specs.Residues.{AreSame, modulus}
 use Rattle.fx_transform.specs.Transform.{combined, root_at}
+use Rattle.fx_transform.proofs.Residues.{same_on}
 use Rattle.fx_transform.proofs.Steps.{halved, place_left, place_right, place_less, transform_one, transform_both, combined_same, same_front, same_back}
 use Rattle.fx_transform.proofs.Cyclic.{length-combined}
 use Rattle.fx_transform.proofs.transform.+forward.Goals as goal
 
 pub returns-then-levels-eq0-clause-transform : goal.returns-then-levels-eq0-clause-transform
-returns-then-levels-eq0-clause-transform t c = λ h long same. transform_one modulus c.args.roots.now c.args.levels c.args.place h c.args.values.now (omega arith) c.requires.power same
+returns-then-levels-eq0-clause-transform t c = λ h long same.
+    let one : length c.args.values.now ≡ 1 = c.requires.power ∙ rw c.if-levels-eq0.true refl in
+    transform_one modulus c.args.roots.now c.args.levels c.args.place h (set c.args.values.now 0 c.reduced.result) c.if-levels-eq0.true
+    (same_on (pos modulus) _ (pos (get_or c.args.values.now 0 0)) _ (rw (get_or-set_same c.args.values.now 0 c.reduced.result 0 (omega arith)) c.reduced.ensures.same) (same 0 (omega arith)))
 
 pub bounds-roots-place : goal.bounds-roots-place
 bounds-roots-place t c =

@@ -1,7 +1,7 @@
-use Rattle.std.proofs.Common.{ℤ, pos, ◌*ℤ◌}
+use Rattle.std.proofs.Common.{arith, ◌+◌, ◌-◌, ℤ, pos, ◌*ℤ◌}
 use Rattle.std.specs.Prelude.{◌-ℤ◌}
 use Rattle.fx_transform.specs.Residues.{modulus}
-use Rattle.fx_transform.proofs.Residues.{same_on, same_mul}
+use Rattle.fx_transform.proofs.Residues.{same_on, same_mul, same_difference}
 use Rattle.fx_transform.proofs.transform.gather_pair.Goals as goal
 
 pub returns-clause-minus : goal.returns-clause-minus
@@ -9,4 +9,5 @@ returns-clause-minus c =
     let p : ℤ = pos modulus in
     let w : ℤ = pos c.args.inverse in
     let apart : ℤ = pos c.args.low -ℤ pos c.args.high in
-    same_on p (pos c.times.result) (w *ℤ pos c.difference.result) (w *ℤ apart) c.times.ensures.same (same_mul p w (pos c.difference.result) apart c.difference.ensures.same)
+    let lifted : ℤ = pos (c.args.low + (modulus - c.args.high)) in
+    same_on p (pos c.times.result) (w *ℤ lifted) (w *ℤ apart) c.times.ensures.same (same_mul p w lifted apart (same_difference modulus c.args.low c.args.high (omega arith)))
