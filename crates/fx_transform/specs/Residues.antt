@@ -9,7 +9,7 @@ Same p a b = (k : ℤ) × (a ≡ b +ℤ (p *ℤ k))
 abbrev pub modulus : ℕ
 modulus = 6269010681299730433
 
--- remainders modulo p
+-- numbers below p, as remainders modulo p are
 abbrev pub AreRemainders : ℕ → List ℕ → Type 0
 AreRemainders p xs = (i : ℕ) → i < length xs → slice_index_or xs i 0 < p
 

@@ -1,4 +1,5 @@
-//! Transforms of 2^levels remainders, in place. On the way in the numbers are below twice the modulus: one correction less a pair.
+//! Transforms of 2^levels remainders, in place. On the way in the numbers are only below twice the modulus, which saves a
+//! correction in each pair.
 ghost use Rattle.std.specs.Prelude.{◌≡◌, ◌<◌, ◌≤◌, ◌+◌, ◌*◌, ◌^◌, ℕ, ℤ, List, [], ◌∷◌, pos, neg_ℤ, ◌+ℤ◌, ◌-ℤ◌, ◌*ℤ◌, length, slice_index_or};
 ghost use Rattle.fx_transform.specs.Residues.{Same, AreRemainders, AreSame};
 ghost use Rattle.fx_transform.specs.Transform.{AreRoots, IsProduct, IsTransform, root_at};
@@ -158,8 +159,8 @@ fn multiply_four(
     values[3] = second.1;
 }
 
-/// Multiplies 2^levels numbers, at least four, by those whose transform stands backwards in a spectrum, modulo x^n - s, where s is the
-/// square of the root at a place of the table.
+/// Multiplies 2^levels numbers, at least four, by those whose transform stands backwards in a spectrum, modulo x^n - s,
+/// where s is the square of the root at a place of the table.
 pub(crate) fn multiply(
     roots: &[Factor],
     inverses: &[Factor],
