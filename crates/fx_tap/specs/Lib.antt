@@ -15,5 +15,6 @@ pub mod PerSample
 pub mod Remix
 pub mod Rounded
 pub mod SmallWeights
+pub mod Split
 pub mod Tapped
 pub mod Vol
