@@ -13,5 +13,6 @@ pub mod Near
 pub mod PerSample
 pub mod Remix
 pub mod SmallWeights
+pub mod Split
 pub mod Tapped
 pub mod Vol

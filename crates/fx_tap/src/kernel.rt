@@ -3,13 +3,15 @@ ghost use Rattle.std.specs.Prelude.{◌≡◌, ◌+◌, ◌*◌, ◌^◌, ◌<�
 ghost use Rattle.fx_fixed.specs.Rounding.{rounding};
 ghost use Rattle.fx_tap.specs.Fir.{samples_of_window};
 ghost use Rattle.fx_tap.specs.SmallWeights.{SumsAs};
+ghost use Rattle.fx_tap.specs.Split.{AddUpTo};
 ghost use Rattle.fx_frame.specs.Lists.{tabulate};
 ghost use Rattle.fx_transform.specs.Products.{sum_of_products};
 ghost use Rattle.fx_frame.specs.Rounded.{clips_of};
 
 use crate::channels::round_channel;
 use crate::products::dot;
-use crate::reduced::{Reduced, SUMS_OF_PIECE};
+use crate::reduced::{Reduced, SUMS_OF_PIECE, most_by_transforms};
+use crate::split::Split;
 use fx_fixed::{Gain, UNIT, round_clip};
 use std::alloc::{AllocError, Global};
 use std::marker::Model;
@@ -27,27 +29,30 @@ fn reversed(alloc: Global, coefficients: &[Gain]) -> Result<Vec<i64>, AllocError
     Ok(numbers)
 }
 
-/// At most 1024 coefficients, the last one first, and the same in lowest terms, where these are small.
+/// At most 1024 coefficients, the last one first, and the same in lowest terms, where these are small, or else in two parts,
+/// where they are many.
 #[derive(Drop)]
 pub(crate) struct Kernel {
     backwards: Vec<i64>,
     reduced: Option<Reduced>,
+    split: Option<Split>,
 }
 
 impl Model for Kernel {
     ghost use Rattle.std.specs.Prelude.{◌≤◌, ◌^◌, ℤ, List, length, unsigned_abs, All, IfSome};
     ghost use Rattle.fx_fixed.specs.declared.gains.TheConstants.{UNIT};
     ghost use Rattle.fx_tap.specs.SmallWeights.{SumsAs};
+    ghost use Rattle.fx_tap.specs.Split.{AddUpTo};
 
     ghost Value = { List ℤ };
 
     ghost view = { λ s. s.backwards.items };
 
-    ghost invariant = { λ s. (length s.backwards.items ≤ 1024) × All (λ c. unsigned_abs c ≤ 10 ^ 15) s.backwards.items × IfSome s.reduced (SumsAs s.backwards.items UNIT) };
+    ghost invariant = { λ s. (length s.backwards.items ≤ 1024) × All (λ c. unsigned_abs c ≤ 10 ^ 15) s.backwards.items × IfSome s.reduced (SumsAs s.backwards.items UNIT) × IfSome s.split (AddUpTo s.backwards.items) };
 }
 
 /// A sample in trillionths, rounded; true beside it where it was clipped.
-fn rounded(sum: i128) -> (i32, bool)
+pub(crate) fn rounded(sum: i128) -> (i32, bool)
     requires low { neg_ℤ (pos (2 ^ 102)) ≤ℤ sum }
     requires high { sum ≤ℤ pos (2 ^ 102) }
     ensures { result ≡ rounding sum UNIT }
@@ -64,7 +69,15 @@ impl Kernel {
     {
         let backwards = reversed(alloc, coefficients)?;
         let reduced = Reduced::of(alloc, &backwards, UNIT)?;
-        Ok(Kernel { backwards, reduced })
+        let split = match &reduced {
+            Some(_reduced) => None,
+            None => Split::of(alloc, &backwards)?,
+        };
+        Ok(Kernel {
+            backwards,
+            reduced,
+            split,
+        })
     }
 
     /// How many coefficients there are.
@@ -81,10 +94,13 @@ impl Kernel {
         ensures few { result ≤ 1920 }
         ensures fits { length self.now + result ≤ 2048 }
     {
-        match &self.reduced {
-            Some(reduced) => reduced.most_at_once(),
-            None => SUMS_OF_PIECE,
+        if let Some(reduced) = &self.reduced {
+            return reduced.most_at_once();
         }
+        if self.split.is_none() {
+            return SUMS_OF_PIECE;
+        }
+        most_by_transforms(self.len())
     }
 
     /// The sum of the coefficients from one on times as many samples, rounded; true beside it where it was clipped.
@@ -158,6 +174,7 @@ impl Kernel {
     ) -> u64
         requires channel { channel < channels }
         requires channels { channels ≤ 16 }
+        requires count { length sums.old ≤ 1920 }
         requires window { length self.now + length sums.old ≤ length window.now + 1 }
         requires out { length sums.old * channels ≤ length out.old }
         ensures put { (i : ℕ) → i < length sums.old → slice_index_or out.new (i * channels + channel) (pos 0) ≡ (rounding (sum_of_products (drop i window.now) self.now) UNIT).0 }
@@ -168,6 +185,11 @@ impl Kernel {
         if let Some(reduced) = &self.reduced {
             reduced.convolve(window, sums);
             return round_channel(sums, reduced.denominator(), channels, channel, out);
+        }
+        if let Some(split) = &self.split {
+            if split.pays(sums.len()) {
+                return split.filter_channel(window, sums, channels, channel, out);
+            }
         }
         self.weigh_channel(window, sums.len(), channels, channel, out)
     }

@@ -16,6 +16,7 @@ mod reduced;
 pub mod remix;
 mod rows;
 mod small;
+mod split;
 mod sums;
 pub mod tapped;
 pub mod vol;

@@ -12,7 +12,7 @@ use std::alloc::{AllocError, Global};
 use std::marker::Model;
 
 /// How many weights there are at least where transforms pay.
-const FEWEST_WEIGHTS: usize = 128;
+const FEWEST_WEIGHTS: usize = 160;
 
 /// How many products take as long as the sums of one transform, which are made at a fixed price. Fewer are sooner added up
 /// one by one.
@@ -20,6 +20,9 @@ const PRODUCTS_OF_TRANSFORM: usize = 1 << 18;
 
 /// How many sums are made at once without a spectrum.
 pub(crate) const SUMS_OF_PIECE: usize = 256;
+
+/// How many sums are made at once at the most.
+pub(crate) const MOST_SUMS: usize = 1920;
 
 /// At most 1024 weights in lowest terms, and where they are many, the same prepared for sums by transforms.
 #[derive(Drop)]
@@ -37,6 +40,16 @@ impl Model for Reduced {
     ghost view = { λ s. s.small };
 
     ghost invariant = { λ s. (length s.small.weights ≤ 1024) × (sum_by unsigned_abs s.small.weights ≤ 2 ^ 30) × IfSome s.spectrum (λ weights. weights ≡ s.small.weights) };
+}
+
+/// How many sums of so many products are best made at once by transforms.
+pub(crate) fn most_by_transforms(weights: usize) -> usize
+    requires { weights ≤ 1024 }
+    ensures some { 1 ≤ result }
+    ensures few { result ≤ 1920 }
+    ensures fits { weights + result ≤ 2048 }
+{
+    (2048 - weights).min(MOST_SUMS)
 }
 
 /// The spectrum of weights. None where transforms do not pay, or where the weights are too large for them.
@@ -83,7 +96,7 @@ impl Reduced {
         if self.spectrum.is_none() {
             return SUMS_OF_PIECE;
         }
-        (2048 - self.small.weights.len()).min(1920)
+        most_by_transforms(self.small.weights.len())
     }
 
     /// The sum of the weights from one on times as many samples, rounded; true beside it where it was clipped.

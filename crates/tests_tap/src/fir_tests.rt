@@ -32,12 +32,17 @@ fn sound(alloc: Global, count: usize) -> Result<Vec<i32>, Fail> {
     Ok(samples)
 }
 
-/// So many coefficients of six decimals, below 0.05.
-fn coefficients(alloc: Global, count: usize) -> Result<Vec<Gain>, Fail> {
+/// So many coefficients below 0.05: of six decimals, or of eleven.
+fn coefficients(alloc: Global, count: usize, is_fine: bool) -> Result<Vec<Gain>, Fail> {
     let mut gains = Vec::new(alloc);
     for place in 0..count {
-        let millionths = noise(place.wrapping_add(77_777)) % 50_000;
-        gains.push(gain(format!(in alloc; "{millionths}e-6")?.as_str())?)?;
+        let size = noise(place.wrapping_add(77_777));
+        let text = if is_fine {
+            format!(in alloc; "{size}e-11")?
+        } else {
+            format!(in alloc; "{}e-6", size % 50_000)?
+        };
+        gains.push(gain(text.as_str())?)?;
     }
     Ok(gains)
 }
@@ -138,38 +143,53 @@ fn fed(
     Ok(given)
 }
 
-/// Does `fir` of so many coefficients give what it has to, for so many frames?
-fn filters(alloc: Global, count: usize, channels: usize, frames: usize) -> Result<(), Fail>
+/// Does a `fir` of these coefficients give what it has to, for so many frames?
+fn filters(alloc: Global, coefficients: &[Gain], channels: usize, frames: usize) -> Result<(), Fail>
     requires channels { (1 ≤ channels) × (channels ≤ 16) }
     requires frames { frames ≤ 2 ^ 20 }
 {
-    let coefficients = coefficients(alloc, count)?;
     let sound = sound(alloc, frames * channels)?;
-    let given = fed(alloc, &coefficients, channels, &sound)?;
-    if given != plainly(alloc, &coefficients, channels, &sound)? {
+    let given = fed(alloc, coefficients, channels, &sound)?;
+    if given != plainly(alloc, coefficients, channels, &sound)? {
+        let count = coefficients.len();
         return Err(format!(in alloc; "other samples by {count} coefficients")?.into());
     }
     Ok(())
 }
 
 #[test]
-fn fir_by_transforms(rt: HostRuntime) -> Result<(), Fail> {
-    for count in [127, 128, 129, 255, 256, 1023, 1024] {
-        filters(rt.alloc(), count, 1, 7000)?;
+fn fir_of_many(rt: HostRuntime) -> Result<(), Fail> {
+    for count in [127, 128, 129, 159, 160, 255, 256, 1023, 1024] {
+        let coefficients = coefficients(rt.alloc(), count, false)?;
+        filters(rt.alloc(), &coefficients, 1, 6000)?;
     }
     Ok(())
 }
 
 #[test]
-fn fir_by_transforms_wide(rt: HostRuntime) -> Result<(), Fail> {
-    filters(rt.alloc(), 512, 2, 7000)?;
-    filters(rt.alloc(), 1024, 16, 2500)
+fn fir_of_many_fine(rt: HostRuntime) -> Result<(), Fail> {
+    for count in [255, 256, 511, 1024] {
+        let coefficients = coefficients(rt.alloc(), count, true)?;
+        filters(rt.alloc(), &coefficients, 1, 6000)?;
+    }
+    Ok(())
+}
+
+#[test]
+fn fir_of_many_channels(rt: HostRuntime) -> Result<(), Fail> {
+    for is_fine in [false, true] {
+        let coefficients = coefficients(rt.alloc(), 500, is_fine)?;
+        filters(rt.alloc(), &coefficients, 2, 5000)?;
+        filters(rt.alloc(), &coefficients, 16, 2500)?;
+    }
+    Ok(())
 }
 
 #[test]
 fn fir_of_short_sounds(rt: HostRuntime) -> Result<(), Fail> {
+    let coefficients = coefficients(rt.alloc(), 1024, false)?;
     for frames in [0, 1, 511, 512, 1023, 1024] {
-        filters(rt.alloc(), 1024, 1, frames)?;
+        filters(rt.alloc(), &coefficients, 1, frames)?;
     }
     Ok(())
 }
