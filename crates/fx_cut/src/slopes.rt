@@ -41,8 +41,7 @@ fn weighted_sample(sample: i32, over: u128, under: u128, prepared: &Option<Denom
         let (rounded, _clipped) = round_clip(i128::from(sample) * over as i128, under as i128);
         return rounded;
     };
-    let (rounded, _clipped) = denominator.round(i64::from(sample) * over as i64);
-    rounded
+    denominator.round_within(i64::from(sample) * over as i64)
 }
 
 /// Samples times a weight of at most 1, each rounded, in their place.

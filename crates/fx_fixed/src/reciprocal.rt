@@ -1,6 +1,6 @@
 //! Divisors prepared once: each division after that is one multiplication and a shift.
-ghost use Rattle.std.specs.Prelude.{◌≡◌, ◌+◌, ◌*◌, ◌/◌, ◌^◌, ◌<◌, ◌≤◌, unsigned_abs};
-ghost use Rattle.fx_fixed.specs.Rounding.{clipping, rounding};
+ghost use Rattle.std.specs.Prelude.{◌≡◌, ◌+◌, ◌*◌, ◌/◌, ◌^◌, ◌<◌, ◌≤◌, false, unsigned_abs};
+ghost use Rattle.fx_fixed.specs.Rounding.{clipping, nearest, rounding};
 
 use std::marker::Model;
 
@@ -90,8 +90,27 @@ impl Denominator {
         requires { unsigned_abs sum ≤ 2 ^ 61 }
         ensures { result ≡ rounding sum self.now }
     {
-        let nearest = self.twice.divide(2 * sum.unsigned_abs() + self.value) as i64;
-        clip_whole(if sum < 0 { -nearest } else { nearest })
+        clip_whole(self.nearest(sum))
+    }
+
+    /// The same for a sum that is not clipped.
+    #[inline(always)]
+    pub fn round_within(&self, sum: i64) -> i32
+        requires small { unsigned_abs sum ≤ 2 ^ 61 }
+        requires within { (rounding sum self.now).1 ≡ false }
+        ensures { rounding sum self.now ≡ (result, false) }
+    {
+        self.nearest(sum) as i32
+    }
+
+    /// The whole number nearest to a sum over the denominator, halves away from zero.
+    #[inline(always)]
+    fn nearest(&self, sum: i64) -> i64
+        requires { unsigned_abs sum ≤ 2 ^ 61 }
+        ensures { result ≡ nearest sum self.now }
+    {
+        let size = self.twice.divide(2 * sum.unsigned_abs() + self.value) as i64;
+        if sum < 0 { -size } else { size }
     }
 }
 

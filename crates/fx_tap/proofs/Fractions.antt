@@ -1,14 +1,19 @@
 -- A gain in lowest terms rounds as the gain.
-use Rattle.std.proofs.Common.{ℕ, ℤ, pos, ◌≡◌, ◌*◌, ◌*ℤ◌, ◌<◌, ◌^◌, ◌≤◌, ◌∙◌, [], ◌∷◌, ap, arith, refl, sym, zero, suc, to_z, of_z, unsigned_abs, List, get_or}
-use Rattle.std.specs.Prelude.{sum_by}
+use Rattle.std.proofs.Common.{ℕ, ℤ, pos, negsuc, ◌≡◌, ◌+◌, ◌*◌, ◌/◌, ◌*ℤ◌, ◌<◌, ◌^◌, ◌≤◌, ◌≤ℤ◌, ◌∙◌, Bool, false, true, [], ◌∷◌, ap, arith, refl, sym, zero, suc, to_z, of_z, unsigned_abs, List, get_or, FitsSigned}
+use Rattle.std.specs.Prelude.{not, sum_by}
 use Rattle.std.specs.Int.{w32, w64}
 use Rattle.std.proofs.lemmas.List.Sums.{sum_by-cons}
 use Rattle.std.proofs.lemmas.Int.{fits_signed_from_abs, ints, to_z-of_z}
-use Rattle.fx_fixed.specs.Rounding.{rounding}
+use Rattle.std.proofs.Math.Nat.{mul-le-mul_left}
+use Rattle.std.proofs.lemmas.Nat.{div_below}
+use Rattle.std.proofs.lemmas.Bool.{lt-ltb}
+use Rattle.fx_fixed.specs.Rounding.{clipping, nearest_natural, rounding, signed}
+use Rattle.fx_fixed.proofs.Signs.{nearest-neg}
 use Rattle.fx_fixed.specs.Reduced.{IsReduced}
 use Rattle.fx_fixed.specs.declared.gains.TheConstants.{UNIT}
 use Rattle.fx_fixed.proofs.Reductions.{rounding-reduced}
-use Rattle.fx_tap.specs.Fractions.{Ratio, Rounds}
+use Rattle.fx_tap.specs.Fractions.{IsQuiet, Ratio, Rounds, fraction_sample}
+use Rattle.fx_tap.specs.Vol.{scaled_sample}
 use Rattle.fx_tap.proofs.SignedProducts.{mul_assoc}
 use Rattle.fx_tap.proofs.SumLaws.{scaled-few}
 
@@ -52,3 +57,37 @@ pub plain-product-64 : (w x f y : ℤ) → f ≡ w → y ≡ x → unsigned_abs 
 plain-product-64 w x f y e d small sample =
     let product = scaled-few w x (2 ^ 31) (2 ^ 31) small sample in
     rw (e, d, held-64 w (omega (arith, small)), held-64 x (omega (arith, sample)), held-64 (w *ℤ x) (omega (arith, product))) refl
+
+-- ---- gains from 0 to 1
+
+nearest-le : (n w d : ℕ) → 0 < d → w ≤ d → nearest_natural (n * w) d ≤ n
+nearest-le n w d some h =
+    let p : n * w ≤ n * d = mul-le-mul_left n h in
+    let b : (2 * (n * w) + d) / (2 * d) < suc n = div_below (2 * (n * w) + d) (2 * d) (suc n) (omega arith) (omega arith) in
+    omega arith
+
+unclipped-neg : (k n : ℕ) → k ≤ suc n → n < 2 ^ 31 → (clipping (signed true k)).1 ≡ false
+unclipped-neg zero n h f = refl
+unclipped-neg (suc k) n h f = ap not (lt-ltb k (2 ^ 31) (omega arith))
+
+not-clipped : (w d : ℕ) (x : ℤ) → 0 < d → w ≤ d → FitsSigned w32 x → (rounding (pos w *ℤ x) d).1 ≡ false
+not-clipped w d (pos n) some h f =
+    let g : n < 2 ^ 31 = omega (arith, ints) in
+    let turned : w * n ≡ n * w = omega arith in
+    let few = nearest-le n w d some h in
+    rw turned (ap not (lt-ltb (nearest_natural (n * w) d) (2 ^ 31) (omega arith)))
+not-clipped w d (negsuc n) some h f =
+    let g : n < 2 ^ 31 = omega (arith, ints) in
+    let turned : w * suc n ≡ suc n * w = omega arith in
+    ap (λ z. (clipping z).1) (nearest-neg (w * suc n) d some) ∙ rw turned (unclipped-neg (nearest_natural (suc n * w) d) n (nearest-le (suc n) w d some h) g)
+
+-- they clip no sample
+pub quiet : (gain x : ℤ) → IsQuiet gain → FitsSigned w32 x → (scaled_sample gain x).1 ≡ false
+quiet gain x is fits = ap (λ g. (rounding (g *ℤ x) UNIT).1) is.is ∙ not-clipped is.size UNIT x (omega arith) is.few fits
+
+pub quiet-fraction : (gain x : ℤ) (f : Ratio) → Rounds gain f → IsQuiet gain → FitsSigned w32 x → (fraction_sample f x).1 ≡ false
+quiet-fraction gain x f rounds is fits = ap (λ (r : ℤ × Bool). r.1) (rounds x) ∙ quiet gain x is fits
+
+pub from-zero-to-one : (z : ℤ) → pos 0 ≤ℤ z → z ≤ℤ pos UNIT → IsQuiet z
+from-zero-to-one (pos n) low high = record { size = n; is = refl; few = omega (arith, ints, high) }
+from-zero-to-one (negsuc n) low high = absurd (omega (arith, ints, low))

@@ -1,9 +1,11 @@
 //! The effect `vol` of sox(1): each sample times a gain.
-ghost use Rattle.std.specs.Prelude.{◌≡◌, ◌≤◌, ℤ, Ok, IfOk, IfErr};
+ghost use Rattle.std.specs.Prelude.{◌≡◌, ◌≤◌, ℤ, FitsSigned, false, true, length, map, Ok, IfOk, IfErr};
+ghost use Rattle.std.specs.Int.{w32};
+ghost use Rattle.fx_tap.specs.Rounded.{clips_of, samples_of};
 ghost use Rattle.fx_frame.specs.Stage.{Freezes, IsNew};
 ghost use Rattle.fx_tap.specs.Mapped.{IsMapState, MapState};
 ghost use Rattle.fx_tap.specs.PerSample.{SampleArguments};
-ghost use Rattle.fx_tap.specs.Fractions.{fraction_sample};
+ghost use Rattle.fx_tap.specs.Fractions.{IsQuiet, fraction_sample};
 ghost use Rattle.fx_tap.specs.Vol.{scaled_sample, vol_acts};
 
 use crate::mapped::Mapped;
@@ -41,23 +43,57 @@ impl Sampling for Fraction {
     }
 }
 
+impl Fraction {
+    /// What it makes of a sample, where that is not clipped.
+    #[inline(always)]
+    fn round_within(&self, sample: i32) -> i32
+        requires { (fraction_sample self.now sample).1 ≡ false }
+        ensures { fraction_sample self.now sample ≡ (result, false) }
+    {
+        self.denominator
+            .round_within(i64::from(self.weight) * i64::from(sample))
+    }
+
+    /// Writes what it makes of each sample, where none is clipped.
+    fn round_all_within(&self, input: &[i32], output: &mut [i32])
+        requires places { length output.old ≡ length input.now }
+        requires within { (sample : ℤ) → FitsSigned w32 sample → (fraction_sample self.now sample).1 ≡ false }
+        ensures samples { output.new ≡ samples_of (map (fraction_sample self.now) input.now) }
+        ensures clips { clips_of (map (fraction_sample self.now) input.now) ≡ 0 }
+    {
+        'samples: for place in 0..input.len() {
+            output[place] = self.round_within(input[place]);
+        }
+    }
+}
+
+/// Is a gain from 0 to 1?
+fn is_quiet(gain: Gain) -> bool
+    ensures { result ≡ true → IsQuiet gain }
+{
+    let parts = gain.trillionths();
+    0 <= parts && parts <= UNIT as i64
+}
+
 /// A gain, and the same in lowest terms, where these are small.
 #[derive(Drop)]
 pub struct Scale {
     gain: Gain,
     fraction: Option<Fraction>,
+    /// It is from 0 to 1, so that no sample is clipped.
+    is_quiet: bool,
 }
 
 // It is the gain.
 impl Model for Scale {
-    ghost use Rattle.std.specs.Prelude.{ℤ, IfSome};
-    ghost use Rattle.fx_tap.specs.Fractions.{Rounds};
+    ghost use Rattle.std.specs.Prelude.{ℤ, ◌≡◌, true, IfSome};
+    ghost use Rattle.fx_tap.specs.Fractions.{IsQuiet, Rounds};
 
     ghost Value = { ℤ };
 
     ghost view = { λ s. s.gain };
 
-    ghost invariant = { λ s. IfSome s.fraction (Rounds s.gain) };
+    ghost invariant = { λ s. IfSome s.fraction (Rounds s.gain) × (s.is_quiet ≡ true → IsQuiet s.gain) };
 }
 
 impl Scale {
@@ -74,7 +110,11 @@ impl Scale {
             }),
             None => None,
         };
-        Scale { gain, fraction }
+        Scale {
+            gain,
+            fraction,
+            is_quiet: is_quiet(gain),
+        }
     }
 }
 
@@ -84,6 +124,7 @@ impl Sampling for Scale {
     #[inline(always)]
     fn round(&self, sample: i32) -> (i32, bool) {
         match &self.fraction {
+            Some(fraction) if self.is_quiet => (fraction.round_within(sample), false),
             Some(fraction) => fraction.round(sample),
             None => scale(self.gain, sample),
         }
@@ -93,6 +134,10 @@ impl Sampling for Scale {
 impl SamplesMany for Scale {
     fn round_many(&self, input: &[i32], output: &mut [i32]) -> u64 {
         match &self.fraction {
+            Some(fraction) if self.is_quiet => {
+                fraction.round_all_within(input, output);
+                0
+            }
             Some(fraction) => rounded_samples(fraction, input, output),
             None => rounded_samples(self, input, output),
         }

@@ -2,7 +2,7 @@ use Rattle.std.proofs.Common.{◌≡◌, ◌≤◌, ◌^◌, ◌*ℤ◌, pos, �
 use Rattle.std.specs.Prelude.{FitsSigned, unsigned_abs}
 use Rattle.std.specs.Int.{w128}
 use Rattle.std.proofs.lemmas.Int.{to_z-of_z, fits_signed_mul, ints}
-use Rattle.fx_cut.proofs.Weighing.{is-unclipped, small-product}
+use Rattle.fx_cut.proofs.Weighing.{is-unclipped, no_clip, small-product}
 use Rattle.fx_cut.proofs.slopes.weighted_sample.Goals as goal
 
 pub returns-in_default : goal.returns-in_default
@@ -19,13 +19,21 @@ returns-in_default c =
     let same : to_z w32 (of_z w32 c.round_clip-rounded.result.0) ≡ c.round_clip-rounded.result.0 = search rules in
     rw same (is-unclipped (c.args.over, c.args.under) c.args.sample c.round_clip-rounded.result.0 c.round_clip-rounded.result.1 k c.requires.weight.1 c.requires.weight.0 c.ranges.sample)
 
-pub round-rounded-requires : goal.round-rounded-requires
-round-rounded-requires c =
+pub round_within-requires-clause-small : goal.round_within-requires-clause-small
+round_within-requires-clause-small c =
     let prepared = rw c.in-Some.is at c.requires.prepared in
     let same : c.from-2.result ≡ c.args.sample = c.from-2.ensures ∙ to_z-of_z w32 c.args.sample c.ranges.sample in
     let least = c.requires.weight.0 in
     let product = small-product c.args.sample c.from-2.result c.args.over same c.ranges.sample (omega (arith, prepared.1)) in
     rw product.0 product.1
+
+pub round_within-requires-clause-within : goal.round_within-requires-clause-within
+round_within-requires-clause-within c =
+    let prepared = rw c.in-Some.is at c.requires.prepared in
+    let same : c.from-2.result ≡ c.args.sample = c.from-2.ensures ∙ to_z-of_z w32 c.args.sample c.ranges.sample in
+    let least = c.requires.weight.0 in
+    let product = small-product c.args.sample c.from-2.result c.args.over same c.ranges.sample (omega (arith, prepared.1)) in
+    rw (product.0, prepared.0) (no_clip c.args.sample c.args.over c.args.under c.requires.weight.1 c.requires.weight.0 c.ranges.sample)
 
 pub returns : goal.returns
 returns c =
@@ -33,6 +41,6 @@ returns c =
     let same : c.from-2.result ≡ c.args.sample = c.from-2.ensures ∙ to_z-of_z w32 c.args.sample c.ranges.sample in
     let least = c.requires.weight.0 in
     let product = small-product c.args.sample c.from-2.result c.args.over same c.ranges.sample (omega (arith, prepared.1)) in
-    let k = rw (product.0, prepared.0) at c.round-rounded.ensures in
-    let out : to_z w32 (of_z w32 c.round-rounded.result.0) ≡ c.round-rounded.result.0 = search rules in
-    rw out (is-unclipped (c.args.over, c.args.under) c.args.sample c.round-rounded.result.0 c.round-rounded.result.1 k c.requires.weight.1 c.requires.weight.0 c.ranges.sample)
+    let k = rw (product.0, prepared.0) at c.round_within.ensures in
+    let out : to_z w32 (of_z w32 c.round_within.result) ≡ c.round_within.result = search rules in
+    rw out k
