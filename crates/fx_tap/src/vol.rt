@@ -1,7 +1,7 @@
 //! The effect `vol` of sox(1): each sample times a gain.
 ghost use Rattle.std.specs.Prelude.{◌≡◌, ◌≤◌, ℤ, FitsSigned, false, true, length, map, Ok, IfOk, IfErr};
 ghost use Rattle.std.specs.Int.{w32};
-ghost use Rattle.fx_tap.specs.Rounded.{clips_of, samples_of};
+ghost use Rattle.fx_frame.specs.Rounded.{clips_of, samples_of};
 ghost use Rattle.fx_frame.specs.Stage.{Freezes, IsNew};
 ghost use Rattle.fx_tap.specs.Mapped.{IsMapState, MapState};
 ghost use Rattle.fx_tap.specs.PerSample.{SampleArguments};
