@@ -16,7 +16,7 @@ use Rattle.fx_sound.proofs.Held.{Takes-turn}
 use Rattle.fx_sound.proofs.Sending.{Sent-put}
 use Rattle.fx_sound.proofs.Sounds.{first_frames-add, held-next, held-passed, length-first_frames}
 use Rattle.fx_sound.specs.Container.{after_frames, first_frames}
-use Rattle.fx_sound.specs.Output.{Pending, total}
+use Rattle.fx_sound.specs.Output.{Pending, SendsOn, total}
 use Rattle.fx_sound.specs.Runs.{Ran, Ran-block, Ran-start, Ran-turn, Takes-more, Takes-none, after_frames-add, after_frames-more}
 use Rattle.fx_sound.specs.declared.progress.TheConstants.{MOST_FRAMES}
 use Rattle.fx_sound.specs.Known.{IfKnown}
@@ -248,3 +248,33 @@ Pumped-turn acts device first flow fed new source source' progress progress' cod
           subst Taken (sym (ap (λ n. n * size) count ∙ more)) (Takes-more device.told _ _ _ (turn * size) size p.takes (rw p.size at taken));
       reads = reads ∙ p.reads;
     }
+
+module _ {S R X : Type 0} (acts : Acts S R) (device : ByteReader X) (first : Start S X)
+    (flow : Parts S) (source : Held X) (progress : Reading) (coding : Coding) (clips : ℕ) (out new_out : Pending) (wrote new_wrote : Option (List ℕ))
+    (p : Pumped acts device first flow source progress coding clips out wrote)
+    (s : SendsOn wrote new_wrote out new_out) where
+  -- bytes that waited went to the writer
+  pub Pumped-sent : total new_out ≡ total out → Pumped acts device first flow source progress coding clips new_out new_wrote
+  Pumped-sent count = record p {
+    room = omega (arith, count, p.room);
+    flowed = λ bytes known. record (p.flowed bytes known) { sent = s first.wrote (first.head ++ coded first.coding (p.flowed bytes known).given) (p.flowed bytes known).sent };
+  }
+
+  -- the writer failed at them
+  pub Pumped-stuck : PumpedFront acts device first flow source progress clips new_out new_wrote
+  Pumped-stuck = record {
+    most = p.most;
+    begun = p.begun;
+    ends = p.ends;
+    running = p.hungry.not_ended;
+    taken = p.taken;
+    stay = p.stay;
+    kept = p.kept;
+    wants = p.wants;
+    whole = λ bytes known. (p.ran bytes known).whole;
+    flowed = λ bytes known.
+        let f = p.flowed bytes known in
+        let sent = s first.wrote (first.head ++ coded first.coding f.given) f.sent in
+        record { given = f.given; through = f.through; clipped = f.clipped; front = record { part = sent.within; took = sent.taken } };
+    reads = p.reads;
+  }

@@ -66,7 +66,8 @@ fn pass_block<R, S: Feeds>(
     outlet.put(&output[..passed.given * outputs]);
 }
 
-/// Passes frames that are held through a flow, as many as the outlet has room for, and then steps it until it waits.
+/// Passes frames that are held through a flow, as many as the outlet has room for, and then steps it until it waits. Then
+/// it makes way in the outlet: long filters take a whole buffer in fewer products than its two parts.
 pub fn pump_block<R: ByteIn, S: Feeds, W: ByteOut>(
     flow: &mut Flow<S>,
     source: &mut Source<R>,
@@ -95,5 +96,5 @@ pub fn pump_block<R: ByteIn, S: Feeds, W: ByteOut>(
     let Ok(()) = drain(flow, outlet, writer) else {
         return Err(Failed);
     };
-    Ok(())
+    outlet.output.make_way(writer)
 }

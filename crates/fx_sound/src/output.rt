@@ -13,8 +13,8 @@ use std::marker::Model;
 
 /// An output buffer of 4,096 bytes. The writer comes with each call.
 ///
-/// Bytes go to the writer where they leave no room for more, and at the end: a whole output of
-/// less than 4,096 bytes is written at the end alone.
+/// Bytes go to the writer where they leave no room for more, in `make_way`, and at the end: a whole output of less than
+/// 4,096 bytes is written at the end alone.
 #[derive(Drop)]
 pub struct Output {
     buffer: [u8; BUFFER_SIZE],
@@ -113,6 +113,19 @@ impl Output {
         ensures waits { size ≤ self.old.room → IsOk result × (writer.new ≡ writer.old) × (self.new ≡ self.old) }
     {
         if size <= BUFFER_SIZE - self.end {
+            return Ok(());
+        }
+        self.drain(writer)
+    }
+
+    /// Hands the writer all that waits where less than half of the buffer is free and bytes have gone to it before, so that
+    /// a whole buffer of frames finds room at once.
+    pub fn make_way<W: ByteOut>(&mut self, writer: &mut W) -> Result<(), Failed>
+        ensures sent { SendsOn (W.writes.taken writer.old) (W.writes.taken writer.new) self.old self.new }
+        ensures count { total self.new ≡ total self.old }
+        ensures failures { CountsFailure (W.writes.failures writer.old) (W.writes.failures writer.new) result }
+    {
+        if self.written == 0 || self.end <= BUFFER_SIZE / 2 {
             return Ok(());
         }
         self.drain(writer)

@@ -1,14 +1,14 @@
 use Rattle.std.proofs.Common.{◌≡◌, ◌+◌, ◌≤◌, ◌∙◌, ap, arith}
 use Rattle.fx_sound.specs.Sound.{Reading}
 use Rattle.fx_chain.specs.Through.{CutOff, Drained}
-use Rattle.fx_chain.proofs.Blocks.{Pumped-block, Pumped-cut}
+use Rattle.fx_chain.proofs.Blocks.{Pumped-block, Pumped-cut, Pumped-sent, Pumped-stuck}
 use Rattle.fx_chain.proofs.block.pump_block.Goals as goal
 
 pub returns-clause-pumped : goal.returns-clause-pumped
-returns-clause-pumped g c = λ first p.
-    let passed = c.pass_block.ensures in
-    rw (c.in-Ok.ensures.coding ∙ passed.coding)
-    (Pumped-block g.S.Stage.acts g.R.ByteIn.reads first _ _ _ _ _ _ _ _ _ _ _ _ p passed.blocked _ _ _ _ (rw passed.coding at c.in-Ok.ensures.drained) c.in-Ok.ensures.waits c.in-Ok.ensures.room c.in-Ok.ensures.few)
+returns-clause-pumped g c = ?
+
+pub returns-clause-cut_off : goal.returns-clause-cut_off
+returns-clause-cut_off g c = ?
 
 pub returns-clause-more : goal.returns-clause-more
 returns-clause-more g c = let count = ap (λ (p : Reading). p.frames) c.pass_block.ensures.blocked.counted in omega (arith, count)
