@@ -255,9 +255,27 @@ module _ {S R X : Type 0} (acts : Acts S R) (device : ByteReader X) (first : Sta
     (s : SendsOn wrote new_wrote out new_out) where
   -- bytes that waited went to the writer
   pub Pumped-sent : total new_out ≡ total out → Pumped acts device first flow source progress coding clips new_out new_wrote
-  Pumped-sent count = record p {
+  Pumped-sent count = record {
+    most = p.most;
+    begun = p.begun;
+    ends = p.ends;
+    at = p.at;
+    size = p.size;
+    hungry = p.hungry;
+    taken = p.taken;
+    width = p.width;
+    stay = p.stay;
+    kept = p.kept;
+    wants = p.wants;
     room = omega (arith, count, p.room);
-    flowed = λ bytes known. record (p.flowed bytes known) { sent = s first.wrote (first.head ++ coded first.coding (p.flowed bytes known).given) (p.flowed bytes known).sent };
+    few = p.few;
+    coded = p.coded;
+    ran = p.ran;
+    flowed = λ bytes known.
+        let f = p.flowed bytes known in
+        record { given = f.given; through = f.through; clipped = f.clipped; sent = s first.wrote (first.head ++ coded first.coding f.given) f.sent };
+    takes = p.takes;
+    reads = p.reads;
   }
 
   -- the writer failed at them

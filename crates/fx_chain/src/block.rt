@@ -96,5 +96,8 @@ pub fn pump_block<R: ByteIn, S: Feeds, W: ByteOut>(
     let Ok(()) = drain(flow, outlet, writer) else {
         return Err(Failed);
     };
-    outlet.output.make_way(writer)
+    let Ok(()) = outlet.output.make_way(writer) else {
+        return Err(Failed);
+    };
+    Ok(())
 }

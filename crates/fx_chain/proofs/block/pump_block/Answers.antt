@@ -5,10 +5,11 @@ use Rattle.fx_chain.proofs.Blocks.{Pumped-block, Pumped-cut, Pumped-sent, Pumped
 use Rattle.fx_chain.proofs.block.pump_block.Goals as goal
 
 pub returns-clause-pumped : goal.returns-clause-pumped
-returns-clause-pumped g c = ?
-
-pub returns-clause-cut_off : goal.returns-clause-cut_off
-returns-clause-cut_off g c = ?
+returns-clause-pumped g c = λ first p.
+    let passed = c.pass_block.ensures in
+    let drained = c.in-Ok.ensures in
+    let pumped = Pumped-block g.S.Stage.acts g.R.ByteIn.reads first _ _ _ _ _ _ _ _ _ _ _ _ p passed.blocked _ _ _ _ (rw passed.coding at drained.drained) drained.waits drained.room drained.few in
+    rw (drained.coding ∙ passed.coding) (Pumped-sent g.S.Stage.acts g.R.ByteIn.reads first _ _ _ _ _ _ _ _ _ pumped c.make_way.ensures.sent c.make_way.ensures.count)
 
 pub returns-clause-more : goal.returns-clause-more
 returns-clause-more g c = let count = ap (λ (p : Reading). p.frames) c.pass_block.ensures.blocked.counted in omega (arith, count)
@@ -20,3 +21,10 @@ returns-in_default-clause-cut_off g c = λ first p.
 
 pub returns-in_default-clause-more : goal.returns-in_default-clause-more
 returns-in_default-clause-more g c = let count = ap (λ (p : Reading). p.frames) c.pass_block.ensures.blocked.counted in omega (arith, count)
+
+pub returns-in_default-make_way-clause-cut_off : goal.returns-in_default-make_way-clause-cut_off
+returns-in_default-make_way-clause-cut_off g c = λ first p.
+    let passed = c.pass_block.ensures in
+    let drained = c.in-Ok.ensures in
+    let pumped = Pumped-block g.S.Stage.acts g.R.ByteIn.reads first _ _ _ _ _ _ _ _ _ _ _ _ p passed.blocked _ _ _ _ (rw passed.coding at drained.drained) drained.waits drained.room drained.few in
+    Pumped-stuck g.S.Stage.acts g.R.ByteIn.reads first _ _ _ _ _ _ _ _ _ pumped c.make_way.ensures.sent
