@@ -206,15 +206,20 @@ fn feed_sound(alloc: Global, pair: &mut Pair, samples: &[i32], dice: &mut Dice) 
     Err("pieces without end".into())
 }
 
+/// Feeds a new chain of these effects a sound, beside frames one by one, to the end.
+fn feed_row(alloc: Global, effects: &str, dice: &mut Dice) -> Result<(), Fail> {
+    let mut pair = Pair::new(alloc, effects)?;
+    let samples = sound(alloc, dice)?;
+    feed_sound(alloc, &mut pair, &samples, dice)?;
+    pair.finish()?;
+    pair.compare(alloc)
+}
+
 #[test]
 fn feed_is_steps(rt: HostRuntime) -> Result<(), Fail> {
     let mut dice = Dice { state: 1 };
     for effects in ROWS {
-        let mut pair = Pair::new(rt.alloc(), effects)?;
-        let samples = sound(rt.alloc(), &mut dice)?;
-        feed_sound(rt.alloc(), &mut pair, &samples, &mut dice)?;
-        pair.finish()?;
-        pair.compare(rt.alloc())?;
+        feed_row(rt.alloc(), effects, &mut dice)?;
     }
     Ok(())
 }

@@ -29,10 +29,15 @@ fn fed(alloc: Global, effects: &str, samples: &[i32]) -> Result<(Chain, Driven),
     Ok((chain, driven))
 }
 
+/// The snapshot of the chain of these effects after it took frames of these samples.
+fn snapshot_of(alloc: Global, effects: &str, samples: &[i32]) -> Result<Snapshot, Fail> {
+    let (chain, _driven) = fed(alloc, effects, samples)?;
+    Ok(chain.freeze(alloc)?)
+}
+
 /// The snapshot of `trim -3s` after 1 2 3 4 5.
 fn trim_snapshot(alloc: Global) -> Result<Snapshot, Fail> {
-    let (chain, _driven) = fed(alloc, "trim -3s", &[1, 2, 3, 4, 5])?;
-    Ok(chain.freeze(alloc)?)
+    snapshot_of(alloc, "trim -3s", &[1, 2, 3, 4, 5])
 }
 
 /// The chain that a snapshot came from.
@@ -43,6 +48,14 @@ fn thawed(alloc: Global, snapshot: &Snapshot) -> Result<Chain, Fail>
         Ok(chain) => Ok(chain),
         Err(_fault) => Err("no chain of this snapshot".into()),
     }
+}
+
+/// What the chain of a snapshot does where it is told the end.
+fn thawed_to_the_end(alloc: Global, snapshot: &Snapshot) -> Result<Driven, Fail> {
+    let mut again = thawed(alloc, snapshot)?;
+    let mut further = Driven::new(alloc);
+    finish(&mut again, &mut further)?;
+    Ok(further)
 }
 
 /// The fault for which a snapshot is refused with this plan, if it is.
@@ -59,28 +72,54 @@ fn first_wide(frame: &WideFrame) -> i64 {
     frame.get(0)
 }
 
+/// The samples of the first channel of frames.
+fn first_samples(alloc: Global, frames: &[WideFrame]) -> Result<Vec<i64>, Fail> {
+    let mut samples = Vec::new(alloc);
+    for frame in frames {
+        samples.push(first_wide(frame))?;
+    }
+    Ok(samples)
+}
+
 #[test]
 fn freeze_trim(rt: HostRuntime) -> Result<(), Fail> {
-    let (mut chain, mut driven) = fed(rt.alloc(), "trim -3s", &[1, 2, 3, 4, 5])?;
-    let mut snapshot = chain.freeze(rt.alloc())?;
-    let mut frames = Vec::new(rt.alloc());
-    for frame in &snapshot.frames {
-        frames.push(first_wide(frame))?;
-    }
+    let snapshot = trim_snapshot(rt.alloc())?;
+    let frames = first_samples(rt.alloc(), &snapshot.frames)?;
     assert_eq!(rt; frames.as_slice(), [3, 4, 5].as_slice());
+    Ok(())
+}
 
-    let mut again = thawed(rt.alloc(), &snapshot)?;
-    let mut further = Driven::new(rt.alloc());
-    finish(&mut again, &mut further)?;
+#[test]
+fn thaw_trim(rt: HostRuntime) -> Result<(), Fail> {
+    let snapshot = trim_snapshot(rt.alloc())?;
+    let further = thawed_to_the_end(rt.alloc(), &snapshot)?;
     assert_eq!(rt; further.samples.as_slice(), [3, 4, 5].as_slice());
+    Ok(())
+}
+
+#[test]
+fn frozen_trim_goes_on(rt: HostRuntime) -> Result<(), Fail> {
+    let (mut chain, mut driven) = fed(rt.alloc(), "trim -3s", &[1, 2, 3, 4, 5])?;
+    thawed_to_the_end(rt.alloc(), &chain.freeze(rt.alloc())?)?;
     finish(&mut chain, &mut driven)?;
     assert_eq!(rt; driven.samples.as_slice(), [3, 4, 5].as_slice());
+    Ok(())
+}
 
+#[test]
+fn thaw_with_another_plan(rt: HostRuntime) -> Result<(), Fail> {
+    let snapshot = trim_snapshot(rt.alloc())?;
     let other = plan_of(rt.alloc(), "trim -2s")?;
     assert_eq!(rt;
         refusal(rt.alloc(), &other, &snapshot),
         Some(ThawFault::WrongPlan)
     );
+    Ok(())
+}
+
+#[test]
+fn thaw_with_no_numbers(rt: HostRuntime) -> Result<(), Fail> {
+    let mut snapshot = trim_snapshot(rt.alloc())?;
     snapshot.numbers.clear();
     let refused = refusal(rt.alloc(), &snapshot.plan, &snapshot);
     assert_eq!(rt; refused, Some(ThawFault::BadSnapshot));
@@ -99,13 +138,26 @@ fn freeze_numbers(rt: HostRuntime) -> Result<(), Fail> {
     Ok(())
 }
 
+/// The chain of `upsample 2 delay 1s` that took a frame of 5.
+fn took_five(alloc: Global) -> Result<Chain, Fail> {
+    let plan = plan_of(alloc, "upsample 2 delay 1s")?;
+    let mut chain = Chain::new(alloc, &plan)?;
+    chain.take(mono(5));
+    Ok(chain)
+}
+
+/// The snapshot of that chain after one step.
+fn one_step_snapshot(alloc: Global) -> Result<Snapshot, Fail> {
+    let mut chain = took_five(alloc)?;
+    if next_step(&mut chain) != Some(Step::Moved) {
+        return Err("another step".into());
+    }
+    Ok(chain.freeze(alloc)?)
+}
+
 #[test]
 fn freeze_after_one_step(rt: HostRuntime) -> Result<(), Fail> {
-    let plan = plan_of(rt.alloc(), "upsample 2 delay 1s")?;
-    let mut chain = Chain::new(rt.alloc(), &plan)?;
-    chain.take(mono(5));
-    assert_eq!(rt; next_step(&mut chain), Some(Step::Moved));
-    let mut snapshot = chain.freeze(rt.alloc())?;
+    let snapshot = one_step_snapshot(rt.alloc())?;
     assert_eq!(rt;
         snapshot.numbers.as_slice(),
         [
@@ -117,34 +169,47 @@ fn freeze_after_one_step(rt: HostRuntime) -> Result<(), Fail> {
         snapshot.frames.as_slice(),
         [WideFrame::from_frame(mono(5))].as_slice()
     );
+    Ok(())
+}
+
+#[test]
+fn thaw_with_a_number_less(rt: HostRuntime) -> Result<(), Fail> {
+    let mut snapshot = one_step_snapshot(rt.alloc())?;
     snapshot.numbers.truncate(23);
     let refused = refusal(rt.alloc(), &snapshot.plan, &snapshot);
     assert_eq!(rt; refused, Some(ThawFault::BadSnapshot));
     Ok(())
 }
 
+/// Steps a chain beside the one that its snapshot is thawed to, which has to be the same.
+fn step_beside_thawed(alloc: Global, chain: &mut Chain) -> Result<(), Fail> {
+    let snapshot = chain.freeze(alloc)?;
+    let mut again = thawed(alloc, &snapshot)?;
+    if again.held() != chain.held() {
+        return Err("another number of frames held".into());
+    }
+    if next_step(&mut again) != next_step(chain) {
+        return Err("another step".into());
+    }
+    if again.moves() != chain.moves() {
+        return Err("another number of hand-overs".into());
+    }
+    Ok(())
+}
+
 #[test]
 fn thaw_after_each_step(rt: HostRuntime) -> Result<(), Fail> {
-    let plan = plan_of(rt.alloc(), "upsample 2 delay 1s")?;
-    let mut chain = Chain::new(rt.alloc(), &plan)?;
-    chain.take(mono(5));
+    let mut chain = took_five(rt.alloc())?;
     for _step in 0..5 {
-        let snapshot = chain.freeze(rt.alloc())?;
-        let mut again = thawed(rt.alloc(), &snapshot)?;
-        assert_eq!(rt; again.held(), chain.held());
-        assert_eq!(rt; next_step(&mut again), next_step(&mut chain));
-        assert_eq!(rt; again.moves(), chain.moves());
+        step_beside_thawed(rt.alloc(), &mut chain)?;
     }
     Ok(())
 }
 
 #[test]
 fn thaw_echos(rt: HostRuntime) -> Result<(), Fail> {
-    let (chain, _driven) = fed(rt.alloc(), "echos 1 1 0.25 0.5 0.125 0.5", &[8])?;
-    let snapshot = chain.freeze(rt.alloc())?;
-    let mut again = thawed(rt.alloc(), &snapshot)?;
-    let mut further = Driven::new(rt.alloc());
-    finish(&mut again, &mut further)?;
+    let snapshot = snapshot_of(rt.alloc(), "echos 1 1 0.25 0.5 0.125 0.5", &[8])?;
+    let further = thawed_to_the_end(rt.alloc(), &snapshot)?;
     assert_eq!(rt; further.samples.as_slice(), [4, 4, 4].as_slice());
     Ok(())
 }
@@ -187,6 +252,13 @@ fn spoil(snapshot: &mut Snapshot, damage: Damage) -> Result<(), Fail> {
     Ok(())
 }
 
+/// The fault for which the snapshot of `trim -3s` is refused after this damage, if it is.
+fn refusal_after(alloc: Global, damage: Damage) -> Result<Option<ThawFault>, Fail> {
+    let mut snapshot = trim_snapshot(alloc)?;
+    spoil(&mut snapshot, damage)?;
+    Ok(refusal(alloc, &snapshot.plan, &snapshot))
+}
+
 #[test]
 fn thaw_refused(rt: HostRuntime) -> Result<(), Fail> {
     for kind in [
@@ -196,9 +268,7 @@ fn thaw_refused(rt: HostRuntime) -> Result<(), Fail> {
         Damage::Wide,
         Damage::OneLess,
     ] {
-        let mut snapshot = trim_snapshot(rt.alloc())?;
-        spoil(&mut snapshot, kind)?;
-        let refused = refusal(rt.alloc(), &snapshot.plan, &snapshot);
+        let refused = refusal_after(rt.alloc(), kind)?;
         assert_eq!(rt; refused, Some(ThawFault::BadSnapshot));
     }
     Ok(())
@@ -256,6 +326,43 @@ fn outcome(alloc: Global, snapshot: &Snapshot, given: &[i32]) -> Result<(Vec<i32
     Ok((out, again.freeze(alloc)?))
 }
 
+/// Does the chain of twelve effects, thawed here, come to what it has to give, and to these numbers?
+fn comes_to(alloc: Global, chain: &Chain, given: &[i32], numbers: &[u64]) -> Result<(), Fail> {
+    let snapshot = chain.freeze(alloc)?;
+    if snapshot.frames.len() > 23 || snapshot.numbers.len() != 104 {
+        return Err("too many frames, or another number of numbers".into());
+    }
+    if snapshot.plan.head().channels != 1 {
+        return Err("another plan".into());
+    }
+    let (all, end) = outcome(alloc, &snapshot, given)?;
+    if all.as_slice() != TWELVE_OUTPUT.as_slice() {
+        return Err("other samples".into());
+    }
+    if end.numbers.as_slice() != numbers {
+        return Err("other numbers at the end".into());
+    }
+    Ok(())
+}
+
+/// Lets the chain of twelve effects go on to the end, and thaws it before every call.
+fn go_on_thawed(
+    alloc: Global,
+    chain: &mut Chain,
+    numbers: &[u64],
+    out: &mut Vec<i32>,
+) -> Result<(), Fail>
+    requires { chain.old.plan.head.channels ≡ 1 }
+{
+    'calls: for _call in 0..MOST_CALLS {
+        comes_to(alloc, chain, out, numbers)?;
+        if !advance(chain, &TWELVE_SAMPLES, out)? {
+            return Ok(());
+        }
+    }
+    Err("calls without end".into())
+}
+
 /// The chain of twelve effects, thawed after every call.
 #[test]
 fn freeze_twelve_line(rt: HostRuntime) -> Result<(), Fail> {
@@ -263,21 +370,7 @@ fn freeze_twelve_line(rt: HostRuntime) -> Result<(), Fail> {
     let mut chain = Chain::new(rt.alloc(), &plan)?;
     let (_all, whole) = outcome(rt.alloc(), &chain.freeze(rt.alloc())?, &[])?;
     let mut out = Vec::new(rt.alloc());
-    'calls: for _call in 0..MOST_CALLS {
-        let snapshot = chain.freeze(rt.alloc())?;
-        assert!(rt; snapshot.frames.len() <= 23);
-        assert_eq!(rt; snapshot.numbers.len(), 104);
-        if snapshot.plan.head().channels != 1 {
-            return Err("another plan".into());
-        }
-        let (all, end) = outcome(rt.alloc(), &snapshot, &out)?;
-        assert_eq!(rt; all.as_slice(), TWELVE_OUTPUT.as_slice());
-        assert_eq!(rt; end.numbers.as_slice(), whole.numbers.as_slice());
-        if !advance(&mut chain, &TWELVE_SAMPLES, &mut out)? {
-            return Ok(());
-        }
-    }
-    Err("calls without end".into())
+    go_on_thawed(rt.alloc(), &mut chain, &whole.numbers, &mut out)
 }
 
 /// Freezes a chain and thaws it.
@@ -302,6 +395,24 @@ fn found_chain(alloc: Global) -> Option<(Chain, Driven)>
     Some((chain, driven))
 }
 
+/// Freezes and thaws the chain of twelve effects on its way, which then runs on as if nothing had been asked; the fault, if
+/// there is one.
+fn fault_on_the_way(
+    alloc: Global,
+    chain: &mut Chain,
+    driven: &mut Driven,
+) -> Result<Option<ThawFault>, Fail>
+    requires { chain.old.plan.head.channels ≡ 1 }
+{
+    feed(chain, driven, &TWELVE_SAMPLES)?;
+    let fault = freeze_and_thaw(alloc, chain).err();
+    finish(chain, driven)?;
+    if driven.samples.as_slice() != TWELVE_OUTPUT.as_slice() {
+        return Err("other samples".into());
+    }
+    Ok(fault)
+}
+
 /// Each request for memory refused in turn; the frozen chain then runs on as if nothing had been asked.
 #[test]
 fn growth_freeze_thaw(rt: HostRuntime) -> Result<(), Fail> {
@@ -309,10 +420,7 @@ fn growth_freeze_thaw(rt: HostRuntime) -> Result<(), Fail> {
         println!(rt; "refused")?;
         return Ok(());
     };
-    feed(&mut chain, &mut driven, &TWELVE_SAMPLES)?;
-    let fault = freeze_and_thaw(rt.alloc(), &chain).err();
-    finish(&mut chain, &mut driven)?;
-    assert_eq!(rt; driven.samples.as_slice(), TWELVE_OUTPUT.as_slice());
+    let fault = fault_on_the_way(rt.alloc(), &mut chain, &mut driven)?;
     match fault {
         None => println!(rt; "made")?,
         Some(fault) => {

@@ -78,6 +78,19 @@ fn twelve_line_moves(rt: HostRuntime) -> Result<(), Fail> {
     Ok(())
 }
 
+/// Makes these steps of a chain, which holds at most four frames after each.
+fn make_steps(chain: &mut Chain, steps: &[Step]) -> Result<(), Fail> {
+    for step in steps {
+        if next_step(chain) != Some(*step) {
+            return Err("another step".into());
+        }
+        if chain.held() > 4 {
+            return Err("more than four frames held".into());
+        }
+    }
+    Ok(())
+}
+
 #[test]
 fn two_idle_steps(rt: HostRuntime) -> Result<(), Fail> {
     let plan = plan_of(rt.alloc(), TWO_EFFECTS)?;
@@ -85,25 +98,20 @@ fn two_idle_steps(rt: HostRuntime) -> Result<(), Fail> {
     assert_eq!(rt; chain.hold(), 4);
     chain.take(mono(5));
     assert_eq!(rt; chain.held(), 1);
-    for step in [
+    let steps = [
         Step::Moved,
         Step::Moved,
         Step::Given(mono(0)),
         Step::Moved,
         Step::Given(mono(5)),
-    ] {
-        assert_eq!(rt; next_step(&mut chain), Some(step));
-        assert!(rt; chain.held() <= 4);
-    }
+    ];
+    make_steps(&mut chain, &steps)?;
     assert_eq!(rt; chain.moves(), 5);
     let State::Hungry = chain.state() else {
         return Err("not hungry".into());
     };
     chain.end();
-    for step in [Step::Idle, Step::Idle, Step::Given(mono(0))] {
-        assert_eq!(rt; next_step(&mut chain), Some(step));
-        assert!(rt; chain.held() <= 4);
-    }
+    make_steps(&mut chain, &[Step::Idle, Step::Idle, Step::Given(mono(0))])?;
     assert_eq!(rt; chain.state(), State::Done);
     assert_eq!(rt; chain.moves(), 6);
     Ok(())

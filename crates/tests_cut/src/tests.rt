@@ -1,5 +1,5 @@
 //! The worked rows, in tables.
-ghost use Rattle.std.specs.Prelude.{◌≡◌, ◌+◌, ◌≤◌, length};
+ghost use Rattle.std.specs.Prelude.{◌≡◌, ◌+◌, ◌≤◌, length, IfOk};
 ghost use Rattle.fx_frame.specs.Stage.{kind};
 
 use fx_cut::{Downsample, Fade, Pad, Trim, Upsample};
@@ -74,6 +74,41 @@ fn stored<S: Stage>(alloc: Global, stage: &S) -> Result<Vec<WideFrame>, AllocErr
     Ok(frames)
 }
 
+/// What a stage stores once it gave these frames for those samples.
+fn frozen<S: Stage>(
+    alloc: Global,
+    stage: &mut S,
+    samples: &[i32],
+    want: &[i32],
+) -> Result<Vec<WideFrame>, Fail>
+    requires { (S.acts.counts stage.old).taken + length samples.now ≤ (kind S.acts stage.old).limit }
+{
+    let early = feed(alloc, stage, samples)?;
+    if early.as_slice() != want {
+        return Err("other frames before it is frozen".into());
+    }
+    Ok(stored(alloc, stage)?)
+}
+
+/// What a stage that was made again gives for further samples and then the end; it counts so many frames taken before.
+fn goes_on<S: Stage + Drop>(
+    alloc: Global,
+    made: Result<S, ThawFault>,
+    taken: u64,
+    samples: &[i32],
+) -> Result<Vec<i32>, Fail>
+    requires { IfOk made (λ again. taken + length samples.now ≤ (kind S.acts again).limit) }
+{
+    let Ok(mut again) = made else {
+        return Err("no stage of these frames and numbers".into());
+    };
+    if again.counters()[0] != taken {
+        return Err("another number of frames taken".into());
+    }
+    let (rest, _early) = through(alloc, &mut again, samples)?;
+    Ok(rest)
+}
+
 #[test]
 fn trim_two_positions(rt: HostRuntime) -> Result<(), Fail> {
     let mut trim = Trim::new(rt.alloc(), 1, &[At::Start(2), At::Start(5)])?;
@@ -89,6 +124,11 @@ fn trim_last_three(rt: HostRuntime) -> Result<(), Fail> {
     let (out, early) = through(rt.alloc(), &mut trim, &[1, 2, 3, 4, 5])?;
     assert_eq!(rt; out.as_slice(), [3, 4, 5].as_slice());
     assert_eq!(rt; early, 0);
+    Ok(())
+}
+
+#[test]
+fn trim_last_three_of_two(rt: HostRuntime) -> Result<(), Fail> {
     let mut short = Trim::new(rt.alloc(), 1, &[At::End(3)])?;
     let (all, _early) = through(rt.alloc(), &mut short, &[1, 2])?;
     assert_eq!(rt; all.as_slice(), [1, 2].as_slice());
@@ -135,9 +175,19 @@ fn pad_mixed_anchors(rt: HostRuntime) -> Result<(), Fail> {
     let (out, early) = through(rt.alloc(), &mut pad, &[1, 2, 3])?;
     assert_eq!(rt; out.as_slice(), [1, 0, 0, 2, 0, 3].as_slice());
     assert_eq!(rt; early, 4);
+    Ok(())
+}
+
+#[test]
+fn pad_mixed_anchors_of_one(rt: HostRuntime) -> Result<(), Fail> {
     let mut short = Pad::new(rt.alloc(), 1, &[(2, At::Start(1)), (1, At::End(1))])?;
     let (one, _early) = through(rt.alloc(), &mut short, &[1])?;
     assert_eq!(rt; one.as_slice(), [1, 0, 0, 0].as_slice());
+    Ok(())
+}
+
+#[test]
+fn pad_mixed_anchors_of_none(rt: HostRuntime) -> Result<(), Fail> {
     let mut empty = Pad::new(rt.alloc(), 1, &[(2, At::Start(1)), (1, At::End(1))])?;
     let (none, _early) = through(rt.alloc(), &mut empty, &[])?;
     assert_eq!(rt; none.as_slice(), [0].as_slice());
@@ -175,6 +225,11 @@ fn fade_start_stop(rt: HostRuntime) -> Result<(), Fail> {
     let mut fade = Fade::new(rt.alloc(), 1, 2, Some(At::Start(3)), 1)?;
     let (out, _early) = through(rt.alloc(), &mut fade, &[100, 100, 100, 100, 100])?;
     assert_eq!(rt; out.as_slice(), [0, 50, 100].as_slice());
+    Ok(())
+}
+
+#[test]
+fn fade_start_stop_cut_short(rt: HostRuntime) -> Result<(), Fail> {
     let mut short = Fade::new(rt.alloc(), 1, 2, Some(At::Start(3)), 1)?;
     let (two, _early) = through(rt.alloc(), &mut short, &[100, 100])?;
     assert_eq!(rt; two.as_slice(), [0, 50].as_slice());
@@ -195,16 +250,9 @@ fn fade_end_stop(rt: HostRuntime) -> Result<(), Fail> {
 fn trim_thaws(rt: HostRuntime) -> Result<(), Fail> {
     let positions = [At::Start(1), At::End(1)];
     let mut trim = Trim::new(rt.alloc(), 1, &positions)?;
-    let early = feed(rt.alloc(), &mut trim, &[1, 2, 3])?;
-    assert_eq!(rt; early.as_slice(), [2].as_slice());
-    let frames = stored(rt.alloc(), &trim)?;
-    let Ok(mut again) = Trim::thaw(rt.alloc(), 1, &positions, &frames, &trim.counters()) else {
-        return Err("no stage of these frames and numbers".into());
-    };
-    if again.counters()[0] != 3 {
-        return Err("another number of frames taken".into());
-    }
-    let (rest, _early) = through(rt.alloc(), &mut again, &[4, 5])?;
+    let frames = frozen(rt.alloc(), &mut trim, &[1, 2, 3], &[2])?;
+    let again = Trim::thaw(rt.alloc(), 1, &positions, &frames, &trim.counters());
+    let rest = goes_on(rt.alloc(), again, 3, &[4, 5])?;
     assert_eq!(rt; rest.as_slice(), [3, 4].as_slice());
     Ok(())
 }
@@ -213,16 +261,9 @@ fn trim_thaws(rt: HostRuntime) -> Result<(), Fail> {
 fn pad_thaws(rt: HostRuntime) -> Result<(), Fail> {
     let pads = [(2, At::Start(1)), (1, At::End(1))];
     let mut pad = Pad::new(rt.alloc(), 1, &pads)?;
-    let early = feed(rt.alloc(), &mut pad, &[1, 2])?;
-    assert_eq!(rt; early.as_slice(), [1].as_slice());
-    let frames = stored(rt.alloc(), &pad)?;
-    let Ok(mut again) = Pad::thaw(rt.alloc(), 1, &pads, &frames, &pad.counters()) else {
-        return Err("no stage of these frames and numbers".into());
-    };
-    if again.counters()[0] != 2 {
-        return Err("another number of frames taken".into());
-    }
-    let (rest, _early) = through(rt.alloc(), &mut again, &[3])?;
+    let frames = frozen(rt.alloc(), &mut pad, &[1, 2], &[1])?;
+    let again = Pad::thaw(rt.alloc(), 1, &pads, &frames, &pad.counters());
+    let rest = goes_on(rt.alloc(), again, 2, &[3])?;
     assert_eq!(rt; rest.as_slice(), [0, 0, 2, 0, 3].as_slice());
     Ok(())
 }
@@ -231,16 +272,9 @@ fn pad_thaws(rt: HostRuntime) -> Result<(), Fail> {
 fn fade_thaws(rt: HostRuntime) -> Result<(), Fail> {
     let stop = Some(At::End(2));
     let mut fade = Fade::new(rt.alloc(), 1, 0, stop, 2)?;
-    let early = feed(rt.alloc(), &mut fade, &[100, 100, 100, 100])?;
-    assert!(rt; early.is_empty());
-    let frames = stored(rt.alloc(), &fade)?;
-    let Ok(mut again) = Fade::thaw(rt.alloc(), 1, 0, stop, 2, &frames, &fade.counters()) else {
-        return Err("no stage of these frames and numbers".into());
-    };
-    if again.counters()[0] != 4 {
-        return Err("another number of frames taken".into());
-    }
-    let (rest, _early) = through(rt.alloc(), &mut again, &[100])?;
+    let frames = frozen(rt.alloc(), &mut fade, &[100, 100, 100, 100], &[])?;
+    let again = Fade::thaw(rt.alloc(), 1, 0, stop, 2, &frames, &fade.counters());
+    let rest = goes_on(rt.alloc(), again, 4, &[100])?;
     assert_eq!(rt; rest.as_slice(), [100, 100, 50].as_slice());
     Ok(())
 }
@@ -250,15 +284,27 @@ fn is_refused<S: Drop>(made: &Result<S, ThawFault>) -> bool {
     matches!(made, Err(ThawFault::BadSnapshot))
 }
 
-/// More silence than a factor of 3 leaves, a frame in hand after the end, and a sound of five frames of which `trim 0` gives
-/// one.
+/// More silence than a factor of 3 leaves.
 #[test]
-fn unreached_refused(rt: HostRuntime) -> Result<(), Fail> {
-    let frames = [WideFrame::from_frame(mono(7))];
+fn long_silence_refused(rt: HostRuntime) -> Result<(), Fail> {
     let silent = Upsample::thaw(1, 3, &[], &[3, 0, 0, 0, 0, 9, 0, 0]);
     assert!(rt; is_refused(&silent));
+    Ok(())
+}
+
+/// A frame in hand after the end.
+#[test]
+fn hand_after_end_refused(rt: HostRuntime) -> Result<(), Fail> {
+    let frames = [WideFrame::from_frame(mono(7))];
     let over = Downsample::thaw(1, 2, &frames, &[1, 0, 1, 0, 1, 1, 0, 0]);
     assert!(rt; is_refused(&over));
+    Ok(())
+}
+
+/// A sound of five frames of which `trim 0` gives one.
+#[test]
+fn one_of_five_refused(rt: HostRuntime) -> Result<(), Fail> {
+    let frames = [WideFrame::from_frame(mono(7))];
     let few = Trim::thaw(
         rt.alloc(),
         1,
@@ -319,36 +365,48 @@ fn upsample_by_three(rt: HostRuntime) -> Result<(), Fail> {
     Ok(())
 }
 
+/// What `downsample` keeps of a frame.
+fn kept(stage: &mut Downsample, frame: Frame) -> Result<Option<Frame>, Fail> {
+    if stage.in_channels() != frame.channels()
+        || !stage.is_dry()
+        || stage.is_ended()
+        || stage.counters()[0] >= 6
+    {
+        return Err("no frame can be taken".into());
+    }
+    stage.take(frame);
+    Ok(stage.give())
+}
+
+/// Lets `upsample` take a sample and `downsample` each frame that comes of it, and adds what is kept.
+fn pass_on(
+    first: &mut Upsample,
+    second: &mut Downsample,
+    sample: i32,
+    out: &mut Vec<Frame>,
+) -> Result<(), Fail> {
+    if first.in_channels() != 1 || !first.is_dry() || first.is_ended() || first.counters()[0] >= 2 {
+        return Err("no frame can be taken".into());
+    }
+    first.take(mono(sample));
+    for _frame in 0..3 {
+        let Some(frame) = first.give() else {
+            return Err("too few frames".into());
+        };
+        if let Some(frame) = kept(second, frame)? {
+            out.push(frame)?;
+        }
+    }
+    Ok(())
+}
+
 #[test]
 fn upsample_then_downsample(rt: HostRuntime) -> Result<(), Fail> {
     let mut first = Upsample::new(1, 3);
     let mut second = Downsample::new(1, 2);
     let mut out = Vec::new(rt.alloc());
     for sample in [1, 2] {
-        if first.in_channels() != 1
-            || !first.is_dry()
-            || first.is_ended()
-            || first.counters()[0] >= 2
-        {
-            return Err("no frame can be taken".into());
-        }
-        first.take(mono(sample));
-        for _frame in 0..3 {
-            let Some(frame) = first.give() else {
-                return Err("too few frames".into());
-            };
-            if second.in_channels() != frame.channels()
-                || !second.is_dry()
-                || second.is_ended()
-                || second.counters()[0] >= 6
-            {
-                return Err("no frame can be taken".into());
-            }
-            second.take(frame);
-            if let Some(kept) = second.give() {
-                out.push(kept)?;
-            }
-        }
+        pass_on(&mut first, &mut second, sample, &mut out)?;
     }
     assert_eq!(rt; out.as_slice(), [mono(1), mono(0), mono(0)].as_slice());
     Ok(())

@@ -106,7 +106,55 @@ fn feed_block(
     Ok(())
 }
 
-/// What a `fir` gives that is fed blocks of up to 3,000 frames, and frozen and thawed behind each.
+/// The `fir` of these coefficients that is made again from what one of them stores and counts.
+fn thawed(alloc: Global, fir: &Fir, channels: usize, coefficients: &[Gain]) -> Result<Fir, Fail>
+    requires channels { (1 ≤ channels) × (channels ≤ 16) }
+    requires coefficients { (1 ≤ length coefficients.now) × (length coefficients.now ≤ 1024) }
+{
+    let frames = stored(alloc, fir)?;
+    match Fir::thaw(alloc, channels, coefficients, &frames, &fir.counters()) {
+        Ok(again) => Ok(again),
+        Err(_fault) => Err("not thawed".into()),
+    }
+}
+
+/// Feeds blocks of up to 3,000 frames, and freezes and thaws behind each.
+fn feed_blocks(
+    alloc: Global,
+    fir: &mut Fir,
+    channels: usize,
+    coefficients: &[Gain],
+    sound: &[i32],
+    given: &mut Vec<i32>,
+) -> Result<(), Fail>
+    requires channels { (1 ≤ channels) × (channels ≤ 16) }
+    requires coefficients { (1 ≤ length coefficients.now) × (length coefficients.now ≤ 1024) }
+{
+    let mut rest = sound;
+    for block in 0..MOST_BLOCKS {
+        if rest.is_empty() {
+            break;
+        }
+        let frames = 1 + noise(block as usize).unsigned_abs() as usize % 3000;
+        let size = rest.len().min(frames * channels);
+        feed_block(alloc, fir, &rest[..size], given)?;
+        rest = &rest[size..];
+        *fir = thawed(alloc, fir, channels, coefficients)?;
+    }
+    Ok(())
+}
+
+/// Tells a `fir` the end, and adds the samples that come behind it.
+fn end(fir: &mut Fir, given: &mut Vec<i32>) -> Result<(), Fail> {
+    if !fir.is_dry() || fir.is_ended() {
+        return Err("not ready for the end".into());
+    }
+    fir.end();
+    drain(fir, given)?;
+    Ok(())
+}
+
+/// What a `fir` gives that is fed a sound in blocks, frozen and thawed behind each, and then told the end.
 fn fed(
     alloc: Global,
     coefficients: &[Gain],
@@ -120,26 +168,8 @@ fn fed(
     }
     let mut given = Vec::new(alloc);
     let mut fir = Fir::new(alloc, channels, coefficients)?;
-    let mut rest = sound;
-    for block in 0..MOST_BLOCKS {
-        if rest.is_empty() {
-            break;
-        }
-        let frames = 1 + noise(block as usize).unsigned_abs() as usize % 3000;
-        let size = rest.len().min(frames * channels);
-        feed_block(alloc, &mut fir, &rest[..size], &mut given)?;
-        rest = &rest[size..];
-        let frames = stored(alloc, &fir)?;
-        let Ok(again) = Fir::thaw(alloc, channels, coefficients, &frames, &fir.counters()) else {
-            return Err("not thawed".into());
-        };
-        fir = again;
-    }
-    if !fir.is_dry() || fir.is_ended() {
-        return Err("not ready for the end".into());
-    }
-    fir.end();
-    drain(&mut fir, &mut given)?;
+    feed_blocks(alloc, &mut fir, channels, coefficients, sound, &mut given)?;
+    end(&mut fir, &mut given)?;
     Ok(given)
 }
 
