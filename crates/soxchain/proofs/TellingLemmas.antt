@@ -8,7 +8,10 @@ use Rattle.std.specs.Prelude.{MatchBool, codes, decimal, slice_index_or}
 use Rattle.fx_frame.specs.Io.{ByteWriter}
 use Rattle.fx_plan.specs.Faults.{Word}
 use Rattle.soxchain.specs.Messages.{effect_warning, effect_warnings, line_feed, told_word, warning}
-use Rattle.soxchain.specs.Telling.{Told, ToldFront, ToldAll, TellsMore, Tells}
+use Rattle.std.specs.Borrow.{MutBor}
+use Rattle.soxchain.specs.declared.telling.Telling.{Telling}
+use Rattle.soxchain.specs.Saying.{Begins, Says}
+use Rattle.soxchain.specs.Telling.{Told, ToldFront, ToldAll, Tells}
 
 -- a front is one of more bytes too
 pub ToldFront-longer : (first now : Option (List ℕ)) (failures new : ℕ) (all text : List ℕ) → ToldFront first now failures new all → ToldFront first now failures new (all ++ text)
@@ -54,33 +57,35 @@ Appends-part first now new told n text a b =
 pub part-within : (told n : ℕ) (text : List ℕ) → told ≤ length text → n ≤ length (take (length text - told) (drop told text)) → told + n ≤ length text
 part-within told n text h k = omega (arith, length-drop told text, rw (left-all told text) at k)
 
--- three texts behind all that was told
-pub three : (all a b c : List ℕ) → ((all ++ a) ++ b) ++ c ≡ all ++ ((a ++ b) ++ c)
-three all a b c = simp append_assoc
-
--- five texts behind all that was told
-pub five : (all a b c d e : List ℕ) → ((((all ++ a) ++ b) ++ c) ++ d) ++ e ≡ all ++ ((((a ++ b) ++ c) ++ d) ++ e)
-five all a b c d e = simp append_assoc
-
 -- what was counted has its line
 pub warning-counted : (counted : List ℕ) (n : ℕ) → 0 < n → warning counted n ≡ codes "soxchain: warning: " ++ counted ++ codes " " ++ decimal n ++ line_feed
 warning-counted counted zero h = absurd (omega arith)
 warning-counted counted (suc n) h = refl
 
--- a text before which nothing was told
-pub Tells-first : {M : Type 0} (writes : ByteWriter M) (old new : Bool) (from to : M) (text : List ℕ) → old ≡ false → TellsMore writes old new from to text → Tells writes from to text
-Tells-first writes old new from to text begun more = record {
-  has_failed = new;
-  told = more (writes.taken from) (writes.failures from) [] (rw begun (record { took = Appends-nil (writes.taken from); unfailed = refl }));
+-- two texts, one behind the other
+pub Says-then : {M : Type 0} (writes : ByteWriter M) (a b c : Telling M) (s t : List ℕ) → Says writes a b s → Says writes b c t → Says writes a c (s ++ t)
+Says-then writes a b c s t first second = record {
+  same = second.same ∙ first.same;
+  more = λ start count all told. rw (sym (append_assoc all s t)) (second.more start count (all ++ s) (first.more start count all told));
 }
 
--- two texts, one behind the other
-pub TellsMore-then : {M : Type 0} (writes : ByteWriter M) (old mid new : Bool) (a b c : M) (s t : List ℕ) → TellsMore writes old mid a b s → TellsMore writes mid new b c t → TellsMore writes old new a c (s ++ t)
-TellsMore-then writes old mid new a b c s t first second = λ start count all told. rw (sym (append_assoc all s t)) (second start count (all ++ s) (first start count all told))
+-- three texts, one behind the other
+pub Says-three : {M : Type 0} (writes : ByteWriter M) (a b c d : Telling M) (s t u : List ℕ) → Says writes a b s → Says writes b c t → Says writes c d u → Says writes a d (s ++ t ++ u)
+Says-three writes a b c d s t u first second third = Says-then writes a c d (s ++ t) u (Says-then writes a b c s t first second) third
 
 -- no text
-pub TellsMore-nothing : {M : Type 0} (writes : ByteWriter M) (old : Bool) (a : M) → TellsMore writes old old a a []
-TellsMore-nothing writes old a = λ start count all told. rw (append-nil) told
+pub Says-nothing : {M : Type 0} (writes : ByteWriter M) (a : Telling M) → Says writes a a []
+Says-nothing writes a = record {
+  same = refl;
+  more = λ start count all told. rw (append-nil) told;
+}
+
+-- a text before which nothing was told
+pub Tells-said : {M : Type 0} (writes : ByteWriter M) (messages : MutBor M) (from to : Telling M) (last : M) (text : List ℕ) → Begins messages from → last ≡ to.messages.now → Says writes from to text → Tells writes messages.now last text
+Tells-said writes messages from to last text begun ended said = record {
+  has_failed = to.has_failed;
+  told = rw (ended, sym begun.untold) (said.more (writes.taken from.messages.now) (writes.failures from.messages.now) [] (rw (begun.unfailed) (record { took = Appends-nil (writes.taken from.messages.now); unfailed = refl })));
+}
 
 -- what an effect clipped has its line
 pub effect_warning-counted : (number : ℕ) (name : List ℕ) (n : ℕ) → 0 < n

@@ -5,5 +5,6 @@ pub mod Messages
 pub mod Preparing
 pub mod Program
 pub mod Readying
+pub mod Saying
 pub mod Stops
 pub mod Telling

@@ -4,7 +4,7 @@ ghost use Rattle.fx_chain.specs.Report.{report_at};
 ghost use Rattle.fx_plan.specs.CommandLines.{effects_in};
 ghost use Rattle.soxchain.specs.Messages;
 ghost use Rattle.soxchain.specs.Messages.{chain_message, effect_message, effect_warning, effect_warnings, effects_message, head_label, input_message, line_label, line_message, plan_label, plan_message, refusal_message, run_label, run_message, warning, warnings};
-ghost use Rattle.soxchain.specs.Telling.{TellsMore};
+ghost use Rattle.soxchain.specs.Saying.{Says};
 
 use crate::preparing::Refusal;
 use crate::telling::Telling;
@@ -16,57 +16,54 @@ use fx_sound::HeadFault;
 use itoa::Buffer;
 
 /// `soxchain: command line: 2 BadOption`, with the number and name of the fault.
-pub fn tell_line<M: ByteOut>(telling: &mut Telling, messages: &mut M, fault: &str)
-    ensures { TellsMore M.writes telling.old.has_failed telling.new.has_failed messages.old messages.new (line_message fault.now) }
+pub fn tell_line<M: ByteOut>(telling: &mut Telling<M>, fault: &str)
+    ensures { Says M.writes telling.old telling.new (line_message fault.now) }
 {
-    telling.note(messages, "soxchain: command line: ", fault);
+    telling.note("soxchain: command line: ", fault);
 }
 
 /// `soxchain: effect 1 vol: 5 BadArgument: x`, with the effect's number and name, the fault's number and name, and the word.
 pub fn tell_effect<M: ByteOut>(
-    telling: &mut Telling,
-    messages: &mut M,
+    telling: &mut Telling<M>,
     number: usize,
     name: &str,
     fault: &str,
     word: &str,
 )
-    ensures { TellsMore M.writes telling.old.has_failed telling.new.has_failed messages.old messages.new (effect_message number name.now fault.now word.now) }
+    ensures { Says M.writes telling.old telling.new (effect_message number name.now fault.now word.now) }
 {
     let mut buffer = Buffer::new();
     telling.sentence(
-        messages,
         "soxchain: effect ",
         buffer.format(number as u64),
         " ",
         name,
         ": ",
     );
-    telling.text(messages, fault);
-    telling.note(messages, ": ", word);
+    telling.text(fault);
+    telling.note(": ", word);
 }
 
 /// `soxchain: effects: 14 HoldTooLarge`, with the number and name of the fault.
-pub fn tell_effects<M: ByteOut>(telling: &mut Telling, messages: &mut M, fault: &str)
-    ensures { TellsMore M.writes telling.old.has_failed telling.new.has_failed messages.old messages.new (effects_message fault.now) }
+pub fn tell_effects<M: ByteOut>(telling: &mut Telling<M>, fault: &str)
+    ensures { Says M.writes telling.old telling.new (effects_message fault.now) }
 {
-    telling.note(messages, "soxchain: effects: ", fault);
+    telling.note("soxchain: effects: ", fault);
 }
 
 /// `soxchain: input: 3 Truncated`, with the number and name of the fault.
-pub fn tell_input<M: ByteOut>(telling: &mut Telling, messages: &mut M, fault: &str)
-    ensures { TellsMore M.writes telling.old.has_failed telling.new.has_failed messages.old messages.new (input_message fault.now) }
+pub fn tell_input<M: ByteOut>(telling: &mut Telling<M>, fault: &str)
+    ensures { Says M.writes telling.old telling.new (input_message fault.now) }
 {
-    telling.note(messages, "soxchain: input: ", fault);
+    telling.note("soxchain: input: ", fault);
 }
 
 /// `soxchain: run: 1 ReadFailed after frames 5`, with the number and name of the fault and the frames that were read.
-pub fn tell_run<M: ByteOut>(telling: &mut Telling, messages: &mut M, fault: &str, frames: u64)
-    ensures { TellsMore M.writes telling.old.has_failed telling.new.has_failed messages.old messages.new (run_message fault.now frames) }
+pub fn tell_run<M: ByteOut>(telling: &mut Telling<M>, fault: &str, frames: u64)
+    ensures { Says M.writes telling.old telling.new (run_message fault.now frames) }
 {
     let mut buffer = Buffer::new();
     telling.sentence(
-        messages,
         "soxchain: run: ",
         fault,
         " after frames ",
@@ -76,15 +73,14 @@ pub fn tell_run<M: ByteOut>(telling: &mut Telling, messages: &mut M, fault: &str
 }
 
 /// `soxchain: warning: input: missing bytes 3`, with what is counted and how often; nothing where that is 0.
-pub fn tell_warning<M: ByteOut>(telling: &mut Telling, messages: &mut M, counted: &str, count: u64)
-    ensures { TellsMore M.writes telling.old.has_failed telling.new.has_failed messages.old messages.new (warning counted.now count) }
+pub fn tell_warning<M: ByteOut>(telling: &mut Telling<M>, counted: &str, count: u64)
+    ensures { Says M.writes telling.old telling.new (warning counted.now count) }
 {
     if count == 0 {
         return;
     }
     let mut buffer = Buffer::new();
     telling.sentence(
-        messages,
         "soxchain: warning: ",
         counted,
         " ",
@@ -107,10 +103,10 @@ pub fn label_of_line(fault: LineFault) -> &'static str
 }
 
 /// `soxchain: chain: no memory`.
-pub fn tell_chain<M: ByteOut>(telling: &mut Telling, messages: &mut M)
-    ensures { TellsMore M.writes telling.old.has_failed telling.new.has_failed messages.old messages.new chain_message }
+pub fn tell_chain<M: ByteOut>(telling: &mut Telling<M>)
+    ensures { Says M.writes telling.old telling.new chain_message }
 {
-    telling.note(messages, "soxchain: chain: ", "no memory");
+    telling.note("soxchain: chain: ", "no memory");
 }
 
 // Number and name of what is wrong with a head.
@@ -188,39 +184,36 @@ fn told_word(line: &CommandLine, number: usize, place: usize) -> &str
 
 /// The message on effects that are refused.
 pub fn tell_plan<M: ByteOut>(
-    telling: &mut Telling,
-    messages: &mut M,
+    telling: &mut Telling<M>,
     line: &CommandLine,
     fault: PlanFault,
 )
-    ensures { TellsMore M.writes telling.old.has_failed telling.new.has_failed messages.old messages.new (plan_message (effects_in line.now) fault) }
+    ensures { Says M.writes telling.old telling.new (plan_message (effects_in line.now) fault) }
 {
     let label = label_of_plan(fault.cause);
     if is_of_all(fault.cause) {
-        tell_effects(telling, messages, label);
+        tell_effects(telling, label);
         return;
     }
     let name = told_word(line, fault.effect, 1);
     let word = told_word(line, fault.effect, fault.word);
-    tell_effect(telling, messages, fault.effect, name, label, word);
+    tell_effect(telling, fault.effect, name, label, word);
 }
 
 /// `soxchain: warning: effect 1 vol: clipped samples 2`, with the effect's number and name; nothing where the count is 0.
 pub fn tell_effect_warning<M: ByteOut>(
-    telling: &mut Telling,
-    messages: &mut M,
+    telling: &mut Telling<M>,
     number: usize,
     name: &str,
     count: u64,
 )
-    ensures { TellsMore M.writes telling.old.has_failed telling.new.has_failed messages.old messages.new (effect_warning number name.now count) }
+    ensures { Says M.writes telling.old telling.new (effect_warning number name.now count) }
 {
     if count == 0 {
         return;
     }
     let mut buffer = Buffer::new();
     telling.sentence(
-        messages,
         "soxchain: warning: effect ",
         buffer.format(number as u64),
         " ",
@@ -228,74 +221,65 @@ pub fn tell_effect_warning<M: ByteOut>(
         ": clipped samples ",
     );
     let mut digits = Buffer::new();
-    telling.text(messages, digits.format(count));
-    telling.text(messages, "\n");
+    telling.text(digits.format(count));
+    telling.text("\n");
 }
 
 /// The warnings of the effects, first to last.
 fn tell_effect_warnings<M: ByteOut>(
-    telling: &mut Telling,
-    messages: &mut M,
+    telling: &mut Telling<M>,
     line: &CommandLine,
     clips: &[u64; MOST_EFFECTS],
 )
-    ensures { TellsMore M.writes telling.old.has_failed telling.new.has_failed messages.old messages.new (effect_warnings (effects_in line.now) clips.now (min (length (effects_in line.now)) 32)) }
+    ensures { Says M.writes telling.old telling.new (effect_warnings (effects_in line.now) clips.now (min (length (effects_in line.now)) 32)) }
 {
     let count = line.effect_count().min(MOST_EFFECTS);
     let mut place = 0;
     while place < count {
         let name = told_word(line, place + 1, 1);
-        tell_effect_warning(telling, messages, place + 1, name, clips[place]);
+        tell_effect_warning(telling, place + 1, name, clips[place]);
         place += 1;
     }
 }
 
 /// The warnings of a run.
 pub fn tell_warnings<M: ByteOut>(
-    telling: &mut Telling,
-    messages: &mut M,
+    telling: &mut Telling<M>,
     line: &CommandLine,
     report: &Report,
 )
-    ensures { TellsMore M.writes telling.old.has_failed telling.new.has_failed messages.old messages.new (warnings line.now report.now) }
+    ensures { Says M.writes telling.old telling.new (warnings line.now report.now) }
 {
-    tell_warning(telling, messages, "input: missing bytes", report.missing);
-    tell_warning(telling, messages, "input: stray bytes", report.stray);
-    tell_effect_warnings(telling, messages, line, &report.clips);
-    tell_warning(
-        telling,
-        messages,
-        "output: clipped samples",
-        report.out_clips,
-    );
+    tell_warning(telling, "input: missing bytes", report.missing);
+    tell_warning(telling, "input: stray bytes", report.stray);
+    tell_effect_warnings(telling, line, &report.clips);
+    tell_warning(telling, "output: clipped samples", report.out_clips);
 }
 
 /// The message on what is refused before the run.
 pub fn tell_refusal<M: ByteOut>(
-    telling: &mut Telling,
-    messages: &mut M,
+    telling: &mut Telling<M>,
     line: &CommandLine,
     refusal: &Refusal,
 )
-    ensures { TellsMore M.writes telling.old.has_failed telling.new.has_failed messages.old messages.new (refusal_message line.now refusal.now) }
+    ensures { Says M.writes telling.old telling.new (refusal_message line.now refusal.now) }
 {
     match refusal {
-        Refusal::Head(fault) => tell_input(telling, messages, label_of_head(*fault)),
-        Refusal::Plan(fault) => tell_plan(telling, messages, line, *fault),
-        Refusal::Chain => tell_chain(telling, messages),
+        Refusal::Head(fault) => tell_input(telling, label_of_head(*fault)),
+        Refusal::Plan(fault) => tell_plan(telling, line, *fault),
+        Refusal::Chain => tell_chain(telling),
     }
 }
 
 /// The messages on a run that stopped, behind its warnings.
 pub fn tell_fault<M: ByteOut>(
-    telling: &mut Telling,
-    messages: &mut M,
+    telling: &mut Telling<M>,
     line: &CommandLine,
     fault: &RunFault,
 )
-    ensures { TellsMore M.writes telling.old.has_failed telling.new.has_failed messages.old messages.new (warnings line.now (report_at fault.now) ++ run_message (run_label fault.now) (report_at fault.now).frames_in) }
+    ensures { Says M.writes telling.old telling.new (warnings line.now (report_at fault.now) ++ run_message (run_label fault.now) (report_at fault.now).frames_in) }
 {
     let report = fault.report();
-    tell_warnings(telling, messages, line, &report);
-    tell_run(telling, messages, label_of_run(fault), report.frames_in);
+    tell_warnings(telling, line, &report);
+    tell_run(telling, label_of_run(fault), report.frames_in);
 }

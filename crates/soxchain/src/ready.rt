@@ -59,8 +59,8 @@ pub fn prepare_for<R: ByteIn, M: ByteOut>(
     match prepare_line(alloc, line, files, source) {
         Ok(prepared) => Ok(prepared),
         Err(refusal) => {
-            let mut telling = Telling::new();
-            tell_refusal(&mut telling, messages, line, &refusal);
+            let mut telling = Telling::new(messages);
+            tell_refusal(&mut telling, line, &refusal);
             Err(refusal.status())
         }
     }
@@ -71,8 +71,8 @@ pub fn refuse_line<M: ByteOut>(fault: LineFault, messages: &mut M) -> u8
     ensures status { result ≡ status_of_line fault }
     ensures told { Tells M.writes messages.old messages.new (line_message (line_label fault)) }
 {
-    let mut telling = Telling::new();
-    tell_line(&mut telling, messages, label_of_line(fault));
+    let mut telling = Telling::new(messages);
+    tell_line(&mut telling, label_of_line(fault));
     status_of_fault(fault)
 }
 
@@ -121,15 +121,15 @@ pub fn finish_for<R: ByteIn, W: ByteOut, M: ByteOut>(
     requires { IsNewChain (planning prepared.plan) prepared.chain }
     ensures { Finished R.reads W.writes (record { line = line.now; prepared = prepared }) source.old source.new output.old output.new (Tells M.writes messages.old messages.new) result.0 result.1 }
 {
-    let mut telling = Telling::new();
+    let mut telling = Telling::new(messages);
     let Prepared { plan, mut chain } = prepared;
     match run(&mut chain, &plan, source, output) {
         Ok(report) => {
-            tell_warnings(&mut telling, messages, line, &report);
+            tell_warnings(&mut telling, line, &report);
             (0, report)
         }
         Err(fault) => {
-            tell_fault(&mut telling, messages, line, &fault);
+            tell_fault(&mut telling, line, &fault);
             (2, fault.report())
         }
     }

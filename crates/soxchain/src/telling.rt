@@ -1,62 +1,59 @@
 //! Messages on their way to a writer that may fail.
-ghost use Rattle.std.specs.Prelude.{◌≡◌, ℕ, ◌++◌, ◌^◌, ◌<◌, Bool, false, MatchBool, length};
+ghost use Rattle.std.specs.Prelude.{◌≡◌, ℕ, ◌++◌, ◌^◌, ◌<◌, Bool, MatchBool, length};
 ghost use Rattle.std.specs.Io.KnownBytes.{Appends};
 ghost use Rattle.soxchain.specs.Messages.{line_feed};
-ghost use Rattle.soxchain.specs.Telling.{ToldFront, TellsMore};
+ghost use Rattle.soxchain.specs.Saying.{Begins, Says};
+ghost use Rattle.soxchain.specs.Telling.{ToldFront};
 
 use fx_frame::{ByteOut, Failed};
 
-/// Whether the writer of messages has failed. After that nothing more is written to it.
+/// The writer of messages, and whether it has failed. After that nothing more is written to it.
 #[derive(Drop)]
-pub struct Telling {
+pub struct Telling<'a, M> {
+    pub messages: &'a mut M,
     pub has_failed: bool,
 }
 
-impl Telling {
+impl<'a, M: ByteOut> Telling<'a, M> {
     /// Before the first message.
-    pub fn new() -> Telling
-        ensures { result.has_failed ≡ false }
+    pub fn new(messages: &'a mut M) -> Telling<'a, M>
+        ensures { Begins messages.entry result }
     {
-        Telling { has_failed: false }
+        Telling {
+            messages,
+            has_failed: false,
+        }
     }
 
     /// Writes a text behind what was told, unless the writer has failed.
-    pub fn text<M: ByteOut>(&mut self, messages: &mut M, text: &str)
-        ensures { TellsMore M.writes self.old.has_failed self.new.has_failed messages.old messages.new text.now }
+    pub fn text(&mut self, text: &str)
+        ensures { Says M.writes self.old self.new text.now }
     {
         if self.has_failed {
             return;
         }
-        let is_whole = hand(messages, text.as_bytes());
+        let is_whole = hand(self.messages, text.as_bytes());
         self.has_failed = !is_whole;
     }
 
     /// Writes what a line is about, what it says of that, and the end of the line.
-    pub fn note<M: ByteOut>(&mut self, messages: &mut M, subject: &str, what: &str)
-        ensures { TellsMore M.writes self.old.has_failed self.new.has_failed messages.old messages.new (subject.now ++ what.now ++ line_feed) }
+    pub fn note(&mut self, subject: &str, what: &str)
+        ensures { Says M.writes self.old self.new (subject.now ++ what.now ++ line_feed) }
     {
-        self.text(messages, subject);
-        self.text(messages, what);
-        self.text(messages, "\n");
+        self.text(subject);
+        self.text(what);
+        self.text("\n");
     }
 
     /// Writes five texts, one behind the other.
-    pub fn sentence<M: ByteOut>(
-        &mut self,
-        messages: &mut M,
-        subject: &str,
-        label: &str,
-        link: &str,
-        value: &str,
-        end: &str,
-    )
-        ensures { TellsMore M.writes self.old.has_failed self.new.has_failed messages.old messages.new (subject.now ++ label.now ++ link.now ++ value.now ++ end.now) }
+    pub fn sentence(&mut self, subject: &str, label: &str, link: &str, value: &str, end: &str)
+        ensures { Says M.writes self.old self.new (subject.now ++ label.now ++ link.now ++ value.now ++ end.now) }
     {
-        self.text(messages, subject);
-        self.text(messages, label);
-        self.text(messages, link);
-        self.text(messages, value);
-        self.text(messages, end);
+        self.text(subject);
+        self.text(label);
+        self.text(link);
+        self.text(value);
+        self.text(end);
     }
 }
 

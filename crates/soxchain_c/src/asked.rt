@@ -49,8 +49,8 @@ pub fn read_asked(
 fn tell_refused<M: ByteOut>(messages: &mut M, fault: LineFault)
     ensures { Tells M.writes messages.old messages.new (line_message (line_label fault)) }
 {
-    let mut telling = Telling::new();
-    tell_line(&mut telling, messages, label_of_line(fault));
+    let mut telling = Telling::new(messages);
+    tell_line(&mut telling, label_of_line(fault));
 }
 
 /// The status of words and files that cannot be read, and a message: a word that is not UTF-8 and want of memory are told as the

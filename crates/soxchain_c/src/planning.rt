@@ -116,18 +116,18 @@ pub fn make_stream<M: ByteOut>(
     ensures silent { OnOk result (messages.new ≡ messages.old) }
     ensures refused { IfErr result (RefusesStream (stream_line (texts words.now)) (bytes_of files.now) head.now (Tells M.writes messages.old messages.new)) }
 {
-    let mut telling = Telling::new();
+    let mut telling = Telling::new(messages);
     let line = match read_words_of(alloc, words) {
         Ok(line) => line,
         Err(fault) => {
-            tell_line(&mut telling, messages, label_of_line(fault));
+            tell_line(&mut telling, label_of_line(fault));
             return Err(status_of_fault(fault));
         }
     };
     match stream_of(alloc, &line, head, files) {
         Ok(stream) => Ok(stream),
         Err(refusal) => {
-            tell_refusal(&mut telling, messages, &line, &refusal);
+            tell_refusal(&mut telling, &line, &refusal);
             Err(refusal.status())
         }
     }

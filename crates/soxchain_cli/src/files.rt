@@ -26,8 +26,8 @@ pub fn cannot_open<M: ByteOut>(messages: &mut M, name: &str) -> u8
     ensures status { result ≡ 2 }
     ensures told { Tells M.writes messages.old messages.new (open_message name.now) }
 {
-    let mut telling = Telling::new();
-    tell_cannot_open(&mut telling, messages, name);
+    let mut telling = Telling::new(messages);
+    tell_cannot_open(&mut telling, name);
     2
 }
 
@@ -36,8 +36,8 @@ fn cannot_rewrite<M: ByteOut>(messages: &mut M, name: &str) -> u8
     ensures status { result ≡ 2 }
     ensures told { Tells M.writes messages.old messages.new (rewrite_message name.now) }
 {
-    let mut telling = Telling::new();
-    tell_cannot_rewrite(&mut telling, messages, name);
+    let mut telling = Telling::new(messages);
+    tell_cannot_rewrite(&mut telling, name);
     2
 }
 

@@ -19,7 +19,7 @@ use fx_sound::Head;
 use help::HELP;
 use outline::{Outline, outline_of};
 use reading::head_of;
-use soxchain::inner::Refusal;
+use soxchain::inner::{Refusal, Telling};
 use soxchain_about::{VERSION, answer_to, show};
 use soxchain_words::{FilesFault, fault_of, read_files, words_of};
 use std::io;
@@ -42,7 +42,8 @@ fn stopped(rt: &HostRuntime, style: Style, stop: &Stop<'_>) -> u8 {
         return status;
     }
     let mut message = Counted::new(Vec::new(rt.alloc()));
-    stop.tell_message(&mut message);
+    let mut telling = Telling::new(&mut message);
+    stop.tell_message(&mut telling);
     match quoting::show_stop(
         &mut rt.stdout(),
         status,

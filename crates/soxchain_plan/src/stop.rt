@@ -1,6 +1,6 @@
 //! Why there is no plan: the message of soxchain and its status, and what to do.
 ghost use Rattle.std.specs.Prelude.{◌≡◌};
-ghost use Rattle.soxchain.specs.Telling.{Tells};
+ghost use Rattle.soxchain.specs.Saying.{Says};
 ghost use Rattle.soxchain_plan.specs.Stops.{message_of, status_of};
 
 use crate::advice::{
@@ -61,14 +61,13 @@ impl Stop<'_> {
     }
 
     /// Tells the message of soxchain.
-    pub fn tell_message<M: ByteOut>(&self, messages: &mut M)
-        ensures { Tells M.writes messages.old messages.new (message_of self.now) }
+    pub fn tell_message<M: ByteOut>(&self, telling: &mut Telling<M>)
+        ensures { Says M.writes telling.old telling.new (message_of self.now) }
     {
-        let mut telling = Telling::new();
         match self {
-            Stop::Line(fault) => tell_line(&mut telling, messages, label_of_line(*fault)),
-            Stop::CannotOpen(name) => tell_cannot_open(&mut telling, messages, name),
-            Stop::Refused(line, refusal) => tell_refusal(&mut telling, messages, line, refusal),
+            Stop::Line(fault) => tell_line(telling, label_of_line(*fault)),
+            Stop::CannotOpen(name) => tell_cannot_open(telling, name),
+            Stop::Refused(line, refusal) => tell_refusal(telling, line, refusal),
         }
     }
 
@@ -76,11 +75,9 @@ impl Stop<'_> {
     pub fn tell<M: ByteOut>(&self, messages: &mut M) -> u8
         ensures { result ≡ status_of self.now }
     {
-        self.tell_message(messages);
-        let mut telling = Telling::new();
-        telling.text(messages, "soxchain-plan: ");
-        telling.text(messages, self.advice());
-        telling.text(messages, "\n");
+        let mut telling = Telling::new(messages);
+        self.tell_message(&mut telling);
+        telling.note("soxchain-plan: ", self.advice());
         self.status()
     }
 }

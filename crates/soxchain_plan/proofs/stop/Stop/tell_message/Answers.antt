@@ -1,11 +1,10 @@
-use Rattle.soxchain.proofs.TellingLemmas.{Tells-first}
 use Rattle.soxchain_plan.proofs.stop.Stop.tell_message.Goals as goal
 
 pub returns-in-Line : goal.returns-in-Line
-returns-in-Line g c = rw c.in-Line.is (Tells-first g.M.ByteOut.writes _ _ _ _ _ c.new-telling.ensures (rw (c.label_of_line.ensures) at c.tell_line.ensures))
+returns-in-Line g c = rw c.in-Line.is (rw (c.label_of_line.ensures) at c.tell_line.ensures)
 
 pub returns-in-CannotOpen : goal.returns-in-CannotOpen
-returns-in-CannotOpen g c = rw c.in-CannotOpen.is (Tells-first g.M.ByteOut.writes _ _ _ _ _ c.new-telling.ensures c.tell_cannot_open.ensures)
+returns-in-CannotOpen g c = rw c.in-CannotOpen.is c.tell_cannot_open.ensures
 
 pub returns-in-Refused : goal.returns-in-Refused
-returns-in-Refused g c = rw c.in-Refused.is (Tells-first g.M.ByteOut.writes _ _ _ _ _ c.new-telling.ensures c.tell_refusal.ensures)
+returns-in-Refused g c = rw c.in-Refused.is c.tell_refusal.ensures
