@@ -183,11 +183,7 @@ fn told_word(line: &CommandLine, number: usize, place: usize) -> &str
 }
 
 /// The message on effects that are refused.
-pub fn tell_plan<M: ByteOut>(
-    telling: &mut Telling<M>,
-    line: &CommandLine,
-    fault: PlanFault,
-)
+pub fn tell_plan<M: ByteOut>(telling: &mut Telling<M>, line: &CommandLine, fault: PlanFault)
     ensures { Says M.writes telling.old telling.new (plan_message (effects_in line.now) fault) }
 {
     let label = label_of_plan(fault.cause);
@@ -243,11 +239,7 @@ fn tell_effect_warnings<M: ByteOut>(
 }
 
 /// The warnings of a run.
-pub fn tell_warnings<M: ByteOut>(
-    telling: &mut Telling<M>,
-    line: &CommandLine,
-    report: &Report,
-)
+pub fn tell_warnings<M: ByteOut>(telling: &mut Telling<M>, line: &CommandLine, report: &Report)
     ensures { Says M.writes telling.old telling.new (warnings line.now report.now) }
 {
     tell_warning(telling, "input: missing bytes", report.missing);
@@ -257,11 +249,7 @@ pub fn tell_warnings<M: ByteOut>(
 }
 
 /// The message on what is refused before the run.
-pub fn tell_refusal<M: ByteOut>(
-    telling: &mut Telling<M>,
-    line: &CommandLine,
-    refusal: &Refusal,
-)
+pub fn tell_refusal<M: ByteOut>(telling: &mut Telling<M>, line: &CommandLine, refusal: &Refusal)
     ensures { Says M.writes telling.old telling.new (refusal_message line.now refusal.now) }
 {
     match refusal {
@@ -272,11 +260,7 @@ pub fn tell_refusal<M: ByteOut>(
 }
 
 /// The messages on a run that stopped, behind its warnings.
-pub fn tell_fault<M: ByteOut>(
-    telling: &mut Telling<M>,
-    line: &CommandLine,
-    fault: &RunFault,
-)
+pub fn tell_fault<M: ByteOut>(telling: &mut Telling<M>, line: &CommandLine, fault: &RunFault)
     ensures { Says M.writes telling.old telling.new (warnings line.now (report_at fault.now) ++ run_message (run_label fault.now) (report_at fault.now).frames_in) }
 {
     let report = fault.report();
