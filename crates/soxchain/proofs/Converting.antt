@@ -6,7 +6,8 @@ use Rattle.fx_line.specs.Line.{Said}
 use Rattle.fx_plan.specs.CommandLines.{LineReads}
 use Rattle.std.specs.Io.KnownBytes.{prepend_known}
 use mathlib.Core.Path.{ap₂}
-use Rattle.fx_frame.specs.Io.{saturated}
+use Rattle.fx_chain.specs.declared.report.Report.{Report}
+use Rattle.fx_frame.specs.Io.{ByteReader, ByteWriter, saturated}
 use Rattle.fx_sound.specs.declared.head.HeadFault.{HeadFault}
 use Rattle.fx_sound.specs.declared.head.HeadFault.TheVariants.{ReadFailed, UnknownType, Truncated, BadHeader, NotInProfile, TooManyChannels, HeadTooLong}
 use Rattle.fx_sound.specs.Layout.{is_read_failure}
@@ -24,7 +25,11 @@ use Rattle.fx_stages.specs.Effects.{effect_acts}
 use Rattle.fx_sound.specs.Sound.{Reading, at_most_announced, size_of}
 use Rattle.fx_sound.specs.Source.{Held, Takes, to_come}
 use Rattle.soxchain.specs.declared.preparing.Refusal.TheVariants.{Head}
+use Rattle.soxchain.specs.declared.prepared.Ready.{Ready}
+use Rattle.soxchain.specs.Finishing.{Finished, run_messages}
+use Rattle.soxchain.specs.Messages.{refusal_message}
 use Rattle.soxchain.specs.Preparing.{RefusalHasCause}
+use Rattle.soxchain.specs.Readying.{Unready}
 
 -- a new source holds nothing
 pub held-is : {R : Type 0} (s : Held R) (reader : R) → s.bytes ≡ [] → s.reader ≡ reader → s ≡ record { bytes = []; reader = reader }
@@ -87,4 +92,34 @@ ReadFirst-new told p c is at old new n given before = record {
   due = rw (← kinds-new p c is) before.due;
   not_enough = rw (← kinds-new p c is) before.not_enough;
   read_failed = before.read_failed;
+}
+
+-- what is refused, told by another measure
+pub Unready-told : {R : Type 0} (reads : ByteReader R) (line : Said) (files : List (List ℕ)) (old new : Held R) (IsSaid IsTold : List ℕ → Type 0) (status : ℕ)
+    → ((text : List ℕ) → IsSaid text → IsTold text) → Unready reads line files old new IsSaid status → Unready reads line files old new IsTold status
+Unready-told reads line files old new IsSaid IsTold status move u = record {
+  refusal = u.refusal;
+  head_refused = u.head_refused;
+  head_cut = u.head_cut;
+  plan_refused = u.plan_refused;
+  chain_refused = u.chain_refused;
+  cause = u.cause;
+  status_is = u.status_is;
+  told = move (refusal_message line u.refusal) u.told;
+}
+
+-- what a run came to, told by another measure
+pub Finished-told : {R W : Type 0} (reads : ByteReader R) (writes : ByteWriter W) (ready : Ready) (source new_source : Held R) (writer new_writer : W) (IsSaid IsTold : List ℕ → Type 0) (status : ℕ) (report : Report)
+    → ((text : List ℕ) → IsSaid text → IsTold text) → Finished reads writes ready source new_source writer new_writer IsSaid status report → Finished reads writes ready source new_source writer new_writer IsTold status report
+Finished-told reads writes ready source new_source writer new_writer IsSaid IsTold status report move f = record {
+  outcome = f.outcome;
+  ran = f.ran;
+  all_flushed = f.all_flushed;
+  read_failed = f.read_failed;
+  wants = f.wants;
+  work = f.work;
+  causes = f.causes;
+  status_is = f.status_is;
+  report_is = f.report_is;
+  told_is = move (run_messages ready.line f.outcome) f.told_is;
 }

@@ -13,6 +13,7 @@ ghost use Rattle.soxchain.specs.Finishing.{Finished};
 ghost use Rattle.soxchain.specs.Messages.{line_label, line_message};
 ghost use Rattle.soxchain.specs.Program.{status_of_line};
 ghost use Rattle.soxchain.specs.Readying.{LineRefused, LineUnready, Unready};
+ghost use Rattle.soxchain.specs.Saying.{Says};
 ghost use Rattle.soxchain.specs.Telling.{Tells};
 
 use crate::messages::{label_of_line, tell_fault, tell_line, tell_refusal, tell_warnings};
@@ -43,7 +44,7 @@ pub fn prepare_for<R: ByteIn, M: ByteOut>(
     line: &CommandLine,
     files: &[Vec<u8>],
     source: &mut Source<R>,
-    messages: &mut M,
+    telling: &mut Telling<M>,
 ) -> Result<Prepared, u8>
     // The head, the plan and its chain, and no message.
     ensures head { IfOk result (λ p. IfKnown (to_come R.reads.rest source.old) (λ bytes. ReadsHead R.reads.rest R.reads.told line.now.input_kind bytes source.old source.new p.plan.head)) }
@@ -51,28 +52,26 @@ pub fn prepare_for<R: ByteIn, M: ByteOut>(
     ensures planned { IfOk result (λ p. planning p.plan ≡ planning_in p.plan.head line.now (bytes_of files.now)) }
     ensures chain { IfOk result (λ p. IsNewChain (planning p.plan) p.chain) }
     ensures unfailed { OnOk result (R.reads.failures source.new.reader ≡ R.reads.failures source.old.reader) }
-    ensures silent { OnOk result (messages.new ≡ messages.old) }
+    ensures silent { OnOk result (telling.new ≡ telling.old) }
 
     // What the line asks for is refused.
-    ensures refused { IfErr result (λ status. Unready R.reads line.now (bytes_of files.now) source.old source.new (Tells M.writes messages.old messages.new) status) }
+    ensures refused { IfErr result (λ status. Unready R.reads line.now (bytes_of files.now) source.old source.new (Says M.writes telling.old telling.new) status) }
 {
     match prepare_line(alloc, line, files, source) {
         Ok(prepared) => Ok(prepared),
         Err(refusal) => {
-            let mut telling = Telling::new(messages);
-            tell_refusal(&mut telling, line, &refusal);
+            tell_refusal(telling, line, &refusal);
             Err(refusal.status())
         }
     }
 }
 
 /// Says in one message why a command line is refused, and answers the status.
-pub fn refuse_line<M: ByteOut>(fault: LineFault, messages: &mut M) -> u8
+pub fn refuse_line<M: ByteOut>(fault: LineFault, telling: &mut Telling<M>) -> u8
     ensures status { result ≡ status_of_line fault }
-    ensures told { Tells M.writes messages.old messages.new (line_message (line_label fault)) }
+    ensures told { Says M.writes telling.old telling.new (line_message (line_label fault)) }
 {
-    let mut telling = Telling::new(messages);
-    tell_line(&mut telling, label_of_line(fault));
+    tell_line(telling, label_of_line(fault));
     status_of_fault(fault)
 }
 
@@ -100,11 +99,12 @@ pub fn prepare<R: ByteIn, M: ByteOut>(
         LineRefused (texts words.now) source.old source.new (Tells M.writes messages.old messages.new) status
         ⊎ LineUnready R.reads (texts words.now) (bytes_of files.now) source.old source.new (Tells M.writes messages.old messages.new) status) }
 {
+    let mut telling = Telling::new(messages);
     let line = match parse_line(alloc, words) {
         Ok(line) => line,
-        Err(fault) => return Err(refuse_line(fault, messages)),
+        Err(fault) => return Err(refuse_line(fault, &mut telling)),
     };
-    match prepare_for(alloc, &line, files, source, messages) {
+    match prepare_for(alloc, &line, files, source, &mut telling) {
         Ok(prepared) => Ok(Ready { line, prepared }),
         Err(status) => Err(status),
     }
@@ -116,20 +116,19 @@ pub fn finish_for<R: ByteIn, W: ByteOut, M: ByteOut>(
     prepared: Prepared,
     source: &mut Source<R>,
     output: &mut W,
-    messages: &mut M,
+    telling: &mut Telling<M>,
 ) -> (u8, Report)
     requires { IsNewChain (planning prepared.plan) prepared.chain }
-    ensures { Finished R.reads W.writes (record { line = line.now; prepared = prepared }) source.old source.new output.old output.new (Tells M.writes messages.old messages.new) result.0 result.1 }
+    ensures { Finished R.reads W.writes (record { line = line.now; prepared = prepared }) source.old source.new output.old output.new (Says M.writes telling.old telling.new) result.0 result.1 }
 {
-    let mut telling = Telling::new(messages);
     let Prepared { plan, mut chain } = prepared;
     match run(&mut chain, &plan, source, output) {
         Ok(report) => {
-            tell_warnings(&mut telling, line, &report);
+            tell_warnings(telling, line, &report);
             (0, report)
         }
         Err(fault) => {
-            tell_fault(&mut telling, line, &fault);
+            tell_fault(telling, line, &fault);
             (2, fault.report())
         }
     }
@@ -147,5 +146,6 @@ pub fn finish<R: ByteIn, W: ByteOut, M: ByteOut>(
     ensures { Finished R.reads W.writes ready source.old source.new output.old output.new (Tells M.writes messages.old messages.new) result.0 result.1 }
 {
     let Ready { line, prepared } = ready;
-    finish_for(&line, prepared, source, output, messages)
+    let mut telling = Telling::new(messages);
+    finish_for(&line, prepared, source, output, &mut telling)
 }

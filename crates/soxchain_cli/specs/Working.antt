@@ -24,7 +24,8 @@ use Rattle.soxchain.specs.Finishing.{Finished}
 use Rattle.soxchain.specs.Messages.{line_label, line_message}
 use Rattle.soxchain.specs.Program.{status_of_line}
 use Rattle.soxchain.specs.Readying.{Unready}
-use Rattle.soxchain.specs.Telling.{Tells}
+use Rattle.soxchain.specs.declared.telling.Telling.{Telling}
+use Rattle.soxchain.specs.Saying.{Says}
 use Rattle.soxchain_cli.specs.Named.{Files}
 use Rattle.soxchain_words.specs.Files.{AreFronts, IsNamed}
 
@@ -71,22 +72,22 @@ ready_for line prepared = record { line = line; prepared = prepared }
 module _ {I R O F M : Type 0} (d : Devices I R O F) (m : Machine I O F) (writes : ByteWriter M) where
   -- What becomes of a sound: nothing was ready for it; or OUT could not be created; or it ran to standard output, or into the new
   -- file of OUT's own name.
-  pub data Sounds {X : Type 0} (reads : ByteReader X) (line : Said) (files : List (List ℕ)) (reader : X) (old new : M) (status : ℕ) : Type 0 where
+  pub data Sounds {X : Type 0} (reads : ByteReader X) (line : Said) (files : List (List ℕ)) (reader : X) (old new : Telling M) (status : ℕ) : Type 0 where
     Refused : (source : Held X)
-        → Unready reads line files (record { bytes = []; reader = reader }) source (Tells writes old new) status
+        → Unready reads line files (record { bytes = []; reader = reader }) source (Says writes old new) status
         → Sounds reads line files reader old new status
     Uncreated : (source : Held X) (prepared : Prepared) (name : List ℕ)
         → IsPrepared reads line files reader source prepared
         → file_name line.output ≡ Some name
         → m.uncreated (file_name line.input) name
         → status ≡ 2
-        → Tells writes old new (open_message name)
+        → Says writes old new (open_message name)
         → Sounds reads line files reader old new status
     Streamed : (source left : Held X) (prepared : Prepared) (output : O) (ended : Counts O) (report : Report)
         → IsPrepared reads line files reader source prepared
         → file_name line.output ≡ None
         → m.is_output output
-        → Finished reads (counted_writes d.output) (ready_for line prepared) source left (uncounted output) ended (Tells writes old new) status report
+        → Finished reads (counted_writes d.output) (ready_for line prepared) source left (uncounted output) ended (Says writes old new) status report
         → Sounds reads line files reader old new status
     Filed : (source left : Held X) (prepared : Prepared) (name : List ℕ) (file ended : F)
         → IsPrepared reads line files reader source prepared
@@ -97,12 +98,12 @@ module _ {I R O F M : Type 0} (d : Devices I R O F) (m : Machine I O F) (writes 
 
   -- What becomes of a line whose coefficient files are there: IN could not be opened; or its sound was gone through, from standard
   -- input or from the file of IN's own name.
-  pub data Lines (o : Opened R) (line : Said) (files : List (List ℕ)) (old new : M) (status : ℕ) : Type 0 where
+  pub data Lines (o : Opened R) (line : Said) (files : List (List ℕ)) (old new : Telling M) (status : ℕ) : Type 0 where
     Unopened : (name : List ℕ)
         → file_name line.input ≡ Some name
         → o.unopened name
         → status ≡ 2
-        → Tells writes old new (open_message name)
+        → Says writes old new (open_message name)
         → Lines o line files old new status
     Standard : (input : I)
         → file_name line.input ≡ None
@@ -117,15 +118,15 @@ module _ {I R O F M : Type 0} (d : Devices I R O F) (m : Machine I O F) (writes 
 
   -- What becomes of a line: a coefficient file that it names could not be read; or there was no memory for their names; or they
   -- are there, each its own.
-  pub data Works (o : Opened R) (line : Said) (old new : M) (status : ℕ) : Type 0 where
+  pub data Works (o : Opened R) (line : Said) (old new : Telling M) (status : ℕ) : Type 0 where
     Unread : (name : List ℕ)
         → IsNamed (coefficient_files (effects_in line)) name
         → status ≡ 2
-        → Tells writes old new (open_message name)
+        → Says writes old new (open_message name)
         → Works o line old new status
     Forgotten :
         status ≡ status_of_line LineFaults.Memory
-        → Tells writes old new (line_message (line_label LineFaults.Memory))
+        → Says writes old new (line_message (line_label LineFaults.Memory))
         → Works o line old new status
     Read : (files : List (List ℕ))
         → AreFronts o.opened d.file (coefficient_files (effects_in line)) files
@@ -133,7 +134,7 @@ module _ {I R O F M : Type 0} (d : Devices I R O F) (m : Machine I O F) (writes 
         → Works o line old new status
 
   -- A text was shown on standard output, or could not be.
-  pub data IsShown (text : List ℕ) (old new : M) (status : ℕ) : Type 0 where
+  pub data IsShown (text : List ℕ) (old new : Telling M) (status : ℕ) : Type 0 where
     Whole : (output ended : O)
         → m.is_output output
         → Appends (d.output output) (d.output ended) text
@@ -142,17 +143,17 @@ module _ {I R O F M : Type 0} (d : Devices I R O F) (m : Machine I O F) (writes 
         → IsShown text old new status
     Cut :
         status ≡ 2
-        → Tells writes old new (open_message (codes "-"))
+        → Says writes old new (open_message (codes "-"))
         → IsShown text old new status
 
   -- What the program does: the words could not be had; or they ask for a text; or they are refused; or they are a line.
-  pub data Answers (o : Opened R) (answer : List (List ℕ) → Option (List ℕ)) (old new : M) (status : ℕ) : Type 0 where
+  pub data Answers (o : Opened R) (answer : List (List ℕ) → Option (List ℕ)) (old new : Telling M) (status : ℕ) : Type 0 where
     Mute : (kind : ErrorKind) (fault : LineFault)
         → m.mute kind
         → (kind ≡ ErrorKinds.OutOfMemory → fault ≡ LineFaults.Memory)
         → (kind ≢ ErrorKinds.OutOfMemory → fault ≡ LineFaults.BadOption)
         → status ≡ status_of_line fault
-        → Tells writes old new (line_message (line_label fault))
+        → Says writes old new (line_message (line_label fault))
         → Answers o answer old new status
     Shown : (words : List (List ℕ)) (text : List ℕ)
         → m.asked words
@@ -164,7 +165,7 @@ module _ {I R O F M : Type 0} (d : Devices I R O F) (m : Machine I O F) (writes 
         → answer words ≡ None
         → LineReads (line_of words) (Err fault)
         → status ≡ status_of_line fault
-        → Tells writes old new (line_message (line_label fault))
+        → Says writes old new (line_message (line_label fault))
         → Answers o answer old new status
     Worked : (words : List (List ℕ)) (line : Said)
         → m.asked words

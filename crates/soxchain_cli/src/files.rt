@@ -6,7 +6,7 @@ ghost use Rattle.fx_plan.specs.Plans.{bytes_of};
 ghost use Rattle.fx_chain.specs.declared.report.Report.{Report};
 ghost use Rattle.soxchain.specs.FileMessages.{open_message, rewrite_message};
 ghost use Rattle.soxchain.specs.Finishing.{Finished};
-ghost use Rattle.soxchain.specs.Telling.{Tells};
+ghost use Rattle.soxchain.specs.Saying.{Says};
 ghost use Rattle.soxchain_cli.specs.Heads.{true_head};
 ghost use Rattle.soxchain_cli.specs.Named.{Files, WritesOver};
 ghost use Rattle.soxchain_cli.specs.Working.{Lines, Sounds, ready_for};
@@ -22,22 +22,20 @@ use std::io;
 use std::io::{Seek, Write};
 
 /// Tells that a file cannot be opened, read or created, and answers the status.
-pub fn cannot_open<M: ByteOut>(messages: &mut M, name: &str) -> u8
+pub fn cannot_open<M: ByteOut>(telling: &mut Telling<M>, name: &str) -> u8
     ensures status { result ≡ 2 }
-    ensures told { Tells M.writes messages.old messages.new (open_message name.now) }
+    ensures told { Says M.writes telling.old telling.new (open_message name.now) }
 {
-    let mut telling = Telling::new(messages);
-    tell_cannot_open(&mut telling, name);
+    tell_cannot_open(telling, name);
     2
 }
 
 /// Tells that the head of a file cannot be written again, and answers the status.
-fn cannot_rewrite<M: ByteOut>(messages: &mut M, name: &str) -> u8
+fn cannot_rewrite<M: ByteOut>(telling: &mut Telling<M>, name: &str) -> u8
     ensures status { result ≡ 2 }
-    ensures told { Tells M.writes messages.old messages.new (rewrite_message name.now) }
+    ensures told { Says M.writes telling.old telling.new (rewrite_message name.now) }
 {
-    let mut telling = Telling::new(messages);
-    tell_cannot_rewrite(&mut telling, name);
+    tell_cannot_rewrite(telling, name);
     2
 }
 
@@ -46,20 +44,20 @@ pub fn process<H: Host, M: ByteOut>(
     host: &H,
     line: &CommandLine,
     files: &[Vec<u8>],
-    messages: &mut M,
+    telling: &mut Telling<M>,
 ) -> u8
     ensures { Lines (record { input = H.Input.remaining; file = H.Reader.remaining; output = H.Output.contents; created = H.Created.contents; position = H.Created.stream_position })
         (H.machine host.now) M.writes (record { opened = H.opened host.now; unopened = H.unopened host.now })
-        line.now (bytes_of files.now) messages.old messages.new result }
+        line.now (bytes_of files.now) telling.old telling.new result }
 {
     match line.input() {
         Stream::Standard => {
             let reader = Counted::new(host.input());
-            process_from(host, line, files, reader, messages)
+            process_from(host, line, files, reader, telling)
         }
         Stream::Named(name) => match host.open(name) {
-            Ok(file) => process_from(host, line, files, Counted::new(file), messages),
-            Err(_) => cannot_open(messages, name),
+            Ok(file) => process_from(host, line, files, Counted::new(file), telling),
+            Err(_) => cannot_open(telling, name),
         },
     }
 }
@@ -70,29 +68,29 @@ fn process_from<H: Host, R: ByteIn + Drop, M: ByteOut>(
     line: &CommandLine,
     files: &[Vec<u8>],
     reader: R,
-    messages: &mut M,
+    telling: &mut Telling<M>,
 ) -> u8
     ensures { Sounds (record { input = H.Input.remaining; file = H.Reader.remaining; output = H.Output.contents; created = H.Created.contents; position = H.Created.stream_position })
         (H.machine host.now) M.writes R.reads
-        line.now (bytes_of files.now) reader messages.old messages.new result }
+        line.now (bytes_of files.now) reader telling.old telling.new result }
 {
     let mut source = Source::new(reader);
-    let prepared = match prepare_for(host.memory(), line, files, &mut source, messages) {
+    let prepared = match prepare_for(host.memory(), line, files, &mut source, telling) {
         Ok(prepared) => prepared,
         Err(status) => return status,
     };
     match line.output() {
         Stream::Standard => {
             let mut output = Counted::new(host.output());
-            let (status, _report) = finish_for(line, prepared, &mut source, &mut output, messages);
+            let (status, _report) = finish_for(line, prepared, &mut source, &mut output, telling);
             status
         }
         Stream::Named(name) => match host.create(line.input(), name) {
             Ok(file) => {
-                let (status, _file) = process_to(line, prepared, &mut source, file, name, messages);
+                let (status, _file) = process_to(line, prepared, &mut source, file, name, telling);
                 status
             }
-            Err(_) => cannot_open(messages, name),
+            Err(_) => cannot_open(telling, name),
         },
     }
 }
@@ -103,17 +101,17 @@ fn finish_with_head<R: ByteIn, W: ByteOut, M: ByteOut>(
     prepared: Prepared,
     source: &mut Source<R>,
     output: &mut W,
-    messages: &mut M,
+    telling: &mut Telling<M>,
 ) -> (u8, HeadBytes)
     requires { IsNewChain (planning prepared.plan) prepared.chain }
     ensures { (report : Report)
-        × Finished R.reads W.writes (ready_for line.now prepared) source.old source.new output.old output.new (Tells M.writes messages.old messages.new) result.0 report
+        × Finished R.reads W.writes (ready_for line.now prepared) source.old source.new output.old output.new (Says M.writes telling.old telling.new) result.0 report
         × (result.1 ≡ true_head (planning prepared.plan) report) }
 {
     let plan = &prepared.plan;
     let (kind, coding) = (plan.kind(), plan.coding());
     let (rate, channels) = (plan.rate(), plan.channels());
-    let (status, report) = finish_for(line, prepared, source, output, messages);
+    let (status, report) = finish_for(line, prepared, source, output, telling);
     let head = head_bytes(kind, rate, channels, coding, Some(report.frames_out));
     (status, head)
 }
@@ -126,20 +124,20 @@ fn process_to<R: ByteIn, F: Write + Seek, M: ByteOut>(
     source: &mut Source<R>,
     file: F,
     name: &str,
-    messages: &mut M,
+    telling: &mut Telling<M>,
 ) -> (u8, F)
     requires { IsNewChain (planning prepared.plan) prepared.chain }
-    ensures { Files R.reads F.contents F.stream_position M.writes (ready_for line.now prepared) source.old source.new file result.1 name.now messages.old messages.new result.0 }
+    ensures { Files R.reads F.contents F.stream_position M.writes (ready_for line.now prepared) source.old source.new file result.1 name.now telling.old telling.new result.0 }
 {
     let mut output = Counted::new(file);
-    let (status, head) = finish_with_head(line, prepared, source, &mut output, messages);
+    let (status, head) = finish_with_head(line, prepared, source, &mut output, telling);
     let mut file = output.into_inner();
     if status != 0 {
         return (status, file);
     }
     match write_over(&mut file, head.as_slice()) {
         Ok(()) => (0, file),
-        Err(_) => (cannot_rewrite(messages, name), file),
+        Err(_) => (cannot_rewrite(telling, name), file),
     }
 }
 

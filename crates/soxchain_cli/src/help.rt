@@ -4,6 +4,7 @@ ghost use Rattle.soxchain_cli.specs.Working.{IsShown};
 use crate::files::cannot_open;
 use crate::host::Host;
 use fx_frame::ByteOut;
+use soxchain::inner::Telling;
 use soxchain_about::show;
 
 /// The answer to `--help`.
@@ -41,12 +42,12 @@ The manual: man soxchain
 ";
 
 /// Writes an answer to standard output, and answers the status.
-pub fn tell_answer<H: Host, M: ByteOut>(host: &H, answer: &str, messages: &mut M) -> u8
+pub fn tell_answer<H: Host, M: ByteOut>(host: &H, answer: &str, telling: &mut Telling<M>) -> u8
     ensures { IsShown (record { input = H.Input.remaining; file = H.Reader.remaining; output = H.Output.contents; created = H.Created.contents; position = H.Created.stream_position })
-        (H.machine host.now) M.writes answer.now messages.old messages.new result }
+        (H.machine host.now) M.writes answer.now telling.old telling.new result }
 {
     match show(&mut host.output(), answer) {
         Ok(()) => 0,
-        Err(_) => cannot_open(messages, "-"),
+        Err(_) => cannot_open(telling, "-"),
     }
 }

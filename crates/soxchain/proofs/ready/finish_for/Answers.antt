@@ -1,8 +1,7 @@
-use Rattle.std.proofs.Common.{refl, rules}
+use Rattle.std.proofs.Common.{refl}
 use Rattle.std.specs.Prelude.{Ok, Err}
 use Rattle.fx_chain.specs.Report.{cause_of}
 use Rattle.soxchain.proofs.Converting.{HasCause-map, ReadFirst-new, wants-new}
-use Rattle.soxchain.proofs.TellingLemmas.{Tells-said}
 use Rattle.soxchain.proofs.ready.finish_for.Goals as goal
 
 pub returns-in-Ok : goal.returns-in-Ok
@@ -16,7 +15,7 @@ returns-in-Ok g c = record {
   causes = c.in-Ok.ensures.causes;
   status_is = refl;
   report_is = refl;
-  told_is = Tells-said g.M.ByteOut.writes _ _ _ _ _ c.new-telling.ensures (search rules) c.tell_warnings.ensures;
+  told_is = c.tell_warnings.ensures;
 }
 
 pub returns : goal.returns
@@ -32,5 +31,5 @@ returns g c =
       causes = HasCause-map _ _ (ReadFirst-new g.R.ByteIn.reads.told _ _ c.requires _ _ _ _ _) (cause_of c.in-Err.fault) _ _ _ _ caused;
       status_is = refl;
       report_is = c.report.ensures;
-      told_is = Tells-said g.M.ByteOut.writes _ _ _ _ _ c.new-telling.ensures (search rules) c.tell_fault.ensures;
+      told_is = c.tell_fault.ensures;
     }

@@ -1,7 +1,6 @@
-use Rattle.std.proofs.Common.{ap, rules}
+use Rattle.std.proofs.Common.{ap}
 use Rattle.std.specs.Prelude.{Err}
 use Rattle.soxchain.specs.declared.preparing.Refusal.{Refusal}
-use Rattle.soxchain.proofs.TellingLemmas.{Tells-said}
 use Rattle.soxchain.proofs.ready.prepare_for.Goals as goal
 
 pub returns-in-Err-clause-refused : goal.returns-in-Err-clause-refused
@@ -15,5 +14,5 @@ returns-in-Err-clause-refused g c =
       chain_refused = λ e. refused.chain_refused (ap (λ (r : Refusal). Err r) e);
       cause = refused.failures;
       status_is = c.status.ensures;
-      told = Tells-said g.M.ByteOut.writes _ _ _ _ _ c.new-telling.ensures (search rules) c.tell_refusal.ensures;
+      told = c.tell_refusal.ensures;
     }
