@@ -165,20 +165,22 @@ fn run_frames<S: Feeds>(
     ensures behind { drop (result.given * widths.outputs) output.new ≡ drop (result.given * widths.outputs) output.old }
 {
     let mut places = [0; 16];
-    let mut read = 0;
-    let mut written = 0;
     let mut given = 0;
     'frames: for taken in 0..count {
-        let next = read + widths.inputs;
-        copy_samples(&input[read..next], &mut places[..widths.inputs]);
+        let read = taken * widths.inputs;
+        copy_samples(
+            &input[read..read + widths.inputs],
+            &mut places[..widths.inputs],
+        );
         let frame = frame_at(input, read, widths.inputs);
         let _samples = samples_of(&frame);
         let passage = pass_along(stages, widths.keeps, widths.inputs, &mut places);
-        read = next;
         if passage.is_given {
-            let end = written + widths.outputs;
-            copy_samples(&places[..widths.outputs], &mut output[written..end]);
-            written = end;
+            let written = given * widths.outputs;
+            copy_samples(
+                &places[..widths.outputs],
+                &mut output[written..written + widths.outputs],
+            );
             given += 1;
         }
         if passage.is_wet {

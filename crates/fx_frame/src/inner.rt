@@ -1,16 +1,12 @@
 //! What stages and codings need of frames and lines, beyond the public calls.
-ghost use Rattle.std.specs.Prelude.{◌≡◌, ◌≤◌, ◌^◌, ◌∷◌, [], take, length, IfOk, MatchOption, FitsSigned};
+ghost use Rattle.std.specs.Prelude.{◌≡◌, ◌≤◌, ◌∷◌, [], take, MatchOption, FitsSigned};
 ghost use Rattle.std.specs.Int.{w32};
 ghost use Rattle.std.specs.List.{All};
-ghost use Rattle.fx_frame.specs.Line.{IsSamples};
 ghost use Rattle.fx_frame.specs.Frame.{padded, IsFrame, IsWideFrame};
 
 use crate::frame::{Frame, MOST_CHANNELS};
 pub use crate::frame_coding::{decoded, encode};
-use crate::line::Line;
 use crate::wide::WideFrame;
-use crate::wide_line::WideLine;
-use std::alloc::{AllocError, Global};
 
 /// The frame of the first samples, one for each of 1 to 16 channels. What is beyond them does not matter.
 #[inline(always)]
@@ -111,51 +107,4 @@ pub fn narrowed(frame: &WideFrame) -> Option<Frame>
         narrow[place] = sample;
     }
     Some(frame_of(samples.len(), narrow))
-}
-
-/// A line of these frames, the oldest first; None where one of them has other channels or a sample beyond 32 bits.
-pub fn line_of(
-    alloc: Global,
-    channels: usize,
-    capacity: usize,
-    frames: &[WideFrame],
-) -> Result<Option<Line>, AllocError>
-    requires channels { (1 ≤ channels) × (channels ≤ 16) }
-    requires capacity { capacity ≤ 2 ^ 28 }
-    requires len { length frames.now ≤ capacity }
-    ensures { IfOk result (λ o. MatchOption o (¬ All (IsSamples w32 channels) frames.now) (λ l. l ≡ record { items = frames.now; capacity = capacity; channels = channels })) }
-{
-    let mut line = Line::new(alloc, channels, capacity)?;
-    'frames: for frame in frames {
-        if frame.channels() != channels {
-            return Ok(None);
-        }
-        let Some(frame) = narrowed(frame) else {
-            return Ok(None);
-        };
-        line.push(frame);
-    }
-    Ok(Some(line))
-}
-
-/// A line of these frames, the oldest first; None where one of them has other channels.
-pub fn wide_line_of(
-    alloc: Global,
-    channels: usize,
-    capacity: usize,
-    frames: &[WideFrame],
-) -> Result<Option<WideLine>, AllocError>
-    requires channels { (1 ≤ channels) × (channels ≤ 16) }
-    requires capacity { capacity ≤ 2 ^ 28 }
-    requires len { length frames.now ≤ capacity }
-    ensures { IfOk result (λ o. MatchOption o (¬ All (λ f. length f ≡ channels) frames.now) (λ l. l ≡ record { items = frames.now; capacity = capacity; channels = channels })) }
-{
-    let mut line = WideLine::new(alloc, channels, capacity)?;
-    'frames: for frame in frames {
-        if frame.channels() != channels {
-            return Ok(None);
-        }
-        line.push(*frame);
-    }
-    Ok(Some(line))
 }

@@ -181,16 +181,3 @@ fn growth_wide_line(rt: HostRuntime) -> Result<(), Fail> {
     }
     Ok(())
 }
-
-#[test]
-fn lines_of_stored_frames(rt: HostRuntime) -> Result<(), Fail> {
-    let stored = [inner::wide_one(3), inner::wide_one(-4)];
-    let line = inner::line_of(rt.alloc(), 1, 3, &stored)?.ok_or("frames of one channel")?;
-    assert_eq!(rt; line.back(0), Some(inner::one(-4)));
-    assert_eq!(rt; line.get(0), Some(inner::one(3)));
-    let wide = inner::wide_line_of(rt.alloc(), 1, 3, &stored)?.ok_or("frames of one channel")?;
-    assert_eq!(rt; wide.back(0), Some(stored[1]));
-    assert!(rt; inner::line_of(rt.alloc(), 2, 3, &stored)?.is_none());
-    assert!(rt; inner::line_of(rt.alloc(), 1, 3, &[inner::wide_one(1 << 31)])?.is_none());
-    Ok(())
-}

@@ -9,7 +9,7 @@ ghost use Rattle.fx_tap.specs.Fractions.{IsQuiet, fraction_sample};
 ghost use Rattle.fx_tap.specs.Vol.{scaled_sample, vol_acts};
 
 use crate::mapped::Mapped;
-use crate::per_sample::{PerSample, SamplesMany, Sampling, rounded_samples};
+use crate::per_sample::{PerSample, SamplesMany, Sampling, round_over, rounded_samples};
 use fx_fixed::inner::{Denominator, reduce, scale};
 use fx_fixed::{Gain, UNIT};
 use fx_frame::{ThawFault, WideFrame};
@@ -52,6 +52,18 @@ impl Fraction {
     {
         self.denominator
             .round_within(i64::from(self.weight) * i64::from(sample))
+    }
+
+    /// Writes what it makes of each sample over it, where none is clipped.
+    #[inline(always)]
+    fn round_over_within(&self, samples: &mut [i32])
+        requires within { (sample : ℤ) → FitsSigned w32 sample → (fraction_sample self.now sample).1 ≡ false }
+        ensures samples { samples.new ≡ samples_of (map (fraction_sample self.now) samples.old) }
+        ensures clips { clips_of (map (fraction_sample self.now) samples.old) ≡ 0 }
+    {
+        'samples: for place in 0..samples.len() {
+            samples[place] = self.round_within(samples[place]);
+        }
     }
 
     /// Writes what it makes of each sample, where none is clipped.
@@ -140,6 +152,18 @@ impl SamplesMany for Scale {
             }
             Some(fraction) => rounded_samples(fraction, input, output),
             None => rounded_samples(self, input, output),
+        }
+    }
+
+    #[inline(always)]
+    fn round_all(&self, samples: &mut [i32]) -> u64 {
+        match &self.fraction {
+            Some(fraction) if self.is_quiet => {
+                fraction.round_over_within(samples);
+                0
+            }
+            Some(fraction) => round_over(fraction, samples),
+            None => round_over(self, samples),
         }
     }
 }

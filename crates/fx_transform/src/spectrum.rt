@@ -68,13 +68,6 @@ impl Spectrum {
         }))
     }
 
-    /// As many as there are weights.
-    pub fn len(&self) -> usize
-        ensures { result ≡ length self.now }
-    {
-        self.weights.len()
-    }
-
     /// As `convolve`, at most as many sums as one transform gives.
     fn convolve_piece(&self, window: &[i32], sums: &mut [i64])
         requires window { length self.now + length sums.old ≤ length window.now + 1 }

@@ -121,9 +121,6 @@ fn weights_refused(rt: HostRuntime) -> Result<(), AllocError> {
         weights.resize(taps, weight)?;
         let spectrum = Spectrum::of(alloc, &weights)?;
         assert_eq!(rt; spectrum.is_some(), is_fine, "{taps} taps of {weight}");
-        if let Some(spectrum) = spectrum {
-            assert_eq!(rt; spectrum.len(), taps);
-        }
     }
     Ok(())
 }

@@ -1,4 +1,4 @@
-use Rattle.std.proofs.Common.{rules, ◌≡◌, ◌<◌, ◌≤◌, ◌∙◌, Some, get_or, length, take, sym, arith, add-one}
+use Rattle.std.proofs.Common.{rules, ◌≡◌, ◌<◌, ◌∙◌, Some, get_or, length, take, sym, arith, add-one}
 use Rattle.std.proofs.lemmas.List.{length-take-le}
 use Rattle.fx_frame.specs.Holds.{kinds}
 use Rattle.fx_flow.specs.Feed.{outputs_of}

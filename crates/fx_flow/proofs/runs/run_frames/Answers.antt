@@ -12,12 +12,12 @@ use Rattle.fx_flow.proofs.runs.run_frames.Goals.{then-passage, else-passage}
 
 pub frames-init : goal.frames-init
 frames-init g c =
+    let no-read : 0 * c.args.widths.inputs ≡ 0 = omega arith in
+    let no-written : 0 * c.args.widths.outputs ≡ 0 = omega arith in
     record {
-      runs = λ left may. Running-none g.S.Stage.acts g.met.S.Stage.rises c.args.widths.inputs c.args.widths.outputs c.args.count left c.args.stages.now c.args.input.now c.args.output.now may c.requires.held c.requires.ahead;
+      runs = λ left may. rw (no-read, no-written) (Running-none g.S.Stage.acts g.met.S.Stage.rises c.args.widths.inputs c.args.widths.outputs c.args.count left c.args.stages.now c.args.input.now c.args.output.now may c.requires.held c.requires.ahead);
       settled = c.requires.settled;
       same = refl;
-      read_is = omega arith;
-      written_is = omega arith;
       fewer = omega arith;
       small = omega arith;
       behind = refl;
@@ -31,7 +31,7 @@ pass_along-passage-requires-clause-ready g c =
       left + c.frames.taken,
       most_frames,
       few,
-      Running-ready g.S.Stage.acts g.met.S.Stage.rises c.args.widths.inputs c.args.widths.outputs c.args.count left c.args.stages.now c.args.input.now c.args.output.now c.frames.stages c.frames.output c.frames.read c.frames.written c.frames.taken c.frames.given
+      Running-ready g.S.Stage.acts g.met.S.Stage.rises c.args.widths.inputs c.args.widths.outputs c.args.count left c.args.stages.now c.args.input.now c.args.output.now c.frames.stages c.frames.output (c.frames.taken * c.args.widths.inputs) (c.frames.given * c.args.widths.outputs) c.frames.taken c.frames.given
           (c.frames.invariant.runs left may) c.frames-test.true c.frames.invariant.settled,
     )
 
@@ -42,10 +42,10 @@ returns-then-passage-2-clause-ran g c =
     let outputs : ℕ = c.args.widths.outputs in
     let outs : outputs_of inputs (kinds acts c.args.stages.now) ≡ outputs = sym c.requires.outputs in
     let outs-now : outputs_of inputs (kinds acts c.frames.stages) ≡ outputs = ap (outputs_of inputs) c.frames.invariant.same ∙ outs in
-    let n : c.frames.read + inputs - c.frames.read ≡ inputs = omega arith in
-    let m : c.frames.written + outputs - c.frames.written ≡ outputs = omega arith in
+    let n : c.frames.taken * inputs + inputs - c.frames.taken * inputs ≡ inputs = omega arith in
+    let m : c.frames.given * outputs + outputs - c.frames.given * outputs ≡ outputs = omega arith in
     let x = c.copy_samples.new.to in
-    let is : x ≡ take inputs (drop c.frames.read c.args.input.now) = rw n at c.copy_samples.ensures in
+    let is : x ≡ take inputs (drop (c.frames.taken * inputs) c.args.input.now) = rw n at c.copy_samples.ensures in
     let alike : x ≡ c.frame_at-frame.result = is ∙ sym c.frame_at-frame.ensures.frame in
     let shape : IsFrame x = rw alike c.samples-samples.ensures.frame in
     let width : length x ≡ inputs = ap length alike ∙ c.frame_at-frame.ensures.channels in
@@ -57,23 +57,23 @@ returns-then-passage-2-clause-ran g c =
     let frame = rw outs-now at (c.pass_along-passage.ensures.frame is-given) in
     let long : length (take outputs c.pass_along-passage.new.places) ≡ outputs = length-take-le outputs c.pass_along-passage.new.places (omega (arith, sixteen, frame.1)) in
     (long, omega (arith, long, frame.0)) in
-    let wrote : Wrote outputs c.pass_along-passage.result.is_given (take outputs c.pass_along-passage.new.places) c.frames.output c.if-passage.output c.frames.written c.if-passage.written c.frames.given c.if-passage.given =
+    let next-out : c.frames.given * outputs + outputs ≡ (c.frames.given + 1) * outputs = omega (arith, add-one c.frames.given, suc-mul c.frames.given outputs) in
+    let wrote : Wrote outputs c.pass_along-passage.result.is_given (take outputs c.pass_along-passage.new.places) c.frames.output c.if-passage.output (c.frames.given * outputs) (c.if-passage.given * outputs) c.frames.given c.if-passage.given =
     elim c.if-passage.branch [
-      | then-passage w ↦ inl (w.if-passage.true, put-mid c.frames.written outputs c.frames.output (take outputs c.pass_along-passage.new.places) c.if-passage.output (rw (m, w.copy_samples-then-passage.ensures) at w.output-is), w.written-is, w.given-is)
-      | else-passage w ↦ inr (w.if-passage.false, w.output-is, w.written-is, w.given-is)
+      | then-passage w ↦ inl (w.if-passage.true, put-mid (c.frames.given * outputs) outputs c.frames.output (take outputs c.pass_along-passage.new.places) c.if-passage.output (rw (m, w.copy_samples-then-passage.ensures) at w.output-is), ap (λ n. n * outputs) w.given-is ∙ sym next-out, w.given-is)
+      | else-passage w ↦ inr (w.if-passage.false, w.output-is, ap (λ n. n * outputs) w.given-is, w.given-is)
     ] in
     let some : 1 ≤ inputs = c.requires.frame.0 in
     let more : c.frames.taken < c.args.count = c.frames-test.true in
-    let one : c.frames.read + inputs ≡ (c.frames.taken + 1) * inputs = omega (arith, c.frames.invariant.read_is, add-one c.frames.taken, suc-mul c.frames.taken inputs) in
+    let one : c.frames.taken * inputs + inputs ≡ (c.frames.taken + 1) * inputs = omega (arith, add-one c.frames.taken, suc-mul c.frames.taken inputs) in
     let turns : (c.frames.taken + 1) * inputs ≤ c.args.count * inputs = mul-le-mul_right inputs (omega (arith, more)) in
-    let room : c.frames.read + inputs ≤ length c.args.input.now = omega (arith, one, turns, c.requires.input) in
-    let next-out : c.frames.written + outputs ≡ (c.frames.given + 1) * outputs = omega (arith, c.frames.invariant.written_is, add-one c.frames.given, suc-mul c.frames.given outputs) in
+    let room : c.frames.taken * inputs + inputs ≤ length c.args.input.now = omega (arith, one, turns, c.requires.input) in
     let outs-fit : (c.frames.given + 1) * outputs ≤ c.args.count * outputs = mul-le-mul_right outputs (omega (arith, more, c.frames.invariant.fewer)) in
-    let free : c.frames.written + outputs ≤ length c.frames.output = omega (arith, next-out, outs-fit, c.requires.output, c.frames.auto.output) in
-    let next : (left : ℕ) → MayRun acts inputs c.args.count c.args.stages.now left → Running acts g.met.S.Stage.rises inputs outputs c.args.count left c.args.stages.now c.args.input.now c.args.output.now c.pass_along-passage.new.stages c.if-passage.output (c.frames.read + inputs) c.if-passage.written (c.frames.taken + 1) c.if-passage.given =
-    λ left may. Running-turn acts g.met.S.Stage.rises inputs outputs c.args.count left c.args.stages.now c.args.input.now c.args.output.now c.frames.stages c.pass_along-passage.new.stages c.frames.output c.frames.read c.frames.written c.frames.taken c.frames.given x
-    (c.frames.invariant.runs left may) may.few more c.frames.invariant.settled shape width is some room c.pass_along-passage.result.is_given (take outputs c.pass_along-passage.new.places) c.if-passage.output c.if-passage.written c.if-passage.given went sides free outs wrote in
-    λ left may. Running-ran acts g.met.S.Stage.rises inputs outputs c.args.count left c.args.stages.now c.args.input.now c.args.output.now c.pass_along-passage.new.stages c.if-passage.output (c.frames.read + inputs) c.if-passage.written (c.frames.taken + 1) c.if-passage.given (next left may) (omega (arith, one, room)) outs
+    let free : c.frames.given * outputs + outputs ≤ length c.frames.output = omega (arith, next-out, outs-fit, c.requires.output, c.frames.auto.output) in
+    let next : (left : ℕ) → MayRun acts inputs c.args.count c.args.stages.now left → Running acts g.met.S.Stage.rises inputs outputs c.args.count left c.args.stages.now c.args.input.now c.args.output.now c.pass_along-passage.new.stages c.if-passage.output (c.frames.taken * inputs + inputs) (c.if-passage.given * outputs) (c.frames.taken + 1) c.if-passage.given =
+    λ left may. Running-turn acts g.met.S.Stage.rises inputs outputs c.args.count left c.args.stages.now c.args.input.now c.args.output.now c.frames.stages c.pass_along-passage.new.stages c.frames.output (c.frames.taken * inputs) (c.frames.given * outputs) c.frames.taken c.frames.given x
+    (c.frames.invariant.runs left may) may.few more c.frames.invariant.settled shape width is some room c.pass_along-passage.result.is_given (take outputs c.pass_along-passage.new.places) c.if-passage.output (c.if-passage.given * outputs) c.if-passage.given went sides free outs wrote in
+    λ left may. Running-ran acts g.met.S.Stage.rises inputs outputs c.args.count left c.args.stages.now c.args.input.now c.args.output.now c.pass_along-passage.new.stages c.if-passage.output (c.frames.taken * inputs + inputs) (c.if-passage.given * outputs) (c.frames.taken + 1) c.if-passage.given (next left may) (omega (arith, one, room)) outs
 
 pub returns-then-passage-2-clause-behind : goal.returns-then-passage-2-clause-behind
 returns-then-passage-2-clause-behind g c =
@@ -82,10 +82,10 @@ returns-then-passage-2-clause-behind g c =
     let outputs : ℕ = c.args.widths.outputs in
     let outs : outputs_of inputs (kinds acts c.args.stages.now) ≡ outputs = sym c.requires.outputs in
     let outs-now : outputs_of inputs (kinds acts c.frames.stages) ≡ outputs = ap (outputs_of inputs) c.frames.invariant.same ∙ outs in
-    let n : c.frames.read + inputs - c.frames.read ≡ inputs = omega arith in
-    let m : c.frames.written + outputs - c.frames.written ≡ outputs = omega arith in
+    let n : c.frames.taken * inputs + inputs - c.frames.taken * inputs ≡ inputs = omega arith in
+    let m : c.frames.given * outputs + outputs - c.frames.given * outputs ≡ outputs = omega arith in
     let x = c.copy_samples.new.to in
-    let is : x ≡ take inputs (drop c.frames.read c.args.input.now) = rw n at c.copy_samples.ensures in
+    let is : x ≡ take inputs (drop (c.frames.taken * inputs) c.args.input.now) = rw n at c.copy_samples.ensures in
     let alike : x ≡ c.frame_at-frame.result = is ∙ sym c.frame_at-frame.ensures.frame in
     let shape : IsFrame x = rw alike c.samples-samples.ensures.frame in
     let width : length x ≡ inputs = ap length alike ∙ c.frame_at-frame.ensures.channels in
@@ -97,22 +97,22 @@ returns-then-passage-2-clause-behind g c =
     let frame = rw outs-now at (c.pass_along-passage.ensures.frame is-given) in
     let long : length (take outputs c.pass_along-passage.new.places) ≡ outputs = length-take-le outputs c.pass_along-passage.new.places (omega (arith, sixteen, frame.1)) in
     (long, omega (arith, long, frame.0)) in
-    let wrote : Wrote outputs c.pass_along-passage.result.is_given (take outputs c.pass_along-passage.new.places) c.frames.output c.if-passage.output c.frames.written c.if-passage.written c.frames.given c.if-passage.given =
+    let next-out : c.frames.given * outputs + outputs ≡ (c.frames.given + 1) * outputs = omega (arith, add-one c.frames.given, suc-mul c.frames.given outputs) in
+    let wrote : Wrote outputs c.pass_along-passage.result.is_given (take outputs c.pass_along-passage.new.places) c.frames.output c.if-passage.output (c.frames.given * outputs) (c.if-passage.given * outputs) c.frames.given c.if-passage.given =
     elim c.if-passage.branch [
-      | then-passage w ↦ inl (w.if-passage.true, put-mid c.frames.written outputs c.frames.output (take outputs c.pass_along-passage.new.places) c.if-passage.output (rw (m, w.copy_samples-then-passage.ensures) at w.output-is), w.written-is, w.given-is)
-      | else-passage w ↦ inr (w.if-passage.false, w.output-is, w.written-is, w.given-is)
+      | then-passage w ↦ inl (w.if-passage.true, put-mid (c.frames.given * outputs) outputs c.frames.output (take outputs c.pass_along-passage.new.places) c.if-passage.output (rw (m, w.copy_samples-then-passage.ensures) at w.output-is), ap (λ n. n * outputs) w.given-is ∙ sym next-out, w.given-is)
+      | else-passage w ↦ inr (w.if-passage.false, w.output-is, ap (λ n. n * outputs) w.given-is, w.given-is)
     ] in
     let some : 1 ≤ inputs = c.requires.frame.0 in
     let more : c.frames.taken < c.args.count = c.frames-test.true in
-    let one : c.frames.read + inputs ≡ (c.frames.taken + 1) * inputs = omega (arith, c.frames.invariant.read_is, add-one c.frames.taken, suc-mul c.frames.taken inputs) in
+    let one : c.frames.taken * inputs + inputs ≡ (c.frames.taken + 1) * inputs = omega (arith, add-one c.frames.taken, suc-mul c.frames.taken inputs) in
     let turns : (c.frames.taken + 1) * inputs ≤ c.args.count * inputs = mul-le-mul_right inputs (omega (arith, more)) in
-    let room : c.frames.read + inputs ≤ length c.args.input.now = omega (arith, one, turns, c.requires.input) in
-    let next-out : c.frames.written + outputs ≡ (c.frames.given + 1) * outputs = omega (arith, c.frames.invariant.written_is, add-one c.frames.given, suc-mul c.frames.given outputs) in
+    let room : c.frames.taken * inputs + inputs ≤ length c.args.input.now = omega (arith, one, turns, c.requires.input) in
     let outs-fit : (c.frames.given + 1) * outputs ≤ c.args.count * outputs = mul-le-mul_right outputs (omega (arith, more, c.frames.invariant.fewer)) in
-    let free : c.frames.written + outputs ≤ length c.frames.output = omega (arith, next-out, outs-fit, c.requires.output, c.frames.auto.output) in
-    let next : (left : ℕ) → MayRun acts inputs c.args.count c.args.stages.now left → Running acts g.met.S.Stage.rises inputs outputs c.args.count left c.args.stages.now c.args.input.now c.args.output.now c.pass_along-passage.new.stages c.if-passage.output (c.frames.read + inputs) c.if-passage.written (c.frames.taken + 1) c.if-passage.given =
-    λ left may. Running-turn acts g.met.S.Stage.rises inputs outputs c.args.count left c.args.stages.now c.args.input.now c.args.output.now c.frames.stages c.pass_along-passage.new.stages c.frames.output c.frames.read c.frames.written c.frames.taken c.frames.given x
-    (c.frames.invariant.runs left may) may.few more c.frames.invariant.settled shape width is some room c.pass_along-passage.result.is_given (take outputs c.pass_along-passage.new.places) c.if-passage.output c.if-passage.written c.if-passage.given went sides free outs wrote in
+    let free : c.frames.given * outputs + outputs ≤ length c.frames.output = omega (arith, next-out, outs-fit, c.requires.output, c.frames.auto.output) in
+    let next : (left : ℕ) → MayRun acts inputs c.args.count c.args.stages.now left → Running acts g.met.S.Stage.rises inputs outputs c.args.count left c.args.stages.now c.args.input.now c.args.output.now c.pass_along-passage.new.stages c.if-passage.output (c.frames.taken * inputs + inputs) (c.if-passage.given * outputs) (c.frames.taken + 1) c.if-passage.given =
+    λ left may. Running-turn acts g.met.S.Stage.rises inputs outputs c.args.count left c.args.stages.now c.args.input.now c.args.output.now c.frames.stages c.pass_along-passage.new.stages c.frames.output (c.frames.taken * inputs) (c.frames.given * outputs) c.frames.taken c.frames.given x
+    (c.frames.invariant.runs left may) may.few more c.frames.invariant.settled shape width is some room c.pass_along-passage.result.is_given (take outputs c.pass_along-passage.new.places) c.if-passage.output (c.if-passage.given * outputs) c.if-passage.given went sides free outs wrote in
     let run = next c.requires.may_run.0 c.requires.may_run.1 in
     let count = Running-behind acts g.met.S.Stage.rises inputs outputs c.args.count c.requires.may_run.0 c.args.stages.now c.args.input.now c.args.output.now _ _ _ _ _ _ run outs in
     rw (← count) run.turned.behind
@@ -124,10 +124,10 @@ frames-preserved g c =
     let outputs : ℕ = c.args.widths.outputs in
     let outs : outputs_of inputs (kinds acts c.args.stages.now) ≡ outputs = sym c.requires.outputs in
     let outs-now : outputs_of inputs (kinds acts c.frames.stages) ≡ outputs = ap (outputs_of inputs) c.frames.invariant.same ∙ outs in
-    let n : c.frames.read + inputs - c.frames.read ≡ inputs = omega arith in
-    let m : c.frames.written + outputs - c.frames.written ≡ outputs = omega arith in
+    let n : c.frames.taken * inputs + inputs - c.frames.taken * inputs ≡ inputs = omega arith in
+    let m : c.frames.given * outputs + outputs - c.frames.given * outputs ≡ outputs = omega arith in
     let x = c.copy_samples.new.to in
-    let is : x ≡ take inputs (drop c.frames.read c.args.input.now) = rw n at c.copy_samples.ensures in
+    let is : x ≡ take inputs (drop (c.frames.taken * inputs) c.args.input.now) = rw n at c.copy_samples.ensures in
     let alike : x ≡ c.frame_at-frame.result = is ∙ sym c.frame_at-frame.ensures.frame in
     let shape : IsFrame x = rw alike c.samples-samples.ensures.frame in
     let width : length x ≡ inputs = ap length alike ∙ c.frame_at-frame.ensures.channels in
@@ -139,30 +139,28 @@ frames-preserved g c =
     let frame = rw outs-now at (c.pass_along-passage.ensures.frame is-given) in
     let long : length (take outputs c.pass_along-passage.new.places) ≡ outputs = length-take-le outputs c.pass_along-passage.new.places (omega (arith, sixteen, frame.1)) in
     (long, omega (arith, long, frame.0)) in
-    let wrote : Wrote outputs c.pass_along-passage.result.is_given (take outputs c.pass_along-passage.new.places) c.frames.output c.if-passage.output c.frames.written c.if-passage.written c.frames.given c.if-passage.given =
+    let next-out : c.frames.given * outputs + outputs ≡ (c.frames.given + 1) * outputs = omega (arith, add-one c.frames.given, suc-mul c.frames.given outputs) in
+    let wrote : Wrote outputs c.pass_along-passage.result.is_given (take outputs c.pass_along-passage.new.places) c.frames.output c.if-passage.output (c.frames.given * outputs) (c.if-passage.given * outputs) c.frames.given c.if-passage.given =
     elim c.if-passage.branch [
-      | then-passage w ↦ inl (w.if-passage.true, put-mid c.frames.written outputs c.frames.output (take outputs c.pass_along-passage.new.places) c.if-passage.output (rw (m, w.copy_samples-then-passage.ensures) at w.output-is), w.written-is, w.given-is)
-      | else-passage w ↦ inr (w.if-passage.false, w.output-is, w.written-is, w.given-is)
+      | then-passage w ↦ inl (w.if-passage.true, put-mid (c.frames.given * outputs) outputs c.frames.output (take outputs c.pass_along-passage.new.places) c.if-passage.output (rw (m, w.copy_samples-then-passage.ensures) at w.output-is), ap (λ n. n * outputs) w.given-is ∙ sym next-out, w.given-is)
+      | else-passage w ↦ inr (w.if-passage.false, w.output-is, ap (λ n. n * outputs) w.given-is, w.given-is)
     ] in
     let some : 1 ≤ inputs = c.requires.frame.0 in
     let more : c.frames.taken < c.args.count = c.frames-test.true in
-    let one : c.frames.read + inputs ≡ (c.frames.taken + 1) * inputs = omega (arith, c.frames.invariant.read_is, add-one c.frames.taken, suc-mul c.frames.taken inputs) in
+    let one : c.frames.taken * inputs + inputs ≡ (c.frames.taken + 1) * inputs = omega (arith, add-one c.frames.taken, suc-mul c.frames.taken inputs) in
     let turns : (c.frames.taken + 1) * inputs ≤ c.args.count * inputs = mul-le-mul_right inputs (omega (arith, more)) in
-    let room : c.frames.read + inputs ≤ length c.args.input.now = omega (arith, one, turns, c.requires.input) in
-    let next-out : c.frames.written + outputs ≡ (c.frames.given + 1) * outputs = omega (arith, c.frames.invariant.written_is, add-one c.frames.given, suc-mul c.frames.given outputs) in
+    let room : c.frames.taken * inputs + inputs ≤ length c.args.input.now = omega (arith, one, turns, c.requires.input) in
     let outs-fit : (c.frames.given + 1) * outputs ≤ c.args.count * outputs = mul-le-mul_right outputs (omega (arith, more, c.frames.invariant.fewer)) in
-    let free : c.frames.written + outputs ≤ length c.frames.output = omega (arith, next-out, outs-fit, c.requires.output, c.frames.auto.output) in
-    let next : (left : ℕ) → MayRun acts inputs c.args.count c.args.stages.now left → Running acts g.met.S.Stage.rises inputs outputs c.args.count left c.args.stages.now c.args.input.now c.args.output.now c.pass_along-passage.new.stages c.if-passage.output (c.frames.read + inputs) c.if-passage.written (c.frames.taken + 1) c.if-passage.given =
-    λ left may. Running-turn acts g.met.S.Stage.rises inputs outputs c.args.count left c.args.stages.now c.args.input.now c.args.output.now c.frames.stages c.pass_along-passage.new.stages c.frames.output c.frames.read c.frames.written c.frames.taken c.frames.given x
-    (c.frames.invariant.runs left may) may.few more c.frames.invariant.settled shape width is some room c.pass_along-passage.result.is_given (take outputs c.pass_along-passage.new.places) c.if-passage.output c.if-passage.written c.if-passage.given went sides free outs wrote in
+    let free : c.frames.given * outputs + outputs ≤ length c.frames.output = omega (arith, next-out, outs-fit, c.requires.output, c.frames.auto.output) in
+    let next : (left : ℕ) → MayRun acts inputs c.args.count c.args.stages.now left → Running acts g.met.S.Stage.rises inputs outputs c.args.count left c.args.stages.now c.args.input.now c.args.output.now c.pass_along-passage.new.stages c.if-passage.output (c.frames.taken * inputs + inputs) (c.if-passage.given * outputs) (c.frames.taken + 1) c.if-passage.given =
+    λ left may. Running-turn acts g.met.S.Stage.rises inputs outputs c.args.count left c.args.stages.now c.args.input.now c.args.output.now c.frames.stages c.pass_along-passage.new.stages c.frames.output (c.frames.taken * inputs) (c.frames.given * outputs) c.frames.taken c.frames.given x
+    (c.frames.invariant.runs left may) may.few more c.frames.invariant.settled shape width is some room c.pass_along-passage.result.is_given (take outputs c.pass_along-passage.new.places) c.if-passage.output (c.if-passage.given * outputs) c.if-passage.given went sides free outs wrote in
     let run = next c.requires.may_run.0 c.requires.may_run.1 in
     let count = Running-behind acts g.met.S.Stage.rises inputs outputs c.args.count c.requires.may_run.0 c.args.stages.now c.args.input.now c.args.output.now _ _ _ _ _ _ run outs in
     record {
-      runs = next;
+      runs = λ left may. rw one at (next left may);
       settled = c.pass_along-passage.ensures.settled c.if-passage-2.false;
       same = run.same;
-      read_is = one;
-      written_is = count;
       fewer = run.fewer;
       small = run.turned.small;
       behind = run.turned.behind;
@@ -173,4 +171,4 @@ returns-clause-ran g c =
     λ left may.
     let done : c.frames.taken ≡ c.args.count = omega (arith, c.frames-test.false, c.frames.auto.taken-end) in
     let run = rw done at (c.frames.invariant.runs left may) in
-    Running-ran g.S.Stage.acts g.met.S.Stage.rises c.args.widths.inputs c.args.widths.outputs c.args.count left c.args.stages.now c.args.input.now c.args.output.now c.frames.stages c.frames.output c.frames.read c.frames.written c.args.count c.frames.given run c.requires.input (sym c.requires.outputs)
+    Running-ran g.S.Stage.acts g.met.S.Stage.rises c.args.widths.inputs c.args.widths.outputs c.args.count left c.args.stages.now c.args.input.now c.args.output.now c.frames.stages c.frames.output (c.args.count * c.args.widths.inputs) (c.frames.given * c.args.widths.outputs) c.args.count c.frames.given run c.requires.input (sym c.requires.outputs)

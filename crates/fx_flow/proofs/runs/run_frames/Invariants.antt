@@ -7,12 +7,10 @@ use Rattle.fx_flow.proofs.runs.run_frames.Given as goal
 
 abbrev pub invariant-frames : goal.invariant-frames
 invariant-frames g l = record {
-  runs : (left : ℕ) → MayRun g.S.Stage.acts l.widths.inputs l.count l.fn.stages left → Running g.S.Stage.acts g.met.S.Stage.rises l.widths.inputs l.widths.outputs l.count left l.fn.stages l.input l.fn.output l.stages l.output l.read l.written l.taken l.given;
+  runs : (left : ℕ) → MayRun g.S.Stage.acts l.widths.inputs l.count l.fn.stages left → Running g.S.Stage.acts g.met.S.Stage.rises l.widths.inputs l.widths.outputs l.count left l.fn.stages l.input l.fn.output l.stages l.output (l.taken * l.widths.inputs) (l.given * l.widths.outputs) l.taken l.given;
   settled : AllSettled g.S.Stage.acts l.stages;
   same : kinds g.S.Stage.acts l.stages ≡ kinds g.S.Stage.acts l.fn.stages;
-  read_is : l.read ≡ l.taken * l.widths.inputs;
-  written_is : l.written ≡ l.given * l.widths.outputs;
   fewer : l.given ≤ l.taken;
-  small : l.given ≤ l.written;
-  behind : drop l.written l.output ≡ drop l.written l.fn.output;
+  small : l.given ≤ l.given * l.widths.outputs;
+  behind : drop (l.given * l.widths.outputs) l.output ≡ drop (l.given * l.widths.outputs) l.fn.output;
 }
