@@ -1,7 +1,8 @@
 //! The chain of a plan's effects.
 ghost use Rattle.std.specs.Prelude.{◌≡◌, ◌<◌, ◌≤◌, ◌+◌, ◌-◌, ◌*◌, ℕ, false, drop, IfOk, List, Some, [], length, map, option_to_list, slice_index, true};
 ghost use Rattle.fx_chain.specs.Chain.{IsNewChain};
-ghost use Rattle.fx_flow.specs.Feed.{FlowFed, outputs_of};
+ghost use Rattle.fx_flow.specs.Feed.{FlowFed};
+ghost use Rattle.fx_frame.specs.Row.{outputs_of};
 ghost use Rattle.fx_frame.specs.Ring.{pieces};
 ghost use Rattle.fx_flow.specs.Parts.{AllNew, any_spent, due_of, enough_for, given_by, moves_of, taken_of};
 ghost use Rattle.fx_flow.specs.Sound.{most_frames};

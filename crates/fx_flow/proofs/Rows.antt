@@ -9,7 +9,8 @@ use Rattle.fx_frame.specs.Frame.{Samples}
 use Rattle.fx_frame.specs.Holds.{held_sum, hold_sum, kinds}
 use Rattle.fx_frame.specs.Stage.{Acts, Counts, kind, spent}
 use Rattle.fx_flow.specs.Parts.{AllDry, Joined, Matching, Within, any_spent}
-use Rattle.fx_flow.specs.Row.{AllHeld, AreReady, CameTo, WentThrough}
+use Rattle.fx_flow.specs.Row.{AllHeld, CameTo, WentThrough}
+use Rattle.fx_frame.specs.Row.{AreReady}
 
 module _ {S R : Type 0} (acts : Acts S R) where
   -- together they hold no more than they may

@@ -8,9 +8,9 @@ use Rattle.fx_frame.specs.Frame.{IsFrame, Samples}
 use Rattle.fx_frame.specs.Holds.{kinds, recipes}
 use Rattle.fx_frame.specs.Ring.{pieces}
 use Rattle.fx_frame.specs.Stage.{Acts, Counts, IsDry, Kind, is_enough, kind, spent}
-use Rattle.fx_flow.specs.Feed.{outputs_of}
+use Rattle.fx_frame.specs.Row.{AreReady, outputs_of}
 use Rattle.fx_flow.specs.Parts.{AllDry, AllSettled, any_spent, ended_of, moves_of}
-use Rattle.fx_flow.specs.Row.{AllHeld, AreReady, CameTo, WentThrough}
+use Rattle.fx_flow.specs.Row.{AllHeld, CameTo, WentThrough}
 use Rattle.fx_flow.specs.Runs.{AllAhead, AllKeep, MayRun, RanOn, flow_of}
 use Rattle.fx_flow.specs.Sound.{IsSound, most_frames}
 use Rattle.fx_flow.specs.declared.runs.Widths.{Widths}

@@ -1,23 +1,14 @@
 -- A frame that goes through stages in a row, one after another (this project's profile).
-use Rattle.std.specs.Prelude.{ℕ, zero, suc, ◌≤◌, ◌≡◌, ◌⊎◌, true, false, List, [], ◌∷◌, Option, Some, None}
+use Rattle.std.specs.Prelude.{ℕ, zero, suc, ◌≡◌, ◌⊎◌, List, [], ◌∷◌, Option, Some, None}
 use Rattle.fx_frame.specs.Feed.{GaveNext, IsHeld, TookNext}
 use Rattle.fx_frame.specs.Frame.{Samples}
-use Rattle.fx_frame.specs.Stage.{Acts, kind, spent}
+use Rattle.fx_frame.specs.Stage.{Acts}
 
 module _ {S R : Type 0} (acts : Acts S R) where
   -- each holds no more frames than it may
   abbrev pub AllHeld : List S → Type 0
   AllHeld [] = Unit {0}
   AllHeld (s ∷ stages) = IsHeld acts s × AllHeld stages
-
-  -- A frame of so many channels may be passed to the first, and what it gives for it to the next, and so on: each has taken
-  -- what the one before gave, of at most so many frames in all.
-  abbrev pub AreReady : ℕ → ℕ → ℕ → List S → Type 0
-  AreReady channels taken most [] = Unit {0}
-  AreReady channels taken most (s ∷ stages) =
-      (acts.dry s ≡ true) × ((acts.counts s).ended ≡ false) × (spent acts s ≡ false) × (channels ≡ (kind acts s).inputs)
-      × ((acts.counts s).taken ≡ taken) × (most ≤ (kind acts s).limit)
-      × AreReady (kind acts s).outputs (acts.counts s).given ((kind acts s).most most) stages
 
   -- it came to the stage at a place: each one before took a frame and gave one
   abbrev pub CameTo : ℕ → Samples → Samples → List S → List S → Type 0

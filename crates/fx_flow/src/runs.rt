@@ -1,8 +1,8 @@
 //! Frames that go through stages one after another, with nothing asked between two of them.
 ghost use Rattle.std.specs.Prelude.{◌≡◌, ◌<◌, ◌≤◌, ◌*◌, ℕ, Some, None, true, false, drop, length, take, if◌then◌else◌};
-ghost use Rattle.fx_flow.specs.Feed.{outputs_of};
+ghost use Rattle.fx_frame.specs.Row.{AreReady, outputs_of};
 ghost use Rattle.fx_flow.specs.Parts.{AllSettled};
-ghost use Rattle.fx_flow.specs.Row.{AllHeld, AreReady, WentThrough};
+ghost use Rattle.fx_flow.specs.Row.{AllHeld, WentThrough};
 ghost use Rattle.fx_flow.specs.Runs.{AllAhead, AllKeep, MayRun, RanOn};
 ghost use Rattle.fx_frame.specs.Feed.{PassedOn};
 ghost use Rattle.fx_frame.specs.Holds.{kinds};

@@ -2,7 +2,8 @@
 use Rattle.std.specs.Prelude.{ℕ, ℤ, ◌≡◌, ◌+◌, ◌*◌, ◌-◌, ◌<◌, ◌≤◌, ◌||◌, nat_lt, nat_eq, true, false, if◌then◌else◌, List, drop, length, map, slice_index, option_to_list}
 use Rattle.fx_chain.specs.Chain.{ChainParts}
 use Rattle.fx_flow.specs.declared.flow.State.TheVariants as States
-use Rattle.fx_flow.specs.Feed.{FlowFed, outputs_of}
+use Rattle.fx_flow.specs.Feed.{FlowFed}
+use Rattle.fx_frame.specs.Row.{outputs_of}
 use Rattle.fx_flow.specs.Parts.{any_spent}
 use Rattle.fx_flow.specs.Steps.{IsHungry, StateIs}
 use Rattle.fx_frame.specs.declared.feed.Passed.{Passed}

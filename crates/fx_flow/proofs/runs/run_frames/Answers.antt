@@ -3,7 +3,7 @@ use Rattle.std.proofs.lemmas.List.{length-take-le, take_at}
 use Rattle.std.proofs.Math.Nat.{suc-mul, mul-le-mul_right}
 use Rattle.fx_frame.specs.Frame.{IsFrame}
 use Rattle.fx_frame.specs.Holds.{kinds}
-use Rattle.fx_flow.specs.Feed.{outputs_of}
+use Rattle.fx_frame.specs.Row.{outputs_of}
 use Rattle.fx_flow.specs.Runs.{MayRun}
 use Rattle.fx_flow.specs.Sound.{most_frames}
 use Rattle.fx_flow.proofs.Running.{Running, Running-behind, Running-none, Running-ran, Running-ready, Running-turn, Wrote, put-mid}
