@@ -1,0 +1,57 @@
+use Rattle.std.proofs.Common.{arith, ◌≡◌, ◌*◌, ◌≤◌, ◌∙◌, ℕ, ℤ, Bool, List, length, map, take, ap, refl}
+use Rattle.std.proofs.Math.Nat.{mul-le-mul}
+use Rattle.std.proofs.lemmas.List.{length-take-le}
+use Rattle.fx_frame.specs.Ring.{pieces}
+use Rattle.fx_frame.specs.Rounded.{clips_of, samples_of}
+use Rattle.fx_frame.proofs.Pieces.{length-pieces}
+use Rattle.fx_tap.specs.PerSample.{rounded_given}
+use Rattle.fx_tap.proofs.Blocks.{block-through}
+use Rattle.fx_tap.proofs.BothLaws.{between, between-many, between-sides, first-clips, out-is, out-sides, second-clips}
+use Rattle.fx_tap.proofs.both.pass_both.Goals as goal
+
+pub count_passed-requires-clause-few_clips : goal.count_passed-requires-clause-few_clips
+count_passed-requires-clause-few_clips g c =
+    let size : ℕ = c.out_channels.result in
+    let wide : c.args.count * size ≤ c.args.count * 16 = mul-le-mul (omega arith) c.out_channels.ensures.frame.1 in
+    let is : size ≡ c.args.first.now.mapping.channels = c.out_channels.ensures.value ∙ ap (λ m. m.channels) c.mapping.ensures.value in
+    let room : c.args.count * size ≤ length c.args.input.now = rw is c.requires.input in
+    omega (arith, wide, c.rounded_by_both-clips.ensures.few.0, length-take-le (c.args.count * size) c.args.input.now room)
+
+pub count_passed-requires-2-clause-few_clips : goal.count_passed-requires-2-clause-few_clips
+count_passed-requires-2-clause-few_clips g c =
+    let size : ℕ = c.out_channels.result in
+    let wide : c.args.count * size ≤ c.args.count * 16 = mul-le-mul (omega arith) c.out_channels.ensures.frame.1 in
+    let is : size ≡ c.args.first.now.mapping.channels = c.out_channels.ensures.value ∙ ap (λ m. m.channels) c.mapping.ensures.value in
+    let room : c.args.count * size ≤ length c.args.input.now = rw is c.requires.input in
+    omega (arith, wide, c.rounded_by_both-clips.ensures.few.1, length-take-le (c.args.count * size) c.args.input.now room)
+
+pub returns-clause-through : goal.returns-clause-through
+returns-clause-through g c =
+    let s = c.args.first.now in
+    let t = c.args.second.now in
+    let f : ℤ → ℤ × Bool = g.A.Sampling.rounded s.mapping.sampling in
+    let h : ℤ → ℤ × Bool = g.B.Sampling.rounded t.mapping.sampling in
+    let size : ℕ = s.mapping.channels in
+    let n : ℕ = c.args.count in
+    let input : List ℤ = c.args.input.now in
+    let out : List ℤ = c.rounded_by_both-clips.new.output in
+    let room : n * size ≤ length input = c.requires.input in
+    let is : c.out_channels.result ≡ size = c.out_channels.ensures.value ∙ ap (λ m. m.channels) c.mapping.ensures.value in
+    let one-is : c.sampling.result.now ≡ s.mapping.sampling = c.sampling.ensures ∙ ap (λ m. m.sampling) c.mapping-2.ensures.value in
+    let two-is : c.sampling-2.result.now ≡ t.mapping.sampling = c.sampling-2.ensures ∙ ap (λ m. m.sampling) c.mapping-3.ensures.value in
+    let made : out ≡ samples_of (map (λ x. h (f x).0) (take (n * size) input)) = rw (one-is, two-is, is) at c.rounded_by_both-clips.ensures.samples in
+    let one : c.rounded_by_both-clips.result.first ≡ clips_of (map f (take (n * size) input)) = rw (one-is, is) at c.rounded_by_both-clips.ensures.first in
+    let two : c.rounded_by_both-clips.result.second ≡ clips_of (map (λ x. h (f x).0) (take (n * size) input)) = rw (one-is, two-is, is) at c.rounded_by_both-clips.ensures.second in
+    let counted = rw c.requires.first_dry at c.mapping.ensures.sound.counted in
+    let counted-2 = rw c.requires.second_dry at c.mapping-3.ensures.sound.counted in
+    let even : s.given ≡ s.taken = omega (arith, counted) in
+    let even-2 : t.given ≡ t.taken = omega (arith, counted-2) in
+    let idle : s.hand_clips ≡ 0 = c.mapping.ensures.sound.idle (rw c.requires.first_dry refl) in
+    let idle-2 : t.hand_clips ≡ 0 = c.mapping-3.ensures.sound.idle (rw c.requires.second_dry refl) in
+    rw (c.count_passed.ensures, c.count_passed-2.ensures) (
+      between f h size n input room,
+      block-through (λ m. m.channels) (λ m. m.channels) (λ m frame. rounded_given (g.A.Sampling.rounded m.sampling) frame) s.mapping s n c.rounded_by_both-clips.result.first (pieces size n input) (between f h size n input room)
+          refl c.requires.first_dry idle c.requires.first_open even (length-pieces size n input) (between-sides f h size n input room) refl (one ∙ first-clips f h size n input room),
+      block-through (λ m. m.channels) (λ m. m.channels) (λ m frame. rounded_given (g.B.Sampling.rounded m.sampling) frame) t.mapping t n c.rounded_by_both-clips.result.second (between f h size n input room) _
+          refl c.requires.second_dry idle-2 c.requires.second_open even-2 (between-many f h size n input room) (rw c.requires.channels (out-sides f h size n input room out _ made)) (out-is f h size n input room out _ made) (two ∙ second-clips f h size n input room),
+    )
