@@ -12,6 +12,7 @@ mod kernel;
 pub mod mapped;
 pub mod per_sample;
 pub mod products;
+mod proper;
 mod reduced;
 pub mod remix;
 mod rows;
