@@ -83,6 +83,13 @@ impl Denominator {
         }
     }
 
+    /// The number itself.
+    pub fn value(&self) -> u64
+        ensures { result ≡ self.now }
+    {
+        self.value
+    }
+
     /// The sample nearest to a sum over the denominator, halves away from zero, and whether it was clipped. The magnitude of
     /// the sum is at most `2^61`.
     #[inline(always)]

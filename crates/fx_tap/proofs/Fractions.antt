@@ -1,6 +1,6 @@
 -- A gain in lowest terms rounds as the gain.
-use Rattle.std.proofs.Common.{ℕ, ℤ, pos, negsuc, ◌≡◌, ◌+◌, ◌*◌, ◌/◌, ◌*ℤ◌, ◌<◌, ◌^◌, ◌≤◌, ◌≤ℤ◌, ◌∙◌, Bool, false, true, [], ◌∷◌, ap, arith, refl, sym, zero, suc, to_z, of_z, unsigned_abs, List, get_or, FitsSigned}
-use Rattle.std.specs.Prelude.{not, sum_by}
+use Rattle.std.proofs.Common.{ℕ, ℤ, pos, negsuc, ◌≡◌, ◌+◌, ◌*◌, ◌/◌, ◌*ℤ◌, ◌<◌, ◌^◌, ◌≤◌, ◌∙◌, false, true, [], ◌∷◌, ap, arith, refl, sym, zero, suc, to_z, of_z, unsigned_abs, List, get_or, FitsSigned}
+use Rattle.std.specs.Prelude.{IfSome, None, Option, Some, not, sum_by}
 use Rattle.std.specs.Int.{w32, w64}
 use Rattle.std.proofs.lemmas.List.Sums.{sum_by-cons}
 use Rattle.std.proofs.lemmas.Int.{fits_signed_from_abs, ints, to_z-of_z}
@@ -12,8 +12,7 @@ use Rattle.fx_fixed.proofs.Signs.{nearest-neg}
 use Rattle.fx_fixed.specs.Reduced.{IsReduced}
 use Rattle.fx_fixed.specs.declared.gains.TheConstants.{UNIT}
 use Rattle.fx_fixed.proofs.Reductions.{rounding-reduced}
-use Rattle.fx_tap.specs.Fractions.{IsQuiet, Ratio, Rounds, fraction_sample}
-use Rattle.fx_tap.specs.Vol.{scaled_sample}
+use Rattle.fx_tap.specs.Fractions.{Ratio, Rounds, fraction_sample}
 use Rattle.fx_tap.proofs.SignedProducts.{mul_assoc}
 use Rattle.fx_tap.proofs.SumLaws.{scaled-few}
 
@@ -33,6 +32,11 @@ reduced-rounds gain g whole weights f same unit is reduced sample =
     let above : pos reduced.by *ℤ (f.weight *ℤ sample) ≡ gain *ℤ sample = mul_assoc (pos reduced.by) f.weight sample ∙ ap (λ z. z *ℤ sample) first in
     let fraction = rounding-reduced reduced.by f.denominator (f.weight *ℤ sample) reduced.positive q in
     sym fraction ∙ ap (λ z. rounding z (reduced.by * f.denominator)) above ∙ ap (λ n. rounding (gain *ℤ sample) n) (reduced.below ∙ unit)
+
+-- and so does what is made of that weight, where it is made
+pub some-rounds : (gain : ℤ) (made : Option Ratio) (f : Ratio) → IfSome made (λ g. g ≡ f) → Rounds gain f → IfSome made (Rounds gain)
+some-rounds gain (Some g) f is rounds = λ sample. ap (λ r. fraction_sample r sample) is ∙ rounds sample
+some-rounds gain None f is rounds = tt
 
 -- a weight is at most the sum of their magnitudes
 pub weight-few : (weights : List ℤ) (i : ℕ) → unsigned_abs (get_or weights i (pos 0)) ≤ sum_by unsigned_abs weights
@@ -58,7 +62,7 @@ plain-product-64 w x f y e d small sample =
     let product = scaled-few w x (2 ^ 31) (2 ^ 31) small sample in
     rw (e, d, held-64 w (omega (arith, small)), held-64 x (omega (arith, sample)), held-64 (w *ℤ x) (omega (arith, product))) refl
 
--- ---- gains from 0 to 1
+-- ---- gains of at most 1
 
 nearest-le : (n w d : ℕ) → 0 < d → w ≤ d → nearest_natural (n * w) d ≤ n
 nearest-le n w d some h =
@@ -70,7 +74,8 @@ unclipped-neg : (k n : ℕ) → k ≤ suc n → n < 2 ^ 31 → (clipping (signed
 unclipped-neg zero n h f = refl
 unclipped-neg (suc k) n h f = ap not (lt-ltb k (2 ^ 31) (omega arith))
 
-not-clipped : (w d : ℕ) (x : ℤ) → 0 < d → w ≤ d → FitsSigned w32 x → (rounding (pos w *ℤ x) d).1 ≡ false
+-- they clip no sample
+pub not-clipped : (w d : ℕ) (x : ℤ) → 0 < d → w ≤ d → FitsSigned w32 x → (rounding (pos w *ℤ x) d).1 ≡ false
 not-clipped w d (pos n) some h f =
     let g : n < 2 ^ 31 = omega (arith, ints) in
     let turned : w * n ≡ n * w = omega arith in
@@ -80,14 +85,3 @@ not-clipped w d (negsuc n) some h f =
     let g : n < 2 ^ 31 = omega (arith, ints) in
     let turned : w * suc n ≡ suc n * w = omega arith in
     ap (λ z. (clipping z).1) (nearest-neg (w * suc n) d some) ∙ rw turned (unclipped-neg (nearest_natural (suc n * w) d) n (nearest-le (suc n) w d some h) g)
-
--- they clip no sample
-pub quiet : (gain x : ℤ) → IsQuiet gain → FitsSigned w32 x → (scaled_sample gain x).1 ≡ false
-quiet gain x is fits = ap (λ g. (rounding (g *ℤ x) UNIT).1) is.is ∙ not-clipped is.size UNIT x (omega arith) is.few fits
-
-pub quiet-fraction : (gain x : ℤ) (f : Ratio) → Rounds gain f → IsQuiet gain → FitsSigned w32 x → (fraction_sample f x).1 ≡ false
-quiet-fraction gain x f rounds is fits = ap (λ (r : ℤ × Bool). r.1) (rounds x) ∙ quiet gain x is fits
-
-pub from-zero-to-one : (z : ℤ) → pos 0 ≤ℤ z → z ≤ℤ pos UNIT → IsQuiet z
-from-zero-to-one (pos n) low high = record { size = n; is = refl; few = omega (arith, ints, high) }
-from-zero-to-one (negsuc n) low high = absurd (omega (arith, ints, low))

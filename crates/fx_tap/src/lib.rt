@@ -13,6 +13,7 @@ mod kernel;
 pub mod mapped;
 pub mod per_sample;
 pub mod products;
+mod proper;
 mod reduced;
 pub mod remix;
 mod rows;

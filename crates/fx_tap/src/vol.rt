@@ -1,15 +1,14 @@
 //! The effect `vol` of sox(1): each sample times a gain.
-ghost use Rattle.std.specs.Prelude.{◌≡◌, ◌≤◌, ℤ, FitsSigned, false, true, length, map, Ok, IfOk, IfErr};
-ghost use Rattle.std.specs.Int.{w32};
-ghost use Rattle.fx_frame.specs.Rounded.{clips_of, samples_of};
+ghost use Rattle.std.specs.Prelude.{◌≡◌, ◌≤◌, ℤ, Ok, IfOk, IfErr};
 ghost use Rattle.fx_frame.specs.Stage.{Freezes, IsNew};
 ghost use Rattle.fx_tap.specs.Mapped.{IsMapState, MapState};
 ghost use Rattle.fx_tap.specs.PerSample.{SampleArguments};
-ghost use Rattle.fx_tap.specs.Fractions.{IsQuiet, fraction_sample};
+ghost use Rattle.fx_tap.specs.Fractions.{fraction_sample};
 ghost use Rattle.fx_tap.specs.Vol.{scaled_sample, vol_acts};
 
 use crate::mapped::Mapped;
 use crate::per_sample::{PerSample, SamplesMany, Sampling, round_over, rounded_samples};
+use crate::proper::ProperFraction;
 use fx_fixed::inner::{Denominator, reduce, scale};
 use fx_fixed::{Gain, UNIT};
 use fx_frame::{ThawFault, WideFrame};
@@ -43,69 +42,25 @@ impl Sampling for Fraction {
     }
 }
 
-impl Fraction {
-    /// What it makes of a sample, where that is not clipped.
-    #[inline(always)]
-    fn round_within(&self, sample: i32) -> i32
-        requires { (fraction_sample self.now sample).1 ≡ false }
-        ensures { fraction_sample self.now sample ≡ (result, false) }
-    {
-        self.denominator
-            .round_within(i64::from(self.weight) * i64::from(sample))
-    }
-
-    /// Writes what it makes of each sample over it, where none is clipped.
-    #[inline(always)]
-    fn round_over_within(&self, samples: &mut [i32])
-        requires within { (sample : ℤ) → FitsSigned w32 sample → (fraction_sample self.now sample).1 ≡ false }
-        ensures samples { samples.new ≡ samples_of (map (fraction_sample self.now) samples.old) }
-        ensures clips { clips_of (map (fraction_sample self.now) samples.old) ≡ 0 }
-    {
-        'samples: for place in 0..samples.len() {
-            samples[place] = self.round_within(samples[place]);
-        }
-    }
-
-    /// Writes what it makes of each sample, where none is clipped.
-    fn round_all_within(&self, input: &[i32], output: &mut [i32])
-        requires places { length output.old ≡ length input.now }
-        requires within { (sample : ℤ) → FitsSigned w32 sample → (fraction_sample self.now sample).1 ≡ false }
-        ensures samples { output.new ≡ samples_of (map (fraction_sample self.now) input.now) }
-        ensures clips { clips_of (map (fraction_sample self.now) input.now) ≡ 0 }
-    {
-        'samples: for place in 0..input.len() {
-            output[place] = self.round_within(input[place]);
-        }
-    }
-}
-
-/// Is a gain from 0 to 1?
-fn is_quiet(gain: Gain) -> bool
-    ensures { result ≡ true → IsQuiet gain }
-{
-    let parts = gain.trillionths();
-    0 <= parts && parts <= UNIT as i64
-}
-
 /// A gain, and the same in lowest terms, where these are small.
 #[derive(Drop)]
 pub struct Scale {
     gain: Gain,
     fraction: Option<Fraction>,
-    /// It is from 0 to 1, so that no sample is clipped.
-    is_quiet: bool,
+    /// The same where it is from 0 to below 1 and its denominator is small: no sample is divided or clipped.
+    proper: Option<ProperFraction>,
 }
 
 // It is the gain.
 impl Model for Scale {
-    ghost use Rattle.std.specs.Prelude.{ℤ, ◌≡◌, true, IfSome};
-    ghost use Rattle.fx_tap.specs.Fractions.{IsQuiet, Rounds};
+    ghost use Rattle.std.specs.Prelude.{ℤ, IfSome};
+    ghost use Rattle.fx_tap.specs.Fractions.{Rounds};
 
     ghost Value = { ℤ };
 
     ghost view = { λ s. s.gain };
 
-    ghost invariant = { λ s. IfSome s.fraction (Rounds s.gain) × (s.is_quiet ≡ true → IsQuiet s.gain) };
+    ghost invariant = { λ s. IfSome s.fraction (Rounds s.gain) × IfSome s.proper (Rounds s.gain) };
 }
 
 impl Scale {
@@ -115,17 +70,22 @@ impl Scale {
     {
         let mut weights = [0];
         let reduced = reduce(&[gain.trillionths()], 1, u128::from(UNIT), &mut weights);
-        let fraction = match reduced {
-            Some(denominator) => Some(Fraction {
-                weight: weights[0],
-                denominator,
-            }),
-            None => None,
+        let Some(denominator) = reduced else {
+            return Scale {
+                gain,
+                fraction: None,
+                proper: None,
+            };
         };
+        let weight = weights[0];
+        let proper = ProperFraction::of(weight, denominator.value());
         Scale {
             gain,
-            fraction,
-            is_quiet: is_quiet(gain),
+            fraction: Some(Fraction {
+                weight,
+                denominator,
+            }),
+            proper,
         }
     }
 }
@@ -135,8 +95,10 @@ impl Sampling for Scale {
 
     #[inline(always)]
     fn round(&self, sample: i32) -> (i32, bool) {
+        if let Some(proper) = &self.proper {
+            return proper.round(sample);
+        }
         match &self.fraction {
-            Some(fraction) if self.is_quiet => (fraction.round_within(sample), false),
             Some(fraction) => fraction.round(sample),
             None => scale(self.gain, sample),
         }
@@ -145,11 +107,11 @@ impl Sampling for Scale {
 
 impl SamplesMany for Scale {
     fn round_many(&self, input: &[i32], output: &mut [i32]) -> u64 {
+        if let Some(proper) = &self.proper {
+            proper.round_many(input, output);
+            return 0;
+        }
         match &self.fraction {
-            Some(fraction) if self.is_quiet => {
-                fraction.round_all_within(input, output);
-                0
-            }
             Some(fraction) => rounded_samples(fraction, input, output),
             None => rounded_samples(self, input, output),
         }
@@ -157,11 +119,11 @@ impl SamplesMany for Scale {
 
     #[inline(always)]
     fn round_all(&self, samples: &mut [i32]) -> u64 {
+        if let Some(proper) = &self.proper {
+            proper.round_over(samples);
+            return 0;
+        }
         match &self.fraction {
-            Some(fraction) if self.is_quiet => {
-                fraction.round_over_within(samples);
-                0
-            }
             Some(fraction) => round_over(fraction, samples),
             None => round_over(self, samples),
         }

@@ -1,7 +1,7 @@
 use Rattle.std.proofs.Common.{◌≡◌, map, take}
 use Rattle.fx_tap.specs.Fractions.{fraction_sample}
 use Rattle.fx_frame.specs.Rounded.{clips_of, samples_of}
-use Rattle.fx_tap.proofs.vol.Fraction.round_all_within.Given as goal
+use Rattle.fx_tap.proofs.proper.ProperFraction.round_many.Given as goal
 
 -- the samples so far
 abbrev pub invariant-samples : goal.invariant-samples

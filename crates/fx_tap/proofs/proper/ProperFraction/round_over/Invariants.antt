@@ -1,7 +1,7 @@
 use Rattle.std.proofs.Common.{◌≡◌, map, take, drop}
 use Rattle.fx_tap.specs.Fractions.{fraction_sample}
 use Rattle.fx_frame.specs.Rounded.{clips_of, samples_of}
-use Rattle.fx_tap.proofs.vol.Fraction.round_over_within.Given as goal
+use Rattle.fx_tap.proofs.proper.ProperFraction.round_over.Given as goal
 
 -- the samples so far
 abbrev pub invariant-samples : goal.invariant-samples
