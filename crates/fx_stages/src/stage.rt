@@ -2,6 +2,7 @@
 use fx_cut::{Downsample, Fade, Pad, Trim, Upsample};
 use fx_frame::stage::Stage;
 use fx_frame::{Feeds, Frame, Passed, Passing, WideFrame};
+use fx_tap::both::pass_both;
 use fx_tap::{DcShift, Delay, Echo, Echos, Fir, Remix, Vol};
 
 /// The stage of an effect.
@@ -124,6 +125,35 @@ impl Feeds for EffectStage {
         match self {
             EffectStage::Remix(stage) => stage.pass_places(places, channels),
             _ => self.pass_samples(&mut places[..*channels]),
+        }
+    }
+
+    fn pass_row(
+        stages: &mut [EffectStage],
+        _channels: usize,
+        _outputs: usize,
+        count: usize,
+        input: &[i32],
+        output: &mut [i32],
+    ) -> usize {
+        match stages {
+            [EffectStage::Vol(first), EffectStage::Vol(second)] => {
+                pass_both(first, second, count, input, output);
+                count
+            }
+            [EffectStage::Vol(first), EffectStage::DcShift(second)] => {
+                pass_both(first, second, count, input, output);
+                count
+            }
+            [EffectStage::DcShift(first), EffectStage::Vol(second)] => {
+                pass_both(first, second, count, input, output);
+                count
+            }
+            [EffectStage::DcShift(first), EffectStage::DcShift(second)] => {
+                pass_both(first, second, count, input, output);
+                count
+            }
+            _ => 0,
         }
     }
 
