@@ -197,7 +197,7 @@ fn run_frames<S: Feeds>(
 }
 
 /// As `run_frames`, where the channels are often known beforehand.
-pub fn run<S: Feeds>(
+fn run_by_frames<S: Feeds>(
     stages: &mut [S],
     widths: Widths,
     count: usize,
@@ -229,4 +229,42 @@ pub fn run<S: Feeds>(
         8 => run_frames(stages, Widths::kept(8), count, input, output),
         channels => run_frames(stages, Widths::kept(channels), count, input, output),
     }
+}
+
+/// Passes so many frames in front of the input through stages that are dry: in one call for all of them where they have one
+/// for just this row, else as `run_frames`.
+pub fn run<S: Feeds>(
+    stages: &mut [S],
+    widths: Widths,
+    count: usize,
+    input: &[i32],
+    output: &mut [i32],
+) -> Passed
+    requires frame { (1 ≤ widths.inputs) × (widths.inputs ≤ 16) }
+    requires outputs { widths.outputs ≡ outputs_of widths.inputs (kinds S.acts stages.old) }
+    requires keep { widths.keeps ≡ true → AllKeep widths.inputs (kinds S.acts stages.old) }
+    requires input { count * widths.inputs ≤ length input.now }
+    requires output { count * widths.outputs ≤ length output.old }
+    requires may_run { (left : ℕ) × MayRun S.acts widths.inputs count stages.old left }
+    requires settled { AllSettled S.acts stages.old }
+    requires held { AllHeld S.acts stages.old }
+    requires ahead { AllAhead S.acts count stages.old }
+    ensures ran { (left : ℕ) → MayRun S.acts widths.inputs count stages.old left → RanOn S.acts widths.inputs (pieces widths.inputs result.taken input.now) (pieces widths.outputs result.given output.new) stages.old stages.new left }
+    ensures read { result.taken ≤ count }
+    ensures written { result.given ≤ result.taken }
+    ensures small { result.given ≤ result.given * widths.outputs }
+    ensures some { 1 ≤ count → 1 ≤ result.taken }
+    ensures behind { drop (result.given * widths.outputs) output.new ≡ drop (result.given * widths.outputs) output.old }
+{
+    if count == 0 {
+        return Passed { taken: 0, given: 0 };
+    }
+    let passed = S::pass_row(stages, widths.inputs, widths.outputs, count, input, output);
+    if passed > 0 {
+        return Passed {
+            taken: passed,
+            given: passed,
+        };
+    }
+    run_by_frames(stages, widths, count, input, output)
 }

@@ -1,144 +1,55 @@
-use Rattle.std.proofs.Common.{rules, ◌≡◌, ◌∙◌, refl, true}
-use Rattle.fx_flow.specs.declared.runs.Widths.{Widths}
-use Rattle.fx_flow.proofs.Running.{kept-is, outputs-keep}
+use Rattle.std.proofs.Common.{◌≡◌, ◌*◌, [], arith}
+use Rattle.std.specs.Prelude.{FitsSigned}
+use Rattle.std.specs.Int.{w32}
+use Rattle.std.proofs.lemmas.List.Elements.{All-nil}
+use Rattle.fx_frame.specs.Ring.{pieces}
+use Rattle.fx_frame.proofs.RowLaws.{RowThrough-none}
+use Rattle.fx_flow.specs.Sound.{most_frames}
+use Rattle.fx_flow.proofs.Rowing.{AreReady-run, RanOn-row, RowThrough-stays}
+use Rattle.fx_flow.proofs.runs.run.Given as given
 use Rattle.fx_flow.proofs.runs.run.Goals as goal
 
-pub run_frames-requires-in-1-clause-outputs : goal.run_frames-requires-in-1-clause-outputs
-run_frames-requires-in-1-clause-outputs g c =
-    let keeps : c.args.widths.keeps ≡ true = search rules in
-    let is : c.args.widths.inputs ≡ 1 = search rules in
-    let same : ◌≡◌ {A = Widths} c.kept.result c.args.widths = c.kept.ensures ∙ kept-is c.args.widths 1 keeps is (c.requires.outputs ∙ outputs-keep _ _ (c.requires.keep keeps)) in
-    rw same c.requires.outputs
+pub returns-then-count-eq0-clause-ran : goal.returns-then-count-eq0-clause-ran
+returns-then-count-eq0-clause-ran g c =
+    λ left may.
+    let none : 0 * c.args.widths.inputs ≡ 0 = omega arith in
+    RanOn-row g.S.Stage.acts g.met.S.Stage.rises c.args.widths.inputs c.args.count 0 left c.args.stages.now c.args.stages.now c.args.input.now [] c.requires.frame.0 c.requires.frame.1 (omega arith) c.requires.input (rw none (All-nil (FitsSigned w32)))
+    may c.requires.settled c.requires.held c.requires.ahead (RowThrough-none g.S.Stage.acts c.args.stages.now)
 
-pub run_frames-requires-in-1-clause-output : goal.run_frames-requires-in-1-clause-output
-run_frames-requires-in-1-clause-output g c =
-    let keeps : c.args.widths.keeps ≡ true = search rules in
-    let is : c.args.widths.inputs ≡ 1 = search rules in
-    let same : ◌≡◌ {A = Widths} c.kept.result c.args.widths = c.kept.ensures ∙ kept-is c.args.widths 1 keeps is (c.requires.outputs ∙ outputs-keep _ _ (c.requires.keep keeps)) in
-    rw same c.requires.output
+pub pass_row-passed-requires-clause-ready : goal.pass_row-passed-requires-clause-ready
+pass_row-passed-requires-clause-ready g c =
+    let left = c.requires.may_run.0 in
+    let may = c.requires.may_run.1 in
+    (left, most_frames, may.few, AreReady-run g.S.Stage.acts c.args.widths.inputs c.args.count left c.args.stages.now may (omega (arith, c.if-count-eq0.false)) c.requires.settled c.requires.ahead)
 
-pub returns-in-1-clause-ran : goal.returns-in-1-clause-ran
-returns-in-1-clause-ran g c =
-    let keeps : c.args.widths.keeps ≡ true = search rules in
-    let is : c.args.widths.inputs ≡ 1 = search rules in
-    let same : ◌≡◌ {A = Widths} c.kept.result c.args.widths = c.kept.ensures ∙ kept-is c.args.widths 1 keeps is (c.requires.outputs ∙ outputs-keep _ _ (c.requires.keep keeps)) in
-    rw same at c.run_frames-in-1.ensures.ran
+pub returns-then-passed-gt0-clause-ran : goal.returns-then-passed-gt0-clause-ran
+returns-then-passed-gt0-clause-ran g c =
+    λ left may.
+    let row = c.pass_row-passed.ensures in
+    RanOn-row g.S.Stage.acts g.met.S.Stage.rises c.args.widths.inputs c.args.count c.pass_row-passed.result left c.args.stages.now c.pass_row-passed.new.stages c.args.input.now (pieces c.args.widths.outputs c.pass_row-passed.result c.pass_row-passed.new.output)
+    c.requires.frame.0 c.requires.frame.1 row.few c.requires.input row.samples may c.requires.settled c.requires.held c.requires.ahead row.through
 
-pub returns-in-1-clause-small : goal.returns-in-1-clause-small
-returns-in-1-clause-small g c =
-    let keeps : c.args.widths.keeps ≡ true = search rules in
-    let is : c.args.widths.inputs ≡ 1 = search rules in
-    let same : ◌≡◌ {A = Widths} c.kept.result c.args.widths = c.kept.ensures ∙ kept-is c.args.widths 1 keeps is (c.requires.outputs ∙ outputs-keep _ _ (c.requires.keep keeps)) in
-    rw same at c.run_frames-in-1.ensures.small
+-- stages through which no row was passed are as they were
+stays : (g : given.Over) (c : goal.After-run_by_frames-arg-2-1 g) → c.pass_row-passed.new.stages ≡ c.args.stages.now
+stays g c = RowThrough-stays g.S.Stage.acts c.args.widths.inputs c.pass_row-passed.result c.args.input.now _ _ _ c.if-passed-gt0.false c.pass_row-passed.ensures.through
 
-pub returns-in-1-clause-behind : goal.returns-in-1-clause-behind
-returns-in-1-clause-behind g c =
-    let keeps : c.args.widths.keeps ≡ true = search rules in
-    let is : c.args.widths.inputs ≡ 1 = search rules in
-    let same : ◌≡◌ {A = Widths} c.kept.result c.args.widths = c.kept.ensures ∙ kept-is c.args.widths 1 keeps is (c.requires.outputs ∙ outputs-keep _ _ (c.requires.keep keeps)) in
-    rw same at c.run_frames-in-1.ensures.behind
+pub run_by_frames-requires-clause-outputs : goal.run_by_frames-requires-clause-outputs
+run_by_frames-requires-clause-outputs g c = rw (stays g c) c.requires.outputs
 
-pub run_frames-requires-in-2-clause-outputs : goal.run_frames-requires-in-2-clause-outputs
-run_frames-requires-in-2-clause-outputs g c =
-    let keeps : c.args.widths.keeps ≡ true = search rules in
-    let is : c.args.widths.inputs ≡ 2 = search rules in
-    let same : ◌≡◌ {A = Widths} c.kept-in-2.result c.args.widths = c.kept-in-2.ensures ∙ kept-is c.args.widths 2 keeps is (c.requires.outputs ∙ outputs-keep _ _ (c.requires.keep keeps)) in
-    rw same c.requires.outputs
+pub run_by_frames-requires-clause-keep : goal.run_by_frames-requires-clause-keep
+run_by_frames-requires-clause-keep g c = rw (stays g c) c.requires.keep
 
-pub run_frames-requires-in-2-clause-output : goal.run_frames-requires-in-2-clause-output
-run_frames-requires-in-2-clause-output g c =
-    let keeps : c.args.widths.keeps ≡ true = search rules in
-    let is : c.args.widths.inputs ≡ 2 = search rules in
-    let same : ◌≡◌ {A = Widths} c.kept-in-2.result c.args.widths = c.kept-in-2.ensures ∙ kept-is c.args.widths 2 keeps is (c.requires.outputs ∙ outputs-keep _ _ (c.requires.keep keeps)) in
-    rw same c.requires.output
+pub run_by_frames-requires-clause-may_run : goal.run_by_frames-requires-clause-may_run
+run_by_frames-requires-clause-may_run g c = rw (stays g c) c.requires.may_run
 
-pub returns-in-2-clause-ran : goal.returns-in-2-clause-ran
-returns-in-2-clause-ran g c =
-    let keeps : c.args.widths.keeps ≡ true = search rules in
-    let is : c.args.widths.inputs ≡ 2 = search rules in
-    let same : ◌≡◌ {A = Widths} c.kept-in-2.result c.args.widths = c.kept-in-2.ensures ∙ kept-is c.args.widths 2 keeps is (c.requires.outputs ∙ outputs-keep _ _ (c.requires.keep keeps)) in
-    rw same at c.run_frames-in-2.ensures.ran
+pub run_by_frames-requires-clause-settled : goal.run_by_frames-requires-clause-settled
+run_by_frames-requires-clause-settled g c = rw (stays g c) c.requires.settled
 
-pub returns-in-2-clause-small : goal.returns-in-2-clause-small
-returns-in-2-clause-small g c =
-    let keeps : c.args.widths.keeps ≡ true = search rules in
-    let is : c.args.widths.inputs ≡ 2 = search rules in
-    let same : ◌≡◌ {A = Widths} c.kept-in-2.result c.args.widths = c.kept-in-2.ensures ∙ kept-is c.args.widths 2 keeps is (c.requires.outputs ∙ outputs-keep _ _ (c.requires.keep keeps)) in
-    rw same at c.run_frames-in-2.ensures.small
+pub run_by_frames-requires-clause-held : goal.run_by_frames-requires-clause-held
+run_by_frames-requires-clause-held g c = rw (stays g c) c.requires.held
 
-pub returns-in-2-clause-behind : goal.returns-in-2-clause-behind
-returns-in-2-clause-behind g c =
-    let keeps : c.args.widths.keeps ≡ true = search rules in
-    let is : c.args.widths.inputs ≡ 2 = search rules in
-    let same : ◌≡◌ {A = Widths} c.kept-in-2.result c.args.widths = c.kept-in-2.ensures ∙ kept-is c.args.widths 2 keeps is (c.requires.outputs ∙ outputs-keep _ _ (c.requires.keep keeps)) in
-    rw same at c.run_frames-in-2.ensures.behind
+pub run_by_frames-requires-clause-ahead : goal.run_by_frames-requires-clause-ahead
+run_by_frames-requires-clause-ahead g c = rw (stays g c) c.requires.ahead
 
-pub run_frames-requires-in-8-clause-outputs : goal.run_frames-requires-in-8-clause-outputs
-run_frames-requires-in-8-clause-outputs g c =
-    let keeps : c.args.widths.keeps ≡ true = search rules in
-    let is : c.args.widths.inputs ≡ 8 = search rules in
-    let same : ◌≡◌ {A = Widths} c.kept-in-8.result c.args.widths = c.kept-in-8.ensures ∙ kept-is c.args.widths 8 keeps is (c.requires.outputs ∙ outputs-keep _ _ (c.requires.keep keeps)) in
-    rw same c.requires.outputs
-
-pub run_frames-requires-in-8-clause-output : goal.run_frames-requires-in-8-clause-output
-run_frames-requires-in-8-clause-output g c =
-    let keeps : c.args.widths.keeps ≡ true = search rules in
-    let is : c.args.widths.inputs ≡ 8 = search rules in
-    let same : ◌≡◌ {A = Widths} c.kept-in-8.result c.args.widths = c.kept-in-8.ensures ∙ kept-is c.args.widths 8 keeps is (c.requires.outputs ∙ outputs-keep _ _ (c.requires.keep keeps)) in
-    rw same c.requires.output
-
-pub returns-in-8-clause-ran : goal.returns-in-8-clause-ran
-returns-in-8-clause-ran g c =
-    let keeps : c.args.widths.keeps ≡ true = search rules in
-    let is : c.args.widths.inputs ≡ 8 = search rules in
-    let same : ◌≡◌ {A = Widths} c.kept-in-8.result c.args.widths = c.kept-in-8.ensures ∙ kept-is c.args.widths 8 keeps is (c.requires.outputs ∙ outputs-keep _ _ (c.requires.keep keeps)) in
-    rw same at c.run_frames-in-8.ensures.ran
-
-pub returns-in-8-clause-small : goal.returns-in-8-clause-small
-returns-in-8-clause-small g c =
-    let keeps : c.args.widths.keeps ≡ true = search rules in
-    let is : c.args.widths.inputs ≡ 8 = search rules in
-    let same : ◌≡◌ {A = Widths} c.kept-in-8.result c.args.widths = c.kept-in-8.ensures ∙ kept-is c.args.widths 8 keeps is (c.requires.outputs ∙ outputs-keep _ _ (c.requires.keep keeps)) in
-    rw same at c.run_frames-in-8.ensures.small
-
-pub returns-in-8-clause-behind : goal.returns-in-8-clause-behind
-returns-in-8-clause-behind g c =
-    let keeps : c.args.widths.keeps ≡ true = search rules in
-    let is : c.args.widths.inputs ≡ 8 = search rules in
-    let same : ◌≡◌ {A = Widths} c.kept-in-8.result c.args.widths = c.kept-in-8.ensures ∙ kept-is c.args.widths 8 keeps is (c.requires.outputs ∙ outputs-keep _ _ (c.requires.keep keeps)) in
-    rw same at c.run_frames-in-8.ensures.behind
-
-pub run_frames-requires-in_default-clause-outputs : goal.run_frames-requires-in_default-clause-outputs
-run_frames-requires-in_default-clause-outputs g c =
-    let keeps : c.args.widths.keeps ≡ true = search rules in
-    let is : c.args.widths.inputs ≡ c.args.widths.inputs = refl in
-    let same : ◌≡◌ {A = Widths} c.kept-in_default.result c.args.widths = c.kept-in_default.ensures ∙ kept-is c.args.widths c.args.widths.inputs keeps is (c.requires.outputs ∙ outputs-keep _ _ (c.requires.keep keeps)) in
-    rw same c.requires.outputs
-
-pub run_frames-requires-in_default-clause-output : goal.run_frames-requires-in_default-clause-output
-run_frames-requires-in_default-clause-output g c =
-    let keeps : c.args.widths.keeps ≡ true = search rules in
-    let is : c.args.widths.inputs ≡ c.args.widths.inputs = refl in
-    let same : ◌≡◌ {A = Widths} c.kept-in_default.result c.args.widths = c.kept-in_default.ensures ∙ kept-is c.args.widths c.args.widths.inputs keeps is (c.requires.outputs ∙ outputs-keep _ _ (c.requires.keep keeps)) in
-    rw same c.requires.output
-
-pub returns-in_default-clause-ran : goal.returns-in_default-clause-ran
-returns-in_default-clause-ran g c =
-    let keeps : c.args.widths.keeps ≡ true = search rules in
-    let is : c.args.widths.inputs ≡ c.args.widths.inputs = refl in
-    let same : ◌≡◌ {A = Widths} c.kept-in_default.result c.args.widths = c.kept-in_default.ensures ∙ kept-is c.args.widths c.args.widths.inputs keeps is (c.requires.outputs ∙ outputs-keep _ _ (c.requires.keep keeps)) in
-    rw same at c.run_frames-in_default.ensures.ran
-
-pub returns-in_default-clause-small : goal.returns-in_default-clause-small
-returns-in_default-clause-small g c =
-    let keeps : c.args.widths.keeps ≡ true = search rules in
-    let is : c.args.widths.inputs ≡ c.args.widths.inputs = refl in
-    let same : ◌≡◌ {A = Widths} c.kept-in_default.result c.args.widths = c.kept-in_default.ensures ∙ kept-is c.args.widths c.args.widths.inputs keeps is (c.requires.outputs ∙ outputs-keep _ _ (c.requires.keep keeps)) in
-    rw same at c.run_frames-in_default.ensures.small
-
-pub returns-in_default-clause-behind : goal.returns-in_default-clause-behind
-returns-in_default-clause-behind g c =
-    let keeps : c.args.widths.keeps ≡ true = search rules in
-    let is : c.args.widths.inputs ≡ c.args.widths.inputs = refl in
-    let same : ◌≡◌ {A = Widths} c.kept-in_default.result c.args.widths = c.kept-in_default.ensures ∙ kept-is c.args.widths c.args.widths.inputs keeps is (c.requires.outputs ∙ outputs-keep _ _ (c.requires.keep keeps)) in
-    rw same at c.run_frames-in_default.ensures.behind
+pub returns-clause-ran : goal.returns-clause-ran
+returns-clause-ran g c = rw (RowThrough-stays g.S.Stage.acts c.args.widths.inputs c.pass_row-passed.result c.args.input.now _ _ _ c.if-passed-gt0.false c.pass_row-passed.ensures.through) at c.run_by_frames.ensures.ran
