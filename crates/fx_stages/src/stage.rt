@@ -1,8 +1,21 @@
 //! The stage of any effect.
+ghost use Rattle.std.specs.Prelude.{◌≡◌, ◌+◌, ◌*◌, ◌≤◌, List, FitsSigned, None, false, true, drop, length, take};
+ghost use Rattle.std.specs.Int.{w32};
+ghost use Rattle.std.specs.List.{All};
+ghost use Rattle.fx_frame.specs.Frame.{Samples};
+ghost use Rattle.fx_frame.specs.Ring.{pieces};
+ghost use Rattle.fx_frame.specs.Row.{EachThrough};
+ghost use Rattle.fx_frame.specs.Stage.{kind};
+ghost use Rattle.fx_stages.specs.Effects.{effect_acts};
+ghost use Rattle.fx_tap.specs.Mapped.{most_taken};
+ghost use Rattle.fx_tap.specs.PerSample.{sample_acts};
+
 use fx_cut::{Downsample, Fade, Pad, Trim, Upsample};
 use fx_frame::stage::Stage;
 use fx_frame::{Feeds, Frame, Passed, Passing, WideFrame};
 use fx_tap::both::pass_both;
+use fx_tap::mapped::Mapped;
+use fx_tap::per_sample::{PerSample, SamplesMany};
 use fx_tap::{DcShift, Delay, Echo, Echos, Fir, Remix, Vol};
 
 /// The stage of an effect.
@@ -106,6 +119,38 @@ impl Stage for EffectStage {
     }
 }
 
+/// Passes so many frames in front of the input through a dry stage that rounds each sample alone and the one behind it, where
+/// that is such a stage too: each frame through both before the next. Answers how many.
+fn pass_behind<A: SamplesMany + Drop>(
+    first: &mut Mapped<PerSample<A>>,
+    second: &mut EffectStage,
+    count: usize,
+    input: &[i32],
+    output: &mut [i32],
+) -> usize
+    requires first_dry { first.old.hand ≡ None }
+    requires first_open { first.old.ended ≡ false }
+    requires first_few { first.old.taken + count ≤ most_taken }
+    requires second_dry { effect_acts.dry second.old ≡ true }
+    requires second_open { (effect_acts.counts second.old).ended ≡ false }
+    requires follows { (effect_acts.counts second.old).taken ≡ first.old.given }
+    requires channels { (kind effect_acts second.old).inputs ≡ first.old.mapping.channels }
+    requires input { count * first.old.mapping.channels ≤ length input.now }
+    requires room { count * (kind effect_acts second.old).outputs ≤ length output.old }
+    ensures few { result ≤ count }
+    ensures keeps { 1 ≤ result → (kind effect_acts second.old).outputs ≡ first.old.mapping.channels }
+    ensures samples { All (FitsSigned w32) (take (result * first.old.mapping.channels) input.now) }
+    ensures through { (between : List Samples) × EachThrough (sample_acts A.rounded) (pieces first.old.mapping.channels result input.now) between first.old first.new × EachThrough effect_acts between (pieces first.old.mapping.channels result output.new) second.old second.new }
+    ensures behind { drop (result * first.old.mapping.channels) output.new ≡ drop (result * first.old.mapping.channels) output.old }
+{
+    match second {
+        EffectStage::Vol(second) => pass_both(first, second, count, input, output),
+        EffectStage::DcShift(second) => pass_both(first, second, count, input, output),
+        _ => return 0,
+    }
+    count
+}
+
 impl Feeds for EffectStage {
     fn feed(&mut self, input: &[i32], output: &mut [i32]) -> Passed {
         each!(self, stage => stage.feed(input, output))
@@ -130,29 +175,20 @@ impl Feeds for EffectStage {
 
     fn pass_row(
         stages: &mut [EffectStage],
-        _channels: usize,
-        _outputs: usize,
+        channels: usize,
+        outputs: usize,
         count: usize,
         input: &[i32],
         output: &mut [i32],
     ) -> usize {
-        match stages {
-            [EffectStage::Vol(first), EffectStage::Vol(second)] => {
-                pass_both(first, second, count, input, output);
-                count
-            }
-            [EffectStage::Vol(first), EffectStage::DcShift(second)] => {
-                pass_both(first, second, count, input, output);
-                count
-            }
-            [EffectStage::DcShift(first), EffectStage::Vol(second)] => {
-                pass_both(first, second, count, input, output);
-                count
-            }
-            [EffectStage::DcShift(first), EffectStage::DcShift(second)] => {
-                pass_both(first, second, count, input, output);
-                count
-            }
+        if stages.len() != 2 {
+            return 0;
+        }
+        let (front, back) = stages.split_at_mut(1);
+        let second = &mut back[0];
+        match &mut front[0] {
+            EffectStage::Vol(first) => pass_behind(first, second, count, input, output),
+            EffectStage::DcShift(first) => pass_behind(first, second, count, input, output),
             _ => 0,
         }
     }

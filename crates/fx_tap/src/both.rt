@@ -62,7 +62,7 @@ pub fn pass_both<A: SamplesMany + Drop, B: SamplesMany + Drop>(
     requires first_few { first.old.taken + count ≤ most_taken }
     requires second_dry { second.old.hand ≡ None }
     requires second_open { second.old.ended ≡ false }
-    requires second_few { second.old.taken + count ≤ most_taken }
+    requires follows { second.old.taken ≡ first.old.given }
     requires channels { second.old.mapping.channels ≡ first.old.mapping.channels }
     requires input { count * first.old.mapping.channels ≤ length input.now }
     requires room { count * first.old.mapping.channels ≤ length output.old }

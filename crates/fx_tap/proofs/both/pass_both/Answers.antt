@@ -17,6 +17,11 @@ count_passed-requires-clause-few_clips g c =
     let room : c.args.count * size ≤ length c.args.input.now = rw is c.requires.input in
     omega (arith, wide, c.rounded_by_both-clips.ensures.few.0, length-take-le (c.args.count * size) c.args.input.now room)
 
+pub count_passed-requires-2-clause-few : goal.count_passed-requires-2-clause-few
+count_passed-requires-2-clause-few g c =
+    let counted = rw c.requires.first_dry at c.mapping.ensures.sound.counted in
+    omega (arith, counted, c.requires.follows, c.requires.first_few)
+
 pub count_passed-requires-2-clause-few_clips : goal.count_passed-requires-2-clause-few_clips
 count_passed-requires-2-clause-few_clips g c =
     let size : ℕ = c.out_channels.result in
