@@ -118,7 +118,7 @@ fn in_one_byte(sample: i32) -> (i8, bool)
     ensures value { result.0 ≡ limited 1 sample }
     ensures clips { result.1 ≡ is_too_large 1 sample }
 {
-    let rounded = (i64::from(sample) + 0x80_0000) >> 24;
+    let rounded = ((sample >> 23) + 1) >> 1;
     (rounded.min(0x7f) as i8, rounded > 0x7f)
 }
 
@@ -128,7 +128,7 @@ fn in_two_bytes(sample: i32) -> (i16, bool)
     ensures value { result.0 ≡ limited 2 sample }
     ensures clips { result.1 ≡ is_too_large 2 sample }
 {
-    let rounded = (i64::from(sample) + 0x8000) >> 16;
+    let rounded = ((sample >> 15) + 1) >> 1;
     (rounded.min(0x7fff) as i16, rounded > 0x7fff)
 }
 
@@ -138,8 +138,8 @@ fn in_three_bytes(sample: i32) -> (i32, bool)
     ensures value { result.0 ≡ limited 3 sample }
     ensures clips { result.1 ≡ is_too_large 3 sample }
 {
-    let rounded = (i64::from(sample) + 0x80) >> 8;
-    (rounded.min(0x7f_ffff) as i32, rounded > 0x7f_ffff)
+    let rounded = ((sample >> 7) + 1) >> 1;
+    (rounded.min(0x7f_ffff), rounded > 0x7f_ffff)
 }
 
 #[cfg(test)]

@@ -1,6 +1,6 @@
 pub mod KindLaws
 pub mod Making
 pub mod NarrowLaws
-pub mod PairLaws
+pub mod RowParts
 pub mod Thawing
 pub mod Widths

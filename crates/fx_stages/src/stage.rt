@@ -13,6 +13,7 @@ ghost use Rattle.fx_tap.specs.PerSample.{sample_acts};
 use fx_cut::{Downsample, Fade, Pad, Trim, Upsample};
 use fx_frame::stage::Stage;
 use fx_frame::{Feeds, Frame, Passed, Passing, WideFrame};
+use fx_tap::around::pass_around;
 use fx_tap::both::pass_both;
 use fx_tap::mapped::Mapped;
 use fx_tap::per_sample::{PerSample, SamplesMany};
@@ -151,6 +152,43 @@ fn pass_behind<A: SamplesMany + Drop>(
     count
 }
 
+/// Passes so many frames in front of the input through a dry stage that rounds each sample alone, a dry `remix` and the one
+/// behind it, where that rounds each sample alone too: each frame through all three before the next. Answers how many.
+fn pass_remixed<A: SamplesMany + Drop>(
+    first: &mut Mapped<PerSample<A>>,
+    middle: &mut Remix,
+    last: &mut EffectStage,
+    count: usize,
+    input: &[i32],
+    output: &mut [i32],
+) -> usize
+    requires first_dry { first.old.hand ≡ None }
+    requires first_open { first.old.ended ≡ false }
+    requires first_few { first.old.taken + count ≤ most_taken }
+    requires middle_dry { middle.old.hand ≡ None }
+    requires middle_open { middle.old.ended ≡ false }
+    requires middle_follows { middle.old.taken ≡ first.old.given }
+    requires middle_channels { middle.old.mapping.channels ≡ first.old.mapping.channels }
+    requires last_dry { effect_acts.dry last.old ≡ true }
+    requires last_open { (effect_acts.counts last.old).ended ≡ false }
+    requires last_follows { (effect_acts.counts last.old).taken ≡ middle.old.given }
+    requires last_channels { (kind effect_acts last.old).inputs ≡ length middle.old.mapping.outs }
+    requires input { count * first.old.mapping.channels ≤ length input.now }
+    requires room { count * (kind effect_acts last.old).outputs ≤ length output.old }
+    ensures few { result ≤ count }
+    ensures frame { 1 ≤ result → 1 ≤ (kind effect_acts last.old).outputs }
+    ensures samples { All (FitsSigned w32) (take (result * first.old.mapping.channels) input.now) }
+    ensures through { (before after : List Samples) × EachThrough (sample_acts A.rounded) (pieces first.old.mapping.channels result input.now) before first.old first.new × EachThrough effect_acts before after (EffectStage.Remix middle.old) (EffectStage.Remix middle.new) × EachThrough effect_acts after (pieces (kind effect_acts last.old).outputs result output.new) last.old last.new }
+    ensures behind { drop (result * (kind effect_acts last.old).outputs) output.new ≡ drop (result * (kind effect_acts last.old).outputs) output.old }
+{
+    match last {
+        EffectStage::Vol(last) => pass_around(first, middle, last, count, input, output),
+        EffectStage::DcShift(last) => pass_around(first, middle, last, count, input, output),
+        _ => return 0,
+    }
+    count
+}
+
 impl Feeds for EffectStage {
     fn feed(&mut self, input: &[i32], output: &mut [i32]) -> Passed {
         each!(self, stage => stage.feed(input, output))
@@ -181,14 +219,27 @@ impl Feeds for EffectStage {
         input: &[i32],
         output: &mut [i32],
     ) -> usize {
-        if stages.len() != 2 {
+        if stages.len() == 2 {
+            let (front, back) = stages.split_at_mut(1);
+            let second = &mut back[0];
+            return match &mut front[0] {
+                EffectStage::Vol(first) => pass_behind(first, second, count, input, output),
+                EffectStage::DcShift(first) => pass_behind(first, second, count, input, output),
+                _ => 0,
+            };
+        }
+        if stages.len() != 3 {
             return 0;
         }
-        let (front, back) = stages.split_at_mut(1);
-        let second = &mut back[0];
+        let (front, rest) = stages.split_at_mut(1);
+        let (middle, back) = rest.split_at_mut(1);
+        let last = &mut back[0];
+        let EffectStage::Remix(middle) = &mut middle[0] else {
+            return 0;
+        };
         match &mut front[0] {
-            EffectStage::Vol(first) => pass_behind(first, second, count, input, output),
-            EffectStage::DcShift(first) => pass_behind(first, second, count, input, output),
+            EffectStage::Vol(first) => pass_remixed(first, middle, last, count, input, output),
+            EffectStage::DcShift(first) => pass_remixed(first, middle, last, count, input, output),
             _ => 0,
         }
     }

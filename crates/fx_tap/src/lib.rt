@@ -1,6 +1,7 @@
 //! Effects that compute samples: each sample is one exact fraction, rounded once.
 #![tactic(auto)]
 
+pub mod around;
 pub mod both;
 mod channels;
 mod convolve;

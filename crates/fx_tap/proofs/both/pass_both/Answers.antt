@@ -5,7 +5,7 @@ use Rattle.fx_frame.specs.Ring.{pieces}
 use Rattle.fx_frame.specs.Rounded.{clips_of, samples_of}
 use Rattle.fx_frame.proofs.Pieces.{length-pieces}
 use Rattle.fx_tap.specs.PerSample.{rounded_given}
-use Rattle.fx_tap.proofs.Blocks.{block-through}
+use Rattle.fx_tap.proofs.Blocks.{dry-through}
 use Rattle.fx_tap.proofs.BothLaws.{between, between-many, between-sides, first-clips, out-is, out-sides, second-clips}
 use Rattle.fx_tap.proofs.both.pass_both.Goals as goal
 
@@ -47,16 +47,10 @@ returns-clause-through g c =
     let made : out ≡ samples_of (map (λ x. h (f x).0) (take (n * size) input)) = rw (one-is, two-is, is) at c.rounded_by_both-clips.ensures.samples in
     let one : c.rounded_by_both-clips.result.first ≡ clips_of (map f (take (n * size) input)) = rw (one-is, is) at c.rounded_by_both-clips.ensures.first in
     let two : c.rounded_by_both-clips.result.second ≡ clips_of (map (λ x. h (f x).0) (take (n * size) input)) = rw (one-is, two-is, is) at c.rounded_by_both-clips.ensures.second in
-    let counted = rw c.requires.first_dry at c.mapping.ensures.sound.counted in
-    let counted-2 = rw c.requires.second_dry at c.mapping-3.ensures.sound.counted in
-    let even : s.given ≡ s.taken = omega (arith, counted) in
-    let even-2 : t.given ≡ t.taken = omega (arith, counted-2) in
-    let idle : s.hand_clips ≡ 0 = c.mapping.ensures.sound.idle (rw c.requires.first_dry refl) in
-    let idle-2 : t.hand_clips ≡ 0 = c.mapping-3.ensures.sound.idle (rw c.requires.second_dry refl) in
     rw (c.count_passed.ensures, c.count_passed-2.ensures) (
       between f h size n input room,
-      block-through (λ m. m.channels) (λ m. m.channels) (λ m frame. rounded_given (g.A.Sampling.rounded m.sampling) frame) s.mapping s n c.rounded_by_both-clips.result.first (pieces size n input) (between f h size n input room)
-          refl c.requires.first_dry idle c.requires.first_open even (length-pieces size n input) (between-sides f h size n input room) refl (one ∙ first-clips f h size n input room),
-      block-through (λ m. m.channels) (λ m. m.channels) (λ m frame. rounded_given (g.B.Sampling.rounded m.sampling) frame) t.mapping t n c.rounded_by_both-clips.result.second (between f h size n input room) _
-          refl c.requires.second_dry idle-2 c.requires.second_open even-2 (between-many f h size n input room) (rw c.requires.channels (out-sides f h size n input room out _ made)) (out-is f h size n input room out _ made) (two ∙ second-clips f h size n input room),
+      dry-through (λ m. m.channels) (λ m. m.channels) (λ m frame. rounded_given (g.A.Sampling.rounded m.sampling) frame) s n c.rounded_by_both-clips.result.first (pieces size n input) (between f h size n input room)
+          c.mapping.ensures.sound c.requires.first_dry c.requires.first_open (length-pieces size n input) (between-sides f h size n input room) refl (one ∙ first-clips f h size n input room),
+      dry-through (λ m. m.channels) (λ m. m.channels) (λ m frame. rounded_given (g.B.Sampling.rounded m.sampling) frame) t n c.rounded_by_both-clips.result.second (between f h size n input room) _
+          c.mapping-3.ensures.sound c.requires.second_dry c.requires.second_open (between-many f h size n input room) (rw c.requires.channels (out-sides f h size n input room out _ made)) (out-is f h size n input room out _ made) (two ∙ second-clips f h size n input room),
     )
