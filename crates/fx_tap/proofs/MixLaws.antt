@@ -18,7 +18,7 @@ use Rattle.fx_fixed.specs.declared.gains.TheConstants.{UNIT}
 use Rattle.fx_fixed.specs.declared.weights.Weight.{Weight}
 use Rattle.fx_tap.specs.EchoWeights.{Weights}
 use Rattle.fx_frame.specs.Lists.{tabulate}
-use Rattle.fx_tap.specs.Mix.{Copies, IsContribution, all_parts, pair_of}
+use Rattle.fx_tap.specs.Mix.{Copies, IsContribution, Means, all_parts, pair_of}
 use Rattle.fx_transform.specs.Products.{sum_of_products}
 use Rattle.fx_frame.specs.Rounded.{clips_of}
 use Rattle.fx_tap.specs.SmallWeights.{SumsAs}
@@ -114,6 +114,22 @@ copied-of channel weight frame whole fits =
 -- the sample of an output channel that is a channel of the input
 pub copied-sample : (cs : List Contribution) (channel : ℕ) (frame : Samples) → Copies cs channel → FitsSigned w32 (slice_index_or frame channel (pos 0)) → remixed_sample (map pair_of cs) frame ≡ (slice_index_or frame channel (pos 0), false)
 copied-sample cs channel frame copies fits = ap (λ l. remixed_sample l frame) copies.alone ∙ copied-of channel copies.weight frame copies.whole fits
+
+-- ---- the mean of two channels
+
+-- the sample of an output channel that is the mean of two channels of the input
+mean-of : (first second : ℕ) (u v : Weight) (frame : Samples) → parts_of 2 u ≡ pos UNIT → parts_of 2 v ≡ pos UNIT
+    → remixed_sample ((first, u) ∷ (second, v) ∷ []) frame ≡ rounding (slice_index_or frame first (pos 0) +ℤ slice_index_or frame second (pos 0)) 2
+mean-of first second u v frame left right =
+    let x : ℤ = slice_index_or frame first (pos 0) in
+    let y : ℤ = slice_index_or frame second (pos 0) in
+    let both : (pos UNIT *ℤ x) +ℤ ((pos UNIT *ℤ y) +ℤ pos 0) ≡ pos UNIT *ℤ (x +ℤ y) = omega (arith, ints) in
+    let over : 2 * UNIT ≡ UNIT * 2 = omega arith in
+    ap₂ (λ p q. rounding ((p *ℤ x) +ℤ ((q *ℤ y) +ℤ pos 0)) (2 * UNIT)) left right ∙ ap₂ rounding both over ∙ rounding-reduced UNIT 2 (x +ℤ y) (omega arith) (omega arith)
+
+pub mean-sample : (cs : List Contribution) (first second : ℕ) (frame : Samples) → Means cs first second
+    → remixed_sample (map pair_of cs) frame ≡ rounding (slice_index_or frame first (pos 0) +ℤ slice_index_or frame second (pos 0)) 2
+mean-sample cs first second frame means = ap (λ l. remixed_sample l frame) means.both ∙ mean-of first second means.first_weight means.second_weight frame means.first_half means.second_half
 
 -- none of them are clipped
 pub none-clipped : (f : ℕ → ℤ × Bool) (from count : ℕ) → ((i : ℕ) → i < count → (f (from + i)).1 ≡ false) → clips_of (tabulate f from count) ≡ 0

@@ -23,3 +23,11 @@ pub record Copies (cs : List Contribution) (channel : ℕ) : Type 0 where
   pub weight : Weight
   pub alone : map pair_of cs ≡ (channel, weight) ∷ []
   pub whole : parts_of 1 weight ≡ pos UNIT
+
+-- these two channels alone contribute, each with a weight of a half
+pub record Means (cs : List Contribution) (first second : ℕ) : Type 0 where
+  pub first_weight : Weight
+  pub second_weight : Weight
+  pub both : map pair_of cs ≡ (first, first_weight) ∷ (second, second_weight) ∷ []
+  pub first_half : parts_of 2 first_weight ≡ pos UNIT
+  pub second_half : parts_of 2 second_weight ≡ pos UNIT

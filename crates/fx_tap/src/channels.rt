@@ -1,5 +1,5 @@
 //! One channel of frames whose samples lie one after another.
-ghost use Rattle.std.specs.Prelude.{◌≡◌, ◌<◌, ◌≤◌, ◌+◌, ◌*◌, ◌^◌, ◌+ℤ◌, ◌*ℤ◌, ℕ, pos, length, slice_index_or, unsigned_abs, FitsSigned};
+ghost use Rattle.std.specs.Prelude.{◌≡◌, ◌<◌, ◌≤◌, ◌+◌, ◌-◌, ◌*◌, ◌^◌, ◌+ℤ◌, ◌*ℤ◌, ◌≤ℤ◌, false, ℕ, pos, neg_ℤ, length, slice_index_or, unsigned_abs, FitsSigned};
 ghost use Rattle.std.specs.Int.{w32};
 ghost use Rattle.fx_fixed.specs.Rounding.{rounding};
 ghost use Rattle.fx_frame.specs.Line.{channel_of};
@@ -97,6 +97,51 @@ pub(crate) fn place_channel(
     'frames: for _turn in 0..count {
         to[at] = from[read];
         read += inputs;
+        at += outputs;
+    }
+}
+
+/// Half the sum of two samples, halves away from zero.
+#[inline(always)]
+fn halved(sum: i64) -> i32
+    requires least { neg_ℤ (pos (2 ^ 32)) ≤ℤ sum }
+    requires most { sum ≤ℤ pos (2 ^ 32 - 2) }
+    ensures { rounding sum 2 ≡ (result, false) }
+{
+    ((sum + 1 + (sum >> 63)) >> 1) as i32
+}
+
+/// Writes the mean of two channels of so many frames, rounded once, over a channel of as many frames of other channels. None
+/// is clipped.
+#[inline(always)]
+pub(crate) fn place_mean(
+    from: &[i32],
+    inputs: usize,
+    first: usize,
+    second: usize,
+    count: usize,
+    to: &mut [i32],
+    outputs: usize,
+    place: usize,
+)
+    requires first { first < inputs }
+    requires second { second < inputs }
+    requires inputs { inputs ≤ 16 }
+    requires from { count * inputs ≤ length from.now }
+    requires place { place < outputs }
+    requires outputs { outputs ≤ 16 }
+    requires to { count * outputs ≤ length to.old }
+    ensures put { (i : ℕ) → i < count → slice_index_or to.new (i * outputs + place) (pos 0) ≡ (rounding (slice_index_or from.now (i * inputs + first) (pos 0) +ℤ slice_index_or from.now (i * inputs + second) (pos 0)) 2).0 }
+    ensures unclipped { (i : ℕ) → i < count → (rounding (slice_index_or from.now (i * inputs + first) (pos 0) +ℤ slice_index_or from.now (i * inputs + second) (pos 0)) 2).1 ≡ false }
+    ensures others { (i c : ℕ) → c < outputs → (c ≡ place → ⊥) → slice_index_or to.new (i * outputs + c) (pos 0) ≡ slice_index_or to.old (i * outputs + c) (pos 0) }
+{
+    let mut left = first;
+    let mut right = second;
+    let mut at = place;
+    'frames: for _turn in 0..count {
+        to[at] = halved(i64::from(from[left]) + i64::from(from[right]));
+        left += inputs;
+        right += inputs;
         at += outputs;
     }
 }

@@ -1,4 +1,5 @@
-use Rattle.std.proofs.Common.{rules, ◌≡◌, ◌<◌, ◌≤◌, ◌+◌, ◌*◌, ◌∙◌, [], ap, sym, false, Bool, ℕ, ℤ, List, pos, map, get_or, length, take, replicate, arith, slice_index_or, zero-add}
+use Rattle.std.proofs.Common.{rules, ◌≡◌, ◌<◌, ◌≤◌, ◌+◌, ◌*◌, ◌+ℤ◌, ◌∙◌, [], ap, sym, false, Bool, ℕ, ℤ, List, pos, map, get_or, length, take, replicate, arith, slice_index_or, zero-add}
+use mathlib.Core.Path.{ap₂}
 use Rattle.std.proofs.lemmas.List.{length-replicate, length-take-le}
 use Rattle.fx_fixed.specs.Rounding.{rounding}
 use Rattle.fx_fixed.specs.declared.gains.TheConstants.{UNIT}
@@ -6,12 +7,12 @@ use Rattle.fx_frame.specs.Frame.{Samples}
 use Rattle.fx_frame.specs.Ring.{pieces}
 use Rattle.fx_frame.proofs.Pieces.{get_or-piece}
 use Rattle.fx_tap.specs.EchoWeights.{Weights}
-use Rattle.fx_tap.specs.Mix.{Copies, all_parts, pair_of}
+use Rattle.fx_tap.specs.Mix.{Copies, Means, all_parts, pair_of}
 use Rattle.fx_tap.specs.Remix.{remixed_sample}
 use Rattle.fx_frame.specs.Rounded.{clips_of}
 use Rattle.fx_tap.specs.SmallWeights.{SumsAs}
 use Rattle.fx_tap.proofs.DelayLaws.{quiet-part}
-use Rattle.fx_tap.proofs.MixLaws.{copied-sample, none-clipped, small-mix}
+use Rattle.fx_tap.proofs.MixLaws.{copied-sample, mean-sample, none-clipped, small-mix}
 use Rattle.fx_frame.proofs.Tabulate.{tabulate-same}
 use Rattle.fx_tap.proofs.remix.Mix.channel_into.Goals as goal
 
@@ -39,6 +40,32 @@ returns-then-from-inputs-clause-clips c =
     rw (← c.self.view_is) (sym (none-clipped (λ i. remixed_sample (map pair_of cs) (get_or xs i [])) 0 c.args.count (λ i l.
     let e : 0 + i ≡ i = zero-add i in
     rw e (ap (λ (r : ℤ × Bool). r.1) (copied-sample cs channel (get_or xs i []) copies (rw (← read i l) at (c.place_channel.ensures.samples i l)))))))
+
+pub returns-then-second-inputs-clause-put : goal.returns-then-second-inputs-clause-put
+returns-then-second-inputs-clause-put c =
+    let cs = c.self.inside.contributions.items in
+    let first : ℕ = c.in-Some-mean.first in
+    let second : ℕ = c.in-Some-mean.second in
+    let means : Means cs first second = rw c.in-Some-mean.is at c.self.invariant.4 in
+    let xs : List Samples = pieces c.args.inputs c.args.count c.args.frames.now in
+    let one : (i : ℕ) → i < c.args.count → remixed_sample (map pair_of cs) (get_or xs i []) ≡ rounding (get_or c.args.frames.now (i * c.args.inputs + first) (pos 0) +ℤ get_or c.args.frames.now (i * c.args.inputs + second) (pos 0)) 2 = λ i l.
+    mean-sample cs first second (get_or xs i []) means
+    ∙ ap₂ (λ x y. rounding (x +ℤ y) 2) (get_or-piece c.args.inputs c.args.count c.args.frames.now i first (pos 0) l c.if-first-inputs.true) (get_or-piece c.args.inputs c.args.count c.args.frames.now i second (pos 0) l c.if-second-inputs.true) in
+    rw (← c.self.view_is) (λ i l. c.place_mean.ensures.put i l ∙ sym (ap (λ (r : ℤ × Bool). r.0) (one i l)))
+
+pub returns-then-second-inputs-clause-clips : goal.returns-then-second-inputs-clause-clips
+returns-then-second-inputs-clause-clips c =
+    let cs = c.self.inside.contributions.items in
+    let first : ℕ = c.in-Some-mean.first in
+    let second : ℕ = c.in-Some-mean.second in
+    let means : Means cs first second = rw c.in-Some-mean.is at c.self.invariant.4 in
+    let xs : List Samples = pieces c.args.inputs c.args.count c.args.frames.now in
+    let one : (i : ℕ) → i < c.args.count → remixed_sample (map pair_of cs) (get_or xs i []) ≡ rounding (get_or c.args.frames.now (i * c.args.inputs + first) (pos 0) +ℤ get_or c.args.frames.now (i * c.args.inputs + second) (pos 0)) 2 = λ i l.
+    mean-sample cs first second (get_or xs i []) means
+    ∙ ap₂ (λ x y. rounding (x +ℤ y) 2) (get_or-piece c.args.inputs c.args.count c.args.frames.now i first (pos 0) l c.if-first-inputs.true) (get_or-piece c.args.inputs c.args.count c.args.frames.now i second (pos 0) l c.if-second-inputs.true) in
+    rw (← c.self.view_is) (sym (none-clipped (λ i. remixed_sample (map pair_of cs) (get_or xs i [])) 0 c.args.count (λ i l.
+    let e : 0 + i ≡ i = zero-add i in
+    rw e (ap (λ (r : ℤ × Bool). r.1) (one i l) ∙ c.place_mean.ensures.unclipped i l))))
 
 pub returns-clause-put : goal.returns-clause-put
 returns-clause-put c =
