@@ -1,7 +1,9 @@
 -- Frames as bytes, sample by sample.
-use Rattle.std.proofs.Common.{◌≡◌, ℕ, ◌+◌, ◌-◌, ◌*◌, ◌<◌, Bool, true, false, cond, List, [], ◌∷◌, ◌++◌, length, take, drop, map, get_or, ℤ, pos, refl, sym, ap, ◌∙◌, arith, add-one, FitsSigned, to_z, of_z, to_z-of_z, w32}
-use Rattle.std.proofs.lemmas.List.{drop-drop, map-append, take_at, drop_at, take_more, flat_map_more, length-take, length-append, append_assoc, append-nil}
-use Rattle.std.proofs.lemmas.List.Sums.{count_by_more_yes, count_by_more_no}
+use Rattle.std.proofs.Common.{◌≡◌, ℕ, ◌+◌, ◌-◌, ◌*◌, ◌<◌, ◌≤◌, Bool, true, false, cond, List, [], ◌∷◌, ◌++◌, length, take, drop, map, get_or, ℤ, pos, refl, sym, ap, ◌∙◌, arith, add-one, FitsSigned, to_z, of_z, to_z-of_z, w32}
+use Rattle.std.proofs.lemmas.List.{drop-drop, map-append, take_at, drop_at, length-take, length-append, append_assoc, append-nil}
+use Rattle.std.proofs.lemmas.Grind.{flat_map-append}
+use Rattle.std.proofs.lemmas.List.Sums.{count_by_more_yes, count_by_more_no, sum_by-append}
+use Rattle.std.proofs.Math.Seq.{drop-cons, take-add}
 use Rattle.std.specs.List.{All}
 use Rattle.fx_frame.specs.declared.coding.Coding.{Coding}
 use Rattle.fx_frame.specs.declared.coding.Coding.TheVariants.{U8, S8, S16Le, S16Be, S24Le, S24Be, S32Le, S32Be}
@@ -35,25 +37,37 @@ pub length-bytes_of : (coding : Coding) (xs : Samples) → length (bytes_of codi
 length-bytes_of coding [] = omega arith
 length-bytes_of coding (x ∷ xs) = omega (arith, length-append (written coding x) (bytes_of coding xs), length-written coding x, length-bytes_of coding xs)
 
--- one sample more is written
-pub bytes_of-more : (coding : Coding) (xs : Samples) (k : ℕ) → k < length xs → bytes_of coding (take (k + 1) xs) ≡ bytes_of coding (take k xs) ++ written coding (get_or xs k (pos 0))
-bytes_of-more coding xs k h = ap (bytes_of coding) (take_more xs k (pos 0) h) ∙ sym (flat_map_more (written coding) [] (take k xs) (get_or xs k (pos 0)))
+-- the first samples and those behind them are written, and their clips are counted
+pub bytes_of-part : (coding : Coding) (xs : Samples) (k n : ℕ) → bytes_of coding (take (k + n) xs) ≡ bytes_of coding (take k xs) ++ bytes_of coding (take n (drop k xs))
+bytes_of-part coding xs k n = ap (bytes_of coding) (take-add k n xs) ∙ flat_map-append (written coding) (take k xs) (take n (drop k xs))
 
--- a turn of the loop that writes a frame
+pub clips_of-part : (coding : Coding) (xs : Samples) (k n : ℕ) → clips_of coding (take (k + n) xs) ≡ clips_of coding (take k xs) + clips_of coding (take n (drop k xs))
+clips_of-part coding xs k n = ap (clips_of coding) (take-add k n xs) ∙ sum_by-append (λ z. cond (clips_written coding z) 1 0) (take k xs) (take n (drop k xs))
+
+-- a turn of the loop that writes a part of the samples
+pub bytes_of-piece : (coding : Coding) (xs : Samples) (first out new : List ℕ) (k n at size : ℕ) → k ≤ length xs → at ≡ k * width_of coding → size ≡ n * width_of coding
+    → out ≡ bytes_of coding (take k xs) ++ drop (k * width_of coding) first
+    → new ≡ bytes_of coding (take n (drop k xs))
+    → put_mid at size out new ≡ bytes_of coding (take (k + n) xs) ++ drop ((k + n) * width_of coding) first
+bytes_of-piece coding xs first out new k n at size h a s e is =
+    let width : ℕ = width_of coding in
+    let front : length (bytes_of coding (take k xs)) ≡ k * width = length-bytes_of coding (take k xs) ∙ ap (λ m. m * width) (length-take k xs ∙ (omega arith)) in
+    let kept : take (k * width) out ≡ bytes_of coding (take k xs) = ap (take (k * width)) e ∙ take_at (bytes_of coding (take k xs)) (drop (k * width) first) (k * width) front in
+    let behind : drop (k * width) out ≡ drop (k * width) first = ap (drop (k * width)) e ∙ drop_at (bytes_of coding (take k xs)) (drop (k * width) first) (k * width) front in
+    let place : k * width + n * width ≡ (k + n) * width = omega arith in
+    let left : drop (n * width) (drop (k * width) out) ≡ drop ((k + n) * width) first =
+    ap (drop (n * width)) behind ∙ drop-drop (n * width) (k * width) first ∙ ap (λ m. drop m first) place in
+    rw (a, s, kept, left, is, bytes_of-part coding xs k n) (sym (append_assoc (bytes_of coding (take k xs)) (bytes_of coding (take n (drop k xs))) (drop ((k + n) * width) first)))
+
+-- a turn of the loop that writes one sample
 pub bytes_of-turn : (coding : Coding) (xs : Samples) (first out new : List ℕ) (k width : ℕ) → k < length xs → width ≡ width_of coding
     → out ≡ bytes_of coding (take k xs) ++ drop (k * width_of coding) first
     → new ≡ written coding (get_or xs k (pos 0))
     → put_mid (k * width) (k * width + width - k * width) out new ≡ bytes_of coding (take (k + 1) xs) ++ drop ((k + 1) * width_of coding) first
 bytes_of-turn coding xs first out new k width h w e n =
-    let size : ℕ = width_of coding in
-    let front : length (bytes_of coding (take k xs)) ≡ k * size = length-bytes_of coding (take k xs) ∙ ap (λ m. m * size) (length-take k xs ∙ (omega arith)) in
-    let kept : take (k * size) out ≡ bytes_of coding (take k xs) = ap (take (k * size)) e ∙ take_at (bytes_of coding (take k xs)) (drop (k * size) first) (k * size) front in
-    let behind : drop (k * size) out ≡ drop (k * size) first = ap (drop (k * size)) e ∙ drop_at (bytes_of coding (take k xs)) (drop (k * size) first) (k * size) front in
-    let one : k * size + size - k * size ≡ size = omega arith in
-    let place : k * size + size ≡ (k + 1) * size = omega arith in
-    let left : drop (k * size + size - k * size) (drop (k * size) out) ≡ drop ((k + 1) * size) first =
-    ap (λ m. drop m (drop (k * size) out)) one ∙ ap (drop size) behind ∙ drop-drop size (k * size) first ∙ ap (λ m. drop m first) place in
-    rw (w, kept, left, n, bytes_of-more coding xs k h) (sym (append_assoc (bytes_of coding (take k xs)) (written coding (get_or xs k (pos 0))) (drop ((k + 1) * size) first)))
+    let one : bytes_of coding (take 1 (drop k xs)) ≡ written coding (get_or xs k (pos 0)) = rw (drop-cons xs k (pos 0) h) (append-nil (written coding (get_or xs k (pos 0)))) in
+    let size : k * width + width - k * width ≡ 1 * width_of coding = omega arith in
+    bytes_of-piece coding xs first out new k 1 (k * width) (k * width + width - k * width) (omega arith) (ap (λ m. k * m) w) size e (n ∙ sym one)
 
 -- a clip more, or none
 pub clips_of-yes : (coding : Coding) (xs : Samples) (k clips : ℕ) → k < length xs → clips ≡ clips_of coding (take k xs) → clips_written coding (get_or xs k (pos 0)) ≡ true → clips + 1 ≡ clips_of coding (take (k + 1) xs)
