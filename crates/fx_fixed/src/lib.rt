@@ -26,6 +26,3 @@ pub use positions::{Anchor, At, Position};
 pub use rounding::round_clip;
 pub use times::{FARTHEST, TimeFault, TimeSpec};
 pub use weights::{OutSpec, Weight};
-
-#[cfg(test)]
-mod tests;

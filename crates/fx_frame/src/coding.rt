@@ -141,29 +141,3 @@ fn in_three_bytes(sample: i32) -> (i32, bool)
     let rounded = ((sample >> 7) + 1) >> 1;
     (rounded.min(0x7f_ffff), rounded > 0x7f_ffff)
 }
-
-#[cfg(test)]
-mod tests {
-    use super::*;
-
-    #[test]
-    fn u8_writes_and_reads(rt: HostRuntime) {
-        let rows = [
-            (2147483647, 255, true),
-            (0, 128, false),
-            (-2147483648, 0, false),
-        ];
-        for (sample, byte, is_clipped) in rows {
-            let mut bytes = [77];
-            assert_eq!(rt;
-                Coding::U8.write(sample, &mut bytes),
-                is_clipped,
-                "at {sample}"
-            );
-            assert_eq!(rt; bytes[0], byte, "at {sample}");
-        }
-        for (byte, sample) in [(128, 0), (0, -2147483648)] {
-            assert_eq!(rt; Coding::U8.read(&[byte]), sample, "at {byte}");
-        }
-    }
-}

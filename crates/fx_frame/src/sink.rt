@@ -119,21 +119,3 @@ impl ByteOut for Sink {
         Ok(())
     }
 }
-
-#[cfg(test)]
-mod tests {
-    use super::*;
-    use std::test::Fail;
-
-    #[test]
-    fn growth_sink(rt: HostRuntime) -> Result<(), Fail> {
-        match Sink::new(rt.alloc(), 4, 1, 0, false) {
-            Ok(sink) => {
-                assert!(rt; sink.taken().is_empty());
-                println!(rt; "made")?;
-            }
-            Err(_refused) => println!(rt; "refused")?,
-        }
-        Ok(())
-    }
-}

@@ -6,6 +6,3 @@ pub mod line;
 
 pub use bits::Bits;
 pub use line::{CommandWords, LineFault, read_line};
-
-#[cfg(test)]
-mod tests;

@@ -9,6 +9,3 @@ mod spectrum;
 mod transform;
 
 pub use spectrum::Spectrum;
-
-#[cfg(test)]
-mod tests;

@@ -1,5 +1,5 @@
 use Rattle.std.proofs.Common.{◌≡◌}
-use Rattle.fx_frame.proofs.line_tests.agrees.Given as goal
+use Rattle.tests_base.proofs.frame_tests.agrees.Given as goal
 
 abbrev pub invariant-pushes : goal.invariant-pushes
 invariant-pushes g l = l.line.channels ≡ l.channels

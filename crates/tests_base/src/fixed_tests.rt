@@ -1,4 +1,4 @@
-//! The worked rows, in tables.
+//! The worked rows of fx_fixed, in tables.
 
 ghost use Rattle.std.specs.Prelude.{◌≡◌, ◌∷◌, [], Err, None, Ok, Some, codes, negsuc, pos};
 ghost use Rattle.fx_fixed.specs.CoefficientFiles.{coefficients_of};
@@ -7,7 +7,10 @@ ghost use Rattle.fx_fixed.specs.Gains.{gain_of};
 ghost use Rattle.fx_fixed.specs.Positions.{places_of, position_of};
 ghost use Rattle.fx_fixed.specs.Times.{time_of};
 
-use super::*;
+use fx_fixed::{
+    Anchor, At, CoefFault, Coefficients, Gain, NumberFault, Position, TimeFault, TimeSpec, UNIT,
+    inner, millis, round_clip,
+};
 use std::alloc::Global;
 use std::test::Fail;
 

@@ -1,13 +1,31 @@
+//! The worked rows of fx_frame: codings, frames, lines and the writer into memory.
 ghost use Rattle.std.specs.Prelude.{◌≡◌, ◌≤◌, ◌^◌, length};
 
-use crate::frame::Frame;
-use crate::inner;
-use crate::line::Line;
-use crate::wide::WideFrame;
-use crate::wide_line::WideLine;
+use fx_frame::{Coding, Frame, Line, Sink, WideFrame, WideLine, inner};
 use std::alloc::Global;
 use std::process::Abort;
 use std::test::Fail;
+
+#[test]
+fn u8_writes_and_reads(rt: HostRuntime) {
+    let rows = [
+        (2147483647, 255, true),
+        (0, 128, false),
+        (-2147483648, 0, false),
+    ];
+    for (sample, byte, is_clipped) in rows {
+        let mut bytes = [77];
+        assert_eq!(rt;
+            Coding::U8.write(sample, &mut bytes),
+            is_clipped,
+            "at {sample}"
+        );
+        assert_eq!(rt; bytes[0], byte, "at {sample}");
+    }
+    for (byte, sample) in [(128, 0), (0, -2147483648)] {
+        assert_eq!(rt; Coding::U8.read(&[byte]), sample, "at {byte}");
+    }
+}
 
 #[test]
 fn frames(rt: HostRuntime) -> Result<(), Fail> {
@@ -175,6 +193,18 @@ fn growth_wide_line(rt: HostRuntime) -> Result<(), Fail> {
     match WideLine::new(rt.alloc(), 2, 3) {
         Ok(line) => {
             assert_eq!(rt; line.capacity(), 3);
+            println!(rt; "made")?;
+        }
+        Err(_refused) => println!(rt; "refused")?,
+    }
+    Ok(())
+}
+
+#[test]
+fn growth_sink(rt: HostRuntime) -> Result<(), Fail> {
+    match Sink::new(rt.alloc(), 4, 1, 0, false) {
+        Ok(sink) => {
+            assert!(rt; sink.taken().is_empty());
             println!(rt; "made")?;
         }
         Err(_refused) => println!(rt; "refused")?,

@@ -1,0 +1,12 @@
+//! The worked rows of fx_fixed, fx_frame, fx_line and fx_transform. They stand in a crate of their own, so that those crates
+//! are not proved once more for them.
+#![tactic(auto)]
+
+#[cfg(test)]
+mod fixed_tests;
+#[cfg(test)]
+mod frame_tests;
+#[cfg(test)]
+mod line_tests;
+#[cfg(test)]
+mod transform_tests;
