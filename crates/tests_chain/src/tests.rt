@@ -1,10 +1,15 @@
 //! The worked rows of bounds and steps.
+ghost use Rattle.std.specs.Prelude.{◌≡◌};
+ghost use Rattle.fx_plan.specs.Planning.{planning};
 
-use crate::driving::{Driven, TWELVE_EFFECTS, feed, finish, mono, next_step, plan_of};
 use fx_chain::Chain;
 use fx_flow::flow::{State, Step};
+use fx_plan::Plan;
 use std::alloc::Global;
 use std::test::Fail;
+use tests_driving::{
+    Driver, TWELVE_EFFECTS, chain_of, driver_of, mono, next_step, plan_of, put, tell_end,
+};
 
 const THREE_EFFECTS: &str = "pad 3s delay 4s echo 1 1 0.25 0.5";
 
@@ -14,46 +19,66 @@ const TWO_EFFECTS: &str = "upsample 2 delay 1s";
 /// What a chain did with a whole sound, and the bounds of its plan.
 #[derive(Drop)]
 struct Outcome {
-    driven: Driven,
-    moves: u64,
+    driver: Driver,
     hold: u64,
     work: u64,
     rate: u32,
 }
 
-/// What the chain of these effects does with these samples and then the end.
-fn driven_through(alloc: Global, effects: &str, samples: &[i32]) -> Result<Outcome, Fail> {
-    let plan = plan_of(alloc, effects)?;
-    let mut chain = Chain::new(alloc, &plan)?;
-    let mut driven = Driven::new(alloc);
-    feed(&mut chain, &mut driven, samples)?;
-    finish(&mut chain, &mut driven)?;
-    let frames = samples.len() as u64;
-    if chain.hold() != plan.hold() || chain.taken() != frames {
-        return Err("another hold, or other frames taken".into());
+/// Lets a chain of one channel take these samples and then the end.
+fn pass(driver: &mut Driver, samples: &[i32]) -> Result<(), &'static str>
+    requires { driver.old.chain.plan.head.channels ≡ 1 }
+    ensures { driver.new.chain.plan ≡ driver.old.chain.plan }
+{
+    driver.feed(samples)?;
+    driver.finish()?;
+    if driver.chain.taken() != samples.len() as u64 {
+        return Err("other frames taken");
     }
+    Ok(())
+}
+
+/// The bounds of the plan for the frames that the chain took, beside what the chain did; it has the same hold.
+fn with_bounds(plan: &Plan, driver: Driver) -> Result<Outcome, &'static str> {
+    if driver.chain.hold() != plan.hold() {
+        return Err("another hold");
+    }
+    let frames = driver.chain.taken();
     Ok(Outcome {
-        driven,
-        moves: chain.moves(),
+        driver,
         hold: plan.hold(),
         work: plan.work(frames),
         rate: plan.rate(),
     })
 }
 
+/// What the chain of these effects does with these samples and then the end.
+fn driven_through(alloc: Global, effects: &str, samples: &[i32]) -> Result<Outcome, &'static str> {
+    let plan = plan_of(alloc, effects)?;
+    let mut driver = Driver::new(alloc, &plan)?;
+    pass(&mut driver, samples)?;
+    with_bounds(&plan, driver)
+}
+
 #[test]
 fn empty_sound_three_effects(rt: HostRuntime) -> Result<(), Fail> {
     let got = driven_through(rt.alloc(), THREE_EFFECTS, &[])?;
-    assert_eq!(rt; got.driven.samples.as_slice(), [0; 9].as_slice());
-    assert_eq!(rt; (got.hold, got.work, got.moves), (10, 19, 19));
-    assert!(rt; got.driven.most_held <= 10);
+    assert_eq!(rt; got.driver.driven.samples.as_slice(), [0; 9].as_slice());
+    assert_eq!(rt;
+        (got.hold, got.work, got.driver.chain.moves()),
+        (10, 19, 19)
+    );
+    assert!(rt; got.driver.driven.most_held <= 10);
     Ok(())
 }
 
 #[test]
 fn trim_then_fade(rt: HostRuntime) -> Result<(), Fail> {
     let got = driven_through(rt.alloc(), "trim -3s fade t 0 0 2s", &[100, 100, 100, 100])?;
-    assert_eq!(rt; got.driven.samples.as_slice(), [100, 100, 50].as_slice());
+    assert_eq!(rt;
+        got.driver.driven.samples.as_slice(),
+        [100, 100, 50].as_slice()
+    );
     assert_eq!(rt; got.hold, 8);
     Ok(())
 }
@@ -62,7 +87,7 @@ fn trim_then_fade(rt: HostRuntime) -> Result<(), Fail> {
 fn twelve_line(rt: HostRuntime) -> Result<(), Fail> {
     let got = driven_through(rt.alloc(), TWELVE_EFFECTS, &[8, 8, 8, 8])?;
     assert_eq!(rt;
-        got.driven.samples.as_slice(),
+        got.driver.driven.samples.as_slice(),
         [0, 0, 8, 20, 28, 22, 10, 2, 0].as_slice()
     );
     assert_eq!(rt; got.rate, 8000);
@@ -73,19 +98,19 @@ fn twelve_line(rt: HostRuntime) -> Result<(), Fail> {
 #[test]
 fn twelve_line_moves(rt: HostRuntime) -> Result<(), Fail> {
     let got = driven_through(rt.alloc(), TWELVE_EFFECTS, &[8, 8, 8, 8])?;
-    assert_eq!(rt; got.moves, 106);
-    assert!(rt; got.driven.most_held <= 23);
+    assert_eq!(rt; got.driver.chain.moves(), 106);
+    assert!(rt; got.driver.driven.most_held <= 23);
     Ok(())
 }
 
 /// Makes these steps of a chain, which holds at most four frames after each.
-fn make_steps(chain: &mut Chain, steps: &[Step]) -> Result<(), Fail> {
+fn make_steps(chain: &mut Chain, steps: &[Step]) -> Result<(), &'static str> {
     for step in steps {
         if next_step(chain) != Some(*step) {
-            return Err("another step".into());
+            return Err("another step");
         }
         if chain.held() > 4 {
-            return Err("more than four frames held".into());
+            return Err("more than four frames held");
         }
     }
     Ok(())
@@ -93,10 +118,9 @@ fn make_steps(chain: &mut Chain, steps: &[Step]) -> Result<(), Fail> {
 
 #[test]
 fn two_idle_steps(rt: HostRuntime) -> Result<(), Fail> {
-    let plan = plan_of(rt.alloc(), TWO_EFFECTS)?;
-    let mut chain = Chain::new(rt.alloc(), &plan)?;
+    let mut chain = chain_of(rt.alloc(), TWO_EFFECTS)?;
     assert_eq!(rt; chain.hold(), 4);
-    chain.take(mono(5));
+    put(&mut chain, 5)?;
     assert_eq!(rt; chain.held(), 1);
     let steps = [
         Step::Moved,
@@ -107,10 +131,7 @@ fn two_idle_steps(rt: HostRuntime) -> Result<(), Fail> {
     ];
     make_steps(&mut chain, &steps)?;
     assert_eq!(rt; chain.moves(), 5);
-    let State::Hungry = chain.state() else {
-        return Err("not hungry".into());
-    };
-    chain.end();
+    tell_end(&mut chain)?;
     make_steps(&mut chain, &[Step::Idle, Step::Idle, Step::Given(mono(0))])?;
     assert_eq!(rt; chain.state(), State::Done);
     assert_eq!(rt; chain.moves(), 6);
@@ -119,41 +140,50 @@ fn two_idle_steps(rt: HostRuntime) -> Result<(), Fail> {
 
 #[test]
 fn all_that_is_due(rt: HostRuntime) -> Result<(), Fail> {
-    let plan = plan_of(rt.alloc(), TWO_EFFECTS)?;
-    let mut chain = Chain::new(rt.alloc(), &plan)?;
-    let mut driven = Driven::new(rt.alloc());
-    feed(&mut chain, &mut driven, &[5, 6])?;
-    assert_eq!(rt; driven.samples.as_slice(), [0, 5, 0, 6].as_slice());
-    assert!(rt; !chain.is_spent());
+    let mut driver = driver_of(rt.alloc(), TWO_EFFECTS)?;
+    driver.feed(&[5, 6])?;
+    assert_eq!(rt; driver.driven.samples.as_slice(), [0, 5, 0, 6].as_slice());
+    assert!(rt; !driver.chain.is_spent());
     Ok(())
+}
+
+/// How many samples two effects clipped. None where the plan of the chain has another number of them.
+fn clips_of_two(plan: &Plan, chain: &Chain) -> Option<(u64, u64)>
+    requires { chain.now.plan ≡ planning plan.now }
+{
+    if plan.effect_count() != 2 {
+        return None;
+    }
+    Some((chain.clips(1), chain.clips(2)))
+}
+
+/// A chain of two effects that took a whole sound, and what each clipped.
+fn whole_sound(alloc: Global) -> Result<(Driver, Option<(u64, u64)>), &'static str> {
+    let plan = plan_of(alloc, TWO_EFFECTS)?;
+    let mut driver = Driver::new(alloc, &plan)?;
+    pass(&mut driver, &[5, 6])?;
+    let clips = clips_of_two(&plan, &driver.chain);
+    Ok((driver, clips))
 }
 
 #[test]
 fn whole_sound_of_two_effects(rt: HostRuntime) -> Result<(), Fail> {
-    let plan = plan_of(rt.alloc(), TWO_EFFECTS)?;
-    let mut chain = Chain::new(rt.alloc(), &plan)?;
-    let mut driven = Driven::new(rt.alloc());
-    if plan.effect_count() != 2 {
-        return Err("another number of effects".into());
-    }
-    feed(&mut chain, &mut driven, &[5, 6])?;
-    finish(&mut chain, &mut driven)?;
-    assert_eq!(rt; driven.samples.as_slice(), [0, 5, 0, 6, 0].as_slice());
-    assert_eq!(rt; chain.moves(), 11);
-    assert_eq!(rt; (chain.clips(1), chain.clips(2)), (0, 0));
+    let (driver, clips) = whole_sound(rt.alloc())?;
+    assert_eq!(rt;
+        driver.driven.samples.as_slice(),
+        [0, 5, 0, 6, 0].as_slice()
+    );
+    assert_eq!(rt; driver.chain.moves(), 11);
+    assert_eq!(rt; clips, Some((0, 0)));
     Ok(())
 }
 
 #[test]
 fn empty_chain(rt: HostRuntime) -> Result<(), Fail> {
-    let plan = plan_of(rt.alloc(), "")?;
-    let mut chain = Chain::new(rt.alloc(), &plan)?;
-    chain.take(mono(5));
+    let mut chain = chain_of(rt.alloc(), "")?;
+    put(&mut chain, 5)?;
     assert_eq!(rt; next_step(&mut chain), Some(Step::Given(mono(5))));
-    let State::Hungry = chain.state() else {
-        return Err("not hungry".into());
-    };
-    chain.end();
+    tell_end(&mut chain)?;
     assert_eq!(rt; chain.state(), State::Done);
     Ok(())
 }

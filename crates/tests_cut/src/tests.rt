@@ -246,24 +246,34 @@ fn fade_end_stop(rt: HostRuntime) -> Result<(), Fail> {
     Ok(())
 }
 
+/// What a `trim` from 1 to the last frame gives for 4 and 5, made again from what it stores and counts after 1 2 3.
+fn trim_thawed(alloc: Global) -> Result<Vec<i32>, Fail> {
+    let positions = [At::Start(1), At::End(1)];
+    let mut trim = Trim::new(alloc, 1, &positions)?;
+    let frames = frozen(alloc, &mut trim, &[1, 2, 3], &[2])?;
+    let again = Trim::thaw(alloc, 1, &positions, &frames, &trim.counters());
+    goes_on(alloc, again, 3, &[4, 5])
+}
+
 #[test]
 fn trim_thaws(rt: HostRuntime) -> Result<(), Fail> {
-    let positions = [At::Start(1), At::End(1)];
-    let mut trim = Trim::new(rt.alloc(), 1, &positions)?;
-    let frames = frozen(rt.alloc(), &mut trim, &[1, 2, 3], &[2])?;
-    let again = Trim::thaw(rt.alloc(), 1, &positions, &frames, &trim.counters());
-    let rest = goes_on(rt.alloc(), again, 3, &[4, 5])?;
+    let rest = trim_thawed(rt.alloc())?;
     assert_eq!(rt; rest.as_slice(), [3, 4].as_slice());
     Ok(())
 }
 
+/// What a `pad` of 2 at 1 and of 1 before the last frame gives for 3, made again from what it stores and counts after 1 2.
+fn pad_thawed(alloc: Global) -> Result<Vec<i32>, Fail> {
+    let pads = [(2, At::Start(1)), (1, At::End(1))];
+    let mut pad = Pad::new(alloc, 1, &pads)?;
+    let frames = frozen(alloc, &mut pad, &[1, 2], &[1])?;
+    let again = Pad::thaw(alloc, 1, &pads, &frames, &pad.counters());
+    goes_on(alloc, again, 2, &[3])
+}
+
 #[test]
 fn pad_thaws(rt: HostRuntime) -> Result<(), Fail> {
-    let pads = [(2, At::Start(1)), (1, At::End(1))];
-    let mut pad = Pad::new(rt.alloc(), 1, &pads)?;
-    let frames = frozen(rt.alloc(), &mut pad, &[1, 2], &[1])?;
-    let again = Pad::thaw(rt.alloc(), 1, &pads, &frames, &pad.counters());
-    let rest = goes_on(rt.alloc(), again, 2, &[3])?;
+    let rest = pad_thawed(rt.alloc())?;
     assert_eq!(rt; rest.as_slice(), [0, 0, 2, 0, 3].as_slice());
     Ok(())
 }

@@ -1,8 +1,11 @@
+ghost use Rattle.std.specs.Prelude.{◌<◌};
+
 use fx_frame::inner::one;
 use fx_frame::{ByteIn, Coding, Frame, Tape};
 use fx_sound::inner::read_sound;
-use fx_sound::{Head, Kind, Progress, Source, head_bytes, next_frame, read_head};
+use fx_sound::{Head, Kind, Progress, ReadFault, Source, head_bytes, next_frame, read_head};
 use std::alloc::Global;
+use std::process::Abort;
 use std::test::Fail;
 
 /// A sound of two frames of 32 bits in AU.
@@ -118,26 +121,46 @@ fn skipped_chunk_sizes(rt: HostRuntime) -> Result<(), Fail> {
     Ok(())
 }
 
+/// A WAVE of two channels and 24 bits with one frame and a byte more, told in pieces of at most so many bytes.
+fn wave_of_one_frame(alloc: Global, piece: usize) -> Result<Tape, Fail>
+    requires { 0 < piece }
+{
+    let mut bytes = from_hex(alloc, HEAD_WAVE_S24)?;
+    let sound = from_hex(alloc, "010000ffffff02")?;
+    bytes.extend_from_slice(sound.as_slice())?;
+    Ok(Tape::new(bytes, piece, 0, false))
+}
+
+/// What three calls in turn give.
+fn next_three(
+    source: &mut Source<Tape>,
+    progress: &mut Progress,
+) -> Result<[Option<Frame>; 3], ReadFault> {
+    let first = next_frame(source, progress)?;
+    let second = next_frame(source, progress)?;
+    let third = next_frame(source, progress)?;
+    Ok([first, second, third])
+}
+
+/// The one frame of that WAVE, behind its head, and what is counted then.
+fn read_one_frame(rt: &impl Abort, source: &mut Source<Tape>) -> Result<(), Fail> {
+    let head = read_head(source, None)?;
+    assert_eq!(rt; head.announced, None);
+    let mut progress = Progress::new(&head);
+    let frames = next_three(source, &mut progress)?;
+    assert_eq!(rt; frames, [Frame::from_slice(&[256, -256]), None, None]);
+    assert_eq!(rt;
+        (progress.frames(), progress.missing(), progress.stray()),
+        (1, 0, 1)
+    );
+    Ok(())
+}
+
 #[test]
 fn wave_24_stereo(rt: HostRuntime) -> Result<(), Fail> {
-    for slowly in [false, true] {
-        let mut bytes = from_hex(rt.alloc(), HEAD_WAVE_S24)?;
-        bytes.extend_from_slice(from_hex(rt.alloc(), "010000ffffff02")?.as_slice())?;
-        let tape = Tape::new(bytes, if slowly { 1 } else { 4096 }, 0, false);
-        let mut source = Source::new(tape);
-        let head = read_head(&mut source, None)?;
-        assert_eq!(rt; head.announced, None);
-        let mut progress = Progress::new(&head);
-        assert_eq!(rt;
-            next_frame(&mut source, &mut progress)?,
-            Frame::from_slice(&[256, -256])
-        );
-        assert_eq!(rt; next_frame(&mut source, &mut progress)?, None);
-        assert_eq!(rt; next_frame(&mut source, &mut progress)?, None);
-        assert_eq!(rt;
-            (progress.frames(), progress.missing(), progress.stray()),
-            (1, 0, 1)
-        );
+    for piece in [4096, 1] {
+        let mut source = Source::new(wave_of_one_frame(rt.alloc(), piece)?);
+        read_one_frame(&rt, &mut source)?;
     }
     Ok(())
 }

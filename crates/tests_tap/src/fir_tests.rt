@@ -82,6 +82,19 @@ fn plainly(
     Ok(samples)
 }
 
+/// Feeds a block, of which all has to be taken, into a room; how many samples are given.
+fn feed_into(fir: &mut Fir, block: &[i32], room: &mut [i32]) -> Result<usize, &'static str> {
+    let channels = fir.in_channels();
+    if channels == 0 || channels > 16 || block.len() > 1 << 20 || fir.counters()[0] > 1 << 20 {
+        return Err("not ready for the block");
+    }
+    let passed = fir.feed(block, room);
+    if passed.taken.wrapping_mul(channels) != block.len() {
+        return Err("not the whole block");
+    }
+    Ok(passed.given.wrapping_mul(channels))
+}
+
 /// Feeds a block, of which all has to be taken, and adds the samples that are given.
 fn feed_block(
     alloc: Global,
@@ -89,17 +102,10 @@ fn feed_block(
     block: &[i32],
     given: &mut Vec<i32>,
 ) -> Result<(), Fail> {
-    let channels = fir.in_channels();
-    if channels == 0 || channels > 16 || block.len() > 1 << 20 || fir.counters()[0] > 1 << 20 {
-        return Err("not ready for the block".into());
-    }
     let mut room = Vec::new(alloc);
     room.resize(block.len(), 0)?;
-    let passed = fir.feed(block, &mut room);
-    if passed.taken.wrapping_mul(channels) != block.len() {
-        return Err("not the whole block".into());
-    }
-    let Some(samples) = room.get(..passed.given.wrapping_mul(channels)) else {
+    let count = feed_into(fir, block, &mut room)?;
+    let Some(samples) = room.get(..count) else {
         return Err("more than there is room for".into());
     };
     given.extend_from_slice(samples)?;

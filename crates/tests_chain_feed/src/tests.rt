@@ -1,11 +1,11 @@
 //! Chains that are fed pieces of a sound, beside chains that take its frames one by one.
 ghost use Rattle.std.specs.Prelude.{◌≡◌, ◌<◌, ◌≤◌, IfOk};
 
-use crate::driving::{Driven, TWELVE_EFFECTS, feed, finish, plan_of};
-use fx_chain::Chain;
+use fx_chain::{Chain, Snapshot};
 use fx_flow::flow::{MOST_FRAMES, State};
 use std::alloc::Global;
 use std::test::Fail;
+use tests_driving::{Driven, Driver, TWELVE_EFFECTS, plan_of};
 
 /// How many samples the sound of a row has.
 const SAMPLES: usize = 300;
@@ -59,11 +59,13 @@ impl Dice {
 }
 
 /// The samples of a sound, loud ones among them.
-fn sound(alloc: Global, dice: &mut Dice) -> Result<Vec<i32>, Fail> {
+fn sound(alloc: Global, dice: &mut Dice) -> Result<Vec<i32>, &'static str> {
     let mut samples = Vec::new(alloc);
     for _place in 0..SAMPLES {
         let sample = i64::from(dice.next_below(1 << 16)) * 65_536 - (1 << 31);
-        samples.push(sample as i32)?;
+        if samples.push(sample as i32).is_err() {
+            return Err("no memory for the sound");
+        }
     }
     Ok(samples)
 }
@@ -74,21 +76,22 @@ fn feed_once(
     driven: &mut Driven,
     piece: &[i32],
     room: usize,
-) -> Result<(usize, bool), Fail>
+) -> Result<(usize, bool), &'static str>
     requires channels { chain.old.plan.head.channels ≡ 1 }
     requires room { room ≤ MOST_ROOM }
     ensures { chain.new.plan ≡ chain.old.plan }
 {
     if piece.len() > SAMPLES || chain.taken() > MOST_FRAMES / 2 {
-        return Err("too many frames".into());
+        return Err("too many frames");
     }
     let mut output = [0; MOST_ROOM as usize];
     let passed = chain.feed(piece, &mut output[..room]);
     if passed.given > room {
-        return Err("more given than there is room for".into());
+        return Err("more given than there is room for");
     }
-    for sample in &output[..passed.given] {
-        driven.samples.push(*sample)?;
+    let given = &output[..passed.given];
+    if driven.samples.extend_from_slice(given).is_err() {
+        return Err("no memory for the samples");
     }
     let waits = !matches!(chain.state(), State::Busy);
     Ok((passed.taken, waits))
@@ -100,7 +103,7 @@ fn feed_piece(
     driven: &mut Driven,
     piece: &[i32],
     dice: &mut Dice,
-) -> Result<(), Fail>
+) -> Result<(), &'static str>
     requires { chain.old.plan.head.channels ≡ 1 }
     ensures { chain.new.plan ≡ chain.old.plan }
 {
@@ -109,20 +112,28 @@ fn feed_piece(
         let room = dice.next_below(MOST_ROOM) as usize;
         let (taken, waits) = feed_once(chain, driven, rest, room)?;
         if taken > rest.len().min(SAMPLES) {
-            return Err("more taken than there is".into());
+            return Err("more taken than there is");
         }
         rest = &rest[taken..];
         if waits && (rest.is_empty() || chain.is_spent()) {
             return Ok(());
         }
     }
-    Err("feeding without end".into())
+    Err("feeding without end")
+}
+
+/// What a chain is frozen to.
+fn frozen(alloc: Global, chain: &Chain) -> Result<Snapshot, &'static str> {
+    match chain.freeze(alloc) {
+        Ok(snapshot) => Ok(snapshot),
+        Err(_refused) => Err("no memory for the snapshot"),
+    }
 }
 
 /// Are two chains the same to their callers: hand-overs, frames held, clips, and what they are frozen to?
-fn are_alike(alloc: Global, fed: &Chain, stepped: &Chain) -> Result<bool, Fail> {
-    let one = fed.freeze(alloc)?;
-    let other = stepped.freeze(alloc)?;
+fn are_alike(alloc: Global, fed: &Chain, stepped: &Chain) -> Result<bool, &'static str> {
+    let one = frozen(alloc, fed)?;
+    let other = frozen(alloc, stepped)?;
     let counts = fed.moves() == stepped.moves() && fed.held() == stepped.held();
     Ok(counts && one.numbers == other.numbers && one.frames == other.frames)
 }
@@ -130,89 +141,102 @@ fn are_alike(alloc: Global, fed: &Chain, stepped: &Chain) -> Result<bool, Fail> 
 /// A chain that is fed, and one of the same plan that takes frames one by one.
 #[derive(Drop)]
 struct Pair {
-    chain: Chain,
-    fed: Driven,
-    other: Chain,
-    stepped: Driven,
+    fed: Driver,
+    stepped: Driver,
 }
 
 impl Pair {
     /// Two new chains of these effects.
-    fn new(alloc: Global, effects: &str) -> Result<Pair, Fail>
-        ensures { IfOk result (λ p. (p.chain.plan.head.channels ≡ 1) × (p.other.plan.head.channels ≡ 1)) }
+    fn new(alloc: Global, effects: &str) -> Result<Pair, &'static str>
+        ensures { IfOk result (λ p. (p.fed.chain.plan.head.channels ≡ 1) × (p.stepped.chain.plan.head.channels ≡ 1)) }
     {
         let plan = plan_of(alloc, effects)?;
-        Ok(Pair {
-            chain: Chain::new(alloc, &plan)?,
-            fed: Driven::new(alloc),
-            other: Chain::new(alloc, &plan)?,
-            stepped: Driven::new(alloc),
-        })
+        let fed = Driver::new(alloc, &plan)?;
+        let stepped = Driver::new(alloc, &plan)?;
+        Ok(Pair { fed, stepped })
     }
 
     /// Feeds one a piece, and lets the other take the frames that the first one took; how many that are.
-    fn take_piece(&mut self, piece: &[i32], dice: &mut Dice) -> Result<usize, Fail>
-        requires fed { self.old.chain.plan.head.channels ≡ 1 }
-        requires stepped { self.old.other.plan.head.channels ≡ 1 }
-        ensures fed { self.new.chain.plan ≡ self.old.chain.plan }
-        ensures stepped { self.new.other.plan ≡ self.old.other.plan }
+    fn take_piece(&mut self, piece: &[i32], dice: &mut Dice) -> Result<usize, &'static str>
+        requires fed { self.old.fed.chain.plan.head.channels ≡ 1 }
+        requires stepped { self.old.stepped.chain.plan.head.channels ≡ 1 }
+        ensures fed { self.new.fed.chain.plan ≡ self.old.fed.chain.plan }
+        ensures stepped { self.new.stepped.chain.plan ≡ self.old.stepped.chain.plan }
     {
-        let before = self.chain.taken();
-        feed_piece(&mut self.chain, &mut self.fed, piece, dice)?;
-        let taken = self.chain.taken().saturating_sub(before) as usize;
+        let before = self.fed.chain.taken();
+        feed_piece(&mut self.fed.chain, &mut self.fed.driven, piece, dice)?;
+        let taken = self.fed.chain.taken().saturating_sub(before) as usize;
         if taken > piece.len() {
-            return Err("more taken than there is".into());
+            return Err("more taken than there is");
         }
-        feed(&mut self.other, &mut self.stepped, &piece[..taken])?;
+        self.stepped.feed(&piece[..taken])?;
         Ok(taken)
     }
 
     /// Tells both the end, and steps them until they are done.
-    fn finish(&mut self) -> Result<(), Fail> {
-        finish(&mut self.chain, &mut self.fed)?;
-        finish(&mut self.other, &mut self.stepped)
+    fn finish(&mut self) -> Result<(), &'static str> {
+        self.fed.finish()?;
+        self.stepped.finish()
     }
 
     /// The fault of two that are not alike: in what they gave, or to their callers.
-    fn compare(&self, alloc: Global) -> Result<(), Fail> {
-        if self.fed.samples != self.stepped.samples {
-            return Err("other samples".into());
+    fn compare(&self, alloc: Global) -> Result<(), &'static str> {
+        if self.fed.driven.samples != self.stepped.driven.samples {
+            return Err("other samples");
         }
-        if !are_alike(alloc, &self.chain, &self.other)? {
-            return Err("other counts or snapshots".into());
+        if !are_alike(alloc, &self.fed.chain, &self.stepped.chain)? {
+            return Err("other counts or snapshots");
         }
         Ok(())
     }
 }
 
 /// Feeds a sound in random pieces, beside frames one by one.
-fn feed_sound(alloc: Global, pair: &mut Pair, samples: &[i32], dice: &mut Dice) -> Result<(), Fail>
-    requires fed { pair.old.chain.plan.head.channels ≡ 1 }
-    requires stepped { pair.old.other.plan.head.channels ≡ 1 }
+fn feed_sound(
+    alloc: Global,
+    pair: &mut Pair,
+    samples: &[i32],
+    dice: &mut Dice,
+) -> Result<(), &'static str>
+    requires fed { pair.old.fed.chain.plan.head.channels ≡ 1 }
+    requires stepped { pair.old.stepped.chain.plan.head.channels ≡ 1 }
 {
     let mut rest = samples;
     'pieces: for _piece in 0..MOST_PIECES {
-        if rest.is_empty() || pair.other.is_spent() {
+        if rest.is_empty() || pair.stepped.chain.is_spent() {
             return Ok(());
         }
         let size = rest.len().min(1 + dice.next_below(50) as usize);
         let taken = pair.take_piece(&rest[..size], dice)?;
         if taken > size {
-            return Err("more taken than there is".into());
+            return Err("more taken than there is");
         }
         rest = &rest[taken..];
         pair.compare(alloc)?;
     }
-    Err("pieces without end".into())
+    Err("pieces without end")
+}
+
+/// Feeds two new chains a sound, one of them frame by frame, to the end.
+fn feed_pair(
+    alloc: Global,
+    pair: &mut Pair,
+    samples: &[i32],
+    dice: &mut Dice,
+) -> Result<(), &'static str>
+    requires fed { pair.old.fed.chain.plan.head.channels ≡ 1 }
+    requires stepped { pair.old.stepped.chain.plan.head.channels ≡ 1 }
+{
+    feed_sound(alloc, pair, samples, dice)?;
+    pair.finish()?;
+    pair.compare(alloc)
 }
 
 /// Feeds a new chain of these effects a sound, beside frames one by one, to the end.
-fn feed_row(alloc: Global, effects: &str, dice: &mut Dice) -> Result<(), Fail> {
-    let mut pair = Pair::new(alloc, effects)?;
+fn feed_row(alloc: Global, effects: &str, dice: &mut Dice) -> Result<(), &'static str> {
     let samples = sound(alloc, dice)?;
-    feed_sound(alloc, &mut pair, &samples, dice)?;
-    pair.finish()?;
-    pair.compare(alloc)
+    let mut pair = Pair::new(alloc, effects)?;
+    feed_pair(alloc, &mut pair, &samples, dice)
 }
 
 #[test]

@@ -2,9 +2,6 @@
 ghost use Rattle.std.specs.Prelude.{◌≡◌, IfOk, IfSome};
 ghost use Rattle.fx_plan.specs.Planning.{planning};
 
-use crate::driving::{
-    Driven, TWELVE_EFFECTS, feed, finish, first_sample, found_plan, mono, next_step, plan_of,
-};
 use fx_chain::{Chain, Snapshot};
 use fx_flow::flow::{MOST_FRAMES, State, Step};
 use fx_frame::WideFrame;
@@ -12,6 +9,10 @@ use fx_frame::stage::ThawFault;
 use fx_plan::Plan;
 use std::alloc::Global;
 use std::test::Fail;
+use tests_driving::{
+    Driven, Driver, TWELVE_EFFECTS, chain_of, driver_of, first_sample, found_plan, mono, next_step,
+    plan_of, put, tell_end,
+};
 
 /// More calls than a chain of these rows is given.
 const MOST_CALLS: u32 = 1000;
@@ -21,40 +22,49 @@ const TWELVE_SAMPLES: [i32; 4] = [8, 8, 8, 8];
 const TWELVE_OUTPUT: [i32; 9] = [0, 0, 8, 20, 28, 22, 10, 2, 0];
 
 /// The chain of these effects after it took frames of these samples, hungry again, and what it did.
-fn fed(alloc: Global, effects: &str, samples: &[i32]) -> Result<(Chain, Driven), Fail> {
-    let plan = plan_of(alloc, effects)?;
-    let mut chain = Chain::new(alloc, &plan)?;
-    let mut driven = Driven::new(alloc);
-    feed(&mut chain, &mut driven, samples)?;
-    Ok((chain, driven))
+fn fed(alloc: Global, effects: &str, samples: &[i32]) -> Result<Driver, &'static str> {
+    let mut driver = driver_of(alloc, effects)?;
+    driver.feed(samples)?;
+    Ok(driver)
+}
+
+/// What a chain is frozen to.
+fn frozen(alloc: Global, chain: &Chain) -> Result<Snapshot, &'static str>
+    ensures { IfOk result (λ s. planning s.plan ≡ chain.now.plan) }
+{
+    match chain.freeze(alloc) {
+        Ok(snapshot) => Ok(snapshot),
+        Err(_refused) => Err("no memory for the snapshot"),
+    }
 }
 
 /// The snapshot of the chain of these effects after it took frames of these samples.
-fn snapshot_of(alloc: Global, effects: &str, samples: &[i32]) -> Result<Snapshot, Fail> {
-    let (chain, _driven) = fed(alloc, effects, samples)?;
-    Ok(chain.freeze(alloc)?)
+fn snapshot_of(alloc: Global, effects: &str, samples: &[i32]) -> Result<Snapshot, &'static str> {
+    let driver = fed(alloc, effects, samples)?;
+    frozen(alloc, &driver.chain)
 }
 
 /// The snapshot of `trim -3s` after 1 2 3 4 5.
-fn trim_snapshot(alloc: Global) -> Result<Snapshot, Fail> {
+fn trim_snapshot(alloc: Global) -> Result<Snapshot, &'static str> {
     snapshot_of(alloc, "trim -3s", &[1, 2, 3, 4, 5])
 }
 
 /// The chain that a snapshot came from.
-fn thawed(alloc: Global, snapshot: &Snapshot) -> Result<Chain, Fail>
+fn thawed(alloc: Global, snapshot: &Snapshot) -> Result<Chain, &'static str>
     ensures { IfOk result (λ c. c.plan ≡ planning snapshot.now.plan) }
 {
     match Chain::thaw(alloc, &snapshot.plan, snapshot) {
         Ok(chain) => Ok(chain),
-        Err(_fault) => Err("no chain of this snapshot".into()),
+        Err(_fault) => Err("no chain of this snapshot"),
     }
 }
 
 /// What the chain of a snapshot does where it is told the end.
-fn thawed_to_the_end(alloc: Global, snapshot: &Snapshot) -> Result<Driven, Fail> {
-    let mut again = thawed(alloc, snapshot)?;
-    let mut further = Driven::new(alloc);
-    finish(&mut again, &mut further)?;
+fn thawed_to_the_end(alloc: Global, snapshot: &Snapshot) -> Result<Driver, &'static str> {
+    let chain = thawed(alloc, snapshot)?;
+    let driven = Driven::new(alloc);
+    let mut further = Driver { chain, driven };
+    further.finish()?;
     Ok(further)
 }
 
@@ -73,10 +83,12 @@ fn first_wide(frame: &WideFrame) -> i64 {
 }
 
 /// The samples of the first channel of frames.
-fn first_samples(alloc: Global, frames: &[WideFrame]) -> Result<Vec<i64>, Fail> {
+fn first_samples(alloc: Global, frames: &[WideFrame]) -> Result<Vec<i64>, &'static str> {
     let mut samples = Vec::new(alloc);
     for frame in frames {
-        samples.push(first_wide(frame))?;
+        if samples.push(first_wide(frame)).is_err() {
+            return Err("no memory for the samples");
+        }
     }
     Ok(samples)
 }
@@ -93,16 +105,23 @@ fn freeze_trim(rt: HostRuntime) -> Result<(), Fail> {
 fn thaw_trim(rt: HostRuntime) -> Result<(), Fail> {
     let snapshot = trim_snapshot(rt.alloc())?;
     let further = thawed_to_the_end(rt.alloc(), &snapshot)?;
-    assert_eq!(rt; further.samples.as_slice(), [3, 4, 5].as_slice());
+    assert_eq!(rt; further.driven.samples.as_slice(), [3, 4, 5].as_slice());
+    Ok(())
+}
+
+/// Lets what a chain is frozen to go on to the end.
+fn freeze_and_go_on(alloc: Global, chain: &Chain) -> Result<(), &'static str> {
+    let snapshot = frozen(alloc, chain)?;
+    thawed_to_the_end(alloc, &snapshot)?;
     Ok(())
 }
 
 #[test]
 fn frozen_trim_goes_on(rt: HostRuntime) -> Result<(), Fail> {
-    let (mut chain, mut driven) = fed(rt.alloc(), "trim -3s", &[1, 2, 3, 4, 5])?;
-    thawed_to_the_end(rt.alloc(), &chain.freeze(rt.alloc())?)?;
-    finish(&mut chain, &mut driven)?;
-    assert_eq!(rt; driven.samples.as_slice(), [3, 4, 5].as_slice());
+    let mut driver = fed(rt.alloc(), "trim -3s", &[1, 2, 3, 4, 5])?;
+    freeze_and_go_on(rt.alloc(), &driver.chain)?;
+    driver.finish()?;
+    assert_eq!(rt; driver.driven.samples.as_slice(), [3, 4, 5].as_slice());
     Ok(())
 }
 
@@ -139,20 +158,19 @@ fn freeze_numbers(rt: HostRuntime) -> Result<(), Fail> {
 }
 
 /// The chain of `upsample 2 delay 1s` that took a frame of 5.
-fn took_five(alloc: Global) -> Result<Chain, Fail> {
-    let plan = plan_of(alloc, "upsample 2 delay 1s")?;
-    let mut chain = Chain::new(alloc, &plan)?;
-    chain.take(mono(5));
+fn took_five(alloc: Global) -> Result<Chain, &'static str> {
+    let mut chain = chain_of(alloc, "upsample 2 delay 1s")?;
+    put(&mut chain, 5)?;
     Ok(chain)
 }
 
 /// The snapshot of that chain after one step.
-fn one_step_snapshot(alloc: Global) -> Result<Snapshot, Fail> {
+fn one_step_snapshot(alloc: Global) -> Result<Snapshot, &'static str> {
     let mut chain = took_five(alloc)?;
     if next_step(&mut chain) != Some(Step::Moved) {
-        return Err("another step".into());
+        return Err("another step");
     }
-    Ok(chain.freeze(alloc)?)
+    frozen(alloc, &chain)
 }
 
 #[test]
@@ -181,20 +199,25 @@ fn thaw_with_a_number_less(rt: HostRuntime) -> Result<(), Fail> {
     Ok(())
 }
 
-/// Steps a chain beside the one that its snapshot is thawed to, which has to be the same.
-fn step_beside_thawed(alloc: Global, chain: &mut Chain) -> Result<(), Fail> {
-    let snapshot = chain.freeze(alloc)?;
-    let mut again = thawed(alloc, &snapshot)?;
+/// Steps a chain beside another one, which has to be the same.
+fn step_beside(chain: &mut Chain, again: &mut Chain) -> Result<(), &'static str> {
     if again.held() != chain.held() {
-        return Err("another number of frames held".into());
+        return Err("another number of frames held");
     }
-    if next_step(&mut again) != next_step(chain) {
-        return Err("another step".into());
+    if next_step(again) != next_step(chain) {
+        return Err("another step");
     }
     if again.moves() != chain.moves() {
-        return Err("another number of hand-overs".into());
+        return Err("another number of hand-overs");
     }
     Ok(())
+}
+
+/// Steps a chain beside the one that its snapshot is thawed to, which has to be the same.
+fn step_beside_thawed(alloc: Global, chain: &mut Chain) -> Result<(), &'static str> {
+    let snapshot = frozen(alloc, chain)?;
+    let mut again = thawed(alloc, &snapshot)?;
+    step_beside(chain, &mut again)
 }
 
 #[test]
@@ -210,7 +233,7 @@ fn thaw_after_each_step(rt: HostRuntime) -> Result<(), Fail> {
 fn thaw_echos(rt: HostRuntime) -> Result<(), Fail> {
     let snapshot = snapshot_of(rt.alloc(), "echos 1 1 0.25 0.5 0.125 0.5", &[8])?;
     let further = thawed_to_the_end(rt.alloc(), &snapshot)?;
-    assert_eq!(rt; further.samples.as_slice(), [4, 4, 4].as_slice());
+    assert_eq!(rt; further.driven.samples.as_slice(), [4, 4, 4].as_slice());
     Ok(())
 }
 
@@ -230,17 +253,17 @@ enum Damage {
 }
 
 /// The frame of these samples.
-fn wide(samples: &[i64]) -> Result<WideFrame, Fail> {
+fn wide(samples: &[i64]) -> Result<WideFrame, &'static str> {
     match WideFrame::from_slice(samples) {
         Some(frame) => Ok(frame),
-        None => Err("no frame".into()),
+        None => Err("no frame"),
     }
 }
 
 /// Does the damage to a snapshot.
-fn spoil(snapshot: &mut Snapshot, damage: Damage) -> Result<(), Fail> {
+fn spoil(snapshot: &mut Snapshot, damage: Damage) -> Result<(), &'static str> {
     if snapshot.numbers.len() != 16 || snapshot.frames.len() != 3 {
-        return Err("another snapshot".into());
+        return Err("another snapshot");
     }
     match damage {
         Damage::TooManyTaken => snapshot.numbers[0] = MOST_FRAMES + 1,
@@ -253,7 +276,7 @@ fn spoil(snapshot: &mut Snapshot, damage: Damage) -> Result<(), Fail> {
 }
 
 /// The fault for which the snapshot of `trim -3s` is refused after this damage, if it is.
-fn refusal_after(alloc: Global, damage: Damage) -> Result<Option<ThawFault>, Fail> {
+fn refusal_after(alloc: Global, damage: Damage) -> Result<Option<ThawFault>, &'static str> {
     let mut snapshot = trim_snapshot(alloc)?;
     spoil(&mut snapshot, damage)?;
     Ok(refusal(alloc, &snapshot.plan, &snapshot))
@@ -276,32 +299,36 @@ fn thaw_refused(rt: HostRuntime) -> Result<(), Fail> {
 
 /// The next call on the way of a chain of one channel through these samples and the end: a step, a frame or the end. False
 /// where it is done.
-fn advance(chain: &mut Chain, samples: &[i32], out: &mut Vec<i32>) -> Result<bool, Fail>
+fn advance(chain: &mut Chain, samples: &[i32], out: &mut Vec<i32>) -> Result<bool, &'static str>
     requires { chain.old.plan.head.channels ≡ 1 }
     ensures { chain.new.plan ≡ chain.old.plan }
 {
     if let Some(step) = next_step(chain) {
-        if let Step::Given(frame) = step {
-            out.push(first_sample(frame))?;
-        }
+        keep_given(step, out)?;
         return Ok(true);
     }
     let State::Hungry = chain.state() else {
         return Ok(false);
     };
-    let taken = chain.taken();
-    if taken >= MOST_FRAMES {
-        return Err("too many frames".into());
-    }
-    match samples.get(taken as usize) {
-        Some(sample) => chain.take(mono(*sample)),
-        None => chain.end(),
+    match samples.get(chain.taken() as usize) {
+        Some(sample) => put(chain, *sample)?,
+        None => tell_end(chain)?,
     }
     Ok(true)
 }
 
+/// Adds the sample of the frame that a step gave, if it did.
+fn keep_given(step: Step, out: &mut Vec<i32>) -> Result<(), &'static str> {
+    if let Step::Given(frame) = step {
+        if out.push(first_sample(frame)).is_err() {
+            return Err("no memory for the samples");
+        }
+    }
+    Ok(())
+}
+
 /// Lets a chain of one channel go on through the rest of these samples and the end.
-fn go_on(chain: &mut Chain, samples: &[i32], out: &mut Vec<i32>) -> Result<(), Fail>
+fn go_on(chain: &mut Chain, samples: &[i32], out: &mut Vec<i32>) -> Result<(), &'static str>
     requires { chain.old.plan.head.channels ≡ 1 }
 {
     'calls: for _call in 0..MOST_CALLS {
@@ -309,68 +336,97 @@ fn go_on(chain: &mut Chain, samples: &[i32], out: &mut Vec<i32>) -> Result<(), F
             return Ok(());
         }
     }
-    Err("calls without end".into())
+    Err("calls without end")
+}
+
+/// All that the chain of twelve effects gave, and what it is frozen to at the end.
+#[derive(Drop)]
+struct Ending {
+    samples: Vec<i32>,
+    snapshot: Snapshot,
+}
+
+impl Ending {
+    /// The fault where it is not what has to come, with these numbers.
+    fn compare(&self, numbers: &[u64]) -> Result<(), &'static str> {
+        if self.samples.as_slice() != TWELVE_OUTPUT.as_slice() {
+            return Err("other samples");
+        }
+        if self.snapshot.numbers.as_slice() != numbers {
+            return Err("other numbers at the end");
+        }
+        Ok(())
+    }
+}
+
+/// What a chain that is done is frozen to, beside the samples that it gave.
+fn ended_with(alloc: Global, chain: &Chain, samples: Vec<i32>) -> Result<Ending, &'static str> {
+    if chain.moves() != 106 {
+        return Err("another number of hand-overs");
+    }
+    let snapshot = frozen(alloc, chain)?;
+    Ok(Ending { samples, snapshot })
 }
 
 /// What the chain of a snapshot comes to where it goes on from there: all that is given, with what was given before, and all
 /// numbers at the end.
-fn outcome(alloc: Global, snapshot: &Snapshot, given: &[i32]) -> Result<(Vec<i32>, Snapshot), Fail>
+fn outcome(alloc: Global, snapshot: &Snapshot, given: &[i32]) -> Result<Ending, &'static str>
     requires { (planning snapshot.now.plan).head.channels ≡ 1 }
 {
     let mut again = thawed(alloc, snapshot)?;
-    let mut out = Vec::from_slice(alloc, given)?;
+    let Ok(mut out) = Vec::from_slice(alloc, given) else {
+        return Err("no memory for the samples");
+    };
     go_on(&mut again, &TWELVE_SAMPLES, &mut out)?;
-    if again.moves() != 106 {
-        return Err("another number of hand-overs".into());
-    }
-    Ok((out, again.freeze(alloc)?))
+    ended_with(alloc, &again, out)
 }
 
 /// Does the chain of twelve effects, thawed here, come to what it has to give, and to these numbers?
-fn comes_to(alloc: Global, chain: &Chain, given: &[i32], numbers: &[u64]) -> Result<(), Fail> {
-    let snapshot = chain.freeze(alloc)?;
+fn comes_to(
+    alloc: Global,
+    chain: &Chain,
+    given: &[i32],
+    numbers: &[u64],
+) -> Result<(), &'static str>
+    requires { chain.now.plan.head.channels ≡ 1 }
+{
+    let snapshot = frozen(alloc, chain)?;
     if snapshot.frames.len() > 23 || snapshot.numbers.len() != 104 {
-        return Err("too many frames, or another number of numbers".into());
+        return Err("too many frames, or another number of numbers");
     }
-    if snapshot.plan.head().channels != 1 {
-        return Err("another plan".into());
-    }
-    let (all, end) = outcome(alloc, &snapshot, given)?;
-    if all.as_slice() != TWELVE_OUTPUT.as_slice() {
-        return Err("other samples".into());
-    }
-    if end.numbers.as_slice() != numbers {
-        return Err("other numbers at the end".into());
-    }
-    Ok(())
+    let end = outcome(alloc, &snapshot, given)?;
+    end.compare(numbers)
 }
 
 /// Lets the chain of twelve effects go on to the end, and thaws it before every call.
-fn go_on_thawed(
-    alloc: Global,
-    chain: &mut Chain,
-    numbers: &[u64],
-    out: &mut Vec<i32>,
-) -> Result<(), Fail>
+fn go_on_thawed(alloc: Global, chain: &mut Chain, numbers: &[u64]) -> Result<(), &'static str>
     requires { chain.old.plan.head.channels ≡ 1 }
 {
+    let mut out = Vec::new(alloc);
     'calls: for _call in 0..MOST_CALLS {
-        comes_to(alloc, chain, out, numbers)?;
-        if !advance(chain, &TWELVE_SAMPLES, out)? {
+        comes_to(alloc, chain, &out, numbers)?;
+        if !advance(chain, &TWELVE_SAMPLES, &mut out)? {
             return Ok(());
         }
     }
-    Err("calls without end".into())
+    Err("calls without end")
+}
+
+/// What the new chain of twelve effects comes to, frozen and thawed at once.
+fn whole_outcome(alloc: Global, chain: &Chain) -> Result<Ending, &'static str>
+    requires { chain.now.plan.head.channels ≡ 1 }
+{
+    let snapshot = frozen(alloc, chain)?;
+    outcome(alloc, &snapshot, &[])
 }
 
 /// The chain of twelve effects, thawed after every call.
 #[test]
 fn freeze_twelve_line(rt: HostRuntime) -> Result<(), Fail> {
-    let plan = plan_of(rt.alloc(), TWELVE_EFFECTS)?;
-    let mut chain = Chain::new(rt.alloc(), &plan)?;
-    let (_all, whole) = outcome(rt.alloc(), &chain.freeze(rt.alloc())?, &[])?;
-    let mut out = Vec::new(rt.alloc());
-    go_on_thawed(rt.alloc(), &mut chain, &whole.numbers, &mut out)
+    let mut chain = chain_of(rt.alloc(), TWELVE_EFFECTS)?;
+    let whole = whole_outcome(rt.alloc(), &chain)?;
+    go_on_thawed(rt.alloc(), &mut chain, &whole.snapshot.numbers)?;
+    Ok(())
 }
 
 /// Freezes a chain and thaws it.
@@ -381,52 +437,59 @@ fn freeze_and_thaw(alloc: Global, chain: &Chain) -> Result<Chain, ThawFault> {
     Chain::thaw(alloc, &snapshot.plan, &snapshot)
 }
 
-/// The new chain of twelve effects, and room for what it gives; None where memory for them is refused.
-fn found_chain(alloc: Global) -> Option<(Chain, Driven)>
-    ensures { IfSome result (λ p. p.0.plan.head.channels ≡ 1) }
+/// The new chain of twelve effects; None where memory for it is refused.
+fn found_chain(alloc: Global) -> Option<Chain>
+    ensures { IfSome result (λ c. c.plan.head.channels ≡ 1) }
 {
     let plan = found_plan(alloc, TWELVE_EFFECTS)?;
-    let chain = Chain::new(alloc, &plan).ok()?;
-    let samples = Vec::with_capacity(alloc, TWELVE_OUTPUT.len()).ok()?;
+    Chain::new(alloc, &plan).ok()
+}
+
+/// That chain, and room for what it gives; None where memory for them is refused.
+fn found_driver(alloc: Global) -> Option<Driver>
+    ensures { IfSome result (λ d. d.chain.plan.head.channels ≡ 1) }
+{
+    let chain = found_chain(alloc)?;
+    let Ok(samples) = Vec::with_capacity(alloc, TWELVE_OUTPUT.len()) else {
+        return None;
+    };
     let driven = Driven {
         samples,
         most_held: 0,
     };
-    Some((chain, driven))
+    Some(Driver { chain, driven })
 }
 
 /// Freezes and thaws the chain of twelve effects on its way, which then runs on as if nothing had been asked; the fault, if
 /// there is one.
-fn fault_on_the_way(
-    alloc: Global,
-    chain: &mut Chain,
-    driven: &mut Driven,
-) -> Result<Option<ThawFault>, Fail>
-    requires { chain.old.plan.head.channels ≡ 1 }
+fn fault_on_the_way(alloc: Global, driver: &mut Driver) -> Result<Option<ThawFault>, &'static str>
+    requires { driver.old.chain.plan.head.channels ≡ 1 }
 {
-    feed(chain, driven, &TWELVE_SAMPLES)?;
-    let fault = freeze_and_thaw(alloc, chain).err();
-    finish(chain, driven)?;
-    if driven.samples.as_slice() != TWELVE_OUTPUT.as_slice() {
-        return Err("other samples".into());
+    driver.feed(&TWELVE_SAMPLES)?;
+    let fault = freeze_and_thaw(alloc, &driver.chain).err();
+    driver.finish()?;
+    if driver.driven.samples.as_slice() != TWELVE_OUTPUT.as_slice() {
+        return Err("other samples");
     }
     Ok(fault)
+}
+
+/// What is said of freezing and thawing: `refused` where memory is wanting, `made` where none was.
+fn said(alloc: Global) -> Result<&'static str, &'static str> {
+    let Some(mut driver) = found_driver(alloc) else {
+        return Ok("refused");
+    };
+    match fault_on_the_way(alloc, &mut driver)? {
+        None => Ok("made"),
+        Some(ThawFault::Memory) => Ok("refused"),
+        Some(_fault) => Err("another fault than want of memory"),
+    }
 }
 
 /// Each request for memory refused in turn; the frozen chain then runs on as if nothing had been asked.
 #[test]
 fn growth_freeze_thaw(rt: HostRuntime) -> Result<(), Fail> {
-    let Some((mut chain, mut driven)) = found_chain(rt.alloc()) else {
-        println!(rt; "refused")?;
-        return Ok(());
-    };
-    let fault = fault_on_the_way(rt.alloc(), &mut chain, &mut driven)?;
-    match fault {
-        None => println!(rt; "made")?,
-        Some(fault) => {
-            assert_eq!(rt; fault, ThawFault::Memory);
-            println!(rt; "refused")?;
-        }
-    }
+    let said = said(rt.alloc())?;
+    println!(rt; "{said}")?;
     Ok(())
 }

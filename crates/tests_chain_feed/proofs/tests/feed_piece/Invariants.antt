@@ -1,5 +1,5 @@
 use Rattle.std.proofs.Common.{◌≡◌}
-use Rattle.tests_chain.proofs.freeze_tests.go_on.Given as goal
+use Rattle.tests_chain_feed.proofs.tests.feed_piece.Given as goal
 
 abbrev pub invariant-calls : goal.invariant-calls
 invariant-calls l = record {

@@ -1,5 +1,5 @@
 use Rattle.std.proofs.Common.{◌≡◌}
-use Rattle.tests_chain.proofs.feed_tests.feed_piece.Given as goal
+use Rattle.tests_chain_freeze.proofs.tests.go_on_thawed.Given as goal
 
 abbrev pub invariant-calls : goal.invariant-calls
 invariant-calls l = record {
