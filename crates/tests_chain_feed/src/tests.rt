@@ -16,8 +16,31 @@ const MOST_PIECES: u32 = 5000;
 /// The greatest room for samples that are given.
 const MOST_ROOM: u32 = 40;
 
+/// How many plans of random effects are fed.
+const RANDOM_PLANS: u32 = 50;
+
+/// Effects from one channel to one, of which a random plan has one to four.
+const EFFECTS: [&str; 16] = [
+    "trim 5s 20s 33s",
+    "trim 3s -4s",
+    "pad 2s@3s 3s",
+    "delay 7s",
+    "echo 0.8 0.9 1 0.5 2.5 0.25",
+    "echos 0.8 0.9 1 0.5 2.5 0.25",
+    "fade t 9s -0 11s",
+    "vol 1.5",
+    "vol 0.5",
+    "dcshift 0.4",
+    "fir 0.25 0.5 0.25",
+    "remix 1v0.5",
+    "remix 1,1",
+    "remix 1 1 remix 1,2",
+    "upsample 3",
+    "downsample 2",
+];
+
 /// One effect each, then several.
-const ROWS: [&str; 18] = [
+const ROWS: [&str; 20] = [
     "",
     "trim 5s 20s 33s",
     "trim 3s -4s",
@@ -33,6 +56,8 @@ const ROWS: [&str; 18] = [
     "upsample 3",
     "downsample 4",
     "vol 0.5 dcshift 0.25",
+    "vol 1.5 remix 1,1 dcshift 0.25",
+    "dcshift 0.25 remix 1v0.75 vol 0.333",
     "trim 2s 250s vol 1.5 echo 0.8 0.9 1 0.5 vol 0.9",
     "upsample 3 vol 0.5 downsample 2 pad 1s 2s",
     TWELVE_EFFECTS,
@@ -244,6 +269,34 @@ fn feed_is_steps(rt: HostRuntime) -> Result<(), Fail> {
     let mut dice = Dice { state: 1 };
     for effects in ROWS {
         feed_row(rt.alloc(), effects, &mut dice)?;
+    }
+    Ok(())
+}
+
+/// The words of one to four effects.
+fn random_effects(alloc: Global, dice: &mut Dice) -> Result<String, &'static str> {
+    let mut words = String::new(alloc);
+    let count = 1 + dice.next_below(4);
+    'effects: for _effect in 0..count {
+        let effect = EFFECTS[dice.next_below(16) as usize];
+        if words.push_str(effect).is_err() || words.push_str(" ").is_err() {
+            return Err("no memory for the words");
+        }
+    }
+    Ok(words)
+}
+
+/// Feeds a chain of random effects a random sound, beside frames one by one.
+fn feed_random(alloc: Global, dice: &mut Dice) -> Result<(), &'static str> {
+    let effects = random_effects(alloc, dice)?;
+    feed_row(alloc, &effects, dice)
+}
+
+#[test]
+fn random_plans_are_steps(rt: HostRuntime) -> Result<(), Fail> {
+    let mut dice = Dice { state: 7 };
+    for _plan in 0..RANDOM_PLANS {
+        feed_random(rt.alloc(), &mut dice)?;
     }
     Ok(())
 }
