@@ -6,12 +6,13 @@ use Rattle.std.proofs.lemmas.Bool.{lt-ltb, le-ltb, cases_lt}
 use Rattle.std.proofs.lemmas.List.{get_or-take}
 use Rattle.std.proofs.Math.Nat.{mul-le-mul_left, mul-le-mul_right}
 use mathlib.Core.Path.{ap₂}
+use Rattle.fx_fixed.specs.Extents.{stop_line}
 use Rattle.fx_fixed.specs.declared.positions.At.{At}
 use Rattle.fx_fixed.specs.declared.positions.At.TheVariants.{Start, End}
 use Rattle.fx_frame.specs.Frame.{Samples}
 use Rattle.fx_frame.specs.Stage.{Given}
 use Rattle.fx_cut.specs.declared.fade.Shape.{Shape}
-use Rattle.fx_cut.specs.Fade.{weight, faded_frame, faded, stop_in, until, before_stop, faded_from, fade_rest, fade_after, is_before, faded_here, ahead_by, stop_ahead, line_by, due_by, fade_line}
+use Rattle.fx_cut.specs.Fade.{weight, faded_frame, faded, stop_in, until, before_stop, faded_from, fade_rest, fade_after, is_before, faded_here, ahead_by, stop_ahead, due_by, fade_line}
 use Rattle.fx_cut.proofs.Fallen.{first-popped}
 use Rattle.fx_cut.proofs.TrimRest.{first_index, next_index}
 
@@ -88,7 +89,7 @@ faded-first f (Some s) n o x = go (cases_lt n s)
         ∙ ap (λ k. map (λ e. faded_frame f (Some s) e.0 e.1) (enumerate_from (n + 1) (take k x))) (let e : s - (n + 1) ≡ 0 = omega arith in e))
 
 -- a stop from the end is not near
-same_here : (f : Shape) (stop : Option At) (len n more : ℕ) (o : Samples) → line_by stop f.fade_out ≤ more → len ≡ n + 1 + more
+same_here : (f : Shape) (stop : Option At) (len n more : ℕ) (o : Samples) → stop_line stop f.fade_out ≤ more → len ≡ n + 1 + more
     → faded_here f (stop_in len stop) n o ≡ faded_here f (ahead_by stop f.fade_out n) n o
 same_here f None len n more o h e = refl
 same_here f (Some (Start p)) len n more o h e = refl
@@ -133,8 +134,8 @@ here-count f stop n o = go (is_before stop n)
     go true = refl
     go false = refl
 
-due-by-next : (stop : Option At) (fade_out taken : ℕ) → line_by stop fade_out ≤ taken
-    → due_by stop fade_out (taken + 1) ≡ due_by stop fade_out taken + cond (is_before (ahead_by stop fade_out (taken - line_by stop fade_out)) (taken - line_by stop fade_out)) 1 0
+due-by-next : (stop : Option At) (fade_out taken : ℕ) → stop_line stop fade_out ≤ taken
+    → due_by stop fade_out (taken + 1) ≡ due_by stop fade_out taken + cond (is_before (ahead_by stop fade_out (taken - stop_line stop fade_out)) (taken - stop_line stop fade_out)) 1 0
 due-by-next None fade_out taken h = refl
 due-by-next (Some (Start p)) fade_out taken h = go (cases_lt (taken - 0) p)
   where
@@ -153,7 +154,7 @@ due-next f taken o h =
     due-by-next f.stop f.fade_out taken h ∙ ap (λ k. due_by f.stop f.fade_out taken + k) (sym (here-count f (stop_ahead f (taken - fade_line f)) (taken - fade_line f) o))
 
 -- it stays in the line
-pub due-early : (stop : Option At) (fade_out taken : ℕ) → taken < line_by stop fade_out → due_by stop fade_out (taken + 1) ≡ due_by stop fade_out taken
+pub due-early : (stop : Option At) (fade_out taken : ℕ) → taken < stop_line stop fade_out → due_by stop fade_out (taken + 1) ≡ due_by stop fade_out taken
 due-early None fade_out taken h = absurd (omega arith)
 due-early (Some (Start p)) fade_out taken h = absurd (omega arith)
 due-early (Some (End b)) fade_out taken h = omega arith

@@ -5,6 +5,7 @@ use Rattle.std.specs.Int.{w32}
 use Rattle.std.specs.List.{All}
 use Rattle.std.proofs.lemmas.Bool.{cases_lt, lt-leb, ltb-true}
 use Rattle.std.proofs.lemmas.List.Elements.{All-cons, All-head, All-nil, All-tail, All-take}
+use Rattle.fx_fixed.specs.Extents.{stop_line}
 use Rattle.fx_fixed.specs.declared.positions.At.{At}
 use Rattle.fx_fixed.specs.declared.positions.At.TheVariants.{Start, End}
 use Rattle.fx_frame.specs.Feed.{Fed, GaveNext, TookNext, nothing, taken, given}
@@ -17,7 +18,7 @@ use Rattle.fx_frame.proofs.Feeding.{pieces-take}
 use Rattle.fx_frame.proofs.ManyFrames.{frames-samples}
 use Rattle.fx_frame.proofs.Pieces.{length-pieces}
 use Rattle.fx_cut.specs.declared.fade.Shape.{Shape}
-use Rattle.fx_cut.specs.Fade.{FadeState, IsFade, ahead_by, fade_acts, fade_enough, faded_along, faded_frame, faded_here, is_before, line_by, stop_ahead, weighted, weights}
+use Rattle.fx_cut.specs.Fade.{FadeState, IsFade, ahead_by, fade_acts, fade_enough, faded_along, faded_frame, faded_here, is_before, stop_ahead, weighted, weights}
 use Rattle.fx_frame.specs.Lists.{plain}
 use Rattle.fx_cut.proofs.Fallen.{fallen, stays, oldest-first}
 use Rattle.fx_cut.proofs.FadeSteps.{IsFade-inside, IsFade-fallen, Took-inside, Took-fallen, came}
@@ -30,7 +31,7 @@ use Rattle.fx_cut.proofs.Weighing.{given-plain, whole-frame}
 -- ---- before the stop
 
 -- a stop from the start is not reached
-pub not-enough : (stop : Option At) (out seen lined n i : ℕ) → lined ≤ line_by stop out → ((j : ℕ) → j < lined + n - line_by stop out → is_before (ahead_by stop out (seen - lined + j)) (seen - lined + j) ≡ true) → i < n
+pub not-enough : (stop : Option At) (out seen lined n i : ℕ) → lined ≤ stop_line stop out → ((j : ℕ) → j < lined + n - stop_line stop out → is_before (ahead_by stop out (seen - lined + j)) (seen - lined + j) ≡ true) → i < n
     → is_enough (fade_enough stop) (seen + i) ≡ false
 not-enough None out seen lined n i h before k = refl
 not-enough (Some (End b)) out seen lined n i h before k = refl

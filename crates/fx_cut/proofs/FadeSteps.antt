@@ -4,6 +4,7 @@ use Rattle.std.specs.Prelude.{Option, Some, None, option_to_list, is_none, nat_l
 use Rattle.std.specs.Int.{w32}
 use Rattle.std.proofs.lemmas.Bool.{cases_lt, false≢true, le-ltb, lt-ltb}
 use Rattle.std.proofs.lemmas.List.{length-map}
+use Rattle.fx_fixed.specs.Extents.{stop_line}
 use Rattle.fx_fixed.specs.declared.positions.At.{At}
 use Rattle.fx_frame.specs.Frame.{Samples}
 use Rattle.fx_frame.specs.Frozen.{IsHand}
@@ -11,7 +12,7 @@ use Rattle.fx_frame.specs.Line.{Frames, IsLine}
 use Rattle.fx_frame.specs.Stage.{Gave, Took, coming}
 use Rattle.fx_cut.specs.declared.fade.Shape.{Shape}
 use Rattle.fx_frame.specs.Lists.{plain}
-use Rattle.fx_cut.specs.Fade.{FadeState, IsFade, due_by, faded_frame, faded_here, fade_acts, fade_after, fade_line, fade_rest, is_before, line_by, stop_ahead, stop_in, until}
+use Rattle.fx_cut.specs.Fade.{FadeState, IsFade, due_by, faded_frame, faded_here, fade_acts, fade_after, fade_line, fade_rest, is_before, stop_ahead, stop_in, until}
 use Rattle.fx_cut.proofs.Fallen.{fallen, stays, no_fall, stays-room, is_full, oldest-first, oldest-channels, first-popped}
 use Rattle.fx_cut.proofs.FadeLaws.{fade_taken, fade_let_go, due-next, due-early}
 use Rattle.fx_cut.proofs.Hands.{empty-hand, at_most_one}
@@ -152,7 +153,7 @@ until-popped f frames items items' o hand e e' h kept =
     sym (length-map (option_to_list hand) plain) ∙ ap length kept ∙ length-here f stop (frames - length items) o in
     ap (λ k. until stop (frames - length items) + k) one ∙ until-next stop (frames - length items) ∙ ap (until stop) (sym next)
 
-due-until : (stop : Option At) (out s : ℕ) → due_by stop out s ≡ until (stop_in s stop) (s - line_by stop out)
+due-until : (stop : Option At) (out s : ℕ) → due_by stop out s ≡ until (stop_in s stop) (s - stop_line stop out)
 due-until None out s = omega arith
 due-until (Some (At.Start p)) out s = omega arith
 due-until (Some (At.End b)) out s = omega arith

@@ -7,11 +7,11 @@ use Rattle.std.proofs.lemmas.List.{length-replicate}
 use Rattle.std.proofs.lemmas.List.Sums.{sum_by-cons, sum_by-append}
 use Rattle.std.proofs.lemmas.List.Concat.{length-flat_map}
 use Rattle.std.proofs.lemmas.Option.{slice_get_past}
+use Rattle.fx_fixed.specs.Extents.{greatest, pad_distance}
 use Rattle.fx_fixed.specs.Positions.{place_of, places_after}
 use Rattle.fx_fixed.specs.declared.positions.At.{At}
 use Rattle.fx_fixed.specs.declared.positions.At.TheVariants.{Start, End}
 use Rattle.fx_frame.specs.Frame.{Samples, silence}
-use Rattle.fx_cut.specs.Trim.{greatest_end}
 use Rattle.fx_cut.specs.Pad.{ats, lengths, is_inside, placed, placed_after, silent_at, padded, padded_from, silence_from, pads_from_start, pad_due, RisesFrom}
 use Rattle.fx_cut.proofs.Ranges.{range_more}
 
@@ -46,7 +46,7 @@ RisesFrom-le l m (Start p ∷ ps) h r = let r0 = r.0 in (omega arith, r.1)
 RisesFrom-le l m (End b ∷ ps) h r = tt
 
 -- before the end positions, the pads before them count
-pub same_silence : (len n m : ℕ) (ps : List (ℕ × At)) → n + greatest_end (ats ps) < len → RisesFrom m (ats ps)
+pub same_silence : (len n m : ℕ) (ps : List (ℕ × At)) → n + greatest (map pad_distance ps) < len → RisesFrom m (ats ps)
     → sum_by (here n) (placed_after len m ps) ≡ sum_by (here n) (pads_from_start ps)
 same_silence len n m [] h r = refl
 same_silence len n m ((k, Start p) ∷ ps) h r =
@@ -146,7 +146,7 @@ length_padded channels ps x =
 -- at first nothing is due
 pub none-due : (ps : List (ℕ × At)) → pad_due ps 0 ≡ 0
 none-due ps =
-    let none : 0 - greatest_end (ats ps) ≡ 0 = omega arith in
+    let none : 0 - greatest (map pad_distance ps) ≡ 0 = omega arith in
     rw none (go (pads_from_start ps))
   where
     go : (pads : List (ℕ × ℕ)) → 0 + sum_by (λ p. p.0) (filter (λ p. ltb p.1 0) pads) ≡ 0

@@ -1,8 +1,9 @@
 -- Frames that a pad without a line passes many at a time, as far as no silence stands before them.
-use Rattle.std.proofs.Common.{◌≡◌, ◌+◌, ◌-◌, ◌*◌, ◌<◌, ◌≤◌, ◌^◌, ℕ, ℤ, suc, true, false, List, [], ◌∷◌, length, refl, subst, sym, ap, ◌∙◌, arith, add-zero}
+use Rattle.std.proofs.Common.{◌≡◌, ◌+◌, ◌-◌, ◌*◌, ◌<◌, ◌≤◌, ◌^◌, ℕ, ℤ, suc, true, false, List, [], ◌∷◌, length, refl, subst, sym, ap, ◌∙◌, arith, add-zero, map}
 use Rattle.std.specs.Prelude.{Some, None, option_to_list, is_none}
 use Rattle.std.specs.List.{All}
 use Rattle.std.proofs.lemmas.List.Elements.{All-head, All-tail}
+use Rattle.fx_fixed.specs.Extents.{greatest, pad_distance}
 use Rattle.fx_frame.specs.declared.feed.Passing.TheVariants.{Through}
 use Rattle.fx_frame.specs.Feed.{Fed, GaveNext, PassedOn, TookNext, nothing, taken, given}
 use Rattle.fx_frame.specs.Frame.{Samples}
@@ -10,8 +11,7 @@ use Rattle.fx_frame.specs.Ring.{pieces}
 use Rattle.fx_frame.specs.Stage.{IsDry}
 use Rattle.fx_frame.proofs.FedLaws.{Fed-then}
 use Rattle.fx_frame.proofs.Pieces.{length-pieces}
-use Rattle.fx_cut.specs.Pad.{PadState, IsPad, ats, pad_acts, pad_due, pad_left, pads_from_start, silent_at}
-use Rattle.fx_cut.specs.Trim.{greatest_end}
+use Rattle.fx_cut.specs.Pad.{PadState, IsPad, pad_acts, pad_due, pad_left, pads_from_start, silent_at}
 use Rattle.fx_cut.proofs.Fallen.{fallen, stays}
 use Rattle.fx_cut.proofs.Hands.{empty_of}
 use Rattle.fx_cut.proofs.PadLaws.{upto_more}
@@ -36,7 +36,7 @@ module _ (s : PadState) (n : ℕ) (x : Samples) (a : Quiet s (suc n)) where
   no-line : s.line.items ≡ []
   no-line = let short = a.short in let full = a.is.full a.running in empty_of s.line.items (omega arith)
 
-  no-ends : greatest_end (ats s.recipe.pads) ≡ 0
+  no-ends : greatest (map pad_distance s.recipe.pads) ≡ 0
   no-ends = sym a.is.capacity ∙ a.short
 
   here : silent_at (pads_from_start s.recipe.pads) s.taken ≡ 0

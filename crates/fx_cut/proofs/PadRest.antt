@@ -1,11 +1,11 @@
 -- The steps of `pad` along the list.
-use Rattle.std.proofs.Common.{◌≡◌, ℕ, zero, suc, ◌+◌, ◌-◌, ◌<◌, ◌≤◌, true, List, [], ◌∷◌, ◌++◌, length, drop, refl, sym, ◌∙◌, ap, arith, length-append, append_assoc, append-nil, add-one, add-zero}
+use Rattle.std.proofs.Common.{◌≡◌, ℕ, zero, suc, ◌+◌, ◌-◌, ◌<◌, ◌≤◌, true, List, [], ◌∷◌, ◌++◌, length, drop, refl, sym, ◌∙◌, ap, arith, length-append, append_assoc, append-nil, add-one, add-zero, map}
 use Rattle.std.specs.Prelude.{flat_map, slice_get, option_to_list, replicate, Option, Some, None}
 use Rattle.std.specs.List.{range_with_len, enumerate_from}
 use mathlib.Core.Path.{ap₂}
+use Rattle.fx_fixed.specs.Extents.{greatest, pad_distance}
 use Rattle.fx_fixed.specs.declared.positions.At.{At}
 use Rattle.fx_frame.specs.Frame.{Samples, silence}
-use Rattle.fx_cut.specs.Trim.{greatest_end}
 use Rattle.fx_cut.specs.Pad.{PadArguments, ats, placed, silent_at, padded, padded_from, pad_rest, pad_after, pads_from_start, unless_last, RisesFrom}
 use Rattle.fx_cut.proofs.PadLaws.{pad_first, same_silence}
 
@@ -36,7 +36,7 @@ pad_new channels ps z =
 pub pad_taken : (channels : ℕ) (ps : List (ℕ × At)) (n : ℕ) (items : List Samples) (frame : Samples) (z : List Samples) → pad_rest channels ps n items (frame ∷ z) ≡ pad_rest channels ps n (items ++ frame ∷ []) z
 pad_taken channels ps n items frame z = ap (λ y. padded_from channels (n + length y) ps n y) (sym (append_assoc items (frame ∷ []) z))
 
-pub pad_let_go : (channels : ℕ) (ps : List (ℕ × At)) (n : ℕ) (o : Samples) (items z : List Samples) → RisesFrom 0 (ats ps) → greatest_end (ats ps) ≤ length items
+pub pad_let_go : (channels : ℕ) (ps : List (ℕ × At)) (n : ℕ) (o : Samples) (items z : List Samples) → RisesFrom 0 (ats ps) → greatest (map pad_distance ps) ≤ length items
     → pad_rest channels ps n (o ∷ items) z ≡ replicate (silent_at (pads_from_start ps) n) (silence channels) ++ (o ∷ pad_rest channels ps (n + 1) items z)
 pad_let_go channels ps n o items z r h =
     let len : ℕ = n + length (o ∷ (items ++ z)) in

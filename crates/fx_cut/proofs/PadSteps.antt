@@ -5,13 +5,13 @@ use Rattle.std.specs.Int.{w32}
 use Rattle.std.proofs.lemmas.Bool.{false≢true, and_parts, eqb-true}
 use Rattle.std.proofs.lemmas.List.{length-replicate}
 use mathlib.Core.Path.{ap₂}
+use Rattle.fx_fixed.specs.Extents.{greatest, pad_distance}
 use Rattle.fx_frame.specs.Frame.{Samples, silence, IsFrame}
 use Rattle.fx_frame.specs.Frozen.{IsHand}
 use Rattle.fx_frame.specs.Line.{Frames, IsLine}
 use Rattle.fx_frame.specs.Stage.{Gave, Took, Ended, coming}
 use Rattle.fx_frame.specs.Lists.{plain}
-use Rattle.fx_cut.specs.Trim.{greatest_end}
-use Rattle.fx_cut.specs.Pad.{PadArguments, PadState, IsPad, IsPads, ats, lengths, pad_acts, pad_after, pad_left, pad_rest, padded, pads_from_start, placed, silent_at, unless_last}
+use Rattle.fx_cut.specs.Pad.{PadArguments, PadState, IsPad, IsPads, lengths, pad_acts, pad_after, pad_left, pad_rest, padded, pads_from_start, placed, silent_at, unless_last}
 use Rattle.fx_cut.proofs.Fallen.{fallen, stays, no_fall, stays-room, is_full, oldest-first, oldest-channels}
 use Rattle.fx_cut.proofs.Hands.{none_of}
 use Rattle.fx_cut.proofs.UpsampleLaws.{not_dry}
@@ -71,7 +71,7 @@ module _ (s : PadState) (frame : Samples) (is : IsPad s) (dry : pad_acts.dry s �
       let cap = is.capacity in
       let h = is.held in
       let long : length line.items ≡ length s.line.items = omega (arith, ap length split, length-append s.line.items (frame ∷ [])) in
-      let ends : greatest_end (ats s.recipe.pads) ≤ length line.items = omega arith in
+      let ends : greatest (map pad_distance s.recipe.pads) ≤ length line.items = omega arith in
       let n : ℕ = s.taken - length s.line.items in
       let next : s.taken + 1 - length line.items ≡ n + 1 = omega arith in
       rw (none, quiet, running, k, next) (sym (
@@ -95,7 +95,7 @@ module _ (s : PadState) (frame : Samples) (is : IsPad s) (dry : pad_acts.dry s �
       let w = is.held in
       let f = is.full running in
       let cap = is.capacity in
-      let early : s.taken + 1 - greatest_end (ats s.recipe.pads) ≡ s.taken - greatest_end (ats s.recipe.pads) = omega arith in
+      let early : s.taken + 1 - greatest (map pad_distance s.recipe.pads) ≡ s.taken - greatest (map pad_distance s.recipe.pads) = omega arith in
       record {
         line = lined;
         channels = channels ∙ is.channels;
@@ -121,9 +121,9 @@ module _ (s : PadState) (frame : Samples) (is : IsPad s) (dry : pad_acts.dry s �
       let w = is.held in
       let f = is.full running in
       let cap = is.capacity in
-      let n : ℕ = s.taken - greatest_end (ats s.recipe.pads) in
+      let n : ℕ = s.taken - greatest (map pad_distance s.recipe.pads) in
       let same : s.taken - length s.line.items ≡ n = omega arith in
-      let next : s.taken + 1 - greatest_end (ats s.recipe.pads) ≡ n + 1 = omega arith in
+      let next : s.taken + 1 - greatest (map pad_distance s.recipe.pads) ≡ n + 1 = omega arith in
       let empty : length (option_to_list s.hand) ≡ 0 = ap (λ h. length (option_to_list h)) none in
       let nothing : s.silent ≡ 0 = quiet in
       let counted = is.counted running in
@@ -256,7 +256,7 @@ Gave-silence s is some =
     }
 
 -- a new stage
-pub IsPad-new : (r : PadArguments) (line : Frames ℤ) → IsLine w32 line → line.items ≡ [] → line.channels ≡ r.channels → line.capacity ≡ greatest_end (ats r.pads) → IsPads r.pads
+pub IsPad-new : (r : PadArguments) (line : Frames ℤ) → IsLine w32 line → line.items ≡ [] → line.channels ≡ r.channels → line.capacity ≡ greatest (map pad_distance r.pads) → IsPads r.pads
     → IsPad (record { hand = None; recipe = r; silent = 0; line = line; taken = 0; given = 0; ended = false })
 IsPad-new r line lined items channels capacity pads =
     let empty : length line.items ≡ 0 = ap length items in

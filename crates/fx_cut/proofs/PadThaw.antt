@@ -1,15 +1,15 @@
 -- A pad that comes back from its frames and numbers.
-use Rattle.std.proofs.Common.{◌≡◌, ℕ, ℤ, zero, suc, ◌+◌, ◌-◌, ◌<◌, ◌≤◌, ◌^◌, min, Bool, true, false, cond, List, [], ◌∷◌, ◌++◌, length, refl, sym, ◌∙◌, ap, arith, length-append, append-nil, inl, inr, ◌⊎◌}
+use Rattle.std.proofs.Common.{◌≡◌, ℕ, ℤ, zero, suc, ◌+◌, ◌-◌, ◌<◌, ◌≤◌, ◌^◌, min, Bool, true, false, cond, List, [], ◌∷◌, ◌++◌, length, refl, sym, ◌∙◌, ap, arith, length-append, append-nil, inl, inr, ◌⊎◌, map}
 use Rattle.std.specs.Prelude.{Option, Some, None, option_to_list, nat_eq, nat_lt, replicate, slice_index_or, sum_by, filter}
 use Rattle.std.proofs.lemmas.Bool.{cases_lt, le-ltb}
 use mathlib.Core.Path.{ap₂}
 use Rattle.std.proofs.lemmas.List.{length-replicate}
+use Rattle.fx_fixed.specs.Extents.{greatest, pad_distance}
 use Rattle.fx_fixed.specs.declared.positions.At.{At}
 use Rattle.fx_frame.specs.Frame.{Samples, silence}
 use Rattle.fx_frame.specs.Frozen.{IsStored}
 use Rattle.fx_frame.specs.Line.{Frames}
 use Rattle.fx_frame.specs.Stage.{Freezes, coming, numbers_of}
-use Rattle.fx_cut.specs.Trim.{greatest_end}
 use Rattle.fx_cut.specs.Pad.{PadArguments, PadState, IsPad, IsPadCount, IsPads, ats, later_count, lengths, pad_acts, pad_after, pad_due, pad_left, padded_from, pads_from_start, placed, silence_from, silent_at, unless_last, RisesFrom}
 use Rattle.fx_cut.proofs.Hands.{no-hand, empty_of}
 use Rattle.fx_cut.proofs.PadLaws.{length_from, length_padded, pad_first, same_silence, upto_more}
@@ -23,7 +23,7 @@ abbrev upto : List (ℕ × At) → ℕ → ℕ
 upto ps m = sum_by (λ p. p.0) (filter (λ p. nat_lt p.1 m) (pads_from_start ps))
 
 -- what was given and what is to be given are no more than came and the pads have
-front : (channels : ℕ) (ps : List (ℕ × At)) (m : ℕ) (y : List Samples) → RisesFrom 0 (ats ps) → (m ≡ 0) ⊎ (greatest_end (ats ps) ≤ length y)
+front : (channels : ℕ) (ps : List (ℕ × At)) (m : ℕ) (y : List Samples) → RisesFrom 0 (ats ps) → (m ≡ 0) ⊎ (greatest (map pad_distance ps) ≤ length y)
     → m + upto ps m + length (padded_from channels (m + length y) ps m y) ≤ m + length y + lengths ps
 front channels ps zero y r h =
     let none : upto ps 0 ≡ 0 = none-upto (pads_from_start ps) in
@@ -54,14 +54,14 @@ left-length s z =
     length-append (replicate s.silent (silence s.recipe.channels)) (option_to_list s.hand ++ later)
     ∙ ap₂ ◌+◌ (length-replicate s.silent (silence s.recipe.channels)) (length-append (option_to_list s.hand) later)
 
-within-open : (s : PadState) → IsPads s.recipe.pads → length s.line.items ≡ min s.taken (greatest_end (ats s.recipe.pads)) → s.ended ≡ false
+within-open : (s : PadState) → IsPads s.recipe.pads → length s.line.items ≡ min s.taken (greatest (map pad_distance s.recipe.pads)) → s.ended ≡ false
     → s.given + s.silent + length (option_to_list s.hand) ≡ pad_due s.recipe.pads s.taken → (z : List Samples) → s.given + length (pad_left s z) ≤ s.taken + length z + lengths s.recipe.pads
 within-open s pads full running counted z =
     let items : List Samples = s.line.items in
-    let m : ℕ = s.taken - greatest_end (ats s.recipe.pads) in
+    let m : ℕ = s.taken - greatest (map pad_distance s.recipe.pads) in
     let place : s.taken - length items ≡ m = omega arith in
     let long : length (items ++ z) ≡ length items + length z = length-append items z in
-    let near : (m ≡ 0) ⊎ (greatest_end (ats s.recipe.pads) ≤ length (items ++ z)) = go (cases_lt (greatest_end (ats s.recipe.pads)) s.taken) in
+    let near : (m ≡ 0) ⊎ (greatest (map pad_distance s.recipe.pads) ≤ length (items ++ z)) = go (cases_lt (greatest (map pad_distance s.recipe.pads)) s.taken) in
     let most = front s.recipe.channels s.recipe.pads m (items ++ z) pads.rising near in
     let later : unless_last s.ended s.hand (pad_after s.recipe s.taken items (coming s.ended z)) ≡ padded_from s.recipe.channels (m + length (items ++ z)) s.recipe.pads m (items ++ z) =
     still s.ended s.hand running ∙ ap (λ n. padded_from s.recipe.channels (n + length (items ++ z)) s.recipe.pads n (items ++ z)) place in
@@ -69,7 +69,7 @@ within-open s pads full running counted z =
     let k : length (unless_last s.ended s.hand (pad_after s.recipe s.taken items (coming s.ended z))) ≡ length (padded_from s.recipe.channels (m + length (items ++ z)) s.recipe.pads m (items ++ z)) = ap length later in
     omega (arith, l, k, most, counted, long)
   where
-    go : (greatest_end (ats s.recipe.pads) < s.taken) ⊎ (s.taken ≤ greatest_end (ats s.recipe.pads)) → (s.taken - greatest_end (ats s.recipe.pads) ≡ 0) ⊎ (greatest_end (ats s.recipe.pads) ≤ length (s.line.items ++ z))
+    go : (greatest (map pad_distance s.recipe.pads) < s.taken) ⊎ (s.taken ≤ greatest (map pad_distance s.recipe.pads)) → (s.taken - greatest (map pad_distance s.recipe.pads) ≡ 0) ⊎ (greatest (map pad_distance s.recipe.pads) ≤ length (s.line.items ++ z))
     go (inl l) = inr (omega (arith, length-append s.line.items z))
     go (inr g) = inl (omega arith)
 
@@ -117,11 +117,11 @@ frozen-count s ps numbers is e f =
 
 -- what it stores
 pub stored-of : (s : PadState) (channels : ℕ) (ps : List (ℕ × At)) (frames : List Samples) (numbers : List ℕ) → IsPad s → s.recipe ≡ record { channels = channels; pads = ps } → Freezes pad_acts s frames numbers
-    → IsStored channels (greatest_end (ats ps)) (slice_index_or numbers 6 0) frames s.line s.hand
+    → IsStored channels (greatest (map pad_distance ps)) (slice_index_or numbers 6 0) frames s.line s.hand
 stored-of s channels ps frames numbers is e f = record {
   lined = is.line;
   channels_are = is.channels ∙ ap (λ r. r.channels) e;
-  capacity_is = is.capacity ∙ ap (λ r. greatest_end (ats r.pads)) e;
+  capacity_is = is.capacity ∙ ap (λ r. greatest (map pad_distance r.pads)) e;
   held = rw (ap (λ r. r.channels) e) at is.fits;
   hands_are = sym (ap (λ l. slice_index_or l 6 0) f.counted);
   stored = f.stored;
@@ -129,7 +129,7 @@ stored-of s channels ps frames numbers is e f = record {
 
 -- a pad of such counts that stores these frames
 pub IsPad-thawed : (channels capacity taken given silent held hands : ℕ) (ended : Bool) (ps : List (ℕ × At)) (frames : List Samples) (line : Frames ℤ) (hand : Option Samples)
-    → IsStored channels capacity hands frames line hand → capacity ≡ greatest_end (ats ps) → IsPads ps → taken ≤ 2 ^ 56 → held ≤ taken → held ≡ length frames
+    → IsStored channels capacity hands frames line hand → capacity ≡ greatest (map pad_distance ps) → IsPads ps → taken ≤ 2 ^ 56 → held ≤ taken → held ≡ length frames
     → IsPadCount ps taken given silent (held - hands) hands ended
     → IsPad (record { hand = hand; recipe = record { channels = channels; pads = ps }; silent = silent; line = line; taken = taken; given = given; ended = ended })
 IsPad-thawed channels capacity taken given silent held hands ended ps frames line hand st cap pads few high same count =
@@ -137,8 +137,8 @@ IsPad-thawed channels capacity taken given silent held hands ended ps frames lin
     let h : length (option_to_list hand) ≡ hands = st.hands_are in
     let all : length frames ≡ length line.items + length (option_to_list hand) = ap length st.stored ∙ length-append line.items (option_to_list hand) in
     let items : held - hands ≡ length line.items = omega arith in
-    let c : line.capacity ≡ greatest_end (ats ps) = st.capacity_is ∙ cap in
-    let full : ended ≡ false → length line.items ≡ min taken (greatest_end (ats ps)) = λ e. let k = count.full e in omega arith in
+    let c : line.capacity ≡ greatest (map pad_distance ps) = st.capacity_is ∙ cap in
+    let full : ended ≡ false → length line.items ≡ min taken (greatest (map pad_distance ps)) = λ e. let k = count.full e in omega arith in
     let counted : ended ≡ false → given + silent + length (option_to_list hand) ≡ pad_due ps taken = λ e. let k = count.counted e in omega (arith, k) in
     record {
       line = st.lined;
@@ -157,7 +157,7 @@ IsPad-thawed channels capacity taken given silent held hands ended ps frames lin
     state : PadState
     state = record { hand = hand; recipe = record { channels = channels; pads = ps }; silent = silent; line = line; taken = taken; given = given; ended = ended }
 
-    go : (z : List Samples) (b : Bool) → ended ≡ b → (ended ≡ false → length line.items ≡ min taken (greatest_end (ats ps))) → (ended ≡ false → given + silent + length (option_to_list hand) ≡ pad_due ps taken)
+    go : (z : List Samples) (b : Bool) → ended ≡ b → (ended ≡ false → length line.items ≡ min taken (greatest (map pad_distance ps))) → (ended ≡ false → given + silent + length (option_to_list hand) ≡ pad_due ps taken)
         → given + length (pad_left state z) ≤ taken + length z + lengths ps
     go z false e full counted = within-open state pads (full e) e (counted e) z
     go z true e full counted =

@@ -1,13 +1,14 @@
 -- Which frames `trim` keeps, before the length of the sound is known.
-use Rattle.std.proofs.Common.{◌≡◌, ℕ, ◌+◌, ◌-◌, ◌<◌, ◌≤◌, ◌%◌, max, false, cond, leb, eqb, List, [], ◌∷◌, refl, sym, ◌∙◌, ap, arith, length, true}
+use Rattle.std.proofs.Common.{◌≡◌, ℕ, ◌+◌, ◌-◌, ◌<◌, ◌≤◌, ◌%◌, max, false, cond, leb, eqb, List, [], ◌∷◌, refl, sym, ◌∙◌, ap, arith, length, true, map}
 use Rattle.std.specs.Prelude.{count_by}
 use Rattle.std.specs.List.{list_all}
 use Rattle.std.proofs.lemmas.Bool.{lt-leb, le-leb, false≢true}
 use Rattle.std.proofs.lemmas.List.Sums.{sum_by-cons}
+use Rattle.fx_fixed.specs.Extents.{end_distance, greatest}
 use Rattle.fx_fixed.specs.Positions.{place_of, places_after, places_of}
 use Rattle.fx_fixed.specs.declared.positions.At.{At}
 use Rattle.fx_fixed.specs.declared.positions.At.TheVariants.{Start, End}
-use Rattle.fx_cut.specs.Trim.{is_start, last_start, keeps, greatest_end, starts}
+use Rattle.fx_cut.specs.Trim.{is_start, last_start, keeps, starts}
 
 pub count_by-cons : (n q : ℕ) (qs : List ℕ) → count_by (λ q. leb q n) (q ∷ qs) ≡ cond (leb q n) 1 0 + count_by (λ q. leb q n) qs
 count_by-cons n q qs = sum_by-cons (λ y. cond (leb y n) 1 0) q qs
@@ -22,12 +23,12 @@ none_before len n m (p ∷ ps) h =
     ap (λ b. cond b 1 0 + count_by (λ q. leb q n) (places_after len q ps)) e ∙ omega (arith, none_before len n q ps (omega arith)))
 
 -- before the end positions, only the positions before them count
-pub crossed : (len n m : ℕ) (ps : List At) → n + greatest_end ps < len
+pub crossed : (len n m : ℕ) (ps : List At) → n + greatest (map end_distance ps) < len
     → count_by (λ q. leb q n) (places_after len m ps) ≡ count_by (λ q. leb q n) (places_after 0 m (starts ps))
 crossed len n m [] h = refl
 crossed len n m (Start p ∷ ps) h =
     count_by-cons n (max m p) (places_after len (max m p) ps)
-    ∙ ap (λ k. cond (leb (max m p) n) 1 0 + k) (crossed len n (max m p) ps h)
+    ∙ ap (λ k. cond (leb (max m p) n) 1 0 + k) (crossed len n (max m p) ps (omega (arith, h)))
     ∙ sym (count_by-cons n (max m p) (places_after 0 (max m p) (starts ps)))
 crossed len n m (End b ∷ ps) h =
     let q : ℕ = max m (len - b) in
@@ -36,7 +37,7 @@ crossed len n m (End b ∷ ps) h =
     ap (λ t. cond t 1 0 + count_by (λ q. leb q n) (places_after len q ps)) e ∙ omega (arith, none_before len n q ps (omega arith)))
 
 -- a frame that lies before each end position is kept whatever the length
-pub kept-early : (len n : ℕ) (ps : List At) → n + greatest_end ps < len → keeps (places_of len ps) n ≡ keeps (places_of 0 (starts ps)) n
+pub kept-early : (len n : ℕ) (ps : List At) → n + greatest (map end_distance ps) < len → keeps (places_of len ps) n ≡ keeps (places_of 0 (starts ps)) n
 kept-early len n ps h = ap (λ k. eqb (k % 2) 1) (crossed len n 0 ps h)
 
 -- from the greatest of the start positions on, all of them are at n or before it

@@ -3,10 +3,11 @@ use Rattle.std.proofs.Common.{◌≡◌, ℕ, zero, suc, ◌+◌, ◌-◌, ◌<�
 use Rattle.std.specs.Prelude.{filter, slice_index_or}
 use Rattle.std.specs.List.{range_with_len, enumerate_from}
 use mathlib.Core.Path.{ap₂}
+use Rattle.fx_fixed.specs.Extents.{end_distance, greatest}
 use Rattle.fx_fixed.specs.Positions.{places_of}
 use Rattle.fx_fixed.specs.declared.positions.At.{At}
 use Rattle.fx_frame.specs.Frame.{Samples}
-use Rattle.fx_cut.specs.Trim.{keeps, trimmed, greatest_end, starts, trimmed_from, trim_rest}
+use Rattle.fx_cut.specs.Trim.{keeps, trimmed, starts, trimmed_from, trim_rest}
 use Rattle.fx_cut.proofs.TrimLaws.{kept-early}
 
 pub picked_same : {X : Type 0} (f g : ℕ → X) (p q : ℕ → Bool) (a n : ℕ) → ((i : ℕ) → a ≤ i → i < a + n → p i ≡ q i) → ((i : ℕ) → a ≤ i → i < a + n → f i ≡ g i)
@@ -58,7 +59,7 @@ trim_first len ps n frame x = go (keeps (places_of len ps) n)
     go false = refl
 
 -- the oldest frame is let go where the line is longer than each end distance
-pub trim_let_go : (ps : List At) (n : ℕ) (oldest : Samples) (line z : List Samples) → greatest_end ps ≤ length line
+pub trim_let_go : (ps : List At) (n : ℕ) (oldest : Samples) (line z : List Samples) → greatest (map end_distance ps) ≤ length line
     → trim_rest ps n (oldest ∷ line) z ≡ cond (keeps (places_of 0 (starts ps)) n) (oldest ∷ []) [] ++ trim_rest ps (n + 1) line z
 trim_let_go ps n oldest line z h =
     let len : ℕ = n + length (oldest ∷ (line ++ z)) in

@@ -5,6 +5,7 @@ use Rattle.std.specs.Int.{w32}
 use Rattle.std.specs.List.{enumerate_from, list_all}
 use Rattle.std.proofs.lemmas.Bool.{leb-true, and_parts, false≢true, eqb-true}
 use mathlib.Core.Path.{ap₂}
+use Rattle.fx_fixed.specs.Extents.{end_distance, greatest}
 use Rattle.fx_fixed.specs.Positions.{places_of}
 use Rattle.fx_fixed.specs.declared.positions.At.{At}
 use Rattle.fx_frame.specs.Frame.{Samples, IsFrame}
@@ -12,7 +13,7 @@ use Rattle.fx_frame.specs.Frozen.{IsHand}
 use Rattle.fx_frame.specs.Line.{Frames, IsLine}
 use Rattle.fx_frame.specs.Stage.{Gave, Took, coming, is_enough}
 use Rattle.fx_frame.specs.Lists.{plain}
-use Rattle.fx_cut.specs.Trim.{keeps, kept_count, starts, greatest_end, is_start, last_start, trimmed_from, trim_rest, trim_after, trim_enough, TrimState, IsTrim, trim_acts}
+use Rattle.fx_cut.specs.Trim.{keeps, kept_count, starts, is_start, last_start, trimmed_from, trim_rest, trim_after, trim_enough, TrimState, IsTrim, trim_acts}
 use Rattle.fx_cut.proofs.Fallen.{fallen, stays, no_fall, stays-room, is_full, oldest-first, oldest-channels, first-popped}
 use Rattle.fx_cut.proofs.Hands.{none_of, at_most_one, empty_of}
 use Rattle.fx_cut.proofs.Ranges.{count_same, kept_next}
@@ -54,9 +55,9 @@ kept-due s is running =
     let f = is.full running in
     let cap = is.capacity in
     let ps : List At = s.recipe.positions in
-    let same : s.taken - length s.line.items ≡ s.taken - greatest_end ps = omega arith in
+    let same : s.taken - length s.line.items ≡ s.taken - greatest (map end_distance ps) = omega arith in
     is.counted running
-    ∙ count_same (keeps (places_of 0 (starts ps))) (keeps (places_of s.taken ps)) 0 (s.taken - greatest_end ps) (λ i low high. sym (kept-early s.taken i ps (omega arith)))
+    ∙ count_same (keeps (places_of 0 (starts ps))) (keeps (places_of s.taken ps)) 0 (s.taken - greatest (map end_distance ps)) (λ i low high. sym (kept-early s.taken i ps (omega arith)))
     ∙ ap (kept_count ps s.taken) (sym same)
 
 -- after the end, the next frame that is kept is in hand
@@ -119,7 +120,7 @@ module _ (s : TrimState) (frame : Samples) (is : IsTrim s) (dry : is_none s.hand
       let cap = is.capacity in
       let h : length s.line.items ≤ s.taken = held in
       let long : length line.items ≡ length s.line.items = omega (arith, ap length split, length-append s.line.items (frame ∷ [])) in
-      let ends : greatest_end s.recipe.positions ≤ length line.items = omega arith in
+      let ends : greatest (map end_distance s.recipe.positions) ≤ length line.items = omega arith in
       let n : ℕ = s.taken - length s.line.items in
       let next : s.taken + 1 - length line.items ≡ n + 1 = omega arith in
       record {
@@ -141,7 +142,7 @@ module _ (s : TrimState) (frame : Samples) (is : IsTrim s) (dry : is_none s.hand
       let w = is.within in
       let f = is.full running in
       let cap = is.capacity in
-      let early : s.taken + 1 - greatest_end s.recipe.positions ≡ s.taken - greatest_end s.recipe.positions = omega arith in
+      let early : s.taken + 1 - greatest (map end_distance s.recipe.positions) ≡ s.taken - greatest (map end_distance s.recipe.positions) = omega arith in
       record {
         line = lined;
         channels = channels ∙ is.channels;
@@ -167,9 +168,9 @@ module _ (s : TrimState) (frame : Samples) (is : IsTrim s) (dry : is_none s.hand
       let w = is.within in
       let f = is.full running in
       let cap = is.capacity in
-      let n : ℕ = s.taken - greatest_end s.recipe.positions in
+      let n : ℕ = s.taken - greatest (map end_distance s.recipe.positions) in
       let same : s.taken - length s.line.items ≡ n = omega arith in
-      let next : s.taken + 1 - greatest_end s.recipe.positions ≡ n + 1 = omega arith in
+      let next : s.taken + 1 - greatest (map end_distance s.recipe.positions) ≡ n + 1 = omega arith in
       let empty : length (option_to_list s.hand) ≡ 0 = ap (λ h. length (option_to_list h)) none in
       let one : length (option_to_list hand) ≤ 1 = at_most_one hand in
       let counted = is.counted running in
@@ -227,9 +228,9 @@ enough_parts : (b : Bool) (m n : ℕ) → is_enough (cond b (Some m) None) n ≡
 enough_parts true m n h = (refl, leb-true m n h)
 enough_parts false m n h = absurd (false≢true h)
 
-no_ends : (ps : List At) → list_all is_start ps ≡ true → greatest_end ps ≡ 0
+no_ends : (ps : List At) → list_all is_start ps ≡ true → greatest (map end_distance ps) ≡ 0
 no_ends [] h = refl
-no_ends (At.Start p ∷ ps) h = no_ends ps h
+no_ends (At.Start p ∷ ps) h = omega (arith, no_ends ps h)
 no_ends (At.End b ∷ ps) h = absurd (false≢true h)
 
 none_from : (len n : ℕ) (ps : List At) (x : List Samples) → list_all is_start ps ≡ true → length ps % 2 ≡ 0 → last_start ps ≤ n → trimmed_from len ps n x ≡ []

@@ -1,12 +1,13 @@
 -- A trim that comes back from its frames and numbers.
-use Rattle.std.proofs.Common.{◌≡◌, ℕ, ℤ, ◌+◌, ◌-◌, ◌≤◌, ◌^◌, Bool, List, length, sym, ◌∙◌, ap, arith, length-append}
+use Rattle.std.proofs.Common.{◌≡◌, ℕ, ℤ, ◌+◌, ◌-◌, ◌≤◌, ◌^◌, Bool, List, length, sym, ◌∙◌, ap, arith, length-append, map}
 use Rattle.std.specs.Prelude.{Option, option_to_list, nat_eq, slice_index_or}
+use Rattle.fx_fixed.specs.Extents.{end_distance, greatest}
 use Rattle.fx_fixed.specs.declared.positions.At.{At}
 use Rattle.fx_frame.specs.Frame.{Samples}
 use Rattle.fx_frame.specs.Frozen.{IsStored}
 use Rattle.fx_frame.specs.Line.{Frames}
 use Rattle.fx_frame.specs.Stage.{numbers_of}
-use Rattle.fx_cut.specs.Trim.{TrimState, IsTrim, IsTrimCount, greatest_end, trim_acts, trim_enough}
+use Rattle.fx_cut.specs.Trim.{TrimState, IsTrim, IsTrimCount, trim_acts, trim_enough}
 use Rattle.fx_cut.proofs.Hands.{no-hand, empty_of}
 use Rattle.fx_cut.proofs.Thawing.{flag, lined}
 
@@ -27,14 +28,14 @@ frozen-count s ps numbers is e f =
 
 -- a trim of such counts that stores these frames
 pub IsTrim-thawed : (channels capacity taken given held hands : ℕ) (ended : Bool) (ps : List At) (enough : Option ℕ) (frames : List Samples) (line : Frames ℤ) (hand : Option Samples)
-    → IsStored channels capacity hands frames line hand → capacity ≡ greatest_end ps → enough ≡ trim_enough ps → taken ≤ 2 ^ 56 → given ≤ taken → held ≤ taken - given → held ≡ length frames
+    → IsStored channels capacity hands frames line hand → capacity ≡ greatest (map end_distance ps) → enough ≡ trim_enough ps → taken ≤ 2 ^ 56 → given ≤ taken → held ≤ taken - given → held ≡ length frames
     → IsTrimCount ps taken given (held - hands) hands ended
     → IsTrim (record { hand = hand; recipe = record { channels = channels; positions = ps }; enough = enough; line = line; taken = taken; given = given; ended = ended })
 IsTrim-thawed channels capacity taken given held hands ended ps enough frames line hand st cap en few low high same count =
     let h : length (option_to_list hand) ≡ hands = st.hands_are in
     let all : length frames ≡ length line.items + length (option_to_list hand) = ap length st.stored ∙ length-append line.items (option_to_list hand) in
     let items : held - hands ≡ length line.items = omega arith in
-    let c : line.capacity ≡ greatest_end ps = st.capacity_is ∙ cap in
+    let c : line.capacity ≡ greatest (map end_distance ps) = st.capacity_is ∙ cap in
     record {
       line = st.lined;
       channels = st.channels_are;

@@ -3,6 +3,7 @@
 use Rattle.std.specs.Prelude.{ℕ, ℤ, pos, zero, suc, ◌+◌, ◌-◌, ◌*◌, ◌*ℤ◌, ◌^◌, ◌≤◌, ◌≡◌, ◌⊎◌, min, nat_lt, Bool, true, false, if◌then◌else◌, List, [], ◌∷◌, ◌++◌, take, length, map, slice_index_or, Option, Some, None, option_to_list, is_none}
 use Rattle.std.specs.List.{range_with_len, enumerate_from}
 use Rattle.std.specs.Int.{w32}
+use Rattle.fx_fixed.specs.Extents.{stop_line}
 use Rattle.fx_fixed.specs.Positions.{place_of}
 use Rattle.fx_fixed.specs.Rounding.{rounding}
 use Rattle.fx_fixed.specs.declared.positions.At.{At}
@@ -14,11 +15,6 @@ use Rattle.fx_frame.specs.Stage.{Acts, Given, coming}
 use Rattle.fx_frame.specs.Lists.{plain}
 use Rattle.fx_frame.specs.Rounded.{given_of}
 use Rattle.fx_cut.specs.declared.fade.Shape.{Shape}
-
--- a stop at 0 from the start means the end
-abbrev pub meant : Option At → Option At
-meant (Some (Start zero)) = Some (End 0)
-meant stop = stop
 
 -- n parts of a length, at most 1, as a numerator and a denominator; a fade of no length has the weight 1
 abbrev pub weight : ℕ → ℕ → ℕ × ℕ
@@ -56,14 +52,9 @@ until (Some stop) len = min len stop
 abbrev pub faded : Shape → List Samples → List Given
 faded f x = map (λ n. faded_frame f (stop_in (length x) f.stop) n (slice_index_or x n [])) (range_with_len 0 (until (stop_in (length x) f.stop) (length x)))
 
--- the line that a stop needs: from the end, the frames that may be faded out or may lie behind it
-abbrev pub line_by : Option At → ℕ → ℕ
-line_by (Some (End b)) fade_out = b + fade_out
-line_by (Some (Start p)) fade_out = 0
-line_by None fade_out = 0
-
+-- the frames that a fade waits for
 abbrev pub fade_line : Shape → ℕ
-fade_line f = line_by f.stop f.fade_out
+fade_line f = stop_line f.stop f.fade_out
 
 -- how many frames are given after so many, with no end
 abbrev pub due_by : Option At → ℕ → ℕ → ℕ

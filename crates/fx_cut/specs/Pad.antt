@@ -4,6 +4,7 @@ use Rattle.std.specs.Prelude.{ℕ, ℤ, ◌+◌, ◌-◌, ◌^◌, ◌≤◌, �
 use Rattle.std.proofs.Common.{arith}
 use Rattle.std.specs.List.{range_with_len, enumerate_from}
 use Rattle.std.specs.Int.{w32}
+use Rattle.fx_fixed.specs.Extents.{greatest, pad_distance, pad_length}
 use Rattle.fx_fixed.specs.Positions.{places_after}
 use Rattle.fx_fixed.specs.declared.positions.At.{At}
 use Rattle.fx_fixed.specs.declared.positions.At.TheVariants.{Start, End}
@@ -12,7 +13,6 @@ use Rattle.fx_frame.specs.Line.{Frames, IsLine}
 use Rattle.fx_frame.specs.Frozen.{IsHand}
 use Rattle.fx_frame.specs.Stage.{Acts, coming}
 use Rattle.fx_frame.specs.Lists.{plain}
-use Rattle.fx_cut.specs.Trim.{greatest_end}
 
 -- the positions of pads, each of which is a length and a position
 abbrev pub ats : List (ℕ × At) → List At
@@ -20,7 +20,7 @@ ats pads = map (λ p. p.1) pads
 
 -- the lengths of pads together
 abbrev pub lengths : List (ℕ × At) → ℕ
-lengths pads = sum_by (λ p. p.0) pads
+lengths pads = sum_by pad_length pads
 
 -- a pad is not past the end of a sound of so many frames
 abbrev pub is_inside : ℕ → ℕ × At → Bool
@@ -50,7 +50,7 @@ pads_from_start ((n, End b) ∷ pads) = []
 
 -- how many frames are given after so many, with no end: those before each end position, and the pads before them
 abbrev pub pad_due : List (ℕ × At) → ℕ → ℕ
-pad_due pads s = s - greatest_end (ats pads) + sum_by (λ p. p.0) (filter (λ p. nat_lt p.1 (s - greatest_end (ats pads))) (pads_from_start pads))
+pad_due pads s = s - greatest (map pad_distance pads) + sum_by (λ p. p.0) (filter (λ p. nat_lt p.1 (s - greatest (map pad_distance pads))) (pads_from_start pads))
 
 -- the positions from the start that stand before the first one from the end are in order, from a place on
 abbrev pub RisesFrom : ℕ → List At → Type 0
@@ -108,7 +108,7 @@ pad_left s z = replicate s.silent (silence s.recipe.channels) ++ (option_to_list
 pub record IsPad (s : PadState) : Type 0 where
   pub line : IsLine w32 s.line
   pub channels : s.line.channels ≡ s.recipe.channels
-  pub capacity : s.line.capacity ≡ greatest_end (ats s.recipe.pads)
+  pub capacity : s.line.capacity ≡ greatest (map pad_distance s.recipe.pads)
   pub pads : IsPads s.recipe.pads
   pub few : s.taken ≤ 2 ^ 56
   pub held : length s.line.items + length (option_to_list s.hand) ≤ s.taken
@@ -128,7 +128,7 @@ later_count pads taken lined hands = if nat_eq hands 0 then 0 else lined + silen
 
 -- what holds of its counts alone: so many frames taken and given, in the line and in hand, and silent ones to be given
 pub record IsPadCount (pads : List (ℕ × At)) (taken given silent lined hands : ℕ) (ended : Bool) : Type 0 where
-  pub full : ended ≡ false → lined ≡ min taken (greatest_end (ats pads))
+  pub full : ended ≡ false → lined ≡ min taken (greatest (map pad_distance pads))
   pub counted : ended ≡ false → given + silent + hands ≡ pad_due pads taken
   pub over : ended ≡ true → hands ≡ 0 → lined ≡ 0
   pub within : ended ≡ true → given + silent + hands + later_count pads taken lined hands ≤ taken + lengths pads
@@ -137,7 +137,7 @@ pub record IsPadCount (pads : List (ℕ × At)) (taken given silent lined hands 
 abbrev pub pad_acts : Acts PadState PadArguments
 pad_acts = record {
   recipe = λ s. s.recipe;
-  kind_of = λ r. record { inputs = r.channels; outputs = r.channels; line = greatest_end (ats r.pads); limit = 2 ^ 56; due = pad_due r.pads; most = λ n. n + lengths r.pads; enough = None };
+  kind_of = λ r. record { inputs = r.channels; outputs = r.channels; line = greatest (map pad_distance r.pads); limit = 2 ^ 56; due = pad_due r.pads; most = λ n. n + lengths r.pads; enough = None };
   meaning = λ r z. map plain (padded r.channels r.pads z);
   rest = λ s z. map plain (pad_left s z);
   counts = λ s. record { taken = s.taken; given = s.given; clips = 0; ended = s.ended };

@@ -2,6 +2,7 @@
 use Rattle.std.specs.Prelude.{ℕ, ℤ, ◌+◌, ◌-◌, ◌%◌, ◌^◌, ◌≤◌, ◌≡◌, ◌==◌, ◌&&◌, max, min, nat_le, Bool, true, false, if◌then◌else◌, List, [], ◌∷◌, ◌++◌, count_by, filter, length, map, slice_index_or, Option, Some, None, option_to_list, is_none}
 use Rattle.std.specs.List.{range_with_len, enumerate_from, list_all}
 use Rattle.std.specs.Int.{w32}
+use Rattle.fx_fixed.specs.Extents.{end_distance, greatest}
 use Rattle.fx_fixed.specs.Positions.{places_of}
 use Rattle.fx_fixed.specs.declared.positions.At.{At}
 use Rattle.fx_fixed.specs.declared.positions.At.TheVariants.{Start, End}
@@ -22,12 +23,6 @@ kept_count ps frames n = count_by (keeps (places_of frames ps)) (range_with_len 
 -- the frames after an odd number of positions
 abbrev pub trimmed : List At → List Samples → List Samples
 trimmed ps x = map (λ n. slice_index_or x n []) (filter (keeps (places_of (length x) ps)) (range_with_len 0 (length x)))
-
--- the greatest distance of a position from the end
-abbrev pub greatest_end : List At → ℕ
-greatest_end [] = 0
-greatest_end (Start p ∷ ps) = greatest_end ps
-greatest_end (End b ∷ ps) = max b (greatest_end ps)
 
 -- the positions before the first one from the end
 abbrev pub starts : List At → List At
@@ -57,7 +52,7 @@ last_start (End b ∷ ps) = last_start ps
 -- how many frames are given after so many, with no end: those before each end position, as far as the positions before the
 -- first one from the end keep them
 abbrev pub trim_due : List At → ℕ → ℕ
-trim_due ps s = count_by (keeps (places_of 0 (starts ps))) (range_with_len 0 (s - greatest_end ps))
+trim_due ps s = count_by (keeps (places_of 0 (starts ps))) (range_with_len 0 (s - greatest (map end_distance ps)))
 
 -- an even number of positions, all from the start: nothing is kept from the greatest one on, which is the last where they
 -- are in order
@@ -85,7 +80,7 @@ pub record TrimState : Type 0 where
 pub record IsTrim (s : TrimState) : Type 0 where
   pub line : IsLine w32 s.line
   pub channels : s.line.channels ≡ s.recipe.channels
-  pub capacity : s.line.capacity ≡ greatest_end s.recipe.positions
+  pub capacity : s.line.capacity ≡ greatest (map end_distance s.recipe.positions)
   pub enough : s.enough ≡ trim_enough s.recipe.positions
   pub few : s.taken ≤ 2 ^ 56
   pub within : s.given + length (option_to_list s.hand) + length s.line.items ≤ s.taken
@@ -98,7 +93,7 @@ pub record IsTrim (s : TrimState) : Type 0 where
 
 -- the same of its counts alone: so many frames taken and given, in the line and in hand
 pub record IsTrimCount (positions : List At) (taken given lined hands : ℕ) (ended : Bool) : Type 0 where
-  pub full : ended ≡ false → lined ≡ min taken (greatest_end positions)
+  pub full : ended ≡ false → lined ≡ min taken (greatest (map end_distance positions))
   pub counted : ended ≡ false → given + hands ≡ trim_due positions taken
   pub over : ended ≡ true → hands ≡ 0 → lined ≡ 0
   pub gone : ended ≡ true → given + hands ≡ kept_count positions taken (taken - lined)
@@ -111,7 +106,7 @@ trim_after ps taken items z = trim_rest ps (taken - length items) items z
 abbrev pub trim_acts : Acts TrimState TrimArguments
 trim_acts = record {
   recipe = λ s. s.recipe;
-  kind_of = λ r. record { inputs = r.channels; outputs = r.channels; line = greatest_end r.positions; limit = 2 ^ 56; due = trim_due r.positions; most = λ n. n; enough = trim_enough r.positions };
+  kind_of = λ r. record { inputs = r.channels; outputs = r.channels; line = greatest (map end_distance r.positions); limit = 2 ^ 56; due = trim_due r.positions; most = λ n. n; enough = trim_enough r.positions };
   meaning = λ r z. map plain (trimmed r.positions z);
   rest = λ s z. map plain (option_to_list s.hand ++ trim_after s.recipe.positions s.taken s.line.items (coming s.ended z));
   counts = λ s. record { taken = s.taken; given = s.given; clips = 0; ended = s.ended };

@@ -2,6 +2,7 @@
 ghost use Rattle.std.specs.Prelude.{ℕ, ◌≡◌, ◌≤◌, ◌<◌, ◌+◌, ◌-◌, ◌*◌, ◌++◌, ◌^◌, [], length, map, Err, FitsSigned, IfOk, MatchResult, None, option_to_list, true, false};
 ghost use Rattle.std.specs.Int.{w32};
 ghost use Rattle.std.specs.List.{All};
+ghost use Rattle.fx_fixed.specs.Extents.{meant, stop_line};
 ghost use Rattle.fx_frame.specs.Frame.{IsFrame};
 ghost use Rattle.fx_frame.specs.Frozen.{IsHand};
 ghost use Rattle.fx_frame.specs.Line.{IsLine};
@@ -9,12 +10,13 @@ ghost use Rattle.fx_frame.specs.Ring.{pieces};
 ghost use Rattle.fx_frame.specs.Stage.{Freezes, IsNew};
 ghost use Rattle.fx_frame.specs.Lists.{plain};
 ghost use Rattle.fx_frame.specs.Rounded.{unclipped};
-ghost use Rattle.fx_cut.specs.Fade.{FadeArguments, FadeState, IsFade, IsFadeCount, IsShape, fade_acts, fade_after, fade_due, fade_enough, fade_line, faded_along, faded_here, is_before, line_by, meant, stop_ahead, stop_in, until, weighted, weights};
+ghost use Rattle.fx_cut.specs.Fade.{FadeArguments, FadeState, IsFade, IsFadeCount, IsShape, fade_acts, fade_after, fade_due, fade_enough, fade_line, faded_along, faded_here, is_before, stop_ahead, stop_in, until, weighted, weights};
 
 use crate::lines::push_over;
 use crate::many::{PassesMany, feed_by_pieces};
 use crate::slopes::{Slope, weigh_by};
 use fx_fixed::At;
+use fx_fixed::inner::{meant_stop, stop_line};
 use fx_frame::frozen::thawed_line_and_hand;
 use fx_frame::inner::{frame_of, places};
 use fx_frame::stage::MOST_TAKEN;
@@ -103,10 +105,7 @@ impl Fading {
         requires { fade_line self.now ≤ 2 ^ 28 }
         ensures { result ≡ fade_line self.now }
     {
-        match self.shape.stop {
-            Some(At::End(distance)) => distance + self.shape.fade_out,
-            _ => 0,
-        }
+        stop_line(self.shape.stop, self.shape.fade_out)
     }
 
     /// How many frames are given after so many, with no end.
@@ -266,16 +265,6 @@ impl Fading {
     }
 }
 
-/// A stop at 0 from the start means the end.
-fn meant_stop(stop: Option<At>) -> Option<At>
-    ensures { result ≡ meant stop }
-{
-    if let Some(At::Start(0)) = stop {
-        return Some(At::End(0));
-    }
-    stop
-}
-
 /// How many of so many frames lie before the stop.
 fn frames_until(stop: Option<u64>, frames: u64) -> u64
     ensures { result ≡ until stop frames }
@@ -366,7 +355,7 @@ impl Fade {
     ) -> Result<Fade, AllocError>
         requires channels { (1 ≤ channels) × (channels ≤ 16) }
         requires fades { (fade_in ≤ 2 ^ 40) × (fade_out ≤ 2 ^ 40) }
-        requires line { line_by (meant stop) fade_out ≤ 2 ^ 28 }
+        requires line { stop_line (meant stop) fade_out ≤ 2 ^ 28 }
         ensures { IfOk result (IsNew fade_acts (record { channels = channels; shape = record { fade_in = fade_in; stop = meant stop; fade_out = fade_out } })) }
     {
         let stop = meant_stop(stop);
@@ -400,7 +389,7 @@ impl Fade {
     ) -> Result<Fade, ThawFault>
         requires channels { (1 ≤ channels) × (channels ≤ 16) }
         requires fades { (fade_in ≤ 2 ^ 40) × (fade_out ≤ 2 ^ 40) }
-        requires line { line_by (meant stop) fade_out ≤ 2 ^ 28 }
+        requires line { stop_line (meant stop) fade_out ≤ 2 ^ 28 }
         ensures recipe { IfOk result (λ t. t.recipe ≡ record { channels = channels; shape = record { fade_in = fade_in; stop = meant stop; fade_out = fade_out } }) }
         ensures frozen { IfOk result (λ t. Freezes fade_acts t frames.now numbers.now) }
         ensures named { (result ≡ Err ThawFault.WrongPlan) → ⊥ }

@@ -1,33 +1,21 @@
 //! The effect `pad` of sox(1): silence at positions.
-ghost use Rattle.std.specs.Prelude.{ℕ, ◌≡◌, ◌<◌, ◌≤◌, ◌+◌, ◌-◌, ◌^◌, drop, filter, length, nat_lt, slice_get, sum_by, Err, IfOk, MatchResult, true, false};
+ghost use Rattle.std.specs.Prelude.{ℕ, ◌≡◌, ◌<◌, ◌≤◌, ◌+◌, ◌-◌, ◌^◌, drop, filter, length, nat_lt, slice_get, sum_by, Err, IfOk, MatchResult, true, false, map};
 ghost use Rattle.std.specs.Int.{w32};
+ghost use Rattle.fx_fixed.specs.Extents.{greatest, pad_distance};
 ghost use Rattle.fx_frame.specs.Frozen.{IsHand};
 ghost use Rattle.fx_frame.specs.Line.{IsLine};
 ghost use Rattle.fx_frame.specs.Stage.{Freezes, IsNew};
-ghost use Rattle.fx_cut.specs.Trim.{greatest_end};
-ghost use Rattle.fx_cut.specs.Pad.{IsPad, IsPadCount, IsPads, PadArguments, PadState, ats, later_count, lengths, pad_acts, pad_rises, pads_from_start, placed, silence_from, silent_at};
+ghost use Rattle.fx_cut.specs.Pad.{IsPad, IsPadCount, IsPads, PadArguments, PadState, later_count, lengths, pad_acts, pad_rises, pads_from_start, placed, silence_from, silent_at};
 
 use crate::many::{PassesMany, feed_by_pieces, pass_by_frame};
 use fx_fixed::At;
+use fx_fixed::inner::{all_pads, greatest_pad_end};
 use fx_frame::feed::copy_frames;
 use fx_frame::frozen::thawed_line_and_hand;
 use fx_frame::stage::MOST_TAKEN;
 use fx_frame::{Feeds, Frame, Line, Passed, Passing, Stage, ThawFault, WideFrame};
 use std::alloc::{AllocError, Global};
 use std::marker::Model;
-
-/// The greatest distance of a pad from the end.
-fn greatest_end_of(pads: &[(u64, At)]) -> u64
-    ensures { result ≡ greatest_end (ats pads.now) }
-{
-    let mut greatest = 0;
-    'pads: for (_length, at) in pads {
-        if let At::End(distance) = at {
-            greatest = greatest.max(*distance);
-        }
-    }
-    greatest
-}
 
 /// How many silent frames stand before the frame at this place, as far as the pads before the first one from the end say.
 fn silence_by_starts(pads: &[(u64, At)], place: u64) -> u64
@@ -150,18 +138,6 @@ fn silence_in(pads: &[(u64, At)], frames: u64, place: u64) -> u64
     silent
 }
 
-/// How many silent frames the pads have together.
-fn lengths_of(pads: &[(u64, At)]) -> u64
-    requires { lengths pads.now ≤ 2 ^ 46 }
-    ensures { result ≡ lengths pads.now }
-{
-    let mut silent = 0;
-    'pads: for (length, _at) in pads {
-        silent += *length;
-    }
-    silent
-}
-
 /// How many silent frames stand before this place, as far as the pads before the first one from the end say.
 fn silence_before(pads: &[(u64, At)], end: u64) -> u64
     requires { lengths pads.now ≤ 2 ^ 46 }
@@ -233,11 +209,11 @@ fn is_count(
 {
     let made = u128::from(given) + u128::from(silent) + u128::from(hands);
     if is_ended {
-        let most = u128::from(taken) + u128::from(lengths_of(pads));
+        let most = u128::from(taken) + u128::from(all_pads(pads));
         let all = made + later_frames(pads, taken, lined, hands);
         return (hands != 0 || lined == 0) && all <= most;
     }
-    let reach = greatest_end_of(pads);
+    let reach = greatest_pad_end(pads);
     if lined != taken.min(reach) {
         return false;
     }
@@ -300,10 +276,10 @@ impl Pad {
     pub fn new(alloc: Global, channels: usize, pads: &[(u64, At)]) -> Result<Pad, AllocError>
         requires channels { (1 ≤ channels) × (channels ≤ 16) }
         requires pads { IsPads pads.now }
-        requires line { greatest_end (ats pads.now) ≤ 2 ^ 28 }
+        requires line { greatest (map pad_distance pads.now) ≤ 2 ^ 28 }
         ensures { IfOk result (IsNew pad_acts (record { channels = channels; pads = pads.now })) }
     {
-        let line = Line::new(alloc, channels, greatest_end_of(pads) as usize)?;
+        let line = Line::new(alloc, channels, greatest_pad_end(pads) as usize)?;
         let mut own = Vec::new(alloc);
         own.extend_from_slice(pads)?;
         Ok(Pad {
@@ -329,7 +305,7 @@ impl Pad {
     ) -> Result<Pad, ThawFault>
         requires channels { (1 ≤ channels) × (channels ≤ 16) }
         requires pads { IsPads pads.now }
-        requires line { greatest_end (ats pads.now) ≤ 2 ^ 28 }
+        requires line { greatest (map pad_distance pads.now) ≤ 2 ^ 28 }
         ensures recipe { IfOk result (λ t. t.recipe ≡ record { channels = channels; pads = pads.now }) }
         ensures frozen { IfOk result (λ t. Freezes pad_acts t frames.now numbers.now) }
         ensures named { (result ≡ Err ThawFault.WrongPlan) → ⊥ }
@@ -338,7 +314,7 @@ impl Pad {
         let [taken, given, ended, 0, held, silent, hands, 0] = *numbers else {
             return Err(ThawFault::BadSnapshot);
         };
-        let capacity = greatest_end_of(pads);
+        let capacity = greatest_pad_end(pads);
         if ended > 1 || held != frames.len() as u64 {
             return Err(ThawFault::BadSnapshot);
         }
@@ -352,16 +328,7 @@ impl Pad {
         let Ok(()) = own.extend_from_slice(pads) else {
             return Err(ThawFault::Memory);
         };
-        let (line, hand) = match thawed_line_and_hand(
-            alloc,
-            channels,
-            capacity as usize,
-            frames,
-            hands,
-        ) {
-            Ok(stored) => stored,
-            Err(fault) => return Err(fault),
-        };
+        let (line, hand) = thawed_line_and_hand(alloc, channels, capacity as usize, frames, hands)?;
         Ok(Pad {
             hand,
             channels,

@@ -1,16 +1,18 @@
 //! The effect `trim` of sox(1): the frames after an odd number of positions.
-ghost use Rattle.std.specs.Prelude.{ℕ, ◌≡◌, ◌<◌, ◌≤◌, ◌+◌, ◌-◌, ◌++◌, ◌^◌, [], length, count_by, if◌then◌else◌, Err, IfOk, MatchResult, None, option_to_list, true, false};
+ghost use Rattle.std.specs.Prelude.{ℕ, ◌≡◌, ◌<◌, ◌≤◌, ◌+◌, ◌-◌, ◌++◌, ◌^◌, [], length, count_by, if◌then◌else◌, Err, IfOk, MatchResult, None, option_to_list, true, false, map};
 ghost use Rattle.std.specs.List.{range_with_len};
 ghost use Rattle.std.specs.Int.{w32};
+ghost use Rattle.fx_fixed.specs.Extents.{end_distance, greatest};
 ghost use Rattle.fx_fixed.specs.Positions.{place_of, places_of};
 ghost use Rattle.fx_frame.specs.Frozen.{IsHand};
 ghost use Rattle.fx_frame.specs.Line.{IsLine};
 ghost use Rattle.fx_frame.specs.Stage.{Freezes, IsNew, is_enough};
-ghost use Rattle.fx_cut.specs.Trim.{IsTrim, IsTrimCount, TrimArguments, TrimState, greatest_end, keeps, kept_count, starts, trim_acts, trim_after, trim_enough};
+ghost use Rattle.fx_cut.specs.Trim.{IsTrim, IsTrimCount, TrimArguments, TrimState, keeps, kept_count, starts, trim_acts, trim_after, trim_enough};
 
 use crate::lines::push_over;
 use crate::many::{PassesMany, feed_by_pieces};
 use fx_fixed::At;
+use fx_fixed::inner::greatest_end;
 use fx_frame::frozen::thawed_line_and_hand;
 use fx_frame::stage::MOST_TAKEN;
 use fx_frame::{Feeds, Frame, Line, Passed, Passing, Stage, ThawFault, WideFrame};
@@ -212,19 +214,6 @@ fn kept_in_sound(positions: &[At], frames: u64, end: u64) -> u64
     kept + kept_between(is_kept, last, end)
 }
 
-/// The greatest distance of a position from the end.
-fn greatest_end_of(positions: &[At]) -> u64
-    ensures { result ≡ greatest_end positions.now }
-{
-    let mut greatest = 0;
-    'positions: for at in positions {
-        if let At::End(distance) = at {
-            greatest = greatest.max(*distance);
-        }
-    }
-    greatest
-}
-
 /// How many frames are enough, where the positions say so.
 fn enough_of(positions: &[At]) -> Option<u64>
     ensures { result ≡ trim_enough positions.now }
@@ -260,7 +249,7 @@ fn is_count(
         let is_over = hands != 0 || lined == 0;
         return is_over && given + hands == kept_in_sound(positions, taken, taken - lined);
     }
-    let reach = greatest_end_of(positions);
+    let reach = greatest_end(positions);
     if lined != taken.min(reach) {
         return false;
     }
@@ -324,10 +313,10 @@ impl Trim {
     /// AllocError where memory is refused.
     pub fn new(alloc: Global, channels: usize, positions: &[At]) -> Result<Trim, AllocError>
         requires channels { (1 ≤ channels) × (channels ≤ 16) }
-        requires line { greatest_end positions.now ≤ 2 ^ 28 }
+        requires line { greatest (map end_distance positions.now) ≤ 2 ^ 28 }
         ensures { IfOk result (IsNew trim_acts (record { channels = channels; positions = positions.now })) }
     {
-        let line = Line::new(alloc, channels, greatest_end_of(positions) as usize)?;
+        let line = Line::new(alloc, channels, greatest_end(positions) as usize)?;
         let mut own = Vec::new(alloc);
         own.extend_from_slice(positions)?;
         Ok(Trim {
@@ -352,7 +341,7 @@ impl Trim {
         numbers: &[u64; 8],
     ) -> Result<Trim, ThawFault>
         requires channels { (1 ≤ channels) × (channels ≤ 16) }
-        requires line { greatest_end positions.now ≤ 2 ^ 28 }
+        requires line { greatest (map end_distance positions.now) ≤ 2 ^ 28 }
         ensures recipe { IfOk result (λ t. t.recipe ≡ record { channels = channels; positions = positions.now }) }
         ensures frozen { IfOk result (λ t. Freezes trim_acts t frames.now numbers.now) }
         ensures named { (result ≡ Err ThawFault.WrongPlan) → ⊥ }
@@ -361,7 +350,7 @@ impl Trim {
         let [taken, given, ended, 0, held, hands, 0, 0] = *numbers else {
             return Err(ThawFault::BadSnapshot);
         };
-        let capacity = greatest_end_of(positions);
+        let capacity = greatest_end(positions);
         if ended > 1 || held != frames.len() as u64 {
             return Err(ThawFault::BadSnapshot);
         }

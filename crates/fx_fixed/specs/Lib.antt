@@ -4,6 +4,7 @@ pub mod CoefficientFiles
 pub mod Count
 pub mod Decimals
 pub mod Delays
+pub mod Extents
 pub mod Gains
 pub mod Kept
 pub mod Later

@@ -3,6 +3,9 @@
 ghost use Rattle.std.specs.Prelude.{◌≡◌, ◌*ℤ◌};
 ghost use Rattle.fx_fixed.specs.Rounding.{rounding};
 
+pub use crate::extents::{
+    all_pads, all_taps, greatest_end, greatest_pad_end, longest, longest_tap, meant_stop, stop_line,
+};
 use crate::gains::{Gain, UNIT};
 pub use crate::reciprocal::Denominator;
 pub use crate::reduced::reduce;

@@ -7,6 +7,7 @@ mod coefficient_files;
 mod count;
 mod decimals;
 mod delays;
+mod extents;
 mod gains;
 pub mod inner;
 mod number;

@@ -8,7 +8,7 @@ use Rattle.fx_fixed.specs.declared.positions.At.{At}
 use Rattle.fx_fixed.specs.declared.positions.At.TheVariants.{Start, End}
 use Rattle.fx_plan.specs.declared.fault.PlanCause.{PlanCause}
 use Rattle.fx_plan.specs.declared.fault.PlanCause.TheVariants.{PositionBehind}
-use Rattle.fx_plan.specs.Bounds.{pad_length}
+use Rattle.fx_fixed.specs.Extents.{pad_length}
 use Rattle.fx_plan.specs.Faults.{Word, mark, when}
 use Rattle.fx_plan.specs.Numbers.{beginning, frames_in, position_in}
 use Rattle.fx_plan.specs.Pad.{Length, are_pads, are_rising, has_at, is_at, lengths, numbered, pad_in, placed, position_at, with_length}

@@ -1,36 +1,9 @@
 -- How many frames an effect holds, and how many frames can come out of it (this project's profile).
-use Rattle.std.specs.Prelude.{ℕ, ◌+◌, ◌-◌, ◌*◌, ◌^◌, nat_lt, nat_eq, max, if◌then◌else◌, Bool, List, [], ◌∷◌, length, map, sum, sum_by, Option, Some, None}
+use Rattle.std.specs.Prelude.{ℕ, ◌+◌, ◌-◌, ◌*◌, ◌^◌, nat_lt, Bool, List, [], ◌∷◌, length, map, sum, sum_by}
 use Rattle.std.specs.Int.{div_ceil}
 use Rattle.std.specs.List.{list_any}
-use Rattle.fx_fixed.specs.declared.positions.At.{At}
-use Rattle.fx_fixed.specs.declared.positions.At.TheVariants.{Start, End}
-use Rattle.fx_plan.specs.Pad.{Length}
-use Rattle.fx_plan.specs.Echo.{Tap}
+use Rattle.fx_fixed.specs.Extents.{end_distance, greatest, meant, pad_distance, pad_length, stop_line, sum_of_delays, tap_delay}
 use Rattle.fx_plan.specs.Effects.{Act, OfTrim, OfPad, OfDelay, OfEcho, OfEchos, OfFade, OfVol, OfDcShift, OfFir, OfRemix, OfUpsample, OfDownsample}
-
-abbrev pub greatest : List ℕ → ℕ
-greatest [] = 0
-greatest (n ∷ ns) = max n (greatest ns)
-
--- how far a position is from the end, where it is counted from there
-abbrev pub end_distance : At → ℕ
-end_distance (Start frames) = 0
-end_distance (End frames) = frames
-
-abbrev pub pad_distance : Length → ℕ
-pad_distance pad = end_distance pad.1
-
-abbrev pub pad_length : Length → ℕ
-pad_length pad = pad.0
-
-abbrev pub tap_delay : Tap → ℕ
-tap_delay tap = tap.0
-
--- a fade out before the end waits for the end; one before a place from the start does not; a stop of 0 is the end
-abbrev pub stop_line : Option At → ℕ → ℕ
-stop_line None fade_out = 0
-stop_line (Some (Start frames)) fade_out = if nat_eq frames 0 then fade_out else 0
-stop_line (Some (End frames)) fade_out = frames + fade_out
 
 -- the frames that the line of an effect holds
 abbrev pub line_of : Act → ℕ
@@ -38,8 +11,8 @@ line_of (OfTrim ps) = greatest (map end_distance ps)
 line_of (OfPad pads) = greatest (map pad_distance pads)
 line_of (OfDelay ds) = greatest ds
 line_of (OfEcho e) = greatest (map tap_delay e.taps)
-line_of (OfEchos e) = sum_by tap_delay e.taps
-line_of (OfFade fade) = stop_line fade.stop fade.fade_out
+line_of (OfEchos e) = sum_of_delays e.taps
+line_of (OfFade fade) = stop_line (meant fade.stop) fade.fade_out
 line_of (OfVol gain) = 0
 line_of (OfDcShift shift) = 0
 line_of (OfFir gains) = length gains - 1
@@ -60,7 +33,7 @@ most_of (OfTrim ps) n = n
 most_of (OfPad pads) n = n + sum_by pad_length pads
 most_of (OfDelay ds) n = n + greatest ds
 most_of (OfEcho e) n = n + greatest (map tap_delay e.taps)
-most_of (OfEchos e) n = n + sum_by tap_delay e.taps
+most_of (OfEchos e) n = n + sum_of_delays e.taps
 most_of (OfFade fade) n = n
 most_of (OfVol gain) n = n
 most_of (OfDcShift shift) n = n

@@ -1,6 +1,7 @@
 -- The words of `pad` (sox(1), EFFECTS, pad): 1 to 64 lengths, each with its position behind an `@`; the first and the last may go without.
 use Rattle.std.specs.Prelude.{ℕ, ◌+◌, ◌^◌, ◌==◌, ◌&&◌, nat_le, nat_lt, nat_eq, Bool, true, if◌then◌else◌, List, [], ◌∷◌, ◌++◌, length, map, sum_by, Result, Ok, Err}
 use Rattle.std.specs.List.{before_first, after_first, position_or_len}
+use Rattle.fx_fixed.specs.Extents.{pad_length}
 use Rattle.fx_fixed.specs.declared.positions.Anchor.TheVariants as anchors
 use Rattle.fx_fixed.specs.declared.positions.At.{At}
 use Rattle.fx_fixed.specs.declared.positions.At.TheVariants.{Start, End}
@@ -26,7 +27,7 @@ are_rising least (End b ∷ ps) = true
 
 -- lengths that can be put in: in order, and together at most those of 64 pads of 2^40 frames
 abbrev pub are_pads : List Length → Bool
-are_pads pads = are_rising 0 (map position_at pads) && nat_le (sum_by (λ (p : Length). p.0) pads) (2 ^ 46)
+are_pads pads = are_rising 0 (map position_at pads) && nat_le (sum_by pad_length pads) (2 ^ 46)
 
 -- an `@`, and whether a word has one
 abbrev pub is_at : ℕ → Bool

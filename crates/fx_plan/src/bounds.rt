@@ -1,120 +1,19 @@
 //! How many frames effects hold, and how many frames can come out of them.
 
-ghost use Rattle.std.specs.Prelude.{◌≡◌, ◌≤◌, ◌-◌, ◌*◌, ◌^◌, false, length, map, min, sum_by};
+ghost use Rattle.std.specs.Prelude.{◌≡◌, ◌≤◌, ◌-◌, ◌*◌, ◌^◌, false, length, map, min};
 ghost use Rattle.std.specs.List.{All, list_any};
 ghost use Rattle.fx_plan.specs.Bounds;
-ghost use Rattle.fx_plan.specs.Bounds.{end_distance, greatest, hold_all, line_of, most_of, mosts, pad_distance, pad_length, tap_delay, work_of};
+ghost use Rattle.fx_plan.specs.Bounds.{hold_all, line_of, most_of, mosts, work_of};
 ghost use Rattle.fx_plan.specs.Effects.{Usable, act};
 
 use crate::effect::Effect;
-use fx_fixed::{At, FARTHEST, Gain};
+use fx_fixed::FARTHEST;
+use fx_fixed::inner::{
+    all_pads, all_taps, greatest_end, greatest_pad_end, longest, longest_tap, meant_stop, stop_line,
+};
 
 /// The most frames that the sound may have behind any effect.
 pub const LONGEST: u64 = 1 << 56;
-
-/// How far a position is from the end, where it is counted from there.
-fn distance(position: At) -> u64
-    ensures { result ≡ end_distance position }
-{
-    match position {
-        At::Start(_) => 0,
-        At::End(frames) => frames,
-    }
-}
-
-/// The greatest distance of a position from the end.
-fn greatest_end(positions: &[At]) -> u64
-    ensures { result ≡ greatest (map end_distance positions.now) }
-{
-    let mut most = 0;
-    let mut rest = positions;
-    while let Some((position, more)) = rest.split_first() {
-        most = distance(*position).max(most);
-        rest = more;
-    }
-    most
-}
-
-/// The greatest distance of a pad from the end.
-fn greatest_pad_end(pads: &[(u64, At)]) -> u64
-    ensures { result ≡ greatest (map pad_distance pads.now) }
-{
-    let mut most = 0;
-    let mut rest = pads;
-    while let Some((pad, more)) = rest.split_first() {
-        most = distance(pad.1).max(most);
-        rest = more;
-    }
-    most
-}
-
-/// The longest delay.
-fn longest(delays: &[u64]) -> u64
-    ensures { result ≡ greatest delays.now }
-{
-    let mut most = 0;
-    let mut rest = delays;
-    while let Some((delay, more)) = rest.split_first() {
-        most = most.max(*delay);
-        rest = more;
-    }
-    most
-}
-
-/// The longest delay of an echo.
-fn longest_tap(taps: &[(u64, Gain)]) -> u64
-    ensures { result ≡ greatest (map tap_delay taps.now) }
-{
-    let mut most = 0;
-    let mut rest = taps;
-    while let Some((tap, more)) = rest.split_first() {
-        most = most.max(tap.0);
-        rest = more;
-    }
-    most
-}
-
-/// The sum of an effect's delays, or `u64::MAX` where it is more.
-fn all_taps(taps: &[(u64, Gain)]) -> u64
-    ensures { result ≡ min (sum_by tap_delay taps.now) (2 ^ 64 - 1) }
-{
-    let mut total: u64 = 0;
-    let mut rest = taps;
-    while let Some((tap, more)) = rest.split_first() {
-        total = total.saturating_add(tap.0);
-        rest = more;
-    }
-    total
-}
-
-/// The sum of the lengths of pads, or `u64::MAX` where it is more.
-fn all_pads(pads: &[(u64, At)]) -> u64
-    ensures { result ≡ min (sum_by pad_length pads.now) (2 ^ 64 - 1) }
-{
-    let mut total: u64 = 0;
-    let mut rest = pads;
-    while let Some((pad, more)) = rest.split_first() {
-        total = total.saturating_add(pad.0);
-        rest = more;
-    }
-    total
-}
-
-/// The frames that the line of a fade holds, or `u64::MAX` where it is more.
-fn stop_line(stop: Option<At>, fade_out: u64) -> u64
-    ensures { result ≡ min (Bounds.stop_line stop fade_out) (2 ^ 64 - 1) }
-{
-    match stop {
-        None => 0,
-        Some(At::Start(frames)) => {
-            if frames == 0 {
-                return fade_out;
-            }
-            0
-        }
-        Some(At::End(frames)) => frames.saturating_add(fade_out),
-    }
-}
 
 impl Effect {
     /// The frames that the line of the effect holds, or `u64::MAX` where it is more.
@@ -127,7 +26,7 @@ impl Effect {
             Effect::Delay(delays) => longest(delays),
             Effect::Echo(echo) => longest_tap(&echo.taps),
             Effect::Echos(echos) => all_taps(&echos.taps),
-            Effect::Fade(fade) => stop_line(fade.stop, fade.fade_out),
+            Effect::Fade(fade) => stop_line(meant_stop(fade.stop), fade.fade_out),
             Effect::Fir(gains) => (gains.len() as u64).saturating_sub(1),
             _ => 0,
         }

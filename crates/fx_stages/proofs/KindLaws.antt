@@ -1,20 +1,13 @@
 -- What a plan says of its effects holds of their stages.
-use Rattle.std.proofs.Common.{◌≡◌, ℕ, zero, suc, ◌+◌, ◌-◌, ◌*◌, ◌/◌, ◌^◌, ◌≤◌, List, [], ◌∷◌, ◌++◌, true, false, length, map, replicate, max, refl, arith, sym, ap, ◌∙◌}
-use Rattle.std.specs.Prelude.{sum_by, Option, Some, None, nat_le}
+use Rattle.std.proofs.Common.{◌≡◌, ℕ, ◌+◌, ◌-◌, ◌*◌, ◌/◌, ◌^◌, ◌≤◌, List, [], ◌∷◌, true, false, length, map, replicate, refl, arith, sym, ap}
+use Rattle.std.specs.Prelude.{sum_by, nat_le}
 use Rattle.std.specs.List.{All, list_any}
 use Rattle.std.proofs.lemmas.Bool.Decides.{nat_tests}
-use Rattle.fx_cut.specs.Fade.{line_by, meant}
-use Rattle.fx_cut.specs.Pad.{ats}
-use Rattle.fx_cut.specs.Trim.{greatest_end}
-use Rattle.fx_fixed.specs.declared.positions.At.{At}
-use Rattle.fx_fixed.specs.declared.positions.At.TheVariants.{Start, End}
 use Rattle.fx_flow.specs.Parts.{Matching, Within, most_of, work}
 use Rattle.fx_frame.specs.Holds.{hold_sum}
 use Rattle.fx_frame.specs.Stage.{Kind}
 use Rattle.fx_plan.specs.Bounds
-use Rattle.fx_plan.specs.Bounds.{end_distance, greatest, hold_all, is_past, line_of, mosts, pad_distance, stop_line, tap_delay, work_of}
-use Rattle.fx_plan.specs.Echo.{Tap}
-use Rattle.fx_plan.specs.Pad.{Length}
+use Rattle.fx_plan.specs.Bounds.{hold_all, is_past, line_of, mosts, work_of}
 use Rattle.fx_plan.specs.Effects.{Act, OfTrim, OfPad, OfDelay, OfEcho, OfEchos, OfFade, OfVol, OfDcShift, OfFir, OfRemix, OfUpsample, OfDownsample, Usable}
 use Rattle.fx_plan.proofs.Lasting.{within-here, within-next, work-cons}
 use Rattle.std.proofs.lemmas.Bool.{and_parts}
@@ -25,8 +18,7 @@ use Rattle.std.proofs.Math.Nat.{le-div_iff_mul-le}
 use Rattle.fx_stages.specs.Effects.{kind_of_recipe}
 use Rattle.fx_stages.specs.Made.{all_suit, channels_after, recipe_for, recipes_for, suits}
 use Rattle.fx_tap.specs.Delay.{every_delay}
-use Rattle.fx_tap.specs.Echos.{late}
-use Rattle.fx_tap.specs.Tapped.{longest}
+use Rattle.fx_tap.proofs.DelayLaws.{greatest-filled}
 
 -- the kind of an effect's stage
 abbrev pub kind_for : ℕ → Act → Kind
@@ -35,45 +27,14 @@ kind_for channels a = kind_of_recipe (recipe_for channels a)
 abbrev pub kinds_for : ℕ → List Act → List Kind
 kinds_for channels acts = map kind_of_recipe (recipes_for channels acts)
 
-ends-are : (ps : List At) → greatest_end ps ≡ greatest (map end_distance ps)
-ends-are [] = refl
-ends-are (Start p ∷ ps) = rw (sym (ends-are ps)) (omega arith)
-ends-are (End b ∷ ps) = ap (max b) (ends-are ps)
-
-pad-ends-are : (pads : List Length) → greatest_end (ats pads) ≡ greatest (map pad_distance pads)
-pad-ends-are [] = refl
-pad-ends-are ((n, Start p) ∷ pads) = rw (sym (pad-ends-are pads)) (omega arith)
-pad-ends-are ((n, End b) ∷ pads) = ap (max b) (pad-ends-are pads)
-
-longest-is : (ds : List ℕ) → longest ds ≡ greatest ds
-longest-is [] = refl
-longest-is (d ∷ ds) = ap (max d) (longest-is ds)
-
-longest-zeros : (n : ℕ) → longest (replicate n 0) ≡ 0
-longest-zeros zero = refl
-longest-zeros (suc n) = rw (longest-zeros n) refl
-
-longest-more : (ds : List ℕ) (n : ℕ) → longest (ds ++ replicate n 0) ≡ greatest ds
-longest-more [] n = longest-zeros n
-longest-more (d ∷ ds) n = ap (max d) (longest-more ds n)
-
-late-is : (taps : List Tap) → late taps ≡ sum_by tap_delay taps
-late-is [] = refl
-late-is (t ∷ taps) = ap (λ n. t.0 + n) (late-is taps) ∙ sym (sum_by-cons tap_delay t taps)
-
-stop-line-is : (stop : Option At) (fade_out : ℕ) → line_by (meant stop) fade_out ≡ stop_line stop fade_out
-stop-line-is None fade_out = refl
-stop-line-is (Some (Start zero)) fade_out = omega arith
-stop-line-is (Some (Start (suc p))) fade_out = grind (arith, nat_tests)
-stop-line-is (Some (End b)) fade_out = refl
-
+-- its line is as long as the plan says: a channel without a delay makes none longer
 pub line-is : (channels : ℕ) (a : Act) → (kind_for channels a).line ≡ line_of a
-line-is channels (OfTrim ps) = ends-are ps
-line-is channels (OfPad pads) = pad-ends-are pads
-line-is channels (OfDelay ds) = longest-more ds (channels - length ds)
-line-is channels (OfEcho e) = longest-is (map tap_delay e.taps)
-line-is channels (OfEchos e) = late-is e.taps
-line-is channels (OfFade f) = stop-line-is f.stop f.fade_out
+line-is channels (OfTrim ps) = refl
+line-is channels (OfPad pads) = refl
+line-is channels (OfDelay ds) = greatest-filled ds (channels - length ds)
+line-is channels (OfEcho e) = refl
+line-is channels (OfEchos e) = refl
+line-is channels (OfFade f) = refl
 line-is channels (OfVol gain) = refl
 line-is channels (OfDcShift shift) = refl
 line-is channels (OfFir gains) = refl
@@ -84,9 +45,9 @@ line-is channels (OfDownsample factor) = refl
 pub most-is : (channels : ℕ) (a : Act) (n : ℕ) → (kind_for channels a).most n ≡ Bounds.most_of a n
 most-is channels (OfTrim ps) n = refl
 most-is channels (OfPad pads) n = refl
-most-is channels (OfDelay ds) n = ap (λ d. n + d) (longest-more ds (channels - length ds))
-most-is channels (OfEcho e) n = ap (λ d. n + d) (longest-is (map tap_delay e.taps))
-most-is channels (OfEchos e) n = ap (λ d. n + d) (late-is e.taps)
+most-is channels (OfDelay ds) n = ap (λ d. n + d) (greatest-filled ds (channels - length ds))
+most-is channels (OfEcho e) n = refl
+most-is channels (OfEchos e) n = refl
 most-is channels (OfFade f) n = refl
 most-is channels (OfVol gain) n = refl
 most-is channels (OfDcShift shift) n = refl
@@ -178,13 +139,3 @@ holds-are channels (a ∷ acts) = rw (line-is channels a, holds-are (channels_af
 
 pub hold-for : (channels : ℕ) (acts : List Act) → 1 + hold_sum (kinds_for channels acts) ≡ hold_all acts
 hold-for channels acts = ap (λ n. 1 + n) (holds-are channels acts)
-
--- the lines of effects of a plan are short enough for their stages
-pub trim-line : (ps : List At) → line_of (OfTrim ps) ≤ 2 ^ 28 → greatest_end ps ≤ 2 ^ 28
-trim-line ps h = rw (ends-are ps) h
-
-pub pad-line : (pads : List Length) → line_of (OfPad pads) ≤ 2 ^ 28 → greatest_end (ats pads) ≤ 2 ^ 28
-pad-line pads h = rw (pad-ends-are pads) h
-
-pub echos-line : (taps : List Tap) → sum_by tap_delay taps ≤ 2 ^ 28 → late taps ≤ 2 ^ 28
-echos-line taps h = rw (late-is taps) h

@@ -1,5 +1,5 @@
 -- The stages of all effects as one type (this project's profile): each behaves as the stage of its effect.
-use Rattle.std.specs.Prelude.{ℕ, ℤ, ◌≤◌, Bool, List, length}
+use Rattle.std.specs.Prelude.{ℕ, ℤ, ◌≤◌, Bool, List, length, map}
 use Rattle.std.proofs.Math.Nat.{mul-le-mul_right}
 use Rattle.fx_cut.specs.Ceil.{ceil_rises}
 use Rattle.fx_cut.specs.Downsample.{IsDownsample, downsample_acts}
@@ -8,19 +8,20 @@ use Rattle.fx_cut.specs.Factor.{FactorArguments}
 use Rattle.fx_cut.specs.Pad.{IsPad, PadArguments, pad_acts, pad_rises}
 use Rattle.fx_cut.specs.Trim.{IsTrim, TrimArguments, trim_acts}
 use Rattle.fx_cut.specs.Upsample.{IsUpsample, upsample_acts}
+use Rattle.fx_fixed.specs.Extents.{greatest, sum_of_delays, tap_delay}
 use Rattle.fx_frame.specs.Frame.{Samples}
 use Rattle.fx_frame.specs.Stage.{Acts, Counts, Given, Kind, Own}
 use Rattle.fx_stages.specs.declared.stage.EffectStage.{EffectStage}
 use Rattle.fx_stages.specs.declared.stage.EffectStage.TheVariants as stages
 use Rattle.fx_tap.specs.DcShift.{dcshift_acts}
 use Rattle.fx_tap.specs.Delay.{delay_acts, delay_taps}
-use Rattle.fx_tap.specs.Echo.{EchoArguments, echo_acts, echo_taps, latest}
-use Rattle.fx_tap.specs.Echos.{IsEchos, echos_acts, late}
+use Rattle.fx_tap.specs.Echo.{EchoArguments, echo_acts, echo_taps}
+use Rattle.fx_tap.specs.Echos.{IsEchos, echos_acts}
 use Rattle.fx_tap.specs.Fir.{FirArguments, IsFir, fir_acts}
 use Rattle.fx_tap.specs.Mapped.{IsMapState}
 use Rattle.fx_tap.specs.PerSample.{SampleArguments}
 use Rattle.fx_tap.specs.Remix.{RemixArguments, remix_acts}
-use Rattle.fx_tap.specs.Tapped.{IsTapState, longest, tap_rises}
+use Rattle.fx_tap.specs.Tapped.{IsTapState, tap_rises}
 use Rattle.fx_tap.specs.Vol.{vol_acts}
 
 -- what a stage was made with
@@ -145,9 +146,9 @@ effect_rises (Pads r) m n h = pad_rises r m n h
 effect_rises (Fades r) m n h = h
 effect_rises (Upsamples r) m n h = mul-le-mul_right r.factor h
 effect_rises (Downsamples r) m n h = ceil_rises m n r.factor h
-effect_rises (Delays r) m n h = tap_rises (longest r) m n h
-effect_rises (Echoes r) m n h = tap_rises (latest r.echoes) m n h
-effect_rises (EchoesInRow r) m n h = tap_rises (late r.echoes) m n h
+effect_rises (Delays r) m n h = tap_rises (greatest r) m n h
+effect_rises (Echoes r) m n h = tap_rises (greatest (map tap_delay r.echoes)) m n h
+effect_rises (EchoesInRow r) m n h = tap_rises (sum_of_delays r.echoes) m n h
 effect_rises (Filters r) m n h = h
 effect_rises (Remixes r) m n h = h
 effect_rises (Scales r) m n h = h

@@ -1,6 +1,6 @@
 -- The stages that the effects of a plan ask for (this project's profile).
 use Rattle.std.specs.Prelude.{ℕ, Bool, true, ◌&&◌, List, [], ◌∷◌, length}
-use Rattle.fx_cut.specs.Fade.{meant}
+use Rattle.fx_fixed.specs.Extents.{meant}
 use Rattle.fx_plan.specs.Effects.{Act, OfTrim, OfPad, OfDelay, OfEcho, OfEchos, OfFade, OfVol, OfDcShift, OfFir, OfRemix, OfUpsample, OfDownsample, fits_layout}
 use Rattle.fx_stages.specs.Effects.{EffectRecipe, Trims, Pads, Fades, Upsamples, Downsamples, Delays, Echoes, EchoesInRow, Filters, Remixes, Scales, Shifts}
 use Rattle.fx_tap.specs.Delay.{every_delay}

@@ -1,7 +1,8 @@
 //! The stages of a plan's effects.
 ghost use Rattle.std.specs.Prelude.{◌≡◌, ◌≤◌, ◌^◌, IfOk, map, true, length};
 ghost use Rattle.std.specs.List.{All};
-ghost use Rattle.fx_cut.specs.Fade.{fade_acts, meant};
+ghost use Rattle.fx_cut.specs.Fade.{fade_acts};
+ghost use Rattle.fx_fixed.specs.Extents.{meant};
 ghost use Rattle.fx_flow.specs.Parts.{AllNew};
 ghost use Rattle.fx_frame.specs.Holds.{recipes};
 ghost use Rattle.fx_frame.specs.Stage.{IsNew};

@@ -6,9 +6,10 @@ use Rattle.std.proofs.Math.Seq.{set-append_seam}
 use Rattle.std.proofs.lemmas.Option.{get_or_from_slice_get, slice_get-get_or}
 use Rattle.std.proofs.lemmas.Bool.Decides.{nat_tests}
 use Rattle.std.proofs.lemmas.List.{get_or_append_left, get_or-drop}
+use Rattle.fx_fixed.specs.Extents.{greatest}
 use Rattle.fx_frame.specs.Frame.{Samples, silence}
 use Rattle.fx_frame.specs.Lists.{tabulate}
-use Rattle.fx_tap.specs.Tapped.{longest, sample_before}
+use Rattle.fx_tap.specs.Tapped.{sample_before}
 use Rattle.fx_frame.proofs.Tabulate.{tabulate-append, length-tabulate}
 
 -- what comes later is not read
@@ -97,14 +98,14 @@ channel-set f n k h =
     let more : tabulate f 0 (k + 1) ≡ tabulate f 0 k ++ f k ∷ [] = rw zero-add at (tabulate-append f 0 k 1) in
     rw (some, more, append_assoc) seam'
 
-longest-zeros : (count : ℕ) → longest (replicate count 0) ≡ 0
-longest-zeros zero = refl
-longest-zeros (suc count) = let h = longest-zeros count in omega arith
+greatest-zeros : (count : ℕ) → greatest (replicate count 0) ≡ 0
+greatest-zeros zero = refl
+greatest-zeros (suc count) = let h = greatest-zeros count in omega arith
 
 -- a delay of 0 for the channels without one does not lengthen the longest
-pub longest-filled : (delays : List ℕ) (count : ℕ) → longest (delays ++ replicate count 0) ≡ longest delays
-longest-filled [] count = longest-zeros count
-longest-filled (d ∷ ds) count = ap (max d) (longest-filled ds count)
+pub greatest-filled : (delays : List ℕ) (count : ℕ) → greatest (delays ++ replicate count 0) ≡ greatest delays
+greatest-filled [] count = greatest-zeros count
+greatest-filled (d ∷ ds) count = ap (max d) (greatest-filled ds count)
 
 -- what is cut to a length that it does not reach stays
 take-whole : (delays : List ℕ) (count : ℕ) → length delays ≤ count → take count delays ≡ delays

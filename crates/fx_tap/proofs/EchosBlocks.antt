@@ -2,6 +2,7 @@
 use Rattle.std.proofs.Common.{◌≡◌, ◌+◌, ◌*◌, ◌<◌, ◌≤◌, ◌^◌, ℕ, ℤ, pos, false, List, [], ◌∷◌, length, map, replicate, refl, sym, ap, ◌∙◌, arith, add-zero, length-append, subst}
 use Rattle.std.specs.Prelude.{None, Some}
 use Rattle.std.proofs.lemmas.List.{length-map}
+use Rattle.fx_fixed.specs.Extents.{sum_of_delays}
 use Rattle.fx_frame.specs.declared.feed.Passing.TheVariants.{Through}
 use Rattle.fx_frame.specs.Feed.{Fed, GaveNext, PassedOn, TookNext, nothing, taken, given}
 use Rattle.fx_frame.specs.Frame.{Samples}
@@ -12,7 +13,7 @@ use Rattle.fx_frame.specs.Stage.{Given}
 use Rattle.fx_frame.proofs.FedLaws.{Fed-then}
 use Rattle.fx_frame.proofs.Pieces.{length-pieces}
 use Rattle.fx_tap.specs.Echo.{EchoArguments}
-use Rattle.fx_tap.specs.Echos.{EchosState, IsEchoLine, IsEchos, came_of, delay_at, echos_acts, fed, frame_of_lines, frames_of, late, let_go, line_at, lines_after, or_silence, places_of, rows_after, through_lines}
+use Rattle.fx_tap.specs.Echos.{EchosState, IsEchoLine, IsEchos, came_of, delay_at, echos_acts, fed, frame_of_lines, frames_of, let_go, line_at, lines_after, or_silence, places_of, rows_after, through_lines}
 use Rattle.fx_tap.proofs.EchosPieces.{pushed-within}
 use Rattle.fx_frame.proofs.Tabulate.{length-tabulate}
 
@@ -42,7 +43,7 @@ module _ (a : EchoArguments) where
   abbrev pub next : List (Frames ℤ) → Samples → List (Frames ℤ)
   next lines x = lines_after a.channels lines x (replicate a.channels (pos 0))
 
-  one-passed : (lines : List (Frames ℤ)) (count clips : ℕ) (x : Samples) → places_of lines ≡ late a.echoes
+  one-passed : (lines : List (Frames ℤ)) (count clips : ℕ) (x : Samples) → places_of lines ≡ sum_of_delays a.echoes
       → PassedOn echos_acts Through (ready lines count clips) (ready (next lines x) (count + 1) (clips + (made lines x).clips)) x (made lines x).samples
   one-passed lines count clips x places =
       let first : EchosState = ready lines count clips in
@@ -69,14 +70,14 @@ module _ (a : EchoArguments) where
       } in
       (mid, took, gave, refl)
 
-  one-fed : (lines : List (Frames ℤ)) (count clips : ℕ) (x : Samples) → places_of lines ≡ late a.echoes
+  one-fed : (lines : List (Frames ℤ)) (count clips : ℕ) (x : Samples) → places_of lines ≡ sum_of_delays a.echoes
       → Fed echos_acts (ready lines count clips) (x ∷ []) ((made lines x).samples ∷ []) (ready (next lines x) (count + 1) (clips + (made lines x).clips))
   one-fed lines count clips x places =
       let passed = one-passed lines count clips x places in
       given (x ∷ []) [] (made lines x).samples passed.0 (ready (next lines x) (count + 1) (clips + (made lines x).clips)) (taken [] [] x (ready lines count clips) passed.0 nothing passed.1) passed.2
 
   -- frame by frame
-  pub lines-fed : (xs : List Samples) (lines : List (Frames ℤ)) (count clips : ℕ) → places_of lines ≡ late a.echoes
+  pub lines-fed : (xs : List Samples) (lines : List (Frames ℤ)) (count clips : ℕ) → places_of lines ≡ sum_of_delays a.echoes
       → Fed echos_acts (ready lines count clips) xs (map (λ (g : Given). g.samples) (through_lines a lines xs)) (ready (rows_after a.channels lines xs) (count + length xs) (clips + total (λ (g : Given). g.clips) (through_lines a lines xs)))
   lines-fed [] lines count clips places = rw (add-zero, add-zero) nothing
   lines-fed (x ∷ xs) lines count clips places =
@@ -88,7 +89,7 @@ module _ (a : EchoArguments) where
       rw (many, clipped) at all
 
 -- one frame, passed on in its place
-pub frame-passed : (s : EchosState) (lines : List (Frames ℤ)) (x y : Samples) (clips : ℕ) → s.hand ≡ None → s.hand_clips ≡ 0 → s.tail ≡ 0 → s.ended ≡ false → s.given ≡ s.taken → places_of s.lines ≡ late s.arguments.echoes
+pub frame-passed : (s : EchosState) (lines : List (Frames ℤ)) (x y : Samples) (clips : ℕ) → s.hand ≡ None → s.hand_clips ≡ 0 → s.tail ≡ 0 → s.ended ≡ false → s.given ≡ s.taken → places_of s.lines ≡ sum_of_delays s.arguments.echoes
     → y ≡ (made s.arguments s.lines x).samples → clips ≡ (made s.arguments s.lines x).clips → lines ≡ next s.arguments s.lines x
     → PassedOn echos_acts Through s (record s { lines = lines; taken = s.taken + 1; given = s.given + 1; clips = s.clips + clips }) x y
 frame-passed s lines x y clips h k t over g places out_is counted went =
@@ -107,7 +108,7 @@ frame-passed s lines x y clips h k t over g places out_is counted went =
     rw out_is (subst To (sym new) (subst From (sym start) one))
 
 -- a block of frames: the counters are added to once
-pub block-fed : (s : EchosState) (lines : List (Frames ℤ)) (n clips : ℕ) (input output : List ℤ) → s.hand ≡ None → s.hand_clips ≡ 0 → s.tail ≡ 0 → s.ended ≡ false → s.given ≡ s.taken → places_of s.lines ≡ late s.arguments.echoes
+pub block-fed : (s : EchosState) (lines : List (Frames ℤ)) (n clips : ℕ) (input output : List ℤ) → s.hand ≡ None → s.hand_clips ≡ 0 → s.tail ≡ 0 → s.ended ≡ false → s.given ≡ s.taken → places_of s.lines ≡ sum_of_delays s.arguments.echoes
     → pieces s.arguments.channels n output ≡ map (λ (g : Given). g.samples) (through_lines s.arguments s.lines (pieces s.arguments.channels n input)) → clips ≡ total (λ (g : Given). g.clips) (through_lines s.arguments s.lines (pieces s.arguments.channels n input))
     → lines ≡ rows_after s.arguments.channels s.lines (pieces s.arguments.channels n input)
     → Fed echos_acts s (pieces s.arguments.channels n input) (pieces s.arguments.channels n output) (record s { lines = lines; taken = s.taken + n; given = s.given + n; clips = s.clips + clips })

@@ -6,11 +6,12 @@ use Rattle.std.specs.Int.{w64}
 use Rattle.std.proofs.lemmas.Int.{fits_signed_from_abs}
 use Rattle.std.proofs.lemmas.List.{length-append, length-drop, length-map, get_or-map, take_at}
 use Rattle.std.proofs.lemmas.List.Elements.{All-nil, All-drop, All-push, All-weaker, All-from_get_or, All-get_or}
+use Rattle.fx_fixed.specs.Extents.{sum_of_delays}
 use Rattle.fx_frame.specs.Frame.{Samples, silence, IsFrame}
 use Rattle.fx_frame.specs.Line.{Frames, IsSamples, pushed_out, empty}
 use Rattle.fx_frame.specs.Stage.{Gave, Took}
 use Rattle.fx_tap.specs.Echo.{EchoArguments, IsEcho}
-use Rattle.fx_tap.specs.Echos.{EchosState, IsEchos, IsEchoLine, IsRowLine, after_push, came_of, delay_at, echos_acts, fed, frame_of_lines, frames_of, late, let_go, line_at, lines_after, or_silence, places_of, rows_after, through_lines}
+use Rattle.fx_tap.specs.Echos.{EchosState, IsEchos, IsEchoLine, IsRowLine, after_push, came_of, delay_at, echos_acts, fed, frame_of_lines, frames_of, let_go, line_at, lines_after, or_silence, places_of, rows_after, through_lines}
 use Rattle.fx_tap.proofs.DryLaws.{dry-hand, dry-tail, true_of}
 use Rattle.fx_tap.proofs.EchosRow.{Small, small-fed, small-gone}
 use Rattle.fx_frame.proofs.Tabulate.{length-tabulate}
@@ -105,7 +106,7 @@ frames-few (l ∷ ls) h =
     let more = frames-few ls (λ j lt. h (suc j) (omega arith)) in
     omega (arith, length-append l.items (frames_of ls))
 
-places-are : (es : List (ℕ × ℤ)) (ls : List (Frames ℤ)) → length ls ≡ length es → ((j : ℕ) → j < length ls → (line_at ls j).capacity ≡ delay_at es j) → places_of ls ≡ late es
+places-are : (es : List (ℕ × ℤ)) (ls : List (Frames ℤ)) → length ls ≡ length es → ((j : ℕ) → j < length ls → (line_at ls j).capacity ≡ delay_at es j) → places_of ls ≡ sum_of_delays es
 places-are [] [] many h = refl
 places-are [] (l ∷ ls) many h = absurd (omega arith)
 places-are (e ∷ es) [] many h = absurd (omega arith)
@@ -114,10 +115,10 @@ places-are (e ∷ es) (l ∷ ls) many h =
     let more = places-are es ls (omega arith) (λ j lt. h (suc j) (omega arith)) in
     omega arith
 
-pub places-late : (s : EchosState) → IsEchos s → places_of s.lines ≡ late s.arguments.echoes
+pub places-late : (s : EchosState) → IsEchos s → places_of s.lines ≡ sum_of_delays s.arguments.echoes
 places-late s is = places-are s.arguments.echoes s.lines is.as_many (λ j lt. (is.lines j lt).capacity)
 
-pub frames-late : (s : EchosState) → IsEchos s → length (frames_of s.lines) ≤ late s.arguments.echoes
+pub frames-late : (s : EchosState) → IsEchos s → length (frames_of s.lines) ≤ sum_of_delays s.arguments.echoes
 frames-late s is =
     let few = frames-few s.lines (λ j lt. (is.lines j lt).line.within) in
     let all = places-late s is in
@@ -184,7 +185,7 @@ pub Gave-quiet : (s : EchosState) (lines : List (Frames ℤ)) (quiet out : Sampl
     → out ≡ (frame_of_lines s.arguments quiet (row_gone s quiet)).samples → clips ≡ (frame_of_lines s.arguments quiet (row_gone s quiet)).clips → length out ≡ s.arguments.channels → Gave echos_acts s (drained_echos s lines clips) out
 Gave-quiet s lines quiet out clips is none some q lines_are out_is clips_are long =
     let over = ended-tail s is some in
-    let counted : s.given + 0 + s.tail ≡ s.taken + late s.arguments.echoes = rw (none, over) at is.counted in
+    let counted : s.given + 0 + s.tail ≡ s.taken + sum_of_delays s.arguments.echoes = rw (none, over) at is.counted in
     record {
       was_wet = dry-tail s.hand s.tail some;
       gives = record {
@@ -201,7 +202,7 @@ Gave-quiet s lines quiet out clips is none some q lines_are out_is clips_are lon
 pub IsEchos-drained : (s : EchosState) (lines : List (Frames ℤ)) (quiet : Samples) (clips : ℕ) → IsEchos s → s.hand ≡ None → 0 < s.tail → Small (2 ^ 31) quiet → lines ≡ row_after s quiet → clips ≤ 16 → IsEchos (drained_echos s lines clips)
 IsEchos-drained s lines quiet clips is none some small lines_are clips_few =
     let over = ended-tail s is some in
-    let counted : s.given + 0 + s.tail ≡ s.taken + late s.arguments.echoes = rw (none, over) at is.counted in
+    let counted : s.given + 0 + s.tail ≡ s.taken + sum_of_delays s.arguments.echoes = rw (none, over) at is.counted in
     let came : s.given + 0 + 1 ≡ s.given + 1 + 0 = omega arith in
     let sound = rw (none, came) at (lines-sound s quiet is small) in
     let few = is.few_clips in
@@ -229,7 +230,7 @@ length-row s x = length-after s.arguments.channels s.lines x (replicate s.argume
 
 -- ---- a new one
 
-pub late-each : (es : List (ℕ × ℤ)) (k : ℕ) (d : ℕ × ℤ) → k < length es → (get_or es k d).0 ≤ late es
+pub late-each : (es : List (ℕ × ℤ)) (k : ℕ) (d : ℕ × ℤ) → k < length es → (get_or es k d).0 ≤ sum_of_delays es
 late-each [] k d lt = absurd (omega arith)
 late-each (e ∷ es) zero d lt = omega arith
 late-each (e ∷ es) (suc k) d lt = let more = late-each es k d (omega arith) in omega arith
@@ -244,7 +245,7 @@ empty-line c j d some few late small = record {
   small = All-nil (All (λ x. unsigned_abs x ≤ (j + 1) * 2 ^ 31));
 }
 
-pub IsEchos-new : (a : EchoArguments) → IsEcho a → late a.echoes ≤ 2 ^ 28
+pub IsEchos-new : (a : EchoArguments) → IsEcho a → sum_of_delays a.echoes ≤ 2 ^ 28
     → IsEchos (record { arguments = a; lines = map (λ e. empty a.channels e.0) a.echoes; hand = None; hand_clips = 0; tail = 0; taken = 0; given = 0; clips = 0; ended = false })
 IsEchos-new a is whole = record {
   arguments = is;

@@ -5,12 +5,13 @@ use Rattle.std.proofs.lemmas.Bool.Decides.{nat_tests}
 use Rattle.std.proofs.lemmas.Int.{ints}
 use Rattle.std.proofs.lemmas.List.{drop_more, take_more, length-append, length-take, length-replicate, drop-append-le}
 use borrow.Author.Tests.{ltb-true, ltb-false}
+use Rattle.fx_fixed.specs.Extents.{sum_of_delays}
 use Rattle.fx_fixed.specs.Rounding.{rounding}
 use Rattle.fx_fixed.specs.declared.gains.TheConstants.{UNIT}
 use Rattle.fx_frame.specs.Frame.{Samples, silence}
 use Rattle.fx_frame.specs.Line.{Frames, pushed_out, channel_of, empty}
 use Rattle.fx_tap.specs.Echo.{EchoArguments}
-use Rattle.fx_tap.specs.Echos.{after_push, decays, delay_at, echos, echos_frame, fed, frame_of_lines, late, let_go, lines_after, or_silence, passed, sum_below, through_lines, way}
+use Rattle.fx_tap.specs.Echos.{after_push, decays, delay_at, echos, echos_frame, fed, frame_of_lines, let_go, lines_after, or_silence, passed, sum_below, through_lines, way}
 use Rattle.fx_frame.specs.Lists.{tabulate}
 use Rattle.fx_transform.specs.Products.{sum_of_products}
 use Rattle.fx_frame.specs.Rounded.{given_of}
@@ -54,7 +55,7 @@ drop-table f (suc j) from (suc count) h =
 
 -- ---- how late
 
-late-append : (es fs : List (ℕ × ℤ)) → late (es ++ fs) ≡ late es + late fs
+late-append : (es fs : List (ℕ × ℤ)) → sum_of_delays (es ++ fs) ≡ sum_of_delays es + sum_of_delays fs
 late-append [] fs = omega arith
 late-append (e ∷ es) fs = let more = late-append es fs in omega arith
 
@@ -64,7 +65,7 @@ way-more es i j h lt =
     let one : suc j ≡ j + 1 = omega arith in
     let cut = take_more es j (0, pos 0) lt in
     let room : i ≤ length (take j es) = omega (arith, length-take j es) in
-    ap (λ n. late (drop i (take n es))) one ∙ ap (λ l. late (drop i l)) cut ∙ ap late (drop-append-le i (take j es) (get_or es j (0, pos 0) ∷ []) room)
+    ap (λ n. sum_of_delays (drop i (take n es))) one ∙ ap (λ l. sum_of_delays (drop i l)) cut ∙ ap sum_of_delays (drop-append-le i (take j es) (get_or es j (0, pos 0) ∷ []) room)
     ∙ late-append (drop i (take j es)) (get_or es j (0, pos 0) ∷ []) ∙ omega arith
 
 way-none : (es : List (ℕ × ℤ)) (j : ℕ) → way es j j ≡ 0
@@ -234,10 +235,10 @@ rows-empty c (e ∷ es) f from h =
 
 -- with empty lines it is the whole list
 pub through-all : (a : EchoArguments) (z : List Samples) → ((i : ℕ) → i < length a.echoes → 1 ≤ delay_at a.echoes i)
-    → through_lines a (map (λ e. empty a.channels e.0) a.echoes) (z ++ replicate (late a.echoes) (silence a.channels)) ≡ echos a z
+    → through_lines a (map (λ e. empty a.channels e.0) a.echoes) (z ++ replicate (sum_of_delays a.echoes) (silence a.channels)) ≡ echos a z
 through-all a z some =
-    let w : List Samples = z ++ replicate (late a.echoes) (silence a.channels) in
-    let long : length w ≡ length z + late a.echoes = length-append z (replicate (late a.echoes) (silence a.channels)) ∙ ap (λ n. length z + n) (length-replicate (late a.echoes) (silence a.channels)) in
+    let w : List Samples = z ++ replicate (sum_of_delays a.echoes) (silence a.channels) in
+    let long : length w ≡ length z + sum_of_delays a.echoes = length-append z (replicate (sum_of_delays a.echoes) (silence a.channels)) ∙ ap (λ n. length z + n) (length-replicate (sum_of_delays a.echoes) (silence a.channels)) in
     let start : rows_at a w some 0 ≡ map (λ e. empty a.channels e.0) a.echoes = rows-empty a.channels a.echoes (row_line a.channels w a.echoes 0) 0 (λ i l.
     let at : 0 + i ≡ i = omega arith in
     let none : min 0 (delay_at a.echoes i) ≡ 0 = omega arith in
@@ -245,5 +246,5 @@ through-all a z some =
     rw (← start) (
     run-is a w some 0 w refl (omega arith)
     ∙ ap (tabulate (λ m. echos_frame a (sample_before w m)) 0) long
-    ∙ tabulate-same _ _ 0 0 (length z + late a.echoes) (λ n l. past-same a (sample_before w (0 + n)) (sample_before z (0 + n)) (λ d k.
-    ap (λ s. cond (nat_le d (0 + n)) s (pos 0)) (quiet-after z (late a.echoes) a.channels (0 + n - d) k))))
+    ∙ tabulate-same _ _ 0 0 (length z + sum_of_delays a.echoes) (λ n l. past-same a (sample_before w (0 + n)) (sample_before z (0 + n)) (λ d k.
+    ap (λ s. cond (nat_le d (0 + n)) s (pos 0)) (quiet-after z (sum_of_delays a.echoes) a.channels (0 + n - d) k))))

@@ -2,13 +2,14 @@
 -- times gain-out. That a decay is not relative to gain-in, rounding and clips are this project's profile.
 use Rattle.std.specs.Prelude.{ℕ, ℤ, pos, ◌+◌, ◌*◌, ◌+ℤ◌, ◌*ℤ◌, ◌≤◌, unsigned_abs, Bool, List, [], ◌∷◌, length, map}
 use Rattle.std.specs.List.{All}
+use Rattle.fx_fixed.specs.Extents.{greatest, tap_delay}
 use Rattle.fx_fixed.specs.Rounding.{rounding}
 use Rattle.fx_fixed.specs.declared.gains.TheConstants.{UNIT}
 use Rattle.fx_frame.specs.Frame.{Samples}
 use Rattle.fx_frame.specs.Stage.{Given, Acts}
 use Rattle.fx_frame.specs.Lists.{tabulate}
 use Rattle.fx_frame.specs.Rounded.{given_of}
-use Rattle.fx_tap.specs.Tapped.{Past, Taps, TapState, longest, sample_before, tap_acts}
+use Rattle.fx_tap.specs.Tapped.{Past, Taps, TapState, sample_before, tap_acts}
 
 -- what an `echo` is made with; gains and decays are in trillionths
 pub record EchoArguments : Type 0 where
@@ -26,10 +27,6 @@ pub record IsEcho (a : EchoArguments) : Type 0 where
   pub few_echoes : length a.echoes ≤ 7
   pub delays : All (λ e. 1 ≤ e.0) a.echoes
   pub decays : All (λ e. unsigned_abs e.1 ≤ UNIT) a.echoes
-
--- how late the latest echo is
-abbrev pub latest : List (ℕ × ℤ) → ℕ
-latest echoes = longest (map (λ e. e.0) echoes)
 
 -- the echoes of channel k, added
 abbrev pub echoes_of : List (ℕ × ℤ) → Past → ℕ → ℤ
@@ -50,11 +47,11 @@ echoed_frame a past = given_of (tabulate (echoed_sample a past) 0 a.channels)
 
 -- what `echo` gives for a sound
 abbrev pub echo : EchoArguments → List Samples → List Given
-echo a x = tabulate (λ n. echoed_frame a (sample_before x n)) 0 (length x + latest a.echoes)
+echo a x = tabulate (λ n. echoed_frame a (sample_before x n)) 0 (length x + greatest (map tap_delay a.echoes))
 
 -- how `echo` makes frames
 abbrev pub echo_taps : Taps EchoArguments
-echo_taps = record { channels = λ a. a.channels; reach = λ a. latest a.echoes; most_clips = λ a. 16; made = echoed_frame }
+echo_taps = record { channels = λ a. a.channels; reach = λ a. greatest (map tap_delay a.echoes); most_clips = λ a. 16; made = echoed_frame }
 
 -- how the stages of `echo` behave
 abbrev pub echo_acts : Acts (TapState EchoArguments) EchoArguments

@@ -4,6 +4,7 @@
 use Rattle.std.specs.Prelude.{ℕ, ℤ, pos, zero, suc, ◌+◌, ◌*◌, ◌^◌, ◌<◌, ◌≤◌, ◌≡◌, ◌+ℤ◌, ◌*ℤ◌, Bool, true, false, ◌&&◌, Option, Some, None, List, [], ◌∷◌, ◌++◌, length, map, min, replicate, drop, take, option_to_list, is_none, slice_index_or, nat_eq, cond, unsigned_abs}
 use Rattle.std.specs.List.{All}
 use Rattle.std.specs.Int.{w64}
+use Rattle.fx_fixed.specs.Extents.{sum_of_delays}
 use Rattle.fx_fixed.specs.Rounding.{rounding}
 use Rattle.fx_fixed.specs.declared.gains.TheConstants.{UNIT}
 use Rattle.fx_frame.specs.Frame.{Samples, silence}
@@ -22,18 +23,13 @@ abbrev pub sum_below : (ℕ → ℤ) → ℕ → ℤ
 sum_below f zero = pos 0
 sum_below f (suc n) = sum_below f n +ℤ f n
 
--- the delays of these echoes, added
-abbrev pub late : List (ℕ × ℤ) → ℕ
-late [] = 0
-late (e ∷ es) = e.0 + late es
-
 -- the decays of these echoes, in trillionths
 abbrev pub decays : List (ℕ × ℤ) → List ℤ
 decays echoes = map (λ e. e.1) echoes
 
 -- by how many frames the echoes from place i on and before place j are late together
 abbrev pub way : List (ℕ × ℤ) → ℕ → ℕ → ℕ
-way echoes i j = late (drop i (take j echoes))
+way echoes i j = sum_of_delays (drop i (take j echoes))
 
 -- what comes out of the first j lines: the sum over i < j of x[n - (d_i + .. + d_(j-1))]
 abbrev pub passed : List (ℕ × ℤ) → Past → ℕ → ℕ → ℤ
@@ -49,7 +45,7 @@ echos_frame a past = given_of (tabulate (λ k. rounding (a.gain_out *ℤ echos_s
 
 -- what `echos` gives for a sound
 abbrev pub echos : EchoArguments → List Samples → List Given
-echos a x = tabulate (λ n. echos_frame a (sample_before x n)) 0 (length x + late a.echoes)
+echos a x = tabulate (λ n. echos_frame a (sample_before x n)) 0 (length x + sum_of_delays a.echoes)
 
 -- ---- a row of lines
 
@@ -141,10 +137,10 @@ line_at lines j = slice_index_or lines j (empty 0 0)
 -- what holds of it at every moment
 pub record IsEchos (s : EchosState) : Type 0 where
   pub arguments : IsEcho s.arguments
-  pub whole : late s.arguments.echoes ≤ 2 ^ 28
+  pub whole : sum_of_delays s.arguments.echoes ≤ 2 ^ 28
   pub as_many : length s.lines ≡ length s.arguments.echoes
   pub lines : (j : ℕ) → j < length s.lines → IsEchoLine s.arguments.channels (came_of s) j (delay_at s.arguments.echoes j) (line_at s.lines j)
-  pub counted : came_of s + s.tail ≡ s.taken + cond s.ended (late s.arguments.echoes) 0
+  pub counted : came_of s + s.tail ≡ s.taken + cond s.ended (sum_of_delays s.arguments.echoes) 0
   pub few : s.taken ≤ most_taken
   pub not_ended : s.ended ≡ false → s.tail ≡ 0
   pub few_clips : s.clips ≤ 16 * s.given
@@ -156,7 +152,7 @@ pub record IsEchos (s : EchosState) : Type 0 where
 
 -- the frames that come, with silence where the sound has ended
 abbrev pub echos_coming : EchosState → List Samples → List Samples
-echos_coming s z = cond s.ended (replicate s.tail (silence s.arguments.channels)) (z ++ replicate (late s.arguments.echoes) (silence s.arguments.channels))
+echos_coming s z = cond s.ended (replicate s.tail (silence s.arguments.channels)) (z ++ replicate (sum_of_delays s.arguments.echoes) (silence s.arguments.channels))
 
 -- the frame in hand
 abbrev pub echos_hand : EchosState → List Given
@@ -175,7 +171,7 @@ places_of (l ∷ ls) = l.capacity + places_of ls
 abbrev pub echos_acts : Acts EchosState EchoArguments
 echos_acts = record {
   recipe = λ s. s.arguments;
-  kind_of = λ a. record { inputs = a.channels; outputs = a.channels; line = late a.echoes; limit = most_taken; due = λ n. n; most = λ n. n + late a.echoes; enough = None };
+  kind_of = λ a. record { inputs = a.channels; outputs = a.channels; line = sum_of_delays a.echoes; limit = most_taken; due = λ n. n; most = λ n. n + sum_of_delays a.echoes; enough = None };
   meaning = echos;
   rest = λ s z. echos_hand s ++ through_lines s.arguments s.lines (echos_coming s z);
   counts = λ s. record { taken = s.taken; given = s.given; clips = s.clips; ended = s.ended };

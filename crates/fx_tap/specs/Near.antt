@@ -1,17 +1,18 @@
 -- Each effect with a line looks no farther back than it says.
-use Rattle.std.specs.Prelude.{ℕ, ℤ, ◌≤◌, ◌≡◌, List, [], ◌∷◌, length, slice_index}
+use Rattle.std.specs.Prelude.{ℕ, ℤ, ◌≤◌, ◌≡◌, List, [], ◌∷◌, length, slice_index, map}
 use Rattle.std.proofs.Common.{zero, suc, refl, ap, arith}
+use Rattle.fx_fixed.specs.Extents.{greatest, tap_delay}
 use Rattle.fx_frame.specs.Lists.{tabulate, plain}
 use Rattle.fx_frame.specs.Rounded.{given_of}
-use Rattle.fx_tap.specs.Tapped.{Agree, IsNear, Past, longest}
+use Rattle.fx_tap.specs.Tapped.{Agree, IsNear, Past}
 use Rattle.fx_tap.specs.Delay.{delay_taps}
-use Rattle.fx_tap.specs.Echo.{echo_taps, echoed_sample, echoes_of, latest}
+use Rattle.fx_tap.specs.Echo.{echo_taps, echoed_sample, echoes_of}
 
 -- each of the delays is at most the longest
-pub longest-le : (delays : List ℕ) (k : ℕ) → slice_index delays k ≤ longest delays
-longest-le [] k = omega arith
-longest-le (d ∷ ds) zero = omega arith
-longest-le (d ∷ ds) (suc k) = let h = longest-le ds k in omega arith
+pub greatest-le : (delays : List ℕ) (k : ℕ) → slice_index delays k ≤ greatest delays
+greatest-le [] k = omega arith
+greatest-le (d ∷ ds) zero = omega arith
+greatest-le (d ∷ ds) (suc k) = let h = greatest-le ds k in omega arith
 
 -- two that agree everywhere
 pub tabulate-equal : {X : Type 0} (f g : ℕ → X) (from count : ℕ) → ((k : ℕ) → f k ≡ g k) → tabulate f from count ≡ tabulate g from count
@@ -20,10 +21,10 @@ tabulate-equal f g from (suc count) h = rw (h from) (ap (λ l. g from ∷ l) (ta
 
 -- no channel is delayed by more than the longest delay
 pub delays-near : IsNear delay_taps
-delays-near delays p q h = ap plain (tabulate-equal (λ k. p (slice_index delays k) k) (λ k. q (slice_index delays k) k) 0 (length delays) (λ k. h (slice_index delays k) k (longest-le delays k)))
+delays-near delays p q h = ap plain (tabulate-equal (λ k. p (slice_index delays k) k) (λ k. q (slice_index delays k) k) 0 (length delays) (λ k. h (slice_index delays k) k (greatest-le delays k)))
 
 -- no echo is later than the latest
-echoes_of-same : (echoes : List (ℕ × ℤ)) (p q : Past) (k : ℕ) → Agree (latest echoes) p q → echoes_of echoes p k ≡ echoes_of echoes q k
+echoes_of-same : (echoes : List (ℕ × ℤ)) (p q : Past) (k : ℕ) → Agree (greatest (map tap_delay echoes)) p q → echoes_of echoes p k ≡ echoes_of echoes q k
 echoes_of-same [] p q k h = refl
 echoes_of-same (e ∷ es) p q k h =
     let first : p e.0 k ≡ q e.0 k = h e.0 k (omega arith) in

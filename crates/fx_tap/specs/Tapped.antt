@@ -1,5 +1,5 @@
 -- A stage that makes each frame of that frame and of frames at fixed distances before it (this project's profile).
-use Rattle.std.specs.Prelude.{ℕ, ℤ, pos, ◌+◌, ◌-◌, ◌*◌, ◌≤◌, ◌≡◌, Bool, true, false, ◌&&◌, Option, None, List, [], ◌∷◌, ◌++◌, length, drop, map, max, min, replicate, option_to_list, is_none, slice_index_or, nat_le, nat_eq, cond}
+use Rattle.std.specs.Prelude.{ℕ, ℤ, pos, ◌+◌, ◌-◌, ◌*◌, ◌≤◌, ◌≡◌, Bool, true, false, ◌&&◌, Option, None, List, [], ◌++◌, length, drop, map, min, replicate, option_to_list, is_none, slice_index_or, nat_le, nat_eq, cond}
 use Rattle.std.proofs.Common.{arith}
 use Rattle.std.specs.Int.{w32}
 use Rattle.fx_frame.specs.Frame.{Samples, silence}
@@ -9,11 +9,6 @@ use Rattle.fx_frame.specs.Holds.{total}
 use Rattle.fx_frame.specs.Stage.{Given, Acts}
 use Rattle.fx_tap.specs.Mapped.{most_taken}
 use Rattle.fx_frame.specs.Lists.{tabulate}
-
--- the longest of the delays
-abbrev pub longest : List ℕ → ℕ
-longest [] = 0
-longest (d ∷ ds) = max d (longest ds)
 
 -- channel k of the frame that is d frames before frame n; before the first and after the last there is silence
 abbrev pub sample_before : List Samples → ℕ → ℕ → ℕ → ℤ

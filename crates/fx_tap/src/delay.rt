@@ -1,17 +1,19 @@
 //! The effect `delay` of sox(1): each channel comes later by its own number of frames.
 ghost use Rattle.std.specs.Prelude.{◌≡◌, ◌<◌, ◌≤◌, ◌==◌, ◌⊎◌, nat_lt, if◌then◌else◌, ◌-◌, ◌*◌, ◌^◌, ◌++◌, ◌∷◌, [], ℕ, List, true, length, drop, take, replicate, slice_index, slice_index_or, pos, Err, IfOk, MatchResult};
+ghost use Rattle.fx_fixed.specs.Extents.{greatest};
 ghost use Rattle.fx_frame.specs.Frame.{IsFrame, silence};
 ghost use Rattle.fx_frame.specs.Line.{pushed, pushed_all};
 ghost use Rattle.fx_frame.specs.Ring.{pieces};
 ghost use Rattle.fx_frame.specs.Stage.{Freezes, IsNew};
 ghost use Rattle.fx_tap.specs.Delay.{delay_acts, delay_taps, delayed_frame, every_delay};
-ghost use Rattle.fx_tap.specs.Tapped.{IsTapState, TapState, frames_behind, last_of, longest, sample_before};
+ghost use Rattle.fx_tap.specs.Tapped.{IsTapState, TapState, frames_behind, last_of, sample_before};
 ghost use Rattle.fx_tap.specs.Near.{delays-near};
 ghost use Rattle.std.proofs.Common.{zero-le};
 
 use crate::channels::copy_channel;
 use crate::echo::SAMPLES_OF_PIECE;
 use crate::tapped::{Tapped, Tapping, TapsMany, sample, tap_and_push, tap_by_frames};
+use fx_fixed::inner::longest;
 use fx_frame::inner::{frame_of, samples};
 use fx_frame::{Frame, Line, ThawFault, WideFrame};
 use std::alloc::{AllocError, Global};
@@ -57,23 +59,12 @@ fn delayed_frame(line: &Line, delays: &[u64], frame: Frame) -> Frame
     made
 }
 
-/// The longest of the delays.
-fn longest_of(delays: &[u64]) -> u64
-    ensures { result ≡ longest delays.now }
-{
-    let mut most = 0;
-    'delays: for delay in delays {
-        most = most.max(*delay);
-    }
-    most
-}
-
 /// The delay of each channel: those that are given, and then 0.
 fn every_delay(alloc: Global, channels: usize, delays: &[u64]) -> Result<Vec<u64>, AllocError>
     requires { length delays.now ≤ channels }
     ensures items { IfOk result (λ v. v.items ≡ every_delay channels delays.now) }
     ensures count { IfOk result (λ v. length v.items ≡ channels) }
-    ensures longest { IfOk result (λ v. longest v.items ≡ longest delays.now) }
+    ensures longest { IfOk result (λ v. greatest v.items ≡ greatest delays.now) }
 {
     let mut every = Vec::new(alloc);
     every.extend_from_slice(delays)?;
@@ -116,10 +107,10 @@ impl Tapped<Delays> {
     pub fn new(alloc: Global, channels: usize, delays: &[u64]) -> Result<Delay, AllocError>
         requires channels { (1 ≤ channels) × (channels ≤ 16) }
         requires delays { length delays.now ≤ channels }
-        requires line { longest delays.now ≤ 2 ^ 28 }
+        requires line { greatest delays.now ≤ 2 ^ 28 }
         ensures { IfOk result (IsNew delay_acts (every_delay channels delays.now)) }
     {
-        let reach = longest_of(delays) as usize;
+        let reach = longest(delays) as usize;
         let delays = every_delay(alloc, channels, delays)?;
         Tapped::of(alloc, Delays { delays }, reach)
     }
@@ -135,13 +126,13 @@ impl Tapped<Delays> {
     ) -> Result<Delay, ThawFault>
         requires channels { (1 ≤ channels) × (channels ≤ 16) }
         requires delays { length delays.now ≤ channels }
-        requires line { longest delays.now ≤ 2 ^ 28 }
+        requires line { greatest delays.now ≤ 2 ^ 28 }
         ensures recipe { IfOk result (λ t. delay_acts.recipe t ≡ every_delay channels delays.now) }
         ensures frozen { IfOk result (λ t. Freezes delay_acts t frames.now numbers.now) }
         ensures thawed { (s : TapState (List ℕ)) → IsTapState delay_taps s → delay_acts.recipe s ≡ every_delay channels delays.now → Freezes delay_acts s frames.now numbers.now → MatchResult result (λ t. t ≡ s) (λ e. e ≡ ThawFault.Memory) }
         ensures named { (result ≡ Err ThawFault.WrongPlan) → ⊥ }
     {
-        let reach = longest_of(delays) as usize;
+        let reach = longest(delays) as usize;
         let Ok(delays) = every_delay(alloc, channels, delays) else {
             return Err(ThawFault::Memory);
         };
@@ -256,7 +247,7 @@ fn delay_pieces(
 )
     requires some { (1 ≤ length delays.now) × (length delays.now ≤ 16) }
     requires channels { line.old.channels ≡ length delays.now }
-    requires capacity { line.old.capacity ≡ longest delays.now }
+    requires capacity { line.old.capacity ≡ greatest delays.now }
     requires most { (1 ≤ most) × (most * length delays.now ≤ 256) }
     requires late { (k : ℕ) → k < length delays.now → (slice_index delays.now k ≡ 0) ⊎ (most ≤ slice_index delays.now k) }
     requires few { count ≤ 2 ^ 56 }

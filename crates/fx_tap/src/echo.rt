@@ -1,10 +1,11 @@
 //! The effect `echo` of sox(1): earlier frames come again, each with a decay.
-ghost use Rattle.std.specs.Prelude.{◌≡◌, ◌<◌, ◌≤◌, ◌+◌, ◌*◌, ◌^◌, ◌++◌, ◌∷◌, [], ℕ, pos, ◌+ℤ◌, ◌*ℤ◌, length, slice_index_or, unsigned_abs, Err, IfOk, IfSome, IsTrue, MatchResult};
+ghost use Rattle.std.specs.Prelude.{◌≡◌, ◌<◌, ◌≤◌, ◌+◌, ◌*◌, ◌^◌, ◌++◌, ◌∷◌, [], ℕ, pos, ◌+ℤ◌, ◌*ℤ◌, length, slice_index_or, unsigned_abs, Err, IfOk, IfSome, IsTrue, MatchResult, map};
 ghost use Rattle.std.proofs.Common.{rules};
 ghost use Rattle.std.specs.List.{All};
+ghost use Rattle.fx_fixed.specs.Extents.{greatest, tap_delay};
 ghost use Rattle.fx_frame.specs.Ring.{pieces};
 ghost use Rattle.fx_frame.specs.Stage.{Freezes, IsNew};
-ghost use Rattle.fx_tap.specs.Echo.{EchoArguments, IsEcho, echo_acts, echo_sum, echo_taps, echoed_frame, latest};
+ghost use Rattle.fx_tap.specs.Echo.{EchoArguments, IsEcho, echo_acts, echo_sum, echo_taps, echoed_frame};
 ghost use Rattle.fx_tap.specs.EchoWeights.{SoundsAs, weighed};
 ghost use Rattle.fx_tap.specs.Near.{echoes-near};
 ghost use Rattle.fx_tap.specs.Tapped.{IsTapState, TapState, clips_behind, frames_behind, sample_before};
@@ -12,6 +13,7 @@ ghost use Rattle.fx_tap.specs.Tapped.{IsTapState, TapState, clips_behind, frames
 use crate::sums::{Sums, add_products, add_scaled, product, round_sums, rounded_sums, sums_into};
 use crate::tapped::{Tapped, Tapping, TapsMany, sample, tap_by_frames};
 use crate::weights::{Small, small_of};
+use fx_fixed::inner::longest_tap;
 use fx_fixed::{Gain, UNIT};
 use fx_frame::feed::frame_at;
 use fx_frame::inner::{frame_of, samples};
@@ -178,17 +180,6 @@ impl Tapping for Echoes {
     ghost few_clips = { λ m. Prim.search rules };
 }
 
-/// How late the latest echo is.
-fn latest_of(echoes: &[(u64, Gain)]) -> u64
-    ensures { result ≡ latest echoes.now }
-{
-    let mut most = 0;
-    'echoes: for echo in echoes {
-        most = most.max(echo.0);
-    }
-    most
-}
-
 /// A list of the same echoes.
 pub(crate) fn copied(alloc: Global, echoes: &[(u64, Gain)]) -> Result<Vec<(u64, Gain)>, AllocError>
     ensures { IfOk result (λ v. v.items ≡ echoes.now) }
@@ -220,10 +211,10 @@ impl Tapped<Echoes> {
         requires echoes { (1 ≤ length echoes.now) × (length echoes.now ≤ 7) }
         requires delays { All (λ e. 1 ≤ e.0) echoes.now }
         requires decays { All (λ e. unsigned_abs e.1 ≤ UNIT) echoes.now }
-        requires line { latest echoes.now ≤ 2 ^ 28 }
+        requires line { greatest (map tap_delay echoes.now) ≤ 2 ^ 28 }
         ensures { IfOk result (IsNew echo_acts (record { channels = channels; gain_in = gain_in; gain_out = gain_out; echoes = echoes.now })) }
     {
-        let reach = latest_of(echoes) as usize;
+        let reach = longest_tap(echoes) as usize;
         let echoes = copied(alloc, echoes)?;
         let arguments = Echoes::of(channels, gain_in, gain_out, echoes);
         Tapped::of(alloc, arguments, reach)
@@ -245,13 +236,13 @@ impl Tapped<Echoes> {
         requires echoes { (1 ≤ length echoes.now) × (length echoes.now ≤ 7) }
         requires delays { All (λ e. 1 ≤ e.0) echoes.now }
         requires decays { All (λ e. unsigned_abs e.1 ≤ UNIT) echoes.now }
-        requires line { latest echoes.now ≤ 2 ^ 28 }
+        requires line { greatest (map tap_delay echoes.now) ≤ 2 ^ 28 }
         ensures recipe { IfOk result (λ t. echo_acts.recipe t ≡ record { channels = channels; gain_in = gain_in; gain_out = gain_out; echoes = echoes.now }) }
         ensures frozen { IfOk result (λ t. Freezes echo_acts t frames.now numbers.now) }
         ensures thawed { (s : TapState EchoArguments) → IsTapState echo_taps s → echo_acts.recipe s ≡ record { channels = channels; gain_in = gain_in; gain_out = gain_out; echoes = echoes.now } → Freezes echo_acts s frames.now numbers.now → MatchResult result (λ t. t ≡ s) (λ e. e ≡ ThawFault.Memory) }
         ensures named { (result ≡ Err ThawFault.WrongPlan) → ⊥ }
     {
-        let reach = latest_of(echoes) as usize;
+        let reach = longest_tap(echoes) as usize;
         let Ok(echoes) = copied(alloc, echoes) else {
             return Err(ThawFault::Memory);
         };

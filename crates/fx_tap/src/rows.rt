@@ -2,10 +2,11 @@
 ghost use Rattle.std.specs.Prelude.{◌≡◌, ◌<◌, ◌≤◌, ◌+◌, ◌*◌, ◌^◌, ◌⊎◌, ◌↔◌, ℤ, Option, List, length, option_to_list, unsigned_abs, IfErr, IfOk, IsTrue};
 ghost use Rattle.std.specs.Int.{w64};
 ghost use Rattle.std.specs.List.{All};
+ghost use Rattle.fx_fixed.specs.Extents.{sum_of_delays};
 ghost use Rattle.fx_frame.specs.Frame.{Samples};
 ghost use Rattle.fx_frame.specs.Frozen.{line_of};
 ghost use Rattle.fx_frame.specs.Line.{Frames, IsLine};
-ghost use Rattle.fx_tap.specs.Echos.{frames_of, late};
+ghost use Rattle.fx_tap.specs.Echos.{frames_of};
 ghost use Rattle.fx_tap.specs.EchosStored.{IsRow, IsRowStored, IsSmall};
 
 use fx_fixed::Gain;
@@ -65,7 +66,7 @@ fn thawed_row(
     requires channels { (1 ≤ channels) × (channels ≤ 16) }
     requires few { length echoes.now ≤ 7 }
     requires delays { All (λ e. 1 ≤ e.0) echoes.now }
-    requires lines { late echoes.now ≤ 2 ^ 28 }
+    requires lines { sum_of_delays echoes.now ≤ 2 ^ 28 }
     ensures row { IfOk result (λ v. IsRow channels came echoes.now v.items) }
     ensures stored { IfOk result (λ v. frames_of v.items ≡ frames.now) }
     ensures only { IfOk result (λ v. (lines : List (Frames ℤ)) → IsRow channels came echoes.now lines → frames_of lines ≡ frames.now → v.items ≡ lines) }
@@ -80,10 +81,7 @@ fn thawed_row(
             return Err(ThawFault::BadSnapshot);
         }
         let (here, behind) = rest.split_at(count);
-        let line = match thawed_row_line(alloc, channels, delay, place, here) {
-            Ok(line) => line,
-            Err(fault) => return Err(fault),
-        };
+        let line = thawed_row_line(alloc, channels, delay, place, here)?;
         let Ok(()) = lines.push(line) else {
             return Err(ThawFault::Memory);
         };
@@ -108,7 +106,7 @@ pub(crate) fn thawed_row_and_hand(
     requires channels { (1 ≤ channels) × (channels ≤ 16) }
     requires few { length echoes.now ≤ 7 }
     requires delays { All (λ e. 1 ≤ e.0) echoes.now }
-    requires lines { late echoes.now ≤ 2 ^ 28 }
+    requires lines { sum_of_delays echoes.now ≤ 2 ^ 28 }
     ensures found { IfOk result (λ p. IsRowStored channels came echoes.now hands frames.now p.0.items p.1) }
     ensures only { IfOk result (λ p. (lines : List (Frames ℤ)) (hand : Option Samples) → IsRowStored channels came echoes.now hands frames.now lines hand → (p.0.items ≡ lines) × (p.1 ≡ hand)) }
     ensures refused { IfErr result (λ e. (e ≡ ThawFault.Memory) ⊎ ((e ≡ ThawFault.BadSnapshot) × ((lines : List (Frames ℤ)) (hand : Option Samples) → IsRowStored channels came echoes.now hands frames.now lines hand → ⊥))) }

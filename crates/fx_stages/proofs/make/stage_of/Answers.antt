@@ -1,18 +1,8 @@
-use Rattle.fx_stages.proofs.KindLaws.{echos-line, pad-line, trim-line}
 use Rattle.fx_stages.proofs.Making.{mixes-few, mixes-named, pads-are}
 use Rattle.fx_stages.proofs.make.stage_of.Goals as goal
 
-pub new-requires-clause-line : goal.new-requires-clause-line
-new-requires-clause-line c = rw (c.deref.ensures.value) (trim-line _ (rw (c.in-Trim.is) at c.requires.line))
-
 pub new-requires-in-Pad-clause-pads : goal.new-requires-in-Pad-clause-pads
 new-requires-in-Pad-clause-pads c = rw (c.deref-in-Pad.ensures.value) (pads-are _ (rw (c.in-Pad.is) at c.requires.suits))
-
-pub new-requires-in-Pad-clause-line : goal.new-requires-in-Pad-clause-line
-new-requires-in-Pad-clause-line c = rw (c.deref-in-Pad.ensures.value) (pad-line _ (rw (c.in-Pad.is) at c.requires.line))
-
-pub new-requires-in-Echos-clause-lines : goal.new-requires-in-Echos-clause-lines
-new-requires-in-Echos-clause-lines c = rw (c.deref-in-Echos.ensures.value) (echos-line _ (rw (c.in-Echos.is) at c.requires.line))
 
 pub new-requires-in-Remix-clause-few : goal.new-requires-in-Remix-clause-few
 new-requires-in-Remix-clause-few c = rw (c.deref-in-Remix.ensures.value) (mixes-few _ _ (rw (c.in-Remix.is) at c.requires.suits))

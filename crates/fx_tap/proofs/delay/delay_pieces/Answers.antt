@@ -2,6 +2,7 @@ use Rattle.std.proofs.Common.{append_assoc, ◌≡◌, ◌+◌, ◌-◌, ◌*◌
 use Rattle.std.specs.Prelude.{ℤ}
 use Rattle.std.proofs.lemmas.List.{drop-drop, length-drop, length-take-le}
 use Rattle.std.proofs.Math.Nat.{add-mul, mul-le-mul_right}
+use Rattle.fx_fixed.specs.Extents.{greatest}
 use Rattle.fx_frame.specs.Frame.{Samples}
 use Rattle.fx_frame.specs.Ring.{pieces}
 use Rattle.fx_frame.proofs.FeedParts.{pieces-split}
@@ -9,7 +10,7 @@ use Rattle.fx_frame.proofs.Feeding.{drop-put, pieces-take}
 use Rattle.fx_frame.proofs.ManyFrames.{pieces-put_many}
 use Rattle.fx_tap.specs.Delay.{delay_taps}
 use Rattle.fx_tap.specs.Near.{delays-near}
-use Rattle.fx_tap.specs.Tapped.{frames_behind, last_of, longest}
+use Rattle.fx_tap.specs.Tapped.{frames_behind, last_of}
 use Rattle.fx_tap.proofs.TapBlocks.{frames-joined, last-joined}
 use Rattle.fx_tap.proofs.delay.delay_pieces.Goals as goal
 
@@ -42,7 +43,7 @@ pieces-preserved c =
     let both : (done + n) * ch ≡ at + n * ch = add-mul done n ch in
     let width : at + n * ch - at ≡ n * ch = omega arith in
     let held : length items ≤ room = c.len-held.ensures.line.within in
-    let long : longest ds ≤ room = let e = c.requires.capacity in omega arith in
+    let long : greatest ds ≤ room = let e = c.requires.capacity in omega arith in
     let xs : List Samples = pieces ch done c.args.input.now in
     let part : List ℤ = take (n * ch) (drop at c.args.input.now) in
     let ys : List Samples = pieces ch n part in

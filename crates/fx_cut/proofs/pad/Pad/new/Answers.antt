@@ -17,4 +17,4 @@ invariant_of-result c =
     let lined : IsLine w32 c.in_ok-line.line = search rules in
     let e = c.in_ok-line.ensures in
     rw (c.of.ensures, c.in_ok-extend_from_slice.ensures.items, c.new-own.ensures.items)
-    (IsPad-new (record { channels = c.args.channels; pads = c.args.pads.now }) c.in_ok-line.line lined (rw e refl) (rw e refl) (rw (e, c.greatest_end_of.ensures) refl) c.requires.pads)
+    (IsPad-new (record { channels = c.args.channels; pads = c.args.pads.now }) c.in_ok-line.line lined (rw e refl) (rw e refl) (rw (e, c.greatest_pad_end.ensures) refl) c.requires.pads)

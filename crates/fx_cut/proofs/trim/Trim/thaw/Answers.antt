@@ -9,4 +9,4 @@ returns-then-not-is_count-clause-thawed c = λ s is recipe frozen.
 pub invariant_of-result : goal.invariant_of-result
 invariant_of-result c =
     rw (c.of.ensures, c.in-Ok.ensures.items, c.new-own.ensures.items)
-    (IsTrim-thawed c.args.channels _ _ _ _ _ _ c.args.positions.now _ c.args.frames.now _ _ c.in_ok-line.ensures.found c.greatest_end_of-capacity.ensures c.enough_of.ensures c.if-taken-gt-MOST_TAKEN.false c.if-given-taken.false c.if-held-taken.false c.if-held-frames.false (c.if-not-is_count.ensures.count refl))
+    (IsTrim-thawed c.args.channels _ _ _ _ _ _ c.args.positions.now _ c.args.frames.now _ _ c.in_ok-line.ensures.found c.greatest_end-capacity.ensures c.enough_of.ensures c.if-taken-gt-MOST_TAKEN.false c.if-given-taken.false c.if-held-taken.false c.if-held-frames.false (c.if-not-is_count.ensures.count refl))

@@ -1,13 +1,14 @@
-use Rattle.std.proofs.Common.{append_assoc, ◌≡◌, ◌+◌, ◌-◌, ◌*◌, ◌≤◌, ℕ, List, ◌++◌, length, take, drop, sym, refl, ap, ◌∙◌, arith}
+use Rattle.std.proofs.Common.{append_assoc, ◌≡◌, ◌+◌, ◌-◌, ◌*◌, ◌≤◌, ℕ, List, ◌++◌, length, take, drop, sym, refl, ap, ◌∙◌, arith, map}
 use Rattle.std.specs.Prelude.{ℤ}
 use Rattle.std.proofs.lemmas.List.{drop-drop, length-drop, length-take-le}
 use Rattle.std.proofs.Math.Nat.{add-mul, mul-le-mul_left, mul-le-mul_right}
+use Rattle.fx_fixed.specs.Extents.{greatest, tap_delay}
 use Rattle.fx_frame.specs.Frame.{Samples}
 use Rattle.fx_frame.specs.Ring.{pieces}
 use Rattle.fx_frame.proofs.FeedParts.{pieces-split}
 use Rattle.fx_frame.proofs.Feeding.{drop-put, pieces-take}
 use Rattle.fx_frame.proofs.ManyFrames.{pieces-put_many}
-use Rattle.fx_tap.specs.Echo.{EchoArguments, echo_taps, latest}
+use Rattle.fx_tap.specs.Echo.{EchoArguments, echo_taps}
 use Rattle.fx_tap.specs.Near.{echoes-near}
 use Rattle.fx_tap.specs.Tapped.{clips_behind, frames_behind, last_of}
 use Rattle.fx_tap.proofs.TapBlocks.{clips-joined, frames-joined, last-joined}
@@ -45,7 +46,7 @@ pieces-preserved c =
     let both : (done + n) * ch ≡ at + n * ch = add-mul done n ch in
     let width : at + n * ch - at ≡ n * ch = omega arith in
     let held : length items ≤ room = c.len-held.ensures.line.within in
-    let long : latest a.echoes ≤ room = let e = asked.capacity in omega arith in
+    let long : greatest (map tap_delay a.echoes) ≤ room = let e = asked.capacity in omega arith in
     let xs : List Samples = pieces ch done c.args.input.now in
     let part : List ℤ = take (n * ch) (drop at c.args.input.now) in
     let ys : List Samples = pieces ch n part in

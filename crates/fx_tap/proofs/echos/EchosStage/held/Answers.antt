@@ -1,5 +1,6 @@
 use Rattle.std.proofs.Common.{arith, ap, ◌≤◌, ◌+◌, ◌∙◌, length}
-use Rattle.fx_tap.specs.Echos.{frames_of, late}
+use Rattle.fx_fixed.specs.Extents.{sum_of_delays}
+use Rattle.fx_tap.specs.Echos.{frames_of}
 use Rattle.fx_tap.proofs.Rounds.{byte-le}
 use Rattle.fx_tap.proofs.EchosLaws.{frames-late}
 use Rattle.fx_tap.proofs.echos.EchosStage.held.Goals as goal
@@ -23,5 +24,5 @@ returns-clause-within c =
     let few = frames-late _ c.self.invariant.0 in
     let one = byte-le c.is_some.result in
     let held = c.held_in.ensures ∙ ap (λ l. length (frames_of l)) c.deref.ensures.value in
-    let most : c.held_in.result + c.from.result ≤ late c.self.inside.echoes.items + 1 = omega (arith, few, one, held, c.from.ensures) in
+    let most : c.held_in.result + c.from.result ≤ sum_of_delays c.self.inside.echoes.items + 1 = omega (arith, few, one, held, c.from.ensures) in
     rw (← c.self.view_is) most
