@@ -14,13 +14,14 @@ use crate::per_sample::{PerSample, SamplesMany, Sampling};
 
 /// How many samples each of two effects clipped.
 #[derive(Clone, Copy)]
-struct BothClips {
-    first: u64,
-    second: u64,
+pub struct BothClips {
+    pub first: u64,
+    pub second: u64,
 }
 
 /// Writes what the second effect makes of what the first makes of each sample, and counts how many each clipped.
-fn rounded_by_both<A: Sampling, B: Sampling>(
+#[inline(always)]
+pub(crate) fn rounded_by_both<A: Sampling, B: Sampling>(
     first: &A,
     second: &B,
     input: &[i32],
@@ -71,8 +72,7 @@ pub fn pass_both<A: SamplesMany + Drop, B: SamplesMany + Drop>(
     ensures behind { drop (count * first.old.mapping.channels) output.new ≡ drop (count * first.old.mapping.channels) output.old }
 {
     let samples = count * first.mapping().out_channels();
-    let clips = rounded_by_both(
-        first.mapping().sampling(),
+    let clips = first.mapping().sampling().round_before(
         second.mapping().sampling(),
         &input[..samples],
         &mut output[..samples],

@@ -7,7 +7,7 @@ ghost use Rattle.fx_tap.specs.PerSample.{SampleArguments};
 ghost use Rattle.fx_tap.specs.DcShift.{dcshift_acts, leaves_half, raised, shifted_sample, steps_of};
 
 use crate::mapped::Mapped;
-use crate::per_sample::{PerSample, SamplesMany, Sampling};
+use crate::per_sample::{PerSample, SamplesBehind, SamplesMany, Sampling};
 use fx_fixed::{Gain, UNIT};
 use fx_frame::{ThawFault, WideFrame};
 use std::marker::Model;
@@ -70,6 +70,8 @@ impl Sampling for Shift {
         clipped(raised(self.is_half, i64::from(sample) + self.steps))
     }
 }
+
+impl SamplesBehind for Shift {}
 
 impl SamplesMany for Shift {}
 

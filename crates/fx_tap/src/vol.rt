@@ -6,8 +6,11 @@ ghost use Rattle.fx_tap.specs.PerSample.{SampleArguments};
 ghost use Rattle.fx_tap.specs.Fractions.{fraction_sample};
 ghost use Rattle.fx_tap.specs.Vol.{scaled_sample, vol_acts};
 
+use crate::both::{BothClips, rounded_by_both};
 use crate::mapped::Mapped;
-use crate::per_sample::{PerSample, SamplesMany, Sampling, round_over, rounded_samples};
+use crate::per_sample::{
+    PerSample, SamplesBehind, SamplesMany, Sampling, round_over, rounded_samples,
+};
 use crate::proper::ProperFraction;
 use fx_fixed::inner::{Denominator, reduce, scale};
 use fx_fixed::{Gain, UNIT};
@@ -105,6 +108,18 @@ impl Sampling for Scale {
     }
 }
 
+impl SamplesBehind for Scale {
+    fn round_behind<A: Sampling>(&self, first: &A, input: &[i32], output: &mut [i32]) -> BothClips {
+        if let Some(proper) = &self.proper {
+            return rounded_by_both(first, proper, input, output);
+        }
+        match &self.fraction {
+            Some(fraction) => rounded_by_both(first, fraction, input, output),
+            None => rounded_by_both(first, self, input, output),
+        }
+    }
+}
+
 impl SamplesMany for Scale {
     fn round_many(&self, input: &[i32], output: &mut [i32]) -> u64 {
         if let Some(proper) = &self.proper {
@@ -114,6 +129,21 @@ impl SamplesMany for Scale {
         match &self.fraction {
             Some(fraction) => rounded_samples(fraction, input, output),
             None => rounded_samples(self, input, output),
+        }
+    }
+
+    fn round_before<B: SamplesBehind>(
+        &self,
+        second: &B,
+        input: &[i32],
+        output: &mut [i32],
+    ) -> BothClips {
+        if let Some(proper) = &self.proper {
+            return second.round_behind(proper, input, output);
+        }
+        match &self.fraction {
+            Some(fraction) => second.round_behind(fraction, input, output),
+            None => second.round_behind(self, input, output),
         }
     }
 
