@@ -1,5 +1,6 @@
 """What the checks share: sounds as bytes, heads as they are read, running a program, and counting expectations."""
 import os
+import shlex
 import struct
 import subprocess
 
@@ -59,12 +60,15 @@ def size_of_head(data):
     return chunk_place(data, b'data') if data[:4] == b'RIFF' else struct.unpack_from('>I', data, 4)[0]
 
 
-def link_refusing(crate, target):
-    """Links the proved object of a program once more, with a malloc that refuses the request that REFUSE names."""
-    kit = os.path.dirname(subprocess.run(['rt', 'doc'], capture_output=True, text=True, check=True).stdout.strip())
-    parts = [os.path.join(TOP, 'crates', crate, 'out', f'{crate}.o'), os.path.join(TOP, 'scripts', 'growth', 'refuse.c')]
-    libraries = [os.path.join(kit, 'c', 'libos_c.a'), os.path.join(kit, 'c', 'liblibc_c.a')]
-    subprocess.run([os.environ.get('CC', 'cc'), '-o', target] + parts + libraries + ['-Wl,--wrap=malloc,--wrap=realloc'], check=True)
+def make_refusing(crate, target):
+    """Writes a command that runs the proved program of a crate with a malloc that refuses the request that REFUSE names."""
+    library = os.path.abspath(target) + '.so'
+    source = os.path.join(TOP, 'scripts', 'growth', 'refuse.c')
+    subprocess.run([os.environ.get('CC', 'cc'), '-shared', '-fPIC', '-DPRELOADED', '-o', library, source], check=True)
+    program = os.path.join(TOP, 'crates', crate, 'out', crate)
+    with open(target, 'w') as command:
+        command.write(f'#!/bin/sh\nLD_PRELOAD={shlex.quote(library)} exec {shlex.quote(program)} "$@"\n')
+    os.chmod(target, 0o755)
 
 
 def content(name):
