@@ -4,7 +4,7 @@ ghost use Rattle.fx_frame.specs.Frame.{IsFrame};
 ghost use Rattle.fx_frame.specs.Line.{pushed, pushed_out};
 
 use fx_frame::Line;
-use fx_frame::feed::frame_at;
+use fx_frame::feed::see_samples;
 
 /// What `push_over` of a line does. A line with no places stays as it is, and hands the frame back.
 #[inline(always)]
@@ -19,9 +19,7 @@ pub fn push_over(line: &mut Line, samples: &mut [i32]) -> bool
     ensures len { length samples.new ≡ length samples.old }
 {
     if line.capacity() == 0 {
-        // That its samples fit is known of a frame: this makes one for that alone, and nothing is left of it in the program.
-        let frame = frame_at(samples, 0, samples.len());
-        let _channels = frame.channels();
+        see_samples(samples);
         return true;
     }
     line.push_over(samples)

@@ -1,7 +1,10 @@
 -- Frames that go through stages in a row one after another.
 use Rattle.std.proofs.Common.{ℕ, zero, suc, ◌+◌, ◌-◌, ◌*◌, ◌/◌, ◌<◌, ◌≤◌, ◌≡◌, Bool, true, false, map, List, [], ◌∷◌, ◌++◌, get_or, length, take, drop, set, refl, sym, ap, ◌∙◌, subst, arith, inl, inr, Option, Some, None, ◌||◌, ◌&&◌, max}
-use Rattle.std.specs.Prelude.{ℤ, if◌then◌else◌, ◌⊎◌}
-use Rattle.std.proofs.lemmas.List.{append-nil, append_assoc, drop-drop, drop_all, length-append, length-drop, length-take-le, take_all}
+use Rattle.std.specs.Prelude.{ℤ, FitsSigned, if◌then◌else◌, ◌⊎◌}
+use Rattle.std.specs.Int.{w32}
+use Rattle.std.specs.List.{All}
+use Rattle.std.proofs.lemmas.List.{append-nil, append_assoc, drop-drop, drop-take, drop_all, length-append, length-drop, length-take-le, take-take, take_all}
+use Rattle.std.proofs.lemmas.List.Elements.{All-drop, All-take}
 use Rattle.std.proofs.Math.Nat.{div-mul-le_self, mul-le-mul_right}
 use Rattle.fx_frame.specs.Feed.{GaveNext, TookNext}
 use Rattle.fx_frame.specs.Frame.{IsFrame, Samples}
@@ -62,6 +65,19 @@ outs-fit count least (suc outputs) wide long e w h one = let same : wide ≡ suc
 put-long : (at size : ℕ) (out frame out' : List ℤ) → length frame ≡ size → at + size ≤ length out → out' ≡ take at out ++ frame ++ drop (at + size) out → length out' ≡ length out
 put-long at size out frame out' e h w =
     rw w (omega (arith, e, length-append (take at out ++ frame) (drop (at + size) out), length-append (take at out) frame, length-take-le at out (omega arith), length-drop (at + size) out))
+
+-- a frame that stands in samples that were read
+pub frame-read : (at size long : ℕ) (input : List ℤ) → 1 ≤ size → size ≤ 16 → at + size ≤ long → long ≤ length input → All (FitsSigned w32) (take long input) → IsFrame (take size (drop at input))
+frame-read at size long input some few within reach fits =
+    let reaches : at + (long - at) ≡ long = omega (arith, within) in
+    let whole : drop at (take long input) ≡ take (long - at) (drop at input) = ap (λ n. drop at (take n input)) (sym reaches) ∙ drop-take at (long - at) input in
+    let cut : take size (drop at (take long input)) ≡ take size (drop at input) = ap (take size) whole ∙ take-take size (long - at) (drop at input) (omega (arith, within)) in
+    let room : size ≤ length (drop at input) = omega (arith, length-drop at input, within, reach) in
+    record {
+      some = rw (length-take-le size (drop at input) room) some;
+      few = rw (length-take-le size (drop at input) room) few;
+      fits = rw cut at (All-take (FitsSigned w32) size (drop at (take long input)) (All-drop (FitsSigned w32) at (take long input) fits));
+    }
 
 module _ {S R : Type 0} (acts : Acts S R) where
   pub AllAhead-less : (m n : ℕ) (stages : List S) → m ≤ n → AllAhead acts n stages → AllAhead acts m stages

@@ -9,8 +9,7 @@ ghost use Rattle.fx_frame.specs.Holds.{kinds};
 ghost use Rattle.fx_frame.specs.Ring.{pieces};
 ghost use Rattle.fx_frame.specs.Stage.{IsDry, kind, spent};
 
-use fx_frame::feed::{copy_samples, frame_at};
-use fx_frame::inner::samples as samples_of;
+use fx_frame::feed::{copy_samples, see_samples};
 use fx_frame::stage::Stage;
 use fx_frame::{Feeds, Passed, Passing};
 
@@ -164,6 +163,7 @@ fn run_frames<S: Feeds>(
     ensures some { 1 ≤ count → 1 ≤ result.taken }
     ensures behind { drop (result.given * widths.outputs) output.new ≡ drop (result.given * widths.outputs) output.old }
 {
+    see_samples(&input[..count * widths.inputs]);
     let mut places = [0; 16];
     let mut given = 0;
     'frames: for taken in 0..count {
@@ -172,8 +172,6 @@ fn run_frames<S: Feeds>(
             &input[read..read + widths.inputs],
             &mut places[..widths.inputs],
         );
-        let frame = frame_at(input, read, widths.inputs);
-        let _samples = samples_of(&frame);
         let passage = pass_along(stages, widths.keeps, widths.inputs, &mut places);
         if passage.is_given {
             let written = given * widths.outputs;

@@ -203,7 +203,7 @@ impl Feeds for EffectStage {
         each!(self, stage => stage.pass_samples(samples))
     }
 
-    #[inline(always)]
+    #[inline(never)]
     fn pass_places(&mut self, places: &mut [i32; 16], channels: &mut usize) -> Passing {
         match self {
             EffectStage::Remix(stage) => stage.pass_places(places, channels),

@@ -1,5 +1,6 @@
 //! The effect `vol` of sox(1): each sample times a gain.
-ghost use Rattle.std.specs.Prelude.{◌≡◌, ◌≤◌, ℤ, Ok, IfOk, IfErr};
+ghost use Rattle.std.specs.Prelude.{◌≡◌, ◌≤◌, ℤ, length, map, Ok, IfOk, IfErr};
+ghost use Rattle.fx_frame.specs.Rounded.{clips_of, samples_of};
 ghost use Rattle.fx_frame.specs.Stage.{Freezes, IsNew};
 ghost use Rattle.fx_tap.specs.Mapped.{IsMapState, MapState};
 ghost use Rattle.fx_tap.specs.PerSample.{SampleArguments};
@@ -91,6 +92,18 @@ impl Scale {
             proper,
         }
     }
+
+    /// Writes what it makes of each sample of a frame over it, for a gain that is not small, and counts how many were clipped.
+    // It stands apart, so that the loop over frames that calls it stays small enough for its other stages to stand inside.
+    #[inline(never)]
+    fn round_wide(&self, samples: &mut [i32]) -> u64
+        requires { length samples.old ≤ 16 }
+        ensures samples { samples.new ≡ samples_of (map (scaled_sample self.now) samples.old) }
+        ensures clips { result ≡ clips_of (map (scaled_sample self.now) samples.old) }
+        ensures few { result ≤ length samples.old }
+    {
+        round_over(self, samples)
+    }
 }
 
 impl Sampling for Scale {
@@ -155,7 +168,7 @@ impl SamplesMany for Scale {
         }
         match &self.fraction {
             Some(fraction) => round_over(fraction, samples),
-            None => round_over(self, samples),
+            None => self.round_wide(samples),
         }
     }
 }

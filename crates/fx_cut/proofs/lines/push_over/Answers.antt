@@ -1,5 +1,4 @@
-use Rattle.std.proofs.Common.{◌≡◌, ◌∙◌, [], ◌≤◌, refl, sym, arith, length, take, drop}
-use Rattle.std.proofs.lemmas.List.{take_all}
+use Rattle.std.proofs.Common.{◌≡◌, ◌∙◌, [], refl, sym, arith}
 use Rattle.fx_cut.proofs.Hands.{empty_of}
 use Rattle.fx_cut.proofs.lines.push_over.Goals as goal
 
@@ -18,6 +17,4 @@ returns-then-capacity-eq0-clause-oldest c =
     rw (short, none) refl
 
 pub returns-then-capacity-eq0-clause-frame : goal.returns-then-capacity-eq0-clause-frame
-returns-then-capacity-eq0-clause-frame c = λ out.
-    let whole : take (length c.args.samples.now) (drop 0 c.args.samples.now) ≡ c.args.samples.now = take_all (length c.args.samples.now) c.args.samples.now (omega arith) in
-    rw (c.frame_at-frame.ensures.frame, whole) at c.channels-channels.ensures.frame
+returns-then-capacity-eq0-clause-frame c = λ out. record { some = c.requires.frame.0; few = c.requires.frame.1; fits = c.see_samples.ensures }

@@ -1,12 +1,12 @@
-use Rattle.std.proofs.Common.{rules, ◌≡◌, ◌+◌, ◌-◌, ◌*◌, ◌<◌, ◌≤◌, ◌∙◌, ◌++◌, ℕ, true, drop, length, take, inl, inr, refl, sym, ap, arith, add-one}
-use Rattle.std.proofs.lemmas.List.{length-take-le, take_at}
+use Rattle.std.proofs.Common.{rules, ◌≡◌, ◌+◌, ◌-◌, ◌*◌, ◌<◌, ◌≤◌, ◌∙◌, ◌++◌, ℕ, true, drop, length, take, inl, inr, refl, sym, ap, subst, arith, add-one}
+use Rattle.std.proofs.lemmas.List.{length-drop, length-take-le, take_at}
 use Rattle.std.proofs.Math.Nat.{suc-mul, mul-le-mul_right}
 use Rattle.fx_frame.specs.Frame.{IsFrame}
 use Rattle.fx_frame.specs.Holds.{kinds}
 use Rattle.fx_frame.specs.Row.{outputs_of}
 use Rattle.fx_flow.specs.Runs.{MayRun}
 use Rattle.fx_flow.specs.Sound.{most_frames}
-use Rattle.fx_flow.proofs.Running.{Running, Running-behind, Running-none, Running-ran, Running-ready, Running-turn, Wrote, put-mid}
+use Rattle.fx_flow.proofs.Running.{Running, Running-behind, Running-none, Running-ran, Running-ready, Running-turn, Wrote, frame-read, put-mid}
 use Rattle.fx_flow.proofs.runs.run_frames.Goals as goal
 use Rattle.fx_flow.proofs.runs.run_frames.Goals.{then-passage, else-passage}
 
@@ -46,9 +46,15 @@ returns-then-passage-2-clause-ran g c =
     let m : c.frames.given * outputs + outputs - c.frames.given * outputs ≡ outputs = omega arith in
     let x = c.copy_samples.new.to in
     let is : x ≡ take inputs (drop (c.frames.taken * inputs) c.args.input.now) = rw n at c.copy_samples.ensures in
-    let alike : x ≡ c.frame_at-frame.result = is ∙ sym c.frame_at-frame.ensures.frame in
-    let shape : IsFrame x = rw alike c.samples-samples.ensures.frame in
-    let width : length x ≡ inputs = ap length alike ∙ c.frame_at-frame.ensures.channels in
+    let some : 1 ≤ inputs = c.requires.frame.0 in
+    let more : c.frames.taken < c.args.count = c.frames-test.true in
+    let one : c.frames.taken * inputs + inputs ≡ (c.frames.taken + 1) * inputs = omega (arith, add-one c.frames.taken, suc-mul c.frames.taken inputs) in
+    let turns : (c.frames.taken + 1) * inputs ≤ c.args.count * inputs = mul-le-mul_right inputs (omega (arith, more)) in
+    let room : c.frames.taken * inputs + inputs ≤ length c.args.input.now = omega (arith, one, turns, c.requires.input) in
+    let rest : length (drop (c.frames.taken * inputs) c.args.input.now) ≡ length c.args.input.now - c.frames.taken * inputs = length-drop (c.frames.taken * inputs) c.args.input.now in
+    let width : length x ≡ inputs = ap length is ∙ length-take-le inputs (drop (c.frames.taken * inputs) c.args.input.now) (omega (arith, rest, room)) in
+    let read : IsFrame (take inputs (drop (c.frames.taken * inputs) c.args.input.now)) = frame-read (c.frames.taken * inputs) inputs (c.args.count * inputs) c.args.input.now some c.requires.frame.1 (omega (arith, one, turns)) c.requires.input c.see_samples.ensures in
+    let shape : IsFrame x = subst IsFrame (sym is) read in
     let front : take inputs (x ++ drop inputs c.frames.places) ≡ x = take_at x (drop inputs c.frames.places) inputs width in
     let went = rw (front, outs-now) at c.pass_along-passage.ensures.went in
     let sixteen : length c.pass_along-passage.new.places ≡ 16 = search rules in
@@ -63,11 +69,6 @@ returns-then-passage-2-clause-ran g c =
       | then-passage w ↦ inl (w.if-passage.true, put-mid (c.frames.given * outputs) outputs c.frames.output (take outputs c.pass_along-passage.new.places) c.if-passage.output (rw (m, w.copy_samples-then-passage.ensures) at w.output-is), ap (λ n. n * outputs) w.given-is ∙ sym next-out, w.given-is)
       | else-passage w ↦ inr (w.if-passage.false, w.output-is, ap (λ n. n * outputs) w.given-is, w.given-is)
     ] in
-    let some : 1 ≤ inputs = c.requires.frame.0 in
-    let more : c.frames.taken < c.args.count = c.frames-test.true in
-    let one : c.frames.taken * inputs + inputs ≡ (c.frames.taken + 1) * inputs = omega (arith, add-one c.frames.taken, suc-mul c.frames.taken inputs) in
-    let turns : (c.frames.taken + 1) * inputs ≤ c.args.count * inputs = mul-le-mul_right inputs (omega (arith, more)) in
-    let room : c.frames.taken * inputs + inputs ≤ length c.args.input.now = omega (arith, one, turns, c.requires.input) in
     let outs-fit : (c.frames.given + 1) * outputs ≤ c.args.count * outputs = mul-le-mul_right outputs (omega (arith, more, c.frames.invariant.fewer)) in
     let free : c.frames.given * outputs + outputs ≤ length c.frames.output = omega (arith, next-out, outs-fit, c.requires.output, c.frames.auto.output) in
     let next : (left : ℕ) → MayRun acts inputs c.args.count c.args.stages.now left → Running acts g.met.S.Stage.rises inputs outputs c.args.count left c.args.stages.now c.args.input.now c.args.output.now c.pass_along-passage.new.stages c.if-passage.output (c.frames.taken * inputs + inputs) (c.if-passage.given * outputs) (c.frames.taken + 1) c.if-passage.given =
@@ -86,9 +87,15 @@ returns-then-passage-2-clause-behind g c =
     let m : c.frames.given * outputs + outputs - c.frames.given * outputs ≡ outputs = omega arith in
     let x = c.copy_samples.new.to in
     let is : x ≡ take inputs (drop (c.frames.taken * inputs) c.args.input.now) = rw n at c.copy_samples.ensures in
-    let alike : x ≡ c.frame_at-frame.result = is ∙ sym c.frame_at-frame.ensures.frame in
-    let shape : IsFrame x = rw alike c.samples-samples.ensures.frame in
-    let width : length x ≡ inputs = ap length alike ∙ c.frame_at-frame.ensures.channels in
+    let some : 1 ≤ inputs = c.requires.frame.0 in
+    let more : c.frames.taken < c.args.count = c.frames-test.true in
+    let one : c.frames.taken * inputs + inputs ≡ (c.frames.taken + 1) * inputs = omega (arith, add-one c.frames.taken, suc-mul c.frames.taken inputs) in
+    let turns : (c.frames.taken + 1) * inputs ≤ c.args.count * inputs = mul-le-mul_right inputs (omega (arith, more)) in
+    let room : c.frames.taken * inputs + inputs ≤ length c.args.input.now = omega (arith, one, turns, c.requires.input) in
+    let rest : length (drop (c.frames.taken * inputs) c.args.input.now) ≡ length c.args.input.now - c.frames.taken * inputs = length-drop (c.frames.taken * inputs) c.args.input.now in
+    let width : length x ≡ inputs = ap length is ∙ length-take-le inputs (drop (c.frames.taken * inputs) c.args.input.now) (omega (arith, rest, room)) in
+    let read : IsFrame (take inputs (drop (c.frames.taken * inputs) c.args.input.now)) = frame-read (c.frames.taken * inputs) inputs (c.args.count * inputs) c.args.input.now some c.requires.frame.1 (omega (arith, one, turns)) c.requires.input c.see_samples.ensures in
+    let shape : IsFrame x = subst IsFrame (sym is) read in
     let front : take inputs (x ++ drop inputs c.frames.places) ≡ x = take_at x (drop inputs c.frames.places) inputs width in
     let went = rw (front, outs-now) at c.pass_along-passage.ensures.went in
     let sixteen : length c.pass_along-passage.new.places ≡ 16 = search rules in
@@ -103,11 +110,6 @@ returns-then-passage-2-clause-behind g c =
       | then-passage w ↦ inl (w.if-passage.true, put-mid (c.frames.given * outputs) outputs c.frames.output (take outputs c.pass_along-passage.new.places) c.if-passage.output (rw (m, w.copy_samples-then-passage.ensures) at w.output-is), ap (λ n. n * outputs) w.given-is ∙ sym next-out, w.given-is)
       | else-passage w ↦ inr (w.if-passage.false, w.output-is, ap (λ n. n * outputs) w.given-is, w.given-is)
     ] in
-    let some : 1 ≤ inputs = c.requires.frame.0 in
-    let more : c.frames.taken < c.args.count = c.frames-test.true in
-    let one : c.frames.taken * inputs + inputs ≡ (c.frames.taken + 1) * inputs = omega (arith, add-one c.frames.taken, suc-mul c.frames.taken inputs) in
-    let turns : (c.frames.taken + 1) * inputs ≤ c.args.count * inputs = mul-le-mul_right inputs (omega (arith, more)) in
-    let room : c.frames.taken * inputs + inputs ≤ length c.args.input.now = omega (arith, one, turns, c.requires.input) in
     let outs-fit : (c.frames.given + 1) * outputs ≤ c.args.count * outputs = mul-le-mul_right outputs (omega (arith, more, c.frames.invariant.fewer)) in
     let free : c.frames.given * outputs + outputs ≤ length c.frames.output = omega (arith, next-out, outs-fit, c.requires.output, c.frames.auto.output) in
     let next : (left : ℕ) → MayRun acts inputs c.args.count c.args.stages.now left → Running acts g.met.S.Stage.rises inputs outputs c.args.count left c.args.stages.now c.args.input.now c.args.output.now c.pass_along-passage.new.stages c.if-passage.output (c.frames.taken * inputs + inputs) (c.if-passage.given * outputs) (c.frames.taken + 1) c.if-passage.given =
@@ -128,9 +130,15 @@ frames-preserved g c =
     let m : c.frames.given * outputs + outputs - c.frames.given * outputs ≡ outputs = omega arith in
     let x = c.copy_samples.new.to in
     let is : x ≡ take inputs (drop (c.frames.taken * inputs) c.args.input.now) = rw n at c.copy_samples.ensures in
-    let alike : x ≡ c.frame_at-frame.result = is ∙ sym c.frame_at-frame.ensures.frame in
-    let shape : IsFrame x = rw alike c.samples-samples.ensures.frame in
-    let width : length x ≡ inputs = ap length alike ∙ c.frame_at-frame.ensures.channels in
+    let some : 1 ≤ inputs = c.requires.frame.0 in
+    let more : c.frames.taken < c.args.count = c.frames-test.true in
+    let one : c.frames.taken * inputs + inputs ≡ (c.frames.taken + 1) * inputs = omega (arith, add-one c.frames.taken, suc-mul c.frames.taken inputs) in
+    let turns : (c.frames.taken + 1) * inputs ≤ c.args.count * inputs = mul-le-mul_right inputs (omega (arith, more)) in
+    let room : c.frames.taken * inputs + inputs ≤ length c.args.input.now = omega (arith, one, turns, c.requires.input) in
+    let rest : length (drop (c.frames.taken * inputs) c.args.input.now) ≡ length c.args.input.now - c.frames.taken * inputs = length-drop (c.frames.taken * inputs) c.args.input.now in
+    let width : length x ≡ inputs = ap length is ∙ length-take-le inputs (drop (c.frames.taken * inputs) c.args.input.now) (omega (arith, rest, room)) in
+    let read : IsFrame (take inputs (drop (c.frames.taken * inputs) c.args.input.now)) = frame-read (c.frames.taken * inputs) inputs (c.args.count * inputs) c.args.input.now some c.requires.frame.1 (omega (arith, one, turns)) c.requires.input c.see_samples.ensures in
+    let shape : IsFrame x = subst IsFrame (sym is) read in
     let front : take inputs (x ++ drop inputs c.frames.places) ≡ x = take_at x (drop inputs c.frames.places) inputs width in
     let went = rw (front, outs-now) at c.pass_along-passage.ensures.went in
     let sixteen : length c.pass_along-passage.new.places ≡ 16 = search rules in
@@ -145,11 +153,6 @@ frames-preserved g c =
       | then-passage w ↦ inl (w.if-passage.true, put-mid (c.frames.given * outputs) outputs c.frames.output (take outputs c.pass_along-passage.new.places) c.if-passage.output (rw (m, w.copy_samples-then-passage.ensures) at w.output-is), ap (λ n. n * outputs) w.given-is ∙ sym next-out, w.given-is)
       | else-passage w ↦ inr (w.if-passage.false, w.output-is, ap (λ n. n * outputs) w.given-is, w.given-is)
     ] in
-    let some : 1 ≤ inputs = c.requires.frame.0 in
-    let more : c.frames.taken < c.args.count = c.frames-test.true in
-    let one : c.frames.taken * inputs + inputs ≡ (c.frames.taken + 1) * inputs = omega (arith, add-one c.frames.taken, suc-mul c.frames.taken inputs) in
-    let turns : (c.frames.taken + 1) * inputs ≤ c.args.count * inputs = mul-le-mul_right inputs (omega (arith, more)) in
-    let room : c.frames.taken * inputs + inputs ≤ length c.args.input.now = omega (arith, one, turns, c.requires.input) in
     let outs-fit : (c.frames.given + 1) * outputs ≤ c.args.count * outputs = mul-le-mul_right outputs (omega (arith, more, c.frames.invariant.fewer)) in
     let free : c.frames.given * outputs + outputs ≤ length c.frames.output = omega (arith, next-out, outs-fit, c.requires.output, c.frames.auto.output) in
     let next : (left : ℕ) → MayRun acts inputs c.args.count c.args.stages.now left → Running acts g.met.S.Stage.rises inputs outputs c.args.count left c.args.stages.now c.args.input.now c.args.output.now c.pass_along-passage.new.stages c.if-passage.output (c.frames.taken * inputs + inputs) (c.if-passage.given * outputs) (c.frames.taken + 1) c.if-passage.given =

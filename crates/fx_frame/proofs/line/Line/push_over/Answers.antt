@@ -1,8 +1,8 @@
-use Rattle.std.proofs.Common.{rules, ℤ, pos, List, ap, ◌≡◌, [], ◌∷◌, get_or, length, sym, ◌∙◌, FitsSigned, slice_set, to_z, of_z, to_z-of_z}
+use Rattle.std.proofs.Common.{rules, ℤ, pos, List, ap, ◌≡◌, [], ◌∷◌, get_or, sym, ◌∙◌, FitsSigned, slice_set, to_z, of_z, to_z-of_z}
 use Rattle.std.specs.Int.{w32}
 use Rattle.std.specs.List.{All}
 use Rattle.std.proofs.lemmas.List.Elements.{All-nil, All-cons}
-use Rattle.fx_frame.proofs.Lines.{two-samples, All-pushed, out-long}
+use Rattle.fx_frame.proofs.Lines.{two-samples, All-pushed}
 use Rattle.fx_frame.proofs.line.Line.push_over.Goals as goal
 
 pub invariant_of-self-in-2 : goal.invariant_of-self-in-2
@@ -13,13 +13,6 @@ invariant_of-self-in-2 c =
     let none : List ℤ = [] in
     let both : All (FitsSigned w32) (get_or xs 0 (pos 0) ∷ get_or xs 1 (pos 0) ∷ []) = All-cons (FitsSigned w32) (get_or xs 0 (pos 0)) (get_or xs 1 (pos 0) ∷ []) first (All-cons (FitsSigned w32) (get_or xs 1 (pos 0)) none second (All-nil (FitsSigned w32))) in
     All-pushed (All (FitsSigned w32)) c.self.inside.ring (get_or xs 0 (pos 0) ∷ get_or xs 1 (pos 0) ∷ []) _ c.self.invariant both (rw (to_z-of_z first, to_z-of_z second) at c.push_two.ensures.items)
-
-pub copy_from_slice-requires : goal.copy_from_slice-requires
-copy_from_slice-requires c =
-    let shaped = rw c.self.view_is at c.channels.ensures.shape in
-    let gone = rw (c.in-Some-push_many.is, c.filled.ensures) at c.push_many.ensures.oldest in
-    let long : length c.in-Some-push_many.oldest ≡ c.args.self.now.channels = out-long c.args.self.now c.args.samples.now c.in-Some-push_many.oldest shaped c.requires (sym gone) in
-    c.requires ∙ sym (ap length c.samples.ensures.samples ∙ long)
 
 pub returns-in-Some-push_two-clause-items : goal.returns-in-Some-push_two-clause-items
 returns-in-Some-push_two-clause-items c =

@@ -1,7 +1,0 @@
-use Rattle.std.proofs.Common.{FitsSigned, take}
-use Rattle.std.specs.Int.{w32}
-use Rattle.std.specs.List.{All}
-use Rattle.fx_frame.proofs.line.samples_fit.Given as goal
-
-abbrev pub invariant-samples : goal.invariant-samples
-invariant-samples l = All (FitsSigned w32) (take l.place l.samples)
