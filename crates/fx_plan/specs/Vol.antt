@@ -20,7 +20,7 @@ type_faults (type ∷ more) =
     ++ (when (not (bytes_eq type (codes "amplitude"))) (mark BadArgument 3)
     ++ when (nat_lt 0 (length more)) (mark NotInProfile 4))
 
-abbrev pub vol_faults : List Word → List Mark
+unfoldable pub vol_faults : List Word → List Mark
 vol_faults [] = mark WrongCount 1 ∷ []
 vol_faults (gain ∷ more) =
     when (nat_lt 2 (length more)) (mark WrongCount 5)

@@ -21,6 +21,7 @@ fn read_shift(word: &str) -> Result<Gain, PlanCause>
 }
 
 /// The shift of a `dcshift` with these words after its name.
+#[tactic(auto, unfolding(crate::specs::DcShift::shift_faults))]
 pub fn read_dcshift(words: &[String]) -> Result<Gain, Mark>
     ensures read { Finds result (shift_faults (texts words.now)) (shift_gain (texts words.now)) }
     ensures range { IfOk result (λ shift. unsigned_abs shift ≤ 2 * UNIT) }

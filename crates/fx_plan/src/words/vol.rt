@@ -37,6 +37,7 @@ fn check_type(words: &[String]) -> Result<(), Mark>
 }
 
 /// The gain of a `vol` with these words after its name.
+#[tactic(auto, unfolding(crate::specs::Vol::vol_faults))]
 pub fn read_vol(words: &[String]) -> Result<Gain, Mark>
     ensures { Finds result (vol_faults (texts words.now)) (vol_gain (texts words.now)) }
 {
