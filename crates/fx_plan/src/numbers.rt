@@ -28,6 +28,7 @@ fn time_cause(fault: TimeFault) -> PlanCause
 }
 
 /// The gain that a word is.
+#[tactic(auto, unfolding(crate::specs::Numbers::gain_in))]
 pub fn read_gain(word: &str) -> Result<Gain, PlanCause>
     ensures { result ≡ gain_in word.now }
 {
@@ -38,6 +39,7 @@ pub fn read_gain(word: &str) -> Result<Gain, PlanCause>
 }
 
 /// The gain from 0 to so many units that a word is.
+#[tactic(auto, unfolding(crate::specs::Numbers::gain_up_to))]
 pub fn read_gain_up_to(most: u32, word: &str) -> Result<Gain, PlanCause>
     requires { most ≤ 1000 }
     ensures { result ≡ gain_up_to most word.now }
@@ -50,6 +52,7 @@ pub fn read_gain_up_to(most: u32, word: &str) -> Result<Gain, PlanCause>
 }
 
 /// The frames of the time that a word is.
+#[tactic(auto, unfolding(crate::specs::Numbers::frames_in))]
 pub fn read_frames(rate: u32, word: &str) -> Result<u64, PlanCause>
     requires { 0 < rate }
     ensures { result ≡ frames_in rate word.now }
@@ -61,6 +64,7 @@ pub fn read_frames(rate: u32, word: &str) -> Result<u64, PlanCause>
 }
 
 /// The frames of the delay in milliseconds that a word is.
+#[tactic(auto, unfolding(crate::specs::Numbers::delay_in))]
 pub fn read_delay(rate: u32, word: &str) -> Result<u64, PlanCause>
     requires { 0 < rate }
     ensures { result ≡ delay_in rate word.now }
@@ -72,6 +76,7 @@ pub fn read_delay(rate: u32, word: &str) -> Result<u64, PlanCause>
 }
 
 /// The position that a word is.
+#[tactic(auto, unfolding(crate::specs::Numbers::position_in))]
 pub fn read_position(rate: u32, default: Anchor, previous: At, word: &str) -> Result<At, PlanCause>
     requires { 0 < rate }
     ensures { result ≡ position_in rate default previous word.now }

@@ -9,6 +9,7 @@ use crate::numbers::read_gain;
 use fx_fixed::{Gain, UNIT};
 
 /// The shift from -2 to 2 that a word is.
+#[tactic(auto, unfolding(crate::specs::DcShift::shift_in))]
 fn read_shift(word: &str) -> Result<Gain, PlanCause>
     ensures value { result ≡ shift_in word.now }
     ensures range { IfOk result (λ shift. unsigned_abs shift ≤ 2 * UNIT) }
