@@ -1,12 +1,12 @@
 -- The words of an echo without a fault are within the limits.
-use Rattle.std.proofs.Common.{◌≡◌, ℕ, ◌+◌, ◌*◌, ◌≤◌, pos, unsigned_abs, true, nat_le, List, [], ◌∷◌, ◌++◌, length, Ok, refl, sym, ap, ◌∙◌, arith}
+use Rattle.std.proofs.Common.{◌≡◌, ℕ, ◌+◌, ◌*◌, ◌≤◌, pos, unsigned_abs, true, nat_le, List, [], ◌∷◌, ◌++◌, length, refl, arith}
 use Rattle.std.specs.List.{list_all}
 use Rattle.std.specs.Result.{result_unwrap_or}
 use Rattle.std.proofs.lemmas.Bool.{and_from, le-leb}
 use Rattle.fx_fixed.specs.declared.gains.TheConstants.{UNIT}
 use Rattle.fx_plan.specs.Faults.{Word, fault_at}
 use Rattle.fx_plan.specs.Numbers.{delay_in, gain_up_to}
-use Rattle.fx_plan.specs.Echo.{Echoes, are_echoes, is_tap, tap_faults, taps}
+use Rattle.fx_plan.specs.Echo.{are_echoes, echoing, is_tap, tap_faults, taps, word_faults}
 use Rattle.fx_plan.proofs.Ranges.{delay_later, gain_small, kept, no_faults}
 
 -- the pairs of an echo
@@ -31,14 +31,16 @@ taps_some rate [] h = absurd (omega arith)
 taps_some rate (delay ∷ []) h = absurd (omega arith)
 taps_some rate (delay ∷ decay ∷ words) h = omega arith
 
--- an echo whose words were read one after the other
-pub echo_fits : (rate : ℕ) (words : List Word) (first : Word) (e : Echoes) → Ok e.gain_in ≡ gain_up_to 1 first → (tap_faults rate 4 words ≡ []) × (e.taps ≡ taps rate words) → 2 ≤ length words → length words ≤ 14 → are_echoes e ≡ true
-echo_fits rate words first e gain read least most =
-    let small : nat_le (unsigned_abs e.gain_in) UNIT ≡ true = rw (sym gain) at (gain_small 1 first) in
+-- an echo of words without a fault
+pub echoing_fits : (rate : ℕ) (words : List Word) → word_faults rate words ≡ [] → 4 ≤ length words → length words ≤ 16 → are_echoes (echoing rate words) ≡ true
+echoing_fits rate [] h least most = absurd (omega arith)
+echoing_fits rate (first ∷ []) h least most = absurd (omega arith)
+echoing_fits rate (first ∷ second ∷ words) h least most =
+    let behind = no_faults (fault_at 2 (gain_up_to 1 first)) (fault_at 3 (gain_up_to 1000 second) ++ tap_faults rate 4 words) h in
+    let pairs = no_faults (fault_at 3 (gain_up_to 1000 second)) (tap_faults rate 4 words) behind.1 in
+    let small = kept (λ g. nat_le (unsigned_abs g) (1 * UNIT) ≡ true) 2 (gain_up_to 1 first) (pos 0) behind.0 (gain_small 1 first) in
     let few = taps_few rate words in
-    let some = taps_some rate words least in
-    let count : length e.taps ≡ length (taps rate words) = ap length read.1 in
-    let fit : list_all is_tap e.taps ≡ true = ap (list_all is_tap) read.1 ∙ taps_fit rate 4 words read.0 in
-    let low : nat_le 1 (length e.taps) ≡ true = le-leb 1 (length e.taps) (omega arith) in
-    let high : nat_le (length e.taps) 7 ≡ true = le-leb (length e.taps) 7 (omega arith) in
-    and_from _ _ small (and_from _ _ low (and_from _ _ high fit))
+    let some = taps_some rate words (omega arith) in
+    let low : nat_le 1 (length (taps rate words)) ≡ true = le-leb 1 (length (taps rate words)) (omega arith) in
+    let high : nat_le (length (taps rate words)) 7 ≡ true = le-leb (length (taps rate words)) 7 (omega arith) in
+    and_from _ _ small (and_from _ _ low (and_from _ _ high (taps_fit rate 4 words pairs.1)))

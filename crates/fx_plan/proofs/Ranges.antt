@@ -53,6 +53,7 @@ time_by-near (Ok terms) =
 time_by-near (Err fault) = tt
 
 pub frames_near : (rate : ℕ) (word : Word) → IfOk (frames_in rate word) (λ n. n ≤ 2 ^ 40)
+unfolding frames_in
 frames_near rate word = with_cause-kept IsNear time_cause (time_of rate word) (time_by-near (terms_of rate word))
 
 -- a delay is at least a frame
@@ -77,6 +78,7 @@ millis_of-later rate text =
     (unless_fault IsLater large TooFar (cond signed (Err Negative) frames) (unless_fault IsLater signed Negative frames later))
 
 pub delay_later : (rate : ℕ) (word : Word) → IfOk (delay_in rate word) (λ n. 1 ≤ n)
+unfolding delay_in
 delay_later rate word = with_cause-kept IsLater time_cause (millis_of rate word) (millis_of-later rate word)
 
 -- a gain up to so many units is no greater
@@ -94,6 +96,7 @@ is_beyond-not most gain h =
     le-leb (unsigned_abs gain) (most * UNIT) (ltb-false (most * UNIT) (unsigned_abs gain) parts.1)
 
 pub gain_small : (most : ℕ) (word : Word) → IfOk (gain_up_to most word) (λ gain. nat_le (unsigned_abs gain) (most * UNIT) ≡ true)
+unfolding gain_up_to
 gain_small most word =
     weaker (λ gain. (is_below gain || is_beyond most gain) ≡ false) (λ gain. nat_le (unsigned_abs gain) (most * UNIT) ≡ true) (gain_up_to most word)
     (is_beyond-not most) (unless-passes (λ gain. is_below gain || is_beyond most gain) (gain_in word))

@@ -7,10 +7,10 @@ use Rattle.fx_plan.specs.declared.fault.PlanCause.TheVariants.{WrongCount, NotIn
 use Rattle.fx_plan.specs.Faults.{Word, mark, when, fault_at}
 use Rattle.fx_plan.specs.Numbers.{gain_in, is_beyond, unless}
 
-abbrev pub shift_in : Word → Result ℤ PlanCause
+unfoldable pub shift_in : Word → Result ℤ PlanCause
 shift_in word = unless (is_beyond 2) (gain_in word)
 
-abbrev pub shift_faults : List Word → List Mark
+unfoldable pub shift_faults : List Word → List Mark
 shift_faults [] = mark WrongCount 1 ∷ []
 shift_faults (shift ∷ more) =
     when (nat_lt 1 (length more)) (mark WrongCount 4)

@@ -35,7 +35,7 @@ delays rate previous (word ∷ words) = elim (delay_at rate previous word) [
   | Ok delay ↦ delay ∷ delays rate delay words
 ]
 
-abbrev pub delay_faults : ℕ → ℕ → List Word → List Mark
+unfoldable pub delay_faults : ℕ → ℕ → List Word → List Mark
 delay_faults rate channels words =
     when (nat_eq (length words) 0) (mark WrongCount 1)
     ++ (when (nat_lt channels (length words)) (mark NoSuchChannel (channels + 2))

@@ -55,7 +55,7 @@ word_faults rate (gain_in ∷ gain_out ∷ words) =
     ++ (fault_at 3 (gain_up_to 1000 gain_out)
     ++ tap_faults rate 4 words)
 
-abbrev pub echo_faults : ℕ → List Word → List Mark
+unfoldable pub echo_faults : ℕ → List Word → List Mark
 echo_faults rate words =
     when (nat_lt 16 (length words)) (mark WrongCount 18)
     ++ (when (nat_lt (length words) 4 || not (nat_eq (length words % 2) 0)) (mark WrongCount 1)

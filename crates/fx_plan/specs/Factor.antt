@@ -32,13 +32,13 @@ abbrev pub word_faults : List Word → List Mark
 word_faults words = when (nat_lt 1 (length words)) (mark WrongCount 3) ++ fault_at 2 (factor_of words)
 
 -- a new rate over 2^32 - 1 is refused
-abbrev pub upsample_faults : ℕ → List Word → List Mark
+unfoldable pub upsample_faults : ℕ → List Word → List Mark
 upsample_faults rate words =
     word_faults words
     ++ when (nat_lt (2 ^ 32 - 1) (rate * usable (factor_of words))) (mark RateTooLarge (factor_word words))
 
 -- a rate that is no multiple of the factor is refused
-abbrev pub downsample_faults : ℕ → List Word → List Mark
+unfoldable pub downsample_faults : ℕ → List Word → List Mark
 downsample_faults rate words =
     word_faults words
     ++ when (not (nat_eq (rate % usable (factor_of words)) 0)) (mark RateNotDivisible (factor_word words))

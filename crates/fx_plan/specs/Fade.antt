@@ -27,7 +27,7 @@ in_faults rate [] = []
 in_faults rate (word ∷ words) = fault_at 3 (frames_in rate word) ++ stop_faults rate words
 
 -- the type alone is too few words; any other type is left out
-abbrev pub fade_faults : ℕ → List Word → List Mark
+unfoldable pub fade_faults : ℕ → List Word → List Mark
 fade_faults rate [] = mark WrongCount 1 ∷ []
 fade_faults rate (type ∷ lengths) =
     when (nat_lt 3 (length lengths)) (mark WrongCount 6)

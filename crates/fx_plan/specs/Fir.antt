@@ -31,7 +31,7 @@ few_faults file [] = mark NotInProfile 1 ∷ []
 few_faults file (word ∷ []) = when (bytes_eq word (codes "-")) (mark NotInProfile 2) ++ file_faults file
 few_faults file (word ∷ next ∷ words) = each_faults 2 (word ∷ next ∷ words)
 
-abbrev pub fir_faults : List ℕ → List Word → List Mark
+unfoldable pub fir_faults : List ℕ → List Word → List Mark
 fir_faults file words = when (nat_lt 1024 (length words)) (mark WrongCount 1026) ++ few_faults file words
 
 abbrev pub coefficients : List ℕ → List Word → List ℤ

@@ -7,19 +7,19 @@ use Rattle.fx_plan.specs.declared.name.Name.TheVariants as names
 use Rattle.fx_plan.specs.Faults.{Word}
 
 -- effects that can begin only once all of the sound is there
-abbrev pub whole_sound : List Word
+unfoldable pub whole_sound : List Word
 whole_sound =
     codes "reverse" ∷ codes "norm" ∷ codes "repeat" ∷ []
 
 -- the filters of SoX that are left out
-abbrev pub filters : List Word
+unfoldable pub filters : List Word
 filters =
     codes "allpass" ∷ codes "band" ∷ codes "bandpass" ∷ codes "bandreject" ∷ codes "bass" ∷ codes "biquad" ∷
     codes "deemph" ∷ codes "equalizer" ∷ codes "highpass" ∷ codes "hilbert" ∷ codes "lowpass" ∷ codes "riaa" ∷
     codes "sinc" ∷ codes "treble" ∷ []
 
 -- the other effects of SoX
-abbrev pub others : List Word
+unfoldable pub others : List Word
 others =
     codes "bend" ∷ codes "channels" ∷ codes "chorus" ∷ codes "compand" ∷ codes "contrast" ∷ codes "dither" ∷
     codes "earwax" ∷ codes "flanger" ∷ codes "gain" ∷ codes "ladspa" ∷ codes "loudness" ∷ codes "mcompand" ∷
@@ -38,7 +38,7 @@ refused_name word =
     else names.Other)
 
 -- what a word is where a name may stand
-abbrev pub name_of : Word → Name
+unfoldable pub name_of : Word → Name
 name_of word =
     if bytes_eq word (codes "trim") then names.Trim
     else (if bytes_eq word (codes "pad") then names.Pad

@@ -38,7 +38,7 @@ within passes (Ok x) = if passes x then Ok x else Err OutOfRange
 within passes (Err cause) = Err cause
 
 -- the gain that a word is
-abbrev pub gain_in : Word → Result ℤ PlanCause
+unfoldable pub gain_in : Word → Result ℤ PlanCause
 gain_in word = with_cause number_cause (gain_of UNIT word)
 
 -- a gain is below zero, or more than so many units in magnitude
@@ -54,18 +54,18 @@ unless refuses (Ok x) = if refuses x then Err OutOfRange else Ok x
 unless refuses (Err cause) = Err cause
 
 -- the gain from 0 to so many units that a word is
-abbrev pub gain_up_to : ℕ → Word → Result ℤ PlanCause
+unfoldable pub gain_up_to : ℕ → Word → Result ℤ PlanCause
 gain_up_to most word = unless (λ gain. is_below gain || is_beyond most gain) (gain_in word)
 
 -- the frames of the time, and of the delay in milliseconds, that a word is
-abbrev pub frames_in : ℕ → Word → Result ℕ PlanCause
+unfoldable pub frames_in : ℕ → Word → Result ℕ PlanCause
 frames_in rate word = with_cause time_cause (time_of rate word)
 
-abbrev pub delay_in : ℕ → Word → Result ℕ PlanCause
+unfoldable pub delay_in : ℕ → Word → Result ℕ PlanCause
 delay_in rate word = with_cause time_cause (millis_of rate word)
 
 -- the position that a word is
-abbrev pub position_in : ℕ → Anchor → At → Word → Result At PlanCause
+unfoldable pub position_in : ℕ → Anchor → At → Word → Result At PlanCause
 position_in rate default previous word = with_cause time_cause (position_of rate default previous word)
 
 -- where the first position of each effect is counted from

@@ -76,7 +76,7 @@ lengths rate number previous (word ∷ words) = elim (numbered rate number previ
   | Ok pad ↦ pad ∷ lengths rate (number + 1) pad.1 words
 ]
 
-abbrev pub pad_faults : ℕ → List Word → List Mark
+unfoldable pub pad_faults : ℕ → List Word → List Mark
 pad_faults rate words =
     when (nat_eq (length words) 0) (mark WrongCount 1)
     ++ (when (nat_lt 64 (length words)) (mark WrongCount 66)

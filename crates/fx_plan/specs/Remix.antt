@@ -118,7 +118,7 @@ faults_behind channels before mixing specs =
     ++ (when (is_power mixing) (mark NotInProfile 2)
     ++ spec_faults channels (2 + before) specs))
 
-abbrev pub remix_faults : ℕ → List Word → List Mark
+unfoldable pub remix_faults : ℕ → List Word → List Mark
 remix_faults channels words = faults_behind channels (options_before (mixing_of words)) (mixing_of words) (specs_of words)
 
 abbrev pub remixed : ℕ → List Word → List (List (ℕ × Weight))

@@ -37,7 +37,7 @@ order_faults number [] = []
 order_faults number (p ∷ []) = []
 order_faults number (p ∷ q ∷ ps) = when (is_behind p q) (mark PositionBehind number) ++ order_faults (number + 1) (q ∷ ps)
 
-abbrev pub trim_faults : ℕ → List Word → List Mark
+unfoldable pub trim_faults : ℕ → List Word → List Mark
 trim_faults rate words =
     when (nat_eq (length words) 0) (mark WrongCount 1)
     ++ (when (nat_lt 64 (length words)) (mark WrongCount 66)

@@ -9,18 +9,18 @@ use Rattle.fx_plan.specs.Faults.{Word, mark, when, fault_at}
 use Rattle.fx_plan.specs.Numbers.{gain_in}
 
 -- a gain with a type that is left out at its end
-abbrev pub has_type : Word → Bool
+unfoldable pub has_type : Word → Bool
 has_type word = ends_with eqb word (codes "dB") || ends_with eqb word (codes "power")
 
 -- the faults of the words after the gain
-abbrev pub type_faults : List Word → List Mark
+unfoldable pub type_faults : List Word → List Mark
 type_faults [] = []
 type_faults (type ∷ more) =
     when (bytes_eq type (codes "power") || bytes_eq type (codes "dB")) (mark NotInProfile 3)
     ++ (when (not (bytes_eq type (codes "amplitude"))) (mark BadArgument 3)
     ++ when (nat_lt 0 (length more)) (mark NotInProfile 4))
 
-abbrev pub vol_faults : List Word → List Mark
+unfoldable pub vol_faults : List Word → List Mark
 vol_faults [] = mark WrongCount 1 ∷ []
 vol_faults (gain ∷ more) =
     when (nat_lt 2 (length more)) (mark WrongCount 5)

@@ -134,16 +134,16 @@ impl Effect {
         ensures { IfOk result (λ copy. act copy ≡ act self.now) }
     {
         match self {
-            Effect::Trim(positions) => Ok(Effect::Trim(Vec::from_slice(alloc, positions)?)),
-            Effect::Pad(pads) => Ok(Effect::Pad(Vec::from_slice(alloc, pads)?)),
-            Effect::Delay(delays) => Ok(Effect::Delay(Vec::from_slice(alloc, delays)?)),
-            Effect::Echo(echo) => Ok(Effect::Echo(copy_echo(alloc, echo)?)),
-            Effect::Echos(echos) => Ok(Effect::Echos(copy_echo(alloc, echos)?)),
+            Effect::Trim(positions) => Vec::from_slice(alloc, positions).map(Effect::Trim),
+            Effect::Pad(pads) => Vec::from_slice(alloc, pads).map(Effect::Pad),
+            Effect::Delay(delays) => Vec::from_slice(alloc, delays).map(Effect::Delay),
+            Effect::Echo(echo) => copy_echo(alloc, echo).map(Effect::Echo),
+            Effect::Echos(echos) => copy_echo(alloc, echos).map(Effect::Echos),
             Effect::Fade(fade) => Ok(Effect::Fade(*fade)),
             Effect::Vol(gain) => Ok(Effect::Vol(*gain)),
             Effect::DcShift(shift) => Ok(Effect::DcShift(*shift)),
-            Effect::Fir(gains) => Ok(Effect::Fir(Vec::from_slice(alloc, gains)?)),
-            Effect::Remix(specs) => Ok(Effect::Remix(copy_specs(alloc, specs)?)),
+            Effect::Fir(gains) => Vec::from_slice(alloc, gains).map(Effect::Fir),
+            Effect::Remix(specs) => copy_specs(alloc, specs).map(Effect::Remix),
             Effect::Upsample(factor) => Ok(Effect::Upsample(*factor)),
             Effect::Downsample(factor) => Ok(Effect::Downsample(*factor)),
         }
@@ -167,16 +167,16 @@ fn read_named(
 {
     let rate = layout.rate;
     match name {
-        Name::Trim => Ok(Effect::Trim(read_trim(alloc, rate, words)?)),
-        Name::Pad => Ok(Effect::Pad(read_pad(alloc, rate, words)?)),
-        Name::Delay => Ok(Effect::Delay(read_delay_words(alloc, rate, layout.channels, words)?)),
-        Name::Echo => Ok(Effect::Echo(read_echo(alloc, rate, words)?)),
-        Name::Echos => Ok(Effect::Echos(read_echo(alloc, rate, words)?)),
+        Name::Trim => read_trim(alloc, rate, words).map(Effect::Trim),
+        Name::Pad => read_pad(alloc, rate, words).map(Effect::Pad),
+        Name::Delay => read_delay_words(alloc, rate, layout.channels, words).map(Effect::Delay),
+        Name::Echo => read_echo(alloc, rate, words).map(Effect::Echo),
+        Name::Echos => read_echo(alloc, rate, words).map(Effect::Echos),
         Name::Fade => Ok(Effect::Fade(read_fade(rate, words)?)),
         Name::Vol => Ok(Effect::Vol(read_vol(words)?)),
         Name::DcShift => Ok(Effect::DcShift(read_dcshift(words)?)),
-        Name::Fir => Ok(Effect::Fir(read_fir(alloc, file, words)?)),
-        Name::Remix => Ok(Effect::Remix(read_remix(alloc, layout.channels as u32, words)?)),
+        Name::Fir => read_fir(alloc, file, words).map(Effect::Fir),
+        Name::Remix => read_remix(alloc, layout.channels as u32, words).map(Effect::Remix),
         Name::Upsample => Ok(Effect::Upsample(read_upsample(rate, words)?)),
         Name::Downsample => Ok(Effect::Downsample(read_downsample(rate, words)?)),
         Name::WholeSound => Err(marked(PlanCause::NeedsWholeSound, 1)),

@@ -1,7 +1,66 @@
 //! The names of effects.
 
 ghost use Rattle.std.specs.Prelude.{◌≡◌};
+ghost use Rattle.std.specs.List.{list_any};
+ghost use Rattle.std.specs.Str.{bytes_eq};
 ghost use Rattle.fx_plan.specs.Names.{filters, is_one_of, name_of, others, whole_sound};
+
+/// Effects that can begin only once all of the sound is there.
+const WHOLE_SOUND: [&str; 3] = ["reverse", "norm", "repeat"];
+
+/// The filters of SoX that are left out.
+const FILTERS: [&str; 14] = [
+    "allpass",
+    "band",
+    "bandpass",
+    "bandreject",
+    "bass",
+    "biquad",
+    "deemph",
+    "equalizer",
+    "highpass",
+    "hilbert",
+    "lowpass",
+    "riaa",
+    "sinc",
+    "treble",
+];
+
+/// The other effects of SoX that are left out.
+const OTHERS: [&str; 32] = [
+    "bend",
+    "channels",
+    "chorus",
+    "compand",
+    "contrast",
+    "dither",
+    "earwax",
+    "flanger",
+    "gain",
+    "ladspa",
+    "loudness",
+    "mcompand",
+    "noiseprof",
+    "noisered",
+    "oops",
+    "overdrive",
+    "phaser",
+    "pitch",
+    "rate",
+    "reverb",
+    "silence",
+    "spectrogram",
+    "speed",
+    "splice",
+    "stat",
+    "stats",
+    "stretch",
+    "swap",
+    "synth",
+    "tempo",
+    "tremolo",
+    "vad",
+];
 
 /// What a word is where the name of an effect may stand.
 #[derive(Clone, Copy, Debug, Drop, PartialEq, Eq)]
@@ -26,78 +85,44 @@ pub enum Name {
     Other,
 }
 
+/// Whether a word is one of these names.
+fn is_among(word: &str, names: &[&str]) -> bool
+    ensures { result ≡ list_any (λ name. bytes_eq word.now name.now) names.now }
+{
+    for name in names {
+        if word == *name {
+            return true;
+        }
+    }
+    false
+}
+
 /// Whether a word names an effect that can begin only once all of the sound is there.
+#[tactic(auto, unfolding(crate::specs::Names::whole_sound))]
 fn needs_whole_sound(word: &str) -> bool
     ensures { result ≡ is_one_of whole_sound word.now }
 {
-    matches!(word, "reverse" | "norm" | "repeat")
+    is_among(word, &WHOLE_SOUND)
 }
 
 /// Whether a word names a filter of SoX that is left out.
+#[tactic(auto, unfolding(crate::specs::Names::filters))]
 fn is_filter(word: &str) -> bool
     ensures { result ≡ is_one_of filters word.now }
 {
-    matches!(
-        word,
-        "allpass"
-            | "band"
-            | "bandpass"
-            | "bandreject"
-            | "bass"
-            | "biquad"
-            | "deemph"
-            | "equalizer"
-            | "highpass"
-            | "hilbert"
-            | "lowpass"
-            | "riaa"
-            | "sinc"
-            | "treble"
-    )
+    is_among(word, &FILTERS)
 }
 
 /// Whether a word names another effect of SoX that is left out.
+#[tactic(auto, unfolding(crate::specs::Names::others))]
 fn is_other_effect(word: &str) -> bool
     ensures { result ≡ is_one_of others word.now }
 {
-    matches!(
-        word,
-        "bend"
-            | "channels"
-            | "chorus"
-            | "compand"
-            | "contrast"
-            | "dither"
-            | "earwax"
-            | "flanger"
-            | "gain"
-            | "ladspa"
-            | "loudness"
-            | "mcompand"
-            | "noiseprof"
-            | "noisered"
-            | "oops"
-            | "overdrive"
-            | "phaser"
-            | "pitch"
-            | "rate"
-            | "reverb"
-            | "silence"
-            | "spectrogram"
-            | "speed"
-            | "splice"
-            | "stat"
-            | "stats"
-            | "stretch"
-            | "swap"
-            | "synth"
-            | "tempo"
-            | "tremolo"
-            | "vad"
-    )
+    is_among(word, &OTHERS)
 }
 
 /// What a word is where the name of an effect may stand.
+#[tactic(auto, unfolding(crate::specs::Names::name_of))]
 pub fn read_name(word: &str) -> Name
     ensures { result ≡ name_of word.now }
 {

@@ -28,16 +28,15 @@ fn time_cause(fault: TimeFault) -> PlanCause
 }
 
 /// The gain that a word is.
+#[tactic(auto, unfolding(crate::specs::Numbers::gain_in))]
 pub fn read_gain(word: &str) -> Result<Gain, PlanCause>
     ensures { result ≡ gain_in word.now }
 {
-    match Gain::parse(word) {
-        Ok(gain) => Ok(gain),
-        Err(fault) => Err(number_cause(fault)),
-    }
+    Gain::parse(word).map_err(number_cause)
 }
 
 /// The gain from 0 to so many units that a word is.
+#[tactic(auto, unfolding(crate::specs::Numbers::gain_up_to))]
 pub fn read_gain_up_to(most: u32, word: &str) -> Result<Gain, PlanCause>
     requires { most ≤ 1000 }
     ensures { result ≡ gain_up_to most word.now }
@@ -50,34 +49,28 @@ pub fn read_gain_up_to(most: u32, word: &str) -> Result<Gain, PlanCause>
 }
 
 /// The frames of the time that a word is.
+#[tactic(auto, unfolding(crate::specs::Numbers::frames_in))]
 pub fn read_frames(rate: u32, word: &str) -> Result<u64, PlanCause>
     requires { 0 < rate }
     ensures { result ≡ frames_in rate word.now }
 {
-    match TimeSpec::frames(word, rate) {
-        Ok(frames) => Ok(frames),
-        Err(fault) => Err(time_cause(fault)),
-    }
+    TimeSpec::frames(word, rate).map_err(time_cause)
 }
 
 /// The frames of the delay in milliseconds that a word is.
+#[tactic(auto, unfolding(crate::specs::Numbers::delay_in))]
 pub fn read_delay(rate: u32, word: &str) -> Result<u64, PlanCause>
     requires { 0 < rate }
     ensures { result ≡ delay_in rate word.now }
 {
-    match millis(word, rate) {
-        Ok(frames) => Ok(frames),
-        Err(fault) => Err(time_cause(fault)),
-    }
+    millis(word, rate).map_err(time_cause)
 }
 
 /// The position that a word is.
+#[tactic(auto, unfolding(crate::specs::Numbers::position_in))]
 pub fn read_position(rate: u32, default: Anchor, previous: At, word: &str) -> Result<At, PlanCause>
     requires { 0 < rate }
     ensures { result ≡ position_in rate default previous word.now }
 {
-    match Position::resolve(word, rate, default, previous) {
-        Ok(position) => Ok(position),
-        Err(fault) => Err(time_cause(fault)),
-    }
+    Position::resolve(word, rate, default, previous).map_err(time_cause)
 }

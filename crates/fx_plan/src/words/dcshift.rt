@@ -9,6 +9,7 @@ use crate::numbers::read_gain;
 use fx_fixed::{Gain, UNIT};
 
 /// The shift from -2 to 2 that a word is.
+#[tactic(auto, unfolding(crate::specs::DcShift::shift_in))]
 fn read_shift(word: &str) -> Result<Gain, PlanCause>
     ensures value { result ≡ shift_in word.now }
     ensures range { IfOk result (λ shift. unsigned_abs shift ≤ 2 * UNIT) }
@@ -21,6 +22,7 @@ fn read_shift(word: &str) -> Result<Gain, PlanCause>
 }
 
 /// The shift of a `dcshift` with these words after its name.
+#[tactic(auto, unfolding(crate::specs::DcShift::shift_faults))]
 pub fn read_dcshift(words: &[String]) -> Result<Gain, Mark>
     ensures read { Finds result (shift_faults (texts words.now)) (shift_gain (texts words.now)) }
     ensures range { IfOk result (λ shift. unsigned_abs shift ≤ 2 * UNIT) }

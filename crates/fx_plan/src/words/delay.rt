@@ -48,6 +48,7 @@ fn read_delays(alloc: Global, rate: u32, words: &[String]) -> Result<Vec<u64>, R
 }
 
 /// The delays in frames of a `delay` with these words after its name, at so many channels.
+#[tactic(auto, unfolding(crate::specs::Delay::delay_faults))]
 pub fn read_delay_words(
     alloc: Global,
     rate: u32,

@@ -1,8 +1,8 @@
 //! The words of `echo` and `echos`: two gains, and pairs of a delay and a decay.
 
-ghost use Rattle.std.specs.Prelude.{◌≡◌, ◌<◌, IfOk, length, true};
+ghost use Rattle.std.specs.Prelude.{◌≡◌, ◌<◌, ◌≤◌, IfOk, length, true};
 ghost use Rattle.fx_plan.specs.Faults.{Reads, texts};
-ghost use Rattle.fx_plan.specs.Echo.{are_echoes, echo_faults, echo_value, echoing, tap_faults, taps};
+ghost use Rattle.fx_plan.specs.Echo.{are_echoes, echo_faults, echo_value, echoing, tap_faults, taps, word_faults};
 
 use crate::fault::{PlanCause, Refusal, marked};
 use crate::numbers::{read_delay, read_gain_up_to};
@@ -56,23 +56,15 @@ fn read_taps(alloc: Global, rate: u32, words: &[String]) -> Result<Vec<(u64, Gai
     Ok(pairs)
 }
 
-/// What an `echo` or `echos` with these words after its name does.
-pub fn read_echo(alloc: Global, rate: u32, words: &[String]) -> Result<Echoing, Refusal>
-    requires { 0 < rate }
-    ensures read { Reads echo_value result (echo_faults rate (texts words.now)) (echoing rate (texts words.now)) }
-    ensures fit { IfOk result (λ echo. are_echoes (echo_value echo) ≡ true) }
+/// What an `echo` or `echos` with so many words after its name does.
+fn read_words(alloc: Global, rate: u32, words: &[String]) -> Result<Echoing, Refusal>
+    requires rate { 0 < rate }
+    requires few { length words.now < 17 }
+    requires enough { 4 ≤ length words.now }
+    ensures { Reads echo_value result (word_faults rate (texts words.now)) (echoing rate (texts words.now)) }
 {
-    if words.len() > MOST_WORDS {
-        return Err(marked(PlanCause::WrongCount, MOST_WORDS + 2));
-    }
-    if words.len() < 4 || words.len() % 2 != 0 {
-        return Err(marked(PlanCause::WrongCount, 1));
-    }
-    let Some((first, more)) = words.split_first() else {
-        return Err(marked(PlanCause::WrongCount, 1));
-    };
-    let Some((second, pairs)) = more.split_first() else {
-        return Err(marked(PlanCause::WrongCount, 1));
+    let [first, second, pairs @ ..] = words else {
+        unreachable!()
     };
     let gain_in = match read_gain_up_to(1, first) {
         Ok(gain) => gain,
@@ -88,4 +80,21 @@ pub fn read_echo(alloc: Global, rate: u32, words: &[String]) -> Result<Echoing, 
         gain_out,
         taps,
     })
+}
+
+/// What an `echo` or `echos` with these words after its name does.
+#[tactic(auto, unfolding(crate::specs::Echo::echo_faults))]
+pub fn read_echo(alloc: Global, rate: u32, words: &[String]) -> Result<Echoing, Refusal>
+    requires { 0 < rate }
+    ensures read { Reads echo_value result (echo_faults rate (texts words.now)) (echoing rate (texts words.now)) }
+    ensures fit { IfOk result (λ echo. are_echoes (echo_value echo) ≡ true) }
+{
+    if words.len() > MOST_WORDS {
+        return Err(marked(PlanCause::WrongCount, MOST_WORDS + 2));
+    }
+    if words.len() < 4 || words.len() % 2 != 0 {
+        return Err(marked(PlanCause::WrongCount, 1));
+    }
+    let echo = read_words(alloc, rate, words)?;
+    Ok(echo)
 }

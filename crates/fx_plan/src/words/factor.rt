@@ -69,6 +69,7 @@ fn read_factor_word(words: &[String]) -> Result<(u32, usize), Mark>
 }
 
 /// The factor of an `upsample` with these words after its name.
+#[tactic(auto, unfolding(crate::specs::Factor::upsample_faults))]
 pub fn read_upsample(rate: u32, words: &[String]) -> Result<u32, Mark>
     ensures read { Finds result (upsample_faults rate (texts words.now)) (usable (factor_of (texts words.now))) }
     ensures range { IfOk result (λ factor. (1 ≤ factor) × (factor ≤ 256) × (rate * factor < 2 ^ 32)) }
@@ -81,6 +82,7 @@ pub fn read_upsample(rate: u32, words: &[String]) -> Result<u32, Mark>
 }
 
 /// The factor of a `downsample` with these words after its name.
+#[tactic(auto, unfolding(crate::specs::Factor::downsample_faults))]
 pub fn read_downsample(rate: u32, words: &[String]) -> Result<u32, Mark>
     requires { 0 < rate }
     ensures read { Finds result (downsample_faults rate (texts words.now)) (usable (factor_of (texts words.now))) }

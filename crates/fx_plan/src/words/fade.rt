@@ -78,6 +78,7 @@ fn read_lengths(rate: u32, words: &[String]) -> Result<Fading, Mark>
 }
 
 /// What a `fade` with these words after its name does.
+#[tactic(auto, unfolding(crate::specs::Fade::fade_faults))]
 pub fn read_fade(rate: u32, words: &[String]) -> Result<Fading, Mark>
     requires { 0 < rate }
     ensures read { Finds result (fade_faults rate (texts words.now)) (fading rate (texts words.now)) }

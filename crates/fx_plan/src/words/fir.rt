@@ -49,6 +49,7 @@ fn read_file(alloc: Global, file: &[u8]) -> Result<Vec<Gain>, Refusal>
 }
 
 /// The coefficients of a `fir` with these words after its name, of which a single one names this file.
+#[tactic(auto, unfolding(crate::specs::Fir::fir_faults))]
 pub fn read_fir(alloc: Global, file: &[u8], words: &[String]) -> Result<Vec<Gain>, Refusal>
     ensures read { Reads (λ v. v.items) result (fir_faults file.now (texts words.now)) (coefficients file.now (texts words.now)) }
     ensures some { IfOk result (λ v. 1 ≤ length v.items) }

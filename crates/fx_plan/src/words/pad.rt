@@ -82,6 +82,7 @@ fn check_order(pads: &[(u64, At)]) -> Result<(), Mark>
 }
 
 /// The lengths and positions of a `pad` with these words after its name.
+#[tactic(auto, unfolding(crate::specs::Pad::pad_faults))]
 pub fn read_pad(alloc: Global, rate: u32, words: &[String]) -> Result<Vec<(u64, At)>, Refusal>
     requires { 0 < rate }
     ensures read { Reads (λ v. v.items) result (pad_faults rate (texts words.now)) (lengths rate 2 beginning (texts words.now)) }

@@ -217,6 +217,7 @@ fn read_behind(
 }
 
 /// The out-specs of a `remix` with these words after its name, at so many channels.
+#[tactic(auto, unfolding(crate::specs::Remix::remix_faults))]
 pub fn read_remix(alloc: Global, channels: u32, words: &[String]) -> Result<Vec<OutSpec>, Refusal>
     requires some { 1 ≤ channels }
     requires most { channels ≤ 16 }

@@ -70,6 +70,7 @@ fn check_order(positions: &[At]) -> Result<(), Mark>
 }
 
 /// The positions of a `trim` with these words after its name.
+#[tactic(auto, unfolding(crate::specs::Trim::trim_faults))]
 pub fn read_trim(alloc: Global, rate: u32, words: &[String]) -> Result<Vec<At>, Refusal>
     requires { 0 < rate }
     ensures { Reads (λ v. v.items) result (trim_faults rate (texts words.now)) (places rate beginning (texts words.now)) }

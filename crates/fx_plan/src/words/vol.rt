@@ -10,7 +10,7 @@ use crate::numbers::read_gain;
 use fx_fixed::Gain;
 
 /// Whether a gain has a type that is left out at its end.
-#[tactic(auto, using(std::proofs::lemmas::Str::Pattern::ends_text))]
+#[tactic(auto, using(std::proofs::lemmas::Str::Pattern::ends_text), unfolding(crate::specs::Vol::has_type))]
 fn has_type(word: &str) -> bool
     ensures { result ≡ Vol.has_type word.now }
 {
@@ -18,6 +18,7 @@ fn has_type(word: &str) -> bool
 }
 
 /// Refuses all words after the gain but `amplitude`.
+#[tactic(auto, unfolding(crate::specs::Vol::type_faults))]
 fn check_type(words: &[String]) -> Result<(), Mark>
     ensures { Finds result (type_faults (texts words.now)) tt }
 {
@@ -37,6 +38,7 @@ fn check_type(words: &[String]) -> Result<(), Mark>
 }
 
 /// The gain of a `vol` with these words after its name.
+#[tactic(auto, unfolding(crate::specs::Vol::vol_faults))]
 pub fn read_vol(words: &[String]) -> Result<Gain, Mark>
     ensures { Finds result (vol_faults (texts words.now)) (vol_gain (texts words.now)) }
 {
