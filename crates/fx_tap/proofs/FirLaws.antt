@@ -10,6 +10,7 @@ use Rattle.fx_frame.specs.Line.{Frames, pushed, channel_of}
 use Rattle.fx_frame.specs.Frozen.{IsStored}
 use Rattle.fx_frame.specs.Stage.{Gave, Took, Freezes, numbers_of}
 use Rattle.fx_tap.specs.Tapped.{sample_before}
+use Rattle.fx_tap.proofs.Counts.{flag-false, flag-le, flag-true}
 use Rattle.fx_tap.specs.Fir.{AreFirCounts, FirArguments, FirState, IsFir, centre, filtered_frame, filtered_at, filtered, fir_behind, fir_tail, fir_acts, arguments_of}
 use Rattle.fx_frame.specs.Lists.{tabulate}
 use Rattle.fx_transform.specs.Products.{sum_of_products}
@@ -256,18 +257,6 @@ pub by_flag : (ended made taken late : ℕ) → ended ≤ 1 → (ended ≡ 0 →
 by_flag zero made taken late flag running through = running refl
 by_flag (suc zero) made taken late flag running through = through (omega arith)
 by_flag (suc (suc n)) made taken late flag running through = absurd (omega arith)
-
-flag-le : (b : Bool) → cond b 1 0 ≤ 1
-flag-le true = omega arith
-flag-le false = omega arith
-
-flag-true : (b : Bool) → 1 ≤ cond b 1 0 → b ≡ true
-flag-true true some = refl
-flag-true false some = absurd (omega arith)
-
-flag-false : (b : Bool) → ◌≡◌ {A = ℕ} (cond b 1 0) 0 → b ≡ false
-flag-false true none = absurd (omega arith)
-flag-false false none = refl
 
 -- a stage of these arguments that froze to these frames and numbers has such counts
 pub counts-are : (s : FirState) (channels : ℕ) (h : List ℤ) (frames : List Samples) (numbers : List ℕ) → IsFir s → arguments_of s ≡ record { channels = channels; coefficients = h } → Freezes fir_acts s frames numbers
