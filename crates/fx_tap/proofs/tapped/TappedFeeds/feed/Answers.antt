@@ -45,3 +45,27 @@ returns-clause-fed g c =
     rw (← c.self-2.view_is)
     (block-fed taps g.met.T.Tapping.near s.arguments (record { arguments = s.arguments; line = s.line; hand = s.hand; hand_clips = s.hand_clips; tail = s.tail; taken = s.taken; given = s.given; clips = s.clips; ended = s.ended }) c.tap_many.new.line c.min-count.result c.tap_many.result c.args.input.now c.tap_many.new.output
     refl none zero quiet over even is.capacity is.line.within long ensured.frames ensured.clips ensured.line ensured.line_capacity ensured.line_channels)
+
+pub feed_by_frames-requires-clause-channels : goal.feed_by_frames-requires-clause-channels
+feed_by_frames-requires-clause-channels g c = c.requires.channels
+
+pub feed_by_frames-requires-clause-below_limit : goal.feed_by_frames-requires-clause-below_limit
+feed_by_frames-requires-clause-below_limit g c = c.requires.below_limit
+
+pub returns-then-is_some-clause-fed : goal.returns-then-is_some-clause-fed
+returns-then-is_some-clause-fed g c = c.feed_by_frames.ensures.fed
+
+pub returns-then-is_some-clause-read : goal.returns-then-is_some-clause-read
+returns-then-is_some-clause-read g c = c.feed_by_frames.ensures.read
+
+pub returns-then-is_some-clause-written : goal.returns-then-is_some-clause-written
+returns-then-is_some-clause-written g c = c.feed_by_frames.ensures.written
+
+pub returns-then-is_some-clause-behind : goal.returns-then-is_some-clause-behind
+returns-then-is_some-clause-behind g c = c.feed_by_frames.ensures.behind
+
+pub returns-then-is_some-clause-dry : goal.returns-then-is_some-clause-dry
+returns-then-is_some-clause-dry g c = c.feed_by_frames.ensures.dry
+
+pub returns-then-is_some-clause-used : goal.returns-then-is_some-clause-used
+returns-then-is_some-clause-used g c = c.feed_by_frames.ensures.used
