@@ -28,7 +28,7 @@ echo_many-requires-clause-lines c =
 
 pub echo_many-requires-clause-few : goal.echo_many-requires-clause-few
 echo_many-requires-clause-few c =
-    let both = both-have (length c.args.input.now) (length c.args.output.now) c.self-2.inside.channels c.min-count.result c.min-count.ensures in
+    let both = both-have (length c.args.input.now) (length c.args.output.now) c.self-2.inside.channels c.self-2.inside.channels c.min-count.result c.min-count.ensures in
     let limit = (rw (← c.self-2.view_is) at c.requires.below_limit) c.min-count.result both.0 in
     omega (arith, limit)
 
@@ -51,7 +51,7 @@ invariant_of-self c =
     let n : ℕ = c.min-count.result in
     let lines = rw c.deref_mut.ensures.value at c.echo_many.ensures.lines in
     let size : length c.echo_many.new.lines ≡ length s.lines = ap length lines ∙ length-rows s.arguments.channels s.lines (pieces s.arguments.channels n c.args.input.now) in
-    let both = both-have (length c.args.input.now) (length c.args.output.now) c.self-2.inside.channels c.min-count.result c.min-count.ensures in
+    let both = both-have (length c.args.input.now) (length c.args.output.now) c.self-2.inside.channels c.self-2.inside.channels c.min-count.result c.min-count.ensures in
     let limit = (rw (← c.self-2.view_is) at c.requires.below_limit) c.min-count.result both.0 in
     let sound = rw (c.deref_mut.ensures.value, c.deref.ensures.value) at c.echo_many.ensures.sound in
     rw (kept-lines c.self-2.inside.lines.len c.echo_many.new.lines c.self-2.inside.lines.items c.self-2.inside.lines.ok.0 size)
@@ -148,23 +148,23 @@ pub echo_many-requires-clause-channels : goal.echo_many-requires-clause-channels
 echo_many-requires-clause-channels c = rw (← c.self-2.view_is) at c.requires.channels
 
 pub echo_many-requires-clause-input : goal.echo_many-requires-clause-input
-echo_many-requires-clause-input c = (both-have (length c.args.input.now) (length c.args.output.now) c.self-2.inside.channels c.min-count.result c.min-count.ensures).0
+echo_many-requires-clause-input c = (both-have (length c.args.input.now) (length c.args.output.now) c.self-2.inside.channels c.self-2.inside.channels c.min-count.result c.min-count.ensures).0
 
 pub echo_many-requires-clause-output : goal.echo_many-requires-clause-output
-echo_many-requires-clause-output c = (both-have (length c.args.input.now) (length c.args.output.now) c.self-2.inside.channels c.min-count.result c.min-count.ensures).1
+echo_many-requires-clause-output c = (both-have (length c.args.input.now) (length c.args.output.now) c.self-2.inside.channels c.self-2.inside.channels c.min-count.result c.min-count.ensures).1
 
 pub overflow_add-self : goal.overflow_add-self
 overflow_add-self c =
     let s = c.self-2.inside in
     let over : s.ended ≡ false = search rules in
     let counted = rw over at c.self-2.invariant.0.counted in
-    let both = both-have (length c.args.input.now) (length c.args.output.now) c.self-2.inside.channels c.min-count.result c.min-count.ensures in
+    let both = both-have (length c.args.input.now) (length c.args.output.now) c.self-2.inside.channels c.self-2.inside.channels c.min-count.result c.min-count.ensures in
     let limit = (rw (← c.self-2.view_is) at c.requires.below_limit) c.min-count.result both.0 in
     omega (arith, counted, limit, c.self-2.invariant.0.few_clips, c.echo_many.ensures.few)
 
 pub overflow_add-self-2 : goal.overflow_add-self-2
 overflow_add-self-2 c =
-    let both = both-have (length c.args.input.now) (length c.args.output.now) c.self-2.inside.channels c.min-count.result c.min-count.ensures in
+    let both = both-have (length c.args.input.now) (length c.args.output.now) c.self-2.inside.channels c.self-2.inside.channels c.min-count.result c.min-count.ensures in
     let limit = (rw (← c.self-2.view_is) at c.requires.below_limit) c.min-count.result both.0 in
     omega (arith, limit)
 
@@ -173,16 +173,16 @@ overflow_add-self-3 c =
     let s = c.self-2.inside in
     let over : s.ended ≡ false = search rules in
     let counted = rw over at c.self-2.invariant.0.counted in
-    let both = both-have (length c.args.input.now) (length c.args.output.now) c.self-2.inside.channels c.min-count.result c.min-count.ensures in
+    let both = both-have (length c.args.input.now) (length c.args.output.now) c.self-2.inside.channels c.self-2.inside.channels c.min-count.result c.min-count.ensures in
     let limit = (rw (← c.self-2.view_is) at c.requires.below_limit) c.min-count.result both.0 in
     omega (arith, counted, limit)
 
 pub returns-clause-read : goal.returns-clause-read
-returns-clause-read c = rw (← c.self-2.view_is) (both-have (length c.args.input.now) (length c.args.output.now) c.self-2.inside.channels c.min-count.result c.min-count.ensures).0
+returns-clause-read c = rw (← c.self-2.view_is) (both-have (length c.args.input.now) (length c.args.output.now) c.self-2.inside.channels c.self-2.inside.channels c.min-count.result c.min-count.ensures).0
 
 pub returns-clause-written : goal.returns-clause-written
 returns-clause-written c =
-    let both = both-have (length c.args.input.now) (length c.args.output.now) c.self-2.inside.channels c.min-count.result c.min-count.ensures in
+    let both = both-have (length c.args.input.now) (length c.args.output.now) c.self-2.inside.channels c.self-2.inside.channels c.min-count.result c.min-count.ensures in
     rw (← c.self-2.view_is) (omega (arith, both.1, c.echo_many.auto.output))
 
 pub returns-clause-behind : goal.returns-clause-behind
@@ -200,4 +200,4 @@ pub returns-clause-used : goal.returns-clause-used
 returns-clause-used c =
     let some = rw (← c.self-2.view_is) at c.requires.channels in
     rw (← c.self-2.view_is)
-    (λ room over spent. no-more (length c.args.input.now) (length c.args.output.now) c.self-2.inside.channels c.min-count.result (omega (arith, some.0)) c.min-count.ensures (omega (arith, room, c.echo_many.auto.output)))
+    (λ room over spent. no-more (length c.args.input.now) (length c.args.output.now) c.self-2.inside.channels c.self-2.inside.channels c.min-count.result (omega (arith, some.0)) (omega (arith, some.0)) c.min-count.ensures (omega (arith, room, c.echo_many.auto.output)))

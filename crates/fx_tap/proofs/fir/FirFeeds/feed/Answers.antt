@@ -89,28 +89,28 @@ filter_frames-requires-clause-taps c = c.self-2.invariant.count
 
 pub filter_frames-requires-clause-few : goal.filter_frames-requires-clause-few
 filter_frames-requires-clause-few c =
-    let both = both-have (length c.args.input.now) (length c.args.output.now) c.self-2.inside.channels c.min-count.result c.min-count.ensures in
+    let both = both-have (length c.args.input.now) (length c.args.output.now) c.self-2.inside.channels c.self-2.inside.channels c.min-count.result c.min-count.ensures in
     let limit = (rw (← c.self-2.view_is) at c.requires.below_limit) c.min-count.result both.0 in
     omega (arith, limit)
 
 pub filter_frames-requires-clause-input : goal.filter_frames-requires-clause-input
-filter_frames-requires-clause-input c = (both-have (length c.args.input.now) (length c.args.output.now) c.self-2.inside.channels c.min-count.result c.min-count.ensures).0
+filter_frames-requires-clause-input c = (both-have (length c.args.input.now) (length c.args.output.now) c.self-2.inside.channels c.self-2.inside.channels c.min-count.result c.min-count.ensures).0
 
 pub filter_frames-requires-clause-output : goal.filter_frames-requires-clause-output
-filter_frames-requires-clause-output c = (both-have (length c.args.input.now) (length c.args.output.now) c.self-2.inside.channels c.min-count.result c.min-count.ensures).1
+filter_frames-requires-clause-output c = (both-have (length c.args.input.now) (length c.args.output.now) c.self-2.inside.channels c.self-2.inside.channels c.min-count.result c.min-count.ensures).1
 
 pub overflow_add-self : goal.overflow_add-self
 overflow_add-self c =
     let s = c.self-2.inside in
     let over : s.ended ≡ false = search rules in
     let counted = rw over at c.self-2.invariant.counted in
-    let both = both-have (length c.args.input.now) (length c.args.output.now) s.channels c.min-count.result c.min-count.ensures in
+    let both = both-have (length c.args.input.now) (length c.args.output.now) s.channels s.channels c.min-count.result c.min-count.ensures in
     let limit = (rw (← c.self-2.view_is) at c.requires.below_limit) c.min-count.result both.0 in
     omega (arith, counted, limit, c.self-2.invariant.few_clips, c.filter_frames.ensures.few)
 
 pub overflow_add-self-2 : goal.overflow_add-self-2
 overflow_add-self-2 c =
-    let both = both-have (length c.args.input.now) (length c.args.output.now) c.self-2.inside.channels c.min-count.result c.min-count.ensures in
+    let both = both-have (length c.args.input.now) (length c.args.output.now) c.self-2.inside.channels c.self-2.inside.channels c.min-count.result c.min-count.ensures in
     let limit = (rw (← c.self-2.view_is) at c.requires.below_limit) c.min-count.result both.0 in
     omega (arith, limit)
 
@@ -119,7 +119,7 @@ overflow_add-self-3 c =
     let s = c.self-2.inside in
     let over : s.ended ≡ false = search rules in
     let counted = rw over at c.self-2.invariant.counted in
-    let both = both-have (length c.args.input.now) (length c.args.output.now) s.channels c.min-count.result c.min-count.ensures in
+    let both = both-have (length c.args.input.now) (length c.args.output.now) s.channels s.channels c.min-count.result c.min-count.ensures in
     let limit = (rw (← c.self-2.view_is) at c.requires.below_limit) c.min-count.result both.0 in
     omega (arith, counted, limit)
 
@@ -129,7 +129,7 @@ invariant_of-self c =
     let none : s.hand ≡ None = none-of s.hand (search rules) in
     let over : s.ended ≡ false = search rules in
     let full : length s.line.items ≡ s.line.capacity = search rules in
-    let both = both-have (length c.args.input.now) (length c.args.output.now) s.channels c.min-count.result c.min-count.ensures in
+    let both = both-have (length c.args.input.now) (length c.args.output.now) s.channels s.channels c.min-count.result c.min-count.ensures in
     let limit = (rw (← c.self-2.view_is) at c.requires.below_limit) c.min-count.result both.0 in
     let ensured = c.filter_frames.ensures in
     IsFir-block (record { channels = s.channels; backwards = s.kernel; line = s.line; hand = s.hand; hand_clips = s.hand_clips; tail = s.tail; taken = s.taken; given = s.given; clips = s.clips; ended = s.ended }) c.filter_frames.new.line c.min-count.result c.filter_frames.result
@@ -157,11 +157,11 @@ returns-clause-fed c =
     none zero quiet over even places is.line.within due ensured.frames ensured.clips ensured.line ensured.line_capacity ensured.line_channels)
 
 pub returns-clause-read : goal.returns-clause-read
-returns-clause-read c = rw (← c.self-2.view_is) (both-have (length c.args.input.now) (length c.args.output.now) c.self-2.inside.channels c.min-count.result c.min-count.ensures).0
+returns-clause-read c = rw (← c.self-2.view_is) (both-have (length c.args.input.now) (length c.args.output.now) c.self-2.inside.channels c.self-2.inside.channels c.min-count.result c.min-count.ensures).0
 
 pub returns-clause-written : goal.returns-clause-written
 returns-clause-written c =
-    let both = both-have (length c.args.input.now) (length c.args.output.now) c.self-2.inside.channels c.min-count.result c.min-count.ensures in
+    let both = both-have (length c.args.input.now) (length c.args.output.now) c.self-2.inside.channels c.self-2.inside.channels c.min-count.result c.min-count.ensures in
     rw (← c.self-2.view_is) (omega (arith, both.1, c.filter_frames.auto.output))
 
 pub returns-clause-behind : goal.returns-clause-behind
@@ -179,4 +179,4 @@ pub returns-clause-used : goal.returns-clause-used
 returns-clause-used c =
     let some = rw (← c.self-2.view_is) at c.requires.channels in
     rw (← c.self-2.view_is)
-    (λ room over spent. no-more (length c.args.input.now) (length c.args.output.now) c.self-2.inside.channels c.min-count.result (omega (arith, some.0)) c.min-count.ensures (omega (arith, room, c.filter_frames.auto.output)))
+    (λ room over spent. no-more (length c.args.input.now) (length c.args.output.now) c.self-2.inside.channels c.self-2.inside.channels c.min-count.result (omega (arith, some.0)) (omega (arith, some.0)) c.min-count.ensures (omega (arith, room, c.filter_frames.auto.output)))
