@@ -1,4 +1,4 @@
-use Rattle.std.proofs.Common.{arith, refl}
+use Rattle.std.proofs.Common.{arith}
 use Rattle.fx_tap.proofs.FirLaws.{late-is}
 use Rattle.fx_tap.proofs.fir.are_counts.Goals as goal
 

@@ -1,4 +1,4 @@
-use Rattle.std.proofs.Common.{arith, ◌≡◌, ◌≤◌, ◌+◌, ◌*◌, ◌^◌, refl, slice_index_or}
+use Rattle.std.proofs.Common.{arith, ◌≤◌, ◌*◌, ◌^◌, slice_index_or}
 use Rattle.std.proofs.Math.Nat.{mul-le-mul}
 use Rattle.fx_tap.proofs.tapped.are_counts.Goals as goal
 

@@ -1,4 +1,4 @@
-use Rattle.std.proofs.Common.{rules, ◌≡◌, ◌*◌, ◌+◌, ◌≤◌, ◌∙◌, ap, ℕ, false, length, refl, sym, arith}
+use Rattle.std.proofs.Common.{rules, ◌≡◌, ◌+◌, ◌∙◌, ap, ℕ, false, length, refl, sym, arith}
 use Rattle.std.specs.Prelude.{None}
 use Rattle.fx_frame.specs.Ring.{pieces}
 use Rattle.fx_tap.specs.EchoWeights.{Suits}

@@ -1,4 +1,4 @@
-use Rattle.std.proofs.Common.{rules, ◌≡◌, ◌+◌, ◌-◌, ◌*◌, ◌<◌, ◌≤◌, ◌^◌, ◌++◌, ◌∙◌, ap, ℕ, ℤ, List, cond, false, length, length-append, min, refl, reverse, sym, arith}
+use Rattle.std.proofs.Common.{rules, ◌≡◌, ◌+◌, ◌-◌, ◌*◌, ◌≤◌, ◌^◌, ◌++◌, ◌∙◌, ap, ℕ, ℤ, List, false, length, length-append, min, refl, reverse, sym, arith}
 use Rattle.std.specs.Prelude.{None}
 use Rattle.std.specs.Int.{w32}
 use Rattle.std.proofs.lemmas.List.{length-reverse}

@@ -1,4 +1,4 @@
-use Rattle.std.proofs.Common.{rules, refl, sym, ap, ◌∙◌, ◌≡◌, ◌≤◌, ◌+◌, ◌*◌, true, inl, inr, min, length, length-append, arith, slice_index_or}
+use Rattle.std.proofs.Common.{rules, refl, sym, ap, ◌∙◌, ◌≡◌, ◌≤◌, ◌+◌, true, inl, inr, min, length, length-append, arith, slice_index_or}
 use Rattle.std.specs.Prelude.{option_to_list}
 use Rattle.std.proofs.lemmas.Bool.Decides.{nat_tests}
 use Rattle.fx_frame.specs.Frozen.{IsStored}

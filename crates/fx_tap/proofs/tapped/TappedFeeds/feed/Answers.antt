@@ -1,4 +1,4 @@
-use Rattle.std.proofs.Common.{rules, ◌≡◌, ◌*◌, ◌^◌, ◌≤◌, ℕ, false, length, refl, arith, ◌<◌, ◌+◌}
+use Rattle.std.proofs.Common.{rules, ◌≡◌, ◌*◌, ◌^◌, ◌≤◌, ℕ, false, length, refl, arith, ◌<◌}
 use Rattle.std.specs.Prelude.{None}
 use Rattle.std.proofs.Math.Nat.{mul-le-mul}
 use Rattle.fx_frame.proofs.Pieces.{length-pieces}
