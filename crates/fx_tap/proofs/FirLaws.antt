@@ -1,15 +1,17 @@
 -- How a `Fir` behaves.
 use Rattle.std.proofs.Common.{ℕ, ℤ, pos, zero, suc, ◌+◌, ◌-◌, ◌<◌, ◌≤◌, ◌≡◌, Bool, true, false, cond, min, List, [], ◌∷◌, ◌++◌, length, drop, get_or, set, reverse, refl, sym, ap, ◌∙◌, arith, zero-add, append_assoc, append-nil}
-use Rattle.std.specs.Prelude.{slice_get, slice_index_or, Option, Some, None, nat_eq}
+use Rattle.std.specs.Prelude.{slice_get, slice_index_or, Option, Some, None, nat_eq, option_to_list}
 use Rattle.std.proofs.Math.Seq.{set-append_seam}
 use Rattle.std.proofs.lemmas.List.{length-append, length-drop, length-map, length-reverse, reverse-reverse, map-append, drop-append-le}
+use Rattle.std.proofs.lemmas.Bool.Decides.{nat_tests}
 use Rattle.std.proofs.lemmas.List.Sums.{sum_by-append}
 use Rattle.fx_frame.specs.Frame.{Samples}
 use Rattle.fx_frame.specs.Line.{Frames, pushed, channel_of}
 use Rattle.fx_frame.specs.Frozen.{IsStored}
 use Rattle.fx_frame.specs.Stage.{Gave, Took, Freezes, numbers_of}
 use Rattle.fx_tap.specs.Tapped.{sample_before}
-use Rattle.fx_tap.specs.Fir.{FirArguments, FirState, IsFir, centre, filtered_frame, filtered_at, filtered, fir_behind, fir_tail, fir_acts, arguments_of}
+use Rattle.fx_tap.proofs.Counts.{flag-false, flag-le, flag-true}
+use Rattle.fx_tap.specs.Fir.{AreFirCounts, FirArguments, FirState, IsFir, centre, filtered_frame, filtered_at, filtered, fir_behind, fir_tail, fir_acts, arguments_of}
 use Rattle.fx_frame.specs.Lists.{tabulate}
 use Rattle.fx_transform.specs.Products.{sum_of_products}
 use Rattle.fx_frame.specs.Rounded.{samples_of, clips_of, given_of}
@@ -238,3 +240,48 @@ thawed-is s channels h backwards line hand numbers made counted line_is hand_is 
     let wide : channels ≡ s.channels = sym (ap (λ (r : FirArguments). r.channels) made) in
     let back : backwards ≡ s.backwards = back_is ∙ sym (backwards_of s channels h made) in
     rw (wide, back, line_is, hand_is, counted, flag-is s.ended) refl
+
+-- how many frames are late, by whether the end came
+pub late-is : (ended taken behind late : ℕ) → late ≡ cond (nat_eq ended 0) (min taken behind) 0 → (ended ≡ 0 → late ≡ min taken behind) × (1 ≤ ended → late ≡ 0)
+late-is zero taken behind late e = (λ z. e, λ some. absurd (omega arith))
+late-is (suc n) taken behind late e =
+    let other : nat_eq (suc n) 0 ≡ false = grind (arith, nat_tests) in
+    (λ z. absurd (omega arith), λ some. rw other at e)
+
+-- the frames made, by whether the end came
+by_end : (b : Bool) (made taken late : ℕ) → made ≡ cond b taken (taken - late) → (◌≡◌ {A = ℕ} (cond b 1 0) 0 → made ≡ taken - late) × (1 ≤ cond b 1 0 → made ≡ taken)
+by_end true made taken late e = (λ z. absurd (omega arith), λ some. e)
+by_end false made taken late e = (λ z. e, λ some. absurd (omega arith))
+
+pub by_flag : (ended made taken late : ℕ) → ended ≤ 1 → (ended ≡ 0 → made ≡ taken - late) → (1 ≤ ended → made ≡ taken) → made ≡ cond (nat_eq ended 1) taken (taken - late)
+by_flag zero made taken late flag running through = running refl
+by_flag (suc zero) made taken late flag running through = through (omega arith)
+by_flag (suc (suc n)) made taken late flag running through = absurd (omega arith)
+
+-- a stage of these arguments that froze to these frames and numbers has such counts
+pub counts-are : (s : FirState) (channels : ℕ) (h : List ℤ) (frames : List Samples) (numbers : List ℕ) → IsFir s → arguments_of s ≡ record { channels = channels; coefficients = h } → Freezes fir_acts s frames numbers
+    → AreFirCounts (length h) (length frames) numbers
+counts-are s channels h frames numbers is made froze =
+    let same : length s.backwards ≡ length h = sym (length-reverse s.backwards) ∙ ap (λ (r : FirArguments). length r.coefficients) made in
+    let all : length (s.line.items ++ option_to_list s.hand) ≡ length s.line.items + length (option_to_list s.hand) = length-append s.line.items (option_to_list s.hand) in
+    let held = is.held in
+    let full = is.capacity in
+    let tail = is.tail_held in
+    let few = is.tail_few in
+    let sum = by_end s.ended (s.given + length (option_to_list s.hand) + s.tail) s.taken (centre (length s.backwards)) is.counted in
+    rw froze.counted
+    record {
+      flag = flag-le s.ended;
+      few = is.few;
+      all = ap length (sym froze.stored);
+      held = omega (arith, all, held, full, same);
+      running = λ z. let e = sum.0 z in omega (arith, e, same);
+      through = sum.1;
+      tail_held = omega (arith, tail, held, full, same);
+      tail_few = omega (arith, few, same);
+      not_ended = λ z. is.not_ended (flag-false s.ended z);
+      few_clips = is.few_clips;
+      hand_few = is.hand_few;
+      idle = is.idle;
+      over = λ some. is.over (flag-true s.ended some);
+    }

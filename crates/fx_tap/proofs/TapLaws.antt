@@ -1,14 +1,15 @@
 -- The steps of a stage that makes each frame of that frame and of those before it.
 use Rattle.std.proofs.Common.{ℕ, ℤ, pos, zero, suc, ◌+◌, ◌-◌, ◌<◌, ◌≤◌, ◌≡◌, Bool, true, false, cond, List, [], ◌∷◌, ◌++◌, length, drop, refl, sym, ap, ◌∙◌, min, arith, replicate, append_assoc, add-one, sub-one}
 use Rattle.std.proofs.Math.Nat.{suc-mul}
-use Rattle.std.specs.Prelude.{nat_le, Some, None, nat_eq, ◌^◌}
+use Rattle.std.specs.Prelude.{option_to_list, nat_le, Some, None, nat_eq, ◌^◌}
 use Rattle.std.specs.Int.{w32}
 use Rattle.std.proofs.lemmas.List.{length-append, length-drop, length-replicate, drop-append-le}
 use Rattle.fx_frame.specs.Frame.{Samples, silence, IsFrame}
 use Rattle.fx_frame.specs.Line.{Frames, pushed, IsLine}
-use Rattle.fx_frame.specs.Stage.{Gave, Took}
+use Rattle.fx_frame.specs.Stage.{Freezes, Gave, Took}
 use Rattle.fx_frame.specs.Lists.{tabulate}
-use Rattle.fx_tap.specs.Tapped.{Taps, TapState, IsTapState, IsNear, behind, tapped, tap_acts, sample_before}
+use Rattle.fx_tap.specs.Tapped.{AreTapCounts, Taps, TapState, IsTapState, IsNear, behind, tapped, tap_acts, sample_before}
+use Rattle.fx_tap.proofs.Counts.{flag-false, flag-le, flag-times, flag-true}
 use Rattle.fx_tap.proofs.DryLaws.{dry-hand, dry-tail, true_of}
 use Rattle.fx_tap.proofs.DelayLaws.{sample_before-append, sample_before-drop, quiet-after}
 use Rattle.fx_frame.proofs.Tabulate.{tabulate-same}
@@ -155,3 +156,24 @@ module _ {M : Type 0} (taps : Taps M) (near : IsNear taps) where
 pub ended-back : (b : Bool) → nat_eq (cond b 1 0) 1 ≡ b
 ended-back true = refl
 ended-back false = refl
+
+-- a stage of these arguments that froze to these frames and numbers has such counts
+pub counts-are : {M : Type 0} (taps : Taps M) (s : TapState M) (m : M) (frames : List Samples) (numbers : List ℕ) → IsTapState taps s → s.arguments ≡ m → Freezes (tap_acts taps) s frames numbers
+    → AreTapCounts (taps.reach m) (taps.most_clips m) (length frames) numbers
+counts-are taps s m frames numbers is same froze =
+    let all : length (s.line.items ++ option_to_list s.hand) ≡ length s.line.items + length (option_to_list s.hand) = length-append s.line.items (option_to_list s.hand) in
+    let held = is.held in
+    let reach : s.line.capacity ≡ taps.reach m = is.capacity ∙ ap taps.reach same in
+    rw froze.counted
+    record {
+      flag = flag-le s.ended;
+      few = is.few;
+      all = ap length (sym froze.stored);
+      counted = rw (← reach) (is.counted ∙ ap (λ n. s.taken + n) (flag-times s.ended s.line.capacity));
+      held = omega (arith, all, held, reach);
+      idle = is.idle;
+      over = λ some. is.over (flag-true s.ended some);
+      not_ended = λ z. is.not_ended (flag-false s.ended z);
+      few_clips = rw (← same) is.few_clips;
+      hand_few = rw (← same) is.hand_few;
+    }

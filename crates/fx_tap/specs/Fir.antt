@@ -96,6 +96,23 @@ pub record IsFir (s : FirState) : Type 0 where
   pub over : s.ended ≡ true → length (option_to_list s.hand) ≡ 0
   pub fits : IsHand s.channels s.hand
 
+-- what holds of the eight numbers of a stage with so many coefficients that stores so many frames: those taken and given,
+-- whether it ended, the clips, those stored, its tail, those in hand and the clips of these
+pub record AreFirCounts (count stored : ℕ) (numbers : List ℕ) : Type 0 where
+  pub flag : slice_index_or numbers 2 0 ≤ 1
+  pub few : slice_index_or numbers 0 0 ≤ most_taken
+  pub all : slice_index_or numbers 4 0 ≡ stored
+  pub held : slice_index_or numbers 4 0 ≡ slice_index_or numbers 6 0 + min (slice_index_or numbers 0 0) (count - 1)
+  pub running : slice_index_or numbers 2 0 ≡ 0 → slice_index_or numbers 1 0 + slice_index_or numbers 6 0 + slice_index_or numbers 5 0 ≡ slice_index_or numbers 0 0 - centre count
+  pub through : 1 ≤ slice_index_or numbers 2 0 → slice_index_or numbers 1 0 + slice_index_or numbers 6 0 + slice_index_or numbers 5 0 ≡ slice_index_or numbers 0 0
+  pub tail_held : slice_index_or numbers 5 0 ≤ min (slice_index_or numbers 0 0) (count - 1)
+  pub tail_few : slice_index_or numbers 5 0 ≤ centre count
+  pub not_ended : slice_index_or numbers 2 0 ≡ 0 → slice_index_or numbers 5 0 ≡ 0
+  pub few_clips : slice_index_or numbers 3 0 ≤ 16 * slice_index_or numbers 1 0
+  pub hand_few : slice_index_or numbers 7 0 ≤ 16
+  pub idle : slice_index_or numbers 6 0 ≡ 0 → slice_index_or numbers 7 0 ≡ 0
+  pub over : 1 ≤ slice_index_or numbers 2 0 → slice_index_or numbers 6 0 ≡ 0
+
 -- the frame in hand
 abbrev pub fir_hand : FirState → List Given
 fir_hand s = map (λ x. record { samples = x; clips = s.hand_clips }) (option_to_list s.hand)

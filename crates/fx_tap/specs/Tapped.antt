@@ -54,6 +54,20 @@ pub record TapState (M : Type 0) : Type 0 where
   pub clips : ℕ
   pub ended : Bool
 
+-- what holds of the eight numbers of a stage of such a reach, with so many clips a frame at the most, that stores so many
+-- frames: those taken and given, whether it ended, the clips, those stored, its tail, those in hand and the clips of these
+pub record AreTapCounts (reach most stored : ℕ) (numbers : List ℕ) : Type 0 where
+  pub flag : slice_index_or numbers 2 0 ≤ 1
+  pub few : slice_index_or numbers 0 0 ≤ most_taken
+  pub all : slice_index_or numbers 4 0 ≡ stored
+  pub counted : slice_index_or numbers 1 0 + slice_index_or numbers 6 0 + slice_index_or numbers 5 0 ≡ slice_index_or numbers 0 0 + slice_index_or numbers 2 0 * reach
+  pub held : slice_index_or numbers 4 0 ≡ slice_index_or numbers 6 0 + min (slice_index_or numbers 1 0 + slice_index_or numbers 6 0) reach
+  pub idle : slice_index_or numbers 6 0 ≡ 0 → slice_index_or numbers 7 0 ≡ 0
+  pub over : 1 ≤ slice_index_or numbers 2 0 → slice_index_or numbers 6 0 ≡ 0
+  pub not_ended : slice_index_or numbers 2 0 ≡ 0 → slice_index_or numbers 5 0 ≡ 0
+  pub few_clips : slice_index_or numbers 3 0 ≤ slice_index_or numbers 1 0 * most
+  pub hand_few : slice_index_or numbers 7 0 ≤ most
+
 module _ {M : Type 0} (taps : Taps M) where
   -- what is given for a whole sound
   abbrev pub tapped : M → List Samples → List Given

@@ -1,10 +1,11 @@
 use Rattle.std.proofs.Common.{rules, ◌≡◌, ◌<◌, ◌≤◌, ◌+◌, ◌*◌, ◌^◌, ◌∙◌, ap, List, ℕ, ℤ, pos, ◌+ℤ◌, ◌*ℤ◌, length, arith, slice_index_or, unsigned_abs, FitsSigned, add-one, to_z, of_z, below_more}
 use Rattle.std.specs.Int.{w32, w64}
 use Rattle.std.proofs.Math.Nat.{suc-mul}
-use Rattle.std.proofs.lemmas.Int.{fits_signed_from_abs, ints}
+use Rattle.std.proofs.lemmas.Int.{fits_signed_from_abs, ints, fits_signed_mul}
 use Rattle.std.proofs.lemmas.List.{get_or-set_other}
 use Rattle.fx_tap.proofs.Fractions.{held-64, plain-product-64}
 use Rattle.fx_tap.proofs.SumLaws.{added-more}
+use Rattle.fx_tap.proofs.ChannelPlaces.{within-frames}
 use Rattle.fx_tap.proofs.channels.add_channel.Goals as goal
 
 pub overflow_add-sums : goal.overflow_add-sums
@@ -64,3 +65,32 @@ frames-preserved c =
       seen = below_more _ _ c.frames.invariant.seen (rw (← there) sample);
       left = λ k l. get_or-set_other sums i k z (pos 0) (λ e. omega arith) ∙ c.frames.invariant.left k (omega arith);
     }
+
+pub bounds-frames-at : goal.bounds-frames-at
+bounds-frames-at c =
+    let far = within-frames c.args.channels c.args.channel c.frames.place (length c.args.sums.now) c.requires.channel (omega (arith, c.frames-test.true, c.frames.auto.sums)) in
+    omega (arith, far, c.frames.invariant.at_is, c.requires.frames)
+
+pub offset_bounds-frames-at : goal.offset_bounds-frames-at
+offset_bounds-frames-at c =
+    let far = within-frames c.args.channels c.args.channel c.frames.place (length c.args.sums.now) c.requires.channel (omega (arith, c.frames-test.true, c.frames.auto.sums)) in
+    let inside : c.frames.at < length c.args.frames.now = omega (arith, far, c.frames.invariant.at_is, c.requires.frames) in
+    search (rules, inside)
+
+pub overflow_mul-sums : goal.overflow_mul-sums
+overflow_mul-sums c =
+    fits_signed_mul w64 (to_z w64 (of_z w64 c.from.result)) (to_z w64 (of_z w64 c.from-factor.result)) (2 ^ 31) (2 ^ 31) (omega (arith, ints, c.from.ensures)) (omega (arith, ints, c.from-factor.ensures)) (omega arith)
+
+pub overflow_add-at : goal.overflow_add-at
+overflow_add-at c =
+    let far = within-frames c.args.channels c.args.channel c.frames.place (length c.args.sums.now) c.requires.channel (omega (arith, c.frames-test.true, c.frames.auto.sums)) in
+    let inside : c.frames.at < length c.args.frames.now = omega (arith, far, c.frames.invariant.at_is, c.requires.frames) in
+    search (rules, inside)
+
+pub returns-clause-added : goal.returns-clause-added
+returns-clause-added c =
+    let kept : to_z w32 (of_z w32 c.args.weight) ≡ c.args.weight = search rules in
+    λ i l. (rw kept at c.frames.invariant.added) i (omega (arith, l, c.frames-test.false, c.frames.auto.sums))
+
+pub returns-clause-samples : goal.returns-clause-samples
+returns-clause-samples c = λ i l. c.frames.invariant.seen i (omega (arith, l, c.frames-test.false, c.frames.auto.sums))

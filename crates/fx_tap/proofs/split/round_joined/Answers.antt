@@ -26,3 +26,29 @@ frames-preserved c =
       counted = ap (λ n. c.frames.clips + n) (c.from-clips.ensures ∙ byte_is c.rounded-sample.result.1) ∙ clips_of-next f k c.frames.clips c.rounded-sample.result.1 old.counted (ap (λ r. r.1) v);
       few = omega (arith, c.from-clips.ensures, one, old.few);
     }
+
+pub bounds-out-at : goal.bounds-out-at
+bounds-out-at c =
+    let far = within-frames c.args.channels c.args.channel c.frames.place (length c.args.low.now) c.requires.channel c.frames-test.true in
+    omega (arith, far, c.frames.invariant.at_is, c.requires.out, c.frames.auto.out)
+
+pub offset_bounds-out-at : goal.offset_bounds-out-at
+offset_bounds-out-at c =
+    let far = within-frames c.args.channels c.args.channel c.frames.place (length c.args.low.now) c.requires.channel c.frames-test.true in
+    let inside : c.frames.at < length c.frames.out = omega (arith, far, c.frames.invariant.at_is, c.requires.out, c.frames.auto.out) in
+    search (rules, inside)
+
+pub overflow_add-at : goal.overflow_add-at
+overflow_add-at c =
+    let far = within-frames c.args.channels c.args.channel c.frames.place (length c.args.low.now) c.requires.channel c.frames-test.true in
+    let inside : c.frames.at < length c.frames.out = omega (arith, far, c.frames.invariant.at_is, c.requires.out, c.frames.auto.out) in
+    search (rules, inside)
+
+pub returns-clause-put : goal.returns-clause-put
+returns-clause-put c = λ i l. c.frames.invariant.put i (omega (arith, l, c.frames-test.false))
+
+pub returns-clause-others : goal.returns-clause-others
+returns-clause-others c = c.frames.invariant.others
+
+pub returns-clause-few : goal.returns-clause-few
+returns-clause-few c = omega (arith, c.frames.invariant.few, c.frames-test.false)
