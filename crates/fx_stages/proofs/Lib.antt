@@ -2,5 +2,6 @@ pub mod KindLaws
 pub mod Making
 pub mod NarrowLaws
 pub mod RowParts
+pub mod Shapes
 pub mod Thawing
 pub mod Widths

@@ -1,6 +1,6 @@
 -- What a plan says of an effect is what its stage asks for.
 use Rattle.std.proofs.Common.{◌≡◌, ℕ, ◌≤◌, ◌<◌, List, [], ◌∷◌, ◌++◌, true, length, refl, arith, sym, ap, ◌∙◌}
-use Rattle.std.specs.Prelude.{Some, unsigned_abs, nat_le, nat_lt}
+use Rattle.std.specs.Prelude.{Some, unsigned_abs, nat_le, nat_lt, ◌&&◌}
 use Rattle.std.specs.List.{All, list_all}
 use Rattle.std.proofs.lemmas.Bool.{and_parts}
 use Rattle.std.proofs.lemmas.List.Elements.{All-cons, All-nil}
@@ -23,6 +23,15 @@ use Rattle.fx_stages.specs.Made.{all_suit, channels_after, recipe_for, recipes_f
 use Rattle.fx_frame.specs.Holds.{recipes}
 use Rattle.fx_plan.specs.Bounds.{hold_all, hold_of, line_of}
 use Rattle.std.proofs.lemmas.List.Sums.{sum_by-cons}
+
+-- what tests of numbers say
+pub no-more : (m n : ℕ) → nat_le m n ≡ true → m ≤ n
+no-more m n h = grind (arith, nat_tests)
+
+pub both-no-more : (k l m n : ℕ) → (nat_le k l && nat_le m n) ≡ true → (k ≤ l) × (m ≤ n)
+both-no-more k l m n h =
+    let parts = and_parts (nat_le k l) (nat_le m n) h in
+    (no-more k l parts.0, no-more m n parts.1)
 
 rises : (least : ℕ) (pads : List Length) → are_rising least (ats pads) ≡ true → RisesFrom least (ats pads)
 rises least [] h = tt
