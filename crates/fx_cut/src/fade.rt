@@ -556,7 +556,7 @@ impl Feeds for Fade {
         feed_by_pieces(self, input, output)
     }
 
-    #[inline(never)]
+    #[inline(never)] // so that the loop over frames stays small enough for its stages to stand inside
     fn pass_samples(&mut self, samples: &mut [i32]) -> Passing {
         let place = self.taken - self.line.len() as u64;
         self.taken += 1;

@@ -203,7 +203,7 @@ impl Feeds for EffectStage {
         each!(self, stage => stage.pass_samples(samples))
     }
 
-    #[inline(never)]
+    #[inline(never)] // so that the loop over frames stays small enough for its stages to stand inside
     fn pass_places(&mut self, places: &mut [i32; 16], channels: &mut usize) -> Passing {
         match self {
             EffectStage::Remix(stage) => stage.pass_places(places, channels),
