@@ -7,7 +7,7 @@ ghost use Rattle.fx_cut.specs.Downsample.{DownsampleState, IsDownsample, downsam
 ghost use Rattle.fx_cut.specs.Strides.{firsts};
 
 use crate::many::{PassesMany, feed_by_pieces};
-use fx_frame::frozen::thawed_hand;
+use fx_frame::frozen::{stored_hand, thawed_hand};
 use fx_frame::stage::MOST_TAKEN;
 use fx_frame::{Feeds, Frame, Passed, Stage, ThawFault, WideFrame};
 use std::marker::Model;
@@ -204,11 +204,8 @@ impl Stage for Downsample {
         ]
     }
 
-    fn stored(&self, _j: usize) -> WideFrame {
-        match self.hand {
-            Some(frame) => WideFrame::from_frame(frame),
-            None => WideFrame::from_frame(Frame::silence(1)),
-        }
+    fn stored(&self, j: usize) -> WideFrame {
+        stored_hand(self.hand, j)
     }
 }
 

@@ -17,7 +17,7 @@ use crate::many::{PassesMany, feed_by_pieces};
 use crate::slopes::{Slope, weigh_by};
 use fx_fixed::At;
 use fx_fixed::inner::{meant_stop, stop_line};
-use fx_frame::frozen::thawed_line_and_hand;
+use fx_frame::frozen::{stored_in, thawed_line_and_hand};
 use fx_frame::inner::{frame_of, places};
 use fx_frame::stage::MOST_TAKEN;
 use fx_frame::{Feeds, Frame, Line, Passed, Passing, Stage, ThawFault, WideFrame};
@@ -514,11 +514,7 @@ impl Stage for Fade {
     }
 
     fn stored(&self, j: usize) -> WideFrame {
-        let inside = self.line.get(j).or(self.hand);
-        match inside {
-            Some(frame) => WideFrame::from_frame(frame),
-            None => WideFrame::from_frame(Frame::silence(1)),
-        }
+        stored_in(&self.line, self.hand, j)
     }
 }
 

@@ -11,7 +11,7 @@ use crate::many::{PassesMany, feed_by_pieces, pass_by_frame};
 use fx_fixed::At;
 use fx_fixed::inner::{all_pads, greatest_pad_end};
 use fx_frame::feed::copy_frames;
-use fx_frame::frozen::thawed_line_and_hand;
+use fx_frame::frozen::{stored_in, thawed_line_and_hand};
 use fx_frame::stage::MOST_TAKEN;
 use fx_frame::{Feeds, Frame, Line, Passed, Passing, Stage, ThawFault, WideFrame};
 use std::alloc::{AllocError, Global};
@@ -437,11 +437,7 @@ impl Stage for Pad {
     }
 
     fn stored(&self, j: usize) -> WideFrame {
-        let inside = self.line.get(j).or(self.hand);
-        match inside {
-            Some(frame) => WideFrame::from_frame(frame),
-            None => WideFrame::from_frame(Frame::silence(1)),
-        }
+        stored_in(&self.line, self.hand, j)
     }
 }
 

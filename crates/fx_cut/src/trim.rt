@@ -13,7 +13,7 @@ use crate::lines::push_over;
 use crate::many::{PassesMany, feed_by_pieces};
 use fx_fixed::At;
 use fx_fixed::inner::greatest_end;
-use fx_frame::frozen::thawed_line_and_hand;
+use fx_frame::frozen::{stored_in, thawed_line_and_hand};
 use fx_frame::stage::MOST_TAKEN;
 use fx_frame::{Feeds, Frame, Line, Passed, Passing, Stage, ThawFault, WideFrame};
 use std::alloc::{AllocError, Global};
@@ -469,11 +469,7 @@ impl Stage for Trim {
     }
 
     fn stored(&self, j: usize) -> WideFrame {
-        let inside = self.line.get(j).or(self.hand);
-        match inside {
-            Some(frame) => WideFrame::from_frame(frame),
-            None => WideFrame::from_frame(Frame::silence(1)),
-        }
+        stored_in(&self.line, self.hand, j)
     }
 }
 

@@ -1,5 +1,5 @@
-//! What a stage stored, read again.
-ghost use Rattle.std.specs.Prelude.{◌≡◌, ◌≤◌, ◌^◌, ◌⊎◌, ℤ, IfOk, IfErr, Option, option_to_list};
+//! What a stage stores, frame by frame, and what it stored, read again.
+ghost use Rattle.std.specs.Prelude.{◌≡◌, ◌<◌, ◌≤◌, ◌^◌, ◌++◌, ◌⊎◌, [], ℤ, IfOk, IfErr, Option, length, option_to_list, slice_index_or};
 ghost use Rattle.std.specs.Int.{w32, w64};
 ghost use Rattle.fx_frame.specs.Frame.{Samples};
 ghost use Rattle.fx_frame.specs.Line.{Frames, IsLine};
@@ -12,6 +12,26 @@ use crate::stage::ThawFault;
 use crate::wide::WideFrame;
 use crate::wide_line::WideLine;
 use std::alloc::Global;
+
+/// The frame that a stage without a line stores at a place, from 0: the one in hand.
+pub fn stored_hand(hand: Option<Frame>, _place: usize) -> WideFrame
+    requires { _place < length (option_to_list hand) }
+    ensures { result ≡ slice_index_or (option_to_list hand) _place [] }
+{
+    let Some(frame) = hand else { unreachable!() };
+    WideFrame::from_frame(frame)
+}
+
+/// The frame that a stage stores at a place, from 0: those of its line from the oldest on, and then the one in hand.
+pub fn stored_in(line: &Line, hand: Option<Frame>, place: usize) -> WideFrame
+    requires { place < length (line.now.items ++ option_to_list hand) }
+    ensures { result ≡ slice_index_or (line.now.items ++ option_to_list hand) place [] }
+{
+    match line.get(place).or(hand) {
+        Some(frame) => WideFrame::from_frame(frame),
+        None => unreachable!(),
+    }
+}
 
 /// The frame in hand of a stage that stored these frames and has no line. BadSnapshot where there is
 /// more than one frame, or one of other channels or of wider samples.

@@ -22,6 +22,11 @@ flag-back zero h = refl
 flag-back (suc zero) h = refl
 flag-back (suc (suc n)) h = absurd (omega arith)
 
+-- the flag that its number stands for
+pub flag-of : (b : Bool) → nat_eq (cond b 1 0) 1 ≡ b
+flag-of true = refl
+flag-of false = refl
+
 -- what a flag says as a number
 pub flag-le : (b : Bool) → cond b 1 0 ≤ 1
 flag-le true = omega arith

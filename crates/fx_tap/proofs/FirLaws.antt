@@ -9,8 +9,8 @@ use Rattle.fx_frame.specs.Frame.{Samples}
 use Rattle.fx_frame.specs.Line.{Frames, pushed, channel_of}
 use Rattle.fx_frame.specs.Frozen.{IsStored}
 use Rattle.fx_frame.specs.Stage.{Gave, Took, Freezes, numbers_of}
-use Rattle.fx_tap.specs.Tapped.{sample_before}
-use Rattle.fx_tap.proofs.Counts.{flag-false, flag-le, flag-true}
+use Rattle.fx_tap.specs.Tapped.{by_name, sample_before}
+use Rattle.fx_tap.proofs.Counts.{flag-false, flag-le, flag-of, flag-true}
 use Rattle.fx_tap.specs.Fir.{AreFirCounts, FirArguments, FirState, IsFir, centre, filtered_frame, filtered_at, filtered, fir_behind, fir_tail, fir_acts, arguments_of}
 use Rattle.fx_frame.specs.Lists.{tabulate}
 use Rattle.fx_transform.specs.Products.{sum_of_products}
@@ -228,10 +228,6 @@ stored-is s channels h frames numbers is made froze =
       stored = froze.stored;
     }
 
-flag-is : (b : Bool) → nat_eq (cond b 1 0) 1 ≡ b
-flag-is true = refl
-flag-is false = refl
-
 -- and it is the stage that is made of them
 pub thawed-is : (s : FirState) (channels : ℕ) (h backwards : List ℤ) (line : Frames ℤ) (hand : Option Samples) (numbers : List ℕ) → arguments_of s ≡ record { channels = channels; coefficients = h } → numbers ≡ numbers_of fir_acts s
     → line ≡ s.line → hand ≡ s.hand → backwards ≡ reverse h
@@ -239,7 +235,7 @@ pub thawed-is : (s : FirState) (channels : ℕ) (h backwards : List ℤ) (line :
 thawed-is s channels h backwards line hand numbers made counted line_is hand_is back_is =
     let wide : channels ≡ s.channels = sym (ap (λ (r : FirArguments). r.channels) made) in
     let back : backwards ≡ s.backwards = back_is ∙ sym (backwards_of s channels h made) in
-    rw (wide, back, line_is, hand_is, counted, flag-is s.ended) refl
+    rw (wide, back, line_is, hand_is, counted, flag-of s.ended) refl
 
 -- how many frames are late, by whether the end came
 pub late-is : (ended taken behind late : ℕ) → late ≡ cond (nat_eq ended 0) (min taken behind) 0 → (ended ≡ 0 → late ≡ min taken behind) × (1 ≤ ended → late ≡ 0)
@@ -260,7 +256,7 @@ by_flag (suc (suc n)) made taken late flag running through = absurd (omega arith
 
 -- a stage of these arguments that froze to these frames and numbers has such counts
 pub counts-are : (s : FirState) (channels : ℕ) (h : List ℤ) (frames : List Samples) (numbers : List ℕ) → IsFir s → arguments_of s ≡ record { channels = channels; coefficients = h } → Freezes fir_acts s frames numbers
-    → AreFirCounts (length h) (length frames) numbers
+    → AreFirCounts (length h) (length frames) (by_name numbers)
 counts-are s channels h frames numbers is made froze =
     let same : length s.backwards ≡ length h = sym (length-reverse s.backwards) ∙ ap (λ (r : FirArguments). length r.coefficients) made in
     let all : length (s.line.items ++ option_to_list s.hand) ≡ length s.line.items + length (option_to_list s.hand) = length-append s.line.items (option_to_list s.hand) in

@@ -8,7 +8,7 @@ use Rattle.fx_frame.specs.Frame.{Samples, silence, IsFrame}
 use Rattle.fx_frame.specs.Line.{Frames, pushed, IsLine}
 use Rattle.fx_frame.specs.Stage.{Freezes, Gave, Took}
 use Rattle.fx_frame.specs.Lists.{tabulate}
-use Rattle.fx_tap.specs.Tapped.{AreTapCounts, Taps, TapState, IsTapState, IsNear, behind, tapped, tap_acts, sample_before}
+use Rattle.fx_tap.specs.Tapped.{AreTapCounts, Taps, TapState, IsTapState, IsNear, behind, by_name, tapped, tap_acts, sample_before}
 use Rattle.fx_tap.proofs.Counts.{flag-false, flag-le, flag-times, flag-true}
 use Rattle.fx_tap.proofs.DryLaws.{dry-hand, dry-tail, true_of}
 use Rattle.fx_tap.proofs.DelayLaws.{sample_before-append, sample_before-drop, quiet-after}
@@ -152,14 +152,9 @@ module _ {M : Type 0} (taps : Taps M) (near : IsNear taps) where
         recipe_stays = refl;
       }
 
--- the flag that a number stands for
-pub ended-back : (b : Bool) → nat_eq (cond b 1 0) 1 ≡ b
-ended-back true = refl
-ended-back false = refl
-
 -- a stage of these arguments that froze to these frames and numbers has such counts
 pub counts-are : {M : Type 0} (taps : Taps M) (s : TapState M) (m : M) (frames : List Samples) (numbers : List ℕ) → IsTapState taps s → s.arguments ≡ m → Freezes (tap_acts taps) s frames numbers
-    → AreTapCounts (taps.reach m) (taps.most_clips m) (length frames) numbers
+    → AreTapCounts (taps.reach m) (taps.most_clips m) (length frames) (by_name numbers)
 counts-are taps s m frames numbers is same froze =
     let all : length (s.line.items ++ option_to_list s.hand) ≡ length s.line.items + length (option_to_list s.hand) = length-append s.line.items (option_to_list s.hand) in
     let held = is.held in

@@ -8,7 +8,7 @@ use Rattle.fx_frame.specs.Frame.{Samples}
 use Rattle.fx_frame.specs.Frozen.{IsHand}
 use Rattle.fx_frame.specs.Line.{Frames, IsLine}
 use Rattle.fx_frame.specs.Stage.{Given, Acts}
-use Rattle.fx_tap.specs.Tapped.{Taps, sample_before}
+use Rattle.fx_tap.specs.Tapped.{TailNumbers, Taps, sample_before}
 use Rattle.fx_frame.specs.Lists.{tabulate}
 use Rattle.fx_tap.specs.Mapped.{most_taken}
 use Rattle.fx_transform.specs.Products.{sum_of_products}
@@ -96,22 +96,21 @@ pub record IsFir (s : FirState) : Type 0 where
   pub over : s.ended ≡ true → length (option_to_list s.hand) ≡ 0
   pub fits : IsHand s.channels s.hand
 
--- what holds of the eight numbers of a stage with so many coefficients that stores so many frames: those taken and given,
--- whether it ended, the clips, those stored, its tail, those in hand and the clips of these
-pub record AreFirCounts (count stored : ℕ) (numbers : List ℕ) : Type 0 where
-  pub flag : slice_index_or numbers 2 0 ≤ 1
-  pub few : slice_index_or numbers 0 0 ≤ most_taken
-  pub all : slice_index_or numbers 4 0 ≡ stored
-  pub held : slice_index_or numbers 4 0 ≡ slice_index_or numbers 6 0 + min (slice_index_or numbers 0 0) (count - 1)
-  pub running : slice_index_or numbers 2 0 ≡ 0 → slice_index_or numbers 1 0 + slice_index_or numbers 6 0 + slice_index_or numbers 5 0 ≡ slice_index_or numbers 0 0 - centre count
-  pub through : 1 ≤ slice_index_or numbers 2 0 → slice_index_or numbers 1 0 + slice_index_or numbers 6 0 + slice_index_or numbers 5 0 ≡ slice_index_or numbers 0 0
-  pub tail_held : slice_index_or numbers 5 0 ≤ min (slice_index_or numbers 0 0) (count - 1)
-  pub tail_few : slice_index_or numbers 5 0 ≤ centre count
-  pub not_ended : slice_index_or numbers 2 0 ≡ 0 → slice_index_or numbers 5 0 ≡ 0
-  pub few_clips : slice_index_or numbers 3 0 ≤ 16 * slice_index_or numbers 1 0
-  pub hand_few : slice_index_or numbers 7 0 ≤ 16
-  pub idle : slice_index_or numbers 6 0 ≡ 0 → slice_index_or numbers 7 0 ≡ 0
-  pub over : 1 ≤ slice_index_or numbers 2 0 → slice_index_or numbers 6 0 ≡ 0
+-- what holds of the numbers of a stage with so many coefficients that stores so many frames
+pub record AreFirCounts (count stored : ℕ) (n : TailNumbers) : Type 0 where
+  pub flag : n.ended ≤ 1
+  pub few : n.taken ≤ most_taken
+  pub all : n.stored ≡ stored
+  pub held : n.stored ≡ n.hands + min n.taken (count - 1)
+  pub running : n.ended ≡ 0 → n.given + n.hands + n.tail ≡ n.taken - centre count
+  pub through : 1 ≤ n.ended → n.given + n.hands + n.tail ≡ n.taken
+  pub tail_held : n.tail ≤ min n.taken (count - 1)
+  pub tail_few : n.tail ≤ centre count
+  pub not_ended : n.ended ≡ 0 → n.tail ≡ 0
+  pub few_clips : n.clips ≤ 16 * n.given
+  pub hand_few : n.hand_clips ≤ 16
+  pub idle : n.hands ≡ 0 → n.hand_clips ≡ 0
+  pub over : 1 ≤ n.ended → n.hands ≡ 0
 
 -- the frame in hand
 abbrev pub fir_hand : FirState → List Given

@@ -54,19 +54,45 @@ pub record TapState (M : Type 0) : Type 0 where
   pub clips : ℕ
   pub ended : Bool
 
--- what holds of the eight numbers of a stage of such a reach, with so many clips a frame at the most, that stores so many
--- frames: those taken and given, whether it ended, the clips, those stored, its tail, those in hand and the clips of these
-pub record AreTapCounts (reach most stored : ℕ) (numbers : List ℕ) : Type 0 where
-  pub flag : slice_index_or numbers 2 0 ≤ 1
-  pub few : slice_index_or numbers 0 0 ≤ most_taken
-  pub all : slice_index_or numbers 4 0 ≡ stored
-  pub counted : slice_index_or numbers 1 0 + slice_index_or numbers 6 0 + slice_index_or numbers 5 0 ≡ slice_index_or numbers 0 0 + slice_index_or numbers 2 0 * reach
-  pub held : slice_index_or numbers 4 0 ≡ slice_index_or numbers 6 0 + min (slice_index_or numbers 1 0 + slice_index_or numbers 6 0) reach
-  pub idle : slice_index_or numbers 6 0 ≡ 0 → slice_index_or numbers 7 0 ≡ 0
-  pub over : 1 ≤ slice_index_or numbers 2 0 → slice_index_or numbers 6 0 ≡ 0
-  pub not_ended : slice_index_or numbers 2 0 ≡ 0 → slice_index_or numbers 5 0 ≡ 0
-  pub few_clips : slice_index_or numbers 3 0 ≤ slice_index_or numbers 1 0 * most
-  pub hand_few : slice_index_or numbers 7 0 ≤ most
+-- the eight numbers that a stage with a tail counts, by name
+pub record TailNumbers : Type 0 where
+  pub taken : ℕ
+  pub given : ℕ
+  -- 1 after the end, and before it 0
+  pub ended : ℕ
+  pub clips : ℕ
+  -- the frames that it stores
+  pub stored : ℕ
+  -- the frames to be given after the one in hand
+  pub tail : ℕ
+  -- the frames in hand, and the clips in them
+  pub hands : ℕ
+  pub hand_clips : ℕ
+
+abbrev pub by_name : List ℕ → TailNumbers
+by_name ns = record {
+  taken = slice_index_or ns 0 0;
+  given = slice_index_or ns 1 0;
+  ended = slice_index_or ns 2 0;
+  clips = slice_index_or ns 3 0;
+  stored = slice_index_or ns 4 0;
+  tail = slice_index_or ns 5 0;
+  hands = slice_index_or ns 6 0;
+  hand_clips = slice_index_or ns 7 0;
+}
+
+-- what holds of the numbers of a stage of such a reach, with so many clips a frame at the most, that stores so many frames
+pub record AreTapCounts (reach most stored : ℕ) (n : TailNumbers) : Type 0 where
+  pub flag : n.ended ≤ 1
+  pub few : n.taken ≤ most_taken
+  pub all : n.stored ≡ stored
+  pub counted : n.given + n.hands + n.tail ≡ n.taken + n.ended * reach
+  pub held : n.stored ≡ n.hands + min (n.given + n.hands) reach
+  pub idle : n.hands ≡ 0 → n.hand_clips ≡ 0
+  pub over : 1 ≤ n.ended → n.hands ≡ 0
+  pub not_ended : n.ended ≡ 0 → n.tail ≡ 0
+  pub few_clips : n.clips ≤ n.given * most
+  pub hand_few : n.hand_clips ≤ most
 
 module _ {M : Type 0} (taps : Taps M) where
   -- what is given for a whole sound

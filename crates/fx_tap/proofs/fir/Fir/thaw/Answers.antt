@@ -3,6 +3,7 @@ use Rattle.std.specs.Prelude.{option_to_list}
 use Rattle.std.proofs.lemmas.Bool.Decides.{nat_tests}
 use Rattle.std.proofs.lemmas.List.{length-reverse}
 use Rattle.fx_tap.specs.Fir.{AreFirCounts, centre}
+use Rattle.fx_tap.specs.Tapped.{by_name}
 use Rattle.fx_tap.proofs.Counts.{eight-numbers, flag-back}
 use Rattle.fx_tap.proofs.FirLaws.{by_flag, counts-are, stored-is, thawed-is}
 use Rattle.fx_tap.proofs.fir.Fir.thaw.Goals as goal
@@ -21,7 +22,7 @@ pub returns-clause-frozen : goal.returns-clause-frozen
 returns-clause-frozen c =
     let st = c.in-Ok.ensures.found in
     let yes : c.are_counts.result ≡ true = search rules in
-    let n : AreFirCounts (length c.args.coefficients.now) (length c.args.frames.now) c.args.numbers.now = c.are_counts.ensures.0 yes in
+    let n : AreFirCounts (length c.args.coefficients.now) (length c.args.frames.now) (by_name c.args.numbers.now) = c.are_counts.ensures.0 yes in
     let eight : length c.args.numbers.now ≡ 8 = search rules in
     let flag = flag-back (slice_index_or c.args.numbers.now 2 0) n.flag in
     record {
@@ -39,7 +40,7 @@ pub invariant_of-result : goal.invariant_of-result
 invariant_of-result c =
     let st = c.in-Ok.ensures.found in
     let yes : c.are_counts.result ≡ true = search rules in
-    let n : AreFirCounts (length c.args.coefficients.now) (length c.args.frames.now) c.args.numbers.now = c.are_counts.ensures.0 yes in
+    let n : AreFirCounts (length c.args.coefficients.now) (length c.args.frames.now) (by_name c.args.numbers.now) = c.are_counts.ensures.0 yes in
     let all = ap length st.stored ∙ length-append c.in-Ok.stored.0.items (option_to_list c.in-Ok.stored.1) in
     let lined : length c.in-Ok.stored.0.items ≡ slice_index_or c.args.numbers.now 4 0 - slice_index_or c.args.numbers.now 6 0 = omega (arith, all, st.hands_are, n.all) in
     let size : length c.in-Ok-of.kernel ≡ length c.args.coefficients.now = ap length c.in-Ok-of.ensures.value ∙ length-reverse c.args.coefficients.now in

@@ -2,9 +2,9 @@ use Rattle.std.proofs.Common.{rules, refl, sym, ap, ◌∙◌, ◌≡◌, ◌≤
 use Rattle.std.specs.Prelude.{option_to_list}
 use Rattle.std.proofs.lemmas.Bool.Decides.{nat_tests}
 use Rattle.fx_frame.specs.Frozen.{IsStored}
-use Rattle.fx_tap.specs.Tapped.{AreTapCounts}
-use Rattle.fx_tap.proofs.Counts.{eight-numbers, flag-back, times-flag}
-use Rattle.fx_tap.proofs.TapLaws.{counts-are, ended-back}
+use Rattle.fx_tap.specs.Tapped.{AreTapCounts, by_name}
+use Rattle.fx_tap.proofs.Counts.{eight-numbers, flag-back, flag-of, times-flag}
+use Rattle.fx_tap.proofs.TapLaws.{counts-are}
 use Rattle.fx_tap.proofs.tapped.Tapped.thawed.Goals as goal
 
 pub are_counts-requires-clause-most : goal.are_counts-requires-clause-most
@@ -33,7 +33,7 @@ pub returns-clause-frozen : goal.returns-clause-frozen
 returns-clause-frozen g c =
     let st = c.in-Ok.ensures.found in
     let yes : c.are_counts.result ≡ true = search rules in
-    let n : AreTapCounts c.args.reach c.most_clips-most.result (length c.args.frames.now) c.args.numbers.now = c.are_counts.ensures.0 yes in
+    let n : AreTapCounts c.args.reach c.most_clips-most.result (length c.args.frames.now) (by_name c.args.numbers.now) = c.are_counts.ensures.0 yes in
     let eight : length c.args.numbers.now ≡ 8 = search rules in
     let flag = flag-back (slice_index_or c.args.numbers.now 2 0) n.flag in
     record {
@@ -52,13 +52,13 @@ returns-clause-thawed g c =
       hands_are = sym (ap (λ l. slice_index_or l 6 0) freezes.counted);
       stored = freezes.stored;
     }) in
-    rw (found.0, found.1, freezes.counted, ← same, ended-back s.ended) refl
+    rw (found.0, found.1, freezes.counted, ← same, flag-of s.ended) refl
 
 pub invariant_of-result : goal.invariant_of-result
 invariant_of-result g c =
     let st = c.in-Ok.ensures.found in
     let yes : c.are_counts.result ≡ true = search rules in
-    let n : AreTapCounts c.args.reach c.most_clips-most.result (length c.args.frames.now) c.args.numbers.now = c.are_counts.ensures.0 yes in
+    let n : AreTapCounts c.args.reach c.most_clips-most.result (length c.args.frames.now) (by_name c.args.numbers.now) = c.are_counts.ensures.0 yes in
     let all = ap length st.stored ∙ length-append c.in-Ok.stored.0.items (option_to_list c.in-Ok.stored.1) in
     let ended = slice_index_or c.args.numbers.now 2 0 in
     let held : length c.in-Ok.stored.0.items ≡ min (slice_index_or c.args.numbers.now 1 0 + slice_index_or c.args.numbers.now 6 0) c.args.reach = omega (arith, all, st.hands_are, n.all, n.held) in
