@@ -10,7 +10,6 @@ ghost use Rattle.fx_tap.specs.Tapped.{IsTapState, TapState, frames_behind, last_
 ghost use Rattle.fx_tap.specs.Near.{delays-near};
 ghost use Rattle.std.proofs.Common.{zero-le};
 
-use crate::channels::copy_channel;
 use crate::echo::SAMPLES_OF_PIECE;
 use crate::tapped::{Tapped, Tapping, TapsMany, sample, tap_and_push, tap_by_frames};
 use fx_fixed::inner::longest;
@@ -222,15 +221,11 @@ fn delay_piece(delays: &[u64], line: &Line, frames: &[i32], count: usize, out: &
     requires out { length out.old ≡ count * length delays.now }
     ensures { pieces (length delays.now) count out.new ≡ frames_behind delay_taps delays.now line.now.items (pieces (length delays.now) count frames.now) }
 {
-    let channels = delays.len();
-    let mut places = [0; SAMPLES_OF_PIECE];
-    let earlier = &mut places[..frames.len()];
     out.copy_from_slice(frames);
-    'channels: for channel in 0..channels {
+    'channels: for channel in 0..delays.len() {
         let late = delays[channel] as usize;
         if late != 0 {
-            line.before_into(late, count, earlier);
-            copy_channel(earlier, channels, channel, count, out);
+            line.channel_before_into(late, count, channel, out);
         }
     }
 }
