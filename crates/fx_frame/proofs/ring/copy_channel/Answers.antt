@@ -1,4 +1,4 @@
-use Rattle.std.proofs.Common.{◌≡◌, ◌+◌, ◌*◌, ◌-◌, ◌++◌, ◌≤◌, ◌<◌, ℕ, List, length, get_or, sym, ap, ◌∙◌, arith, length-append}
+use Rattle.std.proofs.Common.{rules, ◌≡◌, ◌+◌, ◌*◌, ◌-◌, ◌++◌, ◌≤◌, ◌<◌, ℕ, List, length, get_or, sym, ap, ◌∙◌, arith, length-append}
 use Rattle.std.proofs.lemmas.Grind.{div_ceil_times}
 use Rattle.std.proofs.lemmas.List.{get_or_append_left}
 use Rattle.std.proofs.Math.Nat.{add-mul, mul-le-mul_right}
@@ -6,12 +6,25 @@ use Rattle.fx_frame.proofs.ChannelPlaces.{others-joined, put-joined}
 use Rattle.fx_frame.proofs.Parts.{IsSplit, split-found, split-left, split-past}
 use Rattle.fx_frame.proofs.ring.copy_channel.Goals as goal
 
+pub overflow_mul-in_front : goal.overflow_mul-in_front
+overflow_mul-in_front g c =
+    let bounds = div_ceil_times (length c.args.front.now - c.args.from) c.args.step c.requires.step.0 in
+    let few : c.min-in_front.result * c.args.step ≤ c.div_ceil.result * c.args.step = mul-le-mul_right c.args.step (omega arith) in
+    let steps : c.div_ceil.result * c.args.step < (length c.args.front.now - c.args.from) + c.args.step = rw (c.div_ceil.ensures, c.saturating_sub.ensures) bounds.1 in
+    omega (arith, few, steps, c.requires.step.1, c.requires.small, length-append c.args.front.now c.args.back.now)
+
 pub overflow_add-from : goal.overflow_add-from
 overflow_add-from g c =
     let bounds = div_ceil_times (length c.args.front.now - c.args.from) c.args.step c.requires.step.0 in
     let few : c.min-in_front.result * c.args.step ≤ c.div_ceil.result * c.args.step = mul-le-mul_right c.args.step (omega arith) in
     let steps : c.div_ceil.result * c.args.step < (length c.args.front.now - c.args.from) + c.args.step = rw (c.div_ceil.ensures, c.saturating_sub.ensures) bounds.1 in
     omega (arith, few, steps, c.requires.step.1, c.requires.small, length-append c.args.front.now c.args.back.now)
+
+pub overflow_mul-in_front-2 : goal.overflow_mul-in_front-2
+overflow_mul-in_front-2 g c =
+    let few : c.min-in_front.result * c.args.apart ≤ c.args.count * c.args.apart = mul-le-mul_right c.args.apart (omega arith) in
+    let inside : c.min-in_front.result * c.args.apart ≤ length c.args.out.now = omega (arith, few, c.requires.room) in
+    search rules
 
 pub split_at_mut-near-requires : goal.split_at_mut-near-requires
 split_at_mut-near-requires g c =

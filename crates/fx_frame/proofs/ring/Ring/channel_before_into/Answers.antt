@@ -1,4 +1,4 @@
-use Rattle.std.proofs.Common.{ℕ, List, ◌≡◌, ◌+◌, ◌*◌, ◌++◌, ◌∙◌, [], ap, sym, arith, length, get_or}
+use Rattle.std.proofs.Common.{rules, ◌≤◌, ℕ, List, ◌≡◌, ◌+◌, ◌*◌, ◌++◌, ◌∙◌, [], ap, sym, arith, length, get_or}
 use Rattle.fx_frame.specs.Line.{latest_frames}
 use Rattle.fx_frame.proofs.ChannelPlaces.{others-joined, put-joined}
 use Rattle.fx_frame.proofs.ManyFrames.{latest-quiet, ring-channel_before, ring-channel_from, ring-places_before}
@@ -10,11 +10,28 @@ overflow_add-self-inside g c =
     let held = ring-len _ _ _ _ _ c.self.view_is c.self.invariant in
     omega (arith, held)
 
+pub overflow_mul-quiet : goal.overflow_mul-quiet
+overflow_mul-quiet g c =
+    let at = ring-places_before _ _ _ _ _ c.self.view_is c.self.invariant c.args.late c.args.count c.quiet_before-quiet.result c.saturating_sub-first.result c.requires.late c.quiet_before-quiet.ensures (omega arith) in
+    let long = rw (← c.self.view_is) at c.requires.len in
+    let inside : c.quiet_before-quiet.result * c.self.inside.channels ≤ length c.args.out.now = omega (arith, at.whole, long) in
+    search rules
+
 pub split_at_mut-silent-requires : goal.split_at_mut-silent-requires
 split_at_mut-silent-requires g c =
     let at = ring-places_before _ _ _ _ _ c.self.view_is c.self.invariant c.args.late c.args.count c.quiet_before-quiet.result c.saturating_sub-first.result c.requires.late c.quiet_before-quiet.ensures (omega arith) in
     let long = rw (← c.self.view_is) at c.requires.len in
     omega (arith, at.whole, long)
+
+pub overflow_mul-from : goal.overflow_mul-from
+overflow_mul-from g c =
+    let from = ring-channel_from _ _ _ _ _ c.self.view_is c.self.invariant c.args.late c.args.count c.quiet_before-quiet.result c.saturating_sub-first.result c.args.channel c.requires.late c.quiet_before-quiet.ensures (omega arith) c.requires.channel in
+    omega (arith, from.0)
+
+pub overflow_add-from : goal.overflow_add-from
+overflow_add-from g c =
+    let from = ring-channel_from _ _ _ _ _ c.self.view_is c.self.invariant c.args.late c.args.count c.quiet_before-quiet.result c.saturating_sub-first.result c.args.channel c.requires.late c.quiet_before-quiet.ensures (omega arith) c.requires.channel in
+    omega (arith, from.0)
 
 pub copy_channel-requires : goal.copy_channel-requires
 copy_channel-requires g c =
