@@ -1,10 +1,10 @@
 -- Many frames that come to a ring, and those that fall out of it.
-use Rattle.std.proofs.Common.{◌≡◌, ◌+◌, ◌*◌, ◌-◌, ◌≤◌, ℕ, zero, suc, min, inl, inr, ◌⊎◌, ◌<◌, List, ◌∷◌, ◌++◌, length, take, drop, replicate, refl, sym, ap, ◌∙◌, arith, length-append, length-drop, append_assoc, append-nil}
+use Rattle.std.proofs.Common.{◌≡◌, ◌+◌, ◌*◌, ◌-◌, ◌≤◌, ◌^◌, ℕ, get_or, [], zero, suc, min, inl, inr, ◌⊎◌, ◌<◌, List, ◌∷◌, ◌++◌, length, take, drop, replicate, refl, sym, ap, ◌∙◌, arith, length-append, length-drop, append_assoc, append-nil}
 use Rattle.std.specs.List.{All}
 use Rattle.std.specs.Int.{Width}
 use Rattle.std.specs.Prelude.{ℤ, FitsSigned}
 use Rattle.std.proofs.lemmas.Bool.{cases_lt}
-use Rattle.std.proofs.lemmas.List.{drop-drop, drop-replicate, drop-take, drop_at, length-replicate, length-take-le, take-append-le, take-replicate, take_all, take_at}
+use Rattle.std.proofs.lemmas.List.{get_or_append_left, get_or-append_right, get_or-drop, get_or-replicate, drop-drop, drop-replicate, drop-take, drop_at, length-replicate, length-take-le, take-append-le, take-replicate, take_all, take_at}
 use Rattle.std.proofs.lemmas.List.Elements.{All-append, All-cons, All-drop, All-nil, All-take}
 use Rattle.std.proofs.Math.Nat.{add-mul, mul-le-mul_right, suc-mul}
 use Rattle.std.proofs.Math.Seq.{take-append-add}
@@ -13,7 +13,7 @@ use Rattle.fx_frame.specs.Line.{Frames, IsSamples, latest_frames, pushed_all}
 use Rattle.fx_frame.specs.Ring.{IsRing, pieces}
 use Rattle.fx_frame.proofs.FeedParts.{pieces-split}
 use Rattle.fx_frame.proofs.Feeding.{pieces-take}
-use Rattle.fx_frame.proofs.Pieces.{frames_of, length-pieces, pieces-front, ring-len}
+use Rattle.fx_frame.proofs.Pieces.{frames_of, get_or-piece, length-pieces, pieces-front, ring-len, ring-place, ring-small}
 use borrow.Rule.Slice.PartMut.{put_mid}
 
 -- the same so many times, and others behind it
@@ -149,6 +149,22 @@ module _ {X : Type 0} where
             rw (e-a, e-b, none, append-nil, all) (sym (take-append-le end xs ys h))
       ]
 
+  -- silence among the latest frames
+  pub latest-quiet : (l : Frames X) (s d : X) (late i channel : ℕ) → i < late - length l.items → channel < l.channels → get_or (get_or (latest_frames s late l) i []) channel d ≡ s
+  latest-quiet l s d late i channel h within =
+      let none : List (List X) = replicate (late - length l.items) (replicate l.channels s) in
+      let front : length none ≡ late - length l.items = length-replicate (late - length l.items) (replicate l.channels s) in
+      ap (λ f. get_or f channel d) (get_or_append_left none (drop (length l.items - late) l.items) [] i (omega arith) ∙ get_or-replicate (late - length l.items) i (replicate l.channels s) [] h)
+      ∙ get_or-replicate l.channels channel s d within
+
+  -- a frame of the line among them
+  pub latest-held : (l : Frames X) (s : X) (late i : ℕ) → late - length l.items ≤ i → get_or (latest_frames s late l) i [] ≡ get_or l.items (length l.items + i - late) []
+  latest-held l s late i h =
+      let none : List (List X) = replicate (late - length l.items) (replicate l.channels s) in
+      let front : length none ≡ late - length l.items = length-replicate (late - length l.items) (replicate l.channels s) in
+      let at : length l.items - late + (i - (late - length l.items)) ≡ length l.items + i - late = omega arith in
+      get_or-append_right none (drop (length l.items - late) l.items) (late - length l.items) i [] front h ∙ get_or-drop (length l.items - late) l.items (i - (late - length l.items)) [] ∙ ap (λ n. get_or l.items n []) at
+
   module _ (channels capacity len : ℕ) (samples : Buffer X) (l : Frames X) (is-l : frames_of channels capacity len samples ≡ l) (r : IsRing channels capacity len samples) where
     pub ring-push_frames : (len' count : ℕ) (after : Buffer X) (fs : List X) → length fs ≡ count * l.channels → len' ≡ min (len + count) capacity → after ≡ buffer (keep_last samples.capacity (samples.items ++ fs)) samples.capacity
         → IsRing channels capacity len' after × (pieces channels len' after.items ≡ pushed_all l (pieces l.channels count fs))
@@ -194,8 +210,9 @@ module _ {X : Type 0} where
       pub inside : first + (count - quiet) ≤ len
       pub room : first * channels + (count - quiet) * channels ≤ length samples.items
 
-    pub ring-places_before : (late count quiet first : ℕ) → count ≤ late → quiet ≡ min (late - len) count → first ≡ len + quiet - late → IsBefore count quiet first
+    pub ring-places_before : (late count quiet first : ℕ) → count ≤ late → quiet ≡ min (late - length l.items) count → first ≡ len + quiet - late → IsBefore count quiet first
     ring-places_before late count quiet first h e-quiet e-first =
+        let held : len ≡ length l.items = ring-len channels capacity len samples l is-l r in
         let few : quiet ≤ count = omega arith in
         let inside : first + (count - quiet) ≤ len = omega arith in
         let both : quiet + (count - quiet) ≡ count = omega arith in
@@ -207,11 +224,13 @@ module _ {X : Type 0} where
         }
 
     -- silence, and the frames that stand so many places before the next one
-    pub ring-before : (s : X) (late count quiet first : ℕ) (silent own : List X) → count ≤ late → quiet ≡ min (late - len) count → first ≡ len + quiet - late
+    pub ring-before : (s : X) (late count quiet first : ℕ) (silent own : List X) → count ≤ late → quiet ≡ min (late - length l.items) count → first ≡ len + quiet - late
         → silent ≡ replicate (quiet * channels) s → own ≡ take ((count - quiet) * channels) (drop (first * channels) samples.items)
         → pieces l.channels count (silent ++ own) ≡ take count (latest_frames s late l)
     ring-before s late count quiet first silent own h e-quiet e-first e-silent e-own =
         let at = ring-places_before late count quiet first h e-quiet e-first in
+        let held : len ≡ length l.items = ring-len channels capacity len samples l is-l r in
+        let silence : quiet ≡ min (late - len) count = omega arith in
         let frames : List (List X) = pieces channels len samples.items in
         let both : count ≡ quiet + (count - quiet) = omega arith in
         let long : length silent ≡ quiet * channels = ap length e-silent ∙ length-replicate (quiet * channels) s in
@@ -224,7 +243,33 @@ module _ {X : Type 0} where
         let same : take (count - quiet) (drop first frames) ≡ take (count - quiet) (drop (len - late) frames) = take-same (count - quiet) first (len - late) frames (λ some. omega arith) in
         rw (← is-l, many) (ap (λ n. pieces channels n (silent ++ own)) both ∙ pieces-joined channels quiet (count - quiet) silent own long
         ∙ ap (λ ps. ps ++ pieces channels (count - quiet) own) front ∙ ap (λ ps. replicate quiet (replicate channels s) ++ ps) (back ∙ same)
-        ∙ sym (replicate-front (replicate channels s) (late - len) count (drop (len - late) frames) quiet e-quiet))
+        ∙ sym (replicate-front (replicate channels s) (late - len) count (drop (len - late) frames) quiet silence))
+
+    -- where one channel of these frames stands
+    pub ring-channel_from : (late count quiet first channel : ℕ) → count ≤ late → quiet ≡ min (late - length l.items) count → first ≡ len + quiet - late → channel < l.channels
+        → (first * channels + channel + length samples.items < 2 ^ 62) × ((k : ℕ) → k < count - quiet → first * channels + channel + k * channels < length samples.items)
+    ring-channel_from late count quiet first channel h e-quiet e-first within =
+        let held : len ≡ length l.items = ring-len channels capacity len samples l is-l r in
+        let same : channels ≡ l.channels = ap (λ v. v.channels) is-l in
+        let few : len * channels ≤ 2 ^ 32 = ring-small channels capacity len samples l is-l r in
+        let before : first * channels ≤ len * channels = mul-le-mul_right channels (omega arith) in (
+          omega (arith, few, before, r.filled, r.few),
+          λ k lt.
+              let at = ring-place channels capacity len samples l is-l r (first + k) channel (omega arith) within in
+              omega (arith, at.0, add-mul first k channels),
+        )
+
+    -- one channel of the frames that stand so many places before the next one
+    pub ring-channel_before : (s d : X) (late count quiet first channel k : ℕ) → count ≤ late → quiet ≡ min (late - length l.items) count → first ≡ len + quiet - late → channel < l.channels → k < count - quiet
+        → get_or samples.items (first * channels + channel + k * channels) d ≡ get_or (get_or (latest_frames s late l) (quiet + k) []) channel d
+    ring-channel_before s d late count quiet first channel k h e-quiet e-first within lt =
+        let held : len ≡ length l.items = ring-len channels capacity len samples l is-l r in
+        let at : first + k < len = omega arith in
+        let inside : channel < channels = rw (← ap (λ v. v.channels) is-l) at within in
+        let there : length l.items + (quiet + k) - late ≡ first + k = omega arith in
+        let place : first * channels + channel + k * channels ≡ (first + k) * channels + channel = omega (arith, add-mul first k channels) in
+        let piece : get_or (get_or l.items (first + k) []) channel d ≡ get_or samples.items ((first + k) * channels + channel) d = rw (← is-l) (get_or-piece channels len samples.items (first + k) channel d at inside) in
+        ap (λ m. get_or samples.items m d) place ∙ sym (ap (λ f. get_or f channel d) (latest-held l s late (quiet + k) (omega arith) ∙ ap (λ m. get_or l.items m []) there) ∙ piece)
 
 -- samples that fit, in frames of a line
 pub frames-samples : (w : Width) (channels n : ℕ) (xs : List ℤ) → length xs ≡ n * channels → All (FitsSigned w) xs → All (IsSamples w channels) (pieces channels n xs)

@@ -1,10 +1,9 @@
 -- A part of two lists that follow one another.
-use Rattle.std.proofs.Common.{◌≡◌, ◌+◌, ◌*◌, ◌-◌, ◌<◌, ◌≤◌, ℕ, suc, min, inl, inr, get_or, List, [], ◌++◌, length, take, drop, refl, sym, ap, ◌∙◌, arith, length-append, length-drop, append-nil}
+use Rattle.std.proofs.Common.{◌≡◌, ◌+◌, ◌*◌, ◌-◌, ◌<◌, ◌≤◌, ℕ, suc, min, get_or, List, [], ◌++◌, length, take, drop, refl, sym, ap, ◌∙◌, arith, length-append, length-drop, append-nil}
 use Rattle.std.specs.Int.{div_ceil}
-use Rattle.std.proofs.lemmas.Bool.{cases_lt}
 use Rattle.std.proofs.lemmas.Grind.{div_ceil_times}
 use Rattle.std.proofs.Math.Nat.{suc-mul, add-mul, mul-le-mul_right}
-use Rattle.std.proofs.lemmas.List.{drop_all, drop-append-le, take_at, drop_at, length-take-le, get_or_append_left, get_or-append_right}
+use Rattle.std.proofs.lemmas.List.{drop_all, drop-append-le, take_at, drop_at, get_or-append-add}
 use Rattle.std.proofs.Math.Seq.{take-append-add, drop-append-add}
 use borrow.Rule.Slice.PartMut.{put_mid}
 
@@ -50,47 +49,18 @@ split-found seam from step n left steps first past some e-left e-steps e-first e
     }
 
 module _ {X : Type 0} where
-  -- what was copied before the seam and past it is what the joined lists have
-  pub split-copied : (front back out a b : List X) (from step first past rest : ℕ) → IsSplit (length front) from step (length out) first past → length a ≡ length (take first out) → ((k : ℕ) → k < length a → (d : X) → get_or a k d ≡ get_or front (from + k * step) d) → length b ≡ length out - first → ((k : ℕ) → k < length b → (d : X) → get_or b k d ≡ get_or back (past + k * step) d) → rest ≡ length out - first → (k : ℕ) → k < length out → (d : X) → get_or (put_mid first rest (a ++ drop first out) b) k d ≡ get_or (front ++ back) (from + k * step) d
-  split-copied front back out a b from step first past rest s n-a is-a n-b is-b e-rest k h d =
-      let within : first ≤ length out = s.within in
-      let l-a : length a ≡ first = n-a ∙ length-take-le first out within in
-      let head : take first (a ++ drop first out) ≡ a = take_at a (drop first out) first l-a in
-      let tail : drop first (a ++ drop first out) ≡ drop first out = drop_at a (drop first out) first l-a in
-      let none : drop rest (drop first out) ≡ [] = drop_all rest (drop first out) (omega (arith, length-drop first out)) in
-      rw (head, tail, none, append-nil) (elim (cases_lt k first) [
-        | inl lt ↦
-            let before : from + k * step < length front = s.before k lt in
-            get_or_append_left a b d k (omega arith) ∙ is-a k (omega arith) d ∙ sym (get_or_append_left front back d (from + k * step) before)
-        | inr ge ↦
-            let after : past + length front ≡ from + first * step = s.after (omega arith) in
-            let parts : k * step ≡ (k - first) * step + first * step = ap (λ m. m * step) (let e : k ≡ (k - first) + first = omega arith in e) ∙ add-mul (k - first) first step in
-            let place : from + k * step - length front ≡ past + (k - first) * step = omega arith in
-            get_or-append_right a b first k d l-a ge ∙ is-b (k - first) (omega arith) d ∙ sym (get_or-append_right front back (length front) (from + k * step) d refl (omega arith) ∙ ap (λ m. get_or back m d) place)
-      ])
-
   -- past the seam there is as much as is left
-  pub split-left : (front back out : List X) (from step first past : ℕ) → IsSplit (length front) from step (length out) first past → ((k : ℕ) → k < length out → from + k * step < length (front ++ back)) → (k : ℕ) → k < length out - first → past + k * step < length back
-  split-left front back out from step first past s within k h =
+  pub split-left : (front back : List X) (from step n first past : ℕ) → IsSplit (length front) from step n first past → ((k : ℕ) → k < n → from + k * step < length (front ++ back)) → (k : ℕ) → k < n - first → past + k * step < length back
+  split-left front back from step n first past s within k h =
       let after : past + length front ≡ from + first * step = s.after (omega arith) in
       let at : from + (k + first) * step < length (front ++ back) = within (k + first) (omega arith) in
       let parts : (k + first) * step ≡ k * step + first * step = add-mul k first step in
       omega (arith, length-append front back)
 
-  -- what stands behind the first part
-  pub length-second : (out a : List X) (first : ℕ) → first ≤ length out → length a ≡ length (take first out) → length (take (length (a ++ drop first out) - first) (drop first (a ++ drop first out))) ≡ length out - first
-  length-second out a first within n-a =
-      let l-a : length a ≡ first = n-a ∙ length-take-le first out within in
-      let tail : drop first (a ++ drop first out) ≡ drop first out = drop_at a (drop first out) first l-a in
-      let all : length (a ++ drop first out) ≡ length out = omega (arith, length-append a (drop first out), length-drop first out) in
-      rw (tail, all) (length-take-le (length out - first) (drop first out) (omega (arith, length-drop first out)))
-
-  pub length-whole : (out a b : List X) (first : ℕ) → first ≤ length out → length a ≡ length (take first out) → length b ≡ length out - first → (rest : ℕ) → rest ≡ length (a ++ drop first out) - first → (length (put_mid first rest (a ++ drop first out) b) ≡ length out) × (rest ≡ length out - first)
-  length-whole out a b first within n-a n-b rest e-rest =
-      let l-a : length a ≡ first = n-a ∙ length-take-le first out within in
-      let head : take first (a ++ drop first out) ≡ a = take_at a (drop first out) first l-a in
-      let tail : drop first (a ++ drop first out) ≡ drop first out = drop_at a (drop first out) first l-a in
-      let all : length (a ++ drop first out) ≡ length out = omega (arith, length-append a (drop first out), length-drop first out) in
-      let same : rest ≡ length out - first = omega arith in
-      let none : drop rest (drop first out) ≡ [] = drop_all rest (drop first out) (omega (arith, length-drop first out)) in
-      (rw (head, tail, none, append-nil) (omega (arith, length-append a b)), same)
+  -- what stands past the seam
+  pub split-past : (front back : List X) (from step n first past k : ℕ) (d : X) → IsSplit (length front) from step n first past → k < n - first → get_or back (past + k * step) d ≡ get_or (front ++ back) (from + (first + k) * step) d
+  split-past front back from step n first past k d s h =
+      let after : past + length front ≡ from + first * step = s.after (omega arith) in
+      let parts : (first + k) * step ≡ first * step + k * step = add-mul first k step in
+      let place : from + (first + k) * step ≡ length front + (past + k * step) = omega arith in
+      sym (ap (λ m. get_or (front ++ back) m d) place ∙ get_or-append-add front back (past + k * step) d)

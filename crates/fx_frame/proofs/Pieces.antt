@@ -271,16 +271,17 @@ module _ {X : Type 0} where
     ring-channel_fits channel step joined out h-c n e-step e-joined k h =
         rw (← e-step, e-joined) (ring-channel_place channel k h-c (omega arith))
 
-    pub ring-channel_is : (channel step : ℕ) (joined out : List X) → channel < l.channels → length out ≡ length l.items → channels ≡ step → joined ≡ samples.items → ((k : ℕ) → k < length out → (d : X) → get_or out k d ≡ get_or joined (channel + k * step) d) → (d : X) → out ≡ channel_of l.items channel d
+    pub ring-channel_is : (channel step : ℕ) (joined out : List X) → channel < l.channels → length out ≡ length l.items → channels ≡ step → joined ≡ samples.items → ((k : ℕ) → k < length out → (d : X) → get_or out (k * 1 + 0) d ≡ get_or joined (channel + k * step) d) → (d : X) → out ≡ channel_of l.items channel d
     ring-channel_is channel step joined out h-c n e-step e-joined is =
-        ring-channel channel out h-c n (λ k d h. is k h d ∙ ap (λ (p : ℕ × List X). get_or p.1 (channel + k * p.0) d) (let e : ◌≡◌ {A = ℕ × List X} (step, joined) (channels, samples.items) = rw (e-step, e-joined) refl in e))
+        ring-channel channel out h-c n (λ k d h. ap (λ i. get_or out i d) (let one : k ≡ k * 1 + 0 = omega arith in one) ∙ is k h d ∙ ap (λ (p : ℕ × List X). get_or p.1 (channel + k * p.0) d) (let e : ◌≡◌ {A = ℕ × List X} (step, joined) (channels, samples.items) = rw (e-step, e-joined) refl in e))
 
     pub ring-channel_only : (channel : ℕ) (joined out : List X) (m : ℕ) → channel < l.channels → length out ≡ length l.items → channels ≡ 1 → joined ≡ samples.items → m ≡ length out → out ≡ take m joined → (d : X) → out ≡ channel_of l.items channel d
     ring-channel_only channel joined out m h-c n one e-joined e-m e =
         ring-channel_is channel 1 joined out h-c n one e-joined (λ k h d.
         let only : 1 ≡ l.channels = sym one ∙ ap (λ v. v.channels) is-l in
         let none : k ≡ channel + k * 1 = omega arith in
-        ap (λ ys. get_or ys k d) e ∙ get_or-take m joined k d (omega arith) ∙ ap (λ i. get_or joined i d) none)
+        let one : k * 1 + 0 ≡ k = omega arith in
+        ap (λ i. get_or out i d) one ∙ ap (λ ys. get_or ys k d) e ∙ get_or-take m joined k d (omega arith) ∙ ap (λ i. get_or joined i d) none)
 
     pub ring-one_fits : (joined out : List X) → length out ≡ length l.items → channels ≡ 1 → joined ≡ samples.items → length out ≤ length joined
     ring-one_fits joined out n one e-joined =

@@ -1,5 +1,5 @@
 //! One ring of samples for whole frames, each of as many samples as there are channels.
-ghost use Rattle.std.specs.Prelude.{◌≡◌, ◌<◌, ◌≤◌, ◌^◌, ◌++◌, ◌+◌, ◌*◌, ◌∷◌, [], ℕ, length, take, drop, replicate, EachIndex, slice_get, slice_index_or, IfOk, Some};
+ghost use Rattle.std.specs.Prelude.{◌≡◌, ◌<◌, ◌≤◌, ◌^◌, ◌++◌, ◌+◌, ◌-◌, ◌*◌, ◌∷◌, [], ℕ, min, length, take, drop, replicate, slice_get, slice_index_or, IfOk, Some};
 ghost use Rattle.std.specs.Option.{option_map};
 ghost use Rattle.fx_frame.specs.Line.{empty, pushed, pushed_all, pushed_out, latest_frames, channel_of};
 ghost use Rattle.fx_frame.specs.Ring.{IsShaped, pieces};
@@ -147,12 +147,55 @@ impl<T: Copy> Ring<T> {
         requires len { length out.old ≡ count * self.now.channels }
         ensures { pieces self.now.channels count out.new ≡ take count (latest_frames silence late self.now) }
     {
-        let quiet = late.saturating_sub(self.len).min(count);
+        let quiet = self.quiet_before(late, count);
         let first = (self.len + quiet).saturating_sub(late);
         let (silent, own) = out.split_at_mut(quiet * self.channels);
         fill(silent, silence);
         let (front, back) = self.samples.as_slices();
         copy_part(front, back, first * self.channels, own);
+    }
+
+    /// Copies one channel of so many frames over that channel of as many frames in `out`. The first of them stands `late` places
+    /// before the next one to come; a sample is `silence` where the ring does not reach back so far.
+    pub(crate) fn channel_before_into(
+        &self,
+        late: usize,
+        count: usize,
+        channel: usize,
+        silence: T,
+        out: &mut [T],
+    )
+        requires late { count ≤ late }
+        requires channel { channel < self.now.channels }
+        requires len { length out.old ≡ count * self.now.channels }
+        ensures put { (i : ℕ) → i < count → (d : T) → slice_index_or out.new (i * self.now.channels + channel) d ≡ slice_index_or (slice_index_or (latest_frames silence late self.now) i []) channel d }
+        ensures others { (i c : ℕ) → c < self.now.channels → (c ≡ channel → ⊥) → (d : T) → slice_index_or out.new (i * self.now.channels + c) d ≡ slice_index_or out.old (i * self.now.channels + c) d }
+    {
+        let channels = self.channels;
+        let quiet = self.quiet_before(late, count);
+        let first = (self.len + quiet).saturating_sub(late);
+        let (silent, own) = out.split_at_mut(quiet * channels);
+        fill_channel(silence, quiet, silent, channel, channels);
+        let (front, back) = self.samples.as_slices();
+        let from = first * channels + channel;
+        copy_channel(
+            front,
+            back,
+            from,
+            channels,
+            count - quiet,
+            own,
+            channel,
+            channels,
+        );
+    }
+
+    /// How many of so many frames come before the oldest, where the first stands `late` places before the next one to come.
+    #[inline(always)]
+    fn quiet_before(&self, late: usize, count: usize) -> usize
+        ensures { result ≡ min (late - length self.now.items) count }
+    {
+        late.saturating_sub(self.len).min(count)
     }
 
     /// Takes the oldest frame away, if there is one.
@@ -197,8 +240,8 @@ impl<T: Copy> Ring<T> {
         let (front, back) = self.samples.as_slices();
         match self.channels {
             1 => copy_part(front, back, 0, out),
-            2 => copy_channel(front, back, channel, 2, out),
-            channels => copy_channel(front, back, channel, channels, out),
+            2 => copy_channel(front, back, channel, 2, out.len(), out, 0, 1),
+            channels => copy_channel(front, back, channel, channels, out.len(), out, 0, 1),
         }
     }
 }
@@ -231,28 +274,67 @@ fn copy_part<T: Copy>(front: &[T], back: &[T], start: usize, out: &mut [T])
     }
 }
 
-/// Copies the samples of the joined slices that stand `step` places apart, from the place `from` on.
+/// Writes the same sample to so many places that stand `apart` from one another, from the place `at` on.
 #[inline(always)]
-fn copy_channel<T: Copy>(front: &[T], back: &[T], from: usize, step: usize, out: &mut [T])
-    requires within { (k : ℕ) → k < length out.old → from + k * step < length (front.now ++ back.now) }
-    requires small { length (front.now ++ back.now) < 2 ^ 62 }
-    requires step { (from < step) × (step ≤ 16) }
-    ensures { EachIndex out.new (λ k. (d : T) → slice_index_or out.new k d ≡ slice_index_or (front.now ++ back.now) (from + k * step) d) }
+fn fill_channel<T: Copy>(sample: T, count: usize, out: &mut [T], at: usize, apart: usize)
+    requires at { at < apart }
+    requires room { count * apart ≤ length out.old }
+    ensures put { (k : ℕ) → k < count → (d : T) → slice_index_or out.new (k * apart + at) d ≡ sample }
+    ensures others { (k c : ℕ) → c < apart → (c ≡ at → ⊥) → (d : T) → slice_index_or out.new (k * apart + c) d ≡ slice_index_or out.old (k * apart + c) d }
 {
-    let seam = front.len();
-    let in_front = seam.saturating_sub(from).div_ceil(step).min(out.len());
-    let past = (from + in_front * step).saturating_sub(seam);
-    copy_every(front, from, step, &mut out[..in_front]);
-    copy_every(back, past, step, &mut out[in_front..]);
+    for k in 0..count {
+        out[k * apart + at] = sample;
+    }
 }
 
-/// Copies the samples that stand `step` places apart, from the place `from` on.
+/// Copies so many samples of the joined slices, which stand `step` places apart from the place `from` on, to places of `out` that
+/// stand `apart` from one another, from the place `at` on.
 #[inline(always)]
-fn copy_every<T: Copy>(source: &[T], from: usize, step: usize, out: &mut [T])
-    requires { (k : ℕ) → k < length out.old → from + k * step < length source.now }
-    ensures { EachIndex out.new (λ k. (d : T) → slice_index_or out.new k d ≡ slice_index_or source.now (from + k * step) d) }
+fn copy_channel<T: Copy>(
+    front: &[T],
+    back: &[T],
+    from: usize,
+    step: usize,
+    count: usize,
+    out: &mut [T],
+    at: usize,
+    apart: usize,
+)
+    requires within { (k : ℕ) → k < count → from + k * step < length (front.now ++ back.now) }
+    requires small { from + length (front.now ++ back.now) < 2 ^ 62 }
+    requires step { (1 ≤ step) × (step ≤ 16) }
+    requires at { at < apart }
+    requires room { count * apart ≤ length out.old }
+    ensures put { (k : ℕ) → k < count → (d : T) → slice_index_or out.new (k * apart + at) d ≡ slice_index_or (front.now ++ back.now) (from + k * step) d }
+    ensures others { (k c : ℕ) → c < apart → (c ≡ at → ⊥) → (d : T) → slice_index_or out.new (k * apart + c) d ≡ slice_index_or out.old (k * apart + c) d }
 {
-    for (k, place) in out.iter_mut().enumerate() {
-        *place = source[from + k * step];
+    let seam = front.len();
+    let in_front = seam.saturating_sub(from).div_ceil(step).min(count);
+    let past = (from + in_front * step).saturating_sub(seam);
+    let (near, far) = out.split_at_mut(in_front * apart);
+    copy_every(front, from, step, in_front, near, at, apart);
+    copy_every(back, past, step, count - in_front, far, at, apart);
+}
+
+/// Copies so many samples that stand `step` places apart, from the place `from` on, to places of `out` that stand `apart` from one
+/// another, from the place `at` on.
+#[inline(always)]
+fn copy_every<T: Copy>(
+    source: &[T],
+    from: usize,
+    step: usize,
+    count: usize,
+    out: &mut [T],
+    at: usize,
+    apart: usize,
+)
+    requires source { (k : ℕ) → k < count → from + k * step < length source.now }
+    requires at { at < apart }
+    requires room { count * apart ≤ length out.old }
+    ensures put { (k : ℕ) → k < count → (d : T) → slice_index_or out.new (k * apart + at) d ≡ slice_index_or source.now (from + k * step) d }
+    ensures others { (k c : ℕ) → c < apart → (c ≡ at → ⊥) → (d : T) → slice_index_or out.new (k * apart + c) d ≡ slice_index_or out.old (k * apart + c) d }
+{
+    for k in 0..count {
+        out[k * apart + at] = source[from + k * step];
     }
 }

@@ -1,14 +1,15 @@
 -- Frames with their echoes, many of them made at once.
-use Rattle.std.proofs.Common.{◌≡◌, ◌+◌, ◌-◌, ◌*◌, ◌<◌, ◌≤◌, ◌⊎◌, ℕ, ℤ, inl, inr, pos, true, false, List, [], ◌++◌, length, map, take, drop, get_or, replicate, sym, ap, ◌∙◌, arith}
+use Rattle.std.proofs.Common.{◌≡◌, ◌+◌, ◌-◌, ◌*◌, ◌<◌, ◌≤◌, ℕ, ℤ, inl, inr, pos, true, false, List, [], ◌++◌, length, map, take, get_or, sym, ap, ◌∙◌, arith}
 use Rattle.std.specs.Prelude.{nat_le}
 use Rattle.std.proofs.lemmas.Bool.{cases_lt, le-leb, lt-leb}
-use Rattle.std.proofs.lemmas.List.{get_or-append-add, get_or-append_right, get_or_append_left, get_or-drop, get_or-replicate, get_or-take, length-replicate}
+use Rattle.std.proofs.lemmas.List.{get_or-append-add, get_or_append_left, get_or-take}
 use Rattle.fx_fixed.specs.Rounding.{rounding}
-use Rattle.fx_frame.specs.Frame.{Samples, silence}
+use Rattle.fx_frame.specs.Frame.{Samples}
 use Rattle.fx_frame.specs.Holds.{total}
 use Rattle.fx_frame.specs.Line.{Frames, latest_frames}
 use Rattle.fx_frame.specs.Ring.{pieces}
 use Rattle.fx_frame.specs.Stage.{Given}
+use Rattle.fx_frame.proofs.ManyFrames.{latest-held, latest-quiet}
 use Rattle.fx_frame.proofs.Pieces.{get_or-piece}
 use Rattle.fx_tap.specs.Echo.{EchoArguments, echo_sum, echo_taps, echoed_frame, echoed_sample}
 use Rattle.fx_tap.specs.EchoWeights.{SoundsAs, Weights, weighed}
@@ -16,34 +17,29 @@ use Rattle.fx_frame.specs.Lists.{tabulate}
 use Rattle.fx_tap.specs.PerSample.{rounded_given}
 use Rattle.fx_frame.specs.Rounded.{clips_of, samples_of}
 use Rattle.fx_tap.specs.Tapped.{clips_behind, frames_behind, sample_before}
-use Rattle.fx_tap.proofs.DelayLaws.{quiet-sample}
 use Rattle.fx_tap.proofs.EchoWeights.{small-sample}
 use Rattle.fx_tap.proofs.SumPieces.{rounded-clips, rounded-frame, rounded-frames}
 
 -- ---- samples
 
--- a sample of an earlier frame, as it was copied
+-- a sample of an earlier frame
+pub late-sample : (l : Frames ℤ) (coming : List Samples) (late n i k : ℕ) → n ≤ late → i < n → k < l.channels → get_or (get_or (latest_frames (pos 0) late l) i []) k (pos 0) ≡ sample_before (l.items ++ coming) (length l.items + i) late k
+late-sample l coming late n i k h lt within = elim (cases_lt i (late - length l.items)) [
+  | inl q ↦
+      let none : nat_le late (length l.items + i) ≡ false = lt-leb late (length l.items + i) (omega arith) in
+      rw none (latest-quiet l (pos 0) (pos 0) late i k q within)
+  | inr q ↦
+      let there : nat_le late (length l.items + i) ≡ true = le-leb late (length l.items + i) (omega arith) in
+      let inside : length l.items + i - late < length l.items = omega arith in
+      rw there (ap (λ (f : Samples). get_or f k (pos 0)) (latest-held l (pos 0) late i q ∙ sym (get_or_append_left l.items coming [] (length l.items + i - late) inside)))
+]
+
+-- the same, as it was copied
 copied-sample : (l : Frames ℤ) (out : List ℤ) (coming : List Samples) (late n i k : ℕ) → n ≤ late → i < n → k < l.channels → pieces l.channels n out ≡ take n (latest_frames (pos 0) late l)
     → get_or out (i * l.channels + k) (pos 0) ≡ sample_before (l.items ++ coming) (length l.items + i) late k
 copied-sample l out coming late n i k h lt within e =
     sym (get_or-piece l.channels n out i k (pos 0) lt within) ∙ ap (λ (ps : List Samples). get_or (get_or ps i []) k (pos 0)) e ∙ ap (λ (f : Samples). get_or f k (pos 0)) (get_or-take n (latest_frames (pos 0) late l) i [] lt)
-    ∙ go (cases_lt i (late - length l.items))
-  where
-    go : (i < late - length l.items) ⊎ (late - length l.items ≤ i) → get_or (get_or (latest_frames (pos 0) late l) i []) k (pos 0) ≡ sample_before (l.items ++ coming) (length l.items + i) late k
-    go (inl q) =
-        let front : length (replicate (late - length l.items) (silence l.channels)) ≡ late - length l.items = length-replicate (late - length l.items) (silence l.channels) in
-        let none : nat_le late (length l.items + i) ≡ false = lt-leb late (length l.items + i) (omega arith) in
-        rw none (ap (λ (f : Samples). get_or f k (pos 0))
-        (get_or_append_left (replicate (late - length l.items) (silence l.channels)) (drop (length l.items - late) l.items) [] i (omega arith) ∙ get_or-replicate (late - length l.items) i (silence l.channels) [] q)
-        ∙ quiet-sample l.channels k)
-    go (inr q) =
-        let front : length (replicate (late - length l.items) (silence l.channels)) ≡ late - length l.items = length-replicate (late - length l.items) (silence l.channels) in
-        let there : nat_le late (length l.items + i) ≡ true = le-leb late (length l.items + i) (omega arith) in
-        let at : length l.items - late + (i - (late - length l.items)) ≡ length l.items + i - late = omega arith in
-        let inside : length l.items + i - late < length l.items = omega arith in
-        rw there (ap (λ (f : Samples). get_or f k (pos 0))
-        (get_or-append_right (replicate (late - length l.items) (silence l.channels)) (drop (length l.items - late) l.items) (late - length l.items) i [] front q
-        ∙ get_or-drop (length l.items - late) l.items (i - (late - length l.items)) [] ∙ ap (λ n. get_or l.items n []) at ∙ sym (get_or_append_left l.items coming [] (length l.items + i - late) inside)))
+    ∙ late-sample l coming late n i k h lt within
 
 pub earlier-sample : (l : Frames ℤ) (out : List ℤ) (coming : List Samples) (channels late n i k : ℕ) → l.channels ≡ channels → n ≤ late → i < n → k < channels → pieces l.channels n out ≡ take n (latest_frames (pos 0) late l)
     → get_or out (i * channels + k) (pos 0) ≡ sample_before (l.items ++ coming) (length l.items + i) late k

@@ -48,29 +48,6 @@ pub(crate) fn add_channel(
     }
 }
 
-/// Copies one channel of so many frames over that of as many others.
-#[inline(always)]
-pub(crate) fn copy_channel(
-    from: &[i32],
-    channels: usize,
-    channel: usize,
-    count: usize,
-    to: &mut [i32],
-)
-    requires channel { channel < channels }
-    requires channels { channels ≤ 16 }
-    requires from { count * channels ≤ length from.now }
-    requires to { count * channels ≤ length to.old }
-    ensures put { (i : ℕ) → i < count → slice_index_or to.new (i * channels + channel) (pos 0) ≡ slice_index_or from.now (i * channels + channel) (pos 0) }
-    ensures others { (i c : ℕ) → c < channels → (c ≡ channel → ⊥) → slice_index_or to.new (i * channels + c) (pos 0) ≡ slice_index_or to.old (i * channels + c) (pos 0) }
-{
-    let mut at = channel;
-    'frames: for _turn in 0..count {
-        to[at] = from[at];
-        at += channels;
-    }
-}
-
 /// Copies one channel of so many frames over one of as many frames of other channels.
 #[inline(always)]
 pub(crate) fn place_channel(

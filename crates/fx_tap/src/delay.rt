@@ -10,8 +10,6 @@ ghost use Rattle.fx_tap.specs.Tapped.{IsTapState, TapState, frames_behind, last_
 ghost use Rattle.fx_tap.specs.Near.{delays-near};
 ghost use Rattle.std.proofs.Common.{zero-le};
 
-use crate::channels::copy_channel;
-use crate::echo::SAMPLES_OF_PIECE;
 use crate::tapped::{Tapped, Tapping, TapsMany, sample, tap_and_push, tap_by_frames};
 use fx_fixed::inner::longest;
 use fx_frame::inner::{frame_of, samples};
@@ -196,14 +194,12 @@ fn delay_over(line: &mut Line, samples: &mut [i32])
 /// The fewest frames of a piece: fewer take longer at once than one at a time.
 const FEWEST_OF_PIECE: usize = 8;
 
-/// The most frames of a piece: there is room for their samples, and where a channel is late, it is by no fewer.
+/// The most frames of a piece: where a channel is late, it is by no fewer.
 fn frames_of_piece(delays: &[u64]) -> usize
-    requires { (1 ≤ length delays.now) × (length delays.now ≤ 16) }
     ensures some { 1 ≤ result }
-    ensures room { result * length delays.now ≤ 256 }
     ensures late { (k : ℕ) → k < length delays.now → (slice_index delays.now k ≡ 0) ⊎ (result ≤ slice_index delays.now k) }
 {
-    let mut most = SAMPLES_OF_PIECE / delays.len();
+    let mut most = usize::MAX;
     'delays: for delay in delays {
         if *delay != 0 {
             most = most.min(*delay as usize);
@@ -217,20 +213,15 @@ fn delay_piece(delays: &[u64], line: &Line, frames: &[i32], count: usize, out: &
     requires some { (1 ≤ length delays.now) × (length delays.now ≤ 16) }
     requires channels { line.now.channels ≡ length delays.now }
     requires late { (k : ℕ) → k < length delays.now → (slice_index delays.now k ≡ 0) ⊎ (count ≤ slice_index delays.now k) }
-    requires room { count * length delays.now ≤ 256 }
     requires frames { length frames.now ≡ count * length delays.now }
     requires out { length out.old ≡ count * length delays.now }
     ensures { pieces (length delays.now) count out.new ≡ frames_behind delay_taps delays.now line.now.items (pieces (length delays.now) count frames.now) }
 {
-    let channels = delays.len();
-    let mut places = [0; SAMPLES_OF_PIECE];
-    let earlier = &mut places[..frames.len()];
     out.copy_from_slice(frames);
-    'channels: for channel in 0..channels {
+    'channels: for channel in 0..delays.len() {
         let late = delays[channel] as usize;
         if late != 0 {
-            line.before_into(late, count, earlier);
-            copy_channel(earlier, channels, channel, count, out);
+            line.channel_before_into(late, count, channel, out);
         }
     }
 }
@@ -248,7 +239,7 @@ fn delay_pieces(
     requires some { (1 ≤ length delays.now) × (length delays.now ≤ 16) }
     requires channels { line.old.channels ≡ length delays.now }
     requires capacity { line.old.capacity ≡ greatest delays.now }
-    requires most { (1 ≤ most) × (most * length delays.now ≤ 256) }
+    requires most { 1 ≤ most }
     requires late { (k : ℕ) → k < length delays.now → (slice_index delays.now k ≡ 0) ⊎ (most ≤ slice_index delays.now k) }
     requires few { count ≤ 2 ^ 56 }
     requires input { count * length delays.now ≤ length input.now }

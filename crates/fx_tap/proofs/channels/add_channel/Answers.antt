@@ -5,7 +5,7 @@ use Rattle.std.proofs.lemmas.Int.{fits_signed_from_abs, ints, fits_signed_mul}
 use Rattle.std.proofs.lemmas.List.{get_or-set_other}
 use Rattle.fx_tap.proofs.Fractions.{held-64, plain-product-64}
 use Rattle.fx_tap.proofs.SumLaws.{added-more}
-use Rattle.fx_tap.proofs.ChannelPlaces.{within-frames}
+use Rattle.fx_frame.proofs.ChannelPlaces.{within-frames}
 use Rattle.fx_tap.proofs.channels.add_channel.Goals as goal
 
 pub overflow_add-sums : goal.overflow_add-sums

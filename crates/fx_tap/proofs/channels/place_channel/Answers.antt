@@ -1,6 +1,6 @@
 use Rattle.std.proofs.Common.{rules, ◌≡◌, ◌+◌, ◌*◌, ◌<◌, ◌∙◌, ap, ℕ, ℤ, pos, length, arith, slice_index_or, FitsSigned, add-one, below_more, to_z, of_z, w32}
 use Rattle.std.proofs.Math.Nat.{suc-mul}
-use Rattle.fx_tap.proofs.ChannelPlaces.{others-stay, put-more, within-frames}
+use Rattle.fx_frame.proofs.ChannelPlaces.{others-stay, put-more, within-frames}
 use Rattle.fx_tap.proofs.channels.place_channel.Goals as goal
 
 pub frames-preserved : goal.frames-preserved
@@ -17,7 +17,7 @@ frames-preserved c =
     record {
       read_is = omega (arith, old.read_is, suc-mul k c.args.inputs, add-one k);
       at_is = omega (arith, old.at_is, suc-mul k c.args.outputs, add-one k);
-      put = put-more (λ i. slice_index_or c.args.from.now (i * c.args.inputs + c.args.channel) (pos 0)) c.frames.to c.args.outputs c.args.place k c.frames.at y c.requires.place old.at_is inside there old.put;
-      others = λ i d in_d other. others-stay c.frames.to c.args.outputs c.args.place k c.frames.at i d y c.requires.place old.at_is in_d other ∙ old.others i d in_d other;
+      put = put-more (pos 0) (λ i. slice_index_or c.args.from.now (i * c.args.inputs + c.args.channel) (pos 0)) c.frames.to c.args.outputs c.args.place k c.frames.at y c.requires.place old.at_is inside there old.put;
+      others = λ i d in_d other. others-stay (pos 0) c.frames.to c.args.outputs c.args.place k c.frames.at i d y c.requires.place old.at_is in_d other ∙ old.others i d in_d other;
       samples = below_more _ _ old.samples (rw (← there) fits);
     }

@@ -1,8 +1,8 @@
-use Rattle.std.proofs.Common.{rules, ◌≡◌, ◌+◌, ◌*◌, ◌<◌, ◌∙◌, ◌+ℤ◌, ap, ℕ, ℤ, Bool, pos, false, length, arith, slice_index_or, add-one, below_more, sym, to_z, of_z, w32, w64}
+use Rattle.std.proofs.Common.{rules, ◌≡◌, ◌+◌, ◌*◌, ◌<◌, ◌∙◌, ◌+ℤ◌, ap, ℕ, ℤ, Bool, pos, length, arith, slice_index_or, add-one, below_more, sym, to_z, of_z, w32, w64}
 use mathlib.Core.Path.{ap₂}
 use Rattle.std.proofs.Math.Nat.{suc-mul}
 use Rattle.fx_fixed.specs.Rounding.{rounding}
-use Rattle.fx_tap.proofs.ChannelPlaces.{others-stay, put-more, within-frames}
+use Rattle.fx_frame.proofs.ChannelPlaces.{others-stay, put-more, within-frames}
 use Rattle.std.proofs.lemmas.Int.{ints}
 use Rattle.fx_tap.proofs.channels.place_mean.Goals as goal
 
@@ -25,9 +25,9 @@ frames-preserved c =
       left_is = omega (arith, old.left_is, suc-mul k c.args.inputs, add-one k);
       right_is = omega (arith, old.right_is, suc-mul k c.args.inputs, add-one k);
       at_is = omega (arith, old.at_is, suc-mul k c.args.outputs, add-one k);
-      put = put-more (λ i. (rounding (F i) 2).0) c.frames.to c.args.outputs c.args.place k c.frames.at y c.requires.place old.at_is inside value old.put;
+      put = put-more (pos 0) (λ i. (rounding (F i) 2).0) c.frames.to c.args.outputs c.args.place k c.frames.at y c.requires.place old.at_is inside value old.put;
       unclipped = below_more _ _ old.unclipped (ap (λ (r : ℤ × Bool). r.1) made);
-      others = λ i d in_d other. others-stay c.frames.to c.args.outputs c.args.place k c.frames.at i d y c.requires.place old.at_is in_d other ∙ old.others i d in_d other;
+      others = λ i d in_d other. others-stay (pos 0) c.frames.to c.args.outputs c.args.place k c.frames.at i d y c.requires.place old.at_is in_d other ∙ old.others i d in_d other;
     }
 
 pub bounds-from-left : goal.bounds-from-left

@@ -1,12 +1,12 @@
 -- One channel more is delayed, or stands as it came.
-use Rattle.std.proofs.Common.{◌≡◌, ◌+◌, ◌<◌, ◌≤◌, ◌++◌, ℕ, ℤ, List, length, refl, sym, ◌∙◌, arith}
+use Rattle.std.proofs.Common.{ap, pos, get_or, ◌*◌, ◌≡◌, ◌+◌, ◌<◌, ◌≤◌, ◌++◌, ℕ, ℤ, List, length, refl, sym, ◌∙◌, arith}
 use Rattle.std.specs.Prelude.{slice_index}
 use Rattle.fx_frame.specs.Frame.{Samples}
 use Rattle.fx_frame.specs.Ring.{pieces}
 use Rattle.fx_frame.proofs.Pieces.{length-pieces}
 use Rattle.fx_tap.specs.Tapped.{sample_before}
 use Rattle.fx_tap.proofs.DelayPieces.{delay-frames, late-by}
-use Rattle.fx_tap.proofs.EchoPieces.{coming-sample, earlier-sample}
+use Rattle.fx_tap.proofs.EchoPieces.{coming-sample, late-sample}
 use Rattle.fx_tap.proofs.FirBlocks.{channel-put}
 use Rattle.fx_tap.proofs.delay.delay_piece.Goals as goal
 use Rattle.fx_tap.proofs.delay.delay_piece.Goals.{then-late-ne0, else-late-ne0}
@@ -26,10 +26,13 @@ channels-preserved c =
       | then-late-ne0 w ↦
           let some : 0 < slice_index ds k = omega (arith, w.if-late-ne0.true) in
           let late : n ≤ slice_index ds k = late-by (slice_index ds k) n (c.requires.late k inside) some in
+          let same : c.args.line.now.channels ≡ ch = c.requires.channels in
+          let new : List ℤ = w.channel_before_into.new.out in
+          let others = rw same at w.channel_before_into.ensures.others in
           rw w.out-is
           record {
-            done = channel-put F c.channels.out w.copy_channel.new.to ch k n inside (λ i l. w.copy_channel.ensures.put i l ∙ earlier-sample c.args.line.now w.before_into.new.out xs ch (slice_index ds k) n i k c.requires.channels late l inside w.before_into.ensures) w.copy_channel.ensures.others old.done;
-            left = λ i q within later. w.copy_channel.ensures.others i q within (λ e. absurd (omega (arith, e, later))) ∙ old.left i q within (omega (arith, later));
+            done = channel-put F c.channels.out new ch k n inside (λ i l. ap (λ m. get_or new (i * m + k) (pos 0)) (sym same) ∙ w.channel_before_into.ensures.put i l ∙ late-sample c.args.line.now xs (slice_index ds k) n i k late l (omega (arith, same, inside))) others old.done;
+            left = λ i q within later. others i q within (λ e. absurd (omega (arith, e, later))) ∙ old.left i q within (omega (arith, later));
           }
       | else-late-ne0 w ↦
           let none : slice_index ds k ≡ 0 = omega (arith, w.if-late-ne0.false) in

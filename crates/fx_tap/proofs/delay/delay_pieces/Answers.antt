@@ -1,5 +1,6 @@
-use Rattle.std.proofs.Common.{append_assoc, ◌≡◌, ◌+◌, ◌-◌, ◌*◌, ◌≤◌, ℕ, List, ◌++◌, length, take, drop, sym, refl, ap, ◌∙◌, arith}
+use Rattle.std.proofs.Common.{◌^◌, inl, inr, append_assoc, ◌≡◌, ◌+◌, ◌-◌, ◌*◌, ◌≤◌, ℕ, List, ◌++◌, length, take, drop, sym, refl, ap, ◌∙◌, arith}
 use Rattle.std.specs.Prelude.{ℤ}
+use Rattle.std.proofs.lemmas.Nat.{mul-le}
 use Rattle.std.proofs.lemmas.List.{drop-drop, length-drop, length-take-le}
 use Rattle.std.proofs.Math.Nat.{add-mul, mul-le-mul_right}
 use Rattle.fx_fixed.specs.Extents.{greatest}
@@ -13,6 +14,27 @@ use Rattle.fx_tap.specs.Near.{delays-near}
 use Rattle.fx_tap.specs.Tapped.{frames_behind, last_of}
 use Rattle.fx_tap.proofs.TapBlocks.{frames-joined, last-joined}
 use Rattle.fx_tap.proofs.delay.delay_pieces.Goals as goal
+
+pub overflow_mul-from : goal.overflow_mul-from
+overflow_mul-from c = omega (arith, mul-le c.pieces.done (length c.args.delays.now) (2 ^ 56) 16 (omega arith) c.requires.some.1)
+
+pub overflow_mul-to : goal.overflow_mul-to
+overflow_mul-to c = omega (arith, mul-le c.min-now.result (length c.args.delays.now) (2 ^ 56) 16 (omega arith) c.requires.some.1)
+
+pub offset_bounds-input-from : goal.offset_bounds-input-from
+offset_bounds-input-from c = omega (arith, mul-le c.pieces.done (length c.args.delays.now) (2 ^ 56) 16 (omega arith) c.requires.some.1)
+
+pub offset_bounds-output-from : goal.offset_bounds-output-from
+offset_bounds-output-from c = omega (arith, mul-le c.pieces.done (length c.args.delays.now) (2 ^ 56) 16 (omega arith) c.requires.some.1)
+
+pub overflow_add-to : goal.overflow_add-to
+overflow_add-to c = omega (arith, mul-le c.pieces.done (length c.args.delays.now) (2 ^ 56) 16 (omega arith) c.requires.some.1, mul-le c.min-now.result (length c.args.delays.now) (2 ^ 56) 16 (omega arith) c.requires.some.1)
+
+pub delay_piece-requires-clause-late : goal.delay_piece-requires-clause-late
+delay_piece-requires-clause-late c = λ k h. elim (c.requires.late k h) [
+  | inl none ↦ inl none
+  | inr late ↦ inr (omega arith)
+]
 
 pub slice_bounds-frames-end : goal.slice_bounds-frames-end
 slice_bounds-frames-end c =

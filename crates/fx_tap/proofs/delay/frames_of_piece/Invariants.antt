@@ -1,4 +1,4 @@
-use Rattle.std.proofs.Common.{ℕ, ◌≡◌, ◌<◌, ◌≤◌, ◌*◌, ◌⊎◌, length}
+use Rattle.std.proofs.Common.{ℕ, ◌≡◌, ◌<◌, ◌≤◌, ◌⊎◌}
 use Rattle.std.specs.Prelude.{slice_index}
 use Rattle.fx_tap.proofs.delay.frames_of_piece.Given as goal
 
@@ -6,6 +6,5 @@ use Rattle.fx_tap.proofs.delay.frames_of_piece.Given as goal
 abbrev pub invariant-delays : goal.invariant-delays
 invariant-delays l = record {
   some : 1 ≤ l.most;
-  room : l.most * length l.delays ≤ 256;
   late : (k : ℕ) → k < l.delay-index → (slice_index l.delays k ≡ 0) ⊎ (l.most ≤ slice_index l.delays k);
 }

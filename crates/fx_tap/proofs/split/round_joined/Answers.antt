@@ -3,7 +3,7 @@ use Rattle.std.proofs.Math.Nat.{suc-mul}
 use Rattle.fx_fixed.specs.Rounding.{rounding}
 use Rattle.fx_fixed.specs.declared.gains.TheConstants.{UNIT}
 use Rattle.fx_tap.specs.Split.{joined}
-use Rattle.fx_tap.proofs.ChannelPlaces.{others-stay, put-more, within-frames}
+use Rattle.fx_frame.proofs.ChannelPlaces.{others-stay, put-more, within-frames}
 use Rattle.fx_tap.proofs.Rounds.{clips_of-next, byte_is, byte-le}
 use Rattle.fx_tap.proofs.split.round_joined.Goals as goal
 
@@ -21,8 +21,8 @@ frames-preserved c =
     rw back
     record {
       at_is = omega (arith, old.at_is, suc-mul k c.args.channels, add-one k);
-      put = put-more (λ i. (f i).0) c.frames.out c.args.channels c.args.channel k c.frames.at y c.requires.channel old.at_is inside (ap (λ r. r.0) v) old.put;
-      others = λ i d in_d other. others-stay c.frames.out c.args.channels c.args.channel k c.frames.at i d y c.requires.channel old.at_is in_d other ∙ old.others i d in_d other;
+      put = put-more (pos 0) (λ i. (f i).0) c.frames.out c.args.channels c.args.channel k c.frames.at y c.requires.channel old.at_is inside (ap (λ r. r.0) v) old.put;
+      others = λ i d in_d other. others-stay (pos 0) c.frames.out c.args.channels c.args.channel k c.frames.at i d y c.requires.channel old.at_is in_d other ∙ old.others i d in_d other;
       counted = ap (λ n. c.frames.clips + n) (c.from-clips.ensures ∙ byte_is c.rounded-sample.result.1) ∙ clips_of-next f k c.frames.clips c.rounded-sample.result.1 old.counted (ap (λ r. r.1) v);
       few = omega (arith, c.from-clips.ensures, one, old.few);
     }

@@ -1,10 +1,10 @@
-use Rattle.std.proofs.Common.{rules, ◌≡◌, ◌+◌, ◌-◌, ◌<◌, ◌∙◌, [], ap, sym, ℕ, ℤ, Bool, length, take, drop, arith, add-one, get_or, to_z, of_z, w32}
+use Rattle.std.proofs.Common.{pos, rules, ◌≡◌, ◌+◌, ◌-◌, ◌<◌, ◌∙◌, [], ap, sym, ℕ, ℤ, Bool, length, take, drop, arith, add-one, get_or, to_z, of_z, w32}
 use Rattle.std.proofs.Math.Nat.{suc-mul}
 use Rattle.fx_frame.specs.Frame.{Samples}
 use Rattle.fx_frame.specs.Ring.{pieces}
 use Rattle.fx_frame.proofs.Pieces.{get_or-pieces}
 use Rattle.fx_tap.specs.Remix.{remixed_sample}
-use Rattle.fx_tap.proofs.ChannelPlaces.{others-stay, put-more, within-frames}
+use Rattle.fx_frame.proofs.ChannelPlaces.{others-stay, put-more, within-frames}
 use Rattle.fx_tap.proofs.Rounds.{clips_of-next, byte_is, byte-le}
 use Rattle.fx_tap.proofs.remix.Mix.channel_by_frames.Goals as goal
 
@@ -29,8 +29,8 @@ frames-preserved c =
     record {
       from_is = omega (arith, old.from_is, suc-mul k ins, add-one k);
       at_is = omega (arith, old.at_is, suc-mul k outs, add-one k);
-      put = put-more (λ i. (f i).0) c.frames.out outs c.args.channel k c.frames.at y c.requires.channel old.at_is in_out (ap (λ r. r.0) v) old.put;
-      others = λ i d in_d other. others-stay c.frames.out outs c.args.channel k c.frames.at i d y c.requires.channel old.at_is in_d other ∙ old.others i d in_d other;
+      put = put-more (pos 0) (λ i. (f i).0) c.frames.out outs c.args.channel k c.frames.at y c.requires.channel old.at_is in_out (ap (λ r. r.0) v) old.put;
+      others = λ i d in_d other. others-stay (pos 0) c.frames.out outs c.args.channel k c.frames.at i d y c.requires.channel old.at_is in_d other ∙ old.others i d in_d other;
       counted = ap (λ m. c.frames.clips + m) (c.from-clips.ensures ∙ byte_is c.sample-sample.result.1) ∙ clips_of-next f k c.frames.clips c.sample-sample.result.1 old.counted (ap (λ r. r.1) v);
       few = omega (arith, c.from-clips.ensures, one, old.few);
     }
