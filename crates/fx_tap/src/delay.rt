@@ -10,6 +10,7 @@ ghost use Rattle.fx_tap.specs.Tapped.{IsTapState, TapState, frames_behind, last_
 ghost use Rattle.fx_tap.specs.Near.{delays-near};
 ghost use Rattle.std.proofs.Common.{zero-le};
 
+use crate::echo::SAMPLES_OF_PIECE;
 use crate::tapped::{Tapped, Tapping, TapsMany, sample, tap_and_push, tap_by_frames};
 use fx_fixed::inner::longest;
 use fx_frame::inner::{frame_of, samples};
@@ -194,12 +195,14 @@ fn delay_over(line: &mut Line, samples: &mut [i32])
 /// The fewest frames of a piece: fewer take longer at once than one at a time.
 const FEWEST_OF_PIECE: usize = 8;
 
-/// The most frames of a piece: where a channel is late, it is by no fewer.
+/// The most frames of a piece: few enough that they stay in the nearest cache from channel to channel, and where a channel is
+/// late, it is by no fewer.
 fn frames_of_piece(delays: &[u64]) -> usize
+    requires { (1 ≤ length delays.now) × (length delays.now ≤ 16) }
     ensures some { 1 ≤ result }
     ensures late { (k : ℕ) → k < length delays.now → (slice_index delays.now k ≡ 0) ⊎ (result ≤ slice_index delays.now k) }
 {
-    let mut most = usize::MAX;
+    let mut most = SAMPLES_OF_PIECE / delays.len();
     'delays: for delay in delays {
         if *delay != 0 {
             most = most.min(*delay as usize);
