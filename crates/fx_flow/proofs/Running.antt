@@ -1,11 +1,11 @@
 -- Frames that go through stages in a row one after another.
-use Rattle.std.proofs.Common.{ℕ, zero, suc, ◌+◌, ◌-◌, ◌*◌, ◌/◌, ◌<◌, ◌≤◌, ◌≡◌, Bool, true, false, map, List, [], ◌∷◌, ◌++◌, get_or, length, take, drop, set, refl, sym, ap, ◌∙◌, subst, arith, inl, inr, Option, Some, None, ◌||◌, ◌&&◌, max}
+use Rattle.std.proofs.Common.{ℕ, zero, suc, add-one, ◌+◌, ◌-◌, ◌*◌, ◌/◌, ◌<◌, ◌≤◌, ◌≡◌, Bool, true, false, map, List, [], ◌∷◌, ◌++◌, get_or, length, take, drop, set, refl, sym, ap, ◌∙◌, subst, arith, inl, inr, Option, Some, None, ◌||◌, ◌&&◌, max}
 use Rattle.std.specs.Prelude.{ℤ, FitsSigned, if◌then◌else◌, ◌⊎◌}
 use Rattle.std.specs.Int.{w32}
 use Rattle.std.specs.List.{All}
-use Rattle.std.proofs.lemmas.List.{append-nil, append_assoc, drop-drop, drop-take, drop_all, length-append, length-drop, length-take-le, take-take, take_all}
+use Rattle.std.proofs.lemmas.List.{append-nil, append_assoc, drop-drop, drop-take, drop_all, length-append, length-drop, length-take-le, take-take, take_all, take_at}
 use Rattle.std.proofs.lemmas.List.Elements.{All-drop, All-take}
-use Rattle.std.proofs.Math.Nat.{div-mul-le_self, mul-le-mul_right}
+use Rattle.std.proofs.Math.Nat.{div-mul-le_self, mul-le-mul_right, suc-mul}
 use Rattle.fx_frame.specs.Feed.{GaveNext, TookNext}
 use Rattle.fx_frame.specs.Frame.{IsFrame, Samples}
 use Rattle.fx_frame.specs.Holds.{kinds, recipes}
@@ -34,13 +34,13 @@ kept-is w channels keeps inputs outputs =
     let same : ◌≡◌ {A = ℕ × (ℕ × Bool)} (channels, (channels, true)) (w.inputs, (w.outputs, w.keeps)) = rw (keeps, outputs, inputs) refl in
     ap (λ (p : ℕ × (ℕ × Bool)). record { inputs = p.0; outputs = p.1.0; keeps = p.1.1 }) same
 
--- a frame was written behind those that were, or none
-abbrev pub Wrote : ℕ → Bool → Samples → List ℤ → List ℤ → ℕ → ℕ → ℕ → ℕ → Type 0
-Wrote channels b frame out out' written written' given given' =
-    ((b ≡ true) × (out' ≡ take written out ++ frame ++ drop (written + channels) out) × (written' ≡ written + channels) × (given' ≡ given + 1))
-    ⊎ ((b ≡ false) × (out' ≡ out) × (written' ≡ written) × (given' ≡ given))
+-- a frame was written behind so many that were, or none
+abbrev pub Wrote : ℕ → Bool → Samples → List ℤ → List ℤ → ℕ → ℕ → Type 0
+Wrote channels b frame out out' given given' =
+    ((b ≡ true) × (out' ≡ take (given * channels) out ++ (frame ++ drop (given * channels + channels - given * channels) (drop (given * channels) out))) × (given' ≡ given + 1))
+    ⊎ ((b ≡ false) × (out' ≡ out) × (given' ≡ given))
 
-pub put-mid : (at size : ℕ) (out frame out' : List ℤ) → out' ≡ take at out ++ (frame ++ drop size (drop at out)) → out' ≡ take at out ++ frame ++ drop (at + size) out
+put-mid : (at size : ℕ) (out frame out' : List ℤ) → out' ≡ take at out ++ (frame ++ drop size (drop at out)) → out' ≡ take at out ++ frame ++ drop (at + size) out
 put-mid at size out frame out' e = e ∙ ap (λ l. take at out ++ (frame ++ l)) (drop-drop size at out) ∙ sym (append_assoc (take at out) frame (drop (at + size) out))
 
 -- where it reaches to the end
@@ -67,7 +67,7 @@ put-long at size out frame out' e h w =
     rw w (omega (arith, e, length-append (take at out ++ frame) (drop (at + size) out), length-append (take at out) frame, length-take-le at out (omega arith), length-drop (at + size) out))
 
 -- a frame that stands in samples that were read
-pub frame-read : (at size long : ℕ) (input : List ℤ) → 1 ≤ size → size ≤ 16 → at + size ≤ long → long ≤ length input → All (FitsSigned w32) (take long input) → IsFrame (take size (drop at input))
+frame-read : (at size long : ℕ) (input : List ℤ) → 1 ≤ size → size ≤ 16 → at + size ≤ long → long ≤ length input → All (FitsSigned w32) (take long input) → IsFrame (take size (drop at input))
 frame-read at size long input some few within reach fits =
     let reaches : at + (long - at) ≡ long = omega (arith, within) in
     let whole : drop at (take long input) ≡ take (long - at) (drop at input) = ap (λ n. drop at (take n input)) (sym reaches) ∙ drop-take at (long - at) input in
@@ -233,7 +233,7 @@ module _ {S R : Type 0} (acts : Acts S R) where
       unspent = Running-unspent stages out read written taken given run more
 
       -- the frame stayed in a stage
-      pub Running-kept : WentThrough acts x None stages stages' → Running stages' out (read + channels) written (taken + 1) given
+      Running-kept : WentThrough acts x None stages stages' → Running stages' out (read + channels) written (taken + 1) given
       Running-kept went =
           let going = passed-row acts rises channels (left + taken) x shape width (omega arith) None stages stages' run.sound settled unspent run.held went in
           let e : left + (taken + 1) ≡ left + taken + 1 = omega arith in
@@ -248,7 +248,7 @@ module _ {S R : Type 0} (acts : Acts S R) where
           }
 
       -- a frame came out
-      pub Running-through : (frame : Samples) (out' : List ℤ) → WentThrough acts x (Some frame) stages stages' → length frame ≡ outputs → 1 ≤ length frame → written + outputs ≤ length out → out' ≡ take written out ++ frame ++ drop (written + outputs) out → length out' ≡ length out → outputs_of channels (kinds acts first) ≡ outputs
+      Running-through : (frame : Samples) (out' : List ℤ) → WentThrough acts x (Some frame) stages stages' → length frame ≡ outputs → 1 ≤ length frame → written + outputs ≤ length out → out' ≡ take written out ++ frame ++ drop (written + outputs) out → length out' ≡ length out → outputs_of channels (kinds acts first) ≡ outputs
           → Running stages' out' (read + channels) (written + outputs) (taken + 1) (given + 1)
       Running-through frame out' went sides one free put same outs =
           let going = passed-row acts rises channels (left + taken) x shape width (omega arith) (Some frame) stages stages' run.sound settled unspent run.held went in
@@ -266,16 +266,48 @@ module _ {S R : Type 0} (acts : Acts S R) where
             fewer = let h = run.fewer in omega arith;
           }
 
-      -- the one or the other
-      pub Running-turn : (b : Bool) (frame : Samples) (out' : List ℤ) (written' given' : ℕ) → WentThrough acts x (if b then Some frame else None) stages stages' → (b ≡ true → (length frame ≡ outputs) × (1 ≤ length frame)) → written + outputs ≤ length out → outputs_of channels (kinds acts first) ≡ outputs
-          → Wrote outputs b frame out out' written written' given given' → Running stages' out' (read + channels) written' (taken + 1) given'
-      Running-turn b frame out' written' given' went sides free outs (inl wrote) =
-          let went' = rw wrote.0 at went in
-          rw (wrote.2, wrote.3) (Running-through frame out' went' (sides wrote.0).0 (sides wrote.0).1 free wrote.1 (put-long written outputs out frame out' (sides wrote.0).0 free wrote.1) outs)
-      Running-turn b frame out' written' given' went sides free outs (inr wrote) =
-          let went' = rw wrote.0 at went in
-          rw (wrote.1, wrote.2, wrote.3) (Running-kept went')
+    -- a frame was copied from the input, went through the stages, and what came out was copied to the output
+    module _ (stages stages' : List S) (out out' places places' x : List ℤ) (taken given given' : ℕ) (b : Bool) (run : Running stages out (taken * channels) (given * outputs) taken given) (few : left + count ≤ most_frames) (more : taken < count) (settled : AllSettled acts stages)
+        (outs : outputs_of channels (kinds acts first) ≡ outputs) (frame : (1 ≤ channels) × (channels ≤ 16)) (reach : count * channels ≤ length input) (free : count * outputs ≤ length out) (fits : All (FitsSigned w32) (take (count * channels) input))
+        (copied : x ≡ take (taken * channels + channels - taken * channels) (drop (taken * channels) input)) (sixteen : length places' ≡ 16)
+        (went : WentThrough acts (take channels (x ++ drop channels places)) (if b then Some (take (outputs_of channels (kinds acts stages)) places') else None) stages stages')
+        (wide : b ≡ true → (1 ≤ outputs_of channels (kinds acts stages)) × (outputs_of channels (kinds acts stages) ≤ 16)) where
+      next-frame : (n width : ℕ) → n * width + width ≡ (n + 1) * width
+      next-frame n width = omega (arith, add-one n, suc-mul n width)
 
-    -- what was written, and what was not
-    pub Running-behind : (stages : List S) (out : List ℤ) (read written taken given : ℕ) → Running stages out read written taken given → outputs_of channels (kinds acts first) ≡ outputs → written ≡ given * outputs
-    Running-behind stages out read written taken given run outs = rw outs at run.turned.written_is
+      within : taken * channels + channels ≤ count * channels
+      within =
+          let turns : (taken + 1) * channels ≤ count * channels = mul-le-mul_right channels (omega (arith, more)) in
+          omega (arith, next-frame taken channels, turns)
+
+      x-is : x ≡ take channels (drop (taken * channels) input)
+      x-is = let n : taken * channels + channels - taken * channels ≡ channels = omega arith in rw n at copied
+
+      width : length x ≡ channels
+      width = ap length x-is ∙ length-take-le channels (drop (taken * channels) input) (omega (arith, length-drop (taken * channels) input, within, reach))
+
+      shape : IsFrame x
+      shape = subst IsFrame (sym x-is) (frame-read (taken * channels) channels (count * channels) input frame.0 frame.1 within reach fits)
+
+      outs-now : outputs_of channels (kinds acts stages) ≡ outputs
+      outs-now = ap (outputs_of channels) run.same ∙ outs
+
+      went-now : WentThrough acts x (if b then Some (take outputs places') else None) stages stages'
+      went-now = let front : take channels (x ++ drop channels places) ≡ x = take_at x (drop channels places) channels width in rw (front, outs-now) at went
+
+      pub Running-frame : Wrote outputs b (take outputs places') out out' given given' → Running stages' out' ((taken + 1) * channels) (given' * outputs) (taken + 1) given'
+      Running-frame (inl wrote) =
+          let went' = rw wrote.0 at went-now in
+          let wide' = rw outs-now at (wide wrote.0) in
+          let long : length (take outputs places') ≡ outputs = length-take-le outputs places' (omega (arith, sixteen, wide'.1)) in
+          let turns : (given + 1) * outputs ≤ count * outputs = mul-le-mul_right outputs (omega (arith, more, run.fewer)) in
+          let room : given * outputs + outputs ≤ length out = omega (arith, next-frame given outputs, turns, free) in
+          let n : given * outputs + outputs - given * outputs ≡ outputs = omega arith in
+          let put = put-mid (given * outputs) outputs out (take outputs places') out' (rw n at wrote.1) in
+          rw (wrote.2, ← next-frame taken channels, ← next-frame given outputs)
+          (Running-through stages stages' out (taken * channels) (given * outputs) taken given x run few more settled shape width x-is frame.0 (omega (arith, within, reach)) (take outputs places') out' went'
+          long (omega (arith, long, wide'.0)) room put (put-long (given * outputs) outputs out (take outputs places') out' long room put) outs)
+      Running-frame (inr wrote) =
+          let went' = rw wrote.0 at went-now in
+          rw (wrote.1, wrote.2, ← next-frame taken channels)
+          (Running-kept stages stages' out (taken * channels) (given * outputs) taken given x run few more settled shape width x-is frame.0 (omega (arith, within, reach)) went')
