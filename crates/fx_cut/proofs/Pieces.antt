@@ -1,5 +1,5 @@
 -- A piece that a stage passed at once, and the frames behind it.
-use Rattle.std.proofs.Common.{◌≡◌, ◌<◌, ◌+◌, ◌-◌, ◌*◌, ◌/◌, ◌≤◌, ℕ, zero, suc, true, false, List, [], ◌∷◌, ◌++◌, length, take, drop, refl, sym, ap, ◌∙◌, arith, append-nil, append_assoc, length-append, length-drop, subst}
+use Rattle.std.proofs.Common.{◌≡◌, ◌≢◌, ◌<◌, ◌+◌, ◌-◌, ◌*◌, ◌/◌, ◌≤◌, ℕ, zero, suc, true, false, List, [], ◌∷◌, ◌++◌, length, take, drop, refl, sym, ap, ◌∙◌, arith, append-nil, append_assoc, length-append, length-drop, subst}
 use Rattle.std.specs.Prelude.{ℤ}
 use Rattle.std.specs.List.{All}
 use Rattle.std.proofs.lemmas.List.Elements.{All-append, All-cons, All-head, All-nil, All-tail}
@@ -16,11 +16,14 @@ use borrow.Rule.Slice.PartMut.{put_mid}
 
 module _ {X : Type 0} where
   -- the part of a slice from a place on
-  pub part-from : (a : ℕ) (xs : List X) → take (length xs - a) (drop a xs) ≡ drop a xs
+  abbrev pub part : (a : ℕ) (xs : List X) → List X
+  part a xs = take (length xs - a) (drop a xs)
+
+  pub part-from : (a : ℕ) (xs : List X) → part a xs ≡ drop a xs
   part-from a xs = take_all (length xs - a) (drop a xs) (omega (arith, length-drop a xs))
 
   -- and the slice after that part was written
-  pub put-from : (a : ℕ) (xs ys : List X) → put_mid a (length xs - a) xs ys ≡ take a xs ++ ys
+  put-from : (a : ℕ) (xs ys : List X) → put_mid a (length xs - a) xs ys ≡ take a xs ++ ys
   put-from a xs ys =
       let none : drop (length xs - a) (drop a xs) ≡ [] = drop_all (length xs - a) (drop a xs) (omega (arith, length-drop a xs)) in
       rw none (ap (λ l. take a xs ++ l) (append-nil ys))
@@ -57,7 +60,7 @@ all-pieces {X} P size (suc n) xs e all =
     subst (All P) (joined size xs) (All-append P (take size xs) (drop size xs) first rest)
 
 -- frames of at least one sample are no more than the samples
-pub few-frames : (n w len : ℕ) → 1 ≤ w → n * w ≤ len → n ≤ len
+few-frames : (n w len : ℕ) → 1 ≤ w → n * w ≤ len → n ≤ len
 few-frames n w len h k = let m : n * 1 ≤ n * w = mul-le-mul_left n h in omega arith
 
 -- no more frames than there are
@@ -93,57 +96,92 @@ module _ {S R : Type 0} (acts : Acts S R) where
       let none = one.read in
       record { fed = rw (← pieces-cut (kind acts first).inputs n 0 input none) one.fed; read = omega arith; written = one.written; behind = one.behind }
 
-  module _ (first s t : S) (input start mid behind : List ℤ) (n m k j : ℕ) (one : FedFront first s input start mid n k) where
-    pub kind-stays : kind acts s ≡ kind acts first
+  -- so many frames were passed
+  module _ {first s : S} {input start mid : List ℤ} {n k : ℕ} (one : FedFront first s input start mid n k) where
+    kind-stays : kind acts s ≡ kind acts first
     kind-stays = ap acts.kind_of (Fed-gives acts first s _ _ one.fed).recipe_stays
 
-    pub counted : (acts.counts s).taken ≡ (acts.counts first).taken + n
+    counted : (acts.counts s).taken ≡ (acts.counts first).taken + n
     counted = (Fed-gives acts first s _ _ one.fed).taken ∙ ap (λ l. (acts.counts first).taken + l) (length-pieces (kind acts first).inputs n input)
 
     -- as many frames of the rest are there as of the whole
-    pub read-both : (i : ℕ) → i * (kind acts s).inputs ≤ length (drop (n * (kind acts first).inputs) input) → (n + i) * (kind acts first).inputs ≤ length input
+    read-both : (i : ℕ) → i * (kind acts s).inputs ≤ length (drop (n * (kind acts first).inputs) input) → (n + i) * (kind acts first).inputs ≤ length input
     read-both i h =
         let h' = rw kind-stays at h in
         let r = one.read in
         omega (arith, h', add-mul n i (kind acts first).inputs, length-drop (n * (kind acts first).inputs) input)
 
-    module _ (part room : List ℤ) (is-part : part ≡ drop (n * (kind acts first).inputs) input) (is-room : room ≡ drop (k * (kind acts first).outputs) mid) (two : FedFront s t part room behind m j) where
-      abbrev pub new : List ℤ
-      new = take (k * (kind acts first).outputs) mid ++ behind
+    -- and the rest of the slices is next
+    module _ {ins outs : ℕ} (ins-is : ins ≡ (kind acts first).inputs) (outs-is : outs ≡ (kind acts first).outputs) where
+      is-part : part (n * ins) input ≡ drop (n * (kind acts first).inputs) input
+      is-part = rw (← ins-is) (part-from (n * ins) input)
 
-      front : length (take (k * (kind acts first).outputs) mid) ≡ k * (kind acts first).outputs
-      front = length-take-le (k * (kind acts first).outputs) mid one.written
+      is-room : part (k * outs) mid ≡ drop (k * (kind acts first).outputs) mid
+      is-room = rw (← outs-is) (part-from (k * outs) mid)
 
-      long : length new ≡ k * (kind acts first).outputs + length behind
-      long = omega (arith, front, length-append (take (k * (kind acts first).outputs) mid) behind)
+      -- it may be passed
+      pub rest-channels : (1 ≤ (kind acts first).inputs) × ((kind acts first).inputs ≤ 16) → (1 ≤ (kind acts s).inputs) × ((kind acts s).inputs ≤ 16)
+      rest-channels some = rw kind-stays some
 
-      pub long-both : length behind ≡ length room → length new ≡ length mid
-      long-both same = let w = one.written in omega (arith, long, same, ap length is-room, length-drop (k * (kind acts first).outputs) mid)
+      pub rest-below : ((i : ℕ) → i * (kind acts first).inputs ≤ length input → (acts.counts first).taken + i ≤ (kind acts first).limit) → (i : ℕ) → i * (kind acts s).inputs ≤ length (part (n * ins) input) → (acts.counts s).taken + i ≤ (kind acts s).limit
+      rest-below below i h =
+          let all = below (n + i) (read-both i (rw is-part at h)) in
+          rw kind-stays (omega (arith, counted, all))
 
-      pub front-both : FedFront first t input start new (n + m) (k + j)
-      front-both =
-          let ins : ℕ = (kind acts first).inputs in
-          let outs : ℕ = (kind acts first).outputs in
-          let fed = rw (kind-stays, is-part) at two.fed in
-          let wrote = rw kind-stays at two.written in
-          let rest = rw (kind-stays, is-room) at two.behind in
-          let more : (k + j) * outs ≡ k * outs + j * outs = add-mul k j outs in
-          record {
-            fed = Fed-behind acts ins outs n m k j input mid behind new first s t one.written refl one.fed fed;
-            read = read-both m (rw is-part at two.read);
-            written = omega (arith, more, wrote, long);
-            behind = rw more (sym (drop-drop (j * outs) (k * outs) new) ∙ ap (drop (j * outs)) (drop_at (take (k * outs) mid) behind (k * outs) front) ∙ rest ∙ ap (drop (j * outs)) one.behind ∙ drop-drop (j * outs) (k * outs) start);
-          }
+      module _ {t : S} {behind : List ℤ} {m j : ℕ} (two : FedFront s t (part (n * ins) input) (part (k * outs) mid) behind m j) where
+        abbrev new : List ℤ
+        new = take (k * (kind acts first).outputs) mid ++ behind
 
-      pub out-both : FedOut s t part behind m j → FedOut first t input new (n + m) (k + j)
-      out-both out =
-          let ins : ℕ = (kind acts first).inputs in
-          let outs : ℕ = (kind acts first).outputs in
-          let more : (k + j) * outs ≡ k * outs + j * outs = add-mul k j outs in
-          let dry = rw kind-stays at out.dry in
-          let used = rw (kind-stays, is-part) at out.used in
-          let r = one.read in
-          record {
-            dry = λ h. dry (omega (arith, h, more, long));
-            used = λ h running some. let u = used (omega (arith, h, more, long)) running some in omega (arith, u, add-mul n m ins, length-drop (n * ins) input);
-          }
+        front : length (take (k * (kind acts first).outputs) mid) ≡ k * (kind acts first).outputs
+        front = length-take-le (k * (kind acts first).outputs) mid one.written
+
+        long : length new ≡ k * (kind acts first).outputs + length behind
+        long = omega (arith, front, length-append (take (k * (kind acts first).outputs) mid) behind)
+
+        front-new : FedFront first t input start new (n + m) (k + j)
+        front-new =
+            let ins' : ℕ = (kind acts first).inputs in
+            let outs' : ℕ = (kind acts first).outputs in
+            let fed = rw (kind-stays, is-part) at two.fed in
+            let wrote = rw kind-stays at two.written in
+            let rest = rw (kind-stays, is-room) at two.behind in
+            let more : (k + j) * outs' ≡ k * outs' + j * outs' = add-mul k j outs' in
+            record {
+              fed = Fed-behind acts ins' outs' n m k j input mid behind new first s t one.written refl one.fed fed;
+              read = read-both m (rw is-part at two.read);
+              written = omega (arith, more, wrote, long);
+              behind = rw more (sym (drop-drop (j * outs') (k * outs') new) ∙ ap (drop (j * outs')) (drop_at (take (k * outs') mid) behind (k * outs') front) ∙ rest ∙ ap (drop (j * outs')) one.behind ∙ drop-drop (j * outs') (k * outs') start);
+            }
+
+        out-new : FedOut s t (part (n * ins) input) behind m j → FedOut first t input new (n + m) (k + j)
+        out-new out =
+            let ins' : ℕ = (kind acts first).inputs in
+            let outs' : ℕ = (kind acts first).outputs in
+            let more : (k + j) * outs' ≡ k * outs' + j * outs' = add-mul k j outs' in
+            let dry = rw kind-stays at out.dry in
+            let used = rw (kind-stays, is-part) at out.used in
+            let r = one.read in
+            record {
+              dry = λ h. dry (omega (arith, h, more, long));
+              used = λ h running some. let u = used (omega (arith, h, more, long)) running some in omega (arith, u, add-mul n m ins', length-drop (n * ins') input);
+            }
+
+        -- both together, where the rest was written in its place
+        placed : put_mid (k * outs) (length mid - k * outs) mid behind ≡ new
+        placed = rw (put-from, outs-is) refl
+
+        pub front-both : FedFront first t input start (put_mid (k * outs) (length mid - k * outs) mid behind) (n + m) (k + j)
+        front-both = rw placed front-new
+
+        pub out-both : FedOut s t (part (n * ins) input) behind m j → FedOut first t input (put_mid (k * outs) (length mid - k * outs) mid behind) (n + m) (k + j)
+        out-both out = rw placed (out-new out)
+
+        -- they are no more than the samples
+        pub few-taken : 1 ≤ (kind acts first).inputs → n + m ≤ length input
+        few-taken some = few-frames (n + m) (kind acts first).inputs (length input) some front-new.read
+
+        pub few-given : outs ≢ 0 → length behind ≡ length (part (k * outs) mid) → k + j ≤ length mid
+        few-given some same =
+            let w = one.written in
+            let whole : length new ≡ length mid = omega (arith, long, same, ap length is-room, length-drop (k * (kind acts first).outputs) mid) in
+            few-frames (k + j) (kind acts first).outputs (length mid) (omega (arith, some, outs-is)) (rw whole at front-new.written)
