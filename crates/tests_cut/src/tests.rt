@@ -1,11 +1,15 @@
 //! The worked rows, in tables.
-ghost use Rattle.std.specs.Prelude.{◌≡◌, ◌+◌, ◌≤◌, length, IfOk};
+ghost use Rattle.std.specs.Prelude.{◌≡◌, ◌+◌, ◌^◌, ◌≤◌, length, IfOk};
+ghost use Rattle.fx_cut.specs.Pad.{IsPads};
 ghost use Rattle.fx_frame.specs.Stage.{kind};
 
 use fx_cut::{Downsample, Fade, Pad, Trim, Upsample};
 use fx_fixed::At;
+use fx_fixed::inner::{greatest_end, greatest_pad_end, meant_stop, stop_line};
 use fx_frame::{Frame, Stage, ThawFault, WideFrame};
 use std::alloc::{AllocError, Global};
+use std::io::Print;
+use std::process::Abort;
 use std::test::Fail;
 
 /// The frame of one sample.
@@ -68,225 +72,394 @@ fn through<S: Stage>(
 /// The frames that a stage stores.
 fn stored<S: Stage>(alloc: Global, stage: &S) -> Result<Vec<WideFrame>, AllocError> {
     let mut frames = Vec::new(alloc);
-    'stored: for place in 0..stage.held() {
-        frames.push(stage.stored(place as usize))?;
+    let held = stage.held() as usize;
+    'stored: for place in 0..held {
+        frames.push(stage.stored(place))?;
     }
     Ok(frames)
+}
+
+/// The samples of a text, and how many of them stand before its bar.
+fn samples_of(alloc: Global, text: &str) -> Result<(Vec<i32>, Option<usize>), Fail>
+    ensures { IfOk result (λ samples. length samples.0.items ≤ 2 ^ 20) }
+{
+    let mut samples = Vec::new(alloc);
+    let mut bar = None;
+    for word in text.split_whitespace() {
+        if word == "|" {
+            bar = Some(samples.len());
+        } else {
+            let Ok(sample) = word.parse::<i32>() else {
+                return Err("not a sample".into());
+            };
+            samples.push(sample)?;
+        }
+    }
+    if samples.len() > 1 << 20 {
+        return Err("a sound too long".into());
+    }
+    Ok((samples, bar))
+}
+
+/// Asserts what a stage of one channel gives for these samples and then the end. A bar in what it gives stands where
+/// the end comes.
+fn gives<S: Stage>(
+    alloc: Global,
+    rt: &impl Abort,
+    stage: &mut S,
+    sound: &str,
+    want: &str,
+) -> Result<(), Fail>
+    requires { (S.acts.counts stage.old).taken + 2 ^ 20 ≤ (kind S.acts stage.old).limit }
+{
+    let (samples, _no_bar) = samples_of(alloc, sound)?;
+    let (out, early) = through(alloc, stage, &samples)?;
+    let (want, bar) = samples_of(alloc, want)?;
+    assert_eq!(rt; out.as_slice(), want.as_slice());
+    if bar.is_some() {
+        assert_eq!(rt; Some(early), bar, "frames before the end");
+    }
+    Ok(())
 }
 
 /// What a stage stores once it gave these frames for those samples.
 fn frozen<S: Stage>(
     alloc: Global,
     stage: &mut S,
-    samples: &[i32],
-    want: &[i32],
+    sound: &str,
+    want: &str,
 ) -> Result<Vec<WideFrame>, Fail>
-    requires { (S.acts.counts stage.old).taken + length samples.now ≤ (kind S.acts stage.old).limit }
+    requires { (S.acts.counts stage.old).taken + 2 ^ 20 ≤ (kind S.acts stage.old).limit }
 {
-    let early = feed(alloc, stage, samples)?;
-    if early.as_slice() != want {
+    let (samples, _no_bar) = samples_of(alloc, sound)?;
+    let early = feed(alloc, stage, &samples)?;
+    let (want, _no_bar) = samples_of(alloc, want)?;
+    if early.as_slice() != want.as_slice() {
         return Err("other frames before it is frozen".into());
     }
     Ok(stored(alloc, stage)?)
 }
 
-/// What a stage that was made again gives for further samples and then the end; it counts so many frames taken before.
+/// Asserts what a stage that was made again gives for further samples and then the end; it counts so many frames taken
+/// before.
 fn goes_on<S: Stage + Drop>(
     alloc: Global,
+    rt: &impl Abort,
     made: Result<S, ThawFault>,
     taken: u64,
-    samples: &[i32],
-) -> Result<Vec<i32>, Fail>
-    requires { IfOk made (λ again. taken + length samples.now ≤ (kind S.acts again).limit) }
+    row: (&str, &str),
+) -> Result<(), Fail>
+    requires { IfOk made (λ again. 2 ^ 21 ≤ (kind S.acts again).limit) }
 {
     let Ok(mut again) = made else {
         return Err("no stage of these frames and numbers".into());
     };
-    if again.counters()[0] != taken {
+    if again.counters()[0] != taken || taken > 1 << 20 {
         return Err("another number of frames taken".into());
     }
-    let (rest, _early) = through(alloc, &mut again, samples)?;
-    Ok(rest)
+    gives(alloc, rt, &mut again, row.0, row.1)
+}
+
+/// Asserts what a `trim` at these positions gives, and how many frames it holds where that is said.
+fn trim_gives(
+    alloc: Global,
+    rt: &impl Abort,
+    positions: &[At],
+    hold: Option<u64>,
+    sound: &str,
+    want: &str,
+) -> Result<(), Fail> {
+    if greatest_end(positions) > 1 << 28 {
+        return Err("a line too long".into());
+    }
+    let mut trim = Trim::new(alloc, 1, positions)?;
+    if hold.is_some() {
+        assert_eq!(rt; Some(trim.hold()), hold);
+    }
+    gives(alloc, rt, &mut trim, sound, want)
+}
+
+/// Asserts what a `pad` of these gives.
+fn pad_gives(
+    alloc: Global,
+    rt: &impl Abort,
+    pads: &[(u64, At)],
+    sound: &str,
+    want: &str,
+) -> Result<(), Fail>
+    requires { IsPads pads.now }
+{
+    if greatest_pad_end(pads) > 1 << 28 {
+        return Err("a line too long".into());
+    }
+    let mut pad = Pad::new(alloc, 1, pads)?;
+    gives(alloc, rt, &mut pad, sound, want)
+}
+
+/// Asserts what a `fade` of these lengths and stop gives, and how many frames it holds where that is said.
+fn fade_gives(
+    alloc: Global,
+    rt: &impl Abort,
+    (fade_in, stop, fade_out): (u64, Option<At>, u64),
+    hold: Option<u64>,
+    sound: &str,
+    want: &str,
+) -> Result<(), Fail> {
+    if fade_in > 1 << 40 || fade_out > 1 << 40 || stop_line(meant_stop(stop), fade_out) > 1 << 28 {
+        return Err("lengths out of range".into());
+    }
+    let mut fade = Fade::new(alloc, 1, fade_in, stop, fade_out)?;
+    if hold.is_some() {
+        assert_eq!(rt; Some(fade.hold()), hold);
+    }
+    gives(alloc, rt, &mut fade, sound, want)
 }
 
 #[test]
 fn trim_two_positions(rt: HostRuntime) -> Result<(), Fail> {
-    let mut trim = Trim::new(rt.alloc(), 1, &[At::Start(2), At::Start(5)])?;
-    let (out, _early) = through(rt.alloc(), &mut trim, &[1, 2, 3, 4, 5, 6, 7, 8])?;
-    assert_eq!(rt; out.as_slice(), [3, 4, 5].as_slice());
-    Ok(())
+    trim_gives(
+        rt.alloc(),
+        &rt,
+        &[At::Start(2), At::Start(5)],
+        None,
+        "1 2 3 4 5 6 7 8",
+        "3 4 5",
+    )
 }
 
 #[test]
 fn trim_last_three(rt: HostRuntime) -> Result<(), Fail> {
-    let mut trim = Trim::new(rt.alloc(), 1, &[At::End(3)])?;
-    assert_eq!(rt; trim.hold(), 4);
-    let (out, early) = through(rt.alloc(), &mut trim, &[1, 2, 3, 4, 5])?;
-    assert_eq!(rt; out.as_slice(), [3, 4, 5].as_slice());
-    assert_eq!(rt; early, 0);
-    Ok(())
+    trim_gives(
+        rt.alloc(),
+        &rt,
+        &[At::End(3)],
+        Some(4),
+        "1 2 3 4 5",
+        "| 3 4 5",
+    )
 }
 
 #[test]
 fn trim_last_three_of_two(rt: HostRuntime) -> Result<(), Fail> {
-    let mut short = Trim::new(rt.alloc(), 1, &[At::End(3)])?;
-    let (all, _early) = through(rt.alloc(), &mut short, &[1, 2])?;
-    assert_eq!(rt; all.as_slice(), [1, 2].as_slice());
-    Ok(())
+    trim_gives(rt.alloc(), &rt, &[At::End(3)], None, "1 2", "1 2")
 }
 
 #[test]
 fn trim_mixed_anchors(rt: HostRuntime) -> Result<(), Fail> {
-    let mut trim = Trim::new(rt.alloc(), 1, &[At::Start(4), At::End(3)])?;
-    let (out, _early) = through(rt.alloc(), &mut trim, &[1, 2, 3, 4, 5])?;
-    assert!(rt; out.is_empty());
-    Ok(())
+    trim_gives(
+        rt.alloc(),
+        &rt,
+        &[At::Start(4), At::End(3)],
+        None,
+        "1 2 3 4 5",
+        "",
+    )
 }
 
 #[test]
 fn trim_start_to_end(rt: HostRuntime) -> Result<(), Fail> {
-    let mut trim = Trim::new(rt.alloc(), 1, &[At::Start(0), At::End(2)])?;
-    let (out, early) = through(rt.alloc(), &mut trim, &[1, 2, 3, 4])?;
-    assert_eq!(rt; out.as_slice(), [1, 2].as_slice());
-    assert_eq!(rt; early, 2);
-    Ok(())
+    trim_gives(
+        rt.alloc(),
+        &rt,
+        &[At::Start(0), At::End(2)],
+        None,
+        "1 2 3 4",
+        "1 2 |",
+    )
 }
 
 #[test]
 fn pad_empty_sound(rt: HostRuntime) -> Result<(), Fail> {
-    let mut pad = Pad::new(rt.alloc(), 1, &[(2, At::Start(0)), (1, At::End(0))])?;
-    let (out, early) = through(rt.alloc(), &mut pad, &[])?;
-    assert_eq!(rt; out.as_slice(), [0, 0, 0].as_slice());
-    assert_eq!(rt; early, 0);
-    Ok(())
+    pad_gives(
+        rt.alloc(),
+        &rt,
+        &[(2, At::Start(0)), (1, At::End(0))],
+        "",
+        "| 0 0 0",
+    )
 }
 
 #[test]
 fn pad_past_end(rt: HostRuntime) -> Result<(), Fail> {
-    let mut pad = Pad::new(rt.alloc(), 1, &[(1, At::Start(9)), (2, At::End(0))])?;
-    let (out, _early) = through(rt.alloc(), &mut pad, &[1, 2])?;
-    assert_eq!(rt; out.as_slice(), [1, 2, 0, 0].as_slice());
-    Ok(())
+    pad_gives(
+        rt.alloc(),
+        &rt,
+        &[(1, At::Start(9)), (2, At::End(0))],
+        "1 2",
+        "1 2 0 0",
+    )
 }
 
 #[test]
 fn pad_mixed_anchors(rt: HostRuntime) -> Result<(), Fail> {
-    let mut pad = Pad::new(rt.alloc(), 1, &[(2, At::Start(1)), (1, At::End(1))])?;
-    let (out, early) = through(rt.alloc(), &mut pad, &[1, 2, 3])?;
-    assert_eq!(rt; out.as_slice(), [1, 0, 0, 2, 0, 3].as_slice());
-    assert_eq!(rt; early, 4);
-    Ok(())
+    pad_gives(
+        rt.alloc(),
+        &rt,
+        &[(2, At::Start(1)), (1, At::End(1))],
+        "1 2 3",
+        "1 0 0 2 | 0 3",
+    )
 }
 
 #[test]
 fn pad_mixed_anchors_of_one(rt: HostRuntime) -> Result<(), Fail> {
-    let mut short = Pad::new(rt.alloc(), 1, &[(2, At::Start(1)), (1, At::End(1))])?;
-    let (one, _early) = through(rt.alloc(), &mut short, &[1])?;
-    assert_eq!(rt; one.as_slice(), [1, 0, 0, 0].as_slice());
-    Ok(())
+    pad_gives(
+        rt.alloc(),
+        &rt,
+        &[(2, At::Start(1)), (1, At::End(1))],
+        "1",
+        "1 0 0 0",
+    )
 }
 
 #[test]
 fn pad_mixed_anchors_of_none(rt: HostRuntime) -> Result<(), Fail> {
-    let mut empty = Pad::new(rt.alloc(), 1, &[(2, At::Start(1)), (1, At::End(1))])?;
-    let (none, _early) = through(rt.alloc(), &mut empty, &[])?;
-    assert_eq!(rt; none.as_slice(), [0].as_slice());
-    Ok(())
+    pad_gives(
+        rt.alloc(),
+        &rt,
+        &[(2, At::Start(1)), (1, At::End(1))],
+        "",
+        "0",
+    )
 }
 
 #[test]
 fn fade_in_four(rt: HostRuntime) -> Result<(), Fail> {
-    let mut fade = Fade::new(rt.alloc(), 1, 4, None, 4)?;
-    let (out, early) = through(rt.alloc(), &mut fade, &[100, 100, 100, 100, 100])?;
-    assert_eq!(rt; out.as_slice(), [0, 25, 50, 75, 100].as_slice());
-    assert_eq!(rt; early, 5);
-    Ok(())
+    fade_gives(
+        rt.alloc(),
+        &rt,
+        (4, None, 4),
+        None,
+        "100 100 100 100 100",
+        "0 25 50 75 100 |",
+    )
 }
 
 #[test]
 fn fade_out_two(rt: HostRuntime) -> Result<(), Fail> {
-    let mut fade = Fade::new(rt.alloc(), 1, 0, Some(At::Start(0)), 2)?;
-    assert_eq!(rt; fade.hold(), 3);
-    let (out, _early) = through(rt.alloc(), &mut fade, &[100, 100, 100, 100])?;
-    assert_eq!(rt; out.as_slice(), [100, 100, 100, 50].as_slice());
-    Ok(())
+    fade_gives(
+        rt.alloc(),
+        &rt,
+        (0, Some(At::Start(0)), 2),
+        Some(3),
+        "100 100 100 100",
+        "100 100 100 50",
+    )
 }
 
 #[test]
 fn fade_overlap(rt: HostRuntime) -> Result<(), Fail> {
-    let mut fade = Fade::new(rt.alloc(), 1, 4, Some(At::End(0)), 4)?;
-    let (out, _early) = through(rt.alloc(), &mut fade, &[100, 100, 100])?;
-    assert_eq!(rt; out.as_slice(), [0, 13, 13].as_slice());
-    Ok(())
+    fade_gives(
+        rt.alloc(),
+        &rt,
+        (4, Some(At::End(0)), 4),
+        None,
+        "100 100 100",
+        "0 13 13",
+    )
 }
 
 #[test]
 fn fade_start_stop(rt: HostRuntime) -> Result<(), Fail> {
-    let mut fade = Fade::new(rt.alloc(), 1, 2, Some(At::Start(3)), 1)?;
-    let (out, _early) = through(rt.alloc(), &mut fade, &[100, 100, 100, 100, 100])?;
-    assert_eq!(rt; out.as_slice(), [0, 50, 100].as_slice());
-    Ok(())
+    fade_gives(
+        rt.alloc(),
+        &rt,
+        (2, Some(At::Start(3)), 1),
+        None,
+        "100 100 100 100 100",
+        "0 50 100",
+    )
 }
 
 #[test]
 fn fade_start_stop_cut_short(rt: HostRuntime) -> Result<(), Fail> {
-    let mut short = Fade::new(rt.alloc(), 1, 2, Some(At::Start(3)), 1)?;
-    let (two, _early) = through(rt.alloc(), &mut short, &[100, 100])?;
-    assert_eq!(rt; two.as_slice(), [0, 50].as_slice());
-    Ok(())
+    fade_gives(
+        rt.alloc(),
+        &rt,
+        (2, Some(At::Start(3)), 1),
+        None,
+        "100 100",
+        "0 50",
+    )
 }
 
 #[test]
 fn fade_end_stop(rt: HostRuntime) -> Result<(), Fail> {
-    let mut fade = Fade::new(rt.alloc(), 1, 0, Some(At::End(2)), 2)?;
-    assert_eq!(rt; fade.hold(), 5);
-    let (out, early) = through(rt.alloc(), &mut fade, &[100, 100, 100, 100, 100])?;
-    assert_eq!(rt; out.as_slice(), [100, 100, 50].as_slice());
-    assert_eq!(rt; early, 1);
-    Ok(())
+    fade_gives(
+        rt.alloc(),
+        &rt,
+        (0, Some(At::End(2)), 2),
+        Some(5),
+        "100 100 100 100 100",
+        "100 | 100 50",
+    )
 }
 
-/// What a `trim` from 1 to the last frame gives for 4 and 5, made again from what it stores and counts after 1 2 3.
-fn trim_thawed(alloc: Global) -> Result<Vec<i32>, Fail> {
-    let positions = [At::Start(1), At::End(1)];
-    let mut trim = Trim::new(alloc, 1, &positions)?;
-    let frames = frozen(alloc, &mut trim, &[1, 2, 3], &[2])?;
-    let again = Trim::thaw(alloc, 1, &positions, &frames, &trim.counters());
-    goes_on(alloc, again, 3, &[4, 5])
+/// Asserts what a `trim` gives for the second sound that is made again from what it stores and counts after the first
+/// one, of so many frames.
+fn trim_goes_on(
+    alloc: Global,
+    rt: &impl Abort,
+    positions: &[At],
+    first: (&str, &str),
+    taken: u64,
+    second: (&str, &str),
+) -> Result<(), Fail> {
+    if greatest_end(positions) > 1 << 28 {
+        return Err("a line too long".into());
+    }
+    let mut trim = Trim::new(alloc, 1, positions)?;
+    let frames = frozen(alloc, &mut trim, first.0, first.1)?;
+    let again = Trim::thaw(alloc, 1, positions, &frames, &trim.counters());
+    goes_on(alloc, rt, again, taken, second)
 }
 
 #[test]
 fn trim_thaws(rt: HostRuntime) -> Result<(), Fail> {
-    let rest = trim_thawed(rt.alloc())?;
-    assert_eq!(rt; rest.as_slice(), [3, 4].as_slice());
-    Ok(())
+    trim_goes_on(
+        rt.alloc(),
+        &rt,
+        &[At::Start(1), At::End(1)],
+        ("1 2 3", "2"),
+        3,
+        ("4 5", "3 4"),
+    )
 }
 
-/// What a `pad` of 2 at 1 and of 1 before the last frame gives for 3, made again from what it stores and counts after 1 2.
-fn pad_thawed(alloc: Global) -> Result<Vec<i32>, Fail> {
-    let pads = [(2, At::Start(1)), (1, At::End(1))];
-    let mut pad = Pad::new(alloc, 1, &pads)?;
-    let frames = frozen(alloc, &mut pad, &[1, 2], &[1])?;
-    let again = Pad::thaw(alloc, 1, &pads, &frames, &pad.counters());
-    goes_on(alloc, again, 2, &[3])
+/// Asserts what a `pad` gives for the second sound that is made again from what it stores and counts after the first
+/// one, of so many frames.
+fn pad_goes_on(
+    alloc: Global,
+    rt: &impl Abort,
+    pads: &[(u64, At)],
+    first: (&str, &str),
+    taken: u64,
+    second: (&str, &str),
+) -> Result<(), Fail>
+    requires { IsPads pads.now }
+{
+    if greatest_pad_end(pads) > 1 << 28 {
+        return Err("a line too long".into());
+    }
+    let mut pad = Pad::new(alloc, 1, pads)?;
+    let frames = frozen(alloc, &mut pad, first.0, first.1)?;
+    let again = Pad::thaw(alloc, 1, pads, &frames, &pad.counters());
+    goes_on(alloc, rt, again, taken, second)
 }
 
 #[test]
 fn pad_thaws(rt: HostRuntime) -> Result<(), Fail> {
-    let rest = pad_thawed(rt.alloc())?;
-    assert_eq!(rt; rest.as_slice(), [0, 0, 2, 0, 3].as_slice());
-    Ok(())
+    let pads = [(2, At::Start(1)), (1, At::End(1))];
+    pad_goes_on(rt.alloc(), &rt, &pads, ("1 2", "1"), 2, ("3", "0 0 2 0 3"))
 }
 
 #[test]
 fn fade_thaws(rt: HostRuntime) -> Result<(), Fail> {
     let stop = Some(At::End(2));
     let mut fade = Fade::new(rt.alloc(), 1, 0, stop, 2)?;
-    let frames = frozen(rt.alloc(), &mut fade, &[100, 100, 100, 100], &[])?;
+    let frames = frozen(rt.alloc(), &mut fade, "100 100 100 100", "")?;
     let again = Fade::thaw(rt.alloc(), 1, 0, stop, 2, &frames, &fade.counters());
-    let rest = goes_on(rt.alloc(), again, 4, &[100])?;
-    assert_eq!(rt; rest.as_slice(), [100, 100, 50].as_slice());
-    Ok(())
+    goes_on(rt.alloc(), &rt, again, 4, ("100", "100 100 50"))
 }
 
 /// Is that no snapshot of the stage?
@@ -326,40 +499,46 @@ fn one_of_five_refused(rt: HostRuntime) -> Result<(), Fail> {
     Ok(())
 }
 
-#[test]
-fn growth_cut_stages_trim(rt: HostRuntime) -> Result<(), Fail> {
-    match Trim::new(rt.alloc(), 2, &[At::Start(1), At::End(3)]) {
-        Ok(trim) => {
-            assert_eq!(rt; trim.hold(), 4);
+/// Says whether a stage of two channels was made. One that was made holds four frames.
+fn say_growth(rt: &(impl Abort + Print), hold: Result<u64, AllocError>) -> Result<(), Fail> {
+    match hold {
+        Ok(hold) => {
+            assert_eq!(rt; hold, 4);
             println!(rt; "made")?;
         }
         Err(_refused) => println!(rt; "refused")?,
     }
     Ok(())
+}
+
+fn trim_hold(alloc: Global) -> Result<u64, AllocError> {
+    let trim = Trim::new(alloc, 2, &[At::Start(1), At::End(3)])?;
+    Ok(trim.hold())
+}
+
+#[test]
+fn growth_cut_stages_trim(rt: HostRuntime) -> Result<(), Fail> {
+    say_growth(&rt, trim_hold(rt.alloc()))
+}
+
+fn pad_hold(alloc: Global) -> Result<u64, AllocError> {
+    let pad = Pad::new(alloc, 2, &[(4, At::Start(1)), (1, At::End(3))])?;
+    Ok(pad.hold())
 }
 
 #[test]
 fn growth_cut_stages_pad(rt: HostRuntime) -> Result<(), Fail> {
-    match Pad::new(rt.alloc(), 2, &[(4, At::Start(1)), (1, At::End(3))]) {
-        Ok(pad) => {
-            assert_eq!(rt; pad.hold(), 4);
-            println!(rt; "made")?;
-        }
-        Err(_refused) => println!(rt; "refused")?,
-    }
-    Ok(())
+    say_growth(&rt, pad_hold(rt.alloc()))
+}
+
+fn fade_hold(alloc: Global) -> Result<u64, AllocError> {
+    let fade = Fade::new(alloc, 2, 4, Some(At::End(1)), 2)?;
+    Ok(fade.hold())
 }
 
 #[test]
 fn growth_cut_stages_fade(rt: HostRuntime) -> Result<(), Fail> {
-    match Fade::new(rt.alloc(), 2, 4, Some(At::End(1)), 2) {
-        Ok(fade) => {
-            assert_eq!(rt; fade.hold(), 4);
-            println!(rt; "made")?;
-        }
-        Err(_refused) => println!(rt; "refused")?,
-    }
-    Ok(())
+    say_growth(&rt, fade_hold(rt.alloc()))
 }
 
 #[test]
