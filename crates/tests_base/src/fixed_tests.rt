@@ -12,6 +12,7 @@ use fx_fixed::{
     inner, millis, round_clip,
 };
 use std::alloc::Global;
+use std::process::Abort;
 use std::test::Fail;
 
 /// The definitions give the worked values, by computation.
@@ -32,6 +33,36 @@ fn worked_definitions()
 
 fn trillionths(text: &str) -> Result<i64, NumberFault> {
     Ok(Gain::parse(text)?.trillionths())
+}
+
+/// Asserts what a text is as a gain, in trillionths.
+fn assert_gain(rt: &impl Abort, text: &str, want: Result<i64, NumberFault>) {
+    assert_eq!(rt; trillionths(text), want, "{text}");
+}
+
+/// Asserts the frames that were found for a text.
+fn assert_frames(
+    rt: &impl Abort,
+    text: &str,
+    found: Result<u64, TimeFault>,
+    want: Result<u64, TimeFault>,
+) {
+    assert_eq!(rt; found, want, "{text}");
+}
+
+/// Asserts what a text is as a position at 8000 frames a second.
+fn assert_position(
+    rt: &impl Abort,
+    text: &str,
+    default: Anchor,
+    previous: At,
+    want: Result<At, TimeFault>,
+) {
+    assert_eq!(rt;
+        Position::resolve(text, 8000, default, previous),
+        want,
+        "{text}"
+    );
 }
 
 #[test]
@@ -58,7 +89,7 @@ fn gains_in_trillionths(rt: HostRuntime) {
         ),
         ("123456789012345678901234567890123e-30", 123_456_789_012_346),
     ] {
-        assert_eq!(rt; trillionths(text), Ok(value), "{text}");
+        assert_gain(&rt, text, Ok(value));
     }
 }
 
@@ -76,7 +107,7 @@ fn gains_refused(rt: HostRuntime) {
             NumberFault::TooLong,
         ),
     ] {
-        assert_eq!(rt; trillionths(text), Err(fault), "{text}");
+        assert_gain(&rt, text, Err(fault));
     }
 }
 
@@ -130,7 +161,7 @@ fn times_at_8000(rt: HostRuntime) {
         ("000000000000000001.000000000000000000E00s", 1),
         ("1099511627776s", 1_099_511_627_776),
     ] {
-        assert_eq!(rt; TimeSpec::frames(text, 8000), Ok(frames), "{text}");
+        assert_frames(&rt, text, TimeSpec::frames(text, 8000), Ok(frames));
     }
 }
 
@@ -159,7 +190,7 @@ fn times_refused(rt: HostRuntime) {
         ("1e-99s", TimeFault::NotWhole),
         ("1099511627776s+1s", TimeFault::TooFar),
     ] {
-        assert_eq!(rt; TimeSpec::frames(text, 8000), Err(fault), "{text}");
+        assert_frames(&rt, text, TimeSpec::frames(text, 8000), Err(fault));
     }
 }
 
@@ -181,11 +212,7 @@ fn positions_at_8000(rt: HostRuntime) {
         ("5s-7s", Anchor::Previous, At::End(3), At::End(5)),
         ("1s", Anchor::End, At::Start(9), At::End(1)),
     ] {
-        assert_eq!(rt;
-            Position::resolve(text, 8000, default, previous),
-            Ok(position),
-            "{text}"
-        );
+        assert_position(&rt, text, default, previous, Ok(position));
     }
 }
 
@@ -197,11 +224,7 @@ fn positions_refused_at_8000(rt: HostRuntime) {
         ("=+1", Anchor::Start, At::Start(0), TimeFault::BadTime),
         ("+-1", Anchor::Start, At::Start(0), TimeFault::BadTime),
     ] {
-        assert_eq!(rt;
-            Position::resolve(text, 8000, default, previous),
-            Err(fault),
-            "{text}"
-        );
+        assert_position(&rt, text, default, previous, Err(fault));
     }
 }
 
@@ -221,7 +244,7 @@ fn millis_at_8000(rt: HostRuntime) {
         ("-5e-10", Err(TimeFault::Negative)),
         ("-1e30", Err(TimeFault::Negative)),
     ] {
-        assert_eq!(rt; millis(text, 8000), frames, "{text}");
+        assert_frames(&rt, text, millis(text, 8000), frames);
     }
 }
 

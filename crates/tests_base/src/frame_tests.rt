@@ -6,6 +6,17 @@ use std::alloc::Global;
 use std::process::Abort;
 use std::test::Fail;
 
+/// Asserts the byte that a sample is written as, and whether it is clipped.
+fn assert_written(rt: &impl Abort, sample: i32, byte: u8, is_clipped: bool) {
+    let mut bytes = [77];
+    assert_eq!(rt;
+        Coding::U8.write(sample, &mut bytes),
+        is_clipped,
+        "at {sample}"
+    );
+    assert_eq!(rt; bytes[0], byte, "at {sample}");
+}
+
 #[test]
 fn u8_writes_and_reads(rt: HostRuntime) {
     let rows = [
@@ -14,35 +25,43 @@ fn u8_writes_and_reads(rt: HostRuntime) {
         (-2147483648, 0, false),
     ];
     for (sample, byte, is_clipped) in rows {
-        let mut bytes = [77];
-        assert_eq!(rt;
-            Coding::U8.write(sample, &mut bytes),
-            is_clipped,
-            "at {sample}"
-        );
-        assert_eq!(rt; bytes[0], byte, "at {sample}");
+        assert_written(&rt, sample, byte, is_clipped);
     }
     for (byte, sample) in [(128, 0), (0, -2147483648)] {
         assert_eq!(rt; Coding::U8.read(&[byte]), sample, "at {byte}");
     }
 }
 
-#[test]
-fn frames(rt: HostRuntime) -> Result<(), Fail> {
-    let pair = Frame::from_slice(&[5, -7]).ok_or("two samples")?;
+/// Asserts that a frame is the wanted one, or that there is none; a name says which.
+fn assert_frame(rt: &impl Abort, name: &str, found: Option<Frame>, want: Option<Frame>) {
+    assert_eq!(rt; found, want, "{name}");
+}
+
+/// Asserts what can be read of the frame of 5 and -7.
+fn assert_pair(rt: &impl Abort, pair: Frame) {
     assert_eq!(rt; pair.channels(), 2);
     assert_eq!(rt; pair.get(1), -7);
     assert_eq!(rt; pair, inner::two(5, -7));
     assert_ne!(rt; pair, inner::one(5));
-    assert_eq!(rt; Frame::from_slice(&[]), None);
-    assert_eq!(rt; Frame::from_slice(&[0; 17]), None);
-    assert_eq!(rt; Frame::from_slice(&[0; 16]), Some(Frame::silence(16)));
-    assert_eq!(rt;
-        inner::frame_of(3, [9; 16]),
-        Frame::from_slice(&[9; 3]).ok_or("three samples")?
-    );
     assert_eq!(rt; inner::places(&pair)[1], -7);
+}
+
+#[test]
+fn frames(rt: HostRuntime) -> Result<(), Fail> {
+    let pair = Frame::from_slice(&[5, -7]).ok_or("two samples")?;
+    assert_pair(&rt, pair);
+    assert_frame(&rt, "no sample", Frame::from_slice(&[]), None);
+    assert_frame(&rt, "17 samples", Frame::from_slice(&[0; 17]), None);
+    let silence = Some(Frame::silence(16));
+    assert_frame(&rt, "16 samples", Frame::from_slice(&[0; 16]), silence);
+    let three = Some(inner::frame_of(3, [9; 16]));
+    assert_frame(&rt, "three of 16", three, Frame::from_slice(&[9; 3]));
     Ok(())
+}
+
+/// Asserts that a wide frame is the wanted one, or that there is none; a name says which.
+fn assert_wide(rt: &impl Abort, name: &str, found: Option<WideFrame>, want: Option<WideFrame>) {
+    assert_eq!(rt; found, want, "{name}");
 }
 
 #[test]
@@ -50,8 +69,8 @@ fn wide_frames(rt: HostRuntime) -> Result<(), Fail> {
     let pair = WideFrame::from_slice(&[1 << 40, -7]).ok_or("two samples")?;
     assert_eq!(rt; pair.channels(), 2);
     assert_eq!(rt; pair.get(0), 1 << 40);
-    assert_eq!(rt; WideFrame::from_slice(&[]), None);
-    assert_eq!(rt; WideFrame::from_slice(&[0; 17]), None);
+    assert_wide(&rt, "no sample", WideFrame::from_slice(&[]), None);
+    assert_wide(&rt, "17 samples", WideFrame::from_slice(&[0; 17]), None);
     assert_eq!(rt;
         WideFrame::from_frame(inner::two(5, -7)),
         inner::wide_two(5, -7)
@@ -62,13 +81,14 @@ fn wide_frames(rt: HostRuntime) -> Result<(), Fail> {
 #[test]
 fn line_two_places(rt: HostRuntime) -> Result<(), Fail> {
     let mut line = Line::new(rt.alloc(), 1, 2)?;
-    assert_eq!(rt; line.push(inner::one(7)), None);
-    assert_eq!(rt; line.push(inner::one(8)), None);
-    assert_eq!(rt; line.push(inner::one(9)), Some(inner::one(7)));
-    assert_eq!(rt; line.back(0), Some(inner::one(9)));
-    assert_eq!(rt; line.back(1), Some(inner::one(8)));
-    assert_eq!(rt; line.back(2), None);
-    assert_eq!(rt; line.pop_front(), Some(inner::one(8)));
+    let (seven, eight, nine) = (inner::one(7), inner::one(8), inner::one(9));
+    assert_frame(&rt, "push 7", line.push(seven), None);
+    assert_frame(&rt, "push 8", line.push(eight), None);
+    assert_frame(&rt, "push 9", line.push(nine), Some(seven));
+    assert_frame(&rt, "newest", line.back(0), Some(nine));
+    assert_frame(&rt, "second", line.back(1), Some(eight));
+    assert_frame(&rt, "third", line.back(2), None);
+    assert_frame(&rt, "pop", line.pop_front(), Some(eight));
     Ok(())
 }
 
@@ -167,12 +187,11 @@ fn line_agrees_with_list(rt: HostRuntime) -> Result<(), Fail> {
 #[test]
 fn wide_line_sums(rt: HostRuntime) -> Result<(), Fail> {
     let mut line = WideLine::new(rt.alloc(), 1, 2)?;
-    assert_eq!(rt; line.push(inner::wide_one(1 << 40)), None);
-    assert_eq!(rt; line.push(inner::wide_one(-(1 << 40))), None);
-    assert_eq!(rt;
-        line.push(inner::wide_one(7)),
-        Some(inner::wide_one(1 << 40))
-    );
+    let first = inner::wide_one(1 << 40);
+    let second = inner::wide_one(-(1 << 40));
+    assert_wide(&rt, "first", line.push(first), None);
+    assert_wide(&rt, "second", line.push(second), None);
+    assert_wide(&rt, "third", line.push(inner::wide_one(7)), Some(first));
     Ok(())
 }
 
