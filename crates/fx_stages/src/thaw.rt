@@ -63,37 +63,38 @@ impl Thaws for EffectStage {
     ) -> Result<EffectStage, ThawFault> {
         let channels = arguments.channels;
         match &arguments.effect {
-            Effect::Trim(at) => Ok(Self::Trim(Trim::thaw(alloc, channels, at, frames, numbers)?)),
-            Effect::Pad(pads) => Ok(Self::Pad(Pad::thaw(alloc, channels, pads, frames, numbers)?)),
-            Effect::Delay(delays) => Ok(Self::Delay(Delay::thaw(
-                alloc, channels, delays, frames, numbers,
-            )?)),
-            Effect::Echo(e) => Ok(Self::Echo(Echo::thaw(
-                alloc, channels, e.gain_in, e.gain_out, &e.taps, frames, numbers,
-            )?)),
-            Effect::Echos(e) => Ok(Self::Echos(Echos::thaw(
-                alloc, channels, e.gain_in, e.gain_out, &e.taps, frames, numbers,
-            )?)),
-            Effect::Fade(f) => Ok(Self::Fade(Fade::thaw(
-                alloc, channels, f.fade_in, f.stop, f.fade_out, frames, numbers,
-            )?)),
-            Effect::Vol(gain) => Ok(Self::Vol(Vol::thaw(channels, *gain, frames, numbers)?)),
-            Effect::DcShift(shift) => {
-                Ok(Self::DcShift(DcShift::thaw(channels, *shift, frames, numbers)?))
+            Effect::Trim(at) => Trim::thaw(alloc, channels, at, frames, numbers).map(Self::Trim),
+            Effect::Pad(pads) => Pad::thaw(alloc, channels, pads, frames, numbers).map(Self::Pad),
+            Effect::Delay(delays) => {
+                Delay::thaw(alloc, channels, delays, frames, numbers).map(Self::Delay)
             }
-            Effect::Fir(gains) => Ok(Self::Fir(Fir::thaw(
-                alloc, channels, gains, frames, numbers,
-            )?)),
+            Effect::Echo(e) => Echo::thaw(
+                alloc, channels, e.gain_in, e.gain_out, &e.taps, frames, numbers,
+            )
+            .map(Self::Echo),
+            Effect::Echos(e) => Echos::thaw(
+                alloc, channels, e.gain_in, e.gain_out, &e.taps, frames, numbers,
+            )
+            .map(Self::Echos),
+            Effect::Fade(f) => Fade::thaw(
+                alloc, channels, f.fade_in, f.stop, f.fade_out, frames, numbers,
+            )
+            .map(Self::Fade),
+            Effect::Vol(gain) => Vol::thaw(channels, *gain, frames, numbers).map(Self::Vol),
+            Effect::DcShift(shift) => {
+                DcShift::thaw(channels, *shift, frames, numbers).map(Self::DcShift)
+            }
+            Effect::Fir(gains) => Fir::thaw(alloc, channels, gains, frames, numbers).map(Self::Fir),
             Effect::Remix(outs) => {
-                Ok(Self::Remix(Remix::thaw(alloc, channels, outs, frames, numbers)?))
+                Remix::thaw(alloc, channels, outs, frames, numbers).map(Self::Remix)
             }
             Effect::Upsample(factor) => {
                 let factor = u64::from(*factor);
-                Ok(Self::Upsample(Upsample::thaw(channels, factor, frames, numbers)?))
+                Upsample::thaw(channels, factor, frames, numbers).map(Self::Upsample)
             }
             Effect::Downsample(factor) => {
                 let factor = u64::from(*factor);
-                Ok(Self::Downsample(Downsample::thaw(channels, factor, frames, numbers)?))
+                Downsample::thaw(channels, factor, frames, numbers).map(Self::Downsample)
             }
         }
     }
