@@ -2,6 +2,5 @@ pub mod KindLaws
 pub mod Making
 pub mod NarrowLaws
 pub mod RowParts
-pub mod Shapes
 pub mod Thawing
 pub mod Widths
