@@ -1,6 +1,5 @@
-use Rattle.std.proofs.Common.{◌≡◌, ◌+◌, ◌≤◌, ◌∙◌, ap, arith}
+use Rattle.std.proofs.Common.{◌∙◌, ap, arith}
 use Rattle.fx_sound.specs.Sound.{Reading}
-use Rattle.fx_chain.specs.Through.{CutOff, Drained}
 use Rattle.fx_chain.proofs.Blocks.{Pumped-block, Pumped-cut, Pumped-sent, Pumped-stuck}
 use Rattle.fx_chain.proofs.block.pump_block.Goals as goal
 

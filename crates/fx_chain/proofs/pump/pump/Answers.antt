@@ -1,16 +1,17 @@
-use Rattle.std.proofs.Common.{rules, ◌≡◌, ℕ, ◌+◌, ◌*◌, ◌∙◌, List, [], ◌∷◌, ◌++◌, length, drop, refl, subst, sym, ap, arith, false}
+use Rattle.std.proofs.Common.{◌≡◌, ℕ, ◌+◌, ◌*◌, ◌∙◌, List, [], ◌∷◌, ◌++◌, length, drop, refl, subst, sym, ap, arith, false, true}
 use Rattle.fx_flow.specs.Parts.{Parts, enough_for, taken_of}
 use Rattle.fx_frame.specs.Holds.{kinds, recipes}
+use Rattle.fx_frame.specs.Io.{saturated}
 use Rattle.fx_sound.specs.Runs.{Ran, Ran-start, Ran-turn, Ran-whole, Takes-more, Takes-none, after_frames-more}
 use Rattle.fx_sound.specs.Container.{after_frames}
 use Rattle.fx_sound.specs.Sound.{Reading, after_frame, size_of}
 use Rattle.fx_sound.specs.Source.{Takes, to_come}
 use Rattle.std.specs.Prelude.{Some}
-use Rattle.fx_chain.specs.Run.{WantsMore, sound_frames}
+use Rattle.fx_chain.specs.Run.{WantsMore, is_write_failed, sound_frames}
 use Rattle.fx_chain.specs.Pump.{Start}
 use Rattle.fx_chain.proofs.Blocks.{Pumped-turn}
 use Rattle.fx_chain.proofs.Draining.{given_by-few}
-use Rattle.fx_chain.proofs.Passing.{settled, Flowed-end, Flowed-start, Flowed-turn, FlowedFront-end, FlowedFront-start, FlowedFront-turn, RanToEnd-end, RanToFailure-failed, WantsMore-next, enough-same, sound_frames-more, taken-take}
+use Rattle.fx_chain.proofs.Passing.{settled, Flowed-end, Flowed-start, Flowed-turn, FlowedFront-end, FlowedFront-start, FlowedFront-turn, RanToEnd-end, RanToFailure-failed, WantsMore-next, enough-same, not-both, sound_frames-more, taken-take}
 use Rattle.fx_chain.proofs.Sending.{Sent-start, WroteFront-sent}
 use Rattle.fx_chain.proofs.pump.pump.Goals as goal
 
@@ -158,8 +159,8 @@ returns-then-is_spent-clause-settled g c = λ _ bytes known z.
     let same = c.is_spent.ensures.same c.if-is_spent.true in
     (settled g.S.Stage.acts c.args.flow.now c.loop-turn.flow _ _ z (old.flowed bytes known).through old.hungry.not_ended (λ y. same y))
 
-pub returns-in_default-blocks-clause-write_failed : goal.returns-in_default-blocks-clause-write_failed
-returns-in_default-blocks-clause-write_failed g c =
+pub returns-in_default-blocks : goal.returns-in_default-blocks
+returns-in_default-blocks g c =
     let next = rw c.in-Ok-Some.field-0-is at c.in-Ok-Some.ensures in
     let drained = c.in-Ok-drain.ensures in
     let old = c.loop-turn.invariant.pumped in
@@ -168,115 +169,30 @@ returns-in_default-blocks-clause-write_failed g c =
     let first : Start g.row.S.Denot g.row.R.Denot =
     record { flow = c.args.flow.now; source = c.args.source.now; progress = c.args.progress.now; coding = c.args.outlet.now.coding; head = c.args.head.now; wrote = g.W.ByteOut.writes.taken c.args.writer.now } in
     let front = c.in_default-blocks.ensures.cut_off first (rw drained.coding turned) in
-    λ _. front.flowed
-
-pub returns-in_default-blocks-clause-recipes : goal.returns-in_default-blocks-clause-recipes
-returns-in_default-blocks-clause-recipes g c =
-    let next = rw c.in-Ok-Some.field-0-is at c.in-Ok-Some.ensures in
-    let drained = c.in-Ok-drain.ensures in
-    let old = c.loop-turn.invariant.pumped in
-    let turned = Pumped-turn g.S.Stage.acts g.R.ByteIn.reads _ c.loop-turn.flow c.take.new.self c.drain.new.flow c.loop-turn.source c.next_frame.new.source c.loop-turn.progress c.next_frame.new.progress
-    _ _ _ _ _ _ _ _ old next.counted next.most next.frame next.told next.failures (sym (c.is_spent.ensures.enough old.hungry) ∙ c.if-is_spent.false) c.take.ensures drained.drained drained.waits drained.room drained.few in
-    let first : Start g.row.S.Denot g.row.R.Denot =
-    record { flow = c.args.flow.now; source = c.args.source.now; progress = c.args.progress.now; coding = c.args.outlet.now.coding; head = c.args.head.now; wrote = g.W.ByteOut.writes.taken c.args.writer.now } in
-    let front = c.in_default-blocks.ensures.cut_off first (rw drained.coding turned) in
-    front.stay
-
-pub returns-in_default-blocks-clause-width : goal.returns-in_default-blocks-clause-width
-returns-in_default-blocks-clause-width g c =
-    let next = rw c.in-Ok-Some.field-0-is at c.in-Ok-Some.ensures in
-    let drained = c.in-Ok-drain.ensures in
-    let old = c.loop-turn.invariant.pumped in
-    let turned = Pumped-turn g.S.Stage.acts g.R.ByteIn.reads _ c.loop-turn.flow c.take.new.self c.drain.new.flow c.loop-turn.source c.next_frame.new.source c.loop-turn.progress c.next_frame.new.progress
-    _ _ _ _ _ _ _ _ old next.counted next.most next.frame next.told next.failures (sym (c.is_spent.ensures.enough old.hungry) ∙ c.if-is_spent.false) c.take.ensures drained.drained drained.waits drained.room drained.few in
-    let first : Start g.row.S.Denot g.row.R.Denot =
-    record { flow = c.args.flow.now; source = c.args.source.now; progress = c.args.progress.now; coding = c.args.outlet.now.coding; head = c.args.head.now; wrote = g.W.ByteOut.writes.taken c.args.writer.now } in
-    let front = c.in_default-blocks.ensures.cut_off first (rw drained.coding turned) in
-    front.kept
-
-pub returns-in_default-blocks-clause-taken : goal.returns-in_default-blocks-clause-taken
-returns-in_default-blocks-clause-taken g c =
-    let next = rw c.in-Ok-Some.field-0-is at c.in-Ok-Some.ensures in
-    let drained = c.in-Ok-drain.ensures in
-    let old = c.loop-turn.invariant.pumped in
-    let turned = Pumped-turn g.S.Stage.acts g.R.ByteIn.reads _ c.loop-turn.flow c.take.new.self c.drain.new.flow c.loop-turn.source c.next_frame.new.source c.loop-turn.progress c.next_frame.new.progress
-    _ _ _ _ _ _ _ _ old next.counted next.most next.frame next.told next.failures (sym (c.is_spent.ensures.enough old.hungry) ∙ c.if-is_spent.false) c.take.ensures drained.drained drained.waits drained.room drained.few in
-    let first : Start g.row.S.Denot g.row.R.Denot =
-    record { flow = c.args.flow.now; source = c.args.source.now; progress = c.args.progress.now; coding = c.args.outlet.now.coding; head = c.args.head.now; wrote = g.W.ByteOut.writes.taken c.args.writer.now } in
-    let front = c.in_default-blocks.ensures.cut_off first (rw drained.coding turned) in
-    front.taken
-
-pub returns-in_default-blocks-clause-whole : goal.returns-in_default-blocks-clause-whole
-returns-in_default-blocks-clause-whole g c =
-    let next = rw c.in-Ok-Some.field-0-is at c.in-Ok-Some.ensures in
-    let drained = c.in-Ok-drain.ensures in
-    let old = c.loop-turn.invariant.pumped in
-    let turned = Pumped-turn g.S.Stage.acts g.R.ByteIn.reads _ c.loop-turn.flow c.take.new.self c.drain.new.flow c.loop-turn.source c.next_frame.new.source c.loop-turn.progress c.next_frame.new.progress
-    _ _ _ _ _ _ _ _ old next.counted next.most next.frame next.told next.failures (sym (c.is_spent.ensures.enough old.hungry) ∙ c.if-is_spent.false) c.take.ensures drained.drained drained.waits drained.room drained.few in
-    let first : Start g.row.S.Denot g.row.R.Denot =
-    record { flow = c.args.flow.now; source = c.args.source.now; progress = c.args.progress.now; coding = c.args.outlet.now.coding; head = c.args.head.now; wrote = g.W.ByteOut.writes.taken c.args.writer.now } in
-    let front = c.in_default-blocks.ensures.cut_off first (rw drained.coding turned) in
-    front.whole
-
-pub returns-in_default-blocks-clause-ends : goal.returns-in_default-blocks-clause-ends
-returns-in_default-blocks-clause-ends g c =
-    let next = rw c.in-Ok-Some.field-0-is at c.in-Ok-Some.ensures in
-    let drained = c.in-Ok-drain.ensures in
-    let old = c.loop-turn.invariant.pumped in
-    let turned = Pumped-turn g.S.Stage.acts g.R.ByteIn.reads _ c.loop-turn.flow c.take.new.self c.drain.new.flow c.loop-turn.source c.next_frame.new.source c.loop-turn.progress c.next_frame.new.progress
-    _ _ _ _ _ _ _ _ old next.counted next.most next.frame next.told next.failures (sym (c.is_spent.ensures.enough old.hungry) ∙ c.if-is_spent.false) c.take.ensures drained.drained drained.waits drained.room drained.few in
-    let first : Start g.row.S.Denot g.row.R.Denot =
-    record { flow = c.args.flow.now; source = c.args.source.now; progress = c.args.progress.now; coding = c.args.outlet.now.coding; head = c.args.head.now; wrote = g.W.ByteOut.writes.taken c.args.writer.now } in
-    let front = c.in_default-blocks.ensures.cut_off first (rw drained.coding turned) in
-    rw front.begun front.ends
-
-pub returns-in_default-blocks-clause-wants : goal.returns-in_default-blocks-clause-wants
-returns-in_default-blocks-clause-wants g c =
-    let next = rw c.in-Ok-Some.field-0-is at c.in-Ok-Some.ensures in
-    let drained = c.in-Ok-drain.ensures in
-    let old = c.loop-turn.invariant.pumped in
-    let turned = Pumped-turn g.S.Stage.acts g.R.ByteIn.reads _ c.loop-turn.flow c.take.new.self c.drain.new.flow c.loop-turn.source c.next_frame.new.source c.loop-turn.progress c.next_frame.new.progress
-    _ _ _ _ _ _ _ _ old next.counted next.most next.frame next.told next.failures (sym (c.is_spent.ensures.enough old.hungry) ∙ c.if-is_spent.false) c.take.ensures drained.drained drained.waits drained.room drained.few in
-    let first : Start g.row.S.Denot g.row.R.Denot =
-    record { flow = c.args.flow.now; source = c.args.source.now; progress = c.args.progress.now; coding = c.args.outlet.now.coding; head = c.args.head.now; wrote = g.W.ByteOut.writes.taken c.args.writer.now } in
-    let front = c.in_default-blocks.ensures.cut_off first (rw drained.coding turned) in
-    front.wants
-
-pub returns-in_default-blocks-clause-met : goal.returns-in_default-blocks-clause-met
-returns-in_default-blocks-clause-met g c =
-    let next = rw c.in-Ok-Some.field-0-is at c.in-Ok-Some.ensures in
-    let drained = c.in-Ok-drain.ensures in
-    let old = c.loop-turn.invariant.pumped in
-    let turned = Pumped-turn g.S.Stage.acts g.R.ByteIn.reads _ c.loop-turn.flow c.take.new.self c.drain.new.flow c.loop-turn.source c.next_frame.new.source c.loop-turn.progress c.next_frame.new.progress
-    _ _ _ _ _ _ _ _ old next.counted next.most next.frame next.told next.failures (sym (c.is_spent.ensures.enough old.hungry) ∙ c.if-is_spent.false) c.take.ensures drained.drained drained.waits drained.room drained.few in
-    let first : Start g.row.S.Denot g.row.R.Denot =
-    record { flow = c.args.flow.now; source = c.args.source.now; progress = c.args.progress.now; coding = c.args.outlet.now.coding; head = c.args.head.now; wrote = g.W.ByteOut.writes.taken c.args.writer.now } in
-    let front = c.in_default-blocks.ensures.cut_off first (rw drained.coding turned) in
-    rw (front.begun, front.running) refl
-
-pub returns-in_default-blocks-clause-most : goal.returns-in_default-blocks-clause-most
-returns-in_default-blocks-clause-most g c =
-    let next = rw c.in-Ok-Some.field-0-is at c.in-Ok-Some.ensures in
-    let drained = c.in-Ok-drain.ensures in
-    let old = c.loop-turn.invariant.pumped in
-    let turned = Pumped-turn g.S.Stage.acts g.R.ByteIn.reads _ c.loop-turn.flow c.take.new.self c.drain.new.flow c.loop-turn.source c.next_frame.new.source c.loop-turn.progress c.next_frame.new.progress
-    _ _ _ _ _ _ _ _ old next.counted next.most next.frame next.told next.failures (sym (c.is_spent.ensures.enough old.hungry) ∙ c.if-is_spent.false) c.take.ensures drained.drained drained.waits drained.room drained.few in
-    let first : Start g.row.S.Denot g.row.R.Denot =
-    record { flow = c.args.flow.now; source = c.args.source.now; progress = c.args.progress.now; coding = c.args.outlet.now.coding; head = c.args.head.now; wrote = g.W.ByteOut.writes.taken c.args.writer.now } in
-    let front = c.in_default-blocks.ensures.cut_off first (rw drained.coding turned) in
-    front.most
-
-pub returns-in_default-blocks-clause-reads : goal.returns-in_default-blocks-clause-reads
-returns-in_default-blocks-clause-reads g c =
-    let next = rw c.in-Ok-Some.field-0-is at c.in-Ok-Some.ensures in
-    let drained = c.in-Ok-drain.ensures in
-    let old = c.loop-turn.invariant.pumped in
-    let turned = Pumped-turn g.S.Stage.acts g.R.ByteIn.reads _ c.loop-turn.flow c.take.new.self c.drain.new.flow c.loop-turn.source c.next_frame.new.source c.loop-turn.progress c.next_frame.new.progress
-    _ _ _ _ _ _ _ _ old next.counted next.most next.frame next.told next.failures (sym (c.is_spent.ensures.enough old.hungry) ∙ c.if-is_spent.false) c.take.ensures drained.drained drained.waits drained.room drained.few in
-    let first : Start g.row.S.Denot g.row.R.Denot =
-    record { flow = c.args.flow.now; source = c.args.source.now; progress = c.args.progress.now; coding = c.args.outlet.now.coding; head = c.args.head.now; wrote = g.W.ByteOut.writes.taken c.args.writer.now } in
-    let front = c.in_default-blocks.ensures.cut_off first (rw drained.coding turned) in
-    front.reads
+    record {
+      sent = λ other. not-both true other refl;
+      write_failed = λ _. front.flowed;
+      room = λ other. not-both true other refl;
+      done = tt;
+      hungry = λ other. not-both true other refl;
+      due = λ other. not-both true other refl;
+      recipes = front.stay;
+      width = front.kept;
+      taken = front.taken;
+      whole = front.whole;
+      ends = rw front.begun front.ends;
+      met = rw (front.begun, front.running) refl;
+      over = λ other. not-both true other refl;
+      wants = front.wants;
+      enough = tt;
+      settled = tt;
+      not_enough = λ other. not-both true other refl;
+      read_failed = λ other. not-both false refl other;
+      too_long = λ other. not-both true (ap is_write_failed other) refl;
+      most = front.most;
+      reads = front.reads;
+      writes = c.in_default-blocks.ensures.failures ∙ ap (λ n. saturated (n + 1)) (drained.failures ∙ c.loop-turn.invariant.writes);
+    }
 
 pub loop-turn-preserved : goal.loop-turn-preserved
 loop-turn-preserved g c =
