@@ -8,8 +8,9 @@ ghost use Rattle.soxchain_about.specs.About.{answer_of};
 use std::io;
 use std::io::Write;
 
-/// The version, and the kit that proved it. The one place of the version: the manual's pages and the package take it from here.
-pub const VERSION: &str = "soxchain 0.1.0\nproved with rattle-kit-13f logic dac8208d650f15bf\n";
+/// The version, and the logic by which it is proved: kits that differ only in their compiler share it.
+/// The one place of the version: the manual's pages and the package take it from here.
+pub const VERSION: &str = "soxchain 0.1.0\nproved with Rattle, logic dac8208d650f15bf\n";
 
 /// The answer to the words behind the program's name, where `--help` or `--version` is the only one.
 pub fn answer_to<'a>(words: &[String], help: &'a str, version: &'a str) -> Option<&'a str>
