@@ -1,5 +1,10 @@
 # Completion of soxchain and soxchain-plan for bash.
 
+# The names of the effects, as the program tells them.
+_soxchain_effects() {
+    soxchain --help 2>/dev/null | sed -n '/^effects:/,/^$/s/^  \([a-z]*\) .*/\1/p' | sort -u
+}
+
 # Which word is completed: 0 IN, 1 OUT, 2 an effect or one of its words.
 _soxchain_place() {
     local files=0 at
@@ -17,7 +22,6 @@ _soxchain_place() {
 
 _soxchain() {
     local word=${COMP_WORDS[COMP_CWORD]} before=${COMP_WORDS[COMP_CWORD - 1]} place options
-    local effects='trim pad delay echo echos fade vol dcshift fir remix upsample downsample'
     place=$(_soxchain_place)
     COMPREPLY=()
     if ((place < 2)); then
@@ -43,7 +47,7 @@ _soxchain() {
             compopt -o filenames 2>/dev/null
             mapfile -t COMPREPLY < <(compgen -f -- "$word")
             ;;
-        *) mapfile -t COMPREPLY < <(compgen -W "$effects" -- "$word") ;;
+        *) mapfile -t COMPREPLY < <(compgen -W "$(_soxchain_effects)" -- "$word") ;;
     esac
 }
 

@@ -16,6 +16,11 @@ function __soxchain_files
     echo $files
 end
 
+# The names of the effects, as the program tells them.
+function __soxchain_effects
+    soxchain --help 2>/dev/null | sed -n '/^effects:/,/^$/s/^  \([a-z]*\) .*/\1/p' | sort -u
+end
+
 function __soxchain_before
     set -l words (commandline -opc)
     contains -- $words[-1] $argv
@@ -23,7 +28,7 @@ end
 
 for program in soxchain soxchain-plan
     complete -c $program -n 'test (__soxchain_files) -ge 2; and not __soxchain_before fir' -f
-    complete -c $program -n 'test (__soxchain_files) -ge 2; and not __soxchain_before fade fir' -a 'trim pad delay echo echos fade vol dcshift fir remix upsample downsample'
+    complete -c $program -n 'test (__soxchain_files) -ge 2; and not __soxchain_before fade fir' -a '(__soxchain_effects)'
     complete -c $program -n 'test (__soxchain_files) -ge 2; and __soxchain_before fade' -a t
     complete -c $program -n 'test (__soxchain_files) -lt 2' -o t -x -a 'wav au' -d 'the container of the file behind it'
     complete -c $program -n 'test (__soxchain_files) -eq 1' -o b -x -a '8 16 24 32' -d 'the bits of a sample'
