@@ -12,7 +12,7 @@ use Rattle.fx_plan.proofs.Lasting.{work-bound}
 use Rattle.fx_stages.specs.declared.stage.EffectStage.{EffectStage}
 use Rattle.fx_stages.specs.Effects.{effect_acts, kind_of_recipe}
 use Rattle.fx_stages.specs.Made.{all_suit, channels_after, recipes_for}
-use Rattle.fx_stages.proofs.KindLaws.{hold-for, kinds_for, line-is, matching-for, most-for, within-for, work-for}
+use Rattle.fx_stages.proofs.Planned.{hold-for, kinds_for, line-is, matching-for, most-for, within-for, work-for}
 
 -- the kinds of stages that were made for effects
 pub kinds-made : (stages : List EffectStage) (channels : ℕ) (acts : List Act) → recipes effect_acts stages ≡ recipes_for channels acts → kinds effect_acts stages ≡ kinds_for channels acts

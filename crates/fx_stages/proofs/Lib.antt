@@ -1,6 +1,6 @@
-pub mod KindLaws
+pub mod Joined
 pub mod Making
-pub mod NarrowLaws
+pub mod Planned
 pub mod RowParts
+pub mod StageLaws
 pub mod Thawing
-pub mod Widths

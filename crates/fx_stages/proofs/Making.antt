@@ -100,76 +100,10 @@ mixes-named channels (s ∷ specs) h =
     let here = and_parts (nat_le (length s.items) 64) (list_all (λ (d : ℕ × Weight). nat_lt d.0 channels) s.items) parts.0 in
     All-cons (λ (t : SmallVec (ℕ × Weight)). All (λ (c : ℕ × Weight). c.0 < channels) t.items) s specs (named-are channels s.items here.1) (mixes-named channels specs parts.1)
 
--- an effect suits channels where it fits a layout with them
-suits-fits : (layout : Layout) (a : Act) → fits_layout layout a ≡ true → suits layout.channels a ≡ true
-suits-fits layout (OfTrim ps) h = h
-suits-fits layout (OfPad pads) h = h
-suits-fits layout (OfDelay ds) h = h
-suits-fits layout (OfEcho e) h = h
-suits-fits layout (OfEchos e) h = h
-suits-fits layout (OfFade f) h = h
-suits-fits layout (OfVol gain) h = h
-suits-fits layout (OfDcShift shift) h = h
-suits-fits layout (OfFir gains) h = h
-suits-fits layout (OfRemix specs) h = h
-suits-fits layout (OfUpsample factor) h = h
-suits-fits layout (OfDownsample factor) h = h
-
-channels-behind : (layout : Layout) (a : Act) → (layout_after layout (Some a)).channels ≡ channels_after layout.channels a
-channels-behind layout (OfTrim ps) = refl
-channels-behind layout (OfPad pads) = refl
-channels-behind layout (OfDelay ds) = refl
-channels-behind layout (OfEcho e) = refl
-channels-behind layout (OfEchos e) = refl
-channels-behind layout (OfFade f) = refl
-channels-behind layout (OfVol gain) = refl
-channels-behind layout (OfDcShift shift) = refl
-channels-behind layout (OfFir gains) = refl
-channels-behind layout (OfRemix specs) = refl
-channels-behind layout (OfUpsample factor) = refl
-channels-behind layout (OfDownsample factor) = refl
-
--- effects that fit one after the other suit one after the other
-pub suit-fit : (layout : Layout) (acts : List Act) → all_fit layout acts ≡ true → all_suit layout.channels acts ≡ true
-suit-fit layout [] h = refl
-suit-fit layout (a ∷ acts) h =
-    let parts = and_parts (fits_layout layout a) (all_fit (layout_after layout (Some a)) acts) h in
-    let rest : all_suit (channels_after layout.channels a) acts ≡ true = rw (sym (channels-behind layout a)) (suit-fit (layout_after layout (Some a)) acts parts.1) in
-    rw (suits-fits layout a parts.0, rest) refl
-
 -- a new stage behind new ones
 pub AllNew-push : (stages : List EffectStage) (s : EffectStage) → AllNew effect_acts stages → IsNew effect_acts (effect_acts.recipe s) s → AllNew effect_acts (stages ++ s ∷ [])
 AllNew-push [] s all new = (new, tt)
 AllNew-push (t ∷ stages) s all new = (all.0, AllNew-push stages s all.1 new)
-
--- an effect leaves 1 to 16 channels
-pub behind-some : (channels : ℕ) (a : Act) → Usable a → 1 ≤ channels → 1 ≤ channels_after channels a
-behind-some channels (OfTrim ps) u h = h
-behind-some channels (OfPad pads) u h = h
-behind-some channels (OfDelay ds) u h = h
-behind-some channels (OfEcho e) u h = h
-behind-some channels (OfEchos e) u h = h
-behind-some channels (OfFade f) u h = h
-behind-some channels (OfVol gain) u h = h
-behind-some channels (OfDcShift shift) u h = h
-behind-some channels (OfFir gains) u h = h
-behind-some channels (OfRemix specs) u h = grind (arith, nat_tests, (and_parts (nat_le 1 (length specs)) (nat_le (length specs) 16) u).0)
-behind-some channels (OfUpsample factor) u h = h
-behind-some channels (OfDownsample factor) u h = h
-
-pub behind-few : (channels : ℕ) (a : Act) → Usable a → channels ≤ 16 → channels_after channels a ≤ 16
-behind-few channels (OfTrim ps) u h = h
-behind-few channels (OfPad pads) u h = h
-behind-few channels (OfDelay ds) u h = h
-behind-few channels (OfEcho e) u h = h
-behind-few channels (OfEchos e) u h = h
-behind-few channels (OfFade f) u h = h
-behind-few channels (OfVol gain) u h = h
-behind-few channels (OfDcShift shift) u h = h
-behind-few channels (OfFir gains) u h = h
-behind-few channels (OfRemix specs) u h = grind (arith, nat_tests, (and_parts (nat_le 1 (length specs)) (nat_le (length specs) 16) u).1)
-behind-few channels (OfUpsample factor) u h = h
-behind-few channels (OfDownsample factor) u h = h
 
 -- effects behind one hold no more than all together, and neither does the one
 pub hold-tail : (a : Act) (acts : List Act) (most : ℕ) → hold_all (a ∷ acts) ≤ most → (line_of a ≤ most) × (hold_all acts ≤ most)

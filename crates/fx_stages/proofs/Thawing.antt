@@ -14,7 +14,8 @@ use Rattle.fx_stages.specs.declared.thaw.EffectArguments.{EffectArguments}
 use Rattle.fx_stages.specs.Effects.{EffectRecipe, effect_acts, recipe_of}
 use Rattle.fx_stages.specs.Made.{all_suit, channels_after, recipe_for, recipes_for, suits}
 use Rattle.fx_stages.specs.Thawed.{FitsEffect, fits_stage, placed, placing, recipe_with}
-use Rattle.fx_stages.proofs.Making.{behind-few, behind-some, hold-tail}
+use Rattle.fx_stages.proofs.Making.{hold-tail}
+use Rattle.fx_stages.proofs.Planned.{planned}
 
 -- arguments behind others
 pub placed-more : (xs : List EffectArguments) (x : EffectArguments) (channels : ℕ) (a : Act) (acts : List Act) (all : List (ℕ × Act))
@@ -59,7 +60,7 @@ fits-placed channels (a ∷ acts) some few usable suit hold =
     let here = All-head Usable a acts usable in
     All-cons (λ (p : ℕ × Act). FitsEffect p.0 p.1) (channels, a) (placed (channels_after channels a) acts)
     (record { some = some; few = few; usable = here; suits = parts.0; line = held.0 })
-    (fits-placed (channels_after channels a) acts (behind-some channels a here some) (behind-few channels a here few) (All-tail Usable a acts usable) parts.1 held.1)
+    (fits-placed (channels_after channels a) acts ((planned channels a).some here some) ((planned channels a).few here few) (All-tail Usable a acts usable) parts.1 held.1)
 
 fits-placing : (xs : List EffectArguments) → All (λ (p : ℕ × Act). FitsEffect p.0 p.1) (map placing xs) → All fits_stage xs
 fits-placing [] h = All-nil fits_stage

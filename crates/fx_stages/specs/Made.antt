@@ -20,20 +20,10 @@ recipe_for channels (OfRemix specs) = Remixes (record { channels = channels; out
 recipe_for channels (OfUpsample factor) = Upsamples (record { channels = channels; factor = factor })
 recipe_for channels (OfDownsample factor) = Downsamples (record { channels = channels; factor = factor })
 
--- the channels of the frames that an effect gives
+-- the channels of the frames that an effect gives: `remix` alone changes them
 abbrev pub channels_after : ℕ → Act → ℕ
-channels_after channels (OfTrim ps) = channels
-channels_after channels (OfPad pads) = channels
-channels_after channels (OfDelay ds) = channels
-channels_after channels (OfEcho e) = channels
-channels_after channels (OfEchos e) = channels
-channels_after channels (OfFade f) = channels
-channels_after channels (OfVol gain) = channels
-channels_after channels (OfDcShift shift) = channels
-channels_after channels (OfFir gains) = channels
 channels_after channels (OfRemix specs) = length specs
-channels_after channels (OfUpsample factor) = channels
-channels_after channels (OfDownsample factor) = channels
+channels_after channels a = channels
 
 -- the stages of effects, the first of which takes frames of so many channels
 abbrev pub recipes_for : ℕ → List Act → List EffectRecipe

@@ -3,7 +3,8 @@ use Rattle.std.proofs.lemmas.Bool.{and_parts}
 use Rattle.std.proofs.lemmas.List.Elements.{All-head, All-tail}
 use Rattle.fx_plan.specs.Effects.{Usable, act}
 use Rattle.fx_stages.specs.Made.{all_suit, channels_after, suits}
-use Rattle.fx_stages.proofs.Making.{AllNew-push, behind-some, behind-few, hold-tail, made-more}
+use Rattle.fx_stages.proofs.Making.{AllNew-push, hold-tail, made-more}
+use Rattle.fx_stages.proofs.Planned.{planned}
 use Rattle.fx_stages.proofs.make.stages_of.Goals as goal
 
 pub loop-effect-preserved : goal.loop-effect-preserved
@@ -18,8 +19,8 @@ loop-effect-preserved c =
     let after = c.channels_after-channels.ensures in
     let pushed = c.in_ok-push.ensures.items in
     record {
-      some = rw (after) (behind-some c.loop-effect.channels here usable i.some);
-      few = rw (after) (behind-few c.loop-effect.channels here usable i.few);
+      some = rw (after) ((planned c.loop-effect.channels here).some usable i.some);
+      few = rw (after) ((planned c.loop-effect.channels here).few usable i.few);
       usable = All-tail Usable here later (rw (is) at i.usable);
       suit = rw (after) parts.1;
       hold = (hold-tail here later (2 ^ 28) (rw (is) at i.hold)).1;

@@ -1,6 +1,6 @@
 use Rattle.std.proofs.Common.{arith}
 use Rattle.fx_chain.proofs.Chaining.{count-is}
-use Rattle.fx_stages.proofs.NarrowLaws.{narrow-hand, narrow-stages}
+use Rattle.fx_stages.proofs.StageLaws.{narrow-hand, narrow-stages}
 use Rattle.fx_chain.proofs.chain.Chain.freeze.Goals as goal
 
 pub returns-clause-within : goal.returns-clause-within

@@ -4,7 +4,7 @@ use Rattle.fx_chain.proofs.Chaining.{planned-is}
 use Rattle.fx_chain.proofs.Thawing.{IsChain-made, chain-same, channels-planned, made-planned, planned-made}
 use Rattle.fx_plan.specs.Effects.{act, head_layout}
 use Rattle.fx_plan.specs.Planning.{planning}
-use Rattle.fx_stages.proofs.Making.{suit-fit}
+use Rattle.fx_stages.proofs.Planned.{suit-fit}
 use Rattle.fx_stages.proofs.Thawing.{fits-with}
 use Rattle.fx_chain.proofs.chain.Chain.thaw.Goals as goal
 

@@ -1,0 +1,75 @@
+-- A stage of each effect is a stage of any effect: what it took, gave and was fed, that one was.
+use Rattle.std.proofs.Common.{◌≡◌, List, refl}
+use Rattle.fx_cut.specs.Downsample.{downsample_acts}
+use Rattle.fx_cut.specs.Fade.{fade_acts}
+use Rattle.fx_cut.specs.Pad.{pad_acts}
+use Rattle.fx_cut.specs.Trim.{trim_acts}
+use Rattle.fx_cut.specs.Upsample.{upsample_acts}
+use Rattle.fx_frame.proofs.FedLaws.{Fed-along, PassedOn-along}
+use Rattle.fx_frame.specs.declared.feed.Passing.{Passing}
+use Rattle.fx_frame.specs.Feed.{Fed, PassedOn}
+use Rattle.fx_frame.specs.Frame.{Samples}
+use Rattle.fx_frame.specs.Stage.{Acts}
+use Rattle.fx_stages.specs.declared.stage.EffectStage.{EffectStage}
+use Rattle.fx_stages.specs.declared.stage.EffectStage.TheVariants as stages
+use Rattle.fx_stages.specs.Effects.{EffectRecipe, Trims, Pads, Fades, Upsamples, Downsamples, Delays, Echoes, EchoesInRow, Filters, Remixes, Scales, Shifts, effect_acts}
+use Rattle.fx_tap.specs.DcShift.{dcshift_acts}
+use Rattle.fx_tap.specs.Delay.{delay_acts}
+use Rattle.fx_tap.specs.Echo.{echo_acts}
+use Rattle.fx_tap.specs.Echos.{echos_acts}
+use Rattle.fx_tap.specs.Fir.{fir_acts}
+use Rattle.fx_tap.specs.Remix.{remix_acts}
+use Rattle.fx_tap.specs.Vol.{vol_acts}
+
+-- stages that behave so are stages of any effect, under a variant and with a recipe of theirs
+pub record Joins {S R : Type 0} (acts : Acts S R) (wrap : S → EffectStage) : Type 0 where
+  pub named : R → EffectRecipe
+  pub recipes : (s : S) → effect_acts.recipe (wrap s) ≡ named (acts.recipe s)
+  pub kinds : (r : R) → effect_acts.kind_of (named r) ≡ acts.kind_of r
+  pub rests : (s : S) → effect_acts.rest (wrap s) ≡ acts.rest s
+  pub counts : (s : S) → effect_acts.counts (wrap s) ≡ acts.counts s
+  pub dry : (s : S) → effect_acts.dry (wrap s) ≡ acts.dry s
+  pub stored : (s : S) → effect_acts.stored (wrap s) ≡ acts.stored s
+
+pub trim-joins : Joins trim_acts stages.Trim
+trim-joins = record { named = Trims; recipes = λ s. refl; kinds = λ r. refl; rests = λ s. refl; counts = λ s. refl; dry = λ s. refl; stored = λ s. refl }
+
+pub pad-joins : Joins pad_acts stages.Pad
+pad-joins = record { named = Pads; recipes = λ s. refl; kinds = λ r. refl; rests = λ s. refl; counts = λ s. refl; dry = λ s. refl; stored = λ s. refl }
+
+pub fade-joins : Joins fade_acts stages.Fade
+fade-joins = record { named = Fades; recipes = λ s. refl; kinds = λ r. refl; rests = λ s. refl; counts = λ s. refl; dry = λ s. refl; stored = λ s. refl }
+
+pub upsample-joins : Joins upsample_acts stages.Upsample
+upsample-joins = record { named = Upsamples; recipes = λ s. refl; kinds = λ r. refl; rests = λ s. refl; counts = λ s. refl; dry = λ s. refl; stored = λ s. refl }
+
+pub downsample-joins : Joins downsample_acts stages.Downsample
+downsample-joins = record { named = Downsamples; recipes = λ s. refl; kinds = λ r. refl; rests = λ s. refl; counts = λ s. refl; dry = λ s. refl; stored = λ s. refl }
+
+pub delay-joins : Joins delay_acts stages.Delay
+delay-joins = record { named = Delays; recipes = λ s. refl; kinds = λ r. refl; rests = λ s. refl; counts = λ s. refl; dry = λ s. refl; stored = λ s. refl }
+
+pub echo-joins : Joins echo_acts stages.Echo
+echo-joins = record { named = Echoes; recipes = λ s. refl; kinds = λ r. refl; rests = λ s. refl; counts = λ s. refl; dry = λ s. refl; stored = λ s. refl }
+
+pub echos-joins : Joins echos_acts stages.Echos
+echos-joins = record { named = EchoesInRow; recipes = λ s. refl; kinds = λ r. refl; rests = λ s. refl; counts = λ s. refl; dry = λ s. refl; stored = λ s. refl }
+
+pub fir-joins : Joins fir_acts stages.Fir
+fir-joins = record { named = Filters; recipes = λ s. refl; kinds = λ r. refl; rests = λ s. refl; counts = λ s. refl; dry = λ s. refl; stored = λ s. refl }
+
+pub remix-joins : Joins remix_acts stages.Remix
+remix-joins = record { named = Remixes; recipes = λ s. refl; kinds = λ r. refl; rests = λ s. refl; counts = λ s. refl; dry = λ s. refl; stored = λ s. refl }
+
+pub vol-joins : Joins vol_acts stages.Vol
+vol-joins = record { named = Scales; recipes = λ s. refl; kinds = λ r. refl; rests = λ s. refl; counts = λ s. refl; dry = λ s. refl; stored = λ s. refl }
+
+pub dcshift-joins : Joins dcshift_acts stages.DcShift
+dcshift-joins = record { named = Shifts; recipes = λ s. refl; kinds = λ r. refl; rests = λ s. refl; counts = λ s. refl; dry = λ s. refl; stored = λ s. refl }
+
+module _ {S R : Type 0} {acts : Acts S R} {wrap : S → EffectStage} (j : Joins acts wrap) where
+  pub PassedOn-joined : (r : Passing) (s s' : S) (x y : Samples) → PassedOn acts r s s' x y → PassedOn effect_acts r (wrap s) (wrap s') x y
+  PassedOn-joined = PassedOn-along acts effect_acts wrap j.named j.recipes j.kinds j.rests j.counts j.dry j.stored
+
+  pub Fed-joined : (first s : S) (xs gs : List Samples) → Fed acts first xs gs s → Fed effect_acts (wrap first) xs gs (wrap s)
+  Fed-joined = Fed-along acts effect_acts wrap j.named j.recipes j.kinds j.rests j.counts j.dry j.stored
