@@ -13,12 +13,8 @@ line_of (OfDelay ds) = greatest ds
 line_of (OfEcho e) = greatest (map tap_delay e.taps)
 line_of (OfEchos e) = sum_of_delays e.taps
 line_of (OfFade fade) = stop_line (meant fade.stop) fade.fade_out
-line_of (OfVol gain) = 0
-line_of (OfDcShift shift) = 0
 line_of (OfFir gains) = length gains - 1
-line_of (OfRemix specs) = 0
-line_of (OfUpsample factor) = 0
-line_of (OfDownsample factor) = 0
+line_of other = 0
 
 -- beside its line an effect has one frame in hand, and the chain one before the first effect
 abbrev pub hold_of : Act → ℕ
@@ -29,18 +25,13 @@ hold_all acts = 1 + sum_by hold_of acts
 
 -- the most frames that an effect makes of n
 abbrev pub most_of : Act → ℕ → ℕ
-most_of (OfTrim ps) n = n
 most_of (OfPad pads) n = n + sum_by pad_length pads
 most_of (OfDelay ds) n = n + greatest ds
 most_of (OfEcho e) n = n + greatest (map tap_delay e.taps)
 most_of (OfEchos e) n = n + sum_of_delays e.taps
-most_of (OfFade fade) n = n
-most_of (OfVol gain) n = n
-most_of (OfDcShift shift) n = n
-most_of (OfFir gains) n = n
-most_of (OfRemix specs) n = n
 most_of (OfUpsample factor) n = n * factor
 most_of (OfDownsample factor) n = div_ceil n factor
+most_of other n = n
 
 -- n, and the most frames behind each effect in turn
 abbrev pub mosts : List Act → ℕ → List ℕ

@@ -101,21 +101,12 @@ abbrev pub effect_act : Layout → List ℕ → List Word → Option Act
 effect_act layout file [] = None
 effect_act layout file (name ∷ words) = named_act (name_of name) layout file words
 
--- the layout behind an effect; no effect leaves it as it is
+-- the layout behind an effect: `remix` changes the channels, `upsample` and `downsample` the rate; no effect leaves it as it is
 abbrev pub layout_after : Layout → Option Act → Layout
-layout_after layout None = layout
-layout_after layout (Some (OfTrim ps)) = layout
-layout_after layout (Some (OfPad pads)) = layout
-layout_after layout (Some (OfDelay ds)) = layout
-layout_after layout (Some (OfEcho e)) = layout
-layout_after layout (Some (OfEchos e)) = layout
-layout_after layout (Some (OfFade fade)) = layout
-layout_after layout (Some (OfVol gain)) = layout
-layout_after layout (Some (OfDcShift shift)) = layout
-layout_after layout (Some (OfFir gains)) = layout
 layout_after layout (Some (OfRemix specs)) = record layout { channels = length specs }
 layout_after layout (Some (OfUpsample factor)) = record layout { rate = layout.rate * factor }
 layout_after layout (Some (OfDownsample factor)) = record layout { rate = layout.rate / factor }
+layout_after layout other = layout
 
 -- the layout of the input
 abbrev pub head_layout : Head → Layout
@@ -130,33 +121,17 @@ pub record IsLayout (layout : Layout) : Type 0 where
 
 -- an effect that can follow a layout
 abbrev pub Fits : Layout → Act → Type 0
-Fits layout (OfTrim ps) = ⊤
-Fits layout (OfPad pads) = ⊤
-Fits layout (OfDelay ds) = ⊤
-Fits layout (OfEcho e) = ⊤
-Fits layout (OfEchos e) = ⊤
-Fits layout (OfFade fade) = ⊤
-Fits layout (OfVol gain) = ⊤
-Fits layout (OfDcShift shift) = ⊤
-Fits layout (OfFir gains) = ⊤
 Fits layout (OfRemix specs) = (1 ≤ length specs) × (length specs ≤ 16)
 Fits layout (OfUpsample factor) = (1 ≤ factor) × (factor ≤ 256) × (layout.rate * factor < 2 ^ 32)
 Fits layout (OfDownsample factor) = (1 ≤ factor) × (factor ≤ 256) × (factor ≤ layout.rate)
+Fits layout other = ⊤
 
 -- the arguments of an effect are within the limits
 abbrev pub is_usable : Act → Bool
-is_usable (OfTrim ps) = true
-is_usable (OfPad pads) = true
-is_usable (OfDelay ds) = true
-is_usable (OfEcho e) = true
-is_usable (OfEchos e) = true
-is_usable (OfFade fade) = true
-is_usable (OfVol gain) = true
-is_usable (OfDcShift shift) = true
-is_usable (OfFir gains) = true
 is_usable (OfRemix specs) = nat_le 1 (length specs) && nat_le (length specs) 16
 is_usable (OfUpsample factor) = nat_le 1 factor && nat_le factor 256
 is_usable (OfDownsample factor) = nat_le 1 factor && nat_le factor 256
+is_usable other = true
 
 abbrev pub Usable : Act → Type 0
 Usable act = is_usable act ≡ true
@@ -164,18 +139,15 @@ Usable act = is_usable act ≡ true
 -- an effect meets what its place behind a layout asks for: a delay for each channel at the most, no channel that is
 -- not there, and arguments within the limits
 abbrev pub fits_layout : Layout → Act → Bool
-fits_layout layout (OfTrim ps) = true
 fits_layout layout (OfPad pads) = are_pads pads
 fits_layout layout (OfDelay ds) = nat_le (length ds) layout.channels
 fits_layout layout (OfEcho e) = are_echoes e
 fits_layout layout (OfEchos e) = are_echoes e
 fits_layout layout (OfFade fade) = is_fade fade
-fits_layout layout (OfVol gain) = true
 fits_layout layout (OfDcShift shift) = nat_le (unsigned_abs shift) (2 * UNIT)
 fits_layout layout (OfFir gains) = nat_le 1 (length gains) && nat_le (length gains) 1024
 fits_layout layout (OfRemix specs) = list_all (is_mix layout.channels) specs
-fits_layout layout (OfUpsample factor) = true
-fits_layout layout (OfDownsample factor) = true
+fits_layout layout other = true
 
 -- each effect meets what its place asks for, the first of them behind this layout
 abbrev pub all_fit : Layout → List Act → Bool

@@ -39,34 +39,33 @@ pub data EffectRecipe : Type 0 where
   Scales : (r : SampleArguments ℤ) → EffectRecipe
   Shifts : (r : SampleArguments ℤ) → EffectRecipe
 
--- what a recipe settles for a stage's whole life, and the definition of its effect; more frames in give no fewer out
+-- what a recipe settles for a stage's whole life, and the definition of its effect
 pub record Settled : Type 0 where
   pub kind : Kind
   pub meaning : List Samples → List Given
-  pub rises : (m n : ℕ) → m ≤ n → kind.most m ≤ kind.most n
 
 -- what a recipe settles, by how the stages of its effect behave
-abbrev pub settled : {S R : Type 0} → (acts : Acts S R) (r : R) → ((m n : ℕ) → m ≤ n → (acts.kind_of r).most m ≤ (acts.kind_of r).most n) → Settled
-settled acts r rises = record { kind = acts.kind_of r; meaning = acts.meaning r; rises = rises }
+abbrev pub settled : {S R : Type 0} → Acts S R → R → Settled
+settled acts r = record { kind = acts.kind_of r; meaning = acts.meaning r }
 
 -- what any recipe settles
 abbrev pub settled_of : EffectRecipe → Settled
-settled_of (Trims r) = settled trim_acts r (λ m n h. h)
-settled_of (Pads r) = settled pad_acts r (pad_rises r)
-settled_of (Fades r) = settled fade_acts r (λ m n h. h)
-settled_of (Upsamples r) = settled upsample_acts r (λ m n h. mul-le-mul_right r.factor h)
-settled_of (Downsamples r) = settled downsample_acts r (λ m n h. ceil_rises m n r.factor h)
-settled_of (Delays r) = settled delay_acts r (tap_rises (greatest r))
-settled_of (Echoes r) = settled echo_acts r (tap_rises (greatest (map tap_delay r.echoes)))
-settled_of (EchoesInRow r) = settled echos_acts r (tap_rises (sum_of_delays r.echoes))
-settled_of (Filters r) = settled fir_acts r (λ m n h. h)
-settled_of (Remixes r) = settled remix_acts r (λ m n h. h)
-settled_of (Scales r) = settled vol_acts r (λ m n h. h)
-settled_of (Shifts r) = settled dcshift_acts r (λ m n h. h)
+settled_of (Trims r) = settled trim_acts r
+settled_of (Pads r) = settled pad_acts r
+settled_of (Fades r) = settled fade_acts r
+settled_of (Upsamples r) = settled upsample_acts r
+settled_of (Downsamples r) = settled downsample_acts r
+settled_of (Delays r) = settled delay_acts r
+settled_of (Echoes r) = settled echo_acts r
+settled_of (EchoesInRow r) = settled echos_acts r
+settled_of (Filters r) = settled fir_acts r
+settled_of (Remixes r) = settled remix_acts r
+settled_of (Scales r) = settled vol_acts r
+settled_of (Shifts r) = settled dcshift_acts r
 
 -- what a stage shows of itself: its recipe, what is still to be given, what it counted, that it has nothing to give now,
--- the frames that it holds, the places of its line, and its own numbers; and what holds of it at every moment
-pub record Look : Type 1 where
+-- the frames that it holds, the places of its line, and its own numbers
+pub record Look : Type 0 where
   pub recipe : EffectRecipe
   pub rest : List Samples → List Given
   pub counts : Counts
@@ -74,11 +73,10 @@ pub record Look : Type 1 where
   pub stored : List Samples
   pub capacity : ℕ
   pub own : Own
-  pub sound : Type 0
 
 -- the look of a stage, by how the stages of its effect behave
-abbrev pub look : {S R : Type 0} → Acts S R → (R → EffectRecipe) → (S → Type 0) → S → Look
-look acts named sound s = record {
+abbrev pub look : {S R : Type 0} → Acts S R → (R → EffectRecipe) → S → Look
+look acts named s = record {
   recipe = named (acts.recipe s);
   rest = acts.rest s;
   counts = acts.counts s;
@@ -86,23 +84,22 @@ look acts named sound s = record {
   stored = acts.stored s;
   capacity = acts.capacity s;
   own = acts.own s;
-  sound = sound s;
 }
 
 -- the look of any stage
 abbrev pub look_of : EffectStage → Look
-look_of (stages.Trim s) = look trim_acts Trims IsTrim s
-look_of (stages.Pad s) = look pad_acts Pads IsPad s
-look_of (stages.Fade s) = look fade_acts Fades IsFade s
-look_of (stages.Upsample s) = look upsample_acts Upsamples IsUpsample s
-look_of (stages.Downsample s) = look downsample_acts Downsamples IsDownsample s
-look_of (stages.Delay s) = look delay_acts Delays (IsTapState delay_taps) s
-look_of (stages.Echo s) = look echo_acts Echoes (IsTapState echo_taps) s
-look_of (stages.Echos s) = look echos_acts EchoesInRow IsEchos s
-look_of (stages.Fir s) = look fir_acts Filters IsFir s
-look_of (stages.Remix s) = look remix_acts Remixes (IsMapState (λ (a : RemixArguments). length a.outs)) s
-look_of (stages.Vol s) = look vol_acts Scales (IsMapState (λ (a : SampleArguments ℤ). a.channels)) s
-look_of (stages.DcShift s) = look dcshift_acts Shifts (IsMapState (λ (a : SampleArguments ℤ). a.channels)) s
+look_of (stages.Trim s) = look trim_acts Trims s
+look_of (stages.Pad s) = look pad_acts Pads s
+look_of (stages.Fade s) = look fade_acts Fades s
+look_of (stages.Upsample s) = look upsample_acts Upsamples s
+look_of (stages.Downsample s) = look downsample_acts Downsamples s
+look_of (stages.Delay s) = look delay_acts Delays s
+look_of (stages.Echo s) = look echo_acts Echoes s
+look_of (stages.Echos s) = look echos_acts EchoesInRow s
+look_of (stages.Fir s) = look fir_acts Filters s
+look_of (stages.Remix s) = look remix_acts Remixes s
+look_of (stages.Vol s) = look vol_acts Scales s
+look_of (stages.DcShift s) = look dcshift_acts Shifts s
 
 abbrev pub kind_of_recipe : EffectRecipe → Kind
 kind_of_recipe r = (settled_of r).kind
@@ -115,7 +112,18 @@ stored_of s = (look_of s).stored
 
 -- what holds of it at every moment
 abbrev pub sound_of : EffectStage → Type 0
-sound_of s = (look_of s).sound
+sound_of (stages.Trim s) = IsTrim s
+sound_of (stages.Pad s) = IsPad s
+sound_of (stages.Fade s) = IsFade s
+sound_of (stages.Upsample s) = IsUpsample s
+sound_of (stages.Downsample s) = IsDownsample s
+sound_of (stages.Delay s) = IsTapState delay_taps s
+sound_of (stages.Echo s) = IsTapState echo_taps s
+sound_of (stages.Echos s) = IsEchos s
+sound_of (stages.Fir s) = IsFir s
+sound_of (stages.Remix s) = IsMapState (λ (a : RemixArguments). length a.outs) s
+sound_of (stages.Vol s) = IsMapState (λ (a : SampleArguments ℤ). a.channels) s
+sound_of (stages.DcShift s) = IsMapState (λ (a : SampleArguments ℤ). a.channels) s
 
 -- how the stages of all effects behave
 abbrev pub effect_acts : Acts EffectStage EffectRecipe
@@ -133,4 +141,15 @@ effect_acts = record {
 
 -- more frames in give no fewer out
 pub effect_rises : (r : EffectRecipe) (m n : ℕ) → m ≤ n → (kind_of_recipe r).most m ≤ (kind_of_recipe r).most n
-effect_rises r = (settled_of r).rises
+effect_rises (Trims r) m n h = h
+effect_rises (Pads r) m n h = pad_rises r m n h
+effect_rises (Fades r) m n h = h
+effect_rises (Upsamples r) m n h = mul-le-mul_right r.factor h
+effect_rises (Downsamples r) m n h = ceil_rises m n r.factor h
+effect_rises (Delays r) m n h = tap_rises (greatest r) m n h
+effect_rises (Echoes r) m n h = tap_rises (greatest (map tap_delay r.echoes)) m n h
+effect_rises (EchoesInRow r) m n h = tap_rises (sum_of_delays r.echoes) m n h
+effect_rises (Filters r) m n h = h
+effect_rises (Remixes r) m n h = h
+effect_rises (Scales r) m n h = h
+effect_rises (Shifts r) m n h = h
