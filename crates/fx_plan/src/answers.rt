@@ -42,10 +42,7 @@ pub fn plan_words(
     ensures { PlanReads planning result (all_faults (head_layout head.now) (bytes_of files.now) (effects_of (texts words.now))) (planning_of head.now is_named kind bits (bytes_of files.now) (effects_of (texts words.now))) }
 {
     let layout = layout_of(head.rate, head.channels);
-    let planned = match read_plan(alloc, layout, words, files) {
-        Ok(planned) => planned,
-        Err(fault) => return Err(fault),
-    };
+    let planned = read_plan(alloc, layout, words, files)?;
     Ok(Plan {
         head: *head,
         kind,

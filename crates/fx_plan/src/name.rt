@@ -89,12 +89,7 @@ pub enum Name {
 fn is_among(word: &str, names: &[&str]) -> bool
     ensures { result ≡ list_any (λ name. bytes_eq word.now name.now) names.now }
 {
-    for name in names {
-        if word == *name {
-            return true;
-        }
-    }
-    false
+    names.contains(&word)
 }
 
 /// Whether a word names an effect that can begin only once all of the sound is there.

@@ -119,10 +119,7 @@ fn read_step(
             word: 1,
         });
     }
-    match read_effect(alloc, layout, file, name, words) {
-        Ok(effect) => Ok(effect),
-        Err(refusal) => Err(effect_fault(number, refusal)),
-    }
+    read_effect(alloc, layout, file, name, words).map_err(|refusal| effect_fault(number, refusal))
 }
 
 /// The effects that the words are, behind this layout.
@@ -145,10 +142,7 @@ fn read_effects(
     let mut number = 1;
     let mut layout = layout;
     while let Some((name, arguments, more)) = split_effect(rest) {
-        let effect = match read_step(alloc, number, layout, first_file(files), name, arguments) {
-            Ok(effect) => effect,
-            Err(fault) => return Err(fault),
-        };
+        let effect = read_step(alloc, number, layout, first_file(files), name, arguments)?;
         layout = effect.layout_after(layout);
         files = files_behind(name, arguments, files);
         if effects.push(effect).is_err() {
@@ -176,10 +170,7 @@ pub fn read_plan(
     ensures held { IfOk result (λ p. hold_all (map act p.effects.items) ≤ 2 ^ 28) }
     ensures short { IfOk result (λ p. Bounds.is_too_long (map act p.effects.items) ≡ false) }
 {
-    let planned = match read_effects(alloc, layout, words, files) {
-        Ok(planned) => planned,
-        Err(fault) => return Err(fault),
-    };
+    let planned = read_effects(alloc, layout, words, files)?;
     if hold(&planned.effects) > MOST_HELD {
         return Err(plan_fault(PlanCause::HoldTooLarge));
     }

@@ -14,10 +14,9 @@ fn read_place(rate: u32, previous: u64, word: &str) -> Result<u64, PlanCause>
     requires { 0 < rate }
     ensures { result ≡ delay_at rate previous word.now }
 {
-    match read_position(rate, Anchor::Start, At::Start(previous), word) {
-        Ok(At::Start(frames)) => Ok(frames),
-        Ok(At::End(_)) => Err(PlanCause::NeedsWholeSound),
-        Err(cause) => Err(cause),
+    match read_position(rate, Anchor::Start, At::Start(previous), word)? {
+        At::Start(frames) => Ok(frames),
+        At::End(_) => Err(PlanCause::NeedsWholeSound),
     }
 }
 

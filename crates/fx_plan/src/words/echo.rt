@@ -95,6 +95,5 @@ pub fn read_echo(alloc: Global, rate: u32, words: &[String]) -> Result<Echoing, 
     if words.len() < 4 || words.len() % 2 != 0 {
         return Err(marked(PlanCause::WrongCount, 1));
     }
-    let echo = read_words(alloc, rate, words)?;
-    Ok(echo)
+    read_words(alloc, rate, words)
 }

@@ -73,8 +73,7 @@ fn read_lengths(rate: u32, words: &[String]) -> Result<Fading, Mark>
         Ok(frames) => frames,
         Err(cause) => return Err(at_word(cause, 3)),
     };
-    let fade = read_stop(rate, fade_in, more)?;
-    Ok(fade)
+    read_stop(rate, fade_in, more)
 }
 
 /// What a `fade` with these words after its name does.
@@ -96,6 +95,5 @@ pub fn read_fade(rate: u32, words: &[String]) -> Result<Fading, Mark>
     if lengths.is_empty() {
         return Err(at_word(PlanCause::WrongCount, 1));
     }
-    let fade = read_lengths(rate, lengths)?;
-    Ok(fade)
+    read_lengths(rate, lengths)
 }

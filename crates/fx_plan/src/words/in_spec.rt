@@ -143,10 +143,8 @@ pub fn read_in_spec(channels: u32, text: &str) -> Result<InSpec, PlanCause>
     let Some((first, second)) = read_ends(channels, &text[..place]) else {
         return Err(PlanCause::BadArgument);
     };
-    match read_vol_spec(place, text) {
-        Ok(gain) => in_order(channels, first, second, gain),
-        Err(cause) => Err(cause),
-    }
+    let gain = read_vol_spec(place, text)?;
+    in_order(channels, first, second, gain)
 }
 
 /// Adds the channels of an in-spec to those that are summed.

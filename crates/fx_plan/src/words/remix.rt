@@ -160,10 +160,7 @@ fn read_specs(
     let mut rest = words;
     let mut number = first;
     while let Some((word, more)) = rest.split_first() {
-        let spec = match read_spec(alloc, channels, mixing, number, word) {
-            Ok(spec) => spec,
-            Err(refusal) => return Err(refusal),
-        };
+        let spec = read_spec(alloc, channels, mixing, number, word)?;
         if specs.push(spec).is_err() {
             return Err(Refusal::Memory);
         }

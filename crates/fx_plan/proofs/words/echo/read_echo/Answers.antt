@@ -1,8 +1,9 @@
-use Rattle.std.proofs.Common.{◌≡◌, ◌≤◌, length, ap, ◌∙◌, arith, string_bytes}
+use Rattle.std.proofs.Common.{◌≡◌, ◌≤◌, length, arith, string_bytes, true}
 use Rattle.std.proofs.lemmas.List.{length-map}
-use Rattle.fx_plan.specs.Echo.{are_echoes}
+use Rattle.fx_plan.specs.Echo.{are_echoes, echo_value}
 use Rattle.fx_plan.specs.Faults.{texts}
 use Rattle.fx_plan.proofs.Echoing.{echoing_fits}
+use Rattle.fx_plan.proofs.Refusing.{IfOk-reads}
 use Rattle.fx_plan.proofs.words.echo.read_echo.Goals as goal
 
 pub returns-clause-fit : goal.returns-clause-fit
@@ -11,4 +12,4 @@ returns-clause-fit c =
     let count : length words ≡ length c.args.words.now = length-map c.args.words.now string_bytes in
     let least : 4 ≤ length words = omega (arith, count) in
     let most : length words ≤ 16 = omega (arith, count) in
-    ap are_echoes c.in_ok-echo.ensures.1 ∙ echoing_fits c.args.rate words c.in_ok-echo.ensures.0 least most
+    IfOk-reads echo_value (λ echo. are_echoes echo ≡ true) c.read_words.result _ _ c.read_words.ensures (λ none. echoing_fits c.args.rate words none least most)
