@@ -1,3 +1,4 @@
+pub mod Faults
 pub mod Held
 pub mod Sounds
 pub mod Sending

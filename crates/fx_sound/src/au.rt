@@ -95,10 +95,7 @@ pub(crate) fn read_au<R: ByteIn>(source: &mut Source<R>) -> Result<Layout, HeadF
     if got < 20 {
         return Err(HeadFault::Truncated);
     }
-    let layout = match fields(&words) {
-        Ok(layout) => layout,
-        Err(fault) => return Err(fault),
-    };
+    let layout = fields(&words)?;
     let between = (layout.offset - 24) as usize;
     let Ok(skipped) = source.skip(between) else {
         return Err(HeadFault::ReadFailed);

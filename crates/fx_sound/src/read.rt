@@ -44,14 +44,8 @@ fn read_layout<R: ByteIn>(source: &mut Source<R>, kind: Kind) -> Result<Layout, 
         (R.reads.failures source.new.reader ≡ R.reads.failures source.old.reader) }
 {
     match kind {
-        Kind::Wav => match read_wav(source) {
-            Ok(layout) => Ok(layout),
-            Err(fault) => Err(fault),
-        },
-        Kind::Au => match read_au(source) {
-            Ok(layout) => Ok(layout),
-            Err(fault) => Err(fault),
-        },
+        Kind::Wav => read_wav(source),
+        Kind::Au => read_au(source),
     }
 }
 
@@ -81,10 +75,7 @@ pub fn read_head<R: ByteIn>(
     let Some(kind) = found(expected, name) else {
         return Err(HeadFault::UnknownType);
     };
-    let layout = match read_layout(source, kind) {
-        Ok(layout) => layout,
-        Err(fault) => return Err(fault),
-    };
+    let layout = read_layout(source, kind)?;
     Ok(Head {
         kind,
         rate: layout.format.rate,

@@ -63,11 +63,7 @@ pub fn read_frames<R: ByteIn>(
     let mut frames = Vec::new(alloc);
     for _turn in 0..MOST_FRAMES + 1 {
         match next_frame(source, progress) {
-            Ok(Some(frame)) => {
-                let Ok(()) = frames.push(frame) else {
-                    return Err(SoundFault::Memory);
-                };
-            }
+            Ok(Some(frame)) => frames.push(frame).map_err(|_| SoundFault::Memory)?,
             Ok(None) => return Ok(frames),
             Err(fault) => return Err(SoundFault::Read(fault)),
         }
@@ -84,15 +80,9 @@ pub fn read_sound<R: ByteIn>(
     ensures sound { IfOk result (λ s. IfKnown (to_come R.reads.rest source.old) (λ bytes. container expected bytes ≡ Ok (outcome s))) }
     ensures fault { IfErr result (λ e. IfKnown (to_come R.reads.rest source.old) (λ bytes. IsHeadFault (container expected bytes) e)) }
 {
-    let head = match read_head(source, expected) {
-        Ok(head) => head,
-        Err(fault) => return Err(SoundFault::Head(fault)),
-    };
+    let head = read_head(source, expected).map_err(SoundFault::Head)?;
     let mut progress = Progress::new(&head);
-    let frames = match read_frames(alloc, source, &mut progress) {
-        Ok(frames) => frames,
-        Err(fault) => return Err(fault),
-    };
+    let frames = read_frames(alloc, source, &mut progress)?;
     Ok(Sound {
         head,
         frames,

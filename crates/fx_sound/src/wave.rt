@@ -184,10 +184,7 @@ fn read_format<R: ByteIn>(source: &mut Source<R>, size: u32) -> Result<Format, H
     if skipped < length {
         return Err(HeadFault::Truncated);
     }
-    match format(front) {
-        Ok(format) => Ok(format),
-        Err(fault) => Err(fault),
-    }
+    format(front)
 }
 
 // What comes of a demand.
@@ -216,9 +213,7 @@ fn read_body<R: ByteIn>(
         }
         Demand::Other(size) => {
             let length = (size + size % 2) as usize;
-            let Ok(skipped) = source.skip(length) else {
-                return Err(HeadFault::ReadFailed);
-            };
+            let skipped = source.skip(length).map_err(|_| HeadFault::ReadFailed)?;
             if skipped < length {
                 return Err(HeadFault::Truncated);
             }
@@ -260,13 +255,8 @@ fn read_step<R: ByteIn>(
     }
     let name = name_at(&head);
     let size = long(&head, 4);
-    match asked(offset, seen, name, size) {
-        Err(fault) => Err(fault),
-        Ok(demand) => match read_body(source, offset, seen, demand) {
-            Ok(step) => Ok(step),
-            Err(fault) => Err(fault),
-        },
-    }
+    let demand = asked(offset, seen, name, size)?;
+    read_body(source, offset, seen, demand)
 }
 
 // No head has more chunks: each has 8 bytes, and the sound begins at 2^24 or before.
@@ -287,11 +277,7 @@ fn read_chunks<R: ByteIn>(source: &mut Source<R>) -> Result<Layout, HeadFault>
     let mut offset = 12;
     let mut seen = None;
     for _turn in 0..MOST_CHUNKS {
-        let step = match read_step(source, offset, seen) {
-            Ok(step) => step,
-            Err(fault) => return Err(fault),
-        };
-        match step {
+        match read_step(source, offset, seen)? {
             Step::Sound(head) => return Ok(head),
             Step::Next(next, format) => {
                 offset = next;
@@ -325,10 +311,7 @@ pub(crate) fn read_wav<R: ByteIn>(source: &mut Source<R>) -> Result<Layout, Head
     if name != *b"WAVE" {
         return Err(HeadFault::UnknownType);
     }
-    match read_chunks(source) {
-        Ok(head) => Ok(head),
-        Err(fault) => Err(fault),
-    }
+    read_chunks(source)
 }
 
 // What is read as a WAVE head is a row of chunks, and each such row is read.

@@ -1,4 +1,4 @@
-use Rattle.std.proofs.Common.{◌≡◌, ℕ, ◌+◌, ◌*◌, ◌++◌, ◌∷◌, [], drop, take, sym, ap, ◌∙◌, subst, arith}
+use Rattle.std.proofs.Common.{◌≡◌, ℕ, ◌+◌, ◌*◌, ◌++◌, ◌∷◌, [], drop, take, sym, ap, ◌∙◌, subst, arith, rules}
 use Rattle.std.specs.Prelude.{Err}
 use Rattle.fx_frame.specs.FrameCoding.{samples_of}
 use Rattle.fx_sound.specs.Container.{first_frames}
@@ -59,6 +59,7 @@ loop-turn-preserved g c =
     let same : size_of c.loop-turn.progress ≡ size = ap size_of old.now in
     let more : n * size + size_of c.loop-turn.progress ≡ (n + 1) * size = omega (arith, same) in
     let P : ℕ → Type 0 = Takes g.R.ByteIn.reads.told c.args.source.now c.next_frame.new.source in
+    let pushed : c.push.new.self.items ≡ c.loop-turn.frames.items ++ c.in-Ok-Some.frame ∷ [] = search rules in
     record {
       now = next.counted ∙ ap after_frame old.now ∙ after_frames-more p n;
       most = next.most;
@@ -70,7 +71,7 @@ loop-turn-preserved g c =
           let taken = next.frame (drop (n * size) bytes) ran.to_come_is in
           let frame : c.in-Ok-Some.frame ≡ samples_of p.coding p.channels (take size (drop (n * size) bytes)) =
           taken.samples ∙ ap (λ q. samples_of q.coding q.channels (take (size_of q) (drop (n * size) bytes))) old.now in
-          c.in-Ok.ensures.items ∙ ap (λ l. l ++ c.in-Ok-Some.frame ∷ []) (old.items bytes known)
+          pushed ∙ ap (λ l. l ++ c.in-Ok-Some.frame ∷ []) (old.items bytes known)
           ∙ ap (λ f. first_frames p.coding p.channels n bytes ++ f ∷ []) frame ∙ sym (first_frames-more p.coding p.channels n bytes);
       told = subst P more (Takes-more g.R.ByteIn.reads.told c.args.source.now c.loop-turn.source c.next_frame.new.source (n * size) (size_of c.loop-turn.progress) old.told next.told);
     }

@@ -2,6 +2,7 @@ use Rattle.std.proofs.Common.{◌≡◌, ◌+◌, ◌≤◌, length, drop, sym, 
 use Rattle.std.specs.Prelude.{Some}
 use Rattle.std.proofs.lemmas.List.{length-drop, drop-drop, length-take-le}
 use Rattle.fx_sound.specs.Wave.{padded}
+use Rattle.fx_sound.proofs.Faults.{IfOk-at, IfErr-at}
 use Rattle.fx_sound.proofs.Held.{Tells-both}
 use Rattle.fx_sound.proofs.WaveLemmas.{format_read-short, format_read-cut, format_read-whole}
 use Rattle.fx_sound.proofs.wave.read_format.Goals as goal
@@ -40,8 +41,8 @@ returns-then-skipped-length-clause-fault g c = λ _ bytes known.
     let count = c.in-Ok.ensures.count in
     format_read-short c.args.size bytes (omega (arith, length-drop c.in-Ok.got bytes))
 
-pub returns-in-Ok-format-clause-format : goal.returns-in-Ok-format-clause-format
-returns-in-Ok-format-clause-format g c = λ bytes known.
+pub returns-clause-format : goal.returns-clause-format
+returns-clause-format g c = IfOk-at c.format.result _ (λ found is bytes known.
     let len : length c.fill.new.out ≡ c.min-most.result = c.fill.auto.out ∙ length-take-le c.min-most.result _ (omega arith) in
     let first = c.in-Ok.ensures.known bytes known in
     let then = c.in-Ok-skip.ensures.bytes _ first.2 in
@@ -49,16 +50,16 @@ returns-in-Ok-format-clause-format g c = λ bytes known.
     let count-2 = c.in-Ok-skip.ensures.count in
     let there : padded c.args.size ≤ length bytes = omega (arith, then.0, length-drop c.in-Ok.got bytes) in
     let all : c.in-Ok.got + c.in-Ok-skip.skipped ≡ padded c.args.size = omega arith in (
-      format_read-whole c.args.size c.in-Ok.got bytes c.fill.new.out first.0 (omega arith) (omega arith) (omega arith) there ∙ sym c.in-Ok-format.ensures.value,
+      format_read-whole c.args.size c.in-Ok.got bytes c.fill.new.out first.0 (omega arith) (omega arith) (omega arith) there ∙ sym c.format.ensures.value ∙ is,
       there,
       then.1 ∙ ap Some (drop-drop c.in-Ok-skip.skipped c.in-Ok.got bytes ∙ ap (λ i. drop i bytes) all),
-    )
+    ))
 
-pub returns-in-Err-clause-fault : goal.returns-in-Err-clause-fault
-returns-in-Err-clause-fault g c = λ _ bytes known.
+pub returns-clause-fault : goal.returns-clause-fault
+returns-clause-fault g c = IfErr-at c.format.result _ (λ fault is _ bytes known.
     let len : length c.fill.new.out ≡ c.min-most.result = c.fill.auto.out ∙ length-take-le c.min-most.result _ (omega arith) in
     let first = c.in-Ok.ensures.known bytes known in
     let then = c.in-Ok-skip.ensures.bytes _ first.2 in
     let count = c.in-Ok.ensures.count in
     let there : padded c.args.size ≤ length bytes = omega (arith, then.0, length-drop c.in-Ok.got bytes) in
-    format_read-whole c.args.size c.in-Ok.got bytes c.fill.new.out first.0 (omega arith) (omega arith) (omega arith) there ∙ sym c.in-Err.ensures.value
+    format_read-whole c.args.size c.in-Ok.got bytes c.fill.new.out first.0 (omega arith) (omega arith) (omega arith) there ∙ sym c.format.ensures.value ∙ is)
