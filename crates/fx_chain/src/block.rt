@@ -93,11 +93,7 @@ pub fn pump_block<R: ByteIn, S: Feeds, W: ByteOut>(
     ensures failures { CountsFailure (W.writes.failures writer.old) (W.writes.failures writer.new) result }
 {
     pass_block(flow, source, progress, outlet, input, output);
-    let Ok(()) = drain(flow, outlet, writer) else {
-        return Err(Failed);
-    };
-    let Ok(()) = outlet.output.make_way(writer) else {
-        return Err(Failed);
-    };
+    drain(flow, outlet, writer)?;
+    outlet.output.make_way(writer)?;
     Ok(())
 }

@@ -33,9 +33,7 @@ pub fn drain<S: Stage, W: ByteOut>(
     while let State::Busy = flow.state() {
         let _stages = flow.stages();
         if let Step::Given(frame) = flow.step() {
-            let Ok(()) = outlet.send(writer, &frame) else {
-                return Err(Failed);
-            };
+            outlet.send(writer, &frame)?;
         }
     }
     Ok(())

@@ -34,6 +34,16 @@ pub enum Cause {
     TooLong,
 }
 
+impl From<Failed> for Cause {
+    ghost use Rattle.fx_chain.specs.declared.pump.Cause.TheVariants.{WriteFailed};
+
+    ghost from_gives = { λ _ cause. cause ≡ WriteFailed };
+
+    fn from(_failed: Failed) -> Cause {
+        Cause::WriteFailed
+    }
+}
+
 /// Tells a flow the end, and sends what it still gives.
 fn end_flow<S: Stage, W: ByteOut>(
     flow: &mut Flow<S>,
@@ -51,9 +61,7 @@ fn end_flow<S: Stage, W: ByteOut>(
     ensures failures { CountsFailure (W.writes.failures writer.old) (W.writes.failures writer.new) result }
 {
     flow.end();
-    let Ok(()) = drain(flow, outlet, writer) else {
-        return Err(Failed);
-    };
+    drain(flow, outlet, writer)?;
     let _stages = flow.stages();
     Ok(())
 }
@@ -116,36 +124,28 @@ pub fn pump<R: ByteIn, S: Feeds, W: ByteOut>(
         (W.writes.failures writer.new ≡ saturated (W.writes.failures writer.old + 1))
         (W.writes.failures writer.new ≡ W.writes.failures writer.old) }
 {
-    let Ok(()) = outlet.output.push(writer, head) else {
-        return Err(Cause::WriteFailed);
-    };
+    outlet.output.push(writer, head)?;
     let mut input = [0; BUFFER_SIZE];
     let mut output = [0; BUFFER_SIZE];
     for _turn in 0..MOST_FRAMES + 1 {
         let _stages = flow.stages();
         if flow.is_spent() {
-            let Ok(()) = end_flow(flow, outlet, writer) else {
-                return Err(Cause::WriteFailed);
-            };
+            end_flow(flow, outlet, writer)?;
             return Ok(());
         }
         match next_frame(source, progress) {
             Ok(Some(frame)) => {
                 flow.take(frame);
-                let Ok(()) = drain(flow, outlet, writer) else {
-                    return Err(Cause::WriteFailed);
-                };
+                drain(flow, outlet, writer)?;
             }
             Ok(None) => {
-                let Ok(()) = end_flow(flow, outlet, writer) else {
-                    return Err(Cause::WriteFailed);
-                };
+                end_flow(flow, outlet, writer)?;
                 return Ok(());
             }
             Err(ReadFault::ReadFailed) => return Err(Cause::ReadFailed),
             Err(ReadFault::TooLong) => return Err(Cause::TooLong),
         }
-        let blocks = pump_block(
+        pump_block(
             flow,
             source,
             progress,
@@ -153,10 +153,7 @@ pub fn pump<R: ByteIn, S: Feeds, W: ByteOut>(
             writer,
             &mut input,
             &mut output,
-        );
-        let Ok(()) = blocks else {
-            return Err(Cause::WriteFailed);
-        };
+        )?;
     }
     unreachable!()
 }

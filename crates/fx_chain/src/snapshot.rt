@@ -76,17 +76,13 @@ impl Chain {
         let Ok(arguments) = arguments_of(alloc, channels, plan.effects()) else {
             return Err(ThawFault::Memory);
         };
-        let frozen = Flow::thaw(
+        let flow = Flow::thaw(
             alloc,
             &arguments,
             channels,
             &snapshot.frames,
             &snapshot.numbers,
-        );
-        let flow = match frozen {
-            Ok(flow) => flow,
-            Err(fault) => return Err(fault),
-        };
+        )?;
         Ok(Chain { flow, plan })
     }
 }

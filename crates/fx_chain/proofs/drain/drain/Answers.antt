@@ -1,4 +1,5 @@
 use Rattle.std.proofs.Common.{◌∙◌, refl, ap, arith, length}
+use Rattle.std.proofs.lemmas.Result.{MatchResult-from_err}
 use Rattle.fx_chain.proofs.Draining.{Drained-more, Drained-none, Drained-still, CutOff-more, given_by-few, no_frame}
 use Rattle.fx_chain.proofs.drain.drain.Goals as goal
 
@@ -38,11 +39,11 @@ loop-flow-preserved g c =
       recipes_stay = steps.recipes_stay ∙ old.recipes_stay;
     }
 
-pub loop-flow-preserved-in-Ok-1 : goal.loop-flow-preserved-in-Ok-1
-loop-flow-preserved-in-Ok-1 g c =
+pub loop-flow-preserved-in-Continue-1 : goal.loop-flow-preserved-in-Continue-1
+loop-flow-preserved-in-Continue-1 g c =
     let old = c.loop-flow.invariant in
     let steps = c.in-Given.ensures.steps in
-    let sent = c.in-Ok.ensures in
+    let sent = c.in_ok-send.ensures in
     let one = steps.given in
     record {
       drained = Drained-more g.S.Stage.acts c.args.flow.now c.loop-flow.flow c.step.new.self _ c.in-Given.frame c.args.outlet.now.coding _ _ _ _ _ _ _ _ _ old.drained steps c.in-Given.ensures.moved refl (rw old.coding at sent.clips) (rw old.coding at sent.sent);
@@ -53,8 +54,8 @@ loop-flow-preserved-in-Ok-1 g c =
       recipes_stay = steps.recipes_stay ∙ old.recipes_stay;
     }
 
-pub returns-in_default-send-clause-cut_off : goal.returns-in_default-send-clause-cut_off
-returns-in_default-send-clause-cut_off g c =
+pub returns-in_err-send-clause-cut_off : goal.returns-in_err-send-clause-cut_off
+returns-in_err-send-clause-cut_off g c =
     let old = c.loop-flow.invariant in
-    let sent = c.in_default-send.ensures in
-    CutOff-more g.S.Stage.acts c.args.flow.now c.loop-flow.flow c.step.new.self _ c.in-Given.frame c.args.outlet.now.coding _ _ _ _ _ _ _ _ _ old.drained c.in-Given.ensures.steps c.in-Given.ensures.moved refl (rw old.coding at sent.clips) sent.sent_err
+    let sent = c.in_err-send.ensures in
+    MatchResult-from_err _ _ _ c.from_residual.ensures.0 (λ _. CutOff-more g.S.Stage.acts c.args.flow.now c.loop-flow.flow c.step.new.self _ c.in-Given.frame c.args.outlet.now.coding _ _ _ _ _ _ _ _ _ old.drained c.in-Given.ensures.steps c.in-Given.ensures.moved refl (rw old.coding at sent.clips) sent.sent_err)

@@ -1,25 +1,24 @@
-use Rattle.std.proofs.Common.{◌≡◌, ℕ, ◌+◌, ◌*◌, ◌∙◌, List, [], ◌∷◌, ◌++◌, length, drop, refl, subst, sym, ap, arith, false, true}
-use Rattle.fx_flow.specs.Parts.{Parts, enough_for, taken_of}
-use Rattle.fx_frame.specs.Holds.{kinds, recipes}
+use Rattle.std.proofs.Common.{◌≡◌, ℕ, ◌+◌, ◌*◌, ◌∙◌, [], length, drop, refl, subst, sym, ap, arith, false, true}
 use Rattle.fx_frame.specs.Io.{saturated}
-use Rattle.fx_sound.specs.Runs.{Ran, Ran-start, Ran-turn, Ran-whole, Takes-more, Takes-none, after_frames-more}
+use Rattle.fx_sound.specs.Runs.{Ran, Ran-start, Ran-turn, Ran-whole, Takes-none}
 use Rattle.fx_sound.specs.Container.{after_frames}
-use Rattle.fx_sound.specs.Sound.{Reading, after_frame, size_of}
-use Rattle.fx_sound.specs.Source.{Takes, to_come}
+use Rattle.fx_sound.specs.Sound.{Reading, size_of}
+use Rattle.fx_sound.specs.Source.{to_come}
+use Rattle.std.proofs.lemmas.Result.{err_from_is_err_and}
 use Rattle.std.specs.Prelude.{Some}
-use Rattle.fx_chain.specs.Run.{WantsMore, is_write_failed, sound_frames}
+use Rattle.fx_chain.specs.Run.{is_write_failed}
 use Rattle.fx_chain.specs.Pump.{Start}
 use Rattle.fx_chain.proofs.Blocks.{Pumped-turn}
 use Rattle.fx_chain.proofs.Draining.{given_by-few}
-use Rattle.fx_chain.proofs.Passing.{settled, Flowed-end, Flowed-start, Flowed-turn, FlowedFront-end, FlowedFront-start, FlowedFront-turn, RanToEnd-end, RanToFailure-failed, WantsMore-next, enough-same, not-both, sound_frames-more, taken-take}
+use Rattle.fx_chain.proofs.Passing.{settled, Flowed-end, Flowed-start, FlowedFront-end, FlowedFront-start, FlowedFront-turn, RanToEnd-end, RanToFailure-failed, not-both, sound_frames-more}
 use Rattle.fx_chain.proofs.Sending.{Sent-start, WroteFront-sent}
 use Rattle.fx_chain.proofs.pump.pump.Goals as goal
 
-pub returns-in_default-clause-write_failed : goal.returns-in_default-clause-write_failed
-returns-in_default-clause-write_failed g c = λ _ bytes known.
+pub returns-in_err-push-clause-write_failed : goal.returns-in_err-push-clause-write_failed
+returns-in_err-push-clause-write_failed g c = λ _ bytes known.
     rw (c.requires.fresh.0)
     (FlowedFront-start g.S.Stage.acts c.args.flow.now c.args.outlet.now.coding _ _ _ _ c.args.head.now c.requires.new.1 c.requires.empty.2
-    (WroteFront-sent _ _ _ [] c.args.head.now (c.in_default.ensures.sent_err (g.W.ByteOut.writes.taken c.args.writer.now) [] (Sent-start _ _ c.requires.empty.0 c.requires.empty.1))))
+    (WroteFront-sent _ _ _ [] c.args.head.now (c.in_err-push.ensures.sent_err (g.W.ByteOut.writes.taken c.args.writer.now) [] (Sent-start _ _ c.requires.empty.0 c.requires.empty.1))))
 
 pub loop-turn-init : goal.loop-turn-init
 loop-turn-init g c =
@@ -40,7 +39,7 @@ loop-turn-init g c =
         stay = refl;
         kept = refl;
         wants = λ m h. absurd (omega (arith, fresh));
-        room = omega (arith, c.in-Ok.ensures.count, ap length c.requires.empty.0, c.requires.empty.1, c.requires.head);
+        room = omega (arith, c.in_ok-push.ensures.count, ap length c.requires.empty.0, c.requires.empty.1, c.requires.head);
         few = omega (arith, c.requires.empty.2);
         coded = refl;
         ran = λ bytes known.
@@ -49,27 +48,27 @@ loop-turn-init g c =
         flowed = λ bytes known.
             rw fresh
             (Flowed-start g.S.Stage.acts c.args.flow.now c.args.outlet.now.coding _ _ _ _ c.args.head.now c.requires.new.1 c.requires.empty.2
-            (c.in-Ok.ensures.sent (g.W.ByteOut.writes.taken c.args.writer.now) [] (Sent-start _ _ c.requires.empty.0 c.requires.empty.1)));
+            (c.in_ok-push.ensures.sent (g.W.ByteOut.writes.taken c.args.writer.now) [] (Sent-start _ _ c.requires.empty.0 c.requires.empty.1)));
         takes = rw (fresh, none) (Takes-none g.R.ByteIn.reads.told c.args.source.now);
         reads = refl;
       };
-      writes = c.in-Ok.ensures.failures;
+      writes = c.in_ok-push.ensures.failures;
     }
 
-pub returns-in_default-end_flow-clause-write_failed : goal.returns-in_default-end_flow-clause-write_failed
-returns-in_default-end_flow-clause-write_failed g c = λ _ bytes known.
+pub returns-in_err-end_flow-clause-write_failed : goal.returns-in_err-end_flow-clause-write_failed
+returns-in_err-end_flow-clause-write_failed g c = λ _ bytes known.
     let old = c.loop-turn.invariant.pumped in
     (FlowedFront-end g.S.Stage.acts c.args.flow.now c.loop-turn.flow _ c.end_flow.new.flow c.args.outlet.now.coding _ _ _ _ _ _ _ _ c.args.head.now (old.flowed bytes known) old.hungry refl
-    (rw (old.coded) at c.in_default-end_flow.ensures.cut_off))
+    (rw (old.coded) at c.in_err-end_flow.ensures.cut_off))
 
 pub returns-then-is_spent-clause-sent : goal.returns-then-is_spent-clause-sent
 returns-then-is_spent-clause-sent g c = λ _ bytes known.
     let old = c.loop-turn.invariant.pumped in
     (Flowed-end g.S.Stage.acts c.args.flow.now c.loop-turn.flow _ c.end_flow.new.flow c.args.outlet.now.coding _ _ _ _ _ _ _ _ c.args.head.now (old.flowed bytes known) old.hungry refl
-    (rw (old.coded) at c.in-Ok-end_flow.ensures.drained))
+    (rw (old.coded) at c.in_ok-end_flow.ensures.drained))
 
-pub returns-in_default-drain-clause-write_failed : goal.returns-in_default-drain-clause-write_failed
-returns-in_default-drain-clause-write_failed g c = λ _ bytes known.
+pub returns-in_err-drain-in-Ok-Some-clause-write_failed : goal.returns-in_err-drain-in-Ok-Some-clause-write_failed
+returns-in_err-drain-in-Ok-Some-clause-write_failed g c = λ _ bytes known.
     let old = c.loop-turn.invariant.pumped in
     let next = rw c.in-Ok-Some.field-0-is at c.in-Ok-Some.ensures in
     let turn : ℕ = c.loop-turn.progress.frames in
@@ -78,10 +77,10 @@ returns-in_default-drain-clause-write_failed g c = λ _ bytes known.
     let taken = next.frame (drop (turn * size_of c.args.progress.now) bytes) ran.to_come_is in
     rw (count, sound_frames-more _ _ _ _ _ _ _ ran taken)
     (FlowedFront-turn g.S.Stage.acts c.args.flow.now c.loop-turn.flow c.take.new.self c.drain.new.flow c.args.outlet.now.coding _ _ _ _ _ _ _ _ _ c.args.head.now (old.flowed bytes known) old.hungry c.take.ensures
-    (rw (old.coded) at c.in_default-drain.ensures.cut_off))
+    (rw (old.coded) at c.in_err-drain-in-Ok-Some.ensures.cut_off))
 
-pub returns-in_default-drain-clause-whole : goal.returns-in_default-drain-clause-whole
-returns-in_default-drain-clause-whole g c = λ bytes known.
+pub returns-in_err-drain-in-Ok-Some-clause-whole : goal.returns-in_err-drain-in-Ok-Some-clause-whole
+returns-in_err-drain-in-Ok-Some-clause-whole g c = λ bytes known.
     let old = c.loop-turn.invariant.pumped in
     let next = rw c.in-Ok-Some.field-0-is at c.in-Ok-Some.ensures in
     let turn : ℕ = c.loop-turn.progress.frames in
@@ -89,16 +88,16 @@ returns-in_default-drain-clause-whole g c = λ bytes known.
     let ran = old.ran bytes known in
     rw count (Ran-turn _ _ _ bytes _ turn _ _ ran (next.frame (drop (turn * size_of c.args.progress.now) bytes) ran.to_come_is) next.counted).whole
 
-pub returns-in_default-end_flow-2-clause-write_failed : goal.returns-in_default-end_flow-2-clause-write_failed
-returns-in_default-end_flow-2-clause-write_failed g c = λ _ bytes known.
+pub returns-in_err-end_flow-in-Ok-None-clause-write_failed : goal.returns-in_err-end_flow-in-Ok-None-clause-write_failed
+returns-in_err-end_flow-in-Ok-None-clause-write_failed g c = λ _ bytes known.
     let old = c.loop-turn.invariant.pumped in
     let next = rw c.in-Ok-None.field-0-is at c.in-Ok-None.ensures in
     rw (next.over.1)
     (FlowedFront-end g.S.Stage.acts c.args.flow.now c.loop-turn.flow _ c.end_flow-in-Ok-None.new.flow c.args.outlet.now.coding _ _ _ _ _ _ _ _ c.args.head.now (old.flowed bytes known) old.hungry refl
-    (rw (old.coded) at c.in_default-end_flow-2.ensures.cut_off))
+    (rw (old.coded) at c.in_err-end_flow-in-Ok-None.ensures.cut_off))
 
-pub returns-in_default-end_flow-2-clause-ends : goal.returns-in_default-end_flow-2-clause-ends
-returns-in_default-end_flow-2-clause-ends g c =
+pub returns-in_err-end_flow-in-Ok-None-clause-ends : goal.returns-in_err-end_flow-in-Ok-None-clause-ends
+returns-in_err-end_flow-in-Ok-None-clause-ends g c =
     let old = c.loop-turn.invariant.pumped in
     let next = rw c.in-Ok-None.field-0-is at c.in-Ok-None.ensures in
     rw (next.over.0) (λ bytes known.
@@ -111,7 +110,7 @@ returns-in-Ok-None-clause-sent g c = λ _ bytes known.
     let next = rw c.in-Ok-None.field-0-is at c.in-Ok-None.ensures in
     rw (next.over.1)
     (Flowed-end g.S.Stage.acts c.args.flow.now c.loop-turn.flow _ c.end_flow-in-Ok-None.new.flow c.args.outlet.now.coding _ _ _ _ _ _ _ _ c.args.head.now (old.flowed bytes known) old.hungry refl
-    (rw (old.coded) at c.in-Ok-end_flow-2.ensures.drained))
+    (rw (old.coded) at c.in_ok-end_flow-in-Ok-None.ensures.drained))
 
 pub returns-in-Ok-None-clause-ends : goal.returns-in-Ok-None-clause-ends
 returns-in-Ok-None-clause-ends g c =
@@ -159,17 +158,19 @@ returns-then-is_spent-clause-settled g c = λ _ bytes known z.
     let same = c.is_spent.ensures.same c.if-is_spent.true in
     (settled g.S.Stage.acts c.args.flow.now c.loop-turn.flow _ _ z (old.flowed bytes known).through old.hungry.not_ended (λ y. same y))
 
-pub returns-in_default-blocks : goal.returns-in_default-blocks
-returns-in_default-blocks g c =
+pub returns-in_err-pump_block : goal.returns-in_err-pump_block
+returns-in_err-pump_block g c =
     let next = rw c.in-Ok-Some.field-0-is at c.in-Ok-Some.ensures in
-    let drained = c.in-Ok-drain.ensures in
+    let drained = c.in_ok-drain-in-Ok-Some.ensures in
     let old = c.loop-turn.invariant.pumped in
     let turned = Pumped-turn g.S.Stage.acts g.R.ByteIn.reads _ c.loop-turn.flow c.take.new.self c.drain.new.flow c.loop-turn.source c.next_frame.new.source c.loop-turn.progress c.next_frame.new.progress
     _ _ _ _ _ _ _ _ old next.counted next.most next.frame next.told next.failures (sym (c.is_spent.ensures.enough old.hungry) ∙ c.if-is_spent.false) c.take.ensures drained.drained drained.waits drained.room drained.few in
     let first : Start g.row.S.Denot g.row.R.Denot =
     record { flow = c.args.flow.now; source = c.args.source.now; progress = c.args.progress.now; coding = c.args.outlet.now.coding; head = c.args.head.now; wrote = g.W.ByteOut.writes.taken c.args.writer.now } in
-    let front = c.in_default-blocks.ensures.cut_off first (rw drained.coding turned) in
-    record {
+    let front = c.in_err-pump_block.ensures.cut_off first (rw drained.coding turned) in
+    let failed = err_from_is_err_and c.from_residual-in_err-pump_block.result c.from_residual-in_err-pump_block.ensures.1 in
+    rw (failed.1, failed.2)
+    (record {
       sent = λ other. not-both true other refl;
       write_failed = λ _. front.flowed;
       room = λ other. not-both true other refl;
@@ -191,19 +192,19 @@ returns-in_default-blocks g c =
       too_long = λ other. not-both true (ap is_write_failed other) refl;
       most = front.most;
       reads = front.reads;
-      writes = c.in_default-blocks.ensures.failures ∙ ap (λ n. saturated (n + 1)) (drained.failures ∙ c.loop-turn.invariant.writes);
-    }
+      writes = c.in_err-pump_block.ensures.failures ∙ ap (λ n. saturated (n + 1)) (drained.failures ∙ c.loop-turn.invariant.writes);
+    })
 
 pub loop-turn-preserved : goal.loop-turn-preserved
 loop-turn-preserved g c =
     let next = rw c.in-Ok-Some.field-0-is at c.in-Ok-Some.ensures in
-    let drained = c.in-Ok-drain.ensures in
+    let drained = c.in_ok-drain-in-Ok-Some.ensures in
     let old = c.loop-turn.invariant.pumped in
     let turned = Pumped-turn g.S.Stage.acts g.R.ByteIn.reads _ c.loop-turn.flow c.take.new.self c.drain.new.flow c.loop-turn.source c.next_frame.new.source c.loop-turn.progress c.next_frame.new.progress
     _ _ _ _ _ _ _ _ old next.counted next.most next.frame next.told next.failures (sym (c.is_spent.ensures.enough old.hungry) ∙ c.if-is_spent.false) c.take.ensures drained.drained drained.waits drained.room drained.few in
     let count = ap (λ (p : Reading). p.frames) next.counted in
     record {
-      turns = omega (arith, count, c.in-Ok-blocks.ensures.more, c.loop-turn.invariant.turns);
-      pumped = c.in-Ok-blocks.ensures.pumped _ (rw drained.coding turned);
-      writes = c.in-Ok-blocks.ensures.failures ∙ drained.failures ∙ c.loop-turn.invariant.writes;
+      turns = omega (arith, count, c.in_ok-pump_block.ensures.more, c.loop-turn.invariant.turns);
+      pumped = c.in_ok-pump_block.ensures.pumped _ (rw drained.coding turned);
+      writes = c.in_ok-pump_block.ensures.failures ∙ drained.failures ∙ c.loop-turn.invariant.writes;
     }

@@ -1,5 +1,6 @@
 use Rattle.std.proofs.Common.{◌≤◌, map, refl, sym, ◌∙◌, arith}
 use Rattle.std.proofs.lemmas.List.{length-map}
+use Rattle.std.proofs.lemmas.Result.{err_from_is_err_and}
 use Rattle.fx_chain.proofs.Chaining.{planned-is}
 use Rattle.fx_chain.proofs.Thawing.{IsChain-made, chain-same, channels-planned, made-planned, planned-made}
 use Rattle.fx_plan.specs.Effects.{act, head_layout}
@@ -8,8 +9,8 @@ use Rattle.fx_stages.proofs.Planned.{suit-fit}
 use Rattle.fx_stages.proofs.Thawing.{fits-with}
 use Rattle.fx_chain.proofs.chain.Chain.thaw.Goals as goal
 
-pub thaw-frozen-requires-clause-fits : goal.thaw-frozen-requires-clause-fits
-thaw-frozen-requires-clause-fits c =
+pub thaw-requires-clause-fits : goal.thaw-requires-clause-fits
+thaw-requires-clause-fits c =
     let told = c.effects.ensures in
     let channels = c.head-channels.result.channels in
     let acts = map act c.effects.result.now in
@@ -18,8 +19,8 @@ thaw-frozen-requires-clause-fits c =
     (fits-with c.in-Ok-arguments_of.arguments.items channels acts c.in-Ok-arguments_of.ensures some c.head-channels.ensures.most told.usable
     (rw (c.head-channels.ensures.value) (suit-fit (head_layout c.in-Ok.plan.head) acts told.fit)) told.held)
 
-pub thaw-frozen-requires-clause-planned : goal.thaw-frozen-requires-clause-planned
-thaw-frozen-requires-clause-planned c = λ stages made.
+pub thaw-requires-clause-planned : goal.thaw-requires-clause-planned
+thaw-requires-clause-planned c = λ stages made.
     let told = c.effects.ensures in
     let channels = c.head-channels.result.channels in
     let acts = map act c.effects.result.now in
@@ -30,19 +31,19 @@ thaw-frozen-requires-clause-planned c = λ stages made.
 pub invariant_of-result : goal.invariant_of-result
 invariant_of-result c =
     let told = c.effects.ensures in
-    let made = rw (c.deref.ensures.value) at c.in-Ok-frozen.ensures.made in
+    let made = rw (c.deref.ensures.value) at c.in_ok-flow.ensures.made in
     IsChain-made c.in-Ok-arguments_of.arguments.items c.head-channels.result.channels (map act c.effects.result.now) c.in-Ok-arguments_of.ensures
-    (planning c.in-Ok.plan) (rw (c.head-channels.ensures.value) refl) told.value c.in-Ok-frozen.flow made.0 made.1 (rw length-map (told.few)) told.short
+    (planning c.in-Ok.plan) (rw (c.head-channels.ensures.value) refl) told.value c.in_ok-flow.flow made.0 made.1 (rw length-map (told.few)) told.short
 
-pub returns-in-Err-clause-thawed : goal.returns-in-Err-clause-thawed
-returns-in-Err-clause-thawed c = λ chain sound plan snapshot.
+pub returns-in_err-flow-clause-thawed : goal.returns-in_err-flow-clause-thawed
+returns-in_err-flow-clause-thawed c = let fault = err_from_is_err_and c.from_residual.result c.from_residual.ensures.1 in rw (fault.1, fault.2) (λ chain sound plan snapshot.
     let items = c.in-Ok-arguments_of.arguments.items in
     let channels = c.head-channels.result.channels in
     let acts = map act c.effects.result.now in
     let same = plan ∙ sym c.in-Ok.ensures in
     let made = made-planned items channels acts c.in-Ok-arguments_of.ensures (planning c.in-Ok.plan) (rw (c.head-channels.ensures.value) refl) c.effects.ensures.value chain sound.chain same in
     let channels-are = channels-planned items channels acts c.in-Ok-arguments_of.ensures (planning c.in-Ok.plan) (rw (c.head-channels.ensures.value) refl) c.effects.ensures.value chain sound.chain same in
-    c.in-Err.ensures.thawed chain.flow sound.flow sound.stages (rw (c.deref.ensures.value) made) channels-are (rw (c.deref-2.ensures.value, c.deref-3.ensures.value) snapshot.flow)
+    c.in_err-flow.ensures.thawed chain.flow sound.flow sound.stages (rw (c.deref.ensures.value) made) channels-are (rw (c.deref-2.ensures.value, c.deref-3.ensures.value) snapshot.flow))
 
 pub returns-clause-thawed : goal.returns-clause-thawed
 returns-clause-thawed c = λ chain sound plan snapshot.
@@ -52,5 +53,5 @@ returns-clause-thawed c = λ chain sound plan snapshot.
     let same = plan ∙ sym c.in-Ok.ensures in
     let made = made-planned items channels acts c.in-Ok-arguments_of.ensures (planning c.in-Ok.plan) (rw (c.head-channels.ensures.value) refl) c.effects.ensures.value chain sound.chain same in
     let channels-are = channels-planned items channels acts c.in-Ok-arguments_of.ensures (planning c.in-Ok.plan) (rw (c.head-channels.ensures.value) refl) c.effects.ensures.value chain sound.chain same in
-    chain-same chain (planning c.in-Ok.plan) c.in-Ok-frozen.flow same
-    (c.in-Ok-frozen.ensures.thawed chain.flow sound.flow sound.stages (rw (c.deref.ensures.value) made) channels-are (rw (c.deref-2.ensures.value, c.deref-3.ensures.value) snapshot.flow))
+    chain-same chain (planning c.in-Ok.plan) c.in_ok-flow.flow same
+    (c.in_ok-flow.ensures.thawed chain.flow sound.flow sound.stages (rw (c.deref.ensures.value) made) channels-are (rw (c.deref-2.ensures.value, c.deref-3.ensures.value) snapshot.flow))
