@@ -96,10 +96,7 @@ pub fn parse_line(alloc: Global, words: &[String]) -> Result<CommandLine, LineFa
     ensures { LineReads (line_of (texts words.now)) result }
 {
     let found = read_line(words)?;
-    match copy_line(alloc, found) {
-        Ok(line) => Ok(line),
-        Err(AllocError) => Err(LineFault::Memory),
-    }
+    copy_line(alloc, found).map_err(|_| LineFault::Memory)
 }
 
 impl CommandLine {

@@ -27,10 +27,7 @@ fn read_length_out(rate: u32, fade_in: u64, words: &[String]) -> Result<u64, Mar
     let Some((word, _)) = words.split_first() else {
         return Ok(fade_in);
     };
-    match read_frames(rate, word) {
-        Ok(frames) => Ok(frames),
-        Err(cause) => Err(at_word(cause, 5)),
-    }
+    read_frames(rate, word).map_err(|cause| at_word(cause, 5))
 }
 
 /// The fade of this length in with these words behind it.
