@@ -8,9 +8,8 @@ use Rattle.std.proofs.lemmas.List.{get_or_append_left, get_or-append_right, get_
 use Rattle.std.proofs.lemmas.List.Elements.{All-append, All-cons, All-drop, All-nil, All-take}
 use Rattle.std.proofs.Math.Nat.{add-mul, mul-le-mul_right, suc-mul}
 use Rattle.std.proofs.Math.Seq.{take-append-add}
-use Rattle.circular_buffer.specs.Buffer.{Buffer, buffer, keep_last}
 use Rattle.fx_frame.specs.Line.{Frames, IsSamples, latest_frames, pushed_all}
-use Rattle.fx_frame.specs.Ring.{IsRing, pieces}
+use Rattle.fx_frame.specs.Ring.{IsRing, pieces, Buffer, buffer, keep_last}
 use Rattle.fx_frame.proofs.FeedParts.{pieces-split}
 use Rattle.fx_frame.proofs.Feeding.{pieces-take}
 use Rattle.fx_frame.proofs.Pieces.{frames_of, get_or-piece, length-pieces, pieces-front, ring-len, ring-place, ring-small}

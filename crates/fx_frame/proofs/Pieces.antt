@@ -8,9 +8,8 @@ use Rattle.std.specs.Option.{option_map, option_zip}
 use Rattle.std.proofs.lemmas.Nat.{mul-le, mul-add-lt}
 use Rattle.std.proofs.lemmas.Option.{get_or_from_slice_get, slice_get-get_or}
 use Rattle.std.proofs.lemmas.List.Elements.{All-nil, All-cons}
-use Rattle.circular_buffer.specs.Buffer.{Buffer, buffer, keep_last}
 use Rattle.fx_frame.specs.Line.{Frames, pushed, pushed_out, channel_of}
-use Rattle.fx_frame.specs.Ring.{pieces, IsShaped, IsRing}
+use Rattle.fx_frame.specs.Ring.{pieces, IsShaped, IsRing, Buffer, buffer, keep_last}
 
 -- all the samples have room exactly where one more frame has
 pub lt-scaled : (size count room : ℕ) → 1 ≤ size → nat_lt (count * size) (room * size) ≡ nat_lt count room

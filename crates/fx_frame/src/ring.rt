@@ -4,7 +4,7 @@ ghost use Rattle.std.specs.Option.{option_map};
 ghost use Rattle.fx_frame.specs.Line.{empty, pushed, pushed_all, pushed_out, latest_frames, channel_of};
 ghost use Rattle.fx_frame.specs.Ring.{IsShaped, pieces};
 
-use circular_buffer::HeapCircularBuffer;
+use crate::wheel::Wheel;
 use std::alloc::{AllocError, Global};
 use std::marker::Model;
 
@@ -12,7 +12,7 @@ use std::marker::Model;
 #[derive(Drop)]
 pub(crate) struct Ring<T: Copy> {
     /// The frames one after another, in exactly `channels` times `capacity` places.
-    samples: HeapCircularBuffer<T>,
+    samples: Wheel<T>,
     /// How many samples each frame has.
     channels: usize,
     /// How many frames there may be.
@@ -41,7 +41,7 @@ impl<T: Copy> Ring<T> {
         ensures { IfOk result (λ r. r ≡ empty channels capacity) }
     {
         Ok(Ring {
-            samples: HeapCircularBuffer::with_capacity(alloc, capacity * channels)?,
+            samples: Wheel::with_capacity(alloc, capacity * channels)?,
             channels,
             capacity,
             len: 0,
