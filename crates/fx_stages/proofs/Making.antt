@@ -13,7 +13,7 @@ use Rattle.fx_fixed.specs.declared.weights.Weight.{Weight}
 use Rattle.fx_flow.specs.Parts.{AllNew}
 use Rattle.fx_frame.specs.Stage.{IsNew}
 use Rattle.fx_plan.specs.declared.effect.Layout.{Layout}
-use Rattle.fx_plan.specs.Echo.{Echoes, Tap, are_echoes, is_tap}
+use Rattle.fx_plan.specs.Echo.{EchoValue, Tap, are_echoes, is_tap}
 use Rattle.fx_plan.specs.Pad.{Length, are_pads, are_rising}
 use Rattle.fx_plan.specs.Remix.{is_mix, specs_in}
 use Rattle.fx_plan.specs.Effects.{Act, OfTrim, OfPad, OfDelay, OfEcho, OfEchos, OfFade, OfVol, OfDcShift, OfFir, OfRemix, OfUpsample, OfDownsample, Usable, all_fit, fits_layout, layout_after}
@@ -60,14 +60,14 @@ decays-are (t ∷ taps) h =
     All-cons (λ (e : Tap). unsigned_abs e.1 ≤ UNIT) t taps (grind (arith, nat_tests, here.1)) (decays-are taps parts.1)
 
 -- what an echo asks of its arguments
-pub record AreEchoes (e : Echoes) : Type 0 where
+pub record AreEchoes (e : EchoValue) : Type 0 where
   pub gain_in : unsigned_abs e.gain_in ≤ UNIT
   pub some : 1 ≤ length e.taps
   pub few : length e.taps ≤ 7
   pub delays : All (λ (t : Tap). 1 ≤ t.0) e.taps
   pub decays : All (λ (t : Tap). unsigned_abs t.1 ≤ UNIT) e.taps
 
-pub echoes-are : (e : Echoes) → are_echoes e ≡ true → AreEchoes e
+pub echoes-are : (e : EchoValue) → are_echoes e ≡ true → AreEchoes e
 echoes-are e h =
     let first = and_parts (nat_le (unsigned_abs e.gain_in) UNIT) _ h in
     let second = and_parts (nat_le 1 (length e.taps)) _ first.1 in
