@@ -1,6 +1,6 @@
 -- What a plan says of an effect is what its stage asks for.
-use Rattle.std.proofs.Common.{◌≡◌, ℕ, ◌≤◌, ◌<◌, List, [], ◌∷◌, ◌++◌, true, length, refl, arith, sym, ap, ◌∙◌}
-use Rattle.std.specs.Prelude.{Some, unsigned_abs, nat_le, nat_lt, ◌&&◌}
+use Rattle.std.proofs.Common.{◌≡◌, ℕ, ◌≤◌, ◌<◌, List, [], ◌∷◌, ◌++◌, true, length, refl, arith, ap, ◌∙◌}
+use Rattle.std.specs.Prelude.{unsigned_abs, nat_le, nat_lt, ◌&&◌}
 use Rattle.std.specs.List.{All, list_all}
 use Rattle.std.proofs.lemmas.Bool.{and_parts}
 use Rattle.std.proofs.lemmas.List.Elements.{All-cons, All-nil}
@@ -12,14 +12,13 @@ use Rattle.fx_fixed.specs.declared.positions.At.TheVariants.{Start, End}
 use Rattle.fx_fixed.specs.declared.weights.Weight.{Weight}
 use Rattle.fx_flow.specs.Parts.{AllNew}
 use Rattle.fx_frame.specs.Stage.{IsNew}
-use Rattle.fx_plan.specs.declared.effect.Layout.{Layout}
 use Rattle.fx_plan.specs.Echo.{EchoValue, Tap, are_echoes, is_tap}
 use Rattle.fx_plan.specs.Pad.{Length, are_pads, are_rising}
 use Rattle.fx_plan.specs.Remix.{is_mix, specs_in}
-use Rattle.fx_plan.specs.Effects.{Act, OfTrim, OfPad, OfDelay, OfEcho, OfEchos, OfFade, OfVol, OfDcShift, OfFir, OfRemix, OfUpsample, OfDownsample, Usable, all_fit, fits_layout, layout_after}
+use Rattle.fx_plan.specs.Effects.{Act}
 use Rattle.fx_stages.specs.declared.stage.EffectStage.{EffectStage}
 use Rattle.fx_stages.specs.Effects.{EffectRecipe, effect_acts}
-use Rattle.fx_stages.specs.Made.{all_suit, channels_after, recipe_for, recipes_for, suits}
+use Rattle.fx_stages.specs.Made.{channels_after, recipe_for, recipes_for}
 use Rattle.fx_frame.specs.Holds.{recipes}
 use Rattle.fx_plan.specs.Bounds.{hold_all, hold_of, line_of}
 use Rattle.std.proofs.lemmas.List.Sums.{sum_by-cons}

@@ -141,15 +141,10 @@ effect_acts = record {
 
 -- more frames in give no fewer out
 pub effect_rises : (r : EffectRecipe) (m n : ℕ) → m ≤ n → (kind_of_recipe r).most m ≤ (kind_of_recipe r).most n
-effect_rises (ForTrim r) m n h = h
 effect_rises (ForPad r) m n h = pad_rises r m n h
-effect_rises (ForFade r) m n h = h
 effect_rises (ForUpsample r) m n h = mul-le-mul_right r.factor h
 effect_rises (ForDownsample r) m n h = ceil_rises m n r.factor h
 effect_rises (ForDelay r) m n h = tap_rises (greatest r) m n h
 effect_rises (ForEcho r) m n h = tap_rises (greatest (map tap_delay r.echoes)) m n h
 effect_rises (ForEchos r) m n h = tap_rises (sum_of_delays r.echoes) m n h
-effect_rises (ForFir r) m n h = h
-effect_rises (ForRemix r) m n h = h
-effect_rises (ForVol r) m n h = h
-effect_rises (ForDcShift r) m n h = h
+effect_rises other m n h = h
