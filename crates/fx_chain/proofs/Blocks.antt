@@ -16,7 +16,7 @@ use Rattle.fx_sound.proofs.Held.{Takes-turn}
 use Rattle.fx_sound.proofs.Sending.{Sent-put}
 use Rattle.fx_sound.proofs.Sounds.{first_frames-add, held-next, held-passed, length-first_frames}
 use Rattle.fx_sound.specs.Container.{after_frames, first_frames}
-use Rattle.fx_sound.specs.Output.{Pending, SendsOn, total}
+use Rattle.fx_sound.specs.Output.{Pending, SendsOn, bytes_put}
 use Rattle.fx_sound.specs.Runs.{Ran, Ran-block, Ran-start, Ran-turn, Takes-more, Takes-none, after_frames-add, after_frames-more}
 use Rattle.fx_sound.specs.declared.progress.TheConstants.{MOST_FRAMES}
 use Rattle.fx_sound.specs.Known.{IfKnown}
@@ -157,7 +157,7 @@ module _ {S R X : Type 0} (acts : Acts S R) (device : ByteReader X) (first : Sta
 
   -- a whole buffer of frames went through the flow, and then it was stepped until it waited
   pub Pumped-block : (new : Parts S) (new_clips : ℕ) (new_out : Pending) (new_wrote : Option (List ℕ)) → Drained acts mid new coding mid_clips new_clips wrote new_wrote mid_out new_out → Waits acts new
-      → total new_out ≤ 68 + 64 * given_by acts new.left new.stages → new_clips ≤ 16 * given_by acts new.left new.stages
+      → bytes_put new_out ≤ 68 + 64 * given_by acts new.left new.stages → new_clips ≤ 16 * given_by acts new.left new.stages
       → Pumped acts device first new source' progress' coding new_clips new_out new_wrote
   Pumped-block new new_clips new_out new_wrote q waits room few = record {
     most = rw frames-block b.held.few;
@@ -207,7 +207,7 @@ pub Pumped-turn : {S R X : Type 0} (acts : Acts S R) (device : ByteReader X) (fi
     → Pumped acts device first flow source progress coding clips out wrote
     → progress' ≡ after_frame progress → progress'.frames ≤ MOST_FRAMES → IfKnown (to_come device.rest source) (λ bytes. TakesFrame progress bytes frame (to_come device.rest source')) → Takes device.told source source' (size_of progress)
     → device.failures source'.reader ≡ device.failures source.reader → enough_for (kinds acts flow.stages) (taken_of flow) ≡ false → fed ≡ record flow { inlet = Some frame }
-    → Drained acts fed new coding clips new_clips wrote new_wrote out new_out → Waits acts new → total new_out ≤ 68 + 64 * given_by acts new.left new.stages → new_clips ≤ 16 * given_by acts new.left new.stages
+    → Drained acts fed new coding clips new_clips wrote new_wrote out new_out → Waits acts new → bytes_put new_out ≤ 68 + 64 * given_by acts new.left new.stages → new_clips ≤ 16 * given_by acts new.left new.stages
     → Pumped acts device first new source' progress' coding new_clips new_out new_wrote
 Pumped-turn acts device first flow fed new source source' progress progress' coding clips new_clips out new_out wrote new_wrote frame p counted most takes taken reads unspent is q waits room few =
     let turn : ℕ = progress.frames in
@@ -254,7 +254,7 @@ module _ {S R X : Type 0} (acts : Acts S R) (device : ByteReader X) (first : Sta
     (p : Pumped acts device first flow source progress coding clips out wrote)
     (s : SendsOn wrote new_wrote out new_out) where
   -- bytes that waited went to the writer
-  pub Pumped-sent : total new_out ≡ total out → Pumped acts device first flow source progress coding clips new_out new_wrote
+  pub Pumped-sent : bytes_put new_out ≡ bytes_put out → Pumped acts device first flow source progress coding clips new_out new_wrote
   Pumped-sent count = record {
     most = p.most;
     begun = p.begun;

@@ -5,13 +5,13 @@ use Rattle.std.specs.Prelude.{◌⊎◌, MatchBool, Option, Some, slice_index, s
 use Rattle.fx_sound.specs.Known.{IfKnown}
 use Rattle.fx_frame.specs.declared.coding.Coding.{Coding}
 use Rattle.fx_frame.specs.Frame.{Samples}
-use Rattle.fx_frame.specs.Holds.{kinds, recipes, total as total_of}
+use Rattle.fx_frame.specs.Holds.{kinds, recipes, total}
 use Rattle.fx_frame.specs.Stage.{Acts}
 use Rattle.fx_flow.specs.Parts.{Parts, Whole, due_of, enough_for, given_by, moves_of, taken_of}
 use Rattle.fx_flow.specs.Steps.{IsDone, IsHungry, rest_of, wholes_of}
 use Rattle.fx_flow.proofs.Laws.{through-Done, wholes-Done}
 use Rattle.fx_sound.specs.declared.progress.TheConstants.{MOST_FRAMES}
-use Rattle.fx_sound.specs.Output.{Pending, Sent, total}
+use Rattle.fx_sound.specs.Output.{Pending, Sent, bytes_put}
 use Rattle.fx_sound.specs.Sound.{Reading, size_of, within}
 use Rattle.fx_chain.specs.declared.pump.Cause.TheVariants.{WriteFailed, TooLong}
 use Rattle.fx_chain.specs.declared.report.Report.{Report}
@@ -37,8 +37,8 @@ row-more row counts i n e h few is =
     rw (e, is, left, next) (row-set counts i (32 - suc i) h)
 
 -- how many bytes were ever to be sent
-pub Sent-total : (first now : Option (List ℕ)) (out : Pending) (all : List ℕ) → Sent first now out all → total out ≡ length all
-Sent-total first now out all s = let e = ap length s.waiting ∙ length-drop out.written all in omega (arith, s.within, e)
+pub Sent-bytes_put : (first now : Option (List ℕ)) (out : Pending) (all : List ℕ) → Sent first now out all → bytes_put out ≡ length all
+Sent-bytes_put first now out all s = let e = ap length s.waiting ∙ length-drop out.written all in omega (arith, s.within, e)
 
 -- the end was met where no effect had enough
 ended-either : {P Q T : Type 0} (over enough : Bool) → MatchBool over (enough ≡ false) (enough ≡ true) → MatchBool over P Q → (P → T) → ((enough ≡ false) × T) ⊎ ((enough ≡ true) × Q)
@@ -170,8 +170,8 @@ module _ {S R : Type 0} (acts : Acts S R) where
   wrote-front start at target frames given first now written sound all e w = rw all (rw e at w)
 
   -- where all was given, the hand-overs are the frames taken and those that each effect gives
-  pub moves-all : (start at : Parts S) (frames given : List Samples) (moves n : ℕ) → Through acts start at frames given → moves ≡ taken_of at + total_of (λ (w : Whole). w.given) (wholes_of acts at []) → taken_of at ≡ n
-      → moves ≡ n + total_of (λ (w : Whole). w.given) (wholes_of acts start frames)
+  pub moves-all : (start at : Parts S) (frames given : List Samples) (moves n : ℕ) → Through acts start at frames given → moves ≡ taken_of at + total (λ (w : Whole). w.given) (wholes_of acts at []) → taken_of at ≡ n
+      → moves ≡ n + total (λ (w : Whole). w.given) (wholes_of acts start frames)
   moves-all start at frames given moves n p m e =
       let same = p.whole [] (λ t. refl) ∙ ap (wholes_of acts start) (append-nil frames) in
       rw (e, same) at m

@@ -9,7 +9,7 @@ use Rattle.fx_flow.specs.Steps.{IsHungry}
 use Rattle.fx_sound.specs.declared.progress.TheConstants.{MOST_FRAMES}
 use Rattle.fx_sound.specs.Container.{after_frames}
 use Rattle.fx_sound.specs.Known.{IfKnown}
-use Rattle.fx_sound.specs.Output.{Pending, total}
+use Rattle.fx_sound.specs.Output.{Pending, bytes_put}
 use Rattle.fx_sound.specs.Runs.{Ran}
 use Rattle.fx_sound.specs.Sound.{Reading, size_of, within}
 use Rattle.fx_sound.specs.Source.{Held, Takes, to_come}
@@ -39,7 +39,7 @@ module _ {S R X : Type 0} (acts : Acts S R) (device : ByteReader X) (first : Sta
     pub stay : recipes acts flow.stages ≡ recipes acts first.flow.stages
     pub kept : flow.channels ≡ first.flow.channels
     pub wants : WantsMore (kinds acts first.flow.stages) progress.frames
-    pub room : total out ≤ 68 + 64 * given_by acts flow.left flow.stages
+    pub room : bytes_put out ≤ 68 + 64 * given_by acts flow.left flow.stages
     pub few : clips ≤ 16 * given_by acts flow.left flow.stages
     pub coded : coding ≡ first.coding
     pub ran : IfKnown (to_come device.rest first.source) (λ bytes. Ran first.progress progress bytes progress.frames (to_come device.rest source))

@@ -7,7 +7,7 @@ ghost use Rattle.fx_flow.specs.Sound.{most_frames};
 ghost use Rattle.fx_flow.specs.Steps.{IsHungry};
 ghost use Rattle.fx_frame.specs.Holds.{kinds};
 ghost use Rattle.fx_frame.specs.Io.{CountsFailure};
-ghost use Rattle.fx_sound.specs.Output.{total};
+ghost use Rattle.fx_sound.specs.Output.{bytes_put};
 
 use crate::drain::drain;
 use crate::outlet::Outlet;
@@ -43,10 +43,10 @@ fn pass_block<R, S: Feeds>(
     requires width { flow.old.channels ≡ progress.old.channels }
     requires taken { taken_of flow.old ≡ progress.old.frames }
     requires fits { most_of (kinds S.acts flow.old.stages) most_frames ≤ 2 ^ 56 }
-    requires room { total outlet.old.output ≤ 68 + 64 * given_by S.acts flow.old.left flow.old.stages }
+    requires room { bytes_put outlet.old.output ≤ 68 + 64 * given_by S.acts flow.old.left flow.old.stages }
     requires few { outlet.old.clips ≤ 16 * given_by S.acts flow.old.left flow.old.stages }
     ensures blocked { Blocked S.acts flow.old flow.new source.old source.new progress.old progress.new outlet.old.coding outlet.old.clips outlet.new.clips outlet.old.output outlet.new.output }
-    ensures room { total outlet.new.output ≤ 68 + 64 * given_by S.acts flow.new.left flow.new.stages }
+    ensures room { bytes_put outlet.new.output ≤ 68 + 64 * given_by S.acts flow.new.left flow.new.stages }
     ensures few { outlet.new.clips ≤ 16 * given_by S.acts flow.new.left flow.new.stages }
     ensures coding { outlet.new.coding ≡ outlet.old.coding }
 {
@@ -83,7 +83,7 @@ pub fn pump_block<R: ByteIn, S: Feeds, W: ByteOut>(
     requires width { flow.old.channels ≡ progress.old.channels }
     requires taken { taken_of flow.old ≡ progress.old.frames }
     requires fits { most_of (kinds S.acts flow.old.stages) most_frames ≤ 2 ^ 56 }
-    requires room { total outlet.old.output ≤ 68 + 64 * given_by S.acts flow.old.left flow.old.stages }
+    requires room { bytes_put outlet.old.output ≤ 68 + 64 * given_by S.acts flow.old.left flow.old.stages }
     requires few { outlet.old.clips ≤ 16 * given_by S.acts flow.old.left flow.old.stages }
     ensures pumped { OnOk result ((first : Start S R) → Pumped S.acts R.reads first flow.old source.old progress.old outlet.old.coding outlet.old.clips outlet.old.output (W.writes.taken writer.old)
         → Pumped S.acts R.reads first flow.new source.new progress.new outlet.new.coding outlet.new.clips outlet.new.output (W.writes.taken writer.new)) }

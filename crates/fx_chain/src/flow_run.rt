@@ -7,11 +7,11 @@ ghost use Rattle.fx_chain.specs.Run.{RanToFailure, WantsMore, sound_frames};
 ghost use Rattle.fx_flow.specs.Parts.{given_by, moves_of, most_of, taken_of, work};
 ghost use Rattle.fx_flow.specs.Sound.{most_frames};
 ghost use Rattle.fx_flow.specs.Steps.{IsDone, IsHungry, wholes_of};
-ghost use Rattle.fx_frame.specs.Holds.{kinds, recipes, total as total_of};
+ghost use Rattle.fx_frame.specs.Holds.{kinds, recipes, total};
 ghost use Rattle.fx_frame.specs.Io.{CountsFailure};
 ghost use Rattle.fx_sound.specs.Kind.{is_coding_of};
 ghost use Rattle.fx_sound.specs.Known.{IfKnown};
-ghost use Rattle.fx_sound.specs.Output.{Sent, total};
+ghost use Rattle.fx_sound.specs.Output.{Sent, bytes_put};
 ghost use Rattle.fx_sound.specs.Source.{to_come};
 ghost use Rattle.fx_sound.specs.Writing.{written_head};
 
@@ -57,7 +57,7 @@ fn report_of<S: Stage>(flow: &Flow<S>, progress: &Progress, outlet: &Outlet) -> 
     ensures bytes_out { result.bytes_out ≡ outlet.now.output.written }
     ensures moves { result.moves ≡ moves_of S.acts flow.now }
     ensures work { result.moves ≤ work (kinds S.acts flow.now.stages) (taken_of flow.now) }
-    ensures done { IsDone S.acts flow.now → result.moves ≡ taken_of flow.now + total_of (λ w. w.given) (wholes_of S.acts flow.now []) }
+    ensures done { IsDone S.acts flow.now → result.moves ≡ taken_of flow.now + total (λ w. w.given) (wholes_of S.acts flow.now []) }
     ensures clips { result.clips ≡ clips_now S.acts flow.now.stages }
     ensures due { IsHungry S.acts flow.now → map (λ s. (S.acts.counts s).given) flow.now.stages ≡ dues (kinds S.acts flow.now.stages) (taken_of flow.now) }
     ensures out_clips { result.out_clips ≡ outlet.now.clips }
@@ -79,7 +79,7 @@ fn report_of<S: Stage>(flow: &Flow<S>, progress: &Progress, outlet: &Outlet) -> 
 // Sends the last bytes, and all that waits, and flushes the writer.
 fn close<W: ByteOut>(outlet: &mut Outlet, writer: &mut W, last: &[u8]) -> Result<(), Failed>
     requires short { length last.now ≤ 1 }
-    requires room { total outlet.old.output + 1 < 2 ^ 64 }
+    requires room { bytes_put outlet.old.output + 1 < 2 ^ 64 }
     ensures wrote { OnOk result ((first : Option (List ℕ)) (all : List ℕ) → Sent first (W.writes.taken writer.old) outlet.old.output all → WroteAll first (W.writes.taken writer.new) outlet.new.output.written (all ++ last.now)) }
     ensures front { OnErr result ((first : Option (List ℕ)) (all : List ℕ) → Sent first (W.writes.taken writer.old) outlet.old.output all → WroteFront first (W.writes.taken writer.new) outlet.new.output.written (all ++ last.now)) }
     ensures flushed { OnOk result (W.writes.flushed writer.new ≡ true) }

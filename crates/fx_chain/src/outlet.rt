@@ -3,7 +3,7 @@ ghost use Rattle.std.specs.Prelude.{◌≡◌, ◌+◌, ◌*◌, ◌<◌, ◌≤
 ghost use Rattle.fx_frame.specs.Coding.{width_of};
 ghost use Rattle.fx_frame.specs.FrameCoding.{bytes_of, clips_of, frame_size};
 ghost use Rattle.fx_frame.specs.Io.{CountsFailure};
-ghost use Rattle.fx_sound.specs.Output.{SendsMore, SendsOn, total};
+ghost use Rattle.fx_sound.specs.Output.{SendsMore, SendsOn, bytes_put};
 
 use fx_frame::inner::encode;
 use fx_frame::{ByteOut, Coding, Failed, Frame};
@@ -22,11 +22,11 @@ impl Outlet {
     #[inline(always)]
     #[tactic(auto, using(crate::proofs::Sending::clips_of_le))]
     pub fn send<W: ByteOut>(&mut self, writer: &mut W, frame: &Frame) -> Result<(), Failed>
-        requires room { total self.old.output + 64 < 2 ^ 64 }
+        requires room { bytes_put self.old.output + 64 < 2 ^ 64 }
         requires few { self.old.clips < 2 ^ 62 }
         ensures sent { OnOk result (SendsMore (W.writes.taken writer.old) (W.writes.taken writer.new) self.old.output self.new.output (bytes_of self.old.coding frame.now)) }
         ensures sent_err { OnErr result (SendsOn (W.writes.taken writer.old) (W.writes.taken writer.new) self.old.output self.new.output) }
-        ensures small { OnOk result (total self.new.output ≤ total self.old.output + 64) }
+        ensures small { OnOk result (bytes_put self.new.output ≤ bytes_put self.old.output + 64) }
         ensures clips { self.new.clips ≡ self.old.clips + clips_of self.old.coding frame.now }
         ensures few { self.new.clips ≤ self.old.clips + 16 }
         ensures coding { self.new.coding ≡ self.old.coding }
@@ -61,11 +61,11 @@ impl Outlet {
     pub fn put(&mut self, samples: &[i32])
         requires few_samples { length samples.now ≤ BUFFER_SIZE }
         requires room { frame_size self.old.coding (length samples.now) ≤ self.old.output.room }
-        requires count { total self.old.output < 2 ^ 63 }
+        requires count { bytes_put self.old.output < 2 ^ 63 }
         requires few { self.old.clips < 2 ^ 62 }
         ensures bytes { self.new.output.bytes ≡ self.old.output.bytes ++ bytes_of self.old.coding samples.now }
         ensures written { self.new.output.written ≡ self.old.output.written }
-        ensures count { total self.new.output ≤ total self.old.output + 4 * length samples.now }
+        ensures count { bytes_put self.new.output ≤ bytes_put self.old.output + 4 * length samples.now }
         ensures clips { self.new.clips ≡ self.old.clips + clips_of self.old.coding samples.now }
         ensures few { self.new.clips ≤ self.old.clips + length samples.now }
         ensures coding { self.new.coding ≡ self.old.coding }

@@ -10,7 +10,7 @@ ghost use Rattle.fx_frame.specs.Frame.{Samples};
 ghost use Rattle.fx_frame.specs.Holds.{kinds, recipes};
 ghost use Rattle.fx_frame.specs.Io.{CountsFailure, saturated};
 ghost use Rattle.fx_sound.specs.Known.{IfKnown};
-ghost use Rattle.fx_sound.specs.Output.{total};
+ghost use Rattle.fx_sound.specs.Output.{bytes_put};
 ghost use Rattle.fx_sound.specs.Sound.{size_of, within};
 ghost use Rattle.fx_sound.specs.Source.{to_come};
 
@@ -52,12 +52,12 @@ fn end_flow<S: Stage, W: ByteOut>(
 ) -> Result<(), Failed>
     requires hungry { IsHungry S.acts flow.old }
     requires fits { most_of (kinds S.acts flow.old.stages) most_frames ≤ 2 ^ 56 }
-    requires room { total outlet.old.output ≤ 68 + 64 * given_by S.acts flow.old.left flow.old.stages }
+    requires room { bytes_put outlet.old.output ≤ 68 + 64 * given_by S.acts flow.old.left flow.old.stages }
     requires few { outlet.old.clips ≤ 16 * given_by S.acts flow.old.left flow.old.stages }
     ensures drained { OnOk result (Drained S.acts (record flow.old { ended = true }) flow.new outlet.old.coding outlet.old.clips outlet.new.clips (W.writes.taken writer.old) (W.writes.taken writer.new) outlet.old.output outlet.new.output) }
     ensures cut_off { OnErr result (CutOff S.acts (record flow.old { ended = true }) flow.new outlet.old.coding outlet.old.clips outlet.new.clips (W.writes.taken writer.old) (W.writes.taken writer.new) outlet.old.output outlet.new.output) }
     ensures done { OnOk result (IsDone S.acts flow.new) }
-    ensures room { OnOk result (total outlet.new.output ≤ 2 ^ 63) }
+    ensures room { OnOk result (bytes_put outlet.new.output ≤ 2 ^ 63) }
     ensures failures { CountsFailure (W.writes.failures writer.old) (W.writes.failures writer.new) result }
 {
     flow.end();
@@ -89,7 +89,7 @@ pub fn pump<R: ByteIn, S: Feeds, W: ByteOut>(
     ensures write_failed { is_write_failed result ≡ true → IfKnown (to_come R.reads.rest source.old) (λ bytes.
         FlowedFront S.acts flow.old flow.new outlet.old.coding (sound_frames progress.old progress.new.frames bytes) outlet.new.clips (W.writes.taken writer.old) (W.writes.taken writer.new) outlet.new.output head.now) }
 
-    ensures room { is_write_failed result ≡ false → total outlet.new.output ≤ 2 ^ 63 }
+    ensures room { is_write_failed result ≡ false → bytes_put outlet.new.output ≤ 2 ^ 63 }
 
     // What the flow is.
     ensures done { OnOk result (IsDone S.acts flow.new) }

@@ -13,7 +13,7 @@ use Rattle.std.proofs.lemmas.List.Splits.{slice_split-cons_no, slice_split-cons_
 use Rattle.std.proofs.lemmas.List.Sums.{prefix_len-le-length, sum_by-cons}
 use Rattle.fx_fixed.specs.Decimals.{is_point}
 use Rattle.fx_fixed.proofs.ClockAfter.{clock_after, clock_by}
-use Rattle.fx_fixed.specs.Clock.{components_of, is_colon, fraction_of, frames_of, front_of, is_short, is_t, tail_of, within_reach}
+use Rattle.fx_fixed.specs.Clock.{before_point, components_of, is_colon, fraction_of, frames_of, is_short, is_t, tail_of, within_reach}
 use Rattle.fx_fixed.specs.ClockEnd.{BeginsNot, after_components, after_fraction, by_parts, is_last}
 use Rattle.fx_fixed.specs.declared.times.TimeFault.TheVariants.{BadTime}
 use Rattle.fx_fixed.proofs.Cutting.{FailsDigits, Stops, Stops-drop, after_first-digits, all_ascii_digits-take_while, before_first-digits, fails-append, length-take_while, none_of_digits, point_fails, run_and_rest}
@@ -23,7 +23,7 @@ pub t_fails : FailsDigits is_t
 t_fails = record { no = λ c digit. grind (arith, nat_tests) }
 
 -- the parts, one by one
-parts_are : (rate seconds digits : ℕ) (rest front fraction tail : List ℕ) → front_of rest ≡ front → fraction_of rest ≡ fraction → tail_of rest ≡ tail →
+parts_are : (rate seconds digits : ℕ) (rest front fraction tail : List ℕ) → before_point rest ≡ front → fraction_of rest ≡ fraction → tail_of rest ≡ tail →
     after_components rate seconds digits rest ≡ by_parts rate seconds digits front fraction tail
 parts_are rate seconds digits rest front fraction tail front_is fraction_is tail_is =
     ap (λ xs. by_parts rate seconds digits xs (fraction_of rest) (tail_of rest)) front_is
@@ -52,7 +52,7 @@ no_fraction rate seconds digits (c ∷ cs) point = go (is_t c) refl where
       let end : is_last (c ∷ cs) ≡ (length cs == 0) = rw last refl in
       parts_are rate seconds digits (c ∷ cs) [] [] cs (ap (λ xs. before_first is_point xs) body) (ap (λ xs. after_first is_point xs) body) (after_first-yes is_t c cs last) ∙ rw end refl
   go false other =
-      let cut : front_of (c ∷ cs) ≡ c ∷ before_first is_point (before_first is_t cs) =
+      let cut : before_point (c ∷ cs) ≡ c ∷ before_first is_point (before_first is_t cs) =
       ap (λ xs. before_first is_point xs) (before_first-no is_t c cs other) ∙ before_first-no is_point c (before_first is_t cs) point in
       let more : is_last (c ∷ cs) ≡ false = rw other refl in
       parts_are rate seconds digits (c ∷ cs) (c ∷ before_first is_point (before_first is_t cs)) (fraction_of (c ∷ cs)) (tail_of (c ∷ cs)) cut refl refl
@@ -61,7 +61,7 @@ no_fraction rate seconds digits (c ∷ cs) point = go (is_t c) refl where
 -- ---- a point, and a fraction
 
 -- what is cut at the first t, of a fraction's digits and what follows them
-fraction_cut : (more rest : List ℕ) → all_ascii_digits more ≡ true → (fraction_of (46 ∷ (more ++ rest)) ≡ more ++ before_first is_t rest) × (tail_of (46 ∷ (more ++ rest)) ≡ after_first is_t rest) × (front_of (46 ∷ (more ++ rest)) ≡ [])
+fraction_cut : (more rest : List ℕ) → all_ascii_digits more ≡ true → (fraction_of (46 ∷ (more ++ rest)) ≡ more ++ before_first is_t rest) × (tail_of (46 ∷ (more ++ rest)) ≡ after_first is_t rest) × (before_point (46 ∷ (more ++ rest)) ≡ [])
 fraction_cut more rest digits =
     let body = before_first-no is_t 46 (more ++ rest) refl ∙ ap (λ xs. 46 ∷ xs) (before_first-digits is_t t_fails more rest digits) in
     (ap (λ xs. after_first is_point xs) body, after_first-no is_t 46 (more ++ rest) refl ∙ after_first-digits is_t t_fails more rest digits, ap (λ xs. before_first is_point xs) body)
@@ -145,7 +145,7 @@ digits_first : (run rest part : List ℕ) (parts : List (List ℕ)) → all_asci
 digits_first run rest part parts all cut = split_run is_colon run rest part parts (none_of_digits is_colon colon_fails run all) cut
 
 -- what stands before the point, after digits
-front-digits : (run rest : List ℕ) → all_ascii_digits run ≡ true → front_of (run ++ rest) ≡ run ++ front_of rest
+front-digits : (run rest : List ℕ) → all_ascii_digits run ≡ true → before_point (run ++ rest) ≡ run ++ before_point rest
 front-digits run rest all =
     ap (λ xs. before_first is_point xs) (before_first-digits is_t t_fails run rest all) ∙ before_first-digits is_point point_fails run (before_first is_t rest) all
 
@@ -157,10 +157,10 @@ tail-digits : (run rest : List ℕ) → all_ascii_digits run ≡ true → tail_o
 tail-digits run rest all = after_first-digits is_t t_fails run rest all
 
 -- a clock time that begins with digits, by its parts
-clock_parts : (rate total count digits : ℕ) (run rest part : List ℕ) (parts : List (List ℕ)) → all_ascii_digits run ≡ true → slice_split is_colon (front_of rest) ≡ part ∷ parts →
+clock_parts : (rate total count digits : ℕ) (run rest part : List ℕ) (parts : List (List ℕ)) → all_ascii_digits run ≡ true → slice_split is_colon (before_point rest) ≡ part ∷ parts →
     clock_after rate total count digits (run ++ rest) ≡ clock_by rate total count digits ((run ++ part) ∷ parts) (fraction_of rest) (tail_of rest)
 clock_parts rate total count digits run rest part parts all parts_is =
-    let components = ap (λ xs. slice_split is_colon xs) (front-digits run rest all) ∙ digits_first run (front_of rest) part parts all parts_is in
+    let components = ap (λ xs. slice_split is_colon xs) (front-digits run rest all) ∙ digits_first run (before_point rest) part parts all parts_is in
     ap (λ xs. clock_by rate total count digits xs (fraction_of (run ++ rest)) (tail_of (run ++ rest))) components
     ∙ ap (λ xs. clock_by rate total count digits ((run ++ part) ∷ parts) xs (tail_of (run ++ rest))) (fraction-digits run rest all)
     ∙ ap (λ xs. clock_by rate total count digits ((run ++ part) ∷ parts) (fraction_of rest) xs) (tail-digits run rest all)
@@ -186,8 +186,8 @@ colon_follows : (rate total count digits : ℕ) (run rest : List ℕ) → is_sho
 colon_follows rate total count digits run rest short =
     let all = (and_parts (all_ascii_digits run) (nat_lt (length run) 19) short).0 in
     let body = before_first-no is_t 58 rest refl in
-    let front : front_of (58 ∷ rest) ≡ 58 ∷ front_of rest = ap (λ xs. before_first is_point xs) body ∙ before_first-no is_point 58 (before_first is_t rest) refl in
-    let parts : slice_split is_colon (front_of (58 ∷ rest)) ≡ [] ∷ components_of rest = ap (λ xs. slice_split is_colon xs) front ∙ slice_split-cons_yes is_colon 58 (front_of rest) refl in
+    let front : before_point (58 ∷ rest) ≡ 58 ∷ before_point rest = ap (λ xs. before_first is_point xs) body ∙ before_first-no is_point 58 (before_first is_t rest) refl in
+    let parts : slice_split is_colon (before_point (58 ∷ rest)) ≡ [] ∷ components_of rest = ap (λ xs. slice_split is_colon xs) front ∙ slice_split-cons_yes is_colon 58 (before_point rest) refl in
     let fraction : fraction_of (58 ∷ rest) ≡ fraction_of rest = ap (λ xs. after_first is_point xs) body ∙ after_first-no is_point 58 (before_first is_t rest) refl in
     let tail : tail_of (58 ∷ rest) ≡ tail_of rest = after_first-no is_t 58 rest refl in
     clock_parts rate total count digits run (58 ∷ rest) [] (components_of rest) all parts
@@ -197,11 +197,11 @@ colon_follows rate total count digits run rest short =
     ∙ ap (λ xs. clock_by rate (60 * total + digits_value 10 run) (count + 1) (digits + length run) (components_of rest) (fraction_of rest) xs) tail
 
 -- nothing before the point: the components are read
-nothing_follows : (rate total count digits : ℕ) (run rest : List ℕ) → is_short run ≡ true → count < 3 → front_of rest ≡ [] →
+nothing_follows : (rate total count digits : ℕ) (run rest : List ℕ) → is_short run ≡ true → count < 3 → before_point rest ≡ [] →
     clock_after rate total count digits (run ++ rest) ≡ after_components rate (60 * total + digits_value 10 run) (digits + length run) rest
 nothing_follows rate total count digits run rest short few front =
     let all = (and_parts (all_ascii_digits run) (nat_lt (length run) 19) short).0 in
-    let parts : slice_split is_colon (front_of rest) ≡ [] ∷ [] = ap (λ xs. slice_split is_colon xs) front in
+    let parts : slice_split is_colon (before_point rest) ≡ [] ∷ [] = ap (λ xs. slice_split is_colon xs) front in
     let seconds = 60 * total + digits_value 10 run in
     let room : nat_lt (count + 1 + 0) 4 ≡ true = lt-ltb (count + 1 + 0) 4 (omega arith) in
     let size : digits + length run + 0 + length (fraction_of rest) ≡ digits + length run + length (fraction_of rest) = omega arith in
@@ -215,11 +215,11 @@ nothing_follows rate total count digits run rest short few front =
     ends rate seconds count digits fraction tail room = rw (room, and-true (is_short fraction), add-zero digits) refl
 
 -- something else before the point: no clock time
-other_follows : (rate total count digits c : ℕ) (run rest cs : List ℕ) → all_ascii_digits run ≡ true → front_of rest ≡ c ∷ cs → is_ascii_digit c ≡ false → is_colon c ≡ false →
+other_follows : (rate total count digits c : ℕ) (run rest cs : List ℕ) → all_ascii_digits run ≡ true → before_point rest ≡ c ∷ cs → is_ascii_digit c ≡ false → is_colon c ≡ false →
     clock_after rate total count digits (run ++ rest) ≡ Err BadTime
 other_follows rate total count digits c run rest cs all front other colon =
     let first = first_part is_colon cs in
-    let parts : slice_split is_colon (front_of rest) ≡ (c ∷ first.0) ∷ first.1 =
+    let parts : slice_split is_colon (before_point rest) ≡ (c ∷ first.0) ∷ first.1 =
     ap (λ xs. slice_split is_colon xs) front ∙ slice_split-cons_no is_colon c cs colon ∙ ap (λ xs. onto_first c xs) first.2 in
     let long : is_short (run ++ c ∷ first.0) ≡ false = and_left (all_ascii_digits (run ++ c ∷ first.0)) (nat_lt (length (run ++ c ∷ first.0)) 19) (fails-append run c first.0 all other) in
     clock_parts rate total count digits run rest (c ∷ first.0) first.1 all parts
@@ -228,7 +228,7 @@ other_follows rate total count digits c run rest cs all front other colon =
 -- too many digits
 run_too_long : (rate total count digits : ℕ) (run rest : List ℕ) → all_ascii_digits run ≡ true → 19 ≤ length run → clock_after rate total count digits (run ++ rest) ≡ Err BadTime
 run_too_long rate total count digits run rest all long =
-    let first = first_part is_colon (front_of rest) in
+    let first = first_part is_colon (before_point rest) in
     let many : nat_lt (length (run ++ first.0)) 19 ≡ false = le-ltb (length (run ++ first.0)) 19 (simp length-append (omega arith)) in
     let bad : is_short (run ++ first.0) ≡ false = and_right (all_ascii_digits (run ++ first.0)) (nat_lt (length (run ++ first.0)) 19) many in
     clock_parts rate total count digits run rest first.0 first.1 all first.2
@@ -237,7 +237,7 @@ run_too_long rate total count digits run rest all long =
 -- too many components
 pub too_many : (rate total count digits : ℕ) (text : List ℕ) → 3 ≤ count → clock_after rate total count digits text ≡ Err BadTime
 too_many rate total count digits text many =
-    let first = first_part is_colon (front_of text) in
+    let first = first_part is_colon (before_point text) in
     let full : nat_lt (count + suc (length first.1)) 4 ≡ false = le-ltb (count + suc (length first.1)) 4 (omega arith) in
     ap (λ xs. clock_by rate total count digits xs (fraction_of text) (tail_of text)) first.2 ∙ full_by rate total count digits first.0 (fraction_of text) (tail_of text) first.1 full
   where
@@ -247,10 +247,10 @@ too_many rate total count digits text many =
 -- ---- the same of the text
 
 -- what stands before the point, where no digit and no colon comes first
-front_cases : (rest : List ℕ) → Stops rest → BeginsNot 58 rest → (front_of rest ≡ []) ⊎ ((c : ℕ) × (cs : List ℕ) × (front_of rest ≡ c ∷ cs) × (is_ascii_digit c ≡ false) × (is_colon c ≡ false))
+front_cases : (rest : List ℕ) → Stops rest → BeginsNot 58 rest → (before_point rest ≡ []) ⊎ ((c : ℕ) × (cs : List ℕ) × (before_point rest ≡ c ∷ cs) × (is_ascii_digit c ≡ false) × (is_colon c ≡ false))
 front_cases [] stops colon = inl refl
 front_cases (c ∷ cs) stops colon = go (is_t c) (is_point c) refl refl where
-  go : (a b : Bool) → is_t c ≡ a → is_point c ≡ b → (front_of (c ∷ cs) ≡ []) ⊎ ((d : ℕ) × (ds : List ℕ) × (front_of (c ∷ cs) ≡ d ∷ ds) × (is_ascii_digit d ≡ false) × (is_colon d ≡ false))
+  go : (a b : Bool) → is_t c ≡ a → is_point c ≡ b → (before_point (c ∷ cs) ≡ []) ⊎ ((d : ℕ) × (ds : List ℕ) × (before_point (c ∷ cs) ≡ d ∷ ds) × (is_ascii_digit d ≡ false) × (is_colon d ≡ false))
   go true b last point = inl (ap (λ xs. before_first is_point xs) (before_first-yes is_t c cs last))
   go false true last point = inl (ap (λ xs. before_first is_point xs) (before_first-no is_t c cs last) ∙ before_first-yes is_point c (before_first is_t cs) point)
   go false false last point = inr (c, before_first is_point (before_first is_t cs), ap (λ xs. before_first is_point xs) (before_first-no is_t c cs last) ∙ before_first-no is_point c (before_first is_t cs) point, stops, colon)
@@ -286,7 +286,7 @@ clock_ends rate total count digits value more text after room few after_is colon
     ∙ sym (ap (λ xs. clock_after rate total count digits xs) text_is ∙ by_cases rate total count digits run after (short_run text few) (all_ascii_digits-take_while text) room (front_cases after stops colon))
   where
     by_cases : (rate total count digits : ℕ) (run after : List ℕ) → is_short run ≡ true → all_ascii_digits run ≡ true → count < 3 →
-        (front_of after ≡ []) ⊎ ((c : ℕ) × (cs : List ℕ) × (front_of after ≡ c ∷ cs) × (is_ascii_digit c ≡ false) × (is_colon c ≡ false)) →
+        (before_point after ≡ []) ⊎ ((c : ℕ) × (cs : List ℕ) × (before_point after ≡ c ∷ cs) × (is_ascii_digit c ≡ false) × (is_colon c ≡ false)) →
         clock_after rate total count digits (run ++ after) ≡ after_components rate (60 * total + digits_value 10 run) (digits + length run) after
     by_cases rate total count digits run after short all room (inl nothing) = nothing_follows rate total count digits run after short room nothing
     by_cases rate total count digits run after short all room (inr other) =

@@ -16,8 +16,8 @@ abbrev pub is_t : ℕ → Bool
 is_t c = c == 116
 
 -- the parts of a clock time
-abbrev pub front_of : List ℕ → List ℕ
-front_of text = before_first is_point (before_first is_t text)
+abbrev pub before_point : List ℕ → List ℕ
+before_point text = before_first is_point (before_first is_t text)
 
 abbrev pub fraction_of : List ℕ → List ℕ
 fraction_of text = after_first is_point (before_first is_t text)
@@ -26,7 +26,7 @@ abbrev pub tail_of : List ℕ → List ℕ
 tail_of text = after_first is_t text
 
 abbrev pub components_of : List ℕ → List (List ℕ)
-components_of text = slice_split is_colon (front_of text)
+components_of text = slice_split is_colon (before_point text)
 
 -- at most eighteen digits, and nothing else
 abbrev pub is_short : List ℕ → Bool

@@ -1,7 +1,7 @@
 -- What follows the components of a clock time.
 use Rattle.std.specs.Prelude.{ℕ, ◌≡◌, ◌+◌, ◌==◌, nat_lt, ◌&&◌, Bool, true, false, ⊤, if◌then◌else◌, List, [], ◌∷◌, length, Result, Err}
 use Rattle.std.specs.Str.Parse.{digits_value}
-use Rattle.fx_fixed.specs.Clock.{fraction_of, frames_of, front_of, is_short, is_t, tail_of, within_reach}
+use Rattle.fx_fixed.specs.Clock.{before_point, fraction_of, frames_of, is_short, is_t, tail_of, within_reach}
 use Rattle.fx_fixed.specs.declared.times.TimeFault.{TimeFault}
 use Rattle.fx_fixed.specs.declared.times.TimeFault.TheVariants.{BadTime}
 
@@ -35,4 +35,4 @@ by_parts rate seconds digits front fraction tail =
 -- the frames where the digits of the components were read
 abbrev pub after_components : ℕ → ℕ → ℕ → List ℕ → Result ℕ TimeFault
 after_components rate seconds digits rest =
-    by_parts rate seconds digits (front_of rest) (fraction_of rest) (tail_of rest)
+    by_parts rate seconds digits (before_point rest) (fraction_of rest) (tail_of rest)

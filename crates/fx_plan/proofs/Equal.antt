@@ -147,17 +147,7 @@ number_of (OfDownsample factor) = 11
 
 numbered : (e : Effect) → number_of (act e) ≡ place (effect.enum).parts ((effect.enum).as_values e)
 numbered (effects.Trim ps) = refl
-numbered (effects.Pad pads) = refl
-numbered (effects.Delay ds) = refl
-numbered (effects.Echo e) = refl
-numbered (effects.Echos e) = refl
-numbered (effects.Fade fade) = refl
-numbered (effects.Vol gain) = refl
-numbered (effects.DcShift shift) = refl
-numbered (effects.Fir gains) = refl
-numbered (effects.Remix specs) = refl
-numbered (effects.Upsample factor) = refl
-numbered (effects.Downsample factor) = refl
+numbered e = refl
 
 pub effect_exact : (a b : Effect) → Decides ((effect_eq.ghosts).eq a b) (act a ≡ act b)
 effect_exact = exact_told effect.enum act number_of numbered _ (

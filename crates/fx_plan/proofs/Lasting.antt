@@ -6,7 +6,7 @@ use Rattle.std.proofs.lemmas.Grind.{div_ceil_times}
 use Rattle.std.specs.List.{list_any}
 use Rattle.std.proofs.lemmas.List.Sums.{sum_by-cons}
 use Rattle.std.proofs.lemmas.Bool.Decides.{nat_tests}
-use Rattle.fx_plan.specs.Effects.{Act, OfTrim, OfPad, OfDelay, OfEcho, OfEchos, OfFade, OfVol, OfDcShift, OfFir, OfRemix, OfUpsample, OfDownsample}
+use Rattle.fx_plan.specs.Effects.{Act, OfPad, OfDelay, OfEcho, OfEchos, OfUpsample, OfDownsample}
 use Rattle.fx_plan.specs.Bounds.{is_past, mosts, most_of, work_of}
 
 pub is_past-yes : (n : ℕ) → 2 ^ 56 < n → is_past n ≡ true
@@ -36,18 +36,13 @@ ceil_rises m n (suc f) h = by_products (div_ceil m (suc f)) (div_ceil n (suc f))
 
 -- more frames in make no fewer out
 pub most_rises : (a : Act) (m n : ℕ) → m ≤ n → most_of a m ≤ most_of a n
-most_rises (OfTrim ps) m n h = h
 most_rises (OfPad pads) m n h = omega arith
 most_rises (OfDelay ds) m n h = omega arith
 most_rises (OfEcho e) m n h = omega arith
 most_rises (OfEchos e) m n h = omega arith
-most_rises (OfFade fade) m n h = h
-most_rises (OfVol gain) m n h = h
-most_rises (OfDcShift shift) m n h = h
-most_rises (OfFir gains) m n h = h
-most_rises (OfRemix specs) m n h = h
 most_rises (OfUpsample factor) m n h = mul-le-mul_right factor h
 most_rises (OfDownsample factor) m n h = ceil_rises m n factor h
+most_rises other m n h = h
 
 -- where nothing is past the limit, n is not, and nothing behind the first effect is
 pub within-here : (acts : List Act) (n : ℕ) → list_any is_past (mosts acts n) ≡ false → n ≤ 2 ^ 56

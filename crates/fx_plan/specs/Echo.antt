@@ -14,12 +14,12 @@ abbrev pub Tap : Type 0
 Tap = ℕ × ℤ
 
 -- two gains and the pairs
-pub record Echoes : Type 0 where
+pub record EchoValue : Type 0 where
   pub gain_in : ℤ
   pub gain_out : ℤ
   pub taps : List Tap
 
-abbrev pub echo_value : Echoing → Echoes
+abbrev pub echo_value : Echoing → EchoValue
 echo_value e = record { gain_in = e.gain_in; gain_out = e.gain_out; taps = e.taps.items }
 
 -- a delay of a frame at least, and a decay of one at most
@@ -27,7 +27,7 @@ abbrev pub is_tap : Tap → Bool
 is_tap tap = nat_le 1 tap.0 && nat_le (unsigned_abs tap.1) UNIT
 
 -- a gain of the input of one at most, and 1 to 7 such pairs
-abbrev pub are_echoes : Echoes → Bool
+abbrev pub are_echoes : EchoValue → Bool
 are_echoes e = nat_le (unsigned_abs e.gain_in) UNIT && (nat_le 1 (length e.taps) && (nat_le (length e.taps) 7 && list_all is_tap e.taps))
 
 -- the faults of pairs, the first word of which has this number
@@ -61,7 +61,7 @@ echo_faults rate words =
     ++ (when (nat_lt (length words) 4 || not (nat_eq (length words % 2) 0)) (mark WrongCount 1)
     ++ word_faults rate words)
 
-abbrev pub echoing : ℕ → List Word → Echoes
+abbrev pub echoing : ℕ → List Word → EchoValue
 echoing rate [] = record { gain_in = pos 0; gain_out = pos 0; taps = [] }
 echoing rate (gain_in ∷ []) = record { gain_in = pos 0; gain_out = pos 0; taps = [] }
 echoing rate (gain_in ∷ gain_out ∷ words) = record {

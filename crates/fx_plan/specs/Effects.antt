@@ -19,7 +19,7 @@ use Rattle.fx_plan.specs.Numbers.{beginning}
 use Rattle.fx_plan.specs.Trim.{trim_faults, places}
 use Rattle.fx_plan.specs.Pad.{Length, are_pads, pad_faults, lengths}
 use Rattle.fx_plan.specs.Delay.{delay_faults, delays}
-use Rattle.fx_plan.specs.Echo.{Echoes, are_echoes, echo_faults, echo_value, echoing}
+use Rattle.fx_plan.specs.Echo.{EchoValue, are_echoes, echo_faults, echo_value, echoing}
 use Rattle.fx_plan.specs.Fade.{fade_faults, fading, is_fade}
 use Rattle.fx_plan.specs.Vol.{vol_faults, vol_gain}
 use Rattle.fx_plan.specs.DcShift.{shift_faults, shift_gain}
@@ -32,8 +32,8 @@ pub data Act : Type 0 where
   OfTrim : List At → Act
   OfPad : List Length → Act
   OfDelay : List ℕ → Act
-  OfEcho : Echoes → Act
-  OfEchos : Echoes → Act
+  OfEcho : EchoValue → Act
+  OfEchos : EchoValue → Act
   OfFade : Fading → Act
   OfVol : ℤ → Act
   OfDcShift : ℤ → Act
@@ -88,9 +88,7 @@ named_act names.Fir layout file words = Some (OfFir (coefficients file words))
 named_act names.Remix layout file words = Some (OfRemix (remixed layout.channels words))
 named_act names.Upsample layout file words = Some (OfUpsample (usable (factor_of words)))
 named_act names.Downsample layout file words = Some (OfDownsample (usable (factor_of words)))
-named_act names.WholeSound layout file words = None
-named_act names.LeftOut layout file words = None
-named_act names.Other layout file words = None
+named_act other layout file words = None
 
 -- the same of an effect's words, its name being the first
 abbrev pub effect_faults : Layout → List ℕ → List Word → List Mark

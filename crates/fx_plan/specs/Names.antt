@@ -1,4 +1,4 @@
--- The names of effects: the twelve of this project's profile, and those of sox(1), EFFECTS, that are left out.
+-- The names of effects: those of this project's profile, and those of sox(1), EFFECTS, that are left out.
 use Rattle.std.specs.Prelude.{Bool, true, false, not, ◌||◌, if◌then◌else◌, List, [], ◌∷◌, codes}
 use Rattle.std.specs.Str.{bytes_eq}
 use Rattle.std.specs.List.{list_any}
@@ -56,21 +56,8 @@ name_of word =
 
 -- a word is the name of an effect, left out or not
 abbrev pub is_other : Name → Bool
-is_other names.Trim = false
-is_other names.Pad = false
-is_other names.Delay = false
-is_other names.Echo = false
-is_other names.Echos = false
-is_other names.Fade = false
-is_other names.Vol = false
-is_other names.DcShift = false
-is_other names.Fir = false
-is_other names.Remix = false
-is_other names.Upsample = false
-is_other names.Downsample = false
-is_other names.WholeSound = false
-is_other names.LeftOut = false
 is_other names.Other = true
+is_other name = false
 
 abbrev pub is_name : Word → Bool
 is_name word = not (is_other (name_of word))

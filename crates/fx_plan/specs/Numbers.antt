@@ -17,15 +17,12 @@ use Rattle.fx_plan.specs.declared.fault.PlanCause.TheVariants.{BadArgument, OutO
 use Rattle.fx_plan.specs.Faults.{Word}
 
 abbrev pub number_cause : NumberFault → PlanCause
-number_cause numbers.NotANumber = BadArgument
-number_cause numbers.TooLong = BadArgument
 number_cause numbers.OutOfRange = OutOfRange
+number_cause fault = BadArgument
 
 abbrev pub time_cause : TimeFault → PlanCause
-time_cause times.BadTime = BadArgument
-time_cause times.NotWhole = BadArgument
-time_cause times.Negative = BadArgument
 time_cause times.TooFar = OutOfRange
+time_cause fault = BadArgument
 
 -- what was read, or the fault by its cause
 abbrev pub with_cause : {A F : Type 0} → (F → PlanCause) → Result A F → Result A PlanCause

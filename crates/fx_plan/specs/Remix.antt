@@ -97,18 +97,14 @@ mixing_of (word ∷ words) = option_in word
 -- how many words stand before the out-specs, and the out-specs
 abbrev pub options_before : Mixing → ℕ
 options_before mixings.Usual = 0
-options_before mixings.Automatic = 1
-options_before mixings.Manual = 1
-options_before mixings.Power = 1
+options_before mixing = 1
 
 abbrev pub specs_of : List Word → List Word
 specs_of words = drop (options_before (mixing_of words)) words
 
 abbrev pub is_power : Mixing → Bool
-is_power mixings.Usual = false
-is_power mixings.Automatic = false
-is_power mixings.Manual = false
 is_power mixings.Power = true
+is_power mixing = false
 
 -- the faults of out-specs behind so many words after the name
 abbrev pub faults_behind : ℕ → ℕ → Mixing → List Word → List Mark

@@ -27,9 +27,8 @@ places rate previous (word ∷ words) = elim (position_in rate anchors.Previous 
 -- a position lies before the one in front of it, both of one anchor
 abbrev pub is_behind : At → At → Bool
 is_behind (Start first) (Start second) = nat_lt second first
-is_behind (Start first) (End second) = false
-is_behind (End first) (Start second) = false
 is_behind (End first) (End second) = nat_lt first second
+is_behind first second = false
 
 -- the positions that lie before the one in front of them, the later one's word being named
 abbrev pub order_faults : ℕ → List At → List Mark

@@ -6,8 +6,8 @@ use Rattle.std.proofs.lemmas.List.{append_assoc, length-append, take-append-le, 
 use Rattle.std.proofs.Math.Seq.{drop-append_seam, take-append_seam}
 use Rattle.std.proofs.lemmas.Grind.{common_steps}
 use mathlib.Core.Path.{ap₂}
-use Rattle.fx_sound.specs.declared.layout.Format.{Format}
-use Rattle.fx_sound.specs.declared.layout.Layout.{Layout}
+use Rattle.fx_sound.specs.declared.fields.Format.{Format}
+use Rattle.fx_sound.specs.declared.fields.HeadFields.{HeadFields}
 use Rattle.fx_sound.specs.declared.wave.Demand.TheVariants as demand
 use Rattle.fx_sound.specs.declared.wave.Step.TheVariants as step
 use Rattle.fx_sound.specs.Chunks.{Chunk, IsChunk, IsOther, IsWave, bytes_of}
@@ -138,7 +138,7 @@ pub chunks-few : (cs : List Chunk) → All IsOther cs → 8 * length cs ≤ leng
 chunks-few [] others = omega arith
 chunks-few (c ∷ cs) others = omega (arith, chunks-few cs (others-behind c cs others), chunk-length c (others 0 c (omega arith)).is, length-append (bytes_of c) (flat_map bytes_of cs))
 
-pub wave-is-read : (bytes : List ℕ) (l : Layout) → IsWave bytes l → behind_riff bytes ≡ Ok l
+pub wave-is-read : (bytes : List ℕ) (l : HeadFields) → IsWave bytes l → behind_riff bytes ≡ Ok l
 unfolding behind_riff
 wave-is-read bytes l w =
     let behind = flat_map bytes_of w.earlier ++ (bytes_of w.format ++ (flat_map bytes_of w.later ++ (codes "data" ++ (w.size ++ w.sound)))) in

@@ -6,8 +6,8 @@ use Rattle.std.specs.Str.{bytes_eq}
 use Rattle.std.proofs.lemmas.List.{append_assoc, drop-drop, length-append, length-drop, length-take-le, take-append-drop, take-take, take_min}
 use Rattle.std.proofs.lemmas.Grind.{common_steps}
 use Rattle.std.proofs.lemmas.Slice.Eq.{bytes_eq-Decides}
-use Rattle.fx_sound.specs.declared.layout.Format.{Format}
-use Rattle.fx_sound.specs.declared.layout.Layout.{Layout}
+use Rattle.fx_sound.specs.declared.fields.Format.{Format}
+use Rattle.fx_sound.specs.declared.fields.HeadFields.{HeadFields}
 use Rattle.fx_sound.specs.declared.wave.Demand.{Demand}
 use Rattle.fx_sound.specs.declared.wave.Demand.TheVariants as demand
 use Rattle.fx_sound.specs.declared.wave.Step.{Step}
@@ -168,7 +168,7 @@ one-more c cs first others zero d h = first
 one-more c cs first others (suc k) d h = others k d (omega (arith, h))
 
 -- other chunks up to the sound, behind a format that was read
-pub record Behind (o : ℕ) (f : Format) (rest : List ℕ) (l : Layout) : Type 0 where
+pub record Behind (o : ℕ) (f : Format) (rest : List ℕ) (l : HeadFields) : Type 0 where
   pub later : List Chunk
   pub size : List ℕ
   pub sound : List ℕ
@@ -184,12 +184,12 @@ pub record Behind (o : ℕ) (f : Format) (rest : List ℕ) (l : Layout) : Type 0
 behind-chunk : (o next : ℕ) (c : Chunk) (rest behind : List ℕ) → rest ≡ bytes_of c ++ behind → next ≡ o + length (bytes_of c) → drop (next - o) rest ≡ behind
 behind-chunk o next c rest behind row is = ap (drop (next - o)) row ∙ drop-front (next - o) (bytes_of c) behind (omega (arith, is))
 
-behind-step : (n o : ℕ) (f : Format) (rest : List ℕ) (l : Layout) (s : Step) → o ≤ farthest_chunk
+behind-step : (n o : ℕ) (f : Format) (rest : List ℕ) (l : HeadFields) (s : Step) → o ≤ farthest_chunk
     → ((next : ℕ) (more : List ℕ) → next ≤ farthest_chunk → chunks_of n next (Some f) more ≡ Ok l → Behind next f more l)
     → StepIs o (Some f) rest s → after_step (chunks_of n) o rest (Ok s) ≡ Ok l → Behind o f rest l
 behind-step n o f rest l (step.Sound h) here goes (Begins g size sound shown b row) e =
     let same : record { offset = o + 8; announced = announced_of (from_le_bytes w32 size); format = g } ≡ l = cc in
-    let at : o + 8 ≡ l.offset = ap (λ (x : Layout). x.offset) same in
+    let at : o + 8 ≡ l.offset = ap (λ (x : HeadFields). x.offset) same in
     record {
       later = [];
       size = size;
@@ -197,8 +197,8 @@ behind-step n o f rest l (step.Sound h) here goes (Begins g size sound shown b r
       row = row;
       sound_size = b;
       others = no-others;
-      format = let is : f ≡ g = cc in sym (ap (λ (x : Layout). x.format) same) ∙ sym is;
-      announced = sym (ap (λ (x : Layout). x.announced) same);
+      format = let is : f ≡ g = cc in sym (ap (λ (x : HeadFields). x.format) same) ∙ sym is;
+      announced = sym (ap (λ (x : HeadFields). x.announced) same);
       offset = omega (arith, at);
       near = omega (arith, at, here);
     }
@@ -219,20 +219,20 @@ behind-step n o f rest l (step.Next to seen) here goes (Passed c more other row 
       near = found.near;
     }
 
-behind-result : (n o : ℕ) (f : Format) (rest : List ℕ) (l : Layout) (r : Result Step HeadFault) → o ≤ farthest_chunk
+behind-result : (n o : ℕ) (f : Format) (rest : List ℕ) (l : HeadFields) (r : Result Step HeadFault) → o ≤ farthest_chunk
     → ((next : ℕ) (more : List ℕ) → next ≤ farthest_chunk → chunks_of n next (Some f) more ≡ Ok l → Behind next f more l)
     → ((s : Step) → r ≡ Ok s → StepIs o (Some f) rest s) → after_step (chunks_of n) o rest r ≡ Ok l → Behind o f rest l
 behind-result n o f rest l (Err fault) here goes is e = absurd (cc)
 behind-result n o f rest l (Ok s) here goes is e = behind-step n o f rest l s here goes (is s refl) e
 
-pub behind-found : (n o : ℕ) (f : Format) (rest : List ℕ) (l : Layout) → o ≤ farthest_chunk → chunks_of n o (Some f) rest ≡ Ok l → Behind o f rest l
+pub behind-found : (n o : ℕ) (f : Format) (rest : List ℕ) (l : HeadFields) → o ≤ farthest_chunk → chunks_of n o (Some f) rest ≡ Ok l → Behind o f rest l
 unfolding chunks_of
 behind-found zero o f rest l here e = absurd (cc)
 behind-found (suc n) o f rest l here e =
     behind-result n o f rest l (step_of o (Some f) rest) here (λ next more near known. behind-found n next f more l near known) (λ s is. step-is o (Some f) rest s is) e
 
 -- other chunks, the format, other chunks and the sound
-pub record Found (o : ℕ) (rest : List ℕ) (l : Layout) : Type 0 where
+pub record Found (o : ℕ) (rest : List ℕ) (l : HeadFields) : Type 0 where
   pub earlier : List Chunk
   pub format : Chunk
   pub behind : List ℕ
@@ -244,7 +244,7 @@ pub record Found (o : ℕ) (rest : List ℕ) (l : Layout) : Type 0 where
   pub says : format_of (take 40 format.body) ≡ Ok l.format
   pub last : Behind (o + length (flat_map bytes_of earlier) + length (bytes_of format)) l.format behind l
 
-found-step : (n o : ℕ) (rest : List ℕ) (l : Layout) (s : Step) → o ≤ farthest_chunk
+found-step : (n o : ℕ) (rest : List ℕ) (l : HeadFields) (s : Step) → o ≤ farthest_chunk
     → ((next : ℕ) (more : List ℕ) → next ≤ farthest_chunk → chunks_of n next None more ≡ Ok l → Found next more l)
     → StepIs o None rest s → after_step (chunks_of n) o rest (Ok s) ≡ Ok l → Found o rest l
 found-step n o rest l (step.Sound h) here goes (Begins g size sound shown b row) e = absurd (cc)
@@ -280,13 +280,13 @@ found-step n o rest l (step.Next to seen) here goes (Passed c more other row nex
       last = rw (← start) found.last;
     }
 
-found-result : (n o : ℕ) (rest : List ℕ) (l : Layout) (r : Result Step HeadFault) → o ≤ farthest_chunk
+found-result : (n o : ℕ) (rest : List ℕ) (l : HeadFields) (r : Result Step HeadFault) → o ≤ farthest_chunk
     → ((next : ℕ) (more : List ℕ) → next ≤ farthest_chunk → chunks_of n next None more ≡ Ok l → Found next more l)
     → ((s : Step) → r ≡ Ok s → StepIs o None rest s) → after_step (chunks_of n) o rest r ≡ Ok l → Found o rest l
 found-result n o rest l (Err fault) here goes is e = absurd (cc)
 found-result n o rest l (Ok s) here goes is e = found-step n o rest l s here goes (is s refl) e
 
-pub chunks-found : (n o : ℕ) (rest : List ℕ) (l : Layout) → o ≤ farthest_chunk → chunks_of n o None rest ≡ Ok l → Found o rest l
+pub chunks-found : (n o : ℕ) (rest : List ℕ) (l : HeadFields) → o ≤ farthest_chunk → chunks_of n o None rest ≡ Ok l → Found o rest l
 unfolding chunks_of
 chunks-found zero o rest l here e = absurd (cc)
 chunks-found (suc n) o rest l here e =
@@ -297,7 +297,7 @@ is-so : (b : Bool) → not b ≡ false → b ≡ true
 is-so true e = refl
 is-so false e = absurd (cc)
 
-pub wave-found : (bytes : List ℕ) (l : Layout) → behind_riff bytes ≡ Ok l → IsWave bytes l
+pub wave-found : (bytes : List ℕ) (l : HeadFields) → behind_riff bytes ≡ Ok l → IsWave bytes l
 unfolding behind_riff
 wave-found bytes l e =
     let there = passed (nat_lt (length bytes) 8) Truncated (if not (bytes_eq (take 4 (drop 4 bytes)) (codes "WAVE")) then Err UnknownType else chunks_of most_chunks 12 None (drop 8 bytes)) l e in

@@ -2,7 +2,7 @@
 use Rattle.std.proofs.Common.{◌≡◌, ℕ, ◌+◌, ◌-◌, ◌<◌, ◌≤◌, List, length, take, drop, sym, ap, ◌∙◌, arith}
 use Rattle.std.specs.Prelude.{Ok, Option, None}
 use Rattle.std.proofs.lemmas.List.{drop-take, drop-drop}
-use Rattle.fx_sound.specs.declared.layout.Format.{Format}
+use Rattle.fx_sound.specs.declared.fields.Format.{Format}
 use Rattle.fx_sound.specs.declared.wave.Step.TheVariants as step
 use Rattle.fx_sound.specs.Wave.{step_of, chunks_of}
 use Rattle.fx_sound.proofs.WaveLemmas.{turn-next}

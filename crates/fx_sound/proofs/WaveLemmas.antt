@@ -3,8 +3,8 @@ use Rattle.std.proofs.Common.{subst, ◌≡◌, ℕ, ◌+◌, ◌-◌, min, ◌<
 use Rattle.std.specs.Prelude.{Ok, Err, Result, Option, suc}
 use Rattle.std.proofs.lemmas.List.{take_all, length-take, take-take}
 use Rattle.std.proofs.lemmas.Grind.{common_steps}
-use Rattle.fx_sound.specs.declared.layout.Format.{Format}
-use Rattle.fx_sound.specs.declared.layout.Layout.{Layout}
+use Rattle.fx_sound.specs.declared.fields.Format.{Format}
+use Rattle.fx_sound.specs.declared.fields.HeadFields.{HeadFields}
 use Rattle.fx_sound.specs.declared.wave.Demand.{Demand}
 use Rattle.fx_sound.specs.declared.wave.Step.{Step}
 use Rattle.fx_sound.specs.declared.wave.Step.TheVariants as step
@@ -98,7 +98,7 @@ pub chunks_of-next : (n o next : ℕ) (seen format : Option Format) (rest : List
 unfolding chunks_of
 chunks_of-next n o next seen format rest e = ap (after_step (chunks_of n) o rest) e
 
-pub chunks_of-sound : (n o : ℕ) (seen : Option Format) (rest : List ℕ) (h : Layout) → step_of o seen rest ≡ Ok (step.Sound h) → chunks_of (suc n) o seen rest ≡ Ok h
+pub chunks_of-sound : (n o : ℕ) (seen : Option Format) (rest : List ℕ) (h : HeadFields) → step_of o seen rest ≡ Ok (step.Sound h) → chunks_of (suc n) o seen rest ≡ Ok h
 unfolding chunks_of
 chunks_of-sound n o seen rest h e = ap (after_step (chunks_of n) o rest) e
 
@@ -119,7 +119,7 @@ turn-next m t o next seen format rest h e =
     ap (λ n. chunks_of n o seen rest) left ∙ chunks_of-next (m - (t + 1)) o next seen format rest e
 
 -- one turn: the sound
-pub turn-sound : (m t o : ℕ) (seen : Option Format) (rest : List ℕ) (h : Layout) → t < m → step_of o seen rest ≡ Ok (step.Sound h) → chunks_of (m - t) o seen rest ≡ Ok h
+pub turn-sound : (m t o : ℕ) (seen : Option Format) (rest : List ℕ) (h : HeadFields) → t < m → step_of o seen rest ≡ Ok (step.Sound h) → chunks_of (m - t) o seen rest ≡ Ok h
 turn-sound m t o seen rest h l e =
     let left : m - t ≡ suc (m - (t + 1)) = omega arith in
     ap (λ n. chunks_of n o seen rest) left ∙ chunks_of-sound (m - (t + 1)) o seen rest h e

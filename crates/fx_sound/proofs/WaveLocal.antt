@@ -1,7 +1,7 @@
 -- A step depends on no byte behind its end.
 use Rattle.std.proofs.Common.{◌≡◌, ℕ, ◌+◌, ◌-◌, min, ◌≤◌, List, length, take, drop, Bool, true, false, refl, ap, ◌∙◌, arith, nat_lt}
 use Rattle.std.specs.Prelude.{Ok, Err, Result, Option, Some, if◌then◌else◌}
-use Rattle.fx_sound.specs.declared.layout.Format.{Format}
+use Rattle.fx_sound.specs.declared.fields.Format.{Format}
 use Rattle.fx_sound.specs.declared.wave.Demand.{Demand}
 use Rattle.fx_sound.specs.declared.wave.Demand.TheVariants as demand
 use Rattle.fx_sound.specs.declared.wave.Step.{Step}

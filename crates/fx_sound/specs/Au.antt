@@ -4,7 +4,7 @@ use Rattle.std.specs.Int.{w32, from_be_bytes}
 use Rattle.fx_frame.specs.declared.coding.Coding.{Coding}
 use Rattle.fx_frame.specs.declared.coding.Coding.TheVariants.{S8, S16Be, S24Be, S32Be}
 use Rattle.fx_sound.specs.Fields.{au_unknown}
-use Rattle.fx_sound.specs.declared.layout.Layout.{Layout}
+use Rattle.fx_sound.specs.declared.fields.HeadFields.{HeadFields}
 use Rattle.fx_sound.specs.declared.head.HeadFault.{HeadFault}
 use Rattle.fx_sound.specs.declared.head.HeadFault.TheVariants.{Truncated, BadHeader, NotInProfile, TooManyChannels, HeadTooLong}
 
@@ -25,7 +25,7 @@ abbrev pub au_announced : ℕ → Option ℕ
 au_announced size = if size == au_unknown then None else Some size
 
 -- rate and channels, where the coding is one of the profile
-abbrev pub with_coding : List ℕ → Option Coding → Result Layout HeadFault
+abbrev pub with_coding : List ℕ → Option Coding → Result HeadFields HeadFault
 with_coding words None = Err NotInProfile
 with_coding words (Some coding) =
     if word_at 12 words == 0 then Err BadHeader else
@@ -34,19 +34,19 @@ with_coding words (Some coding) =
     Ok (record { format = record { rate = word_at 12 words; channels = word_at 16 words; coding = coding }; announced = au_announced (word_at 4 words); offset = word_at 0 words })
 
 -- what the five words say: offset, size, encoding, rate, channels; or the first fault
-unfoldable pub au_fields : List ℕ → Result Layout HeadFault
+unfoldable pub au_fields : List ℕ → Result HeadFields HeadFault
 au_fields words =
     if nat_lt (word_at 0 words) 24 then Err BadHeader else
     if nat_lt 0x1000000 (word_at 0 words) then Err HeadTooLong else
     with_coding words (au_coding (word_at 8 words))
 
 -- all bytes up to the sound are there, of which n stand behind `.snd`
-abbrev pub with_sound : ℕ → Result Layout HeadFault → Result Layout HeadFault
+abbrev pub with_sound : ℕ → Result HeadFields HeadFault → Result HeadFields HeadFault
 with_sound n (Err e) = Err e
 with_sound n (Ok l) = if nat_lt (n + 4) l.offset then Err Truncated else Ok l
 
 -- the head behind `.snd`, or the first fault
-unfoldable pub behind_snd : List ℕ → Result Layout HeadFault
+unfoldable pub behind_snd : List ℕ → Result HeadFields HeadFault
 behind_snd bytes =
     if nat_lt (length bytes) 20 then Err Truncated else
     with_sound (length bytes) (au_fields (take 20 bytes))

@@ -3,7 +3,7 @@
 use Rattle.std.specs.Prelude.{◌≡◌, ℕ, ◌+◌, ◌%◌, ◌≤◌, false, All, List, ◌++◌, flat_map, length, take, codes, Ok}
 use Rattle.std.specs.Int.{w32, from_le_bytes}
 use Rattle.std.specs.Str.{bytes_eq}
-use Rattle.fx_sound.specs.declared.layout.Layout.{Layout}
+use Rattle.fx_sound.specs.declared.fields.HeadFields.{HeadFields}
 use Rattle.fx_sound.specs.Wave.{announced_of, behind_riff, farthest_chunk, format_of}
 
 -- a chunk: its name, its size, its body, and the byte that is added to an odd one
@@ -29,8 +29,8 @@ pub record IsOther (c : Chunk) : Type 0 where
   pub no_format : bytes_eq c.name (codes "fmt ") ≡ false
   pub no_sound : bytes_eq c.name (codes "data") ≡ false
 
--- The bytes behind `RIFF` are a head of this layout.
-pub record IsWave (bytes : List ℕ) (l : Layout) : Type 0 where
+-- The bytes behind `RIFF` are a head of these fields.
+pub record IsWave (bytes : List ℕ) (l : HeadFields) : Type 0 where
   -- the size of the file, of which nothing is made; other chunks, the format, other chunks; the size of the sound, and the sound
   pub whole : List ℕ
   pub earlier : List Chunk
@@ -54,4 +54,4 @@ pub record IsWave (bytes : List ℕ) (l : Layout) : Type 0 where
 
 -- a WAVE head is read as such, and what is read as one is one
 abbrev pub WaveIsRead : Type 0
-WaveIsRead = (bytes : List ℕ) (l : Layout) → (IsWave bytes l → behind_riff bytes ≡ Ok l) × (behind_riff bytes ≡ Ok l → IsWave bytes l)
+WaveIsRead = (bytes : List ℕ) (l : HeadFields) → (IsWave bytes l → behind_riff bytes ≡ Ok l) × (behind_riff bytes ≡ Ok l → IsWave bytes l)

@@ -6,7 +6,7 @@ use Rattle.fx_frame.specs.FrameCoding.{frame_size, samples_of}
 use Rattle.fx_frame.specs.Pieces.{pieces}
 use Rattle.fx_sound.specs.declared.head.Kind.{Kind}
 use Rattle.fx_sound.specs.declared.head.HeadFault.{HeadFault}
-use Rattle.fx_sound.specs.declared.layout.Format.{Format}
+use Rattle.fx_sound.specs.declared.fields.Format.{Format}
 use Rattle.fx_sound.specs.Head.{Spelt, head_of}
 use Rattle.fx_sound.specs.Sound.{Reading, size_of, within, at_most_announced, beyond, lacking}
 use Rattle.fx_sound.specs.Source.{Held}
@@ -33,16 +33,16 @@ pub record Outcome : Type 0 where
 abbrev pub outcome_of : Spelt → List ℕ → Outcome
 outcome_of s sound = record {
   kind = s.kind;
-  format = s.layout.format;
-  announced = s.layout.announced;
-  frames = frames_of s.layout.format.coding s.layout.format.channels sound;
-  missing = lacking s.layout.announced (length sound);
-  stray = length sound % frame_size s.layout.format.coding s.layout.format.channels;
+  format = s.fields.format;
+  announced = s.fields.announced;
+  frames = frames_of s.fields.format.coding s.fields.format.channels sound;
+  missing = lacking s.fields.announced (length sound);
+  stray = length sound % frame_size s.fields.format.coding s.fields.format.channels;
 }
 
 abbrev pub with_frames : List ℕ → Result Spelt HeadFault → Result Outcome HeadFault
 with_frames bytes (Err e) = Err e
-with_frames bytes (Ok s) = Ok (outcome_of s (within s.layout.announced (drop s.layout.offset bytes)))
+with_frames bytes (Ok s) = Ok (outcome_of s (within s.fields.announced (drop s.fields.offset bytes)))
 
 -- the sound in these bytes, or the first fault of its head
 abbrev pub container : Option Kind → List ℕ → Result Outcome HeadFault

@@ -6,7 +6,7 @@ use Rattle.fx_sound.specs.declared.head.Kind.{Kind}
 use Rattle.fx_sound.specs.declared.head.Kind.TheVariants.{Wav, Au}
 use Rattle.fx_sound.specs.declared.head.HeadFault.{HeadFault}
 use Rattle.fx_sound.specs.declared.head.HeadFault.TheVariants.{UnknownType, Truncated}
-use Rattle.fx_sound.specs.declared.layout.Layout.{Layout}
+use Rattle.fx_sound.specs.declared.fields.HeadFields.{HeadFields}
 use Rattle.fx_sound.specs.Au.{behind_snd}
 use Rattle.fx_sound.specs.Source.{Held, Takes, to_come}
 use Rattle.fx_sound.specs.Wave.{behind_riff}
@@ -29,16 +29,16 @@ allowed (Some Au) (Some Au) = Some Au
 -- what a head says, and where the sound behind it begins
 pub record Spelt : Type 0 where
   pub kind : Kind
-  pub layout : Layout
+  pub fields : HeadFields
 
 -- the head behind the first four bytes
-abbrev pub behind : Kind → List ℕ → Result Layout HeadFault
+abbrev pub behind : Kind → List ℕ → Result HeadFields HeadFault
 behind Wav rest = behind_riff rest
 behind Au rest = behind_snd rest
 
-abbrev pub spelt_as : Kind → Result Layout HeadFault → Result Spelt HeadFault
+abbrev pub spelt_as : Kind → Result HeadFields HeadFault → Result Spelt HeadFault
 spelt_as kind (Err e) = Err e
-spelt_as kind (Ok layout) = Ok (record { kind = kind; layout = layout })
+spelt_as kind (Ok fields) = Ok (record { kind = kind; fields = fields })
 
 abbrev pub with_kind : Option Kind → List ℕ → Result Spelt HeadFault
 with_kind None rest = Err UnknownType
@@ -54,7 +54,7 @@ head_of expected bytes =
 abbrev pub spelling : Head → ℕ → Spelt
 spelling h offset = record {
   kind = h.kind;
-  layout = record { format = record { rate = h.rate; channels = h.channels; coding = h.coding }; announced = h.announced; offset = offset };
+  fields = record { format = record { rate = h.rate; channels = h.channels; coding = h.coding }; announced = h.announced; offset = offset };
 }
 
 -- the bytes begin with this head, and those before the sound, which begins at 2^24 or before, were taken

@@ -6,7 +6,7 @@ pub mod Fault
 pub mod Fields
 pub mod Writing
 pub mod Output
-pub mod Layout
+pub mod HeadFields
 pub mod Reads
 pub mod Au
 pub mod Wave

@@ -23,5 +23,5 @@ abbrev pub SendsMore : Option (List ℕ) → Option (List ℕ) → Pending → P
 SendsMore now new_now out new_out bytes = (first : Option (List ℕ)) (all : List ℕ) → Sent first now out all → Sent first new_now new_out (all ++ bytes)
 
 -- how many bytes were ever to be sent
-abbrev pub total : Pending → ℕ
-total out = out.written + length out.bytes
+abbrev pub bytes_put : Pending → ℕ
+bytes_put out = out.written + length out.bytes

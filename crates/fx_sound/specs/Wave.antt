@@ -5,10 +5,10 @@ use Rattle.std.specs.Int.{w16, w32, from_le_bytes}
 use Rattle.fx_frame.specs.declared.coding.Coding.{Coding}
 use Rattle.fx_frame.specs.declared.coding.Coding.TheVariants.{U8, S16Le, S24Le, S32Le}
 use Rattle.fx_sound.specs.declared.head.Kind.TheVariants.{Wav}
-use Rattle.fx_sound.specs.declared.layout.Format.{Format}
-use Rattle.fx_sound.specs.declared.layout.Layout.{Layout}
+use Rattle.fx_sound.specs.declared.fields.Format.{Format}
+use Rattle.fx_sound.specs.declared.fields.HeadFields.{HeadFields}
 use Rattle.fx_sound.specs.Fields.{wav_unknown, plain_tag, extensible_tag, pcm_guid}
-use Rattle.fx_sound.specs.Layout.{IsProper}
+use Rattle.fx_sound.specs.HeadFields.{IsProper}
 use Rattle.fx_sound.specs.declared.wave.Demand.{Demand}
 use Rattle.fx_sound.specs.declared.wave.Demand.TheVariants as demand
 use Rattle.fx_sound.specs.declared.wave.Step.{Step}
@@ -137,13 +137,13 @@ abbrev pub AskedAt : ℕ → Demand → Type 0
 AskedAt o d = (o + 8 ≤ 2 ^ 24) × IsNear o d
 
 -- what follows a step from place o
-abbrev pub after_step : (ℕ → Option Format → List ℕ → Result Layout HeadFault) → ℕ → List ℕ → Result Step HeadFault → Result Layout HeadFault
+abbrev pub after_step : (ℕ → Option Format → List ℕ → Result HeadFields HeadFault) → ℕ → List ℕ → Result Step HeadFault → Result HeadFields HeadFault
 after_step more o rest (Err e) = Err e
 after_step more o rest (Ok (step.Sound h)) = Ok h
 after_step more o rest (Ok (step.Next next format)) = more next format (drop (next - o) rest)
 
 -- at most n chunks, of which the first begins at place o
-unfoldable pub chunks_of : ℕ → ℕ → Option Format → List ℕ → Result Layout HeadFault
+unfoldable pub chunks_of : ℕ → ℕ → Option Format → List ℕ → Result HeadFields HeadFault
 chunks_of zero o seen rest = Err HeadTooLong
 chunks_of (suc n) o seen rest = after_step (chunks_of n) o rest (step_of o seen rest)
 
@@ -152,7 +152,7 @@ abbrev pub most_chunks : ℕ
 most_chunks = 2097152
 
 -- the head of a WAVE sound behind `RIFF`, or the first fault
-unfoldable pub behind_riff : List ℕ → Result Layout HeadFault
+unfoldable pub behind_riff : List ℕ → Result HeadFields HeadFault
 behind_riff bytes =
     if nat_lt (length bytes) 8 then Err Truncated else
     if not (bytes_eq (take 4 (drop 4 bytes)) (codes "WAVE")) then Err UnknownType else

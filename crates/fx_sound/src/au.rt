@@ -4,12 +4,12 @@ ghost use Rattle.std.specs.Prelude.{◌≡◌, ◌+◌, ◌-◌, ◌<◌, ◌≤
 ghost use Rattle.fx_frame.specs.Io.{saturated};
 ghost use Rattle.fx_sound.specs.Au.{word_at, au_coding, au_fields, behind_snd};
 ghost use Rattle.fx_sound.specs.Kind.{is_of_au};
-ghost use Rattle.fx_sound.specs.Layout.{IsProper, is_read_failure};
+ghost use Rattle.fx_sound.specs.HeadFields.{IsProper, is_read_failure};
 ghost use Rattle.fx_sound.specs.Reads.{Reads, Refuses, Fails};
 ghost use Rattle.fx_sound.specs.Source.{Takes};
 
+use super::fields::{AU_UNKNOWN, Format, HeadFields};
 use super::head::{FARTHEST, HeadFault, Kind};
-use super::layout::{AU_UNKNOWN, Format, Layout};
 use super::source::Source;
 use fx_frame::{ByteIn, Coding};
 
@@ -35,7 +35,7 @@ fn coding_of(encoding: u32) -> Option<Coding>
 
 // What the words behind `.snd` say.
 #[tactic(auto, unfolding(crate::specs::Au::au_fields))]
-fn fields(words: &[u8]) -> Result<Layout, HeadFault>
+fn fields(words: &[u8]) -> Result<HeadFields, HeadFault>
     requires { length words.now ≡ 20 }
     ensures value { result ≡ au_fields words.now }
     ensures offset { IfOk result (λ l. (24 ≤ l.offset) × (l.offset ≤ FARTHEST)) }
@@ -61,7 +61,7 @@ fn fields(words: &[u8]) -> Result<Layout, HeadFault>
     if channels > 16 {
         return Err(HeadFault::TooManyChannels);
     }
-    Ok(Layout {
+    Ok(HeadFields {
         format: Format {
             rate,
             channels: channels as usize,
@@ -77,8 +77,8 @@ fn fields(words: &[u8]) -> Result<Layout, HeadFault>
 }
 
 /// The head of an AU sound behind `.snd`, up to the sound.
-pub(crate) fn read_au<R: ByteIn>(source: &mut Source<R>) -> Result<Layout, HeadFault>
-    ensures layout { IfOk result (λ l. Reads R.reads.rest behind_snd source.old source.new (l.offset - 4) l) }
+pub(crate) fn read_au<R: ByteIn>(source: &mut Source<R>) -> Result<HeadFields, HeadFault>
+    ensures fields { IfOk result (λ l. Reads R.reads.rest behind_snd source.old source.new (l.offset - 4) l) }
     ensures told { IfOk result (λ l. Takes R.reads.told source.old source.new (l.offset - 4)) }
     ensures offset { IfOk result (λ l. (4 < l.offset) × (l.offset ≤ FARTHEST)) }
     ensures proper { IfOk result (λ l. IsProper Kind.Au l.format) }
@@ -95,13 +95,13 @@ pub(crate) fn read_au<R: ByteIn>(source: &mut Source<R>) -> Result<Layout, HeadF
     if got < 20 {
         return Err(HeadFault::Truncated);
     }
-    let layout = fields(&words)?;
-    let between = (layout.offset - 24) as usize;
+    let fields = fields(&words)?;
+    let between = (fields.offset - 24) as usize;
     let Ok(skipped) = source.skip(between) else {
         return Err(HeadFault::ReadFailed);
     };
     if skipped < between {
         return Err(HeadFault::Truncated);
     }
-    Ok(layout)
+    Ok(fields)
 }

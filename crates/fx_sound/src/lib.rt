@@ -4,9 +4,9 @@
 mod au;
 mod block;
 mod buffer;
+mod fields;
 pub mod head;
 pub mod inner;
-mod layout;
 mod output;
 pub mod progress;
 mod read;

@@ -3,7 +3,7 @@
 ghost use Rattle.std.specs.Prelude.{◌≡◌, ◌+◌, ◌-◌, ◌<◌, ◌≤◌, ◌^◌, ◌++◌, true, [], IsOk, OnOk, OnErr, IfOk, length};
 ghost use Rattle.fx_frame.specs.Io.{CountsFailure};
 ghost use Rattle.fx_frame.specs.FrameCoding.{frame_size, bytes_of, clips_of};
-ghost use Rattle.fx_sound.specs.Output.{SendsOn, SendsMore, total};
+ghost use Rattle.fx_sound.specs.Output.{SendsOn, SendsMore, bytes_put};
 
 use super::buffer::BUFFER_SIZE;
 use fx_frame::bulk::encode_into;
@@ -59,7 +59,7 @@ impl Output {
 
     /// How many bytes were ever put into it: those that the writer took, and those that wait.
     pub fn bytes_put(&self) -> u64
-        ensures { result ≡ total self.now }
+        ensures { result ≡ bytes_put self.now }
     {
         self.written + self.waiting() as u64
     }
@@ -75,7 +75,7 @@ impl Output {
     fn write_some<W: ByteOut>(&mut self, writer: &mut W) -> Result<(), Failed>
         requires { 0 < length self.old.bytes }
         ensures sent { SendsOn (W.writes.taken writer.old) (W.writes.taken writer.new) self.old self.new }
-        ensures count { total self.new ≡ total self.old }
+        ensures count { bytes_put self.new ≡ bytes_put self.old }
         ensures ok { OnOk result (length self.new.bytes < length self.old.bytes) }
         ensures failures { CountsFailure (W.writes.failures writer.old) (W.writes.failures writer.new) result }
     {
@@ -89,7 +89,7 @@ impl Output {
     #[inline(never)]
     fn drain<W: ByteOut>(&mut self, writer: &mut W) -> Result<(), Failed>
         ensures sent { SendsOn (W.writes.taken writer.old) (W.writes.taken writer.new) self.old self.new }
-        ensures count { total self.new ≡ total self.old }
+        ensures count { bytes_put self.new ≡ bytes_put self.old }
         ensures empty { OnOk result (self.new.bytes ≡ []) }
         ensures room { OnOk result (self.new.room ≡ BUFFER_SIZE) }
         ensures failures { CountsFailure (W.writes.failures writer.old) (W.writes.failures writer.new) result }
@@ -107,7 +107,7 @@ impl Output {
     fn make_room<W: ByteOut>(&mut self, writer: &mut W, size: usize) -> Result<(), Failed>
         requires { size ≤ BUFFER_SIZE }
         ensures sent { SendsOn (W.writes.taken writer.old) (W.writes.taken writer.new) self.old self.new }
-        ensures count { total self.new ≡ total self.old }
+        ensures count { bytes_put self.new ≡ bytes_put self.old }
         ensures room { OnOk result (size ≤ self.new.room) }
         ensures failures { CountsFailure (W.writes.failures writer.old) (W.writes.failures writer.new) result }
         ensures waits { size ≤ self.old.room → IsOk result × (writer.new ≡ writer.old) × (self.new ≡ self.old) }
@@ -122,7 +122,7 @@ impl Output {
     /// a whole buffer of frames finds room at once.
     pub fn make_way<W: ByteOut>(&mut self, writer: &mut W) -> Result<(), Failed>
         ensures sent { SendsOn (W.writes.taken writer.old) (W.writes.taken writer.new) self.old self.new }
-        ensures count { total self.new ≡ total self.old }
+        ensures count { bytes_put self.new ≡ bytes_put self.old }
         ensures failures { CountsFailure (W.writes.failures writer.old) (W.writes.failures writer.new) result }
     {
         if self.written == 0 || self.end <= BUFFER_SIZE / 2 {
@@ -134,7 +134,7 @@ impl Output {
     // Puts bytes behind those that wait.
     fn put(&mut self, bytes: &[u8])
         requires room { length bytes.now ≤ self.old.room }
-        requires count { total self.old + length bytes.now < 2 ^ 64 }
+        requires count { bytes_put self.old + length bytes.now < 2 ^ 64 }
         ensures bytes { self.new.bytes ≡ self.old.bytes ++ bytes.now }
         ensures written { self.new.written ≡ self.old.written }
         ensures room { self.new.room ≡ self.old.room - length bytes.now }
@@ -149,9 +149,9 @@ impl Output {
     #[inline(always)]
     fn put_coded(&mut self, frame: &Frame, coding: Coding) -> u64
         requires room { frame_size coding (length frame.now) ≤ self.old.room }
-        requires count { total self.old + frame_size coding (length frame.now) < 2 ^ 64 }
+        requires count { bytes_put self.old + frame_size coding (length frame.now) < 2 ^ 64 }
         ensures bytes { self.new.bytes ≡ self.old.bytes ++ bytes_of coding frame.now }
-        ensures count { total self.new ≡ total self.old + frame_size coding (length frame.now) }
+        ensures count { bytes_put self.new ≡ bytes_put self.old + frame_size coding (length frame.now) }
         ensures written { self.new.written ≡ self.old.written }
         ensures room { self.new.room ≡ self.old.room - frame_size coding (length frame.now) }
         ensures clips { result ≡ clips_of coding frame.now }
@@ -168,10 +168,10 @@ impl Output {
     /// leave no room.
     pub fn push<W: ByteOut>(&mut self, writer: &mut W, bytes: &[u8]) -> Result<(), Failed>
         requires piece { length bytes.now ≤ BUFFER_SIZE }
-        requires count { total self.old + length bytes.now < 2 ^ 64 }
+        requires count { bytes_put self.old + length bytes.now < 2 ^ 64 }
         ensures sent { OnOk result (SendsMore (W.writes.taken writer.old) (W.writes.taken writer.new) self.old self.new bytes.now) }
         ensures sent_err { OnErr result (SendsOn (W.writes.taken writer.old) (W.writes.taken writer.new) self.old self.new) }
-        ensures count { OnOk result (total self.new ≡ total self.old + length bytes.now) }
+        ensures count { OnOk result (bytes_put self.new ≡ bytes_put self.old + length bytes.now) }
         ensures failures { CountsFailure (W.writes.failures writer.old) (W.writes.failures writer.new) result }
         ensures waits { length bytes.now ≤ self.old.room → IsOk result × (writer.new ≡ writer.old) × (self.new.room ≡ self.old.room - length bytes.now) }
     {
@@ -189,12 +189,12 @@ impl Output {
         frame: &Frame,
         coding: Coding,
     ) -> Result<u64, Failed>
-        requires { total self.old + 64 < 2 ^ 64 }
+        requires { bytes_put self.old + 64 < 2 ^ 64 }
         ensures sent { OnOk result (SendsMore (W.writes.taken writer.old) (W.writes.taken writer.new) self.old self.new (bytes_of coding frame.now)) }
         ensures most { frame_size coding (length frame.now) ≤ 64 }
         ensures clips { IfOk result (λ n. n ≡ clips_of coding frame.now) }
         ensures sent_err { OnErr result (SendsOn (W.writes.taken writer.old) (W.writes.taken writer.new) self.old self.new) }
-        ensures count { OnOk result (total self.new ≡ total self.old + frame_size coding (length frame.now)) }
+        ensures count { OnOk result (bytes_put self.new ≡ bytes_put self.old + frame_size coding (length frame.now)) }
         ensures failures { CountsFailure (W.writes.failures writer.old) (W.writes.failures writer.new) result }
         ensures waits { frame_size coding (length frame.now) ≤ self.old.room
             → IsOk result × (writer.new ≡ writer.old) × (self.new.room ≡ self.old.room - frame_size coding (length frame.now)) }
@@ -214,9 +214,9 @@ impl Output {
     /// Puts the bytes of samples behind those that wait, for which there is room, and tells how many samples were clipped.
     pub fn put_samples(&mut self, samples: &[i32], coding: Coding) -> u64
         requires room { frame_size coding (length samples.now) ≤ self.old.room }
-        requires count { total self.old + frame_size coding (length samples.now) < 2 ^ 64 }
+        requires count { bytes_put self.old + frame_size coding (length samples.now) < 2 ^ 64 }
         ensures bytes { self.new.bytes ≡ self.old.bytes ++ bytes_of coding samples.now }
-        ensures count { total self.new ≡ total self.old + frame_size coding (length samples.now) }
+        ensures count { bytes_put self.new ≡ bytes_put self.old + frame_size coding (length samples.now) }
         ensures written { self.new.written ≡ self.old.written }
         ensures room { self.new.room ≡ self.old.room - frame_size coding (length samples.now) }
         ensures clips { result ≡ clips_of coding samples.now }
@@ -232,7 +232,7 @@ impl Output {
     /// Hands the writer all that waits, and flushes it.
     pub fn finish<W: ByteOut>(&mut self, writer: &mut W) -> Result<(), Failed>
         ensures sent { SendsOn (W.writes.taken writer.old) (W.writes.taken writer.new) self.old self.new }
-        ensures count { total self.new ≡ total self.old }
+        ensures count { bytes_put self.new ≡ bytes_put self.old }
         ensures empty { OnOk result (self.new.bytes ≡ []) }
         ensures flushed { OnOk result (W.writes.flushed writer.new ≡ true) }
         ensures failures { CountsFailure (W.writes.failures writer.old) (W.writes.failures writer.new) result }

@@ -5,12 +5,12 @@ ghost use Rattle.fx_frame.specs.Io.{saturated};
 ghost use Rattle.fx_sound.specs.Source.{to_come, Takes};
 ghost use Rattle.fx_sound.specs.Known.{IfKnown};
 ghost use Rattle.fx_sound.specs.Head.{kind_of, allowed, behind, head_of, ReadsHead};
-ghost use Rattle.fx_sound.specs.Layout.{IsProper, is_read_failure};
+ghost use Rattle.fx_sound.specs.HeadFields.{IsProper, is_read_failure};
 ghost use Rattle.fx_sound.specs.Reads.{Reads, Refuses, Fails};
 
 use super::au::read_au;
+use super::fields::HeadFields;
 use super::head::{FARTHEST, Head, HeadFault, Kind};
-use super::layout::Layout;
 use super::source::Source;
 use super::wave::read_wav;
 use fx_frame::ByteIn;
@@ -32,8 +32,8 @@ fn found(expected: Option<Kind>, name: [u8; 4]) -> Option<Kind>
     }
 }
 
-fn read_layout<R: ByteIn>(source: &mut Source<R>, kind: Kind) -> Result<Layout, HeadFault>
-    ensures layout { IfOk result (λ l. Reads R.reads.rest (behind kind) source.old source.new (l.offset - 4) l) }
+fn read_fields<R: ByteIn>(source: &mut Source<R>, kind: Kind) -> Result<HeadFields, HeadFault>
+    ensures fields { IfOk result (λ l. Reads R.reads.rest (behind kind) source.old source.new (l.offset - 4) l) }
     ensures told { IfOk result (λ l. Takes R.reads.told source.old source.new (l.offset - 4)) }
     ensures offset { IfOk result (λ l. (4 < l.offset) × (l.offset ≤ FARTHEST)) }
     ensures proper { IfOk result (λ l. IsProper kind l.format) }
@@ -75,12 +75,12 @@ pub fn read_head<R: ByteIn>(
     let Some(kind) = found(expected, name) else {
         return Err(HeadFault::UnknownType);
     };
-    let layout = read_layout(source, kind)?;
+    let fields = read_fields(source, kind)?;
     Ok(Head {
         kind,
-        rate: layout.format.rate,
-        channels: layout.format.channels,
-        coding: layout.format.coding,
-        announced: layout.announced,
+        rate: fields.format.rate,
+        channels: fields.format.channels,
+        coding: fields.format.coding,
+        announced: fields.announced,
     })
 }

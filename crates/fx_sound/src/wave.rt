@@ -4,13 +4,13 @@ ghost use Rattle.fx_frame.specs.Io.{saturated};
 ghost use Rattle.fx_sound.specs.Source.{to_come, Takes, FallsShort};
 ghost use Rattle.fx_sound.specs.Known.{IfKnown};
 ghost use Rattle.fx_sound.specs.Kind.{is_of_wav};
-ghost use Rattle.fx_sound.specs.Layout.{IsProper, is_read_failure};
+ghost use Rattle.fx_sound.specs.HeadFields.{IsProper, is_read_failure};
 ghost use Rattle.fx_sound.specs.Wave.{half_at, long_at, wav_coding, IsProperSeen, plain_of, format_of, padded, demand_of, IsNear, AskedAt, format_read, with_body, step_of, end_of, GoesOn, chunks_of, most_chunks, behind_riff};
 ghost use Rattle.fx_sound.specs.Chunks.{WaveIsRead};
 ghost use Rattle.fx_sound.specs.Reads.{Reads, Refuses, Fails};
 
+use super::fields::{EXTENSIBLE, Format, HeadFields, PCM_GUID, PLAIN, WAV_UNKNOWN};
 use super::head::{FARTHEST, HeadFault, Kind};
-use super::layout::{EXTENSIBLE, Format, Layout, PCM_GUID, PLAIN, WAV_UNKNOWN};
 use super::source::Source;
 use fx_frame::{ByteIn, Coding};
 
@@ -21,7 +21,7 @@ const FARTHEST_CHUNK: u64 = FARTHEST as u64 - 8;
 #[derive(Clone, Copy, Debug, PartialEq, Eq)]
 pub(crate) enum Demand {
     /// Nothing: the sound follows.
-    Sound(Layout),
+    Sound(HeadFields),
     /// The format, in a body of this size.
     Format(u32),
     /// To skip a body of this size.
@@ -31,7 +31,7 @@ pub(crate) enum Demand {
 /// What stands behind a chunk: the sound, or one more chunk at a place, with the format if it was read.
 #[derive(Clone, Copy, Debug, PartialEq, Eq)]
 pub(crate) enum Step {
-    Sound(Layout),
+    Sound(HeadFields),
     Next(u32, Option<Format>),
 }
 
@@ -135,7 +135,7 @@ fn asked(offset: u32, seen: Option<Format>, name: [u8; 4], size: u32) -> Result<
                 } else {
                     None
                 };
-                Ok(Demand::Sound(Layout {
+                Ok(Demand::Sound(HeadFields {
                     offset: offset + 8,
                     announced,
                     format,
@@ -263,7 +263,7 @@ fn read_step<R: ByteIn>(
 const MOST_CHUNKS: u32 = 1 << 21;
 
 // The chunks behind `WAVE`, up to the sound.
-fn read_chunks<R: ByteIn>(source: &mut Source<R>) -> Result<Layout, HeadFault>
+fn read_chunks<R: ByteIn>(source: &mut Source<R>) -> Result<HeadFields, HeadFault>
     ensures head { IfOk result (λ h. Reads R.reads.rest (chunks_of most_chunks 12 None) source.old source.new (h.offset - 12) h) }
     ensures told { IfOk result (λ h. Takes R.reads.told source.old source.new (h.offset - 12)) }
     ensures offset { IfOk result (λ h. (12 < h.offset) × (h.offset ≤ 2 ^ 24)) }
@@ -289,8 +289,8 @@ fn read_chunks<R: ByteIn>(source: &mut Source<R>) -> Result<Layout, HeadFault>
 }
 
 /// The head of a WAVE sound behind `RIFF`, up to the sound.
-pub(crate) fn read_wav<R: ByteIn>(source: &mut Source<R>) -> Result<Layout, HeadFault>
-    ensures layout { IfOk result (λ h. Reads R.reads.rest behind_riff source.old source.new (h.offset - 4) h) }
+pub(crate) fn read_wav<R: ByteIn>(source: &mut Source<R>) -> Result<HeadFields, HeadFault>
+    ensures fields { IfOk result (λ h. Reads R.reads.rest behind_riff source.old source.new (h.offset - 4) h) }
     ensures told { IfOk result (λ h. Takes R.reads.told source.old source.new (h.offset - 4)) }
     ensures offset { IfOk result (λ h. (4 < h.offset) × (h.offset ≤ FARTHEST)) }
     ensures proper { IfOk result (λ h. IsProper Kind.Wav h.format) }

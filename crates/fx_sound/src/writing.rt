@@ -6,8 +6,8 @@ ghost use Rattle.fx_frame.specs.FrameCoding.{frame_size};
 ghost use Rattle.fx_sound.specs.Kind.{is_coding_of};
 ghost use Rattle.fx_sound.specs.Writing.{known_size, format_fields, extension_fields, format_body, wav_head, au_head, written_head};
 
+use super::fields::{AU_UNKNOWN, EXTENSIBLE, PCM_GUID, PLAIN, WAV_UNKNOWN};
 use super::head::Kind;
-use super::layout::{AU_UNKNOWN, EXTENSIBLE, PCM_GUID, PLAIN, WAV_UNKNOWN};
 use fx_frame::Coding;
 use fx_frame::copies::copy_part;
 use std::marker::Model;

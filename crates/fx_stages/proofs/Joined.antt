@@ -12,7 +12,7 @@ use Rattle.fx_frame.specs.Frame.{Samples}
 use Rattle.fx_frame.specs.Stage.{Acts}
 use Rattle.fx_stages.specs.declared.stage.EffectStage.{EffectStage}
 use Rattle.fx_stages.specs.declared.stage.EffectStage.TheVariants as stages
-use Rattle.fx_stages.specs.Effects.{EffectRecipe, Trims, Pads, Fades, Upsamples, Downsamples, Delays, Echoes, EchoesInRow, Filters, Remixes, Scales, Shifts, effect_acts}
+use Rattle.fx_stages.specs.Effects.{EffectRecipe, ForTrim, ForPad, ForFade, ForUpsample, ForDownsample, ForDelay, ForEcho, ForEchos, ForFir, ForRemix, ForVol, ForDcShift, effect_acts}
 use Rattle.fx_tap.specs.DcShift.{dcshift_acts}
 use Rattle.fx_tap.specs.Delay.{delay_acts}
 use Rattle.fx_tap.specs.Echo.{echo_acts}
@@ -32,40 +32,40 @@ pub record Joins {S R : Type 0} (acts : Acts S R) (wrap : S → EffectStage) : T
   pub stored : (s : S) → effect_acts.stored (wrap s) ≡ acts.stored s
 
 pub trim-joins : Joins trim_acts stages.Trim
-trim-joins = record { named = Trims; recipes = λ s. refl; kinds = λ r. refl; rests = λ s. refl; counts = λ s. refl; dry = λ s. refl; stored = λ s. refl }
+trim-joins = record { named = ForTrim; recipes = λ s. refl; kinds = λ r. refl; rests = λ s. refl; counts = λ s. refl; dry = λ s. refl; stored = λ s. refl }
 
 pub pad-joins : Joins pad_acts stages.Pad
-pad-joins = record { named = Pads; recipes = λ s. refl; kinds = λ r. refl; rests = λ s. refl; counts = λ s. refl; dry = λ s. refl; stored = λ s. refl }
+pad-joins = record { named = ForPad; recipes = λ s. refl; kinds = λ r. refl; rests = λ s. refl; counts = λ s. refl; dry = λ s. refl; stored = λ s. refl }
 
 pub fade-joins : Joins fade_acts stages.Fade
-fade-joins = record { named = Fades; recipes = λ s. refl; kinds = λ r. refl; rests = λ s. refl; counts = λ s. refl; dry = λ s. refl; stored = λ s. refl }
+fade-joins = record { named = ForFade; recipes = λ s. refl; kinds = λ r. refl; rests = λ s. refl; counts = λ s. refl; dry = λ s. refl; stored = λ s. refl }
 
 pub upsample-joins : Joins upsample_acts stages.Upsample
-upsample-joins = record { named = Upsamples; recipes = λ s. refl; kinds = λ r. refl; rests = λ s. refl; counts = λ s. refl; dry = λ s. refl; stored = λ s. refl }
+upsample-joins = record { named = ForUpsample; recipes = λ s. refl; kinds = λ r. refl; rests = λ s. refl; counts = λ s. refl; dry = λ s. refl; stored = λ s. refl }
 
 pub downsample-joins : Joins downsample_acts stages.Downsample
-downsample-joins = record { named = Downsamples; recipes = λ s. refl; kinds = λ r. refl; rests = λ s. refl; counts = λ s. refl; dry = λ s. refl; stored = λ s. refl }
+downsample-joins = record { named = ForDownsample; recipes = λ s. refl; kinds = λ r. refl; rests = λ s. refl; counts = λ s. refl; dry = λ s. refl; stored = λ s. refl }
 
 pub delay-joins : Joins delay_acts stages.Delay
-delay-joins = record { named = Delays; recipes = λ s. refl; kinds = λ r. refl; rests = λ s. refl; counts = λ s. refl; dry = λ s. refl; stored = λ s. refl }
+delay-joins = record { named = ForDelay; recipes = λ s. refl; kinds = λ r. refl; rests = λ s. refl; counts = λ s. refl; dry = λ s. refl; stored = λ s. refl }
 
 pub echo-joins : Joins echo_acts stages.Echo
-echo-joins = record { named = Echoes; recipes = λ s. refl; kinds = λ r. refl; rests = λ s. refl; counts = λ s. refl; dry = λ s. refl; stored = λ s. refl }
+echo-joins = record { named = ForEcho; recipes = λ s. refl; kinds = λ r. refl; rests = λ s. refl; counts = λ s. refl; dry = λ s. refl; stored = λ s. refl }
 
 pub echos-joins : Joins echos_acts stages.Echos
-echos-joins = record { named = EchoesInRow; recipes = λ s. refl; kinds = λ r. refl; rests = λ s. refl; counts = λ s. refl; dry = λ s. refl; stored = λ s. refl }
+echos-joins = record { named = ForEchos; recipes = λ s. refl; kinds = λ r. refl; rests = λ s. refl; counts = λ s. refl; dry = λ s. refl; stored = λ s. refl }
 
 pub fir-joins : Joins fir_acts stages.Fir
-fir-joins = record { named = Filters; recipes = λ s. refl; kinds = λ r. refl; rests = λ s. refl; counts = λ s. refl; dry = λ s. refl; stored = λ s. refl }
+fir-joins = record { named = ForFir; recipes = λ s. refl; kinds = λ r. refl; rests = λ s. refl; counts = λ s. refl; dry = λ s. refl; stored = λ s. refl }
 
 pub remix-joins : Joins remix_acts stages.Remix
-remix-joins = record { named = Remixes; recipes = λ s. refl; kinds = λ r. refl; rests = λ s. refl; counts = λ s. refl; dry = λ s. refl; stored = λ s. refl }
+remix-joins = record { named = ForRemix; recipes = λ s. refl; kinds = λ r. refl; rests = λ s. refl; counts = λ s. refl; dry = λ s. refl; stored = λ s. refl }
 
 pub vol-joins : Joins vol_acts stages.Vol
-vol-joins = record { named = Scales; recipes = λ s. refl; kinds = λ r. refl; rests = λ s. refl; counts = λ s. refl; dry = λ s. refl; stored = λ s. refl }
+vol-joins = record { named = ForVol; recipes = λ s. refl; kinds = λ r. refl; rests = λ s. refl; counts = λ s. refl; dry = λ s. refl; stored = λ s. refl }
 
 pub dcshift-joins : Joins dcshift_acts stages.DcShift
-dcshift-joins = record { named = Shifts; recipes = λ s. refl; kinds = λ r. refl; rests = λ s. refl; counts = λ s. refl; dry = λ s. refl; stored = λ s. refl }
+dcshift-joins = record { named = ForDcShift; recipes = λ s. refl; kinds = λ r. refl; rests = λ s. refl; counts = λ s. refl; dry = λ s. refl; stored = λ s. refl }
 
 module _ {S R : Type 0} {acts : Acts S R} {wrap : S → EffectStage} (j : Joins acts wrap) where
   pub PassedOn-joined : (r : Passing) (s s' : S) (x y : Samples) → PassedOn acts r s s' x y → PassedOn effect_acts r (wrap s) (wrap s') x y

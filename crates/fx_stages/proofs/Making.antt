@@ -1,6 +1,6 @@
 -- What a plan says of an effect is what its stage asks for.
-use Rattle.std.proofs.Common.{◌≡◌, ℕ, ◌≤◌, ◌<◌, List, [], ◌∷◌, ◌++◌, true, length, refl, arith, sym, ap, ◌∙◌}
-use Rattle.std.specs.Prelude.{Some, unsigned_abs, nat_le, nat_lt, ◌&&◌}
+use Rattle.std.proofs.Common.{◌≡◌, ℕ, ◌≤◌, ◌<◌, List, [], ◌∷◌, ◌++◌, true, length, refl, arith, ap, ◌∙◌}
+use Rattle.std.specs.Prelude.{unsigned_abs, nat_le, nat_lt, ◌&&◌}
 use Rattle.std.specs.List.{All, list_all}
 use Rattle.std.proofs.lemmas.Bool.{and_parts}
 use Rattle.std.proofs.lemmas.List.Elements.{All-cons, All-nil}
@@ -12,14 +12,13 @@ use Rattle.fx_fixed.specs.declared.positions.At.TheVariants.{Start, End}
 use Rattle.fx_fixed.specs.declared.weights.Weight.{Weight}
 use Rattle.fx_flow.specs.Parts.{AllNew}
 use Rattle.fx_frame.specs.Stage.{IsNew}
-use Rattle.fx_plan.specs.declared.effect.Layout.{Layout}
-use Rattle.fx_plan.specs.Echo.{Echoes, Tap, are_echoes, is_tap}
+use Rattle.fx_plan.specs.Echo.{EchoValue, Tap, are_echoes, is_tap}
 use Rattle.fx_plan.specs.Pad.{Length, are_pads, are_rising}
 use Rattle.fx_plan.specs.Remix.{is_mix, specs_in}
-use Rattle.fx_plan.specs.Effects.{Act, OfTrim, OfPad, OfDelay, OfEcho, OfEchos, OfFade, OfVol, OfDcShift, OfFir, OfRemix, OfUpsample, OfDownsample, Usable, all_fit, fits_layout, layout_after}
+use Rattle.fx_plan.specs.Effects.{Act}
 use Rattle.fx_stages.specs.declared.stage.EffectStage.{EffectStage}
 use Rattle.fx_stages.specs.Effects.{EffectRecipe, effect_acts}
-use Rattle.fx_stages.specs.Made.{all_suit, channels_after, recipe_for, recipes_for, suits}
+use Rattle.fx_stages.specs.Made.{channels_after, recipe_for, recipes_for}
 use Rattle.fx_frame.specs.Holds.{recipes}
 use Rattle.fx_plan.specs.Bounds.{hold_all, hold_of, line_of}
 use Rattle.std.proofs.lemmas.List.Sums.{sum_by-cons}
@@ -60,14 +59,14 @@ decays-are (t ∷ taps) h =
     All-cons (λ (e : Tap). unsigned_abs e.1 ≤ UNIT) t taps (grind (arith, nat_tests, here.1)) (decays-are taps parts.1)
 
 -- what an echo asks of its arguments
-pub record AreEchoes (e : Echoes) : Type 0 where
+pub record AreEchoes (e : EchoValue) : Type 0 where
   pub gain_in : unsigned_abs e.gain_in ≤ UNIT
   pub some : 1 ≤ length e.taps
   pub few : length e.taps ≤ 7
   pub delays : All (λ (t : Tap). 1 ≤ t.0) e.taps
   pub decays : All (λ (t : Tap). unsigned_abs t.1 ≤ UNIT) e.taps
 
-pub echoes-are : (e : Echoes) → are_echoes e ≡ true → AreEchoes e
+pub echoes-are : (e : EchoValue) → are_echoes e ≡ true → AreEchoes e
 echoes-are e h =
     let first = and_parts (nat_le (unsigned_abs e.gain_in) UNIT) _ h in
     let second = and_parts (nat_le 1 (length e.taps)) _ first.1 in

@@ -8,7 +8,7 @@ use Rattle.fx_frame.specs.Holds.{hold_sum}
 use Rattle.fx_frame.specs.Stage.{Kind}
 use Rattle.fx_plan.specs.Bounds
 use Rattle.fx_plan.specs.Bounds.{hold_all, is_past, line_of, mosts, work_of}
-use Rattle.fx_plan.specs.Effects.{Act, OfTrim, OfPad, OfDelay, OfEcho, OfEchos, OfFade, OfVol, OfDcShift, OfFir, OfRemix, OfUpsample, OfDownsample, Usable, all_fit, fits_layout, layout_after}
+use Rattle.fx_plan.specs.Effects.{Act, OfDelay, OfRemix, OfUpsample, Usable, all_fit, fits_layout, layout_after}
 use Rattle.fx_plan.specs.declared.effect.Layout.{Layout}
 use Rattle.fx_plan.proofs.Lasting.{within-here, within-next, work-cons}
 use Rattle.std.proofs.lemmas.Bool.{and_parts}
@@ -55,8 +55,6 @@ pub record Planned (channels : ℕ) (a : Act) : Type 0 where
   pub behind : (rate : ℕ) → (layout_after (record { rate = rate; channels = channels }) (Some a)).channels ≡ channels_after channels a
 
 pub planned : (channels : ℕ) (a : Act) → Planned channels a
-planned channels (OfTrim ps) = record { line = refl; most = λ n. refl; inputs = λ h. refl; outputs = λ h. refl; limit = λ n u here next. here; some = λ u h. h; few = λ u h. h; suiting = λ rate h. h; behind = λ rate. refl }
-planned channels (OfPad pads) = record { line = refl; most = λ n. refl; inputs = λ h. refl; outputs = λ h. refl; limit = λ n u here next. here; some = λ u h. h; few = λ u h. h; suiting = λ rate h. h; behind = λ rate. refl }
 planned channels (OfDelay ds) =
     record {
       line = greatest-filled ds (channels - length ds);
@@ -69,12 +67,6 @@ planned channels (OfDelay ds) =
       suiting = λ rate h. h;
       behind = λ rate. refl;
     }
-planned channels (OfEcho e) = record { line = refl; most = λ n. refl; inputs = λ h. refl; outputs = λ h. refl; limit = λ n u here next. here; some = λ u h. h; few = λ u h. h; suiting = λ rate h. h; behind = λ rate. refl }
-planned channels (OfEchos e) = record { line = refl; most = λ n. refl; inputs = λ h. refl; outputs = λ h. refl; limit = λ n u here next. here; some = λ u h. h; few = λ u h. h; suiting = λ rate h. h; behind = λ rate. refl }
-planned channels (OfFade f) = record { line = refl; most = λ n. refl; inputs = λ h. refl; outputs = λ h. refl; limit = λ n u here next. here; some = λ u h. h; few = λ u h. h; suiting = λ rate h. h; behind = λ rate. refl }
-planned channels (OfVol gain) = record { line = refl; most = λ n. refl; inputs = λ h. refl; outputs = λ h. refl; limit = λ n u here next. here; some = λ u h. h; few = λ u h. h; suiting = λ rate h. h; behind = λ rate. refl }
-planned channels (OfDcShift shift) = record { line = refl; most = λ n. refl; inputs = λ h. refl; outputs = λ h. refl; limit = λ n u here next. here; some = λ u h. h; few = λ u h. h; suiting = λ rate h. h; behind = λ rate. refl }
-planned channels (OfFir gains) = record { line = refl; most = λ n. refl; inputs = λ h. refl; outputs = λ h. refl; limit = λ n u here next. here; some = λ u h. h; few = λ u h. h; suiting = λ rate h. h; behind = λ rate. refl }
 planned channels (OfRemix specs) =
     record {
       line = refl;
@@ -99,7 +91,7 @@ planned channels (OfUpsample factor) =
       suiting = λ rate h. h;
       behind = λ rate. refl;
     }
-planned channels (OfDownsample factor) = record { line = refl; most = λ n. refl; inputs = λ h. refl; outputs = λ h. refl; limit = λ n u here next. here; some = λ u h. h; few = λ u h. h; suiting = λ rate h. h; behind = λ rate. refl }
+planned channels other = record { line = refl; most = λ n. refl; inputs = λ h. refl; outputs = λ h. refl; limit = λ n u here next. here; some = λ u h. h; few = λ u h. h; suiting = λ rate h. h; behind = λ rate. refl }
 
 -- its line is as long as the plan says: a channel without a delay makes none longer
 pub line-is : (channels : ℕ) (a : Act) → (kind_for channels a).line ≡ line_of a

@@ -26,18 +26,18 @@ use Rattle.fx_tap.specs.Vol.{vol_acts}
 
 -- what a stage was made with
 pub data EffectRecipe : Type 0 where
-  Trims : (r : TrimArguments) → EffectRecipe
-  Pads : (r : PadArguments) → EffectRecipe
-  Fades : (r : FadeArguments) → EffectRecipe
-  Upsamples : (r : FactorArguments) → EffectRecipe
-  Downsamples : (r : FactorArguments) → EffectRecipe
-  Delays : (r : List ℕ) → EffectRecipe
-  Echoes : (r : EchoArguments) → EffectRecipe
-  EchoesInRow : (r : EchoArguments) → EffectRecipe
-  Filters : (r : FirArguments) → EffectRecipe
-  Remixes : (r : RemixArguments) → EffectRecipe
-  Scales : (r : SampleArguments ℤ) → EffectRecipe
-  Shifts : (r : SampleArguments ℤ) → EffectRecipe
+  ForTrim : (r : TrimArguments) → EffectRecipe
+  ForPad : (r : PadArguments) → EffectRecipe
+  ForFade : (r : FadeArguments) → EffectRecipe
+  ForUpsample : (r : FactorArguments) → EffectRecipe
+  ForDownsample : (r : FactorArguments) → EffectRecipe
+  ForDelay : (r : List ℕ) → EffectRecipe
+  ForEcho : (r : EchoArguments) → EffectRecipe
+  ForEchos : (r : EchoArguments) → EffectRecipe
+  ForFir : (r : FirArguments) → EffectRecipe
+  ForRemix : (r : RemixArguments) → EffectRecipe
+  ForVol : (r : SampleArguments ℤ) → EffectRecipe
+  ForDcShift : (r : SampleArguments ℤ) → EffectRecipe
 
 -- what a recipe settles for a stage's whole life, and the definition of its effect
 pub record Settled : Type 0 where
@@ -50,18 +50,18 @@ settled acts r = record { kind = acts.kind_of r; meaning = acts.meaning r }
 
 -- what any recipe settles
 abbrev pub settled_of : EffectRecipe → Settled
-settled_of (Trims r) = settled trim_acts r
-settled_of (Pads r) = settled pad_acts r
-settled_of (Fades r) = settled fade_acts r
-settled_of (Upsamples r) = settled upsample_acts r
-settled_of (Downsamples r) = settled downsample_acts r
-settled_of (Delays r) = settled delay_acts r
-settled_of (Echoes r) = settled echo_acts r
-settled_of (EchoesInRow r) = settled echos_acts r
-settled_of (Filters r) = settled fir_acts r
-settled_of (Remixes r) = settled remix_acts r
-settled_of (Scales r) = settled vol_acts r
-settled_of (Shifts r) = settled dcshift_acts r
+settled_of (ForTrim r) = settled trim_acts r
+settled_of (ForPad r) = settled pad_acts r
+settled_of (ForFade r) = settled fade_acts r
+settled_of (ForUpsample r) = settled upsample_acts r
+settled_of (ForDownsample r) = settled downsample_acts r
+settled_of (ForDelay r) = settled delay_acts r
+settled_of (ForEcho r) = settled echo_acts r
+settled_of (ForEchos r) = settled echos_acts r
+settled_of (ForFir r) = settled fir_acts r
+settled_of (ForRemix r) = settled remix_acts r
+settled_of (ForVol r) = settled vol_acts r
+settled_of (ForDcShift r) = settled dcshift_acts r
 
 -- what a stage shows of itself: its recipe, what is still to be given, what it counted, that it has nothing to give now,
 -- the frames that it holds, the places of its line, and its own numbers
@@ -88,18 +88,18 @@ look acts named s = record {
 
 -- the look of any stage
 abbrev pub look_of : EffectStage → Look
-look_of (stages.Trim s) = look trim_acts Trims s
-look_of (stages.Pad s) = look pad_acts Pads s
-look_of (stages.Fade s) = look fade_acts Fades s
-look_of (stages.Upsample s) = look upsample_acts Upsamples s
-look_of (stages.Downsample s) = look downsample_acts Downsamples s
-look_of (stages.Delay s) = look delay_acts Delays s
-look_of (stages.Echo s) = look echo_acts Echoes s
-look_of (stages.Echos s) = look echos_acts EchoesInRow s
-look_of (stages.Fir s) = look fir_acts Filters s
-look_of (stages.Remix s) = look remix_acts Remixes s
-look_of (stages.Vol s) = look vol_acts Scales s
-look_of (stages.DcShift s) = look dcshift_acts Shifts s
+look_of (stages.Trim s) = look trim_acts ForTrim s
+look_of (stages.Pad s) = look pad_acts ForPad s
+look_of (stages.Fade s) = look fade_acts ForFade s
+look_of (stages.Upsample s) = look upsample_acts ForUpsample s
+look_of (stages.Downsample s) = look downsample_acts ForDownsample s
+look_of (stages.Delay s) = look delay_acts ForDelay s
+look_of (stages.Echo s) = look echo_acts ForEcho s
+look_of (stages.Echos s) = look echos_acts ForEchos s
+look_of (stages.Fir s) = look fir_acts ForFir s
+look_of (stages.Remix s) = look remix_acts ForRemix s
+look_of (stages.Vol s) = look vol_acts ForVol s
+look_of (stages.DcShift s) = look dcshift_acts ForDcShift s
 
 abbrev pub kind_of_recipe : EffectRecipe → Kind
 kind_of_recipe r = (settled_of r).kind
@@ -141,15 +141,10 @@ effect_acts = record {
 
 -- more frames in give no fewer out
 pub effect_rises : (r : EffectRecipe) (m n : ℕ) → m ≤ n → (kind_of_recipe r).most m ≤ (kind_of_recipe r).most n
-effect_rises (Trims r) m n h = h
-effect_rises (Pads r) m n h = pad_rises r m n h
-effect_rises (Fades r) m n h = h
-effect_rises (Upsamples r) m n h = mul-le-mul_right r.factor h
-effect_rises (Downsamples r) m n h = ceil_rises m n r.factor h
-effect_rises (Delays r) m n h = tap_rises (greatest r) m n h
-effect_rises (Echoes r) m n h = tap_rises (greatest (map tap_delay r.echoes)) m n h
-effect_rises (EchoesInRow r) m n h = tap_rises (sum_of_delays r.echoes) m n h
-effect_rises (Filters r) m n h = h
-effect_rises (Remixes r) m n h = h
-effect_rises (Scales r) m n h = h
-effect_rises (Shifts r) m n h = h
+effect_rises (ForPad r) m n h = pad_rises r m n h
+effect_rises (ForUpsample r) m n h = mul-le-mul_right r.factor h
+effect_rises (ForDownsample r) m n h = ceil_rises m n r.factor h
+effect_rises (ForDelay r) m n h = tap_rises (greatest r) m n h
+effect_rises (ForEcho r) m n h = tap_rises (greatest (map tap_delay r.echoes)) m n h
+effect_rises (ForEchos r) m n h = tap_rises (sum_of_delays r.echoes) m n h
+effect_rises other m n h = h

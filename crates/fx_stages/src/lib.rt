@@ -1,4 +1,4 @@
-//! The stages of all twelve effects as one type, and those that a plan's effects ask for.
+//! The stages of all effects as one type, and those that a plan's effects ask for.
 #![tactic(auto)]
 
 pub mod make;

@@ -10,7 +10,7 @@ use Rattle.fx_chain.specs.declared.report.Report.{Report}
 use Rattle.fx_frame.specs.Io.{ByteReader, ByteWriter, saturated}
 use Rattle.fx_sound.specs.declared.head.HeadFault.{HeadFault}
 use Rattle.fx_sound.specs.declared.head.HeadFault.TheVariants.{ReadFailed, UnknownType, Truncated, BadHeader, NotInProfile, TooManyChannels, HeadTooLong}
-use Rattle.fx_sound.specs.Layout.{is_read_failure}
+use Rattle.fx_sound.specs.HeadFields.{is_read_failure}
 use Rattle.fx_chain.specs.declared.pump.Cause.{Cause}
 use Rattle.fx_chain.specs.declared.pump.Cause.TheVariants as Causes
 use Rattle.fx_chain.specs.Chain.{ChainParts, IsNewChain}

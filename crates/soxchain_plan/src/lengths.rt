@@ -59,7 +59,7 @@ pub fn frames_behind(effect: &Effect, line: u64, frames: u64) -> u64 {
         Effect::Delay(_) | Effect::Echo(_) | Effect::Echos(_) => frames.saturating_add(line),
         Effect::Upsample(factor) => frames.saturating_mul(u64::from(*factor)),
         Effect::Downsample(factor) => frames.div_ceil(u64::from((*factor).max(1))),
-        Effect::Vol(_) | Effect::DcShift(_) | Effect::Fir(_) | Effect::Remix(_) => frames,
+        _ => frames,
     }
 }
 

@@ -5,7 +5,7 @@ use Rattle.fx_chain.specs.Outlet.{coded_clips}
 use Rattle.std.proofs.lemmas.List.{append-nil}
 use Rattle.fx_chain.specs.Report.{row_of, start_of}
 use Rattle.fx_chain.specs.Run.{sound_frames}
-use Rattle.fx_chain.proofs.Running.{Sent-total, all-given, clips-all, moves-all, ended-known, ends-known, not-over, sound-length, stopped-due, stopped-front, wrote-all, wrote-front}
+use Rattle.fx_chain.proofs.Running.{Sent-bytes_put, all-given, clips-all, moves-all, ended-known, ends-known, not-over, sound-length, stopped-due, stopped-front, wrote-all, wrote-front}
 use Rattle.fx_chain.proofs.flow_run.run_flow.Goals as goal
 
 pub returns-in_default-clause-stopped : goal.returns-in_default-clause-stopped
@@ -18,7 +18,7 @@ returns-in_default-clause-stopped g c = λ bytes known.
     let r = c.report_of.ensures in
     let frames = sound_frames (start_of c.args.head.now) c.pump-pumped.new.progress.frames bytes in
     let flowed = p.sent refl bytes known in
-    let count = c.bytes_put.ensures ∙ Sent-total _ _ _ _ flowed.sent in
+    let count = c.bytes_put.ensures ∙ Sent-bytes_put _ _ _ _ flowed.sent in
     let long = sound-length _ _ _ _ count (rw (c.as_slice-in-Ok.ensures ∙ c.streamed_head-written.ensures) at c.saturating_sub-sound.ensures) in
     let closed = rw (c.padding.ensures.value) at (c.in_default.ensures.front _ _ flowed.sent) in
     let all = all-given acts start at frames _ flowed.through p.done in
@@ -39,7 +39,7 @@ returns-in-Ok-close-clause-completed g c = λ bytes known.
     let r = c.report_of-in-Ok.ensures in
     let frames = sound_frames (start_of c.args.head.now) c.pump-pumped.new.progress.frames bytes in
     let flowed = p.sent refl bytes known in
-    let count = c.bytes_put.ensures ∙ Sent-total _ _ _ _ flowed.sent in
+    let count = c.bytes_put.ensures ∙ Sent-bytes_put _ _ _ _ flowed.sent in
     let long = sound-length _ _ _ _ count (rw (c.as_slice-in-Ok.ensures ∙ c.streamed_head-written.ensures) at c.saturating_sub-sound.ensures) in
     let closed = rw (c.padding.ensures.value) at (c.in-Ok-close.ensures.wrote _ _ flowed.sent) in
     let all = all-given acts start at frames _ flowed.through p.done in

@@ -6,7 +6,7 @@ use Rattle.fx_sound.specs.declared.sound.SoundFault.{SoundFault}
 use Rattle.fx_sound.specs.declared.sound.SoundFault.TheVariants as fault
 use Rattle.fx_frame.specs.Frame.{Samples}
 use Rattle.fx_frame.specs.FrameCoding.{frame_size}
-use Rattle.fx_sound.specs.declared.layout.Format.{Format}
+use Rattle.fx_sound.specs.declared.fields.Format.{Format}
 use Rattle.fx_sound.specs.Sound.{within, lacking}
 use Rattle.fx_sound.specs.Container.{Outcome, container, with_frames, frames_of, at_end}
 use Rattle.fx_sound.specs.WholeSound.{IsHeadFault, IsBehindHead}

@@ -31,8 +31,8 @@ returns-then-ne-clause-fault g c = λ _ bytes known.
     let count = c.in-Ok.ensures.count in
     riff-unknown bytes c.fill.new.out c.name_at-name.result c.in-Ok.got first.0 first.1 (omega arith) (omega arith) (omega arith) (c.name_at-name.ensures ∙ take-take 4 4 (drop 4 c.fill.new.out) (omega arith)) c.if-ne.ensures
 
-pub returns-clause-layout : goal.returns-clause-layout
-returns-clause-layout g c = IfOk-both c.read_chunks.result _ _ _ c.read_chunks.ensures.offset c.read_chunks.ensures.head (λ head place chunks bytes known.
+pub returns-clause-fields : goal.returns-clause-fields
+returns-clause-fields g c = IfOk-both c.read_chunks.result _ _ _ c.read_chunks.ensures.offset c.read_chunks.ensures.head (λ head place chunks bytes known.
     let eight = c.fill.auto.out in
     let first = c.in-Ok.ensures.known bytes known in
     let count = c.in-Ok.ensures.count in

@@ -10,7 +10,7 @@ use Rattle.fx_tap.specs.Mapped.{MapState, map_acts}
 use Rattle.fx_tap.specs.PerSample.{sample_acts}
 use Rattle.fx_tap.specs.Remix.{RemixArguments, remixed_frame}
 use Rattle.fx_tap.specs.Vol.{scaled_sample}
-use Rattle.fx_stages.specs.Effects.{effect_acts, Remixes, Scales, Shifts}
+use Rattle.fx_stages.specs.Effects.{effect_acts, ForRemix, ForVol, ForDcShift}
 use Rattle.fx_stages.specs.declared.stage.EffectStage.TheVariants as stages
 use Rattle.fx_stages.proofs.stage.pass_remixed.Goals as goal
 
@@ -32,8 +32,8 @@ pub returns-in-Vol-clause-through : goal.returns-in-Vol-clause-through
 returns-in-Vol-clause-through g c =
     let through = c.pass_around.ensures.through in
     let width : c.in-Vol.last.mapping.channels ≡ length c.args.middle.now.mapping.outs = rw c.in-Vol.is at c.requires.last_channels in
-    let middle = EachThrough-along mix_acts effect_acts stages.Remix Remixes (λ s. refl) (λ r. refl) (λ s. refl) (λ s. refl) (λ s. refl) (λ s. refl) _ _ _ _ through.3 in
-    let last = EachThrough-along (sample_acts scaled_sample) effect_acts stages.Vol Scales (λ s. refl) (λ r. refl) (λ s. refl) (λ s. refl) (λ s. refl) (λ s. refl) _ _ _ _ through.4 in
+    let middle = EachThrough-along mix_acts effect_acts stages.Remix ForRemix (λ s. refl) (λ r. refl) (λ s. refl) (λ s. refl) (λ s. refl) (λ s. refl) _ _ _ _ through.3 in
+    let last = EachThrough-along (sample_acts scaled_sample) effect_acts stages.Vol ForVol (λ s. refl) (λ r. refl) (λ s. refl) (λ s. refl) (λ s. refl) (λ s. refl) _ _ _ _ through.4 in
     let size : pieces (length c.args.middle.now.mapping.outs) c.args.count c.pass_around.new.output ≡ pieces c.in-Vol.last.mapping.channels c.args.count c.pass_around.new.output = ap (λ n. pieces n c.args.count c.pass_around.new.output) (sym width) in
     rw c.in-Vol.is (through.0, through.1, through.2, middle, rw size at last)
 
@@ -41,7 +41,7 @@ pub returns-in-DcShift-clause-through : goal.returns-in-DcShift-clause-through
 returns-in-DcShift-clause-through g c =
     let through = c.pass_around-in-DcShift.ensures.through in
     let width : c.in-DcShift.last.mapping.channels ≡ length c.args.middle.now.mapping.outs = rw c.in-DcShift.is at c.requires.last_channels in
-    let middle = EachThrough-along mix_acts effect_acts stages.Remix Remixes (λ s. refl) (λ r. refl) (λ s. refl) (λ s. refl) (λ s. refl) (λ s. refl) _ _ _ _ through.3 in
-    let last = EachThrough-along (sample_acts shifted_sample) effect_acts stages.DcShift Shifts (λ s. refl) (λ r. refl) (λ s. refl) (λ s. refl) (λ s. refl) (λ s. refl) _ _ _ _ through.4 in
+    let middle = EachThrough-along mix_acts effect_acts stages.Remix ForRemix (λ s. refl) (λ r. refl) (λ s. refl) (λ s. refl) (λ s. refl) (λ s. refl) _ _ _ _ through.3 in
+    let last = EachThrough-along (sample_acts shifted_sample) effect_acts stages.DcShift ForDcShift (λ s. refl) (λ r. refl) (λ s. refl) (λ s. refl) (λ s. refl) (λ s. refl) _ _ _ _ through.4 in
     let size : pieces (length c.args.middle.now.mapping.outs) c.args.count c.pass_around-in-DcShift.new.output ≡ pieces c.in-DcShift.last.mapping.channels c.args.count c.pass_around-in-DcShift.new.output = ap (λ n. pieces n c.args.count c.pass_around-in-DcShift.new.output) (sym width) in
     rw c.in-DcShift.is (through.0, through.1, through.2, middle, rw size at last)

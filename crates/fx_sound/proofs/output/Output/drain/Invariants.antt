@@ -1,11 +1,11 @@
 use Rattle.std.proofs.Common.{◌≡◌, length}
-use Rattle.fx_sound.specs.Output.{SendsOn, total}
+use Rattle.fx_sound.specs.Output.{SendsOn, bytes_put}
 use Rattle.fx_sound.proofs.output.Output.drain.Given as goal
 
 abbrev pub invariant-loop-self : goal.invariant-loop-self
 invariant-loop-self g l = record {
   sent : SendsOn (g.W.ByteOut.writes.taken l.initial.writer) (g.W.ByteOut.writes.taken l.writer) l.initial.self l.self;
-  count : total l.self ≡ total l.initial.self;
+  count : bytes_put l.self ≡ bytes_put l.initial.self;
   failures : g.W.ByteOut.writes.failures l.writer ≡ g.W.ByteOut.writes.failures l.initial.writer;
 }
 

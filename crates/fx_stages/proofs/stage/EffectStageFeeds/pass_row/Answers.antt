@@ -8,7 +8,7 @@ use Rattle.fx_frame.proofs.RowLaws.{EachThrough-along, RowThrough-none}
 use Rattle.fx_tap.specs.DcShift.{shifted_sample}
 use Rattle.fx_tap.specs.PerSample.{sample_acts}
 use Rattle.fx_tap.specs.Vol.{scaled_sample}
-use Rattle.fx_stages.specs.Effects.{effect_acts, Scales, Shifts}
+use Rattle.fx_stages.specs.Effects.{effect_acts, ForVol, ForDcShift}
 use Rattle.fx_stages.specs.declared.stage.EffectStage.TheVariants as stages
 use Rattle.fx_stages.proofs.RowParts.{few-more, first-channels, first-ready, hand-none, last-ready, outputs-behind, outputs-last, row-behind, row-beside, row-last, same-pieces, same-size}
 use Rattle.fx_stages.proofs.stage.EffectStageFeeds.pass_row.Goals as goal
@@ -263,7 +263,7 @@ returns-in-Vol c =
     let outs : pieces f.mapping.channels n c.pass_behind.new.output ≡ pieces c.args.outputs n c.pass_behind.new.output =
     same-pieces n f.mapping.channels c.args.outputs c.pass_behind.new.output (λ some. sym (last ∙ c.pass_behind.ensures.keeps some)) in
     let through = c.pass_behind.ensures.through in
-    let first = EachThrough-along (sample_acts scaled_sample) effect_acts stages.Vol Scales (λ s. refl) (λ r. refl) (λ s. refl) (λ s. refl) (λ s. refl) (λ s. refl) _ _ _ _ through.1 in
+    let first = EachThrough-along (sample_acts scaled_sample) effect_acts stages.Vol ForVol (λ s. refl) (λ r. refl) (λ s. refl) (λ s. refl) (λ s. refl) (λ s. refl) _ _ _ _ through.1 in
     let behind : n * f.mapping.channels ≡ n * c.args.outputs = same-size n _ _ (λ some. sym (last ∙ c.pass_behind.ensures.keeps some)) in
     record {
       few = c.pass_behind.ensures.few;
@@ -291,7 +291,7 @@ returns-in-DcShift c =
     let outs : pieces f.mapping.channels n c.pass_behind-in-DcShift.new.output ≡ pieces c.args.outputs n c.pass_behind-in-DcShift.new.output =
     same-pieces n f.mapping.channels c.args.outputs c.pass_behind-in-DcShift.new.output (λ some. sym (last ∙ c.pass_behind-in-DcShift.ensures.keeps some)) in
     let through = c.pass_behind-in-DcShift.ensures.through in
-    let first = EachThrough-along (sample_acts shifted_sample) effect_acts stages.DcShift Shifts (λ s. refl) (λ r. refl) (λ s. refl) (λ s. refl) (λ s. refl) (λ s. refl) _ _ _ _ through.1 in
+    let first = EachThrough-along (sample_acts shifted_sample) effect_acts stages.DcShift ForDcShift (λ s. refl) (λ r. refl) (λ s. refl) (λ s. refl) (λ s. refl) (λ s. refl) _ _ _ _ through.1 in
     let behind : n * f.mapping.channels ≡ n * c.args.outputs = same-size n _ _ (λ some. sym (last ∙ c.pass_behind-in-DcShift.ensures.keeps some)) in
     record {
       few = c.pass_behind-in-DcShift.ensures.few;
@@ -323,7 +323,7 @@ returns-in-Vol-front c =
     let ins : pieces f.mapping.channels n c.args.input.now ≡ pieces c.args.channels n c.args.input.now = ap (λ size. pieces size n c.args.input.now) (sym width) in
     let outs : pieces (kind effect_acts (slice_index_or back 0 k)).outputs n c.pass_remixed.new.output ≡ pieces c.args.outputs n c.pass_remixed.new.output = ap (λ size. pieces size n c.pass_remixed.new.output) (sym last) in
     let through = c.pass_remixed.ensures.through in
-    let first = EachThrough-along (sample_acts scaled_sample) effect_acts stages.Vol Scales (λ s. refl) (λ r. refl) (λ s. refl) (λ s. refl) (λ s. refl) (λ s. refl) _ _ _ _ through.2 in
+    let first = EachThrough-along (sample_acts scaled_sample) effect_acts stages.Vol ForVol (λ s. refl) (λ r. refl) (λ s. refl) (λ s. refl) (λ s. refl) (λ s. refl) _ _ _ _ through.2 in
     let behind : n * (kind effect_acts (slice_index_or back 0 k)).outputs ≡ n * c.args.outputs = ap (λ size. n * size) (sym last) in
     record {
       few = c.pass_remixed.ensures.few;
@@ -356,7 +356,7 @@ returns-in-DcShift-front c =
     let ins : pieces f.mapping.channels n c.args.input.now ≡ pieces c.args.channels n c.args.input.now = ap (λ size. pieces size n c.args.input.now) (sym width) in
     let outs : pieces (kind effect_acts (slice_index_or back 0 k)).outputs n c.pass_remixed-in-DcShift-front.new.output ≡ pieces c.args.outputs n c.pass_remixed-in-DcShift-front.new.output = ap (λ size. pieces size n c.pass_remixed-in-DcShift-front.new.output) (sym last) in
     let through = c.pass_remixed-in-DcShift-front.ensures.through in
-    let first = EachThrough-along (sample_acts shifted_sample) effect_acts stages.DcShift Shifts (λ s. refl) (λ r. refl) (λ s. refl) (λ s. refl) (λ s. refl) (λ s. refl) _ _ _ _ through.2 in
+    let first = EachThrough-along (sample_acts shifted_sample) effect_acts stages.DcShift ForDcShift (λ s. refl) (λ r. refl) (λ s. refl) (λ s. refl) (λ s. refl) (λ s. refl) _ _ _ _ through.2 in
     let behind : n * (kind effect_acts (slice_index_or back 0 k)).outputs ≡ n * c.args.outputs = ap (λ size. n * size) (sym last) in
     record {
       few = c.pass_remixed-in-DcShift-front.ensures.few;

@@ -30,7 +30,7 @@ pub struct Format {
 
 /// What a head says, and where the sound behind it begins.
 #[derive(Clone, Copy, Debug, PartialEq, Eq)]
-pub struct Layout {
+pub struct HeadFields {
     /// The frames.
     pub format: Format,
     /// The announced bytes of sound; None where the size is unknown.

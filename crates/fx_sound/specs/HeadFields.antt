@@ -3,7 +3,7 @@ use Rattle.std.specs.Prelude.{◌<◌, ◌≤◌, Bool, true, false, IsTrue, Res
 use Rattle.fx_sound.specs.declared.head.Kind.{Kind}
 use Rattle.fx_sound.specs.declared.head.HeadFault.{HeadFault}
 use Rattle.fx_sound.specs.declared.head.HeadFault.TheVariants.{ReadFailed, UnknownType, Truncated, BadHeader, NotInProfile, TooManyChannels, HeadTooLong}
-use Rattle.fx_sound.specs.declared.layout.Format.{Format}
+use Rattle.fx_sound.specs.declared.fields.Format.{Format}
 use Rattle.fx_sound.specs.Kind.{is_coding_of}
 
 -- a rate of at least 1, 1 to 16 channels, and a coding of the kind
