@@ -4,7 +4,7 @@ use Rattle.std.specs.Prelude.{nat_eq, option_to_list, slice_index_or}
 use Rattle.fx_fixed.specs.Extents.{sum_of_delays}
 use Rattle.fx_frame.specs.Frame.{Samples}
 use Rattle.fx_frame.specs.Line.{Frames}
-use Rattle.fx_frame.specs.Stage.{Freezes, numbers_of}
+use Rattle.fx_frame.specs.Stage.{Freezes}
 use Rattle.fx_tap.specs.Echo.{EchoArguments}
 use Rattle.fx_tap.specs.Echos.{EchosState, IsEchos, echos_acts, frames_of}
 use Rattle.fx_tap.specs.EchosStored.{IsRowStored}

@@ -1,8 +1,8 @@
 -- What a stage that maps each frame alone counted, where it froze.
-use Rattle.std.proofs.Common.{ℕ, ◌≡◌, ◌+◌, ◌*◌, ◌≤◌, Option, Some, None, List, length, refl, sym, ap, ◌∙◌, arith}
+use Rattle.std.proofs.Common.{ℕ, ◌≡◌, ◌+◌, ◌*◌, ◌≤◌, Option, Some, None, List, length, refl, sym, ap, ◌∙◌}
 use Rattle.std.specs.Prelude.{nat_eq, option_to_list, slice_index_or}
 use Rattle.fx_frame.specs.Frame.{Samples}
-use Rattle.fx_frame.specs.Stage.{Freezes, Given, numbers_of}
+use Rattle.fx_frame.specs.Stage.{Freezes, Given}
 use Rattle.fx_tap.specs.Mapped.{IsMapState, MapState, map_acts, most_taken}
 use Rattle.fx_tap.proofs.Counts.{flag-le, flag-of, flag-true}
 

@@ -1,4 +1,3 @@
-use Rattle.std.proofs.Common.{◌≤◌, ◌^◌, pos, unsigned_abs, slice_index_or}
 use Rattle.fx_tap.proofs.SumLaws.{filled-up}
 use Rattle.fx_tap.proofs.echos.add_gone.Goals as goal
 
