@@ -1,4 +1,5 @@
 use Rattle.std.proofs.Common.{rules, arith, ◌≡◌, ◌+◌, ◌<◌, ◌∙◌, FitsSigned, ap, get_or, length, ℕ, Bool, to_z, of_z, List}
+use Rattle.std.proofs.lemmas.Grind.{common_steps}
 use Rattle.std.specs.Prelude.{ℤ, pos}
 use Rattle.std.specs.Int.{w32}
 use Rattle.std.proofs.lemmas.List.Elements.{All-more}
@@ -28,3 +29,24 @@ samples-preserved g c =
       second_few = omega (arith, c.from-second_clips.ensures, byte-le c.round-sample.result.1, c.samples.invariant.second_few);
       fits = All-more (FitsSigned w32) xs k (pos 0) h c.samples.invariant.fits fits;
     }
+
+pub overflow_add-first_clips : goal.overflow_add-first_clips
+overflow_add-first_clips g c = grind (arith, common_steps)
+
+pub overflow_add-second_clips : goal.overflow_add-second_clips
+overflow_add-second_clips g c = grind (arith, common_steps)
+
+pub returns-clause-samples : goal.returns-clause-samples
+returns-clause-samples g c = grind (arith, common_steps)
+
+pub returns-clause-first : goal.returns-clause-first
+returns-clause-first g c = grind (arith, common_steps)
+
+pub returns-clause-second : goal.returns-clause-second
+returns-clause-second g c = grind (arith, common_steps)
+
+pub returns-clause-few : goal.returns-clause-few
+returns-clause-few g c = grind (arith, common_steps)
+
+pub returns-clause-fits : goal.returns-clause-fits
+returns-clause-fits g c = grind (arith, common_steps)

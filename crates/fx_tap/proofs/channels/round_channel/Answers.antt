@@ -1,4 +1,5 @@
 use Rattle.std.proofs.Common.{rules, ◌≡◌, ◌+◌, ◌<◌, ◌∙◌, ap, ℕ, ℤ, pos, Bool, length, arith, slice_index_or, add-one, to_z, of_z, w32}
+use Rattle.std.proofs.lemmas.Grind.{common_steps}
 use Rattle.std.proofs.Math.Nat.{suc-mul}
 use Rattle.fx_fixed.specs.Rounding.{rounding}
 use Rattle.fx_frame.proofs.ChannelPlaces.{others-stay, put-more, within-frames}
@@ -24,3 +25,24 @@ frames-preserved c =
       counted = ap (λ n. c.frames.clips + n) (c.from-clips.ensures ∙ byte_is c.round-sample.result.1) ∙ clips_of-next f k c.frames.clips c.round-sample.result.1 old.counted (ap (λ r. r.1) v);
       few = omega (arith, c.from-clips.ensures, one, old.few);
     }
+
+pub overflow_add-clips : goal.overflow_add-clips
+overflow_add-clips c = grind (arith, common_steps)
+
+pub overflow_add-at : goal.overflow_add-at
+overflow_add-at c = grind (arith, common_steps)
+
+pub bounds-out-at : goal.bounds-out-at
+bounds-out-at c = grind (arith, common_steps)
+
+pub returns-clause-put : goal.returns-clause-put
+returns-clause-put c = grind (arith, common_steps)
+
+pub returns-clause-others : goal.returns-clause-others
+returns-clause-others c = grind (arith, common_steps)
+
+pub returns-clause-clips : goal.returns-clause-clips
+returns-clause-clips c = grind (arith, common_steps)
+
+pub returns-clause-few : goal.returns-clause-few
+returns-clause-few c = grind (arith, common_steps)

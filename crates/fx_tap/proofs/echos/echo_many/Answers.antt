@@ -1,4 +1,5 @@
 use Rattle.std.proofs.Common.{append_assoc, ◌≡◌, ◌+◌, ◌-◌, ◌*◌, ◌≤◌, ◌<◌, ◌^◌, ℕ, pos, List, ◌++◌, length, map, take, drop, sym, refl, ap, ◌∙◌, arith}
+use Rattle.std.proofs.lemmas.Grind.{common_steps}
 use Rattle.std.specs.Prelude.{ℤ}
 use Rattle.std.proofs.lemmas.List.{drop-drop, length-drop, length-take-le, map-append}
 use Rattle.std.proofs.Math.Nat.{add-mul, mul-le-mul_left, mul-le-mul_right}
@@ -98,3 +99,24 @@ pub returns-clause-sound : goal.returns-clause-sound
 returns-clause-sound c came h j lt =
     let all : c.pieces.done ≡ c.args.count = omega arith in
     rw all at c.pieces.invariant.sound came h j lt
+
+pub overflow_add-clips : goal.overflow_add-clips
+overflow_add-clips c = grind (arith, common_steps)
+
+pub overflow_add-done : goal.overflow_add-done
+overflow_add-done c = grind (arith, common_steps)
+
+pub returns-clause-frames : goal.returns-clause-frames
+returns-clause-frames c = grind (arith, common_steps)
+
+pub returns-clause-clips : goal.returns-clause-clips
+returns-clause-clips c = grind (arith, common_steps)
+
+pub returns-clause-few : goal.returns-clause-few
+returns-clause-few c = grind (arith, common_steps)
+
+pub returns-clause-behind : goal.returns-clause-behind
+returns-clause-behind c = grind (arith, common_steps)
+
+pub returns-clause-lines : goal.returns-clause-lines
+returns-clause-lines c = grind (arith, common_steps)

@@ -1,4 +1,5 @@
 use Rattle.std.proofs.Common.{◌≡◌, ◌≤◌, ◌++◌, ◌∷◌, [], ◌∙◌, inr, ℕ, ℤ, List, length, get_or, min, take, drop, pos, refl, sym, ap, arith}
+use Rattle.std.proofs.lemmas.Grind.{common_steps}
 use Rattle.std.proofs.Math.Logic.{⊎_map}
 use Rattle.std.proofs.lemmas.List.{length-append}
 use Rattle.std.proofs.lemmas.List.Elements.{All-get_or}
@@ -7,6 +8,7 @@ use Rattle.fx_frame.specs.Frame.{Samples}
 use Rattle.fx_frame.specs.Frozen.{line_of}
 use Rattle.fx_frame.specs.Line.{Frames}
 use Rattle.fx_tap.specs.Echos.{IsEchoLine, delay_at, line_at}
+use Rattle.fx_tap.proofs.EchosLaws.{late-each}
 use Rattle.fx_tap.proofs.EchosStored.{cut-on, delay-is, held_at, next-line, row-pushed, thawed-sound}
 use Rattle.fx_tap.proofs.rows.thawed_row.Goals as goal
 
@@ -66,3 +68,17 @@ echoes-preserved c =
           let next = next-line channels came echoes lines rest place row c.echoes-test.true before.1 in
           (next.more ∙ ap (λ a. a ++ line_at lines place ∷ []) before.0 ∙ ap (λ k. ls ++ k ∷ []) (next.is_line ∙ sym found), next.left);
     }
+
+pub thawed_row_line-requires-clause-delay : goal.thawed_row_line-requires-clause-delay
+thawed_row_line-requires-clause-delay c =
+    let most = late-each c.args.echoes.now c.echoes.place c.index-echoes-place.result c.echoes-test.true in
+    omega (arith, most, c.requires.lines)
+
+pub returns-then-not-is_empty-clause-refused : goal.returns-then-not-is_empty-clause-refused
+returns-then-not-is_empty-clause-refused c = grind (arith, common_steps)
+
+pub returns-clause-stored : goal.returns-clause-stored
+returns-clause-stored c = grind (arith, common_steps)
+
+pub returns-clause-only : goal.returns-clause-only
+returns-clause-only c = grind (arith, common_steps)

@@ -2,6 +2,7 @@ use Rattle.std.proofs.Common.{rules, ◌≡◌, ◌<◌, ◌≤◌, ◌^◌, ◌
 use Rattle.std.specs.Int.{w32, w64}
 use Rattle.std.proofs.lemmas.Int.{fits_signed_from_abs}
 use Rattle.std.proofs.lemmas.List.{get_or-set_other}
+use Rattle.fx_tap.proofs.Fitting.{wide-fits}
 use Rattle.fx_tap.proofs.SmallSums.{held-in-64, plain-wide-sum, wide-few}
 use Rattle.fx_tap.proofs.SumLaws.{added-few, added-more, few-at-more}
 use Rattle.fx_tap.proofs.sums.add_wide_products.Goals as goal
@@ -42,3 +43,8 @@ loop-place-preserved c =
       few = few-at-more old sums i (2 ^ 58) z in_range (rw first (added-few (slice_index_or old i (pos 0)) (c.args.weight *ℤ x) _ _ (omega arith) product)) c.loop-place.invariant.few;
       left = λ k l. get_or-set_other sums i k z (pos 0) (λ e. omega arith) ∙ c.loop-place.invariant.left k (omega arith);
     }
+
+pub overflow_mul-sums : goal.overflow_mul-sums
+overflow_mul-sums c =
+    let f : c.from-factor.result ≡ c.args.weight = search rules in
+    wide-fits c.args.weight (slice_index_or c.args.samples.now c.loop-place.place (pos 0)) c.from-factor.result f c.requires.weight (c.requires.samples c.loop-place.place)

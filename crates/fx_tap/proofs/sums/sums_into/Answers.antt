@@ -1,6 +1,7 @@
 use Rattle.std.proofs.Common.{rules, arith, ◌≡◌, ◌≤◌, ◌+◌, ◌^◌, ◌∙◌, ap, ℕ, ℤ, pos, ◌*ℤ◌, Bool, to_z, of_z, w32, ◌*◌, slice_index_or, unsigned_abs}
 use Rattle.fx_fixed.specs.Rounding.{rounding}
 use Rattle.fx_fixed.specs.declared.gains.TheConstants.{UNIT}
+use Rattle.fx_tap.proofs.Fitting.{scaled-fits}
 use Rattle.fx_tap.proofs.Rounds.{samples_of-next, clips_of-next, byte_is, byte-le}
 use Rattle.fx_tap.proofs.SumLaws.{scaled-sum, scaled-low, scaled-high}
 use Rattle.fx_tap.proofs.sums.sums_into.Goals as goal
@@ -38,3 +39,12 @@ round_clip-sample-requires-clause-high c =
     let small : unsigned_abs c.args.gain ≤ 1000 * UNIT = rw c.trillionths.ensures.value at c.trillionths.ensures.bound in
     let few : unsigned_abs s ≤ 29 * (UNIT * 2 ^ 31) = c.requires.small c.loop-channel.channel in
     rw (scaled-sum c.args.gain s c.from-factor.result gain small few) (scaled-high c.args.gain s small few)
+
+pub overflow_mul-factor : goal.overflow_mul-factor
+overflow_mul-factor c =
+    let gain : c.from-factor.result ≡ c.args.gain = c.from-factor.ensures ∙ search rules ∙ c.trillionths.ensures.value in
+    let small : unsigned_abs c.args.gain ≤ 1000 * UNIT = rw c.trillionths.ensures.value at c.trillionths.ensures.bound in
+    scaled-fits c.args.gain (slice_index_or c.args.sums.now c.loop-channel.channel (pos 0)) c.from-factor.result gain small (c.requires.small c.loop-channel.channel)
+
+pub overflow_add-clips : goal.overflow_add-clips
+overflow_add-clips c = omega (arith, c.from-clips.ensures, byte-le c.round_clip-sample.result.1, c.loop-channel.invariant.few)

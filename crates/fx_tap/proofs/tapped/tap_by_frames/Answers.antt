@@ -1,4 +1,5 @@
 use Rattle.std.proofs.Common.{rules, append_assoc, ◌≡◌, ◌+◌, ◌-◌, ◌*◌, ◌≤◌, ℕ, List, [], ◌∷◌, ◌++◌, length, take, drop, sym, refl, ap, ◌∙◌, arith, add-one, suc}
+use Rattle.std.proofs.lemmas.Grind.{common_steps}
 use Rattle.std.specs.Prelude.{ℤ}
 use Rattle.std.proofs.lemmas.List.{drop-drop}
 use Rattle.std.proofs.Math.Nat.{suc-mul, mul-le-mul_right}
@@ -75,3 +76,6 @@ frames-preserved g c =
       line_capacity = c.push_samples.ensures.capacity ∙ old.line_capacity;
       line_channels = c.push_samples.ensures.channels ∙ old.line_channels;
     }
+
+pub overflow_add-clips : goal.overflow_add-clips
+overflow_add-clips g c = grind (arith, common_steps)

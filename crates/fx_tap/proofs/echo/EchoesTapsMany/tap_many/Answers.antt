@@ -1,4 +1,5 @@
 use Rattle.std.proofs.Common.{append_assoc, ◌≡◌, ◌+◌, ◌-◌, ◌*◌, ◌≤◌, ℕ, List, ◌++◌, length, take, drop, sym, refl, ap, ◌∙◌, arith, map}
+use Rattle.std.proofs.lemmas.Grind.{common_steps}
 use Rattle.std.specs.Prelude.{ℤ}
 use Rattle.std.proofs.lemmas.List.{drop-drop, length-drop, length-take-le}
 use Rattle.std.proofs.Math.Nat.{add-mul, mul-le-mul_left, mul-le-mul_right}
@@ -81,3 +82,12 @@ pieces-preserved c =
       line_capacity = c.push_frames.ensures.capacity ∙ old.line_capacity;
       line_channels = c.push_frames.ensures.channels ∙ old.line_channels;
     }
+
+pub tap_piece-clips-requires-clause-sounds : goal.tap_piece-clips-requires-clause-sounds
+tap_piece-clips-requires-clause-sounds c = grind (arith, common_steps)
+
+pub tap_piece-clips-requires-clause-late : goal.tap_piece-clips-requires-clause-late
+tap_piece-clips-requires-clause-late c = grind (arith, common_steps)
+
+pub overflow_add-clips : goal.overflow_add-clips
+overflow_add-clips c = grind (arith, common_steps)

@@ -1,4 +1,5 @@
 use Rattle.std.proofs.Common.{◌≡◌, ◌+◌, ◌≤◌, ◌∙◌, List, ℤ, false, length, refl, reverse, arith}
+use Rattle.std.proofs.lemmas.Grind.{common_steps}
 use Rattle.std.specs.Prelude.{None}
 use Rattle.std.proofs.lemmas.List.{length-reverse, take_all}
 use Rattle.fx_tap.specs.Fir.{centre}
@@ -29,3 +30,30 @@ returns-clause-passed c =
     rw (← c.self.view_is)
     (frame-passed (record { channels = s.channels; backwards = s.kernel; line = s.line; hand = s.hand; hand_clips = s.hand_clips; tail = s.tail; taken = s.taken; given = s.given; clips = s.clips; ended = s.ended }) c.push-2.new.self xs c.filtered_into-clips.new.out c.filtered_into-clips.result
     none zero quiet over even places is.line.within due made.frame made.clips pushed.items pushed.capacity pushed.channels)
+
+pub filtered_into-clips-requires-clause-channels : goal.filtered_into-clips-requires-clause-channels
+filtered_into-clips-requires-clause-channels c = grind (arith, common_steps)
+
+pub filtered_into-clips-requires-clause-some : goal.filtered_into-clips-requires-clause-some
+filtered_into-clips-requires-clause-some c = grind (arith, common_steps)
+
+pub filtered_into-clips-requires-clause-latest : goal.filtered_into-clips-requires-clause-latest
+filtered_into-clips-requires-clause-latest c = grind (arith, common_steps)
+
+pub filtered_into-clips-requires-clause-fits : goal.filtered_into-clips-requires-clause-fits
+filtered_into-clips-requires-clause-fits c = grind (arith, common_steps)
+
+pub filtered_into-clips-requires-clause-place : goal.filtered_into-clips-requires-clause-place
+filtered_into-clips-requires-clause-place c = grind (arith, common_steps)
+
+pub filtered_into-clips-requires-clause-room : goal.filtered_into-clips-requires-clause-room
+filtered_into-clips-requires-clause-room c = grind (arith, common_steps)
+
+pub filtered_into-clips-requires-clause-end : goal.filtered_into-clips-requires-clause-end
+filtered_into-clips-requires-clause-end c = grind (arith, common_steps)
+
+pub filtered_into-clips-requires-clause-start : goal.filtered_into-clips-requires-clause-start
+filtered_into-clips-requires-clause-start c = grind (arith, common_steps)
+
+pub filtered_into-clips-requires-clause-out : goal.filtered_into-clips-requires-clause-out
+filtered_into-clips-requires-clause-out c = grind (arith, common_steps)
