@@ -88,7 +88,7 @@ named_act names.Fir layout file words = Some (OfFir (coefficients file words))
 named_act names.Remix layout file words = Some (OfRemix (remixed layout.channels words))
 named_act names.Upsample layout file words = Some (OfUpsample (usable (factor_of words)))
 named_act names.Downsample layout file words = Some (OfDownsample (usable (factor_of words)))
-named_act other layout file words = None
+named_act name layout file words = None
 
 -- the same of an effect's words, its name being the first
 abbrev pub effect_faults : Layout → List ℕ → List Word → List Mark
