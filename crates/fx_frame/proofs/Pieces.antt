@@ -176,6 +176,15 @@ module _ {X : Type 0} where
         let n-f : length f ≡ channels = e-f ∙ sym (ap (λ v. v.channels) is-l) in
         rw (← is-l) (pushed_out-is channels len capacity samples.items f r.filled n-f)
 
+    -- where all samples have come, all frames have
+    pub ring-full : length samples.items ≡ samples.capacity → len ≡ min (len + 1) capacity
+    ring-full e = elim (cases_lt len capacity) [
+      | inl h ↦
+          let bigger : suc len * channels ≤ capacity * channels = mul-le-mul_right channels (omega arith) in
+          absurd (omega (arith, r.some, r.filled, r.room, e, bigger, suc-mul len channels))
+      | inr h ↦ omega (arith, r.within)
+    ]
+
     room-at : nat_lt (length samples.items) samples.capacity ≡ nat_lt len capacity
     room-at = rw (r.filled, r.room) (lt-scaled channels len capacity r.some)
 

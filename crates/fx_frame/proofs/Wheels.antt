@@ -1,6 +1,7 @@
 -- The latest items in the places of one vector.
-use Rattle.std.proofs.Common.{◌≡◌, ◌+◌, ◌-◌, ◌<◌, ◌≤◌, inl, inr, set, ℕ, suc, List, [], ◌∷◌, ◌++◌, length, take, drop, refl, sym, ap, ◌∙◌, arith, length-append, length-drop, length-set, append_assoc, append-nil}
-use Rattle.std.proofs.lemmas.List.{take_all, take_at, drop_at, drop-append-le, drop_all, drop-drop, length-take-le, set_split}
+use Rattle.std.proofs.Common.{◌≡◌, ◌+◌, ◌-◌, ◌<◌, ◌≤◌, inl, inr, set, get_or, slice_get, Some, ℕ, suc, List, [], ◌∷◌, ◌++◌, length, take, drop, refl, sym, ap, ◌∙◌, arith, length-append, length-drop, length-set, append_assoc, append-nil}
+use Rattle.std.proofs.lemmas.Option.{slice_get-get_or}
+use Rattle.std.proofs.lemmas.List.{get_or_append_left, get_or-drop, take_all, take_at, drop_at, drop-append-le, drop_all, drop-drop, length-take-le, set_split}
 use Rattle.std.proofs.Math.Seq.{drop-append-add}
 use Rattle.std.proofs.lemmas.Bool.{cases_lt}
 use Rattle.fx_frame.proofs.Pieces.{keep-twice}
@@ -8,7 +9,7 @@ use Rattle.fx_frame.specs.Ring.{Buffer, IsWheel, buffer, keep_last, turned}
 use borrow.Rule.Slice.PartMut.{put_mid}
 
 module _ {X : Type 0} where
-  length-turned : (start wrapped : ℕ) (xs : List X) → start ≤ length xs → wrapped ≤ length xs → length (turned start wrapped xs) + start ≡ length xs + wrapped
+  pub length-turned : (start wrapped : ℕ) (xs : List X) → start ≤ length xs → wrapped ≤ length xs → length (turned start wrapped xs) + start ≡ length xs + wrapped
   length-turned start wrapped xs lo hi = omega (arith, length-append (drop start xs) (take wrapped xs), length-drop start xs, length-take-le wrapped xs hi)
 
   -- items written behind those in front push the oldest on
@@ -128,3 +129,12 @@ module _ {X : Type 0} where
   pub no-items : (xs : List X) → length xs ≡ 0 → xs ≡ []
   no-items [] e = refl
   no-items (x ∷ xs) e = absurd (omega arith)
+
+  -- the first of them stands where they start
+  pub first-turned : (start wrapped : ℕ) (xs ys : List X) (x : X) → start < length xs → x ≡ get_or xs start x → Some x ≡ slice_get (turned start wrapped xs ++ ys) 0
+  first-turned start wrapped xs ys x lt e =
+      let some : 0 < length (drop start xs) = omega (arith, length-drop start xs) in
+      let more : 0 < length (turned start wrapped xs) = omega (arith, some, length-append (drop start xs) (take wrapped xs)) in
+      let all : 0 < length (turned start wrapped xs ++ ys) = omega (arith, more, length-append (turned start wrapped xs) ys) in
+      let same : start + 0 ≡ start = omega arith in
+      ap Some (e ∙ sym (get_or_append_left (turned start wrapped xs) ys x 0 more ∙ get_or_append_left (drop start xs) (take wrapped xs) x 0 some ∙ get_or-drop start xs 0 x ∙ ap (λ n. get_or xs n x) same)) ∙ sym (slice_get-get_or (turned start wrapped xs ++ ys) 0 x all)

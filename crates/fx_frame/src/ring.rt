@@ -84,6 +84,21 @@ impl<T: Copy> Ring<T> {
         ensures channels { self.new.channels ≡ self.old.channels }
         ensures oldest { option_map (λ x. x ∷ []) result ≡ pushed_out self.old (sample ∷ []) }
     {
+        if let Some(oldest) = self.samples.replace(sample) {
+            return Some(oldest);
+        }
+        self.push_one_more(sample)
+    }
+
+    /// The same, as long as there is room.
+    #[inline(never)]
+    fn push_one_more(&mut self, sample: T) -> Option<T>
+        requires { self.old.channels ≡ 1 }
+        ensures items { self.new.items ≡ pushed self.old (sample ∷ []) }
+        ensures capacity { self.new.capacity ≡ self.old.capacity }
+        ensures channels { self.new.channels ≡ self.old.channels }
+        ensures oldest { option_map (λ x. x ∷ []) result ≡ pushed_out self.old (sample ∷ []) }
+    {
         self.len = (self.len + 1).min(self.capacity);
         self.samples.push_back(sample)
     }
@@ -91,6 +106,24 @@ impl<T: Copy> Ring<T> {
     /// Adds a frame of two samples. The oldest goes where there is no room.
     #[inline(always)]
     pub(crate) fn push_two(&mut self, first: T, second: T) -> Option<(T, T)>
+        requires { self.old.channels ≡ 2 }
+        ensures items { self.new.items ≡ pushed self.old (first ∷ second ∷ []) }
+        ensures capacity { self.new.capacity ≡ self.old.capacity }
+        ensures channels { self.new.channels ≡ self.old.channels }
+        ensures oldest { option_map (λ p. p.0 ∷ p.1 ∷ []) result ≡ pushed_out self.old (first ∷ second ∷ []) }
+    {
+        if let Some(first_out) = self.samples.replace(first) {
+            match self.samples.replace(second) {
+                Some(second_out) => return Some((first_out, second_out)),
+                None => unreachable!(),
+            }
+        }
+        self.push_two_more(first, second)
+    }
+
+    /// The same, as long as there is room.
+    #[inline(never)]
+    fn push_two_more(&mut self, first: T, second: T) -> Option<(T, T)>
         requires { self.old.channels ≡ 2 }
         ensures items { self.new.items ≡ pushed self.old (first ∷ second ∷ []) }
         ensures capacity { self.new.capacity ≡ self.old.capacity }

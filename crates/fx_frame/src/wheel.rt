@@ -1,5 +1,5 @@
 //! The latest samples, up to a capacity, in the places of one vector.
-ghost use Rattle.std.specs.Prelude.{◌≡◌, ◌<◌, ◌≤◌, ◌+◌, ◌^◌, ◌++◌, ◌∷◌, [], ℕ, length, nat_lt, option_copied, slice_get, IfOk, None, if◌then◌else◌};
+ghost use Rattle.std.specs.Prelude.{◌≡◌, ◌<◌, ◌≤◌, ◌+◌, ◌^◌, ◌++◌, ◌∷◌, [], ℕ, length, nat_lt, option_copied, slice_get, IfOk, MatchOption, None, Some, if◌then◌else◌};
 ghost use Rattle.std.specs.Vec.{vec_capacity, vec_len};
 ghost use Rattle.fx_frame.specs.Ring.{buffer, keep_last, turned};
 
@@ -49,19 +49,32 @@ impl<T: Copy> Wheel<T> {
         ensures items { self.new ≡ buffer (keep_last self.old.capacity (self.old.items ++ sample ∷ [])) self.old.capacity }
         ensures value { result ≡ (if nat_lt (length self.old.items) self.old.capacity then None else slice_get (self.old.items ++ sample ∷ []) 0) }
     {
-        if self.wrapped == self.start
-            && self.samples.len() == self.capacity
-            && self.start < self.capacity
-        {
-            let oldest = self.samples[self.start];
-            self.samples[self.start] = sample;
-            let next = self.start + 1;
-            let next = if next == self.capacity { 0 } else { next };
-            self.start = next;
-            self.wrapped = next;
+        if let Some(oldest) = self.replace(sample) {
             return Some(oldest);
         }
         self.push_where_room(sample)
+    }
+
+    /// Writes a sample over the oldest, which it answers, where there is no room for one more. None where there is room, or never
+    /// a place, and then nothing changes.
+    #[inline(always)]
+    pub(crate) fn replace(&mut self, sample: T) -> Option<T>
+        ensures { MatchOption result ((self.new ≡ self.old) × (1 ≤ self.old.capacity → length self.old.items + 1 ≤ self.old.capacity)) (λ oldest. (1 ≤ self.old.capacity) × (length self.old.items ≡ self.old.capacity) × (Some oldest ≡ slice_get (self.old.items ++ sample ∷ []) 0) × (self.new ≡ buffer (keep_last self.old.capacity (self.old.items ++ sample ∷ [])) self.old.capacity)) }
+    {
+        let start = self.start;
+        if self.wrapped != start
+            || self.samples.len() < self.capacity
+            || start >= self.samples.len()
+        {
+            return None;
+        }
+        let oldest = self.samples[start];
+        self.samples[start] = sample;
+        let next = start + 1;
+        let next = if next == self.capacity { 0 } else { next };
+        self.start = next;
+        self.wrapped = next;
+        Some(oldest)
     }
 
     /// The same, where there is room, or where there never is.
@@ -102,7 +115,7 @@ impl<T: Copy> Wheel<T> {
         let latest = &other[other.len().saturating_sub(self.capacity)..];
         let room = (self.capacity - self.samples.len()).min(latest.len());
         let (first, rest) = latest.split_at(room);
-        fill(&mut self.samples, first);
+        append(&mut self.samples, first);
         if rest.len() > 0 {
             let (start, wrapped) = overwrite(&mut self.samples, self.start, self.wrapped, rest);
             self.start = start;
@@ -148,7 +161,7 @@ impl<T: Copy> Wheel<T> {
 }
 
 /// Adds samples to a vector that has room for them.
-fn fill<T: Copy>(places: &mut Vec<T>, samples: &[T])
+fn append<T: Copy>(places: &mut Vec<T>, samples: &[T])
     requires room { vec_len places.old + length samples.now ≤ vec_capacity places.old }
     ensures items { places.new.items ≡ places.old.items ++ samples.now }
     ensures capacity { vec_capacity places.old ≤ vec_capacity places.new }

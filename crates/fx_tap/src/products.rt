@@ -78,7 +78,7 @@ fn sum_two(a: i64, b: i64) -> i128
 
 /// The lanes after so many places, added up.
 #[inline(always)]
-fn total(lanes: i64x4, at: usize) -> i128
+fn sum_lanes(lanes: i64x4, at: usize) -> i128
     requires at { at ≤ 256 }
     requires lanes { LanesWithin (at * 2 ^ 54) lanes }
     ensures value { result ≡ lane_sum lanes }
@@ -153,7 +153,7 @@ fn short_dot(samples: &[i32], coefficients: &[i64]) -> i128
         low = add_products(low, x, y_low, at);
         at += 4;
     }
-    let start = join(total(high, at), total(low, at), at);
+    let start = join(sum_lanes(high, at), sum_lanes(low, at), at);
     add_rest(start, samples, coefficients, at)
 }
 

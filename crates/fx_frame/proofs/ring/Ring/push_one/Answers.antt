@@ -1,12 +1,12 @@
-use Rattle.std.proofs.Common.{sym}
-use Rattle.fx_frame.proofs.Pieces.{ring-push, ring-out_one}
+use Rattle.std.proofs.Common.{◌≡◌, length, nat_lt, false, Some, sym, arith}
+use Rattle.fx_frame.proofs.Pieces.{ring-push, ring-full, ring-out_one}
 use Rattle.fx_frame.proofs.ring.Ring.push_one.Goals as goal
 
-pub invariant_of-self : goal.invariant_of-self
-invariant_of-self g c = (ring-push _ _ _ _ _ c.self.view_is c.self.invariant _ _ _ (sym c.requires) c.min-self-inside.ensures c.push_back.ensures.items).0
+pub returns-in-Some-clause-items : goal.returns-in-Some-clause-items
+returns-in-Some-clause-items g c = (ring-push _ _ _ _ _ c.self.view_is c.self.invariant _ _ _ (sym c.requires) (ring-full _ _ _ _ _ c.self.view_is c.self.invariant c.in-Some.ensures.1) c.in-Some.ensures.3).1
 
-pub returns-clause-items : goal.returns-clause-items
-returns-clause-items g c = (ring-push _ _ _ _ _ c.self.view_is c.self.invariant _ _ _ (sym c.requires) c.min-self-inside.ensures c.push_back.ensures.items).1
-
-pub returns-clause-oldest : goal.returns-clause-oldest
-returns-clause-oldest g c = ring-out_one _ _ _ _ _ c.self.view_is c.self.invariant _ c.requires _ c.push_back.ensures.value
+pub returns-in-Some-clause-oldest : goal.returns-in-Some-clause-oldest
+returns-in-Some-clause-oldest g c =
+    let e = c.in-Some.ensures.1 in
+    let full : nat_lt (length c.self.inside.samples.items) c.self.inside.samples.capacity ≡ false = grind arith in
+    ring-out_one _ _ _ _ _ c.self.view_is c.self.invariant _ c.requires (Some c.in-Some.oldest) (rw full c.in-Some.ensures.2)

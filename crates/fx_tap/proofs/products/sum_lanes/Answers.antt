@@ -3,7 +3,7 @@ use Rattle.std.proofs.lemmas.Int.{ints, to_z-of_z}
 use Rattle.std.specs.Prelude.{unsigned_abs}
 use Rattle.fx_tap.specs.Lanes.{lane_sum}
 use Rattle.fx_tap.proofs.ProductBounds.{within_abs}
-use Rattle.fx_tap.proofs.products.total.Goals as goal
+use Rattle.fx_tap.proofs.products.sum_lanes.Goals as goal
 use Rattle.fx_tap.proofs.ProductLanes.{lane_fits, lane_sum-four, lane_sum-within, lanes_back}
 
 pub returns-clause-value : goal.returns-clause-value
