@@ -10,7 +10,8 @@ use Rattle.fx_frame.specs.Io.{ByteReader}
 use Rattle.fx_frame.specs.Stage.{Acts}
 use Rattle.fx_flow.proofs.Feeding.{FlowGave-none}
 use Rattle.fx_flow.specs.Feed.{FlowFed, FlowGave, stepped, taken_in, untouched}
-use Rattle.fx_flow.specs.Parts.{Parts, enough_for, given_by, taken_of}
+use Rattle.fx_flow.specs.Parts.{Parts, given_by, taken_of}
+use Rattle.fx_flow.specs.Composed.{enough_for}
 use Rattle.fx_flow.specs.Steps.{given_out, rest_of, wholes_of}
 use Rattle.fx_sound.proofs.Held.{Takes-turn}
 use Rattle.fx_sound.proofs.Sending.{Sent-put}

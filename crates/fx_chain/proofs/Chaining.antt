@@ -10,7 +10,8 @@ use Rattle.fx_plan.specs.Bounds.{hold_all, is_too_long, line_of, work_of}
 use Rattle.fx_plan.specs.Effects.{Act, Usable}
 use Rattle.fx_plan.proofs.Lasting.{work-bound}
 use Rattle.fx_stages.specs.declared.stage.EffectStage.{EffectStage}
-use Rattle.fx_stages.specs.Effects.{effect_acts, kind_of_recipe}
+use Rattle.fx_stages.specs.Effects.{kind_of_recipe}
+use Rattle.fx_stages.specs.Stages.{effect_acts}
 use Rattle.fx_stages.specs.Made.{all_suit, channels_after, recipes_for}
 use Rattle.fx_stages.proofs.Planned.{hold-for, kinds_for, line-is, matching-for, most-for, within-for, work-for}
 

@@ -8,7 +8,8 @@ use Rattle.fx_frame.specs.Frame.{Samples}
 use Rattle.fx_frame.specs.FrameCoding.{samples_of}
 use Rattle.fx_frame.specs.Holds.{kinds, recipes}
 use Rattle.fx_frame.specs.Stage.{Acts, Kind}
-use Rattle.fx_flow.specs.Parts.{Parts, enough_for, given_by, taken_of, through}
+use Rattle.fx_flow.specs.Parts.{Parts, given_by, taken_of, through}
+use Rattle.fx_flow.specs.Composed.{enough_for}
 use Rattle.fx_flow.specs.Steps.{IsHungry, rest_of, wholes_of}
 use Rattle.fx_sound.specs.Output.{Pending, Sent}
 use Rattle.fx_sound.specs.Container.{after_frames}

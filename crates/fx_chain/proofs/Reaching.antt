@@ -6,7 +6,8 @@ use Rattle.std.specs.Prelude.{sum}
 use Rattle.fx_frame.specs.Frame.{Samples}
 use Rattle.fx_frame.specs.Holds.{kinds, recipes, total}
 use Rattle.fx_frame.specs.Stage.{Acts, Counts, Given}
-use Rattle.fx_flow.specs.Parts.{AllNew, AllSettled, Fed, HandedOver, Joined, Parts, clips_of, frames_of, given_of, moves_of, taken_of}
+use Rattle.fx_flow.specs.Parts.{AllNew, AllSettled, Fed, HandedOver, Joined, Parts, given_of, moves_of, taken_of}
+use Rattle.fx_flow.specs.Composed.{clips_of, frames_of}
 use Rattle.fx_flow.specs.Steps.{IsHungry, MovedOn}
 use Rattle.fx_chain.specs.Due.{clips_in, dues, firsts, meanings}
 use Rattle.fx_chain.specs.Through.{Reached, took, told_end, untouched, stepped}
@@ -135,7 +136,7 @@ module _ {S R : Type 0} (acts : Acts S R) where
   Past-reached first f xs gs (stepped ys hs step g g' r m) running = Past-moved first g g' step ys (λ e. Past-reached first g ys hs r e) m running
 
   -- what new stages gave is the front of what their definitions say
-  After-firsts : (gs : List (List Given)) (ss ts : List S) (y z : List Samples) → AllNew acts ss → After gs ss ts y z → firsts (map (λ s. (acts.counts s).given) ts) (meanings acts (recipes acts ss) y) ≡ gs
+  After-firsts : (gs : List (List Given)) (ss ts : List S) (y z : List Samples) → AllNew acts ss → After gs ss ts y z → firsts (map (λ s. (acts.counts s).given) ts) (meanings acts.meaning (recipes acts ss) y) ≡ gs
   After-firsts [] [] [] y z new a = refl
   After-firsts (g ∷ gs) (s ∷ ss) (t ∷ ts) y z new a =
       let none : (acts.counts s).given ≡ 0 = ap (λ (c : Counts). c.given) new.0.counts in
@@ -154,7 +155,7 @@ module _ {S R : Type 0} (acts : Acts S R) where
   After-clips gs ss ts y z new a = absurd a
 
   Past-clips : (first f : Parts S) (xs : List Samples) → AllNew acts first.stages → first.inlet ≡ None → Past first xs f
-      → map (λ s. (acts.counts s).clips) f.stages ≡ clips_in acts (map (λ s. (acts.counts s).given) f.stages) (recipes acts first.stages) xs
+      → map (λ s. (acts.counts s).clips) f.stages ≡ clips_in acts.meaning (map (λ s. (acts.counts s).given) f.stages) (recipes acts first.stages) xs
   Past-clips first f xs new empty p =
       let came : option_to_list first.inlet ++ (xs ++ []) ≡ xs = ap (λ (o : Option Samples). option_to_list o ++ (xs ++ [])) empty ∙ append-nil xs in
       let all = rw came at (p.all []) in
@@ -162,7 +163,7 @@ module _ {S R : Type 0} (acts : Acts S R) where
 
   -- what the effects of a new flow counted as clipped is what is clipped in the first frames that their definitions give
   pub clips-reached : (first f : Parts S) (xs gs : List Samples) → AllNew acts first.stages → first.inlet ≡ None → Reached acts first xs gs f → f.ended ≡ false
-      → map (λ s. (acts.counts s).clips) f.stages ≡ clips_in acts (map (λ s. (acts.counts s).given) f.stages) (recipes acts first.stages) xs
+      → map (λ s. (acts.counts s).clips) f.stages ≡ clips_in acts.meaning (map (λ s. (acts.counts s).given) f.stages) (recipes acts first.stages) xs
   clips-reached first f xs gs new empty r running =
       Past-clips first f xs new empty (Past-reached first f xs gs r running)
 
@@ -198,7 +199,7 @@ module _ {S R : Type 0} (acts : Acts S R) where
   -- what was clipped by then
   pub clips-stopped : (start at : Parts S) (frames given : List Samples) (n : ℕ) → IsHungry acts start → IsHungry acts at → recipes acts at.stages ≡ recipes acts start.stages → taken_of at ≡ n
       → map (λ s. (acts.counts s).given) at.stages ≡ dues (kinds acts at.stages) (taken_of at) → Reached acts start frames given at → AllNew acts start.stages
-      → map (λ s. (acts.counts s).clips) at.stages ≡ clips_in acts (dues (kinds acts start.stages) n) (recipes acts start.stages) frames
+      → map (λ s. (acts.counts s).clips) at.stages ≡ clips_in acts.meaning (dues (kinds acts start.stages) n) (recipes acts start.stages) frames
   clips-stopped start at frames given n fresh hungry stay taken due reached new =
       clips-reached start at frames given new fresh.empty reached hungry.not_ended
-      ∙ ap (λ counts. clips_in acts counts (recipes acts start.stages) frames) (due ∙ dues-same start at n stay taken)
+      ∙ ap (λ counts. clips_in acts.meaning counts (recipes acts start.stages) frames) (due ∙ dues-same start at n stay taken)

@@ -7,7 +7,8 @@ use Rattle.fx_frame.specs.declared.coding.Coding.{Coding}
 use Rattle.fx_frame.specs.Frame.{Samples}
 use Rattle.fx_frame.specs.Holds.{kinds, recipes, total}
 use Rattle.fx_frame.specs.Stage.{Acts}
-use Rattle.fx_flow.specs.Parts.{Parts, Whole, due_of, enough_for, given_by, moves_of, taken_of}
+use Rattle.fx_flow.specs.Parts.{Parts, given_by, moves_of, taken_of}
+use Rattle.fx_flow.specs.Composed.{Whole, due_of, enough_for}
 use Rattle.fx_flow.specs.Steps.{IsDone, IsHungry, rest_of, wholes_of}
 use Rattle.fx_flow.proofs.Laws.{through-Done, wholes-Done}
 use Rattle.fx_sound.specs.declared.progress.TheConstants.{MOST_FRAMES}

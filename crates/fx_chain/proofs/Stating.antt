@@ -10,11 +10,12 @@ use Rattle.fx_frame.specs.FrameCoding.{frame_size, samples_of}
 use Rattle.fx_frame.specs.Holds.{kinds, recipes, total}
 use Rattle.fx_frame.specs.Pieces.{pieces}
 use Rattle.fx_frame.specs.Stage.{Kind}
-use Rattle.fx_flow.specs.Parts.{Parts, Whole, due_of, enough_for, moves_of}
+use Rattle.fx_flow.specs.Parts.{Parts, moves_of}
+use Rattle.fx_flow.specs.Composed.{Whole, due_of, enough_for}
 use Rattle.fx_flow.specs.Steps.{IsDone, rest_of, wholes_of}
 use Rattle.fx_plan.specs.Planning.{Planning}
 use Rattle.fx_stages.specs.declared.stage.EffectStage.{EffectStage}
-use Rattle.fx_stages.specs.Effects.{effect_acts}
+use Rattle.fx_stages.specs.Stages.{effect_acts}
 use Rattle.fx_sound.specs.declared.head.Head.{Head}
 use Rattle.fx_sound.specs.declared.progress.TheConstants.{MOST_FRAMES}
 use Rattle.fx_sound.specs.Known.{IfKnown}
@@ -182,7 +183,7 @@ module _ (p : Planning) (c : ChainParts) (new : IsNewChain p c) where
         not_enough = λ m low. rw (← kinds-are) (WantsMore-next (kinds effect_acts c.flow.stages) n wants (done.not_enough other) m (omega arith));
         wrote = wrote.took;
         reports = same-report r (reported_due p (take n all)) count due wrote.whole (done.moves other ∙ ap (λ m. m + sum (dues (kinds effect_acts c.flow.stages) n)) count ∙ ap (λ ds. length (take n all) + sum ds) dues-are)
-            (done.clips other new.fresh ∙ ap (λ ds. row_of (clips_in effect_acts ds (recipes effect_acts c.flow.stages) x)) dues-are ∙ ap (λ rs. row_of (clips_in effect_acts (dues (kinds_of p) (length (take n all))) rs x)) new.made ∙ ap (λ y. row_of (clips_in effect_acts (dues (kinds_of p) (length (take n all))) (planned p) y)) first-is)
+            (done.clips other new.fresh ∙ ap (λ ds. row_of (clips_in effect_acts.meaning ds (recipes effect_acts c.flow.stages) x)) dues-are ∙ ap (λ rs. row_of (clips_in effect_acts.meaning (dues (kinds_of p) (length (take n all))) rs x)) new.made ∙ ap (λ y. row_of (clips_in effect_acts.meaning (dues (kinds_of p) (length (take n all))) (planned p) y)) first-is)
             (done.reports.out_clips ∙ ap (coded_clips p.coding) given) (done.no_ends other).0 (done.no_ends other).1;
         whatever = λ z.
             ap (λ y. take r.frames_out (chain_gives p (y ++ z))) (sym first-is) ∙ ap (take r.frames_out) (sym (new.gives (x ++ z))) ∙ done.whatever other z ∙ given;
@@ -219,7 +220,7 @@ module _ (p : Planning) (c : ChainParts) (new : IsNewChain p c) where
         clips = clips;
         counted = λ running.
             clips ∙ ap row_of (clips-reached effect_acts c.flow at x _ new.fresh new.hungry.empty done.reports.reached running)
-            ∙ ap (λ rs. row_of (clips_in effect_acts (map (λ s. (effect_acts.counts s).given) at.stages) rs x)) new.made ∙ ap (λ y. row_of (clips_in effect_acts (map (λ s. (effect_acts.counts s).given) at.stages) (planned p) y)) first-is;
+            ∙ ap (λ rs. row_of (clips_in effect_acts.meaning (map (λ s. (effect_acts.counts s).given) at.stages) rs x)) new.made ∙ ap (λ y. row_of (clips_in effect_acts.meaning (map (λ s. (effect_acts.counts s).given) at.stages) (planned p) y)) first-is;
         out_clips = done.reports.out_clips;
         wrote = wrote (done.front is);
         ends = ended _ (rw kinds-are at (done.ends is));

@@ -9,7 +9,7 @@ use Rattle.fx_plan.specs.Effects.{Act}
 use Rattle.fx_plan.specs.Planning.{Planning}
 use Rattle.fx_stages.specs.declared.stage.EffectStage.{EffectStage}
 use Rattle.fx_stages.specs.declared.thaw.EffectArguments.{EffectArguments}
-use Rattle.fx_stages.specs.Effects.{effect_acts, recipe_of}
+use Rattle.fx_stages.specs.Stages.{effect_acts, recipe_of}
 use Rattle.fx_stages.specs.Made.{recipes_for}
 use Rattle.fx_stages.specs.Thawed.{placed, placing, recipe_with}
 use Rattle.fx_stages.proofs.Thawing.{made-recipes, recipes-made, recipes-with}

@@ -5,7 +5,8 @@ use Rattle.fx_frame.specs.Frame.{Samples}
 use Rattle.fx_frame.specs.Holds.{kinds}
 use Rattle.fx_frame.specs.Stage.{Acts}
 use Rattle.fx_flow.specs.Feed.{FlowFed, FlowGave}
-use Rattle.fx_flow.specs.Parts.{Parts, enough_for, taken_of}
+use Rattle.fx_flow.specs.Parts.{Parts, taken_of}
+use Rattle.fx_flow.specs.Composed.{enough_for}
 use Rattle.fx_sound.specs.Container.{after_frames, first_frames}
 use Rattle.fx_sound.specs.Output.{Pending}
 use Rattle.fx_sound.specs.Sound.{AreHeld, Reading, size_of}

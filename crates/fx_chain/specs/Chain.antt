@@ -1,15 +1,17 @@
 -- The chain of a plan's effects (this project's profile).
 use Rattle.std.specs.Prelude.{◌≡◌, ◌≤◌, false, List, length}
 use Rattle.fx_chain.specs.declared.target.Target.{Target}
-use Rattle.fx_flow.specs.Parts.{AllNew, Parts, Whole, composed, composed_wholes, given_by, taken_of}
+use Rattle.fx_flow.specs.Parts.{AllNew, Parts, given_by, taken_of}
+use Rattle.fx_flow.specs.Composed.{Whole, composed, composed_wholes}
 use Rattle.fx_flow.specs.Steps.{IsHungry, rest_of, wholes_of}
 use Rattle.fx_frame.specs.Frame.{Samples}
 use Rattle.fx_frame.specs.Holds.{recipes}
 use Rattle.fx_plan.specs.Bounds.{is_too_long}
 use Rattle.fx_plan.specs.Planning.{Planning}
 use Rattle.fx_stages.specs.declared.stage.EffectStage.{EffectStage}
-use Rattle.fx_stages.specs.Effects.{EffectRecipe, effect_acts}
+use Rattle.fx_stages.specs.Effects.{EffectRecipe, meaning_of_recipe}
 use Rattle.fx_stages.specs.Made.{recipes_for}
+use Rattle.fx_stages.specs.Stages.{effect_acts}
 
 -- the stages of a plan's effects
 abbrev pub planned : Planning → List EffectRecipe
@@ -17,11 +19,11 @@ planned p = recipes_for p.head.channels p.acts
 
 -- the frames that a plan's effects make of a whole sound, by their definitions one after the other
 abbrev pub chain_gives : Planning → List Samples → List Samples
-chain_gives p x = composed effect_acts (planned p) x
+chain_gives p x = composed meaning_of_recipe (planned p) x
 
 -- of each effect how many frames it makes of a whole sound, and how many samples it clips
 abbrev pub chain_wholes : Planning → List Samples → List Whole
-chain_wholes p x = composed_wholes effect_acts (planned p) x
+chain_wholes p x = composed_wholes meaning_of_recipe (planned p) x
 
 -- a chain, to its callers: its plan, and its stages with the frames and counts that they have
 pub record ChainParts : Type 0 where

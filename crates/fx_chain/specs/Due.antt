@@ -1,8 +1,8 @@
 -- What effects in a row have given when each has given all that is due (this project's profile).
 use Rattle.std.specs.Prelude.{ℕ, List, [], ◌∷◌, map, take}
 use Rattle.fx_frame.specs.Frame.{Samples}
-use Rattle.fx_frame.specs.Stage.{Acts, Given, Kind}
-use Rattle.fx_flow.specs.Parts.{clips_of, frames_of}
+use Rattle.fx_frame.specs.Stage.{Given, Kind}
+use Rattle.fx_flow.specs.Composed.{clips_of, frames_of}
 
 -- of each effect how many frames it has given when all are dry after n frames, with no end
 abbrev pub dues : List Kind → ℕ → List ℕ
@@ -15,12 +15,11 @@ firsts [] gs = []
 firsts (n ∷ ns) [] = []
 firsts (n ∷ ns) (g ∷ gs) = take n g ∷ firsts ns gs
 
-module _ {S R : Type 0} (acts : Acts S R) where
-  -- what each effect gives for a whole sound, by the definitions one behind the other
-  abbrev pub meanings : List R → List Samples → List (List Given)
-  meanings [] x = []
-  meanings (r ∷ rs) x = acts.meaning r x ∷ meanings rs (frames_of (acts.meaning r x))
+-- what each effect gives for a whole sound, by the definitions one behind the other
+abbrev pub meanings : {R : Type 0} → (R → List Samples → List Given) → List R → List Samples → List (List Given)
+meanings meaning [] x = []
+meanings meaning (r ∷ rs) x = meaning r x ∷ meanings meaning rs (frames_of (meaning r x))
 
-  -- of each effect how many samples are clipped in the first frames that it gives for a whole sound, so many of each
-  abbrev pub clips_in : List ℕ → List R → List Samples → List ℕ
-  clips_in counts rs x = map clips_of (firsts counts (meanings rs x))
+-- of each effect how many samples are clipped in the first frames that it gives for a whole sound, so many of each
+abbrev pub clips_in : {R : Type 0} → (R → List Samples → List Given) → List ℕ → List R → List Samples → List ℕ
+clips_in meaning counts rs x = map clips_of (firsts counts (meanings meaning rs x))

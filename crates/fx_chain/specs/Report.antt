@@ -5,7 +5,8 @@ use Rattle.fx_frame.specs.Frame.{Samples}
 use Rattle.fx_frame.specs.Holds.{kinds, recipes, total}
 use Rattle.fx_frame.specs.Io.{saturated}
 use Rattle.fx_frame.specs.Stage.{Acts}
-use Rattle.fx_flow.specs.Parts.{AllNew, Parts, Whole, due_of, enough_for}
+use Rattle.fx_flow.specs.Parts.{AllNew, Parts}
+use Rattle.fx_flow.specs.Composed.{Whole, due_of, enough_for}
 use Rattle.fx_flow.specs.Steps.{IsDone, IsHungry, rest_of, wholes_of}
 use Rattle.fx_sound.specs.declared.head.Head.{Head}
 use Rattle.fx_sound.specs.declared.head.Kind.{Kind}
@@ -45,9 +46,9 @@ cause_of (TooLong r) = Causes.TooLong
 -- A fault is answered where its cause was counted, and no other failure was. Where the writer failed a read may have failed
 -- before it, in that case.
 abbrev pub HasCause : Cause → Type 0 → ℕ → ℕ → ℕ → ℕ → Type 0
-HasCause Causes.ReadFailed ReadBefore reads new_reads writes new_writes = (new_reads ≡ saturated (reads + 1)) × (new_writes ≡ writes)
-HasCause Causes.WriteFailed ReadBefore reads new_reads writes new_writes = ((new_reads ≡ reads) ⊎ ((new_reads ≡ saturated (reads + 1)) × ReadBefore)) × (new_writes ≡ saturated (writes + 1))
-HasCause Causes.TooLong ReadBefore reads new_reads writes new_writes = (new_reads ≡ reads) × (new_writes ≡ writes)
+HasCause Causes.ReadFailed Before reads new_reads writes new_writes = (new_reads ≡ saturated (reads + 1)) × (new_writes ≡ writes)
+HasCause Causes.WriteFailed Before reads new_reads writes new_writes = ((new_reads ≡ reads) ⊎ ((new_reads ≡ saturated (reads + 1)) × Before)) × (new_writes ≡ saturated (writes + 1))
+HasCause Causes.TooLong Before reads new_reads writes new_writes = (new_reads ≡ reads) × (new_writes ≡ writes)
 
 -- the report of a conversion that ended before its run
 abbrev pub no_report : Report
@@ -123,7 +124,7 @@ module _ {S R : Type 0} (acts : Acts S R) where
     -- each effect had given just what was due, with its clips
     pub hungry : cause_of f ≢ Causes.WriteFailed → IsHungry acts at
     pub moves : cause_of f ≢ Causes.WriteFailed → (report_at f).moves ≡ (report_at f).frames_in + sum (dues (kinds acts start.stages) (report_at f).frames_in)
-    pub clips : cause_of f ≢ Causes.WriteFailed → AllNew acts start.stages → (report_at f).clips ≡ row_of (clips_in acts (dues (kinds acts start.stages) (report_at f).frames_in) (recipes acts start.stages) frames)
+    pub clips : cause_of f ≢ Causes.WriteFailed → AllNew acts start.stages → (report_at f).clips ≡ row_of (clips_in acts.meaning (dues (kinds acts start.stages) (report_at f).frames_in) (recipes acts start.stages) frames)
     pub due : cause_of f ≢ Causes.WriteFailed → ((report_at f).frames_out ≡ due_of (kinds acts start.stages) (report_at f).frames_in)
         × WroteAll first now (report_at f).bytes_out (head_for target ++ coded target.coding (take (report_at f).frames_out (rest_of acts start frames)))
     pub whatever : cause_of f ≢ Causes.WriteFailed → (z : List Samples) → take (report_at f).frames_out (rest_of acts start (frames ++ z)) ≡ take (report_at f).frames_out (rest_of acts start frames)

@@ -3,7 +3,8 @@ use Rattle.std.specs.Prelude.{◌≡◌, ℕ, ◌+◌, ◌-◌, ◌/◌, ◌%◌
 use Rattle.fx_frame.specs.declared.coding.Coding.{Coding}
 use Rattle.fx_frame.specs.Frame.{Samples}
 use Rattle.fx_frame.specs.Stage.{Acts, Kind}
-use Rattle.fx_flow.specs.Parts.{Parts, enough_for}
+use Rattle.fx_flow.specs.Parts.{Parts}
+use Rattle.fx_flow.specs.Composed.{enough_for}
 use Rattle.fx_sound.specs.Container.{first_frames}
 use Rattle.fx_sound.specs.Output.{Pending, Sent}
 use Rattle.fx_sound.specs.Sound.{Reading, at_most_announced, lacking, size_of, within}

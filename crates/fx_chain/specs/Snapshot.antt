@@ -5,7 +5,7 @@ use Rattle.fx_chain.specs.declared.snapshot.Snapshot.{Snapshot}
 use Rattle.fx_flow.specs.Frozen.{AllSound, FreezesFlow}
 use Rattle.fx_flow.specs.Sound.{IsSound}
 use Rattle.fx_plan.specs.Planning.{planning}
-use Rattle.fx_stages.specs.Effects.{effect_acts, sound_of}
+use Rattle.fx_stages.specs.Stages.{effect_acts, sound_of}
 
 -- what holds of a chain, of its flow and of each of its stages at every moment
 pub record IsSoundChain (c : ChainParts) : Type 0 where

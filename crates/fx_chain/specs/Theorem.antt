@@ -11,7 +11,8 @@ use Rattle.fx_chain.specs.Outlet.{WroteFront, coded, coded_clips}
 use Rattle.fx_chain.specs.Report.{clips_now, head_for, met_end, output_of, row_of, start_of}
 use Rattle.fx_chain.specs.Run.{RanToFailure}
 use Rattle.fx_chain.specs.Through.{Reached}
-use Rattle.fx_flow.specs.Parts.{AllNew, Parts, Whole, due_of, enough_for, moves_of, taken_of}
+use Rattle.fx_flow.specs.Parts.{AllNew, Parts, moves_of, taken_of}
+use Rattle.fx_flow.specs.Composed.{Whole, due_of, enough_for}
 use Rattle.fx_flow.specs.Steps.{IsDone, IsHungry, rest_of, wholes_of}
 use Rattle.fx_frame.specs.Frame.{Samples}
 use Rattle.fx_frame.specs.FrameCoding.{frame_size}
@@ -24,11 +25,12 @@ use Rattle.fx_sound.specs.Container.{frames_of}
 use Rattle.fx_sound.specs.Sound.{lacking, within}
 use Rattle.fx_sound.specs.Source.{Held}
 use Rattle.fx_stages.specs.declared.stage.EffectStage.{EffectStage}
-use Rattle.fx_stages.specs.Effects.{effect_acts}
+use Rattle.fx_stages.specs.Effects.{kind_of_recipe, meaning_of_recipe}
+use Rattle.fx_stages.specs.Stages.{effect_acts}
 
 -- the kinds of a plan's effects, which say how many frames each gives, and how many are enough for it
 abbrev pub kinds_of : Planning → List Kind
-kinds_of p = map effect_acts.kind_of (planned p)
+kinds_of p = map kind_of_recipe (planned p)
 
 -- frames are read until some effect has enough
 abbrev pub until_enough : List Kind → ℕ → List Samples → List Samples
@@ -89,7 +91,7 @@ reported_due p x = record {
   frames_out = due_of (kinds_of p) (length x);
   bytes_out = length (written_due p x);
   moves = length x + sum (dues (kinds_of p) (length x));
-  clips = row_of (clips_in effect_acts (dues (kinds_of p) (length x)) (planned p) x);
+  clips = row_of (clips_in meaning_of_recipe (dues (kinds_of p) (length x)) (planned p) x);
   out_clips = coded_clips p.coding (given_due p x);
   missing = 0;
   stray = 0;
@@ -127,7 +129,7 @@ pub record Broken (p : Planning) (bytes : List ℕ) (first now : Option (List �
   pub moves : r.moves ≡ moves_of effect_acts at
   pub clips : r.clips ≡ clips_now effect_acts at.stages
   -- before the end these are the clips of the first frames of each effect, so many as it gave
-  pub counted : at.ended ≡ false → r.clips ≡ row_of (clips_in effect_acts (map (λ s. (effect_acts.counts s).given) at.stages) (planned p) (take r.frames_in (sound_in p.head bytes)))
+  pub counted : at.ended ≡ false → r.clips ≡ row_of (clips_in meaning_of_recipe (map (λ s. (effect_acts.counts s).given) at.stages) (planned p) (take r.frames_in (sound_in p.head bytes)))
   pub out_clips : r.out_clips ≡ coded_clips p.coding given
   pub wrote : WroteFront first now r.bytes_out (head_for (target_for p) ++ coded p.coding given)
       ⊎ (IsDone effect_acts at × WroteFront first now r.bytes_out (output_of (target_for p) (chain_gives p (take r.frames_in (sound_in p.head bytes)))))

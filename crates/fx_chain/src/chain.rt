@@ -4,14 +4,15 @@ ghost use Rattle.fx_chain.specs.Chain.{IsNewChain};
 ghost use Rattle.fx_flow.specs.Feed.{FlowFed};
 ghost use Rattle.fx_frame.specs.Row.{outputs_of};
 ghost use Rattle.fx_frame.specs.Ring.{pieces};
-ghost use Rattle.fx_flow.specs.Parts.{AllNew, any_spent, due_of, enough_for, given_by, moves_of, taken_of};
+ghost use Rattle.fx_flow.specs.Parts.{AllNew, any_spent, given_by, moves_of, taken_of};
+ghost use Rattle.fx_flow.specs.Composed.{due_of, enough_for};
 ghost use Rattle.fx_flow.specs.Sound.{most_frames};
 ghost use Rattle.fx_flow.specs.Steps.{IsDone, IsHungry, MovedOn, StateIs, Steps, rest_of, wholes_of};
 ghost use Rattle.fx_frame.specs.Frame.{Samples};
 ghost use Rattle.fx_frame.specs.Holds.{capacity_sum, held_sum, kinds, total};
 ghost use Rattle.fx_plan.specs.Bounds.{hold_all, line_of, work_of};
 ghost use Rattle.fx_plan.specs.Planning.{planning};
-ghost use Rattle.fx_stages.specs.Effects.{effect_acts};
+ghost use Rattle.fx_stages.specs.Stages.{effect_acts};
 
 use fx_flow::flow::{Flow, State, Step};
 use fx_frame::{Frame, Passed};

@@ -11,7 +11,7 @@ ghost use Rattle.fx_plan.specs.Bounds.{work_of};
 ghost use Rattle.fx_plan.specs.Planning.{planning};
 ghost use Rattle.fx_sound.specs.Known.{IfKnown};
 ghost use Rattle.fx_sound.specs.Source.{to_come};
-ghost use Rattle.fx_stages.specs.Effects.{effect_acts};
+ghost use Rattle.fx_stages.specs.Stages.{effect_acts};
 
 use crate::chain::Chain;
 use crate::flow_run::run_flow;

@@ -3,7 +3,8 @@ ghost use Rattle.std.specs.Prelude.{◌≡◌, ◌+◌, ◌*◌, ◌<◌, ◌≤
 ghost use Rattle.fx_chain.specs.Report.{met_end};
 ghost use Rattle.fx_chain.specs.Run.{Flowed, FlowedFront, RanToEnd, RanToFailure, WantsMore, is_read_failed, is_write_failed, sound_frames};
 ghost use Rattle.fx_chain.specs.Through.{CutOff, Drained};
-ghost use Rattle.fx_flow.specs.Parts.{due_of, enough_for, given_by, most_of, taken_of};
+ghost use Rattle.fx_flow.specs.Parts.{given_by, most_of, taken_of};
+ghost use Rattle.fx_flow.specs.Composed.{due_of, enough_for};
 ghost use Rattle.fx_flow.specs.Sound.{most_frames};
 ghost use Rattle.fx_flow.specs.Steps.{IsDone, IsHungry, rest_of};
 ghost use Rattle.fx_frame.specs.Frame.{Samples};

@@ -6,7 +6,7 @@ ghost use Rattle.fx_chain.specs.Snapshot.{IsSnapshotOf, IsSoundChain};
 ghost use Rattle.fx_frame.specs.Holds.{held_sum};
 ghost use Rattle.fx_plan.specs.Bounds.{hold_all};
 ghost use Rattle.fx_plan.specs.Planning.{planning};
-ghost use Rattle.fx_stages.specs.Effects.{effect_acts};
+ghost use Rattle.fx_stages.specs.Stages.{effect_acts};
 ghost use Rattle.fx_stages.specs.Narrow.{AreNarrow, IsNarrow};
 
 use crate::chain::Chain;

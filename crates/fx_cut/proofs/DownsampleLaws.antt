@@ -10,7 +10,8 @@ use Rattle.std.proofs.lemmas.List.{get_or-drop}
 use Rattle.fx_frame.specs.Frozen.{IsHand}
 use Rattle.fx_cut.specs.Ceil.{by_products}
 use Rattle.fx_frame.specs.Lists.{tabulate, plain}
-use Rattle.fx_cut.specs.Downsample.{downsampled, DownsampleState, IsDownsample, downsample_acts}
+use Rattle.fx_cut.specs.Downsample.{downsampled}
+use Rattle.fx_cut.specs.DownsampleState.{DownsampleState, IsDownsample, downsample_acts}
 use Rattle.fx_frame.proofs.Tabulate.{tabulate-same}
 
 -- the quotient, by its product

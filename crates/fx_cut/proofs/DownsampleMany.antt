@@ -10,7 +10,8 @@ use Rattle.fx_frame.specs.Ring.{pieces}
 use Rattle.fx_frame.proofs.FedLaws.{Fed-then}
 use Rattle.fx_frame.proofs.FeedParts.{pieces-split}
 use Rattle.fx_frame.proofs.Pieces.{length-pieces}
-use Rattle.fx_cut.specs.Downsample.{DownsampleState, IsDownsample, downsample_acts, downsampled}
+use Rattle.fx_cut.specs.Downsample.{downsampled}
+use Rattle.fx_cut.specs.DownsampleState.{DownsampleState, IsDownsample, downsample_acts}
 use Rattle.fx_cut.specs.Strides.{firsts}
 use Rattle.fx_cut.proofs.Pieces.{first-piece, frames-room}
 use Rattle.fx_cut.proofs.DownsampleLaws.{ceil_is, kept, left, Took-kept, IsDownsample-left}

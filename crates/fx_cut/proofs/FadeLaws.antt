@@ -12,7 +12,8 @@ use Rattle.fx_fixed.specs.declared.positions.At.TheVariants.{Start, End}
 use Rattle.fx_frame.specs.Frame.{Samples}
 use Rattle.fx_frame.specs.Stage.{Given}
 use Rattle.fx_cut.specs.declared.fade.Shape.{Shape}
-use Rattle.fx_cut.specs.Fade.{weight, faded_frame, faded, stop_in, until, before_stop, faded_from, fade_rest, fade_after, is_before, faded_here, ahead_by, stop_ahead, due_by, fade_line}
+use Rattle.fx_cut.specs.Fade.{weight, faded_frame, faded, stop_in, until, due_by, fade_line}
+use Rattle.fx_cut.specs.FadeState.{before_stop, faded_from, fade_rest, fade_after, is_before, faded_here, ahead_by, stop_ahead}
 use Rattle.fx_cut.proofs.Fallen.{first-popped}
 use Rattle.fx_cut.proofs.TrimRest.{first_index, next_index}
 

@@ -18,7 +18,8 @@ use Rattle.fx_frame.proofs.Feeding.{pieces-take}
 use Rattle.fx_frame.proofs.ManyFrames.{frames-samples}
 use Rattle.fx_frame.proofs.Pieces.{length-pieces}
 use Rattle.fx_cut.specs.declared.fade.Shape.{Shape}
-use Rattle.fx_cut.specs.Fade.{FadeState, IsFade, ahead_by, fade_acts, fade_enough, faded_along, faded_frame, faded_here, is_before, stop_ahead, weighted, weights}
+use Rattle.fx_cut.specs.Fade.{fade_enough, faded_frame, weighted, weights}
+use Rattle.fx_cut.specs.FadeState.{FadeState, IsFade, ahead_by, fade_acts, faded_along, faded_here, is_before, stop_ahead}
 use Rattle.fx_frame.specs.Lists.{plain}
 use Rattle.fx_cut.proofs.Fallen.{fallen, stays, oldest-first}
 use Rattle.fx_cut.proofs.FadeSteps.{IsFade-inside, IsFade-fallen, Took-inside, Took-fallen, came}

@@ -8,7 +8,8 @@ use Rattle.fx_frame.specs.Frame.{IsFrame, Samples}
 use Rattle.fx_frame.specs.Frozen.{IsHand}
 use Rattle.fx_frame.specs.Line.{Frames, IsLine}
 use Rattle.fx_frame.specs.Stage.{Gave, IsDry, spent}
-use Rattle.fx_cut.specs.Fade.{FadeState, IsFade, fade_acts, faded_here, is_before, stop_ahead, weighted, weights}
+use Rattle.fx_cut.specs.Fade.{weighted, weights}
+use Rattle.fx_cut.specs.FadeState.{FadeState, IsFade, fade_acts, faded_here, is_before, stop_ahead}
 use Rattle.fx_frame.specs.Lists.{plain}
 use Rattle.fx_frame.specs.Rounded.{unclipped}
 use Rattle.fx_cut.proofs.FadeMany.{given-next}

@@ -12,7 +12,8 @@ use Rattle.fx_frame.specs.Line.{Frames, IsLine}
 use Rattle.fx_frame.specs.Stage.{Gave, Took, coming}
 use Rattle.fx_cut.specs.declared.fade.Shape.{Shape}
 use Rattle.fx_frame.specs.Lists.{plain}
-use Rattle.fx_cut.specs.Fade.{FadeState, IsFade, due_by, faded_frame, faded_here, fade_acts, fade_after, fade_line, fade_rest, is_before, stop_ahead, stop_in, until}
+use Rattle.fx_cut.specs.Fade.{due_by, faded_frame, fade_line, stop_in, until}
+use Rattle.fx_cut.specs.FadeState.{FadeState, IsFade, faded_here, fade_acts, fade_after, fade_rest, is_before, stop_ahead}
 use Rattle.fx_cut.proofs.Fallen.{fallen, stays, no_fall, stays-room, is_full, oldest-first, oldest-channels, first-popped}
 use Rattle.fx_cut.proofs.FadeLaws.{fade_taken, fade_let_go, due-next, due-early}
 use Rattle.fx_cut.proofs.Hands.{empty-hand, at_most_one}

@@ -8,7 +8,8 @@ use Rattle.fx_frame.specs.Frozen.{IsStored}
 use Rattle.fx_frame.specs.Line.{Frames}
 use Rattle.fx_frame.specs.Stage.{Given, numbers_of}
 use Rattle.fx_cut.specs.declared.fade.Shape.{Shape}
-use Rattle.fx_cut.specs.Fade.{FadeState, IsFade, IsFadeCount, IsShape, fade_acts, fade_after, fade_line, faded_frame, faded_from, faded_here, is_before, stop_in}
+use Rattle.fx_cut.specs.Fade.{IsShape, fade_line, faded_frame, stop_in}
+use Rattle.fx_cut.specs.FadeState.{FadeState, IsFade, IsFadeCount, fade_acts, fade_after, faded_from, faded_here, is_before}
 use Rattle.fx_cut.proofs.FadeLaws.{fade_drained, given_by}
 use Rattle.fx_cut.proofs.Hands.{no-hand}
 use Rattle.fx_cut.proofs.Thawing.{flag, lined}

@@ -1,6 +1,6 @@
 -- Frames that a pad without a line passes many at a time, as far as no silence stands before them.
 use Rattle.std.proofs.Common.{◌≡◌, ◌+◌, ◌-◌, ◌*◌, ◌<◌, ◌≤◌, ◌^◌, ℕ, ℤ, suc, true, false, List, [], ◌∷◌, length, refl, subst, sym, ap, ◌∙◌, arith, add-zero, map}
-use Rattle.std.specs.Prelude.{Some, None, option_to_list, is_none}
+use Rattle.std.specs.Prelude.{Some, None, option_to_list}
 use Rattle.std.specs.List.{All}
 use Rattle.std.proofs.lemmas.List.Elements.{All-head, All-tail}
 use Rattle.fx_fixed.specs.Extents.{greatest, pad_distance}
@@ -11,7 +11,8 @@ use Rattle.fx_frame.specs.Ring.{pieces}
 use Rattle.fx_frame.specs.Stage.{IsDry}
 use Rattle.fx_frame.proofs.FedLaws.{Fed-then}
 use Rattle.fx_frame.proofs.Pieces.{length-pieces}
-use Rattle.fx_cut.specs.Pad.{PadState, IsPad, pad_acts, pad_due, pad_left, pads_from_start, silent_at}
+use Rattle.fx_cut.specs.Pad.{pad_due, pads_from_start, silent_at}
+use Rattle.fx_cut.specs.PadState.{PadState, IsPad, pad_acts, pad_left}
 use Rattle.fx_cut.proofs.Fallen.{fallen, stays}
 use Rattle.fx_cut.proofs.Hands.{empty_of}
 use Rattle.fx_cut.proofs.PadLaws.{upto_more}

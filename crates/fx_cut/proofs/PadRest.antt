@@ -6,7 +6,8 @@ use mathlib.Core.Path.{ap₂}
 use Rattle.fx_fixed.specs.Extents.{greatest, pad_distance}
 use Rattle.fx_fixed.specs.declared.positions.At.{At}
 use Rattle.fx_frame.specs.Frame.{Samples, silence}
-use Rattle.fx_cut.specs.Pad.{PadArguments, ats, placed, silent_at, padded, padded_from, pad_rest, pad_after, pads_from_start, unless_last, RisesFrom}
+use Rattle.fx_cut.specs.Pad.{PadArguments, ats, placed, silent_at, padded, pads_from_start, RisesFrom}
+use Rattle.fx_cut.specs.PadState.{padded_from, pad_rest, pad_after, unless_last}
 use Rattle.fx_cut.proofs.PadLaws.{pad_first, same_silence}
 
 flat_same : {X : Type 0} (f g : ℕ → List X) (a n : ℕ) → ((i : ℕ) → a ≤ i → i < a + n → f i ≡ g i) → flat_map f (range_with_len a n) ≡ flat_map g (range_with_len a n)

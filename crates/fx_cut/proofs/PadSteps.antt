@@ -11,7 +11,8 @@ use Rattle.fx_frame.specs.Frozen.{IsHand}
 use Rattle.fx_frame.specs.Line.{Frames, IsLine}
 use Rattle.fx_frame.specs.Stage.{Gave, Took, Ended, coming}
 use Rattle.fx_frame.specs.Lists.{plain}
-use Rattle.fx_cut.specs.Pad.{PadArguments, PadState, IsPad, IsPads, lengths, pad_acts, pad_after, pad_left, pad_rest, padded, pads_from_start, placed, silent_at, unless_last}
+use Rattle.fx_cut.specs.Pad.{PadArguments, IsPads, lengths, padded, pads_from_start, placed, silent_at}
+use Rattle.fx_cut.specs.PadState.{PadState, IsPad, pad_acts, pad_after, pad_left, pad_rest, unless_last}
 use Rattle.fx_cut.proofs.Fallen.{fallen, stays, no_fall, stays-room, is_full, oldest-first, oldest-channels}
 use Rattle.fx_cut.proofs.Hands.{none_of}
 use Rattle.fx_cut.proofs.UpsampleLaws.{not_dry}

@@ -10,7 +10,8 @@ use Rattle.fx_frame.specs.Frame.{Samples, silence}
 use Rattle.fx_frame.specs.Frozen.{IsStored}
 use Rattle.fx_frame.specs.Line.{Frames}
 use Rattle.fx_frame.specs.Stage.{Freezes, coming, numbers_of}
-use Rattle.fx_cut.specs.Pad.{PadArguments, PadState, IsPad, IsPadCount, IsPads, ats, later_count, lengths, pad_acts, pad_after, pad_due, pad_left, padded_from, pads_from_start, placed, silence_from, silent_at, unless_last, RisesFrom}
+use Rattle.fx_cut.specs.Pad.{PadArguments, IsPads, ats, lengths, pad_due, pads_from_start, placed, silent_at, RisesFrom}
+use Rattle.fx_cut.specs.PadState.{PadState, IsPad, IsPadCount, later_count, pad_acts, pad_after, pad_left, padded_from, unless_last}
 use Rattle.fx_cut.proofs.Hands.{no-hand, empty_of}
 use Rattle.fx_cut.proofs.PadLaws.{length_from, length_padded, pad_first, same_silence, upto_more}
 use Rattle.fx_cut.proofs.PadRest.{pad_new}

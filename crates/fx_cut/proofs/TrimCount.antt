@@ -9,7 +9,8 @@ use mathlib.Core.Path.{ap₂}
 use Rattle.fx_fixed.specs.Positions.{place_of, places_after, places_of}
 use Rattle.fx_fixed.specs.declared.positions.At.{At}
 use Rattle.fx_fixed.specs.declared.positions.At.TheVariants.{Start, End}
-use Rattle.fx_cut.specs.Trim.{keeps, kept_count, starts}
+use Rattle.fx_cut.specs.Trim.{keeps, starts}
+use Rattle.fx_cut.specs.TrimState.{kept_count}
 use Rattle.fx_cut.proofs.Ranges.{range_split, count_same, count_const}
 use Rattle.fx_cut.proofs.TrimLaws.{count_by-cons, none_before}
 

@@ -17,7 +17,8 @@ use Rattle.fx_frame.specs.Stage.{is_enough}
 use Rattle.fx_frame.proofs.FedLaws.{Fed-then}
 use Rattle.fx_frame.proofs.Feeding.{pieces-take}
 use Rattle.fx_frame.proofs.Pieces.{length-pieces}
-use Rattle.fx_cut.specs.Trim.{keeps, starts, trim_enough, TrimState, IsTrim, trim_acts}
+use Rattle.fx_cut.specs.Trim.{keeps, starts, trim_enough}
+use Rattle.fx_cut.specs.TrimState.{TrimState, IsTrim, trim_acts}
 use Rattle.fx_cut.proofs.Fallen.{fallen, stays, oldest-first}
 use Rattle.fx_cut.proofs.Hands.{at_most_one}
 use Rattle.fx_cut.proofs.Onto.{gone, onto, onto-line, onto-long, onto-more, onto-none, out-full, out-more, out-room, out-samples, out_of, same-line}

@@ -8,7 +8,8 @@ use Rattle.fx_frame.specs.Feed.{GaveNext, IsHeld, PassedOn, TookNext}
 use Rattle.fx_frame.specs.Frame.{IsFrame, Samples}
 use Rattle.fx_frame.specs.Line.{Frames, IsLine}
 use Rattle.fx_frame.specs.Stage.{Gave, IsDry, spent}
-use Rattle.fx_cut.specs.Trim.{IsTrim, TrimState, keeps, starts, trim_acts}
+use Rattle.fx_cut.specs.Trim.{keeps, starts}
+use Rattle.fx_cut.specs.TrimState.{IsTrim, TrimState, trim_acts}
 use Rattle.fx_cut.proofs.Fallen.{fallen, stays}
 use Rattle.fx_cut.proofs.Hands.{at_most_one, empty-hand, none_of}
 use Rattle.fx_cut.proofs.TrimSteps.{IsTrim-fallen, IsTrim-inside, Took-fallen, Took-inside, fits-oldest, took}

@@ -7,7 +7,8 @@ use Rattle.fx_fixed.specs.Extents.{end_distance, greatest}
 use Rattle.fx_fixed.specs.Positions.{places_of}
 use Rattle.fx_fixed.specs.declared.positions.At.{At}
 use Rattle.fx_frame.specs.Frame.{Samples}
-use Rattle.fx_cut.specs.Trim.{keeps, trimmed, starts, trimmed_from, trim_rest}
+use Rattle.fx_cut.specs.Trim.{keeps, trimmed, starts}
+use Rattle.fx_cut.specs.TrimState.{trimmed_from, trim_rest}
 use Rattle.fx_cut.proofs.TrimLaws.{kept-early}
 
 pub picked_same : {X : Type 0} (f g : ℕ → X) (p q : ℕ → Bool) (a n : ℕ) → ((i : ℕ) → a ≤ i → i < a + n → p i ≡ q i) → ((i : ℕ) → a ≤ i → i < a + n → f i ≡ g i)

@@ -13,7 +13,8 @@ use Rattle.fx_frame.specs.Frozen.{IsHand}
 use Rattle.fx_frame.specs.Line.{Frames, IsLine}
 use Rattle.fx_frame.specs.Stage.{Gave, Took, coming, is_enough}
 use Rattle.fx_frame.specs.Lists.{plain}
-use Rattle.fx_cut.specs.Trim.{keeps, kept_count, starts, is_start, last_start, trimmed_from, trim_rest, trim_after, trim_enough, TrimState, IsTrim, trim_acts}
+use Rattle.fx_cut.specs.Trim.{keeps, starts, is_start, last_start, trim_enough}
+use Rattle.fx_cut.specs.TrimState.{kept_count, trimmed_from, trim_rest, trim_after, TrimState, IsTrim, trim_acts}
 use Rattle.fx_cut.proofs.Fallen.{fallen, stays, no_fall, stays-room, is_full, oldest-first, oldest-channels, first-popped}
 use Rattle.fx_cut.proofs.Hands.{none_of, at_most_one, empty_of}
 use Rattle.fx_cut.proofs.Ranges.{count_same, kept_next}

@@ -7,7 +7,8 @@ use Rattle.fx_frame.specs.Frame.{Samples}
 use Rattle.fx_frame.specs.Frozen.{IsStored}
 use Rattle.fx_frame.specs.Line.{Frames}
 use Rattle.fx_frame.specs.Stage.{numbers_of}
-use Rattle.fx_cut.specs.Trim.{TrimState, IsTrim, IsTrimCount, trim_acts, trim_enough}
+use Rattle.fx_cut.specs.Trim.{trim_enough}
+use Rattle.fx_cut.specs.TrimState.{TrimState, IsTrim, IsTrimCount, trim_acts}
 use Rattle.fx_cut.proofs.Hands.{no-hand, empty_of}
 use Rattle.fx_cut.proofs.Thawing.{flag, lined}
 

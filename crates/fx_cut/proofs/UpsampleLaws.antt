@@ -3,12 +3,10 @@ use Rattle.std.proofs.Common.{ℕ, zero, suc, ◌+◌, ◌-◌, ◌*◌, ◌<◌
 use Rattle.std.specs.Prelude.{is_none}
 use Rattle.std.proofs.Math.Nat.{mod-eq_of_lt, div-eq_of_lt, add-mod_left, add-div_left}
 use Rattle.std.proofs.lemmas.List.{length-replicate}
-use Rattle.fx_frame.specs.Stage.{Gave, Took}
-use Rattle.fx_cut.specs.Upsample.{UpsampleState, IsUpsample}
-use Rattle.fx_cut.specs.Upsample.{upsample_acts}
+use Rattle.fx_frame.specs.Stage.{Gave, Took, Given}
+use Rattle.fx_cut.specs.UpsampleState.{UpsampleState, IsUpsample, upsample_acts}
 use Prim.Native.Nat.compare
 use Rattle.fx_frame.specs.Frame.{Samples, silence}
-use Rattle.fx_frame.specs.Stage.{Given}
 use Rattle.fx_frame.specs.Lists.{tabulate, plain}
 use Rattle.fx_cut.specs.Upsample.{upsampled, upsampled_at}
 use Rattle.fx_frame.proofs.Tabulate.{tabulate-append, tabulate-same, tabulate-replicate}

@@ -11,7 +11,7 @@ use Rattle.fx_frame.proofs.FeedParts.{pieces-split}
 use Rattle.fx_frame.proofs.Feeding.{pieces-take}
 use Rattle.fx_frame.proofs.Pieces.{pieces-front}
 use Rattle.fx_cut.specs.Strides.{spread}
-use Rattle.fx_cut.specs.Upsample.{UpsampleState, IsUpsample, upsample_acts}
+use Rattle.fx_cut.specs.UpsampleState.{UpsampleState, IsUpsample, upsample_acts}
 use Rattle.fx_cut.proofs.Pieces.{first-piece}
 use Rattle.fx_cut.proofs.UpsampleLaws.{Gave-silent, Took-upsample}
 

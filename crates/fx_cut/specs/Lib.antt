@@ -1,8 +1,13 @@
-pub mod Factor
 pub mod Ceil
 pub mod Downsample
-pub mod Upsample
-pub mod Trim
+pub mod DownsampleState
+pub mod Factor
 pub mod Fade
+pub mod FadeState
 pub mod Pad
+pub mod PadState
 pub mod Strides
+pub mod Trim
+pub mod TrimState
+pub mod Upsample
+pub mod UpsampleState

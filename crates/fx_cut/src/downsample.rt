@@ -3,7 +3,7 @@ ghost use Rattle.std.specs.Prelude.{◌≡◌, ◌≤◌, ◌*◌, Ok, IfOk, IfE
 ghost use Rattle.fx_frame.specs.Ring.{pieces};
 ghost use Rattle.fx_frame.specs.Stage.{Freezes, IsNew};
 ghost use Rattle.fx_cut.specs.Factor.{FactorArguments, IsFactor};
-ghost use Rattle.fx_cut.specs.Downsample.{DownsampleState, IsDownsample, downsample_acts};
+ghost use Rattle.fx_cut.specs.DownsampleState.{DownsampleState, IsDownsample, downsample_acts};
 ghost use Rattle.fx_cut.specs.Strides.{firsts};
 
 use crate::many::{PassesMany, feed_by_pieces};
@@ -60,7 +60,7 @@ pub struct Downsample {
 }
 
 impl Model for Downsample {
-    ghost use Rattle.fx_cut.specs.Downsample.{DownsampleState, IsDownsample};
+    ghost use Rattle.fx_cut.specs.DownsampleState.{DownsampleState, IsDownsample};
 
     ghost Value = { DownsampleState };
 

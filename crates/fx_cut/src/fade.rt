@@ -10,7 +10,8 @@ ghost use Rattle.fx_frame.specs.Ring.{pieces};
 ghost use Rattle.fx_frame.specs.Stage.{Freezes, IsNew};
 ghost use Rattle.fx_frame.specs.Lists.{plain};
 ghost use Rattle.fx_frame.specs.Rounded.{unclipped};
-ghost use Rattle.fx_cut.specs.Fade.{FadeArguments, FadeState, IsFade, IsFadeCount, IsShape, fade_acts, fade_after, fade_due, fade_enough, fade_line, faded_along, faded_here, is_before, stop_ahead, stop_in, until, weighted, weights};
+ghost use Rattle.fx_cut.specs.Fade.{FadeArguments, IsShape, fade_due, fade_enough, fade_line, stop_in, until, weighted, weights};
+ghost use Rattle.fx_cut.specs.FadeState.{FadeState, IsFade, IsFadeCount, fade_acts, fade_after, faded_along, faded_here, is_before, stop_ahead};
 
 use crate::lines::push_over;
 use crate::many::{PassesMany, feed_by_pieces};
@@ -333,7 +334,7 @@ pub struct Fade {
 }
 
 impl Model for Fade {
-    ghost use Rattle.fx_cut.specs.Fade.{FadeState, IsFade};
+    ghost use Rattle.fx_cut.specs.FadeState.{FadeState, IsFade};
 
     ghost Value = { FadeState };
 

@@ -5,7 +5,8 @@ ghost use Rattle.fx_fixed.specs.Extents.{greatest, pad_distance};
 ghost use Rattle.fx_frame.specs.Frozen.{IsHand};
 ghost use Rattle.fx_frame.specs.Line.{IsLine};
 ghost use Rattle.fx_frame.specs.Stage.{Freezes, IsNew};
-ghost use Rattle.fx_cut.specs.Pad.{IsPad, IsPadCount, IsPads, PadArguments, PadState, later_count, lengths, pad_acts, pad_rises, pads_from_start, placed, silence_from, silent_at};
+ghost use Rattle.fx_cut.specs.Pad.{IsPads, PadArguments, lengths, pads_from_start, placed, silent_at};
+ghost use Rattle.fx_cut.specs.PadState.{IsPad, IsPadCount, PadState, later_count, pad_acts, pad_rises, silence_from};
 
 use crate::many::{PassesMany, feed_by_pieces, pass_by_frame};
 use fx_fixed::At;
@@ -260,7 +261,7 @@ pub struct Pad {
 }
 
 impl Model for Pad {
-    ghost use Rattle.fx_cut.specs.Pad.{IsPad, PadState};
+    ghost use Rattle.fx_cut.specs.PadState.{IsPad, PadState};
 
     ghost Value = { PadState };
 

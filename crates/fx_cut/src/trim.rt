@@ -7,7 +7,8 @@ ghost use Rattle.fx_fixed.specs.Positions.{place_of, places_of};
 ghost use Rattle.fx_frame.specs.Frozen.{IsHand};
 ghost use Rattle.fx_frame.specs.Line.{IsLine};
 ghost use Rattle.fx_frame.specs.Stage.{Freezes, IsNew, is_enough};
-ghost use Rattle.fx_cut.specs.Trim.{IsTrim, IsTrimCount, TrimArguments, TrimState, keeps, kept_count, starts, trim_acts, trim_after, trim_enough};
+ghost use Rattle.fx_cut.specs.Trim.{TrimArguments, keeps, starts, trim_enough};
+ghost use Rattle.fx_cut.specs.TrimState.{IsTrim, IsTrimCount, TrimState, kept_count, trim_acts, trim_after};
 
 use crate::lines::push_over;
 use crate::many::{PassesMany, feed_by_pieces};
@@ -298,7 +299,7 @@ pub struct Trim {
 }
 
 impl Model for Trim {
-    ghost use Rattle.fx_cut.specs.Trim.{IsTrim, TrimState};
+    ghost use Rattle.fx_cut.specs.TrimState.{IsTrim, TrimState};
 
     ghost Value = { TrimState };
 

@@ -3,7 +3,7 @@ ghost use Rattle.std.specs.Prelude.{◌≡◌, ◌≤◌, ◌-◌, ◌*◌, ◌+
 ghost use Rattle.fx_frame.specs.Ring.{pieces};
 ghost use Rattle.fx_frame.specs.Stage.{Freezes, IsNew};
 ghost use Rattle.fx_cut.specs.Factor.{FactorArguments, IsFactor};
-ghost use Rattle.fx_cut.specs.Upsample.{UpsampleState, IsUpsample, upsample_acts};
+ghost use Rattle.fx_cut.specs.UpsampleState.{UpsampleState, IsUpsample, upsample_acts};
 ghost use Rattle.fx_cut.specs.Strides.{spread};
 
 use crate::many::{PassesMany, feed_by_pieces};
@@ -72,7 +72,7 @@ pub struct Upsample {
 }
 
 impl Model for Upsample {
-    ghost use Rattle.fx_cut.specs.Upsample.{UpsampleState, IsUpsample};
+    ghost use Rattle.fx_cut.specs.UpsampleState.{UpsampleState, IsUpsample};
 
     ghost Value = { UpsampleState };
 

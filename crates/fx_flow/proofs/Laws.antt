@@ -2,7 +2,8 @@ use Rattle.std.proofs.Common.{ℕ, zero, suc, ◌+◌, ◌<◌, ◌≤◌, Bool,
 use Rattle.fx_frame.specs.Frame.{Samples}
 use Rattle.fx_frame.specs.Stage.{Counts, Acts, Gave, Took, Ended, is_enough, kind}
 use Rattle.fx_frame.specs.Holds.{total, recipes, kinds}
-use Rattle.fx_flow.specs.Parts.{Whole, frames_of, clips_of, Matching, Within, work, due_of, enough_for, most_of, any_spent, through, wholes, given_by, given_of, ended_of, AllDry, AllSettled, AllEnded, AllNew, IsLastWet, IsFirstOpen, Joined, CanHandOver, HandedOver, CanFeed, Fed, EndPassed}
+use Rattle.fx_flow.specs.Parts.{Matching, Within, work, most_of, any_spent, through, wholes, given_by, given_of, ended_of, AllDry, AllSettled, AllEnded, AllNew, IsLastWet, IsFirstOpen, Joined, CanHandOver, HandedOver, CanFeed, Fed, EndPassed}
+use Rattle.fx_flow.specs.Composed.{Whole, frames_of, clips_of, due_of, enough_for}
 
 and-false : (b d : Bool) → d ≡ false → (b && d) ≡ false
 and-false true d h = h

@@ -3,7 +3,8 @@ use Prim.Native.Nat.compare
 use Rattle.fx_frame.specs.Frame.{Samples}
 use Rattle.fx_frame.specs.Stage.{Acts}
 use Rattle.fx_frame.specs.Holds.{kinds, recipes, hold_sum}
-use Rattle.fx_flow.specs.Parts.{Parts, Whole, AllDry, AllSettled, AllNew, IsLastWet, IsWetEnd, IsFirstOpen, HandedOver, Fed, EndPassed, frames_of, clips_of, through, wholes, composed, composed_wholes}
+use Rattle.fx_flow.specs.Parts.{Parts, AllDry, AllSettled, AllNew, IsLastWet, IsWetEnd, IsFirstOpen, HandedOver, Fed, EndPassed, through, wholes}
+use Rattle.fx_flow.specs.Composed.{Whole, frames_of, clips_of, composed, composed_wholes}
 use Rattle.fx_flow.specs.Moving.{CanMove, MovedFrom}
 use Rattle.fx_flow.specs.Sound.{IsSound}
 use Rattle.fx_flow.specs.Steps.{Steps, MovedOn, step_of}
@@ -60,11 +61,11 @@ module _ {S R : Type 0} (acts : Acts S R) where
   IsWetEnd-le (suc i) stages wet = let h = IsLastWet-lt acts i stages wet in omega arith
 
   -- what is still to be given by new stages is what their definitions say
-  pub through-AllNew : (stages : List S) → AllNew acts stages → (z : List Samples) → through acts stages z ≡ composed acts (recipes acts stages) z
+  pub through-AllNew : (stages : List S) → AllNew acts stages → (z : List Samples) → through acts stages z ≡ composed acts.meaning (recipes acts stages) z
   through-AllNew [] new z = refl
   through-AllNew (s ∷ stages) new z = ap (λ w. through acts stages (frames_of w)) (new.0.rest z) ∙ through-AllNew stages new.1 _
 
-  pub wholes-AllNew : (stages : List S) → AllNew acts stages → (z : List Samples) → wholes acts stages z ≡ composed_wholes acts (recipes acts stages) z
+  pub wholes-AllNew : (stages : List S) → AllNew acts stages → (z : List Samples) → wholes acts stages z ≡ composed_wholes acts.meaning (recipes acts stages) z
   wholes-AllNew [] new z = refl
   wholes-AllNew (s ∷ stages) new z =
       rw (new.0.counts, new.0.rest z, zero-add, zero-add) (ap (λ (w : List Whole). record { given = length (acts.meaning (acts.recipe s) z); clips = clips_of (acts.meaning (acts.recipe s) z) } ∷ w) (wholes-AllNew stages new.1 _))

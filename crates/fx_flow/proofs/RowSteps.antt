@@ -6,7 +6,8 @@ use Rattle.fx_frame.specs.Holds.{kinds}
 use Rattle.fx_frame.specs.Stage.{Acts}
 use Rattle.fx_flow.specs.Feed.{FlowFed, FlowGave, HoldsFew, Stepped, stepped, taken_in, untouched}
 use Rattle.fx_frame.specs.Row.{outputs_of}
-use Rattle.fx_flow.specs.Parts.{AllSettled, Fed, HandedOver, IsLastWet, Parts, any_spent, ended_of, enough_for, moves_of, taken_of}
+use Rattle.fx_flow.specs.Parts.{AllSettled, Fed, HandedOver, IsLastWet, Parts, any_spent, ended_of, moves_of, taken_of}
+use Rattle.fx_flow.specs.Composed.{enough_for}
 use Rattle.fx_flow.specs.Row.{AllHeld, WentThrough}
 use Rattle.fx_flow.specs.Sound.{IsSound, most_frames}
 use Rattle.fx_flow.specs.Steps.{IsHungry, step_of}

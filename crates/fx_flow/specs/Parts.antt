@@ -1,17 +1,10 @@
 use Rattle.std.specs.Prelude.{ℕ, zero, suc, ◌+◌, ◌<◌, ◌≤◌, Bool, true, false, ◌&&◌, ◌||◌, List, [], ◌∷◌, ◌≡◌, map, length, Option, Some, None, option_to_list, cond}
 use Rattle.fx_frame.specs.Frame.{Samples}
-use Rattle.fx_frame.specs.Stage.{Given, Kind, Acts, IsNew, Gave, Took, Ended, IsDry, is_enough, kind, spent}
+use Rattle.fx_frame.specs.Stage.{Given, Kind, Acts, IsNew, Gave, Took, Ended, IsDry, kind, spent}
 use Rattle.fx_frame.specs.Holds.{total}
+use Rattle.fx_flow.specs.Composed.{Whole, clips_of, frames_of}
 
 -- Stages in a row, each of which takes what the one before gives (this project's profile).
-
--- the frames without their clips
-abbrev pub frames_of : List Given → List Samples
-frames_of gs = map (λ (g : Given). g.samples) gs
-
--- the clips of frames
-abbrev pub clips_of : List Given → ℕ
-clips_of gs = total (λ (g : Given). g.clips) gs
 
 -- channels match from each stage to the next
 abbrev pub Matching : ℕ → List Kind → Type 0
@@ -28,25 +21,10 @@ abbrev pub work : List Kind → ℕ → ℕ
 work [] n = n
 work (k ∷ ks) n = n + work ks (k.most n)
 
--- how many frames the last has given when all are dry after n frames, with no end
-abbrev pub due_of : List Kind → ℕ → ℕ
-due_of [] n = n
-due_of (k ∷ ks) n = due_of ks (k.due n)
-
 -- the most frames that the last gives where n frames come
 abbrev pub most_of : List Kind → ℕ → ℕ
 most_of [] n = n
 most_of (k ∷ ks) n = most_of ks (k.most n)
-
--- enough frames have come to one of them after n frames, with no end: it gives nothing more, whatever comes
-abbrev pub enough_for : List Kind → ℕ → Bool
-enough_for [] n = false
-enough_for (k ∷ ks) n = is_enough k.enough n || enough_for ks (k.due n)
-
--- what a stage gives in all
-pub record Whole : Type 0 where
-  pub given : ℕ
-  pub clips : ℕ
 
 -- what a flow is, to its callers
 pub record Parts (S : Type 0) : Type 0 where
@@ -75,18 +53,6 @@ module _ {S R : Type 0} (acts : Acts S R) where
   wholes (s ∷ stages) z =
       record { given = (acts.counts s).given + length (acts.rest s z); clips = (acts.counts s).clips + clips_of (acts.rest s z) }
       ∷ wholes stages (frames_of (acts.rest s z))
-
-  -- the composed definitions of the effects, by the recipes
-  abbrev pub composed : List R → List Samples → List Samples
-  composed [] x = x
-  composed (r ∷ recipes) x = composed recipes (frames_of (acts.meaning r x))
-
-  -- for each effect how many frames its definition gives, and the clips in them
-  abbrev pub composed_wholes : List R → List Samples → List Whole
-  composed_wholes [] x = []
-  composed_wholes (r ∷ recipes) x =
-      record { given = length (acts.meaning r x); clips = clips_of (acts.meaning r x) }
-      ∷ composed_wholes recipes (frames_of (acts.meaning r x))
 
   -- how many frames the last stage gave
   abbrev pub given_by : ℕ → List S → ℕ

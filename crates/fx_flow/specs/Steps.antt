@@ -3,7 +3,8 @@ use Rattle.std.specs.Prelude.{ℕ, ◌+◌, ◌≤◌, true, false, List, [], �
 use Rattle.fx_frame.specs.Frame.{Samples}
 use Rattle.fx_frame.specs.Stage.{Acts}
 use Rattle.fx_frame.specs.Holds.{recipes, kinds}
-use Rattle.fx_flow.specs.Parts.{Parts, Whole, taken_of, work, moves_of, ended_of, through, wholes, AllDry, AllSettled, AllEnded, IsLastWet, IsFirstOpen, HandedOver, Fed, EndPassed, given_by}
+use Rattle.fx_flow.specs.Parts.{Parts, taken_of, work, moves_of, ended_of, through, wholes, AllDry, AllSettled, AllEnded, IsLastWet, IsFirstOpen, HandedOver, Fed, EndPassed, given_by}
+use Rattle.fx_flow.specs.Composed.{Whole}
 use Rattle.fx_flow.specs.declared.flow.State.{State}
 use Rattle.fx_flow.specs.declared.flow.State.TheVariants.{Hungry, Busy, Done}
 use Rattle.fx_flow.specs.declared.flow.Step.{Step}

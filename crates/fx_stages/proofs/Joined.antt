@@ -1,10 +1,10 @@
 -- A stage of each effect is a stage of any effect: what it took, gave and was fed, that one was.
 use Rattle.std.proofs.Common.{◌≡◌, List, refl}
-use Rattle.fx_cut.specs.Downsample.{downsample_acts}
-use Rattle.fx_cut.specs.Fade.{fade_acts}
-use Rattle.fx_cut.specs.Pad.{pad_acts}
-use Rattle.fx_cut.specs.Trim.{trim_acts}
-use Rattle.fx_cut.specs.Upsample.{upsample_acts}
+use Rattle.fx_cut.specs.DownsampleState.{downsample_acts}
+use Rattle.fx_cut.specs.FadeState.{fade_acts}
+use Rattle.fx_cut.specs.PadState.{pad_acts}
+use Rattle.fx_cut.specs.TrimState.{trim_acts}
+use Rattle.fx_cut.specs.UpsampleState.{upsample_acts}
 use Rattle.fx_frame.proofs.FedLaws.{Fed-along, PassedOn-along}
 use Rattle.fx_frame.specs.declared.feed.Passing.{Passing}
 use Rattle.fx_frame.specs.Feed.{Fed, PassedOn}
@@ -12,14 +12,15 @@ use Rattle.fx_frame.specs.Frame.{Samples}
 use Rattle.fx_frame.specs.Stage.{Acts}
 use Rattle.fx_stages.specs.declared.stage.EffectStage.{EffectStage}
 use Rattle.fx_stages.specs.declared.stage.EffectStage.TheVariants as stages
-use Rattle.fx_stages.specs.Effects.{EffectRecipe, ForTrim, ForPad, ForFade, ForUpsample, ForDownsample, ForDelay, ForEcho, ForEchos, ForFir, ForRemix, ForVol, ForDcShift, effect_acts}
-use Rattle.fx_tap.specs.DcShift.{dcshift_acts}
-use Rattle.fx_tap.specs.Delay.{delay_acts}
-use Rattle.fx_tap.specs.Echo.{echo_acts}
-use Rattle.fx_tap.specs.Echos.{echos_acts}
-use Rattle.fx_tap.specs.Fir.{fir_acts}
-use Rattle.fx_tap.specs.Remix.{remix_acts}
-use Rattle.fx_tap.specs.Vol.{vol_acts}
+use Rattle.fx_stages.specs.Effects.{EffectRecipe, ForTrim, ForPad, ForFade, ForUpsample, ForDownsample, ForDelay, ForEcho, ForEchos, ForFir, ForRemix, ForVol, ForDcShift}
+use Rattle.fx_stages.specs.Stages.{effect_acts}
+use Rattle.fx_tap.specs.DcShiftState.{dcshift_acts}
+use Rattle.fx_tap.specs.DelayState.{delay_acts}
+use Rattle.fx_tap.specs.EchoState.{echo_acts}
+use Rattle.fx_tap.specs.EchosState.{echos_acts}
+use Rattle.fx_tap.specs.FirState.{fir_acts}
+use Rattle.fx_tap.specs.RemixState.{remix_acts}
+use Rattle.fx_tap.specs.VolState.{vol_acts}
 
 -- stages that behave so are stages of any effect, under a variant and with a recipe of theirs
 pub record Joins {S R : Type 0} (acts : Acts S R) (wrap : S → EffectStage) : Type 0 where

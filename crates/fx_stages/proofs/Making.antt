@@ -17,7 +17,8 @@ use Rattle.fx_plan.specs.Pad.{Length, are_pads, are_rising}
 use Rattle.fx_plan.specs.Remix.{is_mix, specs_in}
 use Rattle.fx_plan.specs.Effects.{Act}
 use Rattle.fx_stages.specs.declared.stage.EffectStage.{EffectStage}
-use Rattle.fx_stages.specs.Effects.{EffectRecipe, effect_acts}
+use Rattle.fx_stages.specs.Effects.{EffectRecipe}
+use Rattle.fx_stages.specs.Stages.{effect_acts}
 use Rattle.fx_stages.specs.Made.{channels_after, recipe_for, recipes_for}
 use Rattle.fx_frame.specs.Holds.{recipes}
 use Rattle.fx_plan.specs.Bounds.{hold_all, hold_of, line_of}

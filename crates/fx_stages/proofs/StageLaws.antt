@@ -11,7 +11,7 @@ use Rattle.fx_frame.specs.Line.{Frames, IsLine, IsSamples}
 use Rattle.fx_frame.specs.Stage.{kind}
 use Rattle.fx_stages.specs.declared.stage.EffectStage.{EffectStage}
 use Rattle.fx_stages.specs.declared.stage.EffectStage.TheVariants as stages
-use Rattle.fx_stages.specs.Effects.{effect_acts, sound_of}
+use Rattle.fx_stages.specs.Stages.{effect_acts, sound_of}
 use Rattle.fx_stages.specs.Narrow.{AreNarrow, IsNarrow}
 use Rattle.fx_tap.specs.Mapped.{MapState}
 use Rattle.fx_tap.specs.Remix.{RemixArguments}

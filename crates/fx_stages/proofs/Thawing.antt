@@ -11,7 +11,8 @@ use Rattle.fx_plan.specs.Bounds.{hold_all}
 use Rattle.fx_plan.specs.Effects.{Act, Usable}
 use Rattle.fx_stages.specs.declared.stage.EffectStage.{EffectStage}
 use Rattle.fx_stages.specs.declared.thaw.EffectArguments.{EffectArguments}
-use Rattle.fx_stages.specs.Effects.{EffectRecipe, effect_acts, recipe_of}
+use Rattle.fx_stages.specs.Effects.{EffectRecipe}
+use Rattle.fx_stages.specs.Stages.{effect_acts, recipe_of}
 use Rattle.fx_stages.specs.Made.{all_suit, channels_after, recipe_for, recipes_for, suits}
 use Rattle.fx_stages.specs.Thawed.{FitsEffect, fits_stage, placed, placing, recipe_with}
 use Rattle.fx_stages.proofs.Making.{hold-tail}

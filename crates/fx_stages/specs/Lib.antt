@@ -1,4 +1,5 @@
 pub mod Effects
 pub mod Made
 pub mod Narrow
+pub mod Stages
 pub mod Thawed

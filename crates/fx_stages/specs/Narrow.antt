@@ -5,7 +5,7 @@ use Rattle.std.specs.List.{All}
 use Rattle.fx_frame.specs.Frame.{Samples}
 use Rattle.fx_stages.specs.declared.stage.EffectStage.{EffectStage}
 use Rattle.fx_stages.specs.declared.stage.EffectStage.TheVariants as stages
-use Rattle.fx_stages.specs.Effects.{stored_of}
+use Rattle.fx_stages.specs.Stages.{stored_of}
 
 -- every sample of the frames has 32 bits
 abbrev pub AreNarrow : List Samples → Type 0

@@ -1,14 +1,14 @@
 //! The stages of a plan's effects.
 ghost use Rattle.std.specs.Prelude.{◌≡◌, ◌≤◌, ◌^◌, IfOk, map, true, length};
 ghost use Rattle.std.specs.List.{All};
-ghost use Rattle.fx_cut.specs.Fade.{fade_acts};
+ghost use Rattle.fx_cut.specs.FadeState.{fade_acts};
 ghost use Rattle.fx_fixed.specs.Extents.{meant};
 ghost use Rattle.fx_flow.specs.Parts.{AllNew};
 ghost use Rattle.fx_frame.specs.Holds.{recipes};
 ghost use Rattle.fx_frame.specs.Stage.{IsNew};
 ghost use Rattle.fx_plan.specs.Bounds.{hold_all, line_of};
 ghost use Rattle.fx_plan.specs.Effects.{Usable, act};
-ghost use Rattle.fx_stages.specs.Effects.{effect_acts};
+ghost use Rattle.fx_stages.specs.Stages.{effect_acts};
 ghost use Rattle.fx_stages.specs.Made;
 ghost use Rattle.fx_stages.specs.Made.{all_suit, recipe_for, recipes_for, suits};
 

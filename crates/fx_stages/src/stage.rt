@@ -6,9 +6,9 @@ ghost use Rattle.fx_frame.specs.Frame.{Samples};
 ghost use Rattle.fx_frame.specs.Ring.{pieces};
 ghost use Rattle.fx_frame.specs.Row.{EachThrough};
 ghost use Rattle.fx_frame.specs.Stage.{kind};
-ghost use Rattle.fx_stages.specs.Effects.{effect_acts};
-ghost use Rattle.fx_tap.specs.Mapped.{most_taken};
-ghost use Rattle.fx_tap.specs.PerSample.{sample_acts};
+ghost use Rattle.fx_stages.specs.Stages.{effect_acts};
+ghost use Rattle.fx_tap.specs.Kinds.{most_taken};
+ghost use Rattle.fx_tap.specs.PerSampleState.{sample_acts};
 
 use fx_cut::{Downsample, Fade, Pad, Trim, Upsample};
 use fx_frame::stage::Stage;
@@ -57,7 +57,8 @@ macro_rules! each {
 }
 
 impl Stage for EffectStage {
-    ghost use Rattle.fx_stages.specs.Effects.{EffectRecipe, effect_acts, effect_rises, sound_of};
+    ghost use Rattle.fx_stages.specs.Effects.{EffectRecipe};
+    ghost use Rattle.fx_stages.specs.Stages.{effect_acts, effect_rises, sound_of};
 
     ghost Recipe = { EffectRecipe };
 

@@ -42,7 +42,7 @@ pub fn arguments_of(
 }
 
 impl Thaws for EffectStage {
-    ghost use Rattle.fx_stages.specs.Effects.{recipe_of};
+    ghost use Rattle.fx_stages.specs.Stages.{recipe_of};
     ghost use Rattle.fx_stages.specs.Thawed.{fits_stage, recipe_with};
     ghost use Rattle.std.specs.Prelude.{◌≡◌};
     ghost use Rattle.std.proofs.Common.{◌∙◌};

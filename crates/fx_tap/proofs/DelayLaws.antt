@@ -9,7 +9,7 @@ use Rattle.std.proofs.lemmas.List.{get_or_append_left, get_or-drop}
 use Rattle.fx_fixed.specs.Extents.{greatest}
 use Rattle.fx_frame.specs.Frame.{Samples, silence}
 use Rattle.fx_frame.specs.Lists.{tabulate}
-use Rattle.fx_tap.specs.Tapped.{sample_before}
+use Rattle.fx_tap.specs.Past.{sample_before}
 use Rattle.fx_frame.proofs.Tabulate.{tabulate-append, length-tabulate}
 
 -- what comes later is not read

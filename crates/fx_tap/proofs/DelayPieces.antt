@@ -4,8 +4,10 @@ use Rattle.std.specs.Prelude.{slice_index}
 use Rattle.fx_frame.specs.Frame.{Samples}
 use Rattle.fx_frame.specs.Ring.{pieces}
 use Rattle.fx_frame.specs.Stage.{Given}
-use Rattle.fx_tap.specs.Delay.{delay_taps, delayed_frame}
-use Rattle.fx_tap.specs.Tapped.{frames_behind, sample_before}
+use Rattle.fx_tap.specs.Delay.{delayed_frame}
+use Rattle.fx_tap.specs.DelayState.{delay_taps}
+use Rattle.fx_tap.specs.Tapped.{frames_behind}
+use Rattle.fx_tap.specs.Past.{sample_before}
 use Rattle.fx_tap.proofs.Delaying.{map-tabulate}
 use Rattle.fx_tap.proofs.FirBlocks.{pieces-table}
 use Rattle.fx_frame.proofs.Tabulate.{tabulate-same}

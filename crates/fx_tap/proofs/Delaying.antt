@@ -16,9 +16,11 @@ use Rattle.fx_frame.specs.Stage.{Given}
 use Rattle.fx_frame.proofs.Feeding.{pieces-take}
 use Rattle.fx_frame.proofs.ManyFrames.{pieces-joined, pieces-replicate, replicate-front}
 use Rattle.fx_frame.proofs.Pieces.{length-pieces}
-use Rattle.fx_tap.specs.Delay.{delay_taps, delayed_frame}
+use Rattle.fx_tap.specs.Delay.{delayed_frame}
+use Rattle.fx_tap.specs.DelayState.{delay_taps}
 use Rattle.fx_frame.specs.Lists.{plain, tabulate}
-use Rattle.fx_tap.specs.Tapped.{clips_behind, frames_behind, last_of, sample_before}
+use Rattle.fx_tap.specs.Tapped.{clips_behind, frames_behind, last_of}
+use Rattle.fx_tap.specs.Past.{sample_before}
 use Rattle.fx_tap.proofs.Blocks.{pieces-sides}
 use Rattle.fx_frame.proofs.Tabulate.{tabulate-replicate, tabulate-same}
 use borrow.Rule.Slice.PartMut.{put_mid}

@@ -9,7 +9,7 @@ use Rattle.fx_fixed.specs.declared.gains.TheConstants.{UNIT}
 use Rattle.fx_frame.specs.Frame.{Samples}
 use Rattle.fx_frame.specs.Lists.{tabulate}
 use Rattle.fx_tap.specs.Echo.{EchoArguments, echo_sum, echoed_sample, echoes_of}
-use Rattle.fx_tap.specs.Tapped.{Past, sample_before}
+use Rattle.fx_tap.specs.Past.{Past, sample_before}
 use Rattle.fx_frame.proofs.Tabulate.{tabulate-same}
 
 -- the frame that comes after those of the line is the one that is 0 frames ago

@@ -11,12 +11,14 @@ use Rattle.fx_frame.specs.Ring.{pieces}
 use Rattle.fx_frame.specs.Stage.{Given}
 use Rattle.fx_frame.proofs.ManyFrames.{latest-held, latest-quiet}
 use Rattle.fx_frame.proofs.Pieces.{get_or-piece}
-use Rattle.fx_tap.specs.Echo.{EchoArguments, echo_sum, echo_taps, echoed_frame, echoed_sample}
+use Rattle.fx_tap.specs.Echo.{EchoArguments, echo_sum, echoed_frame, echoed_sample}
+use Rattle.fx_tap.specs.EchoState.{echo_taps}
 use Rattle.fx_tap.specs.EchoWeights.{SoundsAs, Weights, weighed}
 use Rattle.fx_frame.specs.Lists.{tabulate}
 use Rattle.fx_tap.specs.PerSample.{rounded_given}
 use Rattle.fx_frame.specs.Rounded.{clips_of, samples_of}
-use Rattle.fx_tap.specs.Tapped.{clips_behind, frames_behind, sample_before}
+use Rattle.fx_tap.specs.Tapped.{clips_behind, frames_behind}
+use Rattle.fx_tap.specs.Past.{sample_before}
 use Rattle.fx_tap.proofs.EchoWeights.{small-sample}
 use Rattle.fx_tap.proofs.SumPieces.{rounded-clips, rounded-frame, rounded-frames}
 

@@ -11,7 +11,7 @@ use Rattle.fx_fixed.proofs.Reductions.{rounding-reduced}
 use Rattle.fx_tap.specs.Echo.{EchoArguments, echo_sum, echoed_sample, echoes_of}
 use Rattle.fx_tap.specs.EchoWeights.{AreSmall, SoundsAs, Suits, Weights, weighed, weighed_echoes}
 use Rattle.fx_transform.specs.Products.{sum_of_products}
-use Rattle.fx_tap.specs.Tapped.{Past}
+use Rattle.fx_tap.specs.Past.{Past}
 use Rattle.fx_tap.proofs.Fractions.{below-positive}
 use Rattle.fx_tap.proofs.SignedProducts.{mul-add, mul_assoc}
 

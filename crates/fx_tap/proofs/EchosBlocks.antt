@@ -13,7 +13,7 @@ use Rattle.fx_frame.specs.Stage.{Given}
 use Rattle.fx_frame.proofs.FedLaws.{Fed-then}
 use Rattle.fx_frame.proofs.Pieces.{length-pieces}
 use Rattle.fx_tap.specs.Echo.{EchoArguments}
-use Rattle.fx_tap.specs.Echos.{EchosState, IsEchoLine, IsEchos, came_of, delay_at, echos_acts, fed, frame_of_lines, frames_of, let_go, line_at, lines_after, or_silence, places_of, rows_after, through_lines}
+use Rattle.fx_tap.specs.EchosState.{EchosState, IsEchoLine, IsEchos, came_of, delay_at, echos_acts, fed, frame_of_lines, frames_of, let_go, line_at, lines_after, or_silence, places_of, rows_after, through_lines}
 use Rattle.fx_tap.proofs.EchosPieces.{pushed-within}
 use Rattle.fx_frame.proofs.Tabulate.{length-tabulate}
 

@@ -11,7 +11,8 @@ use Rattle.fx_frame.specs.Stage.{Given}
 use Rattle.fx_frame.proofs.Pieces.{get_or-piece, length-pieces}
 use Rattle.fx_tap.specs.Echo.{EchoArguments}
 use Rattle.fx_tap.specs.EchoWeights.{Suits, Weights}
-use Rattle.fx_tap.specs.Echos.{decays, fed, frame_of_lines, gone_at, let_go, lines_after, or_silence, rows_after, through_lines}
+use Rattle.fx_tap.specs.Echos.{decays}
+use Rattle.fx_tap.specs.EchosState.{fed, frame_of_lines, gone_at, let_go, lines_after, or_silence, rows_after, through_lines}
 use Rattle.fx_frame.specs.Lists.{tabulate}
 use Rattle.fx_tap.specs.PerSample.{rounded_given}
 use Rattle.fx_transform.specs.Products.{sum_of_products}

@@ -11,11 +11,12 @@ use Rattle.fx_fixed.specs.declared.gains.TheConstants.{UNIT}
 use Rattle.fx_frame.specs.Frame.{Samples, silence}
 use Rattle.fx_frame.specs.Line.{Frames, pushed_out, channel_of, empty}
 use Rattle.fx_tap.specs.Echo.{EchoArguments}
-use Rattle.fx_tap.specs.Echos.{after_push, decays, delay_at, echos, echos_frame, fed, frame_of_lines, let_go, lines_after, or_silence, passed, sum_below, through_lines, way}
+use Rattle.fx_tap.specs.Echos.{decays, echos, echos_frame, passed, sum_below, way}
+use Rattle.fx_tap.specs.EchosState.{after_push, delay_at, fed, frame_of_lines, let_go, lines_after, or_silence, through_lines}
 use Rattle.fx_frame.specs.Lists.{tabulate}
 use Rattle.fx_transform.specs.Products.{sum_of_products}
 use Rattle.fx_frame.specs.Rounded.{given_of}
-use Rattle.fx_tap.specs.Tapped.{Past, sample_before}
+use Rattle.fx_tap.specs.Past.{Past, sample_before}
 use Rattle.fx_tap.proofs.DelayLaws.{quiet-after, quiet-sample}
 use Rattle.fx_frame.proofs.Tabulate.{tabulate-append, tabulate-same, length-tabulate}
 

@@ -14,7 +14,7 @@ use Rattle.fx_frame.specs.Line.{Frames, channel_of, empty, latest_frames, pushed
 use Rattle.fx_frame.specs.Ring.{pieces}
 use Rattle.fx_frame.proofs.Pieces.{get_or-piece, length-pieces}
 use Rattle.fx_tap.specs.Echo.{EchoArguments}
-use Rattle.fx_tap.specs.Echos.{after_push, fed, frame_of_lines, gone_at, let_go, line_at, lines_after, or_silence, rows_after, through_lines}
+use Rattle.fx_tap.specs.EchosState.{after_push, fed, frame_of_lines, gone_at, let_go, line_at, lines_after, or_silence, rows_after, through_lines}
 use Rattle.fx_frame.specs.Lists.{tabulate}
 use Rattle.fx_transform.specs.Products.{sum_of_products}
 use Rattle.fx_tap.proofs.Blocks.{pieces-sides}

@@ -13,7 +13,8 @@ use Rattle.fx_fixed.specs.Rounding.{rounding}
 use Rattle.fx_tap.specs.Echo.{EchoArguments}
 use Rattle.fx_frame.specs.Rounded.{given_of}
 use Rattle.fx_frame.proofs.Tabulate.{tabulate-same}
-use Rattle.fx_tap.specs.Echos.{IsRowLine, after_push, decays, fed, frame_of_lines, let_go, line_at, lines_after, or_silence, up_to}
+use Rattle.fx_tap.specs.Echos.{decays}
+use Rattle.fx_tap.specs.EchosState.{IsRowLine, after_push, fed, frame_of_lines, let_go, line_at, lines_after, or_silence, up_to}
 use Rattle.fx_frame.specs.Lists.{tabulate}
 use Rattle.fx_transform.specs.Products.{sum_of_products}
 use borrow.Author.Tests.{ltb-true, ltb-false}

@@ -7,7 +7,7 @@ use Rattle.std.proofs.lemmas.List.{drop_more, drop_all, length-append, take_more
 use Rattle.fx_frame.specs.Frame.{Samples}
 use Rattle.fx_frame.specs.Frozen.{line_of}
 use Rattle.fx_frame.specs.Line.{Frames, IsLine, empty}
-use Rattle.fx_tap.specs.Echos.{IsEchoLine, delay_at, frames_of, line_at}
+use Rattle.fx_tap.specs.EchosState.{IsEchoLine, delay_at, frames_of, line_at}
 use Rattle.fx_tap.specs.EchosStored.{IsRow, IsSmall}
 
 -- a line of these frames

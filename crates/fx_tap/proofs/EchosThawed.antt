@@ -6,9 +6,9 @@ use Rattle.fx_frame.specs.Frame.{Samples}
 use Rattle.fx_frame.specs.Line.{Frames}
 use Rattle.fx_frame.specs.Stage.{Freezes}
 use Rattle.fx_tap.specs.Echo.{EchoArguments}
-use Rattle.fx_tap.specs.Echos.{EchosState, IsEchos, echos_acts, frames_of}
+use Rattle.fx_tap.specs.EchosState.{EchosState, IsEchos, echos_acts, frames_of}
 use Rattle.fx_tap.specs.EchosStored.{IsRowStored}
-use Rattle.fx_tap.specs.Mapped.{most_taken}
+use Rattle.fx_tap.specs.Kinds.{most_taken}
 use Rattle.fx_tap.specs.Tapped.{TailNumbers, by_name}
 use Rattle.fx_tap.proofs.Counts.{flag-false, flag-le, flag-of, flag-times, flag-true}
 

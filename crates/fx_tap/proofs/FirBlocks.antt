@@ -19,11 +19,13 @@ use Rattle.fx_frame.proofs.FedLaws.{Fed-then, total-append}
 use Rattle.fx_frame.proofs.FeedParts.{pieces-split}
 use Rattle.fx_frame.proofs.Feeding.{pieces-more, pieces-same}
 use Rattle.fx_frame.proofs.Pieces.{length-pieces, pieces-front}
-use Rattle.fx_tap.specs.Fir.{FirArguments, FirState, IsFir, centre, filtered_frame, filtered_sample, fir_acts, fir_taps}
+use Rattle.fx_tap.specs.Fir.{FirArguments, centre, filtered_frame, filtered_sample}
+use Rattle.fx_tap.specs.FirState.{FirState, IsFir, fir_acts, fir_taps}
 use Rattle.fx_frame.specs.Lists.{tabulate}
 use Rattle.fx_transform.specs.Products.{sum_of_products}
 use Rattle.fx_frame.specs.Rounded.{clips_of, samples_of}
-use Rattle.fx_tap.specs.Tapped.{IsNear, Taps, behind, clips_behind, frames_behind, last_of, sample_before}
+use Rattle.fx_tap.specs.Tapped.{IsNear, Taps, behind, clips_behind, frames_behind, last_of}
+use Rattle.fx_tap.specs.Past.{sample_before}
 use Rattle.fx_tap.proofs.Delaying.{map-tabulate}
 use Rattle.fx_tap.proofs.FirLaws.{behind-due, samples_of-tabulate}
 use Rattle.fx_tap.proofs.Rounds.{clips_of-next}

@@ -9,9 +9,11 @@ use Rattle.fx_frame.specs.Frame.{Samples}
 use Rattle.fx_frame.specs.Line.{Frames, pushed, channel_of}
 use Rattle.fx_frame.specs.Frozen.{IsStored}
 use Rattle.fx_frame.specs.Stage.{Gave, Took, Freezes, numbers_of}
-use Rattle.fx_tap.specs.Tapped.{by_name, sample_before}
+use Rattle.fx_tap.specs.Tapped.{by_name}
+use Rattle.fx_tap.specs.Past.{sample_before}
 use Rattle.fx_tap.proofs.Counts.{flag-false, flag-le, flag-of, flag-true}
-use Rattle.fx_tap.specs.Fir.{AreFirCounts, FirArguments, FirState, IsFir, centre, filtered_frame, filtered_at, filtered, fir_behind, fir_tail, fir_acts, arguments_of}
+use Rattle.fx_tap.specs.Fir.{FirArguments, centre, filtered_frame, filtered_at, filtered}
+use Rattle.fx_tap.specs.FirState.{AreFirCounts, FirState, IsFir, fir_behind, fir_tail, fir_acts, arguments_of}
 use Rattle.fx_frame.specs.Lists.{tabulate}
 use Rattle.fx_transform.specs.Products.{sum_of_products}
 use Rattle.fx_frame.specs.Rounded.{samples_of, clips_of, given_of}

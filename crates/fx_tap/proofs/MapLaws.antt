@@ -3,7 +3,8 @@ use Rattle.std.proofs.Common.{ℕ, ◌≡◌, ◌+◌, ◌*◌, ◌≤◌, Optio
 use Rattle.std.specs.Prelude.{nat_eq, option_to_list, slice_index_or}
 use Rattle.fx_frame.specs.Frame.{Samples}
 use Rattle.fx_frame.specs.Stage.{Freezes, Given}
-use Rattle.fx_tap.specs.Mapped.{IsMapState, MapState, map_acts, most_taken}
+use Rattle.fx_tap.specs.Mapped.{IsMapState, MapState, map_acts}
+use Rattle.fx_tap.specs.Kinds.{most_taken}
 use Rattle.fx_tap.proofs.Counts.{flag-le, flag-of, flag-true}
 
 -- what holds of the eight numbers of a stage that stores so many frames

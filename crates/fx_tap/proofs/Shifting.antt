@@ -4,7 +4,7 @@ use Rattle.std.specs.Prelude.{nat_lt, ◌==◌}
 use Rattle.std.proofs.Math.Nat.{mul-add-div, div-eq_of_lt, div-add-mod'}
 use Rattle.std.proofs.lemmas.Bool.Decides.{nat_tests}
 use borrow.Author.Differences.{up, down, same_in, sum_is_lem, product_is}
-use Rattle.fx_tap.specs.DcShift.{floor_of, over_of, steps_of, leaves_half, raised}
+use Rattle.fx_tap.specs.DcShiftState.{floor_of, over_of, steps_of, leaves_half, raised}
 use Rattle.std.proofs.lemmas.Int.{ints}
 use Rattle.fx_fixed.specs.Rounding.{nearest_natural, nearest, signed}
 use Rattle.fx_fixed.proofs.Signs.{nearest-neg, none_below_zero}

@@ -15,7 +15,8 @@ use Rattle.fx_frame.specs.Stage.{Acts, Given}
 use Rattle.fx_frame.specs.Holds.{total}
 use Rattle.fx_frame.proofs.FedLaws.{Fed-then, total-append}
 use Rattle.fx_frame.proofs.Pieces.{keep-twice, length-pieces}
-use Rattle.fx_tap.specs.Tapped.{Taps, TapState, IsNear, IsTapState, behind, clips_behind, frames_behind, last_of, sample_before, tap_acts}
+use Rattle.fx_tap.specs.Tapped.{Taps, TapState, IsNear, IsTapState, behind, clips_behind, frames_behind, last_of, tap_acts}
+use Rattle.fx_tap.specs.Past.{sample_before}
 use Rattle.fx_tap.proofs.Blocks.{pieces-sides}
 use Rattle.fx_tap.proofs.TapLaws.{behind-step}
 

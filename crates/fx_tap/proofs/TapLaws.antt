@@ -1,14 +1,15 @@
 -- The steps of a stage that makes each frame of that frame and of those before it.
-use Rattle.std.proofs.Common.{ℕ, ℤ, pos, zero, suc, ◌+◌, ◌-◌, ◌<◌, ◌≤◌, ◌≡◌, Bool, true, false, cond, List, [], ◌∷◌, ◌++◌, length, drop, refl, sym, ap, ◌∙◌, min, arith, replicate, append_assoc, add-one, sub-one}
+use Rattle.std.proofs.Common.{ℕ, ℤ, pos, zero, suc, ◌+◌, ◌-◌, ◌<◌, ◌≤◌, ◌≡◌, true, false, cond, List, [], ◌∷◌, ◌++◌, length, drop, refl, sym, ap, ◌∙◌, min, arith, replicate, append_assoc, add-one, sub-one}
 use Rattle.std.proofs.Math.Nat.{suc-mul}
-use Rattle.std.specs.Prelude.{option_to_list, nat_le, Some, None, nat_eq, ◌^◌}
+use Rattle.std.specs.Prelude.{option_to_list, nat_le, Some, None, ◌^◌}
 use Rattle.std.specs.Int.{w32}
 use Rattle.std.proofs.lemmas.List.{length-append, length-drop, length-replicate, drop-append-le}
 use Rattle.fx_frame.specs.Frame.{Samples, silence, IsFrame}
 use Rattle.fx_frame.specs.Line.{Frames, pushed, IsLine}
 use Rattle.fx_frame.specs.Stage.{Freezes, Gave, Took}
 use Rattle.fx_frame.specs.Lists.{tabulate}
-use Rattle.fx_tap.specs.Tapped.{AreTapCounts, Taps, TapState, IsTapState, IsNear, behind, by_name, tapped, tap_acts, sample_before}
+use Rattle.fx_tap.specs.Tapped.{AreTapCounts, Taps, TapState, IsTapState, IsNear, behind, by_name, tapped, tap_acts}
+use Rattle.fx_tap.specs.Past.{sample_before}
 use Rattle.fx_tap.proofs.Counts.{flag-false, flag-le, flag-times, flag-true}
 use Rattle.fx_tap.proofs.DryLaws.{dry-hand, dry-tail, true_of}
 use Rattle.fx_tap.proofs.DelayLaws.{sample_before-append, sample_before-drop, quiet-after}

@@ -8,7 +8,8 @@ use Rattle.fx_fixed.specs.Rounding.{rounding}
 use Rattle.fx_fixed.specs.declared.gains.TheConstants.{UNIT}
 use Rattle.fx_frame.specs.Frame.{Samples}
 use Rattle.fx_frame.specs.Line.{channel_of}
-use Rattle.fx_tap.specs.Fir.{samples_of_window, samples_back, filtered_sample}
+use Rattle.fx_tap.specs.Fir.{samples_back, filtered_sample}
+use Rattle.fx_tap.specs.FirState.{samples_of_window}
 use Rattle.fx_frame.specs.Lists.{tabulate}
 use Rattle.fx_transform.specs.Products.{sum_of_products}
 use Rattle.fx_frame.proofs.Tabulate.{tabulate-append, tabulate-same, length-tabulate}

@@ -1,13 +1,11 @@
 -- The effect `dcshift` (sox(1), EFFECTS, dcshift): each sample plus the shift, of which 1 is the greatest amplitude.
 -- Rounding and clips are this project's profile.
-use Rattle.std.specs.Prelude.{ℕ, ◌*◌, ◌^◌, ◌==◌, nat_lt, ℤ, pos, ◌+ℤ◌, ◌*ℤ◌, unsigned_abs, if◌then◌else◌, int_lt, List, Bool, not, ◌&&◌, map}
-use Rattle.std.specs.Int.{int_div_euclid, int_rem_euclid}
+use Rattle.std.specs.Prelude.{◌^◌, ℤ, pos, ◌+ℤ◌, ◌*ℤ◌, List, Bool, map}
 use Rattle.fx_fixed.specs.Rounding.{rounding}
 use Rattle.fx_fixed.specs.declared.gains.TheConstants.{UNIT}
 use Rattle.fx_frame.specs.Frame.{Samples}
-use Rattle.fx_frame.specs.Stage.{Acts, Given}
-use Rattle.fx_tap.specs.Mapped.{MapState}
-use Rattle.fx_tap.specs.PerSample.{SampleArguments, rounded_given, sample_acts}
+use Rattle.fx_frame.specs.Stage.{Given}
+use Rattle.fx_tap.specs.PerSample.{SampleArguments, rounded_given}
 
 -- a shift in units, UNIT of them to a step of a sample
 abbrev pub units_of : ℤ → ℤ
@@ -21,25 +19,6 @@ shifted_sample shift sample = rounding ((sample *ℤ pos UNIT) +ℤ units_of shi
 abbrev pub dcshift : ℤ → List Samples → List Given
 dcshift shift x = map (rounded_given (shifted_sample shift)) x
 
--- how the stages of `dcshift` behave
-abbrev pub dcshift_acts : Acts (MapState (SampleArguments ℤ)) (SampleArguments ℤ)
-dcshift_acts = record (sample_acts shifted_sample) { meaning = λ a x. dcshift a.sampling x }
-
--- A shift in units, q to a step: the whole steps below it, and the units beyond them.
-abbrev pub floor_of : ℕ → ℤ → ℤ
-floor_of q units = int_div_euclid units (pos q)
-
-abbrev pub over_of : ℕ → ℤ → ℕ
-over_of q units = unsigned_abs (int_rem_euclid units (pos q))
-
--- the steps that every sample goes up by: one more than those where more than half a step is beyond
-abbrev pub steps_of : ℕ → ℤ → ℤ
-steps_of q units = if nat_lt q (2 * over_of q units) then floor_of q units +ℤ pos 1 else floor_of q units
-
--- just half a step is beyond
-abbrev pub leaves_half : ℕ → ℤ → Bool
-leaves_half q units = 2 * over_of q units == q
-
--- a sum and, where there is one, half a step beyond it, to the nearest step; a half goes away from zero
-abbrev pub raised : Bool → ℤ → ℤ
-raised half sum = if half && not (int_lt sum (pos 0)) then sum +ℤ pos 1 else sum
+-- the same, by its arguments
+abbrev pub dcshift_meaning : SampleArguments ℤ → List Samples → List Given
+dcshift_meaning a x = dcshift a.sampling x

@@ -2,10 +2,10 @@
 use Rattle.std.specs.Prelude.{ℕ, ◌+◌, ◌-◌, List, ◌++◌, length, replicate, slice_index}
 use Rattle.fx_fixed.specs.Extents.{greatest}
 use Rattle.fx_frame.specs.Frame.{Samples}
-use Rattle.fx_frame.specs.Stage.{Given, Acts}
+use Rattle.fx_frame.specs.Stage.{Given, Kind}
 use Rattle.fx_frame.specs.Lists.{tabulate, plain}
-pub use Rattle.fx_tap.specs.Tapped.{sample_before}
-use Rattle.fx_tap.specs.Tapped.{Past, Taps, TapState, tap_acts}
+use Rattle.fx_tap.specs.Past.{Past, sample_before}
+use Rattle.fx_tap.specs.Kinds.{tap_kind}
 
 -- the frame whose channel k is delayed by delay k
 abbrev pub delayed_frame : List ℕ → Past → Samples
@@ -19,10 +19,6 @@ delayed delays x = tabulate (λ n. plain (delayed_frame delays (sample_before x 
 abbrev pub every_delay : ℕ → List ℕ → List ℕ
 every_delay channels delays = delays ++ replicate (channels - length delays) 0
 
--- how `delay` makes frames; no sample is clipped
-abbrev pub delay_taps : Taps (List ℕ)
-delay_taps = record { channels = length; reach = greatest; most_clips = λ delays. 0; made = λ delays past. plain (delayed_frame delays past) }
-
--- how the stages of `delay` behave
-abbrev pub delay_acts : Acts (TapState (List ℕ)) (List ℕ)
-delay_acts = record (tap_acts delay_taps) { meaning = delayed }
+-- what it takes and gives, and when: a delay for each channel
+abbrev pub delay_kind : List ℕ → Kind
+delay_kind delays = tap_kind (length delays) (greatest delays)

@@ -6,10 +6,11 @@ use Rattle.fx_fixed.specs.Extents.{greatest, tap_delay}
 use Rattle.fx_fixed.specs.Rounding.{rounding}
 use Rattle.fx_fixed.specs.declared.gains.TheConstants.{UNIT}
 use Rattle.fx_frame.specs.Frame.{Samples}
-use Rattle.fx_frame.specs.Stage.{Given, Acts}
+use Rattle.fx_frame.specs.Stage.{Given, Kind}
 use Rattle.fx_frame.specs.Lists.{tabulate}
 use Rattle.fx_frame.specs.Rounded.{given_of}
-use Rattle.fx_tap.specs.Tapped.{Past, Taps, TapState, sample_before, tap_acts}
+use Rattle.fx_tap.specs.Past.{Past, sample_before}
+use Rattle.fx_tap.specs.Kinds.{tap_kind}
 
 -- what an `echo` is made with; gains and decays are in trillionths
 pub record EchoArguments : Type 0 where
@@ -49,10 +50,6 @@ echoed_frame a past = given_of (tabulate (echoed_sample a past) 0 a.channels)
 abbrev pub echo : EchoArguments → List Samples → List Given
 echo a x = tabulate (λ n. echoed_frame a (sample_before x n)) 0 (length x + greatest (map tap_delay a.echoes))
 
--- how `echo` makes frames
-abbrev pub echo_taps : Taps EchoArguments
-echo_taps = record { channels = λ a. a.channels; reach = λ a. greatest (map tap_delay a.echoes); most_clips = λ a. 16; made = echoed_frame }
-
--- how the stages of `echo` behave
-abbrev pub echo_acts : Acts (TapState EchoArguments) EchoArguments
-echo_acts = record (tap_acts echo_taps) { meaning = echo }
+-- what it takes and gives, and when
+abbrev pub echo_kind : EchoArguments → Kind
+echo_kind a = tap_kind a.channels (greatest (map tap_delay a.echoes))

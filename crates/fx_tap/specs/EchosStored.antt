@@ -4,7 +4,7 @@ use Rattle.std.specs.List.{All}
 use Rattle.fx_frame.specs.Frame.{Samples}
 use Rattle.fx_frame.specs.Frozen.{IsHand}
 use Rattle.fx_frame.specs.Line.{Frames}
-use Rattle.fx_tap.specs.Echos.{IsEchoLine, delay_at, frames_of, line_at}
+use Rattle.fx_tap.specs.EchosState.{IsEchoLine, delay_at, frames_of, line_at}
 
 -- no sample of a frame is greater in magnitude
 abbrev pub IsSmall : ℕ → Samples → Type 0

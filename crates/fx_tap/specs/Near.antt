@@ -4,9 +4,11 @@ use Rattle.std.proofs.Common.{zero, suc, refl, ap, arith}
 use Rattle.fx_fixed.specs.Extents.{greatest, tap_delay}
 use Rattle.fx_frame.specs.Lists.{tabulate, plain}
 use Rattle.fx_frame.specs.Rounded.{given_of}
-use Rattle.fx_tap.specs.Tapped.{Agree, IsNear, Past}
-use Rattle.fx_tap.specs.Delay.{delay_taps}
-use Rattle.fx_tap.specs.Echo.{echo_taps, echoed_sample, echoes_of}
+use Rattle.fx_tap.specs.Tapped.{Agree, IsNear}
+use Rattle.fx_tap.specs.Past.{Past}
+use Rattle.fx_tap.specs.DelayState.{delay_taps}
+use Rattle.fx_tap.specs.Echo.{echoed_sample, echoes_of}
+use Rattle.fx_tap.specs.EchoState.{echo_taps}
 
 -- each of the delays is at most the longest
 pub greatest-le : (delays : List ℕ) (k : ℕ) → slice_index delays k ≤ greatest delays

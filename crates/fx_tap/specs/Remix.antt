@@ -4,12 +4,11 @@ use Rattle.std.specs.Prelude.{ℕ, ℤ, pos, ◌*◌, ◌+ℤ◌, ◌*ℤ◌, �
 use Rattle.fx_fixed.specs.Rounding.{rounding}
 use Rattle.fx_fixed.specs.declared.gains.TheConstants.{UNIT}
 use Rattle.fx_frame.specs.Frame.{Samples}
-use Rattle.fx_frame.specs.Stage.{Acts}
-use Rattle.fx_frame.specs.Stage.{Given as GivenFrame}
-use Rattle.fx_tap.specs.Mapped.{MapState, map_acts}
+use Rattle.fx_frame.specs.Stage.{Given as GivenFrame, Kind}
 use Rattle.fx_frame.specs.Rounded.{given_of}
 use Rattle.fx_fixed.specs.declared.weights.Weight.{Weight}
 use Rattle.fx_fixed.specs.declared.weights.Weight.TheVariants.{Given, Share, One}
+use Rattle.fx_tap.specs.Kinds.{map_kind}
 
 -- channels of the input, from 0, each with its weight
 abbrev pub Contributions : Type 0
@@ -51,6 +50,10 @@ pub record IsRemix (a : RemixArguments) : Type 0 where
   pub some_outs : 1 ≤ length a.outs
   pub few_outs : length a.outs ≤ 16
 
--- how the stages of `remix` behave
-abbrev pub remix_acts : Acts (MapState RemixArguments) RemixArguments
-remix_acts = record (map_acts (λ a. a.channels) (λ a. length a.outs) (λ a frame. remixed_frame a.outs frame)) { meaning = λ a x. remix a.outs x }
+-- what it takes and gives, and when
+abbrev pub remix_kind : RemixArguments → Kind
+remix_kind a = map_kind a.channels (length a.outs)
+
+-- what it gives for a sound
+abbrev pub remix_meaning : RemixArguments → List Samples → List GivenFrame
+remix_meaning a x = remix a.outs x

@@ -1,5 +1,5 @@
 -- A stage that makes each frame of that frame and of frames at fixed distances before it (this project's profile).
-use Rattle.std.specs.Prelude.{ℕ, ℤ, pos, ◌+◌, ◌-◌, ◌*◌, ◌≤◌, ◌≡◌, Bool, true, false, ◌&&◌, Option, None, List, [], ◌++◌, length, drop, map, min, replicate, option_to_list, is_none, slice_index_or, nat_le, nat_eq, cond}
+use Rattle.std.specs.Prelude.{ℕ, ℤ, ◌+◌, ◌-◌, ◌*◌, ◌≤◌, ◌≡◌, Bool, true, false, ◌&&◌, Option, List, ◌++◌, length, drop, map, min, replicate, option_to_list, is_none, slice_index_or, nat_eq, cond}
 use Rattle.std.proofs.Common.{arith}
 use Rattle.std.specs.Int.{w32}
 use Rattle.fx_frame.specs.Frame.{Samples, silence}
@@ -7,16 +7,9 @@ use Rattle.fx_frame.specs.Line.{Frames, IsLine}
 use Rattle.fx_frame.specs.Frozen.{IsHand}
 use Rattle.fx_frame.specs.Holds.{total}
 use Rattle.fx_frame.specs.Stage.{Given, Acts}
-use Rattle.fx_tap.specs.Mapped.{most_taken}
+use Rattle.fx_tap.specs.Kinds.{most_taken, tap_kind}
+use Rattle.fx_tap.specs.Past.{Past, sample_before}
 use Rattle.fx_frame.specs.Lists.{tabulate}
-
--- channel k of the frame that is d frames before frame n; before the first and after the last there is silence
-abbrev pub sample_before : List Samples → ℕ → ℕ → ℕ → ℤ
-sample_before x n d k = cond (nat_le d n) (slice_index_or (slice_index_or x (n - d) []) k (pos 0)) (pos 0)
-
--- the samples that came: how many frames ago, and in which channel
-abbrev pub Past : Type 0
-Past = ℕ → ℕ → ℤ
 
 -- how effects of such arguments make frames
 pub record Taps (M : Type 0) : Type 0 where
@@ -139,7 +132,7 @@ module _ {M : Type 0} (taps : Taps M) where
   abbrev pub tap_acts : Acts (TapState M) M
   tap_acts = record {
     recipe = λ s. s.arguments;
-    kind_of = λ m. record { inputs = taps.channels m; outputs = taps.channels m; line = taps.reach m; limit = most_taken; due = λ n. n; most = λ n. n + taps.reach m; enough = None };
+    kind_of = λ m. tap_kind (taps.channels m) (taps.reach m);
     meaning = tapped;
     rest = λ s z. tap_hand s ++ behind s.arguments s.line.items (coming_of s z);
     counts = λ s. record { taken = s.taken; given = s.given; clips = s.clips; ended = s.ended };

@@ -3,9 +3,8 @@ use Rattle.std.specs.Prelude.{ℤ, ◌*ℤ◌, List, Bool, map}
 use Rattle.fx_fixed.specs.Rounding.{rounding}
 use Rattle.fx_fixed.specs.declared.gains.TheConstants.{UNIT}
 use Rattle.fx_frame.specs.Frame.{Samples}
-use Rattle.fx_frame.specs.Stage.{Acts, Given}
-use Rattle.fx_tap.specs.Mapped.{MapState}
-use Rattle.fx_tap.specs.PerSample.{SampleArguments, rounded_given, sample_acts}
+use Rattle.fx_frame.specs.Stage.{Given}
+use Rattle.fx_tap.specs.PerSample.{SampleArguments, rounded_given}
 
 -- a sample times a gain in trillionths, rounded
 abbrev pub scaled_sample : ℤ → ℤ → ℤ × Bool
@@ -15,6 +14,6 @@ scaled_sample gain sample = rounding (gain *ℤ sample) UNIT
 abbrev pub vol : ℤ → List Samples → List Given
 vol gain x = map (rounded_given (scaled_sample gain)) x
 
--- how the stages of `vol` behave
-abbrev pub vol_acts : Acts (MapState (SampleArguments ℤ)) (SampleArguments ℤ)
-vol_acts = record (sample_acts scaled_sample) { meaning = λ a x. vol a.sampling x }
+-- the same, by its arguments
+abbrev pub vol_meaning : SampleArguments ℤ → List Samples → List Given
+vol_meaning a x = vol a.sampling x

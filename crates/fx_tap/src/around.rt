@@ -6,7 +6,8 @@ ghost use Rattle.std.specs.List.{All};
 ghost use Rattle.fx_frame.specs.Frame.{Samples};
 ghost use Rattle.fx_frame.specs.Ring.{pieces};
 ghost use Rattle.fx_frame.specs.Row.{EachThrough};
-ghost use Rattle.fx_tap.specs.Mapped.{clips_in, made_of, map_acts, most_taken};
+ghost use Rattle.fx_tap.specs.Mapped.{clips_in, made_of, map_acts};
+ghost use Rattle.fx_tap.specs.Kinds.{most_taken};
 
 use crate::mapped::{Mapped, Mapping};
 use fx_frame::feed::see_samples;

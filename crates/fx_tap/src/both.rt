@@ -6,8 +6,8 @@ ghost use Rattle.fx_frame.specs.Frame.{Samples};
 ghost use Rattle.fx_frame.specs.Ring.{pieces};
 ghost use Rattle.fx_frame.specs.Rounded.{clips_of, samples_of};
 ghost use Rattle.fx_frame.specs.Row.{EachThrough};
-ghost use Rattle.fx_tap.specs.Mapped.{most_taken};
-ghost use Rattle.fx_tap.specs.PerSample.{sample_acts};
+ghost use Rattle.fx_tap.specs.Kinds.{most_taken};
+ghost use Rattle.fx_tap.specs.PerSampleState.{sample_acts};
 
 use crate::mapped::{Mapped, Mapping};
 use crate::per_sample::{PerSample, SamplesMany, Sampling};

@@ -4,7 +4,8 @@ ghost use Rattle.fx_fixed.specs.Rounding.{clipping};
 ghost use Rattle.fx_frame.specs.Stage.{Freezes, IsNew};
 ghost use Rattle.fx_tap.specs.Mapped.{IsMapState, MapState};
 ghost use Rattle.fx_tap.specs.PerSample.{SampleArguments};
-ghost use Rattle.fx_tap.specs.DcShift.{dcshift_acts, leaves_half, raised, shifted_sample, steps_of};
+ghost use Rattle.fx_tap.specs.DcShift.{shifted_sample};
+ghost use Rattle.fx_tap.specs.DcShiftState.{dcshift_acts, leaves_half, raised, steps_of};
 
 use crate::mapped::Mapped;
 use crate::per_sample::{PerSample, SamplesBehind, SamplesMany, Sampling};
@@ -23,7 +24,8 @@ pub struct Shift {
 impl Model for Shift {
     ghost use Rattle.std.specs.Prelude.{◌≡◌, ◌^◌, ◌≤◌, ℤ, unsigned_abs};
     ghost use Rattle.fx_fixed.specs.declared.gains.TheConstants.{UNIT};
-    ghost use Rattle.fx_tap.specs.DcShift.{leaves_half, steps_of, units_of};
+    ghost use Rattle.fx_tap.specs.DcShift.{units_of};
+    ghost use Rattle.fx_tap.specs.DcShiftState.{leaves_half, steps_of};
 
     ghost Value = { ℤ };
 

@@ -5,8 +5,10 @@ ghost use Rattle.fx_frame.specs.Frame.{IsFrame, silence};
 ghost use Rattle.fx_frame.specs.Line.{pushed, pushed_all};
 ghost use Rattle.fx_frame.specs.Ring.{pieces};
 ghost use Rattle.fx_frame.specs.Stage.{Freezes, IsNew};
-ghost use Rattle.fx_tap.specs.Delay.{delay_acts, delay_taps, delayed_frame, every_delay};
-ghost use Rattle.fx_tap.specs.Tapped.{IsTapState, TapState, frames_behind, last_of, sample_before};
+ghost use Rattle.fx_tap.specs.Delay.{delayed_frame, every_delay};
+ghost use Rattle.fx_tap.specs.DelayState.{delay_acts, delay_taps};
+ghost use Rattle.fx_tap.specs.Tapped.{IsTapState, TapState, frames_behind, last_of};
+ghost use Rattle.fx_tap.specs.Past.{sample_before};
 ghost use Rattle.fx_tap.specs.Near.{delays-near};
 ghost use Rattle.std.proofs.Common.{zero-le};
 

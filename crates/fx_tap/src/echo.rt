@@ -5,10 +5,12 @@ ghost use Rattle.std.specs.List.{All};
 ghost use Rattle.fx_fixed.specs.Extents.{greatest, tap_delay};
 ghost use Rattle.fx_frame.specs.Ring.{pieces};
 ghost use Rattle.fx_frame.specs.Stage.{Freezes, IsNew};
-ghost use Rattle.fx_tap.specs.Echo.{EchoArguments, IsEcho, echo_acts, echo_sum, echo_taps, echoed_frame};
+ghost use Rattle.fx_tap.specs.Echo.{EchoArguments, IsEcho, echo_sum, echoed_frame};
+ghost use Rattle.fx_tap.specs.EchoState.{echo_acts, echo_taps};
 ghost use Rattle.fx_tap.specs.EchoWeights.{SoundsAs, weighed};
 ghost use Rattle.fx_tap.specs.Near.{echoes-near};
-ghost use Rattle.fx_tap.specs.Tapped.{IsTapState, TapState, clips_behind, frames_behind, sample_before};
+ghost use Rattle.fx_tap.specs.Tapped.{IsTapState, TapState, clips_behind, frames_behind};
+ghost use Rattle.fx_tap.specs.Past.{sample_before};
 
 use crate::sums::{Sums, add_products, add_scaled, product, round_sums, rounded_sums, sums_into};
 use crate::tapped::{Tapped, Tapping, TapsMany, sample, tap_by_frames};
@@ -26,7 +28,7 @@ const GREATEST_WEIGHT: u32 = 1 << 27;
 
 /// What an `echo` is made with, and the same in lowest terms, where these are small.
 #[derive(Drop)]
-pub struct Echoes {
+pub struct PreparedEcho {
     channels: usize,
     gain_in: Gain,
     gain_out: Gain,
@@ -34,7 +36,7 @@ pub struct Echoes {
     small: Option<Small>,
 }
 
-impl Model for Echoes {
+impl Model for PreparedEcho {
     ghost use Rattle.std.specs.Prelude.{IfSome};
     ghost use Rattle.fx_tap.specs.Echo.{EchoArguments, IsEcho};
     ghost use Rattle.fx_tap.specs.EchoWeights.{SoundsAs};
@@ -63,14 +65,14 @@ fn add_echo(sums: &mut Sums, channels: usize, line: &Line, frame: Frame, echo: (
     add_scaled(sums, channels, decay, from);
 }
 
-impl Echoes {
+impl PreparedEcho {
     /// Those of at most seven echoes, prepared.
-    fn of(channels: usize, gain_in: Gain, gain_out: Gain, echoes: Vec<(u64, Gain)>) -> Echoes
+    fn of(channels: usize, gain_in: Gain, gain_out: Gain, echoes: Vec<(u64, Gain)>) -> PreparedEcho
         requires { IsEcho (record { channels = channels; gain_in = gain_in; gain_out = gain_out; echoes = echoes.items }) }
         ensures { result ≡ record { channels = channels; gain_in = gain_in; gain_out = gain_out; echoes = echoes.items } }
     {
         let small = small_of(gain_in, gain_out, &echoes, GREATEST_WEIGHT);
-        Echoes {
+        PreparedEcho {
             channels,
             gain_in,
             gain_out,
@@ -128,7 +130,7 @@ impl Echoes {
     }
 }
 
-impl Echoes {
+impl PreparedEcho {
     /// Writes the samples of a frame that comes after those of the line, with their echoes, whatever the gains, and counts how
     /// many were clipped.
     // Room for the wide sums is taken where this is called alone.
@@ -146,7 +148,7 @@ impl Echoes {
     }
 }
 
-impl Tapping for Echoes {
+impl Tapping for PreparedEcho {
     ghost taps = { echo_taps };
 
     fn tap(&self, line: &Line, frame: Frame) -> (Frame, u64) {
@@ -193,9 +195,9 @@ pub(crate) fn copied(alloc: Global, echoes: &[(u64, Gain)]) -> Result<Vec<(u64, 
 
 /// The stage of `echo`: each frame times gain-in and the frames before it at the delays, each times its decay, added,
 /// times gain-out and rounded once. A sample that is clipped counts for one clip.
-pub type Echo = Tapped<Echoes>;
+pub type Echo = Tapped<PreparedEcho>;
 
-impl Tapped<Echoes> {
+impl Tapped<PreparedEcho> {
     /// The stage for frames of 1 to 16 channels, with 1 to 7 echoes, each with its delay in frames, at least 1, and its
     /// decay. Gain-in and the decays are at most 1, gain-out is at most 1000. It holds as many frames as the longest delay has, at
     /// most `2^28`; AllocError where memory for them is refused.
@@ -216,7 +218,7 @@ impl Tapped<Echoes> {
     {
         let reach = longest_tap(echoes) as usize;
         let echoes = copied(alloc, echoes)?;
-        let arguments = Echoes::of(channels, gain_in, gain_out, echoes);
+        let arguments = PreparedEcho::of(channels, gain_in, gain_out, echoes);
         Tapped::of(alloc, arguments, reach)
     }
     /// The stage that stored these frames and counted these numbers: whichever stage of these arguments they came from, that
@@ -246,7 +248,7 @@ impl Tapped<Echoes> {
         let Ok(echoes) = copied(alloc, echoes) else {
             return Err(ThawFault::Memory);
         };
-        let arguments = Echoes::of(channels, gain_in, gain_out, echoes);
+        let arguments = PreparedEcho::of(channels, gain_in, gain_out, echoes);
         Tapped::thawed(alloc, arguments, reach, frames, numbers)
     }
 }
@@ -269,7 +271,7 @@ pub(crate) fn frames_of_piece(channels: usize, echoes: &[(u64, Gain)]) -> usize
     most
 }
 
-impl Echoes {
+impl PreparedEcho {
     /// Adds to the sums so many frames that come behind those of the line, and their echoes, each times its weight.
     fn add_piece(&self, small: &Small, line: &Line, frames: &[i32], count: usize, sums: &mut [i64])
         requires channels { line.now.channels ≡ self.now.channels }
@@ -318,7 +320,7 @@ impl Echoes {
     }
 }
 
-impl TapsMany for Echoes {
+impl TapsMany for PreparedEcho {
     fn tap_many(&self, line: &mut Line, input: &[i32], output: &mut [i32], count: usize) -> u64 {
         let Some(small) = &self.small else {
             return tap_by_frames(self, line, input, output, count);

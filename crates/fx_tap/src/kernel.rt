@@ -1,7 +1,7 @@
 //! The coefficients of a `fir`, prepared: in lowest terms, where sums of samples times them fit 64 bits.
 ghost use Rattle.std.specs.Prelude.{◌≡◌, ◌+◌, ◌*◌, ◌^◌, ◌<◌, ◌≤◌, ℕ, pos, neg_ℤ, ◌≤ℤ◌, length, drop, reverse, slice_index_or, unsigned_abs, All, IfOk, IfSome};
 ghost use Rattle.fx_fixed.specs.Rounding.{rounding};
-ghost use Rattle.fx_tap.specs.Fir.{samples_of_window};
+ghost use Rattle.fx_tap.specs.FirState.{samples_of_window};
 ghost use Rattle.fx_tap.specs.SmallWeights.{SumsAs};
 ghost use Rattle.fx_tap.specs.Split.{AddUpTo};
 ghost use Rattle.fx_frame.specs.Lists.{tabulate};

@@ -6,7 +6,7 @@ ghost use Rattle.fx_fixed.specs.Extents.{sum_of_delays};
 ghost use Rattle.fx_frame.specs.Frame.{Samples};
 ghost use Rattle.fx_frame.specs.Frozen.{line_of};
 ghost use Rattle.fx_frame.specs.Line.{Frames, IsLine};
-ghost use Rattle.fx_tap.specs.Echos.{frames_of};
+ghost use Rattle.fx_tap.specs.EchosState.{frames_of};
 ghost use Rattle.fx_tap.specs.EchosStored.{IsRow, IsRowStored, IsSmall};
 
 use fx_fixed::Gain;

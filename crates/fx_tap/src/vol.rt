@@ -5,7 +5,8 @@ ghost use Rattle.fx_frame.specs.Stage.{Freezes, IsNew};
 ghost use Rattle.fx_tap.specs.Mapped.{IsMapState, MapState};
 ghost use Rattle.fx_tap.specs.PerSample.{SampleArguments};
 ghost use Rattle.fx_tap.specs.Fractions.{fraction_sample};
-ghost use Rattle.fx_tap.specs.Vol.{scaled_sample, vol_acts};
+ghost use Rattle.fx_tap.specs.Vol.{scaled_sample};
+ghost use Rattle.fx_tap.specs.VolState.{vol_acts};
 
 use crate::both::{BothClips, rounded_by_both};
 use crate::mapped::Mapped;

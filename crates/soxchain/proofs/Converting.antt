@@ -21,7 +21,7 @@ use Rattle.fx_flow.specs.Parts.{Parts}
 use Rattle.fx_frame.specs.Holds.{kinds}
 use Rattle.fx_plan.specs.Planning.{Planning}
 use Rattle.fx_stages.specs.declared.stage.EffectStage.{EffectStage}
-use Rattle.fx_stages.specs.Effects.{effect_acts}
+use Rattle.fx_stages.specs.Stages.{effect_acts}
 use Rattle.fx_sound.specs.Sound.{Reading, at_most_announced, size_of}
 use Rattle.fx_sound.specs.Source.{Held, Takes, to_come}
 use Rattle.soxchain.specs.declared.preparing.Refusal.TheVariants.{Head}

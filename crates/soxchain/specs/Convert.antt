@@ -6,7 +6,7 @@ use Rattle.fx_chain.specs.declared.report.RunFault.{RunFault}
 use Rattle.fx_chain.specs.Report.{HasCause, cause_of, report_at, start_of}
 use Rattle.fx_chain.specs.Run.{WantsMore}
 use Rattle.fx_chain.specs.Theorem.{Ran, kinds_of}
-use Rattle.fx_flow.specs.Parts.{due_of, enough_for}
+use Rattle.fx_flow.specs.Composed.{due_of, enough_for}
 use Rattle.fx_frame.specs.Io.{ByteReader, ByteWriter, saturated}
 use Rattle.fx_line.specs.Line.{Said}
 use Rattle.fx_plan.specs.declared.fault.PlanFault.{PlanFault}

@@ -5,7 +5,7 @@ use Rattle.fx_chain.specs.Snapshot.{IsSoundChain}
 use Rattle.fx_flow.specs.Parts.{taken_of}
 use Rattle.fx_flow.specs.Sound.{most_frames}
 use Rattle.fx_flow.specs.Steps.{IsHungry}
-use Rattle.fx_stages.specs.Effects.{effect_acts}
+use Rattle.fx_stages.specs.Stages.{effect_acts}
 use Rattle.soxchain_c.specs.declared.status.Status.{Status}
 use Rattle.soxchain_c.specs.declared.status.Status.TheVariants.{BadSnapshot, Fine, NoMemory, NotWaiting, PartOfFrame, TooLong}
 use Rattle.soxchain_c.specs.declared.stream.Stream.{Stream}

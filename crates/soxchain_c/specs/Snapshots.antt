@@ -3,7 +3,7 @@ use Rattle.std.specs.Prelude.{ℕ, List, ◌≡◌}
 use Rattle.fx_chain.specs.Chain.{ChainParts}
 use Rattle.fx_flow.specs.Frozen.{FreezesFlow}
 use Rattle.fx_frame.specs.Frame.{Samples}
-use Rattle.fx_stages.specs.Effects.{effect_acts}
+use Rattle.fx_stages.specs.Stages.{effect_acts}
 use Rattle.soxchain_c.specs.Frozen.{AreStored, snapshot_bytes}
 
 -- these are the bytes of the frames that a chain stores and the numbers that it counts

@@ -9,7 +9,7 @@ use Rattle.fx_flow.specs.Steps.{IsHungry, StateIs}
 use Rattle.fx_frame.specs.declared.feed.Passed.{Passed}
 use Rattle.fx_frame.specs.Holds.{held_sum, kinds}
 use Rattle.fx_frame.specs.Ring.{pieces}
-use Rattle.fx_stages.specs.Effects.{effect_acts}
+use Rattle.fx_stages.specs.Stages.{effect_acts}
 use Rattle.soxchain_c.specs.declared.stream.Stream.{Stream}
 use Rattle.soxchain_c.specs.declared.stream.Waits.{Waits}
 use Rattle.soxchain_c.specs.declared.stream.Waits.TheVariants.{Frames, Room, Nothing, End}

@@ -7,7 +7,7 @@ ghost use Rattle.fx_flow.specs.Sound.{most_frames};
 ghost use Rattle.fx_flow.specs.Steps.{IsHungry};
 ghost use Rattle.fx_plan.specs.Bounds.{hold_all};
 ghost use Rattle.fx_plan.specs.Planning.{planning};
-ghost use Rattle.fx_stages.specs.Effects.{effect_acts};
+ghost use Rattle.fx_stages.specs.Stages.{effect_acts};
 ghost use Rattle.soxchain_c.specs.Snapshots.{IsFrozenAs};
 
 use crate::frozen::{Stored, freeze_to_bytes, thaw_from_bytes};

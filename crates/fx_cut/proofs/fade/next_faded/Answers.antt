@@ -1,6 +1,6 @@
 -- The oldest frame of the line is let go.
 use Rattle.std.proofs.Common.{◌∙◌, ◌++◌, [], ap, sym}
-use Rattle.fx_cut.specs.Fade.{fade_after}
+use Rattle.fx_cut.specs.FadeState.{fade_after}
 use Rattle.fx_cut.proofs.FadeLaws.{fade_drained}
 use Rattle.fx_cut.proofs.FadeSteps.{until-popped}
 use Rattle.fx_cut.proofs.fade.next_faded.Goals as goal

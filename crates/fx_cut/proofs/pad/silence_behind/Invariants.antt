@@ -1,5 +1,6 @@
 use Rattle.std.proofs.Common.{◌≡◌, ◌≤◌, ◌+◌, drop}
-use Rattle.fx_cut.specs.Pad.{lengths, placed, placed_after, silence_from}
+use Rattle.fx_cut.specs.Pad.{lengths, placed, placed_after}
+use Rattle.fx_cut.specs.PadState.{silence_from}
 use Rattle.fx_cut.proofs.pad.silence_behind.Given as goal
 
 abbrev pub invariant-pads : goal.invariant-pads

@@ -1,6 +1,6 @@
 -- The oldest frame is let go.
 use Rattle.std.proofs.Common.{ℕ, ◌≡◌, ◌≤◌, ◌+◌, ◌-◌, ◌∙◌, ◌∷◌, ◌++◌, [], ap, sym, arith, length, cond, length-drop}
-use Rattle.fx_cut.specs.Trim.{kept_count, trim_after}
+use Rattle.fx_cut.specs.TrimState.{kept_count, trim_after}
 use Rattle.fx_cut.proofs.TrimSteps.{drained, kept-popped}
 use Rattle.fx_cut.proofs.trim.next_kept.Goals as goal
 

@@ -2,9 +2,10 @@
 use Rattle.std.proofs.Common.{refl}
 use Rattle.fx_frame.proofs.RowLaws.{EachThrough-along}
 use Rattle.fx_tap.specs.DcShift.{shifted_sample}
-use Rattle.fx_tap.specs.PerSample.{sample_acts}
+use Rattle.fx_tap.specs.PerSampleState.{sample_acts}
 use Rattle.fx_tap.specs.Vol.{scaled_sample}
-use Rattle.fx_stages.specs.Effects.{effect_acts, ForVol, ForDcShift}
+use Rattle.fx_stages.specs.Effects.{ForVol, ForDcShift}
+use Rattle.fx_stages.specs.Stages.{effect_acts}
 use Rattle.fx_stages.specs.declared.stage.EffectStage.TheVariants as stages
 use Rattle.fx_stages.proofs.stage.pass_behind.Goals as goal
 

@@ -4,7 +4,7 @@ use Rattle.std.specs.Prelude.{slice_index}
 use Rattle.fx_frame.specs.Frame.{Samples}
 use Rattle.fx_frame.specs.Ring.{pieces}
 use Rattle.fx_frame.proofs.Pieces.{length-pieces}
-use Rattle.fx_tap.specs.Tapped.{sample_before}
+use Rattle.fx_tap.specs.Past.{sample_before}
 use Rattle.fx_tap.proofs.DelayPieces.{delay-frames, late-by}
 use Rattle.fx_tap.proofs.EchoPieces.{coming-sample, late-sample}
 use Rattle.fx_tap.proofs.FirBlocks.{channel-put}

@@ -9,7 +9,7 @@ use Rattle.fx_frame.specs.Ring.{pieces}
 use Rattle.fx_frame.proofs.FeedParts.{pieces-split}
 use Rattle.fx_frame.proofs.Feeding.{drop-put, pieces-take}
 use Rattle.fx_frame.proofs.ManyFrames.{pieces-put_many}
-use Rattle.fx_tap.specs.Delay.{delay_taps}
+use Rattle.fx_tap.specs.DelayState.{delay_taps}
 use Rattle.fx_tap.specs.Near.{delays-near}
 use Rattle.fx_tap.specs.Tapped.{frames_behind, last_of}
 use Rattle.fx_tap.proofs.TapBlocks.{frames-joined, last-joined}

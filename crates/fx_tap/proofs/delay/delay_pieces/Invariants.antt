@@ -1,6 +1,6 @@
 use Rattle.std.proofs.Common.{◌≡◌, ◌≤◌, ◌-◌, ◌*◌, ◌++◌, drop, length}
 use Rattle.fx_frame.specs.Ring.{pieces}
-use Rattle.fx_tap.specs.Delay.{delay_taps}
+use Rattle.fx_tap.specs.DelayState.{delay_taps}
 use Rattle.fx_tap.specs.Tapped.{frames_behind, last_of}
 use Rattle.fx_tap.proofs.delay.delay_pieces.Given as goal
 

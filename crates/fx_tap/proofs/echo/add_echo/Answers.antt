@@ -1,5 +1,5 @@
 use Rattle.std.proofs.Common.{◌≡◌, ◌<◌, ◌++◌, ◌∷◌, [], pos, ◌+ℤ◌, ◌*ℤ◌, length, ap, sym, ◌∙◌, arith, slice_index_or}
-use Rattle.fx_tap.specs.Tapped.{sample_before}
+use Rattle.fx_tap.specs.Past.{sample_before}
 use Rattle.fx_tap.proofs.DelayLaws.{sample-some, sample-none}
 use Rattle.fx_tap.proofs.SumLaws.{zero-echo}
 use Rattle.fx_tap.proofs.echo.add_echo.Goals as goal

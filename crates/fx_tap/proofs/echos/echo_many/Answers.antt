@@ -13,7 +13,7 @@ use Rattle.fx_frame.proofs.FeedParts.{pieces-split}
 use Rattle.fx_frame.proofs.Feeding.{drop-put, pieces-take}
 use Rattle.fx_frame.proofs.ManyFrames.{pieces-put_many}
 use Rattle.fx_frame.proofs.Pieces.{length-pieces}
-use Rattle.fx_tap.specs.Echos.{delay_at, rows_after, through_lines}
+use Rattle.fx_tap.specs.EchosState.{delay_at, rows_after, through_lines}
 use Rattle.fx_tap.proofs.EchosLaws.{rows-sound}
 use Rattle.fx_tap.proofs.EchosPieces.{piece-small, rows-more, through-more}
 use Rattle.fx_tap.proofs.echos.echo_many.Goals as goal

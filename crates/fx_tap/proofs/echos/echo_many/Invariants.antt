@@ -3,7 +3,7 @@ use Rattle.fx_frame.specs.Holds.{total}
 use Rattle.fx_frame.specs.Ring.{pieces}
 use Rattle.fx_frame.specs.Stage.{Given}
 use Rattle.fx_tap.specs.Echo.{EchoArguments}
-use Rattle.fx_tap.specs.Echos.{IsEchoLine, delay_at, line_at, rows_after, through_lines}
+use Rattle.fx_tap.specs.EchosState.{IsEchoLine, delay_at, line_at, rows_after, through_lines}
 use Rattle.fx_tap.specs.EchoWeights.{Suits}
 use Rattle.fx_tap.proofs.echos.echo_many.Given as goal
 

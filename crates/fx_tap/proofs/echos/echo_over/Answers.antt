@@ -6,7 +6,7 @@ use Rattle.fx_frame.specs.Holds.{total}
 use Rattle.fx_frame.specs.Ring.{pieces}
 use Rattle.fx_frame.specs.Stage.{Given}
 use Rattle.fx_tap.specs.Echo.{EchoArguments}
-use Rattle.fx_tap.specs.Echos.{frame_of_lines, let_go, rows_after, through_lines}
+use Rattle.fx_tap.specs.EchosState.{frame_of_lines, let_go, rows_after, through_lines}
 use Rattle.fx_tap.specs.EchoWeights.{Suits}
 use Rattle.fx_tap.proofs.echos.echo_over.Goals as goal
 

@@ -1,5 +1,5 @@
 use Rattle.std.proofs.Common.{◌≡◌, ◌+◌, drop, length}
-use Rattle.fx_tap.specs.Echos.{frames_of}
+use Rattle.fx_tap.specs.EchosState.{frames_of}
 use Rattle.fx_tap.proofs.echos.held_in.Given as goal
 
 abbrev pub invariant-lines : goal.invariant-lines

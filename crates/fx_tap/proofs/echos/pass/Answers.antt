@@ -4,7 +4,8 @@ use Rattle.std.proofs.lemmas.List.Elements.{All-get_or}
 use Rattle.fx_fixed.specs.declared.gains.TheConstants.{UNIT}
 use Rattle.fx_frame.specs.Frame.{Samples}
 use Rattle.fx_frame.specs.Line.{Frames, empty, pushed_out}
-use Rattle.fx_tap.specs.Echos.{after_push, decays, fed, line_at, or_silence}
+use Rattle.fx_tap.specs.Echos.{decays}
+use Rattle.fx_tap.specs.EchosState.{after_push, fed, line_at, or_silence}
 use Rattle.fx_tap.proofs.EchosRow.{Small, any-default, few-more, few-seven, left-step, lines-step, same-line, small-fed, small-frame, small-gone, sums-step}
 use Rattle.fx_tap.proofs.echos.pass.Goals as goal
 

@@ -1,7 +1,8 @@
 use Rattle.std.proofs.Common.{◌≡◌, ◌<◌, ◌≤◌, ◌+◌, ◌*◌, ◌^◌, ◌++◌, ℕ, pos, ◌+ℤ◌, length, take, drop, replicate, slice_index_or, unsigned_abs}
 use Rattle.fx_fixed.specs.declared.gains.TheConstants.{UNIT}
 use Rattle.fx_frame.specs.Line.{channel_of}
-use Rattle.fx_tap.specs.Echos.{decays, let_go, lines_after, up_to}
+use Rattle.fx_tap.specs.Echos.{decays}
+use Rattle.fx_tap.specs.EchosState.{let_go, lines_after, up_to}
 use Rattle.fx_transform.specs.Products.{sum_of_products}
 use Rattle.fx_tap.proofs.EchosRow.{Small}
 use Rattle.fx_tap.proofs.echos.pass.Given as goal

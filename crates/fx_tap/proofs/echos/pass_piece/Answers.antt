@@ -7,7 +7,7 @@ use Rattle.fx_frame.specs.Line.{Frames, channel_of, empty, latest_frames, pushed
 use Rattle.fx_frame.specs.Ring.{pieces}
 use Rattle.fx_frame.proofs.ManyFrames.{pieces-replicate}
 use Rattle.fx_frame.proofs.Pieces.{get_or-piece, length-pieces}
-use Rattle.fx_tap.specs.Echos.{line_at}
+use Rattle.fx_tap.specs.EchosState.{line_at}
 use Rattle.fx_transform.specs.Products.{sum_of_products}
 use Rattle.fx_tap.proofs.DelayLaws.{quiet-part}
 use Rattle.fx_tap.proofs.EchoLaws.{echo-first}

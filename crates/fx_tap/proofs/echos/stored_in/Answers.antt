@@ -1,7 +1,7 @@
 use Rattle.std.proofs.Common.{◌<◌, ◌+◌, ◌-◌, ◌≤◌, ◌++◌, drop, length, arith, sym, ap, ◌∙◌}
 use Rattle.std.specs.Prelude.{slice_get}
 use Rattle.std.proofs.lemmas.List.{drop_more}
-use Rattle.fx_tap.specs.Echos.{frames_of}
+use Rattle.fx_tap.specs.EchosState.{frames_of}
 use Rattle.fx_tap.proofs.EchosRow.{get-left, get-right}
 use Rattle.fx_tap.proofs.echos.stored_in.Goals as goal
 

@@ -1,6 +1,6 @@
 use Rattle.std.proofs.Common.{◌≡◌, drop}
 use Rattle.std.specs.Prelude.{slice_get}
-use Rattle.fx_tap.specs.Echos.{frames_of}
+use Rattle.fx_tap.specs.EchosState.{frames_of}
 use Rattle.fx_tap.proofs.echos.stored_in.Given as goal
 
 abbrev pub invariant-lines : goal.invariant-lines

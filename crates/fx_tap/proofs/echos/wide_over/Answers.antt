@@ -5,7 +5,8 @@ use Rattle.fx_frame.specs.Frame.{Samples}
 use Rattle.fx_frame.specs.Line.{channel_of}
 use Rattle.fx_frame.specs.Stage.{Given}
 use Rattle.fx_tap.specs.Echo.{EchoArguments}
-use Rattle.fx_tap.specs.Echos.{decays, let_go}
+use Rattle.fx_tap.specs.Echos.{decays}
+use Rattle.fx_tap.specs.EchosState.{let_go}
 use Rattle.fx_transform.specs.Products.{sum_of_products}
 use Rattle.fx_tap.proofs.DelayLaws.{quiet-sample}
 use Rattle.fx_tap.proofs.EchosRow.{echoed-is, small-frame}

@@ -7,7 +7,8 @@ use Rattle.fx_frame.specs.Ring.{pieces}
 use Rattle.fx_frame.proofs.FeedParts.{pieces-split}
 use Rattle.fx_frame.proofs.Feeding.{drop-put, pieces-take}
 use Rattle.fx_frame.proofs.Pieces.{keep-twice}
-use Rattle.fx_tap.specs.Fir.{FirArguments, fir_taps}
+use Rattle.fx_tap.specs.Fir.{FirArguments}
+use Rattle.fx_tap.specs.FirState.{fir_taps}
 use Rattle.fx_tap.specs.Tapped.{clips_behind, frames_behind, last_of}
 use Rattle.fx_tap.proofs.FirBlocks.{clips-append, fir-near, frames-append, pieces-joined}
 use Rattle.fx_tap.proofs.TapBlocks.{length-last}

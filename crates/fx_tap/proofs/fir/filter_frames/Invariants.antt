@@ -1,6 +1,7 @@
 use Rattle.std.proofs.Common.{◌≡◌, ◌≤◌, ◌-◌, ◌*◌, ◌++◌, drop, length, reverse}
 use Rattle.fx_frame.specs.Ring.{pieces}
-use Rattle.fx_tap.specs.Fir.{FirArguments, fir_taps}
+use Rattle.fx_tap.specs.Fir.{FirArguments}
+use Rattle.fx_tap.specs.FirState.{fir_taps}
 use Rattle.fx_tap.specs.Tapped.{clips_behind, frames_behind, last_of}
 use Rattle.fx_tap.proofs.fir.filter_frames.Given as goal
 

@@ -1,7 +1,7 @@
 use Rattle.std.proofs.Common.{◌++◌, length, ap, ◌∙◌, refl, reverse}
 use Rattle.fx_fixed.specs.Rounding.{rounding}
 use Rattle.fx_fixed.specs.declared.gains.TheConstants.{UNIT}
-use Rattle.fx_tap.specs.Fir.{samples_of_window}
+use Rattle.fx_tap.specs.FirState.{samples_of_window}
 use Rattle.fx_transform.specs.Products.{sum_of_products}
 use Rattle.fx_tap.proofs.WindowSums.{filtered-is}
 use Rattle.fx_tap.proofs.fir.filtered_within.Goals as goal

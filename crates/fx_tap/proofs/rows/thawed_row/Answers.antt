@@ -7,7 +7,7 @@ use Rattle.std.proofs.lemmas.Result.{err_from_is_err_and}
 use Rattle.fx_frame.specs.Frame.{Samples}
 use Rattle.fx_frame.specs.Frozen.{line_of}
 use Rattle.fx_frame.specs.Line.{Frames}
-use Rattle.fx_tap.specs.Echos.{IsEchoLine, delay_at, line_at}
+use Rattle.fx_tap.specs.EchosState.{IsEchoLine, delay_at, line_at}
 use Rattle.fx_tap.proofs.EchosLaws.{late-each}
 use Rattle.fx_tap.proofs.EchosStored.{cut-on, delay-is, held_at, next-line, row-pushed, thawed-sound}
 use Rattle.fx_tap.proofs.rows.thawed_row.Goals as goal

@@ -1,6 +1,6 @@
 use Rattle.std.proofs.Common.{ℕ, ℤ, ◌<◌, ◌≡◌, ◌++◌, List, length, take, drop}
 use Rattle.fx_frame.specs.Line.{Frames}
-use Rattle.fx_tap.specs.Echos.{IsEchoLine, delay_at, frames_of, line_at}
+use Rattle.fx_tap.specs.EchosState.{IsEchoLine, delay_at, frames_of, line_at}
 use Rattle.fx_tap.specs.EchosStored.{IsRow}
 use Rattle.fx_tap.proofs.rows.thawed_row.Given as goal
 

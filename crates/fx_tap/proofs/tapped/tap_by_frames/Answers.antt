@@ -7,7 +7,8 @@ use Rattle.fx_frame.specs.Frame.{Samples}
 use Rattle.fx_frame.specs.Ring.{pieces}
 use Rattle.fx_frame.specs.Stage.{Given}
 use Rattle.fx_frame.proofs.Feeding.{drop-put, pieces-more, pieces-put}
-use Rattle.fx_tap.specs.Tapped.{clips_behind, frames_behind, last_of, sample_before}
+use Rattle.fx_tap.specs.Tapped.{clips_behind, frames_behind, last_of}
+use Rattle.fx_tap.specs.Past.{sample_before}
 use Rattle.fx_tap.proofs.TapBlocks.{clips-more, frames-more, last-more, last-whole}
 use Rattle.fx_tap.proofs.tapped.tap_by_frames.Goals as goal
 

@@ -3,7 +3,7 @@ use Rattle.std.proofs.Common.{rules, ◌≡◌, ◌≤◌, ◌+◌, ◌-◌, ◌
 use Rattle.std.proofs.lemmas.List.{length-drop}
 use Rattle.std.proofs.Math.Nat.{add-mul, mul_assoc}
 use Rattle.fx_frame.specs.Feed.{nothing}
-use Rattle.fx_cut.specs.Downsample.{DownsampleState}
+use Rattle.fx_cut.specs.DownsampleState.{DownsampleState}
 use Rattle.fx_cut.proofs.DownsampleMany.{Ready, all-passed, groups-room, lead-passed}
 use Rattle.fx_cut.proofs.Hands.{not-some}
 use Rattle.fx_cut.proofs.Pieces.{frames-room, part-from}

@@ -1,5 +1,5 @@
 use Rattle.std.proofs.Common.{◌∙◌, arith, refl, sym}
-use Rattle.fx_cut.specs.Fade.{FadeState}
+use Rattle.fx_cut.specs.FadeState.{FadeState}
 use Rattle.fx_cut.proofs.FadePassing.{passed-inside, passed-behind, passed-faded, settled-fade}
 use Rattle.fx_cut.proofs.fade.FadeFeeds.pass_samples.Goals as goal
 

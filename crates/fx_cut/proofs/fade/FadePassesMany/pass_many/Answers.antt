@@ -5,7 +5,7 @@ use Rattle.std.proofs.lemmas.List.Elements.{All-append}
 use Rattle.fx_frame.specs.Feed.{nothing}
 use Rattle.fx_frame.specs.Line.{IsSamples}
 use Rattle.fx_frame.proofs.Pieces.{pieces-front}
-use Rattle.fx_cut.specs.Fade.{FadeState}
+use Rattle.fx_cut.specs.FadeState.{FadeState}
 use Rattle.fx_cut.proofs.FadeMany.{IsGiving, faded-passed, fell-fit}
 use Rattle.fx_cut.proofs.Hands.{not-some}
 use Rattle.fx_cut.proofs.Onto.{gone, piece-fits}

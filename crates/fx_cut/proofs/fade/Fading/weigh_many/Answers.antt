@@ -8,7 +8,8 @@ use Rattle.fx_frame.specs.Ring.{pieces}
 use Rattle.fx_frame.proofs.Feeding.{drop-put, pieces-more, pieces-put}
 use Rattle.fx_frame.proofs.ManyFrames.{frames-samples}
 use Rattle.fx_frame.proofs.Pieces.{length-pieces}
-use Rattle.fx_cut.specs.Fade.{faded_along, faded_frame, stop_ahead}
+use Rattle.fx_cut.specs.Fade.{faded_frame}
+use Rattle.fx_cut.specs.FadeState.{faded_along, stop_ahead}
 use Rattle.fx_frame.specs.Lists.{plain}
 use Rattle.fx_cut.proofs.FadeMany.{all-flat, faded_along-more}
 use Rattle.fx_cut.proofs.Pieces.{put-piece}

@@ -3,7 +3,7 @@ use Rattle.std.specs.Prelude.{FitsSigned}
 use Rattle.std.specs.Int.{w32}
 use Rattle.std.specs.List.{All}
 use Rattle.fx_frame.specs.Ring.{pieces}
-use Rattle.fx_cut.specs.Fade.{faded_along}
+use Rattle.fx_cut.specs.FadeState.{faded_along}
 use Rattle.fx_frame.specs.Lists.{plain}
 use Rattle.fx_cut.proofs.fade.Fading.weigh_many.Given as goal
 

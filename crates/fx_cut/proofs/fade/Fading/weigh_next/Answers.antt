@@ -1,5 +1,6 @@
 use Rattle.std.proofs.Common.{add-zero, arith}
-use Rattle.fx_cut.specs.Fade.{stop_ahead, weights}
+use Rattle.fx_cut.specs.Fade.{weights}
+use Rattle.fx_cut.specs.FadeState.{stop_ahead}
 use Rattle.fx_cut.proofs.FadeMany.{weights-some}
 use Rattle.fx_cut.proofs.Weighing.{whole-frame}
 use Rattle.fx_cut.proofs.fade.Fading.weigh_next.Goals as goal

@@ -1,6 +1,7 @@
 use Rattle.std.proofs.Common.{◌≡◌, ◌+◌, ◌∙◌, arith, sym}
 use Rattle.std.proofs.lemmas.Bool.{eqb-true}
-use Rattle.fx_cut.specs.Pad.{PadState, pads_from_start, silent_at}
+use Rattle.fx_cut.specs.Pad.{pads_from_start, silent_at}
+use Rattle.fx_cut.specs.PadState.{PadState}
 use Rattle.fx_cut.proofs.PadMany.{Quiet, one-passed, settled-pad}
 use Rattle.fx_cut.proofs.PadSteps.{dry-hand}
 use Rattle.fx_cut.proofs.pad.PadFeeds.pass_samples.Goals as goal

@@ -3,7 +3,7 @@ use Rattle.std.proofs.Common.{rules, ◌≡◌, ◌≤◌, ◌*◌, ◌∙◌, l
 use Rattle.std.proofs.lemmas.List.{length-take-le}
 use Rattle.fx_frame.specs.Feed.{nothing}
 use Rattle.fx_frame.specs.Ring.{pieces}
-use Rattle.fx_cut.specs.Pad.{PadState}
+use Rattle.fx_cut.specs.PadState.{PadState}
 use Rattle.fx_cut.proofs.Hands.{not-some}
 use Rattle.fx_cut.proofs.PadMany.{Quiet, quiet-passed}
 use Rattle.fx_cut.proofs.Pieces.{few-pieces, frames-room, pieces-cut}

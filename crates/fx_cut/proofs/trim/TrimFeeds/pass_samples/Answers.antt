@@ -1,5 +1,5 @@
 use Rattle.std.proofs.Common.{refl, sym}
-use Rattle.fx_cut.specs.Trim.{TrimState}
+use Rattle.fx_cut.specs.TrimState.{TrimState}
 use Rattle.fx_cut.proofs.TrimPassing.{passed-inside, passed-oldest, passed-out, settled-trim}
 use Rattle.fx_cut.proofs.trim.TrimFeeds.pass_samples.Goals as goal
 

@@ -2,7 +2,7 @@
 use Rattle.std.proofs.Common.{ℕ, ◌≡◌, ◌≤◌, ◌*◌, ◌-◌, length, take, sym, arith}
 use Rattle.std.proofs.lemmas.List.{length-take-le}
 use Rattle.fx_frame.specs.Feed.{nothing}
-use Rattle.fx_cut.specs.Trim.{TrimState}
+use Rattle.fx_cut.specs.TrimState.{TrimState}
 use Rattle.fx_cut.proofs.Hands.{not-some}
 use Rattle.fx_cut.proofs.Onto.{piece-fits}
 use Rattle.fx_cut.proofs.TrimMany.{Alike, piece-passed}

@@ -2,7 +2,7 @@
 use Rattle.std.proofs.Common.{rules, ◌≤◌, ◌+◌, ◌*◌, ◌/◌, ◌^◌, length, arith}
 use Rattle.std.proofs.Math.Nat.{mul_assoc}
 use Rattle.fx_frame.specs.Feed.{nothing}
-use Rattle.fx_cut.specs.Upsample.{UpsampleState}
+use Rattle.fx_cut.specs.UpsampleState.{UpsampleState}
 use Rattle.fx_cut.proofs.Hands.{not-some}
 use Rattle.fx_cut.proofs.Pieces.{frames-room}
 use Rattle.fx_cut.proofs.UpsampleMany.{Ready, all-passed, frames-fed}

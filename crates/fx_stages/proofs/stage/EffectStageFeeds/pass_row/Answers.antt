@@ -6,9 +6,10 @@ use Rattle.fx_frame.specs.Ring.{pieces}
 use Rattle.fx_frame.specs.Stage.{kind}
 use Rattle.fx_frame.proofs.RowLaws.{EachThrough-along, RowThrough-none}
 use Rattle.fx_tap.specs.DcShift.{shifted_sample}
-use Rattle.fx_tap.specs.PerSample.{sample_acts}
+use Rattle.fx_tap.specs.PerSampleState.{sample_acts}
 use Rattle.fx_tap.specs.Vol.{scaled_sample}
-use Rattle.fx_stages.specs.Effects.{effect_acts, ForVol, ForDcShift}
+use Rattle.fx_stages.specs.Effects.{ForVol, ForDcShift}
+use Rattle.fx_stages.specs.Stages.{effect_acts}
 use Rattle.fx_stages.specs.declared.stage.EffectStage.TheVariants as stages
 use Rattle.fx_stages.proofs.RowParts.{few-more, first-channels, first-ready, hand-none, last-ready, outputs-behind, outputs-last, row-behind, row-beside, row-last, same-pieces, same-size}
 use Rattle.fx_stages.proofs.stage.EffectStageFeeds.pass_row.Goals as goal

@@ -2,7 +2,8 @@ use Rattle.std.proofs.Common.{rules, ◌≡◌, ◌<◌, ℤ, ◌+ℤ◌, ap, �
 use Rattle.std.proofs.lemmas.Int.{ints}
 use Rattle.fx_fixed.specs.Rounding.{clipping}
 use Rattle.fx_fixed.specs.declared.gains.TheConstants.{UNIT}
-use Rattle.fx_tap.specs.DcShift.{raised, leaves_half, units_of}
+use Rattle.fx_tap.specs.DcShift.{units_of}
+use Rattle.fx_tap.specs.DcShiftState.{raised, leaves_half}
 use Rattle.fx_tap.proofs.Shifting.{raised-steps}
 use Rattle.fx_tap.proofs.dcshift.ShiftSampling.round.Goals as goal
 

@@ -2,7 +2,7 @@ use Rattle.std.proofs.Common.{rules, ◌≡◌, ◌+◌, ◌∙◌, ap, ℕ, fal
 use Rattle.std.specs.Prelude.{None}
 use Rattle.fx_frame.specs.Ring.{pieces}
 use Rattle.fx_tap.specs.EchoWeights.{Suits}
-use Rattle.fx_tap.specs.Echos.{EchosState, IsEchos, came_of}
+use Rattle.fx_tap.specs.EchosState.{EchosState, IsEchos, came_of}
 use Rattle.fx_tap.proofs.Blocks.{none-of}
 use Rattle.fx_tap.proofs.EchosBlocks.{IsEchos-block, block-fed}
 use Rattle.fx_tap.proofs.EchosGiven.{length-rows}

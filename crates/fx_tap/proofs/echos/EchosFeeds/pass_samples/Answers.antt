@@ -1,7 +1,7 @@
 use Rattle.std.proofs.Common.{◌≡◌, ◌+◌, ◌≤◌, ◌<◌, ◌^◌, ◌∙◌, ap, ℕ, false, length, refl, arith}
 use Rattle.std.specs.Prelude.{None}
 use Rattle.fx_frame.specs.Frame.{Samples}
-use Rattle.fx_tap.specs.Echos.{EchosState, IsEchos, IsEchoLine, came_of, delay_at, line_at}
+use Rattle.fx_tap.specs.EchosState.{EchosState, IsEchos, IsEchoLine, came_of, delay_at, line_at}
 use Rattle.fx_tap.proofs.DryLaws.{dry-hand}
 use Rattle.fx_tap.proofs.EchosBlocks.{IsEchos-block, frame-passed}
 use Rattle.fx_tap.proofs.EchosLaws.{kept-lines, length-row, lines-sound, places-late, row_after}

@@ -1,5 +1,5 @@
 use Rattle.std.proofs.Common.{◌≡◌, ◌<◌, ◌^◌, ◌∙◌, ap, length, arith}
-use Rattle.fx_tap.specs.Echos.{EchosState}
+use Rattle.fx_tap.specs.EchosState.{EchosState}
 use Rattle.fx_tap.proofs.EchosRow.{Small, small-silence}
 use Rattle.fx_tap.proofs.EchosLaws.{Gave-quiet, IsEchos-drained, kept-lines, length-row, row_after}
 use Rattle.fx_tap.proofs.echos.EchosStage.give.Goals as goal

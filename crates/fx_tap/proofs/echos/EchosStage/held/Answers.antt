@@ -1,6 +1,6 @@
 use Rattle.std.proofs.Common.{arith, ap, ◌≤◌, ◌+◌, ◌∙◌, length}
 use Rattle.fx_fixed.specs.Extents.{sum_of_delays}
-use Rattle.fx_tap.specs.Echos.{frames_of}
+use Rattle.fx_tap.specs.EchosState.{frames_of}
 use Rattle.fx_tap.proofs.Rounds.{byte-le}
 use Rattle.fx_tap.proofs.EchosLaws.{frames-late}
 use Rattle.fx_tap.proofs.echos.EchosStage.held.Goals as goal

@@ -1,5 +1,5 @@
 use Rattle.std.proofs.Common.{◌≡◌, ◌∙◌, ap, length}
-use Rattle.fx_tap.specs.Echos.{EchosState}
+use Rattle.fx_tap.specs.EchosState.{EchosState}
 use Rattle.fx_tap.proofs.EchosRow.{small-frame}
 use Rattle.fx_tap.proofs.EchosLaws.{IsEchos-taken, kept-lines, length-row, row_after}
 use Rattle.fx_tap.proofs.echos.EchosStage.take.Goals as goal

@@ -2,7 +2,8 @@ use Rattle.std.proofs.Common.{rules, ◌≡◌, ◌+◌, ◌-◌, ◌≤◌, tru
 use Rattle.std.specs.Prelude.{option_to_list}
 use Rattle.std.proofs.lemmas.Bool.Decides.{nat_tests}
 use Rattle.std.proofs.lemmas.List.{length-reverse}
-use Rattle.fx_tap.specs.Fir.{AreFirCounts, centre}
+use Rattle.fx_tap.specs.Fir.{centre}
+use Rattle.fx_tap.specs.FirState.{AreFirCounts}
 use Rattle.fx_tap.specs.Tapped.{by_name}
 use Rattle.fx_tap.proofs.Counts.{eight-numbers, flag-back}
 use Rattle.fx_tap.proofs.FirLaws.{by_flag, counts-are, stored-is, thawed-is}

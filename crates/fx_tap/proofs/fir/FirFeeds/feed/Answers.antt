@@ -6,7 +6,8 @@ use Rattle.fx_frame.specs.Frame.{Samples}
 use Rattle.fx_frame.specs.Line.{Frames, IsLine}
 use Rattle.fx_frame.specs.Ring.{pieces}
 use Rattle.fx_frame.proofs.Pieces.{length-pieces}
-use Rattle.fx_tap.specs.Fir.{FirState, IsFir, centre}
+use Rattle.fx_tap.specs.Fir.{centre}
+use Rattle.fx_tap.specs.FirState.{FirState, IsFir}
 use Rattle.fx_tap.specs.Tapped.{last_of}
 use Rattle.fx_tap.proofs.Blocks.{none-of}
 use Rattle.fx_tap.proofs.FirBlocks.{block-fed}

@@ -1,0 +1,96 @@
+-- The stage of `pad`: what it stores, what holds of that, and what it is still to give (this project's profile).
+use Rattle.std.specs.Prelude.{ℕ, ℤ, ◌+◌, ◌-◌, ◌^◌, ◌≤◌, ◌≡◌, min, nat_le, nat_eq, Bool, true, false, ◌&&◌, if◌then◌else◌, List, [], ◌∷◌, ◌++◌, filter, flat_map, length, map, replicate, sum_by, Option, Some, None, option_to_list, is_none}
+use Rattle.std.proofs.Common.{arith}
+use Rattle.std.specs.List.{enumerate_from}
+use Rattle.std.specs.Int.{w32}
+use Rattle.fx_fixed.specs.Extents.{greatest, pad_distance}
+use Rattle.fx_fixed.specs.declared.positions.At.{At}
+use Rattle.fx_frame.specs.Frame.{Samples, silence}
+use Rattle.fx_frame.specs.Line.{Frames, IsLine}
+use Rattle.fx_frame.specs.Frozen.{IsHand}
+use Rattle.fx_frame.specs.Stage.{Acts, coming}
+use Rattle.fx_frame.specs.Lists.{plain}
+use Rattle.fx_cut.specs.Pad.{lengths, placed, silent_at, pad_due, IsPads, PadArguments, pad_kind, pad_meaning}
+
+-- what a `Pad` stores
+pub record PadState : Type 0 where
+  -- the frame to be given after the silence
+  pub hand : Option Samples
+  pub recipe : PadArguments
+  -- how many silent frames are to be given
+  pub silent : ℕ
+  pub line : Frames ℤ
+  pub taken : ℕ
+  pub given : ℕ
+  pub ended : Bool
+
+-- what is given for the frames from frame n on, in a sound of so many frames that ends with them
+abbrev pub padded_from : ℕ → ℕ → List (ℕ × At) → ℕ → List Samples → List Samples
+padded_from channels len pads n x =
+    flat_map (λ e. replicate (silent_at (placed len pads) e.0) (silence channels) ++ e.1 ∷ []) (enumerate_from n x)
+    ++ replicate (silent_at (placed len pads) len) (silence channels)
+
+-- what is still to be given where the line holds the frames from frame n on, and these frames come
+abbrev pub pad_rest : ℕ → List (ℕ × At) → ℕ → List Samples → List Samples → List Samples
+pad_rest channels pads n items z = padded_from channels (n + length (items ++ z)) pads n (items ++ z)
+
+-- the same where the newest frame of the line is the last of so many
+abbrev pub pad_after : PadArguments → ℕ → List Samples → List Samples → List Samples
+pad_after r taken items z = pad_rest r.channels r.pads (taken - length items) items z
+
+-- what comes after the frame in hand: after the end, nothing where there is none
+abbrev pub unless_last : Bool → Option Samples → List Samples → List Samples
+unless_last true None later = []
+unless_last true (Some x) later = later
+unless_last false hand later = later
+
+-- what is still to be given: silence, the frame in hand, and what is given for the frames of the line and those that come
+abbrev pub pad_left : PadState → List Samples → List Samples
+pad_left s z = replicate s.silent (silence s.recipe.channels) ++ (option_to_list s.hand ++ unless_last s.ended s.hand (pad_after s.recipe s.taken s.line.items (coming s.ended z)))
+
+-- what holds of it at every moment
+pub record IsPad (s : PadState) : Type 0 where
+  pub line : IsLine w32 s.line
+  pub channels : s.line.channels ≡ s.recipe.channels
+  pub capacity : s.line.capacity ≡ greatest (map pad_distance s.recipe.pads)
+  pub pads : IsPads s.recipe.pads
+  pub few : s.taken ≤ 2 ^ 56
+  pub held : length s.line.items + length (option_to_list s.hand) ≤ s.taken
+  pub within : (z : List Samples) → s.given + length (pad_left s z) ≤ s.taken + length z + lengths s.recipe.pads
+  pub full : s.ended ≡ false → length s.line.items ≡ min s.taken s.line.capacity
+  pub counted : s.ended ≡ false → s.given + s.silent + length (option_to_list s.hand) ≡ pad_due s.recipe.pads s.taken
+  pub over : s.ended ≡ true → s.hand ≡ None → s.line.items ≡ []
+  pub fits : IsHand s.recipe.channels s.hand
+
+-- how many silent frames stand at a place or behind it
+abbrev pub silence_from : List (ℕ × ℕ) → ℕ → ℕ
+silence_from pads n = sum_by (λ p. p.0) (filter (λ p. nat_le n p.1) pads)
+
+-- how many frames come after the one in hand, after the end of a sound of so many frames, the last of which are in the line
+abbrev pub later_count : List (ℕ × At) → ℕ → ℕ → ℕ → ℕ
+later_count pads taken lined hands = if nat_eq hands 0 then 0 else lined + silence_from (placed taken pads) (taken - lined)
+
+-- what holds of its counts alone: so many frames taken and given, in the line and in hand, and silent ones to be given
+pub record IsPadCount (pads : List (ℕ × At)) (taken given silent lined hands : ℕ) (ended : Bool) : Type 0 where
+  pub full : ended ≡ false → lined ≡ min taken (greatest (map pad_distance pads))
+  pub counted : ended ≡ false → given + silent + hands ≡ pad_due pads taken
+  pub over : ended ≡ true → hands ≡ 0 → lined ≡ 0
+  pub within : ended ≡ true → given + silent + hands + later_count pads taken lined hands ≤ taken + lengths pads
+
+-- how the stages of `pad` behave
+abbrev pub pad_acts : Acts PadState PadArguments
+pad_acts = record {
+  recipe = λ s. s.recipe;
+  kind_of = pad_kind;
+  meaning = pad_meaning;
+  rest = λ s z. map plain (pad_left s z);
+  counts = λ s. record { taken = s.taken; given = s.given; clips = 0; ended = s.ended };
+  dry = λ s. is_none s.hand && nat_eq s.silent 0;
+  stored = λ s. s.line.items ++ option_to_list s.hand;
+  capacity = λ s. s.line.capacity;
+  own = λ s. record { sixth = s.silent; seventh = length (option_to_list s.hand); eighth = 0 };
+}
+
+-- more frames in give no fewer out
+pub pad_rises : (r : PadArguments) (m n : ℕ) → m ≤ n → m + lengths r.pads ≤ n + lengths r.pads
+pad_rises r m n h = omega arith

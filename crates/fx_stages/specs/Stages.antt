@@ -1,0 +1,115 @@
+-- The stages of all effects as one type (this project's profile): each behaves as the stage of its effect.
+use Rattle.std.specs.Prelude.{ℕ, ℤ, ◌≤◌, Bool, List, length, map}
+use Rattle.std.proofs.Math.Nat.{mul-le-mul_right}
+use Rattle.fx_cut.specs.Ceil.{ceil_rises}
+use Rattle.fx_cut.specs.DownsampleState.{IsDownsample, downsample_acts}
+use Rattle.fx_cut.specs.Fade.{FadeArguments}
+use Rattle.fx_cut.specs.FadeState.{IsFade, fade_acts}
+use Rattle.fx_cut.specs.Factor.{FactorArguments}
+use Rattle.fx_cut.specs.Pad.{PadArguments}
+use Rattle.fx_cut.specs.PadState.{IsPad, pad_acts, pad_rises}
+use Rattle.fx_cut.specs.Trim.{TrimArguments}
+use Rattle.fx_cut.specs.TrimState.{IsTrim, trim_acts}
+use Rattle.fx_cut.specs.UpsampleState.{IsUpsample, upsample_acts}
+use Rattle.fx_fixed.specs.Extents.{greatest, sum_of_delays, tap_delay}
+use Rattle.fx_frame.specs.Frame.{Samples}
+use Rattle.fx_frame.specs.Stage.{Acts, Counts, Given, Kind, Own}
+use Rattle.fx_stages.specs.declared.stage.EffectStage.{EffectStage}
+use Rattle.fx_stages.specs.declared.stage.EffectStage.TheVariants as stages
+use Rattle.fx_tap.specs.DcShiftState.{dcshift_acts}
+use Rattle.fx_tap.specs.DelayState.{delay_acts, delay_taps}
+use Rattle.fx_tap.specs.Echo.{EchoArguments}
+use Rattle.fx_tap.specs.EchoState.{echo_acts, echo_taps}
+use Rattle.fx_tap.specs.EchosState.{IsEchos, echos_acts}
+use Rattle.fx_tap.specs.Fir.{FirArguments}
+use Rattle.fx_tap.specs.FirState.{IsFir, fir_acts}
+use Rattle.fx_tap.specs.Mapped.{IsMapState}
+use Rattle.fx_tap.specs.PerSample.{SampleArguments}
+use Rattle.fx_tap.specs.Remix.{RemixArguments}
+use Rattle.fx_tap.specs.RemixState.{remix_acts}
+use Rattle.fx_tap.specs.Tapped.{IsTapState, tap_rises}
+use Rattle.fx_tap.specs.VolState.{vol_acts}
+use Rattle.fx_stages.specs.Effects.{EffectRecipe, ForTrim, ForPad, ForFade, ForUpsample, ForDownsample, ForDelay, ForEcho, ForEchos, ForFir, ForRemix, ForVol, ForDcShift, kind_of_recipe, meaning_of_recipe}
+
+-- what a stage shows of itself: its recipe, what is still to be given, what it counted, that it has nothing to give now,
+-- the frames that it holds, the places of its line, and its own numbers
+pub record Look : Type 0 where
+  pub recipe : EffectRecipe
+  pub rest : List Samples → List Given
+  pub counts : Counts
+  pub dry : Bool
+  pub stored : List Samples
+  pub capacity : ℕ
+  pub own : Own
+
+-- the look of a stage, by how the stages of its effect behave
+abbrev pub look : {S R : Type 0} → Acts S R → (R → EffectRecipe) → S → Look
+look acts named s = record {
+  recipe = named (acts.recipe s);
+  rest = acts.rest s;
+  counts = acts.counts s;
+  dry = acts.dry s;
+  stored = acts.stored s;
+  capacity = acts.capacity s;
+  own = acts.own s;
+}
+
+-- the look of any stage
+abbrev pub look_of : EffectStage → Look
+look_of (stages.Trim s) = look trim_acts ForTrim s
+look_of (stages.Pad s) = look pad_acts ForPad s
+look_of (stages.Fade s) = look fade_acts ForFade s
+look_of (stages.Upsample s) = look upsample_acts ForUpsample s
+look_of (stages.Downsample s) = look downsample_acts ForDownsample s
+look_of (stages.Delay s) = look delay_acts ForDelay s
+look_of (stages.Echo s) = look echo_acts ForEcho s
+look_of (stages.Echos s) = look echos_acts ForEchos s
+look_of (stages.Fir s) = look fir_acts ForFir s
+look_of (stages.Remix s) = look remix_acts ForRemix s
+look_of (stages.Vol s) = look vol_acts ForVol s
+look_of (stages.DcShift s) = look dcshift_acts ForDcShift s
+
+abbrev pub recipe_of : EffectStage → EffectRecipe
+recipe_of s = (look_of s).recipe
+
+abbrev pub stored_of : EffectStage → List Samples
+stored_of s = (look_of s).stored
+
+-- what holds of it at every moment
+abbrev pub sound_of : EffectStage → Type 0
+sound_of (stages.Trim s) = IsTrim s
+sound_of (stages.Pad s) = IsPad s
+sound_of (stages.Fade s) = IsFade s
+sound_of (stages.Upsample s) = IsUpsample s
+sound_of (stages.Downsample s) = IsDownsample s
+sound_of (stages.Delay s) = IsTapState delay_taps s
+sound_of (stages.Echo s) = IsTapState echo_taps s
+sound_of (stages.Echos s) = IsEchos s
+sound_of (stages.Fir s) = IsFir s
+sound_of (stages.Remix s) = IsMapState (λ (a : RemixArguments). length a.outs) s
+sound_of (stages.Vol s) = IsMapState (λ (a : SampleArguments ℤ). a.channels) s
+sound_of (stages.DcShift s) = IsMapState (λ (a : SampleArguments ℤ). a.channels) s
+
+-- how the stages of all effects behave
+abbrev pub effect_acts : Acts EffectStage EffectRecipe
+effect_acts = record {
+  recipe = recipe_of;
+  kind_of = kind_of_recipe;
+  meaning = meaning_of_recipe;
+  rest = λ s. (look_of s).rest;
+  counts = λ s. (look_of s).counts;
+  dry = λ s. (look_of s).dry;
+  stored = stored_of;
+  capacity = λ s. (look_of s).capacity;
+  own = λ s. (look_of s).own;
+}
+
+-- more frames in give no fewer out
+pub effect_rises : (r : EffectRecipe) (m n : ℕ) → m ≤ n → (kind_of_recipe r).most m ≤ (kind_of_recipe r).most n
+effect_rises (ForPad r) m n h = pad_rises r m n h
+effect_rises (ForUpsample r) m n h = mul-le-mul_right r.factor h
+effect_rises (ForDownsample r) m n h = ceil_rises m n r.factor h
+effect_rises (ForDelay r) m n h = tap_rises (greatest r) m n h
+effect_rises (ForEcho r) m n h = tap_rises (greatest (map tap_delay r.echoes)) m n h
+effect_rises (ForEchos r) m n h = tap_rises (sum_of_delays r.echoes) m n h
+effect_rises other m n h = h
