@@ -1,5 +1,5 @@
-//! The worked rows of fx_fixed, fx_frame, fx_line and fx_transform. They stand in a crate of their own, so that those crates
-//! are not proved once more for them.
+//! The worked rows of fx_fixed, fx_frame, fx_line, fx_plan, fx_sound and fx_transform. They stand in a crate of their own, so
+//! that those crates are not proved once more for them.
 #![tactic(auto)]
 
 #[cfg(test)]
@@ -8,5 +8,9 @@ mod fixed_tests;
 mod frame_tests;
 #[cfg(test)]
 mod line_tests;
+#[cfg(test)]
+mod plan_tests;
+#[cfg(test)]
+mod sound_tests;
 #[cfg(test)]
 mod transform_tests;

@@ -1,6 +1,14 @@
-//! The worked rows of fx_chain: bounds and steps. They stand in a crate of their own, so that fx_chain is not proved once more
-//! for them; those of feeding stand in tests_chain_feed, those of freezing and thawing in tests_chain_freeze.
+//! The worked rows of fx_chain: bounds and steps; sounds in pieces beside frames one by one; freezing and thawing. They stand
+//! in a crate of their own, so that fx_chain is not proved once more for them.
 #![tactic(auto)]
 
 #[cfg(test)]
-mod tests;
+mod bound_tests;
+#[cfg(test)]
+mod driving;
+#[cfg(test)]
+mod feed_tests;
+#[cfg(test)]
+mod freeze_tests;
+#[cfg(test)]
+mod words;

@@ -1,0 +1,7 @@
+use Rattle.std.proofs.Common.{◌≡◌}
+use Rattle.tests_chain.proofs.driving.feed.Given as goal
+
+abbrev pub invariant-samples : goal.invariant-samples
+invariant-samples l = record {
+  plan : l.chain.plan ≡ l.fn.chain.plan;
+}

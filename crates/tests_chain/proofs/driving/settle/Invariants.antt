@@ -1,0 +1,7 @@
+use Rattle.std.proofs.Common.{◌≡◌}
+use Rattle.tests_chain.proofs.driving.settle.Given as goal
+
+abbrev pub invariant-steps : goal.invariant-steps
+invariant-steps l = record {
+  plan : l.chain.plan ≡ l.fn.chain.plan;
+}

@@ -1,0 +1,295 @@
+//! Chains that are fed pieces of a sound, beside chains that take its frames one by one.
+ghost use Rattle.std.specs.Prelude.{◌≡◌, ◌<◌, ◌≤◌, IfOk};
+
+use crate::driving::{Driven, Driver, frozen};
+use crate::words::{TWELVE_EFFECTS, plan_of};
+use fx_chain::{Chain, Snapshot};
+use fx_flow::flow::{MOST_FRAMES, State};
+use std::alloc::Global;
+use std::test::Fail;
+
+/// How many samples the sound of a row has.
+const SAMPLES: usize = 300;
+
+/// How many pieces the feeding of a row takes at the most.
+const MOST_PIECES: u32 = 5000;
+
+/// The greatest room for samples that are given.
+const MOST_ROOM: u32 = 40;
+
+/// How many plans of random effects are fed.
+const RANDOM_PLANS: u32 = 50;
+
+/// Effects from one channel to one, of which a random plan has one to four.
+const EFFECTS: [&str; 16] = [
+    "trim 5s 20s 33s",
+    "trim 3s -4s",
+    "pad 2s@3s 3s",
+    "delay 7s",
+    "echo 0.8 0.9 1 0.5 2.5 0.25",
+    "echos 0.8 0.9 1 0.5 2.5 0.25",
+    "fade t 9s -0 11s",
+    "vol 1.5",
+    "vol 0.5",
+    "dcshift 0.4",
+    "fir 0.25 0.5 0.25",
+    "remix 1v0.5",
+    "remix 1,1",
+    "remix 1 1 remix 1,2",
+    "upsample 3",
+    "downsample 2",
+];
+
+/// One effect each, then several.
+const ROWS: [&str; 20] = [
+    "",
+    "trim 5s 20s 33s",
+    "trim 3s -4s",
+    "pad 2s@3s 1s@100s 3s",
+    "delay 7s",
+    "echo 0.8 0.9 1 0.5 2.5 0.25",
+    "echos 0.8 0.9 1 0.5 2.5 0.25",
+    "fade t 9s -0 11s",
+    "vol 1.5",
+    "dcshift 0.4",
+    "fir 0.25 0.5 0.25",
+    "remix 1v0.5",
+    "upsample 3",
+    "downsample 4",
+    "vol 0.5 dcshift 0.25",
+    "vol 1.5 remix 1,1 dcshift 0.25",
+    "dcshift 0.25 remix 1v0.75 vol 0.333",
+    "trim 2s 250s vol 1.5 echo 0.8 0.9 1 0.5 vol 0.9",
+    "upsample 3 vol 0.5 downsample 2 pad 1s 2s",
+    TWELVE_EFFECTS,
+];
+
+/// Numbers that look random, and are the same each time.
+#[derive(Drop)]
+struct Dice {
+    state: u64,
+}
+
+impl Dice {
+    /// The next number, below a bound.
+    fn next_below(&mut self, bound: u32) -> u32
+        requires { 1 ≤ bound }
+        ensures { result < bound }
+    {
+        self.state = self
+            .state
+            .wrapping_mul(6364136223846793005)
+            .wrapping_add(1442695040888963407);
+        (self.state >> 40) as u32 % bound
+    }
+}
+
+/// The samples of a sound, loud ones among them.
+fn sound(alloc: Global, dice: &mut Dice) -> Result<Vec<i32>, &'static str> {
+    let mut samples = Vec::new(alloc);
+    for _place in 0..SAMPLES {
+        let sample = i64::from(dice.next_below(1 << 16)) * 65_536 - (1 << 31);
+        if samples.push(sample as i32).is_err() {
+            return Err("no memory for the sound");
+        }
+    }
+    Ok(samples)
+}
+
+/// Feeds a chain of one channel what it takes of a piece, with so much room; how many samples it took, and whether it waits.
+fn feed_once(
+    chain: &mut Chain,
+    driven: &mut Driven,
+    piece: &[i32],
+    room: usize,
+) -> Result<(usize, bool), &'static str>
+    requires channels { chain.old.plan.head.channels ≡ 1 }
+    requires room { room ≤ MOST_ROOM }
+    ensures { chain.new.plan ≡ chain.old.plan }
+{
+    if piece.len() > SAMPLES || chain.taken() > MOST_FRAMES / 2 {
+        return Err("too many frames");
+    }
+    let mut output = [0; MOST_ROOM as usize];
+    let passed = chain.feed(piece, &mut output[..room]);
+    if passed.given > room {
+        return Err("more given than there is room for");
+    }
+    let given = &output[..passed.given];
+    if driven.samples.extend_from_slice(given).is_err() {
+        return Err("no memory for the samples");
+    }
+    let waits = !matches!(chain.state(), State::Busy);
+    Ok((passed.taken, waits))
+}
+
+/// Feeds a chain of one channel a piece, in rooms of random sizes, until it took the piece and waits, or takes no more.
+fn feed_piece(
+    chain: &mut Chain,
+    driven: &mut Driven,
+    piece: &[i32],
+    dice: &mut Dice,
+) -> Result<(), &'static str>
+    requires { chain.old.plan.head.channels ≡ 1 }
+    ensures { chain.new.plan ≡ chain.old.plan }
+{
+    let mut rest = piece;
+    'calls: for _call in 0..MOST_PIECES {
+        let room = dice.next_below(MOST_ROOM) as usize;
+        let (taken, waits) = feed_once(chain, driven, rest, room)?;
+        if taken > rest.len().min(SAMPLES) {
+            return Err("more taken than there is");
+        }
+        rest = &rest[taken..];
+        if waits && (rest.is_empty() || chain.is_spent()) {
+            return Ok(());
+        }
+    }
+    Err("feeding without end")
+}
+
+/// Are two chains the same to their callers: hand-overs, frames held, clips, and what they are frozen to?
+fn are_alike(alloc: Global, fed: &Chain, stepped: &Chain) -> Result<bool, &'static str> {
+    let one = frozen(alloc, fed)?;
+    let other = frozen(alloc, stepped)?;
+    let counts = fed.moves() == stepped.moves() && fed.held() == stepped.held();
+    Ok(counts && one.numbers == other.numbers && one.frames == other.frames)
+}
+
+/// A chain that is fed, and one of the same plan that takes frames one by one.
+#[derive(Drop)]
+struct Pair {
+    fed: Driver,
+    stepped: Driver,
+}
+
+impl Pair {
+    /// Two new chains of these effects.
+    fn new(alloc: Global, effects: &str) -> Result<Pair, &'static str>
+        ensures { IfOk result (λ p. (p.fed.chain.plan.head.channels ≡ 1) × (p.stepped.chain.plan.head.channels ≡ 1)) }
+    {
+        let plan = plan_of(alloc, effects)?;
+        let fed = Driver::new(alloc, &plan)?;
+        let stepped = Driver::new(alloc, &plan)?;
+        Ok(Pair { fed, stepped })
+    }
+
+    /// Feeds one a piece, and lets the other take the frames that the first one took; how many that are.
+    fn take_piece(&mut self, piece: &[i32], dice: &mut Dice) -> Result<usize, &'static str>
+        requires fed { self.old.fed.chain.plan.head.channels ≡ 1 }
+        requires stepped { self.old.stepped.chain.plan.head.channels ≡ 1 }
+        ensures fed { self.new.fed.chain.plan ≡ self.old.fed.chain.plan }
+        ensures stepped { self.new.stepped.chain.plan ≡ self.old.stepped.chain.plan }
+    {
+        let before = self.fed.chain.taken();
+        feed_piece(&mut self.fed.chain, &mut self.fed.driven, piece, dice)?;
+        let taken = self.fed.chain.taken().saturating_sub(before) as usize;
+        if taken > piece.len() {
+            return Err("more taken than there is");
+        }
+        self.stepped.feed(&piece[..taken])?;
+        Ok(taken)
+    }
+
+    /// Tells both the end, and steps them until they are done.
+    fn finish(&mut self) -> Result<(), &'static str> {
+        self.fed.finish()?;
+        self.stepped.finish()
+    }
+
+    /// The fault of two that are not alike: in what they gave, or to their callers.
+    fn compare(&self, alloc: Global) -> Result<(), &'static str> {
+        if self.fed.driven.samples != self.stepped.driven.samples {
+            return Err("other samples");
+        }
+        if !are_alike(alloc, &self.fed.chain, &self.stepped.chain)? {
+            return Err("other counts or snapshots");
+        }
+        Ok(())
+    }
+}
+
+/// Feeds a sound in random pieces, beside frames one by one.
+fn feed_sound(
+    alloc: Global,
+    pair: &mut Pair,
+    samples: &[i32],
+    dice: &mut Dice,
+) -> Result<(), &'static str>
+    requires fed { pair.old.fed.chain.plan.head.channels ≡ 1 }
+    requires stepped { pair.old.stepped.chain.plan.head.channels ≡ 1 }
+{
+    let mut rest = samples;
+    'pieces: for _piece in 0..MOST_PIECES {
+        if rest.is_empty() || pair.stepped.chain.is_spent() {
+            return Ok(());
+        }
+        let size = rest.len().min(1 + dice.next_below(50) as usize);
+        let taken = pair.take_piece(&rest[..size], dice)?;
+        if taken > size {
+            return Err("more taken than there is");
+        }
+        rest = &rest[taken..];
+        pair.compare(alloc)?;
+    }
+    Err("pieces without end")
+}
+
+/// Feeds two new chains a sound, one of them frame by frame, to the end.
+fn feed_pair(
+    alloc: Global,
+    pair: &mut Pair,
+    samples: &[i32],
+    dice: &mut Dice,
+) -> Result<(), &'static str>
+    requires fed { pair.old.fed.chain.plan.head.channels ≡ 1 }
+    requires stepped { pair.old.stepped.chain.plan.head.channels ≡ 1 }
+{
+    feed_sound(alloc, pair, samples, dice)?;
+    pair.finish()?;
+    pair.compare(alloc)
+}
+
+/// Feeds a new chain of these effects a sound, beside frames one by one, to the end.
+fn feed_row(alloc: Global, effects: &str, dice: &mut Dice) -> Result<(), &'static str> {
+    let samples = sound(alloc, dice)?;
+    let mut pair = Pair::new(alloc, effects)?;
+    feed_pair(alloc, &mut pair, &samples, dice)
+}
+
+#[test]
+fn feed_is_steps(rt: HostRuntime) -> Result<(), Fail> {
+    let mut dice = Dice { state: 1 };
+    for effects in ROWS {
+        feed_row(rt.alloc(), effects, &mut dice)?;
+    }
+    Ok(())
+}
+
+/// The words of one to four effects.
+fn random_effects(alloc: Global, dice: &mut Dice) -> Result<String, &'static str> {
+    let mut words = String::new(alloc);
+    let count = 1 + dice.next_below(4);
+    'effects: for _effect in 0..count {
+        let effect = EFFECTS[dice.next_below(16) as usize];
+        if words.push_str(effect).is_err() || words.push_str(" ").is_err() {
+            return Err("no memory for the words");
+        }
+    }
+    Ok(words)
+}
+
+/// Feeds a chain of random effects a random sound, beside frames one by one.
+fn feed_random(alloc: Global, dice: &mut Dice) -> Result<(), &'static str> {
+    let effects = random_effects(alloc, dice)?;
+    feed_row(alloc, &effects, dice)
+}
+
+#[test]
+fn random_plans_are_steps(rt: HostRuntime) -> Result<(), Fail> {
+    let mut dice = Dice { state: 7 };
+    for _plan in 0..RANDOM_PLANS {
+        feed_random(rt.alloc(), &mut dice)?;
+    }
+    Ok(())
+}

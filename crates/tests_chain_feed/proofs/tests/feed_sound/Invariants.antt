@@ -1,8 +1,0 @@
-use Rattle.std.proofs.Common.{◌≡◌}
-use Rattle.tests_chain_feed.proofs.tests.feed_sound.Given as goal
-
-abbrev pub invariant-pieces : goal.invariant-pieces
-invariant-pieces l = record {
-  fed : l.pair.fed.chain.plan.head.channels ≡ 1;
-  stepped : l.pair.stepped.chain.plan.head.channels ≡ 1;
-}
