@@ -1,5 +1,7 @@
 //! What each effect does to the number of frames, of channels and of bytes, and how late it gives. Numbers past 64 bits stay
 //! at the greatest one.
+ghost use Rattle.std.specs.Prelude.{◌≡◌, ℕ, Some};
+ghost use Rattle.fx_plan.specs.Effects.{act, layout_after};
 
 use fx_fixed::At;
 use fx_plan::inner::{Effect, Fading};
@@ -64,7 +66,9 @@ pub fn frames_behind(effect: &Effect, line: u64, frames: u64) -> u64 {
 }
 
 /// How many channels an effect leaves of so many.
-pub fn channels_behind(effect: &Effect, channels: usize) -> usize {
+pub fn channels_behind(effect: &Effect, channels: usize) -> usize
+    ensures { (rate : ℕ) → result ≡ (layout_after (record { rate = rate; channels = channels }) (Some (act effect.now))).channels }
+{
     match effect {
         Effect::Remix(specs) => specs.len(),
         _ => channels,

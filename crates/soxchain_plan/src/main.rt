@@ -67,7 +67,7 @@ fn plan_line(
         Ok(plan) => plan,
         Err(fault) => return stopped(rt, style, &Stop::Refused(line, Refusal::Plan(fault))),
     };
-    let outline: Outline = match outline_of(rt.alloc(), head, &plan) {
+    let outline: Outline = match outline_of(rt.alloc(), &plan) {
         Ok(outline) => outline,
         Err(_) => return stopped(rt, style, &Stop::Refused(line, Refusal::Chain)),
     };

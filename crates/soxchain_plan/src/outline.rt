@@ -1,7 +1,9 @@
 //! What a plan says, and how it is shown.
-ghost use Rattle.std.specs.Prelude.{◌≡◌, IfOk};
+ghost use Rattle.std.specs.Prelude.{◌≡◌, ◌*◌, ◌≤◌, IfOk, map};
+ghost use Rattle.fx_frame.specs.Coding.{width_of};
 ghost use Rattle.fx_plan.specs.Bounds.{hold_all};
 ghost use Rattle.fx_plan.specs.Planning.{planning};
+ghost use Rattle.soxchain_plan.specs.Outlines.{announced_frames, known, told};
 
 use crate::lengths::{bytes_held, channels_behind, frames_behind, lateness};
 use crate::quoting::{bits_of, name_of_kind};
@@ -48,13 +50,23 @@ pub struct Outline {
 }
 
 /// The whole frames that a head announces.
-fn frames_in(head: &Head) -> Option<u64> {
-    let width = head.channels.saturating_mul(head.coding.width()).max(1);
-    Some(head.announced? / width as u64)
+fn frames_in(head: &Head) -> Option<u64>
+    requires channels { (1 ≤ head.now.channels) × (head.now.channels ≤ 16) }
+    ensures { result ≡ announced_frames head.now }
+{
+    let size = head.channels * head.coding.width();
+    Some(head.announced? / size as u64)
 }
 
 /// What the head of the input says.
-fn input_of(head: &Head) -> SoundOutline {
+fn input_of(head: &Head) -> SoundOutline
+    requires channels { (1 ≤ head.now.channels) × (head.now.channels ≤ 16) }
+    ensures kind { result.kind ≡ head.now.kind }
+    ensures rate { result.rate ≡ head.now.rate }
+    ensures channels { result.channels ≡ head.now.channels }
+    ensures bits { result.bits ≡ 8 * width_of head.now.coding }
+    ensures frames { result.frames ≡ announced_frames head.now }
+{
     SoundOutline {
         kind: head.kind,
         rate: head.rate,
@@ -64,18 +76,28 @@ fn input_of(head: &Head) -> SoundOutline {
     }
 }
 
-/// What a plan says, behind the head of the input.
-pub fn outline_of(alloc: Global, head: &Head, plan: &Plan) -> Result<Outline, AllocError>
+/// What a plan says.
+pub fn outline_of(alloc: Global, plan: &Plan) -> Result<Outline, AllocError>
+    ensures input_kind { IfOk result (λ outline. outline.input.kind ≡ (planning plan.now).head.kind) }
+    ensures input_rate { IfOk result (λ outline. outline.input.rate ≡ (planning plan.now).head.rate) }
+    ensures input_channels { IfOk result (λ outline. outline.input.channels ≡ (planning plan.now).head.channels) }
+    ensures input_bits { IfOk result (λ outline. outline.input.bits ≡ 8 * width_of (planning plan.now).head.coding) }
+    ensures input_frames { IfOk result (λ outline. outline.input.frames ≡ announced_frames (planning plan.now).head) }
+    ensures effects { IfOk result (λ outline. map told outline.effects.items ≡ map known (planning plan.now).acts) }
     ensures hold { IfOk result (λ outline. outline.hold ≡ hold_all (planning plan.now).acts) }
+    ensures kind { IfOk result (λ outline. outline.output.kind ≡ (planning plan.now).kind) }
     ensures rate { IfOk result (λ outline. outline.output.rate ≡ (planning plan.now).layout.rate) }
     ensures channels { IfOk result (λ outline. outline.output.channels ≡ (planning plan.now).layout.channels) }
+    ensures bits { IfOk result (λ outline. outline.output.bits ≡ 8 * width_of (planning plan.now).coding) }
 {
-    let input = input_of(head);
+    let head = plan.head();
+    let input = input_of(&head);
     let mut effects = Vec::new(alloc);
     let mut frames = input.frames;
     let mut channels = head.channels;
     let mut bytes = (channels as u64).saturating_mul(4);
-    for effect in plan.effects().iter() {
+    let all = plan.effects();
+    'effects: for effect in all {
         let line = effect.line();
         let held = bytes_held(effect, line, channels);
         frames = frames.map(|n| frames_behind(effect, line, n));

@@ -1,4 +1,6 @@
 //! Names and texts as they are shown.
+ghost use Rattle.std.specs.Prelude.{◌≡◌, ◌*◌};
+ghost use Rattle.fx_frame.specs.Coding.{width_of};
 
 use fx_frame::Coding;
 use fx_sound::Kind;
@@ -14,7 +16,9 @@ pub fn name_of_kind(kind: Kind) -> &'static str {
 }
 
 /// The bits of a sample.
-pub fn bits_of(coding: Coding) -> usize {
+pub fn bits_of(coding: Coding) -> usize
+    ensures { result ≡ 8 * width_of coding }
+{
     8 * coding.width()
 }
 

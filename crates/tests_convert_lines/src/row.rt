@@ -1,6 +1,6 @@
 //! What the lines of a row say.
 
-ghost use Rattle.std.specs.Prelude.{◌≡◌, ◌<◌, IfSome};
+ghost use Rattle.std.specs.Prelude.{◌<◌, IfSome};
 
 use crate::show::show_row;
 use std::alloc::{AllocError, Global};

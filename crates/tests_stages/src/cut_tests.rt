@@ -1,5 +1,5 @@
 //! The worked rows of fx_cut, in tables.
-ghost use Rattle.std.specs.Prelude.{◌≡◌, ◌+◌, ◌^◌, ◌≤◌, length, IfOk};
+ghost use Rattle.std.specs.Prelude.{◌≡◌, ◌^◌, ◌≤◌, length, IfOk};
 ghost use Rattle.fx_cut.specs.Pad.{IsPads};
 ghost use Rattle.fx_frame.specs.Stage.{kind};
 

@@ -1,5 +1,5 @@
 //! `fir` of many coefficients, fed blocks of a sound, beside sums that are added up one by one.
-ghost use Rattle.std.specs.Prelude.{◌≡◌, ◌<◌, ◌≤◌, ◌^◌, ◌+◌, length, IfOk};
+ghost use Rattle.std.specs.Prelude.{◌<◌, ◌≤◌, ◌^◌, ◌+◌, length};
 
 use crate::driving::{drain, gain, stored};
 use fx_fixed::Gain;

@@ -1,5 +1,5 @@
 //! The worked rows of the effects.
-ghost use Rattle.std.specs.Prelude.{◌≡◌, ◌≤◌, IfOk, length};
+ghost use Rattle.std.specs.Prelude.{◌≡◌, IfOk};
 
 use crate::driving::{decay, gain, gives};
 use fx_fixed::{Coefficients, Gain, OutSpec, Weight};
