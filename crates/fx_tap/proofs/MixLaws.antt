@@ -18,13 +18,14 @@ use Rattle.fx_fixed.specs.declared.gains.TheConstants.{UNIT}
 use Rattle.fx_fixed.specs.declared.weights.Weight.{Weight}
 use Rattle.fx_tap.specs.EchoWeights.{Weights}
 use Rattle.fx_frame.specs.Lists.{tabulate}
-use Rattle.fx_tap.specs.Mix.{Copies, IsContribution, Means, all_parts, pair_of}
+use Rattle.fx_tap.specs.Mix.{Copies, IsContribution, Means, Scales, all_parts, pair_of}
 use Rattle.fx_transform.specs.Products.{sum_of_products}
 use Rattle.fx_frame.specs.Rounded.{clips_of}
 use Rattle.fx_tap.specs.SmallWeights.{SumsAs}
 use Rattle.fx_tap.proofs.Convolving.{Adding, Adding-next}
 use Rattle.fx_tap.proofs.KernelLaws.{rounded-as}
 use Rattle.fx_tap.specs.Remix.{mixed_parts, parts_of, remixed_sample}
+use Rattle.fx_tap.specs.Vol.{scaled_sample}
 use Rattle.fx_tap.proofs.EchoLaws.{add-next}
 
 -- one more contribution
@@ -114,6 +115,17 @@ copied-of channel weight frame whole fits =
 -- the sample of an output channel that is a channel of the input
 pub copied-sample : (cs : List Contribution) (channel : ℕ) (frame : Samples) → Copies cs channel → FitsSigned w32 (slice_index_or frame channel (pos 0)) → remixed_sample (map pair_of cs) frame ≡ (slice_index_or frame channel (pos 0), false)
 copied-sample cs channel frame copies fits = ap (λ l. remixed_sample l frame) copies.alone ∙ copied-of channel copies.weight frame copies.whole fits
+
+-- ---- one channel times a gain
+
+-- the sample of an output channel that is a channel of the input times a gain
+pub scaled-mix : (cs : List Contribution) (channel : ℕ) (gain : ℤ) (frame : Samples) → Scales cs channel gain → remixed_sample (map pair_of cs) frame ≡ scaled_sample gain (slice_index_or frame channel (pos 0))
+scaled-mix cs channel gain frame scales =
+    let x : ℤ = slice_index_or frame channel (pos 0) in
+    let one : pos 1 *ℤ gain ≡ gain = omega (arith, ints) in
+    let none : (gain *ℤ x) +ℤ pos 0 ≡ gain *ℤ x = omega (arith, ints) in
+    let whole : 1 * UNIT ≡ UNIT = omega arith in
+    ap (λ l. remixed_sample l frame) scales ∙ ap₂ (λ g u. rounding ((g *ℤ x) +ℤ pos 0) u) one whole ∙ ap (λ z. rounding z UNIT) none
 
 -- ---- the mean of two channels
 

@@ -3,6 +3,7 @@ use Rattle.std.specs.Prelude.{ℕ, ℤ, pos, ◌<◌, ◌≡◌, List, [], ◌�
 use Rattle.fx_tap.specs.Remix.{parts_of}
 use Rattle.fx_fixed.specs.declared.gains.TheConstants.{UNIT}
 use Rattle.fx_fixed.specs.declared.weights.Weight.{Weight}
+use Rattle.fx_fixed.specs.declared.weights.Weight.TheVariants.{Given}
 use Rattle.fx_tap.specs.declared.remix.Contribution.{Contribution}
 
 -- its channel and weight
@@ -23,6 +24,10 @@ pub record Copies (cs : List Contribution) (channel : ℕ) : Type 0 where
   pub weight : Weight
   pub alone : map pair_of cs ≡ (channel, weight) ∷ []
   pub whole : parts_of 1 weight ≡ pos UNIT
+
+-- that channel alone contributes, with that gain
+abbrev pub Scales : List Contribution → ℕ → ℤ → Type 0
+Scales cs channel gain = map pair_of cs ≡ (channel, Given gain) ∷ []
 
 -- these two channels alone contribute, each with a weight of a half
 pub record Means (cs : List Contribution) (first second : ℕ) : Type 0 where

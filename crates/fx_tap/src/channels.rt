@@ -7,6 +7,7 @@ ghost use Rattle.fx_frame.specs.Ring.{pieces};
 ghost use Rattle.fx_frame.specs.Lists.{tabulate};
 ghost use Rattle.fx_frame.specs.Rounded.{clips_of};
 
+use crate::per_sample::Sampling;
 use fx_fixed::inner::Denominator;
 
 /// Fills the places with one channel of as many frames.
@@ -76,6 +77,43 @@ pub(crate) fn place_channel(
         read += inputs;
         at += outputs;
     }
+}
+
+/// Writes what an effect makes of each sample of one channel of so many frames over a channel of as many frames of other
+/// channels, and counts how many were clipped.
+#[inline(always)]
+pub(crate) fn place_rounded<S: Sampling>(
+    sampling: &S,
+    from: &[i32],
+    inputs: usize,
+    channel: usize,
+    count: usize,
+    to: &mut [i32],
+    outputs: usize,
+    place: usize,
+) -> u64
+    requires channel { channel < inputs }
+    requires inputs { inputs ≤ 16 }
+    requires from { count * inputs ≤ length from.now }
+    requires place { place < outputs }
+    requires outputs { outputs ≤ 16 }
+    requires to { count * outputs ≤ length to.old }
+    ensures put { (i : ℕ) → i < count → slice_index_or to.new (i * outputs + place) (pos 0) ≡ (S.rounded sampling.now (slice_index_or from.now (i * inputs + channel) (pos 0))).0 }
+    ensures others { (i c : ℕ) → c < outputs → (c ≡ place → ⊥) → slice_index_or to.new (i * outputs + c) (pos 0) ≡ slice_index_or to.old (i * outputs + c) (pos 0) }
+    ensures clips { result ≡ clips_of (tabulate (λ i. S.rounded sampling.now (slice_index_or from.now (i * inputs + channel) (pos 0))) 0 count) }
+    ensures few { result ≤ count }
+{
+    let mut read = channel;
+    let mut at = place;
+    let mut clips = 0;
+    'frames: for _turn in 0..count {
+        let (sample, is_clipped) = sampling.round(from[read]);
+        to[at] = sample;
+        clips += u64::from(is_clipped);
+        read += inputs;
+        at += outputs;
+    }
+    clips
 }
 
 /// Half the sum of two samples, halves away from zero.

@@ -1,5 +1,6 @@
 //! The effect `vol` of sox(1): each sample times a gain.
-ghost use Rattle.std.specs.Prelude.{◌≡◌, ◌≤◌, ℤ, length, map, Ok, IfOk, IfErr};
+ghost use Rattle.std.specs.Prelude.{◌≡◌, ◌<◌, ◌≤◌, ◌+◌, ◌*◌, ℕ, ℤ, pos, length, map, slice_index_or, Ok, IfOk, IfErr};
+ghost use Rattle.fx_frame.specs.Lists.{tabulate};
 ghost use Rattle.fx_frame.specs.Rounded.{clips_of, samples_of};
 ghost use Rattle.fx_frame.specs.Stage.{Freezes, IsNew};
 ghost use Rattle.fx_tap.specs.Mapped.{IsMapState, MapState};
@@ -9,6 +10,7 @@ ghost use Rattle.fx_tap.specs.Vol.{scaled_sample};
 ghost use Rattle.fx_tap.specs.VolState.{vol_acts};
 
 use crate::both::{BothClips, rounded_by_both};
+use crate::channels::place_rounded;
 use crate::mapped::Mapped;
 use crate::per_sample::{
     PerSample, SamplesBehind, SamplesMany, Sampling, round_over, rounded_samples,
@@ -70,7 +72,7 @@ impl Model for Scale {
 
 impl Scale {
     /// The gain, prepared.
-    fn of(gain: Gain) -> Scale
+    pub(crate) fn of(gain: Gain) -> Scale
         ensures { result ≡ gain }
     {
         let mut weights = [0];
@@ -91,6 +93,40 @@ impl Scale {
                 denominator,
             }),
             proper,
+        }
+    }
+
+    /// Writes what it makes of each sample of one channel of so many frames over a channel of as many frames of other channels,
+    /// and counts how many were clipped.
+    pub(crate) fn place_channel(
+        &self,
+        from: &[i32],
+        inputs: usize,
+        channel: usize,
+        count: usize,
+        to: &mut [i32],
+        outputs: usize,
+        place: usize,
+    ) -> u64
+        requires channel { channel < inputs }
+        requires inputs { inputs ≤ 16 }
+        requires from { count * inputs ≤ length from.now }
+        requires place { place < outputs }
+        requires outputs { outputs ≤ 16 }
+        requires to { count * outputs ≤ length to.old }
+        ensures put { (i : ℕ) → i < count → slice_index_or to.new (i * outputs + place) (pos 0) ≡ (scaled_sample self.now (slice_index_or from.now (i * inputs + channel) (pos 0))).0 }
+        ensures others { (i c : ℕ) → c < outputs → (c ≡ place → ⊥) → slice_index_or to.new (i * outputs + c) (pos 0) ≡ slice_index_or to.old (i * outputs + c) (pos 0) }
+        ensures clips { result ≡ clips_of (tabulate (λ i. scaled_sample self.now (slice_index_or from.now (i * inputs + channel) (pos 0))) 0 count) }
+        ensures few { result ≤ count }
+    {
+        if let Some(proper) = &self.proper {
+            return place_rounded(proper, from, inputs, channel, count, to, outputs, place);
+        }
+        match &self.fraction {
+            Some(fraction) => place_rounded(
+                fraction, from, inputs, channel, count, to, outputs, place,
+            ),
+            None => place_rounded(self, from, inputs, channel, count, to, outputs, place),
         }
     }
 

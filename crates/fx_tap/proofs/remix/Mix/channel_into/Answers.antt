@@ -7,12 +7,13 @@ use Rattle.fx_frame.specs.Frame.{Samples}
 use Rattle.fx_frame.specs.Ring.{pieces}
 use Rattle.fx_frame.proofs.Pieces.{get_or-piece}
 use Rattle.fx_tap.specs.EchoWeights.{Weights}
-use Rattle.fx_tap.specs.Mix.{Copies, Means, all_parts, pair_of}
+use Rattle.fx_tap.specs.Mix.{Copies, Means, Scales, all_parts, pair_of}
 use Rattle.fx_tap.specs.Remix.{remixed_sample}
 use Rattle.fx_frame.specs.Rounded.{clips_of}
 use Rattle.fx_tap.specs.SmallWeights.{SumsAs}
 use Rattle.fx_tap.proofs.DelayLaws.{quiet-part}
-use Rattle.fx_tap.proofs.MixLaws.{copied-sample, mean-sample, none-clipped, small-mix}
+use Rattle.fx_tap.specs.Vol.{scaled_sample}
+use Rattle.fx_tap.proofs.MixLaws.{copied-sample, mean-sample, none-clipped, scaled-mix, small-mix}
 use Rattle.fx_frame.proofs.Tabulate.{tabulate-same}
 use Rattle.fx_tap.proofs.remix.Mix.channel_into.Goals as goal
 
@@ -66,6 +67,30 @@ returns-then-second-inputs-clause-clips c =
     rw (← c.self.view_is) (sym (none-clipped (λ i. remixed_sample (map pair_of cs) (get_or xs i [])) 0 c.args.count (λ i l.
     let e : 0 + i ≡ i = zero-add i in
     rw e (ap (λ (r : ℤ × Bool). r.1) (one i l) ∙ c.place_mean.ensures.unclipped i l))))
+
+pub returns-then-source-inputs-clause-put : goal.returns-then-source-inputs-clause-put
+returns-then-source-inputs-clause-put c =
+    let cs = c.self.inside.contributions.items in
+    let source : ℕ = c.in-Some-scaled.source in
+    let gain : ℤ = c.in-Some-scaled.scale in
+    let scales : Scales cs source gain = rw c.in-Some-scaled.is at c.self.invariant.5 in
+    let xs : List Samples = pieces c.args.inputs c.args.count c.args.frames.now in
+    let one : (i : ℕ) → i < c.args.count → remixed_sample (map pair_of cs) (get_or xs i []) ≡ scaled_sample gain (get_or c.args.frames.now (i * c.args.inputs + source) (pos 0)) = λ i l.
+    scaled-mix cs source gain (get_or xs i []) scales ∙ ap (λ x. scaled_sample gain x) (get_or-piece c.args.inputs c.args.count c.args.frames.now i source (pos 0) l c.if-source-inputs.true) in
+    rw (← c.self.view_is) (λ i l. c.place_channel-then-source-inputs.ensures.put i l ∙ sym (ap (λ (r : ℤ × Bool). r.0) (one i l)))
+
+pub returns-then-source-inputs-clause-clips : goal.returns-then-source-inputs-clause-clips
+returns-then-source-inputs-clause-clips c =
+    let cs = c.self.inside.contributions.items in
+    let source : ℕ = c.in-Some-scaled.source in
+    let gain : ℤ = c.in-Some-scaled.scale in
+    let scales : Scales cs source gain = rw c.in-Some-scaled.is at c.self.invariant.5 in
+    let xs : List Samples = pieces c.args.inputs c.args.count c.args.frames.now in
+    let one : (i : ℕ) → i < c.args.count → remixed_sample (map pair_of cs) (get_or xs i []) ≡ scaled_sample gain (get_or c.args.frames.now (i * c.args.inputs + source) (pos 0)) = λ i l.
+    scaled-mix cs source gain (get_or xs i []) scales ∙ ap (λ x. scaled_sample gain x) (get_or-piece c.args.inputs c.args.count c.args.frames.now i source (pos 0) l c.if-source-inputs.true) in
+    rw (← c.self.view_is) (c.place_channel-then-source-inputs.ensures.clips ∙ ap clips_of (tabulate-same (λ i. scaled_sample gain (get_or c.args.frames.now (i * c.args.inputs + source) (pos 0))) (λ i. remixed_sample (map pair_of cs) (get_or xs i [])) 0 0 c.args.count (λ i l.
+    let e : 0 + i ≡ i = zero-add i in
+    rw e (sym (one i l)))))
 
 pub returns-clause-put : goal.returns-clause-put
 returns-clause-put c =
