@@ -38,8 +38,11 @@ past s n = record s { skip = s.skip - n; taken = s.taken + n }
 took-left : (s : DownsampleState) (x : Samples) → Ready s → 0 < s.skip → TookNext downsample_acts s (left s) x
 took-left s x r some =
     let cut : (z : List Samples) → drop (s.skip - 1) z ≡ drop s.skip (x ∷ z) = λ z. let e : s.skip ≡ suc (s.skip - 1) = omega arith in sym (ap (λ i. drop i (x ∷ z)) e) in
+    let c = r.is.counted in
+    let hand : length (option_to_list s.hand) ≡ 0 = ap (λ h. length (option_to_list h)) r.empty in
     record {
       dry = ap is_none r.empty;
+      due = omega (arith, c, hand);
       not_ended = r.running;
       not_spent = rw r.empty refl;
       took = record { rest = λ z. rw (r.running, r.empty) (ap (downsampled s.recipe.factor) (cut z)); counted = refl; recipe_stays = refl };
@@ -92,6 +95,7 @@ group-fed x ys s r none sides many few =
     } in
     let took : TookNext downsample_acts s mid x = record {
       dry = ap is_none r.empty;
+      due = omega (arith, c, hand);
       not_ended = r.running;
       not_spent = rw r.empty refl;
       took = Took-kept s x is (ap is_none r.empty) r.running none;

@@ -22,7 +22,7 @@ use Rattle.fx_cut.specs.Fade.{fade_enough, faded_frame, weighted, weights}
 use Rattle.fx_cut.specs.FadeState.{FadeState, IsFade, ahead_by, fade_acts, faded_along, faded_here, is_before, stop_ahead}
 use Rattle.fx_frame.specs.Lists.{plain}
 use Rattle.fx_cut.proofs.Fallen.{fallen, stays, oldest-first}
-use Rattle.fx_cut.proofs.FadeSteps.{IsFade-inside, IsFade-fallen, Took-inside, Took-fallen, came}
+use Rattle.fx_cut.proofs.FadeSteps.{IsFade-inside, IsFade-fallen, Took-inside, Took-fallen, came, due-fade}
 use Rattle.fx_cut.proofs.FadeLaws.{product-most, weight-most}
 use Rattle.fx_cut.proofs.Hands.{at_most_one}
 use Rattle.fx_cut.proofs.Onto.{gone, onto, onto-line, onto-long, onto-more, onto-none, out-full, out-more, out-room, out_of, same-line}
@@ -113,6 +113,7 @@ module _ (s : FadeState) (n : ℕ) (x : Samples) (a : IsGiving s (suc n)) (sampl
       let long = onto-long s.line (x ∷ []) in
       let step : TookNext fade_acts s mid x = record {
         dry = dry;
+        due = due-fade s a.is a.running dry;
         not_ended = a.running;
         not_spent = rw a.empty some;
         took = Took-inside s x a.is dry a.running (onto s.line (x ∷ [])) room.0 refl;
@@ -148,6 +149,7 @@ module _ (s : FadeState) (n : ℕ) (x : Samples) (a : IsGiving s (suc n)) (sampl
         let low = is-last.within in
         let step : TookNext fade_acts s mid x = record {
           dry = dry;
+          due = due-fade s a.is a.running dry;
           not_ended = a.running;
           not_spent = rw a.empty some;
           took = Took-fallen s x a.is dry a.running (onto s.line (x ∷ [])) out.0 (Some g) out.1 refl here;

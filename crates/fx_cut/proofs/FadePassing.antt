@@ -13,7 +13,7 @@ use Rattle.fx_cut.specs.FadeState.{FadeState, IsFade, fade_acts, faded_here, is_
 use Rattle.fx_frame.specs.Lists.{plain}
 use Rattle.fx_frame.specs.Rounded.{unclipped}
 use Rattle.fx_cut.proofs.FadeMany.{given-next}
-use Rattle.fx_cut.proofs.FadeSteps.{IsFade-fallen, IsFade-inside, Took-fallen, Took-inside, came}
+use Rattle.fx_cut.proofs.FadeSteps.{IsFade-fallen, IsFade-inside, Took-fallen, Took-inside, came, due-fade}
 use Rattle.fx_cut.proofs.Fallen.{fallen, stays}
 use Rattle.fx_cut.proofs.Hands.{at_most_one, empty-hand, none_of}
 use Rattle.fx_cut.proofs.Weighing.{given-plain}
@@ -43,8 +43,7 @@ Gave-before s frame is e running =
 -- before the end, where it has no frame to give it has given what is due
 pub settled-fade : (s : FadeState) → IsFade s → s.ended ≡ false → is_none s.hand ≡ true → IsDry fade_acts s
 settled-fade s is running dry =
-    let empty : length (option_to_list s.hand) ≡ 0 = ap length (empty-hand s.hand dry) in
-    record { due = λ r. let counted = is.counted r in omega (arith, counted, empty); over = λ r. absurd (cc (r, running)) }
+    record { due = λ r. due-fade s is r dry; over = λ r. absurd (cc (r, running)) }
 
 module _ (s : FadeState) (frame y : Samples) (is : IsFade s) (dry : is_none s.hand ≡ true) (running : s.ended ≡ false) (unspent : spent fade_acts s ≡ false) (line : Frames ℤ) (items : line.items ≡ stays s.line.capacity s.line.items frame) (lined : IsLine w32 line) (capacity : line.capacity ≡ s.line.capacity) (channels : line.channels ≡ s.line.channels) (below : s.taken < 2 ^ 56) where
   place : ℕ
@@ -54,7 +53,7 @@ module _ (s : FadeState) (frame y : Samples) (is : IsFade s) (dry : is_none s.ha
   pub passed-inside : None ≡ fallen s.line.capacity s.line.items frame → PassedOn fade_acts Kept s (came s line s.hand) frame y × IsFade (came s line s.hand)
   passed-inside e =
       let now = IsFade-inside s frame is dry running line e items lined capacity channels below in
-      ((record { dry = dry; not_ended = running; not_spent = unspent; took = Took-inside s frame is dry running line e items; held = held-fade (came s line s.hand) now }, dry), now)
+      ((record { dry = dry; due = due-fade s is running dry; not_ended = running; not_spent = unspent; took = Took-inside s frame is dry running line e items; held = held-fade (came s line s.hand) now }, dry), now)
 
   -- the oldest falls out behind the stop
   pub passed-behind : (o : Samples) → Some o ≡ fallen s.line.capacity s.line.items frame → is_before (stop_ahead s.recipe.shape (s.taken - length s.line.items)) (s.taken - length s.line.items) ≡ false
@@ -63,7 +62,7 @@ module _ (s : FadeState) (frame y : Samples) (is : IsFade s) (dry : is_none s.ha
       let empty = empty-hand s.hand dry in
       let none : map plain (option_to_list s.hand) ≡ faded_here s.recipe.shape (stop_ahead s.recipe.shape (s.taken - length s.line.items)) (s.taken - length s.line.items) o = rw (empty, behind) refl in
       let now = IsFade-fallen s frame is dry running line o s.hand e items lined capacity channels below none is.fits in
-      ((record { dry = dry; not_ended = running; not_spent = unspent; took = Took-fallen s frame is dry running line o s.hand e items none; held = held-fade (came s line s.hand) now }, dry), now)
+      ((record { dry = dry; due = due-fade s is running dry; not_ended = running; not_spent = unspent; took = Took-fallen s frame is dry running line o s.hand e items none; held = held-fade (came s line s.hand) now }, dry), now)
 
   -- the oldest falls out, and is given with its weight
   pub passed-faded : (o g : Samples) → Some o ≡ fallen s.line.capacity s.line.items frame → is_before (stop_ahead s.recipe.shape (s.taken - length s.line.items)) (s.taken - length s.line.items) ≡ true
@@ -76,7 +75,7 @@ module _ (s : FadeState) (frame y : Samples) (is : IsFade s) (dry : is_none s.ha
       let mid : FadeState = came s line (Some g) in
       let now : IsFade mid = IsFade-fallen s frame is dry running line o (Some g) e items lined capacity channels below made hand in
       let after : IsFade (record mid { hand = None; given = mid.given + 1 }) = given-next mid g now refl running in
-      let first : TookNext fade_acts s mid frame = record { dry = dry; not_ended = running; not_spent = unspent; took = Took-fallen s frame is dry running line o (Some g) e items made; held = held-fade mid now } in
+      let first : TookNext fade_acts s mid frame = record { dry = dry; due = due-fade s is running dry; not_ended = running; not_spent = unspent; took = Took-fallen s frame is dry running line o (Some g) e items made; held = held-fade mid now } in
       let second : GaveNext fade_acts mid (record mid { hand = None; given = mid.given + 1 }) g = record { gave = Gave-before mid g now refl running; held = held-fade (record mid { hand = None; given = mid.given + 1 }) after } in
       let same : ◌≡◌ {A = FadeState} (record { hand = s.hand; recipe = s.recipe; line = line; taken = s.taken + 1; given = s.given + 1; ended = s.ended }) (record { hand = None; recipe = s.recipe; line = line; taken = s.taken + 1; given = s.given + 1; ended = s.ended }) =
       rw none refl in

@@ -12,11 +12,18 @@ use Rattle.fx_frame.specs.Line.{Frames, IsLine}
 use Rattle.fx_frame.specs.Stage.{Gave, Took, coming}
 use Rattle.fx_cut.specs.declared.fade.Shape.{Shape}
 use Rattle.fx_frame.specs.Lists.{plain}
-use Rattle.fx_cut.specs.Fade.{due_by, faded_frame, fade_line, stop_in, until}
+use Rattle.fx_cut.specs.Fade.{due_by, faded_frame, fade_due, fade_line, stop_in, until}
 use Rattle.fx_cut.specs.FadeState.{FadeState, IsFade, faded_here, fade_acts, fade_after, fade_rest, is_before, stop_ahead}
 use Rattle.fx_cut.proofs.Fallen.{fallen, stays, no_fall, stays-room, is_full, oldest-first, oldest-channels, first-popped}
 use Rattle.fx_cut.proofs.FadeLaws.{fade_taken, fade_let_go, due-next, due-early}
 use Rattle.fx_cut.proofs.Hands.{empty-hand, at_most_one}
+
+-- before the end, where it has no frame to give it has given what is due
+pub due-fade : (s : FadeState) → IsFade s → s.ended ≡ false → is_none s.hand ≡ true → s.given ≡ fade_due s.recipe.shape s.taken
+due-fade s is running dry =
+    let empty : length (option_to_list s.hand) ≡ 0 = ap length (empty-hand s.hand dry) in
+    let counted = is.counted running in
+    omega (arith, counted, empty)
 
 -- the state after a frame came
 abbrev pub came : FadeState → Frames ℤ → Option Samples → FadeState

@@ -1,9 +1,10 @@
 -- Frames that a pad without a line passes many at a time, as far as no silence stands before them.
-use Rattle.std.proofs.Common.{◌≡◌, ◌+◌, ◌-◌, ◌*◌, ◌<◌, ◌≤◌, ◌^◌, ℕ, ℤ, suc, true, false, List, [], ◌∷◌, length, refl, subst, sym, ap, ◌∙◌, arith, add-zero, map}
+use Rattle.std.proofs.Common.{◌≡◌, ◌+◌, ◌-◌, ◌*◌, ◌<◌, ◌≤◌, ◌^◌, ℕ, ℤ, zero, suc, true, false, List, [], ◌∷◌, length, refl, subst, sym, ap, ◌∙◌, arith, add-zero, map}
 use Rattle.std.specs.Prelude.{Some, None, option_to_list}
 use Rattle.std.specs.List.{All}
 use Rattle.std.proofs.lemmas.List.Elements.{All-head, All-tail}
 use Rattle.fx_fixed.specs.Extents.{greatest, pad_distance}
+use Rattle.fx_fixed.specs.declared.positions.At.{At}
 use Rattle.fx_frame.specs.declared.feed.Passing.TheVariants.{Through}
 use Rattle.fx_frame.specs.Feed.{Fed, GaveNext, PassedOn, TookNext, nothing, taken, given}
 use Rattle.fx_frame.specs.Frame.{Samples}
@@ -16,8 +17,20 @@ use Rattle.fx_cut.specs.PadState.{PadState, IsPad, pad_acts, pad_left}
 use Rattle.fx_cut.proofs.Fallen.{fallen, stays}
 use Rattle.fx_cut.proofs.Hands.{empty_of}
 use Rattle.fx_cut.proofs.PadLaws.{upto_more}
-use Rattle.fx_cut.proofs.PadSteps.{Took-fallen, dry-hand, left-fallen, reached}
+use Rattle.fx_cut.proofs.PadSteps.{Took-fallen, due-pad, left-fallen, reached}
 use Rattle.fx_cut.proofs.Pieces.{pieces-sides}
+
+-- where no silence stands before the next frames, one more is due for each
+pub due-quiet : (pads : List (ℕ × At)) (s n : ℕ) → greatest (map pad_distance pads) ≡ 0 → ((i : ℕ) → i < n → silent_at (pads_from_start pads) (s + i) ≡ 0) → pad_due pads (s + n) ≡ pad_due pads s + n
+due-quiet pads s zero no-ends quiet = ap (pad_due pads) (add-zero s) ∙ sym (add-zero (pad_due pads s))
+due-quiet pads s (suc n) no-ends quiet =
+    let next : s + suc n - 0 ≡ s + n + 1 = omega arith in
+    let last : s + n - 0 ≡ s + n = omega arith in
+    let more = upto_more (s + n) (pads_from_start pads) in
+    let none = quiet n (omega arith) in
+    let before = due-quiet pads s n no-ends (λ i l. quiet i (omega arith)) in
+    let others = rw (no-ends, last) at before in
+    rw (no-ends, next) (omega (arith, more, none, others))
 
 -- so many frames later, with no frame to give
 abbrev pub later : PadState → ℕ → PadState
@@ -109,6 +122,7 @@ module _ (s : PadState) (n : ℕ) (x : Samples) (a : Quiet s (suc n)) where
   one-taken : TookNext pad_acts s (reached s s.line 0 (Some x)) x
   one-taken = record {
     dry = dry;
+    due = due-pad s a.is a.running dry;
     not_ended = a.running;
     not_spent = rw dry refl;
     took = Took-fallen s x a.is dry a.running s.line x 0 out stay silent;
@@ -145,10 +159,7 @@ module _ (s : PadState) (n : ℕ) (x : Samples) (a : Quiet s (suc n)) where
 -- before the end, where it has nothing to give it has given what is due
 pub settled-pad : (s : PadState) → IsPad s → s.ended ≡ false → pad_acts.dry s ≡ true → IsDry pad_acts s
 settled-pad s is running dry =
-    let d = dry-hand s.hand s.silent dry in
-    let empty : length (option_to_list s.hand) ≡ 0 = ap (λ h. length (option_to_list h)) d.0 in
-    let none = d.1 in
-    record { due = λ r. let counted = is.counted r in omega (arith, counted, empty, none); over = λ r. absurd (cc (r, running)) }
+    record { due = λ r. due-pad s is r dry; over = λ r. absurd (cc (r, running)) }
 
 pub quiet-fed : (xs : List Samples) (s : PadState) → Quiet s (length xs) → All (λ (x : Samples). length x ≡ s.recipe.channels) xs → Fed pad_acts s xs xs (later s (length xs)) × IsPad (later s (length xs))
 quiet-fed [] s a sides =

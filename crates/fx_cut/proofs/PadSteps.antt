@@ -11,7 +11,7 @@ use Rattle.fx_frame.specs.Frozen.{IsHand}
 use Rattle.fx_frame.specs.Line.{Frames, IsLine}
 use Rattle.fx_frame.specs.Stage.{Gave, Took, Ended, coming}
 use Rattle.fx_frame.specs.Lists.{plain}
-use Rattle.fx_cut.specs.Pad.{PadArguments, IsPads, lengths, padded, pads_from_start, placed, silent_at}
+use Rattle.fx_cut.specs.Pad.{PadArguments, IsPads, lengths, pad_due, padded, pads_from_start, placed, silent_at}
 use Rattle.fx_cut.specs.PadState.{PadState, IsPad, pad_acts, pad_after, pad_left, pad_rest, unless_last}
 use Rattle.fx_cut.proofs.Fallen.{fallen, stays, no_fall, stays-room, is_full, oldest-first, oldest-channels}
 use Rattle.fx_cut.proofs.Hands.{none_of}
@@ -39,6 +39,15 @@ left-now : (s : PadState) → pad_acts.dry s ≡ true → s.ended ≡ false → 
 left-now s dry running z =
     let d = dry-hand s.hand s.silent dry in
     rw (d.0, d.1, running) refl
+
+-- before the end, where it has nothing to give it has given what is due
+pub due-pad : (s : PadState) → IsPad s → s.ended ≡ false → pad_acts.dry s ≡ true → s.given ≡ pad_due s.recipe.pads s.taken
+due-pad s is running dry =
+    let d = dry-hand s.hand s.silent dry in
+    let empty : length (option_to_list s.hand) ≡ 0 = ap (λ h. length (option_to_list h)) d.0 in
+    let none = d.1 in
+    let counted = is.counted running in
+    omega (arith, counted, empty, none)
 
 -- the state after a frame came
 abbrev pub reached : PadState → Frames ℤ → ℕ → Option Samples → PadState

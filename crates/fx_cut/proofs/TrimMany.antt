@@ -23,7 +23,7 @@ use Rattle.fx_cut.proofs.Fallen.{fallen, stays, oldest-first}
 use Rattle.fx_cut.proofs.Hands.{at_most_one}
 use Rattle.fx_cut.proofs.Onto.{gone, onto, onto-line, onto-long, onto-more, onto-none, out-full, out-more, out-room, out-samples, out_of, same-line}
 use Rattle.fx_cut.proofs.TrimLaws.{count_by-cons, none_before}
-use Rattle.fx_cut.proofs.TrimSteps.{IsTrim-inside, IsTrim-fallen, Took-inside, Took-fallen, took}
+use Rattle.fx_cut.proofs.TrimSteps.{IsTrim-inside, IsTrim-fallen, Took-inside, Took-fallen, due-trim, took}
 
 -- ---- how far frames are alike
 
@@ -128,6 +128,7 @@ module _ (b : Bool) (s : TrimState) (n : ℕ) (x : Samples) (a : Alike b s (suc 
       let long = onto-long s.line (x ∷ []) in
       let step : TookNext trim_acts s mid x = record {
         dry = dry;
+        due = due-trim s a.is a.running dry;
         not_ended = a.running;
         not_spent = rw a.empty some;
         took = Took-inside s x a.is dry a.running (onto s.line (x ∷ [])) room.0 refl;
@@ -181,6 +182,7 @@ module _ (b : Bool) (s : TrimState) (n : ℕ) (x : Samples) (a : Alike b s (suc 
           let keep' : false ≡ keeps (places_of 0 (starts s.recipe.positions)) (s.taken - length s.line.items) = e ∙ keep in
           let step : TookNext trim_acts s mid x = record {
             dry = dry;
+            due = due-trim s a.is a.running dry;
             not_ended = a.running;
             not_spent = rw a.empty some;
             took = Took-fallen s x a.is dry a.running (onto s.line (x ∷ [])) out.0 false None out.1 refl keep' refl;
@@ -201,6 +203,7 @@ module _ (b : Bool) (s : TrimState) (n : ℕ) (x : Samples) (a : Alike b s (suc 
           let low = is-last.within in
           let step : TookNext trim_acts s mid x = record {
             dry = dry;
+            due = due-trim s a.is a.running dry;
             not_ended = a.running;
             not_spent = rw a.empty some;
             took = Took-fallen s x a.is dry a.running (onto s.line (x ∷ [])) out.0 true (Some out.0) out.1 refl keep' refl;

@@ -12,7 +12,7 @@ use Rattle.fx_cut.specs.Trim.{keeps, starts}
 use Rattle.fx_cut.specs.TrimState.{IsTrim, TrimState, trim_acts}
 use Rattle.fx_cut.proofs.Fallen.{fallen, stays}
 use Rattle.fx_cut.proofs.Hands.{at_most_one, empty-hand, none_of}
-use Rattle.fx_cut.proofs.TrimSteps.{IsTrim-fallen, IsTrim-inside, Took-fallen, Took-inside, fits-oldest, took}
+use Rattle.fx_cut.proofs.TrimSteps.{IsTrim-fallen, IsTrim-inside, Took-fallen, Took-inside, due-trim, fits-oldest, took}
 
 -- it holds no more than it may
 held-trim : (s : TrimState) → IsTrim s → IsHeld trim_acts s
@@ -58,15 +58,14 @@ IsTrim-before s frame is e running =
 -- before the end, where it has no frame to give it has given what is due
 pub settled-trim : (s : TrimState) → IsTrim s → s.ended ≡ false → is_none s.hand ≡ true → IsDry trim_acts s
 settled-trim s is running dry =
-    let empty : length (option_to_list s.hand) ≡ 0 = ap length (empty-hand s.hand dry) in
-    record { due = λ r. let counted = is.counted r in omega (arith, counted, empty); over = λ r. absurd (cc (r, running)) }
+    record { due = λ r. due-trim s is r dry; over = λ r. absurd (cc (r, running)) }
 
 module _ (s : TrimState) (frame y : Samples) (is : IsTrim s) (dry : is_none s.hand ≡ true) (running : s.ended ≡ false) (unspent : spent trim_acts s ≡ false) (line : Frames ℤ) (items : line.items ≡ stays s.line.capacity s.line.items frame) (lined : IsLine w32 line) (capacity : line.capacity ≡ s.line.capacity) (channels : line.channels ≡ s.line.channels) (below : s.taken < 2 ^ 56) where
   -- it stays in the line
   pub passed-inside : None ≡ fallen s.line.capacity s.line.items frame → PassedOn trim_acts Kept s (took s line s.hand) frame y × IsTrim (took s line s.hand)
   passed-inside e =
       let now = IsTrim-inside s frame is dry running line e items lined capacity channels below in
-      ((record { dry = dry; not_ended = running; not_spent = unspent; took = Took-inside s frame is dry running line e items; held = held-trim (took s line s.hand) now }, dry), now)
+      ((record { dry = dry; due = due-trim s is running dry; not_ended = running; not_spent = unspent; took = Took-inside s frame is dry running line e items; held = held-trim (took s line s.hand) now }, dry), now)
 
   -- the oldest falls out, and is not kept
   pub passed-out : (o : Samples) → Some o ≡ fallen s.line.capacity s.line.items frame → false ≡ keeps (places_of 0 (starts s.recipe.positions)) (s.taken - length s.line.items)
@@ -74,7 +73,7 @@ module _ (s : TrimState) (frame y : Samples) (is : IsTrim s) (dry : is_none s.ha
   passed-out o e k =
       let empty = empty-hand s.hand dry in
       let now = IsTrim-fallen s frame is dry running line o false s.hand e items lined capacity channels below k (ap length empty) is.fits in
-      ((record { dry = dry; not_ended = running; not_spent = unspent; took = Took-fallen s frame is dry running line o false s.hand e items k empty; held = held-trim (took s line s.hand) now }, dry), now)
+      ((record { dry = dry; due = due-trim s is running dry; not_ended = running; not_spent = unspent; took = Took-fallen s frame is dry running line o false s.hand e items k empty; held = held-trim (took s line s.hand) now }, dry), now)
 
   -- the oldest falls out, and is given
   pub passed-oldest : (o : Samples) → Some o ≡ fallen s.line.capacity s.line.items frame → true ≡ keeps (places_of 0 (starts s.recipe.positions)) (s.taken - length s.line.items) → length frame ≡ s.recipe.channels → IsFrame o
@@ -85,7 +84,7 @@ module _ (s : TrimState) (frame y : Samples) (is : IsTrim s) (dry : is_none s.ha
       let mid : TrimState = took s line (Some o) in
       let now : IsTrim mid = IsTrim-fallen s frame is dry running line o true (Some o) e items lined capacity channels below k refl fits in
       let after : IsTrim (record mid { hand = None; given = mid.given + 1 }) = IsTrim-before mid o now refl running in
-      let first : TookNext trim_acts s mid frame = record { dry = dry; not_ended = running; not_spent = unspent; took = Took-fallen s frame is dry running line o true (Some o) e items k refl; held = held-trim mid now } in
+      let first : TookNext trim_acts s mid frame = record { dry = dry; due = due-trim s is running dry; not_ended = running; not_spent = unspent; took = Took-fallen s frame is dry running line o true (Some o) e items k refl; held = held-trim mid now } in
       let second : GaveNext trim_acts mid (record mid { hand = None; given = mid.given + 1 }) o = record { gave = Gave-before mid o now refl running; held = held-trim (record mid { hand = None; given = mid.given + 1 }) after } in
       let same : ◌≡◌ {A = TrimState} (record { hand = s.hand; recipe = s.recipe; enough = s.enough; line = line; taken = s.taken + 1; given = s.given + 1; ended = s.ended }) (record { hand = None; recipe = s.recipe; enough = s.enough; line = line; taken = s.taken + 1; given = s.given + 1; ended = s.ended }) =
       rw none refl in

@@ -1,8 +1,8 @@
 -- The steps of a trim.
-use Rattle.std.proofs.Common.{◌≡◌, ℕ, ℤ, ◌+◌, ◌-◌, ◌<◌, ◌≤◌, ◌%◌, ◌^◌, Bool, true, false, cond, eqb, ◌&&◌, List, [], ◌∷◌, ◌++◌, map, length, drop, refl, sym, ◌∙◌, ap, arith, length-append}
-use Rattle.std.specs.Prelude.{Option, Some, None, option_to_list, is_none, slice_get, filter}
+use Rattle.std.proofs.Common.{◌≡◌, ℕ, ℤ, zero, suc, ◌+◌, ◌-◌, ◌<◌, ◌≤◌, ◌%◌, ◌^◌, Bool, true, false, cond, eqb, ◌&&◌, List, [], ◌∷◌, ◌++◌, map, length, drop, refl, sym, ◌∙◌, ap, arith, add-zero, length-append}
+use Rattle.std.specs.Prelude.{Option, Some, None, option_to_list, is_none, slice_get, count_by, filter}
 use Rattle.std.specs.Int.{w32}
-use Rattle.std.specs.List.{enumerate_from, list_all}
+use Rattle.std.specs.List.{enumerate_from, list_all, range_with_len}
 use Rattle.std.proofs.lemmas.Bool.{leb-true, and_parts, false≢true, eqb-true}
 use mathlib.Core.Path.{ap₂}
 use Rattle.fx_fixed.specs.Extents.{end_distance, greatest}
@@ -13,10 +13,10 @@ use Rattle.fx_frame.specs.Frozen.{IsHand}
 use Rattle.fx_frame.specs.Line.{Frames, IsLine}
 use Rattle.fx_frame.specs.Stage.{Gave, Took, coming, is_enough}
 use Rattle.fx_frame.specs.Lists.{plain}
-use Rattle.fx_cut.specs.Trim.{keeps, starts, is_start, last_start, trim_enough}
+use Rattle.fx_cut.specs.Trim.{keeps, starts, is_start, last_start, trim_due, trim_enough}
 use Rattle.fx_cut.specs.TrimState.{kept_count, trimmed_from, trim_rest, trim_after, TrimState, IsTrim, trim_acts}
 use Rattle.fx_cut.proofs.Fallen.{fallen, stays, no_fall, stays-room, is_full, oldest-first, oldest-channels, first-popped}
-use Rattle.fx_cut.proofs.Hands.{none_of, at_most_one, empty_of}
+use Rattle.fx_cut.proofs.Hands.{none_of, at_most_one, empty-hand, empty_of}
 use Rattle.fx_cut.proofs.Ranges.{count_same, kept_next}
 use Rattle.fx_cut.proofs.TrimLaws.{kept-early, none-late}
 use Rattle.fx_cut.proofs.TrimRest.{trim_taken, trim_let_go, trim_ended}
@@ -81,6 +81,26 @@ IsTrim-over s line hand given is low before kept empty fewer fits lined capacity
   gone = λ e. ap (λ n. n + length (option_to_list hand)) before ∙ kept;
   fits = rw is.channels at fits;
 }
+
+-- before the end, where it has no frame to give it has given what is due
+pub due-trim : (s : TrimState) → IsTrim s → s.ended ≡ false → is_none s.hand ≡ true → s.given ≡ trim_due s.recipe.positions s.taken
+due-trim s is running dry =
+    let empty : length (option_to_list s.hand) ≡ 0 = ap length (empty-hand s.hand dry) in
+    let counted = is.counted running in
+    omega (arith, counted, empty)
+
+-- where the next frames to fall out are kept, one more is due for each
+pub due-kept : (ps : List At) (s n : ℕ) → greatest (map end_distance ps) ≤ s → ((i : ℕ) → i < n → keeps (places_of 0 (starts ps)) (s - greatest (map end_distance ps) + i) ≡ true) → trim_due ps (s + n) ≡ trim_due ps s + n
+due-kept ps s zero h k = ap (trim_due ps) (add-zero s) ∙ sym (add-zero (trim_due ps s))
+due-kept ps s (suc n) h k =
+    let g : ℕ = greatest (map end_distance ps) in
+    let before : ℕ → ℕ = λ m. count_by (keeps (places_of 0 (starts ps))) (range_with_len 0 m) in
+    let next : s + suc n - g ≡ s - g + n + 1 = omega arith in
+    let last : s + n - g ≡ s - g + n = omega arith in
+    let more = kept_next (keeps (places_of 0 (starts ps))) (s - g + n) in
+    let one : ◌≡◌ {A = ℕ} (cond (keeps (places_of 0 (starts ps)) (s - g + n)) 1 0) 1 = ap (λ b. cond b 1 0) (k n (omega arith)) in
+    let others : before (s - g + n) ≡ trim_due ps s + n = ap before (sym last) ∙ due-kept ps s n h (λ i l. k i (omega arith)) in
+    ap before next ∙ omega (arith, more, one, others)
 
 -- ---- a frame comes
 

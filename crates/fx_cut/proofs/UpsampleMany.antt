@@ -107,7 +107,7 @@ one-fed s x r sides few =
     let mid : UpsampleState = record s { hand = Some x; silent = f - 1; taken = s.taken + 1 } in
     let last : UpsampleState = record s { hand = None; silent = f - 1; taken = s.taken + 1; given = s.given + 1 } in
     let dry : upsample_acts.dry s ≡ true = rw (r.empty, r.none) refl in
-    let took : TookNext upsample_acts s mid x = record { dry = dry; not_ended = r.running; not_spent = rw dry refl; took = Took-upsample s x is dry r.running; held = omega arith } in
+    let took : TookNext upsample_acts s mid x = record { dry = dry; due = omega arith; not_ended = r.running; not_spent = rw dry refl; took = Took-upsample s x is dry r.running; held = omega arith } in
     let gave : GaveNext upsample_acts mid last x = record {
       gave = record {
         was_wet = refl;

@@ -122,6 +122,23 @@ impl Fading {
         }
     }
 
+    /// For how many frames after so many one more is due for each. Without a stop for all. Before a stop from the start for
+    /// those up to it. Before a stop from the end for all, once the line is full, and until then for none.
+    fn steady_after(&self, taken: u64) -> u64
+        ensures { (n : ℕ) → n ≤ result → fade_due self.now (taken + n) ≡ fade_due self.now taken + n }
+    {
+        match self.shape.stop {
+            None => u64::MAX,
+            Some(At::Start(start)) => start.saturating_sub(taken),
+            Some(At::End(distance)) => {
+                if taken < distance || taken - distance < self.shape.fade_out {
+                    return 0;
+                }
+                u64::MAX
+            }
+        }
+    }
+
     /// Where the stop lies as far as the line has shown it, when the frame at this place falls out of it: a stop from the end
     /// lies further behind that frame than the fall is long.
     #[inline(always)]
@@ -574,5 +591,9 @@ impl Feeds for Fade {
             return u64::MAX;
         };
         enough.saturating_sub(self.taken)
+    }
+
+    fn steady(&self) -> u64 {
+        self.fading.steady_after(self.taken)
     }
 }

@@ -480,4 +480,12 @@ impl Feeds for Pad {
     fn ahead(&self) -> u64 {
         u64::MAX
     }
+
+    /// Where it has no line, the frames up to the next pad.
+    fn steady(&self) -> u64 {
+        if self.line.capacity() != 0 || self.ended {
+            return 0;
+        }
+        quiet_from(self.pads.all(), self.taken)
+    }
 }

@@ -139,6 +139,15 @@ fn wanted(enough: Option<u64>, taken: u64) -> u64
     }
 }
 
+/// How many frames from a place on are kept, up to the next position, as far as the positions before the first one from the end
+/// say.
+fn kept_ahead(positions: &[At], place: u64) -> u64
+    ensures { (n : ℕ) → n < result → keeps (places_of 0 (starts positions.now)) (place + n) ≡ true }
+{
+    let stretch = stretch_from(positions, place);
+    if stretch.is_kept { stretch.frames } else { 0 }
+}
+
 /// How many of the frames that fell out of the line are given, where they are kept.
 fn given_of(is_kept: bool, fallen: usize) -> usize
     ensures { result ≡ (if is_kept then fallen else 0) }
@@ -527,5 +536,14 @@ impl Feeds for Trim {
 
     fn ahead(&self) -> u64 {
         wanted(self.enough, self.taken)
+    }
+
+    /// Once its line is full, the frames that let kept ones fall out of it.
+    fn steady(&self) -> u64 {
+        let lined = self.line.capacity() as u64;
+        if self.ended || self.taken < lined {
+            return 0;
+        }
+        kept_ahead(self.cuts.positions(), self.taken - lined)
     }
 }

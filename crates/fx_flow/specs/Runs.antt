@@ -1,5 +1,6 @@
 -- Frames that go through stages in a row one after another, with nothing asked between two of them (this project's profile).
 use Rattle.std.specs.Prelude.{ℕ, ◌+◌, ◌<◌, ◌≤◌, ◌≡◌, false, None, List, [], ◌∷◌, length}
+use Rattle.fx_frame.specs.Feed.{IsSteady}
 use Rattle.fx_frame.specs.Frame.{Samples}
 use Rattle.fx_frame.specs.Stage.{Acts, Kind, is_enough, kind}
 use Rattle.fx_flow.specs.Feed.{FlowFed, FlowGave}
@@ -20,6 +21,11 @@ module _ {S R : Type 0} (acts : Acts S R) where
   abbrev pub AllAhead : ℕ → List S → Type 0
   AllAhead count [] = Unit {0}
   AllAhead count (s ∷ stages) = ((n : ℕ) → n < count → is_enough (kind acts s).enough ((acts.counts s).taken + n) ≡ false) × AllAhead count stages
+
+  -- for so many frames more each gives one for each
+  abbrev pub AllSteady : ℕ → List S → Type 0
+  AllSteady count [] = Unit {0}
+  AllSteady count (s ∷ stages) = IsSteady acts count s × AllSteady count stages
 
   -- so many frames more may come to the flow of these stages, to which so many came
   pub record MayRun (channels count : ℕ) (stages : List S) (left : ℕ) : Type 0 where

@@ -9,6 +9,7 @@ ghost use Rattle.fx_frame.specs.Holds.{kinds};
 ghost use Rattle.fx_frame.specs.Ring.{pieces};
 ghost use Rattle.fx_frame.specs.Stage.{IsDry, kind, spent};
 
+use crate::steady::{least_steady, run_steadily};
 use fx_frame::feed::{copy_samples, see_samples};
 use fx_frame::stage::Stage;
 use fx_frame::{Feeds, Passed, Passing};
@@ -229,8 +230,43 @@ fn run_by_frames<S: Feeds>(
     }
 }
 
+/// As `run_by_frames`; where each stage gives one frame for each and keeps the channels, a few frames at a time.
+fn run_apart<S: Feeds>(
+    stages: &mut [S],
+    widths: Widths,
+    count: usize,
+    input: &[i32],
+    output: &mut [i32],
+) -> Passed
+    requires frame { (1 ≤ widths.inputs) × (widths.inputs ≤ 16) }
+    requires outputs { widths.outputs ≡ outputs_of widths.inputs (kinds S.acts stages.old) }
+    requires keep { widths.keeps ≡ true → AllKeep widths.inputs (kinds S.acts stages.old) }
+    requires input { count * widths.inputs ≤ length input.now }
+    requires output { count * widths.outputs ≤ length output.old }
+    requires may_run { (left : ℕ) × MayRun S.acts widths.inputs count stages.old left }
+    requires settled { AllSettled S.acts stages.old }
+    requires held { AllHeld S.acts stages.old }
+    requires ahead { AllAhead S.acts count stages.old }
+    ensures ran { (left : ℕ) → MayRun S.acts widths.inputs count stages.old left → RanOn S.acts widths.inputs (pieces widths.inputs result.taken input.now) (pieces widths.outputs result.given output.new) stages.old stages.new left }
+    ensures read { result.taken ≤ count }
+    ensures written { result.given ≤ result.taken }
+    ensures small { result.given ≤ result.given * widths.outputs }
+    ensures some { 1 ≤ count → 1 ≤ result.taken }
+    ensures behind { drop (result.given * widths.outputs) output.new ≡ drop (result.given * widths.outputs) output.old }
+{
+    let steady = least_steady(stages, count);
+    if !widths.keeps || steady == 0 {
+        return run_by_frames(stages, widths, count, input, output);
+    }
+    run_steadily(stages, widths.inputs, steady, input, output);
+    Passed {
+        taken: steady,
+        given: steady,
+    }
+}
+
 /// Passes so many frames in front of the input through stages that are dry: in one call for all of them where they have one
-/// for just this row, else as `run_frames`.
+/// for just this row, else as `run_apart`.
 pub fn run<S: Feeds>(
     stages: &mut [S],
     widths: Widths,
@@ -264,5 +300,5 @@ pub fn run<S: Feeds>(
             given: passed,
         };
     }
-    run_by_frames(stages, widths, count, input, output)
+    run_apart(stages, widths, count, input, output)
 }

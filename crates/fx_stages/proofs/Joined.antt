@@ -6,9 +6,11 @@ use Rattle.fx_cut.specs.PadState.{pad_acts}
 use Rattle.fx_cut.specs.TrimState.{trim_acts}
 use Rattle.fx_cut.specs.UpsampleState.{upsample_acts}
 use Rattle.fx_frame.proofs.FedLaws.{Fed-along, PassedOn-along}
+use Rattle.fx_frame.proofs.RowLaws.{EachThrough-along}
 use Rattle.fx_frame.specs.declared.feed.Passing.{Passing}
 use Rattle.fx_frame.specs.Feed.{Fed, PassedOn}
 use Rattle.fx_frame.specs.Frame.{Samples}
+use Rattle.fx_frame.specs.Row.{EachThrough}
 use Rattle.fx_frame.specs.Stage.{Acts}
 use Rattle.fx_stages.specs.declared.stage.EffectStage.{EffectStage}
 use Rattle.fx_stages.specs.declared.stage.EffectStage.TheVariants as stages
@@ -74,3 +76,6 @@ module _ {S R : Type 0} {acts : Acts S R} {wrap : S → EffectStage} (j : Joins 
 
   pub Fed-joined : (first s : S) (xs gs : List Samples) → Fed acts first xs gs s → Fed effect_acts (wrap first) xs gs (wrap s)
   Fed-joined = Fed-along acts effect_acts wrap j.named j.recipes j.kinds j.rests j.counts j.dry j.stored
+
+  pub EachThrough-joined : (xs ys : List Samples) (s s' : S) → EachThrough acts xs ys s s' → EachThrough effect_acts xs ys (wrap s) (wrap s')
+  EachThrough-joined = EachThrough-along acts effect_acts wrap j.named j.recipes j.kinds j.rests j.counts j.dry j.stored

@@ -248,4 +248,12 @@ impl Feeds for EffectStage {
     fn ahead(&self) -> u64 {
         each!(self, stage => stage.ahead())
     }
+
+    fn steady(&self) -> u64 {
+        each!(self, stage => stage.steady())
+    }
+
+    fn pass_frames(&mut self, count: usize, samples: &mut [i32]) {
+        each!(self, stage => stage.pass_frames(count, samples))
+    }
 }

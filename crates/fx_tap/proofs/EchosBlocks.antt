@@ -52,6 +52,7 @@ module _ (a : EchoArguments) where
       let few = after-few a.channels lines x (replicate a.channels (pos 0)) in
       let took : TookNext echos_acts first mid x = record {
         dry = refl;
+        due = refl;
         not_ended = refl;
         not_spent = refl;
         took = record { rest = λ z. refl; counted = refl; recipe_stays = refl };

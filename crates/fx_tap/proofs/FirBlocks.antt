@@ -256,6 +256,7 @@ module _ (channels : ℕ) (b : List ℤ) where
       let few : length (last_of line.capacity (line.items ++ x ∷ [])) ≤ line.capacity = let n = length-last line.capacity (line.items ++ x ∷ []) in omega arith in
       let took : TookNext fir_acts first mid x = record {
         dry = refl;
+        due = omega (arith, counted);
         not_ended = refl;
         not_spent = refl;
         took = record {

@@ -149,6 +149,7 @@ module _ {M : Type 0} (taps : Taps M) (near : IsNear taps) where
         let few : length (last_of line.capacity (line.items ++ x ∷ [])) ≤ taps.reach m = let n = length-last line.capacity (line.items ++ x ∷ []) in omega arith in
         let took : TookNext acts first mid x = record {
           dry = refl;
+          due = refl;
           not_ended = refl;
           not_spent = refl;
           took = record {

@@ -182,7 +182,7 @@ fn delay_evenly(line: &mut Line, channels: usize, frames: &[i32], count: usize, 
 /// Writes the samples of the frame that came as many frames before one as the line has places over those of that one, which
 /// goes into the line; silence where there was none.
 #[inline(always)]
-fn delay_over(line: &mut Line, samples: &mut [i32])
+pub(crate) fn delay_over(line: &mut Line, samples: &mut [i32])
     requires { length samples.old ≡ line.old.channels }
     ensures frame { samples.new ≡ (if nat_lt (length line.old.items) line.old.capacity then silence (length samples.old) else slice_index_or (line.old.items ++ samples.old ∷ []) 0 []) }
     ensures items { line.new.items ≡ pushed line.old samples.old }

@@ -3,7 +3,11 @@ ghost use Rattle.std.specs.Prelude.{◌≡◌, ◌<◌, ◌≤◌, ◌+◌, ◌*
 ghost use Rattle.std.proofs.Common.{rules};
 ghost use Rattle.std.specs.List.{All};
 ghost use Rattle.fx_fixed.specs.Extents.{greatest, tap_delay};
+ghost use Rattle.fx_fixed.specs.Rounding.{rounding};
+ghost use Rattle.fx_frame.specs.Line.{pushed};
+ghost use Rattle.fx_frame.specs.Lists.{tabulate};
 ghost use Rattle.fx_frame.specs.Ring.{pieces};
+ghost use Rattle.fx_frame.specs.Rounded.{given_of};
 ghost use Rattle.fx_frame.specs.Stage.{Freezes, IsNew};
 ghost use Rattle.fx_tap.specs.Echo.{EchoArguments, IsEcho, echo_sum, echoed_frame};
 ghost use Rattle.fx_tap.specs.EchoState.{echo_acts, echo_taps};
@@ -12,12 +16,13 @@ ghost use Rattle.fx_tap.specs.Near.{echoes-near};
 ghost use Rattle.fx_tap.specs.Tapped.{IsTapState, TapState, clips_behind, frames_behind};
 ghost use Rattle.fx_tap.specs.Past.{sample_before};
 
+use crate::delay::delay_over;
 use crate::sums::{Sums, add_products, add_scaled, product, round_sums, rounded_sums, sums_into};
-use crate::tapped::{Tapped, Tapping, TapsMany, sample, tap_by_frames};
+use crate::tapped::{Tapped, Tapping, TapsMany, sample, tap_and_push, tap_by_frames};
 use crate::weights::{Small, small_of};
 use fx_fixed::inner::longest_tap;
 use fx_fixed::{Gain, UNIT};
-use fx_frame::feed::frame_at;
+use fx_frame::feed::{copy_samples, frame_at};
 use fx_frame::inner::{frame_of, samples};
 use fx_frame::{Frame, Line, ThawFault, WideFrame};
 use std::alloc::{AllocError, Global};
@@ -320,6 +325,104 @@ impl PreparedEcho {
     }
 }
 
+/// Writes over each earlier sample the sum of the one that came and of itself, each times its weight, rounded once, and counts
+/// how many were clipped.
+#[inline(always)]
+fn one_echo_over(small: &Small, came: &[i32], earlier: &mut [i32]) -> u64
+    requires places { length came.now ≡ length earlier.old }
+    ensures frame { earlier.new ≡ (given_of (tabulate (λ k. rounding ((slice_index_or small.now.weights 0 (pos 0) *ℤ slice_index_or came.now k (pos 0)) +ℤ (slice_index_or small.now.weights 1 (pos 0) *ℤ slice_index_or earlier.old k (pos 0))) small.now.denominator) 0 (length earlier.old))).samples }
+    ensures clips { result ≡ (given_of (tabulate (λ k. rounding ((slice_index_or small.now.weights 0 (pos 0) *ℤ slice_index_or came.now k (pos 0)) +ℤ (slice_index_or small.now.weights 1 (pos 0) *ℤ slice_index_or earlier.old k (pos 0))) small.now.denominator) 0 (length earlier.old))).clips }
+    ensures few { result ≤ length earlier.old }
+{
+    let mut clips = 0;
+    'channels: for channel in 0..earlier.len() {
+        let own = product(small.weights[0], came[channel]);
+        let echo = product(small.weights[1], earlier[channel]);
+        let (sample, is_clipped) = small.denominator.round(own + echo);
+        earlier[channel] = sample;
+        clips += u64::from(is_clipped);
+    }
+    clips
+}
+
+impl PreparedEcho {
+    /// What `tap_over` does where there is one echo and its weights are small, by way of a room for the samples that came. The
+    /// frame that it needs is the one which leaves the line.
+    #[inline(always)]
+    fn one_through(
+        &self,
+        small: &Small,
+        line: &mut Line,
+        samples: &mut [i32],
+        came: &mut [i32],
+    ) -> u64
+        requires sounds { SoundsAs self.now.gain_in self.now.gain_out self.now.echoes small.now }
+        requires one { length self.now.echoes ≡ 1 }
+        requires channels { line.old.channels ≡ self.now.channels }
+        requires capacity { line.old.capacity ≡ greatest (map tap_delay self.now.echoes) }
+        requires frame { length samples.old ≡ self.now.channels }
+        requires few { length samples.old ≤ 16 }
+        requires room { length came.old ≡ length samples.old }
+        ensures frame { samples.new ≡ (echoed_frame self.now (sample_before (line.old.items ++ samples.old ∷ []) (length line.old.items))).samples }
+        ensures clips { result ≡ (echoed_frame self.now (sample_before (line.old.items ++ samples.old ∷ []) (length line.old.items))).clips }
+        ensures few { result ≤ 16 }
+        ensures items { line.new.items ≡ pushed line.old samples.old }
+        ensures line_capacity { line.new.capacity ≡ line.old.capacity }
+        ensures line_channels { line.new.channels ≡ line.old.channels }
+    {
+        let _held = line.len();
+        copy_samples(samples, came);
+        delay_over(line, samples);
+        one_echo_over(small, came, samples)
+    }
+
+    /// What `tap_over` does where there is one echo and its weights are small.
+    // Where there are one or two channels their number is known to the loops over them.
+    #[inline(always)]
+    fn one_over(&self, small: &Small, line: &mut Line, samples: &mut [i32]) -> u64
+        requires sounds { SoundsAs self.now.gain_in self.now.gain_out self.now.echoes small.now }
+        requires one { length self.now.echoes ≡ 1 }
+        requires channels { line.old.channels ≡ self.now.channels }
+        requires capacity { line.old.capacity ≡ greatest (map tap_delay self.now.echoes) }
+        requires frame { length samples.old ≡ self.now.channels }
+        requires few { length samples.old ≤ 16 }
+        ensures frame { samples.new ≡ (echoed_frame self.now (sample_before (line.old.items ++ samples.old ∷ []) (length line.old.items))).samples }
+        ensures clips { result ≡ (echoed_frame self.now (sample_before (line.old.items ++ samples.old ∷ []) (length line.old.items))).clips }
+        ensures few { result ≤ 16 }
+        ensures items { line.new.items ≡ pushed line.old samples.old }
+        ensures line_capacity { line.new.capacity ≡ line.old.capacity }
+        ensures line_channels { line.new.channels ≡ line.old.channels }
+    {
+        match samples.len() {
+            1 => self.one_through(small, line, samples, &mut [0]),
+            2 => self.one_through(small, line, samples, &mut [0; 2]),
+            _ => self.one_through_places(small, line, samples),
+        }
+    }
+
+    /// What `tap_over` does where there is one echo and its weights are small, for as many channels as there may be.
+    // Room for sixteen samples is taken where this is called alone.
+    #[inline(never)]
+    fn one_through_places(&self, small: &Small, line: &mut Line, samples: &mut [i32]) -> u64
+        requires sounds { SoundsAs self.now.gain_in self.now.gain_out self.now.echoes small.now }
+        requires one { length self.now.echoes ≡ 1 }
+        requires channels { line.old.channels ≡ self.now.channels }
+        requires capacity { line.old.capacity ≡ greatest (map tap_delay self.now.echoes) }
+        requires frame { length samples.old ≡ self.now.channels }
+        requires few { length samples.old ≤ 16 }
+        ensures frame { samples.new ≡ (echoed_frame self.now (sample_before (line.old.items ++ samples.old ∷ []) (length line.old.items))).samples }
+        ensures clips { result ≡ (echoed_frame self.now (sample_before (line.old.items ++ samples.old ∷ []) (length line.old.items))).clips }
+        ensures few { result ≤ 16 }
+        ensures items { line.new.items ≡ pushed line.old samples.old }
+        ensures line_capacity { line.new.capacity ≡ line.old.capacity }
+        ensures line_channels { line.new.channels ≡ line.old.channels }
+    {
+        let mut places = [0; 16];
+        let room = &mut places[..samples.len()];
+        self.one_through(small, line, samples, room)
+    }
+}
+
 impl TapsMany for PreparedEcho {
     fn tap_many(&self, line: &mut Line, input: &[i32], output: &mut [i32], count: usize) -> u64 {
         let Some(small) = &self.small else {
@@ -340,5 +443,15 @@ impl TapsMany for PreparedEcho {
             done += now;
         }
         clips
+    }
+
+    #[inline(always)]
+    fn tap_over(&self, line: &mut Line, samples: &mut [i32]) -> u64 {
+        if let Some(small) = &self.small {
+            if self.echoes.len() == 1 {
+                return self.one_over(small, line, samples);
+            }
+        }
+        tap_and_push(self, line, samples)
     }
 }

@@ -130,10 +130,9 @@ impl Scale {
         }
     }
 
-    /// Writes what it makes of each sample of a frame over it, for a gain that is not small, and counts how many were clipped.
+    /// Writes what it makes of each sample over it, for a gain that is not small, and counts how many were clipped.
     #[inline(never)] // so that the loop over frames stays small enough for its stages to stand inside
     fn round_wide(&self, samples: &mut [i32]) -> u64
-        requires { length samples.old ≤ 16 }
         ensures samples { samples.new ≡ samples_of (map (scaled_sample self.now) samples.old) }
         ensures clips { result ≡ clips_of (map (scaled_sample self.now) samples.old) }
         ensures few { result ≤ length samples.old }

@@ -8,14 +8,36 @@ use fx_flow::flow::{MOST_FRAMES, State};
 use std::alloc::Global;
 use std::test::Fail;
 
-/// How many samples the sound of a row has.
-const SAMPLES: usize = 300;
+/// The most samples of a sound.
+const SAMPLES: usize = 2500;
 
 /// How many pieces the feeding of a row takes at the most.
 const MOST_PIECES: u32 = 5000;
 
 /// The greatest room for samples that are given.
-const MOST_ROOM: u32 = 40;
+const MOST_ROOM: u32 = 1400;
+
+/// How long a sound is, and below which sizes its pieces and the rooms for what is given are chosen.
+#[derive(Clone, Copy)]
+struct Portions {
+    samples: usize,
+    piece: u32,
+    room: u32,
+}
+
+/// A few frames at a time.
+const SHORT: Portions = Portions {
+    samples: 300,
+    piece: 51,
+    room: 40,
+};
+
+/// Among them more frames than go through several stages in one piece.
+const LONG: Portions = Portions {
+    samples: SAMPLES,
+    piece: 2200,
+    room: MOST_ROOM,
+};
 
 /// How many plans of random effects are fed.
 const RANDOM_PLANS: u32 = 50;
@@ -64,6 +86,16 @@ const ROWS: [&str; 20] = [
     TWELVE_EFFECTS,
 ];
 
+/// Several effects that each give one frame for each that they take, at least for a while, and others among them.
+const LONG_ROWS: [&str; 6] = [
+    "trim 700s 2300s vol 1.5 echo 0.8 0.9 20 0.5 40 0.25 vol 0.9",
+    "delay 100s dcshift 0.25 echos 0.8 0.9 20 0.5 fir 0.25 0.5 0.25",
+    "pad 3s@900s remix 1 1 vol 1.5 remix 1,2 fade t 500s 1800s 300s",
+    "vol 0.5 fade t 200s -0 300s trim 100s -200s dcshift 0.4",
+    "dcshift 0.4 upsample 3 vol 1.5 downsample 3 vol 0.5",
+    "vol 1.5 remix 1 1 1 1 1 1 1 1 1 1 1 1 1 1 1 1 vol 0.5 remix 1,16 dcshift 0.25",
+];
+
 /// Numbers that look random, and are the same each time.
 #[derive(Drop)]
 struct Dice {
@@ -84,10 +116,10 @@ impl Dice {
     }
 }
 
-/// The samples of a sound, loud ones among them.
-fn sound(alloc: Global, dice: &mut Dice) -> Result<Vec<i32>, &'static str> {
+/// So many samples, loud ones among them.
+fn sound(alloc: Global, count: usize, dice: &mut Dice) -> Result<Vec<i32>, &'static str> {
     let mut samples = Vec::new(alloc);
-    for _place in 0..SAMPLES {
+    for _place in 0..count {
         let sample = i64::from(dice.next_below(1 << 16)) * 65_536 - (1 << 31);
         if samples.push(sample as i32).is_err() {
             return Err("no memory for the sound");
@@ -128,6 +160,7 @@ fn feed_piece(
     chain: &mut Chain,
     driven: &mut Driven,
     piece: &[i32],
+    portions: Portions,
     dice: &mut Dice,
 ) -> Result<(), &'static str>
     requires { chain.old.plan.head.channels ≡ 1 }
@@ -135,7 +168,7 @@ fn feed_piece(
 {
     let mut rest = piece;
     'calls: for _call in 0..MOST_PIECES {
-        let room = dice.next_below(MOST_ROOM) as usize;
+        let room = dice.next_below(portions.room.max(1)).min(MOST_ROOM) as usize;
         let (taken, waits) = feed_once(chain, driven, rest, room)?;
         if taken > rest.len().min(SAMPLES) {
             return Err("more taken than there is");
@@ -161,17 +194,22 @@ fn are_alike(alloc: Global, fed: &Chain, stepped: &Chain) -> Result<bool, &'stat
 struct Pair {
     fed: Driver,
     stepped: Driver,
+    portions: Portions,
 }
 
 impl Pair {
-    /// Two new chains of these effects.
-    fn new(alloc: Global, effects: &str) -> Result<Pair, &'static str>
+    /// Two new chains of these effects, to be fed in such portions.
+    fn new(alloc: Global, effects: &str, portions: Portions) -> Result<Pair, &'static str>
         ensures { IfOk result (λ p. (p.fed.chain.plan.head.channels ≡ 1) × (p.stepped.chain.plan.head.channels ≡ 1)) }
     {
         let plan = plan_of(alloc, effects)?;
         let fed = Driver::new(alloc, &plan)?;
         let stepped = Driver::new(alloc, &plan)?;
-        Ok(Pair { fed, stepped })
+        Ok(Pair {
+            fed,
+            stepped,
+            portions,
+        })
     }
 
     /// Feeds one a piece, and lets the other take the frames that the first one took; how many that are.
@@ -182,7 +220,14 @@ impl Pair {
         ensures stepped { self.new.stepped.chain.plan ≡ self.old.stepped.chain.plan }
     {
         let before = self.fed.chain.taken();
-        feed_piece(&mut self.fed.chain, &mut self.fed.driven, piece, dice)?;
+        let portions = self.portions;
+        feed_piece(
+            &mut self.fed.chain,
+            &mut self.fed.driven,
+            piece,
+            portions,
+            dice,
+        )?;
         let taken = self.fed.chain.taken().saturating_sub(before) as usize;
         if taken > piece.len() {
             return Err("more taken than there is");
@@ -224,7 +269,9 @@ fn feed_sound(
         if rest.is_empty() || pair.stepped.chain.is_spent() {
             return Ok(());
         }
-        let size = rest.len().min(1 + dice.next_below(50) as usize);
+        let size = rest
+            .len()
+            .min(1 + dice.next_below(pair.portions.piece.max(1)) as usize);
         let taken = pair.take_piece(&rest[..size], dice)?;
         if taken > size {
             return Err("more taken than there is");
@@ -251,9 +298,14 @@ fn feed_pair(
 }
 
 /// Feeds a new chain of these effects a sound, beside frames one by one, to the end.
-fn feed_row(alloc: Global, effects: &str, dice: &mut Dice) -> Result<(), &'static str> {
-    let samples = sound(alloc, dice)?;
-    let mut pair = Pair::new(alloc, effects)?;
+fn feed_row(
+    alloc: Global,
+    effects: &str,
+    portions: Portions,
+    dice: &mut Dice,
+) -> Result<(), &'static str> {
+    let samples = sound(alloc, portions.samples, dice)?;
+    let mut pair = Pair::new(alloc, effects, portions)?;
     feed_pair(alloc, &mut pair, &samples, dice)
 }
 
@@ -261,7 +313,16 @@ fn feed_row(alloc: Global, effects: &str, dice: &mut Dice) -> Result<(), &'stati
 fn feed_is_steps(rt: HostRuntime) -> Result<(), Fail> {
     let mut dice = Dice { state: 1 };
     for effects in ROWS {
-        feed_row(rt.alloc(), effects, &mut dice)?;
+        feed_row(rt.alloc(), effects, SHORT, &mut dice)?;
+    }
+    Ok(())
+}
+
+#[test]
+fn feed_of_long_pieces_is_steps(rt: HostRuntime) -> Result<(), Fail> {
+    let mut dice = Dice { state: 3 };
+    for effects in LONG_ROWS {
+        feed_row(rt.alloc(), effects, LONG, &mut dice)?;
     }
     Ok(())
 }
@@ -282,7 +343,7 @@ fn random_effects(alloc: Global, dice: &mut Dice) -> Result<String, &'static str
 /// Feeds a chain of random effects a random sound, beside frames one by one.
 fn feed_random(alloc: Global, dice: &mut Dice) -> Result<(), &'static str> {
     let effects = random_effects(alloc, dice)?;
-    feed_row(alloc, &effects, dice)
+    feed_row(alloc, &effects, SHORT, dice)
 }
 
 #[test]

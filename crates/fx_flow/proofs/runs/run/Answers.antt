@@ -30,26 +30,26 @@ returns-then-passed-gt0-clause-ran g c =
     c.requires.frame.0 c.requires.frame.1 row.few c.requires.input row.samples may c.requires.settled c.requires.held c.requires.ahead row.through
 
 -- stages through which no row was passed are as they were
-stays : (g : given.Over) (c : goal.After-run_by_frames-arg-2-1 g) → c.pass_row-passed.new.stages ≡ c.args.stages.now
+stays : (g : given.Over) (c : goal.After-run_apart-arg-2-1 g) → c.pass_row-passed.new.stages ≡ c.args.stages.now
 stays g c = RowThrough-stays g.S.Stage.acts c.args.widths.inputs c.pass_row-passed.result c.args.input.now _ _ _ c.if-passed-gt0.false c.pass_row-passed.ensures.through
 
-pub run_by_frames-requires-clause-outputs : goal.run_by_frames-requires-clause-outputs
-run_by_frames-requires-clause-outputs g c = rw (stays g c) c.requires.outputs
+pub run_apart-requires-clause-outputs : goal.run_apart-requires-clause-outputs
+run_apart-requires-clause-outputs g c = rw (stays g c) c.requires.outputs
 
-pub run_by_frames-requires-clause-keep : goal.run_by_frames-requires-clause-keep
-run_by_frames-requires-clause-keep g c = rw (stays g c) c.requires.keep
+pub run_apart-requires-clause-keep : goal.run_apart-requires-clause-keep
+run_apart-requires-clause-keep g c = rw (stays g c) c.requires.keep
 
-pub run_by_frames-requires-clause-may_run : goal.run_by_frames-requires-clause-may_run
-run_by_frames-requires-clause-may_run g c = rw (stays g c) c.requires.may_run
+pub run_apart-requires-clause-may_run : goal.run_apart-requires-clause-may_run
+run_apart-requires-clause-may_run g c = rw (stays g c) c.requires.may_run
 
-pub run_by_frames-requires-clause-settled : goal.run_by_frames-requires-clause-settled
-run_by_frames-requires-clause-settled g c = rw (stays g c) c.requires.settled
+pub run_apart-requires-clause-settled : goal.run_apart-requires-clause-settled
+run_apart-requires-clause-settled g c = rw (stays g c) c.requires.settled
 
-pub run_by_frames-requires-clause-held : goal.run_by_frames-requires-clause-held
-run_by_frames-requires-clause-held g c = rw (stays g c) c.requires.held
+pub run_apart-requires-clause-held : goal.run_apart-requires-clause-held
+run_apart-requires-clause-held g c = rw (stays g c) c.requires.held
 
-pub run_by_frames-requires-clause-ahead : goal.run_by_frames-requires-clause-ahead
-run_by_frames-requires-clause-ahead g c = rw (stays g c) c.requires.ahead
+pub run_apart-requires-clause-ahead : goal.run_apart-requires-clause-ahead
+run_apart-requires-clause-ahead g c = rw (stays g c) c.requires.ahead
 
 pub returns-clause-ran : goal.returns-clause-ran
-returns-clause-ran g c = rw (RowThrough-stays g.S.Stage.acts c.args.widths.inputs c.pass_row-passed.result c.args.input.now _ _ _ c.if-passed-gt0.false c.pass_row-passed.ensures.through) at c.run_by_frames.ensures.ran
+returns-clause-ran g c = rw (RowThrough-stays g.S.Stage.acts c.args.widths.inputs c.pass_row-passed.result c.args.input.now _ _ _ c.if-passed-gt0.false c.pass_row-passed.ensures.through) at c.run_apart.ensures.ran

@@ -1,0 +1,63 @@
+use Rattle.std.proofs.Common.{◌≡◌, ◌∙◌, add-one, get_or, length, refl, sym, ap, arith}
+use Rattle.fx_frame.specs.Ring.{pieces}
+use Rattle.fx_frame.specs.Stage.{kind}
+use Rattle.fx_frame.proofs.Pieces.{length-pieces}
+use Rattle.fx_flow.proofs.PieceLaws.{AllKeep-piece, MayFeed, MayFeed-at, PieceTo-next, PieceTo-out}
+use Rattle.fx_flow.proofs.steady.pass_few.Given as given
+use Rattle.fx_flow.proofs.steady.pass_few.Goals as goal
+
+pub stages-init : goal.stages-init
+stages-init g c = record { came_to = (refl, ap (pieces c.args.channels c.args.count) c.copy_from_slice.ensures.after, refl); long = ap length c.copy_from_slice.ensures.after ∙ c.requires.input }
+
+-- the frames may be passed to the stage at the place
+may : (g : given.Over) (c : goal.After-pass_frames-arg-1 g) → MayFeed g.S.Stage.acts (get_or c.stages.stages c.stages.place c.index-stages-place.result) c.args.channels c.args.count
+may g c =
+    MayFeed-at g.S.Stage.acts g.met.S.Stage.rises c.stages.place c.args.channels c.requires.ready.0 c.requires.ready.1 c.args.count c.args.channels (pieces c.args.channels c.args.count c.args.input.now) (pieces c.args.channels c.args.count c.stages.output) c.args.stages.now c.stages.stages c.index-stages-place.result c.requires.some
+    (length-pieces c.args.channels c.args.count c.args.input.now) c.requires.ready.2 c.requires.ready.3 c.requires.steady c.requires.ahead c.stages.invariant.came_to (omega (arith, c.stages-test.true, c.stages.auto.stages))
+
+pub pass_frames-requires-clause-dry : goal.pass_frames-requires-clause-dry
+pass_frames-requires-clause-dry g c = let m = may g c in m.dry
+
+pub pass_frames-requires-clause-not_ended : goal.pass_frames-requires-clause-not_ended
+pass_frames-requires-clause-not_ended g c = let m = may g c in m.not_ended
+
+pub pass_frames-requires-clause-steady : goal.pass_frames-requires-clause-steady
+pass_frames-requires-clause-steady g c = let m = may g c in m.steady
+
+pub pass_frames-requires-clause-ahead : goal.pass_frames-requires-clause-ahead
+pass_frames-requires-clause-ahead g c = let m = may g c in m.ahead
+
+pub pass_frames-requires-clause-frame : goal.pass_frames-requires-clause-frame
+pass_frames-requires-clause-frame g c = let m = may g c in rw (← m.inputs) c.requires.frame
+
+pub pass_frames-requires-clause-same_channels : goal.pass_frames-requires-clause-same_channels
+pass_frames-requires-clause-same_channels g c =
+    let m = may g c in
+    AllKeep-piece g.S.Stage.acts c.stages.place c.args.channels c.args.channels c.args.channels (pieces c.args.channels c.args.count c.args.input.now) (pieces c.args.channels c.args.count c.stages.output) c.args.stages.now c.stages.stages c.index-stages-place.result c.stages.invariant.came_to c.requires.keep
+    (omega (arith, c.stages-test.true, c.stages.auto.stages)) ∙ m.inputs
+
+pub pass_frames-requires-clause-samples : goal.pass_frames-requires-clause-samples
+pass_frames-requires-clause-samples g c = let m = may g c in rw (← m.inputs) c.stages.invariant.long
+
+pub pass_frames-requires-clause-below_limit : goal.pass_frames-requires-clause-below_limit
+pass_frames-requires-clause-below_limit g c = let m = may g c in m.below_limit
+
+pub stages-preserved : goal.stages-preserved
+stages-preserved g c =
+    let acts = g.S.Stage.acts in
+    let m : MayFeed acts (get_or c.stages.stages c.stages.place c.index-stages-place.result) c.args.channels c.args.count =
+    MayFeed-at acts g.met.S.Stage.rises c.stages.place c.args.channels c.requires.ready.0 c.requires.ready.1 c.args.count c.args.channels (pieces c.args.channels c.args.count c.args.input.now) (pieces c.args.channels c.args.count c.stages.output) c.args.stages.now c.stages.stages c.index-stages-place.result c.requires.some
+    (length-pieces c.args.channels c.args.count c.args.input.now) c.requires.ready.2 c.requires.ready.3 c.requires.steady c.requires.ahead c.stages.invariant.came_to (omega (arith, c.stages-test.true, c.stages.auto.stages)) in
+    let keeps : (kind acts (get_or c.stages.stages c.stages.place c.index-stages-place.result)).outputs ≡ c.args.channels =
+    AllKeep-piece acts c.stages.place c.args.channels c.args.channels c.args.channels (pieces c.args.channels c.args.count c.args.input.now) (pieces c.args.channels c.args.count c.stages.output) c.args.stages.now c.stages.stages c.index-stages-place.result c.stages.invariant.came_to c.requires.keep
+    (omega (arith, c.stages-test.true, c.stages.auto.stages)) in
+    rw add-one (record {
+      came_to = PieceTo-next acts c.stages.place c.args.channels c.args.channels c.args.channels (pieces c.args.channels c.args.count c.args.input.now) (pieces c.args.channels c.args.count c.stages.output) (pieces c.args.channels c.args.count c.pass_frames.new.samples) c.args.stages.now c.stages.stages c.pass_frames.new.self
+          c.index-stages-place.result (omega (arith, c.stages-test.true, c.stages.auto.stages)) c.stages.invariant.came_to (rw (← m.inputs) at c.pass_frames.ensures) (sym keeps);
+      long = c.pass_frames.auto.samples ∙ c.stages.invariant.long;
+    })
+
+pub returns : goal.returns
+returns g c =
+    let out = PieceTo-out g.S.Stage.acts c.stages.place c.args.channels c.args.channels (pieces c.args.channels c.args.count c.args.input.now) (pieces c.args.channels c.args.count c.stages.output) c.args.stages.now c.stages.stages (omega (arith, c.stages-test.false, c.stages.auto.stages)) c.stages.invariant.came_to in
+    out.0

@@ -1,0 +1,10 @@
+use Rattle.std.proofs.Common.{◌≡◌, ◌*◌, length}
+use Rattle.fx_frame.specs.Ring.{pieces}
+use Rattle.fx_flow.proofs.PieceLaws.{PieceTo}
+use Rattle.fx_flow.proofs.steady.pass_few.Given as goal
+
+abbrev pub invariant-stages : goal.invariant-stages
+invariant-stages g l = record {
+  came_to : PieceTo g.S.Stage.acts l.place l.channels (pieces l.channels l.count l.input) l.channels (pieces l.channels l.count l.output) l.fn.stages l.stages;
+  long : length l.output ≡ l.count * l.channels;
+}
