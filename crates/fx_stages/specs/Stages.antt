@@ -3,25 +3,19 @@ use Rattle.std.specs.Prelude.{ℕ, ℤ, ◌≤◌, Bool, List, length, map}
 use Rattle.std.proofs.Math.Nat.{mul-le-mul_right}
 use Rattle.fx_cut.specs.Ceil.{ceil_rises}
 use Rattle.fx_cut.specs.DownsampleState.{IsDownsample, downsample_acts}
-use Rattle.fx_cut.specs.Fade.{FadeArguments}
 use Rattle.fx_cut.specs.FadeState.{IsFade, fade_acts}
-use Rattle.fx_cut.specs.Factor.{FactorArguments}
-use Rattle.fx_cut.specs.Pad.{PadArguments}
 use Rattle.fx_cut.specs.PadState.{IsPad, pad_acts, pad_rises}
-use Rattle.fx_cut.specs.Trim.{TrimArguments}
 use Rattle.fx_cut.specs.TrimState.{IsTrim, trim_acts}
 use Rattle.fx_cut.specs.UpsampleState.{IsUpsample, upsample_acts}
 use Rattle.fx_fixed.specs.Extents.{greatest, sum_of_delays, tap_delay}
 use Rattle.fx_frame.specs.Frame.{Samples}
-use Rattle.fx_frame.specs.Stage.{Acts, Counts, Given, Kind, Own}
+use Rattle.fx_frame.specs.Stage.{Acts, Counts, Given, Own}
 use Rattle.fx_stages.specs.declared.stage.EffectStage.{EffectStage}
 use Rattle.fx_stages.specs.declared.stage.EffectStage.TheVariants as stages
 use Rattle.fx_tap.specs.DcShiftState.{dcshift_acts}
 use Rattle.fx_tap.specs.DelayState.{delay_acts, delay_taps}
-use Rattle.fx_tap.specs.Echo.{EchoArguments}
 use Rattle.fx_tap.specs.EchoState.{echo_acts, echo_taps}
 use Rattle.fx_tap.specs.EchosState.{IsEchos, echos_acts}
-use Rattle.fx_tap.specs.Fir.{FirArguments}
 use Rattle.fx_tap.specs.FirState.{IsFir, fir_acts}
 use Rattle.fx_tap.specs.Mapped.{IsMapState}
 use Rattle.fx_tap.specs.PerSample.{SampleArguments}

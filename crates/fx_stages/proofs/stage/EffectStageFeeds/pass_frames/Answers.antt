@@ -37,3 +37,15 @@ returns-in-Vol c = rw c.in-Vol.is (EachThrough-joined vol-joins _ _ _ _ c.pass_f
 
 pub returns-in-DcShift : goal.returns-in-DcShift
 returns-in-DcShift c = rw c.in-DcShift.is (EachThrough-joined dcshift-joins _ _ _ _ c.pass_frames-in-DcShift.ensures)
+
+pub pass_frames-requires-clause-steady : goal.pass_frames-requires-clause-steady
+pass_frames-requires-clause-steady c = rw c.in-Trim.is at c.requires.steady
+
+pub pass_frames-requires-in-Pad-clause-steady : goal.pass_frames-requires-in-Pad-clause-steady
+pass_frames-requires-in-Pad-clause-steady c = rw c.in-Pad.is at c.requires.steady
+
+pub pass_frames-requires-in-Upsample-clause-steady : goal.pass_frames-requires-in-Upsample-clause-steady
+pass_frames-requires-in-Upsample-clause-steady c = rw c.in-Upsample.is at c.requires.steady
+
+pub pass_frames-requires-in-Downsample-clause-steady : goal.pass_frames-requires-in-Downsample-clause-steady
+pass_frames-requires-in-Downsample-clause-steady c = rw c.in-Downsample.is at c.requires.steady
