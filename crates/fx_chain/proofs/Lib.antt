@@ -1,9 +1,3 @@
-pub mod Blocks
 pub mod Chaining
-pub mod Draining
-pub mod Passing
-pub mod Reaching
-pub mod Running
-pub mod Sending
 pub mod Stating
 pub mod Thawing

@@ -21,17 +21,17 @@ use Rattle.fx_sound.specs.declared.progress.TheConstants.{MOST_FRAMES}
 use Rattle.fx_sound.specs.Known.{IfKnown}
 use Rattle.fx_sound.specs.Runs.{first_frames-within}
 use Rattle.fx_sound.specs.Sound.{lacking, within}
-use Rattle.fx_chain.specs.declared.report.Report.{Report}
-use Rattle.fx_chain.specs.declared.pump.Cause.TheVariants as Causes
-use Rattle.fx_chain.specs.declared.report.RunFault.{RunFault}
-use Rattle.fx_chain.specs.declared.report.RunFault.TheVariants.{ReadFailed, WriteFailed, TooLong}
+use Rattle.fx_run.specs.declared.report.Report.{Report}
+use Rattle.fx_run.specs.declared.pump.Cause.TheVariants as Causes
+use Rattle.fx_run.specs.declared.report.RunFault.{RunFault}
+use Rattle.fx_run.specs.declared.report.RunFault.TheVariants.{ReadFailed, WriteFailed, TooLong}
 use Rattle.fx_chain.specs.Chain.{ChainParts, IsNewChain, chain_gives, chain_wholes, planned, target_for}
-use Rattle.fx_chain.specs.Due.{clips_in, dues}
-use Rattle.fx_chain.specs.Outlet.{WroteFront, coded, coded_clips}
-use Rattle.fx_chain.specs.Report.{Completed, StoppedAt, cause_of, clips_now, head_for, output_of, report_at, report_in, row_of, start_of}
-use Rattle.fx_chain.specs.Run.{RanToEnd, WantsMore, sound_frames}
-use Rattle.fx_chain.proofs.Passing.{WantsMore-next}
-use Rattle.fx_chain.proofs.Reaching.{clips-reached}
+use Rattle.fx_run.specs.Due.{clips_in, dues}
+use Rattle.fx_run.specs.Outlet.{WroteFront, coded, coded_clips}
+use Rattle.fx_run.specs.Report.{Completed, StoppedAt, cause_of, clips_now, head_for, output_of, report_at, report_in, row_of, start_of}
+use Rattle.fx_run.specs.Run.{RanToEnd, WantsMore, sound_frames}
+use Rattle.fx_run.proofs.Passing.{WantsMore-next}
+use Rattle.fx_run.proofs.Reaching.{clips-reached}
 use Rattle.fx_chain.specs.Theorem.{Broken, Due, Ran, frames_read, given_due, kinds_of, lacks, reported, reported_due, sound_in, strays, until_enough, written_due}
 
 -- a frame takes some bytes

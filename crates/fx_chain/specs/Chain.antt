@@ -1,6 +1,6 @@
 -- The chain of a plan's effects (this project's profile).
 use Rattle.std.specs.Prelude.{◌≡◌, ◌≤◌, false, List, length}
-use Rattle.fx_chain.specs.declared.target.Target.{Target}
+use Rattle.fx_run.specs.declared.target.Target.{Target}
 use Rattle.fx_flow.specs.Parts.{AllNew, Parts, given_by, taken_of}
 use Rattle.fx_flow.specs.Composed.{Whole, composed, composed_wholes}
 use Rattle.fx_flow.specs.Steps.{IsHungry, rest_of, wholes_of}

@@ -1,10 +1,3 @@
 pub mod Chain
-pub mod Due
-pub mod Outlet
-pub mod Report
-pub mod Run
 pub mod Snapshot
 pub mod Theorem
-pub mod Through
-pub mod Block
-pub mod Pump

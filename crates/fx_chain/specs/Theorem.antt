@@ -2,15 +2,15 @@
 -- profile). Each is a function of the plan and the bytes, so an example is computed by hand.
 use Rattle.std.specs.Prelude.{◌≡◌, ◌⊎◌, ℕ, ◌+◌, ◌%◌, ◌<◌, ◌≤◌, cond, false, true, MatchBool, sum, List, [], ◌∷◌, ◌++◌, length, map, take, Option, Result, Ok, Err}
 use Rattle.std.specs.Io.KnownBytes.{Appends}
-use Rattle.fx_chain.specs.declared.report.Report.{Report}
-use Rattle.fx_chain.specs.declared.report.RunFault.{RunFault}
-use Rattle.fx_chain.specs.declared.report.RunFault.TheVariants.{ReadFailed, WriteFailed, TooLong}
+use Rattle.fx_run.specs.declared.report.Report.{Report}
+use Rattle.fx_run.specs.declared.report.RunFault.{RunFault}
+use Rattle.fx_run.specs.declared.report.RunFault.TheVariants.{ReadFailed, WriteFailed, TooLong}
 use Rattle.fx_chain.specs.Chain.{chain_gives, chain_wholes, planned, target_for}
-use Rattle.fx_chain.specs.Due.{clips_in, dues}
-use Rattle.fx_chain.specs.Outlet.{WroteFront, coded, coded_clips}
-use Rattle.fx_chain.specs.Report.{clips_now, head_for, met_end, output_of, row_of, start_of}
-use Rattle.fx_chain.specs.Run.{RanToFailure}
-use Rattle.fx_chain.specs.Through.{Reached}
+use Rattle.fx_run.specs.Due.{clips_in, dues}
+use Rattle.fx_run.specs.Outlet.{WroteFront, coded, coded_clips}
+use Rattle.fx_run.specs.Report.{clips_now, head_for, met_end, output_of, row_of, start_of}
+use Rattle.fx_run.specs.Run.{RanToFailure}
+use Rattle.fx_run.specs.Through.{Reached}
 use Rattle.fx_flow.specs.Parts.{AllNew, Parts, moves_of, taken_of}
 use Rattle.fx_flow.specs.Composed.{Whole, due_of, enough_for}
 use Rattle.fx_flow.specs.Steps.{IsDone, IsHungry, rest_of, wholes_of}

@@ -1,8 +1,8 @@
 //! A whole sound through the chain of a plan.
 ghost use Rattle.std.specs.Prelude.{◌≡◌, ◌≤◌, IfErr, IfOk, MatchResult, OnOk, true};
 ghost use Rattle.fx_chain.specs.Chain.{IsNewChain, target_for};
-ghost use Rattle.fx_chain.specs.Report.{Completed, HasCause, ReadBefore, StoppedAt, cause_of, clips_now, report_at, report_in, start_of};
-ghost use Rattle.fx_chain.specs.Run.{RanToFailure, WantsMore, sound_frames};
+ghost use Rattle.fx_run.specs.Report.{Completed, HasCause, ReadBefore, StoppedAt, cause_of, clips_now, report_at, report_in, start_of};
+ghost use Rattle.fx_run.specs.Run.{RanToFailure, WantsMore, sound_frames};
 ghost use Rattle.fx_chain.specs.Theorem.{Ran};
 ghost use Rattle.fx_flow.specs.Parts.{given_by, moves_of, taken_of};
 ghost use Rattle.fx_flow.specs.Steps.{IsDone, IsHungry};
@@ -14,12 +14,9 @@ ghost use Rattle.fx_sound.specs.Source.{to_come};
 ghost use Rattle.fx_stages.specs.Stages.{effect_acts};
 
 use crate::chain::Chain;
-use crate::flow_run::run_flow;
-use crate::pump::Cause;
-use crate::report::{Report, RunFault};
-use crate::target::Target;
 use fx_frame::{ByteIn, ByteOut};
 use fx_plan::Plan;
+use fx_run::{Cause, Report, RunFault, Target, run_flow};
 use fx_sound::Source;
 
 /// What is written where a plan is run.

@@ -1,10 +1,10 @@
 -- A conversion, concluded from its two halves: what is prepared, and what is finished.
 use Rattle.std.proofs.Common.{◌≡◌, ℕ, List, [], refl, sym, ap, subst, ◌∙◌, ◌⊎◌, inl, inr, drop}
 use Rattle.std.specs.Prelude.{Option, Result, Ok, Err}
-use Rattle.fx_chain.specs.declared.report.Report.{Report}
-use Rattle.fx_chain.specs.declared.report.RunFault.{RunFault}
+use Rattle.fx_run.specs.declared.report.Report.{Report}
+use Rattle.fx_run.specs.declared.report.RunFault.{RunFault}
 use Rattle.fx_chain.specs.Chain.{IsNewChain}
-use Rattle.fx_chain.specs.Report.{cause_of, no_report, report_at, report_in, start_of}
+use Rattle.fx_run.specs.Report.{cause_of, no_report, report_at, report_in, start_of}
 use Rattle.fx_frame.specs.Io.{ByteReader, ByteWriter}
 use Rattle.fx_line.specs.declared.line.LineFault.{LineFault}
 use Rattle.fx_line.specs.Line.{Said, line_of}

@@ -6,16 +6,16 @@ use Rattle.fx_line.specs.Line.{Said}
 use Rattle.fx_plan.specs.CommandLines.{LineReads}
 use Rattle.std.specs.Io.KnownBytes.{prepend_known}
 use mathlib.Core.Path.{ap₂}
-use Rattle.fx_chain.specs.declared.report.Report.{Report}
+use Rattle.fx_run.specs.declared.report.Report.{Report}
 use Rattle.fx_frame.specs.Io.{ByteReader, ByteWriter, saturated}
 use Rattle.fx_sound.specs.declared.head.HeadFault.{HeadFault}
 use Rattle.fx_sound.specs.declared.head.HeadFault.TheVariants.{ReadFailed, UnknownType, Truncated, BadHeader, NotInProfile, TooManyChannels, HeadTooLong}
 use Rattle.fx_sound.specs.HeadFields.{is_read_failure}
-use Rattle.fx_chain.specs.declared.pump.Cause.{Cause}
-use Rattle.fx_chain.specs.declared.pump.Cause.TheVariants as Causes
+use Rattle.fx_run.specs.declared.pump.Cause.{Cause}
+use Rattle.fx_run.specs.declared.pump.Cause.TheVariants as Causes
 use Rattle.fx_chain.specs.Chain.{ChainParts, IsNewChain}
-use Rattle.fx_chain.specs.Report.{HasCause, ReadBefore, start_of}
-use Rattle.fx_chain.specs.Run.{RanToFailure, WantsMore}
+use Rattle.fx_run.specs.Report.{HasCause, ReadBefore, start_of}
+use Rattle.fx_run.specs.Run.{RanToFailure, WantsMore}
 use Rattle.fx_chain.specs.Theorem.{ReadFirst, kinds_of}
 use Rattle.fx_flow.specs.Parts.{Parts}
 use Rattle.fx_frame.specs.Holds.{kinds}

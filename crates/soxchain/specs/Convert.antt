@@ -1,10 +1,10 @@
 -- The conversion of a sound whose command line was accepted, on the whole list of bytes (this project's profile).
 use Rattle.std.specs.Prelude.{◌≡◌, ◌≢◌, ◌⊎◌, ℕ, ◌+◌, ◌-◌, ◌/◌, ◌^◌, ◌<◌, ◌≤◌, Bool, true, false, List, drop, length, Option, Result, Ok, Err, IfOk, []}
-use Rattle.fx_chain.specs.declared.pump.Cause.TheVariants as Causes
-use Rattle.fx_chain.specs.declared.report.Report.{Report}
-use Rattle.fx_chain.specs.declared.report.RunFault.{RunFault}
-use Rattle.fx_chain.specs.Report.{HasCause, cause_of, report_at, start_of}
-use Rattle.fx_chain.specs.Run.{WantsMore}
+use Rattle.fx_run.specs.declared.pump.Cause.TheVariants as Causes
+use Rattle.fx_run.specs.declared.report.Report.{Report}
+use Rattle.fx_run.specs.declared.report.RunFault.{RunFault}
+use Rattle.fx_run.specs.Report.{HasCause, cause_of, report_at, start_of}
+use Rattle.fx_run.specs.Run.{WantsMore}
 use Rattle.fx_chain.specs.Theorem.{Ran, kinds_of}
 use Rattle.fx_flow.specs.Composed.{due_of, enough_for}
 use Rattle.fx_frame.specs.Io.{ByteReader, ByteWriter, saturated}

@@ -1,10 +1,10 @@
 -- What a run that was ready comes to (this project's profile).
 use Rattle.std.specs.Prelude.{◌≡◌, ◌≤◌, ℕ, true, List, Result, Ok, Err, IfErr, OnOk, MatchResult, ◌++◌}
-use Rattle.fx_chain.specs.declared.pump.Cause.TheVariants as Causes
-use Rattle.fx_chain.specs.declared.report.Report.{Report}
-use Rattle.fx_chain.specs.declared.report.RunFault.{RunFault}
-use Rattle.fx_chain.specs.Report.{HasCause, cause_of, report_at, report_in, start_of}
-use Rattle.fx_chain.specs.Run.{RanToFailure, WantsMore}
+use Rattle.fx_run.specs.declared.pump.Cause.TheVariants as Causes
+use Rattle.fx_run.specs.declared.report.Report.{Report}
+use Rattle.fx_run.specs.declared.report.RunFault.{RunFault}
+use Rattle.fx_run.specs.Report.{HasCause, cause_of, report_at, report_in, start_of}
+use Rattle.fx_run.specs.Run.{RanToFailure, WantsMore}
 use Rattle.fx_chain.specs.Theorem.{Ran, ReadFirst, kinds_of}
 use Rattle.fx_frame.specs.Io.{ByteReader, ByteWriter}
 use Rattle.fx_line.specs.Line.{Said}

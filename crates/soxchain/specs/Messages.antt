@@ -1,9 +1,9 @@
 -- The messages of the program (this project's profile), as the bytes of a line each.
 use Rattle.std.specs.Prelude.{ℕ, zero, suc, ◌+◌, ◌-◌, nat_lt, min, slice_get, slice_index_or, unwrap_or, Bool, true, false, ◌&&◌, if◌then◌else◌, Result, Ok, Err, List, [], ◌∷◌, ◌++◌, codes, decimal, length}
-use Rattle.fx_chain.specs.declared.report.Report.{Report}
-use Rattle.fx_chain.specs.declared.report.RunFault.{RunFault}
-use Rattle.fx_chain.specs.declared.report.RunFault.TheVariants as RunFaults
-use Rattle.fx_chain.specs.Report.{report_at}
+use Rattle.fx_run.specs.declared.report.Report.{Report}
+use Rattle.fx_run.specs.declared.report.RunFault.{RunFault}
+use Rattle.fx_run.specs.declared.report.RunFault.TheVariants as RunFaults
+use Rattle.fx_run.specs.Report.{report_at}
 use Rattle.fx_line.specs.declared.line.LineFault.{LineFault}
 use Rattle.fx_line.specs.declared.line.LineFault.TheVariants as LineFaults
 use Rattle.fx_line.specs.Line.{Said}

@@ -1,7 +1,7 @@
 -- The answers of the program (this project's profile).
 use Rattle.std.specs.Prelude.{◌≡◌, ℕ, List, Result, Ok, Err}
-use Rattle.fx_chain.specs.declared.report.Report.{Report}
-use Rattle.fx_chain.specs.Report.{no_report, report_at}
+use Rattle.fx_run.specs.declared.report.Report.{Report}
+use Rattle.fx_run.specs.Report.{no_report, report_at}
 use Rattle.fx_line.specs.declared.line.LineFault.{LineFault}
 use Rattle.fx_line.specs.declared.line.LineFault.TheVariants as LineFaults
 use Rattle.fx_line.specs.Line.{Said}

@@ -1,6 +1,6 @@
 //! The messages of the program, one line each.
 ghost use Rattle.std.specs.Prelude.{◌≡◌, ◌++◌, length, min};
-ghost use Rattle.fx_chain.specs.Report.{report_at};
+ghost use Rattle.fx_run.specs.Report.{report_at};
 ghost use Rattle.fx_plan.specs.CommandLines.{effects_in};
 ghost use Rattle.soxchain.specs.Messages;
 ghost use Rattle.soxchain.specs.Messages.{chain_message, effect_message, effect_warning, effect_warnings, effects_message, head_label, input_message, line_label, line_message, plan_label, plan_message, refusal_message, run_label, run_message, warning, warnings};

@@ -1,6 +1,6 @@
 -- A conversion in memory, from what `convert` says of readers and writers.
 use Rattle.std.proofs.Common.{◌≡◌, ℕ, List, [], Option, Some, Result, Ok, Err, ap, drop, subst, sym, ◌∙◌}
-use Rattle.fx_chain.specs.declared.report.Report.{Report}
+use Rattle.fx_run.specs.declared.report.Report.{Report}
 use Rattle.fx_chain.specs.Theorem.{Ran}
 use Rattle.fx_frame.specs.Io.{ByteReader, ByteWriter}
 use Rattle.fx_line.specs.declared.line.LineFault.{LineFault}

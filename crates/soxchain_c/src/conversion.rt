@@ -1,6 +1,6 @@
 //! A conversion in memory, to C.
 ghost use Rattle.std.specs.Prelude.{◌≡◌, ℕ, List, [], length};
-ghost use Rattle.fx_chain.specs.Report.{no_report};
+ghost use Rattle.fx_run.specs.Report.{no_report};
 ghost use Rattle.fx_line.specs.Line.{texts};
 ghost use Rattle.fx_plan.specs.Plans.{bytes_of};
 ghost use Rattle.fx_sound.specs.Known.{IfKnown};

@@ -1,6 +1,6 @@
 -- The head that is written over the beginning of a named file (this project's profile).
 use Rattle.std.specs.Prelude.{ℕ, List, Some}
-use Rattle.fx_chain.specs.declared.report.Report.{Report}
+use Rattle.fx_run.specs.declared.report.Report.{Report}
 use Rattle.fx_plan.specs.Planning.{Planning}
 use Rattle.fx_sound.specs.Writing.{written_head}
 

@@ -1,7 +1,7 @@
 -- What becomes of a named OUT (this project's profile).
 use Rattle.std.specs.Prelude.{◌≡◌, ◌≤◌, ◌⊎◌, ℕ, List, Option, Some, IfSome}
 use Rattle.std.specs.Io.KnownBytes.{Appends, Keeps}
-use Rattle.fx_chain.specs.declared.report.Report.{Report}
+use Rattle.fx_run.specs.declared.report.Report.{Report}
 use Rattle.fx_frame.specs.Counted.{Counts, counted_writes}
 use Rattle.fx_frame.specs.Io.{ByteReader, ByteWriter}
 use Rattle.fx_plan.specs.Planning.{planning}

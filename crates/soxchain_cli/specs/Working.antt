@@ -4,7 +4,7 @@ use Rattle.std.specs.Io.KnownBytes.{Appends}
 use Rattle.std.specs.declared.io.ErrorKind.{ErrorKind}
 use Rattle.std.specs.declared.io.ErrorKind.TheVariants as ErrorKinds
 use Rattle.fx_chain.specs.Chain.{IsNewChain}
-use Rattle.fx_chain.specs.declared.report.Report.{Report}
+use Rattle.fx_run.specs.declared.report.Report.{Report}
 use Rattle.fx_frame.specs.Counted.{Counts, counted_reads, counted_writes}
 use Rattle.fx_frame.specs.Io.{ByteReader, ByteWriter}
 use Rattle.fx_line.specs.declared.line.LineFault.{LineFault}

@@ -3,7 +3,7 @@ ghost use Rattle.std.specs.Prelude.{◌≡◌, OnOk};
 ghost use Rattle.fx_chain.specs.Chain.{IsNewChain};
 ghost use Rattle.fx_plan.specs.Planning.{planning};
 ghost use Rattle.fx_plan.specs.Plans.{bytes_of};
-ghost use Rattle.fx_chain.specs.declared.report.Report.{Report};
+ghost use Rattle.fx_run.specs.declared.report.Report.{Report};
 ghost use Rattle.soxchain.specs.FileMessages.{open_message, rewrite_message};
 ghost use Rattle.soxchain.specs.Finishing.{Finished};
 ghost use Rattle.soxchain.specs.Saying.{Says};

@@ -1,6 +1,6 @@
 use Rattle.std.proofs.Common.{refl}
 use Rattle.std.specs.Prelude.{Ok, Err}
-use Rattle.fx_chain.specs.Report.{cause_of}
+use Rattle.fx_run.specs.Report.{cause_of}
 use Rattle.soxchain.proofs.Converting.{HasCause-map, ReadFirst-new, wants-new}
 use Rattle.soxchain.proofs.ready.finish_for.Goals as goal
 

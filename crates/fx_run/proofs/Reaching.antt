@@ -1,0 +1,205 @@
+-- What the calls of a flow come to.
+use Rattle.std.proofs.Common.{◌≡◌, ℕ, zero, suc, ◌+◌, map, Bool, true, false, List, [], ◌∷◌, ◌++◌, length, take, refl, sym, ap, ◌∙◌, arith, inl, inr, Some, None, Option, option_to_list}
+use Rattle.std.proofs.lemmas.List.{append_assoc, append-nil, length-append, take_at}
+use Rattle.std.proofs.lemmas.List.Sums.{sum_by-cons}
+use Rattle.std.specs.Prelude.{sum}
+use Rattle.fx_frame.specs.Frame.{Samples}
+use Rattle.fx_frame.specs.Holds.{kinds, recipes, total}
+use Rattle.fx_frame.specs.Stage.{Acts, Counts, Given}
+use Rattle.fx_flow.specs.Parts.{AllNew, AllSettled, Fed, HandedOver, Joined, Parts, given_of, moves_of, taken_of}
+use Rattle.fx_flow.specs.Composed.{clips_of, frames_of}
+use Rattle.fx_flow.specs.Steps.{IsHungry, MovedOn}
+use Rattle.fx_run.specs.Due.{clips_in, dues, firsts, meanings}
+use Rattle.fx_run.specs.Through.{Reached, took, told_end, untouched, stepped}
+
+-- one list behind the other, each at its place
+abbrev both : List (List Given) → List (List Given) → List (List Given)
+both [] ds = []
+both (g ∷ gs) [] = []
+both (g ∷ gs) (d ∷ ds) = (g ++ d) ∷ both gs ds
+
+total-append : {X : Type 0} (f : X → ℕ) (xs ys : List X) → total f (xs ++ ys) ≡ total f xs + total f ys
+total-append f [] ys = omega arith
+total-append f (x ∷ xs) ys = let e = total-append f xs ys in omega arith
+
+clips-append : (g d : List Given) → clips_of (g ++ d) ≡ clips_of g + clips_of d
+clips-append g d = total-append (λ (x : Given). x.clips) g d
+
+-- what would be true only with a false fact is false
+none-true : (b c : Bool) → (b ≡ true → c ≡ true) → c ≡ false → b ≡ false
+none-true true c h e = absurd (let t = h refl in cc)
+none-true false c h e = refl
+
+module _ {S R : Type 0} (acts : Acts S R) where
+  -- each stage gave these frames since, and counted them, where z are to come in place of y
+  abbrev After : List (List Given) → List S → List S → List Samples → List Samples → Type 0
+  After [] [] [] y z = Unit {0}
+  After (g ∷ gs) (s ∷ ss) (t ∷ ts) y z =
+      (acts.rest s y ≡ g ++ acts.rest t z)
+      × ((acts.counts t).given ≡ (acts.counts s).given + length g)
+      × ((acts.counts t).clips ≡ (acts.counts s).clips + clips_of g)
+      × After gs ss ts (frames_of (acts.rest s y)) (frames_of (acts.rest t z))
+  After gs ss ts y z = ⊥
+
+  abbrev nones : List S → List (List Given)
+  nones [] = []
+  nones (s ∷ ss) = [] ∷ nones ss
+
+  After-same : (ss : List S) (y : List Samples) → After (nones ss) ss ss y y
+  After-same [] y = tt
+  After-same (s ∷ ss) y = (refl, omega arith, omega arith, After-same ss _)
+
+  After-then : (gs ds : List (List Given)) (ss ts us : List S) (y z w : List Samples) → After gs ss ts y z → After ds ts us z w → After (both gs ds) ss us y w
+  After-then [] [] [] [] [] y z w a b = tt
+  After-then (g ∷ gs) (d ∷ ds) (s ∷ ss) (t ∷ ts) (u ∷ us) y z w a b = (
+    a.0 ∙ ap (λ l. g ++ l) b.0 ∙ sym (append_assoc g d (acts.rest u w)),
+    omega (arith, a.1, b.1, length-append g d),
+    omega (arith, a.2, b.2, clips-append g d),
+    After-then gs ds ss ts us _ _ _ a.3 b.3,
+  )
+  After-then [] ds [] [] us y z w a b = absurd b
+  After-then (g ∷ gs) ds (s ∷ ss) (t ∷ ts) us y z w a b = absurd b
+  After-then gs ds ss ts us y z w a b = absurd a
+
+  -- a frame that is handed over is what one stage gave
+  After-hand : (i : ℕ) (out : Option Samples) (old new : List S) → HandedOver acts i out old new → (ds : List (List Given)) × ((z : List Samples) → After ds old new z z)
+  After-hand zero (Some frame) (s ∷ []) (s' ∷ []) gave =
+      let given : (acts.counts s').given ≡ (acts.counts s).given + 1 = ap (λ (c : Counts). c.given) gave.gives.counted in
+      let clips : (acts.counts s').clips ≡ (acts.counts s).clips + gave.gives.clips = ap (λ (c : Counts). c.clips) gave.gives.counted in
+      ((record { samples = frame; clips = gave.gives.clips } ∷ []) ∷ [], λ z. (gave.gives.first z, omega arith, omega arith, tt))
+  After-hand zero None (s ∷ t ∷ stages) (s' ∷ t' ∷ stages') h =
+      let given : (acts.counts s').given ≡ (acts.counts s).given + 1 = ap (λ (c : Counts). c.given) h.1.gives.counted in
+      let clips : (acts.counts s').clips ≡ (acts.counts s).clips + h.1.gives.clips = ap (λ (c : Counts). c.clips) h.1.gives.counted in
+      let still : (acts.counts t').given ≡ (acts.counts t).given = ap (λ (c : Counts). c.given) h.2.counted in
+      let alike : (acts.counts t').clips ≡ (acts.counts t).clips = ap (λ (c : Counts). c.clips) h.2.counted in (
+        (record { samples = h.0; clips = h.1.gives.clips } ∷ []) ∷ [] ∷ nones stages,
+        λ z.
+            let e : acts.rest t (frames_of (acts.rest s z)) ≡ acts.rest t' (frames_of (acts.rest s' z)) = ap (λ w. acts.rest t (frames_of w)) (h.1.gives.first z) ∙ sym (h.2.rest (frames_of (acts.rest s' z))) in
+            (h.1.gives.first z, omega arith, omega arith, (e, omega arith, omega arith, rw (h.3, e) (After-same stages _))),
+      )
+  After-hand (suc i) out (s ∷ stages) (s' ∷ stages') h =
+      let r = After-hand i out stages stages' h.1 in
+      ([] ∷ r.0, λ z. rw h.0 (refl, omega arith, omega arith, r.1 _))
+  After-hand i out old new h = absurd h
+
+  -- a frame that comes in is given by none
+  After-fed : (frame : Samples) (out : Option Samples) (old new : List S) → Fed acts frame out old new → (z : List Samples) → After (nones old) old new (frame ∷ z) z
+  After-fed frame (Some x) [] [] e z = tt
+  After-fed frame None (s ∷ stages) (s' ∷ stages') h z =
+      let still : (acts.counts s').given ≡ (acts.counts s).given = ap (λ (c : Counts). c.given) h.0.counted in
+      let alike : (acts.counts s').clips ≡ (acts.counts s).clips = ap (λ (c : Counts). c.clips) h.0.counted in
+      (sym (h.0.rest z), omega arith, omega arith, rw (h.1, h.0.rest z) (After-same stages _))
+  After-fed frame out old new h z = absurd h
+
+  -- what each stage gave while the flow took these frames
+  record Past (first : Parts S) (xs : List Samples) (f : Parts S) : Type 0 where
+    gs : List (List Given)
+    all : (z : List Samples) → After gs first.stages f.stages (option_to_list first.inlet ++ (xs ++ z)) (option_to_list f.inlet ++ z)
+
+  Past-step : (first f f' : Parts S) (xs : List Samples) → Past first xs f → (ds : List (List Given)) → ((z : List Samples) → After ds f.stages f'.stages (option_to_list f.inlet ++ z) (option_to_list f'.inlet ++ z)) → Past first xs f'
+  Past-step first f f' xs p ds more = record { gs = both p.gs ds; all = λ z. After-then p.gs ds first.stages f.stages f'.stages _ _ _ (p.all z) (more z) }
+
+  Past-took : (first f f' : Parts S) (xs : List Samples) (x : Samples) → Past first xs f → f.inlet ≡ None → f' ≡ record f { inlet = Some x } → Past first (xs ++ x ∷ []) f'
+  Past-took first f f' xs x p none e =
+      let stages : f'.stages ≡ f.stages = ap (λ (h : Parts S). h.stages) e in
+      let inlet : f'.inlet ≡ Some x = ap (λ (h : Parts S). h.inlet) e in
+      record {
+        gs = p.gs;
+        all = λ z.
+            let before = p.all (x ∷ z) in
+            let empty : option_to_list f.inlet ++ (x ∷ z) ≡ x ∷ z = ap (λ (o : Option Samples). option_to_list o ++ (x ∷ z)) none in
+            rw (stages, inlet, append_assoc xs (x ∷ []) z) (rw empty at before);
+      }
+
+  Past-moved : (first f f' : Parts S) (step : _) (xs : List Samples) → (f.ended ≡ false → Past first xs f) → MovedOn acts f step f' → f'.ended ≡ false → Past first xs f'
+  Past-moved first f f' step xs p (inl m) running =
+      let still : f'.ended ≡ f.ended = ap (λ (h : Parts S). h.ended) m.others in
+      let inlet : f'.inlet ≡ f.inlet = ap (λ (h : Parts S). h.inlet) m.others in
+      let r = After-hand m.place m.out f.stages f'.stages m.over in
+      Past-step first f f' xs (p (sym still ∙ running)) r.0 (λ z. rw inlet (r.1 (option_to_list f.inlet ++ z)))
+  Past-moved first f f' step xs p (inr (inl m)) running =
+      let still : f'.ended ≡ f.ended = ap (λ (h : Parts S). h.ended) m.others in
+      let inlet : f'.inlet ≡ None = ap (λ (h : Parts S). h.inlet) m.others in
+      Past-step first f f' xs (p (sym still ∙ running)) (nones f.stages) (λ z. rw (inlet, m.inlet) (After-fed m.frame m.out f.stages f'.stages m.fed z))
+  Past-moved first f f' step xs p (inr (inr m)) running =
+      let still : f'.ended ≡ f.ended = ap (λ (h : Parts S). h.ended) m.others in
+      let over = m.ended in
+      absurd (cc)
+
+  Past-reached : (first f : Parts S) (xs gs : List Samples) → Reached acts first xs gs f → f.ended ≡ false → Past first xs f
+  Past-reached first f xs gs untouched running = record { gs = nones first.stages; all = λ z. After-same first.stages _ }
+  Past-reached first f xs gs (took ys hs x g g' r hungry e) running =
+      Past-took first g g' ys x (Past-reached first g ys hs r hungry.not_ended) hungry.empty e
+  Past-reached first f xs gs (told_end ys hs g g' r hungry e) running =
+      let over : g'.ended ≡ true = ap (λ (h : Parts S). h.ended) e in
+      absurd (cc)
+  Past-reached first f xs gs (stepped ys hs step g g' r m) running = Past-moved first g g' step ys (λ e. Past-reached first g ys hs r e) m running
+
+  -- what new stages gave is the front of what their definitions say
+  After-firsts : (gs : List (List Given)) (ss ts : List S) (y z : List Samples) → AllNew acts ss → After gs ss ts y z → firsts (map (λ s. (acts.counts s).given) ts) (meanings acts.meaning (recipes acts ss) y) ≡ gs
+  After-firsts [] [] [] y z new a = refl
+  After-firsts (g ∷ gs) (s ∷ ss) (t ∷ ts) y z new a =
+      let none : (acts.counts s).given ≡ 0 = ap (λ (c : Counts). c.given) new.0.counts in
+      let count : length g ≡ (acts.counts t).given = omega (arith, a.1) in
+      let first : take (acts.counts t).given (acts.meaning (acts.recipe s) y) ≡ g = ap (take (acts.counts t).given) (sym (new.0.rest y) ∙ a.0) ∙ take_at g (acts.rest t z) _ count in
+      let others = After-firsts gs ss ts _ _ new.1 (rw (new.0.rest y) at a.3) in
+      rw (first, others) refl
+  After-firsts gs ss ts y z new a = absurd a
+
+  After-clips : (gs : List (List Given)) (ss ts : List S) (y z : List Samples) → AllNew acts ss → After gs ss ts y z → map (λ s. (acts.counts s).clips) ts ≡ map clips_of gs
+  After-clips [] [] [] y z new a = refl
+  After-clips (g ∷ gs) (s ∷ ss) (t ∷ ts) y z new a =
+      let none : (acts.counts s).clips ≡ 0 = ap (λ (c : Counts). c.clips) new.0.counts in
+      let here : (acts.counts t).clips ≡ clips_of g = omega (arith, a.2) in
+      rw (here, After-clips gs ss ts _ _ new.1 a.3) refl
+  After-clips gs ss ts y z new a = absurd a
+
+  Past-clips : (first f : Parts S) (xs : List Samples) → AllNew acts first.stages → first.inlet ≡ None → Past first xs f
+      → map (λ s. (acts.counts s).clips) f.stages ≡ clips_in acts.meaning (map (λ s. (acts.counts s).given) f.stages) (recipes acts first.stages) xs
+  Past-clips first f xs new empty p =
+      let came : option_to_list first.inlet ++ (xs ++ []) ≡ xs = ap (λ (o : Option Samples). option_to_list o ++ (xs ++ [])) empty ∙ append-nil xs in
+      let all = rw came at (p.all []) in
+      After-clips p.gs first.stages f.stages xs _ new all ∙ ap (map clips_of) (sym (After-firsts p.gs first.stages f.stages xs _ new all))
+
+  -- what the effects of a new flow counted as clipped is what is clipped in the first frames that their definitions give
+  pub clips-reached : (first f : Parts S) (xs gs : List Samples) → AllNew acts first.stages → first.inlet ≡ None → Reached acts first xs gs f → f.ended ≡ false
+      → map (λ s. (acts.counts s).clips) f.stages ≡ clips_in acts.meaning (map (λ s. (acts.counts s).given) f.stages) (recipes acts first.stages) xs
+  clips-reached first f xs gs new empty r running =
+      Past-clips first f xs new empty (Past-reached first f xs gs r running)
+
+  -- what each stage has given is what was due
+  pub givens-due : (n : ℕ) (over : Bool) (stages : List S) → over ≡ false → AllSettled acts stages → Joined acts n over stages → map (λ s. (acts.counts s).given) stages ≡ dues (kinds acts stages) n
+  givens-due n over [] f dry j = refl
+  givens-due n over (s ∷ stages) f dry j =
+      let open_ = none-true _ _ j.1 f in
+      let due : (acts.counts s).given ≡ (acts.kind_of (acts.recipe s)).due n = dry.1.due open_ ∙ ap (acts.kind_of (acts.recipe s)).due j.0 in
+      let others = givens-due (acts.counts s).given _ stages (rw open_ refl) dry.2 j.3 in
+      rw (others, due) refl
+
+  given-sum : (stages : List S) → given_of acts stages ≡ sum (map (λ s. (acts.counts s).given) stages)
+  given-sum [] = refl
+  given-sum (s ∷ stages) = ap (λ n. (acts.counts s).given + n) (given-sum stages) ∙ sym (sum_by-cons (λ (n : ℕ). n) (acts.counts s).given (map (λ s. (acts.counts s).given) stages))
+
+  -- the hand-overs of a hungry flow are the frames taken and those that were due
+  pub moves-due : (f : Parts S) (counts : List ℕ) → IsHungry acts f → map (λ s. (acts.counts s).given) f.stages ≡ counts → moves_of acts f ≡ taken_of f + sum counts
+  moves-due f counts hungry e =
+      let left : taken_of f ≡ f.left = rw (hungry.empty) (omega arith) in
+      let all = given-sum f.stages ∙ ap sum e in
+      omega arith
+
+  -- the same stages have the same due
+  dues-same : (start at : Parts S) (n : ℕ) → recipes acts at.stages ≡ recipes acts start.stages → taken_of at ≡ n → dues (kinds acts at.stages) (taken_of at) ≡ dues (kinds acts start.stages) n
+  dues-same start at n stay e = ap (λ (rs : List R). dues (map acts.kind_of rs) (taken_of at)) stay ∙ ap (dues (kinds acts start.stages)) e
+
+  -- what was handed over, where all that was due was given
+  pub moves-stopped : (start at : Parts S) (n moves : ℕ) → IsHungry acts at → recipes acts at.stages ≡ recipes acts start.stages → taken_of at ≡ n
+      → map (λ s. (acts.counts s).given) at.stages ≡ dues (kinds acts at.stages) (taken_of at) → moves ≡ moves_of acts at → moves ≡ n + sum (dues (kinds acts start.stages) n)
+  moves-stopped start at n moves hungry stay taken due is = is ∙ moves-due at (dues (kinds acts start.stages) n) hungry (due ∙ dues-same start at n stay taken) ∙ ap (λ m. m + sum (dues (kinds acts start.stages) n)) taken
+
+  -- what was clipped by then
+  pub clips-stopped : (start at : Parts S) (frames given : List Samples) (n : ℕ) → IsHungry acts start → IsHungry acts at → recipes acts at.stages ≡ recipes acts start.stages → taken_of at ≡ n
+      → map (λ s. (acts.counts s).given) at.stages ≡ dues (kinds acts at.stages) (taken_of at) → Reached acts start frames given at → AllNew acts start.stages
+      → map (λ s. (acts.counts s).clips) at.stages ≡ clips_in acts.meaning (dues (kinds acts start.stages) n) (recipes acts start.stages) frames
+  clips-stopped start at frames given n fresh hungry stay taken due reached new =
+      clips-reached start at frames given new fresh.empty reached hungry.not_ended
+      ∙ ap (λ counts. clips_in acts.meaning counts (recipes acts start.stages) frames) (due ∙ dues-same start at n stay taken)

@@ -1,0 +1,210 @@
+use Rattle.std.proofs.Common.{◌≡◌, ℕ, ◌+◌, ◌*◌, ◌∙◌, [], length, drop, refl, subst, sym, ap, arith, false, true}
+use Rattle.fx_frame.specs.Io.{saturated}
+use Rattle.fx_sound.specs.Runs.{Ran, Ran-start, Ran-turn, Ran-whole, Takes-none}
+use Rattle.fx_sound.specs.Container.{after_frames}
+use Rattle.fx_sound.specs.Sound.{Reading, size_of}
+use Rattle.fx_sound.specs.Source.{to_come}
+use Rattle.std.proofs.lemmas.Result.{err_from_is_err_and}
+use Rattle.std.specs.Prelude.{Some}
+use Rattle.fx_run.specs.Run.{is_write_failed}
+use Rattle.fx_run.specs.Pump.{Start}
+use Rattle.fx_run.proofs.Blocks.{Pumped-turn}
+use Rattle.fx_run.proofs.Draining.{given_by-few}
+use Rattle.fx_run.proofs.Passing.{settled, Flowed-end, Flowed-start, FlowedFront-end, FlowedFront-start, FlowedFront-turn, RanToEnd-end, RanToFailure-failed, not-both, sound_frames-more}
+use Rattle.fx_run.proofs.Sending.{Sent-start, WroteFront-sent}
+use Rattle.fx_run.proofs.pump.pump.Goals as goal
+
+pub returns-in_err-push-clause-write_failed : goal.returns-in_err-push-clause-write_failed
+returns-in_err-push-clause-write_failed g c = λ _ bytes known.
+    rw (c.requires.fresh.0)
+    (FlowedFront-start g.S.Stage.acts c.args.flow.now c.args.outlet.now.coding _ _ _ _ c.args.head.now c.requires.new.1 c.requires.empty.2
+    (WroteFront-sent _ _ _ [] c.args.head.now (c.in_err-push.ensures.sent_err (g.W.ByteOut.writes.taken c.args.writer.now) [] (Sent-start _ _ c.requires.empty.0 c.requires.empty.1))))
+
+pub loop-turn-init : goal.loop-turn-init
+loop-turn-init g c =
+    let p = c.args.progress.now in
+    let fresh : p.frames ≡ 0 = c.requires.fresh.0 in
+    let none : 0 * size_of p ≡ 0 = omega arith in
+    record {
+      turns = omega arith;
+      pumped = record {
+        most = omega (arith, fresh);
+        begun = c.requires.fresh.1;
+        ends = (c.requires.fresh.2, c.requires.fresh.3);
+        at = (Ran-start p [] (Some []) refl).now_is ∙ ap (after_frames p) (sym fresh);
+        size = refl;
+        hungry = c.requires.hungry;
+        taken = c.requires.new.0 ∙ sym fresh;
+        width = c.requires.width;
+        stay = refl;
+        kept = refl;
+        wants = λ m h. absurd (omega (arith, fresh));
+        room = omega (arith, c.in_ok-push.ensures.count, ap length c.requires.empty.0, c.requires.empty.1, c.requires.head);
+        few = omega (arith, c.requires.empty.2);
+        coded = refl;
+        ran = λ bytes known.
+            let Read : ℕ → Type 0 = λ n. Ran p p bytes n (to_come g.R.ByteIn.reads.rest c.args.source.now) in
+            subst Read (sym fresh) (Ran-start p bytes (to_come g.R.ByteIn.reads.rest c.args.source.now) known);
+        flowed = λ bytes known.
+            rw fresh
+            (Flowed-start g.S.Stage.acts c.args.flow.now c.args.outlet.now.coding _ _ _ _ c.args.head.now c.requires.new.1 c.requires.empty.2
+            (c.in_ok-push.ensures.sent (g.W.ByteOut.writes.taken c.args.writer.now) [] (Sent-start _ _ c.requires.empty.0 c.requires.empty.1)));
+        takes = rw (fresh, none) (Takes-none g.R.ByteIn.reads.told c.args.source.now);
+        reads = refl;
+      };
+      writes = c.in_ok-push.ensures.failures;
+    }
+
+pub returns-in_err-end_flow-clause-write_failed : goal.returns-in_err-end_flow-clause-write_failed
+returns-in_err-end_flow-clause-write_failed g c = λ _ bytes known.
+    let old = c.loop-turn.invariant.pumped in
+    (FlowedFront-end g.S.Stage.acts c.args.flow.now c.loop-turn.flow _ c.end_flow.new.flow c.args.outlet.now.coding _ _ _ _ _ _ _ _ c.args.head.now (old.flowed bytes known) old.hungry refl
+    (rw (old.coded) at c.in_err-end_flow.ensures.cut_off))
+
+pub returns-then-is_spent-clause-sent : goal.returns-then-is_spent-clause-sent
+returns-then-is_spent-clause-sent g c = λ _ bytes known.
+    let old = c.loop-turn.invariant.pumped in
+    (Flowed-end g.S.Stage.acts c.args.flow.now c.loop-turn.flow _ c.end_flow.new.flow c.args.outlet.now.coding _ _ _ _ _ _ _ _ c.args.head.now (old.flowed bytes known) old.hungry refl
+    (rw (old.coded) at c.in_ok-end_flow.ensures.drained))
+
+pub returns-in_err-drain-in-Ok-Some-clause-write_failed : goal.returns-in_err-drain-in-Ok-Some-clause-write_failed
+returns-in_err-drain-in-Ok-Some-clause-write_failed g c = λ _ bytes known.
+    let old = c.loop-turn.invariant.pumped in
+    let next = rw c.in-Ok-Some.field-0-is at c.in-Ok-Some.ensures in
+    let turn : ℕ = c.loop-turn.progress.frames in
+    let count : c.next_frame.new.progress.frames ≡ turn + 1 = ap (λ (p : Reading). p.frames) next.counted in
+    let ran = old.ran bytes known in
+    let taken = next.frame (drop (turn * size_of c.args.progress.now) bytes) ran.to_come_is in
+    rw (count, sound_frames-more _ _ _ _ _ _ _ ran taken)
+    (FlowedFront-turn g.S.Stage.acts c.args.flow.now c.loop-turn.flow c.take.new.self c.drain.new.flow c.args.outlet.now.coding _ _ _ _ _ _ _ _ _ c.args.head.now (old.flowed bytes known) old.hungry c.take.ensures
+    (rw (old.coded) at c.in_err-drain-in-Ok-Some.ensures.cut_off))
+
+pub returns-in_err-drain-in-Ok-Some-clause-whole : goal.returns-in_err-drain-in-Ok-Some-clause-whole
+returns-in_err-drain-in-Ok-Some-clause-whole g c = λ bytes known.
+    let old = c.loop-turn.invariant.pumped in
+    let next = rw c.in-Ok-Some.field-0-is at c.in-Ok-Some.ensures in
+    let turn : ℕ = c.loop-turn.progress.frames in
+    let count : c.next_frame.new.progress.frames ≡ turn + 1 = ap (λ (p : Reading). p.frames) next.counted in
+    let ran = old.ran bytes known in
+    rw count (Ran-turn _ _ _ bytes _ turn _ _ ran (next.frame (drop (turn * size_of c.args.progress.now) bytes) ran.to_come_is) next.counted).whole
+
+pub returns-in_err-end_flow-in-Ok-None-clause-write_failed : goal.returns-in_err-end_flow-in-Ok-None-clause-write_failed
+returns-in_err-end_flow-in-Ok-None-clause-write_failed g c = λ _ bytes known.
+    let old = c.loop-turn.invariant.pumped in
+    let next = rw c.in-Ok-None.field-0-is at c.in-Ok-None.ensures in
+    rw (next.over.1)
+    (FlowedFront-end g.S.Stage.acts c.args.flow.now c.loop-turn.flow _ c.end_flow-in-Ok-None.new.flow c.args.outlet.now.coding _ _ _ _ _ _ _ _ c.args.head.now (old.flowed bytes known) old.hungry refl
+    (rw (old.coded) at c.in_err-end_flow-in-Ok-None.ensures.cut_off))
+
+pub returns-in_err-end_flow-in-Ok-None-clause-ends : goal.returns-in_err-end_flow-in-Ok-None-clause-ends
+returns-in_err-end_flow-in-Ok-None-clause-ends g c =
+    let old = c.loop-turn.invariant.pumped in
+    let next = rw c.in-Ok-None.field-0-is at c.in-Ok-None.ensures in
+    rw (next.over.0) (λ bytes known.
+    let ran = old.ran bytes known in
+    rw (next.over.1) (RanToEnd-end _ _ _ bytes c.loop-turn.progress.frames _ ran (next.end old.begun (drop (c.loop-turn.progress.frames * size_of c.args.progress.now) bytes) ran.to_come_is)))
+
+pub returns-in-Ok-None-clause-sent : goal.returns-in-Ok-None-clause-sent
+returns-in-Ok-None-clause-sent g c = λ _ bytes known.
+    let old = c.loop-turn.invariant.pumped in
+    let next = rw c.in-Ok-None.field-0-is at c.in-Ok-None.ensures in
+    rw (next.over.1)
+    (Flowed-end g.S.Stage.acts c.args.flow.now c.loop-turn.flow _ c.end_flow-in-Ok-None.new.flow c.args.outlet.now.coding _ _ _ _ _ _ _ _ c.args.head.now (old.flowed bytes known) old.hungry refl
+    (rw (old.coded) at c.in_ok-end_flow-in-Ok-None.ensures.drained))
+
+pub returns-in-Ok-None-clause-ends : goal.returns-in-Ok-None-clause-ends
+returns-in-Ok-None-clause-ends g c =
+    let old = c.loop-turn.invariant.pumped in
+    let next = rw c.in-Ok-None.field-0-is at c.in-Ok-None.ensures in
+    rw (next.over.0) (λ bytes known.
+    let ran = old.ran bytes known in
+    rw (next.over.1) (RanToEnd-end _ _ _ bytes c.loop-turn.progress.frames _ ran (next.end old.begun (drop (c.loop-turn.progress.frames * size_of c.args.progress.now) bytes) ran.to_come_is)))
+
+pub returns-in-Err-ReadFailed-clause-read_failed : goal.returns-in-Err-ReadFailed-clause-read_failed
+returns-in-Err-ReadFailed-clause-read_failed g c = λ _.
+    let old = c.loop-turn.invariant.pumped in
+    let next = rw c.in-Err-ReadFailed.field-0-is at c.in-Err-ReadFailed.ensures in
+    let count : c.next_frame.new.progress.frames ≡ c.loop-turn.progress.frames = ap (λ (p : Reading). p.frames) next.err in
+    rw count (RanToFailure-failed g.R.ByteIn.reads.told c.args.progress.now c.loop-turn.progress c.loop-turn.progress.frames c.args.source.now c.loop-turn.source _ old.at old.takes (next.read_failed refl))
+
+pub returns-in-Err-TooLong-clause-too_long : goal.returns-in-Err-TooLong-clause-too_long
+returns-in-Err-TooLong-clause-too_long g c = λ _.
+    let old = c.loop-turn.invariant.pumped in
+    let next = rw c.in-Err-TooLong.field-0-is at c.in-Err-TooLong.ensures in
+    let most = next.too_long refl in (
+      ap (λ (p : Reading). p.frames) next.err ∙ most.0,
+      λ bytes known.
+          let ran = old.ran bytes known in
+          let room = most.1 (drop (c.loop-turn.progress.frames * size_of c.args.progress.now) bytes) ran.to_come_is in
+          let whole = Ran-whole _ _ bytes c.loop-turn.progress.frames _ ran room in
+          rw most.0 at whole,
+    )
+
+pub returns-in-Err-ReadFailed-clause-room : goal.returns-in-Err-ReadFailed-clause-room
+returns-in-Err-ReadFailed-clause-room g c = λ _.
+    let old = c.loop-turn.invariant.pumped in
+    let few = given_by-few g.S.Stage.acts g.met.S.Stage.rises c.args.flow.now c.loop-turn.flow old.stay c.requires.fits c.stages-stages.ensures.most c.stages-stages.ensures.sound.few in
+    omega (arith, few, old.room)
+
+pub returns-in-Err-TooLong-clause-room : goal.returns-in-Err-TooLong-clause-room
+returns-in-Err-TooLong-clause-room g c = λ _.
+    let old = c.loop-turn.invariant.pumped in
+    let few = given_by-few g.S.Stage.acts g.met.S.Stage.rises c.args.flow.now c.loop-turn.flow old.stay c.requires.fits c.stages-stages.ensures.most c.stages-stages.ensures.sound.few in
+    omega (arith, few, old.room)
+
+pub returns-then-is_spent-clause-settled : goal.returns-then-is_spent-clause-settled
+returns-then-is_spent-clause-settled g c = λ _ bytes known z.
+    let old = c.loop-turn.invariant.pumped in
+    let same = c.is_spent.ensures.same c.if-is_spent.true in
+    (settled g.S.Stage.acts c.args.flow.now c.loop-turn.flow _ _ z (old.flowed bytes known).through old.hungry.not_ended (λ y. same y))
+
+pub returns-in_err-pump_block : goal.returns-in_err-pump_block
+returns-in_err-pump_block g c =
+    let next = rw c.in-Ok-Some.field-0-is at c.in-Ok-Some.ensures in
+    let drained = c.in_ok-drain-in-Ok-Some.ensures in
+    let old = c.loop-turn.invariant.pumped in
+    let turned = Pumped-turn g.S.Stage.acts g.R.ByteIn.reads _ c.loop-turn.flow c.take.new.self c.drain.new.flow c.loop-turn.source c.next_frame.new.source c.loop-turn.progress c.next_frame.new.progress
+    _ _ _ _ _ _ _ _ old next.counted next.most next.frame next.told next.failures (sym (c.is_spent.ensures.enough old.hungry) ∙ c.if-is_spent.false) c.take.ensures drained.drained drained.waits drained.room drained.few in
+    let first : Start g.row.S.Denot g.row.R.Denot =
+    record { flow = c.args.flow.now; source = c.args.source.now; progress = c.args.progress.now; coding = c.args.outlet.now.coding; head = c.args.head.now; wrote = g.W.ByteOut.writes.taken c.args.writer.now } in
+    let front = c.in_err-pump_block.ensures.cut_off first (rw drained.coding turned) in
+    let failed = err_from_is_err_and c.from_residual-in_err-pump_block.result c.from_residual-in_err-pump_block.ensures.1 in
+    rw (failed.1, failed.2)
+    (record {
+      sent = λ other. not-both true other refl;
+      write_failed = λ _. front.flowed;
+      room = λ other. not-both true other refl;
+      done = tt;
+      hungry = λ other. not-both true other refl;
+      due = λ other. not-both true other refl;
+      recipes = front.stay;
+      width = front.kept;
+      taken = front.taken;
+      whole = front.whole;
+      ends = rw front.begun front.ends;
+      met = rw (front.begun, front.running) refl;
+      over = λ other. not-both true other refl;
+      wants = front.wants;
+      enough = tt;
+      settled = tt;
+      not_enough = λ other. not-both true other refl;
+      read_failed = λ other. not-both false refl other;
+      too_long = λ other. not-both true (ap is_write_failed other) refl;
+      most = front.most;
+      reads = front.reads;
+      writes = c.in_err-pump_block.ensures.failures ∙ ap (λ n. saturated (n + 1)) (drained.failures ∙ c.loop-turn.invariant.writes);
+    })
+
+pub loop-turn-preserved : goal.loop-turn-preserved
+loop-turn-preserved g c =
+    let next = rw c.in-Ok-Some.field-0-is at c.in-Ok-Some.ensures in
+    let drained = c.in_ok-drain-in-Ok-Some.ensures in
+    let old = c.loop-turn.invariant.pumped in
+    let turned = Pumped-turn g.S.Stage.acts g.R.ByteIn.reads _ c.loop-turn.flow c.take.new.self c.drain.new.flow c.loop-turn.source c.next_frame.new.source c.loop-turn.progress c.next_frame.new.progress
+    _ _ _ _ _ _ _ _ old next.counted next.most next.frame next.told next.failures (sym (c.is_spent.ensures.enough old.hungry) ∙ c.if-is_spent.false) c.take.ensures drained.drained drained.waits drained.room drained.few in
+    let count = ap (λ (p : Reading). p.frames) next.counted in
+    record {
+      turns = omega (arith, count, c.in_ok-pump_block.ensures.more, c.loop-turn.invariant.turns);
+      pumped = c.in_ok-pump_block.ensures.pumped _ (rw drained.coding turned);
+      writes = c.in_ok-pump_block.ensures.failures ∙ drained.failures ∙ c.loop-turn.invariant.writes;
+    }

@@ -1,0 +1,7 @@
+pub mod Block
+pub mod Due
+pub mod Outlet
+pub mod Pump
+pub mod Report
+pub mod Run
+pub mod Through

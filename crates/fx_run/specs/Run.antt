@@ -1,0 +1,63 @@
+-- What a run has taken off a sound, and what it sends (this project's profile).
+use Rattle.std.specs.Prelude.{◌≡◌, ℕ, ◌+◌, ◌-◌, ◌/◌, ◌%◌, ◌^◌, ◌<◌, ◌≤◌, Bool, true, false, List, ◌++◌, length, Option, Result, Ok, Err}
+use Rattle.fx_frame.specs.declared.coding.Coding.{Coding}
+use Rattle.fx_frame.specs.Frame.{Samples}
+use Rattle.fx_frame.specs.Stage.{Acts, Kind}
+use Rattle.fx_flow.specs.Parts.{Parts}
+use Rattle.fx_flow.specs.Composed.{enough_for}
+use Rattle.fx_sound.specs.Container.{first_frames}
+use Rattle.fx_sound.specs.Output.{Pending, Sent}
+use Rattle.fx_sound.specs.Sound.{Reading, at_most_announced, lacking, size_of, within}
+use Rattle.fx_sound.specs.Source.{Held}
+use Rattle.fx_run.specs.declared.pump.Cause.{Cause}
+use Rattle.fx_run.specs.declared.pump.Cause.TheVariants.{ReadFailed, WriteFailed, TooLong}
+use Rattle.fx_run.specs.Outlet.{WroteFront, coded, coded_clips}
+use Rattle.fx_run.specs.Through.{Through}
+
+-- did a read fail
+abbrev pub is_read_failed : {X : Type 0} → Result X Cause → Bool
+is_read_failed (Ok x) = false
+is_read_failed (Err ReadFailed) = true
+is_read_failed (Err WriteFailed) = false
+is_read_failed (Err TooLong) = false
+
+-- did a write fail
+abbrev pub is_write_failed : {X : Type 0} → Result X Cause → Bool
+is_write_failed (Ok x) = false
+is_write_failed (Err ReadFailed) = false
+is_write_failed (Err WriteFailed) = true
+is_write_failed (Err TooLong) = false
+
+-- the first n frames of a sound
+abbrev pub sound_frames : Reading → ℕ → List ℕ → List Samples
+sound_frames p n bytes = first_frames p.coding p.channels n bytes
+
+-- all frames of the sound were taken, and so many bytes are stray or lack
+pub record RanToEnd (start : Reading) (bytes : List ℕ) (n missing stray : ℕ) : Type 0 where
+  pub count : n ≡ length (within start.left bytes) / size_of start
+  pub strays : stray ≡ length (within start.left bytes) % size_of start
+  pub lacks : missing ≡ lacking start.left (length (within start.left bytes))
+
+-- The reader failed after it had told so many bytes: all whole frames of them were taken.
+pub record RanToFailure {R : Type 0} (told : R → ℕ) (old : Held R) (new : R) (start : Reading) (n : ℕ) : Type 0 where
+  pub count : told new < 2 ^ 64 - 1 → n ≡ at_most_announced start.left (length old.bytes + (told new - told old.reader)) / size_of start
+  pub later : told new < 2 ^ 64 - 1 → told old.reader ≤ told new
+
+-- fewer than n frames were not enough for any effect
+abbrev pub WantsMore : List Kind → ℕ → Type 0
+WantsMore ks n = (m : ℕ) → m < n → enough_for ks m ≡ false
+
+module _ {S R : Type 0} (acts : Acts S R) where
+  -- A flow took these frames, and what it gave for them was sent behind the head.
+  pub record Flowed (start at : Parts S) (coding : Coding) (frames : List Samples) (clips : ℕ) (first now : Option (List ℕ)) (out : Pending) (head : List ℕ) : Type 0 where
+    pub given : List Samples
+    pub through : Through acts start at frames given
+    pub clipped : clips ≡ coded_clips coding given
+    pub sent : Sent first now out (head ++ coded coding given)
+
+  -- A flow took these frames, and the writer took a front of the head and what the flow gave for them.
+  pub record FlowedFront (start at : Parts S) (coding : Coding) (frames : List Samples) (clips : ℕ) (first now : Option (List ℕ)) (out : Pending) (head : List ℕ) : Type 0 where
+    pub given : List Samples
+    pub through : Through acts start at frames given
+    pub clipped : clips ≡ coded_clips coding given
+    pub front : WroteFront first now out.written (head ++ coded coding given)

@@ -1,0 +1,194 @@
+//! A whole sound through a flow, from its source to a writer.
+ghost use Rattle.std.specs.Prelude.{◌≡◌, ℕ, ◌+◌, ◌*◌, ◌<◌, ◌≤◌, ◌^◌, ◌++◌, [], true, IfErr, IfOk, IsTrue, List, MatchResult, None, OnErr, OnOk, Option, length, map};
+ghost use Rattle.fx_run.specs.Due.{dues};
+ghost use Rattle.fx_run.specs.Outlet.{WroteAll, WroteFront};
+ghost use Rattle.fx_run.specs.Report.{Completed, HasCause, ReadBefore, StoppedAt, cause_of, clips_now, pad, report_at, report_in, start_of};
+ghost use Rattle.fx_run.specs.Run.{RanToFailure, WantsMore, sound_frames};
+ghost use Rattle.fx_flow.specs.Parts.{given_by, moves_of, most_of, taken_of, work};
+ghost use Rattle.fx_flow.specs.Sound.{most_frames};
+ghost use Rattle.fx_flow.specs.Steps.{IsDone, IsHungry, wholes_of};
+ghost use Rattle.fx_frame.specs.Holds.{kinds, recipes, total};
+ghost use Rattle.fx_frame.specs.Io.{CountsFailure};
+ghost use Rattle.fx_sound.specs.Kind.{is_coding_of};
+ghost use Rattle.fx_sound.specs.Known.{IfKnown};
+ghost use Rattle.fx_sound.specs.Output.{Sent, bytes_put};
+ghost use Rattle.fx_sound.specs.Source.{to_come};
+ghost use Rattle.fx_sound.specs.Writing.{written_head};
+
+use crate::outlet::Outlet;
+use crate::pump::{Cause, pump};
+use crate::report::{MOST_EFFECTS, Report, RunFault};
+use crate::target::Target;
+use fx_flow::flow::Flow;
+use fx_frame::stage::Stage;
+use fx_frame::{ByteIn, ByteOut, Failed, Feeds};
+use fx_sound::inner::Output;
+use fx_sound::{Head, HeadBytes, Kind, Progress, Source, head_bytes};
+
+// A zero byte behind an odd number of bytes of sound in a WAVE file.
+fn padding(target: Target, bytes: u64) -> &'static [u8]
+    ensures value { result.now ≡ pad target.kind target.named bytes }
+    ensures short { length result.now ≤ 1 }
+{
+    match target.kind {
+        Kind::Au => &[],
+        Kind::Wav if target.named && bytes % 2 == 1 => &[0],
+        Kind::Wav => &[],
+    }
+}
+
+// The clips of each stage, and 0 past the last.
+fn clips_of_stages<S: Stage>(flow: &Flow<S>) -> [u64; MOST_EFFECTS]
+    requires { length flow.now.stages ≤ MOST_EFFECTS }
+    ensures { result ≡ clips_now S.acts flow.now.stages }
+{
+    let mut clips = [0; MOST_EFFECTS];
+    'stages: for i in 0..flow.stages().len() {
+        clips[i] = flow.clips(i);
+    }
+    clips
+}
+
+// The report of a run that is as far as that.
+fn report_of<S: Stage>(flow: &Flow<S>, progress: &Progress, outlet: &Outlet) -> Report
+    requires { length flow.now.stages ≤ MOST_EFFECTS }
+    ensures frames_in { result.frames_in ≡ progress.now.frames }
+    ensures frames_out { result.frames_out ≡ given_by S.acts flow.now.left flow.now.stages }
+    ensures bytes_out { result.bytes_out ≡ outlet.now.output.written }
+    ensures moves { result.moves ≡ moves_of S.acts flow.now }
+    ensures work { result.moves ≤ work (kinds S.acts flow.now.stages) (taken_of flow.now) }
+    ensures done { IsDone S.acts flow.now → result.moves ≡ taken_of flow.now + total (λ w. w.given) (wholes_of S.acts flow.now []) }
+    ensures clips { result.clips ≡ clips_now S.acts flow.now.stages }
+    ensures due { IsHungry S.acts flow.now → map (λ s. (S.acts.counts s).given) flow.now.stages ≡ dues (kinds S.acts flow.now.stages) (taken_of flow.now) }
+    ensures out_clips { result.out_clips ≡ outlet.now.clips }
+    ensures ends { (result.missing ≡ progress.now.missing) × (result.stray ≡ progress.now.stray) }
+{
+    let _stages = flow.stages();
+    Report {
+        frames_in: progress.frames(),
+        frames_out: flow.given(),
+        bytes_out: outlet.output.bytes_out(),
+        moves: flow.moves(),
+        clips: clips_of_stages(flow),
+        out_clips: outlet.clips,
+        missing: progress.missing(),
+        stray: progress.stray(),
+    }
+}
+
+// Sends the last bytes, and all that waits, and flushes the writer.
+fn close<W: ByteOut>(outlet: &mut Outlet, writer: &mut W, last: &[u8]) -> Result<(), Failed>
+    requires short { length last.now ≤ 1 }
+    requires room { bytes_put outlet.old.output + 1 < 2 ^ 64 }
+    ensures wrote { OnOk result ((first : Option (List ℕ)) (all : List ℕ) → Sent first (W.writes.taken writer.old) outlet.old.output all → WroteAll first (W.writes.taken writer.new) outlet.new.output.written (all ++ last.now)) }
+    ensures front { OnErr result ((first : Option (List ℕ)) (all : List ℕ) → Sent first (W.writes.taken writer.old) outlet.old.output all → WroteFront first (W.writes.taken writer.new) outlet.new.output.written (all ++ last.now)) }
+    ensures flushed { OnOk result (W.writes.flushed writer.new ≡ true) }
+    ensures clips { outlet.new.clips ≡ outlet.old.clips }
+    ensures failures { CountsFailure (W.writes.failures writer.old) (W.writes.failures writer.new) result }
+{
+    outlet.output.push(writer, last)?;
+    outlet.output.finish(writer)
+}
+
+// The head of what is written, where its length is not known beforehand.
+fn streamed_head(target: Target) -> HeadBytes
+    requires coded { IsTrue (is_coding_of target.kind target.coding) }
+    requires rated { 1 ≤ target.rate }
+    requires channels { (1 ≤ target.channels) × (target.channels ≤ 16) }
+    ensures { result ≡ written_head target.kind target.rate target.channels target.coding None }
+{
+    head_bytes(
+        target.kind,
+        target.rate,
+        target.channels,
+        target.coding,
+        None,
+    )
+}
+
+/// Writes a streamed head, and what a new flow gives for all frames of the sound behind `head`.
+///
+/// Reads no more frames than some effect has enough of. After a failed read, and where the sound is too long, the frames
+/// then due are written; after a failed write the writer has a front of the whole output. Takes no memory.
+pub fn run_flow<R: ByteIn, S: Feeds, W: ByteOut>(
+    flow: &mut Flow<S>,
+    head: &Head,
+    target: Target,
+    source: &mut Source<R>,
+    writer: &mut W,
+) -> Result<Report, RunFault>
+    requires coded { IsTrue (is_coding_of target.kind target.coding) }
+    requires rated { 1 ≤ target.rate }
+    requires channels { (1 ≤ target.channels) × (target.channels ≤ 16) }
+    requires hungry { IsHungry S.acts flow.old }
+    requires new { (taken_of flow.old ≡ 0) × (given_by S.acts flow.old.left flow.old.stages ≡ 0) }
+    requires width { flow.old.channels ≡ head.now.channels }
+    requires count { length flow.old.stages ≤ MOST_EFFECTS }
+    requires fits { most_of (kinds S.acts flow.old.stages) most_frames ≤ 2 ^ 56 }
+
+    // Without a fault all that the flow gives for the sound was written.
+    ensures completed { IfOk result (λ r. IfKnown (to_come R.reads.rest source.old) (λ bytes.
+        Completed S.acts flow.old flow.new target (start_of head.now) bytes (sound_frames (start_of head.now) r.frames_in bytes) (W.writes.taken writer.old) (W.writes.taken writer.new) r)) }
+    ensures flushed { OnOk result (W.writes.flushed writer.new ≡ true) }
+    ensures done { OnOk result (IsDone S.acts flow.new) }
+
+    // After a fault the frames then due were written, or a front.
+    ensures stopped { IfErr result (λ f. IfKnown (to_come R.reads.rest source.old) (λ bytes.
+        StoppedAt S.acts flow.old flow.new target (start_of head.now) bytes (sound_frames (start_of head.now) (report_at f).frames_in bytes) (W.writes.taken writer.old) (W.writes.taken writer.new) f)) }
+    ensures read_failed { IfErr result (λ f. cause_of f ≡ Cause.ReadFailed → RanToFailure R.reads.told source.old source.new.reader (start_of head.now) (report_at f).frames_in) }
+
+    // The counts.
+    ensures wants { WantsMore (kinds S.acts flow.old.stages) (report_in result).frames_in }
+    ensures taken { (report_in result).frames_in ≡ taken_of flow.new }
+    ensures moves { (report_in result).moves ≡ moves_of S.acts flow.new }
+    ensures work { (report_in result).moves ≤ work (kinds S.acts flow.old.stages) (report_in result).frames_in }
+    ensures clips { (report_in result).clips ≡ clips_now S.acts flow.new.stages }
+    ensures recipes { recipes S.acts flow.new.stages ≡ recipes S.acts flow.old.stages }
+    ensures width { flow.new.channels ≡ flow.old.channels }
+
+    // A fault is answered only where its cause was counted.
+    ensures causes { MatchResult result
+        (λ _. (R.reads.failures source.new.reader ≡ R.reads.failures source.old.reader) × (W.writes.failures writer.new ≡ W.writes.failures writer.old))
+        (λ f. HasCause (cause_of f) (ReadBefore S.acts R.reads.told source.old source.new.reader flow.old flow.new (start_of head.now) (report_at f).frames_in (report_at f).frames_out) (R.reads.failures source.old.reader) (R.reads.failures source.new.reader) (W.writes.failures writer.old) (W.writes.failures writer.new)) }
+{
+    let mut progress = Progress::new(head);
+    let mut outlet = Outlet {
+        coding: target.coding,
+        clips: 0,
+        output: Output::new(),
+    };
+    let written = streamed_head(target);
+    let pumped = pump(
+        written.as_slice(),
+        flow,
+        source,
+        &mut progress,
+        &mut outlet,
+        writer,
+    );
+    match pumped {
+        Ok(()) => {
+            let sound = outlet
+                .output
+                .bytes_put()
+                .saturating_sub(written.as_slice().len() as u64);
+            let Ok(()) = close(&mut outlet, writer, padding(target, sound)) else {
+                return Err(RunFault::WriteFailed(report_of(flow, &progress, &outlet)));
+            };
+            Ok(report_of(flow, &progress, &outlet))
+        }
+        Err(Cause::WriteFailed) => Err(RunFault::WriteFailed(report_of(flow, &progress, &outlet))),
+        Err(Cause::ReadFailed) => {
+            let Ok(()) = close(&mut outlet, writer, &[]) else {
+                return Err(RunFault::WriteFailed(report_of(flow, &progress, &outlet)));
+            };
+            Err(RunFault::ReadFailed(report_of(flow, &progress, &outlet)))
+        }
+        Err(Cause::TooLong) => {
+            let Ok(()) = close(&mut outlet, writer, &[]) else {
+                return Err(RunFault::WriteFailed(report_of(flow, &progress, &outlet)));
+            };
+            Err(RunFault::TooLong(report_of(flow, &progress, &outlet)))
+        }
+    }
+}
