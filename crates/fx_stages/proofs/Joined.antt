@@ -16,13 +16,13 @@ use Rattle.fx_stages.specs.declared.stage.EffectStage.{EffectStage}
 use Rattle.fx_stages.specs.declared.stage.EffectStage.TheVariants as stages
 use Rattle.fx_stages.specs.Effects.{EffectRecipe, ForTrim, ForPad, ForFade, ForUpsample, ForDownsample, ForDelay, ForEcho, ForEchos, ForFir, ForRemix, ForVol, ForDcShift}
 use Rattle.fx_stages.specs.Stages.{effect_acts}
-use Rattle.fx_tap.specs.DcShiftState.{dcshift_acts}
-use Rattle.fx_tap.specs.DelayState.{delay_acts}
-use Rattle.fx_tap.specs.EchoState.{echo_acts}
-use Rattle.fx_tap.specs.EchosState.{echos_acts}
-use Rattle.fx_tap.specs.FirState.{fir_acts}
-use Rattle.fx_tap.specs.RemixState.{remix_acts}
-use Rattle.fx_tap.specs.VolState.{vol_acts}
+use Rattle.fx_map.specs.DcShiftState.{dcshift_acts}
+use Rattle.fx_past.specs.DelayState.{delay_acts}
+use Rattle.fx_past.specs.EchoState.{echo_acts}
+use Rattle.fx_past.specs.EchosState.{echos_acts}
+use Rattle.fx_past.specs.FirState.{fir_acts}
+use Rattle.fx_map.specs.RemixState.{remix_acts}
+use Rattle.fx_map.specs.VolState.{vol_acts}
 
 -- stages that behave so are stages of any effect, under a variant and with a recipe of theirs
 pub record Joins {S R : Type 0} (acts : Acts S R) (wrap : S → EffectStage) : Type 0 where

@@ -13,8 +13,8 @@ use Rattle.fx_stages.specs.declared.stage.EffectStage.{EffectStage}
 use Rattle.fx_stages.specs.declared.stage.EffectStage.TheVariants as stages
 use Rattle.fx_stages.specs.Stages.{effect_acts, sound_of}
 use Rattle.fx_stages.specs.Narrow.{AreNarrow, IsNarrow}
-use Rattle.fx_tap.specs.Mapped.{MapState}
-use Rattle.fx_tap.specs.Remix.{RemixArguments}
+use Rattle.fx_map.specs.Mapped.{MapState}
+use Rattle.fx_map.specs.Remix.{RemixArguments}
 
 pub narrow-hand : (channels : ℕ) (hand : Option Samples) → IsHand channels hand → AreNarrow (option_to_list hand)
 narrow-hand channels None h = All-nil (λ (x : Samples). All (FitsSigned w32) x)

@@ -8,14 +8,14 @@ use Rattle.fx_cut.specs.Trim.{TrimArguments, trim_kind, trim_meaning}
 use Rattle.fx_cut.specs.Upsample.{upsample_kind, upsample_meaning}
 use Rattle.fx_frame.specs.Frame.{Samples}
 use Rattle.fx_frame.specs.Stage.{Given, Kind}
-use Rattle.fx_tap.specs.DcShift.{dcshift_meaning}
-use Rattle.fx_tap.specs.Delay.{delay_kind, delayed}
-use Rattle.fx_tap.specs.Echo.{EchoArguments, echo, echo_kind}
-use Rattle.fx_tap.specs.Echos.{echos, echos_kind}
-use Rattle.fx_tap.specs.Fir.{FirArguments, filtered, fir_kind}
-use Rattle.fx_tap.specs.PerSample.{SampleArguments, sample_kind}
-use Rattle.fx_tap.specs.Remix.{RemixArguments, remix_kind, remix_meaning}
-use Rattle.fx_tap.specs.Vol.{vol_meaning}
+use Rattle.fx_map.specs.DcShift.{dcshift_meaning}
+use Rattle.fx_past.specs.Delay.{delay_kind, delayed}
+use Rattle.fx_past.specs.Echo.{EchoArguments, echo, echo_kind}
+use Rattle.fx_past.specs.Echos.{echos, echos_kind}
+use Rattle.fx_past.specs.Fir.{FirArguments, filtered, fir_kind}
+use Rattle.fx_map.specs.PerSample.{SampleArguments, sample_kind}
+use Rattle.fx_map.specs.Remix.{RemixArguments, remix_kind, remix_meaning}
+use Rattle.fx_map.specs.Vol.{vol_meaning}
 
 -- what the stage of an effect is made with
 pub data EffectRecipe : Type 0 where

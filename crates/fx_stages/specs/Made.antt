@@ -3,7 +3,7 @@ use Rattle.std.specs.Prelude.{ℕ, Bool, true, ◌&&◌, List, [], ◌∷◌, le
 use Rattle.fx_fixed.specs.Extents.{meant}
 use Rattle.fx_plan.specs.Effects.{Act, OfTrim, OfPad, OfDelay, OfEcho, OfEchos, OfFade, OfVol, OfDcShift, OfFir, OfRemix, OfUpsample, OfDownsample, fits_layout}
 use Rattle.fx_stages.specs.Effects.{EffectRecipe, ForTrim, ForPad, ForFade, ForUpsample, ForDownsample, ForDelay, ForEcho, ForEchos, ForFir, ForRemix, ForVol, ForDcShift}
-use Rattle.fx_tap.specs.Delay.{every_delay}
+use Rattle.fx_past.specs.Delay.{every_delay}
 
 -- the stage of an effect that takes frames of so many channels
 abbrev pub recipe_for : ℕ → Act → EffectRecipe

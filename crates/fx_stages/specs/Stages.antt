@@ -12,17 +12,17 @@ use Rattle.fx_frame.specs.Frame.{Samples}
 use Rattle.fx_frame.specs.Stage.{Acts, Counts, Given, Own}
 use Rattle.fx_stages.specs.declared.stage.EffectStage.{EffectStage}
 use Rattle.fx_stages.specs.declared.stage.EffectStage.TheVariants as stages
-use Rattle.fx_tap.specs.DcShiftState.{dcshift_acts}
-use Rattle.fx_tap.specs.DelayState.{delay_acts, delay_taps}
-use Rattle.fx_tap.specs.EchoState.{echo_acts, echo_taps}
-use Rattle.fx_tap.specs.EchosState.{IsEchos, echos_acts}
-use Rattle.fx_tap.specs.FirState.{IsFir, fir_acts}
-use Rattle.fx_tap.specs.Mapped.{IsMapState}
-use Rattle.fx_tap.specs.PerSample.{SampleArguments}
-use Rattle.fx_tap.specs.Remix.{RemixArguments}
-use Rattle.fx_tap.specs.RemixState.{remix_acts}
-use Rattle.fx_tap.specs.Tapped.{IsTapState, tap_rises}
-use Rattle.fx_tap.specs.VolState.{vol_acts}
+use Rattle.fx_map.specs.DcShiftState.{dcshift_acts}
+use Rattle.fx_past.specs.DelayState.{delay_acts, delay_taps}
+use Rattle.fx_past.specs.EchoState.{echo_acts, echo_taps}
+use Rattle.fx_past.specs.EchosState.{IsEchos, echos_acts}
+use Rattle.fx_past.specs.FirState.{IsFir, fir_acts}
+use Rattle.fx_map.specs.Mapped.{IsMapState}
+use Rattle.fx_map.specs.PerSample.{SampleArguments}
+use Rattle.fx_map.specs.Remix.{RemixArguments}
+use Rattle.fx_map.specs.RemixState.{remix_acts}
+use Rattle.fx_past.specs.Tapped.{IsTapState, tap_rises}
+use Rattle.fx_map.specs.VolState.{vol_acts}
 use Rattle.fx_stages.specs.Effects.{EffectRecipe, ForTrim, ForPad, ForFade, ForUpsample, ForDownsample, ForDelay, ForEcho, ForEchos, ForFir, ForRemix, ForVol, ForDcShift, kind_of_recipe, meaning_of_recipe}
 
 -- what a stage shows of itself: its recipe, what is still to be given, what it counted, that it has nothing to give now,

@@ -7,17 +7,18 @@ ghost use Rattle.fx_frame.specs.Ring.{pieces};
 ghost use Rattle.fx_frame.specs.Row.{EachThrough};
 ghost use Rattle.fx_frame.specs.Stage.{kind};
 ghost use Rattle.fx_stages.specs.Stages.{effect_acts};
-ghost use Rattle.fx_tap.specs.Kinds.{most_taken};
-ghost use Rattle.fx_tap.specs.PerSampleState.{sample_acts};
+ghost use Rattle.fx_blocks.specs.Kinds.{most_taken};
+ghost use Rattle.fx_map.specs.PerSampleState.{sample_acts};
 
 use fx_cut::{Downsample, Fade, Pad, Trim, Upsample};
 use fx_frame::stage::Stage;
 use fx_frame::{Feeds, Frame, Passed, Passing, WideFrame};
-use fx_tap::around::pass_around;
-use fx_tap::both::pass_both;
-use fx_tap::mapped::Mapped;
-use fx_tap::per_sample::{PerSample, SamplesMany};
-use fx_tap::{DcShift, Delay, Echo, Echos, Fir, Remix, Vol};
+use fx_map::around::pass_around;
+use fx_map::both::pass_both;
+use fx_map::mapped::Mapped;
+use fx_map::per_sample::{PerSample, SamplesMany};
+use fx_map::{DcShift, Remix, Vol};
+use fx_past::{Delay, Echo, Echos, Fir};
 
 /// The stage of an effect.
 #[derive(Drop)]

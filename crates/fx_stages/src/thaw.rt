@@ -8,8 +8,9 @@ use crate::stage::EffectStage;
 use fx_cut::{Downsample, Fade, Pad, Trim, Upsample};
 use fx_frame::WideFrame;
 use fx_frame::stage::{ThawFault, Thaws};
+use fx_map::{DcShift, Remix, Vol};
+use fx_past::{Delay, Echo, Echos, Fir};
 use fx_plan::inner::Effect;
-use fx_tap::{DcShift, Delay, Echo, Echos, Fir, Remix, Vol};
 use std::alloc::{AllocError, Global};
 
 /// An effect, and the channels of the frames that it takes.

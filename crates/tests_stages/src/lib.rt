@@ -1,5 +1,5 @@
-//! The worked rows of fx_cut and fx_tap. They stand in a crate of their own, so that those crates are not proved once more for
-//! them.
+//! The worked rows of fx_cut, fx_map, fx_past and fx_sums. They stand in a crate of their own, so that those crates are not
+//! proved once more for them.
 #![tactic(auto)]
 
 #[cfg(test)]

@@ -1,9 +1,9 @@
 -- What a stage that rounds each sample alone passed on, the stage of any effect passed on.
 use Rattle.std.proofs.Common.{refl}
 use Rattle.fx_frame.proofs.RowLaws.{EachThrough-along}
-use Rattle.fx_tap.specs.DcShift.{shifted_sample}
-use Rattle.fx_tap.specs.PerSampleState.{sample_acts}
-use Rattle.fx_tap.specs.Vol.{scaled_sample}
+use Rattle.fx_map.specs.DcShift.{shifted_sample}
+use Rattle.fx_map.specs.PerSampleState.{sample_acts}
+use Rattle.fx_map.specs.Vol.{scaled_sample}
 use Rattle.fx_stages.specs.Effects.{ForVol, ForDcShift}
 use Rattle.fx_stages.specs.Stages.{effect_acts}
 use Rattle.fx_stages.specs.declared.stage.EffectStage.TheVariants as stages

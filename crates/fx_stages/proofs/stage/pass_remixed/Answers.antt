@@ -5,11 +5,11 @@ use Rattle.std.proofs.lemmas.List.Elements.{All-nil}
 use Rattle.fx_frame.specs.Ring.{pieces}
 use Rattle.fx_frame.specs.Stage.{Acts}
 use Rattle.fx_frame.proofs.RowLaws.{EachThrough-along}
-use Rattle.fx_tap.specs.DcShift.{shifted_sample}
-use Rattle.fx_tap.specs.Mapped.{MapState, map_acts}
-use Rattle.fx_tap.specs.PerSampleState.{sample_acts}
-use Rattle.fx_tap.specs.Remix.{RemixArguments, remixed_frame}
-use Rattle.fx_tap.specs.Vol.{scaled_sample}
+use Rattle.fx_map.specs.DcShift.{shifted_sample}
+use Rattle.fx_map.specs.Mapped.{MapState, map_acts}
+use Rattle.fx_map.specs.PerSampleState.{sample_acts}
+use Rattle.fx_map.specs.Remix.{RemixArguments, remixed_frame}
+use Rattle.fx_map.specs.Vol.{scaled_sample}
 use Rattle.fx_stages.specs.Effects.{ForRemix, ForVol, ForDcShift}
 use Rattle.fx_stages.specs.Stages.{effect_acts}
 use Rattle.fx_stages.specs.declared.stage.EffectStage.TheVariants as stages

@@ -5,9 +5,9 @@ use Rattle.std.proofs.lemmas.List.Elements.{All-nil}
 use Rattle.fx_frame.specs.Ring.{pieces}
 use Rattle.fx_frame.specs.Stage.{kind}
 use Rattle.fx_frame.proofs.RowLaws.{EachThrough-along, RowThrough-none}
-use Rattle.fx_tap.specs.DcShift.{shifted_sample}
-use Rattle.fx_tap.specs.PerSampleState.{sample_acts}
-use Rattle.fx_tap.specs.Vol.{scaled_sample}
+use Rattle.fx_map.specs.DcShift.{shifted_sample}
+use Rattle.fx_map.specs.PerSampleState.{sample_acts}
+use Rattle.fx_map.specs.Vol.{scaled_sample}
 use Rattle.fx_stages.specs.Effects.{ForVol, ForDcShift}
 use Rattle.fx_stages.specs.Stages.{effect_acts}
 use Rattle.fx_stages.specs.declared.stage.EffectStage.TheVariants as stages

@@ -1,0 +1,31 @@
+use Rattle.std.proofs.Common.{◌≡◌, ◌*◌, ◌≤◌, ◌∙◌, ap, arith, length, map, sym, ℕ}
+use Rattle.std.proofs.lemmas.List.{take_all}
+use Rattle.std.proofs.Math.Nat.{mul-le-mul_right, mul_comm}
+use Rattle.fx_frame.specs.Ring.{pieces}
+use Rattle.fx_frame.specs.Rounded.{clips_of}
+use Rattle.fx_blocks.proofs.SamplePieces.{clips-samples, pieces-samples}
+use Rattle.fx_map.proofs.per_sample.PerSampleMapsMany.map_many_over.Goals as goal
+
+pub returns-clause-frames : goal.returns-clause-frames
+returns-clause-frames g c =
+    let s = c.self.inside in
+    rw (← c.self.view_is)
+    (ap (pieces s.channels c.args._count) c.round_all.ensures.samples ∙ pieces-samples (g.S.Sampling.rounded s.sampling) s.channels c.args._count c.args.samples.now)
+
+pub returns-clause-clips : goal.returns-clause-clips
+returns-clause-clips g c =
+    let s = c.self.inside in
+    let f = g.S.Sampling.rounded s.sampling in
+    let all : length c.args.samples.now ≡ c.args._count * s.channels = rw (← c.self.view_is) at c.requires.samples in
+    let whole = take_all (c.args._count * s.channels) c.args.samples.now (omega (arith, all)) in
+    rw (← c.self.view_is)
+    (c.round_all.ensures.clips ∙ sym (ap (λ l. clips_of (map f l)) whole) ∙ clips-samples f s.channels c.args._count c.args.samples.now)
+
+pub returns-clause-few : goal.returns-clause-few
+returns-clause-few g c =
+    let s = c.self.inside in
+    let n : ℕ = c.args._count in
+    let all : length c.args.samples.now ≡ n * s.channels = rw (← c.self.view_is) at c.requires.samples in
+    let few : s.channels ≤ 16 = c.self.invariant.1 in
+    let most : s.channels * n ≤ 16 * n = mul-le-mul_right n few in
+    omega (arith, all, most, mul_comm n s.channels, c.round_all.ensures.few)

@@ -1,0 +1,52 @@
+use Rattle.std.proofs.Common.{rules, ◌≡◌, ◌<◌, ◌≤◌, ◌^◌, ◌∙◌, ℕ, ℤ, List, pos, map, ◌+ℤ◌, ◌*ℤ◌, length, arith, slice_index_or, unsigned_abs, to_z, w32, w64, FitsSigned}
+use Rattle.std.proofs.lemmas.Int.{ints, fits_signed_from_abs}
+use Rattle.std.proofs.lemmas.List.{length-map}
+use Rattle.fx_map.specs.Mix.{pair_of}
+use Rattle.fx_map.proofs.MixLaws.{gathered, mixing-next}
+use Rattle.fx_sums.proofs.Convolving.{Adding, Adding-few}
+use Rattle.fx_sums.proofs.SmallSums.{held-64, plain-product-64}
+use Rattle.fx_map.proofs.remix.Mix.small_sum.Goals as goal
+
+pub overflow_add-sum : goal.overflow_add-sum
+overflow_add-sum c =
+    let items = c.self.inside.contributions.items in
+    let k : ℕ = c.contributions.place in
+    let ws : List ℤ = c.args.weights.now in
+    let s : ℤ = to_z w64 c.contributions.sum-bits in
+    let x : ℤ = slice_index_or c.args.samples.now c.index.result.now.channel (pos 0) in
+    let w : ℤ = slice_index_or ws k (pos 0) in
+    let count = rw (← c.self.view_is) at c.requires.count in
+    let inside : k < length items = omega (arith, c.contributions-test.true, c.len-place-end.ensures) in
+    let in_ws : k < length ws = omega (arith, inside, count, length-map items pair_of) in
+    let sample_fits : FitsSigned w32 x = search rules in
+    let sample : unsigned_abs x ≤ 2 ^ 31 = omega (arith, ints) in
+    let weight_fits : FitsSigned w32 w = search rules in
+    let weight : unsigned_abs w ≤ 2 ^ 31 = omega (arith, ints) in
+    let f : c.from.result ≡ x = c.from.ensures ∙ search rules ∙ c.sample_or_silence-sample.ensures in
+    let y : c.from-in-contributions.result ≡ w = c.from-in-contributions.ensures ∙ search rules in
+    let old : Adding (gathered (map pair_of items) c.args.samples.now) ws k s = rw (← c.self.view_is) at c.contributions.invariant in
+    let next = mixing-next items c.args.samples.now ws k c.index.result.now s inside in_ws c.index.ensures sample old in
+    let few = Adding-few (gathered (map pair_of items) c.args.samples.now) ws _ (s +ℤ (x *ℤ w)) next in
+    rw (plain-product-64 x w c.from.result c.from-in-contributions.result f y sample weight) (fits_signed_from_abs w64 (s +ℤ (x *ℤ w)) (omega (arith, few)))
+
+pub contributions-preserved : goal.contributions-preserved
+contributions-preserved c =
+    let items = c.self.inside.contributions.items in
+    let k : ℕ = c.contributions.place in
+    let ws : List ℤ = c.args.weights.now in
+    let s : ℤ = to_z w64 c.contributions.sum-bits in
+    let x : ℤ = slice_index_or c.args.samples.now c.index.result.now.channel (pos 0) in
+    let w : ℤ = slice_index_or ws k (pos 0) in
+    let count = rw (← c.self.view_is) at c.requires.count in
+    let inside : k < length items = omega (arith, c.contributions-test.true, c.len-place-end.ensures) in
+    let in_ws : k < length ws = omega (arith, inside, count, length-map items pair_of) in
+    let sample_fits : FitsSigned w32 x = search rules in
+    let sample : unsigned_abs x ≤ 2 ^ 31 = omega (arith, ints) in
+    let weight_fits : FitsSigned w32 w = search rules in
+    let weight : unsigned_abs w ≤ 2 ^ 31 = omega (arith, ints) in
+    let f : c.from.result ≡ x = c.from.ensures ∙ search rules ∙ c.sample_or_silence-sample.ensures in
+    let y : c.from-in-contributions.result ≡ w = c.from-in-contributions.ensures ∙ search rules in
+    let old : Adding (gathered (map pair_of items) c.args.samples.now) ws k s = rw (← c.self.view_is) at c.contributions.invariant in
+    let next = mixing-next items c.args.samples.now ws k c.index.result.now s inside in_ws c.index.ensures sample old in
+    let few = Adding-few (gathered (map pair_of items) c.args.samples.now) ws _ (s +ℤ (x *ℤ w)) next in
+    rw (plain-product-64 x w c.from.result c.from-in-contributions.result f y sample weight, held-64 (s +ℤ (x *ℤ w)) (omega (arith, few)), ← c.self.view_is) next

@@ -1,0 +1,17 @@
+use Rattle.std.proofs.Common.{◌≡◌, ◌≤◌, ◌-◌, ◌*◌, drop, length}
+use Rattle.fx_frame.specs.Ring.{pieces}
+use Rattle.fx_blocks.specs.Made.{clips_in, made_of}
+use Rattle.fx_map.specs.Remix.{remixed_frame}
+use Rattle.fx_map.proofs.remix.mix_frames.Given as goal
+
+abbrev pub invariant-pieces : goal.invariant-pieces
+invariant-pieces l = record {
+  within : l.done ≤ l.count;
+  made : pieces (length l.mixes) l.done l.output ≡ made_of (remixed_frame l.mixes) (pieces l.inputs l.done l.input);
+  behind : drop (l.done * length l.mixes) l.output ≡ drop (l.done * length l.mixes) l.fn.output;
+  counted : l.clips ≡ clips_in (remixed_frame l.mixes) (pieces l.inputs l.done l.input);
+  few : l.clips ≤ 16 * l.done;
+}
+
+abbrev pub decreases-pieces : goal.decreases-pieces
+decreases-pieces l = l.count - l.done

@@ -1,0 +1,11 @@
+pub mod DcShift
+pub mod DcShiftState
+pub mod Fractions
+pub mod Mapped
+pub mod Mix
+pub mod PerSample
+pub mod PerSampleState
+pub mod Remix
+pub mod RemixState
+pub mod Vol
+pub mod VolState

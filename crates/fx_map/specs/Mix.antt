@@ -1,0 +1,38 @@
+-- What `remix` keeps of a contribution: its channel, its weight and the same in parts.
+use Rattle.std.specs.Prelude.{ℕ, ℤ, pos, ◌<◌, ◌≡◌, List, [], ◌∷◌, map}
+use Rattle.fx_map.specs.Remix.{parts_of}
+use Rattle.fx_fixed.specs.declared.gains.TheConstants.{UNIT}
+use Rattle.fx_fixed.specs.declared.weights.Weight.{Weight}
+use Rattle.fx_fixed.specs.declared.weights.Weight.TheVariants.{Given}
+use Rattle.fx_map.specs.declared.remix.Contribution.{Contribution}
+
+-- its channel and weight
+abbrev pub pair_of : Contribution → ℕ × Weight
+pair_of c = (c.channel, c.weight)
+
+-- what holds of it among so many
+pub record IsContribution (count : ℕ) (c : Contribution) : Type 0 where
+  pub named : c.channel < 16
+  pub parts : c.parts ≡ parts_of count c.weight
+
+-- the parts of each
+abbrev pub all_parts : List Contribution → List ℤ
+all_parts cs = map (λ c. c.parts) cs
+
+-- that channel alone contributes, with a weight of one
+pub record Copies (cs : List Contribution) (channel : ℕ) : Type 0 where
+  pub weight : Weight
+  pub alone : map pair_of cs ≡ (channel, weight) ∷ []
+  pub whole : parts_of 1 weight ≡ pos UNIT
+
+-- that channel alone contributes, with that gain
+abbrev pub Scales : List Contribution → ℕ → ℤ → Type 0
+Scales cs channel gain = map pair_of cs ≡ (channel, Given gain) ∷ []
+
+-- these two channels alone contribute, each with a weight of a half
+pub record Means (cs : List Contribution) (first second : ℕ) : Type 0 where
+  pub first_weight : Weight
+  pub second_weight : Weight
+  pub both : map pair_of cs ≡ (first, first_weight) ∷ (second, second_weight) ∷ []
+  pub first_half : parts_of 2 first_weight ≡ pos UNIT
+  pub second_half : parts_of 2 second_weight ≡ pos UNIT

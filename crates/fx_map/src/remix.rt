@@ -1,0 +1,511 @@
+//! The effect `remix` of sox(1): each channel is a sum of channels, each times a weight.
+ghost use Rattle.std.specs.Prelude.{◌≡◌, ◌<◌, ◌≤◌, ◌+◌, ◌*◌, ◌^◌, [], ℕ, pos, map, drop, length, slice_index_or, sum_by, unsigned_abs, Err, IfOk, IfSome, MatchResult};
+ghost use Rattle.fx_transform.specs.Products.{sum_of_products};
+ghost use Rattle.std.specs.List.{All};
+ghost use Rattle.fx_frame.specs.Stage.{Freezes, IsNew};
+ghost use Rattle.fx_frame.specs.Ring.{pieces};
+ghost use Rattle.fx_frame.specs.Lists.{tabulate};
+ghost use Rattle.fx_map.specs.Mapped.{IsMapState, MapState};
+ghost use Rattle.fx_blocks.specs.Made.{clips_in, made_of};
+ghost use Rattle.fx_frame.specs.Rounded.{clips_of};
+ghost use Rattle.fx_map.specs.Mix.{Copies, IsContribution, Means, Scales, all_parts};
+ghost use Rattle.fx_map.specs.Remix.{RemixArguments, mixed_parts, parts_of, remixed_frame, remixed_sample};
+ghost use Rattle.fx_map.specs.RemixState.{remix_acts};
+ghost use Rattle.fx_sums.specs.SmallWeights.{SumsAs};
+
+use crate::channels::{add_channel, place_channel, place_mean};
+use crate::mapped::{Mapped, Mapping, MapsMany};
+use crate::vol::Scale;
+use fx_blocks::round_channel;
+use fx_fixed::{OutSpec, UNIT, Weight, round_clip};
+use fx_frame::feed::copy_samples;
+use fx_frame::inner::{frame_of, samples};
+use fx_frame::{Frame, ThawFault, WideFrame};
+use fx_sums::inner::sample_or_silence;
+use fx_sums::small::{Small, small_of};
+use std::alloc::{AllocError, Global};
+use std::marker::Model;
+
+/// A channel of the input, its weight, and the same in parts.
+#[derive(Clone, Copy)]
+struct Contribution {
+    channel: usize,
+    weight: Weight,
+    parts: i64,
+}
+
+/// What goes into an output channel, each weight in whole parts, and these in lowest terms, where they are small. Where it is
+/// one channel as it is, that channel; where it is the mean of two, those; where it is one channel times a gain, both.
+#[derive(Drop)]
+struct Mix {
+    contributions: Vec<Contribution>,
+    small: Option<Small>,
+    copied: Option<usize>,
+    mean: Option<(usize, usize)>,
+    scaled: Option<(usize, Scale)>,
+}
+
+impl Model for Mix {
+    ghost use Rattle.std.specs.Prelude.{◌≤◌, ◌*◌, map, length, IfSome};
+    ghost use Rattle.std.specs.List.{All};
+    ghost use Rattle.fx_map.specs.Mix.{Copies, IsContribution, Means, Scales, all_parts, pair_of};
+    ghost use Rattle.fx_fixed.specs.declared.gains.TheConstants.{UNIT};
+    ghost use Rattle.fx_sums.specs.SmallWeights.{SumsAs};
+    ghost use Rattle.fx_map.specs.Remix.{Contributions};
+
+    ghost Value = { Contributions };
+
+    ghost view = { λ s. map pair_of s.contributions.items };
+
+    ghost invariant = { λ s. (length s.contributions.items ≤ 64) × All (IsContribution (length s.contributions.items)) s.contributions.items × IfSome s.small (SumsAs (all_parts s.contributions.items) (length s.contributions.items * UNIT)) × IfSome s.copied (Copies s.contributions.items) × IfSome s.mean (λ m. Means s.contributions.items m.0 m.1) × IfSome s.scaled (λ m. Scales s.contributions.items m.0 m.1) };
+}
+
+/// A weight among so many contributions in parts, as many of which are one as that number of units.
+fn parts_of(count: usize, weight: Weight) -> i64
+    requires { count ≤ 64 }
+    ensures { result ≡ parts_of count weight }
+{
+    match weight {
+        Weight::Given(gain) => count as i64 * gain.trillionths(),
+        Weight::Share => UNIT as i64,
+        Weight::One => (count as u64 * UNIT) as i64,
+    }
+}
+
+/// The parts of each contribution.
+fn parts_in(alloc: Global, contributions: &[Contribution]) -> Result<Vec<i64>, AllocError>
+    ensures { IfOk result (λ v. v.items ≡ all_parts contributions.now) }
+{
+    let mut parts = Vec::new(alloc);
+    'contributions: for contribution in contributions {
+        parts.push(contribution.parts)?;
+    }
+    Ok(parts)
+}
+
+/// The parts of at most 64 contributions, in lowest terms. None where they are not small, or where there are none.
+fn small_parts(alloc: Global, contributions: &[Contribution]) -> Result<Option<Small>, AllocError>
+    requires { length contributions.now ≤ 64 }
+    ensures { IfOk result (λ small. IfSome small (SumsAs (all_parts contributions.now) (length contributions.now * UNIT))) }
+{
+    let count = contributions.len() as u64;
+    if count == 0 {
+        return Ok(None);
+    }
+    let parts = parts_in(alloc, contributions)?;
+    small_of(alloc, &parts, count * UNIT)
+}
+
+/// The channel that goes out as it is, if it does: it alone contributes, and its parts are one.
+fn copied_channel(contributions: &[Contribution]) -> Option<usize>
+    requires made { All (IsContribution (length contributions.now)) contributions.now }
+    ensures { IfSome result (Copies contributions.now) }
+{
+    let [only] = contributions else {
+        return None;
+    };
+    if only.parts == UNIT as i64 {
+        Some(only.channel)
+    } else {
+        None
+    }
+}
+
+/// The two channels whose mean goes out, if it does: they alone contribute, and the parts of each are a half.
+fn mean_channels(contributions: &[Contribution]) -> Option<(usize, usize)>
+    requires made { All (IsContribution (length contributions.now)) contributions.now }
+    ensures { IfSome result (λ m. Means contributions.now m.0 m.1) }
+{
+    let [first, second] = contributions else {
+        return None;
+    };
+    if first.parts == UNIT as i64 && second.parts == UNIT as i64 {
+        Some((first.channel, second.channel))
+    } else {
+        None
+    }
+}
+
+/// The channel that goes out times a gain, if it does: it alone contributes, with a gain that was given.
+fn scaled_channel(contributions: &[Contribution]) -> Option<(usize, Scale)>
+    ensures { IfSome result (λ s. Scales contributions.now s.0 s.1) }
+{
+    let [only] = contributions else {
+        return None;
+    };
+    let Weight::Given(gain) = only.weight else {
+        return None;
+    };
+    Some((only.channel, Scale::of(gain)))
+}
+
+impl Mix {
+    /// The mix of at most 64 contributions, which name channels below 16.
+    fn of(alloc: Global, out: &[(u8, Weight)]) -> Result<Mix, AllocError>
+        requires few { length out.now ≤ 64 }
+        requires named { All (λ c. c.0 < 16) out.now }
+        ensures { IfOk result (λ mix. mix ≡ out.now) }
+    {
+        let mut contributions = Vec::new(alloc);
+        'contributions: for (channel, weight) in out {
+            contributions.push(Contribution {
+                channel: usize::from(*channel),
+                weight: *weight,
+                parts: parts_of(out.len(), *weight),
+            })?;
+        }
+        let small = small_parts(alloc, &contributions)?;
+        let copied = copied_channel(&contributions);
+        let mean = mean_channels(&contributions);
+        let scaled = scaled_channel(&contributions);
+        Ok(Mix {
+            contributions,
+            small,
+            copied,
+            mean,
+            scaled,
+        })
+    }
+
+    /// The channels times weights, added.
+    #[inline(always)]
+    fn small_sum(&self, weights: &[i32], samples: &[i32]) -> i64
+        requires count { length weights.now ≡ length self.now }
+        requires small { sum_by unsigned_abs weights.now ≤ 2 ^ 30 }
+        ensures sum { result ≡ sum_of_products (map (λ c. slice_index_or samples.now c.0 (pos 0)) self.now) weights.now }
+        ensures few { unsigned_abs result ≤ 2 ^ 61 }
+    {
+        let mut sum = 0;
+        'contributions: for place in 0..self.contributions.len() {
+            let sample = sample_or_silence(samples, self.contributions[place].channel);
+            sum += i64::from(sample) * i64::from(weights[place]);
+        }
+        sum
+    }
+
+    /// The channels times their weights in parts, added.
+    #[inline(always)]
+    fn sum(&self, samples: &[i32]) -> i128
+        ensures sum { result ≡ mixed_parts (length self.now) self.now samples.now }
+        ensures small { unsigned_abs result ≤ 64 * (2 ^ 63 * 2 ^ 31) }
+    {
+        let mut sum = 0;
+        'contributions: for contribution in &self.contributions {
+            let sample = sample_or_silence(samples, contribution.channel);
+            sum += i128::from(contribution.parts) * i128::from(sample);
+        }
+        sum
+    }
+
+    /// Adds to the sums, which are none yet, those of as many frames: their channels times weights.
+    fn add_channels(&self, weights: &[i32], frames: &[i32], channels: usize, sums: &mut [i64])
+        requires count { length weights.now ≡ length self.now }
+        requires small { sum_by unsigned_abs weights.now ≤ 2 ^ 30 }
+        requires channels { (1 ≤ channels) × (channels ≤ 16) }
+        requires frames { length frames.now ≡ length sums.old * channels }
+        requires empty { (i : ℕ) → slice_index_or sums.old i (pos 0) ≡ pos 0 }
+        ensures sums { (i : ℕ) → i < length sums.old → slice_index_or sums.new i (pos 0) ≡ sum_of_products (map (λ c. slice_index_or (slice_index_or (pieces channels (length sums.old) frames.now) i []) c.0 (pos 0)) self.now) weights.now }
+        ensures few { (i : ℕ) → i < length sums.old → unsigned_abs (slice_index_or sums.new i (pos 0)) ≤ 2 ^ 61 }
+    {
+        'contributions: for place in 0..self.contributions.len() {
+            let channel = self.contributions[place].channel;
+            if channel < channels {
+                add_channel(frames, channels, channel, weights[place], sums);
+            }
+        }
+    }
+
+    /// The sample of the output channel, and whether it was clipped.
+    #[inline(always)]
+    fn sample(&self, samples: &[i32]) -> (i32, bool)
+        ensures { result ≡ remixed_sample self.now samples.now }
+    {
+        if let Some(channel) = self.copied {
+            return (sample_or_silence(samples, channel), false);
+        }
+        let count = self.contributions.len();
+        if count == 0 {
+            return (0, false);
+        }
+        if let Some(small) = &self.small {
+            return small
+                .denominator
+                .round(self.small_sum(&small.weights, samples));
+        }
+        round_clip(self.sum(samples), i128::from(count as u64 * UNIT))
+    }
+}
+
+/// The most frames of a piece: frames that are made at once.
+const FRAMES_OF_PIECE: usize = 256;
+
+impl Mix {
+    /// Writes the output channel for so many frames as one channel of as many, and counts how many of its samples were
+    /// clipped.
+    fn channel_by_frames(
+        &self,
+        frames: &[i32],
+        inputs: usize,
+        count: usize,
+        outputs: usize,
+        channel: usize,
+        out: &mut [i32],
+    ) -> u64
+        requires inputs { (1 ≤ inputs) × (inputs ≤ 16) }
+        requires frames { length frames.now ≡ count * inputs }
+        requires channel { channel < outputs }
+        requires outputs { outputs ≤ 16 }
+        requires out { count * outputs ≤ length out.old }
+        ensures put { (i : ℕ) → i < count → slice_index_or out.new (i * outputs + channel) (pos 0) ≡ (remixed_sample self.now (slice_index_or (pieces inputs count frames.now) i [])).0 }
+        ensures others { (i c : ℕ) → c < outputs → (c ≡ channel → ⊥) → slice_index_or out.new (i * outputs + c) (pos 0) ≡ slice_index_or out.old (i * outputs + c) (pos 0) }
+        ensures clips { result ≡ clips_of (tabulate (λ i. remixed_sample self.now (slice_index_or (pieces inputs count frames.now) i [])) 0 count) }
+        ensures few { result ≤ count }
+    {
+        let mut from = 0;
+        let mut at = channel;
+        let mut clips = 0;
+        'frames: for _turn in 0..count {
+            let (sample, is_clipped) = self.sample(&frames[from..from + inputs]);
+            out[at] = sample;
+            clips += u64::from(is_clipped);
+            from += inputs;
+            at += outputs;
+        }
+        clips
+    }
+
+    /// The same for the frames of a piece; where the weights are small, all of them at once.
+    fn channel_into(
+        &self,
+        frames: &[i32],
+        inputs: usize,
+        count: usize,
+        outputs: usize,
+        channel: usize,
+        out: &mut [i32],
+    ) -> u64
+        requires inputs { (1 ≤ inputs) × (inputs ≤ 16) }
+        requires count { count ≤ 256 }
+        requires frames { length frames.now ≡ count * inputs }
+        requires channel { channel < outputs }
+        requires outputs { outputs ≤ 16 }
+        requires out { count * outputs ≤ length out.old }
+        ensures put { (i : ℕ) → i < count → slice_index_or out.new (i * outputs + channel) (pos 0) ≡ (remixed_sample self.now (slice_index_or (pieces inputs count frames.now) i [])).0 }
+        ensures others { (i c : ℕ) → c < outputs → (c ≡ channel → ⊥) → slice_index_or out.new (i * outputs + c) (pos 0) ≡ slice_index_or out.old (i * outputs + c) (pos 0) }
+        ensures clips { result ≡ clips_of (tabulate (λ i. remixed_sample self.now (slice_index_or (pieces inputs count frames.now) i [])) 0 count) }
+        ensures few { result ≤ count }
+    {
+        if let Some(from) = self.copied {
+            if from < inputs {
+                place_channel(frames, inputs, from, count, out, outputs, channel);
+                return 0;
+            }
+        }
+        if let Some((first, second)) = self.mean {
+            if first < inputs && second < inputs {
+                place_mean(frames, inputs, first, second, count, out, outputs, channel);
+                return 0;
+            }
+        }
+        if let Some((source, scale)) = &self.scaled {
+            if *source < inputs {
+                return scale.place_channel(frames, inputs, *source, count, out, outputs, channel);
+            }
+        }
+        if self.contributions.is_empty() {
+            return self.channel_by_frames(frames, inputs, count, outputs, channel, out);
+        }
+        let Some(small) = &self.small else {
+            return self.channel_by_frames(frames, inputs, count, outputs, channel, out);
+        };
+        let mut places = [0; FRAMES_OF_PIECE];
+        let sums = &mut places[..count];
+        self.add_channels(&small.weights, frames, inputs, sums);
+        round_channel(sums, &small.denominator, outputs, channel, out)
+    }
+}
+
+/// Makes the frames of a piece, channel by channel, and counts how many of their samples were clipped.
+fn mix_piece(mixes: &[Mix], inputs: usize, frames: &[i32], count: usize, out: &mut [i32]) -> u64
+    requires inputs { (1 ≤ inputs) × (inputs ≤ 16) }
+    requires outs { length mixes.now ≤ 16 }
+    requires count { count ≤ 256 }
+    requires frames { length frames.now ≡ count * inputs }
+    requires out { length out.old ≡ count * length mixes.now }
+    ensures frames { pieces (length mixes.now) count out.new ≡ made_of (remixed_frame mixes.now) (pieces inputs count frames.now) }
+    ensures clips { result ≡ clips_in (remixed_frame mixes.now) (pieces inputs count frames.now) }
+    ensures few { result ≤ 16 * count }
+{
+    let outputs = mixes.len();
+    let mut clips = 0;
+    'mixes: for channel in 0..outputs {
+        clips += mixes[channel].channel_into(frames, inputs, count, outputs, channel, out);
+    }
+    clips
+}
+
+/// Makes so many frames of those in front of the input, at the front of the output, some at a time, and counts how many of
+/// their samples were clipped.
+fn mix_frames(mixes: &[Mix], inputs: usize, input: &[i32], output: &mut [i32], count: usize) -> u64
+    requires inputs { (1 ≤ inputs) × (inputs ≤ 16) }
+    requires outs { length mixes.now ≤ 16 }
+    requires few { count ≤ 2 ^ 56 }
+    requires input { count * inputs ≤ length input.now }
+    requires output { count * length mixes.now ≤ length output.old }
+    ensures frames { pieces (length mixes.now) count output.new ≡ made_of (remixed_frame mixes.now) (pieces inputs count input.now) }
+    ensures behind { drop (count * length mixes.now) output.new ≡ drop (count * length mixes.now) output.old }
+    ensures clips { result ≡ clips_in (remixed_frame mixes.now) (pieces inputs count input.now) }
+    ensures few { result ≤ 16 * count }
+{
+    let outputs = mixes.len();
+    let mut done = 0;
+    let mut clips = 0;
+    'pieces: while done < count {
+        let now = FRAMES_OF_PIECE.min(count - done);
+        let from = done * inputs;
+        let frames = &input[from..from + now * inputs];
+        let at = done * outputs;
+        clips += mix_piece(
+            mixes,
+            inputs,
+            frames,
+            now,
+            &mut output[at..at + now * outputs],
+        );
+        done += now;
+    }
+    clips
+}
+
+/// What `remix` makes of a frame.
+#[derive(Drop)]
+pub struct Remixing {
+    channels: usize,
+    mixes: Vec<Mix>,
+}
+
+impl Model for Remixing {
+    ghost use Rattle.fx_map.specs.Remix.{IsRemix, RemixArguments};
+
+    ghost Value = { RemixArguments };
+
+    ghost view = { λ s. record { channels = s.channels; outs = s.mixes.items } };
+
+    ghost invariant = { λ s. IsRemix (record { channels = s.channels; outs = s.mixes.items }) };
+}
+
+/// Writes the samples of the output channels, and counts how many were clipped.
+#[inline(always)]
+fn mixed_into(mixes: &[Mix], frame: &[i32], out: &mut [i32]) -> u64
+    requires { length out.old ≡ length mixes.now }
+    ensures samples { out.new ≡ (remixed_frame mixes.now frame.now).samples }
+    ensures clips { result ≡ (remixed_frame mixes.now frame.now).clips }
+    ensures few { result ≤ length mixes.now }
+{
+    let mut clips = 0;
+    'mixes: for channel in 0..mixes.len() {
+        let (sample, is_clipped) = mixes[channel].sample(frame);
+        out[channel] = sample;
+        clips += u64::from(is_clipped);
+    }
+    clips
+}
+
+impl Mapping for Remixing {
+    ghost inputs = { λ a. a.channels };
+
+    ghost outputs = { λ a. length a.outs };
+
+    ghost mapped = { λ a frame. remixed_frame a.outs frame };
+
+    fn map(&self, frame: Frame) -> (Frame, u64) {
+        let count = self.mixes.len();
+        let mut out = [0; 16];
+        let clips = mixed_into(&self.mixes, samples(&frame), &mut out[..count]);
+        (frame_of(count, out), clips)
+    }
+
+    #[inline(always)]
+    fn map_into(&self, frame: &[i32], out: &mut [i32]) -> u64 {
+        mixed_into(&self.mixes, frame, out)
+    }
+
+    fn map_over(&self, samples: &mut [i32]) -> u64 {
+        let mut places = [0; 16];
+        let made = &mut places[..samples.len()];
+        let clips = mixed_into(&self.mixes, samples, made);
+        copy_samples(made, samples);
+        clips
+    }
+
+    fn in_channels(&self) -> usize {
+        self.channels
+    }
+
+    fn out_channels(&self) -> usize {
+        self.mixes.len()
+    }
+}
+
+/// The mixes of so many output channels.
+fn mixes_of(alloc: Global, outs: &[OutSpec]) -> Result<Vec<Mix>, AllocError>
+    requires few { All (λ out. length out.items ≤ 64) outs.now }
+    requires named { All (λ out. All (λ c. c.0 < 16) out.items) outs.now }
+    ensures { IfOk result (λ v. v.items ≡ map (λ out. out.items) outs.now) }
+{
+    let mut mixes = Vec::new(alloc);
+    'outs: for out in outs {
+        mixes.push(Mix::of(alloc, out.as_slice())?)?;
+    }
+    Ok(mixes)
+}
+
+/// The stage of `remix`: for each output channel the channels that go into it, each times its weight, added and rounded
+/// once. A sample that is clipped counts for one clip.
+pub type Remix = Mapped<Remixing>;
+
+impl Mapped<Remixing> {
+    /// The stage for frames of 1 to 16 channels, which makes 1 to 16 channels, each of at most 64 contributions that name
+    /// channels of the input. AllocError where memory for them is refused.
+    pub fn new(alloc: Global, channels: usize, outs: &[OutSpec]) -> Result<Remix, AllocError>
+        requires channels { (1 ≤ channels) × (channels ≤ 16) }
+        requires outs { (1 ≤ length outs.now) × (length outs.now ≤ 16) }
+        requires few { All (λ out. length out.items ≤ 64) outs.now }
+        requires named { All (λ out. All (λ c. c.0 < channels) out.items) outs.now }
+        ensures { IfOk result (IsNew remix_acts (record { channels = channels; outs = map (λ out. out.items) outs.now })) }
+    {
+        let mixes = mixes_of(alloc, outs)?;
+        Ok(Mapped::of(Remixing { channels, mixes }))
+    }
+
+    /// The stage that stored these frames and counted these numbers: whichever stage of these channels and out-specs they
+    /// came from, that stage comes back, unless memory is wanting. BadSnapshot where there is no such stage, Memory where a
+    /// growth was refused.
+    pub fn thaw(
+        alloc: Global,
+        channels: usize,
+        outs: &[OutSpec],
+        frames: &[WideFrame],
+        numbers: &[u64; 8],
+    ) -> Result<Remix, ThawFault>
+        requires channels { (1 ≤ channels) × (channels ≤ 16) }
+        requires outs { (1 ≤ length outs.now) × (length outs.now ≤ 16) }
+        requires few { All (λ out. length out.items ≤ 64) outs.now }
+        requires named { All (λ out. All (λ c. c.0 < channels) out.items) outs.now }
+        ensures recipe { IfOk result (λ t. remix_acts.recipe t ≡ record { channels = channels; outs = map (λ out. out.items) outs.now }) }
+        ensures frozen { IfOk result (λ t. Freezes remix_acts t frames.now numbers.now) }
+        ensures thawed { (s : MapState RemixArguments) → IsMapState (λ a. length a.outs) s → remix_acts.recipe s ≡ record { channels = channels; outs = map (λ out. out.items) outs.now } → Freezes remix_acts s frames.now numbers.now → MatchResult result (λ t. t ≡ s) (λ e. e ≡ ThawFault.Memory) }
+        ensures named { (result ≡ Err ThawFault.WrongPlan) → ⊥ }
+    {
+        let Ok(mixes) = mixes_of(alloc, outs) else {
+            return Err(ThawFault::Memory);
+        };
+        Mapped::thawed(Remixing { channels, mixes }, frames, numbers)
+    }
+}
+
+impl MapsMany for Remixing {
+    fn map_many(&self, input: &[i32], output: &mut [i32], count: usize) -> u64 {
+        mix_frames(&self.mixes, self.channels, input, output, count)
+    }
+}

@@ -1,0 +1,53 @@
+-- Rounded sums of many frames at once.
+use Rattle.std.proofs.Common.{◌≡◌, ◌+◌, ◌*◌, ◌<◌, ℕ, ℤ, pos, Bool, List, [], ◌∷◌, length, map, take, get_or, refl, sym, ap, ◌∙◌, arith, zero-add}
+use Rattle.std.proofs.lemmas.List.{take_all}
+use Rattle.std.proofs.lemmas.Nat.{mul-add-lt}
+use Rattle.std.proofs.lemmas.Simd.{map-map}
+use Rattle.std.proofs.Math.Nat.{mul_comm}
+use Rattle.fx_frame.specs.Frame.{Samples}
+use Rattle.fx_frame.specs.Holds.{total}
+use Rattle.fx_frame.specs.Ring.{pieces}
+use Rattle.fx_frame.specs.Stage.{Given}
+use Rattle.fx_frame.proofs.Pieces.{get_or-piece, length-pieces}
+use Rattle.fx_frame.specs.Lists.{tabulate}
+use Rattle.fx_blocks.specs.Made.{clips_in, rounded_given}
+use Rattle.fx_frame.specs.Rounded.{clips_of, given_of, samples_of}
+use Rattle.fx_blocks.proofs.SamplePieces.{clips-samples, pieces-samples, pieces-sides}
+use Rattle.fx_blocks.proofs.Tables.{map-table}
+
+-- where a sample of a frame stands among all
+pub flat-place : (channels n i k : ℕ) → i < n → k < channels → i * channels + k < n * channels
+flat-place channels n i k lt within = omega (arith, mul-add-lt i channels k n lt within, mul_comm channels n)
+
+-- each sum over a denominator is rounded, and the frames are those
+module _ (f : ℤ → ℤ × Bool) (size n : ℕ) (sums : List ℤ) (long : length sums ≡ n * size) where
+  -- one frame, sample by sample
+  pub rounded-frame : (h : ℕ → ℤ × Bool) (i : ℕ) → i < n → ((k : ℕ) → k < size → f (get_or sums (i * size + k) (pos 0)) ≡ h k) → rounded_given f (get_or (pieces size n sums) i []) ≡ given_of (tabulate h 0 size)
+  rounded-frame h i lt each =
+      let piece : Samples = get_or (pieces size n sums) i [] in
+      let count : i < length (pieces size n sums) = omega (arith, lt, length-pieces size n sums) in
+      let side : length (get_or (pieces size n sums) i []) ≡ size = pieces-sides size n sums (omega arith) i [] count in
+      ap given_of (map-table f h (pos 0) piece 0 (λ k l.
+      let e : 0 + k ≡ k = zero-add k in
+      let within : k < size = omega (arith, l, side) in
+      rw e (ap f (get_or-piece size n sums i k (pos 0) lt within) ∙ each k within))
+      ∙ ap (tabulate h 0) side)
+
+  module _ (given : ℕ → Given) (from : ℕ) (each : (i : ℕ) → i < n → rounded_given f (get_or (pieces size n sums) i []) ≡ given (from + i)) where
+    made : map (rounded_given f) (pieces size n sums) ≡ tabulate given from n
+    made =
+        let count : length (pieces size n sums) ≡ n = length-pieces size n sums in
+        map-table (rounded_given f) given [] (pieces size n sums) from (λ i l. each i (omega (arith, l, count))) ∙ ap (tabulate given from) count
+
+    pub rounded-frames : (out : List ℤ) → out ≡ samples_of (map f sums) → pieces size n out ≡ map (λ (g : Given). g.samples) (tabulate given from n)
+    rounded-frames out is =
+        ap (pieces size n) is ∙ pieces-samples f size n sums ∙ sym (map-map (λ (g : Given). g.samples) (rounded_given f) (pieces size n sums)) ∙ ap (map (λ (g : Given). g.samples)) made
+
+    pub rounded-clips : (clips : ℕ) → clips ≡ clips_of (map f sums) → clips ≡ total (λ (g : Given). g.clips) (tabulate given from n)
+    rounded-clips clips is =
+        let whole : take (n * size) sums ≡ sums = take_all (n * size) sums (omega arith) in
+        is ∙ ap (λ l. clips_of (map f l)) (sym whole) ∙ clips-samples f size n sums ∙ totals (pieces size n sums) ∙ ap (total (λ (g : Given). g.clips)) made
+      where
+        totals : (ps : List Samples) → clips_in (rounded_given f) ps ≡ total (λ (g : Given). g.clips) (map (rounded_given f) ps)
+        totals [] = refl
+        totals (p ∷ ps) = ap (λ m. clips_of (map f p) + m) (totals ps)

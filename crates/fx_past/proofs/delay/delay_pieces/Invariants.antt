@@ -1,0 +1,18 @@
+use Rattle.std.proofs.Common.{◌≡◌, ◌≤◌, ◌-◌, ◌*◌, ◌++◌, drop, length}
+use Rattle.fx_frame.specs.Ring.{pieces}
+use Rattle.fx_past.specs.DelayState.{delay_taps}
+use Rattle.fx_past.specs.Tapped.{frames_behind, last_of}
+use Rattle.fx_past.proofs.delay.delay_pieces.Given as goal
+
+abbrev pub invariant-pieces : goal.invariant-pieces
+invariant-pieces l = record {
+  within : l.done ≤ l.count;
+  made : pieces (length l.delays) l.done l.output ≡ frames_behind delay_taps l.delays l.fn.line.items (pieces (length l.delays) l.done l.input);
+  behind : drop (l.done * length l.delays) l.output ≡ drop (l.done * length l.delays) l.fn.output;
+  line : l.line.items ≡ last_of l.fn.line.capacity (l.fn.line.items ++ pieces (length l.delays) l.done l.input);
+  line_capacity : l.line.capacity ≡ l.fn.line.capacity;
+  line_channels : l.line.channels ≡ l.fn.line.channels;
+}
+
+abbrev pub decreases-pieces : goal.decreases-pieces
+decreases-pieces l = l.count - l.done

@@ -1,0 +1,65 @@
+use Rattle.std.proofs.Common.{◌<◌, ◌≤◌, ◌+◌, ◌*◌, ◌+ℤ◌, ◌*ℤ◌, ◌∙◌, ap, arith, length, List, ℕ, ℤ, drop, pos, slice_index_or}
+use Rattle.fx_frame.specs.Ring.{pieces}
+use Rattle.fx_past.specs.EchoWeights.{weighed_echoes}
+use Rattle.fx_past.proofs.EchoLaws.{echo-first, echo-next, echo-last}
+use Rattle.fx_past.proofs.EchoPieces.{coming-sample, earlier-sample}
+use Rattle.fx_past.proofs.EchoWeights.{held-weight, weighed-at, weighed-length}
+use Rattle.fx_past.proofs.SumPieces.{flat-place}
+use Rattle.fx_past.proofs.echo.PreparedEcho.add_piece.Goals as goal
+
+pub echoes-init : goal.echoes-init
+echoes-init c =
+    let ws : List ℤ = c.small.inside.weights in
+    let weight = held-weight ws 0 c.small.invariant in
+    let ch : ℕ = c.self.inside.channels in
+    let n : ℕ = c.args.count in
+    let long = rw (← c.self.view_is) at c.requires.sums in
+    rw (← c.self.view_is, ← c.small.view_is)
+    record {
+      value = λ i k lt within.
+          let at : i * ch + k < length c.args.sums.now = omega (arith, flat-place ch n i k lt within, long) in
+          let now = coming-sample ch n i k c.args.line.now.items c.args.frames.now lt within in
+          echo-first _ _ _ _ _ (rw weight at c.add_products.ensures.added (i * ch + k) at) (c.requires.empty (i * ch + k)) (ap (λ z. slice_index_or ws 0 (pos 0) *ℤ z) now);
+      small = λ k.
+          let few = c.add_products.ensures.few k in
+          let none = c.requires.empty k in
+          omega (arith, rw none at few);
+    }
+
+pub echoes-preserved : goal.echoes-preserved
+echoes-preserved c =
+    let es : List (ℕ × ℤ) = c.self.inside.echoes.items in
+    let ws : List ℤ = c.small.inside.weights in
+    let p : ℕ = c.echoes.place in
+    let ch : ℕ = c.self.inside.channels in
+    let n : ℕ = c.args.count in
+    let value = rw (← c.self.view_is, ← c.small.view_is) at c.echoes.invariant.value in
+    let weight = held-weight ws (p + 1) c.small.invariant in
+    let inside : p < length es = omega (arith, c.echoes-test.true, c.len-place-end.ensures) in
+    let in_range : p < length (weighed_echoes es (drop 1 ws)) = rw (weighed-length es (drop 1 ws)) inside in
+    let is = weighed-at es ws p c.index.result.now inside c.index.ensures in
+    let late = rw (← c.index.ensures) at (rw (← c.self.view_is) at c.requires.late p c.index.result.now inside) in
+    let same = rw (← c.self.view_is) at c.requires.channels in
+    let long = rw (← c.self.view_is) at c.requires.sums in
+    let coming : List (List ℤ) = pieces ch n c.args.frames.now in
+    rw (← c.self.view_is, ← c.small.view_is)
+    record {
+      value = λ i k lt within.
+          let at : i * ch + k < length c.echoes.sums = omega (arith, flat-place ch n i k lt within, long, c.echoes.auto.sums) in
+          let copied = rw same at c.before_into.ensures in
+          let early = earlier-sample c.args.line.now c.before_into.new.out coming ch c.index.result.now.0 n i k same late lt within c.before_into.ensures in
+          let added = (rw weight at c.add_products-in-echoes.ensures.added (i * ch + k) at) ∙ ap (λ z. slice_index_or c.echoes.sums (i * ch + k) (pos 0) +ℤ (slice_index_or ws (p + 1) (pos 0) *ℤ z)) early in
+          echo-next (weighed_echoes es (drop 1 ws)) p (c.index.result.now.0, slice_index_or ws (p + 1) (pos 0)) c.index.result.now _ k _ _ _ in_range is added (value i k lt within);
+      small = λ k.
+          let few = c.add_products-in-echoes.ensures.few k in
+          let so = c.echoes.invariant.small k in
+          omega (arith, few, so);
+    }
+
+pub returns-clause-value : goal.returns-clause-value
+returns-clause-value c =
+    let es : List (ℕ × ℤ) = c.self.inside.echoes.items in
+    let ws : List ℤ = c.small.inside.weights in
+    let value = rw (← c.self.view_is, ← c.small.view_is) at c.echoes.invariant.value in
+    let over : length (weighed_echoes es (drop 1 ws)) ≤ c.echoes.place = rw (weighed-length es (drop 1 ws)) (omega (arith, c.echoes-test.false, c.len-place-end.ensures)) in
+    rw (← c.self.view_is, ← c.small.view_is) (λ i k lt within. echo-last (weighed_echoes es (drop 1 ws)) c.echoes.place _ k _ _ over (value i k lt within))

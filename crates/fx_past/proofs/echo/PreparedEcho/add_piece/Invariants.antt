@@ -1,0 +1,13 @@
+use Rattle.std.proofs.Common.{◌≡◌, ◌<◌, ◌≤◌, ◌+◌, ◌*◌, ◌^◌, ◌++◌, ℕ, pos, ◌+ℤ◌, drop, length, slice_index_or, unsigned_abs}
+use Rattle.fx_frame.specs.Ring.{pieces}
+use Rattle.fx_past.specs.Echo.{echo_sum, echoes_of}
+use Rattle.fx_past.specs.EchoWeights.{weighed, weighed_echoes}
+use Rattle.fx_past.specs.Past.{sample_before}
+use Rattle.fx_past.proofs.echo.PreparedEcho.add_piece.Given as goal
+
+-- the echoes so far are added; with those to come it is the whole sum
+abbrev pub invariant-echoes : goal.invariant-echoes
+invariant-echoes l = record {
+  value : (i k : ℕ) → i < l.count → k < l.self.channels → slice_index_or l.sums (i * l.self.channels + k) (pos 0) +ℤ echoes_of (drop l.place (weighed_echoes l.self.echoes (drop 1 l.small.weights))) (sample_before (l.line.items ++ pieces l.self.channels l.count l.frames) (length l.line.items + i)) k ≡ echo_sum (weighed l.self l.small.weights) (sample_before (l.line.items ++ pieces l.self.channels l.count l.frames) (length l.line.items + i)) k;
+  small : (k : ℕ) → unsigned_abs (slice_index_or l.sums k (pos 0)) ≤ (l.place + 1) * 2 ^ 58;
+}

@@ -1,0 +1,28 @@
+use Rattle.std.proofs.Common.{arith, ap, ◌≤◌, ◌+◌, ◌∙◌, length}
+use Rattle.fx_fixed.specs.Extents.{sum_of_delays}
+use Rattle.fx_past.specs.EchosState.{frames_of}
+use Rattle.fx_blocks.proofs.Rounds.{byte-le}
+use Rattle.fx_past.proofs.EchosLaws.{frames-late}
+use Rattle.fx_past.proofs.echos.EchosStage.held.Goals as goal
+
+pub held_in-requires : goal.held_in-requires
+held_in-requires c =
+    let few = frames-late _ c.self.invariant.0 in
+    let whole = c.self.invariant.0.whole in
+    rw c.deref.ensures.value (omega (arith, few, whole))
+
+pub overflow_add-result : goal.overflow_add-result
+overflow_add-result c =
+    let few = frames-late _ c.self.invariant.0 in
+    let whole = c.self.invariant.0.whole in
+    let one = byte-le c.is_some.result in
+    let held = c.held_in.ensures ∙ ap (λ l. length (frames_of l)) c.deref.ensures.value in
+    omega (arith, few, whole, one, held, c.from.ensures)
+
+pub returns-clause-within : goal.returns-clause-within
+returns-clause-within c =
+    let few = frames-late _ c.self.invariant.0 in
+    let one = byte-le c.is_some.result in
+    let held = c.held_in.ensures ∙ ap (λ l. length (frames_of l)) c.deref.ensures.value in
+    let most : c.held_in.result + c.from.result ≤ sum_of_delays c.self.inside.echoes.items + 1 = omega (arith, few, one, held, c.from.ensures) in
+    rw (← c.self.view_is) most

@@ -1,0 +1,186 @@
+use Rattle.std.proofs.Common.{◌≡◌, ◌<◌, ◌≤◌, ◌+◌, ◌*◌, ◌^◌, ◌∙◌, [], List, ℕ, ℤ, pos, ◌+ℤ◌, ◌*ℤ◌, length, get_or, take, drop, replicate, sym, ap, refl, arith, unsigned_abs, slice_index_or}
+use Rattle.std.specs.List.{All}
+use Rattle.std.proofs.lemmas.Int.{ints}
+use Rattle.std.proofs.lemmas.List.{append-nil, drop_all, length-replicate, length-set, length-take-le, take-replicate, take_all}
+use Rattle.fx_frame.specs.Frame.{Samples}
+use Rattle.fx_frame.specs.Line.{Frames, channel_of, empty, latest_frames, pushed_all}
+use Rattle.fx_frame.specs.Ring.{pieces}
+use Rattle.fx_frame.proofs.ManyFrames.{pieces-replicate}
+use Rattle.fx_frame.proofs.Pieces.{get_or-piece, length-pieces}
+use Rattle.fx_past.specs.EchosState.{line_at}
+use Rattle.fx_transform.specs.Products.{sum_of_products}
+use Rattle.fx_sums.proofs.Places.{quiet-part, any-default}
+use Rattle.fx_past.proofs.EchoLaws.{echo-first}
+use Rattle.fx_past.proofs.EchoWeights.{held-weight}
+use Rattle.fx_past.proofs.EchosRow.{left-step, same-line}
+use Rattle.fx_past.proofs.EchosPieces.{column, column-is, fed-pieces, fed_all, let_out, after_all, pushed-is, rows-step, sums-step, flat-fits, flat-small, latest-small, let_out-is, row_after, row_after-is, row_gone, sum-none}
+use Rattle.fx_past.proofs.SumPieces.{flat-place}
+use Rattle.fx_past.proofs.echos.pass_piece.Goals as goal
+
+pub lines-init : goal.lines-init
+lines-init g c =
+    let n : ℕ = c.args.count in
+    let ch : ℕ = c.args.channels in
+    let ws : List ℤ = c.small.inside.weights in
+    let old : List (Frames ℤ) = c.args.lines.now in
+    let xs : List Samples = pieces ch n c.args.frames.now in
+    let start : List ℤ = take (length c.args.frames.now) (replicate g.row.N (pos 0)) in
+    let weight = held-weight ws 0 c.small.invariant in
+    let quiet : pieces ch n start ≡ replicate n (replicate ch (pos 0)) =
+    ap (pieces ch n) (ap (λ m. take m (replicate g.row.N (pos 0))) c.requires.frames ∙ take-replicate (n * ch) g.row.N (pos 0) c.requires.room) ∙ pieces-replicate ch n (pos 0) in
+    rw (← c.small.view_is)
+    record {
+      many = refl;
+      left = refl;
+      lines = ap (row_after ch old xs) quiet;
+      before = λ k. rw (quiet-part (length c.args.frames.now) g.row.N k) (omega arith);
+      sums = λ i k lt within.
+          let at : i * ch + k < length c.args.sums.now = omega (arith, flat-place ch n i k lt within, c.requires.sums) in
+          echo-first _ _ _ _ (sum_of_products (drop 1 ws) (channel_of (column i (row_gone ch old xs (pieces ch n start))) k (pos 0))) (rw weight at c.add_products.ensures.added (i * ch + k) at) (c.requires.empty (i * ch + k)) refl
+          ∙ ap (λ bs. (slice_index_or ws 0 (pos 0) *ℤ slice_index_or c.args.frames.now (i * ch + k) (pos 0)) +ℤ sum_of_products (drop 1 ws) (channel_of (column i (row_gone ch old xs bs)) k (pos 0))) quiet;
+      few = λ k.
+          let few = c.add_products.ensures.few k in
+          let none = c.requires.empty k in
+          omega (arith, rw none at few);
+    }
+
+pub before_into-requires-clause-late : goal.before_into-requires-clause-late
+before_into-requires-clause-late g c =
+    let n : ℕ = c.args.count in
+    let ch : ℕ = c.args.channels in
+    let p : ℕ = c.lines.place in
+    let old : List (Frames ℤ) = c.args.lines.now in
+    let lt : p < length old = c.lines-test.true in
+    let l : Frames ℤ = line_at old p in
+    let is = c.requires.lines p lt in
+    let read : get_or c.lines.lines p c.index-lines-place.result ≡ line_at old p = any-default c.lines.lines p c.index-lines-place.result (empty 0 0) (omega arith) ∙ same-line p old c.lines.lines c.lines.invariant.left in
+    let late = rw read at c.capacity.ensures.capacity in
+    omega (arith, late, c.requires.late p lt)
+
+pub before_into-requires-clause-len : goal.before_into-requires-clause-len
+before_into-requires-clause-len g c =
+    let n : ℕ = c.args.count in
+    let ch : ℕ = c.args.channels in
+    let p : ℕ = c.lines.place in
+    let old : List (Frames ℤ) = c.args.lines.now in
+    let lt : p < length old = c.lines-test.true in
+    let l : Frames ℤ = line_at old p in
+    let is = c.requires.lines p lt in
+    let read : get_or c.lines.lines p c.index-lines-place.result ≡ line_at old p = any-default c.lines.lines p c.index-lines-place.result (empty 0 0) (omega arith) ∙ same-line p old c.lines.lines c.lines.invariant.left in
+    let none : length (take (length c.args.frames.now) (replicate g.row.N (pos 0))) ≡ n * ch = length-take-le (length c.args.frames.now) (replicate g.row.N (pos 0)) (omega (arith, length-replicate g.row.N (pos 0), c.requires.frames, c.requires.room)) ∙ c.requires.frames in
+    rw (read, is.channels_are) (c.lines.auto.before ∙ none)
+
+pub push_frames-requires-clause-len : goal.push_frames-requires-clause-len
+push_frames-requires-clause-len g c =
+    let n : ℕ = c.args.count in
+    let ch : ℕ = c.args.channels in
+    let p : ℕ = c.lines.place in
+    let old : List (Frames ℤ) = c.args.lines.now in
+    let lt : p < length old = c.lines-test.true in
+    let l : Frames ℤ = line_at old p in
+    let is = c.requires.lines p lt in
+    let read : get_or c.lines.lines p c.index-lines-place.result ≡ line_at old p = any-default c.lines.lines p c.index-lines-place.result (empty 0 0) (omega arith) ∙ same-line p old c.lines.lines c.lines.invariant.left in
+    let none : length (take (length c.args.frames.now) (replicate g.row.N (pos 0))) ≡ n * ch = length-take-le (length c.args.frames.now) (replicate g.row.N (pos 0)) (omega (arith, length-replicate g.row.N (pos 0), c.requires.frames, c.requires.room)) ∙ c.requires.frames in
+    rw (read, is.channels_are) (c.add_samples.auto.out ∙ c.lines.auto.fed ∙ none)
+
+pub push_frames-requires-clause-fits : goal.push_frames-requires-clause-fits
+push_frames-requires-clause-fits g c =
+    flat-fits c.add_samples.new.out (λ k l.
+    let few = c.add_samples.ensures.few k (omega (arith, l, c.add_samples.auto.out)) in
+    let so = c.lines.invariant.before k in
+    omega (arith, few, so, c.lines-test.true, c.requires.few))
+
+pub add_wide_products-requires-clause-samples : goal.add_wide_products-requires-clause-samples
+add_wide_products-requires-clause-samples g c k =
+    let n : ℕ = c.args.count in
+    let ch : ℕ = c.args.channels in
+    let p : ℕ = c.lines.place in
+    let old : List (Frames ℤ) = c.args.lines.now in
+    let lt : p < length old = c.lines-test.true in
+    let l : Frames ℤ = line_at old p in
+    let is = c.requires.lines p lt in
+    let read : get_or c.lines.lines p c.index-lines-place.result ≡ line_at old p = any-default c.lines.lines p c.index-lines-place.result (empty 0 0) (omega arith) ∙ same-line p old c.lines.lines c.lines.invariant.left in
+    let none : length (take (length c.args.frames.now) (replicate g.row.N (pos 0))) ≡ n * ch = length-take-le (length c.args.frames.now) (replicate g.row.N (pos 0)) (omega (arith, length-replicate g.row.N (pos 0), c.requires.frames, c.requires.room)) ∙ c.requires.frames in
+    let late = rw read at c.capacity.ensures.capacity in
+    let copied = rw (read, late) at c.before_into.ensures in
+    let frames : All (All (λ x. unsigned_abs x ≤ (p + 1) * 2 ^ 31)) (pieces ch n c.before_into.new.out) = rw (ap (λ m. pieces m n c.before_into.new.out) (sym is.channels_are) ∙ copied) (latest-small ((p + 1) * 2 ^ 31) n l.capacity l is.small) in
+    let side : length c.before_into.new.out ≡ n * ch = c.before_into.auto.out ∙ c.lines.auto.before ∙ none in
+    let few = flat-small ch n ((p + 1) * 2 ^ 31) c.before_into.new.out side frames k in
+    omega (arith, few, lt, c.requires.few)
+
+pub lines-preserved : goal.lines-preserved
+lines-preserved g c =
+    let n : ℕ = c.args.count in
+    let ch : ℕ = c.args.channels in
+    let p : ℕ = c.lines.place in
+    let old : List (Frames ℤ) = c.args.lines.now in
+    let lt : p < length old = c.lines-test.true in
+    let l : Frames ℤ = line_at old p in
+    let is = c.requires.lines p lt in
+    let read : get_or c.lines.lines p c.index-lines-place.result ≡ line_at old p = any-default c.lines.lines p c.index-lines-place.result (empty 0 0) (omega arith) ∙ same-line p old c.lines.lines c.lines.invariant.left in
+    let none : length (take (length c.args.frames.now) (replicate g.row.N (pos 0))) ≡ n * ch = length-take-le (length c.args.frames.now) (replicate g.row.N (pos 0)) (omega (arith, length-replicate g.row.N (pos 0), c.requires.frames, c.requires.room)) ∙ c.requires.frames in
+    let xs : List Samples = pieces ch n c.args.frames.now in
+    let bs : List Samples = pieces ch n c.lines.before in
+    let ws : List ℤ = c.small.inside.weights in
+    let lined = rw read at c.capacity.ensures.line in
+    let late = rw read at c.capacity.ensures.capacity in
+    let long : length c.add_samples.new.out ≡ n * ch = c.add_samples.auto.out ∙ c.lines.auto.fed ∙ none in
+    let many : length c.lines.fed ≡ n * ch = c.lines.auto.fed ∙ none in
+    let fed_is : pieces ch n c.add_samples.new.out ≡ fed_all ch xs bs = fed-pieces ch n c.add_samples.new.out c.args.frames.now c.lines.before (omega arith) (λ k h. c.add_samples.ensures.added k (omega arith)) in
+    let count : length (fed_all ch xs bs) ≡ n = sym (ap length fed_is) ∙ length-pieces ch n c.add_samples.new.out in
+    let copied = rw (read, late) at c.before_into.ensures in
+    let gone : pieces ch n c.before_into.new.out ≡ let_out ch l (fed_all ch xs bs) = ap (λ m. pieces m n c.before_into.new.out) (sym is.channels_are) ∙ copied ∙ ap (λ m. take m (latest_frames (pos 0) l.capacity l)) (sym count) ∙ sym (let_out-is ch l (fed_all ch xs bs) is.channels_are lined.within (omega (arith, count, c.requires.late p lt))) in
+    let pushed = rw read at c.push_frames.ensures in
+    let all : pushed_all l (pieces l.channels n c.add_samples.new.out) ≡ pushed_all l (fed_all ch xs bs) = ap (λ m. pushed_all l (pieces m n c.add_samples.new.out)) is.channels_are ∙ ap (pushed_all l) fed_is in
+    let now : c.push_frames.new.self ≡ after_all l (fed_all ch xs bs) = pushed-is l c.push_frames.new.self (fed_all ch xs bs) lined.within (pushed.items ∙ all) pushed.capacity pushed.channels in
+    let weight = held-weight ws (p + 1) c.small.invariant in
+    let frames : All (All (λ x. unsigned_abs x ≤ (p + 1) * 2 ^ 31)) (pieces ch n c.before_into.new.out) = rw (ap (λ m. pieces m n c.before_into.new.out) (sym is.channels_are) ∙ copied) (latest-small ((p + 1) * 2 ^ 31) n l.capacity l is.small) in
+    let side : length c.before_into.new.out ≡ n * ch = c.before_into.auto.out ∙ c.lines.auto.before ∙ none in
+    let sums : length c.lines.sums ≡ n * ch = c.lines.auto.sums ∙ c.add_products.auto.sums ∙ c.requires.sums in
+    let sums_inv = rw (← c.small.view_is) at c.lines.invariant.sums in
+    rw (← c.small.view_is)
+    record {
+      many = length-set c.lines.lines p c.push_frames.new.self ∙ c.lines.invariant.many;
+      left = left-step p old c.lines.lines c.push_frames.new.self c.lines.invariant.left;
+      lines = rows-step ch p old c.lines.lines c.push_frames.new.self xs bs (pieces ch n c.before_into.new.out) _ lt c.lines.invariant.many now gone c.lines.invariant.lines;
+      before = flat-small ch n ((p + 1) * 2 ^ 31) c.before_into.new.out side frames;
+      sums = λ i k lt_i within.
+          let at : i * ch + k < length c.lines.sums = omega (arith, flat-place ch n i k lt_i within, sums) in
+          let value = (rw weight at c.add_wide_products.ensures.added (i * ch + k) at) ∙ ap (λ z. slice_index_or c.lines.sums (i * ch + k) (pos 0) +ℤ (slice_index_or ws (p + 1) (pos 0) *ℤ z)) (sym (get_or-piece ch n c.before_into.new.out i k (pos 0) lt_i within)) in
+          sums-step ch p i k old ws xs bs (pieces ch n c.before_into.new.out) (slice_index_or c.lines.sums (i * ch + k) (pos 0)) (slice_index_or c.add_wide_products.new.sums (i * ch + k) (pos 0)) _ lt gone value (sums_inv i k lt_i within);
+      few = λ k.
+          let few = c.add_wide_products.ensures.few k in
+          let so = c.lines.invariant.few k in
+          omega (arith, few, so);
+    }
+
+pub returns-clause-lines : goal.returns-clause-lines
+returns-clause-lines g c =
+    let n : ℕ = c.args.count in
+    let ch : ℕ = c.args.channels in
+    let p : ℕ = c.lines.place in
+    let old : List (Frames ℤ) = c.args.lines.now in
+    let xs : List Samples = pieces ch n c.args.frames.now in
+    let over : length old ≤ p = omega (arith, c.lines-test.false) in
+    let none : drop p old ≡ [] = drop_all p old over in
+    let whole : take p c.lines.lines ≡ c.lines.lines = take_all p c.lines.lines (omega (arith, c.lines.invariant.many)) in
+    let many : length xs ≡ n = length-pieces ch n c.args.frames.now in
+    let lines = rw (none, whole, append-nil) at c.lines.invariant.lines in
+    lines ∙ ap (λ m. row_after ch old xs (replicate m (replicate ch (pos 0)))) (sym many) ∙ row_after-is ch old xs
+
+pub returns-clause-value : goal.returns-clause-value
+returns-clause-value g c i k lt within =
+    let n : ℕ = c.args.count in
+    let ch : ℕ = c.args.channels in
+    let p : ℕ = c.lines.place in
+    let old : List (Frames ℤ) = c.args.lines.now in
+    let ws : List ℤ = c.args.small.now.weights in
+    let xs : List Samples = pieces ch n c.args.frames.now in
+    let over : length old ≤ p = omega (arith, c.lines-test.false) in
+    let none : drop p old ≡ [] = drop_all p old over in
+    let many : length xs ≡ n = length-pieces ch n c.args.frames.now in
+    let inside : i < length xs = omega arith in
+    let sums = rw (none, sum-none (drop (p + 1) ws)) at c.lines.invariant.sums i k lt within in
+    let first : slice_index_or c.lines.sums (i * ch + k) (pos 0) ≡ slice_index_or c.lines.sums (i * ch + k) (pos 0) +ℤ pos 0 = omega (arith, ints) in
+    first ∙ sums ∙ ap (λ gs. (slice_index_or ws 0 (pos 0) *ℤ slice_index_or c.args.frames.now (i * ch + k) (pos 0)) +ℤ sum_of_products (drop 1 ws) (channel_of gs k (pos 0)))
+    (ap (λ m. column i (row_gone ch old xs (replicate m (replicate ch (pos 0))))) (sym many) ∙ column-is ch i old xs inside)

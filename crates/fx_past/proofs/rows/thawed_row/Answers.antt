@@ -1,0 +1,84 @@
+use Rattle.std.proofs.Common.{◌≡◌, ◌≤◌, ◌++◌, ◌∷◌, [], ◌∙◌, inr, ℕ, ℤ, List, length, get_or, min, take, drop, pos, refl, sym, ap, arith}
+use Rattle.std.proofs.lemmas.Grind.{common_steps}
+use Rattle.std.proofs.Math.Logic.{⊎_map}
+use Rattle.std.proofs.lemmas.List.{length-append}
+use Rattle.std.proofs.lemmas.List.Elements.{All-get_or}
+use Rattle.std.proofs.lemmas.Result.{err_from_is_err_and}
+use Rattle.fx_frame.specs.Frame.{Samples}
+use Rattle.fx_frame.specs.Frozen.{line_of}
+use Rattle.fx_frame.specs.Line.{Frames}
+use Rattle.fx_past.specs.EchosState.{IsEchoLine, delay_at, line_at}
+use Rattle.fx_past.proofs.EchosLaws.{late-each}
+use Rattle.fx_past.proofs.EchosStored.{cut-on, delay-is, held_at, next-line, row-pushed, thawed-sound}
+use Rattle.fx_past.proofs.rows.thawed_row.Goals as goal
+
+pub returns-then-count-rest-clause-refused : goal.returns-then-count-rest-clause-refused
+returns-then-count-rest-clause-refused c =
+    inr (
+      refl,
+      λ lines row e.
+          let next = next-line c.args.channels c.args.came c.args.echoes.now lines c.echoes.rest.now c.echoes.place row c.echoes-test.true (c.echoes.invariant.only lines row e).1 in
+          let count : c.min-count.result ≡ held_at c.args.came c.args.echoes.now c.echoes.place = c.min-count.ensures ∙ ap (min c.args.came) (delay-is c.args.echoes.now c.echoes.place c.index-echoes-place.result c.echoes-test.true) in
+          let room = next.room in
+          omega (arith, count, room),
+    )
+
+pub returns-in_err-line-clause-refused : goal.returns-in_err-line-clause-refused
+returns-in_err-line-clause-refused c =
+    let fault = err_from_is_err_and c.from_residual.result c.from_residual.ensures.1 in
+    rw (fault.1, fault.2)
+    (⊎_map (λ m. m) (λ b. (
+      b.0,
+      λ lines row e.
+          let next = next-line c.args.channels c.args.came c.args.echoes.now lines c.echoes.rest.now c.echoes.place row c.echoes-test.true (c.echoes.invariant.only lines row e).1 in
+          let delay = delay-is c.args.echoes.now c.echoes.place c.index-echoes-place.result c.echoes-test.true in
+          let count : c.min-count.result ≡ held_at c.args.came c.args.echoes.now c.echoes.place = c.min-count.ensures ∙ ap (min c.args.came) delay in
+          let part : c.split_at.result.0.now ≡ take (held_at c.args.came c.args.echoes.now c.echoes.place) c.echoes.rest.now = c.split_at.ensures.front ∙ ap (λ n. take n c.echoes.rest.now) count in
+          let same : line_at lines c.echoes.place ≡ line_of c.args.channels (get_or c.args.echoes.now c.echoes.place c.index-echoes-place.result).0 c.split_at.result.0.now = rw (delay, part) next.is_line in
+          b.1 (rw same at next.here.line) (rw same at next.here.small),
+    )) c.in_err-line.ensures.refused)
+
+pub echoes-preserved : goal.echoes-preserved
+echoes-preserved c =
+    let channels : ℕ = c.args.channels in
+    let came : ℕ = c.args.came in
+    let echoes : List (ℕ × ℤ) = c.args.echoes.now in
+    let place : ℕ = c.echoes.place in
+    let rest : List Samples = c.echoes.rest.now in
+    let ls : List (Frames ℤ) = c.echoes.lines.items in
+    let l : Frames ℤ = c.in_ok-line.line in
+    let delay = delay-is echoes place c.index-echoes-place.result c.echoes-test.true in
+    let count : c.min-count.result ≡ held_at came echoes place = c.min-count.ensures ∙ ap (min came) delay in
+    let part : c.split_at.result.0.now ≡ take (held_at came echoes place) rest = c.split_at.ensures.front ∙ ap (λ n. take n rest) count in
+    let behind : c.split_at.result.1.now ≡ drop (held_at came echoes place) rest = c.split_at.ensures.back ∙ ap (λ n. drop n rest) count in
+    let found : l ≡ line_of channels (delay_at echoes place) (take (held_at came echoes place) rest) = c.in_ok-line.ensures.found ∙ ap (λ n. line_of channels n c.split_at.result.0.now) delay ∙ ap (line_of channels (delay_at echoes place)) part in
+    let items : l.items ≡ take (held_at came echoes place) rest = ap (λ (k : Frames ℤ). k.items) found in
+    let many : length ls ≡ place = c.echoes.invariant.as_many in
+    let some : 1 ≤ delay_at echoes place = All-get_or (λ e. 1 ≤ e.0) echoes place (0, pos 0) c.echoes-test.true c.requires.delays in
+    let long : length (take (held_at came echoes place) rest) ≡ min came (delay_at echoes place) = ap length (sym part) ∙ c.split_at.ensures.front_len ∙ count in
+    let here : IsEchoLine channels came place (delay_at echoes place) l = thawed-sound channels came place (delay_at echoes place) l (take (held_at came echoes place) rest) found c.in_ok-line.ensures.line c.in_ok-line.ensures.small some long in
+    let long_all = length-append ls (l ∷ []) in
+    rw (c.in-Ok.ensures.items, behind)
+    record {
+      as_many = omega (arith, long_all, many);
+      lines_are = λ j lt. row-pushed (λ i k. IsEchoLine channels came i (delay_at echoes i) k) ls l c.echoes.invariant.lines_are (rw many here) j (omega (arith, long_all, lt));
+      cut = cut-on ls l rest c.args.frames.now (held_at came echoes place) items c.echoes.invariant.cut;
+      only = λ lines row e.
+          let before = c.echoes.invariant.only lines row e in
+          let next = next-line channels came echoes lines rest place row c.echoes-test.true before.1 in
+          (next.more ∙ ap (λ a. a ++ line_at lines place ∷ []) before.0 ∙ ap (λ k. ls ++ k ∷ []) (next.is_line ∙ sym found), next.left);
+    }
+
+pub thawed_row_line-requires-clause-delay : goal.thawed_row_line-requires-clause-delay
+thawed_row_line-requires-clause-delay c =
+    let most = late-each c.args.echoes.now c.echoes.place c.index-echoes-place.result c.echoes-test.true in
+    omega (arith, most, c.requires.lines)
+
+pub returns-then-not-is_empty-clause-refused : goal.returns-then-not-is_empty-clause-refused
+returns-then-not-is_empty-clause-refused c = grind (arith, common_steps)
+
+pub returns-clause-stored : goal.returns-clause-stored
+returns-clause-stored c = grind (arith, common_steps)
+
+pub returns-clause-only : goal.returns-clause-only
+returns-clause-only c = grind (arith, common_steps)

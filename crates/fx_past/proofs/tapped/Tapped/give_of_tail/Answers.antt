@@ -1,0 +1,10 @@
+use Rattle.std.proofs.Common.{ap, ◌∙◌}
+use Rattle.fx_frame.specs.Frame.{silence}
+use Rattle.fx_past.proofs.TapLaws.{Gave-tail}
+use Rattle.fx_past.proofs.tapped.Tapped.give_of_tail.Goals as goal
+
+pub returns : goal.returns
+returns g c =
+    rw (← c.self.view_is)
+    (Gave-tail g.T.Tapping.taps g.met.T.Tapping.near _ _ c.silence-quiet.result c.tap-made.result.0 _ c.self.invariant (rw (← c.self.view_is) at c.requires.hand) (rw (← c.self.view_is) at c.requires.tail) (c.silence-quiet.ensures ∙ ap silence c.channels.ensures.value)
+    c.tap-made.ensures.frame c.tap-made.ensures.clips c.tap-made.ensures.channels c.push.ensures.items c.push.ensures.capacity)

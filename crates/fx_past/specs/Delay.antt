@@ -1,0 +1,24 @@
+-- The effect `delay` (sox(1), EFFECTS, delay): each channel comes later by its own number of frames.
+use Rattle.std.specs.Prelude.{ℕ, ◌+◌, ◌-◌, List, ◌++◌, length, replicate, slice_index}
+use Rattle.fx_fixed.specs.Extents.{greatest}
+use Rattle.fx_frame.specs.Frame.{Samples}
+use Rattle.fx_frame.specs.Stage.{Given, Kind}
+use Rattle.fx_frame.specs.Lists.{tabulate, plain}
+use Rattle.fx_past.specs.Past.{Past, sample_before}
+use Rattle.fx_blocks.specs.Kinds.{tap_kind}
+
+-- the frame whose channel k is delayed by delay k
+abbrev pub delayed_frame : List ℕ → Past → Samples
+delayed_frame delays past = tabulate (λ k. past (slice_index delays k) k) 0 (length delays)
+
+-- each channel delayed by its own delay
+abbrev pub delayed : List ℕ → List Samples → List Given
+delayed delays x = tabulate (λ n. plain (delayed_frame delays (sample_before x n))) 0 (length x + greatest delays)
+
+-- the delay of each of so many channels: those that are given, and then 0
+abbrev pub every_delay : ℕ → List ℕ → List ℕ
+every_delay channels delays = delays ++ replicate (channels - length delays) 0
+
+-- what it takes and gives, and when: a delay for each channel
+abbrev pub delay_kind : List ℕ → Kind
+delay_kind delays = tap_kind (length delays) (greatest delays)

@@ -1,0 +1,15 @@
+-- How the stages of `delay` behave (this project's profile).
+use Rattle.std.specs.Prelude.{ℕ, List, length}
+use Rattle.fx_fixed.specs.Extents.{greatest}
+use Rattle.fx_frame.specs.Stage.{Acts}
+use Rattle.fx_frame.specs.Lists.{plain}
+use Rattle.fx_past.specs.Tapped.{Taps, TapState, tap_acts}
+use Rattle.fx_past.specs.Delay.{delayed_frame, delayed}
+
+-- how `delay` makes frames; no sample is clipped
+abbrev pub delay_taps : Taps (List ℕ)
+delay_taps = record { channels = length; reach = greatest; most_clips = λ delays. 0; made = λ delays past. plain (delayed_frame delays past) }
+
+-- how the stages of `delay` behave
+abbrev pub delay_acts : Acts (TapState (List ℕ)) (List ℕ)
+delay_acts = record (tap_acts delay_taps) { meaning = delayed }

@@ -1,0 +1,14 @@
+-- How the stages of `echo` behave (this project's profile).
+use Rattle.std.specs.Prelude.{map}
+use Rattle.fx_fixed.specs.Extents.{greatest, tap_delay}
+use Rattle.fx_frame.specs.Stage.{Acts}
+use Rattle.fx_past.specs.Tapped.{Taps, TapState, tap_acts}
+use Rattle.fx_past.specs.Echo.{EchoArguments, echoed_frame, echo}
+
+-- how `echo` makes frames
+abbrev pub echo_taps : Taps EchoArguments
+echo_taps = record { channels = λ a. a.channels; reach = λ a. greatest (map tap_delay a.echoes); most_clips = λ a. 16; made = echoed_frame }
+
+-- how the stages of `echo` behave
+abbrev pub echo_acts : Acts (TapState EchoArguments) EchoArguments
+echo_acts = record (tap_acts echo_taps) { meaning = echo }

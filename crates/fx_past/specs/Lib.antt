@@ -1,0 +1,14 @@
+pub mod Delay
+pub mod DelayState
+pub mod Echo
+pub mod EchoState
+pub mod EchoWeights
+pub mod Echos
+pub mod EchosState
+pub mod EchosStored
+pub mod Fir
+pub mod FirState
+pub mod Near
+pub mod Past
+pub mod Split
+pub mod Tapped

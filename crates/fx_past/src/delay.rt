@@ -1,0 +1,294 @@
+//! The effect `delay` of sox(1): each channel comes later by its own number of frames.
+ghost use Rattle.std.specs.Prelude.{◌≡◌, ◌<◌, ◌≤◌, ◌==◌, ◌⊎◌, nat_lt, if◌then◌else◌, ◌-◌, ◌*◌, ◌^◌, ◌++◌, ◌∷◌, [], ℕ, List, true, length, drop, take, replicate, slice_index, slice_index_or, pos, Err, IfOk, MatchResult};
+ghost use Rattle.fx_fixed.specs.Extents.{greatest};
+ghost use Rattle.fx_frame.specs.Frame.{IsFrame, silence};
+ghost use Rattle.fx_frame.specs.Line.{pushed, pushed_all};
+ghost use Rattle.fx_frame.specs.Ring.{pieces};
+ghost use Rattle.fx_frame.specs.Stage.{Freezes, IsNew};
+ghost use Rattle.fx_past.specs.Delay.{delayed_frame, every_delay};
+ghost use Rattle.fx_past.specs.DelayState.{delay_acts, delay_taps};
+ghost use Rattle.fx_past.specs.Tapped.{IsTapState, TapState, frames_behind, last_of};
+ghost use Rattle.fx_past.specs.Past.{sample_before};
+ghost use Rattle.fx_past.specs.Near.{delays-near};
+ghost use Rattle.std.proofs.Common.{zero-le};
+
+use crate::echo::SAMPLES_OF_PIECE;
+use crate::tapped::{Tapped, Tapping, TapsMany, sample, tap_and_push, tap_by_frames};
+use fx_fixed::inner::longest;
+use fx_frame::inner::{frame_of, samples};
+use fx_frame::{Frame, Line, ThawFault, WideFrame};
+use std::alloc::{AllocError, Global};
+use std::marker::Model;
+
+/// The delay of each of 1 to 16 channels, in frames.
+#[derive(Drop)]
+pub struct Delays {
+    delays: Vec<u64>,
+}
+
+impl Model for Delays {
+    ghost use Rattle.std.specs.Prelude.{◌≤◌, ℕ, List, length};
+
+    ghost Value = { List ℕ };
+
+    ghost view = { λ s. s.delays.items };
+
+    ghost invariant = { λ s. (1 ≤ length s.delays.items) × (length s.delays.items ≤ 16) };
+}
+
+/// Writes the samples of the frame whose channels are delayed.
+#[inline(always)]
+fn delayed_into(line: &Line, delays: &[u64], frame: &[i32], out: &mut [i32])
+    requires { length out.old ≡ length delays.now }
+    ensures { out.new ≡ delayed_frame delays.now (sample_before (line.now.items ++ frame.now ∷ []) (length line.now.items)) }
+{
+    'channels: for channel in 0..delays.len() {
+        out[channel] = sample(line, frame, delays[channel] as usize, channel);
+    }
+}
+
+/// The frame whose channels are delayed.
+fn delayed_frame(line: &Line, delays: &[u64], frame: Frame) -> Frame
+    requires { (1 ≤ length delays.now) × (length delays.now ≤ 16) }
+    ensures value { result ≡ delayed_frame delays.now (sample_before (line.now.items ++ frame ∷ []) (length line.now.items)) }
+    ensures frame { IsFrame result × (length result ≡ length delays.now) }
+{
+    let mut out = [0; 16];
+    delayed_into(line, delays, samples(&frame), &mut out[..delays.len()]);
+    let made = frame_of(delays.len(), out);
+    let _channels = made.channels();
+    made
+}
+
+/// The delay of each channel: those that are given, and then 0.
+fn every_delay(alloc: Global, channels: usize, delays: &[u64]) -> Result<Vec<u64>, AllocError>
+    requires { length delays.now ≤ channels }
+    ensures items { IfOk result (λ v. v.items ≡ every_delay channels delays.now) }
+    ensures count { IfOk result (λ v. length v.items ≡ channels) }
+    ensures longest { IfOk result (λ v. greatest v.items ≡ greatest delays.now) }
+{
+    let mut every = Vec::new(alloc);
+    every.extend_from_slice(delays)?;
+    every.resize(channels, 0)?;
+    Ok(every)
+}
+
+impl Tapping for Delays {
+    ghost taps = { delay_taps };
+
+    fn tap(&self, line: &Line, frame: Frame) -> (Frame, u64) {
+        (delayed_frame(line, &self.delays, frame), 0)
+    }
+
+    fn tap_into(&self, line: &Line, frame: &[i32], out: &mut [i32]) -> u64 {
+        delayed_into(line, &self.delays, frame, out);
+        0
+    }
+
+    fn channels(&self) -> usize {
+        self.delays.len()
+    }
+
+    fn most_clips(&self) -> u64 {
+        0
+    }
+
+    ghost near = { delays-near };
+
+    ghost few_clips = { λ m. zero-le };
+}
+
+/// The stage of `delay`: each channel comes later by its own number of frames, silent before its first. No sample is
+/// clipped.
+pub type Delay = Tapped<Delays>;
+
+impl Tapped<Delays> {
+    /// The stage for frames of 1 to 16 channels, with at most one delay for each, in frames; a channel without one is not
+    /// delayed. It holds as many frames as the longest delay has, at most `2^28`; AllocError where memory for them is refused.
+    pub fn new(alloc: Global, channels: usize, delays: &[u64]) -> Result<Delay, AllocError>
+        requires channels { (1 ≤ channels) × (channels ≤ 16) }
+        requires delays { length delays.now ≤ channels }
+        requires line { greatest delays.now ≤ 2 ^ 28 }
+        ensures { IfOk result (IsNew delay_acts (every_delay channels delays.now)) }
+    {
+        let reach = longest(delays) as usize;
+        let delays = every_delay(alloc, channels, delays)?;
+        Tapped::of(alloc, Delays { delays }, reach)
+    }
+    /// The stage that stored these frames and counted these numbers: whichever stage of these channels and delays they came
+    /// from, that stage comes back, unless memory is wanting. BadSnapshot where there is no such stage, Memory where a growth
+    /// was refused.
+    pub fn thaw(
+        alloc: Global,
+        channels: usize,
+        delays: &[u64],
+        frames: &[WideFrame],
+        numbers: &[u64; 8],
+    ) -> Result<Delay, ThawFault>
+        requires channels { (1 ≤ channels) × (channels ≤ 16) }
+        requires delays { length delays.now ≤ channels }
+        requires line { greatest delays.now ≤ 2 ^ 28 }
+        ensures recipe { IfOk result (λ t. delay_acts.recipe t ≡ every_delay channels delays.now) }
+        ensures frozen { IfOk result (λ t. Freezes delay_acts t frames.now numbers.now) }
+        ensures thawed { (s : TapState (List ℕ)) → IsTapState delay_taps s → delay_acts.recipe s ≡ every_delay channels delays.now → Freezes delay_acts s frames.now numbers.now → MatchResult result (λ t. t ≡ s) (λ e. e ≡ ThawFault.Memory) }
+        ensures named { (result ≡ Err ThawFault.WrongPlan) → ⊥ }
+    {
+        let reach = longest(delays) as usize;
+        let Ok(delays) = every_delay(alloc, channels, delays) else {
+            return Err(ThawFault::Memory);
+        };
+        Tapped::thawed(alloc, Delays { delays }, reach, frames, numbers)
+    }
+}
+
+/// Is each of the delays so long?
+fn all_are(delays: &[u64], reach: u64) -> bool
+    ensures { result ≡ true → (k : ℕ) → k < length delays.now → slice_index delays.now k ≡ reach }
+{
+    'delays: for delay in delays {
+        if *delay != reach {
+            return false;
+        }
+    }
+    true
+}
+
+/// Writes silence over so many frames in front of the output.
+fn write_silence(output: &mut [i32], channels: usize, count: usize)
+    requires { count * channels ≤ length output.old }
+    ensures { output.new ≡ replicate (count * channels) (pos 0) ++ drop (count * channels) output.old }
+{
+    output[..count * channels].fill(0);
+}
+
+/// Writes so many frames, each as many frames after its own as the line has places, and silence before the first. Those that
+/// come go into the line.
+fn delay_evenly(line: &mut Line, channels: usize, frames: &[i32], count: usize, output: &mut [i32])
+    requires channels { channels ≡ line.old.channels }
+    requires frames { length frames.now ≡ count * line.old.channels }
+    requires room { count * line.old.channels ≤ length output.old }
+    ensures frames { pieces line.old.channels count output.new ≡ take count (replicate (line.old.capacity - length line.old.items) (silence line.old.channels) ++ (line.old.items ++ pieces line.old.channels count frames.now)) }
+    ensures behind { drop (count * line.old.channels) output.new ≡ drop (count * line.old.channels) output.old }
+    ensures items { line.new.items ≡ pushed_all line.old (pieces line.old.channels count frames.now) }
+    ensures capacity { line.new.capacity ≡ line.old.capacity }
+    ensures channels { line.new.channels ≡ line.old.channels }
+{
+    let quiet = (line.capacity() - line.len()).min(count);
+    write_silence(output, channels, quiet);
+    line.oldest_into(frames, count - quiet, &mut output[quiet * channels..]);
+    line.push_frames(frames, count);
+}
+
+/// Writes the samples of the frame that came as many frames before one as the line has places over those of that one, which
+/// goes into the line; silence where there was none.
+#[inline(always)]
+pub(crate) fn delay_over(line: &mut Line, samples: &mut [i32])
+    requires { length samples.old ≡ line.old.channels }
+    ensures frame { samples.new ≡ (if nat_lt (length line.old.items) line.old.capacity then silence (length samples.old) else slice_index_or (line.old.items ++ samples.old ∷ []) 0 []) }
+    ensures items { line.new.items ≡ pushed line.old samples.old }
+    ensures capacity { line.new.capacity ≡ line.old.capacity }
+    ensures channels { line.new.channels ≡ line.old.channels }
+{
+    if !line.push_over(samples) {
+        samples.fill(0);
+    }
+}
+
+/// The fewest frames of a piece: fewer take longer at once than one at a time.
+const FEWEST_OF_PIECE: usize = 8;
+
+/// The most frames of a piece: few enough that they stay in the nearest cache from channel to channel, and where a channel is
+/// late, it is by no fewer.
+fn frames_of_piece(delays: &[u64]) -> usize
+    requires { (1 ≤ length delays.now) × (length delays.now ≤ 16) }
+    ensures some { 1 ≤ result }
+    ensures late { (k : ℕ) → k < length delays.now → (slice_index delays.now k ≡ 0) ⊎ (result ≤ slice_index delays.now k) }
+{
+    let mut most = SAMPLES_OF_PIECE / delays.len();
+    'delays: for delay in delays {
+        if *delay != 0 {
+            most = most.min(*delay as usize);
+        }
+    }
+    most
+}
+
+/// Writes so many frames that come behind those of the line, each channel as late as its delay. No channel is late by fewer.
+fn delay_piece(delays: &[u64], line: &Line, frames: &[i32], count: usize, out: &mut [i32])
+    requires some { (1 ≤ length delays.now) × (length delays.now ≤ 16) }
+    requires channels { line.now.channels ≡ length delays.now }
+    requires late { (k : ℕ) → k < length delays.now → (slice_index delays.now k ≡ 0) ⊎ (count ≤ slice_index delays.now k) }
+    requires frames { length frames.now ≡ count * length delays.now }
+    requires out { length out.old ≡ count * length delays.now }
+    ensures { pieces (length delays.now) count out.new ≡ frames_behind delay_taps delays.now line.now.items (pieces (length delays.now) count frames.now) }
+{
+    out.copy_from_slice(frames);
+    'channels: for channel in 0..delays.len() {
+        let late = delays[channel] as usize;
+        if late != 0 {
+            line.channel_before_into(late, count, channel, out);
+        }
+    }
+}
+
+/// Writes so many frames of those in front of the input, which come behind those of the line, each channel as late as its
+/// delay, to the front of the output, some at a time. They go through the line.
+fn delay_pieces(
+    delays: &[u64],
+    line: &mut Line,
+    most: usize,
+    input: &[i32],
+    output: &mut [i32],
+    count: usize,
+)
+    requires some { (1 ≤ length delays.now) × (length delays.now ≤ 16) }
+    requires channels { line.old.channels ≡ length delays.now }
+    requires capacity { line.old.capacity ≡ greatest delays.now }
+    requires most { 1 ≤ most }
+    requires late { (k : ℕ) → k < length delays.now → (slice_index delays.now k ≡ 0) ⊎ (most ≤ slice_index delays.now k) }
+    requires few { count ≤ 2 ^ 56 }
+    requires input { count * length delays.now ≤ length input.now }
+    requires output { count * length delays.now ≤ length output.old }
+    ensures frames { pieces (length delays.now) count output.new ≡ frames_behind delay_taps delays.now line.old.items (pieces (length delays.now) count input.now) }
+    ensures behind { drop (count * length delays.now) output.new ≡ drop (count * length delays.now) output.old }
+    ensures line { line.new.items ≡ last_of line.old.capacity (line.old.items ++ pieces (length delays.now) count input.now) }
+    ensures line_capacity { line.new.capacity ≡ line.old.capacity }
+    ensures line_channels { line.new.channels ≡ line.old.channels }
+{
+    let channels = delays.len();
+    let _held = line.len();
+    let mut done = 0;
+    'pieces: while done < count {
+        let now = most.min(count - done);
+        let from = done * channels;
+        let to = from + now * channels;
+        let frames = &input[from..to];
+        delay_piece(delays, line, frames, now, &mut output[from..to]);
+        line.push_frames(frames, now);
+        done += now;
+    }
+}
+
+impl TapsMany for Delays {
+    fn tap_many(&self, line: &mut Line, input: &[i32], output: &mut [i32], count: usize) -> u64 {
+        let channels = self.channels();
+        if all_are(&self.delays, line.capacity() as u64) {
+            delay_evenly(line, channels, &input[..count * channels], count, output);
+            return 0;
+        }
+        let most = frames_of_piece(&self.delays);
+        if most < FEWEST_OF_PIECE {
+            return tap_by_frames(self, line, input, output, count);
+        }
+        delay_pieces(&self.delays, line, most, input, output, count);
+        0
+    }
+
+    fn tap_over(&self, line: &mut Line, samples: &mut [i32]) -> u64 {
+        if all_are(&self.delays, line.capacity() as u64) {
+            delay_over(line, samples);
+            return 0;
+        }
+        tap_and_push(self, line, samples)
+    }
+}

@@ -1,0 +1,459 @@
+//! The effect `echo` of sox(1): earlier frames come again, each with a decay.
+ghost use Rattle.std.specs.Prelude.{◌≡◌, ◌<◌, ◌≤◌, ◌+◌, ◌*◌, ◌^◌, ◌++◌, ◌∷◌, [], ℕ, pos, ◌+ℤ◌, ◌*ℤ◌, length, slice_index_or, unsigned_abs, Err, IfOk, IfSome, IsTrue, MatchResult, map};
+ghost use Rattle.std.proofs.Common.{rules};
+ghost use Rattle.std.specs.List.{All};
+ghost use Rattle.fx_fixed.specs.Extents.{greatest, tap_delay};
+ghost use Rattle.fx_fixed.specs.Rounding.{rounding};
+ghost use Rattle.fx_frame.specs.Line.{pushed};
+ghost use Rattle.fx_frame.specs.Lists.{tabulate};
+ghost use Rattle.fx_frame.specs.Ring.{pieces};
+ghost use Rattle.fx_frame.specs.Rounded.{given_of};
+ghost use Rattle.fx_frame.specs.Stage.{Freezes, IsNew};
+ghost use Rattle.fx_past.specs.Echo.{EchoArguments, IsEcho, echo_sum, echoed_frame};
+ghost use Rattle.fx_past.specs.EchoState.{echo_acts, echo_taps};
+ghost use Rattle.fx_sums.specs.Weights.{SoundsAs};
+ghost use Rattle.fx_past.specs.EchoWeights.{weighed};
+ghost use Rattle.fx_past.specs.Near.{echoes-near};
+ghost use Rattle.fx_past.specs.Tapped.{IsTapState, TapState, clips_behind, frames_behind};
+ghost use Rattle.fx_past.specs.Past.{sample_before};
+
+use crate::delay::delay_over;
+use crate::sums::{add_scaled, round_sums, rounded_sums, sums_into};
+use crate::tapped::{Tapped, Tapping, TapsMany, sample, tap_and_push, tap_by_frames};
+use fx_fixed::inner::longest_tap;
+use fx_fixed::{Gain, UNIT};
+use fx_frame::feed::{copy_samples, frame_at};
+use fx_frame::inner::{frame_of, samples};
+use fx_frame::{Frame, Line, ThawFault, WideFrame};
+use fx_sums::inner::{Sums, add_products, product};
+use fx_sums::weights::{Small, small_of};
+use std::alloc::{AllocError, Global};
+use std::marker::Model;
+
+/// The greatest weight of small ones: of eight such products of samples the sum fits 61 bits.
+const GREATEST_WEIGHT: u32 = 1 << 27;
+
+/// What an `echo` is made with, and the same in lowest terms, where these are small.
+#[derive(Drop)]
+pub struct PreparedEcho {
+    channels: usize,
+    gain_in: Gain,
+    gain_out: Gain,
+    echoes: Vec<(u64, Gain)>,
+    small: Option<Small>,
+}
+
+impl Model for PreparedEcho {
+    ghost use Rattle.std.specs.Prelude.{IfSome};
+    ghost use Rattle.fx_past.specs.Echo.{EchoArguments, IsEcho};
+    ghost use Rattle.fx_sums.specs.Weights.{SoundsAs};
+
+    ghost Value = { EchoArguments };
+
+    ghost view = { λ s. record { channels = s.channels; gain_in = s.gain_in; gain_out = s.gain_out; echoes = s.echoes.items } };
+
+    ghost invariant = { λ s. IsEcho (record { channels = s.channels; gain_in = s.gain_in; gain_out = s.gain_out; echoes = s.echoes.items }) × IfSome s.small (SoundsAs s.gain_in s.gain_out s.echoes.items) };
+}
+
+/// Adds the echo of a frame that comes after those of the line.
+#[inline(always)]
+fn add_echo(sums: &mut Sums, channels: usize, line: &Line, frame: Frame, echo: (u64, Gain))
+    requires channels { channels ≤ 16 }
+    requires late { 1 ≤ echo.0 }
+    requires decay { unsigned_abs echo.1 ≤ UNIT }
+    requires room { (k : ℕ) → unsigned_abs (slice_index_or sums.old k (pos 0)) ≤ 2 ^ 100 }
+    ensures added { (k : ℕ) → k < channels → slice_index_or sums.new k (pos 0) ≡ slice_index_or sums.old k (pos 0) +ℤ (echo.1 *ℤ sample_before (line.now.items ++ frame ∷ []) (length line.now.items) echo.0 k) }
+    ensures few { (k : ℕ) → unsigned_abs (slice_index_or sums.new k (pos 0)) ≤ unsigned_abs (slice_index_or sums.old k (pos 0)) + UNIT * 2 ^ 31 }
+{
+    let (late, decay) = echo;
+    let Some(from) = line.back(late as usize - 1) else {
+        return;
+    };
+    add_scaled(sums, channels, decay, from);
+}
+
+impl PreparedEcho {
+    /// Those of at most seven echoes, prepared.
+    fn of(channels: usize, gain_in: Gain, gain_out: Gain, echoes: Vec<(u64, Gain)>) -> PreparedEcho
+        requires { IsEcho (record { channels = channels; gain_in = gain_in; gain_out = gain_out; echoes = echoes.items }) }
+        ensures { result ≡ record { channels = channels; gain_in = gain_in; gain_out = gain_out; echoes = echoes.items } }
+    {
+        let small = small_of(gain_in, gain_out, &echoes, GREATEST_WEIGHT);
+        PreparedEcho {
+            channels,
+            gain_in,
+            gain_out,
+            echoes,
+            small,
+        }
+    }
+
+    /// A sample of a frame that comes after those of the line, and its echoes, each times its weight, added.
+    #[inline(always)]
+    fn small_sum(&self, small: &Small, line: &Line, frame: &[i32], channel: usize) -> i64
+        ensures value { result ≡ echo_sum (weighed self.now small.now.weights) (sample_before (line.now.items ++ frame.now ∷ []) (length line.now.items)) channel }
+        ensures small { unsigned_abs result ≤ 2 ^ 61 }
+    {
+        let mut sum = product(small.weights[0], sample(line, frame, 0, channel));
+        'echoes: for place in 0..self.echoes.len() {
+            let (late, _) = self.echoes[place];
+            let earlier = sample(line, frame, late as usize, channel);
+            sum += product(small.weights[place + 1], earlier);
+        }
+        sum
+    }
+
+    /// Writes the samples of a frame that comes after those of the line, with their echoes, and counts how many were clipped.
+    #[inline(always)]
+    fn small_into(&self, small: &Small, line: &Line, frame: &[i32], out: &mut [i32]) -> u64
+        requires sounds { SoundsAs self.now.gain_in self.now.gain_out self.now.echoes small.now }
+        requires out { length out.old ≡ self.now.channels }
+        ensures frame { out.new ≡ (echoed_frame self.now (sample_before (line.now.items ++ frame.now ∷ []) (length line.now.items))).samples }
+        ensures clips { result ≡ (echoed_frame self.now (sample_before (line.now.items ++ frame.now ∷ []) (length line.now.items))).clips }
+        ensures few { result ≤ length out.old }
+    {
+        let mut clips = 0;
+        'channels: for channel in 0..out.len() {
+            let sum = self.small_sum(small, line, frame, channel);
+            let (sample, is_clipped) = small.denominator.round(sum);
+            out[channel] = sample;
+            clips += u64::from(is_clipped);
+        }
+        clips
+    }
+
+    /// The frame times gain-in, and its echoes, added.
+    #[inline(always)]
+    fn sums(&self, line: &Line, frame: Frame) -> Sums
+        ensures value { (k : ℕ) → k < self.now.channels → slice_index_or result k (pos 0) ≡ echo_sum self.now (sample_before (line.now.items ++ frame ∷ []) (length line.now.items)) k }
+        ensures small { (k : ℕ) → unsigned_abs (slice_index_or result k (pos 0)) ≤ 8 * (UNIT * 2 ^ 31) }
+    {
+        let mut sums = [0; 16];
+        add_scaled(&mut sums, self.channels, self.gain_in, frame);
+        'echoes: for echo in &self.echoes {
+            add_echo(&mut sums, self.channels, line, frame, *echo);
+        }
+        sums
+    }
+}
+
+impl PreparedEcho {
+    /// Writes the samples of a frame that comes after those of the line, with their echoes, whatever the gains, and counts how
+    /// many were clipped.
+    // Room for the wide sums is taken where this is called alone.
+    #[inline(never)]
+    fn wide_into(&self, line: &Line, frame: &[i32], out: &mut [i32]) -> u64
+        requires frame { length frame.now ≡ self.now.channels }
+        requires out { length out.old ≡ self.now.channels }
+        ensures frame { out.new ≡ (echoed_frame self.now (sample_before (line.now.items ++ frame.now ∷ []) (length line.now.items))).samples }
+        ensures clips { result ≡ (echoed_frame self.now (sample_before (line.now.items ++ frame.now ∷ []) (length line.now.items))).clips }
+        ensures few { result ≤ length out.old }
+    {
+        let frame = frame_at(frame, 0, self.channels);
+        let sums = self.sums(line, frame);
+        sums_into(&sums, self.gain_out, out)
+    }
+}
+
+impl Tapping for PreparedEcho {
+    ghost taps = { echo_taps };
+
+    fn tap(&self, line: &Line, frame: Frame) -> (Frame, u64) {
+        if let Some(small) = &self.small {
+            let mut out = [0; 16];
+            let clips = self.small_into(small, line, samples(&frame), &mut out[..self.channels]);
+            return (frame_of(self.channels, out), clips);
+        }
+        let sums = self.sums(line, frame);
+        rounded_sums(&sums, self.channels, self.gain_out)
+    }
+
+    #[inline(always)]
+    fn tap_into(&self, line: &Line, frame: &[i32], out: &mut [i32]) -> u64 {
+        let Some(small) = &self.small else {
+            return self.wide_into(line, frame, out);
+        };
+        self.small_into(small, line, frame, out)
+    }
+
+    fn channels(&self) -> usize {
+        self.channels
+    }
+
+    fn most_clips(&self) -> u64 {
+        16
+    }
+
+    ghost near = { echoes-near };
+
+    ghost few_clips = { λ m. Prim.search rules };
+}
+
+/// A list of the same echoes.
+pub(crate) fn copied(alloc: Global, echoes: &[(u64, Gain)]) -> Result<Vec<(u64, Gain)>, AllocError>
+    ensures { IfOk result (λ v. v.items ≡ echoes.now) }
+{
+    let mut copies = Vec::new(alloc);
+    'echoes: for echo in echoes {
+        copies.push(*echo)?;
+    }
+    Ok(copies)
+}
+
+/// The stage of `echo`: each frame times gain-in and the frames before it at the delays, each times its decay, added,
+/// times gain-out and rounded once. A sample that is clipped counts for one clip.
+pub type Echo = Tapped<PreparedEcho>;
+
+impl Tapped<PreparedEcho> {
+    /// The stage for frames of 1 to 16 channels, with 1 to 7 echoes, each with its delay in frames, at least 1, and its
+    /// decay. Gain-in and the decays are at most 1, gain-out is at most 1000. It holds as many frames as the longest delay has, at
+    /// most `2^28`; AllocError where memory for them is refused.
+    pub fn new(
+        alloc: Global,
+        channels: usize,
+        gain_in: Gain,
+        gain_out: Gain,
+        echoes: &[(u64, Gain)],
+    ) -> Result<Echo, AllocError>
+        requires channels { (1 ≤ channels) × (channels ≤ 16) }
+        requires gain_in { unsigned_abs gain_in ≤ UNIT }
+        requires echoes { (1 ≤ length echoes.now) × (length echoes.now ≤ 7) }
+        requires delays { All (λ e. 1 ≤ e.0) echoes.now }
+        requires decays { All (λ e. unsigned_abs e.1 ≤ UNIT) echoes.now }
+        requires line { greatest (map tap_delay echoes.now) ≤ 2 ^ 28 }
+        ensures { IfOk result (IsNew echo_acts (record { channels = channels; gain_in = gain_in; gain_out = gain_out; echoes = echoes.now })) }
+    {
+        let reach = longest_tap(echoes) as usize;
+        let echoes = copied(alloc, echoes)?;
+        let arguments = PreparedEcho::of(channels, gain_in, gain_out, echoes);
+        Tapped::of(alloc, arguments, reach)
+    }
+    /// The stage that stored these frames and counted these numbers: whichever stage of these arguments they came from, that
+    /// stage comes back, unless memory is wanting. BadSnapshot where there is no such stage, Memory where a growth was
+    /// refused.
+    pub fn thaw(
+        alloc: Global,
+        channels: usize,
+        gain_in: Gain,
+        gain_out: Gain,
+        echoes: &[(u64, Gain)],
+        frames: &[WideFrame],
+        numbers: &[u64; 8],
+    ) -> Result<Echo, ThawFault>
+        requires channels { (1 ≤ channels) × (channels ≤ 16) }
+        requires gain_in { unsigned_abs gain_in ≤ UNIT }
+        requires echoes { (1 ≤ length echoes.now) × (length echoes.now ≤ 7) }
+        requires delays { All (λ e. 1 ≤ e.0) echoes.now }
+        requires decays { All (λ e. unsigned_abs e.1 ≤ UNIT) echoes.now }
+        requires line { greatest (map tap_delay echoes.now) ≤ 2 ^ 28 }
+        ensures recipe { IfOk result (λ t. echo_acts.recipe t ≡ record { channels = channels; gain_in = gain_in; gain_out = gain_out; echoes = echoes.now }) }
+        ensures frozen { IfOk result (λ t. Freezes echo_acts t frames.now numbers.now) }
+        ensures thawed { (s : TapState EchoArguments) → IsTapState echo_taps s → echo_acts.recipe s ≡ record { channels = channels; gain_in = gain_in; gain_out = gain_out; echoes = echoes.now } → Freezes echo_acts s frames.now numbers.now → MatchResult result (λ t. t ≡ s) (λ e. e ≡ ThawFault.Memory) }
+        ensures named { (result ≡ Err ThawFault.WrongPlan) → ⊥ }
+    {
+        let reach = longest_tap(echoes) as usize;
+        let Ok(echoes) = copied(alloc, echoes) else {
+            return Err(ThawFault::Memory);
+        };
+        let arguments = PreparedEcho::of(channels, gain_in, gain_out, echoes);
+        Tapped::thawed(alloc, arguments, reach, frames, numbers)
+    }
+}
+
+/// The most samples of a piece: frames that are made at once.
+pub(crate) const SAMPLES_OF_PIECE: usize = 256;
+
+/// The most frames of a piece: there is room for their samples, and none of them is an echo of another.
+pub(crate) fn frames_of_piece(channels: usize, echoes: &[(u64, Gain)]) -> usize
+    requires channels { (1 ≤ channels) × (channels ≤ 16) }
+    requires delays { All (λ e. 1 ≤ e.0) echoes.now }
+    ensures some { 1 ≤ result }
+    ensures room { result * channels ≤ 256 }
+    ensures late { All (λ e. result ≤ e.0) echoes.now }
+{
+    let mut most = SAMPLES_OF_PIECE / channels;
+    'echoes: for echo in echoes {
+        most = most.min(echo.0 as usize);
+    }
+    most
+}
+
+impl PreparedEcho {
+    /// Adds to the sums so many frames that come behind those of the line, and their echoes, each times its weight.
+    fn add_piece(&self, small: &Small, line: &Line, frames: &[i32], count: usize, sums: &mut [i64])
+        requires channels { line.now.channels ≡ self.now.channels }
+        requires late { All (λ e. count ≤ e.0) self.now.echoes }
+        requires room { count * self.now.channels ≤ 256 }
+        requires frames { length frames.now ≡ count * self.now.channels }
+        requires sums { length sums.old ≡ count * self.now.channels }
+        requires empty { (k : ℕ) → slice_index_or sums.old k (pos 0) ≡ pos 0 }
+        ensures value { (i k : ℕ) → i < count → k < self.now.channels → slice_index_or sums.new (i * self.now.channels + k) (pos 0) ≡ echo_sum (weighed self.now small.now.weights) (sample_before (line.now.items ++ pieces self.now.channels count frames.now) (length line.now.items + i)) k }
+        ensures small { (k : ℕ) → unsigned_abs (slice_index_or sums.new k (pos 0)) ≤ 2 ^ 61 }
+    {
+        add_products(sums, frames, small.weights[0]);
+        let mut places = [0; SAMPLES_OF_PIECE];
+        let earlier = &mut places[..frames.len()];
+        'echoes: for place in 0..self.echoes.len() {
+            let (late, _) = self.echoes[place];
+            line.before_into(late as usize, count, earlier);
+            add_products(sums, earlier, small.weights[place + 1]);
+        }
+    }
+
+    /// Writes so many frames with their echoes, which come behind those of the line, and counts how many of their samples
+    /// were clipped. None of them is an echo of another.
+    fn tap_piece(
+        &self,
+        small: &Small,
+        line: &Line,
+        frames: &[i32],
+        count: usize,
+        out: &mut [i32],
+    ) -> u64
+        requires sounds { SoundsAs self.now.gain_in self.now.gain_out self.now.echoes small.now }
+        requires channels { line.now.channels ≡ self.now.channels }
+        requires late { All (λ e. count ≤ e.0) self.now.echoes }
+        requires room { count * self.now.channels ≤ 256 }
+        requires frames { length frames.now ≡ count * self.now.channels }
+        requires out { length out.old ≡ count * self.now.channels }
+        ensures frames { pieces self.now.channels count out.new ≡ frames_behind echo_taps self.now line.now.items (pieces self.now.channels count frames.now) }
+        ensures clips { result ≡ clips_behind echo_taps self.now line.now.items (pieces self.now.channels count frames.now) }
+        ensures few { result ≤ count * self.now.channels }
+    {
+        let mut places = [0; SAMPLES_OF_PIECE];
+        let sums = &mut places[..frames.len()];
+        self.add_piece(small, line, frames, count, sums);
+        round_sums(sums, &small.denominator, out)
+    }
+}
+
+/// Writes over each earlier sample the sum of the one that came and of itself, each times its weight, rounded once, and counts
+/// how many were clipped.
+#[inline(always)]
+fn one_echo_over(small: &Small, came: &[i32], earlier: &mut [i32]) -> u64
+    requires places { length came.now ≡ length earlier.old }
+    ensures frame { earlier.new ≡ (given_of (tabulate (λ k. rounding ((slice_index_or small.now.weights 0 (pos 0) *ℤ slice_index_or came.now k (pos 0)) +ℤ (slice_index_or small.now.weights 1 (pos 0) *ℤ slice_index_or earlier.old k (pos 0))) small.now.denominator) 0 (length earlier.old))).samples }
+    ensures clips { result ≡ (given_of (tabulate (λ k. rounding ((slice_index_or small.now.weights 0 (pos 0) *ℤ slice_index_or came.now k (pos 0)) +ℤ (slice_index_or small.now.weights 1 (pos 0) *ℤ slice_index_or earlier.old k (pos 0))) small.now.denominator) 0 (length earlier.old))).clips }
+    ensures few { result ≤ length earlier.old }
+{
+    let mut clips = 0;
+    'channels: for channel in 0..earlier.len() {
+        let own = product(small.weights[0], came[channel]);
+        let echo = product(small.weights[1], earlier[channel]);
+        let (sample, is_clipped) = small.denominator.round(own + echo);
+        earlier[channel] = sample;
+        clips += u64::from(is_clipped);
+    }
+    clips
+}
+
+impl PreparedEcho {
+    /// What `tap_over` does where there is one echo and its weights are small, by way of a room for the samples that came. The
+    /// frame that it needs is the one which leaves the line.
+    #[inline(always)]
+    fn one_through(
+        &self,
+        small: &Small,
+        line: &mut Line,
+        samples: &mut [i32],
+        came: &mut [i32],
+    ) -> u64
+        requires sounds { SoundsAs self.now.gain_in self.now.gain_out self.now.echoes small.now }
+        requires one { length self.now.echoes ≡ 1 }
+        requires channels { line.old.channels ≡ self.now.channels }
+        requires capacity { line.old.capacity ≡ greatest (map tap_delay self.now.echoes) }
+        requires frame { length samples.old ≡ self.now.channels }
+        requires few { length samples.old ≤ 16 }
+        requires room { length came.old ≡ length samples.old }
+        ensures frame { samples.new ≡ (echoed_frame self.now (sample_before (line.old.items ++ samples.old ∷ []) (length line.old.items))).samples }
+        ensures clips { result ≡ (echoed_frame self.now (sample_before (line.old.items ++ samples.old ∷ []) (length line.old.items))).clips }
+        ensures few { result ≤ 16 }
+        ensures items { line.new.items ≡ pushed line.old samples.old }
+        ensures line_capacity { line.new.capacity ≡ line.old.capacity }
+        ensures line_channels { line.new.channels ≡ line.old.channels }
+    {
+        let _held = line.len();
+        copy_samples(samples, came);
+        delay_over(line, samples);
+        one_echo_over(small, came, samples)
+    }
+
+    /// What `tap_over` does where there is one echo and its weights are small.
+    // Where there are one or two channels their number is known to the loops over them.
+    #[inline(always)]
+    fn one_over(&self, small: &Small, line: &mut Line, samples: &mut [i32]) -> u64
+        requires sounds { SoundsAs self.now.gain_in self.now.gain_out self.now.echoes small.now }
+        requires one { length self.now.echoes ≡ 1 }
+        requires channels { line.old.channels ≡ self.now.channels }
+        requires capacity { line.old.capacity ≡ greatest (map tap_delay self.now.echoes) }
+        requires frame { length samples.old ≡ self.now.channels }
+        requires few { length samples.old ≤ 16 }
+        ensures frame { samples.new ≡ (echoed_frame self.now (sample_before (line.old.items ++ samples.old ∷ []) (length line.old.items))).samples }
+        ensures clips { result ≡ (echoed_frame self.now (sample_before (line.old.items ++ samples.old ∷ []) (length line.old.items))).clips }
+        ensures few { result ≤ 16 }
+        ensures items { line.new.items ≡ pushed line.old samples.old }
+        ensures line_capacity { line.new.capacity ≡ line.old.capacity }
+        ensures line_channels { line.new.channels ≡ line.old.channels }
+    {
+        match samples.len() {
+            1 => self.one_through(small, line, samples, &mut [0]),
+            2 => self.one_through(small, line, samples, &mut [0; 2]),
+            _ => self.one_through_places(small, line, samples),
+        }
+    }
+
+    /// What `tap_over` does where there is one echo and its weights are small, for as many channels as there may be.
+    // Room for sixteen samples is taken where this is called alone.
+    #[inline(never)]
+    fn one_through_places(&self, small: &Small, line: &mut Line, samples: &mut [i32]) -> u64
+        requires sounds { SoundsAs self.now.gain_in self.now.gain_out self.now.echoes small.now }
+        requires one { length self.now.echoes ≡ 1 }
+        requires channels { line.old.channels ≡ self.now.channels }
+        requires capacity { line.old.capacity ≡ greatest (map tap_delay self.now.echoes) }
+        requires frame { length samples.old ≡ self.now.channels }
+        requires few { length samples.old ≤ 16 }
+        ensures frame { samples.new ≡ (echoed_frame self.now (sample_before (line.old.items ++ samples.old ∷ []) (length line.old.items))).samples }
+        ensures clips { result ≡ (echoed_frame self.now (sample_before (line.old.items ++ samples.old ∷ []) (length line.old.items))).clips }
+        ensures few { result ≤ 16 }
+        ensures items { line.new.items ≡ pushed line.old samples.old }
+        ensures line_capacity { line.new.capacity ≡ line.old.capacity }
+        ensures line_channels { line.new.channels ≡ line.old.channels }
+    {
+        let mut places = [0; 16];
+        let room = &mut places[..samples.len()];
+        self.one_through(small, line, samples, room)
+    }
+}
+
+impl TapsMany for PreparedEcho {
+    fn tap_many(&self, line: &mut Line, input: &[i32], output: &mut [i32], count: usize) -> u64 {
+        let Some(small) = &self.small else {
+            return tap_by_frames(self, line, input, output, count);
+        };
+        let channels = self.channels;
+        let most = frames_of_piece(channels, &self.echoes);
+        let _held = line.len();
+        let mut done = 0;
+        let mut clips = 0;
+        'pieces: while done < count {
+            let now = most.min(count - done);
+            let from = done * channels;
+            let to = from + now * channels;
+            let frames = &input[from..to];
+            clips += self.tap_piece(small, line, frames, now, &mut output[from..to]);
+            line.push_frames(frames, now);
+            done += now;
+        }
+        clips
+    }
+
+    #[inline(always)]
+    fn tap_over(&self, line: &mut Line, samples: &mut [i32]) -> u64 {
+        if let Some(small) = &self.small {
+            if self.echoes.len() == 1 {
+                return self.one_over(small, line, samples);
+            }
+        }
+        tap_and_push(self, line, samples)
+    }
+}

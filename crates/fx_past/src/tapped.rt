@@ -1,0 +1,484 @@
+//! Effects that make each frame of that frame and of frames at fixed distances before it: a line, and a tail after the end.
+ghost use Rattle.std.specs.Prelude.{◌≡◌, ◌↔◌, true, ◌<◌, ◌≤◌, ◌*◌, ◌^◌, ◌++◌, ◌∷◌, [], None, drop, length, Err, IfOk, MatchResult};
+ghost use Rattle.fx_frame.specs.Line.{pushed};
+ghost use Rattle.fx_frame.specs.Ring.{pieces};
+ghost use Rattle.fx_frame.specs.Stage.{Freezes, Gave, IsNew};
+ghost use Rattle.fx_past.specs.Tapped.{AreTapCounts, IsNear, Taps, TapState, by_name, clips_behind, frames_behind, last_of, tap_acts};
+ghost use Rattle.fx_past.specs.Past.{sample_before};
+
+use fx_frame::feed::{copy_samples, feed_by_frames, frame_at};
+use fx_frame::frozen::{stored_in, thawed_line_and_hand};
+use fx_frame::inner::{one, two};
+use fx_frame::stage::MOST_TAKEN;
+use fx_frame::{Feeds, Frame, Line, Passed, Passing, Stage, ThawFault, WideFrame};
+use fx_sums::inner::sample_or_silence;
+use std::alloc::{AllocError, Global};
+use std::marker::Model;
+
+/// What an effect makes of a frame and of those before it.
+pub trait Tapping {
+    /// How it makes frames.
+    ghost taps: { Taps Self };
+
+    /// The frame that it makes of a frame which comes after those of the line, and how many of its samples were clipped.
+    fn tap(&self, line: &Line, frame: Frame) -> (Frame, u64)
+        ensures frame { result.0 ≡ (taps.made self.now (sample_before (line.now.items ++ frame ∷ []) (length line.now.items))).samples }
+        ensures clips { result.1 ≡ (taps.made self.now (sample_before (line.now.items ++ frame ∷ []) (length line.now.items))).clips }
+        ensures few { result.1 ≤ taps.most_clips self.now }
+        ensures channels { length result.0 ≡ taps.channels self.now };
+
+    /// Writes the samples of the frame that it makes of those of a frame which comes after those of the line, and counts how
+    /// many were clipped.
+    fn tap_into(&self, line: &Line, frame: &[i32], out: &mut [i32]) -> u64
+        requires frame { length frame.now ≡ taps.channels self.now }
+        requires out { length out.old ≡ taps.channels self.now }
+        ensures frame { out.new ≡ (taps.made self.now (sample_before (line.now.items ++ frame.now ∷ []) (length line.now.items))).samples }
+        ensures clips { result ≡ (taps.made self.now (sample_before (line.now.items ++ frame.now ∷ []) (length line.now.items))).clips }
+        ensures few { result ≤ taps.most_clips self.now };
+
+    /// The channels of the frames that it takes and makes.
+    fn channels(&self) -> usize
+        ensures value { result ≡ taps.channels self.now }
+        ensures some { (1 ≤ result) × (result ≤ 16) };
+
+    /// How many samples of a frame may be clipped.
+    fn most_clips(&self) -> u64
+        ensures { result ≡ taps.most_clips self.now };
+
+    /// A frame is made of no frame before its reach.
+    ghost near: { IsNear taps };
+
+    /// It has at most 16 channels to clip.
+    ghost few_clips: { (m : Self) → taps.most_clips m ≤ 16 };
+}
+
+/// An effect that makes many frames in one call.
+pub trait TapsMany: Tapping {
+    /// Makes so many frames of those in front of the input, which come behind those of the line, at the front of the output,
+    /// and counts their clips. They go through the line.
+    fn tap_many(&self, line: &mut Line, input: &[i32], output: &mut [i32], count: usize) -> u64
+        requires channels { line.old.channels ≡ Self.taps.channels self.now }
+        requires capacity { line.old.capacity ≡ Self.taps.reach self.now }
+        requires few { count ≤ 2 ^ 56 }
+        requires input { count * Self.taps.channels self.now ≤ length input.now }
+        requires output { count * Self.taps.channels self.now ≤ length output.old }
+        ensures frames { pieces (Self.taps.channels self.now) count output.new ≡ frames_behind Self.taps self.now line.old.items (pieces (Self.taps.channels self.now) count input.now) }
+        ensures behind { drop (count * Self.taps.channels self.now) output.new ≡ drop (count * Self.taps.channels self.now) output.old }
+        ensures clips { result ≡ clips_behind Self.taps self.now line.old.items (pieces (Self.taps.channels self.now) count input.now) }
+        ensures few { result ≤ count * Self.taps.most_clips self.now }
+        ensures small { result ≤ 16 * count }
+        ensures line { line.new.items ≡ last_of line.old.capacity (line.old.items ++ pieces (Self.taps.channels self.now) count input.now) }
+        ensures line_capacity { line.new.capacity ≡ line.old.capacity }
+        ensures line_channels { line.new.channels ≡ line.old.channels }
+    {
+        tap_by_frames(self, line, input, output, count)
+    }
+
+    /// Writes the samples of the frame that it makes of those of a frame which comes after those of the line over them, and
+    /// counts how many were clipped. The frame that came goes into the line.
+    #[inline(always)]
+    fn tap_over(&self, line: &mut Line, samples: &mut [i32]) -> u64
+        requires channels { line.old.channels ≡ Self.taps.channels self.now }
+        requires capacity { line.old.capacity ≡ Self.taps.reach self.now }
+        requires frame { length samples.old ≡ Self.taps.channels self.now }
+        requires few { length samples.old ≤ 16 }
+        ensures frame { samples.new ≡ (Self.taps.made self.now (sample_before (line.old.items ++ samples.old ∷ []) (length line.old.items))).samples }
+        ensures clips { result ≡ (Self.taps.made self.now (sample_before (line.old.items ++ samples.old ∷ []) (length line.old.items))).clips }
+        ensures few { result ≤ Self.taps.most_clips self.now }
+        ensures items { line.new.items ≡ pushed line.old samples.old }
+        ensures line_capacity { line.new.capacity ≡ line.old.capacity }
+        ensures line_channels { line.new.channels ≡ line.old.channels }
+    {
+        tap_and_push(self, line, samples)
+    }
+}
+
+/// A sample of the frame so many places before this one, which comes after those of the line.
+#[inline(always)]
+pub(crate) fn sample(line: &Line, frame: &[i32], delay: usize, channel: usize) -> i32
+    ensures { result ≡ sample_before (line.now.items ++ frame.now ∷ []) (length line.now.items) delay channel }
+{
+    if delay == 0 {
+        return sample_or_silence(frame, channel);
+    }
+    line.sample_back(delay - 1, channel)
+}
+
+/// Adds the frame of these samples to the line; the oldest goes where there is no room for one more.
+#[inline(always)]
+fn push_samples(line: &mut Line, samples: &[i32])
+    requires channels { length samples.now ≡ line.old.channels }
+    requires some { (1 ≤ length samples.now) × (length samples.now ≤ 16) }
+    ensures items { line.new.items ≡ pushed line.old samples.now }
+    ensures capacity { line.new.capacity ≡ line.old.capacity }
+    ensures channels { line.new.channels ≡ line.old.channels }
+{
+    let frame = match samples.len() {
+        1 => one(samples[0]),
+        2 => two(samples[0], samples[1]),
+        channels => frame_at(samples, 0, channels),
+    };
+    line.push(frame);
+}
+
+/// What `tap_over` does, for any such effect, by way of a room for the frame that is made.
+#[inline(always)]
+fn tap_through<T: Tapping>(
+    tapping: &T,
+    line: &mut Line,
+    samples: &mut [i32],
+    made: &mut [i32],
+) -> u64
+    requires channels { line.old.channels ≡ T.taps.channels tapping.now }
+    requires frame { length samples.old ≡ T.taps.channels tapping.now }
+    requires few { length samples.old ≤ 16 }
+    requires room { length made.old ≡ length samples.old }
+    ensures frame { samples.new ≡ (T.taps.made tapping.now (sample_before (line.old.items ++ samples.old ∷ []) (length line.old.items))).samples }
+    ensures clips { result ≡ (T.taps.made tapping.now (sample_before (line.old.items ++ samples.old ∷ []) (length line.old.items))).clips }
+    ensures few { result ≤ T.taps.most_clips tapping.now }
+    ensures items { line.new.items ≡ pushed line.old samples.old }
+    ensures line_capacity { line.new.capacity ≡ line.old.capacity }
+    ensures line_channels { line.new.channels ≡ line.old.channels }
+{
+    let clips = tapping.tap_into(line, samples, made);
+    line.push_over(samples);
+    copy_samples(made, samples);
+    clips
+}
+
+/// What `tap_over` does, for any such effect.
+// Where there are one or two channels their number is known to the loops over them.
+#[inline(always)]
+pub fn tap_and_push<T: Tapping>(tapping: &T, line: &mut Line, samples: &mut [i32]) -> u64
+    requires channels { line.old.channels ≡ T.taps.channels tapping.now }
+    requires frame { length samples.old ≡ T.taps.channels tapping.now }
+    requires few { length samples.old ≤ 16 }
+    ensures frame { samples.new ≡ (T.taps.made tapping.now (sample_before (line.old.items ++ samples.old ∷ []) (length line.old.items))).samples }
+    ensures clips { result ≡ (T.taps.made tapping.now (sample_before (line.old.items ++ samples.old ∷ []) (length line.old.items))).clips }
+    ensures few { result ≤ T.taps.most_clips tapping.now }
+    ensures items { line.new.items ≡ pushed line.old samples.old }
+    ensures line_capacity { line.new.capacity ≡ line.old.capacity }
+    ensures line_channels { line.new.channels ≡ line.old.channels }
+{
+    match samples.len() {
+        1 => tap_through(tapping, line, samples, &mut [0]),
+        2 => tap_through(tapping, line, samples, &mut [0; 2]),
+        _ => tap_through_places(tapping, line, samples),
+    }
+}
+
+/// What `tap_over` does, for any such effect and as many channels as there may be.
+// Room for sixteen samples is taken where this is called alone.
+#[inline(never)]
+fn tap_through_places<T: Tapping>(tapping: &T, line: &mut Line, samples: &mut [i32]) -> u64
+    requires channels { line.old.channels ≡ T.taps.channels tapping.now }
+    requires frame { length samples.old ≡ T.taps.channels tapping.now }
+    requires few { length samples.old ≤ 16 }
+    ensures frame { samples.new ≡ (T.taps.made tapping.now (sample_before (line.old.items ++ samples.old ∷ []) (length line.old.items))).samples }
+    ensures clips { result ≡ (T.taps.made tapping.now (sample_before (line.old.items ++ samples.old ∷ []) (length line.old.items))).clips }
+    ensures few { result ≤ T.taps.most_clips tapping.now }
+    ensures items { line.new.items ≡ pushed line.old samples.old }
+    ensures line_capacity { line.new.capacity ≡ line.old.capacity }
+    ensures line_channels { line.new.channels ≡ line.old.channels }
+{
+    let mut places = [0; 16];
+    let room = &mut places[..samples.len()];
+    tap_through(tapping, line, samples, room)
+}
+
+/// What `tap_many` does, for any such effect, one frame at a time.
+pub fn tap_by_frames<T: Tapping>(
+    tapping: &T,
+    line: &mut Line,
+    input: &[i32],
+    output: &mut [i32],
+    count: usize,
+) -> u64
+    requires channels { line.old.channels ≡ T.taps.channels tapping.now }
+    requires capacity { line.old.capacity ≡ T.taps.reach tapping.now }
+    requires few { count ≤ 2 ^ 56 }
+    requires input { count * T.taps.channels tapping.now ≤ length input.now }
+    requires output { count * T.taps.channels tapping.now ≤ length output.old }
+    ensures frames { pieces (T.taps.channels tapping.now) count output.new ≡ frames_behind T.taps tapping.now line.old.items (pieces (T.taps.channels tapping.now) count input.now) }
+    ensures behind { drop (count * T.taps.channels tapping.now) output.new ≡ drop (count * T.taps.channels tapping.now) output.old }
+    ensures clips { result ≡ clips_behind T.taps tapping.now line.old.items (pieces (T.taps.channels tapping.now) count input.now) }
+    ensures few { result ≤ count * T.taps.most_clips tapping.now }
+    ensures small { result ≤ 16 * count }
+    ensures line { line.new.items ≡ last_of line.old.capacity (line.old.items ++ pieces (T.taps.channels tapping.now) count input.now) }
+    ensures line_capacity { line.new.capacity ≡ line.old.capacity }
+    ensures line_channels { line.new.channels ≡ line.old.channels }
+{
+    let channels = tapping.channels();
+    let _held = line.len();
+    let mut at = 0;
+    let mut clips = 0;
+    'frames: for _turn in 0..count {
+        let frame = &input[at..at + channels];
+        clips += tapping.tap_into(line, frame, &mut output[at..at + channels]);
+        push_samples(line, frame);
+        at += channels;
+    }
+    clips
+}
+
+/// Can a stage of such a reach, with so many clips a frame at the most, that stores so many frames have counted these
+/// numbers?
+fn are_counts(reach: usize, most: u64, stored: usize, numbers: &[u64; 8]) -> bool
+    requires reach { reach ≤ 2 ^ 28 }
+    requires most { most ≤ 16 }
+    ensures { result ≡ true ↔ AreTapCounts reach most stored (by_name numbers.now) }
+{
+    let [taken, given, ended, clips, held, tail, hands, hand_clips] = *numbers;
+    if ended > 1 || held != stored as u64 {
+        return false;
+    }
+    if taken > MOST_TAKEN || (ended == 0 && tail != 0) {
+        return false;
+    }
+    let made = taken + ended * reach as u64;
+    if given > made || hands > made - given || tail != made - given - hands {
+        return false;
+    }
+    if hands > held || held - hands != (given + hands).min(reach as u64) {
+        return false;
+    }
+    if (hands == 0 && hand_clips != 0) || (hands != 0 && ended != 0) {
+        return false;
+    }
+    if hand_clips > most || clips > given * most {
+        return false;
+    }
+    true
+}
+
+/// The stage of an effect that makes each frame of that frame and of those before it. It holds as many frames as its
+/// reach, and takes up to `2^56` frames.
+#[derive(Drop)]
+pub struct Tapped<T: Tapping + Drop> {
+    hand: Option<Frame>,
+    hand_clips: u64,
+    taken: u64,
+    given: u64,
+    clips: u64,
+    ended: bool,
+    tail: usize,
+    line: Line,
+    arguments: T,
+}
+
+impl<T: Tapping + Drop> Model for Tapped<T> {
+    ghost use Rattle.fx_past.specs.Tapped.{TapState, IsTapState};
+
+    ghost Value = { TapState T };
+
+    ghost view = { λ s. record { arguments = s.arguments; line = s.line; hand = s.hand; hand_clips = s.hand_clips; tail = s.tail; taken = s.taken; given = s.given; clips = s.clips; ended = s.ended } };
+
+    ghost invariant = { λ s. IsTapState T.taps (record { arguments = s.arguments; line = s.line; hand = s.hand; hand_clips = s.hand_clips; tail = s.tail; taken = s.taken; given = s.given; clips = s.clips; ended = s.ended }) };
+}
+
+impl<T: Tapping + Drop> Tapped<T> {
+    ghost use Rattle.fx_past.specs.Tapped.{IsTapState, TapState};
+
+    /// The stage of an effect that reaches back so many frames; AllocError where memory for them is refused.
+    pub(crate) fn of(alloc: Global, arguments: T, reach: usize) -> Result<Tapped<T>, AllocError>
+        requires reach { reach ≡ T.taps.reach arguments }
+        requires line { reach ≤ 2 ^ 28 }
+        ensures { IfOk result (IsNew (tap_acts T.taps) arguments) }
+    {
+        let line = Line::new(alloc, arguments.channels(), reach)?;
+        Ok(Tapped {
+            hand: None,
+            hand_clips: 0,
+            taken: 0,
+            given: 0,
+            clips: 0,
+            ended: false,
+            tail: 0,
+            line,
+            arguments,
+        })
+    }
+
+    /// The stage that stored these frames and counted these numbers. BadSnapshot where there is none, Memory where a growth
+    /// was refused.
+    pub(crate) fn thawed(
+        alloc: Global,
+        arguments: T,
+        reach: usize,
+        frames: &[WideFrame],
+        numbers: &[u64; 8],
+    ) -> Result<Tapped<T>, ThawFault>
+        requires reach { reach ≡ T.taps.reach arguments }
+        requires line { reach ≤ 2 ^ 28 }
+        ensures recipe { IfOk result (λ t. t.arguments ≡ arguments) }
+        ensures frozen { IfOk result (λ t. Freezes (tap_acts T.taps) t frames.now numbers.now) }
+        ensures thawed { (s : TapState T) → IsTapState T.taps s → s.arguments ≡ arguments → Freezes (tap_acts T.taps) s frames.now numbers.now → MatchResult result (λ t. t ≡ s) (λ e. e ≡ ThawFault.Memory) }
+        ensures named { (result ≡ Err ThawFault.WrongPlan) → ⊥ }
+    {
+        let most = arguments.most_clips();
+        if !are_counts(reach, most, frames.len(), numbers) {
+            return Err(ThawFault::BadSnapshot);
+        }
+        let [taken, given, ended, clips, _, tail, hands, hand_clips] = *numbers;
+        let channels = arguments.channels();
+        let (line, hand) = match thawed_line_and_hand(alloc, channels, reach, frames, hands) {
+            Ok(stored) => stored,
+            Err(fault) => return Err(fault),
+        };
+        Ok(Tapped {
+            hand,
+            hand_clips,
+            taken,
+            given,
+            clips,
+            ended: ended == 1,
+            tail: tail as usize,
+            line,
+            arguments,
+        })
+    }
+
+    /// Gives a frame that is made of silence, which comes after those of the line.
+    #[inline(never)]
+    fn give_of_tail(&mut self) -> Frame
+        requires hand { self.old.hand ≡ None }
+        requires tail { 0 < self.old.tail }
+        ensures { Gave (tap_acts T.taps) self.old self.new result }
+    {
+        let quiet = Frame::silence(self.arguments.channels());
+        let (made, clips) = self.arguments.tap(&self.line, quiet);
+        self.line.push(quiet);
+        let _held = self.line.len();
+        self.tail -= 1;
+        self.given += 1;
+        self.clips += clips;
+        made
+    }
+}
+
+impl<T: Tapping + Drop> Stage for Tapped<T> {
+    ghost use Rattle.fx_past.specs.Tapped.{IsTapState, tap_acts, tap_rises};
+
+    ghost Recipe = { T };
+
+    ghost acts = { tap_acts T.taps };
+
+    ghost sound = { λ s. IsTapState T.taps s };
+
+    ghost rises = { λ m. tap_rises (T.taps.reach m) };
+
+    fn take(&mut self, frame: Frame) {
+        let (made, clips) = self.arguments.tap(&self.line, frame);
+        let _channels = made.channels();
+        self.line.push(frame);
+        let _held = self.line.len();
+        self.hand = Some(made);
+        self.hand_clips = clips;
+        self.taken += 1;
+    }
+
+    fn end(&mut self) {
+        self.tail = self.line.capacity();
+        self.ended = true;
+    }
+
+    fn give(&mut self) -> Option<Frame> {
+        let Some(frame) = self.hand else {
+            if self.tail == 0 {
+                return None;
+            }
+            return Some(self.give_of_tail());
+        };
+        self.hand = None;
+        self.given += 1;
+        self.clips += self.hand_clips;
+        self.hand_clips = 0;
+        Some(frame)
+    }
+
+    fn is_dry(&self) -> bool {
+        self.hand.is_none() && self.tail == 0
+    }
+
+    fn is_ended(&self) -> bool {
+        self.ended
+    }
+
+    fn is_spent(&self) -> bool {
+        false
+    }
+
+    fn held(&self) -> u64 {
+        self.line.len() as u64 + u64::from(self.hand.is_some())
+    }
+
+    fn hold(&self) -> u64 {
+        self.line.capacity() as u64 + 1
+    }
+
+    fn clips(&self) -> u64 {
+        self.clips
+    }
+
+    fn in_channels(&self) -> usize {
+        self.arguments.channels()
+    }
+
+    fn out_channels(&self) -> usize {
+        self.arguments.channels()
+    }
+
+    fn counters(&self) -> [u64; 8] {
+        [
+            self.taken,
+            self.given,
+            u64::from(self.ended),
+            self.clips,
+            self.held(),
+            self.tail as u64,
+            u64::from(self.hand.is_some()),
+            self.hand_clips,
+        ]
+    }
+
+    fn stored(&self, j: usize) -> WideFrame {
+        stored_in(&self.line, self.hand, j)
+    }
+}
+
+impl<T: TapsMany + Drop> Feeds for Tapped<T> {
+    fn feed(&mut self, input: &[i32], output: &mut [i32]) -> Passed {
+        if self.hand.is_some() || self.ended {
+            return feed_by_frames(self, input, output);
+        }
+        let channels = self.arguments.channels();
+        let count = (input.len() / channels).min(output.len() / channels);
+        self.clips += self
+            .arguments
+            .tap_many(&mut self.line, input, output, count);
+        let _held = self.line.len();
+        self.taken += count as u64;
+        self.given += count as u64;
+        Passed {
+            taken: count,
+            given: count,
+        }
+    }
+
+    fn pass_samples(&mut self, samples: &mut [i32]) -> Passing {
+        let clips = self.arguments.tap_over(&mut self.line, samples);
+        let _held = self.line.len();
+        self.clips += clips;
+        self.taken += 1;
+        self.given += 1;
+        Passing::Through
+    }
+
+    fn ahead(&self) -> u64 {
+        u64::MAX
+    }
+
+    fn steady(&self) -> u64 {
+        u64::MAX
+    }
+}

@@ -1,0 +1,13 @@
+pub mod Convolving
+pub mod Counts
+pub mod EchosSums
+pub mod Fitting
+pub mod KernelLaws
+pub mod Places
+pub mod ProductBounds
+pub mod ProductLanes
+pub mod SignedProducts
+pub mod SmallSums
+pub mod SumLaws
+pub mod WeightLaws
+pub mod WholeFrames
