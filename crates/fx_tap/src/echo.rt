@@ -16,6 +16,8 @@ ghost use Rattle.fx_tap.specs.Near.{echoes-near};
 ghost use Rattle.fx_tap.specs.Tapped.{IsTapState, TapState, clips_behind, frames_behind};
 ghost use Rattle.fx_tap.specs.Past.{sample_before};
 
+pub mod words;
+
 use crate::delay::delay_over;
 use crate::sums::{Sums, add_products, add_scaled, product, round_sums, rounded_sums, sums_into};
 use crate::tapped::{Tapped, Tapping, TapsMany, sample, tap_and_push, tap_by_frames};
