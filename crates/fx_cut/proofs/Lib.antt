@@ -26,3 +26,6 @@ pub mod Onto
 pub mod FadeMany
 pub mod FadePassing
 pub mod TrimPassing
+pub mod TrimWords
+pub mod PadWords
+pub mod FadeWords

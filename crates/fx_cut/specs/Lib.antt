@@ -2,12 +2,16 @@ pub mod Ceil
 pub mod Downsample
 pub mod DownsampleState
 pub mod Factor
+pub mod FactorWords
 pub mod Fade
 pub mod FadeState
+pub mod FadeWords
 pub mod Pad
 pub mod PadState
+pub mod PadWords
 pub mod Strides
 pub mod Trim
 pub mod TrimState
+pub mod TrimWords
 pub mod Upsample
 pub mod UpsampleState

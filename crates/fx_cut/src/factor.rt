@@ -1,4 +1,6 @@
 //! What `upsample` and `downsample` share.
 
+pub mod words;
+
 /// The greatest factor of a change of rate.
 pub const MOST_FACTOR: u64 = 256;

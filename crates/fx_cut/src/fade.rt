@@ -13,6 +13,8 @@ ghost use Rattle.fx_frame.specs.Rounded.{unclipped};
 ghost use Rattle.fx_cut.specs.Fade.{FadeArguments, IsShape, fade_due, fade_enough, fade_line, stop_in, until, weighted, weights};
 ghost use Rattle.fx_cut.specs.FadeState.{FadeState, IsFade, IsFadeCount, fade_acts, fade_after, faded_along, faded_here, is_before, stop_ahead};
 
+pub mod words;
+
 use crate::lines::push_over;
 use crate::many::{PassesMany, feed_by_pieces};
 use crate::slopes::{Slope, weigh_by};

@@ -8,6 +8,8 @@ ghost use Rattle.fx_frame.specs.Stage.{Freezes, IsNew};
 ghost use Rattle.fx_cut.specs.Pad.{IsPads, PadArguments, lengths, pads_from_start, placed, silent_at};
 ghost use Rattle.fx_cut.specs.PadState.{IsPad, IsPadCount, PadState, later_count, pad_acts, pad_rises, silence_from};
 
+pub mod words;
+
 use crate::many::{PassesMany, feed_by_pieces, pass_by_frame};
 use fx_fixed::At;
 use fx_fixed::inner::{all_pads, greatest_pad_end};

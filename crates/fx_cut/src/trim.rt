@@ -10,6 +10,8 @@ ghost use Rattle.fx_frame.specs.Stage.{Freezes, IsNew, is_enough};
 ghost use Rattle.fx_cut.specs.Trim.{TrimArguments, keeps, starts, trim_enough};
 ghost use Rattle.fx_cut.specs.TrimState.{IsTrim, IsTrimCount, TrimState, kept_count, trim_acts, trim_after};
 
+pub mod words;
+
 use crate::lines::push_over;
 use crate::many::{PassesMany, feed_by_pieces};
 use fx_fixed::At;

@@ -6,3 +6,6 @@ pub mod MixLaws
 pub mod MixPieces
 pub mod ProperRounding
 pub mod Shifting
+pub mod RemixWords
+pub mod RemixParts
+pub mod InSpecs

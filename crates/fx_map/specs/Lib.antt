@@ -1,11 +1,15 @@
 pub mod DcShift
 pub mod DcShiftState
+pub mod DcShiftWords
 pub mod Fractions
+pub mod InSpecs
 pub mod Mapped
 pub mod Mix
 pub mod PerSample
 pub mod PerSampleState
 pub mod Remix
 pub mod RemixState
+pub mod RemixWords
 pub mod Vol
 pub mod VolState
+pub mod VolWords

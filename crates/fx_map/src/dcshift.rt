@@ -7,6 +7,8 @@ ghost use Rattle.fx_map.specs.PerSample.{SampleArguments};
 ghost use Rattle.fx_map.specs.DcShift.{shifted_sample};
 ghost use Rattle.fx_map.specs.DcShiftState.{dcshift_acts, leaves_half, raised, steps_of};
 
+pub mod words;
+
 use crate::mapped::Mapped;
 use crate::per_sample::{PerSample, SamplesBehind, SamplesMany, Sampling};
 use fx_fixed::{Gain, UNIT};

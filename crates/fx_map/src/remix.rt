@@ -13,6 +13,8 @@ ghost use Rattle.fx_map.specs.Remix.{RemixArguments, mixed_parts, parts_of, remi
 ghost use Rattle.fx_map.specs.RemixState.{remix_acts};
 ghost use Rattle.fx_sums.specs.SmallWeights.{SumsAs};
 
+pub mod words;
+
 use crate::channels::{add_channel, place_channel, place_mean};
 use crate::mapped::{Mapped, Mapping, MapsMany};
 use crate::vol::Scale;

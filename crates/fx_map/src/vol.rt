@@ -9,6 +9,8 @@ ghost use Rattle.fx_map.specs.Fractions.{fraction_sample};
 ghost use Rattle.fx_map.specs.Vol.{scaled_sample};
 ghost use Rattle.fx_map.specs.VolState.{vol_acts};
 
+pub mod words;
+
 use crate::both::{BothClips, rounded_by_both};
 use crate::channels::place_rounded;
 use crate::mapped::Mapped;

@@ -21,3 +21,4 @@ pub mod SumPieces
 pub mod TapBlocks
 pub mod TapLaws
 pub mod WindowSums
+pub mod EchoWords

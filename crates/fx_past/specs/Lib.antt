@@ -1,13 +1,16 @@
 pub mod Delay
 pub mod DelayState
+pub mod DelayWords
 pub mod Echo
 pub mod EchoState
 pub mod EchoWeights
+pub mod EchoWords
 pub mod Echos
 pub mod EchosState
 pub mod EchosStored
 pub mod Fir
 pub mod FirState
+pub mod FirWords
 pub mod Near
 pub mod Past
 pub mod Split

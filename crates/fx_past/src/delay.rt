@@ -12,6 +12,8 @@ ghost use Rattle.fx_past.specs.Past.{sample_before};
 ghost use Rattle.fx_past.specs.Near.{delays-near};
 ghost use Rattle.std.proofs.Common.{zero-le};
 
+pub mod words;
+
 use crate::echo::SAMPLES_OF_PIECE;
 use crate::tapped::{Tapped, Tapping, TapsMany, sample, tap_and_push, tap_by_frames};
 use fx_fixed::inner::longest;

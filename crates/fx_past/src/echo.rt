@@ -17,6 +17,8 @@ ghost use Rattle.fx_past.specs.Near.{echoes-near};
 ghost use Rattle.fx_past.specs.Tapped.{IsTapState, TapState, clips_behind, frames_behind};
 ghost use Rattle.fx_past.specs.Past.{sample_before};
 
+pub mod words;
+
 use crate::delay::delay_over;
 use crate::sums::{add_scaled, round_sums, rounded_sums, sums_into};
 use crate::tapped::{Tapped, Tapping, TapsMany, sample, tap_and_push, tap_by_frames};

@@ -8,6 +8,8 @@ ghost use Rattle.fx_past.specs.Fir.{FirArguments, centre, filtered_frame, filter
 ghost use Rattle.fx_past.specs.FirState.{AreFirCounts, FirState, IsFir, fir_acts, fir_taps};
 ghost use Rattle.fx_past.specs.Tapped.{by_name, clips_behind, frames_behind, last_of};
 
+pub mod words;
+
 use crate::channels::take_channel;
 use crate::kernel::Kernel;
 use fx_fixed::Gain;

@@ -27,13 +27,13 @@ use Rattle.fx_sound.specs.contracts.head.Kind as kind
 use Rattle.fx_sound.specs.contracts.head.KindPartialEq.TheImpl as kind_eq
 use Rattle.fx_sound.specs.declared.head.Head.{Head}
 use Rattle.fx_sound.specs.contracts.head.HeadPartialEq.TheImpl as head_eq
-use Rattle.fx_plan.specs.declared.words.fade.Fading.{Fading}
-use Rattle.fx_plan.specs.contracts.words.fade.FadingPartialEq.TheImpl as fading_eq
+use Rattle.fx_cut.specs.declared.fade.words.Fading.{Fading}
+use Rattle.fx_cut.specs.contracts.fade.words.FadingPartialEq.TheImpl as fading_eq
 use Rattle.fx_plan.specs.declared.effect.Layout.{Layout}
 use Rattle.fx_plan.specs.contracts.effect.LayoutPartialEq.TheImpl as layout_eq
-use Rattle.fx_plan.specs.declared.words.echo.Echoing.{Echoing}
-use Rattle.fx_plan.specs.contracts.words.echo.EchoingPartialEq.TheImpl as echoing_eq
-use Rattle.fx_plan.specs.Echo.{echo_value}
+use Rattle.fx_past.specs.declared.echo.words.Echoing.{Echoing}
+use Rattle.fx_past.specs.contracts.echo.words.EchoingPartialEq.TheImpl as echoing_eq
+use Rattle.fx_past.specs.EchoWords.{echo_value}
 use Rattle.fx_plan.specs.declared.effect.Effect.{Effect}
 use Rattle.fx_plan.specs.declared.effect.Effect.TheVariants as effects
 use Rattle.fx_plan.specs.contracts.effect.Effect as effect

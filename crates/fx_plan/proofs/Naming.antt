@@ -3,7 +3,7 @@ use Rattle.std.proofs.Common.{◌≡◌, List, [], ◌∷◌, Bool, true, ◌&&�
 use Rattle.std.proofs.lemmas.Bool.Decides.{nat_tests}
 use Rattle.std.specs.Str.{bytes_eq}
 use Rattle.fx_plan.specs.CommandLines.{file_in}
-use Rattle.fx_plan.specs.Faults.{Word}
+use Rattle.fx_words.specs.Faults.{Word}
 use Rattle.fx_plan.specs.Names.{name_of}
 use Rattle.fx_plan.specs.Plans.{is_file, is_fir, names_file}
 use Rattle.fx_plan.proofs.Refusing.{both}

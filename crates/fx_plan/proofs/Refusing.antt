@@ -1,25 +1,14 @@
 -- The first of all faults, and what the effects behind one are.
 use Rattle.std.proofs.Common.{◌≡◌, ℕ, ◌+◌, inl, inr, List, [], ◌∷◌, ◌++◌, map, Some, refl, ap, sym, ◌∙◌, ◌≤◌, arith, nat_lt, Bool, ◌&&◌, false, true}
-use Rattle.std.specs.Prelude.{Result, Ok, Err, IfOk}
 use Rattle.std.proofs.lemmas.Bool.Decides.{nat_tests}
 use Rattle.fx_plan.specs.declared.effect.Layout.{Layout}
-use Rattle.fx_plan.specs.declared.fault.Mark.{Mark}
+use Rattle.fx_words.specs.declared.fault.Mark.{Mark}
 use Rattle.fx_plan.specs.declared.fault.PlanFault.{PlanFault}
-use Rattle.fx_plan.specs.declared.fault.Refusal.{Refusal}
-use Rattle.fx_plan.specs.declared.fault.Refusal.TheVariants as refusals
-use Rattle.fx_plan.specs.Faults.{Finds, Word, Reads, Refuses, first_of}
+use Rattle.fx_words.specs.declared.fault.Refusal.{Refusal}
+use Rattle.fx_words.specs.declared.fault.Refusal.TheVariants as refusals
+use Rattle.fx_words.specs.Faults.{Word, Refuses, first_of}
 use Rattle.fx_plan.specs.Effects.{Act, all_fit, effect_faults, fits_layout, layout_after, layout_behind}
 use Rattle.fx_plan.specs.Plans.{RefusesPlan, acts_of, at_effect, done, effects_faults, fault_of, files_after, last_layout, next_file, step_faults}
-
--- what holds of the value that words without a fault have holds of the value that is read
-pub IfOk-reads : {X Y : Type 0} (view : X → Y) (P : Y → Type 0) (r : Result X Refusal) (faults : List Mark) (value : Y) → Reads view r faults value → (faults ≡ [] → P value) → IfOk r (λ x. P (view x))
-IfOk-reads view P (Ok x) faults value h holds = rw h.1 (holds h.0)
-IfOk-reads view P (Err e) faults value h holds = tt
-
--- the same, of a call that takes no memory
-pub IfOk-finds : {X : Type 0} (P : X → Type 0) (r : Result X Mark) (faults : List Mark) (value : X) → Finds r faults value → (faults ≡ [] → P value) → IfOk r P
-IfOk-finds P (Ok x) faults value h holds = rw h.1 (holds h.0)
-IfOk-finds P (Err e) faults value h holds = tt
 
 -- a refusal of an effect's words refuses the plan
 pub refuses_effect : (number : ℕ) (r : Refusal) (faults : List Mark) → Refuses r faults → RefusesPlan (fault_of number r) (map (at_effect number) faults)

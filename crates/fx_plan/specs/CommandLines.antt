@@ -8,7 +8,7 @@ use Rattle.fx_line.specs.Line.{Said}
 use Rattle.fx_sound.specs.declared.head.Head.{Head}
 use Rattle.fx_plan.specs.declared.command_line.Stream.{Stream}
 use Rattle.fx_plan.specs.declared.command_line.Stream.TheVariants.{Standard, Named}
-use Rattle.fx_plan.specs.Faults.{Word}
+use Rattle.fx_words.specs.Faults.{Word}
 use Rattle.fx_plan.specs.Groups.{effects_of}
 use Rattle.fx_plan.specs.Planning.{Planning, planning_of}
 use Rattle.fx_plan.specs.Plans.{names_file}

@@ -7,25 +7,25 @@ use Rattle.fx_sound.specs.declared.head.Head.{Head}
 use Rattle.fx_plan.specs.declared.effect.Layout.{Layout}
 use Rattle.fx_plan.specs.declared.effect.Effect.{Effect}
 use Rattle.fx_plan.specs.declared.effect.Effect.TheVariants as effects
-use Rattle.fx_plan.specs.declared.fault.Mark.{Mark}
-use Rattle.fx_plan.specs.declared.fault.PlanCause.TheVariants.{UnknownEffect, NotInProfile, NeedsWholeSound}
+use Rattle.fx_words.specs.declared.fault.Mark.{Mark}
+use Rattle.fx_words.specs.declared.fault.PlanCause.TheVariants.{UnknownEffect, NotInProfile, NeedsWholeSound}
 use Rattle.fx_plan.specs.declared.name.Name.{Name}
 use Rattle.fx_plan.specs.declared.name.Name.TheVariants as names
-use Rattle.fx_plan.specs.declared.words.fade.Fading.{Fading}
+use Rattle.fx_cut.specs.declared.fade.words.Fading.{Fading}
 use Rattle.fx_fixed.specs.declared.weights.Weight.{Weight}
-use Rattle.fx_plan.specs.Faults.{Word, mark}
+use Rattle.fx_words.specs.Faults.{Word, mark}
 use Rattle.fx_plan.specs.Names.{name_of}
-use Rattle.fx_plan.specs.Numbers.{beginning}
-use Rattle.fx_plan.specs.Trim.{trim_faults, places}
-use Rattle.fx_plan.specs.Pad.{Length, are_pads, pad_faults, lengths}
-use Rattle.fx_plan.specs.Delay.{delay_faults, delays}
-use Rattle.fx_plan.specs.Echo.{EchoValue, are_echoes, echo_faults, echo_value, echoing}
-use Rattle.fx_plan.specs.Fade.{fade_faults, fading, is_fade}
-use Rattle.fx_plan.specs.Vol.{vol_faults, vol_gain}
-use Rattle.fx_plan.specs.DcShift.{shift_faults, shift_gain}
-use Rattle.fx_plan.specs.Fir.{fir_faults, coefficients}
-use Rattle.fx_plan.specs.Remix.{is_mix, remix_faults, remixed, specs_value}
-use Rattle.fx_plan.specs.Factor.{upsample_faults, downsample_faults, factor_of, usable}
+use Rattle.fx_words.specs.Numbers.{beginning}
+use Rattle.fx_cut.specs.TrimWords.{trim_faults, places}
+use Rattle.fx_cut.specs.PadWords.{Length, are_pads, pad_faults, lengths}
+use Rattle.fx_past.specs.DelayWords.{delay_faults, delays}
+use Rattle.fx_past.specs.EchoWords.{EchoValue, are_echoes, echo_faults, echo_value, echoing}
+use Rattle.fx_cut.specs.FadeWords.{fade_faults, fading, is_fade}
+use Rattle.fx_map.specs.VolWords.{vol_faults, vol_gain}
+use Rattle.fx_map.specs.DcShiftWords.{shift_faults, shift_gain}
+use Rattle.fx_past.specs.FirWords.{fir_faults, coefficients}
+use Rattle.fx_map.specs.RemixWords.{is_mix, remix_faults, remixed, specs_value}
+use Rattle.fx_cut.specs.FactorWords.{upsample_faults, downsample_faults, factor_of, usable}
 
 -- what an effect does, by its resolved arguments
 pub data Act : Type 0 where

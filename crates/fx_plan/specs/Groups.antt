@@ -1,6 +1,6 @@
 -- The effects that the words after the output are: each begins with a name, and any other word belongs to the one before it.
 use Rattle.std.specs.Prelude.{if◌then◌else◌, List, [], ◌∷◌}
-use Rattle.fx_plan.specs.Faults.{Word}
+use Rattle.fx_words.specs.Faults.{Word}
 use Rattle.fx_plan.specs.Names.{is_name}
 
 -- the words before the first name, and the effects from that name on

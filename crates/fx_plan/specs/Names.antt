@@ -4,7 +4,7 @@ use Rattle.std.specs.Str.{bytes_eq}
 use Rattle.std.specs.List.{list_any}
 use Rattle.fx_plan.specs.declared.name.Name.{Name}
 use Rattle.fx_plan.specs.declared.name.Name.TheVariants as names
-use Rattle.fx_plan.specs.Faults.{Word}
+use Rattle.fx_words.specs.Faults.{Word}
 
 -- effects that can begin only once all of the sound is there
 unfoldable pub whole_sound : List Word

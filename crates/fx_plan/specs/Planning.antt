@@ -8,7 +8,7 @@ use Rattle.fx_sound.specs.declared.head.Kind.{Kind}
 use Rattle.fx_plan.specs.declared.effect.Layout.{Layout}
 use Rattle.fx_plan.specs.declared.accepted.Plan.{Plan}
 use Rattle.fx_plan.specs.Effects.{Act, act, head_layout}
-use Rattle.fx_plan.specs.Faults.{Word}
+use Rattle.fx_words.specs.Faults.{Word}
 use Rattle.fx_plan.specs.Plans.{acts_of, last_layout}
 
 -- a plan's parts: the input's head; the output's container, coding and whether it is a file; what the effects do, and

@@ -2,16 +2,16 @@
 use Rattle.std.specs.Prelude.{ℕ, ◌+◌, ◌≡◌, ◌^◌, ◌⊎◌, nat_lt, nat_eq, Bool, true, false, not, ◌&&◌, if◌then◌else◌, List, [], ◌∷◌, ◌++◌, codes, length, map, drop, Vec, Option, Some, None, Result, Ok, Err}
 use Rattle.std.specs.Str.{bytes_eq}
 use Rattle.fx_plan.specs.declared.effect.Layout.{Layout}
-use Rattle.fx_plan.specs.declared.fault.Mark.{Mark}
-use Rattle.fx_plan.specs.declared.fault.PlanCause.{PlanCause}
-use Rattle.fx_plan.specs.declared.fault.PlanCause.TheVariants.{TooManyEffects, HoldTooLarge, TooLong, Memory}
+use Rattle.fx_words.specs.declared.fault.Mark.{Mark}
+use Rattle.fx_words.specs.declared.fault.PlanCause.{PlanCause}
+use Rattle.fx_words.specs.declared.fault.PlanCause.TheVariants.{TooManyEffects, HoldTooLarge, TooLong, Memory}
 use Rattle.fx_plan.specs.declared.fault.PlanFault.{PlanFault}
-use Rattle.fx_plan.specs.declared.fault.Refusal.{Refusal}
-use Rattle.fx_plan.specs.declared.fault.Refusal.TheVariants as refusals
+use Rattle.fx_words.specs.declared.fault.Refusal.{Refusal}
+use Rattle.fx_words.specs.declared.fault.Refusal.TheVariants as refusals
 use Rattle.fx_plan.specs.declared.name.Name.{Name}
 use Rattle.fx_plan.specs.declared.name.Name.TheVariants as names
 use Rattle.fx_plan.specs.declared.planned.Planned.{Planned}
-use Rattle.fx_plan.specs.Faults.{Word, when, first_of}
+use Rattle.fx_words.specs.Faults.{Word, when, first_of}
 use Rattle.fx_plan.specs.Names.{name_of}
 use Rattle.fx_plan.specs.Effects.{Act, act, effect_faults, effect_act, layout_after}
 use Rattle.fx_plan.specs.Bounds.{hold_all, is_too_long}

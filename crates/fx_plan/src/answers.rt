@@ -5,7 +5,7 @@ ghost use Rattle.fx_sound.specs.Kind.{is_coding_of};
 ghost use Rattle.fx_plan.specs.Bounds.{hold_all, hold_of, is_too_long, work_of};
 ghost use Rattle.std.specs.List.{All};
 ghost use Rattle.fx_plan.specs.Effects.{IsLayout, Usable, act, all_fit, head_layout, name_text};
-ghost use Rattle.fx_plan.specs.Faults.{texts};
+ghost use Rattle.fx_words.specs.Faults.{texts};
 ghost use Rattle.fx_plan.specs.Groups.{effects_of};
 ghost use Rattle.fx_plan.specs.Planning.{planning, planning_of};
 ghost use Rattle.fx_plan.specs.Plans.{PlanReads, all_faults, bytes_of};

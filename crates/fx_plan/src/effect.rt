@@ -1,24 +1,24 @@
 //! Effects with resolved arguments, and what they do to rate, channels and lengths.
 
 ghost use Rattle.std.specs.Prelude.{◌≡◌, IfOk, Some, true, ◌∷◌, string_bytes};
-ghost use Rattle.fx_plan.specs.Faults.{Reads, texts};
+ghost use Rattle.fx_words.specs.Faults.{Reads, texts};
 ghost use Rattle.fx_plan.specs.Effects.{Fits, IsLayout, Usable, fits_layout, act, effect_act, effect_faults, layout_after, name_text, named_act, named_faults};
-ghost use Rattle.fx_plan.specs.Echo.{echo_value};
-ghost use Rattle.fx_plan.specs.Remix.{specs_in};
+ghost use Rattle.fx_past.specs.EchoWords.{echo_value};
+ghost use Rattle.fx_map.specs.RemixWords.{specs_in};
 
-use crate::fault::{PlanCause, Refusal, marked};
 use crate::name::{Name, read_name};
-use crate::words::dcshift::read_dcshift;
-use crate::words::delay::read_delay_words;
-use crate::words::echo::{Echoing, read_echo};
-use crate::words::factor::{read_downsample, read_upsample};
-use crate::words::fade::{Fading, read_fade};
-use crate::words::fir::read_fir;
-use crate::words::pad::read_pad;
-use crate::words::remix::read_remix;
-use crate::words::trim::read_trim;
-use crate::words::vol::read_vol;
+use fx_cut::factor::words::{read_downsample, read_upsample};
+use fx_cut::fade::words::{Fading, read_fade};
+use fx_cut::pad::words::read_pad;
+use fx_cut::trim::words::read_trim;
 use fx_fixed::{At, Gain, OutSpec};
+use fx_map::dcshift::words::read_dcshift;
+use fx_past::delay::words::read_delay_words;
+use fx_past::echo::words::{Echoing, read_echo};
+use fx_past::fir::words::read_fir;
+use fx_map::remix::words::read_remix;
+use fx_map::vol::words::read_vol;
+use fx_words::{PlanCause, Refusal, marked};
 use smallvec::SmallVec;
 use std::alloc::{AllocError, Global};
 

@@ -2,7 +2,7 @@
 
 ghost use Rattle.std.specs.Prelude.{◌≡◌, ◌<◌, ◌≤◌, ◌∷◌, [], IfSome, MatchOption, length, string_bytes};
 ghost use Rattle.std.specs.List.{position_or_len};
-ghost use Rattle.fx_plan.specs.Faults.{texts};
+ghost use Rattle.fx_words.specs.Faults.{texts};
 ghost use Rattle.fx_plan.specs.Groups.{effects_of};
 ghost use Rattle.fx_plan.specs.Names;
 

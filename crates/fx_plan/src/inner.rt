@@ -2,5 +2,5 @@
 
 pub use crate::answers::plan_words;
 pub use crate::effect::{Effect, Layout};
-pub use crate::words::echo::Echoing;
-pub use crate::words::fade::Fading;
+pub use fx_cut::fade::words::Fading;
+pub use fx_past::echo::words::Echoing;

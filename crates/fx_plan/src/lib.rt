@@ -12,11 +12,10 @@ mod groups;
 pub mod inner;
 mod listing;
 mod name;
-mod numbers;
 mod planned;
-mod words;
 
 pub use accepted::Plan;
 pub use command_line::{CommandLine, Stream, parse_line, plan};
-pub use fault::{PlanCause, PlanFault};
+pub use fault::PlanFault;
 pub use fx_line::{Bits, LineFault};
+pub use fx_words::PlanCause;

@@ -2,7 +2,7 @@
 
 ghost use Rattle.std.specs.Prelude.{◌≡◌, ◌∷◌, [], IfOk, MatchOption, None, Some, length, map, slice_get, string_bytes, unwrap_or};
 ghost use Rattle.fx_plan.specs.CommandLines.{coefficient_files, file_in};
-ghost use Rattle.fx_plan.specs.Faults.{texts};
+ghost use Rattle.fx_words.specs.Faults.{texts};
 ghost use Rattle.fx_plan.specs.Groups.{effects_of};
 
 use crate::groups::next_effect;

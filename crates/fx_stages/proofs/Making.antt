@@ -12,9 +12,9 @@ use Rattle.fx_fixed.specs.declared.positions.At.TheVariants.{Start, End}
 use Rattle.fx_fixed.specs.declared.weights.Weight.{Weight}
 use Rattle.fx_flow.specs.Parts.{AllNew}
 use Rattle.fx_frame.specs.Stage.{IsNew}
-use Rattle.fx_plan.specs.Echo.{EchoValue, Tap, are_echoes, is_tap}
-use Rattle.fx_plan.specs.Pad.{Length, are_pads, are_rising}
-use Rattle.fx_plan.specs.Remix.{is_mix, specs_in}
+use Rattle.fx_past.specs.EchoWords.{EchoValue, Tap, are_echoes, is_tap}
+use Rattle.fx_cut.specs.PadWords.{Length, are_pads, are_rising}
+use Rattle.fx_map.specs.RemixWords.{is_mix, specs_in}
 use Rattle.fx_plan.specs.Effects.{Act}
 use Rattle.fx_stages.specs.declared.stage.EffectStage.{EffectStage}
 use Rattle.fx_stages.specs.Effects.{EffectRecipe}

@@ -6,7 +6,7 @@ use Rattle.std.proofs.KnownBytes.{Appends-nil, Appends-trans}
 use Rattle.std.specs.Io.KnownBytes.{Appends}
 use Rattle.std.specs.Prelude.{MatchBool, codes, decimal, slice_index_or}
 use Rattle.fx_frame.specs.Io.{ByteWriter}
-use Rattle.fx_plan.specs.Faults.{Word}
+use Rattle.fx_words.specs.Faults.{Word}
 use Rattle.soxchain.specs.Messages.{effect_warning, effect_warnings, line_feed, told_word, warning}
 use Rattle.std.specs.Borrow.{MutBor}
 use Rattle.soxchain.specs.declared.telling.Telling.{Telling}

@@ -7,11 +7,11 @@ use Rattle.fx_run.specs.Report.{report_at}
 use Rattle.fx_line.specs.declared.line.LineFault.{LineFault}
 use Rattle.fx_line.specs.declared.line.LineFault.TheVariants as LineFaults
 use Rattle.fx_line.specs.Line.{Said}
-use Rattle.fx_plan.specs.declared.fault.PlanCause.{PlanCause}
-use Rattle.fx_plan.specs.declared.fault.PlanCause.TheVariants as causes
+use Rattle.fx_words.specs.declared.fault.PlanCause.{PlanCause}
+use Rattle.fx_words.specs.declared.fault.PlanCause.TheVariants as causes
 use Rattle.fx_plan.specs.declared.fault.PlanFault.{PlanFault}
 use Rattle.fx_plan.specs.CommandLines.{effect_words, effects_in}
-use Rattle.fx_plan.specs.Faults.{Word}
+use Rattle.fx_words.specs.Faults.{Word}
 use Rattle.fx_sound.specs.declared.head.HeadFault.{HeadFault}
 use Rattle.fx_sound.specs.declared.head.HeadFault.TheVariants as HeadFaults
 use Rattle.soxchain.specs.declared.preparing.Refusal.{Refusal}

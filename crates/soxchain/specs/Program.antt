@@ -5,8 +5,8 @@ use Rattle.fx_run.specs.Report.{no_report, report_at}
 use Rattle.fx_line.specs.declared.line.LineFault.{LineFault}
 use Rattle.fx_line.specs.declared.line.LineFault.TheVariants as LineFaults
 use Rattle.fx_line.specs.Line.{Said}
-use Rattle.fx_plan.specs.declared.fault.PlanCause.{PlanCause}
-use Rattle.fx_plan.specs.declared.fault.PlanCause.TheVariants.{Memory}
+use Rattle.fx_words.specs.declared.fault.PlanCause.{PlanCause}
+use Rattle.fx_words.specs.declared.fault.PlanCause.TheVariants.{Memory}
 use Rattle.soxchain.specs.declared.preparing.Refusal.{Refusal}
 use Rattle.soxchain.specs.declared.preparing.Refusal.TheVariants.{Head, Plan, Chain}
 use Rattle.soxchain.specs.Messages.{line_label, line_message, outcome_messages}

@@ -1,5 +1,5 @@
 use Rattle.std.proofs.Common.{◌≡◌, ◌++◌, length}
-use Rattle.fx_plan.specs.Faults.{texts}
+use Rattle.fx_words.specs.Faults.{texts}
 use Rattle.fx_plan.proofs.command_line.copy_words.Given as goal
 
 abbrev pub decreases-loop-word : goal.decreases-loop-word

@@ -1,5 +1,5 @@
 use Rattle.std.proofs.Common.{◌≡◌, ◌++◌, length}
-use Rattle.fx_plan.specs.Remix.{specs_in}
+use Rattle.fx_map.specs.RemixWords.{specs_in}
 use Rattle.fx_plan.proofs.effect.copy_specs.Given as goal
 
 abbrev pub decreases-loop-spec : goal.decreases-loop-spec

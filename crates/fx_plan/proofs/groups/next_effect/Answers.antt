@@ -1,6 +1,6 @@
 use Rattle.std.proofs.Common.{◌≡◌, ◌∷◌, ◌+◌, suc, take, drop, string_bytes, sym, ap, ◌∙◌, arith, add-one}
 use Rattle.std.proofs.lemmas.List.{take-map, drop-map}
-use Rattle.fx_plan.specs.Faults.{texts}
+use Rattle.fx_words.specs.Faults.{texts}
 use Rattle.fx_plan.specs.Groups.{effects_of}
 use Rattle.fx_plan.proofs.Grouping.{effects_cut}
 use Rattle.fx_plan.proofs.groups.next_effect.Goals as goal

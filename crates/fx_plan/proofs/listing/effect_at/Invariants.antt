@@ -1,5 +1,5 @@
 use Rattle.std.proofs.Common.{◌≡◌, [], length, slice_get, unwrap_or}
-use Rattle.fx_plan.specs.Faults.{texts}
+use Rattle.fx_words.specs.Faults.{texts}
 use Rattle.fx_plan.specs.Groups.{effects_of}
 use Rattle.fx_plan.proofs.listing.effect_at.Given as goal
 

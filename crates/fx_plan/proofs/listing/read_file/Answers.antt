@@ -1,6 +1,6 @@
 use Rattle.std.proofs.Common.{◌∷◌, string_bytes, sym, ap, ◌∙◌}
 use Rattle.fx_plan.specs.CommandLines.{file_in}
-use Rattle.fx_plan.specs.Faults.{texts}
+use Rattle.fx_words.specs.Faults.{texts}
 use Rattle.fx_plan.specs.Plans.{names_file}
 use Rattle.fx_plan.proofs.Naming.{file_in-one}
 use Rattle.fx_plan.proofs.listing.read_file.Goals as goal

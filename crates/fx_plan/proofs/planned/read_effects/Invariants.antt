@@ -1,6 +1,6 @@
 use Rattle.std.proofs.Common.{◌≡◌, ◌+◌, ◌++◌, ◌≤◌, length, map, true}
 use Rattle.std.specs.List.{All}
-use Rattle.fx_plan.specs.Faults.{texts}
+use Rattle.fx_words.specs.Faults.{texts}
 use Rattle.fx_plan.specs.Groups.{effects_of}
 use Rattle.fx_plan.specs.Effects.{IsLayout, Usable, act, all_fit, layout_behind}
 use Rattle.fx_plan.specs.Plans.{acts_of, bytes_of, effects_faults, last_layout}

@@ -1,6 +1,6 @@
 use Rattle.std.proofs.Common.{refl}
 use Rattle.std.proofs.lemmas.Result.{err_from_is_err_and}
-use Rattle.fx_plan.specs.Faults.{texts}
+use Rattle.fx_words.specs.Faults.{texts}
 use Rattle.fx_plan.specs.Groups.{effects_of}
 use Rattle.fx_plan.specs.Plans.{acts_of, bytes_of, effects_faults, end_faults}
 use Rattle.fx_plan.proofs.Refusing.{refuses_front}

@@ -1,5 +1,5 @@
 use Rattle.std.proofs.Common.{◌∷◌, rules, string_bytes}
-use Rattle.fx_plan.specs.Faults.{texts}
+use Rattle.fx_words.specs.Faults.{texts}
 use Rattle.fx_plan.proofs.Refusing.{refuses_step}
 use Rattle.fx_plan.proofs.planned.read_step.Goals as goal
 

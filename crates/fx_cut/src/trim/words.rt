@@ -1,0 +1,86 @@
+//! The words of `trim`: positions.
+
+ghost use Rattle.std.specs.Prelude.{◌≡◌, ◌<◌, IfOk, length};
+ghost use Rattle.fx_words.specs.Faults.{Finds, Reads, texts};
+ghost use Rattle.fx_words.specs.Numbers.{beginning};
+ghost use Rattle.fx_cut.specs.TrimWords;
+ghost use Rattle.fx_cut.specs.TrimWords.{order_faults, place_faults, places, trim_faults};
+
+use fx_fixed::{Anchor, At};
+use fx_words::{Mark, PlanCause, Refusal, at_word, marked, read_position};
+use std::alloc::Global;
+
+/// The most positions of a `trim`, and the most lengths of a `pad`.
+pub const MOST_POSITIONS: usize = 64;
+
+/// The positions that the words are, each counted from the one before it unless its sign says otherwise.
+fn read_places(alloc: Global, rate: u32, words: &[String]) -> Result<Vec<At>, Refusal>
+    requires rate { 0 < rate }
+    requires few { length words.now < 65 }
+    ensures read { Reads (λ v. v.items) result (place_faults rate 2 beginning (texts words.now)) (places rate beginning (texts words.now)) }
+    ensures length { IfOk result (λ v. length v.items ≡ length words.now) }
+{
+    let mut positions = Vec::new(alloc);
+    let mut rest = words;
+    let mut number = 2;
+    let mut previous = At::Start(0);
+    while let Some((word, more)) = rest.split_first() {
+        let position = match read_position(rate, Anchor::Previous, previous, word) {
+            Ok(position) => position,
+            Err(cause) => return Err(marked(cause, number)),
+        };
+        if positions.push(position).is_err() {
+            return Err(Refusal::Memory);
+        }
+        previous = position;
+        rest = more;
+        number += 1;
+    }
+    Ok(positions)
+}
+
+/// Whether a position lies before the one in front of it, both of one anchor.
+pub fn is_behind(front: At, next: At) -> bool
+    ensures { result ≡ TrimWords.is_behind front next }
+{
+    match (front, next) {
+        (At::Start(first), At::Start(second)) => second < first,
+        (At::End(first), At::End(second)) => first < second,
+        _ => false,
+    }
+}
+
+/// Refuses the first position that lies behind.
+#[tactic(auto, using(crate::proofs::TrimWords::orders))]
+fn check_order(positions: &[At]) -> Result<(), Mark>
+    requires { length positions.now < 2000 }
+    ensures { Finds result (order_faults 3 positions.now) tt }
+{
+    let mut rest = positions;
+    let mut number = 3;
+    while let [front, next, ..] = rest {
+        if is_behind(*front, *next) {
+            return Err(at_word(PlanCause::PositionBehind, number));
+        }
+        rest = &rest[1..];
+        number += 1;
+    }
+    Ok(())
+}
+
+/// The positions of a `trim` with these words after its name.
+#[tactic(auto, unfolding(crate::specs::TrimWords::trim_faults))]
+pub fn read_trim(alloc: Global, rate: u32, words: &[String]) -> Result<Vec<At>, Refusal>
+    requires { 0 < rate }
+    ensures { Reads (λ v. v.items) result (trim_faults rate (texts words.now)) (places rate beginning (texts words.now)) }
+{
+    if words.is_empty() {
+        return Err(marked(PlanCause::WrongCount, 1));
+    }
+    if words.len() > MOST_POSITIONS {
+        return Err(marked(PlanCause::WrongCount, MOST_POSITIONS + 2));
+    }
+    let positions = read_places(alloc, rate, words)?;
+    check_order(&positions)?;
+    Ok(positions)
+}

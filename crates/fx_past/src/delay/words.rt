@@ -1,0 +1,68 @@
+//! The words of `delay`: positions, one for each of the first channels.
+
+ghost use Rattle.std.specs.Prelude.{◌≡◌, ◌<◌, ◌≤◌, IfOk, length};
+ghost use Rattle.fx_words.specs.Faults.{Reads, texts};
+ghost use Rattle.fx_past.specs.DelayWords.{delay_at, delay_faults, delays, each_faults};
+
+use fx_fixed::{Anchor, At};
+use fx_words::{PlanCause, Refusal, marked, read_position};
+use std::alloc::Global;
+
+/// The delay that a word is, behind one of so many frames.
+fn read_place(rate: u32, previous: u64, word: &str) -> Result<u64, PlanCause>
+    requires { 0 < rate }
+    ensures { result ≡ delay_at rate previous word.now }
+{
+    match read_position(rate, Anchor::Start, At::Start(previous), word)? {
+        At::Start(frames) => Ok(frames),
+        At::End(_) => Err(PlanCause::NeedsWholeSound),
+    }
+}
+
+/// The delays that the words are.
+fn read_delays(alloc: Global, rate: u32, words: &[String]) -> Result<Vec<u64>, Refusal>
+    requires rate { 0 < rate }
+    requires few { length words.now < 17 }
+    ensures read { Reads (λ v. v.items) result (each_faults rate 2 0 (texts words.now)) (delays rate 0 (texts words.now)) }
+    ensures count { IfOk result (λ v. length v.items ≡ length words.now) }
+{
+    let mut frames = Vec::new(alloc);
+    let mut rest = words;
+    let mut number = 2;
+    let mut previous = 0;
+    while let Some((word, more)) = rest.split_first() {
+        let delay = match read_place(rate, previous, word) {
+            Ok(delay) => delay,
+            Err(cause) => return Err(marked(cause, number)),
+        };
+        if frames.push(delay).is_err() {
+            return Err(Refusal::Memory);
+        }
+        previous = delay;
+        rest = more;
+        number += 1;
+    }
+    Ok(frames)
+}
+
+/// The delays in frames of a `delay` with these words after its name, at so many channels.
+#[tactic(auto, unfolding(crate::specs::DelayWords::delay_faults))]
+pub fn read_delay_words(
+    alloc: Global,
+    rate: u32,
+    channels: usize,
+    words: &[String],
+) -> Result<Vec<u64>, Refusal>
+    requires rate { 0 < rate }
+    requires channels { channels ≤ 16 }
+    ensures read { Reads (λ v. v.items) result (delay_faults rate channels (texts words.now)) (delays rate 0 (texts words.now)) }
+    ensures count { IfOk result (λ v. length v.items ≤ channels) }
+{
+    if words.is_empty() {
+        return Err(marked(PlanCause::WrongCount, 1));
+    }
+    if words.len() > channels {
+        return Err(marked(PlanCause::NoSuchChannel, channels + 2));
+    }
+    read_delays(alloc, rate, words)
+}

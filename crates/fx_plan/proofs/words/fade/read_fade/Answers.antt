@@ -1,9 +1,0 @@
-use Rattle.std.proofs.Common.{◌≡◌, true}
-use Rattle.fx_plan.specs.Fade.{is_fade}
-use Rattle.fx_plan.specs.Faults.{texts}
-use Rattle.fx_plan.proofs.Fading.{fade_fits}
-use Rattle.fx_plan.proofs.Refusing.{IfOk-finds}
-use Rattle.fx_plan.proofs.words.fade.read_fade.Goals as goal
-
-pub returns-clause-fit : goal.returns-clause-fit
-returns-clause-fit c = IfOk-finds (λ fade. is_fade fade ≡ true) c.read_lengths.result _ _ c.read_lengths.ensures (fade_fits c.args.rate (texts c.in-Some.lengths.now))
