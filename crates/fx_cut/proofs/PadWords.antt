@@ -67,7 +67,7 @@ pads_fit rate words pads same order few =
     let sum : sum_by pad_length pads ≡ sum_by pad_length (lengths rate 2 beginning words) = ap (sum_by pad_length) same in
     and_from _ _ (rising 3 (map position_at pads) order) (le-leb (sum_by pad_length pads) (2 ^ 46) (omega arith))
 
--- no pads out of order
+-- fewer than two pads are in order
 pub pad_order-short : (number : ℕ) (pads : List Length) → length pads < 2 → order_faults number (map position_at pads) ≡ []
 pad_order-short number [] short = refl
 pad_order-short number (p ∷ []) short = refl

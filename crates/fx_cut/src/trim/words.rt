@@ -11,7 +11,7 @@ use fx_words::{Mark, PlanCause, Refusal, at_word, marked, read_position};
 use std::alloc::Global;
 
 /// The most positions of a `trim`, and the most lengths of a `pad`.
-pub const MOST_POSITIONS: usize = 64;
+pub(crate) const MOST_POSITIONS: usize = 64;
 
 /// The positions that the words are, each counted from the one before it unless its sign says otherwise.
 fn read_places(alloc: Global, rate: u32, words: &[String]) -> Result<Vec<At>, Refusal>
@@ -40,7 +40,7 @@ fn read_places(alloc: Global, rate: u32, words: &[String]) -> Result<Vec<At>, Re
 }
 
 /// Whether a position lies before the one in front of it, both of one anchor.
-pub fn is_behind(front: At, next: At) -> bool
+pub(crate) fn is_behind(front: At, next: At) -> bool
     ensures { result ≡ TrimWords.is_behind front next }
 {
     match (front, next) {
