@@ -1,4 +1,4 @@
-//! What effects share that make frames of frames, and write them one after another.
+//! What the stages share that map each frame alone and those that look back: sums rounded as one channel of a block.
 #![tactic(auto)]
 
 mod channels;

@@ -108,7 +108,7 @@ fn streamed_head(target: Target) -> HeadBytes
 
 /// Writes a streamed head, and what a new flow gives for all frames of the sound behind `head`.
 ///
-/// Reads no more frames than some effect has enough of. After a failed read, and where the sound is too long, the frames
+/// Reads no more frames than some stage has enough of. After a failed read, and where the sound is too long, the frames
 /// then due are written; after a failed write the writer has a front of the whole output. Takes no memory.
 pub fn run_flow<R: ByteIn, S: Feeds, W: ByteOut>(
     flow: &mut Flow<S>,

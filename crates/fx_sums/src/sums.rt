@@ -18,7 +18,7 @@ pub fn sample_or_silence(samples: &[i32], channel: usize) -> i32
     }
 }
 
-/// The sixteen places of a frame, whatever the width of its samples.
+/// Sixteen samples, one for each channel, whatever their width.
 pub trait Places {
     /// The samples.
     ghost list: { Self → List ℤ };

@@ -1,4 +1,4 @@
-//! The gains of an `echo` or `echos` in lowest terms.
+//! Gains in lowest terms: one of the input, and one for each sample that is added to it.
 ghost use Rattle.std.specs.Prelude.{◌≡◌, ◌<◌, ◌≤◌, ◌+◌, ◌^◌, ℕ, pos, length, slice_index_or, unsigned_abs, IfSome, IsTrue};
 ghost use Rattle.fx_sums.specs.Weights.{AreSmall, SoundsAs};
 
