@@ -22,6 +22,10 @@ map-table g h d (x ∷ xs) from e =
     rw at (e (suc i) (omega arith)) in
     rw here (ap (λ l. h from ∷ l) (map-table g h d xs (suc from) more))
 
+pub map-tabulate : {X Y : Type 0} (f : X → Y) (g : ℕ → X) (from count : ℕ) → map f (tabulate g from count) ≡ tabulate (λ n. f (g n)) from count
+map-tabulate f g from zero = refl
+map-tabulate f g from (suc count) = ap (λ l. f (g from) ∷ l) (map-tabulate f g (suc from) count)
+
 pub samples_of-tabulate : (g : ℕ → ℤ × Bool) (from count : ℕ) → samples_of (tabulate g from count) ≡ tabulate (λ k. (g k).0) from count
 samples_of-tabulate g from zero = refl
 samples_of-tabulate g from (suc count) = ap (λ l. (g from).0 ∷ l) (samples_of-tabulate g (suc from) count)

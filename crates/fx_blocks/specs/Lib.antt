@@ -1,2 +1,4 @@
 pub mod Kinds
 pub mod Made
+pub mod Past
+pub mod Tapped

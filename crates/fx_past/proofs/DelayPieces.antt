@@ -6,10 +6,9 @@ use Rattle.fx_frame.specs.Ring.{pieces}
 use Rattle.fx_frame.specs.Stage.{Given}
 use Rattle.fx_past.specs.Delay.{delayed_frame}
 use Rattle.fx_past.specs.DelayState.{delay_taps}
-use Rattle.fx_past.specs.Tapped.{frames_behind}
-use Rattle.fx_past.specs.Past.{sample_before}
-use Rattle.fx_past.proofs.Delaying.{map-tabulate}
-use Rattle.fx_blocks.proofs.Tables.{pieces-table}
+use Rattle.fx_blocks.specs.Tapped.{frames_behind}
+use Rattle.fx_blocks.specs.Past.{sample_before}
+use Rattle.fx_blocks.proofs.Tables.{map-tabulate, pieces-table}
 use Rattle.fx_frame.proofs.Tabulate.{tabulate-same}
 
 -- so many frames behind those of a line, sample by sample

@@ -19,8 +19,9 @@ use Rattle.fx_frame.proofs.Pieces.{length-pieces}
 use Rattle.fx_past.specs.Delay.{delayed_frame}
 use Rattle.fx_past.specs.DelayState.{delay_taps}
 use Rattle.fx_frame.specs.Lists.{plain, tabulate}
-use Rattle.fx_past.specs.Tapped.{clips_behind, frames_behind, last_of}
-use Rattle.fx_past.specs.Past.{sample_before}
+use Rattle.fx_blocks.proofs.Tables.{map-tabulate}
+use Rattle.fx_blocks.specs.Tapped.{clips_behind, frames_behind, last_of}
+use Rattle.fx_blocks.specs.Past.{sample_before}
 use Rattle.fx_blocks.proofs.SamplePieces.{pieces-sides}
 use Rattle.fx_frame.proofs.Tabulate.{tabulate-replicate, tabulate-same}
 use borrow.Rule.Slice.PartMut.{put_mid}
@@ -73,10 +74,6 @@ index-take ys from (suc count) d h =
     let next : suc from ≡ from + 1 = omega arith in
     let rest : tabulate (λ k. get_or ys k d) (suc from) count ≡ take count (drop (suc from) ys) = index-take ys (suc from) count d (omega arith) in
     rw more (ap (λ l. get_or ys from d ∷ l) (rest ∙ ap (λ n. take count (drop n ys)) next))
-
-pub map-tabulate : {X Y : Type 0} (f : X → Y) (g : ℕ → X) (from count : ℕ) → map f (tabulate g from count) ≡ tabulate (λ n. f (g n)) from count
-map-tabulate f g from zero = refl
-map-tabulate f g from (suc count) = ap (λ l. f (g from) ∷ l) (map-tabulate f g (suc from) count)
 
 no-clips : (g : ℕ → Samples) (from count : ℕ) → total (λ (w : Given). w.clips) (tabulate (λ n. plain (g n)) from count) ≡ 0
 no-clips g from zero = refl

@@ -9,7 +9,7 @@ use Rattle.fx_fixed.specs.declared.gains.TheConstants.{UNIT}
 use Rattle.fx_frame.specs.Frame.{Samples}
 use Rattle.fx_frame.specs.Lists.{tabulate}
 use Rattle.fx_past.specs.Echo.{EchoArguments, echo_sum, echoed_sample, echoes_of}
-use Rattle.fx_past.specs.Past.{Past, sample_before}
+use Rattle.fx_blocks.specs.Past.{Past, sample_before}
 use Rattle.fx_frame.proofs.Tabulate.{tabulate-same}
 use Rattle.fx_sums.proofs.SumLaws.{add-next}
 

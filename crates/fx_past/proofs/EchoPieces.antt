@@ -18,8 +18,8 @@ use Rattle.fx_past.specs.EchoWeights.{weighed}
 use Rattle.fx_frame.specs.Lists.{tabulate}
 use Rattle.fx_blocks.specs.Made.{rounded_given}
 use Rattle.fx_frame.specs.Rounded.{clips_of, samples_of}
-use Rattle.fx_past.specs.Tapped.{clips_behind, frames_behind}
-use Rattle.fx_past.specs.Past.{sample_before}
+use Rattle.fx_blocks.specs.Tapped.{clips_behind, frames_behind}
+use Rattle.fx_blocks.specs.Past.{sample_before}
 use Rattle.fx_past.proofs.EchoWeights.{small-sample}
 use Rattle.fx_past.proofs.SumPieces.{rounded-clips, rounded-frame, rounded-frames}
 

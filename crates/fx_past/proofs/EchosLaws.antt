@@ -12,7 +12,7 @@ use Rattle.fx_frame.specs.Line.{Frames, IsSamples, pushed_out, empty}
 use Rattle.fx_frame.specs.Stage.{Gave, Took}
 use Rattle.fx_past.specs.Echo.{EchoArguments, IsEcho}
 use Rattle.fx_past.specs.EchosState.{EchosState, IsEchos, IsEchoLine, IsRowLine, after_push, came_of, delay_at, echos_acts, fed, frame_of_lines, frames_of, let_go, line_at, lines_after, or_silence, places_of, rows_after, through_lines}
-use Rattle.fx_past.proofs.DryLaws.{dry-hand, dry-tail, true_of}
+use Rattle.fx_blocks.proofs.DryLaws.{dry-hand, dry-tail, true_of}
 use Rattle.fx_past.proofs.EchosRow.{Small, small-fed, small-gone}
 use Rattle.fx_frame.proofs.Tabulate.{length-tabulate}
 

@@ -16,8 +16,8 @@ use Rattle.fx_past.specs.EchosState.{after_push, delay_at, fed, frame_of_lines, 
 use Rattle.fx_frame.specs.Lists.{tabulate}
 use Rattle.fx_transform.specs.Products.{sum_of_products}
 use Rattle.fx_frame.specs.Rounded.{given_of}
-use Rattle.fx_past.specs.Past.{Past, sample_before}
-use Rattle.fx_past.proofs.DelayLaws.{quiet-after}
+use Rattle.fx_blocks.specs.Past.{Past, sample_before}
+use Rattle.fx_blocks.proofs.DelayLaws.{quiet-after}
 use Rattle.fx_sums.proofs.Places.{quiet-sample}
 use Rattle.fx_frame.proofs.Tabulate.{tabulate-append, tabulate-same, length-tabulate}
 

@@ -21,7 +21,7 @@ use Rattle.fx_blocks.proofs.SamplePieces.{pieces-sides}
 use Rattle.fx_past.proofs.EchosRow.{Small, small_of}
 use Rattle.fx_past.proofs.SumPieces.{flat-place}
 use Rattle.fx_past.proofs.EchosStored.{same-line}
-use Rattle.fx_past.proofs.TapBlocks.{last-joined, last-whole, length-last}
+use Rattle.fx_blocks.proofs.TapBlocks.{last-joined, last-whole, length-last}
 use Rattle.fx_frame.proofs.Tabulate.{tabulate-same}
 
 -- ---- one line

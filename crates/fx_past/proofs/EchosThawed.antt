@@ -9,7 +9,7 @@ use Rattle.fx_past.specs.Echo.{EchoArguments}
 use Rattle.fx_past.specs.EchosState.{EchosState, IsEchos, echos_acts, frames_of}
 use Rattle.fx_past.specs.EchosStored.{IsRowStored}
 use Rattle.fx_blocks.specs.Kinds.{most_taken}
-use Rattle.fx_past.specs.Tapped.{TailNumbers, by_name}
+use Rattle.fx_blocks.specs.Tapped.{TailNumbers, by_name}
 use Rattle.fx_sums.proofs.Counts.{flag-false, flag-le, flag-of, flag-times, flag-true}
 
 -- what holds of the numbers of a stage whose delays have that sum, which stores so many frames

@@ -1,7 +1,5 @@
-pub mod DelayLaws
 pub mod DelayPieces
 pub mod Delaying
-pub mod DryLaws
 pub mod EchoLaws
 pub mod EchoPieces
 pub mod EchoWeights
@@ -13,12 +11,6 @@ pub mod EchosPieces
 pub mod EchosRow
 pub mod EchosStored
 pub mod EchosThawed
-pub mod FirBlocks
-pub mod FirLaws
 pub mod OneEcho
-pub mod SplitLaws
 pub mod SumPieces
-pub mod TapBlocks
-pub mod TapLaws
-pub mod WindowSums
 pub mod EchoWords

@@ -14,7 +14,7 @@ use Rattle.fx_frame.proofs.Tabulate.{tabulate-same}
 use Rattle.fx_past.specs.Echo.{EchoArguments, echoed_sample, echoes_of}
 use Rattle.fx_sums.specs.Weights.{SoundsAs, Weights}
 use Rattle.fx_past.specs.EchoWeights.{weighed_echoes}
-use Rattle.fx_past.specs.Past.{Past, sample_before}
+use Rattle.fx_blocks.specs.Past.{Past, sample_before}
 use Rattle.fx_sums.proofs.Places.{quiet-sample}
 use Rattle.fx_past.proofs.EchoLaws.{sample-now}
 use Rattle.fx_sums.proofs.WeightLaws.{second-on}

@@ -4,7 +4,7 @@ use Rattle.fx_fixed.specs.Extents.{greatest}
 use Rattle.fx_frame.specs.Frame.{Samples}
 use Rattle.fx_frame.specs.Stage.{Given, Kind}
 use Rattle.fx_frame.specs.Lists.{tabulate, plain}
-use Rattle.fx_past.specs.Past.{Past, sample_before}
+use Rattle.fx_blocks.specs.Past.{Past, sample_before}
 use Rattle.fx_blocks.specs.Kinds.{tap_kind}
 
 -- the frame whose channel k is delayed by delay k

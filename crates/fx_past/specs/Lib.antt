@@ -8,10 +8,4 @@ pub mod EchoWords
 pub mod Echos
 pub mod EchosState
 pub mod EchosStored
-pub mod Fir
-pub mod FirState
-pub mod FirWords
 pub mod Near
-pub mod Past
-pub mod Split
-pub mod Tapped

@@ -4,8 +4,8 @@ use Rattle.std.proofs.Common.{zero, suc, refl, ap, arith}
 use Rattle.fx_fixed.specs.Extents.{greatest, tap_delay}
 use Rattle.fx_frame.specs.Lists.{tabulate, plain}
 use Rattle.fx_frame.specs.Rounded.{given_of}
-use Rattle.fx_past.specs.Tapped.{Agree, IsNear}
-use Rattle.fx_past.specs.Past.{Past}
+use Rattle.fx_blocks.specs.Tapped.{Agree, IsNear}
+use Rattle.fx_blocks.specs.Past.{Past}
 use Rattle.fx_past.specs.DelayState.{delay_taps}
 use Rattle.fx_past.specs.Echo.{echoed_sample, echoes_of}
 use Rattle.fx_past.specs.EchoState.{echo_taps}

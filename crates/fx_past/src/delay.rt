@@ -7,8 +7,8 @@ ghost use Rattle.fx_frame.specs.Ring.{pieces};
 ghost use Rattle.fx_frame.specs.Stage.{Freezes, IsNew};
 ghost use Rattle.fx_past.specs.Delay.{delayed_frame, every_delay};
 ghost use Rattle.fx_past.specs.DelayState.{delay_acts, delay_taps};
-ghost use Rattle.fx_past.specs.Tapped.{IsTapState, TapState, frames_behind, last_of};
-ghost use Rattle.fx_past.specs.Past.{sample_before};
+ghost use Rattle.fx_blocks.specs.Tapped.{IsTapState, TapState, frames_behind, last_of};
+ghost use Rattle.fx_blocks.specs.Past.{sample_before};
 ghost use Rattle.fx_past.specs.Near.{delays-near};
 ghost use Rattle.std.proofs.Common.{zero-le};
 

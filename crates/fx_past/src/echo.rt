@@ -14,8 +14,8 @@ ghost use Rattle.fx_past.specs.EchoState.{echo_acts, echo_taps};
 ghost use Rattle.fx_sums.specs.Weights.{SoundsAs};
 ghost use Rattle.fx_past.specs.EchoWeights.{weighed};
 ghost use Rattle.fx_past.specs.Near.{echoes-near};
-ghost use Rattle.fx_past.specs.Tapped.{IsTapState, TapState, clips_behind, frames_behind};
-ghost use Rattle.fx_past.specs.Past.{sample_before};
+ghost use Rattle.fx_blocks.specs.Tapped.{IsTapState, TapState, clips_behind, frames_behind};
+ghost use Rattle.fx_blocks.specs.Past.{sample_before};
 
 pub mod words;
 

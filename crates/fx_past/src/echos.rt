@@ -499,7 +499,7 @@ impl Echos {
 }
 
 impl Stage for Echos {
-    ghost use Rattle.fx_past.specs.Tapped.{tap_rises};
+    ghost use Rattle.fx_blocks.specs.Tapped.{tap_rises};
 
     ghost Recipe = { EchoArguments };
 

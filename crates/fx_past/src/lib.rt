@@ -1,18 +1,13 @@
 //! Effects that make each frame of it and of those before it: each sample is one exact fraction, rounded once.
 #![tactic(auto)]
 
-mod channels;
 pub mod delay;
 pub mod echo;
 pub mod echos;
-pub mod fir;
-mod kernel;
 mod rows;
-mod split;
 mod sums;
 pub mod tapped;
 
 pub use delay::Delay;
 pub use echo::Echo;
 pub use echos::Echos;
-pub use fir::Fir;

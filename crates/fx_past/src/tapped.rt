@@ -3,8 +3,8 @@ ghost use Rattle.std.specs.Prelude.{◌≡◌, ◌↔◌, true, ◌<◌, ◌≤�
 ghost use Rattle.fx_frame.specs.Line.{pushed};
 ghost use Rattle.fx_frame.specs.Ring.{pieces};
 ghost use Rattle.fx_frame.specs.Stage.{Freezes, Gave, IsNew};
-ghost use Rattle.fx_past.specs.Tapped.{AreTapCounts, IsNear, Taps, TapState, by_name, clips_behind, frames_behind, last_of, tap_acts};
-ghost use Rattle.fx_past.specs.Past.{sample_before};
+ghost use Rattle.fx_blocks.specs.Tapped.{AreTapCounts, IsNear, Taps, TapState, by_name, clips_behind, frames_behind, last_of, tap_acts};
+ghost use Rattle.fx_blocks.specs.Past.{sample_before};
 
 use fx_frame::feed::{copy_samples, feed_by_frames, frame_at};
 use fx_frame::frozen::{stored_in, thawed_line_and_hand};
@@ -267,7 +267,7 @@ pub struct Tapped<T: Tapping + Drop> {
 }
 
 impl<T: Tapping + Drop> Model for Tapped<T> {
-    ghost use Rattle.fx_past.specs.Tapped.{TapState, IsTapState};
+    ghost use Rattle.fx_blocks.specs.Tapped.{TapState, IsTapState};
 
     ghost Value = { TapState T };
 
@@ -277,7 +277,7 @@ impl<T: Tapping + Drop> Model for Tapped<T> {
 }
 
 impl<T: Tapping + Drop> Tapped<T> {
-    ghost use Rattle.fx_past.specs.Tapped.{IsTapState, TapState};
+    ghost use Rattle.fx_blocks.specs.Tapped.{IsTapState, TapState};
 
     /// The stage of an effect that reaches back so many frames; AllocError where memory for them is refused.
     pub(crate) fn of(alloc: Global, arguments: T, reach: usize) -> Result<Tapped<T>, AllocError>
@@ -357,7 +357,7 @@ impl<T: Tapping + Drop> Tapped<T> {
 }
 
 impl<T: Tapping + Drop> Stage for Tapped<T> {
-    ghost use Rattle.fx_past.specs.Tapped.{IsTapState, tap_acts, tap_rises};
+    ghost use Rattle.fx_blocks.specs.Tapped.{IsTapState, tap_acts, tap_rises};
 
     ghost Recipe = { T };
 

@@ -23,7 +23,7 @@ use Rattle.fx_past.specs.EchoWords.{EchoValue, are_echoes, echo_faults, echo_val
 use Rattle.fx_cut.specs.FadeWords.{fade_faults, fading, is_fade}
 use Rattle.fx_map.specs.VolWords.{vol_faults, vol_gain}
 use Rattle.fx_map.specs.DcShiftWords.{shift_faults, shift_gain}
-use Rattle.fx_past.specs.FirWords.{fir_faults, coefficients}
+use Rattle.fx_fir.specs.FirWords.{fir_faults, coefficients}
 use Rattle.fx_map.specs.RemixWords.{is_mix, remix_faults, remixed, specs_value}
 use Rattle.fx_cut.specs.FactorWords.{upsample_faults, downsample_faults, factor_of, usable}
 

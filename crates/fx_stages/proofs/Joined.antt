@@ -20,7 +20,7 @@ use Rattle.fx_map.specs.DcShiftState.{dcshift_acts}
 use Rattle.fx_past.specs.DelayState.{delay_acts}
 use Rattle.fx_past.specs.EchoState.{echo_acts}
 use Rattle.fx_past.specs.EchosState.{echos_acts}
-use Rattle.fx_past.specs.FirState.{fir_acts}
+use Rattle.fx_fir.specs.FirState.{fir_acts}
 use Rattle.fx_map.specs.RemixState.{remix_acts}
 use Rattle.fx_map.specs.VolState.{vol_acts}
 

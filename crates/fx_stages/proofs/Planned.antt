@@ -19,7 +19,7 @@ use Rattle.std.proofs.Math.Nat.{le-div_iff_mul-le}
 use Rattle.fx_stages.specs.Effects.{kind_of_recipe}
 use Rattle.fx_stages.specs.Made.{all_suit, channels_after, recipe_for, recipes_for, suits}
 use Rattle.fx_past.specs.Delay.{every_delay}
-use Rattle.fx_past.proofs.DelayLaws.{greatest-filled}
+use Rattle.fx_blocks.proofs.DelayLaws.{greatest-filled}
 
 -- the kind of an effect's stage
 abbrev pub kind_for : ℕ → Act → Kind

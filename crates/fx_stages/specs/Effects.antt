@@ -12,7 +12,7 @@ use Rattle.fx_map.specs.DcShift.{dcshift_meaning}
 use Rattle.fx_past.specs.Delay.{delay_kind, delayed}
 use Rattle.fx_past.specs.Echo.{EchoArguments, echo, echo_kind}
 use Rattle.fx_past.specs.Echos.{echos, echos_kind}
-use Rattle.fx_past.specs.Fir.{FirArguments, filtered, fir_kind}
+use Rattle.fx_fir.specs.Fir.{FirArguments, filtered, fir_kind}
 use Rattle.fx_map.specs.PerSample.{SampleArguments, sample_kind}
 use Rattle.fx_map.specs.Remix.{RemixArguments, remix_kind, remix_meaning}
 use Rattle.fx_map.specs.Vol.{vol_meaning}

@@ -16,12 +16,12 @@ use Rattle.fx_map.specs.DcShiftState.{dcshift_acts}
 use Rattle.fx_past.specs.DelayState.{delay_acts, delay_taps}
 use Rattle.fx_past.specs.EchoState.{echo_acts, echo_taps}
 use Rattle.fx_past.specs.EchosState.{IsEchos, echos_acts}
-use Rattle.fx_past.specs.FirState.{IsFir, fir_acts}
+use Rattle.fx_fir.specs.FirState.{IsFir, fir_acts}
 use Rattle.fx_map.specs.Mapped.{IsMapState}
 use Rattle.fx_map.specs.PerSample.{SampleArguments}
 use Rattle.fx_map.specs.Remix.{RemixArguments}
 use Rattle.fx_map.specs.RemixState.{remix_acts}
-use Rattle.fx_past.specs.Tapped.{IsTapState, tap_rises}
+use Rattle.fx_blocks.specs.Tapped.{IsTapState, tap_rises}
 use Rattle.fx_map.specs.VolState.{vol_acts}
 use Rattle.fx_stages.specs.Effects.{EffectRecipe, ForTrim, ForPad, ForFade, ForUpsample, ForDownsample, ForDelay, ForEcho, ForEchos, ForFir, ForRemix, ForVol, ForDcShift, kind_of_recipe, meaning_of_recipe}
 

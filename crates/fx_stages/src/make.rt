@@ -14,8 +14,9 @@ ghost use Rattle.fx_stages.specs.Made.{all_suit, recipe_for, recipes_for, suits}
 
 use crate::stage::EffectStage;
 use fx_cut::{Downsample, Fade, Pad, Trim, Upsample};
+use fx_fir::Fir;
 use fx_map::{DcShift, Remix, Vol};
-use fx_past::{Delay, Echo, Echos, Fir};
+use fx_past::{Delay, Echo, Echos};
 use fx_plan::inner::Effect;
 use std::alloc::{AllocError, Global};
 

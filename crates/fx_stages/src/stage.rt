@@ -11,6 +11,7 @@ ghost use Rattle.fx_blocks.specs.Kinds.{most_taken};
 ghost use Rattle.fx_map.specs.PerSampleState.{sample_acts};
 
 use fx_cut::{Downsample, Fade, Pad, Trim, Upsample};
+use fx_fir::Fir;
 use fx_frame::stage::Stage;
 use fx_frame::{Feeds, Frame, Passed, Passing, WideFrame};
 use fx_map::around::pass_around;
@@ -18,7 +19,7 @@ use fx_map::both::pass_both;
 use fx_map::mapped::Mapped;
 use fx_map::per_sample::{PerSample, SamplesMany};
 use fx_map::{DcShift, Remix, Vol};
-use fx_past::{Delay, Echo, Echos, Fir};
+use fx_past::{Delay, Echo, Echos};
 
 /// The stage of an effect.
 #[derive(Drop)]

@@ -6,10 +6,11 @@ ghost use Rattle.fx_stages.specs.Thawed.{placed, placing};
 use crate::make::channels_after;
 use crate::stage::EffectStage;
 use fx_cut::{Downsample, Fade, Pad, Trim, Upsample};
+use fx_fir::Fir;
 use fx_frame::WideFrame;
 use fx_frame::stage::{ThawFault, Thaws};
 use fx_map::{DcShift, Remix, Vol};
-use fx_past::{Delay, Echo, Echos, Fir};
+use fx_past::{Delay, Echo, Echos};
 use fx_plan::inner::Effect;
 use std::alloc::{AllocError, Global};
 

@@ -4,7 +4,7 @@ use Rattle.std.specs.Prelude.{slice_index}
 use Rattle.fx_frame.specs.Frame.{Samples}
 use Rattle.fx_frame.specs.Ring.{pieces}
 use Rattle.fx_frame.proofs.Pieces.{length-pieces}
-use Rattle.fx_past.specs.Past.{sample_before}
+use Rattle.fx_blocks.specs.Past.{sample_before}
 use Rattle.fx_past.proofs.DelayPieces.{delay-frames, late-by}
 use Rattle.fx_past.proofs.EchoPieces.{coming-sample, late-sample}
 use Rattle.fx_sums.proofs.Places.{channel-put}

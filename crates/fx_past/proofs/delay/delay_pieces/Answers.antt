@@ -11,8 +11,8 @@ use Rattle.fx_frame.proofs.Feeding.{drop-put, pieces-take}
 use Rattle.fx_frame.proofs.ManyFrames.{pieces-put_many}
 use Rattle.fx_past.specs.DelayState.{delay_taps}
 use Rattle.fx_past.specs.Near.{delays-near}
-use Rattle.fx_past.specs.Tapped.{frames_behind, last_of}
-use Rattle.fx_past.proofs.TapBlocks.{frames-joined, last-joined}
+use Rattle.fx_blocks.specs.Tapped.{frames_behind, last_of}
+use Rattle.fx_blocks.proofs.TapBlocks.{frames-joined, last-joined}
 use Rattle.fx_past.proofs.delay.delay_pieces.Goals as goal
 
 pub overflow_mul-from : goal.overflow_mul-from

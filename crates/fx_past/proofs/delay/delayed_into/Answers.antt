@@ -2,7 +2,7 @@ use Rattle.std.proofs.Common.{◌≡◌, ◌<◌, ◌++◌, ◌∷◌, [], ℕ, 
 use Rattle.std.specs.Prelude.{slice_index}
 use Rattle.std.proofs.lemmas.List.{take_more_set}
 use Rattle.fx_frame.specs.Lists.{tabulate}
-use Rattle.fx_past.specs.Past.{sample_before}
+use Rattle.fx_blocks.specs.Past.{sample_before}
 use Rattle.fx_frame.proofs.Tabulate.{tabulate-append}
 use Rattle.fx_past.proofs.delay.delayed_into.Goals as goal
 

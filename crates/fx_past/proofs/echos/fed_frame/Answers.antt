@@ -1,6 +1,6 @@
 use Rattle.std.proofs.Common.{rules, ◌≡◌, ◌≤◌, ◌^◌, ◌∙◌, ap, refl, ℕ, ℤ, pos, ◌+ℤ◌, length, arith, set, slice_index_or, unsigned_abs, FitsSigned, to_z, of_z, w32, w64}
 use Rattle.std.proofs.lemmas.Int.{ints, fits_signed_from_abs}
-use Rattle.fx_past.proofs.DelayLaws.{channel-set}
+use Rattle.fx_blocks.proofs.DelayLaws.{channel-set}
 use Rattle.fx_frame.proofs.Tabulate.{take-tabulate, length-tabulate}
 use Rattle.fx_sums.proofs.SumLaws.{added-few, filled-up}
 use Rattle.fx_sums.proofs.EchosSums.{wide-two, held_wide}

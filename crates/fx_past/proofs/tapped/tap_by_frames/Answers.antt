@@ -7,9 +7,9 @@ use Rattle.fx_frame.specs.Frame.{Samples}
 use Rattle.fx_frame.specs.Ring.{pieces}
 use Rattle.fx_frame.specs.Stage.{Given}
 use Rattle.fx_frame.proofs.Feeding.{drop-put, pieces-more, pieces-put}
-use Rattle.fx_past.specs.Tapped.{clips_behind, frames_behind, last_of}
-use Rattle.fx_past.specs.Past.{sample_before}
-use Rattle.fx_past.proofs.TapBlocks.{clips-more, frames-more, last-more, last-whole}
+use Rattle.fx_blocks.specs.Tapped.{clips_behind, frames_behind, last_of}
+use Rattle.fx_blocks.specs.Past.{sample_before}
+use Rattle.fx_blocks.proofs.TapBlocks.{clips-more, frames-more, last-more, last-whole}
 use Rattle.fx_past.proofs.tapped.tap_by_frames.Goals as goal
 
 pub frames-init : goal.frames-init

@@ -3,7 +3,7 @@ use Rattle.fx_fixed.specs.Rounding.{rounding}
 use Rattle.fx_past.specs.Echo.{EchoArguments, echo_sum, echoed_sample}
 use Rattle.fx_sums.specs.Weights.{Weights}
 use Rattle.fx_past.specs.EchoWeights.{weighed}
-use Rattle.fx_past.specs.Past.{Past, sample_before}
+use Rattle.fx_blocks.specs.Past.{Past, sample_before}
 use Rattle.fx_past.proofs.EchoWeights.{small-sample}
 use Rattle.fx_blocks.proofs.Rounds.{samples_of-next, clips_of-next, byte_is, byte-le}
 use Rattle.fx_sums.proofs.SmallSums.{held-in-64}

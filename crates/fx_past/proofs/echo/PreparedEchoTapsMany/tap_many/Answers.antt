@@ -12,8 +12,8 @@ use Rattle.fx_frame.proofs.ManyFrames.{pieces-put_many}
 use Rattle.fx_past.specs.Echo.{EchoArguments}
 use Rattle.fx_past.specs.EchoState.{echo_taps}
 use Rattle.fx_past.specs.Near.{echoes-near}
-use Rattle.fx_past.specs.Tapped.{clips_behind, frames_behind, last_of}
-use Rattle.fx_past.proofs.TapBlocks.{clips-joined, frames-joined, last-joined}
+use Rattle.fx_blocks.specs.Tapped.{clips_behind, frames_behind, last_of}
+use Rattle.fx_blocks.proofs.TapBlocks.{clips-joined, frames-joined, last-joined}
 use Rattle.fx_past.proofs.echo.PreparedEchoTapsMany.tap_many.Goals as goal
 
 pub slice_bounds-frames-end : goal.slice_bounds-frames-end

@@ -2,7 +2,7 @@ use Rattle.std.proofs.Common.{◌≡◌, ◌+◌, ◌≤◌, ◌<◌, ◌^◌, �
 use Rattle.std.specs.Prelude.{None}
 use Rattle.fx_frame.specs.Frame.{Samples}
 use Rattle.fx_past.specs.EchosState.{EchosState, IsEchos, IsEchoLine, came_of, delay_at, line_at}
-use Rattle.fx_past.proofs.DryLaws.{dry-hand}
+use Rattle.fx_blocks.proofs.DryLaws.{dry-hand}
 use Rattle.fx_past.proofs.EchosBlocks.{IsEchos-block, frame-passed}
 use Rattle.fx_past.proofs.EchosLaws.{kept-lines, length-row, lines-sound, places-late, row_after}
 use Rattle.fx_past.proofs.echos.EchosFeeds.pass_samples.Goals as goal

@@ -3,7 +3,7 @@ use Rattle.std.specs.Prelude.{None}
 use Rattle.std.proofs.Math.Nat.{mul-le-mul}
 use Rattle.fx_frame.proofs.Pieces.{length-pieces}
 use Rattle.fx_sums.proofs.Counts.{none-of}
-use Rattle.fx_past.proofs.TapBlocks.{IsTapState-block, block-fed}
+use Rattle.fx_blocks.proofs.TapBlocks.{IsTapState-block, block-fed}
 use Rattle.fx_sums.proofs.WholeFrames.{both-have, no-more}
 use Rattle.fx_past.proofs.tapped.TappedFeeds.feed.Goals as goal
 

@@ -1,0 +1,4 @@
+pub mod FirLaws
+pub mod FirBlocks
+pub mod SplitLaws
+pub mod WindowSums

@@ -1,0 +1,183 @@
+use Rattle.std.proofs.Common.{rules, ◌≡◌, ◌+◌, ◌-◌, ◌*◌, ◌≤◌, ◌^◌, ◌++◌, ◌∙◌, ap, ℕ, ℤ, List, false, length, length-append, min, refl, reverse, sym, arith}
+use Rattle.std.specs.Prelude.{None}
+use Rattle.std.specs.Int.{w32}
+use Rattle.std.proofs.lemmas.List.{length-reverse}
+use Rattle.fx_frame.specs.Frame.{Samples}
+use Rattle.fx_frame.specs.Line.{Frames, IsLine}
+use Rattle.fx_frame.specs.Ring.{pieces}
+use Rattle.fx_frame.proofs.Pieces.{length-pieces}
+use Rattle.fx_fir.specs.Fir.{centre}
+use Rattle.fx_fir.specs.FirState.{FirState, IsFir}
+use Rattle.fx_blocks.specs.Tapped.{last_of}
+use Rattle.fx_sums.proofs.Counts.{none-of}
+use Rattle.fx_fir.proofs.FirBlocks.{block-fed}
+use Rattle.fx_blocks.proofs.TapBlocks.{length-last}
+use Rattle.fx_sums.proofs.WholeFrames.{both-have, no-more}
+use Rattle.fx_fir.proofs.fir.FirFeeds.feed.Goals as goal
+
+-- the state after a block of frames went by
+IsFir-block : (s : FirState) (line : Frames ℤ) (n clips : ℕ) (xs : List Samples) → IsFir s → s.hand ≡ None → s.ended ≡ false → length s.line.items ≡ s.line.capacity → s.taken + n ≤ 2 ^ 56 → length xs ≡ n
+    → IsLine w32 line → line.items ≡ last_of s.line.capacity (s.line.items ++ xs) → line.capacity ≡ s.line.capacity → line.channels ≡ s.line.channels → clips ≤ 16 * n
+    → IsFir (record s { line = line; taken = s.taken + n; given = s.given + n; clips = s.clips + clips })
+IsFir-block s line n clips xs is none running full few many lined items capacity channels little =
+    let quiet : s.tail ≡ 0 = is.not_ended running in
+    let counted : s.given + 0 + s.tail ≡ s.taken - centre (length s.backwards) = rw (none, running) at is.counted in
+    let room = is.capacity in
+    let before = is.held in
+    let after : length line.items ≡ min (length (s.line.items ++ xs)) s.line.capacity = ap length items ∙ length-last s.line.capacity (s.line.items ++ xs) in
+    let all : length (s.line.items ++ xs) ≡ length s.line.items + length xs = length-append s.line.items xs in
+    record {
+      line = lined;
+      channels = channels ∙ is.channels;
+      capacity = rw capacity is.capacity;
+      count = is.count;
+      small = is.small;
+      held = omega (arith, before, after, all, capacity, full);
+      counted = rw (none, running) (omega (arith, counted, before, full, room));
+      tail_held = omega (arith, quiet);
+      tail_few = is.tail_few;
+      not_ended = is.not_ended;
+      few = few;
+      few_clips = omega (arith, is.few_clips, little);
+      hand_few = is.hand_few;
+      idle = is.idle;
+      over = is.over;
+      fits = is.fits;
+    }
+
+pub feed_by_frames-requires-clause-channels : goal.feed_by_frames-requires-clause-channels
+feed_by_frames-requires-clause-channels c = c.requires.channels
+
+pub feed_by_frames-requires-clause-below_limit : goal.feed_by_frames-requires-clause-below_limit
+feed_by_frames-requires-clause-below_limit c = c.requires.below_limit
+
+pub returns-then-is_some-clause-fed : goal.returns-then-is_some-clause-fed
+returns-then-is_some-clause-fed c = c.feed_by_frames.ensures.fed
+
+pub returns-then-is_some-clause-read : goal.returns-then-is_some-clause-read
+returns-then-is_some-clause-read c = c.feed_by_frames.ensures.read
+
+pub returns-then-is_some-clause-written : goal.returns-then-is_some-clause-written
+returns-then-is_some-clause-written c = c.feed_by_frames.ensures.written
+
+pub returns-then-is_some-clause-behind : goal.returns-then-is_some-clause-behind
+returns-then-is_some-clause-behind c = c.feed_by_frames.ensures.behind
+
+pub returns-then-is_some-clause-dry : goal.returns-then-is_some-clause-dry
+returns-then-is_some-clause-dry c = c.feed_by_frames.ensures.dry
+
+pub returns-then-is_some-clause-used : goal.returns-then-is_some-clause-used
+returns-then-is_some-clause-used c = c.feed_by_frames.ensures.used
+
+pub nonzero_div-input : goal.nonzero_div-input
+nonzero_div-input c =
+    let some = rw (← c.self-2.view_is) at c.requires.channels in
+    omega (arith, some.0)
+
+pub nonzero_div-output : goal.nonzero_div-output
+nonzero_div-output c =
+    let some = rw (← c.self-2.view_is) at c.requires.channels in
+    omega (arith, some.0)
+
+pub filter_frames-requires-clause-channels : goal.filter_frames-requires-clause-channels
+filter_frames-requires-clause-channels c = sym c.self-2.invariant.channels
+
+pub filter_frames-requires-clause-capacity : goal.filter_frames-requires-clause-capacity
+filter_frames-requires-clause-capacity c = c.self-2.invariant.capacity
+
+pub filter_frames-requires-clause-taps : goal.filter_frames-requires-clause-taps
+filter_frames-requires-clause-taps c = c.self-2.invariant.count
+
+pub filter_frames-requires-clause-few : goal.filter_frames-requires-clause-few
+filter_frames-requires-clause-few c =
+    let both = both-have (length c.args.input.now) (length c.args.output.now) c.self-2.inside.channels c.self-2.inside.channels c.min-count.result c.min-count.ensures in
+    let limit = (rw (← c.self-2.view_is) at c.requires.below_limit) c.min-count.result both.0 in
+    omega (arith, limit)
+
+pub filter_frames-requires-clause-input : goal.filter_frames-requires-clause-input
+filter_frames-requires-clause-input c = (both-have (length c.args.input.now) (length c.args.output.now) c.self-2.inside.channels c.self-2.inside.channels c.min-count.result c.min-count.ensures).0
+
+pub filter_frames-requires-clause-output : goal.filter_frames-requires-clause-output
+filter_frames-requires-clause-output c = (both-have (length c.args.input.now) (length c.args.output.now) c.self-2.inside.channels c.self-2.inside.channels c.min-count.result c.min-count.ensures).1
+
+pub overflow_add-self : goal.overflow_add-self
+overflow_add-self c =
+    let s = c.self-2.inside in
+    let over : s.ended ≡ false = search rules in
+    let counted = rw over at c.self-2.invariant.counted in
+    let both = both-have (length c.args.input.now) (length c.args.output.now) s.channels s.channels c.min-count.result c.min-count.ensures in
+    let limit = (rw (← c.self-2.view_is) at c.requires.below_limit) c.min-count.result both.0 in
+    omega (arith, counted, limit, c.self-2.invariant.few_clips, c.filter_frames.ensures.few)
+
+pub overflow_add-self-2 : goal.overflow_add-self-2
+overflow_add-self-2 c =
+    let both = both-have (length c.args.input.now) (length c.args.output.now) c.self-2.inside.channels c.self-2.inside.channels c.min-count.result c.min-count.ensures in
+    let limit = (rw (← c.self-2.view_is) at c.requires.below_limit) c.min-count.result both.0 in
+    omega (arith, limit)
+
+pub overflow_add-self-3 : goal.overflow_add-self-3
+overflow_add-self-3 c =
+    let s = c.self-2.inside in
+    let over : s.ended ≡ false = search rules in
+    let counted = rw over at c.self-2.invariant.counted in
+    let both = both-have (length c.args.input.now) (length c.args.output.now) s.channels s.channels c.min-count.result c.min-count.ensures in
+    let limit = (rw (← c.self-2.view_is) at c.requires.below_limit) c.min-count.result both.0 in
+    omega (arith, counted, limit)
+
+pub invariant_of-self : goal.invariant_of-self
+invariant_of-self c =
+    let s = c.self-2.inside in
+    let none : s.hand ≡ None = none-of s.hand (search rules) in
+    let over : s.ended ≡ false = search rules in
+    let full : length s.line.items ≡ s.line.capacity = search rules in
+    let both = both-have (length c.args.input.now) (length c.args.output.now) s.channels s.channels c.min-count.result c.min-count.ensures in
+    let limit = (rw (← c.self-2.view_is) at c.requires.below_limit) c.min-count.result both.0 in
+    let ensured = c.filter_frames.ensures in
+    IsFir-block (record { channels = s.channels; backwards = s.kernel; line = s.line; hand = s.hand; hand_clips = s.hand_clips; tail = s.tail; taken = s.taken; given = s.given; clips = s.clips; ended = s.ended }) c.filter_frames.new.line c.min-count.result c.filter_frames.result
+    (pieces s.channels c.min-count.result c.args.input.now) c.self-2.invariant none over full limit (length-pieces s.channels c.min-count.result c.args.input.now) c.len-held.ensures.line ensured.line ensured.line_capacity ensured.line_channels ensured.few
+
+pub returns-clause-fed : goal.returns-clause-fed
+returns-clause-fed c =
+    let s = c.self-2.inside in
+    let is = c.self-2.invariant in
+    let none : s.hand ≡ None = none-of s.hand (search rules) in
+    let over : s.ended ≡ false = search rules in
+    let zero : s.hand_clips ≡ 0 = is.idle (rw none refl) in
+    let quiet : s.tail ≡ 0 = is.not_ended over in
+    let counted = rw (none, over) at is.counted in
+    let same = length-reverse s.kernel in
+    let full : length s.line.items ≡ s.line.capacity = search rules in
+    let held = is.held in
+    let room = is.capacity in
+    let due : centre (length (reverse s.kernel)) ≤ length s.line.items = rw same (omega (arith, full, room)) in
+    let even : s.given + centre (length (reverse s.kernel)) ≡ s.taken = rw same (omega (arith, counted, quiet, held, full, room)) in
+    let places : s.line.capacity + 1 ≡ length (reverse s.kernel) = rw same room in
+    let ensured = c.filter_frames.ensures in
+    rw (← c.self-2.view_is)
+    (block-fed (record { channels = s.channels; backwards = s.kernel; line = s.line; hand = s.hand; hand_clips = s.hand_clips; tail = s.tail; taken = s.taken; given = s.given; clips = s.clips; ended = s.ended }) c.filter_frames.new.line c.min-count.result c.filter_frames.result c.args.input.now c.filter_frames.new.output
+    none zero quiet over even places is.line.within due ensured.frames ensured.clips ensured.line ensured.line_capacity ensured.line_channels)
+
+pub returns-clause-read : goal.returns-clause-read
+returns-clause-read c = rw (← c.self-2.view_is) (both-have (length c.args.input.now) (length c.args.output.now) c.self-2.inside.channels c.self-2.inside.channels c.min-count.result c.min-count.ensures).0
+
+pub returns-clause-written : goal.returns-clause-written
+returns-clause-written c =
+    let both = both-have (length c.args.input.now) (length c.args.output.now) c.self-2.inside.channels c.self-2.inside.channels c.min-count.result c.min-count.ensures in
+    rw (← c.self-2.view_is) (omega (arith, both.1, c.filter_frames.auto.output))
+
+pub returns-clause-behind : goal.returns-clause-behind
+returns-clause-behind c = rw (← c.self-2.view_is) c.filter_frames.ensures.behind
+
+pub returns-clause-dry : goal.returns-clause-dry
+returns-clause-dry c =
+    let s = c.self-2.inside in
+    let over : s.ended ≡ false = search rules in
+    let none : s.hand ≡ None = none-of s.hand (search rules) in
+    let quiet : s.tail ≡ 0 = c.self-2.invariant.not_ended over in
+    λ room. rw (none, quiet) refl
+
+pub returns-clause-used : goal.returns-clause-used
+returns-clause-used c =
+    let some = rw (← c.self-2.view_is) at c.requires.channels in
+    rw (← c.self-2.view_is)
+    (λ room over spent. no-more (length c.args.input.now) (length c.args.output.now) c.self-2.inside.channels c.self-2.inside.channels c.min-count.result (omega (arith, some.0)) (omega (arith, some.0)) c.min-count.ensures (omega (arith, room, c.filter_frames.auto.output)))

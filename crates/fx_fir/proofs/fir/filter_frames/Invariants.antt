@@ -1,0 +1,25 @@
+use Rattle.std.proofs.Common.{◌≡◌, ◌≤◌, ◌-◌, ◌*◌, ◌++◌, drop, length, reverse}
+use Rattle.fx_frame.specs.Ring.{pieces}
+use Rattle.fx_fir.specs.Fir.{FirArguments}
+use Rattle.fx_fir.specs.FirState.{fir_taps}
+use Rattle.fx_blocks.specs.Tapped.{clips_behind, frames_behind, last_of}
+use Rattle.fx_fir.proofs.fir.filter_frames.Given as goal
+
+-- the pieces so far
+abbrev pub invariant-pieces : goal.invariant-pieces
+invariant-pieces l =
+    let r : FirArguments = record { channels = l.channels; coefficients = reverse l.kernel } in
+    record {
+      place : l.done ≤ l.count;
+      frames : pieces l.channels l.done l.output ≡ frames_behind fir_taps r l.fn.line.items (pieces l.channels l.done l.input);
+      behind : drop (l.done * l.channels) l.output ≡ drop (l.done * l.channels) l.fn.output;
+      counted : l.clips ≡ clips_behind fir_taps r l.fn.line.items (pieces l.channels l.done l.input);
+      few : l.clips ≤ 16 * l.done;
+      line : l.line.items ≡ last_of l.fn.line.capacity (l.fn.line.items ++ pieces l.channels l.done l.input);
+      full : length l.line.items ≡ l.fn.line.capacity;
+      line_capacity : l.line.capacity ≡ l.fn.line.capacity;
+      line_channels : l.line.channels ≡ l.fn.line.channels;
+    }
+
+abbrev pub decreases-pieces : goal.decreases-pieces
+decreases-pieces l = l.count - l.done

@@ -1,0 +1,30 @@
+use Rattle.std.proofs.Common.{rules, ◌≡◌, ◌+◌, ◌-◌, ◌∙◌, ap, List, ℤ, ℕ, length, drop, arith, to_z, of_z}
+use Rattle.std.specs.Int.{w128}
+use Rattle.fx_fixed.specs.Rounding.{rounding}
+use Rattle.fx_fixed.specs.declared.gains.TheConstants.{UNIT}
+use Rattle.fx_sums.specs.SmallWeights.{SumsAs}
+use Rattle.fx_transform.specs.Products.{sum_of_products}
+use Rattle.fx_sums.proofs.KernelLaws.{sum_of_products-take}
+use Rattle.fx_fir.proofs.kernel.Kernel.weigh_from.Goals as goal
+
+pub weigh-requires : goal.weigh-requires
+weigh-requires c =
+    let told : SumsAs c.self.inside.backwards.items UNIT c.in-Some.reduced = rw c.in-Some.is at c.self.invariant.2 in
+    let fits = rw (← c.self.view_is) at c.requires in
+    omega (arith, told.count, fits)
+
+pub returns-in-Some : goal.returns-in-Some
+returns-in-Some c =
+    let told : SumsAs c.self.inside.backwards.items UNIT c.in-Some.reduced = rw c.in-Some.is at c.self.invariant.2 in
+    rw (← c.self.view_is) (c.weigh.ensures ∙ told.rounds c.args.samples.now c.args.from)
+
+pub returns : goal.returns
+returns c =
+    let b : List ℤ = c.self.inside.backwards.items in
+    let xs : List ℤ = c.args.samples.now in
+    let n : ℕ = c.args.from + length xs - c.args.from in
+    let same : length xs ≡ n = omega arith in
+    let back : to_z w128 (of_z w128 c.dot.result) ≡ c.dot.result = search rules in
+    let sum : c.dot.result ≡ sum_of_products xs (drop c.args.from b) = c.dot.ensures.sum ∙ rw c.deref.ensures.value (sum_of_products-take xs (drop c.args.from b) n same) in
+    let made : c.rounded.result ≡ rounding c.dot.result UNIT = rw back at c.rounded.ensures in
+    rw (← c.self.view_is) (made ∙ ap (λ z. rounding z UNIT) sum)

@@ -1,0 +1,4 @@
+pub mod Fir
+pub mod FirState
+pub mod FirWords
+pub mod Split

@@ -1,0 +1,9 @@
+//! The effect `fir`: sums of samples times coefficients, each one exact fraction, rounded once.
+#![tactic(auto)]
+
+mod channels;
+pub mod fir;
+mod kernel;
+mod split;
+
+pub use fir::Fir;
