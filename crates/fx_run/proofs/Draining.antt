@@ -13,10 +13,10 @@ use Rattle.fx_flow.proofs.Laws.{most_of-le}
 use Rattle.fx_flow.specs.declared.flow.Step.{Step}
 use Rattle.fx_flow.specs.declared.flow.Step.TheVariants.{Given, Idle, Moved}
 use Rattle.fx_flow.specs.Steps.{MovedOn, Steps, given_out, rest_of}
-use Rattle.fx_sound.specs.Output.{Pending, SendsMore, SendsOn}
+use Rattle.fx_sound.specs.Output.{Pending, SendsMore, SendsPart}
 use Rattle.fx_run.specs.Outlet.{coded}
 use Rattle.fx_run.specs.Through.{CutOff, Drained, Gives, stepped}
-use Rattle.fx_run.proofs.Sending.{WroteFront-sent, coded-more, coded_clips-append}
+use Rattle.fx_run.proofs.Sending.{WroteFront-part, coded-more, coded_clips-append}
 
 -- a step that let no frame out
 pub no_frame : (s : Step) → ((frame : Samples) → s ≡ Given frame → ⊥) → given_out s ≡ []
@@ -84,14 +84,14 @@ module _ {S R : Type 0} (acts : Acts S R) where
   -- a step that gave a frame, at which the writer failed
   pub CutOff-more : (old at new : Parts S) (step : Step) (frame : Samples) (coding : Coding) (clips at_clips new_clips : ℕ) (now at_now new_now : Option (List ℕ)) (out at_out new_out : Pending)
       → Drained acts old at coding clips at_clips now at_now out at_out → Steps acts at step new → MovedOn acts at step new → given_out step ≡ frame ∷ []
-      → new_clips ≡ at_clips + clips_of coding frame → SendsOn at_now new_now at_out new_out
+      → new_clips ≡ at_clips + clips_of coding frame → SendsPart at_now new_now at_out new_out (bytes_of coding frame)
       → CutOff acts old new coding clips new_clips now new_now out new_out
   CutOff-more old at new step frame coding clips at_clips new_clips now at_now new_now out at_out new_out p s on gave c m = record {
     given = p.given ++ frame ∷ [];
     gives = rw gave at (Gives-step old at new step p.given p.gives s on);
     clipped = let e = coded_clips-append coding p.given (frame ∷ []) in omega (arith, e, c, p.clipped);
     front = λ first all t. rw (← coded-more coding all p.given frame)
-        (WroteFront-sent first new_now new_out (all ++ coded coding p.given) (bytes_of coding frame) (m first (all ++ coded coding p.given) (p.sends first all t)));
+        (WroteFront-part first new_now new_out (all ++ coded coding p.given) (bytes_of coding frame) m.count (m.sends first (all ++ coded coding p.given) (p.sends first all t)));
   }
 
   -- the frames that a flow gave are at most those of its plan

@@ -1,6 +1,6 @@
 -- What stays true while frames are sent.
-use Rattle.std.proofs.Common.{◌≡◌, ℕ, ◌+◌, ◌-◌, ◌≤◌, List, [], ◌∷◌, ◌++◌, length, refl, sym, ap, ◌∙◌, arith, mul-le-mul}
-use Rattle.std.proofs.lemmas.List.{append_assoc, length-append, length-drop, take_all, take-append-le, flat_map_more}
+use Rattle.std.proofs.Common.{◌≡◌, ℕ, ◌+◌, ◌-◌, ◌≤◌, List, [], ◌∷◌, ◌++◌, length, take, drop, refl, sym, ap, ◌∙◌, arith, mul-le-mul}
+use Rattle.std.proofs.lemmas.List.{append_assoc, length-append, length-drop, take_all, take-append-drop, take-append-le, flat_map_more}
 use Rattle.std.proofs.lemmas.List.Sums.{count_by-le-length, sum_by-append}
 use Rattle.std.proofs.KnownBytes.{Appends-nil}
 use Rattle.std.specs.Prelude.{Option}
@@ -26,6 +26,12 @@ WroteFront-sent first now out all more s = record {
   part = omega (arith, s.within, length-append all more);
   took = rw (take-append-le out.written all more s.within) s.taken;
 }
+
+-- the same where some first bytes of those that come next were to be sent too
+pub WroteFront-part : (first now : Option (List ℕ)) (out : Pending) (all bytes : List ℕ) (n : ℕ) → Sent first now out (all ++ take n bytes) → WroteFront first now out.written (all ++ bytes)
+WroteFront-part first now out all bytes n s =
+    let joined : (all ++ take n bytes) ++ drop n bytes ≡ all ++ bytes = append_assoc all (take n bytes) (drop n bytes) ∙ ap (λ l. all ++ l) (take-append-drop n bytes) in
+    rw joined at (WroteFront-sent first now out (all ++ take n bytes) (drop n bytes) s)
 
 -- what was sent is a front of itself
 pub WroteFront-whole : (first now : Option (List ℕ)) (out : Pending) (all : List ℕ) → Sent first now out all → WroteFront first now out.written all

@@ -3,7 +3,7 @@ ghost use Rattle.std.specs.Prelude.{◌≡◌, ◌+◌, ◌*◌, ◌<◌, ◌≤
 ghost use Rattle.fx_frame.specs.Coding.{width_of};
 ghost use Rattle.fx_frame.specs.FrameCoding.{bytes_of, clips_of, frame_size};
 ghost use Rattle.fx_frame.specs.Io.{CountsFailure};
-ghost use Rattle.fx_sound.specs.Output.{SendsMore, SendsOn, bytes_put};
+ghost use Rattle.fx_sound.specs.Output.{SendsMore, SendsPart, bytes_put};
 
 use fx_frame::inner::encode;
 use fx_frame::{ByteOut, Coding, Failed, Frame};
@@ -25,7 +25,7 @@ impl Outlet {
         requires room { bytes_put self.old.output + 64 < 2 ^ 64 }
         requires few { self.old.clips < 2 ^ 62 }
         ensures sent { OnOk result (SendsMore (W.writes.taken writer.old) (W.writes.taken writer.new) self.old.output self.new.output (bytes_of self.old.coding frame.now)) }
-        ensures sent_err { OnErr result (SendsOn (W.writes.taken writer.old) (W.writes.taken writer.new) self.old.output self.new.output) }
+        ensures sent_err { OnErr result (SendsPart (W.writes.taken writer.old) (W.writes.taken writer.new) self.old.output self.new.output (bytes_of self.old.coding frame.now)) }
         ensures small { OnOk result (bytes_put self.new.output ≤ bytes_put self.old.output + 64) }
         ensures clips { self.new.clips ≡ self.old.clips + clips_of self.old.coding frame.now }
         ensures few { self.new.clips ≤ self.old.clips + 16 }

@@ -22,6 +22,12 @@ SendsOn now new_now out new_out = (first : Option (List ℕ)) (all : List ℕ) �
 abbrev pub SendsMore : Option (List ℕ) → Option (List ℕ) → Pending → Pending → List ℕ → Type 0
 SendsMore now new_now out new_out bytes = (first : Option (List ℕ)) (all : List ℕ) → Sent first now out all → Sent first new_now new_out (all ++ bytes)
 
+-- the first so many of these bytes, and none of the others, come behind all that was to be sent
+pub record SendsPart (now new_now : Option (List ℕ)) (out new_out : Pending) (bytes : List ℕ) : Type 0 where
+  pub count : ℕ
+  pub within : count ≤ length bytes
+  pub sends : SendsMore now new_now out new_out (take count bytes)
+
 -- how many bytes were ever to be sent
 abbrev pub bytes_put : Pending → ℕ
 bytes_put out = out.written + length out.bytes

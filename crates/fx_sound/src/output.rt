@@ -3,13 +3,16 @@
 ghost use Rattle.std.specs.Prelude.{◌≡◌, ◌+◌, ◌-◌, ◌<◌, ◌≤◌, ◌^◌, ◌++◌, true, [], IsOk, OnOk, OnErr, IfOk, length};
 ghost use Rattle.fx_frame.specs.Io.{CountsFailure};
 ghost use Rattle.fx_frame.specs.FrameCoding.{frame_size, bytes_of, clips_of};
-ghost use Rattle.fx_sound.specs.Output.{SendsOn, SendsMore, bytes_put};
+ghost use Rattle.fx_sound.specs.Output.{SendsOn, SendsMore, SendsPart, bytes_put};
 
 use super::buffer::BUFFER_SIZE;
 use fx_frame::bulk::encode_into;
 use fx_frame::inner::encode;
 use fx_frame::{ByteOut, Coding, Failed, Frame};
 use std::marker::Model;
+
+/// The most bytes of a frame: 16 channels of 32 bits.
+const MOST_FRAME_BYTES: usize = 64;
 
 /// An output buffer of 4,096 bytes. The writer comes with each call.
 ///
@@ -119,13 +122,14 @@ impl Output {
     }
 
     /// Hands the writer all that waits where less than half of the buffer is free and bytes have gone to it before, so that
-    /// a whole buffer of frames finds room at once.
+    /// a whole buffer of frames finds room at once. Where the next frame may fill the buffer it is left to that.
     pub fn make_way<W: ByteOut>(&mut self, writer: &mut W) -> Result<(), Failed>
         ensures sent { SendsOn (W.writes.taken writer.old) (W.writes.taken writer.new) self.old self.new }
         ensures count { bytes_put self.new ≡ bytes_put self.old }
         ensures failures { CountsFailure (W.writes.failures writer.old) (W.writes.failures writer.new) result }
     {
-        if self.written == 0 || self.end <= BUFFER_SIZE / 2 {
+        let is_nearly_full = BUFFER_SIZE - self.end < MOST_FRAME_BYTES;
+        if self.written == 0 || self.end <= BUFFER_SIZE / 2 || is_nearly_full {
             return Ok(());
         }
         self.drain(writer)
@@ -180,8 +184,9 @@ impl Output {
         Ok(())
     }
 
-    /// Puts the bytes of a frame behind those that wait, which go to the writer first where they
-    /// leave no room, and tells how many of its samples were clipped.
+    /// Puts the bytes of a frame behind those that wait, and tells how many of its samples were clipped. Where they leave no room,
+    /// its first bytes fill the buffer, all of which goes to the writer before the others: pieces of 4,096 bytes that begin at a
+    /// whole page of a file cost the system least. After a fault the writer may have some of them.
     #[inline]
     pub fn push_frame<W: ByteOut>(
         &mut self,
@@ -193,14 +198,43 @@ impl Output {
         ensures sent { OnOk result (SendsMore (W.writes.taken writer.old) (W.writes.taken writer.new) self.old self.new (bytes_of coding frame.now)) }
         ensures most { frame_size coding (length frame.now) ≤ 64 }
         ensures clips { IfOk result (λ n. n ≡ clips_of coding frame.now) }
-        ensures sent_err { OnErr result (SendsOn (W.writes.taken writer.old) (W.writes.taken writer.new) self.old self.new) }
+        ensures sent_err { OnErr result (SendsPart (W.writes.taken writer.old) (W.writes.taken writer.new) self.old self.new (bytes_of coding frame.now)) }
         ensures count { OnOk result (bytes_put self.new ≡ bytes_put self.old + frame_size coding (length frame.now)) }
         ensures failures { CountsFailure (W.writes.failures writer.old) (W.writes.failures writer.new) result }
         ensures waits { frame_size coding (length frame.now) ≤ self.old.room
             → IsOk result × (writer.new ≡ writer.old) × (self.new.room ≡ self.old.room - frame_size coding (length frame.now)) }
     {
-        self.make_room(writer, frame.channels() * coding.width())?;
+        if frame.channels() * coding.width() > BUFFER_SIZE - self.end {
+            return self.push_over_edge(writer, frame, coding);
+        }
         Ok(self.put_coded(frame, coding))
+    }
+
+    // The same where the frame does not fit: its first bytes fill the buffer, which goes to the writer whole.
+    #[inline(never)]
+    fn push_over_edge<W: ByteOut>(
+        &mut self,
+        writer: &mut W,
+        frame: &Frame,
+        coding: Coding,
+    ) -> Result<u64, Failed>
+        requires count { bytes_put self.old + 64 < 2 ^ 64 }
+        requires room { self.old.room < frame_size coding (length frame.now) }
+        requires most { frame_size coding (length frame.now) ≤ 64 }
+        ensures sent { OnOk result (SendsMore (W.writes.taken writer.old) (W.writes.taken writer.new) self.old self.new (bytes_of coding frame.now)) }
+        ensures clips { IfOk result (λ n. n ≡ clips_of coding frame.now) }
+        ensures sent_err { OnErr result (SendsPart (W.writes.taken writer.old) (W.writes.taken writer.new) self.old self.new (bytes_of coding frame.now)) }
+        ensures count { OnOk result (bytes_put self.new ≡ bytes_put self.old + frame_size coding (length frame.now)) }
+        ensures failures { CountsFailure (W.writes.failures writer.old) (W.writes.failures writer.new) result }
+    {
+        let mut bytes = [0; MOST_FRAME_BYTES];
+        let coded = &mut bytes[..frame.channels() * coding.width()];
+        let clips = encode(frame, coding, coded);
+        let (first, others) = coded.split_at(BUFFER_SIZE - self.end);
+        self.put(first);
+        self.drain(writer)?;
+        self.put(others);
+        Ok(clips)
     }
 
     /// How many more bytes it takes before some have to go to the writer.

@@ -58,4 +58,4 @@ pub returns-in_err-send-clause-cut_off : goal.returns-in_err-send-clause-cut_off
 returns-in_err-send-clause-cut_off g c =
     let old = c.loop-flow.invariant in
     let sent = c.in_err-send.ensures in
-    MatchResult-from_err _ _ _ c.from_residual.ensures.0 (λ _. CutOff-more g.S.Stage.acts c.args.flow.now c.loop-flow.flow c.step.new.self _ c.in-Given.frame c.args.outlet.now.coding _ _ _ _ _ _ _ _ _ old.drained c.in-Given.ensures.steps c.in-Given.ensures.moved refl (rw old.coding at sent.clips) sent.sent_err)
+    MatchResult-from_err _ _ _ c.from_residual.ensures.0 (λ _. CutOff-more g.S.Stage.acts c.args.flow.now c.loop-flow.flow c.step.new.self _ c.in-Given.frame c.args.outlet.now.coding _ _ _ _ _ _ _ _ _ old.drained c.in-Given.ensures.steps c.in-Given.ensures.moved refl (rw old.coding at sent.clips) (rw old.coding at sent.sent_err))
