@@ -51,14 +51,14 @@ fn is_ahead(stop: Option<u64>, place: u64) -> bool
 
 /// What a fade does to a sound, with its rise and its fall prepared.
 #[derive(Drop)]
-struct Fading {
+struct PreparedFade {
     shape: Shape,
     rise: Slope,
     fall: Slope,
 }
 
 // It is that shape.
-impl Model for Fading {
+impl Model for PreparedFade {
     ghost use Rattle.std.specs.Prelude.{◌≡◌};
     ghost use Rattle.fx_cut.specs.Fade.{IsShape};
     ghost use Rattle.fx_cut.specs.declared.fade.Shape.{Shape};
@@ -70,15 +70,15 @@ impl Model for Fading {
     ghost invariant = { λ s. IsShape s.shape × ((s.rise ≡ s.shape.fade_in) × (s.fall ≡ s.shape.fade_out)) };
 }
 
-impl Fading {
+impl PreparedFade {
     /// Prepares the rise and the fall of a shape.
-    fn of(shape: Shape) -> Fading
+    fn of(shape: Shape) -> PreparedFade
         requires { IsShape shape }
         ensures { result ≡ shape }
     {
         let rise = Slope::new(shape.fade_in);
         let fall = Slope::new(shape.fade_out);
-        Fading { shape, rise, fall }
+        PreparedFade { shape, rise, fall }
     }
 
     /// Where the stop lies in a sound of so many frames.
@@ -297,7 +297,14 @@ fn frames_until(stop: Option<u64>, frames: u64) -> u64
 
 /// Does a stage of this shape, with so many frames in its line and in hand, count so? Before the end it has given what is due,
 /// after the end those before its line and the stop, and it has a frame in hand unless its line is empty or lies behind the stop.
-fn is_count(fading: &Fading, taken: u64, given: u64, lined: u64, hands: u64, is_ended: bool) -> bool
+fn is_count(
+    fading: &PreparedFade,
+    taken: u64,
+    given: u64,
+    lined: u64,
+    hands: u64,
+    is_ended: bool,
+) -> bool
     requires line { fade_line fading.now ≤ 2 ^ 28 }
     requires lined { lined ≤ taken }
     requires given { given + hands ≤ taken }
@@ -318,7 +325,7 @@ fn is_count(fading: &Fading, taken: u64, given: u64, lined: u64, hands: u64, is_
 /// Takes the oldest frame out of the line, and tells what is given of it in a sound of so many frames that ends with those of
 /// the line; None where nothing more is given.
 #[inline(never)]
-fn next_faded(line: &mut Line, fading: &Fading, frames: u64) -> Option<Frame>
+fn next_faded(line: &mut Line, fading: &PreparedFade, frames: u64) -> Option<Frame>
     requires frames { length line.old.items ≤ frames }
     ensures rest { fade_after fading.now frames line.old.items [] ≡ map plain (option_to_list result) ++ fade_after fading.now frames line.new.items [] }
     ensures gone { until (stop_in frames fading.now.stop) (frames - length line.old.items) + length (option_to_list result) ≡ until (stop_in frames fading.now.stop) (frames - length line.new.items) }
@@ -345,7 +352,7 @@ fn next_faded(line: &mut Line, fading: &Fading, frames: u64) -> Option<Frame>
 pub struct Fade {
     hand: Option<Frame>,
     channels: usize,
-    fading: Fading,
+    fading: PreparedFade,
     line: Line,
     taken: u64,
     given: u64,
@@ -379,7 +386,7 @@ impl Fade {
         ensures { IfOk result (IsNew fade_acts (record { channels = channels; shape = record { fade_in = fade_in; stop = meant stop; fade_out = fade_out } })) }
     {
         let stop = meant_stop(stop);
-        let fading = Fading::of(Shape {
+        let fading = PreparedFade::of(Shape {
             fade_in,
             stop,
             fade_out,
@@ -424,7 +431,7 @@ impl Fade {
         if taken > MOST_TAKEN || given > taken || held > taken - given || hands > held {
             return Err(ThawFault::BadSnapshot);
         }
-        let fading = Fading::of(Shape {
+        let fading = PreparedFade::of(Shape {
             fade_in,
             stop: meant_stop(stop),
             fade_out,

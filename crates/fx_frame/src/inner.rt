@@ -5,7 +5,6 @@ ghost use Rattle.std.specs.List.{All};
 ghost use Rattle.fx_frame.specs.Frame.{padded, IsFrame, IsWideFrame};
 
 use crate::frame::{Frame, MOST_CHANNELS};
-pub use crate::frame_coding::{decoded, encode};
 use crate::wide::WideFrame;
 
 /// The frame of the first samples, one for each of 1 to 16 channels. What is beyond them does not matter.

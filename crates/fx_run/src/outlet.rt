@@ -5,9 +5,8 @@ ghost use Rattle.fx_frame.specs.FrameCoding.{bytes_of, clips_of, frame_size};
 ghost use Rattle.fx_frame.specs.Io.{CountsFailure};
 ghost use Rattle.fx_sound.specs.Output.{SendsMore, SendsPart, bytes_put};
 
-use fx_frame::inner::encode;
 use fx_frame::{ByteOut, Coding, Failed, Frame};
-use fx_sound::inner::{BUFFER_SIZE, Output};
+use fx_sound::inner::{BUFFER_SIZE, Output, encode};
 
 /// Where frames go: their coding, the buffer before the writer, and how many samples were clipped when they were coded.
 #[derive(Drop)]

@@ -1,3 +1,6 @@
+pub mod FrameBytes
+pub mod Threes
+pub mod ManyBytes
 pub mod Faults
 pub mod Held
 pub mod Sounds

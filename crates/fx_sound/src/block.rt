@@ -7,7 +7,7 @@ ghost use Rattle.fx_sound.specs.Sound.{AreHeld, size_of};
 
 use super::progress::Progress;
 use super::source::Source;
-use fx_frame::bulk::decode_into;
+use crate::bulk::decode_into;
 
 impl<R> Source<R> {
     /// How many whole frames of a sound are held, announced, and few enough to be read: at most `most`. No read is asked for.

@@ -4,7 +4,10 @@
 mod au;
 mod block;
 mod buffer;
+mod bulk;
 mod fields;
+mod fours;
+mod frame_coding;
 pub mod head;
 pub mod inner;
 mod output;

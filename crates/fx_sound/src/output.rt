@@ -6,8 +6,8 @@ ghost use Rattle.fx_frame.specs.FrameCoding.{frame_size, bytes_of, clips_of};
 ghost use Rattle.fx_sound.specs.Output.{SendsOn, SendsMore, SendsPart, bytes_put};
 
 use super::buffer::BUFFER_SIZE;
-use fx_frame::bulk::encode_into;
-use fx_frame::inner::encode;
+use crate::bulk::encode_into;
+use crate::frame_coding::encode;
 use fx_frame::{ByteOut, Coding, Failed, Frame};
 use std::marker::Model;
 

@@ -10,7 +10,7 @@ ghost use Rattle.fx_sound.specs.Fault.{is_read_failed};
 
 use super::head::Head;
 use super::source::Source;
-use fx_frame::inner::decoded;
+use crate::frame_coding::decoded;
 use fx_frame::{ByteIn, Coding, Frame};
 use std::marker::Model;
 use thiserror::Error;

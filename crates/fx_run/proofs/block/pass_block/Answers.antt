@@ -4,7 +4,7 @@ use Rattle.std.proofs.lemmas.Bool.{cases_lt}
 use Rattle.std.proofs.lemmas.List.{length-take-le}
 use Rattle.fx_frame.specs.Frame.{Samples}
 use Rattle.fx_frame.specs.Ring.{pieces}
-use Rattle.fx_frame.proofs.ManyBytes.{encoded-clips, encoded-frames}
+use Rattle.fx_sound.proofs.ManyBytes.{encoded-clips, encoded-frames}
 use Rattle.fx_frame.proofs.Pieces.{length-pieces}
 use Rattle.fx_flow.proofs.Feeding.{FlowFed-wants}
 use Rattle.fx_flow.specs.Feed.{FlowFed, FlowGave}

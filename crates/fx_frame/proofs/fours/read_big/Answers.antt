@@ -1,6 +1,0 @@
-use Rattle.std.proofs.Common.{pos, get_or}
-use Rattle.fx_frame.proofs.Threes.{big-lanes, listed}
-use Rattle.fx_frame.proofs.fours.read_big.Goals as goal
-
-pub returns : goal.returns
-returns c = rw (c.load_twelve.ensures, listed 0 12 c.args.bytes.now c.requires.bytes, listed (pos 0) 4 c.args.samples.now c.requires.samples) (big-lanes (λ i. get_or c.args.bytes.now i 0) (λ i. (c.type_inv.bytes i).fits))
