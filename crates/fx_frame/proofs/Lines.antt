@@ -1,12 +1,11 @@
 -- What holds of the frames of a line, whatever their width.
-use Rattle.std.proofs.Common.{◌≡◌, Bool, ◌<◌, ◌-◌, ℕ, ℤ, List, [], ◌∷◌, ◌++◌, length, slice_get, get_or, Option, Some, None, true, false, cond, nat_lt, inl, inr, refl, sym, ap, ◌∙◌, arith, FitsSigned, MatchOption, IsSomeAnd, ◌≤◌, unwrap_or}
+use Rattle.std.proofs.Common.{◌≡◌, Bool, ◌<◌, ◌-◌, ℕ, List, [], ◌∷◌, ◌++◌, length, slice_get, get_or, Option, Some, None, true, false, cond, nat_lt, inl, inr, refl, sym, ap, ◌∙◌, arith, MatchOption, IsSomeAnd, ◌≤◌, unwrap_or}
 use Rattle.std.specs.Option.{option_map}
 use Rattle.std.specs.List.{All}
-use Rattle.std.specs.Int.{Width}
 use Rattle.std.proofs.lemmas.Bool.{cases_lt}
 use Rattle.std.proofs.lemmas.List.Elements.{All-head, All-push, All-drop}
 use Rattle.std.proofs.lemmas.Option.{same_Some, slice_get-get_or}
-use Rattle.fx_frame.specs.Line.{Frames, pushed, pushed_out, IsLine, from_newest}
+use Rattle.fx_frame.specs.Line.{Frames, pushed, pushed_out, IsLineOf, from_newest}
 use Rattle.std.proofs.lemmas.List.{get_or_past}
 use Rattle.fx_frame.specs.Ring.{IsShaped}
 
@@ -79,7 +78,6 @@ module _ {X : Type 0} where
       first [] f h = absurd (omega arith)
       first (x ∷ xs) f h = refl
 
-module _ (w : Width) where
   -- a line is shaped, and each sample fits
-  pub is-line : (l : Frames ℤ) → IsShaped l → All (All (FitsSigned w)) l.items → IsLine w l
-  is-line l s fits = record { some = s.some; few = s.few; small = s.small; within = s.within; frames = λ k d h. record { count = s.each k d h; fits = fits k d h } }
+  pub is-line : (Fits : X → Type 0) (l : Frames X) → IsShaped l → All (All Fits) l.items → IsLineOf Fits l
+  is-line Fits l s fits = record { some = s.some; few = s.few; small = s.small; within = s.within; frames = λ k d h. record { count = s.each k d h; fits = fits k d h } }

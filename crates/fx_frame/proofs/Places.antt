@@ -1,4 +1,4 @@
--- Sixteen samples read one by one are the samples and then zeros.
+-- Sixteen samples read one by one are the samples and then quiet places.
 use Rattle.std.proofs.Common.{◌≡◌, ◌+◌, ℕ, suc, ℤ, pos, List, [], ◌∷◌, ◌++◌, ◌≤◌, ◌-◌, length, take, drop, replicate, refl, arith, FitsSigned, to_z, of_z, to_z-of_z}
 use Rattle.std.specs.Int.{Width}
 use Rattle.std.specs.List.{All}
@@ -7,56 +7,56 @@ use Rattle.std.proofs.lemmas.List.{drop-replicate, length-replicate, drop_at, le
 use Rattle.std.proofs.lemmas.List.Elements.{All-nil, All-cons, All-append, All-replicate}
 use Rattle.fx_frame.specs.Places.{IsRead, IsPlaces}
 
-module _ (w : Width) where
+module _ {X : Type 0} (Fits : X → Type 0) (quiet : X) where
   -- these were read from xs at i, at i + 1, and so on
-  abbrev pub Reads : List ℤ → ℕ → List ℤ → Type 0
+  abbrev pub Reads : List X → ℕ → List X → Type 0
   Reads xs i [] = Unit {0}
-  Reads xs i (a ∷ as') = IsRead w xs i a × Reads xs (suc i) as'
+  Reads xs i (a ∷ as') = IsRead Fits quiet xs i a × Reads xs (suc i) as'
 
-  all-fit : (xs : List ℤ) (i : ℕ) (read : List ℤ) → Reads xs i read → All (FitsSigned w) read
-  all-fit xs i [] h = All-nil (FitsSigned w)
-  all-fit xs i (a ∷ rest) h = All-cons (FitsSigned w) a rest h.0.fits (all-fit xs (suc i) rest h.1)
+  all-fit : (xs : List X) (i : ℕ) (read : List X) → Reads xs i read → All Fits read
+  all-fit xs i [] h = All-nil Fits
+  all-fit xs i (a ∷ rest) h = All-cons Fits a rest h.0.fits (all-fit xs (suc i) rest h.1)
 
-  shifted : (x : ℤ) (xs : List ℤ) (i : ℕ) (read : List ℤ) → Reads (x ∷ xs) (suc i) read → Reads xs i read
+  shifted : (x : X) (xs : List X) (i : ℕ) (read : List X) → Reads (x ∷ xs) (suc i) read → Reads xs i read
   shifted x xs i [] h = tt
   shifted x xs i (a ∷ rest) h = (record { is = h.0.is; fits = h.0.fits }, shifted x xs (suc i) rest h.1)
 
-  none-read : (i : ℕ) (read : List ℤ) → Reads [] i read → read ≡ replicate (length read) (pos 0)
+  none-read : (i : ℕ) (read : List X) → Reads [] i read → read ≡ replicate (length read) quiet
   none-read i [] h = refl
   none-read i (a ∷ rest) h =
-      let at-zero : a ≡ pos 0 = h.0.is in
-      let then' : rest ≡ replicate (length rest) (pos 0) = none-read (suc i) rest h.1 in
+      let at-end : a ≡ quiet = h.0.is in
+      let then' : rest ≡ replicate (length rest) quiet = none-read (suc i) rest h.1 in
       cc
 
-  all-read : (xs read : List ℤ) (n : ℕ) → length read ≡ length xs + n → Reads xs 0 read → read ≡ xs ++ replicate n (pos 0)
+  all-read : (xs read : List X) (n : ℕ) → length read ≡ length xs + n → Reads xs 0 read → read ≡ xs ++ replicate n quiet
   all-read [] read n e h =
       let k : length read ≡ n = omega arith in
       rw (← k) (none-read 0 read h)
   all-read (x ∷ xs) [] n e h = absurd (omega arith)
   all-read (x ∷ xs) (a ∷ rest) n e h =
       let is : a ≡ x = h.0.is in
-      let then' : rest ≡ xs ++ replicate n (pos 0) = all-read xs rest n (omega arith) (shifted x xs 0 rest h.1) in
+      let then' : rest ≡ xs ++ replicate n quiet = all-read xs rest n (omega arith) (shifted x xs 0 rest h.1) in
       cc
 
-  -- what is stored at that width
-  pub stored : (xs : List ℤ) (i : ℕ) (a : ℤ) → IsRead w xs i a → IsRead w xs i (to_z w (of_z w a))
-  stored xs i a h =
-      let fits : FitsSigned w a = h.fits in
-      rw to_z-of_z h
-
-  pub places-read : (xs read : List ℤ) → 1 ≤ length xs → length xs ≤ 16 → length read ≡ 16 → Reads xs 0 read → IsPlaces w (length xs) read × (take (length xs) read ≡ xs)
+  pub places-read : (xs read : List X) → 1 ≤ length xs → length xs ≤ 16 → length read ≡ 16 → Reads xs 0 read → IsPlaces Fits quiet (length xs) read × (take (length xs) read ≡ xs)
   places-read xs read some few full h =
-      let e : read ≡ xs ++ replicate (16 - length xs) (pos 0) = all-read xs read (16 - length xs) (omega arith) h in
+      let e : read ≡ xs ++ replicate (16 - length xs) quiet = all-read xs read (16 - length xs) (omega arith) h in
       (record { some = some; few = few; count = full; rest = rw e (drop-append_seam xs _); fits = all-fit xs 0 read h }, rw e (take-append_seam xs _))
 
-  -- so many samples in front of places that were all zero
-  pub places-set : FitsSigned w (pos 0) → (xs : List ℤ) (n : ℕ) → length xs ≡ n → 1 ≤ n → n ≤ 16 → All (FitsSigned w) xs → IsPlaces w n (xs ++ drop n (replicate 16 (pos 0)))
-  places-set zero-fits xs n e some few fits =
-      let left : drop n (replicate 16 (pos 0)) ≡ replicate (16 - n) (pos 0) = drop-replicate n 16 (pos 0) in
+  -- so many samples in front of places that were all quiet
+  pub places-set : Fits quiet → (xs : List X) (n : ℕ) → length xs ≡ n → 1 ≤ n → n ≤ 16 → All Fits xs → IsPlaces Fits quiet n (xs ++ drop n (replicate 16 quiet))
+  places-set quiet-fits xs n e some few fits =
+      let left : drop n (replicate 16 quiet) ≡ replicate (16 - n) quiet = drop-replicate n 16 quiet in
       rw left (record {
         some = some;
         few = few;
-        count = omega (arith, length-append xs (replicate (16 - n) (pos 0)), length-replicate (16 - n) (pos 0));
-        rest = drop_at xs (replicate (16 - n) (pos 0)) n e;
-        fits = All-append (FitsSigned w) xs (replicate (16 - n) (pos 0)) fits (All-replicate (FitsSigned w) (16 - n) (pos 0) zero-fits);
+        count = omega (arith, length-append xs (replicate (16 - n) quiet), length-replicate (16 - n) quiet);
+        rest = drop_at xs (replicate (16 - n) quiet) n e;
+        fits = All-append Fits xs (replicate (16 - n) quiet) fits (All-replicate Fits (16 - n) quiet quiet-fits);
       })
+
+-- what is stored at that width
+pub stored : (w : Width) (xs : List ℤ) (i : ℕ) (a : ℤ) → IsRead (FitsSigned w) (pos 0) xs i a → IsRead (FitsSigned w) (pos 0) xs i (to_z w (of_z w a))
+stored w xs i a h =
+    let fits : FitsSigned w a = h.fits in
+    rw to_z-of_z h

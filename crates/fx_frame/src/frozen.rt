@@ -7,10 +7,9 @@ ghost use Rattle.fx_frame.specs.Frozen.{IsHand, IsStored, line_of};
 
 use crate::frame::Frame;
 use crate::inner::narrowed;
-use crate::line::Line;
+use crate::line::{Line, WideLine};
 use crate::stage::ThawFault;
 use crate::wide::WideFrame;
-use crate::wide_line::WideLine;
 use std::alloc::Global;
 
 /// The frame that a stage without a line stores at a place, from 0: the one in hand.

@@ -13,7 +13,7 @@ pub fn frame_of(channels: usize, samples: [i32; 16]) -> Frame
     requires { (1 ≤ channels) × (channels ≤ 16) }
     ensures { result ≡ take channels samples }
 {
-    Frame::filled(&samples[..channels])
+    Frame::of_first(channels, samples)
 }
 
 /// The frame of one channel.
@@ -21,7 +21,7 @@ pub fn frame_of(channels: usize, samples: [i32; 16]) -> Frame
 pub fn one(sample: i32) -> Frame
     ensures { result ≡ sample ∷ [] }
 {
-    Frame::filled(&[sample])
+    Frame::one(sample)
 }
 
 /// The frame of two channels.
@@ -29,7 +29,7 @@ pub fn one(sample: i32) -> Frame
 pub fn two(first: i32, second: i32) -> Frame
     ensures { result ≡ first ∷ second ∷ [] }
 {
-    Frame::filled(&[first, second])
+    Frame::two(first, second)
 }
 
 /// The samples of a frame, one for each channel.
@@ -56,7 +56,7 @@ pub fn wide_of(channels: usize, samples: [i64; 16]) -> WideFrame
     requires { (1 ≤ channels) × (channels ≤ 16) }
     ensures { result ≡ take channels samples }
 {
-    WideFrame::filled(&samples[..channels])
+    WideFrame::of_first(channels, samples)
 }
 
 /// The wide frame of one channel.
@@ -64,7 +64,7 @@ pub fn wide_of(channels: usize, samples: [i64; 16]) -> WideFrame
 pub fn wide_one(sample: i64) -> WideFrame
     ensures { result ≡ sample ∷ [] }
 {
-    WideFrame::filled(&[sample])
+    WideFrame::one(sample)
 }
 
 /// The wide frame of two channels.
@@ -72,7 +72,7 @@ pub fn wide_one(sample: i64) -> WideFrame
 pub fn wide_two(first: i64, second: i64) -> WideFrame
     ensures { result ≡ first ∷ second ∷ [] }
 {
-    WideFrame::filled(&[first, second])
+    WideFrame::two(first, second)
 }
 
 /// The samples of a wide frame, one for each channel.
