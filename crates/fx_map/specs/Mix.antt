@@ -1,10 +1,14 @@
 -- What `remix` keeps of a contribution: its channel, its weight and the same in parts.
-use Rattle.std.specs.Prelude.{ℕ, ℤ, pos, ◌<◌, ◌≡◌, List, [], ◌∷◌, map}
+use Rattle.std.specs.Prelude.{ℕ, ℤ, pos, ◌*◌, ◌<◌, ◌≡◌, List, [], ◌∷◌, length, map}
 use Rattle.fx_map.specs.Remix.{parts_of}
 use Rattle.fx_fixed.specs.declared.gains.TheConstants.{UNIT}
 use Rattle.fx_fixed.specs.declared.weights.Weight.{Weight}
 use Rattle.fx_fixed.specs.declared.weights.Weight.TheVariants.{Given}
 use Rattle.fx_map.specs.declared.remix.Contribution.{Contribution}
+use Rattle.fx_map.specs.declared.remix.Form.{Form}
+use Rattle.fx_map.specs.declared.remix.Form.TheVariants.{Silent, Copied, Mean, Scaled, Small, Wide}
+use Rattle.fx_sums.specs.SmallWeights.{SumsAs}
+use Rattle.fx_sums.specs.Weights.{Weights}
 
 -- its channel and weight
 abbrev pub pair_of : Contribution → ℕ × Weight
@@ -36,3 +40,17 @@ pub record Means (cs : List Contribution) (first second : ℕ) : Type 0 where
   pub both : map pair_of cs ≡ (first, first_weight) ∷ (second, second_weight) ∷ []
   pub first_half : parts_of 2 first_weight ≡ pos UNIT
   pub second_half : parts_of 2 second_weight ≡ pos UNIT
+
+-- something contributes, and its parts in lowest terms are those weights
+pub record Reduces (cs : List Contribution) (weights : Weights) : Type 0 where
+  pub some : 0 < length cs
+  pub sums : SumsAs (all_parts cs) (length cs * UNIT) weights
+
+-- the contributions are as that form says
+abbrev pub Fits : List Contribution → Form → Type 0
+Fits cs Silent = cs ≡ []
+Fits cs (Copied channel) = Copies cs channel
+Fits cs (Mean first second) = Means cs first second
+Fits cs (Scaled channel gain) = Scales cs channel gain
+Fits cs (Small weights) = Reduces cs weights
+Fits cs Wide = 0 < length cs

@@ -7,6 +7,20 @@ ghost use Rattle.fx_frame.specs.Rounded.{clips_of};
 
 use crate::per_sample::Sampling;
 
+/// How many frames are read, and of how many channels each is.
+#[derive(Clone, Copy)]
+pub(crate) struct Shape {
+    pub count: usize,
+    pub channels: usize,
+}
+
+/// The channel that is written, and how many channels each frame has that it is one of.
+#[derive(Clone, Copy)]
+pub(crate) struct Place {
+    pub channel: usize,
+    pub channels: usize,
+}
+
 /// Adds the samples of one channel of as many frames, each times a weight, to the sums.
 #[inline(always)]
 pub(crate) fn add_channel(
@@ -35,29 +49,27 @@ pub(crate) fn add_channel(
 #[inline(always)]
 pub(crate) fn place_channel(
     from: &[i32],
-    inputs: usize,
+    shape: Shape,
     channel: usize,
-    count: usize,
     to: &mut [i32],
-    outputs: usize,
-    place: usize,
+    place: Place,
 )
-    requires channel { channel < inputs }
-    requires inputs { inputs ≤ 16 }
-    requires from { count * inputs ≤ length from.now }
-    requires place { place < outputs }
-    requires outputs { outputs ≤ 16 }
-    requires to { count * outputs ≤ length to.old }
-    ensures put { (i : ℕ) → i < count → slice_index_or to.new (i * outputs + place) (pos 0) ≡ slice_index_or from.now (i * inputs + channel) (pos 0) }
-    ensures others { (i c : ℕ) → c < outputs → (c ≡ place → ⊥) → slice_index_or to.new (i * outputs + c) (pos 0) ≡ slice_index_or to.old (i * outputs + c) (pos 0) }
-    ensures samples { (i : ℕ) → i < count → FitsSigned w32 (slice_index_or from.now (i * inputs + channel) (pos 0)) }
+    requires channel { channel < shape.channels }
+    requires inputs { shape.channels ≤ 16 }
+    requires from { shape.count * shape.channels ≤ length from.now }
+    requires place { place.channel < place.channels }
+    requires outputs { place.channels ≤ 16 }
+    requires to { shape.count * place.channels ≤ length to.old }
+    ensures put { (i : ℕ) → i < shape.count → slice_index_or to.new (i * place.channels + place.channel) (pos 0) ≡ slice_index_or from.now (i * shape.channels + channel) (pos 0) }
+    ensures others { (i c : ℕ) → c < place.channels → (c ≡ place.channel → ⊥) → slice_index_or to.new (i * place.channels + c) (pos 0) ≡ slice_index_or to.old (i * place.channels + c) (pos 0) }
+    ensures samples { (i : ℕ) → i < shape.count → FitsSigned w32 (slice_index_or from.now (i * shape.channels + channel) (pos 0)) }
 {
     let mut read = channel;
-    let mut at = place;
-    'frames: for _turn in 0..count {
+    let mut at = place.channel;
+    'frames: for _turn in 0..shape.count {
         to[at] = from[read];
-        read += inputs;
-        at += outputs;
+        read += shape.channels;
+        at += place.channels;
     }
 }
 
@@ -67,40 +79,38 @@ pub(crate) fn place_channel(
 pub(crate) fn place_rounded<S: Sampling>(
     sampling: &S,
     from: &[i32],
-    inputs: usize,
+    shape: Shape,
     channel: usize,
-    count: usize,
     to: &mut [i32],
-    outputs: usize,
-    place: usize,
+    place: Place,
 ) -> u64
-    requires channel { channel < inputs }
-    requires inputs { inputs ≤ 16 }
-    requires from { count * inputs ≤ length from.now }
-    requires place { place < outputs }
-    requires outputs { outputs ≤ 16 }
-    requires to { count * outputs ≤ length to.old }
-    ensures put { (i : ℕ) → i < count → slice_index_or to.new (i * outputs + place) (pos 0) ≡ (S.rounded sampling.now (slice_index_or from.now (i * inputs + channel) (pos 0))).0 }
-    ensures others { (i c : ℕ) → c < outputs → (c ≡ place → ⊥) → slice_index_or to.new (i * outputs + c) (pos 0) ≡ slice_index_or to.old (i * outputs + c) (pos 0) }
-    ensures clips { result ≡ clips_of (tabulate (λ i. S.rounded sampling.now (slice_index_or from.now (i * inputs + channel) (pos 0))) 0 count) }
-    ensures few { result ≤ count }
+    requires channel { channel < shape.channels }
+    requires inputs { shape.channels ≤ 16 }
+    requires from { shape.count * shape.channels ≤ length from.now }
+    requires place { place.channel < place.channels }
+    requires outputs { place.channels ≤ 16 }
+    requires to { shape.count * place.channels ≤ length to.old }
+    ensures put { (i : ℕ) → i < shape.count → slice_index_or to.new (i * place.channels + place.channel) (pos 0) ≡ (S.rounded sampling.now (slice_index_or from.now (i * shape.channels + channel) (pos 0))).0 }
+    ensures others { (i c : ℕ) → c < place.channels → (c ≡ place.channel → ⊥) → slice_index_or to.new (i * place.channels + c) (pos 0) ≡ slice_index_or to.old (i * place.channels + c) (pos 0) }
+    ensures clips { result ≡ clips_of (tabulate (λ i. S.rounded sampling.now (slice_index_or from.now (i * shape.channels + channel) (pos 0))) 0 shape.count) }
+    ensures few { result ≤ shape.count }
 {
     let mut read = channel;
-    let mut at = place;
+    let mut at = place.channel;
     let mut clips = 0;
-    'frames: for _turn in 0..count {
+    'frames: for _turn in 0..shape.count {
         let (sample, is_clipped) = sampling.round(from[read]);
         to[at] = sample;
         clips += u64::from(is_clipped);
-        read += inputs;
-        at += outputs;
+        read += shape.channels;
+        at += place.channels;
     }
     clips
 }
 
 /// Half the sum of two samples, halves away from zero.
 #[inline(always)]
-fn halved(sum: i64) -> i32
+pub(crate) fn halved(sum: i64) -> i32
     requires least { neg_ℤ (pos (2 ^ 32)) ≤ℤ sum }
     requires most { sum ≤ℤ pos (2 ^ 32 - 2) }
     ensures { rounding sum 2 ≡ (result, false) }
@@ -113,32 +123,30 @@ fn halved(sum: i64) -> i32
 #[inline(always)]
 pub(crate) fn place_mean(
     from: &[i32],
-    inputs: usize,
+    shape: Shape,
     first: usize,
     second: usize,
-    count: usize,
     to: &mut [i32],
-    outputs: usize,
-    place: usize,
+    place: Place,
 )
-    requires first { first < inputs }
-    requires second { second < inputs }
-    requires inputs { inputs ≤ 16 }
-    requires from { count * inputs ≤ length from.now }
-    requires place { place < outputs }
-    requires outputs { outputs ≤ 16 }
-    requires to { count * outputs ≤ length to.old }
-    ensures put { (i : ℕ) → i < count → slice_index_or to.new (i * outputs + place) (pos 0) ≡ (rounding (slice_index_or from.now (i * inputs + first) (pos 0) +ℤ slice_index_or from.now (i * inputs + second) (pos 0)) 2).0 }
-    ensures unclipped { (i : ℕ) → i < count → (rounding (slice_index_or from.now (i * inputs + first) (pos 0) +ℤ slice_index_or from.now (i * inputs + second) (pos 0)) 2).1 ≡ false }
-    ensures others { (i c : ℕ) → c < outputs → (c ≡ place → ⊥) → slice_index_or to.new (i * outputs + c) (pos 0) ≡ slice_index_or to.old (i * outputs + c) (pos 0) }
+    requires first { first < shape.channels }
+    requires second { second < shape.channels }
+    requires inputs { shape.channels ≤ 16 }
+    requires from { shape.count * shape.channels ≤ length from.now }
+    requires place { place.channel < place.channels }
+    requires outputs { place.channels ≤ 16 }
+    requires to { shape.count * place.channels ≤ length to.old }
+    ensures put { (i : ℕ) → i < shape.count → slice_index_or to.new (i * place.channels + place.channel) (pos 0) ≡ (rounding (slice_index_or from.now (i * shape.channels + first) (pos 0) +ℤ slice_index_or from.now (i * shape.channels + second) (pos 0)) 2).0 }
+    ensures unclipped { (i : ℕ) → i < shape.count → (rounding (slice_index_or from.now (i * shape.channels + first) (pos 0) +ℤ slice_index_or from.now (i * shape.channels + second) (pos 0)) 2).1 ≡ false }
+    ensures others { (i c : ℕ) → c < place.channels → (c ≡ place.channel → ⊥) → slice_index_or to.new (i * place.channels + c) (pos 0) ≡ slice_index_or to.old (i * place.channels + c) (pos 0) }
 {
     let mut left = first;
     let mut right = second;
-    let mut at = place;
-    'frames: for _turn in 0..count {
+    let mut at = place.channel;
+    'frames: for _turn in 0..shape.count {
         to[at] = halved(i64::from(from[left]) + i64::from(from[right]));
-        left += inputs;
-        right += inputs;
-        at += outputs;
+        left += shape.channels;
+        right += shape.channels;
+        at += place.channels;
     }
 }

@@ -1,5 +1,5 @@
 //! The effect `remix` of sox(1): each channel is a sum of channels, each times a weight.
-ghost use Rattle.std.specs.Prelude.{◌≡◌, ◌<◌, ◌≤◌, ◌+◌, ◌*◌, ◌^◌, [], ℕ, pos, map, drop, length, slice_index_or, sum_by, unsigned_abs, Err, IfOk, IfSome, MatchResult};
+ghost use Rattle.std.specs.Prelude.{◌≡◌, ◌<◌, ◌≤◌, ◌+◌, ◌*◌, ◌^◌, [], ℕ, pos, map, drop, length, slice_index_or, sum_by, unsigned_abs, Err, IfOk, MatchResult};
 ghost use Rattle.fx_transform.specs.Products.{sum_of_products};
 ghost use Rattle.std.specs.List.{All};
 ghost use Rattle.fx_frame.specs.Stage.{Freezes, IsNew};
@@ -8,15 +8,15 @@ ghost use Rattle.fx_frame.specs.Lists.{tabulate};
 ghost use Rattle.fx_map.specs.Mapped.{IsMapState, MapState};
 ghost use Rattle.fx_blocks.specs.Made.{clips_in, made_of};
 ghost use Rattle.fx_frame.specs.Rounded.{clips_of};
-ghost use Rattle.fx_map.specs.Mix.{Copies, IsContribution, Means, Scales, all_parts};
+ghost use Rattle.fx_map.specs.Mix.{Fits, IsContribution, all_parts};
 ghost use Rattle.fx_map.specs.Remix.{RemixArguments, mixed_parts, parts_of, remixed_frame, remixed_sample};
 ghost use Rattle.fx_map.specs.RemixState.{remix_acts};
-ghost use Rattle.fx_sums.specs.SmallWeights.{SumsAs};
 
 pub mod words;
 
-use crate::channels::{add_channel, place_channel, place_mean};
+use crate::channels::{Place, Shape, add_channel, halved, place_channel, place_mean};
 use crate::mapped::{Mapped, Mapping, MapsMany};
+use crate::per_sample::Sampling;
 use crate::vol::Scale;
 use fx_blocks::round_channel;
 use fx_fixed::{OutSpec, UNIT, Weight, round_clip};
@@ -36,30 +36,41 @@ struct Contribution {
     parts: i64,
 }
 
-/// What goes into an output channel, each weight in whole parts, and these in lowest terms, where they are small. Where it is
-/// one channel as it is, that channel; where it is the mean of two, those; where it is one channel times a gain, both.
+/// How the samples of an output channel are made: the first of these that fits what goes into it.
+#[derive(Drop)]
+enum Form {
+    /// Silence, since nothing goes into it.
+    Silent,
+    /// One channel as it is.
+    Copied(usize),
+    /// The mean of two channels.
+    Mean(usize, usize),
+    /// One channel times a gain.
+    Scaled(usize, Scale),
+    /// Channels times weights in lowest terms, which are small.
+    Small(Small),
+    /// Channels times weights in whole parts.
+    Wide,
+}
+
+/// What goes into an output channel, each weight in whole parts, and how its samples are made of that.
 #[derive(Drop)]
 struct Mix {
     contributions: Vec<Contribution>,
-    small: Option<Small>,
-    copied: Option<usize>,
-    mean: Option<(usize, usize)>,
-    scaled: Option<(usize, Scale)>,
+    form: Form,
 }
 
 impl Model for Mix {
-    ghost use Rattle.std.specs.Prelude.{◌≤◌, ◌*◌, map, length, IfSome};
+    ghost use Rattle.std.specs.Prelude.{◌≤◌, map, length};
     ghost use Rattle.std.specs.List.{All};
-    ghost use Rattle.fx_map.specs.Mix.{Copies, IsContribution, Means, Scales, all_parts, pair_of};
-    ghost use Rattle.fx_fixed.specs.declared.gains.TheConstants.{UNIT};
-    ghost use Rattle.fx_sums.specs.SmallWeights.{SumsAs};
+    ghost use Rattle.fx_map.specs.Mix.{Fits, IsContribution, pair_of};
     ghost use Rattle.fx_map.specs.Remix.{Contributions};
 
     ghost Value = { Contributions };
 
     ghost view = { λ s. map pair_of s.contributions.items };
 
-    ghost invariant = { λ s. (length s.contributions.items ≤ 64) × All (IsContribution (length s.contributions.items)) s.contributions.items × IfSome s.small (SumsAs (all_parts s.contributions.items) (length s.contributions.items * UNIT)) × IfSome s.copied (Copies s.contributions.items) × IfSome s.mean (λ m. Means s.contributions.items m.0 m.1) × IfSome s.scaled (λ m. Scales s.contributions.items m.0 m.1) };
+    ghost invariant = { λ s. (length s.contributions.items ≤ 64) × All (IsContribution (length s.contributions.items)) s.contributions.items × Fits s.contributions.items s.form };
 }
 
 /// A weight among so many contributions in parts, as many of which are one as that number of units.
@@ -85,60 +96,43 @@ fn parts_in(alloc: Global, contributions: &[Contribution]) -> Result<Vec<i64>, A
     Ok(parts)
 }
 
-/// The parts of at most 64 contributions, in lowest terms. None where they are not small, or where there are none.
-fn small_parts(alloc: Global, contributions: &[Contribution]) -> Result<Option<Small>, AllocError>
-    requires { length contributions.now ≤ 64 }
-    ensures { IfOk result (λ small. IfSome small (SumsAs (all_parts contributions.now) (length contributions.now * UNIT))) }
-{
-    let count = contributions.len() as u64;
-    if count == 0 {
-        return Ok(None);
+impl Form {
+    /// The form for at most 64 contributions.
+    fn of(alloc: Global, contributions: &[Contribution]) -> Result<Form, AllocError>
+        requires few { length contributions.now ≤ 64 }
+        requires made { All (IsContribution (length contributions.now)) contributions.now }
+        ensures { IfOk result (Fits contributions.now) }
+    {
+        match contributions {
+            [] => Ok(Form::Silent),
+            [only] if only.parts == UNIT as i64 => Ok(Form::Copied(only.channel)),
+            [
+                Contribution {
+                    channel,
+                    weight: Weight::Given(gain),
+                    ..
+                },
+            ] => Ok(Form::Scaled(*channel, Scale::of(*gain))),
+            [first, second] if first.parts == UNIT as i64 && second.parts == UNIT as i64 => {
+                Ok(Form::Mean(first.channel, second.channel))
+            }
+            _ => Form::of_sum(alloc, contributions),
+        }
     }
-    let parts = parts_in(alloc, contributions)?;
-    small_of(alloc, &parts, count * UNIT)
-}
 
-/// The channel that goes out as it is, if it does: it alone contributes, and its parts are one.
-fn copied_channel(contributions: &[Contribution]) -> Option<usize>
-    requires made { All (IsContribution (length contributions.now)) contributions.now }
-    ensures { IfSome result (Copies contributions.now) }
-{
-    let [only] = contributions else {
-        return None;
-    };
-    if only.parts == UNIT as i64 {
-        Some(only.channel)
-    } else {
-        None
+    /// The form for 1 to 64 contributions that are added.
+    fn of_sum(alloc: Global, contributions: &[Contribution]) -> Result<Form, AllocError>
+        requires some { 0 < length contributions.now }
+        requires few { length contributions.now ≤ 64 }
+        ensures { IfOk result (Fits contributions.now) }
+    {
+        let count = contributions.len() as u64;
+        let parts = parts_in(alloc, contributions)?;
+        Ok(match small_of(alloc, &parts, count * UNIT)? {
+            Some(small) => Form::Small(small),
+            None => Form::Wide,
+        })
     }
-}
-
-/// The two channels whose mean goes out, if it does: they alone contribute, and the parts of each are a half.
-fn mean_channels(contributions: &[Contribution]) -> Option<(usize, usize)>
-    requires made { All (IsContribution (length contributions.now)) contributions.now }
-    ensures { IfSome result (λ m. Means contributions.now m.0 m.1) }
-{
-    let [first, second] = contributions else {
-        return None;
-    };
-    if first.parts == UNIT as i64 && second.parts == UNIT as i64 {
-        Some((first.channel, second.channel))
-    } else {
-        None
-    }
-}
-
-/// The channel that goes out times a gain, if it does: it alone contributes, with a gain that was given.
-fn scaled_channel(contributions: &[Contribution]) -> Option<(usize, Scale)>
-    ensures { IfSome result (λ s. Scales contributions.now s.0 s.1) }
-{
-    let [only] = contributions else {
-        return None;
-    };
-    let Weight::Given(gain) = only.weight else {
-        return None;
-    };
-    Some((only.channel, Scale::of(gain)))
 }
 
 impl Mix {
@@ -156,16 +150,10 @@ impl Mix {
                 parts: parts_of(out.len(), *weight),
             })?;
         }
-        let small = small_parts(alloc, &contributions)?;
-        let copied = copied_channel(&contributions);
-        let mean = mean_channels(&contributions);
-        let scaled = scaled_channel(&contributions);
+        let form = Form::of(alloc, &contributions)?;
         Ok(Mix {
             contributions,
-            small,
-            copied,
-            mean,
-            scaled,
+            form,
         })
     }
 
@@ -222,19 +210,23 @@ impl Mix {
     fn sample(&self, samples: &[i32]) -> (i32, bool)
         ensures { result ≡ remixed_sample self.now samples.now }
     {
-        if let Some(channel) = self.copied {
-            return (sample_or_silence(samples, channel), false);
-        }
-        let count = self.contributions.len();
-        if count == 0 {
-            return (0, false);
-        }
-        if let Some(small) = &self.small {
-            return small
+        match &self.form {
+            Form::Silent => (0, false),
+            Form::Copied(channel) => (sample_or_silence(samples, *channel), false),
+            Form::Mean(first, second) => {
+                let left = sample_or_silence(samples, *first);
+                let right = sample_or_silence(samples, *second);
+                (halved(i64::from(left) + i64::from(right)), false)
+            }
+            Form::Scaled(channel, scale) => scale.round(sample_or_silence(samples, *channel)),
+            Form::Small(small) => small
                 .denominator
-                .round(self.small_sum(&small.weights, samples));
+                .round(self.small_sum(&small.weights, samples)),
+            Form::Wide => {
+                let one = self.contributions.len() as u64 * UNIT;
+                round_clip(self.sum(samples), i128::from(one))
+            }
         }
-        round_clip(self.sum(samples), i128::from(count as u64 * UNIT))
     }
 }
 
@@ -242,106 +234,83 @@ impl Mix {
 const FRAMES_OF_PIECE: usize = 256;
 
 impl Mix {
-    /// Writes the output channel for so many frames as one channel of as many, and counts how many of its samples were
-    /// clipped.
-    fn channel_by_frames(
-        &self,
-        frames: &[i32],
-        inputs: usize,
-        count: usize,
-        outputs: usize,
-        channel: usize,
-        out: &mut [i32],
-    ) -> u64
-        requires inputs { (1 ≤ inputs) × (inputs ≤ 16) }
-        requires frames { length frames.now ≡ count * inputs }
-        requires channel { channel < outputs }
-        requires outputs { outputs ≤ 16 }
-        requires out { count * outputs ≤ length out.old }
-        ensures put { (i : ℕ) → i < count → slice_index_or out.new (i * outputs + channel) (pos 0) ≡ (remixed_sample self.now (slice_index_or (pieces inputs count frames.now) i [])).0 }
-        ensures others { (i c : ℕ) → c < outputs → (c ≡ channel → ⊥) → slice_index_or out.new (i * outputs + c) (pos 0) ≡ slice_index_or out.old (i * outputs + c) (pos 0) }
-        ensures clips { result ≡ clips_of (tabulate (λ i. remixed_sample self.now (slice_index_or (pieces inputs count frames.now) i [])) 0 count) }
-        ensures few { result ≤ count }
+    /// Writes the output channel for so many frames as one channel of as many, frame by frame, and counts how many of its
+    /// samples were clipped.
+    fn channel_by_frames(&self, frames: &[i32], shape: Shape, out: &mut [i32], place: Place) -> u64
+        requires inputs { (1 ≤ shape.channels) × (shape.channels ≤ 16) }
+        requires frames { length frames.now ≡ shape.count * shape.channels }
+        requires channel { place.channel < place.channels }
+        requires outputs { place.channels ≤ 16 }
+        requires out { shape.count * place.channels ≤ length out.old }
+        ensures put { (i : ℕ) → i < shape.count → slice_index_or out.new (i * place.channels + place.channel) (pos 0) ≡ (remixed_sample self.now (slice_index_or (pieces shape.channels shape.count frames.now) i [])).0 }
+        ensures others { (i c : ℕ) → c < place.channels → (c ≡ place.channel → ⊥) → slice_index_or out.new (i * place.channels + c) (pos 0) ≡ slice_index_or out.old (i * place.channels + c) (pos 0) }
+        ensures clips { result ≡ clips_of (tabulate (λ i. remixed_sample self.now (slice_index_or (pieces shape.channels shape.count frames.now) i [])) 0 shape.count) }
+        ensures few { result ≤ shape.count }
     {
         let mut from = 0;
-        let mut at = channel;
+        let mut at = place.channel;
         let mut clips = 0;
-        'frames: for _turn in 0..count {
-            let (sample, is_clipped) = self.sample(&frames[from..from + inputs]);
+        'frames: for _turn in 0..shape.count {
+            let (sample, is_clipped) = self.sample(&frames[from..from + shape.channels]);
             out[at] = sample;
             clips += u64::from(is_clipped);
-            from += inputs;
-            at += outputs;
+            from += shape.channels;
+            at += place.channels;
         }
         clips
     }
 
-    /// The same for the frames of a piece; where the weights are small, all of them at once.
-    fn channel_into(
-        &self,
-        frames: &[i32],
-        inputs: usize,
-        count: usize,
-        outputs: usize,
-        channel: usize,
-        out: &mut [i32],
-    ) -> u64
-        requires inputs { (1 ≤ inputs) × (inputs ≤ 16) }
-        requires count { count ≤ 256 }
-        requires frames { length frames.now ≡ count * inputs }
-        requires channel { channel < outputs }
-        requires outputs { outputs ≤ 16 }
-        requires out { count * outputs ≤ length out.old }
-        ensures put { (i : ℕ) → i < count → slice_index_or out.new (i * outputs + channel) (pos 0) ≡ (remixed_sample self.now (slice_index_or (pieces inputs count frames.now) i [])).0 }
-        ensures others { (i c : ℕ) → c < outputs → (c ≡ channel → ⊥) → slice_index_or out.new (i * outputs + c) (pos 0) ≡ slice_index_or out.old (i * outputs + c) (pos 0) }
-        ensures clips { result ≡ clips_of (tabulate (λ i. remixed_sample self.now (slice_index_or (pieces inputs count frames.now) i [])) 0 count) }
-        ensures few { result ≤ count }
+    /// The same for the frames of a piece, all of them at once where the form allows.
+    fn channel_into(&self, frames: &[i32], shape: Shape, out: &mut [i32], place: Place) -> u64
+        requires inputs { (1 ≤ shape.channels) × (shape.channels ≤ 16) }
+        requires count { shape.count ≤ 256 }
+        requires frames { length frames.now ≡ shape.count * shape.channels }
+        requires channel { place.channel < place.channels }
+        requires outputs { place.channels ≤ 16 }
+        requires out { shape.count * place.channels ≤ length out.old }
+        ensures put { (i : ℕ) → i < shape.count → slice_index_or out.new (i * place.channels + place.channel) (pos 0) ≡ (remixed_sample self.now (slice_index_or (pieces shape.channels shape.count frames.now) i [])).0 }
+        ensures others { (i c : ℕ) → c < place.channels → (c ≡ place.channel → ⊥) → slice_index_or out.new (i * place.channels + c) (pos 0) ≡ slice_index_or out.old (i * place.channels + c) (pos 0) }
+        ensures clips { result ≡ clips_of (tabulate (λ i. remixed_sample self.now (slice_index_or (pieces shape.channels shape.count frames.now) i [])) 0 shape.count) }
+        ensures few { result ≤ shape.count }
     {
-        if let Some(from) = self.copied {
-            if from < inputs {
-                place_channel(frames, inputs, from, count, out, outputs, channel);
-                return 0;
+        match &self.form {
+            Form::Copied(channel) if *channel < shape.channels => {
+                place_channel(frames, shape, *channel, out, place);
+                0
             }
-        }
-        if let Some((first, second)) = self.mean {
-            if first < inputs && second < inputs {
-                place_mean(frames, inputs, first, second, count, out, outputs, channel);
-                return 0;
+            Form::Mean(first, second) if *first < shape.channels && *second < shape.channels => {
+                place_mean(frames, shape, *first, *second, out, place);
+                0
             }
-        }
-        if let Some((source, scale)) = &self.scaled {
-            if *source < inputs {
-                return scale.place_channel(frames, inputs, *source, count, out, outputs, channel);
+            Form::Scaled(channel, scale) if *channel < shape.channels => {
+                scale.place_channel(frames, shape, *channel, out, place)
             }
+            Form::Small(small) => {
+                let mut places = [0; FRAMES_OF_PIECE];
+                let sums = &mut places[..shape.count];
+                self.add_channels(&small.weights, frames, shape.channels, sums);
+                round_channel(sums, &small.denominator, place.channels, place.channel, out)
+            }
+            _ => self.channel_by_frames(frames, shape, out, place),
         }
-        if self.contributions.is_empty() {
-            return self.channel_by_frames(frames, inputs, count, outputs, channel, out);
-        }
-        let Some(small) = &self.small else {
-            return self.channel_by_frames(frames, inputs, count, outputs, channel, out);
-        };
-        let mut places = [0; FRAMES_OF_PIECE];
-        let sums = &mut places[..count];
-        self.add_channels(&small.weights, frames, inputs, sums);
-        round_channel(sums, &small.denominator, outputs, channel, out)
     }
 }
 
 /// Makes the frames of a piece, channel by channel, and counts how many of their samples were clipped.
-fn mix_piece(mixes: &[Mix], inputs: usize, frames: &[i32], count: usize, out: &mut [i32]) -> u64
-    requires inputs { (1 ≤ inputs) × (inputs ≤ 16) }
+fn mix_piece(mixes: &[Mix], frames: &[i32], shape: Shape, out: &mut [i32]) -> u64
+    requires inputs { (1 ≤ shape.channels) × (shape.channels ≤ 16) }
     requires outs { length mixes.now ≤ 16 }
-    requires count { count ≤ 256 }
-    requires frames { length frames.now ≡ count * inputs }
-    requires out { length out.old ≡ count * length mixes.now }
-    ensures frames { pieces (length mixes.now) count out.new ≡ made_of (remixed_frame mixes.now) (pieces inputs count frames.now) }
-    ensures clips { result ≡ clips_in (remixed_frame mixes.now) (pieces inputs count frames.now) }
-    ensures few { result ≤ 16 * count }
+    requires count { shape.count ≤ 256 }
+    requires frames { length frames.now ≡ shape.count * shape.channels }
+    requires out { length out.old ≡ shape.count * length mixes.now }
+    ensures frames { pieces (length mixes.now) shape.count out.new ≡ made_of (remixed_frame mixes.now) (pieces shape.channels shape.count frames.now) }
+    ensures clips { result ≡ clips_in (remixed_frame mixes.now) (pieces shape.channels shape.count frames.now) }
+    ensures few { result ≤ 16 * shape.count }
 {
-    let outputs = mixes.len();
+    let channels = mixes.len();
     let mut clips = 0;
-    'mixes: for channel in 0..outputs {
-        clips += mixes[channel].channel_into(frames, inputs, count, outputs, channel, out);
+    'mixes: for channel in 0..channels {
+        clips += mixes[channel].channel_into(frames, shape, out, Place { channel, channels });
     }
     clips
 }
@@ -366,14 +335,12 @@ fn mix_frames(mixes: &[Mix], inputs: usize, input: &[i32], output: &mut [i32], c
         let now = FRAMES_OF_PIECE.min(count - done);
         let from = done * inputs;
         let frames = &input[from..from + now * inputs];
+        let shape = Shape {
+            count: now,
+            channels: inputs,
+        };
         let at = done * outputs;
-        clips += mix_piece(
-            mixes,
-            inputs,
-            frames,
-            now,
-            &mut output[at..at + now * outputs],
-        );
+        clips += mix_piece(mixes, frames, shape, &mut output[at..at + now * outputs]);
         done += now;
     }
     clips

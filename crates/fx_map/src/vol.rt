@@ -12,7 +12,7 @@ ghost use Rattle.fx_map.specs.VolState.{vol_acts};
 pub mod words;
 
 use crate::both::{BothClips, rounded_by_both};
-use crate::channels::place_rounded;
+use crate::channels::{Place, Shape, place_rounded};
 use crate::mapped::Mapped;
 use crate::per_sample::{
     PerSample, SamplesBehind, SamplesMany, Sampling, round_over, rounded_samples,
@@ -103,32 +103,28 @@ impl Scale {
     pub(crate) fn place_channel(
         &self,
         from: &[i32],
-        inputs: usize,
+        shape: Shape,
         channel: usize,
-        count: usize,
         to: &mut [i32],
-        outputs: usize,
-        place: usize,
+        place: Place,
     ) -> u64
-        requires channel { channel < inputs }
-        requires inputs { inputs ≤ 16 }
-        requires from { count * inputs ≤ length from.now }
-        requires place { place < outputs }
-        requires outputs { outputs ≤ 16 }
-        requires to { count * outputs ≤ length to.old }
-        ensures put { (i : ℕ) → i < count → slice_index_or to.new (i * outputs + place) (pos 0) ≡ (scaled_sample self.now (slice_index_or from.now (i * inputs + channel) (pos 0))).0 }
-        ensures others { (i c : ℕ) → c < outputs → (c ≡ place → ⊥) → slice_index_or to.new (i * outputs + c) (pos 0) ≡ slice_index_or to.old (i * outputs + c) (pos 0) }
-        ensures clips { result ≡ clips_of (tabulate (λ i. scaled_sample self.now (slice_index_or from.now (i * inputs + channel) (pos 0))) 0 count) }
-        ensures few { result ≤ count }
+        requires channel { channel < shape.channels }
+        requires inputs { shape.channels ≤ 16 }
+        requires from { shape.count * shape.channels ≤ length from.now }
+        requires place { place.channel < place.channels }
+        requires outputs { place.channels ≤ 16 }
+        requires to { shape.count * place.channels ≤ length to.old }
+        ensures put { (i : ℕ) → i < shape.count → slice_index_or to.new (i * place.channels + place.channel) (pos 0) ≡ (scaled_sample self.now (slice_index_or from.now (i * shape.channels + channel) (pos 0))).0 }
+        ensures others { (i c : ℕ) → c < place.channels → (c ≡ place.channel → ⊥) → slice_index_or to.new (i * place.channels + c) (pos 0) ≡ slice_index_or to.old (i * place.channels + c) (pos 0) }
+        ensures clips { result ≡ clips_of (tabulate (λ i. scaled_sample self.now (slice_index_or from.now (i * shape.channels + channel) (pos 0))) 0 shape.count) }
+        ensures few { result ≤ shape.count }
     {
         if let Some(proper) = &self.proper {
-            return place_rounded(proper, from, inputs, channel, count, to, outputs, place);
+            return place_rounded(proper, from, shape, channel, to, place);
         }
         match &self.fraction {
-            Some(fraction) => place_rounded(
-                fraction, from, inputs, channel, count, to, outputs, place,
-            ),
-            None => place_rounded(self, from, inputs, channel, count, to, outputs, place),
+            Some(fraction) => place_rounded(fraction, from, shape, channel, to, place),
+            None => place_rounded(self, from, shape, channel, to, place),
         }
     }
 

@@ -8,16 +8,16 @@ frames-preserved c =
     let k : ℕ = c.frames._turn in
     let old = c.frames.invariant in
     let y : ℤ = slice_index_or c.args.from.now c.frames.read (pos 0) in
-    let there : y ≡ slice_index_or c.args.from.now (k * c.args.inputs + c.args.channel) (pos 0) = ap (λ i. slice_index_or c.args.from.now i (pos 0)) old.read_is in
+    let there : y ≡ slice_index_or c.args.from.now (k * c.args.shape.channels + c.args.channel) (pos 0) = ap (λ i. slice_index_or c.args.from.now i (pos 0)) old.read_is in
     let fits : FitsSigned w32 y = search rules in
     let back : to_z w32 (of_z w32 y) ≡ y = search rules in
-    let far = within-frames c.args.outputs c.args.place k c.args.count c.requires.place c.frames-test.true in
+    let far = within-frames c.args.place.channels c.args.place.channel k c.args.shape.count c.requires.place c.frames-test.true in
     let inside : c.frames.at < length c.frames.to = omega (arith, far, old.at_is, c.requires.to, c.frames.auto.to) in
     rw back
     record {
-      read_is = omega (arith, old.read_is, suc-mul k c.args.inputs, add-one k);
-      at_is = omega (arith, old.at_is, suc-mul k c.args.outputs, add-one k);
-      put = put-more (pos 0) (λ i. slice_index_or c.args.from.now (i * c.args.inputs + c.args.channel) (pos 0)) c.frames.to c.args.outputs c.args.place k c.frames.at y c.requires.place old.at_is inside there old.put;
-      others = λ i d in_d other. others-stay (pos 0) c.frames.to c.args.outputs c.args.place k c.frames.at i d y c.requires.place old.at_is in_d other ∙ old.others i d in_d other;
+      read_is = omega (arith, old.read_is, suc-mul k c.args.shape.channels, add-one k);
+      at_is = omega (arith, old.at_is, suc-mul k c.args.place.channels, add-one k);
+      put = put-more (pos 0) (λ i. slice_index_or c.args.from.now (i * c.args.shape.channels + c.args.channel) (pos 0)) c.frames.to c.args.place.channels c.args.place.channel k c.frames.at y c.requires.place old.at_is inside there old.put;
+      others = λ i d in_d other. others-stay (pos 0) c.frames.to c.args.place.channels c.args.place.channel k c.frames.at i d y c.requires.place old.at_is in_d other ∙ old.others i d in_d other;
       samples = below_more _ _ old.samples (rw (← there) fits);
     }

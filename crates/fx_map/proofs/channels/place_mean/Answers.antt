@@ -10,7 +10,7 @@ pub frames-preserved : goal.frames-preserved
 frames-preserved c =
     let k : ℕ = c.frames._turn in
     let old = c.frames.invariant in
-    let F : ℕ → ℤ = λ i. slice_index_or c.args.from.now (i * c.args.inputs + c.args.first) (pos 0) +ℤ slice_index_or c.args.from.now (i * c.args.inputs + c.args.second) (pos 0) in
+    let F : ℕ → ℤ = λ i. slice_index_or c.args.from.now (i * c.args.shape.channels + c.args.first) (pos 0) +ℤ slice_index_or c.args.from.now (i * c.args.shape.channels + c.args.second) (pos 0) in
     let sum : to_z w64 (of_z w64 (to_z w64 (of_z w64 c.from.result) +ℤ to_z w64 (of_z w64 c.from-in-frames.result))) ≡ slice_index_or c.args.from.now c.frames.left (pos 0) +ℤ slice_index_or c.args.from.now c.frames.right (pos 0) = search rules in
     let there : slice_index_or c.args.from.now c.frames.left (pos 0) +ℤ slice_index_or c.args.from.now c.frames.right (pos 0) ≡ F k =
     ap₂ (λ i j. slice_index_or c.args.from.now i (pos 0) +ℤ slice_index_or c.args.from.now j (pos 0)) old.left_is old.right_is in
@@ -18,66 +18,66 @@ frames-preserved c =
     let back : to_z w32 (of_z w32 c.halved.result) ≡ c.halved.result = search rules in
     let y : ℤ = c.halved.result in
     let value : y ≡ (rounding (F k) 2).0 = sym (ap (λ (r : ℤ × Bool). r.0) made) in
-    let far = within-frames c.args.outputs c.args.place k c.args.count c.requires.place c.frames-test.true in
+    let far = within-frames c.args.place.channels c.args.place.channel k c.args.shape.count c.requires.place c.frames-test.true in
     let inside : c.frames.at < length c.frames.to = omega (arith, far, old.at_is, c.requires.to, c.frames.auto.to) in
     rw back
     record {
-      left_is = omega (arith, old.left_is, suc-mul k c.args.inputs, add-one k);
-      right_is = omega (arith, old.right_is, suc-mul k c.args.inputs, add-one k);
-      at_is = omega (arith, old.at_is, suc-mul k c.args.outputs, add-one k);
-      put = put-more (pos 0) (λ i. (rounding (F i) 2).0) c.frames.to c.args.outputs c.args.place k c.frames.at y c.requires.place old.at_is inside value old.put;
+      left_is = omega (arith, old.left_is, suc-mul k c.args.shape.channels, add-one k);
+      right_is = omega (arith, old.right_is, suc-mul k c.args.shape.channels, add-one k);
+      at_is = omega (arith, old.at_is, suc-mul k c.args.place.channels, add-one k);
+      put = put-more (pos 0) (λ i. (rounding (F i) 2).0) c.frames.to c.args.place.channels c.args.place.channel k c.frames.at y c.requires.place old.at_is inside value old.put;
       unclipped = below_more _ _ old.unclipped (ap (λ (r : ℤ × Bool). r.1) made);
-      others = λ i d in_d other. others-stay (pos 0) c.frames.to c.args.outputs c.args.place k c.frames.at i d y c.requires.place old.at_is in_d other ∙ old.others i d in_d other;
+      others = λ i d in_d other. others-stay (pos 0) c.frames.to c.args.place.channels c.args.place.channel k c.frames.at i d y c.requires.place old.at_is in_d other ∙ old.others i d in_d other;
     }
 
 pub bounds-from-left : goal.bounds-from-left
 bounds-from-left c =
-    let far = within-frames c.args.inputs c.args.first c.frames._turn c.args.count c.requires.first c.frames-test.true in
+    let far = within-frames c.args.shape.channels c.args.first c.frames._turn c.args.shape.count c.requires.first c.frames-test.true in
     omega (arith, far, c.frames.invariant.left_is, c.requires.from)
 
 pub offset_bounds-from-left : goal.offset_bounds-from-left
 offset_bounds-from-left c =
-    let far = within-frames c.args.inputs c.args.first c.frames._turn c.args.count c.requires.first c.frames-test.true in
+    let far = within-frames c.args.shape.channels c.args.first c.frames._turn c.args.shape.count c.requires.first c.frames-test.true in
     let inside : c.frames.left < length c.args.from.now = omega (arith, far, c.frames.invariant.left_is, c.requires.from) in
     search (rules, inside)
 
 pub bounds-from-right : goal.bounds-from-right
 bounds-from-right c =
-    let far = within-frames c.args.inputs c.args.second c.frames._turn c.args.count c.requires.second c.frames-test.true in
+    let far = within-frames c.args.shape.channels c.args.second c.frames._turn c.args.shape.count c.requires.second c.frames-test.true in
     omega (arith, far, c.frames.invariant.right_is, c.requires.from)
 
 pub offset_bounds-from-right : goal.offset_bounds-from-right
 offset_bounds-from-right c =
-    let far = within-frames c.args.inputs c.args.second c.frames._turn c.args.count c.requires.second c.frames-test.true in
+    let far = within-frames c.args.shape.channels c.args.second c.frames._turn c.args.shape.count c.requires.second c.frames-test.true in
     let inside : c.frames.right < length c.args.from.now = omega (arith, far, c.frames.invariant.right_is, c.requires.from) in
     search (rules, inside)
 
 pub bounds-to-at : goal.bounds-to-at
 bounds-to-at c =
-    let far = within-frames c.args.outputs c.args.place c.frames._turn c.args.count c.requires.place c.frames-test.true in
+    let far = within-frames c.args.place.channels c.args.place.channel c.frames._turn c.args.shape.count c.requires.place c.frames-test.true in
     omega (arith, far, c.frames.invariant.at_is, c.requires.to, c.frames.auto.to)
 
 pub offset_bounds-to-at : goal.offset_bounds-to-at
 offset_bounds-to-at c =
-    let far = within-frames c.args.outputs c.args.place c.frames._turn c.args.count c.requires.place c.frames-test.true in
+    let far = within-frames c.args.place.channels c.args.place.channel c.frames._turn c.args.shape.count c.requires.place c.frames-test.true in
     let inside : c.frames.at < length c.frames.to = omega (arith, far, c.frames.invariant.at_is, c.requires.to, c.frames.auto.to) in
     search (rules, inside)
 
 pub overflow_add-left : goal.overflow_add-left
 overflow_add-left c =
-    let far = within-frames c.args.inputs c.args.first c.frames._turn c.args.count c.requires.first c.frames-test.true in
+    let far = within-frames c.args.shape.channels c.args.first c.frames._turn c.args.shape.count c.requires.first c.frames-test.true in
     let inside : c.frames.left < length c.args.from.now = omega (arith, far, c.frames.invariant.left_is, c.requires.from) in
     search (rules, inside)
 
 pub overflow_add-right : goal.overflow_add-right
 overflow_add-right c =
-    let far = within-frames c.args.inputs c.args.second c.frames._turn c.args.count c.requires.second c.frames-test.true in
+    let far = within-frames c.args.shape.channels c.args.second c.frames._turn c.args.shape.count c.requires.second c.frames-test.true in
     let inside : c.frames.right < length c.args.from.now = omega (arith, far, c.frames.invariant.right_is, c.requires.from) in
     search (rules, inside)
 
 pub overflow_add-at : goal.overflow_add-at
 overflow_add-at c =
-    let far = within-frames c.args.outputs c.args.place c.frames._turn c.args.count c.requires.place c.frames-test.true in
+    let far = within-frames c.args.place.channels c.args.place.channel c.frames._turn c.args.shape.count c.requires.place c.frames-test.true in
     let inside : c.frames.at < length c.frames.to = omega (arith, far, c.frames.invariant.at_is, c.requires.to, c.frames.auto.to) in
     search (rules, inside)
 

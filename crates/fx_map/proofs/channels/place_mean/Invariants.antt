@@ -4,10 +4,10 @@ use Rattle.fx_map.proofs.channels.place_mean.Given as goal
 
 abbrev pub invariant-frames : goal.invariant-frames
 invariant-frames l = record {
-  left_is : l.left ≡ l._turn * l.inputs + l.first;
-  right_is : l.right ≡ l._turn * l.inputs + l.second;
-  at_is : l.at ≡ l._turn * l.outputs + l.place;
-  put : (i : ℕ) → i < l._turn → slice_index_or l.to (i * l.outputs + l.place) (pos 0) ≡ (rounding (slice_index_or l.from (i * l.inputs + l.first) (pos 0) +ℤ slice_index_or l.from (i * l.inputs + l.second) (pos 0)) 2).0;
-  unclipped : (i : ℕ) → i < l._turn → (rounding (slice_index_or l.from (i * l.inputs + l.first) (pos 0) +ℤ slice_index_or l.from (i * l.inputs + l.second) (pos 0)) 2).1 ≡ false;
-  others : (i c : ℕ) → c < l.outputs → (c ≡ l.place → ⊥) → slice_index_or l.to (i * l.outputs + c) (pos 0) ≡ slice_index_or l.fn.to (i * l.outputs + c) (pos 0);
+  left_is : l.left ≡ l._turn * l.shape.channels + l.first;
+  right_is : l.right ≡ l._turn * l.shape.channels + l.second;
+  at_is : l.at ≡ l._turn * l.place.channels + l.place.channel;
+  put : (i : ℕ) → i < l._turn → slice_index_or l.to (i * l.place.channels + l.place.channel) (pos 0) ≡ (rounding (slice_index_or l.from (i * l.shape.channels + l.first) (pos 0) +ℤ slice_index_or l.from (i * l.shape.channels + l.second) (pos 0)) 2).0;
+  unclipped : (i : ℕ) → i < l._turn → (rounding (slice_index_or l.from (i * l.shape.channels + l.first) (pos 0) +ℤ slice_index_or l.from (i * l.shape.channels + l.second) (pos 0)) 2).1 ≡ false;
+  others : (i c : ℕ) → c < l.place.channels → (c ≡ l.place.channel → ⊥) → slice_index_or l.to (i * l.place.channels + c) (pos 0) ≡ slice_index_or l.fn.to (i * l.place.channels + c) (pos 0);
 }

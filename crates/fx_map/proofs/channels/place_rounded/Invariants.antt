@@ -5,10 +5,10 @@ use Rattle.fx_map.proofs.channels.place_rounded.Given as goal
 
 abbrev pub invariant-frames : goal.invariant-frames
 invariant-frames g l = record {
-  read_is : l.read ≡ l._turn * l.inputs + l.channel;
-  at_is : l.at ≡ l._turn * l.outputs + l.place;
-  put : (i : ℕ) → i < l._turn → slice_index_or l.to (i * l.outputs + l.place) (pos 0) ≡ (g.S.Sampling.rounded l.sampling (slice_index_or l.from (i * l.inputs + l.channel) (pos 0))).0;
-  others : (i c : ℕ) → c < l.outputs → (c ≡ l.place → ⊥) → slice_index_or l.to (i * l.outputs + c) (pos 0) ≡ slice_index_or l.fn.to (i * l.outputs + c) (pos 0);
-  counted : l.clips ≡ clips_of (tabulate (λ i. g.S.Sampling.rounded l.sampling (slice_index_or l.from (i * l.inputs + l.channel) (pos 0))) 0 l._turn);
+  read_is : l.read ≡ l._turn * l.shape.channels + l.channel;
+  at_is : l.at ≡ l._turn * l.place.channels + l.place.channel;
+  put : (i : ℕ) → i < l._turn → slice_index_or l.to (i * l.place.channels + l.place.channel) (pos 0) ≡ (g.S.Sampling.rounded l.sampling (slice_index_or l.from (i * l.shape.channels + l.channel) (pos 0))).0;
+  others : (i c : ℕ) → c < l.place.channels → (c ≡ l.place.channel → ⊥) → slice_index_or l.to (i * l.place.channels + c) (pos 0) ≡ slice_index_or l.fn.to (i * l.place.channels + c) (pos 0);
+  counted : l.clips ≡ clips_of (tabulate (λ i. g.S.Sampling.rounded l.sampling (slice_index_or l.from (i * l.shape.channels + l.channel) (pos 0))) 0 l._turn);
   few : l.clips ≤ l._turn;
 }

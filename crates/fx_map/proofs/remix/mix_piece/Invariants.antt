@@ -7,7 +7,7 @@ use Rattle.fx_map.proofs.remix.mix_piece.Given as goal
 -- the output channels so far
 abbrev pub invariant-mixes : goal.invariant-mixes
 invariant-mixes l = record {
-  put : (i c : ℕ) → i < l.count → c < l.channel → slice_index_or l.out (i * length l.mixes + c) (pos 0) ≡ (remixed_sample (slice_index_or l.mixes c []) (slice_index_or (pieces l.inputs l.count l.frames) i [])).0;
-  counted : l.clips ≡ all_clips (λ i c. remixed_sample (slice_index_or l.mixes c []) (slice_index_or (pieces l.inputs l.count l.frames) i [])) l.channel 0 l.count;
-  few : l.clips ≤ l.channel * l.count;
+  put : (i c : ℕ) → i < l.shape.count → c < l.channel → slice_index_or l.out (i * length l.mixes + c) (pos 0) ≡ (remixed_sample (slice_index_or l.mixes c []) (slice_index_or (pieces l.shape.channels l.shape.count l.frames) i [])).0;
+  counted : l.clips ≡ all_clips (λ i c. remixed_sample (slice_index_or l.mixes c []) (slice_index_or (pieces l.shape.channels l.shape.count l.frames) i [])) l.channel 0 l.shape.count;
+  few : l.clips ≤ l.channel * l.shape.count;
 }

@@ -7,10 +7,10 @@ use Rattle.fx_map.proofs.remix.Mix.channel_by_frames.Given as goal
 
 abbrev pub invariant-frames : goal.invariant-frames
 invariant-frames l = record {
-  from_is : l.from ≡ l._turn * l.inputs;
-  at_is : l.at ≡ l._turn * l.outputs + l.channel;
-  put : (i : ℕ) → i < l._turn → slice_index_or l.out (i * l.outputs + l.channel) (pos 0) ≡ (remixed_sample l.self (slice_index_or (pieces l.inputs l.count l.frames) i [])).0;
-  others : (i c : ℕ) → c < l.outputs → (c ≡ l.channel → ⊥) → slice_index_or l.out (i * l.outputs + c) (pos 0) ≡ slice_index_or l.fn.out (i * l.outputs + c) (pos 0);
-  counted : l.clips ≡ clips_of (tabulate (λ i. remixed_sample l.self (slice_index_or (pieces l.inputs l.count l.frames) i [])) 0 l._turn);
+  from_is : l.from ≡ l._turn * l.shape.channels;
+  at_is : l.at ≡ l._turn * l.place.channels + l.place.channel;
+  put : (i : ℕ) → i < l._turn → slice_index_or l.out (i * l.place.channels + l.place.channel) (pos 0) ≡ (remixed_sample l.self (slice_index_or (pieces l.shape.channels l.shape.count l.frames) i [])).0;
+  others : (i c : ℕ) → c < l.place.channels → (c ≡ l.place.channel → ⊥) → slice_index_or l.out (i * l.place.channels + c) (pos 0) ≡ slice_index_or l.fn.out (i * l.place.channels + c) (pos 0);
+  counted : l.clips ≡ clips_of (tabulate (λ i. remixed_sample l.self (slice_index_or (pieces l.shape.channels l.shape.count l.frames) i [])) 0 l._turn);
   few : l.clips ≤ l._turn;
 }
