@@ -1,4 +1,5 @@
--- What `remix` keeps of a contribution: its channel, its weight and the same in parts.
+-- What `remix` keeps of what goes into an output channel: of each contribution its channel, its weight and the same in parts; and
+-- how samples are made of them.
 use Rattle.std.specs.Prelude.{ℕ, ℤ, pos, ◌*◌, ◌<◌, ◌≡◌, List, [], ◌∷◌, length, map}
 use Rattle.fx_map.specs.Remix.{parts_of}
 use Rattle.fx_fixed.specs.declared.gains.TheConstants.{UNIT}
