@@ -17,7 +17,7 @@ use fx_sound::inner::BUFFER_SIZE;
 use fx_sound::{Progress, Source};
 
 /// The least frames that are tried, so that few places in a full outlet do not slow down a flow that gives nothing.
-const LEAST_FRAMES: usize = 256;
+const LEAST_FRAMES: usize = 32;
 
 /// How many frames are tried at once where the outlet has room for so many.
 fn tried(channels: usize, room: usize) -> usize
@@ -94,6 +94,7 @@ pub fn pump_block<R: ByteIn, S: Feeds, W: ByteOut>(
 {
     pass_block(flow, source, progress, outlet, input, output);
     drain(flow, outlet, writer)?;
-    outlet.output.make_way(writer)?;
+    let size = flow.out_channels().saturating_mul(outlet.coding.width());
+    outlet.output.make_way(writer, size)?;
     Ok(())
 }

@@ -122,14 +122,14 @@ impl Output {
     }
 
     /// Hands the writer all that waits where less than half of the buffer is free and bytes have gone to it before, so that
-    /// a whole buffer of frames finds room at once. Where the next frame may fill the buffer it is left to that.
-    pub fn make_way<W: ByteOut>(&mut self, writer: &mut W) -> Result<(), Failed>
+    /// a whole buffer of frames finds room at once. Where a frame of so many bytes does not fit, it is left to that one.
+    pub fn make_way<W: ByteOut>(&mut self, writer: &mut W, size: usize) -> Result<(), Failed>
         ensures sent { SendsOn (W.writes.taken writer.old) (W.writes.taken writer.new) self.old self.new }
         ensures count { bytes_put self.new ≡ bytes_put self.old }
         ensures failures { CountsFailure (W.writes.failures writer.old) (W.writes.failures writer.new) result }
     {
-        let is_nearly_full = BUFFER_SIZE - self.end < MOST_FRAME_BYTES;
-        if self.written == 0 || self.end <= BUFFER_SIZE / 2 || is_nearly_full {
+        let is_full = BUFFER_SIZE - self.end < size;
+        if self.written == 0 || self.end <= BUFFER_SIZE / 2 || is_full {
             return Ok(());
         }
         self.drain(writer)
