@@ -19,7 +19,7 @@ use Rattle.fx_frame.proofs.Pieces.{length-pieces, pieces-front}
 use Rattle.fx_fir.specs.Fir.{FirArguments, centre, filtered_frame, filtered_sample}
 use Rattle.fx_fir.specs.FirState.{FirState, IsFir, fir_acts, fir_taps}
 use Rattle.fx_frame.specs.Lists.{tabulate}
-use Rattle.fx_transform.specs.Products.{sum_of_products}
+use Rattle.fx_sums.specs.Products.{sum_of_products}
 use Rattle.fx_frame.specs.Rounded.{clips_of, samples_of}
 use Rattle.fx_blocks.specs.Tapped.{IsNear, Taps, behind, clips_behind, frames_behind, last_of}
 use Rattle.fx_blocks.specs.Past.{sample_before}

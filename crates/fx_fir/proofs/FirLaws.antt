@@ -15,7 +15,7 @@ use Rattle.fx_sums.proofs.Counts.{flag-false, flag-le, flag-of, flag-true}
 use Rattle.fx_fir.specs.Fir.{FirArguments, centre, filtered_frame, filtered_at, filtered}
 use Rattle.fx_fir.specs.FirState.{AreFirCounts, FirState, IsFir, fir_behind, fir_tail, fir_acts, arguments_of}
 use Rattle.fx_frame.specs.Lists.{tabulate}
-use Rattle.fx_transform.specs.Products.{sum_of_products}
+use Rattle.fx_sums.specs.Products.{sum_of_products}
 use Rattle.fx_frame.specs.Rounded.{clips_of, given_of}
 use Rattle.fx_fixed.specs.Rounding.{rounding}
 use Rattle.fx_fixed.specs.declared.gains.TheConstants.{UNIT}

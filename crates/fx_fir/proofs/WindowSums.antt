@@ -11,7 +11,7 @@ use Rattle.fx_frame.specs.Line.{channel_of}
 use Rattle.fx_fir.specs.Fir.{samples_back, filtered_sample}
 use Rattle.fx_fir.specs.FirState.{samples_of_window}
 use Rattle.fx_frame.specs.Lists.{tabulate}
-use Rattle.fx_transform.specs.Products.{sum_of_products}
+use Rattle.fx_sums.specs.Products.{sum_of_products}
 use Rattle.fx_frame.proofs.Tabulate.{tabulate-append, tabulate-same, length-tabulate}
 
 -- one product more

@@ -8,7 +8,7 @@ use Rattle.fx_frame.specs.Stage.{Given, Kind}
 use Rattle.fx_blocks.specs.Past.{sample_before}
 use Rattle.fx_frame.specs.Lists.{tabulate}
 use Rattle.fx_blocks.specs.Kinds.{most_taken}
-use Rattle.fx_transform.specs.Products.{sum_of_products}
+use Rattle.fx_sums.specs.Products.{sum_of_products}
 use Rattle.fx_frame.specs.Rounded.{given_of}
 
 -- what a `Fir` is made with: its channels, and its coefficients in trillionths

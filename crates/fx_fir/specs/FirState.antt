@@ -10,7 +10,7 @@ use Rattle.fx_frame.specs.Stage.{Given, Acts}
 use Rattle.fx_blocks.specs.Tapped.{TailNumbers, Taps}
 use Rattle.fx_frame.specs.Lists.{tabulate}
 use Rattle.fx_blocks.specs.Kinds.{most_taken}
-use Rattle.fx_transform.specs.Products.{sum_of_products}
+use Rattle.fx_sums.specs.Products.{sum_of_products}
 use Rattle.fx_frame.specs.Rounded.{given_of}
 use Rattle.fx_fir.specs.Fir.{FirArguments, centre, filtered_at, filtered, fir_kind}
 

@@ -5,7 +5,7 @@ ghost use Rattle.fx_fir.specs.FirState.{samples_of_window};
 ghost use Rattle.fx_sums.specs.SmallWeights.{SumsAs};
 ghost use Rattle.fx_fir.specs.Split.{AddUpTo};
 ghost use Rattle.fx_frame.specs.Lists.{tabulate};
-ghost use Rattle.fx_transform.specs.Products.{sum_of_products};
+ghost use Rattle.fx_sums.specs.Products.{sum_of_products};
 ghost use Rattle.fx_frame.specs.Rounded.{clips_of};
 
 use crate::split::Split;

@@ -5,11 +5,11 @@ ghost use Rattle.fx_fixed.specs.declared.gains.TheConstants.{UNIT};
 ghost use Rattle.fx_frame.specs.Lists.{tabulate};
 ghost use Rattle.fx_frame.specs.Rounded.{clips_of};
 ghost use Rattle.fx_fir.specs.Split.{AddUpTo, joined};
-ghost use Rattle.fx_transform.specs.Products.{sum_of_products};
+ghost use Rattle.fx_sums.specs.Products.{sum_of_products};
 
 use crate::kernel::rounded;
 use fx_sums::inner::MOST_SUMS;
-use fx_transform::Spectrum;
+use fx_sums::transforms::Spectrum;
 use std::alloc::{AllocError, Global};
 use std::marker::Model;
 

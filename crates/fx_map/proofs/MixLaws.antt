@@ -19,7 +19,7 @@ use Rattle.fx_fixed.specs.declared.weights.Weight.{Weight}
 use Rattle.fx_sums.specs.Weights.{Weights}
 use Rattle.fx_frame.specs.Lists.{tabulate}
 use Rattle.fx_map.specs.Mix.{Copies, IsContribution, Means, Scales, all_parts, pair_of}
-use Rattle.fx_transform.specs.Products.{sum_of_products}
+use Rattle.fx_sums.specs.Products.{sum_of_products}
 use Rattle.fx_frame.specs.Rounded.{clips_of}
 use Rattle.fx_sums.specs.SmallWeights.{SumsAs}
 use Rattle.fx_sums.proofs.Convolving.{Adding, Adding-next}

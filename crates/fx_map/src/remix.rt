@@ -1,6 +1,6 @@
 //! The effect `remix` of sox(1): each channel is a sum of channels, each times a weight.
 ghost use Rattle.std.specs.Prelude.{◌≡◌, ◌<◌, ◌≤◌, ◌+◌, ◌*◌, ◌^◌, [], ℕ, pos, map, drop, length, slice_index_or, sum_by, unsigned_abs, Err, IfOk, MatchResult};
-ghost use Rattle.fx_transform.specs.Products.{sum_of_products};
+ghost use Rattle.fx_sums.specs.Products.{sum_of_products};
 ghost use Rattle.std.specs.List.{All};
 ghost use Rattle.fx_frame.specs.Stage.{Freezes, IsNew};
 ghost use Rattle.fx_frame.specs.Ring.{pieces};

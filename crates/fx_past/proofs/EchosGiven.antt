@@ -16,7 +16,7 @@ use Rattle.fx_past.specs.Echos.{decays}
 use Rattle.fx_past.specs.EchosState.{fed, frame_of_lines, gone_at, let_go, lines_after, or_silence, rows_after, through_lines}
 use Rattle.fx_frame.specs.Lists.{tabulate}
 use Rattle.fx_blocks.specs.Made.{rounded_given}
-use Rattle.fx_transform.specs.Products.{sum_of_products}
+use Rattle.fx_sums.specs.Products.{sum_of_products}
 use Rattle.fx_frame.specs.Rounded.{clips_of, samples_of}
 use Rattle.fx_past.proofs.EchosLaws.{length-after}
 use Rattle.fx_past.proofs.EchosPieces.{through-table}

@@ -14,7 +14,7 @@ use Rattle.fx_past.specs.Echo.{EchoArguments}
 use Rattle.fx_past.specs.Echos.{decays, echos, echos_frame, passed, sum_below, way}
 use Rattle.fx_past.specs.EchosState.{after_push, delay_at, fed, frame_of_lines, let_go, lines_after, or_silence, through_lines}
 use Rattle.fx_frame.specs.Lists.{tabulate}
-use Rattle.fx_transform.specs.Products.{sum_of_products}
+use Rattle.fx_sums.specs.Products.{sum_of_products}
 use Rattle.fx_frame.specs.Rounded.{given_of}
 use Rattle.fx_blocks.specs.Past.{Past, sample_before}
 use Rattle.fx_blocks.proofs.DelayLaws.{quiet-after}

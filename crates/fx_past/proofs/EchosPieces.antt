@@ -16,7 +16,7 @@ use Rattle.fx_frame.proofs.Pieces.{get_or-piece, length-pieces}
 use Rattle.fx_past.specs.Echo.{EchoArguments}
 use Rattle.fx_past.specs.EchosState.{after_push, fed, frame_of_lines, gone_at, let_go, line_at, lines_after, or_silence, rows_after, through_lines}
 use Rattle.fx_frame.specs.Lists.{tabulate}
-use Rattle.fx_transform.specs.Products.{sum_of_products}
+use Rattle.fx_sums.specs.Products.{sum_of_products}
 use Rattle.fx_blocks.proofs.SamplePieces.{pieces-sides}
 use Rattle.fx_past.proofs.EchosRow.{Small, small_of}
 use Rattle.fx_past.proofs.SumPieces.{flat-place}

@@ -16,7 +16,7 @@ use Rattle.fx_frame.proofs.Tabulate.{tabulate-same}
 use Rattle.fx_past.specs.Echos.{decays}
 use Rattle.fx_past.specs.EchosState.{IsRowLine, after_push, fed, frame_of_lines, let_go, line_at, lines_after, or_silence, up_to}
 use Rattle.fx_frame.specs.Lists.{tabulate}
-use Rattle.fx_transform.specs.Products.{sum_of_products}
+use Rattle.fx_sums.specs.Products.{sum_of_products}
 use borrow.Author.Tests.{ltb-true, ltb-false}
 use Rattle.fx_sums.proofs.Places.{quiet-sample}
 use Rattle.fx_sums.proofs.SumLaws.{added-few, scaled-few}

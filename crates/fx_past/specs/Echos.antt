@@ -9,7 +9,7 @@ use Rattle.fx_frame.specs.Frame.{Samples}
 use Rattle.fx_frame.specs.Stage.{Given, Kind}
 use Rattle.fx_past.specs.Echo.{EchoArguments}
 use Rattle.fx_frame.specs.Lists.{tabulate}
-use Rattle.fx_transform.specs.Products.{sum_of_products}
+use Rattle.fx_sums.specs.Products.{sum_of_products}
 use Rattle.fx_frame.specs.Rounded.{given_of}
 use Rattle.fx_blocks.specs.Past.{Past, sample_before}
 use Rattle.fx_blocks.specs.Kinds.{tap_kind}

@@ -12,7 +12,7 @@ use Rattle.fx_frame.specs.Stage.{Given, Acts}
 use Rattle.fx_past.specs.Echo.{EchoArguments, IsEcho}
 use Rattle.fx_frame.specs.Lists.{tabulate}
 use Rattle.fx_blocks.specs.Kinds.{most_taken}
-use Rattle.fx_transform.specs.Products.{sum_of_products}
+use Rattle.fx_sums.specs.Products.{sum_of_products}
 use Rattle.fx_frame.specs.Rounded.{given_of}
 use Rattle.fx_past.specs.Echos.{decays, echos, echos_kind}
 

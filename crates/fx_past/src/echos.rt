@@ -12,7 +12,7 @@ ghost use Rattle.fx_past.specs.Echos.{decays};
 ghost use Rattle.fx_past.specs.EchosState.{EchosState, IsEchoLine, IsEchos, IsRowLine, after_push, delay_at, echos_acts, fed, frame_of_lines, frames_of, gone_at, let_go, line_at, lines_after, or_silence, rows_after, through_lines};
 ghost use Rattle.fx_sums.specs.Weights.{AreSmall};
 ghost use Rattle.fx_past.specs.EchoWeights.{Suits};
-ghost use Rattle.fx_transform.specs.Products.{sum_of_products};
+ghost use Rattle.fx_sums.specs.Products.{sum_of_products};
 
 use crate::echo::{SAMPLES_OF_PIECE, copied, frames_of_piece};
 use crate::rows::thawed_row_and_hand;

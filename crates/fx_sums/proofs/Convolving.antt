@@ -9,7 +9,7 @@ use Rattle.std.proofs.lemmas.List.{drop_more, drop_all, get_or-drop, get_or-appe
 use Rattle.std.proofs.lemmas.List.Sums.{sum_by-cons}
 use Rattle.std.proofs.lemmas.Simd.{Each1-from_get_or, Each1-get_or, Each1-replicate, get_or-zip2, get_or-chunk, length-zip2, put_chunk_is}
 use Rattle.fx_sums.specs.Lanes.{LanesWithin, Within}
-use Rattle.fx_transform.specs.Products.{sum_of_products}
+use Rattle.fx_sums.specs.Products.{sum_of_products}
 use Rattle.fx_sums.proofs.ProductBounds.{sum_of_products-drop}
 use Rattle.fx_sums.proofs.SumLaws.{added-few, scaled-few}
 

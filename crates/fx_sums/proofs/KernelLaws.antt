@@ -9,7 +9,7 @@ use Rattle.fx_fixed.specs.Rounding.{rounding}
 use Rattle.fx_fixed.proofs.Reductions.{rounding-reduced}
 use Rattle.fx_sums.specs.Weights.{Weights}
 use Rattle.fx_sums.specs.SmallWeights.{SumsAs}
-use Rattle.fx_transform.specs.Products.{sum_of_products}
+use Rattle.fx_sums.specs.Products.{sum_of_products}
 use Rattle.fx_sums.proofs.SignedProducts.{below-positive, one-times, mul-add, mul_assoc}
 
 turned : (x y : ℤ) → x *ℤ y ≡ y *ℤ x

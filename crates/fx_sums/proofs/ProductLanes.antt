@@ -6,7 +6,7 @@ use Rattle.std.proofs.lemmas.Int.{ints, to_z-of_z, unsigned_abs-mul, fits_signed
 use Rattle.std.proofs.lemmas.List.{drop_more}
 use Rattle.std.proofs.lemmas.Nat.{mul-le}
 use Rattle.std.proofs.lemmas.Simd.{Each1-get_or, length-zip2}
-use Rattle.fx_transform.specs.Products.{sum_of_products}
+use Rattle.fx_sums.specs.Products.{sum_of_products}
 use Rattle.fx_sums.specs.Lanes.{LanesWithin, Within, joined, joined_lanes, lane_sum}
 use Rattle.fx_sums.proofs.SignedProducts.{mul-add, mul_assoc}
 use borrow.Rule.Simd.Lanes.{act2, Asks2}

@@ -1,7 +1,7 @@
 //! Sums of products of samples and small weights, in 64 bits, sixteen sums side by side.
 ghost use Rattle.std.specs.Prelude.{◌≡◌, ◌<◌, ◌≤◌, ◌+◌, ◌^◌, ℕ, pos, ◌+ℤ◌, ◌*ℤ◌, drop, length, slice_index_or, sum_by, unsigned_abs};
 ghost use Rattle.fx_sums.specs.Lanes.{LanesWithin};
-ghost use Rattle.fx_transform.specs.Products.{sum_of_products};
+ghost use Rattle.fx_sums.specs.Products.{sum_of_products};
 
 use crate::products::load;
 use std::simd::prelude::*;

@@ -1,4 +1,4 @@
-//! Sums of samples times weights, which know of no frames.
+//! Sums of samples times weights, one by one and by transforms; they know of no frames.
 #![tactic(auto)]
 
 mod convolve;
@@ -7,6 +7,7 @@ mod products;
 mod reduced;
 pub mod small;
 mod sums;
+pub mod transforms;
 pub mod weights;
 
 pub use products::dot;

@@ -2,7 +2,7 @@
 //! that its products with samples are one instruction for two lanes, and lanes of 64 bits add 256 of them without loss.
 ghost use Rattle.std.specs.Prelude.{◌≡◌, ◌+◌, ◌*◌, ◌^◌, ◌≤◌, length, pos, neg_ℤ, ◌*ℤ◌, ◌+ℤ◌, ◌≤ℤ◌, unsigned_abs, All, drop};
 ghost use Rattle.std.specs.Simd.Lanes.{chunk};
-ghost use Rattle.fx_transform.specs.Products.{sum_of_products};
+ghost use Rattle.fx_sums.specs.Products.{sum_of_products};
 ghost use Rattle.fx_sums.specs.Lanes.{LanesWithin, Within, joined, joined_lanes, lane_sum};
 
 use std::simd::prelude::*;

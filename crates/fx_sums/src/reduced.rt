@@ -2,12 +2,12 @@
 ghost use Rattle.std.specs.Prelude.{◌≡◌, ◌<◌, ◌≤◌, ◌+◌, ◌^◌, ℕ, pos, drop, length, slice_index_or, unsigned_abs, IfOk, IfSome};
 ghost use Rattle.fx_fixed.specs.Rounding.{rounding};
 ghost use Rattle.fx_sums.specs.SmallWeights.{SumsAs};
-ghost use Rattle.fx_transform.specs.Products.{sum_of_products};
+ghost use Rattle.fx_sums.specs.Products.{sum_of_products};
 
 use crate::convolve::{convolve, small_dot};
 use crate::small::{Small, small_of};
+use crate::transforms::Spectrum;
 use fx_fixed::inner::Denominator;
-use fx_transform::Spectrum;
 use std::alloc::{AllocError, Global};
 use std::marker::Model;
 

@@ -5,7 +5,7 @@ use crate::files::cannot_open;
 use crate::host::Host;
 use fx_frame::ByteOut;
 use soxchain::inner::Telling;
-use soxchain_about::show;
+use soxchain_words::show;
 
 /// The answer to `--help`.
 pub const HELP: &str = "usage: soxchain [-D] [-t wav|au] IN [-D] [-t wav|au] [-b 8|16|24|32] OUT

@@ -1,7 +1,7 @@
 //! The program soxchain: from a file or standard input to a file or standard output, messages on standard error.
 #![tactic(auto)]
 
-ghost use Rattle.soxchain_about.specs.About.{answer_of};
+ghost use Rattle.soxchain_words.specs.About.{answer_of};
 ghost use Rattle.soxchain_cli.specs.Working.{Answers, Works};
 
 mod files;
@@ -15,8 +15,7 @@ use fx_plan::{CommandLine, LineFault, parse_line};
 use help::{HELP, tell_answer};
 use host::Host;
 use soxchain::inner::{Telling, refuse_line};
-use soxchain_about::{VERSION, answer_to};
-use soxchain_words::{FilesFault, fault_of, read_files};
+use soxchain_words::{FilesFault, VERSION, answer_to, fault_of, read_files};
 use std::process::ExitCode;
 
 /// Does what a line asks for, and answers the status.

@@ -1,1 +1,2 @@
+pub mod About
 pub mod Files

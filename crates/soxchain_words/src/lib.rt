@@ -1,8 +1,11 @@
-//! What both programs take in: the words behind the program's name, and the coefficient files that these name.
+//! What both programs share: the words behind the program's name, the coefficient files that these name, and what the programs
+//! say of themselves.
 #![tactic(auto)]
 
+mod about;
 mod files;
 mod words;
 
+pub use about::{VERSION, answer_to, show};
 pub use files::{FilesFault, Openings, read_files};
 pub use words::{fault_of, words_of};

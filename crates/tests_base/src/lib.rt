@@ -1,4 +1,4 @@
-//! The worked rows of fx_fixed, fx_frame, fx_line, fx_plan, fx_sound and fx_transform. They stand in a crate of their own, so
+//! The worked rows of fx_fixed, fx_frame, fx_line, fx_plan, fx_sound and fx_sums. They stand in a crate of their own, so
 //! that those crates are not proved once more for them.
 #![tactic(auto)]
 

@@ -1,5 +1,5 @@
 //! Sums by transforms beside plain sums.
-use fx_transform::Spectrum;
+use fx_sums::transforms::Spectrum;
 use std::alloc::{AllocError, Global};
 
 /// Numbers of 32 bits that look random, from a place on.

@@ -8,7 +8,7 @@ use Rattle.fx_frame.specs.Ring.{pieces}
 use Rattle.fx_frame.proofs.Pieces.{length-pieces}
 use Rattle.fx_fir.specs.Fir.{FirArguments, filtered_sample}
 use Rattle.fx_frame.specs.Lists.{tabulate}
-use Rattle.fx_transform.specs.Products.{sum_of_products}
+use Rattle.fx_sums.specs.Products.{sum_of_products}
 use Rattle.fx_frame.specs.Rounded.{clips_of}
 use Rattle.fx_blocks.proofs.Tables.{all_clips-more, all_clips-none}
 use Rattle.fx_fir.proofs.FirBlocks.{block-clips, block-frames, filtered-window}

@@ -8,7 +8,7 @@ use Rattle.fx_frame.specs.Ring.{pieces}
 use Rattle.fx_frame.proofs.ManyFrames.{pieces-replicate}
 use Rattle.fx_frame.proofs.Pieces.{get_or-piece, length-pieces}
 use Rattle.fx_past.specs.EchosState.{line_at}
-use Rattle.fx_transform.specs.Products.{sum_of_products}
+use Rattle.fx_sums.specs.Products.{sum_of_products}
 use Rattle.fx_sums.proofs.Places.{quiet-part, any-default}
 use Rattle.fx_past.proofs.EchoLaws.{echo-first}
 use Rattle.fx_past.proofs.EchoWeights.{held-weight}

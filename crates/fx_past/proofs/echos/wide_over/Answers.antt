@@ -7,7 +7,7 @@ use Rattle.fx_frame.specs.Stage.{Given}
 use Rattle.fx_past.specs.Echo.{EchoArguments}
 use Rattle.fx_past.specs.Echos.{decays}
 use Rattle.fx_past.specs.EchosState.{let_go}
-use Rattle.fx_transform.specs.Products.{sum_of_products}
+use Rattle.fx_sums.specs.Products.{sum_of_products}
 use Rattle.fx_sums.proofs.Places.{quiet-sample}
 use Rattle.fx_past.proofs.EchosRow.{echoed-is, small-frame}
 use Rattle.fx_past.proofs.echos.wide_over.Goals as goal

@@ -1,6 +1,6 @@
 use Rattle.std.proofs.Common.{◌≡◌, ◌<◌, ◌≤◌, ◌-◌, ◌^◌, ℕ, pos, drop, length, slice_index_or}
 use Rattle.std.specs.Prelude.{unsigned_abs}
-use Rattle.fx_transform.specs.Products.{sum_of_products}
+use Rattle.fx_sums.specs.Products.{sum_of_products}
 use Rattle.fx_sums.proofs.convolve.convolve.Given as goal
 
 abbrev pub invariant-groups : goal.invariant-groups

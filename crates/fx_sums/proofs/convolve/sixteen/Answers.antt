@@ -1,6 +1,6 @@
 use Rattle.std.proofs.Common.{rules, ◌≡◌, ◌+◌, ◌<◌, ◌≤◌, ◌^◌, ℕ, ℤ, pos, ◌+ℤ◌, ◌*ℤ◌, drop, arith, slice_index_or, refl, to_z, of_z, w32, w64}
 use Rattle.std.specs.Prelude.{map, unsigned_abs}
-use Rattle.fx_transform.specs.Products.{sum_of_products}
+use Rattle.fx_sums.specs.Products.{sum_of_products}
 use Rattle.fx_sums.proofs.Convolving.{Adding-few, AddingLanes-last, AddingLanes-next, AddingLanes-within, placed-more}
 use Rattle.fx_sums.proofs.ProductLanes.{lanes_back}
 use Rattle.fx_sums.proofs.convolve.sixteen.Goals as goal

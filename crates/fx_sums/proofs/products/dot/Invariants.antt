@@ -1,5 +1,5 @@
 use Rattle.std.proofs.Common.{◌≡◌, ◌*◌, ◌^◌, ◌-◌, ◌≤◌, length, drop, pos, neg_ℤ, ◌+ℤ◌, ◌≤ℤ◌}
-use Rattle.fx_transform.specs.Products.{sum_of_products}
+use Rattle.fx_sums.specs.Products.{sum_of_products}
 use Rattle.fx_sums.proofs.products.dot.Given as goal
 
 abbrev pub invariant-loop-at : goal.invariant-loop-at

@@ -2,7 +2,7 @@ use Rattle.std.proofs.Common.{arith, sym, ◌∙◌, refl, ◌≡◌, ◌≤◌,
 use Rattle.std.specs.Prelude.{map}
 use Rattle.std.specs.Simd.Lanes.{chunk}
 use Rattle.fx_sums.specs.Lanes.{joined, lane_sum}
-use Rattle.fx_transform.specs.Products.{sum_of_products}
+use Rattle.fx_sums.specs.Products.{sum_of_products}
 use Rattle.fx_sums.proofs.products.short_dot.Goals as goal
 use Rattle.fx_sums.proofs.ProductLanes.{block_added, lanes_back, sum_of_products-block, sum_of_products-joined}
 

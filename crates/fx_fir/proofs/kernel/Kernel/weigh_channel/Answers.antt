@@ -2,7 +2,7 @@ use Rattle.std.proofs.Common.{pos, rules, ◌≡◌, ◌+◌, ◌-◌, ◌<◌, 
 use Rattle.std.proofs.Math.Nat.{suc-mul}
 use Rattle.fx_fixed.specs.Rounding.{rounding}
 use Rattle.fx_fixed.specs.declared.gains.TheConstants.{UNIT}
-use Rattle.fx_transform.specs.Products.{sum_of_products}
+use Rattle.fx_sums.specs.Products.{sum_of_products}
 use Rattle.fx_frame.proofs.ChannelPlaces.{others-stay, put-more, within-frames}
 use Rattle.fx_sums.proofs.KernelLaws.{taken-products}
 use Rattle.fx_blocks.proofs.Rounds.{clips_of-next, byte_is, byte-le}

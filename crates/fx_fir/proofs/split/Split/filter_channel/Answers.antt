@@ -3,7 +3,7 @@ use Rattle.fx_fixed.specs.Rounding.{rounding}
 use Rattle.fx_fixed.specs.declared.gains.TheConstants.{UNIT}
 use Rattle.fx_frame.specs.Rounded.{clips_of}
 use Rattle.fx_fir.specs.Split.{joined}
-use Rattle.fx_transform.specs.Products.{sum_of_products}
+use Rattle.fx_sums.specs.Products.{sum_of_products}
 use Rattle.fx_frame.proofs.Tabulate.{tabulate-same}
 use Rattle.fx_fir.proofs.split.Split.filter_channel.Goals as goal
 

@@ -1,7 +1,7 @@
 use Rattle.std.proofs.Common.{rules, ◌≡◌, ◌+◌, ◌-◌, ◌≤◌, ◌^◌, ◌∙◌, ap, List, ℤ, ℕ, length, drop, arith, to_z, of_z, w64}
 use Rattle.std.specs.Prelude.{sum_by, unsigned_abs}
 use Rattle.fx_fixed.specs.Rounding.{rounding}
-use Rattle.fx_transform.specs.Products.{sum_of_products}
+use Rattle.fx_sums.specs.Products.{sum_of_products}
 use Rattle.fx_sums.proofs.KernelLaws.{part-few, sum_of_products-take}
 use Rattle.fx_sums.proofs.reduced.Reduced.weigh.Goals as goal
 

@@ -1,4 +1,0 @@
-pub mod Products
-pub mod Residues
-pub mod Transform
-pub mod Prepared
