@@ -6,9 +6,9 @@ use Rattle.fx_flow.specs.Parts.{most_of, work}
 use Rattle.fx_flow.specs.Sound.{IsPlanned}
 use Rattle.fx_frame.specs.Holds.{hold_sum, kinds, line_sum, recipes, total}
 use Rattle.fx_frame.specs.Stage.{Kind}
-use Rattle.fx_plan.specs.Bounds.{hold_all, is_too_long, line_of, work_of}
-use Rattle.fx_plan.specs.Effects.{Act, Usable}
-use Rattle.fx_plan.proofs.Lasting.{work-bound}
+use Rattle.fx_effects.specs.Bounds.{hold_all, is_too_long, work_of}
+use Rattle.fx_effects.specs.Effects.{line_of, Act, Usable}
+use Rattle.fx_effects.proofs.Lasting.{work-bound}
 use Rattle.fx_stages.specs.declared.stage.EffectStage.{EffectStage}
 use Rattle.fx_stages.specs.Effects.{kind_of_recipe}
 use Rattle.fx_stages.specs.Stages.{effect_acts}

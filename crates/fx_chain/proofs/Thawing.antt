@@ -4,8 +4,8 @@ use Rattle.fx_chain.specs.Chain.{ChainParts, IsChain, planned}
 use Rattle.fx_flow.specs.Frozen.{AllMade}
 use Rattle.fx_flow.specs.Parts.{Parts}
 use Rattle.fx_frame.specs.Holds.{recipes}
-use Rattle.fx_plan.specs.Bounds.{is_too_long}
-use Rattle.fx_plan.specs.Effects.{Act}
+use Rattle.fx_effects.specs.Bounds.{is_too_long}
+use Rattle.fx_effects.specs.Effects.{Act}
 use Rattle.fx_plan.specs.Planning.{Planning}
 use Rattle.fx_stages.specs.declared.stage.EffectStage.{EffectStage}
 use Rattle.fx_stages.specs.declared.thaw.EffectArguments.{EffectArguments}

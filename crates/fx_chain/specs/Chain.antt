@@ -6,7 +6,7 @@ use Rattle.fx_flow.specs.Composed.{Whole, composed, composed_wholes}
 use Rattle.fx_flow.specs.Steps.{IsHungry, rest_of, wholes_of}
 use Rattle.fx_frame.specs.Frame.{Samples}
 use Rattle.fx_frame.specs.Holds.{recipes}
-use Rattle.fx_plan.specs.Bounds.{is_too_long}
+use Rattle.fx_effects.specs.Bounds.{is_too_long}
 use Rattle.fx_plan.specs.Planning.{Planning}
 use Rattle.fx_stages.specs.declared.stage.EffectStage.{EffectStage}
 use Rattle.fx_stages.specs.Effects.{EffectRecipe, meaning_of_recipe}

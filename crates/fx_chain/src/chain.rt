@@ -10,7 +10,8 @@ ghost use Rattle.fx_flow.specs.Sound.{most_frames};
 ghost use Rattle.fx_flow.specs.Steps.{IsDone, IsHungry, MovedOn, StateIs, Steps, rest_of, wholes_of};
 ghost use Rattle.fx_frame.specs.Frame.{Samples};
 ghost use Rattle.fx_frame.specs.Holds.{capacity_sum, held_sum, kinds, total};
-ghost use Rattle.fx_plan.specs.Bounds.{hold_all, line_of, work_of};
+ghost use Rattle.fx_effects.specs.Bounds.{hold_all, work_of};
+ghost use Rattle.fx_effects.specs.Effects.{line_of};
 ghost use Rattle.fx_plan.specs.Planning.{planning};
 ghost use Rattle.fx_stages.specs.Stages.{effect_acts};
 

@@ -4,7 +4,7 @@ ghost use Rattle.std.specs.List.{All};
 ghost use Rattle.fx_chain.specs.Chain.{ChainParts};
 ghost use Rattle.fx_chain.specs.Snapshot.{IsSnapshotOf, IsSoundChain};
 ghost use Rattle.fx_frame.specs.Holds.{held_sum};
-ghost use Rattle.fx_plan.specs.Bounds.{hold_all};
+ghost use Rattle.fx_effects.specs.Bounds.{hold_all};
 ghost use Rattle.fx_plan.specs.Planning.{planning};
 ghost use Rattle.fx_stages.specs.Stages.{effect_acts};
 ghost use Rattle.fx_stages.specs.Narrow.{AreNarrow, IsNarrow};

@@ -29,17 +29,17 @@ use Rattle.fx_sound.specs.declared.head.Head.{Head}
 use Rattle.fx_sound.specs.contracts.head.HeadPartialEq.TheImpl as head_eq
 use Rattle.fx_cut.specs.declared.fade.words.Fading.{Fading}
 use Rattle.fx_cut.specs.contracts.fade.words.FadingPartialEq.TheImpl as fading_eq
-use Rattle.fx_plan.specs.declared.effect.Layout.{Layout}
-use Rattle.fx_plan.specs.contracts.effect.LayoutPartialEq.TheImpl as layout_eq
+use Rattle.fx_effects.specs.declared.effect.Layout.{Layout}
+use Rattle.fx_effects.specs.contracts.effect.LayoutPartialEq.TheImpl as layout_eq
 use Rattle.fx_past.specs.declared.echo.words.Echoing.{Echoing}
 use Rattle.fx_past.specs.contracts.echo.words.EchoingPartialEq.TheImpl as echoing_eq
 use Rattle.fx_past.specs.EchoWords.{echo_value}
-use Rattle.fx_plan.specs.declared.effect.Effect.{Effect}
-use Rattle.fx_plan.specs.declared.effect.Effect.TheVariants as effects
-use Rattle.fx_plan.specs.contracts.effect.Effect as effect
-use Rattle.fx_plan.specs.contracts.effect.EffectPartialEq.TheImpl as effect_eq
-use Rattle.fx_plan.specs.Effects.{Act, act}
-use Rattle.fx_plan.specs.Effects.Act.{OfTrim, OfPad, OfDelay, OfEcho, OfEchos, OfFade, OfVol, OfDcShift, OfFir, OfRemix, OfUpsample, OfDownsample}
+use Rattle.fx_effects.specs.declared.effect.Effect.{Effect}
+use Rattle.fx_effects.specs.declared.effect.Effect.TheVariants as effects
+use Rattle.fx_effects.specs.contracts.effect.Effect as effect
+use Rattle.fx_effects.specs.contracts.effect.EffectPartialEq.TheImpl as effect_eq
+use Rattle.fx_effects.specs.Effects.{Act, act}
+use Rattle.fx_effects.specs.Effects.Act.{OfTrim, OfPad, OfDelay, OfEcho, OfEchos, OfFade, OfVol, OfDcShift, OfFir, OfRemix, OfUpsample, OfDownsample}
 use Rattle.fx_plan.specs.declared.accepted.Plan.{Plan}
 use Rattle.fx_plan.specs.Equality.{same_parts}
 use Rattle.fx_plan.specs.Planning.{planning}

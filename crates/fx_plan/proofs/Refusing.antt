@@ -1,13 +1,14 @@
 -- The first of all faults, and what the effects behind one are.
 use Rattle.std.proofs.Common.{◌≡◌, ℕ, ◌+◌, inl, inr, List, [], ◌∷◌, ◌++◌, map, Some, refl, ap, sym, ◌∙◌, ◌≤◌, arith, nat_lt, Bool, ◌&&◌, false, true}
 use Rattle.std.proofs.lemmas.Bool.Decides.{nat_tests}
-use Rattle.fx_plan.specs.declared.effect.Layout.{Layout}
+use Rattle.fx_effects.specs.declared.effect.Layout.{Layout}
 use Rattle.fx_words.specs.declared.fault.Mark.{Mark}
 use Rattle.fx_plan.specs.declared.fault.PlanFault.{PlanFault}
 use Rattle.fx_words.specs.declared.fault.Refusal.{Refusal}
 use Rattle.fx_words.specs.declared.fault.Refusal.TheVariants as refusals
 use Rattle.fx_words.specs.Faults.{Word, Refuses, first_of}
-use Rattle.fx_plan.specs.Effects.{Act, all_fit, effect_faults, fits_layout, layout_after, layout_behind}
+use Rattle.fx_effects.specs.Effects.{Act, all_fit, fits_layout, layout_after, layout_behind}
+use Rattle.fx_plan.specs.Names.{effect_faults}
 use Rattle.fx_plan.specs.Plans.{RefusesPlan, acts_of, at_effect, done, effects_faults, fault_of, files_after, last_layout, next_file, step_faults}
 
 -- a refusal of an effect's words refuses the plan

@@ -1,6 +1,4 @@
-pub mod Bounds
 pub mod CommandLines
-pub mod Effects
 pub mod Equality
 pub mod Groups
 pub mod Names

@@ -1,10 +1,26 @@
--- The names of effects: those of this project's profile, and those of sox(1), EFFECTS, that are left out.
-use Rattle.std.specs.Prelude.{Bool, true, false, not, ◌||◌, if◌then◌else◌, List, [], ◌∷◌, codes}
+-- The names of effects: those of this project's profile, and those of sox(1), EFFECTS, that are left out; and what the words
+-- behind a name say.
+use Rattle.std.specs.Prelude.{ℕ, Bool, true, false, not, ◌||◌, if◌then◌else◌, List, [], ◌∷◌, codes, Option, Some, None}
 use Rattle.std.specs.Str.{bytes_eq}
 use Rattle.std.specs.List.{list_any}
 use Rattle.fx_plan.specs.declared.name.Name.{Name}
 use Rattle.fx_plan.specs.declared.name.Name.TheVariants as names
-use Rattle.fx_words.specs.Faults.{Word}
+use Rattle.fx_words.specs.declared.fault.Mark.{Mark}
+use Rattle.fx_words.specs.declared.fault.PlanCause.TheVariants.{UnknownEffect, NotInProfile, NeedsWholeSound}
+use Rattle.fx_words.specs.Faults.{Word, mark}
+use Rattle.fx_words.specs.Numbers.{beginning}
+use Rattle.fx_cut.specs.TrimWords.{trim_faults, places}
+use Rattle.fx_cut.specs.PadWords.{pad_faults, lengths}
+use Rattle.fx_past.specs.DelayWords.{delay_faults, delays}
+use Rattle.fx_past.specs.EchoWords.{echo_faults, echoing}
+use Rattle.fx_cut.specs.FadeWords.{fade_faults, fading}
+use Rattle.fx_map.specs.VolWords.{vol_faults, vol_gain}
+use Rattle.fx_map.specs.DcShiftWords.{shift_faults, shift_gain}
+use Rattle.fx_fir.specs.FirWords.{fir_faults, coefficients}
+use Rattle.fx_map.specs.RemixWords.{remix_faults, remixed}
+use Rattle.fx_cut.specs.FactorWords.{upsample_faults, downsample_faults, factor_of, usable}
+use Rattle.fx_effects.specs.Effects.{Act, OfTrim, OfPad, OfDelay, OfEcho, OfEchos, OfFade, OfVol, OfDcShift, OfFir, OfRemix, OfUpsample, OfDownsample}
+use Rattle.fx_effects.specs.declared.effect.Layout.{Layout}
 
 -- effects that can begin only once all of the sound is there
 unfoldable pub whole_sound : List Word
@@ -61,3 +77,46 @@ is_other name = false
 
 abbrev pub is_name : Word → Bool
 is_name word = not (is_other (name_of word))
+
+-- the faults of the words behind a name; a refused name is the first fault
+abbrev pub named_faults : Name → Layout → List ℕ → List Word → List Mark
+named_faults names.Trim layout file words = trim_faults layout.rate words
+named_faults names.Pad layout file words = pad_faults layout.rate words
+named_faults names.Delay layout file words = delay_faults layout.rate layout.channels words
+named_faults names.Echo layout file words = echo_faults layout.rate words
+named_faults names.Echos layout file words = echo_faults layout.rate words
+named_faults names.Fade layout file words = fade_faults layout.rate words
+named_faults names.Vol layout file words = vol_faults words
+named_faults names.DcShift layout file words = shift_faults words
+named_faults names.Fir layout file words = fir_faults file words
+named_faults names.Remix layout file words = remix_faults layout.channels words
+named_faults names.Upsample layout file words = upsample_faults layout.rate words
+named_faults names.Downsample layout file words = downsample_faults layout.rate words
+named_faults names.WholeSound layout file words = mark NeedsWholeSound 1 ∷ []
+named_faults names.LeftOut layout file words = mark NotInProfile 1 ∷ []
+named_faults names.Other layout file words = mark UnknownEffect 1 ∷ []
+
+-- what the effect of a name does with these words
+abbrev pub named_act : Name → Layout → List ℕ → List Word → Option Act
+named_act names.Trim layout file words = Some (OfTrim (places layout.rate beginning words))
+named_act names.Pad layout file words = Some (OfPad (lengths layout.rate 2 beginning words))
+named_act names.Delay layout file words = Some (OfDelay (delays layout.rate 0 words))
+named_act names.Echo layout file words = Some (OfEcho (echoing layout.rate words))
+named_act names.Echos layout file words = Some (OfEchos (echoing layout.rate words))
+named_act names.Fade layout file words = Some (OfFade (fading layout.rate words))
+named_act names.Vol layout file words = Some (OfVol (vol_gain words))
+named_act names.DcShift layout file words = Some (OfDcShift (shift_gain words))
+named_act names.Fir layout file words = Some (OfFir (coefficients file words))
+named_act names.Remix layout file words = Some (OfRemix (remixed layout.channels words))
+named_act names.Upsample layout file words = Some (OfUpsample (usable (factor_of words)))
+named_act names.Downsample layout file words = Some (OfDownsample (usable (factor_of words)))
+named_act name layout file words = None
+
+-- the same of an effect's words, its name being the first
+abbrev pub effect_faults : Layout → List ℕ → List Word → List Mark
+effect_faults layout file [] = []
+effect_faults layout file (name ∷ words) = named_faults (name_of name) layout file words
+
+abbrev pub effect_act : Layout → List ℕ → List Word → Option Act
+effect_act layout file [] = None
+effect_act layout file (name ∷ words) = named_act (name_of name) layout file words

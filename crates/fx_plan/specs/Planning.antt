@@ -5,11 +5,11 @@ use Rattle.fx_line.specs.Bits.{bits_in, coding_with}
 use Rattle.fx_line.specs.declared.bits.Bits.{Bits}
 use Rattle.fx_sound.specs.declared.head.Head.{Head}
 use Rattle.fx_sound.specs.declared.head.Kind.{Kind}
-use Rattle.fx_plan.specs.declared.effect.Layout.{Layout}
+use Rattle.fx_effects.specs.declared.effect.Layout.{Layout}
 use Rattle.fx_plan.specs.declared.accepted.Plan.{Plan}
-use Rattle.fx_plan.specs.Effects.{Act, act, head_layout}
+use Rattle.fx_effects.specs.Effects.{Act, act}
+use Rattle.fx_plan.specs.Plans.{head_layout, acts_of, last_layout}
 use Rattle.fx_words.specs.Faults.{Word}
-use Rattle.fx_plan.specs.Plans.{acts_of, last_layout}
 
 -- a plan's parts: the input's head; the output's container, coding and whether it is a file; what the effects do, and
 -- the layout behind them

@@ -1,7 +1,8 @@
 -- The plan that the effects' words make behind a head, or the first of all its faults (this project's profile).
 use Rattle.std.specs.Prelude.{ℕ, ◌+◌, ◌≡◌, ◌^◌, ◌⊎◌, nat_lt, nat_eq, Bool, true, false, not, ◌&&◌, if◌then◌else◌, List, [], ◌∷◌, ◌++◌, codes, length, map, drop, Vec, Option, Some, None, Result, Ok, Err}
 use Rattle.std.specs.Str.{bytes_eq}
-use Rattle.fx_plan.specs.declared.effect.Layout.{Layout}
+use Rattle.fx_effects.specs.declared.effect.Layout.{Layout}
+use Rattle.fx_sound.specs.declared.head.Head.{Head}
 use Rattle.fx_words.specs.declared.fault.Mark.{Mark}
 use Rattle.fx_words.specs.declared.fault.PlanCause.{PlanCause}
 use Rattle.fx_words.specs.declared.fault.PlanCause.TheVariants.{TooManyEffects, HoldTooLarge, TooLong, Memory}
@@ -12,9 +13,13 @@ use Rattle.fx_plan.specs.declared.name.Name.{Name}
 use Rattle.fx_plan.specs.declared.name.Name.TheVariants as names
 use Rattle.fx_plan.specs.declared.planned.Planned.{Planned}
 use Rattle.fx_words.specs.Faults.{Word, when, first_of}
-use Rattle.fx_plan.specs.Names.{name_of}
-use Rattle.fx_plan.specs.Effects.{Act, act, effect_faults, effect_act, layout_after}
-use Rattle.fx_plan.specs.Bounds.{hold_all, is_too_long}
+use Rattle.fx_effects.specs.Effects.{Act, act, layout_after}
+use Rattle.fx_plan.specs.Names.{effect_act, effect_faults, name_of}
+use Rattle.fx_effects.specs.Bounds.{hold_all, is_too_long}
+
+-- the layout of the input
+abbrev pub head_layout : Head → Layout
+head_layout head = record { rate = head.rate; channels = head.channels }
 
 abbrev pub fault : PlanCause → ℕ → ℕ → PlanFault
 fault cause effect word = record { cause = cause; effect = effect; word = word }

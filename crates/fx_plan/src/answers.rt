@@ -2,19 +2,18 @@
 
 ghost use Rattle.std.specs.Prelude.{◌≡◌, ℕ, ◌<◌, ◌≤◌, ◌-◌, ◌*◌, ◌^◌, IfOk, IsTrue, Some, false, length, map, slice_get, true};
 ghost use Rattle.fx_sound.specs.Kind.{is_coding_of};
-ghost use Rattle.fx_plan.specs.Bounds.{hold_all, hold_of, is_too_long, work_of};
+ghost use Rattle.fx_effects.specs.Bounds.{hold_all, hold_of, is_too_long, work_of};
 ghost use Rattle.std.specs.List.{All};
-ghost use Rattle.fx_plan.specs.Effects.{IsLayout, Usable, act, all_fit, head_layout, name_text};
+ghost use Rattle.fx_effects.specs.Effects.{IsLayout, Usable, act, all_fit, name_text};
+ghost use Rattle.fx_plan.specs.Plans.{head_layout, PlanReads, all_faults, bytes_of};
 ghost use Rattle.fx_words.specs.Faults.{texts};
 ghost use Rattle.fx_plan.specs.Groups.{effects_of};
 ghost use Rattle.fx_plan.specs.Planning.{planning, planning_of};
-ghost use Rattle.fx_plan.specs.Plans.{PlanReads, all_faults, bytes_of};
 
 use crate::accepted::Plan;
-use crate::bounds::{hold, work};
-use crate::effect::{Effect, Layout};
 use crate::fault::PlanFault;
 use crate::planned::{copy_effects, read_plan};
+use fx_effects::{Effect, Layout, hold, work};
 use fx_frame::Coding;
 use fx_line::Bits;
 use fx_sound::{Head, Kind};

@@ -3,10 +3,9 @@
 ghost use Rattle.std.specs.Prelude.{◌≡◌, ◌≤◌, ◌-◌, IfOk, Some, is_some, length, map, slice_get, string_bytes};
 ghost use Rattle.fx_line.specs.Line.{line_of, shown};
 ghost use Rattle.fx_plan.specs.CommandLines.{LineReads, coefficient_files, effect_words, effects_in, file_name, name_in, planning_in};
-ghost use Rattle.fx_plan.specs.Effects.{head_layout};
+ghost use Rattle.fx_plan.specs.Plans.{head_layout, PlanReads, all_faults, bytes_of};
 ghost use Rattle.fx_words.specs.Faults.{texts};
 ghost use Rattle.fx_plan.specs.Planning.{planning};
-ghost use Rattle.fx_plan.specs.Plans.{PlanReads, all_faults, bytes_of};
 
 use crate::accepted::Plan;
 use crate::answers::plan_words;

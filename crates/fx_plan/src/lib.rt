@@ -3,13 +3,10 @@
 
 mod accepted;
 mod answers;
-mod bounds;
 mod command_line;
-mod effect;
 mod equality;
 mod fault;
 mod groups;
-pub mod inner;
 mod listing;
 mod name;
 mod planned;

@@ -1,9 +1,25 @@
-//! The names of effects.
+//! The names of effects, and an effect read from its name and the words behind it.
 
-ghost use Rattle.std.specs.Prelude.{◌≡◌};
+ghost use Rattle.std.specs.Prelude.{◌≡◌, IfOk, Some, true, ◌∷◌, string_bytes};
 ghost use Rattle.std.specs.List.{list_any};
 ghost use Rattle.std.specs.Str.{bytes_eq};
-ghost use Rattle.fx_plan.specs.Names.{filters, is_one_of, name_of, others, whole_sound};
+ghost use Rattle.fx_words.specs.Faults.{Reads, texts};
+ghost use Rattle.fx_effects.specs.Effects.{Fits, IsLayout, Usable, fits_layout, act, layout_after};
+ghost use Rattle.fx_plan.specs.Names.{effect_act, effect_faults, filters, is_one_of, name_of, named_act, named_faults, others, whole_sound};
+
+use fx_cut::factor::words::{read_downsample, read_upsample};
+use fx_cut::fade::words::read_fade;
+use fx_cut::pad::words::read_pad;
+use fx_cut::trim::words::read_trim;
+use fx_effects::{Effect, Layout};
+use fx_fir::fir::words::read_fir;
+use fx_map::dcshift::words::read_dcshift;
+use fx_map::remix::words::read_remix;
+use fx_map::vol::words::read_vol;
+use fx_past::delay::words::read_delay_words;
+use fx_past::echo::words::read_echo;
+use fx_words::{PlanCause, Refusal, marked};
+use std::alloc::Global;
 
 /// Effects that can begin only once all of the sound is there.
 const WHOLE_SOUND: [&str; 3] = ["reverse", "norm", "repeat"];
@@ -144,4 +160,57 @@ pub fn read_name(word: &str) -> Name
             Name::Other
         }
     }
+}
+
+/// The effect of this name with these words behind it.
+fn read_named(
+    alloc: Global,
+    layout: Layout,
+    file: &[u8],
+    name: Name,
+    words: &[String],
+) -> Result<Effect, Refusal>
+    requires { IsLayout layout }
+    ensures read { Reads (λ effect. Some (act effect)) result (named_faults name layout file.now (texts words.now)) (named_act name layout file.now (texts words.now)) }
+    ensures fits { IfOk result (λ effect. Fits layout (act effect)) }
+    ensures usable { IfOk result (λ effect. Usable (act effect)) }
+    ensures place { IfOk result (λ effect. fits_layout layout (act effect) ≡ true) }
+    ensures after { IfOk result (λ effect. IsLayout (layout_after layout (Some (act effect)))) }
+{
+    let rate = layout.rate;
+    match name {
+        Name::Trim => read_trim(alloc, rate, words).map(Effect::Trim),
+        Name::Pad => read_pad(alloc, rate, words).map(Effect::Pad),
+        Name::Delay => read_delay_words(alloc, rate, layout.channels, words).map(Effect::Delay),
+        Name::Echo => read_echo(alloc, rate, words).map(Effect::Echo),
+        Name::Echos => read_echo(alloc, rate, words).map(Effect::Echos),
+        Name::Fade => Ok(Effect::Fade(read_fade(rate, words)?)),
+        Name::Vol => Ok(Effect::Vol(read_vol(words)?)),
+        Name::DcShift => Ok(Effect::DcShift(read_dcshift(words)?)),
+        Name::Fir => read_fir(alloc, file, words).map(Effect::Fir),
+        Name::Remix => read_remix(alloc, layout.channels as u32, words).map(Effect::Remix),
+        Name::Upsample => Ok(Effect::Upsample(read_upsample(rate, words)?)),
+        Name::Downsample => Ok(Effect::Downsample(read_downsample(rate, words)?)),
+        Name::WholeSound => Err(marked(PlanCause::NeedsWholeSound, 1)),
+        Name::LeftOut => Err(marked(PlanCause::NotInProfile, 1)),
+        Name::Other => Err(marked(PlanCause::UnknownEffect, 1)),
+    }
+}
+
+/// The effect of a name and the words behind it, of which a single one of `fir` names this file.
+pub fn read_effect(
+    alloc: Global,
+    layout: Layout,
+    file: &[u8],
+    name: &String,
+    words: &[String],
+) -> Result<Effect, Refusal>
+    requires { IsLayout layout }
+    ensures read { Reads (λ effect. Some (act effect)) result (effect_faults layout file.now (string_bytes name.now ∷ texts words.now)) (effect_act layout file.now (string_bytes name.now ∷ texts words.now)) }
+    ensures fits { IfOk result (λ effect. Fits layout (act effect)) }
+    ensures usable { IfOk result (λ effect. Usable (act effect)) }
+    ensures place { IfOk result (λ effect. fits_layout layout (act effect) ≡ true) }
+    ensures after { IfOk result (λ effect. IsLayout (layout_after layout (Some (act effect)))) }
+{
+    read_named(alloc, layout, file, read_name(name), words)
 }

@@ -2,19 +2,19 @@
 
 ghost use Rattle.std.specs.Prelude.{◌≡◌, ◌≤◌, ◌^◌, ◌∷◌, IfOk, Some, true, false, length, map, string_bytes};
 ghost use Rattle.std.specs.List.{All};
-ghost use Rattle.fx_plan.specs.Bounds;
-ghost use Rattle.fx_plan.specs.Bounds.{hold_all};
-ghost use Rattle.fx_plan.specs.Effects.{Fits, IsLayout, Usable, all_fit, fits_layout, act, effect_act, layout_after};
+ghost use Rattle.fx_effects.specs.Bounds;
+ghost use Rattle.fx_effects.specs.Bounds.{hold_all};
+ghost use Rattle.fx_effects.specs.Effects.{Fits, IsLayout, Usable, all_fit, fits_layout, act, layout_after};
+ghost use Rattle.fx_plan.specs.Names.{effect_act};
 ghost use Rattle.fx_words.specs.Faults.{texts};
 ghost use Rattle.fx_plan.specs.Groups.{effects_of};
 ghost use Rattle.fx_plan.specs.Plans;
 ghost use Rattle.fx_plan.specs.Plans.{PlanReads, acts_of, all_faults, bytes_of, effects_faults, fault, fault_of, files_after, last_layout, next_file, planned_value, step_faults};
 
-use crate::bounds::{hold, is_too_long};
-use crate::effect::{Effect, Layout, read_effect};
 use crate::fault::PlanFault;
 use crate::groups::split_effect;
-use crate::name::{Name, read_name};
+use crate::name::{Name, read_effect, read_name};
+use fx_effects::{Effect, Layout, hold, is_too_long};
 use fx_words::{PlanCause, Refusal};
 use std::alloc::{AllocError, Global};
 

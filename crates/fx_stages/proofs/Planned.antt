@@ -6,11 +6,11 @@ use Rattle.std.proofs.lemmas.Bool.Decides.{nat_tests}
 use Rattle.fx_flow.specs.Parts.{Matching, Within, most_of, work}
 use Rattle.fx_frame.specs.Holds.{hold_sum}
 use Rattle.fx_frame.specs.Stage.{Kind}
-use Rattle.fx_plan.specs.Bounds
-use Rattle.fx_plan.specs.Bounds.{hold_all, is_past, line_of, mosts, work_of}
-use Rattle.fx_plan.specs.Effects.{Act, OfDelay, OfRemix, OfUpsample, Usable, all_fit, fits_layout, layout_after}
-use Rattle.fx_plan.specs.declared.effect.Layout.{Layout}
-use Rattle.fx_plan.proofs.Lasting.{within-here, within-next, work-cons}
+use Rattle.fx_effects.specs.Bounds
+use Rattle.fx_effects.specs.Bounds.{hold_all, is_past, mosts, work_of}
+use Rattle.fx_effects.specs.Effects.{line_of, Act, OfDelay, OfRemix, OfUpsample, Usable, all_fit, fits_layout, layout_after}
+use Rattle.fx_effects.specs.declared.effect.Layout.{Layout}
+use Rattle.fx_effects.proofs.Lasting.{within-here, within-next, work-cons}
 use Rattle.std.proofs.lemmas.Bool.{and_parts}
 use Rattle.std.proofs.lemmas.List.{length-append, length-replicate}
 use Rattle.std.proofs.lemmas.List.Elements.{All-head, All-tail}

@@ -7,8 +7,8 @@ use Rattle.std.proofs.lemmas.List.{map-append}
 use Rattle.std.proofs.lemmas.List.Elements.{All-cons, All-head, All-nil, All-tail}
 use Rattle.fx_flow.specs.Frozen.{AllMade}
 use Rattle.fx_frame.specs.Holds.{recipes}
-use Rattle.fx_plan.specs.Bounds.{hold_all}
-use Rattle.fx_plan.specs.Effects.{Act, Usable}
+use Rattle.fx_effects.specs.Bounds.{hold_all}
+use Rattle.fx_effects.specs.Effects.{Act, Usable}
 use Rattle.fx_stages.specs.declared.stage.EffectStage.{EffectStage}
 use Rattle.fx_stages.specs.declared.thaw.EffectArguments.{EffectArguments}
 use Rattle.fx_stages.specs.Effects.{EffectRecipe}

@@ -1,7 +1,6 @@
 -- The stages of effects, made again from what they stored and counted (this project's profile).
 use Rattle.std.specs.Prelude.{◌≡◌, ◌≤◌, ◌^◌, ℕ, true, List, [], ◌∷◌}
-use Rattle.fx_plan.specs.Bounds.{line_of}
-use Rattle.fx_plan.specs.Effects.{Act, Usable, act}
+use Rattle.fx_effects.specs.Effects.{line_of, Act, Usable, act}
 use Rattle.fx_stages.specs.declared.thaw.EffectArguments.{EffectArguments}
 use Rattle.fx_stages.specs.Effects.{EffectRecipe}
 use Rattle.fx_stages.specs.Made.{channels_after, recipe_for, suits}

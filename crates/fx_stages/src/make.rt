@@ -6,18 +6,18 @@ ghost use Rattle.fx_fixed.specs.Extents.{meant};
 ghost use Rattle.fx_flow.specs.Parts.{AllNew};
 ghost use Rattle.fx_frame.specs.Holds.{recipes};
 ghost use Rattle.fx_frame.specs.Stage.{IsNew};
-ghost use Rattle.fx_plan.specs.Bounds.{hold_all, line_of};
-ghost use Rattle.fx_plan.specs.Effects.{Usable, act};
+ghost use Rattle.fx_effects.specs.Bounds.{hold_all};
+ghost use Rattle.fx_effects.specs.Effects.{line_of, Usable, act};
 ghost use Rattle.fx_stages.specs.Stages.{effect_acts};
 ghost use Rattle.fx_stages.specs.Made;
 ghost use Rattle.fx_stages.specs.Made.{all_suit, recipe_for, recipes_for, suits};
 
 use crate::stage::EffectStage;
 use fx_cut::{Downsample, Fade, Pad, Trim, Upsample};
+use fx_effects::Effect;
 use fx_fir::Fir;
 use fx_map::{DcShift, Remix, Vol};
 use fx_past::{Delay, Echo, Echos};
-use fx_plan::inner::Effect;
 use std::alloc::{AllocError, Global};
 
 /// The stage of an effect that takes frames of so many channels; AllocError where memory for it is refused.

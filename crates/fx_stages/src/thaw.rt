@@ -1,17 +1,17 @@
 //! The stages of effects, made again from the frames that they stored and the numbers that they counted.
 ghost use Rattle.std.specs.Prelude.{◌≡◌, ◌≤◌, IfOk, map};
-ghost use Rattle.fx_plan.specs.Effects.{act};
+ghost use Rattle.fx_effects.specs.Effects.{act};
 ghost use Rattle.fx_stages.specs.Thawed.{placed, placing};
 
 use crate::make::channels_after;
 use crate::stage::EffectStage;
 use fx_cut::{Downsample, Fade, Pad, Trim, Upsample};
+use fx_effects::Effect;
 use fx_fir::Fir;
 use fx_frame::WideFrame;
 use fx_frame::stage::{ThawFault, Thaws};
 use fx_map::{DcShift, Remix, Vol};
 use fx_past::{Delay, Echo, Echos};
-use fx_plan::inner::Effect;
 use std::alloc::{AllocError, Global};
 
 /// An effect, and the channels of the frames that it takes.

@@ -9,9 +9,8 @@ use Rattle.fx_frame.specs.Io.{ByteReader, ByteWriter}
 use Rattle.fx_line.specs.declared.line.LineFault.{LineFault}
 use Rattle.fx_line.specs.Line.{Said, line_of}
 use Rattle.fx_plan.specs.CommandLines.{LineReads, effects_in, planning_in}
-use Rattle.fx_plan.specs.Effects.{head_layout}
+use Rattle.fx_plan.specs.Plans.{head_layout, all_faults}
 use Rattle.fx_plan.specs.Planning.{planning}
-use Rattle.fx_plan.specs.Plans.{all_faults}
 use Rattle.fx_sound.specs.declared.head.HeadFault.TheVariants.{ReadFailed}
 use Rattle.fx_sound.specs.Head.{ReadsHead}
 use Rattle.fx_sound.specs.Known.{IfKnown}

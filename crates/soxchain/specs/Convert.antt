@@ -10,11 +10,10 @@ use Rattle.fx_flow.specs.Composed.{due_of, enough_for}
 use Rattle.fx_frame.specs.Io.{ByteReader, ByteWriter, saturated}
 use Rattle.fx_line.specs.Line.{Said}
 use Rattle.fx_plan.specs.declared.fault.PlanFault.{PlanFault}
-use Rattle.fx_plan.specs.Bounds.{work_of}
+use Rattle.fx_effects.specs.Bounds.{work_of}
 use Rattle.fx_plan.specs.CommandLines.{effects_in, planning_in}
-use Rattle.fx_plan.specs.Effects.{head_layout}
+use Rattle.fx_plan.specs.Plans.{head_layout, RefusesPlan, all_faults}
 use Rattle.fx_plan.specs.Planning.{Planning}
-use Rattle.fx_plan.specs.Plans.{RefusesPlan, all_faults}
 use Rattle.fx_sound.specs.declared.head.Head.{Head}
 use Rattle.fx_sound.specs.declared.head.HeadFault.{HeadFault}
 use Rattle.fx_sound.specs.declared.head.HeadFault.TheVariants as HeadFaults

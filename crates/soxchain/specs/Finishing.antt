@@ -8,7 +8,7 @@ use Rattle.fx_run.specs.Run.{RanToFailure, WantsMore}
 use Rattle.fx_chain.specs.Theorem.{Ran, ReadFirst, kinds_of}
 use Rattle.fx_frame.specs.Io.{ByteReader, ByteWriter}
 use Rattle.fx_line.specs.Line.{Said}
-use Rattle.fx_plan.specs.Bounds.{work_of}
+use Rattle.fx_effects.specs.Bounds.{work_of}
 use Rattle.fx_plan.specs.Planning.{planning}
 use Rattle.fx_sound.specs.Known.{IfKnown}
 use Rattle.fx_sound.specs.Source.{Held, to_come}

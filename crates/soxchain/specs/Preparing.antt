@@ -4,8 +4,7 @@ use Rattle.fx_frame.specs.Io.{ByteReader, saturated}
 use Rattle.fx_line.specs.Line.{Said}
 use Rattle.fx_plan.specs.declared.fault.PlanFault.{PlanFault}
 use Rattle.fx_plan.specs.CommandLines.{effects_in}
-use Rattle.fx_plan.specs.Effects.{head_layout}
-use Rattle.fx_plan.specs.Plans.{RefusesPlan, all_faults}
+use Rattle.fx_plan.specs.Plans.{head_layout, RefusesPlan, all_faults}
 use Rattle.fx_sound.specs.declared.head.Head.{Head}
 use Rattle.fx_sound.specs.declared.head.HeadFault.TheVariants as HeadFaults
 use Rattle.fx_sound.specs.Known.{IfKnown}

@@ -2,8 +2,7 @@
 ghost use Rattle.std.specs.Prelude.{◌≡◌, [], IfOk, Err, MatchResult, ℕ};
 ghost use Rattle.fx_chain.specs.Chain.{IsNewChain};
 ghost use Rattle.fx_plan.specs.CommandLines.{effects_in, planning_in};
-ghost use Rattle.fx_plan.specs.Effects.{head_layout};
-ghost use Rattle.fx_plan.specs.Plans.{all_faults, bytes_of};
+ghost use Rattle.fx_plan.specs.Plans.{head_layout, all_faults, bytes_of};
 ghost use Rattle.fx_plan.specs.Planning.{planning};
 ghost use Rattle.fx_sound.specs.Head.{ReadsHead, head_of};
 ghost use Rattle.fx_sound.specs.Known.{IfKnown};

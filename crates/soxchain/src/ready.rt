@@ -3,9 +3,8 @@ ghost use Rattle.std.specs.Prelude.{◌≡◌, ◌⊎◌, [], IfErr, IfOk, OnOk,
 ghost use Rattle.fx_chain.specs.Chain.{IsNewChain};
 ghost use Rattle.fx_line.specs.Line.{line_of, texts};
 ghost use Rattle.fx_plan.specs.CommandLines.{effects_in, planning_in};
-ghost use Rattle.fx_plan.specs.Effects.{head_layout};
+ghost use Rattle.fx_plan.specs.Plans.{head_layout, all_faults, bytes_of};
 ghost use Rattle.fx_plan.specs.Planning.{planning};
-ghost use Rattle.fx_plan.specs.Plans.{all_faults, bytes_of};
 ghost use Rattle.fx_sound.specs.Head.{ReadsHead};
 ghost use Rattle.fx_sound.specs.Known.{IfKnown};
 ghost use Rattle.fx_sound.specs.Source.{to_come};

@@ -6,8 +6,7 @@ use Rattle.fx_line.specs.declared.bits.Bits.TheVariants.{ThirtyTwo}
 use Rattle.fx_line.specs.declared.line.LineFault.TheVariants.{Memory}
 use Rattle.fx_line.specs.Line.{Said, texts}
 use Rattle.fx_plan.specs.CommandLines.{effects_in, planning_in}
-use Rattle.fx_plan.specs.Effects.{head_layout}
-use Rattle.fx_plan.specs.Plans.{RefusesPlan, all_faults, bytes_of}
+use Rattle.fx_plan.specs.Plans.{head_layout, RefusesPlan, all_faults, bytes_of}
 use Rattle.fx_sound.specs.declared.head.Head.{Head}
 use Rattle.fx_sound.specs.declared.head.Kind.TheVariants.{Au}
 use Rattle.soxchain.specs.declared.preparing.Refusal.{Refusal}

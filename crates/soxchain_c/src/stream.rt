@@ -5,7 +5,7 @@ ghost use Rattle.fx_chain.specs.Snapshot.{IsSoundChain};
 ghost use Rattle.fx_flow.specs.Parts.{taken_of};
 ghost use Rattle.fx_flow.specs.Sound.{most_frames};
 ghost use Rattle.fx_flow.specs.Steps.{IsHungry};
-ghost use Rattle.fx_plan.specs.Bounds.{hold_all};
+ghost use Rattle.fx_effects.specs.Bounds.{hold_all};
 ghost use Rattle.fx_plan.specs.Planning.{planning};
 ghost use Rattle.fx_stages.specs.Stages.{effect_acts};
 ghost use Rattle.soxchain_c.specs.Snapshots.{IsFrozenAs};

@@ -1,6 +1,6 @@
 //! Streams, to C: a stream stands behind a handle, which is at null where there is none.
 ghost use Rattle.std.specs.Prelude.{◌≡◌, IfSome, MatchOption, None, Some};
-ghost use Rattle.fx_plan.specs.Bounds.{hold_all};
+ghost use Rattle.fx_effects.specs.Bounds.{hold_all};
 ghost use Rattle.soxchain_c.specs.Calls.{EndAnswers, FeedAnswers, FreezeAnswers, ThawAnswers, nothing_passed};
 ghost use Rattle.soxchain_c.specs.Status.{code};
 ghost use Rattle.soxchain_c.specs.Streams.{clips_of, held_in, wait_number};

@@ -11,9 +11,8 @@ use Rattle.fx_line.specs.declared.line.LineFault.{LineFault}
 use Rattle.fx_line.specs.declared.line.LineFault.TheVariants as LineFaults
 use Rattle.fx_line.specs.Line.{Said, line_of}
 use Rattle.fx_plan.specs.CommandLines.{LineReads, coefficient_files, effects_in, file_name, planning_in}
-use Rattle.fx_plan.specs.Effects.{head_layout}
+use Rattle.fx_plan.specs.Plans.{head_layout, all_faults}
 use Rattle.fx_plan.specs.Planning.{planning}
-use Rattle.fx_plan.specs.Plans.{all_faults}
 use Rattle.fx_sound.specs.Head.{ReadsHead}
 use Rattle.fx_sound.specs.Known.{IfKnown}
 use Rattle.fx_sound.specs.Source.{Held, to_come}

@@ -3,8 +3,8 @@ use Rattle.std.specs.Prelude.{ℕ, List, Option, ◌-◌, ◌*◌, ◌/◌, ◌^
 use Rattle.std.specs.Option.{option_map}
 use Rattle.fx_frame.specs.Coding.{width_of}
 use Rattle.fx_sound.specs.declared.head.Head.{Head}
-use Rattle.fx_plan.specs.Bounds.{hold_of}
-use Rattle.fx_plan.specs.Effects.{Act, name_text}
+use Rattle.fx_effects.specs.Bounds.{hold_of}
+use Rattle.fx_effects.specs.Effects.{Act, name_text}
 use Rattle.soxchain_plan.specs.declared.outline.EffectOutline.{EffectOutline}
 
 -- the name and the hold that are told

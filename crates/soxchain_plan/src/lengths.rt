@@ -1,10 +1,11 @@
 //! What each effect does to the number of frames, of channels and of bytes, and how late it gives. Numbers past 64 bits stay
 //! at the greatest one.
 ghost use Rattle.std.specs.Prelude.{◌≡◌, ℕ, Some};
-ghost use Rattle.fx_plan.specs.Effects.{act, layout_after};
+ghost use Rattle.fx_effects.specs.Effects.{act, layout_after};
 
+use fx_cut::fade::words::Fading;
+use fx_effects::Effect;
 use fx_fixed::At;
-use fx_plan::inner::{Effect, Fading};
 
 /// The place of a position in a sound of so many frames.
 fn place(position: At, frames: u64) -> u64 {

@@ -5,7 +5,7 @@ use Rattle.std.proofs.lemmas.Grind.{common_steps}
 use Rattle.std.proofs.lemmas.Result.{err_from_is_err_and}
 use Rattle.fx_words.specs.Faults.{texts}
 use Rattle.fx_plan.specs.Groups.{effects_of}
-use Rattle.fx_plan.specs.Effects.{Usable, act}
+use Rattle.fx_effects.specs.Effects.{Usable, act}
 use Rattle.fx_plan.specs.Plans.{acts_of, bytes_of, effects_faults, last_layout}
 use Rattle.fx_plan.proofs.Refusing.{acts_next, behind-push, faults_next, fit-push, layout_next, refuses_all}
 use Rattle.fx_plan.proofs.planned.read_effects.Goals as goal

@@ -1,7 +1,7 @@
 use Rattle.std.proofs.Common.{rules, ◌≡◌, ◌^◌, ◌∷◌, map, sym}
 use Rattle.std.proofs.lemmas.Bool.{and_parts}
 use Rattle.std.proofs.lemmas.List.Elements.{All-head, All-tail}
-use Rattle.fx_plan.specs.Effects.{Usable, act}
+use Rattle.fx_effects.specs.Effects.{Usable, act}
 use Rattle.fx_stages.specs.Made.{all_suit, channels_after, suits}
 use Rattle.fx_stages.proofs.Making.{AllNew-push, hold-tail, made-more}
 use Rattle.fx_stages.proofs.Planned.{planned}

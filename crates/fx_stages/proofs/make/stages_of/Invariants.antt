@@ -2,8 +2,8 @@ use Rattle.std.proofs.Common.{◌≡◌, ◌++◌, ◌≤◌, ◌^◌, length, m
 use Rattle.std.specs.List.{All}
 use Rattle.fx_flow.specs.Parts.{AllNew}
 use Rattle.fx_frame.specs.Holds.{recipes}
-use Rattle.fx_plan.specs.Bounds.{hold_all}
-use Rattle.fx_plan.specs.Effects.{Usable, act}
+use Rattle.fx_effects.specs.Bounds.{hold_all}
+use Rattle.fx_effects.specs.Effects.{Usable, act}
 use Rattle.fx_stages.specs.Stages.{effect_acts}
 use Rattle.fx_stages.specs.Made.{all_suit, recipes_for}
 use Rattle.fx_stages.proofs.make.stages_of.Given as goal

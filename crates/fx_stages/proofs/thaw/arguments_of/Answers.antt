@@ -1,5 +1,5 @@
 use Rattle.std.proofs.Common.{rules, ◌≡◌, ◌∷◌, map}
-use Rattle.fx_plan.specs.Effects.{act}
+use Rattle.fx_effects.specs.Effects.{act}
 use Rattle.fx_stages.proofs.Thawing.{placed-more}
 use Rattle.fx_stages.proofs.thaw.arguments_of.Goals as goal
 

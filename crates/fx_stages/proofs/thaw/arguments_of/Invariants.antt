@@ -1,5 +1,5 @@
 use Rattle.std.proofs.Common.{◌≡◌, ◌++◌, length, map}
-use Rattle.fx_plan.specs.Effects.{act}
+use Rattle.fx_effects.specs.Effects.{act}
 use Rattle.fx_stages.specs.Thawed.{placed, placing}
 use Rattle.fx_stages.proofs.thaw.arguments_of.Given as goal
 

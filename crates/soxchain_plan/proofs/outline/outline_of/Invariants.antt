@@ -1,5 +1,5 @@
 use Rattle.std.proofs.Common.{◌≡◌, take, map}
-use Rattle.fx_plan.specs.Effects.{act}
+use Rattle.fx_effects.specs.Effects.{act}
 use Rattle.soxchain_plan.specs.Outlines.{known, told}
 use Rattle.soxchain_plan.proofs.outline.outline_of.Given as goal
 

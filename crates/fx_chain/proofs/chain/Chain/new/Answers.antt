@@ -1,7 +1,8 @@
 use Rattle.std.proofs.Common.{map}
 use Rattle.std.proofs.lemmas.List.{length-map}
 use Rattle.fx_chain.proofs.Chaining.{planned-is}
-use Rattle.fx_plan.specs.Effects.{act, head_layout}
+use Rattle.fx_effects.specs.Effects.{act}
+use Rattle.fx_plan.specs.Plans.{head_layout}
 use Rattle.fx_stages.proofs.Planned.{suit-fit}
 use Rattle.fx_chain.proofs.chain.Chain.new.Goals as goal
 

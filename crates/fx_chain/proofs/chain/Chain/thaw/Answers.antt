@@ -3,7 +3,8 @@ use Rattle.std.proofs.lemmas.List.{length-map}
 use Rattle.std.proofs.lemmas.Result.{err_from_is_err_and}
 use Rattle.fx_chain.proofs.Chaining.{planned-is}
 use Rattle.fx_chain.proofs.Thawing.{IsChain-made, chain-same, channels-planned, made-planned, planned-made}
-use Rattle.fx_plan.specs.Effects.{act, head_layout}
+use Rattle.fx_effects.specs.Effects.{act}
+use Rattle.fx_plan.specs.Plans.{head_layout}
 use Rattle.fx_plan.specs.Planning.{planning}
 use Rattle.fx_stages.proofs.Planned.{suit-fit}
 use Rattle.fx_stages.proofs.Thawing.{fits-with}

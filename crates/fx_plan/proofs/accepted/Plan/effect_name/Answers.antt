@@ -1,6 +1,6 @@
 use Rattle.std.proofs.Common.{◌-◌, ◌<◌, length, Some, sym, ap, ◌∙◌, arith}
 use Rattle.std.proofs.lemmas.List.{length-map}
-use Rattle.fx_plan.specs.Effects.{name_text}
+use Rattle.fx_effects.specs.Effects.{name_text}
 use Rattle.fx_plan.proofs.Holding.{told_at}
 use Rattle.fx_plan.proofs.accepted.Plan.effect_name.Goals as goal
 

@@ -1,7 +1,7 @@
 use Rattle.std.proofs.Common.{◌≡◌, ◌+◌, ◌-◌, ◌^◌, ◌≤◌, length, map, min, sum_by}
-use Rattle.fx_plan.specs.Effects.{act}
-use Rattle.fx_plan.specs.Bounds.{hold_all, hold_of}
-use Rattle.fx_plan.proofs.bounds.hold.Given as goal
+use Rattle.fx_effects.specs.Effects.{act}
+use Rattle.fx_effects.specs.Bounds.{hold_all, hold_of}
+use Rattle.fx_effects.proofs.bounds.hold.Given as goal
 
 abbrev pub decreases-loop-effect : goal.decreases-loop-effect
 decreases-loop-effect l = length l.rest

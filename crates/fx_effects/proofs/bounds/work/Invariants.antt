@@ -1,8 +1,8 @@
 use Rattle.std.proofs.Common.{◌≡◌, ◌+◌, ◌*◌, ◌^◌, ◌≤◌, length, map, false}
 use Rattle.std.specs.List.{All, list_any}
-use Rattle.fx_plan.specs.Effects.{Usable, act}
-use Rattle.fx_plan.specs.Bounds.{is_past, mosts, work_of}
-use Rattle.fx_plan.proofs.bounds.work.Given as goal
+use Rattle.fx_effects.specs.Effects.{Usable, act}
+use Rattle.fx_effects.specs.Bounds.{is_past, mosts, work_of}
+use Rattle.fx_effects.proofs.bounds.work.Given as goal
 
 abbrev pub decreases-loop-effect : goal.decreases-loop-effect
 decreases-loop-effect l = length l.rest

@@ -1,6 +1,6 @@
 use Rattle.std.proofs.Common.{◌≡◌, ◌++◌, length}
 use Rattle.fx_map.specs.RemixWords.{specs_in}
-use Rattle.fx_plan.proofs.effect.copy_specs.Given as goal
+use Rattle.fx_effects.proofs.effect.copy_specs.Given as goal
 
 abbrev pub decreases-loop-spec : goal.decreases-loop-spec
 decreases-loop-spec l = length l.rest

@@ -1,24 +1,15 @@
 //! Effects with resolved arguments, and what they do to rate, channels and lengths.
-
-ghost use Rattle.std.specs.Prelude.{◌≡◌, IfOk, Some, true, ◌∷◌, string_bytes};
-ghost use Rattle.fx_words.specs.Faults.{Reads, texts};
-ghost use Rattle.fx_plan.specs.Effects.{Fits, IsLayout, Usable, fits_layout, act, effect_act, effect_faults, layout_after, name_text, named_act, named_faults};
+ghost use Rattle.std.specs.Prelude.{◌≡◌, ◌-◌, ◌^◌, IfOk, Some, min};
+ghost use Rattle.fx_effects.specs.Effects.{Fits, Usable, act, layout_after, line_of, most_of, name_text};
 ghost use Rattle.fx_past.specs.EchoWords.{echo_value};
 ghost use Rattle.fx_map.specs.RemixWords.{specs_in};
 
-use crate::name::{Name, read_name};
-use fx_cut::factor::words::{read_downsample, read_upsample};
-use fx_cut::fade::words::{Fading, read_fade};
-use fx_cut::pad::words::read_pad;
-use fx_cut::trim::words::read_trim;
-use fx_fir::fir::words::read_fir;
+use fx_cut::fade::words::Fading;
+use fx_fixed::inner::{
+    all_pads, all_taps, greatest_end, greatest_pad_end, longest, longest_tap, meant_stop, stop_line,
+};
 use fx_fixed::{At, Gain, OutSpec};
-use fx_map::dcshift::words::read_dcshift;
-use fx_map::remix::words::read_remix;
-use fx_map::vol::words::read_vol;
-use fx_past::delay::words::read_delay_words;
-use fx_past::echo::words::{Echoing, read_echo};
-use fx_words::{PlanCause, Refusal, marked};
+use fx_past::echo::words::Echoing;
 use smallvec::SmallVec;
 use std::alloc::{AllocError, Global};
 
@@ -80,6 +71,38 @@ impl Effect {
                 ..layout
             },
             _ => layout,
+        }
+    }
+
+    /// The frames that the line of the effect holds, or `u64::MAX` where it is more.
+    pub fn line(&self) -> u64
+        ensures { result ≡ min (line_of (act self.now)) (2 ^ 64 - 1) }
+    {
+        match self {
+            Effect::Trim(positions) => greatest_end(positions),
+            Effect::Pad(pads) => greatest_pad_end(pads),
+            Effect::Delay(delays) => longest(delays),
+            Effect::Echo(echo) => longest_tap(&echo.taps),
+            Effect::Echos(echos) => all_taps(&echos.taps),
+            Effect::Fade(fade) => stop_line(meant_stop(fade.stop), fade.fade_out),
+            Effect::Fir(gains) => (gains.len() as u64).saturating_sub(1),
+            _ => 0,
+        }
+    }
+
+    /// The most frames that the effect makes of so many, or `u64::MAX` where it is more.
+    pub fn most_frames(&self, frames: u64) -> u64
+        requires { Usable (act self.now) }
+        ensures { result ≡ min (most_of (act self.now) frames) (2 ^ 64 - 1) }
+    {
+        match self {
+            Effect::Pad(pads) => frames.saturating_add(all_pads(pads)),
+            Effect::Delay(delays) => frames.saturating_add(longest(delays)),
+            Effect::Echo(echo) => frames.saturating_add(longest_tap(&echo.taps)),
+            Effect::Echos(echos) => frames.saturating_add(all_taps(&echos.taps)),
+            Effect::Upsample(factor) => frames.saturating_mul(u64::from(*factor)),
+            Effect::Downsample(factor) => frames.div_ceil(u64::from(*factor)),
+            _ => frames,
         }
     }
 }
@@ -148,57 +171,4 @@ impl Effect {
             Effect::Downsample(factor) => Ok(Effect::Downsample(*factor)),
         }
     }
-}
-
-/// The effect of this name with these words behind it.
-fn read_named(
-    alloc: Global,
-    layout: Layout,
-    file: &[u8],
-    name: Name,
-    words: &[String],
-) -> Result<Effect, Refusal>
-    requires { IsLayout layout }
-    ensures read { Reads (λ effect. Some (act effect)) result (named_faults name layout file.now (texts words.now)) (named_act name layout file.now (texts words.now)) }
-    ensures fits { IfOk result (λ effect. Fits layout (act effect)) }
-    ensures usable { IfOk result (λ effect. Usable (act effect)) }
-    ensures place { IfOk result (λ effect. fits_layout layout (act effect) ≡ true) }
-    ensures after { IfOk result (λ effect. IsLayout (layout_after layout (Some (act effect)))) }
-{
-    let rate = layout.rate;
-    match name {
-        Name::Trim => read_trim(alloc, rate, words).map(Effect::Trim),
-        Name::Pad => read_pad(alloc, rate, words).map(Effect::Pad),
-        Name::Delay => read_delay_words(alloc, rate, layout.channels, words).map(Effect::Delay),
-        Name::Echo => read_echo(alloc, rate, words).map(Effect::Echo),
-        Name::Echos => read_echo(alloc, rate, words).map(Effect::Echos),
-        Name::Fade => Ok(Effect::Fade(read_fade(rate, words)?)),
-        Name::Vol => Ok(Effect::Vol(read_vol(words)?)),
-        Name::DcShift => Ok(Effect::DcShift(read_dcshift(words)?)),
-        Name::Fir => read_fir(alloc, file, words).map(Effect::Fir),
-        Name::Remix => read_remix(alloc, layout.channels as u32, words).map(Effect::Remix),
-        Name::Upsample => Ok(Effect::Upsample(read_upsample(rate, words)?)),
-        Name::Downsample => Ok(Effect::Downsample(read_downsample(rate, words)?)),
-        Name::WholeSound => Err(marked(PlanCause::NeedsWholeSound, 1)),
-        Name::LeftOut => Err(marked(PlanCause::NotInProfile, 1)),
-        Name::Other => Err(marked(PlanCause::UnknownEffect, 1)),
-    }
-}
-
-/// The effect of a name and the words behind it, of which a single one of `fir` names this file.
-pub fn read_effect(
-    alloc: Global,
-    layout: Layout,
-    file: &[u8],
-    name: &String,
-    words: &[String],
-) -> Result<Effect, Refusal>
-    requires { IsLayout layout }
-    ensures read { Reads (λ effect. Some (act effect)) result (effect_faults layout file.now (string_bytes name.now ∷ texts words.now)) (effect_act layout file.now (string_bytes name.now ∷ texts words.now)) }
-    ensures fits { IfOk result (λ effect. Fits layout (act effect)) }
-    ensures usable { IfOk result (λ effect. Usable (act effect)) }
-    ensures place { IfOk result (λ effect. fits_layout layout (act effect) ≡ true) }
-    ensures after { IfOk result (λ effect. IsLayout (layout_after layout (Some (act effect)))) }
-{
-    read_named(alloc, layout, file, read_name(name), words)
 }

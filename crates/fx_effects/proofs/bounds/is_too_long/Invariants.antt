@@ -1,8 +1,8 @@
 use Rattle.std.proofs.Common.{◌≡◌, ◌^◌, ◌≤◌, length, map}
 use Rattle.std.specs.List.{All, list_any}
-use Rattle.fx_plan.specs.Effects.{Usable, act}
-use Rattle.fx_plan.specs.Bounds.{is_past, is_too_long, mosts}
-use Rattle.fx_plan.proofs.bounds.is_too_long.Given as goal
+use Rattle.fx_effects.specs.Effects.{Usable, act}
+use Rattle.fx_effects.specs.Bounds.{is_past, is_too_long, mosts}
+use Rattle.fx_effects.proofs.bounds.is_too_long.Given as goal
 
 abbrev pub decreases-loop-effect : goal.decreases-loop-effect
 decreases-loop-effect l = length l.rest

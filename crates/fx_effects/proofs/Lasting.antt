@@ -6,8 +6,8 @@ use Rattle.std.proofs.lemmas.Grind.{div_ceil_times}
 use Rattle.std.specs.List.{list_any}
 use Rattle.std.proofs.lemmas.List.Sums.{sum_by-cons}
 use Rattle.std.proofs.lemmas.Bool.Decides.{nat_tests}
-use Rattle.fx_plan.specs.Effects.{Act, OfPad, OfDelay, OfEcho, OfEchos, OfUpsample, OfDownsample}
-use Rattle.fx_plan.specs.Bounds.{is_past, mosts, most_of, work_of}
+use Rattle.fx_effects.specs.Effects.{Act, OfPad, OfDelay, OfEcho, OfEchos, OfUpsample, OfDownsample, most_of}
+use Rattle.fx_effects.specs.Bounds.{is_past, mosts, work_of}
 
 pub is_past-yes : (n : ℕ) → 2 ^ 56 < n → is_past n ≡ true
 is_past-yes n h = grind (arith, nat_tests)
