@@ -19,7 +19,7 @@ use Rattle.fx_stages.specs.Stages.{effect_acts}
 use Rattle.fx_sound.specs.declared.head.Head.{Head}
 use Rattle.fx_sound.specs.declared.progress.TheConstants.{MOST_FRAMES}
 use Rattle.fx_sound.specs.Known.{IfKnown}
-use Rattle.fx_sound.specs.Runs.{first_frames-within}
+use Rattle.fx_sound.proofs.RunLaws.{first_frames-within}
 use Rattle.fx_sound.specs.Sound.{lacking, within}
 use Rattle.fx_run.specs.declared.report.Report.{Report}
 use Rattle.fx_run.specs.declared.pump.Cause.TheVariants as Causes

@@ -18,7 +18,8 @@ use Rattle.fx_sound.proofs.Sending.{Sent-put}
 use Rattle.fx_sound.proofs.Sounds.{first_frames-add, held-next, held-passed, length-first_frames}
 use Rattle.fx_sound.specs.Container.{after_frames, first_frames}
 use Rattle.fx_sound.specs.Output.{Pending, SendsOn, bytes_put}
-use Rattle.fx_sound.specs.Runs.{Ran, Ran-block, Ran-start, Ran-turn, Takes-more, Takes-none, after_frames-add, after_frames-more}
+use Rattle.fx_sound.specs.Runs.{Ran}
+use Rattle.fx_sound.proofs.RunLaws.{Ran-block, Ran-start, Ran-turn, Takes-more, Takes-none, after_frames-add, after_frames-more}
 use Rattle.fx_sound.specs.declared.progress.TheConstants.{MOST_FRAMES}
 use Rattle.fx_sound.specs.Known.{IfKnown}
 use Rattle.fx_sound.specs.Sound.{Reading, TakesFrame, after_frame, size_of, within}

@@ -13,7 +13,8 @@ use Rattle.fx_flow.specs.Composed.{enough_for}
 use Rattle.fx_flow.specs.Steps.{IsHungry, rest_of, wholes_of}
 use Rattle.fx_sound.specs.Output.{Pending, Sent}
 use Rattle.fx_sound.specs.Container.{after_frames}
-use Rattle.fx_sound.specs.Runs.{Ran, Ran-end, Ran-failed, Tells-more, first_frames-more}
+use Rattle.fx_sound.specs.Runs.{Ran}
+use Rattle.fx_sound.proofs.RunLaws.{Ran-end, Ran-failed, Tells-more, first_frames-more}
 use Rattle.fx_sound.specs.Sound.{Reading, EndsSound, TakesFrame, at_most_announced, size_of}
 use Rattle.fx_sound.specs.Source.{FallsShort, Held, Takes}
 use Rattle.fx_run.specs.Outlet.{WroteFront, coded}

@@ -3,6 +3,7 @@ pub mod Threes
 pub mod ManyBytes
 pub mod Faults
 pub mod Held
+pub mod RunLaws
 pub mod Sounds
 pub mod Sending
 pub mod AuLemmas

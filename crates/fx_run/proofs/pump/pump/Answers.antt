@@ -1,6 +1,7 @@
 use Rattle.std.proofs.Common.{◌≡◌, ℕ, ◌+◌, ◌*◌, ◌∙◌, [], length, drop, refl, subst, sym, ap, arith, false, true}
 use Rattle.fx_frame.specs.Io.{saturated}
-use Rattle.fx_sound.specs.Runs.{Ran, Ran-start, Ran-turn, Ran-whole, Takes-none}
+use Rattle.fx_sound.specs.Runs.{Ran}
+use Rattle.fx_sound.proofs.RunLaws.{Ran-start, Ran-turn, Ran-whole, Takes-none}
 use Rattle.fx_sound.specs.Container.{after_frames}
 use Rattle.fx_sound.specs.Sound.{Reading, size_of}
 use Rattle.fx_sound.specs.Source.{to_come}

@@ -2,7 +2,7 @@ use Rattle.std.proofs.Common.{◌≡◌, ℕ, ◌+◌, ◌*◌, ◌++◌, ◌∷
 use Rattle.std.specs.Prelude.{Err}
 use Rattle.fx_frame.specs.FrameCoding.{samples_of}
 use Rattle.fx_sound.specs.Container.{first_frames}
-use Rattle.fx_sound.specs.Runs.{after_frames-more, Ran-turn, Ran-end, Ran-whole, Ran-failed, Takes-more, first_frames-more, first_frames-within}
+use Rattle.fx_sound.proofs.RunLaws.{after_frames-more, Ran-turn, Ran-end, Ran-whole, Ran-failed, Takes-more, first_frames-more, first_frames-within}
 use Rattle.fx_sound.specs.Sound.{Reading, size_of, within, after_frame}
 use Rattle.fx_sound.specs.Source.{Takes}
 use Rattle.fx_sound.specs.declared.progress.ReadFault.TheVariants.{ReadFailed, TooLong}
