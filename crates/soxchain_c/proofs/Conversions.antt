@@ -9,7 +9,7 @@ use Rattle.soxchain.specs.Convert.{Converted}
 use Rattle.soxchain.specs.Program.{Concludes}
 use Rattle.soxchain.specs.Stops.{Stop}
 use Rattle.soxchain_c.specs.Conversion.{ConvertedBytes}
-use Rattle.soxchain_c.proofs.Words.{if_ok-more}
+use Rattle.soxchain_stream.proofs.Words.{if_ok-more}
 
 -- what is concluded of a line is concluded more weakly
 pub concludes-more : {P Q : Said → Result Report Stop → Type 0} {U V : Type 0} {T S : List ℕ → Type 0} (status : ℕ) (report : Report) (found : Result Said LineFault)

@@ -5,7 +5,7 @@ use Rattle.fx_plan.specs.Plans.{bytes_of}
 use Rattle.fx_sound.specs.declared.head.Head.{Head}
 use Rattle.soxchain_c.specs.declared.asked.Asked.{Asked}
 use Rattle.soxchain_c.specs.declared.status.Status.{Status}
-use Rattle.soxchain_c.specs.declared.stream.Stream.{Stream}
+use Rattle.soxchain_stream.specs.declared.stream.Stream.{Stream}
 use Rattle.soxchain_c.specs.declared.texts.TextFault.{TextFault}
 use Rattle.soxchain_c.specs.declared.texts.TextFault.TheVariants.{BadEnds, NotText, Memory}
 use Rattle.soxchain_c.specs.Asked.{FaultAnswers, IsFault}

@@ -2,4 +2,3 @@ pub mod Conversions
 pub mod Faults
 pub mod Steps
 pub mod Values
-pub mod Words

@@ -30,7 +30,7 @@ use Rattle.std.proofs.alloc.Global.TheLaws as heap_laws
 use Rattle.std.specs.contracts.impls.GlobalAllocator.TheImpl.{ghosts}
 use Rattle.std.proofs.GlobalToken.{dealloc_token-Testable}
 use Rattle.soxchain_c.specs.Kept.{boxed, kept}
-use Rattle.soxchain_c.specs.contracts.stream.Stream as inner
+use Rattle.soxchain_stream.specs.contracts.stream.Stream as inner
 use Rattle.soxchain_c.specs.contracts.handle.Handle as handle
 use Rattle.core.proofs.atomic.Steps.{Ptr-Good}
 use Rattle.soxchain_c.proofs.Values.{both, both_tt}

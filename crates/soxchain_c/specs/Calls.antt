@@ -8,12 +8,12 @@ use Rattle.fx_flow.specs.Steps.{IsHungry}
 use Rattle.fx_stages.specs.Stages.{effect_acts}
 use Rattle.soxchain_c.specs.declared.status.Status.{Status}
 use Rattle.soxchain_c.specs.declared.status.Status.TheVariants.{BadSnapshot, Fine, NoMemory, NotWaiting, PartOfFrame, TooLong}
-use Rattle.soxchain_c.specs.declared.stream.Stream.{Stream}
-use Rattle.soxchain_c.specs.declared.stream.Waits.{Waits}
+use Rattle.soxchain_stream.specs.declared.stream.Stream.{Stream}
+use Rattle.soxchain_stream.specs.declared.stream.Waits.{Waits}
 use Rattle.soxchain_c.specs.declared.stream_calls.SoxchainPassed.{SoxchainPassed}
 use Rattle.soxchain_c.specs.Room.{filled}
-use Rattle.soxchain_c.specs.Snapshots.{IsFrozenAs}
-use Rattle.soxchain_c.specs.Streams.{WaitsFor, WasFed, ended, inputs_in, wait_number}
+use Rattle.soxchain_stream.specs.Snapshots.{IsFrozenAs}
+use Rattle.soxchain_stream.specs.Streams.{WaitsFor, WasFed, ended, inputs_in, wait_number}
 
 -- no frames, of a stream that is not there
 abbrev pub nothing_passed : SoxchainPassed

@@ -1,11 +1,8 @@
 pub mod Asked
 pub mod Calls
 pub mod Conversion
-pub mod Frozen
 pub mod Kept
 pub mod Making
 pub mod Room
-pub mod Snapshots
 pub mod Status
-pub mod Streams
 pub mod Texts

@@ -16,7 +16,7 @@ use Rattle.soxchain.specs.Program.{status_of_refusal}
 use Rattle.soxchain_c.specs.declared.asked.Asked.{Asked}
 use Rattle.soxchain_c.specs.declared.status.Status.{Status}
 use Rattle.soxchain_c.specs.declared.status.Status.TheVariants.{BadChannels, BadRate, Fine, NoMemory}
-use Rattle.soxchain_c.specs.declared.stream.Stream.{Stream}
+use Rattle.soxchain_stream.specs.declared.stream.Stream.{Stream}
 use Rattle.soxchain_c.specs.declared.texts.TextFault.{TextFault}
 use Rattle.soxchain_c.specs.Asked.{FaultAnswers, Unread}
 use Rattle.soxchain_c.specs.Conversion.{ToldBytes}

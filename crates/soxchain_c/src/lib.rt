@@ -6,13 +6,11 @@
 
 mod asked;
 pub mod conversion;
-mod frozen;
 pub mod handle;
 mod loose;
 pub mod new_call;
 mod planning;
 mod room;
 pub mod status;
-pub mod stream;
 pub mod stream_calls;
 mod texts;

@@ -12,11 +12,11 @@ use crate::handle::Handle;
 use crate::planning::{head_of, make_stream};
 use crate::room::put;
 use crate::status::{Status, number_of};
-use crate::stream::Stream;
 use crate::stream_calls::put_back;
 use crate::texts::TextFault;
 use fx_frame::{ByteOut, Counted};
 use fx_sound::Head;
+use soxchain_stream::Stream;
 use std::alloc::Global;
 
 /// The stream of words and files for frames as the head says, in memory of its own; or what C is answered.

@@ -6,12 +6,12 @@ ghost use Rattle.soxchain.specs.Telling.{Tells};
 ghost use Rattle.soxchain_c.specs.Making.{IsRefusalOf, IsStreamOf, RefusesStream, IsHeadAt, stream_line, stream_words};
 
 use crate::status::Status;
-use crate::stream::Stream;
 use fx_chain::Chain;
 use fx_frame::{ByteOut, Coding};
 use fx_plan::{CommandLine, LineFault, parse_line, plan};
 use fx_sound::{Head, Kind};
 use soxchain::inner::{Refusal, Telling, label_of_line, status_of_fault, tell_line, tell_refusal};
+use soxchain_stream::Stream;
 use std::alloc::{AllocError, Global};
 
 /// The head of a sound of 32 bits at this rate, of so many channels.

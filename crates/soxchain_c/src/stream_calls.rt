@@ -3,14 +3,14 @@ ghost use Rattle.std.specs.Prelude.{◌≡◌, IfSome, MatchOption, None, Some};
 ghost use Rattle.fx_effects.specs.Bounds.{hold_all};
 ghost use Rattle.soxchain_c.specs.Calls.{EndAnswers, FeedAnswers, FreezeAnswers, ThawAnswers, nothing_passed};
 ghost use Rattle.soxchain_c.specs.Status.{code};
-ghost use Rattle.soxchain_c.specs.Streams.{clips_of, held_in, wait_number};
+ghost use Rattle.soxchain_stream.specs.Streams.{clips_of, held_in, wait_number};
 
 use crate::handle::Handle;
 use crate::loose::Loose;
 use crate::room::put;
 use crate::status::{Status, number_of};
-use crate::stream::{FeedFault, Stream, Waits};
 use fx_frame::{Passed, ThawFault};
+use soxchain_stream::{FeedFault, Stream, Waits};
 use std::alloc::Global;
 use std::mem;
 

@@ -1,0 +1,7 @@
+//! A chain that is fed a block at a time, and goes on from the bytes that it was frozen to.
+#![tactic(auto)]
+
+mod frozen;
+pub mod stream;
+
+pub use stream::{FeedFault, Stream, Waits};

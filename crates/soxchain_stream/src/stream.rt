@@ -1,0 +1,186 @@
+//! A chain that is fed a block at a time.
+ghost use Rattle.std.specs.Prelude.{◌≡◌, ◌≢◌, ◌<◌, ◌+◌, ◌/◌, ◌%◌, Err, IfOk, MatchResult, OnErr, OnOk, false, length, true};
+ghost use Rattle.fx_chain.specs.Chain.{ChainParts};
+ghost use Rattle.fx_chain.specs.Snapshot.{IsSoundChain};
+ghost use Rattle.fx_flow.specs.Parts.{taken_of};
+ghost use Rattle.fx_flow.specs.Sound.{most_frames};
+ghost use Rattle.fx_flow.specs.Steps.{IsHungry};
+ghost use Rattle.fx_effects.specs.Bounds.{hold_all};
+ghost use Rattle.fx_plan.specs.Planning.{planning};
+ghost use Rattle.fx_stages.specs.Stages.{effect_acts};
+ghost use Rattle.soxchain_stream.specs.Snapshots.{IsFrozenAs};
+
+use crate::frozen::{Stored, freeze_to_bytes, thaw_from_bytes};
+use fx_chain::{Chain, Snapshot};
+use fx_flow::flow::{MOST_FRAMES, State};
+use fx_frame::{Passed, ThawFault};
+use fx_plan::Plan;
+use std::alloc::{AllocError, Global};
+
+/// The chain of a plan, and the plan.
+#[derive(Drop)]
+pub struct Stream {
+    pub chain: Chain,
+    pub plan: Plan,
+    ghost same: { chain.plan ≡ planning plan },
+}
+
+/// What a stream waits for.
+#[derive(Clone, Copy, Debug, PartialEq, Eq)]
+pub enum Waits {
+    /// For frames or the end.
+    Frames,
+    /// For room in the output.
+    Room,
+    /// For nothing: all was given.
+    Nothing,
+    /// For the end: no frame changes what is still to be given.
+    End,
+}
+
+/// Why nothing was taken.
+#[derive(Clone, Copy, Debug, PartialEq, Eq)]
+pub enum FeedFault {
+    /// The samples make no whole frames.
+    PartOfFrame,
+    /// More than 2^40 frames would have come.
+    TooLong,
+}
+
+impl Stream {
+    ghost use Rattle.soxchain_stream.specs.Streams.{WasFed, WaitsFor, clips_of, ended, held_in};
+
+    /// Samples in a frame that it takes, 1 to 16.
+    pub fn inputs(&self) -> usize
+        ensures value { result ≡ self.now.chain.plan.head.channels }
+        ensures some { 0 < result }
+    {
+        self.plan.head().channels
+    }
+
+    /// Samples in a frame that it gives, 1 to 16.
+    pub fn outputs(&self) -> usize
+        ensures { result ≡ self.now.chain.plan.layout.channels }
+    {
+        self.plan.channels()
+    }
+
+    /// Frames in a second that it gives.
+    pub fn rate(&self) -> u32
+        ensures { result ≡ self.now.chain.plan.layout.rate }
+    {
+        self.plan.rate()
+    }
+
+    /// What it waits for.
+    pub fn waits(&self) -> Waits
+        ensures { WaitsFor result self.now }
+    {
+        match self.chain.state() {
+            State::Busy => Waits::Room,
+            State::Done => Waits::Nothing,
+            State::Hungry => {
+                if self.chain.is_spent() {
+                    Waits::End
+                } else {
+                    Waits::Frames
+                }
+            }
+        }
+    }
+
+    /// Takes whole frames from the front of the input and writes those that are given to the front of the output, as
+    /// `Chain::feed` does. Nothing is taken of samples that make no whole frames, nor of more than 2^40 frames in all.
+    pub fn feed(&mut self, input: &[i32], output: &mut [i32]) -> Result<Passed, FeedFault>
+        ensures fed { IfOk result (λ passed. WasFed self.old self.new input.now output.old output.new passed) }
+        ensures part { result ≡ Err FeedFault.PartOfFrame → length input.now % self.old.chain.plan.head.channels ≢ 0 }
+        ensures too_long { result ≡ Err FeedFault.TooLong → most_frames < taken_of self.old.chain.flow + length input.now / self.old.chain.plan.head.channels }
+        ensures refused { OnErr result ((self.new ≡ self.old) × (output.new ≡ output.old)) }
+    {
+        let channels = self.inputs();
+        if input.len() % channels != 0 {
+            return Err(FeedFault::PartOfFrame);
+        }
+        let frames = (input.len() / channels) as u64;
+        if frames > MOST_FRAMES - self.chain.taken() {
+            return Err(FeedFault::TooLong);
+        }
+        Ok(self.chain.feed(input, output))
+    }
+
+    /// Tells it that no frame will come, where it waits for one. Was it?
+    pub fn end(&mut self) -> bool
+        ensures told { result ≡ true → IsHungry effect_acts self.old.chain.flow × (self.new ≡ ended self.old) }
+        ensures refused { result ≡ false → (IsHungry effect_acts self.old.chain.flow → ⊥) × (self.new ≡ self.old) }
+    {
+        let State::Hungry = self.chain.state() else {
+            return false;
+        };
+        self.chain.end();
+        true
+    }
+
+    /// The frames that it holds.
+    pub fn held(&self) -> u64
+        ensures { result ≡ held_in self.now }
+    {
+        self.chain.held()
+    }
+
+    /// The frames that it may hold.
+    pub fn hold(&self) -> u64
+        ensures { result ≡ hold_all self.now.chain.plan.acts }
+    {
+        self.chain.hold()
+    }
+
+    /// The samples that effect `number`, counted from 1, clipped; 0 where there is no such effect.
+    pub fn clips(&self, number: usize) -> u64
+        ensures { result ≡ clips_of self.now number }
+    {
+        if number == 0 || number > self.plan.effect_count() {
+            return 0;
+        }
+        self.chain.clips(number)
+    }
+
+    /// The chain as bytes; it stays as it is.
+    pub fn freeze(&self, alloc: Global) -> Result<Vec<u8>, AllocError>
+        ensures frozen { IfOk result (λ bytes. IsFrozenAs self.now.chain bytes.items) }
+        ensures sound { OnOk result (IsSoundChain self.now.chain) }
+    {
+        let snapshot = self.chain.freeze(alloc)?;
+        freeze_to_bytes(alloc, &snapshot.numbers, &snapshot.frames)
+    }
+
+    /// Goes on from a chain of the same plan that was frozen to these bytes: whichever it was, one of the same value takes the
+    /// place of this one. Else why not, and nothing has changed: Memory, or BadSnapshot where no chain of the plan was.
+    pub fn thaw(&mut self, alloc: Global, bytes: &[u8]) -> Result<(), ThawFault>
+        ensures frozen { OnOk result (IsFrozenAs self.new.chain bytes.now) }
+        ensures plan { self.new.plan ≡ self.old.plan }
+        ensures thawed { (c : ChainParts) → IsSoundChain c → c.plan ≡ self.old.chain.plan → IsFrozenAs c bytes.now → MatchResult result (λ _. self.new.chain ≡ c) (λ e. e ≡ ThawFault.Memory) }
+        ensures refused { OnErr result (self.new ≡ self.old) }
+    {
+        let stored = match thaw_from_bytes(alloc, bytes) {
+            Ok(Some(stored)) => stored,
+            Ok(None) => return Err(ThawFault::BadSnapshot),
+            Err(AllocError) => return Err(ThawFault::Memory),
+        };
+        let Ok(plan) = self.plan.copy(alloc) else {
+            return Err(ThawFault::Memory);
+        };
+        let Stored { numbers, frames } = stored;
+        let snapshot = Snapshot {
+            plan,
+            frames,
+            numbers,
+        };
+        match Chain::thaw(alloc, &self.plan, &snapshot) {
+            Ok(chain) => {
+                self.chain = chain;
+                Ok(())
+            }
+            Err(fault) => Err(fault),
+        }
+    }
+}
