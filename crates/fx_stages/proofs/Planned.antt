@@ -8,6 +8,7 @@ use Rattle.fx_frame.specs.Holds.{hold_sum}
 use Rattle.fx_frame.specs.Stage.{Kind}
 use Rattle.fx_effects.specs.Bounds
 use Rattle.fx_effects.specs.Bounds.{hold_all, is_past, mosts, work_of}
+use Rattle.fx_effects.specs.Effects
 use Rattle.fx_effects.specs.Effects.{line_of, Act, OfDelay, OfRemix, OfUpsample, Usable, all_fit, fits_layout, layout_after}
 use Rattle.fx_effects.specs.declared.effect.Layout.{Layout}
 use Rattle.fx_effects.proofs.Lasting.{within-here, within-next, work-cons}
@@ -45,10 +46,10 @@ part-fits n factor limit p h = (le-div_iff_mul-le p).1 h
 -- what it gives is not too long; and it suits channels where the effect fits a layout with them.
 pub record Planned (channels : ℕ) (a : Act) : Type 0 where
   pub line : (kind_for channels a).line ≡ line_of a
-  pub most : (n : ℕ) → (kind_for channels a).most n ≡ Bounds.most_of a n
+  pub most : (n : ℕ) → (kind_for channels a).most n ≡ Effects.most_of a n
   pub inputs : suits channels a ≡ true → (kind_for channels a).inputs ≡ channels
   pub outputs : suits channels a ≡ true → (kind_for channels a).outputs ≡ channels_after channels a
-  pub limit : (n : ℕ) → Usable a → n ≤ 2 ^ 56 → Bounds.most_of a n ≤ 2 ^ 56 → n ≤ (kind_for channels a).limit
+  pub limit : (n : ℕ) → Usable a → n ≤ 2 ^ 56 → Effects.most_of a n ≤ 2 ^ 56 → n ≤ (kind_for channels a).limit
   pub some : Usable a → 1 ≤ channels → 1 ≤ channels_after channels a
   pub few : Usable a → channels ≤ 16 → channels_after channels a ≤ 16
   pub suiting : (rate : ℕ) → fits_layout (record { rate = rate; channels = channels }) a ≡ true → suits channels a ≡ true
@@ -115,17 +116,17 @@ pub within-for : (channels : ℕ) (acts : List Act) (n : ℕ) → All Usable act
 within-for channels [] n u h = tt
 within-for channels (a ∷ acts) n u h =
     let next = within-next a acts n h in (
-      (planned channels a).limit n (All-head Usable a acts u) (within-here (a ∷ acts) n h) (within-here acts (Bounds.most_of a n) next),
-      rw ((planned channels a).most n) (within-for (channels_after channels a) acts (Bounds.most_of a n) (All-tail Usable a acts u) next),
+      (planned channels a).limit n (All-head Usable a acts u) (within-here (a ∷ acts) n h) (within-here acts (Effects.most_of a n) next),
+      rw ((planned channels a).most n) (within-for (channels_after channels a) acts (Effects.most_of a n) (All-tail Usable a acts u) next),
     )
 
 pub most-for : (channels : ℕ) (acts : List Act) (n : ℕ) → list_any is_past (mosts acts n) ≡ false → most_of (kinds_for channels acts) n ≤ 2 ^ 56
 most-for channels [] n h = within-here [] n h
-most-for channels (a ∷ acts) n h = rw ((planned channels a).most n, most_of) (most-for (channels_after channels a) acts (Bounds.most_of a n) (within-next a acts n h))
+most-for channels (a ∷ acts) n h = rw ((planned channels a).most n, most_of) (most-for (channels_after channels a) acts (Effects.most_of a n) (within-next a acts n h))
 
 pub work-for : (channels : ℕ) (acts : List Act) (n : ℕ) → work (kinds_for channels acts) n ≡ work_of acts n
 work-for channels [] n = omega arith
-work-for channels (a ∷ acts) n = rw ((planned channels a).most n, work-for (channels_after channels a) acts (Bounds.most_of a n)) (sym (work-cons a acts n))
+work-for channels (a ∷ acts) n = rw ((planned channels a).most n, work-for (channels_after channels a) acts (Effects.most_of a n)) (sym (work-cons a acts n))
 
 holds-are : (channels : ℕ) (acts : List Act) → hold_sum (kinds_for channels acts) ≡ sum_by Bounds.hold_of acts
 holds-are channels [] = refl

@@ -15,3 +15,36 @@ thaw-requires-in-Remix-clause-named c = rw (c.deref-in-Remix.ensures.value) (mix
 
 pub returns-in-Remix-clause-thawed : goal.returns-in-Remix-clause-thawed
 returns-in-Remix-clause-thawed c = grind (arith, common_steps) steps 60000000
+
+pub returns-in-Trim-clause-thawed : goal.returns-in-Trim-clause-thawed
+returns-in-Trim-clause-thawed c = grind (arith, common_steps) steps 60000000
+
+pub returns-in-Pad-clause-thawed : goal.returns-in-Pad-clause-thawed
+returns-in-Pad-clause-thawed c = grind (arith, common_steps) steps 60000000
+
+pub returns-in-Delay-clause-thawed : goal.returns-in-Delay-clause-thawed
+returns-in-Delay-clause-thawed c = grind (arith, common_steps) steps 60000000
+
+pub returns-in-Echo-clause-thawed : goal.returns-in-Echo-clause-thawed
+returns-in-Echo-clause-thawed c = grind (arith, common_steps) steps 60000000
+
+pub returns-in-Echos-clause-thawed : goal.returns-in-Echos-clause-thawed
+returns-in-Echos-clause-thawed c = grind (arith, common_steps) steps 60000000
+
+pub returns-in-Fade-clause-thawed : goal.returns-in-Fade-clause-thawed
+returns-in-Fade-clause-thawed c = grind (arith, common_steps) steps 60000000
+
+pub returns-in-Vol-clause-thawed : goal.returns-in-Vol-clause-thawed
+returns-in-Vol-clause-thawed c = grind (arith, common_steps) steps 60000000
+
+pub returns-in-DcShift-clause-thawed : goal.returns-in-DcShift-clause-thawed
+returns-in-DcShift-clause-thawed c = grind (arith, common_steps) steps 60000000
+
+pub returns-in-Fir-clause-thawed : goal.returns-in-Fir-clause-thawed
+returns-in-Fir-clause-thawed c = grind (arith, common_steps) steps 60000000
+
+pub returns-in-Upsample-clause-thawed : goal.returns-in-Upsample-clause-thawed
+returns-in-Upsample-clause-thawed c = grind (arith, common_steps) steps 60000000
+
+pub returns-in-Downsample-clause-thawed : goal.returns-in-Downsample-clause-thawed
+returns-in-Downsample-clause-thawed c = grind (arith, common_steps) steps 60000000
