@@ -14,7 +14,7 @@ use Rattle.fx_frame.specs.Stage.{Acts, Counts, IsDry, Kind, is_enough, kind, spe
 use Rattle.fx_frame.specs.Row.{AreReady, outputs_of}
 use Rattle.fx_flow.specs.Parts.{AllDry, AllSettled, any_spent, ended_of, moves_of}
 use Rattle.fx_flow.specs.Row.{AllHeld, CameTo, WentThrough}
-use Rattle.fx_flow.specs.Runs.{AllAhead, AllKeep, MayRun, RanOn, flow_of}
+use Rattle.fx_flow.specs.Runs.{AllAhead, AllKeep, MayRun, MayRunRow, RanOn, flow_of}
 use Rattle.fx_flow.specs.Sound.{IsSound, most_frames}
 use Rattle.fx_flow.specs.declared.runs.Widths.{Widths}
 use Rattle.fx_flow.proofs.Feeding.{Turned, Turned-kept, Turned-none, Turned-through}
@@ -29,7 +29,7 @@ outputs-keep channels [] h = refl
 outputs-keep channels (k ∷ ks) h = rw h.0 (outputs-keep channels ks h.1)
 
 -- the widths of stages that each give as many channels as go in
-pub kept-is : (w : Widths) (channels : ℕ) → w.keeps ≡ true → w.inputs ≡ channels → w.outputs ≡ w.inputs → record { inputs = channels; outputs = channels; keeps = true } ≡ w
+kept-is : (w : Widths) (channels : ℕ) → w.keeps ≡ true → w.inputs ≡ channels → w.outputs ≡ w.inputs → record { inputs = channels; outputs = channels; keeps = true } ≡ w
 kept-is w channels keeps inputs outputs =
     let same : ◌≡◌ {A = ℕ × (ℕ × Bool)} (channels, (channels, true)) (w.inputs, (w.outputs, w.keeps)) = rw (keeps, outputs, inputs) refl in
     ap (λ (p : ℕ × (ℕ × Bool)). record { inputs = p.0; outputs = p.1.0; keeps = p.1.1 }) same
@@ -80,6 +80,10 @@ frame-read at size long input some few within reach fits =
     }
 
 module _ {S R : Type 0} (acts : Acts S R) where
+  -- the widths of a row of which each stage gives as many channels as go in, and so many go in
+  pub widths-kept : {w kept : Widths} {count : ℕ} {samples room : List ℤ} {stages : List S} → MayRunRow acts w count samples room stages → (channels : ℕ) → kept ≡ record { inputs = channels; outputs = channels; keeps = true } → w.keeps ≡ true → w.inputs ≡ channels → kept ≡ w
+  widths-kept {w} may channels named keeps is = named ∙ kept-is w channels keeps is (may.outputs ∙ outputs-keep _ _ (may.keep keeps))
+
   pub AllAhead-less : (m n : ℕ) (stages : List S) → m ≤ n → AllAhead acts n stages → AllAhead acts m stages
   AllAhead-less m n [] h all = tt
   AllAhead-less m n (s ∷ stages) h all = ((λ k l. all.0 k (omega arith)), AllAhead-less m n stages h all.1)

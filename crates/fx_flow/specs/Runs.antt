@@ -1,11 +1,17 @@
 -- Frames that go through stages in a row one after another, with nothing asked between two of them (this project's profile).
-use Rattle.std.specs.Prelude.{ℕ, ◌+◌, ◌<◌, ◌≤◌, ◌≡◌, false, None, List, [], ◌∷◌, length}
+use Rattle.std.specs.Prelude.{ℕ, ℤ, ◌+◌, ◌*◌, ◌<◌, ◌≤◌, ◌≡◌, true, false, None, List, [], ◌∷◌, drop, length}
 use Rattle.fx_frame.specs.Feed.{IsSteady}
 use Rattle.fx_frame.specs.Frame.{Samples}
+use Rattle.fx_frame.specs.Holds.{kinds}
+use Rattle.fx_frame.specs.Ring.{pieces}
+use Rattle.fx_frame.specs.Row.{outputs_of}
 use Rattle.fx_frame.specs.Stage.{Acts, Kind, is_enough, kind}
+use Rattle.fx_frame.specs.declared.feed.Passed.{Passed}
 use Rattle.fx_flow.specs.Feed.{FlowFed, FlowGave}
-use Rattle.fx_flow.specs.Parts.{Parts, ended_of, moves_of}
+use Rattle.fx_flow.specs.Parts.{AllSettled, Parts, ended_of, moves_of}
+use Rattle.fx_flow.specs.Row.{AllHeld}
 use Rattle.fx_flow.specs.Sound.{IsSound, most_frames}
+use Rattle.fx_flow.specs.declared.runs.Widths.{Widths}
 
 -- each gives frames of so many channels
 abbrev pub AllKeep : ℕ → List Kind → Type 0
@@ -38,3 +44,28 @@ module _ {S R : Type 0} (acts : Acts S R) where
     pub gave : FlowGave acts (flow_of channels old left) xs gs (flow_of channels new (left + length xs))
     pub sound : IsSound acts (flow_of channels new (left + length xs))
     pub moves : moves_of acts (flow_of channels old left) + ended_of acts old ≤ moves_of acts (flow_of channels new (left + length xs)) + ended_of acts new
+
+  -- So many frames at the front of the input, whose samples these are, may go through stages in a row, and the output has room
+  -- for as many. A frame has 1 to 16 channels, and the widths are those of the stages. Each stage has given what is due, holds
+  -- no more than it may, and has not had enough before the last frame.
+  pub record MayRunRow (widths : Widths) (count : ℕ) (samples room : List ℤ) (stages : List S) : Type 0 where
+    pub frame : (1 ≤ widths.inputs) × (widths.inputs ≤ 16)
+    pub outputs : widths.outputs ≡ outputs_of widths.inputs (kinds acts stages)
+    pub keep : widths.keeps ≡ true → AllKeep widths.inputs (kinds acts stages)
+    pub input : count * widths.inputs ≤ length samples
+    pub output : count * widths.outputs ≤ length room
+    pub may_run : (left : ℕ) × MayRun widths.inputs count stages left
+    pub settled : AllSettled acts stages
+    pub held : AllHeld acts stages
+    pub ahead : AllAhead count stages
+
+  -- Of so many frames at the front of the input, whose samples these are, the first ones went through stages in a row, at least
+  -- one where there is any. Those that came out, at most one for each and none without samples, stand at the front of the
+  -- output; behind them it is as it was before.
+  pub record RanRow (widths : Widths) (count : ℕ) (samples before after : List ℤ) (old new : List S) (passed : Passed) : Type 0 where
+    pub ran : (left : ℕ) → MayRun widths.inputs count old left → RanOn widths.inputs (pieces widths.inputs passed.taken samples) (pieces widths.outputs passed.given after) old new left
+    pub read : passed.taken ≤ count
+    pub written : passed.given ≤ passed.taken
+    pub small : passed.given ≤ passed.given * widths.outputs
+    pub some : 1 ≤ count → 1 ≤ passed.taken
+    pub behind : drop (passed.given * widths.outputs) after ≡ drop (passed.given * widths.outputs) before

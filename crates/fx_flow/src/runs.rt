@@ -1,12 +1,11 @@
 //! Frames that go through stages one after another, with nothing asked between two of them.
-ghost use Rattle.std.specs.Prelude.{◌≡◌, ◌<◌, ◌≤◌, ◌*◌, ℕ, Some, None, true, false, drop, length, take, if◌then◌else◌};
+ghost use Rattle.std.specs.Prelude.{◌≡◌, ◌<◌, ◌≤◌, ℕ, Some, None, true, false, take, if◌then◌else◌};
 ghost use Rattle.fx_frame.specs.Row.{AreReady, outputs_of};
 ghost use Rattle.fx_flow.specs.Parts.{AllSettled};
-ghost use Rattle.fx_flow.specs.Row.{AllHeld, WentThrough};
-ghost use Rattle.fx_flow.specs.Runs.{AllAhead, AllKeep, MayRun, RanOn};
+ghost use Rattle.fx_flow.specs.Row.{WentThrough};
+ghost use Rattle.fx_flow.specs.Runs.{AllAhead, AllKeep, MayRunRow, RanRow};
 ghost use Rattle.fx_frame.specs.Feed.{PassedOn};
 ghost use Rattle.fx_frame.specs.Holds.{kinds};
-ghost use Rattle.fx_frame.specs.Ring.{pieces};
 ghost use Rattle.fx_frame.specs.Stage.{IsDry, kind, spent};
 
 use crate::steady::{least_steady, run_steadily};
@@ -148,21 +147,8 @@ fn run_frames<S: Feeds>(
     input: &[i32],
     output: &mut [i32],
 ) -> Passed
-    requires frame { (1 ≤ widths.inputs) × (widths.inputs ≤ 16) }
-    requires outputs { widths.outputs ≡ outputs_of widths.inputs (kinds S.acts stages.old) }
-    requires keep { widths.keeps ≡ true → AllKeep widths.inputs (kinds S.acts stages.old) }
-    requires input { count * widths.inputs ≤ length input.now }
-    requires output { count * widths.outputs ≤ length output.old }
-    requires may_run { (left : ℕ) × MayRun S.acts widths.inputs count stages.old left }
-    requires settled { AllSettled S.acts stages.old }
-    requires held { AllHeld S.acts stages.old }
-    requires ahead { AllAhead S.acts count stages.old }
-    ensures ran { (left : ℕ) → MayRun S.acts widths.inputs count stages.old left → RanOn S.acts widths.inputs (pieces widths.inputs result.taken input.now) (pieces widths.outputs result.given output.new) stages.old stages.new left }
-    ensures read { result.taken ≤ count }
-    ensures written { result.given ≤ result.taken }
-    ensures small { result.given ≤ result.given * widths.outputs }
-    ensures some { 1 ≤ count → 1 ≤ result.taken }
-    ensures behind { drop (result.given * widths.outputs) output.new ≡ drop (result.given * widths.outputs) output.old }
+    requires { MayRunRow S.acts widths count input.now output.old stages.old }
+    ensures { RanRow S.acts widths count input.now output.old output.new stages.old stages.new result }
 {
     see_samples(&input[..count * widths.inputs]);
     let mut places = [0; 16];
@@ -203,21 +189,8 @@ fn run_by_frames<S: Feeds>(
     input: &[i32],
     output: &mut [i32],
 ) -> Passed
-    requires frame { (1 ≤ widths.inputs) × (widths.inputs ≤ 16) }
-    requires outputs { widths.outputs ≡ outputs_of widths.inputs (kinds S.acts stages.old) }
-    requires keep { widths.keeps ≡ true → AllKeep widths.inputs (kinds S.acts stages.old) }
-    requires input { count * widths.inputs ≤ length input.now }
-    requires output { count * widths.outputs ≤ length output.old }
-    requires may_run { (left : ℕ) × MayRun S.acts widths.inputs count stages.old left }
-    requires settled { AllSettled S.acts stages.old }
-    requires held { AllHeld S.acts stages.old }
-    requires ahead { AllAhead S.acts count stages.old }
-    ensures ran { (left : ℕ) → MayRun S.acts widths.inputs count stages.old left → RanOn S.acts widths.inputs (pieces widths.inputs result.taken input.now) (pieces widths.outputs result.given output.new) stages.old stages.new left }
-    ensures read { result.taken ≤ count }
-    ensures written { result.given ≤ result.taken }
-    ensures small { result.given ≤ result.given * widths.outputs }
-    ensures some { 1 ≤ count → 1 ≤ result.taken }
-    ensures behind { drop (result.given * widths.outputs) output.new ≡ drop (result.given * widths.outputs) output.old }
+    requires { MayRunRow S.acts widths count input.now output.old stages.old }
+    ensures { RanRow S.acts widths count input.now output.old output.new stages.old stages.new result }
 {
     if !widths.keeps {
         return run_frames(stages, widths, count, input, output);
@@ -238,21 +211,8 @@ fn run_apart<S: Feeds>(
     input: &[i32],
     output: &mut [i32],
 ) -> Passed
-    requires frame { (1 ≤ widths.inputs) × (widths.inputs ≤ 16) }
-    requires outputs { widths.outputs ≡ outputs_of widths.inputs (kinds S.acts stages.old) }
-    requires keep { widths.keeps ≡ true → AllKeep widths.inputs (kinds S.acts stages.old) }
-    requires input { count * widths.inputs ≤ length input.now }
-    requires output { count * widths.outputs ≤ length output.old }
-    requires may_run { (left : ℕ) × MayRun S.acts widths.inputs count stages.old left }
-    requires settled { AllSettled S.acts stages.old }
-    requires held { AllHeld S.acts stages.old }
-    requires ahead { AllAhead S.acts count stages.old }
-    ensures ran { (left : ℕ) → MayRun S.acts widths.inputs count stages.old left → RanOn S.acts widths.inputs (pieces widths.inputs result.taken input.now) (pieces widths.outputs result.given output.new) stages.old stages.new left }
-    ensures read { result.taken ≤ count }
-    ensures written { result.given ≤ result.taken }
-    ensures small { result.given ≤ result.given * widths.outputs }
-    ensures some { 1 ≤ count → 1 ≤ result.taken }
-    ensures behind { drop (result.given * widths.outputs) output.new ≡ drop (result.given * widths.outputs) output.old }
+    requires { MayRunRow S.acts widths count input.now output.old stages.old }
+    ensures { RanRow S.acts widths count input.now output.old output.new stages.old stages.new result }
 {
     let steady = least_steady(stages, count);
     if !widths.keeps || steady == 0 {
@@ -274,21 +234,8 @@ pub fn run<S: Feeds>(
     input: &[i32],
     output: &mut [i32],
 ) -> Passed
-    requires frame { (1 ≤ widths.inputs) × (widths.inputs ≤ 16) }
-    requires outputs { widths.outputs ≡ outputs_of widths.inputs (kinds S.acts stages.old) }
-    requires keep { widths.keeps ≡ true → AllKeep widths.inputs (kinds S.acts stages.old) }
-    requires input { count * widths.inputs ≤ length input.now }
-    requires output { count * widths.outputs ≤ length output.old }
-    requires may_run { (left : ℕ) × MayRun S.acts widths.inputs count stages.old left }
-    requires settled { AllSettled S.acts stages.old }
-    requires held { AllHeld S.acts stages.old }
-    requires ahead { AllAhead S.acts count stages.old }
-    ensures ran { (left : ℕ) → MayRun S.acts widths.inputs count stages.old left → RanOn S.acts widths.inputs (pieces widths.inputs result.taken input.now) (pieces widths.outputs result.given output.new) stages.old stages.new left }
-    ensures read { result.taken ≤ count }
-    ensures written { result.given ≤ result.taken }
-    ensures small { result.given ≤ result.given * widths.outputs }
-    ensures some { 1 ≤ count → 1 ≤ result.taken }
-    ensures behind { drop (result.given * widths.outputs) output.new ≡ drop (result.given * widths.outputs) output.old }
+    requires { MayRunRow S.acts widths count input.now output.old stages.old }
+    ensures { RanRow S.acts widths count input.now output.old output.new stages.old stages.new result }
 {
     if count == 0 {
         return Passed { taken: 0, given: 0 };

@@ -12,18 +12,15 @@ run_steadily-requires-clause-output g c =
 pub run_steadily-requires-clause-ahead : goal.run_steadily-requires-clause-ahead
 run_steadily-requires-clause-ahead g c = AllAhead-less g.S.Stage.acts c.least_steady-steady.result c.args.count c.args.stages.now c.least_steady-steady.ensures.most c.requires.ahead
 
-pub returns-clause-ran : goal.returns-clause-ran
-returns-clause-ran g c =
-    λ left may.
+pub returns : goal.returns
+returns g c =
+    let steady = c.least_steady-steady.ensures in
     let same : c.args.widths.outputs ≡ c.args.widths.inputs = c.requires.outputs ∙ outputs-keep _ _ (c.requires.keep (search rules)) in
-    rw same (c.run_steadily.ensures.ran left (record { sound = may.sound; few = omega (arith, may.few, c.least_steady-steady.ensures.most) }))
-
-pub returns-clause-small : goal.returns-clause-small
-returns-clause-small g c =
-    let same : c.args.widths.outputs ≡ c.args.widths.inputs = c.requires.outputs ∙ outputs-keep _ _ (c.requires.keep (search rules)) in
-    rw same (omega (arith, mul-le-mul_left c.least_steady-steady.result c.requires.frame.0))
-
-pub returns-clause-behind : goal.returns-clause-behind
-returns-clause-behind g c =
-    let same : c.args.widths.outputs ≡ c.args.widths.inputs = c.requires.outputs ∙ outputs-keep _ _ (c.requires.keep (search rules)) in
-    rw same c.run_steadily.ensures.behind
+    record {
+      ran = λ left may. rw same (c.run_steadily.ensures.ran left (record { sound = may.sound; few = omega (arith, may.few, steady.most) }));
+      read = steady.most;
+      written = omega arith;
+      small = rw same (omega (arith, mul-le-mul_left c.least_steady-steady.result c.requires.frame.0));
+      some = λ _. omega arith;
+      behind = rw same c.run_steadily.ensures.behind;
+    }

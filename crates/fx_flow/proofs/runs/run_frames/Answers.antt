@@ -88,9 +88,17 @@ frames-preserved g c =
       behind = run.turned.behind;
     }
 
-pub returns-clause-ran : goal.returns-clause-ran
-returns-clause-ran g c =
-    λ left may.
+pub returns : goal.returns
+returns g c =
     let done : c.frames.taken ≡ c.args.count = omega (arith, c.frames-test.false, c.frames.auto.taken-end) in
-    let run = rw done at (c.frames.invariant.runs left may) in
-    Running-ran g.S.Stage.acts g.met.S.Stage.rises c.args.widths.inputs c.args.widths.outputs c.args.count left c.args.stages.now c.args.input.now c.args.output.now c.frames.stages c.frames.output (c.args.count * c.args.widths.inputs) (c.frames.given * c.args.widths.outputs) c.args.count c.frames.given run c.requires.input (sym c.requires.outputs)
+    let kept = c.frames.invariant in
+    record {
+      ran = λ left may.
+          let run = rw done at (kept.runs left may) in
+          Running-ran g.S.Stage.acts g.met.S.Stage.rises c.args.widths.inputs c.args.widths.outputs c.args.count left c.args.stages.now c.args.input.now c.args.output.now c.frames.stages c.frames.output (c.args.count * c.args.widths.inputs) (c.frames.given * c.args.widths.outputs) c.args.count c.frames.given run c.requires.input (sym c.requires.outputs);
+      read = omega arith;
+      written = omega (arith, done, kept.fewer);
+      small = kept.small;
+      some = λ one. one;
+      behind = kept.behind;
+    }
