@@ -139,7 +139,7 @@ module _ {M : Type 0} (taps : Taps M) where
     dry = λ s. is_none s.hand && nat_eq s.tail 0;
     stored = λ s. s.line.items ++ option_to_list s.hand;
     capacity = λ s. s.line.capacity;
-    own = λ s. record { sixth = s.tail; seventh = length (option_to_list s.hand); eighth = s.hand_clips };
+    own = λ s. record { first = s.tail; second = length (option_to_list s.hand); third = s.hand_clips };
   }
 
 -- more frames in give no fewer out

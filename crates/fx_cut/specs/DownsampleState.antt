@@ -41,5 +41,5 @@ downsample_acts = record {
   dry = λ s. is_none s.hand;
   stored = λ s. option_to_list s.hand;
   capacity = λ s. 0;
-  own = λ s. record { sixth = s.skip; seventh = 0; eighth = 0 };
+  own = λ s. record { first = s.skip; second = 0; third = 0 };
 }

@@ -94,5 +94,5 @@ fade_acts = record {
   dry = λ s. is_none s.hand;
   stored = λ s. s.line.items ++ option_to_list s.hand;
   capacity = λ s. s.line.capacity;
-  own = λ s. record { sixth = length (option_to_list s.hand); seventh = 0; eighth = 0 };
+  own = λ s. record { first = length (option_to_list s.hand); second = 0; third = 0 };
 }

@@ -88,7 +88,7 @@ pad_acts = record {
   dry = λ s. is_none s.hand && nat_eq s.silent 0;
   stored = λ s. s.line.items ++ option_to_list s.hand;
   capacity = λ s. s.line.capacity;
-  own = λ s. record { sixth = s.silent; seventh = length (option_to_list s.hand); eighth = 0 };
+  own = λ s. record { first = s.silent; second = length (option_to_list s.hand); third = 0 };
 }
 
 -- more frames in give no fewer out

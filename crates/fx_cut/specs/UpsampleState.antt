@@ -40,5 +40,5 @@ upsample_acts = record {
   dry = λ s. is_none s.hand && nat_eq s.silent 0;
   stored = λ s. option_to_list s.hand;
   capacity = λ s. 0;
-  own = λ s. record { sixth = s.silent; seventh = 0; eighth = 0 };
+  own = λ s. record { first = s.silent; second = 0; third = 0 };
 }

@@ -9,7 +9,7 @@ ghost use Rattle.fx_cut.specs.Strides.{firsts};
 use crate::many::{PassesMany, feed_by_pieces};
 use fx_frame::frozen::{stored_hand, thawed_hand};
 use fx_frame::stage::MOST_TAKEN;
-use fx_frame::{Feeds, Frame, Passed, Stage, ThawFault, WideFrame};
+use fx_frame::{Feeds, Frame, Passed, Stage, Tally, ThawFault, WideFrame};
 use std::marker::Model;
 
 /// Copies the first frame of each of so many groups in front of the input to the front of the output.
@@ -163,8 +163,14 @@ impl Stage for Downsample {
         self.hand.is_none()
     }
 
-    fn is_ended(&self) -> bool {
-        self.ended
+    #[inline(always)]
+    fn tally(&self) -> Tally {
+        Tally {
+            taken: self.taken,
+            given: self.given,
+            clips: 0,
+            ended: self.ended,
+        }
     }
 
     fn is_spent(&self) -> bool {
@@ -179,10 +185,6 @@ impl Stage for Downsample {
         1
     }
 
-    fn clips(&self) -> u64 {
-        0
-    }
-
     fn in_channels(&self) -> usize {
         self.channels
     }
@@ -191,17 +193,8 @@ impl Stage for Downsample {
         self.channels
     }
 
-    fn counters(&self) -> [u64; 8] {
-        [
-            self.taken,
-            self.given,
-            u64::from(self.ended),
-            0,
-            self.held(),
-            self.skip,
-            0,
-            0,
-        ]
+    fn own(&self) -> [u64; 3] {
+        [self.skip, 0, 0]
     }
 
     fn stored(&self, j: usize) -> WideFrame {

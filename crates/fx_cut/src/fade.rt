@@ -23,7 +23,7 @@ use fx_fixed::inner::{meant_stop, stop_line};
 use fx_frame::frozen::{stored_in, thawed_line_and_hand};
 use fx_frame::inner::{frame_of, places};
 use fx_frame::stage::MOST_TAKEN;
-use fx_frame::{Feeds, Frame, Line, Passed, Passing, Stage, ThawFault, WideFrame};
+use fx_frame::{Feeds, Frame, Line, Passed, Passing, Stage, Tally, ThawFault, WideFrame};
 use std::alloc::{AllocError, Global};
 use std::marker::Model;
 
@@ -496,8 +496,14 @@ impl Stage for Fade {
         self.hand.is_none()
     }
 
-    fn is_ended(&self) -> bool {
-        self.ended
+    #[inline(always)]
+    fn tally(&self) -> Tally {
+        Tally {
+            taken: self.taken,
+            given: self.given,
+            clips: 0,
+            ended: self.ended,
+        }
     }
 
     fn is_spent(&self) -> bool {
@@ -515,10 +521,6 @@ impl Stage for Fade {
         self.line.capacity() as u64 + 1
     }
 
-    fn clips(&self) -> u64 {
-        0
-    }
-
     fn in_channels(&self) -> usize {
         self.channels
     }
@@ -527,17 +529,8 @@ impl Stage for Fade {
         self.channels
     }
 
-    fn counters(&self) -> [u64; 8] {
-        [
-            self.taken,
-            self.given,
-            u64::from(self.ended),
-            0,
-            self.held(),
-            u64::from(self.hand.is_some()),
-            0,
-            0,
-        ]
+    fn own(&self) -> [u64; 3] {
+        [u64::from(self.hand.is_some()), 0, 0]
     }
 
     fn stored(&self, j: usize) -> WideFrame {

@@ -18,7 +18,7 @@ use fx_fixed::At;
 use fx_fixed::inner::greatest_end;
 use fx_frame::frozen::{stored_in, thawed_line_and_hand};
 use fx_frame::stage::MOST_TAKEN;
-use fx_frame::{Feeds, Frame, Line, Passed, Passing, Stage, ThawFault, WideFrame};
+use fx_frame::{Feeds, Frame, Line, Passed, Passing, Stage, Tally, ThawFault, WideFrame};
 use std::alloc::{AllocError, Global};
 use std::marker::Model;
 
@@ -436,8 +436,14 @@ impl Stage for Trim {
         self.hand.is_none()
     }
 
-    fn is_ended(&self) -> bool {
-        self.ended
+    #[inline(always)]
+    fn tally(&self) -> Tally {
+        Tally {
+            taken: self.taken,
+            given: self.given,
+            clips: 0,
+            ended: self.ended,
+        }
     }
 
     fn is_spent(&self) -> bool {
@@ -455,10 +461,6 @@ impl Stage for Trim {
         self.line.capacity() as u64 + 1
     }
 
-    fn clips(&self) -> u64 {
-        0
-    }
-
     fn in_channels(&self) -> usize {
         self.channels
     }
@@ -467,17 +469,8 @@ impl Stage for Trim {
         self.channels
     }
 
-    fn counters(&self) -> [u64; 8] {
-        [
-            self.taken,
-            self.given,
-            u64::from(self.ended),
-            0,
-            self.held(),
-            u64::from(self.hand.is_some()),
-            0,
-            0,
-        ]
+    fn own(&self) -> [u64; 3] {
+        [u64::from(self.hand.is_some()), 0, 0]
     }
 
     fn stored(&self, j: usize) -> WideFrame {

@@ -9,7 +9,7 @@ ghost use Rattle.fx_cut.specs.Strides.{spread};
 use crate::many::{PassesMany, feed_by_pieces};
 use fx_frame::frozen::{stored_hand, thawed_hand};
 use fx_frame::stage::MOST_TAKEN;
-use fx_frame::{Feeds, Frame, Passed, Stage, ThawFault, WideFrame};
+use fx_frame::{Feeds, Frame, Passed, Stage, Tally, ThawFault, WideFrame};
 use std::marker::Model;
 
 /// Fills a group with a frame and silence behind it.
@@ -180,8 +180,14 @@ impl Stage for Upsample {
         self.hand.is_none() && self.silent == 0
     }
 
-    fn is_ended(&self) -> bool {
-        self.ended
+    #[inline(always)]
+    fn tally(&self) -> Tally {
+        Tally {
+            taken: self.taken,
+            given: self.given,
+            clips: 0,
+            ended: self.ended,
+        }
     }
 
     fn is_spent(&self) -> bool {
@@ -192,17 +198,8 @@ impl Stage for Upsample {
         u64::from(self.hand.is_some())
     }
 
-    fn counters(&self) -> [u64; 8] {
-        [
-            self.taken,
-            self.given,
-            u64::from(self.ended),
-            0,
-            self.held(),
-            self.silent,
-            0,
-            0,
-        ]
+    fn own(&self) -> [u64; 3] {
+        [self.silent, 0, 0]
     }
 
     fn stored(&self, j: usize) -> WideFrame {
@@ -211,10 +208,6 @@ impl Stage for Upsample {
 
     fn hold(&self) -> u64 {
         1
-    }
-
-    fn clips(&self) -> u64 {
-        0
     }
 
     fn in_channels(&self) -> usize {

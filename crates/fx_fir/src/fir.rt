@@ -17,7 +17,7 @@ use fx_frame::feed::{feed_by_frames, frame_at};
 use fx_frame::frozen::{stored_in, thawed_line_and_hand};
 use fx_frame::inner::frame_of;
 use fx_frame::stage::MOST_TAKEN;
-use fx_frame::{Feeds, Frame, Line, Passed, Passing, Stage, ThawFault, WideFrame};
+use fx_frame::{Feeds, Frame, Line, Passed, Passing, Stage, Tally, ThawFault, WideFrame};
 use std::alloc::{AllocError, Global};
 use std::marker::Model;
 
@@ -460,8 +460,14 @@ impl Stage for Fir {
         self.hand.is_none() && self.tail == 0
     }
 
-    fn is_ended(&self) -> bool {
-        self.ended
+    #[inline(always)]
+    fn tally(&self) -> Tally {
+        Tally {
+            taken: self.taken,
+            given: self.given,
+            clips: self.clips,
+            ended: self.ended,
+        }
     }
 
     fn is_spent(&self) -> bool {
@@ -476,10 +482,6 @@ impl Stage for Fir {
         self.line.capacity() as u64 + 1
     }
 
-    fn clips(&self) -> u64 {
-        self.clips
-    }
-
     fn in_channels(&self) -> usize {
         self.channels
     }
@@ -488,13 +490,8 @@ impl Stage for Fir {
         self.channels
     }
 
-    fn counters(&self) -> [u64; 8] {
+    fn own(&self) -> [u64; 3] {
         [
-            self.taken,
-            self.given,
-            u64::from(self.ended),
-            self.clips,
-            self.held(),
             self.tail as u64,
             u64::from(self.hand.is_some()),
             self.hand_clips,

@@ -69,17 +69,17 @@ pub record Gives (old new : List Samples → List Given) (old_counts new_counts 
 
 -- three numbers of a stage's own
 pub record Own : Type 0 where
-  pub sixth : ℕ
-  pub seventh : ℕ
-  pub eighth : ℕ
+  pub first : ℕ
+  pub second : ℕ
+  pub third : ℕ
 
 -- those of a new stage
 abbrev pub no_own : Own
-no_own = record { sixth = 0; seventh = 0; eighth = 0 }
+no_own = record { first = 0; second = 0; third = 0 }
 
 -- the eight numbers of a stage that stores so many frames
 abbrev pub numbered : Counts → ℕ → Own → List ℕ
-numbered c stored own = c.taken ∷ c.given ∷ cond c.ended 1 0 ∷ c.clips ∷ stored ∷ own.sixth ∷ own.seventh ∷ own.eighth ∷ []
+numbered c stored own = c.taken ∷ c.given ∷ cond c.ended 1 0 ∷ c.clips ∷ stored ∷ own.first ∷ own.second ∷ own.third ∷ []
 
 -- how the stages of a type behave that are made with such recipes
 pub record Acts (S R : Type 0) : Type 0 where
@@ -110,6 +110,10 @@ module _ {S R : Type 0} (acts : Acts S R) where
 
   abbrev pub numbers_of : S → List ℕ
   numbers_of s = numbered (acts.counts s) (length (acts.stored s)) (acts.own s)
+
+  -- the three of its own among them
+  abbrev pub own_of : S → List ℕ
+  own_of s = (acts.own s).first ∷ (acts.own s).second ∷ (acts.own s).third ∷ []
 
   -- nothing has happened yet to a stage that was made with a recipe
   pub record IsNew (r : R) (s : S) : Type 0 where

@@ -1,6 +1,6 @@
 ghost use Rattle.std.specs.Prelude.{◌≡◌, ◌<◌, ◌≤◌, ℕ, true, false, List, [], length, slice_index_or, MatchOption, MatchResult, IfOk, Err};
 ghost use Rattle.fx_frame.specs.Frame.{Samples};
-ghost use Rattle.fx_frame.specs.Stage.{Acts, Freezes, Gave, Took, Ended, IsDry, IsWet, IsWithin, hold_of, kind, numbers_of, spent};
+ghost use Rattle.fx_frame.specs.Stage.{Acts, Freezes, Gave, Took, Ended, IsDry, IsWet, IsWithin, hold_of, kind, numbers_of, own_of, spent};
 
 use crate::frame::Frame;
 use crate::wide::WideFrame;
@@ -9,6 +9,19 @@ use thiserror::Error;
 
 /// The most frames that the stage of an effect takes, where its arguments set no smaller limit.
 pub const MOST_TAKEN: u64 = 1 << 56;
+
+/// What a stage counted since it was made, and whether it was told the end.
+#[derive(Clone, Copy, Debug, Drop, PartialEq, Eq)]
+pub struct Tally {
+    /// The frames that it took.
+    pub taken: u64,
+    /// The frames that it gave.
+    pub given: u64,
+    /// The samples that were clipped in the frames that it gave.
+    pub clips: u64,
+    /// It was told the end.
+    pub ended: bool,
+}
 
 /// Takes frames one at a time and gives frames one at a time.
 ///
@@ -51,10 +64,27 @@ pub trait Stage {
         ensures dry { result ≡ true → IsDry acts self.now }
         ensures wet { result ≡ false → IsWet acts self.now };
 
+    /// What it counted, and whether it was told the end.
+    fn tally(&self) -> Tally
+        ensures taken { result.taken ≡ (acts.counts self.now).taken }
+        ensures given { result.given ≡ (acts.counts self.now).given }
+        ensures clips { result.clips ≡ (acts.counts self.now).clips }
+        ensures ended { result.ended ≡ (acts.counts self.now).ended }
+        ensures over { result.ended ≡ true → (z : List Samples) → acts.rest self.now z ≡ acts.rest self.now [] }
+        ensures within { IsWithin acts self.now }
+        ensures sound { sound self.now };
+
+    /// Three numbers of the stage's own.
+    fn own(&self) -> [u64; 3]
+        ensures { result ≡ own_of acts self.now };
+
     /// Was it told the end?
     fn is_ended(&self) -> bool
         ensures value { result ≡ (acts.counts self.now).ended }
-        ensures over { result ≡ true → (z : List Samples) → acts.rest self.now z ≡ acts.rest self.now [] };
+        ensures over { result ≡ true → (z : List Samples) → acts.rest self.now z ≡ acts.rest self.now [] }
+    {
+        self.tally().ended
+    }
 
     /// Will it give nothing more, whatever comes? True exactly where it is dry and has taken as many
     /// frames as are enough for its arguments.
@@ -74,7 +104,10 @@ pub trait Stage {
 
     /// How many samples were clipped in the frames that it gave.
     fn clips(&self) -> u64
-        ensures { result ≡ (acts.counts self.now).clips };
+        ensures { result ≡ (acts.counts self.now).clips }
+    {
+        self.tally().clips
+    }
 
     /// The channels of the frames that it takes.
     fn in_channels(&self) -> usize
@@ -89,7 +122,21 @@ pub trait Stage {
     fn counters(&self) -> [u64; 8]
         ensures value { result ≡ numbers_of acts self.now }
         ensures within { IsWithin acts self.now }
-        ensures sound { sound self.now };
+        ensures sound { sound self.now }
+    {
+        let tally = self.tally();
+        let [first, second, third] = self.own();
+        [
+            tally.taken,
+            tally.given,
+            u64::from(tally.ended),
+            tally.clips,
+            self.held(),
+            first,
+            second,
+            third,
+        ]
+    }
 
     /// The frame that it holds at a place, from 0: its line from the oldest frame on, then the one in
     /// hand.

@@ -11,8 +11,8 @@ use Rattle.fx_sums.proofs.Counts.{flag-le, flag-of, flag-true}
 pub record AreMapCounts (stored : ℕ) (ns : List ℕ) : Type 0 where
   pub flag : slice_index_or ns 2 0 ≤ 1
   pub all : slice_index_or ns 4 0 ≡ stored
-  pub seventh : slice_index_or ns 6 0 ≡ 0
-  pub eighth : slice_index_or ns 7 0 ≡ 0
+  pub own_second : slice_index_or ns 6 0 ≡ 0
+  pub own_third : slice_index_or ns 7 0 ≡ 0
   pub few : slice_index_or ns 0 0 ≤ most_taken
   pub counted : slice_index_or ns 1 0 + slice_index_or ns 4 0 ≡ slice_index_or ns 0 0
   pub hand_few : slice_index_or ns 5 0 ≤ 16
@@ -33,8 +33,8 @@ module _ {M : Type 0} (inputs outputs : M → ℕ) (mapped : M → Samples → G
   counts-are is = rw froze.counted record {
     flag = flag-le s.ended;
     all = ap length (sym froze.stored);
-    seventh = refl;
-    eighth = refl;
+    own_second = refl;
+    own_third = refl;
     few = is.few;
     counted = is.counted;
     hand_few = is.hand_few;

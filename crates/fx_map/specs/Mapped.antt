@@ -42,5 +42,5 @@ map_acts inputs outputs mapped = record {
   dry = λ s. is_none s.hand;
   stored = λ s. option_to_list s.hand;
   capacity = λ s. 0;
-  own = λ s. record { sixth = s.hand_clips; seventh = 0; eighth = 0 };
+  own = λ s. record { first = s.hand_clips; second = 0; third = 0 };
 }

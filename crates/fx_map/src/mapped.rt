@@ -8,7 +8,7 @@ ghost use Rattle.fx_blocks.specs.Made.{clips_in, made_of};
 use fx_frame::feed::{feed_by_frames, frame_at, put_frame};
 use fx_frame::frozen::{stored_hand, thawed_hand};
 use fx_frame::stage::MOST_TAKEN;
-use fx_frame::{Feeds, Frame, Passed, Passing, Stage, ThawFault, WideFrame};
+use fx_frame::{Feeds, Frame, Passed, Passing, Stage, Tally, ThawFault, WideFrame};
 use std::marker::Model;
 
 /// What an effect makes of a frame, whatever came before it.
@@ -188,10 +188,10 @@ impl<M: Mapping + Drop> Mapped<M> {
             clips,
             held,
             hand_clips,
-            seventh,
-            eighth,
+            own_second,
+            own_third,
         ] = *numbers;
-        if ended > 1 || seventh != 0 || eighth != 0 || held != frames.len() as u64 {
+        if ended > 1 || own_second != 0 || own_third != 0 || held != frames.len() as u64 {
             return Err(ThawFault::BadSnapshot);
         }
         if taken > MOST_TAKEN || given > taken || held != taken - given {
@@ -280,8 +280,14 @@ impl<M: Mapping + Drop> Stage for Mapped<M> {
         self.hand.is_none()
     }
 
-    fn is_ended(&self) -> bool {
-        self.ended
+    #[inline(always)]
+    fn tally(&self) -> Tally {
+        Tally {
+            taken: self.taken,
+            given: self.given,
+            clips: self.clips,
+            ended: self.ended,
+        }
     }
 
     fn is_spent(&self) -> bool {
@@ -296,10 +302,6 @@ impl<M: Mapping + Drop> Stage for Mapped<M> {
         1
     }
 
-    fn clips(&self) -> u64 {
-        self.clips
-    }
-
     fn in_channels(&self) -> usize {
         self.mapping.in_channels()
     }
@@ -308,17 +310,8 @@ impl<M: Mapping + Drop> Stage for Mapped<M> {
         self.mapping.out_channels()
     }
 
-    fn counters(&self) -> [u64; 8] {
-        [
-            self.taken,
-            self.given,
-            u64::from(self.ended),
-            self.clips,
-            self.held(),
-            self.hand_clips,
-            0,
-            0,
-        ]
+    fn own(&self) -> [u64; 3] {
+        [self.hand_clips, 0, 0]
     }
 
     fn stored(&self, j: usize) -> WideFrame {

@@ -145,5 +145,5 @@ echos_acts = record {
   dry = λ s. is_none s.hand && nat_eq s.tail 0;
   stored = λ s. frames_of s.lines ++ option_to_list s.hand;
   capacity = λ s. places_of s.lines;
-  own = λ s. record { sixth = s.tail; seventh = length (option_to_list s.hand); eighth = s.hand_clips };
+  own = λ s. record { first = s.tail; second = length (option_to_list s.hand); third = s.hand_clips };
 }

@@ -24,7 +24,7 @@ use fx_frame::frame::MOST_CHANNELS;
 use fx_frame::frozen::stored_hand;
 use fx_frame::inner::{frame_of, places, wide_of, wide_places};
 use fx_frame::stage::MOST_TAKEN;
-use fx_frame::{Feeds, Frame, Passed, Passing, Stage, ThawFault, WideFrame, WideLine};
+use fx_frame::{Feeds, Frame, Passed, Passing, Stage, Tally, ThawFault, WideFrame, WideLine};
 use fx_sums::inner::{Sums, add_places, add_products, add_samples, add_wide_products};
 use fx_sums::weights::{Small, small_of};
 use std::alloc::{AllocError, Global};
@@ -561,8 +561,14 @@ impl Stage for Echos {
         self.hand.is_none() && self.tail == 0
     }
 
-    fn is_ended(&self) -> bool {
-        self.ended
+    #[inline(always)]
+    fn tally(&self) -> Tally {
+        Tally {
+            taken: self.taken,
+            given: self.given,
+            clips: self.clips,
+            ended: self.ended,
+        }
     }
 
     fn is_spent(&self) -> bool {
@@ -577,10 +583,6 @@ impl Stage for Echos {
         all_taps(&self.echoes) + 1
     }
 
-    fn clips(&self) -> u64 {
-        self.clips
-    }
-
     fn in_channels(&self) -> usize {
         self.channels
     }
@@ -589,17 +591,8 @@ impl Stage for Echos {
         self.channels
     }
 
-    fn counters(&self) -> [u64; 8] {
-        [
-            self.taken,
-            self.given,
-            u64::from(self.ended),
-            self.clips,
-            self.held(),
-            self.tail,
-            u64::from(self.hand.is_some()),
-            self.hand_clips,
-        ]
+    fn own(&self) -> [u64; 3] {
+        [self.tail, u64::from(self.hand.is_some()), self.hand_clips]
     }
 
     fn stored(&self, j: usize) -> WideFrame {

@@ -10,7 +10,7 @@ use fx_frame::feed::{copy_samples, feed_by_frames, frame_at};
 use fx_frame::frozen::{stored_in, thawed_line_and_hand};
 use fx_frame::inner::{one, two};
 use fx_frame::stage::MOST_TAKEN;
-use fx_frame::{Feeds, Frame, Line, Passed, Passing, Stage, ThawFault, WideFrame};
+use fx_frame::{Feeds, Frame, Line, Passed, Passing, Stage, Tally, ThawFault, WideFrame};
 use fx_sums::inner::sample_or_silence;
 use std::alloc::{AllocError, Global};
 use std::marker::Model;
@@ -400,8 +400,14 @@ impl<T: Tapping + Drop> Stage for Tapped<T> {
         self.hand.is_none() && self.tail == 0
     }
 
-    fn is_ended(&self) -> bool {
-        self.ended
+    #[inline(always)]
+    fn tally(&self) -> Tally {
+        Tally {
+            taken: self.taken,
+            given: self.given,
+            clips: self.clips,
+            ended: self.ended,
+        }
     }
 
     fn is_spent(&self) -> bool {
@@ -416,10 +422,6 @@ impl<T: Tapping + Drop> Stage for Tapped<T> {
         self.line.capacity() as u64 + 1
     }
 
-    fn clips(&self) -> u64 {
-        self.clips
-    }
-
     fn in_channels(&self) -> usize {
         self.arguments.channels()
     }
@@ -428,13 +430,8 @@ impl<T: Tapping + Drop> Stage for Tapped<T> {
         self.arguments.channels()
     }
 
-    fn counters(&self) -> [u64; 8] {
+    fn own(&self) -> [u64; 3] {
         [
-            self.taken,
-            self.given,
-            u64::from(self.ended),
-            self.clips,
-            self.held(),
             self.tail as u64,
             u64::from(self.hand.is_some()),
             self.hand_clips,

@@ -13,7 +13,7 @@ ghost use Rattle.fx_map.specs.PerSampleState.{sample_acts};
 use fx_cut::{Downsample, Fade, Pad, Trim, Upsample};
 use fx_fir::Fir;
 use fx_frame::stage::Stage;
-use fx_frame::{Feeds, Frame, Passed, Passing, WideFrame};
+use fx_frame::{Feeds, Frame, Passed, Passing, Tally, WideFrame};
 use fx_map::around::pass_around;
 use fx_map::both::pass_both;
 use fx_map::mapped::Mapped;
@@ -86,8 +86,8 @@ impl Stage for EffectStage {
         each!(self, stage => stage.is_dry())
     }
 
-    fn is_ended(&self) -> bool {
-        each!(self, stage => stage.is_ended())
+    fn tally(&self) -> Tally {
+        each!(self, stage => stage.tally())
     }
 
     fn is_spent(&self) -> bool {
@@ -102,10 +102,6 @@ impl Stage for EffectStage {
         each!(self, stage => stage.hold())
     }
 
-    fn clips(&self) -> u64 {
-        each!(self, stage => stage.clips())
-    }
-
     fn in_channels(&self) -> usize {
         each!(self, stage => stage.in_channels())
     }
@@ -114,8 +110,8 @@ impl Stage for EffectStage {
         each!(self, stage => stage.out_channels())
     }
 
-    fn counters(&self) -> [u64; 8] {
-        each!(self, stage => stage.counters())
+    fn own(&self) -> [u64; 3] {
+        each!(self, stage => stage.own())
     }
 
     fn stored(&self, j: usize) -> WideFrame {

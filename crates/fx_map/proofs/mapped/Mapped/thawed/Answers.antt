@@ -7,7 +7,7 @@ pub returns-then-ended-gt1-clause-thawed : goal.returns-then-ended-gt1-clause-th
 returns-then-ended-gt1-clause-thawed g c =
     λ s is made froze.
     let n = counts-are g.M.Mapping.inputs g.M.Mapping.outputs g.M.Mapping.mapped s c.args.frames.now c.args.numbers.now froze is in
-    absurd (grind (arith, n.flag, n.all, n.seventh, n.eighth))
+    absurd (grind (arith, n.flag, n.all, n.own_second, n.own_third))
 
 pub returns-then-taken-gt-MOST_TAKEN-clause-thawed : goal.returns-then-taken-gt-MOST_TAKEN-clause-thawed
 returns-then-taken-gt-MOST_TAKEN-clause-thawed g c =
