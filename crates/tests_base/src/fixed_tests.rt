@@ -12,8 +12,27 @@ use fx_fixed::{
     inner, millis, round_clip,
 };
 use std::alloc::Global;
-use std::process::Abort;
-use std::test::Fail;
+use std::io::Print;
+
+/// The error where memory is wanting.
+pub(crate) const REFUSED: &str = "refused";
+
+/// Prints `made`, or `refused` where memory was wanting; any other error fails.
+pub(crate) fn say(rt: &impl Print, made: Result<(), &'static str>) -> Result<(), &'static str> {
+    let said = match made {
+        Ok(()) => "made",
+        Err(fault) => {
+            if fault != REFUSED {
+                return Err(fault);
+            }
+            fault
+        }
+    };
+    match println!(rt; "{said}") {
+        Ok(()) => Ok(()),
+        Err(_unwritten) => Err("nothing can be printed"),
+    }
+}
 
 /// The definitions give the worked values, by computation.
 fn worked_definitions()
@@ -35,38 +54,40 @@ fn trillionths(text: &str) -> Result<i64, NumberFault> {
     Ok(Gain::parse(text)?.trillionths())
 }
 
-/// Asserts what a text is as a gain, in trillionths.
-fn assert_gain(rt: &impl Abort, text: &str, want: Result<i64, NumberFault>) {
-    assert_eq!(rt; trillionths(text), want, "{text}");
+/// Fails with a text that is another gain, in trillionths, or refused otherwise.
+fn check_gain(text: &'static str, want: Result<i64, NumberFault>) -> Result<(), &'static str> {
+    if trillionths(text) == want {
+        Ok(())
+    } else {
+        Err(text)
+    }
 }
 
-/// Asserts the frames that were found for a text.
-fn assert_frames(
-    rt: &impl Abort,
-    text: &str,
+/// Fails with a text for which other frames were found.
+fn check_frames(
+    text: &'static str,
     found: Result<u64, TimeFault>,
     want: Result<u64, TimeFault>,
-) {
-    assert_eq!(rt; found, want, "{text}");
+) -> Result<(), &'static str> {
+    if found == want { Ok(()) } else { Err(text) }
 }
 
-/// Asserts what a text is as a position at 8000 frames a second.
-fn assert_position(
-    rt: &impl Abort,
-    text: &str,
+/// Fails with a text that is another position at 8000 frames a second, or refused otherwise.
+fn check_position(
+    text: &'static str,
     default: Anchor,
     previous: At,
     want: Result<At, TimeFault>,
-) {
-    assert_eq!(rt;
-        Position::resolve(text, 8000, default, previous),
-        want,
-        "{text}"
-    );
+) -> Result<(), &'static str> {
+    if Position::resolve(text, 8000, default, previous) == want {
+        Ok(())
+    } else {
+        Err(text)
+    }
 }
 
 #[test]
-fn gains_in_trillionths(rt: HostRuntime) {
+fn gains_in_trillionths() -> Result<(), &'static str> {
     for (text, value) in [
         (".5", 500_000_000_000i64),
         ("5.", 5_000_000_000_000),
@@ -89,12 +110,13 @@ fn gains_in_trillionths(rt: HostRuntime) {
         ),
         ("123456789012345678901234567890123e-30", 123_456_789_012_346),
     ] {
-        assert_gain(&rt, text, Ok(value));
+        check_gain(text, Ok(value))?;
     }
+    Ok(())
 }
 
 #[test]
-fn gains_refused(rt: HostRuntime) {
+fn gains_refused() -> Result<(), &'static str> {
     for (text, fault) in [
         ("1000.0000000005", NumberFault::OutOfRange),
         ("1000.0000000000005", NumberFault::OutOfRange),
@@ -107,27 +129,48 @@ fn gains_refused(rt: HostRuntime) {
             NumberFault::TooLong,
         ),
     ] {
-        assert_gain(&rt, text, Err(fault));
+        check_gain(text, Err(fault))?;
+    }
+    Ok(())
+}
+
+/// Fails with a text where that is another sample, or it is clipped otherwise.
+fn check_sample(
+    text: &'static str,
+    found: (i32, bool),
+    want: (i32, bool),
+) -> Result<(), &'static str> {
+    if found == want { Ok(()) } else { Err(text) }
+}
+
+#[test]
+fn rounded_samples() -> Result<(), &'static str> {
+    check_sample("1 / 2", round_clip(1, 2), (1, false))?;
+    check_sample("-1 / 2", round_clip(-1, 2), (-1, false))?;
+    check_sample("1 / 3", round_clip(1, 3), (0, false))?;
+    let most = 2147483647;
+    check_sample("clipped", round_clip(4294967295, 2), (most, true))?;
+    check_sample("not clipped", round_clip(4294967293, 2), (most, false))?;
+    let least = -2147483648;
+    check_sample("clipped below", round_clip(-4294967297, 2), (least, true))?;
+    check_sample(
+        "not clipped below",
+        round_clip(-4294967296, 2),
+        (least, false),
+    )?;
+    Ok(())
+}
+
+/// Fails with the text of a gain by which a sample is scaled to another one, or clipped otherwise.
+fn check_scaled(text: &'static str, sample: i32, want: (i32, bool)) -> Result<(), &'static str> {
+    match Gain::parse(text) {
+        Ok(gain) => check_sample(text, inner::scale(gain, sample), want),
+        Err(_fault) => Err("not a gain"),
     }
 }
 
 #[test]
-fn rounded_samples(rt: HostRuntime) {
-    for (num, den, sample, is_clipped) in [
-        (1i128, 2i128, 1, false),
-        (-1, 2, -1, false),
-        (1, 3, 0, false),
-        (4294967295, 2, 2147483647, true),
-        (4294967293, 2, 2147483647, false),
-        (-4294967297, 2, -2147483648, true),
-        (-4294967296, 2, -2147483648, false),
-    ] {
-        assert_eq!(rt; round_clip(num, den), (sample, is_clipped), "{num} / {den}");
-    }
-}
-
-#[test]
-fn scaled_samples(rt: HostRuntime) -> Result<(), NumberFault> {
+fn scaled_samples() -> Result<(), &'static str> {
     for (text, sample, scaled, is_clipped) in [
         ("1.5", 2147483647, 2147483647, true),
         ("1.5", -1, -2, false),
@@ -137,14 +180,13 @@ fn scaled_samples(rt: HostRuntime) -> Result<(), NumberFault> {
         ("-1", -2147483648, 2147483647, true),
         ("1", -2147483648, -2147483648, false),
     ] {
-        let gain = Gain::parse(text)?;
-        assert_eq!(rt; inner::scale(gain, sample), (scaled, is_clipped), "{text}");
+        check_scaled(text, sample, (scaled, is_clipped))?;
     }
     Ok(())
 }
 
 #[test]
-fn times_at_8000(rt: HostRuntime) {
+fn times_at_8000() -> Result<(), &'static str> {
     for (text, frames) in [
         ("5025", 40_200_000u64),
         ("79:0285", 40_200_000),
@@ -161,12 +203,13 @@ fn times_at_8000(rt: HostRuntime) {
         ("000000000000000001.000000000000000000E00s", 1),
         ("1099511627776s", 1_099_511_627_776),
     ] {
-        assert_frames(&rt, text, TimeSpec::frames(text, 8000), Ok(frames));
+        check_frames(text, TimeSpec::frames(text, 8000), Ok(frames))?;
     }
+    Ok(())
 }
 
 #[test]
-fn times_refused(rt: HostRuntime) {
+fn times_refused() -> Result<(), &'static str> {
     for (text, fault) in [
         ("0.5s", TimeFault::NotWhole),
         ("1s-2s", TimeFault::Negative),
@@ -190,12 +233,13 @@ fn times_refused(rt: HostRuntime) {
         ("1e-99s", TimeFault::NotWhole),
         ("1099511627776s+1s", TimeFault::TooFar),
     ] {
-        assert_frames(&rt, text, TimeSpec::frames(text, 8000), Err(fault));
+        check_frames(text, TimeSpec::frames(text, 8000), Err(fault))?;
     }
+    Ok(())
 }
 
 #[test]
-fn positions_at_8000(rt: HostRuntime) {
+fn positions_at_8000() -> Result<(), &'static str> {
     for (text, default, previous, position) in [
         ("-0.5+1s", Anchor::Start, At::Start(0), At::End(3999)),
         (
@@ -212,24 +256,26 @@ fn positions_at_8000(rt: HostRuntime) {
         ("5s-7s", Anchor::Previous, At::End(3), At::End(5)),
         ("1s", Anchor::End, At::Start(9), At::End(1)),
     ] {
-        assert_position(&rt, text, default, previous, Ok(position));
+        check_position(text, default, previous, Ok(position))?;
     }
+    Ok(())
 }
 
 #[test]
-fn positions_refused_at_8000(rt: HostRuntime) {
+fn positions_refused_at_8000() -> Result<(), &'static str> {
     for (text, default, previous, fault) in [
         ("=1s-2s", Anchor::End, At::Start(9), TimeFault::Negative),
         ("+1s", Anchor::End, At::Start(u64::MAX), TimeFault::TooFar),
         ("=+1", Anchor::Start, At::Start(0), TimeFault::BadTime),
         ("+-1", Anchor::Start, At::Start(0), TimeFault::BadTime),
     ] {
-        assert_position(&rt, text, default, previous, Err(fault));
+        check_position(text, default, previous, Err(fault))?;
     }
+    Ok(())
 }
 
 #[test]
-fn millis_at_8000(rt: HostRuntime) {
+fn millis_at_8000() -> Result<(), &'static str> {
     for (text, frames) in [
         ("0.125", Ok(1u64)),
         ("0", Ok(1)),
@@ -244,8 +290,9 @@ fn millis_at_8000(rt: HostRuntime) {
         ("-5e-10", Err(TimeFault::Negative)),
         ("-1e30", Err(TimeFault::Negative)),
     ] {
-        assert_frames(&rt, text, millis(text, 8000), frames);
+        check_frames(text, millis(text, 8000), frames)?;
     }
+    Ok(())
 }
 
 /// The number of coefficients in a file.
@@ -253,37 +300,80 @@ fn coefficient_count(alloc: Global, file: &[u8]) -> Result<usize, CoefFault> {
     Ok(Coefficients::parse(alloc, file)?.len())
 }
 
-#[test]
-fn coefficients_parsed(rt: HostRuntime) -> Result<(), Fail> {
-    let file = b"# low pass\n0.25 0.5 # mid\n0.25";
-    let gains = Coefficients::parse(rt.alloc(), file)?;
-    let mut values = gains.iter().map(|gain| gain.trillionths());
-    assert_eq!(rt; values.next(), Some(250_000_000_000));
-    assert_eq!(rt; values.next(), Some(500_000_000_000));
-    assert_eq!(rt; values.next(), Some(250_000_000_000));
-    assert_eq!(rt; values.next(), None);
+/// Fails where the coefficients of a file are not these, in trillionths.
+fn check_coefficients(alloc: Global, file: &[u8], want: &[i64]) -> Result<(), &'static str> {
+    let Ok(gains) = Coefficients::parse(alloc, file) else {
+        return Err("no coefficients");
+    };
+    if gains.len() != want.len() {
+        return Err("another number of coefficients");
+    }
+    for (gain, trillionths) in gains.iter().zip(want) {
+        if gain.trillionths() != *trillionths {
+            return Err("another coefficient");
+        }
+    }
     Ok(())
 }
 
 #[test]
-fn coefficients_parsed_by_count(rt: HostRuntime) {
-    let bad = Err(CoefFault::BadCoefficients);
-    for (file, count) in [
-        (b"#\xff\r#\n\x0b1#2\r3\n\x0c-3e1\r.5\t".as_slice(), Ok(3)),
-        (b"1", Ok(1)),
-        (b"", bad),
-        (b"#x", bad),
-        (b"1 y", bad),
-        (b"1\xff", bad),
-        (b"1\x002", bad),
-        (b"1\xa02", bad),
-    ] {
-        assert_eq!(rt; coefficient_count(rt.alloc(), file), count);
+fn coefficients_parsed(rt: HostRuntime) -> Result<(), &'static str> {
+    let file = b"# low pass\n0.25 0.5 # mid\n0.25";
+    let want = [250_000_000_000, 500_000_000_000, 250_000_000_000];
+    check_coefficients(rt.alloc(), file, &want)
+}
+
+/// Fails with a text where a file has another number of coefficients, or is refused otherwise.
+fn check_count(
+    alloc: Global,
+    text: &'static str,
+    file: &[u8],
+    want: Result<usize, CoefFault>,
+) -> Result<(), &'static str> {
+    if coefficient_count(alloc, file) == want {
+        Ok(())
+    } else {
+        Err(text)
     }
 }
 
 #[test]
-fn coefficients_parsed_at_limits(rt: HostRuntime) -> Result<(), Fail> {
+fn coefficients_parsed_by_count(rt: HostRuntime) -> Result<(), &'static str> {
+    let bad = Err(CoefFault::BadCoefficients);
+    for (text, file, count) in [
+        (
+            "three between white space and comments",
+            b"#\xff\r#\n\x0b1#2\r3\n\x0c-3e1\r.5\t".as_slice(),
+            Ok(3),
+        ),
+        ("one", b"1", Ok(1)),
+        ("no byte", b"", bad),
+        ("a comment", b"#x", bad),
+        ("one and a letter", b"1 y", bad),
+        ("one and a byte of 255", b"1\xff", bad),
+        ("one, a byte of 0 and two", b"1\x002", bad),
+        ("one, a byte of 160 and two", b"1\xa02", bad),
+    ] {
+        check_count(rt.alloc(), text, file, count)?;
+    }
+    Ok(())
+}
+
+/// Fails with a word where a file that has it so many times has another number of coefficients, or is refused otherwise.
+fn check_repeated(
+    alloc: Global,
+    word: &'static str,
+    times: usize,
+    want: Result<usize, CoefFault>,
+) -> Result<(), &'static str> {
+    match word.repeat(alloc, times) {
+        Ok(file) => check_count(alloc, word, file.as_bytes(), want),
+        Err(_refused) => Err(REFUSED),
+    }
+}
+
+#[test]
+fn coefficients_parsed_at_limits(rt: HostRuntime) -> Result<(), &'static str> {
     let bad = Err(CoefFault::BadCoefficients);
     for (word, times, count) in [
         ("1 ", 1024, Ok(1024)),
@@ -291,24 +381,24 @@ fn coefficients_parsed_at_limits(rt: HostRuntime) -> Result<(), Fail> {
         ("  #\n  1\n", 256, Ok(256)),
         (" ", 1_048_577, bad),
     ] {
-        let file = word.repeat(rt.alloc(), times)?;
-        assert_eq!(rt; coefficient_count(rt.alloc(), file.as_bytes()), count);
+        check_repeated(rt.alloc(), word, times, count)?;
     }
     Ok(())
 }
 
-#[test]
-fn growth_coefficients(rt: HostRuntime) -> Result<(), Fail> {
+/// Fails where twenty coefficients are not parsed.
+fn parse_twenty(alloc: Global) -> Result<(), &'static str> {
     let file = b"1 2 3 4 5 6 7 8 9 10 11 12 13 14 15 16 17 18 19 20";
-    match Coefficients::parse(rt.alloc(), file) {
-        Ok(gains) => {
-            assert_eq!(rt; gains.len(), 20);
-            println!(rt; "made")?;
-        }
-        Err(fault) => {
-            assert_eq!(rt; fault, CoefFault::Memory);
-            println!(rt; "refused")?;
-        }
+    match coefficient_count(alloc, file) {
+        Ok(20) => Ok(()),
+        Ok(_count) => Err("another number of coefficients"),
+        Err(CoefFault::Memory) => Err(REFUSED),
+        Err(_fault) => Err("another fault than want of memory"),
     }
-    Ok(())
+}
+
+/// Each request for memory refused in turn.
+#[test]
+fn growth_coefficients(rt: HostRuntime) -> Result<(), &'static str> {
+    say(&rt, parse_twenty(rt.alloc()))
 }

@@ -1,116 +1,147 @@
 //! The worked rows of fx_frame: codings, frames, lines and the writer into memory.
 ghost use Rattle.std.specs.Prelude.{◌≡◌, ◌≤◌, ◌^◌, length};
 
+use crate::fixed_tests::{REFUSED, say};
 use fx_frame::{Coding, Frame, Line, Sink, WideFrame, WideLine, inner};
 use std::alloc::Global;
-use std::process::Abort;
-use std::test::Fail;
 
-/// Asserts the byte that a sample is written as, and whether it is clipped.
-fn assert_written(rt: &impl Abort, sample: i32, byte: u8, is_clipped: bool) {
+/// Is a sample written as this byte, and clipped or not?
+fn is_written(sample: i32, byte: u8, is_clipped: bool) -> bool {
     let mut bytes = [77];
-    assert_eq!(rt;
-        Coding::U8.write(sample, &mut bytes),
-        is_clipped,
-        "at {sample}"
-    );
-    assert_eq!(rt; bytes[0], byte, "at {sample}");
+    let found = Coding::U8.write(sample, &mut bytes);
+    found == is_clipped && bytes[0] == byte
 }
 
 #[test]
-fn u8_writes_and_reads(rt: HostRuntime) {
-    let rows = [
+fn u8_writes_and_reads() -> Result<(), &'static str> {
+    for (sample, byte, is_clipped) in [
         (2147483647, 255, true),
         (0, 128, false),
         (-2147483648, 0, false),
-    ];
-    for (sample, byte, is_clipped) in rows {
-        assert_written(&rt, sample, byte, is_clipped);
+    ] {
+        if !is_written(sample, byte, is_clipped) {
+            return Err("a sample is written otherwise");
+        }
     }
-    for (byte, sample) in [(128, 0), (0, -2147483648)] {
-        assert_eq!(rt; Coding::U8.read(&[byte]), sample, "at {byte}");
+    if Coding::U8.read(&[128]) != 0 || Coding::U8.read(&[0]) != -2147483648 {
+        return Err("a byte is read otherwise");
     }
+    Ok(())
 }
 
-/// Asserts that a frame is the wanted one, or that there is none; a name says which.
-fn assert_frame(rt: &impl Abort, name: &str, found: Option<Frame>, want: Option<Frame>) {
-    assert_eq!(rt; found, want, "{name}");
+/// Fails with a name where a frame is not the wanted one, or there is one where none is wanted.
+fn check_frame(
+    name: &'static str,
+    found: Option<Frame>,
+    want: Option<Frame>,
+) -> Result<(), &'static str> {
+    if found == want { Ok(()) } else { Err(name) }
 }
 
-/// Asserts what can be read of the frame of 5 and -7.
-fn assert_pair(rt: &impl Abort, pair: Frame) {
-    assert_eq!(rt; pair.channels(), 2);
-    assert_eq!(rt; pair.get(1), -7);
-    assert_eq!(rt; pair, inner::two(5, -7));
-    assert_ne!(rt; pair, inner::one(5));
-    assert_eq!(rt; inner::places(&pair)[1], -7);
+/// Is that what can be read of the frame of 5 and -7?
+fn is_pair(pair: Frame) -> bool {
+    pair.channels() == 2
+        && pair.get(1) == -7
+        && pair == inner::two(5, -7)
+        && pair != inner::one(5)
+        && inner::places(&pair)[1] == -7
 }
 
 #[test]
-fn frames(rt: HostRuntime) -> Result<(), Fail> {
-    let pair = Frame::from_slice(&[5, -7]).ok_or("two samples")?;
-    assert_pair(&rt, pair);
-    assert_frame(&rt, "no sample", Frame::from_slice(&[]), None);
-    assert_frame(&rt, "17 samples", Frame::from_slice(&[0; 17]), None);
+fn frames() -> Result<(), &'static str> {
+    let Some(pair) = Frame::from_slice(&[5, -7]) else {
+        return Err("no frame of two samples");
+    };
+    if !is_pair(pair) {
+        return Err("another frame of two samples");
+    }
+    check_frame("no sample", Frame::from_slice(&[]), None)?;
+    check_frame("17 samples", Frame::from_slice(&[0; 17]), None)?;
     let silence = Some(Frame::silence(16));
-    assert_frame(&rt, "16 samples", Frame::from_slice(&[0; 16]), silence);
+    check_frame("16 samples", Frame::from_slice(&[0; 16]), silence)?;
     let three = Some(inner::frame_of(3, [9; 16]));
-    assert_frame(&rt, "three of 16", three, Frame::from_slice(&[9; 3]));
-    Ok(())
+    check_frame("three of 16", three, Frame::from_slice(&[9; 3]))
 }
 
-/// Asserts that a wide frame is the wanted one, or that there is none; a name says which.
-fn assert_wide(rt: &impl Abort, name: &str, found: Option<WideFrame>, want: Option<WideFrame>) {
-    assert_eq!(rt; found, want, "{name}");
-}
-
-#[test]
-fn wide_frames(rt: HostRuntime) -> Result<(), Fail> {
-    let pair = WideFrame::from_slice(&[1 << 40, -7]).ok_or("two samples")?;
-    assert_eq!(rt; pair.channels(), 2);
-    assert_eq!(rt; pair.get(0), 1 << 40);
-    assert_wide(&rt, "no sample", WideFrame::from_slice(&[]), None);
-    assert_wide(&rt, "17 samples", WideFrame::from_slice(&[0; 17]), None);
-    assert_eq!(rt;
-        WideFrame::from_frame(inner::two(5, -7)),
-        inner::wide_two(5, -7)
-    );
-    Ok(())
+/// Fails with a name where a wide frame is not the wanted one, or there is one where none is wanted.
+fn check_wide(
+    name: &'static str,
+    found: Option<WideFrame>,
+    want: Option<WideFrame>,
+) -> Result<(), &'static str> {
+    if found == want { Ok(()) } else { Err(name) }
 }
 
 #[test]
-fn line_two_places(rt: HostRuntime) -> Result<(), Fail> {
-    let mut line = Line::new(rt.alloc(), 1, 2)?;
+fn wide_frames() -> Result<(), &'static str> {
+    let Some(pair) = WideFrame::from_slice(&[1 << 40, -7]) else {
+        return Err("no wide frame of two samples");
+    };
+    if pair.channels() != 2 || pair.get(0) != 1 << 40 {
+        return Err("another wide frame of two samples");
+    }
+    check_wide("no sample", WideFrame::from_slice(&[]), None)?;
+    check_wide("17 samples", WideFrame::from_slice(&[0; 17]), None)?;
+    let wide = WideFrame::from_frame(inner::two(5, -7));
+    check_wide("two of a frame", Some(wide), Some(inner::wide_two(5, -7)))
+}
+
+/// Fails where a line of two places does not give its frames in order.
+fn line_of_two(alloc: Global) -> Result<(), &'static str> {
+    let Ok(mut line) = Line::new(alloc, 1, 2) else {
+        return Err(REFUSED);
+    };
     let (seven, eight, nine) = (inner::one(7), inner::one(8), inner::one(9));
-    assert_frame(&rt, "push 7", line.push(seven), None);
-    assert_frame(&rt, "push 8", line.push(eight), None);
-    assert_frame(&rt, "push 9", line.push(nine), Some(seven));
-    assert_frame(&rt, "newest", line.back(0), Some(nine));
-    assert_frame(&rt, "second", line.back(1), Some(eight));
-    assert_frame(&rt, "third", line.back(2), None);
-    assert_frame(&rt, "pop", line.pop_front(), Some(eight));
-    Ok(())
+    let is_pushed_out = line.push(seven).is_none()
+        && line.push(eight).is_none()
+        && line.push(nine) == Some(seven);
+    let are_there = line.back(0) == Some(nine)
+        && line.back(1) == Some(eight)
+        && line.back(2).is_none()
+        && line.pop_front() == Some(eight);
+    if is_pushed_out && are_there {
+        Ok(())
+    } else {
+        Err("a line of two places gives other frames")
+    }
 }
 
-#[test]
-fn line_no_place(rt: HostRuntime) -> Result<(), Fail> {
-    let mut line = Line::new(rt.alloc(), 1, 0)?;
-    assert_eq!(rt; line.push(inner::one(7)), Some(inner::one(7)));
-    assert_eq!(rt; line.len(), 0);
-    Ok(())
+/// Fails where a line of no place keeps a frame.
+fn line_of_none(alloc: Global) -> Result<(), &'static str> {
+    let Ok(mut line) = Line::new(alloc, 1, 0) else {
+        return Err(REFUSED);
+    };
+    if line.push(inner::one(7)) == Some(inner::one(7)) && line.len() == 0 {
+        Ok(())
+    } else {
+        Err("a line of no place keeps a frame")
+    }
 }
 
-#[test]
-fn line_one_channel_out(rt: HostRuntime) -> Result<(), Fail> {
-    let mut line = Line::new(rt.alloc(), 2, 3)?;
+/// Fails where the second channel of a full line is not that of its last frames.
+fn line_of_three(alloc: Global) -> Result<(), &'static str> {
+    let Ok(mut line) = Line::new(alloc, 2, 3) else {
+        return Err(REFUSED);
+    };
     line.push(inner::two(1, 2));
     line.push(inner::two(3, 4));
     line.push(inner::two(5, 6));
     line.push(inner::two(7, 8));
     let mut samples = [0; 3];
     line.channel_into(1, &mut samples);
-    assert_eq!(rt; samples, [4, 6, 8]);
-    Ok(())
+    if samples == [4, 6, 8] {
+        Ok(())
+    } else {
+        Err("other samples of a channel")
+    }
+}
+
+/// Lines of two places and of none, and one channel of a line.
+#[test]
+fn lines(rt: HostRuntime) -> Result<(), &'static str> {
+    line_of_two(rt.alloc())?;
+    line_of_none(rt.alloc())?;
+    line_of_three(rt.alloc())
 }
 
 /// A frame whose samples all differ, and differ from those of the frames with other numbers below 16.
@@ -142,91 +173,138 @@ fn numbered(channels: usize, number: i32) -> Frame
     )
 }
 
+/// Takes the oldest frame out of a list that has more than so many.
+fn oldest_over(list: &mut Vec<Frame>, most: usize) -> Option<Frame> {
+    if list.len() > most {
+        Some(list.remove(0))
+    } else {
+        None
+    }
+}
+
+/// Has a line the frames of a list, whose newest is the last one?
+fn has_all(line: &Line, list: &[Frame]) -> bool {
+    if line.len() != list.len() {
+        return false;
+    }
+    for (k, item) in list.iter().rev().enumerate() {
+        if line.back(k) != Some(*item) {
+            return false;
+        }
+    }
+    true
+}
+
 /// What a line does after forty pushes, a plain list does too.
-fn agrees(alloc: Global, rt: &impl Abort, channels: usize, capacity: usize) -> Result<(), Fail>
+fn agrees(alloc: Global, channels: usize, capacity: usize) -> Result<(), &'static str>
     requires channels { (1 ≤ channels) × (channels ≤ 16) }
     requires capacity { capacity ≤ 2 ^ 28 }
 {
-    let mut line = Line::new(alloc, channels, capacity)?;
+    let Ok(mut line) = Line::new(alloc, channels, capacity) else {
+        return Err(REFUSED);
+    };
     let mut list = Vec::new(alloc);
     'pushes: for number in 0..40 {
         let frame = numbered(channels, number);
-        list.push(frame)?;
-        let oldest = if list.len() > capacity {
-            Some(list.remove(0))
-        } else {
-            None
-        };
-        assert_eq!(rt; line.push(frame), oldest);
-        if number % 7 == 6 {
-            let first = if list.is_empty() {
-                None
-            } else {
-                Some(list.remove(0))
-            };
-            assert_eq!(rt; line.pop_front(), first);
+        if list.push(frame).is_err() {
+            return Err(REFUSED);
         }
-        assert_eq!(rt; line.len(), list.len());
-        for (k, item) in list.iter().rev().enumerate() {
-            assert_eq!(rt; line.back(k), Some(*item));
+        if line.push(frame) != oldest_over(&mut list, capacity) {
+            return Err("another frame is pushed out");
+        }
+        if number % 7 == 6 && line.pop_front() != oldest_over(&mut list, 0) {
+            return Err("another frame is the oldest");
+        }
+        if !has_all(&line, &list) {
+            return Err("other frames");
         }
     }
     Ok(())
 }
 
 #[test]
-fn line_agrees_with_list(rt: HostRuntime) -> Result<(), Fail> {
+fn line_agrees_with_list(rt: HostRuntime) -> Result<(), &'static str> {
     for channels in [1, 3, 16] {
         for capacity in [0, 1, 5] {
-            agrees(rt.alloc(), &rt, channels, capacity)?;
+            agrees(rt.alloc(), channels, capacity)?;
         }
     }
     Ok(())
 }
 
-#[test]
-fn wide_line_sums(rt: HostRuntime) -> Result<(), Fail> {
-    let mut line = WideLine::new(rt.alloc(), 1, 2)?;
+/// Fails where a wide line of two places does not keep wide frames.
+fn wide_line_of_two(alloc: Global) -> Result<(), &'static str> {
+    let Ok(mut line) = WideLine::new(alloc, 1, 2) else {
+        return Err(REFUSED);
+    };
     let first = inner::wide_one(1 << 40);
     let second = inner::wide_one(-(1 << 40));
-    assert_wide(&rt, "first", line.push(first), None);
-    assert_wide(&rt, "second", line.push(second), None);
-    assert_wide(&rt, "third", line.push(inner::wide_one(7)), Some(first));
-    Ok(())
-}
-
-#[test]
-fn growth_line(rt: HostRuntime) -> Result<(), Fail> {
-    match Line::new(rt.alloc(), 2, 3) {
-        Ok(line) => {
-            assert_eq!(rt; line.capacity(), 3);
-            println!(rt; "made")?;
-        }
-        Err(_refused) => println!(rt; "refused")?,
+    let is_right = line.push(first).is_none()
+        && line.push(second).is_none()
+        && line.push(inner::wide_one(7)) == Some(first);
+    if is_right {
+        Ok(())
+    } else {
+        Err("a wide line of two places gives other frames")
     }
-    Ok(())
 }
 
 #[test]
-fn growth_wide_line(rt: HostRuntime) -> Result<(), Fail> {
-    match WideLine::new(rt.alloc(), 2, 3) {
+fn wide_line_sums(rt: HostRuntime) -> Result<(), &'static str> {
+    wide_line_of_two(rt.alloc())
+}
+
+/// Fails where a new line has not three places.
+fn line_made(alloc: Global) -> Result<(), &'static str> {
+    match Line::new(alloc, 2, 3) {
         Ok(line) => {
-            assert_eq!(rt; line.capacity(), 3);
-            println!(rt; "made")?;
+            if line.capacity() == 3 {
+                Ok(())
+            } else {
+                Err("a line has other places")
+            }
         }
-        Err(_refused) => println!(rt; "refused")?,
+        Err(_refused) => Err(REFUSED),
     }
-    Ok(())
 }
 
-#[test]
-fn growth_sink(rt: HostRuntime) -> Result<(), Fail> {
-    match Sink::new(rt.alloc(), 4, 1, 0, false) {
+/// Fails where a new wide line has not three places.
+fn wide_line_made(alloc: Global) -> Result<(), &'static str> {
+    match WideLine::new(alloc, 2, 3) {
+        Ok(line) => {
+            if line.capacity() == 3 {
+                Ok(())
+            } else {
+                Err("a wide line has other places")
+            }
+        }
+        Err(_refused) => Err(REFUSED),
+    }
+}
+
+/// Fails where a new sink took a byte.
+fn sink_made(alloc: Global) -> Result<(), &'static str> {
+    match Sink::new(alloc, 4, 1, 0, false) {
         Ok(sink) => {
-            assert!(rt; sink.taken().is_empty());
-            println!(rt; "made")?;
+            if sink.taken().is_empty() {
+                Ok(())
+            } else {
+                Err("a new sink took bytes")
+            }
         }
-        Err(_refused) => println!(rt; "refused")?,
+        Err(_refused) => Err(REFUSED),
     }
-    Ok(())
+}
+
+/// A line, a wide line and a sink, one after the other.
+fn lines_and_sink_made(alloc: Global) -> Result<(), &'static str> {
+    line_made(alloc)?;
+    wide_line_made(alloc)?;
+    sink_made(alloc)
+}
+
+/// Each request of a line, a wide line and a sink for memory refused in turn.
+#[test]
+fn growth_lines_and_sink(rt: HostRuntime) -> Result<(), &'static str> {
+    say(&rt, lines_and_sink_made(rt.alloc()))
 }

@@ -1,4 +1,5 @@
 //! Sums by transforms beside plain sums.
+use crate::fixed_tests::REFUSED;
 use fx_sums::transforms::Spectrum;
 use std::alloc::{AllocError, Global};
 
@@ -34,24 +35,11 @@ fn weights(alloc: Global, count: usize) -> Result<Vec<i32>, AllocError> {
     Ok(weights)
 }
 
-/// Tests that sums by transforms are those of the definition. None where there is no spectrum, or where the
-/// window is too short.
-fn is_right(
-    alloc: Global,
-    weights: &[i32],
-    window: &[i32],
-    count: usize,
-) -> Result<Option<bool>, AllocError> {
-    let Some(window) = window.get(..weights.len().saturating_add(count)) else {
-        return Ok(None);
-    };
-    let Some(spectrum) = Spectrum::of(alloc, weights)? else {
-        return Ok(None);
-    };
-    let mut sums = Vec::new(alloc);
-    sums.resize(count, 1)?;
-    spectrum.convolve(window, &mut sums);
-    let mut is_right = true;
+/// Are these the sums of the definition, one for each place of a window?
+fn are_sums(weights: &[i32], window: &[i32], sums: &[i64]) -> bool {
+    if weights.len().saturating_add(sums.len()) > window.len() {
+        return false;
+    }
     for place in 0..sums.len() {
         let mut sum = 0i64;
         for tap in 0..weights.len() {
@@ -59,68 +47,152 @@ fn is_right(
             sum = sum.wrapping_add(product);
         }
         if sums[place] != sum {
-            is_right = false;
+            return false;
         }
     }
-    Ok(Some(is_right))
+    true
 }
 
-#[test]
-fn sums_of_all_lengths(rt: HostRuntime) -> Result<(), AllocError> {
-    let alloc = rt.alloc();
-    let window = samples(alloc, 4000)?;
-    for taps in [0, 1, 2, 3, 511, 512, 1023, 1024] {
-        let weights = weights(alloc, taps)?;
-        for count in [0, 1, 2, 1023, 1024, 1025, 2047, 2500] {
-            let is_right = is_right(alloc, &weights, &window, count)?;
-            assert_eq!(rt; is_right, Some(true), "{taps} taps, {count} sums");
+/// Writes the sums of these weights by transforms. False where there is no spectrum, or where the window is too short.
+fn convolve(
+    alloc: Global,
+    weights: &[i32],
+    window: &[i32],
+    sums: &mut [i64],
+) -> Result<bool, AllocError> {
+    let Some(window) = window.get(..weights.len().saturating_add(sums.len())) else {
+        return Ok(false);
+    };
+    match Spectrum::of(alloc, weights)? {
+        Some(spectrum) => {
+            spectrum.convolve(window, sums);
+            Ok(true)
         }
+        None => Ok(false),
+    }
+}
+
+/// Are so many sums by transforms those of the definition?
+fn is_right(
+    alloc: Global,
+    weights: &[i32],
+    window: &[i32],
+    count: usize,
+) -> Result<bool, AllocError> {
+    let mut sums = Vec::new(alloc);
+    sums.resize(count, 1)?;
+    Ok(convolve(alloc, weights, window, &mut sums)? && are_sums(weights, window, &sums))
+}
+
+/// Fails with a text where so many sums by transforms are not those of the definition.
+fn check_sums(
+    alloc: Global,
+    text: &'static str,
+    weights: &[i32],
+    window: &[i32],
+    count: usize,
+) -> Result<(), &'static str> {
+    match is_right(alloc, weights, window, count) {
+        Ok(true) => Ok(()),
+        Ok(false) => Err(text),
+        Err(_refused) => Err(REFUSED),
+    }
+}
+
+/// Sums by so many taps, of each of the counts in turn.
+fn check_taps(
+    alloc: Global,
+    text: &'static str,
+    window: &[i32],
+    taps: usize,
+) -> Result<(), &'static str> {
+    let Ok(weights) = weights(alloc, taps) else {
+        return Err(REFUSED);
+    };
+    for count in [0, 1, 2, 1023, 1024, 1025, 2047, 2500] {
+        check_sums(alloc, text, &weights, window, count)?;
+    }
+    Ok(())
+}
+
+/// Sums by each number of taps in turn.
+fn check_all_taps(alloc: Global, window: &[i32]) -> Result<(), &'static str> {
+    for (text, taps) in [
+        ("no tap", 0),
+        ("1 tap", 1),
+        ("2 taps", 2),
+        ("3 taps", 3),
+        ("511 taps", 511),
+        ("512 taps", 512),
+        ("1023 taps", 1023),
+        ("1024 taps", 1024),
+    ] {
+        check_taps(alloc, text, window, taps)?;
     }
     Ok(())
 }
 
 #[test]
-fn greatest_sums(rt: HostRuntime) -> Result<(), AllocError> {
-    let alloc = rt.alloc();
-    for (sample, weight, taps) in [
-        (i32::MIN, 1_073_741_824, 1),
-        (i32::MIN, -1_073_741_824, 1),
-        (i32::MAX, 1_073_741_824, 1),
-        (i32::MIN, 1_048_576, 1024),
-        (i32::MIN, -1_048_576, 1024),
-        (i32::MAX, -1_048_576, 1024),
+fn sums_of_all_lengths(rt: HostRuntime) -> Result<(), &'static str> {
+    match samples(rt.alloc(), 4000) {
+        Ok(window) => check_all_taps(rt.alloc(), &window),
+        Err(_refused) => Err(REFUSED),
+    }
+}
+
+/// Are six sums by so many taps of one weight, of samples that are all the same, those of the definition?
+fn is_right_of_alike(
+    alloc: Global,
+    sample: i32,
+    weight: i32,
+    taps: usize,
+) -> Result<bool, AllocError> {
+    let mut weights = Vec::new(alloc);
+    weights.resize(taps, weight)?;
+    let mut window = Vec::new(alloc);
+    window.resize(taps.saturating_add(6), sample)?;
+    is_right(alloc, &weights, &window, 6)
+}
+
+#[test]
+fn greatest_sums(rt: HostRuntime) -> Result<(), &'static str> {
+    for (text, sample, weight, taps) in [
+        ("least by 2^30", i32::MIN, 1_073_741_824, 1),
+        ("least by -2^30", i32::MIN, -1_073_741_824, 1),
+        ("greatest by 2^30", i32::MAX, 1_073_741_824, 1),
+        ("least by 1024 of 2^20", i32::MIN, 1_048_576, 1024),
+        ("least by 1024 of -2^20", i32::MIN, -1_048_576, 1024),
+        ("greatest by 1024 of -2^20", i32::MAX, -1_048_576, 1024),
     ] {
-        let mut weights = Vec::new(alloc);
-        weights.resize(taps, weight)?;
-        let mut window = Vec::new(alloc);
-        window.resize(taps + 6, sample)?;
-        let is_right = is_right(alloc, &weights, &window, 6)?;
-        assert_eq!(rt;
-            is_right,
-            Some(true),
-            "{taps} taps of {weight}, samples {sample}"
-        );
+        if is_right_of_alike(rt.alloc(), sample, weight, taps) != Ok(true) {
+            return Err(text);
+        }
     }
     Ok(())
 }
 
+/// Is there a spectrum of so many taps of one weight?
+fn has_spectrum(alloc: Global, weight: i32, taps: usize) -> Result<bool, AllocError> {
+    let mut weights = Vec::new(alloc);
+    weights.resize(taps, weight)?;
+    Ok(Spectrum::of(alloc, &weights)?.is_some())
+}
+
 #[test]
-fn weights_refused(rt: HostRuntime) -> Result<(), AllocError> {
-    let alloc = rt.alloc();
-    for (weight, taps, is_fine) in [
-        (1_073_741_824, 1, true),
-        (1_073_741_825, 1, false),
-        (-1_073_741_825, 1, false),
-        (i32::MIN, 1, false),
-        (1_048_576, 1024, true),
-        (1_048_577, 1024, false),
-        (-1_048_577, 1024, false),
-        (0, 1025, false),
+fn weights_refused(rt: HostRuntime) -> Result<(), &'static str> {
+    for (text, weight, taps, is_fine) in [
+        ("1 of 2^30", 1_073_741_824, 1, true),
+        ("1 of more", 1_073_741_825, 1, false),
+        ("1 of less than -2^30", -1_073_741_825, 1, false),
+        ("1 of the least", i32::MIN, 1, false),
+        ("1024 of 2^20", 1_048_576, 1024, true),
+        ("1024 of more", 1_048_577, 1024, false),
+        ("1024 of less than -2^20", -1_048_577, 1024, false),
+        ("1025 of 0", 0, 1025, false),
     ] {
-        let mut weights = Vec::new(alloc);
-        weights.resize(taps, weight)?;
-        let spectrum = Spectrum::of(alloc, &weights)?;
-        assert_eq!(rt; spectrum.is_some(), is_fine, "{taps} taps of {weight}");
+        if has_spectrum(rt.alloc(), weight, taps) != Ok(is_fine) {
+            return Err(text);
+        }
     }
     Ok(())
 }

@@ -1,17 +1,12 @@
-//! The worked rows of fx_cut, in tables.
+//! The worked rows of fx_cut: in each row a name, and behind the arrow what is given for the samples before it.
 ghost use Rattle.std.specs.Prelude.{◌≡◌, ◌^◌, ◌≤◌, length, IfOk};
-ghost use Rattle.fx_cut.specs.Pad.{IsPads};
 ghost use Rattle.fx_frame.specs.Stage.{kind};
 
-use crate::driving::{feed, is_refused, stored, through};
+use crate::driving::{REFUSED, compare, gives, refused, say, stored};
 use fx_cut::{Downsample, Fade, Pad, Trim, Upsample};
 use fx_fixed::At;
-use fx_fixed::inner::{greatest_end, greatest_pad_end, meant_stop, stop_line};
 use fx_frame::{Frame, Stage, ThawFault, WideFrame};
 use std::alloc::{AllocError, Global};
-use std::io::Print;
-use std::process::Abort;
-use std::test::Fail;
 
 /// The frame of one sample.
 fn mono(sample: i32) -> Frame
@@ -20,482 +15,216 @@ fn mono(sample: i32) -> Frame
     fx_frame::inner::one(sample)
 }
 
-/// The samples of a text, and how many of them stand before its bar.
-fn samples_of(alloc: Global, text: &str) -> Result<(Vec<i32>, Option<usize>), Fail> {
-    let mut samples = Vec::new(alloc);
-    let mut bar = None;
-    for word in text.split_whitespace() {
-        if word == "|" {
-            bar = Some(samples.len());
-        } else {
-            let Ok(sample) = word.parse::<i32>() else {
-                return Err("not a sample".into());
-            };
-            samples.push(sample)?;
-        }
+/// Fails with a row where a stage that was made does not give what it says, or holds another number of frames.
+fn gives_holding<S: Stage + Drop>(
+    alloc: Global,
+    made: Result<S, AllocError>,
+    hold: u64,
+    row: &'static str,
+) -> Result<(), &'static str>
+    requires { IfOk made (λ stage. 2 ^ 20 ≤ (kind S.acts stage).limit) }
+{
+    let Ok(stage) = made else {
+        return Err(REFUSED);
+    };
+    if stage.hold() != hold {
+        return Err("another hold");
     }
-    Ok((samples, bar))
+    gives(alloc, Ok(stage), row, 0)
 }
 
-/// Asserts what a stage of one channel gives for these samples and then the end. A bar in what it gives stands where
-/// the end comes.
-fn gives<S: Stage>(
-    alloc: Global,
-    rt: &impl Abort,
-    stage: &mut S,
-    sound: &str,
-    want: &str,
-) -> Result<(), Fail>
-    requires { 2 ^ 20 ≤ (kind S.acts stage.old).limit }
-{
-    let (samples, _no_bar) = samples_of(alloc, sound)?;
-    let (out, early) = through(alloc, stage, &samples)?;
-    let (want, bar) = samples_of(alloc, want)?;
-    assert_eq!(rt; out.as_slice(), want.as_slice());
-    if bar.is_some() {
-        assert_eq!(rt; Some(early), bar, "frames before the end");
+/// The rows of `trim`.
+#[test]
+fn trim_rows(rt: HostRuntime) -> Result<(), &'static str> {
+    let alloc = rt.alloc();
+    let two = Trim::new(alloc, 1, &[At::Start(2), At::Start(5)]);
+    gives(alloc, two, "two positions: 1 2 3 4 5 6 7 8 -> 3 4 5", 0)?;
+    let last = Trim::new(alloc, 1, &[At::End(3)]);
+    gives_holding(alloc, last, 4, "last three: 1 2 3 4 5 -> | 3 4 5")?;
+    let last = Trim::new(alloc, 1, &[At::End(3)]);
+    gives(alloc, last, "last three of two: 1 2 -> 1 2", 0)?;
+    let mixed = Trim::new(alloc, 1, &[At::Start(4), At::End(3)]);
+    gives(alloc, mixed, "mixed anchors: 1 2 3 4 5 ->", 0)?;
+    let whole = Trim::new(alloc, 1, &[At::Start(0), At::End(2)]);
+    gives(alloc, whole, "start to end: 1 2 3 4 -> 1 2 |", 0)
+}
+
+/// The rows of `pad`.
+#[test]
+fn pad_rows(rt: HostRuntime) -> Result<(), &'static str> {
+    let alloc = rt.alloc();
+    let ends = Pad::new(alloc, 1, &[(2, At::Start(0)), (1, At::End(0))]);
+    gives(alloc, ends, "empty sound: -> | 0 0 0", 0)?;
+    let past = Pad::new(alloc, 1, &[(1, At::Start(9)), (2, At::End(0))]);
+    gives(alloc, past, "past end: 1 2 -> 1 2 0 0", 0)?;
+    for row in [
+        "mixed anchors: 1 2 3 -> 1 0 0 2 | 0 3",
+        "mixed anchors of one: 1 -> 1 0 0 0",
+        "mixed anchors of none: -> 0",
+    ] {
+        let mixed = Pad::new(alloc, 1, &[(2, At::Start(1)), (1, At::End(1))]);
+        gives(alloc, mixed, row, 0)?;
     }
     Ok(())
 }
 
-/// What a stage stores once it gave these frames for those samples.
-fn frozen<S: Stage>(
-    alloc: Global,
-    stage: &mut S,
-    sound: &str,
-    want: &str,
-) -> Result<Vec<WideFrame>, Fail>
-    requires { 2 ^ 20 ≤ (kind S.acts stage.old).limit }
-{
-    let (samples, _no_bar) = samples_of(alloc, sound)?;
-    let early = feed(alloc, stage, &samples)?;
-    let (want, _no_bar) = samples_of(alloc, want)?;
-    if early.as_slice() != want.as_slice() {
-        return Err("other frames before it is frozen".into());
-    }
-    Ok(stored(alloc, stage)?)
+/// The rows of `fade`.
+#[test]
+fn fade_rows(rt: HostRuntime) -> Result<(), &'static str> {
+    let alloc = rt.alloc();
+    let four = Fade::new(alloc, 1, 4, None, 4);
+    gives(alloc, four, "in four: 100*5 -> 0 25 50 75 100 |", 0)?;
+    let two = Fade::new(alloc, 1, 0, Some(At::Start(0)), 2);
+    gives_holding(alloc, two, 3, "out two: 100*4 -> 100 100 100 50")?;
+    let overlap = Fade::new(alloc, 1, 4, Some(At::End(0)), 4);
+    gives(alloc, overlap, "overlap: 100*3 -> 0 13 13", 0)?;
+    let stop = Fade::new(alloc, 1, 2, Some(At::Start(3)), 1);
+    gives(alloc, stop, "start stop: 100*5 -> 0 50 100", 0)?;
+    let stop = Fade::new(alloc, 1, 2, Some(At::Start(3)), 1);
+    gives(alloc, stop, "start stop cut short: 100*2 -> 0 50", 0)?;
+    let end = Fade::new(alloc, 1, 0, Some(At::End(2)), 2);
+    gives_holding(alloc, end, 5, "end stop: 100*5 -> 100 | 100 50")
 }
 
-/// Asserts what a stage that was made again gives for further samples and then the end; it counts so many frames taken
-/// before.
+/// What a stage that was made stores and counts once it gave what a row says, with no end.
+fn frozen<S: Stage + Drop>(
+    alloc: Global,
+    made: Result<S, AllocError>,
+    row: &'static str,
+) -> Result<(Vec<WideFrame>, [u64; 8]), &'static str>
+    requires { IfOk made (λ stage. 2 ^ 20 ≤ (kind S.acts stage).limit) }
+{
+    let Ok(mut stage) = made else {
+        return Err(REFUSED);
+    };
+    compare(alloc, &mut stage, false, row)?;
+    match stored(alloc, &stage) {
+        Ok(frames) => Ok((frames, stage.counters())),
+        Err(_refused) => Err(REFUSED),
+    }
+}
+
+/// Fails where a stage that was made again does not give what a row says, or counts another number of frames taken before.
 fn goes_on<S: Stage + Drop>(
     alloc: Global,
-    rt: &impl Abort,
     made: Result<S, ThawFault>,
     taken: u64,
-    row: (&str, &str),
-) -> Result<(), Fail>
+    row: &'static str,
+) -> Result<(), &'static str>
     requires { IfOk made (λ again. 2 ^ 20 ≤ (kind S.acts again).limit) }
 {
-    let Ok(mut again) = made else {
-        return Err("no stage of these frames and numbers".into());
+    let Ok(again) = made else {
+        return Err("no stage of these frames and numbers");
     };
     if again.counters()[0] != taken {
-        return Err("another number of frames taken".into());
+        return Err("another number of frames taken");
     }
-    gives(alloc, rt, &mut again, row.0, row.1)
+    gives(alloc, Ok(again), row, 0)
 }
 
-/// Asserts what a `trim` at these positions gives, and how many frames it holds where that is said.
-fn trim_gives(
-    alloc: Global,
-    rt: &impl Abort,
-    positions: &[At],
-    hold: Option<u64>,
-    sound: &str,
-    want: &str,
-) -> Result<(), Fail> {
-    if greatest_end(positions) > 1 << 28 {
-        return Err("a line too long".into());
-    }
-    let mut trim = Trim::new(alloc, 1, positions)?;
-    if hold.is_some() {
-        assert_eq!(rt; Some(trim.hold()), hold);
-    }
-    gives(alloc, rt, &mut trim, sound, want)
-}
-
-/// Asserts what a `pad` of these gives.
-fn pad_gives(
-    alloc: Global,
-    rt: &impl Abort,
-    pads: &[(u64, At)],
-    sound: &str,
-    want: &str,
-) -> Result<(), Fail>
-    requires { IsPads pads.now }
-{
-    if greatest_pad_end(pads) > 1 << 28 {
-        return Err("a line too long".into());
-    }
-    let mut pad = Pad::new(alloc, 1, pads)?;
-    gives(alloc, rt, &mut pad, sound, want)
-}
-
-/// Asserts what a `fade` of these lengths and stop gives, and how many frames it holds where that is said.
-fn fade_gives(
-    alloc: Global,
-    rt: &impl Abort,
-    (fade_in, stop, fade_out): (u64, Option<At>, u64),
-    hold: Option<u64>,
-    sound: &str,
-    want: &str,
-) -> Result<(), Fail> {
-    if fade_in > 1 << 40 || fade_out > 1 << 40 || stop_line(meant_stop(stop), fade_out) > 1 << 28 {
-        return Err("lengths out of range".into());
-    }
-    let mut fade = Fade::new(alloc, 1, fade_in, stop, fade_out)?;
-    if hold.is_some() {
-        assert_eq!(rt; Some(fade.hold()), hold);
-    }
-    gives(alloc, rt, &mut fade, sound, want)
-}
-
+/// A `trim` frozen and made again, which goes on as the first one would.
 #[test]
-fn trim_two_positions(rt: HostRuntime) -> Result<(), Fail> {
-    trim_gives(
-        rt.alloc(),
-        &rt,
-        &[At::Start(2), At::Start(5)],
-        None,
-        "1 2 3 4 5 6 7 8",
-        "3 4 5",
-    )
+fn trim_thaws(rt: HostRuntime) -> Result<(), &'static str> {
+    let alloc = rt.alloc();
+    let positions = [At::Start(1), At::End(1)];
+    let trim = Trim::new(alloc, 1, &positions);
+    let (frames, numbers) = frozen(alloc, trim, "trim: 1 2 3 -> 2")?;
+    let again = Trim::thaw(alloc, 1, &positions, &frames, &numbers);
+    goes_on(alloc, again, 3, "trim thawed: 4 5 -> 3 4")
 }
 
+/// A `pad` frozen and made again, which goes on as the first one would.
 #[test]
-fn trim_last_three(rt: HostRuntime) -> Result<(), Fail> {
-    trim_gives(
-        rt.alloc(),
-        &rt,
-        &[At::End(3)],
-        Some(4),
-        "1 2 3 4 5",
-        "| 3 4 5",
-    )
-}
-
-#[test]
-fn trim_last_three_of_two(rt: HostRuntime) -> Result<(), Fail> {
-    trim_gives(rt.alloc(), &rt, &[At::End(3)], None, "1 2", "1 2")
-}
-
-#[test]
-fn trim_mixed_anchors(rt: HostRuntime) -> Result<(), Fail> {
-    trim_gives(
-        rt.alloc(),
-        &rt,
-        &[At::Start(4), At::End(3)],
-        None,
-        "1 2 3 4 5",
-        "",
-    )
-}
-
-#[test]
-fn trim_start_to_end(rt: HostRuntime) -> Result<(), Fail> {
-    trim_gives(
-        rt.alloc(),
-        &rt,
-        &[At::Start(0), At::End(2)],
-        None,
-        "1 2 3 4",
-        "1 2 |",
-    )
-}
-
-#[test]
-fn pad_empty_sound(rt: HostRuntime) -> Result<(), Fail> {
-    pad_gives(
-        rt.alloc(),
-        &rt,
-        &[(2, At::Start(0)), (1, At::End(0))],
-        "",
-        "| 0 0 0",
-    )
-}
-
-#[test]
-fn pad_past_end(rt: HostRuntime) -> Result<(), Fail> {
-    pad_gives(
-        rt.alloc(),
-        &rt,
-        &[(1, At::Start(9)), (2, At::End(0))],
-        "1 2",
-        "1 2 0 0",
-    )
-}
-
-#[test]
-fn pad_mixed_anchors(rt: HostRuntime) -> Result<(), Fail> {
-    pad_gives(
-        rt.alloc(),
-        &rt,
-        &[(2, At::Start(1)), (1, At::End(1))],
-        "1 2 3",
-        "1 0 0 2 | 0 3",
-    )
-}
-
-#[test]
-fn pad_mixed_anchors_of_one(rt: HostRuntime) -> Result<(), Fail> {
-    pad_gives(
-        rt.alloc(),
-        &rt,
-        &[(2, At::Start(1)), (1, At::End(1))],
-        "1",
-        "1 0 0 0",
-    )
-}
-
-#[test]
-fn pad_mixed_anchors_of_none(rt: HostRuntime) -> Result<(), Fail> {
-    pad_gives(
-        rt.alloc(),
-        &rt,
-        &[(2, At::Start(1)), (1, At::End(1))],
-        "",
-        "0",
-    )
-}
-
-#[test]
-fn fade_in_four(rt: HostRuntime) -> Result<(), Fail> {
-    fade_gives(
-        rt.alloc(),
-        &rt,
-        (4, None, 4),
-        None,
-        "100 100 100 100 100",
-        "0 25 50 75 100 |",
-    )
-}
-
-#[test]
-fn fade_out_two(rt: HostRuntime) -> Result<(), Fail> {
-    fade_gives(
-        rt.alloc(),
-        &rt,
-        (0, Some(At::Start(0)), 2),
-        Some(3),
-        "100 100 100 100",
-        "100 100 100 50",
-    )
-}
-
-#[test]
-fn fade_overlap(rt: HostRuntime) -> Result<(), Fail> {
-    fade_gives(
-        rt.alloc(),
-        &rt,
-        (4, Some(At::End(0)), 4),
-        None,
-        "100 100 100",
-        "0 13 13",
-    )
-}
-
-#[test]
-fn fade_start_stop(rt: HostRuntime) -> Result<(), Fail> {
-    fade_gives(
-        rt.alloc(),
-        &rt,
-        (2, Some(At::Start(3)), 1),
-        None,
-        "100 100 100 100 100",
-        "0 50 100",
-    )
-}
-
-#[test]
-fn fade_start_stop_cut_short(rt: HostRuntime) -> Result<(), Fail> {
-    fade_gives(
-        rt.alloc(),
-        &rt,
-        (2, Some(At::Start(3)), 1),
-        None,
-        "100 100",
-        "0 50",
-    )
-}
-
-#[test]
-fn fade_end_stop(rt: HostRuntime) -> Result<(), Fail> {
-    fade_gives(
-        rt.alloc(),
-        &rt,
-        (0, Some(At::End(2)), 2),
-        Some(5),
-        "100 100 100 100 100",
-        "100 | 100 50",
-    )
-}
-
-/// Asserts what a `trim` gives for the second sound that is made again from what it stores and counts after the first
-/// one, of so many frames.
-fn trim_goes_on(
-    alloc: Global,
-    rt: &impl Abort,
-    positions: &[At],
-    first: (&str, &str),
-    taken: u64,
-    second: (&str, &str),
-) -> Result<(), Fail> {
-    if greatest_end(positions) > 1 << 28 {
-        return Err("a line too long".into());
-    }
-    let mut trim = Trim::new(alloc, 1, positions)?;
-    let frames = frozen(alloc, &mut trim, first.0, first.1)?;
-    let again = Trim::thaw(alloc, 1, positions, &frames, &trim.counters());
-    goes_on(alloc, rt, again, taken, second)
-}
-
-#[test]
-fn trim_thaws(rt: HostRuntime) -> Result<(), Fail> {
-    trim_goes_on(
-        rt.alloc(),
-        &rt,
-        &[At::Start(1), At::End(1)],
-        ("1 2 3", "2"),
-        3,
-        ("4 5", "3 4"),
-    )
-}
-
-/// Asserts what a `pad` gives for the second sound that is made again from what it stores and counts after the first
-/// one, of so many frames.
-fn pad_goes_on(
-    alloc: Global,
-    rt: &impl Abort,
-    pads: &[(u64, At)],
-    first: (&str, &str),
-    taken: u64,
-    second: (&str, &str),
-) -> Result<(), Fail>
-    requires { IsPads pads.now }
-{
-    if greatest_pad_end(pads) > 1 << 28 {
-        return Err("a line too long".into());
-    }
-    let mut pad = Pad::new(alloc, 1, pads)?;
-    let frames = frozen(alloc, &mut pad, first.0, first.1)?;
-    let again = Pad::thaw(alloc, 1, pads, &frames, &pad.counters());
-    goes_on(alloc, rt, again, taken, second)
-}
-
-#[test]
-fn pad_thaws(rt: HostRuntime) -> Result<(), Fail> {
+fn pad_thaws(rt: HostRuntime) -> Result<(), &'static str> {
+    let alloc = rt.alloc();
     let pads = [(2, At::Start(1)), (1, At::End(1))];
-    pad_goes_on(rt.alloc(), &rt, &pads, ("1 2", "1"), 2, ("3", "0 0 2 0 3"))
+    let pad = Pad::new(alloc, 1, &pads);
+    let (frames, numbers) = frozen(alloc, pad, "pad: 1 2 -> 1")?;
+    let again = Pad::thaw(alloc, 1, &pads, &frames, &numbers);
+    goes_on(alloc, again, 2, "pad thawed: 3 -> 0 0 2 0 3")
 }
 
+/// A `fade` frozen and made again, which goes on as the first one would.
 #[test]
-fn fade_thaws(rt: HostRuntime) -> Result<(), Fail> {
+fn fade_thaws(rt: HostRuntime) -> Result<(), &'static str> {
+    let alloc = rt.alloc();
     let stop = Some(At::End(2));
-    let mut fade = Fade::new(rt.alloc(), 1, 0, stop, 2)?;
-    let frames = frozen(rt.alloc(), &mut fade, "100 100 100 100", "")?;
-    let again = Fade::thaw(rt.alloc(), 1, 0, stop, 2, &frames, &fade.counters());
-    goes_on(rt.alloc(), &rt, again, 4, ("100", "100 100 50"))
+    let fade = Fade::new(alloc, 1, 0, stop, 2);
+    let (frames, numbers) = frozen(alloc, fade, "fade: 100*4 ->")?;
+    let again = Fade::thaw(alloc, 1, 0, stop, 2, &frames, &numbers);
+    goes_on(alloc, again, 4, "fade thawed: 100 -> 100 100 50")
 }
 
-/// More silence than a factor of 3 leaves.
+/// More silence than a factor of 3 leaves, a frame in hand after the end, and a sound of five frames of which `trim 0` gives
+/// one.
 #[test]
-fn long_silence_refused(rt: HostRuntime) -> Result<(), Fail> {
+fn impossible_refused(rt: HostRuntime) -> Result<(), &'static str> {
     let silent = Upsample::thaw(1, 3, &[], &[3, 0, 0, 0, 0, 9, 0, 0]);
-    assert!(rt; is_refused(&silent));
-    Ok(())
-}
-
-/// A frame in hand after the end.
-#[test]
-fn hand_after_end_refused(rt: HostRuntime) -> Result<(), Fail> {
+    refused(silent, "long silence")?;
     let frames = [WideFrame::from_frame(mono(7))];
     let over = Downsample::thaw(1, 2, &frames, &[1, 0, 1, 0, 1, 1, 0, 0]);
-    assert!(rt; is_refused(&over));
-    Ok(())
+    refused(over, "hand after end")?;
+    let numbers = [5, 0, 1, 0, 1, 1, 0, 0];
+    let few = Trim::thaw(rt.alloc(), 1, &[At::Start(0)], &frames, &numbers);
+    refused(few, "one of five")
 }
 
-/// A sound of five frames of which `trim 0` gives one.
-#[test]
-fn one_of_five_refused(rt: HostRuntime) -> Result<(), Fail> {
-    let frames = [WideFrame::from_frame(mono(7))];
-    let few = Trim::thaw(
-        rt.alloc(),
-        1,
-        &[At::Start(0)],
-        &frames,
-        &[5, 0, 1, 0, 1, 1, 0, 0],
-    );
-    assert!(rt; is_refused(&few));
-    Ok(())
-}
-
-/// Says whether a stage of two channels was made. One that was made holds four frames.
-fn say_growth(rt: &(impl Abort + Print), hold: Result<u64, AllocError>) -> Result<(), Fail> {
-    match hold {
-        Ok(hold) => {
-            assert_eq!(rt; hold, 4);
-            println!(rt; "made")?;
-        }
-        Err(_refused) => println!(rt; "refused")?,
+/// Fails where a stage of two channels that was made does not hold four frames, or memory for it was wanting.
+fn holds_four<S: Stage + Drop>(made: Result<S, AllocError>) -> Result<(), &'static str> {
+    let Ok(stage) = made else {
+        return Err(REFUSED);
+    };
+    if stage.hold() != 4 {
+        return Err("another hold");
     }
     Ok(())
 }
 
-fn trim_hold(alloc: Global) -> Result<u64, AllocError> {
-    let trim = Trim::new(alloc, 2, &[At::Start(1), At::End(3)])?;
-    Ok(trim.hold())
+/// A `trim`, a `pad` and a `fade`, one after the other.
+fn three_stages(alloc: Global) -> Result<(), &'static str> {
+    holds_four(Trim::new(alloc, 2, &[At::Start(1), At::End(3)]))?;
+    holds_four(Pad::new(alloc, 2, &[(4, At::Start(1)), (1, At::End(3))]))?;
+    holds_four(Fade::new(alloc, 2, 4, Some(At::End(1)), 2))
 }
 
+/// Each request of a `trim`, a `pad` and a `fade` for memory refused in turn.
 #[test]
-fn growth_cut_stages_trim(rt: HostRuntime) -> Result<(), Fail> {
-    say_growth(&rt, trim_hold(rt.alloc()))
+fn growth_cut_stages(rt: HostRuntime) -> Result<(), &'static str> {
+    say(&rt, three_stages(rt.alloc()))
 }
 
-fn pad_hold(alloc: Global) -> Result<u64, AllocError> {
-    let pad = Pad::new(alloc, 2, &[(4, At::Start(1)), (1, At::End(3))])?;
-    Ok(pad.hold())
-}
-
+/// One frame, and two of silence behind it.
 #[test]
-fn growth_cut_stages_pad(rt: HostRuntime) -> Result<(), Fail> {
-    say_growth(&rt, pad_hold(rt.alloc()))
-}
-
-fn fade_hold(alloc: Global) -> Result<u64, AllocError> {
-    let fade = Fade::new(alloc, 2, 4, Some(At::End(1)), 2)?;
-    Ok(fade.hold())
-}
-
-#[test]
-fn growth_cut_stages_fade(rt: HostRuntime) -> Result<(), Fail> {
-    say_growth(&rt, fade_hold(rt.alloc()))
-}
-
-#[test]
-fn upsample_by_three(rt: HostRuntime) -> Result<(), Fail> {
+fn upsample_by_three() -> Result<(), &'static str> {
     let mut stage = Upsample::new(1, 3);
     stage.take(mono(7));
-    for frame in [mono(7), mono(0), mono(0)] {
-        assert!(rt; !stage.is_dry());
-        assert_eq!(rt; stage.give(), Some(frame));
+    for sample in [7, 0, 0] {
+        if stage.is_dry() || stage.give() != Some(mono(sample)) {
+            return Err("other frames than 7 0 0");
+        }
     }
-    assert!(rt; stage.is_dry());
-    assert_eq!(rt; stage.give(), None);
+    if !stage.is_dry() || stage.give().is_some() {
+        return Err("more frames than three");
+    }
     Ok(())
 }
 
-/// What `downsample` keeps of a frame.
-fn kept(stage: &mut Downsample, frame: Frame) -> Result<Option<Frame>, Fail> {
+/// Adds what `downsample` keeps of a frame.
+fn keep(stage: &mut Downsample, frame: Frame, out: &mut Vec<Frame>) -> Result<(), &'static str> {
     if stage.in_channels() != frame.channels()
         || !stage.is_dry()
         || stage.is_ended()
         || stage.counters()[0] >= 6
     {
-        return Err("no frame can be taken".into());
+        return Err("no frame can be taken");
     }
     stage.take(frame);
-    Ok(stage.give())
+    if let Some(kept) = stage.give() {
+        if out.push(kept).is_err() {
+            return Err(REFUSED);
+        }
+    }
+    Ok(())
 }
 
 /// Lets `upsample` take a sample and `downsample` each frame that comes of it, and adds what is kept.
@@ -504,30 +233,30 @@ fn pass_on(
     second: &mut Downsample,
     sample: i32,
     out: &mut Vec<Frame>,
-) -> Result<(), Fail> {
+) -> Result<(), &'static str> {
     if first.in_channels() != 1 || !first.is_dry() || first.is_ended() || first.counters()[0] >= 2 {
-        return Err("no frame can be taken".into());
+        return Err("no frame can be taken");
     }
     first.take(mono(sample));
     for _frame in 0..3 {
         let Some(frame) = first.give() else {
-            return Err("too few frames".into());
+            return Err("too few frames");
         };
-        if let Some(frame) = kept(second, frame)? {
-            out.push(frame)?;
-        }
+        keep(second, frame, out)?;
     }
     Ok(())
 }
 
+/// Of the six frames behind `upsample 3`, each second one from the first on.
 #[test]
-fn upsample_then_downsample(rt: HostRuntime) -> Result<(), Fail> {
+fn upsample_then_downsample(rt: HostRuntime) -> Result<(), &'static str> {
     let mut first = Upsample::new(1, 3);
     let mut second = Downsample::new(1, 2);
     let mut out = Vec::new(rt.alloc());
-    for sample in [1, 2] {
-        pass_on(&mut first, &mut second, sample, &mut out)?;
+    pass_on(&mut first, &mut second, 1, &mut out)?;
+    pass_on(&mut first, &mut second, 2, &mut out)?;
+    if out.as_slice() != [mono(1), mono(0), mono(0)].as_slice() {
+        return Err("other frames than 1 0 0");
     }
-    assert_eq!(rt; out.as_slice(), [mono(1), mono(0), mono(0)].as_slice());
     Ok(())
 }

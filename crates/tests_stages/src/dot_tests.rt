@@ -2,7 +2,6 @@
 ghost use Rattle.std.specs.Prelude.{◌≡◌, ◌≤◌, ◌^◌, true, length, unsigned_abs, All};
 
 use fx_tap::dot;
-use std::test::Fail;
 
 /// The plain loop: the products of the samples and the coefficients at the same places, added up one by one.
 fn plain(samples: &[i32], coefficients: &[i64]) -> i128
@@ -26,18 +25,18 @@ fn are_small(coefficients: &[i64]) -> bool
 }
 
 /// Is this the sum of the least sample times each coefficient?
-fn sums_to(coefficients: &[i64; 1024], want: i128) -> Result<(), Fail> {
+fn sums_to(coefficients: &[i64; 1024], want: i128) -> Result<(), &'static str> {
     if !are_small(coefficients) {
-        return Err("a coefficient is too great".into());
+        return Err("a coefficient is too great");
     }
     if dot(&[-2_147_483_648; 1024], coefficients) != want {
-        return Err("another sum".into());
+        return Err("another sum");
     }
     Ok(())
 }
 
 #[test]
-fn dot_great() -> Result<(), Fail> {
+fn dot_great() -> Result<(), &'static str> {
     sums_to(
         &[-1_000_000_000_000; 1024],
         2_199_023_255_552_000_000_000_000,
@@ -47,13 +46,13 @@ fn dot_great() -> Result<(), Fail> {
         -2_199_023_255_552_000_000_000_000,
     )?;
     if dot(&[], &[]) != 0 {
-        return Err("no products have a sum".into());
+        return Err("no products have a sum");
     }
     Ok(())
 }
 
 #[test]
-fn dot_greatest() -> Result<(), Fail> {
+fn dot_greatest() -> Result<(), &'static str> {
     sums_to(
         &[-1_000_000_000_000_000; 1024],
         2_199_023_255_552_000_000_000_000_000,
@@ -65,7 +64,7 @@ fn dot_greatest() -> Result<(), Fail> {
 }
 
 #[test]
-fn dot_every_length() -> Result<(), Fail> {
+fn dot_every_length() -> Result<(), &'static str> {
     let mut samples = [0i32; 70];
     let mut coefficients = [0i64; 70];
     let mut seed = 1u32;
@@ -78,10 +77,10 @@ fn dot_every_length() -> Result<(), Fail> {
     for count in 0..71usize {
         let (some, factors) = (&samples[..count], &coefficients[..count]);
         if !are_small(factors) {
-            return Err("a coefficient is too great".into());
+            return Err("a coefficient is too great");
         }
         if dot(some, factors) != plain(some, factors) {
-            return Err("another sum than the plain loop's".into());
+            return Err("another sum than the plain loop's");
         }
     }
     Ok(())

@@ -1,11 +1,11 @@
 //! `fir` of many coefficients, fed blocks of a sound, beside sums that are added up one by one.
 ghost use Rattle.std.specs.Prelude.{◌<◌, ◌≤◌, ◌^◌, ◌+◌, length};
 
-use crate::driving::{drain, gain, stored};
+use crate::driving::{REFUSED, drain, gain, stored};
 use fx_fixed::Gain;
 use fx_frame::{Feeds, Passed, Stage};
 use fx_tap::Fir;
-use std::alloc::Global;
+use std::alloc::{AllocError, Global};
 use std::test::Fail;
 
 /// How many blocks a sound has at the most.
@@ -19,7 +19,7 @@ fn noise(place: usize) -> i32 {
 }
 
 /// Samples of all sizes; each eleventh is the least one, each thirteenth the greatest.
-fn sound(alloc: Global, count: usize) -> Result<Vec<i32>, Fail> {
+fn sound(alloc: Global, count: usize) -> Result<Vec<i32>, AllocError> {
     let mut samples = Vec::new(alloc);
     for place in 0..count {
         samples.push(match (place % 11, place % 13) {
@@ -31,17 +31,28 @@ fn sound(alloc: Global, count: usize) -> Result<Vec<i32>, Fail> {
     Ok(samples)
 }
 
+/// A coefficient below 0.05: of six decimals, or of eleven.
+fn coefficient(alloc: Global, place: usize, is_fine: bool) -> Result<Gain, &'static str> {
+    let size = noise(place.wrapping_add(77_777));
+    let (size, decimals) = if is_fine {
+        (size, 11)
+    } else {
+        (size % 50_000, 6)
+    };
+    match format!(in alloc; "{size}e-{decimals}") {
+        Ok(text) => gain(text.as_str()),
+        Err(_refused) => Err(REFUSED),
+    }
+}
+
 /// So many coefficients below 0.05: of six decimals, or of eleven.
-fn coefficients(alloc: Global, count: usize, is_fine: bool) -> Result<Vec<Gain>, Fail> {
+fn coefficients(alloc: Global, count: usize, is_fine: bool) -> Result<Vec<Gain>, &'static str> {
     let mut gains = Vec::new(alloc);
     for place in 0..count {
-        let size = noise(place.wrapping_add(77_777));
-        let text = if is_fine {
-            format!(in alloc; "{size}e-11")?
-        } else {
-            format!(in alloc; "{}e-6", size % 50_000)?
-        };
-        gains.push(gain(text.as_str())?)?;
+        let gain = coefficient(alloc, place, is_fine)?;
+        if gains.push(gain).is_err() {
+            return Err(REFUSED);
+        }
     }
     Ok(gains)
 }
@@ -60,7 +71,7 @@ fn plainly(
     coefficients: &[Gain],
     channels: usize,
     sound: &[i32],
-) -> Result<Vec<i32>, Fail> {
+) -> Result<Vec<i32>, AllocError> {
     let mut samples = Vec::new(alloc);
     let ahead = (coefficients.len().saturating_sub(1) / 2).wrapping_mul(channels);
     for place in 0..sound.len() {
@@ -94,36 +105,64 @@ fn feed_into(fir: &mut Fir, block: &[i32], room: &mut [i32]) -> Result<usize, &'
     Ok(passed.given.wrapping_mul(channels))
 }
 
+/// Adds so many of the samples of a room.
+fn add_part(room: &[i32], count: usize, given: &mut Vec<i32>) -> Result<(), &'static str> {
+    let Some(samples) = room.get(..count) else {
+        return Err("more than there is room for");
+    };
+    match given.extend_from_slice(samples) {
+        Ok(()) => Ok(()),
+        Err(_refused) => Err(REFUSED),
+    }
+}
+
 /// Feeds a block, of which all has to be taken, and adds the samples that are given.
 fn feed_block(
     alloc: Global,
     fir: &mut Fir,
     block: &[i32],
     given: &mut Vec<i32>,
-) -> Result<(), Fail> {
+) -> Result<(), &'static str> {
     let mut room = Vec::new(alloc);
-    room.resize(block.len(), 0)?;
+    if room.resize(block.len(), 0).is_err() {
+        return Err(REFUSED);
+    }
     let count = feed_into(fir, block, &mut room)?;
-    let Some(samples) = room.get(..count) else {
-        return Err("more than there is room for".into());
-    };
-    given.extend_from_slice(samples)?;
-    Ok(())
+    add_part(&room, count, given)
 }
 
-/// The `fir` of these coefficients that is made again from what one of them stores and counts.
-fn thawed(alloc: Global, fir: &Fir, channels: usize, coefficients: &[Gain]) -> Result<Fir, Fail>
+/// Makes a `fir` of these coefficients again from what it stores and counts.
+fn thaw(
+    alloc: Global,
+    fir: &mut Fir,
+    channels: usize,
+    coefficients: &[Gain],
+) -> Result<(), &'static str>
     requires channels { (1 ≤ channels) × (channels ≤ 16) }
     requires coefficients { (1 ≤ length coefficients.now) × (length coefficients.now ≤ 1024) }
 {
-    let frames = stored(alloc, fir)?;
+    let Ok(frames) = stored(alloc, fir) else {
+        return Err(REFUSED);
+    };
     match Fir::thaw(alloc, channels, coefficients, &frames, &fir.counters()) {
-        Ok(again) => Ok(again),
-        Err(_fault) => Err("not thawed".into()),
+        Ok(again) => {
+            *fir = again;
+            Ok(())
+        }
+        Err(_fault) => Err("not thawed"),
     }
 }
 
-/// Feeds blocks of up to 3,000 frames, and freezes and thaws behind each.
+/// Tells a `fir` the end, and adds the samples that come behind it.
+fn end(fir: &mut Fir, given: &mut Vec<i32>) -> Result<(), &'static str> {
+    if !fir.is_dry() || fir.is_ended() {
+        return Err("not ready for the end");
+    }
+    fir.end();
+    drain(fir, given)
+}
+
+/// Feeds blocks of up to 3,000 frames, freezes and thaws behind each, and then tells the end.
 fn feed_blocks(
     alloc: Global,
     fir: &mut Fir,
@@ -131,7 +170,7 @@ fn feed_blocks(
     coefficients: &[Gain],
     sound: &[i32],
     given: &mut Vec<i32>,
-) -> Result<(), Fail>
+) -> Result<(), &'static str>
     requires channels { (1 ≤ channels) × (channels ≤ 16) }
     requires coefficients { (1 ≤ length coefficients.now) × (length coefficients.now ≤ 1024) }
 {
@@ -144,87 +183,117 @@ fn feed_blocks(
         let size = rest.len().min(frames * channels);
         feed_block(alloc, fir, &rest[..size], given)?;
         rest = &rest[size..];
-        *fir = thawed(alloc, fir, channels, coefficients)?;
+        thaw(alloc, fir, channels, coefficients)?;
     }
-    Ok(())
+    end(fir, given)
 }
 
-/// Tells a `fir` the end, and adds the samples that come behind it.
-fn end(fir: &mut Fir, given: &mut Vec<i32>) -> Result<(), Fail> {
-    if !fir.is_dry() || fir.is_ended() {
-        return Err("not ready for the end".into());
-    }
-    fir.end();
-    drain(fir, given)?;
-    Ok(())
-}
-
-/// What a `fir` gives that is fed a sound in blocks, frozen and thawed behind each, and then told the end.
-fn fed(
+/// Adds what a `fir` gives that is fed a sound in blocks, frozen and thawed behind each, and then told the end.
+fn feed(
     alloc: Global,
     coefficients: &[Gain],
     channels: usize,
     sound: &[i32],
-) -> Result<Vec<i32>, Fail>
+    given: &mut Vec<i32>,
+) -> Result<(), &'static str>
     requires channels { (1 ≤ channels) × (channels ≤ 16) }
 {
     if coefficients.is_empty() || coefficients.len() > 1024 {
-        return Err("no coefficient, or too many".into());
+        return Err("no coefficient, or too many");
     }
-    let mut given = Vec::new(alloc);
-    let mut fir = Fir::new(alloc, channels, coefficients)?;
-    feed_blocks(alloc, &mut fir, channels, coefficients, sound, &mut given)?;
-    end(&mut fir, &mut given)?;
-    Ok(given)
+    match Fir::new(alloc, channels, coefficients) {
+        Ok(mut fir) => feed_blocks(alloc, &mut fir, channels, coefficients, sound, given),
+        Err(_refused) => Err(REFUSED),
+    }
 }
 
-/// Does a `fir` of these coefficients give what it has to, for so many frames?
-fn filters(alloc: Global, coefficients: &[Gain], channels: usize, frames: usize) -> Result<(), Fail>
+/// Are these the samples that `fir` has to give for a sound?
+fn are_right(
+    alloc: Global,
+    coefficients: &[Gain],
+    channels: usize,
+    sound: &[i32],
+    given: &[i32],
+) -> bool {
+    match plainly(alloc, coefficients, channels, sound) {
+        Ok(want) => want.as_slice() == given,
+        Err(_refused) => false,
+    }
+}
+
+/// Fails where a `fir` of these coefficients does not give what it has to, for so many frames.
+fn filters(
+    alloc: Global,
+    coefficients: &[Gain],
+    channels: usize,
+    frames: usize,
+) -> Result<(), &'static str>
     requires channels { (1 ≤ channels) × (channels ≤ 16) }
     requires frames { frames ≤ 2 ^ 20 }
 {
-    let sound = sound(alloc, frames * channels)?;
-    let given = fed(alloc, coefficients, channels, &sound)?;
-    if given != plainly(alloc, coefficients, channels, &sound)? {
-        let count = coefficients.len();
-        return Err(format!(in alloc; "other samples by {count} coefficients")?.into());
+    let Ok(sound) = sound(alloc, frames * channels) else {
+        return Err(REFUSED);
+    };
+    let mut given = Vec::new(alloc);
+    feed(alloc, coefficients, channels, &sound, &mut given)?;
+    if are_right(alloc, coefficients, channels, &sound, &given) {
+        Ok(())
+    } else {
+        Err("other samples")
     }
-    Ok(())
 }
 
+/// The same of so many coefficients: the error says how many.
+fn filters_by(
+    alloc: Global,
+    count: usize,
+    is_fine: bool,
+    channels: usize,
+    frames: usize,
+) -> Result<(), Fail>
+    requires channels { (1 ≤ channels) × (channels ≤ 16) }
+    requires frames { frames ≤ 2 ^ 20 }
+{
+    let coefficients = coefficients(alloc, count, is_fine)?;
+    match filters(alloc, &coefficients, channels, frames) {
+        Ok(()) => Ok(()),
+        Err(fault) => Err(format!(in alloc; "{fault} by {count} coefficients")?.into()),
+    }
+}
+
+/// Counts of coefficients of six decimals beside those where another way of adding begins.
 #[test]
 fn fir_of_many(rt: HostRuntime) -> Result<(), Fail> {
     for count in [127, 128, 129, 159, 160, 255, 256, 1023, 1024] {
-        let coefficients = coefficients(rt.alloc(), count, false)?;
-        filters(rt.alloc(), &coefficients, 1, 6000)?;
+        filters_by(rt.alloc(), count, false, 1, 6000)?;
     }
     Ok(())
 }
 
+/// The same of coefficients of eleven decimals.
 #[test]
 fn fir_of_many_fine(rt: HostRuntime) -> Result<(), Fail> {
     for count in [255, 256, 511, 1024] {
-        let coefficients = coefficients(rt.alloc(), count, true)?;
-        filters(rt.alloc(), &coefficients, 1, 6000)?;
+        filters_by(rt.alloc(), count, true, 1, 6000)?;
     }
     Ok(())
 }
 
+/// Frames of two channels and of sixteen.
 #[test]
 fn fir_of_many_channels(rt: HostRuntime) -> Result<(), Fail> {
     for is_fine in [false, true] {
-        let coefficients = coefficients(rt.alloc(), 500, is_fine)?;
-        filters(rt.alloc(), &coefficients, 2, 5000)?;
-        filters(rt.alloc(), &coefficients, 16, 2500)?;
+        filters_by(rt.alloc(), 500, is_fine, 2, 5000)?;
+        filters_by(rt.alloc(), 500, is_fine, 16, 2500)?;
     }
     Ok(())
 }
 
+/// Sounds that are shorter than the coefficients, and hardly longer.
 #[test]
 fn fir_of_short_sounds(rt: HostRuntime) -> Result<(), Fail> {
-    let coefficients = coefficients(rt.alloc(), 1024, false)?;
     for frames in [0, 1, 511, 512, 1023, 1024] {
-        filters(rt.alloc(), &coefficients, 1, frames)?;
+        filters_by(rt.alloc(), 1024, false, 1, frames)?;
     }
     Ok(())
 }
