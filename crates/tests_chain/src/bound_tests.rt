@@ -8,21 +8,11 @@ use fx_chain::Chain;
 use fx_flow::flow::{State, Step};
 use fx_plan::Plan;
 use std::alloc::Global;
-use std::test::Fail;
 
 const THREE_EFFECTS: &str = "pad 3s delay 4s echo 1 1 0.25 0.5";
 
 /// Each frame twice as often, and then one frame later.
 const TWO_EFFECTS: &str = "upsample 2 delay 1s";
-
-/// What a chain did with a whole sound, and the bounds of its plan.
-#[derive(Drop)]
-struct Outcome {
-    driver: Driver,
-    hold: u64,
-    work: u64,
-    rate: u32,
-}
 
 /// Lets a chain of one channel take these samples and then the end.
 fn pass(driver: &mut Driver, samples: &[i32]) -> Result<(), &'static str>
@@ -37,69 +27,39 @@ fn pass(driver: &mut Driver, samples: &[i32]) -> Result<(), &'static str>
     Ok(())
 }
 
-/// The bounds of the plan for the frames that the chain took, beside what the chain did; it has the same hold.
-fn with_bounds(plan: &Plan, driver: Driver) -> Result<Outcome, &'static str> {
-    if driver.chain.hold() != plan.hold() {
-        return Err("another hold");
-    }
-    let frames = driver.chain.taken();
-    Ok(Outcome {
-        driver,
-        hold: plan.hold(),
-        work: plan.work(frames),
-        rate: plan.rate(),
-    })
+/// Has the chain of a plan given these samples for a whole sound, within the bounds of the plan, at 8000 frames a second? The
+/// bounds are the hold and, where they are said, the work for the frames of the sound and the number of hand-overs.
+fn is_within(
+    plan: &Plan,
+    driver: &Driver,
+    samples: &[i32],
+    (hold, work_and_moves): (u64, Option<(u64, u64)>),
+) -> bool {
+    let counts = (plan.work(driver.chain.taken()), driver.chain.moves());
+    driver.driven.samples.as_slice() == samples
+        && plan.hold() == hold
+        && driver.chain.hold() == hold
+        && driver.driven.most_held <= hold
+        && plan.rate() == 8000
+        && work_and_moves.unwrap_or(counts) == counts
 }
 
-/// What the chain of these effects does with these samples and then the end.
-fn driven_through(alloc: Global, effects: &str, samples: &[i32]) -> Result<Outcome, &'static str> {
+/// Fails with these effects where their chain does not give what is wanted for a sound and then the end, within these bounds.
+fn check_bounds(
+    alloc: Global,
+    effects: &'static str,
+    sound: &[i32],
+    samples: &[i32],
+    bounds: (u64, Option<(u64, u64)>),
+) -> Result<(), &'static str> {
     let plan = plan_of(alloc, effects)?;
     let mut driver = Driver::new(alloc, &plan)?;
-    pass(&mut driver, samples)?;
-    with_bounds(&plan, driver)
-}
-
-#[test]
-fn empty_sound_three_effects(rt: HostRuntime) -> Result<(), Fail> {
-    let got = driven_through(rt.alloc(), THREE_EFFECTS, &[])?;
-    assert_eq!(rt; got.driver.driven.samples.as_slice(), [0; 9].as_slice());
-    assert_eq!(rt;
-        (got.hold, got.work, got.driver.chain.moves()),
-        (10, 19, 19)
-    );
-    assert!(rt; got.driver.driven.most_held <= 10);
-    Ok(())
-}
-
-#[test]
-fn trim_then_fade(rt: HostRuntime) -> Result<(), Fail> {
-    let got = driven_through(rt.alloc(), "trim -3s fade t 0 0 2s", &[100, 100, 100, 100])?;
-    assert_eq!(rt;
-        got.driver.driven.samples.as_slice(),
-        [100, 100, 50].as_slice()
-    );
-    assert_eq!(rt; got.hold, 8);
-    Ok(())
-}
-
-#[test]
-fn twelve_line(rt: HostRuntime) -> Result<(), Fail> {
-    let got = driven_through(rt.alloc(), TWELVE_EFFECTS, &[8, 8, 8, 8])?;
-    assert_eq!(rt;
-        got.driver.driven.samples.as_slice(),
-        [0, 0, 8, 20, 28, 22, 10, 2, 0].as_slice()
-    );
-    assert_eq!(rt; got.rate, 8000);
-    assert_eq!(rt; (got.hold, got.work), (23, 119));
-    Ok(())
-}
-
-#[test]
-fn twelve_line_moves(rt: HostRuntime) -> Result<(), Fail> {
-    let got = driven_through(rt.alloc(), TWELVE_EFFECTS, &[8, 8, 8, 8])?;
-    assert_eq!(rt; got.driver.chain.moves(), 106);
-    assert!(rt; got.driver.driven.most_held <= 23);
-    Ok(())
+    pass(&mut driver, sound)?;
+    if is_within(&plan, &driver, samples, bounds) {
+        Ok(())
+    } else {
+        Err(effects)
+    }
 }
 
 /// Makes these steps of a chain, which holds at most four frames after each.
@@ -115,12 +75,30 @@ fn make_steps(chain: &mut Chain, steps: &[Step]) -> Result<(), &'static str> {
     Ok(())
 }
 
+/// An empty sound through three effects, a `trim` before a `fade`, and each effect once.
 #[test]
-fn two_idle_steps(rt: HostRuntime) -> Result<(), Fail> {
-    let mut chain = chain_of(rt.alloc(), TWO_EFFECTS)?;
-    assert_eq!(rt; chain.hold(), 4);
-    put(&mut chain, 5)?;
-    assert_eq!(rt; chain.held(), 1);
+fn bounds(rt: HostRuntime) -> Result<(), &'static str> {
+    let alloc = rt.alloc();
+    let three = (10, Some((19, 19)));
+    check_bounds(alloc, THREE_EFFECTS, &[], &[0; 9], three)?;
+    let effects = "trim -3s fade t 0 0 2s";
+    check_bounds(alloc, effects, &[100; 4], &[100, 100, 50], (8, None))?;
+    let samples = [0, 0, 8, 20, 28, 22, 10, 2, 0];
+    let twelve = (23, Some((119, 106)));
+    check_bounds(alloc, TWELVE_EFFECTS, &[8; 4], &samples, twelve)
+}
+
+/// The steps of two effects that a frame goes through, and those behind the end, of which two are idle.
+fn make_idle_steps(chain: &mut Chain) -> Result<(), &'static str>
+    requires { chain.old.plan.head.channels ≡ 1 }
+{
+    if chain.hold() != 4 {
+        return Err("another hold");
+    }
+    put(chain, 5)?;
+    if chain.held() != 1 {
+        return Err("another number of frames held");
+    }
     let steps = [
         Step::Moved,
         Step::Moved,
@@ -128,21 +106,31 @@ fn two_idle_steps(rt: HostRuntime) -> Result<(), Fail> {
         Step::Moved,
         Step::Given(mono(5)),
     ];
-    make_steps(&mut chain, &steps)?;
-    assert_eq!(rt; chain.moves(), 5);
-    tell_end(&mut chain)?;
-    make_steps(&mut chain, &[Step::Idle, Step::Idle, Step::Given(mono(0))])?;
-    assert_eq!(rt; chain.state(), State::Done);
-    assert_eq!(rt; chain.moves(), 6);
+    make_steps(chain, &steps)?;
+    if chain.moves() != 5 {
+        return Err("another number of hand-overs");
+    }
+    tell_end(chain)?;
+    make_steps(chain, &[Step::Idle, Step::Idle, Step::Given(mono(0))])?;
+    if chain.state() != State::Done || chain.moves() != 6 {
+        return Err("not done, or another number of hand-overs");
+    }
     Ok(())
 }
 
-#[test]
-fn all_that_is_due(rt: HostRuntime) -> Result<(), Fail> {
-    let mut driver = driver_of(rt.alloc(), TWO_EFFECTS)?;
+/// Fails where a chain of two effects holds other frames, makes other steps, or is not done behind them.
+fn two_idle_steps(alloc: Global) -> Result<(), &'static str> {
+    let mut chain = chain_of(alloc, TWO_EFFECTS)?;
+    make_idle_steps(&mut chain)
+}
+
+/// Fails where a chain of two effects does not give all that is due, or takes no more.
+fn all_that_is_due(alloc: Global) -> Result<(), &'static str> {
+    let mut driver = driver_of(alloc, TWO_EFFECTS)?;
     driver.feed(&[5, 6])?;
-    assert_eq!(rt; driver.driven.samples.as_slice(), [0, 5, 0, 6].as_slice());
-    assert!(rt; !driver.chain.is_spent());
+    if driver.driven.samples.as_slice() != [0, 5, 0, 6].as_slice() || driver.chain.is_spent() {
+        return Err("other samples are due, or it takes no more");
+    }
     Ok(())
 }
 
@@ -156,33 +144,48 @@ fn clips_of_two(plan: &Plan, chain: &Chain) -> Option<(u64, u64)>
     Some((chain.clips(1), chain.clips(2)))
 }
 
-/// A chain of two effects that took a whole sound, and what each clipped.
-fn whole_sound(alloc: Global) -> Result<(Driver, Option<(u64, u64)>), &'static str> {
+/// Fails where a chain of two effects gives other samples for a whole sound, or counts other hand-overs or clips.
+fn whole_sound_of_two_effects(alloc: Global) -> Result<(), &'static str> {
     let plan = plan_of(alloc, TWO_EFFECTS)?;
     let mut driver = Driver::new(alloc, &plan)?;
     pass(&mut driver, &[5, 6])?;
     let clips = clips_of_two(&plan, &driver.chain);
-    Ok((driver, clips))
+    let is_right = driver.driven.samples.as_slice() == [0, 5, 0, 6, 0].as_slice()
+        && driver.chain.moves() == 11
+        && clips == Some((0, 0));
+    if is_right {
+        Ok(())
+    } else {
+        Err("other samples, hand-overs or clips of a whole sound")
+    }
 }
 
-#[test]
-fn whole_sound_of_two_effects(rt: HostRuntime) -> Result<(), Fail> {
-    let (driver, clips) = whole_sound(rt.alloc())?;
-    assert_eq!(rt;
-        driver.driven.samples.as_slice(),
-        [0, 5, 0, 6, 0].as_slice()
-    );
-    assert_eq!(rt; driver.chain.moves(), 11);
-    assert_eq!(rt; clips, Some((0, 0)));
+/// Lets a chain of no effect give a frame, and tells it the end.
+fn give_at_once(chain: &mut Chain) -> Result<(), &'static str>
+    requires { chain.old.plan.head.channels ≡ 1 }
+{
+    put(chain, 5)?;
+    if next_step(chain) != Some(Step::Given(mono(5))) {
+        return Err("a chain of no effect gives another frame");
+    }
+    tell_end(chain)?;
+    if chain.state() != State::Done {
+        return Err("a chain of no effect is not done");
+    }
     Ok(())
 }
 
+/// Fails where a chain of no effect does not give its frame, or is not done behind the end.
+fn empty_chain(alloc: Global) -> Result<(), &'static str> {
+    let mut chain = chain_of(alloc, "")?;
+    give_at_once(&mut chain)
+}
+
+/// Chains of two effects, and one of none.
 #[test]
-fn empty_chain(rt: HostRuntime) -> Result<(), Fail> {
-    let mut chain = chain_of(rt.alloc(), "")?;
-    put(&mut chain, 5)?;
-    assert_eq!(rt; next_step(&mut chain), Some(Step::Given(mono(5))));
-    tell_end(&mut chain)?;
-    assert_eq!(rt; chain.state(), State::Done);
-    Ok(())
+fn steps(rt: HostRuntime) -> Result<(), &'static str> {
+    two_idle_steps(rt.alloc())?;
+    all_that_is_due(rt.alloc())?;
+    whole_sound_of_two_effects(rt.alloc())?;
+    empty_chain(rt.alloc())
 }

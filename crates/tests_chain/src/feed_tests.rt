@@ -6,7 +6,6 @@ use crate::words::{TWELVE_EFFECTS, plan_of};
 use fx_chain::{Chain, Snapshot};
 use fx_flow::flow::{MOST_FRAMES, State};
 use std::alloc::Global;
-use std::test::Fail;
 
 /// The most samples of a sound.
 const SAMPLES: usize = 2500;
@@ -310,7 +309,7 @@ fn feed_row(
 }
 
 #[test]
-fn feed_is_steps(rt: HostRuntime) -> Result<(), Fail> {
+fn feed_is_steps(rt: HostRuntime) -> Result<(), &'static str> {
     let mut dice = Dice { state: 1 };
     for effects in ROWS {
         feed_row(rt.alloc(), effects, SHORT, &mut dice)?;
@@ -319,7 +318,7 @@ fn feed_is_steps(rt: HostRuntime) -> Result<(), Fail> {
 }
 
 #[test]
-fn feed_of_long_pieces_is_steps(rt: HostRuntime) -> Result<(), Fail> {
+fn feed_of_long_pieces_is_steps(rt: HostRuntime) -> Result<(), &'static str> {
     let mut dice = Dice { state: 3 };
     for effects in LONG_ROWS {
         feed_row(rt.alloc(), effects, LONG, &mut dice)?;
@@ -347,7 +346,7 @@ fn feed_random(alloc: Global, dice: &mut Dice) -> Result<(), &'static str> {
 }
 
 #[test]
-fn random_plans_are_steps(rt: HostRuntime) -> Result<(), Fail> {
+fn random_plans_are_steps(rt: HostRuntime) -> Result<(), &'static str> {
     let mut dice = Dice { state: 7 };
     for _plan in 0..RANDOM_PLANS {
         feed_random(rt.alloc(), &mut dice)?;

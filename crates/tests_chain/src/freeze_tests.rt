@@ -12,7 +12,6 @@ use fx_frame::WideFrame;
 use fx_frame::stage::ThawFault;
 use fx_plan::Plan;
 use std::alloc::Global;
-use std::test::Fail;
 
 /// More calls than a chain of these rows is given.
 const MOST_CALLS: u32 = 1000;
@@ -72,31 +71,75 @@ fn first_wide(frame: &WideFrame) -> i64 {
     frame.get(0)
 }
 
-/// The samples of the first channel of frames.
-fn first_samples(alloc: Global, frames: &[WideFrame]) -> Result<Vec<i64>, &'static str> {
-    let mut samples = Vec::new(alloc);
-    for frame in frames {
-        if samples.push(first_wide(frame)).is_err() {
-            return Err("no memory for the samples");
+/// Have frames these samples in their first channels?
+fn have_samples(frames: &[WideFrame], samples: &[i64]) -> bool {
+    if frames.len() != samples.len() {
+        return false;
+    }
+    for (frame, sample) in frames.iter().zip(samples) {
+        if first_wide(frame) != *sample {
+            return false;
         }
     }
-    Ok(samples)
+    true
 }
 
-#[test]
-fn freeze_trim(rt: HostRuntime) -> Result<(), Fail> {
-    let snapshot = trim_snapshot(rt.alloc())?;
-    let frames = first_samples(rt.alloc(), &snapshot.frames)?;
-    assert_eq!(rt; frames.as_slice(), [3, 4, 5].as_slice());
-    Ok(())
+/// Fails with a text where the chain of a snapshot does not give these samples where it is told the end.
+fn ends_with(
+    alloc: Global,
+    snapshot: &Snapshot,
+    samples: &[i32],
+    text: &'static str,
+) -> Result<(), &'static str> {
+    let further = thawed_to_the_end(alloc, snapshot)?;
+    if further.driven.samples.as_slice() == samples {
+        Ok(())
+    } else {
+        Err(text)
+    }
 }
 
+/// Fails where a snapshot is not refused with the plan of `trim -2s`.
+fn needs_its_plan(alloc: Global, snapshot: &Snapshot) -> Result<(), &'static str> {
+    let other = plan_of(alloc, "trim -2s")?;
+    if refusal(alloc, &other, snapshot) == Some(ThawFault::WrongPlan) {
+        Ok(())
+    } else {
+        Err("a snapshot is not refused with another plan")
+    }
+}
+
+/// Fails where the copy of a plan is another plan.
+fn copies(alloc: Global, plan: &Plan) -> Result<(), &'static str> {
+    let Ok(copy) = plan.copy(alloc) else {
+        return Err("no memory for the copy");
+    };
+    if copy == *plan {
+        Ok(())
+    } else {
+        Err("the copy is another plan")
+    }
+}
+
+/// Fails where that is not what is known of the snapshot of `trim -3s` after 1 2 3 4 5.
+fn check_trim(alloc: Global, snapshot: &Snapshot) -> Result<(), &'static str> {
+    if !have_samples(&snapshot.frames, &[3, 4, 5]) {
+        return Err("other frames of a trim");
+    }
+    let numbers = [5, 5, 0, 0, 0, 0, 0, 0, 5, 0, 0, 0, 3, 0, 0, 0];
+    if snapshot.numbers.as_slice() != numbers.as_slice() {
+        return Err("other numbers of a trim");
+    }
+    ends_with(alloc, snapshot, &[3, 4, 5], "a trim gives other samples")?;
+    needs_its_plan(alloc, snapshot)?;
+    copies(alloc, &snapshot.plan)
+}
+
+/// A frozen `trim`: its frames and numbers, what it gives where it is thawed, and that it is refused with another plan.
 #[test]
-fn thaw_trim(rt: HostRuntime) -> Result<(), Fail> {
+fn trim_frozen(rt: HostRuntime) -> Result<(), &'static str> {
     let snapshot = trim_snapshot(rt.alloc())?;
-    let further = thawed_to_the_end(rt.alloc(), &snapshot)?;
-    assert_eq!(rt; further.driven.samples.as_slice(), [3, 4, 5].as_slice());
-    Ok(())
+    check_trim(rt.alloc(), &snapshot)
 }
 
 /// Lets what a chain is frozen to go on to the end.
@@ -106,45 +149,22 @@ fn freeze_and_go_on(alloc: Global, chain: &Chain) -> Result<(), &'static str> {
     Ok(())
 }
 
-#[test]
-fn frozen_trim_goes_on(rt: HostRuntime) -> Result<(), Fail> {
-    let mut driver = fed(rt.alloc(), "trim -3s", &[1, 2, 3, 4, 5])?;
-    freeze_and_go_on(rt.alloc(), &driver.chain)?;
+/// Fails where a `trim` that was frozen does not go on as if nothing had been asked.
+fn go_on_frozen(alloc: Global) -> Result<(), &'static str> {
+    let mut driver = fed(alloc, "trim -3s", &[1, 2, 3, 4, 5])?;
+    freeze_and_go_on(alloc, &driver.chain)?;
     driver.finish()?;
-    assert_eq!(rt; driver.driven.samples.as_slice(), [3, 4, 5].as_slice());
-    Ok(())
+    if driver.driven.samples.as_slice() == [3, 4, 5].as_slice() {
+        Ok(())
+    } else {
+        Err("a frozen trim gives other samples")
+    }
 }
 
+/// A `trim` that is frozen and thawed on its way.
 #[test]
-fn thaw_with_another_plan(rt: HostRuntime) -> Result<(), Fail> {
-    let snapshot = trim_snapshot(rt.alloc())?;
-    let other = plan_of(rt.alloc(), "trim -2s")?;
-    assert_eq!(rt;
-        refusal(rt.alloc(), &other, &snapshot),
-        Some(ThawFault::WrongPlan)
-    );
-    Ok(())
-}
-
-#[test]
-fn thaw_with_no_numbers(rt: HostRuntime) -> Result<(), Fail> {
-    let mut snapshot = trim_snapshot(rt.alloc())?;
-    snapshot.numbers.clear();
-    let refused = refusal(rt.alloc(), &snapshot.plan, &snapshot);
-    assert_eq!(rt; refused, Some(ThawFault::BadSnapshot));
-    Ok(())
-}
-
-#[test]
-fn freeze_numbers(rt: HostRuntime) -> Result<(), Fail> {
-    let snapshot = trim_snapshot(rt.alloc())?;
-    assert_eq!(rt;
-        snapshot.numbers.as_slice(),
-        [5, 5, 0, 0, 0, 0, 0, 0, 5, 0, 0, 0, 3, 0, 0, 0].as_slice()
-    );
-    let copy = snapshot.plan.copy(rt.alloc())?;
-    assert!(rt; copy == snapshot.plan);
-    Ok(())
+fn frozen_trim_goes_on(rt: HostRuntime) -> Result<(), &'static str> {
+    go_on_frozen(rt.alloc())
 }
 
 /// The chain of `upsample 2 delay 1s` that took a frame of 5.
@@ -163,30 +183,29 @@ fn one_step_snapshot(alloc: Global) -> Result<Snapshot, &'static str> {
     frozen(alloc, &chain)
 }
 
-#[test]
-fn freeze_after_one_step(rt: HostRuntime) -> Result<(), Fail> {
-    let snapshot = one_step_snapshot(rt.alloc())?;
-    assert_eq!(rt;
-        snapshot.numbers.as_slice(),
-        [
-            1, 1, 0, 0, 0, 0, 0, 0, 1, 0, 0, 0, 1, 1, 0, 0, 0, 0, 0, 0, 0, 0, 0, 0
-        ]
-        .as_slice()
-    );
-    assert_eq!(rt;
-        snapshot.frames.as_slice(),
-        [WideFrame::from_frame(mono(5))].as_slice()
-    );
+/// Fails where that is not the snapshot of that chain after one step, or where it is not refused with a number less.
+fn check_one_step(alloc: Global, snapshot: &mut Snapshot) -> Result<(), &'static str> {
+    let numbers = [
+        1, 1, 0, 0, 0, 0, 0, 0, 1, 0, 0, 0, 1, 1, 0, 0, 0, 0, 0, 0, 0, 0, 0, 0,
+    ];
+    if snapshot.numbers.as_slice() != numbers.as_slice() {
+        return Err("other numbers after one step");
+    }
+    if snapshot.frames.as_slice() != [WideFrame::from_frame(mono(5))].as_slice() {
+        return Err("other frames after one step");
+    }
+    snapshot.numbers.truncate(23);
+    if refusal(alloc, &snapshot.plan, snapshot) != Some(ThawFault::BadSnapshot) {
+        return Err("a number less is not refused");
+    }
     Ok(())
 }
 
+/// A chain of two effects that is frozen between two steps.
 #[test]
-fn thaw_with_a_number_less(rt: HostRuntime) -> Result<(), Fail> {
+fn frozen_after_one_step(rt: HostRuntime) -> Result<(), &'static str> {
     let mut snapshot = one_step_snapshot(rt.alloc())?;
-    snapshot.numbers.truncate(23);
-    let refused = refusal(rt.alloc(), &snapshot.plan, &snapshot);
-    assert_eq!(rt; refused, Some(ThawFault::BadSnapshot));
-    Ok(())
+    check_one_step(rt.alloc(), &mut snapshot)
 }
 
 /// Steps a chain beside another one, which has to be the same.
@@ -210,8 +229,9 @@ fn step_beside_thawed(alloc: Global, chain: &mut Chain) -> Result<(), &'static s
     step_beside(chain, &mut again)
 }
 
+/// The same chain, thawed after each step.
 #[test]
-fn thaw_after_each_step(rt: HostRuntime) -> Result<(), Fail> {
+fn thaw_after_each_step(rt: HostRuntime) -> Result<(), &'static str> {
     let mut chain = took_five(rt.alloc())?;
     for _step in 0..5 {
         step_beside_thawed(rt.alloc(), &mut chain)?;
@@ -219,12 +239,12 @@ fn thaw_after_each_step(rt: HostRuntime) -> Result<(), Fail> {
     Ok(())
 }
 
+/// An `echos` that is thawed with samples to come.
 #[test]
-fn thaw_echos(rt: HostRuntime) -> Result<(), Fail> {
+fn thaw_echos(rt: HostRuntime) -> Result<(), &'static str> {
     let snapshot = snapshot_of(rt.alloc(), "echos 1 1 0.25 0.5 0.125 0.5", &[8])?;
-    let further = thawed_to_the_end(rt.alloc(), &snapshot)?;
-    assert_eq!(rt; further.driven.samples.as_slice(), [4, 4, 4].as_slice());
-    Ok(())
+    let text = "an echos gives other samples";
+    ends_with(rt.alloc(), &snapshot, &[4, 4, 4], text)
 }
 
 /// What is wrong with a snapshot of one effect.
@@ -240,6 +260,8 @@ enum Damage {
     Wide,
     /// The last frame is not there.
     OneLess,
+    /// No number is there.
+    NoNumber,
 }
 
 /// The frame of these samples.
@@ -261,28 +283,34 @@ fn spoil(snapshot: &mut Snapshot, damage: Damage) -> Result<(), &'static str> {
         Damage::Stereo => snapshot.frames[0] = wide(&[3, 3])?,
         Damage::Wide => snapshot.frames[0] = wide(&[1 << 31])?,
         Damage::OneLess => snapshot.frames.truncate(2),
+        Damage::NoNumber => snapshot.numbers.clear(),
     }
     Ok(())
 }
 
-/// The fault for which the snapshot of `trim -3s` is refused after this damage, if it is.
-fn refusal_after(alloc: Global, damage: Damage) -> Result<Option<ThawFault>, &'static str> {
+/// Fails where the snapshot of `trim -3s` is not refused as a bad one after this damage.
+fn is_refused_after(alloc: Global, damage: Damage) -> Result<(), &'static str> {
     let mut snapshot = trim_snapshot(alloc)?;
     spoil(&mut snapshot, damage)?;
-    Ok(refusal(alloc, &snapshot.plan, &snapshot))
+    if refusal(alloc, &snapshot.plan, &snapshot) == Some(ThawFault::BadSnapshot) {
+        Ok(())
+    } else {
+        Err("a damaged snapshot is not refused")
+    }
 }
 
+/// Each damage in turn.
 #[test]
-fn thaw_refused(rt: HostRuntime) -> Result<(), Fail> {
-    for kind in [
+fn thaw_refused(rt: HostRuntime) -> Result<(), &'static str> {
+    for damage in [
         Damage::TooManyTaken,
         Damage::HalfEnded,
         Damage::Stereo,
         Damage::Wide,
         Damage::OneLess,
+        Damage::NoNumber,
     ] {
-        let refused = refusal_after(rt.alloc(), kind)?;
-        assert_eq!(rt; refused, Some(ThawFault::BadSnapshot));
+        is_refused_after(rt.alloc(), damage)?;
     }
     Ok(())
 }
@@ -412,11 +440,10 @@ fn whole_outcome(alloc: Global, chain: &Chain) -> Result<Ending, &'static str>
 
 /// The chain of twelve effects, thawed after every call.
 #[test]
-fn freeze_twelve_line(rt: HostRuntime) -> Result<(), Fail> {
+fn freeze_twelve_line(rt: HostRuntime) -> Result<(), &'static str> {
     let mut chain = chain_of(rt.alloc(), TWELVE_EFFECTS)?;
     let whole = whole_outcome(rt.alloc(), &chain)?;
-    go_on_thawed(rt.alloc(), &mut chain, &whole.snapshot.numbers)?;
-    Ok(())
+    go_on_thawed(rt.alloc(), &mut chain, &whole.snapshot.numbers)
 }
 
 /// Freezes a chain and thaws it.
@@ -478,8 +505,10 @@ fn said(alloc: Global) -> Result<&'static str, &'static str> {
 
 /// Each request for memory refused in turn; the frozen chain then runs on as if nothing had been asked.
 #[test]
-fn growth_freeze_thaw(rt: HostRuntime) -> Result<(), Fail> {
+fn growth_freeze_thaw(rt: HostRuntime) -> Result<(), &'static str> {
     let said = said(rt.alloc())?;
-    println!(rt; "{said}")?;
-    Ok(())
+    match println!(rt; "{said}") {
+        Ok(()) => Ok(()),
+        Err(_unwritten) => Err("nothing can be printed"),
+    }
 }
