@@ -4,8 +4,8 @@ use Rattle.std.specs.List.{All}
 use Rattle.fx_chain.specs.Chain.{ChainParts, IsChain}
 use Rattle.fx_flow.specs.Parts.{most_of, work}
 use Rattle.fx_flow.specs.Sound.{IsPlanned}
-use Rattle.fx_frame.specs.Holds.{hold_sum, kinds, line_sum, recipes, total}
-use Rattle.fx_frame.specs.Stage.{Kind}
+use Rattle.fx_step.specs.Holds.{hold_sum, kinds, line_sum, recipes, total}
+use Rattle.fx_step.specs.Stage.{Kind}
 use Rattle.fx_effects.specs.Bounds.{hold_all, is_too_long, work_of}
 use Rattle.fx_effects.specs.Effects.{line_of, Act, Usable}
 use Rattle.fx_effects.proofs.Lasting.{work-bound}

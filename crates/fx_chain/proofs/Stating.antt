@@ -3,22 +3,22 @@ use Rattle.std.proofs.Common.{◌≡◌, ℕ, zero, suc, ◌+◌, ◌*◌, ◌/�
 use Rattle.std.proofs.lemmas.List.{length-map, length-take-le, take-append-drop, take-map, take_all}
 use Rattle.std.proofs.lemmas.Nat.{le-div}
 use Rattle.std.specs.Prelude.{IfErr, IfOk, MatchBool, Result, Ok, Err, sum}
-use Rattle.fx_frame.specs.declared.coding.Coding.{Coding}
-use Rattle.fx_frame.specs.declared.coding.Coding.TheVariants.{U8, S8, S16Le, S16Be, S24Le, S24Be, S32Le, S32Be}
-use Rattle.fx_frame.specs.Frame.{Samples}
-use Rattle.fx_frame.specs.FrameCoding.{frame_size, samples_of}
-use Rattle.fx_frame.specs.Holds.{kinds, recipes, total}
-use Rattle.fx_frame.specs.Pieces.{pieces}
-use Rattle.fx_frame.specs.Stage.{Kind}
+use Rattle.fx_io.specs.declared.coding.Coding.{Coding}
+use Rattle.fx_io.specs.declared.coding.Coding.TheVariants.{U8, S8, S16Le, S16Be, S24Le, S24Be, S32Le, S32Be}
+use Rattle.fx_step.specs.Frame.{Samples}
+use Rattle.fx_heads.specs.FrameCoding.{frame_size, samples_of}
+use Rattle.fx_step.specs.Holds.{kinds, recipes, total}
+use Rattle.fx_lists.specs.Lists.{pieces}
+use Rattle.fx_step.specs.Stage.{Kind}
 use Rattle.fx_flow.specs.Parts.{Parts, moves_of}
 use Rattle.fx_flow.specs.Composed.{Whole, due_of, enough_for}
 use Rattle.fx_flow.specs.Steps.{IsDone, rest_of, wholes_of}
 use Rattle.fx_plan.specs.Planning.{Planning}
 use Rattle.fx_stages.specs.declared.stage.EffectStage.{EffectStage}
 use Rattle.fx_stages.specs.Stages.{effect_acts}
-use Rattle.fx_sound.specs.declared.head.Head.{Head}
+use Rattle.fx_heads.specs.declared.head.Head.{Head}
 use Rattle.fx_sound.specs.declared.progress.TheConstants.{MOST_FRAMES}
-use Rattle.fx_sound.specs.Known.{IfKnown}
+use Rattle.fx_heads.specs.Known.{IfKnown}
 use Rattle.fx_sound.proofs.RunLaws.{first_frames-within}
 use Rattle.fx_sound.specs.Sound.{lacking, within}
 use Rattle.fx_run.specs.declared.report.Report.{Report}

@@ -4,8 +4,8 @@ use Rattle.fx_run.specs.declared.target.Target.{Target}
 use Rattle.fx_flow.specs.Parts.{AllNew, Parts, given_by, taken_of}
 use Rattle.fx_flow.specs.Composed.{Whole, composed, composed_wholes}
 use Rattle.fx_flow.specs.Steps.{IsHungry, rest_of, wholes_of}
-use Rattle.fx_frame.specs.Frame.{Samples}
-use Rattle.fx_frame.specs.Holds.{recipes}
+use Rattle.fx_step.specs.Frame.{Samples}
+use Rattle.fx_step.specs.Holds.{recipes}
 use Rattle.fx_effects.specs.Bounds.{is_too_long}
 use Rattle.fx_plan.specs.Planning.{Planning}
 use Rattle.fx_stages.specs.declared.stage.EffectStage.{EffectStage}

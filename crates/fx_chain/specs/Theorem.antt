@@ -14,16 +14,16 @@ use Rattle.fx_run.specs.Through.{Reached}
 use Rattle.fx_flow.specs.Parts.{AllNew, Parts, moves_of, taken_of}
 use Rattle.fx_flow.specs.Composed.{Whole, due_of, enough_for}
 use Rattle.fx_flow.specs.Steps.{IsDone, IsHungry, rest_of, wholes_of}
-use Rattle.fx_frame.specs.Frame.{Samples}
-use Rattle.fx_frame.specs.FrameCoding.{frame_size}
-use Rattle.fx_frame.specs.Holds.{recipes, total}
-use Rattle.fx_frame.specs.Stage.{Kind}
+use Rattle.fx_step.specs.Frame.{Samples}
+use Rattle.fx_heads.specs.FrameCoding.{frame_size}
+use Rattle.fx_step.specs.Holds.{recipes, total}
+use Rattle.fx_step.specs.Stage.{Kind}
 use Rattle.fx_plan.specs.Planning.{Planning}
-use Rattle.fx_sound.specs.declared.head.Head.{Head}
+use Rattle.fx_heads.specs.declared.head.Head.{Head}
 use Rattle.fx_sound.specs.declared.progress.TheConstants.{MOST_FRAMES}
 use Rattle.fx_sound.specs.Container.{frames_of}
 use Rattle.fx_sound.specs.Sound.{lacking, within}
-use Rattle.fx_sound.specs.Source.{Held}
+use Rattle.fx_heads.specs.Source.{Held}
 use Rattle.fx_stages.specs.declared.stage.EffectStage.{EffectStage}
 use Rattle.fx_stages.specs.Effects.{kind_of_recipe, meaning_of_recipe}
 use Rattle.fx_stages.specs.Stages.{effect_acts}

@@ -2,14 +2,14 @@
 ghost use Rattle.std.specs.Prelude.{◌≡◌, ◌<◌, ◌≤◌, ◌+◌, ◌-◌, ◌*◌, ℕ, false, drop, IfOk, List, Some, [], length, map, option_to_list, slice_index, true};
 ghost use Rattle.fx_chain.specs.Chain.{IsNewChain};
 ghost use Rattle.fx_flow.specs.Feed.{FlowFed};
-ghost use Rattle.fx_frame.specs.Row.{outputs_of};
-ghost use Rattle.fx_frame.specs.Ring.{pieces};
+ghost use Rattle.fx_step.specs.Row.{outputs_of};
+ghost use Rattle.fx_lists.specs.Lists.{pieces};
 ghost use Rattle.fx_flow.specs.Parts.{AllNew, any_spent, given_by, moves_of, taken_of};
 ghost use Rattle.fx_flow.specs.Composed.{due_of, enough_for};
 ghost use Rattle.fx_flow.specs.Sound.{most_frames};
 ghost use Rattle.fx_flow.specs.Steps.{IsDone, IsHungry, MovedOn, StateIs, Steps, rest_of, wholes_of};
-ghost use Rattle.fx_frame.specs.Frame.{Samples};
-ghost use Rattle.fx_frame.specs.Holds.{capacity_sum, held_sum, kinds, total};
+ghost use Rattle.fx_step.specs.Frame.{Samples};
+ghost use Rattle.fx_step.specs.Holds.{capacity_sum, held_sum, kinds, total};
 ghost use Rattle.fx_effects.specs.Bounds.{hold_all, work_of};
 ghost use Rattle.fx_effects.specs.Effects.{line_of};
 ghost use Rattle.fx_plan.specs.Planning.{planning};

@@ -6,11 +6,11 @@ ghost use Rattle.fx_run.specs.Run.{RanToFailure, WantsMore, sound_frames};
 ghost use Rattle.fx_chain.specs.Theorem.{Ran};
 ghost use Rattle.fx_flow.specs.Parts.{given_by, moves_of, taken_of};
 ghost use Rattle.fx_flow.specs.Steps.{IsDone, IsHungry};
-ghost use Rattle.fx_frame.specs.Holds.{kinds};
+ghost use Rattle.fx_step.specs.Holds.{kinds};
 ghost use Rattle.fx_effects.specs.Bounds.{work_of};
 ghost use Rattle.fx_plan.specs.Planning.{planning};
-ghost use Rattle.fx_sound.specs.Known.{IfKnown};
-ghost use Rattle.fx_sound.specs.Source.{to_come};
+ghost use Rattle.fx_heads.specs.Known.{IfKnown};
+ghost use Rattle.fx_heads.specs.Source.{to_come};
 ghost use Rattle.fx_stages.specs.Stages.{effect_acts};
 
 use crate::chain::Chain;

@@ -3,7 +3,7 @@ ghost use Rattle.std.specs.Prelude.{◌≡◌, ◌≤◌, ◌+◌, ◌*◌, ◌�
 ghost use Rattle.std.specs.List.{All};
 ghost use Rattle.fx_chain.specs.Chain.{ChainParts};
 ghost use Rattle.fx_chain.specs.Snapshot.{IsSnapshotOf, IsSoundChain};
-ghost use Rattle.fx_frame.specs.Holds.{held_sum};
+ghost use Rattle.fx_step.specs.Holds.{held_sum};
 ghost use Rattle.fx_effects.specs.Bounds.{hold_all};
 ghost use Rattle.fx_plan.specs.Planning.{planning};
 ghost use Rattle.fx_stages.specs.Stages.{effect_acts};
@@ -12,9 +12,9 @@ ghost use Rattle.fx_stages.specs.Narrow.{AreNarrow, IsNarrow};
 use crate::chain::Chain;
 use fx_flow::flow::Flow;
 use fx_frame::WideFrame;
-use fx_frame::stage::ThawFault;
 use fx_plan::Plan;
 use fx_stages::arguments_of;
+use fx_step::stage::ThawFault;
 use std::alloc::{AllocError, Global};
 
 /// All that decides what a chain still gives: its plan, the frames that it holds, and what it counted.

@@ -3,16 +3,17 @@ use Rattle.std.proofs.Common.{ℕ, suc, ◌+◌, ◌-◌, ◌*◌, ◌<◌, ◌�
 use Rattle.std.specs.Int.{div_ceil}
 use Rattle.std.specs.Prelude.{slice_index_or, is_none}
 use Rattle.std.proofs.lemmas.Grind.{div_ceil_times}
-use Rattle.fx_frame.specs.Frame.{Samples}
-use Rattle.fx_frame.specs.Stage.{Given, Took}
+use Rattle.fx_step.specs.Frame.{Samples}
+use Rattle.fx_step.specs.Stage.{Given, Took}
 use Rattle.std.proofs.lemmas.Bool.{cases_lt}
 use Rattle.std.proofs.lemmas.List.{get_or-drop}
-use Rattle.fx_frame.specs.Frozen.{IsHand}
+use Rattle.fx_step.specs.Hand.{IsHand}
 use Rattle.fx_cut.specs.Ceil.{by_products}
-use Rattle.fx_frame.specs.Lists.{tabulate, plain}
+use Rattle.fx_lists.specs.Lists.{tabulate}
+use Rattle.fx_step.specs.Given.{plain}
 use Rattle.fx_cut.specs.Downsample.{downsampled}
 use Rattle.fx_cut.specs.DownsampleState.{DownsampleState, IsDownsample, downsample_acts}
-use Rattle.fx_frame.proofs.Tabulate.{tabulate-same}
+use Rattle.fx_lists.proofs.Tabulate.{tabulate-same}
 
 -- the quotient, by its product
 pub ceil_is : (s k q f : ℕ) → 0 < f → s + k ≡ q * f → k < f → div_ceil s f ≡ q

@@ -4,12 +4,12 @@ use Rattle.std.specs.Prelude.{None, option_to_list, is_none}
 use Rattle.std.specs.Int.{div_ceil}
 use Rattle.std.proofs.lemmas.List.{drop-drop, length-take-le}
 use Rattle.std.proofs.Math.Nat.{add-mul, mul_assoc, mul-le-mul_right, suc-mul}
-use Rattle.fx_frame.specs.Feed.{Fed, GaveNext, TookNext, nothing, taken, given}
-use Rattle.fx_frame.specs.Frame.{Samples}
-use Rattle.fx_frame.specs.Ring.{pieces}
-use Rattle.fx_frame.proofs.FedLaws.{Fed-then}
-use Rattle.fx_frame.proofs.FeedParts.{pieces-split}
-use Rattle.fx_frame.proofs.Pieces.{length-pieces}
+use Rattle.fx_step.specs.Feed.{Fed, GaveNext, TookNext, nothing, taken, given}
+use Rattle.fx_step.specs.Frame.{Samples}
+use Rattle.fx_lists.specs.Lists.{pieces}
+use Rattle.fx_step.proofs.FedLaws.{Fed-then}
+use Rattle.fx_lists.proofs.Puts.{pieces-split}
+use Rattle.fx_lists.proofs.Pieces.{length-pieces}
 use Rattle.fx_cut.specs.Downsample.{downsampled}
 use Rattle.fx_cut.specs.DownsampleState.{DownsampleState, IsDownsample, downsample_acts}
 use Rattle.fx_cut.specs.Strides.{firsts}

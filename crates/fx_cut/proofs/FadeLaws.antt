@@ -9,8 +9,8 @@ use mathlib.Core.Path.{ap₂}
 use Rattle.fx_fixed.specs.Extents.{stop_line}
 use Rattle.fx_fixed.specs.declared.positions.At.{At}
 use Rattle.fx_fixed.specs.declared.positions.At.TheVariants.{Start, End}
-use Rattle.fx_frame.specs.Frame.{Samples}
-use Rattle.fx_frame.specs.Stage.{Given}
+use Rattle.fx_step.specs.Frame.{Samples}
+use Rattle.fx_step.specs.Stage.{Given}
 use Rattle.fx_cut.specs.declared.fade.Shape.{Shape}
 use Rattle.fx_cut.specs.Fade.{weight, faded_frame, faded, stop_in, until, due_by, fade_line}
 use Rattle.fx_cut.specs.FadeState.{before_stop, faded_from, fade_rest, fade_after, is_before, faded_here, ahead_by, stop_ahead}
@@ -128,7 +128,7 @@ fade_drained f frames items items' o e e' h =
 
 -- ---- how many are due
 
-here-count : (f : Shape) (stop : Option ℕ) (n : ℕ) (o : Samples) → length (faded_here f stop n o) ≡ cond (is_before stop n) 1 0
+pub here-count : (f : Shape) (stop : Option ℕ) (n : ℕ) (o : Samples) → length (faded_here f stop n o) ≡ cond (is_before stop n) 1 0
 here-count f stop n o = go (is_before stop n)
   where
     go : (b : Bool) → length (cond b (faded_frame f stop n o ∷ []) []) ≡ cond b 1 0

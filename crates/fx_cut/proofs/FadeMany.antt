@@ -8,19 +8,19 @@ use Rattle.std.proofs.lemmas.List.Elements.{All-cons, All-head, All-nil, All-tai
 use Rattle.fx_fixed.specs.Extents.{stop_line}
 use Rattle.fx_fixed.specs.declared.positions.At.{At}
 use Rattle.fx_fixed.specs.declared.positions.At.TheVariants.{Start, End}
-use Rattle.fx_frame.specs.Feed.{Fed, GaveNext, TookNext, nothing, taken, given}
-use Rattle.fx_frame.specs.Frame.{IsFrame, Samples}
-use Rattle.fx_frame.specs.Line.{Frames, IsLine, IsSamples, pushed_all}
-use Rattle.fx_frame.specs.Ring.{pieces}
-use Rattle.fx_frame.specs.Stage.{Given, is_enough}
-use Rattle.fx_frame.proofs.FedLaws.{Fed-then}
-use Rattle.fx_frame.proofs.Feeding.{pieces-take}
-use Rattle.fx_frame.proofs.ManyFrames.{frames-samples}
-use Rattle.fx_frame.proofs.Pieces.{length-pieces}
+use Rattle.fx_step.specs.Feed.{Fed, GaveNext, TookNext, nothing, taken, given}
+use Rattle.fx_step.specs.Frame.{IsFrame, Samples}
+use Rattle.fx_ring.specs.Line.{Frames, IsLine, IsSamples, pushed_all}
+use Rattle.fx_lists.specs.Lists.{pieces}
+use Rattle.fx_step.specs.Stage.{Given, is_enough}
+use Rattle.fx_step.proofs.FedLaws.{Fed-then}
+use Rattle.fx_lists.proofs.Puts.{pieces-take}
+use Rattle.fx_ring.proofs.ManyFrames.{frames-samples}
+use Rattle.fx_lists.proofs.Pieces.{length-pieces}
 use Rattle.fx_cut.specs.declared.fade.Shape.{Shape}
 use Rattle.fx_cut.specs.Fade.{fade_enough, faded_frame, weighted, weights}
 use Rattle.fx_cut.specs.FadeState.{FadeState, IsFade, ahead_by, fade_acts, faded_along, faded_here, is_before, stop_ahead}
-use Rattle.fx_frame.specs.Lists.{plain}
+use Rattle.fx_step.specs.Given.{plain}
 use Rattle.fx_cut.proofs.Fallen.{fallen, stays, oldest-first}
 use Rattle.fx_cut.proofs.FadeSteps.{IsFade-inside, IsFade-fallen, Took-inside, Took-fallen, came, due-fade}
 use Rattle.fx_cut.proofs.FadeLaws.{product-most, weight-most}

@@ -2,16 +2,16 @@
 use Rattle.std.proofs.Common.{◌≡◌, ◌+◌, ◌-◌, ◌<◌, ◌≤◌, ◌^◌, true, false, [], ◌∷◌, length, map, refl, subst, sym, ap, arith, length-append, ℕ, ℤ}
 use Rattle.std.specs.Prelude.{Some, None, option_to_list, is_none}
 use Rattle.std.specs.Int.{w32}
-use Rattle.fx_frame.specs.declared.feed.Passing.TheVariants.{Kept, Through}
-use Rattle.fx_frame.specs.Feed.{GaveNext, IsHeld, PassedOn, TookNext}
-use Rattle.fx_frame.specs.Frame.{IsFrame, Samples}
-use Rattle.fx_frame.specs.Frozen.{IsHand}
-use Rattle.fx_frame.specs.Line.{Frames, IsLine}
-use Rattle.fx_frame.specs.Stage.{Gave, IsDry, spent}
+use Rattle.fx_step.specs.declared.feed.Passing.TheVariants.{Kept, Through}
+use Rattle.fx_step.specs.Feed.{GaveNext, IsHeld, PassedOn, TookNext}
+use Rattle.fx_step.specs.Frame.{IsFrame, Samples}
+use Rattle.fx_step.specs.Hand.{IsHand}
+use Rattle.fx_ring.specs.Line.{Frames, IsLine}
+use Rattle.fx_step.specs.Stage.{Gave, IsDry, spent}
 use Rattle.fx_cut.specs.Fade.{weighted, weights}
 use Rattle.fx_cut.specs.FadeState.{FadeState, IsFade, fade_acts, faded_here, is_before, stop_ahead}
-use Rattle.fx_frame.specs.Lists.{plain}
-use Rattle.fx_frame.specs.Rounded.{unclipped}
+use Rattle.fx_step.specs.Given.{plain}
+use Rattle.fx_lists.specs.Rounded.{unclipped}
 use Rattle.fx_cut.proofs.FadeMany.{given-next}
 use Rattle.fx_cut.proofs.FadeSteps.{IsFade-fallen, IsFade-inside, Took-fallen, Took-inside, came, due-fade}
 use Rattle.fx_cut.proofs.Fallen.{fallen, stays}

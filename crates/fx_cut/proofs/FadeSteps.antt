@@ -6,16 +6,16 @@ use Rattle.std.proofs.lemmas.Bool.{cases_lt, false≢true, le-ltb, lt-ltb}
 use Rattle.std.proofs.lemmas.List.{length-map}
 use Rattle.fx_fixed.specs.Extents.{stop_line}
 use Rattle.fx_fixed.specs.declared.positions.At.{At}
-use Rattle.fx_frame.specs.Frame.{Samples}
-use Rattle.fx_frame.specs.Frozen.{IsHand}
-use Rattle.fx_frame.specs.Line.{Frames, IsLine}
-use Rattle.fx_frame.specs.Stage.{Gave, Took, coming}
+use Rattle.fx_step.specs.Frame.{Samples}
+use Rattle.fx_step.specs.Hand.{IsHand}
+use Rattle.fx_ring.specs.Line.{Frames, IsLine}
+use Rattle.fx_step.specs.Stage.{Gave, Took, coming}
 use Rattle.fx_cut.specs.declared.fade.Shape.{Shape}
-use Rattle.fx_frame.specs.Lists.{plain}
-use Rattle.fx_cut.specs.Fade.{due_by, faded_frame, fade_due, fade_line, stop_in, until}
+use Rattle.fx_step.specs.Given.{plain}
+use Rattle.fx_cut.specs.Fade.{due_by, fade_due, fade_line, stop_in, until}
 use Rattle.fx_cut.specs.FadeState.{FadeState, IsFade, faded_here, fade_acts, fade_after, fade_rest, is_before, stop_ahead}
 use Rattle.fx_cut.proofs.Fallen.{fallen, stays, no_fall, stays-room, is_full, oldest-first, oldest-channels, first-popped}
-use Rattle.fx_cut.proofs.FadeLaws.{fade_taken, fade_let_go, due-next, due-early}
+use Rattle.fx_cut.proofs.FadeLaws.{fade_taken, fade_let_go, due-next, due-early, here-count}
 use Rattle.fx_cut.proofs.Hands.{empty-hand, at_most_one}
 
 -- before the end, where it has no frame to give it has given what is due
@@ -142,13 +142,6 @@ until-next (Some s) n = go (cases_lt n s)
     go (inl l) = let e : nat_lt n s ≡ true = lt-ltb n s l in rw e (omega arith)
     go (inr g) = let e : nat_lt n s ≡ false = le-ltb n s g in rw e (omega arith)
 
-length-here : (f : Shape) (stop : Option ℕ) (n : ℕ) (o : Samples) → length (faded_here f stop n o) ≡ cond (is_before stop n) 1 0
-length-here f stop n o = go (is_before stop n)
-  where
-    go : (b : Bool) → length (cond b (faded_frame f stop n o ∷ []) []) ≡ cond b 1 0
-    go true = refl
-    go false = refl
-
 -- the oldest frame of the line goes, and is given up to the stop
 pub until-popped : (f : Shape) (frames : ℕ) (items items' : List Samples) (o : Samples) (hand : Option Samples) → Some o ≡ slice_get items 0 → items' ≡ drop 1 items → length items ≤ frames
     → map plain (option_to_list hand) ≡ faded_here f (stop_in frames f.stop) (frames - length items) o
@@ -158,7 +151,7 @@ until-popped f frames items items' o hand e e' h kept =
     let long : length items ≡ length (o ∷ items') = ap length (first-popped items items' o e e') in
     let next : frames - length items' ≡ frames - length items + 1 = omega arith in
     let one : length (option_to_list hand) ≡ cond (is_before stop (frames - length items)) 1 0 =
-    sym (length-map (option_to_list hand) plain) ∙ ap length kept ∙ length-here f stop (frames - length items) o in
+    sym (length-map (option_to_list hand) plain) ∙ ap length kept ∙ here-count f stop (frames - length items) o in
     ap (λ k. until stop (frames - length items) + k) one ∙ until-next stop (frames - length items) ∙ ap (until stop) (sym next)
 
 due-until : (stop : Option At) (out s : ℕ) → due_by stop out s ≡ until (stop_in s stop) (s - stop_line stop out)

@@ -3,10 +3,10 @@ use Rattle.std.proofs.Common.{◌≡◌, ℕ, ℤ, zero, suc, ◌+◌, ◌-◌, 
 use Rattle.std.specs.Prelude.{Option, Some, None, option_to_list, nat_eq, slice_index_or}
 use Rattle.std.specs.List.{enumerate_from}
 use Rattle.std.proofs.lemmas.Bool.{lt-ltb, cases_lt, true≢false}
-use Rattle.fx_frame.specs.Frame.{Samples}
+use Rattle.fx_step.specs.Frame.{Samples}
 use Rattle.fx_frame.specs.Frozen.{IsStored}
-use Rattle.fx_frame.specs.Line.{Frames}
-use Rattle.fx_frame.specs.Stage.{Given, numbers_of}
+use Rattle.fx_ring.specs.Line.{Frames}
+use Rattle.fx_step.specs.Stage.{Given, numbers_of}
 use Rattle.fx_cut.specs.declared.fade.Shape.{Shape}
 use Rattle.fx_cut.specs.Fade.{IsShape, fade_line, faded_frame, stop_in}
 use Rattle.fx_cut.specs.FadeState.{FadeState, IsFade, IsFadeCount, fade_acts, fade_after, faded_from, faded_here, is_before}

@@ -4,8 +4,8 @@ use Rattle.std.specs.Prelude.{Option, Some, None, slice_get, nat_lt}
 use Rattle.std.specs.Int.{w32}
 use Rattle.std.specs.List.{All}
 use Rattle.std.proofs.lemmas.Bool.{lt-ltb, le-ltb, cases_lt}
-use Rattle.fx_frame.specs.Frame.{Samples}
-use Rattle.fx_frame.specs.Line.{IsSamples}
+use Rattle.fx_step.specs.Frame.{Samples}
+use Rattle.fx_ring.specs.Line.{IsSamples}
 
 -- the frame that falls out, where there is one
 abbrev pub fallen : ℕ → List Samples → Samples → Option Samples

@@ -1,7 +1,7 @@
 -- A frame in hand, or none; a line without frames.
 use Rattle.std.proofs.Common.{◌≡◌, ◌≤◌, true, false, List, [], ◌∷◌, length, refl, arith}
 use Rattle.std.specs.Prelude.{Option, Some, None, option_to_list, is_none, is_some}
-use Rattle.fx_frame.specs.Frame.{Samples}
+use Rattle.fx_step.specs.Frame.{Samples}
 
 pub none_of : (hand : Option Samples) → is_none hand ≡ true → hand ≡ None
 none_of None h = refl

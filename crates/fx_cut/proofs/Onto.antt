@@ -6,9 +6,9 @@ use Rattle.std.specs.List.{All}
 use Rattle.std.proofs.lemmas.List.{drop-append-le, take-append-le}
 use Rattle.std.proofs.lemmas.List.Elements.{All-append, All-cons, All-drop, All-head, All-nil}
 use Rattle.std.proofs.Math.Nat.{add-mul, div-mul-le_self, mul-le-mul_right}
-use Rattle.fx_frame.specs.Frame.{Samples}
-use Rattle.fx_frame.specs.Line.{Frames, IsLine, IsSamples, pushed_all}
-use Rattle.fx_frame.proofs.Pieces.{keep-twice}
+use Rattle.fx_step.specs.Frame.{Samples}
+use Rattle.fx_ring.specs.Line.{Frames, IsLine, IsSamples, pushed_all}
+use Rattle.fx_ring.proofs.RingLaws.{keep-twice}
 use Rattle.fx_cut.proofs.Fallen.{fallen, full_out, oldest-first, room_out, stays}
 use Rattle.fx_cut.proofs.Pieces.{frames-room}
 

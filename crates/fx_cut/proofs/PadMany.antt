@@ -5,20 +5,20 @@ use Rattle.std.specs.List.{All}
 use Rattle.std.proofs.lemmas.List.Elements.{All-head, All-tail}
 use Rattle.fx_fixed.specs.Extents.{greatest, pad_distance}
 use Rattle.fx_fixed.specs.declared.positions.At.{At}
-use Rattle.fx_frame.specs.declared.feed.Passing.TheVariants.{Through}
-use Rattle.fx_frame.specs.Feed.{Fed, GaveNext, PassedOn, TookNext, nothing, taken, given}
-use Rattle.fx_frame.specs.Frame.{Samples}
-use Rattle.fx_frame.specs.Ring.{pieces}
-use Rattle.fx_frame.specs.Stage.{IsDry}
-use Rattle.fx_frame.proofs.FedLaws.{Fed-then}
-use Rattle.fx_frame.proofs.Pieces.{length-pieces}
+use Rattle.fx_step.specs.declared.feed.Passing.TheVariants.{Through}
+use Rattle.fx_step.specs.Feed.{Fed, GaveNext, PassedOn, TookNext, nothing, taken, given}
+use Rattle.fx_step.specs.Frame.{Samples}
+use Rattle.fx_lists.specs.Lists.{pieces}
+use Rattle.fx_step.specs.Stage.{IsDry}
+use Rattle.fx_step.proofs.FedLaws.{Fed-then}
+use Rattle.fx_lists.proofs.Pieces.{length-pieces}
 use Rattle.fx_cut.specs.Pad.{pad_due, pads_from_start, silent_at}
 use Rattle.fx_cut.specs.PadState.{PadState, IsPad, pad_acts, pad_left}
 use Rattle.fx_cut.proofs.Fallen.{fallen, stays}
 use Rattle.fx_cut.proofs.Hands.{empty_of}
 use Rattle.fx_cut.proofs.PadLaws.{upto_more}
 use Rattle.fx_cut.proofs.PadSteps.{Took-fallen, due-pad, left-fallen, reached}
-use Rattle.fx_cut.proofs.Pieces.{pieces-sides}
+use Rattle.fx_frame.proofs.SamplePieces.{pieces-sides}
 
 -- where no silence stands before the next frames, one more is due for each
 pub due-quiet : (pads : List (ℕ × At)) (s n : ℕ) → greatest (map pad_distance pads) ≡ 0 → ((i : ℕ) → i < n → silent_at (pads_from_start pads) (s + i) ≡ 0) → pad_due pads (s + n) ≡ pad_due pads s + n

@@ -6,18 +6,18 @@ use Rattle.std.proofs.lemmas.Bool.{false≢true, and_parts, eqb-true}
 use Rattle.std.proofs.lemmas.List.{length-replicate}
 use mathlib.Core.Path.{ap₂}
 use Rattle.fx_fixed.specs.Extents.{greatest, pad_distance}
-use Rattle.fx_frame.specs.Frame.{Samples, silence, IsFrame}
-use Rattle.fx_frame.specs.Frozen.{IsHand}
-use Rattle.fx_frame.specs.Line.{Frames, IsLine}
-use Rattle.fx_frame.specs.Stage.{Gave, Took, Ended, coming}
-use Rattle.fx_frame.specs.Lists.{plain}
+use Rattle.fx_step.specs.Frame.{Samples, silence, IsFrame}
+use Rattle.fx_step.specs.Hand.{IsHand}
+use Rattle.fx_ring.specs.Line.{Frames, IsLine}
+use Rattle.fx_step.specs.Stage.{Gave, Took, Ended, coming}
+use Rattle.fx_step.specs.Given.{plain}
 use Rattle.fx_cut.specs.Pad.{PadArguments, IsPads, lengths, pad_due, padded, pads_from_start, placed, silent_at}
 use Rattle.fx_cut.specs.PadState.{PadState, IsPad, pad_acts, pad_after, pad_left, pad_rest, unless_last}
 use Rattle.fx_cut.proofs.Fallen.{fallen, stays, no_fall, stays-room, is_full, oldest-first, oldest-channels}
 use Rattle.fx_cut.proofs.Hands.{none_of}
-use Rattle.fx_cut.proofs.UpsampleLaws.{not_dry}
 use Rattle.fx_cut.proofs.PadLaws.{upto_more, length_padded, none-due}
 use Rattle.fx_cut.proofs.PadRest.{pad_new, pad_taken, pad_let_go, pad_drained}
+use Rattle.fx_frame.proofs.DryLaws.{dry-tail}
 
 -- where it is dry nothing is in hand, and no silence is to be given
 pub dry-hand : (hand : Option Samples) (silent : ℕ) → (is_none hand && nat_eq silent 0) ≡ true → (hand ≡ None) × (silent ≡ 0)
@@ -257,7 +257,7 @@ Gave-silence s is some =
     let long : length (pad_left s []) ≡ suc (length (pad_left (record s { silent = s.silent - 1; given = s.given + 1 }) [])) = ap length (first []) in
     let within : s.given + length (pad_left s []) ≤ s.taken + 0 + lengths s.recipe.pads = is.within [] in
     record {
-      was_wet = not_dry s.hand s.silent some;
+      was_wet = dry-tail s.hand s.silent some;
       gives = record { clips = 0; first = λ z. ap (map plain) (first z); counted = refl };
       channels = length-replicate _ _;
       due = λ running. let k = is.counted running in omega arith;

@@ -6,10 +6,10 @@ use mathlib.Core.Path.{ap₂}
 use Rattle.std.proofs.lemmas.List.{length-replicate}
 use Rattle.fx_fixed.specs.Extents.{greatest, pad_distance}
 use Rattle.fx_fixed.specs.declared.positions.At.{At}
-use Rattle.fx_frame.specs.Frame.{Samples, silence}
+use Rattle.fx_step.specs.Frame.{Samples, silence}
 use Rattle.fx_frame.specs.Frozen.{IsStored}
-use Rattle.fx_frame.specs.Line.{Frames}
-use Rattle.fx_frame.specs.Stage.{Freezes, coming, numbers_of}
+use Rattle.fx_ring.specs.Line.{Frames}
+use Rattle.fx_step.specs.Stage.{Freezes, coming, numbers_of}
 use Rattle.fx_cut.specs.Pad.{PadArguments, IsPads, ats, lengths, pad_due, pads_from_start, placed, silent_at, RisesFrom}
 use Rattle.fx_cut.specs.PadState.{PadState, IsPad, IsPadCount, later_count, pad_acts, pad_after, pad_left, padded_from, unless_last}
 use Rattle.fx_cut.proofs.Hands.{no-hand, empty_of}

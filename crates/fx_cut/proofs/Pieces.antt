@@ -2,16 +2,16 @@
 use Rattle.std.proofs.Common.{◌≡◌, ◌≢◌, ◌<◌, ◌+◌, ◌-◌, ◌*◌, ◌/◌, ◌≤◌, ℕ, zero, suc, true, false, List, [], ◌∷◌, ◌++◌, length, take, drop, refl, sym, ap, ◌∙◌, arith, append-nil, append_assoc, length-append, length-drop, subst}
 use Rattle.std.specs.Prelude.{ℤ}
 use Rattle.std.specs.List.{All}
-use Rattle.std.proofs.lemmas.List.Elements.{All-append, All-cons, All-head, All-nil, All-tail}
+use Rattle.std.proofs.lemmas.List.Elements.{All-append, All-head, All-nil, All-tail}
 use Rattle.std.proofs.lemmas.List.{drop-drop, drop_all, drop_at, length-take, length-take-le, nil_from_length, take-take, take_all}
 use Rattle.std.proofs.Math.Nat.{add-mul, div-mul-le_self, mul-le-mul_right, suc-mul, mul-le-mul_left, le_of_mul-le-mul_right}
-use Rattle.fx_frame.specs.Feed.{Fed}
-use Rattle.fx_frame.specs.Ring.{pieces}
-use Rattle.fx_frame.specs.Stage.{Acts, kind, spent}
-use Rattle.fx_frame.proofs.FedLaws.{Fed-gives}
-use Rattle.fx_frame.proofs.FeedParts.{Fed-behind}
-use Rattle.fx_frame.proofs.Feeding.{pieces-same}
-use Rattle.fx_frame.proofs.Pieces.{length-pieces}
+use Rattle.fx_step.specs.Feed.{Fed}
+use Rattle.fx_lists.specs.Lists.{pieces}
+use Rattle.fx_step.specs.Stage.{Acts, kind, spent}
+use Rattle.fx_step.proofs.FedLaws.{Fed-gives}
+use Rattle.fx_step.proofs.FeedParts.{Fed-behind}
+use Rattle.fx_lists.proofs.Puts.{pieces-same}
+use Rattle.fx_lists.proofs.Pieces.{length-pieces}
 use borrow.Rule.Slice.PartMut.{put_mid}
 
 module _ {X : Type 0} where
@@ -38,13 +38,6 @@ pub put-piece : {X : Type 0} (at size : ℕ) (out f : List X) → length f ≡ s
 put-piece at size out f long =
     let many : at + size - at ≡ length f = omega (arith, long) in
     ap (λ n. take at out ++ (f ++ drop n (drop at out))) many ∙ ap (λ l. take at out ++ (f ++ l)) (drop-drop (length f) at out) ∙ sym (append_assoc (take at out) f (drop (at + length f) out))
-
--- the frames of a list that is long enough have their channels
-pub pieces-sides : {X : Type 0} (size n : ℕ) (xs : List X) → n * size ≤ length xs → All (λ (f : List X). length f ≡ size) (pieces size n xs)
-pieces-sides {X} size zero xs h = All-nil (λ (f : List X). length f ≡ size)
-pieces-sides {X} size (suc n) xs h =
-    let more : suc n * size ≡ size + n * size = omega (arith, suc-mul n size) in
-    All-cons (λ (f : List X). length f ≡ size) (take size xs) (pieces size n (drop size xs)) (length-take-le size xs (omega arith)) (pieces-sides size n (drop size xs) (omega (arith, length-drop size xs)))
 
 joined : {X : Type 0} (n : ℕ) (xs : List X) → take n xs ++ drop n xs ≡ xs
 joined zero xs = refl

@@ -1,7 +1,7 @@
 -- What the numbers of a stage tell again.
 use Rattle.std.proofs.Common.{◌≡◌, ◌-◌, Bool, true, false, cond, List, ◌++◌, length, refl, arith, length-append}
 use Rattle.std.specs.Prelude.{nat_eq}
-use Rattle.fx_frame.specs.Frame.{Samples}
+use Rattle.fx_step.specs.Frame.{Samples}
 
 -- the third number
 pub flag : (ended : Bool) → nat_eq (cond ended 1 0) 1 ≡ ended

@@ -9,14 +9,14 @@ use Rattle.std.proofs.lemmas.List.Elements.{All-cons, All-head, All-nil, All-tai
 use Rattle.fx_fixed.specs.Positions.{places_after, places_of}
 use Rattle.fx_fixed.specs.declared.positions.At.{At}
 use Rattle.fx_fixed.specs.declared.positions.At.TheVariants.{Start, End}
-use Rattle.fx_frame.specs.Feed.{Fed, GaveNext, TookNext, nothing, taken, given}
-use Rattle.fx_frame.specs.Frame.{IsFrame, Samples}
-use Rattle.fx_frame.specs.Line.{Frames, IsLine, IsSamples, pushed_all}
-use Rattle.fx_frame.specs.Ring.{pieces}
-use Rattle.fx_frame.specs.Stage.{is_enough}
-use Rattle.fx_frame.proofs.FedLaws.{Fed-then}
-use Rattle.fx_frame.proofs.Feeding.{pieces-take}
-use Rattle.fx_frame.proofs.Pieces.{length-pieces}
+use Rattle.fx_step.specs.Feed.{Fed, GaveNext, TookNext, nothing, taken, given}
+use Rattle.fx_step.specs.Frame.{IsFrame, Samples}
+use Rattle.fx_ring.specs.Line.{Frames, IsLine, IsSamples, pushed_all}
+use Rattle.fx_lists.specs.Lists.{pieces}
+use Rattle.fx_step.specs.Stage.{is_enough}
+use Rattle.fx_step.proofs.FedLaws.{Fed-then}
+use Rattle.fx_lists.proofs.Puts.{pieces-take}
+use Rattle.fx_lists.proofs.Pieces.{length-pieces}
 use Rattle.fx_cut.specs.Trim.{keeps, starts, trim_enough}
 use Rattle.fx_cut.specs.TrimState.{TrimState, IsTrim, trim_acts}
 use Rattle.fx_cut.proofs.Fallen.{fallen, stays, oldest-first}
@@ -24,6 +24,7 @@ use Rattle.fx_cut.proofs.Hands.{at_most_one}
 use Rattle.fx_cut.proofs.Onto.{gone, onto, onto-line, onto-long, onto-more, onto-none, out-full, out-more, out-room, out-samples, out_of, same-line}
 use Rattle.fx_cut.proofs.TrimLaws.{count_by-cons, none_before}
 use Rattle.fx_cut.proofs.TrimSteps.{IsTrim-inside, IsTrim-fallen, Took-inside, Took-fallen, due-trim, took}
+use Rattle.fx_cut.proofs.TrimPassing.{IsTrim-before}
 
 -- ---- how far frames are alike
 
@@ -72,26 +73,6 @@ pub record Alike (b : Bool) (s : TrimState) (n : ℕ) : Type 0 where
   pub kept : (i : ℕ) → i < gone s.line n → keeps (places_of 0 (starts s.recipe.positions)) (s.taken - length s.line.items + i) ≡ b
   pub wanted : (i : ℕ) → i < n → is_enough s.enough (s.taken + i) ≡ false
   pub few : s.taken + n ≤ 2 ^ 56
-
--- the frame in hand was given
-given-next : (s : TrimState) (o : Samples) → IsTrim s → s.hand ≡ Some o → s.ended ≡ false → IsTrim (record s { hand = None; given = s.given + 1 })
-given-next s o is has running =
-    let one : length (option_to_list s.hand) ≡ 1 = ap (λ h. length (option_to_list h)) has in
-    let w = is.within in
-    let counted = is.counted running in
-    record {
-      line = is.line;
-      channels = is.channels;
-      capacity = is.capacity;
-      enough = is.enough;
-      few = is.few;
-      within = omega arith;
-      full = is.full;
-      counted = λ r. omega arith;
-      over = λ r. absurd (cc (r, running));
-      gone = λ r. absurd (cc (r, running));
-      fits = λ x e. absurd (cc);
-    }
 
 -- what one frame leads to
 abbrev Next : Bool → TrimState → Samples → Type 0
@@ -198,7 +179,7 @@ module _ (b : Bool) (s : TrimState) (n : ℕ) (x : Samples) (a : Alike b s (suc 
           let same : ◌≡◌ {A = TrimState} (later true s (x ∷ [])) last = rw one refl in
           let is-mid : IsTrim mid =
           IsTrim-fallen s x a.is dry a.running (onto s.line (x ∷ [])) out.0 true (Some out.0) out.1 refl lined refl refl below keep' refl (λ y q. let w : out.0 ≡ y = cc in (rw (← w) framed, rw (← w) whole)) in
-          let is-last = given-next mid out.0 is-mid refl a.running in
+          let is-last = IsTrim-before mid out.0 is-mid refl a.running in
           let counted = is-last.counted a.running in
           let low = is-last.within in
           let step : TookNext trim_acts s mid x = record {

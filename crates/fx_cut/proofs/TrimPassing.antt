@@ -3,11 +3,11 @@ use Rattle.std.proofs.Common.{◌≡◌, ◌+◌, ◌-◌, ◌<◌, ◌≤◌, �
 use Rattle.std.specs.Prelude.{Some, None, option_to_list, is_none}
 use Rattle.std.specs.Int.{w32}
 use Rattle.fx_fixed.specs.Positions.{places_of}
-use Rattle.fx_frame.specs.declared.feed.Passing.TheVariants.{Kept, Through}
-use Rattle.fx_frame.specs.Feed.{GaveNext, IsHeld, PassedOn, TookNext}
-use Rattle.fx_frame.specs.Frame.{IsFrame, Samples}
-use Rattle.fx_frame.specs.Line.{Frames, IsLine}
-use Rattle.fx_frame.specs.Stage.{Gave, IsDry, spent}
+use Rattle.fx_step.specs.declared.feed.Passing.TheVariants.{Kept, Through}
+use Rattle.fx_step.specs.Feed.{GaveNext, IsHeld, PassedOn, TookNext}
+use Rattle.fx_step.specs.Frame.{IsFrame, Samples}
+use Rattle.fx_ring.specs.Line.{Frames, IsLine}
+use Rattle.fx_step.specs.Stage.{Gave, IsDry, spent}
 use Rattle.fx_cut.specs.Trim.{keeps, starts}
 use Rattle.fx_cut.specs.TrimState.{IsTrim, TrimState, trim_acts}
 use Rattle.fx_cut.proofs.Fallen.{fallen, stays}
@@ -37,7 +37,7 @@ Gave-before s frame is e running =
     }
 
 -- the state after it
-IsTrim-before : (s : TrimState) (frame : Samples) → IsTrim s → s.hand ≡ Some frame → s.ended ≡ false → IsTrim (record s { hand = None; given = s.given + 1 })
+pub IsTrim-before : (s : TrimState) (frame : Samples) → IsTrim s → s.hand ≡ Some frame → s.ended ≡ false → IsTrim (record s { hand = None; given = s.given + 1 })
 IsTrim-before s frame is e running =
     let one : length (option_to_list s.hand) ≡ 1 = ap (λ h. length (option_to_list h)) e in
     let w = is.within in

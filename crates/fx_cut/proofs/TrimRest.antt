@@ -6,7 +6,7 @@ use mathlib.Core.Path.{ap₂}
 use Rattle.fx_fixed.specs.Extents.{end_distance, greatest}
 use Rattle.fx_fixed.specs.Positions.{places_of}
 use Rattle.fx_fixed.specs.declared.positions.At.{At}
-use Rattle.fx_frame.specs.Frame.{Samples}
+use Rattle.fx_step.specs.Frame.{Samples}
 use Rattle.fx_cut.specs.Trim.{keeps, trimmed, starts}
 use Rattle.fx_cut.specs.TrimState.{trimmed_from, trim_rest}
 use Rattle.fx_cut.proofs.TrimLaws.{kept-early}

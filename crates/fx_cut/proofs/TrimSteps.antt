@@ -8,11 +8,11 @@ use mathlib.Core.Path.{ap₂}
 use Rattle.fx_fixed.specs.Extents.{end_distance, greatest}
 use Rattle.fx_fixed.specs.Positions.{places_of}
 use Rattle.fx_fixed.specs.declared.positions.At.{At}
-use Rattle.fx_frame.specs.Frame.{Samples, IsFrame}
-use Rattle.fx_frame.specs.Frozen.{IsHand}
-use Rattle.fx_frame.specs.Line.{Frames, IsLine}
-use Rattle.fx_frame.specs.Stage.{Gave, Took, coming, is_enough}
-use Rattle.fx_frame.specs.Lists.{plain}
+use Rattle.fx_step.specs.Frame.{Samples, IsFrame}
+use Rattle.fx_step.specs.Hand.{IsHand}
+use Rattle.fx_ring.specs.Line.{Frames, IsLine}
+use Rattle.fx_step.specs.Stage.{Gave, Took, coming, is_enough}
+use Rattle.fx_step.specs.Given.{plain}
 use Rattle.fx_cut.specs.Trim.{keeps, starts, is_start, last_start, trim_due, trim_enough}
 use Rattle.fx_cut.specs.TrimState.{kept_count, trimmed_from, trim_rest, trim_after, TrimState, IsTrim, trim_acts}
 use Rattle.fx_cut.proofs.Fallen.{fallen, stays, no_fall, stays-room, is_full, oldest-first, oldest-channels, first-popped}

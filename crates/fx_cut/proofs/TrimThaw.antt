@@ -3,10 +3,10 @@ use Rattle.std.proofs.Common.{◌≡◌, ℕ, ℤ, ◌+◌, ◌-◌, ◌≤◌, 
 use Rattle.std.specs.Prelude.{Option, option_to_list, nat_eq, slice_index_or}
 use Rattle.fx_fixed.specs.Extents.{end_distance, greatest}
 use Rattle.fx_fixed.specs.declared.positions.At.{At}
-use Rattle.fx_frame.specs.Frame.{Samples}
+use Rattle.fx_step.specs.Frame.{Samples}
 use Rattle.fx_frame.specs.Frozen.{IsStored}
-use Rattle.fx_frame.specs.Line.{Frames}
-use Rattle.fx_frame.specs.Stage.{numbers_of}
+use Rattle.fx_ring.specs.Line.{Frames}
+use Rattle.fx_step.specs.Stage.{numbers_of}
 use Rattle.fx_cut.specs.Trim.{trim_enough}
 use Rattle.fx_cut.specs.TrimState.{TrimState, IsTrim, IsTrimCount, trim_acts}
 use Rattle.fx_cut.proofs.Hands.{no-hand, empty_of}

@@ -3,13 +3,15 @@ use Rattle.std.proofs.Common.{ℕ, zero, suc, ◌+◌, ◌-◌, ◌*◌, ◌<◌
 use Rattle.std.specs.Prelude.{is_none}
 use Rattle.std.proofs.Math.Nat.{mod-eq_of_lt, div-eq_of_lt, add-mod_left, add-div_left}
 use Rattle.std.proofs.lemmas.List.{length-replicate}
-use Rattle.fx_frame.specs.Stage.{Gave, Took, Given}
+use Rattle.fx_step.specs.Stage.{Gave, Took, Given}
 use Rattle.fx_cut.specs.UpsampleState.{UpsampleState, IsUpsample, upsample_acts}
 use Prim.Native.Nat.compare
-use Rattle.fx_frame.specs.Frame.{Samples, silence}
-use Rattle.fx_frame.specs.Lists.{tabulate, plain}
+use Rattle.fx_step.specs.Frame.{Samples, silence}
+use Rattle.fx_lists.specs.Lists.{tabulate}
+use Rattle.fx_step.specs.Given.{plain}
 use Rattle.fx_cut.specs.Upsample.{upsampled, upsampled_at}
-use Rattle.fx_frame.proofs.Tabulate.{tabulate-append, tabulate-same, tabulate-replicate}
+use Rattle.fx_lists.proofs.Tabulate.{tabulate-append, tabulate-same, tabulate-replicate}
+use Rattle.fx_frame.proofs.DryLaws.{dry-tail}
 
 module _ (channels factor : ℕ) (some : 0 < factor) (x : Samples) (z : List Samples) where
   at_first : upsampled_at channels factor (x ∷ z) 0 ≡ x
@@ -43,16 +45,10 @@ pub silent-first : (frame : Option Samples) (n : ℕ) (p : Given) (after : List 
 silent-first frame zero p after e h = absurd (omega arith)
 silent-first frame (suc n) p after e h = rw (e, sub-one) refl
 
--- what is not a frame in hand, and not no silence, is not dry
-pub not_dry : (frame : Option Samples) (n : ℕ) → 0 < n → (is_none frame && nat_eq n 0) ≡ false
-not_dry None zero h = absurd (omega arith)
-not_dry None (suc n) h = rw (compare.suc-zero) refl
-not_dry (Some x) n h = refl
-
 -- where it is dry nothing is in hand
 pub dry-rest : (frame : Option Samples) (n : ℕ) (p : Given) (after : List Given) → (is_none frame && nat_eq n 0) ≡ true → map plain (option_to_list frame) ++ (replicate n p ++ after) ≡ after
 dry-rest None zero p after h = refl
-dry-rest None (suc n) p after h = absurd (let k = not_dry None (suc n) (omega arith) in cc)
+dry-rest None (suc n) p after h = absurd (let k = dry-tail None (suc n) (omega arith) in cc)
 dry-rest (Some x) n p after h = absurd (cc)
 
 -- it takes a frame
@@ -68,7 +64,7 @@ Took-upsample s frame is dry running =
 pub Gave-silent : (s : UpsampleState) → IsUpsample s → s.hand ≡ None → 0 < s.silent → Gave upsample_acts s (record s { silent = s.silent - 1; given = s.given + 1 }) (silence s.recipe.channels)
 Gave-silent s is e some =
     record {
-      was_wet = not_dry s.hand s.silent some;
+      was_wet = dry-tail s.hand s.silent some;
       gives = record { clips = 0; first = λ z. silent-first _ _ _ _ e some; counted = refl };
       channels = length-replicate _ _;
       due = λ running. let k = is.counted in omega arith;

@@ -3,13 +3,12 @@ use Rattle.std.proofs.Common.{◌≡◌, ◌+◌, ◌-◌, ◌*◌, ◌/◌, ◌
 use Rattle.std.specs.Prelude.{Some, None, option_to_list, pos}
 use Rattle.std.proofs.lemmas.List.{drop-drop, drop-replicate, drop_at, length-take-le, take-replicate, take_at}
 use Rattle.std.proofs.Math.Nat.{suc-mul}
-use Rattle.fx_frame.specs.Feed.{Fed, GaveNext, TookNext, nothing, taken, given}
-use Rattle.fx_frame.specs.Frame.{Samples, silence}
-use Rattle.fx_frame.specs.Ring.{pieces}
-use Rattle.fx_frame.proofs.FedLaws.{Fed-then}
-use Rattle.fx_frame.proofs.FeedParts.{pieces-split}
-use Rattle.fx_frame.proofs.Feeding.{pieces-take}
-use Rattle.fx_frame.proofs.Pieces.{pieces-front}
+use Rattle.fx_step.specs.Feed.{Fed, GaveNext, TookNext, nothing, taken, given}
+use Rattle.fx_step.specs.Frame.{Samples, silence}
+use Rattle.fx_lists.specs.Lists.{pieces}
+use Rattle.fx_step.proofs.FedLaws.{Fed-then}
+use Rattle.fx_lists.proofs.Puts.{pieces-split, pieces-take}
+use Rattle.fx_lists.proofs.Pieces.{pieces-front}
 use Rattle.fx_cut.specs.Strides.{spread}
 use Rattle.fx_cut.specs.UpsampleState.{UpsampleState, IsUpsample, upsample_acts}
 use Rattle.fx_cut.proofs.Pieces.{first-piece}

@@ -12,8 +12,8 @@ use mathlib.Core.Path.{ap₂}
 use Rattle.fx_fixed.specs.Rounding.{nearest, nearest_natural, signed, clipping}
 use Rattle.fx_fixed.proofs.Shifting.{nearest_natural-cancel}
 use Rattle.fx_fixed.proofs.Signs.{nearest-neg}
-use Rattle.fx_frame.specs.Rounded.{given_of, unclipped}
-use Rattle.fx_frame.specs.Lists.{plain}
+use Rattle.fx_step.specs.Given.{given_of, plain}
+use Rattle.fx_lists.specs.Rounded.{unclipped}
 use Rattle.fx_cut.specs.Fade.{both, weighted}
 
 nearest-le : (n w d : ℕ) → 0 < d → w ≤ d → nearest_natural (n * w) d ≤ n

@@ -1,9 +1,10 @@
 -- The effect `downsample` (sox(1), EFFECTS, downsample): the first of every so many frames.
 use Rattle.std.specs.Prelude.{ℕ, ◌*◌, ◌^◌, None, List, [], length, slice_index_or}
 use Rattle.std.specs.Int.{div_ceil}
-use Rattle.fx_frame.specs.Frame.{Samples}
-use Rattle.fx_frame.specs.Stage.{Given, Kind}
-use Rattle.fx_frame.specs.Lists.{tabulate, plain}
+use Rattle.fx_step.specs.Frame.{Samples}
+use Rattle.fx_step.specs.Stage.{Given, Kind}
+use Rattle.fx_lists.specs.Lists.{tabulate}
+use Rattle.fx_step.specs.Given.{plain}
 use Rattle.fx_cut.specs.Factor.{FactorArguments}
 
 -- the frames whose numbers are multiples of the factor

@@ -1,10 +1,10 @@
 -- The stage of `downsample`: what it stores, what holds of that, and what it is still to give (this project's profile).
 use Rattle.std.specs.Prelude.{ℕ, ◌+◌, ◌*◌, ◌^◌, ◌<◌, ◌≤◌, ◌≡◌, Bool, true, Option, ◌++◌, drop, length, map, option_to_list, is_none}
 use Rattle.std.specs.Int.{div_ceil}
-use Rattle.fx_frame.specs.Frame.{Samples}
-use Rattle.fx_frame.specs.Stage.{Acts, coming}
-use Rattle.fx_frame.specs.Frozen.{IsHand}
-use Rattle.fx_frame.specs.Lists.{plain}
+use Rattle.fx_step.specs.Frame.{Samples}
+use Rattle.fx_step.specs.Stage.{Acts, coming}
+use Rattle.fx_step.specs.Hand.{IsHand}
+use Rattle.fx_step.specs.Given.{plain}
 use Rattle.fx_cut.specs.Factor.{FactorArguments, IsFactor}
 use Rattle.fx_cut.specs.Downsample.{downsampled, downsample_kind, downsample_meaning}
 

@@ -7,9 +7,9 @@ use Rattle.fx_fixed.specs.Positions.{place_of}
 use Rattle.fx_fixed.specs.Rounding.{rounding}
 use Rattle.fx_fixed.specs.declared.positions.At.{At}
 use Rattle.fx_fixed.specs.declared.positions.At.TheVariants.{Start, End}
-use Rattle.fx_frame.specs.Frame.{Samples}
-use Rattle.fx_frame.specs.Stage.{Given, Kind}
-use Rattle.fx_frame.specs.Rounded.{given_of}
+use Rattle.fx_step.specs.Frame.{Samples}
+use Rattle.fx_step.specs.Stage.{Given, Kind}
+use Rattle.fx_step.specs.Given.{given_of}
 use Rattle.fx_cut.specs.declared.fade.Shape.{Shape}
 
 -- n parts of a length, at most 1, as a numerator and a denominator; a fade of no length has the weight 1

@@ -4,11 +4,11 @@ use Rattle.std.specs.List.{enumerate_from}
 use Rattle.std.specs.Int.{w32}
 use Rattle.fx_fixed.specs.declared.positions.At.{At}
 use Rattle.fx_fixed.specs.declared.positions.At.TheVariants.{Start, End}
-use Rattle.fx_frame.specs.Frame.{Samples}
-use Rattle.fx_frame.specs.Line.{Frames, IsLine}
-use Rattle.fx_frame.specs.Frozen.{IsHand}
-use Rattle.fx_frame.specs.Stage.{Acts, Given, coming}
-use Rattle.fx_frame.specs.Lists.{plain}
+use Rattle.fx_step.specs.Frame.{Samples}
+use Rattle.fx_ring.specs.Line.{Frames, IsLine}
+use Rattle.fx_step.specs.Hand.{IsHand}
+use Rattle.fx_step.specs.Stage.{Acts, Given, coming}
+use Rattle.fx_step.specs.Given.{plain}
 use Rattle.fx_cut.specs.declared.fade.Shape.{Shape}
 use Rattle.fx_cut.specs.Fade.{faded_frame, stop_in, until, fade_line, fade_due, FadeArguments, IsShape, fade_kind, fade_meaning}
 

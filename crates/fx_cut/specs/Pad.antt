@@ -6,9 +6,9 @@ use Rattle.fx_fixed.specs.Extents.{greatest, pad_distance, pad_length}
 use Rattle.fx_fixed.specs.Positions.{places_after}
 use Rattle.fx_fixed.specs.declared.positions.At.{At}
 use Rattle.fx_fixed.specs.declared.positions.At.TheVariants.{Start, End}
-use Rattle.fx_frame.specs.Frame.{Samples, silence}
-use Rattle.fx_frame.specs.Lists.{plain}
-use Rattle.fx_frame.specs.Stage.{Kind, Given}
+use Rattle.fx_step.specs.Frame.{Samples, silence}
+use Rattle.fx_step.specs.Given.{plain}
+use Rattle.fx_step.specs.Stage.{Kind, Given}
 
 -- the positions of pads, each of which is a length and a position
 abbrev pub ats : List (ℕ × At) → List At

@@ -5,11 +5,11 @@ use Rattle.std.specs.List.{enumerate_from}
 use Rattle.std.specs.Int.{w32}
 use Rattle.fx_fixed.specs.Extents.{greatest, pad_distance}
 use Rattle.fx_fixed.specs.declared.positions.At.{At}
-use Rattle.fx_frame.specs.Frame.{Samples, silence}
-use Rattle.fx_frame.specs.Line.{Frames, IsLine}
-use Rattle.fx_frame.specs.Frozen.{IsHand}
-use Rattle.fx_frame.specs.Stage.{Acts, coming}
-use Rattle.fx_frame.specs.Lists.{plain}
+use Rattle.fx_step.specs.Frame.{Samples, silence}
+use Rattle.fx_ring.specs.Line.{Frames, IsLine}
+use Rattle.fx_step.specs.Hand.{IsHand}
+use Rattle.fx_step.specs.Stage.{Acts, coming}
+use Rattle.fx_step.specs.Given.{plain}
 use Rattle.fx_cut.specs.Pad.{lengths, placed, silent_at, pad_due, IsPads, PadArguments, pad_kind, pad_meaning}
 
 -- what a `Pad` stores

@@ -1,6 +1,6 @@
 -- Frames of a list of samples by strides (this project's profile).
 use Rattle.std.specs.Prelude.{ℕ, ℤ, zero, suc, ◌*◌, ◌-◌, List, [], ◌∷◌, ◌++◌, take, drop, replicate}
-use Rattle.fx_frame.specs.Frame.{Samples, silence}
+use Rattle.fx_step.specs.Frame.{Samples, silence}
 
 -- the first frames, of so many samples, of groups of so many
 abbrev pub firsts : {X : Type 0} → ℕ → ℕ → ℕ → List X → List (List X)

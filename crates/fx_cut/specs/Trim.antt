@@ -5,9 +5,9 @@ use Rattle.fx_fixed.specs.Extents.{end_distance, greatest}
 use Rattle.fx_fixed.specs.Positions.{places_of}
 use Rattle.fx_fixed.specs.declared.positions.At.{At}
 use Rattle.fx_fixed.specs.declared.positions.At.TheVariants.{Start, End}
-use Rattle.fx_frame.specs.Frame.{Samples}
-use Rattle.fx_frame.specs.Lists.{plain}
-use Rattle.fx_frame.specs.Stage.{Kind, Given}
+use Rattle.fx_step.specs.Frame.{Samples}
+use Rattle.fx_step.specs.Given.{plain}
+use Rattle.fx_step.specs.Stage.{Kind, Given}
 
 -- an odd number of the places are at n or before it
 abbrev pub keeps : List ℕ → ℕ → Bool

@@ -5,11 +5,11 @@ use Rattle.std.specs.Int.{w32}
 use Rattle.fx_fixed.specs.Extents.{end_distance, greatest}
 use Rattle.fx_fixed.specs.Positions.{places_of}
 use Rattle.fx_fixed.specs.declared.positions.At.{At}
-use Rattle.fx_frame.specs.Frame.{Samples}
-use Rattle.fx_frame.specs.Line.{Frames, IsLine}
-use Rattle.fx_frame.specs.Frozen.{IsHand}
-use Rattle.fx_frame.specs.Stage.{Acts, coming}
-use Rattle.fx_frame.specs.Lists.{plain}
+use Rattle.fx_step.specs.Frame.{Samples}
+use Rattle.fx_ring.specs.Line.{Frames, IsLine}
+use Rattle.fx_step.specs.Hand.{IsHand}
+use Rattle.fx_step.specs.Stage.{Acts, coming}
+use Rattle.fx_step.specs.Given.{plain}
 use Rattle.fx_cut.specs.Trim.{keeps, trim_due, trim_enough, TrimArguments, trim_kind, trim_meaning}
 
 -- how many of the frames before place n are kept, in a sound of so many frames

@@ -1,8 +1,9 @@
 -- The effect `upsample` (sox(1), EFFECTS, upsample): each frame is followed by silence.
 use Rattle.std.specs.Prelude.{ℕ, ◌*◌, ◌/◌, ◌%◌, ◌^◌, None, List, [], length, slice_index_or, nat_eq, cond}
-use Rattle.fx_frame.specs.Frame.{Samples, silence}
-use Rattle.fx_frame.specs.Stage.{Given, Kind}
-use Rattle.fx_frame.specs.Lists.{tabulate, plain}
+use Rattle.fx_step.specs.Frame.{Samples, silence}
+use Rattle.fx_step.specs.Stage.{Given, Kind}
+use Rattle.fx_lists.specs.Lists.{tabulate}
+use Rattle.fx_step.specs.Given.{plain}
 use Rattle.fx_cut.specs.Factor.{FactorArguments}
 
 -- frame n of the upsampled list

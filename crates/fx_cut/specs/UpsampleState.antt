@@ -1,9 +1,9 @@
 -- The stage of `upsample`: what it stores, what holds of that, and what it is still to give (this project's profile).
 use Rattle.std.specs.Prelude.{ℕ, ◌+◌, ◌*◌, ◌/◌, ◌^◌, ◌<◌, ◌≤◌, ◌≡◌, Bool, true, ◌&&◌, Option, ◌++◌, length, map, replicate, option_to_list, is_none, nat_eq}
-use Rattle.fx_frame.specs.Frame.{Samples, silence}
-use Rattle.fx_frame.specs.Stage.{Acts, coming}
-use Rattle.fx_frame.specs.Frozen.{IsHand}
-use Rattle.fx_frame.specs.Lists.{plain}
+use Rattle.fx_step.specs.Frame.{Samples, silence}
+use Rattle.fx_step.specs.Stage.{Acts, coming}
+use Rattle.fx_step.specs.Hand.{IsHand}
+use Rattle.fx_step.specs.Given.{plain}
 use Rattle.fx_cut.specs.Factor.{FactorArguments, IsFactor}
 use Rattle.fx_cut.specs.Upsample.{upsampled, upsample_kind, upsample_meaning}
 

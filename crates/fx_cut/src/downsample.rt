@@ -1,15 +1,15 @@
 //! The effect `downsample` of sox(1): the first of every so many frames.
 ghost use Rattle.std.specs.Prelude.{◌≡◌, ◌≤◌, ◌*◌, Ok, IfOk, IfErr, drop, length};
-ghost use Rattle.fx_frame.specs.Ring.{pieces};
-ghost use Rattle.fx_frame.specs.Stage.{Freezes, IsNew};
+ghost use Rattle.fx_lists.specs.Lists.{pieces};
+ghost use Rattle.fx_step.specs.Stage.{Freezes, IsNew};
 ghost use Rattle.fx_cut.specs.Factor.{FactorArguments, IsFactor};
 ghost use Rattle.fx_cut.specs.DownsampleState.{DownsampleState, IsDownsample, downsample_acts};
 ghost use Rattle.fx_cut.specs.Strides.{firsts};
 
 use crate::many::{PassesMany, feed_by_pieces};
-use fx_frame::frozen::{stored_hand, thawed_hand};
-use fx_frame::stage::MOST_TAKEN;
 use fx_frame::{Feeds, Frame, Passed, Stage, Tally, ThawFault, WideFrame};
+use fx_step::hand::{stored_hand, thawed_hand};
+use fx_step::stage::MOST_TAKEN;
 use std::marker::Model;
 
 /// Copies the first frame of each of so many groups in front of the input to the front of the output.

@@ -3,13 +3,13 @@ ghost use Rattle.std.specs.Prelude.{ℕ, ◌≡◌, ◌≤◌, ◌<◌, ◌+◌,
 ghost use Rattle.std.specs.Int.{w32};
 ghost use Rattle.std.specs.List.{All};
 ghost use Rattle.fx_fixed.specs.Extents.{meant, stop_line};
-ghost use Rattle.fx_frame.specs.Frame.{IsFrame};
-ghost use Rattle.fx_frame.specs.Frozen.{IsHand};
-ghost use Rattle.fx_frame.specs.Line.{IsLine};
-ghost use Rattle.fx_frame.specs.Ring.{pieces};
-ghost use Rattle.fx_frame.specs.Stage.{Freezes, IsNew};
-ghost use Rattle.fx_frame.specs.Lists.{plain};
-ghost use Rattle.fx_frame.specs.Rounded.{unclipped};
+ghost use Rattle.fx_step.specs.Frame.{IsFrame};
+ghost use Rattle.fx_step.specs.Hand.{IsHand};
+ghost use Rattle.fx_ring.specs.Line.{IsLine};
+ghost use Rattle.fx_lists.specs.Lists.{pieces};
+ghost use Rattle.fx_step.specs.Stage.{Freezes, IsNew};
+ghost use Rattle.fx_step.specs.Given.{plain};
+ghost use Rattle.fx_lists.specs.Rounded.{unclipped};
 ghost use Rattle.fx_cut.specs.Fade.{FadeArguments, IsShape, fade_due, fade_enough, fade_line, stop_in, until, weighted, weights};
 ghost use Rattle.fx_cut.specs.FadeState.{FadeState, IsFade, IsFadeCount, fade_acts, fade_after, faded_along, faded_here, is_before, stop_ahead};
 
@@ -21,9 +21,8 @@ use crate::slopes::{Slope, weigh_by};
 use fx_fixed::At;
 use fx_fixed::inner::{meant_stop, stop_line};
 use fx_frame::frozen::{stored_in, thawed_line_and_hand};
-use fx_frame::inner::{frame_of, places};
-use fx_frame::stage::MOST_TAKEN;
 use fx_frame::{Feeds, Frame, Line, Passed, Passing, Stage, Tally, ThawFault, WideFrame};
+use fx_step::stage::MOST_TAKEN;
 use std::alloc::{AllocError, Global};
 use std::marker::Model;
 
@@ -257,9 +256,9 @@ impl PreparedFade {
             return None;
         }
         let channels = frame.channels();
-        let mut samples = places(&frame);
+        let mut samples = frame.places();
         self.weigh(&mut samples[..channels], stop, place);
-        Some(frame_of(channels, samples))
+        Some(Frame::of_first(channels, samples))
     }
 
     /// Weighs so many frames in their place, the first of which is that at this place, where they fall out of the line.

@@ -1,10 +1,10 @@
 //! Lines that may have no places.
 ghost use Rattle.std.specs.Prelude.{◌≡◌, ◌≤◌, length, true, None, Some, if◌then◌else◌};
-ghost use Rattle.fx_frame.specs.Frame.{IsFrame};
-ghost use Rattle.fx_frame.specs.Line.{pushed, pushed_out};
+ghost use Rattle.fx_step.specs.Frame.{IsFrame};
+ghost use Rattle.fx_ring.specs.Line.{pushed, pushed_out};
 
 use fx_frame::Line;
-use fx_frame::feed::see_samples;
+use fx_step::feed::see_samples;
 
 /// What `push_over` of a line does. A line with no places stays as it is, and hands the frame back.
 #[inline(always)]

@@ -1,11 +1,11 @@
 //! Stages that pass many frames in one piece, and the rest one at a time.
 ghost use Rattle.std.specs.Prelude.{◌≡◌, ◌<◌, ◌≤◌, ◌+◌, ◌*◌, ℕ, true, false, drop, length};
-ghost use Rattle.fx_frame.specs.Feed.{Fed, PassedOn};
-ghost use Rattle.fx_frame.specs.Ring.{pieces};
-ghost use Rattle.fx_frame.specs.Stage.{IsDry, kind, spent};
+ghost use Rattle.fx_step.specs.Feed.{Fed, PassedOn};
+ghost use Rattle.fx_lists.specs.Lists.{pieces};
+ghost use Rattle.fx_step.specs.Stage.{IsDry, kind, spent};
 
-use fx_frame::feed::{feed_by_frames, frame_at, pass_by_calls, put_frame};
 use fx_frame::{Passed, Passing, Stage};
+use fx_step::feed::{feed_by_frames, frame_at, pass_by_calls, put_frame};
 
 /// A stage that can pass many frames in one piece.
 pub trait PassesMany: Stage {

@@ -2,9 +2,9 @@
 ghost use Rattle.std.specs.Prelude.{ℕ, ◌≡◌, ◌<◌, ◌≤◌, ◌+◌, ◌-◌, ◌^◌, drop, filter, length, nat_lt, slice_get, sum_by, Err, IfOk, MatchResult, true, false, map};
 ghost use Rattle.std.specs.Int.{w32};
 ghost use Rattle.fx_fixed.specs.Extents.{greatest, pad_distance};
-ghost use Rattle.fx_frame.specs.Frozen.{IsHand};
-ghost use Rattle.fx_frame.specs.Line.{IsLine};
-ghost use Rattle.fx_frame.specs.Stage.{Freezes, IsNew};
+ghost use Rattle.fx_step.specs.Hand.{IsHand};
+ghost use Rattle.fx_ring.specs.Line.{IsLine};
+ghost use Rattle.fx_step.specs.Stage.{Freezes, IsNew};
 ghost use Rattle.fx_cut.specs.Pad.{IsPads, PadArguments, lengths, pads_from_start, placed, silent_at};
 ghost use Rattle.fx_cut.specs.PadState.{IsPad, IsPadCount, PadState, later_count, pad_acts, pad_rises, silence_from};
 
@@ -13,10 +13,10 @@ pub mod words;
 use crate::many::{PassesMany, feed_by_pieces, pass_by_frame};
 use fx_fixed::At;
 use fx_fixed::inner::{all_pads, greatest_pad_end};
-use fx_frame::feed::copy_frames;
 use fx_frame::frozen::{stored_in, thawed_line_and_hand};
-use fx_frame::stage::MOST_TAKEN;
 use fx_frame::{Feeds, Frame, Line, Passed, Passing, Stage, Tally, ThawFault, WideFrame};
+use fx_step::feed::copy_frames;
+use fx_step::stage::MOST_TAKEN;
 use std::alloc::{AllocError, Global};
 use std::marker::Model;
 

@@ -4,9 +4,9 @@ ghost use Rattle.std.specs.List.{range_with_len};
 ghost use Rattle.std.specs.Int.{w32};
 ghost use Rattle.fx_fixed.specs.Extents.{end_distance, greatest};
 ghost use Rattle.fx_fixed.specs.Positions.{place_of, places_of};
-ghost use Rattle.fx_frame.specs.Frozen.{IsHand};
-ghost use Rattle.fx_frame.specs.Line.{IsLine};
-ghost use Rattle.fx_frame.specs.Stage.{Freezes, IsNew, is_enough};
+ghost use Rattle.fx_step.specs.Hand.{IsHand};
+ghost use Rattle.fx_ring.specs.Line.{IsLine};
+ghost use Rattle.fx_step.specs.Stage.{Freezes, IsNew, is_enough};
 ghost use Rattle.fx_cut.specs.Trim.{TrimArguments, keeps, starts, trim_enough};
 ghost use Rattle.fx_cut.specs.TrimState.{IsTrim, IsTrimCount, TrimState, kept_count, trim_acts, trim_after};
 
@@ -17,8 +17,8 @@ use crate::many::{PassesMany, feed_by_pieces};
 use fx_fixed::At;
 use fx_fixed::inner::greatest_end;
 use fx_frame::frozen::{stored_in, thawed_line_and_hand};
-use fx_frame::stage::MOST_TAKEN;
 use fx_frame::{Feeds, Frame, Line, Passed, Passing, Stage, Tally, ThawFault, WideFrame};
+use fx_step::stage::MOST_TAKEN;
 use std::alloc::{AllocError, Global};
 use std::marker::Model;
 

@@ -1,13 +1,11 @@
 -- Which lengths are past the limit.
-use Rattle.std.proofs.Common.{◌≡◌, ℕ, zero, suc, ◌+◌, ◌*◌, ◌^◌, ◌≤◌, ◌<◌, List, [], ◌∷◌, true, false, length, refl, arith, sym, ◌∙◌, mul-le-mul_right}
-use Rattle.std.specs.Int.{div_ceil}
-use Rattle.std.proofs.Math.Nat.{div-zero, mod-zero, lt_of_mul-lt-mul_right}
-use Rattle.std.proofs.lemmas.Grind.{div_ceil_times}
+use Rattle.std.proofs.Common.{◌≡◌, ℕ, ◌+◌, ◌*◌, ◌^◌, ◌≤◌, ◌<◌, List, [], ◌∷◌, true, false, length, refl, arith, sym, ◌∙◌, mul-le-mul_right}
 use Rattle.std.specs.List.{list_any}
 use Rattle.std.proofs.lemmas.List.Sums.{sum_by-cons}
 use Rattle.std.proofs.lemmas.Bool.Decides.{nat_tests}
 use Rattle.fx_effects.specs.Effects.{Act, OfPad, OfDelay, OfEcho, OfEchos, OfUpsample, OfDownsample, most_of}
 use Rattle.fx_effects.specs.Bounds.{is_past, mosts, work_of}
+use Rattle.fx_cut.specs.Ceil.{ceil_rises}
 
 pub is_past-yes : (n : ℕ) → 2 ^ 56 < n → is_past n ≡ true
 is_past-yes n h = grind (arith, nat_tests)
@@ -21,18 +19,6 @@ mosts-past (a ∷ acts) n h = rw (is_past-yes n h) refl
 
 pub mosts-step : (a : Act) (acts : List Act) (n : ℕ) → n ≤ 2 ^ 56 → list_any is_past (mosts (a ∷ acts) n) ≡ list_any is_past (mosts acts (most_of a n))
 mosts-step a acts n h = rw (is_past-no n h) refl
-
--- a quotient is no greater where its product is below the product of the one after
-pub by_products : (a b f s t : ℕ) → a * f < s + f → s ≤ t → t ≤ b * f → a ≤ b
-by_products a b f s t p q r =
-    let h : a * f < (b + 1) * f = omega arith in
-    let k : a < b + 1 = lt_of_mul-lt-mul_right f h in
-    omega arith
-
--- rounded up, a greater number has no smaller part
-pub ceil_rises : (m n f : ℕ) → m ≤ n → div_ceil m f ≤ div_ceil n f
-ceil_rises m n zero h = rw (div-zero, mod-zero) (omega arith)
-ceil_rises m n (suc f) h = by_products (div_ceil m (suc f)) (div_ceil n (suc f)) (suc f) m n (div_ceil_times m (suc f) (omega arith)).1 h (div_ceil_times n (suc f) (omega arith)).0
 
 -- more frames in make no fewer out
 pub most_rises : (a : Act) (m n : ℕ) → m ≤ n → most_of a m ≤ most_of a n

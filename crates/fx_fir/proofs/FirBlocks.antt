@@ -5,29 +5,27 @@ use Rattle.std.specs.Int.{w32}
 use Rattle.std.proofs.lemmas.List.{drop_all, drop_at, length-drop, length-map, length-take, map-append, length-take-le, take_at}
 use Rattle.fx_fixed.specs.Rounding.{rounding}
 use Rattle.fx_fixed.specs.declared.gains.TheConstants.{UNIT}
-use Rattle.fx_frame.specs.declared.feed.Passing.TheVariants.{Through}
-use Rattle.fx_frame.specs.Feed.{Fed, GaveNext, PassedOn, TookNext, nothing, taken, given}
-use Rattle.fx_frame.specs.Frame.{Samples}
-use Rattle.fx_frame.specs.Holds.{total}
-use Rattle.fx_frame.specs.Line.{Frames, IsLine, channel_of}
-use Rattle.fx_frame.specs.Ring.{pieces}
-use Rattle.fx_frame.specs.Stage.{Given}
-use Rattle.fx_frame.proofs.FedLaws.{Fed-then, total-append}
-use Rattle.fx_frame.proofs.FeedParts.{pieces-split}
-use Rattle.fx_frame.proofs.Feeding.{pieces-same}
-use Rattle.fx_frame.proofs.Pieces.{length-pieces, pieces-front}
+use Rattle.fx_step.specs.declared.feed.Passing.TheVariants.{Through}
+use Rattle.fx_step.specs.Feed.{Fed, GaveNext, PassedOn, TookNext, nothing, taken, given}
+use Rattle.fx_step.specs.Frame.{Samples}
+use Rattle.fx_step.specs.Holds.{total}
+use Rattle.fx_ring.specs.Line.{Frames, IsLine, channel_of}
+use Rattle.fx_lists.specs.Lists.{pieces, tabulate}
+use Rattle.fx_step.specs.Stage.{Given}
+use Rattle.fx_step.proofs.FedLaws.{Fed-then, total-append}
+use Rattle.fx_lists.proofs.Puts.{pieces-split, pieces-same}
+use Rattle.fx_lists.proofs.Pieces.{length-pieces, pieces-front}
 use Rattle.fx_fir.specs.Fir.{FirArguments, centre, filtered_frame, filtered_sample}
 use Rattle.fx_fir.specs.FirState.{FirState, IsFir, fir_acts, fir_taps}
-use Rattle.fx_frame.specs.Lists.{tabulate}
-use Rattle.fx_sums.specs.Products.{sum_of_products}
-use Rattle.fx_frame.specs.Rounded.{clips_of, samples_of}
-use Rattle.fx_blocks.specs.Tapped.{IsNear, Taps, behind, clips_behind, frames_behind, last_of}
-use Rattle.fx_blocks.specs.Past.{sample_before}
+use Rattle.fx_convolve.specs.Products.{sum_of_products}
+use Rattle.fx_lists.specs.Rounded.{clips_of, samples_of}
+use Rattle.fx_frame.specs.Tapped.{IsNear, Taps, behind, clips_behind, frames_behind, last_of}
+use Rattle.fx_frame.specs.Past.{sample_before}
 use Rattle.fx_fir.proofs.FirLaws.{behind-due}
-use Rattle.fx_blocks.proofs.Tables.{map-tabulate, samples_of-tabulate, all_clips, pieces-table}
-use Rattle.fx_frame.proofs.Tabulate.{length-tabulate, tabulate-same}
-use Rattle.fx_blocks.proofs.TapBlocks.{last-first, last-whole, length-last}
-use Rattle.fx_blocks.proofs.TapLaws.{behind-step}
+use Rattle.fx_frame.proofs.Tables.{map-tabulate, samples_of-tabulate, all_clips, pieces-table}
+use Rattle.fx_lists.proofs.Tabulate.{length-tabulate, tabulate-same}
+use Rattle.fx_frame.proofs.TapBlocks.{last-first, last-whole, length-last}
+use Rattle.fx_frame.proofs.TapLaws.{behind-step}
 use Rattle.fx_fir.proofs.WindowSums.{back_sum-is, filtered-is}
 
 -- no frame is made of frames before its reach

@@ -4,24 +4,23 @@ use Rattle.std.specs.Prelude.{slice_get, slice_index_or, Option, Some, None, nat
 use Rattle.std.proofs.Math.Seq.{set-append_seam}
 use Rattle.std.proofs.lemmas.List.{length-append, length-drop, length-map, length-reverse, reverse-reverse, map-append, drop-append-le}
 use Rattle.std.proofs.lemmas.Bool.Decides.{nat_tests}
-use Rattle.std.proofs.lemmas.List.Sums.{sum_by-append}
-use Rattle.fx_frame.specs.Frame.{Samples}
-use Rattle.fx_frame.specs.Line.{Frames, pushed, channel_of}
+use Rattle.fx_step.specs.Frame.{Samples}
+use Rattle.fx_ring.specs.Line.{Frames, pushed, channel_of}
 use Rattle.fx_frame.specs.Frozen.{IsStored}
-use Rattle.fx_frame.specs.Stage.{Gave, Took, Freezes, numbers_of}
-use Rattle.fx_blocks.specs.Tapped.{by_name}
-use Rattle.fx_blocks.specs.Past.{sample_before}
-use Rattle.fx_sums.proofs.Counts.{flag-false, flag-le, flag-of, flag-true}
+use Rattle.fx_step.specs.Stage.{Gave, Took, Freezes, numbers_of}
+use Rattle.fx_frame.specs.Tapped.{by_name}
+use Rattle.fx_frame.specs.Past.{sample_before}
+use Rattle.fx_frame.proofs.Counts.{flag-false, flag-le, flag-of, flag-true}
 use Rattle.fx_fir.specs.Fir.{FirArguments, centre, filtered_frame, filtered_at, filtered}
 use Rattle.fx_fir.specs.FirState.{AreFirCounts, FirState, IsFir, fir_behind, fir_tail, fir_acts, arguments_of}
-use Rattle.fx_frame.specs.Lists.{tabulate}
-use Rattle.fx_sums.specs.Products.{sum_of_products}
-use Rattle.fx_frame.specs.Rounded.{clips_of, given_of}
+use Rattle.fx_lists.specs.Lists.{tabulate}
+use Rattle.fx_convolve.specs.Products.{sum_of_products}
+use Rattle.fx_step.specs.Given.{given_of}
 use Rattle.fx_fixed.specs.Rounding.{rounding}
 use Rattle.fx_fixed.specs.declared.gains.TheConstants.{UNIT}
-use Rattle.fx_blocks.proofs.DryLaws.{dry-hand, dry-tail, true_of}
-use Rattle.fx_blocks.proofs.DelayLaws.{sample_before-append, sample_before-drop}
-use Rattle.fx_frame.proofs.Tabulate.{tabulate-append, tabulate-same}
+use Rattle.fx_frame.proofs.DryLaws.{dry-hand, dry-tail, true_of}
+use Rattle.fx_frame.proofs.DelayLaws.{sample_before-append, sample_before-drop}
+use Rattle.fx_lists.proofs.Tabulate.{tabulate-same}
 
 -- ---- a window
 
@@ -48,17 +47,6 @@ window-filled items latest window channel f v few e long is =
     ∙ ap (λ l. channel_of (items ++ l) channel (pos 0)) (sym one)
 
 -- ---- a frame, channel by channel
-
--- one more channel
-pub clips_of-channel : (g : ℕ → ℤ × Bool) (k clips : ℕ) (b : Bool) → clips ≡ clips_of (tabulate g 0 k) → b ≡ (g k).1 → clips + cond b 1 0 ≡ clips_of (tabulate g 0 (k + 1))
-clips_of-channel g k clips b e v =
-    let more : tabulate g 0 (k + 1) ≡ tabulate g 0 k ++ g k ∷ [] = rw zero-add at (tabulate-append g 0 k 1) in
-    omega (
-      arith,
-      e,
-      ap {B = ℕ} (λ c. cond c 1 0) v,
-      ap clips_of more ∙ sum_by-append (λ r. cond (r.1) 1 0) (tabulate g 0 k) (g k ∷ []),
-    )
 
 -- ---- what comes and goes
 

@@ -6,8 +6,8 @@ use Rattle.std.proofs.lemmas.Grind.{get_or-set_at}
 use Rattle.std.proofs.lemmas.Int.{ints}
 use Rattle.std.proofs.lemmas.List.{get_or-set_other}
 use Rattle.fx_fir.specs.Split.{AddUpTo, joined}
-use Rattle.fx_sums.specs.Products.{sum_of_products}
-use Rattle.fx_sums.proofs.SignedProducts.{mul-add, mul_assoc}
+use Rattle.fx_convolve.specs.Products.{sum_of_products}
+use Rattle.fx_convolve.proofs.Numbers.{mul-add, mul_assoc}
 
 turned : (x y : ℤ) → x *ℤ y ≡ y *ℤ x
 turned x y = omega (arith, ints)

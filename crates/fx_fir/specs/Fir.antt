@@ -3,13 +3,13 @@
 use Rattle.std.specs.Prelude.{ℕ, ℤ, ◌+◌, ◌-◌, ◌/◌, Bool, None, List, length}
 use Rattle.fx_fixed.specs.Rounding.{rounding}
 use Rattle.fx_fixed.specs.declared.gains.TheConstants.{UNIT}
-use Rattle.fx_frame.specs.Frame.{Samples}
-use Rattle.fx_frame.specs.Stage.{Given, Kind}
-use Rattle.fx_blocks.specs.Past.{sample_before}
-use Rattle.fx_frame.specs.Lists.{tabulate}
-use Rattle.fx_blocks.specs.Kinds.{most_taken}
-use Rattle.fx_sums.specs.Products.{sum_of_products}
-use Rattle.fx_frame.specs.Rounded.{given_of}
+use Rattle.fx_step.specs.Frame.{Samples}
+use Rattle.fx_step.specs.Stage.{Given, Kind}
+use Rattle.fx_frame.specs.Past.{sample_before}
+use Rattle.fx_lists.specs.Lists.{tabulate}
+use Rattle.fx_frame.specs.Kinds.{most_taken}
+use Rattle.fx_convolve.specs.Products.{sum_of_products}
+use Rattle.fx_step.specs.Given.{given_of}
 
 -- what a `Fir` is made with: its channels, and its coefficients in trillionths
 pub record FirArguments : Type 0 where

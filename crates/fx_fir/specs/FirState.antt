@@ -3,15 +3,15 @@ use Rattle.std.specs.Prelude.{ℕ, ℤ, pos, ◌+◌, ◌-◌, ◌*◌, ◌^◌,
 use Rattle.std.specs.Int.{w32}
 use Rattle.fx_fixed.specs.Rounding.{rounding}
 use Rattle.fx_fixed.specs.declared.gains.TheConstants.{UNIT}
-use Rattle.fx_frame.specs.Frame.{Samples}
-use Rattle.fx_frame.specs.Frozen.{IsHand}
-use Rattle.fx_frame.specs.Line.{Frames, IsLine}
-use Rattle.fx_frame.specs.Stage.{Given, Acts}
-use Rattle.fx_blocks.specs.Tapped.{TailNumbers, Taps}
-use Rattle.fx_frame.specs.Lists.{tabulate}
-use Rattle.fx_blocks.specs.Kinds.{most_taken}
-use Rattle.fx_sums.specs.Products.{sum_of_products}
-use Rattle.fx_frame.specs.Rounded.{given_of}
+use Rattle.fx_step.specs.Frame.{Samples}
+use Rattle.fx_step.specs.Hand.{IsHand}
+use Rattle.fx_ring.specs.Line.{Frames, IsLine}
+use Rattle.fx_step.specs.Stage.{Given, Acts}
+use Rattle.fx_frame.specs.Tapped.{TailNumbers, Taps}
+use Rattle.fx_lists.specs.Lists.{tabulate}
+use Rattle.fx_frame.specs.Kinds.{most_taken}
+use Rattle.fx_convolve.specs.Products.{sum_of_products}
+use Rattle.fx_step.specs.Given.{given_of}
 use Rattle.fx_fir.specs.Fir.{FirArguments, centre, filtered_at, filtered, fir_kind}
 
 -- so many samples of a window from place m on backwards; outside of it there is silence

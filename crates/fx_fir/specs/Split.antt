@@ -1,6 +1,6 @@
 -- Coefficients in two parts.
 use Rattle.std.specs.Prelude.{◌≡◌, List, ℤ, pos, ◌+ℤ◌, ◌*ℤ◌, length}
-use Rattle.fx_sums.specs.Products.{sum_of_products}
+use Rattle.fx_convolve.specs.Products.{sum_of_products}
 
 -- the high parts of coefficients, and the low ones
 pub record Parts : Type 0 where

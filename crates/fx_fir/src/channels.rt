@@ -1,7 +1,7 @@
 //! One channel of frames whose samples lie one after another.
 ghost use Rattle.std.specs.Prelude.{◌≡◌, ◌<◌, ◌≤◌, ◌*◌, pos, length};
-ghost use Rattle.fx_frame.specs.Line.{channel_of};
-ghost use Rattle.fx_frame.specs.Ring.{pieces};
+ghost use Rattle.fx_ring.specs.Line.{channel_of};
+ghost use Rattle.fx_lists.specs.Lists.{pieces};
 
 /// Fills the places with one channel of as many frames.
 #[inline(always)]

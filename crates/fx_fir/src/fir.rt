@@ -1,23 +1,22 @@
 //! The effect `fir` of sox(1): each sample is a sum of the samples around it, times the coefficients.
 ghost use Rattle.std.specs.Prelude.{◌≡◌, ◌↔◌, true, ◌+◌, ◌-◌, ◌*◌, ◌^◌, ◌<◌, ◌≤◌, ◌++◌, length, reverse, drop, pos, All, IfOk, Err, MatchResult, cond, min, nat_eq};
-ghost use Rattle.fx_frame.specs.Frame.{IsFrame};
-ghost use Rattle.fx_frame.specs.Line.{channel_of};
-ghost use Rattle.fx_frame.specs.Ring.{pieces};
-ghost use Rattle.fx_frame.specs.Stage.{Freezes, IsNew};
+ghost use Rattle.fx_step.specs.Frame.{IsFrame};
+ghost use Rattle.fx_ring.specs.Line.{channel_of};
+ghost use Rattle.fx_lists.specs.Lists.{pieces};
+ghost use Rattle.fx_step.specs.Stage.{Freezes, IsNew};
 ghost use Rattle.fx_fir.specs.Fir.{FirArguments, centre, filtered_frame, filtered_sample};
 ghost use Rattle.fx_fir.specs.FirState.{AreFirCounts, FirState, IsFir, fir_acts, fir_taps};
-ghost use Rattle.fx_blocks.specs.Tapped.{by_name, clips_behind, frames_behind, last_of};
+ghost use Rattle.fx_frame.specs.Tapped.{by_name, clips_behind, frames_behind, last_of};
 
 pub mod words;
 
 use crate::channels::take_channel;
 use crate::kernel::Kernel;
 use fx_fixed::Gain;
-use fx_frame::feed::{feed_by_frames, frame_at};
 use fx_frame::frozen::{stored_in, thawed_line_and_hand};
-use fx_frame::inner::frame_of;
-use fx_frame::stage::MOST_TAKEN;
 use fx_frame::{Feeds, Frame, Line, Passed, Passing, Stage, Tally, ThawFault, WideFrame};
+use fx_step::feed::{feed_by_frames, frame_at};
+use fx_step::stage::MOST_TAKEN;
 use std::alloc::{AllocError, Global};
 use std::marker::Model;
 
@@ -168,7 +167,7 @@ fn filtered_frame(
     let mut samples = [0; 16];
     let out = &mut samples[..channels];
     let clips = filtered_into(line, latest, channels, kernel, place, out);
-    let out = frame_of(channels, samples);
+    let out = Frame::of_first(channels, samples);
     let _channels = out.channels();
     (out, clips)
 }

@@ -4,15 +4,15 @@ ghost use Rattle.fx_fixed.specs.Rounding.{rounding};
 ghost use Rattle.fx_fir.specs.FirState.{samples_of_window};
 ghost use Rattle.fx_sums.specs.SmallWeights.{SumsAs};
 ghost use Rattle.fx_fir.specs.Split.{AddUpTo};
-ghost use Rattle.fx_frame.specs.Lists.{tabulate};
-ghost use Rattle.fx_sums.specs.Products.{sum_of_products};
-ghost use Rattle.fx_frame.specs.Rounded.{clips_of};
+ghost use Rattle.fx_lists.specs.Lists.{tabulate};
+ghost use Rattle.fx_convolve.specs.Products.{sum_of_products};
+ghost use Rattle.fx_lists.specs.Rounded.{clips_of};
 
+use crate::reduced::{Reduced, SUMS_OF_PIECE, most_by_transforms};
 use crate::split::Split;
-use fx_blocks::round_channel;
+use fx_convolve::dot;
 use fx_fixed::{Gain, UNIT, round_clip};
-use fx_sums::dot;
-use fx_sums::inner::{Reduced, SUMS_OF_PIECE, most_by_transforms};
+use fx_sums::round_channel;
 use std::alloc::{AllocError, Global};
 use std::marker::Model;
 

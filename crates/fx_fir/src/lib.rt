@@ -4,6 +4,7 @@
 mod channels;
 pub mod fir;
 mod kernel;
+mod reduced;
 mod split;
 
 pub use fir::Fir;

@@ -2,14 +2,14 @@
 ghost use Rattle.std.specs.Prelude.{◌≡◌, ◌<◌, ◌≤◌, ◌+◌, ◌*◌, ◌^◌, ℕ, pos, neg_ℤ, ◌≤ℤ◌, drop, length, slice_index_or, unsigned_abs, All, IfOk, IfSome};
 ghost use Rattle.fx_fixed.specs.Rounding.{rounding};
 ghost use Rattle.fx_fixed.specs.declared.gains.TheConstants.{UNIT};
-ghost use Rattle.fx_frame.specs.Lists.{tabulate};
-ghost use Rattle.fx_frame.specs.Rounded.{clips_of};
+ghost use Rattle.fx_lists.specs.Lists.{tabulate};
+ghost use Rattle.fx_lists.specs.Rounded.{clips_of};
 ghost use Rattle.fx_fir.specs.Split.{AddUpTo, joined};
-ghost use Rattle.fx_sums.specs.Products.{sum_of_products};
+ghost use Rattle.fx_convolve.specs.Products.{sum_of_products};
 
 use crate::kernel::rounded;
-use fx_sums::inner::MOST_SUMS;
-use fx_sums::transforms::Spectrum;
+use crate::reduced::MOST_SUMS;
+use fx_convolve::transforms::Spectrum;
 use std::alloc::{AllocError, Global};
 use std::marker::Model;
 

@@ -1,7 +1,7 @@
 use Rattle.std.proofs.Common.{ℕ, zero, suc, ◌+◌, ◌-◌, sub-one, ◌<◌, ◌≤◌, true, false, List, [], ◌∷◌, ◌≡◌, length, drop, take, get_or, arith, refl, ap, ◌∙◌, Option, Some, None}
 use Rattle.std.proofs.Math.ListN.{set}
-use Rattle.fx_frame.specs.Frame.{Samples}
-use Rattle.fx_frame.specs.Stage.{Counts, Acts, Gave, Took, Ended, IsDry, kind}
+use Rattle.fx_step.specs.Frame.{Samples}
+use Rattle.fx_step.specs.Stage.{Counts, Acts, Gave, Took, Ended, IsDry, kind}
 use Rattle.fx_flow.specs.Parts.{AllDry, AllSettled, AllEnded, IsLastWet, IsFirstOpen, CanHandOver, CanFeed, GaveAt, HandedOver, Fed, EndPassed, through}
 use Rattle.fx_flow.specs.Moving.{CanMove, Lifted, MovedFrom}
 

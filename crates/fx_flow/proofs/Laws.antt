@@ -1,7 +1,7 @@
 use Rattle.std.proofs.Common.{ℕ, zero, suc, ◌+◌, ◌<◌, ◌≤◌, Bool, true, false, List, [], ◌∷◌, ◌++◌, ◌≡◌, length, map, get_or, add-zero, arith, refl, sym, ap, ◌∙◌, Some, None, Option, option_to_list, ◌&&◌, ◌||◌}
-use Rattle.fx_frame.specs.Frame.{Samples}
-use Rattle.fx_frame.specs.Stage.{Counts, Acts, Gave, Took, Ended, is_enough, kind}
-use Rattle.fx_frame.specs.Holds.{total, recipes, kinds}
+use Rattle.fx_step.specs.Frame.{Samples}
+use Rattle.fx_step.specs.Stage.{Counts, Acts, Gave, Took, Ended, is_enough, kind}
+use Rattle.fx_step.specs.Holds.{total, recipes, kinds}
 use Rattle.fx_flow.specs.Parts.{Matching, Within, work, most_of, any_spent, through, wholes, given_by, given_of, ended_of, AllDry, AllSettled, AllEnded, AllNew, IsLastWet, IsFirstOpen, Joined, CanHandOver, HandedOver, CanFeed, Fed, EndPassed}
 use Rattle.fx_flow.specs.Composed.{Whole, frames_of, clips_of, due_of, enough_for}
 
@@ -10,7 +10,7 @@ and-false true d h = h
 and-false false d h = refl
 
 -- what would be true only with a false fact is false
-none_true : (b c : Bool) → (b ≡ true → c ≡ true) → c ≡ false → b ≡ false
+pub none_true : (b c : Bool) → (b ≡ true → c ≡ true) → c ≡ false → b ≡ false
 none_true true c h e = absurd (let t = h refl in cc)
 none_true false c h e = refl
 

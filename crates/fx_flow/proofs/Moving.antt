@@ -1,8 +1,8 @@
 use Rattle.std.proofs.Common.{ℕ, zero, suc, ◌+◌, ◌<◌, ◌≤◌, true, List, [], ◌∷◌, ◌≡◌, length, drop, min, cond, nat_eq, add-zero, zero-add, inl, inr, arith, refl, ap, ◌∙◌, Some, None, Option}
 use Prim.Native.Nat.compare
-use Rattle.fx_frame.specs.Frame.{Samples}
-use Rattle.fx_frame.specs.Stage.{Acts}
-use Rattle.fx_frame.specs.Holds.{kinds, recipes, hold_sum}
+use Rattle.fx_step.specs.Frame.{Samples}
+use Rattle.fx_step.specs.Stage.{Acts}
+use Rattle.fx_step.specs.Holds.{kinds, recipes, hold_sum}
 use Rattle.fx_flow.specs.Parts.{Parts, AllDry, AllSettled, AllNew, IsLastWet, IsWetEnd, IsFirstOpen, HandedOver, Fed, EndPassed, through, wholes}
 use Rattle.fx_flow.specs.Composed.{Whole, frames_of, clips_of, composed, composed_wholes}
 use Rattle.fx_flow.specs.Moving.{CanMove, MovedFrom}

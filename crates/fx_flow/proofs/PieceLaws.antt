@@ -1,11 +1,11 @@
 -- Frames that go through stages piece by piece.
 use Rattle.std.proofs.Common.{ℕ, zero, suc, ◌+◌, ◌<◌, ◌≤◌, ◌≡◌, false, true, List, [], ◌∷◌, get_or, length, drop, set, refl, ap, ◌∙◌, subst, arith}
-use Rattle.fx_frame.specs.declared.feed.Passing.TheVariants.{Through}
-use Rattle.fx_frame.specs.Feed.{IsHeld, IsSteady, PassedOn}
-use Rattle.fx_frame.specs.Frame.{Samples}
-use Rattle.fx_frame.specs.Holds.{kinds}
-use Rattle.fx_frame.specs.Row.{AreReady, EachThrough, RowThrough, outputs_of}
-use Rattle.fx_frame.specs.Stage.{Acts, Counts, IsDry, is_enough, kind}
+use Rattle.fx_step.specs.declared.feed.Passing.TheVariants.{Through}
+use Rattle.fx_step.specs.Feed.{IsHeld, IsSteady, PassedOn}
+use Rattle.fx_step.specs.Frame.{Samples}
+use Rattle.fx_step.specs.Holds.{kinds}
+use Rattle.fx_step.specs.Row.{AreReady, EachThrough, RowThrough, outputs_of}
+use Rattle.fx_step.specs.Stage.{Acts, Counts, IsDry, is_enough, kind}
 use Rattle.fx_flow.specs.Parts.{AllSettled}
 use Rattle.fx_flow.specs.Row.{AllHeld}
 use Rattle.fx_flow.specs.Runs.{AllAhead, AllKeep, AllSteady}

@@ -1,11 +1,11 @@
 -- A frame that went through stages in a row, as steps of their flow.
 use Rattle.std.proofs.Common.{ℕ, suc, ◌+◌, ◌<◌, ◌≤◌, ◌≡◌, false, List, [], ◌∷◌, ◌++◌, length, refl, sym, ap, ◌∙◌, arith, inl, inr, Option, Some, None, option_to_list, append-nil, append_assoc}
-use Rattle.fx_frame.specs.Feed.{GaveNext, IsHeld}
-use Rattle.fx_frame.specs.Frame.{IsFrame, Samples}
-use Rattle.fx_frame.specs.Holds.{kinds}
-use Rattle.fx_frame.specs.Stage.{Acts}
+use Rattle.fx_step.specs.Feed.{GaveNext, IsHeld}
+use Rattle.fx_step.specs.Frame.{IsFrame, Samples}
+use Rattle.fx_step.specs.Holds.{kinds}
+use Rattle.fx_step.specs.Stage.{Acts}
 use Rattle.fx_flow.specs.Feed.{FlowFed, FlowGave, HoldsFew, Stepped, stepped, taken_in, untouched}
-use Rattle.fx_frame.specs.Row.{outputs_of}
+use Rattle.fx_step.specs.Row.{outputs_of}
 use Rattle.fx_flow.specs.Parts.{AllSettled, Fed, HandedOver, IsLastWet, Parts, any_spent, ended_of, moves_of, taken_of}
 use Rattle.fx_flow.specs.Composed.{enough_for}
 use Rattle.fx_flow.specs.Row.{AllHeld, WentThrough}

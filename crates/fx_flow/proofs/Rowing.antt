@@ -6,12 +6,12 @@ use Rattle.std.specs.List.{All}
 use Rattle.std.proofs.lemmas.List.{length-drop, length-take-le}
 use Rattle.std.proofs.lemmas.List.Elements.{All-drop, All-take}
 use Rattle.std.proofs.Math.Nat.{mul-le-mul_right, suc-mul}
-use Rattle.fx_frame.specs.Frame.{IsFrame, Samples}
-use Rattle.fx_frame.specs.Ring.{pieces}
-use Rattle.fx_frame.specs.Row.{AreReady, EachThrough, RowThrough}
-use Rattle.fx_frame.specs.Stage.{Acts}
-use Rattle.fx_frame.proofs.Feeding.{pieces-take}
-use Rattle.fx_frame.proofs.Pieces.{length-pieces}
+use Rattle.fx_step.specs.Frame.{IsFrame, Samples}
+use Rattle.fx_lists.specs.Lists.{pieces}
+use Rattle.fx_step.specs.Row.{AreReady, EachThrough, RowThrough}
+use Rattle.fx_step.specs.Stage.{Acts}
+use Rattle.fx_lists.proofs.Puts.{pieces-take}
+use Rattle.fx_lists.proofs.Pieces.{length-pieces}
 use Rattle.fx_flow.specs.Feed.{untouched}
 use Rattle.fx_flow.specs.Parts.{AllSettled, Parts}
 use Rattle.fx_flow.specs.Row.{AllHeld, WentThrough}

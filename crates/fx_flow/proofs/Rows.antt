@@ -2,15 +2,16 @@
 use Rattle.std.proofs.Common.{ℕ, zero, suc, ◌+◌, ◌<◌, ◌≤◌, true, false, List, [], ◌∷◌, ◌≡◌, length, drop, get_or, refl, sym, ap, ◌∙◌, subst, arith, inl, inr, Bool, ◌||◌, ◌&&◌, Some, None, option_to_list}
 use Rattle.std.specs.Prelude.{if◌then◌else◌}
 use Rattle.std.proofs.Math.ListN.{set}
-use Rattle.fx_frame.specs.declared.feed.Passing.{Passing}
-use Rattle.fx_frame.specs.declared.feed.Passing.TheVariants.{Kept, Through, More}
-use Rattle.fx_frame.specs.Feed.{GaveNext, IsHeld, PassedOn, TookNext}
-use Rattle.fx_frame.specs.Frame.{Samples}
-use Rattle.fx_frame.specs.Holds.{held_sum, hold_sum, kinds}
-use Rattle.fx_frame.specs.Stage.{Acts, Counts, kind, spent}
+use Rattle.fx_step.specs.declared.feed.Passing.{Passing}
+use Rattle.fx_step.specs.declared.feed.Passing.TheVariants.{Kept, Through, More}
+use Rattle.fx_step.specs.Feed.{GaveNext, IsHeld, PassedOn, TookNext}
+use Rattle.fx_step.specs.Frame.{Samples}
+use Rattle.fx_step.specs.Holds.{held_sum, hold_sum, kinds}
+use Rattle.fx_step.specs.Stage.{Acts, Counts, kind, spent}
 use Rattle.fx_flow.specs.Parts.{AllDry, Joined, Matching, Within, any_spent}
 use Rattle.fx_flow.specs.Row.{AllHeld, CameTo, WentThrough}
-use Rattle.fx_frame.specs.Row.{AreReady}
+use Rattle.fx_step.specs.Row.{AreReady}
+use Rattle.fx_flow.proofs.Laws.{none_true}
 
 module _ {S R : Type 0} (acts : Acts S R) where
   -- together they hold no more than they may
@@ -106,16 +107,12 @@ module _ {S R : Type 0} (acts : Acts S R) where
   neither true b e = absurd (cc e)
   neither false true e = absurd (cc e)
 
-  not_over : (ended over : Bool) → (ended ≡ true → over ≡ true) → over ≡ false → ended ≡ false
-  not_over true over h e = let t = h refl in absurd (cc)
-  not_over false over h e = refl
-
   -- stages in a row that are dry, of which none was told the end or is spent, may be passed a frame
   pub AreReady-from : (channels taken most : ℕ) (over : Bool) (stages : List S) → over ≡ false → AllDry acts stages → any_spent acts stages ≡ false → Matching channels (kinds acts stages) → Within (kinds acts stages) most → Joined acts taken over stages
       → AreReady acts channels taken most stages
   AreReady-from channels taken most over [] going dry unspent match within joined = tt
   AreReady-from channels taken most over (s ∷ stages) going dry unspent match within joined =
-      let open_ = not_over _ _ joined.1 going in
+      let open_ = none_true _ _ joined.1 going in
       let both = neither (spent acts s) (any_spent acts stages) unspent in
       (dry.0, open_, both.0, sym match.0, joined.0, within.0, AreReady-from (kind acts s).outputs (acts.counts s).given ((kind acts s).most most) ((acts.counts s).ended && acts.dry s) stages (rw open_ refl) dry.1 both.1 match.1 within.1 joined.3)
 

@@ -6,19 +6,19 @@ use Rattle.std.specs.List.{All}
 use Rattle.std.proofs.lemmas.List.{append-nil, append_assoc, drop-drop, drop-take, drop_all, length-append, length-drop, length-take-le, take-take, take_all, take_at}
 use Rattle.std.proofs.lemmas.List.Elements.{All-drop, All-take}
 use Rattle.std.proofs.Math.Nat.{div-mul-le_self, mul-le-mul_right, suc-mul}
-use Rattle.fx_frame.specs.Feed.{GaveNext, TookNext}
-use Rattle.fx_frame.specs.Frame.{IsFrame, Samples}
-use Rattle.fx_frame.specs.Holds.{kinds, recipes}
-use Rattle.fx_frame.specs.Ring.{pieces}
-use Rattle.fx_frame.specs.Stage.{Acts, Counts, IsDry, Kind, is_enough, kind, spent}
-use Rattle.fx_frame.specs.Row.{AreReady, outputs_of}
+use Rattle.fx_step.specs.Feed.{GaveNext, TookNext}
+use Rattle.fx_step.specs.Frame.{IsFrame, Samples}
+use Rattle.fx_step.specs.Holds.{kinds, recipes}
+use Rattle.fx_lists.specs.Lists.{pieces}
+use Rattle.fx_step.specs.Stage.{Acts, Counts, IsDry, Kind, is_enough, kind, spent}
+use Rattle.fx_step.specs.Row.{AreReady, outputs_of}
 use Rattle.fx_flow.specs.Parts.{AllDry, AllSettled, any_spent, ended_of, moves_of}
 use Rattle.fx_flow.specs.Row.{AllHeld, CameTo, WentThrough}
 use Rattle.fx_flow.specs.Runs.{AllAhead, AllKeep, MayRun, MayRunRow, RanOn, flow_of}
 use Rattle.fx_flow.specs.Sound.{IsSound, most_frames}
 use Rattle.fx_flow.specs.declared.runs.Widths.{Widths}
 use Rattle.fx_flow.proofs.Feeding.{Turned, Turned-kept, Turned-none, Turned-through}
-use Rattle.fx_frame.proofs.Pieces.{length-pieces}
+use Rattle.fx_lists.proofs.Pieces.{length-pieces}
 use Rattle.fx_flow.proofs.Handing.{AllSettled-dry}
 use Rattle.fx_flow.proofs.Rows.{AreReady-from}
 use Rattle.fx_flow.proofs.RowSteps.{passed-row}

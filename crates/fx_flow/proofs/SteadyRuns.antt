@@ -6,15 +6,14 @@ use Rattle.std.specs.List.{All}
 use Rattle.std.proofs.lemmas.List.{drop-take, drop_at, length-append, length-drop, length-take-le, take-take, take_at}
 use Rattle.std.proofs.lemmas.List.Elements.{All-drop, All-take}
 use Rattle.std.proofs.Math.Nat.{add-mul, mul-le-mul_right}
-use Rattle.fx_frame.specs.Frame.{Samples}
-use Rattle.fx_frame.specs.Holds.{kinds}
-use Rattle.fx_frame.specs.Ring.{pieces}
-use Rattle.fx_frame.specs.Row.{AreReady, RowThrough}
-use Rattle.fx_frame.specs.Stage.{Acts}
-use Rattle.fx_frame.proofs.Evenly.{put-between, put-long}
-use Rattle.fx_frame.proofs.FeedParts.{pieces-split}
-use Rattle.fx_frame.proofs.Feeding.{drop-put, pieces-same, pieces-take}
-use Rattle.fx_frame.proofs.Pieces.{length-pieces, pieces-front}
+use Rattle.fx_step.specs.Frame.{Samples}
+use Rattle.fx_step.specs.Holds.{kinds}
+use Rattle.fx_lists.specs.Lists.{pieces}
+use Rattle.fx_step.specs.Row.{AreReady, RowThrough}
+use Rattle.fx_step.specs.Stage.{Acts}
+use Rattle.fx_step.proofs.Evenly.{put-between, put-long}
+use Rattle.fx_lists.proofs.Puts.{pieces-split, drop-put, pieces-same, pieces-take}
+use Rattle.fx_lists.proofs.Pieces.{length-pieces, pieces-front}
 use Rattle.fx_flow.specs.Feed.{untouched}
 use Rattle.fx_flow.specs.Parts.{AllSettled}
 use Rattle.fx_flow.specs.Row.{AllHeld}

@@ -1,8 +1,8 @@
 -- Effects in a row, each of which takes what the one before gives, by their definitions alone (this project's profile).
 use Rattle.std.specs.Prelude.{ℕ, Bool, false, ◌||◌, List, [], ◌∷◌, length, map}
-use Rattle.fx_frame.specs.Frame.{Samples}
-use Rattle.fx_frame.specs.Holds.{total}
-use Rattle.fx_frame.specs.Stage.{Given, Kind, is_enough}
+use Rattle.fx_step.specs.Frame.{Samples}
+use Rattle.fx_step.specs.Holds.{total}
+use Rattle.fx_step.specs.Stage.{Given, Kind, is_enough}
 
 -- the frames without their clips
 abbrev pub frames_of : List Given → List Samples

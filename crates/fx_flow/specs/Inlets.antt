@@ -1,7 +1,7 @@
 -- The inlet of a flow, read again (this project's profile).
 use Rattle.std.specs.Prelude.{ℕ, ◌+◌, ◌≤◌, true, None, List, ◌≡◌, length, option_to_list}
-use Rattle.fx_frame.specs.Frame.{Samples}
-use Rattle.fx_frame.specs.Frozen.{IsHand}
+use Rattle.fx_step.specs.Frame.{Samples}
+use Rattle.fx_step.specs.Hand.{IsHand}
 use Rattle.fx_flow.specs.Sound.{most_frames}
 use Rattle.fx_flow.specs.Frozen.{inlet_numbers}
 use Rattle.fx_flow.specs.declared.frozen.Inlet.{Inlet}

@@ -1,7 +1,7 @@
 -- One frame on its way from a stage, or from the inlet, to the next stage, or out (this project's profile).
 use Rattle.std.specs.Prelude.{ℕ, zero, suc, Option, Some, None, List, ◌≡◌}
-use Rattle.fx_frame.specs.Frame.{Samples}
-use Rattle.fx_frame.specs.Stage.{Acts}
+use Rattle.fx_step.specs.Frame.{Samples}
+use Rattle.fx_step.specs.Stage.{Acts}
 use Rattle.fx_flow.specs.Parts.{CanHandOver, CanFeed, GaveAt, HandedOver, Fed}
 
 module _ {S R : Type 0} (acts : Acts S R) where

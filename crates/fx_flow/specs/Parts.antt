@@ -1,7 +1,7 @@
 use Rattle.std.specs.Prelude.{ℕ, zero, suc, ◌+◌, ◌<◌, ◌≤◌, Bool, true, false, ◌&&◌, ◌||◌, List, [], ◌∷◌, ◌≡◌, length, Option, Some, None, option_to_list, cond}
-use Rattle.fx_frame.specs.Frame.{Samples}
-use Rattle.fx_frame.specs.Stage.{Kind, Acts, IsNew, Gave, Took, Ended, IsDry, kind, spent}
-use Rattle.fx_frame.specs.Holds.{total}
+use Rattle.fx_step.specs.Frame.{Samples}
+use Rattle.fx_step.specs.Stage.{Kind, Acts, IsNew, Gave, Took, Ended, IsDry, kind, spent}
+use Rattle.fx_step.specs.Holds.{total}
 use Rattle.fx_flow.specs.Composed.{Whole, clips_of, frames_of}
 
 -- Stages in a row, each of which takes what the one before gives (this project's profile).

@@ -1,8 +1,8 @@
 -- A frame that goes through stages in a row, one after another (this project's profile).
 use Rattle.std.specs.Prelude.{ℕ, zero, suc, ◌≡◌, ◌⊎◌, List, [], ◌∷◌, Option, Some, None}
-use Rattle.fx_frame.specs.Feed.{GaveNext, IsHeld, TookNext}
-use Rattle.fx_frame.specs.Frame.{Samples}
-use Rattle.fx_frame.specs.Stage.{Acts}
+use Rattle.fx_step.specs.Feed.{GaveNext, IsHeld, TookNext}
+use Rattle.fx_step.specs.Frame.{Samples}
+use Rattle.fx_step.specs.Stage.{Acts}
 
 module _ {S R : Type 0} (acts : Acts S R) where
   -- each holds no more frames than it may

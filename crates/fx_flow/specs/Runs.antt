@@ -1,12 +1,12 @@
 -- Frames that go through stages in a row one after another, with nothing asked between two of them (this project's profile).
 use Rattle.std.specs.Prelude.{ℕ, ℤ, ◌+◌, ◌*◌, ◌<◌, ◌≤◌, ◌≡◌, true, false, None, List, [], ◌∷◌, drop, length}
-use Rattle.fx_frame.specs.Feed.{IsSteady}
-use Rattle.fx_frame.specs.Frame.{Samples}
-use Rattle.fx_frame.specs.Holds.{kinds}
-use Rattle.fx_frame.specs.Ring.{pieces}
-use Rattle.fx_frame.specs.Row.{outputs_of}
-use Rattle.fx_frame.specs.Stage.{Acts, Kind, is_enough, kind}
-use Rattle.fx_frame.specs.declared.feed.Passed.{Passed}
+use Rattle.fx_step.specs.Feed.{IsSteady}
+use Rattle.fx_step.specs.Frame.{Samples}
+use Rattle.fx_step.specs.Holds.{kinds}
+use Rattle.fx_lists.specs.Lists.{pieces}
+use Rattle.fx_step.specs.Row.{outputs_of}
+use Rattle.fx_step.specs.Stage.{Acts, Kind, is_enough, kind}
+use Rattle.fx_step.specs.declared.feed.Passed.{Passed}
 use Rattle.fx_flow.specs.Feed.{FlowFed, FlowGave}
 use Rattle.fx_flow.specs.Parts.{AllSettled, Parts, ended_of, moves_of}
 use Rattle.fx_flow.specs.Row.{AllHeld}

@@ -1,7 +1,7 @@
 use Rattle.std.specs.Prelude.{ℕ, ◌+◌, ◌<◌, ◌≤◌, ◌^◌, true, List, ◌≡◌, None}
-use Rattle.fx_frame.specs.Frozen.{IsHand}
-use Rattle.fx_frame.specs.Stage.{Acts, Kind}
-use Rattle.fx_frame.specs.Holds.{kinds, hold_sum}
+use Rattle.fx_step.specs.Hand.{IsHand}
+use Rattle.fx_step.specs.Stage.{Acts, Kind}
+use Rattle.fx_step.specs.Holds.{kinds, hold_sum}
 use Rattle.fx_flow.specs.Parts.{Parts, taken_of, Matching, Within, work, Joined}
 
 -- the most frames that a flow takes

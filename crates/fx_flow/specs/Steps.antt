@@ -1,8 +1,8 @@
 -- What a step does to stages in a row (this project's profile).
 use Rattle.std.specs.Prelude.{ℕ, ◌+◌, ◌≤◌, true, false, List, [], ◌∷◌, ◌++◌, ◌≡◌, ◌⊎◌, length, Option, Some, None, option_to_list}
-use Rattle.fx_frame.specs.Frame.{Samples}
-use Rattle.fx_frame.specs.Stage.{Acts}
-use Rattle.fx_frame.specs.Holds.{recipes, kinds}
+use Rattle.fx_step.specs.Frame.{Samples}
+use Rattle.fx_step.specs.Stage.{Acts}
+use Rattle.fx_step.specs.Holds.{recipes, kinds}
 use Rattle.fx_flow.specs.Parts.{Parts, taken_of, work, moves_of, ended_of, through, wholes, AllDry, AllSettled, AllEnded, IsLastWet, IsFirstOpen, HandedOver, Fed, EndPassed, given_by}
 use Rattle.fx_flow.specs.Composed.{Whole}
 use Rattle.fx_flow.specs.declared.flow.State.{State}

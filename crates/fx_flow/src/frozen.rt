@@ -1,17 +1,17 @@
 ghost use Rattle.std.specs.Prelude.{◌≡◌, ◌<◌, ◌≤◌, ◌+◌, ◌++◌, ◌↔◌, ℕ, true, List, length, take, IfOk, OnOk, Err, MatchResult, drop, IfErr, option_to_list};
 ghost use Rattle.std.specs.List.{All};
-ghost use Rattle.fx_frame.specs.Frame.{Samples};
-ghost use Rattle.fx_frame.specs.Stage.{Acts};
+ghost use Rattle.fx_step.specs.Frame.{Samples};
+ghost use Rattle.fx_step.specs.Stage.{Acts};
 ghost use Rattle.fx_flow.specs.Parts.{Joined};
 ghost use Rattle.fx_flow.specs.Frozen.{stored_all, numbers_all, AllMade, AllSound};
 ghost use Rattle.fx_flow.specs.Inlets.{IsInlet};
 ghost use Rattle.fx_flow.specs.declared.frozen.Inlet.{Inlet};
 
 use crate::flow::MOST_FRAMES;
-use fx_frame::frame::Frame;
-use fx_frame::frozen::thawed_hand;
-use fx_frame::stage::{Stage, ThawFault, Thaws};
-use fx_frame::wide::WideFrame;
+use fx_step::frame::Frame;
+use fx_step::hand::thawed_hand;
+use fx_step::stage::{Stage, ThawFault, Thaws};
+use fx_step::wide::WideFrame;
 use std::alloc::{AllocError, Global};
 
 /// The place of the frames held among the eight numbers of an inlet or a stage.

@@ -1,17 +1,17 @@
 //! Frames that go through stages one after another, with nothing asked between two of them.
 ghost use Rattle.std.specs.Prelude.{◌≡◌, ◌<◌, ◌≤◌, ℕ, Some, None, true, false, take, if◌then◌else◌};
-ghost use Rattle.fx_frame.specs.Row.{AreReady, outputs_of};
+ghost use Rattle.fx_step.specs.Row.{AreReady, outputs_of};
 ghost use Rattle.fx_flow.specs.Parts.{AllSettled};
 ghost use Rattle.fx_flow.specs.Row.{WentThrough};
 ghost use Rattle.fx_flow.specs.Runs.{AllAhead, AllKeep, MayRunRow, RanRow};
-ghost use Rattle.fx_frame.specs.Feed.{PassedOn};
-ghost use Rattle.fx_frame.specs.Holds.{kinds};
-ghost use Rattle.fx_frame.specs.Stage.{IsDry, kind, spent};
+ghost use Rattle.fx_step.specs.Feed.{PassedOn};
+ghost use Rattle.fx_step.specs.Holds.{kinds};
+ghost use Rattle.fx_step.specs.Stage.{IsDry, kind, spent};
 
 use crate::steady::{least_steady, run_steadily};
-use fx_frame::feed::{copy_samples, see_samples};
-use fx_frame::stage::Stage;
-use fx_frame::{Feeds, Passed, Passing};
+use fx_step::feed::{copy_samples, see_samples};
+use fx_step::stage::Stage;
+use fx_step::{Feeds, Passed, Passing};
 
 /// What became of a frame that was passed through stages.
 #[derive(Clone, Copy)]

@@ -1,14 +1,14 @@
 //! Frames that go through stages a few at a time, as long as each stage gives one frame for each that it takes.
 ghost use Rattle.std.specs.Prelude.{◌≡◌, ◌+◌, ◌*◌, ◌≤◌, ℕ, drop, length};
-ghost use Rattle.fx_frame.specs.Holds.{kinds};
-ghost use Rattle.fx_frame.specs.Ring.{pieces};
-ghost use Rattle.fx_frame.specs.Row.{AreReady, RowThrough};
+ghost use Rattle.fx_step.specs.Holds.{kinds};
+ghost use Rattle.fx_lists.specs.Lists.{pieces};
+ghost use Rattle.fx_step.specs.Row.{AreReady, RowThrough};
 ghost use Rattle.fx_flow.specs.Parts.{AllSettled};
 ghost use Rattle.fx_flow.specs.Row.{AllHeld};
 ghost use Rattle.fx_flow.specs.Runs.{AllAhead, AllKeep, AllSteady, MayRun, RanOn};
 
-use fx_frame::Feeds;
-use fx_frame::feed::see_samples;
+use fx_step::Feeds;
+use fx_step::feed::see_samples;
 
 /// For how many frames more, at most so many, each stage gives one for each.
 pub fn least_steady<S: Feeds>(stages: &[S], most: usize) -> usize

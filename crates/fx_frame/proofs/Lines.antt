@@ -5,9 +5,9 @@ use Rattle.std.specs.List.{All}
 use Rattle.std.proofs.lemmas.Bool.{cases_lt}
 use Rattle.std.proofs.lemmas.List.Elements.{All-head, All-push, All-drop}
 use Rattle.std.proofs.lemmas.Option.{same_Some, slice_get-get_or}
-use Rattle.fx_frame.specs.Line.{Frames, pushed, pushed_out, IsLineOf, from_newest}
+use Rattle.fx_ring.specs.Line.{Frames, pushed, pushed_out, IsLineOf, from_newest}
 use Rattle.std.proofs.lemmas.List.{get_or_past}
-use Rattle.fx_frame.specs.Ring.{IsShaped}
+use Rattle.fx_ring.specs.Ring.{IsShaped}
 
 -- what `map` gives, where the function always gives f
 pub mapped : {A B : Type 0} (f : A → B) (o : Option A) (m : Option B) → MatchOption o (m ≡ None) (λ x. IsSomeAnd m (λ y. y ≡ f x)) → m ≡ option_map f o

@@ -1,12 +1,9 @@
 -- What a stage stores and counts, read again. Source: this project's profile.
-use Rattle.std.specs.Prelude.{ℕ, ℤ, List, ◌++◌, Option, Some, length, option_to_list, ◌≡◌}
+use Rattle.std.specs.Prelude.{ℕ, ℤ, List, ◌++◌, Option, length, option_to_list, ◌≡◌}
 use Rattle.std.specs.Int.{w32}
-use Rattle.fx_frame.specs.Frame.{Samples, IsFrame}
-use Rattle.fx_frame.specs.Line.{Frames, IsLine}
-
--- a frame in hand, if there is one, has so many channels
-abbrev pub IsHand : ℕ → Option Samples → Type 0
-IsHand channels hand = (x : Samples) → hand ≡ Some x → IsFrame x × (length x ≡ channels)
+use Rattle.fx_step.specs.Frame.{Samples}
+use Rattle.fx_step.specs.Hand.{IsHand}
+use Rattle.fx_ring.specs.Line.{Frames, IsLine}
 
 -- the line of so many channels and places that holds these frames
 abbrev pub line_of : ℕ → ℕ → List Samples → Frames ℤ

@@ -1,25 +1,15 @@
 //! What a stage stores, frame by frame, and what it stored, read again.
 ghost use Rattle.std.specs.Prelude.{◌≡◌, ◌<◌, ◌≤◌, ◌^◌, ◌++◌, ◌⊎◌, [], ℤ, IfOk, IfErr, Option, length, option_to_list, slice_index_or};
 ghost use Rattle.std.specs.Int.{w32, w64};
-ghost use Rattle.fx_frame.specs.Frame.{Samples};
-ghost use Rattle.fx_frame.specs.Line.{Frames, IsLine};
-ghost use Rattle.fx_frame.specs.Frozen.{IsHand, IsStored, line_of};
+ghost use Rattle.fx_step.specs.Frame.{Samples};
+ghost use Rattle.fx_ring.specs.Line.{Frames, IsLine};
+ghost use Rattle.fx_step.specs.Hand.{IsHand};
+ghost use Rattle.fx_frame.specs.Frozen.{IsStored, line_of};
 
-use crate::frame::Frame;
-use crate::inner::narrowed;
 use crate::line::{Line, WideLine};
-use crate::stage::ThawFault;
-use crate::wide::WideFrame;
+use fx_step::hand::thawed_hand;
+use fx_step::{Frame, ThawFault, WideFrame};
 use std::alloc::Global;
-
-/// The frame that a stage without a line stores at a place, from 0: the one in hand.
-pub fn stored_hand(hand: Option<Frame>, _place: usize) -> WideFrame
-    requires { _place < length (option_to_list hand) }
-    ensures { result ≡ slice_index_or (option_to_list hand) _place [] }
-{
-    let Some(frame) = hand else { unreachable!() };
-    WideFrame::from_frame(frame)
-}
 
 /// The frame that a stage stores at a place, from 0: those of its line from the oldest on, and then the one in hand.
 pub fn stored_in(line: &Line, hand: Option<Frame>, place: usize) -> WideFrame
@@ -29,27 +19,6 @@ pub fn stored_in(line: &Line, hand: Option<Frame>, place: usize) -> WideFrame
     match line.get(place).or(hand) {
         Some(frame) => WideFrame::from_frame(frame),
         None => unreachable!(),
-    }
-}
-
-/// The frame in hand of a stage that stored these frames and has no line. BadSnapshot where there is
-/// more than one frame, or one of other channels or of wider samples.
-pub fn thawed_hand(frames: &[WideFrame], channels: usize) -> Result<Option<Frame>, ThawFault>
-    ensures found { IfOk result (λ hand. (frames.now ≡ option_to_list hand) × IsHand channels hand) }
-    ensures refused { IfErr result (λ e. (e ≡ ThawFault.BadSnapshot) × ((hand : Option Samples) → frames.now ≡ option_to_list hand → IsHand channels hand → ⊥)) }
-{
-    match frames {
-        [] => Ok(None),
-        [only] => {
-            let Some(frame) = narrowed(only) else {
-                return Err(ThawFault::BadSnapshot);
-            };
-            if frame.channels() != channels {
-                return Err(ThawFault::BadSnapshot);
-            }
-            Ok(Some(frame))
-        }
-        _ => Err(ThawFault::BadSnapshot),
     }
 }
 
@@ -75,7 +44,7 @@ pub fn thawed_line(
         return Err(ThawFault::Memory);
     };
     'frames: for frame in frames {
-        let Some(narrow) = narrowed(frame) else {
+        let Some(narrow) = frame.narrowed() else {
             return Err(ThawFault::BadSnapshot);
         };
         if narrow.channels() != channels {

@@ -4,7 +4,7 @@ use Rattle.fx_line.specs.declared.line.Shape.{Shape}
 use Rattle.fx_line.specs.declared.line.Shape.TheVariants.{NoDither, Typed, Depth, Unknown, Name}
 use Rattle.fx_line.specs.declared.line.Options.{Options}
 use Rattle.fx_line.specs.declared.bits.Bits.{Bits}
-use Rattle.fx_sound.specs.declared.head.Kind.{Kind}
+use Rattle.fx_heads.specs.declared.head.Kind.{Kind}
 use Rattle.fx_line.specs.Line.{shape_of, kind_of, bits_of, front_of}
 
 pub front_past_dither : (b : Bool) (set : Options) (word : List ℕ) (words : List (List ℕ)) → NoDither ≡ shape_of word → front_of b set (word ∷ words) ≡ front_of b set words

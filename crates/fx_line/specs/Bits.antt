@@ -1,8 +1,8 @@
 -- The codings of a container by the bits of a sample (RIFF WAVE, Sun AU; this project's profile).
-use Rattle.fx_frame.specs.declared.coding.Coding.{Coding}
-use Rattle.fx_frame.specs.declared.coding.Coding.TheVariants.{U8, S8, S16Le, S16Be, S24Le, S24Be, S32Le, S32Be}
-use Rattle.fx_sound.specs.declared.head.Kind.{Kind}
-use Rattle.fx_sound.specs.declared.head.Kind.TheVariants.{Wav, Au}
+use Rattle.fx_io.specs.declared.coding.Coding.{Coding}
+use Rattle.fx_io.specs.declared.coding.Coding.TheVariants.{U8, S8, S16Le, S16Be, S24Le, S24Be, S32Le, S32Be}
+use Rattle.fx_heads.specs.declared.head.Kind.{Kind}
+use Rattle.fx_heads.specs.declared.head.Kind.TheVariants.{Wav, Au}
 use Rattle.fx_line.specs.declared.bits.Bits.{Bits}
 use Rattle.fx_line.specs.declared.bits.Bits.TheVariants.{Eight, Sixteen, TwentyFour, ThirtyTwo}
 

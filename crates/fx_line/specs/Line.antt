@@ -2,8 +2,8 @@
 -- `[-D] [-t wav|au] IN|- [-D] [-t wav|au] [-b 8|16|24|32] OUT|- [EFFECT [WORD ..] ..]`.
 use Rattle.std.specs.Prelude.{ℕ, Bool, true, false, ◌||◌, if◌then◌else◌, List, [], ◌∷◌, map, take, codes, drop, length, ◌-◌, Option, Some, None, Result, Ok, Err, string_bytes, String}
 use Rattle.std.specs.Str.{bytes_eq, str_eq_ignore_ascii_case}
-use Rattle.fx_sound.specs.declared.head.Kind.{Kind}
-use Rattle.fx_sound.specs.declared.head.Kind.TheVariants.{Wav, Au}
+use Rattle.fx_heads.specs.declared.head.Kind.{Kind}
+use Rattle.fx_heads.specs.declared.head.Kind.TheVariants.{Wav, Au}
 use Rattle.fx_line.specs.declared.bits.Bits.{Bits}
 use Rattle.fx_line.specs.declared.bits.Bits.TheVariants.{Eight, Sixteen, TwentyFour, ThirtyTwo}
 use Rattle.fx_line.specs.declared.line.Shape.{Shape}

@@ -1,6 +1,6 @@
 //! How many bits a sample of the output has.
 ghost use Rattle.std.specs.Prelude.{◌≡◌, IsTrue};
-ghost use Rattle.fx_sound.specs.Kind.{is_coding_of};
+ghost use Rattle.fx_heads.specs.Kind.{is_coding_of};
 ghost use Rattle.fx_line.specs.Bits.{au_coding, bits_in, coding_with, wav_coding};
 
 use fx_frame::Coding;

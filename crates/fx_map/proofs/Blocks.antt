@@ -4,19 +4,19 @@ use Rattle.std.specs.Prelude.{ℤ, None, Option, Some, is_none, true}
 use Rattle.std.specs.List.{All}
 use Rattle.std.proofs.lemmas.List.Elements.{All-head, All-tail}
 use Rattle.std.proofs.lemmas.List.{map-append, length-map, length-take-le}
-use Rattle.fx_frame.specs.declared.feed.Passing.TheVariants.{Through}
-use Rattle.fx_frame.specs.Feed.{Fed, GaveNext, PassedOn, TookNext, nothing, taken, given}
-use Rattle.fx_frame.specs.Frame.{Samples}
-use Rattle.fx_frame.specs.Ring.{pieces}
-use Rattle.fx_frame.specs.Row.{EachThrough}
-use Rattle.fx_frame.specs.Stage.{Acts, Given, IsDry}
-use Rattle.fx_frame.proofs.FedLaws.{Fed-then, total-append}
-use Rattle.fx_frame.proofs.Feeding.{pieces-take}
-use Rattle.fx_frame.proofs.Pieces.{length-pieces, pieces-front}
+use Rattle.fx_step.specs.declared.feed.Passing.TheVariants.{Through}
+use Rattle.fx_step.specs.Feed.{Fed, GaveNext, PassedOn, TookNext, nothing, taken, given}
+use Rattle.fx_step.specs.Frame.{Samples}
+use Rattle.fx_lists.specs.Lists.{pieces}
+use Rattle.fx_step.specs.Row.{EachThrough}
+use Rattle.fx_step.specs.Stage.{Acts, Given, IsDry}
+use Rattle.fx_step.proofs.FedLaws.{Fed-then, total-append}
+use Rattle.fx_lists.proofs.Puts.{pieces-take}
+use Rattle.fx_lists.proofs.Pieces.{length-pieces, pieces-front}
 use Rattle.fx_map.specs.Mapped.{IsMapState, MapState, map_acts}
-use Rattle.fx_blocks.specs.Made.{clips_in, made_of, rounded_given}
-use Rattle.fx_frame.specs.Rounded.{samples_of}
-use Rattle.fx_blocks.proofs.SamplePieces.{pieces-samples, pieces-sides}
+use Rattle.fx_frame.specs.Made.{clips_in, made_of, rounded_given}
+use Rattle.fx_lists.specs.Rounded.{samples_of}
+use Rattle.fx_frame.proofs.SamplePieces.{pieces-samples, pieces-sides}
 
 -- the same where the samples are those of so many frames, and others lie behind
 pub pieces-rounded : (f : ℤ → ℤ × Bool) (size n : ℕ) (xs out behind new : List ℤ) → n * size ≤ length xs → out ≡ samples_of (map f (take (n * size) xs)) → new ≡ out ++ behind → pieces size n new ≡ made_of (rounded_given f) (pieces size n xs)

@@ -3,13 +3,13 @@ use Rattle.std.proofs.Common.{◌≡◌, ◌*◌, ◌≤◌, ◌∙◌, ℕ, Lis
 use Rattle.std.specs.Prelude.{ℤ}
 use Rattle.std.specs.List.{All}
 use Rattle.std.proofs.lemmas.List.{length-append, length-map, length-take-le, take_all}
-use Rattle.fx_frame.specs.Frame.{Samples}
-use Rattle.fx_frame.specs.Ring.{pieces}
-use Rattle.fx_frame.specs.Rounded.{clips_of, samples_of}
-use Rattle.fx_frame.proofs.Feeding.{pieces-take}
-use Rattle.fx_frame.proofs.Pieces.{length-pieces, pieces-front}
-use Rattle.fx_blocks.specs.Made.{clips_in, made_of, rounded_given}
-use Rattle.fx_blocks.proofs.SamplePieces.{clips-samples, pieces-samples, pieces-sides}
+use Rattle.fx_step.specs.Frame.{Samples}
+use Rattle.fx_lists.specs.Lists.{pieces}
+use Rattle.fx_lists.specs.Rounded.{clips_of, samples_of}
+use Rattle.fx_lists.proofs.Puts.{pieces-take}
+use Rattle.fx_lists.proofs.Pieces.{length-pieces, pieces-front}
+use Rattle.fx_frame.specs.Made.{clips_in, made_of, rounded_given}
+use Rattle.fx_frame.proofs.SamplePieces.{clips-samples, pieces-samples, pieces-sides}
 
 module _ (f h : ℤ → ℤ × Bool) where
   -- the second behind the first

@@ -1,11 +1,11 @@
 -- What a stage that maps each frame alone counted, where it froze.
 use Rattle.std.proofs.Common.{ℕ, ◌≡◌, ◌+◌, ◌*◌, ◌≤◌, Option, Some, None, List, length, refl, sym, ap, ◌∙◌}
 use Rattle.std.specs.Prelude.{nat_eq, option_to_list, slice_index_or}
-use Rattle.fx_frame.specs.Frame.{Samples}
-use Rattle.fx_frame.specs.Stage.{Freezes, Given}
+use Rattle.fx_step.specs.Frame.{Samples}
+use Rattle.fx_step.specs.Stage.{Freezes, Given}
 use Rattle.fx_map.specs.Mapped.{IsMapState, MapState, map_acts}
-use Rattle.fx_blocks.specs.Kinds.{most_taken}
-use Rattle.fx_sums.proofs.Counts.{flag-le, flag-of, flag-true}
+use Rattle.fx_frame.specs.Kinds.{most_taken}
+use Rattle.fx_frame.proofs.Counts.{flag-le, flag-of, flag-true}
 
 -- what holds of the eight numbers of a stage that stores so many frames
 pub record AreMapCounts (stored : ℕ) (ns : List ℕ) : Type 0 where

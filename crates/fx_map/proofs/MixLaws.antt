@@ -5,24 +5,23 @@ use Rattle.std.specs.Int.{w32}
 use Rattle.std.proofs.lemmas.Bool.{lt-ltb}
 use mathlib.Core.Path.{ap₂}
 use Rattle.std.proofs.lemmas.Int.{ints}
-use Rattle.std.proofs.lemmas.List.{drop_all}
+use Rattle.std.proofs.lemmas.List.{drop_all, get_or-map, length-map}
 use Rattle.std.proofs.lemmas.List.Sums.{sum_by-cons}
-use Rattle.fx_frame.specs.Frame.{Samples}
+use Rattle.fx_step.specs.Frame.{Samples}
 use Rattle.fx_map.specs.declared.remix.Contribution.{Contribution}
 use Rattle.std.specs.List.{All}
-use Rattle.std.proofs.lemmas.List.{get_or-map, length-map}
 use Rattle.std.proofs.lemmas.List.Elements.{All-head, All-tail}
 use Rattle.fx_fixed.specs.Rounding.{clipping, rounding, signed}
 use Rattle.fx_fixed.proofs.Reductions.{rounding-reduced}
 use Rattle.fx_fixed.specs.declared.gains.TheConstants.{UNIT}
 use Rattle.fx_fixed.specs.declared.weights.Weight.{Weight}
 use Rattle.fx_sums.specs.Weights.{Weights}
-use Rattle.fx_frame.specs.Lists.{tabulate}
+use Rattle.fx_lists.specs.Lists.{tabulate}
 use Rattle.fx_map.specs.Mix.{Copies, IsContribution, Means, Scales, all_parts, pair_of}
-use Rattle.fx_sums.specs.Products.{sum_of_products}
-use Rattle.fx_frame.specs.Rounded.{clips_of}
+use Rattle.fx_convolve.specs.Products.{sum_of_products}
+use Rattle.fx_lists.specs.Rounded.{clips_of}
 use Rattle.fx_sums.specs.SmallWeights.{SumsAs}
-use Rattle.fx_sums.proofs.Convolving.{Adding, Adding-next}
+use Rattle.fx_convolve.proofs.Convolving.{Adding, Adding-next}
 use Rattle.fx_sums.proofs.KernelLaws.{rounded-as}
 use Rattle.fx_map.specs.Remix.{mixed_parts, parts_of, remixed_sample}
 use Rattle.fx_map.specs.Vol.{scaled_sample}

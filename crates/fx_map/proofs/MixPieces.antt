@@ -2,20 +2,19 @@
 use Rattle.std.proofs.Common.{◌≡◌, ◌+◌, ◌*◌, ◌<◌, ◌≤◌, ◌^◌, ◌+ℤ◌, ◌*ℤ◌, unsigned_abs, ℕ, ℤ, suc, pos, List, [], ◌∷◌, length, get_or, map, refl, sym, ap, ◌∙◌, arith, add-zero, zero-add}
 use Rattle.std.proofs.lemmas.Int.{ints}
 use Rattle.std.proofs.lemmas.List.{get_or_past}
-use Rattle.fx_frame.specs.Frame.{Samples}
-use Rattle.fx_frame.specs.Ring.{pieces}
-use Rattle.fx_frame.proofs.Pieces.{get_or-piece, length-pieces}
+use Rattle.fx_step.specs.Frame.{Samples}
+use Rattle.fx_lists.specs.Lists.{pieces, tabulate}
+use Rattle.fx_lists.proofs.Pieces.{get_or-piece, length-pieces}
 use Rattle.fx_map.specs.declared.remix.Contribution.{Contribution}
-use Rattle.fx_frame.specs.Lists.{tabulate}
-use Rattle.fx_blocks.specs.Made.{clips_in, made_of}
+use Rattle.fx_frame.specs.Made.{clips_in, made_of}
 use Rattle.fx_map.specs.Mix.{pair_of}
 use Rattle.fx_map.specs.Remix.{Contributions, remixed_frame, remixed_sample}
-use Rattle.fx_frame.specs.Rounded.{clips_of, samples_of}
-use Rattle.fx_blocks.proofs.SamplePieces.{pieces-sides}
-use Rattle.fx_sums.proofs.Convolving.{Adding}
-use Rattle.fx_blocks.proofs.Tables.{all_clips, pieces-table, samples_of-tabulate, map-table}
+use Rattle.fx_lists.specs.Rounded.{clips_of, samples_of}
+use Rattle.fx_frame.proofs.SamplePieces.{pieces-sides}
+use Rattle.fx_convolve.proofs.Convolving.{Adding}
+use Rattle.fx_frame.proofs.Tables.{all_clips, pieces-table, samples_of-tabulate, map-table}
 use Rattle.fx_map.proofs.MixLaws.{gathered, mixing-next}
-use Rattle.fx_frame.proofs.Tabulate.{tabulate-same}
+use Rattle.fx_lists.proofs.Tabulate.{tabulate-same}
 
 -- the samples of a frame, channel by channel
 outs-table : (outs : List Contributions) (x : Samples) → map (λ o. remixed_sample o x) outs ≡ tabulate (λ k. remixed_sample (get_or outs k []) x) 0 (length outs)

@@ -9,8 +9,8 @@ use Rattle.fx_fixed.specs.Rounding.{clipping, nearest, nearest_natural}
 use Rattle.fx_fixed.proofs.Signs.{nearest-neg}
 use Rattle.fx_map.specs.Fractions.{IsProper}
 use Rattle.fx_map.proofs.Fractions.{not-clipped}
-use Rattle.fx_sums.proofs.SmallSums.{plain-product-64}
-use Rattle.fx_sums.proofs.SumLaws.{scaled-few}
+use Rattle.fx_convolve.proofs.SmallSums.{plain-product-64}
+use Rattle.fx_convolve.proofs.Magnitudes.{scaled-few}
 
 -- a shift by 31 places rounds down
 floors : (z : ℤ) → ((pos (2 ^ 31) *ℤ shr_z z (2 ^ 31)) ≤ℤ z) × (z <ℤ ((pos (2 ^ 31) *ℤ shr_z z (2 ^ 31)) +ℤ pos (2 ^ 31)))

@@ -3,11 +3,11 @@ use Rattle.std.proofs.Common.{◌≡◌, ℕ, suc, ◌+◌, ◌-◌, ◌*◌, �
 use Rattle.std.specs.Prelude.{nat_lt, ◌==◌}
 use Rattle.std.proofs.Math.Nat.{mul-add-div, div-eq_of_lt, div-add-mod'}
 use Rattle.std.proofs.lemmas.Bool.Decides.{nat_tests}
-use borrow.Author.Differences.{up, down, same_in, sum_is_lem, product_is}
 use Rattle.fx_map.specs.DcShiftState.{floor_of, over_of, steps_of, leaves_half, raised}
 use Rattle.std.proofs.lemmas.Int.{ints}
 use Rattle.fx_fixed.specs.Rounding.{nearest_natural, nearest, signed}
 use Rattle.fx_fixed.proofs.Signs.{nearest-neg, none_below_zero}
+use Rattle.fx_convolve.proofs.Numbers.{add-mul}
 
 -- a quotient whose rest is known
 quotient-is : (n u k rest : ℕ) → rest < u → n ≡ u * k + rest → n / u ≡ k
@@ -59,18 +59,6 @@ pub nearest-half_down : (m r q : ℕ) → r < q → 2 * r ≡ q → nearest ((ne
 nearest-half_down m r q l h =
     let one : suc m ≡ m + 1 = omega arith in
     ap (λ z. nearest z q) (sum-negative m r q l) ∙ nearest-neg ((m + 1) * q - r) q (omega arith) ∙ ap (signed true) (nearest_natural-lacks_little m r q (omega arith) (omega arith) ∙ sym one)
-
--- the law of products of sums
-pub add-mul : (a b x : ℤ) → (a +ℤ b) *ℤ x ≡ (a *ℤ x) +ℤ (b *ℤ x)
-add-mul a b x =
-    let sum = sum_is_lem a b in
-    let sum_up = ap (λ n. n * up x) sum in
-    let sum_down = ap (λ n. n * down x) sum in
-    let total = sum_is_lem (a *ℤ x) (b *ℤ x) in
-    let whole = product_is (a +ℤ b) x in
-    let first = product_is a x in
-    let second = product_is b x in
-    same_in ((a +ℤ b) *ℤ x) ((a *ℤ x) +ℤ (b *ℤ x)) (omega arith)
 
 -- units as whole steps and what is beyond them
 pub units-split : (q : ℕ) (units : ℤ) → 0 < q → units ≡ (floor_of q units *ℤ pos q) +ℤ pos (over_of q units)

@@ -1,7 +1,7 @@
 -- How the stages of `dcshift` behave, and a shift in whole steps and a half (this project's profile).
 use Rattle.std.specs.Prelude.{ℕ, ◌*◌, ◌==◌, nat_lt, ℤ, pos, ◌+ℤ◌, unsigned_abs, if◌then◌else◌, int_lt, Bool, not, ◌&&◌}
 use Rattle.std.specs.Int.{int_div_euclid, int_rem_euclid}
-use Rattle.fx_frame.specs.Stage.{Acts}
+use Rattle.fx_step.specs.Stage.{Acts}
 use Rattle.fx_map.specs.Mapped.{MapState}
 use Rattle.fx_map.specs.PerSample.{SampleArguments}
 use Rattle.fx_map.specs.PerSampleState.{sample_acts}

@@ -1,9 +1,9 @@
 -- A stage that maps each frame alone (this project's profile).
 use Rattle.std.specs.Prelude.{ℕ, ◌+◌, ◌*◌, ◌≤◌, ◌≡◌, Bool, true, List, ◌++◌, Option, length, map, option_to_list, is_none}
-use Rattle.fx_frame.specs.Frame.{Samples}
-use Rattle.fx_frame.specs.Frozen.{IsHand}
-use Rattle.fx_frame.specs.Stage.{Given, Acts, coming}
-use Rattle.fx_blocks.specs.Kinds.{map_kind, most_taken}
+use Rattle.fx_step.specs.Frame.{Samples}
+use Rattle.fx_step.specs.Hand.{IsHand}
+use Rattle.fx_step.specs.Stage.{Given, Acts, coming}
+use Rattle.fx_frame.specs.Kinds.{map_kind, most_taken}
 
 -- what such a stage stores
 pub record MapState (M : Type 0) : Type 0 where

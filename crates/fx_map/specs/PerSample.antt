@@ -1,7 +1,7 @@
 -- Effects that round each sample alone, the same in every channel (this project's profile).
 use Rattle.std.specs.Prelude.{ℕ}
-use Rattle.fx_frame.specs.Stage.{Kind}
-use Rattle.fx_blocks.specs.Kinds.{map_kind}
+use Rattle.fx_step.specs.Stage.{Kind}
+use Rattle.fx_frame.specs.Kinds.{map_kind}
 
 -- what such an effect is made with
 pub record SampleArguments (S : Type 0) : Type 0 where

@@ -1,9 +1,9 @@
 -- How the stages of effects behave that round each sample alone (this project's profile).
 use Rattle.std.specs.Prelude.{ℤ, Bool}
-use Rattle.fx_frame.specs.Stage.{Acts}
+use Rattle.fx_step.specs.Stage.{Acts}
 use Rattle.fx_map.specs.Mapped.{MapState, map_acts}
 use Rattle.fx_map.specs.PerSample.{SampleArguments}
-use Rattle.fx_blocks.specs.Made.{rounded_given}
+use Rattle.fx_frame.specs.Made.{rounded_given}
 
 -- how the stages of such an effect behave
 abbrev pub sample_acts : {S : Type 0} → (S → ℤ → ℤ × Bool) → Acts (MapState (SampleArguments S)) (SampleArguments S)

@@ -3,12 +3,12 @@
 use Rattle.std.specs.Prelude.{ℕ, ℤ, pos, ◌*◌, ◌+ℤ◌, ◌*ℤ◌, ◌≤◌, Bool, false, List, [], ◌∷◌, length, map, slice_index_or}
 use Rattle.fx_fixed.specs.Rounding.{rounding}
 use Rattle.fx_fixed.specs.declared.gains.TheConstants.{UNIT}
-use Rattle.fx_frame.specs.Frame.{Samples}
-use Rattle.fx_frame.specs.Stage.{Given as GivenFrame, Kind}
-use Rattle.fx_frame.specs.Rounded.{given_of}
+use Rattle.fx_step.specs.Frame.{Samples}
+use Rattle.fx_step.specs.Stage.{Given as GivenFrame, Kind}
+use Rattle.fx_step.specs.Given.{given_of}
 use Rattle.fx_fixed.specs.declared.weights.Weight.{Weight}
 use Rattle.fx_fixed.specs.declared.weights.Weight.TheVariants.{Given, Share, One}
-use Rattle.fx_blocks.specs.Kinds.{map_kind}
+use Rattle.fx_frame.specs.Kinds.{map_kind}
 
 -- channels of the input, from 0, each with its weight
 abbrev pub Contributions : Type 0

@@ -1,6 +1,6 @@
 -- How the stages of `remix` behave (this project's profile).
 use Rattle.std.specs.Prelude.{length}
-use Rattle.fx_frame.specs.Stage.{Acts}
+use Rattle.fx_step.specs.Stage.{Acts}
 use Rattle.fx_map.specs.Mapped.{MapState, map_acts}
 use Rattle.fx_map.specs.Remix.{remixed_frame, RemixArguments, remix_meaning}
 

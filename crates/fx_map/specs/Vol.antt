@@ -2,10 +2,10 @@
 use Rattle.std.specs.Prelude.{ℤ, ◌*ℤ◌, List, Bool, map}
 use Rattle.fx_fixed.specs.Rounding.{rounding}
 use Rattle.fx_fixed.specs.declared.gains.TheConstants.{UNIT}
-use Rattle.fx_frame.specs.Frame.{Samples}
-use Rattle.fx_frame.specs.Stage.{Given}
+use Rattle.fx_step.specs.Frame.{Samples}
+use Rattle.fx_step.specs.Stage.{Given}
 use Rattle.fx_map.specs.PerSample.{SampleArguments}
-use Rattle.fx_blocks.specs.Made.{rounded_given}
+use Rattle.fx_frame.specs.Made.{rounded_given}
 
 -- a sample times a gain in trillionths, rounded
 abbrev pub scaled_sample : ℤ → ℤ → ℤ × Bool

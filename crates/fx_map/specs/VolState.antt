@@ -1,6 +1,6 @@
 -- How the stages of `vol` behave (this project's profile).
 use Rattle.std.specs.Prelude.{ℤ}
-use Rattle.fx_frame.specs.Stage.{Acts}
+use Rattle.fx_step.specs.Stage.{Acts}
 use Rattle.fx_map.specs.Mapped.{MapState}
 use Rattle.fx_map.specs.PerSample.{SampleArguments}
 use Rattle.fx_map.specs.PerSampleState.{sample_acts}

@@ -3,15 +3,15 @@
 ghost use Rattle.std.specs.Prelude.{◌≡◌, ◌+◌, ◌*◌, ◌^◌, ◌≤◌, List, FitsSigned, None, false, drop, length, take};
 ghost use Rattle.std.specs.Int.{w32};
 ghost use Rattle.std.specs.List.{All};
-ghost use Rattle.fx_frame.specs.Frame.{Samples};
-ghost use Rattle.fx_frame.specs.Ring.{pieces};
-ghost use Rattle.fx_frame.specs.Row.{EachThrough};
-ghost use Rattle.fx_blocks.specs.Made.{clips_in, made_of};
+ghost use Rattle.fx_step.specs.Frame.{Samples};
+ghost use Rattle.fx_lists.specs.Lists.{pieces};
+ghost use Rattle.fx_step.specs.Row.{EachThrough};
+ghost use Rattle.fx_frame.specs.Made.{clips_in, made_of};
 ghost use Rattle.fx_map.specs.Mapped.{map_acts};
-ghost use Rattle.fx_blocks.specs.Kinds.{most_taken};
+ghost use Rattle.fx_frame.specs.Kinds.{most_taken};
 
 use crate::mapped::{Mapped, Mapping};
-use fx_frame::feed::see_samples;
+use fx_step::feed::see_samples;
 
 /// The channels of the frames that go in, and of those that come out.
 #[derive(Clone, Copy)]

@@ -2,11 +2,11 @@
 ghost use Rattle.std.specs.Prelude.{◌≡◌, ◌+◌, ◌*◌, ◌≤◌, ℕ, ℤ, List, FitsSigned, None, false, drop, length, map, take};
 ghost use Rattle.std.specs.Int.{w32};
 ghost use Rattle.std.specs.List.{All};
-ghost use Rattle.fx_frame.specs.Frame.{Samples};
-ghost use Rattle.fx_frame.specs.Ring.{pieces};
-ghost use Rattle.fx_frame.specs.Rounded.{clips_of, samples_of};
-ghost use Rattle.fx_frame.specs.Row.{EachThrough};
-ghost use Rattle.fx_blocks.specs.Kinds.{most_taken};
+ghost use Rattle.fx_step.specs.Frame.{Samples};
+ghost use Rattle.fx_lists.specs.Lists.{pieces};
+ghost use Rattle.fx_lists.specs.Rounded.{clips_of, samples_of};
+ghost use Rattle.fx_step.specs.Row.{EachThrough};
+ghost use Rattle.fx_frame.specs.Kinds.{most_taken};
 ghost use Rattle.fx_map.specs.PerSampleState.{sample_acts};
 
 use crate::mapped::{Mapped, Mapping};

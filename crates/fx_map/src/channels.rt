@@ -2,8 +2,8 @@
 ghost use Rattle.std.specs.Prelude.{◌≡◌, ◌<◌, ◌≤◌, ◌+◌, ◌-◌, ◌*◌, ◌^◌, ◌+ℤ◌, ◌*ℤ◌, ◌≤ℤ◌, false, ℕ, pos, neg_ℤ, length, slice_index_or, unsigned_abs, FitsSigned};
 ghost use Rattle.std.specs.Int.{w32};
 ghost use Rattle.fx_fixed.specs.Rounding.{rounding};
-ghost use Rattle.fx_frame.specs.Lists.{tabulate};
-ghost use Rattle.fx_frame.specs.Rounded.{clips_of};
+ghost use Rattle.fx_lists.specs.Lists.{tabulate};
+ghost use Rattle.fx_lists.specs.Rounded.{clips_of};
 
 use crate::per_sample::Sampling;
 

@@ -1,7 +1,7 @@
 //! The effect `dcshift` of sox(1): each sample plus a shift.
 ghost use Rattle.std.specs.Prelude.{◌≡◌, ◌*◌, ◌^◌, ◌≤◌, ℤ, unsigned_abs, Ok, IfOk, IfErr};
 ghost use Rattle.fx_fixed.specs.Rounding.{clipping};
-ghost use Rattle.fx_frame.specs.Stage.{Freezes, IsNew};
+ghost use Rattle.fx_step.specs.Stage.{Freezes, IsNew};
 ghost use Rattle.fx_map.specs.Mapped.{IsMapState, MapState};
 ghost use Rattle.fx_map.specs.PerSample.{SampleArguments};
 ghost use Rattle.fx_map.specs.DcShift.{shifted_sample};

@@ -1,14 +1,14 @@
 //! Effects that map each frame alone: one frame out for each frame in, and no line.
 ghost use Rattle.std.specs.Prelude.{◌≡◌, ◌≤◌, ◌*◌, ◌^◌, ℕ, drop, length, Ok, IfOk, IfErr};
-ghost use Rattle.fx_frame.specs.Frame.{Samples};
-ghost use Rattle.fx_frame.specs.Ring.{pieces};
-ghost use Rattle.fx_frame.specs.Stage.{Freezes, Given, IsNew};
-ghost use Rattle.fx_blocks.specs.Made.{clips_in, made_of};
+ghost use Rattle.fx_step.specs.Frame.{Samples};
+ghost use Rattle.fx_lists.specs.Lists.{pieces};
+ghost use Rattle.fx_step.specs.Stage.{Freezes, Given, IsNew};
+ghost use Rattle.fx_frame.specs.Made.{clips_in, made_of};
 
-use fx_frame::feed::{feed_by_frames, frame_at, put_frame};
-use fx_frame::frozen::{stored_hand, thawed_hand};
-use fx_frame::stage::MOST_TAKEN;
 use fx_frame::{Feeds, Frame, Passed, Passing, Stage, Tally, ThawFault, WideFrame};
+use fx_step::feed::{feed_by_frames, frame_at, put_frame};
+use fx_step::hand::{stored_hand, thawed_hand};
+use fx_step::stage::MOST_TAKEN;
 use std::marker::Model;
 
 /// What an effect makes of a frame, whatever came before it.
@@ -219,7 +219,7 @@ impl<M: Mapping + Drop> Mapped<M> {
 impl<M: Mapping + Drop> Mapped<M> {
     ghost use Rattle.std.specs.Prelude.{◌+◌, None};
     ghost use Rattle.fx_map.specs.Mapped.{IsMapState};
-    ghost use Rattle.fx_blocks.specs.Kinds.{most_taken};
+    ghost use Rattle.fx_frame.specs.Kinds.{most_taken};
 
     /// What it makes of a frame.
     #[inline(always)]

@@ -2,12 +2,11 @@
 ghost use Rattle.std.specs.Prelude.{◌≡◌, ◌≤◌, ℤ, Bool, FitsSigned, length, map, Ok, IfOk, IfErr};
 ghost use Rattle.std.specs.Int.{w32};
 ghost use Rattle.std.specs.List.{All};
-ghost use Rattle.fx_blocks.specs.Made.{rounded_given};
-ghost use Rattle.fx_frame.specs.Rounded.{clips_of, samples_of};
+ghost use Rattle.fx_frame.specs.Made.{rounded_given};
+ghost use Rattle.fx_lists.specs.Rounded.{clips_of, samples_of};
 
 use crate::both::{BothClips, rounded_by_both};
 use crate::mapped::{Mapped, Mapping, MapsMany};
-use fx_frame::inner::{frame_of, one, places};
 use fx_frame::{Frame, ThawFault, WideFrame};
 use std::marker::Model;
 
@@ -87,9 +86,9 @@ pub(crate) fn rounded_frame<S: Sampling>(sampling: &S, frame: Frame) -> (Frame, 
     let channels = frame.channels();
     if channels == 1 {
         let (sample, is_clipped) = sampling.round(frame.get(0));
-        return (one(sample), u64::from(is_clipped));
+        return (Frame::one(sample), u64::from(is_clipped));
     }
-    let samples = places(&frame);
+    let samples = frame.places();
     let mut out = [0; 16];
     let mut clips = 0;
     for channel in 0..channels {
@@ -97,7 +96,7 @@ pub(crate) fn rounded_frame<S: Sampling>(sampling: &S, frame: Frame) -> (Frame, 
         out[channel] = sample;
         clips += u64::from(is_clipped);
     }
-    (frame_of(channels, out), clips)
+    (Frame::of_first(channels, out), clips)
 }
 
 /// What an effect makes of each sample of many frames, and how many samples were clipped.
@@ -204,7 +203,7 @@ impl<S: SamplesMany + Drop> MapsMany for PerSample<S> {
 }
 
 impl<S: SamplesMany + Drop> Mapped<PerSample<S>> {
-    ghost use Rattle.fx_frame.specs.Stage.{Freezes, IsNew};
+    ghost use Rattle.fx_step.specs.Stage.{Freezes, IsNew};
     ghost use Rattle.fx_map.specs.Mapped.{IsMapState, MapState};
     ghost use Rattle.fx_map.specs.PerSample.{SampleArguments};
     ghost use Rattle.fx_map.specs.PerSampleState.{sample_acts};

@@ -1,13 +1,12 @@
 //! The effect `remix` of sox(1): each channel is a sum of channels, each times a weight.
 ghost use Rattle.std.specs.Prelude.{◌≡◌, ◌<◌, ◌≤◌, ◌+◌, ◌*◌, ◌^◌, [], ℕ, pos, map, drop, length, slice_index_or, sum_by, unsigned_abs, Err, IfOk, MatchResult};
-ghost use Rattle.fx_sums.specs.Products.{sum_of_products};
+ghost use Rattle.fx_convolve.specs.Products.{sum_of_products};
 ghost use Rattle.std.specs.List.{All};
-ghost use Rattle.fx_frame.specs.Stage.{Freezes, IsNew};
-ghost use Rattle.fx_frame.specs.Ring.{pieces};
-ghost use Rattle.fx_frame.specs.Lists.{tabulate};
+ghost use Rattle.fx_step.specs.Stage.{Freezes, IsNew};
+ghost use Rattle.fx_lists.specs.Lists.{pieces, tabulate};
 ghost use Rattle.fx_map.specs.Mapped.{IsMapState, MapState};
-ghost use Rattle.fx_blocks.specs.Made.{clips_in, made_of};
-ghost use Rattle.fx_frame.specs.Rounded.{clips_of};
+ghost use Rattle.fx_frame.specs.Made.{clips_in, made_of};
+ghost use Rattle.fx_lists.specs.Rounded.{clips_of};
 ghost use Rattle.fx_map.specs.Mix.{Fits, IsContribution, all_parts};
 ghost use Rattle.fx_map.specs.Remix.{RemixArguments, mixed_parts, parts_of, remixed_frame, remixed_sample};
 ghost use Rattle.fx_map.specs.RemixState.{remix_acts};
@@ -18,12 +17,11 @@ use crate::channels::{Place, Shape, add_channel, halved, place_channel, place_me
 use crate::mapped::{Mapped, Mapping, MapsMany};
 use crate::per_sample::Sampling;
 use crate::vol::Scale;
-use fx_blocks::round_channel;
 use fx_fixed::{OutSpec, UNIT, Weight, round_clip};
-use fx_frame::feed::copy_samples;
-use fx_frame::inner::{frame_of, samples};
 use fx_frame::{Frame, ThawFault, WideFrame};
+use fx_step::feed::copy_samples;
 use fx_sums::inner::sample_or_silence;
+use fx_sums::round_channel;
 use fx_sums::small::{Small, small_of};
 use std::alloc::{AllocError, Global};
 use std::marker::Model;
@@ -390,8 +388,8 @@ impl Mapping for Remixing {
     fn map(&self, frame: Frame) -> (Frame, u64) {
         let count = self.mixes.len();
         let mut out = [0; 16];
-        let clips = mixed_into(&self.mixes, samples(&frame), &mut out[..count]);
-        (frame_of(count, out), clips)
+        let clips = mixed_into(&self.mixes, frame.samples(), &mut out[..count]);
+        (Frame::of_first(count, out), clips)
     }
 
     #[inline(always)]

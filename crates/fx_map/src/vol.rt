@@ -1,8 +1,8 @@
 //! The effect `vol` of sox(1): each sample times a gain.
 ghost use Rattle.std.specs.Prelude.{◌≡◌, ◌<◌, ◌≤◌, ◌+◌, ◌*◌, ℕ, ℤ, pos, length, map, slice_index_or, Ok, IfOk, IfErr};
-ghost use Rattle.fx_frame.specs.Lists.{tabulate};
-ghost use Rattle.fx_frame.specs.Rounded.{clips_of, samples_of};
-ghost use Rattle.fx_frame.specs.Stage.{Freezes, IsNew};
+ghost use Rattle.fx_lists.specs.Lists.{tabulate};
+ghost use Rattle.fx_lists.specs.Rounded.{clips_of, samples_of};
+ghost use Rattle.fx_step.specs.Stage.{Freezes, IsNew};
 ghost use Rattle.fx_map.specs.Mapped.{IsMapState, MapState};
 ghost use Rattle.fx_map.specs.PerSample.{SampleArguments};
 ghost use Rattle.fx_map.specs.Fractions.{fraction_sample};

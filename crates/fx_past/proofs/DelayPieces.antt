@@ -1,15 +1,15 @@
 -- Frames whose channels are delayed, many of them made at once.
 use Rattle.std.proofs.Common.{◌≡◌, ◌+◌, ◌*◌, ◌<◌, ◌≤◌, ◌⊎◌, inl, inr, ℕ, ℤ, pos, List, ◌++◌, length, get_or, sym, ◌∙◌, arith, zero-add}
 use Rattle.std.specs.Prelude.{slice_index}
-use Rattle.fx_frame.specs.Frame.{Samples}
-use Rattle.fx_frame.specs.Ring.{pieces}
-use Rattle.fx_frame.specs.Stage.{Given}
+use Rattle.fx_step.specs.Frame.{Samples}
+use Rattle.fx_lists.specs.Lists.{pieces}
+use Rattle.fx_step.specs.Stage.{Given}
 use Rattle.fx_past.specs.Delay.{delayed_frame}
 use Rattle.fx_past.specs.DelayState.{delay_taps}
-use Rattle.fx_blocks.specs.Tapped.{frames_behind}
-use Rattle.fx_blocks.specs.Past.{sample_before}
-use Rattle.fx_blocks.proofs.Tables.{map-tabulate, pieces-table}
-use Rattle.fx_frame.proofs.Tabulate.{tabulate-same}
+use Rattle.fx_frame.specs.Tapped.{frames_behind}
+use Rattle.fx_frame.specs.Past.{sample_before}
+use Rattle.fx_frame.proofs.Tables.{map-tabulate, pieces-table}
+use Rattle.fx_lists.proofs.Tabulate.{tabulate-same}
 
 -- so many frames behind those of a line, sample by sample
 pub delay-frames : (delays : List ℕ) (items xs : List Samples) (n : ℕ) (out : List ℤ) → length xs ≡ n → n * length delays ≤ length out

@@ -8,22 +8,22 @@ use Rattle.std.proofs.lemmas.Bool.{cases_lt, le-leb, lt-leb}
 use Rattle.std.proofs.lemmas.List.{drop-drop, drop_all, drop_at, drop_more, get_or-append_right, get_or_append_left, get_or-replicate, length-replicate, take_all, take_at}
 use Rattle.std.proofs.lemmas.List.Elements.{All-append, All-cons, All-nil}
 use Rattle.std.proofs.Math.Nat.{add-mul}
-use Rattle.fx_frame.specs.Frame.{Samples, silence}
-use Rattle.fx_frame.specs.Holds.{total}
-use Rattle.fx_frame.specs.Line.{Frames, IsLine, pushed_all}
-use Rattle.fx_frame.specs.Ring.{pieces}
-use Rattle.fx_frame.specs.Stage.{Given}
-use Rattle.fx_frame.proofs.Feeding.{pieces-take}
-use Rattle.fx_frame.proofs.ManyFrames.{pieces-joined, pieces-replicate, replicate-front}
-use Rattle.fx_frame.proofs.Pieces.{length-pieces}
+use Rattle.fx_step.specs.Frame.{Samples, silence}
+use Rattle.fx_step.specs.Holds.{total}
+use Rattle.fx_ring.specs.Line.{Frames, IsLine, pushed_all}
+use Rattle.fx_lists.specs.Lists.{pieces, tabulate}
+use Rattle.fx_step.specs.Stage.{Given}
+use Rattle.fx_lists.proofs.Puts.{pieces-take}
+use Rattle.fx_ring.proofs.ManyFrames.{pieces-joined, pieces-replicate, replicate-front}
+use Rattle.fx_lists.proofs.Pieces.{length-pieces}
 use Rattle.fx_past.specs.Delay.{delayed_frame}
 use Rattle.fx_past.specs.DelayState.{delay_taps}
-use Rattle.fx_frame.specs.Lists.{plain, tabulate}
-use Rattle.fx_blocks.proofs.Tables.{map-tabulate}
-use Rattle.fx_blocks.specs.Tapped.{clips_behind, frames_behind, last_of}
-use Rattle.fx_blocks.specs.Past.{sample_before}
-use Rattle.fx_blocks.proofs.SamplePieces.{pieces-sides}
-use Rattle.fx_frame.proofs.Tabulate.{tabulate-replicate, tabulate-same}
+use Rattle.fx_step.specs.Given.{plain}
+use Rattle.fx_frame.proofs.Tables.{map-tabulate}
+use Rattle.fx_frame.specs.Tapped.{clips_behind, frames_behind, last_of}
+use Rattle.fx_frame.specs.Past.{sample_before}
+use Rattle.fx_frame.proofs.SamplePieces.{pieces-sides}
+use Rattle.fx_lists.proofs.Tabulate.{tabulate-replicate, tabulate-same}
 use borrow.Rule.Slice.PartMut.{put_mid}
 
 -- ---- what is written

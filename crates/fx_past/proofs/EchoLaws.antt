@@ -6,11 +6,11 @@ use Rattle.std.proofs.lemmas.Int.{ints}
 use Rattle.std.proofs.lemmas.List.{drop_all}
 use Rattle.fx_fixed.specs.Rounding.{rounding}
 use Rattle.fx_fixed.specs.declared.gains.TheConstants.{UNIT}
-use Rattle.fx_frame.specs.Frame.{Samples}
-use Rattle.fx_frame.specs.Lists.{tabulate}
+use Rattle.fx_step.specs.Frame.{Samples}
+use Rattle.fx_lists.specs.Lists.{tabulate}
 use Rattle.fx_past.specs.Echo.{EchoArguments, echo_sum, echoed_sample, echoes_of}
-use Rattle.fx_blocks.specs.Past.{Past, sample_before}
-use Rattle.fx_frame.proofs.Tabulate.{tabulate-same}
+use Rattle.fx_frame.specs.Past.{Past, sample_before}
+use Rattle.fx_lists.proofs.Tabulate.{tabulate-same}
 use Rattle.fx_sums.proofs.SumLaws.{add-next}
 
 -- the frame that comes after those of the line is the one that is 0 frames ago

@@ -4,22 +4,21 @@ use Rattle.std.specs.Prelude.{nat_le}
 use Rattle.std.proofs.lemmas.Bool.{cases_lt, le-leb, lt-leb}
 use Rattle.std.proofs.lemmas.List.{get_or-append-add, get_or_append_left, get_or-take}
 use Rattle.fx_fixed.specs.Rounding.{rounding}
-use Rattle.fx_frame.specs.Frame.{Samples}
-use Rattle.fx_frame.specs.Holds.{total}
-use Rattle.fx_frame.specs.Line.{Frames, latest_frames}
-use Rattle.fx_frame.specs.Ring.{pieces}
-use Rattle.fx_frame.specs.Stage.{Given}
-use Rattle.fx_frame.proofs.ManyFrames.{latest-held, latest-quiet}
-use Rattle.fx_frame.proofs.Pieces.{get_or-piece}
+use Rattle.fx_step.specs.Frame.{Samples}
+use Rattle.fx_step.specs.Holds.{total}
+use Rattle.fx_ring.specs.Line.{Frames, latest_frames}
+use Rattle.fx_lists.specs.Lists.{pieces, tabulate}
+use Rattle.fx_step.specs.Stage.{Given}
+use Rattle.fx_ring.proofs.ManyFrames.{latest-held, latest-quiet}
+use Rattle.fx_lists.proofs.Pieces.{get_or-piece}
 use Rattle.fx_past.specs.Echo.{EchoArguments, echo_sum, echoed_frame, echoed_sample}
 use Rattle.fx_past.specs.EchoState.{echo_taps}
 use Rattle.fx_sums.specs.Weights.{SoundsAs, Weights}
 use Rattle.fx_past.specs.EchoWeights.{weighed}
-use Rattle.fx_frame.specs.Lists.{tabulate}
-use Rattle.fx_blocks.specs.Made.{rounded_given}
-use Rattle.fx_frame.specs.Rounded.{clips_of, samples_of}
-use Rattle.fx_blocks.specs.Tapped.{clips_behind, frames_behind}
-use Rattle.fx_blocks.specs.Past.{sample_before}
+use Rattle.fx_frame.specs.Made.{rounded_given}
+use Rattle.fx_lists.specs.Rounded.{clips_of, samples_of}
+use Rattle.fx_frame.specs.Tapped.{clips_behind, frames_behind}
+use Rattle.fx_frame.specs.Past.{sample_before}
 use Rattle.fx_past.proofs.EchoWeights.{small-sample}
 use Rattle.fx_past.proofs.SumPieces.{rounded-clips, rounded-frame, rounded-frames}
 

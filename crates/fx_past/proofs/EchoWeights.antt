@@ -9,8 +9,8 @@ use Rattle.fx_fixed.specs.declared.gains.TheConstants.{UNIT}
 use Rattle.fx_past.specs.Echo.{EchoArguments, echo_sum, echoed_sample, echoes_of}
 use Rattle.fx_sums.specs.Weights.{AreSmall, SoundsAs, Weights}
 use Rattle.fx_past.specs.EchoWeights.{Suits, weighed, weighed_echoes}
-use Rattle.fx_sums.specs.Products.{sum_of_products}
-use Rattle.fx_blocks.specs.Past.{Past}
+use Rattle.fx_convolve.specs.Products.{sum_of_products}
+use Rattle.fx_frame.specs.Past.{Past}
 use Rattle.fx_sums.proofs.WeightLaws.{second-on}
 
 -- ---- places of the weighed echoes

@@ -3,19 +3,19 @@ use Rattle.std.proofs.Common.{◌≡◌, ◌+◌, ◌*◌, ◌<◌, ◌≤◌, �
 use Rattle.std.specs.Prelude.{None, Some}
 use Rattle.std.proofs.lemmas.List.{length-map}
 use Rattle.fx_fixed.specs.Extents.{sum_of_delays}
-use Rattle.fx_frame.specs.declared.feed.Passing.TheVariants.{Through}
-use Rattle.fx_frame.specs.Feed.{Fed, GaveNext, PassedOn, TookNext, nothing, taken, given}
-use Rattle.fx_frame.specs.Frame.{Samples}
-use Rattle.fx_frame.specs.Holds.{total}
-use Rattle.fx_frame.specs.Line.{Frames, pushed, pushed_out}
-use Rattle.fx_frame.specs.Ring.{pieces}
-use Rattle.fx_frame.specs.Stage.{Given}
-use Rattle.fx_frame.proofs.FedLaws.{Fed-then}
-use Rattle.fx_frame.proofs.Pieces.{length-pieces}
+use Rattle.fx_step.specs.declared.feed.Passing.TheVariants.{Through}
+use Rattle.fx_step.specs.Feed.{Fed, GaveNext, PassedOn, TookNext, nothing, taken, given}
+use Rattle.fx_step.specs.Frame.{Samples}
+use Rattle.fx_step.specs.Holds.{total}
+use Rattle.fx_ring.specs.Line.{Frames, pushed, pushed_out}
+use Rattle.fx_lists.specs.Lists.{pieces}
+use Rattle.fx_step.specs.Stage.{Given}
+use Rattle.fx_step.proofs.FedLaws.{Fed-then}
+use Rattle.fx_lists.proofs.Pieces.{length-pieces}
 use Rattle.fx_past.specs.Echo.{EchoArguments}
 use Rattle.fx_past.specs.EchosState.{EchosState, IsEchoLine, IsEchos, came_of, delay_at, echos_acts, fed, frame_of_lines, frames_of, let_go, line_at, lines_after, or_silence, places_of, rows_after, through_lines}
 use Rattle.fx_past.proofs.EchosPieces.{pushed-within}
-use Rattle.fx_frame.proofs.Tabulate.{length-tabulate}
+use Rattle.fx_lists.proofs.Tabulate.{length-tabulate}
 
 after-few : (c : ℕ) (ls : List (Frames ℤ)) (x b : Samples) → length (frames_of (lines_after c ls x b)) ≤ places_of ls
 after-few c [] x b = omega arith

@@ -3,21 +3,20 @@ use Rattle.std.proofs.Common.{◌≡◌, ◌+◌, ◌*◌, ◌<◌, ◌+ℤ◌, 
 use Rattle.std.proofs.lemmas.List.{length-map}
 use Rattle.fx_fixed.specs.Rounding.{rounding}
 use Rattle.fx_fixed.specs.declared.gains.TheConstants.{UNIT}
-use Rattle.fx_frame.specs.Frame.{Samples}
-use Rattle.fx_frame.specs.Holds.{total}
-use Rattle.fx_frame.specs.Line.{Frames, channel_of, pushed_out}
-use Rattle.fx_frame.specs.Ring.{pieces}
-use Rattle.fx_frame.specs.Stage.{Given}
-use Rattle.fx_frame.proofs.Pieces.{get_or-piece, length-pieces}
+use Rattle.fx_step.specs.Frame.{Samples}
+use Rattle.fx_step.specs.Holds.{total}
+use Rattle.fx_ring.specs.Line.{Frames, channel_of, pushed_out}
+use Rattle.fx_lists.specs.Lists.{pieces, tabulate}
+use Rattle.fx_step.specs.Stage.{Given}
+use Rattle.fx_lists.proofs.Pieces.{get_or-piece, length-pieces}
 use Rattle.fx_past.specs.Echo.{EchoArguments}
 use Rattle.fx_past.specs.EchoWeights.{Suits}
 use Rattle.fx_sums.specs.Weights.{Weights}
 use Rattle.fx_past.specs.Echos.{decays}
 use Rattle.fx_past.specs.EchosState.{fed, frame_of_lines, gone_at, let_go, lines_after, or_silence, rows_after, through_lines}
-use Rattle.fx_frame.specs.Lists.{tabulate}
-use Rattle.fx_blocks.specs.Made.{rounded_given}
-use Rattle.fx_sums.specs.Products.{sum_of_products}
-use Rattle.fx_frame.specs.Rounded.{clips_of, samples_of}
+use Rattle.fx_frame.specs.Made.{rounded_given}
+use Rattle.fx_convolve.specs.Products.{sum_of_products}
+use Rattle.fx_lists.specs.Rounded.{clips_of, samples_of}
 use Rattle.fx_past.proofs.EchosLaws.{length-after}
 use Rattle.fx_past.proofs.EchosPieces.{through-table}
 use Rattle.fx_past.proofs.SumPieces.{rounded-clips, rounded-frame, rounded-frames}

@@ -7,14 +7,14 @@ use Rattle.std.proofs.lemmas.Int.{fits_signed_from_abs}
 use Rattle.std.proofs.lemmas.List.{length-append, length-drop, length-map, get_or-map, take_at}
 use Rattle.std.proofs.lemmas.List.Elements.{All-nil, All-drop, All-push, All-weaker, All-from_get_or, All-get_or}
 use Rattle.fx_fixed.specs.Extents.{sum_of_delays}
-use Rattle.fx_frame.specs.Frame.{Samples, silence, IsFrame}
-use Rattle.fx_frame.specs.Line.{Frames, IsSamples, pushed_out, empty}
-use Rattle.fx_frame.specs.Stage.{Gave, Took}
+use Rattle.fx_step.specs.Frame.{Samples, silence, IsFrame}
+use Rattle.fx_ring.specs.Line.{Frames, IsSamples, pushed_out, empty}
+use Rattle.fx_step.specs.Stage.{Gave, Took}
 use Rattle.fx_past.specs.Echo.{EchoArguments, IsEcho}
 use Rattle.fx_past.specs.EchosState.{EchosState, IsEchos, IsEchoLine, IsRowLine, after_push, came_of, delay_at, echos_acts, fed, frame_of_lines, frames_of, let_go, line_at, lines_after, or_silence, places_of, rows_after, through_lines}
-use Rattle.fx_blocks.proofs.DryLaws.{dry-hand, dry-tail, true_of}
+use Rattle.fx_frame.proofs.DryLaws.{dry-hand, dry-tail, true_of}
 use Rattle.fx_past.proofs.EchosRow.{Small, small-fed, small-gone}
-use Rattle.fx_frame.proofs.Tabulate.{length-tabulate}
+use Rattle.fx_lists.proofs.Tabulate.{length-tabulate}
 
 -- ---- the lines after one frame more
 

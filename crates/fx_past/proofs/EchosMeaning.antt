@@ -8,18 +8,18 @@ use borrow.Author.Tests.{ltb-true, ltb-false}
 use Rattle.fx_fixed.specs.Extents.{sum_of_delays}
 use Rattle.fx_fixed.specs.Rounding.{rounding}
 use Rattle.fx_fixed.specs.declared.gains.TheConstants.{UNIT}
-use Rattle.fx_frame.specs.Frame.{Samples, silence}
-use Rattle.fx_frame.specs.Line.{Frames, pushed_out, channel_of, empty}
+use Rattle.fx_step.specs.Frame.{Samples, silence}
+use Rattle.fx_ring.specs.Line.{Frames, pushed_out, channel_of, empty}
 use Rattle.fx_past.specs.Echo.{EchoArguments}
 use Rattle.fx_past.specs.Echos.{decays, echos, echos_frame, passed, sum_below, way}
 use Rattle.fx_past.specs.EchosState.{after_push, delay_at, fed, frame_of_lines, let_go, lines_after, or_silence, through_lines}
-use Rattle.fx_frame.specs.Lists.{tabulate}
-use Rattle.fx_sums.specs.Products.{sum_of_products}
-use Rattle.fx_frame.specs.Rounded.{given_of}
-use Rattle.fx_blocks.specs.Past.{Past, sample_before}
-use Rattle.fx_blocks.proofs.DelayLaws.{quiet-after}
-use Rattle.fx_sums.proofs.Places.{quiet-sample}
-use Rattle.fx_frame.proofs.Tabulate.{tabulate-append, tabulate-same, length-tabulate}
+use Rattle.fx_lists.specs.Lists.{tabulate}
+use Rattle.fx_convolve.specs.Products.{sum_of_products}
+use Rattle.fx_step.specs.Given.{given_of}
+use Rattle.fx_frame.specs.Past.{Past, sample_before}
+use Rattle.fx_frame.proofs.DelayLaws.{quiet-after}
+use Rattle.fx_lists.proofs.Places.{quiet-sample}
+use Rattle.fx_lists.proofs.Tabulate.{tabulate-append, tabulate-same, length-tabulate}
 
 -- ---- sums and tables
 

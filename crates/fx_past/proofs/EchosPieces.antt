@@ -9,20 +9,19 @@ use Rattle.std.proofs.lemmas.Int.{fits_signed_from_abs, ints}
 use Rattle.std.proofs.lemmas.List.{drop_more, get_or-take, get_or-drop, get_or_past, length-replicate, take-append-le, take_more_set}
 use Rattle.std.proofs.lemmas.List.Elements.{All-append, All-drop, All-from_get_or, All-head, All-replicate, All-tail, All-take}
 use Rattle.std.proofs.Math.Nat.{suc-mul}
-use Rattle.fx_frame.specs.Frame.{Samples}
-use Rattle.fx_frame.specs.Line.{Frames, channel_of, empty, latest_frames, pushed, pushed_all, pushed_out}
-use Rattle.fx_frame.specs.Ring.{pieces}
-use Rattle.fx_frame.proofs.Pieces.{get_or-piece, length-pieces}
+use Rattle.fx_step.specs.Frame.{Samples}
+use Rattle.fx_ring.specs.Line.{Frames, channel_of, empty, latest_frames, pushed, pushed_all, pushed_out}
+use Rattle.fx_lists.specs.Lists.{pieces, tabulate}
+use Rattle.fx_lists.proofs.Pieces.{get_or-piece, length-pieces}
 use Rattle.fx_past.specs.Echo.{EchoArguments}
 use Rattle.fx_past.specs.EchosState.{after_push, fed, frame_of_lines, gone_at, let_go, line_at, lines_after, or_silence, rows_after, through_lines}
-use Rattle.fx_frame.specs.Lists.{tabulate}
-use Rattle.fx_sums.specs.Products.{sum_of_products}
-use Rattle.fx_blocks.proofs.SamplePieces.{pieces-sides}
+use Rattle.fx_convolve.specs.Products.{sum_of_products}
+use Rattle.fx_frame.proofs.SamplePieces.{pieces-sides}
 use Rattle.fx_past.proofs.EchosRow.{Small, small_of}
 use Rattle.fx_past.proofs.SumPieces.{flat-place}
 use Rattle.fx_past.proofs.EchosStored.{same-line}
-use Rattle.fx_blocks.proofs.TapBlocks.{last-joined, last-whole, length-last}
-use Rattle.fx_frame.proofs.Tabulate.{tabulate-same}
+use Rattle.fx_frame.proofs.TapBlocks.{last-joined, last-whole, length-last}
+use Rattle.fx_lists.proofs.Tabulate.{tabulate-same}
 
 -- ---- one line
 

@@ -7,19 +7,19 @@ use Rattle.std.proofs.lemmas.Int.{ints}
 use Rattle.std.proofs.lemmas.List.{drop_more, take_more_set, get_or-drop, drop-drop, drop-set-lt}
 use Rattle.std.proofs.lemmas.List.Elements.{All-head, All-tail}
 use Rattle.fx_fixed.specs.declared.gains.TheConstants.{UNIT}
-use Rattle.fx_frame.specs.Frame.{Samples}
-use Rattle.fx_frame.specs.Line.{Frames, pushed_out, channel_of, empty}
+use Rattle.fx_step.specs.Frame.{Samples}
+use Rattle.fx_ring.specs.Line.{Frames, pushed_out, channel_of, empty}
 use Rattle.fx_fixed.specs.Rounding.{rounding}
 use Rattle.fx_past.specs.Echo.{EchoArguments}
-use Rattle.fx_frame.specs.Rounded.{given_of}
-use Rattle.fx_frame.proofs.Tabulate.{tabulate-same}
+use Rattle.fx_step.specs.Given.{given_of}
+use Rattle.fx_lists.proofs.Tabulate.{tabulate-same}
 use Rattle.fx_past.specs.Echos.{decays}
 use Rattle.fx_past.specs.EchosState.{IsRowLine, after_push, fed, frame_of_lines, let_go, line_at, lines_after, or_silence, up_to}
-use Rattle.fx_frame.specs.Lists.{tabulate}
-use Rattle.fx_sums.specs.Products.{sum_of_products}
+use Rattle.fx_lists.specs.Lists.{tabulate}
+use Rattle.fx_convolve.specs.Products.{sum_of_products}
 use borrow.Author.Tests.{ltb-true, ltb-false}
-use Rattle.fx_sums.proofs.Places.{quiet-sample}
-use Rattle.fx_sums.proofs.SumLaws.{added-few, scaled-few}
+use Rattle.fx_lists.proofs.Places.{quiet-sample}
+use Rattle.fx_convolve.proofs.Magnitudes.{added-few, scaled-few}
 
 -- ---- how large
 

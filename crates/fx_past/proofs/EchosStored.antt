@@ -4,9 +4,9 @@ use Rattle.std.specs.List.{All}
 use Rattle.std.specs.Int.{w64}
 use Rattle.std.proofs.Math.Seq.{take-append_seam, drop-append_seam}
 use Rattle.std.proofs.lemmas.List.{drop_more, drop_all, length-append, take_more, take-append-drop}
-use Rattle.fx_frame.specs.Frame.{Samples}
+use Rattle.fx_step.specs.Frame.{Samples}
 use Rattle.fx_frame.specs.Frozen.{line_of}
-use Rattle.fx_frame.specs.Line.{Frames, IsLine, empty}
+use Rattle.fx_ring.specs.Line.{Frames, IsLine, empty}
 use Rattle.fx_past.specs.EchosState.{IsEchoLine, delay_at, frames_of, line_at}
 use Rattle.fx_past.specs.EchosStored.{IsRow, IsSmall}
 

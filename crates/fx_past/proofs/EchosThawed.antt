@@ -2,15 +2,15 @@
 use Rattle.std.proofs.Common.{ℕ, ℤ, ◌≡◌, ◌+◌, ◌*◌, ◌≤◌, ◌++◌, ◌∙◌, Option, List, length, refl, sym, ap, arith, length-append}
 use Rattle.std.specs.Prelude.{nat_eq, option_to_list, slice_index_or}
 use Rattle.fx_fixed.specs.Extents.{sum_of_delays}
-use Rattle.fx_frame.specs.Frame.{Samples}
-use Rattle.fx_frame.specs.Line.{Frames}
-use Rattle.fx_frame.specs.Stage.{Freezes}
+use Rattle.fx_step.specs.Frame.{Samples}
+use Rattle.fx_ring.specs.Line.{Frames}
+use Rattle.fx_step.specs.Stage.{Freezes}
 use Rattle.fx_past.specs.Echo.{EchoArguments}
 use Rattle.fx_past.specs.EchosState.{EchosState, IsEchos, echos_acts, frames_of}
 use Rattle.fx_past.specs.EchosStored.{IsRowStored}
-use Rattle.fx_blocks.specs.Kinds.{most_taken}
-use Rattle.fx_blocks.specs.Tapped.{TailNumbers, by_name}
-use Rattle.fx_sums.proofs.Counts.{flag-false, flag-le, flag-of, flag-times, flag-true}
+use Rattle.fx_frame.specs.Kinds.{most_taken}
+use Rattle.fx_frame.specs.Tapped.{TailNumbers, by_name}
+use Rattle.fx_frame.proofs.Counts.{flag-false, flag-le, flag-of, flag-times, flag-true}
 
 -- what holds of the numbers of a stage whose delays have that sum, which stores so many frames
 pub record AreEchosCounts (whole stored : ℕ) (n : TailNumbers) : Type 0 where

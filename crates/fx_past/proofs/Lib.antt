@@ -14,3 +14,4 @@ pub mod EchosThawed
 pub mod OneEcho
 pub mod SumPieces
 pub mod EchoWords
+pub mod LongestDelay

@@ -7,15 +7,15 @@ use Rattle.std.proofs.lemmas.Bool.{le-leb, lt-leb}
 use Rattle.std.proofs.lemmas.Int.{ints}
 use Rattle.fx_fixed.specs.Extents.{greatest, tap_delay}
 use Rattle.fx_fixed.specs.Rounding.{rounding}
-use Rattle.fx_frame.specs.Frame.{Samples, silence}
-use Rattle.fx_frame.specs.Line.{Frames, IsLine}
-use Rattle.fx_frame.specs.Lists.{tabulate}
-use Rattle.fx_frame.proofs.Tabulate.{tabulate-same}
+use Rattle.fx_step.specs.Frame.{Samples, silence}
+use Rattle.fx_ring.specs.Line.{Frames, IsLine}
+use Rattle.fx_lists.specs.Lists.{tabulate}
+use Rattle.fx_lists.proofs.Tabulate.{tabulate-same}
 use Rattle.fx_past.specs.Echo.{EchoArguments, echoed_sample, echoes_of}
 use Rattle.fx_sums.specs.Weights.{SoundsAs, Weights}
 use Rattle.fx_past.specs.EchoWeights.{weighed_echoes}
-use Rattle.fx_blocks.specs.Past.{Past, sample_before}
-use Rattle.fx_sums.proofs.Places.{quiet-sample}
+use Rattle.fx_frame.specs.Past.{Past, sample_before}
+use Rattle.fx_lists.proofs.Places.{quiet-sample}
 use Rattle.fx_past.proofs.EchoLaws.{sample-now}
 use Rattle.fx_sums.proofs.WeightLaws.{second-on}
 use Rattle.fx_past.proofs.EchoWeights.{small-sample}

@@ -4,16 +4,16 @@ use Rattle.std.proofs.lemmas.List.{take_all}
 use Rattle.std.proofs.lemmas.Nat.{mul-add-lt}
 use Rattle.std.proofs.lemmas.Simd.{map-map}
 use Rattle.std.proofs.Math.Nat.{mul_comm}
-use Rattle.fx_frame.specs.Frame.{Samples}
-use Rattle.fx_frame.specs.Holds.{total}
-use Rattle.fx_frame.specs.Ring.{pieces}
-use Rattle.fx_frame.specs.Stage.{Given}
-use Rattle.fx_frame.proofs.Pieces.{get_or-piece, length-pieces}
-use Rattle.fx_frame.specs.Lists.{tabulate}
-use Rattle.fx_blocks.specs.Made.{clips_in, rounded_given}
-use Rattle.fx_frame.specs.Rounded.{clips_of, given_of, samples_of}
-use Rattle.fx_blocks.proofs.SamplePieces.{clips-samples, pieces-samples, pieces-sides}
-use Rattle.fx_blocks.proofs.Tables.{map-table}
+use Rattle.fx_step.specs.Frame.{Samples}
+use Rattle.fx_step.specs.Holds.{total}
+use Rattle.fx_lists.specs.Lists.{pieces, tabulate}
+use Rattle.fx_step.specs.Stage.{Given}
+use Rattle.fx_lists.proofs.Pieces.{get_or-piece, length-pieces}
+use Rattle.fx_frame.specs.Made.{clips_in, rounded_given}
+use Rattle.fx_lists.specs.Rounded.{clips_of, samples_of}
+use Rattle.fx_step.specs.Given.{given_of}
+use Rattle.fx_frame.proofs.SamplePieces.{clips-samples, pieces-samples, pieces-sides}
+use Rattle.fx_frame.proofs.Tables.{map-table}
 
 -- where a sample of a frame stands among all
 pub flat-place : (channels n i k : ℕ) → i < n → k < channels → i * channels + k < n * channels

@@ -1,11 +1,12 @@
 -- The effect `delay` (sox(1), EFFECTS, delay): each channel comes later by its own number of frames.
 use Rattle.std.specs.Prelude.{ℕ, ◌+◌, ◌-◌, List, ◌++◌, length, replicate, slice_index}
 use Rattle.fx_fixed.specs.Extents.{greatest}
-use Rattle.fx_frame.specs.Frame.{Samples}
-use Rattle.fx_frame.specs.Stage.{Given, Kind}
-use Rattle.fx_frame.specs.Lists.{tabulate, plain}
-use Rattle.fx_blocks.specs.Past.{Past, sample_before}
-use Rattle.fx_blocks.specs.Kinds.{tap_kind}
+use Rattle.fx_step.specs.Frame.{Samples}
+use Rattle.fx_step.specs.Stage.{Given, Kind}
+use Rattle.fx_lists.specs.Lists.{tabulate}
+use Rattle.fx_step.specs.Given.{plain}
+use Rattle.fx_frame.specs.Past.{Past, sample_before}
+use Rattle.fx_frame.specs.Kinds.{tap_kind}
 
 -- the frame whose channel k is delayed by delay k
 abbrev pub delayed_frame : List ℕ → Past → Samples

@@ -1,9 +1,9 @@
 -- How the stages of `delay` behave (this project's profile).
 use Rattle.std.specs.Prelude.{ℕ, List, length}
 use Rattle.fx_fixed.specs.Extents.{greatest}
-use Rattle.fx_frame.specs.Stage.{Acts}
-use Rattle.fx_frame.specs.Lists.{plain}
-use Rattle.fx_blocks.specs.Tapped.{Taps, TapState, tap_acts}
+use Rattle.fx_step.specs.Stage.{Acts}
+use Rattle.fx_step.specs.Given.{plain}
+use Rattle.fx_frame.specs.Tapped.{Taps, TapState, tap_acts}
 use Rattle.fx_past.specs.Delay.{delayed_frame, delayed}
 
 -- how `delay` makes frames; no sample is clipped

@@ -5,12 +5,12 @@ use Rattle.std.specs.List.{All}
 use Rattle.fx_fixed.specs.Extents.{greatest, tap_delay}
 use Rattle.fx_fixed.specs.Rounding.{rounding}
 use Rattle.fx_fixed.specs.declared.gains.TheConstants.{UNIT}
-use Rattle.fx_frame.specs.Frame.{Samples}
-use Rattle.fx_frame.specs.Stage.{Given, Kind}
-use Rattle.fx_frame.specs.Lists.{tabulate}
-use Rattle.fx_frame.specs.Rounded.{given_of}
-use Rattle.fx_blocks.specs.Past.{Past, sample_before}
-use Rattle.fx_blocks.specs.Kinds.{tap_kind}
+use Rattle.fx_step.specs.Frame.{Samples}
+use Rattle.fx_step.specs.Stage.{Given, Kind}
+use Rattle.fx_lists.specs.Lists.{tabulate}
+use Rattle.fx_step.specs.Given.{given_of}
+use Rattle.fx_frame.specs.Past.{Past, sample_before}
+use Rattle.fx_frame.specs.Kinds.{tap_kind}
 
 -- what an `echo` is made with; gains and decays are in trillionths
 pub record EchoArguments : Type 0 where

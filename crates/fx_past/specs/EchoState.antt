@@ -1,8 +1,8 @@
 -- How the stages of `echo` behave (this project's profile).
 use Rattle.std.specs.Prelude.{map}
 use Rattle.fx_fixed.specs.Extents.{greatest, tap_delay}
-use Rattle.fx_frame.specs.Stage.{Acts}
-use Rattle.fx_blocks.specs.Tapped.{Taps, TapState, tap_acts}
+use Rattle.fx_step.specs.Stage.{Acts}
+use Rattle.fx_frame.specs.Tapped.{Taps, TapState, tap_acts}
 use Rattle.fx_past.specs.Echo.{EchoArguments, echoed_frame, echo}
 
 -- how `echo` makes frames

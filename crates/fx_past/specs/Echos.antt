@@ -5,14 +5,14 @@ use Rattle.std.specs.Prelude.{ℕ, ℤ, pos, zero, suc, ◌+◌, ◌*◌, ◌+�
 use Rattle.fx_fixed.specs.Extents.{sum_of_delays}
 use Rattle.fx_fixed.specs.Rounding.{rounding}
 use Rattle.fx_fixed.specs.declared.gains.TheConstants.{UNIT}
-use Rattle.fx_frame.specs.Frame.{Samples}
-use Rattle.fx_frame.specs.Stage.{Given, Kind}
+use Rattle.fx_step.specs.Frame.{Samples}
+use Rattle.fx_step.specs.Stage.{Given, Kind}
 use Rattle.fx_past.specs.Echo.{EchoArguments}
-use Rattle.fx_frame.specs.Lists.{tabulate}
-use Rattle.fx_sums.specs.Products.{sum_of_products}
-use Rattle.fx_frame.specs.Rounded.{given_of}
-use Rattle.fx_blocks.specs.Past.{Past, sample_before}
-use Rattle.fx_blocks.specs.Kinds.{tap_kind}
+use Rattle.fx_lists.specs.Lists.{tabulate}
+use Rattle.fx_convolve.specs.Products.{sum_of_products}
+use Rattle.fx_step.specs.Given.{given_of}
+use Rattle.fx_frame.specs.Past.{Past, sample_before}
+use Rattle.fx_frame.specs.Kinds.{tap_kind}
 
 -- f at the numbers below n, added
 abbrev pub sum_below : (ℕ → ℤ) → ℕ → ℤ

@@ -5,15 +5,15 @@ use Rattle.std.specs.Int.{w64}
 use Rattle.fx_fixed.specs.Extents.{sum_of_delays}
 use Rattle.fx_fixed.specs.Rounding.{rounding}
 use Rattle.fx_fixed.specs.declared.gains.TheConstants.{UNIT}
-use Rattle.fx_frame.specs.Frame.{Samples, silence}
-use Rattle.fx_frame.specs.Frozen.{IsHand}
-use Rattle.fx_frame.specs.Line.{Frames, IsLine, pushed, pushed_out, channel_of, empty}
-use Rattle.fx_frame.specs.Stage.{Given, Acts}
+use Rattle.fx_step.specs.Frame.{Samples, silence}
+use Rattle.fx_step.specs.Hand.{IsHand}
+use Rattle.fx_ring.specs.Line.{Frames, IsLine, pushed, pushed_out, channel_of, empty}
+use Rattle.fx_step.specs.Stage.{Given, Acts}
 use Rattle.fx_past.specs.Echo.{EchoArguments, IsEcho}
-use Rattle.fx_frame.specs.Lists.{tabulate}
-use Rattle.fx_blocks.specs.Kinds.{most_taken}
-use Rattle.fx_sums.specs.Products.{sum_of_products}
-use Rattle.fx_frame.specs.Rounded.{given_of}
+use Rattle.fx_lists.specs.Lists.{tabulate}
+use Rattle.fx_frame.specs.Kinds.{most_taken}
+use Rattle.fx_convolve.specs.Products.{sum_of_products}
+use Rattle.fx_step.specs.Given.{given_of}
 use Rattle.fx_past.specs.Echos.{decays, echos, echos_kind}
 
 -- a frame and what the line before let go, added

@@ -1,9 +1,9 @@
 -- What an `echos` stores, read again (this project's profile).
 use Rattle.std.specs.Prelude.{ℕ, ℤ, ◌<◌, ◌≤◌, ◌≡◌, ◌++◌, List, Option, length, option_to_list, unsigned_abs}
 use Rattle.std.specs.List.{All}
-use Rattle.fx_frame.specs.Frame.{Samples}
-use Rattle.fx_frame.specs.Frozen.{IsHand}
-use Rattle.fx_frame.specs.Line.{Frames}
+use Rattle.fx_step.specs.Frame.{Samples}
+use Rattle.fx_step.specs.Hand.{IsHand}
+use Rattle.fx_ring.specs.Line.{Frames}
 use Rattle.fx_past.specs.EchosState.{IsEchoLine, delay_at, frames_of, line_at}
 
 -- no sample of a frame is greater in magnitude

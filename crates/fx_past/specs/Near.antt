@@ -2,10 +2,10 @@
 use Rattle.std.specs.Prelude.{ℕ, ℤ, ◌≤◌, ◌≡◌, List, [], ◌∷◌, length, slice_index, map}
 use Rattle.std.proofs.Common.{zero, suc, refl, ap, arith}
 use Rattle.fx_fixed.specs.Extents.{greatest, tap_delay}
-use Rattle.fx_frame.specs.Lists.{tabulate, plain}
-use Rattle.fx_frame.specs.Rounded.{given_of}
-use Rattle.fx_blocks.specs.Tapped.{Agree, IsNear}
-use Rattle.fx_blocks.specs.Past.{Past}
+use Rattle.fx_lists.specs.Lists.{tabulate}
+use Rattle.fx_step.specs.Given.{plain, given_of}
+use Rattle.fx_frame.specs.Tapped.{Agree, IsNear}
+use Rattle.fx_frame.specs.Past.{Past}
 use Rattle.fx_past.specs.DelayState.{delay_taps}
 use Rattle.fx_past.specs.Echo.{echoed_sample, echoes_of}
 use Rattle.fx_past.specs.EchoState.{echo_taps}

@@ -1,14 +1,14 @@
 //! The effect `delay` of sox(1): each channel comes later by its own number of frames.
 ghost use Rattle.std.specs.Prelude.{◌≡◌, ◌<◌, ◌≤◌, ◌==◌, ◌⊎◌, nat_lt, if◌then◌else◌, ◌-◌, ◌*◌, ◌^◌, ◌++◌, ◌∷◌, [], ℕ, List, true, length, drop, take, replicate, slice_index, slice_index_or, pos, Err, IfOk, MatchResult};
 ghost use Rattle.fx_fixed.specs.Extents.{greatest};
-ghost use Rattle.fx_frame.specs.Frame.{IsFrame, silence};
-ghost use Rattle.fx_frame.specs.Line.{pushed, pushed_all};
-ghost use Rattle.fx_frame.specs.Ring.{pieces};
-ghost use Rattle.fx_frame.specs.Stage.{Freezes, IsNew};
+ghost use Rattle.fx_step.specs.Frame.{IsFrame, silence};
+ghost use Rattle.fx_ring.specs.Line.{pushed, pushed_all};
+ghost use Rattle.fx_lists.specs.Lists.{pieces};
+ghost use Rattle.fx_step.specs.Stage.{Freezes, IsNew};
 ghost use Rattle.fx_past.specs.Delay.{delayed_frame, every_delay};
 ghost use Rattle.fx_past.specs.DelayState.{delay_acts, delay_taps};
-ghost use Rattle.fx_blocks.specs.Tapped.{IsTapState, TapState, frames_behind, last_of};
-ghost use Rattle.fx_blocks.specs.Past.{sample_before};
+ghost use Rattle.fx_frame.specs.Tapped.{IsTapState, TapState, frames_behind, last_of};
+ghost use Rattle.fx_frame.specs.Past.{sample_before};
 ghost use Rattle.fx_past.specs.Near.{delays-near};
 ghost use Rattle.std.proofs.Common.{zero-le};
 
@@ -17,7 +17,6 @@ pub mod words;
 use crate::echo::SAMPLES_OF_PIECE;
 use crate::tapped::{Tapped, Tapping, TapsMany, sample, tap_and_push, tap_by_frames};
 use fx_fixed::inner::longest;
-use fx_frame::inner::{frame_of, samples};
 use fx_frame::{Frame, Line, ThawFault, WideFrame};
 use std::alloc::{AllocError, Global};
 use std::marker::Model;
@@ -56,8 +55,8 @@ fn delayed_frame(line: &Line, delays: &[u64], frame: Frame) -> Frame
     ensures frame { IsFrame result × (length result ≡ length delays.now) }
 {
     let mut out = [0; 16];
-    delayed_into(line, delays, samples(&frame), &mut out[..delays.len()]);
-    let made = frame_of(delays.len(), out);
+    delayed_into(line, delays, frame.samples(), &mut out[..delays.len()]);
+    let made = Frame::of_first(delays.len(), out);
     let _channels = made.channels();
     made
 }

@@ -4,18 +4,17 @@ ghost use Rattle.std.proofs.Common.{rules};
 ghost use Rattle.std.specs.List.{All};
 ghost use Rattle.fx_fixed.specs.Extents.{greatest, tap_delay};
 ghost use Rattle.fx_fixed.specs.Rounding.{rounding};
-ghost use Rattle.fx_frame.specs.Line.{pushed};
-ghost use Rattle.fx_frame.specs.Lists.{tabulate};
-ghost use Rattle.fx_frame.specs.Ring.{pieces};
-ghost use Rattle.fx_frame.specs.Rounded.{given_of};
-ghost use Rattle.fx_frame.specs.Stage.{Freezes, IsNew};
+ghost use Rattle.fx_ring.specs.Line.{pushed};
+ghost use Rattle.fx_lists.specs.Lists.{tabulate, pieces};
+ghost use Rattle.fx_step.specs.Given.{given_of};
+ghost use Rattle.fx_step.specs.Stage.{Freezes, IsNew};
 ghost use Rattle.fx_past.specs.Echo.{EchoArguments, IsEcho, echo_sum, echoed_frame};
 ghost use Rattle.fx_past.specs.EchoState.{echo_acts, echo_taps};
 ghost use Rattle.fx_sums.specs.Weights.{SoundsAs};
 ghost use Rattle.fx_past.specs.EchoWeights.{weighed};
 ghost use Rattle.fx_past.specs.Near.{echoes-near};
-ghost use Rattle.fx_blocks.specs.Tapped.{IsTapState, TapState, clips_behind, frames_behind};
-ghost use Rattle.fx_blocks.specs.Past.{sample_before};
+ghost use Rattle.fx_frame.specs.Tapped.{IsTapState, TapState, clips_behind, frames_behind};
+ghost use Rattle.fx_frame.specs.Past.{sample_before};
 
 pub mod words;
 
@@ -24,9 +23,8 @@ use crate::sums::{add_scaled, round_sums, rounded_sums, sums_into};
 use crate::tapped::{Tapped, Tapping, TapsMany, sample, tap_and_push, tap_by_frames};
 use fx_fixed::inner::longest_tap;
 use fx_fixed::{Gain, UNIT};
-use fx_frame::feed::{copy_samples, frame_at};
-use fx_frame::inner::{frame_of, samples};
 use fx_frame::{Frame, Line, ThawFault, WideFrame};
+use fx_step::feed::{copy_samples, frame_at};
 use fx_sums::inner::{Sums, add_products, product};
 use fx_sums::weights::{Small, small_of};
 use std::alloc::{AllocError, Global};
@@ -163,8 +161,8 @@ impl Tapping for PreparedEcho {
     fn tap(&self, line: &Line, frame: Frame) -> (Frame, u64) {
         if let Some(small) = &self.small {
             let mut out = [0; 16];
-            let clips = self.small_into(small, line, samples(&frame), &mut out[..self.channels]);
-            return (frame_of(self.channels, out), clips);
+            let clips = self.small_into(small, line, frame.samples(), &mut out[..self.channels]);
+            return (Frame::of_first(self.channels, out), clips);
         }
         let sums = self.sums(line, frame);
         rounded_sums(&sums, self.channels, self.gain_out)

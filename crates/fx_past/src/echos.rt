@@ -2,29 +2,28 @@
 ghost use Rattle.std.specs.Prelude.{◌≡◌, ◌↔◌, true, ◌<◌, ◌≤◌, ◌+◌, ◌*◌, ◌^◌, ◌++◌, ◌+ℤ◌, ◌*ℤ◌, ℕ, pos, length, map, unsigned_abs, slice_get, slice_index_or, replicate, drop, Err, IfOk, IfSome, MatchResult};
 ghost use Rattle.std.specs.List.{All};
 ghost use Rattle.fx_fixed.specs.Extents.{sum_of_delays};
-ghost use Rattle.fx_frame.specs.Frame.{IsFrame};
-ghost use Rattle.fx_frame.specs.Line.{channel_of, empty, pushed_out};
-ghost use Rattle.fx_frame.specs.Holds.{total};
-ghost use Rattle.fx_frame.specs.Ring.{pieces};
-ghost use Rattle.fx_frame.specs.Stage.{Freezes, Given, IsNew};
+ghost use Rattle.fx_step.specs.Frame.{IsFrame};
+ghost use Rattle.fx_ring.specs.Line.{channel_of, empty, pushed_out};
+ghost use Rattle.fx_step.specs.Holds.{total};
+ghost use Rattle.fx_lists.specs.Lists.{pieces};
+ghost use Rattle.fx_step.specs.Stage.{Freezes, Given, IsNew};
 ghost use Rattle.fx_past.specs.Echo.{EchoArguments};
 ghost use Rattle.fx_past.specs.Echos.{decays};
 ghost use Rattle.fx_past.specs.EchosState.{EchosState, IsEchoLine, IsEchos, IsRowLine, after_push, delay_at, echos_acts, fed, frame_of_lines, frames_of, gone_at, let_go, line_at, lines_after, or_silence, rows_after, through_lines};
 ghost use Rattle.fx_sums.specs.Weights.{AreSmall};
 ghost use Rattle.fx_past.specs.EchoWeights.{Suits};
-ghost use Rattle.fx_sums.specs.Products.{sum_of_products};
+ghost use Rattle.fx_convolve.specs.Products.{sum_of_products};
 
 use crate::echo::{SAMPLES_OF_PIECE, copied, frames_of_piece};
 use crate::rows::thawed_row_and_hand;
 use crate::sums::{add_scaled, round_sums, sums_into};
 use fx_fixed::inner::all_taps;
 use fx_fixed::{Gain, UNIT};
-use fx_frame::feed::{copy_samples, feed_by_frames, frame_at};
-use fx_frame::frame::MOST_CHANNELS;
-use fx_frame::frozen::stored_hand;
-use fx_frame::inner::{frame_of, places, wide_of, wide_places};
-use fx_frame::stage::MOST_TAKEN;
 use fx_frame::{Feeds, Frame, Passed, Passing, Stage, Tally, ThawFault, WideFrame, WideLine};
+use fx_step::feed::{copy_samples, feed_by_frames, frame_at};
+use fx_step::frame::MOST_CHANNELS;
+use fx_step::hand::stored_hand;
+use fx_step::stage::MOST_TAKEN;
 use fx_sums::inner::{Sums, add_places, add_products, add_samples, add_wide_products};
 use fx_sums::weights::{Small, small_of};
 use std::alloc::{AllocError, Global};
@@ -70,13 +69,13 @@ fn fed_frame(channels: usize, frame: Frame, before: WideFrame) -> WideFrame
     ensures value { result ≡ fed channels frame before }
     ensures count { length result ≡ channels }
 {
-    let samples = places(&frame);
-    let passed = wide_places(&before);
+    let samples = frame.places();
+    let passed = before.places();
     let mut sums = [0i64; 16];
     'channels: for channel in 0..channels {
         sums[channel] = i64::from(samples[channel]) + passed[channel];
     }
-    wide_of(channels, sums)
+    WideFrame::of_first(channels, sums)
 }
 
 /// Pushes a frame and what the line before let go, added; hands back what this line lets go, or silence.
@@ -105,7 +104,7 @@ fn add_gone(sums: &mut Sums, channels: usize, decay: Gain, gone: WideFrame)
     ensures added { (k : ℕ) → k < channels → slice_index_or sums.new k (pos 0) ≡ slice_index_or sums.old k (pos 0) +ℤ (decay *ℤ slice_index_or gone k (pos 0)) }
     ensures left { (k : ℕ) → channels ≤ k → slice_index_or sums.new k (pos 0) ≡ slice_index_or sums.old k (pos 0) }
 {
-    add_places(sums, channels, decay, &wide_places(&gone));
+    add_places(sums, channels, decay, &gone.places());
 }
 
 /// Lets a frame go through the lines, and adds what each lets go, times its decay.
@@ -336,9 +335,9 @@ fn echoed(
     ensures few { result.1 ≤ 16 }
     ensures fits { IsFrame result.0 × (length result.0 ≡ channels) }
 {
-    let mut out = places(&frame);
+    let mut out = frame.places();
     let clips = echo_over(lines, echoes, small, channels, gains, &mut out[..channels]);
-    let made = frame_of(channels, out);
+    let made = Frame::of_first(channels, out);
     let _count = made.channels();
     (made, clips)
 }
@@ -499,7 +498,7 @@ impl Echos {
 }
 
 impl Stage for Echos {
-    ghost use Rattle.fx_blocks.specs.Tapped.{tap_rises};
+    ghost use Rattle.fx_frame.specs.Tapped.{tap_rises};
 
     ghost Recipe = { EchoArguments };
 

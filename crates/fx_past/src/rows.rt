@@ -3,23 +3,24 @@ ghost use Rattle.std.specs.Prelude.{◌≡◌, ◌<◌, ◌≤◌, ◌+◌, ◌*
 ghost use Rattle.std.specs.Int.{w64};
 ghost use Rattle.std.specs.List.{All};
 ghost use Rattle.fx_fixed.specs.Extents.{sum_of_delays};
-ghost use Rattle.fx_frame.specs.Frame.{Samples};
+ghost use Rattle.fx_step.specs.Frame.{Samples};
 ghost use Rattle.fx_frame.specs.Frozen.{line_of};
-ghost use Rattle.fx_frame.specs.Line.{Frames, IsLine};
+ghost use Rattle.fx_ring.specs.Line.{Frames, IsLine};
 ghost use Rattle.fx_past.specs.EchosState.{frames_of};
 ghost use Rattle.fx_past.specs.EchosStored.{IsRow, IsRowStored, IsSmall};
 
 use fx_fixed::Gain;
-use fx_frame::frozen::{thawed_hand, thawed_wide_line};
-use fx_frame::inner::wide_samples;
+use fx_frame::frozen::thawed_wide_line;
 use fx_frame::{Frame, ThawFault, WideFrame, WideLine};
+use fx_step::hand::thawed_hand;
 use std::alloc::Global;
 
 /// No sample of the frame is greater in magnitude.
 fn is_small(frame: &WideFrame, most: u64) -> bool
     ensures { IsTrue result ↔ IsSmall most frame.now }
 {
-    wide_samples(frame)
+    frame
+        .samples()
         .iter()
         .all(|sample| sample.unsigned_abs() <= most)
 }

@@ -1,13 +1,13 @@
 //! Sums of samples times gains, one for each channel, each rounded once.
 ghost use Rattle.std.specs.Prelude.{◌≡◌, ◌<◌, ◌≤◌, ◌+◌, ◌*◌, ◌^◌, ℕ, ℤ, pos, ◌+ℤ◌, ◌*ℤ◌, length, map, slice_index_or, unsigned_abs};
 ghost use Rattle.fx_fixed.specs.Rounding.{rounding};
-ghost use Rattle.fx_frame.specs.Lists.{tabulate};
-ghost use Rattle.fx_frame.specs.Rounded.{clips_of, given_of, samples_of};
+ghost use Rattle.fx_lists.specs.Lists.{tabulate};
+ghost use Rattle.fx_lists.specs.Rounded.{clips_of, samples_of};
+ghost use Rattle.fx_step.specs.Given.{given_of};
 
 use fx_fixed::inner::Denominator;
 use fx_fixed::{Gain, UNIT, round_clip};
 use fx_frame::Frame;
-use fx_frame::inner::{frame_of, places};
 use fx_sums::inner::{Sums, add_places};
 
 /// Adds a gain times each sample of a frame; the gain is at most 1 in magnitude.
@@ -19,7 +19,7 @@ pub(crate) fn add_scaled(sums: &mut Sums, channels: usize, gain: Gain, frame: Fr
     ensures added { (k : ℕ) → k < channels → slice_index_or sums.new k (pos 0) ≡ slice_index_or sums.old k (pos 0) +ℤ (gain *ℤ slice_index_or frame k (pos 0)) }
     ensures few { (k : ℕ) → unsigned_abs (slice_index_or sums.new k (pos 0)) ≤ unsigned_abs (slice_index_or sums.old k (pos 0)) + UNIT * 2 ^ 31 }
 {
-    add_places(sums, channels, gain, &places(&frame));
+    add_places(sums, channels, gain, &frame.places());
 }
 
 /// The parts of one in a sum times a gain: each factor is in trillionths.
@@ -56,7 +56,7 @@ pub(crate) fn rounded_sums(sums: &Sums, channels: usize, gain: Gain) -> (Frame, 
 {
     let mut out = [0; 16];
     let clips = sums_into(sums, gain, &mut out[..channels]);
-    (frame_of(channels, out), clips)
+    (Frame::of_first(channels, out), clips)
 }
 
 /// Writes the sample of each sum over the denominator, rounded once, and counts how many were clipped.

@@ -1,16 +1,15 @@
 //! Effects that make each frame of that frame and of frames at fixed distances before it: a line, and a tail after the end.
 ghost use Rattle.std.specs.Prelude.{◌≡◌, ◌↔◌, true, ◌<◌, ◌≤◌, ◌*◌, ◌^◌, ◌++◌, ◌∷◌, [], None, drop, length, Err, IfOk, MatchResult};
-ghost use Rattle.fx_frame.specs.Line.{pushed};
-ghost use Rattle.fx_frame.specs.Ring.{pieces};
-ghost use Rattle.fx_frame.specs.Stage.{Freezes, Gave, IsNew};
-ghost use Rattle.fx_blocks.specs.Tapped.{AreTapCounts, IsNear, Taps, TapState, by_name, clips_behind, frames_behind, last_of, tap_acts};
-ghost use Rattle.fx_blocks.specs.Past.{sample_before};
+ghost use Rattle.fx_ring.specs.Line.{pushed};
+ghost use Rattle.fx_lists.specs.Lists.{pieces};
+ghost use Rattle.fx_step.specs.Stage.{Freezes, Gave, IsNew};
+ghost use Rattle.fx_frame.specs.Tapped.{AreTapCounts, IsNear, Taps, TapState, by_name, clips_behind, frames_behind, last_of, tap_acts};
+ghost use Rattle.fx_frame.specs.Past.{sample_before};
 
-use fx_frame::feed::{copy_samples, feed_by_frames, frame_at};
 use fx_frame::frozen::{stored_in, thawed_line_and_hand};
-use fx_frame::inner::{one, two};
-use fx_frame::stage::MOST_TAKEN;
 use fx_frame::{Feeds, Frame, Line, Passed, Passing, Stage, Tally, ThawFault, WideFrame};
+use fx_step::feed::{copy_samples, feed_by_frames, frame_at};
+use fx_step::stage::MOST_TAKEN;
 use fx_sums::inner::sample_or_silence;
 use std::alloc::{AllocError, Global};
 use std::marker::Model;
@@ -114,8 +113,8 @@ fn push_samples(line: &mut Line, samples: &[i32])
     ensures channels { line.new.channels ≡ line.old.channels }
 {
     let frame = match samples.len() {
-        1 => one(samples[0]),
-        2 => two(samples[0], samples[1]),
+        1 => Frame::one(samples[0]),
+        2 => Frame::two(samples[0], samples[1]),
         channels => frame_at(samples, 0, channels),
     };
     line.push(frame);
@@ -267,7 +266,7 @@ pub struct Tapped<T: Tapping + Drop> {
 }
 
 impl<T: Tapping + Drop> Model for Tapped<T> {
-    ghost use Rattle.fx_blocks.specs.Tapped.{TapState, IsTapState};
+    ghost use Rattle.fx_frame.specs.Tapped.{TapState, IsTapState};
 
     ghost Value = { TapState T };
 
@@ -277,7 +276,7 @@ impl<T: Tapping + Drop> Model for Tapped<T> {
 }
 
 impl<T: Tapping + Drop> Tapped<T> {
-    ghost use Rattle.fx_blocks.specs.Tapped.{IsTapState, TapState};
+    ghost use Rattle.fx_frame.specs.Tapped.{IsTapState, TapState};
 
     /// The stage of an effect that reaches back so many frames; AllocError where memory for them is refused.
     pub(crate) fn of(alloc: Global, arguments: T, reach: usize) -> Result<Tapped<T>, AllocError>
@@ -357,7 +356,7 @@ impl<T: Tapping + Drop> Tapped<T> {
 }
 
 impl<T: Tapping + Drop> Stage for Tapped<T> {
-    ghost use Rattle.fx_blocks.specs.Tapped.{IsTapState, tap_acts, tap_rises};
+    ghost use Rattle.fx_frame.specs.Tapped.{IsTapState, tap_acts, tap_rises};
 
     ghost Recipe = { T };
 

@@ -10,7 +10,7 @@ use mathlib.Core.List.{head-eq_of_cons-eq, tail-eq_of_cons-eq}
 use denote.Enum.Bare.{Bare, sameb, same_true, true_same}
 use denote.Enum.Declared.{Declared, declared}
 use mathlib.Core.HLevel.{is_prop→PathP}
-use Rattle.fx_sound.specs.Kind.{is_coding_of}
+use Rattle.fx_heads.specs.Kind.{is_coding_of}
 use Rattle.fx_fixed.specs.declared.positions.At.{At}
 use Rattle.fx_fixed.specs.declared.positions.At.TheVariants.{Start, End}
 use Rattle.fx_fixed.specs.contracts.positions.At as at
@@ -19,14 +19,14 @@ use Rattle.fx_fixed.specs.declared.weights.Weight.{Weight}
 use Rattle.fx_fixed.specs.declared.weights.Weight.TheVariants.{Given, Share, One}
 use Rattle.fx_fixed.specs.contracts.weights.Weight as weight
 use Rattle.fx_fixed.specs.contracts.weights.WeightPartialEq.TheImpl as weight_eq
-use Rattle.fx_frame.specs.declared.coding.Coding.{Coding}
-use Rattle.fx_frame.specs.contracts.coding.Coding as coding
-use Rattle.fx_frame.specs.contracts.coding.CodingPartialEq.TheImpl as coding_eq
-use Rattle.fx_sound.specs.declared.head.Kind.{Kind}
-use Rattle.fx_sound.specs.contracts.head.Kind as kind
-use Rattle.fx_sound.specs.contracts.head.KindPartialEq.TheImpl as kind_eq
-use Rattle.fx_sound.specs.declared.head.Head.{Head}
-use Rattle.fx_sound.specs.contracts.head.HeadPartialEq.TheImpl as head_eq
+use Rattle.fx_io.specs.declared.coding.Coding.{Coding}
+use Rattle.fx_io.specs.contracts.coding.Coding as coding
+use Rattle.fx_io.specs.contracts.coding.CodingPartialEq.TheImpl as coding_eq
+use Rattle.fx_heads.specs.declared.head.Kind.{Kind}
+use Rattle.fx_heads.specs.contracts.head.Kind as kind
+use Rattle.fx_heads.specs.contracts.head.KindPartialEq.TheImpl as kind_eq
+use Rattle.fx_heads.specs.declared.head.Head.{Head}
+use Rattle.fx_heads.specs.contracts.head.HeadPartialEq.TheImpl as head_eq
 use Rattle.fx_cut.specs.declared.fade.words.Fading.{Fading}
 use Rattle.fx_cut.specs.contracts.fade.words.FadingPartialEq.TheImpl as fading_eq
 use Rattle.fx_effects.specs.declared.effect.Layout.{Layout}

@@ -5,7 +5,7 @@ use Rattle.std.specs.Str.{bytes_eq}
 use Rattle.fx_line.specs.declared.line.LineFault.{LineFault}
 use Rattle.fx_line.specs.declared.line.LineFault.TheVariants.{Memory}
 use Rattle.fx_line.specs.Line.{Said}
-use Rattle.fx_sound.specs.declared.head.Head.{Head}
+use Rattle.fx_heads.specs.declared.head.Head.{Head}
 use Rattle.fx_plan.specs.declared.command_line.Stream.{Stream}
 use Rattle.fx_plan.specs.declared.command_line.Stream.TheVariants.{Standard, Named}
 use Rattle.fx_words.specs.Faults.{Word}

@@ -1,7 +1,7 @@
 //! How a plan is made, and what it tells.
 
 ghost use Rattle.std.specs.Prelude.{◌≡◌, ℕ, ◌<◌, ◌≤◌, ◌-◌, ◌*◌, ◌^◌, IfOk, IsTrue, Some, false, length, map, slice_get, true};
-ghost use Rattle.fx_sound.specs.Kind.{is_coding_of};
+ghost use Rattle.fx_heads.specs.Kind.{is_coding_of};
 ghost use Rattle.fx_effects.specs.Bounds.{hold_all, hold_of, is_too_long, work_of};
 ghost use Rattle.std.specs.List.{All};
 ghost use Rattle.fx_effects.specs.Effects.{IsLayout, Usable, act, all_fit, name_text};

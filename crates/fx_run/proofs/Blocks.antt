@@ -3,27 +3,27 @@ use Rattle.std.proofs.Common.{◌≡◌, ℕ, ◌+◌, ◌-◌, ◌*◌, ◌<◌
 use Rattle.std.proofs.lemmas.Bool.{cases_lt}
 use Rattle.std.proofs.lemmas.List.{append_assoc, append-nil, length-append}
 use Rattle.std.specs.Prelude.{Option, Some}
-use Rattle.fx_frame.specs.declared.coding.Coding.{Coding}
-use Rattle.fx_frame.specs.Frame.{Samples}
-use Rattle.fx_frame.specs.Holds.{kinds, recipes}
-use Rattle.fx_frame.specs.Io.{ByteReader}
-use Rattle.fx_frame.specs.Stage.{Acts}
+use Rattle.fx_io.specs.declared.coding.Coding.{Coding}
+use Rattle.fx_step.specs.Frame.{Samples}
+use Rattle.fx_step.specs.Holds.{kinds, recipes}
+use Rattle.fx_io.specs.Io.{ByteReader}
+use Rattle.fx_step.specs.Stage.{Acts}
 use Rattle.fx_flow.proofs.Feeding.{FlowGave-none}
 use Rattle.fx_flow.specs.Feed.{FlowFed, FlowGave, stepped, taken_in, untouched}
 use Rattle.fx_flow.specs.Parts.{Parts, given_by, taken_of}
 use Rattle.fx_flow.specs.Composed.{enough_for}
 use Rattle.fx_flow.specs.Steps.{given_out, rest_of, wholes_of}
-use Rattle.fx_sound.proofs.Held.{Takes-turn}
+use Rattle.fx_heads.proofs.Held.{Takes-turn}
 use Rattle.fx_sound.proofs.Sending.{Sent-put}
 use Rattle.fx_sound.proofs.Sounds.{first_frames-add, held-next, held-passed, length-first_frames}
 use Rattle.fx_sound.specs.Container.{after_frames, first_frames}
 use Rattle.fx_sound.specs.Output.{Pending, SendsOn, bytes_put}
 use Rattle.fx_sound.specs.Runs.{Ran}
-use Rattle.fx_sound.proofs.RunLaws.{Ran-block, Ran-start, Ran-turn, Takes-more, Takes-none, after_frames-add, after_frames-more}
+use Rattle.fx_sound.proofs.RunLaws.{Ran-block, Ran-start, Ran-turn, Takes-none, after_frames-add, after_frames-more}
 use Rattle.fx_sound.specs.declared.progress.TheConstants.{MOST_FRAMES}
-use Rattle.fx_sound.specs.Known.{IfKnown}
+use Rattle.fx_heads.specs.Known.{IfKnown}
 use Rattle.fx_sound.specs.Sound.{Reading, TakesFrame, after_frame, size_of, within}
-use Rattle.fx_sound.specs.Source.{Held, Takes, to_come}
+use Rattle.fx_heads.specs.Source.{Held, Takes, to_come}
 use Rattle.fx_run.specs.Block.{Blocked}
 use Rattle.fx_run.specs.Outlet.{coded, coded_clips}
 use Rattle.fx_run.specs.Pump.{Pumped, PumpedFront, Start}
@@ -32,6 +32,7 @@ use Rattle.fx_run.specs.Through.{CutOff, Drained, Gives, Reached, Through, Waits
 use Rattle.fx_run.specs.Through as reach
 use Rattle.fx_run.proofs.Passing.{Flowed-turn, WantsMore-next, enough-same, not-both, sound_frames-more, taken-take}
 use Rattle.fx_run.proofs.Sending.{coded-append, coded_clips-append}
+use Rattle.fx_heads.proofs.WaveLemmas.{Takes-both}
 
 module _ {S R : Type 0} (acts : Acts S R) where
   -- a row of calls, behind those that came before
@@ -247,7 +248,7 @@ Pumped-turn acts device first flow fed new source source' progress progress' cod
           (Flowed-turn acts first.flow flow fed new first.coding _ _ _ _ _ _ _ _ _ first.head (p.flowed bytes known) p.hungry is (rw p.coded at q));
       takes =
           let Taken : ℕ → Type 0 = λ n. Takes device.told first.source source' n in
-          subst Taken (sym (ap (λ n. n * size) count ∙ more)) (Takes-more device.told _ _ _ (turn * size) size p.takes (rw p.size at taken));
+          subst Taken (sym (ap (λ n. n * size) count ∙ more)) (Takes-both device.told _ _ _ (turn * size) size p.takes (rw p.size at taken));
       reads = reads ∙ p.reads;
     }
 

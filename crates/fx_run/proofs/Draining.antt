@@ -2,27 +2,20 @@
 use Rattle.std.proofs.Common.{◌≡◌, ℕ, ◌+◌, ◌≤◌, ◌^◌, map, List, [], ◌∷◌, ◌++◌, refl, sym, ap, ◌∙◌, arith}
 use Rattle.std.proofs.lemmas.List.{append_assoc, append-nil, length-append}
 use Rattle.std.specs.Prelude.{Option}
-use Rattle.fx_frame.specs.declared.coding.Coding.{Coding}
-use Rattle.fx_frame.specs.Frame.{Samples}
-use Rattle.fx_frame.specs.FrameCoding.{bytes_of, clips_of}
-use Rattle.fx_frame.specs.Stage.{Acts}
-use Rattle.fx_frame.specs.Holds.{kinds, recipes}
+use Rattle.fx_io.specs.declared.coding.Coding.{Coding}
+use Rattle.fx_step.specs.Frame.{Samples}
+use Rattle.fx_heads.specs.FrameCoding.{bytes_of, clips_of}
+use Rattle.fx_step.specs.Stage.{Acts}
+use Rattle.fx_step.specs.Holds.{kinds, recipes}
 use Rattle.fx_flow.specs.Parts.{Parts, given_by, most_of, taken_of}
 use Rattle.fx_flow.specs.Sound.{most_frames}
 use Rattle.fx_flow.proofs.Laws.{most_of-le}
 use Rattle.fx_flow.specs.declared.flow.Step.{Step}
-use Rattle.fx_flow.specs.declared.flow.Step.TheVariants.{Given, Idle, Moved}
 use Rattle.fx_flow.specs.Steps.{MovedOn, Steps, given_out, rest_of}
 use Rattle.fx_sound.specs.Output.{Pending, SendsMore, SendsPart}
 use Rattle.fx_run.specs.Outlet.{coded}
 use Rattle.fx_run.specs.Through.{CutOff, Drained, Gives, stepped}
 use Rattle.fx_run.proofs.Sending.{WroteFront-part, coded-more, coded_clips-append}
-
--- a step that let no frame out
-pub no_frame : (s : Step) → ((frame : Samples) → s ≡ Given frame → ⊥) → given_out s ≡ []
-no_frame (Given frame) h = absurd (h frame refl)
-no_frame Moved h = refl
-no_frame Idle h = refl
 
 module _ {S R : Type 0} (acts : Acts S R) where
   -- before the first step

@@ -3,24 +3,25 @@ use Rattle.std.proofs.Common.{◌≡◌, ℕ, ◌+◌, ◌*◌, ◌≤◌, map, 
 use Rattle.std.proofs.lemmas.List.{append_assoc, append-nil, length-append}
 use Rattle.std.specs.Prelude.{Option, nat_lt}
 use borrow.Author.Tests.{ltb-true, ltb-false}
-use Rattle.fx_frame.specs.declared.coding.Coding.{Coding}
-use Rattle.fx_frame.specs.Frame.{Samples}
-use Rattle.fx_frame.specs.FrameCoding.{samples_of}
-use Rattle.fx_frame.specs.Holds.{kinds, recipes}
-use Rattle.fx_frame.specs.Stage.{Acts, Kind}
+use Rattle.fx_io.specs.declared.coding.Coding.{Coding}
+use Rattle.fx_step.specs.Frame.{Samples}
+use Rattle.fx_heads.specs.FrameCoding.{samples_of}
+use Rattle.fx_step.specs.Holds.{kinds, recipes}
+use Rattle.fx_step.specs.Stage.{Acts, Kind}
 use Rattle.fx_flow.specs.Parts.{Parts, given_by, taken_of, through}
 use Rattle.fx_flow.specs.Composed.{enough_for}
 use Rattle.fx_flow.specs.Steps.{IsHungry, rest_of, wholes_of}
 use Rattle.fx_sound.specs.Output.{Pending, Sent}
 use Rattle.fx_sound.specs.Container.{after_frames}
 use Rattle.fx_sound.specs.Runs.{Ran}
-use Rattle.fx_sound.proofs.RunLaws.{Ran-end, Ran-failed, Tells-more, first_frames-more}
+use Rattle.fx_sound.proofs.RunLaws.{Ran-end, Ran-failed, first_frames-more}
 use Rattle.fx_sound.specs.Sound.{Reading, EndsSound, TakesFrame, at_most_announced, size_of}
-use Rattle.fx_sound.specs.Source.{FallsShort, Held, Takes}
+use Rattle.fx_heads.specs.Source.{FallsShort, Held, Takes}
 use Rattle.fx_run.specs.Outlet.{WroteFront, coded}
 use Rattle.fx_run.specs.Run.{Flowed, FlowedFront, RanToEnd, RanToFailure, WantsMore, sound_frames}
 use Rattle.fx_run.specs.Through.{CutOff, Drained, Gives, Through, took, told_end, untouched}
 use Rattle.fx_run.proofs.Sending.{coded-append, coded_clips-append}
+use Rattle.fx_heads.proofs.Held.{Tells-both}
 
 -- what is not so is not otherwise
 pub not-both : {X : Type 0} (b : Bool) → b ≡ false → b ≡ true → X
@@ -57,7 +58,7 @@ pub RanToFailure-failed : {R : Type 0} (told : R → ℕ) (first now : Reading) 
 RanToFailure-failed told first now n start old new e t f = record {
   count = (Ran-failed told first now n start old new e t f).count;
   later = λ h.
-      let all = Tells-more told start old new (n * size_of first) f.came t f.tells in
+      let all = Tells-both told start old new (n * size_of first) f.came t f.tells in
       let c = all.counted h in
       omega (arith, all.enough);
 }

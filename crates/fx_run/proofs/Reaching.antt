@@ -3,14 +3,16 @@ use Rattle.std.proofs.Common.{◌≡◌, ℕ, zero, suc, ◌+◌, map, Bool, tru
 use Rattle.std.proofs.lemmas.List.{append_assoc, append-nil, length-append, take_at}
 use Rattle.std.proofs.lemmas.List.Sums.{sum_by-cons}
 use Rattle.std.specs.Prelude.{sum}
-use Rattle.fx_frame.specs.Frame.{Samples}
-use Rattle.fx_frame.specs.Holds.{kinds, recipes, total}
-use Rattle.fx_frame.specs.Stage.{Acts, Counts, Given}
+use Rattle.fx_step.specs.Frame.{Samples}
+use Rattle.fx_step.specs.Holds.{kinds, recipes}
+use Rattle.fx_step.specs.Stage.{Acts, Counts, Given}
 use Rattle.fx_flow.specs.Parts.{AllNew, AllSettled, Fed, HandedOver, Joined, Parts, given_of, moves_of, taken_of}
 use Rattle.fx_flow.specs.Composed.{clips_of, frames_of}
 use Rattle.fx_flow.specs.Steps.{IsHungry, MovedOn}
 use Rattle.fx_run.specs.Due.{clips_in, dues, firsts, meanings}
 use Rattle.fx_run.specs.Through.{Reached, took, told_end, untouched, stepped}
+use Rattle.fx_flow.proofs.Laws.{none_true}
+use Rattle.fx_step.proofs.FedLaws.{total-append}
 
 -- one list behind the other, each at its place
 abbrev both : List (List Given) → List (List Given) → List (List Given)
@@ -18,17 +20,8 @@ both [] ds = []
 both (g ∷ gs) [] = []
 both (g ∷ gs) (d ∷ ds) = (g ++ d) ∷ both gs ds
 
-total-append : {X : Type 0} (f : X → ℕ) (xs ys : List X) → total f (xs ++ ys) ≡ total f xs + total f ys
-total-append f [] ys = omega arith
-total-append f (x ∷ xs) ys = let e = total-append f xs ys in omega arith
-
 clips-append : (g d : List Given) → clips_of (g ++ d) ≡ clips_of g + clips_of d
 clips-append g d = total-append (λ (x : Given). x.clips) g d
-
--- what would be true only with a false fact is false
-none-true : (b c : Bool) → (b ≡ true → c ≡ true) → c ≡ false → b ≡ false
-none-true true c h e = absurd (let t = h refl in cc)
-none-true false c h e = refl
 
 module _ {S R : Type 0} (acts : Acts S R) where
   -- each stage gave these frames since, and counted them, where z are to come in place of y
@@ -171,7 +164,7 @@ module _ {S R : Type 0} (acts : Acts S R) where
   pub givens-due : (n : ℕ) (over : Bool) (stages : List S) → over ≡ false → AllSettled acts stages → Joined acts n over stages → map (λ s. (acts.counts s).given) stages ≡ dues (kinds acts stages) n
   givens-due n over [] f dry j = refl
   givens-due n over (s ∷ stages) f dry j =
-      let open_ = none-true _ _ j.1 f in
+      let open_ = none_true _ _ j.1 f in
       let due : (acts.counts s).given ≡ (acts.kind_of (acts.recipe s)).due n = dry.1.due open_ ∙ ap (acts.kind_of (acts.recipe s)).due j.0 in
       let others = givens-due (acts.counts s).given _ stages (rw open_ refl) dry.2 j.3 in
       rw (others, due) refl

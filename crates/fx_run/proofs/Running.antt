@@ -2,11 +2,11 @@
 use Rattle.std.proofs.Common.{zero, suc, ◌≡◌, ℕ, ◌+◌, ◌-◌, ◌*◌, ◌<◌, ◌≤◌, map, inl, inr, Bool, true, false, List, [], ◌∷◌, ◌++◌, length, take, replicate, refl, sym, ap, ◌∙◌, arith}
 use Rattle.std.proofs.lemmas.List.{append-nil, length-append, length-drop, take_at}
 use Rattle.std.specs.Prelude.{◌⊎◌, MatchBool, Option, Some, slice_index, slice_set}
-use Rattle.fx_sound.specs.Known.{IfKnown}
-use Rattle.fx_frame.specs.declared.coding.Coding.{Coding}
-use Rattle.fx_frame.specs.Frame.{Samples}
-use Rattle.fx_frame.specs.Holds.{kinds, recipes, total}
-use Rattle.fx_frame.specs.Stage.{Acts}
+use Rattle.fx_heads.specs.Known.{IfKnown}
+use Rattle.fx_io.specs.declared.coding.Coding.{Coding}
+use Rattle.fx_step.specs.Frame.{Samples}
+use Rattle.fx_step.specs.Holds.{kinds, recipes, total}
+use Rattle.fx_step.specs.Stage.{Acts}
 use Rattle.fx_flow.specs.Parts.{Parts, given_by, moves_of, taken_of}
 use Rattle.fx_flow.specs.Composed.{Whole, due_of, enough_for}
 use Rattle.fx_flow.specs.Steps.{IsDone, IsHungry, rest_of, wholes_of}

@@ -2,23 +2,14 @@
 use Rattle.std.proofs.Common.{◌≡◌, ℕ, ◌+◌, ◌-◌, ◌≤◌, List, [], ◌∷◌, ◌++◌, length, take, drop, refl, sym, ap, ◌∙◌, arith, mul-le-mul}
 use Rattle.std.proofs.lemmas.List.{append_assoc, length-append, length-drop, take_all, take-append-drop, take-append-le, flat_map_more}
 use Rattle.std.proofs.lemmas.List.Sums.{count_by-le-length, sum_by-append}
-use Rattle.std.proofs.KnownBytes.{Appends-nil}
 use Rattle.std.specs.Prelude.{Option}
-use Rattle.fx_frame.specs.declared.coding.Coding.{Coding}
-use Rattle.fx_frame.specs.Frame.{Samples}
-use Rattle.fx_frame.specs.FrameCoding.{bytes_of, clips_of, frame_size}
-use Rattle.fx_frame.specs.Coding.{clips_written, width_of}
-use Rattle.fx_frame.specs.declared.coding.Coding.TheVariants.{U8, S8, S16Le, S16Be, S24Le, S24Be, S32Le, S32Be}
+use Rattle.fx_io.specs.declared.coding.Coding.{Coding}
+use Rattle.fx_step.specs.Frame.{Samples}
+use Rattle.fx_heads.specs.FrameCoding.{bytes_of, clips_of, frame_size}
+use Rattle.fx_io.specs.Coding.{clips_written, width_of}
+use Rattle.fx_io.specs.declared.coding.Coding.TheVariants.{U8, S8, S16Le, S16Be, S24Le, S24Be, S32Le, S32Be}
 use Rattle.fx_sound.specs.Output.{Pending, Sent}
 use Rattle.fx_run.specs.Outlet.{WroteFront, WroteAll, coded, coded_clips}
-
--- nothing was to be sent yet
-pub Sent-start : (now : Option (List ℕ)) (out : Pending) → out.bytes ≡ [] → out.written ≡ 0 → Sent now now out []
-Sent-start now out b w = record {
-  within = omega (arith, w);
-  taken = rw w (Appends-nil now);
-  waiting = rw w b;
-}
 
 -- what was sent is a front, whatever comes behind
 pub WroteFront-sent : (first now : Option (List ℕ)) (out : Pending) (all more : List ℕ) → Sent first now out all → WroteFront first now out.written (all ++ more)

@@ -1,7 +1,7 @@
 -- What effects in a row have given when each has given all that is due (this project's profile).
 use Rattle.std.specs.Prelude.{ℕ, List, [], ◌∷◌, map, take}
-use Rattle.fx_frame.specs.Frame.{Samples}
-use Rattle.fx_frame.specs.Stage.{Given, Kind}
+use Rattle.fx_step.specs.Frame.{Samples}
+use Rattle.fx_step.specs.Stage.{Given, Kind}
 use Rattle.fx_flow.specs.Composed.{clips_of, frames_of}
 
 -- of each effect how many frames it has given when all are dry after n frames, with no end

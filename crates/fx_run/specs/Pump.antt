@@ -1,18 +1,18 @@
 -- What stays true while the frames of a sound go through a flow to a writer (this project's profile).
 use Rattle.std.specs.Prelude.{◌≡◌, ℕ, ◌+◌, ◌*◌, ◌≤◌, false, List, Option, length}
-use Rattle.fx_frame.specs.declared.coding.Coding.{Coding}
-use Rattle.fx_frame.specs.Holds.{kinds, recipes}
-use Rattle.fx_frame.specs.Io.{ByteReader}
-use Rattle.fx_frame.specs.Stage.{Acts}
+use Rattle.fx_io.specs.declared.coding.Coding.{Coding}
+use Rattle.fx_step.specs.Holds.{kinds, recipes}
+use Rattle.fx_io.specs.Io.{ByteReader}
+use Rattle.fx_step.specs.Stage.{Acts}
 use Rattle.fx_flow.specs.Parts.{Parts, given_by, taken_of}
 use Rattle.fx_flow.specs.Steps.{IsHungry}
 use Rattle.fx_sound.specs.declared.progress.TheConstants.{MOST_FRAMES}
 use Rattle.fx_sound.specs.Container.{after_frames}
-use Rattle.fx_sound.specs.Known.{IfKnown}
+use Rattle.fx_heads.specs.Known.{IfKnown}
 use Rattle.fx_sound.specs.Output.{Pending, bytes_put}
 use Rattle.fx_sound.specs.Runs.{Ran}
 use Rattle.fx_sound.specs.Sound.{Reading, size_of, within}
-use Rattle.fx_sound.specs.Source.{Held, Takes, to_come}
+use Rattle.fx_heads.specs.Source.{Held, Takes, to_come}
 use Rattle.fx_run.specs.Run.{Flowed, FlowedFront, WantsMore, sound_frames}
 
 -- what a run begins with: a flow, a source, how far its sound was read, the coding and the head of the output, and what the

@@ -1,20 +1,20 @@
 -- What a run reports (this project's profile).
 use Rattle.std.specs.Prelude.{◌≡◌, ◌≢◌, ◌⊎◌, ℕ, ◌+◌, ◌-◌, ◌*◌, ◌%◌, ◌==◌, ◌≤◌, Bool, true, false, cond, not, ◌&&◌, MatchBool, sum, List, [], ◌∷◌, ◌++◌, length, map, replicate, take, Option, None, Result, Ok, Err}
-use Rattle.fx_frame.specs.declared.coding.Coding.{Coding}
-use Rattle.fx_frame.specs.Frame.{Samples}
-use Rattle.fx_frame.specs.Holds.{kinds, recipes, total}
-use Rattle.fx_frame.specs.Io.{saturated}
-use Rattle.fx_frame.specs.Stage.{Acts}
+use Rattle.fx_io.specs.declared.coding.Coding.{Coding}
+use Rattle.fx_step.specs.Frame.{Samples}
+use Rattle.fx_step.specs.Holds.{kinds, recipes, total}
+use Rattle.fx_io.specs.Io.{saturated}
+use Rattle.fx_step.specs.Stage.{Acts}
 use Rattle.fx_flow.specs.Parts.{AllNew, Parts}
 use Rattle.fx_flow.specs.Composed.{Whole, due_of, enough_for}
 use Rattle.fx_flow.specs.Steps.{IsDone, IsHungry, rest_of, wholes_of}
-use Rattle.fx_sound.specs.declared.head.Head.{Head}
-use Rattle.fx_sound.specs.declared.head.Kind.{Kind}
-use Rattle.fx_sound.specs.declared.head.Kind.TheVariants.{Wav, Au}
+use Rattle.fx_heads.specs.declared.head.Head.{Head}
+use Rattle.fx_heads.specs.declared.head.Kind.{Kind}
+use Rattle.fx_heads.specs.declared.head.Kind.TheVariants.{Wav, Au}
 use Rattle.fx_sound.specs.declared.progress.TheConstants.{MOST_FRAMES}
 use Rattle.fx_sound.specs.Sound.{Reading, size_of, within}
-use Rattle.fx_sound.specs.Source.{Held}
-use Rattle.fx_sound.specs.Writing.{written_head}
+use Rattle.fx_heads.specs.Source.{Held}
+use Rattle.fx_heads.specs.Writing.{written_head}
 use Rattle.fx_run.specs.declared.pump.Cause.{Cause}
 use Rattle.fx_run.specs.declared.pump.Cause.TheVariants as Causes
 use Rattle.fx_run.specs.declared.report.Report.{Report}

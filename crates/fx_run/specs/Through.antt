@@ -1,9 +1,9 @@
 -- Frames that go through a flow to a writer (this project's profile).
 use Rattle.std.specs.Prelude.{◌≡◌, ℕ, ◌+◌, true, false, List, [], ◌∷◌, ◌++◌, length, Option, Some}
-use Rattle.fx_frame.specs.declared.coding.Coding.{Coding}
-use Rattle.fx_frame.specs.Frame.{Samples}
-use Rattle.fx_frame.specs.Holds.{recipes}
-use Rattle.fx_frame.specs.Stage.{Acts}
+use Rattle.fx_io.specs.declared.coding.Coding.{Coding}
+use Rattle.fx_step.specs.Frame.{Samples}
+use Rattle.fx_step.specs.Holds.{recipes}
+use Rattle.fx_step.specs.Stage.{Acts}
 use Rattle.fx_flow.specs.Parts.{Parts, given_by, taken_of}
 use Rattle.fx_flow.specs.Steps.{IsDone, IsHungry, MovedOn, given_out, rest_of, wholes_of}
 use Rattle.fx_flow.specs.declared.flow.Step.{Step}

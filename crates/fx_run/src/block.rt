@@ -5,8 +5,8 @@ ghost use Rattle.fx_run.specs.Pump.{Pumped, PumpedFront, Start};
 ghost use Rattle.fx_flow.specs.Parts.{given_by, most_of, taken_of};
 ghost use Rattle.fx_flow.specs.Sound.{most_frames};
 ghost use Rattle.fx_flow.specs.Steps.{IsHungry};
-ghost use Rattle.fx_frame.specs.Holds.{kinds};
-ghost use Rattle.fx_frame.specs.Io.{CountsFailure};
+ghost use Rattle.fx_step.specs.Holds.{kinds};
+ghost use Rattle.fx_io.specs.Io.{CountsFailure};
 ghost use Rattle.fx_sound.specs.Output.{bytes_put};
 
 use crate::drain::drain;
@@ -57,12 +57,12 @@ fn pass_block<R, S: Feeds>(
         return;
     }
     let room = outlet.room(outputs);
-    let count = source.held_frames(progress, tried(channels, room));
+    let count = progress.held_frames(source, tried(channels, room));
     let input = &mut input[..count * channels];
-    source.decode_held(progress, count, input);
+    progress.decode_held(source, count, input);
     let output = &mut output[..room * outputs];
     let passed = flow.feed(input, output);
-    source.pass_held(progress, passed.taken);
+    progress.pass_held(source, passed.taken);
     outlet.put(&output[..passed.given * outputs]);
 }
 

@@ -3,14 +3,14 @@ ghost use Rattle.std.specs.Prelude.{◌≡◌, ◌+◌, ◌*◌, ◌≤◌, ◌^
 ghost use Rattle.fx_run.specs.Through.{CutOff, Drained, Waits};
 ghost use Rattle.fx_flow.specs.Parts.{given_by, most_of};
 ghost use Rattle.fx_flow.specs.Sound.{most_frames};
-ghost use Rattle.fx_frame.specs.Holds.{kinds};
-ghost use Rattle.fx_frame.specs.Io.{CountsFailure};
+ghost use Rattle.fx_step.specs.Holds.{kinds};
+ghost use Rattle.fx_io.specs.Io.{CountsFailure};
 ghost use Rattle.fx_sound.specs.Output.{bytes_put};
 
 use crate::outlet::Outlet;
 use fx_flow::flow::{Flow, State, Step};
-use fx_frame::stage::Stage;
 use fx_frame::{ByteOut, Failed};
+use fx_step::stage::Stage;
 
 /// Steps a flow until it waits, and sends what it gives.
 #[inline(always)]

@@ -7,23 +7,23 @@ ghost use Rattle.fx_run.specs.Run.{RanToFailure, WantsMore, sound_frames};
 ghost use Rattle.fx_flow.specs.Parts.{given_by, moves_of, most_of, taken_of, work};
 ghost use Rattle.fx_flow.specs.Sound.{most_frames};
 ghost use Rattle.fx_flow.specs.Steps.{IsDone, IsHungry, wholes_of};
-ghost use Rattle.fx_frame.specs.Holds.{kinds, recipes, total};
-ghost use Rattle.fx_frame.specs.Io.{CountsFailure};
-ghost use Rattle.fx_sound.specs.Kind.{is_coding_of};
-ghost use Rattle.fx_sound.specs.Known.{IfKnown};
+ghost use Rattle.fx_step.specs.Holds.{kinds, recipes, total};
+ghost use Rattle.fx_io.specs.Io.{CountsFailure};
+ghost use Rattle.fx_heads.specs.Kind.{is_coding_of};
+ghost use Rattle.fx_heads.specs.Known.{IfKnown};
 ghost use Rattle.fx_sound.specs.Output.{Sent, bytes_put};
-ghost use Rattle.fx_sound.specs.Source.{to_come};
-ghost use Rattle.fx_sound.specs.Writing.{written_head};
+ghost use Rattle.fx_heads.specs.Source.{to_come};
+ghost use Rattle.fx_heads.specs.Writing.{written_head};
 
 use crate::outlet::Outlet;
 use crate::pump::{Cause, pump};
 use crate::report::{MOST_EFFECTS, Report, RunFault};
 use crate::target::Target;
 use fx_flow::flow::Flow;
-use fx_frame::stage::Stage;
 use fx_frame::{ByteIn, ByteOut, Failed, Feeds};
 use fx_sound::inner::Output;
 use fx_sound::{Head, HeadBytes, Kind, Progress, Source, head_bytes};
+use fx_step::stage::Stage;
 
 // A zero byte behind an odd number of bytes of sound in a WAVE file.
 fn padding(target: Target, bytes: u64) -> &'static [u8]

@@ -1,8 +1,8 @@
 //! Frames on their way to a writer.
 ghost use Rattle.std.specs.Prelude.{◌≡◌, ◌+◌, ◌*◌, ◌<◌, ◌≤◌, ◌^◌, ◌++◌, OnErr, OnOk, length};
-ghost use Rattle.fx_frame.specs.Coding.{width_of};
-ghost use Rattle.fx_frame.specs.FrameCoding.{bytes_of, clips_of, frame_size};
-ghost use Rattle.fx_frame.specs.Io.{CountsFailure};
+ghost use Rattle.fx_io.specs.Coding.{width_of};
+ghost use Rattle.fx_heads.specs.FrameCoding.{bytes_of, clips_of, frame_size};
+ghost use Rattle.fx_io.specs.Io.{CountsFailure};
 ghost use Rattle.fx_sound.specs.Output.{SendsMore, SendsPart, bytes_put};
 
 use fx_frame::{ByteOut, Coding, Failed, Frame};

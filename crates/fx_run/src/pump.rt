@@ -7,22 +7,22 @@ ghost use Rattle.fx_flow.specs.Parts.{given_by, most_of, taken_of};
 ghost use Rattle.fx_flow.specs.Composed.{due_of, enough_for};
 ghost use Rattle.fx_flow.specs.Sound.{most_frames};
 ghost use Rattle.fx_flow.specs.Steps.{IsDone, IsHungry, rest_of};
-ghost use Rattle.fx_frame.specs.Frame.{Samples};
-ghost use Rattle.fx_frame.specs.Holds.{kinds, recipes};
-ghost use Rattle.fx_frame.specs.Io.{CountsFailure, saturated};
-ghost use Rattle.fx_sound.specs.Known.{IfKnown};
+ghost use Rattle.fx_step.specs.Frame.{Samples};
+ghost use Rattle.fx_step.specs.Holds.{kinds, recipes};
+ghost use Rattle.fx_io.specs.Io.{CountsFailure, saturated};
+ghost use Rattle.fx_heads.specs.Known.{IfKnown};
 ghost use Rattle.fx_sound.specs.Output.{bytes_put};
 ghost use Rattle.fx_sound.specs.Sound.{size_of, within};
-ghost use Rattle.fx_sound.specs.Source.{to_come};
+ghost use Rattle.fx_heads.specs.Source.{to_come};
 
 use crate::block::pump_block;
 use crate::drain::drain;
 use crate::outlet::Outlet;
 use fx_flow::flow::Flow;
-use fx_frame::stage::Stage;
 use fx_frame::{ByteIn, ByteOut, Failed, Feeds};
 use fx_sound::inner::BUFFER_SIZE;
 use fx_sound::{MOST_FRAMES, Progress, ReadFault, Source, next_frame};
+use fx_step::stage::Stage;
 
 /// Why a run stopped.
 #[derive(Clone, Copy, Debug, PartialEq, Eq)]

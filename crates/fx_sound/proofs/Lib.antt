@@ -1,16 +1,6 @@
 pub mod FrameBytes
 pub mod Threes
 pub mod ManyBytes
-pub mod Faults
-pub mod Held
 pub mod RunLaws
 pub mod Sounds
 pub mod Sending
-pub mod AuLemmas
-pub mod WaveLemmas
-pub mod WaveLocal
-pub mod WaveCut
-pub mod WaveRiff
-pub mod Chunks
-pub mod ChunksFound
-pub mod HeadLemmas

@@ -2,50 +2,35 @@
 use Rattle.std.proofs.Common.{◌≡◌, ◌+◌, ◌*◌, ◌≤◌, ℕ, zero, suc, List, [], ◌∷◌, ◌++◌, length, take, drop, map, refl, sym, ap, ◌∙◌, arith, length-drop}
 use Rattle.std.specs.Prelude.{sum_by}
 use Rattle.std.specs.List.{flat_map}
-use Rattle.std.proofs.lemmas.List.{append-nil, drop-drop, drop_all, map-append, length-map, take_at, drop_at}
+use Rattle.std.proofs.lemmas.List.{append-nil, drop_all, map-append, length-map, take_at, drop_at}
 use Rattle.std.proofs.lemmas.List.Sums.{sum_by-cons}
 use Rattle.std.proofs.lemmas.Slice.{take-put_mid}
 use Rattle.std.proofs.Math.Nat.{suc-mul}
-use Rattle.fx_frame.specs.declared.coding.Coding.{Coding}
-use Rattle.fx_frame.specs.Coding.{read_sample, width_of}
-use Rattle.fx_frame.specs.Frame.{Samples}
-use Rattle.fx_frame.specs.FrameCoding.{bytes_of, clips_of, frame_size, samples_of}
-use Rattle.fx_frame.specs.Pieces as bytewise
-use Rattle.fx_frame.specs.Ring.{pieces}
-use Rattle.fx_frame.proofs.Feeding.{pieces-take}
+use Rattle.fx_io.specs.declared.coding.Coding.{Coding}
+use Rattle.fx_io.specs.Coding.{read_sample, width_of}
+use Rattle.fx_step.specs.Frame.{Samples}
+use Rattle.fx_heads.specs.FrameCoding.{bytes_of, clips_of, frame_size, samples_of}
+use Rattle.fx_lists.specs.Lists.{pieces}
+use Rattle.fx_lists.proofs.Puts.{pieces-split, pieces-take}
 use Rattle.fx_sound.proofs.FrameBytes.{bytes_of-part, clips_of-part}
-use Rattle.fx_frame.proofs.Pieces.{length-pieces}
+use Rattle.fx_lists.proofs.Pieces.{length-pieces}
 use borrow.Rule.Slice.PartMut.{put_mid}
-
--- both words for the pieces of bytes say the same
-same-pieces : (size n : ℕ) (xs : List ℕ) → bytewise.pieces size n xs ≡ pieces size n xs
-same-pieces size zero xs = refl
-same-pieces size (suc n) xs = ap (λ ps. take size xs ∷ ps) (same-pieces size n (drop size xs))
-
--- the first pieces, and those behind them
-pieces-add : (size n m : ℕ) (xs : List ℕ) → pieces size (n + m) xs ≡ pieces size n xs ++ pieces size m (drop (n * size) xs)
-pieces-add size zero m xs = let e : 0 + m ≡ m = omega arith in let z : 0 * size ≡ 0 = omega arith in rw (e, z) refl
-pieces-add size (suc n) m xs =
-    let e : suc n + m ≡ suc (n + m) = omega arith in
-    let k : size + n * size ≡ suc n * size = omega (arith, suc-mul n size) in
-    rw e (ap (λ ps. take size xs ∷ ps) (pieces-add size n m (drop size xs) ∙ ap (λ ys. pieces size n (drop size xs) ++ pieces size m ys) (drop-drop (n * size) size xs ∙ ap (λ i. drop i xs) k)))
 
 -- the first samples, and those behind them
 pub samples_of-part : (coding : Coding) (n m : ℕ) (bytes : List ℕ) → samples_of coding (n + m) bytes ≡ samples_of coding n bytes ++ samples_of coding m (drop (n * width_of coding) bytes)
 samples_of-part coding n m bytes =
     let w : ℕ = width_of coding in
     let left : List ℕ = drop (n * w) bytes in
-    ap (map (read_sample coding)) (same-pieces w (n + m) bytes ∙ pieces-add w n m bytes) ∙ map-append (read_sample coding) (pieces w n bytes) (pieces w m left)
-    ∙ ap (λ ps. map (read_sample coding) ps ++ map (read_sample coding) (pieces w m left)) (sym (same-pieces w n bytes)) ∙ ap (λ ps. samples_of coding n bytes ++ map (read_sample coding) ps) (sym (same-pieces w m left))
+    ap (map (read_sample coding)) (pieces-split w n m bytes) ∙ map-append (read_sample coding) (pieces w n bytes) (pieces w m left)
 
 -- they are of their own bytes alone
 pub samples_of-front : (coding : Coding) (n : ℕ) (bytes : List ℕ) → n * width_of coding ≤ length bytes → samples_of coding n (take (n * width_of coding) bytes) ≡ samples_of coding n bytes
 samples_of-front coding n bytes h =
     let w : ℕ = width_of coding in
-    ap (map (read_sample coding)) (same-pieces w n (take (n * w) bytes) ∙ pieces-take w n bytes h ∙ sym (same-pieces w n bytes))
+    ap (map (read_sample coding)) (pieces-take w n bytes h)
 
 pub length-samples_of : (coding : Coding) (n : ℕ) (bytes : List ℕ) → length (samples_of coding n bytes) ≡ n
-length-samples_of coding n bytes = ap (λ ps. length (map (read_sample coding) ps)) (same-pieces (width_of coding) n bytes) ∙ simp (length-map, length-pieces) refl
+length-samples_of coding n bytes = simp (length-map, length-pieces) refl
 
 -- the samples of the bytes behind the first ones are written behind the first samples
 module _ (coding : Coding) (bytes : List ℕ) (xs new : Samples) (k n : ℕ) (within : (k + n) * width_of coding ≤ length bytes) (before : k ≤ length xs)
@@ -82,14 +67,13 @@ decoded-frames coding channels (suc n) bytes h =
     let front : Samples = map (read_sample coding) (pieces w channels bytes) in
     let back : Samples = map (read_sample coding) (pieces w (n * channels) (drop size bytes)) in
     let cut : samples_of coding (suc n * channels) bytes ≡ front ++ back =
-    ap (map (read_sample coding)) (same-pieces w (suc n * channels) bytes ∙ ap (λ m. pieces w m bytes) e ∙ pieces-add w channels (n * channels) bytes) ∙ map-append (read_sample coding) (pieces w channels bytes) (pieces w (n * channels) (drop size bytes)) in
+    ap (map (read_sample coding)) (ap (λ m. pieces w m bytes) e ∙ pieces-split w channels (n * channels) bytes) ∙ map-append (read_sample coding) (pieces w channels bytes) (pieces w (n * channels) (drop size bytes)) in
     let many : length front ≡ channels = simp (length-map, length-pieces) refl in
     let first : take channels (front ++ back) ≡ front = take_at front back channels many in
     let rest : drop channels (front ++ back) ≡ back = drop_at front back channels many in
-    let one : front ≡ samples_of coding channels (take size bytes) = ap (map (read_sample coding)) (sym (pieces-take w channels bytes (omega arith)) ∙ sym (same-pieces w channels (take size bytes))) in
-    let left : back ≡ samples_of coding (n * channels) (drop size bytes) = ap (map (read_sample coding)) (sym (same-pieces w (n * channels) (drop size bytes))) in
+    let one : front ≡ samples_of coding channels (take size bytes) = ap (map (read_sample coding)) (sym (pieces-take w channels bytes (omega arith))) in
     let more = decoded-frames coding channels n (drop size bytes) (omega (arith, length-drop size bytes)) in
-    rw (cut, first, rest) (ap (λ x. x ∷ pieces channels n back) one ∙ ap (λ ps. samples_of coding channels (take size bytes) ∷ ps) (ap (pieces channels n) left ∙ more))
+    rw (cut, first, rest) (ap (λ x. x ∷ pieces channels n back) one ∙ ap (λ ps. samples_of coding channels (take size bytes) ∷ ps) more)
 
 -- the bytes of frames, one after another, and their clips together
 pub encoded-frames : (coding : Coding) (channels n : ℕ) (xs : Samples) → flat_map (bytes_of coding) (pieces channels n xs) ≡ bytes_of coding (take (n * channels) xs)

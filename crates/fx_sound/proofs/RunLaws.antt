@@ -3,14 +3,16 @@ use Rattle.std.specs.Prelude.{◌≡◌, ℕ, zero, suc, true, ◌+◌, ◌-◌,
 use Rattle.std.proofs.Common.{sym, ap, ◌∙◌, arith, add-one}
 use Rattle.std.proofs.lemmas.List.{drop-drop, length-drop, length-take, map-append, take-take, drop-take}
 use Rattle.std.proofs.Math.Arith.{digits_div, digits_mod}
-use Rattle.fx_frame.specs.declared.coding.Coding.{Coding}
-use Rattle.fx_frame.specs.Frame.{Samples}
-use Rattle.fx_frame.specs.FrameCoding.{frame_size, samples_of}
-use Rattle.fx_frame.specs.Pieces.{pieces, pieces-suc}
-use Rattle.fx_sound.specs.Source.{Held, Tells, Takes, FallsShort}
+use Rattle.fx_io.specs.declared.coding.Coding.{Coding}
+use Rattle.fx_step.specs.Frame.{Samples}
+use Rattle.fx_heads.specs.FrameCoding.{frame_size, samples_of}
+use Rattle.fx_lists.specs.Lists.{pieces}
+use Rattle.fx_lists.proofs.Puts.{pieces-suc}
+use Rattle.fx_heads.specs.Source.{Held, Takes, FallsShort}
 use Rattle.fx_sound.specs.Sound.{Reading, size_of, within, at_most_announced, beyond, lacking, after_frame, after_end, TakesFrame, EndsSound}
 use Rattle.fx_sound.specs.Runs.{Ran}
 use Rattle.fx_sound.specs.Container.{first_frames, after_frames, at_end, ReadAllTold}
+use Rattle.fx_heads.proofs.Held.{Tells-both}
 
 -- a length in whole parts
 quotient_of : (n size rest total : ℕ) → rest < size → total ≡ n * size + rest → (n ≡ total / size) × (rest ≡ total % size)
@@ -123,28 +125,8 @@ Ran-whole first now bytes n to_come r h =
     let more : (n + 1) * size_of first ≡ n * size_of first + size_of first = omega arith in
     omega (arith, h, rest, same, r.whole)
 
--- bytes that were taken, and then more
-pub Takes-more : {R : Type 0} (told : R → ℕ) (old mid new : Held R) (n m : ℕ) → Takes told old mid n → Takes told mid new m → Takes told old new (n + m)
-Takes-more told old mid new n m p q = record {
-  enough = omega (arith, p.enough, q.enough);
-  counted = λ h.
-      let e = q.counted h in
-      let f = p.counted (omega (arith, q.enough)) in
-      omega arith;
-}
-
 pub Takes-none : {R : Type 0} (told : R → ℕ) (s : Held R) → Takes told s s 0
 Takes-none told s = record { enough = omega arith; counted = λ _. omega arith }
-
--- bytes that were taken, and then what was there or came
-pub Tells-more : {R : Type 0} (told : R → ℕ) (old mid : Held R) (new : R) (n m : ℕ) → Takes told old mid n → Tells told mid new m → Tells told old new (n + m)
-Tells-more told old mid new n m p q = record {
-  enough = omega (arith, p.enough, q.enough);
-  counted = λ h.
-      let e = q.counted h in
-      let f = p.counted (omega (arith, q.enough)) in
-      omega arith;
-}
 
 -- all whole frames of what was told were read
 pub Ran-failed : {R : Type 0} (told : R → ℕ) (first now : Reading) (n : ℕ) (start old : Held R) (new : R)
@@ -153,7 +135,7 @@ pub Ran-failed : {R : Type 0} (told : R → ℕ) (first now : Reading) (n : ℕ)
 Ran-failed told first now n start old new e t f = record {
   count = λ h.
       let size : ℕ = size_of first in
-      let all = Tells-more told start old new (n * size) f.came t f.tells in
+      let all = Tells-both told start old new (n * size) f.came t f.tells in
       let c = all.counted h in
       let total : length start.bytes + (told new - told start.reader) ≡ n * size + f.came = omega (arith, all.enough) in
       let few : f.came < at_most_announced (beyond first.left (n * size)) size = rw (ap (λ p. at_most_announced p.left (size_of p)) e) at f.few in

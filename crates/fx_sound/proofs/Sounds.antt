@@ -1,22 +1,20 @@
 -- The sound behind a head, frame by frame.
-use Rattle.std.proofs.Common.{◌≡◌, ℕ, zero, suc, ◌+◌, ◌-◌, ◌*◌, ◌≤◌, List, ◌∷◌, ◌++◌, length, map, take, drop, refl, sym, ap, ◌∙◌, arith}
+use Rattle.std.proofs.Common.{◌≡◌, ℕ, ◌+◌, ◌-◌, ◌*◌, ◌≤◌, List, ◌++◌, length, map, take, drop, sym, ap, ◌∙◌, arith}
 use Rattle.std.proofs.Math.Nat.{mul-le-mul_right}
 use Rattle.std.proofs.lemmas.List.{length-map, length-take, map-append, take_at}
 use Rattle.std.specs.Prelude.{Option, None, Some}
 use Rattle.std.specs.Io.KnownBytes.{prepend_known}
-use Rattle.fx_frame.specs.Frame.{Samples}
-use Rattle.fx_frame.specs.declared.coding.Coding.{Coding}
-use Rattle.fx_frame.specs.FrameCoding.{frame_size, samples_of}
-use Rattle.fx_frame.specs.Pieces.{pieces}
-use Rattle.fx_frame.specs.Ring as any
-use Rattle.fx_frame.proofs.Feeding.{pieces-take}
-use Rattle.fx_frame.proofs.FeedParts.{pieces-split}
-use Rattle.fx_frame.proofs.Pieces.{length-pieces}
+use Rattle.fx_step.specs.Frame.{Samples}
+use Rattle.fx_io.specs.declared.coding.Coding.{Coding}
+use Rattle.fx_heads.specs.FrameCoding.{frame_size, samples_of}
+use Rattle.fx_lists.specs.Lists.{pieces}
+use Rattle.fx_lists.proofs.Puts.{pieces-take, pieces-split}
+use Rattle.fx_lists.proofs.Pieces.{length-pieces}
 use Rattle.fx_sound.specs.Container.{first_frames}
-use Rattle.fx_sound.specs.Known.{IfKnown}
-use Rattle.fx_sound.specs.Source.{Held, to_come, Stays}
+use Rattle.fx_heads.specs.Known.{IfKnown}
+use Rattle.fx_heads.specs.Source.{Held, to_come, Stays}
 use Rattle.fx_sound.specs.Sound.{AreHeld, Reading, size_of, within, at_most_announced, TakesFrame}
-use Rattle.fx_sound.proofs.Held.{to_come-front, to_come-dropped}
+use Rattle.fx_heads.proofs.Held.{to_come-front, to_come-dropped}
 
 -- a whole frame is announced and there
 pub whole_within : (left : Option ℕ) (bytes : List ℕ) (size : ℕ) → size ≤ at_most_announced left size → size ≤ length bytes → size ≤ length (within left bytes)
@@ -39,30 +37,23 @@ TakesFrame-held rest p old mid new wanted size frame held stays s w h k t f b r 
       others = ap (λ l. prepend_known l (rest new.reader)) b ∙ ap (λ x. prepend_known (drop size mid.bytes) (rest x)) r ∙ back.1 ∙ ap (λ n. Some (drop n bytes)) s;
     }
 
--- both words for the pieces of bytes say the same
-same-pieces : (size n : ℕ) (xs : List ℕ) → pieces size n xs ≡ any.pieces size n xs
-same-pieces size zero xs = refl
-same-pieces size (suc n) xs = ap (λ ps. take size xs ∷ ps) (same-pieces size n (drop size xs))
-
 -- the first frames of a sound need no more of its bytes than they take
 pub first_frames-taken : (coding : Coding) (channels n : ℕ) (bytes : List ℕ) → n * frame_size coding channels ≤ length bytes
-    → map (samples_of coding channels) (any.pieces (frame_size coding channels) n (take (n * frame_size coding channels) bytes)) ≡ first_frames coding channels n bytes
+    → map (samples_of coding channels) (pieces (frame_size coding channels) n (take (n * frame_size coding channels) bytes)) ≡ first_frames coding channels n bytes
 first_frames-taken coding channels n bytes h =
-    ap (map (samples_of coding channels)) (pieces-take (frame_size coding channels) n bytes h ∙ sym (same-pieces (frame_size coding channels) n bytes))
+    ap (map (samples_of coding channels)) (pieces-take (frame_size coding channels) n bytes h)
 
 -- the first frames, and those behind them
 pub first_frames-add : (coding : Coding) (channels n k : ℕ) (bytes : List ℕ)
     → first_frames coding channels (n + k) bytes ≡ first_frames coding channels n bytes ++ first_frames coding channels k (drop (n * frame_size coding channels) bytes)
 first_frames-add coding channels n k bytes =
     let size : ℕ = frame_size coding channels in
-    let cut : pieces size (n + k) bytes ≡ pieces size n bytes ++ pieces size k (drop (n * size) bytes) =
-    rw (same-pieces size (n + k) bytes, same-pieces size n bytes, same-pieces size k (drop (n * size) bytes)) (pieces-split size n k bytes) in
-    ap (map (samples_of coding channels)) cut ∙ map-append (samples_of coding channels) (pieces size n bytes) (pieces size k (drop (n * size) bytes))
+    ap (map (samples_of coding channels)) (pieces-split size n k bytes) ∙ map-append (samples_of coding channels) (pieces size n bytes) (pieces size k (drop (n * size) bytes))
 
 pub length-first_frames : (coding : Coding) (channels n : ℕ) (bytes : List ℕ) → length (first_frames coding channels n bytes) ≡ n
 length-first_frames coding channels n bytes =
     let size : ℕ = frame_size coding channels in
-    length-map (pieces size n bytes) (samples_of coding channels) ∙ ap length (same-pieces size n bytes) ∙ length-pieces size n bytes
+    length-map (pieces size n bytes) (samples_of coding channels) ∙ length-pieces size n bytes
 
 -- the frames that a source holds are the next ones of the sound
 pub held-next : {R : Type 0} (rest : R → Option (List ℕ)) (p : Reading) (s : Held R) (n : ℕ) → AreHeld p s.bytes n
@@ -70,7 +61,7 @@ pub held-next : {R : Type 0} (rest : R → Option (List ℕ)) (p : Reading) (s :
 held-next rest p s n held bytes known =
     let front = to_come-front rest s (n * size_of p) held.there bytes known in (
       whole_within p.left bytes (n * size_of p) held.announced front.1,
-      sym (first_frames-taken p.coding p.channels n s.bytes held.there) ∙ ap (λ bs. map (samples_of p.coding p.channels) (any.pieces (size_of p) n bs)) front.0 ∙ first_frames-taken p.coding p.channels n bytes front.1,
+      sym (first_frames-taken p.coding p.channels n s.bytes held.there) ∙ ap (λ bs. map (samples_of p.coding p.channels) (pieces (size_of p) n bs)) front.0 ∙ first_frames-taken p.coding p.channels n bytes front.1,
     )
 
 -- they are taken off what is to come
@@ -97,10 +88,10 @@ AreHeld-fewer p bytes few many h held =
 
 -- where samples are so many frames of a sound, they are fewer of them
 pub first_frames-fewer : (coding : Coding) (channels few many : ℕ) (samples : Samples) (bytes : List ℕ) → few ≤ many
-    → any.pieces channels many samples ≡ first_frames coding channels many bytes → any.pieces channels few samples ≡ first_frames coding channels few bytes
+    → pieces channels many samples ≡ first_frames coding channels many bytes → pieces channels few samples ≡ first_frames coding channels few bytes
 first_frames-fewer coding channels few many samples bytes h e =
     let more : ℕ = many - few in
     let parts : many ≡ few + more = omega arith in
-    let left : any.pieces channels many samples ≡ any.pieces channels few samples ++ any.pieces channels more (drop (few * channels) samples) = ap (λ n. any.pieces channels n samples) parts ∙ pieces-split channels few more samples in
+    let left : pieces channels many samples ≡ pieces channels few samples ++ pieces channels more (drop (few * channels) samples) = ap (λ n. pieces channels n samples) parts ∙ pieces-split channels few more samples in
     let right : first_frames coding channels many bytes ≡ first_frames coding channels few bytes ++ first_frames coding channels more (drop (few * frame_size coding channels) bytes) = ap (λ n. first_frames coding channels n bytes) parts ∙ first_frames-add coding channels few more bytes in
-    sym (take_at (any.pieces channels few samples) _ few (length-pieces channels few samples)) ∙ ap (take few) (sym left ∙ e ∙ right) ∙ take_at (first_frames coding channels few bytes) _ few (length-first_frames coding channels few bytes)
+    sym (take_at (pieces channels few samples) _ few (length-pieces channels few samples)) ∙ ap (take few) (sym left ∙ e ∙ right) ∙ take_at (first_frames coding channels few bytes) _ few (length-first_frames coding channels few bytes)

@@ -1,15 +1,15 @@
 -- A sound in a list of bytes, on the whole list (RIFF WAVE, Sun AU, this project's profile).
 use Rattle.std.specs.Prelude.{◌≡◌, ℕ, ◌+◌, ◌-◌, ◌*◌, ◌/◌, ◌%◌, ◌^◌, ◌<◌, true, List, length, drop, map, Option, Result, Ok, Err}
-use Rattle.fx_frame.specs.declared.coding.Coding.{Coding}
-use Rattle.fx_frame.specs.Frame.{Samples}
-use Rattle.fx_frame.specs.FrameCoding.{frame_size, samples_of}
-use Rattle.fx_frame.specs.Pieces.{pieces}
-use Rattle.fx_sound.specs.declared.head.Kind.{Kind}
-use Rattle.fx_sound.specs.declared.head.HeadFault.{HeadFault}
-use Rattle.fx_sound.specs.declared.fields.Format.{Format}
-use Rattle.fx_sound.specs.Head.{Spelt, head_of}
+use Rattle.fx_io.specs.declared.coding.Coding.{Coding}
+use Rattle.fx_step.specs.Frame.{Samples}
+use Rattle.fx_heads.specs.FrameCoding.{frame_size, samples_of}
+use Rattle.fx_lists.specs.Lists.{pieces}
+use Rattle.fx_heads.specs.declared.head.Kind.{Kind}
+use Rattle.fx_heads.specs.declared.head.HeadFault.{HeadFault}
+use Rattle.fx_heads.specs.declared.fields.Format.{Format}
+use Rattle.fx_heads.specs.Head.{Spelt, head_of}
 use Rattle.fx_sound.specs.Sound.{Reading, size_of, within, at_most_announced, beyond, lacking}
-use Rattle.fx_sound.specs.Source.{Held}
+use Rattle.fx_heads.specs.Source.{Held}
 
 -- the first n frames
 abbrev pub first_frames : Coding → ℕ → ℕ → List ℕ → List Samples

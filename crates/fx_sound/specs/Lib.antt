@@ -1,17 +1,6 @@
-pub mod Known
-pub mod Source
-pub mod Kind
 pub mod Sound
 pub mod Fault
-pub mod Fields
-pub mod Writing
 pub mod Output
-pub mod HeadFields
-pub mod Reads
-pub mod Au
-pub mod Wave
-pub mod Chunks
-pub mod Head
 pub mod Container
 pub mod Runs
 pub mod WholeSound

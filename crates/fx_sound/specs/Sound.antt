@@ -1,8 +1,8 @@
 -- The sound that follows a head (RIFF WAVE, Sun AU, this project's profile).
 use Rattle.std.specs.Prelude.{◌≡◌, ℕ, ◌+◌, ◌-◌, ◌*◌, ◌^◌, ◌<◌, ◌≤◌, min, Bool, true, List, length, take, drop, Option, None, Some}
-use Rattle.fx_frame.specs.declared.coding.Coding.{Coding}
-use Rattle.fx_frame.specs.Frame.{Samples}
-use Rattle.fx_frame.specs.FrameCoding.{frame_size, samples_of}
+use Rattle.fx_io.specs.declared.coding.Coding.{Coding}
+use Rattle.fx_step.specs.Frame.{Samples}
+use Rattle.fx_heads.specs.FrameCoding.{frame_size, samples_of}
 
 -- how far a sound was read: the announced bytes that are left, the frames, the bytes that lack, the bytes after the
 -- last frame, and whether the end was met

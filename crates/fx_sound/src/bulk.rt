@@ -1,9 +1,9 @@
 //! Samples of many frames as bytes.
 ghost use Rattle.std.specs.Prelude.{◌≡◌, ◌*◌, ℕ, length, map, sum_by, ◌≤◌, ◌^◌};
 ghost use Rattle.std.specs.List.{flat_map};
-ghost use Rattle.fx_frame.specs.Coding.{width_of};
-ghost use Rattle.fx_frame.specs.FrameCoding.{bytes_of, clips_of, frame_size, samples_of};
-ghost use Rattle.fx_frame.specs.Ring.{pieces};
+ghost use Rattle.fx_io.specs.Coding.{width_of};
+ghost use Rattle.fx_heads.specs.FrameCoding.{bytes_of, clips_of, frame_size, samples_of};
+ghost use Rattle.fx_lists.specs.Lists.{pieces};
 
 use crate::fours::{read_four, write_four};
 use fx_frame::Coding;

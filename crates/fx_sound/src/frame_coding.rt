@@ -1,12 +1,11 @@
 //! Frames as bytes, at the pace of the inner loop.
 
 ghost use Rattle.std.specs.Prelude.{◌≡◌, ◌*◌, ◌≤◌, length};
-ghost use Rattle.fx_frame.specs.Coding.{width_of};
-ghost use Rattle.fx_frame.specs.Frame.{IsFrame};
-ghost use Rattle.fx_frame.specs.FrameCoding.{frame_size, samples_of, bytes_of, clips_of};
+ghost use Rattle.fx_io.specs.Coding.{width_of};
+ghost use Rattle.fx_step.specs.Frame.{IsFrame};
+ghost use Rattle.fx_heads.specs.FrameCoding.{frame_size, samples_of, bytes_of, clips_of};
 
 use crate::bulk::{decode_into, encode_into};
-use fx_frame::inner::{frame_of, one, samples, two};
 use fx_frame::{Coding, Frame};
 
 /// The frame of 1 to 16 channels that the bytes are.
@@ -18,10 +17,10 @@ pub fn decoded(coding: Coding, channels: usize, bytes: &[u8]) -> Frame
     ensures channels { length result ≡ channels }
 {
     match channels {
-        1 => one(coding.read(bytes)),
+        1 => Frame::one(coding.read(bytes)),
         2 => {
             let (first, second) = bytes.split_at(coding.width());
-            two(coding.read(first), coding.read(second))
+            Frame::two(coding.read(first), coding.read(second))
         }
         _ => decoded_wide(coding, channels, bytes),
     }
@@ -36,7 +35,7 @@ fn decoded_wide(coding: Coding, channels: usize, bytes: &[u8]) -> Frame
 {
     let mut samples = [0; 16];
     decode_into(coding, bytes, &mut samples[..channels]);
-    frame_of(channels, samples)
+    Frame::of_first(channels, samples)
 }
 
 /// Writes the bytes of a frame, and tells how many of its samples were clipped.
@@ -47,7 +46,7 @@ pub fn encode(frame: &Frame, coding: Coding, out: &mut [u8]) -> u64
     ensures size { length out.new ≡ frame_size coding (length frame.now) }
     ensures clips { result ≡ clips_of coding frame.now }
 {
-    match samples(frame) {
+    match frame.samples() {
         [only] => u64::from(coding.write(*only, out)),
         [first, second] => {
             let (front, back) = out.split_at_mut(coding.width());

@@ -1,14 +1,14 @@
 //! Bytes on their way to a writer, in a buffer.
 
 ghost use Rattle.std.specs.Prelude.{◌≡◌, ◌+◌, ◌-◌, ◌<◌, ◌≤◌, ◌^◌, ◌++◌, true, [], IsOk, OnOk, OnErr, IfOk, length};
-ghost use Rattle.fx_frame.specs.Io.{CountsFailure};
-ghost use Rattle.fx_frame.specs.FrameCoding.{frame_size, bytes_of, clips_of};
+ghost use Rattle.fx_io.specs.Io.{CountsFailure};
+ghost use Rattle.fx_heads.specs.FrameCoding.{frame_size, bytes_of, clips_of};
 ghost use Rattle.fx_sound.specs.Output.{SendsOn, SendsMore, SendsPart, bytes_put};
 
-use super::buffer::BUFFER_SIZE;
 use crate::bulk::encode_into;
 use crate::frame_coding::encode;
 use fx_frame::{ByteOut, Coding, Failed, Frame};
+use fx_heads::buffer::BUFFER_SIZE;
 use std::marker::Model;
 
 /// The most bytes of a frame: 16 channels of 32 bits.
@@ -29,7 +29,7 @@ pub struct Output {
 impl Model for Output {
     ghost use Rattle.std.specs.Prelude.{◌≡◌, ◌≤◌, ◌<◌, ◌-◌, ◌+◌, ◌^◌, take, drop, length};
     ghost use Rattle.fx_sound.specs.Output.{Pending};
-    ghost use Rattle.fx_sound.specs.declared.buffer.TheConstants.{BUFFER_SIZE};
+    ghost use Rattle.fx_heads.specs.declared.buffer.TheConstants.{BUFFER_SIZE};
 
     ghost Value = { Pending };
 

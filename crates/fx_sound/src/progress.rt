@@ -1,17 +1,16 @@
 //! The frames of a sound, one after the other.
 
 ghost use Rattle.std.specs.Prelude.{◌≡◌, ◌≤◌, ◌<◌, ◌+◌, ◌-◌, ◌*◌, false, true, None, IfOk, IfSome, IfNone, OnErr, OnSome, MatchBool, Ok, Err, length, min};
-ghost use Rattle.fx_frame.specs.Io.{saturated};
-ghost use Rattle.fx_sound.specs.Source.{to_come, Takes, FallsShort};
-ghost use Rattle.fx_sound.specs.Known.{IfKnown};
+ghost use Rattle.fx_io.specs.Io.{saturated};
+ghost use Rattle.fx_heads.specs.Source.{to_come, Takes, FallsShort};
+ghost use Rattle.fx_heads.specs.Known.{IfKnown};
 ghost use Rattle.fx_sound.specs.Sound.{size_of, within, at_most_announced, after_frame, after_end, TakesFrame, EndsSound};
 ghost use Rattle.fx_sound.specs.Container.{after_frames};
 ghost use Rattle.fx_sound.specs.Fault.{is_read_failed};
 
-use super::head::Head;
-use super::source::Source;
 use crate::frame_coding::decoded;
 use fx_frame::{ByteIn, Coding, Frame};
+use fx_heads::{Head, Source};
 use std::marker::Model;
 use thiserror::Error;
 
@@ -45,7 +44,7 @@ pub struct Progress {
 
 impl Model for Progress {
     ghost use Rattle.std.specs.Prelude.{◌≡◌, ◌<◌, ◌≤◌};
-    ghost use Rattle.fx_frame.specs.FrameCoding.{frame_size};
+    ghost use Rattle.fx_heads.specs.FrameCoding.{frame_size};
     ghost use Rattle.fx_sound.specs.Sound.{Reading};
     ghost use Rattle.fx_sound.specs.declared.progress.TheConstants.{MOST_FRAMES};
 

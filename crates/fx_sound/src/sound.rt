@@ -2,16 +2,14 @@
 
 ghost use Rattle.std.specs.Prelude.{◌≡◌, ◌+◌, ◌≤◌, ◌*◌, false, IfOk, IfErr, OnOk, Err, MatchResult, length};
 ghost use Rattle.fx_sound.specs.Container.{container, frames_of, at_end, ReadAllTold};
-ghost use Rattle.fx_sound.specs.Known.{IfKnown};
+ghost use Rattle.fx_heads.specs.Known.{IfKnown};
 ghost use Rattle.fx_sound.specs.Sound.{size_of, within};
-ghost use Rattle.fx_sound.specs.Source.{to_come};
+ghost use Rattle.fx_heads.specs.Source.{to_come};
 ghost use Rattle.fx_sound.specs.WholeSound.{outcome, IsBehindHead, IsHeadFault};
 
-use super::head::{Head, HeadFault, Kind};
 use super::progress::{MOST_FRAMES, Progress, ReadFault, next_frame};
-use super::read::read_head;
-use super::source::Source;
 use fx_frame::{ByteIn, Frame};
+use fx_heads::{Head, HeadFault, Kind, Source, read_head};
 use std::alloc::Global;
 use thiserror::Error;
 

@@ -5,13 +5,13 @@ use Rattle.fx_cut.specs.FadeState.{fade_acts}
 use Rattle.fx_cut.specs.PadState.{pad_acts}
 use Rattle.fx_cut.specs.TrimState.{trim_acts}
 use Rattle.fx_cut.specs.UpsampleState.{upsample_acts}
-use Rattle.fx_frame.proofs.FedLaws.{Fed-along, PassedOn-along}
-use Rattle.fx_frame.proofs.RowLaws.{EachThrough-along}
-use Rattle.fx_frame.specs.declared.feed.Passing.{Passing}
-use Rattle.fx_frame.specs.Feed.{Fed, PassedOn}
-use Rattle.fx_frame.specs.Frame.{Samples}
-use Rattle.fx_frame.specs.Row.{EachThrough}
-use Rattle.fx_frame.specs.Stage.{Acts}
+use Rattle.fx_step.proofs.FedLaws.{Fed-along, PassedOn-along}
+use Rattle.fx_step.proofs.RowLaws.{EachThrough-along}
+use Rattle.fx_step.specs.declared.feed.Passing.{Passing}
+use Rattle.fx_step.specs.Feed.{Fed, PassedOn}
+use Rattle.fx_step.specs.Frame.{Samples}
+use Rattle.fx_step.specs.Row.{EachThrough}
+use Rattle.fx_step.specs.Stage.{Acts}
 use Rattle.fx_stages.specs.declared.stage.EffectStage.{EffectStage}
 use Rattle.fx_stages.specs.declared.stage.EffectStage.TheVariants as stages
 use Rattle.fx_stages.specs.Effects.{EffectRecipe, ForTrim, ForPad, ForFade, ForUpsample, ForDownsample, ForDelay, ForEcho, ForEchos, ForFir, ForRemix, ForVol, ForDcShift}

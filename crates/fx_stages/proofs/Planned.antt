@@ -4,8 +4,8 @@ use Rattle.std.specs.Prelude.{Some, sum_by, nat_le}
 use Rattle.std.specs.List.{All, list_any}
 use Rattle.std.proofs.lemmas.Bool.Decides.{nat_tests}
 use Rattle.fx_flow.specs.Parts.{Matching, Within, most_of, work}
-use Rattle.fx_frame.specs.Holds.{hold_sum}
-use Rattle.fx_frame.specs.Stage.{Kind}
+use Rattle.fx_step.specs.Holds.{hold_sum}
+use Rattle.fx_step.specs.Stage.{Kind}
 use Rattle.fx_effects.specs.Bounds
 use Rattle.fx_effects.specs.Bounds.{hold_all, is_past, mosts, work_of}
 use Rattle.fx_effects.specs.Effects
@@ -20,7 +20,7 @@ use Rattle.std.proofs.Math.Nat.{le-div_iff_mul-le}
 use Rattle.fx_stages.specs.Effects.{kind_of_recipe}
 use Rattle.fx_stages.specs.Made.{all_suit, channels_after, recipe_for, recipes_for, suits}
 use Rattle.fx_past.specs.Delay.{every_delay}
-use Rattle.fx_blocks.proofs.DelayLaws.{greatest-filled}
+use Rattle.fx_past.proofs.LongestDelay.{greatest-filled}
 
 -- the kind of an effect's stage
 abbrev pub kind_for : ℕ → Act → Kind

@@ -1,11 +1,11 @@
 -- Stages in a row, cut into the first and those behind it.
 use Rattle.std.proofs.Common.{◌≡◌, ◌≤◌, ◌+◌, ◌*◌, ◌++◌, ℕ, zero, suc, List, [], ◌∷◌, length, slice_index_or, slice_set, true, false, refl, ap, arith}
-use Rattle.std.specs.Prelude.{ℤ, Option, Some, None, is_none}
-use Rattle.fx_frame.specs.Frame.{Samples}
-use Rattle.fx_frame.specs.Holds.{kinds}
-use Rattle.fx_frame.specs.Ring.{pieces}
-use Rattle.fx_frame.specs.Row.{AreReady, EachThrough, RowThrough, outputs_of}
-use Rattle.fx_frame.specs.Stage.{Acts, kind}
+use Rattle.std.specs.Prelude.{ℤ}
+use Rattle.fx_step.specs.Frame.{Samples}
+use Rattle.fx_step.specs.Holds.{kinds}
+use Rattle.fx_lists.specs.Lists.{pieces}
+use Rattle.fx_step.specs.Row.{AreReady, EachThrough, RowThrough, outputs_of}
+use Rattle.fx_step.specs.Stage.{Acts, kind}
 
 -- frames of the same size, or none
 pub same-pieces : (n a b : ℕ) (xs : List ℤ) → (1 ≤ n → a ≡ b) → pieces a n xs ≡ pieces b n xs
@@ -15,11 +15,6 @@ same-pieces (suc n) a b xs same = ap (λ size. pieces size (suc n) xs) (same (om
 pub same-size : (n a b : ℕ) → (1 ≤ n → a ≡ b) → n * a ≡ n * b
 same-size zero a b same = omega arith
 same-size (suc n) a b same = ap (λ size. suc n * size) (same (omega arith))
-
--- no frame in hand
-pub hand-none : {X : Type 0} (hand : Option X) → is_none hand ≡ true → hand ≡ None
-hand-none None e = refl
-hand-none (Some x) e = cc
 
 -- frames taken, and so many more
 pub few-more : (taken so count most limit : ℕ) → taken ≡ so → so + count ≤ most → most ≤ limit → taken + count ≤ limit

@@ -5,10 +5,10 @@ use Rattle.std.specs.Int.{w32}
 use Rattle.std.specs.List.{All}
 use Rattle.std.proofs.lemmas.List.Elements.{All-append, All-cons, All-head, All-nil, All-tail}
 use Rattle.fx_flow.specs.Frozen.{AllSound}
-use Rattle.fx_frame.specs.Frame.{Samples}
-use Rattle.fx_frame.specs.Frozen.{IsHand}
-use Rattle.fx_frame.specs.Line.{Frames, IsLine, IsSamples}
-use Rattle.fx_frame.specs.Stage.{kind}
+use Rattle.fx_step.specs.Frame.{Samples}
+use Rattle.fx_step.specs.Hand.{IsHand}
+use Rattle.fx_ring.specs.Line.{Frames, IsLine, IsSamples}
+use Rattle.fx_step.specs.Stage.{kind}
 use Rattle.fx_stages.specs.declared.stage.EffectStage.{EffectStage}
 use Rattle.fx_stages.specs.declared.stage.EffectStage.TheVariants as stages
 use Rattle.fx_stages.specs.Stages.{effect_acts, sound_of}

@@ -6,7 +6,7 @@ use Rattle.std.proofs.lemmas.Bool.{and_parts}
 use Rattle.std.proofs.lemmas.List.{map-append}
 use Rattle.std.proofs.lemmas.List.Elements.{All-cons, All-head, All-nil, All-tail}
 use Rattle.fx_flow.specs.Frozen.{AllMade}
-use Rattle.fx_frame.specs.Holds.{recipes}
+use Rattle.fx_step.specs.Holds.{recipes}
 use Rattle.fx_effects.specs.Bounds.{hold_all}
 use Rattle.fx_effects.specs.Effects.{Act, Usable}
 use Rattle.fx_stages.specs.declared.stage.EffectStage.{EffectStage}

@@ -6,8 +6,8 @@ use Rattle.fx_cut.specs.Factor.{FactorArguments}
 use Rattle.fx_cut.specs.Pad.{PadArguments, pad_kind, pad_meaning}
 use Rattle.fx_cut.specs.Trim.{TrimArguments, trim_kind, trim_meaning}
 use Rattle.fx_cut.specs.Upsample.{upsample_kind, upsample_meaning}
-use Rattle.fx_frame.specs.Frame.{Samples}
-use Rattle.fx_frame.specs.Stage.{Given, Kind}
+use Rattle.fx_step.specs.Frame.{Samples}
+use Rattle.fx_step.specs.Stage.{Given, Kind}
 use Rattle.fx_map.specs.DcShift.{dcshift_meaning}
 use Rattle.fx_past.specs.Delay.{delay_kind, delayed}
 use Rattle.fx_past.specs.Echo.{EchoArguments, echo, echo_kind}

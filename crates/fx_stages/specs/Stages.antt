@@ -8,8 +8,8 @@ use Rattle.fx_cut.specs.PadState.{IsPad, pad_acts, pad_rises}
 use Rattle.fx_cut.specs.TrimState.{IsTrim, trim_acts}
 use Rattle.fx_cut.specs.UpsampleState.{IsUpsample, upsample_acts}
 use Rattle.fx_fixed.specs.Extents.{greatest, sum_of_delays, tap_delay}
-use Rattle.fx_frame.specs.Frame.{Samples}
-use Rattle.fx_frame.specs.Stage.{Acts, Counts, Given, Own}
+use Rattle.fx_step.specs.Frame.{Samples}
+use Rattle.fx_step.specs.Stage.{Acts, Counts, Given, Own}
 use Rattle.fx_stages.specs.declared.stage.EffectStage.{EffectStage}
 use Rattle.fx_stages.specs.declared.stage.EffectStage.TheVariants as stages
 use Rattle.fx_map.specs.DcShiftState.{dcshift_acts}
@@ -21,7 +21,7 @@ use Rattle.fx_map.specs.Mapped.{IsMapState}
 use Rattle.fx_map.specs.PerSample.{SampleArguments}
 use Rattle.fx_map.specs.Remix.{RemixArguments}
 use Rattle.fx_map.specs.RemixState.{remix_acts}
-use Rattle.fx_blocks.specs.Tapped.{IsTapState, tap_rises}
+use Rattle.fx_frame.specs.Tapped.{IsTapState, tap_rises}
 use Rattle.fx_map.specs.VolState.{vol_acts}
 use Rattle.fx_stages.specs.Effects.{EffectRecipe, ForTrim, ForPad, ForFade, ForUpsample, ForDownsample, ForDelay, ForEcho, ForEchos, ForFir, ForRemix, ForVol, ForDcShift, kind_of_recipe, meaning_of_recipe}
 

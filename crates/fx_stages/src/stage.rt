@@ -2,17 +2,16 @@
 ghost use Rattle.std.specs.Prelude.{◌≡◌, ◌+◌, ◌*◌, ◌≤◌, List, FitsSigned, None, false, true, drop, length, take};
 ghost use Rattle.std.specs.Int.{w32};
 ghost use Rattle.std.specs.List.{All};
-ghost use Rattle.fx_frame.specs.Frame.{Samples};
-ghost use Rattle.fx_frame.specs.Ring.{pieces};
-ghost use Rattle.fx_frame.specs.Row.{EachThrough};
-ghost use Rattle.fx_frame.specs.Stage.{kind};
+ghost use Rattle.fx_step.specs.Frame.{Samples};
+ghost use Rattle.fx_lists.specs.Lists.{pieces};
+ghost use Rattle.fx_step.specs.Row.{EachThrough};
+ghost use Rattle.fx_step.specs.Stage.{kind};
 ghost use Rattle.fx_stages.specs.Stages.{effect_acts};
-ghost use Rattle.fx_blocks.specs.Kinds.{most_taken};
+ghost use Rattle.fx_frame.specs.Kinds.{most_taken};
 ghost use Rattle.fx_map.specs.PerSampleState.{sample_acts};
 
 use fx_cut::{Downsample, Fade, Pad, Trim, Upsample};
 use fx_fir::Fir;
-use fx_frame::stage::Stage;
 use fx_frame::{Feeds, Frame, Passed, Passing, Tally, WideFrame};
 use fx_map::around::pass_around;
 use fx_map::both::pass_both;
@@ -20,6 +19,7 @@ use fx_map::mapped::Mapped;
 use fx_map::per_sample::{PerSample, SamplesMany};
 use fx_map::{DcShift, Remix, Vol};
 use fx_past::{Delay, Echo, Echos};
+use fx_step::stage::Stage;
 
 /// The stage of an effect.
 #[derive(Drop)]

@@ -9,9 +9,9 @@ use fx_cut::{Downsample, Fade, Pad, Trim, Upsample};
 use fx_effects::Effect;
 use fx_fir::Fir;
 use fx_frame::WideFrame;
-use fx_frame::stage::{ThawFault, Thaws};
 use fx_map::{DcShift, Remix, Vol};
 use fx_past::{Delay, Echo, Echos};
+use fx_step::stage::{ThawFault, Thaws};
 use std::alloc::{AllocError, Global};
 
 /// An effect, and the channels of the frames that it takes.

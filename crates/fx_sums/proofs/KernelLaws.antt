@@ -9,8 +9,8 @@ use Rattle.fx_fixed.specs.Rounding.{rounding}
 use Rattle.fx_fixed.proofs.Reductions.{rounding-reduced}
 use Rattle.fx_sums.specs.Weights.{Weights}
 use Rattle.fx_sums.specs.SmallWeights.{SumsAs}
-use Rattle.fx_sums.specs.Products.{sum_of_products}
-use Rattle.fx_sums.proofs.SignedProducts.{below-positive, one-times, mul-add, mul_assoc}
+use Rattle.fx_convolve.specs.Products.{sum_of_products}
+use Rattle.fx_convolve.proofs.Numbers.{below-positive, one-times, mul-add, mul_assoc}
 
 turned : (x y : ℤ) → x *ℤ y ≡ y *ℤ x
 turned x y = omega (arith, ints)

@@ -5,20 +5,10 @@ use Rattle.std.proofs.lemmas.Bool.Decides.{nat_tests}
 use Rattle.std.proofs.lemmas.Grind.{get_or-set_at}
 use Rattle.std.proofs.lemmas.Int.{ints, unsigned_abs-mul, fits_signed_from_abs, to_z-of_z}
 use Rattle.std.proofs.lemmas.List.{get_or-set_other}
-use Rattle.std.proofs.Math.Nat.{mul-le-mul}
 use Rattle.fx_fixed.specs.declared.gains.TheConstants.{UNIT}
-use Rattle.fx_sums.proofs.Places.{quiet-sample}
+use Rattle.fx_lists.proofs.Places.{quiet-sample}
 use mir.Syntax.{w128}
-
--- how large a product is
-pub scaled-few : (g x : ℤ) (u m : ℕ) → unsigned_abs g ≤ u → unsigned_abs x ≤ m → unsigned_abs (g *ℤ x) ≤ u * m
-scaled-few g x u m h k =
-    let most : unsigned_abs g * unsigned_abs x ≤ u * m = mul-le-mul h k in
-    rw unsigned_abs-mul most
-
--- how large a sum is
-pub added-few : (s p : ℤ) (a b : ℕ) → unsigned_abs s ≤ a → unsigned_abs p ≤ b → unsigned_abs (s +ℤ p) ≤ a + b
-added-few s p a b h k = omega (arith, ints)
+use Rattle.fx_convolve.proofs.Magnitudes.{added-few, scaled-few}
 
 -- it fits 128 bits
 pub held : (z : ℤ) → unsigned_abs z < 2 ^ 127 → to_z w128 (of_z w128 z) ≡ z

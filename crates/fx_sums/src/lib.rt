@@ -1,13 +1,10 @@
-//! Sums of samples times weights, one by one and by transforms; they know of no frames.
+//! Sums of samples times weights and gains, and their rounding; they know of no frames.
 #![tactic(auto)]
 
-mod convolve;
+mod channels;
 pub mod inner;
-mod products;
-mod reduced;
 pub mod small;
 mod sums;
-pub mod transforms;
 pub mod weights;
 
-pub use products::dot;
+pub use channels::round_channel;

@@ -5,16 +5,16 @@ use Rattle.fx_run.specs.declared.report.Report.{Report}
 use Rattle.fx_run.specs.declared.report.RunFault.{RunFault}
 use Rattle.fx_chain.specs.Chain.{IsNewChain}
 use Rattle.fx_run.specs.Report.{cause_of, no_report, report_at, report_in, start_of}
-use Rattle.fx_frame.specs.Io.{ByteReader, ByteWriter}
+use Rattle.fx_io.specs.Io.{ByteReader, ByteWriter}
 use Rattle.fx_line.specs.declared.line.LineFault.{LineFault}
 use Rattle.fx_line.specs.Line.{Said, line_of}
 use Rattle.fx_plan.specs.CommandLines.{LineReads, effects_in, planning_in}
 use Rattle.fx_plan.specs.Plans.{head_layout, all_faults}
 use Rattle.fx_plan.specs.Planning.{planning}
-use Rattle.fx_sound.specs.declared.head.HeadFault.TheVariants.{ReadFailed}
-use Rattle.fx_sound.specs.Head.{ReadsHead}
-use Rattle.fx_sound.specs.Known.{IfKnown}
-use Rattle.fx_sound.specs.Source.{Held, to_come}
+use Rattle.fx_heads.specs.declared.head.HeadFault.TheVariants.{ReadFailed}
+use Rattle.fx_heads.specs.Head.{ReadsHead}
+use Rattle.fx_heads.specs.Known.{IfKnown}
+use Rattle.fx_heads.specs.Source.{Held, to_come}
 use Rattle.soxchain.specs.declared.prepared.Ready.{Ready}
 use Rattle.soxchain.specs.declared.preparing.Refusal.TheVariants.{Chain, Head, Plan}
 use Rattle.soxchain.specs.Convert.{Converted, Running, StopHasCause, Stopped, ToldFirst}

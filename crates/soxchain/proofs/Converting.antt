@@ -7,10 +7,10 @@ use Rattle.fx_plan.specs.CommandLines.{LineReads}
 use Rattle.std.specs.Io.KnownBytes.{prepend_known}
 use mathlib.Core.Path.{ap₂}
 use Rattle.fx_run.specs.declared.report.Report.{Report}
-use Rattle.fx_frame.specs.Io.{ByteReader, ByteWriter, saturated}
-use Rattle.fx_sound.specs.declared.head.HeadFault.{HeadFault}
-use Rattle.fx_sound.specs.declared.head.HeadFault.TheVariants.{ReadFailed, UnknownType, Truncated, BadHeader, NotInProfile, TooManyChannels, HeadTooLong}
-use Rattle.fx_sound.specs.HeadFields.{is_read_failure}
+use Rattle.fx_io.specs.Io.{ByteReader, ByteWriter, saturated}
+use Rattle.fx_heads.specs.declared.head.HeadFault.{HeadFault}
+use Rattle.fx_heads.specs.declared.head.HeadFault.TheVariants.{ReadFailed, UnknownType, Truncated, BadHeader, NotInProfile, TooManyChannels, HeadTooLong}
+use Rattle.fx_heads.specs.HeadFields.{is_read_failure}
 use Rattle.fx_run.specs.declared.pump.Cause.{Cause}
 use Rattle.fx_run.specs.declared.pump.Cause.TheVariants as Causes
 use Rattle.fx_chain.specs.Chain.{ChainParts, IsNewChain}
@@ -18,12 +18,12 @@ use Rattle.fx_run.specs.Report.{HasCause, ReadBefore, start_of}
 use Rattle.fx_run.specs.Run.{RanToFailure, WantsMore}
 use Rattle.fx_chain.specs.Theorem.{ReadFirst, kinds_of}
 use Rattle.fx_flow.specs.Parts.{Parts}
-use Rattle.fx_frame.specs.Holds.{kinds}
+use Rattle.fx_step.specs.Holds.{kinds}
 use Rattle.fx_plan.specs.Planning.{Planning}
 use Rattle.fx_stages.specs.declared.stage.EffectStage.{EffectStage}
 use Rattle.fx_stages.specs.Stages.{effect_acts}
 use Rattle.fx_sound.specs.Sound.{Reading, at_most_announced, size_of}
-use Rattle.fx_sound.specs.Source.{Held, Takes, to_come}
+use Rattle.fx_heads.specs.Source.{Held, Takes, to_come}
 use Rattle.soxchain.specs.declared.preparing.Refusal.TheVariants.{Head}
 use Rattle.soxchain.specs.declared.prepared.Ready.{Ready}
 use Rattle.soxchain.specs.Finishing.{Finished, run_messages}

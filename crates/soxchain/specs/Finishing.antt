@@ -6,12 +6,12 @@ use Rattle.fx_run.specs.declared.report.RunFault.{RunFault}
 use Rattle.fx_run.specs.Report.{HasCause, cause_of, report_at, report_in, start_of}
 use Rattle.fx_run.specs.Run.{RanToFailure, WantsMore}
 use Rattle.fx_chain.specs.Theorem.{Ran, ReadFirst, kinds_of}
-use Rattle.fx_frame.specs.Io.{ByteReader, ByteWriter}
+use Rattle.fx_io.specs.Io.{ByteReader, ByteWriter}
 use Rattle.fx_line.specs.Line.{Said}
 use Rattle.fx_effects.specs.Bounds.{work_of}
 use Rattle.fx_plan.specs.Planning.{planning}
-use Rattle.fx_sound.specs.Known.{IfKnown}
-use Rattle.fx_sound.specs.Source.{Held, to_come}
+use Rattle.fx_heads.specs.Known.{IfKnown}
+use Rattle.fx_heads.specs.Source.{Held, to_come}
 use Rattle.soxchain.specs.declared.prepared.Ready.{Ready}
 use Rattle.soxchain.specs.Messages.{run_label, run_message, warnings}
 

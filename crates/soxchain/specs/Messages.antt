@@ -12,8 +12,8 @@ use Rattle.fx_words.specs.declared.fault.PlanCause.TheVariants as causes
 use Rattle.fx_plan.specs.declared.fault.PlanFault.{PlanFault}
 use Rattle.fx_plan.specs.CommandLines.{effect_words, effects_in}
 use Rattle.fx_words.specs.Faults.{Word}
-use Rattle.fx_sound.specs.declared.head.HeadFault.{HeadFault}
-use Rattle.fx_sound.specs.declared.head.HeadFault.TheVariants as HeadFaults
+use Rattle.fx_heads.specs.declared.head.HeadFault.{HeadFault}
+use Rattle.fx_heads.specs.declared.head.HeadFault.TheVariants as HeadFaults
 use Rattle.soxchain.specs.declared.preparing.Refusal.{Refusal}
 use Rattle.soxchain.specs.declared.preparing.Refusal.TheVariants as refusals
 use Rattle.soxchain.specs.Stops.{Stop, Refused, Run}

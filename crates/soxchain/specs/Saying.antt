@@ -1,7 +1,7 @@
 -- What is told through one writer of messages, from its first text on.
 use Rattle.std.specs.Prelude.{◌≡◌, ℕ, List, false}
 use Rattle.std.specs.Borrow.{MutBor}
-use Rattle.fx_frame.specs.Io.{ByteWriter}
+use Rattle.fx_io.specs.Io.{ByteWriter}
 use Rattle.soxchain.specs.declared.telling.Telling.{Telling}
 use Rattle.soxchain.specs.Telling.{TellsMore}
 

@@ -4,10 +4,10 @@ ghost use Rattle.fx_chain.specs.Chain.{IsNewChain};
 ghost use Rattle.fx_plan.specs.CommandLines.{effects_in, planning_in};
 ghost use Rattle.fx_plan.specs.Plans.{head_layout, all_faults, bytes_of};
 ghost use Rattle.fx_plan.specs.Planning.{planning};
-ghost use Rattle.fx_sound.specs.Head.{ReadsHead, head_of};
-ghost use Rattle.fx_sound.specs.Known.{IfKnown};
-ghost use Rattle.fx_sound.specs.Reads.{Fails, Refuses};
-ghost use Rattle.fx_sound.specs.Source.{to_come};
+ghost use Rattle.fx_heads.specs.Head.{ReadsHead, head_of};
+ghost use Rattle.fx_heads.specs.Known.{IfKnown};
+ghost use Rattle.fx_heads.specs.Reads.{Fails, Refuses};
+ghost use Rattle.fx_heads.specs.Source.{to_come};
 ghost use Rattle.soxchain.specs.Preparing.{ChainIsRefused, PlanIsRefused, RefusalHasCause};
 ghost use Rattle.soxchain.specs.Program.{status_of_line, status_of_refusal};
 

@@ -2,7 +2,7 @@
 use Rattle.std.proofs.Common.{◌≡◌, ℕ, List, [], Option, Some, Result, Ok, Err, ap, drop, subst, sym, ◌∙◌}
 use Rattle.fx_run.specs.declared.report.Report.{Report}
 use Rattle.fx_chain.specs.Theorem.{Ran}
-use Rattle.fx_frame.specs.Io.{ByteReader, ByteWriter}
+use Rattle.fx_io.specs.Io.{ByteReader, ByteWriter}
 use Rattle.fx_line.specs.declared.line.LineFault.{LineFault}
 use Rattle.fx_line.specs.Line.{Said}
 use Rattle.soxchain.specs.Convert.{Converted}

@@ -2,7 +2,7 @@
 use Rattle.std.proofs.Common.{◌≡◌, ℕ, List, [], Option, Result, Ok, Err, IfOk, IfErr, OnOk, inl, inr}
 use Rattle.fx_line.specs.Line.{Said, texts}
 use Rattle.fx_plan.specs.Plans.{bytes_of}
-use Rattle.fx_sound.specs.declared.head.Head.{Head}
+use Rattle.fx_heads.specs.declared.head.Head.{Head}
 use Rattle.soxchain_c.specs.declared.asked.Asked.{Asked}
 use Rattle.soxchain_c.specs.declared.status.Status.{Status}
 use Rattle.soxchain_stream.specs.declared.stream.Stream.{Stream}

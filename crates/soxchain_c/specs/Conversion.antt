@@ -8,9 +8,9 @@ use Rattle.fx_line.specs.declared.line.LineFault.{LineFault}
 use Rattle.fx_line.specs.Line.{Said, line_of}
 use Rattle.fx_plan.specs.declared.fault.PlanFault.{PlanFault}
 use Rattle.fx_plan.specs.CommandLines.{LineReads}
-use Rattle.fx_sound.specs.declared.head.HeadFault.{HeadFault}
-use Rattle.fx_sound.specs.declared.head.HeadFault.TheVariants as HeadFaults
-use Rattle.fx_sound.specs.Head.{head_of}
+use Rattle.fx_heads.specs.declared.head.HeadFault.{HeadFault}
+use Rattle.fx_heads.specs.declared.head.HeadFault.TheVariants as HeadFaults
+use Rattle.fx_heads.specs.Head.{head_of}
 use Rattle.soxchain.specs.declared.preparing.Refusal.{Refusal}
 use Rattle.soxchain.specs.declared.preparing.Refusal.TheVariants as Refusals
 use Rattle.soxchain.specs.Convert.{Running, Unchained, Unplanned, Whole}

@@ -3,7 +3,7 @@ ghost use Rattle.std.specs.Prelude.{◌≡◌, ℕ, List, [], length};
 ghost use Rattle.fx_run.specs.Report.{no_report};
 ghost use Rattle.fx_line.specs.Line.{texts};
 ghost use Rattle.fx_plan.specs.Plans.{bytes_of};
-ghost use Rattle.fx_sound.specs.Known.{IfKnown};
+ghost use Rattle.fx_heads.specs.Known.{IfKnown};
 ghost use Rattle.soxchain_c.specs.Asked.{FaultAnswers};
 ghost use Rattle.soxchain_c.specs.Conversion.{Conversion, ConversionOf, ToldBytes, told_report};
 ghost use Rattle.soxchain_c.specs.Room.{filled};

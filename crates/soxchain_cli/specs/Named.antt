@@ -2,10 +2,10 @@
 use Rattle.std.specs.Prelude.{◌≡◌, ◌≤◌, ◌⊎◌, ℕ, List, Option, Some, IfSome}
 use Rattle.std.specs.Io.KnownBytes.{Appends, Keeps}
 use Rattle.fx_run.specs.declared.report.Report.{Report}
-use Rattle.fx_frame.specs.Counted.{Counts, counted_writes}
-use Rattle.fx_frame.specs.Io.{ByteReader, ByteWriter}
+use Rattle.fx_io.specs.Counted.{Counts, counted_writes}
+use Rattle.fx_io.specs.Io.{ByteReader, ByteWriter}
 use Rattle.fx_plan.specs.Planning.{planning}
-use Rattle.fx_sound.specs.Source.{Held}
+use Rattle.fx_heads.specs.Source.{Held}
 use Rattle.soxchain.specs.declared.prepared.Ready.{Ready}
 use Rattle.soxchain.specs.FileMessages.{rewrite_message}
 use Rattle.soxchain.specs.Finishing.{Finished}

@@ -5,17 +5,17 @@ use Rattle.std.specs.declared.io.ErrorKind.{ErrorKind}
 use Rattle.std.specs.declared.io.ErrorKind.TheVariants as ErrorKinds
 use Rattle.fx_chain.specs.Chain.{IsNewChain}
 use Rattle.fx_run.specs.declared.report.Report.{Report}
-use Rattle.fx_frame.specs.Counted.{Counts, counted_reads, counted_writes}
-use Rattle.fx_frame.specs.Io.{ByteReader, ByteWriter}
+use Rattle.fx_io.specs.Counted.{Counts, counted_reads, counted_writes}
+use Rattle.fx_io.specs.Io.{ByteReader, ByteWriter}
 use Rattle.fx_line.specs.declared.line.LineFault.{LineFault}
 use Rattle.fx_line.specs.declared.line.LineFault.TheVariants as LineFaults
 use Rattle.fx_line.specs.Line.{Said, line_of}
 use Rattle.fx_plan.specs.CommandLines.{LineReads, coefficient_files, effects_in, file_name, planning_in}
 use Rattle.fx_plan.specs.Plans.{head_layout, all_faults}
 use Rattle.fx_plan.specs.Planning.{planning}
-use Rattle.fx_sound.specs.Head.{ReadsHead}
-use Rattle.fx_sound.specs.Known.{IfKnown}
-use Rattle.fx_sound.specs.Source.{Held, to_come}
+use Rattle.fx_heads.specs.Head.{ReadsHead}
+use Rattle.fx_heads.specs.Known.{IfKnown}
+use Rattle.fx_heads.specs.Source.{Held, to_come}
 use Rattle.soxchain.specs.declared.prepared.Prepared.{Prepared}
 use Rattle.soxchain.specs.declared.prepared.Ready.{Ready}
 use Rattle.soxchain.specs.FileMessages.{open_message}

@@ -1,8 +1,8 @@
 -- What soxchain-plan tells of sounds and effects (this project's profile).
 use Rattle.std.specs.Prelude.{ℕ, List, Option, ◌-◌, ◌*◌, ◌/◌, ◌^◌, min}
 use Rattle.std.specs.Option.{option_map}
-use Rattle.fx_frame.specs.Coding.{width_of}
-use Rattle.fx_sound.specs.declared.head.Head.{Head}
+use Rattle.fx_io.specs.Coding.{width_of}
+use Rattle.fx_heads.specs.declared.head.Head.{Head}
 use Rattle.fx_effects.specs.Bounds.{hold_of}
 use Rattle.fx_effects.specs.Effects.{Act, name_text}
 use Rattle.soxchain_plan.specs.declared.outline.EffectOutline.{EffectOutline}

@@ -1,6 +1,6 @@
 //! What a plan says, and how it is shown.
 ghost use Rattle.std.specs.Prelude.{◌≡◌, ◌*◌, ◌≤◌, IfOk, map};
-ghost use Rattle.fx_frame.specs.Coding.{width_of};
+ghost use Rattle.fx_io.specs.Coding.{width_of};
 ghost use Rattle.fx_effects.specs.Bounds.{hold_all};
 ghost use Rattle.fx_plan.specs.Planning.{planning};
 ghost use Rattle.soxchain_plan.specs.Outlines.{announced_frames, known, told};

@@ -1,6 +1,6 @@
 //! Names and texts as they are shown.
 ghost use Rattle.std.specs.Prelude.{◌≡◌, ◌*◌};
-ghost use Rattle.fx_frame.specs.Coding.{width_of};
+ghost use Rattle.fx_io.specs.Coding.{width_of};
 
 use fx_frame::Coding;
 use fx_sound::Kind;

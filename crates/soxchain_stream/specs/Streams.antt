@@ -3,12 +3,12 @@ use Rattle.std.specs.Prelude.{ℕ, ℤ, ◌≡◌, ◌+◌, ◌*◌, ◌-◌, �
 use Rattle.fx_chain.specs.Chain.{ChainParts}
 use Rattle.fx_flow.specs.declared.flow.State.TheVariants as States
 use Rattle.fx_flow.specs.Feed.{FlowFed}
-use Rattle.fx_frame.specs.Row.{outputs_of}
+use Rattle.fx_step.specs.Row.{outputs_of}
 use Rattle.fx_flow.specs.Parts.{any_spent}
 use Rattle.fx_flow.specs.Steps.{IsHungry, StateIs}
-use Rattle.fx_frame.specs.declared.feed.Passed.{Passed}
-use Rattle.fx_frame.specs.Holds.{held_sum, kinds}
-use Rattle.fx_frame.specs.Ring.{pieces}
+use Rattle.fx_step.specs.declared.feed.Passed.{Passed}
+use Rattle.fx_step.specs.Holds.{held_sum, kinds}
+use Rattle.fx_lists.specs.Lists.{pieces}
 use Rattle.fx_stages.specs.Stages.{effect_acts}
 use Rattle.soxchain_stream.specs.declared.stream.Stream.{Stream}
 use Rattle.soxchain_stream.specs.declared.stream.Waits.{Waits}

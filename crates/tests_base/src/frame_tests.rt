@@ -2,7 +2,7 @@
 ghost use Rattle.std.specs.Prelude.{◌≡◌, ◌≤◌, ◌^◌, length};
 
 use crate::fixed_tests::{REFUSED, say};
-use fx_frame::{Coding, Frame, Line, Sink, WideFrame, WideLine, inner};
+use fx_frame::{Coding, Frame, Line, Sink, WideFrame, WideLine};
 use std::alloc::Global;
 
 /// Is a sample written as this byte, and clipped or not?
@@ -42,9 +42,9 @@ fn check_frame(
 fn is_pair(pair: Frame) -> bool {
     pair.channels() == 2
         && pair.get(1) == -7
-        && pair == inner::two(5, -7)
-        && pair != inner::one(5)
-        && inner::places(&pair)[1] == -7
+        && pair == Frame::two(5, -7)
+        && pair != Frame::one(5)
+        && pair.places()[1] == -7
 }
 
 #[test]
@@ -59,7 +59,7 @@ fn frames() -> Result<(), &'static str> {
     check_frame("17 samples", Frame::from_slice(&[0; 17]), None)?;
     let silence = Some(Frame::silence(16));
     check_frame("16 samples", Frame::from_slice(&[0; 16]), silence)?;
-    let three = Some(inner::frame_of(3, [9; 16]));
+    let three = Some(Frame::of_first(3, [9; 16]));
     check_frame("three of 16", three, Frame::from_slice(&[9; 3]))
 }
 
@@ -82,8 +82,8 @@ fn wide_frames() -> Result<(), &'static str> {
     }
     check_wide("no sample", WideFrame::from_slice(&[]), None)?;
     check_wide("17 samples", WideFrame::from_slice(&[0; 17]), None)?;
-    let wide = WideFrame::from_frame(inner::two(5, -7));
-    check_wide("two of a frame", Some(wide), Some(inner::wide_two(5, -7)))
+    let wide = WideFrame::from_frame(Frame::two(5, -7));
+    check_wide("two of a frame", Some(wide), Some(WideFrame::two(5, -7)))
 }
 
 /// Fails where a line of two places does not give its frames in order.
@@ -91,7 +91,7 @@ fn line_of_two(alloc: Global) -> Result<(), &'static str> {
     let Ok(mut line) = Line::new(alloc, 1, 2) else {
         return Err(REFUSED);
     };
-    let (seven, eight, nine) = (inner::one(7), inner::one(8), inner::one(9));
+    let (seven, eight, nine) = (Frame::one(7), Frame::one(8), Frame::one(9));
     let is_pushed_out = line.push(seven).is_none()
         && line.push(eight).is_none()
         && line.push(nine) == Some(seven);
@@ -111,7 +111,7 @@ fn line_of_none(alloc: Global) -> Result<(), &'static str> {
     let Ok(mut line) = Line::new(alloc, 1, 0) else {
         return Err(REFUSED);
     };
-    if line.push(inner::one(7)) == Some(inner::one(7)) && line.len() == 0 {
+    if line.push(Frame::one(7)) == Some(Frame::one(7)) && line.len() == 0 {
         Ok(())
     } else {
         Err("a line of no place keeps a frame")
@@ -123,10 +123,10 @@ fn line_of_three(alloc: Global) -> Result<(), &'static str> {
     let Ok(mut line) = Line::new(alloc, 2, 3) else {
         return Err(REFUSED);
     };
-    line.push(inner::two(1, 2));
-    line.push(inner::two(3, 4));
-    line.push(inner::two(5, 6));
-    line.push(inner::two(7, 8));
+    line.push(Frame::two(1, 2));
+    line.push(Frame::two(3, 4));
+    line.push(Frame::two(5, 6));
+    line.push(Frame::two(7, 8));
     let mut samples = [0; 3];
     line.channel_into(1, &mut samples);
     if samples == [4, 6, 8] {
@@ -150,7 +150,7 @@ fn numbered(channels: usize, number: i32) -> Frame
     ensures { length result ≡ channels }
 {
     let n = number;
-    inner::frame_of(
+    Frame::of_first(
         channels,
         [
             n,
@@ -237,11 +237,11 @@ fn wide_line_of_two(alloc: Global) -> Result<(), &'static str> {
     let Ok(mut line) = WideLine::new(alloc, 1, 2) else {
         return Err(REFUSED);
     };
-    let first = inner::wide_one(1 << 40);
-    let second = inner::wide_one(-(1 << 40));
+    let first = WideFrame::one(1 << 40);
+    let second = WideFrame::one(-(1 << 40));
     let is_right = line.push(first).is_none()
         && line.push(second).is_none()
-        && line.push(inner::wide_one(7)) == Some(first);
+        && line.push(WideFrame::one(7)) == Some(first);
     if is_right {
         Ok(())
     } else {

@@ -2,7 +2,6 @@
 ghost use Rattle.std.specs.Prelude.{◌<◌};
 
 use crate::fixed_tests::REFUSED;
-use fx_frame::inner::one;
 use fx_frame::{ByteIn, Coding, Frame, Tape};
 use fx_sound::inner::read_sound;
 use fx_sound::{
@@ -231,7 +230,7 @@ fn read_two_frames(alloc: Global, source: &mut Source<Tape>) -> Result<(), &'sta
     if sound.head != head {
         return Err("another head");
     }
-    if sound.frames.as_slice() != [one(3), one(-3)].as_slice() {
+    if sound.frames.as_slice() != [Frame::one(3), Frame::one(-3)].as_slice() {
         return Err("other frames");
     }
     if sound.missing != 0 || sound.stray != 0 {

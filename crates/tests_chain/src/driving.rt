@@ -14,14 +14,14 @@ const MOST_STEPS: u32 = 1000;
 
 /// What a chain did: the samples of the frames that it gave, and the most frames that it held after a call.
 #[derive(Drop)]
-pub(crate) struct Driven {
-    pub(crate) samples: Vec<i32>,
-    pub(crate) most_held: u64,
+pub struct Driven {
+    pub samples: Vec<i32>,
+    pub most_held: u64,
 }
 
 impl Driven {
     /// Nothing so far.
-    pub(crate) fn new(alloc: Global) -> Driven {
+    pub fn new(alloc: Global) -> Driven {
         Driven {
             samples: Vec::new(alloc),
             most_held: 0,
@@ -35,20 +35,20 @@ impl Driven {
 }
 
 /// The frame of one sample.
-pub(crate) fn mono(sample: i32) -> Frame
+pub fn mono(sample: i32) -> Frame
     ensures { length result ≡ 1 }
 {
-    fx_frame::inner::one(sample)
+    Frame::one(sample)
 }
 
 /// The sample of a frame's first channel.
-pub(crate) fn first_sample(frame: Frame) -> i32 {
+pub fn first_sample(frame: Frame) -> i32 {
     let _channels = frame.channels();
     frame.get(0)
 }
 
 /// The next step of a chain that is busy.
-pub(crate) fn next_step(chain: &mut Chain) -> Option<Step>
+pub fn next_step(chain: &mut Chain) -> Option<Step>
     ensures { chain.new.plan ≡ chain.old.plan }
 {
     let State::Busy = chain.state() else {
@@ -76,7 +76,7 @@ fn settle(chain: &mut Chain, driven: &mut Driven) -> Result<(), &'static str>
 }
 
 /// Lets a hungry chain of one channel take a frame of this sample.
-pub(crate) fn put(chain: &mut Chain, sample: i32) -> Result<(), &'static str>
+pub fn put(chain: &mut Chain, sample: i32) -> Result<(), &'static str>
     requires { chain.old.plan.head.channels ≡ 1 }
     ensures { chain.new.plan ≡ chain.old.plan }
 {
@@ -91,7 +91,7 @@ pub(crate) fn put(chain: &mut Chain, sample: i32) -> Result<(), &'static str>
 }
 
 /// Tells a hungry chain the end.
-pub(crate) fn tell_end(chain: &mut Chain) -> Result<(), &'static str>
+pub fn tell_end(chain: &mut Chain) -> Result<(), &'static str>
     ensures { chain.new.plan ≡ chain.old.plan }
 {
     let State::Hungry = chain.state() else {
@@ -102,11 +102,7 @@ pub(crate) fn tell_end(chain: &mut Chain) -> Result<(), &'static str>
 }
 
 /// Lets a chain of one channel take frames of these samples, and steps it until it is hungry after each.
-pub(crate) fn feed(
-    chain: &mut Chain,
-    driven: &mut Driven,
-    samples: &[i32],
-) -> Result<(), &'static str>
+pub fn feed(chain: &mut Chain, driven: &mut Driven, samples: &[i32]) -> Result<(), &'static str>
     requires { chain.old.plan.head.channels ≡ 1 }
     ensures { chain.new.plan ≡ chain.old.plan }
 {
@@ -119,7 +115,7 @@ pub(crate) fn feed(
 }
 
 /// Tells a chain the end, and steps it until it is done.
-pub(crate) fn finish(chain: &mut Chain, driven: &mut Driven) -> Result<(), &'static str>
+pub fn finish(chain: &mut Chain, driven: &mut Driven) -> Result<(), &'static str>
     ensures { chain.new.plan ≡ chain.old.plan }
 {
     tell_end(chain)?;
@@ -133,14 +129,14 @@ pub(crate) fn finish(chain: &mut Chain, driven: &mut Driven) -> Result<(), &'sta
 
 /// A chain, and what it did.
 #[derive(Drop)]
-pub(crate) struct Driver {
-    pub(crate) chain: Chain,
-    pub(crate) driven: Driven,
+pub struct Driver {
+    pub chain: Chain,
+    pub driven: Driven,
 }
 
 impl Driver {
     /// The new chain of a plan.
-    pub(crate) fn new(alloc: Global, plan: &Plan) -> Result<Driver, &'static str>
+    pub fn new(alloc: Global, plan: &Plan) -> Result<Driver, &'static str>
         ensures { IfOk result (λ d. d.chain.plan ≡ planning plan.now) }
     {
         match Chain::new(alloc, plan) {
@@ -153,7 +149,7 @@ impl Driver {
     }
 
     /// Lets a chain of one channel take frames of these samples, as `feed` does.
-    pub(crate) fn feed(&mut self, samples: &[i32]) -> Result<(), &'static str>
+    pub fn feed(&mut self, samples: &[i32]) -> Result<(), &'static str>
         requires { self.old.chain.plan.head.channels ≡ 1 }
         ensures { self.new.chain.plan ≡ self.old.chain.plan }
     {
@@ -161,7 +157,7 @@ impl Driver {
     }
 
     /// Tells the chain the end, as `finish` does.
-    pub(crate) fn finish(&mut self) -> Result<(), &'static str>
+    pub fn finish(&mut self) -> Result<(), &'static str>
         ensures { self.new.chain.plan ≡ self.old.chain.plan }
     {
         finish(&mut self.chain, &mut self.driven)
@@ -169,7 +165,7 @@ impl Driver {
 }
 
 /// The new chain of these effects, and what it did.
-pub(crate) fn driver_of(alloc: Global, effects: &str) -> Result<Driver, &'static str>
+pub fn driver_of(alloc: Global, effects: &str) -> Result<Driver, &'static str>
     ensures { IfOk result (λ d. d.chain.plan.head.channels ≡ 1) }
 {
     let plan = plan_of(alloc, effects)?;
@@ -177,7 +173,7 @@ pub(crate) fn driver_of(alloc: Global, effects: &str) -> Result<Driver, &'static
 }
 
 /// The new chain of these effects.
-pub(crate) fn chain_of(alloc: Global, effects: &str) -> Result<Chain, &'static str>
+pub fn chain_of(alloc: Global, effects: &str) -> Result<Chain, &'static str>
     ensures { IfOk result (λ c. c.plan.head.channels ≡ 1) }
 {
     let plan = plan_of(alloc, effects)?;
@@ -188,7 +184,7 @@ pub(crate) fn chain_of(alloc: Global, effects: &str) -> Result<Chain, &'static s
 }
 
 /// What a chain is frozen to.
-pub(crate) fn frozen(alloc: Global, chain: &Chain) -> Result<Snapshot, &'static str>
+pub fn frozen(alloc: Global, chain: &Chain) -> Result<Snapshot, &'static str>
     ensures { IfOk result (λ s. planning s.plan ≡ chain.now.plan) }
 {
     match chain.freeze(alloc) {

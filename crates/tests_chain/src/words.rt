@@ -8,7 +8,7 @@ use fx_sound::{Head, Kind};
 use std::alloc::Global;
 
 /// Each effect once.
-pub(crate) const TWELVE_EFFECTS: &str =
+pub const TWELVE_EFFECTS: &str =
     "trim -3s pad 1s 1s delay 1s echo 1 1 0.125 0.5 echos 1 1 0.125 0.5 0.125 0.5 fade t 1s -0 vol 1 dcshift 0 fir 0 1 0 remix 1 upsample 2 downsample 2";
 
 /// Adds a word; false where memory is refused.
@@ -58,7 +58,7 @@ fn of_one_channel(plan: Plan) -> Option<Plan>
 }
 
 /// The plan of these effects behind that head. None where the words are refused, or memory for the plan.
-pub(crate) fn found_plan(alloc: Global, effects: &str) -> Option<Plan>
+pub fn found_plan(alloc: Global, effects: &str) -> Option<Plan>
     ensures mono { IfSome result (λ p. (planning p).head.channels ≡ 1) }
 {
     let words = words_of(alloc, effects)?;
@@ -66,7 +66,7 @@ pub(crate) fn found_plan(alloc: Global, effects: &str) -> Option<Plan>
 }
 
 /// The same plan, where memory for it is found.
-pub(crate) fn plan_of(alloc: Global, effects: &str) -> Result<Plan, &'static str>
+pub fn plan_of(alloc: Global, effects: &str) -> Result<Plan, &'static str>
     ensures mono { IfOk result (λ p. (planning p).head.channels ≡ 1) }
 {
     match found_plan(alloc, effects) {

@@ -1,6 +1,6 @@
 //! The worked rows of fx_cut: in each row a name, and behind the arrow what is given for the samples before it.
 ghost use Rattle.std.specs.Prelude.{◌≡◌, ◌^◌, ◌≤◌, length, IfOk};
-ghost use Rattle.fx_frame.specs.Stage.{kind};
+ghost use Rattle.fx_step.specs.Stage.{kind};
 
 use crate::driving::{REFUSED, compare, gives, refused, say, stored};
 use fx_cut::{Downsample, Fade, Pad, Trim, Upsample};
@@ -12,7 +12,7 @@ use std::alloc::{AllocError, Global};
 fn mono(sample: i32) -> Frame
     ensures { length result ≡ 1 }
 {
-    fx_frame::inner::one(sample)
+    Frame::one(sample)
 }
 
 /// Fails with a row where a stage that was made does not give what it says, or holds another number of frames.

@@ -1,10 +1,10 @@
 //! How the rows drive a stage. Samples of frames stand one after the other, those of a frame together. An error is a text, so
 //! that it is not dropped where a function is left.
 ghost use Rattle.std.specs.Prelude.{◌≡◌, ◌^◌, ◌≤◌, IfOk, unsigned_abs};
-ghost use Rattle.fx_frame.specs.Stage.{kind};
+ghost use Rattle.fx_step.specs.Stage.{kind};
 
 use fx_fixed::{Gain, UNIT};
-use fx_frame::{Frame, Stage, ThawFault, WideFrame, inner};
+use fx_frame::{Frame, Stage, ThawFault, WideFrame};
 use std::alloc::{AllocError, Global};
 use std::io::Print;
 
@@ -16,7 +16,7 @@ pub(crate) fn drain<S: Stage>(stage: &mut S, out: &mut Vec<i32>) -> Result<(), &
     ensures { S.acts.recipe stage.new ≡ S.acts.recipe stage.old }
 {
     'given: while let Some(frame) = stage.give() {
-        if out.extend_from_slice(inner::samples(&frame)).is_err() {
+        if out.extend_from_slice(frame.samples()).is_err() {
             return Err(REFUSED);
         }
     }

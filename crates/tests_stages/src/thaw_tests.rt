@@ -1,13 +1,12 @@
 //! Each stage frozen with a frame in hand and made again. The `growth_` test prints `refused` where memory is wanting, in
 //! `new`, for the stored frames or in `thaw`, and `made` where none was.
 ghost use Rattle.std.specs.Prelude.{◌≤◌, IfOk};
-ghost use Rattle.fx_frame.specs.Stage.{kind};
+ghost use Rattle.fx_step.specs.Stage.{kind};
 
 use crate::driving::{REFUSED, decay, gain, refused, say, stored};
 use crate::row_tests::spec;
 use fx_fixed::Weight;
-use fx_frame::inner::two;
-use fx_frame::{Stage, ThawFault, WideFrame};
+use fx_frame::{Frame, Stage, ThawFault, WideFrame};
 use fx_tap::{DcShift, Delay, Echo, Echos, Fir, Remix, Vol};
 use std::alloc::{AllocError, Global};
 
@@ -27,7 +26,7 @@ fn frozen<S: Stage + Drop>(
     if stage.counters()[0] != 0 {
         return Err("not a new stage");
     }
-    stage.take(two(2147483647, 3));
+    stage.take(Frame::two(2147483647, 3));
     match stored(alloc, &stage) {
         Ok(frames) => Ok((stage, frames)),
         Err(_refused) => Err(REFUSED),
@@ -139,7 +138,7 @@ fn growth_tap_stages(rt: HostRuntime) -> Result<(), &'static str> {
 #[test]
 fn unreached_refused(rt: HostRuntime) -> Result<(), &'static str> {
     let unity = gain("1")?;
-    let frames = [WideFrame::from_frame(two(7, 7))];
+    let frames = [WideFrame::from_frame(Frame::two(7, 7))];
     let short = Delay::thaw(rt.alloc(), 1, &[3], &[], &[5, 5, 0, 0, 0, 0, 0, 0]);
     refused(short, "a delay of too few frames")?;
     let idle = Vol::thaw(2, unity, &[], &[1, 1, 0, 0, 0, 2, 0, 0]);

@@ -1,6 +1,6 @@
 use Rattle.std.proofs.Common.{◌≡◌, ◌≤◌, ◌-◌, [], length}
 use Rattle.std.specs.Int.{w32}
-use Rattle.fx_frame.specs.Line.{IsLine}
+use Rattle.fx_ring.specs.Line.{IsLine}
 use Rattle.fx_cut.specs.TrimState.{kept_count, trim_after}
 use Rattle.fx_cut.proofs.trim.next_kept.Given as goal
 

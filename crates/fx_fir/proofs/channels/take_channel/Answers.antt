@@ -1,11 +1,11 @@
 use Rattle.std.proofs.Common.{rules, ◌≡◌, ◌+◌, ◌*◌, ◌<◌, ◌∙◌, ap, sym, ℕ, ℤ, pos, List, [], ◌∷◌, ◌++◌, length, take, drop, set, get_or, arith, slice_index_or, refl, add-one, to_z, of_z, w32}
 use Rattle.std.proofs.Math.Nat.{suc-mul}
 use Rattle.std.proofs.lemmas.List.{get_or-drop, get_or-take, map-append, take_more_set}
-use Rattle.fx_frame.specs.Frame.{Samples}
-use Rattle.fx_frame.specs.Line.{channel_of}
-use Rattle.fx_frame.specs.Ring.{pieces}
-use Rattle.fx_frame.proofs.ChannelPlaces.{within-frames}
-use Rattle.fx_frame.proofs.Feeding.{pieces-more}
+use Rattle.fx_step.specs.Frame.{Samples}
+use Rattle.fx_ring.specs.Line.{channel_of}
+use Rattle.fx_lists.specs.Lists.{pieces}
+use Rattle.fx_lists.proofs.ChannelPlaces.{within-frames}
+use Rattle.fx_lists.proofs.Puts.{pieces-more}
 use Rattle.fx_fir.proofs.channels.take_channel.Goals as goal
 
 -- one more frame's sample

@@ -1,6 +1,6 @@
 use Rattle.std.proofs.Common.{◌≡◌, ◌+◌, ◌*◌, pos, take}
-use Rattle.fx_frame.specs.Line.{channel_of}
-use Rattle.fx_frame.specs.Ring.{pieces}
+use Rattle.fx_ring.specs.Line.{channel_of}
+use Rattle.fx_lists.specs.Lists.{pieces}
 use Rattle.fx_fir.proofs.channels.take_channel.Given as goal
 
 abbrev pub invariant-frames : goal.invariant-frames

@@ -1,7 +1,7 @@
 use Rattle.std.proofs.Common.{◌≡◌, ap, ℕ, ℤ, pos, List, length, arith, slice_index_or}
 use Rattle.std.proofs.lemmas.List.{length-map}
-use Rattle.fx_frame.specs.Frame.{Samples}
-use Rattle.fx_frame.specs.Ring.{pieces}
+use Rattle.fx_step.specs.Frame.{Samples}
+use Rattle.fx_lists.specs.Lists.{pieces}
 use Rattle.fx_fir.proofs.FirBlocks.{none-left, places-left, window-joined}
 use Rattle.fx_fir.proofs.fir.fill_places.Goals as goal
 

@@ -2,16 +2,15 @@ use Rattle.std.proofs.Common.{rules, ◌≡◌, ◌+◌, ◌-◌, ◌*◌, ◌�
 use Rattle.std.proofs.lemmas.Grind.{common_steps}
 use Rattle.std.proofs.Math.Nat.{add-mul, mul-le-mul_right}
 use Rattle.std.proofs.lemmas.List.{drop-drop, length-append, length-drop, length-reverse}
-use Rattle.fx_frame.specs.Frame.{Samples}
-use Rattle.fx_frame.specs.Ring.{pieces}
-use Rattle.fx_frame.proofs.FeedParts.{pieces-split}
-use Rattle.fx_frame.proofs.Feeding.{drop-put, pieces-take}
-use Rattle.fx_frame.proofs.Pieces.{keep-twice}
+use Rattle.fx_step.specs.Frame.{Samples}
+use Rattle.fx_lists.specs.Lists.{pieces}
+use Rattle.fx_lists.proofs.Puts.{pieces-split, drop-put, pieces-take}
+use Rattle.fx_ring.proofs.RingLaws.{keep-twice}
 use Rattle.fx_fir.specs.Fir.{FirArguments}
 use Rattle.fx_fir.specs.FirState.{fir_taps}
-use Rattle.fx_blocks.specs.Tapped.{clips_behind, frames_behind, last_of}
+use Rattle.fx_frame.specs.Tapped.{clips_behind, frames_behind, last_of}
 use Rattle.fx_fir.proofs.FirBlocks.{clips-append, fir-near, frames-append, pieces-joined}
-use Rattle.fx_blocks.proofs.TapBlocks.{length-last}
+use Rattle.fx_frame.proofs.TapBlocks.{length-last}
 use Rattle.fx_fir.proofs.fir.filter_frames.Goals as goal
 
 pub slice_bounds-frames-end : goal.slice_bounds-frames-end

@@ -1,8 +1,8 @@
 use Rattle.std.proofs.Common.{◌≡◌, ◌≤◌, ◌-◌, ◌*◌, ◌++◌, drop, length, reverse}
-use Rattle.fx_frame.specs.Ring.{pieces}
+use Rattle.fx_lists.specs.Lists.{pieces}
 use Rattle.fx_fir.specs.Fir.{FirArguments}
 use Rattle.fx_fir.specs.FirState.{fir_taps}
-use Rattle.fx_blocks.specs.Tapped.{clips_behind, frames_behind, last_of}
+use Rattle.fx_frame.specs.Tapped.{clips_behind, frames_behind, last_of}
 use Rattle.fx_fir.proofs.fir.filter_frames.Given as goal
 
 -- the pieces so far

@@ -2,18 +2,17 @@ use Rattle.std.proofs.Common.{rules, ◌≡◌, ◌+◌, ◌≤◌, ◌++◌, �
 use Rattle.std.proofs.Math.Nat.{suc-mul}
 use Rattle.fx_fixed.specs.Rounding.{rounding}
 use Rattle.fx_fixed.specs.declared.gains.TheConstants.{UNIT}
-use Rattle.fx_frame.specs.Frame.{Samples}
-use Rattle.fx_frame.specs.Line.{channel_of}
-use Rattle.fx_frame.specs.Ring.{pieces}
-use Rattle.fx_frame.proofs.Pieces.{length-pieces}
+use Rattle.fx_step.specs.Frame.{Samples}
+use Rattle.fx_ring.specs.Line.{channel_of}
+use Rattle.fx_lists.specs.Lists.{pieces, tabulate}
+use Rattle.fx_lists.proofs.Pieces.{length-pieces}
 use Rattle.fx_fir.specs.Fir.{FirArguments, filtered_sample}
-use Rattle.fx_frame.specs.Lists.{tabulate}
-use Rattle.fx_sums.specs.Products.{sum_of_products}
-use Rattle.fx_frame.specs.Rounded.{clips_of}
-use Rattle.fx_blocks.proofs.Tables.{all_clips-more, all_clips-none}
+use Rattle.fx_convolve.specs.Products.{sum_of_products}
+use Rattle.fx_lists.specs.Rounded.{clips_of}
+use Rattle.fx_frame.proofs.Tables.{all_clips-more, all_clips-none}
 use Rattle.fx_fir.proofs.FirBlocks.{block-clips, block-frames, filtered-window}
-use Rattle.fx_sums.proofs.Places.{channel-put}
-use Rattle.fx_frame.proofs.Tabulate.{tabulate-same}
+use Rattle.fx_lists.proofs.Places.{channel-put}
+use Rattle.fx_lists.proofs.Tabulate.{tabulate-same}
 use Rattle.fx_fir.proofs.fir.filter_within.Goals as goal
 
 pub channels-init : goal.channels-init

@@ -1,7 +1,7 @@
 use Rattle.std.proofs.Common.{◌≡◌, ◌<◌, ◌≤◌, ◌+◌, ◌*◌, ◌++◌, ℕ, pos, length, reverse, slice_index_or}
-use Rattle.fx_frame.specs.Ring.{pieces}
+use Rattle.fx_lists.specs.Lists.{pieces}
 use Rattle.fx_fir.specs.Fir.{filtered_sample}
-use Rattle.fx_blocks.proofs.Tables.{all_clips}
+use Rattle.fx_frame.proofs.Tables.{all_clips}
 use Rattle.fx_fir.proofs.fir.filter_within.Given as goal
 
 -- the channels so far

@@ -1,7 +1,7 @@
 use Rattle.std.proofs.Common.{◌≡◌, ◌≤◌, ◌++◌, reverse, take}
 use Rattle.fx_fir.specs.Fir.{filtered_sample}
-use Rattle.fx_frame.specs.Lists.{tabulate}
-use Rattle.fx_frame.specs.Rounded.{clips_of, samples_of}
+use Rattle.fx_lists.specs.Lists.{tabulate}
+use Rattle.fx_lists.specs.Rounded.{clips_of, samples_of}
 use Rattle.fx_fir.proofs.fir.filtered_into.Given as goal
 
 -- the samples of the channels so far, and how many of them were clipped

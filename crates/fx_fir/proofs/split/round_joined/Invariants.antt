@@ -1,7 +1,7 @@
 use Rattle.std.proofs.Common.{◌≡◌, ◌<◌, ◌≤◌, ◌+◌, ◌*◌, ℕ, pos, slice_index_or}
 use Rattle.fx_fixed.specs.Rounding.{rounding}
-use Rattle.fx_frame.specs.Lists.{tabulate}
-use Rattle.fx_frame.specs.Rounded.{clips_of}
+use Rattle.fx_lists.specs.Lists.{tabulate}
+use Rattle.fx_lists.specs.Rounded.{clips_of}
 use Rattle.fx_fixed.specs.declared.gains.TheConstants.{UNIT}
 use Rattle.fx_fir.specs.Split.{joined}
 use Rattle.fx_fir.proofs.split.round_joined.Given as goal

@@ -1,6 +1,6 @@
 use Rattle.std.proofs.Common.{rules, ◌≡◌, ◌+◌, ◌<◌, ◌∷◌, [], ◌++◌, length, drop, take}
 use Rattle.std.specs.Prelude.{slice_index_or}
-use Rattle.fx_frame.specs.Stage.{Freezes}
+use Rattle.fx_step.specs.Stage.{Freezes}
 use Rattle.fx_flow.proofs.Thawing.{AllMade-more, stored-more, numbers-more, ThawsOn-step, drop-next}
 use Rattle.fx_flow.proofs.frozen.thaw_all.Goals as goal
 

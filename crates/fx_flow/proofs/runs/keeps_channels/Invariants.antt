@@ -1,5 +1,5 @@
 use Rattle.std.proofs.Common.{drop}
-use Rattle.fx_frame.specs.Holds.{kinds}
+use Rattle.fx_step.specs.Holds.{kinds}
 use Rattle.fx_flow.specs.Runs.{AllKeep}
 use Rattle.fx_flow.proofs.runs.keeps_channels.Given as goal
 

@@ -1,7 +1,7 @@
 use Rattle.std.proofs.Common.{rules, ◌≡◌, ◌<◌, ◌∙◌, Some, get_or, length, take, sym, arith, add-one}
 use Rattle.std.proofs.lemmas.List.{length-take-le}
-use Rattle.fx_frame.specs.Holds.{kinds}
-use Rattle.fx_frame.specs.Row.{outputs_of}
+use Rattle.fx_step.specs.Holds.{kinds}
+use Rattle.fx_step.specs.Row.{outputs_of}
 use Rattle.fx_flow.specs.Row.{WentThrough}
 use Rattle.fx_flow.proofs.Rows.{CameTo-next, MayPass, MayPass-at, WentThrough-kept, WentThrough-out}
 use Rattle.fx_flow.proofs.RowSteps.{WentThrough-sides}

@@ -3,8 +3,8 @@ use Rattle.std.specs.Prelude.{ℤ, FitsSigned}
 use Rattle.std.specs.Int.{w32}
 use Rattle.std.proofs.lemmas.List.Elements.{All-nil}
 use Rattle.std.proofs.Math.Nat.{mul-le-mul_left}
-use Rattle.fx_frame.specs.Ring.{pieces}
-use Rattle.fx_frame.proofs.RowLaws.{RowThrough-none}
+use Rattle.fx_lists.specs.Lists.{pieces}
+use Rattle.fx_step.proofs.RowLaws.{RowThrough-none}
 use Rattle.fx_flow.specs.Sound.{most_frames}
 use Rattle.fx_flow.proofs.Rowing.{AreReady-run, RanOn-row, RowThrough-stays}
 use Rattle.fx_flow.proofs.runs.run.Goals as goal

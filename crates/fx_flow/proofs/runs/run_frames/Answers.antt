@@ -1,7 +1,7 @@
 use Rattle.std.proofs.Common.{rules, ◌≡◌, ◌+◌, ◌*◌, ◌<◌, ◌≤◌, ℕ, length, take, inl, inr, refl, sym, arith}
 use Rattle.std.proofs.Math.Nat.{mul-le-mul_right}
-use Rattle.fx_frame.specs.Holds.{kinds}
-use Rattle.fx_frame.specs.Row.{outputs_of}
+use Rattle.fx_step.specs.Holds.{kinds}
+use Rattle.fx_step.specs.Row.{outputs_of}
 use Rattle.fx_flow.specs.Runs.{MayRun}
 use Rattle.fx_flow.specs.Sound.{most_frames}
 use Rattle.fx_flow.proofs.Running.{Running-frame, Running-none, Running-ran, Running-ready, Wrote}

@@ -1,5 +1,5 @@
 use Rattle.std.proofs.Common.{◌≡◌, ◌≤◌, ◌*◌, drop, ℕ}
-use Rattle.fx_frame.specs.Holds.{kinds}
+use Rattle.fx_step.specs.Holds.{kinds}
 use Rattle.fx_flow.specs.Parts.{AllSettled}
 use Rattle.fx_flow.specs.Runs.{MayRun}
 use Rattle.fx_flow.proofs.Running.{Running}

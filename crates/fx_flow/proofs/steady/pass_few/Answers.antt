@@ -1,7 +1,7 @@
 use Rattle.std.proofs.Common.{◌≡◌, ◌∙◌, add-one, get_or, length, refl, sym, ap, arith}
-use Rattle.fx_frame.specs.Ring.{pieces}
-use Rattle.fx_frame.specs.Stage.{kind}
-use Rattle.fx_frame.proofs.Pieces.{length-pieces}
+use Rattle.fx_lists.specs.Lists.{pieces}
+use Rattle.fx_step.specs.Stage.{kind}
+use Rattle.fx_lists.proofs.Pieces.{length-pieces}
 use Rattle.fx_flow.proofs.PieceLaws.{AllKeep-piece, MayFeed, MayFeed-at, PieceTo-next, PieceTo-out}
 use Rattle.fx_flow.proofs.steady.pass_few.Given as given
 use Rattle.fx_flow.proofs.steady.pass_few.Goals as goal

@@ -1,5 +1,5 @@
 use Rattle.std.proofs.Common.{◌≡◌, ◌*◌, length}
-use Rattle.fx_frame.specs.Ring.{pieces}
+use Rattle.fx_lists.specs.Lists.{pieces}
 use Rattle.fx_flow.proofs.PieceLaws.{PieceTo}
 use Rattle.fx_flow.proofs.steady.pass_few.Given as goal
 

@@ -1,8 +1,8 @@
 use Rattle.std.proofs.Common.{◌≡◌, ◌≤◌, ◌*◌, drop, length}
 use Rattle.std.specs.List.{All}
-use Rattle.fx_frame.specs.Frame.{Samples}
-use Rattle.fx_frame.specs.Ring.{pieces}
-use Rattle.fx_blocks.specs.Made.{clips_in, made_of}
+use Rattle.fx_step.specs.Frame.{Samples}
+use Rattle.fx_lists.specs.Lists.{pieces}
+use Rattle.fx_frame.specs.Made.{clips_in, made_of}
 use Rattle.fx_map.proofs.around.mapped_by_three.Given as goal
 
 abbrev pub invariant-frames : goal.invariant-frames

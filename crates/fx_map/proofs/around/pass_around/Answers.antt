@@ -2,13 +2,13 @@ use Rattle.std.proofs.Common.{arith, ◌≡◌, ◌*◌, ◌≤◌, ◌∙◌, �
 use Rattle.std.specs.Prelude.{ℤ}
 use Rattle.std.specs.List.{All}
 use Rattle.std.proofs.lemmas.List.{length-map}
-use Rattle.fx_frame.specs.Frame.{Samples}
-use Rattle.fx_frame.specs.Ring.{pieces}
-use Rattle.fx_frame.specs.Stage.{Given}
-use Rattle.fx_frame.proofs.Pieces.{length-pieces}
-use Rattle.fx_blocks.specs.Made.{clips_in, made_of}
+use Rattle.fx_step.specs.Frame.{Samples}
+use Rattle.fx_lists.specs.Lists.{pieces}
+use Rattle.fx_step.specs.Stage.{Given}
+use Rattle.fx_lists.proofs.Pieces.{length-pieces}
+use Rattle.fx_frame.specs.Made.{clips_in, made_of}
 use Rattle.fx_map.proofs.Blocks.{dry-through}
-use Rattle.fx_blocks.proofs.SamplePieces.{pieces-sides}
+use Rattle.fx_frame.proofs.SamplePieces.{pieces-sides}
 use Rattle.fx_map.proofs.around.pass_around.Goals as goal
 
 pub returns-clause-through : goal.returns-clause-through

@@ -1,10 +1,10 @@
 use Rattle.std.proofs.Common.{arith, ◌≡◌, ◌*◌, ◌≤◌, ◌∙◌, ℕ, ℤ, Bool, List, length, map, take, ap, refl}
 use Rattle.std.proofs.Math.Nat.{mul-le-mul}
 use Rattle.std.proofs.lemmas.List.{length-take-le}
-use Rattle.fx_frame.specs.Ring.{pieces}
-use Rattle.fx_frame.specs.Rounded.{clips_of, samples_of}
-use Rattle.fx_frame.proofs.Pieces.{length-pieces}
-use Rattle.fx_blocks.specs.Made.{rounded_given}
+use Rattle.fx_lists.specs.Lists.{pieces}
+use Rattle.fx_lists.specs.Rounded.{clips_of, samples_of}
+use Rattle.fx_lists.proofs.Pieces.{length-pieces}
+use Rattle.fx_frame.specs.Made.{rounded_given}
 use Rattle.fx_map.proofs.Blocks.{dry-through}
 use Rattle.fx_map.proofs.BothLaws.{between, between-many, between-sides, first-clips, out-is, out-sides, second-clips}
 use Rattle.fx_map.proofs.both.pass_both.Goals as goal

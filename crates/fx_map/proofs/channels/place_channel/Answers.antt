@@ -1,6 +1,6 @@
 use Rattle.std.proofs.Common.{rules, ◌≡◌, ◌+◌, ◌*◌, ◌<◌, ◌∙◌, ap, ℕ, ℤ, pos, length, arith, slice_index_or, FitsSigned, add-one, below_more, to_z, of_z, w32}
 use Rattle.std.proofs.Math.Nat.{suc-mul}
-use Rattle.fx_frame.proofs.ChannelPlaces.{others-stay, put-more, within-frames}
+use Rattle.fx_lists.proofs.ChannelPlaces.{others-stay, put-more, within-frames}
 use Rattle.fx_map.proofs.channels.place_channel.Goals as goal
 
 pub frames-preserved : goal.frames-preserved

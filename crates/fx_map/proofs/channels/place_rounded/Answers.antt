@@ -1,8 +1,8 @@
 use Rattle.std.proofs.Common.{rules, ◌≡◌, ◌+◌, ◌*◌, ◌<◌, ◌∙◌, ap, ℕ, ℤ, pos, Bool, length, arith, slice_index_or, add-one, to_z, of_z, w32}
 use Rattle.std.proofs.lemmas.Grind.{common_steps}
 use Rattle.std.proofs.Math.Nat.{suc-mul}
-use Rattle.fx_frame.proofs.ChannelPlaces.{others-stay, put-more, within-frames}
-use Rattle.fx_blocks.proofs.Rounds.{clips_of-next, byte_is, byte-le}
+use Rattle.fx_lists.proofs.ChannelPlaces.{others-stay, put-more, within-frames}
+use Rattle.fx_lists.proofs.Rounds.{clips_of-next, byte_is, byte-le}
 use Rattle.fx_map.proofs.channels.place_rounded.Goals as goal
 
 pub frames-preserved : goal.frames-preserved

@@ -1,6 +1,6 @@
 use Rattle.std.proofs.Common.{◌≡◌, ◌<◌, ◌≤◌, ◌+◌, ◌*◌, ℕ, pos, slice_index_or}
-use Rattle.fx_frame.specs.Lists.{tabulate}
-use Rattle.fx_frame.specs.Rounded.{clips_of}
+use Rattle.fx_lists.specs.Lists.{tabulate}
+use Rattle.fx_lists.specs.Rounded.{clips_of}
 use Rattle.fx_map.proofs.channels.place_rounded.Given as goal
 
 abbrev pub invariant-frames : goal.invariant-frames

@@ -3,11 +3,11 @@ use Rattle.std.proofs.lemmas.Grind.{common_steps}
 use Rattle.std.specs.Prelude.{ℤ}
 use Rattle.std.proofs.lemmas.List.{drop-drop}
 use Rattle.std.proofs.Math.Nat.{suc-mul, mul-le-mul_right}
-use Rattle.fx_frame.specs.Frame.{Samples}
-use Rattle.fx_frame.specs.Ring.{pieces}
-use Rattle.fx_frame.specs.Stage.{Given}
-use Rattle.fx_frame.proofs.Feeding.{drop-put, pieces-more, pieces-put}
-use Rattle.fx_blocks.specs.Made.{made_of}
+use Rattle.fx_step.specs.Frame.{Samples}
+use Rattle.fx_lists.specs.Lists.{pieces}
+use Rattle.fx_step.specs.Stage.{Given}
+use Rattle.fx_lists.proofs.Puts.{drop-put, pieces-more, pieces-put}
+use Rattle.fx_frame.specs.Made.{made_of}
 use Rattle.fx_map.proofs.Blocks.{clips_in-more, made_of-more}
 use Rattle.fx_map.proofs.mapped.map_by_frames.Goals as goal
 

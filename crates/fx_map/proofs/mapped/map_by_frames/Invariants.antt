@@ -1,6 +1,6 @@
 use Rattle.std.proofs.Common.{◌≡◌, ◌≤◌, ◌*◌, drop}
-use Rattle.fx_frame.specs.Ring.{pieces}
-use Rattle.fx_blocks.specs.Made.{clips_in, made_of}
+use Rattle.fx_lists.specs.Lists.{pieces}
+use Rattle.fx_frame.specs.Made.{clips_in, made_of}
 use Rattle.fx_map.proofs.mapped.map_by_frames.Given as goal
 
 abbrev pub invariant-frames : goal.invariant-frames

@@ -1,5 +1,5 @@
 use Rattle.std.proofs.Common.{◌≡◌, ◌≤◌, length, map, take}
-use Rattle.fx_frame.specs.Rounded.{clips_of, samples_of}
+use Rattle.fx_lists.specs.Rounded.{clips_of, samples_of}
 use Rattle.fx_map.proofs.per_sample.rounded_frame.Given as goal
 
 abbrev pub invariant-loop-channel : goal.invariant-loop-channel

@@ -2,14 +2,13 @@ use Rattle.std.proofs.Common.{append_assoc, ◌≡◌, ◌+◌, ◌-◌, ◌*◌
 use Rattle.std.specs.Prelude.{ℤ}
 use Rattle.std.proofs.lemmas.List.{drop-drop, length-drop, length-take-le, map-append}
 use Rattle.std.proofs.Math.Nat.{add-mul, mul-le-mul_right}
-use Rattle.fx_frame.specs.Frame.{Samples}
-use Rattle.fx_frame.specs.Ring.{pieces}
-use Rattle.fx_frame.specs.Stage.{Given}
-use Rattle.fx_frame.proofs.FedLaws.{total-append}
-use Rattle.fx_frame.proofs.FeedParts.{pieces-split}
-use Rattle.fx_frame.proofs.Feeding.{drop-put, pieces-take}
-use Rattle.fx_frame.proofs.ManyFrames.{pieces-put_many}
-use Rattle.fx_blocks.specs.Made.{clips_in, made_of}
+use Rattle.fx_step.specs.Frame.{Samples}
+use Rattle.fx_lists.specs.Lists.{pieces}
+use Rattle.fx_step.specs.Stage.{Given}
+use Rattle.fx_step.proofs.FedLaws.{total-append}
+use Rattle.fx_lists.proofs.Puts.{pieces-split, drop-put, pieces-take}
+use Rattle.fx_ring.proofs.ManyFrames.{pieces-put_many}
+use Rattle.fx_frame.specs.Made.{clips_in, made_of}
 use Rattle.fx_map.specs.Remix.{remixed_frame}
 use Rattle.fx_map.proofs.remix.mix_frames.Goals as goal
 

@@ -1,6 +1,6 @@
 use Rattle.std.proofs.Common.{◌≡◌, ◌≤◌, ◌-◌, ◌*◌, drop, length}
-use Rattle.fx_frame.specs.Ring.{pieces}
-use Rattle.fx_blocks.specs.Made.{clips_in, made_of}
+use Rattle.fx_lists.specs.Lists.{pieces}
+use Rattle.fx_frame.specs.Made.{clips_in, made_of}
 use Rattle.fx_map.specs.Remix.{remixed_frame}
 use Rattle.fx_map.proofs.remix.mix_frames.Given as goal
 

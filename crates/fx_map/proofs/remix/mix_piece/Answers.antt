@@ -1,13 +1,12 @@
 use Rattle.std.proofs.Common.{◌≡◌, ◌+◌, ◌≤◌, ◌∙◌, [], ap, sym, ℕ, ℤ, Bool, List, get_or, length, arith, add-one, refl, zero-add}
 use Rattle.std.proofs.Math.Nat.{suc-mul}
-use Rattle.fx_frame.specs.Frame.{Samples}
-use Rattle.fx_frame.specs.Ring.{pieces}
-use Rattle.fx_frame.proofs.Pieces.{length-pieces}
-use Rattle.fx_frame.specs.Lists.{tabulate}
+use Rattle.fx_step.specs.Frame.{Samples}
+use Rattle.fx_lists.specs.Lists.{pieces, tabulate}
+use Rattle.fx_lists.proofs.Pieces.{length-pieces}
 use Rattle.fx_map.specs.Remix.{Contributions, remixed_sample}
-use Rattle.fx_frame.specs.Rounded.{clips_of}
-use Rattle.fx_sums.proofs.Places.{any-default, channel-put}
-use Rattle.fx_blocks.proofs.Tables.{all_clips, all_clips-more, all_clips-none}
+use Rattle.fx_lists.specs.Rounded.{clips_of}
+use Rattle.fx_lists.proofs.Places.{any-default, channel-put}
+use Rattle.fx_frame.proofs.Tables.{all_clips, all_clips-more, all_clips-none}
 use Rattle.fx_map.proofs.MixPieces.{mixed-clips, mixed-frames}
 use Rattle.fx_map.proofs.remix.mix_piece.Goals as goal
 

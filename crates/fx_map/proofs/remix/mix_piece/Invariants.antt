@@ -1,7 +1,7 @@
 use Rattle.std.proofs.Common.{◌≡◌, ◌<◌, ◌≤◌, ◌+◌, ◌*◌, [], ℕ, length, pos, slice_index_or}
-use Rattle.fx_frame.specs.Ring.{pieces}
+use Rattle.fx_lists.specs.Lists.{pieces}
 use Rattle.fx_map.specs.Remix.{remixed_sample}
-use Rattle.fx_blocks.proofs.Tables.{all_clips}
+use Rattle.fx_frame.proofs.Tables.{all_clips}
 use Rattle.fx_map.proofs.remix.mix_piece.Given as goal
 
 -- the output channels so far

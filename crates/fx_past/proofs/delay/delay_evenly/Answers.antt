@@ -1,5 +1,5 @@
 use Rattle.std.proofs.Common.{◌≤◌, ◌*◌, ◌-◌, ◌++◌, length, arith}
-use Rattle.fx_frame.specs.Ring.{pieces}
+use Rattle.fx_lists.specs.Lists.{pieces}
 use Rattle.fx_past.proofs.Delaying.{even-behind, even-frames}
 use Rattle.fx_past.proofs.delay.delay_evenly.Goals as goal
 

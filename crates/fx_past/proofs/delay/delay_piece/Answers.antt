@@ -1,13 +1,13 @@
 -- One channel more is delayed, or stands as it came.
 use Rattle.std.proofs.Common.{ap, pos, get_or, ◌*◌, ◌≡◌, ◌+◌, ◌<◌, ◌≤◌, ◌++◌, ℕ, ℤ, List, length, refl, sym, ◌∙◌, arith}
 use Rattle.std.specs.Prelude.{slice_index}
-use Rattle.fx_frame.specs.Frame.{Samples}
-use Rattle.fx_frame.specs.Ring.{pieces}
-use Rattle.fx_frame.proofs.Pieces.{length-pieces}
-use Rattle.fx_blocks.specs.Past.{sample_before}
+use Rattle.fx_step.specs.Frame.{Samples}
+use Rattle.fx_lists.specs.Lists.{pieces}
+use Rattle.fx_lists.proofs.Pieces.{length-pieces}
+use Rattle.fx_frame.specs.Past.{sample_before}
 use Rattle.fx_past.proofs.DelayPieces.{delay-frames, late-by}
 use Rattle.fx_past.proofs.EchoPieces.{coming-sample, late-sample}
-use Rattle.fx_sums.proofs.Places.{channel-put}
+use Rattle.fx_lists.proofs.Places.{channel-put}
 use Rattle.fx_past.proofs.delay.delay_piece.Goals as goal
 use Rattle.fx_past.proofs.delay.delay_piece.Goals.{then-late-ne0, else-late-ne0}
 

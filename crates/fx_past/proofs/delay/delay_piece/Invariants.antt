@@ -1,7 +1,7 @@
 use Rattle.std.proofs.Common.{◌≡◌, ◌<◌, ◌≤◌, ◌+◌, ◌*◌, ◌++◌, ℕ, pos, length, slice_index_or}
 use Rattle.std.specs.Prelude.{slice_index}
-use Rattle.fx_frame.specs.Ring.{pieces}
-use Rattle.fx_blocks.specs.Past.{sample_before}
+use Rattle.fx_lists.specs.Lists.{pieces}
+use Rattle.fx_frame.specs.Past.{sample_before}
 use Rattle.fx_past.proofs.delay.delay_piece.Given as goal
 
 -- the channels so far are delayed, and the others stand as they came

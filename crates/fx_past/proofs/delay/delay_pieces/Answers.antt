@@ -4,15 +4,14 @@ use Rattle.std.proofs.lemmas.Nat.{mul-le}
 use Rattle.std.proofs.lemmas.List.{drop-drop, length-drop, length-take-le}
 use Rattle.std.proofs.Math.Nat.{add-mul, mul-le-mul_right}
 use Rattle.fx_fixed.specs.Extents.{greatest}
-use Rattle.fx_frame.specs.Frame.{Samples}
-use Rattle.fx_frame.specs.Ring.{pieces}
-use Rattle.fx_frame.proofs.FeedParts.{pieces-split}
-use Rattle.fx_frame.proofs.Feeding.{drop-put, pieces-take}
-use Rattle.fx_frame.proofs.ManyFrames.{pieces-put_many}
+use Rattle.fx_step.specs.Frame.{Samples}
+use Rattle.fx_lists.specs.Lists.{pieces}
+use Rattle.fx_lists.proofs.Puts.{pieces-split, drop-put, pieces-take}
+use Rattle.fx_ring.proofs.ManyFrames.{pieces-put_many}
 use Rattle.fx_past.specs.DelayState.{delay_taps}
 use Rattle.fx_past.specs.Near.{delays-near}
-use Rattle.fx_blocks.specs.Tapped.{frames_behind, last_of}
-use Rattle.fx_blocks.proofs.TapBlocks.{frames-joined, last-joined}
+use Rattle.fx_frame.specs.Tapped.{frames_behind, last_of}
+use Rattle.fx_frame.proofs.TapBlocks.{frames-joined, last-joined}
 use Rattle.fx_past.proofs.delay.delay_pieces.Goals as goal
 
 pub overflow_mul-from : goal.overflow_mul-from

@@ -1,7 +1,7 @@
 use Rattle.std.proofs.Common.{◌≡◌, ◌≤◌, ◌-◌, ◌*◌, ◌++◌, drop, length}
-use Rattle.fx_frame.specs.Ring.{pieces}
+use Rattle.fx_lists.specs.Lists.{pieces}
 use Rattle.fx_past.specs.DelayState.{delay_taps}
-use Rattle.fx_blocks.specs.Tapped.{frames_behind, last_of}
+use Rattle.fx_frame.specs.Tapped.{frames_behind, last_of}
 use Rattle.fx_past.proofs.delay.delay_pieces.Given as goal
 
 abbrev pub invariant-pieces : goal.invariant-pieces

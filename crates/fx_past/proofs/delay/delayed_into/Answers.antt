@@ -1,9 +1,9 @@
 use Rattle.std.proofs.Common.{◌≡◌, ◌<◌, ◌++◌, ◌∷◌, [], ℕ, ℤ, length, rules, to_z, of_z, w32, ap, sym, ◌∙◌, zero-add, ◌+◌}
 use Rattle.std.specs.Prelude.{slice_index}
 use Rattle.std.proofs.lemmas.List.{take_more_set}
-use Rattle.fx_frame.specs.Lists.{tabulate}
-use Rattle.fx_blocks.specs.Past.{sample_before}
-use Rattle.fx_frame.proofs.Tabulate.{tabulate-append}
+use Rattle.fx_lists.specs.Lists.{tabulate}
+use Rattle.fx_frame.specs.Past.{sample_before}
+use Rattle.fx_lists.proofs.Tabulate.{tabulate-append}
 use Rattle.fx_past.proofs.delay.delayed_into.Goals as goal
 
 pub channels-preserved : goal.channels-preserved

@@ -1,7 +1,7 @@
 use Rattle.std.proofs.Common.{◌≡◌, ◌++◌, ◌∷◌, [], length, take}
 use Rattle.std.specs.Prelude.{slice_index}
-use Rattle.fx_frame.specs.Lists.{tabulate}
-use Rattle.fx_blocks.specs.Past.{sample_before}
+use Rattle.fx_lists.specs.Lists.{tabulate}
+use Rattle.fx_frame.specs.Past.{sample_before}
 use Rattle.fx_past.proofs.delay.delayed_into.Given as goal
 
 -- the channels so far are delayed

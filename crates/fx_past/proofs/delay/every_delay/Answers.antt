@@ -1,7 +1,7 @@
 use Rattle.std.proofs.Common.{arith, ◌∙◌, ap}
 use Rattle.std.proofs.lemmas.Grind.{common_steps}
 use Rattle.fx_fixed.specs.Extents.{greatest}
-use Rattle.fx_blocks.proofs.DelayLaws.{greatest-filled}
+use Rattle.fx_past.proofs.LongestDelay.{greatest-filled}
 use Rattle.fx_past.proofs.delay.every_delay.Goals as goal
 
 pub returns-clause-items : goal.returns-clause-items

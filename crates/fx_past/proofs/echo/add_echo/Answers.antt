@@ -1,6 +1,6 @@
 use Rattle.std.proofs.Common.{◌≡◌, ◌<◌, ◌++◌, ◌∷◌, [], pos, ◌+ℤ◌, ◌*ℤ◌, length, ap, sym, ◌∙◌, arith, slice_index_or}
-use Rattle.fx_blocks.specs.Past.{sample_before}
-use Rattle.fx_blocks.proofs.DelayLaws.{sample-some, sample-none}
+use Rattle.fx_frame.specs.Past.{sample_before}
+use Rattle.fx_frame.proofs.DelayLaws.{sample-some, sample-none}
 use Rattle.fx_sums.proofs.SumLaws.{zero-echo}
 use Rattle.fx_past.proofs.echo.add_echo.Goals as goal
 

@@ -3,8 +3,8 @@ use Rattle.std.proofs.lemmas.List.{drop-set-lt, drop_more}
 use Rattle.fx_fixed.specs.Rounding.{rounding}
 use Rattle.fx_sums.specs.Weights.{Weights}
 use Rattle.fx_past.proofs.EchoWeights.{held-weight}
-use Rattle.fx_sums.proofs.SmallSums.{held-in-64, plain-added}
-use Rattle.fx_blocks.proofs.Rounds.{samples_of-next, clips_of-next, byte_is, byte-le}
+use Rattle.fx_convolve.proofs.SmallSums.{held-in-64, plain-added}
+use Rattle.fx_lists.proofs.Rounds.{samples_of-next, clips_of-next, byte_is, byte-le}
 use Rattle.fx_past.proofs.echo.one_echo_over.Goals as goal
 
 pub overflow_add-own : goal.overflow_add-own

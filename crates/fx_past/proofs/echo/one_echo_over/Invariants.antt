@@ -1,7 +1,7 @@
 use Rattle.std.proofs.Common.{◌≡◌, ◌≤◌, ◌+ℤ◌, ◌*ℤ◌, pos, take, drop, slice_index_or}
 use Rattle.fx_fixed.specs.Rounding.{rounding}
-use Rattle.fx_frame.specs.Lists.{tabulate}
-use Rattle.fx_frame.specs.Rounded.{clips_of, samples_of}
+use Rattle.fx_lists.specs.Lists.{tabulate}
+use Rattle.fx_lists.specs.Rounded.{clips_of, samples_of}
 use Rattle.fx_past.proofs.echo.one_echo_over.Given as goal
 
 -- the channels so far are rounded, and their clips counted

@@ -3,16 +3,15 @@ use Rattle.std.proofs.lemmas.Grind.{common_steps}
 use Rattle.std.specs.Prelude.{ℤ}
 use Rattle.std.proofs.lemmas.List.{drop-drop, length-drop, length-take-le, map-append}
 use Rattle.std.proofs.Math.Nat.{add-mul, mul-le-mul_left, mul-le-mul_right}
-use Rattle.fx_frame.specs.Frame.{Samples}
-use Rattle.fx_frame.specs.Holds.{total}
-use Rattle.fx_frame.specs.Line.{Frames}
-use Rattle.fx_frame.specs.Ring.{pieces}
-use Rattle.fx_frame.specs.Stage.{Given}
-use Rattle.fx_frame.proofs.FedLaws.{total-append}
-use Rattle.fx_frame.proofs.FeedParts.{pieces-split}
-use Rattle.fx_frame.proofs.Feeding.{drop-put, pieces-take}
-use Rattle.fx_frame.proofs.ManyFrames.{pieces-put_many}
-use Rattle.fx_frame.proofs.Pieces.{length-pieces}
+use Rattle.fx_step.specs.Frame.{Samples}
+use Rattle.fx_step.specs.Holds.{total}
+use Rattle.fx_ring.specs.Line.{Frames}
+use Rattle.fx_lists.specs.Lists.{pieces}
+use Rattle.fx_step.specs.Stage.{Given}
+use Rattle.fx_step.proofs.FedLaws.{total-append}
+use Rattle.fx_lists.proofs.Puts.{pieces-split, drop-put, pieces-take}
+use Rattle.fx_ring.proofs.ManyFrames.{pieces-put_many}
+use Rattle.fx_lists.proofs.Pieces.{length-pieces}
 use Rattle.fx_past.specs.EchosState.{delay_at, rows_after, through_lines}
 use Rattle.fx_past.proofs.EchosLaws.{rows-sound}
 use Rattle.fx_past.proofs.EchosPieces.{piece-small, rows-more, through-more}

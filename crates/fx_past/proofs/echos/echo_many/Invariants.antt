@@ -1,7 +1,7 @@
 use Rattle.std.proofs.Common.{◌≡◌, ◌<◌, ◌≤◌, ◌+◌, ◌-◌, ◌*◌, ℕ, drop, length, map}
-use Rattle.fx_frame.specs.Holds.{total}
-use Rattle.fx_frame.specs.Ring.{pieces}
-use Rattle.fx_frame.specs.Stage.{Given}
+use Rattle.fx_step.specs.Holds.{total}
+use Rattle.fx_lists.specs.Lists.{pieces}
+use Rattle.fx_step.specs.Stage.{Given}
 use Rattle.fx_past.specs.Echo.{EchoArguments}
 use Rattle.fx_past.specs.EchosState.{IsEchoLine, delay_at, line_at, rows_after, through_lines}
 use Rattle.fx_past.specs.EchoWeights.{Suits}

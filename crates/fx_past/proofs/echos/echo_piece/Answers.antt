@@ -2,7 +2,7 @@ use Rattle.std.proofs.Common.{◌≡◌, ◌≤◌, ◌*◌, ◌∙◌, arith, l
 use Rattle.std.proofs.lemmas.List.{length-replicate, length-take-le}
 use Rattle.fx_past.specs.EchoWeights.{Suits}
 use Rattle.fx_sums.specs.Weights.{Weights}
-use Rattle.fx_sums.proofs.Places.{quiet-part}
+use Rattle.fx_lists.proofs.Places.{quiet-part}
 use Rattle.fx_past.proofs.EchosGiven.{given-clips, given-frames}
 use Rattle.fx_past.proofs.echos.echo_piece.Goals as goal
 

@@ -1,5 +1,5 @@
 use Rattle.std.proofs.Common.{◌≡◌, ◌++◌, drop, map}
-use Rattle.fx_frame.specs.Line.{empty}
+use Rattle.fx_ring.specs.Line.{empty}
 use Rattle.fx_past.proofs.echos.empty_lines.Given as goal
 
 abbrev pub invariant-echoes : goal.invariant-echoes

@@ -2,14 +2,14 @@ use Rattle.std.proofs.Common.{◌≡◌, ◌<◌, ◌≤◌, ◌+◌, ◌*◌, �
 use Rattle.std.specs.List.{All}
 use Rattle.std.proofs.lemmas.Int.{ints}
 use Rattle.std.proofs.lemmas.List.{append-nil, drop_all, length-replicate, length-set, length-take-le, take-replicate, take_all}
-use Rattle.fx_frame.specs.Frame.{Samples}
-use Rattle.fx_frame.specs.Line.{Frames, channel_of, empty, latest_frames, pushed_all}
-use Rattle.fx_frame.specs.Ring.{pieces}
-use Rattle.fx_frame.proofs.ManyFrames.{pieces-replicate}
-use Rattle.fx_frame.proofs.Pieces.{get_or-piece, length-pieces}
+use Rattle.fx_step.specs.Frame.{Samples}
+use Rattle.fx_ring.specs.Line.{Frames, channel_of, empty, latest_frames, pushed_all}
+use Rattle.fx_lists.specs.Lists.{pieces}
+use Rattle.fx_ring.proofs.ManyFrames.{pieces-replicate}
+use Rattle.fx_lists.proofs.Pieces.{get_or-piece, length-pieces}
 use Rattle.fx_past.specs.EchosState.{line_at}
-use Rattle.fx_sums.specs.Products.{sum_of_products}
-use Rattle.fx_sums.proofs.Places.{quiet-part, any-default}
+use Rattle.fx_convolve.specs.Products.{sum_of_products}
+use Rattle.fx_lists.proofs.Places.{quiet-part, any-default}
 use Rattle.fx_past.proofs.EchoLaws.{echo-first}
 use Rattle.fx_past.proofs.EchoWeights.{held-weight}
 use Rattle.fx_past.proofs.EchosRow.{left-step, same-line}

@@ -1,7 +1,7 @@
 use Rattle.std.proofs.Common.{◌≡◌, ◌<◌, ◌≤◌, ◌+◌, ◌*◌, ◌^◌, ◌++◌, ℕ, pos, ◌+ℤ◌, ◌*ℤ◌, length, take, drop, replicate, slice_index_or, unsigned_abs}
-use Rattle.fx_frame.specs.Line.{channel_of}
-use Rattle.fx_frame.specs.Ring.{pieces}
-use Rattle.fx_sums.specs.Products.{sum_of_products}
+use Rattle.fx_ring.specs.Line.{channel_of}
+use Rattle.fx_lists.specs.Lists.{pieces}
+use Rattle.fx_convolve.specs.Products.{sum_of_products}
 use Rattle.fx_past.proofs.EchosPieces.{column, row_after, row_gone}
 use Rattle.fx_past.proofs.echos.pass_piece.Given as goal
 

@@ -1,14 +1,14 @@
 use Rattle.std.proofs.Common.{◌≡◌, ◌<◌, ◌∙◌, ap, ℕ, pos, ◌+ℤ◌, ◌*ℤ◌, arith, replicate, slice_index_or, List}
 use Rattle.std.proofs.lemmas.Int.{ints}
 use Rattle.std.proofs.lemmas.List.{take_all}
-use Rattle.fx_frame.specs.Frame.{Samples}
-use Rattle.fx_frame.specs.Line.{channel_of}
-use Rattle.fx_frame.specs.Stage.{Given}
+use Rattle.fx_step.specs.Frame.{Samples}
+use Rattle.fx_ring.specs.Line.{channel_of}
+use Rattle.fx_step.specs.Stage.{Given}
 use Rattle.fx_past.specs.Echo.{EchoArguments}
 use Rattle.fx_past.specs.Echos.{decays}
 use Rattle.fx_past.specs.EchosState.{let_go}
-use Rattle.fx_sums.specs.Products.{sum_of_products}
-use Rattle.fx_sums.proofs.Places.{quiet-sample}
+use Rattle.fx_convolve.specs.Products.{sum_of_products}
+use Rattle.fx_lists.proofs.Places.{quiet-sample}
 use Rattle.fx_past.proofs.EchosRow.{echoed-is, small-frame}
 use Rattle.fx_past.proofs.echos.wide_over.Goals as goal
 

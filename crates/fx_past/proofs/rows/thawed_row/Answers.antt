@@ -4,9 +4,9 @@ use Rattle.std.proofs.Math.Logic.{⊎_map}
 use Rattle.std.proofs.lemmas.List.{length-append}
 use Rattle.std.proofs.lemmas.List.Elements.{All-get_or}
 use Rattle.std.proofs.lemmas.Result.{err_from_is_err_and}
-use Rattle.fx_frame.specs.Frame.{Samples}
+use Rattle.fx_step.specs.Frame.{Samples}
 use Rattle.fx_frame.specs.Frozen.{line_of}
-use Rattle.fx_frame.specs.Line.{Frames}
+use Rattle.fx_ring.specs.Line.{Frames}
 use Rattle.fx_past.specs.EchosState.{IsEchoLine, delay_at, line_at}
 use Rattle.fx_past.proofs.EchosLaws.{late-each}
 use Rattle.fx_past.proofs.EchosStored.{cut-on, delay-is, held_at, next-line, row-pushed, thawed-sound}

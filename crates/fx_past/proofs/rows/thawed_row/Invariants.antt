@@ -1,5 +1,5 @@
 use Rattle.std.proofs.Common.{ℕ, ℤ, ◌<◌, ◌≡◌, ◌++◌, List, length, take, drop}
-use Rattle.fx_frame.specs.Line.{Frames}
+use Rattle.fx_ring.specs.Line.{Frames}
 use Rattle.fx_past.specs.EchosState.{IsEchoLine, delay_at, frames_of, line_at}
 use Rattle.fx_past.specs.EchosStored.{IsRow}
 use Rattle.fx_past.proofs.rows.thawed_row.Given as goal

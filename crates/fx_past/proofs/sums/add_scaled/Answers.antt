@@ -1,5 +1,5 @@
 use Rattle.std.proofs.Common.{arith, ◌≤◌, ◌^◌, pos, unsigned_abs, slice_index_or}
-use Rattle.fx_frame.specs.Frame.{padded}
+use Rattle.fx_step.specs.Frame.{padded}
 use Rattle.fx_past.proofs.EchosRow.{small-frame}
 use Rattle.fx_sums.proofs.SumLaws.{few-more, filled-up}
 use Rattle.fx_past.proofs.sums.add_scaled.Goals as goal

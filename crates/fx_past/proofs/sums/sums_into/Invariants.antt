@@ -1,8 +1,8 @@
 use Rattle.std.proofs.Common.{◌≡◌, ◌≤◌, pos, ◌*ℤ◌, take, ◌*◌, slice_index_or}
 use Rattle.fx_fixed.specs.Rounding.{rounding}
 use Rattle.fx_fixed.specs.declared.gains.TheConstants.{UNIT}
-use Rattle.fx_frame.specs.Lists.{tabulate}
-use Rattle.fx_frame.specs.Rounded.{clips_of, samples_of}
+use Rattle.fx_lists.specs.Lists.{tabulate}
+use Rattle.fx_lists.specs.Rounded.{clips_of, samples_of}
 use Rattle.fx_past.proofs.sums.sums_into.Given as goal
 
 -- the sums so far are rounded, and their clips counted

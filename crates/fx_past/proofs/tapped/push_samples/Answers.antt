@@ -1,6 +1,6 @@
 use Rattle.std.proofs.Common.{rules, ◌≡◌, ◌∙◌, ◌++◌, ◌-◌, ◌∷◌, [], drop, length, ap, arith, get_or, pos, to_z, of_z, w32}
 use Rattle.std.proofs.lemmas.List.{take_all}
-use Rattle.fx_blocks.proofs.TapBlocks.{one-sample, two-samples}
+use Rattle.fx_frame.proofs.TapBlocks.{one-sample, two-samples}
 use Rattle.fx_past.proofs.tapped.push_samples.Goals as goal
 use Rattle.fx_past.proofs.tapped.push_samples.Goals.{in-1, in-2, in_default}
 

@@ -1,5 +1,5 @@
 use Rattle.std.proofs.Common.{rules, ◌≡◌, ◌<◌, ◌∙◌, arith, to_z, of_z, w32}
-use Rattle.fx_blocks.proofs.DelayLaws.{sample-back}
+use Rattle.fx_frame.proofs.DelayLaws.{sample-back}
 use Rattle.fx_past.proofs.tapped.sample.Goals as goal
 
 pub returns : goal.returns

@@ -3,13 +3,13 @@ use Rattle.std.proofs.lemmas.Grind.{common_steps}
 use Rattle.std.specs.Prelude.{ℤ}
 use Rattle.std.proofs.lemmas.List.{drop-drop}
 use Rattle.std.proofs.Math.Nat.{suc-mul, mul-le-mul_right}
-use Rattle.fx_frame.specs.Frame.{Samples}
-use Rattle.fx_frame.specs.Ring.{pieces}
-use Rattle.fx_frame.specs.Stage.{Given}
-use Rattle.fx_frame.proofs.Feeding.{drop-put, pieces-more, pieces-put}
-use Rattle.fx_blocks.specs.Tapped.{clips_behind, frames_behind, last_of}
-use Rattle.fx_blocks.specs.Past.{sample_before}
-use Rattle.fx_blocks.proofs.TapBlocks.{clips-more, frames-more, last-more, last-whole}
+use Rattle.fx_step.specs.Frame.{Samples}
+use Rattle.fx_lists.specs.Lists.{pieces}
+use Rattle.fx_step.specs.Stage.{Given}
+use Rattle.fx_lists.proofs.Puts.{drop-put, pieces-more, pieces-put}
+use Rattle.fx_frame.specs.Tapped.{clips_behind, frames_behind, last_of}
+use Rattle.fx_frame.specs.Past.{sample_before}
+use Rattle.fx_frame.proofs.TapBlocks.{clips-more, frames-more, last-more, last-whole}
 use Rattle.fx_past.proofs.tapped.tap_by_frames.Goals as goal
 
 pub frames-init : goal.frames-init

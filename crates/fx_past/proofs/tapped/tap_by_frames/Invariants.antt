@@ -1,6 +1,6 @@
 use Rattle.std.proofs.Common.{◌≡◌, ◌≤◌, ◌*◌, ◌++◌, drop}
-use Rattle.fx_frame.specs.Ring.{pieces}
-use Rattle.fx_blocks.specs.Tapped.{clips_behind, frames_behind, last_of}
+use Rattle.fx_lists.specs.Lists.{pieces}
+use Rattle.fx_frame.specs.Tapped.{clips_behind, frames_behind, last_of}
 use Rattle.fx_past.proofs.tapped.tap_by_frames.Given as goal
 
 abbrev pub invariant-frames : goal.invariant-frames

@@ -1,7 +1,8 @@
 use Rattle.std.proofs.Common.{◌∙◌, refl, ap, arith, length}
 use Rattle.std.proofs.lemmas.Result.{MatchResult-from_err}
-use Rattle.fx_run.proofs.Draining.{Drained-more, Drained-none, Drained-still, CutOff-more, given_by-few, no_frame}
+use Rattle.fx_run.proofs.Draining.{Drained-more, Drained-none, Drained-still, CutOff-more, given_by-few}
 use Rattle.fx_run.proofs.drain.drain.Goals as goal
+use Rattle.fx_flow.proofs.Feeding.{none-out}
 
 pub send-requires-clause-room : goal.send-requires-clause-room
 send-requires-clause-room g c =
@@ -29,7 +30,7 @@ pub loop-flow-preserved : goal.loop-flow-preserved
 loop-flow-preserved g c =
     let old = c.loop-flow.invariant in
     let steps = c.step.ensures.steps in
-    let none = no_frame c.step.result c.in_default-step.not-Given in
+    let none = none-out c.step.result c.in_default-step.not-Given in
     record {
       drained = Drained-still g.S.Stage.acts c.args.flow.now c.loop-flow.flow c.step.new.self c.step.result c.args.outlet.now.coding _ _ _ _ _ _ old.drained steps c.step.ensures.moved none;
       room = omega (arith, steps.given, ap length none, old.room);

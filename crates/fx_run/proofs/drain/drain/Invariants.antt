@@ -1,7 +1,7 @@
 use Rattle.std.proofs.Common.{◌≡◌, ◌+◌, ◌-◌, ◌*◌, ◌≤◌, length}
 use Rattle.fx_run.specs.Through.{Drained}
 use Rattle.fx_flow.specs.Parts.{given_by, work, taken_of, ended_of, moves_of}
-use Rattle.fx_frame.specs.Holds.{kinds, recipes}
+use Rattle.fx_step.specs.Holds.{kinds, recipes}
 use Rattle.fx_sound.specs.Output.{bytes_put}
 use Rattle.fx_run.proofs.drain.drain.Given as goal
 

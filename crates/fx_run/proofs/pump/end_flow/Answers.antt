@@ -1,6 +1,6 @@
 use Rattle.std.proofs.Common.{◌∙◌, ap, arith}
 use Rattle.fx_flow.specs.Parts.{Parts}
-use Rattle.fx_frame.specs.Holds.{recipes}
+use Rattle.fx_step.specs.Holds.{recipes}
 use Rattle.fx_run.proofs.Draining.{given_by-few}
 use Rattle.fx_run.proofs.pump.end_flow.Goals as goal
 

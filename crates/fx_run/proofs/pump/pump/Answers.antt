@@ -1,10 +1,10 @@
 use Rattle.std.proofs.Common.{◌≡◌, ℕ, ◌+◌, ◌*◌, ◌∙◌, [], length, drop, refl, subst, sym, ap, arith, false, true}
-use Rattle.fx_frame.specs.Io.{saturated}
+use Rattle.fx_io.specs.Io.{saturated}
 use Rattle.fx_sound.specs.Runs.{Ran}
 use Rattle.fx_sound.proofs.RunLaws.{Ran-start, Ran-turn, Ran-whole, Takes-none}
 use Rattle.fx_sound.specs.Container.{after_frames}
 use Rattle.fx_sound.specs.Sound.{Reading, size_of}
-use Rattle.fx_sound.specs.Source.{to_come}
+use Rattle.fx_heads.specs.Source.{to_come}
 use Rattle.std.proofs.lemmas.Result.{err_from_is_err_and}
 use Rattle.std.specs.Prelude.{Some}
 use Rattle.fx_run.specs.Run.{is_write_failed}
@@ -12,8 +12,9 @@ use Rattle.fx_run.specs.Pump.{Start}
 use Rattle.fx_run.proofs.Blocks.{Pumped-turn}
 use Rattle.fx_run.proofs.Draining.{given_by-few}
 use Rattle.fx_run.proofs.Passing.{settled, Flowed-end, Flowed-start, FlowedFront-end, FlowedFront-start, FlowedFront-turn, RanToEnd-end, RanToFailure-failed, not-both, sound_frames-more}
-use Rattle.fx_run.proofs.Sending.{Sent-start, WroteFront-sent}
+use Rattle.fx_run.proofs.Sending.{WroteFront-sent}
 use Rattle.fx_run.proofs.pump.pump.Goals as goal
+use Rattle.fx_sound.proofs.Sending.{Sent-start}
 
 pub returns-in_err-push-clause-write_failed : goal.returns-in_err-push-clause-write_failed
 returns-in_err-push-clause-write_failed g c = λ _ bytes known.

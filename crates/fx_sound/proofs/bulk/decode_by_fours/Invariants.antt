@@ -1,5 +1,5 @@
 use Rattle.std.proofs.Common.{◌≡◌, ◌*◌, take}
-use Rattle.fx_frame.specs.FrameCoding.{samples_of}
+use Rattle.fx_heads.specs.FrameCoding.{samples_of}
 use Rattle.fx_sound.proofs.bulk.decode_by_fours.Given as goal
 
 abbrev pub invariant-fours : goal.invariant-fours

@@ -1,7 +1,7 @@
 use Rattle.std.proofs.Common.{◌≡◌, ◌*◌, length, ap, ◌∙◌, arith}
-use Rattle.fx_frame.specs.Coding.{width_of}
-use Rattle.fx_frame.specs.FrameCoding.{samples_of}
-use Rattle.fx_frame.specs.Ring.{pieces}
+use Rattle.fx_io.specs.Coding.{width_of}
+use Rattle.fx_heads.specs.FrameCoding.{samples_of}
+use Rattle.fx_lists.specs.Lists.{pieces}
 use Rattle.fx_sound.proofs.ManyBytes.{decoded-frames}
 use Rattle.fx_sound.proofs.bulk.decode_into.Goals as goal
 

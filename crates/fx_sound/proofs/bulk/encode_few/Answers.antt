@@ -1,6 +1,6 @@
 use Rattle.std.proofs.Common.{rules, ◌≡◌, ◌<◌, length, get_or, ap, ◌∙◌, sym, arith, pos, w32, to_z, of_z}
-use Rattle.fx_frame.specs.Coding.{written, clips_written}
-use Rattle.fx_frame.specs.Frame.{Samples}
+use Rattle.fx_io.specs.Coding.{written, clips_written}
+use Rattle.fx_step.specs.Frame.{Samples}
 use Rattle.fx_sound.proofs.FrameBytes.{bytes_of-turn, clips_of-yes, clips_of-no}
 use Rattle.fx_sound.proofs.bulk.encode_few.Goals as goal
 use Rattle.fx_sound.proofs.bulk.encode_few.Goals.{then-write, else-write}

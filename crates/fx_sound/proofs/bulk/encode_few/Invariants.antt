@@ -1,6 +1,6 @@
 use Rattle.std.proofs.Common.{◌≡◌, ◌≤◌, ◌*◌, ◌++◌, take, drop}
-use Rattle.fx_frame.specs.Coding.{width_of}
-use Rattle.fx_frame.specs.FrameCoding.{bytes_of, clips_of}
+use Rattle.fx_io.specs.Coding.{width_of}
+use Rattle.fx_heads.specs.FrameCoding.{bytes_of, clips_of}
 use Rattle.fx_sound.proofs.bulk.encode_few.Given as goal
 
 abbrev pub invariant-samples : goal.invariant-samples

@@ -1,5 +1,5 @@
 use Rattle.std.proofs.Common.{◌≡◌, ◌≤◌, length, ap, ◌∙◌, arith}
-use Rattle.fx_frame.specs.FrameCoding.{samples_of}
+use Rattle.fx_heads.specs.FrameCoding.{samples_of}
 use Rattle.fx_sound.specs.Sound.{size_of}
 use Rattle.fx_sound.proofs.Sounds.{TakesFrame-held}
 use Rattle.fx_sound.proofs.progress.next_frame.Goals as goal

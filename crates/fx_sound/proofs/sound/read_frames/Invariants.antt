@@ -1,9 +1,9 @@
 use Rattle.std.proofs.Common.{◌≡◌, ◌*◌, ◌≤◌}
 use Rattle.fx_sound.specs.Container.{first_frames, after_frames}
-use Rattle.fx_sound.specs.Known.{IfKnown}
+use Rattle.fx_heads.specs.Known.{IfKnown}
 use Rattle.fx_sound.specs.Runs.{Ran}
 use Rattle.fx_sound.specs.Sound.{size_of}
-use Rattle.fx_sound.specs.Source.{to_come, Takes}
+use Rattle.fx_heads.specs.Source.{to_come, Takes}
 use Rattle.fx_sound.specs.declared.progress.TheConstants.{MOST_FRAMES}
 use Rattle.fx_sound.proofs.sound.read_frames.Given as goal
 

@@ -1,6 +1,6 @@
 -- What a stage that rounds each sample alone passed on, the stage of any effect passed on.
 use Rattle.std.proofs.Common.{refl}
-use Rattle.fx_frame.proofs.RowLaws.{EachThrough-along}
+use Rattle.fx_step.proofs.RowLaws.{EachThrough-along}
 use Rattle.fx_map.specs.DcShift.{shifted_sample}
 use Rattle.fx_map.specs.PerSampleState.{sample_acts}
 use Rattle.fx_map.specs.Vol.{scaled_sample}

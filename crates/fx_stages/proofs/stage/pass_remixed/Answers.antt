@@ -2,9 +2,9 @@
 use Rattle.std.proofs.Common.{◌≡◌, ◌*◌, [], FitsSigned, length, ap, sym, refl, arith}
 use Rattle.std.specs.Int.{w32}
 use Rattle.std.proofs.lemmas.List.Elements.{All-nil}
-use Rattle.fx_frame.specs.Ring.{pieces}
-use Rattle.fx_frame.specs.Stage.{Acts}
-use Rattle.fx_frame.proofs.RowLaws.{EachThrough-along}
+use Rattle.fx_lists.specs.Lists.{pieces}
+use Rattle.fx_step.specs.Stage.{Acts}
+use Rattle.fx_step.proofs.RowLaws.{EachThrough-along}
 use Rattle.fx_map.specs.DcShift.{shifted_sample}
 use Rattle.fx_map.specs.Mapped.{MapState, map_acts}
 use Rattle.fx_map.specs.PerSampleState.{sample_acts}

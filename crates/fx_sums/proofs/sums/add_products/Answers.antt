@@ -2,8 +2,9 @@ use Rattle.std.proofs.Common.{rules, ◌≡◌, ◌<◌, ◌≤◌, ◌^◌, ◌
 use Rattle.std.specs.Int.{w32, w64}
 use Rattle.std.proofs.lemmas.Int.{fits_signed_from_abs, ints}
 use Rattle.std.proofs.lemmas.List.{get_or-set_other}
-use Rattle.fx_sums.proofs.SmallSums.{held-in-64, plain-small-sum, weighed-few}
-use Rattle.fx_sums.proofs.SumLaws.{added-few, added-more, few-at-more}
+use Rattle.fx_convolve.proofs.SmallSums.{held-in-64, plain-small-sum, weighed-few}
+use Rattle.fx_convolve.proofs.Magnitudes.{added-few}
+use Rattle.fx_sums.proofs.SumLaws.{added-more, few-at-more}
 use Rattle.fx_sums.proofs.sums.add_products.Goals as goal
 
 pub overflow_add-sums : goal.overflow_add-sums

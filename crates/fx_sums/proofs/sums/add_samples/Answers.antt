@@ -1,8 +1,8 @@
 use Rattle.std.proofs.Common.{rules, ◌≡◌, ◌<◌, ◌≤◌, ◌≢◌, ◌+◌, ◌^◌, ◌∙◌, refl, ap, ℕ, ℤ, List, pos, ◌+ℤ◌, length, arith, slice_index_or, unsigned_abs, FitsSigned, to_z, of_z, get_or-set_other, get_or-set_same, below_more}
 use Rattle.std.specs.Int.{w32, w64}
 use Rattle.std.proofs.lemmas.Int.{fits_signed_from_abs, ints}
-use Rattle.fx_sums.proofs.EchosSums.{held_wide, wide-two}
-use Rattle.fx_sums.proofs.SumLaws.{added-few}
+use Rattle.fx_convolve.proofs.SmallSums.{held-in-64, wide-two}
+use Rattle.fx_convolve.proofs.Magnitudes.{added-few}
 use Rattle.fx_sums.proofs.sums.add_samples.Goals as goal
 
 pub overflow_add-out : goal.overflow_add-out
@@ -29,7 +29,7 @@ loop-place-preserved c =
     let f : c.from.result ≡ a = search rules in
     let most = added-few a b (2 ^ 31) (2 ^ 34) small wide in
     let value : to_z w64 (of_z w64 (to_z w64 (of_z w64 c.from.result) +ℤ to_z w64 (of_z w64 b))) ≡ a +ℤ b =
-    ap (λ z. to_z w64 (of_z w64 z)) (wide-two a b c.from.result b f refl small wide) ∙ held_wide (a +ℤ b) (omega (arith, most)) in
+    ap (λ z. to_z w64 (of_z w64 z)) (wide-two a b c.from.result b f refl small wide) ∙ held-in-64 (a +ℤ b) (omega (arith, most)) in
     let inside : i < length out = search rules in
     let few : unsigned_abs (a +ℤ b) ≤ unsigned_abs b + 2 ^ 31 = omega (arith, added-few a b (2 ^ 31) (unsigned_abs b) small (omega arith)) in
     rw value

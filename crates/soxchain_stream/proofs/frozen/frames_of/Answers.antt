@@ -1,7 +1,7 @@
 use Rattle.std.proofs.Common.{◌≡◌, ℕ, ◌++◌, ◌∙◌, ◌∷◌, ◌^◌, List, ap, arith, lit<, length, sym, map, [], append_assoc, take, true, false, rules, suc}
 use Rattle.std.proofs.lemmas.List.{append-nil}
 use Rattle.std.specs.Int.{cast_signed, w64}
-use Rattle.fx_frame.specs.Frame.{IsWideFrame, Samples}
+use Rattle.fx_step.specs.Frame.{IsWideFrame, Samples}
 use Rattle.soxchain_stream.specs.Frozen.{frame_words}
 use Rattle.soxchain_stream.proofs.Words.{AreBelow, all-push, below-drop, below-take, FirstFrame, first-frame, frame-words-back, nil-of, no-frames, pieces-more}
 use Rattle.soxchain_stream.proofs.frozen.frames_of.Goals as goal

@@ -2,7 +2,7 @@
 use Rattle.std.proofs.Common.{rules, ◌≡◌, ◌≤◌, ◌+◌, ◌-◌, ◌*◌, ◌∙◌, length, ap, arith}
 use Rattle.std.proofs.lemmas.List.{length-drop}
 use Rattle.std.proofs.Math.Nat.{add-mul, mul_assoc}
-use Rattle.fx_frame.specs.Feed.{nothing}
+use Rattle.fx_step.specs.Feed.{nothing}
 use Rattle.fx_cut.specs.DownsampleState.{DownsampleState}
 use Rattle.fx_cut.proofs.DownsampleMany.{Ready, all-passed, groups-room, lead-passed}
 use Rattle.fx_cut.proofs.Hands.{not-some}

@@ -2,9 +2,9 @@
 use Rattle.std.proofs.Common.{ℕ, ◌≡◌, ◌≤◌, ◌*◌, ◌-◌, ◌∙◌, true, drop, length, take, sym, arith, w32}
 use Rattle.std.proofs.lemmas.List.{length-take-le}
 use Rattle.std.proofs.lemmas.List.Elements.{All-append}
-use Rattle.fx_frame.specs.Feed.{nothing}
-use Rattle.fx_frame.specs.Line.{IsSamples}
-use Rattle.fx_frame.proofs.Pieces.{pieces-front}
+use Rattle.fx_step.specs.Feed.{nothing}
+use Rattle.fx_ring.specs.Line.{IsSamples}
+use Rattle.fx_lists.proofs.Pieces.{pieces-front}
 use Rattle.fx_cut.specs.FadeState.{FadeState}
 use Rattle.fx_cut.proofs.FadeMany.{IsGiving, faded-passed, fell-fit}
 use Rattle.fx_cut.proofs.Hands.{not-some}

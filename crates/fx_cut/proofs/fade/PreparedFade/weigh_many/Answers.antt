@@ -3,14 +3,14 @@ use Rattle.std.specs.Prelude.{FitsSigned, ℤ}
 use Rattle.std.proofs.lemmas.List.Elements.{All-append, All-drop, All-take}
 use Rattle.std.proofs.Math.Nat.{suc-mul, mul-le-mul_right}
 use Rattle.std.proofs.lemmas.List.{map-append}
-use Rattle.fx_frame.specs.Frame.{Samples}
-use Rattle.fx_frame.specs.Ring.{pieces}
-use Rattle.fx_frame.proofs.Feeding.{drop-put, pieces-more, pieces-put}
-use Rattle.fx_frame.proofs.ManyFrames.{frames-samples}
-use Rattle.fx_frame.proofs.Pieces.{length-pieces}
+use Rattle.fx_step.specs.Frame.{Samples}
+use Rattle.fx_lists.specs.Lists.{pieces}
+use Rattle.fx_lists.proofs.Puts.{drop-put, pieces-more, pieces-put}
+use Rattle.fx_ring.proofs.ManyFrames.{frames-samples}
+use Rattle.fx_lists.proofs.Pieces.{length-pieces}
 use Rattle.fx_cut.specs.Fade.{faded_frame}
 use Rattle.fx_cut.specs.FadeState.{faded_along, stop_ahead}
-use Rattle.fx_frame.specs.Lists.{plain}
+use Rattle.fx_step.specs.Given.{plain}
 use Rattle.fx_cut.proofs.FadeMany.{all-flat, faded_along-more}
 use Rattle.fx_cut.proofs.Pieces.{put-piece}
 use Rattle.fx_cut.proofs.Weighing.{given-plain}

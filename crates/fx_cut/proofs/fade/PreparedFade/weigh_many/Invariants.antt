@@ -2,9 +2,9 @@ use Rattle.std.proofs.Common.{◌≡◌, ◌*◌, drop, map}
 use Rattle.std.specs.Prelude.{FitsSigned}
 use Rattle.std.specs.Int.{w32}
 use Rattle.std.specs.List.{All}
-use Rattle.fx_frame.specs.Ring.{pieces}
+use Rattle.fx_lists.specs.Lists.{pieces}
 use Rattle.fx_cut.specs.FadeState.{faded_along}
-use Rattle.fx_frame.specs.Lists.{plain}
+use Rattle.fx_step.specs.Given.{plain}
 use Rattle.fx_cut.proofs.fade.PreparedFade.weigh_many.Given as goal
 
 -- so many frames are weighed, and those behind them as they came

@@ -1,8 +1,8 @@
 use Rattle.std.proofs.Common.{refl, sym, ap, rules}
 use Rattle.std.specs.Prelude.{map}
 use Rattle.std.specs.Int.{w32}
-use Rattle.fx_frame.specs.Line.{IsLine}
-use Rattle.fx_frame.specs.Lists.{plain}
+use Rattle.fx_ring.specs.Line.{IsLine}
+use Rattle.fx_step.specs.Given.{plain}
 use Rattle.fx_cut.proofs.PadRest.{pad_new}
 use Rattle.fx_cut.proofs.PadSteps.{IsPad-new}
 use Rattle.fx_cut.proofs.pad.Pad.new.Goals as goal

@@ -1,8 +1,8 @@
 -- Up to the next pad the frames are passed, all of them.
 use Rattle.std.proofs.Common.{rules, ◌≡◌, ◌≤◌, ◌*◌, ◌∙◌, length, take, arith}
 use Rattle.std.proofs.lemmas.List.{length-take-le}
-use Rattle.fx_frame.specs.Feed.{nothing}
-use Rattle.fx_frame.specs.Ring.{pieces}
+use Rattle.fx_step.specs.Feed.{nothing}
+use Rattle.fx_lists.specs.Lists.{pieces}
 use Rattle.fx_cut.specs.PadState.{PadState}
 use Rattle.fx_cut.proofs.Hands.{not-some}
 use Rattle.fx_cut.proofs.PadMany.{Quiet, quiet-passed}

@@ -1,6 +1,6 @@
 use Rattle.std.proofs.Common.{refl, sym, ap}
 use Rattle.std.specs.Prelude.{map}
-use Rattle.fx_frame.specs.Lists.{plain}
+use Rattle.fx_step.specs.Given.{plain}
 use Rattle.fx_cut.proofs.TrimRest.{trim_new}
 use Rattle.fx_cut.proofs.trim.Trim.new.Goals as goal
 

@@ -1,7 +1,7 @@
 -- The frames that fall out up to the next position are kept, or left out, all of them.
 use Rattle.std.proofs.Common.{ℕ, ◌≡◌, ◌≤◌, ◌*◌, ◌-◌, length, take, sym, arith}
 use Rattle.std.proofs.lemmas.List.{length-take-le}
-use Rattle.fx_frame.specs.Feed.{nothing}
+use Rattle.fx_step.specs.Feed.{nothing}
 use Rattle.fx_cut.specs.TrimState.{TrimState}
 use Rattle.fx_cut.proofs.Hands.{not-some}
 use Rattle.fx_cut.proofs.Onto.{piece-fits}

@@ -1,5 +1,5 @@
 use Rattle.std.proofs.Common.{◌≡◌, true, ap, ◌∙◌, sym}
-use Rattle.fx_frame.specs.Stage.{is_enough}
+use Rattle.fx_step.specs.Stage.{is_enough}
 use Rattle.fx_cut.specs.Trim.{trim_enough}
 use Rattle.fx_cut.proofs.TrimSteps.{spent-rest}
 use Rattle.fx_cut.proofs.Hands.{not-some}

@@ -1,7 +1,7 @@
 -- Each frame is passed with the silence behind it.
 use Rattle.std.proofs.Common.{rules, ◌≤◌, ◌+◌, ◌*◌, ◌/◌, ◌^◌, length, arith}
 use Rattle.std.proofs.Math.Nat.{mul_assoc}
-use Rattle.fx_frame.specs.Feed.{nothing}
+use Rattle.fx_step.specs.Feed.{nothing}
 use Rattle.fx_cut.specs.UpsampleState.{UpsampleState}
 use Rattle.fx_cut.proofs.Hands.{not-some}
 use Rattle.fx_cut.proofs.Pieces.{frames-room}

@@ -4,8 +4,8 @@ use Rattle.std.proofs.lemmas.Bool.Decides.{nat_tests}
 use Rattle.std.proofs.lemmas.List.{length-reverse}
 use Rattle.fx_fir.specs.Fir.{centre}
 use Rattle.fx_fir.specs.FirState.{AreFirCounts}
-use Rattle.fx_blocks.specs.Tapped.{by_name}
-use Rattle.fx_sums.proofs.Counts.{eight-numbers, flag-back}
+use Rattle.fx_frame.specs.Tapped.{by_name}
+use Rattle.fx_frame.proofs.Counts.{eight-numbers, flag-back}
 use Rattle.fx_fir.proofs.FirLaws.{by_flag, counts-are, stored-is, thawed-is}
 use Rattle.fx_fir.proofs.fir.Fir.thaw.Goals as goal
 

@@ -2,17 +2,17 @@ use Rattle.std.proofs.Common.{rules, ◌≡◌, ◌+◌, ◌-◌, ◌*◌, ◌�
 use Rattle.std.specs.Prelude.{None}
 use Rattle.std.specs.Int.{w32}
 use Rattle.std.proofs.lemmas.List.{length-reverse}
-use Rattle.fx_frame.specs.Frame.{Samples}
-use Rattle.fx_frame.specs.Line.{Frames, IsLine}
-use Rattle.fx_frame.specs.Ring.{pieces}
-use Rattle.fx_frame.proofs.Pieces.{length-pieces}
+use Rattle.fx_step.specs.Frame.{Samples}
+use Rattle.fx_ring.specs.Line.{Frames, IsLine}
+use Rattle.fx_lists.specs.Lists.{pieces}
+use Rattle.fx_lists.proofs.Pieces.{length-pieces}
 use Rattle.fx_fir.specs.Fir.{centre}
 use Rattle.fx_fir.specs.FirState.{FirState, IsFir}
-use Rattle.fx_blocks.specs.Tapped.{last_of}
-use Rattle.fx_sums.proofs.Counts.{none-of}
+use Rattle.fx_frame.specs.Tapped.{last_of}
+use Rattle.fx_frame.proofs.Counts.{none-of}
 use Rattle.fx_fir.proofs.FirBlocks.{block-fed}
-use Rattle.fx_blocks.proofs.TapBlocks.{length-last}
-use Rattle.fx_sums.proofs.WholeFrames.{both-have, no-more}
+use Rattle.fx_frame.proofs.TapBlocks.{length-last}
+use Rattle.fx_frame.proofs.WholeFrames.{both-have, no-more}
 use Rattle.fx_fir.proofs.fir.FirFeeds.feed.Goals as goal
 
 -- the state after a block of frames went by

@@ -3,7 +3,7 @@ use Rattle.std.proofs.lemmas.Grind.{common_steps}
 use Rattle.std.specs.Prelude.{None}
 use Rattle.std.proofs.lemmas.List.{length-reverse, take_all}
 use Rattle.fx_fir.specs.Fir.{centre}
-use Rattle.fx_blocks.proofs.DryLaws.{dry-hand}
+use Rattle.fx_frame.proofs.DryLaws.{dry-hand}
 use Rattle.fx_fir.proofs.FirBlocks.{frame-passed}
 use Rattle.fx_fir.proofs.fir.FirFeeds.pass_samples.Goals as goal
 

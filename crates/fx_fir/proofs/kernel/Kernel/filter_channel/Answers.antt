@@ -3,10 +3,10 @@ use Rattle.fx_fixed.specs.Rounding.{rounding}
 use Rattle.fx_fixed.specs.declared.gains.TheConstants.{UNIT}
 use Rattle.fx_sums.specs.Weights.{Weights}
 use Rattle.fx_sums.specs.SmallWeights.{SumsAs}
-use Rattle.fx_sums.specs.Products.{sum_of_products}
-use Rattle.fx_frame.specs.Rounded.{clips_of}
+use Rattle.fx_convolve.specs.Products.{sum_of_products}
+use Rattle.fx_lists.specs.Rounded.{clips_of}
 use Rattle.fx_sums.proofs.KernelLaws.{rounded-as}
-use Rattle.fx_frame.proofs.Tabulate.{tabulate-same}
+use Rattle.fx_lists.proofs.Tabulate.{tabulate-same}
 use Rattle.fx_fir.proofs.kernel.Kernel.filter_channel.Goals as goal
 
 pub convolve-requires : goal.convolve-requires

@@ -1,9 +1,9 @@
 use Rattle.std.proofs.Common.{◌≡◌, ◌<◌, ◌≤◌, ◌+◌, ◌*◌, ℕ, pos, drop, slice_index_or}
 use Rattle.fx_fixed.specs.Rounding.{rounding}
 use Rattle.fx_fixed.specs.declared.gains.TheConstants.{UNIT}
-use Rattle.fx_frame.specs.Lists.{tabulate}
-use Rattle.fx_sums.specs.Products.{sum_of_products}
-use Rattle.fx_frame.specs.Rounded.{clips_of}
+use Rattle.fx_lists.specs.Lists.{tabulate}
+use Rattle.fx_convolve.specs.Products.{sum_of_products}
+use Rattle.fx_lists.specs.Rounded.{clips_of}
 use Rattle.fx_fir.proofs.kernel.Kernel.weigh_channel.Given as goal
 
 abbrev pub invariant-frames : goal.invariant-frames

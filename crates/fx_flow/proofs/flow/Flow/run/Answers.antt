@@ -1,10 +1,10 @@
 use Rattle.std.proofs.Common.{rules, ◌≡◌, ◌+◌, ◌*◌, ◌≤◌, ◌∙◌, false, length, ap, arith}
 use Rattle.std.specs.Prelude.{None}
 use Rattle.std.proofs.Math.Nat.{mul-le-mul_right}
-use Rattle.fx_frame.proofs.Pieces.{length-pieces}
-use Rattle.fx_frame.specs.Holds.{kinds}
-use Rattle.fx_frame.specs.Ring.{pieces}
-use Rattle.fx_frame.specs.Row.{outputs_of}
+use Rattle.fx_lists.proofs.Pieces.{length-pieces}
+use Rattle.fx_step.specs.Holds.{kinds}
+use Rattle.fx_lists.specs.Lists.{pieces}
+use Rattle.fx_step.specs.Row.{outputs_of}
 use Rattle.fx_flow.specs.Runs.{MayRun, flow_of}
 use Rattle.fx_flow.specs.Sound.{IsSound, most_frames}
 use Rattle.fx_flow.proofs.Moving.{settled-dry}

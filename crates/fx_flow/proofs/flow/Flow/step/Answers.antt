@@ -1,5 +1,5 @@
 use Rattle.std.proofs.Common.{rules, cond, nat_eq, ◌≡◌, ◌+◌, ◌<◌, ◌^◌, length, refl, sym, ap, ◌∙◌, arith}
-use Rattle.fx_frame.specs.Holds.{hold_sum, kinds}
+use Rattle.fx_step.specs.Holds.{hold_sum, kinds}
 use Rattle.fx_flow.proofs.Steps.{written_back, IsSound-pass, Steps-pass, ended-busy, never-idle}
 use Rattle.fx_flow.proofs.Moving.{settled-none, settled-after, count-le, IsWetEnd-le, CanMove-sound, IsSound-move, Steps-move, MovedOn-move, MovedOn-pass}
 use Rattle.fx_flow.proofs.flow.Flow.step.Goals as goal

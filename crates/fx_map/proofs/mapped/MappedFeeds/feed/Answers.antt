@@ -1,8 +1,8 @@
 use Rattle.std.proofs.Common.{rules, ◌≡◌, ◌*◌, ◌≤◌, false, length, refl, arith, ◌<◌}
 use Rattle.std.specs.Prelude.{None}
 use Rattle.fx_map.proofs.Blocks.{block-fed}
-use Rattle.fx_sums.proofs.Counts.{none-of}
-use Rattle.fx_sums.proofs.WholeFrames.{both-have, no-more}
+use Rattle.fx_frame.proofs.Counts.{none-of}
+use Rattle.fx_frame.proofs.WholeFrames.{both-have, no-more}
 use Rattle.fx_map.proofs.mapped.MappedFeeds.feed.Goals as goal
 
 pub returns-clause-fed : goal.returns-clause-fed

@@ -1,9 +1,9 @@
 use Rattle.std.proofs.Common.{◌≡◌, ◌*◌, false, length, arith}
 use Rattle.std.specs.Prelude.{None}
-use Rattle.fx_frame.specs.Ring.{pieces}
-use Rattle.fx_frame.proofs.Pieces.{length-pieces}
+use Rattle.fx_lists.specs.Lists.{pieces}
+use Rattle.fx_lists.proofs.Pieces.{length-pieces}
 use Rattle.fx_map.proofs.Blocks.{dry-through, none-is}
-use Rattle.fx_blocks.proofs.SamplePieces.{pieces-sides}
+use Rattle.fx_frame.proofs.SamplePieces.{pieces-sides}
 use Rattle.fx_map.proofs.mapped.MappedFeeds.pass_frames.Goals as goal
 
 pub returns : goal.returns

@@ -2,12 +2,12 @@ use Rattle.std.proofs.Common.{◌≡◌, ◌+◌, ◌-◌, ◌*◌, ◌≤◌, �
 use Rattle.std.specs.Prelude.{ℤ}
 use Rattle.std.proofs.lemmas.List.{length-take-le}
 use Rattle.std.proofs.Math.Nat.{mul-le-mul_right, suc-mul}
-use Rattle.fx_frame.specs.Frame.{Samples}
-use Rattle.fx_frame.specs.Ring.{pieces}
-use Rattle.fx_frame.specs.Stage.{Given}
-use Rattle.fx_frame.proofs.Evenly.{put-between, put-long}
-use Rattle.fx_frame.proofs.Feeding.{drop-put, pieces-more, pieces-put}
-use Rattle.fx_blocks.specs.Made.{made_of}
+use Rattle.fx_step.specs.Frame.{Samples}
+use Rattle.fx_lists.specs.Lists.{pieces}
+use Rattle.fx_step.specs.Stage.{Given}
+use Rattle.fx_step.proofs.Evenly.{put-between, put-long}
+use Rattle.fx_lists.proofs.Puts.{drop-put, pieces-more, pieces-put}
+use Rattle.fx_frame.specs.Made.{made_of}
 use Rattle.fx_map.proofs.Blocks.{clips_in-more, made_of-more}
 use Rattle.fx_map.proofs.mapped.MapsMany.map_many_over.Goals as goal
 

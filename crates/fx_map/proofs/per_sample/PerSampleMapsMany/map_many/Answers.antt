@@ -1,5 +1,5 @@
 use Rattle.std.proofs.Common.{◌∙◌, refl}
-use Rattle.fx_blocks.proofs.SamplePieces.{clips-samples}
+use Rattle.fx_frame.proofs.SamplePieces.{clips-samples}
 use Rattle.fx_map.proofs.Blocks.{pieces-rounded}
 use Rattle.fx_map.proofs.per_sample.PerSampleMapsMany.map_many.Goals as goal
 

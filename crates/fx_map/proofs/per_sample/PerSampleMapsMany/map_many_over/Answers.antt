@@ -1,9 +1,9 @@
 use Rattle.std.proofs.Common.{◌≡◌, ◌*◌, ◌≤◌, ◌∙◌, ap, arith, length, map, sym, ℕ}
 use Rattle.std.proofs.lemmas.List.{take_all}
 use Rattle.std.proofs.Math.Nat.{mul-le-mul_right, mul_comm}
-use Rattle.fx_frame.specs.Ring.{pieces}
-use Rattle.fx_frame.specs.Rounded.{clips_of}
-use Rattle.fx_blocks.proofs.SamplePieces.{clips-samples, pieces-samples}
+use Rattle.fx_lists.specs.Lists.{pieces}
+use Rattle.fx_lists.specs.Rounded.{clips_of}
+use Rattle.fx_frame.proofs.SamplePieces.{clips-samples, pieces-samples}
 use Rattle.fx_map.proofs.per_sample.PerSampleMapsMany.map_many_over.Goals as goal
 
 pub returns-clause-frames : goal.returns-clause-frames

@@ -1,6 +1,6 @@
 use Rattle.std.proofs.Common.{◌≡◌, map, take}
 use Rattle.fx_map.specs.Fractions.{fraction_sample}
-use Rattle.fx_frame.specs.Rounded.{clips_of, samples_of}
+use Rattle.fx_lists.specs.Rounded.{clips_of, samples_of}
 use Rattle.fx_map.proofs.proper.ProperFraction.round_many.Given as goal
 
 -- the samples so far

@@ -2,7 +2,7 @@ use Rattle.std.proofs.Common.{rules, arith, ◌≡◌, ◌<◌, ◌+◌, ◌∙�
 use Rattle.std.specs.Prelude.{ℤ, pos}
 use Rattle.std.specs.Int.{w32, w64}
 use Rattle.std.proofs.lemmas.List.{drop-set-lt, drop_more}
-use Rattle.fx_blocks.proofs.Rounds.{samples_of-more, clips_of-more}
+use Rattle.fx_lists.proofs.Rounds.{samples_of-more, clips_of-more}
 use Rattle.fx_map.specs.Fractions.{fraction_sample}
 use Rattle.fx_map.proofs.proper.ProperFraction.round_over.Goals as goal
 

@@ -1,10 +1,10 @@
 use Rattle.std.proofs.Common.{◌≡◌, ◌<◌, ◌≤◌, ◌+◌, [], ℕ, ℤ, List, pos, map, get_or, length, arith, slice_index_or, to_z, of_z}
 use Rattle.std.specs.Int.{w32}
 use Rattle.std.proofs.lemmas.List.{length-map}
-use Rattle.fx_frame.specs.Frame.{Samples}
-use Rattle.fx_frame.specs.Ring.{pieces}
+use Rattle.fx_step.specs.Frame.{Samples}
+use Rattle.fx_lists.specs.Lists.{pieces}
 use Rattle.fx_map.specs.Mix.{pair_of}
-use Rattle.fx_sums.proofs.Convolving.{Adding, Adding-few, Adding-first, Adding-last}
+use Rattle.fx_convolve.proofs.Convolving.{Adding, Adding-few, Adding-first, Adding-last}
 use Rattle.fx_map.proofs.Fractions.{held-32}
 use Rattle.fx_map.proofs.MixLaws.{gathered}
 use Rattle.fx_map.proofs.MixPieces.{mixing-channel, mixing-none}

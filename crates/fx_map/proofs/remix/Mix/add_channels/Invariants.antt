@@ -1,6 +1,6 @@
 use Rattle.std.proofs.Common.{◌<◌, [], ℕ, length, map, pos, slice_index_or}
-use Rattle.fx_frame.specs.Ring.{pieces}
-use Rattle.fx_sums.proofs.Convolving.{Adding}
+use Rattle.fx_lists.specs.Lists.{pieces}
+use Rattle.fx_convolve.proofs.Convolving.{Adding}
 use Rattle.fx_map.proofs.remix.Mix.add_channels.Given as goal
 
 -- the contributions so far are added

@@ -1,11 +1,11 @@
 use Rattle.std.proofs.Common.{pos, rules, ◌≡◌, ◌+◌, ◌-◌, ◌<◌, ◌∙◌, [], ap, sym, ℕ, ℤ, Bool, length, take, drop, arith, add-one, get_or, to_z, of_z, w32}
 use Rattle.std.proofs.Math.Nat.{suc-mul}
-use Rattle.fx_frame.specs.Frame.{Samples}
-use Rattle.fx_frame.specs.Ring.{pieces}
-use Rattle.fx_frame.proofs.Pieces.{get_or-pieces}
+use Rattle.fx_step.specs.Frame.{Samples}
+use Rattle.fx_lists.specs.Lists.{pieces}
+use Rattle.fx_lists.proofs.Pieces.{get_or-pieces}
 use Rattle.fx_map.specs.Remix.{remixed_sample}
-use Rattle.fx_frame.proofs.ChannelPlaces.{others-stay, put-more, within-frames}
-use Rattle.fx_blocks.proofs.Rounds.{clips_of-next, byte_is, byte-le}
+use Rattle.fx_lists.proofs.ChannelPlaces.{others-stay, put-more, within-frames}
+use Rattle.fx_lists.proofs.Rounds.{clips_of-next, byte_is, byte-le}
 use Rattle.fx_map.proofs.remix.Mix.channel_by_frames.Goals as goal
 
 pub frames-preserved : goal.frames-preserved

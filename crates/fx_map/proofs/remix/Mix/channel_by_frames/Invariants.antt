@@ -1,8 +1,7 @@
 use Rattle.std.proofs.Common.{◌≡◌, ◌<◌, ◌≤◌, ◌+◌, ◌*◌, [], ℕ, pos, slice_index_or}
-use Rattle.fx_frame.specs.Ring.{pieces}
-use Rattle.fx_frame.specs.Lists.{tabulate}
+use Rattle.fx_lists.specs.Lists.{pieces, tabulate}
 use Rattle.fx_map.specs.Remix.{remixed_sample}
-use Rattle.fx_frame.specs.Rounded.{clips_of}
+use Rattle.fx_lists.specs.Rounded.{clips_of}
 use Rattle.fx_map.proofs.remix.Mix.channel_by_frames.Given as goal
 
 abbrev pub invariant-frames : goal.invariant-frames

@@ -2,17 +2,17 @@ use Rattle.std.proofs.Common.{◌≡◌, ◌<◌, ◌≤◌, ◌+◌, ◌*◌, �
 use mathlib.Core.Path.{ap₂}
 use Rattle.std.proofs.lemmas.List.{length-replicate, length-take-le}
 use Rattle.fx_fixed.specs.Rounding.{rounding}
-use Rattle.fx_frame.specs.Frame.{Samples}
-use Rattle.fx_frame.specs.Ring.{pieces}
-use Rattle.fx_frame.proofs.Pieces.{get_or-piece}
+use Rattle.fx_step.specs.Frame.{Samples}
+use Rattle.fx_lists.specs.Lists.{pieces}
+use Rattle.fx_lists.proofs.Pieces.{get_or-piece}
 use Rattle.fx_sums.specs.Weights.{Weights}
 use Rattle.fx_map.specs.Mix.{Copies, Means, Reduces, Scales, pair_of}
 use Rattle.fx_map.specs.Remix.{remixed_sample}
-use Rattle.fx_frame.specs.Rounded.{clips_of}
-use Rattle.fx_sums.proofs.Places.{quiet-part}
+use Rattle.fx_lists.specs.Rounded.{clips_of}
+use Rattle.fx_lists.proofs.Places.{quiet-part}
 use Rattle.fx_map.specs.Vol.{scaled_sample}
 use Rattle.fx_map.proofs.MixLaws.{copied-sample, mean-sample, none-clipped, scaled-mix, small-mix}
-use Rattle.fx_frame.proofs.Tabulate.{tabulate-same}
+use Rattle.fx_lists.proofs.Tabulate.{tabulate-same}
 use Rattle.fx_map.proofs.remix.Mix.channel_into.Goals as goal
 
 pub add_channels-requires-clause-empty : goal.add_channels-requires-clause-empty

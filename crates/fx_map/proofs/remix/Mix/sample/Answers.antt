@@ -3,7 +3,7 @@ use Rattle.fx_fixed.specs.Rounding.{rounding}
 use Rattle.fx_sums.specs.Weights.{Weights}
 use Rattle.fx_map.specs.Mix.{Copies, Means, Reduces, Scales, pair_of}
 use Rattle.fx_map.specs.Vol.{scaled_sample}
-use Rattle.fx_sums.specs.Products.{sum_of_products}
+use Rattle.fx_convolve.specs.Products.{sum_of_products}
 use Rattle.fx_map.proofs.MixLaws.{copied-sample, gathered, mean-sample, scaled-mix, small-mix}
 use Rattle.fx_map.proofs.remix.Mix.sample.Goals as goal
 

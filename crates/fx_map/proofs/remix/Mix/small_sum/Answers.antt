@@ -3,8 +3,8 @@ use Rattle.std.proofs.lemmas.Int.{ints, fits_signed_from_abs}
 use Rattle.std.proofs.lemmas.List.{length-map}
 use Rattle.fx_map.specs.Mix.{pair_of}
 use Rattle.fx_map.proofs.MixLaws.{gathered, mixing-next}
-use Rattle.fx_sums.proofs.Convolving.{Adding, Adding-few}
-use Rattle.fx_sums.proofs.SmallSums.{held-64, plain-product-64}
+use Rattle.fx_convolve.proofs.Convolving.{Adding, Adding-few}
+use Rattle.fx_convolve.proofs.SmallSums.{held-64, plain-product-64}
 use Rattle.fx_map.proofs.remix.Mix.small_sum.Goals as goal
 
 pub overflow_add-sum : goal.overflow_add-sum

@@ -4,7 +4,8 @@ use Rattle.std.proofs.lemmas.List.{length-map}
 use Rattle.fx_map.specs.Mix.{pair_of}
 use Rattle.fx_map.specs.Remix.{parts_of}
 use Rattle.fx_map.proofs.MixLaws.{mixed-next, made-at}
-use Rattle.fx_sums.proofs.SumLaws.{added-few, held, plain-product, scaled-few}
+use Rattle.fx_convolve.proofs.Magnitudes.{added-few, scaled-few}
+use Rattle.fx_sums.proofs.SumLaws.{held, plain-product}
 use Rattle.fx_map.proofs.remix.Mix.sum.Goals as goal
 use mir.Syntax.{w128}
 

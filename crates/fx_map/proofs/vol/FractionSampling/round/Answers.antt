@@ -4,7 +4,7 @@ use Rattle.fx_fixed.specs.Rounding.{rounding}
 use Rattle.fx_map.specs.Fractions.{fraction_sample}
 use Rattle.fx_map.proofs.vol.FractionSampling.round.Goals as goal
 use Rattle.fx_sums.proofs.Fitting.{product-fits}
-use Rattle.fx_sums.proofs.SmallSums.{plain-product-64}
+use Rattle.fx_convolve.proofs.SmallSums.{plain-product-64}
 
 pub returns : goal.returns
 returns c =

@@ -1,5 +1,5 @@
 use Rattle.std.proofs.Common.{◌≡◌, ◌∙◌, ap, map}
-use Rattle.fx_frame.specs.Rounded.{clips_of}
+use Rattle.fx_lists.specs.Rounded.{clips_of}
 use Rattle.fx_map.specs.Fractions.{Ratio, Rounds, fraction_sample}
 use Rattle.fx_map.specs.Vol.{scaled_sample}
 use Rattle.fx_map.proofs.vol.ScaleSamplesMany.round_before.Goals as goal

@@ -1,5 +1,5 @@
 use Rattle.std.proofs.Common.{◌<◌, ◌≤◌, ◌+◌, ◌*◌, ◌+ℤ◌, ◌*ℤ◌, ◌∙◌, ap, arith, length, List, ℕ, ℤ, drop, pos, slice_index_or}
-use Rattle.fx_frame.specs.Ring.{pieces}
+use Rattle.fx_lists.specs.Lists.{pieces}
 use Rattle.fx_past.specs.EchoWeights.{weighed_echoes}
 use Rattle.fx_past.proofs.EchoLaws.{echo-first, echo-next, echo-last}
 use Rattle.fx_past.proofs.EchoPieces.{coming-sample, earlier-sample}

@@ -1,8 +1,8 @@
 use Rattle.std.proofs.Common.{◌≡◌, ◌<◌, ◌≤◌, ◌+◌, ◌*◌, ◌^◌, ◌++◌, ℕ, pos, ◌+ℤ◌, drop, length, slice_index_or, unsigned_abs}
-use Rattle.fx_frame.specs.Ring.{pieces}
+use Rattle.fx_lists.specs.Lists.{pieces}
 use Rattle.fx_past.specs.Echo.{echo_sum, echoes_of}
 use Rattle.fx_past.specs.EchoWeights.{weighed, weighed_echoes}
-use Rattle.fx_blocks.specs.Past.{sample_before}
+use Rattle.fx_frame.specs.Past.{sample_before}
 use Rattle.fx_past.proofs.echo.PreparedEcho.add_piece.Given as goal
 
 -- the echoes so far are added; with those to come it is the whole sum

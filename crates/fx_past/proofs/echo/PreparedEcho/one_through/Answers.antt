@@ -1,5 +1,5 @@
 use Rattle.std.proofs.Common.{◌∙◌, ap}
-use Rattle.fx_frame.specs.Rounded.{clips_of, samples_of}
+use Rattle.fx_lists.specs.Rounded.{clips_of, samples_of}
 use Rattle.fx_past.proofs.OneEcho.{one-echo}
 use Rattle.fx_past.proofs.echo.PreparedEcho.one_through.Goals as goal
 

@@ -3,10 +3,10 @@ use Rattle.fx_fixed.specs.Rounding.{rounding}
 use Rattle.fx_past.specs.Echo.{EchoArguments, echo_sum, echoed_sample}
 use Rattle.fx_sums.specs.Weights.{Weights}
 use Rattle.fx_past.specs.EchoWeights.{weighed}
-use Rattle.fx_blocks.specs.Past.{Past, sample_before}
+use Rattle.fx_frame.specs.Past.{Past, sample_before}
 use Rattle.fx_past.proofs.EchoWeights.{small-sample}
-use Rattle.fx_blocks.proofs.Rounds.{samples_of-next, clips_of-next, byte_is, byte-le}
-use Rattle.fx_sums.proofs.SmallSums.{held-in-64}
+use Rattle.fx_lists.proofs.Rounds.{samples_of-next, clips_of-next, byte_is, byte-le}
+use Rattle.fx_convolve.proofs.SmallSums.{held-in-64}
 use Rattle.fx_past.proofs.echo.PreparedEcho.small_into.Goals as goal
 
 pub channels-preserved : goal.channels-preserved

@@ -1,8 +1,8 @@
 use Rattle.std.proofs.Common.{◌≡◌, ◌≤◌, ◌++◌, ◌∷◌, [], length, take}
 use Rattle.fx_past.specs.Echo.{echoed_sample}
-use Rattle.fx_frame.specs.Lists.{tabulate}
-use Rattle.fx_frame.specs.Rounded.{clips_of, samples_of}
-use Rattle.fx_blocks.specs.Past.{sample_before}
+use Rattle.fx_lists.specs.Lists.{tabulate}
+use Rattle.fx_lists.specs.Rounded.{clips_of, samples_of}
+use Rattle.fx_frame.specs.Past.{sample_before}
 use Rattle.fx_past.proofs.echo.PreparedEcho.small_into.Given as goal
 
 -- the channels so far are rounded, and their clips counted

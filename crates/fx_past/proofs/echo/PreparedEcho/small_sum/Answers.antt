@@ -2,11 +2,11 @@ use Rattle.std.proofs.Common.{rules, ◌≡◌, ◌<◌, ◌≤◌, ◌+◌, ◌
 use Rattle.std.specs.Int.{w32, w64}
 use Rattle.fx_past.specs.Echo.{echoes_of}
 use Rattle.fx_past.specs.EchoWeights.{weighed_echoes}
-use Rattle.fx_blocks.specs.Past.{Past, sample_before}
+use Rattle.fx_frame.specs.Past.{Past, sample_before}
 use Rattle.fx_past.proofs.EchoLaws.{echo-next, echo-last}
 use Rattle.fx_past.proofs.EchoWeights.{held-weight, weighed-at, weighed-length}
-use Rattle.fx_sums.proofs.SmallSums.{held-in-64, plain-added}
-use Rattle.fx_sums.proofs.SumLaws.{added-few}
+use Rattle.fx_convolve.proofs.SmallSums.{held-in-64, plain-added}
+use Rattle.fx_convolve.proofs.Magnitudes.{added-few}
 use Rattle.fx_past.proofs.echo.PreparedEcho.small_sum.Goals as goal
 
 pub overflow_add-sum : goal.overflow_add-sum

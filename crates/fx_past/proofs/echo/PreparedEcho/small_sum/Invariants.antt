@@ -1,7 +1,7 @@
 use Rattle.std.proofs.Common.{◌≡◌, ◌≤◌, ◌+◌, ◌*◌, ◌^◌, ◌++◌, ◌∷◌, [], ◌+ℤ◌, drop, length, unsigned_abs}
 use Rattle.fx_past.specs.Echo.{echo_sum, echoes_of}
 use Rattle.fx_past.specs.EchoWeights.{weighed, weighed_echoes}
-use Rattle.fx_blocks.specs.Past.{sample_before}
+use Rattle.fx_frame.specs.Past.{sample_before}
 use Rattle.fx_past.proofs.echo.PreparedEcho.small_sum.Given as goal
 
 -- the echoes so far are added; with those to come it is the whole sum

@@ -1,5 +1,5 @@
 use Rattle.std.proofs.Common.{ap, ◌*ℤ◌, arith}
-use Rattle.fx_sums.proofs.Places.{quiet-sample}
+use Rattle.fx_lists.proofs.Places.{quiet-sample}
 use Rattle.fx_past.proofs.EchoLaws.{echo-first, echo-next, echo-last, sample-now}
 use Rattle.fx_past.proofs.echo.PreparedEcho.sums.Goals as goal
 

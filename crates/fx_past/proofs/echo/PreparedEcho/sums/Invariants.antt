@@ -1,7 +1,7 @@
 use Rattle.std.proofs.Common.{◌≡◌, ◌<◌, ◌≤◌, ◌+◌, ◌*◌, ◌^◌, ◌++◌, ◌∷◌, [], ℕ, pos, ◌+ℤ◌, drop, length, slice_index_or, unsigned_abs}
 use Rattle.fx_fixed.specs.declared.gains.TheConstants.{UNIT}
 use Rattle.fx_past.specs.Echo.{echo_sum, echoes_of}
-use Rattle.fx_blocks.specs.Past.{sample_before}
+use Rattle.fx_frame.specs.Past.{sample_before}
 use Rattle.fx_past.proofs.echo.PreparedEcho.sums.Given as goal
 
 -- the echoes so far are added; with those to come it is the whole sum

@@ -1,10 +1,10 @@
 use Rattle.std.proofs.Common.{◌≡◌, ◌≤◌, ◌*◌, ◌∙◌, arith, length, replicate, List, ℤ, pos}
 use Rattle.std.proofs.lemmas.List.{length-replicate, length-take-le}
-use Rattle.fx_frame.specs.Ring.{pieces}
-use Rattle.fx_frame.proofs.Pieces.{length-pieces}
+use Rattle.fx_lists.specs.Lists.{pieces}
+use Rattle.fx_lists.proofs.Pieces.{length-pieces}
 use Rattle.fx_past.specs.Echo.{EchoArguments}
 use Rattle.fx_sums.specs.Weights.{SoundsAs, Weights}
-use Rattle.fx_sums.proofs.Places.{quiet-part}
+use Rattle.fx_lists.proofs.Places.{quiet-part}
 use Rattle.fx_past.proofs.EchoPieces.{piece-clips, piece-frames}
 use Rattle.fx_past.proofs.echo.PreparedEcho.tap_piece.Goals as goal
 

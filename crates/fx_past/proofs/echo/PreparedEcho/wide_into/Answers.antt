@@ -1,7 +1,7 @@
 use Rattle.std.proofs.Common.{◌∙◌, ◌≡◌, ◌++◌, ◌∷◌, [], length, ap, arith}
 use Rattle.std.proofs.lemmas.List.{take_all}
-use Rattle.fx_blocks.specs.Past.{sample_before}
-use Rattle.fx_frame.specs.Rounded.{clips_of, samples_of}
+use Rattle.fx_frame.specs.Past.{sample_before}
+use Rattle.fx_lists.specs.Rounded.{clips_of, samples_of}
 use Rattle.fx_past.proofs.EchoLaws.{echoed-is}
 use Rattle.fx_past.proofs.echo.PreparedEcho.wide_into.Goals as goal
 

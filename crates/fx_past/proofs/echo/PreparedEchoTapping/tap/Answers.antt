@@ -1,6 +1,6 @@
 use Rattle.std.proofs.Common.{◌∙◌, ◌++◌, ◌∷◌, [], length, ap}
-use Rattle.fx_blocks.specs.Past.{sample_before}
-use Rattle.fx_frame.specs.Rounded.{clips_of, samples_of}
+use Rattle.fx_frame.specs.Past.{sample_before}
+use Rattle.fx_lists.specs.Rounded.{clips_of, samples_of}
 use Rattle.fx_sums.specs.Weights.{SoundsAs}
 use Rattle.fx_past.proofs.EchoLaws.{echoed-is}
 use Rattle.fx_past.proofs.echo.PreparedEchoTapping.tap.Goals as goal

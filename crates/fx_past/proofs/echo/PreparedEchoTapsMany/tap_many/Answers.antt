@@ -4,16 +4,15 @@ use Rattle.std.specs.Prelude.{ℤ}
 use Rattle.std.proofs.lemmas.List.{drop-drop, length-drop, length-take-le}
 use Rattle.std.proofs.Math.Nat.{add-mul, mul-le-mul_left, mul-le-mul_right}
 use Rattle.fx_fixed.specs.Extents.{greatest, tap_delay}
-use Rattle.fx_frame.specs.Frame.{Samples}
-use Rattle.fx_frame.specs.Ring.{pieces}
-use Rattle.fx_frame.proofs.FeedParts.{pieces-split}
-use Rattle.fx_frame.proofs.Feeding.{drop-put, pieces-take}
-use Rattle.fx_frame.proofs.ManyFrames.{pieces-put_many}
+use Rattle.fx_step.specs.Frame.{Samples}
+use Rattle.fx_lists.specs.Lists.{pieces}
+use Rattle.fx_lists.proofs.Puts.{pieces-split, drop-put, pieces-take}
+use Rattle.fx_ring.proofs.ManyFrames.{pieces-put_many}
 use Rattle.fx_past.specs.Echo.{EchoArguments}
 use Rattle.fx_past.specs.EchoState.{echo_taps}
 use Rattle.fx_past.specs.Near.{echoes-near}
-use Rattle.fx_blocks.specs.Tapped.{clips_behind, frames_behind, last_of}
-use Rattle.fx_blocks.proofs.TapBlocks.{clips-joined, frames-joined, last-joined}
+use Rattle.fx_frame.specs.Tapped.{clips_behind, frames_behind, last_of}
+use Rattle.fx_frame.proofs.TapBlocks.{clips-joined, frames-joined, last-joined}
 use Rattle.fx_past.proofs.echo.PreparedEchoTapsMany.tap_many.Goals as goal
 
 pub slice_bounds-frames-end : goal.slice_bounds-frames-end

@@ -1,7 +1,7 @@
 use Rattle.std.proofs.Common.{◌≡◌, ◌≤◌, ◌-◌, ◌*◌, ◌++◌, drop}
-use Rattle.fx_frame.specs.Ring.{pieces}
+use Rattle.fx_lists.specs.Lists.{pieces}
 use Rattle.fx_past.specs.EchoState.{echo_taps}
-use Rattle.fx_blocks.specs.Tapped.{clips_behind, frames_behind, last_of}
+use Rattle.fx_frame.specs.Tapped.{clips_behind, frames_behind, last_of}
 use Rattle.fx_past.proofs.echo.PreparedEchoTapsMany.tap_many.Given as goal
 
 abbrev pub invariant-pieces : goal.invariant-pieces

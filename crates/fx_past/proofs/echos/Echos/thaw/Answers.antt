@@ -4,8 +4,8 @@ use Rattle.std.proofs.lemmas.Bool.Decides.{nat_tests}
 use Rattle.std.proofs.lemmas.Result.{err_from_is_err_and}
 use Rattle.fx_fixed.specs.Extents.{sum_of_delays}
 use Rattle.fx_past.specs.Echo.{EchoArguments, IsEcho}
-use Rattle.fx_blocks.specs.Tapped.{by_name}
-use Rattle.fx_sums.proofs.Counts.{eight-numbers, flag-back, times-flag}
+use Rattle.fx_frame.specs.Tapped.{by_name}
+use Rattle.fx_frame.proofs.Counts.{eight-numbers, flag-back, times-flag}
 use Rattle.fx_past.proofs.EchosThawed.{AreEchosCounts, counts-are, row-is, thawed-is}
 use Rattle.fx_past.proofs.EchoWeights.{suits-of}
 use Rattle.fx_past.proofs.echos.Echos.thaw.Goals as goal

@@ -1,13 +1,13 @@
 use Rattle.std.proofs.Common.{rules, ◌≡◌, ◌+◌, ◌∙◌, ap, ℕ, false, length, refl, sym, arith}
 use Rattle.std.specs.Prelude.{None}
-use Rattle.fx_frame.specs.Ring.{pieces}
+use Rattle.fx_lists.specs.Lists.{pieces}
 use Rattle.fx_past.specs.EchoWeights.{Suits}
 use Rattle.fx_past.specs.EchosState.{EchosState, IsEchos, came_of}
-use Rattle.fx_sums.proofs.Counts.{none-of}
+use Rattle.fx_frame.proofs.Counts.{none-of}
 use Rattle.fx_past.proofs.EchosBlocks.{IsEchos-block, block-fed}
 use Rattle.fx_past.proofs.EchosGiven.{length-rows}
 use Rattle.fx_past.proofs.EchosLaws.{kept-lines, places-late}
-use Rattle.fx_sums.proofs.WholeFrames.{both-have, no-more}
+use Rattle.fx_frame.proofs.WholeFrames.{both-have, no-more}
 use Rattle.fx_past.proofs.echos.EchosFeeds.feed.Goals as goal
 
 pub echo_many-requires-clause-lines : goal.echo_many-requires-clause-lines

@@ -1,8 +1,8 @@
 use Rattle.std.proofs.Common.{◌≡◌, ◌+◌, ◌≤◌, ◌<◌, ◌^◌, ◌∙◌, ap, ℕ, false, length, refl, arith}
 use Rattle.std.specs.Prelude.{None}
-use Rattle.fx_frame.specs.Frame.{Samples}
+use Rattle.fx_step.specs.Frame.{Samples}
 use Rattle.fx_past.specs.EchosState.{EchosState, IsEchos, IsEchoLine, came_of, delay_at, line_at}
-use Rattle.fx_blocks.proofs.DryLaws.{dry-hand}
+use Rattle.fx_frame.proofs.DryLaws.{dry-hand}
 use Rattle.fx_past.proofs.EchosBlocks.{IsEchos-block, frame-passed}
 use Rattle.fx_past.proofs.EchosLaws.{kept-lines, length-row, lines-sound, places-late, row_after}
 use Rattle.fx_past.proofs.echos.EchosFeeds.pass_samples.Goals as goal

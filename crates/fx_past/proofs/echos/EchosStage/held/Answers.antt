@@ -1,7 +1,7 @@
 use Rattle.std.proofs.Common.{arith, ap, ◌≤◌, ◌+◌, ◌∙◌, length}
 use Rattle.fx_fixed.specs.Extents.{sum_of_delays}
 use Rattle.fx_past.specs.EchosState.{frames_of}
-use Rattle.fx_blocks.proofs.Rounds.{byte-le}
+use Rattle.fx_lists.proofs.Rounds.{byte-le}
 use Rattle.fx_past.proofs.EchosLaws.{frames-late}
 use Rattle.fx_past.proofs.echos.EchosStage.held.Goals as goal
 

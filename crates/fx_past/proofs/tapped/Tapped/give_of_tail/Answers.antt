@@ -1,6 +1,6 @@
 use Rattle.std.proofs.Common.{ap, ◌∙◌}
-use Rattle.fx_frame.specs.Frame.{silence}
-use Rattle.fx_blocks.proofs.TapLaws.{Gave-tail}
+use Rattle.fx_step.specs.Frame.{silence}
+use Rattle.fx_frame.proofs.TapLaws.{Gave-tail}
 use Rattle.fx_past.proofs.tapped.Tapped.give_of_tail.Goals as goal
 
 pub returns : goal.returns

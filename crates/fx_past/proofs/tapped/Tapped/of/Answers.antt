@@ -1,5 +1,5 @@
 use Rattle.std.proofs.Common.{refl}
-use Rattle.fx_blocks.proofs.TapLaws.{behind-all}
+use Rattle.fx_frame.proofs.TapLaws.{behind-all}
 use Rattle.fx_past.proofs.tapped.Tapped.of.Goals as goal
 
 pub returns : goal.returns

@@ -2,9 +2,9 @@ use Rattle.std.proofs.Common.{rules, refl, sym, ap, ◌∙◌, ◌≡◌, ◌≤
 use Rattle.std.specs.Prelude.{option_to_list}
 use Rattle.std.proofs.lemmas.Bool.Decides.{nat_tests}
 use Rattle.fx_frame.specs.Frozen.{IsStored}
-use Rattle.fx_blocks.specs.Tapped.{AreTapCounts, by_name}
-use Rattle.fx_sums.proofs.Counts.{eight-numbers, flag-back, flag-of, times-flag}
-use Rattle.fx_blocks.proofs.TapLaws.{counts-are}
+use Rattle.fx_frame.specs.Tapped.{AreTapCounts, by_name}
+use Rattle.fx_frame.proofs.Counts.{eight-numbers, flag-back, flag-of, times-flag}
+use Rattle.fx_frame.proofs.TapLaws.{counts-are}
 use Rattle.fx_past.proofs.tapped.Tapped.thawed.Goals as goal
 
 pub are_counts-requires-clause-most : goal.are_counts-requires-clause-most

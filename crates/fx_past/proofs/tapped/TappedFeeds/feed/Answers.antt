@@ -1,10 +1,10 @@
 use Rattle.std.proofs.Common.{rules, ◌≡◌, ◌*◌, ◌^◌, ◌≤◌, ℕ, false, length, refl, arith, ◌<◌}
 use Rattle.std.specs.Prelude.{None}
 use Rattle.std.proofs.Math.Nat.{mul-le-mul}
-use Rattle.fx_frame.proofs.Pieces.{length-pieces}
-use Rattle.fx_sums.proofs.Counts.{none-of}
-use Rattle.fx_blocks.proofs.TapBlocks.{IsTapState-block, block-fed}
-use Rattle.fx_sums.proofs.WholeFrames.{both-have, no-more}
+use Rattle.fx_lists.proofs.Pieces.{length-pieces}
+use Rattle.fx_frame.proofs.Counts.{none-of}
+use Rattle.fx_frame.proofs.TapBlocks.{IsTapState-block, block-fed}
+use Rattle.fx_frame.proofs.WholeFrames.{both-have, no-more}
 use Rattle.fx_past.proofs.tapped.TappedFeeds.feed.Goals as goal
 
 pub overflow_add-self : goal.overflow_add-self

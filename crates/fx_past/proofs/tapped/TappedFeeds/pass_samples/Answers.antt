@@ -1,8 +1,8 @@
 use Rattle.std.proofs.Common.{◌≡◌, ◌+◌, ◌*◌, ◌≤◌, ◌∙◌, ◌^◌, [], ◌∷◌, ℕ, false, refl, arith}
 use Rattle.std.specs.Prelude.{None}
 use Rattle.std.proofs.Math.Nat.{mul-le-mul}
-use Rattle.fx_blocks.proofs.TapBlocks.{IsTapState-block, frame-passed}
-use Rattle.fx_blocks.proofs.DryLaws.{dry-hand}
+use Rattle.fx_frame.proofs.TapBlocks.{IsTapState-block, frame-passed}
+use Rattle.fx_frame.proofs.DryLaws.{dry-hand}
 use Rattle.fx_past.proofs.tapped.TappedFeeds.pass_samples.Goals as goal
 
 pub overflow_add-self : goal.overflow_add-self

@@ -1,4 +1,4 @@
-use Rattle.fx_blocks.proofs.TapLaws.{Took-tap, IsTapState-taken}
+use Rattle.fx_frame.proofs.TapLaws.{Took-tap, IsTapState-taken}
 use Rattle.fx_past.proofs.tapped.TappedStage.take.Goals as goal
 
 pub invariant_of-self : goal.invariant_of-self

@@ -1,7 +1,7 @@
 use Rattle.std.proofs.Common.{◌≡◌, ◌-◌, ◌*◌, length, ap, sym, ◌∙◌, arith, refl}
 use Rattle.std.proofs.lemmas.List.{length-append}
-use Rattle.fx_frame.specs.Coding.{width_of}
-use Rattle.fx_frame.specs.FrameCoding.{bytes_of}
+use Rattle.fx_io.specs.Coding.{width_of}
+use Rattle.fx_heads.specs.FrameCoding.{bytes_of}
 use Rattle.fx_sound.proofs.Sending.{held-put}
 use Rattle.fx_sound.proofs.output.Output.put_coded.Goals as goal
 

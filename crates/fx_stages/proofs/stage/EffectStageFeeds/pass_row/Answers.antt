@@ -2,17 +2,18 @@
 use Rattle.std.proofs.Common.{◌≡◌, ◌*◌, ◌∙◌, ℕ, [], FitsSigned, length, slice_index_or, refl, sym, ap, arith}
 use Rattle.std.specs.Int.{w32}
 use Rattle.std.proofs.lemmas.List.Elements.{All-nil}
-use Rattle.fx_frame.specs.Ring.{pieces}
-use Rattle.fx_frame.specs.Stage.{kind}
-use Rattle.fx_frame.proofs.RowLaws.{EachThrough-along, RowThrough-none}
+use Rattle.fx_lists.specs.Lists.{pieces}
+use Rattle.fx_step.specs.Stage.{kind}
+use Rattle.fx_step.proofs.RowLaws.{EachThrough-along, RowThrough-none}
 use Rattle.fx_map.specs.DcShift.{shifted_sample}
 use Rattle.fx_map.specs.PerSampleState.{sample_acts}
 use Rattle.fx_map.specs.Vol.{scaled_sample}
 use Rattle.fx_stages.specs.Effects.{ForVol, ForDcShift}
 use Rattle.fx_stages.specs.Stages.{effect_acts}
 use Rattle.fx_stages.specs.declared.stage.EffectStage.TheVariants as stages
-use Rattle.fx_stages.proofs.RowParts.{few-more, first-channels, first-ready, hand-none, last-ready, outputs-behind, outputs-last, row-behind, row-beside, row-last, same-pieces, same-size}
+use Rattle.fx_stages.proofs.RowParts.{few-more, first-channels, first-ready, last-ready, outputs-behind, outputs-last, row-behind, row-beside, row-last, same-pieces, same-size}
 use Rattle.fx_stages.proofs.stage.EffectStageFeeds.pass_row.Goals as goal
+use Rattle.fx_map.proofs.Blocks.{none-is}
 
 pub split_at_mut-front-requires : goal.split_at_mut-front-requires
 split_at_mut-front-requires c = omega (arith, c.if-stages-eq2.true)
@@ -55,7 +56,7 @@ pass_behind-requires c =
     let width : c.args.channels ≡ f.mapping.channels = rw is at first.inputs in
     let last : c.args.outputs ≡ (kind effect_acts (slice_index_or back 0 e)).outputs = c.requires.outputs ∙ outputs-behind effect_acts old front back d split.value split.front_len c.args.channels ∙ outputs-last effect_acts _ back e two in
     record {
-      first_dry = hand-none f.hand (rw is at first.dry);
+      first_dry = none-is f.hand (rw is at first.dry);
       first_open = rw is at first.not_ended;
       first_few = few-more _ _ _ _ _ (rw is at first.follows) ready.2 (rw is at first.fits);
       second_dry = second.dry;
@@ -83,7 +84,7 @@ pass_behind-requires-in-DcShift c =
     let width : c.args.channels ≡ f.mapping.channels = rw is at first.inputs in
     let last : c.args.outputs ≡ (kind effect_acts (slice_index_or back 0 e)).outputs = c.requires.outputs ∙ outputs-behind effect_acts old front back d split.value split.front_len c.args.channels ∙ outputs-last effect_acts _ back e two in
     record {
-      first_dry = hand-none f.hand (rw is at first.dry);
+      first_dry = none-is f.hand (rw is at first.dry);
       first_open = rw is at first.not_ended;
       first_few = few-more _ _ _ _ _ (rw is at first.follows) ready.2 (rw is at first.fits);
       second_dry = second.dry;
@@ -119,10 +120,10 @@ pass_remixed-requires c =
     let last : c.args.outputs ≡ (kind effect_acts (slice_index_or back 0 k)).outputs =
     c.requires.outputs ∙ outputs-behind effect_acts old front rest d split.value split.front_len c.args.channels ∙ outputs-behind effect_acts rest middle back e split-2.value split-2.front_len _ ∙ outputs-last effect_acts _ back k three in
     record {
-      first_dry = hand-none f.hand (rw is at first.dry);
+      first_dry = none-is f.hand (rw is at first.dry);
       first_open = rw is at first.not_ended;
       first_few = few-more _ _ _ _ _ (rw is at first.follows) ready.2 (rw is at first.fits);
-      middle_dry = hand-none m.hand (rw is-2 at second.dry);
+      middle_dry = none-is m.hand (rw is-2 at second.dry);
       middle_open = rw is-2 at second.not_ended;
       middle_follows = rw (is-2, is) at second.follows;
       middle_channels = sym (rw (is, is-2) at second.inputs);
@@ -159,10 +160,10 @@ pass_remixed-requires-in-DcShift-front c =
     let last : c.args.outputs ≡ (kind effect_acts (slice_index_or back 0 k)).outputs =
     c.requires.outputs ∙ outputs-behind effect_acts old front rest d split.value split.front_len c.args.channels ∙ outputs-behind effect_acts rest middle back e split-2.value split-2.front_len _ ∙ outputs-last effect_acts _ back k three in
     record {
-      first_dry = hand-none f.hand (rw is at first.dry);
+      first_dry = none-is f.hand (rw is at first.dry);
       first_open = rw is at first.not_ended;
       first_few = few-more _ _ _ _ _ (rw is at first.follows) ready.2 (rw is at first.fits);
-      middle_dry = hand-none m.hand (rw is-2 at second.dry);
+      middle_dry = none-is m.hand (rw is-2 at second.dry);
       middle_open = rw is-2 at second.not_ended;
       middle_follows = rw (is-2, is) at second.follows;
       middle_channels = sym (rw (is, is-2) at second.inputs);

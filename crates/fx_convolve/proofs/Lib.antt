@@ -1,0 +1,15 @@
+pub mod Convolving
+pub mod Cyclic
+pub mod CyclicSums
+pub mod Doubling
+pub mod Factors
+pub mod Halves
+pub mod Magnitudes
+pub mod Numbers
+pub mod Prepared
+pub mod ProductBounds
+pub mod ProductLanes
+pub mod Residues
+pub mod SmallSums
+pub mod Steps
+pub mod Writes

@@ -1,0 +1,5 @@
+pub mod Lanes
+pub mod Prepared
+pub mod Products
+pub mod Residues
+pub mod Transform

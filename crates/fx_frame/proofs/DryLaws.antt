@@ -1,0 +1,21 @@
+-- Whether a stage with a frame in hand, and frames to come after it, has something to give.
+use Rattle.std.proofs.Common.{ℕ, zero, suc, ◌<◌, ◌≡◌, Bool, true, false, refl, arith}
+use Rattle.std.specs.Prelude.{Option, Some, None, is_none, nat_eq, ◌&&◌}
+use Prim.Native.Nat.compare
+use Rattle.fx_step.specs.Frame.{Samples}
+
+-- a dry stage has no frame in hand
+pub dry-hand : (hand : Option Samples) (tail : ℕ) → (is_none hand && nat_eq tail 0) ≡ true → hand ≡ None
+dry-hand None tail h = refl
+dry-hand (Some x) tail h = absurd (cc)
+
+-- one with frames to come is not dry
+pub dry-tail : (hand : Option Samples) (tail : ℕ) → 0 < tail → (is_none hand && nat_eq tail 0) ≡ false
+dry-tail None zero h = absurd (omega arith)
+dry-tail None (suc n) h = rw (compare.suc-zero) refl
+dry-tail (Some x) n h = refl
+
+-- what is not false is true
+pub true_of : (b : Bool) → (b ≡ false → ⊥) → b ≡ true
+true_of true h = refl
+true_of false h = absurd (h refl)

@@ -1,5 +1,0 @@
-use Rattle.fx_frame.proofs.Evenly.{Evenly}
-use Rattle.fx_frame.proofs.feed.Feeds.pass_frames.Given as goal
-
-abbrev pub invariant-frames : goal.invariant-frames
-invariant-frames g l = Evenly g.Self.Stage.acts l.fn.self l.count l.fn.samples l.self l.samples l.turn

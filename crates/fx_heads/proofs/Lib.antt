@@ -1,0 +1,10 @@
+pub mod AuLemmas
+pub mod Chunks
+pub mod ChunksFound
+pub mod Faults
+pub mod HeadLemmas
+pub mod Held
+pub mod WaveCut
+pub mod WaveLemmas
+pub mod WaveLocal
+pub mod WaveRiff

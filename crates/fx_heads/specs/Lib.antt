@@ -1,0 +1,12 @@
+pub mod Au
+pub mod Chunks
+pub mod Fields
+pub mod FrameCoding
+pub mod Head
+pub mod HeadFields
+pub mod Kind
+pub mod Known
+pub mod Reads
+pub mod Source
+pub mod Wave
+pub mod Writing

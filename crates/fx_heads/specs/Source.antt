@@ -1,0 +1,36 @@
+-- What a source holds, and the bytes that are still to come from it.
+use Rattle.std.specs.Prelude.{◌≡◌, ℕ, ◌+◌, ◌-◌, ◌^◌, ◌<◌, ◌≤◌, List, length, Option, Some}
+use Rattle.std.specs.Io.KnownBytes.{prepend_known}
+use Rattle.fx_heads.specs.Known.{IfKnown}
+
+-- bytes that the reader told and nobody took yet, and the reader
+pub record Held (R : Type 0) : Type 0 where
+  pub bytes : List ℕ
+  pub reader : R
+
+-- the bytes that are still to come, where they are known
+abbrev pub to_come : {R : Type 0} → (R → Option (List ℕ)) → Held R → Option (List ℕ)
+to_come rest s = prepend_known s.bytes (rest s.reader)
+
+-- no byte was taken off what is to come
+abbrev pub Stays : {R : Type 0} → (R → Option (List ℕ)) → Held R → Held R → Type 0
+Stays rest old new = IfKnown (to_come rest old) (λ bytes. to_come rest new ≡ Some bytes)
+
+-- all that is to come is held
+abbrev pub HoldsAll : {R : Type 0} → (R → Option (List ℕ)) → Held R → Held R → Type 0
+HoldsAll rest old new = IfKnown (to_come rest old) (λ bytes. bytes ≡ new.bytes)
+
+-- n bytes were there or came, by the reader's count of what it told: a claim for counts below the greatest u64
+pub record Tells {R : Type 0} (told : R → ℕ) (old : Held R) (new : R) (n : ℕ) : Type 0 where
+  pub enough : length old.bytes ≤ n
+  pub counted : told new < 2 ^ 64 - 1 → told new + length old.bytes ≡ told old.reader + n
+
+-- n bytes were taken, by the same count
+abbrev pub Takes : {R : Type 0} → (R → ℕ) → Held R → Held R → ℕ → Type 0
+Takes told old new n = Tells told old new.reader (n + length new.bytes)
+
+-- all bytes that were there or came are fewer than n
+pub record FallsShort {R : Type 0} (told : R → ℕ) (old : Held R) (new : R) (n : ℕ) : Type 0 where
+  pub came : ℕ
+  pub few : came < n
+  pub tells : Tells told old new came

@@ -1,0 +1,64 @@
+//! What the head of a sound says.
+
+ghost use Rattle.std.specs.Prelude.{◌<◌, ◌≤◌, IsTrue};
+ghost use Rattle.fx_heads.specs.Kind.{is_coding_of};
+
+use fx_io::Coding;
+use thiserror::Error;
+
+/// The farthest place at which a sound may begin.
+pub const FARTHEST: u32 = 1 << 24;
+
+/// A container of sound.
+#[derive(Clone, Copy, Debug, PartialEq, Eq)]
+pub enum Kind {
+    /// RIFF WAVE.
+    Wav,
+    /// Sun AU.
+    Au,
+}
+
+/// What the head of a sound says: a rate of at least 1, 1 to 16 channels and a coding of its kind.
+#[derive(Clone, Copy, Debug, PartialEq, Eq)]
+pub struct Head {
+    /// The container.
+    pub kind: Kind,
+    /// Frames in a second.
+    pub rate: u32,
+    /// Samples in a frame.
+    pub channels: usize,
+    /// How a sample stands in bytes.
+    pub coding: Coding,
+    /// The announced bytes of sound; None where the size is unknown.
+    pub announced: Option<u64>,
+    pub ghost rated: { 0 < rate },
+    pub ghost some: { 0 < channels },
+    pub ghost most: { channels ≤ 16 },
+    pub ghost coded: { IsTrue (is_coding_of kind coding) },
+}
+
+/// What is wrong with the head of a sound. The first fault is answered.
+#[derive(Clone, Copy, Debug, PartialEq, Eq, Error)]
+pub enum HeadFault {
+    /// A read failed.
+    #[error("the reader failed")]
+    ReadFailed = 1,
+    /// It is neither WAVE nor AU, or not the kind that was expected.
+    #[error("the type is unknown")]
+    UnknownType = 2,
+    /// It ends before the sound begins.
+    #[error("the head is cut off")]
+    Truncated = 3,
+    /// A field of it can't be right.
+    #[error("the head is not well formed")]
+    BadHeader = 4,
+    /// It is another coding than whole numbers of 8, 16, 24 or 32 bits.
+    #[error("the coding is not in the profile")]
+    NotInProfile = 5,
+    /// It has more than 16 channels.
+    #[error("there are too many channels")]
+    TooManyChannels = 6,
+    /// The sound would begin past place 2^24.
+    #[error("the head is too long")]
+    HeadTooLong = 7,
+}

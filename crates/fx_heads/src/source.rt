@@ -1,0 +1,187 @@
+//! A reader with a buffer of its own.
+
+ghost use Rattle.std.specs.Prelude.{◌≡◌, ◌+◌, ◌-◌, ◌<◌, ◌≤◌, [], Some, IfOk, OnOk, OnErr, length, take, drop};
+ghost use Rattle.fx_io.specs.Io.{CountsFailure};
+ghost use Rattle.fx_heads.specs.Source.{to_come, Stays, HoldsAll, Takes, FallsShort};
+ghost use Rattle.fx_heads.specs.Known.{IfKnown};
+
+use super::buffer::BUFFER_SIZE;
+use fx_io::{ByteIn, Failed};
+use std::marker::Model;
+
+/// A reader with a buffer of 4,096 bytes.
+#[derive(Drop)]
+pub struct Source<R> {
+    reader: R,
+    buffer: [u8; BUFFER_SIZE],
+    start: usize,
+    end: usize,
+}
+
+impl<R> Model for Source<R> {
+    ghost use Rattle.std.specs.Prelude.{◌≡◌, ◌≤◌, ◌-◌, take, drop, length};
+    ghost use Rattle.fx_heads.specs.Source.{Held};
+    ghost use Rattle.fx_heads.specs.declared.buffer.TheConstants.{BUFFER_SIZE};
+
+    ghost Value = { Held R };
+
+    ghost view = { λ s. record { bytes = take (s.end - s.start) (drop s.start s.buffer); reader = s.reader } };
+
+    ghost invariant = { λ s. (s.start ≤ s.end) × (s.end ≤ BUFFER_SIZE) × (length s.buffer ≡ BUFFER_SIZE) };
+}
+
+impl<R> Source<R> {
+    /// Nothing is read yet. Takes no memory.
+    pub fn new(reader: R) -> Source<R>
+        ensures bytes { result.bytes ≡ [] }
+        ensures reader { result.reader ≡ reader }
+    {
+        Source {
+            reader,
+            buffer: [0; BUFFER_SIZE],
+            start: 0,
+            end: 0,
+        }
+    }
+
+    /// The reader, as the source left it.
+    pub fn into_inner(self) -> R
+        ensures { result ≡ self.reader }
+    {
+        let Source {
+            reader,
+            buffer: _,
+            start: _,
+            end: _,
+        } = self;
+        reader
+    }
+
+    /// How many bytes are held.
+    #[inline(always)]
+    pub fn held(&self) -> usize
+        ensures count { result ≡ length self.now.bytes }
+        ensures most { result ≤ BUFFER_SIZE }
+    {
+        self.end - self.start
+    }
+
+    /// The first bytes that are held.
+    #[inline(always)]
+    pub fn peek(&self, n: usize) -> &[u8]
+        requires { n ≤ length self.now.bytes }
+        ensures { result.now ≡ take n self.now.bytes }
+    {
+        let start = self.start;
+        let end = start + n;
+        &self.buffer[start..end]
+    }
+
+    /// Lets go of the first bytes that are held.
+    #[inline(always)]
+    pub fn let_go(&mut self, n: usize)
+        requires { n ≤ length self.old.bytes }
+        ensures bytes { self.new.bytes ≡ drop n self.old.bytes }
+        ensures reader { self.new.reader ≡ self.old.reader }
+    {
+        self.start += n;
+    }
+}
+
+impl<R: ByteIn> Source<R> {
+    // Moves what is held to the front of the buffer, and asks the reader once.
+    fn refill(&mut self) -> Result<usize, Failed>
+        requires { length self.old.bytes < BUFFER_SIZE }
+        ensures grows { IfOk result (λ n. length self.new.bytes ≡ length self.old.bytes + n) }
+        ensures stays { OnOk result (Stays R.reads.rest self.old self.new) }
+        ensures end { IfOk result (λ n. n ≡ 0 → HoldsAll R.reads.rest self.old self.new) }
+        ensures err { OnErr result (self.new.bytes ≡ self.old.bytes) }
+        ensures told { Takes R.reads.told self.old self.new 0 }
+        ensures failures { CountsFailure (R.reads.failures self.old.reader) (R.reads.failures self.new.reader) result }
+    {
+        let held = self.end - self.start;
+        self.buffer.copy_within(self.start..self.end, 0);
+        self.start = 0;
+        self.end = held;
+        let n = self.reader.read(&mut self.buffer[held..])?;
+        self.end = held + n;
+        Ok(n)
+    }
+
+    /// Sees that so many bytes are held, unless the input ends before. Mostly they are there.
+    #[inline(always)]
+    pub fn hold(&mut self, want: usize) -> Result<(), Failed>
+        requires { want ≤ BUFFER_SIZE }
+        ensures stays { OnOk result (Stays R.reads.rest self.old self.new) }
+        ensures all { OnOk result (length self.new.bytes < want → HoldsAll R.reads.rest self.old self.new) }
+        ensures told { Takes R.reads.told self.old self.new 0 }
+        ensures short { OnErr result (length self.new.bytes < want) }
+        ensures failures { CountsFailure (R.reads.failures self.old.reader) (R.reads.failures self.new.reader) result }
+        ensures unread { want ≤ length self.old.bytes → self.new ≡ self.old }
+    {
+        if self.held() >= want {
+            return Ok(());
+        }
+        self.gather(want)
+    }
+
+    // The same, asking the reader for pieces.
+    #[inline(never)]
+    fn gather(&mut self, want: usize) -> Result<(), Failed>
+        requires { want ≤ BUFFER_SIZE }
+        ensures stays { OnOk result (Stays R.reads.rest self.old self.new) }
+        ensures all { OnOk result (length self.new.bytes < want → HoldsAll R.reads.rest self.old self.new) }
+        ensures told { Takes R.reads.told self.old self.new 0 }
+        ensures short { OnErr result (length self.new.bytes < want) }
+        ensures failures { CountsFailure (R.reads.failures self.old.reader) (R.reads.failures self.new.reader) result }
+        ensures unread { want ≤ length self.old.bytes → self.new ≡ self.old }
+    {
+        while self.held() < want {
+            if self.refill()? == 0 {
+                return Ok(());
+            }
+        }
+        Ok(())
+    }
+
+    /// Fills `out` with the next bytes, of which fewer come only where the input ends.
+    pub fn fill(&mut self, out: &mut [u8]) -> Result<usize, Failed>
+        requires { length out.old ≤ BUFFER_SIZE }
+        ensures count { IfOk result (λ n. n ≤ length out.new) }
+        ensures known { IfOk result (λ n. IfKnown (to_come R.reads.rest self.old) (λ bytes.
+            (take n out.new ≡ take n bytes) × (n ≤ length bytes) × (to_come R.reads.rest self.new ≡ Some (drop n bytes)))) }
+        ensures all { IfOk result (λ n. n < length out.new → IfKnown (to_come R.reads.rest self.old) (λ bytes. n ≡ length bytes)) }
+        ensures told { IfOk result (Takes R.reads.told self.old self.new) }
+        ensures short { OnErr result (FallsShort R.reads.told self.old self.new.reader (length out.new)) }
+        ensures failures { CountsFailure (R.reads.failures self.old.reader) (R.reads.failures self.new.reader) result }
+    {
+        self.hold(out.len())?;
+        let n = self.held().min(out.len());
+        out[..n].copy_from_slice(self.peek(n));
+        self.let_go(n);
+        Ok(n)
+    }
+
+    /// Takes `most` bytes off what is to come, or all there are, and says how many.
+    pub fn skip(&mut self, most: usize) -> Result<usize, Failed>
+        ensures count { IfOk result (λ n. n ≤ most) }
+        ensures bytes { IfOk result (λ n. IfKnown (to_come R.reads.rest self.old) (λ bytes.
+            (n ≤ length bytes) × (to_come R.reads.rest self.new ≡ Some (drop n bytes)))) }
+        ensures all { IfOk result (λ n. n < most → IfKnown (to_come R.reads.rest self.old) (λ bytes. n ≡ length bytes)) }
+        ensures told { IfOk result (Takes R.reads.told self.old self.new) }
+        ensures short { OnErr result (FallsShort R.reads.told self.old self.new.reader most) }
+        ensures failures { CountsFailure (R.reads.failures self.old.reader) (R.reads.failures self.new.reader) result }
+    {
+        let mut got = 0;
+        while got < most {
+            self.hold(1)?;
+            let n = self.held().min(most - got);
+            if n == 0 {
+                return Ok(got);
+            }
+            self.let_go(n);
+            got += n;
+        }
+        Ok(got)
+    }
+}

@@ -1,0 +1,6 @@
+pub mod Coding
+pub mod Counted
+pub mod Device
+pub mod Io
+pub mod Sink
+pub mod Tape

@@ -1,0 +1,54 @@
+//! What reads bytes and what takes bytes.
+
+ghost use Rattle.std.specs.Prelude.{◌≡◌, ℕ, ◌<◌, ◌≤◌, ◌||◌, is_ok, IfOk, length, take};
+ghost use Rattle.std.specs.Io.KnownBytes.{Consumes, IsAtEnd, Keeps, WriteAppends};
+ghost use Rattle.fx_io.specs.Io.{ByteReader, ByteWriter, CountsBytes, CountsFailure, flushed_after};
+
+use thiserror::Error;
+
+/// A read, a write or a flush that failed.
+#[derive(Clone, Copy, Debug, PartialEq, Eq, Error)]
+#[error("a reader or writer failed")]
+pub struct Failed;
+
+/// A reader of bytes that counts what it told and how often it failed.
+///
+/// Its counts stay at `u64::MAX` once they have reached it.
+pub trait ByteIn {
+    // What is still to be told, and what was counted.
+    ghost reads: { ByteReader Self };
+
+    /// Tells some of the next bytes, at the front of `buffer`, and how many.
+    ///
+    /// It tells none only at the end, or where `buffer` is empty. A `Failed` tells none, and the
+    /// bytes still to be told are then unknown.
+    fn read(&mut self, buffer: &mut [u8]) -> Result<usize, Failed>
+        ensures bound { IfOk result (λ n. n ≤ length buffer.new) }
+        ensures bytes { IfOk result (λ n. Consumes (reads.rest self.old) (reads.rest self.new) (take n buffer.new)) }
+        ensures end { IfOk result (λ n. n ≡ 0 → 0 < length buffer.new → IsAtEnd (reads.rest self.new)) }
+        ensures told { CountsBytes (reads.told self.old) (reads.told self.new) result }
+        ensures failures { CountsFailure (reads.failures self.old) (reads.failures self.new) result };
+}
+
+/// A writer of bytes that counts how often it failed.
+///
+/// Its count stays at `u64::MAX` once it has reached it.
+pub trait ByteOut {
+    // What was taken, and what was counted.
+    ghost writes: { ByteWriter Self };
+
+    /// Takes some of the first bytes, and tells how many: of a slice that is not empty at least
+    /// one. A `Failed` takes none.
+    fn write(&mut self, bytes: &[u8]) -> Result<usize, Failed>
+        ensures bound { IfOk result (λ n. n ≤ length bytes.now) }
+        ensures some { IfOk result (λ n. 0 < length bytes.now → 0 < n) }
+        ensures bytes { WriteAppends (writes.taken self.old) (writes.taken self.new) result bytes.now }
+        ensures flushed { writes.flushed self.new ≡ flushed_after (writes.flushed self.old) result }
+        ensures failures { CountsFailure (writes.failures self.old) (writes.failures self.new) result };
+
+    /// Hands on the bytes that were taken. It takes none.
+    fn flush(&mut self) -> Result<(), Failed>
+        ensures bytes { Keeps (writes.taken self.old) (writes.taken self.new) }
+        ensures flushed { writes.flushed self.new ≡ (is_ok result || writes.flushed self.old) }
+        ensures failures { CountsFailure (writes.failures self.old) (writes.failures self.new) result };
+}

@@ -1,0 +1,17 @@
+//! Readers and writers that count, devices in memory, and samples as bytes; they know of no frames.
+#![tactic(auto)]
+
+pub mod coding;
+pub mod copies;
+pub mod counted;
+pub mod device;
+pub mod io;
+pub mod sink;
+pub mod tape;
+
+pub use coding::Coding;
+pub use counted::Counted;
+pub use device::Device;
+pub use io::{ByteIn, ByteOut, Failed};
+pub use sink::Sink;
+pub use tape::Tape;

@@ -1,0 +1,4 @@
+pub mod ManyFrames
+pub mod Parts
+pub mod RingLaws
+pub mod Wheels

@@ -1,0 +1,33 @@
+use Rattle.std.proofs.Common.{rules, ◌+◌, ◌*◌, ◌<◌, ◌∙◌, ℕ, length, get_or, refl, arith}
+use Rattle.std.proofs.lemmas.List.{get_or_default}
+use Rattle.fx_lists.proofs.ChannelPlaces.{others-stay, put-more, within-frames}
+use Rattle.fx_ring.proofs.ring.copy_every.Goals as goal
+
+pub offset_bounds-out-k : goal.offset_bounds-out-k
+offset_bounds-out-k g c =
+    let inside : c.loop-k.k * c.args.apart + c.args.at < length c.loop-k.out = omega (arith, within-frames c.args.apart c.args.at c.loop-k.k c.args.count c.requires.at c.loop-k-test.true) in
+    search rules
+
+pub overflow_mul-k : goal.overflow_mul-k
+overflow_mul-k g c =
+    let inside : c.loop-k.k * c.args.apart + c.args.at < length c.loop-k.out = omega (arith, within-frames c.args.apart c.args.at c.loop-k.k c.args.count c.requires.at c.loop-k-test.true) in
+    search rules
+
+pub overflow_add-k : goal.overflow_add-k
+overflow_add-k g c =
+    let inside : c.loop-k.k * c.args.apart + c.args.at < length c.loop-k.out = omega (arith, within-frames c.args.apart c.args.at c.loop-k.k c.args.count c.requires.at c.loop-k-test.true) in
+    search rules
+
+pub bounds-out-k : goal.bounds-out-k
+bounds-out-k g c = omega (arith, within-frames c.args.apart c.args.at c.loop-k.k c.args.count c.requires.at c.loop-k-test.true)
+
+pub loop-k-preserved : goal.loop-k-preserved
+loop-k-preserved g c =
+    let k : ℕ = c.loop-k.k in
+    let at : ℕ = k * c.args.apart + c.args.at in
+    let old = c.loop-k.invariant in
+    let inside : at < length c.loop-k.out = omega (arith, within-frames c.args.apart c.args.at k c.args.count c.requires.at c.loop-k-test.true) in
+    record {
+      put = λ i l d. put-more d (λ i. get_or c.args.source.now (c.args.from + i * c.args.step) d) c.loop-k.out c.args.apart c.args.at k at c.index-source-from.result c.requires.at refl inside (c.index-source-from.is ∙ get_or_default c.args.source.now (c.args.from + k * c.args.step) c.index-source-from.result d (c.requires.source k c.loop-k-test.true)) (λ i l. old.put i l d) i l;
+      others = λ i e in_e other d. others-stay d c.loop-k.out c.args.apart c.args.at k at i e c.index-source-from.result c.requires.at refl in_e other ∙ old.others i e in_e other d;
+    }

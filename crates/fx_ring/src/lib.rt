@@ -1,0 +1,7 @@
+//! One ring of samples for whole frames, each of as many samples as there are channels.
+#![tactic(auto)]
+
+mod ring;
+mod wheel;
+
+pub use ring::Ring;

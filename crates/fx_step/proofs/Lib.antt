@@ -1,0 +1,6 @@
+pub mod Evenly
+pub mod FedLaws
+pub mod FeedParts
+pub mod Feeding
+pub mod Places
+pub mod RowLaws

@@ -1,0 +1,15 @@
+use Rattle.std.proofs.Common.{◌*◌, ◌/◌, ◌≤◌, ◌∙◌, length, take, arith}
+use Rattle.std.proofs.Math.Nat.{div-mul-le_self, mul-le-mul_right}
+use Rattle.std.proofs.lemmas.List.{length-take-le}
+use Rattle.fx_lists.proofs.Puts.{pieces-take}
+use Rattle.fx_lists.proofs.Pieces.{pieces-front}
+use Rattle.fx_step.proofs.feed.copy_frames.Goals as goal
+
+pub returns-clause-frames : goal.returns-clause-frames
+returns-clause-frames c =
+    let count = c.min-count.result in
+    let channels = c.args.channels in
+    let few : count * channels ≤ length c.args.input.now / channels * channels = mul-le-mul_right channels (omega (arith, c.min-count.ensures)) in
+    let room : count * channels ≤ length c.args.input.now = omega (arith, few, div-mul-le_self (length c.args.input.now) channels) in
+    rw c.copy_from_slice.ensures.after
+    (pieces-front channels count (take (count * channels) c.args.input.now) _ (length-take-le _ _ room) ∙ pieces-take channels count c.args.input.now room)

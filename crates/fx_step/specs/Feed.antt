@@ -1,0 +1,53 @@
+-- Frames passed to a stage many at a time, and taken from it likewise (this project's profile).
+use Rattle.std.specs.Prelude.{ℕ, ◌+◌, ◌≤◌, ◌≡◌, true, false, List, [], ◌∷◌, ◌++◌, length, map}
+use Rattle.fx_step.specs.declared.feed.Passing.{Passing}
+use Rattle.fx_step.specs.declared.feed.Passing.TheVariants.{Kept, Through, More}
+use Rattle.fx_step.specs.Frame.{Samples}
+use Rattle.fx_step.specs.Holds.{total}
+use Rattle.fx_step.specs.Stage.{Acts, Gave, Given, Took, hold_of, kind, spent}
+
+module _ {S R : Type 0} (acts : Acts S R) where
+  -- it holds no more frames than it may
+  abbrev pub IsHeld : S → Type 0
+  IsHeld s = length (acts.stored s) ≤ hold_of (kind acts s)
+
+  -- for so many frames more, one more is due for each
+  abbrev pub IsSteady : ℕ → S → Type 0
+  IsSteady count s = (n : ℕ) → n ≤ count → (kind acts s).due ((acts.counts s).taken + n) ≡ (kind acts s).due (acts.counts s).taken + n
+
+  -- a stage that was dry, not ended and not spent, and had given all that was due, took a frame
+  pub record TookNext (s s' : S) (frame : Samples) : Type 0 where
+    pub dry : acts.dry s ≡ true
+    pub due : (acts.counts s).given ≡ (kind acts s).due (acts.counts s).taken
+    pub not_ended : (acts.counts s).ended ≡ false
+    pub not_spent : spent acts s ≡ false
+    pub took : Took acts s s' frame
+    pub held : IsHeld s'
+
+  -- a stage that was not dry gave a frame
+  pub record GaveNext (s s' : S) (frame : Samples) : Type 0 where
+    pub gave : Gave acts s s' frame
+    pub held : IsHeld s'
+
+  -- a stage took a frame, and gave the one that it then gave, if it gave one
+  abbrev pub PassedOn : Passing → S → S → Samples → Samples → Type 0
+  PassedOn Kept s s' frame left = TookNext s s' frame × (acts.dry s' ≡ true)
+  PassedOn Through s s' frame given = (mid : S) × TookNext s mid frame × GaveNext mid s' given × (acts.dry s' ≡ true)
+  PassedOn More s s' frame given = (mid : S) × TookNext s mid frame × GaveNext mid s' given × (acts.dry s' ≡ false)
+
+  -- one call of `take` or `give` after another: the stage took these frames, gave those, and is now the last
+  pub data Fed (first : S) : List Samples → List Samples → S → Type 0 where
+    nothing : Fed first [] [] first
+    taken : (xs gs : List Samples) (x : Samples) (s s' : S) → Fed first xs gs s → TookNext s s' x → Fed first (xs ++ x ∷ []) gs s'
+    given : (xs gs : List Samples) (g : Samples) (s s' : S) → Fed first xs gs s → GaveNext s s' g → Fed first xs (gs ++ g ∷ []) s'
+
+  -- what follows from it: what was to be given is what was given and what is still to be given, clips included
+  pub record GaveAll (first : S) (xs gs : List Samples) (s : S) : Type 0 where
+    pub whole : List Given
+    pub frames : map (λ (g : Given). g.samples) whole ≡ gs
+    pub rest : (z : List Samples) → acts.rest first (xs ++ z) ≡ whole ++ acts.rest s z
+    pub taken : (acts.counts s).taken ≡ (acts.counts first).taken + length xs
+    pub given : (acts.counts s).given ≡ (acts.counts first).given + length gs
+    pub clips : (acts.counts s).clips ≡ (acts.counts first).clips + total (λ (g : Given). g.clips) whole
+    pub ended : (acts.counts s).ended ≡ (acts.counts first).ended
+    pub recipe_stays : acts.recipe s ≡ acts.recipe first

@@ -1,7 +1,0 @@
-use Rattle.std.proofs.Common.{◌≡◌}
-use Rattle.tests_chain.proofs.freeze_tests.go_on.Given as goal
-
-abbrev pub invariant-calls : goal.invariant-calls
-invariant-calls l = record {
-  plan : l.chain.plan ≡ l.fn.chain.plan;
-}
