@@ -8,6 +8,7 @@ use Rattle.std.proofs.lemmas.Option.{same_Some, slice_get-get_or}
 use Rattle.fx_ring.specs.Line.{Frames, pushed, pushed_out, IsLineOf, from_newest}
 use Rattle.std.proofs.lemmas.List.{get_or_past}
 use Rattle.fx_ring.specs.Ring.{IsShaped}
+use Rattle.fx_step.specs.Frame.{IsFrameOf}
 
 -- what `map` gives, where the function always gives f
 pub mapped : {A B : Type 0} (f : A → B) (o : Option A) (m : Option B) → MatchOption o (m ≡ None) (λ x. IsSomeAnd m (λ y. y ≡ f x)) → m ≡ option_map f o
@@ -77,6 +78,17 @@ module _ {X : Type 0} where
       first : (xs : List (List X)) (f : List X) → 0 < length xs → slice_get xs 0 ≡ slice_get (xs ++ f ∷ []) 0
       first [] f h = absurd (omega arith)
       first (x ∷ xs) f h = refl
+
+  -- the oldest frame of a line is a frame
+  pub oldest-frame : (Fits : X → Type 0) (l : Frames X) (x : List X) → IsShaped l → All (All Fits) l.items → slice_get l.items 0 ≡ Some x → IsFrameOf Fits x
+  oldest-frame Fits l x s fits is = go l.items s.each fits is
+    where
+      go : (items : List (List X)) → All (λ (g : List X). length g ≡ l.channels) items → All (All Fits) items → slice_get items 0 ≡ Some x → IsFrameOf Fits x
+      go [] each fit is = absurd (cc (is))
+      go (y ∷ ys) each fit is =
+          let same : y ≡ x = same_Some y x is in
+          let long : length y ≡ l.channels = All-head (λ (g : List X). length g ≡ l.channels) y ys each in
+          rw (← same) record { some = rw long s.some; few = rw long s.few; fits = All-head (All Fits) y ys fit }
 
   -- a line is shaped, and each sample fits
   pub is-line : (Fits : X → Type 0) (l : Frames X) → IsShaped l → All (All Fits) l.items → IsLineOf Fits l

@@ -1,6 +1,6 @@
 -- The frames of a ring, in the places of its samples.
 use Rattle.std.proofs.Common.{◌≡◌, ◌+◌, ◌*◌, ◌-◌, ◌<◌, ◌≤◌, ◌^◌, inl, inr, ℕ, zero, suc, List, [], ◌∷◌, ◌++◌, length, take, drop, slice_get, get_or, Option, Some, None, refl, sym, ap, ◌∙◌, arith, length-append, length-drop, append_assoc, Bool, true, false, cond, nat_lt, min}
-use Rattle.std.proofs.lemmas.List.{drop-append-le, drop-drop, get_or-take, get_or-map, get_or_default, same_lists, length-map}
+use Rattle.std.proofs.lemmas.List.{drop-append-le, drop-drop, get_or-take, get_or-map, get_or_default, same_lists, length-map, take-append-le}
 use Rattle.std.proofs.Math.Nat.{suc-mul, zero-mul, mul_comm, mul-le-mul_right}
 use Rattle.std.proofs.lemmas.Bool.{cases_lt}
 use Rattle.std.specs.Option.{option_map, option_zip}
@@ -134,6 +134,14 @@ module _ {X : Type 0} where
 
     room-at : nat_lt (length samples.items) samples.capacity ≡ nat_lt len capacity
     room-at = rw (r.filled, r.room) (lt-scaled channels len capacity r.some)
+
+    pub ring-out_full : (f out : List X) → length f ≡ l.channels → length samples.items ≡ samples.capacity → length f ≤ length samples.items → out ≡ take (length f) samples.items → pushed_out l f ≡ Some out
+    ring-out_full f out e-f full some is =
+        let n-f : length f ≡ channels = e-f ∙ sym (ap (λ v. v.channels) is-l) in
+        let level : nat_lt (length samples.items) samples.capacity ≡ false = grind arith in
+        let no : nat_lt len capacity ≡ false = sym room-at ∙ level in
+        let front : take channels (samples.items ++ f) ≡ out = take-append-le channels samples.items f (omega arith) ∙ ap (λ m. take m samples.items) (sym n-f) ∙ sym is in
+        ring-pushed_out f e-f ∙ rw no (ap Some front)
 
     pub ring-out_one : (a : X) → l.channels ≡ 1 → (o : Option X) → o ≡ cond (nat_lt (length samples.items) samples.capacity) None (slice_get (samples.items ++ a ∷ []) 0) → option_map (λ x. x ∷ []) o ≡ pushed_out l (a ∷ [])
     ring-out_one a one o e-o =

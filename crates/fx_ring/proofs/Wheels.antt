@@ -70,20 +70,26 @@ module _ {X : Type 0} where
         rw none refl
   ]
 
-  -- the oldest place is written over, and the next is then the oldest
+  -- the oldest places are written over, and the one behind them is then the oldest
+  pub turned-exchanged : (start n next : ℕ) (xs ys : List X) → length ys ≡ n → start + n ≤ length xs → (start + n < length xs → next ≡ start + n) → (start + n ≡ length xs → next ≡ 0) → turned next next (put_mid start n xs ys) ≡ keep_last (length xs) (turned start start xs ++ ys)
+  turned-exchanged start n next xs ys e room up round =
+      let zs : List X = put_mid start n xs ys in
+      let written : turned (start + n) (start + n) zs ≡ keep_last (length xs) (turned start start xs ++ ys) = turned-written start start (start + n) n xs ys (omega arith) (omega arith) e room (omega arith) in
+      elim (cases_lt (start + n) (length xs)) [
+        | inl h ↦ rw (up h) written
+        | inr h ↦
+            let last : start + n ≡ length xs = omega arith in
+            let long : length zs ≡ start + n = omega (arith, e, length-append (take start xs) (ys ++ drop n (drop start xs)), length-append ys (drop n (drop start xs)), length-take-le start xs (omega arith), length-drop n (drop start xs), length-drop start xs) in
+            let whole : zs ++ [] ≡ turned (start + n) (start + n) zs = append-nil zs ∙ sym (ap (λ ws. ws ++ take (start + n) zs) (drop_all (start + n) zs (omega arith)) ∙ take_all (start + n) zs (omega arith)) in
+            rw (round last) (whole ∙ written)
+      ]
+
+  -- one place is written over
   pub turned-replaced : (start next : ℕ) (xs : List X) (x : X) → start < length xs → (start + 1 < length xs → next ≡ start + 1) → (start + 1 ≡ length xs → next ≡ 0) → turned next next (set xs start x) ≡ keep_last (length xs) (turned start start xs ++ x ∷ [])
   turned-replaced start next xs x within up round =
       let one-more : suc start ≡ start + 1 = omega arith in
       let shape : set xs start x ≡ put_mid start 1 xs (x ∷ []) = set_split xs start x within ∙ ap (λ zs. take start xs ++ x ∷ zs) (ap (λ m. drop m xs) one-more ∙ sym (drop-drop 1 start xs)) in
-      let written : turned (start + 1) (start + 1) (put_mid start 1 xs (x ∷ [])) ≡ keep_last (length xs) (turned start start xs ++ x ∷ []) = turned-written start start (start + 1) 1 xs (x ∷ []) (omega arith) (omega arith) refl (omega arith) (omega arith) in
-      elim (cases_lt (start + 1) (length xs)) [
-        | inl h ↦ rw (up h) (ap (turned (start + 1) (start + 1)) shape ∙ written)
-        | inr h ↦
-            let last : start + 1 ≡ length xs = omega arith in
-            let n : length (set xs start x) ≡ start + 1 = ap length shape ∙ omega (arith, length-append (take start xs) (x ∷ drop 1 (drop start xs)), length-take-le start xs (omega arith), length-drop 1 (drop start xs), length-drop start xs) in
-            let whole : set xs start x ++ [] ≡ turned (start + 1) (start + 1) (set xs start x) = append-nil (set xs start x) ∙ sym (ap (λ zs. zs ++ take (start + 1) (set xs start x)) (drop_all (start + 1) (set xs start x) (omega arith)) ∙ take_all (start + 1) (set xs start x) (omega arith)) in
-            rw (round last) (whole ∙ ap (turned (start + 1) (start + 1)) shape ∙ written)
-      ]
+      ap (turned next next) shape ∙ turned-exchanged start 1 next xs (x ∷ []) refl (omega arith) up round
 
   -- those in front are left, once the others are gone
   pub turned-dropped : (start wrapped keep gone : ℕ) (xs : List X) → start ≤ length xs → wrapped ≤ length xs → gone ≡ (length xs - start + wrapped) - keep → length xs - start ≤ gone → turned (gone - (length xs - start)) 0 (take wrapped xs) ≡ keep_last keep (turned start wrapped xs)
@@ -109,6 +115,10 @@ module _ {X : Type 0} where
     pub turned-next : (b : Buffer X) → buffer (turned start wrapped xs) capacity ≡ b → (next : ℕ) (x : X) → length xs ≡ capacity → wrapped ≡ start → 0 < capacity → (start + 1 < length xs → next ≡ start + 1) → (start + 1 ≡ length xs → next ≡ 0) → buffer (turned next next (set xs start x)) capacity ≡ buffer (keep_last b.capacity (b.items ++ x ∷ [])) b.capacity
     turned-next b is next x full none some up round =
         rw (← is) (ap (λ ys. buffer ys capacity) (turned-replaced start next xs x (full-start full none some) up round ∙ ap (λ n. keep_last n (turned start start xs ++ x ∷ [])) full ∙ ap (λ n. keep_last capacity (turned start n xs ++ x ∷ [])) (sym none)))
+
+    pub turned-over : (b : Buffer X) → buffer (turned start wrapped xs) capacity ≡ b → (n next : ℕ) (ys : List X) → length ys ≡ n → length xs ≡ capacity → wrapped ≡ start → start + n ≤ length xs → (start + n < length xs → next ≡ start + n) → (start + n ≡ length xs → next ≡ 0) → buffer (turned next next (put_mid start n xs ys)) capacity ≡ buffer (keep_last b.capacity (b.items ++ ys)) b.capacity
+    turned-over b is n next ys e full none room up round =
+        rw (← is) (ap (λ zs. buffer zs capacity) (turned-exchanged start n next xs ys e room up round ∙ ap (λ m. keep_last m (turned start start xs ++ ys)) full ∙ ap (λ m. keep_last capacity (turned start m xs ++ ys)) (sym none)))
 
     -- only the latest stay
     pub turned-left : (b : Buffer X) → buffer (turned start wrapped xs) capacity ≡ b → (keep ahead gone : ℕ) (ys : List X) → ys ≡ take wrapped xs → ahead ≡ length xs - start → gone ≡ (ahead + wrapped) - keep → ahead ≤ gone → buffer (turned (gone - ahead) 0 ys) capacity ≡ buffer (keep_last keep b.items) b.capacity

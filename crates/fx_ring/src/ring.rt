@@ -1,5 +1,5 @@
 //! One ring of samples for whole frames, each of as many samples as there are channels.
-ghost use Rattle.std.specs.Prelude.{◌≡◌, ◌<◌, ◌≤◌, ◌^◌, ◌++◌, ◌+◌, ◌-◌, ◌*◌, ◌∷◌, [], ℕ, min, length, take, drop, replicate, slice_get, slice_index_or, IfOk, Some};
+ghost use Rattle.std.specs.Prelude.{◌≡◌, ◌<◌, ◌≤◌, ◌^◌, ◌++◌, ◌+◌, ◌-◌, ◌*◌, ◌∷◌, [], ℕ, min, length, take, drop, replicate, slice_get, slice_index_or, true, false, IfOk, Some};
 ghost use Rattle.std.specs.Option.{option_map};
 ghost use Rattle.fx_ring.specs.Line.{empty, pushed, pushed_all, pushed_out, latest_frames, channel_of};
 ghost use Rattle.fx_ring.specs.Ring.{IsShaped};
@@ -148,6 +148,20 @@ impl<T: Copy> Ring<T> {
     {
         self.len = (self.len + 1).min(self.capacity);
         self.samples.extend_from_slice(frame);
+    }
+
+    /// Writes a frame over the oldest, and that over the frame, where there is no room for one more and it lies in one piece.
+    /// Else it answers false, and nothing changes.
+    #[inline(always)]
+    pub fn exchange(&mut self, frame: &mut [T]) -> bool
+        requires { length frame.old ≡ self.old.channels }
+        ensures kept { result ≡ false → (self.new ≡ self.old) × (frame.new ≡ frame.old) }
+        ensures items { result ≡ true → self.new.items ≡ pushed self.old frame.old }
+        ensures capacity { self.new.capacity ≡ self.old.capacity }
+        ensures channels { self.new.channels ≡ self.old.channels }
+        ensures oldest { result ≡ true → pushed_out self.old frame.old ≡ Some frame.new }
+    {
+        self.samples.exchange(frame)
     }
 
     /// Adds so many frames, which lie one after another. The oldest go where there is no room.

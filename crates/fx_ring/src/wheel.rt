@@ -1,5 +1,5 @@
 //! The latest samples, up to a capacity, in the places of one vector.
-ghost use Rattle.std.specs.Prelude.{◌≡◌, ◌<◌, ◌≤◌, ◌+◌, ◌^◌, ◌++◌, ◌∷◌, [], ℕ, length, nat_lt, option_copied, slice_get, IfOk, MatchOption, None, Some, if◌then◌else◌};
+ghost use Rattle.std.specs.Prelude.{◌≡◌, ◌<◌, ◌≤◌, ◌+◌, ◌^◌, ◌++◌, ◌∷◌, [], ℕ, length, nat_lt, option_copied, slice_get, take, true, false, IfOk, MatchOption, None, Some, if◌then◌else◌};
 ghost use Rattle.std.specs.Vec.{vec_capacity, vec_len};
 ghost use Rattle.fx_ring.specs.Ring.{buffer, keep_last, turned};
 
@@ -89,6 +89,31 @@ impl<T: Copy> Wheel<T> {
         }
         self.add(sample);
         None
+    }
+
+    /// Writes samples over as many of the oldest, and these over the samples, where there is no room for one more and they lie in
+    /// one piece. Else it answers false, and nothing changes.
+    #[inline(always)]
+    pub(crate) fn exchange(&mut self, samples: &mut [T]) -> bool
+        ensures kept { result ≡ false → (self.new ≡ self.old) × (samples.new ≡ samples.old) }
+        ensures full { result ≡ true → length self.old.items ≡ self.old.capacity }
+        ensures room { result ≡ true → length samples.old ≤ length self.old.items }
+        ensures oldest { result ≡ true → samples.new ≡ take (length samples.old) self.old.items }
+        ensures items { result ≡ true → self.new ≡ buffer (keep_last self.old.capacity (self.old.items ++ samples.old)) self.old.capacity }
+    {
+        let start = self.start;
+        if self.wrapped != start
+            || self.samples.len() < self.capacity
+            || self.samples.len() - start < samples.len()
+        {
+            return false;
+        }
+        let end = start + samples.len();
+        swap(&mut self.samples[start..end], samples);
+        let next = if end == self.capacity { 0 } else { end };
+        self.start = next;
+        self.wrapped = next;
+        true
     }
 
     /// Adds a sample where there is room.
@@ -195,4 +220,18 @@ fn overwrite<T: Copy>(places: &mut [T], start: usize, wrapped: usize, other: &[T
     places[wrapped..].copy_from_slice(near);
     places[..far.len()].copy_from_slice(far);
     (far.len(), far.len())
+}
+
+/// Exchanges the samples of two slices of one length.
+#[inline(always)]
+fn swap<T: Copy>(left: &mut [T], right: &mut [T])
+    requires { length left.old ≡ length right.old }
+    ensures left { left.new ≡ right.old }
+    ensures right { right.new ≡ left.old }
+{
+    'places: for place in 0..left.len() {
+        let kept = left[place];
+        left[place] = right[place];
+        right[place] = kept;
+    }
 }

@@ -1,9 +1,10 @@
 -- Sixteen samples read one by one are the samples and then quiet places.
-use Rattle.std.proofs.Common.{◌≡◌, ◌+◌, ℕ, suc, ℤ, pos, List, [], ◌∷◌, ◌++◌, ◌≤◌, ◌-◌, length, take, replicate, refl, arith, FitsSigned, to_z, of_z, to_z-of_z}
+use Rattle.std.proofs.Common.{◌≡◌, ◌+◌, ℕ, suc, ℤ, pos, List, [], ◌∷◌, ◌++◌, ◌≤◌, ◌-◌, drop, length, take, replicate, refl, arith, FitsSigned, to_z, of_z, to_z-of_z}
 use Rattle.std.specs.Int.{Width}
 use Rattle.std.specs.List.{All}
 use Rattle.std.proofs.Math.Seq.{drop-append_seam, take-append_seam}
-use Rattle.std.proofs.lemmas.List.Elements.{All-nil, All-cons}
+use Rattle.std.proofs.lemmas.List.{drop-replicate, length-replicate, drop_at, length-append}
+use Rattle.std.proofs.lemmas.List.Elements.{All-nil, All-cons, All-append, All-replicate}
 use Rattle.fx_step.specs.Places.{IsRead, IsPlaces}
 
 module _ {X : Type 0} (Fits : X → Type 0) (quiet : X) where
@@ -41,6 +42,18 @@ module _ {X : Type 0} (Fits : X → Type 0) (quiet : X) where
   places-read xs read some few full h =
       let e : read ≡ xs ++ replicate (16 - length xs) quiet = all-read xs read (16 - length xs) (omega arith) h in
       (record { some = some; few = few; count = full; rest = rw e (drop-append_seam xs _); fits = all-fit xs 0 read h }, rw e (take-append_seam xs _))
+
+  -- so many samples in front of places that were all quiet
+  pub places-set : Fits quiet → (xs : List X) (n : ℕ) → length xs ≡ n → 1 ≤ n → n ≤ 16 → All Fits xs → IsPlaces Fits quiet n (xs ++ drop n (replicate 16 quiet))
+  places-set quiet-fits xs n e some few fits =
+      let left : drop n (replicate 16 quiet) ≡ replicate (16 - n) quiet = drop-replicate n 16 quiet in
+      rw left (record {
+        some = some;
+        few = few;
+        count = omega (arith, length-append xs (replicate (16 - n) quiet), length-replicate (16 - n) quiet);
+        rest = drop_at xs (replicate (16 - n) quiet) n e;
+        fits = All-append Fits xs (replicate (16 - n) quiet) fits (All-replicate Fits (16 - n) quiet quiet-fits);
+      })
 
 -- what is stored at that width
 pub stored : (w : Width) (xs : List ℤ) (i : ℕ) (a : ℤ) → IsRead (FitsSigned w) (pos 0) xs i a → IsRead (FitsSigned w) (pos 0) xs i (to_z w (of_z w a))

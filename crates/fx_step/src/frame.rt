@@ -89,6 +89,21 @@ impl<T: Sample> FrameOf<T> {
         }
     }
 
+    /// The same, of samples that fit: their width's bounds are known of them, so none is read on its own.
+    pub fn copied(samples: &[T]) -> Self
+        requires len { (1 ≤ length samples.now) × (length samples.now ≤ 16) }
+        requires fits { All T.Fits samples.now }
+        ensures { result ≡ samples.now }
+    {
+        let count = samples.len();
+        let mut places = [T::zero(); MOST_CHANNELS];
+        places[..count].copy_from_slice(samples);
+        FrameOf {
+            samples: places,
+            channels: count as u8,
+        }
+    }
+
     /// The frame of one channel.
     #[inline(always)]
     pub fn one(sample: T) -> Self
