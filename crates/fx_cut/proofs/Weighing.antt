@@ -1,55 +1,26 @@
--- A sample times a weight of at most 1 is not clipped, and is the sample where the weight is 1.
-use Rattle.std.proofs.Common.{◌≡◌, ℕ, ℤ, zero, suc, pos, negsuc, ◌+◌, ◌*◌, ◌/◌, ◌<◌, ◌≤◌, ◌^◌, false, true, refl, ap, ◌∙◌, sym, arith, List, [], ◌∷◌, map, length, take, get_or, set, Bool, min, ◌-◌, ◌*ℤ◌, to_z, of_z}
-use Rattle.std.specs.Prelude.{FitsSigned, not, count_by, unsigned_abs}
+-- A sample times a weight of at most 1, which is not clipped, is the sample where the weight is 1.
+use Rattle.std.proofs.Common.{◌≡◌, ℕ, ℤ, suc, pos, negsuc, ◌+◌, ◌*◌, ◌/◌, ◌<◌, ◌≤◌, ◌^◌, false, true, refl, ap, ◌∙◌, sym, arith, List, [], ◌∷◌, map, length, take, get_or, set, Bool, min, ◌-◌, ◌*ℤ◌, to_z, of_z}
+use Rattle.std.specs.Prelude.{FitsSigned, count_by, unsigned_abs}
 use Rattle.std.specs.Int.{w32, w64}
 use Rattle.std.specs.List.{All}
-use Rattle.std.proofs.Math.Nat.{mul-le-mul, mul-le-mul_left}
+use Rattle.std.proofs.Math.Nat.{mul-le-mul}
 use Rattle.std.proofs.lemmas.Int.{fits_signed_from_abs, ints, to_z-of_z, to_z_pos, unsigned_abs-mul}
-use Rattle.std.proofs.lemmas.Nat.{div_below, le-div, mul-lt}
-use Rattle.std.proofs.lemmas.Bool.{lt-ltb}
+use Rattle.std.proofs.lemmas.Nat.{le-div, mul-lt}
 use Rattle.std.proofs.lemmas.List.{take_more, take_more_set, map-append}
 use mathlib.Core.Path.{ap₂}
 use Rattle.fx_fixed.specs.Rounding.{nearest, nearest_natural, signed, clipping}
 use Rattle.fx_fixed.proofs.Shifting.{nearest_natural-cancel}
 use Rattle.fx_fixed.proofs.Signs.{nearest-neg}
+use Rattle.fx_fixed.proofs.AtMostWhole.{fits-neg, fits-pos, nearest-le, not-clipped, unclipped-neg, unclipped-pos}
 use Rattle.fx_step.specs.Given.{given_of, plain}
 use Rattle.fx_lists.specs.Rounded.{unclipped}
 use Rattle.fx_cut.specs.Fade.{both, weighted}
-
-nearest-le : (n w d : ℕ) → 0 < d → w ≤ d → nearest_natural (n * w) d ≤ n
-nearest-le n w d some h =
-    let p : n * w ≤ n * d = mul-le-mul_left n h in
-    let b : (2 * (n * w) + d) / (2 * d) < suc n = div_below (2 * (n * w) + d) (2 * d) (suc n) (omega arith) (omega arith) in
-    omega arith
 
 nearest-whole : (n d : ℕ) → 0 < d → nearest_natural (n * d) d ≡ n
 nearest-whole n d some =
     let a : nearest_natural (n * d) d ≤ n = nearest-le n d d some (omega arith) in
     let b : n ≤ (2 * (n * d) + d) / (2 * d) = le-div n (2 * (n * d) + d) (2 * d) (omega arith) (omega arith) in
     omega arith
-
-fits-pos : (n : ℕ) → FitsSigned w32 (pos n) → n < 2 ^ 31
-fits-pos n h = omega (arith, ints)
-
-fits-neg : (n : ℕ) → FitsSigned w32 (negsuc n) → n < 2 ^ 31
-fits-neg n h = omega (arith, ints)
-
-unclipped-pos : (k : ℕ) → k < 2 ^ 31 → (clipping (pos k)).1 ≡ false
-unclipped-pos k h = ap not (lt-ltb k (2 ^ 31) h)
-
-unclipped-neg : (k n : ℕ) → k ≤ suc n → n < 2 ^ 31 → (clipping (signed true k)).1 ≡ false
-unclipped-neg zero n h f = refl
-unclipped-neg (suc k) n h f = ap not (lt-ltb k (2 ^ 31) (omega arith))
-
--- no weight over 1 clips
-pub no_clip : (x : ℤ) (w d : ℕ) → 0 < d → w ≤ d → FitsSigned w32 x → (weighted (w, d) x).1 ≡ false
-no_clip (pos n) w d some h f =
-    let l = nearest-le n w d some h in
-    let g = fits-pos n f in
-    unclipped-pos (nearest_natural (n * w) d) (omega arith)
-no_clip (negsuc n) w d some h f =
-    ap (λ z. (clipping z).1) (nearest-neg (suc n * w) d some)
-    ∙ unclipped-neg (nearest_natural (suc n * w) d) n (nearest-le (suc n) w d some h) (fits-neg n f)
 
 -- a sample times a short length fits 64 bits
 small-abs : (x : ℤ) (n : ℕ) → unsigned_abs x ≤ 2 ^ 31 → n ≤ 2 ^ 30 → unsigned_abs (x *ℤ pos n) ≤ 2 ^ 61
@@ -112,7 +83,7 @@ whole-frame (x ∷ xs) (a, d) same some f =
 -- a rounded sample that was not clipped
 pub is-unclipped : (w : ℕ × ℕ) (x y : ℤ) (b : Bool) → (y, b) ≡ weighted w x → 0 < w.1 → w.0 ≤ w.1 → FitsSigned w32 x → weighted w x ≡ unclipped y
 is-unclipped (a, d) x y b e some h f =
-    let n = no_clip x a d some h f in
+    let n = not-clipped x a d some h f in
     let c : b ≡ false = ap (λ r. r.1) e ∙ n in
     sym e ∙ cc (c)
 

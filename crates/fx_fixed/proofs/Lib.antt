@@ -1,3 +1,4 @@
+pub mod AtMostWhole
 pub mod ClockAfter
 pub mod Clocking
 pub mod Counting

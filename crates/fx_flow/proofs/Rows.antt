@@ -13,6 +13,11 @@ use Rattle.fx_flow.specs.Row.{AllHeld, CameTo, WentThrough}
 use Rattle.fx_step.specs.Row.{AreReady}
 use Rattle.fx_flow.proofs.Laws.{none_true}
 
+pub neither : (a b : Bool) → a || b ≡ false → (a ≡ false) × (b ≡ false)
+neither false false e = (refl, refl)
+neither true b e = absurd (cc e)
+neither false true e = absurd (cc e)
+
 module _ {S R : Type 0} (acts : Acts S R) where
   -- together they hold no more than they may
   pub AllHeld-sum : (stages : List S) → AllHeld acts stages → held_sum acts stages ≤ hold_sum (kinds acts stages)
@@ -101,11 +106,6 @@ module _ {S R : Type 0} (acts : Acts S R) where
   PassedOn-gave Kept s s' x y n p = absurd (n refl)
   PassedOn-gave Through s s' x y n p = (p.0, p.1, p.2)
   PassedOn-gave More s s' x y n p = (p.0, p.1, p.2)
-
-  neither : (a b : Bool) → a || b ≡ false → (a ≡ false) × (b ≡ false)
-  neither false false e = (refl, refl)
-  neither true b e = absurd (cc e)
-  neither false true e = absurd (cc e)
 
   -- stages in a row that are dry, of which none was told the end or is spent, may be passed a frame
   pub AreReady-from : (channels taken most : ℕ) (over : Bool) (stages : List S) → over ≡ false → AllDry acts stages → any_spent acts stages ≡ false → Matching channels (kinds acts stages) → Within (kinds acts stages) most → Joined acts taken over stages

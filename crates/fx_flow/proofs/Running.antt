@@ -20,7 +20,7 @@ use Rattle.fx_flow.specs.declared.runs.Widths.{Widths}
 use Rattle.fx_flow.proofs.Feeding.{Turned, Turned-kept, Turned-none, Turned-through}
 use Rattle.fx_lists.proofs.Pieces.{length-pieces}
 use Rattle.fx_flow.proofs.Handing.{AllSettled-dry}
-use Rattle.fx_flow.proofs.Rows.{AreReady-from}
+use Rattle.fx_flow.proofs.Rows.{AreReady-from, neither}
 use Rattle.fx_flow.proofs.RowSteps.{passed-row}
 
 -- what comes out has as many channels as what goes in
@@ -119,11 +119,6 @@ module _ {S R : Type 0} (acts : Acts S R) where
       let both = neither (spent acts s) (any_spent acts stages) unspent in
       let here : is_enough (kind acts s).enough (acts.counts s).taken ≡ false = rw dry.0 at both.0 in
       ((λ n h. let same : (acts.counts s).taken + n ≡ (acts.counts s).taken = omega (arith, h) in rw same here), AllAhead-one stages dry.1 both.1)
-    where
-      neither : (a b : Bool) → a || b ≡ false → (a ≡ false) × (b ≡ false)
-      neither false false e = (refl, refl)
-      neither true b e = absurd (cc e)
-      neither false true e = absurd (cc e)
 
   pub AllAhead-some : (count : ℕ) (stages : List S) → AllDry acts stages → any_spent acts stages ≡ false → AllAhead acts count stages → AllAhead acts (max count 1) stages
   AllAhead-some zero stages dry unspent all = AllAhead-one stages dry unspent

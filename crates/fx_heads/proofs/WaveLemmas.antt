@@ -1,5 +1,5 @@
 -- The head of a WAVE sound, from what was read of it.
-use Rattle.std.proofs.Common.{subst, ◌≡◌, ℕ, ◌+◌, ◌-◌, min, ◌<◌, ◌≤◌, List, length, take, drop, true, false, refl, sym, ap, ◌∙◌, arith, nat_lt}
+use Rattle.std.proofs.Common.{◌≡◌, ℕ, ◌+◌, ◌-◌, min, ◌<◌, ◌≤◌, List, length, take, drop, true, false, refl, sym, ap, ◌∙◌, arith, nat_lt}
 use Rattle.std.specs.Prelude.{Ok, Err, Result, Option, suc}
 use Rattle.std.proofs.lemmas.List.{take_all, length-take, take-take, drop-take}
 use Rattle.std.proofs.lemmas.Grind.{common_steps}
@@ -128,6 +128,3 @@ pub turn-fault : (m t o : ℕ) (seen : Option Format) (rest : List ℕ) (e : Hea
 turn-fault m t o seen rest e l p =
     let left : m - t ≡ suc (m - (t + 1)) = omega arith in
     ap (λ n. chunks_of n o seen rest) left ∙ chunks_of-fault (m - (t + 1)) o seen rest e p
-
-pub turn-told : {R : Type 0} (told : R → ℕ) (old mid new : Held R) (n m k : ℕ) → n + m ≡ k → Takes told old mid n → Takes told mid new m → Takes told old new k
-turn-told told old mid new n m k e p q = let P : ℕ → Type 0 = Takes told old new in subst P e (Takes-both told old mid new n m p q)

@@ -77,7 +77,7 @@ fn fields(words: &[u8]) -> Result<HeadFields, HeadFault>
 }
 
 /// The head of an AU sound behind `.snd`, up to the sound.
-pub fn read_au<R: ByteIn>(source: &mut Source<R>) -> Result<HeadFields, HeadFault>
+pub(crate) fn read_au<R: ByteIn>(source: &mut Source<R>) -> Result<HeadFields, HeadFault>
     ensures fields { IfOk result (λ l. Reads R.reads.rest behind_snd source.old source.new (l.offset - 4) l) }
     ensures told { IfOk result (λ l. Takes R.reads.told source.old source.new (l.offset - 4)) }
     ensures offset { IfOk result (λ l. (4 < l.offset) × (l.offset ≤ FARTHEST)) }

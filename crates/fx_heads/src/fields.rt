@@ -3,19 +3,19 @@
 use fx_io::Coding;
 
 /// The size from which on a WAVE sound goes up to the end of the input.
-pub const WAV_UNKNOWN: u32 = 0x7FFF_F000;
+pub(crate) const WAV_UNKNOWN: u32 = 0x7FFF_F000;
 
 /// The size of an AU sound that goes up to the end of the input.
-pub const AU_UNKNOWN: u32 = 0xFFFF_FFFF;
+pub(crate) const AU_UNKNOWN: u32 = 0xFFFF_FFFF;
 
 /// The tag of whole-number samples in WAVE.
-pub const PLAIN: u16 = 1;
+pub(crate) const PLAIN: u16 = 1;
 
 /// The tag of an extensible format in WAVE.
-pub const EXTENSIBLE: u16 = 0xFFFE;
+pub(crate) const EXTENSIBLE: u16 = 0xFFFE;
 
 /// The identity of whole-number samples in an extensible format.
-pub const PCM_GUID: [u8; 16] = [1, 0, 0, 0, 0, 0, 16, 0, 128, 0, 0, 170, 0, 56, 155, 113];
+pub(crate) const PCM_GUID: [u8; 16] = [1, 0, 0, 0, 0, 0, 16, 0, 128, 0, 0, 170, 0, 56, 155, 113];
 
 /// What a head says of the frames.
 #[derive(Clone, Copy, Debug, PartialEq, Eq)]

@@ -7,7 +7,7 @@ use fx_io::Coding;
 use thiserror::Error;
 
 /// The farthest place at which a sound may begin.
-pub const FARTHEST: u32 = 1 << 24;
+pub(crate) const FARTHEST: u32 = 1 << 24;
 
 /// A container of sound.
 #[derive(Clone, Copy, Debug, PartialEq, Eq)]

@@ -19,7 +19,7 @@ const FARTHEST_CHUNK: u64 = FARTHEST as u64 - 8;
 
 /// What the name and size of a chunk ask for.
 #[derive(Clone, Copy, Debug, PartialEq, Eq)]
-pub enum Demand {
+pub(crate) enum Demand {
     /// Nothing: the sound follows.
     Sound(HeadFields),
     /// The format, in a body of this size.
@@ -30,7 +30,7 @@ pub enum Demand {
 
 /// What stands behind a chunk: the sound, or one more chunk at a place, with the format if it was read.
 #[derive(Clone, Copy, Debug, PartialEq, Eq)]
-pub enum Step {
+pub(crate) enum Step {
     Sound(HeadFields),
     Next(u32, Option<Format>),
 }
@@ -289,7 +289,7 @@ fn read_chunks<R: ByteIn>(source: &mut Source<R>) -> Result<HeadFields, HeadFaul
 }
 
 /// The head of a WAVE sound behind `RIFF`, up to the sound.
-pub fn read_wav<R: ByteIn>(source: &mut Source<R>) -> Result<HeadFields, HeadFault>
+pub(crate) fn read_wav<R: ByteIn>(source: &mut Source<R>) -> Result<HeadFields, HeadFault>
     ensures fields { IfOk result (λ h. Reads R.reads.rest behind_riff source.old source.new (h.offset - 4) h) }
     ensures told { IfOk result (λ h. Takes R.reads.told source.old source.new (h.offset - 4)) }
     ensures offset { IfOk result (λ h. (4 < h.offset) × (h.offset ≤ FARTHEST)) }

@@ -1,14 +1,10 @@
 -- A gain in lowest terms rounds as the gain.
-use Rattle.std.proofs.Common.{ℕ, ℤ, pos, negsuc, ◌≡◌, ◌+◌, ◌*◌, ◌/◌, ◌*ℤ◌, ◌<◌, ◌^◌, ◌≤◌, ◌∙◌, false, true, [], ◌∷◌, ap, arith, refl, sym, zero, suc, to_z, of_z, unsigned_abs, List, get_or, FitsSigned}
-use Rattle.std.specs.Prelude.{IfSome, None, Option, Some, not, sum_by}
+use Rattle.std.proofs.Common.{ℕ, ℤ, pos, ◌≡◌, ◌*◌, ◌*ℤ◌, ◌^◌, ◌≤◌, ◌∙◌, [], ◌∷◌, ap, arith, sym, zero, suc, to_z, of_z, unsigned_abs, List, get_or}
+use Rattle.std.specs.Prelude.{IfSome, None, Option, Some, sum_by}
 use Rattle.std.specs.Int.{w32}
 use Rattle.std.proofs.lemmas.List.Sums.{sum_by-cons}
-use Rattle.std.proofs.lemmas.Int.{fits_signed_from_abs, ints, to_z-of_z}
-use Rattle.std.proofs.Math.Nat.{mul-le-mul_left}
-use Rattle.std.proofs.lemmas.Nat.{div_below}
-use Rattle.std.proofs.lemmas.Bool.{lt-ltb}
-use Rattle.fx_fixed.specs.Rounding.{clipping, nearest_natural, rounding, signed}
-use Rattle.fx_fixed.proofs.Signs.{nearest-neg}
+use Rattle.std.proofs.lemmas.Int.{fits_signed_from_abs, to_z-of_z}
+use Rattle.fx_fixed.specs.Rounding.{rounding}
 use Rattle.fx_fixed.specs.Reduced.{IsReduced}
 use Rattle.fx_fixed.specs.declared.gains.TheConstants.{UNIT}
 use Rattle.fx_fixed.proofs.Reductions.{rounding-reduced}
@@ -42,27 +38,3 @@ pub held-32 : (weights : List ℤ) (i : ℕ) → sum_by unsigned_abs weights ≤
 held-32 weights i small =
     let few = weight-few weights i in
     to_z-of_z w32 (get_or weights i (pos 0)) (fits_signed_from_abs w32 (get_or weights i (pos 0)) (omega (arith, few, small)))
-
--- ---- gains of at most 1
-
-nearest-le : (n w d : ℕ) → 0 < d → w ≤ d → nearest_natural (n * w) d ≤ n
-nearest-le n w d some h =
-    let p : n * w ≤ n * d = mul-le-mul_left n h in
-    let b : (2 * (n * w) + d) / (2 * d) < suc n = div_below (2 * (n * w) + d) (2 * d) (suc n) (omega arith) (omega arith) in
-    omega arith
-
-unclipped-neg : (k n : ℕ) → k ≤ suc n → n < 2 ^ 31 → (clipping (signed true k)).1 ≡ false
-unclipped-neg zero n h f = refl
-unclipped-neg (suc k) n h f = ap not (lt-ltb k (2 ^ 31) (omega arith))
-
--- they clip no sample
-pub not-clipped : (w d : ℕ) (x : ℤ) → 0 < d → w ≤ d → FitsSigned w32 x → (rounding (pos w *ℤ x) d).1 ≡ false
-not-clipped w d (pos n) some h f =
-    let g : n < 2 ^ 31 = omega (arith, ints) in
-    let turned : w * n ≡ n * w = omega arith in
-    let few = nearest-le n w d some h in
-    rw turned (ap not (lt-ltb (nearest_natural (n * w) d) (2 ^ 31) (omega arith)))
-not-clipped w d (negsuc n) some h f =
-    let g : n < 2 ^ 31 = omega (arith, ints) in
-    let turned : w * suc n ≡ suc n * w = omega arith in
-    ap (λ z. (clipping z).1) (nearest-neg (w * suc n) d some) ∙ rw turned (unclipped-neg (nearest_natural (suc n * w) d) n (nearest-le (suc n) w d some h) g)

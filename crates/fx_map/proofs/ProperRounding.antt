@@ -1,14 +1,15 @@
 -- A sample times a proper fraction, rounded by the two parts of a factor of 2^62.
 use Rattle.std.proofs.Common.{◌≡◌, ℕ, ℤ, pos, negsuc, neg_ℤ, suc, ◌+◌, ◌*◌, ◌/◌, ◌%◌, ◌^◌, ◌<◌, ◌≤◌, ◌+ℤ◌, ◌*ℤ◌, ◌≤ℤ◌, ◌<ℤ◌, ◌∙◌, FitsSigned, false, arith, sym, to_z, of_z, unsigned_abs}
 use Rattle.std.specs.Int.{w32, w64}
+use Rattle.std.proofs.Math.IntN.{*ℤ_comm}
 use Rattle.std.proofs.Math.Nat.{div-mul-le_self, lt-div-mul-add, lt_of_mul-lt-mul_right, mod-eq_of_lt, mul-le-mul}
 use Rattle.std.proofs.lemmas.Bool.Decides.{nat_tests}
 use Rattle.std.proofs.lemmas.Int.{fits_signed_from_abs, ints, to_z-of_z, to_z_pos}
 use lib.Signed.{shr_z}
 use Rattle.fx_fixed.specs.Rounding.{clipping, nearest, nearest_natural}
 use Rattle.fx_fixed.proofs.Signs.{nearest-neg}
+use Rattle.fx_fixed.proofs.AtMostWhole.{not-clipped}
 use Rattle.fx_map.specs.Fractions.{IsProper}
-use Rattle.fx_map.proofs.Fractions.{not-clipped}
 use Rattle.fx_convolve.proofs.SmallSums.{plain-product-64}
 use Rattle.fx_convolve.proofs.Magnitudes.{scaled-few}
 
@@ -126,7 +127,8 @@ in-range (negsuc n) e =
     (omega (arith, ints), omega (arith, ints))
 
 pub nearest-range : (n d : ℕ) (x : ℤ) → n < d → FitsSigned w32 x → (neg_ℤ (pos (2 ^ 31)) ≤ℤ nearest (pos n *ℤ x) d) × (nearest (pos n *ℤ x) d <ℤ pos (2 ^ 31))
-nearest-range n d x below fits = in-range (nearest (pos n *ℤ x) d) (not-clipped n d x (omega (arith, below)) (omega (arith, below)) fits)
+nearest-range n d x below fits =
+    in-range (nearest (pos n *ℤ x) d) (rw (*ℤ_comm (pos n) x) (not-clipped x n d (omega (arith, below)) (omega (arith, below)) fits))
 
 -- ---- the call that rounds
 

@@ -2,7 +2,8 @@ use Rattle.std.proofs.Common.{◌≡◌, ◌≤◌, ◌^◌, ◌*ℤ◌, pos, �
 use Rattle.std.specs.Prelude.{FitsSigned, unsigned_abs}
 use Rattle.std.specs.Int.{w128}
 use Rattle.std.proofs.lemmas.Int.{to_z-of_z, fits_signed_mul, ints}
-use Rattle.fx_cut.proofs.Weighing.{is-unclipped, no_clip, small-product}
+use Rattle.fx_cut.proofs.Weighing.{is-unclipped, small-product}
+use Rattle.fx_fixed.proofs.AtMostWhole.{not-clipped}
 use Rattle.fx_cut.proofs.slopes.weighted_sample.Goals as goal
 
 pub returns-in_default : goal.returns-in_default
@@ -33,7 +34,7 @@ round_within-requires-clause-within c =
     let same : c.from-2.result ≡ c.args.sample = c.from-2.ensures ∙ to_z-of_z w32 c.args.sample c.ranges.sample in
     let least = c.requires.weight.0 in
     let product = small-product c.args.sample c.from-2.result c.args.over same c.ranges.sample (omega (arith, prepared.1)) in
-    rw (product.0, prepared.0) (no_clip c.args.sample c.args.over c.args.under c.requires.weight.1 c.requires.weight.0 c.ranges.sample)
+    rw (product.0, prepared.0) (not-clipped c.args.sample c.args.over c.args.under c.requires.weight.1 c.requires.weight.0 c.ranges.sample)
 
 pub returns : goal.returns
 returns c =

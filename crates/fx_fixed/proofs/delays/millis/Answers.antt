@@ -1,4 +1,5 @@
 use Rattle.std.proofs.Common.{◌+◌, ◌*◌, ◌^◌, ◌<◌, ◌∙◌, ap, arith, sym, refl, inr}
+use Rattle.std.proofs.lemmas.Grind.{common_steps}
 use Rattle.fx_fixed.specs.Decimals.{is_negative, parts_of, unsigned}
 use Rattle.fx_fixed.specs.Clock.{within_reach}
 use Rattle.fx_fixed.specs.Delays.{delay_of}
@@ -25,3 +26,10 @@ returns c =
     c.delay_frames.ensures
     ∙ ap (λ n. within_reach (delay_of c.args.rate n)) parts
     ∙ sym (millis_plain c.args.rate c.args.text.now c.split_sign-is_negative.result.1.now c.split_sign-is_negative.result.0 c.in-Some.number sign body c.if-text-gt-NUMBER_BYTES.false (c.in-Some.ensures.form.0 refl) c.in-Some.ensures.value c.if-number-gt-GREATEST_EXPONENT.false c.if-number-gt-GREATEST_EXPONENT-2.false cases)
+
+-- The prover finds these too, but searches long.
+pub returns-then-is_negative : goal.returns-then-is_negative
+returns-then-is_negative c = grind (arith, common_steps)
+
+pub returns-then-billionths-gt0 : goal.returns-then-billionths-gt0
+returns-then-billionths-gt0 c = grind (arith, common_steps)

@@ -1,4 +1,5 @@
-use Rattle.std.proofs.Common.{rules, ◌≡◌, ◌+◌, ◌<◌, ◌∷◌, [], ◌++◌, length, drop, take}
+use Rattle.std.proofs.Common.{rules, ◌≡◌, ◌+◌, ◌<◌, ◌∷◌, [], ◌++◌, length, drop, take, arith}
+use Rattle.std.proofs.lemmas.Grind.{common_steps}
 use Rattle.std.specs.Prelude.{slice_index_or}
 use Rattle.fx_step.specs.Stage.{Freezes}
 use Rattle.fx_flow.proofs.Thawing.{AllMade-more, stored-more, numbers-more, ThawsOn-step, drop-next}
@@ -26,3 +27,28 @@ arguments-preserved g c =
       thaws = ThawsOn-step g.S.Stage.acts g.S.Stage.sound g.S.Thaws.made c.arguments.out.items c.argument-item.result (drop (c.arguments.argument-index + 1) c.args.arguments.now) c.arguments.later.now c.split_at.result.0.now c.split_at.result.1.now c.arguments.rest.now c.in-Some.own.now c.in-Some.after.now c.in_ok-stage.stage
           own-is after-is mine-is others-is (λ s k m f. search rules) c.args.arguments.now c.args.frames.now c.args.numbers.now (rw k at c.arguments.invariant.thaws);
     })
+
+-- The prover finds these too, but searches long.
+pub returns-in_default-clause-thawed : goal.returns-in_default-clause-thawed
+returns-in_default-clause-thawed g c = grind (arith, common_steps)
+
+pub returns-then-held-later-clause-thawed : goal.returns-then-held-later-clause-thawed
+returns-then-held-later-clause-thawed g c = grind (arith, common_steps)
+
+pub returns-in_err-stage-clause-thawed : goal.returns-in_err-stage-clause-thawed
+returns-in_err-stage-clause-thawed g c = grind (arith, common_steps)
+
+pub returns-then-not-is_empty-clause-thawed : goal.returns-then-not-is_empty-clause-thawed
+returns-then-not-is_empty-clause-thawed g c = grind (arith, common_steps)
+
+pub returns-clause-made : goal.returns-clause-made
+returns-clause-made g c = grind (arith, common_steps)
+
+pub returns-clause-stored : goal.returns-clause-stored
+returns-clause-stored g c = grind (arith, common_steps)
+
+pub returns-clause-counted : goal.returns-clause-counted
+returns-clause-counted g c = grind (arith, common_steps)
+
+pub returns-clause-thawed : goal.returns-clause-thawed
+returns-clause-thawed g c = grind (arith, common_steps)

@@ -5,8 +5,8 @@ use Rattle.fx_heads.specs.declared.wave.Step.{Step}
 use Rattle.fx_heads.specs.declared.wave.Step.TheVariants as step
 use Rattle.fx_heads.specs.Wave.{end_of, GoesOn, IsProperSeen, farthest_chunk, most_chunks, chunks_of}
 use Rattle.fx_heads.proofs.Faults.{IfErr-passed}
-use Rattle.fx_heads.proofs.Held.{Tells-both}
-use Rattle.fx_heads.proofs.WaveLemmas.{turn-next, turn-sound, turn-fault, turn-told}
+use Rattle.fx_heads.proofs.Held.{Takes-both, Tells-both}
+use Rattle.fx_heads.proofs.WaveLemmas.{turn-next, turn-sound, turn-fault}
 use Rattle.fx_heads.proofs.WaveCut.{cut-next}
 use Rattle.fx_heads.proofs.wave.read_chunks.Goals as goal
 
@@ -51,7 +51,7 @@ loop-turn-preserved g c =
                 ∙ sym (turn-next most_chunks c.loop-turn._turn c.loop-turn.offset c.in-Next.next c.loop-turn.seen c.in-Next.format _ (omega arith) (new.0 ∙ ap Ok c.in-Next.is))
                 ∙ old.2,
           );
-      told = turn-told g.R.ByteIn.reads.told _ _ _ _ _ _ all c.loop-turn.invariant.told c.in_ok-head.ensures.told;
+      told = Takes-both g.R.ByteIn.reads.told _ _ _ _ _ _ all c.loop-turn.invariant.told c.in_ok-head.ensures.told;
       cut = λ bytes known.
           let old = c.loop-turn.invariant.rest bytes known in
           let new = c.in_ok-head.ensures.step _ old.1 in

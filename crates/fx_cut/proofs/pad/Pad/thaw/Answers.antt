@@ -1,4 +1,5 @@
-use Rattle.std.proofs.Common.{ap, refl, inl, inr}
+use Rattle.std.proofs.Common.{ap, refl, inl, inr, arith}
+use Rattle.std.proofs.lemmas.Grind.{common_steps}
 use Rattle.std.proofs.lemmas.Result.{err_from_is_err_and}
 use Rattle.fx_cut.proofs.PadThaw.{frozen-count, stored-of, IsPad-thawed, same-pad}
 use Rattle.fx_cut.proofs.pad.Pad.thaw.Goals as goal
@@ -25,3 +26,7 @@ returns-clause-thawed c = λ s is recipe frozen.
     let only = (rw c.greatest_pad_end-capacity.ensures at c.in_ok-line.ensures.only) s.line s.hand stored in
     rw (c.of.ensures, c.in-Ok.ensures.items, c.new-own.ensures.items)
     (same-pad s c.args.channels c.args.pads.now c.args.numbers.now _ _ recipe frozen.counted only.0 only.1)
+
+-- The prover finds these too, but searches long.
+pub returns-clause-frozen : goal.returns-clause-frozen
+returns-clause-frozen c = grind (arith, common_steps)

@@ -1,4 +1,5 @@
 use Rattle.std.proofs.Common.{◌≡◌, ◌≤◌, ◌^◌, ◌∙◌, ap, arith, rules, unsigned_abs}
+use Rattle.std.proofs.lemmas.Grind.{common_steps}
 use Rattle.std.proofs.lemmas.Int.{to_z-of_z}
 use Rattle.fx_fixed.specs.Rounding.{rounding}
 use Rattle.fx_map.specs.Fractions.{fraction_sample}
@@ -23,3 +24,7 @@ overflow_mul-from c =
     let small : unsigned_abs c.args.sample ≤ 2 ^ 31 = search rules in
     let few : unsigned_abs f.weight ≤ 2 ^ 31 = omega (arith, c.self.invariant) in
     product-fits f.weight c.args.sample c.from.result c.from-2.result weight sample few small
+
+-- The prover finds these too, but searches long.
+pub round-requires : goal.round-requires
+round-requires c = grind (arith, common_steps)
