@@ -7,12 +7,12 @@ use Rattle.fx_flow.specs.Sound.{IsPlanned}
 use Rattle.fx_step.specs.Holds.{hold_sum, kinds, line_sum, recipes, total}
 use Rattle.fx_step.specs.Stage.{Kind}
 use Rattle.fx_effects.specs.Bounds.{hold_all, is_too_long, work_of}
-use Rattle.fx_effects.specs.Effects.{line_of, Act, Usable}
+use Rattle.fx_effects.specs.Effects.{line_of, Act, Usable, channels_after}
 use Rattle.fx_effects.proofs.Lasting.{work-bound}
 use Rattle.fx_stages.specs.declared.stage.EffectStage.{EffectStage}
 use Rattle.fx_stages.specs.Effects.{kind_of_recipe}
 use Rattle.fx_stages.specs.Stages.{effect_acts}
-use Rattle.fx_stages.specs.Made.{all_suit, channels_after, recipes_for}
+use Rattle.fx_stages.specs.Made.{all_suit, recipes_for}
 use Rattle.fx_stages.proofs.Planned.{hold-for, kinds_for, line-is, matching-for, most-for, within-for, work-for}
 
 -- the kinds of stages that were made for effects

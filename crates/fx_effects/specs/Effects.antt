@@ -51,6 +51,11 @@ layout_after layout (Some (OfUpsample factor)) = record layout { rate = layout.r
 layout_after layout (Some (OfDownsample factor)) = record layout { rate = layout.rate / factor }
 layout_after layout other = layout
 
+-- the channels of the frames that an effect gives: `remix` alone changes them
+abbrev pub channels_after : ℕ → Act → ℕ
+channels_after channels (OfRemix specs) = length specs
+channels_after channels other = channels
+
 -- the frames that the line of an effect holds
 abbrev pub line_of : Act → ℕ
 line_of (OfTrim ps) = greatest (map end_distance ps)

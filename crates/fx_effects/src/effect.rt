@@ -1,6 +1,6 @@
 //! Effects with resolved arguments, and what they do to rate, channels and lengths.
 ghost use Rattle.std.specs.Prelude.{◌≡◌, ◌-◌, ◌^◌, IfOk, Some, min};
-ghost use Rattle.fx_effects.specs.Effects.{Fits, Usable, act, layout_after, line_of, most_of, name_text};
+ghost use Rattle.fx_effects.specs.Effects.{Fits, Usable, act, channels_after, layout_after, line_of, most_of, name_text};
 ghost use Rattle.fx_past.specs.EchoWords.{echo_value};
 ghost use Rattle.fx_map.specs.RemixWords.{specs_in};
 
@@ -71,6 +71,16 @@ impl Effect {
                 ..layout
             },
             _ => layout,
+        }
+    }
+
+    /// The channels of the frames that the effect gives, where it takes frames of so many.
+    pub fn channels_after(&self, channels: usize) -> usize
+        ensures { result ≡ channels_after channels (act self.now) }
+    {
+        match self {
+            Effect::Remix(specs) => specs.len(),
+            _ => channels,
         }
     }
 

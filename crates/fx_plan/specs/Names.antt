@@ -6,6 +6,7 @@ use Rattle.std.specs.List.{list_any}
 use Rattle.fx_plan.specs.declared.name.Name.{Name}
 use Rattle.fx_plan.specs.declared.name.Name.TheVariants as names
 use Rattle.fx_words.specs.declared.fault.Mark.{Mark}
+use Rattle.fx_words.specs.declared.fault.PlanCause.{PlanCause}
 use Rattle.fx_words.specs.declared.fault.PlanCause.TheVariants.{UnknownEffect, NotInProfile, NeedsWholeSound}
 use Rattle.fx_words.specs.Faults.{Word, mark}
 use Rattle.fx_words.specs.Numbers.{beginning}
@@ -78,45 +79,35 @@ is_other name = false
 abbrev pub is_name : Word → Bool
 is_name word = not (is_other (name_of word))
 
--- the faults of the words behind a name; a refused name is the first fault
-abbrev pub named_faults : Name → Layout → List ℕ → List Word → List Mark
-named_faults names.Trim layout file words = trim_faults layout.rate words
-named_faults names.Pad layout file words = pad_faults layout.rate words
-named_faults names.Delay layout file words = delay_faults layout.rate layout.channels words
-named_faults names.Echo layout file words = echo_faults layout.rate words
-named_faults names.Echos layout file words = echo_faults layout.rate words
-named_faults names.Fade layout file words = fade_faults layout.rate words
-named_faults names.Vol layout file words = vol_faults words
-named_faults names.DcShift layout file words = shift_faults words
-named_faults names.Fir layout file words = fir_faults file words
-named_faults names.Remix layout file words = remix_faults layout.channels words
-named_faults names.Upsample layout file words = upsample_faults layout.rate words
-named_faults names.Downsample layout file words = downsample_faults layout.rate words
-named_faults names.WholeSound layout file words = mark NeedsWholeSound 1 ∷ []
-named_faults names.LeftOut layout file words = mark NotInProfile 1 ∷ []
-named_faults names.Other layout file words = mark UnknownEffect 1 ∷ []
+-- what the words behind a name say: their faults, and what the effect does where there is none; a refused name is the first fault
+abbrev pub says : List Mark → Act → List Mark × Option Act
+says faults act = (faults, Some act)
 
--- what the effect of a name does with these words
-abbrev pub named_act : Name → Layout → List ℕ → List Word → Option Act
-named_act names.Trim layout file words = Some (OfTrim (places layout.rate beginning words))
-named_act names.Pad layout file words = Some (OfPad (lengths layout.rate 2 beginning words))
-named_act names.Delay layout file words = Some (OfDelay (delays layout.rate 0 words))
-named_act names.Echo layout file words = Some (OfEcho (echoing layout.rate words))
-named_act names.Echos layout file words = Some (OfEchos (echoing layout.rate words))
-named_act names.Fade layout file words = Some (OfFade (fading layout.rate words))
-named_act names.Vol layout file words = Some (OfVol (vol_gain words))
-named_act names.DcShift layout file words = Some (OfDcShift (shift_gain words))
-named_act names.Fir layout file words = Some (OfFir (coefficients file words))
-named_act names.Remix layout file words = Some (OfRemix (remixed layout.channels words))
-named_act names.Upsample layout file words = Some (OfUpsample (usable (factor_of words)))
-named_act names.Downsample layout file words = Some (OfDownsample (usable (factor_of words)))
-named_act name layout file words = None
+abbrev pub refused : PlanCause → List Mark × Option Act
+refused cause = (mark cause 1 ∷ [], None)
+
+abbrev pub named : Name → Layout → List ℕ → List Word → List Mark × Option Act
+named names.Trim layout file words = says (trim_faults layout.rate words) (OfTrim (places layout.rate beginning words))
+named names.Pad layout file words = says (pad_faults layout.rate words) (OfPad (lengths layout.rate 2 beginning words))
+named names.Delay layout file words = says (delay_faults layout.rate layout.channels words) (OfDelay (delays layout.rate 0 words))
+named names.Echo layout file words = says (echo_faults layout.rate words) (OfEcho (echoing layout.rate words))
+named names.Echos layout file words = says (echo_faults layout.rate words) (OfEchos (echoing layout.rate words))
+named names.Fade layout file words = says (fade_faults layout.rate words) (OfFade (fading layout.rate words))
+named names.Vol layout file words = says (vol_faults words) (OfVol (vol_gain words))
+named names.DcShift layout file words = says (shift_faults words) (OfDcShift (shift_gain words))
+named names.Fir layout file words = says (fir_faults file words) (OfFir (coefficients file words))
+named names.Remix layout file words = says (remix_faults layout.channels words) (OfRemix (remixed layout.channels words))
+named names.Upsample layout file words = says (upsample_faults layout.rate words) (OfUpsample (usable (factor_of words)))
+named names.Downsample layout file words = says (downsample_faults layout.rate words) (OfDownsample (usable (factor_of words)))
+named names.WholeSound layout file words = refused NeedsWholeSound
+named names.LeftOut layout file words = refused NotInProfile
+named names.Other layout file words = refused UnknownEffect
 
 -- the same of an effect's words, its name being the first
 abbrev pub effect_faults : Layout → List ℕ → List Word → List Mark
 effect_faults layout file [] = []
-effect_faults layout file (name ∷ words) = named_faults (name_of name) layout file words
+effect_faults layout file (name ∷ words) = (named (name_of name) layout file words).0
 
 abbrev pub effect_act : Layout → List ℕ → List Word → Option Act
 effect_act layout file [] = None
-effect_act layout file (name ∷ words) = named_act (name_of name) layout file words
+effect_act layout file (name ∷ words) = (named (name_of name) layout file words).1

@@ -5,7 +5,7 @@ ghost use Rattle.std.specs.List.{list_any};
 ghost use Rattle.std.specs.Str.{bytes_eq};
 ghost use Rattle.fx_words.specs.Faults.{Reads, texts};
 ghost use Rattle.fx_effects.specs.Effects.{Fits, IsLayout, Usable, fits_layout, act, layout_after};
-ghost use Rattle.fx_plan.specs.Names.{effect_act, effect_faults, filters, is_one_of, name_of, named_act, named_faults, others, whole_sound};
+ghost use Rattle.fx_plan.specs.Names.{effect_act, effect_faults, filters, is_one_of, name_of, named, others, whole_sound};
 
 use fx_cut::factor::words::{read_downsample, read_upsample};
 use fx_cut::fade::words::read_fade;
@@ -171,7 +171,7 @@ fn read_named(
     words: &[String],
 ) -> Result<Effect, Refusal>
     requires { IsLayout layout }
-    ensures read { Reads (λ effect. Some (act effect)) result (named_faults name layout file.now (texts words.now)) (named_act name layout file.now (texts words.now)) }
+    ensures read { Reads (λ effect. Some (act effect)) result (named name layout file.now (texts words.now)).0 (named name layout file.now (texts words.now)).1 }
     ensures fits { IfOk result (λ effect. Fits layout (act effect)) }
     ensures usable { IfOk result (λ effect. Usable (act effect)) }
     ensures place { IfOk result (λ effect. fits_layout layout (act effect) ≡ true) }

@@ -1,4 +1,3 @@
-pub mod Joined
 pub mod Making
 pub mod Planned
 pub mod RowParts

@@ -15,11 +15,11 @@ use Rattle.fx_step.specs.Stage.{IsNew}
 use Rattle.fx_past.specs.EchoWords.{EchoValue, Tap, are_echoes, is_tap}
 use Rattle.fx_cut.specs.PadWords.{Length, are_pads, are_rising}
 use Rattle.fx_map.specs.RemixWords.{is_mix, specs_in}
-use Rattle.fx_effects.specs.Effects.{Act, line_of}
+use Rattle.fx_effects.specs.Effects.{Act, line_of, channels_after}
 use Rattle.fx_stages.specs.declared.stage.EffectStage.{EffectStage}
-use Rattle.fx_stages.specs.Effects.{EffectRecipe}
+use Rattle.fx_stages.specs.Effects.{EffectRecipe, recipe_for}
 use Rattle.fx_stages.specs.Stages.{effect_acts}
-use Rattle.fx_stages.specs.Made.{channels_after, recipe_for, recipes_for}
+use Rattle.fx_stages.specs.Made.{recipes_for}
 use Rattle.fx_step.specs.Holds.{recipes}
 use Rattle.fx_effects.specs.Bounds.{hold_all, hold_of}
 use Rattle.std.proofs.lemmas.List.Sums.{sum_by-cons}

@@ -9,7 +9,7 @@ use Rattle.fx_step.specs.Stage.{Kind}
 use Rattle.fx_effects.specs.Bounds
 use Rattle.fx_effects.specs.Bounds.{hold_all, is_past, mosts, work_of}
 use Rattle.fx_effects.specs.Effects
-use Rattle.fx_effects.specs.Effects.{line_of, Act, OfDelay, OfRemix, OfUpsample, Usable, all_fit, fits_layout, layout_after}
+use Rattle.fx_effects.specs.Effects.{line_of, Act, OfDelay, OfRemix, OfUpsample, Usable, all_fit, fits_layout, layout_after, channels_after}
 use Rattle.fx_effects.specs.declared.effect.Layout.{Layout}
 use Rattle.fx_effects.proofs.Lasting.{within-here, within-next, work-cons}
 use Rattle.std.proofs.lemmas.Bool.{and_parts}
@@ -17,8 +17,8 @@ use Rattle.std.proofs.lemmas.List.{length-append, length-replicate}
 use Rattle.std.proofs.lemmas.List.Elements.{All-head, All-tail}
 use Rattle.std.proofs.lemmas.List.Sums.{sum_by-cons}
 use Rattle.std.proofs.Math.Nat.{le-div_iff_mul-le}
-use Rattle.fx_stages.specs.Effects.{kind_of_recipe}
-use Rattle.fx_stages.specs.Made.{all_suit, channels_after, recipe_for, recipes_for, suits}
+use Rattle.fx_stages.specs.Effects.{kind_of_recipe, recipe_for}
+use Rattle.fx_stages.specs.Made.{all_suit, recipes_for, suits}
 use Rattle.fx_past.specs.Delay.{every_delay}
 use Rattle.fx_past.proofs.LongestDelay.{greatest-filled}
 

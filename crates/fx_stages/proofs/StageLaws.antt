@@ -1,20 +1,39 @@
--- What holds of the stage of each effect: which samples of the frames that it stores have 32 bits, and the channels that it gives.
-use Rattle.std.proofs.Common.{◌≡◌, List, [], ◌∷◌, ◌++◌, refl}
+-- What holds of the stage of each effect: which samples of the frames that it stores have 32 bits, the channels that it gives,
+-- and that it is a stage of any effect: what it took, gave and was fed, that one was.
+use Rattle.std.proofs.Common.{◌≡◌, List, [], ◌∷◌, ◌++◌, ap, refl}
 use Rattle.std.specs.Prelude.{ℕ, ℤ, Option, Some, None, FitsSigned, option_to_list}
 use Rattle.std.specs.Int.{w32}
 use Rattle.std.specs.List.{All}
 use Rattle.std.proofs.lemmas.List.Elements.{All-append, All-cons, All-head, All-nil, All-tail}
+use Rattle.fx_cut.specs.DownsampleState.{downsample_acts}
+use Rattle.fx_cut.specs.FadeState.{fade_acts}
+use Rattle.fx_cut.specs.PadState.{pad_acts}
+use Rattle.fx_cut.specs.TrimState.{trim_acts}
+use Rattle.fx_cut.specs.UpsampleState.{upsample_acts}
 use Rattle.fx_flow.specs.Frozen.{AllSound}
+use Rattle.fx_step.proofs.FedLaws.{Fed-along, PassedOn-along}
+use Rattle.fx_step.proofs.RowLaws.{EachThrough-along}
+use Rattle.fx_step.specs.declared.feed.Passing.{Passing}
+use Rattle.fx_step.specs.Feed.{Fed, PassedOn}
 use Rattle.fx_step.specs.Frame.{Samples}
 use Rattle.fx_step.specs.Hand.{IsHand}
 use Rattle.fx_ring.specs.Line.{Frames, IsLine, IsSamples}
-use Rattle.fx_step.specs.Stage.{kind}
+use Rattle.fx_step.specs.Row.{EachThrough}
+use Rattle.fx_step.specs.Stage.{Acts, kind}
 use Rattle.fx_stages.specs.declared.stage.EffectStage.{EffectStage}
 use Rattle.fx_stages.specs.declared.stage.EffectStage.TheVariants as stages
-use Rattle.fx_stages.specs.Stages.{effect_acts, sound_of}
+use Rattle.fx_stages.specs.Effects.{EffectRecipe, ForTrim, ForPad, ForFade, ForUpsample, ForDownsample, ForDelay, ForEcho, ForEchos, ForFir, ForRemix, ForVol, ForDcShift, kind_of_recipe}
+use Rattle.fx_stages.specs.Stages.{Look, effect_acts, look, look_of, sound_of}
 use Rattle.fx_stages.specs.Narrow.{AreNarrow, IsNarrow}
+use Rattle.fx_fir.specs.FirState.{fir_acts}
+use Rattle.fx_map.specs.DcShiftState.{dcshift_acts}
 use Rattle.fx_map.specs.Mapped.{MapState}
 use Rattle.fx_map.specs.Remix.{RemixArguments}
+use Rattle.fx_map.specs.RemixState.{remix_acts}
+use Rattle.fx_map.specs.VolState.{vol_acts}
+use Rattle.fx_past.specs.DelayState.{delay_acts}
+use Rattle.fx_past.specs.EchoState.{echo_acts}
+use Rattle.fx_past.specs.EchosState.{echos_acts}
 
 pub narrow-hand : (channels : ℕ) (hand : Option Samples) → IsHand channels hand → AreNarrow (option_to_list hand)
 narrow-hand channels None h = All-nil (λ (x : Samples). All (FitsSigned w32) x)
@@ -52,3 +71,153 @@ is-member (stages.DcShift s) = record { narrow = λ h. narrow-hand _ s.hand h.fi
 pub narrow-stages : (all : List EffectStage) → AllSound sound_of all → All IsNarrow all
 narrow-stages [] h = All-nil IsNarrow
 narrow-stages (s ∷ all) h = All-cons IsNarrow s all ((is-member s).narrow h.0) (narrow-stages all h.1)
+
+-- stages that behave so are stages of any effect, under a variant and with a recipe of theirs
+pub record Joins {S R : Type 0} (acts : Acts S R) (wrap : S → EffectStage) : Type 0 where
+  pub named : R → EffectRecipe
+  pub kinds : (r : R) → kind_of_recipe (named r) ≡ acts.kind_of r
+  pub looks : (s : S) → look_of (wrap s) ≡ look acts named s
+
+-- what one of them was passed, alone and in a row, the stage of any effect was
+abbrev pub JoinsPassed : {S R : Type 0} → Acts S R → (S → EffectStage) → Type 0
+JoinsPassed {S} acts wrap = (r : Passing) (s s' : S) (x y : Samples) → PassedOn acts r s s' x y → PassedOn effect_acts r (wrap s) (wrap s') x y
+
+abbrev pub JoinsThrough : {S R : Type 0} → Acts S R → (S → EffectStage) → Type 0
+JoinsThrough {S} acts wrap = (xs ys : List Samples) (s s' : S) → EachThrough acts xs ys s s' → EachThrough effect_acts xs ys (wrap s) (wrap s')
+
+module _ {S R : Type 0} {acts : Acts S R} {wrap : S → EffectStage} (j : Joins acts wrap) where
+  same_recipe : (s : S) → effect_acts.recipe (wrap s) ≡ j.named (acts.recipe s)
+  same_recipe s = ap (λ (l : Look). l.recipe) (j.looks s)
+
+  same_rest : (s : S) → effect_acts.rest (wrap s) ≡ acts.rest s
+  same_rest s = ap (λ (l : Look). l.rest) (j.looks s)
+
+  same_counts : (s : S) → effect_acts.counts (wrap s) ≡ acts.counts s
+  same_counts s = ap (λ (l : Look). l.counts) (j.looks s)
+
+  same_dry : (s : S) → effect_acts.dry (wrap s) ≡ acts.dry s
+  same_dry s = ap (λ (l : Look). l.dry) (j.looks s)
+
+  same_stored : (s : S) → effect_acts.stored (wrap s) ≡ acts.stored s
+  same_stored s = ap (λ (l : Look). l.stored) (j.looks s)
+
+  pub passed : JoinsPassed acts wrap
+  passed = PassedOn-along acts effect_acts wrap j.named same_recipe j.kinds same_rest same_counts same_dry same_stored
+
+  pub fed : (first s : S) (xs gs : List Samples) → Fed acts first xs gs s → Fed effect_acts (wrap first) xs gs (wrap s)
+  fed = Fed-along acts effect_acts wrap j.named same_recipe j.kinds same_rest same_counts same_dry same_stored
+
+  pub through : JoinsThrough acts wrap
+  through = EachThrough-along acts effect_acts wrap j.named same_recipe j.kinds same_rest same_counts same_dry same_stored
+
+pub trim-joins : Joins trim_acts stages.Trim
+trim-joins = record { named = ForTrim; kinds = λ r. refl; looks = λ s. refl }
+
+pub trim-passed : JoinsPassed trim_acts stages.Trim
+trim-passed = passed trim-joins
+
+pub trim-through : JoinsThrough trim_acts stages.Trim
+trim-through = through trim-joins
+
+pub pad-joins : Joins pad_acts stages.Pad
+pad-joins = record { named = ForPad; kinds = λ r. refl; looks = λ s. refl }
+
+pub pad-passed : JoinsPassed pad_acts stages.Pad
+pad-passed = passed pad-joins
+
+pub pad-through : JoinsThrough pad_acts stages.Pad
+pad-through = through pad-joins
+
+pub fade-joins : Joins fade_acts stages.Fade
+fade-joins = record { named = ForFade; kinds = λ r. refl; looks = λ s. refl }
+
+pub fade-passed : JoinsPassed fade_acts stages.Fade
+fade-passed = passed fade-joins
+
+pub fade-through : JoinsThrough fade_acts stages.Fade
+fade-through = through fade-joins
+
+pub upsample-joins : Joins upsample_acts stages.Upsample
+upsample-joins = record { named = ForUpsample; kinds = λ r. refl; looks = λ s. refl }
+
+pub upsample-passed : JoinsPassed upsample_acts stages.Upsample
+upsample-passed = passed upsample-joins
+
+pub upsample-through : JoinsThrough upsample_acts stages.Upsample
+upsample-through = through upsample-joins
+
+pub downsample-joins : Joins downsample_acts stages.Downsample
+downsample-joins = record { named = ForDownsample; kinds = λ r. refl; looks = λ s. refl }
+
+pub downsample-passed : JoinsPassed downsample_acts stages.Downsample
+downsample-passed = passed downsample-joins
+
+pub downsample-through : JoinsThrough downsample_acts stages.Downsample
+downsample-through = through downsample-joins
+
+pub delay-joins : Joins delay_acts stages.Delay
+delay-joins = record { named = ForDelay; kinds = λ r. refl; looks = λ s. refl }
+
+pub delay-passed : JoinsPassed delay_acts stages.Delay
+delay-passed = passed delay-joins
+
+pub delay-through : JoinsThrough delay_acts stages.Delay
+delay-through = through delay-joins
+
+pub echo-joins : Joins echo_acts stages.Echo
+echo-joins = record { named = ForEcho; kinds = λ r. refl; looks = λ s. refl }
+
+pub echo-passed : JoinsPassed echo_acts stages.Echo
+echo-passed = passed echo-joins
+
+pub echo-through : JoinsThrough echo_acts stages.Echo
+echo-through = through echo-joins
+
+pub echos-joins : Joins echos_acts stages.Echos
+echos-joins = record { named = ForEchos; kinds = λ r. refl; looks = λ s. refl }
+
+pub echos-passed : JoinsPassed echos_acts stages.Echos
+echos-passed = passed echos-joins
+
+pub echos-through : JoinsThrough echos_acts stages.Echos
+echos-through = through echos-joins
+
+pub fir-joins : Joins fir_acts stages.Fir
+fir-joins = record { named = ForFir; kinds = λ r. refl; looks = λ s. refl }
+
+pub fir-passed : JoinsPassed fir_acts stages.Fir
+fir-passed = passed fir-joins
+
+pub fir-through : JoinsThrough fir_acts stages.Fir
+fir-through = through fir-joins
+
+pub remix-joins : Joins remix_acts stages.Remix
+remix-joins = record { named = ForRemix; kinds = λ r. refl; looks = λ s. refl }
+
+pub remix-passed : JoinsPassed remix_acts stages.Remix
+remix-passed = passed remix-joins
+
+pub remix-through : JoinsThrough remix_acts stages.Remix
+remix-through = through remix-joins
+
+pub vol-joins : Joins vol_acts stages.Vol
+vol-joins = record { named = ForVol; kinds = λ r. refl; looks = λ s. refl }
+
+pub vol-passed : JoinsPassed vol_acts stages.Vol
+vol-passed = passed vol-joins
+
+pub vol-through : JoinsThrough vol_acts stages.Vol
+vol-through = through vol-joins
+
+pub dcshift-joins : Joins dcshift_acts stages.DcShift
+dcshift-joins = record { named = ForDcShift; kinds = λ r. refl; looks = λ s. refl }
+
+pub dcshift-passed : JoinsPassed dcshift_acts stages.DcShift
+dcshift-passed = passed dcshift-joins
+
+pub dcshift-through : JoinsThrough dcshift_acts stages.DcShift
+dcshift-through = through dcshift-joins
+
+pub ruleset joined_passed = (trim-passed, pad-passed, fade-passed, upsample-passed, downsample-passed, delay-passed, echo-passed, echos-passed, fir-passed, remix-passed, vol-passed, dcshift-passed)
+
+pub ruleset joined_through = (trim-through, pad-through, fade-through, upsample-through, downsample-through, delay-through, echo-through, echos-through, fir-through, remix-through, vol-through, dcshift-through)

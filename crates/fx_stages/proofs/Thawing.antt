@@ -8,12 +8,12 @@ use Rattle.std.proofs.lemmas.List.Elements.{All-cons, All-head, All-nil, All-tai
 use Rattle.fx_flow.specs.Frozen.{AllMade}
 use Rattle.fx_step.specs.Holds.{recipes}
 use Rattle.fx_effects.specs.Bounds.{hold_all}
-use Rattle.fx_effects.specs.Effects.{Act, Usable}
+use Rattle.fx_effects.specs.Effects.{Act, Usable, channels_after}
 use Rattle.fx_stages.specs.declared.stage.EffectStage.{EffectStage}
 use Rattle.fx_stages.specs.declared.thaw.EffectArguments.{EffectArguments}
-use Rattle.fx_stages.specs.Effects.{EffectRecipe}
+use Rattle.fx_stages.specs.Effects.{EffectRecipe, recipe_for}
 use Rattle.fx_stages.specs.Stages.{effect_acts, recipe_of}
-use Rattle.fx_stages.specs.Made.{all_suit, channels_after, recipe_for, recipes_for, suits}
+use Rattle.fx_stages.specs.Made.{all_suit, recipes_for, suits}
 use Rattle.fx_stages.specs.Thawed.{FitsEffect, fits_stage, placed, placing, recipe_with}
 use Rattle.fx_stages.proofs.Making.{hold-tail}
 use Rattle.fx_stages.proofs.Planned.{planned}

@@ -6,10 +6,12 @@ use Rattle.fx_cut.specs.Factor.{FactorArguments}
 use Rattle.fx_cut.specs.Pad.{PadArguments, pad_kind, pad_meaning}
 use Rattle.fx_cut.specs.Trim.{TrimArguments, trim_kind, trim_meaning}
 use Rattle.fx_cut.specs.Upsample.{upsample_kind, upsample_meaning}
+use Rattle.fx_effects.specs.Effects.{Act, OfTrim, OfPad, OfFade, OfUpsample, OfDownsample, OfDelay, OfEcho, OfEchos, OfFir, OfRemix, OfVol, OfDcShift}
+use Rattle.fx_fixed.specs.Extents.{meant}
 use Rattle.fx_step.specs.Frame.{Samples}
 use Rattle.fx_step.specs.Stage.{Given, Kind}
 use Rattle.fx_map.specs.DcShift.{dcshift_meaning}
-use Rattle.fx_past.specs.Delay.{delay_kind, delayed}
+use Rattle.fx_past.specs.Delay.{delay_kind, delayed, every_delay}
 use Rattle.fx_past.specs.Echo.{EchoArguments, echo, echo_kind}
 use Rattle.fx_past.specs.Echos.{echos, echos_kind}
 use Rattle.fx_fir.specs.Fir.{FirArguments, filtered, fir_kind}
@@ -61,3 +63,18 @@ kind_of_recipe r = (settled_of r).kind
 
 abbrev pub meaning_of_recipe : EffectRecipe → List Samples → List Given
 meaning_of_recipe r = (settled_of r).meaning
+
+-- the stage of an effect that takes frames of so many channels
+abbrev pub recipe_for : ℕ → Act → EffectRecipe
+recipe_for channels (OfTrim ps) = ForTrim (record { channels = channels; positions = ps })
+recipe_for channels (OfPad pads) = ForPad (record { channels = channels; pads = pads })
+recipe_for channels (OfFade f) = ForFade (record { channels = channels; shape = record { fade_in = f.fade_in; stop = meant f.stop; fade_out = f.fade_out } })
+recipe_for channels (OfUpsample factor) = ForUpsample (record { channels = channels; factor = factor })
+recipe_for channels (OfDownsample factor) = ForDownsample (record { channels = channels; factor = factor })
+recipe_for channels (OfDelay ds) = ForDelay (every_delay channels ds)
+recipe_for channels (OfEcho e) = ForEcho (record { channels = channels; gain_in = e.gain_in; gain_out = e.gain_out; echoes = e.taps })
+recipe_for channels (OfEchos e) = ForEchos (record { channels = channels; gain_in = e.gain_in; gain_out = e.gain_out; echoes = e.taps })
+recipe_for channels (OfFir gains) = ForFir (record { channels = channels; coefficients = gains })
+recipe_for channels (OfRemix specs) = ForRemix (record { channels = channels; outs = specs })
+recipe_for channels (OfVol gain) = ForVol (record { channels = channels; sampling = gain })
+recipe_for channels (OfDcShift shift) = ForDcShift (record { channels = channels; sampling = shift })

@@ -1,9 +1,9 @@
 -- The stages of effects, made again from what they stored and counted (this project's profile).
 use Rattle.std.specs.Prelude.{◌≡◌, ◌≤◌, ◌^◌, ℕ, true, List, [], ◌∷◌}
-use Rattle.fx_effects.specs.Effects.{line_of, Act, Usable, act}
+use Rattle.fx_effects.specs.Effects.{line_of, Act, Usable, act, channels_after}
 use Rattle.fx_stages.specs.declared.thaw.EffectArguments.{EffectArguments}
-use Rattle.fx_stages.specs.Effects.{EffectRecipe}
-use Rattle.fx_stages.specs.Made.{channels_after, recipe_for, suits}
+use Rattle.fx_stages.specs.Effects.{EffectRecipe, recipe_for}
+use Rattle.fx_stages.specs.Made.{suits}
 
 -- an effect can be a stage that takes frames of so many channels, with a line that is short enough
 pub record FitsEffect (channels : ℕ) (a : Act) : Type 0 where

@@ -1,24 +1,51 @@
-//! The stages of a plan's effects.
-ghost use Rattle.std.specs.Prelude.{◌≡◌, ◌≤◌, ◌^◌, IfOk, map, true, length};
+//! The stages of a plan's effects, new and thawed.
+ghost use Rattle.std.specs.Prelude.{◌≡◌, ◌≤◌, ◌^◌, IfOk, map, true};
 ghost use Rattle.std.specs.List.{All};
-ghost use Rattle.fx_cut.specs.FadeState.{fade_acts};
-ghost use Rattle.fx_fixed.specs.Extents.{meant};
 ghost use Rattle.fx_flow.specs.Parts.{AllNew};
 ghost use Rattle.fx_step.specs.Holds.{recipes};
 ghost use Rattle.fx_step.specs.Stage.{IsNew};
 ghost use Rattle.fx_effects.specs.Bounds.{hold_all};
 ghost use Rattle.fx_effects.specs.Effects.{line_of, Usable, act};
 ghost use Rattle.fx_stages.specs.Stages.{effect_acts};
-ghost use Rattle.fx_stages.specs.Made;
-ghost use Rattle.fx_stages.specs.Made.{all_suit, recipe_for, recipes_for, suits};
+ghost use Rattle.fx_stages.specs.Effects.{recipe_for};
+ghost use Rattle.fx_stages.specs.Made.{all_suit, recipes_for, suits};
 
 use crate::stage::EffectStage;
+use crate::thaw::EffectArguments;
 use fx_cut::{Downsample, Fade, Pad, Trim, Upsample};
 use fx_effects::Effect;
 use fx_fir::Fir;
+use fx_frame::WideFrame;
 use fx_map::{DcShift, Remix, Vol};
 use fx_past::{Delay, Echo, Echos};
+use fx_step::stage::{ThawFault, Thaws};
 use std::alloc::{AllocError, Global};
+
+/// The stage of an effect, as `$make` of its type answers it for the channels, for what its words say, and for `$more`.
+/// Where a type takes no memory its `new` has no fault: there `$ok` makes a result of the answer.
+macro_rules! made {
+    ($effect:expr, $make:ident, [$($ok:ident)?], $alloc:expr, $channels:expr $(, $more:expr)*) => {
+        match $effect {
+            Effect::Trim(at) => Trim::$make($alloc, $channels, at $(, $more)*).map(EffectStage::Trim),
+            Effect::Pad(pads) => Pad::$make($alloc, $channels, pads $(, $more)*).map(EffectStage::Pad),
+            Effect::Fade(f) => Fade::$make($alloc, $channels, f.fade_in, f.stop, f.fade_out $(, $more)*)
+                .map(EffectStage::Fade),
+            Effect::Upsample(factor) => $($ok)?(Upsample::$make($channels, u64::from(*factor) $(, $more)*))
+                .map(EffectStage::Upsample),
+            Effect::Downsample(factor) => $($ok)?(Downsample::$make($channels, u64::from(*factor) $(, $more)*))
+                .map(EffectStage::Downsample),
+            Effect::Delay(delays) => Delay::$make($alloc, $channels, delays $(, $more)*).map(EffectStage::Delay),
+            Effect::Echo(e) => Echo::$make($alloc, $channels, e.gain_in, e.gain_out, &e.taps $(, $more)*)
+                .map(EffectStage::Echo),
+            Effect::Echos(e) => Echos::$make($alloc, $channels, e.gain_in, e.gain_out, &e.taps $(, $more)*)
+                .map(EffectStage::Echos),
+            Effect::Fir(gains) => Fir::$make($alloc, $channels, gains $(, $more)*).map(EffectStage::Fir),
+            Effect::Remix(outs) => Remix::$make($alloc, $channels, outs $(, $more)*).map(EffectStage::Remix),
+            Effect::Vol(gain) => $($ok)?(Vol::$make($channels, *gain $(, $more)*)).map(EffectStage::Vol),
+            Effect::DcShift(shift) => $($ok)?(DcShift::$make($channels, *shift $(, $more)*)).map(EffectStage::DcShift),
+        }
+    };
+}
 
 /// The stage of an effect that takes frames of so many channels; AllocError where memory for it is refused.
 fn stage_of(alloc: Global, channels: usize, effect: &Effect) -> Result<EffectStage, AllocError>
@@ -28,42 +55,7 @@ fn stage_of(alloc: Global, channels: usize, effect: &Effect) -> Result<EffectSta
     requires line { line_of (act effect.now) ≤ 2 ^ 28 }
     ensures { IfOk result (IsNew effect_acts (recipe_for channels (act effect.now))) }
 {
-    match effect {
-        Effect::Trim(at) => Ok(EffectStage::Trim(Trim::new(alloc, channels, at)?)),
-        Effect::Pad(pads) => Ok(EffectStage::Pad(Pad::new(alloc, channels, pads)?)),
-        Effect::Delay(delays) => Ok(EffectStage::Delay(Delay::new(alloc, channels, delays)?)),
-        Effect::Echo(e) => Ok(EffectStage::Echo(Echo::new(
-            alloc, channels, e.gain_in, e.gain_out, &e.taps,
-        )?)),
-        Effect::Echos(e) => Ok(EffectStage::Echos(Echos::new(
-            alloc, channels, e.gain_in, e.gain_out, &e.taps,
-        )?)),
-        Effect::Fade(f) => Ok(EffectStage::Fade(Fade::new(
-            alloc, channels, f.fade_in, f.stop, f.fade_out,
-        )?)),
-        Effect::Vol(gain) => Ok(EffectStage::Vol(Vol::new(channels, *gain))),
-        Effect::DcShift(shift) => Ok(EffectStage::DcShift(DcShift::new(channels, *shift))),
-        Effect::Fir(gains) => Ok(EffectStage::Fir(Fir::new(alloc, channels, gains)?)),
-        Effect::Remix(outs) => Ok(EffectStage::Remix(Remix::new(alloc, channels, outs)?)),
-        Effect::Upsample(factor) => {
-            let upsample = Upsample::new(channels, u64::from(*factor));
-            Ok(EffectStage::Upsample(upsample))
-        }
-        Effect::Downsample(factor) => {
-            let downsample = Downsample::new(channels, u64::from(*factor));
-            Ok(EffectStage::Downsample(downsample))
-        }
-    }
-}
-
-/// The channels of the frames that an effect gives.
-pub fn channels_after(channels: usize, effect: &Effect) -> usize
-    ensures { result ≡ Made.channels_after channels (act effect.now) }
-{
-    match effect {
-        Effect::Remix(outs) => outs.len(),
-        _ => channels,
-    }
+    made!(effect, new, [Ok], alloc, channels)
 }
 
 /// New stages of these effects in a row, the first of which takes frames of so many channels; AllocError where memory for
@@ -85,8 +77,41 @@ pub fn stages_of(
     let mut rest = effects;
     while let Some((effect, more)) = rest.split_first() {
         stages.push(stage_of(alloc, channels, effect)?)?;
-        channels = channels_after(channels, effect);
+        channels = effect.channels_after(channels);
         rest = more;
     }
     Ok(stages)
+}
+
+impl Thaws for EffectStage {
+    ghost use Rattle.fx_stages.specs.Stages.{recipe_of};
+    ghost use Rattle.fx_stages.specs.Thawed.{fits_stage, recipe_with};
+    ghost use Rattle.std.specs.Prelude.{◌≡◌};
+    ghost use Rattle.std.proofs.Common.{◌∙◌};
+
+    type Arguments = EffectArguments;
+
+    ghost fits = { fits_stage };
+
+    ghost made = { λ a s. recipe_of s ≡ recipe_with a };
+
+    ghost made_stays = { λ a s t stays is. stays ∙ is };
+
+    fn thaw(
+        alloc: Global,
+        arguments: &EffectArguments,
+        frames: &[WideFrame],
+        numbers: &[u64; 8],
+    ) -> Result<EffectStage, ThawFault> {
+        let channels = arguments.channels;
+        made!(
+            &arguments.effect,
+            thaw,
+            [],
+            alloc,
+            channels,
+            frames,
+            numbers
+        )
+    }
 }

@@ -193,10 +193,7 @@ impl Feeds for EffectStage {
         each!(self, stage => stage.feed(input, output))
     }
 
-    fn pass(&mut self, frame: &mut Frame) -> Passing {
-        each!(self, stage => stage.pass(frame))
-    }
-
+    #[tactic(auto, using(crate::proofs::StageLaws::joined_passed))]
     #[inline(always)]
     fn pass_samples(&mut self, samples: &mut [i32]) -> Passing {
         each!(self, stage => stage.pass_samples(samples))
@@ -251,6 +248,7 @@ impl Feeds for EffectStage {
         each!(self, stage => stage.steady())
     }
 
+    #[tactic(auto, using(crate::proofs::StageLaws::joined_through))]
     fn pass_frames(&mut self, count: usize, samples: &mut [i32]) {
         each!(self, stage => stage.pass_frames(count, samples))
     }

@@ -1,7 +1,5 @@
 //! What each effect does to the number of frames, of channels and of bytes, and how late it gives. Numbers past 64 bits stay
 //! at the greatest one.
-ghost use Rattle.std.specs.Prelude.{◌≡◌, ℕ, Some};
-ghost use Rattle.fx_effects.specs.Effects.{act, layout_after};
 
 use fx_cut::fade::words::Fading;
 use fx_effects::Effect;
@@ -66,16 +64,6 @@ pub fn frames_behind(effect: &Effect, line: u64, frames: u64) -> u64 {
     }
 }
 
-/// How many channels an effect leaves of so many.
-pub fn channels_behind(effect: &Effect, channels: usize) -> usize
-    ensures { (rate : ℕ) → result ≡ (layout_after (record { rate = rate; channels = channels }) (Some (act effect.now))).channels }
-{
-    match effect {
-        Effect::Remix(specs) => specs.len(),
-        _ => channels,
-    }
-}
-
 /// By how many frames of its input an effect gives later than it takes; `line` are the places of its line.
 pub fn lateness(effect: &Effect, line: u64) -> u64 {
     match effect {
@@ -96,6 +84,6 @@ pub fn bytes_held(effect: &Effect, line: u64, channels: usize) -> u64 {
         Effect::Echos(_) => 8,
         _ => 4,
     };
-    let in_hand = bytes_of(1, channels_behind(effect, channels), 4);
+    let in_hand = bytes_of(1, effect.channels_after(channels), 4);
     bytes_of(line, channels, width).saturating_add(in_hand)
 }

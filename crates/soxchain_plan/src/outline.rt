@@ -5,7 +5,7 @@ ghost use Rattle.fx_effects.specs.Bounds.{hold_all};
 ghost use Rattle.fx_plan.specs.Planning.{planning};
 ghost use Rattle.soxchain_plan.specs.Outlines.{announced_frames, known, told};
 
-use crate::lengths::{bytes_held, channels_behind, frames_behind, lateness};
+use crate::lengths::{bytes_held, frames_behind, lateness};
 use crate::quoting::{bits_of, name_of_kind};
 use crate::style::Style;
 use fx_plan::Plan;
@@ -109,7 +109,7 @@ pub fn outline_of(alloc: Global, plan: &Plan) -> Result<Outline, AllocError>
             frames,
         })?;
         bytes = bytes.saturating_add(held);
-        channels = channels_behind(effect, channels);
+        channels = effect.channels_after(channels);
     }
     let output = SoundOutline {
         kind: plan.kind(),

@@ -1,3 +1,4 @@
+use Rattle.std.proofs.Common.{rules}
 use Rattle.fx_stages.proofs.Making.{mixes-few, mixes-named, pads-are}
 use Rattle.fx_stages.proofs.make.stage_of.Goals as goal
 
@@ -9,3 +10,9 @@ new-requires-in-Remix-clause-few c = rw (c.deref-in-Remix.ensures.value) (mixes-
 
 pub new-requires-in-Remix-clause-named : goal.new-requires-in-Remix-clause-named
 new-requires-in-Remix-clause-named c = rw (c.deref-in-Remix.ensures.value) (mixes-named _ _ (rw (c.in-Remix.is) at c.requires.suits))
+
+pub returns-in-Pad : goal.returns-in-Pad
+returns-in-Pad c = rw (c.in-Pad.is) (search rules)
+
+pub returns-in-Echo : goal.returns-in-Echo
+returns-in-Echo c = rw (c.in-Echo.is) (search rules)

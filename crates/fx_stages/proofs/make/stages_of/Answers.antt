@@ -1,8 +1,8 @@
 use Rattle.std.proofs.Common.{rules, ◌≡◌, ◌^◌, ◌∷◌, map, sym}
 use Rattle.std.proofs.lemmas.Bool.{and_parts}
 use Rattle.std.proofs.lemmas.List.Elements.{All-head, All-tail}
-use Rattle.fx_effects.specs.Effects.{Usable, act}
-use Rattle.fx_stages.specs.Made.{all_suit, channels_after, suits}
+use Rattle.fx_effects.specs.Effects.{Usable, act, channels_after}
+use Rattle.fx_stages.specs.Made.{all_suit, suits}
 use Rattle.fx_stages.proofs.Making.{AllNew-push, hold-tail, made-more}
 use Rattle.fx_stages.proofs.Planned.{planned}
 use Rattle.fx_stages.proofs.make.stages_of.Goals as goal
