@@ -9,12 +9,10 @@ from fractions import Fraction
 
 import compare_texts as texts
 
-PROFILE = "trim pad delay echo echos fade vol dcshift fir remix upsample downsample".split()
 WHOLE_SOUND = "reverse norm repeat".split()
 LEFT_OUT = """allpass band bandpass bandreject bass bend biquad channels chorus compand contrast deemph dither earwax
 equalizer flanger gain highpass hilbert ladspa loudness lowpass mcompand noiseprof noisered oops overdrive phaser pitch
 rate reverb riaa silence sinc spectrogram speed splice stat stats stretch swap synth tempo treble tremolo vad""".split()
-NAMES = PROFILE + WHOLE_SOUND + LEFT_OUT
 
 LINE_FAULTS = "MissingFile BadOption NoOutputType BadBits".split()
 PLAN_FAULTS = """UnknownEffect NotInProfile NeedsWholeSound WrongCount BadArgument OutOfRange PositionBehind NoSuchChannel
@@ -77,15 +75,26 @@ def greatest_end(positions):
 
 
 class Effect:
-    """What an effect holds and makes: its line, the frames of n, and the layout behind it."""
+    """What an effect holds and makes: its line, how late it gives, the frames of n, and the layout behind it."""
 
-    def __init__(self, rate, channels, line=0, more=0, times=Fraction(1)):
-        self.rate, self.channels, self.line, self.more, self.times = rate, channels, line, more, times
+    def __init__(self, rate, channels, line=0, late=0, more=0, times=Fraction(1)):
+        self.rate, self.channels, self.line, self.late, self.more, self.times = rate, channels, line, late, more, times
 
     def most(self, frames):
         return -(-(frames * self.times.numerator) // self.times.denominator) + self.more
 
 
+# The effects by their names, in the order in which they stand below.
+PROFILE = {}
+
+
+def in_profile(function):
+    """Puts an effect into the profile: its function has its name."""
+    PROFILE[function.__name__] = function
+    return function
+
+
+@in_profile
 def trim(words, rate, channels, file):
     count(words, 1, 64)
     positions = []
@@ -93,9 +102,10 @@ def trim(words, rate, channels, file):
         previous = positions[-1] if positions else ("start", 0)
         positions.append(read_position(number, text, rate, "previous", previous))
     in_order(positions)
-    return Effect(rate, channels, line=greatest_end(positions))
+    return Effect(rate, channels, line=greatest_end(positions), late=greatest_end(positions))
 
 
+@in_profile
 def pad(words, rate, channels, file):
     count(words, 1, 64)
     positions, total = [], 0
@@ -110,9 +120,10 @@ def pad(words, rate, channels, file):
         else:
             positions.append(("start", 0) if number == 2 else ("end", 0))
     in_order(positions)
-    return Effect(rate, channels, line=greatest_end(positions), more=total)
+    return Effect(rate, channels, line=greatest_end(positions), late=greatest_end(positions), more=total)
 
 
+@in_profile
 def delay(words, rate, channels, file):
     count(words, 1, len(words))
     if len(words) > channels:
@@ -143,16 +154,19 @@ def echo_delays(words, rate):
     return delays
 
 
+@in_profile
 def echo(words, rate, channels, file):
     longest = max(echo_delays(words, rate))
     return Effect(rate, channels, line=longest, more=longest)
 
 
+@in_profile
 def echos(words, rate, channels, file):
     total = sum(echo_delays(words, rate))
     return Effect(rate, channels, line=total, more=total)
 
 
+@in_profile
 def fade(words, rate, channels, file):
     count(words, 1, 4)
     if words == ["t"]:
@@ -167,9 +181,10 @@ def fade(words, rate, channels, file):
             out = read(5, texts.time, words[3], rate)
         if anchor == "end" or frames == 0:
             line = frames + out
-    return Effect(rate, channels, line=line)
+    return Effect(rate, channels, line=line, late=line)
 
 
+@in_profile
 def vol(words, rate, channels, file):
     count(words, 1, 3)
     if words[0].endswith(("dB", "power")):
@@ -182,6 +197,7 @@ def vol(words, rate, channels, file):
     return Effect(rate, channels)
 
 
+@in_profile
 def dcshift(words, rate, channels, file):
     count(words, 1, 2)
     read_gain(2, words[0], -2, 2)
@@ -204,6 +220,7 @@ def coefficients(data):
     return len(words) if 1 <= len(words) <= 1024 else None
 
 
+@in_profile
 def fir(words, rate, channels, file):
     count(words, 0, 1024)
     if len(words) < 2:
@@ -212,10 +229,10 @@ def fir(words, rate, channels, file):
         taps = coefficients(file)
         if taps is None:
             raise Refused("BadCoefficients", 2)
-        return Effect(rate, channels, line=taps - 1)
+        return Effect(rate, channels, line=taps - 1, late=(taps - 1) // 2)
     for number, text in enumerate(words, 2):
         read(number, texts.gain, text)
-    return Effect(rate, channels, line=len(words) - 1)
+    return Effect(rate, channels, line=len(words) - 1, late=(len(words) - 1) // 2)
 
 
 def contributions(number, text, channels):
@@ -236,6 +253,7 @@ def contributions(number, text, channels):
     return abs(last - first) + 1
 
 
+@in_profile
 def remix(words, rate, channels, file):
     skipped = 1 if words[:1] and words[0] in ("-a", "-m", "-p") else 0
     specs = words[skipped:]
@@ -262,6 +280,7 @@ def factor(words):
     return 2, int(words[0])
 
 
+@in_profile
 def upsample(words, rate, channels, file):
     word, times = factor(words)
     if rate * times > 2**32 - 1:
@@ -269,11 +288,15 @@ def upsample(words, rate, channels, file):
     return Effect(rate * times, channels, times=Fraction(times))
 
 
+@in_profile
 def downsample(words, rate, channels, file):
     word, times = factor(words)
     if rate % times:
         raise Refused("RateNotDivisible", word)
     return Effect(rate // times, channels, times=Fraction(1, times))
+
+
+NAMES = [*PROFILE, *WHOLE_SOUND, *LEFT_OUT]
 
 
 def read_effect(number, words, rate, channels, file):
@@ -286,7 +309,7 @@ def read_effect(number, words, rate, channels, file):
         raise Refused("NotInProfile", 1)
     if name not in PROFILE:
         raise Refused("UnknownEffect", 1)
-    return globals()[name](rest, rate, channels, file)
+    return PROFILE[name](rest, rate, channels, file)
 
 
 def effects_of(words):

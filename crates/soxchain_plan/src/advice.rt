@@ -2,6 +2,7 @@
 
 use fx_plan::{LineFault, PlanCause};
 use fx_sound::HeadFault;
+use soxchain_words::{SOX_HAS_IT, TIME_LIMITS, effect_of, effects};
 
 /// Where a file cannot be opened.
 pub const OPENING: &str = "see that there is a file of this name, and that it may be read";
@@ -10,9 +11,15 @@ pub const OPENING: &str = "see that there is a file of this name, and that it ma
 pub const REACHING: &str =
     "standard output took not all of it: see that its disk has room, or its reader waits";
 
-/// The names of the effects.
-const EFFECTS: &str =
-    "the effects are trim, pad, delay, echo, echos, fade, vol, dcshift, fir, remix, upsample, downsample";
+/// The names of the effects, from the table of effects.
+macro_rules! names {
+    ({ name: $first:literal, $($rest_of_first:tt)* } $({ name: $name:literal, $($rest:tt)* })*) => {
+        concat!("the effects are ", $first, $(", ", $name),*)
+    };
+}
+
+/// Where a word is no effect, and none was meant.
+const NAMES: &str = effects!(names);
 
 /// Where there is no memory.
 pub fn advice_on_memory() -> &'static str {
@@ -55,37 +62,12 @@ pub fn advice_on_head(fault: HeadFault) -> &'static str {
 
 /// The words of an effect.
 fn usage_of(name: &str) -> &'static str {
-    match name {
-        "trim" =>
-            "the words are: trim POSITION .., at most 64, as 1.5, 0:30, 100s, =4 from the start, -2 from the end",
-        "pad" => "the words are: pad LENGTH[@POSITION] .., at most 64, as pad 0.5 1@10",
-        "delay" =>
-            "the words are: delay POSITION .., one for each of the first channels, none from the end, as delay 0 0.1",
-        "echo" | "echos" =>
-            "the words are: echo or echos GAIN-IN GAIN-OUT and 1 to 7 pairs DELAY DECAY, delays in milliseconds, as 0.8 0.9 100 0.3",
-        "fade" => "the words are: fade t IN [STOP [OUT]], as fade t 0.5 or fade t 1 -0 1",
-        "vol" => "the words are: vol GAIN [amplitude], as vol 0.5",
-        "dcshift" => "the word is: dcshift SHIFT, from -2 to 2",
-        "fir" => "the words are: fir FILE, or fir and 2 to 1024 numbers",
-        "remix" =>
-            "the words are: remix [-a|-m] OUT-SPEC .., 1 to 16, as remix 1,2 or remix 2v0.5 1 0",
-        "upsample" | "downsample" => "the word is a factor from 1 to 256",
-        _ => EFFECTS,
-    }
+    effect_of(name).map_or(NAMES, |effect| effect.usage)
 }
 
 /// The limits of an effect's numbers.
 fn limits_of(name: &str) -> &'static str {
-    match name {
-        "vol" => "the limits are -1000 and 1000, and 40 letters",
-        "dcshift" => "the limits are -2 and 2",
-        "echo" | "echos" =>
-            "the limits are 0 and 1 for GAIN-IN and decays, 0 and 1000 for GAIN-OUT, 2^40 frames for delays",
-        "fir" => "the limits are -1000 and 1000 for each coefficient",
-        "remix" => "the limits are -1000 and 1000 for factors, and 64 contributions to a channel",
-        "upsample" | "downsample" => "the limits are 1 and 256",
-        _ => "the limits are 0 and 2^40 frames, and 80 letters for a time",
-    }
+    effect_of(name).map_or(TIME_LIMITS, |effect| effect.limits)
 }
 
 /// The effect that was meant by a word that is none.
@@ -101,21 +83,17 @@ fn meant_by(word: &str) -> &'static str {
         "filter" => "say fir and a file of coefficients, or the numbers: fir 0.25 0.5 0.25",
         "silent" | "padding" => "say pad and a length: pad 1 or pad 1@30",
         "echoes" => "say echo, or echos: echo 0.8 0.9 100 0.3",
-        _ => EFFECTS,
+        _ => NAMES,
     }
 }
 
-/// What stands for words that are left out.
+/// What stands for words that are left out, or for a whole effect.
 fn instead_of(name: &str) -> &'static str {
     match name {
-        "fade" => "say the type, and that is t: fade t 0.5 for fade 0.5",
-        "vol" => "say a factor: vol 0.501187 for vol -6dB, by 10 ^ (dB / 20); there is no limiter",
-        "remix" => "say factors: 1v0.5; neither -p nor decibels",
-        "fir" => "name a file, or say the numbers: fir 0.25 0.5 0.25",
         "gain" => "say a factor with vol: vol 0.501187 for gain -6, by 10 ^ (dB / 20)",
         "channels" => "say remix: remix 1,2 makes one channel of two, remix 1 1 two of one",
         "rate" => "sox has it: soxchain IN -t au - .. | sox -t au - OUT rate 8k",
-        _ => "sox has it: soxchain IN -t au - .. | sox -t au - OUT EFFECT ..",
+        _ => effect_of(name).map_or(SOX_HAS_IT, |effect| effect.instead),
     }
 }
 

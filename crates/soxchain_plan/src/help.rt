@@ -1,7 +1,12 @@
 //! What the program says of itself.
 
-/// The answer to `--help`.
-pub const HELP: &str = "usage: soxchain-plan [--json] WORD ..
+use soxchain_words::effects;
+
+/// The answer to `--help`, from the table of effects.
+macro_rules! help {
+    ($({ name: $name:literal, $($rest:tt)* })*) => {
+        concat!(
+            "usage: soxchain-plan [--json] WORD ..
        soxchain-plan --help | --version
 
 Says what soxchain would do with the same words, and changes nothing. Of IN only
@@ -18,8 +23,16 @@ A refusal has the message and the status of soxchain, and then a line that says
 what to do.
 
 effects (soxchain --help has their words):
-  trim pad delay echo echos fade vol dcshift fir remix upsample downsample
+ ",
+            $(" ", $name,)*
+            "
 
 status: 0 there is a plan, 1 the words are refused, 2 any other fault
 The manual: man soxchain-plan
-";
+"
+        )
+    };
+}
+
+/// The answer to `--help`.
+pub const HELP: &str = effects!(help);

@@ -1,11 +1,13 @@
 //! What both programs share: the words behind the program's name, the coefficient files that these name, and what the programs
-//! say of themselves.
+//! say of themselves and of the effects.
 #![tactic(auto)]
 
 mod about;
+mod effects;
 mod files;
 mod words;
 
 pub use about::{VERSION, answer_to, show};
+pub use effects::{EffectHelp, SOX_HAS_IT, TIME_LIMITS, effect_of};
 pub use files::{FilesFault, Openings, read_files};
 pub use words::{fault_of, words_of};
