@@ -2,12 +2,12 @@
 ghost use Rattle.std.specs.Prelude.{◌≡◌};
 ghost use Rattle.fx_plan.specs.Planning.{planning};
 
-use crate::driving::{Driver, chain_of, driver_of, mono, next_step, put, tell_end};
-use crate::words::{TWELVE_EFFECTS, plan_of};
 use fx_chain::Chain;
 use fx_flow::flow::{State, Step};
 use fx_plan::Plan;
 use std::alloc::Global;
+use tests_driving::driving::{Driver, chain_of, driver_of, mono, next_step, put, tell_end};
+use tests_driving::words::{TWELVE_EFFECTS, plan_of};
 
 const THREE_EFFECTS: &str = "pad 3s delay 4s echo 1 1 0.25 0.5";
 

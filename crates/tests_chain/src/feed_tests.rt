@@ -1,11 +1,11 @@
 //! Chains that are fed pieces of a sound, beside chains that take its frames one by one.
 ghost use Rattle.std.specs.Prelude.{◌≡◌, ◌<◌, ◌≤◌, IfOk};
 
-use crate::driving::{Driven, Driver, frozen};
-use crate::words::{TWELVE_EFFECTS, plan_of};
 use fx_chain::{Chain, Snapshot};
 use fx_flow::flow::{MOST_FRAMES, State};
 use std::alloc::Global;
+use tests_driving::driving::{Driven, Driver, frozen};
+use tests_driving::words::{TWELVE_EFFECTS, plan_of};
 
 /// The most samples of a sound.
 const SAMPLES: usize = 2500;
@@ -42,7 +42,7 @@ const LONG: Portions = Portions {
 const RANDOM_PLANS: u32 = 50;
 
 /// Effects from one channel to one, of which a random plan has one to four.
-const EFFECTS: [&str; 16] = [
+const EFFECTS: &[&str] = &[
     "trim 5s 20s 33s",
     "trim 3s -4s",
     "pad 2s@3s 3s",
@@ -62,7 +62,7 @@ const EFFECTS: [&str; 16] = [
 ];
 
 /// One effect each, then several.
-const ROWS: [&str; 20] = [
+const ROWS: &[&str] = &[
     "",
     "trim 5s 20s 33s",
     "trim 3s -4s",
@@ -86,7 +86,7 @@ const ROWS: [&str; 20] = [
 ];
 
 /// Several effects that each give one frame for each that they take, at least for a while, and others among them.
-const LONG_ROWS: [&str; 6] = [
+const LONG_ROWS: &[&str] = &[
     "trim 700s 2300s vol 1.5 echo 0.8 0.9 20 0.5 40 0.25 vol 0.9",
     "delay 100s dcshift 0.25 echos 0.8 0.9 20 0.5 fir 0.25 0.5 0.25",
     "pad 3s@900s remix 1 1 vol 1.5 remix 1,2 fade t 500s 1800s 300s",
@@ -331,7 +331,7 @@ fn random_effects(alloc: Global, dice: &mut Dice) -> Result<String, &'static str
     let mut words = String::new(alloc);
     let count = 1 + dice.next_below(4);
     'effects: for _effect in 0..count {
-        let effect = EFFECTS[dice.next_below(16) as usize];
+        let effect = EFFECTS[dice.next_below(EFFECTS.len() as u32) as usize];
         if words.push_str(effect).is_err() || words.push_str(" ").is_err() {
             return Err("no memory for the words");
         }

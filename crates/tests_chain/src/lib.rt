@@ -1,10 +1,8 @@
 //! The worked rows of fx_chain: bounds and steps; sounds in pieces beside frames one by one. They stand in a crate of their
-//! own, so that fx_chain is not proved once more for them. What drives a chain is for tests_freeze too.
+//! own, so that fx_chain is not proved once more for them.
 #![tactic(auto)]
 
 #[cfg(test)]
 mod bound_tests;
-pub mod driving;
 #[cfg(test)]
 mod feed_tests;
-pub mod words;

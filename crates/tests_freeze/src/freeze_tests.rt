@@ -8,10 +8,10 @@ use fx_frame::WideFrame;
 use fx_plan::Plan;
 use fx_step::stage::ThawFault;
 use std::alloc::Global;
-use tests_chain::driving::{
+use tests_driving::driving::{
     Driven, Driver, chain_of, driver_of, first_sample, frozen, mono, next_step, put, tell_end,
 };
-use tests_chain::words::{TWELVE_EFFECTS, found_plan, plan_of};
+use tests_driving::words::{TWELVE_EFFECTS, found_plan, plan_of};
 
 /// More calls than a chain of these rows is given.
 const MOST_CALLS: u32 = 1000;

@@ -167,6 +167,35 @@ pub(crate) fn gives<S: Stage + Drop>(
     }
 }
 
+/// Fails with a row where a stage that was made does not give what it says, or holds another number of frames.
+pub(crate) fn gives_holding<S: Stage + Drop>(
+    alloc: Global,
+    made: Result<S, AllocError>,
+    hold: u64,
+    row: &'static str,
+) -> Result<(), &'static str>
+    requires { IfOk made (λ stage. 2 ^ 20 ≤ (kind S.acts stage).limit) }
+{
+    let Ok(stage) = made else {
+        return Err(REFUSED);
+    };
+    if stage.hold() != hold {
+        return Err("another hold");
+    }
+    gives(alloc, Ok(stage), row, 0)
+}
+
+/// Fails where a stage that was made does not hold four frames, or memory for it was wanting.
+pub(crate) fn holds_four<S: Stage + Drop>(made: Result<S, AllocError>) -> Result<(), &'static str> {
+    let Ok(stage) = made else {
+        return Err(REFUSED);
+    };
+    if stage.hold() != 4 {
+        return Err("another hold");
+    }
+    Ok(())
+}
+
 /// The frames that a stage stores.
 pub(crate) fn stored<S: Stage>(alloc: Global, stage: &S) -> Result<Vec<WideFrame>, AllocError> {
     let mut frames = Vec::new(alloc);

@@ -1,299 +1,59 @@
-//! `fir` of many coefficients, fed blocks of a sound, beside sums that are added up one by one.
-ghost use Rattle.std.specs.Prelude.{◌<◌, ◌≤◌, ◌^◌, ◌+◌, length};
+//! The worked rows of `fir`.
 
-use crate::driving::{REFUSED, drain, gain, stored};
-use fx_fixed::Gain;
-use fx_frame::{Feeds, Passed, Stage};
+use crate::driving::{gain, gives, refused, say};
+use crate::thawing::{comes_back, frozen};
+use fx_fixed::{Coefficients, Gain};
+use fx_frame::{Frame, Stage, WideFrame};
 use fx_tap::Fir;
-use std::alloc::{AllocError, Global};
-use std::test::Fail;
+use std::alloc::Global;
 
-/// How many blocks a sound has at the most.
-const MOST_BLOCKS: u32 = 10_000;
-
-/// A number of 32 bits that looks random.
-fn noise(place: usize) -> i32 {
-    let mixed = (place as u64).wrapping_mul(0x9E37_79B9_7F4A_7C15);
-    let turned = (mixed ^ (mixed >> 29)).wrapping_mul(0xBF58_476D_1CE4_E5B9);
-    ((turned >> 32) as i64 - 2_147_483_648) as i32
-}
-
-/// Samples of all sizes; each eleventh is the least one, each thirteenth the greatest.
-fn sound(alloc: Global, count: usize) -> Result<Vec<i32>, AllocError> {
-    let mut samples = Vec::new(alloc);
-    for place in 0..count {
-        samples.push(match (place % 11, place % 13) {
-            (3, _) => i32::MIN,
-            (_, 5) => i32::MAX,
-            _ => noise(place),
-        })?;
-    }
-    Ok(samples)
-}
-
-/// A coefficient below 0.05: of six decimals, or of eleven.
-fn coefficient(alloc: Global, place: usize, is_fine: bool) -> Result<Gain, &'static str> {
-    let size = noise(place.wrapping_add(77_777));
-    let (size, decimals) = if is_fine {
-        (size, 11)
-    } else {
-        (size % 50_000, 6)
-    };
-    match format!(in alloc; "{size}e-{decimals}") {
-        Ok(text) => gain(text.as_str()),
-        Err(_refused) => Err(REFUSED),
-    }
-}
-
-/// So many coefficients below 0.05: of six decimals, or of eleven.
-fn coefficients(alloc: Global, count: usize, is_fine: bool) -> Result<Vec<Gain>, &'static str> {
-    let mut gains = Vec::new(alloc);
-    for place in 0..count {
-        let gain = coefficient(alloc, place, is_fine)?;
-        if gains.push(gain).is_err() {
-            return Err(REFUSED);
-        }
-    }
-    Ok(gains)
-}
-
-/// A sum in trillionths as a sample.
-fn rounded(sum: i128) -> i32 {
-    let size = sum.unsigned_abs().wrapping_add(500_000_000_000) / 1_000_000_000_000;
-    let size = size.min(1 << 31) as i64;
-    let whole = if sum < 0 { -size } else { size };
-    whole.min(i64::from(i32::MAX)) as i32
-}
-
-/// What `fir` has to give for a sound, each sum added up one by one.
-fn plainly(
-    alloc: Global,
-    coefficients: &[Gain],
-    channels: usize,
-    sound: &[i32],
-) -> Result<Vec<i32>, AllocError> {
-    let mut samples = Vec::new(alloc);
-    let ahead = (coefficients.len().saturating_sub(1) / 2).wrapping_mul(channels);
-    for place in 0..sound.len() {
-        let mut sum = 0i128;
-        let mut at = Some(place.wrapping_add(ahead));
-        for coefficient in coefficients {
-            let Some(from) = at else {
-                break;
-            };
-            if let Some(sample) = sound.get(from) {
-                let product = i128::from(coefficient.trillionths()).wrapping_mul((*sample).into());
-                sum = sum.wrapping_add(product);
-            }
-            at = from.checked_sub(channels);
-        }
-        samples.push(rounded(sum))?;
-    }
-    Ok(samples)
-}
-
-/// Feeds a block, of which all has to be taken, into a room; how many samples are given.
-fn feed_into(fir: &mut Fir, block: &[i32], room: &mut [i32]) -> Result<usize, &'static str> {
-    let channels = fir.in_channels();
-    if channels == 0 || channels > 16 || block.len() > 1 << 20 || fir.counters()[0] > 1 << 20 {
-        return Err("not ready for the block");
-    }
-    let passed = fir.feed(block, room);
-    if passed.taken.wrapping_mul(channels) != block.len() {
-        return Err("not the whole block");
-    }
-    Ok(passed.given.wrapping_mul(channels))
-}
-
-/// Adds so many of the samples of a room.
-fn add_part(room: &[i32], count: usize, given: &mut Vec<i32>) -> Result<(), &'static str> {
-    let Some(samples) = room.get(..count) else {
-        return Err("more than there is room for");
-    };
-    match given.extend_from_slice(samples) {
-        Ok(()) => Ok(()),
-        Err(_refused) => Err(REFUSED),
-    }
-}
-
-/// Feeds a block, of which all has to be taken, and adds the samples that are given.
-fn feed_block(
-    alloc: Global,
-    fir: &mut Fir,
-    block: &[i32],
-    given: &mut Vec<i32>,
-) -> Result<(), &'static str> {
-    let mut room = Vec::new(alloc);
-    if room.resize(block.len(), 0).is_err() {
-        return Err(REFUSED);
-    }
-    let count = feed_into(fir, block, &mut room)?;
-    add_part(&room, count, given)
-}
-
-/// Makes a `fir` of these coefficients again from what it stores and counts.
-fn thaw(
-    alloc: Global,
-    fir: &mut Fir,
-    channels: usize,
-    coefficients: &[Gain],
-) -> Result<(), &'static str>
-    requires channels { (1 ≤ channels) × (channels ≤ 16) }
-    requires coefficients { (1 ≤ length coefficients.now) × (length coefficients.now ≤ 1024) }
-{
-    let Ok(frames) = stored(alloc, fir) else {
-        return Err(REFUSED);
-    };
-    match Fir::thaw(alloc, channels, coefficients, &frames, &fir.counters()) {
-        Ok(again) => {
-            *fir = again;
-            Ok(())
-        }
-        Err(_fault) => Err("not thawed"),
-    }
-}
-
-/// Tells a `fir` the end, and adds the samples that come behind it.
-fn end(fir: &mut Fir, given: &mut Vec<i32>) -> Result<(), &'static str> {
-    if !fir.is_dry() || fir.is_ended() {
-        return Err("not ready for the end");
-    }
-    fir.end();
-    drain(fir, given)
-}
-
-/// Feeds blocks of up to 3,000 frames, freezes and thaws behind each, and then tells the end.
-fn feed_blocks(
-    alloc: Global,
-    fir: &mut Fir,
-    channels: usize,
-    coefficients: &[Gain],
-    sound: &[i32],
-    given: &mut Vec<i32>,
-) -> Result<(), &'static str>
-    requires channels { (1 ≤ channels) × (channels ≤ 16) }
-    requires coefficients { (1 ≤ length coefficients.now) × (length coefficients.now ≤ 1024) }
-{
-    let mut rest = sound;
-    for block in 0..MOST_BLOCKS {
-        if rest.is_empty() {
-            break;
-        }
-        let frames = 1 + noise(block as usize).unsigned_abs() as usize % 3000;
-        let size = rest.len().min(frames * channels);
-        feed_block(alloc, fir, &rest[..size], given)?;
-        rest = &rest[size..];
-        thaw(alloc, fir, channels, coefficients)?;
-    }
-    end(fir, given)
-}
-
-/// Adds what a `fir` gives that is fed a sound in blocks, frozen and thawed behind each, and then told the end.
-fn feed(
-    alloc: Global,
-    coefficients: &[Gain],
-    channels: usize,
-    sound: &[i32],
-    given: &mut Vec<i32>,
-) -> Result<(), &'static str>
-    requires channels { (1 ≤ channels) × (channels ≤ 16) }
-{
+/// Fails with a row where a `fir` of these coefficients does not give what it says.
+fn filters(alloc: Global, coefficients: &[Gain], row: &'static str) -> Result<(), &'static str> {
     if coefficients.is_empty() || coefficients.len() > 1024 {
         return Err("no coefficient, or too many");
     }
-    match Fir::new(alloc, channels, coefficients) {
-        Ok(mut fir) => feed_blocks(alloc, &mut fir, channels, coefficients, sound, given),
-        Err(_refused) => Err(REFUSED),
+    gives(alloc, Fir::new(alloc, 1, coefficients), row, 0)
+}
+
+/// Fails with a row where a `fir` of the coefficients of a file does not give what it says.
+fn filters_by_file(alloc: Global, file: &str, row: &'static str) -> Result<(), &'static str> {
+    match Coefficients::parse(alloc, file.as_bytes()) {
+        Ok(coefficients) => filters(alloc, &coefficients, row),
+        Err(_fault) => Err("not a list of coefficients"),
     }
 }
 
-/// Are these the samples that `fir` has to give for a sound?
-fn are_right(
-    alloc: Global,
-    coefficients: &[Gain],
-    channels: usize,
-    sound: &[i32],
-    given: &[i32],
-) -> bool {
-    match plainly(alloc, coefficients, channels, sound) {
-        Ok(want) => want.as_slice() == given,
-        Err(_refused) => false,
-    }
-}
-
-/// Fails where a `fir` of these coefficients does not give what it has to, for so many frames.
-fn filters(
-    alloc: Global,
-    coefficients: &[Gain],
-    channels: usize,
-    frames: usize,
-) -> Result<(), &'static str>
-    requires channels { (1 ≤ channels) × (channels ≤ 16) }
-    requires frames { frames ≤ 2 ^ 20 }
-{
-    let Ok(sound) = sound(alloc, frames * channels) else {
-        return Err(REFUSED);
-    };
-    let mut given = Vec::new(alloc);
-    feed(alloc, coefficients, channels, &sound, &mut given)?;
-    if are_right(alloc, coefficients, channels, &sound, &given) {
-        Ok(())
-    } else {
-        Err("other samples")
-    }
-}
-
-/// The same of so many coefficients: the error says how many.
-fn filters_by(
-    alloc: Global,
-    count: usize,
-    is_fine: bool,
-    channels: usize,
-    frames: usize,
-) -> Result<(), Fail>
-    requires channels { (1 ≤ channels) × (channels ≤ 16) }
-    requires frames { frames ≤ 2 ^ 20 }
-{
-    let coefficients = coefficients(alloc, count, is_fine)?;
-    match filters(alloc, &coefficients, channels, frames) {
-        Ok(()) => Ok(()),
-        Err(fault) => Err(format!(in alloc; "{fault} by {count} coefficients")?.into()),
-    }
-}
-
-/// Counts of coefficients of six decimals beside those where another way of adding begins.
+/// The rows of `fir`.
 #[test]
-fn fir_of_many(rt: HostRuntime) -> Result<(), Fail> {
-    for count in [127, 128, 129, 159, 160, 255, 256, 1023, 1024] {
-        filters_by(rt.alloc(), count, false, 1, 6000)?;
-    }
-    Ok(())
+fn fir_rows(rt: HostRuntime) -> Result<(), &'static str> {
+    let alloc = rt.alloc();
+    let quarter = gain("0.25")?;
+    let low_pass = [quarter, gain("0.5")?, quarter];
+    filters(alloc, &low_pass, "low pass: 4 8 -> 4 5")?;
+    let text = "# low pass\n0.25 0.5 # mid\n0.25";
+    filters_by_file(alloc, text, "low pass of a file: 4 8 -> 4 5")?;
+    filters(alloc, &[gain("0")?, gain("1")?], "two: 4 8 -> 0 4")
 }
 
-/// The same of coefficients of eleven decimals.
-#[test]
-fn fir_of_many_fine(rt: HostRuntime) -> Result<(), Fail> {
-    for count in [255, 256, 511, 1024] {
-        filters_by(rt.alloc(), count, true, 1, 6000)?;
-    }
-    Ok(())
+/// Freezes a `fir` and makes it again.
+fn fir_thawed(alloc: Global) -> Result<(), &'static str> {
+    let half = gain("0.5")?;
+    let (fir, frames) = frozen(alloc, Fir::new(alloc, 2, &[half, half]))?;
+    let made = Fir::thaw(alloc, 2, &[half, half], &frames, &fir.counters());
+    comes_back(fir, made, "no fir, or another one")
 }
 
-/// Frames of two channels and of sixteen.
+/// Each request of a `fir` for memory refused in turn.
 #[test]
-fn fir_of_many_channels(rt: HostRuntime) -> Result<(), Fail> {
-    for is_fine in [false, true] {
-        filters_by(rt.alloc(), 500, is_fine, 2, 5000)?;
-        filters_by(rt.alloc(), 500, is_fine, 16, 2500)?;
-    }
-    Ok(())
+fn growth_fir(rt: HostRuntime) -> Result<(), &'static str> {
+    say(&rt, fir_thawed(rt.alloc()))
 }
 
-/// Sounds that are shorter than the coefficients, and hardly longer.
+/// A frame in hand after the end.
 #[test]
-fn fir_of_short_sounds(rt: HostRuntime) -> Result<(), Fail> {
-    for frames in [0, 1, 511, 512, 1023, 1024] {
-        filters_by(rt.alloc(), 1024, false, 1, frames)?;
-    }
-    Ok(())
+fn fir_refused(rt: HostRuntime) -> Result<(), &'static str> {
+    let unity = gain("1")?;
+    let frames = [WideFrame::from_frame(Frame::two(7, 7))];
+    let fir = Fir::thaw(rt.alloc(), 2, &[unity], &frames, &[1, 0, 1, 0, 1, 0, 1, 0]);
+    refused(fir, "a fir with a frame after the end")
 }
