@@ -1,18 +1,23 @@
 """The rules of command lines and plans, computed from whole texts with exact fractions.
 
-It shares nothing with the program. `answers(lines)` gives what has to come of lines as crates/tests_plan_lines reads them.
+It shares nothing with the program but the order of the effects' names. The rules of the effects stand in scripts/rules.
+`answers(lines)` gives what has to come of lines as crates/tests_plan_lines reads them.
 """
 
+import importlib
+import pkgutil
 import re
 import sys
-from fractions import Fraction
 
-import compare_texts as texts
+import rules
+from effect_names import effect_names
+from rules import Effect, Refused
 
-WHOLE_SOUND = "reverse norm repeat".split()
-LEFT_OUT = """allpass band bandpass bandreject bass bend biquad channels chorus compand contrast deemph dither earwax
-equalizer flanger gain highpass hilbert ladspa loudness lowpass mcompand noiseprof noisered oops overdrive phaser pitch
-rate reverb riaa silence sinc spectrogram speed splice stat stats stretch swap synth tempo treble tremolo vad""".split()
+# All effects of SoX 14.4.2.
+SOX = """allpass band bandpass bandreject bass bend biquad channels chorus compand contrast dcshift deemph delay dither downsample
+earwax echo echos equalizer fade fir flanger gain highpass hilbert ladspa loudness lowpass mcompand noiseprof noisered norm oops
+overdrive pad phaser pitch rate remix repeat reverb reverse riaa silence sinc spectrogram speed splice stat stats stretch swap
+synth tempo treble tremolo trim upsample vad vol""".split()
 
 LINE_FAULTS = "MissingFile BadOption NoOutputType BadBits".split()
 PLAN_FAULTS = """UnknownEffect NotInProfile NeedsWholeSound WrongCount BadArgument OutOfRange PositionBehind NoSuchChannel
@@ -20,282 +25,21 @@ TooManyChannels RateNotDivisible RateTooLarge TooManyEffects BadCoefficients Hol
 
 sys.set_int_max_str_digits(0)
 
-ONE = texts.TRILLIONTHS
 WAVE = {8: "U8", 16: "S16Le", 24: "S24Le", 32: "S32Le"}
 AU = {8: "S8", 16: "S16Be", 24: "S24Be", 32: "S32Be"}
 
 
-class Refused(Exception):
-    """A fault of an effect's words: its name and the word's number."""
-
-    def __init__(self, name, word):
-        super().__init__(name)
-        self.name, self.word = name, word
-
-
-def read(word, reader, *arguments):
-    """What a parser of texts gives, its faults as faults of this word."""
-    try:
-        return reader(*arguments)
-    except texts.Fault as fault:
-        name = "OutOfRange" if str(fault) in ("OutOfRange", "TooFar") else "BadArgument"
-        raise Refused(name, word) from fault
+def profile():
+    """The rules of all modules, in the order of the programs' table; those that it lacks come last."""
+    for module in pkgutil.iter_modules(rules.__path__):
+        importlib.import_module(f"rules.{module.name}")
+    names = effect_names()
+    return {name: rules.RULES[name] for name in sorted(rules.RULES, key=lambda name: [*names, name].index(name))}
 
 
-def read_gain(word, text, least, most):
-    value = read(word, texts.gain, text)
-    if not least * ONE <= value <= most * ONE:
-        raise Refused("OutOfRange", word)
-    return value
-
-
-def read_position(word, text, rate, default, previous):
-    at = read(word, texts.position, text, rate, default, previous)
-    anchor, frames = re.fullmatch(r"(Start|End)\((\d+)\)", at).groups()
-    return anchor.lower(), int(frames)
-
-
-def count(words, least, most):
-    if len(words) < least:
-        raise Refused("WrongCount", 1)
-    if len(words) > most:
-        raise Refused("WrongCount", most + 2)
-
-
-def in_order(positions):
-    for number, (before, after) in enumerate(zip(positions, positions[1:]), 3):
-        if before[0] == after[0]:
-            behind = after[1] < before[1] if after[0] == "start" else after[1] > before[1]
-            if behind:
-                raise Refused("PositionBehind", number)
-
-
-def greatest_end(positions):
-    return max([frames for anchor, frames in positions if anchor == "end"], default=0)
-
-
-class Effect:
-    """What an effect holds and makes: its line, how late it gives, the frames of n, and the layout behind it."""
-
-    def __init__(self, rate, channels, line=0, late=0, more=0, times=Fraction(1)):
-        self.rate, self.channels, self.line, self.late, self.more, self.times = rate, channels, line, late, more, times
-
-    def most(self, frames):
-        return -(-(frames * self.times.numerator) // self.times.denominator) + self.more
-
-
-# The effects by their names, in the order in which they stand below.
-PROFILE = {}
-
-
-def in_profile(function):
-    """Puts an effect into the profile: its function has its name."""
-    PROFILE[function.__name__] = function
-    return function
-
-
-@in_profile
-def trim(words, rate, channels, file):
-    count(words, 1, 64)
-    positions = []
-    for number, text in enumerate(words, 2):
-        previous = positions[-1] if positions else ("start", 0)
-        positions.append(read_position(number, text, rate, "previous", previous))
-    in_order(positions)
-    return Effect(rate, channels, line=greatest_end(positions), late=greatest_end(positions))
-
-
-@in_profile
-def pad(words, rate, channels, file):
-    count(words, 1, 64)
-    positions, total = [], 0
-    for number, text in enumerate(words, 2):
-        length, mark, place = text.partition("@")
-        if not mark and 2 < number < len(words) + 1:
-            raise Refused("BadArgument", number)
-        total += read(number, texts.time, length, rate)
-        previous = positions[-1] if positions else ("start", 0)
-        if mark:
-            positions.append(read_position(number, place, rate, "start", previous))
-        else:
-            positions.append(("start", 0) if number == 2 else ("end", 0))
-    in_order(positions)
-    return Effect(rate, channels, line=greatest_end(positions), late=greatest_end(positions), more=total)
-
-
-@in_profile
-def delay(words, rate, channels, file):
-    count(words, 1, len(words))
-    if len(words) > channels:
-        raise Refused("NoSuchChannel", channels + 2)
-    previous = ("start", 0)
-    delays = []
-    for number, text in enumerate(words, 2):
-        previous = read_position(number, text, rate, "start", previous)
-        if previous[0] == "end":
-            raise Refused("NeedsWholeSound", number)
-        delays.append(previous[1])
-    return Effect(rate, channels, line=max(delays), more=max(delays))
-
-
-def echo_delays(words, rate):
-    if len(words) > 16:
-        raise Refused("WrongCount", 18)
-    if len(words) < 4 or len(words) % 2:
-        raise Refused("WrongCount", 1)
-    read_gain(2, words[0], 0, 1)
-    read_gain(3, words[1], 0, 1000)
-    delays = []
-    for number, text in enumerate(words[2:], 4):
-        if number % 2:
-            read_gain(number, text, 0, 1)
-        else:
-            delays.append(read(number, texts.millis, text, rate))
-    return delays
-
-
-@in_profile
-def echo(words, rate, channels, file):
-    longest = max(echo_delays(words, rate))
-    return Effect(rate, channels, line=longest, more=longest)
-
-
-@in_profile
-def echos(words, rate, channels, file):
-    total = sum(echo_delays(words, rate))
-    return Effect(rate, channels, line=total, more=total)
-
-
-@in_profile
-def fade(words, rate, channels, file):
-    count(words, 1, 4)
-    if words == ["t"]:
-        raise Refused("WrongCount", 1)
-    if words[0] != "t":
-        raise Refused("NotInProfile", 2)
-    out = read(3, texts.time, words[1], rate)
-    line = 0
-    if len(words) > 2:
-        anchor, frames = read_position(4, words[2], rate, "start", ("start", 0))
-        if len(words) > 3:
-            out = read(5, texts.time, words[3], rate)
-        if anchor == "end" or frames == 0:
-            line = frames + out
-    return Effect(rate, channels, line=line, late=line)
-
-
-@in_profile
-def vol(words, rate, channels, file):
-    count(words, 1, 3)
-    if words[0].endswith(("dB", "power")):
-        raise Refused("NotInProfile", 2)
-    read(2, texts.gain, words[0])
-    if len(words) > 1 and words[1] != "amplitude":
-        raise Refused("NotInProfile" if words[1] in ("power", "dB") else "BadArgument", 3)
-    if len(words) > 2:
-        raise Refused("NotInProfile", 4)
-    return Effect(rate, channels)
-
-
-@in_profile
-def dcshift(words, rate, channels, file):
-    count(words, 1, 2)
-    read_gain(2, words[0], -2, 2)
-    if len(words) > 1:
-        raise Refused("NotInProfile", 3)
-    return Effect(rate, channels)
-
-
-def coefficients(data):
-    """How many numbers a coefficient file has; None where it is bad."""
-    if len(data) > 2**20:
-        return None
-    bare = re.sub(rb"#[^\n]*", b"", data)
-    words = [word for word in re.split(rb"[ \t\n\r\v\f]+", bare) if word]
-    try:
-        for word in words:
-            texts.gain(word.decode())
-    except (texts.Fault, UnicodeDecodeError):
-        return None
-    return len(words) if 1 <= len(words) <= 1024 else None
-
-
-@in_profile
-def fir(words, rate, channels, file):
-    count(words, 0, 1024)
-    if len(words) < 2:
-        if not words or words == ["-"]:
-            raise Refused("NotInProfile", len(words) + 1)
-        taps = coefficients(file)
-        if taps is None:
-            raise Refused("BadCoefficients", 2)
-        return Effect(rate, channels, line=taps - 1, late=(taps - 1) // 2)
-    for number, text in enumerate(words, 2):
-        read(number, texts.gain, text)
-    return Effect(rate, channels, line=len(words) - 1, late=(len(words) - 1) // 2)
-
-
-def contributions(number, text, channels):
-    """How many channels an in-spec names."""
-    form = re.fullmatch(r"([0-9]*)(-?)([0-9]*)(?:([vip])(.*))?", text, re.DOTALL)
-    if form is None or not form[1] + form[2]:
-        raise Refused("BadArgument", number)
-    first = int(form[1] or 1)
-    last = int(form[3] or channels) if form[2] else first
-    if 0 in (first, last):
-        raise Refused("BadArgument", number)
-    if form[4] in ("p", "i") and form[5]:
-        raise Refused("NotInProfile", number)
-    if form[4] == "v" and form[5]:
-        read(number, texts.gain, form[5])
-    if first > channels or last > channels:
-        raise Refused("NoSuchChannel", number)
-    return abs(last - first) + 1
-
-
-@in_profile
-def remix(words, rate, channels, file):
-    skipped = 1 if words[:1] and words[0] in ("-a", "-m", "-p") else 0
-    specs = words[skipped:]
-    count(specs, 1, len(specs))
-    if len(specs) > 16:
-        raise Refused("TooManyChannels", 18 + skipped)
-    if words[0] == "-p":
-        raise Refused("NotInProfile", 2)
-    for number, text in enumerate(specs, 2 + skipped):
-        if text != "0":
-            if sum(contributions(number, part, channels) for part in text.split(",")) > 64:
-                raise Refused("OutOfRange", number)
-    return Effect(rate, len(specs))
-
-
-def factor(words):
-    count(words, 0, 1)
-    if not words:
-        return 1, 2
-    if not re.fullmatch("[0-9]+", words[0]):
-        raise Refused("BadArgument", 2)
-    if not 1 <= int(words[0]) <= 256:
-        raise Refused("OutOfRange", 2)
-    return 2, int(words[0])
-
-
-@in_profile
-def upsample(words, rate, channels, file):
-    word, times = factor(words)
-    if rate * times > 2**32 - 1:
-        raise Refused("RateTooLarge", word)
-    return Effect(rate * times, channels, times=Fraction(times))
-
-
-@in_profile
-def downsample(words, rate, channels, file):
-    word, times = factor(words)
-    if rate % times:
-        raise Refused("RateNotDivisible", word)
-    return Effect(rate // times, channels, times=Fraction(1, times))
-
-
+PROFILE = profile()
+WHOLE_SOUND = [name for name in ("reverse", "norm", "repeat") if name not in PROFILE]
+LEFT_OUT = [name for name in SOX if name not in PROFILE and name not in WHOLE_SOUND]
 NAMES = [*PROFILE, *WHOLE_SOUND, *LEFT_OUT]
 
 
@@ -309,7 +53,7 @@ def read_effect(number, words, rate, channels, file):
         raise Refused("NotInProfile", 1)
     if name not in PROFILE:
         raise Refused("UnknownEffect", 1)
-    return PROFILE[name](rest, rate, channels, file)
+    return PROFILE[name].read(rest, rate, channels, file)
 
 
 def effects_of(words):
