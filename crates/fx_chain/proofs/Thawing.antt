@@ -10,8 +10,8 @@ use Rattle.fx_plan.specs.Planning.{Planning}
 use Rattle.fx_stages.specs.declared.stage.EffectStage.{EffectStage}
 use Rattle.fx_stages.specs.declared.thaw.EffectArguments.{EffectArguments}
 use Rattle.fx_stages.specs.Stages.{effect_acts, recipe_of}
-use Rattle.fx_stages.specs.Made.{recipes_for}
-use Rattle.fx_stages.specs.Thawed.{placed, placing, recipe_with}
+use Rattle.fx_stages.specs.Made.{placed, recipes_for}
+use Rattle.fx_stages.specs.Thawed.{placing, recipe_with}
 use Rattle.fx_stages.proofs.Thawing.{made-recipes, recipes-made, recipes-with}
 
 module _ (xs : List EffectArguments) (channels : ℕ) (acts : List Act) (places : map placing xs ≡ placed channels acts) where

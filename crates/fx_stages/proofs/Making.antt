@@ -1,9 +1,10 @@
 -- What a plan says of an effect is what its stage asks for.
-use Rattle.std.proofs.Common.{◌≡◌, ℕ, ◌≤◌, ◌<◌, List, [], ◌∷◌, ◌++◌, true, length, refl, arith, ap, ◌∙◌}
-use Rattle.std.specs.Prelude.{unsigned_abs, nat_le, nat_lt, ◌&&◌}
+use Rattle.std.proofs.Common.{◌≡◌, ℕ, ◌≤◌, ◌<◌, List, [], ◌∷◌, ◌++◌, true, length, refl, arith, ap, sym, ◌∙◌}
+use Rattle.std.specs.Prelude.{Bool, unsigned_abs, nat_le, nat_lt, ◌&&◌}
 use Rattle.std.specs.List.{All, list_all}
 use Rattle.std.proofs.lemmas.Bool.{and_parts}
 use Rattle.std.proofs.lemmas.List.Elements.{All-cons, All-nil}
+use Rattle.std.proofs.lemmas.List.Folds.{list_all-map}
 use Rattle.smallvec.specs.SmallVec.{SmallVec}
 use Rattle.std.proofs.lemmas.Bool.Decides.{nat_tests}
 use Rattle.fx_cut.specs.Pad.{IsPads, RisesFrom, ats}
@@ -45,19 +46,15 @@ pads-are pads h =
     let parts = and_parts (are_rising 0 (ats pads)) _ h in
     record { rising = rises 0 pads parts.0; short = grind (arith, nat_tests, parts.1) }
 
-pub delays-are : (taps : List Tap) → list_all is_tap taps ≡ true → All (λ e. 1 ≤ e.0) taps
-delays-are [] h = All-nil (λ (e : Tap). 1 ≤ e.0)
-delays-are (t ∷ taps) h =
-    let parts = and_parts (is_tap t) (list_all is_tap taps) h in
-    let here = and_parts (nat_le 1 t.0) (nat_le (unsigned_abs t.1) UNIT) parts.0 in
-    All-cons (λ (e : Tap). 1 ≤ e.0) t taps (grind (arith, nat_tests, here.0)) (delays-are taps parts.1)
+-- what follows of each where all pass a test
+all-hold : {X : Type 0} (p : X → Bool) (P : X → Type 0) → ((x : X) → p x ≡ true → P x) → (xs : List X) → list_all p xs ≡ true → All P xs
+all-hold p P each [] h = All-nil P
+all-hold p P each (x ∷ xs) h =
+    let parts = and_parts (p x) (list_all p xs) h in
+    All-cons P x xs (each x parts.0) (all-hold p P each xs parts.1)
 
-pub decays-are : (taps : List Tap) → list_all is_tap taps ≡ true → All (λ e. unsigned_abs e.1 ≤ UNIT) taps
-decays-are [] h = All-nil (λ (e : Tap). unsigned_abs e.1 ≤ UNIT)
-decays-are (t ∷ taps) h =
-    let parts = and_parts (is_tap t) (list_all is_tap taps) h in
-    let here = and_parts (nat_le 1 t.0) (nat_le (unsigned_abs t.1) UNIT) parts.0 in
-    All-cons (λ (e : Tap). unsigned_abs e.1 ≤ UNIT) t taps (grind (arith, nat_tests, here.1)) (decays-are taps parts.1)
+tap-is : (t : Tap) → is_tap t ≡ true → (1 ≤ t.0) × (unsigned_abs t.1 ≤ UNIT)
+tap-is t h = both-no-more 1 t.0 (unsigned_abs t.1) UNIT h
 
 -- what an echo asks of its arguments
 pub record AreEchoes (e : EchoValue) : Type 0 where
@@ -76,29 +73,23 @@ echoes-are e h =
       gain_in = grind (arith, nat_tests, first.0);
       some = grind (arith, nat_tests, second.0);
       few = grind (arith, nat_tests, third.0);
-      delays = delays-are e.taps third.1;
-      decays = decays-are e.taps third.1;
+      delays = all-hold is_tap (λ (t : Tap). 1 ≤ t.0) (λ t k. (tap-is t k).0) e.taps third.1;
+      decays = all-hold is_tap (λ (t : Tap). unsigned_abs t.1 ≤ UNIT) (λ t k. (tap-is t k).1) e.taps third.1;
     }
 
-named-are : (channels : ℕ) (spec : List (ℕ × Weight)) → list_all (λ c. nat_lt c.0 channels) spec ≡ true → All (λ c. c.0 < channels) spec
-named-are channels [] h = All-nil (λ (c : ℕ × Weight). c.0 < channels)
-named-are channels (c ∷ spec) h =
-    let parts = and_parts (nat_lt c.0 channels) (list_all (λ (d : ℕ × Weight). nat_lt d.0 channels) spec) h in
-    All-cons (λ (d : ℕ × Weight). d.0 < channels) c spec (grind (arith, nat_tests, parts.0)) (named-are channels spec parts.1)
+-- what `remix` asks of its out-specs
+mix-is : (channels : ℕ) (spec : List (ℕ × Weight)) → is_mix channels spec ≡ true → (length spec ≤ 64) × All (λ c. c.0 < channels) spec
+mix-is channels spec h =
+    let parts = and_parts (nat_le (length spec) 64) (list_all (λ (c : ℕ × Weight). nat_lt c.0 channels) spec) h in
+    (no-more _ _ parts.0, all-hold (λ (c : ℕ × Weight). nat_lt c.0 channels) (λ (c : ℕ × Weight). c.0 < channels) (λ c k. grind (arith, nat_tests)) spec parts.1)
 
-pub mixes-few : (channels : ℕ) (specs : List (SmallVec (ℕ × Weight))) → list_all (is_mix channels) (specs_in specs) ≡ true → All (λ spec. length spec.items ≤ 64) specs
-mixes-few channels [] h = All-nil (λ (s : SmallVec (ℕ × Weight)). length s.items ≤ 64)
-mixes-few channels (s ∷ specs) h =
-    let parts = and_parts (is_mix channels s.items) (list_all (is_mix channels) (specs_in specs)) h in
-    let here = and_parts (nat_le (length s.items) 64) (list_all (λ (d : ℕ × Weight). nat_lt d.0 channels) s.items) parts.0 in
-    All-cons (λ (t : SmallVec (ℕ × Weight)). length t.items ≤ 64) s specs (grind (arith, nat_tests, here.0)) (mixes-few channels specs parts.1)
-
-pub mixes-named : (channels : ℕ) (specs : List (SmallVec (ℕ × Weight))) → list_all (is_mix channels) (specs_in specs) ≡ true → All (λ spec. All (λ c. c.0 < channels) spec.items) specs
-mixes-named channels [] h = All-nil (λ (s : SmallVec (ℕ × Weight)). All (λ (c : ℕ × Weight). c.0 < channels) s.items)
-mixes-named channels (s ∷ specs) h =
-    let parts = and_parts (is_mix channels s.items) (list_all (is_mix channels) (specs_in specs)) h in
-    let here = and_parts (nat_le (length s.items) 64) (list_all (λ (d : ℕ × Weight). nat_lt d.0 channels) s.items) parts.0 in
-    All-cons (λ (t : SmallVec (ℕ × Weight)). All (λ (c : ℕ × Weight). c.0 < channels) t.items) s specs (named-are channels s.items here.1) (mixes-named channels specs parts.1)
+pub mixes-are : (channels : ℕ) (specs : List (SmallVec (ℕ × Weight))) → list_all (is_mix channels) (specs_in specs) ≡ true
+    → All (λ spec. length spec.items ≤ 64) specs × All (λ spec. All (λ c. c.0 < channels) spec.items) specs
+mixes-are channels specs h =
+    let each = sym (list_all-map (is_mix channels) (λ (s : SmallVec (ℕ × Weight)). s.items) specs) ∙ h in (
+      all-hold _ (λ (s : SmallVec (ℕ × Weight)). length s.items ≤ 64) (λ s k. (mix-is channels s.items k).0) specs each,
+      all-hold _ (λ (s : SmallVec (ℕ × Weight)). All (λ (c : ℕ × Weight). c.0 < channels) s.items) (λ s k. (mix-is channels s.items k).1) specs each,
+    )
 
 -- a new stage behind new ones
 pub AllNew-push : (stages : List EffectStage) (s : EffectStage) → AllNew effect_acts stages → IsNew effect_acts (effect_acts.recipe s) s → AllNew effect_acts (stages ++ s ∷ [])

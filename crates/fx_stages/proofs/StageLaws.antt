@@ -78,13 +78,6 @@ pub record Joins {S R : Type 0} (acts : Acts S R) (wrap : S → EffectStage) : T
   pub kinds : (r : R) → kind_of_recipe (named r) ≡ acts.kind_of r
   pub looks : (s : S) → look_of (wrap s) ≡ look acts named s
 
--- what one of them was passed, alone and in a row, the stage of any effect was
-abbrev pub JoinsPassed : {S R : Type 0} → Acts S R → (S → EffectStage) → Type 0
-JoinsPassed {S} acts wrap = (r : Passing) (s s' : S) (x y : Samples) → PassedOn acts r s s' x y → PassedOn effect_acts r (wrap s) (wrap s') x y
-
-abbrev pub JoinsThrough : {S R : Type 0} → Acts S R → (S → EffectStage) → Type 0
-JoinsThrough {S} acts wrap = (xs ys : List Samples) (s s' : S) → EachThrough acts xs ys s s' → EachThrough effect_acts xs ys (wrap s) (wrap s')
-
 module _ {S R : Type 0} {acts : Acts S R} {wrap : S → EffectStage} (j : Joins acts wrap) where
   same_recipe : (s : S) → effect_acts.recipe (wrap s) ≡ j.named (acts.recipe s)
   same_recipe s = ap (λ (l : Look). l.recipe) (j.looks s)
@@ -101,123 +94,93 @@ module _ {S R : Type 0} {acts : Acts S R} {wrap : S → EffectStage} (j : Joins 
   same_stored : (s : S) → effect_acts.stored (wrap s) ≡ acts.stored s
   same_stored s = ap (λ (l : Look). l.stored) (j.looks s)
 
-  pub passed : JoinsPassed acts wrap
-  passed = PassedOn-along acts effect_acts wrap j.named same_recipe j.kinds same_rest same_counts same_dry same_stored
+  -- what one of them was passed or fed, alone and in a row, the stage of any effect was
+  pub passed : (r : Passing) (s s' : S) (x y : Samples) (e e' : EffectStage) → e ≡ wrap s → e' ≡ wrap s' → PassedOn acts r s s' x y → PassedOn effect_acts r e e' x y
+  passed r s s' x y e e' first last was = rw (first, last) (PassedOn-along acts effect_acts wrap j.named same_recipe j.kinds same_rest same_counts same_dry same_stored r s s' x y was)
 
-  pub fed : (first s : S) (xs gs : List Samples) → Fed acts first xs gs s → Fed effect_acts (wrap first) xs gs (wrap s)
-  fed = Fed-along acts effect_acts wrap j.named same_recipe j.kinds same_rest same_counts same_dry same_stored
+  pub fed : (s s' : S) (xs gs : List Samples) (e e' : EffectStage) → e ≡ wrap s → e' ≡ wrap s' → Fed acts s xs gs s' → Fed effect_acts e xs gs e'
+  fed s s' xs gs e e' first last was = rw (first, last) (Fed-along acts effect_acts wrap j.named same_recipe j.kinds same_rest same_counts same_dry same_stored s s' xs gs was)
 
-  pub through : JoinsThrough acts wrap
-  through = EachThrough-along acts effect_acts wrap j.named same_recipe j.kinds same_rest same_counts same_dry same_stored
+  pub through : (xs ys : List Samples) (s s' : S) (e e' : EffectStage) → e ≡ wrap s → e' ≡ wrap s' → EachThrough acts xs ys s s' → EachThrough effect_acts xs ys e e'
+  through xs ys s s' e e' first last was = rw (first, last) (EachThrough-along acts effect_acts wrap j.named same_recipe j.kinds same_rest same_counts same_dry same_stored xs ys s s' was)
 
 pub trim-joins : Joins trim_acts stages.Trim
 trim-joins = record { named = ForTrim; kinds = λ r. refl; looks = λ s. refl }
 
-pub trim-passed : JoinsPassed trim_acts stages.Trim
-trim-passed = passed trim-joins
-
-pub trim-through : JoinsThrough trim_acts stages.Trim
-trim-through = through trim-joins
-
 pub pad-joins : Joins pad_acts stages.Pad
 pad-joins = record { named = ForPad; kinds = λ r. refl; looks = λ s. refl }
-
-pub pad-passed : JoinsPassed pad_acts stages.Pad
-pad-passed = passed pad-joins
-
-pub pad-through : JoinsThrough pad_acts stages.Pad
-pad-through = through pad-joins
 
 pub fade-joins : Joins fade_acts stages.Fade
 fade-joins = record { named = ForFade; kinds = λ r. refl; looks = λ s. refl }
 
-pub fade-passed : JoinsPassed fade_acts stages.Fade
-fade-passed = passed fade-joins
-
-pub fade-through : JoinsThrough fade_acts stages.Fade
-fade-through = through fade-joins
-
 pub upsample-joins : Joins upsample_acts stages.Upsample
 upsample-joins = record { named = ForUpsample; kinds = λ r. refl; looks = λ s. refl }
-
-pub upsample-passed : JoinsPassed upsample_acts stages.Upsample
-upsample-passed = passed upsample-joins
-
-pub upsample-through : JoinsThrough upsample_acts stages.Upsample
-upsample-through = through upsample-joins
 
 pub downsample-joins : Joins downsample_acts stages.Downsample
 downsample-joins = record { named = ForDownsample; kinds = λ r. refl; looks = λ s. refl }
 
-pub downsample-passed : JoinsPassed downsample_acts stages.Downsample
-downsample-passed = passed downsample-joins
-
-pub downsample-through : JoinsThrough downsample_acts stages.Downsample
-downsample-through = through downsample-joins
-
 pub delay-joins : Joins delay_acts stages.Delay
 delay-joins = record { named = ForDelay; kinds = λ r. refl; looks = λ s. refl }
-
-pub delay-passed : JoinsPassed delay_acts stages.Delay
-delay-passed = passed delay-joins
-
-pub delay-through : JoinsThrough delay_acts stages.Delay
-delay-through = through delay-joins
 
 pub echo-joins : Joins echo_acts stages.Echo
 echo-joins = record { named = ForEcho; kinds = λ r. refl; looks = λ s. refl }
 
-pub echo-passed : JoinsPassed echo_acts stages.Echo
-echo-passed = passed echo-joins
-
-pub echo-through : JoinsThrough echo_acts stages.Echo
-echo-through = through echo-joins
-
 pub echos-joins : Joins echos_acts stages.Echos
 echos-joins = record { named = ForEchos; kinds = λ r. refl; looks = λ s. refl }
-
-pub echos-passed : JoinsPassed echos_acts stages.Echos
-echos-passed = passed echos-joins
-
-pub echos-through : JoinsThrough echos_acts stages.Echos
-echos-through = through echos-joins
 
 pub fir-joins : Joins fir_acts stages.Fir
 fir-joins = record { named = ForFir; kinds = λ r. refl; looks = λ s. refl }
 
-pub fir-passed : JoinsPassed fir_acts stages.Fir
-fir-passed = passed fir-joins
-
-pub fir-through : JoinsThrough fir_acts stages.Fir
-fir-through = through fir-joins
-
 pub remix-joins : Joins remix_acts stages.Remix
 remix-joins = record { named = ForRemix; kinds = λ r. refl; looks = λ s. refl }
-
-pub remix-passed : JoinsPassed remix_acts stages.Remix
-remix-passed = passed remix-joins
-
-pub remix-through : JoinsThrough remix_acts stages.Remix
-remix-through = through remix-joins
 
 pub vol-joins : Joins vol_acts stages.Vol
 vol-joins = record { named = ForVol; kinds = λ r. refl; looks = λ s. refl }
 
-pub vol-passed : JoinsPassed vol_acts stages.Vol
-vol-passed = passed vol-joins
-
-pub vol-through : JoinsThrough vol_acts stages.Vol
-vol-through = through vol-joins
-
 pub dcshift-joins : Joins dcshift_acts stages.DcShift
 dcshift-joins = record { named = ForDcShift; kinds = λ r. refl; looks = λ s. refl }
 
-pub dcshift-passed : JoinsPassed dcshift_acts stages.DcShift
-dcshift-passed = passed dcshift-joins
+-- of stages that map or tap frames the prover wants it in these words
+abbrev pub Passes : {S R : Type 0} → Acts S R → (S → EffectStage) → Type 0
+Passes {S} acts wrap = (r : Passing) (s s' : S) (x y : Samples) → PassedOn acts r s s' x y → PassedOn effect_acts r (wrap s) (wrap s') x y
 
-pub dcshift-through : JoinsThrough dcshift_acts stages.DcShift
-dcshift-through = through dcshift-joins
+abbrev pub Runs : {S R : Type 0} → Acts S R → (S → EffectStage) → Type 0
+Runs {S} acts wrap = (xs ys : List Samples) (s s' : S) → EachThrough acts xs ys s s' → EachThrough effect_acts xs ys (wrap s) (wrap s')
 
-pub ruleset joined_passed = (trim-passed, pad-passed, fade-passed, upsample-passed, downsample-passed, delay-passed, echo-passed, echos-passed, fir-passed, remix-passed, vol-passed, dcshift-passed)
+pub delay-passed : Passes delay_acts stages.Delay
+delay-passed r s s' x y was = passed delay-joins r s s' x y _ _ refl refl was
 
-pub ruleset joined_through = (trim-through, pad-through, fade-through, upsample-through, downsample-through, delay-through, echo-through, echos-through, fir-through, remix-through, vol-through, dcshift-through)
+pub delay-through : Runs delay_acts stages.Delay
+delay-through xs ys s s' was = through delay-joins xs ys s s' _ _ refl refl was
+
+pub echo-passed : Passes echo_acts stages.Echo
+echo-passed r s s' x y was = passed echo-joins r s s' x y _ _ refl refl was
+
+pub echo-through : Runs echo_acts stages.Echo
+echo-through xs ys s s' was = through echo-joins xs ys s s' _ _ refl refl was
+
+pub remix-passed : Passes remix_acts stages.Remix
+remix-passed r s s' x y was = passed remix-joins r s s' x y _ _ refl refl was
+
+pub remix-through : Runs remix_acts stages.Remix
+remix-through xs ys s s' was = through remix-joins xs ys s s' _ _ refl refl was
+
+pub vol-passed : Passes vol_acts stages.Vol
+vol-passed r s s' x y was = passed vol-joins r s s' x y _ _ refl refl was
+
+pub vol-through : Runs vol_acts stages.Vol
+vol-through xs ys s s' was = through vol-joins xs ys s s' _ _ refl refl was
+
+pub dcshift-passed : Passes dcshift_acts stages.DcShift
+dcshift-passed r s s' x y was = passed dcshift-joins r s s' x y _ _ refl refl was
+
+pub dcshift-through : Runs dcshift_acts stages.DcShift
+dcshift-through xs ys s s' was = through dcshift-joins xs ys s s' _ _ refl refl was
+
+pub ruleset joined = (trim-joins, pad-joins, fade-joins, upsample-joins, downsample-joins, echos-joins, fir-joins)
+
+pub ruleset joined_fed = (fed, joined)
+
+pub ruleset joined_passed = (passed, joined, delay-passed, echo-passed, remix-passed, vol-passed, dcshift-passed)
+
+pub ruleset joined_through = (through, joined, delay-through, echo-through, remix-through, vol-through, dcshift-through)

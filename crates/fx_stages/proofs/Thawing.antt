@@ -11,10 +11,10 @@ use Rattle.fx_effects.specs.Bounds.{hold_all}
 use Rattle.fx_effects.specs.Effects.{Act, Usable, channels_after}
 use Rattle.fx_stages.specs.declared.stage.EffectStage.{EffectStage}
 use Rattle.fx_stages.specs.declared.thaw.EffectArguments.{EffectArguments}
-use Rattle.fx_stages.specs.Effects.{EffectRecipe, recipe_for}
+use Rattle.fx_stages.specs.Effects.{EffectRecipe}
 use Rattle.fx_stages.specs.Stages.{effect_acts, recipe_of}
-use Rattle.fx_stages.specs.Made.{all_suit, recipes_for, suits}
-use Rattle.fx_stages.specs.Thawed.{FitsEffect, fits_stage, placed, placing, recipe_with}
+use Rattle.fx_stages.specs.Made.{all_suit, placed, recipe_at, recipes_for, suits}
+use Rattle.fx_stages.specs.Thawed.{FitsEffect, fits_stage, placing, recipe_with}
 use Rattle.fx_stages.proofs.Making.{hold-tail}
 use Rattle.fx_stages.proofs.Planned.{planned}
 
@@ -27,17 +27,13 @@ placed-more xs x channels a acts all is h =
     let one : map placing (xs ++ x ∷ []) ≡ map placing xs ++ placing x ∷ [] = map-append placing xs (x ∷ []) in
     rw (one, append_assoc (map placing xs) (placing x ∷ []) (placed (channels_after channels a) acts), is) h
 
--- the stages of effects are those of the effects with their channels
-pub recipes-placed : (channels : ℕ) (acts : List Act) → map (λ (p : ℕ × Act). recipe_for p.0 p.1) (placed channels acts) ≡ recipes_for channels acts
-recipes-placed channels [] = refl
-recipes-placed channels (a ∷ acts) = ap (λ (rs : List EffectRecipe). recipe_for channels a ∷ rs) (recipes-placed (channels_after channels a) acts)
-
-recipes-placing : (xs : List EffectArguments) → map (λ (p : ℕ × Act). recipe_for p.0 p.1) (map placing xs) ≡ map recipe_with xs
+recipes-placing : (xs : List EffectArguments) → map recipe_at (map placing xs) ≡ map recipe_with xs
 recipes-placing [] = refl
 recipes-placing (x ∷ xs) = ap (λ (rs : List EffectRecipe). recipe_with x ∷ rs) (recipes-placing xs)
 
+-- the stages of effects are those of the effects with their channels
 pub recipes-with : (xs : List EffectArguments) (channels : ℕ) (acts : List Act) → map placing xs ≡ placed channels acts → map recipe_with xs ≡ recipes_for channels acts
-recipes-with xs channels acts h = sym (recipes-placing xs) ∙ ap (map (λ (p : ℕ × Act). recipe_for p.0 p.1)) h ∙ recipes-placed channels acts
+recipes-with xs channels acts h = sym (recipes-placing xs) ∙ ap (map recipe_at) h
 
 pub recipes-made : (xs : List EffectArguments) (stages : List EffectStage) → AllMade (λ a s. recipe_of s ≡ recipe_with a) xs stages → recipes effect_acts stages ≡ map recipe_with xs
 recipes-made [] [] h = refl

@@ -1,9 +1,9 @@
 -- The stages of effects, made again from what they stored and counted (this project's profile).
-use Rattle.std.specs.Prelude.{◌≡◌, ◌≤◌, ◌^◌, ℕ, true, List, [], ◌∷◌}
-use Rattle.fx_effects.specs.Effects.{line_of, Act, Usable, act, channels_after}
+use Rattle.std.specs.Prelude.{◌≡◌, ◌≤◌, ◌^◌, ℕ, true}
+use Rattle.fx_effects.specs.Effects.{line_of, Act, Usable, act}
 use Rattle.fx_stages.specs.declared.thaw.EffectArguments.{EffectArguments}
-use Rattle.fx_stages.specs.Effects.{EffectRecipe, recipe_for}
-use Rattle.fx_stages.specs.Made.{suits}
+use Rattle.fx_stages.specs.Effects.{EffectRecipe}
+use Rattle.fx_stages.specs.Made.{recipe_at, suits}
 
 -- an effect can be a stage that takes frames of so many channels, with a line that is short enough
 pub record FitsEffect (channels : ℕ) (a : Act) : Type 0 where
@@ -23,9 +23,4 @@ fits_stage arguments = FitsEffect arguments.channels (act arguments.effect)
 
 -- the stage that they are for
 abbrev pub recipe_with : EffectArguments → EffectRecipe
-recipe_with arguments = recipe_for arguments.channels (act arguments.effect)
-
--- effects with the channels of the frames that each takes, the first of which takes so many
-abbrev pub placed : ℕ → List Act → List (ℕ × Act)
-placed channels [] = []
-placed channels (a ∷ acts) = (channels, a) ∷ placed (channels_after channels a) acts
+recipe_with arguments = recipe_at (placing arguments)

@@ -1,5 +1,5 @@
 //! The stage of any effect.
-ghost use Rattle.std.specs.Prelude.{◌≡◌, ◌+◌, ◌*◌, ◌≤◌, List, FitsSigned, None, false, true, drop, length, take};
+ghost use Rattle.std.specs.Prelude.{◌≡◌, ◌+◌, ◌*◌, ◌≤◌, List, FitsSigned, false, true, drop, length, take};
 ghost use Rattle.std.specs.Int.{w32};
 ghost use Rattle.std.specs.List.{All};
 ghost use Rattle.fx_step.specs.Frame.{Samples};
@@ -7,16 +7,12 @@ ghost use Rattle.fx_lists.specs.Lists.{pieces};
 ghost use Rattle.fx_step.specs.Row.{EachThrough};
 ghost use Rattle.fx_step.specs.Stage.{kind};
 ghost use Rattle.fx_stages.specs.Stages.{effect_acts};
-ghost use Rattle.fx_frame.specs.Kinds.{most_taken};
-ghost use Rattle.fx_map.specs.PerSampleState.{sample_acts};
 
 use fx_cut::{Downsample, Fade, Pad, Trim, Upsample};
 use fx_fir::Fir;
 use fx_frame::{Feeds, Frame, Passed, Passing, Tally, WideFrame};
 use fx_map::around::pass_around;
 use fx_map::both::pass_both;
-use fx_map::mapped::Mapped;
-use fx_map::per_sample::{PerSample, SamplesMany};
 use fx_map::{DcShift, Remix, Vol};
 use fx_past::{Delay, Echo, Echos};
 use fx_step::stage::Stage;
@@ -119,76 +115,87 @@ impl Stage for EffectStage {
     }
 }
 
-/// Passes so many frames in front of the input through a dry stage that rounds each sample alone and the one behind it, where
-/// that is such a stage too: each frame through both before the next. Answers how many.
-fn pass_behind<A: SamplesMany + Drop>(
-    first: &mut Mapped<PerSample<A>>,
+/// The same call on the stage of an effect that rounds each sample alone; for that of any other the function answers 0.
+macro_rules! each_by_samples {
+    ($effect:expr, $stage:ident => $call:expr) => {
+        match $effect {
+            EffectStage::Vol($stage) => $call,
+            EffectStage::DcShift($stage) => $call,
+            _ => return 0,
+        }
+    };
+}
+
+/// Passes so many frames in front of the input through two dry stages, where each rounds each sample alone: each frame through
+/// both before the next. Answers how many.
+fn pass_two(
+    first: &mut EffectStage,
     second: &mut EffectStage,
     count: usize,
     input: &[i32],
     output: &mut [i32],
 ) -> usize
-    requires first_dry { first.old.hand ≡ None }
-    requires first_open { first.old.ended ≡ false }
-    requires first_few { first.old.taken + count ≤ most_taken }
+    requires first_dry { effect_acts.dry first.old ≡ true }
+    requires first_open { (effect_acts.counts first.old).ended ≡ false }
+    requires first_few { (effect_acts.counts first.old).taken + count ≤ (kind effect_acts first.old).limit }
     requires second_dry { effect_acts.dry second.old ≡ true }
     requires second_open { (effect_acts.counts second.old).ended ≡ false }
-    requires follows { (effect_acts.counts second.old).taken ≡ first.old.given }
-    requires channels { (kind effect_acts second.old).inputs ≡ first.old.mapping.channels }
-    requires input { count * first.old.mapping.channels ≤ length input.now }
+    requires follows { (effect_acts.counts second.old).taken ≡ (effect_acts.counts first.old).given }
+    requires channels { (kind effect_acts second.old).inputs ≡ (kind effect_acts first.old).outputs }
+    requires input { count * (kind effect_acts first.old).inputs ≤ length input.now }
     requires room { count * (kind effect_acts second.old).outputs ≤ length output.old }
     ensures few { result ≤ count }
-    ensures keeps { 1 ≤ result → (kind effect_acts second.old).outputs ≡ first.old.mapping.channels }
-    ensures samples { All (FitsSigned w32) (take (result * first.old.mapping.channels) input.now) }
-    ensures through { (between : List Samples) × EachThrough (sample_acts A.rounded) (pieces first.old.mapping.channels result input.now) between first.old first.new × EachThrough effect_acts between (pieces first.old.mapping.channels result output.new) second.old second.new }
-    ensures behind { drop (result * first.old.mapping.channels) output.new ≡ drop (result * first.old.mapping.channels) output.old }
+    ensures keeps { 1 ≤ result → (kind effect_acts second.old).outputs ≡ (kind effect_acts first.old).inputs }
+    ensures samples { All (FitsSigned w32) (take (result * (kind effect_acts first.old).inputs) input.now) }
+    ensures through { (between : List Samples) × EachThrough effect_acts (pieces (kind effect_acts first.old).inputs result input.now) between first.old first.new × EachThrough effect_acts between (pieces (kind effect_acts second.old).outputs result output.new) second.old second.new }
+    ensures behind { drop (result * (kind effect_acts second.old).outputs) output.new ≡ drop (result * (kind effect_acts second.old).outputs) output.old }
 {
-    match second {
-        EffectStage::Vol(second) => pass_both(first, second, count, input, output),
-        EffectStage::DcShift(second) => pass_both(first, second, count, input, output),
-        _ => return 0,
-    }
+    each_by_samples!(first, first => each_by_samples!(second, second => {
+        pass_both(first, second, count, input, output);
+    }));
     count
 }
 
-/// Passes so many frames in front of the input through a dry stage that rounds each sample alone, a dry `remix` and the one
-/// behind it, where that rounds each sample alone too: each frame through all three before the next. Answers how many.
-fn pass_remixed<A: SamplesMany + Drop>(
-    first: &mut Mapped<PerSample<A>>,
-    middle: &mut Remix,
+/// Passes so many frames in front of the input through three dry stages, where the middle one is a `remix` and the others round
+/// each sample alone: each frame through all three before the next. Answers how many.
+fn pass_three(
+    first: &mut EffectStage,
+    middle: &mut EffectStage,
     last: &mut EffectStage,
     count: usize,
     input: &[i32],
     output: &mut [i32],
 ) -> usize
-    requires first_dry { first.old.hand ≡ None }
-    requires first_open { first.old.ended ≡ false }
-    requires first_few { first.old.taken + count ≤ most_taken }
-    requires middle_dry { middle.old.hand ≡ None }
-    requires middle_open { middle.old.ended ≡ false }
-    requires middle_follows { middle.old.taken ≡ first.old.given }
-    requires middle_channels { middle.old.mapping.channels ≡ first.old.mapping.channels }
+    requires first_dry { effect_acts.dry first.old ≡ true }
+    requires first_open { (effect_acts.counts first.old).ended ≡ false }
+    requires first_few { (effect_acts.counts first.old).taken + count ≤ (kind effect_acts first.old).limit }
+    requires middle_dry { effect_acts.dry middle.old ≡ true }
+    requires middle_open { (effect_acts.counts middle.old).ended ≡ false }
+    requires middle_follows { (effect_acts.counts middle.old).taken ≡ (effect_acts.counts first.old).given }
+    requires middle_channels { (kind effect_acts middle.old).inputs ≡ (kind effect_acts first.old).outputs }
     requires last_dry { effect_acts.dry last.old ≡ true }
     requires last_open { (effect_acts.counts last.old).ended ≡ false }
-    requires last_follows { (effect_acts.counts last.old).taken ≡ middle.old.given }
-    requires last_channels { (kind effect_acts last.old).inputs ≡ length middle.old.mapping.outs }
-    requires input { count * first.old.mapping.channels ≤ length input.now }
+    requires last_follows { (effect_acts.counts last.old).taken ≡ (effect_acts.counts middle.old).given }
+    requires last_channels { (kind effect_acts last.old).inputs ≡ (kind effect_acts middle.old).outputs }
+    requires input { count * (kind effect_acts first.old).inputs ≤ length input.now }
     requires room { count * (kind effect_acts last.old).outputs ≤ length output.old }
     ensures few { result ≤ count }
     ensures frame { 1 ≤ result → 1 ≤ (kind effect_acts last.old).outputs }
-    ensures samples { All (FitsSigned w32) (take (result * first.old.mapping.channels) input.now) }
-    ensures through { (before after : List Samples) × EachThrough (sample_acts A.rounded) (pieces first.old.mapping.channels result input.now) before first.old first.new × EachThrough effect_acts before after (EffectStage.Remix middle.old) (EffectStage.Remix middle.new) × EachThrough effect_acts after (pieces (kind effect_acts last.old).outputs result output.new) last.old last.new }
+    ensures samples { All (FitsSigned w32) (take (result * (kind effect_acts first.old).inputs) input.now) }
+    ensures through { (before after : List Samples) × EachThrough effect_acts (pieces (kind effect_acts first.old).inputs result input.now) before first.old first.new × EachThrough effect_acts before after middle.old middle.new × EachThrough effect_acts after (pieces (kind effect_acts last.old).outputs result output.new) last.old last.new }
     ensures behind { drop (result * (kind effect_acts last.old).outputs) output.new ≡ drop (result * (kind effect_acts last.old).outputs) output.old }
 {
-    match last {
-        EffectStage::Vol(last) => pass_around(first, middle, last, count, input, output),
-        EffectStage::DcShift(last) => pass_around(first, middle, last, count, input, output),
-        _ => return 0,
-    }
+    let EffectStage::Remix(middle) = middle else {
+        return 0;
+    };
+    each_by_samples!(first, first => each_by_samples!(last, last => {
+        pass_around(first, middle, last, count, input, output);
+    }));
     count
 }
 
 impl Feeds for EffectStage {
+    #[tactic(auto, using(crate::proofs::StageLaws::joined_fed))]
     fn feed(&mut self, input: &[i32], output: &mut [i32]) -> Passed {
         each!(self, stage => stage.feed(input, output))
     }
@@ -215,29 +222,19 @@ impl Feeds for EffectStage {
         input: &[i32],
         output: &mut [i32],
     ) -> usize {
-        if stages.len() == 2 {
-            let (front, back) = stages.split_at_mut(1);
-            let second = &mut back[0];
-            return match &mut front[0] {
-                EffectStage::Vol(first) => pass_behind(first, second, count, input, output),
-                EffectStage::DcShift(first) => pass_behind(first, second, count, input, output),
-                _ => 0,
-            };
-        }
-        if stages.len() != 3 {
-            return 0;
-        }
-        let (front, rest) = stages.split_at_mut(1);
-        let (middle, back) = rest.split_at_mut(1);
-        let last = &mut back[0];
-        let EffectStage::Remix(middle) = &mut middle[0] else {
+        let Some((first, rest)) = stages.split_first_mut() else {
             return 0;
         };
-        match &mut front[0] {
-            EffectStage::Vol(first) => pass_remixed(first, middle, last, count, input, output),
-            EffectStage::DcShift(first) => pass_remixed(first, middle, last, count, input, output),
-            _ => 0,
+        let Some((second, rest)) = rest.split_first_mut() else {
+            return 0;
+        };
+        let Some((third, rest)) = rest.split_first_mut() else {
+            return pass_two(first, second, count, input, output);
+        };
+        if !rest.is_empty() {
+            return 0;
         }
+        pass_three(first, second, third, count, input, output)
     }
 
     fn ahead(&self) -> u64 {

@@ -1,7 +1,8 @@
 //! What the stages of effects are thawed with.
 ghost use Rattle.std.specs.Prelude.{◌≡◌, IfOk, map};
 ghost use Rattle.fx_effects.specs.Effects.{act};
-ghost use Rattle.fx_stages.specs.Thawed.{placed, placing};
+ghost use Rattle.fx_stages.specs.Made.{placed};
+ghost use Rattle.fx_stages.specs.Thawed.{placing};
 
 use fx_effects::Effect;
 use std::alloc::{AllocError, Global};

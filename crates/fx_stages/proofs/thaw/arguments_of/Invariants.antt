@@ -1,6 +1,7 @@
 use Rattle.std.proofs.Common.{◌≡◌, ◌++◌, length, map}
 use Rattle.fx_effects.specs.Effects.{act}
-use Rattle.fx_stages.specs.Thawed.{placed, placing}
+use Rattle.fx_stages.specs.Made.{placed}
+use Rattle.fx_stages.specs.Thawed.{placing}
 use Rattle.fx_stages.proofs.thaw.arguments_of.Given as goal
 
 abbrev pub decreases-loop-first : goal.decreases-loop-first
