@@ -33,6 +33,7 @@ use Rattle.fx_run.specs.Run.{RanToEnd, WantsMore, sound_frames}
 use Rattle.fx_run.proofs.Passing.{WantsMore-next}
 use Rattle.fx_run.proofs.Reaching.{clips-reached}
 use Rattle.fx_chain.specs.Theorem.{Broken, Due, Ran, frames_read, given_due, kinds_of, lacks, reported, reported_due, sound_in, strays, until_enough, written_due}
+use Rattle.fx_lists.proofs.Pieces.{length-pieces, pieces-first}
 
 -- a frame takes some bytes
 frame-some : (coding : Coding) (channels : ℕ) → 0 < channels → 0 < frame_size coding channels
@@ -44,16 +45,6 @@ frame-some S24Le channels h = omega arith
 frame-some S24Be channels h = omega arith
 frame-some S32Le channels h = omega arith
 frame-some S32Be channels h = omega arith
-
-length-pieces : (size n : ℕ) (xs : List ℕ) → length (pieces size n xs) ≡ n
-length-pieces size zero xs = refl
-length-pieces size (suc n) xs = ap suc (length-pieces size n (drop size xs))
-
--- the first of all pieces
-take-pieces : (size n m : ℕ) (xs : List ℕ) → n ≤ m → take n (pieces size m xs) ≡ pieces size n xs
-take-pieces size zero m xs h = refl
-take-pieces size (suc n) zero xs h = absurd (omega arith)
-take-pieces size (suc n) (suc m) xs h = ap (λ l. take size xs ∷ l) (take-pieces size n m (drop size xs) (omega arith))
 
 -- how many whole frames a sound has
 pub sound-count : (h : Head) (bytes : List ℕ) → length (sound_in h bytes) ≡ length (within h.announced bytes) / frame_size h.coding h.channels
@@ -72,7 +63,7 @@ sound-first h n bytes some room =
     let sound : List ℕ = within h.announced bytes in
     let part = le-div n (length sound) size (frame-some h.coding h.channels some) room in
     sym (first_frames-within h.coding h.channels n h.announced bytes room)
-    ∙ ap (map (samples_of h.coding h.channels)) (sym (take-pieces size n (length sound / size) sound part))
+    ∙ ap (map (samples_of h.coding h.channels)) (sym (pieces-first size n (length sound / size) sound part))
     ∙ sym (take-map (samples_of h.coding h.channels) n (pieces size (length sound / size) sound))
 
 -- frames are read until some effect has enough, or to the end

@@ -1,5 +1,5 @@
 -- Sums of samples times small weights, tap by tap and side by side.
-use Rattle.std.proofs.Common.{◌≡◌, ℕ, replicate, ◌+◌, ◌-◌, ◌*◌, ◌^◌, ◌<◌, ◌≤◌, Bool, true, false, List, [], ◌∷◌, ◌++◌, length, take, drop, get_or, refl, sym, ap, ◌∙◌, arith, ℤ, pos, ◌+ℤ◌, ◌*ℤ◌, length-append}
+use Rattle.std.proofs.Common.{◌≡◌, ℕ, replicate, ◌+◌, ◌-◌, ◌*◌, ◌^◌, ◌<◌, ◌≤◌, Bool, true, false, List, [], ◌++◌, length, take, drop, get_or, refl, sym, ap, ◌∙◌, arith, ℤ, pos, ◌+ℤ◌, ◌*ℤ◌, length-append}
 use Rattle.std.specs.Prelude.{sum_by, unsigned_abs, nat_lt}
 use Rattle.std.specs.Simd.Lanes.{chunk, put_chunk, zip2}
 use borrow.Rule.Slice.PartMut.{put_mid}
@@ -12,6 +12,7 @@ use Rattle.fx_convolve.specs.Lanes.{LanesWithin, Within}
 use Rattle.fx_convolve.specs.Products.{sum_of_products}
 use Rattle.fx_convolve.proofs.ProductBounds.{sum_of_products-drop}
 use Rattle.fx_convolve.proofs.Magnitudes.{added-few, scaled-few}
+use Rattle.fx_convolve.proofs.Cyclic.{nothing}
 
 -- the products before a tap are added; with those to come it is the whole sum, and it has room for them
 pub record Adding (xs ws : List ℤ) (tap : ℕ) (s : ℤ) : Type 0 where
@@ -54,15 +55,11 @@ Adding-next xs ws tap s t in_ws in_xs sample more a =
       few = rw more (next-few s (x *ℤ w) (2 ^ 31) (unsigned_abs w) _ _ product refl a.few (one-fewer ws tap in_ws));
     }
 
-drop-sum : (xs : List ℤ) → sum_of_products xs [] ≡ pos 0
-drop-sum [] = refl
-drop-sum (x ∷ xs) = refl
-
 -- after the last tap
 pub Adding-last : (xs ws : List ℤ) (tap : ℕ) (s : ℤ) → length ws ≤ tap → Adding xs ws tap s → s ≡ sum_of_products xs ws
 Adding-last xs ws tap s over a =
     let none : drop tap ws ≡ [] = drop_all tap ws over in
-    let whole = rw (none, drop-sum (drop tap xs)) at a.value in
+    let whole = rw (none, nothing (drop tap xs)) at a.value in
     omega (arith, ints, whole)
 
 pub Adding-few : (xs ws : List ℤ) (tap : ℕ) (s : ℤ) → Adding xs ws tap s → unsigned_abs s ≤ 2 ^ 61

@@ -35,17 +35,14 @@ drop_back (x ∷ u) v k =
 
 -- ---- one list plus r times another
 
+none : (r : ℤ) → pos 0 ≡ pos 0 +ℤ (r *ℤ pos 0)
+none r = let z = product_is r (pos 0) in omega (arith, ints)
+
 pub combined_left : (r : ℤ) (u v h : List ℤ) → length u ≡ length v → sum_of_products (combined r u v) h ≡ sum_of_products u h +ℤ (r *ℤ sum_of_products v h)
 combined_left r [] [] h same = none r
-  where
-    none : (r : ℤ) → pos 0 ≡ pos 0 +ℤ (r *ℤ pos 0)
-    none r = let z = product_is r (pos 0) in omega (arith, ints)
 combined_left r [] (y ∷ v) h same = absurd (omega arith)
 combined_left r (x ∷ u) [] h same = absurd (omega arith)
 combined_left r (x ∷ u) (y ∷ v) [] same = none r
-  where
-    none : (r : ℤ) → pos 0 ≡ pos 0 +ℤ (r *ℤ pos 0)
-    none r = let z = product_is r (pos 0) in omega (arith, ints)
 combined_left r (x ∷ u) (y ∷ v) (c ∷ h) same =
     let rest = combined_left r u v h (omega arith) in
     let first = add-mul x (r *ℤ y) c in
@@ -55,13 +52,7 @@ combined_left r (x ∷ u) (y ∷ v) (c ∷ h) same =
 
 pub combined_right : (r : ℤ) (u h g : List ℤ) → length h ≡ length g → sum_of_products u (combined r h g) ≡ sum_of_products u h +ℤ (r *ℤ sum_of_products u g)
 combined_right r [] h g same = none r
-  where
-    none : (r : ℤ) → pos 0 ≡ pos 0 +ℤ (r *ℤ pos 0)
-    none r = let z = product_is r (pos 0) in omega (arith, ints)
 combined_right r (x ∷ u) [] [] same = none r
-  where
-    none : (r : ℤ) → pos 0 ≡ pos 0 +ℤ (r *ℤ pos 0)
-    none r = let z = product_is r (pos 0) in omega (arith, ints)
 combined_right r (x ∷ u) [] (d ∷ g) same = absurd (omega arith)
 combined_right r (x ∷ u) (c ∷ h) [] same = absurd (omega arith)
 combined_right r (x ∷ u) (c ∷ h) (d ∷ g) same =

@@ -1,14 +1,13 @@
 -- A cyclic product of padded lists is a list of plain sums.
-use Rattle.std.proofs.Common.{◌≡◌, ◌+◌, ◌-◌, ◌*◌, ◌<◌, ◌≤◌, ◌^◌, ap, ◌∙◌, sym, refl, ℕ, zero, suc, arith, ℤ, pos, negsuc, ◌*ℤ◌, ◌+ℤ◌, List, [], ◌∷◌, ◌++◌, length, get_or, drop, take, unsigned_abs}
+use Rattle.std.proofs.Common.{◌≡◌, ◌+◌, ◌-◌, ◌*◌, ◌<◌, ◌≤◌, ◌^◌, ap, ◌∙◌, sym, refl, ℕ, suc, arith, ℤ, pos, negsuc, ◌*ℤ◌, ◌+ℤ◌, List, [], ◌∷◌, length, get_or, drop, take, unsigned_abs}
 use Rattle.std.specs.Prelude.{map, replicate, sum_by}
 use Rattle.std.proofs.Math.IntN.{*ℤ_comm}
 use Rattle.std.proofs.lemmas.Int.{ints, unsigned_abs-mul}
 use Rattle.std.proofs.lemmas.Nat.{mul-le}
-use Rattle.std.proofs.lemmas.Bool.{cases_lt}
-use Rattle.std.proofs.lemmas.List.{length-drop, length-append, length-replicate, length-map, length-take-le, get_or-drop, get_or-take, get_or-replicate, get_or_past}
+use Rattle.std.proofs.lemmas.List.{length-drop, length-append, length-replicate, length-map, length-take-le, get_or-drop, get_or-take, get_or_past}
 use Rattle.std.proofs.lemmas.List.Sums.{sum_by-cons}
 use borrow.Author.Differences.{product_is}
-use mathlib.Core.Logic.{inl, inr}
+use Rattle.fx_lists.proofs.Places.{quiet-behind, quiet-sample}
 use Rattle.fx_convolve.specs.Products.{sum_of_products}
 use Rattle.fx_convolve.specs.Residues.{Same}
 use Rattle.fx_convolve.specs.Transform.{cyclic}
@@ -58,19 +57,8 @@ times r (x ∷ xs) (c ∷ cs) =
 
 -- ---- zeros behind a list
 
-silent : (n k : ℕ) → get_or (replicate n (pos 0)) k (pos 0) ≡ pos 0
-silent n k = elim (cases_lt k n) [
-  | inl below ↦ get_or-replicate n k (pos 0) (pos 0) below
-  | inr above ↦ get_or_past (replicate n (pos 0)) k (pos 0) (omega (arith, length-replicate n (pos 0)))
-]
-
-behind : (n : ℕ) (xs : List ℤ) (k : ℕ) → get_or (xs ++ replicate n (pos 0)) k (pos 0) ≡ get_or xs k (pos 0)
-behind n [] k = silent n k
-behind n (x ∷ xs) zero = refl
-behind n (x ∷ xs) (suc k) = behind n xs k
-
 pub padded_at : (n : ℕ) (xs : List ℤ) (k : ℕ) → get_or (padded n xs) k (pos 0) ≡ get_or xs k (pos 0)
-padded_at n xs k = behind (n - length xs) xs k
+padded_at n xs k = quiet-behind xs (n - length xs) k
 
 pub length-padded : (n : ℕ) (xs : List ℤ) → length xs ≤ n → length (padded n xs) ≡ n
 length-padded n xs few =
@@ -92,7 +80,7 @@ round_is w hs n i few lt =
     let u : List ℤ = drop (i + 1) (padded n (pos 0 ∷ w)) in
     let zs : List ℤ = replicate (n - length hs) (pos 0) in
     let split = append_right u hs zs in
-    let none = zeros (drop (length hs) u) zs (silent (n - length hs)) in
+    let none = zeros (drop (length hs) u) zs (quiet-sample (n - length hs)) in
     let a_long = length-padded n (pos 0 ∷ w) (omega arith) in
     let u_long = length-drop (i + 1) (padded n (pos 0 ∷ w)) in
     let w_long = length-drop i w in

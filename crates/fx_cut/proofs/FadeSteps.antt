@@ -14,7 +14,7 @@ use Rattle.fx_cut.specs.declared.fade.Shape.{Shape}
 use Rattle.fx_step.specs.Given.{plain}
 use Rattle.fx_cut.specs.Fade.{due_by, fade_due, fade_line, stop_in, until}
 use Rattle.fx_cut.specs.FadeState.{FadeState, IsFade, faded_here, fade_acts, fade_after, fade_rest, is_before, stop_ahead}
-use Rattle.fx_cut.proofs.Fallen.{fallen, stays, no_fall, stays-room, is_full, oldest-first, oldest-channels, first-popped}
+use Rattle.fx_cut.proofs.Fallen.{fallen, stays, no_fall, stays-room, is_full, oldest-first, first-popped}
 use Rattle.fx_cut.proofs.FadeLaws.{fade_taken, fade_let_go, due-next, due-early, here-count}
 use Rattle.fx_cut.proofs.Hands.{empty-hand, at_most_one}
 
@@ -125,12 +125,6 @@ module _ (s : FadeState) (frame : Samples) (is : IsFade s) (dry : is_none s.hand
         gone = λ r. absurd (cc (r, running));
         fits = fits;
       }
-
-  pub oldest-length : (o : Samples) → Some o ≡ fallen s.line.capacity s.line.items frame → length frame ≡ s.recipe.channels → length o ≡ s.recipe.channels
-  oldest-length o e f =
-      let split = oldest-first _ _ _ _ e is.line.within in
-      let same = is.channels in
-      oldest-channels s.line.channels _ _ frame o is.line.frames (f ∙ sym same) split ∙ same
 
 -- ---- after the end
 

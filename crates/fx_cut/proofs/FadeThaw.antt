@@ -12,7 +12,8 @@ use Rattle.fx_cut.specs.Fade.{IsShape, fade_line, faded_frame, stop_in}
 use Rattle.fx_cut.specs.FadeState.{FadeState, IsFade, IsFadeCount, fade_acts, fade_after, faded_from, faded_here, is_before}
 use Rattle.fx_cut.proofs.FadeLaws.{fade_drained, given_by}
 use Rattle.fx_cut.proofs.Hands.{no-hand}
-use Rattle.fx_cut.proofs.Thawing.{flag, lined}
+use Rattle.fx_cut.proofs.Thawing.{lined}
+use Rattle.fx_frame.proofs.Counts.{flag-of}
 
 here-some : (f : Shape) (stop : Option ℕ) (n : ℕ) (o : Samples) (more : List Given) → faded_here f stop n o ++ more ≡ [] → is_before stop n ≡ false
 here-some f stop n o more e = go (is_before stop n) e
@@ -67,7 +68,7 @@ pub frozen-count : (s : FadeState) (f : Shape) (numbers : List ℕ) → IsFade s
     → IsFadeCount f (slice_index_or numbers 0 0) (slice_index_or numbers 1 0) (slice_index_or numbers 4 0 - slice_index_or numbers 5 0) (slice_index_or numbers 5 0) (nat_eq (slice_index_or numbers 2 0) 1)
 frozen-count s f numbers is e n =
     let l = lined s.line.items (option_to_list s.hand) in
-    rw (n, flag s.ended, l, ← e) (count-of s is)
+    rw (n, flag-of s.ended, l, ← e) (count-of s is)
 
 -- a fade of such counts that stores these frames
 pub IsFade-thawed : (channels capacity taken given held hands : ℕ) (ended : Bool) (f : Shape) (frames : List Samples) (line : Frames ℤ) (hand : Option Samples)

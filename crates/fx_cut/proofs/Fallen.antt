@@ -1,11 +1,12 @@
 -- What falls out of a line when a frame comes.
 use Rattle.std.proofs.Common.{◌≡◌, ℕ, ◌-◌, ◌<◌, ◌≤◌, cond, List, [], ◌∷◌, ◌++◌, length, drop, sym, ap, ◌∙◌, arith, length-append, inl, inr, ◌⊎◌}
-use Rattle.std.specs.Prelude.{Option, Some, None, slice_get, nat_lt}
+use Rattle.std.specs.Prelude.{ℤ, Option, Some, None, slice_get, nat_lt}
 use Rattle.std.specs.Int.{w32}
 use Rattle.std.specs.List.{All}
 use Rattle.std.proofs.lemmas.Bool.{lt-ltb, le-ltb, cases_lt}
-use Rattle.fx_step.specs.Frame.{Samples}
-use Rattle.fx_ring.specs.Line.{IsSamples}
+use Rattle.fx_step.specs.Frame.{IsFrame, Samples}
+use Rattle.fx_step.specs.Hand.{IsHand}
+use Rattle.fx_ring.specs.Line.{Frames, IsLine, IsSamples}
 
 -- the frame that falls out, where there is one
 abbrev pub fallen : ℕ → List Samples → Samples → Option Samples
@@ -56,12 +57,20 @@ oldest-first capacity items frame o e h =
     ∙ ap (λ k. o ∷ drop k (items ++ frame ∷ [])) (sym n)
 
 -- it has the channels of the line
-pub oldest-channels : (channels : ℕ) (items more : List Samples) (frame o : Samples) → All (IsSamples w32 channels) items → length frame ≡ channels → items ++ frame ∷ [] ≡ o ∷ more → length o ≡ channels
+oldest-channels : (channels : ℕ) (items more : List Samples) (frame o : Samples) → All (IsSamples w32 channels) items → length frame ≡ channels → items ++ frame ∷ [] ≡ o ∷ more → length o ≡ channels
 oldest-channels channels [] more frame o all f e = let s : frame ≡ o = cc (e) in rw (← s) f
 oldest-channels channels (x ∷ xs) more frame o all f e =
     let s : x ≡ o = cc (e) in
     let g : length x ≡ channels = (all 0 [] (omega arith)).count in
     rw (← s) g
+
+module _ (line : Frames ℤ) (channels : ℕ) (frame o : Samples) (is : IsLine w32 line) (same : line.channels ≡ channels) (out : Some o ≡ fallen line.capacity line.items frame) (f : length frame ≡ channels) where
+  pub oldest-length : length o ≡ channels
+  oldest-length = oldest-channels line.channels _ _ frame o is.frames (f ∙ sym same) (oldest-first _ _ _ _ out is.within) ∙ same
+
+  -- it can be in hand
+  pub oldest-fits : IsFrame o → IsHand channels (Some o)
+  oldest-fits framed = λ x q. let w : o ≡ x = cc in (rw (← w) framed, rw (← w) oldest-length)
 
 pub first-popped : (items items' : List Samples) (o : Samples) → Some o ≡ slice_get items 0 → items' ≡ drop 1 items → items ≡ o ∷ items'
 first-popped items items' o e h = first_is items o (sym e) ∙ ap (λ l. o ∷ l) (sym h)

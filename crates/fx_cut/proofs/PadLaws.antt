@@ -86,12 +86,13 @@ upto_more m ((k, p) ∷ pads) = go (cases_order p m) (upto_more m pads) ∙ ap (
     go (inr (inl l)) ih = omega (arith, yes (m + 1) (omega arith), yes m l, here_not m k p (λ e. omega arith), ih)
     go (inr (inr g)) ih = omega (arith, no (m + 1) (omega arith), no m (omega arith), here_not m k p (λ e. omega arith), ih)
 
+-- no silence stands before the first place
+none_upto : (pads : List (ℕ × ℕ)) → 0 + sum_by (λ p. p.0) (filter (λ p. ltb p.1 0) pads) ≡ 0
+none_upto [] = refl
+none_upto ((k, p) ∷ pads) = ap (λ b. 0 + sum_by (λ p. p.0) (cond b ((k, p) ∷ filter (λ p. ltb p.1 0) pads) (filter (λ p. ltb p.1 0) pads))) (le-ltb p 0 (omega arith)) ∙ none_upto pads
+
 silence_upto : (m : ℕ) (pads : List (ℕ × ℕ)) → sum_by (λ n. sum_by (here n) pads + 1) (range_with_len 0 m) ≡ m + sum_by (λ p. p.0) (filter (λ p. ltb p.1 m) pads)
 silence_upto zero pads = sym (none_upto pads)
-  where
-    none_upto : (pads : List (ℕ × ℕ)) → 0 + sum_by (λ p. p.0) (filter (λ p. ltb p.1 0) pads) ≡ 0
-    none_upto [] = refl
-    none_upto ((k, p) ∷ pads) = ap (λ b. 0 + sum_by (λ p. p.0) (cond b ((k, p) ∷ filter (λ p. ltb p.1 0) pads) (filter (λ p. ltb p.1 0) pads))) (le-ltb p 0 (omega arith)) ∙ none_upto pads
 silence_upto (suc m) pads =
     ap (λ k. sum_by (λ n. sum_by (here n) pads + 1) (range_with_len 0 k)) (sym (add-one m))
     ∙ ap (sum_by (λ n. sum_by (here n) pads + 1)) (range_more m)
@@ -148,11 +149,7 @@ length_padded channels ps x =
 pub none-due : (ps : List (ℕ × At)) → pad_due ps 0 ≡ 0
 none-due ps =
     let none : 0 - greatest (map pad_distance ps) ≡ 0 = omega arith in
-    rw none (go (pads_from_start ps))
-  where
-    go : (pads : List (ℕ × ℕ)) → 0 + sum_by (λ p. p.0) (filter (λ p. ltb p.1 0) pads) ≡ 0
-    go [] = refl
-    go ((k, p) ∷ pads) = ap (λ b. 0 + sum_by (λ p. p.0) (cond b ((k, p) ∷ filter (λ p. ltb p.1 0) pads) (filter (λ p. ltb p.1 0) pads))) (le-ltb p 0 (omega arith)) ∙ go pads
+    rw none (none_upto (pads_from_start ps))
 
 -- ---- how many frames come after a place
 

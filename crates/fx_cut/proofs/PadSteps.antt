@@ -6,14 +6,14 @@ use Rattle.std.proofs.lemmas.Bool.{false≢true, and_parts, eqb-true}
 use Rattle.std.proofs.lemmas.List.{length-replicate}
 use mathlib.Core.Path.{ap₂}
 use Rattle.fx_fixed.specs.Extents.{greatest, pad_distance}
-use Rattle.fx_step.specs.Frame.{Samples, silence, IsFrame}
+use Rattle.fx_step.specs.Frame.{Samples, silence}
 use Rattle.fx_step.specs.Hand.{IsHand}
 use Rattle.fx_ring.specs.Line.{Frames, IsLine}
 use Rattle.fx_step.specs.Stage.{Gave, Took, Ended, coming}
 use Rattle.fx_step.specs.Given.{plain}
 use Rattle.fx_cut.specs.Pad.{PadArguments, IsPads, lengths, pad_due, padded, pads_from_start, placed, silent_at}
 use Rattle.fx_cut.specs.PadState.{PadState, IsPad, pad_acts, pad_after, pad_left, pad_rest, unless_last}
-use Rattle.fx_cut.proofs.Fallen.{fallen, stays, no_fall, stays-room, is_full, oldest-first, oldest-channels}
+use Rattle.fx_cut.proofs.Fallen.{fallen, stays, no_fall, stays-room, is_full, oldest-first}
 use Rattle.fx_cut.proofs.Hands.{none_of}
 use Rattle.fx_cut.proofs.PadLaws.{upto_more, length_padded, none-due}
 use Rattle.fx_cut.proofs.PadRest.{pad_new, pad_taken, pad_let_go, pad_drained}
@@ -152,13 +152,6 @@ module _ (s : PadState) (frame : Samples) (is : IsPad s) (dry : pad_acts.dry s �
         over = λ r. absurd (cc (r, running));
         fits = fits;
       }
-
-  pub oldest-length : (o : Samples) → Some o ≡ fallen s.line.capacity s.line.items frame → length frame ≡ s.recipe.channels → IsFrame o → IsHand s.recipe.channels (Some o)
-  oldest-length o e f framed =
-      let split = oldest-first _ _ _ _ e is.line.within in
-      let same = is.channels in
-      let n : length o ≡ s.line.channels = oldest-channels s.line.channels _ _ frame o is.line.frames (f ∙ sym same) split in
-      λ x q. let w : o ≡ x = cc in (rw (← w) framed, rw (← w) (n ∙ same))
 
 -- ---- after the end
 

@@ -10,12 +10,13 @@ use Rattle.fx_step.specs.Frame.{Samples, silence}
 use Rattle.fx_frame.specs.Frozen.{IsStored}
 use Rattle.fx_ring.specs.Line.{Frames}
 use Rattle.fx_step.specs.Stage.{Freezes, coming, numbers_of}
-use Rattle.fx_cut.specs.Pad.{PadArguments, IsPads, ats, lengths, pad_due, pads_from_start, placed, silent_at, RisesFrom}
+use Rattle.fx_cut.specs.Pad.{IsPads, ats, lengths, pad_due, pads_from_start, placed, silent_at, RisesFrom}
 use Rattle.fx_cut.specs.PadState.{PadState, IsPad, IsPadCount, later_count, pad_acts, pad_after, pad_left, padded_from, unless_last}
 use Rattle.fx_cut.proofs.Hands.{no-hand, empty_of}
 use Rattle.fx_cut.proofs.PadLaws.{length_from, length_padded, pad_first, same_silence, upto_more}
 use Rattle.fx_cut.proofs.PadRest.{pad_new}
-use Rattle.fx_cut.proofs.Thawing.{flag, lined}
+use Rattle.fx_cut.proofs.Thawing.{lined}
+use Rattle.fx_frame.proofs.Counts.{flag-of}
 
 -- ---- before the end
 
@@ -114,7 +115,7 @@ pub frozen-count : (s : PadState) (ps : List (ℕ × At)) (numbers : List ℕ) �
     → IsPadCount ps (slice_index_or numbers 0 0) (slice_index_or numbers 1 0) (slice_index_or numbers 5 0) (slice_index_or numbers 4 0 - slice_index_or numbers 6 0) (slice_index_or numbers 6 0) (nat_eq (slice_index_or numbers 2 0) 1)
 frozen-count s ps numbers is e f =
     let l = lined s.line.items (option_to_list s.hand) in
-    rw (f, flag s.ended, l, ← e) (count-of s is)
+    rw (f, flag-of s.ended, l, ← e) (count-of s is)
 
 -- what it stores
 pub stored-of : (s : PadState) (channels : ℕ) (ps : List (ℕ × At)) (frames : List Samples) (numbers : List ℕ) → IsPad s → s.recipe ≡ record { channels = channels; pads = ps } → Freezes pad_acts s frames numbers
@@ -171,4 +172,4 @@ IsPad-thawed channels capacity taken given silent held hands ended ps frames lin
 -- the same stage
 pub same-pad : (s : PadState) (channels : ℕ) (ps : List (ℕ × At)) (numbers : List ℕ) (line : Frames ℤ) (hand : Option Samples) → s.recipe ≡ record { channels = channels; pads = ps } → numbers ≡ numbers_of pad_acts s → line ≡ s.line → hand ≡ s.hand
     → record { hand = hand; recipe = record { channels = channels; pads = ps }; silent = slice_index_or numbers 5 0; line = line; taken = slice_index_or numbers 0 0; given = slice_index_or numbers 1 0; ended = nat_eq (slice_index_or numbers 2 0) 1 } ≡ s
-same-pad s channels ps numbers line hand r n l h = rw (n, l, h, ← r, flag s.ended) refl
+same-pad s channels ps numbers line hand r n l h = rw (n, l, h, ← r, flag-of s.ended) refl

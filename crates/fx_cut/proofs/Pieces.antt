@@ -1,16 +1,16 @@
 -- A piece that a stage passed at once, and the frames behind it.
-use Rattle.std.proofs.Common.{◌≡◌, ◌≢◌, ◌<◌, ◌+◌, ◌-◌, ◌*◌, ◌/◌, ◌≤◌, ℕ, zero, suc, true, false, List, [], ◌∷◌, ◌++◌, length, take, drop, refl, sym, ap, ◌∙◌, arith, append-nil, append_assoc, length-append, length-drop, subst}
+use Rattle.std.proofs.Common.{◌≡◌, ◌≢◌, ◌<◌, ◌+◌, ◌-◌, ◌*◌, ◌/◌, ◌≤◌, ℕ, zero, suc, true, false, List, [], ◌∷◌, ◌++◌, length, take, drop, refl, sym, ap, ◌∙◌, arith, append_assoc, length-append, length-drop, subst}
 use Rattle.std.specs.Prelude.{ℤ}
 use Rattle.std.specs.List.{All}
 use Rattle.std.proofs.lemmas.List.Elements.{All-append, All-head, All-nil, All-tail}
-use Rattle.std.proofs.lemmas.List.{drop-drop, drop_all, drop_at, length-take, length-take-le, nil_from_length, take-take, take_all}
+use Rattle.std.proofs.lemmas.List.{drop-drop, drop_at, length-take, length-take-le, nil_from_length, take-take}
 use Rattle.std.proofs.Math.Nat.{add-mul, div-mul-le_self, mul-le-mul_right, suc-mul, mul-le-mul_left, le_of_mul-le-mul_right}
 use Rattle.fx_step.specs.Feed.{Fed}
 use Rattle.fx_lists.specs.Lists.{pieces}
 use Rattle.fx_step.specs.Stage.{Acts, kind, spent}
 use Rattle.fx_step.proofs.FedLaws.{Fed-gives}
 use Rattle.fx_step.proofs.FeedParts.{Fed-behind}
-use Rattle.fx_lists.proofs.Puts.{pieces-same}
+use Rattle.fx_lists.proofs.Puts.{part-from, pieces-same, put-from}
 use Rattle.fx_lists.proofs.Pieces.{length-pieces}
 use borrow.Rule.Slice.PartMut.{put_mid}
 
@@ -18,15 +18,6 @@ module _ {X : Type 0} where
   -- the part of a slice from a place on
   abbrev pub part : (a : ℕ) (xs : List X) → List X
   part a xs = take (length xs - a) (drop a xs)
-
-  pub part-from : (a : ℕ) (xs : List X) → part a xs ≡ drop a xs
-  part-from a xs = take_all (length xs - a) (drop a xs) (omega (arith, length-drop a xs))
-
-  -- and the slice after that part was written
-  put-from : (a : ℕ) (xs ys : List X) → put_mid a (length xs - a) xs ys ≡ take a xs ++ ys
-  put-from a xs ys =
-      let none : drop (length xs - a) (drop a xs) ≡ [] = drop_all (length xs - a) (drop a xs) (omega (arith, length-drop a xs)) in
-      rw none (ap (λ l. take a xs ++ l) (append-nil ys))
 
 -- the first frame, and those behind it
 pub first-piece : {X : Type 0} (size n : ℕ) (xs : List X) → 1 ≤ n → pieces size n xs ≡ take size xs ∷ pieces size (n - 1) (drop size xs)

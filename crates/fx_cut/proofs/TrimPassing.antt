@@ -10,9 +10,9 @@ use Rattle.fx_ring.specs.Line.{Frames, IsLine}
 use Rattle.fx_step.specs.Stage.{Gave, IsDry, spent}
 use Rattle.fx_cut.specs.Trim.{keeps, starts}
 use Rattle.fx_cut.specs.TrimState.{IsTrim, TrimState, trim_acts}
-use Rattle.fx_cut.proofs.Fallen.{fallen, stays}
+use Rattle.fx_cut.proofs.Fallen.{fallen, oldest-fits, stays}
 use Rattle.fx_cut.proofs.Hands.{at_most_one, empty-hand, none_of}
-use Rattle.fx_cut.proofs.TrimSteps.{IsTrim-fallen, IsTrim-inside, Took-fallen, Took-inside, due-trim, fits-oldest, took}
+use Rattle.fx_cut.proofs.TrimSteps.{IsTrim-fallen, IsTrim-inside, Took-fallen, Took-inside, due-trim, took}
 
 -- it holds no more than it may
 held-trim : (s : TrimState) → IsTrim s → IsHeld trim_acts s
@@ -80,7 +80,7 @@ module _ (s : TrimState) (frame y : Samples) (is : IsTrim s) (dry : is_none s.ha
       → PassedOn trim_acts Through s (record s { line = line; taken = s.taken + 1; given = s.given + 1 }) frame o × IsTrim (record s { line = line; taken = s.taken + 1; given = s.given + 1 })
   passed-oldest o e k width shape =
       let none : s.hand ≡ None = none_of s.hand dry in
-      let fits = fits-oldest s frame is dry running line o e width shape in
+      let fits = oldest-fits s.line _ frame o is.line is.channels e width shape in
       let mid : TrimState = took s line (Some o) in
       let now : IsTrim mid = IsTrim-fallen s frame is dry running line o true (Some o) e items lined capacity channels below k refl fits in
       let after : IsTrim (record mid { hand = None; given = mid.given + 1 }) = IsTrim-before mid o now refl running in

@@ -8,14 +8,14 @@ use mathlib.Core.Path.{ap₂}
 use Rattle.fx_fixed.specs.Extents.{end_distance, greatest}
 use Rattle.fx_fixed.specs.Positions.{places_of}
 use Rattle.fx_fixed.specs.declared.positions.At.{At}
-use Rattle.fx_step.specs.Frame.{Samples, IsFrame}
+use Rattle.fx_step.specs.Frame.{Samples}
 use Rattle.fx_step.specs.Hand.{IsHand}
 use Rattle.fx_ring.specs.Line.{Frames, IsLine}
 use Rattle.fx_step.specs.Stage.{Gave, Took, coming, is_enough}
 use Rattle.fx_step.specs.Given.{plain}
 use Rattle.fx_cut.specs.Trim.{keeps, starts, is_start, last_start, trim_due, trim_enough}
 use Rattle.fx_cut.specs.TrimState.{kept_count, trimmed_from, trim_rest, trim_after, TrimState, IsTrim, trim_acts}
-use Rattle.fx_cut.proofs.Fallen.{fallen, stays, no_fall, stays-room, is_full, oldest-first, oldest-channels, first-popped}
+use Rattle.fx_cut.proofs.Fallen.{fallen, stays, no_fall, stays-room, is_full, oldest-first, first-popped}
 use Rattle.fx_cut.proofs.Hands.{none_of, at_most_one, empty-hand, empty_of}
 use Rattle.fx_cut.proofs.Ranges.{count_same, kept_next}
 use Rattle.fx_cut.proofs.TrimLaws.{kept-early, none-late}
@@ -210,13 +210,6 @@ module _ (s : TrimState) (frame : Samples) (is : IsTrim s) (dry : is_none s.hand
         gone = λ r. absurd (cc (r, running));
         fits = fits;
       }
-
-  pub fits-oldest : (line : Frames ℤ) (o : Samples) → Some o ≡ fallen s.line.capacity s.line.items frame → length frame ≡ s.recipe.channels → IsFrame o → IsHand s.recipe.channels (Some o)
-  fits-oldest line o e f framed =
-      let split = oldest-first _ _ _ _ e is.line.within in
-      let same = is.channels in
-      let n : length o ≡ s.line.channels = oldest-channels s.line.channels _ _ frame o is.line.frames (f ∙ sym same) split in
-      λ x q. let w : o ≡ x = cc in (rw (← w) framed, rw (← w) (n ∙ same))
 
 -- ---- a frame is given
 

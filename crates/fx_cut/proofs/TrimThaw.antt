@@ -10,7 +10,8 @@ use Rattle.fx_step.specs.Stage.{numbers_of}
 use Rattle.fx_cut.specs.Trim.{trim_enough}
 use Rattle.fx_cut.specs.TrimState.{TrimState, IsTrim, IsTrimCount, trim_acts}
 use Rattle.fx_cut.proofs.Hands.{no-hand, empty_of}
-use Rattle.fx_cut.proofs.Thawing.{flag, lined}
+use Rattle.fx_cut.proofs.Thawing.{lined}
+use Rattle.fx_frame.proofs.Counts.{flag-of}
 
 count-of : (s : TrimState) → IsTrim s → IsTrimCount s.recipe.positions s.taken s.given (length s.line.items) (length (option_to_list s.hand)) s.ended
 count-of s is = record {
@@ -25,7 +26,7 @@ pub frozen-count : (s : TrimState) (ps : List At) (numbers : List ℕ) → IsTri
     → IsTrimCount ps (slice_index_or numbers 0 0) (slice_index_or numbers 1 0) (slice_index_or numbers 4 0 - slice_index_or numbers 5 0) (slice_index_or numbers 5 0) (nat_eq (slice_index_or numbers 2 0) 1)
 frozen-count s ps numbers is e f =
     let l = lined s.line.items (option_to_list s.hand) in
-    rw (f, flag s.ended, l, ← e) (count-of s is)
+    rw (f, flag-of s.ended, l, ← e) (count-of s is)
 
 -- a trim of such counts that stores these frames
 pub IsTrim-thawed : (channels capacity taken given held hands : ℕ) (ended : Bool) (ps : List At) (enough : Option ℕ) (frames : List Samples) (line : Frames ℤ) (hand : Option Samples)

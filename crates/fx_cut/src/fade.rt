@@ -3,7 +3,6 @@ ghost use Rattle.std.specs.Prelude.{ℕ, ◌≡◌, ◌≤◌, ◌<◌, ◌+◌,
 ghost use Rattle.std.specs.Int.{w32};
 ghost use Rattle.std.specs.List.{All};
 ghost use Rattle.fx_fixed.specs.Extents.{meant, stop_line};
-ghost use Rattle.fx_step.specs.Frame.{IsFrame};
 ghost use Rattle.fx_step.specs.Hand.{IsHand};
 ghost use Rattle.fx_ring.specs.Line.{IsLine};
 ghost use Rattle.fx_lists.specs.Lists.{pieces};

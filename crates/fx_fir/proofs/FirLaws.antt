@@ -10,7 +10,7 @@ use Rattle.fx_frame.specs.Frozen.{IsStored}
 use Rattle.fx_step.specs.Stage.{Gave, Took, Freezes, numbers_of}
 use Rattle.fx_frame.specs.Tapped.{by_name}
 use Rattle.fx_frame.specs.Past.{sample_before}
-use Rattle.fx_frame.proofs.Counts.{flag-false, flag-le, flag-of, flag-true}
+use Rattle.fx_frame.proofs.Counts.{flag-false, flag-of, flag-true}
 use Rattle.fx_fir.specs.Fir.{FirArguments, centre, filtered_frame, filtered_at, filtered}
 use Rattle.fx_fir.specs.FirState.{AreFirCounts, FirState, IsFir, fir_behind, fir_tail, fir_acts, arguments_of}
 use Rattle.fx_lists.specs.Lists.{tabulate}
@@ -21,6 +21,7 @@ use Rattle.fx_fixed.specs.declared.gains.TheConstants.{UNIT}
 use Rattle.fx_frame.proofs.DryLaws.{dry-hand, dry-tail, true_of}
 use Rattle.fx_frame.proofs.DelayLaws.{sample_before-append, sample_before-drop}
 use Rattle.fx_lists.proofs.Tabulate.{tabulate-same}
+use Rattle.fx_step.proofs.Flags.{flag-le}
 
 -- ---- a window
 

@@ -8,16 +8,14 @@ use Rattle.std.proofs.lemmas.List.{get_or-set_other}
 use Rattle.fx_fir.specs.Split.{AddUpTo, joined}
 use Rattle.fx_convolve.specs.Products.{sum_of_products}
 use Rattle.fx_convolve.proofs.Numbers.{mul-add, mul_assoc}
-
-turned : (x y : ℤ) → x *ℤ y ≡ y *ℤ x
-turned x y = omega (arith, ints)
+use Rattle.std.proofs.Math.IntN.{*ℤ_comm}
 
 -- one product more, in parts
 one-more : (by x h l c b a s : ℤ) → c ≡ (h *ℤ by) +ℤ l → (b *ℤ by) +ℤ a ≡ s → (((x *ℤ h) +ℤ b) *ℤ by) +ℤ ((x *ℤ l) +ℤ a) ≡ (x *ℤ c) +ℤ s
 one-more by x h l c b a s first others =
-    let apart : ((x *ℤ h) +ℤ b) *ℤ by ≡ (by *ℤ (x *ℤ h)) +ℤ (by *ℤ b) = turned ((x *ℤ h) +ℤ b) by ∙ mul-add by (x *ℤ h) b in
-    let moved : by *ℤ (x *ℤ h) ≡ x *ℤ (h *ℤ by) = turned by (x *ℤ h) ∙ sym (mul_assoc x h by) in
-    let back : by *ℤ b ≡ b *ℤ by = turned by b in
+    let apart : ((x *ℤ h) +ℤ b) *ℤ by ≡ (by *ℤ (x *ℤ h)) +ℤ (by *ℤ b) = *ℤ_comm ((x *ℤ h) +ℤ b) by ∙ mul-add by (x *ℤ h) b in
+    let moved : by *ℤ (x *ℤ h) ≡ x *ℤ (h *ℤ by) = *ℤ_comm by (x *ℤ h) ∙ sym (mul_assoc x h by) in
+    let back : by *ℤ b ≡ b *ℤ by = *ℤ_comm by b in
     let whole : x *ℤ c ≡ (x *ℤ (h *ℤ by)) +ℤ (x *ℤ l) = ap (λ z. x *ℤ z) first ∙ mul-add x (h *ℤ by) l in
     sums (((x *ℤ h) +ℤ b) *ℤ by) (by *ℤ (x *ℤ h)) (by *ℤ b) (x *ℤ (h *ℤ by)) (b *ℤ by) (x *ℤ c) (x *ℤ l) a s apart moved back whole others
   where

@@ -2,7 +2,6 @@
 ghost use Rattle.std.specs.Prelude.{◌≡◌, ◌+◌, ◌*◌, ◌%◌, ◌^◌, ◌<◌, ◌≤◌, ℕ, pos, ◌*ℤ◌, length, slice_index_or, sum_by, unsigned_abs, IfSome};
 ghost use Rattle.std.specs.Int.{IsGcd};
 ghost use Rattle.fx_fixed.specs.Reduced.{IsReduced};
-ghost use Rattle.fx_fixed.specs.Rounding.{signed};
 
 use crate::reciprocal::Denominator;
 

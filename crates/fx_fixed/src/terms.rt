@@ -1,6 +1,6 @@
 //! The terms of a time specification.
 
-ghost use Rattle.std.specs.Prelude.{◌≡◌, ◌+◌, ◌^◌, ◌<◌, ◌≤◌, [], false, IfOk, MatchOption, length, take, drop};
+ghost use Rattle.std.specs.Prelude.{◌≡◌, ◌+◌, ◌^◌, ◌<◌, ◌≤◌, [], false, IfOk, MatchOption, length, drop};
 ghost use Rattle.fx_fixed.specs.Decimals;
 ghost use Rattle.fx_fixed.specs.Later.{BeginsSigned, IsLater, IsNext, IsWithTerm};
 ghost use Rattle.fx_fixed.specs.Times.{are_terms, later_terms, term_of, terms_of};

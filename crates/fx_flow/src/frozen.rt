@@ -1,7 +1,5 @@
-ghost use Rattle.std.specs.Prelude.{◌≡◌, ◌<◌, ◌≤◌, ◌+◌, ◌++◌, ◌↔◌, ℕ, true, List, length, take, IfOk, OnOk, Err, MatchResult, drop, IfErr, option_to_list};
+ghost use Rattle.std.specs.Prelude.{◌≡◌, ◌<◌, ◌+◌, ◌++◌, ◌↔◌, true, List, IfOk, OnOk, Err, MatchResult, IfErr, option_to_list};
 ghost use Rattle.std.specs.List.{All};
-ghost use Rattle.fx_step.specs.Frame.{Samples};
-ghost use Rattle.fx_step.specs.Stage.{Acts};
 ghost use Rattle.fx_flow.specs.Parts.{Joined};
 ghost use Rattle.fx_flow.specs.Frozen.{stored_all, numbers_all, AllMade, AllSound};
 ghost use Rattle.fx_flow.specs.Inlets.{IsInlet};

@@ -1,6 +1,6 @@
 -- The eight numbers that a stage counted.
 use Rattle.std.proofs.Common.{ℕ, zero, suc, ◌≡◌, ◌≤◌, ◌*◌, Bool, true, false, cond, List, [], ◌∷◌, length, refl, arith}
-use Rattle.std.specs.Prelude.{nat_eq, slice_index_or, None, Option, Some, is_some}
+use Rattle.std.specs.Prelude.{nat_eq, slice_index_or}
 
 -- eight numbers are the one at each place
 pub eight-numbers : (ns : List ℕ) → length ns ≡ 8
@@ -28,10 +28,6 @@ flag-of true = refl
 flag-of false = refl
 
 -- what a flag says as a number
-pub flag-le : (b : Bool) → cond b 1 0 ≤ 1
-flag-le true = omega arith
-flag-le false = omega arith
-
 pub flag-true : (b : Bool) → 1 ≤ cond b 1 0 → b ≡ true
 flag-true true some = refl
 flag-true false some = absurd (omega arith)
@@ -49,7 +45,3 @@ pub times-flag : (n m : ℕ) → n ≤ 1 → n * m ≡ cond (nat_eq n 1) m 0
 times-flag zero m h = omega arith
 times-flag (suc zero) m h = omega arith
 times-flag (suc (suc n)) m h = absurd (omega arith)
-
-pub none-of : {X : Type 0} (o : Option X) → is_some o ≡ false → o ≡ None
-none-of None e = refl
-none-of (Some x) e = absurd (cc)

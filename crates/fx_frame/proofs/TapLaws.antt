@@ -10,10 +10,11 @@ use Rattle.fx_step.specs.Stage.{Freezes, Gave, Took}
 use Rattle.fx_lists.specs.Lists.{tabulate}
 use Rattle.fx_frame.specs.Tapped.{AreTapCounts, Taps, TapState, IsTapState, IsNear, behind, by_name, tapped, tap_acts}
 use Rattle.fx_frame.specs.Past.{sample_before}
-use Rattle.fx_frame.proofs.Counts.{flag-false, flag-le, flag-times, flag-true}
+use Rattle.fx_frame.proofs.Counts.{flag-false, flag-times, flag-true}
 use Rattle.fx_frame.proofs.DryLaws.{dry-hand, dry-tail, true_of}
 use Rattle.fx_frame.proofs.DelayLaws.{sample_before-append, sample_before-drop, quiet-after}
 use Rattle.fx_lists.proofs.Tabulate.{tabulate-same}
+use Rattle.fx_step.proofs.Flags.{flag-le}
 
 module _ {M : Type 0} (taps : Taps M) (near : IsNear taps) where
   -- one more frame comes

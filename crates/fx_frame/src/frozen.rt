@@ -3,7 +3,6 @@ ghost use Rattle.std.specs.Prelude.{◌≡◌, ◌<◌, ◌≤◌, ◌^◌, ◌+
 ghost use Rattle.std.specs.Int.{w32, w64};
 ghost use Rattle.fx_step.specs.Frame.{Samples};
 ghost use Rattle.fx_ring.specs.Line.{Frames, IsLine};
-ghost use Rattle.fx_step.specs.Hand.{IsHand};
 ghost use Rattle.fx_frame.specs.Frozen.{IsStored, line_of};
 
 use crate::line::{Line, WideLine};

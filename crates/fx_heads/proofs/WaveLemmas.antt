@@ -9,19 +9,8 @@ use Rattle.fx_heads.specs.declared.wave.Demand.{Demand}
 use Rattle.fx_heads.specs.declared.wave.Step.{Step}
 use Rattle.fx_heads.specs.declared.wave.Step.TheVariants as step
 use Rattle.fx_heads.specs.declared.head.HeadFault.{HeadFault}
-use Rattle.fx_heads.specs.Source.{Held, Takes}
 use Rattle.fx_heads.specs.declared.head.HeadFault.TheVariants.{Truncated}
 use Rattle.fx_heads.specs.Wave.{format_read, format_of, padded, step_of, with_body, demand_of, long_at, chunks_of, after_step, GoesOn, end_of}
-
--- what is taken in two calls
-pub Takes-both : {R : Type 0} (told : R → ℕ) (old mid new : Held R) (n m : ℕ) → Takes told old mid n → Takes told mid new m → Takes told old new (n + m)
-Takes-both told old mid new n m p q = record {
-  enough = omega (arith, p.enough, q.enough);
-  counted = λ h.
-      let e = q.counted h in
-      let f = p.counted (omega (arith, q.enough)) in
-      omega arith;
-}
 
 -- too few bytes for the body
 pub format_read-short : (size : ℕ) (bytes : List ℕ) → length bytes < padded size → format_read size bytes ≡ Err Truncated

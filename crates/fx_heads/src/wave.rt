@@ -1,8 +1,7 @@
 //! Reading the head of a RIFF WAVE sound.
-ghost use Rattle.std.specs.Prelude.{◌≡◌, ◌≢◌, ℕ, ◌+◌, ◌-◌, ◌*◌, ◌^◌, ◌<◌, ◌≤◌, List, Option, None, Some, false, IsTrue, IfSome, IfOk, IfErr, Ok, MatchBool, length, take, drop, min};
+ghost use Rattle.std.specs.Prelude.{◌≡◌, ◌+◌, ◌-◌, ◌*◌, ◌^◌, ◌<◌, ◌≤◌, Option, None, Some, false, IsTrue, IfSome, IfOk, IfErr, Ok, MatchBool, length, take, min};
 ghost use Rattle.fx_io.specs.Io.{saturated};
-ghost use Rattle.fx_heads.specs.Source.{to_come, Takes, FallsShort};
-ghost use Rattle.fx_heads.specs.Known.{IfKnown};
+ghost use Rattle.fx_heads.specs.Source.{Takes};
 ghost use Rattle.fx_heads.specs.Kind.{is_of_wav};
 ghost use Rattle.fx_heads.specs.HeadFields.{IsProper, is_read_failure};
 ghost use Rattle.fx_heads.specs.Wave.{half_at, long_at, wav_coding, IsProperSeen, plain_of, format_of, padded, demand_of, IsNear, AskedAt, format_read, with_body, step_of, end_of, GoesOn, chunks_of, most_chunks, behind_riff};

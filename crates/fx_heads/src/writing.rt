@@ -1,10 +1,8 @@
 //! The head that is written.
 
 ghost use Rattle.std.specs.Prelude.{◌≡◌, ◌+◌, ◌<◌, ◌≤◌, ◌++◌, [], IsTrue, IfSome, Option, length};
-ghost use Rattle.fx_io.specs.Coding.{width_of};
-ghost use Rattle.fx_heads.specs.FrameCoding.{frame_size};
 ghost use Rattle.fx_heads.specs.Kind.{is_coding_of};
-ghost use Rattle.fx_heads.specs.Writing.{known_size, format_fields, extension_fields, format_body, wav_head, au_head, written_head};
+ghost use Rattle.fx_heads.specs.Writing.{known_size, format_fields, format_body, wav_head, au_head, written_head};
 
 use super::fields::{AU_UNKNOWN, EXTENSIBLE, PCM_GUID, PLAIN, WAV_UNKNOWN};
 use super::head::Kind;

@@ -1,6 +1,6 @@
 //! A writer into memory, for tests.
 
-ghost use Rattle.std.specs.Prelude.{◌≡◌, ◌+◌, ◌-◌, ◌<◌, ◌≤◌, ◌↔◌, ◌⊎◌, ◌||◌, min, true, is_ok, Some, [], IfOk, OnErr, IsErr, length, take};
+ghost use Rattle.std.specs.Prelude.{◌≡◌, ◌-◌, ◌<◌, ◌≤◌, ◌↔◌, ◌⊎◌, ◌||◌, min, true, is_ok, Some, [], IfOk, OnErr, IsErr, length};
 ghost use Rattle.std.specs.Io.KnownBytes.{Keeps, WriteAppends};
 ghost use Rattle.fx_io.specs.Io.{CountsFailure, flushed_after};
 ghost use Rattle.fx_io.specs.Device.{RefusesNext, device_after};

@@ -1,7 +1,6 @@
 -- The front of a command line, an option at a time.
-use Rattle.std.proofs.Common.{◌≡◌, ℕ, Bool, true, false, List, [], ◌∷◌, Option, Some, None, refl, ◌∙◌, sym, ap}
-use Rattle.fx_line.specs.declared.line.Shape.{Shape}
-use Rattle.fx_line.specs.declared.line.Shape.TheVariants.{NoDither, Typed, Depth, Unknown, Name}
+use Rattle.std.proofs.Common.{◌≡◌, ℕ, Bool, true, List, [], ◌∷◌, Some, refl, ◌∙◌, sym, ap}
+use Rattle.fx_line.specs.declared.line.Shape.TheVariants.{NoDither, Typed, Depth}
 use Rattle.fx_line.specs.declared.line.Options.{Options}
 use Rattle.fx_line.specs.declared.bits.Bits.{Bits}
 use Rattle.fx_heads.specs.declared.head.Kind.{Kind}

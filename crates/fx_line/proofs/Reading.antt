@@ -1,9 +1,9 @@
 -- A spelled front is read.
-use Rattle.std.proofs.Common.{ℕ, ◌≡◌, Bool, true, List, [], ◌∷◌, ◌++◌, flat_map, Ok, Some, refl, sym, ◌∙◌, ap, codes}
+use Rattle.std.proofs.Common.{ℕ, ◌≡◌, Bool, List, [], ◌∷◌, ◌++◌, flat_map, Ok, Some, refl, sym, ◌∙◌, ap, codes}
 use Rattle.fx_line.specs.declared.line.Shape.TheVariants.{Name}
 use Rattle.fx_line.specs.declared.line.Options.{Options}
 use Rattle.fx_line.specs.Line.{shape_of, front_of}
-use Rattle.fx_line.specs.Spelling.{Setting, Dither, KindIs, BitsAre, spelled, Sets, FrontIsRead}
+use Rattle.fx_line.specs.Spelling.{Dither, KindIs, BitsAre, spelled, FrontIsRead}
 use Rattle.fx_line.proofs.Fronts.{front_past_dither, front_past_kind, front_past_bits}
 
 pub front_of-name : (b : Bool) (set : Options) (file : List ℕ) (words : List (List ℕ)) → Name ≡ shape_of file → front_of b set (file ∷ words) ≡ Ok (set, file, words)

@@ -1,5 +1,5 @@
 -- How an accepted front is spelled.
-use Rattle.std.specs.Prelude.{ℕ, ◌≡◌, Bool, true, IsTrue, List, [], ◌∷◌, ◌++◌, flat_map, codes, Option, Some, Ok}
+use Rattle.std.specs.Prelude.{ℕ, ◌≡◌, Bool, true, List, [], ◌∷◌, ◌++◌, flat_map, codes, Some, Ok}
 use Rattle.fx_heads.specs.declared.head.Kind.{Kind}
 use Rattle.fx_line.specs.declared.line.Shape.TheVariants.{Name}
 use Rattle.fx_line.specs.declared.line.Options.{Options}

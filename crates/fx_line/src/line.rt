@@ -1,6 +1,5 @@
 //! The command line: `[-D] [-t wav|au] IN|- [-D] [-t wav|au] [-b 8|16|24|32] OUT|- [EFFECT [WORD ..] ..]`.
-ghost use Rattle.std.specs.Prelude.{◌≡◌, ◌∷◌, [], map, MatchResult, Ok, Err, string_bytes};
-ghost use Rattle.std.specs.Char.{to_ascii_lowercase};
+ghost use Rattle.std.specs.Prelude.{◌≡◌, ◌∷◌, [], MatchResult, Ok, Err, string_bytes};
 ghost use Rattle.fx_line.specs.Line.{bits_of, ending_kind, ends_in, front, front_of, kind_of, line_of, nothing_set, shape_of, shown, texts};
 ghost use Rattle.fx_line.specs.Spelling.{FrontIsRead};
 

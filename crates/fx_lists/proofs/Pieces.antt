@@ -11,6 +11,12 @@ module _ {X : Type 0} where
   length-pieces size zero xs = refl
   length-pieces size (suc count) xs = ap suc (length-pieces size count (drop size xs))
 
+  -- the first of the pieces
+  pub pieces-first : (size n m : ℕ) (xs : List X) → n ≤ m → take n (pieces size m xs) ≡ pieces size n xs
+  pieces-first size zero m xs h = refl
+  pieces-first size (suc n) zero xs h = absurd (omega arith)
+  pieces-first size (suc n) (suc m) xs h = ap (λ ps. take size xs ∷ ps) (pieces-first size n m (drop size xs) (omega arith))
+
   -- one more piece at the end
   pub pieces-append : (size count : ℕ) (xs f : List X) → length xs ≡ count * size → length f ≡ size → pieces size (suc count) (xs ++ f) ≡ pieces size count xs ++ f ∷ []
   pieces-append size zero [] f e l =

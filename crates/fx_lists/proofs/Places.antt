@@ -1,5 +1,5 @@
 -- Samples that are read and written at their places.
-use Rattle.std.proofs.Common.{ℕ, pos, zero, suc, ◌≡◌, get_or, refl, replicate, take, ◌<◌, List, [], ◌∷◌, length, arith, ℤ, ◌+◌, ◌*◌, Bool, true, false, ◌∙◌}
+use Rattle.std.proofs.Common.{ℕ, ◌++◌, pos, zero, suc, ◌≡◌, get_or, refl, replicate, take, ◌<◌, List, [], ◌∷◌, length, arith, ℤ, ◌+◌, ◌*◌, Bool, true, false, ◌∙◌}
 use Rattle.std.specs.Prelude.{nat_eq}
 use Rattle.std.proofs.lemmas.Bool.Decides.{nat_tests}
 
@@ -7,6 +7,12 @@ pub quiet-sample : (channels k : ℕ) → get_or (replicate channels (pos 0)) k 
 quiet-sample zero k = refl
 quiet-sample (suc channels) zero = refl
 quiet-sample (suc channels) (suc k) = quiet-sample channels k
+
+-- places that are silent beyond the samples are as good as none
+pub quiet-behind : (xs : List ℤ) (n i : ℕ) → get_or (xs ++ replicate n (pos 0)) i (pos 0) ≡ get_or xs i (pos 0)
+quiet-behind [] n i = quiet-sample n i
+quiet-behind (x ∷ xs) n zero = refl
+quiet-behind (x ∷ xs) n (suc i) = quiet-behind xs n i
 
 -- a part of silence
 pub quiet-part : (m n k : ℕ) → get_or (take m (replicate n (pos 0))) k (pos 0) ≡ pos 0

@@ -1,13 +1,28 @@
 -- Pieces that lie one after another, and one more of them.
-use Rattle.std.proofs.Common.{◌≡◌, ◌+◌, ◌*◌, ◌<◌, ◌≤◌, ℕ, zero, suc, List, [], ◌∷◌, ◌++◌, get_or, length, take, drop, refl, sym, ap, ◌∙◌, arith, add-one, length-append}
+use Rattle.std.proofs.Common.{◌≡◌, ◌+◌, ◌-◌, ◌*◌, ◌<◌, ◌≤◌, ℕ, zero, suc, List, [], ◌∷◌, ◌++◌, get_or, length, take, drop, refl, sym, ap, ◌∙◌, arith, add-one, append-nil, length-append, length-drop}
 use Rattle.std.proofs.Math.ListN.{set}
-use Rattle.std.proofs.lemmas.List.{append_assoc, drop-drop, drop-set, take-append-drop, take-set, length-take-le, drop_at}
+use Rattle.std.proofs.lemmas.List.{append_assoc, drop-drop, drop_all, drop-set, take-append-drop, take-set, length-take-le, drop_at, take_all, take_at}
 use Rattle.std.proofs.Math.Nat.{suc-mul}
 use Rattle.std.specs.Prelude.{ℤ}
+use borrow.Rule.Slice.PartMut.{put_mid}
 use Rattle.fx_lists.specs.Lists.{pieces}
 use Rattle.fx_lists.proofs.Pieces.{pieces-append, pieces-front}
 
 module _ {X : Type 0} where
+  -- the part of a slice from a place on
+  pub part-from : (a : ℕ) (xs : List X) → take (length xs - a) (drop a xs) ≡ drop a xs
+  part-from a xs = take_all (length xs - a) (drop a xs) (omega (arith, length-drop a xs))
+
+  -- and the slice after that part was written
+  pub put-from : (a : ℕ) (xs ys : List X) → put_mid a (length xs - a) xs ys ≡ take a xs ++ ys
+  put-from a xs ys =
+      let none : drop (length xs - a) (drop a xs) ≡ [] = drop_all (length xs - a) (drop a xs) (omega (arith, length-drop a xs)) in
+      rw none (ap (λ l. take a xs ++ l) (append-nil ys))
+
+  -- the whole of a vector, written back
+  pub written_back : (items new : List X) (len : ℕ) → len ≡ length items → length new ≡ length items → take len (new ++ drop (length new) items) ≡ new
+  written_back items new len e f = take_at new _ len (f ∙ sym e)
+
   -- one piece more
   pub pieces-suc : (size n : ℕ) (xs : List X) → pieces size (suc n) xs ≡ pieces size n xs ++ take size (drop (n * size) xs) ∷ []
   pieces-suc size zero xs = let e : 0 * size ≡ 0 = omega arith in rw e refl

@@ -5,7 +5,8 @@ use Rattle.fx_step.specs.Frame.{Samples}
 use Rattle.fx_step.specs.Stage.{Freezes, Given}
 use Rattle.fx_map.specs.Mapped.{IsMapState, MapState, map_acts}
 use Rattle.fx_frame.specs.Kinds.{most_taken}
-use Rattle.fx_frame.proofs.Counts.{flag-le, flag-of, flag-true}
+use Rattle.fx_frame.proofs.Counts.{flag-of, flag-true}
+use Rattle.fx_step.proofs.Flags.{flag-le}
 
 -- what holds of the eight numbers of a stage that stores so many frames
 pub record AreMapCounts (stored : ℕ) (ns : List ℕ) : Type 0 where

@@ -1,4 +1,4 @@
-//! Effects that make each frame of one frame alone: each sample is one exact fraction, rounded once.
+//! Effects that make each frame of one frame alone. What they compute is one exact fraction for each sample, rounded once.
 #![tactic(auto)]
 
 pub mod around;

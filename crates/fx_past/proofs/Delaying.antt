@@ -1,11 +1,11 @@
 -- Frames that all channels delay by as many frames as the line has places.
-use Rattle.std.proofs.Common.{◌≡◌, ◌+◌, ◌-◌, ◌*◌, ◌<◌, ◌≤◌, ℕ, ℤ, zero, suc, min, inl, inr, ◌⊎◌, cond, List, [], ◌∷◌, ◌++◌, length, take, drop, get_or, map, pos, refl, sym, ap, ◌∙◌, arith, zero-add, append-nil, length-append, length-drop, replicate}
+use Rattle.std.proofs.Common.{◌≡◌, ◌+◌, ◌-◌, ◌*◌, ◌<◌, ◌≤◌, ℕ, ℤ, zero, suc, min, inl, inr, ◌⊎◌, cond, List, [], ◌∷◌, ◌++◌, length, take, drop, get_or, pos, refl, sym, ap, ◌∙◌, arith, zero-add, length-append, replicate}
 use Rattle.std.specs.Prelude.{Bool, nat_le, nat_lt, slice_index, true, false}
 use Rattle.std.specs.Int.{w32}
 use Rattle.std.specs.List.{All}
 use borrow.Author.Tests.{ltb-true, ltb-false}
 use Rattle.std.proofs.lemmas.Bool.{cases_lt, le-leb, lt-leb}
-use Rattle.std.proofs.lemmas.List.{drop-drop, drop_all, drop_at, drop_more, get_or-append_right, get_or_append_left, get_or-replicate, length-replicate, take_all, take_at}
+use Rattle.std.proofs.lemmas.List.{drop-drop, drop_at, drop_more, get_or-append_right, get_or_append_left, get_or-replicate, length-replicate, take_all, take_at}
 use Rattle.std.proofs.lemmas.List.Elements.{All-append, All-cons, All-nil}
 use Rattle.std.proofs.Math.Nat.{add-mul}
 use Rattle.fx_step.specs.Frame.{Samples, silence}
@@ -13,7 +13,7 @@ use Rattle.fx_step.specs.Holds.{total}
 use Rattle.fx_ring.specs.Line.{Frames, IsLine, pushed_all}
 use Rattle.fx_lists.specs.Lists.{pieces, tabulate}
 use Rattle.fx_step.specs.Stage.{Given}
-use Rattle.fx_lists.proofs.Puts.{pieces-take}
+use Rattle.fx_lists.proofs.Puts.{part-from, pieces-take, put-from}
 use Rattle.fx_ring.proofs.ManyFrames.{pieces-joined, pieces-replicate, replicate-front}
 use Rattle.fx_lists.proofs.Pieces.{length-pieces}
 use Rattle.fx_past.specs.Delay.{delayed_frame}
@@ -27,16 +27,6 @@ use Rattle.fx_lists.proofs.Tabulate.{tabulate-replicate, tabulate-same}
 use borrow.Rule.Slice.PartMut.{put_mid}
 
 -- ---- what is written
-
--- the part of a slice from a place on
-part-from : (a : ℕ) (xs : List ℤ) → take (length xs - a) (drop a xs) ≡ drop a xs
-part-from a xs = take_all (length xs - a) (drop a xs) (omega (arith, length-drop a xs))
-
--- and the slice after that part was written
-put-from : (a : ℕ) (xs ys : List ℤ) → put_mid a (length xs - a) xs ys ≡ take a xs ++ ys
-put-from a xs ys =
-    let none : drop (length xs - a) (drop a xs) ≡ [] = drop_all (length xs - a) (drop a xs) (omega (arith, length-drop a xs)) in
-    rw none (ap (λ l. take a xs ++ l) (append-nil ys))
 
 module _ (ch quiet count : ℕ) (old mid behind : List ℤ) (few : quiet ≤ count) (is : mid ≡ replicate (quiet * ch) (pos 0) ++ drop (quiet * ch) old) where
   whole : put_mid (quiet * ch) (length mid - quiet * ch) mid behind ≡ replicate (quiet * ch) (pos 0) ++ behind

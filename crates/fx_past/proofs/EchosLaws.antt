@@ -1,10 +1,10 @@
 -- How an `Echos` behaves.
-use Rattle.std.proofs.Common.{ℕ, ℤ, pos, suc, zero, ◌+◌, ◌-◌, ◌*◌, ◌^◌, ◌<◌, ◌≤◌, ◌≡◌, true, false, map, List, [], ◌∷◌, ◌++◌, length, get_or, take, drop, replicate, refl, sym, ap, ◌∙◌, arith, add-zero, zero-add, sub-one}
+use Rattle.std.proofs.Common.{ℕ, ℤ, pos, suc, zero, ◌+◌, ◌-◌, ◌*◌, ◌^◌, ◌<◌, ◌≤◌, ◌≡◌, true, false, map, List, [], ◌∷◌, ◌++◌, length, get_or, drop, replicate, refl, sym, ap, ◌∙◌, arith, add-zero, zero-add, sub-one}
 use Rattle.std.specs.Prelude.{FitsSigned, unsigned_abs, Some, None}
 use Rattle.std.specs.List.{All}
 use Rattle.std.specs.Int.{w64}
 use Rattle.std.proofs.lemmas.Int.{fits_signed_from_abs}
-use Rattle.std.proofs.lemmas.List.{length-append, length-drop, length-map, get_or-map, take_at}
+use Rattle.std.proofs.lemmas.List.{length-append, length-drop, length-map, get_or-map}
 use Rattle.std.proofs.lemmas.List.Elements.{All-nil, All-drop, All-push, All-weaker, All-from_get_or, All-get_or}
 use Rattle.fx_fixed.specs.Extents.{sum_of_delays}
 use Rattle.fx_step.specs.Frame.{Samples, silence, IsFrame}
@@ -220,10 +220,6 @@ IsEchos-drained s lines quiet clips is none some small lines_are clips_few =
       over = is.over;
       fits = is.fits;
     }
-
--- what was written back
-pub kept-lines : (n : ℕ) (new old : List (Frames ℤ)) → n ≡ length old → length new ≡ length old → take n (new ++ drop (length new) old) ≡ new
-kept-lines n new old whole same = take_at new (drop (length new) old) n (same ∙ sym whole)
 
 pub length-row : (s : EchosState) (x : Samples) → length (row_after s x) ≡ length s.lines
 length-row s x = length-after s.arguments.channels s.lines x (replicate s.arguments.channels (pos 0))

@@ -18,10 +18,10 @@ use Rattle.fx_past.specs.EchosState.{after_push, fed, frame_of_lines, gone_at, l
 use Rattle.fx_convolve.specs.Products.{sum_of_products}
 use Rattle.fx_frame.proofs.SamplePieces.{pieces-sides}
 use Rattle.fx_past.proofs.EchosRow.{Small, small_of}
-use Rattle.fx_past.proofs.SumPieces.{flat-place}
 use Rattle.fx_past.proofs.EchosStored.{same-line}
 use Rattle.fx_frame.proofs.TapBlocks.{last-joined, last-whole, length-last}
 use Rattle.fx_lists.proofs.Tabulate.{tabulate-same}
+use Rattle.fx_lists.proofs.ChannelPlaces.{within-frames}
 
 -- ---- one line
 
@@ -222,18 +222,13 @@ pub piece-small : (c n m : ℕ) (xs : List ℤ) → n * c ≤ length xs → ((k 
 piece-small c n m xs room h i lt k = go (cases_lt k c)
   where
     go : (k < c) ⊎ (c ≤ k) → unsigned_abs (get_or (get_or (pieces c n xs) i []) k (pos 0)) ≤ m
-    go (inl l) = rw (get_or-piece c n xs i k (pos 0) lt l) (h (i * c + k) (omega (arith, flat-place c n i k lt l, room)))
+    go (inl l) = rw (get_or-piece c n xs i k (pos 0) lt l) (h (i * c + k) (omega (arith, within-frames c k i n l lt, room)))
     go (inr g) =
         let side : length (get_or (pieces c n xs) i []) ≡ c = pieces-sides c n xs room i [] (omega (arith, lt, length-pieces c n xs)) in
         rw (get_or_past (get_or (pieces c n xs) i []) k (pos 0) (omega arith)) (omega arith)
 
 pub flat-fits : (xs : List ℤ) → ((k : ℕ) → k < length xs → unsigned_abs (get_or xs k (pos 0)) ≤ 2 ^ 35) → All (FitsSigned w64) xs
 flat-fits xs h = All-from_get_or (FitsSigned w64) xs (pos 0) (λ i l. fits_signed_from_abs w64 (get_or xs i (pos 0)) (let few = h i l in omega (arith, few)))
-
--- no line is left
-pub sum-none : (ws : List ℤ) → sum_of_products ws [] ≡ pos 0
-sum-none [] = refl
-sum-none (w ∷ ws) = refl
 
 -- ---- one line more
 

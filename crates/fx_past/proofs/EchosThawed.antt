@@ -10,7 +10,8 @@ use Rattle.fx_past.specs.EchosState.{EchosState, IsEchos, echos_acts, frames_of}
 use Rattle.fx_past.specs.EchosStored.{IsRowStored}
 use Rattle.fx_frame.specs.Kinds.{most_taken}
 use Rattle.fx_frame.specs.Tapped.{TailNumbers, by_name}
-use Rattle.fx_frame.proofs.Counts.{flag-false, flag-le, flag-of, flag-times, flag-true}
+use Rattle.fx_frame.proofs.Counts.{flag-false, flag-of, flag-times, flag-true}
+use Rattle.fx_step.proofs.Flags.{flag-le}
 
 -- what holds of the numbers of a stage whose delays have that sum, which stores so many frames
 pub record AreEchosCounts (whole stored : ℕ) (n : TailNumbers) : Type 0 where

@@ -1,9 +1,7 @@
 -- Rounded sums of many frames at once.
 use Rattle.std.proofs.Common.{◌≡◌, ◌+◌, ◌*◌, ◌<◌, ℕ, ℤ, pos, Bool, List, [], ◌∷◌, length, map, take, get_or, refl, sym, ap, ◌∙◌, arith, zero-add}
 use Rattle.std.proofs.lemmas.List.{take_all}
-use Rattle.std.proofs.lemmas.Nat.{mul-add-lt}
 use Rattle.std.proofs.lemmas.Simd.{map-map}
-use Rattle.std.proofs.Math.Nat.{mul_comm}
 use Rattle.fx_step.specs.Frame.{Samples}
 use Rattle.fx_step.specs.Holds.{total}
 use Rattle.fx_lists.specs.Lists.{pieces, tabulate}
@@ -14,10 +12,6 @@ use Rattle.fx_lists.specs.Rounded.{clips_of, samples_of}
 use Rattle.fx_step.specs.Given.{given_of}
 use Rattle.fx_frame.proofs.SamplePieces.{clips-samples, pieces-samples, pieces-sides}
 use Rattle.fx_frame.proofs.Tables.{map-table}
-
--- where a sample of a frame stands among all
-pub flat-place : (channels n i k : ℕ) → i < n → k < channels → i * channels + k < n * channels
-flat-place channels n i k lt within = omega (arith, mul-add-lt i channels k n lt within, mul_comm channels n)
 
 -- each sum over a denominator is rounded, and the frames are those
 module _ (f : ℤ → ℤ × Bool) (size n : ℕ) (sums : List ℤ) (long : length sums ≡ n * size) where

@@ -1,5 +1,5 @@
 //! The effect `delay` of sox(1): each channel comes later by its own number of frames.
-ghost use Rattle.std.specs.Prelude.{◌≡◌, ◌<◌, ◌≤◌, ◌==◌, ◌⊎◌, nat_lt, if◌then◌else◌, ◌-◌, ◌*◌, ◌^◌, ◌++◌, ◌∷◌, [], ℕ, List, true, length, drop, take, replicate, slice_index, slice_index_or, pos, Err, IfOk, MatchResult};
+ghost use Rattle.std.specs.Prelude.{◌≡◌, ◌<◌, ◌≤◌, ◌⊎◌, nat_lt, if◌then◌else◌, ◌-◌, ◌*◌, ◌^◌, ◌++◌, ◌∷◌, [], ℕ, List, true, length, drop, take, replicate, slice_index, slice_index_or, pos, Err, IfOk, MatchResult};
 ghost use Rattle.fx_fixed.specs.Extents.{greatest};
 ghost use Rattle.fx_step.specs.Frame.{IsFrame, silence};
 ghost use Rattle.fx_ring.specs.Line.{pushed, pushed_all};

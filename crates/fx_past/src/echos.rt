@@ -1,5 +1,5 @@
 //! The effect `echos` of sox(1): echoes in series, each line taking the frame and what the line before it lets go.
-ghost use Rattle.std.specs.Prelude.{◌≡◌, ◌↔◌, true, ◌<◌, ◌≤◌, ◌+◌, ◌*◌, ◌^◌, ◌++◌, ◌+ℤ◌, ◌*ℤ◌, ℕ, pos, length, map, unsigned_abs, slice_get, slice_index_or, replicate, drop, Err, IfOk, IfSome, MatchResult};
+ghost use Rattle.std.specs.Prelude.{◌≡◌, ◌↔◌, true, ◌<◌, ◌≤◌, ◌+◌, ◌*◌, ◌^◌, ◌+ℤ◌, ◌*ℤ◌, ℕ, pos, length, map, unsigned_abs, slice_get, slice_index_or, replicate, drop, Err, IfOk, IfSome, MatchResult};
 ghost use Rattle.std.specs.List.{All};
 ghost use Rattle.fx_fixed.specs.Extents.{sum_of_delays};
 ghost use Rattle.fx_step.specs.Frame.{IsFrame};

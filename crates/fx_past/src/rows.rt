@@ -1,5 +1,5 @@
 //! The row of lines of an `echos`, made again from the frames that it stored.
-ghost use Rattle.std.specs.Prelude.{◌≡◌, ◌<◌, ◌≤◌, ◌+◌, ◌*◌, ◌^◌, ◌⊎◌, ◌↔◌, ℤ, Option, List, length, option_to_list, unsigned_abs, IfErr, IfOk, IsTrue};
+ghost use Rattle.std.specs.Prelude.{◌≡◌, ◌<◌, ◌≤◌, ◌+◌, ◌*◌, ◌^◌, ◌⊎◌, ◌↔◌, ℤ, Option, List, length, unsigned_abs, IfErr, IfOk, IsTrue};
 ghost use Rattle.std.specs.Int.{w64};
 ghost use Rattle.std.specs.List.{All};
 ghost use Rattle.fx_fixed.specs.Extents.{sum_of_delays};

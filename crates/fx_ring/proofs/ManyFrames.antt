@@ -13,7 +13,7 @@ use Rattle.fx_ring.specs.Ring.{IsRing, Buffer, buffer, keep_last}
 use Rattle.fx_lists.specs.Lists.{pieces}
 use Rattle.fx_lists.proofs.Puts.{pieces-split, pieces-take}
 use Rattle.fx_ring.proofs.RingLaws.{frames_of, ring-len, ring-place, ring-small}
-use Rattle.fx_lists.proofs.Pieces.{get_or-piece, length-pieces, pieces-front}
+use Rattle.fx_lists.proofs.Pieces.{get_or-piece, length-pieces, pieces-first, pieces-front}
 use borrow.Rule.Slice.PartMut.{put_mid}
 
 -- the same so many times, and others behind it
@@ -36,12 +36,6 @@ take-same zero i j ys h = refl
 take-same (suc n) i j ys h = ap (λ m. take (suc n) (drop m ys)) (h (omega arith))
 
 module _ {X : Type 0} where
-  -- the first of the pieces
-  pub pieces-first : (size n m : ℕ) (xs : List X) → n ≤ m → take n (pieces size m xs) ≡ pieces size n xs
-  pieces-first size zero m xs h = refl
-  pieces-first size (suc n) zero xs h = absurd (omega arith)
-  pieces-first size (suc n) (suc m) xs h = ap (λ ps. take size xs ∷ ps) (pieces-first size n m (drop size xs) (omega arith))
-
   -- the pieces of two lists
   pub pieces-joined : (size n m : ℕ) (xs ys : List X) → length xs ≡ n * size → pieces size (n + m) (xs ++ ys) ≡ pieces size n xs ++ pieces size m ys
   pieces-joined size n m xs ys e =

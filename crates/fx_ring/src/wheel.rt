@@ -1,5 +1,5 @@
 //! The latest samples, up to a capacity, in the places of one vector.
-ghost use Rattle.std.specs.Prelude.{◌≡◌, ◌<◌, ◌≤◌, ◌+◌, ◌^◌, ◌++◌, ◌∷◌, [], ℕ, length, nat_lt, option_copied, slice_get, take, true, false, IfOk, MatchOption, None, Some, if◌then◌else◌};
+ghost use Rattle.std.specs.Prelude.{◌≡◌, ◌<◌, ◌≤◌, ◌+◌, ◌^◌, ◌++◌, ◌∷◌, [], length, nat_lt, option_copied, slice_get, take, true, false, IfOk, MatchOption, None, Some, if◌then◌else◌};
 ghost use Rattle.std.specs.Vec.{vec_capacity, vec_len};
 ghost use Rattle.fx_ring.specs.Ring.{buffer, keep_last, turned};
 

@@ -1,5 +1,5 @@
 -- What a whole buffer of frames adds to what was read, passed on and sent.
-use Rattle.std.proofs.Common.{◌≡◌, ℕ, ◌+◌, ◌-◌, ◌*◌, ◌<◌, ◌≤◌, ◌^◌, inl, inr, map, Bool, true, false, List, [], ◌∷◌, ◌++◌, length, drop, refl, subst, sym, ap, ◌∙◌, arith}
+use Rattle.std.proofs.Common.{◌≡◌, ℕ, ◌+◌, ◌-◌, ◌*◌, ◌<◌, ◌≤◌, ◌^◌, inl, inr, map, false, List, [], ◌∷◌, ◌++◌, drop, refl, subst, sym, ap, ◌∙◌, arith}
 use Rattle.std.proofs.lemmas.Bool.{cases_lt}
 use Rattle.std.proofs.lemmas.List.{append_assoc, append-nil, length-append}
 use Rattle.std.specs.Prelude.{Option, Some}
@@ -13,7 +13,7 @@ use Rattle.fx_flow.specs.Feed.{FlowFed, FlowGave, stepped, taken_in, untouched}
 use Rattle.fx_flow.specs.Parts.{Parts, given_by, taken_of}
 use Rattle.fx_flow.specs.Composed.{enough_for}
 use Rattle.fx_flow.specs.Steps.{given_out, rest_of, wholes_of}
-use Rattle.fx_heads.proofs.Held.{Takes-turn}
+use Rattle.fx_heads.proofs.Held.{Takes-both, Takes-turn}
 use Rattle.fx_sound.proofs.Sending.{Sent-put}
 use Rattle.fx_sound.proofs.Sounds.{first_frames-add, held-next, held-passed, length-first_frames}
 use Rattle.fx_sound.specs.Container.{after_frames, first_frames}
@@ -32,7 +32,6 @@ use Rattle.fx_run.specs.Through.{CutOff, Drained, Gives, Reached, Through, Waits
 use Rattle.fx_run.specs.Through as reach
 use Rattle.fx_run.proofs.Passing.{Flowed-turn, WantsMore-next, enough-same, not-both, sound_frames-more, taken-take}
 use Rattle.fx_run.proofs.Sending.{coded-append, coded_clips-append}
-use Rattle.fx_heads.proofs.WaveLemmas.{Takes-both}
 
 module _ {S R : Type 0} (acts : Acts S R) where
   -- a row of calls, behind those that came before
@@ -246,9 +245,7 @@ Pumped-turn acts device first flow fed new source source' progress progress' cod
           let frames = ap (λ n. sound_frames first.progress n bytes) count ∙ sound_frames-more _ _ _ _ _ _ _ ran taken in
           rw frames
           (Flowed-turn acts first.flow flow fed new first.coding _ _ _ _ _ _ _ _ _ first.head (p.flowed bytes known) p.hungry is (rw p.coded at q));
-      takes =
-          let Taken : ℕ → Type 0 = λ n. Takes device.told first.source source' n in
-          subst Taken (sym (ap (λ n. n * size) count ∙ more)) (Takes-both device.told _ _ _ (turn * size) size p.takes (rw p.size at taken));
+      takes = Takes-both device.told _ _ _ (turn * size) size _ (sym (ap (λ n. n * size) count ∙ more)) p.takes (rw p.size at taken);
       reads = reads ∙ p.reads;
     }
 

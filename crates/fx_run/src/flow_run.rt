@@ -1,5 +1,5 @@
 //! A whole sound through a flow, from its source to a writer.
-ghost use Rattle.std.specs.Prelude.{◌≡◌, ℕ, ◌+◌, ◌*◌, ◌<◌, ◌≤◌, ◌^◌, ◌++◌, [], true, IfErr, IfOk, IsTrue, List, MatchResult, None, OnErr, OnOk, Option, length, map};
+ghost use Rattle.std.specs.Prelude.{◌≡◌, ℕ, ◌+◌, ◌<◌, ◌≤◌, ◌^◌, ◌++◌, [], true, IfErr, IfOk, IsTrue, List, MatchResult, None, OnErr, OnOk, Option, length, map};
 ghost use Rattle.fx_run.specs.Due.{dues};
 ghost use Rattle.fx_run.specs.Outlet.{WroteAll, WroteFront};
 ghost use Rattle.fx_run.specs.Report.{Completed, HasCause, ReadBefore, StoppedAt, cause_of, clips_now, pad, report_at, report_in, start_of};

@@ -1,5 +1,5 @@
 //! What a run did.
-ghost use Rattle.std.specs.Prelude.{◌≡◌, replicate};
+ghost use Rattle.std.specs.Prelude.{◌≡◌};
 
 use thiserror::Error;
 

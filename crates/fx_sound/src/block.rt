@@ -1,6 +1,6 @@
 //! Frames of a sound that a source holds already, many at a time.
 
-ghost use Rattle.std.specs.Prelude.{◌≡◌, ◌≤◌, ◌+◌, ◌*◌, length, drop};
+ghost use Rattle.std.specs.Prelude.{◌≡◌, ◌≤◌, ◌*◌, length, drop};
 ghost use Rattle.fx_lists.specs.Lists.{pieces};
 ghost use Rattle.fx_sound.specs.Container.{after_frames, first_frames};
 ghost use Rattle.fx_sound.specs.Sound.{AreHeld, size_of};

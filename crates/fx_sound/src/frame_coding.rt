@@ -1,8 +1,6 @@
 //! Frames as bytes, at the pace of the inner loop.
 
 ghost use Rattle.std.specs.Prelude.{◌≡◌, ◌*◌, ◌≤◌, length};
-ghost use Rattle.fx_io.specs.Coding.{width_of};
-ghost use Rattle.fx_step.specs.Frame.{IsFrame};
 ghost use Rattle.fx_heads.specs.FrameCoding.{frame_size, samples_of, bytes_of, clips_of};
 
 use crate::bulk::{decode_into, encode_into};

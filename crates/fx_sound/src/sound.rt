@@ -1,6 +1,6 @@
 //! A whole sound in memory.
 
-ghost use Rattle.std.specs.Prelude.{◌≡◌, ◌+◌, ◌≤◌, ◌*◌, false, IfOk, IfErr, OnOk, Err, MatchResult, length};
+ghost use Rattle.std.specs.Prelude.{◌≡◌, ◌+◌, ◌≤◌, ◌*◌, false, IfOk, IfErr, OnOk, Err, length};
 ghost use Rattle.fx_sound.specs.Container.{container, frames_of, at_end, ReadAllTold};
 ghost use Rattle.fx_heads.specs.Known.{IfKnown};
 ghost use Rattle.fx_sound.specs.Sound.{size_of, within};

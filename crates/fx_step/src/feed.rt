@@ -3,7 +3,6 @@ ghost use Rattle.std.specs.Prelude.{◌≡◌, ◌<◌, ◌≤◌, ◌+◌, ◌*
 ghost use Rattle.std.specs.Int.{w32};
 ghost use Rattle.std.specs.List.{All};
 ghost use Rattle.fx_step.specs.Feed.{Fed, IsSteady, PassedOn};
-ghost use Rattle.fx_step.specs.Frame.{IsFrame};
 ghost use Rattle.fx_step.specs.Holds.{kinds};
 ghost use Rattle.fx_lists.specs.Lists.{pieces};
 ghost use Rattle.fx_step.specs.Row.{AreReady, EachThrough, RowThrough, outputs_of};

@@ -1,4 +1,4 @@
-ghost use Rattle.std.specs.Prelude.{◌≡◌, ◌<◌, ◌≤◌, ◌↔◌, ◌∷◌, [], length, take, slice_get, slice_index_or, Some, IsSome, IfSome};
+ghost use Rattle.std.specs.Prelude.{◌≡◌, ◌<◌, ◌≤◌, ◌↔◌, ◌∷◌, [], length, take, slice_index_or, Some, IsSome, IfSome};
 ghost use Rattle.std.specs.List.{All};
 ghost use Rattle.fx_step.specs.Frame.{silence_of, padded_by, IsFrameOf};
 ghost use Rattle.fx_step.specs.Places.{IsPlaces, IsRead};

@@ -11,14 +11,12 @@ use Rattle.fx_sums.specs.Weights.{Weights}
 use Rattle.fx_sums.specs.SmallWeights.{SumsAs}
 use Rattle.fx_convolve.specs.Products.{sum_of_products}
 use Rattle.fx_convolve.proofs.Numbers.{below-positive, one-times, mul-add, mul_assoc}
-
-turned : (x y : ℤ) → x *ℤ y ≡ y *ℤ x
-turned x y = omega (arith, ints)
+use Rattle.std.proofs.Math.IntN.{*ℤ_comm}
 
 -- a factor of each weight is one of the sum
 one-more : (by x w c rest more : ℤ) → by *ℤ w ≡ c → by *ℤ rest ≡ more → by *ℤ ((x *ℤ w) +ℤ rest) ≡ (x *ℤ c) +ℤ more
 one-more by x w c rest more first others =
-    let here : by *ℤ (x *ℤ w) ≡ x *ℤ c = mul_assoc by x w ∙ ap (λ z. z *ℤ w) (turned by x) ∙ sym (mul_assoc x by w) ∙ ap (λ z. x *ℤ z) first in
+    let here : by *ℤ (x *ℤ w) ≡ x *ℤ c = mul_assoc by x w ∙ ap (λ z. z *ℤ w) (*ℤ_comm by x) ∙ sym (mul_assoc x by w) ∙ ap (λ z. x *ℤ z) first in
     mul-add by (x *ℤ w) rest ∙ ap (λ z. z +ℤ (by *ℤ rest)) here ∙ ap (λ z. (x *ℤ c) +ℤ z) others
 
 times-none : (by : ℤ) → by *ℤ pos 0 ≡ pos 0

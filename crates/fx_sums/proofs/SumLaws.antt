@@ -1,12 +1,11 @@
 -- Sums of samples times gains, one for each channel.
-use Rattle.std.proofs.Common.{ℕ, ℤ, pos, suc, zero, ◌+◌, ◌-◌, ◌*◌, ◌^◌, ◌<◌, ◌≤◌, ◌≡◌, ◌+ℤ◌, ◌*ℤ◌, Bool, true, false, List, [], ◌∷◌, ◌++◌, length, get_or, set, refl, arith, to_z, of_z, replicate}
+use Rattle.std.proofs.Common.{ℕ, ℤ, pos, ◌+◌, ◌-◌, ◌*◌, ◌^◌, ◌<◌, ◌≤◌, ◌≡◌, ◌+ℤ◌, ◌*ℤ◌, Bool, true, false, List, length, get_or, set, refl, arith, to_z, of_z}
 use Rattle.std.specs.Prelude.{neg_ℤ, ◌≤ℤ◌, unsigned_abs, nat_eq, nat_lt}
 use Rattle.std.proofs.lemmas.Bool.Decides.{nat_tests}
 use Rattle.std.proofs.lemmas.Grind.{get_or-set_at}
 use Rattle.std.proofs.lemmas.Int.{ints, unsigned_abs-mul, fits_signed_from_abs, to_z-of_z}
 use Rattle.std.proofs.lemmas.List.{get_or-set_other}
 use Rattle.fx_fixed.specs.declared.gains.TheConstants.{UNIT}
-use Rattle.fx_lists.proofs.Places.{quiet-sample}
 use mir.Syntax.{w128}
 use Rattle.fx_convolve.proofs.Magnitudes.{added-few, scaled-few}
 
@@ -65,12 +64,6 @@ pub plain-sum : (s g x f y : ℤ) → f ≡ g → y ≡ x → unsigned_abs g ≤
 plain-sum s g x f y e d small sample room =
     let product = scaled-few g x (2 ^ 50) (2 ^ 34) small sample in
     rw (e, d, held s (omega arith), held g (omega arith), held x (omega arith), held (g *ℤ x) (omega (arith, product))) refl
-
--- places that are silent beyond the samples are as good as none
-pub filled-up : (xs : List ℤ) (n i : ℕ) → get_or (xs ++ replicate n (pos 0)) i (pos 0) ≡ get_or xs i (pos 0)
-filled-up [] n i = quiet-sample n i
-filled-up (x ∷ xs) n zero = refl
-filled-up (x ∷ xs) n (suc i) = filled-up xs n i
 
 -- silence adds nothing
 pub zero-echo : (s g x : ℤ) → pos 0 ≡ x → s ≡ s +ℤ (g *ℤ x)

@@ -1,5 +1,4 @@
 //! The messages of the program on its files, one line each.
-ghost use Rattle.std.specs.Prelude.{◌++◌};
 ghost use Rattle.soxchain.specs.FileMessages.{open_message, rewrite_message};
 ghost use Rattle.soxchain.specs.Saying.{Says};
 

@@ -1,5 +1,5 @@
 //! What is done before a run: the head is read, the plan and its chain are made.
-ghost use Rattle.std.specs.Prelude.{◌≡◌, [], IfOk, Err, MatchResult, ℕ};
+ghost use Rattle.std.specs.Prelude.{◌≡◌, [], IfOk, Err, MatchResult};
 ghost use Rattle.fx_chain.specs.Chain.{IsNewChain};
 ghost use Rattle.fx_plan.specs.CommandLines.{effects_in, planning_in};
 ghost use Rattle.fx_plan.specs.Plans.{head_layout, all_faults, bytes_of};

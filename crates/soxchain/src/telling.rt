@@ -1,5 +1,5 @@
 //! Messages on their way to a writer that may fail.
-ghost use Rattle.std.specs.Prelude.{◌≡◌, ℕ, ◌++◌, ◌^◌, ◌<◌, Bool, MatchBool, length};
+ghost use Rattle.std.specs.Prelude.{◌≡◌, ◌++◌, ◌<◌, MatchBool};
 ghost use Rattle.std.specs.Io.KnownBytes.{Appends};
 ghost use Rattle.soxchain.specs.Messages.{line_feed};
 ghost use Rattle.soxchain.specs.Saying.{Begins, Says};

@@ -2,7 +2,7 @@
 //!
 //! First "soxchain" and the version of this form, 1; then how many numbers there are, and these; then each frame: how many
 //! samples it has, and these, a negative one as 2^64 more.
-ghost use Rattle.std.specs.Prelude.{◌≡◌, ◌≢◌, ◌%◌, ◌↔◌, ◌≤◌, ◌++◌, flat_map, length, IfOk, IfSome, MatchOption, IsSome, OnOk, map, List, ℕ};
+ghost use Rattle.std.specs.Prelude.{◌≡◌, ◌↔◌, ◌≤◌, ◌++◌, flat_map, length, IfOk, IfSome, MatchOption, IsSome, OnOk, map, List, ℕ};
 ghost use Rattle.std.specs.Int.{cast_signed, w64};
 ghost use Rattle.std.specs.List.{All};
 ghost use Rattle.fx_step.specs.Frame.{IsWideFrame, Samples};

@@ -1,5 +1,5 @@
 //! Products of remainders by one that is known beforehand.
-ghost use Rattle.std.specs.Prelude.{◌≡◌, ◌<◌, ◌≤◌, ◌+◌, ◌*◌, ◌/◌, ◌^◌, pos, ◌*ℤ◌};
+ghost use Rattle.std.specs.Prelude.{◌≡◌, ◌<◌, ◌*◌, ◌/◌, ◌^◌, pos, ◌*ℤ◌};
 ghost use Rattle.fx_convolve.specs.Residues.{Same};
 
 use super::remainders::{MODULUS, reduced};

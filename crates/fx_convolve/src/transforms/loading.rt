@@ -1,5 +1,5 @@
 //! Weights and samples as remainders, ready for transforms.
-ghost use Rattle.std.specs.Prelude.{◌≡◌, ◌<◌, ◌≤◌, ◌+◌, ◌^◌, ℕ, pos, ◌∷◌, ◌*ℤ◌, length, map, slice_index_or, unsigned_abs, IfOk};
+ghost use Rattle.std.specs.Prelude.{◌≡◌, ◌<◌, ◌≤◌, ◌^◌, ℕ, pos, ◌∷◌, ◌*ℤ◌, length, map, slice_index_or, unsigned_abs, IfOk};
 ghost use Rattle.fx_convolve.specs.Prepared.{padded};
 ghost use Rattle.fx_convolve.specs.Residues.{AreRemainders, AreSame};
 ghost use Rattle.fx_convolve.specs.Transform.{IsTransform};

@@ -1,10 +1,10 @@
 //! The words of `remix`: out-specs, one for each channel of the output.
 
-ghost use Rattle.std.specs.Prelude.{◌≡◌, ◌<◌, ◌≤◌, ◌+◌, ◌∷◌, [], IfOk, IfSome, MatchOption, length, map, true};
+ghost use Rattle.std.specs.Prelude.{◌≡◌, ◌<◌, ◌≤◌, ◌+◌, ◌∷◌, [], IfOk, IfSome, MatchOption, length, true};
 ghost use Rattle.std.specs.List.{list_all, list_any, slice_split};
 ghost use Rattle.fx_words.specs.Faults.{Reads, texts};
 ghost use Rattle.fx_map.specs.RemixWords;
-ghost use Rattle.fx_map.specs.RemixWords.{contributions, faults_behind, is_comma, is_mix, is_there, mixing_of, out_specs, part_faults, remix_faults, remixed, spec_fault, spec_faults, specs_value, summed, weighed, weight_of};
+ghost use Rattle.fx_map.specs.RemixWords.{contributions, faults_behind, is_comma, is_mix, is_there, mixing_of, out_specs, part_faults, remix_faults, remixed, spec_fault, spec_faults, specs_value, summed, weighed};
 
 mod in_spec;
 

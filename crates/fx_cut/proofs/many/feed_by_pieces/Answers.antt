@@ -1,47 +1,36 @@
-use Rattle.std.proofs.Common.{rules, ◌*◌, []}
+use Rattle.std.proofs.Common.{rules, ◌*◌}
 use Rattle.fx_cut.proofs.Pieces.{FedFront, few-given, few-taken, front-any, front-both, out-both, part, rest-below, rest-channels}
+use Rattle.fx_cut.proofs.many.feed_by_pieces.Given as given
 use Rattle.fx_cut.proofs.many.feed_by_pieces.Goals as goal
+use Rattle.fx_cut.proofs.many.feed_by_pieces.Goals.{After-feed_by_frames-waiting, After-feed_piece-rest}
+
+-- what was waiting was given
+one : (g : given.Over) (c : After-feed_by_frames-waiting g) → FedFront g.S.Stage.acts c.args.stage.now c.feed_by_frames-waiting.new.stage c.args.input.now c.args.output.now c.feed_by_frames-waiting.new.output c.feed_by_frames-waiting.result.taken c.feed_by_frames-waiting.result.given
+one g c =
+    let p = c.feed_by_frames-waiting.ensures in
+    front-any g.S.Stage.acts c.args.stage.now c.feed_by_frames-waiting.new.stage c.args.input.now c.args.output.now c.feed_by_frames-waiting.new.output c.feed_by_frames-waiting.result.taken c.feed_by_frames-waiting.result.given record { fed = p.fed; read = p.read; written = p.written; behind = p.behind }
 
 pub feed_piece-rest-requires : goal.feed_piece-rest-requires
 feed_piece-rest-requires g c =
-    let p = c.feed_by_frames-waiting.ensures in
-    let none : FedFront g.S.Stage.acts c.args.stage.now c.feed_by_frames-waiting.new.stage [] c.args.output.now c.feed_by_frames-waiting.new.output c.feed_by_frames-waiting.result.taken c.feed_by_frames-waiting.result.given = record { fed = p.fed; read = p.read; written = p.written; behind = p.behind } in
-    let one = front-any g.S.Stage.acts c.args.stage.now c.feed_by_frames-waiting.new.stage c.args.input.now c.args.output.now c.feed_by_frames-waiting.new.output c.feed_by_frames-waiting.result.taken c.feed_by_frames-waiting.result.given none in
-    record {
-      channels = rest-channels g.S.Stage.acts one c.in_channels-inputs.ensures c.out_channels-outputs.ensures c.requires.channels;
-      below_limit = rest-below g.S.Stage.acts one c.in_channels-inputs.ensures c.out_channels-outputs.ensures c.requires.below_limit;
-    }
+    let first = one g (goal.at.feed_piece-rest-requires g c).After-feed_by_frames-waiting in
+    record { channels = rest-channels g.S.Stage.acts first c.in_channels-inputs.ensures c.out_channels-outputs.ensures c.requires.channels; below_limit = rest-below g.S.Stage.acts first c.in_channels-inputs.ensures c.out_channels-outputs.ensures c.requires.below_limit }
+
+-- and the rest was passed
+two : (g : given.Over) (c : After-feed_piece-rest g) → FedFront g.S.Stage.acts c.feed_by_frames-waiting.new.stage c.feed_piece-rest.new.stage (part (c.feed_by_frames-waiting.result.taken * c.in_channels-inputs.result) c.args.input.now) (part (c.feed_by_frames-waiting.result.given * c.out_channels-outputs.result) c.feed_by_frames-waiting.new.output) c.feed_piece-rest.new.output c.feed_piece-rest.result.taken c.feed_piece-rest.result.given
+two g c = let q = c.feed_piece-rest.ensures in record { fed = q.fed; read = q.read; written = q.written; behind = q.behind }
 
 pub returns : goal.returns
 returns g c =
-    let p = c.feed_by_frames-waiting.ensures in
-    let none : FedFront g.S.Stage.acts c.args.stage.now c.feed_by_frames-waiting.new.stage [] c.args.output.now c.feed_by_frames-waiting.new.output c.feed_by_frames-waiting.result.taken c.feed_by_frames-waiting.result.given = record { fed = p.fed; read = p.read; written = p.written; behind = p.behind } in
-    let one = front-any g.S.Stage.acts c.args.stage.now c.feed_by_frames-waiting.new.stage c.args.input.now c.args.output.now c.feed_by_frames-waiting.new.output c.feed_by_frames-waiting.result.taken c.feed_by_frames-waiting.result.given none in
-    let q = c.feed_piece-rest.ensures in
-    let two : FedFront g.S.Stage.acts c.feed_by_frames-waiting.new.stage c.feed_piece-rest.new.stage (part (c.feed_by_frames-waiting.result.taken * c.in_channels-inputs.result) c.args.input.now) (part (c.feed_by_frames-waiting.result.given * c.out_channels-outputs.result) c.feed_by_frames-waiting.new.output) c.feed_piece-rest.new.output c.feed_piece-rest.result.taken c.feed_piece-rest.result.given =
-    record { fed = q.fed; read = q.read; written = q.written; behind = q.behind } in
-    let both = front-both g.S.Stage.acts one c.in_channels-inputs.ensures c.out_channels-outputs.ensures two in
-    let out = out-both g.S.Stage.acts one c.in_channels-inputs.ensures c.out_channels-outputs.ensures two record { dry = q.dry; used = q.used } in
+    let first = one g (goal.at.returns g c).After-feed_by_frames-waiting in
+    let second = two g (goal.at.returns g c).After-feed_piece-rest in
+    let both = front-both g.S.Stage.acts first c.in_channels-inputs.ensures c.out_channels-outputs.ensures second in
+    let out = out-both g.S.Stage.acts first c.in_channels-inputs.ensures c.out_channels-outputs.ensures second record { dry = c.feed_piece-rest.ensures.dry; used = c.feed_piece-rest.ensures.used } in
     record { fed = both.fed; read = both.read; written = both.written; behind = both.behind; dry = out.dry; used = out.used }
 
 pub overflow_add-result : goal.overflow_add-result
 overflow_add-result g c =
-    let p = c.feed_by_frames-waiting.ensures in
-    let none : FedFront g.S.Stage.acts c.args.stage.now c.feed_by_frames-waiting.new.stage [] c.args.output.now c.feed_by_frames-waiting.new.output c.feed_by_frames-waiting.result.taken c.feed_by_frames-waiting.result.given = record { fed = p.fed; read = p.read; written = p.written; behind = p.behind } in
-    let one = front-any g.S.Stage.acts c.args.stage.now c.feed_by_frames-waiting.new.stage c.args.input.now c.args.output.now c.feed_by_frames-waiting.new.output c.feed_by_frames-waiting.result.taken c.feed_by_frames-waiting.result.given none in
-    let q = c.feed_piece-rest.ensures in
-    let two : FedFront g.S.Stage.acts c.feed_by_frames-waiting.new.stage c.feed_piece-rest.new.stage (part (c.feed_by_frames-waiting.result.taken * c.in_channels-inputs.result) c.args.input.now) (part (c.feed_by_frames-waiting.result.given * c.out_channels-outputs.result) c.feed_by_frames-waiting.new.output) c.feed_piece-rest.new.output c.feed_piece-rest.result.taken c.feed_piece-rest.result.given =
-    record { fed = q.fed; read = q.read; written = q.written; behind = q.behind } in
-    let few = few-taken g.S.Stage.acts one c.in_channels-inputs.ensures c.out_channels-outputs.ensures two c.requires.channels.0 in
-    search rules
+    search (rules, few-taken g.S.Stage.acts (one g (goal.at.overflow_add-result g c).After-feed_by_frames-waiting) c.in_channels-inputs.ensures c.out_channels-outputs.ensures (two g (goal.at.overflow_add-result g c).After-feed_piece-rest) c.requires.channels.0)
 
 pub overflow_add-result-2 : goal.overflow_add-result-2
 overflow_add-result-2 g c =
-    let p = c.feed_by_frames-waiting.ensures in
-    let none : FedFront g.S.Stage.acts c.args.stage.now c.feed_by_frames-waiting.new.stage [] c.args.output.now c.feed_by_frames-waiting.new.output c.feed_by_frames-waiting.result.taken c.feed_by_frames-waiting.result.given = record { fed = p.fed; read = p.read; written = p.written; behind = p.behind } in
-    let one = front-any g.S.Stage.acts c.args.stage.now c.feed_by_frames-waiting.new.stage c.args.input.now c.args.output.now c.feed_by_frames-waiting.new.output c.feed_by_frames-waiting.result.taken c.feed_by_frames-waiting.result.given none in
-    let q = c.feed_piece-rest.ensures in
-    let two : FedFront g.S.Stage.acts c.feed_by_frames-waiting.new.stage c.feed_piece-rest.new.stage (part (c.feed_by_frames-waiting.result.taken * c.in_channels-inputs.result) c.args.input.now) (part (c.feed_by_frames-waiting.result.given * c.out_channels-outputs.result) c.feed_by_frames-waiting.new.output) c.feed_piece-rest.new.output c.feed_piece-rest.result.taken c.feed_piece-rest.result.given =
-    record { fed = q.fed; read = q.read; written = q.written; behind = q.behind } in
-    let few = few-given g.S.Stage.acts one c.in_channels-inputs.ensures c.out_channels-outputs.ensures two c.if-outputs-eq0.false c.feed_piece-rest.auto.output in
-    search rules
+    search (rules, few-given g.S.Stage.acts (one g (goal.at.overflow_add-result-2 g c).After-feed_by_frames-waiting) c.in_channels-inputs.ensures c.out_channels-outputs.ensures (two g (goal.at.overflow_add-result-2 g c).After-feed_piece-rest) c.if-outputs-eq0.false c.feed_piece-rest.auto.output)

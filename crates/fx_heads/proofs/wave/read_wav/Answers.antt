@@ -4,7 +4,6 @@ use Rattle.std.proofs.lemmas.List.{length-drop, drop-drop, take-take}
 use Rattle.std.proofs.lemmas.Result.{IfErr-weaker}
 use Rattle.fx_heads.proofs.Faults.{IfOk-both}
 use Rattle.fx_heads.proofs.Held.{Takes-both, Tells-both}
-use Rattle.fx_heads.proofs.WaveLemmas.{}
 use Rattle.fx_heads.proofs.WaveRiff.{riff-short, riff-cut, riff-chunks, riff-unknown, riff-chunks-cut}
 use Rattle.fx_heads.proofs.wave.read_wav.Goals as goal
 

@@ -1,4 +1,4 @@
-use Rattle.std.proofs.Common.{rules, ◌≡◌, sym, ◌∙◌, ap}
+use Rattle.std.proofs.Common.{sym, ◌∙◌, ap}
 use Rattle.fx_line.specs.Line.{texts}
 use Rattle.fx_line.proofs.Fronts.{past_dither, past_kind, past_bits}
 use Rattle.fx_line.proofs.line.read_front.Goals as goal

@@ -1,10 +1,14 @@
-use Rattle.std.proofs.Common.{rules, ◌≡◌, ◌+◌, ◌*◌, ◌<◌, ◌∙◌, ◌+ℤ◌, ap, ℕ, ℤ, Bool, pos, length, arith, slice_index_or, add-one, below_more, sym, to_z, of_z, w32, w64}
+use Rattle.std.proofs.Common.{rules, ◌≡◌, ◌+◌, ◌*◌, ◌<◌, ◌≤◌, ◌∙◌, ◌+ℤ◌, ap, ℕ, ℤ, Bool, pos, length, arith, slice_index_or, add-one, below_more, sym, to_z, of_z, w32, w64}
 use mathlib.Core.Path.{ap₂}
 use Rattle.std.proofs.Math.Nat.{suc-mul}
 use Rattle.fx_fixed.specs.Rounding.{rounding}
 use Rattle.fx_lists.proofs.ChannelPlaces.{others-stay, put-more, within-frames}
 use Rattle.std.proofs.lemmas.Int.{ints}
 use Rattle.fx_map.proofs.channels.place_mean.Goals as goal
+
+-- a sample of a channel is in its slice
+sample-there : (channels channel place count at len : ℕ) → channel < channels → place < count → at ≡ place * channels + channel → count * channels ≤ len → at < len
+sample-there channels channel place count at len inside less is room = omega (arith, within-frames channels channel place count inside less)
 
 pub frames-preserved : goal.frames-preserved
 frames-preserved c =
@@ -18,8 +22,7 @@ frames-preserved c =
     let back : to_z w32 (of_z w32 c.halved.result) ≡ c.halved.result = search rules in
     let y : ℤ = c.halved.result in
     let value : y ≡ (rounding (F k) 2).0 = sym (ap (λ (r : ℤ × Bool). r.0) made) in
-    let far = within-frames c.args.place.channels c.args.place.channel k c.args.shape.count c.requires.place c.frames-test.true in
-    let inside : c.frames.at < length c.frames.to = omega (arith, far, old.at_is, c.requires.to, c.frames.auto.to) in
+    let inside = sample-there c.args.place.channels c.args.place.channel k c.args.shape.count c.frames.at (length c.frames.to) c.requires.place c.frames-test.true old.at_is (omega (arith, c.requires.to, c.frames.auto.to)) in
     rw back
     record {
       left_is = omega (arith, old.left_is, suc-mul k c.args.shape.channels, add-one k);
@@ -31,55 +34,31 @@ frames-preserved c =
     }
 
 pub bounds-from-left : goal.bounds-from-left
-bounds-from-left c =
-    let far = within-frames c.args.shape.channels c.args.first c.frames._turn c.args.shape.count c.requires.first c.frames-test.true in
-    omega (arith, far, c.frames.invariant.left_is, c.requires.from)
+bounds-from-left c = sample-there c.args.shape.channels c.args.first c.frames._turn c.args.shape.count c.frames.left (length c.args.from.now) c.requires.first c.frames-test.true c.frames.invariant.left_is c.requires.from
 
 pub offset_bounds-from-left : goal.offset_bounds-from-left
-offset_bounds-from-left c =
-    let far = within-frames c.args.shape.channels c.args.first c.frames._turn c.args.shape.count c.requires.first c.frames-test.true in
-    let inside : c.frames.left < length c.args.from.now = omega (arith, far, c.frames.invariant.left_is, c.requires.from) in
-    search (rules, inside)
+offset_bounds-from-left c = search (rules, sample-there c.args.shape.channels c.args.first c.frames._turn c.args.shape.count c.frames.left (length c.args.from.now) c.requires.first c.frames-test.true c.frames.invariant.left_is c.requires.from)
 
 pub bounds-from-right : goal.bounds-from-right
-bounds-from-right c =
-    let far = within-frames c.args.shape.channels c.args.second c.frames._turn c.args.shape.count c.requires.second c.frames-test.true in
-    omega (arith, far, c.frames.invariant.right_is, c.requires.from)
+bounds-from-right c = sample-there c.args.shape.channels c.args.second c.frames._turn c.args.shape.count c.frames.right (length c.args.from.now) c.requires.second c.frames-test.true c.frames.invariant.right_is c.requires.from
 
 pub offset_bounds-from-right : goal.offset_bounds-from-right
-offset_bounds-from-right c =
-    let far = within-frames c.args.shape.channels c.args.second c.frames._turn c.args.shape.count c.requires.second c.frames-test.true in
-    let inside : c.frames.right < length c.args.from.now = omega (arith, far, c.frames.invariant.right_is, c.requires.from) in
-    search (rules, inside)
+offset_bounds-from-right c = search (rules, sample-there c.args.shape.channels c.args.second c.frames._turn c.args.shape.count c.frames.right (length c.args.from.now) c.requires.second c.frames-test.true c.frames.invariant.right_is c.requires.from)
 
 pub bounds-to-at : goal.bounds-to-at
-bounds-to-at c =
-    let far = within-frames c.args.place.channels c.args.place.channel c.frames._turn c.args.shape.count c.requires.place c.frames-test.true in
-    omega (arith, far, c.frames.invariant.at_is, c.requires.to, c.frames.auto.to)
+bounds-to-at c = sample-there c.args.place.channels c.args.place.channel c.frames._turn c.args.shape.count c.frames.at (length c.frames.to) c.requires.place c.frames-test.true c.frames.invariant.at_is (omega (arith, c.requires.to, c.frames.auto.to))
 
 pub offset_bounds-to-at : goal.offset_bounds-to-at
-offset_bounds-to-at c =
-    let far = within-frames c.args.place.channels c.args.place.channel c.frames._turn c.args.shape.count c.requires.place c.frames-test.true in
-    let inside : c.frames.at < length c.frames.to = omega (arith, far, c.frames.invariant.at_is, c.requires.to, c.frames.auto.to) in
-    search (rules, inside)
+offset_bounds-to-at c = search (rules, sample-there c.args.place.channels c.args.place.channel c.frames._turn c.args.shape.count c.frames.at (length c.frames.to) c.requires.place c.frames-test.true c.frames.invariant.at_is (omega (arith, c.requires.to, c.frames.auto.to)))
 
 pub overflow_add-left : goal.overflow_add-left
-overflow_add-left c =
-    let far = within-frames c.args.shape.channels c.args.first c.frames._turn c.args.shape.count c.requires.first c.frames-test.true in
-    let inside : c.frames.left < length c.args.from.now = omega (arith, far, c.frames.invariant.left_is, c.requires.from) in
-    search (rules, inside)
+overflow_add-left c = search (rules, sample-there c.args.shape.channels c.args.first c.frames._turn c.args.shape.count c.frames.left (length c.args.from.now) c.requires.first c.frames-test.true c.frames.invariant.left_is c.requires.from)
 
 pub overflow_add-right : goal.overflow_add-right
-overflow_add-right c =
-    let far = within-frames c.args.shape.channels c.args.second c.frames._turn c.args.shape.count c.requires.second c.frames-test.true in
-    let inside : c.frames.right < length c.args.from.now = omega (arith, far, c.frames.invariant.right_is, c.requires.from) in
-    search (rules, inside)
+overflow_add-right c = search (rules, sample-there c.args.shape.channels c.args.second c.frames._turn c.args.shape.count c.frames.right (length c.args.from.now) c.requires.second c.frames-test.true c.frames.invariant.right_is c.requires.from)
 
 pub overflow_add-at : goal.overflow_add-at
-overflow_add-at c =
-    let far = within-frames c.args.place.channels c.args.place.channel c.frames._turn c.args.shape.count c.requires.place c.frames-test.true in
-    let inside : c.frames.at < length c.frames.to = omega (arith, far, c.frames.invariant.at_is, c.requires.to, c.frames.auto.to) in
-    search (rules, inside)
+overflow_add-at c = search (rules, sample-there c.args.place.channels c.args.place.channel c.frames._turn c.args.shape.count c.frames.at (length c.frames.to) c.requires.place c.frames-test.true c.frames.invariant.at_is (omega (arith, c.requires.to, c.frames.auto.to)))
 
 pub overflow_add-from : goal.overflow_add-from
 overflow_add-from c = omega (arith, ints, c.from.ensures, c.from-in-frames.ensures)

@@ -1,7 +1,7 @@
 //! The parts of an out-spec of `remix`: each a range of channels and a vol-spec.
 
-ghost use Rattle.std.specs.Prelude.{◌≡◌, ◌<◌, ◌≤◌, ◌+◌, ◌-◌, ◌++◌, IfOk, IfSome, OnOk, length, map, option_map, slice_index};
-ghost use Rattle.std.specs.List.{position_or_len, range_with_len};
+ghost use Rattle.std.specs.Prelude.{◌≡◌, ◌<◌, ◌≤◌, ◌+◌, ◌-◌, ◌++◌, IfOk, IfSome, OnOk, length, option_map, slice_index};
+ghost use Rattle.std.specs.List.{position_or_len};
 ghost use Rattle.fx_words.specs.Capped.{both_capped, capped};
 ghost use Rattle.fx_map.specs.InSpecs.{channel_in, channels_from, end_in, ends_in, given_by, in_range, in_spec, is_letter, vol_spec};
 

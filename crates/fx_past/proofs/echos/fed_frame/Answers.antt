@@ -3,7 +3,7 @@ use Rattle.std.proofs.lemmas.Int.{ints, fits_signed_from_abs}
 use Rattle.fx_frame.proofs.DelayLaws.{channel-set}
 use Rattle.fx_lists.proofs.Tabulate.{take-tabulate, length-tabulate}
 use Rattle.fx_convolve.proofs.Magnitudes.{added-few}
-use Rattle.fx_sums.proofs.SumLaws.{filled-up}
+use Rattle.fx_lists.proofs.Places.{quiet-behind}
 use Rattle.fx_convolve.proofs.SmallSums.{held-in-64, wide-two}
 use Rattle.fx_past.proofs.echos.fed_frame.Goals as goal
 
@@ -14,7 +14,7 @@ overflow_add-sums c =
     let b : ℤ = slice_index_or c.places-passed.result i (pos 0) in
     let fits : FitsSigned w32 a = search rules in
     let small : unsigned_abs a ≤ 2 ^ 31 = omega (arith, ints) in
-    let from : b ≡ slice_index_or c.args.before i (pos 0) = ap (λ l. slice_index_or l i (pos 0)) c.places-passed.ensures.places ∙ filled-up c.args.before _ i in
+    let from : b ≡ slice_index_or c.args.before i (pos 0) = ap (λ l. slice_index_or l i (pos 0)) c.places-passed.ensures.places ∙ quiet-behind c.args.before _ i in
     let wide : unsigned_abs b ≤ 2 ^ 34 = rw from (c.requires.small i) in
     let f : c.from.result ≡ a = c.from.ensures ∙ search rules in
     let most = added-few a b (2 ^ 31) (2 ^ 34) small wide in
@@ -28,8 +28,8 @@ channels-preserved c =
     let F : ℕ → ℤ = λ k. slice_index_or c.args.frame k (pos 0) +ℤ slice_index_or c.args.before k (pos 0) in
     let fits : FitsSigned w32 a = search rules in
     let small : unsigned_abs a ≤ 2 ^ 31 = omega (arith, ints) in
-    let first : a ≡ slice_index_or c.args.frame i (pos 0) = ap (λ l. slice_index_or l i (pos 0)) c.places-samples.ensures.places ∙ filled-up c.args.frame _ i in
-    let from : b ≡ slice_index_or c.args.before i (pos 0) = ap (λ l. slice_index_or l i (pos 0)) c.places-passed.ensures.places ∙ filled-up c.args.before _ i in
+    let first : a ≡ slice_index_or c.args.frame i (pos 0) = ap (λ l. slice_index_or l i (pos 0)) c.places-samples.ensures.places ∙ quiet-behind c.args.frame _ i in
+    let from : b ≡ slice_index_or c.args.before i (pos 0) = ap (λ l. slice_index_or l i (pos 0)) c.places-passed.ensures.places ∙ quiet-behind c.args.before _ i in
     let wide : unsigned_abs b ≤ 2 ^ 34 = rw from (c.requires.small i) in
     let f : c.from.result ≡ a = c.from.ensures ∙ search rules in
     let most = added-few a b (2 ^ 31) (2 ^ 34) small wide in

@@ -12,14 +12,8 @@ use Rattle.fx_lists.proofs.Places.{quiet-sample}
 use Rattle.fx_past.proofs.EchosRow.{echoed-is, small-frame}
 use Rattle.fx_past.proofs.echos.wide_over.Goals as goal
 
-pub returns-clause-lines : goal.returns-clause-lines
-returns-clause-lines c =
-    let x : Samples = c.args.samples.now in
-    let whole : c.frame_at-frame.result ≡ x = c.frame_at-frame.ensures.frame ∙ take_all c.args.channels x (omega (arith, c.requires.frame)) in
-    rw whole at c.pass.ensures.lines
-
-pub returns-clause-frame : goal.returns-clause-frame
-returns-clause-frame c =
+pub returns : goal.returns
+returns c =
     let x : Samples = c.args.samples.now in
     let whole : c.frame_at-frame.result ≡ x = c.frame_at-frame.ensures.frame ∙ take_all c.args.channels x (omega (arith, c.requires.frame)) in
     let gone : List Samples = let_go c.args.channels c.args.lines.now x (replicate c.args.channels (pos 0)) in
@@ -29,23 +23,11 @@ returns-clause-frame c =
     let sums : (k : ℕ) → k < c.args.channels → slice_index_or c.pass.new.sums k (pos 0) ≡ (c.args.gains.0 *ℤ slice_index_or x k (pos 0)) +ℤ sum_of_products (decays c.args.echoes.now) (channel_of gone k (pos 0)) = λ k l.
     let none : slice_index_or (replicate 16 (pos 0)) k (pos 0) ≡ pos 0 = quiet-sample 16 k in
     went k l ∙ ap (λ z. z +ℤ sum_of_products (decays c.args.echoes.now) (channel_of gone k (pos 0))) (scaled k l ∙ ap (λ z. z +ℤ (c.args.gains.0 *ℤ slice_index_or x k (pos 0))) none ∙ omega (arith, ints)) in
-    (rw c.requires.frame at c.sums_into.ensures.frame) ∙ ap (λ (g : Given). g.samples) (echoed-is a x c.pass.new.sums gone sums)
-
-pub returns-clause-clips : goal.returns-clause-clips
-returns-clause-clips c =
-    let x : Samples = c.args.samples.now in
-    let whole : c.frame_at-frame.result ≡ x = c.frame_at-frame.ensures.frame ∙ take_all c.args.channels x (omega (arith, c.requires.frame)) in
-    let gone : List Samples = let_go c.args.channels c.args.lines.now x (replicate c.args.channels (pos 0)) in
-    let a : EchoArguments = record { channels = c.args.channels; gain_in = c.args.gains.0; gain_out = c.args.gains.1; echoes = c.args.echoes.now } in
-    let scaled = rw whole at c.add_scaled.ensures.added in
-    let went = rw whole at c.pass.ensures.sums in
-    let sums : (k : ℕ) → k < c.args.channels → slice_index_or c.pass.new.sums k (pos 0) ≡ (c.args.gains.0 *ℤ slice_index_or x k (pos 0)) +ℤ sum_of_products (decays c.args.echoes.now) (channel_of gone k (pos 0)) = λ k l.
-    let none : slice_index_or (replicate 16 (pos 0)) k (pos 0) ≡ pos 0 = quiet-sample 16 k in
-    went k l ∙ ap (λ z. z +ℤ sum_of_products (decays c.args.echoes.now) (channel_of gone k (pos 0))) (scaled k l ∙ ap (λ z. z +ℤ (c.args.gains.0 *ℤ slice_index_or x k (pos 0))) none ∙ omega (arith, ints)) in
-    (rw c.requires.frame at c.sums_into.ensures.clips) ∙ ap (λ (g : Given). g.clips) (echoed-is a x c.pass.new.sums gone sums)
-
-pub returns-clause-small : goal.returns-clause-small
-returns-clause-small c =
-    let x : Samples = c.args.samples.now in
-    let whole : c.frame_at-frame.result ≡ x = c.frame_at-frame.ensures.frame ∙ take_all c.args.channels x (omega (arith, c.requires.frame)) in
-    rw whole at (small-frame c.frame_at-frame.result c.channels-count.ensures.frame.fits)
+    let given = echoed-is a x c.pass.new.sums gone sums in
+    record {
+      lines = rw whole at c.pass.ensures.lines;
+      frame = (rw c.requires.frame at c.sums_into.ensures.frame) ∙ ap (λ (g : Given). g.samples) given;
+      clips = (rw c.requires.frame at c.sums_into.ensures.clips) ∙ ap (λ (g : Given). g.clips) given;
+      few = omega (arith, c.sums_into.ensures.few);
+      small = rw whole at (small-frame c.frame_at-frame.result c.channels-count.ensures.frame.fits);
+    }

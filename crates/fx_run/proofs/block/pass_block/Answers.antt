@@ -11,7 +11,9 @@ use Rattle.fx_flow.specs.Feed.{FlowFed, FlowGave}
 use Rattle.fx_sound.proofs.Sounds.{AreHeld-fewer, first_frames-fewer}
 use Rattle.fx_run.proofs.Blocks.{Blocked-none}
 use Rattle.fx_run.proofs.Draining.{given_by-few}
+use Rattle.fx_run.proofs.block.pass_block.Given as given
 use Rattle.fx_run.proofs.block.pass_block.Goals as goal
+use Rattle.fx_run.proofs.block.pass_block.Goals.{After-decode_held}
 
 -- as many frames as lie in so many samples
 frames-fit : (n m channels samples : ℕ) → 1 ≤ channels → n * channels ≤ samples → samples ≡ m * channels → n ≤ m
@@ -38,87 +40,64 @@ decode_held-requires-clause-room g c =
     length-take-le _ c.args.input.now (frames-room c.held_frames-count.result _ c.channels-channels.result _ c.held_frames-count.ensures.most c.tried.ensures c.requires.input)
     ∙ ap (λ n. c.held_frames-count.result * n) c.channels-channels.ensures.value
 
-pub feed-passed-requires-clause-few : goal.feed-passed-requires-clause-few
-feed-passed-requires-clause-few g c = λ n h.
-    let count : ℕ = c.held_frames-count.result in
+-- no more frames lie in the samples than are held
+held : (g : given.Over) (c : After-decode_held g) (n : ℕ) → n * c.args.flow.now.channels ≤ length c.decode_held.new.samples → n ≤ c.held_frames-count.result
+held g c n h =
     let channels : ℕ = c.channels-channels.result in
     let same : c.args.flow.now.channels ≡ channels = c.requires.width ∙ sym c.channels-channels.ensures.value in
-    let size : length c.decode_held.new.samples ≡ count * channels =
-    c.decode_held.auto.samples ∙ length-take-le _ c.args.input.now (frames-room count _ channels _ c.held_frames-count.ensures.most c.tried.ensures c.requires.input) in
-    let within : n * channels ≤ length c.decode_held.new.samples = rw same at h in
-    let few : n ≤ count = frames-fit n count channels (length c.decode_held.new.samples) c.channels-channels.ensures.some within size in
-    omega (arith, few, c.held_frames-count.ensures.held.few, c.requires.taken)
+    let room = frames-room c.held_frames-count.result _ channels _ c.held_frames-count.ensures.most c.tried.ensures c.requires.input in
+    frames-fit n _ channels (length c.decode_held.new.samples) c.channels-channels.ensures.some (rw same at h) (c.decode_held.auto.samples ∙ length-take-le _ c.args.input.now room)
+
+pub feed-passed-requires-clause-few : goal.feed-passed-requires-clause-few
+feed-passed-requires-clause-few g c n h = omega (arith, held g (goal.at.feed-passed-requires-clause-few g c).After-decode_held n h, c.held_frames-count.ensures.held.few, c.requires.taken)
 
 pub pass_held-requires : goal.pass_held-requires
 pass_held-requires g c =
-    let count : ℕ = c.held_frames-count.result in
-    let channels : ℕ = c.channels-channels.result in
-    let same : c.args.flow.now.channels ≡ channels = c.requires.width ∙ sym c.channels-channels.ensures.value in
-    let size : length c.decode_held.new.samples ≡ count * channels =
-    c.decode_held.auto.samples ∙ length-take-le _ c.args.input.now (frames-room count _ channels _ c.held_frames-count.ensures.most c.tried.ensures c.requires.input) in
-    let within : c.feed-passed.result.taken * channels ≤ length c.decode_held.new.samples = rw same at c.feed-passed.ensures.read in
-    AreHeld-fewer _ _ c.feed-passed.result.taken count (frames-fit _ count channels (length c.decode_held.new.samples) c.channels-channels.ensures.some within size) c.held_frames-count.ensures.held
+    AreHeld-fewer _ _ _ c.held_frames-count.result (held g (goal.at.pass_held-requires g c).After-decode_held c.feed-passed.result.taken c.feed-passed.ensures.read) c.held_frames-count.ensures.held
 
 pub put-requires-clause-count : goal.put-requires-clause-count
 put-requires-clause-count g c =
-    let few = given_by-few g.S.Stage.acts g.met.S.Stage.rises c.args.flow.now c.args.flow.now refl c.requires.fits c.stages-stages.ensures.most c.stages-stages.ensures.sound.few in
-    omega (arith, few, c.requires.room)
+    omega (arith, given_by-few g.S.Stage.acts g.met.S.Stage.rises c.args.flow.now c.args.flow.now refl c.requires.fits c.stages-stages.ensures.most c.stages-stages.ensures.sound.few, c.requires.room)
 
 pub put-requires-clause-few : goal.put-requires-clause-few
 put-requires-clause-few g c =
-    let few = given_by-few g.S.Stage.acts g.met.S.Stage.rises c.args.flow.now c.args.flow.now refl c.requires.fits c.stages-stages.ensures.most c.stages-stages.ensures.sound.few in
-    omega (arith, few, c.requires.few)
-
-pub returns-clause-blocked : goal.returns-clause-blocked
-returns-clause-blocked g c =
-    let acts = g.S.Stage.acts in
-    let p = c.args.progress.now in
-    let coding = c.args.outlet.now.coding in
-    let count : ℕ = c.held_frames-count.result in
-    let channels : ℕ = c.channels-channels.result in
-    let outputs : ℕ = c.out_channels-outputs.result in
-    let taken : ℕ = c.feed-passed.result.taken in
-    let given : ℕ = c.feed-passed.result.given in
-    let samples : Samples = c.decode_held.new.samples in
-    let out : Samples = c.feed-passed.new.output in
-    let same : c.args.flow.now.channels ≡ channels = c.requires.width ∙ sym c.channels-channels.ensures.value in
-    let size : length samples ≡ count * channels =
-    c.decode_held.auto.samples ∙ length-take-le _ c.args.input.now (frames-room count _ channels _ c.held_frames-count.ensures.most c.tried.ensures c.requires.input) in
-    let within : taken * channels ≤ length samples = rw same at c.feed-passed.ensures.read in
-    let few : taken ≤ count = frames-fit taken count channels (length samples) c.channels-channels.ensures.some within size in
-    let frames = first_frames-fewer p.coding p.channels taken count samples c.args.source.now.bytes few c.decode_held.ensures in
-    let In : List Samples → Type 0 = λ xs. FlowGave acts c.args.flow.now xs (pieces outputs given out) c.feed-passed.new.self in
-    let Fed : List Samples → Type 0 = λ xs. FlowFed acts c.args.flow.now xs (pieces outputs given out) c.feed-passed.new.self in
-    let same_frames = ap (λ n. pieces n taken samples) c.requires.width ∙ frames in
-    record {
-      count = taken;
-      given = pieces outputs given out;
-      held = AreHeld-fewer _ _ taken count few c.held_frames-count.ensures.held;
-      bytes = c.pass_held.ensures.bytes;
-      reader = c.pass_held.ensures.reader;
-      counted = c.pass_held.ensures.counted;
-      fed = subst Fed same_frames (rw (← c.out_channels-outputs.ensures) at c.feed-passed.ensures.fed);
-      gave = subst In same_frames (rw (← c.out_channels-outputs.ensures) at c.feed-passed.ensures.gave);
-      wants = λ m h. FlowFed-wants acts c.args.flow.now c.feed-passed.new.self _ _ c.feed-passed.ensures.fed m (rw (length-pieces c.args.flow.now.channels taken samples) h);
-      clipped = c.put.ensures.clips ∙ ap (λ n. c.args.outlet.now.clips + n) (sym (encoded-clips coding outputs given out));
-      put = c.put.ensures.bytes ∙ ap (λ bs. c.args.outlet.now.output.bytes ++ bs) (sym (encoded-frames coding outputs given out));
-      written = c.put.ensures.written;
-    }
+    omega (arith, given_by-few g.S.Stage.acts g.met.S.Stage.rises c.args.flow.now c.args.flow.now refl c.requires.fits c.stages-stages.ensures.most c.stages-stages.ensures.sound.few, c.requires.few)
 
 -- sixteen samples a frame at the most
 sixteen : (given outputs : ℕ) → outputs ≤ 16 → given * outputs ≤ 16 * given
 sixteen given outputs h = omega (arith, mul-le-mul_left given h)
 
-pub returns-clause-room : goal.returns-clause-room
-returns-clause-room g c =
+pub returns : goal.returns
+returns g c =
+    let acts = g.S.Stage.acts in
+    let coding = c.args.outlet.now.coding in
+    let outputs : ℕ = c.out_channels-outputs.result in
+    let taken : ℕ = c.feed-passed.result.taken in
     let given : ℕ = c.feed-passed.result.given in
-    let written = rw (← c.out_channels-outputs.ensures) at c.feed-passed.ensures.written in
-    let many : length (take (given * c.out_channels-outputs.result) c.feed-passed.new.output) ≡ given * c.out_channels-outputs.result = length-take-le _ _ written in
-    omega (arith, c.put.ensures.count, many, sixteen given c.out_channels-outputs.result c.if-outputs-gt16.false, c.requires.room, rw length-pieces at c.feed-passed.ensures.gave.given)
-
-pub returns-clause-few : goal.returns-clause-few
-returns-clause-few g c =
-    let given : ℕ = c.feed-passed.result.given in
-    let written = rw (← c.out_channels-outputs.ensures) at c.feed-passed.ensures.written in
-    let many : length (take (given * c.out_channels-outputs.result) c.feed-passed.new.output) ≡ given * c.out_channels-outputs.result = length-take-le _ _ written in
-    omega (arith, c.put.ensures.few, many, sixteen given c.out_channels-outputs.result c.if-outputs-gt16.false, c.requires.few, rw length-pieces at c.feed-passed.ensures.gave.given)
+    let samples : Samples = c.decode_held.new.samples in
+    let out : Samples = c.feed-passed.new.output in
+    let few : taken ≤ c.held_frames-count.result = held g (goal.at.returns g c).After-decode_held taken c.feed-passed.ensures.read in
+    let In : List Samples → Type 0 = λ xs. FlowGave acts c.args.flow.now xs (pieces outputs given out) c.feed-passed.new.self in
+    let Fed : List Samples → Type 0 = λ xs. FlowFed acts c.args.flow.now xs (pieces outputs given out) c.feed-passed.new.self in
+    let same_frames = ap (λ n. pieces n taken samples) c.requires.width ∙ first_frames-fewer c.args.progress.now.coding c.args.progress.now.channels taken c.held_frames-count.result samples c.args.source.now.bytes few c.decode_held.ensures in
+    let many : length (take (given * outputs) out) ≡ given * outputs = length-take-le _ _ (rw (← c.out_channels-outputs.ensures) at c.feed-passed.ensures.written) in
+    let all = rw length-pieces at c.feed-passed.ensures.gave.given in
+    record {
+      blocked = record {
+        count = taken;
+        given = pieces outputs given out;
+        held = AreHeld-fewer _ _ taken c.held_frames-count.result few c.held_frames-count.ensures.held;
+        bytes = c.pass_held.ensures.bytes;
+        reader = c.pass_held.ensures.reader;
+        counted = c.pass_held.ensures.counted;
+        fed = subst Fed same_frames (rw (← c.out_channels-outputs.ensures) at c.feed-passed.ensures.fed);
+        gave = subst In same_frames (rw (← c.out_channels-outputs.ensures) at c.feed-passed.ensures.gave);
+        wants = λ m h. FlowFed-wants acts c.args.flow.now c.feed-passed.new.self _ _ c.feed-passed.ensures.fed m (rw (length-pieces c.args.flow.now.channels taken samples) h);
+        clipped = c.put.ensures.clips ∙ ap (λ n. c.args.outlet.now.clips + n) (sym (encoded-clips coding outputs given out));
+        put = c.put.ensures.bytes ∙ ap (λ bs. c.args.outlet.now.output.bytes ++ bs) (sym (encoded-frames coding outputs given out));
+        written = c.put.ensures.written;
+      };
+      room = omega (arith, c.put.ensures.count, many, sixteen given outputs c.if-outputs-gt16.false, c.requires.room, all);
+      few = omega (arith, c.put.ensures.few, many, sixteen given outputs c.if-outputs-gt16.false, c.requires.few, all);
+      coding = c.put.ensures.coding;
+    }

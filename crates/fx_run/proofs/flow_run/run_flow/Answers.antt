@@ -10,64 +10,49 @@ use Rattle.fx_run.proofs.flow_run.run_flow.Goals as goal
 
 pub returns-in_default-clause-stopped : goal.returns-in_default-clause-stopped
 returns-in_default-clause-stopped g c = λ bytes known.
-    let acts = g.S.Stage.acts in
-    let start = c.args.flow.now in
-    let at = c.pump-pumped.new.flow in
-    let head = c.as_slice.ensures ∙ c.streamed_head-written.ensures in
-    let p = rw (c.new-progress.ensures, head) at c.in-Ok.ensures in
+    let p = rw (c.new-progress.ensures, c.as_slice.ensures ∙ c.streamed_head-written.ensures) at c.in-Ok.ensures in
     let r = c.report_of.ensures in
-    let frames = sound_frames (start_of c.args.head.now) c.pump-pumped.new.progress.frames bytes in
     let flowed = p.sent refl bytes known in
     let count = c.bytes_put.ensures ∙ Sent-bytes_put _ _ _ _ flowed.sent in
     let long = sound-length _ _ _ _ count (rw (c.as_slice-in-Ok.ensures ∙ c.streamed_head-written.ensures) at c.saturating_sub-sound.ensures) in
     let closed = rw (c.padding.ensures.value) at (c.in_default.ensures.front _ _ flowed.sent) in
-    let all = all-given acts start at frames _ flowed.through p.done in
+    let all = all-given g.S.Stage.acts _ _ _ _ flowed.through p.done in
     rw (r.frames_in)
-    (stopped-front acts start at c.args.target (start_of c.args.head.now) bytes frames flowed.given _ _ _ flowed.through
+    (stopped-front g.S.Stage.acts _ _ c.args.target _ bytes _ _ _ _ _ flowed.through
     r.frames_out (r.out_clips ∙ c.close.ensures.clips ∙ flowed.clipped) refl
-    (inr (p.done, rw (r.bytes_out) (wrote-front acts start at c.args.target frames _ _ _ _ _ all long closed)))
+    (inr (p.done, rw (r.bytes_out) (wrote-front g.S.Stage.acts c.args.flow.now c.pump-pumped.new.flow c.args.target (sound_frames (start_of c.args.head.now) c.pump-pumped.new.progress.frames bytes) _ _ _ _ _ all long closed)))
     (p.whole bytes known)
     (rw (r.ends.0, r.ends.1) (ends-known _ bytes _ _ _ _ _ _ known p.met p.ends)))
 
 pub returns-in-Ok-close-clause-completed : goal.returns-in-Ok-close-clause-completed
 returns-in-Ok-close-clause-completed g c = λ bytes known.
-    let acts = g.S.Stage.acts in
-    let start = c.args.flow.now in
-    let at = c.pump-pumped.new.flow in
-    let head = c.as_slice.ensures ∙ c.streamed_head-written.ensures in
-    let p = rw (c.new-progress.ensures, head) at c.in-Ok.ensures in
+    let p = rw (c.new-progress.ensures, c.as_slice.ensures ∙ c.streamed_head-written.ensures) at c.in-Ok.ensures in
     let r = c.report_of-in-Ok.ensures in
-    let frames = sound_frames (start_of c.args.head.now) c.pump-pumped.new.progress.frames bytes in
     let flowed = p.sent refl bytes known in
     let count = c.bytes_put.ensures ∙ Sent-bytes_put _ _ _ _ flowed.sent in
     let long = sound-length _ _ _ _ count (rw (c.as_slice-in-Ok.ensures ∙ c.streamed_head-written.ensures) at c.saturating_sub-sound.ensures) in
     let closed = rw (c.padding.ensures.value) at (c.in-Ok-close.ensures.wrote _ _ flowed.sent) in
-    let all = all-given acts start at frames _ flowed.through p.done in
+    let all = all-given g.S.Stage.acts _ _ _ _ flowed.through p.done in
     rw (r.frames_in)
     (record {
       whole = p.whole bytes known;
-      wrote = rw (r.bytes_out) (wrote-all acts start at c.args.target frames _ _ _ _ _ all long closed);
+      wrote = rw (r.bytes_out) (wrote-all g.S.Stage.acts c.args.flow.now c.pump-pumped.new.flow c.args.target (sound_frames (start_of c.args.head.now) c.pump-pumped.new.progress.frames bytes) _ _ _ _ _ all long closed);
       frames_out = r.frames_out ∙ flowed.through.counted ∙ ap length (sym all);
       out_clips = r.out_clips ∙ c.close.ensures.clips ∙ flowed.clipped ∙ ap (coded_clips c.args.target.coding) (sym all);
-      clips = r.clips ∙ ap row_of (clips-all acts start at frames _ flowed.through p.done);
-      moves = moves-all acts start at frames _ _ _ flowed.through (r.done p.done) p.taken;
+      clips = r.clips ∙ ap row_of (clips-all g.S.Stage.acts _ _ _ _ flowed.through p.done);
+      moves = moves-all g.S.Stage.acts _ _ _ _ _ _ flowed.through (r.done p.done) p.taken;
       ended = rw (r.ends.0, r.ends.1) (ended-known _ bytes _ _ _ _ _ _ known p.enough p.ends);
       settled = λ e z. p.settled (not-over _ _ p.enough e) bytes known z;
     })
 
 pub returns-in-Err-WriteFailed-clause-stopped : goal.returns-in-Err-WriteFailed-clause-stopped
 returns-in-Err-WriteFailed-clause-stopped g c = λ bytes known.
-    let acts = g.S.Stage.acts in
-    let start = c.args.flow.now in
-    let at = c.pump-pumped.new.flow in
-    let head = c.as_slice.ensures ∙ c.streamed_head-written.ensures in
     let is : c.pump-pumped.result ≡ Err WriteFailed = search rules in
-    let p = rw (is, c.new-progress.ensures, head) at c.pump-pumped.ensures in
+    let p = rw (is, c.new-progress.ensures, c.as_slice.ensures ∙ c.streamed_head-written.ensures) at c.pump-pumped.ensures in
     let r = c.report_of-in-Err-WriteFailed.ensures in
-    let frames = sound_frames (start_of c.args.head.now) c.pump-pumped.new.progress.frames bytes in
     let flowed = p.write_failed refl bytes known in
     rw (r.frames_in)
-    (stopped-front acts start at c.args.target (start_of c.args.head.now) bytes frames flowed.given _ _ _ flowed.through
+    (stopped-front g.S.Stage.acts _ _ c.args.target _ bytes _ _ _ _ _ flowed.through
     r.frames_out (r.out_clips ∙ flowed.clipped) refl
     (inl (rw (r.bytes_out) flowed.front))
     (p.whole bytes known)
@@ -75,18 +60,13 @@ returns-in-Err-WriteFailed-clause-stopped g c = λ bytes known.
 
 pub returns-in_default-close-clause-stopped : goal.returns-in_default-close-clause-stopped
 returns-in_default-close-clause-stopped g c = λ bytes known.
-    let acts = g.S.Stage.acts in
-    let start = c.args.flow.now in
-    let at = c.pump-pumped.new.flow in
-    let head = c.as_slice.ensures ∙ c.streamed_head-written.ensures in
     let is : c.pump-pumped.result ≡ Err ReadFailed = search rules in
-    let p = rw (is, c.new-progress.ensures, head) at c.pump-pumped.ensures in
+    let p = rw (is, c.new-progress.ensures, c.as_slice.ensures ∙ c.streamed_head-written.ensures) at c.pump-pumped.ensures in
     let r = c.report_of-in_default-close.ensures in
-    let frames = sound_frames (start_of c.args.head.now) c.pump-pumped.new.progress.frames bytes in
     let flowed = p.sent refl bytes known in
     let closed = rw (append-nil _) at (c.in_default-close.ensures.front _ _ flowed.sent) in
     rw (r.frames_in)
-    (stopped-front acts start at c.args.target (start_of c.args.head.now) bytes frames flowed.given _ _ _ flowed.through
+    (stopped-front g.S.Stage.acts _ _ c.args.target _ bytes _ _ _ _ _ flowed.through
     r.frames_out (r.out_clips ∙ c.close-in-Err-ReadFailed.ensures.clips ∙ flowed.clipped) refl
     (inl (rw (r.bytes_out) closed))
     (p.whole bytes known)
@@ -94,19 +74,14 @@ returns-in_default-close-clause-stopped g c = λ bytes known.
 
 pub returns-in-Ok-close-2-clause-stopped : goal.returns-in-Ok-close-2-clause-stopped
 returns-in-Ok-close-2-clause-stopped g c = λ bytes known.
-    let acts = g.S.Stage.acts in
-    let start = c.args.flow.now in
-    let at = c.pump-pumped.new.flow in
-    let head = c.as_slice.ensures ∙ c.streamed_head-written.ensures in
     let is : c.pump-pumped.result ≡ Err ReadFailed = search rules in
-    let p = rw (is, c.new-progress.ensures, head) at c.pump-pumped.ensures in
+    let p = rw (is, c.new-progress.ensures, c.as_slice.ensures ∙ c.streamed_head-written.ensures) at c.pump-pumped.ensures in
     let r = c.report_of-in-Err-ReadFailed.ensures in
-    let frames = sound_frames (start_of c.args.head.now) c.pump-pumped.new.progress.frames bytes in
     let flowed = p.sent refl bytes known in
     let closed = rw (append-nil _) at (c.in-Ok-close-2.ensures.wrote _ _ flowed.sent) in
     let zeros = rw (p.over refl) at p.ends in
     rw (r.frames_in)
-    (stopped-due acts start at c.args.target (start_of c.args.head.now) bytes frames flowed.given _ _ _ flowed.through c.requires.hungry (p.hungry refl) p.recipes p.taken (r.due (p.hungry refl)) r.moves r.clips (p.whole bytes known)
+    (stopped-due g.S.Stage.acts _ _ c.args.target _ bytes _ _ _ _ _ flowed.through c.requires.hungry (p.hungry refl) p.recipes p.taken (r.due (p.hungry refl)) r.moves r.clips (p.whole bytes known)
     r.frames_out (r.out_clips ∙ c.close-in-Err-ReadFailed.ensures.clips ∙ flowed.clipped) (λ e. absurd (cc))
     (r.frames_out ∙ p.due refl)
     (rw (r.bytes_out) closed)
@@ -116,18 +91,13 @@ returns-in-Ok-close-2-clause-stopped g c = λ bytes known.
 
 pub returns-in_default-close-2-clause-stopped : goal.returns-in_default-close-2-clause-stopped
 returns-in_default-close-2-clause-stopped g c = λ bytes known.
-    let acts = g.S.Stage.acts in
-    let start = c.args.flow.now in
-    let at = c.pump-pumped.new.flow in
-    let head = c.as_slice.ensures ∙ c.streamed_head-written.ensures in
     let is : c.pump-pumped.result ≡ Err TooLong = search rules in
-    let p = rw (is, c.new-progress.ensures, head) at c.pump-pumped.ensures in
+    let p = rw (is, c.new-progress.ensures, c.as_slice.ensures ∙ c.streamed_head-written.ensures) at c.pump-pumped.ensures in
     let r = c.report_of-in_default-close-2.ensures in
-    let frames = sound_frames (start_of c.args.head.now) c.pump-pumped.new.progress.frames bytes in
     let flowed = p.sent refl bytes known in
     let closed = rw (append-nil _) at (c.in_default-close-2.ensures.front _ _ flowed.sent) in
     rw (r.frames_in)
-    (stopped-front acts start at c.args.target (start_of c.args.head.now) bytes frames flowed.given _ _ _ flowed.through
+    (stopped-front g.S.Stage.acts _ _ c.args.target _ bytes _ _ _ _ _ flowed.through
     r.frames_out (r.out_clips ∙ c.close-in-Err-TooLong.ensures.clips ∙ flowed.clipped) refl
     (inl (rw (r.bytes_out) closed))
     (p.whole bytes known)
@@ -135,19 +105,14 @@ returns-in_default-close-2-clause-stopped g c = λ bytes known.
 
 pub returns-in-Ok-close-3-clause-stopped : goal.returns-in-Ok-close-3-clause-stopped
 returns-in-Ok-close-3-clause-stopped g c = λ bytes known.
-    let acts = g.S.Stage.acts in
-    let start = c.args.flow.now in
-    let at = c.pump-pumped.new.flow in
-    let head = c.as_slice.ensures ∙ c.streamed_head-written.ensures in
     let is : c.pump-pumped.result ≡ Err TooLong = search rules in
-    let p = rw (is, c.new-progress.ensures, head) at c.pump-pumped.ensures in
+    let p = rw (is, c.new-progress.ensures, c.as_slice.ensures ∙ c.streamed_head-written.ensures) at c.pump-pumped.ensures in
     let r = c.report_of-in-Err-TooLong.ensures in
-    let frames = sound_frames (start_of c.args.head.now) c.pump-pumped.new.progress.frames bytes in
     let flowed = p.sent refl bytes known in
     let closed = rw (append-nil _) at (c.in-Ok-close-3.ensures.wrote _ _ flowed.sent) in
     let zeros = rw (p.over refl) at p.ends in
     rw (r.frames_in)
-    (stopped-due acts start at c.args.target (start_of c.args.head.now) bytes frames flowed.given _ _ _ flowed.through c.requires.hungry (p.hungry refl) p.recipes p.taken (r.due (p.hungry refl)) r.moves r.clips (p.whole bytes known)
+    (stopped-due g.S.Stage.acts _ _ c.args.target _ bytes _ _ _ _ _ flowed.through c.requires.hungry (p.hungry refl) p.recipes p.taken (r.due (p.hungry refl)) r.moves r.clips (p.whole bytes known)
     r.frames_out (r.out_clips ∙ c.close-in-Err-TooLong.ensures.clips ∙ flowed.clipped) (λ e. absurd (cc))
     (r.frames_out ∙ p.due refl)
     (rw (r.bytes_out) closed)

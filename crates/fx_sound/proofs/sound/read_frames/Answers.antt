@@ -1,13 +1,12 @@
-use Rattle.std.proofs.Common.{◌≡◌, ℕ, ◌+◌, ◌*◌, ◌++◌, ◌∷◌, [], drop, take, sym, ap, ◌∙◌, subst, arith, rules}
+use Rattle.std.proofs.Common.{◌≡◌, ℕ, ◌+◌, ◌*◌, ◌++◌, ◌∷◌, [], drop, take, sym, ap, ◌∙◌, arith, rules}
 use Rattle.std.specs.Prelude.{Err}
 use Rattle.fx_heads.specs.FrameCoding.{samples_of}
 use Rattle.fx_sound.specs.Container.{first_frames}
 use Rattle.fx_sound.proofs.RunLaws.{after_frames-more, Ran-turn, Ran-end, Ran-whole, Ran-failed, first_frames-more, first_frames-within}
 use Rattle.fx_sound.specs.Sound.{Reading, size_of, within, after_frame}
-use Rattle.fx_heads.specs.Source.{Takes}
 use Rattle.fx_sound.specs.declared.progress.ReadFault.TheVariants.{ReadFailed, TooLong}
 use Rattle.fx_sound.proofs.sound.read_frames.Goals as goal
-use Rattle.fx_heads.proofs.WaveLemmas.{Takes-both}
+use Rattle.fx_heads.proofs.Held.{Takes-both}
 
 pub returns-in-Ok-None-clause-frames : goal.returns-in-Ok-None-clause-frames
 returns-in-Ok-None-clause-frames g c = λ bytes known.
@@ -59,7 +58,6 @@ loop-turn-preserved g c =
     let next = rw c.in-Ok-Some.field-0-is at c.in-Ok-Some.ensures in
     let same : size_of c.loop-turn.progress ≡ size = ap size_of old.now in
     let more : n * size + size_of c.loop-turn.progress ≡ (n + 1) * size = omega (arith, same) in
-    let P : ℕ → Type 0 = Takes g.R.ByteIn.reads.told c.args.source.now c.next_frame.new.source in
     let pushed : c.push.new.self.items ≡ c.loop-turn.frames.items ++ c.in-Ok-Some.frame ∷ [] = search rules in
     record {
       now = next.counted ∙ ap after_frame old.now ∙ after_frames-more p n;
@@ -74,5 +72,5 @@ loop-turn-preserved g c =
           taken.samples ∙ ap (λ q. samples_of q.coding q.channels (take (size_of q) (drop (n * size) bytes))) old.now in
           pushed ∙ ap (λ l. l ++ c.in-Ok-Some.frame ∷ []) (old.items bytes known)
           ∙ ap (λ f. first_frames p.coding p.channels n bytes ++ f ∷ []) frame ∙ sym (first_frames-more p.coding p.channels n bytes);
-      told = subst P more (Takes-both g.R.ByteIn.reads.told c.args.source.now c.loop-turn.source c.next_frame.new.source (n * size) (size_of c.loop-turn.progress) old.told next.told);
+      told = Takes-both g.R.ByteIn.reads.told c.args.source.now c.loop-turn.source c.next_frame.new.source (n * size) (size_of c.loop-turn.progress) _ more old.told next.told;
     }

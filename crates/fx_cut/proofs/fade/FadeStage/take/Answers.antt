@@ -1,5 +1,6 @@
 -- A frame comes: it stays in the line, or the oldest falls out and is given with its weight, or lies behind the stop.
-use Rattle.fx_cut.proofs.FadeSteps.{Took-inside, Took-fallen, IsFade-inside, IsFade-fallen, oldest-length}
+use Rattle.fx_cut.proofs.FadeSteps.{Took-inside, Took-fallen, IsFade-inside, IsFade-fallen}
+use Rattle.fx_cut.proofs.Fallen.{oldest-length}
 use Rattle.fx_cut.proofs.fade.FadeStage.take.Goals as goal
 
 pub returns-in_default : goal.returns-in_default
@@ -17,7 +18,7 @@ invariant_of-self-2 c =
     let dry = rw (← c.self.view_is) at c.requires.dry in
     let running = rw (← c.self.view_is) at c.requires.not_ended in
     let kept = rw (c.next_stop-stop.ensures, c.len.ensures.count) at c.faded-self-inside.ensures.value in
-    let long = oldest-length _ c.args.frame c.self.invariant dry running c.in-Some.oldest c.in-Some.ensures.oldest (rw (← c.self.view_is) at c.requires.channels) in
+    let long = oldest-length _ _ c.args.frame c.in-Some.oldest c.self.invariant.line c.self.invariant.channels c.in-Some.ensures.oldest (rw (← c.self.view_is) at c.requires.channels) in
     let fits = rw long at c.faded-self-inside.ensures.fits in
     IsFade-fallen _ c.args.frame c.self.invariant dry running _ c.in-Some.oldest _ c.in-Some.ensures.oldest c.in-Some.ensures.items
     c.len-held.ensures.line c.in-Some.ensures.capacity c.in-Some.ensures.channels (rw (← c.self.view_is) at c.requires.below_limit) kept fits

@@ -1,5 +1,6 @@
 -- A frame comes: it stays in the line, or the oldest falls out, behind its silence.
-use Rattle.fx_cut.proofs.PadSteps.{Took-inside, Took-fallen, IsPad-inside, IsPad-fallen, oldest-length}
+use Rattle.fx_cut.proofs.PadSteps.{Took-inside, Took-fallen, IsPad-inside, IsPad-fallen}
+use Rattle.fx_cut.proofs.Fallen.{oldest-fits}
 use Rattle.fx_cut.proofs.pad.PadStage.take.Goals as goal
 
 pub returns-in_default : goal.returns-in_default
@@ -17,7 +18,7 @@ invariant_of-self-2 c =
     let dry = rw (← c.self.view_is) at c.requires.dry in
     let running = rw (← c.self.view_is) at c.requires.not_ended in
     let quiet = rw c.len.ensures.count at c.silence_at-self-inside.ensures.silent in
-    let fits = oldest-length _ c.args.frame c.self.invariant dry running c.in-Some.oldest c.in-Some.ensures.oldest (rw (← c.self.view_is) at c.requires.channels) c.channels-channels.ensures.frame in
+    let fits = oldest-fits _ _ c.args.frame c.in-Some.oldest c.self.invariant.line c.self.invariant.channels c.in-Some.ensures.oldest (rw (← c.self.view_is) at c.requires.channels) c.channels-channels.ensures.frame in
     rw c.silence_at-self-inside.ensures.same
     (IsPad-fallen _ c.args.frame c.self.invariant dry running _ c.in-Some.oldest _ c.in-Some.ensures.oldest c.in-Some.ensures.items
     c.len-held.ensures.line c.in-Some.ensures.capacity c.in-Some.ensures.channels (rw (← c.self.view_is) at c.requires.below_limit) quiet fits)

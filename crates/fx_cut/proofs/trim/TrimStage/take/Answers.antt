@@ -1,7 +1,8 @@
 -- A frame comes: it stays in the line, or the oldest falls out and is kept or not.
 use Rattle.std.proofs.Common.{refl, ap, length}
-use Rattle.fx_cut.proofs.TrimSteps.{Took-inside, Took-fallen, IsTrim-inside, IsTrim-fallen, fits-oldest}
+use Rattle.fx_cut.proofs.TrimSteps.{Took-inside, Took-fallen, IsTrim-inside, IsTrim-fallen}
 use Rattle.fx_cut.proofs.Hands.{empty-hand}
+use Rattle.fx_cut.proofs.Fallen.{oldest-fits}
 use Rattle.fx_cut.proofs.trim.TrimStage.take.Goals as goal
 
 pub returns-in_default : goal.returns-in_default
@@ -35,7 +36,7 @@ invariant_of-self-2 c =
     let dry = rw (← c.self.view_is) at c.requires.dry in
     let running = rw (← c.self.view_is) at c.requires.not_ended in
     let kept = rw c.len.ensures.count at c.if-not-keeps.ensures.kept in
-    let fits = fits-oldest _ c.args.frame c.self.invariant dry running c.push-fallen.new.self c.in-Some.oldest c.in-Some.ensures.oldest (rw (← c.self.view_is) at c.requires.channels) c.channels-channels.ensures.frame in
+    let fits = oldest-fits _ _ c.args.frame c.in-Some.oldest c.self.invariant.line c.self.invariant.channels c.in-Some.ensures.oldest (rw (← c.self.view_is) at c.requires.channels) c.channels-channels.ensures.frame in
     rw c.if-not-keeps.ensures.same
     (IsTrim-fallen _ c.args.frame c.self.invariant dry running _ c.in-Some.oldest _ _ c.in-Some.ensures.oldest c.in-Some.ensures.items
     c.len-held.ensures.line c.in-Some.ensures.capacity c.in-Some.ensures.channels (rw (← c.self.view_is) at c.requires.below_limit)

@@ -2,72 +2,57 @@
 use Rattle.std.proofs.Common.{rules, ◌≤◌, ◌+◌, ◌*◌, ◌/◌, ◌^◌, length, arith}
 use Rattle.std.proofs.Math.Nat.{mul_assoc}
 use Rattle.fx_step.specs.Feed.{nothing}
-use Rattle.fx_cut.specs.UpsampleState.{UpsampleState}
+use Rattle.fx_cut.specs.declared.upsample.Upsample.TheView.{view}
 use Rattle.fx_cut.proofs.Hands.{not-some}
 use Rattle.fx_cut.proofs.Pieces.{frames-room}
 use Rattle.fx_cut.proofs.UpsampleMany.{Ready, all-passed, frames-fed}
 use Rattle.fx_cut.proofs.upsample.UpsamplePassesMany.pass_many.Goals as goal
+use Rattle.fx_cut.proofs.upsample.UpsamplePassesMany.pass_many.Goals.{After-min-count}
 
 pub returns-then-is_some-clause-fed : goal.returns-then-is_some-clause-fed
 returns-then-is_some-clause-fed c = nothing
 
+-- the frames are there and may be passed
+may : (c : After-min-count) → Ready (view c.self.inside) × (c.min-count.result * c.self.inside.channels ≤ length c.args.input.now) × (c.self.inside.taken + c.min-count.result ≤ 2 ^ 56 / c.self.inside.factor)
+may c =
+    let room = frames-room c.min-count.result c.self.inside.channels (length c.args.input.now) (omega (arith, c.min-count.ensures)) in
+    (record { is = c.self.invariant; empty = not-some c.self.inside.hand (search rules); none = c.if-self-ne0.false; running = c.if-self.false }, room, (rw (← c.self.view_is) at c.requires.below_limit) c.min-count.result room)
+
+-- and what they give has room
+fits : (c : After-min-count) → c.min-count.result * c.self.inside.factor * c.self.inside.channels ≤ length c.args.output.now
+fits c =
+    let groups = frames-room c.min-count.result c.self.inside.factor (length c.args.output.now / c.self.inside.channels) (omega (arith, c.min-count.ensures)) in
+    frames-room (c.min-count.result * c.self.inside.factor) c.self.inside.channels (length c.args.output.now) groups
+
 pub spread_frames-requires-clause-output : goal.spread_frames-requires-clause-output
 spread_frames-requires-clause-output c =
-    let n = c.min-count.result in
-    let ch = c.self.inside.channels in
-    let f = c.self.inside.factor in
-    let groups : n * f ≤ length c.args.output.now / ch = frames-room n f (length c.args.output.now / ch) (omega (arith, c.min-count.ensures)) in
-    let fits : n * f * ch ≤ length c.args.output.now = frames-room (n * f) ch (length c.args.output.now) groups in
-    omega (arith, fits, mul_assoc n f ch)
+    let room = fits (goal.at.spread_frames-requires-clause-output c).After-min-count in
+    omega (arith, room, mul_assoc c.min-count.result c.self.inside.factor c.self.inside.channels)
 
 pub overflow_add-self-2 : goal.overflow_add-self-2
 overflow_add-self-2 c =
-    let s : UpsampleState = record { hand = c.self.inside.hand; recipe = record { channels = c.self.inside.channels; factor = c.self.inside.factor }; silent = c.self.inside.silent; taken = c.self.inside.taken; given = c.self.inside.given; ended = c.self.inside.ended } in
-    let r : Ready s = record { is = c.self.invariant; empty = not-some c.self.inside.hand (search rules); none = c.if-self-ne0.false; running = c.if-self.false } in
+    let m = may (goal.at.overflow_add-self-2 c).After-min-count in
     let n = c.min-count.result in
-    let ch = c.self.inside.channels in
     let f = c.self.inside.factor in
-    let below = rw (← c.self.view_is) at c.requires.below_limit in
-    let room : n * ch ≤ length c.args.input.now = frames-room n ch (length c.args.input.now) (omega (arith, c.min-count.ensures)) in
-    let few = below n room in
-    let all = frames-fed n s c.args.input.now r room few in
-    let is = all.1.is in
-    let counted = is.counted in
-    let most : (c.self.inside.taken + n) * f ≤ 2 ^ 56 = frames-room (c.self.inside.taken + n) f (2 ^ 56) few in
+    let all = frames-fed n (view c.self.inside) c.args.input.now m.0 m.1 m.2 in
+    let counted = all.1.is.counted in
+    let most : (c.self.inside.taken + n) * f ≤ 2 ^ 56 = frames-room (c.self.inside.taken + n) f (2 ^ 56) m.2 in
     let least : c.self.inside.given + n * f ≤ 2 ^ 56 = omega (arith, counted, most) in
     search rules
 
 pub invariant_of-self : goal.invariant_of-self
 invariant_of-self c =
-    let s : UpsampleState = record { hand = c.self.inside.hand; recipe = record { channels = c.self.inside.channels; factor = c.self.inside.factor }; silent = c.self.inside.silent; taken = c.self.inside.taken; given = c.self.inside.given; ended = c.self.inside.ended } in
-    let r : Ready s = record { is = c.self.invariant; empty = not-some c.self.inside.hand (search rules); none = c.if-self-ne0.false; running = c.if-self.false } in
-    let n = c.min-count.result in
-    let ch = c.self.inside.channels in
-    let f = c.self.inside.factor in
-    let below = rw (← c.self.view_is) at c.requires.below_limit in
-    let room : n * ch ≤ length c.args.input.now = frames-room n ch (length c.args.input.now) (omega (arith, c.min-count.ensures)) in
-    let few = below n room in
-    let all = all-passed s n c.args.input.now c.spread_frames.new.output r room few c.spread_frames.ensures.frames in
+    let m = may (goal.at.invariant_of-self c).After-min-count in
+    let all = all-passed (view c.self.inside) c.min-count.result c.args.input.now c.spread_frames.new.output m.0 m.1 m.2 c.spread_frames.ensures.frames in
     all.1.is
 
 pub returns-clause-fed : goal.returns-clause-fed
 returns-clause-fed c =
-    let s : UpsampleState = record { hand = c.self.inside.hand; recipe = record { channels = c.self.inside.channels; factor = c.self.inside.factor }; silent = c.self.inside.silent; taken = c.self.inside.taken; given = c.self.inside.given; ended = c.self.inside.ended } in
-    let r : Ready s = record { is = c.self.invariant; empty = not-some c.self.inside.hand (search rules); none = c.if-self-ne0.false; running = c.if-self.false } in
-    let n = c.min-count.result in
-    let ch = c.self.inside.channels in
-    let f = c.self.inside.factor in
-    let below = rw (← c.self.view_is) at c.requires.below_limit in
-    let room : n * ch ≤ length c.args.input.now = frames-room n ch (length c.args.input.now) (omega (arith, c.min-count.ensures)) in
-    let few = below n room in
-    let all = all-passed s n c.args.input.now c.spread_frames.new.output r room few c.spread_frames.ensures.frames in
-    rw (← c.self.view_is) (all.0)
+    let m = may (goal.at.returns-clause-fed c).After-min-count in
+    let all = all-passed (view c.self.inside) c.min-count.result c.args.input.now c.spread_frames.new.output m.0 m.1 m.2 c.spread_frames.ensures.frames in
+    rw (← c.self.view_is) all.0
 
 pub returns-clause-written : goal.returns-clause-written
 returns-clause-written c =
-    let n = c.min-count.result in
-    let ch = c.self.inside.channels in
-    let f = c.self.inside.factor in
-    let groups : n * f ≤ length c.args.output.now / ch = frames-room n f (length c.args.output.now / ch) (omega (arith, c.min-count.ensures)) in
-    let fits : n * f * ch ≤ length c.args.output.now = frames-room (n * f) ch (length c.args.output.now) groups in
-    rw (← c.self.view_is) (omega (arith, fits, c.spread_frames.auto.output))
+    let room = fits (goal.at.returns-clause-written c).After-min-count in
+    rw (← c.self.view_is) (omega (arith, room, c.spread_frames.auto.output))

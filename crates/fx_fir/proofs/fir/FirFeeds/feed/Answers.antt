@@ -9,7 +9,7 @@ use Rattle.fx_lists.proofs.Pieces.{length-pieces}
 use Rattle.fx_fir.specs.Fir.{centre}
 use Rattle.fx_fir.specs.FirState.{FirState, IsFir}
 use Rattle.fx_frame.specs.Tapped.{last_of}
-use Rattle.fx_frame.proofs.Counts.{none-of}
+use Rattle.fx_step.proofs.Flags.{none-of}
 use Rattle.fx_fir.proofs.FirBlocks.{block-fed}
 use Rattle.fx_frame.proofs.TapBlocks.{length-last}
 use Rattle.fx_frame.proofs.WholeFrames.{both-have, no-more}

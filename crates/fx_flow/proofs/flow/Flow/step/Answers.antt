@@ -1,7 +1,8 @@
 use Rattle.std.proofs.Common.{rules, cond, nat_eq, ◌≡◌, ◌+◌, ◌<◌, ◌^◌, length, refl, sym, ap, ◌∙◌, arith}
 use Rattle.fx_step.specs.Holds.{hold_sum, kinds}
-use Rattle.fx_flow.proofs.Steps.{written_back, IsSound-pass, Steps-pass, ended-busy, never-idle}
+use Rattle.fx_flow.proofs.Steps.{IsSound-pass, Steps-pass, ended-busy, never-idle}
 use Rattle.fx_flow.proofs.Moving.{settled-none, settled-after, count-le, IsWetEnd-le, CanMove-sound, IsSound-move, Steps-move, MovedOn-move, MovedOn-pass}
+use Rattle.fx_lists.proofs.Puts.{written_back}
 use Rattle.fx_flow.proofs.flow.Flow.step.Goals as goal
 
 pub pass_on-self-inside-requires-clause-dry : goal.pass_on-self-inside-requires-clause-dry

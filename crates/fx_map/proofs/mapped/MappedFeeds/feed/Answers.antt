@@ -1,9 +1,22 @@
-use Rattle.std.proofs.Common.{rules, ◌≡◌, ◌*◌, ◌≤◌, false, length, refl, arith, ◌<◌}
+use Rattle.std.proofs.Common.{rules, ◌≡◌, ◌+◌, ◌*◌, ◌≤◌, false, length, refl, arith, ◌<◌}
 use Rattle.std.specs.Prelude.{None}
+use Rattle.fx_frame.specs.Kinds.{most_taken}
 use Rattle.fx_map.proofs.Blocks.{block-fed}
-use Rattle.fx_frame.proofs.Counts.{none-of}
+use Rattle.fx_step.proofs.Flags.{none-of}
 use Rattle.fx_frame.proofs.WholeFrames.{both-have, no-more}
+use Rattle.fx_map.proofs.mapped.MappedFeeds.feed.Given as given
 use Rattle.fx_map.proofs.mapped.MappedFeeds.feed.Goals as goal
+use Rattle.fx_map.proofs.mapped.MappedFeeds.feed.Goals.{After-min-count}
+
+-- both slices have so many frames
+both : (g : given.Over) (c : After-min-count g) → (c.min-count.result * c.in_channels-inputs.result ≤ length c.args.input.now) × (c.min-count.result * c.out_channels-outputs.result ≤ length c.args.output.now)
+both g c = both-have (length c.args.input.now) (length c.args.output.now) c.in_channels-inputs.result c.out_channels-outputs.result c.min-count.result c.min-count.ensures
+
+-- and it may take them
+limit : (g : given.Over) (c : After-min-count g) → c.self.inside.taken + c.min-count.result ≤ most_taken
+limit g c =
+    let read : c.min-count.result * g.M.Mapping.inputs c.self.inside.mapping ≤ length c.args.input.now = rw (← c.in_channels-inputs.ensures) (both g c).0 in
+    (rw (← c.self.view_is) at c.requires.below_limit) c.min-count.result read
 
 pub returns-clause-fed : goal.returns-clause-fed
 returns-clause-fed g c =
@@ -14,36 +27,20 @@ returns-clause-fed g c =
     let over : s.ended ≡ false = search rules in
     let counted = rw none at c.self.invariant.counted in
     let even : s.given ≡ s.taken = omega (arith, counted) in
-    let both = both-have (length c.args.input.now) (length c.args.output.now) c.in_channels-inputs.result c.out_channels-outputs.result c.min-count.result c.min-count.ensures in
-    let room : c.min-count.result * c.out_channels-outputs.result ≤ length c.map_many.new.output = omega (arith, both.1, c.map_many.auto.output) in
+    let have = both g (goal.at.returns-clause-fed g c).After-min-count in
+    let room : c.min-count.result * c.out_channels-outputs.result ≤ length c.map_many.new.output = omega (arith, have.1, c.map_many.auto.output) in
     let long : c.min-count.result * m.outputs s.mapping ≤ length c.map_many.new.output = rw (← c.out_channels-outputs.ensures.value) room in
     rw (← c.self.view_is)
     (block-fed m.inputs m.outputs m.mapped s.mapping (record { mapping = s.mapping; hand = s.hand; hand_clips = s.hand_clips; taken = s.taken; given = s.given; clips = s.clips; ended = s.ended }) c.min-count.result c.map_many.result c.args.input.now c.map_many.new.output
     refl none zero over even long c.map_many.ensures.frames c.map_many.ensures.clips)
 
-pub feed_by_frames-requires-clause-channels : goal.feed_by_frames-requires-clause-channels
-feed_by_frames-requires-clause-channels g c = c.requires.channels
+pub feed_by_frames-requires : goal.feed_by_frames-requires
+feed_by_frames-requires g c = record { channels = c.requires.channels; below_limit = c.requires.below_limit }
 
-pub feed_by_frames-requires-clause-below_limit : goal.feed_by_frames-requires-clause-below_limit
-feed_by_frames-requires-clause-below_limit g c = c.requires.below_limit
-
-pub returns-then-is_some-clause-fed : goal.returns-then-is_some-clause-fed
-returns-then-is_some-clause-fed g c = c.feed_by_frames.ensures.fed
-
-pub returns-then-is_some-clause-read : goal.returns-then-is_some-clause-read
-returns-then-is_some-clause-read g c = c.feed_by_frames.ensures.read
-
-pub returns-then-is_some-clause-written : goal.returns-then-is_some-clause-written
-returns-then-is_some-clause-written g c = c.feed_by_frames.ensures.written
-
-pub returns-then-is_some-clause-behind : goal.returns-then-is_some-clause-behind
-returns-then-is_some-clause-behind g c = c.feed_by_frames.ensures.behind
-
-pub returns-then-is_some-clause-dry : goal.returns-then-is_some-clause-dry
-returns-then-is_some-clause-dry g c = c.feed_by_frames.ensures.dry
-
-pub returns-then-is_some-clause-used : goal.returns-then-is_some-clause-used
-returns-then-is_some-clause-used g c = c.feed_by_frames.ensures.used
+pub returns-then-is_some : goal.returns-then-is_some
+returns-then-is_some g c =
+    let e = c.feed_by_frames.ensures in
+    record { fed = e.fed; read = e.read; written = e.written; behind = e.behind; dry = e.dry; used = e.used }
 
 pub nonzero_div-input : goal.nonzero_div-input
 nonzero_div-input g c =
@@ -57,53 +54,30 @@ pub map_many-requires-clause-channels : goal.map_many-requires-clause-channels
 map_many-requires-clause-channels g c = rw (← c.self.view_is) at c.requires.channels
 
 pub map_many-requires-clause-few : goal.map_many-requires-clause-few
-map_many-requires-clause-few g c =
-    let both = both-have (length c.args.input.now) (length c.args.output.now) c.in_channels-inputs.result c.out_channels-outputs.result c.min-count.result c.min-count.ensures in
-    let read : c.min-count.result * g.M.Mapping.inputs c.self.inside.mapping ≤ length c.args.input.now = rw (← c.in_channels-inputs.ensures) both.0 in
-    let limit = (rw (← c.self.view_is) at c.requires.below_limit) c.min-count.result read in
-    omega (arith, limit)
+map_many-requires-clause-few g c = omega (arith, limit g (goal.at.map_many-requires-clause-few g c).After-min-count)
 
 pub map_many-requires-clause-input : goal.map_many-requires-clause-input
-map_many-requires-clause-input g c =
-    let both = both-have (length c.args.input.now) (length c.args.output.now) c.in_channels-inputs.result c.out_channels-outputs.result c.min-count.result c.min-count.ensures in
-    rw (← c.in_channels-inputs.ensures) both.0
+map_many-requires-clause-input g c = rw (← c.in_channels-inputs.ensures) (both g (goal.at.map_many-requires-clause-input g c).After-min-count).0
 
 pub map_many-requires-clause-output : goal.map_many-requires-clause-output
-map_many-requires-clause-output g c =
-    let both = both-have (length c.args.input.now) (length c.args.output.now) c.in_channels-inputs.result c.out_channels-outputs.result c.min-count.result c.min-count.ensures in
-    rw (← c.out_channels-outputs.ensures.value) both.1
+map_many-requires-clause-output g c = rw (← c.out_channels-outputs.ensures.value) (both g (goal.at.map_many-requires-clause-output g c).After-min-count).1
 
 pub overflow_add-self : goal.overflow_add-self
-overflow_add-self g c =
-    let both = both-have (length c.args.input.now) (length c.args.output.now) c.in_channels-inputs.result c.out_channels-outputs.result c.min-count.result c.min-count.ensures in
-    let read : c.min-count.result * g.M.Mapping.inputs c.self.inside.mapping ≤ length c.args.input.now = rw (← c.in_channels-inputs.ensures) both.0 in
-    let limit = (rw (← c.self.view_is) at c.requires.below_limit) c.min-count.result read in
-    omega (arith, limit, c.self.invariant.counted, c.self.invariant.few_clips, c.map_many.ensures.few)
+overflow_add-self g c = omega (arith, limit g (goal.at.overflow_add-self g c).After-min-count, c.self.invariant.counted, c.self.invariant.few_clips, c.map_many.ensures.few)
 
 pub overflow_add-self-2 : goal.overflow_add-self-2
-overflow_add-self-2 g c =
-    let both = both-have (length c.args.input.now) (length c.args.output.now) c.in_channels-inputs.result c.out_channels-outputs.result c.min-count.result c.min-count.ensures in
-    let read : c.min-count.result * g.M.Mapping.inputs c.self.inside.mapping ≤ length c.args.input.now = rw (← c.in_channels-inputs.ensures) both.0 in
-    let limit = (rw (← c.self.view_is) at c.requires.below_limit) c.min-count.result read in
-    omega (arith, limit)
+overflow_add-self-2 g c = omega (arith, limit g (goal.at.overflow_add-self-2 g c).After-min-count)
 
 pub overflow_add-self-3 : goal.overflow_add-self-3
-overflow_add-self-3 g c =
-    let both = both-have (length c.args.input.now) (length c.args.output.now) c.in_channels-inputs.result c.out_channels-outputs.result c.min-count.result c.min-count.ensures in
-    let read : c.min-count.result * g.M.Mapping.inputs c.self.inside.mapping ≤ length c.args.input.now = rw (← c.in_channels-inputs.ensures) both.0 in
-    let limit = (rw (← c.self.view_is) at c.requires.below_limit) c.min-count.result read in
-    omega (arith, limit, c.self.invariant.counted)
+overflow_add-self-3 g c = omega (arith, limit g (goal.at.overflow_add-self-3 g c).After-min-count, c.self.invariant.counted)
 
 pub returns-clause-read : goal.returns-clause-read
-returns-clause-read g c =
-    let both = both-have (length c.args.input.now) (length c.args.output.now) c.in_channels-inputs.result c.out_channels-outputs.result c.min-count.result c.min-count.ensures in
-    rw (← c.self.view_is, ← c.in_channels-inputs.ensures) both.0
+returns-clause-read g c = rw (← c.self.view_is, ← c.in_channels-inputs.ensures) (both g (goal.at.returns-clause-read g c).After-min-count).0
 
 pub returns-clause-written : goal.returns-clause-written
 returns-clause-written g c =
-    let both = both-have (length c.args.input.now) (length c.args.output.now) c.in_channels-inputs.result c.out_channels-outputs.result c.min-count.result c.min-count.ensures in
-    let room : c.min-count.result * c.out_channels-outputs.result ≤ length c.map_many.new.output = omega (arith, both.1, c.map_many.auto.output) in
-    rw (← c.self.view_is, ← c.out_channels-outputs.ensures.value) room
+    let have = both g (goal.at.returns-clause-written g c).After-min-count in
+    rw (← c.self.view_is, ← c.out_channels-outputs.ensures.value) (omega (arith, have.1, c.map_many.auto.output))
 
 pub returns-clause-behind : goal.returns-clause-behind
 returns-clause-behind g c = rw (← c.self.view_is) c.map_many.ensures.behind

@@ -4,7 +4,7 @@ use Rattle.fx_past.specs.EchoWeights.{weighed_echoes}
 use Rattle.fx_past.proofs.EchoLaws.{echo-first, echo-next, echo-last}
 use Rattle.fx_past.proofs.EchoPieces.{coming-sample, earlier-sample}
 use Rattle.fx_past.proofs.EchoWeights.{held-weight, weighed-at, weighed-length}
-use Rattle.fx_past.proofs.SumPieces.{flat-place}
+use Rattle.fx_lists.proofs.ChannelPlaces.{within-frames}
 use Rattle.fx_past.proofs.echo.PreparedEcho.add_piece.Goals as goal
 
 pub echoes-init : goal.echoes-init
@@ -17,7 +17,7 @@ echoes-init c =
     rw (← c.self.view_is, ← c.small.view_is)
     record {
       value = λ i k lt within.
-          let at : i * ch + k < length c.args.sums.now = omega (arith, flat-place ch n i k lt within, long) in
+          let at : i * ch + k < length c.args.sums.now = omega (arith, within-frames ch k i n within lt, long) in
           let now = coming-sample ch n i k c.args.line.now.items c.args.frames.now lt within in
           echo-first _ _ _ _ _ (rw weight at c.add_products.ensures.added (i * ch + k) at) (c.requires.empty (i * ch + k)) (ap (λ z. slice_index_or ws 0 (pos 0) *ℤ z) now);
       small = λ k.
@@ -45,7 +45,7 @@ echoes-preserved c =
     rw (← c.self.view_is, ← c.small.view_is)
     record {
       value = λ i k lt within.
-          let at : i * ch + k < length c.echoes.sums = omega (arith, flat-place ch n i k lt within, long, c.echoes.auto.sums) in
+          let at : i * ch + k < length c.echoes.sums = omega (arith, within-frames ch k i n within lt, long, c.echoes.auto.sums) in
           let copied = rw same at c.before_into.ensures in
           let early = earlier-sample c.args.line.now c.before_into.new.out coming ch c.index.result.now.0 n i k same late lt within c.before_into.ensures in
           let added = (rw weight at c.add_products-in-echoes.ensures.added (i * ch + k) at) ∙ ap (λ z. slice_index_or c.echoes.sums (i * ch + k) (pos 0) +ℤ (slice_index_or ws (p + 1) (pos 0) *ℤ z)) early in

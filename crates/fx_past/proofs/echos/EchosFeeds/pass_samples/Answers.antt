@@ -4,7 +4,8 @@ use Rattle.fx_step.specs.Frame.{Samples}
 use Rattle.fx_past.specs.EchosState.{EchosState, IsEchos, IsEchoLine, came_of, delay_at, line_at}
 use Rattle.fx_frame.proofs.DryLaws.{dry-hand}
 use Rattle.fx_past.proofs.EchosBlocks.{IsEchos-block, frame-passed}
-use Rattle.fx_past.proofs.EchosLaws.{kept-lines, length-row, lines-sound, places-late, row_after}
+use Rattle.fx_past.proofs.EchosLaws.{length-row, lines-sound, places-late, row_after}
+use Rattle.fx_lists.proofs.Puts.{written_back}
 use Rattle.fx_past.proofs.echos.EchosFeeds.pass_samples.Goals as goal
 
 pub invariant_of-self : goal.invariant_of-self
@@ -29,7 +30,7 @@ invariant_of-self c =
     let limit = rw (← c.self.view_is) at c.requires.below_limit in
     let few : s.taken + 1 ≤ 2 ^ 56 = omega (arith, limit) in
     let sound : (j : ℕ) → j < length c.echo_over-clips.new.lines → IsEchoLine s.arguments.channels (came_of s + 1) j (delay_at s.arguments.echoes j) (line_at c.echo_over-clips.new.lines j) = rw row (lines-sound s x is c.echo_over-clips.ensures.small) in
-    rw (kept-lines c.self.inside.lines.len c.echo_over-clips.new.lines c.self.inside.lines.items c.self.inside.lines.ok.0 size)
+    rw (written_back c.self.inside.lines.items c.echo_over-clips.new.lines c.self.inside.lines.len c.self.inside.lines.ok.0 size)
     (IsEchos-block s c.echo_over-clips.new.lines 1 c.echo_over-clips.result is none over few size sound (omega (arith, c.echo_over-clips.ensures.few)), c.self.invariant.1)
 
 pub returns-clause-passed : goal.returns-clause-passed
@@ -57,5 +58,5 @@ returns-clause-passed c =
     let even : s.given ≡ s.taken = omega (arith, counted, quiet) in
     let frame = rw (c.deref_mut.ensures.value, c.deref.ensures.value) at c.echo_over-clips.ensures.frame in
     let clips = rw (c.deref_mut.ensures.value, c.deref.ensures.value) at c.echo_over-clips.ensures.clips in
-    rw (← c.self.view_is, kept-lines c.self.inside.lines.len c.echo_over-clips.new.lines c.self.inside.lines.items c.self.inside.lines.ok.0 size)
+    rw (← c.self.view_is, written_back c.self.inside.lines.items c.echo_over-clips.new.lines c.self.inside.lines.len c.self.inside.lines.ok.0 size)
     (frame-passed s c.echo_over-clips.new.lines x c.echo_over-clips.new.samples c.echo_over-clips.result none zero quiet over even (places-late s is) frame clips row)

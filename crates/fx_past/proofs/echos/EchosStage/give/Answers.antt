@@ -1,7 +1,8 @@
 use Rattle.std.proofs.Common.{◌≡◌, ◌<◌, ◌^◌, ◌∙◌, ap, length, arith}
 use Rattle.fx_past.specs.EchosState.{EchosState}
 use Rattle.fx_past.proofs.EchosRow.{Small, small-silence}
-use Rattle.fx_past.proofs.EchosLaws.{Gave-quiet, IsEchos-drained, kept-lines, length-row, row_after}
+use Rattle.fx_past.proofs.EchosLaws.{Gave-quiet, IsEchos-drained, length-row, row_after}
+use Rattle.fx_lists.proofs.Puts.{written_back}
 use Rattle.fx_past.proofs.echos.EchosStage.give.Goals as goal
 
 pub invariant_of-self-2 : goal.invariant_of-self-2
@@ -21,7 +22,7 @@ invariant_of-self-2 c =
     let row : c.echoed-out.new.lines ≡ row_after s c.silence-quiet.result = rw (c.deref_mut.ensures.value) at c.echoed-out.ensures.lines in
     let size : length c.echoed-out.new.lines ≡ length c.self.inside.lines.items = ap length row ∙ length-row s c.silence-quiet.result in
     let small : Small (2 ^ 31) c.silence-quiet.result = rw c.silence-quiet.ensures (small-silence (2 ^ 31) c.self.inside.channels) in
-    rw (kept-lines c.self.inside.lines.len c.echoed-out.new.lines c.self.inside.lines.items c.self.inside.lines.ok.0 size)
+    rw (written_back c.self.inside.lines.items c.echoed-out.new.lines c.self.inside.lines.len c.self.inside.lines.ok.0 size)
     ((IsEchos-drained s c.echoed-out.new.lines c.silence-quiet.result c.echoed-out.result.1 c.self.invariant.0 c.in_default.is some small row c.echoed-out.ensures.few), c.self.invariant.1)
 
 pub returns : goal.returns
@@ -42,5 +43,5 @@ returns c =
     let size : length c.echoed-out.new.lines ≡ length c.self.inside.lines.items = ap length row ∙ length-row s c.silence-quiet.result in
     let samples = rw (c.deref_mut.ensures.value, c.deref.ensures.value) at c.echoed-out.ensures.frame in
     let clips = rw (c.deref_mut.ensures.value, c.deref.ensures.value) at c.echoed-out.ensures.clips in
-    rw (← c.self.view_is, kept-lines c.self.inside.lines.len c.echoed-out.new.lines c.self.inside.lines.items c.self.inside.lines.ok.0 size)
+    rw (← c.self.view_is, written_back c.self.inside.lines.items c.echoed-out.new.lines c.self.inside.lines.len c.self.inside.lines.ok.0 size)
     (Gave-quiet s c.echoed-out.new.lines c.silence-quiet.result c.echoed-out.result.0 c.echoed-out.result.1 c.self.invariant.0 c.in_default.is some c.silence-quiet.ensures row samples clips c.echoed-out.ensures.fits.1)

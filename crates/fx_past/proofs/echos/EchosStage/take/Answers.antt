@@ -1,7 +1,8 @@
 use Rattle.std.proofs.Common.{◌≡◌, ◌∙◌, ap, length}
 use Rattle.fx_past.specs.EchosState.{EchosState}
 use Rattle.fx_past.proofs.EchosRow.{small-frame}
-use Rattle.fx_past.proofs.EchosLaws.{IsEchos-taken, kept-lines, length-row, row_after}
+use Rattle.fx_past.proofs.EchosLaws.{IsEchos-taken, length-row, row_after}
+use Rattle.fx_lists.proofs.Puts.{written_back}
 use Rattle.fx_past.proofs.echos.EchosStage.take.Goals as goal
 
 pub invariant_of-self : goal.invariant_of-self
@@ -20,7 +21,7 @@ invariant_of-self c =
     let row : c.echoed-out.new.lines ≡ row_after s c.args.frame = rw (c.deref_mut.ensures.value) at c.echoed-out.ensures.lines in
     let size : length c.echoed-out.new.lines ≡ length c.self.inside.lines.items = ap length row ∙ length-row s c.args.frame in
     let small = small-frame c.args.frame c.channels-count.ensures.frame.fits in
-    rw (kept-lines c.self.inside.lines.len c.echoed-out.new.lines c.self.inside.lines.items c.self.inside.lines.ok.0 size) (
+    rw (written_back c.self.inside.lines.items c.echoed-out.new.lines c.self.inside.lines.len c.self.inside.lines.ok.0 size) (
       (IsEchos-taken s c.echoed-out.new.lines c.args.frame c.echoed-out.result.0 c.echoed-out.result.1 c.self.invariant.0 (rw (← c.self.view_is) at c.requires.dry) (rw (← c.self.view_is) at c.requires.not_ended) (rw (← c.self.view_is) at c.requires.below_limit)
           row small c.echoed-out.ensures.few c.echoed-out.ensures.fits.0 c.echoed-out.ensures.fits.1),
       c.self.invariant.1,
