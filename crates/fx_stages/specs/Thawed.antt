@@ -2,8 +2,8 @@
 use Rattle.std.specs.Prelude.{◌≡◌, ◌≤◌, ◌^◌, ℕ, true}
 use Rattle.fx_effects.specs.Effects.{line_of, Act, Usable, act}
 use Rattle.fx_stages.specs.declared.thaw.EffectArguments.{EffectArguments}
-use Rattle.fx_stages.specs.Effects.{EffectRecipe}
-use Rattle.fx_stages.specs.Made.{recipe_at, suits}
+use Rattle.fx_stages.specs.Effects.{EffectRecipe, recipe_for}
+use Rattle.fx_stages.specs.Made.{suits}
 
 -- an effect can be a stage that takes frames of so many channels, with a line that is short enough
 pub record FitsEffect (channels : ℕ) (a : Act) : Type 0 where
@@ -23,4 +23,4 @@ fits_stage arguments = FitsEffect arguments.channels (act arguments.effect)
 
 -- the stage that they are for
 abbrev pub recipe_with : EffectArguments → EffectRecipe
-recipe_with arguments = recipe_at (placing arguments)
+recipe_with arguments = recipe_for arguments.channels (act arguments.effect)
