@@ -7,17 +7,17 @@ use Rattle.fx_flow.specs.Sound.{IsPlanned}
 use Rattle.fx_step.specs.Holds.{hold_sum, kinds, line_sum, recipes, total}
 use Rattle.fx_step.specs.Stage.{Kind}
 use Rattle.fx_effects.specs.Bounds.{hold_all, is_too_long, work_of}
-use Rattle.fx_effects.specs.Effects.{line_of, Act, Usable, channels_after}
+use Rattle.fx_effects.specs.Effects.{Act, Usable, channels_after}
+use Rattle.fx_effects.specs.Meanings.{kind_at, line_of}
 use Rattle.fx_effects.proofs.Lasting.{work-bound}
 use Rattle.fx_stages.specs.declared.stage.EffectStage.{EffectStage}
-use Rattle.fx_stages.specs.Effects.{kind_of_recipe}
 use Rattle.fx_stages.specs.Stages.{effect_acts}
 use Rattle.fx_stages.specs.Made.{all_suit, recipes_for}
 use Rattle.fx_stages.proofs.Planned.{hold-for, kinds_for, line-is, matching-for, most-for, within-for, work-for}
 
 -- the kinds of stages that were made for effects
 pub kinds-made : (stages : List EffectStage) (channels : ℕ) (acts : List Act) → recipes effect_acts stages ≡ recipes_for channels acts → kinds effect_acts stages ≡ kinds_for channels acts
-kinds-made stages channels acts made = ap (map kind_of_recipe) made
+kinds-made stages channels acts made = ap (map kind_at) made
 
 pub hold-is : (c : ChainParts) → IsChain c → 1 + hold_sum (kinds effect_acts c.flow.stages) ≡ hold_all c.plan.acts
 hold-is c h = ap (λ (ks : List Kind). 1 + hold_sum ks) (kinds-made c.flow.stages c.plan.head.channels c.plan.acts h.made) ∙ hold-for c.plan.head.channels c.plan.acts

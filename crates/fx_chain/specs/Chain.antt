@@ -9,21 +9,21 @@ use Rattle.fx_step.specs.Holds.{recipes}
 use Rattle.fx_effects.specs.Bounds.{is_too_long}
 use Rattle.fx_plan.specs.Planning.{Planning}
 use Rattle.fx_stages.specs.declared.stage.EffectStage.{EffectStage}
-use Rattle.fx_stages.specs.Effects.{EffectRecipe, meaning_of_recipe}
+use Rattle.fx_effects.specs.Meanings.{Placed, meaning_at}
 use Rattle.fx_stages.specs.Made.{recipes_for}
 use Rattle.fx_stages.specs.Stages.{effect_acts}
 
 -- the stages of a plan's effects
-abbrev pub planned : Planning → List EffectRecipe
+abbrev pub planned : Planning → List Placed
 planned p = recipes_for p.head.channels p.acts
 
 -- the frames that a plan's effects make of a whole sound, by their definitions one after the other
 abbrev pub chain_gives : Planning → List Samples → List Samples
-chain_gives p x = composed meaning_of_recipe (planned p) x
+chain_gives p x = composed meaning_at (planned p) x
 
 -- of each effect how many frames it makes of a whole sound, and how many samples it clips
 abbrev pub chain_wholes : Planning → List Samples → List Whole
-chain_wholes p x = composed_wholes meaning_of_recipe (planned p) x
+chain_wholes p x = composed_wholes meaning_at (planned p) x
 
 -- a chain, to its callers: its plan, and its stages with the frames and counts that they have
 pub record ChainParts : Type 0 where

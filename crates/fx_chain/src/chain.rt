@@ -11,7 +11,7 @@ ghost use Rattle.fx_flow.specs.Steps.{IsDone, IsHungry, MovedOn, StateIs, Steps,
 ghost use Rattle.fx_step.specs.Frame.{Samples};
 ghost use Rattle.fx_step.specs.Holds.{capacity_sum, held_sum, kinds, total};
 ghost use Rattle.fx_effects.specs.Bounds.{hold_all, work_of};
-ghost use Rattle.fx_effects.specs.Effects.{line_of};
+ghost use Rattle.fx_effects.specs.Meanings.{line_of};
 ghost use Rattle.fx_plan.specs.Planning.{planning};
 ghost use Rattle.fx_stages.specs.Stages.{effect_acts};
 

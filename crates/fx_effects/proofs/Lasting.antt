@@ -3,7 +3,8 @@ use Rattle.std.proofs.Common.{◌≡◌, ℕ, ◌+◌, ◌*◌, ◌^◌, ◌≤�
 use Rattle.std.specs.List.{list_any}
 use Rattle.std.proofs.lemmas.List.Sums.{sum_by-cons}
 use Rattle.std.proofs.lemmas.Bool.Decides.{nat_tests}
-use Rattle.fx_effects.specs.Effects.{Act, OfPad, OfDelay, OfEcho, OfEchos, OfUpsample, OfDownsample, most_of}
+use Rattle.fx_effects.specs.Effects.{Act, OfPad, OfDelay, OfEcho, OfEchos, OfUpsample, OfDownsample}
+use Rattle.fx_effects.specs.Meanings.{InPlace, Placed, kind_at, most_of, recipe_at}
 use Rattle.fx_effects.specs.Bounds.{is_past, mosts, work_of}
 use Rattle.fx_cut.specs.Ceil.{ceil_rises}
 
@@ -21,14 +22,17 @@ pub mosts-step : (a : Act) (acts : List Act) (n : ℕ) → n ≤ 2 ^ 56 → list
 mosts-step a acts n h = rw (is_past-no n h) refl
 
 -- more frames in make no fewer out
+pub rises-at : (p : Placed) (m n : ℕ) → m ≤ n → (kind_at p).most m ≤ (kind_at p).most n
+rises-at (InPlace channels (OfPad pads)) m n h = omega arith
+rises-at (InPlace channels (OfDelay ds)) m n h = omega arith
+rises-at (InPlace channels (OfEcho e)) m n h = omega arith
+rises-at (InPlace channels (OfEchos e)) m n h = omega arith
+rises-at (InPlace channels (OfUpsample factor)) m n h = mul-le-mul_right factor h
+rises-at (InPlace channels (OfDownsample factor)) m n h = ceil_rises m n factor h
+rises-at (InPlace channels other) m n h = h
+
 pub most_rises : (a : Act) (m n : ℕ) → m ≤ n → most_of a m ≤ most_of a n
-most_rises (OfPad pads) m n h = omega arith
-most_rises (OfDelay ds) m n h = omega arith
-most_rises (OfEcho e) m n h = omega arith
-most_rises (OfEchos e) m n h = omega arith
-most_rises (OfUpsample factor) m n h = mul-le-mul_right factor h
-most_rises (OfDownsample factor) m n h = ceil_rises m n factor h
-most_rises other m n h = h
+most_rises a m n h = rises-at (recipe_at (InPlace 1 a)) m n h
 
 -- where nothing is past the limit, n is not, and nothing behind the first effect is
 pub within-here : (acts : List Act) (n : ℕ) → list_any is_past (mosts acts n) ≡ false → n ≤ 2 ^ 56

@@ -1,7 +1,8 @@
 -- How many frames effects in a row hold, and how many frames can come out of them (this project's profile).
 use Rattle.std.specs.Prelude.{ℕ, ◌+◌, ◌^◌, nat_lt, Bool, List, [], ◌∷◌, sum, sum_by}
 use Rattle.std.specs.List.{list_any}
-use Rattle.fx_effects.specs.Effects.{Act, line_of, most_of}
+use Rattle.fx_effects.specs.Effects.{Act}
+use Rattle.fx_effects.specs.Meanings.{line_of, most_of}
 
 -- beside its line an effect has one frame in hand, and the chain one before the first effect
 abbrev pub hold_of : Act → ℕ

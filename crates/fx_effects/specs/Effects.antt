@@ -1,8 +1,6 @@
--- An effect with its resolved arguments: what it holds and makes, and the layout behind it.
-use Rattle.std.specs.Prelude.{ℕ, ◌+◌, ◌-◌, ◌*◌, ◌/◌, ◌^◌, ◌<◌, ◌≤◌, ◌≡◌, nat_le, ◌&&◌, Bool, true, List, [], ◌∷◌, codes, length, map, sum_by, ℤ, unsigned_abs, ⊤, Option, Some}
-use Rattle.std.specs.Int.{div_ceil}
+-- An effect with its resolved arguments, and the layout behind it (this project's profile).
+use Rattle.std.specs.Prelude.{ℕ, ◌*◌, ◌/◌, ◌^◌, ◌<◌, ◌≤◌, ◌≡◌, nat_le, ◌&&◌, Bool, true, List, [], ◌∷◌, codes, length, ℤ, unsigned_abs, ⊤, Option, Some}
 use Rattle.std.specs.List.{list_all}
-use Rattle.fx_fixed.specs.Extents.{end_distance, greatest, meant, pad_distance, pad_length, stop_line, sum_of_delays, tap_delay}
 use Rattle.fx_fixed.specs.declared.gains.TheConstants.{UNIT}
 use Rattle.fx_fixed.specs.declared.positions.At.{At}
 use Rattle.fx_effects.specs.declared.effect.Layout.{Layout}
@@ -55,27 +53,6 @@ layout_after layout other = layout
 abbrev pub channels_after : ℕ → Act → ℕ
 channels_after channels (OfRemix specs) = length specs
 channels_after channels other = channels
-
--- the frames that the line of an effect holds
-abbrev pub line_of : Act → ℕ
-line_of (OfTrim ps) = greatest (map end_distance ps)
-line_of (OfPad pads) = greatest (map pad_distance pads)
-line_of (OfDelay ds) = greatest ds
-line_of (OfEcho e) = greatest (map tap_delay e.taps)
-line_of (OfEchos e) = sum_of_delays e.taps
-line_of (OfFade fade) = stop_line (meant fade.stop) fade.fade_out
-line_of (OfFir gains) = length gains - 1
-line_of other = 0
-
--- the most frames that an effect makes of n
-abbrev pub most_of : Act → ℕ → ℕ
-most_of (OfPad pads) n = n + sum_by pad_length pads
-most_of (OfDelay ds) n = n + greatest ds
-most_of (OfEcho e) n = n + greatest (map tap_delay e.taps)
-most_of (OfEchos e) n = n + sum_of_delays e.taps
-most_of (OfUpsample factor) n = n * factor
-most_of (OfDownsample factor) n = div_ceil n factor
-most_of other n = n
 
 -- a layout that a sound can have
 pub record IsLayout (layout : Layout) : Type 0 where

@@ -1,6 +1,7 @@
 //! Effects with resolved arguments, and what they do to rate, channels and lengths.
 ghost use Rattle.std.specs.Prelude.{◌≡◌, ◌-◌, ◌^◌, IfOk, Some, min};
-ghost use Rattle.fx_effects.specs.Effects.{Fits, Usable, act, channels_after, layout_after, line_of, most_of, name_text};
+ghost use Rattle.fx_effects.specs.Effects.{Fits, Usable, act, channels_after, layout_after, name_text};
+ghost use Rattle.fx_effects.specs.Meanings.{line_of, most_of};
 ghost use Rattle.fx_past.specs.EchoWords.{echo_value};
 ghost use Rattle.fx_map.specs.RemixWords.{specs_in};
 

@@ -28,6 +28,11 @@ exact tag n (Fs ∷ Fss) each f tagged all (inr c) (inl y) =
 exact tag n (Fs ∷ Fss) each f tagged all (inr c) (inr d) =
     exact tag (suc n) Fss each.1 (λ c. f (inr c)) (λ c. let first = tagged (inr c) in omega arith) all.1 c d
 
+-- what holds at a variant, in front of what holds at those behind it
+infixr 3 ◌&◌
+abbrev pub ◌&◌ : {A B : Type 0} → A → B → A × B
+a & b = (a, b)
+
 -- the values of an enum
 pub exact_values : (N : Record) (each : Each Bool N.parts) → Exact N.parts each N.make → (a b : N.D) → Decides (by false false N.parts each (N.as_values a) (N.as_values b)) (a ≡ b)
 exact_values N each all a b =

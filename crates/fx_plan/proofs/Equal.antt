@@ -43,7 +43,7 @@ use Rattle.fx_effects.specs.Effects.Act.{OfTrim, OfPad, OfDelay, OfEcho, OfEchos
 use Rattle.fx_plan.specs.declared.accepted.Plan.{Plan}
 use Rattle.fx_plan.specs.Equality.{same_parts}
 use Rattle.fx_plan.specs.Planning.{planning}
-use Rattle.fx_plan.proofs.Alike.{exact_told, exact_values, place}
+use Rattle.fx_plan.proofs.Alike.{◌&◌, exact_told, exact_values, place}
 
 option_exact : {A : Type 0} (E : A → A → Bool) → ((x y : A) → Decides (E x y) (x ≡ y)) → (p q : Option A) → Decides (option_eq E p q) (p ≡ q)
 option_exact E each None None = (λ e. refl, λ e. refl)
@@ -57,12 +57,10 @@ frames_in (End frames) = frames
 
 pub at_exact : (a b : At) → Decides ((at_eq.ghosts).eq a b) (a ≡ b)
 at_exact = exact_values at.enum _ (
-  (λ x y. Decides-like _ (ap Start) (ap frames_in) (unsigned_Decides x.0 y.0)),
-  (
-    (λ x y. Decides-like _ (ap End) (ap frames_in) (unsigned_Decides x.0 y.0)),
-    tt,
-  ),
-)
+    (λ x y. Decides-like _ (ap Start) (ap frames_in) (unsigned_Decides x.0 y.0)) &
+    (λ x y. Decides-like _ (ap End) (ap frames_in) (unsigned_Decides x.0 y.0)) &
+    tt
+    )
 
 always : {A : Type 0} (x : A) → Decides true (x ≡ x)
 always x = (λ e. refl, λ e. refl)
@@ -73,9 +71,11 @@ gain_in _ = pos 0
 
 pub weight_exact : (a b : Weight) → Decides ((weight_eq.ghosts).eq a b) (a ≡ b)
 weight_exact = exact_values weight.enum _ (
-  (λ x y. Decides-like _ (ap Given) (ap gain_in) (signed_Decides x.0 y.0)),
-  ((λ x y. always Share), ((λ x y. always One), tt)),
-)
+    (λ x y. Decides-like _ (ap Given) (ap gain_in) (signed_Decides x.0 y.0)) &
+    (λ x y. always Share) &
+    (λ x y. always One) &
+    tt
+    )
 
 -- an enum without fields
 bare_exact : (D : Declared) → Bare D.parts → (a b : D.D) → Decides (sameb D a b) (a ≡ b)
@@ -151,42 +151,20 @@ numbered e = refl
 
 pub effect_exact : (a b : Effect) → Decides ((effect_eq.ghosts).eq a b) (act a ≡ act b)
 effect_exact = exact_told effect.enum act number_of numbered _ (
-  (λ x y. Decides-like _ (ap OfTrim) (λ e. cc) (pointwise_decides at_exact x.0.items y.0.items)),
-  (
-    (λ x y. Decides-like _ (ap OfPad) (λ e. cc) (pointwise_decides (pair_exact unsigned_Decides at_exact) x.0.items y.0.items)),
-    (
-      (λ x y. Decides-like _ (ap OfDelay) (λ e. cc) (pointwise_decides unsigned_Decides x.0.items y.0.items)),
-      (
-        (λ x y. Decides-like _ (ap OfEcho) (λ e. cc) (echoing_exact x.0 y.0)),
-        (
-          (λ x y. Decides-like _ (ap OfEchos) (λ e. cc) (echoing_exact x.0 y.0)),
-          (
-            (λ x y. Decides-like _ (ap OfFade) (λ e. cc) (fading_exact x.0 y.0)),
-            (
-              (λ x y. Decides-like _ (ap OfVol) (λ e. cc) (signed_Decides x.0 y.0)),
-              (
-                (λ x y. Decides-like _ (ap OfDcShift) (λ e. cc) (signed_Decides x.0 y.0)),
-                (
-                  (λ x y. Decides-like _ (ap OfFir) (λ e. cc) (pointwise_decides signed_Decides x.0.items y.0.items)),
-                  (
-                    (λ x y. Decides-like _ (ap OfRemix) (λ e. cc) (mapped_exact (λ spec. spec.items) (λ v w. pointwise_decides (pair_exact unsigned_Decides weight_exact) v.items w.items) x.0.items y.0.items)),
-                    (
-                      (λ x y. Decides-like _ (ap OfUpsample) (λ e. cc) (unsigned_Decides x.0 y.0)),
-                      (
-                        (λ x y. Decides-like _ (ap OfDownsample) (λ e. cc) (unsigned_Decides x.0 y.0)),
-                        tt,
-                      ),
-                    ),
-                  ),
-                ),
-              ),
-            ),
-          ),
-        ),
-      ),
-    ),
-  ),
-)
+    (λ x y. Decides-like _ (ap OfTrim) (λ e. cc) (pointwise_decides at_exact x.0.items y.0.items)) &
+    (λ x y. Decides-like _ (ap OfPad) (λ e. cc) (pointwise_decides (pair_exact unsigned_Decides at_exact) x.0.items y.0.items)) &
+    (λ x y. Decides-like _ (ap OfDelay) (λ e. cc) (pointwise_decides unsigned_Decides x.0.items y.0.items)) &
+    (λ x y. Decides-like _ (ap OfEcho) (λ e. cc) (echoing_exact x.0 y.0)) &
+    (λ x y. Decides-like _ (ap OfEchos) (λ e. cc) (echoing_exact x.0 y.0)) &
+    (λ x y. Decides-like _ (ap OfFade) (λ e. cc) (fading_exact x.0 y.0)) &
+    (λ x y. Decides-like _ (ap OfVol) (λ e. cc) (signed_Decides x.0 y.0)) &
+    (λ x y. Decides-like _ (ap OfDcShift) (λ e. cc) (signed_Decides x.0 y.0)) &
+    (λ x y. Decides-like _ (ap OfFir) (λ e. cc) (pointwise_decides signed_Decides x.0.items y.0.items)) &
+    (λ x y. Decides-like _ (ap OfRemix) (λ e. cc) (mapped_exact (λ spec. spec.items) (λ v w. pointwise_decides (pair_exact unsigned_Decides weight_exact) v.items w.items) x.0.items y.0.items)) &
+    (λ x y. Decides-like _ (ap OfUpsample) (λ e. cc) (unsigned_Decides x.0 y.0)) &
+    (λ x y. Decides-like _ (ap OfDownsample) (λ e. cc) (unsigned_Decides x.0 y.0)) &
+    tt
+    )
 
 -- two plans
 pub plan_exact : (a b : Plan) → Decides (same_parts a b) (planning a ≡ planning b)

@@ -5,7 +5,8 @@ use Rattle.std.proofs.lemmas.Option.{slice_get-map, slice_get_read}
 use Rattle.std.proofs.lemmas.List.Sums.{get_or-le-sum_by}
 use Rattle.std.proofs.lemmas.List.{length-map, get_or-map}
 use Rattle.fx_effects.specs.declared.effect.Effect.{Effect}
-use Rattle.fx_effects.specs.Effects.{Act, act, line_of}
+use Rattle.fx_effects.specs.Effects.{Act, act}
+use Rattle.fx_effects.specs.Meanings.{line_of}
 use Rattle.fx_effects.specs.Bounds.{hold_all, hold_of}
 
 pub told_at : {X : Type 0} (f : Act → X) (es : List Effect) (i : ℕ) (e : Effect) → i < length es → e ≡ get_or es i e → slice_get (map f (map act es)) i ≡ Some (f (act e))

@@ -13,12 +13,16 @@ use Rattle.fx_fixed.specs.declared.positions.At.TheVariants.{Start, End}
 use Rattle.fx_fixed.specs.declared.weights.Weight.{Weight}
 use Rattle.fx_flow.specs.Parts.{AllNew}
 use Rattle.fx_step.specs.Stage.{IsNew}
+use Rattle.fx_frame.specs.Tapped.{TapState}
+use Rattle.fx_past.specs.Delay.{every_delay}
+use Rattle.fx_past.specs.DelayState.{delay_acts}
 use Rattle.fx_past.specs.EchoWords.{EchoValue, Tap, are_echoes, is_tap}
 use Rattle.fx_cut.specs.PadWords.{Length, are_pads, are_rising}
 use Rattle.fx_map.specs.RemixWords.{is_mix, specs_in}
-use Rattle.fx_effects.specs.Effects.{Act, line_of, channels_after}
+use Rattle.fx_effects.specs.Effects.{Act, OfDelay, channels_after}
+use Rattle.fx_effects.specs.Meanings.{InPlace, Placed, line_of, recipe_at}
 use Rattle.fx_stages.specs.declared.stage.EffectStage.{EffectStage}
-use Rattle.fx_stages.specs.Effects.{EffectRecipe, recipe_for}
+use Rattle.fx_stages.specs.declared.stage.EffectStage.TheVariants as stages
 use Rattle.fx_stages.specs.Stages.{effect_acts}
 use Rattle.fx_stages.specs.Made.{recipes_for}
 use Rattle.fx_step.specs.Holds.{recipes}
@@ -96,6 +100,15 @@ pub AllNew-push : (stages : List EffectStage) (s : EffectStage) → AllNew effec
 AllNew-push [] s all new = (new, tt)
 AllNew-push (t ∷ stages) s all new = (all.0, AllNew-push stages s all.1 new)
 
+-- a stage of `delay` has a delay for each channel
+pub delay-made : (channels : ℕ) (ds : List ℕ) (s : TapState (List ℕ)) → length (every_delay channels ds) ≡ channels → delay_acts.recipe s ≡ every_delay channels ds
+    → effect_acts.recipe (stages.Delay s) ≡ recipe_at (InPlace channels (OfDelay ds))
+delay-made channels ds s long is = ap (λ (l : List ℕ). InPlace (length l) (OfDelay l)) is ∙ ap (λ n. InPlace n (OfDelay (every_delay channels ds))) long
+
+pub delay-new : (channels : ℕ) (ds : List ℕ) (s : TapState (List ℕ)) → length (every_delay channels ds) ≡ channels → IsNew delay_acts (every_delay channels ds) s
+    → IsNew effect_acts (recipe_at (InPlace channels (OfDelay ds))) (stages.Delay s)
+delay-new channels ds s long new = record { recipe = delay-made channels ds s long new.recipe; rest = new.rest; counts = new.counts; dry = new.dry; stored = new.stored; own = new.own }
+
 -- effects behind one hold no more than all together, and neither does the one
 pub hold-tail : (a : Act) (acts : List Act) (most : ℕ) → hold_all (a ∷ acts) ≤ most → (line_of a ≤ most) × (hold_all acts ≤ most)
 hold-tail a acts most h =
@@ -103,11 +116,11 @@ hold-tail a acts most h =
     (omega (arith, h, parts), omega (arith, h, parts))
 
 -- a stage behind others, as the recipes say
-pub made-more : (stages : List EffectStage) (s : EffectStage) (channels : ℕ) (a : Act) (acts : List Act) (all : List EffectRecipe)
-    → effect_acts.recipe s ≡ recipe_for channels a
+pub made-more : (stages : List EffectStage) (s : EffectStage) (channels : ℕ) (a : Act) (acts : List Act) (all : List Placed)
+    → effect_acts.recipe s ≡ recipe_at (InPlace channels a)
     → recipes effect_acts stages ++ recipes_for channels (a ∷ acts) ≡ all
     → recipes effect_acts (stages ++ s ∷ []) ++ recipes_for (channels_after channels a) acts ≡ all
 made-more [] s channels a acts all is h = rw (is) h
 made-more (t ∷ stages) s channels a acts all is h = made-front (effect_acts.recipe t) _ _ all (made-more stages s channels a acts _ is refl) h where
-  made-front : (r : EffectRecipe) (xs ys : List EffectRecipe) (all : List EffectRecipe) → xs ≡ ys → r ∷ ys ≡ all → r ∷ xs ≡ all
-  made-front r xs ys all same h = ap (λ (rs : List EffectRecipe). r ∷ rs) same ∙ h
+  made-front : (r : Placed) (xs ys : List Placed) (all : List Placed) → xs ≡ ys → r ∷ ys ≡ all → r ∷ xs ≡ all
+  made-front r xs ys all same h = ap (λ (rs : List Placed). r ∷ rs) same ∙ h

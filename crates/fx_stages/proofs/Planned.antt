@@ -1,5 +1,5 @@
 -- What a plan says of its effects holds of their stages.
-use Rattle.std.proofs.Common.{◌≡◌, ℕ, ◌+◌, ◌-◌, ◌*◌, ◌/◌, ◌^◌, ◌≤◌, List, [], ◌∷◌, true, false, length, map, replicate, refl, arith, sym, ap}
+use Rattle.std.proofs.Common.{◌≡◌, ℕ, ◌+◌, ◌-◌, ◌*◌, ◌/◌, ◌^◌, ◌≤◌, List, [], ◌∷◌, true, false, length, map, replicate, refl, arith, sym, ap, ◌∙◌}
 use Rattle.std.specs.Prelude.{Some, sum_by, nat_le}
 use Rattle.std.specs.List.{All, list_any}
 use Rattle.std.proofs.lemmas.Bool.Decides.{nat_tests}
@@ -8,8 +8,7 @@ use Rattle.fx_step.specs.Holds.{hold_sum}
 use Rattle.fx_step.specs.Stage.{Kind}
 use Rattle.fx_effects.specs.Bounds
 use Rattle.fx_effects.specs.Bounds.{hold_all, is_past, mosts, work_of}
-use Rattle.fx_effects.specs.Effects
-use Rattle.fx_effects.specs.Effects.{line_of, Act, OfDelay, OfRemix, OfUpsample, Usable, all_fit, fits_layout, layout_after, channels_after}
+use Rattle.fx_effects.specs.Effects.{Act, OfDelay, OfRemix, OfUpsample, Usable, all_fit, fits_layout, layout_after, channels_after}
 use Rattle.fx_effects.specs.declared.effect.Layout.{Layout}
 use Rattle.fx_effects.proofs.Lasting.{within-here, within-next, work-cons}
 use Rattle.std.proofs.lemmas.Bool.{and_parts}
@@ -17,20 +16,22 @@ use Rattle.std.proofs.lemmas.List.{length-append, length-replicate}
 use Rattle.std.proofs.lemmas.List.Elements.{All-head, All-tail}
 use Rattle.std.proofs.lemmas.List.Sums.{sum_by-cons}
 use Rattle.std.proofs.Math.Nat.{le-div_iff_mul-le}
-use Rattle.fx_stages.specs.Effects.{kind_of_recipe, recipe_for}
+use Rattle.fx_effects.specs.Meanings
+use Rattle.fx_effects.specs.Meanings.{InPlace, kind_at, line_of, recipe_at}
 use Rattle.fx_stages.specs.Made.{all_suit, recipes_for, suits}
+use Rattle.fx_fixed.specs.Extents.{greatest}
 use Rattle.fx_past.specs.Delay.{every_delay}
 use Rattle.fx_past.proofs.LongestDelay.{greatest-filled}
 
 -- the kind of an effect's stage
 abbrev pub kind_for : ℕ → Act → Kind
-kind_for channels a = kind_of_recipe (recipe_for channels a)
+kind_for channels a = kind_at (recipe_at (InPlace channels a))
 
 abbrev pub kinds_for : ℕ → List Act → List Kind
-kinds_for channels acts = map kind_of_recipe (recipes_for channels acts)
+kinds_for channels acts = map kind_at (recipes_for channels acts)
 
 -- each channel has a delay
-delays-long : (channels : ℕ) (ds : List ℕ) → suits channels (OfDelay ds) ≡ true → length (every_delay channels ds) ≡ channels
+pub delays-long : (channels : ℕ) (ds : List ℕ) → suits channels (OfDelay ds) ≡ true → length (every_delay channels ds) ≡ channels
 delays-long channels ds h =
     let few : length ds ≤ channels = grind (arith, nat_tests) in
     let long = length-append ds (replicate (channels - length ds) 0) in
@@ -46,10 +47,10 @@ part-fits n factor limit p h = (le-div_iff_mul-le p).1 h
 -- what it gives is not too long; and it suits channels where the effect fits a layout with them.
 pub record Planned (channels : ℕ) (a : Act) : Type 0 where
   pub line : (kind_for channels a).line ≡ line_of a
-  pub most : (n : ℕ) → (kind_for channels a).most n ≡ Effects.most_of a n
+  pub most : (n : ℕ) → (kind_for channels a).most n ≡ Meanings.most_of a n
   pub inputs : suits channels a ≡ true → (kind_for channels a).inputs ≡ channels
   pub outputs : suits channels a ≡ true → (kind_for channels a).outputs ≡ channels_after channels a
-  pub limit : (n : ℕ) → Usable a → n ≤ 2 ^ 56 → Effects.most_of a n ≤ 2 ^ 56 → n ≤ (kind_for channels a).limit
+  pub limit : (n : ℕ) → Usable a → n ≤ 2 ^ 56 → Meanings.most_of a n ≤ 2 ^ 56 → n ≤ (kind_for channels a).limit
   pub some : Usable a → 1 ≤ channels → 1 ≤ channels_after channels a
   pub few : Usable a → channels ≤ 16 → channels_after channels a ≤ 16
   pub suiting : (rate : ℕ) → fits_layout (record { rate = rate; channels = channels }) a ≡ true → suits channels a ≡ true
@@ -57,9 +58,10 @@ pub record Planned (channels : ℕ) (a : Act) : Type 0 where
 
 pub planned : (channels : ℕ) (a : Act) → Planned channels a
 planned channels (OfDelay ds) =
+    let longest : greatest (every_delay channels ds) ≡ greatest (every_delay 1 ds) = greatest-filled ds (channels - length ds) ∙ sym (greatest-filled ds (1 - length ds)) in
     record {
-      line = greatest-filled ds (channels - length ds);
-      most = λ n. ap (λ d. n + d) (greatest-filled ds (channels - length ds));
+      line = longest;
+      most = λ n. ap (λ d. n + d) longest;
       inputs = delays-long channels ds;
       outputs = delays-long channels ds;
       limit = λ n u here next. here;
@@ -116,17 +118,17 @@ pub within-for : (channels : ℕ) (acts : List Act) (n : ℕ) → All Usable act
 within-for channels [] n u h = tt
 within-for channels (a ∷ acts) n u h =
     let next = within-next a acts n h in (
-      (planned channels a).limit n (All-head Usable a acts u) (within-here (a ∷ acts) n h) (within-here acts (Effects.most_of a n) next),
-      rw ((planned channels a).most n) (within-for (channels_after channels a) acts (Effects.most_of a n) (All-tail Usable a acts u) next),
+      (planned channels a).limit n (All-head Usable a acts u) (within-here (a ∷ acts) n h) (within-here acts (Meanings.most_of a n) next),
+      rw ((planned channels a).most n) (within-for (channels_after channels a) acts (Meanings.most_of a n) (All-tail Usable a acts u) next),
     )
 
 pub most-for : (channels : ℕ) (acts : List Act) (n : ℕ) → list_any is_past (mosts acts n) ≡ false → most_of (kinds_for channels acts) n ≤ 2 ^ 56
 most-for channels [] n h = within-here [] n h
-most-for channels (a ∷ acts) n h = rw ((planned channels a).most n, most_of) (most-for (channels_after channels a) acts (Effects.most_of a n) (within-next a acts n h))
+most-for channels (a ∷ acts) n h = rw ((planned channels a).most n, most_of) (most-for (channels_after channels a) acts (Meanings.most_of a n) (within-next a acts n h))
 
 pub work-for : (channels : ℕ) (acts : List Act) (n : ℕ) → work (kinds_for channels acts) n ≡ work_of acts n
 work-for channels [] n = omega arith
-work-for channels (a ∷ acts) n = rw ((planned channels a).most n, work-for (channels_after channels a) acts (Effects.most_of a n)) (sym (work-cons a acts n))
+work-for channels (a ∷ acts) n = rw ((planned channels a).most n, work-for (channels_after channels a) acts (Meanings.most_of a n)) (sym (work-cons a acts n))
 
 holds-are : (channels : ℕ) (acts : List Act) → hold_sum (kinds_for channels acts) ≡ sum_by Bounds.hold_of acts
 holds-are channels [] = refl

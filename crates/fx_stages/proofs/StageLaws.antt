@@ -1,7 +1,7 @@
 -- What holds of the stage of each effect: which samples of the frames that it stores have 32 bits, the channels that it gives,
 -- and that it is a stage of any effect: what it took, gave and was fed, that one was.
 use Rattle.std.proofs.Common.{◌≡◌, List, [], ◌∷◌, ◌++◌, ap, refl}
-use Rattle.std.specs.Prelude.{ℕ, ℤ, Option, Some, None, FitsSigned, option_to_list}
+use Rattle.std.specs.Prelude.{ℕ, ℤ, Option, Some, None, FitsSigned, length, option_to_list}
 use Rattle.std.specs.Int.{w32}
 use Rattle.std.specs.List.{All}
 use Rattle.std.proofs.lemmas.List.Elements.{All-append, All-cons, All-head, All-nil, All-tail}
@@ -22,7 +22,8 @@ use Rattle.fx_step.specs.Row.{EachThrough}
 use Rattle.fx_step.specs.Stage.{Acts, kind}
 use Rattle.fx_stages.specs.declared.stage.EffectStage.{EffectStage}
 use Rattle.fx_stages.specs.declared.stage.EffectStage.TheVariants as stages
-use Rattle.fx_stages.specs.Effects.{EffectRecipe, ForTrim, ForPad, ForFade, ForUpsample, ForDownsample, ForDelay, ForEcho, ForEchos, ForFir, ForRemix, ForVol, ForDcShift, kind_of_recipe}
+use Rattle.fx_effects.specs.Effects.{OfTrim, OfPad, OfDelay, OfEcho, OfEchos, OfFade, OfVol, OfDcShift, OfFir, OfRemix, OfUpsample, OfDownsample}
+use Rattle.fx_effects.specs.Meanings.{InPlace, Placed, kind_at}
 use Rattle.fx_stages.specs.Stages.{Look, effect_acts, look, look_of, sound_of}
 use Rattle.fx_stages.specs.Narrow.{AreNarrow, IsNarrow}
 use Rattle.fx_fir.specs.FirState.{fir_acts}
@@ -74,8 +75,8 @@ narrow-stages (s ∷ all) h = All-cons IsNarrow s all ((is-member s).narrow h.0)
 
 -- stages that behave so are stages of any effect, under a variant and with a recipe of theirs
 pub record Joins {S R : Type 0} (acts : Acts S R) (wrap : S → EffectStage) : Type 0 where
-  pub named : R → EffectRecipe
-  pub kinds : (r : R) → kind_of_recipe (named r) ≡ acts.kind_of r
+  pub named : R → Placed
+  pub kinds : (r : R) → kind_at (named r) ≡ acts.kind_of r
   pub looks : (s : S) → look_of (wrap s) ≡ look acts named s
 
 module _ {S R : Type 0} {acts : Acts S R} {wrap : S → EffectStage} (j : Joins acts wrap) where
@@ -105,40 +106,40 @@ module _ {S R : Type 0} {acts : Acts S R} {wrap : S → EffectStage} (j : Joins 
   through xs ys s s' e e' first last was = rw (first, last) (EachThrough-along acts effect_acts wrap j.named same_recipe j.kinds same_rest same_counts same_dry same_stored xs ys s s' was)
 
 pub trim-joins : Joins trim_acts stages.Trim
-trim-joins = record { named = ForTrim; kinds = λ r. refl; looks = λ s. refl }
+trim-joins = record { named = λ r. InPlace r.channels (OfTrim r.positions); kinds = λ r. refl; looks = λ s. refl }
 
 pub pad-joins : Joins pad_acts stages.Pad
-pad-joins = record { named = ForPad; kinds = λ r. refl; looks = λ s. refl }
+pad-joins = record { named = λ r. InPlace r.channels (OfPad r.pads); kinds = λ r. refl; looks = λ s. refl }
 
 pub fade-joins : Joins fade_acts stages.Fade
-fade-joins = record { named = ForFade; kinds = λ r. refl; looks = λ s. refl }
+fade-joins = record { named = λ r. InPlace r.channels (OfFade (record { fade_in = r.shape.fade_in; stop = r.shape.stop; fade_out = r.shape.fade_out })); kinds = λ r. refl; looks = λ s. refl }
 
 pub upsample-joins : Joins upsample_acts stages.Upsample
-upsample-joins = record { named = ForUpsample; kinds = λ r. refl; looks = λ s. refl }
+upsample-joins = record { named = λ r. InPlace r.channels (OfUpsample r.factor); kinds = λ r. refl; looks = λ s. refl }
 
 pub downsample-joins : Joins downsample_acts stages.Downsample
-downsample-joins = record { named = ForDownsample; kinds = λ r. refl; looks = λ s. refl }
+downsample-joins = record { named = λ r. InPlace r.channels (OfDownsample r.factor); kinds = λ r. refl; looks = λ s. refl }
 
 pub delay-joins : Joins delay_acts stages.Delay
-delay-joins = record { named = ForDelay; kinds = λ r. refl; looks = λ s. refl }
+delay-joins = record { named = λ delays. InPlace (length delays) (OfDelay delays); kinds = λ r. refl; looks = λ s. refl }
 
 pub echo-joins : Joins echo_acts stages.Echo
-echo-joins = record { named = ForEcho; kinds = λ r. refl; looks = λ s. refl }
+echo-joins = record { named = λ r. InPlace r.channels (OfEcho (record { gain_in = r.gain_in; gain_out = r.gain_out; taps = r.echoes })); kinds = λ r. refl; looks = λ s. refl }
 
 pub echos-joins : Joins echos_acts stages.Echos
-echos-joins = record { named = ForEchos; kinds = λ r. refl; looks = λ s. refl }
+echos-joins = record { named = λ r. InPlace r.channels (OfEchos (record { gain_in = r.gain_in; gain_out = r.gain_out; taps = r.echoes })); kinds = λ r. refl; looks = λ s. refl }
 
 pub fir-joins : Joins fir_acts stages.Fir
-fir-joins = record { named = ForFir; kinds = λ r. refl; looks = λ s. refl }
+fir-joins = record { named = λ r. InPlace r.channels (OfFir r.coefficients); kinds = λ r. refl; looks = λ s. refl }
 
 pub remix-joins : Joins remix_acts stages.Remix
-remix-joins = record { named = ForRemix; kinds = λ r. refl; looks = λ s. refl }
+remix-joins = record { named = λ r. InPlace r.channels (OfRemix r.outs); kinds = λ r. refl; looks = λ s. refl }
 
 pub vol-joins : Joins vol_acts stages.Vol
-vol-joins = record { named = ForVol; kinds = λ r. refl; looks = λ s. refl }
+vol-joins = record { named = λ r. InPlace r.channels (OfVol r.sampling); kinds = λ r. refl; looks = λ s. refl }
 
 pub dcshift-joins : Joins dcshift_acts stages.DcShift
-dcshift-joins = record { named = ForDcShift; kinds = λ r. refl; looks = λ s. refl }
+dcshift-joins = record { named = λ r. InPlace r.channels (OfDcShift r.sampling); kinds = λ r. refl; looks = λ s. refl }
 
 -- of stages that map or tap frames the prover wants it in these words
 abbrev pub Passes : {S R : Type 0} → Acts S R → (S → EffectStage) → Type 0

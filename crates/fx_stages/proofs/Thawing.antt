@@ -11,16 +11,16 @@ use Rattle.fx_effects.specs.Bounds.{hold_all}
 use Rattle.fx_effects.specs.Effects.{Act, Usable, channels_after}
 use Rattle.fx_stages.specs.declared.stage.EffectStage.{EffectStage}
 use Rattle.fx_stages.specs.declared.thaw.EffectArguments.{EffectArguments}
-use Rattle.fx_stages.specs.Effects.{EffectRecipe}
+use Rattle.fx_effects.specs.Meanings.{InPlace, Placed, recipe_at}
 use Rattle.fx_stages.specs.Stages.{effect_acts, recipe_of}
-use Rattle.fx_stages.specs.Made.{all_suit, placed, recipe_at, recipes_for, suits}
+use Rattle.fx_stages.specs.Made.{all_suit, placed, recipes_for, suits}
 use Rattle.fx_stages.specs.Thawed.{FitsEffect, fits_stage, placing, recipe_with}
 use Rattle.fx_stages.proofs.Making.{hold-tail}
 use Rattle.fx_stages.proofs.Planned.{planned}
 
 -- arguments behind others
-pub placed-more : (xs : List EffectArguments) (x : EffectArguments) (channels : ℕ) (a : Act) (acts : List Act) (all : List (ℕ × Act))
-    → placing x ≡ (channels, a)
+pub placed-more : (xs : List EffectArguments) (x : EffectArguments) (channels : ℕ) (a : Act) (acts : List Act) (all : List Placed)
+    → placing x ≡ InPlace channels a
     → map placing xs ++ placed channels (a ∷ acts) ≡ all
     → map placing (xs ++ x ∷ []) ++ placed (channels_after channels a) acts ≡ all
 placed-more xs x channels a acts all is h =
@@ -29,7 +29,7 @@ placed-more xs x channels a acts all is h =
 
 recipes-placing : (xs : List EffectArguments) → map recipe_at (map placing xs) ≡ map recipe_with xs
 recipes-placing [] = refl
-recipes-placing (x ∷ xs) = ap (λ (rs : List EffectRecipe). recipe_with x ∷ rs) (recipes-placing xs)
+recipes-placing (x ∷ xs) = ap (λ (rs : List Placed). recipe_with x ∷ rs) (recipes-placing xs)
 
 -- the stages of effects are those of the effects with their channels
 pub recipes-with : (xs : List EffectArguments) (channels : ℕ) (acts : List Act) → map placing xs ≡ placed channels acts → map recipe_with xs ≡ recipes_for channels acts
@@ -43,27 +43,30 @@ recipes-made (x ∷ xs) [] h = absurd h
 
 pub made-recipes : (xs : List EffectArguments) (stages : List EffectStage) → recipes effect_acts stages ≡ map recipe_with xs → AllMade (λ a s. recipe_of s ≡ recipe_with a) xs stages
 made-recipes [] [] h = tt
-made-recipes (x ∷ xs) (s ∷ stages) h = (ap (λ (rs : List EffectRecipe). slice_index_or rs 0 (recipe_of s)) h, made-recipes xs stages (ap (λ (rs : List EffectRecipe). drop 1 rs) h))
+made-recipes (x ∷ xs) (s ∷ stages) h = (ap (λ (rs : List Placed). slice_index_or rs 0 (recipe_of s)) h, made-recipes xs stages (ap (λ (rs : List Placed). drop 1 rs) h))
 made-recipes [] (s ∷ stages) h = let e = ap length h in absurd (omega (arith, e))
 made-recipes (x ∷ xs) [] h = let e = ap length h in absurd (omega (arith, e))
 
 -- a plan's effects can be made stages of
+abbrev FitsAt : Placed → Type 0
+FitsAt (InPlace channels a) = FitsEffect channels a
+
 fits-placed : (channels : ℕ) (acts : List Act) → 1 ≤ channels → channels ≤ 16 → All Usable acts → all_suit channels acts ≡ true → hold_all acts ≤ 2 ^ 28
-    → All (λ (p : ℕ × Act). FitsEffect p.0 p.1) (placed channels acts)
-fits-placed channels [] some few usable suit hold = All-nil (λ (p : ℕ × Act). FitsEffect p.0 p.1)
+    → All FitsAt (placed channels acts)
+fits-placed channels [] some few usable suit hold = All-nil FitsAt
 fits-placed channels (a ∷ acts) some few usable suit hold =
     let parts = and_parts (suits channels a) (all_suit (channels_after channels a) acts) suit in
     let held = hold-tail a acts (2 ^ 28) hold in
     let here = All-head Usable a acts usable in
-    All-cons (λ (p : ℕ × Act). FitsEffect p.0 p.1) (channels, a) (placed (channels_after channels a) acts)
+    All-cons FitsAt (InPlace channels a) (placed (channels_after channels a) acts)
     (record { some = some; few = few; usable = here; suits = parts.0; line = held.0 })
     (fits-placed (channels_after channels a) acts ((planned channels a).some here some) ((planned channels a).few here few) (All-tail Usable a acts usable) parts.1 held.1)
 
-fits-placing : (xs : List EffectArguments) → All (λ (p : ℕ × Act). FitsEffect p.0 p.1) (map placing xs) → All fits_stage xs
+fits-placing : (xs : List EffectArguments) → All FitsAt (map placing xs) → All fits_stage xs
 fits-placing [] h = All-nil fits_stage
 fits-placing (x ∷ xs) h =
-    All-cons fits_stage x xs (All-head (λ (p : ℕ × Act). FitsEffect p.0 p.1) (placing x) (map placing xs) h)
-    (fits-placing xs (All-tail (λ (p : ℕ × Act). FitsEffect p.0 p.1) (placing x) (map placing xs) h))
+    All-cons fits_stage x xs (All-head FitsAt (placing x) (map placing xs) h)
+    (fits-placing xs (All-tail FitsAt (placing x) (map placing xs) h))
 
 pub fits-with : (xs : List EffectArguments) (channels : ℕ) (acts : List Act) → map placing xs ≡ placed channels acts
     → 1 ≤ channels → channels ≤ 16 → All Usable acts → all_suit channels acts ≡ true → hold_all acts ≤ 2 ^ 28 → All fits_stage xs

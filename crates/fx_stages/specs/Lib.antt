@@ -1,4 +1,3 @@
-pub mod Effects
 pub mod Made
 pub mod Narrow
 pub mod Stages

@@ -2,25 +2,24 @@
 use Rattle.std.specs.Prelude.{ℕ, Bool, List, [], ◌∷◌, map}
 use Rattle.std.specs.List.{list_all}
 use Rattle.fx_effects.specs.Effects.{Act, channels_after, fits_layout}
-use Rattle.fx_stages.specs.Effects.{EffectRecipe, recipe_for}
+use Rattle.fx_effects.specs.Meanings.{InPlace, Placed, recipe_at}
 
 -- effects with the channels of the frames that each takes, the first of which takes so many
-abbrev pub placed : ℕ → List Act → List (ℕ × Act)
+abbrev pub placed : ℕ → List Act → List Placed
 placed channels [] = []
-placed channels (act ∷ acts) = (channels, act) ∷ placed (channels_after channels act) acts
-
--- the stage of an effect in its place
-abbrev pub recipe_at : ℕ × Act → EffectRecipe
-recipe_at p = recipe_for p.0 p.1
+placed channels (act ∷ acts) = InPlace channels act ∷ placed (channels_after channels act) acts
 
 -- the stages of effects, the first of which takes frames of so many channels
-abbrev pub recipes_for : ℕ → List Act → List EffectRecipe
+abbrev pub recipes_for : ℕ → List Act → List Placed
 recipes_for channels acts = map recipe_at (placed channels acts)
 
 -- an effect can be a stage that takes frames of so many channels
 abbrev pub suits : ℕ → Act → Bool
 suits channels act = fits_layout (record { rate = 1; channels = channels }) act
 
--- the same of effects, the first of which takes frames of so many channels
+-- the same of an effect in its place, and of effects, the first of which takes frames of so many channels
+abbrev pub suits_at : Placed → Bool
+suits_at (InPlace channels act) = suits channels act
+
 abbrev pub all_suit : ℕ → List Act → Bool
-all_suit channels acts = list_all (λ (p : ℕ × Act). suits p.0 p.1) (placed channels acts)
+all_suit channels acts = list_all suits_at (placed channels acts)

@@ -1,13 +1,10 @@
 -- The stages of all effects as one type (this project's profile): each behaves as the stage of its effect.
-use Rattle.std.specs.Prelude.{ℕ, ℤ, ◌≤◌, Bool, List, length, map}
-use Rattle.std.proofs.Math.Nat.{mul-le-mul_right}
-use Rattle.fx_cut.specs.Ceil.{ceil_rises}
+use Rattle.std.specs.Prelude.{ℕ, ℤ, Bool, List, length}
 use Rattle.fx_cut.specs.DownsampleState.{IsDownsample, downsample_acts}
 use Rattle.fx_cut.specs.FadeState.{IsFade, fade_acts}
-use Rattle.fx_cut.specs.PadState.{IsPad, pad_acts, pad_rises}
+use Rattle.fx_cut.specs.PadState.{IsPad, pad_acts}
 use Rattle.fx_cut.specs.TrimState.{IsTrim, trim_acts}
 use Rattle.fx_cut.specs.UpsampleState.{IsUpsample, upsample_acts}
-use Rattle.fx_fixed.specs.Extents.{greatest, sum_of_delays, tap_delay}
 use Rattle.fx_step.specs.Frame.{Samples}
 use Rattle.fx_step.specs.Stage.{Acts, Counts, Given, Own}
 use Rattle.fx_stages.specs.declared.stage.EffectStage.{EffectStage}
@@ -21,14 +18,15 @@ use Rattle.fx_map.specs.Mapped.{IsMapState}
 use Rattle.fx_map.specs.PerSample.{SampleArguments}
 use Rattle.fx_map.specs.Remix.{RemixArguments}
 use Rattle.fx_map.specs.RemixState.{remix_acts}
-use Rattle.fx_frame.specs.Tapped.{IsTapState, tap_rises}
+use Rattle.fx_frame.specs.Tapped.{IsTapState}
 use Rattle.fx_map.specs.VolState.{vol_acts}
-use Rattle.fx_stages.specs.Effects.{EffectRecipe, ForTrim, ForPad, ForFade, ForUpsample, ForDownsample, ForDelay, ForEcho, ForEchos, ForFir, ForRemix, ForVol, ForDcShift, kind_of_recipe, meaning_of_recipe}
+use Rattle.fx_effects.specs.Effects.{OfTrim, OfPad, OfDelay, OfEcho, OfEchos, OfFade, OfVol, OfDcShift, OfFir, OfRemix, OfUpsample, OfDownsample}
+use Rattle.fx_effects.specs.Meanings.{InPlace, Placed, kind_at, meaning_at}
 
--- what a stage shows of itself: its recipe, what is still to be given, what it counted, that it has nothing to give now,
+-- what a stage shows of itself: its effect in its place, what is still to be given, what it counted, that it has nothing to give now,
 -- the frames that it holds, the places of its line, and its own numbers
 pub record Look : Type 0 where
-  pub recipe : EffectRecipe
+  pub recipe : Placed
   pub rest : List Samples → List Given
   pub counts : Counts
   pub dry : Bool
@@ -37,7 +35,7 @@ pub record Look : Type 0 where
   pub own : Own
 
 -- the look of a stage, by how the stages of its effect behave
-abbrev pub look : {S R : Type 0} → Acts S R → (R → EffectRecipe) → S → Look
+abbrev pub look : {S R : Type 0} → Acts S R → (R → Placed) → S → Look
 look acts named s = record {
   recipe = named (acts.recipe s);
   rest = acts.rest s;
@@ -50,20 +48,20 @@ look acts named s = record {
 
 -- the look of any stage
 abbrev pub look_of : EffectStage → Look
-look_of (stages.Trim s) = look trim_acts ForTrim s
-look_of (stages.Pad s) = look pad_acts ForPad s
-look_of (stages.Fade s) = look fade_acts ForFade s
-look_of (stages.Upsample s) = look upsample_acts ForUpsample s
-look_of (stages.Downsample s) = look downsample_acts ForDownsample s
-look_of (stages.Delay s) = look delay_acts ForDelay s
-look_of (stages.Echo s) = look echo_acts ForEcho s
-look_of (stages.Echos s) = look echos_acts ForEchos s
-look_of (stages.Fir s) = look fir_acts ForFir s
-look_of (stages.Remix s) = look remix_acts ForRemix s
-look_of (stages.Vol s) = look vol_acts ForVol s
-look_of (stages.DcShift s) = look dcshift_acts ForDcShift s
+look_of (stages.Trim s) = look trim_acts (λ r. InPlace r.channels (OfTrim r.positions)) s
+look_of (stages.Pad s) = look pad_acts (λ r. InPlace r.channels (OfPad r.pads)) s
+look_of (stages.Fade s) = look fade_acts (λ r. InPlace r.channels (OfFade (record { fade_in = r.shape.fade_in; stop = r.shape.stop; fade_out = r.shape.fade_out }))) s
+look_of (stages.Upsample s) = look upsample_acts (λ r. InPlace r.channels (OfUpsample r.factor)) s
+look_of (stages.Downsample s) = look downsample_acts (λ r. InPlace r.channels (OfDownsample r.factor)) s
+look_of (stages.Delay s) = look delay_acts (λ delays. InPlace (length delays) (OfDelay delays)) s
+look_of (stages.Echo s) = look echo_acts (λ r. InPlace r.channels (OfEcho (record { gain_in = r.gain_in; gain_out = r.gain_out; taps = r.echoes }))) s
+look_of (stages.Echos s) = look echos_acts (λ r. InPlace r.channels (OfEchos (record { gain_in = r.gain_in; gain_out = r.gain_out; taps = r.echoes }))) s
+look_of (stages.Fir s) = look fir_acts (λ r. InPlace r.channels (OfFir r.coefficients)) s
+look_of (stages.Remix s) = look remix_acts (λ r. InPlace r.channels (OfRemix r.outs)) s
+look_of (stages.Vol s) = look vol_acts (λ r. InPlace r.channels (OfVol r.sampling)) s
+look_of (stages.DcShift s) = look dcshift_acts (λ r. InPlace r.channels (OfDcShift r.sampling)) s
 
-abbrev pub recipe_of : EffectStage → EffectRecipe
+abbrev pub recipe_of : EffectStage → Placed
 recipe_of s = (look_of s).recipe
 
 abbrev pub stored_of : EffectStage → List Samples
@@ -85,11 +83,11 @@ sound_of (stages.Vol s) = IsMapState (λ (a : SampleArguments ℤ). a.channels) 
 sound_of (stages.DcShift s) = IsMapState (λ (a : SampleArguments ℤ). a.channels) s
 
 -- how the stages of all effects behave
-abbrev pub effect_acts : Acts EffectStage EffectRecipe
+abbrev pub effect_acts : Acts EffectStage Placed
 effect_acts = record {
   recipe = recipe_of;
-  kind_of = kind_of_recipe;
-  meaning = meaning_of_recipe;
+  kind_of = kind_at;
+  meaning = meaning_at;
   rest = λ s. (look_of s).rest;
   counts = λ s. (look_of s).counts;
   dry = λ s. (look_of s).dry;
@@ -97,13 +95,3 @@ effect_acts = record {
   capacity = λ s. (look_of s).capacity;
   own = λ s. (look_of s).own;
 }
-
--- more frames in give no fewer out
-pub effect_rises : (r : EffectRecipe) (m n : ℕ) → m ≤ n → (kind_of_recipe r).most m ≤ (kind_of_recipe r).most n
-effect_rises (ForPad r) m n h = pad_rises r m n h
-effect_rises (ForUpsample r) m n h = mul-le-mul_right r.factor h
-effect_rises (ForDownsample r) m n h = ceil_rises m n r.factor h
-effect_rises (ForDelay r) m n h = tap_rises (greatest r) m n h
-effect_rises (ForEcho r) m n h = tap_rises (greatest (map tap_delay r.echoes)) m n h
-effect_rises (ForEchos r) m n h = tap_rises (sum_of_delays r.echoes) m n h
-effect_rises other m n h = h

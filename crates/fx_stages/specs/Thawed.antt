@@ -1,8 +1,8 @@
 -- The stages of effects, made again from what they stored and counted (this project's profile).
 use Rattle.std.specs.Prelude.{◌≡◌, ◌≤◌, ◌^◌, ℕ, true}
-use Rattle.fx_effects.specs.Effects.{line_of, Act, Usable, act}
+use Rattle.fx_effects.specs.Effects.{Act, Usable, act}
+use Rattle.fx_effects.specs.Meanings.{InPlace, Placed, line_of, recipe_at}
 use Rattle.fx_stages.specs.declared.thaw.EffectArguments.{EffectArguments}
-use Rattle.fx_stages.specs.Effects.{EffectRecipe, recipe_for}
 use Rattle.fx_stages.specs.Made.{suits}
 
 -- an effect can be a stage that takes frames of so many channels, with a line that is short enough
@@ -13,14 +13,14 @@ pub record FitsEffect (channels : ℕ) (a : Act) : Type 0 where
   pub suits : suits channels a ≡ true
   pub line : line_of a ≤ 2 ^ 28
 
--- the channels and what the effect does
-abbrev pub placing : EffectArguments → ℕ × Act
-placing arguments = (arguments.channels, act arguments.effect)
+-- the effect in its place
+abbrev pub placing : EffectArguments → Placed
+placing arguments = InPlace arguments.channels (act arguments.effect)
 
 -- what the arguments have to meet
 abbrev pub fits_stage : EffectArguments → Type 0
 fits_stage arguments = FitsEffect arguments.channels (act arguments.effect)
 
 -- the stage that they are for
-abbrev pub recipe_with : EffectArguments → EffectRecipe
-recipe_with arguments = recipe_for arguments.channels (act arguments.effect)
+abbrev pub recipe_with : EffectArguments → Placed
+recipe_with arguments = recipe_at (placing arguments)

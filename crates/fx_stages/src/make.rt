@@ -5,9 +5,9 @@ ghost use Rattle.fx_flow.specs.Parts.{AllNew};
 ghost use Rattle.fx_step.specs.Holds.{recipes};
 ghost use Rattle.fx_step.specs.Stage.{IsNew};
 ghost use Rattle.fx_effects.specs.Bounds.{hold_all};
-ghost use Rattle.fx_effects.specs.Effects.{line_of, Usable, act};
+ghost use Rattle.fx_effects.specs.Effects.{Usable, act};
+ghost use Rattle.fx_effects.specs.Meanings.{InPlace, line_of, recipe_at};
 ghost use Rattle.fx_stages.specs.Stages.{effect_acts};
-ghost use Rattle.fx_stages.specs.Effects.{recipe_for};
 ghost use Rattle.fx_stages.specs.Made.{all_suit, recipes_for, suits};
 
 use crate::stage::EffectStage;
@@ -53,7 +53,7 @@ fn stage_of(alloc: Global, channels: usize, effect: &Effect) -> Result<EffectSta
     requires usable { Usable (act effect.now) }
     requires suits { suits channels (act effect.now) ≡ true }
     requires line { line_of (act effect.now) ≤ 2 ^ 28 }
-    ensures { IfOk result (IsNew effect_acts (recipe_for channels (act effect.now))) }
+    ensures { IfOk result (IsNew effect_acts (recipe_at (InPlace channels (act effect.now)))) }
 {
     made!(effect, new, [Ok], alloc, channels)
 }

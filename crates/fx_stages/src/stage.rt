@@ -55,16 +55,17 @@ macro_rules! each {
 }
 
 impl Stage for EffectStage {
-    ghost use Rattle.fx_stages.specs.Effects.{EffectRecipe};
-    ghost use Rattle.fx_stages.specs.Stages.{effect_acts, effect_rises, sound_of};
+    ghost use Rattle.fx_effects.proofs.Lasting.{rises-at};
+    ghost use Rattle.fx_effects.specs.Meanings.{Placed};
+    ghost use Rattle.fx_stages.specs.Stages.{effect_acts, sound_of};
 
-    ghost Recipe = { EffectRecipe };
+    ghost Recipe = { Placed };
 
     ghost acts = { effect_acts };
 
     ghost sound = { sound_of };
 
-    ghost rises = { effect_rises };
+    ghost rises = { rises-at };
 
     fn take(&mut self, frame: Frame) {
         each!(self, stage => stage.take(frame))

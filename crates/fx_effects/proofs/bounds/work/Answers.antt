@@ -1,7 +1,8 @@
 use Rattle.std.proofs.Common.{◌≡◌, ◌+◌, ◌^◌, ◌≤◌, ◌∷◌, map, sym, ap, ◌∙◌, arith, add_assoc, false}
 use Rattle.std.specs.List.{list_any}
 use Rattle.std.proofs.lemmas.List.Elements.{All-tail}
-use Rattle.fx_effects.specs.Effects.{Usable, act, most_of}
+use Rattle.fx_effects.specs.Effects.{Usable, act}
+use Rattle.fx_effects.specs.Meanings.{most_of}
 use Rattle.fx_effects.specs.Bounds.{is_past, mosts, work_of}
 use Rattle.fx_effects.proofs.Lasting.{within-here, within-next, work-cons}
 use Rattle.fx_effects.proofs.bounds.work.Goals as goal

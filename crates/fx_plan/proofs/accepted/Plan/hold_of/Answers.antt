@@ -1,6 +1,7 @@
 use Rattle.std.proofs.Common.{◌≡◌, ◌+◌, ◌-◌, ◌<◌, length, Some, sym, ap, ◌∙◌, arith}
 use Rattle.std.proofs.lemmas.List.{length-map}
-use Rattle.fx_effects.specs.Effects.{act, line_of}
+use Rattle.fx_effects.specs.Effects.{act}
+use Rattle.fx_effects.specs.Meanings.{line_of}
 use Rattle.fx_effects.specs.Bounds.{hold_of}
 use Rattle.fx_plan.proofs.Holding.{hold_part, told_at}
 use Rattle.fx_plan.proofs.accepted.Plan.hold_of.Goals as goal
