@@ -104,4 +104,4 @@ module _ {S R : Type 0} (acts : Acts S R) where
 
     pub MovedOn-pass : (f : Parts S) (i : ℕ) (stages : List S) → IsSound acts f → f.ended ≡ true → AllSettled acts f.stages → IsFirstOpen acts i f.stages → EndPassed acts i f.stages stages → MovedOn acts f Idle (after_passing f stages)
     MovedOn-pass f i stages sound over dry first passed =
-        inr (inr (record { place = i; dry = AllSettled-dry acts f.stages dry; empty = sound.closed over; ended = over; first = first; passed = passed; told = refl; others = refl }))
+        inr (inr (record { place = i; dry = dry; empty = sound.closed over; ended = over; first = first; passed = passed; told = refl; others = refl }))

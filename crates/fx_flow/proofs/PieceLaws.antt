@@ -1,13 +1,12 @@
 -- Frames that go through stages piece by piece.
 use Rattle.std.proofs.Common.{ℕ, zero, suc, ◌+◌, ◌<◌, ◌≤◌, ◌≡◌, false, true, List, [], ◌∷◌, get_or, length, drop, set, refl, ap, ◌∙◌, subst, arith}
 use Rattle.fx_step.specs.declared.feed.Passing.TheVariants.{Through}
-use Rattle.fx_step.specs.Feed.{IsHeld, IsSteady, PassedOn}
+use Rattle.fx_step.specs.Feed.{IsSteady, PassedOn}
 use Rattle.fx_step.specs.Frame.{Samples}
 use Rattle.fx_step.specs.Holds.{kinds}
 use Rattle.fx_step.specs.Row.{AreReady, EachThrough, RowThrough, outputs_of}
 use Rattle.fx_step.specs.Stage.{Acts, Counts, IsDry, is_enough, kind}
 use Rattle.fx_flow.specs.Parts.{AllSettled}
-use Rattle.fx_flow.specs.Row.{AllHeld}
 use Rattle.fx_flow.specs.Runs.{AllAhead, AllKeep, AllSteady}
 
 module _ {S R : Type 0} (acts : Acts S R) where
@@ -121,14 +120,13 @@ module _ {S R : Type 0} (acts : Acts S R) where
     pub came : (acts.counts s').taken ≡ (acts.counts s).taken + n
     pub dry : acts.dry s ≡ true → acts.dry s' ≡ true
     pub settled : IsDry acts s → IsDry acts s'
-    pub held : IsHeld acts s → IsHeld acts s'
 
   after-each : (xs ys : List Samples) (s s' : S) → EachThrough acts xs ys s s' → After s s' (length xs)
-  after-each [] [] s s' each = rw each (record { recipe = refl; came = omega arith; dry = λ d. d; settled = λ d. d; held = λ d. d })
+  after-each [] [] s s' each = rw each (record { recipe = refl; came = omega arith; dry = λ d. d; settled = λ d. d })
   after-each (x ∷ xs) (y ∷ ys) s s' each =
       let one = one-through x y s each.0 each.1 in
       let more = after-each xs ys each.0 s' each.3 in
-      record { recipe = more.recipe ∙ one.2; came = omega (arith, more.came, one.1); dry = λ d. more.dry each.1.3; settled = λ d. more.settled each.2; held = λ d. more.held each.1.2.held }
+      record { recipe = more.recipe ∙ one.2; came = omega (arith, more.came, one.1); dry = λ d. more.dry each.1.3; settled = λ d. more.settled each.2 }
   after-each [] (y ∷ ys) s s' each = absurd each
   after-each (x ∷ xs) [] s s' each = absurd each
 
@@ -137,12 +135,6 @@ module _ {S R : Type 0} (acts : Acts S R) where
   settled-row xs ys (s ∷ stages) (s' ∷ stages') row all = let a = after-each xs row.0 s s' row.1 in (a.dry all.0, a.settled all.1, settled-row row.0 ys stages stages' row.2 all.2)
   settled-row xs ys [] (s' ∷ stages') row all = absurd row
   settled-row xs ys (s ∷ stages) [] row all = absurd row
-
-  pub held-row : (xs ys : List Samples) (old new : List S) → RowThrough acts xs ys old new → AllHeld acts old → AllHeld acts new
-  held-row xs ys [] [] row all = tt
-  held-row xs ys (s ∷ stages) (s' ∷ stages') row all = let a = after-each xs row.0 s s' row.1 in (a.held all.0, held-row row.0 ys stages stages' row.2 all.1)
-  held-row xs ys [] (s' ∷ stages') row all = absurd row
-  held-row xs ys (s ∷ stages) [] row all = absurd row
 
   pub kinds-row : (xs ys : List Samples) (old new : List S) → RowThrough acts xs ys old new → kinds acts new ≡ kinds acts old
   kinds-row xs ys [] [] row = refl

@@ -7,9 +7,9 @@ use Rattle.fx_step.specs.declared.feed.Passing.TheVariants.{Kept, Through, More}
 use Rattle.fx_step.specs.Feed.{GaveNext, IsHeld, PassedOn, TookNext}
 use Rattle.fx_step.specs.Frame.{Samples}
 use Rattle.fx_step.specs.Holds.{held_sum, hold_sum, kinds}
-use Rattle.fx_step.specs.Stage.{Acts, Counts, kind, spent}
+use Rattle.fx_step.specs.Stage.{Acts, Counts, IsLined, kind, spent}
 use Rattle.fx_flow.specs.Parts.{AllDry, Joined, Matching, Within, any_spent}
-use Rattle.fx_flow.specs.Row.{AllHeld, CameTo, WentThrough}
+use Rattle.fx_flow.specs.Row.{AllHeld, AllLined, CameTo, WentThrough}
 use Rattle.fx_step.specs.Row.{AreReady}
 use Rattle.fx_flow.proofs.Laws.{none_true}
 
@@ -19,16 +19,34 @@ neither true b e = absurd (cc e)
 neither false true e = absurd (cc e)
 
 module _ {S R : Type 0} (acts : Acts S R) where
+  -- a line has fewer places than a stage may hold frames
+  pub AllHeld-lined : (stages : List S) → AllLined acts stages → AllHeld acts stages
+  AllHeld-lined [] all = tt
+  AllHeld-lined (s ∷ stages) all = let here : IsLined acts s = all.0 in (omega (arith, here), AllHeld-lined stages all.1)
+
+  lined-sum : (stages : List S) → AllLined acts stages → held_sum acts stages + length stages ≤ hold_sum (kinds acts stages)
+  lined-sum [] all = omega arith
+  lined-sum (s ∷ stages) all = let here : IsLined acts s = all.0 in let more = lined-sum stages all.1 in omega arith
+
+  -- beside their lines the stages and the inlet may hold a frame each
+  pub lined-few : (count : ℕ) (stages : List S) → AllLined acts stages → count ≤ 1 + length stages → held_sum acts stages + count ≤ 1 + hold_sum (kinds acts stages)
+  lined-few count stages all few = let sum = lined-sum stages all in omega (arith, sum, few)
+
+  pub AllLined-set : (i : ℕ) (stages : List S) (s : S) → IsLined acts s → AllLined acts stages → AllLined acts (set stages i s)
+  AllLined-set i [] s here all = tt
+  AllLined-set zero (t ∷ stages) s here all = (here, all.1)
+  AllLined-set (suc i) (t ∷ stages) s here all = (all.0, AllLined-set i stages s here all.1)
+
+  -- the stage at a place, and those behind it
+  pub AllLined-drop : (i : ℕ) (stages : List S) (d : S) → i < length stages → IsLined acts (get_or stages i d) → AllLined acts (drop (suc i) stages) → AllLined acts (drop i stages)
+  AllLined-drop i [] d h w r = absurd (omega arith)
+  AllLined-drop zero (x ∷ stages) d h w r = (w, r)
+  AllLined-drop (suc i) (x ∷ stages) d h w r = AllLined-drop i stages d (omega arith) w r
+
   -- together they hold no more than they may
   pub AllHeld-sum : (stages : List S) → AllHeld acts stages → held_sum acts stages ≤ hold_sum (kinds acts stages)
   AllHeld-sum [] h = omega arith
   AllHeld-sum (s ∷ stages) h = let more = AllHeld-sum stages h.1 in let here : IsHeld acts s = h.0 in omega arith
-
-  -- one stage more holds no more than it may
-  pub AllHeld-drop : (i : ℕ) (stages : List S) (d : S) → i < length stages → IsHeld acts (get_or stages i d) → AllHeld acts (drop (suc i) stages) → AllHeld acts (drop i stages)
-  AllHeld-drop i [] d h w r = absurd (omega arith)
-  AllHeld-drop zero (x ∷ stages) d h w r = (w, r)
-  AllHeld-drop (suc i) (x ∷ stages) d h w r = AllHeld-drop i stages d (omega arith) w r
 
   -- what the stage at a place asks of a frame
   pub record MayPass (t : S) (frame : Samples) : Type 0 where

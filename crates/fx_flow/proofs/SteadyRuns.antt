@@ -16,12 +16,13 @@ use Rattle.fx_lists.proofs.Puts.{pieces-split, drop-put, pieces-same, pieces-tak
 use Rattle.fx_lists.proofs.Pieces.{length-pieces, pieces-front}
 use Rattle.fx_flow.specs.Feed.{untouched}
 use Rattle.fx_flow.specs.Parts.{AllSettled}
-use Rattle.fx_flow.specs.Row.{AllHeld}
+use Rattle.fx_flow.specs.Row.{AllLined}
 use Rattle.fx_flow.specs.Runs.{AllAhead, AllKeep, AllSteady, MayRun, RanOn, flow_of}
 use Rattle.fx_flow.specs.Sound.{most_frames}
 use Rattle.fx_flow.proofs.Feeding.{FlowFed-then, FlowGave-none, FlowGave-then}
-use Rattle.fx_flow.proofs.PieceLaws.{ahead-row, held-row, kinds-row, settled-row, steady-row}
+use Rattle.fx_flow.proofs.PieceLaws.{ahead-row, kinds-row, settled-row, steady-row}
 use Rattle.fx_flow.proofs.Rowing.{AreReady-run, RanOn-row}
+use Rattle.fx_flow.proofs.Rows.{AllHeld-lined}
 
 module _ {S R : Type 0} (acts : Acts S R) where
   -- one run behind another
@@ -41,20 +42,20 @@ module _ {S R : Type 0} (acts : Acts S R) where
       pub within : done ≤ count
       pub ran : (left : ℕ) → MayRun acts channels count first left → RanOn acts channels (pieces channels done input) (pieces channels done out) first stages left
       pub settled : AllSettled acts stages
-      pub held : AllHeld acts stages
+      pub lined : AllLined acts stages
       pub ahead : (m : ℕ) → done + m ≡ count → AllAhead acts m stages
       pub steady : (m : ℕ) → done + m ≡ count → AllSteady acts m stages
       pub keep : AllKeep channels (kinds acts stages)
       pub behind : drop (done * channels) out ≡ drop (done * channels) start
       pub long : length out ≡ length start
 
-    pub Steadily-none : AllSettled acts first → AllHeld acts first → AllAhead acts count first → AllSteady acts count first → AllKeep channels (kinds acts first) → Steadily first start 0
-    Steadily-none settled held ahead steady keep =
+    pub Steadily-none : AllSettled acts first → AllLined acts first → AllAhead acts count first → AllSteady acts count first → AllKeep channels (kinds acts first) → Steadily first start 0
+    Steadily-none settled lined ahead steady keep =
         record {
           within = omega arith;
           ran = λ left may. ran-none left may;
           settled = settled;
-          held = held;
+          lined = lined;
           ahead = λ m all. let same : m ≡ count = omega (arith, all) in rw same ahead;
           steady = λ m all. let same : m ≡ count = omega (arith, all) in rw same steady;
           keep = keep;
@@ -83,14 +84,14 @@ module _ {S R : Type 0} (acts : Acts S R) where
 
     -- a few went through
     pub Steadily-next : (stages stages' : List S) (out out' y : List ℤ) (done few : ℕ) → Steadily stages out done → 1 ≤ channels → channels ≤ 16 → done + few ≤ count → 1 ≤ few → count * channels ≤ length input → count * channels ≤ length start → All (FitsSigned w32) (take (count * channels) input)
-        → length y ≡ few * channels → RowThrough acts (pieces channels few (take (few * channels) (drop (done * channels) input))) (pieces channels few y) stages stages'
+        → length y ≡ few * channels → RowThrough acts (pieces channels few (take (few * channels) (drop (done * channels) input))) (pieces channels few y) stages stages' → AllLined acts stages'
         → out' ≡ take (done * channels) out ++ (y ++ drop (few * channels) (drop (done * channels) out)) → Steadily stages' out' (done + few)
-    Steadily-next stages stages' out out' y done few steadily one sixteen within some reach room fits sides row put =
+    Steadily-next stages stages' out out' y done few steadily one sixteen within some reach room fits sides row lined put =
         record {
           within = within;
           ran = λ left may. went left may;
           settled = settled-row acts xs ys stages stages' row' steadily.settled;
-          held = held-row acts xs ys stages stages' row' steadily.held;
+          lined = lined;
           ahead = λ m all. ahead-row acts xs ys m stages stages' row' (rw many (steadily.ahead (few + m) (omega (arith, all))));
           steady = λ m all. steady-row acts xs ys m stages stages' row' (rw many (steadily.steady (few + m) (omega (arith, all))));
           keep = rw (kinds-row acts xs ys stages stages' row') steadily.keep;
@@ -159,6 +160,6 @@ module _ {S R : Type 0} (acts : Acts S R) where
             let all : done + (count - done) ≡ count = omega (arith, within) in
             let next = later-may stages out done (count - done) left steadily all may in
             let two : RanOn acts channels xs ys stages stages' (left + done) =
-            RanOn-row acts rises channels (count - done) few (left + done) stages stages' (drop at input) ys one sixteen (omega (arith, within)) rest fitting next steadily.settled steadily.held (steadily.ahead (count - done) all) row' in
+            RanOn-row acts rises channels (count - done) few (left + done) stages stages' (drop at input) ys one sixteen (omega (arith, within)) rest fitting next steadily.settled (AllHeld-lined acts stages steadily.lined) (steadily.ahead (count - done) all) row' in
             let before : length (pieces channels done input) ≡ done = length-pieces channels done input in
             rw (pieces-split channels done few input, outs) (RanOn-then channels left (pieces channels done input) (pieces channels done out) xs ys first stages stages' (steadily.ran left may) (rw before two))

@@ -9,7 +9,7 @@ use Rattle.fx_step.specs.Stage.{Acts, Kind, is_enough, kind}
 use Rattle.fx_step.specs.declared.feed.Passed.{Passed}
 use Rattle.fx_flow.specs.Feed.{FlowFed, FlowGave}
 use Rattle.fx_flow.specs.Parts.{AllSettled, Parts, ended_of, moves_of}
-use Rattle.fx_flow.specs.Row.{AllHeld}
+use Rattle.fx_flow.specs.Row.{AllLined}
 use Rattle.fx_flow.specs.Sound.{IsSound, most_frames}
 use Rattle.fx_flow.specs.declared.runs.Widths.{Widths}
 
@@ -47,7 +47,7 @@ module _ {S R : Type 0} (acts : Acts S R) where
 
   -- So many frames at the front of the input, whose samples these are, may go through stages in a row, and the output has room
   -- for as many. A frame has 1 to 16 channels, and the widths are those of the stages. Each stage has given what is due, holds
-  -- no more than it may, and has not had enough before the last frame.
+  -- the frames of its line alone, and has not had enough before the last frame.
   pub record MayRunRow (widths : Widths) (count : ℕ) (samples room : List ℤ) (stages : List S) : Type 0 where
     pub frame : (1 ≤ widths.inputs) × (widths.inputs ≤ 16)
     pub outputs : widths.outputs ≡ outputs_of widths.inputs (kinds acts stages)
@@ -56,7 +56,7 @@ module _ {S R : Type 0} (acts : Acts S R) where
     pub output : count * widths.outputs ≤ length room
     pub may_run : (left : ℕ) × MayRun widths.inputs count stages left
     pub settled : AllSettled acts stages
-    pub held : AllHeld acts stages
+    pub lined : AllLined acts stages
     pub ahead : AllAhead count stages
 
   -- Of so many frames at the front of the input, whose samples these are, the first ones went through stages in a row, at least

@@ -1,10 +1,10 @@
 //! Frames that go through stages a few at a time, as long as each stage gives one frame for each that it takes.
 ghost use Rattle.std.specs.Prelude.{◌≡◌, ◌+◌, ◌*◌, ◌≤◌, ℕ, drop, length};
-ghost use Rattle.fx_step.specs.Holds.{kinds};
+ghost use Rattle.fx_step.specs.Holds.{held_sum, hold_sum, kinds};
 ghost use Rattle.fx_lists.specs.Lists.{pieces};
 ghost use Rattle.fx_step.specs.Row.{AreReady, RowThrough};
 ghost use Rattle.fx_flow.specs.Parts.{AllSettled};
-ghost use Rattle.fx_flow.specs.Row.{AllHeld};
+ghost use Rattle.fx_flow.specs.Row.{AllLined};
 ghost use Rattle.fx_flow.specs.Runs.{AllAhead, AllKeep, AllSteady, MayRun, RanOn};
 
 use fx_step::Feeds;
@@ -23,7 +23,9 @@ pub fn least_steady<S: Feeds>(stages: &[S], most: usize) -> usize
     least
 }
 
-/// Passes so many frames through stages that are dry and give one for each, and writes those that come out.
+/// Passes so many frames through stages that are dry and give one for each, and writes those that come out. All of them go
+/// through a stage before the first goes through the next: with the frames of the lines they are no more than the stages and
+/// the inlet may hold, before the first stage, between any two, and behind the last.
 fn pass_few<S: Feeds>(
     stages: &mut [S],
     channels: usize,
@@ -37,9 +39,13 @@ fn pass_few<S: Feeds>(
     requires keep { AllKeep channels (kinds S.acts stages.old) }
     requires steady { AllSteady S.acts count stages.old }
     requires ahead { AllAhead S.acts count stages.old }
+    requires lined { AllLined S.acts stages.old }
+    requires few { count ≤ 1 + length stages.old }
     requires input { length input.now ≡ count * channels }
     requires output { length output.old ≡ count * channels }
-    ensures { RowThrough S.acts (pieces channels count input.now) (pieces channels count output.new) stages.old stages.new }
+    ensures through { RowThrough S.acts (pieces channels count input.now) (pieces channels count output.new) stages.old stages.new }
+    ensures lined { AllLined S.acts stages.new }
+    ensures within { held_sum S.acts stages.new + count ≤ 1 + hold_sum (kinds S.acts stages.new) }
 {
     output.copy_from_slice(input);
     'stages: for place in 0..stages.len() {
@@ -66,7 +72,7 @@ pub fn run_steadily<S: Feeds>(
     requires output { count * channels ≤ length output.old }
     requires may_run { (left : ℕ) × MayRun S.acts channels count stages.old left }
     requires settled { AllSettled S.acts stages.old }
-    requires held { AllHeld S.acts stages.old }
+    requires lined { AllLined S.acts stages.old }
     requires ahead { AllAhead S.acts count stages.old }
     requires steady { AllSteady S.acts count stages.old }
     ensures ran { (left : ℕ) → MayRun S.acts channels count stages.old left → RanOn S.acts channels (pieces channels count input.now) (pieces channels count output.new) stages.old stages.new left }

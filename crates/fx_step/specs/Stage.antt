@@ -165,3 +165,7 @@ module _ {S R : Type 0} (acts : Acts S R) where
   pub record IsWithin (s : S) : Type 0 where
     pub taken : (acts.counts s).taken ≤ (kind s).limit
     pub given : (acts.counts s).given ≤ (kind s).most (acts.counts s).taken
+
+  -- it holds no more frames than its line has places for
+  abbrev pub IsLined : S → Type 0
+  IsLined s = length (acts.stored s) ≤ (kind s).line

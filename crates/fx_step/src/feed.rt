@@ -6,7 +6,7 @@ ghost use Rattle.fx_step.specs.Feed.{Fed, IsSteady, PassedOn};
 ghost use Rattle.fx_step.specs.Holds.{kinds};
 ghost use Rattle.fx_lists.specs.Lists.{pieces};
 ghost use Rattle.fx_step.specs.Row.{AreReady, EachThrough, RowThrough, outputs_of};
-ghost use Rattle.fx_step.specs.Stage.{IsDry, is_enough, kind, spent};
+ghost use Rattle.fx_step.specs.Stage.{IsDry, IsLined, is_enough, kind, spent};
 
 use crate::frame::Frame;
 use crate::stage::Stage;
@@ -159,7 +159,8 @@ pub trait Feeds: Stage {
         requires same_channels { (kind Self.acts self.old).outputs ≡ (kind Self.acts self.old).inputs }
         requires samples { length samples.old ≡ count * (kind Self.acts self.old).inputs }
         requires below_limit { (Self.acts.counts self.old).taken + count ≤ (kind Self.acts self.old).limit }
-        ensures { EachThrough Self.acts (pieces (kind Self.acts self.old).inputs count samples.old) (pieces (kind Self.acts self.old).inputs count samples.new) self.old self.new }
+        ensures through { EachThrough Self.acts (pieces (kind Self.acts self.old).inputs count samples.old) (pieces (kind Self.acts self.old).inputs count samples.new) self.old self.new }
+        ensures lined { IsLined Self.acts self.new }
     {
         let channels = self.in_channels();
         let _dry = self.is_dry();

@@ -1,6 +1,6 @@
 ghost use Rattle.std.specs.Prelude.{◌≡◌, ◌<◌, ◌≤◌, ℕ, true, false, List, [], length, slice_index_or, MatchOption, MatchResult, IfOk, Err};
 ghost use Rattle.fx_step.specs.Frame.{Samples};
-ghost use Rattle.fx_step.specs.Stage.{Acts, Freezes, Gave, Took, Ended, IsDry, IsWet, IsWithin, hold_of, kind, numbers_of, own_of, spent};
+ghost use Rattle.fx_step.specs.Stage.{Acts, Freezes, Gave, Took, Ended, IsDry, IsLined, IsWet, IsWithin, hold_of, kind, numbers_of, own_of, spent};
 
 use crate::frame::Frame;
 use crate::wide::WideFrame;
@@ -58,11 +58,13 @@ pub trait Stage {
         ensures { MatchOption result ((acts.dry self.old ≡ true) × (self.new ≡ self.old)) (Gave acts self.old self.new) };
 
     /// Has it no frame to give now? Without the end it is dry exactly where it has given all frames
-    /// that are due, after the end exactly where it has given all.
+    /// that are due, after the end exactly where it has given all. Where it is dry it holds the frames of
+    /// its line alone.
     fn is_dry(&self) -> bool
         ensures value { result ≡ acts.dry self.now }
         ensures dry { result ≡ true → IsDry acts self.now }
-        ensures wet { result ≡ false → IsWet acts self.now };
+        ensures wet { result ≡ false → IsWet acts self.now }
+        ensures lined { result ≡ true → IsLined acts self.now };
 
     /// What it counted, and whether it was told the end.
     fn tally(&self) -> Tally

@@ -7,6 +7,7 @@ use Rattle.fx_lists.specs.Lists.{pieces}
 use Rattle.fx_step.proofs.RowLaws.{RowThrough-none}
 use Rattle.fx_flow.specs.Sound.{most_frames}
 use Rattle.fx_flow.proofs.Rowing.{AreReady-run, RanOn-row, RowThrough-stays}
+use Rattle.fx_flow.proofs.Rows.{AllHeld-lined}
 use Rattle.fx_flow.proofs.runs.run.Goals as goal
 
 pub returns-then-count-eq0 : goal.returns-then-count-eq0
@@ -15,7 +16,7 @@ returns-then-count-eq0 g c =
     record {
       ran = λ left may.
           RanOn-row g.S.Stage.acts g.met.S.Stage.rises c.args.widths.inputs c.args.count 0 left c.args.stages.now c.args.stages.now c.args.input.now [] c.requires.frame.0 c.requires.frame.1 (omega arith) c.requires.input (rw none (All-nil (FitsSigned w32)))
-          may c.requires.settled c.requires.held c.requires.ahead (RowThrough-none g.S.Stage.acts c.args.stages.now);
+          may c.requires.settled (AllHeld-lined g.S.Stage.acts c.args.stages.now c.requires.lined) c.requires.ahead (RowThrough-none g.S.Stage.acts c.args.stages.now);
       read = omega arith;
       written = omega arith;
       small = omega arith;
@@ -36,7 +37,7 @@ returns-then-passed-gt0 g c =
     record {
       ran = λ left may.
           RanOn-row g.S.Stage.acts g.met.S.Stage.rises c.args.widths.inputs c.args.count c.pass_row-passed.result left c.args.stages.now c.pass_row-passed.new.stages c.args.input.now (pieces c.args.widths.outputs c.pass_row-passed.result c.pass_row-passed.new.output)
-          c.requires.frame.0 c.requires.frame.1 row.few c.requires.input row.samples may c.requires.settled c.requires.held c.requires.ahead row.through;
+          c.requires.frame.0 c.requires.frame.1 row.few c.requires.input row.samples may c.requires.settled (AllHeld-lined g.S.Stage.acts c.args.stages.now c.requires.lined) c.requires.ahead row.through;
       read = row.few;
       written = omega arith;
       small = omega (arith, mul-le-mul_left c.pass_row-passed.result (row.frame one));

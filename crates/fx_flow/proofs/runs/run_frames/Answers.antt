@@ -5,6 +5,7 @@ use Rattle.fx_step.specs.Row.{outputs_of}
 use Rattle.fx_flow.specs.Runs.{MayRun}
 use Rattle.fx_flow.specs.Sound.{most_frames}
 use Rattle.fx_flow.proofs.Running.{Running-frame, Running-none, Running-ran, Running-ready, Wrote}
+use Rattle.fx_flow.proofs.Rows.{AllHeld-lined}
 use Rattle.fx_flow.proofs.runs.run_frames.Goals as goal
 use Rattle.fx_flow.proofs.runs.run_frames.Goals.{then-passage, else-passage}
 
@@ -13,7 +14,7 @@ frames-init g c =
     let no-read : 0 * c.args.widths.inputs ≡ 0 = omega arith in
     let no-written : 0 * c.args.widths.outputs ≡ 0 = omega arith in
     record {
-      runs = λ left may. rw (no-read, no-written) (Running-none g.S.Stage.acts g.met.S.Stage.rises c.args.widths.inputs c.args.widths.outputs c.args.count left c.args.stages.now c.args.input.now c.args.output.now may c.requires.held c.requires.ahead);
+      runs = λ left may. rw (no-read, no-written) (Running-none g.S.Stage.acts g.met.S.Stage.rises c.args.widths.inputs c.args.widths.outputs c.args.count left c.args.stages.now c.args.input.now c.args.output.now may (AllHeld-lined g.S.Stage.acts c.args.stages.now c.requires.lined) c.requires.ahead);
       settled = c.requires.settled;
       same = refl;
       fewer = omega arith;

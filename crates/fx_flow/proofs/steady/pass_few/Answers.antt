@@ -2,12 +2,14 @@ use Rattle.std.proofs.Common.{◌≡◌, ◌∙◌, add-one, get_or, length, ref
 use Rattle.fx_lists.specs.Lists.{pieces}
 use Rattle.fx_step.specs.Stage.{kind}
 use Rattle.fx_lists.proofs.Pieces.{length-pieces}
+use Rattle.std.proofs.lemmas.List.{length-set}
 use Rattle.fx_flow.proofs.PieceLaws.{AllKeep-piece, MayFeed, MayFeed-at, PieceTo-next, PieceTo-out}
+use Rattle.fx_flow.proofs.Rows.{AllLined-set, lined-few}
 use Rattle.fx_flow.proofs.steady.pass_few.Given as given
 use Rattle.fx_flow.proofs.steady.pass_few.Goals as goal
 
 pub stages-init : goal.stages-init
-stages-init g c = record { came_to = (refl, ap (pieces c.args.channels c.args.count) c.copy_from_slice.ensures.after, refl); long = ap length c.copy_from_slice.ensures.after ∙ c.requires.input }
+stages-init g c = record { came_to = (refl, ap (pieces c.args.channels c.args.count) c.copy_from_slice.ensures.after, refl); long = ap length c.copy_from_slice.ensures.after ∙ c.requires.input; lined = c.requires.lined; within = lined-few g.S.Stage.acts c.args.count c.args.stages.now c.requires.lined c.requires.few }
 
 -- the frames may be passed to the stage at the place
 may : (g : given.Over) (c : goal.After-pass_frames-arg-1 g) → MayFeed g.S.Stage.acts (get_or c.stages.stages c.stages.place c.index-stages-place.result) c.args.channels c.args.count
@@ -51,13 +53,17 @@ stages-preserved g c =
     let keeps : (kind acts (get_or c.stages.stages c.stages.place c.index-stages-place.result)).outputs ≡ c.args.channels =
     AllKeep-piece acts c.stages.place c.args.channels c.args.channels c.args.channels (pieces c.args.channels c.args.count c.args.input.now) (pieces c.args.channels c.args.count c.stages.output) c.args.stages.now c.stages.stages c.index-stages-place.result c.stages.invariant.came_to c.requires.keep
     (omega (arith, c.stages-test.true, c.stages.auto.stages)) in
+    let lined = AllLined-set acts c.stages.place c.stages.stages c.pass_frames.new.self c.pass_frames.ensures.lined c.stages.invariant.lined in
+    let many = length-set c.stages.stages c.stages.place c.pass_frames.new.self in
     rw add-one (record {
       came_to = PieceTo-next acts c.stages.place c.args.channels c.args.channels c.args.channels (pieces c.args.channels c.args.count c.args.input.now) (pieces c.args.channels c.args.count c.stages.output) (pieces c.args.channels c.args.count c.pass_frames.new.samples) c.args.stages.now c.stages.stages c.pass_frames.new.self
-          c.index-stages-place.result (omega (arith, c.stages-test.true, c.stages.auto.stages)) c.stages.invariant.came_to (rw (← m.inputs) at c.pass_frames.ensures) (sym keeps);
+          c.index-stages-place.result (omega (arith, c.stages-test.true, c.stages.auto.stages)) c.stages.invariant.came_to (rw (← m.inputs) at c.pass_frames.ensures.through) (sym keeps);
       long = c.pass_frames.auto.samples ∙ c.stages.invariant.long;
+      lined = lined;
+      within = lined-few acts c.args.count _ lined (omega (arith, c.requires.few, c.stages.auto.stages, many));
     })
 
 pub returns : goal.returns
 returns g c =
     let out = PieceTo-out g.S.Stage.acts c.stages.place c.args.channels c.args.channels (pieces c.args.channels c.args.count c.args.input.now) (pieces c.args.channels c.args.count c.stages.output) c.args.stages.now c.stages.stages (omega (arith, c.stages-test.false, c.stages.auto.stages)) c.stages.invariant.came_to in
-    out.0
+    record { through = out.0; lined = c.stages.invariant.lined; within = c.stages.invariant.within }

@@ -1,5 +1,7 @@
-use Rattle.std.proofs.Common.{◌≡◌, ◌*◌, length}
+use Rattle.std.proofs.Common.{◌≡◌, ◌+◌, ◌*◌, ◌≤◌, length}
 use Rattle.fx_lists.specs.Lists.{pieces}
+use Rattle.fx_step.specs.Holds.{held_sum, hold_sum, kinds}
+use Rattle.fx_flow.specs.Row.{AllLined}
 use Rattle.fx_flow.proofs.PieceLaws.{PieceTo}
 use Rattle.fx_flow.proofs.steady.pass_few.Given as goal
 
@@ -7,4 +9,6 @@ abbrev pub invariant-stages : goal.invariant-stages
 invariant-stages g l = record {
   came_to : PieceTo g.S.Stage.acts l.place l.channels (pieces l.channels l.count l.input) l.channels (pieces l.channels l.count l.output) l.fn.stages l.stages;
   long : length l.output ≡ l.count * l.channels;
+  lined : AllLined g.S.Stage.acts l.stages;
+  within : held_sum g.S.Stage.acts l.stages + l.count ≤ 1 + hold_sum (kinds g.S.Stage.acts l.stages);
 }

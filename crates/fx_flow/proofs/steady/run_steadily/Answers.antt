@@ -10,7 +10,7 @@ use Rattle.fx_flow.proofs.steady.run_steadily.Goals as goal
 
 pub pieces-init : goal.pieces-init
 pieces-init g c =
-    Steadily-none g.S.Stage.acts g.met.S.Stage.rises c.args.channels c.args.count c.args.stages.now c.args.input.now c.args.output.now c.requires.settled c.requires.held c.requires.ahead c.requires.steady c.requires.keep
+    Steadily-none g.S.Stage.acts g.met.S.Stage.rises c.args.channels c.args.count c.args.stages.now c.args.input.now c.args.output.now c.requires.settled c.requires.lined c.requires.ahead c.requires.steady c.requires.keep
 
 pub slice_bounds-pass_few-end : goal.slice_bounds-pass_few-end
 slice_bounds-pass_few-end g c =
@@ -21,6 +21,12 @@ pub slice_bounds-pass_few-end-in-pieces : goal.slice_bounds-pass_few-end-in-piec
 slice_bounds-pass_few-end-in-pieces g c =
     let within : c.pieces.done + c.min-piece.result ≤ c.args.count = omega (arith, c.min-piece.ensures, c.pieces.invariant.within) in
     omega (arith, mul-le-mul_right c.args.channels within, add-mul c.pieces.done c.min-piece.result c.args.channels, c.requires.output, c.pieces.auto.output)
+
+pub pass_few-requires-clause-lined : goal.pass_few-requires-clause-lined
+pass_few-requires-clause-lined g c = c.pieces.invariant.lined
+
+pub pass_few-requires-clause-few : goal.pass_few-requires-clause-few
+pass_few-requires-clause-few g c = omega (arith, c.min-piece.ensures, c.saturating_add-few.ensures, c.pieces.auto.stages)
 
 pub pass_few-requires-clause-ready : goal.pass_few-requires-clause-ready
 pass_few-requires-clause-ready g c =
@@ -53,4 +59,4 @@ pieces-preserved g c =
     let free : at + n ≤ length c.pieces.output = omega (arith, mul-le-mul_right ch within, place, c.requires.output, c.pieces.auto.output) in
     let sides : length y ≡ n = c.pass_few.auto.output ∙ (rw size (length-take-le n (drop at c.pieces.output) (omega (arith, free, length-drop at c.pieces.output)))) in
     Steadily-next g.S.Stage.acts g.met.S.Stage.rises ch c.args.count c.args.stages.now c.args.input.now c.args.output.now c.pieces.stages c.pass_few.new.stages c.pieces.output out y c.pieces.done c.min-piece.result c.pieces.invariant c.requires.frame.0 c.requires.frame.1 within some c.requires.input c.requires.output c.see_samples.ensures
-    sides (rw size at c.pass_few.ensures) put
+    sides (rw size at c.pass_few.ensures.through) c.pass_few.ensures.lined put

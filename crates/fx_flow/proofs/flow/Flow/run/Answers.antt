@@ -1,4 +1,4 @@
-use Rattle.std.proofs.Common.{rules, ◌≡◌, false, ◌+◌, ◌*◌, ◌≤◌, ◌++◌, ◌∙◌, drop, length, take, ap, arith}
+use Rattle.std.proofs.Common.{rules, ◌≡◌, false, ◌*◌, ◌≤◌, ◌++◌, ◌∙◌, drop, length, take, ap, arith}
 use Rattle.std.specs.Prelude.{None}
 use Rattle.std.proofs.Math.Nat.{mul-le-mul_right}
 use Rattle.fx_lists.proofs.Pieces.{length-pieces}
@@ -27,6 +27,12 @@ may g c =
     let all = rw (← c.self.view_is, hungry.empty) at c.requires.few in
     (inputs, hungry.empty, hungry.not_ended, fits, record { sound = rw (hungry.empty, hungry.not_ended) at c.self.invariant.0; few = omega (arith, all c.max-count.result fits) })
 
+pub see_lined-requires : goal.see_lined-requires
+see_lined-requires g c =
+    let s = c.self.inside in
+    let hungry = rw (← c.self.view_is) at c.requires.hungry in
+    rw c.deref-2.ensures.value (settled-dry g.S.Stage.acts s.wet s.stages.items c.self.invariant.1 hungry.dry)
+
 pub run-passed-requires : goal.run-passed-requires
 run-passed-requires g c =
     let s = c.self.inside in
@@ -40,7 +46,7 @@ run-passed-requires g c =
       output = outs-fit c.max-count.result c.least_ahead.result c.args.widths.outputs c.max.result (length c.args.output.now) c.max-count.ensures c.max.ensures (omega (arith, c.least_ahead.ensures.most, c.min-most.ensures)) c.requires.one_out;
       may_run = rw (c.deref_mut.ensures.value, inputs) (s.left, run);
       settled = rw c.deref_mut.ensures.value (settled-dry g.S.Stage.acts s.wet s.stages.items c.self.invariant.1 hungry.dry);
-      held = search rules;
+      lined = search rules;
       ahead = rw (c.deref_mut.ensures.value, c.max-count.ensures) (AllAhead-some g.S.Stage.acts c.least_ahead.result s.stages.items hungry.dry (rw (← c.self.view_is) at c.requires.not_spent) (rw c.deref.ensures.value at c.least_ahead.ensures.ahead));
     }
 

@@ -6,8 +6,8 @@ use Rattle.fx_map.proofs.Blocks.{dry-through, none-is}
 use Rattle.fx_frame.proofs.SamplePieces.{pieces-sides}
 use Rattle.fx_map.proofs.mapped.MappedFeeds.pass_frames.Goals as goal
 
-pub returns : goal.returns
-returns g c =
+pub returns-clause-through : goal.returns-clause-through
+returns-clause-through g c =
     let m = g.M.Mapping in
     let s = c.self.inside in
     let none : s.hand ≡ None = none-is s.hand (rw (← c.self.view_is) at c.requires.dry) in

@@ -15,7 +15,7 @@ frames-preserved g c =
     let size : at + ch - at ≡ ch = omega arith in
     let turns : (c.frames.turn + 1) * ch ≤ c.args.count * ch = mul-le-mul_right ch (omega (arith, c.frames-test.true)) in
     let one : (c.frames.turn + 1) * ch ≡ at + ch = rw add-one (omega (arith, suc-mul c.frames.turn ch)) in
-    let all : length c.frames.samples ≡ c.args.count * ch = rw is (c.frames.invariant.long ∙ c.requires.samples) in
+    let all : length c.frames.samples ≡ c.args.count * ch = rw is (c.frames.invariant.even.long ∙ c.requires.samples) in
     let room : at + ch ≤ length c.frames.samples = omega (arith, turns, one, all) in
     let passed = rw size at c.pass_samples-passing.ensures in
     let long : length (take ch (drop at c.frames.samples)) ≡ ch = length-take-le ch (drop at c.frames.samples) (omega (arith, length-drop at c.frames.samples, room)) in
@@ -24,5 +24,6 @@ frames-preserved g c =
     let out : List ℤ = take at c.frames.samples ++ (y ++ drop (at + ch - at) (drop at c.frames.samples)) in
     let put : out ≡ take at c.frames.samples ++ y ++ drop (at + length y) c.frames.samples = put-between at ch c.frames.samples y out sides (rw size refl) in
     let same : length out ≡ length c.frames.samples = rw size (put-long at ch c.frames.samples y sides room) in
-    Evenly-next acts c.args.self.now c.args.count c.args.samples.now c.requires.steady c.pass_samples-passing.result c.frames.self c.pass_samples-passing.new.self (take ch (drop at c.frames.samples)) y c.frames.samples out c.frames.turn c.frames.invariant c.frames-test.true passed.passed
-    (λ e. c.is_dry-settled.ensures.dry (c.is_dry-settled.ensures.value ∙ e)) (λ e. c.is_dry-settled.ensures.wet (c.is_dry-settled.ensures.value ∙ e)) (rw (← is) refl) (rw (← is) sides) (rw (← is) room) (rw (← is) put) same
+    let next = Evenly-next acts c.args.self.now c.args.count c.args.samples.now c.requires.steady c.pass_samples-passing.result c.frames.self c.pass_samples-passing.new.self (take ch (drop at c.frames.samples)) y c.frames.samples out c.frames.turn c.frames.invariant.even c.frames-test.true passed.passed
+    (λ e. c.is_dry-settled.ensures.dry (c.is_dry-settled.ensures.value ∙ e)) (λ e. c.is_dry-settled.ensures.wet (c.is_dry-settled.ensures.value ∙ e)) (rw (← is) refl) (rw (← is) sides) (rw (← is) room) (rw (← is) put) same in
+    record { even = next; lined = c.is_dry-settled.ensures.lined (c.is_dry-settled.ensures.value ∙ next.dry) }

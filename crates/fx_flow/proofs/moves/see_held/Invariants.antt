@@ -1,6 +1,0 @@
-use Rattle.std.proofs.Common.{drop}
-use Rattle.fx_flow.specs.Row.{AllHeld}
-use Rattle.fx_flow.proofs.moves.see_held.Given as goal
-
-abbrev pub invariant-stages : goal.invariant-stages
-invariant-stages g l = AllHeld g.S.Stage.acts (drop l.place l.stages)
