@@ -209,8 +209,8 @@ module _ (p : Planning) (c : ChainParts) (new : IsNewChain p c) where
         frames_out = sym (length-take-le r.frames_out (rest_of effect_acts c.flow x) done.reports.part);
         moves = moves;
         clips = clips;
-        counted = λ running.
-            clips ∙ ap row_of (clips-reached effect_acts c.flow at x _ new.fresh new.hungry.empty done.reports.reached running)
+        counted =
+            clips ∙ ap row_of (clips-reached effect_acts c.flow at x _ new.fresh new.hungry.empty done.reports.reached)
             ∙ ap (λ rs. row_of (clips_in effect_acts.meaning (map (λ s. (effect_acts.counts s).given) at.stages) rs x)) new.made ∙ ap (λ y. row_of (clips_in effect_acts.meaning (map (λ s. (effect_acts.counts s).given) at.stages) (planned p) y)) first-is;
         out_clips = done.reports.out_clips;
         wrote = wrote (done.front is);

@@ -25,12 +25,12 @@ use Rattle.fx_sound.specs.Container.{frames_of}
 use Rattle.fx_sound.specs.Sound.{lacking, within}
 use Rattle.fx_heads.specs.Source.{Held}
 use Rattle.fx_stages.specs.declared.stage.EffectStage.{EffectStage}
-use Rattle.fx_stages.specs.Effects.{kind_of_recipe, meaning_of_recipe}
+use Rattle.fx_effects.specs.Meanings.{kind_at, meaning_at}
 use Rattle.fx_stages.specs.Stages.{effect_acts}
 
 -- the kinds of a plan's effects, which say how many frames each gives, and how many are enough for it
 abbrev pub kinds_of : Planning → List Kind
-kinds_of p = map kind_of_recipe (planned p)
+kinds_of p = map kind_at (planned p)
 
 -- frames are read until some effect has enough
 abbrev pub until_enough : List Kind → ℕ → List Samples → List Samples
@@ -91,7 +91,7 @@ reported_due p x = record {
   frames_out = due_of (kinds_of p) (length x);
   bytes_out = length (written_due p x);
   moves = length x + sum (dues (kinds_of p) (length x));
-  clips = row_of (clips_in meaning_of_recipe (dues (kinds_of p) (length x)) (planned p) x);
+  clips = row_of (clips_in meaning_at (dues (kinds_of p) (length x)) (planned p) x);
   out_clips = coded_clips p.coding (given_due p x);
   missing = 0;
   stray = 0;
@@ -128,8 +128,8 @@ pub record Broken (p : Planning) (bytes : List ℕ) (first now : Option (List �
   pub frames_out : r.frames_out ≡ length given
   pub moves : r.moves ≡ moves_of effect_acts at
   pub clips : r.clips ≡ clips_now effect_acts at.stages
-  -- before the end these are the clips of the first frames of each effect, so many as it gave
-  pub counted : at.ended ≡ false → r.clips ≡ row_of (clips_in meaning_of_recipe (map (λ s. (effect_acts.counts s).given) at.stages) (planned p) (take r.frames_in (sound_in p.head bytes)))
+  -- these are the clips of the first frames that each effect's definition gives, so many as it gave
+  pub counted : r.clips ≡ row_of (clips_in meaning_at (map (λ s. (effect_acts.counts s).given) at.stages) (planned p) (take r.frames_in (sound_in p.head bytes)))
   pub out_clips : r.out_clips ≡ coded_clips p.coding given
   pub wrote : WroteFront first now r.bytes_out (head_for (target_for p) ++ coded p.coding given)
       ⊎ (IsDone effect_acts at × WroteFront first now r.bytes_out (output_of (target_for p) (chain_gives p (take r.frames_in (sound_in p.head bytes)))))

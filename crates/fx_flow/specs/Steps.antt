@@ -73,10 +73,10 @@ module _ {S R : Type 0} (acts : Acts S R) where
     pub told : step ≡ step_of out
     pub others : new ≡ record old { stages = new.stages; inlet = None; left = old.left + 1 }
 
-  -- where all were dry and the inlet was empty, the first stage that was not ended was told the end
+  -- where all were dry and the inlet was empty, the first stage that was not ended was told the end; those before it had given all
   pub record PassedOn (old : Parts S) (step : Step) (new : Parts S) : Type 0 where
     pub place : ℕ
-    pub dry : AllDry acts old.stages
+    pub dry : AllSettled acts old.stages
     pub empty : old.inlet ≡ None
     pub ended : old.ended ≡ true
     pub first : IsFirstOpen acts place old.stages

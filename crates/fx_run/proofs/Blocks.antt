@@ -22,7 +22,7 @@ use Rattle.fx_sound.specs.Runs.{Ran}
 use Rattle.fx_sound.proofs.RunLaws.{Ran-block, Ran-start, Ran-turn, Takes-none, after_frames-add, after_frames-more}
 use Rattle.fx_sound.specs.declared.progress.TheConstants.{MOST_FRAMES}
 use Rattle.fx_heads.specs.Known.{IfKnown}
-use Rattle.fx_sound.specs.Sound.{Reading, TakesFrame, after_frame, size_of, within}
+use Rattle.fx_sound.specs.Sound.{Reading, TakesFrame, after_frame, size_of}
 use Rattle.fx_heads.specs.Source.{Held, Takes, to_come}
 use Rattle.fx_run.specs.Block.{Blocked}
 use Rattle.fx_run.specs.Outlet.{coded, coded_clips}

@@ -1,12 +1,12 @@
 -- What the calls of a flow come to.
-use Rattle.std.proofs.Common.{◌≡◌, ℕ, zero, suc, ◌+◌, map, Bool, true, false, List, [], ◌∷◌, ◌++◌, length, take, refl, sym, ap, ◌∙◌, arith, inl, inr, Some, None, Option, option_to_list}
+use Rattle.std.proofs.Common.{◌≡◌, ℕ, zero, suc, ◌+◌, map, Bool, true, false, true≢false, List, [], ◌∷◌, ◌++◌, length, take, refl, sym, ap, ◌∙◌, arith, inl, inr, Some, None, Option, option_to_list}
 use Rattle.std.proofs.lemmas.List.{append_assoc, append-nil, length-append, take_at}
 use Rattle.std.proofs.lemmas.List.Sums.{sum_by-cons}
 use Rattle.std.specs.Prelude.{sum}
 use Rattle.fx_step.specs.Frame.{Samples}
 use Rattle.fx_step.specs.Holds.{kinds, recipes}
 use Rattle.fx_step.specs.Stage.{Acts, Counts, Given}
-use Rattle.fx_flow.specs.Parts.{AllNew, AllSettled, Fed, HandedOver, Joined, Parts, given_of, moves_of, taken_of}
+use Rattle.fx_flow.specs.Parts.{AllNew, AllSettled, EndPassed, Fed, HandedOver, IsFirstOpen, Joined, Parts, given_of, moves_of, taken_of}
 use Rattle.fx_flow.specs.Composed.{clips_of, frames_of}
 use Rattle.fx_flow.specs.Steps.{IsHungry, MovedOn}
 use Rattle.fx_run.specs.Due.{clips_in, dues, firsts, meanings}
@@ -84,49 +84,67 @@ module _ {S R : Type 0} (acts : Acts S R) where
       (sym (h.0.rest z), omega arith, omega arith, rw (h.1, h.0.rest z) (After-same stages _))
   After-fed frame out old new h z = absurd h
 
-  -- what each stage gave while the flow took these frames
+  -- the end is given by none: the stages before the one that is told it give nothing more
+  After-end : (i : ℕ) (old new : List S) → AllSettled acts old → IsFirstOpen acts i old → EndPassed acts i old new → After (nones old) old new [] []
+  After-end zero (s ∷ stages) (s' ∷ stages') dry first h =
+      let still : (acts.counts s').given ≡ (acts.counts s).given = ap (λ (c : Counts). c.given) h.0.counted in
+      let alike : (acts.counts s').clips ≡ (acts.counts s).clips = ap (λ (c : Counts). c.clips) h.0.counted in
+      (sym (h.0.rest []), omega arith, omega arith, rw (h.1, h.0.rest []) (After-same stages _))
+  After-end (suc i) (s ∷ stages) (s' ∷ stages') dry first h =
+      let none : acts.rest s [] ≡ [] = dry.1.over first.0 [] in
+      rw (h.0, none) (refl, omega arith, omega arith, After-end i stages stages' dry.2 first.1 h.1)
+  After-end i old new dry first h = absurd h
+
+  -- what each stage gave while the flow took these frames, whatever follows them; after the end nothing does
   record Past (first : Parts S) (xs : List Samples) (f : Parts S) : Type 0 where
     gs : List (List Given)
-    all : (z : List Samples) → After gs first.stages f.stages (option_to_list first.inlet ++ (xs ++ z)) (option_to_list f.inlet ++ z)
+    all : (z : List Samples) → (f.ended ≡ true → z ≡ []) → After gs first.stages f.stages (option_to_list first.inlet ++ (xs ++ z)) (option_to_list f.inlet ++ z)
 
-  Past-step : (first f f' : Parts S) (xs : List Samples) → Past first xs f → (ds : List (List Given)) → ((z : List Samples) → After ds f.stages f'.stages (option_to_list f.inlet ++ z) (option_to_list f'.inlet ++ z)) → Past first xs f'
-  Past-step first f f' xs p ds more = record { gs = both p.gs ds; all = λ z. After-then p.gs ds first.stages f.stages f'.stages _ _ _ (p.all z) (more z) }
+  Past-step : (first f f' : Parts S) (xs : List Samples) → Past first xs f → f'.ended ≡ f.ended → (ds : List (List Given))
+      → ((z : List Samples) → (f.ended ≡ true → z ≡ []) → After ds f.stages f'.stages (option_to_list f.inlet ++ z) (option_to_list f'.inlet ++ z)) → Past first xs f'
+  Past-step first f f' xs p still ds more = record {
+    gs = both p.gs ds;
+    all = λ z over. let before : f.ended ≡ true → z ≡ [] = λ e. over (still ∙ e) in After-then p.gs ds first.stages f.stages f'.stages _ _ _ (p.all z before) (more z before);
+  }
 
-  Past-took : (first f f' : Parts S) (xs : List Samples) (x : Samples) → Past first xs f → f.inlet ≡ None → f' ≡ record f { inlet = Some x } → Past first (xs ++ x ∷ []) f'
-  Past-took first f f' xs x p none e =
+  Past-took : (first f f' : Parts S) (xs : List Samples) (x : Samples) → Past first xs f → f.ended ≡ false → f.inlet ≡ None → f' ≡ record f { inlet = Some x } → Past first (xs ++ x ∷ []) f'
+  Past-took first f f' xs x p running none e =
       let stages : f'.stages ≡ f.stages = ap (λ (h : Parts S). h.stages) e in
       let inlet : f'.inlet ≡ Some x = ap (λ (h : Parts S). h.inlet) e in
       record {
         gs = p.gs;
-        all = λ z.
-            let before = p.all (x ∷ z) in
+        all = λ z over.
+            let before = p.all (x ∷ z) (λ ended. absurd (true≢false (sym ended ∙ running))) in
             let empty : option_to_list f.inlet ++ (x ∷ z) ≡ x ∷ z = ap (λ (o : Option Samples). option_to_list o ++ (x ∷ z)) none in
             rw (stages, inlet, append_assoc xs (x ∷ []) z) (rw empty at before);
       }
 
-  Past-moved : (first f f' : Parts S) (step : _) (xs : List Samples) → (f.ended ≡ false → Past first xs f) → MovedOn acts f step f' → f'.ended ≡ false → Past first xs f'
-  Past-moved first f f' step xs p (inl m) running =
+  Past-told : (first f f' : Parts S) (xs : List Samples) → Past first xs f → f.ended ≡ false → f' ≡ record f { ended = true } → Past first xs f'
+  Past-told first f f' xs p running e =
+      let stages : f'.stages ≡ f.stages = ap (λ (h : Parts S). h.stages) e in
+      let inlet : f'.inlet ≡ f.inlet = ap (λ (h : Parts S). h.inlet) e in
+      record { gs = p.gs; all = λ z over. rw (stages, inlet) (p.all z (λ ended. absurd (true≢false (sym ended ∙ running)))) }
+
+  Past-moved : (first f f' : Parts S) (step : _) (xs : List Samples) → Past first xs f → MovedOn acts f step f' → Past first xs f'
+  Past-moved first f f' step xs p (inl m) =
       let still : f'.ended ≡ f.ended = ap (λ (h : Parts S). h.ended) m.others in
       let inlet : f'.inlet ≡ f.inlet = ap (λ (h : Parts S). h.inlet) m.others in
       let r = After-hand m.place m.out f.stages f'.stages m.over in
-      Past-step first f f' xs (p (sym still ∙ running)) r.0 (λ z. rw inlet (r.1 (option_to_list f.inlet ++ z)))
-  Past-moved first f f' step xs p (inr (inl m)) running =
+      Past-step first f f' xs p still r.0 (λ z over. rw inlet (r.1 (option_to_list f.inlet ++ z)))
+  Past-moved first f f' step xs p (inr (inl m)) =
       let still : f'.ended ≡ f.ended = ap (λ (h : Parts S). h.ended) m.others in
       let inlet : f'.inlet ≡ None = ap (λ (h : Parts S). h.inlet) m.others in
-      Past-step first f f' xs (p (sym still ∙ running)) (nones f.stages) (λ z. rw (inlet, m.inlet) (After-fed m.frame m.out f.stages f'.stages m.fed z))
-  Past-moved first f f' step xs p (inr (inr m)) running =
+      Past-step first f f' xs p still (nones f.stages) (λ z over. rw (inlet, m.inlet) (After-fed m.frame m.out f.stages f'.stages m.fed z))
+  Past-moved first f f' step xs p (inr (inr m)) =
       let still : f'.ended ≡ f.ended = ap (λ (h : Parts S). h.ended) m.others in
-      let over = m.ended in
-      absurd (cc)
+      let inlet : f'.inlet ≡ f.inlet = ap (λ (h : Parts S). h.inlet) m.others in
+      Past-step first f f' xs p still (nones f.stages) (λ z over. rw (inlet, m.empty, over m.ended) (After-end m.place f.stages f'.stages m.dry m.first m.passed))
 
-  Past-reached : (first f : Parts S) (xs gs : List Samples) → Reached acts first xs gs f → f.ended ≡ false → Past first xs f
-  Past-reached first f xs gs untouched running = record { gs = nones first.stages; all = λ z. After-same first.stages _ }
-  Past-reached first f xs gs (took ys hs x g g' r hungry e) running =
-      Past-took first g g' ys x (Past-reached first g ys hs r hungry.not_ended) hungry.empty e
-  Past-reached first f xs gs (told_end ys hs g g' r hungry e) running =
-      let over : g'.ended ≡ true = ap (λ (h : Parts S). h.ended) e in
-      absurd (cc)
-  Past-reached first f xs gs (stepped ys hs step g g' r m) running = Past-moved first g g' step ys (λ e. Past-reached first g ys hs r e) m running
+  Past-reached : (first f : Parts S) (xs gs : List Samples) → Reached acts first xs gs f → Past first xs f
+  Past-reached first f xs gs untouched = record { gs = nones first.stages; all = λ z over. After-same first.stages _ }
+  Past-reached first f xs gs (took ys hs x g g' r hungry e) = Past-took first g g' ys x (Past-reached first g ys hs r) hungry.not_ended hungry.empty e
+  Past-reached first f xs gs (told_end ys hs g g' r hungry e) = Past-told first g g' ys (Past-reached first g ys hs r) hungry.not_ended e
+  Past-reached first f xs gs (stepped ys hs step g g' r m) = Past-moved first g g' step ys (Past-reached first g ys hs r) m
 
   -- what new stages gave is the front of what their definitions say
   After-firsts : (gs : List (List Given)) (ss ts : List S) (y z : List Samples) → AllNew acts ss → After gs ss ts y z → firsts (map (λ s. (acts.counts s).given) ts) (meanings acts.meaning (recipes acts ss) y) ≡ gs
@@ -151,14 +169,13 @@ module _ {S R : Type 0} (acts : Acts S R) where
       → map (λ s. (acts.counts s).clips) f.stages ≡ clips_in acts.meaning (map (λ s. (acts.counts s).given) f.stages) (recipes acts first.stages) xs
   Past-clips first f xs new empty p =
       let came : option_to_list first.inlet ++ (xs ++ []) ≡ xs = ap (λ (o : Option Samples). option_to_list o ++ (xs ++ [])) empty ∙ append-nil xs in
-      let all = rw came at (p.all []) in
+      let all = rw came at (p.all [] (λ over. refl)) in
       After-clips p.gs first.stages f.stages xs _ new all ∙ ap (map clips_of) (sym (After-firsts p.gs first.stages f.stages xs _ new all))
 
   -- what the effects of a new flow counted as clipped is what is clipped in the first frames that their definitions give
-  pub clips-reached : (first f : Parts S) (xs gs : List Samples) → AllNew acts first.stages → first.inlet ≡ None → Reached acts first xs gs f → f.ended ≡ false
+  pub clips-reached : (first f : Parts S) (xs gs : List Samples) → AllNew acts first.stages → first.inlet ≡ None → Reached acts first xs gs f
       → map (λ s. (acts.counts s).clips) f.stages ≡ clips_in acts.meaning (map (λ s. (acts.counts s).given) f.stages) (recipes acts first.stages) xs
-  clips-reached first f xs gs new empty r running =
-      Past-clips first f xs new empty (Past-reached first f xs gs r running)
+  clips-reached first f xs gs new empty r = Past-clips first f xs new empty (Past-reached first f xs gs r)
 
   -- what each stage has given is what was due
   pub givens-due : (n : ℕ) (over : Bool) (stages : List S) → over ≡ false → AllSettled acts stages → Joined acts n over stages → map (λ s. (acts.counts s).given) stages ≡ dues (kinds acts stages) n
@@ -190,9 +207,9 @@ module _ {S R : Type 0} (acts : Acts S R) where
   moves-stopped start at n moves hungry stay taken due is = is ∙ moves-due at (dues (kinds acts start.stages) n) hungry (due ∙ dues-same start at n stay taken) ∙ ap (λ m. m + sum (dues (kinds acts start.stages) n)) taken
 
   -- what was clipped by then
-  pub clips-stopped : (start at : Parts S) (frames given : List Samples) (n : ℕ) → IsHungry acts start → IsHungry acts at → recipes acts at.stages ≡ recipes acts start.stages → taken_of at ≡ n
+  pub clips-stopped : (start at : Parts S) (frames given : List Samples) (n : ℕ) → IsHungry acts start → recipes acts at.stages ≡ recipes acts start.stages → taken_of at ≡ n
       → map (λ s. (acts.counts s).given) at.stages ≡ dues (kinds acts at.stages) (taken_of at) → Reached acts start frames given at → AllNew acts start.stages
       → map (λ s. (acts.counts s).clips) at.stages ≡ clips_in acts.meaning (dues (kinds acts start.stages) n) (recipes acts start.stages) frames
-  clips-stopped start at frames given n fresh hungry stay taken due reached new =
-      clips-reached start at frames given new fresh.empty reached hungry.not_ended
+  clips-stopped start at frames given n fresh stay taken due reached new =
+      clips-reached start at frames given new fresh.empty reached
       ∙ ap (λ counts. clips_in acts.meaning counts (recipes acts start.stages) frames) (due ∙ dues-same start at n stay taken)

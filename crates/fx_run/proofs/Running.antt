@@ -110,7 +110,7 @@ module _ {S R : Type 0} (acts : Acts S R) where
         reports = Reports-from start at target.coding frames given (report_at f) p out clips;
         hungry = λ n. hungry;
         moves = λ n. moves-stopped acts start at (report_at f).frames_in (report_at f).moves hungry stay taken all moves;
-        clips = λ n new. counted ∙ ap row_of (clips-stopped acts start at frames given (report_at f).frames_in fresh hungry stay taken all p.reached new);
+        clips = λ n new. counted ∙ ap row_of (clips-stopped acts start at frames given (report_at f).frames_in fresh stay taken all p.reached new);
         due = λ n. (due, rw front wrote);
         whatever = λ n z. ap (take (report_at f).frames_out) (p.rest z (λ t. absurd (cc (running, t)))) ∙ take_at given (rest_of acts at z) (report_at f).frames_out (sym (out ∙ p.counted)) ∙ sym front;
         front = λ e. absurd (other e);
