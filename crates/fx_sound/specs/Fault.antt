@@ -2,9 +2,19 @@
 use Rattle.std.specs.Prelude.{Bool, true, false, Result, Ok, Err}
 use Rattle.fx_sound.specs.declared.progress.ReadFault.{ReadFault}
 use Rattle.fx_sound.specs.declared.progress.ReadFault.TheVariants.{ReadFailed, TooLong}
+use Rattle.fx_sound.specs.declared.sound.SoundFault.{SoundFault}
+use Rattle.fx_sound.specs.declared.sound.SoundFault.TheVariants as sounds
+use Rattle.fx_heads.specs.HeadFields.{is_read_failure}
 
 -- did a read fail
 abbrev pub is_read_failed : {X : Type 0} → Result X ReadFault → Bool
 is_read_failed (Ok x) = false
 is_read_failed (Err ReadFailed) = true
 is_read_failed (Err TooLong) = false
+
+-- did a read of the head or behind it fail
+abbrev pub is_failed_read : {X : Type 0} → Result X SoundFault → Bool
+is_failed_read (Ok x) = false
+is_failed_read (Err (sounds.Head e)) = is_read_failure {X = Bool} (Err e)
+is_failed_read (Err (sounds.Read e)) = is_read_failed {X = Bool} (Err e)
+is_failed_read (Err sounds.Memory) = false

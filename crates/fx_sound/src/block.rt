@@ -1,9 +1,10 @@
 //! Frames of a sound that a source holds already, many at a time.
 
-ghost use Rattle.std.specs.Prelude.{◌≡◌, ◌≤◌, ◌*◌, length, drop};
+ghost use Rattle.std.specs.Prelude.{◌≡◌, ◌≤◌, ◌<◌, ◌+◌, ◌*◌, false, length, drop};
+ghost use Rattle.fx_sound.specs.declared.progress.TheConstants.{MOST_FRAMES};
 ghost use Rattle.fx_lists.specs.Lists.{pieces};
 ghost use Rattle.fx_sound.specs.Container.{after_frames, first_frames};
-ghost use Rattle.fx_sound.specs.Sound.{AreHeld, size_of};
+ghost use Rattle.fx_sound.specs.Sound.{AreHeld, at_most_announced, size_of};
 
 use super::progress::Progress;
 use crate::bulk::decode_into;
@@ -15,6 +16,7 @@ impl Progress {
     pub fn held_frames<R>(&self, source: &Source<R>, most: usize) -> usize
         ensures held { AreHeld self.now source.now.bytes result }
         ensures most { result ≤ most }
+        ensures all { result < most → self.now.over ≡ false → self.now.frames + result < MOST_FRAMES → at_most_announced self.now.left (length source.now.bytes) < (result + 1) * size_of self.now }
     {
         self.frames_in(source.held()).min(most)
     }

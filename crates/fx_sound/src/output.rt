@@ -1,6 +1,6 @@
 //! Bytes on their way to a writer, in a buffer.
 
-ghost use Rattle.std.specs.Prelude.{◌≡◌, ◌+◌, ◌-◌, ◌<◌, ◌≤◌, ◌^◌, ◌++◌, true, [], IsOk, OnOk, OnErr, IfOk, length};
+ghost use Rattle.std.specs.Prelude.{◌≡◌, ◌+◌, ◌-◌, ◌*◌, ◌<◌, ◌≤◌, ◌^◌, ◌++◌, true, [], IsOk, OnOk, OnErr, IfOk, length};
 ghost use Rattle.fx_io.specs.Io.{CountsFailure};
 ghost use Rattle.fx_heads.specs.FrameCoding.{frame_size, bytes_of, clips_of};
 ghost use Rattle.fx_sound.specs.Output.{SendsOn, SendsMore, SendsPart, bytes_put};
@@ -124,6 +124,10 @@ impl Output {
     /// Hands the writer all that waits where less than half of the buffer is free and bytes have gone to it before, so that
     /// a whole buffer of frames finds room at once. Where a frame of so many bytes does not fit, it is left to that one.
     pub fn make_way<W: ByteOut>(&mut self, writer: &mut W, size: usize) -> Result<(), Failed>
+        ensures early { self.old.written ≡ 0 → IsOk result × (writer.new ≡ writer.old) × (self.new ≡ self.old) }
+        ensures roomy { BUFFER_SIZE ≤ 2 * self.old.room → IsOk result × (writer.new ≡ writer.old) × (self.new ≡ self.old) }
+        ensures full { self.old.room < size → IsOk result × (writer.new ≡ writer.old) × (self.new ≡ self.old) }
+        ensures way { 0 < self.old.written → 2 * self.old.room < BUFFER_SIZE → size ≤ self.old.room → OnOk result (self.new.bytes ≡ []) }
         ensures sent { SendsOn (W.writes.taken writer.old) (W.writes.taken writer.new) self.old self.new }
         ensures count { bytes_put self.new ≡ bytes_put self.old }
         ensures failures { CountsFailure (W.writes.failures writer.old) (W.writes.failures writer.new) result }

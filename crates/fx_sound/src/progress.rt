@@ -1,6 +1,6 @@
 //! The frames of a sound, one after the other.
 
-ghost use Rattle.std.specs.Prelude.{◌≡◌, ◌≤◌, ◌<◌, ◌+◌, ◌-◌, ◌*◌, false, true, None, IfOk, IfSome, IfNone, OnErr, OnSome, MatchBool, Ok, Err, length, min};
+ghost use Rattle.std.specs.Prelude.{◌≡◌, ◌≤◌, ◌<◌, ◌+◌, ◌-◌, ◌*◌, drop, false, true, None, Some, IfOk, IfSome, IfNone, OnErr, OnSome, MatchBool, Ok, Err, length, min};
 ghost use Rattle.fx_io.specs.Io.{saturated};
 ghost use Rattle.fx_heads.specs.Source.{to_come, Takes, FallsShort};
 ghost use Rattle.fx_heads.specs.Known.{IfKnown};
@@ -138,6 +138,7 @@ impl Progress {
         ensures announced { result * size_of self.now ≤ at_most_announced self.now.left (result * size_of self.now) }
         ensures few { self.now.frames + result ≤ MOST_FRAMES }
         ensures begun { self.now.over ≡ true → result ≡ 0 }
+        ensures all { self.now.over ≡ false → self.now.frames + result < MOST_FRAMES → at_most_announced self.now.left held < (result + 1) * size_of self.now }
     {
         if self.is_over {
             return 0;
@@ -211,6 +212,8 @@ pub fn next_frame<R: ByteIn>(
     // The end, and from then on.
     ensures end { IfOk result (λ o. IfNone o (progress.old.over ≡ false → IfKnown (to_come R.reads.rest source.old) (λ bytes.
         EndsSound progress.old bytes progress.new))) }
+    ensures left { IfOk result (λ o. IfNone o (progress.old.over ≡ false → IfKnown (to_come R.reads.rest source.old) (λ bytes.
+        to_come R.reads.rest source.new ≡ Some (drop (length (within progress.old.left bytes)) bytes)))) }
     ensures over { IfOk result (λ o. IfNone o ((progress.new.over ≡ true) × (progress.new.frames ≡ progress.old.frames))) }
     ensures stays { progress.old.over ≡ true → (result ≡ Ok None) × (progress.new ≡ progress.old) × (source.new ≡ source.old) }
 

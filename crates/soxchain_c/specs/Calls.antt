@@ -1,5 +1,5 @@
 -- What the calls of a stream answer to C (this project's profile; packaging/soxchain.h).
-use Rattle.std.specs.Prelude.{ℕ, ℤ, ◌≡◌, ◌≢◌, ◌⊎◌, ◌+◌, ◌/◌, ◌%◌, ◌<◌, List, length}
+use Rattle.std.specs.Prelude.{ℕ, ℤ, ◌≡◌, ◌≢◌, ◌⊎◌, ◌+◌, ◌/◌, ◌%◌, ◌<◌, ◌≤◌, List, length}
 use Rattle.fx_chain.specs.Chain.{ChainParts}
 use Rattle.fx_chain.specs.Snapshot.{IsSoundChain}
 use Rattle.fx_flow.specs.Parts.{taken_of}
@@ -36,7 +36,7 @@ pub record Unfed (s t : Stream) (old new : List ℤ) (passed : SoxchainPassed) :
 abbrev pub FeedAnswers : Stream → Stream → List ℤ → List ℤ → List ℤ → SoxchainPassed → Status → Type 0
 FeedAnswers s t input old new passed status =
     IsWait t passed.waits
-    × (((status ≡ Fine) × WasFed s t input old new (record { taken = passed.taken; given = passed.given }))
+    × (((status ≡ Fine) × (length input % inputs_in s.chain ≡ 0) × (taken_of s.chain.flow + length input / inputs_in s.chain ≤ most_frames) × WasFed s t input old new (record { taken = passed.taken; given = passed.given }))
     ⊎ ((status ≡ PartOfFrame) × (length input % inputs_in s.chain ≢ 0) × Unfed s t old new passed)
     ⊎ ((status ≡ TooLong) × (most_frames < taken_of s.chain.flow + length input / inputs_in s.chain) × Unfed s t old new passed))
 

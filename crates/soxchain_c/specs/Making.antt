@@ -97,7 +97,7 @@ pub record MakesNone (words word_ends files file_ends : List ℕ) (rate channels
 abbrev pub RefusesNew : List ℕ → List ℕ → List ℕ → List ℕ → ℕ → ℕ → List ℕ → Status → Type 0
 RefusesNew words word_ends files file_ends rate channels told status =
     ((status ≡ BadRate) × (rate ≡ 0) × (told ≡ []))
-    ⊎ ((status ≡ BadChannels) × ((channels ≡ 0) ⊎ (16 < channels)) × (told ≡ []))
+    ⊎ ((status ≡ BadChannels) × (0 < rate) × ((channels ≡ 0) ⊎ (16 < channels)) × (told ≡ []))
     ⊎ Unread words word_ends files file_ends (ToldBytes told) (told ≡ []) status
     ⊎ MakesNone words word_ends files file_ends rate channels told status
 

@@ -18,7 +18,7 @@ use std::alloc::{AllocError, Global};
 pub fn head_of(rate: u32, channels: usize) -> Result<Head, Status>
     ensures head { IfOk result (IsHeadAt rate channels) }
     ensures rate { (result ≡ Err Status.BadRate) → rate ≡ 0 }
-    ensures channels { (result ≡ Err Status.BadChannels) → (channels ≡ 0) ⊎ (16 < channels) }
+    ensures channels { (result ≡ Err Status.BadChannels) → (0 < rate) × ((channels ≡ 0) ⊎ (16 < channels)) }
     ensures causes { IfErr result (λ s. (s ≡ Status.BadRate) ⊎ (s ≡ Status.BadChannels)) }
 {
     if rate == 0 {

@@ -26,7 +26,7 @@ use Rattle.soxchain.specs.Readying.{Unready}
 use Rattle.soxchain.specs.declared.telling.Telling.{Telling}
 use Rattle.soxchain.specs.Saying.{Says}
 use Rattle.soxchain_cli.specs.Named.{Files}
-use Rattle.soxchain_words.specs.Files.{AreFronts, IsNamed}
+use Rattle.soxchain_words.specs.Files.{AreFronts, IsUnread}
 
 -- A machine, by what it answered: the words behind the program's name, or why they could not be had; its standard streams; and the
 -- files that it created beside an input of a name, or beside standard input, or refused to create.
@@ -119,7 +119,7 @@ module _ {I R O F M : Type 0} (d : Devices I R O F) (m : Machine I O F) (writes 
   -- are there, each its own.
   pub data Works (o : Opened R) (line : Said) (old new : Telling M) (status : ℕ) : Type 0 where
     Unread : (name : List ℕ)
-        → IsNamed (coefficient_files (effects_in line)) name
+        → IsUnread o.opened o.unopened (coefficient_files (effects_in line)) name
         → status ≡ 2
         → Says writes old new (open_message name)
         → Works o line old new status

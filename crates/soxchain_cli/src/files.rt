@@ -85,7 +85,7 @@ fn process_from<H: Host, R: ByteIn + Drop, M: ByteOut>(
             let (status, _report) = finish_for(line, prepared, &mut source, &mut output, telling);
             status
         }
-        Stream::Named(name) => match host.create(line.input(), name) {
+        Stream::Named(name) => match host.create(line.input(), name, &prepared) {
             Ok(file) => {
                 let (status, _file) = process_to(line, prepared, &mut source, file, name, telling);
                 status

@@ -1,12 +1,15 @@
 //! The machine that the program works on: its words, its standard streams and its files.
 ghost use Rattle.std.specs.Prelude.{IfErr, IfOk, ⊤};
 ghost use Rattle.std.specs.IoError.{error_kind};
+ghost use Rattle.fx_chain.specs.Chain.{IsNewChain};
 ghost use Rattle.fx_line.specs.Line.{texts};
 ghost use Rattle.fx_plan.specs.CommandLines.{name_in};
+ghost use Rattle.fx_plan.specs.Planning.{planning};
 ghost use Rattle.soxchain_cli.specs.Working.{Machine};
 
 use crate::same_file::create_beside;
 use fx_plan::Stream;
+use soxchain::inner::Prepared;
 use soxchain_words::{Openings, words_of};
 use std::alloc::Global;
 use std::fs::File;
@@ -43,8 +46,14 @@ pub trait Host: Openings {
     fn output(&self) -> Self::Output
         ensures { (machine self.now).is_output result };
 
-    /// Creates the file of this name, or empties an older one. Refused where it is the input.
-    fn create(&self, input: Stream<'_>, name: &str) -> io::Result<Self::Created>
+    /// Creates the file of this name, or empties an older one, once a new chain stands. Refused where it is the input.
+    fn create(
+        &self,
+        input: Stream<'_>,
+        name: &str,
+        prepared: &Prepared,
+    ) -> io::Result<Self::Created>
+        requires { IsNewChain (planning prepared.now.plan) prepared.now.chain }
         ensures created { IfOk result (λ file. (machine self.now).created (name_in input.entry) name.now file) }
         ensures refused { IfErr result (λ _. (machine self.now).uncreated (name_in input.entry) name.now) };
 }
@@ -75,7 +84,7 @@ impl Host for HostRuntime {
         self.stdout()
     }
 
-    fn create(&self, input: Stream<'_>, name: &str) -> io::Result<File> {
+    fn create(&self, input: Stream<'_>, name: &str, _prepared: &Prepared) -> io::Result<File> {
         create_beside(self, input, name)
     }
 }

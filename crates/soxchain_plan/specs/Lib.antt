@@ -1,2 +1,3 @@
 pub mod Outlines
 pub mod Stops
+pub mod Styles

@@ -1,6 +1,8 @@
 //! Why there is no plan: the message of soxchain and its status, and what to do.
-ghost use Rattle.std.specs.Prelude.{◌≡◌};
+ghost use Rattle.std.specs.Prelude.{◌≡◌, ◌++◌, ℕ, List, codes};
+ghost use Rattle.soxchain.specs.Messages.{line_feed};
 ghost use Rattle.soxchain.specs.Saying.{Says};
+ghost use Rattle.soxchain.specs.Telling.{Tells};
 ghost use Rattle.soxchain_plan.specs.Stops.{message_of, status_of};
 
 use crate::advice::{
@@ -73,7 +75,8 @@ impl Stop<'_> {
 
     /// Tells the message of soxchain and what to do, a line each, and answers the status.
     pub fn tell<M: ByteOut>(&self, messages: &mut M) -> u8
-        ensures { result ≡ status_of self.now }
+        ensures status { result ≡ status_of self.now }
+        ensures told { (advice : List ℕ) × Tells M.writes messages.old messages.new (message_of self.now ++ (codes "soxchain-plan: " ++ advice ++ line_feed)) }
     {
         let mut telling = Telling::new(messages);
         self.tell_message(&mut telling);

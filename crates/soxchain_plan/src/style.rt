@@ -1,4 +1,6 @@
 //! As what a plan is shown.
+ghost use Rattle.std.specs.Prelude.{◌≡◌, map, string_bytes};
+ghost use Rattle.soxchain_plan.specs.Styles.{styled};
 
 /// As what a plan is shown.
 #[derive(Clone, Copy, Debug, Drop, PartialEq, Eq)]
@@ -10,7 +12,9 @@ pub enum Style {
 }
 
 /// The style that the first word asks for, and the words of the command line.
-pub fn split(words: &[String]) -> (Style, &[String]) {
+pub fn split(words: &[String]) -> (Style, &[String])
+    ensures { (result.0, map string_bytes result.1.now) ≡ styled (map string_bytes words.now) }
+{
     match words.split_first() {
         Some((word, more)) if word.as_str() == "--json" => (Style::Json, more),
         _ => (Style::Text, words),

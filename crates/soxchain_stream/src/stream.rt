@@ -1,5 +1,5 @@
 //! A chain that is fed a block at a time.
-ghost use Rattle.std.specs.Prelude.{◌≡◌, ◌≢◌, ◌<◌, ◌+◌, ◌/◌, ◌%◌, Err, IfOk, MatchResult, OnErr, OnOk, false, length, true};
+ghost use Rattle.std.specs.Prelude.{◌≡◌, ◌≢◌, ◌<◌, ◌≤◌, ◌+◌, ◌/◌, ◌%◌, Err, IfOk, MatchResult, OnErr, OnOk, false, length, true};
 ghost use Rattle.fx_chain.specs.Chain.{ChainParts};
 ghost use Rattle.fx_chain.specs.Snapshot.{IsSoundChain};
 ghost use Rattle.fx_flow.specs.Parts.{taken_of};
@@ -96,6 +96,8 @@ impl Stream {
         ensures part { result ≡ Err FeedFault.PartOfFrame → length input.now % self.old.chain.plan.head.channels ≢ 0 }
         ensures too_long { result ≡ Err FeedFault.TooLong → most_frames < taken_of self.old.chain.flow + length input.now / self.old.chain.plan.head.channels }
         ensures refused { OnErr result ((self.new ≡ self.old) × (output.new ≡ output.old)) }
+        ensures whole { OnOk result (length input.now % self.old.chain.plan.head.channels ≡ 0) }
+        ensures few { OnOk result (taken_of self.old.chain.flow + length input.now / self.old.chain.plan.head.channels ≤ most_frames) }
     {
         let channels = self.inputs();
         if input.len() % channels != 0 {
@@ -160,6 +162,7 @@ impl Stream {
         ensures plan { self.new.plan ≡ self.old.plan }
         ensures thawed { (c : ChainParts) → IsSoundChain c → c.plan ≡ self.old.chain.plan → IsFrozenAs c bytes.now → MatchResult result (λ _. self.new.chain ≡ c) (λ e. e ≡ ThawFault.Memory) }
         ensures refused { OnErr result (self.new ≡ self.old) }
+        ensures named { (result ≡ Err ThawFault.WrongPlan) → ⊥ }
     {
         let stored = match thaw_from_bytes(alloc, bytes) {
             Ok(Some(stored)) => stored,

@@ -1,6 +1,6 @@
 -- What is read up to a limit.
 use Rattle.std.proofs.Common.{◌≡◌, ◌<◌, ◌+◌, ℕ, List, [], ◌∷◌, ◌++◌, arith, length, map, slice_get, slice_index_or, inl, inr, zero, suc, Bor, refl}
-use Rattle.std.specs.Prelude.{Option, Some, None, IfSome, option_map, take, min, Result, Ok, Err, IfOk}
+use Rattle.std.specs.Prelude.{Option, Some, None, IfSome, option_map, take, min, Result, Ok, Err, IfOk, OnErr}
 use Rattle.std.proofs.lemmas.Bool.{cases_lt, le-ltb, lt-ltb}
 use Rattle.std.proofs.lemmas.List.{get_or_append_left, length-append}
 use Rattle.std.proofs.Math.Seq.{get_or-append_seam}
@@ -63,3 +63,8 @@ pub name-at : (names : List (Bor (List ℕ))) (place : ℕ) (d : Bor (List ℕ))
 name-at [] place d h = absurd (omega (arith, h))
 name-at (n ∷ ns) zero d h = refl
 name-at (n ∷ ns) (suc k) d h = name-at ns k d (omega (arith, h))
+
+-- what always is, is where a result is an error
+pub on-error : {X E : Type 0} {P : Type 0} (r : Result X E) → P → OnErr r P
+on-error (Ok x) h = tt
+on-error (Err e) h = h

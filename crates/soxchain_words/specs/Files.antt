@@ -23,7 +23,17 @@ pub record AreFronts {R : Type 0} (opened : List ℕ → R → Type 0) (remainin
   pub count : length files ≡ min 32 (length names)
   pub each : (place : ℕ) → place < length files → IsFront opened remaining (slice_index_or names place []) (slice_index_or files place [])
 
--- the fault is of one of the files of these names, or want of memory
-abbrev pub IsOfFiles : List (List ℕ) → FilesFault → Type 0
-IsOfFiles names (CannotRead name) = IsNamed names name.now
-IsOfFiles names Memory = ⊤
+-- the file of this name was asked for: its opening was refused, or it was opened
+pub data IsAsked {R : Type 0} (opened : List ℕ → R → Type 0) (unopened : List ℕ → Type 0) (name : List ℕ) : Type 0 where
+  Refused : unopened name → IsAsked opened unopened name
+  Opened : (reader : R) → opened name reader → IsAsked opened unopened name
+
+-- one of the names, and its file was asked for
+pub record IsUnread {R : Type 0} (opened : List ℕ → R → Type 0) (unopened : List ℕ → Type 0) (names : List (List ℕ)) (name : List ℕ) : Type 0 where
+  pub named : IsNamed names name
+  pub asked : IsAsked opened unopened name
+
+-- the fault is of one of the files of these names, which was asked for, or want of memory
+abbrev pub IsOfFiles : {R : Type 0} → (List ℕ → R → Type 0) → (List ℕ → Type 0) → List (List ℕ) → FilesFault → Type 0
+IsOfFiles opened unopened names (CannotRead name) = IsUnread opened unopened names name.now
+IsOfFiles opened unopened names Memory = ⊤

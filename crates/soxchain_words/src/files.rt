@@ -1,8 +1,8 @@
 //! The coefficient files that the words name.
-ghost use Rattle.std.specs.Prelude.{◌≡◌, ◌+◌, ◌^◌, true, List, ℕ, IfErr, IfOk, IfSome, take, ⊤};
+ghost use Rattle.std.specs.Prelude.{◌≡◌, ◌+◌, ◌^◌, true, false, List, ℕ, IfErr, IfOk, IfSome, OnErr, take, ⊤};
 ghost use Rattle.fx_plan.specs.CommandLines.{coefficient_files, effects_in};
 ghost use Rattle.fx_plan.specs.Plans.{bytes_of};
-ghost use Rattle.soxchain_words.specs.Files.{AreFronts, IsFront, IsOfFiles, kept_with};
+ghost use Rattle.soxchain_words.specs.Files.{AreFronts, IsAsked, IsFront, IsOfFiles, kept_with};
 
 use fx_plan::CommandLine;
 use std::alloc::Global;
@@ -56,7 +56,8 @@ fn read_front<R: Read + Drop>(alloc: Global, reader: R) -> io::Result<Vec<u8>>
 
 /// The first bytes of the file of this name.
 fn read_file<H: Openings>(alloc: Global, host: &H, name: &str) -> io::Result<Vec<u8>>
-    ensures { IfOk result (λ bytes. IsFront (H.opened host.now) H.Reader.remaining name.now bytes.items) }
+    ensures read { IfOk result (λ bytes. IsFront (H.opened host.now) H.Reader.remaining name.now bytes.items) }
+    ensures asked { OnErr result (IsAsked (H.opened host.now) (H.unopened host.now) name.now) }
 {
     let reader = host.open(name)?;
     read_front(alloc, reader)
@@ -65,7 +66,8 @@ fn read_file<H: Openings>(alloc: Global, host: &H, name: &str) -> io::Result<Vec
 /// Reads the file of this name, and adds its bytes to those of the files before it where they are to be kept. False where it
 /// cannot be opened or read, or its bytes find no memory.
 fn read_next<H: Openings>(alloc: Global, host: &H, name: &str, files: &mut Vec<Vec<u8>>) -> bool
-    ensures { result ≡ true → (bytes : List ℕ) × IsFront (H.opened host.now) H.Reader.remaining name.now bytes × (bytes_of files.new.items ≡ kept_with (bytes_of files.old.items) bytes) }
+    ensures asked { result ≡ false → IsAsked (H.opened host.now) (H.unopened host.now) name.now }
+    ensures read { result ≡ true → (bytes : List ℕ) × IsFront (H.opened host.now) H.Reader.remaining name.now bytes × (bytes_of files.new.items ≡ kept_with (bytes_of files.old.items) bytes) }
 {
     let Ok(bytes) = read_file(alloc, host, name) else {
         return false;
@@ -90,7 +92,7 @@ pub fn read_files<'a, H: Openings>(
     line: &'a CommandLine,
 ) -> Result<Vec<Vec<u8>>, FilesFault<'a>>
     ensures each { IfOk result (λ files. AreFronts (H.opened host.now) H.Reader.remaining (coefficient_files (effects_in line.now)) (bytes_of files.items)) }
-    ensures named { IfErr result (IsOfFiles (coefficient_files (effects_in line.now))) }
+    ensures named { IfErr result (IsOfFiles (H.opened host.now) (H.unopened host.now) (coefficient_files (effects_in line.now))) }
 {
     let Ok(names) = line.coefficient_files(alloc) else {
         return Err(FilesFault::Memory);

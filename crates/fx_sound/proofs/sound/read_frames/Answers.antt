@@ -62,6 +62,7 @@ loop-turn-preserved g c =
     record {
       now = next.counted ∙ ap after_frame old.now ∙ after_frames-more p n;
       most = next.most;
+      failures = next.failures ∙ old.failures;
       ran = λ bytes known.
           let ran = old.ran bytes known in
           Ran-turn p c.loop-turn.progress c.next_frame.new.progress bytes c.in-Ok-Some.frame n _ _ ran (next.frame (drop (n * size) bytes) ran.to_come_is) next.counted;

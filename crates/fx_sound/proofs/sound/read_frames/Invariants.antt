@@ -13,5 +13,6 @@ invariant-loop-turn g l = record {
   most : l.progress.frames ≤ MOST_FRAMES;
   ran : IfKnown (to_come g.R.ByteIn.reads.rest l.initial.source) (λ bytes. Ran l.initial.progress l.progress bytes l._turn (to_come g.R.ByteIn.reads.rest l.source));
   items : IfKnown (to_come g.R.ByteIn.reads.rest l.initial.source) (λ bytes. l.frames.items ≡ first_frames l.initial.progress.coding l.initial.progress.channels l._turn bytes);
+  failures : g.R.ByteIn.reads.failures l.source.reader ≡ g.R.ByteIn.reads.failures l.initial.source.reader;
   told : Takes g.R.ByteIn.reads.told l.initial.source l.source (l._turn * size_of l.initial.progress);
 }
