@@ -96,11 +96,6 @@ abbrev pub all_fit : Layout → List Act → Bool
 all_fit layout [] = true
 all_fit layout (a ∷ acts) = fits_layout layout a && all_fit (layout_after layout (Some a)) acts
 
--- the layout behind effects
-abbrev pub layout_behind : Layout → List Act → Layout
-layout_behind layout [] = layout
-layout_behind layout (a ∷ acts) = layout_behind (layout_after layout (Some a)) acts
-
 -- the name of an effect
 abbrev pub name_text : Act → List ℕ
 name_text (OfTrim ps) = codes "trim"

@@ -8,7 +8,7 @@ use Rattle.std.proofs.lemmas.Bool.Decides.{nat_tests}
 use Rattle.std.proofs.lemmas.List.{take-append-drop}
 use Rattle.std.proofs.lemmas.List.Splits.{slice_split-cons_yes}
 use Rattle.fx_fixed.specs.CoefficientFiles.{has_bytes, is_feed, is_hash, is_white, words_in, words_of}
-use Rattle.fx_fixed.specs.Words.{BeginsBreak, BeginsWord, is_break, words_after}
+use Rattle.fx_fixed.specs.Words.{BeginsBreak, BeginsWord, is_break}
 use Rattle.fx_fixed.proofs.Parting.{before_first-no, before_first-yes, before_run, first_part, none_here, split_more, split_run}
 
 -- ---- the kinds of bytes
@@ -39,6 +39,11 @@ words_white c cs feed hash white =
     ap (λ xs. flat_map words_in xs) (split_more is_feed c cs first.0 first.1 feed first.2)
     ∙ ap (λ xs. xs ++ flat_map words_in first.1) same
     ∙ sym (ap (λ xs. flat_map words_in xs) first.2)
+
+-- the words of what follows, in a comment or not
+abbrev pub words_after : Bool → List ℕ → List (List ℕ)
+words_after true text = flat_map words_in (drop 1 (slice_split is_feed text))
+words_after false text = words_of text
 
 words_hash : (c : ℕ) (cs : List ℕ) → is_feed c ≡ false → is_hash c ≡ true → words_of (c ∷ cs) ≡ words_after true cs
 words_hash c cs feed hash =

@@ -8,14 +8,14 @@ use Rattle.fx_flow.specs.Feed.{FlowFed, FlowGave, HoldsFew, Stepped, stepped, ta
 use Rattle.fx_step.specs.Row.{outputs_of}
 use Rattle.fx_flow.specs.Parts.{AllSettled, Fed, HandedOver, IsLastWet, Parts, any_spent, ended_of, moves_of, taken_of}
 use Rattle.fx_flow.specs.Composed.{enough_for}
-use Rattle.fx_flow.specs.Row.{AllHeld, WentThrough}
+use Rattle.fx_flow.specs.Row.{WentThrough}
 use Rattle.fx_flow.specs.Sound.{IsSound, most_frames}
 use Rattle.fx_flow.specs.Steps.{IsHungry, step_of}
 use Rattle.fx_flow.proofs.Feeding.{FlowGave-none, FlowGave-stepped, FlowGave-took}
 use Rattle.fx_flow.specs.Runs.{flow_of}
 use Rattle.fx_flow.proofs.Handing.{AllSettled-dry}
 use Rattle.fx_flow.proofs.Laws.{any_spent-enough}
-use Rattle.fx_flow.proofs.Rows.{AllHeld-sum, given-channels}
+use Rattle.fx_flow.proofs.Rows.{AllHeld, AllHeld-sum, given-channels}
 use Rattle.fx_flow.proofs.Steps.{IsSound-feed, IsSound-over, Steps-feed, Steps-over, after_feed, after_over, given_out-step_of}
 
 module _ {S R : Type 0} (acts : Acts S R) where

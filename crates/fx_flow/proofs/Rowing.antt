@@ -14,12 +14,12 @@ use Rattle.fx_lists.proofs.Puts.{pieces-take}
 use Rattle.fx_lists.proofs.Pieces.{length-pieces}
 use Rattle.fx_flow.specs.Feed.{untouched}
 use Rattle.fx_flow.specs.Parts.{AllSettled, Parts}
-use Rattle.fx_flow.specs.Row.{AllHeld, WentThrough}
+use Rattle.fx_flow.specs.Row.{WentThrough}
 use Rattle.fx_flow.specs.Runs.{AllAhead, MayRun, RanOn, flow_of}
 use Rattle.fx_flow.specs.Sound.{IsSound, most_frames}
 use Rattle.fx_flow.proofs.Feeding.{FlowFed-then, FlowGave-none, FlowGave-then}
 use Rattle.fx_flow.proofs.Handing.{AllSettled-dry}
-use Rattle.fx_flow.proofs.Rows.{AreReady-from}
+use Rattle.fx_flow.proofs.Rows.{AllHeld, AreReady-from}
 use Rattle.fx_flow.proofs.RowSteps.{Going, passed-row}
 use Rattle.fx_flow.proofs.Running.{AllAhead-less, AllAhead-unspent, AllAhead-went, AllHeld-went}
 

@@ -9,7 +9,7 @@ use Rattle.fx_step.specs.Frame.{Samples}
 use Rattle.fx_step.specs.Holds.{held_sum, hold_sum, kinds}
 use Rattle.fx_step.specs.Stage.{Acts, Counts, IsLined, kind, spent}
 use Rattle.fx_flow.specs.Parts.{AllDry, Joined, Matching, Within, any_spent}
-use Rattle.fx_flow.specs.Row.{AllHeld, AllLined, CameTo, WentThrough}
+use Rattle.fx_flow.specs.Row.{AllLined, WentThrough}
 use Rattle.fx_step.specs.Row.{AreReady}
 use Rattle.fx_flow.proofs.Laws.{none_true}
 
@@ -17,6 +17,19 @@ pub neither : (a b : Bool) → a || b ≡ false → (a ≡ false) × (b ≡ fals
 neither false false e = (refl, refl)
 neither true b e = absurd (cc e)
 neither false true e = absurd (cc e)
+
+module _ {S R : Type 0} (acts : Acts S R) where
+  -- each holds no more frames than it may
+  abbrev pub AllHeld : List S → Type 0
+  AllHeld [] = Unit {0}
+  AllHeld (s ∷ stages) = IsHeld acts s × AllHeld stages
+
+  -- it came to the stage at a place: each one before took a frame and gave one
+  abbrev pub CameTo : ℕ → Samples → Samples → List S → List S → Type 0
+  CameTo zero first frame old new = (frame ≡ first) × (new ≡ old)
+  CameTo (suc i) first frame (s ∷ stages) (s' ∷ stages') =
+      (mid : S) × (next : Samples) × TookNext acts s mid first × GaveNext acts mid s' next × CameTo i next frame stages stages'
+  CameTo i first frame old new = ⊥
 
 module _ {S R : Type 0} (acts : Acts S R) where
   -- a line has fewer places than a stage may hold frames

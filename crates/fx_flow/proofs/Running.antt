@@ -13,14 +13,14 @@ use Rattle.fx_lists.specs.Lists.{pieces}
 use Rattle.fx_step.specs.Stage.{Acts, Counts, IsDry, Kind, is_enough, kind, spent}
 use Rattle.fx_step.specs.Row.{AreReady, outputs_of}
 use Rattle.fx_flow.specs.Parts.{AllDry, AllSettled, any_spent, ended_of, moves_of}
-use Rattle.fx_flow.specs.Row.{AllHeld, CameTo, WentThrough}
+use Rattle.fx_flow.specs.Row.{WentThrough}
 use Rattle.fx_flow.specs.Runs.{AllAhead, AllKeep, MayRun, MayRunRow, RanOn, flow_of}
 use Rattle.fx_flow.specs.Sound.{IsSound, most_frames}
 use Rattle.fx_flow.specs.declared.runs.Widths.{Widths}
 use Rattle.fx_flow.proofs.Feeding.{Turned, Turned-kept, Turned-none, Turned-through}
 use Rattle.fx_lists.proofs.Pieces.{length-pieces}
 use Rattle.fx_flow.proofs.Handing.{AllSettled-dry}
-use Rattle.fx_flow.proofs.Rows.{AreReady-from, neither}
+use Rattle.fx_flow.proofs.Rows.{AllHeld, AreReady-from, CameTo, neither}
 use Rattle.fx_flow.proofs.RowSteps.{passed-row}
 
 -- what comes out has as many channels as what goes in

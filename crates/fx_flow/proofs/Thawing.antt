@@ -9,7 +9,12 @@ use Rattle.fx_flow.specs.Parts.{Parts}
 use Rattle.fx_flow.specs.Sound.{IsSound}
 use Rattle.fx_flow.specs.Inlets.{IsInlet}
 use Rattle.fx_flow.specs.Frozen.{inlet_numbers, FreezesFlow, stored_all, numbers_all, AllMade, AllSound}
-use Rattle.fx_flow.specs.Thawing.{Thawing, ThawsOn}
+use Rattle.fx_flow.specs.Thawing.{Thawing}
+
+-- whichever stages these frames and numbers came from, the first of them were made, and the others come
+abbrev pub ThawsOn : {A S R : Type 0} → Acts S R → (S → Type 0) → (A → S → Type 0) → List A → List Samples → List ℕ → List S → List A → List Samples → List ℕ → Type 0
+ThawsOn {A} {S} acts sound made arguments frames numbers out coming later rest =
+    (stages : List S) → AllSound sound stages → AllMade made arguments stages → frames ≡ stored_all acts stages → numbers ≡ numbers_all acts stages → Thawing acts sound made out coming later rest stages
 
 -- the next of those left
 pub drop-next : {X : Type 0} (xs : List X) (k : ℕ) (d : X) → k < length xs → drop k xs ≡ slice_index_or xs k d ∷ drop (k + 1) xs

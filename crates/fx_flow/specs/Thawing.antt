@@ -7,8 +7,3 @@ use Rattle.fx_flow.specs.Frozen.{stored_all, numbers_all, AllMade, AllSound}
 abbrev pub Thawing : {A S R : Type 0} → Acts S R → (S → Type 0) → (A → S → Type 0) → List S → List A → List Samples → List ℕ → List S → Type 0
 Thawing {A} {S} acts sound made out coming frames numbers stages =
     (after : List S) × (out ++ after ≡ stages) × AllSound sound after × AllMade made coming after × (frames ≡ stored_all acts after) × (numbers ≡ numbers_all acts after)
-
--- whichever stages these frames and numbers came from, the first of them were made, and the others come
-abbrev pub ThawsOn : {A S R : Type 0} → Acts S R → (S → Type 0) → (A → S → Type 0) → List A → List Samples → List ℕ → List S → List A → List Samples → List ℕ → Type 0
-ThawsOn {A} {S} acts sound made arguments frames numbers out coming later rest =
-    (stages : List S) → AllSound sound stages → AllMade made arguments stages → frames ≡ stored_all acts stages → numbers ≡ numbers_all acts stages → Thawing acts sound made out coming later rest stages

@@ -14,7 +14,7 @@ use Rattle.fx_past.specs.Echo.{EchoArguments}
 use Rattle.fx_step.specs.Given.{given_of}
 use Rattle.fx_lists.proofs.Tabulate.{tabulate-same}
 use Rattle.fx_past.specs.Echos.{decays}
-use Rattle.fx_past.specs.EchosState.{IsRowLine, after_push, fed, frame_of_lines, let_go, line_at, lines_after, or_silence, up_to}
+use Rattle.fx_past.specs.EchosState.{IsRowLine, after_push, fed, frame_of_lines, let_go, line_at, lines_after, or_silence}
 use Rattle.fx_lists.specs.Lists.{tabulate}
 use Rattle.fx_convolve.specs.Products.{sum_of_products}
 use borrow.Author.Tests.{ltb-true, ltb-false}
@@ -91,6 +91,11 @@ sums-step c p k old D x b S S' W lt lt_D added e =
     let first = ap (λ l. S +ℤ sum_of_products l (channel_of (let_go c (drop p old) x b) k (pos 0))) (sym more_D) ∙ e in
     let both = ap (λ l. S +ℤ sum_of_products (get_or D p (pos 0) ∷ drop (p + 1) D) (channel_of (let_go c l x b) k (pos 0))) (sym more) ∙ first in
     rw added (omega (arith, ints, both))
+
+-- the numbers from 1 to n, added
+abbrev pub up_to : ℕ → ℕ
+up_to zero = 0
+up_to (suc n) = up_to n + suc n
 
 -- the sums stay small
 pub few-step : (p : ℕ) (s d g : ℤ) → unsigned_abs d ≤ UNIT → unsigned_abs g ≤ (p + 1) * 2 ^ 31 → unsigned_abs s ≤ (1 + up_to p) * (UNIT * 2 ^ 31) → unsigned_abs (s +ℤ (d *ℤ g)) ≤ (1 + up_to (suc p)) * (UNIT * 2 ^ 31)

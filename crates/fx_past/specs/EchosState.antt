@@ -1,5 +1,5 @@
 -- The stage of `echos`: a row of lines, what holds of it, and what it is still to give (this project's profile).
-use Rattle.std.specs.Prelude.{ℕ, ℤ, pos, zero, suc, ◌+◌, ◌*◌, ◌^◌, ◌<◌, ◌≤◌, ◌≡◌, ◌+ℤ◌, ◌*ℤ◌, Bool, true, false, ◌&&◌, Option, Some, None, List, [], ◌∷◌, ◌++◌, length, map, min, replicate, take, option_to_list, is_none, slice_index_or, nat_eq, cond, unsigned_abs}
+use Rattle.std.specs.Prelude.{ℕ, ℤ, pos, ◌+◌, ◌*◌, ◌^◌, ◌<◌, ◌≤◌, ◌≡◌, ◌+ℤ◌, ◌*ℤ◌, Bool, true, false, ◌&&◌, Option, Some, None, List, [], ◌∷◌, ◌++◌, length, map, min, replicate, take, option_to_list, is_none, slice_index_or, nat_eq, cond, unsigned_abs}
 use Rattle.std.specs.List.{All}
 use Rattle.std.specs.Int.{w64}
 use Rattle.fx_fixed.specs.Extents.{sum_of_delays}
@@ -84,11 +84,6 @@ pub record IsEchoLine (channels came j delay : ℕ) (l : Frames ℤ) : Type 0 wh
   pub some : 1 ≤ delay
   pub held : length l.items ≡ min came delay
   pub small : All (All (λ x. unsigned_abs x ≤ (j + 1) * 2 ^ 31)) l.items
-
--- the numbers from 1 to n, added
-abbrev pub up_to : ℕ → ℕ
-up_to zero = 0
-up_to (suc n) = up_to n + suc n
 
 -- how many frames went through the lines
 abbrev pub came_of : EchosState → ℕ

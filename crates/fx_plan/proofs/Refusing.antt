@@ -7,7 +7,7 @@ use Rattle.fx_plan.specs.declared.fault.PlanFault.{PlanFault}
 use Rattle.fx_words.specs.declared.fault.Refusal.{Refusal}
 use Rattle.fx_words.specs.declared.fault.Refusal.TheVariants as refusals
 use Rattle.fx_words.specs.Faults.{Word, Refuses, first_of}
-use Rattle.fx_effects.specs.Effects.{Act, all_fit, fits_layout, layout_after, layout_behind}
+use Rattle.fx_effects.specs.Effects.{Act, all_fit, fits_layout, layout_after}
 use Rattle.fx_plan.specs.Names.{effect_faults}
 use Rattle.fx_plan.specs.Plans.{RefusesPlan, acts_of, at_effect, done, effects_faults, fault_of, files_after, last_layout, next_file, step_faults}
 
@@ -57,6 +57,11 @@ layout_next layout next files left words effects e did next_is left_is = rw (nex
 pub both : (s t : Bool) → (s && t) ≡ true → (s ≡ true) × (t ≡ true)
 both true t h = (refl, h)
 both false t h = cc
+
+-- the layout behind effects
+abbrev pub layout_behind : Layout → List Act → Layout
+layout_behind layout [] = layout
+layout_behind layout (a ∷ acts) = layout_behind (layout_after layout (Some a)) acts
 
 -- one effect more
 pub behind-push : (layout : Layout) (acts : List Act) (a : Act) → layout_behind layout (acts ++ a ∷ []) ≡ layout_after (layout_behind layout acts) (Some a)

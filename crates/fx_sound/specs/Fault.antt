@@ -13,8 +13,8 @@ is_read_failed (Err ReadFailed) = true
 is_read_failed (Err TooLong) = false
 
 -- did a read of the head or behind it fail
-abbrev pub is_failed_read : {X : Type 0} → Result X SoundFault → Bool
-is_failed_read (Ok x) = false
-is_failed_read (Err (sounds.Head e)) = is_read_failure {X = Bool} (Err e)
-is_failed_read (Err (sounds.Read e)) = is_read_failed {X = Bool} (Err e)
-is_failed_read (Err sounds.Memory) = false
+abbrev pub is_sound_read_failed : {X : Type 0} → Result X SoundFault → Bool
+is_sound_read_failed (Ok x) = false
+is_sound_read_failed (Err (sounds.Head e)) = is_read_failure {X = Bool} (Err e)
+is_sound_read_failed (Err (sounds.Read e)) = is_read_failed {X = Bool} (Err e)
+is_sound_read_failed (Err sounds.Memory) = false

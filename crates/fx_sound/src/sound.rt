@@ -2,7 +2,7 @@
 
 ghost use Rattle.std.specs.Prelude.{◌≡◌, ◌+◌, ◌≤◌, ◌*◌, false, IfOk, IfErr, MatchBool, OnOk, Err, length};
 ghost use Rattle.fx_io.specs.Io.{saturated};
-ghost use Rattle.fx_sound.specs.Fault.{is_failed_read};
+ghost use Rattle.fx_sound.specs.Fault.{is_sound_read_failed};
 ghost use Rattle.fx_sound.specs.Container.{container, frames_of, at_end, ReadAllTold};
 ghost use Rattle.fx_heads.specs.Known.{IfKnown};
 ghost use Rattle.fx_sound.specs.Sound.{size_of, within};
@@ -57,7 +57,7 @@ pub fn read_frames<R: ByteIn>(
     ensures read_failed { result ≡ Err (SoundFault.Read ReadFault.ReadFailed)
         → ReadAllTold R.reads.told source.old source.new.reader progress.old progress.new.frames }
     ensures behind_head { IfErr result IsBehindHead }
-    ensures failures { MatchBool (is_failed_read result)
+    ensures failures { MatchBool (is_sound_read_failed result)
         (R.reads.failures source.new.reader ≡ saturated (R.reads.failures source.old.reader + 1))
         (R.reads.failures source.new.reader ≡ R.reads.failures source.old.reader) }
     ensures too_long { result ≡ Err (SoundFault.Read ReadFault.TooLong) → IfKnown (to_come R.reads.rest source.old) (λ bytes.
@@ -82,7 +82,7 @@ pub fn read_sound<R: ByteIn>(
 ) -> Result<Sound, SoundFault>
     ensures sound { IfOk result (λ s. IfKnown (to_come R.reads.rest source.old) (λ bytes. container expected bytes ≡ Ok (outcome s))) }
     ensures fault { IfErr result (λ e. IfKnown (to_come R.reads.rest source.old) (λ bytes. IsHeadFault (container expected bytes) e)) }
-    ensures failures { MatchBool (is_failed_read result)
+    ensures failures { MatchBool (is_sound_read_failed result)
         (R.reads.failures source.new.reader ≡ saturated (R.reads.failures source.old.reader + 1))
         (R.reads.failures source.new.reader ≡ R.reads.failures source.old.reader) }
 {

@@ -23,8 +23,8 @@ use Rattle.fx_map.specs.VolState.{vol_acts}
 use Rattle.fx_effects.specs.Effects.{OfTrim, OfPad, OfDelay, OfEcho, OfEchos, OfFade, OfVol, OfDcShift, OfFir, OfRemix, OfUpsample, OfDownsample}
 use Rattle.fx_effects.specs.Meanings.{InPlace, Placed, kind_at, meaning_at}
 
--- what a stage shows of itself: its effect in its place, what is still to be given, what it counted, that it has nothing to give now,
--- the frames that it holds, the places of its line, and its own numbers
+-- what a stage shows of itself: its effect in its place, what is still to be given, what it counted, that it has nothing to
+-- give now, the frames that it holds, the places of its line, and its own numbers
 pub record Look : Type 0 where
   pub recipe : Placed
   pub rest : List Samples → List Given

@@ -1,9 +1,9 @@
 -- What follows where a stage was fed.
-use Rattle.std.proofs.Common.{◌≡◌, ◌+◌, ℕ, List, [], ◌∷◌, ◌++◌, length, refl, sym, ap, ◌∙◌, arith, length-append, append_assoc, append-nil, subst, false, true}
+use Rattle.std.proofs.Common.{◌≡◌, ◌+◌, ℕ, List, [], ◌∷◌, ◌++◌, length, map, refl, sym, ap, ◌∙◌, arith, length-append, append_assoc, append-nil, subst, false, true}
 use Rattle.std.proofs.lemmas.List.{map-append}
 use Rattle.fx_step.specs.declared.feed.Passing.{Passing}
 use Rattle.fx_step.specs.declared.feed.Passing.TheVariants.{Kept, Through, More}
-use Rattle.fx_step.specs.Feed.{Fed, GaveAll, GaveNext, IsHeld, PassedOn, TookNext, nothing, taken, given}
+use Rattle.fx_step.specs.Feed.{Fed, GaveNext, IsHeld, PassedOn, TookNext, nothing, taken, given}
 use Rattle.fx_step.specs.Frame.{Samples}
 use Rattle.fx_step.specs.Holds.{total}
 use Rattle.fx_step.specs.Stage.{Acts, Counts, Given, after_taking, kind}
@@ -11,6 +11,18 @@ use Rattle.fx_step.specs.Stage.{Acts, Counts, Given, after_taking, kind}
 pub total-append : {X : Type 0} (f : X → ℕ) (xs ys : List X) → total f (xs ++ ys) ≡ total f xs + total f ys
 total-append f [] ys = omega arith
 total-append f (x ∷ xs) ys = omega (arith, total-append f xs ys)
+
+module _ {S R : Type 0} (acts : Acts S R) where
+  -- what follows where a stage was fed: what was to be given is what was given and what is still to be given, clips included
+  pub record GaveAll (first : S) (xs gs : List Samples) (s : S) : Type 0 where
+    pub whole : List Given
+    pub frames : map (λ (g : Given). g.samples) whole ≡ gs
+    pub rest : (z : List Samples) → acts.rest first (xs ++ z) ≡ whole ++ acts.rest s z
+    pub taken : (acts.counts s).taken ≡ (acts.counts first).taken + length xs
+    pub given : (acts.counts s).given ≡ (acts.counts first).given + length gs
+    pub clips : (acts.counts s).clips ≡ (acts.counts first).clips + total (λ (g : Given). g.clips) whole
+    pub ended : (acts.counts s).ended ≡ (acts.counts first).ended
+    pub recipe_stays : acts.recipe s ≡ acts.recipe first
 
 module _ {S R : Type 0} (acts : Acts S R) where
   all-took : (first s s' : S) (xs gs : List Samples) (x : Samples) → GaveAll acts first xs gs s → TookNext acts s s' x → GaveAll acts first (xs ++ x ∷ []) gs s'

@@ -1,10 +1,9 @@
 -- Frames passed to a stage many at a time, and taken from it likewise (this project's profile).
-use Rattle.std.specs.Prelude.{ℕ, ◌+◌, ◌≤◌, ◌≡◌, true, false, List, [], ◌∷◌, ◌++◌, length, map}
+use Rattle.std.specs.Prelude.{ℕ, ◌+◌, ◌≤◌, ◌≡◌, true, false, List, [], ◌∷◌, ◌++◌, length}
 use Rattle.fx_step.specs.declared.feed.Passing.{Passing}
 use Rattle.fx_step.specs.declared.feed.Passing.TheVariants.{Kept, Through, More}
 use Rattle.fx_step.specs.Frame.{Samples}
-use Rattle.fx_step.specs.Holds.{total}
-use Rattle.fx_step.specs.Stage.{Acts, Gave, Given, Took, hold_of, kind, spent}
+use Rattle.fx_step.specs.Stage.{Acts, Gave, Took, hold_of, kind, spent}
 
 module _ {S R : Type 0} (acts : Acts S R) where
   -- it holds no more frames than it may
@@ -40,14 +39,3 @@ module _ {S R : Type 0} (acts : Acts S R) where
     nothing : Fed first [] [] first
     taken : (xs gs : List Samples) (x : Samples) (s s' : S) → Fed first xs gs s → TookNext s s' x → Fed first (xs ++ x ∷ []) gs s'
     given : (xs gs : List Samples) (g : Samples) (s s' : S) → Fed first xs gs s → GaveNext s s' g → Fed first xs (gs ++ g ∷ []) s'
-
-  -- what follows from it: what was to be given is what was given and what is still to be given, clips included
-  pub record GaveAll (first : S) (xs gs : List Samples) (s : S) : Type 0 where
-    pub whole : List Given
-    pub frames : map (λ (g : Given). g.samples) whole ≡ gs
-    pub rest : (z : List Samples) → acts.rest first (xs ++ z) ≡ whole ++ acts.rest s z
-    pub taken : (acts.counts s).taken ≡ (acts.counts first).taken + length xs
-    pub given : (acts.counts s).given ≡ (acts.counts first).given + length gs
-    pub clips : (acts.counts s).clips ≡ (acts.counts first).clips + total (λ (g : Given). g.clips) whole
-    pub ended : (acts.counts s).ended ≡ (acts.counts first).ended
-    pub recipe_stays : acts.recipe s ≡ acts.recipe first

@@ -1,7 +1,7 @@
 use Rattle.std.proofs.Common.{◌≡◌, ◌++◌, take, drop}
 use Rattle.fx_flow.specs.Frozen.{stored_all, numbers_all, AllMade}
-use Rattle.fx_flow.specs.Thawing.{ThawsOn}
 use Rattle.fx_flow.proofs.frozen.thaw_all.Given as goal
+use Rattle.fx_flow.proofs.Thawing.{ThawsOn}
 
 abbrev pub invariant-arguments : goal.invariant-arguments
 invariant-arguments g l =

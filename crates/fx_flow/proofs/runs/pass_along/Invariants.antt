@@ -1,7 +1,7 @@
 use Rattle.std.proofs.Common.{◌≡◌, ◌≤◌, false, length, take, true}
 use Rattle.fx_flow.specs.Parts.{AllSettled}
-use Rattle.fx_flow.specs.Row.{CameTo}
 use Rattle.fx_flow.proofs.runs.pass_along.Given as goal
+use Rattle.fx_flow.proofs.Rows.{CameTo}
 
 abbrev pub invariant-stages : goal.invariant-stages
 invariant-stages g l = record {

@@ -2,9 +2,9 @@ use Rattle.std.proofs.Common.{◌≡◌, ◌<◌, ◌≤◌, ◌+◌, ◌*◌, �
 use Rattle.fx_fixed.specs.declared.gains.TheConstants.{UNIT}
 use Rattle.fx_ring.specs.Line.{channel_of}
 use Rattle.fx_past.specs.Echos.{decays}
-use Rattle.fx_past.specs.EchosState.{let_go, lines_after, up_to}
+use Rattle.fx_past.specs.EchosState.{let_go, lines_after}
 use Rattle.fx_convolve.specs.Products.{sum_of_products}
-use Rattle.fx_past.proofs.EchosRow.{Small}
+use Rattle.fx_past.proofs.EchosRow.{Small, up_to}
 use Rattle.fx_past.proofs.echos.pass.Given as goal
 
 -- the frame went through the lines so far

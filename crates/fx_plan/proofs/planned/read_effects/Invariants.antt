@@ -2,9 +2,10 @@ use Rattle.std.proofs.Common.{◌≡◌, ◌+◌, ◌++◌, ◌≤◌, length, m
 use Rattle.std.specs.List.{All}
 use Rattle.fx_words.specs.Faults.{texts}
 use Rattle.fx_plan.specs.Groups.{effects_of}
-use Rattle.fx_effects.specs.Effects.{IsLayout, Usable, act, all_fit, layout_behind}
+use Rattle.fx_effects.specs.Effects.{IsLayout, Usable, act, all_fit}
 use Rattle.fx_plan.specs.Plans.{acts_of, bytes_of, effects_faults, last_layout}
 use Rattle.fx_plan.proofs.planned.read_effects.Given as goal
+use Rattle.fx_plan.proofs.Refusing.{layout_behind}
 
 abbrev pub decreases-loop-name : goal.decreases-loop-name
 decreases-loop-name l = length l.rest
