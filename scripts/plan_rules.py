@@ -10,7 +10,7 @@ import re
 import sys
 
 import rules
-from effect_names import effect_names
+from effect_list import effect_names
 from rules import Effect, Refused
 
 # All effects of SoX 14.4.2.

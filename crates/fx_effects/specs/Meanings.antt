@@ -39,7 +39,7 @@ settled_at (InPlace channels (OfPad pads)) = settled pad_kind pad_meaning (recor
 settled_at (InPlace channels (OfDelay ds)) = settled delay_kind delayed ds
 settled_at (InPlace channels (OfEcho e)) = settled echo_kind echo (record { channels = channels; gain_in = e.gain_in; gain_out = e.gain_out; echoes = e.taps })
 settled_at (InPlace channels (OfEchos e)) = settled echos_kind echos (record { channels = channels; gain_in = e.gain_in; gain_out = e.gain_out; echoes = e.taps })
-settled_at (InPlace channels (OfFade f)) = settled fade_kind fade_meaning (record { channels = channels; shape = record { fade_in = f.fade_in; stop = f.stop; fade_out = f.fade_out } })
+settled_at (InPlace channels (OfFade fade)) = settled fade_kind fade_meaning (record { channels = channels; shape = record { fade_in = fade.fade_in; stop = fade.stop; fade_out = fade.fade_out } })
 settled_at (InPlace channels (OfVol gain)) = settled sample_kind vol_meaning (record { channels = channels; sampling = gain })
 settled_at (InPlace channels (OfDcShift shift)) = settled sample_kind dcshift_meaning (record { channels = channels; sampling = shift })
 settled_at (InPlace channels (OfFir gains)) = settled fir_kind filtered (record { channels = channels; coefficients = gains })
@@ -56,7 +56,7 @@ meaning_at p = (settled_at p).meaning
 -- an effect as its stage keeps it: a delay for each channel, and a fade with the stop that is meant
 abbrev pub recipe_at : Placed → Placed
 recipe_at (InPlace channels (OfDelay ds)) = InPlace channels (OfDelay (every_delay channels ds))
-recipe_at (InPlace channels (OfFade f)) = InPlace channels (OfFade (record f { stop = meant f.stop }))
+recipe_at (InPlace channels (OfFade fade)) = InPlace channels (OfFade (record fade { stop = meant fade.stop }))
 recipe_at p = p
 
 -- the frames that the line of an effect holds, and the most frames that it makes of n: as many for any number of channels

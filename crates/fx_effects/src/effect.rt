@@ -59,16 +59,16 @@ impl Effect {
         ensures { result ≡ layout_after layout (Some (act self.now)) }
     {
         match self {
+            Effect::Remix(specs) => Layout {
+                channels: specs.len(),
+                ..layout
+            },
             Effect::Upsample(factor) => Layout {
                 rate: layout.rate * factor,
                 ..layout
             },
             Effect::Downsample(factor) => Layout {
                 rate: layout.rate / factor,
-                ..layout
-            },
-            Effect::Remix(specs) => Layout {
-                channels: specs.len(),
                 ..layout
             },
             _ => layout,

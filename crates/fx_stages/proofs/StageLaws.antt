@@ -58,16 +58,16 @@ pub record IsMember (s : EffectStage) : Type 0 where
 pub is-member : (s : EffectStage) → IsMember s
 is-member (stages.Trim s) = record { narrow = λ h. narrow-stored s.line _ s.hand h.line h.fits; keeps = λ other. refl }
 is-member (stages.Pad s) = record { narrow = λ h. narrow-stored s.line _ s.hand h.line h.fits; keeps = λ other. refl }
-is-member (stages.Fade s) = record { narrow = λ h. narrow-stored s.line _ s.hand h.line h.fits; keeps = λ other. refl }
-is-member (stages.Upsample s) = record { narrow = λ h. narrow-hand _ s.hand h.fits; keeps = λ other. refl }
-is-member (stages.Downsample s) = record { narrow = λ h. narrow-hand _ s.hand h.fits; keeps = λ other. refl }
 is-member (stages.Delay s) = record { narrow = λ h. narrow-stored s.line _ s.hand h.line h.fits; keeps = λ other. refl }
 is-member (stages.Echo s) = record { narrow = λ h. narrow-stored s.line _ s.hand h.line h.fits; keeps = λ other. refl }
 is-member (stages.Echos s) = record { narrow = λ h. narrow-hand _ s.hand h.fits; keeps = λ other. refl }
-is-member (stages.Fir s) = record { narrow = λ h. narrow-stored s.line _ s.hand h.line h.fits; keeps = λ other. refl }
-is-member (stages.Remix s) = record { narrow = λ h. narrow-hand _ s.hand h.fits; keeps = λ other. absurd (other s refl) }
+is-member (stages.Fade s) = record { narrow = λ h. narrow-stored s.line _ s.hand h.line h.fits; keeps = λ other. refl }
 is-member (stages.Vol s) = record { narrow = λ h. narrow-hand _ s.hand h.fits; keeps = λ other. refl }
 is-member (stages.DcShift s) = record { narrow = λ h. narrow-hand _ s.hand h.fits; keeps = λ other. refl }
+is-member (stages.Fir s) = record { narrow = λ h. narrow-stored s.line _ s.hand h.line h.fits; keeps = λ other. refl }
+is-member (stages.Remix s) = record { narrow = λ h. narrow-hand _ s.hand h.fits; keeps = λ other. absurd (other s refl) }
+is-member (stages.Upsample s) = record { narrow = λ h. narrow-hand _ s.hand h.fits; keeps = λ other. refl }
+is-member (stages.Downsample s) = record { narrow = λ h. narrow-hand _ s.hand h.fits; keeps = λ other. refl }
 
 pub narrow-stages : (all : List EffectStage) → AllSound sound_of all → All IsNarrow all
 narrow-stages [] h = All-nil IsNarrow
@@ -111,15 +111,6 @@ trim-joins = record { named = λ r. InPlace r.channels (OfTrim r.positions); kin
 pub pad-joins : Joins pad_acts stages.Pad
 pad-joins = record { named = λ r. InPlace r.channels (OfPad r.pads); kinds = λ r. refl; looks = λ s. refl }
 
-pub fade-joins : Joins fade_acts stages.Fade
-fade-joins = record { named = λ r. InPlace r.channels (OfFade (record { fade_in = r.shape.fade_in; stop = r.shape.stop; fade_out = r.shape.fade_out })); kinds = λ r. refl; looks = λ s. refl }
-
-pub upsample-joins : Joins upsample_acts stages.Upsample
-upsample-joins = record { named = λ r. InPlace r.channels (OfUpsample r.factor); kinds = λ r. refl; looks = λ s. refl }
-
-pub downsample-joins : Joins downsample_acts stages.Downsample
-downsample-joins = record { named = λ r. InPlace r.channels (OfDownsample r.factor); kinds = λ r. refl; looks = λ s. refl }
-
 pub delay-joins : Joins delay_acts stages.Delay
 delay-joins = record { named = λ delays. InPlace (length delays) (OfDelay delays); kinds = λ r. refl; looks = λ s. refl }
 
@@ -129,17 +120,26 @@ echo-joins = record { named = λ r. InPlace r.channels (OfEcho (record { gain_in
 pub echos-joins : Joins echos_acts stages.Echos
 echos-joins = record { named = λ r. InPlace r.channels (OfEchos (record { gain_in = r.gain_in; gain_out = r.gain_out; taps = r.echoes })); kinds = λ r. refl; looks = λ s. refl }
 
-pub fir-joins : Joins fir_acts stages.Fir
-fir-joins = record { named = λ r. InPlace r.channels (OfFir r.coefficients); kinds = λ r. refl; looks = λ s. refl }
-
-pub remix-joins : Joins remix_acts stages.Remix
-remix-joins = record { named = λ r. InPlace r.channels (OfRemix r.outs); kinds = λ r. refl; looks = λ s. refl }
+pub fade-joins : Joins fade_acts stages.Fade
+fade-joins = record { named = λ r. InPlace r.channels (OfFade (record { fade_in = r.shape.fade_in; stop = r.shape.stop; fade_out = r.shape.fade_out })); kinds = λ r. refl; looks = λ s. refl }
 
 pub vol-joins : Joins vol_acts stages.Vol
 vol-joins = record { named = λ r. InPlace r.channels (OfVol r.sampling); kinds = λ r. refl; looks = λ s. refl }
 
 pub dcshift-joins : Joins dcshift_acts stages.DcShift
 dcshift-joins = record { named = λ r. InPlace r.channels (OfDcShift r.sampling); kinds = λ r. refl; looks = λ s. refl }
+
+pub fir-joins : Joins fir_acts stages.Fir
+fir-joins = record { named = λ r. InPlace r.channels (OfFir r.coefficients); kinds = λ r. refl; looks = λ s. refl }
+
+pub remix-joins : Joins remix_acts stages.Remix
+remix-joins = record { named = λ r. InPlace r.channels (OfRemix r.outs); kinds = λ r. refl; looks = λ s. refl }
+
+pub upsample-joins : Joins upsample_acts stages.Upsample
+upsample-joins = record { named = λ r. InPlace r.channels (OfUpsample r.factor); kinds = λ r. refl; looks = λ s. refl }
+
+pub downsample-joins : Joins downsample_acts stages.Downsample
+downsample-joins = record { named = λ r. InPlace r.channels (OfDownsample r.factor); kinds = λ r. refl; looks = λ s. refl }
 
 -- of stages that map or tap frames the prover wants it in these words
 abbrev pub Passes : {S R : Type 0} → Acts S R → (S → EffectStage) → Type 0
@@ -160,12 +160,6 @@ echo-passed r s s' x y was = passed echo-joins r s s' x y _ _ refl refl was
 pub echo-through : Runs echo_acts stages.Echo
 echo-through xs ys s s' was = through echo-joins xs ys s s' _ _ refl refl was
 
-pub remix-passed : Passes remix_acts stages.Remix
-remix-passed r s s' x y was = passed remix-joins r s s' x y _ _ refl refl was
-
-pub remix-through : Runs remix_acts stages.Remix
-remix-through xs ys s s' was = through remix-joins xs ys s s' _ _ refl refl was
-
 pub vol-passed : Passes vol_acts stages.Vol
 vol-passed r s s' x y was = passed vol-joins r s s' x y _ _ refl refl was
 
@@ -178,10 +172,16 @@ dcshift-passed r s s' x y was = passed dcshift-joins r s s' x y _ _ refl refl wa
 pub dcshift-through : Runs dcshift_acts stages.DcShift
 dcshift-through xs ys s s' was = through dcshift-joins xs ys s s' _ _ refl refl was
 
-pub ruleset joined = (trim-joins, pad-joins, fade-joins, upsample-joins, downsample-joins, echos-joins, fir-joins)
+pub remix-passed : Passes remix_acts stages.Remix
+remix-passed r s s' x y was = passed remix-joins r s s' x y _ _ refl refl was
+
+pub remix-through : Runs remix_acts stages.Remix
+remix-through xs ys s s' was = through remix-joins xs ys s s' _ _ refl refl was
+
+pub ruleset joined = (trim-joins, pad-joins, echos-joins, fade-joins, fir-joins, upsample-joins, downsample-joins)
 
 pub ruleset joined_fed = (fed, joined)
 
-pub ruleset joined_passed = (passed, joined, delay-passed, echo-passed, remix-passed, vol-passed, dcshift-passed)
+pub ruleset joined_passed = (passed, joined, delay-passed, echo-passed, vol-passed, dcshift-passed, remix-passed)
 
-pub ruleset joined_through = (through, joined, delay-through, echo-through, remix-through, vol-through, dcshift-through)
+pub ruleset joined_through = (through, joined, delay-through, echo-through, vol-through, dcshift-through, remix-through)

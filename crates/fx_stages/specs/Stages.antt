@@ -50,16 +50,16 @@ look acts named s = record {
 abbrev pub look_of : EffectStage → Look
 look_of (stages.Trim s) = look trim_acts (λ r. InPlace r.channels (OfTrim r.positions)) s
 look_of (stages.Pad s) = look pad_acts (λ r. InPlace r.channels (OfPad r.pads)) s
-look_of (stages.Fade s) = look fade_acts (λ r. InPlace r.channels (OfFade (record { fade_in = r.shape.fade_in; stop = r.shape.stop; fade_out = r.shape.fade_out }))) s
-look_of (stages.Upsample s) = look upsample_acts (λ r. InPlace r.channels (OfUpsample r.factor)) s
-look_of (stages.Downsample s) = look downsample_acts (λ r. InPlace r.channels (OfDownsample r.factor)) s
 look_of (stages.Delay s) = look delay_acts (λ delays. InPlace (length delays) (OfDelay delays)) s
 look_of (stages.Echo s) = look echo_acts (λ r. InPlace r.channels (OfEcho (record { gain_in = r.gain_in; gain_out = r.gain_out; taps = r.echoes }))) s
 look_of (stages.Echos s) = look echos_acts (λ r. InPlace r.channels (OfEchos (record { gain_in = r.gain_in; gain_out = r.gain_out; taps = r.echoes }))) s
-look_of (stages.Fir s) = look fir_acts (λ r. InPlace r.channels (OfFir r.coefficients)) s
-look_of (stages.Remix s) = look remix_acts (λ r. InPlace r.channels (OfRemix r.outs)) s
+look_of (stages.Fade s) = look fade_acts (λ r. InPlace r.channels (OfFade (record { fade_in = r.shape.fade_in; stop = r.shape.stop; fade_out = r.shape.fade_out }))) s
 look_of (stages.Vol s) = look vol_acts (λ r. InPlace r.channels (OfVol r.sampling)) s
 look_of (stages.DcShift s) = look dcshift_acts (λ r. InPlace r.channels (OfDcShift r.sampling)) s
+look_of (stages.Fir s) = look fir_acts (λ r. InPlace r.channels (OfFir r.coefficients)) s
+look_of (stages.Remix s) = look remix_acts (λ r. InPlace r.channels (OfRemix r.outs)) s
+look_of (stages.Upsample s) = look upsample_acts (λ r. InPlace r.channels (OfUpsample r.factor)) s
+look_of (stages.Downsample s) = look downsample_acts (λ r. InPlace r.channels (OfDownsample r.factor)) s
 
 abbrev pub recipe_of : EffectStage → Placed
 recipe_of s = (look_of s).recipe
@@ -71,16 +71,16 @@ stored_of s = (look_of s).stored
 abbrev pub sound_of : EffectStage → Type 0
 sound_of (stages.Trim s) = IsTrim s
 sound_of (stages.Pad s) = IsPad s
-sound_of (stages.Fade s) = IsFade s
-sound_of (stages.Upsample s) = IsUpsample s
-sound_of (stages.Downsample s) = IsDownsample s
 sound_of (stages.Delay s) = IsTapState delay_taps s
 sound_of (stages.Echo s) = IsTapState echo_taps s
 sound_of (stages.Echos s) = IsEchos s
-sound_of (stages.Fir s) = IsFir s
-sound_of (stages.Remix s) = IsMapState (λ (a : RemixArguments). length a.outs) s
+sound_of (stages.Fade s) = IsFade s
 sound_of (stages.Vol s) = IsMapState (λ (a : SampleArguments ℤ). a.channels) s
 sound_of (stages.DcShift s) = IsMapState (λ (a : SampleArguments ℤ). a.channels) s
+sound_of (stages.Fir s) = IsFir s
+sound_of (stages.Remix s) = IsMapState (λ (a : RemixArguments). length a.outs) s
+sound_of (stages.Upsample s) = IsUpsample s
+sound_of (stages.Downsample s) = IsDownsample s
 
 -- how the stages of all effects behave
 abbrev pub effect_acts : Acts EffectStage Placed

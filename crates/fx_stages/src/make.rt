@@ -26,23 +26,23 @@ use std::alloc::{AllocError, Global};
 macro_rules! made {
     ($effect:expr, $make:ident, [$($ok:ident)?], $alloc:expr, $channels:expr $(, $more:expr)*) => {
         match $effect {
-            Effect::Trim(at) => Trim::$make($alloc, $channels, at $(, $more)*).map(EffectStage::Trim),
+            Effect::Trim(positions) => Trim::$make($alloc, $channels, positions $(, $more)*).map(EffectStage::Trim),
             Effect::Pad(pads) => Pad::$make($alloc, $channels, pads $(, $more)*).map(EffectStage::Pad),
-            Effect::Fade(f) => Fade::$make($alloc, $channels, f.fade_in, f.stop, f.fade_out $(, $more)*)
+            Effect::Delay(delays) => Delay::$make($alloc, $channels, delays $(, $more)*).map(EffectStage::Delay),
+            Effect::Echo(echo) => Echo::$make($alloc, $channels, echo.gain_in, echo.gain_out, &echo.taps $(, $more)*)
+                .map(EffectStage::Echo),
+            Effect::Echos(echos) => Echos::$make($alloc, $channels, echos.gain_in, echos.gain_out, &echos.taps $(, $more)*)
+                .map(EffectStage::Echos),
+            Effect::Fade(fade) => Fade::$make($alloc, $channels, fade.fade_in, fade.stop, fade.fade_out $(, $more)*)
                 .map(EffectStage::Fade),
+            Effect::Vol(gain) => $($ok)?(Vol::$make($channels, *gain $(, $more)*)).map(EffectStage::Vol),
+            Effect::DcShift(shift) => $($ok)?(DcShift::$make($channels, *shift $(, $more)*)).map(EffectStage::DcShift),
+            Effect::Fir(gains) => Fir::$make($alloc, $channels, gains $(, $more)*).map(EffectStage::Fir),
+            Effect::Remix(specs) => Remix::$make($alloc, $channels, specs $(, $more)*).map(EffectStage::Remix),
             Effect::Upsample(factor) => $($ok)?(Upsample::$make($channels, u64::from(*factor) $(, $more)*))
                 .map(EffectStage::Upsample),
             Effect::Downsample(factor) => $($ok)?(Downsample::$make($channels, u64::from(*factor) $(, $more)*))
                 .map(EffectStage::Downsample),
-            Effect::Delay(delays) => Delay::$make($alloc, $channels, delays $(, $more)*).map(EffectStage::Delay),
-            Effect::Echo(e) => Echo::$make($alloc, $channels, e.gain_in, e.gain_out, &e.taps $(, $more)*)
-                .map(EffectStage::Echo),
-            Effect::Echos(e) => Echos::$make($alloc, $channels, e.gain_in, e.gain_out, &e.taps $(, $more)*)
-                .map(EffectStage::Echos),
-            Effect::Fir(gains) => Fir::$make($alloc, $channels, gains $(, $more)*).map(EffectStage::Fir),
-            Effect::Remix(outs) => Remix::$make($alloc, $channels, outs $(, $more)*).map(EffectStage::Remix),
-            Effect::Vol(gain) => $($ok)?(Vol::$make($channels, *gain $(, $more)*)).map(EffectStage::Vol),
-            Effect::DcShift(shift) => $($ok)?(DcShift::$make($channels, *shift $(, $more)*)).map(EffectStage::DcShift),
         }
     };
 }

@@ -22,16 +22,16 @@ use fx_step::stage::Stage;
 pub enum EffectStage {
     Trim(Trim),
     Pad(Pad),
-    Fade(Fade),
-    Upsample(Upsample),
-    Downsample(Downsample),
     Delay(Delay),
     Echo(Echo),
     Echos(Echos),
-    Fir(Fir),
-    Remix(Remix),
+    Fade(Fade),
     Vol(Vol),
     DcShift(DcShift),
+    Fir(Fir),
+    Remix(Remix),
+    Upsample(Upsample),
+    Downsample(Downsample),
 }
 
 /// The same call on the stage of whichever effect it is.
@@ -40,16 +40,16 @@ macro_rules! each {
         match $effect {
             EffectStage::Trim($stage) => $call,
             EffectStage::Pad($stage) => $call,
-            EffectStage::Fade($stage) => $call,
-            EffectStage::Upsample($stage) => $call,
-            EffectStage::Downsample($stage) => $call,
             EffectStage::Delay($stage) => $call,
             EffectStage::Echo($stage) => $call,
             EffectStage::Echos($stage) => $call,
-            EffectStage::Fir($stage) => $call,
-            EffectStage::Remix($stage) => $call,
+            EffectStage::Fade($stage) => $call,
             EffectStage::Vol($stage) => $call,
             EffectStage::DcShift($stage) => $call,
+            EffectStage::Fir($stage) => $call,
+            EffectStage::Remix($stage) => $call,
+            EffectStage::Upsample($stage) => $call,
+            EffectStage::Downsample($stage) => $call,
         }
     };
 }

@@ -9,11 +9,11 @@ returns-in-Delay-clause-fed c = rw c.in-Delay.is (fed delay-joins _ _ _ _ _ _ re
 pub returns-in-Echo-clause-fed : goal.returns-in-Echo-clause-fed
 returns-in-Echo-clause-fed c = rw c.in-Echo.is (fed echo-joins _ _ _ _ _ _ refl refl c.feed-in-Echo.ensures.fed)
 
-pub returns-in-Remix-clause-fed : goal.returns-in-Remix-clause-fed
-returns-in-Remix-clause-fed c = rw c.in-Remix.is (fed remix-joins _ _ _ _ _ _ refl refl c.feed-in-Remix.ensures.fed)
-
 pub returns-in-Vol-clause-fed : goal.returns-in-Vol-clause-fed
 returns-in-Vol-clause-fed c = rw c.in-Vol.is (fed vol-joins _ _ _ _ _ _ refl refl c.feed-in-Vol.ensures.fed)
 
 pub returns-in-DcShift-clause-fed : goal.returns-in-DcShift-clause-fed
 returns-in-DcShift-clause-fed c = rw c.in-DcShift.is (fed dcshift-joins _ _ _ _ _ _ refl refl c.feed-in-DcShift.ensures.fed)
+
+pub returns-in-Remix-clause-fed : goal.returns-in-Remix-clause-fed
+returns-in-Remix-clause-fed c = rw c.in-Remix.is (fed remix-joins _ _ _ _ _ _ refl refl c.feed-in-Remix.ensures.fed)

@@ -1,0 +1,70 @@
+"""The effects as effects/ has them: a list of their names, in the order in which programs, rules and documents list them, and of
+each an entry, what the files that all effects share say of it."""
+import os
+import tomllib
+
+import sounds
+
+FOLDER = os.path.join(sounds.TOP, 'effects')
+
+
+def effect_names():
+    """The names in effects/list; a line that begins with # is a comment."""
+    with open(os.path.join(FOLDER, 'list'), encoding='utf-8') as file:
+        lines = [line.strip() for line in file]
+    return [line for line in lines if line and not line.startswith('#')]
+
+
+class Effect:
+    """An entry, effects/NAME.toml: its name, its variant and its crate, and a table for each crate that shares files."""
+
+    def __init__(self, name):
+        with open(os.path.join(FOLDER, f'{name}.toml'), 'rb') as file:
+            self.tables = tomllib.load(file)
+        self.name = name
+        self.variant = self.tables['variant']
+        self.crate = self.tables['crate']
+        # The constructor of it as the definitions know effects.
+        self.shape = f'Of{self.variant}'
+        # The form of its stage that the prover knows blocks by, Mapped or Tapped, if it is one of these.
+        self.is_passed = self.get('stage.form') is not None
+
+    def get(self, key):
+        """What stands under a key `table.name`, or None."""
+        table, name = key.split('.')
+        found = self.tables[table].get(name)
+        return found.rstrip('\n') if isinstance(found, str) else found
+
+    def title(self):
+        return self.get('help.title') or self.name
+
+    def page(self):
+        """Its section of docs/effects.md."""
+        with open(os.path.join(FOLDER, f'{self.name}.md'), encoding='utf-8') as file:
+            return file.read()
+
+    def in_code(self, path):
+        """It as a pattern over an enum of code: with its argument, where it has one."""
+        argument = self.get('effect.argument')
+        return f'{path}::{self.variant}({argument})' if argument else f'{path}::{self.variant}'
+
+    def value(self, constructor=None):
+        """It as a pattern in definitions: with its value, where it has one, in brackets."""
+        value = self.get('act.value')
+        name = constructor or self.shape
+        return f'({name} {value})' if value else name
+
+    def with_value(self, value):
+        """It with this value, as an argument in definitions; `value` is None where it has none."""
+        if value is None:
+            return self.shape
+        return f'({self.shape} {bracketed(value)})'
+
+
+def bracketed(text):
+    """A term as an argument."""
+    return text if ' ' not in text else f'({text})'
+
+
+def effects():
+    return [Effect(name) for name in effect_names()]
