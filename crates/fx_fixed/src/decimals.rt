@@ -5,6 +5,7 @@ ghost use Rattle.std.specs.Str.Parse.{digits_value};
 ghost use Rattle.fx_fixed.specs.Decimals.{is_decimal, is_negative, is_numeral, unsigned};
 ghost use Rattle.fx_fixed.specs.Shown.{Ends, HasNoPoint, Shows, is_end};
 
+use crate::capped::capped_number;
 use crate::number::{Decimal, EXPONENT_CAP};
 use crate::sums::Digits;
 
@@ -19,24 +20,6 @@ pub fn split_sign(text: &[u8]) -> (bool, &[u8])
         [b'+', rest @ ..] => (false, rest),
         _ => (false, text),
     }
-}
-
-/// The number that is all of a text, or `EXPONENT_CAP` where it is more.
-fn capped_number(text: &[u8]) -> Option<u32>
-    ensures form { IsSome result ↔ IsTrue (is_numeral text.now) }
-    ensures value { IfSome result (λ n. n ≡ min (digits_value 10 text.now) 100) }
-{
-    if text.is_empty() {
-        return None;
-    }
-    let mut number = 0;
-    for byte in text {
-        if !byte.is_ascii_digit() {
-            return None;
-        }
-        number = (number * 10 + u32::from(*byte - b'0')).min(EXPONENT_CAP);
-    }
-    Some(number)
 }
 
 /// A decimal number of which these digits were read, so many of them before the point and so many
@@ -60,7 +43,7 @@ fn with_exponent(digits: Digits, whole: usize, places: usize, rest: &[u8]) -> Op
         }),
         [b'e' | b'E', text @ ..] => {
             let (is_lowered, number) = split_sign(text);
-            let exponent = capped_number(number)?;
+            let exponent = capped_number(number, EXPONENT_CAP)?;
             if is_lowered {
                 return Some(Decimal {
                     digits,

@@ -3,6 +3,7 @@
 ghost use Rattle.std.specs.Prelude.{◌≡◌, ◌*ℤ◌};
 ghost use Rattle.fx_fixed.specs.Rounding.{rounding};
 
+pub use crate::capped::capped_number;
 pub use crate::extents::{
     all_pads, all_taps, greatest_end, greatest_pad_end, longest, longest_tap, meant_stop, stop_line,
 };

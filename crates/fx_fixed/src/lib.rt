@@ -2,6 +2,7 @@
 //! milliseconds and coefficient files, each read from text without any loss.
 #![tactic(auto)]
 
+mod capped;
 mod clock;
 mod coefficient_files;
 mod count;

@@ -4,6 +4,8 @@ ghost use Rattle.std.specs.Prelude.{◌≡◌, ◌↔◌, IfSome, IsSome, IsTrue
 ghost use Rattle.std.specs.Str.Parse.{digits_value};
 ghost use Rattle.fx_fixed.specs.Decimals.{is_numeral};
 
+use fx_fixed::inner;
+
 /// What stands for each number that is not below it: more than any factor or channel may be.
 pub const NUMBER_CAP: u32 = 1000;
 
@@ -13,15 +15,5 @@ pub fn capped_number(text: &[u8]) -> Option<u32>
     ensures form { IsSome result ↔ IsTrue (is_numeral text.now) }
     ensures value { IfSome result (λ n. n ≡ min (digits_value 10 text.now) 1000) }
 {
-    if text.is_empty() {
-        return None;
-    }
-    let mut number = 0;
-    for byte in text {
-        if !byte.is_ascii_digit() {
-            return None;
-        }
-        number = (number * 10 + u32::from(*byte - b'0')).min(NUMBER_CAP);
-    }
-    Some(number)
+    inner::capped_number(text, NUMBER_CAP)
 }
