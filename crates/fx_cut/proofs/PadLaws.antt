@@ -188,6 +188,32 @@ none_behind len m ((k, p) ∷ ps) h = go (is_inside len (k, p)) refl (none_behin
         let g : q ≤ len = omega arith in
         ap (λ b. sum_by (λ p. p.0) (cond b ((k, q) ∷ filter (λ p. leb (len + 1) p.1) (placed_after len q ps)) (filter (λ p. leb (len + 1) p.1) (placed_after len q ps)))) (lt-leb (len + 1) q (omega arith)) ∙ taken g
 
+-- all silence stands at the first place or behind it
+from_first : (pads : List (ℕ × ℕ)) → silence_from pads 0 ≡ sum_by (λ p. p.0) pads
+from_first [] = refl
+from_first ((k, p) ∷ pads) =
+    ap (λ b. sum_by (λ p. p.0) (cond b ((k, p) ∷ filter (λ p. leb 0 p.1) pads) (filter (λ p. leb 0 p.1) pads))) (le-leb 0 p (omega arith))
+    ∙ sum_by-cons (λ p. p.0) (k, p) (filter (λ p. leb 0 p.1) pads)
+    ∙ ap (λ n. k + n) (from_first pads)
+    ∙ sym (sum_by-cons (λ p. p.0) (k, p) pads)
+
+-- and is no more than that of all pads
+pub silence-few : (len : ℕ) (ps : List (ℕ × At)) → silence_from (placed len ps) 0 ≤ lengths ps
+silence-few len ps = omega (arith, from_first (placed len ps), taken_le len 0 ps)
+
+-- the silence before a place that no pad from the end reaches, and that behind it, are all of it
+pub silence-parts : (len : ℕ) (ps : List (ℕ × At)) (m : ℕ) → RisesFrom 0 (ats ps) → (m ≡ 0) ⊎ (m + greatest (map pad_distance ps) ≤ len)
+    → sum_by (λ p. p.0) (filter (λ p. ltb p.1 m) (pads_from_start ps)) + silence_from (placed len ps) m ≡ silence_from (placed len ps) 0
+silence-parts len ps zero r h = omega (arith, none_upto (pads_from_start ps))
+silence-parts len ps (suc m) r (inl e) = absurd (omega arith)
+silence-parts len ps (suc m) r (inr h) =
+    let before = silence-parts len ps m r (inr (omega arith)) in
+    let same : sum_by (here m) (placed len ps) ≡ sum_by (here m) (pads_from_start ps) = same_silence len m 0 ps (omega arith) r in
+    let next : suc m ≡ m + 1 = omega arith in
+    let more : sum_by (λ p. p.0) (filter (λ p. ltb p.1 (suc m)) (pads_from_start ps)) ≡ sum_by (λ p. p.0) (filter (λ p. ltb p.1 m) (pads_from_start ps)) + sum_by (here m) (pads_from_start ps) = ap (λ n. sum_by (λ p. p.0) (filter (λ p. ltb p.1 n) (pads_from_start ps))) next ∙ upto_more m (pads_from_start ps) in
+    let behind : silence_from (placed len ps) m ≡ sum_by (here m) (placed len ps) + silence_from (placed len ps) (suc m) = behind-step m (placed len ps) ∙ ap (λ n. sum_by (here m) (placed len ps) + silence_from (placed len ps) n) (sym next) in
+    omega (arith, before, same, more, behind)
+
 -- the first frame, behind its silence
 pub pad_first : (channels len : ℕ) (ps : List (ℕ × At)) (n : ℕ) (frame : Samples) (x : List Samples)
     → padded_from channels len ps n (frame ∷ x) ≡ replicate (silent_at (placed len ps) n) (silence channels) ++ (frame ∷ padded_from channels len ps (n + 1) x)

@@ -104,6 +104,7 @@ module _ (s : PadState) (n : ℕ) (x : Samples) (a : Quiet s (suc n)) where
         full = λ r. omega arith;
         counted = λ r. omega arith;
         over = λ r. absurd (cc (r, a.running));
+        gone = λ r. absurd (cc (r, a.running));
         fits = λ y e. absurd (cc);
       }
 

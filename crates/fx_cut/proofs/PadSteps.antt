@@ -1,21 +1,22 @@
 -- The steps of a pad.
-use Rattle.std.proofs.Common.{◌≡◌, ℕ, ℤ, zero, suc, ◌+◌, ◌-◌, ◌<◌, ◌≤◌, ◌^◌, Bool, true, false, ◌&&◌, List, [], ◌∷◌, ◌++◌, map, length, drop, refl, sym, ◌∙◌, ap, arith, length-append, sub-one}
-use Rattle.std.specs.Prelude.{Option, Some, None, option_to_list, is_none, nat_eq, replicate, slice_get}
+use Rattle.std.proofs.Common.{◌≡◌, ℕ, ℤ, zero, suc, ◌+◌, ◌-◌, ◌<◌, ◌≤◌, ◌^◌, Bool, true, false, ◌&&◌, ◌⊎◌, inl, inr, List, [], ◌∷◌, ◌++◌, map, length, drop, refl, sym, ◌∙◌, ap, arith, length-append, append-nil, sub-one}
+use Rattle.std.specs.Prelude.{Option, Some, None, option_to_list, is_none, nat_eq, nat_lt, filter, replicate, slice_get, sum_by}
 use Rattle.std.specs.Int.{w32}
-use Rattle.std.proofs.lemmas.Bool.{false≢true, and_parts, eqb-true}
+use Rattle.std.proofs.lemmas.Bool.{false≢true, and_parts, cases_lt, eqb-true}
 use Rattle.std.proofs.lemmas.List.{length-replicate}
 use mathlib.Core.Path.{ap₂}
 use Rattle.fx_fixed.specs.Extents.{greatest, pad_distance}
+use Rattle.fx_fixed.specs.declared.positions.At.{At}
 use Rattle.fx_step.specs.Frame.{Samples, silence}
 use Rattle.fx_step.specs.Hand.{IsHand}
 use Rattle.fx_ring.specs.Line.{Frames, IsLine}
 use Rattle.fx_step.specs.Stage.{Gave, Took, Ended, coming}
 use Rattle.fx_step.specs.Given.{plain}
 use Rattle.fx_cut.specs.Pad.{PadArguments, IsPads, lengths, pad_due, padded, pads_from_start, placed, silent_at}
-use Rattle.fx_cut.specs.PadState.{PadState, IsPad, pad_acts, pad_after, pad_left, pad_rest, unless_last}
+use Rattle.fx_cut.specs.PadState.{PadState, IsPad, all_padded, pad_acts, pad_after, pad_left, pad_rest, padded_from, silence_from, unless_last}
 use Rattle.fx_cut.proofs.Fallen.{fallen, stays, no_fall, stays-room, is_full, oldest-first}
 use Rattle.fx_cut.proofs.Hands.{none_of}
-use Rattle.fx_cut.proofs.PadLaws.{upto_more, length_padded, none-due}
+use Rattle.fx_cut.proofs.PadLaws.{upto_more, length_from, length_padded, none-due, silence-few, silence-parts}
 use Rattle.fx_cut.proofs.PadRest.{pad_new, pad_taken, pad_let_go, pad_drained}
 use Rattle.fx_frame.proofs.DryLaws.{dry-tail}
 
@@ -117,6 +118,7 @@ module _ (s : PadState) (frame : Samples) (is : IsPad s) (dry : pad_acts.dry s �
         full = λ r. rw capacity (omega arith);
         counted = λ r. rw early (is.counted running);
         over = λ r. absurd (cc (r, running));
+        gone = λ r. absurd (cc (r, running));
         fits = is.fits;
       }
 
@@ -150,6 +152,7 @@ module _ (s : PadState) (frame : Samples) (is : IsPad s) (dry : pad_acts.dry s �
         full = λ r. rw capacity (omega arith);
         counted = λ r. rw next (omega (arith, more, k', counted, empty, nothing));
         over = λ r. absurd (cc (r, running));
+        gone = λ r. absurd (cc (r, running));
         fits = fits;
       }
 
@@ -176,9 +179,10 @@ module _ (s : PadState) (line : Frames ℤ) (silent : ℕ) (hand : Option Sample
       ∙ sym (pad_drained s.recipe s.taken s.line.items line.items hand oldest items h)
 
   pub IsPad-drawn : IsLine w32 line → line.capacity ≡ s.line.capacity → line.channels ≡ s.line.channels → IsHand s.recipe.channels hand
-      → given + length (pad_after s.recipe s.taken s.line.items []) ≤ s.taken + lengths s.recipe.pads → IsPad (drawn s line silent hand given ended)
-  IsPad-drawn lined capacity channels fits within =
+      → given + length (pad_after s.recipe s.taken s.line.items []) ≡ all_padded s.recipe.pads s.taken → IsPad (drawn s line silent hand given ended)
+  IsPad-drawn lined capacity channels fits all =
       let held = is.held in
+      let few = silence-few s.taken s.recipe.pads in
       let popped = popped-length s.line.items line.items hand oldest items in
       record {
         line = lined;
@@ -187,10 +191,11 @@ module _ (s : PadState) (line : Frames ℤ) (silent : ℕ) (hand : Option Sample
         pads = is.pads;
         few = is.few;
         held = omega arith;
-        within = λ z. let n : length (pad_left (drawn s line silent hand given ended) z) ≡ length (pad_after s.recipe s.taken s.line.items []) = ap length (left-drawn z) in omega arith;
+        within = λ z. let n : length (pad_left (drawn s line silent hand given ended) z) ≡ length (pad_after s.recipe s.taken s.line.items []) = ap length (left-drawn z) in omega (arith, n, all, few);
         full = λ r. absurd (cc (r, over));
         counted = λ r. absurd (cc (r, over));
         over = λ e none. popped-none s.line.items line.items hand oldest items none;
+        gone = λ e. ap (λ l. given + length l) (left-drawn []) ∙ all;
         fits = fits;
       }
 
@@ -221,22 +226,41 @@ module _ (s : PadState) (line : Frames ℤ) (silent : ℕ) (hand : Option Sample
         recipe_stays = refl;
       }
 
--- what is left at the end
-pub left-dry : (s : PadState) → IsPad s → pad_acts.dry s ≡ true → s.ended ≡ false → s.given + length (pad_after s.recipe s.taken s.line.items []) ≤ s.taken + lengths s.recipe.pads
+-- what is left at the end, where the line holds the last frames from one on that no pad from the end reaches
+pub left-dry : (s : PadState) → IsPad s → pad_acts.dry s ≡ true → s.ended ≡ false → s.given + length (pad_after s.recipe s.taken s.line.items []) ≡ all_padded s.recipe.pads s.taken
 left-dry s is dry running =
-    let e : length (pad_left s []) ≡ length (pad_after s.recipe s.taken s.line.items []) = ap length (left-now s dry running []) in
-    let within : s.given + length (pad_left s []) ≤ s.taken + 0 + lengths s.recipe.pads = is.within [] in
-    omega arith
+    let ps : List (ℕ × At) = s.recipe.pads in
+    let items : List Samples = s.line.items in
+    let m : ℕ = s.taken - length items in
+    let nothing = dry-hand s.hand s.silent dry in
+    let hands : length (option_to_list s.hand) ≡ 0 = ap (λ h. length (option_to_list h)) nothing.0 in
+    let full = is.full running in
+    let reach = is.capacity in
+    let place : s.taken - greatest (map pad_distance ps) ≡ m = omega arith in
+    let counted : s.given + s.silent + length (option_to_list s.hand) ≡ m + sum_by (λ p. p.0) (filter (λ p. nat_lt p.1 m) (pads_from_start ps)) = is.counted running ∙ ap (λ n. n + sum_by (λ p. p.0) (filter (λ p. nat_lt p.1 n) (pads_from_start ps))) place in
+    let far : (m ≡ 0) ⊎ (m + greatest (map pad_distance ps) ≤ s.taken) = apart (cases_lt (greatest (map pad_distance ps)) s.taken) in
+    let parts = silence-parts s.taken ps m is.pads.rising far in
+    let nil : items ++ [] ≡ items = append-nil items in
+    let whole : m + length items ≡ s.taken = omega arith in
+    let later : length (pad_after s.recipe s.taken items []) ≡ length items + silence_from (placed s.taken ps) m =
+    ap (λ l. length (padded_from s.recipe.channels (m + length l) ps m l)) nil
+    ∙ ap (λ t. length (padded_from s.recipe.channels t ps m items)) whole
+    ∙ length_from s.recipe.channels s.taken ps m items whole in
+    omega (arith, nothing.1, hands, counted, parts, later, whole)
+  where
+    apart : (greatest (map pad_distance s.recipe.pads) < s.taken) ⊎ (s.taken ≤ greatest (map pad_distance s.recipe.pads)) → (s.taken - length s.line.items ≡ 0) ⊎ (s.taken - length s.line.items + greatest (map pad_distance s.recipe.pads) ≤ s.taken)
+    apart (inl l) = let full = is.full running in let reach = is.capacity in inr (omega (arith, l, full, reach))
+    apart (inr g) = let full = is.full running in let reach = is.capacity in inl (omega (arith, g, full, reach))
 
 -- what is left when the frame in hand was given after the end
-pub left-given : (s : PadState) (frame : Samples) → IsPad s → s.hand ≡ Some frame → s.silent ≡ 0 → s.ended ≡ true → s.given + 1 + length (pad_after s.recipe s.taken s.line.items []) ≤ s.taken + lengths s.recipe.pads
+pub left-given : (s : PadState) (frame : Samples) → IsPad s → s.hand ≡ Some frame → s.silent ≡ 0 → s.ended ≡ true → s.given + 1 + length (pad_after s.recipe s.taken s.line.items []) ≡ all_padded s.recipe.pads s.taken
 left-given s frame is e none was =
     let first : pad_left s [] ≡ frame ∷ pad_after s.recipe s.taken s.line.items [] =
     left-ended s.recipe s.silent s.hand s.taken s.line.items s.ended [] was
     ∙ ap₂ (λ k o. replicate k (silence s.recipe.channels) ++ (option_to_list o ++ unless_last true o (pad_after s.recipe s.taken s.line.items []))) none e in
     let long : length (pad_left s []) ≡ suc (length (pad_after s.recipe s.taken s.line.items [])) = ap length first in
-    let within : s.given + length (pad_left s []) ≤ s.taken + 0 + lengths s.recipe.pads = is.within [] in
-    omega arith
+    let gone : s.given + length (pad_left s []) ≡ all_padded s.recipe.pads s.taken = is.gone was in
+    omega (arith, long, gone)
 
 -- ---- silence is given
 
@@ -278,5 +302,6 @@ IsPad-new r line lined items channels capacity pads =
       full = λ e. omega arith;
       counted = λ e. sym (none-due r.pads);
       over = λ e none. items;
+      gone = λ e. absurd (cc);
       fits = λ x e. absurd (cc);
     }

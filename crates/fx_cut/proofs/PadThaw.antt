@@ -11,9 +11,9 @@ use Rattle.fx_frame.specs.Frozen.{IsStored}
 use Rattle.fx_ring.specs.Line.{Frames}
 use Rattle.fx_step.specs.Stage.{Freezes, coming, numbers_of}
 use Rattle.fx_cut.specs.Pad.{IsPads, ats, lengths, pad_due, pads_from_start, placed, silent_at, RisesFrom}
-use Rattle.fx_cut.specs.PadState.{PadState, IsPad, IsPadCount, later_count, pad_acts, pad_after, pad_left, padded_from, unless_last}
+use Rattle.fx_cut.specs.PadState.{PadState, IsPad, IsPadCount, all_padded, later_count, pad_acts, pad_after, pad_left, padded_from, unless_last}
 use Rattle.fx_cut.proofs.Hands.{no-hand, empty_of}
-use Rattle.fx_cut.proofs.PadLaws.{length_from, length_padded, pad_first, same_silence, upto_more}
+use Rattle.fx_cut.proofs.PadLaws.{length_from, length_padded, pad_first, same_silence, silence-few, upto_more}
 use Rattle.fx_cut.proofs.PadRest.{pad_new}
 use Rattle.fx_cut.proofs.Thawing.{lined}
 use Rattle.fx_frame.proofs.Counts.{flag-of}
@@ -106,8 +106,8 @@ count-of s is =
       full = λ e. let f = is.full e in let c = is.capacity in omega arith;
       counted = is.counted;
       over = λ e none. ap length (is.over e (no-hand s.hand none));
-      within = λ e.
-          let m : s.given + length (pad_left s []) ≤ s.taken + 0 + lengths s.recipe.pads = is.within [] in
+      gone = λ e.
+          let m : s.given + length (pad_left s []) ≡ all_padded s.recipe.pads s.taken = is.gone e in
           omega (arith, m, left-length s [], later-length s [] e (omega arith));
     }
 
@@ -153,21 +153,25 @@ IsPad-thawed channels capacity taken given silent held hands ended ps frames lin
       full = λ e. let k = count.full e in omega arith;
       counted = counted;
       over = λ e none. let z : hands ≡ 0 = sym h ∙ ap (λ o. length (option_to_list o)) none in let k = count.over e z in empty_of line.items (omega arith);
+      gone = λ e. told [] e;
       fits = st.held;
     }
   where
     state : PadState
     state = record { hand = hand; recipe = record { channels = channels; pads = ps }; silent = silent; line = line; taken = taken; given = given; ended = ended }
 
-    go : (z : List Samples) (b : Bool) → ended ≡ b → (ended ≡ false → length line.items ≡ min taken (greatest (map pad_distance ps))) → (ended ≡ false → given + silent + length (option_to_list hand) ≡ pad_due ps taken)
-        → given + length (pad_left state z) ≤ taken + length z + lengths ps
-    go z false e full counted = within-open state pads (full e) e (counted e) z
-    go z true e full counted =
+    told : (z : List Samples) → ended ≡ true → given + length (pad_left state z) ≡ all_padded ps taken
+    told z e =
         let h : length (option_to_list hand) ≡ hands = st.hands_are in
         let all : length frames ≡ length line.items + length (option_to_list hand) = ap length st.stored ∙ length-append line.items (option_to_list hand) in
         let items : held - hands ≡ length line.items = omega arith in
-        let w : given + silent + length (option_to_list hand) + later_count ps taken (length line.items) (length (option_to_list hand)) ≤ taken + lengths ps = rw (items, ← h) at (count.within e) in
+        let w : given + silent + length (option_to_list hand) + later_count ps taken (length line.items) (length (option_to_list hand)) ≡ all_padded ps taken = rw (items, ← h) at (count.gone e) in
         omega (arith, w, left-length state z, later-length state z e (omega arith))
+
+    go : (z : List Samples) (b : Bool) → ended ≡ b → (ended ≡ false → length line.items ≡ min taken (greatest (map pad_distance ps))) → (ended ≡ false → given + silent + length (option_to_list hand) ≡ pad_due ps taken)
+        → given + length (pad_left state z) ≤ taken + length z + lengths ps
+    go z false e full counted = within-open state pads (full e) e (counted e) z
+    go z true e full counted = omega (arith, told z e, silence-few taken ps)
 
 -- the same stage
 pub same-pad : (s : PadState) (channels : ℕ) (ps : List (ℕ × At)) (numbers : List ℕ) (line : Frames ℤ) (hand : Option Samples) → s.recipe ≡ record { channels = channels; pads = ps } → numbers ≡ numbers_of pad_acts s → line ≡ s.line → hand ≡ s.hand

@@ -48,6 +48,14 @@ unless_last false hand later = later
 abbrev pub pad_left : PadState → List Samples → List Samples
 pad_left s z = replicate s.silent (silence s.recipe.channels) ++ (option_to_list s.hand ++ unless_last s.ended s.hand (pad_after s.recipe s.taken s.line.items (coming s.ended z)))
 
+-- how many silent frames stand at a place or behind it
+abbrev pub silence_from : List (ℕ × ℕ) → ℕ → ℕ
+silence_from pads n = sum_by (λ p. p.0) (filter (λ p. nat_le n p.1) pads)
+
+-- all frames of a sound of so many, and all silence that is put into it
+abbrev pub all_padded : List (ℕ × At) → ℕ → ℕ
+all_padded pads taken = taken + silence_from (placed taken pads) 0
+
 -- what holds of it at every moment
 pub record IsPad (s : PadState) : Type 0 where
   pub line : IsLine w32 s.line
@@ -60,11 +68,8 @@ pub record IsPad (s : PadState) : Type 0 where
   pub full : s.ended ≡ false → length s.line.items ≡ min s.taken s.line.capacity
   pub counted : s.ended ≡ false → s.given + s.silent + length (option_to_list s.hand) ≡ pad_due s.recipe.pads s.taken
   pub over : s.ended ≡ true → s.hand ≡ None → s.line.items ≡ []
+  pub gone : s.ended ≡ true → s.given + length (pad_left s []) ≡ all_padded s.recipe.pads s.taken
   pub fits : IsHand s.recipe.channels s.hand
-
--- how many silent frames stand at a place or behind it
-abbrev pub silence_from : List (ℕ × ℕ) → ℕ → ℕ
-silence_from pads n = sum_by (λ p. p.0) (filter (λ p. nat_le n p.1) pads)
 
 -- how many frames come after the one in hand, after the end of a sound of so many frames, the last of which are in the line
 abbrev pub later_count : List (ℕ × At) → ℕ → ℕ → ℕ → ℕ
@@ -75,7 +80,7 @@ pub record IsPadCount (pads : List (ℕ × At)) (taken given silent lined hands 
   pub full : ended ≡ false → lined ≡ min taken (greatest (map pad_distance pads))
   pub counted : ended ≡ false → given + silent + hands ≡ pad_due pads taken
   pub over : ended ≡ true → hands ≡ 0 → lined ≡ 0
-  pub within : ended ≡ true → given + silent + hands + later_count pads taken lined hands ≤ taken + lengths pads
+  pub gone : ended ≡ true → given + silent + hands + later_count pads taken lined hands ≡ all_padded pads taken
 
 -- how the stages of `pad` behave
 abbrev pub pad_acts : Acts PadState PadArguments

@@ -12,7 +12,7 @@ pub mod words;
 
 use crate::many::{PassesMany, feed_by_pieces, pass_by_frame};
 use fx_fixed::At;
-use fx_fixed::inner::{all_pads, greatest_pad_end};
+use fx_fixed::inner::greatest_pad_end;
 use fx_frame::frozen::{stored_in, thawed_line_and_hand};
 use fx_frame::{Feeds, Frame, Line, Passed, Passing, Stage, Tally, ThawFault, WideFrame};
 use fx_step::feed::copy_frames;
@@ -195,7 +195,7 @@ fn later_frames(pads: &[(u64, At)], taken: u64, lined: u64, hands: u64) -> u128
 }
 
 /// Does a stage of these pads, with so many frames in its line and in hand, count so? Before the end it has given what is due,
-/// after the end no more than came and the pads have.
+/// after the end that and what is still to come are all frames that came and all silence that is put between them.
 fn is_count(
     pads: &[(u64, At)],
     taken: u64,
@@ -212,9 +212,9 @@ fn is_count(
 {
     let made = u128::from(given) + u128::from(silent) + u128::from(hands);
     if is_ended {
-        let most = u128::from(taken) + u128::from(all_pads(pads));
-        let all = made + later_frames(pads, taken, lined, hands);
-        return (hands != 0 || lined == 0) && all <= most;
+        let all = u128::from(taken) + u128::from(silence_behind(pads, taken, 0));
+        let told = made + later_frames(pads, taken, lined, hands);
+        return (hands != 0 || lined == 0) && told == all;
     }
     let reach = greatest_pad_end(pads);
     if lined != taken.min(reach) {
