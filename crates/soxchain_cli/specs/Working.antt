@@ -28,8 +28,8 @@ use Rattle.soxchain.specs.Saying.{Says}
 use Rattle.soxchain_cli.specs.Named.{Files}
 use Rattle.soxchain_words.specs.Files.{AreFronts, IsUnread}
 
--- A machine, by what it answered: the words behind the program's name, or why they could not be had; its standard streams; and the
--- files that it created beside an input of a name, or beside standard input, or refused to create.
+-- A machine, by what it answered to one call: the words behind the program's name, or why they could not be had; a standard stream;
+-- a file that it created beside an input of a name, or beside standard input, or refused to create.
 pub record Machine (I O F : Type 0) : Type 1 where
   pub asked : List (List ℕ) → Type 0
   pub mute : ErrorKind → Type 0
@@ -38,10 +38,10 @@ pub record Machine (I O F : Type 0) : Type 1 where
   pub created : Option (List ℕ) → List ℕ → F → Type 0
   pub uncreated : Option (List ℕ) → List ℕ → Type 0
 
--- The files that were opened to read, by their names, and the names whose opening was refused.
-pub record Opened (R : Type 0) : Type 1 where
-  pub opened : List ℕ → R → Type 0
-  pub unopened : List ℕ → Type 0
+-- The file that was opened to read by one call, by its name, or the name whose opening was refused.
+pub record Opened (H R : Type 0) : Type 1 where
+  pub opened : H → H → List ℕ → R → Type 0
+  pub unopened : H → H → List ℕ → Type 0
 
 -- how streams and files are known: the bytes to come of standard input and of a file that is read, the bytes of standard output and
 -- of a file that was created, and the place in that file
@@ -68,107 +68,112 @@ pub record IsPrepared {R : Type 0} (reads : ByteReader R) (line : Said) (files :
 abbrev pub ready_for : Said → Prepared → Ready
 ready_for line prepared = record { line = line; prepared = prepared }
 
-module _ {I R O F M : Type 0} (d : Devices I R O F) (m : Machine I O F) (writes : ByteWriter M) where
+-- The program asks a machine one thing after another; `m` and `o` say what it was asked for and answered between one of its states
+-- and the next. So the states name all that was asked, in its order: where the last one is that of a call, nothing came behind it.
+module _ {H I R O F M : Type 0} (d : Devices I R O F) (m : H → H → Machine I O F) (writes : ByteWriter M) where
   -- What becomes of a sound: nothing was ready for it; or OUT could not be created; or it ran to standard output, or into the new
   -- file of OUT's own name.
-  pub data Sounds {X : Type 0} (reads : ByteReader X) (line : Said) (files : List (List ℕ)) (reader : X) (old new : Telling M) (status : ℕ) : Type 0 where
+  pub data Sounds {X : Type 0} (reads : ByteReader X) (line : Said) (files : List (List ℕ)) (reader : X) (host new_host : H) (old new : Telling M) (status : ℕ) : Type 0 where
     Refused : (source : Held X)
+        → new_host ≡ host
         → Unready reads line files (record { bytes = []; reader = reader }) source (Says writes old new) status
-        → Sounds reads line files reader old new status
+        → Sounds reads line files reader host new_host old new status
     Uncreated : (source : Held X) (prepared : Prepared) (name : List ℕ)
         → IsPrepared reads line files reader source prepared
         → file_name line.output ≡ Some name
-        → m.uncreated (file_name line.input) name
+        → (m host new_host).uncreated (file_name line.input) name
         → status ≡ 2
         → Says writes old new (open_message name)
-        → Sounds reads line files reader old new status
+        → Sounds reads line files reader host new_host old new status
     Streamed : (source left : Held X) (prepared : Prepared) (output : O) (ended : Counts O) (report : Report)
         → IsPrepared reads line files reader source prepared
         → file_name line.output ≡ None
-        → m.is_output output
+        → (m host new_host).is_output output
         → Finished reads (counted_writes d.output) (ready_for line prepared) source left (uncounted output) ended (Says writes old new) status report
-        → Sounds reads line files reader old new status
+        → Sounds reads line files reader host new_host old new status
     Filed : (source left : Held X) (prepared : Prepared) (name : List ℕ) (file ended : F)
         → IsPrepared reads line files reader source prepared
         → file_name line.output ≡ Some name
-        → m.created (file_name line.input) name file
+        → (m host new_host).created (file_name line.input) name file
         → Files reads d.created d.position writes (ready_for line prepared) source left file ended name old new status
-        → Sounds reads line files reader old new status
+        → Sounds reads line files reader host new_host old new status
 
   -- What becomes of a line whose coefficient files are there: IN could not be opened; or its sound was gone through, from standard
   -- input or from the file of IN's own name.
-  pub data Lines (o : Opened R) (line : Said) (files : List (List ℕ)) (old new : Telling M) (status : ℕ) : Type 0 where
+  pub data Lines (o : Opened H R) (line : Said) (files : List (List ℕ)) (host new_host : H) (old new : Telling M) (status : ℕ) : Type 0 where
     Unopened : (name : List ℕ)
         → file_name line.input ≡ Some name
-        → o.unopened name
+        → o.unopened host new_host name
         → status ≡ 2
         → Says writes old new (open_message name)
-        → Lines o line files old new status
-    Standard : (input : I)
+        → Lines o line files host new_host old new status
+    Standard : (next : H) (input : I)
         → file_name line.input ≡ None
-        → m.is_input input
-        → Sounds (counted_reads d.input) line files (uncounted input) old new status
-        → Lines o line files old new status
-    Named : (name : List ℕ) (reader : R)
+        → (m host next).is_input input
+        → Sounds (counted_reads d.input) line files (uncounted input) next new_host old new status
+        → Lines o line files host new_host old new status
+    Named : (next : H) (name : List ℕ) (reader : R)
         → file_name line.input ≡ Some name
-        → o.opened name reader
-        → Sounds (counted_reads d.file) line files (uncounted reader) old new status
-        → Lines o line files old new status
+        → o.opened host next name reader
+        → Sounds (counted_reads d.file) line files (uncounted reader) next new_host old new status
+        → Lines o line files host new_host old new status
 
   -- What becomes of a line: a coefficient file that it names could not be read; or there was no memory for their names; or they
   -- are there, each its own.
-  pub data Works (o : Opened R) (line : Said) (old new : Telling M) (status : ℕ) : Type 0 where
+  pub data Works (o : Opened H R) (line : Said) (host new_host : H) (old new : Telling M) (status : ℕ) : Type 0 where
     Unread : (name : List ℕ)
-        → IsUnread o.opened o.unopened (coefficient_files (effects_in line)) name
+        → IsUnread o.opened o.unopened d.file host new_host (coefficient_files (effects_in line)) name
         → status ≡ 2
         → Says writes old new (open_message name)
-        → Works o line old new status
+        → Works o line host new_host old new status
     Forgotten :
-        status ≡ status_of_line LineFaults.Memory
+        new_host ≡ host
+        → status ≡ status_of_line LineFaults.Memory
         → Says writes old new (line_message (line_label LineFaults.Memory))
-        → Works o line old new status
-    Read : (files : List (List ℕ))
-        → AreFronts o.opened d.file (coefficient_files (effects_in line)) files
-        → Lines o line files old new status
-        → Works o line old new status
+        → Works o line host new_host old new status
+    Read : (next : H) (files : List (List ℕ))
+        → AreFronts o.opened d.file host next (coefficient_files (effects_in line)) files
+        → Lines o line files next new_host old new status
+        → Works o line host new_host old new status
 
   -- A text was shown on standard output, or could not be.
-  pub data IsShown (text : List ℕ) (old new : Telling M) (status : ℕ) : Type 0 where
+  pub data IsShown (text : List ℕ) (host new_host : H) (old new : Telling M) (status : ℕ) : Type 0 where
     Whole : (output ended : O)
-        → m.is_output output
+        → (m host new_host).is_output output
         → Appends (d.output output) (d.output ended) text
         → status ≡ 0
         → new ≡ old
-        → IsShown text old new status
-    Cut :
-        status ≡ 2
+        → IsShown text host new_host old new status
+    Cut : (output : O)
+        → (m host new_host).is_output output
+        → status ≡ 2
         → Says writes old new (open_message (codes "-"))
-        → IsShown text old new status
+        → IsShown text host new_host old new status
 
   -- What the program does: the words could not be had; or they ask for a text; or they are refused; or they are a line.
-  pub data Answers (o : Opened R) (answer : List (List ℕ) → Option (List ℕ)) (old new : Telling M) (status : ℕ) : Type 0 where
+  pub data Answers (o : Opened H R) (answer : List (List ℕ) → Option (List ℕ)) (host new_host : H) (old new : Telling M) (status : ℕ) : Type 0 where
     Mute : (kind : ErrorKind) (fault : LineFault)
-        → m.mute kind
+        → (m host new_host).mute kind
         → (kind ≡ ErrorKinds.OutOfMemory → fault ≡ LineFaults.Memory)
         → (kind ≢ ErrorKinds.OutOfMemory → fault ≡ LineFaults.BadOption)
         → status ≡ status_of_line fault
         → Says writes old new (line_message (line_label fault))
-        → Answers o answer old new status
-    Shown : (words : List (List ℕ)) (text : List ℕ)
-        → m.asked words
+        → Answers o answer host new_host old new status
+    Shown : (next : H) (words : List (List ℕ)) (text : List ℕ)
+        → (m host next).asked words
         → answer words ≡ Some text
-        → IsShown text old new status
-        → Answers o answer old new status
+        → IsShown text next new_host old new status
+        → Answers o answer host new_host old new status
     BadWords : (words : List (List ℕ)) (fault : LineFault)
-        → m.asked words
+        → (m host new_host).asked words
         → answer words ≡ None
         → LineReads (line_of words) (Err fault)
         → status ≡ status_of_line fault
         → Says writes old new (line_message (line_label fault))
-        → Answers o answer old new status
-    Worked : (words : List (List ℕ)) (line : Said)
-        → m.asked words
+        → Answers o answer host new_host old new status
+    Worked : (next : H) (words : List (List ℕ)) (line : Said)
+        → (m host next).asked words
         → answer words ≡ None
         → line_of words ≡ Ok line
-        → Works o line old new status
-        → Answers o answer old new status
+        → Works o line next new_host old new status
+        → Answers o answer host new_host old new status

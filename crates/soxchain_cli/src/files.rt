@@ -41,14 +41,14 @@ fn cannot_rewrite<M: ByteOut>(telling: &mut Telling<M>, name: &str) -> u8
 
 /// Does what a line asks for, from IN to OUT, with the bytes of its coefficient files, and answers the status.
 pub fn process<H: Host, M: ByteOut>(
-    host: &H,
+    host: &mut H,
     line: &CommandLine,
     files: &[Vec<u8>],
     telling: &mut Telling<M>,
 ) -> u8
     ensures { Lines (record { input = H.Input.remaining; file = H.Reader.remaining; output = H.Output.contents; created = H.Created.contents; position = H.Created.stream_position })
-        (H.machine host.now) M.writes (record { opened = H.opened host.now; unopened = H.unopened host.now })
-        line.now (bytes_of files.now) telling.old telling.new result }
+        H.machine M.writes (record { opened = H.opened; unopened = H.unopened })
+        line.now (bytes_of files.now) host.old host.new telling.old telling.new result }
 {
     match line.input() {
         Stream::Standard => {
@@ -64,15 +64,15 @@ pub fn process<H: Host, M: ByteOut>(
 
 /// Does what a line asks for to the sound of a reader. OUT is created only once the chain stands.
 fn process_from<H: Host, R: ByteIn + Drop, M: ByteOut>(
-    host: &H,
+    host: &mut H,
     line: &CommandLine,
     files: &[Vec<u8>],
     reader: R,
     telling: &mut Telling<M>,
 ) -> u8
     ensures { Sounds (record { input = H.Input.remaining; file = H.Reader.remaining; output = H.Output.contents; created = H.Created.contents; position = H.Created.stream_position })
-        (H.machine host.now) M.writes R.reads
-        line.now (bytes_of files.now) reader telling.old telling.new result }
+        H.machine M.writes R.reads
+        line.now (bytes_of files.now) reader host.old host.new telling.old telling.new result }
 {
     let mut source = Source::new(reader);
     let prepared = match prepare_for(host.memory(), line, files, &mut source, telling) {

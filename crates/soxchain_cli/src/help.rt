@@ -41,9 +41,9 @@ The manual: man soxchain
 pub const HELP: &str = effects!(help);
 
 /// Writes an answer to standard output, and answers the status.
-pub fn tell_answer<H: Host, M: ByteOut>(host: &H, answer: &str, telling: &mut Telling<M>) -> u8
+pub fn tell_answer<H: Host, M: ByteOut>(host: &mut H, answer: &str, telling: &mut Telling<M>) -> u8
     ensures { IsShown (record { input = H.Input.remaining; file = H.Reader.remaining; output = H.Output.contents; created = H.Created.contents; position = H.Created.stream_position })
-        (H.machine host.now) M.writes answer.now telling.old telling.new result }
+        H.machine M.writes answer.now host.old host.new telling.old telling.new result }
 {
     match show(&mut host.output(), answer) {
         Ok(()) => 0,

@@ -16,7 +16,8 @@ use std::fs::File;
 use std::io;
 use std::io::{Read, Seek, Stdin, Stdout, Write};
 
-/// What the program asks of the machine. What it does with the answers is proved over any such machine.
+/// What the program asks of the machine. What it does with the answers is proved over any such machine. It is another one after
+/// each call, as one that opens files is: so what is proved says all that the program asks, and in which order.
 pub trait Host: Openings {
     /// Standard input.
     type Input: Read + Drop;
@@ -27,35 +28,35 @@ pub trait Host: Openings {
     /// A file that was created.
     type Created: Write + Seek + Drop;
 
-    // What it answered.
-    ghost machine: { Self → Machine Self.Input Self.Output Self.Created };
+    // What it answered to the call between the one and the other.
+    ghost machine: { Self → Self → Machine Self.Input Self.Output Self.Created };
 
     /// Where memory comes from.
     fn memory(&self) -> Global;
 
     /// The words behind the program's name.
-    fn words(&self) -> io::Result<Vec<String>>
-        ensures words { IfOk result (λ words. (machine self.now).asked (texts words.items)) }
-        ensures refused { IfErr result (λ error. (machine self.now).mute (error_kind error)) };
+    fn words(&mut self) -> io::Result<Vec<String>>
+        ensures words { IfOk result (λ words. (machine self.old self.new).asked (texts words.items)) }
+        ensures refused { IfErr result (λ error. (machine self.old self.new).mute (error_kind error)) };
 
     /// Standard input.
-    fn input(&self) -> Self::Input
-        ensures { (machine self.now).is_input result };
+    fn input(&mut self) -> Self::Input
+        ensures { (machine self.old self.new).is_input result };
 
     /// Standard output.
-    fn output(&self) -> Self::Output
-        ensures { (machine self.now).is_output result };
+    fn output(&mut self) -> Self::Output
+        ensures { (machine self.old self.new).is_output result };
 
     /// Creates the file of this name, or empties an older one, once a new chain stands. Refused where it is the input.
     fn create(
-        &self,
+        &mut self,
         input: Stream<'_>,
         name: &str,
         prepared: &Prepared,
     ) -> io::Result<Self::Created>
         requires { IsNewChain (planning prepared.now.plan) prepared.now.chain }
-        ensures created { IfOk result (λ file. (machine self.now).created (name_in input.entry) name.now file) }
-        ensures refused { IfErr result (λ _. (machine self.now).uncreated (name_in input.entry) name.now) };
+        ensures created { IfOk result (λ file. (machine self.old self.new).created (name_in input.entry) name.now file) }
+        ensures refused { IfErr result (λ _. (machine self.old self.new).uncreated (name_in input.entry) name.now) };
 }
 
 impl Host for HostRuntime {
@@ -66,25 +67,25 @@ impl Host for HostRuntime {
     type Created = File;
 
     // Of the machine itself nothing is known.
-    ghost machine = { λ _. record { asked = λ _. ⊤; mute = λ _. ⊤; is_input = λ _. ⊤; is_output = λ _. ⊤; created = λ _ _ _. ⊤; uncreated = λ _ _. ⊤ } };
+    ghost machine = { λ _ _. record { asked = λ _. ⊤; mute = λ _. ⊤; is_input = λ _. ⊤; is_output = λ _. ⊤; created = λ _ _ _. ⊤; uncreated = λ _ _. ⊤ } };
 
     fn memory(&self) -> Global {
         self.alloc()
     }
 
-    fn words(&self) -> io::Result<Vec<String>> {
+    fn words(&mut self) -> io::Result<Vec<String>> {
         words_of(self)
     }
 
-    fn input(&self) -> Stdin {
+    fn input(&mut self) -> Stdin {
         self.stdin()
     }
 
-    fn output(&self) -> Stdout {
+    fn output(&mut self) -> Stdout {
         self.stdout()
     }
 
-    fn create(&self, input: Stream<'_>, name: &str, _prepared: &Prepared) -> io::Result<File> {
+    fn create(&mut self, input: Stream<'_>, name: &str, _prepared: &Prepared) -> io::Result<File> {
         create_beside(self, input, name)
     }
 }

@@ -19,10 +19,10 @@ use soxchain_words::{FilesFault, VERSION, answer_to, fault_of, read_files};
 use std::process::ExitCode;
 
 /// Does what a line asks for, and answers the status.
-fn work_line<H: Host, M: ByteOut>(host: &H, line: &CommandLine, telling: &mut Telling<M>) -> u8
+fn work_line<H: Host, M: ByteOut>(host: &mut H, line: &CommandLine, telling: &mut Telling<M>) -> u8
     ensures { Works (record { input = H.Input.remaining; file = H.Reader.remaining; output = H.Output.contents; created = H.Created.contents; position = H.Created.stream_position })
-        (H.machine host.now) M.writes (record { opened = H.opened host.now; unopened = H.unopened host.now })
-        line.now telling.old telling.new result }
+        H.machine M.writes (record { opened = H.opened; unopened = H.unopened })
+        line.now host.old host.new telling.old telling.new result }
 {
     let files = match read_files(host.memory(), host, line) {
         Ok(files) => files,
@@ -33,10 +33,10 @@ fn work_line<H: Host, M: ByteOut>(host: &H, line: &CommandLine, telling: &mut Te
 }
 
 /// Does what the words ask for, and answers the status.
-fn work<H: Host, M: ByteOut>(host: &H, telling: &mut Telling<M>) -> u8
+fn work<H: Host, M: ByteOut>(host: &mut H, telling: &mut Telling<M>) -> u8
     ensures { Answers (record { input = H.Input.remaining; file = H.Reader.remaining; output = H.Output.contents; created = H.Created.contents; position = H.Created.stream_position })
-        (H.machine host.now) M.writes (record { opened = H.opened host.now; unopened = H.unopened host.now })
-        (answer_of HELP.now VERSION.now) telling.old telling.new result }
+        H.machine M.writes (record { opened = H.opened; unopened = H.unopened })
+        (answer_of HELP.now VERSION.now) host.old host.new telling.old telling.new result }
 {
     let words = match host.words() {
         Ok(words) => words,
@@ -52,7 +52,8 @@ fn work<H: Host, M: ByteOut>(host: &H, telling: &mut Telling<M>) -> u8
 }
 
 fn main(rt: HostRuntime) -> ExitCode {
-    let mut messages = Counted::new(rt.stderr());
+    let mut host = rt;
+    let mut messages = Counted::new(host.stderr());
     let mut telling = Telling::new(&mut messages);
-    ExitCode::from(work(&rt, &mut telling))
+    ExitCode::from(work(&mut host, &mut telling))
 }

@@ -74,7 +74,7 @@ fn plan_line(
 }
 
 /// Does what a command line asks for, and answers the status.
-fn answer_line(rt: &HostRuntime, style: Style, line: &CommandLine) -> u8 {
+fn answer_line(rt: &mut HostRuntime, style: Style, line: &CommandLine) -> u8 {
     let files = match read_files(rt.alloc(), rt, line) {
         Ok(files) => files,
         Err(FilesFault::CannotRead(name)) => {
@@ -90,7 +90,7 @@ fn answer_line(rt: &HostRuntime, style: Style, line: &CommandLine) -> u8 {
 }
 
 /// Does what the words ask for, and answers the status.
-fn answer_words(rt: &HostRuntime, words: &[String]) -> u8 {
+fn answer_words(rt: &mut HostRuntime, words: &[String]) -> u8 {
     if let Some(text) = answer_to(words, HELP, VERSION) {
         return shown(rt, show(&mut rt.stdout(), text));
     }
@@ -102,9 +102,10 @@ fn answer_words(rt: &HostRuntime, words: &[String]) -> u8 {
 }
 
 fn main(rt: HostRuntime) -> ExitCode {
-    let status = match words_of(&rt) {
-        Ok(words) => answer_words(&rt, &words),
-        Err(error) => stopped(&rt, Style::Text, &Stop::Line(fault_of(&error))),
+    let mut host = rt;
+    let status = match words_of(&host) {
+        Ok(words) => answer_words(&mut host, &words),
+        Err(error) => stopped(&host, Style::Text, &Stop::Line(fault_of(&error))),
     };
     ExitCode::from(status)
 }

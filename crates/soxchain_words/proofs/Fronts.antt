@@ -1,10 +1,9 @@
 -- What is read up to a limit.
-use Rattle.std.proofs.Common.{◌≡◌, ◌<◌, ◌+◌, ℕ, List, [], ◌∷◌, ◌++◌, arith, length, map, slice_get, slice_index_or, inl, inr, zero, suc, Bor, refl}
-use Rattle.std.specs.Prelude.{Option, Some, None, IfSome, option_map, take, min, Result, Ok, Err, IfOk, OnErr}
-use Rattle.std.proofs.lemmas.Bool.{cases_lt, le-ltb, lt-ltb}
-use Rattle.std.proofs.lemmas.List.{get_or_append_left, length-append}
-use Rattle.std.proofs.Math.Seq.{get_or-append_seam}
-use Rattle.soxchain_words.specs.Files.{IsFront, kept_with}
+use Rattle.std.proofs.Common.{◌≡◌, ◌<◌, ◌≤◌, ◌+◌, ℕ, List, [], ◌∷◌, ◌++◌, ◌∙◌, ap, arith, false, length, map, nat_lt, slice_get, slice_index_or, inl, inr, sym, zero, suc, Bor, refl}
+use Rattle.std.specs.Prelude.{Option, Some, None, IfSome, option_map, take, Result, Ok, Err, IfOk, OnErr}
+use Rattle.std.proofs.lemmas.Bool.{cases_lt, lt-ltb}
+use Rattle.std.proofs.lemmas.List.{length-append, length-take, take_all, take_more}
+use Rattle.soxchain_words.specs.Files.{AreRead, IsFront, kept_with}
 use Rattle.std.specs.Io.Take.{take_remaining}
 use Rattle.std.specs.declared.io.traits.Take.{Take}
 
@@ -22,36 +21,49 @@ pub each-ok : {X E : Type 0} {P Q : X → Type 0} (r : Result X E) → ((x : X) 
 each-ok (Ok x) follows h = follows x h
 each-ok (Err e) follows h = tt
 
--- each of the files read so far has the bytes of the name at its place
-abbrev pub AreRead : {R : Type 0} → (List ℕ → R → Type 0) → (R → Option (List ℕ)) → List (List ℕ) → List (List ℕ) → Type 0
-AreRead opened remaining names files = (place : ℕ) → place < length files → IsFront opened remaining (slice_index_or names place []) (slice_index_or files place [])
+-- one more file was read behind those that were
+read-more : {H R : Type 0} (opened : H → H → List ℕ → R → Type 0) (remaining : R → Option (List ℕ)) (old mid new : H) (names files : List (List ℕ)) (name bytes : List ℕ)
+    → AreRead opened remaining old mid names files → IsFront (opened mid new) remaining name bytes → AreRead opened remaining old new (names ++ name ∷ []) (files ++ bytes ∷ [])
+read-more opened remaining old mid new [] [] name bytes are front = (new, rw are at front, refl)
+read-more opened remaining old mid new (n ∷ names) (f ∷ files) name bytes are front = (are.0, are.1, read-more opened remaining are.0 mid new names files name bytes are.2 front)
+read-more opened remaining old mid new [] (f ∷ files) name bytes are front = absurd are
+read-more opened remaining old mid new (n ∷ names) [] name bytes are front = absurd are
 
--- and so has one more
-pub one-more : {R : Type 0} (opened : List ℕ → R → Type 0) (remaining : R → Option (List ℕ)) (names files : List (List ℕ)) (bytes : List ℕ)
-    → AreRead opened remaining names files → IsFront opened remaining (slice_index_or names (length files) []) bytes → AreRead opened remaining names (files ++ bytes ∷ [])
-one-more opened remaining names files bytes each new place h = elim (cases_lt place (length files)) [
-  | inl before ↦ rw (get_or_append_left files (bytes ∷ []) [] place before) (each place before)
-  | inr behind ↦
-      let e : place ≡ length files = omega (arith, length-append files (bytes ∷ [])) in
-      rw (e, get_or-append_seam files bytes [] []) new
+front-of : (n : ℕ) (xs ys : List (List ℕ)) → n ≤ length xs → take n (xs ++ ys) ≡ take n xs
+front-of zero xs ys h = refl
+front-of (suc n) [] ys h = absurd (omega (arith, h))
+front-of (suc n) (x ∷ xs) ys h = ap (λ l. x ∷ l) (front-of n xs ys (omega (arith, h)))
+
+-- the first of all and one more are those that are kept
+kept-more : (all : List (List ℕ)) (bytes : List ℕ) → kept_with (take 32 all) bytes ≡ take 32 (all ++ bytes ∷ [])
+kept-more all bytes = elim (cases_lt (length all) 32) [
+  | inl few ↦
+      let whole : take 32 all ≡ all = take_all 32 all (omega (arith, few)) in
+      let more : take 32 (all ++ bytes ∷ []) ≡ all ++ bytes ∷ [] = take_all 32 (all ++ bytes ∷ []) (omega (arith, few, length-append all (bytes ∷ []))) in
+      rw (whole, lt-ltb (length all) 32 few) (sym more)
+  | inr many ↦
+      let long : length (take 32 all) ≡ 32 = omega (arith, many, length-take 32 all) in
+      let full : nat_lt (length (take 32 all)) 32 ≡ false = rw long refl in
+      rw full (sym (front-of 32 all (bytes ∷ []) many))
 ]
 
--- of the names up to a place, each has its bytes, and the first 32 are there
-pub record AreSoFar {R : Type 0} (opened : List ℕ → R → Type 0) (remaining : R → Option (List ℕ)) (names files : List (List ℕ)) (place : ℕ) : Type 0 where
-  pub count : length files ≡ min 32 place
-  pub each : AreRead opened remaining names files
+-- the files of the names up to a place were read, and the first 32 are there
+pub record AreSoFar {H R : Type 0} (opened : H → H → List ℕ → R → Type 0) (remaining : R → Option (List ℕ)) (old now : H) (names files : List (List ℕ)) (place : ℕ) : Type 0 where
+  pub all : List (List ℕ)
+  pub read : AreRead opened remaining old now (take place names) all
+  pub kept : files ≡ take 32 all
 
 -- and so it is one place on
-pub one-on : {R : Type 0} (opened : List ℕ → R → Type 0) (remaining : R → Option (List ℕ)) (names files : List (List ℕ)) (place : ℕ) (name bytes : List ℕ)
-    → AreSoFar opened remaining names files place → slice_index_or names place [] ≡ name → IsFront opened remaining name bytes
-    → AreSoFar opened remaining names (kept_with files bytes) (place + 1)
-one-on opened remaining names files place name bytes far e new = elim (cases_lt (length files) 32) [
-  | inl few ↦
-      let here : length files ≡ place = omega (arith, far.count) in
-      let there = one-more opened remaining names files bytes far.each (rw (here, e) new) in
-      rw (lt-ltb (length files) 32 few) record { count = omega (arith, length-append files (bytes ∷ []), far.count); each = there }
-  | inr many ↦ rw (le-ltb (length files) 32 many) record { count = omega (arith, far.count); each = far.each }
-]
+pub one-on : {H R : Type 0} (opened : H → H → List ℕ → R → Type 0) (remaining : R → Option (List ℕ)) (old mid new : H) (names files : List (List ℕ)) (place : ℕ) (name bytes : List ℕ)
+    → AreSoFar opened remaining old mid names files place → place < length names → slice_index_or names place [] ≡ name → IsFront (opened mid new) remaining name bytes
+    → AreSoFar opened remaining old new names (kept_with files bytes) (place + 1)
+one-on opened remaining old mid new names files place name bytes far within e front =
+    let more = read-more opened remaining old mid new (take place names) far.all name bytes far.read front in
+    record {
+      all = far.all ++ bytes ∷ [];
+      read = rw (take_more names place [] within, e) more;
+      kept = ap (λ l. kept_with l bytes) far.kept ∙ kept-more far.all bytes;
+    }
 
 -- the name at a place of a list of names
 pub name-there : (names : List (Bor (List ℕ))) (place : ℕ) (d : Bor (List ℕ)) → place < length names → slice_get (map (λ n. n.now) names) place ≡ Some (slice_index_or names place d).now

@@ -16,31 +16,32 @@ const MOST_READ: u64 = 0x10_0001;
 /// The most files whose bytes are kept: as many as a line may have effects.
 const MOST_KEPT: usize = 32;
 
-/// What opens files to read.
+/// What opens files to read. It is another one after each call: so contracts say which calls there were, and that there was no
+/// other.
 pub trait Openings {
     type Reader: Read + Drop;
 
-    // Was the file of this name opened so?
-    ghost opened: { Self → List ℕ → Self.Reader → Type 0 };
+    // Was the file of this name opened so, between the one and the other?
+    ghost opened: { Self → Self → List ℕ → Self.Reader → Type 0 };
 
-    // Was an opening of the file of this name refused?
-    ghost unopened: { Self → List ℕ → Type 0 };
+    // Was an opening of the file of this name refused between them?
+    ghost unopened: { Self → Self → List ℕ → Type 0 };
 
     /// Opens the file of this name.
-    fn open(&self, name: &str) -> io::Result<Self::Reader>
-        ensures opened { IfOk result (λ reader. opened self.now name.now reader) }
-        ensures refused { IfErr result (λ _. unopened self.now name.now) };
+    fn open(&mut self, name: &str) -> io::Result<Self::Reader>
+        ensures opened { IfOk result (λ reader. opened self.old self.new name.now reader) }
+        ensures refused { IfErr result (λ _. unopened self.old self.new name.now) };
 }
 
 impl Openings for HostRuntime {
     type Reader = File;
 
     // Of the files of the machine nothing is known.
-    ghost opened = { λ _ _ _. ⊤ };
+    ghost opened = { λ _ _ _ _. ⊤ };
 
-    ghost unopened = { λ _ _. ⊤ };
+    ghost unopened = { λ _ _ _. ⊤ };
 
-    fn open(&self, name: &str) -> io::Result<File> {
+    fn open(&mut self, name: &str) -> io::Result<File> {
         File::open(self, name)
     }
 }
@@ -55,9 +56,9 @@ fn read_front<R: Read + Drop>(alloc: Global, reader: R) -> io::Result<Vec<u8>>
 }
 
 /// The first bytes of the file of this name.
-fn read_file<H: Openings>(alloc: Global, host: &H, name: &str) -> io::Result<Vec<u8>>
-    ensures read { IfOk result (λ bytes. IsFront (H.opened host.now) H.Reader.remaining name.now bytes.items) }
-    ensures asked { OnErr result (IsAsked (H.opened host.now) (H.unopened host.now) name.now) }
+fn read_file<H: Openings>(alloc: Global, host: &mut H, name: &str) -> io::Result<Vec<u8>>
+    ensures read { IfOk result (λ bytes. IsFront (H.opened host.old host.new) H.Reader.remaining name.now bytes.items) }
+    ensures asked { OnErr result (IsAsked (H.opened host.old host.new) (H.unopened host.old host.new) name.now) }
 {
     let reader = host.open(name)?;
     read_front(alloc, reader)
@@ -65,9 +66,9 @@ fn read_file<H: Openings>(alloc: Global, host: &H, name: &str) -> io::Result<Vec
 
 /// Reads the file of this name, and adds its bytes to those of the files before it where they are to be kept. False where it
 /// cannot be opened or read, or its bytes find no memory.
-fn read_next<H: Openings>(alloc: Global, host: &H, name: &str, files: &mut Vec<Vec<u8>>) -> bool
-    ensures asked { result ≡ false → IsAsked (H.opened host.now) (H.unopened host.now) name.now }
-    ensures read { result ≡ true → (bytes : List ℕ) × IsFront (H.opened host.now) H.Reader.remaining name.now bytes × (bytes_of files.new.items ≡ kept_with (bytes_of files.old.items) bytes) }
+fn read_next<H: Openings>(alloc: Global, host: &mut H, name: &str, files: &mut Vec<Vec<u8>>) -> bool
+    ensures asked { result ≡ false → IsAsked (H.opened host.old host.new) (H.unopened host.old host.new) name.now }
+    ensures read { result ≡ true → (bytes : List ℕ) × IsFront (H.opened host.old host.new) H.Reader.remaining name.now bytes × (bytes_of files.new.items ≡ kept_with (bytes_of files.old.items) bytes) }
 {
     let Ok(bytes) = read_file(alloc, host, name) else {
         return false;
@@ -85,14 +86,15 @@ pub enum FilesFault<'a> {
 }
 
 /// The bytes of the coefficient files, in the order of the effects; or why they are not there, which is told of the first file
-/// that cannot be read. Each is read once. Only the first 32 are kept, since a line of more effects is refused.
+/// that cannot be read. Each is opened and read once, in that order, and no other file is. Only the first 32 are kept, since a
+/// line of more effects is refused.
 pub fn read_files<'a, H: Openings>(
     alloc: Global,
-    host: &H,
+    host: &mut H,
     line: &'a CommandLine,
 ) -> Result<Vec<Vec<u8>>, FilesFault<'a>>
-    ensures each { IfOk result (λ files. AreFronts (H.opened host.now) H.Reader.remaining (coefficient_files (effects_in line.now)) (bytes_of files.items)) }
-    ensures named { IfErr result (IsOfFiles (H.opened host.now) (H.unopened host.now) (coefficient_files (effects_in line.now))) }
+    ensures each { IfOk result (λ files. AreFronts H.opened H.Reader.remaining host.old host.new (coefficient_files (effects_in line.now)) (bytes_of files.items)) }
+    ensures named { IfErr result (IsOfFiles H.opened H.unopened H.Reader.remaining host.old host.new (coefficient_files (effects_in line.now))) }
 {
     let Ok(names) = line.coefficient_files(alloc) else {
         return Err(FilesFault::Memory);

@@ -9,11 +9,11 @@ pub returns-in-Err : goal.returns-in-Err
 returns-in-Err g c = Mute (error_kind c.in-Err.error) c.fault_of.result c.in-Err.ensures.refused c.fault_of.ensures.memory c.fault_of.ensures.words c.refuse_line.ensures.status c.refuse_line.ensures.told
 
 pub returns-in-Some : goal.returns-in-Some
-returns-in-Some g c = Shown (texts c.in-Ok.words.items) c.in-Some.answer.now c.in-Ok.ensures.words (rw (c.deref.ensures.value) at (sym c.in-Some.ensures)) c.tell_answer.ensures
+returns-in-Some g c = Shown c.words.new.self (texts c.in-Ok.words.items) c.in-Some.answer.now c.in-Ok.ensures.words (rw (c.deref.ensures.value) at (sym c.in-Some.ensures)) c.tell_answer.ensures
 
 pub returns-in-Ok-parse_line : goal.returns-in-Ok-parse_line
 returns-in-Ok-parse_line g c =
-    Worked (texts c.in-Ok.words.items) c.in-Ok-parse_line.line c.in-Ok.ensures.words
+    Worked c.words.new.self (texts c.in-Ok.words.items) c.in-Ok-parse_line.line c.in-Ok.ensures.words
     (rw (c.deref.ensures.value) at (sym c.in_default.ensures))
     (rw (c.deref-2.ensures.value) at (line-read _ c.in-Ok-parse_line.line c.in-Ok-parse_line.ensures))
     c.work_line.ensures

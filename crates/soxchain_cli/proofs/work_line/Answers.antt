@@ -6,4 +6,4 @@ pub returns-in-Err-CannotRead : goal.returns-in-Err-CannotRead
 returns-in-Err-CannotRead g c = Unread c.in-Err-CannotRead.name.now (rw (c.in-Err-CannotRead.field-0-is) at c.in-Err-CannotRead.ensures.named) c.cannot_open.ensures.status c.cannot_open.ensures.told
 
 pub returns : goal.returns
-returns g c = Read (bytes_of c.in-Ok.files.items) c.in-Ok.ensures.each (rw (c.deref.ensures.value) at c.process.ensures)
+returns g c = Read c.read_files.new.host (bytes_of c.in-Ok.files.items) c.in-Ok.ensures.each (rw (c.deref.ensures.value) at c.process.ensures)

@@ -6,13 +6,13 @@ use Rattle.soxchain_cli.proofs.files.process.Goals as goal
 pub returns-in-Standard : goal.returns-in-Standard
 returns-in-Standard g c =
     let fresh = c.new-reader.ensures in
-    Standard c.input-in-Standard.result (sym c.in-Standard.ensures) c.input-in-Standard.ensures
+    Standard c.input-in-Standard.new.self c.input-in-Standard.result (sym c.in-Standard.ensures) c.input-in-Standard.ensures
     (rw (uncounted-is c.new-reader.result c.input-in-Standard.result fresh.inner fresh.told fresh.failures fresh.flushed) at c.process_from.ensures)
 
 pub returns-in-Ok : goal.returns-in-Ok
 returns-in-Ok g c =
     let fresh = c.new.ensures in
-    Named c.in-Named.name.now c.in-Ok.file (sym c.in-Named.ensures) c.in-Ok.ensures.opened
+    Named c.open.new.self c.in-Named.name.now c.in-Ok.file (sym c.in-Named.ensures) c.in-Ok.ensures.opened
     (rw (uncounted-is c.new.result c.in-Ok.file fresh.inner fresh.told fresh.failures fresh.flushed) at c.process_from-in-Ok.ensures)
 
 pub returns-in-Err : goal.returns-in-Err

@@ -1,4 +1,4 @@
-use Rattle.std.proofs.Common.{◌∙◌, ap, sym}
+use Rattle.std.proofs.Common.{◌∙◌, ap, refl, sym}
 use Rattle.soxchain.proofs.Converting.{held-is}
 use Rattle.soxchain_cli.specs.Working.{Refused, Uncreated, Streamed, Filed}
 use Rattle.soxchain_cli.proofs.Uncounted.{uncounted-is}
@@ -7,7 +7,7 @@ use Rattle.soxchain_cli.proofs.files.process_from.Goals as goal
 pub returns-in-Err : goal.returns-in-Err
 returns-in-Err g c =
     let new = c.new-source.ensures in
-    Refused c.prepare_for.new.source (rw (held-is c.new-source.result c.args.reader new.bytes new.reader) at c.in-Err.ensures.refused)
+    Refused c.prepare_for.new.source refl (rw (held-is c.new-source.result c.args.reader new.bytes new.reader) at c.in-Err.ensures.refused)
 
 pub returns-in-Standard : goal.returns-in-Standard
 returns-in-Standard g c =
