@@ -1,4 +1,4 @@
-# What this repository makes. It needs the Rattle kit (the command rt), bash, make, a C compiler and Python 3.
+# What this repository makes. It needs the Rattle kit (the command rt), bash, make, a C compiler and Python 3.11.
 SHELL := /bin/bash
 .SHELLFLAGS := -eu -o pipefail -c
 SOURCES = crates.txt $(shell find crates -type f -not -path '*/out/*')
