@@ -1,11 +1,22 @@
 """The effects as effects/ has them: a list of their names, in the order in which programs, rules and documents list them, and of
 each an entry, what the files that all effects share say of it."""
 import os
+import sys
 import tomllib
 
 import sounds
 
 FOLDER = os.path.join(sounds.TOP, 'effects')
+# Of each table of an entry the keys that it needs, those that only an effect with words has, which has all of them, and others.
+KEYS = {
+    'effect': ('doc copy', 'type argument', 'line most_frames layout_after channels_after'),
+    'act': ('settled uses', 'type value of', 'layout_after channels_after fits is_usable fits_layout recipe rises limits_use'),
+    'words': ('reader read faults uses', 'says equal', ''),
+    'stage': ('takes_memory placed sound stored uses', '', 'made form by_samples keeps'),
+    'help': ('help_line usage limits instead manual', '', 'title'),
+}
+# The values that a key may have, where these are few.
+VALUES = {'stage.takes_memory': (True, False), 'stage.stored': ('line', 'hand'), 'stage.form': ('Mapped', 'Tapped'), 'stage.by_samples': (True,)}
 
 
 def effect_names():
@@ -15,12 +26,36 @@ def effect_names():
     return [line for line in lines if line and not line.startswith('#')]
 
 
+def fault_of(name, tables):
+    """What is wrong of an entry, or None: a key that is misspelt or wanting would else be an effect that has it not."""
+    has_words = 'type' in tables.get('effect', {})
+    known = {'name', 'variant', 'crate', *KEYS}
+    if tables.keys() != known:
+        return 'on top stands ' + ' or '.join(sorted(tables.keys() ^ known)) + ', which is wrong or wanting'
+    if tables['name'] != name:
+        return f'its name is {tables["name"]}'
+    for table, (needed, of_words, others) in KEYS.items():
+        here, wanted = tables[table].keys(), set(needed.split() + (of_words.split() if has_words else []))
+        if wanted - here:
+            return f'{table}.{min(wanted - here)} is wanting'
+        if here - wanted - set(others.split()):
+            return f'{table}.{min(here - wanted - set(others.split()))} is no key of it'
+    for key, values in VALUES.items():
+        table, part = key.split('.')
+        if tables[table].get(part, values[0]) not in values:
+            return f'{key} is none of ' + ', '.join(map(str, values))
+    return None
+
+
 class Effect:
     """An entry, effects/NAME.toml: its name, its variant and its crate, and a table for each crate that shares files."""
 
     def __init__(self, name):
         with open(os.path.join(FOLDER, f'{name}.toml'), 'rb') as file:
             self.tables = tomllib.load(file)
+        fault = fault_of(name, self.tables)
+        if fault:
+            sys.exit(f'effects/{name}.toml: {fault}')
         self.name = name
         self.variant = self.tables['variant']
         self.crate = self.tables['crate']

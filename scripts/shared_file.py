@@ -1,8 +1,12 @@
 """A file that all effects share, and what it is to be."""
 import os
 import re
+import textwrap
 
 import sounds
+
+# As many letters of a line of code as `rt fmt` leaves together.
+WIDTH_OF_CODE = 100
 
 
 class SharedFile:
@@ -63,19 +67,22 @@ class SharedFile:
 
     def use_code(self, path, names):
         """The same of a `use` of code, whose names stand by the alphabet. A new one comes in front of the first behind it."""
-        found = re.search(rf'^((?:pub )?use ){re.escape(path)}::(?:\{{(.*)\}}|(\w+));$', self.text, re.MULTILINE)
-        here = set(names) | (set((found.group(2) or found.group(3)).split(', ')) if found else set())
+        found = re.search(rf'^((?:pub )?use ){re.escape(path)}::(?:\{{([^}}]*)\}}|(\w+));$', self.text, re.MULTILINE)
+        here = set(names) | (set(re.findall(r'\w+', found.group(2) or found.group(3))) if found else set())
         # Names of types stand in front of names of functions.
         listed = sorted(here, key=lambda name: (name[0].islower(), name))
-        line = f'{path}::{listed[0]};' if len(listed) == 1 else f'{path}::{{{", ".join(listed)}}};'
-        if found:
-            self.text = f'{self.text[:found.start()]}{found.group(1)}{line}{self.text[found.end():]}'
-            return
         uses = list(re.finditer(r'^((?:pub )?use )[^{].*?;\n', self.text, re.MULTILINE | re.DOTALL))
-        word = uses[0].group(1)
-        behind = [use for use in uses if use.group() > word + line]
+        word = found.group(1) if found else uses[0].group(1)
+        line = word + (f'{path}::{listed[0]};' if len(listed) == 1 else f'{path}::{{{", ".join(listed)}}};')
+        if len(line) > WIDTH_OF_CODE:
+            names_in_lines = textwrap.fill(', '.join(listed) + ',', WIDTH_OF_CODE, initial_indent='    ', subsequent_indent='    ')
+            line = f'{word}{path}::{{\n{names_in_lines}\n}};'
+        if found:
+            self.text = self.text[:found.start()] + line + self.text[found.end():]
+            return
+        behind = [use for use in uses if use.group() > line]
         at = behind[0].start() if behind else uses[-1].end()
-        self.text = f'{self.text[:at]}{word}{line}\n{self.text[at:]}'
+        self.text = f'{self.text[:at]}{line}\n{self.text[at:]}'
 
     def module(self, name):
         """Has the list of modules of code name this one, by the alphabet."""
