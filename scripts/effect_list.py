@@ -13,7 +13,7 @@ KEYS = {
     'act': ('settled uses', 'type value of', 'layout_after channels_after fits is_usable fits_layout recipe rises limits_use'),
     'words': ('reader read faults uses', 'says equal', ''),
     'stage': ('takes_memory placed sound stored uses', '', 'made form by_samples keeps'),
-    'help': ('help_line usage limits instead manual', '', 'title'),
+    'help': ('help_line usage limits instead manual', '', 'title picture'),
 }
 # The values that a key may have, where these are few.
 VALUES = {'stage.takes_memory': (True, False), 'stage.stored': ('line', 'hand'), 'stage.form': ('Mapped', 'Tapped'), 'stage.by_samples': (True,)}
