@@ -1,3 +1,6 @@
+pub mod Heads
 pub mod Outlines
+pub mod Quoted
+pub mod Shown
 pub mod Stops
 pub mod Styles

@@ -1,39 +1,60 @@
-//! What each effect does to the number of frames, of channels and of bytes, and how late it gives. Numbers past 64 bits stay
-//! at the greatest one.
+//! What each effect does to the number of frames, of channels and of bytes, and how late it gives.
+ghost use Rattle.std.specs.Prelude.{◌≡◌, ◌*◌, ◌+◌, ◌-◌, ◌^◌, ◌≤◌, List, filter, if◌then◌else◌, length, min, sum_by, ℕ};
+ghost use Rattle.fx_step.specs.Frame.{Samples};
+ghost use Rattle.fx_cut.specs.Fade.{stop_in, until};
+ghost use Rattle.fx_cut.specs.Pad.{is_inside};
+ghost use Rattle.fx_cut.specs.TrimState.{kept_count};
+ghost use Rattle.fx_effects.specs.Effects.{Usable, act};
+ghost use Rattle.fx_effects.specs.Meanings.{InPlace, line_of, meaning_at, recipe_at};
+ghost use Rattle.fx_fixed.specs.Extents.{meant, pad_length};
+ghost use Rattle.fx_fixed.specs.Positions.{place_of};
+ghost use Rattle.soxchain_plan.specs.Outlines.{held_bytes};
 
 use fx_cut::fade::words::Fading;
 use fx_effects::Effect;
 use fx_fixed::At;
 
 /// The place of a position in a sound of so many frames.
-fn place(position: At, frames: u64) -> u64 {
+fn place(position: At, frames: u64) -> u64
+    ensures { result ≡ place_of frames position }
+{
     match position {
         At::Start(from_start) => from_start,
         At::End(from_end) => frames.saturating_sub(from_end),
     }
 }
 
+/// The frames from one place on to another, where they are kept.
+fn between(is_keeping: bool, from: u64, to: u64) -> u64
+    ensures { result ≡ (if is_keeping then to - from else 0) }
+{
+    if is_keeping {
+        to.saturating_sub(from)
+    } else {
+        0
+    }
+}
+
 /// How many of so many frames lie between the positions, in turn.
-fn kept(positions: &[At], frames: u64) -> u64 {
-    let mut kept = 0u64;
-    let mut from = 0;
+fn kept(positions: &[At], frames: u64) -> u64
+    ensures { result ≡ kept_count positions.now frames frames }
+{
+    let mut kept = 0;
+    let mut from: u64 = 0;
     let mut is_keeping = false;
-    for position in positions.iter() {
-        let to = place(*position, frames).max(from);
-        if is_keeping {
-            kept = kept.saturating_add(to.min(frames).saturating_sub(from));
-        }
+    for position in positions {
+        let to = from.max(frames.min(place(*position, frames)));
+        kept += between(is_keeping, from, to);
         is_keeping = !is_keeping;
         from = to;
     }
-    if is_keeping {
-        kept = kept.saturating_add(frames.saturating_sub(from));
-    }
-    kept
+    kept + between(is_keeping, from, frames)
 }
 
-/// The silence that pads put into so many frames. One behind the end is left out.
-fn silence(pads: &[(u64, At)], frames: u64) -> u64 {
+/// The silence that pads put into so many frames, or `u64::MAX` where it is more. One behind the end is left out.
+fn silence(pads: &[(u64, At)], frames: u64) -> u64
+    ensures { result ≡ min (sum_by pad_length (filter (is_inside frames) pads.now)) (2 ^ 64 - 1) }
+{
     let mut silence = 0u64;
     for (length, position) in pads.iter() {
         if place(*position, frames) <= frames {
@@ -44,23 +65,30 @@ fn silence(pads: &[(u64, At)], frames: u64) -> u64 {
 }
 
 /// How many of so many frames a fade leaves.
-fn before_stop(fading: &Fading, frames: u64) -> u64 {
+fn before_stop(fading: &Fading, frames: u64) -> u64
+    ensures { result ≡ until (stop_in frames (meant fading.now.stop)) frames }
+{
     match fading.stop {
         None | Some(At::Start(0)) => frames,
         Some(stop) => place(stop, frames).min(frames),
     }
 }
 
-/// How many frames an effect makes of so many; `line` are the places of its line.
-pub fn frames_behind(effect: &Effect, line: u64, frames: u64) -> u64 {
+/// How many frames an effect makes of so many, or `u64::MAX` where it is more; `line` are the places of its line.
+pub fn frames_behind(effect: &Effect, line: u64, frames: u64) -> u64
+    requires usable { Usable (act effect.now) }
+    requires lined { line ≡ min (line_of (act effect.now)) (2 ^ 64 - 1) }
+    ensures { (channels : ℕ) (xs : List Samples) → length xs ≡ frames
+        → result ≡ min (length (meaning_at (recipe_at (InPlace channels (act effect.now))) xs)) (2 ^ 64 - 1) }
+{
     match effect {
         Effect::Trim(positions) => kept(positions, frames),
         Effect::Pad(pads) => frames.saturating_add(silence(pads, frames)),
         Effect::Fade(fading) => before_stop(fading, frames),
         Effect::Delay(_) | Effect::Echo(_) | Effect::Echos(_) => frames.saturating_add(line),
         Effect::Upsample(factor) => frames.saturating_mul(u64::from(*factor)),
-        Effect::Downsample(factor) => frames.div_ceil(u64::from((*factor).max(1))),
-        _ => frames,
+        Effect::Downsample(factor) => frames.div_ceil(u64::from(*factor)),
+        Effect::Vol(_) | Effect::DcShift(_) | Effect::Fir(_) | Effect::Remix(_) => frames,
     }
 }
 
@@ -73,17 +101,17 @@ pub fn lateness(effect: &Effect, line: u64) -> u64 {
     }
 }
 
-/// The bytes of so many frames of this many samples, of this many bytes each.
-fn bytes_of(frames: u64, channels: usize, width: u64) -> u64 {
-    frames.saturating_mul(channels as u64).saturating_mul(width)
-}
-
 /// The bytes of the samples that an effect may hold: its line, in `echos` of 64 bits a sample, and one frame in hand.
-pub fn bytes_held(effect: &Effect, line: u64, channels: usize) -> u64 {
+pub fn bytes_held(effect: &Effect, line: u64, channels: usize) -> u64
+    requires lined { line ≡ line_of (act effect.now) }
+    requires held { line ≤ 2 ^ 28 }
+    requires few { channels ≤ 16 }
+    requires usable { Usable (act effect.now) }
+    ensures { result ≡ held_bytes channels (act effect.now) }
+{
     let width = match effect {
         Effect::Echos(_) => 8,
         _ => 4,
     };
-    let in_hand = bytes_of(1, effect.channels_after(channels), 4);
-    bytes_of(line, channels, width).saturating_add(in_hand)
+    line * channels as u64 * width + effect.channels_after(channels) as u64 * 4
 }

@@ -82,7 +82,8 @@ fn answer_line(rt: &mut HostRuntime, style: Style, line: &CommandLine) -> u8 {
         }
         Err(FilesFault::Memory) => return stopped(rt, style, &Stop::Line(LineFault::Memory)),
     };
-    match head_of(rt, line) {
+    let standard = rt.stdin();
+    match head_of(rt, standard, line) {
         Ok(Ok(head)) => plan_line(rt, style, line, &head, &files),
         Ok(Err(fault)) => stopped(rt, style, &Stop::Refused(line, Refusal::Head(fault))),
         Err(name) => stopped(rt, style, &Stop::CannotOpen(name)),

@@ -1,13 +1,23 @@
 //! What a plan says, and how it is shown.
-ghost use Rattle.std.specs.Prelude.{◌≡◌, ◌*◌, ◌≤◌, IfOk, map};
+ghost use Rattle.std.specs.Prelude.{◌≡◌, ◌*◌, ◌+◌, ◌-◌, ◌^◌, ◌<◌, ◌≤◌, false, IfOk, List, None, OnOk, Some, length, map, min, sum_by};
+ghost use Rattle.std.specs.Io.KnownBytes.{Appends};
+ghost use Rattle.std.specs.List.{All};
 ghost use Rattle.fx_io.specs.Coding.{width_of};
-ghost use Rattle.fx_effects.specs.Bounds.{hold_all};
+ghost use Rattle.fx_effects.specs.Bounds.{hold_all, is_too_long};
+ghost use Rattle.fx_effects.specs.Effects.{Usable, act};
+ghost use Rattle.fx_effects.specs.Meanings.{InPlace, line_of, meaning_at, recipe_at};
+ghost use Rattle.fx_flow.specs.Composed.{composed, composed_wholes};
+ghost use Rattle.fx_step.specs.Frame.{Samples};
+ghost use Rattle.fx_stages.specs.Made.{recipes_for};
 ghost use Rattle.fx_plan.specs.Planning.{planning};
-ghost use Rattle.soxchain_plan.specs.Outlines.{announced_frames, known, told};
+ghost use Rattle.fx_chain.specs.Chain.{chain_gives, chain_wholes};
+ghost use Rattle.soxchain_plan.specs.Outlines.{IsAnnounced, announced_frames, bytes_along, chain_bytes, held_bytes, known, told, told_bytes, told_frames, whole_frames};
+ghost use Rattle.soxchain_plan.specs.Shown.{effect_json, effect_line, effect_lines, effects_json, frames_json, frames_text, outline_json, outline_text, shown, sound_json, sound_line};
 
 use crate::lengths::{bytes_held, frames_behind, lateness};
 use crate::quoting::{bits_of, name_of_kind};
 use crate::style::Style;
+use fx_effects::Effect;
 use fx_plan::Plan;
 use fx_sound::{Head, Kind};
 use std::alloc::{AllocError, Global};
@@ -76,41 +86,105 @@ fn input_of(head: &Head) -> SoundOutline
     }
 }
 
-/// What a plan says.
+/// What an effect says that takes frames of so many channels, and so many of them.
+fn outline_of_effect(effect: &Effect, channels: usize, frames: Option<u64>) -> EffectOutline
+    requires usable { Usable (act effect.now) }
+    requires held { line_of (act effect.now) < 2 ^ 28 }
+    requires few { channels ≤ 16 }
+    ensures told { told result ≡ known (act effect.now) }
+    ensures bytes { result.bytes ≡ held_bytes channels (act effect.now) }
+    ensures frames { (sound : List Samples) → frames ≡ Some (length sound)
+        → result.frames ≡ Some (min (length (meaning_at (recipe_at (InPlace channels (act effect.now))) sound)) (2 ^ 64 - 1)) }
+    ensures unknown { frames ≡ None → result.frames ≡ None }
+{
+    let line = effect.line();
+    let frames = match frames {
+        Some(n) => Some(frames_behind(effect, line, n)),
+        None => None,
+    };
+    EffectOutline {
+        name: effect.name(),
+        hold: line + 1,
+        bytes: bytes_held(effect, line, channels),
+        late: lateness(effect, line),
+        frames,
+    }
+}
+
+/// What effects say, the first of which takes frames of so many channels and so many of them, and the frames behind them.
+fn outlines_of(
+    alloc: Global,
+    effects: &[Effect],
+    channels: usize,
+    frames: Option<u64>,
+) -> Result<(Vec<EffectOutline>, Option<u64>), AllocError>
+    requires usable { All Usable (map act effects.now) }
+    requires held { hold_all (map act effects.now) ≤ 2 ^ 28 }
+    requires short { is_too_long (map act effects.now) ≡ false }
+    requires few { channels ≤ 16 }
+    ensures told { IfOk result (λ it. map told it.0.items ≡ map known (map act effects.now)) }
+    ensures bytes { IfOk result (λ it. map told_bytes it.0.items ≡ bytes_along channels (map act effects.now)) }
+    ensures each { IfOk result (λ it. (sound : List Samples) → frames ≡ Some (length sound) → length sound ≤ 2 ^ 40
+        → map told_frames it.0.items ≡ map whole_frames (composed_wholes meaning_at (recipes_for channels (map act effects.now)) sound)) }
+    ensures last { IfOk result (λ it. (sound : List Samples) → frames ≡ Some (length sound) → length sound ≤ 2 ^ 40
+        → it.1 ≡ Some (length (composed meaning_at (recipes_for channels (map act effects.now)) sound))) }
+    ensures unknown { IfOk result (λ it. frames ≡ None → All (λ outline. outline.frames ≡ None) it.0.items) }
+    ensures end { IfOk result (λ it. frames ≡ None → it.1 ≡ None) }
+{
+    let mut outlines = Vec::new(alloc);
+    let mut inputs = channels;
+    let mut left = frames;
+    'effects: for effect in effects {
+        let outline = outline_of_effect(effect, inputs, left);
+        outlines.push(outline)?;
+        inputs = effect.channels_after(inputs);
+        left = outline.frames;
+    }
+    Ok((outlines, left))
+}
+
+/// The bytes of the samples that a chain may hold: a frame in front of the first effect, and what each effect may hold.
+fn bytes_of(outlines: &[EffectOutline], channels: usize) -> u64
+    requires { 4 * channels + sum_by told_bytes outlines.now < 2 ^ 64 }
+    ensures { result ≡ 4 * channels + sum_by told_bytes outlines.now }
+{
+    let mut bytes = 4 * channels as u64;
+    for outline in outlines {
+        bytes += outline.bytes;
+    }
+    bytes
+}
+
+/// What a plan says. Of a sound of up to `2^40` frames, just those that its head announces, the frames behind each effect are as
+/// many as its definition gives; where the head announces none they are not known.
 pub fn outline_of(alloc: Global, plan: &Plan) -> Result<Outline, AllocError>
     ensures input_kind { IfOk result (λ outline. outline.input.kind ≡ (planning plan.now).head.kind) }
     ensures input_rate { IfOk result (λ outline. outline.input.rate ≡ (planning plan.now).head.rate) }
     ensures input_channels { IfOk result (λ outline. outline.input.channels ≡ (planning plan.now).head.channels) }
     ensures input_bits { IfOk result (λ outline. outline.input.bits ≡ 8 * width_of (planning plan.now).head.coding) }
     ensures input_frames { IfOk result (λ outline. outline.input.frames ≡ announced_frames (planning plan.now).head) }
+
     ensures effects { IfOk result (λ outline. map told outline.effects.items ≡ map known (planning plan.now).acts) }
+    ensures effect_bytes { IfOk result (λ outline. map told_bytes outline.effects.items ≡ bytes_along (planning plan.now).head.channels (planning plan.now).acts) }
+    ensures effect_frames { IfOk result (λ outline. (sound : List Samples) → IsAnnounced (planning plan.now).head sound
+        → map told_frames outline.effects.items ≡ map whole_frames (chain_wholes (planning plan.now) sound)) }
+    ensures effect_unknown { IfOk result (λ outline. announced_frames (planning plan.now).head ≡ None → All (λ effect. effect.frames ≡ None) outline.effects.items) }
+
     ensures hold { IfOk result (λ outline. outline.hold ≡ hold_all (planning plan.now).acts) }
+    ensures bytes { IfOk result (λ outline. outline.bytes ≡ chain_bytes (planning plan.now)) }
+
     ensures kind { IfOk result (λ outline. outline.output.kind ≡ (planning plan.now).kind) }
     ensures rate { IfOk result (λ outline. outline.output.rate ≡ (planning plan.now).layout.rate) }
     ensures channels { IfOk result (λ outline. outline.output.channels ≡ (planning plan.now).layout.channels) }
     ensures bits { IfOk result (λ outline. outline.output.bits ≡ 8 * width_of (planning plan.now).coding) }
+    ensures frames { IfOk result (λ outline. (sound : List Samples) → IsAnnounced (planning plan.now).head sound
+        → outline.output.frames ≡ Some (length (chain_gives (planning plan.now) sound))) }
+    ensures unknown { IfOk result (λ outline. announced_frames (planning plan.now).head ≡ None → outline.output.frames ≡ None) }
 {
     let head = plan.head();
     let input = input_of(&head);
-    let mut effects = Vec::new(alloc);
-    let mut frames = input.frames;
-    let mut channels = head.channels;
-    let mut bytes = (channels as u64).saturating_mul(4);
-    let all = plan.effects();
-    'effects: for effect in all {
-        let line = effect.line();
-        let held = bytes_held(effect, line, channels);
-        frames = frames.map(|n| frames_behind(effect, line, n));
-        effects.push(EffectOutline {
-            name: effect.name(),
-            hold: line.saturating_add(1),
-            bytes: held,
-            late: lateness(effect, line),
-            frames,
-        })?;
-        bytes = bytes.saturating_add(held);
-        channels = effect.channels_after(channels);
-    }
+    let (effects, frames) = outlines_of(alloc, plan.effects(), head.channels, input.frames)?;
+    let bytes = bytes_of(&effects, head.channels);
     let output = SoundOutline {
         kind: plan.kind(),
         rate: plan.rate(),
@@ -128,7 +202,9 @@ pub fn outline_of(alloc: Global, plan: &Plan) -> Result<Outline, AllocError>
 }
 
 /// Shows a number of frames in a line for people.
-fn show_frames<W: Write>(writer: &mut W, frames: Option<u64>) -> io::Result<()> {
+fn show_frames<W: Write>(writer: &mut W, frames: Option<u64>) -> io::Result<()>
+    ensures { OnOk result (Appends (W.contents writer.old) (W.contents writer.new) (frames_text frames)) }
+{
     match frames {
         Some(frames) => writeln!(writer, ", {frames} frames"),
         None => writeln!(writer, ", length not known"),
@@ -136,7 +212,9 @@ fn show_frames<W: Write>(writer: &mut W, frames: Option<u64>) -> io::Result<()> 
 }
 
 /// Shows a number of frames in JSON.
-fn show_json_frames<W: Write>(writer: &mut W, frames: Option<u64>) -> io::Result<()> {
+fn show_json_frames<W: Write>(writer: &mut W, frames: Option<u64>) -> io::Result<()>
+    ensures { OnOk result (Appends (W.contents writer.old) (W.contents writer.new) (frames_json frames)) }
+{
     match frames {
         Some(frames) => write!(writer, "\"frames\": {frames}}}"),
         None => write!(writer, "\"frames\": null}}"),
@@ -145,7 +223,9 @@ fn show_json_frames<W: Write>(writer: &mut W, frames: Option<u64>) -> io::Result
 
 impl SoundOutline {
     /// A line for people.
-    fn show<W: Write>(&self, writer: &mut W, title: &str) -> io::Result<()> {
+    fn show<W: Write>(&self, writer: &mut W, title: &str) -> io::Result<()>
+        ensures { OnOk result (Appends (W.contents writer.old) (W.contents writer.new) (sound_line title.now self.now)) }
+    {
         let kind = name_of_kind(self.kind);
         let SoundOutline {
             rate,
@@ -161,7 +241,9 @@ impl SoundOutline {
     }
 
     /// A JSON object.
-    fn show_json<W: Write>(&self, writer: &mut W) -> io::Result<()> {
+    fn show_json<W: Write>(&self, writer: &mut W) -> io::Result<()>
+        ensures { OnOk result (Appends (W.contents writer.old) (W.contents writer.new) (sound_json self.now)) }
+    {
         let kind = name_of_kind(self.kind);
         let SoundOutline {
             rate,
@@ -179,7 +261,9 @@ impl SoundOutline {
 
 impl EffectOutline {
     /// A line for people.
-    fn show<W: Write>(&self, writer: &mut W, number: usize) -> io::Result<()> {
+    fn show<W: Write>(&self, writer: &mut W, number: usize) -> io::Result<()>
+        ensures { OnOk result (Appends (W.contents writer.old) (W.contents writer.new) (effect_line number self.now)) }
+    {
         let EffectOutline {
             name,
             hold,
@@ -195,7 +279,9 @@ impl EffectOutline {
     }
 
     /// A JSON object.
-    fn show_json<W: Write>(&self, writer: &mut W) -> io::Result<()> {
+    fn show_json<W: Write>(&self, writer: &mut W) -> io::Result<()>
+        ensures { OnOk result (Appends (W.contents writer.old) (W.contents writer.new) (effect_json self.now)) }
+    {
         let EffectOutline {
             name,
             hold,
@@ -211,9 +297,38 @@ impl EffectOutline {
     }
 }
 
+/// Shows a line for people for each effect.
+fn show_effects<W: Write>(writer: &mut W, effects: &[EffectOutline]) -> io::Result<()>
+    ensures { OnOk result (Appends (W.contents writer.old) (W.contents writer.new) (effect_lines 1 effects.now)) }
+{
+    let mut number = 0usize;
+    for effect in effects.iter() {
+        number = number.saturating_add(1);
+        effect.show(writer, number)?;
+    }
+    Ok(())
+}
+
+/// Shows effects as the elements of a JSON array.
+fn show_json_effects<W: Write>(writer: &mut W, effects: &[EffectOutline]) -> io::Result<()>
+    ensures { OnOk result (Appends (W.contents writer.old) (W.contents writer.new) (effects_json effects.now)) }
+{
+    let mut is_first = true;
+    for effect in effects.iter() {
+        if !is_first {
+            write!(writer, ", ")?;
+        }
+        effect.show_json(writer)?;
+        is_first = false;
+    }
+    Ok(())
+}
+
 impl Outline {
-    /// Shows it, and hands all of it on.
-    pub fn show<W: Write>(&self, writer: &mut W, style: Style) -> io::Result<()> {
+    /// Shows it in this style, and hands all of it on. After an `Err` the writer may have any first part of it.
+    pub fn show<W: Write>(&self, writer: &mut W, style: Style) -> io::Result<()>
+        ensures { OnOk result (Appends (W.contents writer.old) (W.contents writer.new) (shown style self.now)) }
+    {
         match style {
             Style::Text => self.show_text(writer)?,
             Style::Json => self.show_json(writer)?,
@@ -222,13 +337,11 @@ impl Outline {
     }
 
     /// Lines for people.
-    fn show_text<W: Write>(&self, writer: &mut W) -> io::Result<()> {
+    fn show_text<W: Write>(&self, writer: &mut W) -> io::Result<()>
+        ensures { OnOk result (Appends (W.contents writer.old) (W.contents writer.new) (outline_text self.now)) }
+    {
         self.input.show(writer, "in")?;
-        let mut number = 0usize;
-        for effect in self.effects.iter() {
-            number = number.saturating_add(1);
-            effect.show(writer, number)?;
-        }
+        show_effects(writer, &self.effects)?;
         writeln!(
             writer,
             "chain: holds at most {} frames, {} bytes",
@@ -238,16 +351,13 @@ impl Outline {
     }
 
     /// One JSON object.
-    fn show_json<W: Write>(&self, writer: &mut W) -> io::Result<()> {
+    fn show_json<W: Write>(&self, writer: &mut W) -> io::Result<()>
+        ensures { OnOk result (Appends (W.contents writer.old) (W.contents writer.new) (outline_json self.now)) }
+    {
         write!(writer, "{{\"in\": ")?;
         self.input.show_json(writer)?;
         write!(writer, ", \"effects\": [")?;
-        let mut comma = "";
-        for effect in self.effects.iter() {
-            write!(writer, "{comma}")?;
-            effect.show_json(writer)?;
-            comma = ", ";
-        }
+        show_json_effects(writer, &self.effects)?;
         write!(
             writer,
             "], \"hold\": {}, \"bytes\": {}, \"out\": ",

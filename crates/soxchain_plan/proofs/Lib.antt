@@ -1,0 +1,4 @@
+pub mod Heading
+pub mod Made
+pub mod ShownLemmas
+pub mod Writing

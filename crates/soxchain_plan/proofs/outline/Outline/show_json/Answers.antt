@@ -1,0 +1,11 @@
+use Rattle.std.proofs.KnownBytes.{Appends-trans}
+use Rattle.soxchain_plan.proofs.ShownLemmas.{outline_json-parts}
+use Rattle.soxchain_plan.proofs.Writing.{appends_then}
+use Rattle.soxchain_plan.proofs.outline.Outline.show_json.Goals as goal
+
+pub returns : goal.returns
+returns g c =
+    appends_then _ _ _ _ _ _ _ (outline_json-parts c.args.self.now)
+    (Appends-trans _ _ _ _ _ (Appends-trans _ _ _ _ _ (Appends-trans _ _ _ _ _ (Appends-trans _ _ _ _ _ (Appends-trans _ _ _ _ _
+    c.in_ok-write.ensures.bytes c.in_ok-show_json.ensures) c.in_ok-write-2.ensures.bytes) (rw c.deref.ensures.value at c.in_ok-show_json_effects.ensures)) c.in_ok-write-3.ensures.bytes) c.in_ok-show_json-2.ensures)
+    c.writeln.ensures.bytes
