@@ -9,8 +9,8 @@ import sounds
 FOLDER = os.path.join(sounds.TOP, 'effects')
 # Of each table of an entry the keys that it needs, those that only an effect with words has, which has all of them, and others.
 KEYS = {
-    'effect': ('doc copy', 'type argument', 'line most_frames layout_after channels_after'),
-    'act': ('settled uses', 'type value of', 'layout_after channels_after fits is_usable fits_layout recipe rises limits_use'),
+    'effect': ('doc copy', 'type argument', 'line most_frames frames_behind layout_after channels_after'),
+    'act': ('settled length uses', 'type value of', 'layout_after channels_after fits is_usable fits_layout recipe rises made limits_use'),
     'words': ('reader read faults uses', 'says equal', ''),
     'stage': ('takes_memory placed sound stored uses', '', 'made form by_samples keeps'),
     'help': ('help_line usage limits instead manual', '', 'title picture'),

@@ -84,11 +84,16 @@ pub fn frames_behind(effect: &Effect, line: u64, frames: u64) -> u64
     match effect {
         Effect::Trim(positions) => kept(positions, frames),
         Effect::Pad(pads) => frames.saturating_add(silence(pads, frames)),
-        Effect::Fade(fading) => before_stop(fading, frames),
-        Effect::Delay(_) | Effect::Echo(_) | Effect::Echos(_) => frames.saturating_add(line),
+        Effect::Delay(_) => frames.saturating_add(line),
+        Effect::Echo(_) => frames.saturating_add(line),
+        Effect::Echos(_) => frames.saturating_add(line),
+        Effect::Fade(fade) => before_stop(fade, frames),
+        Effect::Vol(_) => frames,
+        Effect::DcShift(_) => frames,
+        Effect::Fir(_) => frames,
+        Effect::Remix(_) => frames,
         Effect::Upsample(factor) => frames.saturating_mul(u64::from(*factor)),
         Effect::Downsample(factor) => frames.div_ceil(u64::from(*factor)),
-        Effect::Vol(_) | Effect::DcShift(_) | Effect::Fir(_) | Effect::Remix(_) => frames,
     }
 }
 

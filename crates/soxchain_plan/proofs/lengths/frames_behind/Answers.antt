@@ -1,4 +1,4 @@
-use Rattle.std.proofs.Common.{◌≡◌, ◌-◌, length, arith, inl, inr}
+use Rattle.std.proofs.Common.{◌≡◌, ◌-◌, length, arith}
 use Rattle.fx_cut.specs.TrimState.{kept_count}
 use Rattle.fx_effects.specs.Effects.{act}
 use Rattle.fx_past.proofs.LongestDelay.{greatest-filled}
@@ -29,23 +29,29 @@ returns-in-Downsample c =
     behind (act c.args.effect.now) c.args.frames c.div_ceil.result (rw c.in-Downsample.is (omega (arith, quotient)))
 
 pub returns-in-Delay : goal.returns-in-Delay
-returns-in-Delay c = elim c.in-Delay.is [
-  | inl p ↦
-      let line = rw p.1 at c.requires.lined in
-      let same = greatest-filled p.0.items (1 - length p.0.items) in
-      behind (act c.args.effect.now) c.args.frames c.saturating_add-in-Delay.result (rw p.1 (omega (arith, line, same)))
-  | inr (inl p) ↦
-      let line = rw p.1 at c.requires.lined in
-      behind (act c.args.effect.now) c.args.frames c.saturating_add-in-Delay.result (rw p.1 (omega (arith, line)))
-  | inr (inr p) ↦
-      let line = rw p.1 at c.requires.lined in
-      behind (act c.args.effect.now) c.args.frames c.saturating_add-in-Delay.result (rw p.1 (omega (arith, line)))
-]
+returns-in-Delay c =
+    let line = rw c.in-Delay.is at c.requires.lined in
+    let same = greatest-filled c.in-Delay.field-0.items (1 - length c.in-Delay.field-0.items) in
+    behind (act c.args.effect.now) c.args.frames c.saturating_add-in-Delay.result (rw c.in-Delay.is (omega (arith, line, same)))
 
-pub returns-in-Vol-3 : goal.returns-in-Vol-3
-returns-in-Vol-3 c = elim c.in-Vol.is [
-  | inl p ↦ behind (act c.args.effect.now) c.args.frames c.args.frames (rw p.1 (omega arith))
-  | inr (inl p) ↦ behind (act c.args.effect.now) c.args.frames c.args.frames (rw p.1 (omega arith))
-  | inr (inr (inl p)) ↦ behind (act c.args.effect.now) c.args.frames c.args.frames (rw p.1 (omega arith))
-  | inr (inr (inr p)) ↦ behind (act c.args.effect.now) c.args.frames c.args.frames (rw p.1 (omega arith))
-]
+pub returns-in-Echo : goal.returns-in-Echo
+returns-in-Echo c =
+    let line = rw c.in-Echo.is at c.requires.lined in
+    behind (act c.args.effect.now) c.args.frames c.saturating_add-in-Echo.result (rw c.in-Echo.is (omega (arith, line)))
+
+pub returns-in-Echos : goal.returns-in-Echos
+returns-in-Echos c =
+    let line = rw c.in-Echos.is at c.requires.lined in
+    behind (act c.args.effect.now) c.args.frames c.saturating_add-in-Echos.result (rw c.in-Echos.is (omega (arith, line)))
+
+pub returns-in-Vol : goal.returns-in-Vol
+returns-in-Vol c = behind (act c.args.effect.now) c.args.frames c.args.frames (rw c.in-Vol.is (omega arith))
+
+pub returns-in-DcShift : goal.returns-in-DcShift
+returns-in-DcShift c = behind (act c.args.effect.now) c.args.frames c.args.frames (rw c.in-DcShift.is (omega arith))
+
+pub returns-in-Fir : goal.returns-in-Fir
+returns-in-Fir c = behind (act c.args.effect.now) c.args.frames c.args.frames (rw c.in-Fir.is (omega arith))
+
+pub returns-in-Remix : goal.returns-in-Remix
+returns-in-Remix c = behind (act c.args.effect.now) c.args.frames c.args.frames (rw c.in-Remix.is (omega arith))
