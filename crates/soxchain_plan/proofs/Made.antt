@@ -194,7 +194,7 @@ sample-few : (a : Act) → sample_bytes a ≤ 8
 sample-few (OfEchos e) = omega arith
 sample-few other = omega arith
 
-pub held-few : (channels : ℕ) (a : Act) → Usable a → channels ≤ 16 → held_bytes channels a ≤ 128 * hold_of a
+pub held-few : (channels : ℕ) (a : Act) → Usable a → channels ≤ 16 → held_bytes (InPlace channels a) ≤ 128 * hold_of a
 held-few channels a u h =
     let after = few-after channels a u h in
     let samples = sample-few a in
@@ -206,4 +206,4 @@ bytes-few channels [] u h = omega arith
 bytes-few channels (a ∷ acts) u h =
     let first = held-few channels a (All-head Usable a acts u) h in
     let rest = bytes-few (channels_after channels a) acts (All-tail Usable a acts u) (few-after channels a (All-head Usable a acts u) h) in
-    omega (arith, first, rest, sum_by-cons hold_of a acts, sum_by-cons (λ n. n) (held_bytes channels a) (bytes_along (channels_after channels a) acts))
+    omega (arith, first, rest, sum_by-cons hold_of a acts, sum_by-cons (λ n. n) (held_bytes (InPlace channels a)) (bytes_along (channels_after channels a) acts))

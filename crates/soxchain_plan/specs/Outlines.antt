@@ -1,13 +1,14 @@
 -- What soxchain-plan tells of sounds and effects (this project's profile).
-use Rattle.std.specs.Prelude.{◌≡◌, ℕ, ◌+◌, ◌*◌, ◌/◌, ◌^◌, ◌≤◌, List, [], ◌∷◌, Option, Some, length, sum}
+use Rattle.std.specs.Prelude.{◌≡◌, ℕ, ◌+◌, ◌*◌, ◌/◌, ◌^◌, ◌≤◌, List, Option, Some, length, map, sum}
 use Rattle.std.specs.Option.{option_map}
 use Rattle.fx_io.specs.Coding.{width_of}
 use Rattle.fx_heads.specs.declared.head.Head.{Head}
 use Rattle.fx_step.specs.Frame.{Samples}
 use Rattle.fx_effects.specs.Bounds.{hold_of}
 use Rattle.fx_effects.specs.Effects.{Act, OfEchos, channels_after, name_text}
-use Rattle.fx_effects.specs.Meanings.{line_of}
+use Rattle.fx_effects.specs.Meanings.{InPlace, Placed, line_of}
 use Rattle.fx_flow.specs.Composed.{Whole}
+use Rattle.fx_stages.specs.Made.{placed}
 use Rattle.fx_plan.specs.Planning.{Planning}
 use Rattle.soxchain_plan.specs.declared.outline.EffectOutline.{EffectOutline}
 
@@ -33,14 +34,13 @@ abbrev pub sample_bytes : Act → ℕ
 sample_bytes (OfEchos e) = 8
 sample_bytes other = 4
 
--- the bytes of the samples that an effect behind so many channels may hold: those of its line, and of one frame that it gives
-abbrev pub held_bytes : ℕ → Act → ℕ
-held_bytes channels act = line_of act * channels * sample_bytes act + channels_after channels act * 4
+-- the bytes of the samples that an effect in its place may hold: those of its line, and of one frame that it gives
+abbrev pub held_bytes : Placed → ℕ
+held_bytes (InPlace channels act) = line_of act * channels * sample_bytes act + channels_after channels act * 4
 
 -- the same of each effect, the first of which takes frames of so many channels
 abbrev pub bytes_along : ℕ → List Act → List ℕ
-bytes_along channels [] = []
-bytes_along channels (act ∷ acts) = held_bytes channels act ∷ bytes_along (channels_after channels act) acts
+bytes_along channels acts = map held_bytes (placed channels acts)
 
 -- the same of a whole chain: those of a frame in front of the first effect, and those of each effect
 abbrev pub chain_bytes : Planning → ℕ

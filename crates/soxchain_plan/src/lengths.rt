@@ -112,7 +112,7 @@ pub fn bytes_held(effect: &Effect, line: u64, channels: usize) -> u64
     requires held { line ≤ 2 ^ 28 }
     requires few { channels ≤ 16 }
     requires usable { Usable (act effect.now) }
-    ensures { result ≡ held_bytes channels (act effect.now) }
+    ensures { result ≡ held_bytes (InPlace channels (act effect.now)) }
 {
     let width = match effect {
         Effect::Echos(_) => 8,

@@ -92,7 +92,7 @@ fn outline_of_effect(effect: &Effect, channels: usize, frames: Option<u64>) -> E
     requires held { line_of (act effect.now) < 2 ^ 28 }
     requires few { channels ≤ 16 }
     ensures told { told result ≡ known (act effect.now) }
-    ensures bytes { result.bytes ≡ held_bytes channels (act effect.now) }
+    ensures bytes { result.bytes ≡ held_bytes (InPlace channels (act effect.now)) }
     ensures frames { (sound : List Samples) → frames ≡ Some (length sound)
         → result.frames ≡ Some (min (length (meaning_at (recipe_at (InPlace channels (act effect.now))) sound)) (2 ^ 64 - 1)) }
     ensures unknown { frames ≡ None → result.frames ≡ None }
