@@ -1,6 +1,6 @@
 -- What stays true while frames go through a flow to a writer.
-use Rattle.std.proofs.Common.{◌≡◌, ℕ, ◌+◌, ◌*◌, ◌≤◌, map, Bool, true, false, List, [], ◌∷◌, ◌++◌, drop, take, refl, sym, ap, ◌∙◌, arith, Some, None, option_to_list}
-use Rattle.std.proofs.lemmas.List.{append_assoc, append-nil, length-append}
+use Rattle.std.proofs.Common.{◌≡◌, ℕ, ◌+◌, ◌-◌, ◌*◌, ◌<◌, ◌≤◌, length, map, Bool, true, false, List, [], ◌∷◌, ◌++◌, drop, take, refl, sym, ap, ◌∙◌, arith, Some, None, option_to_list}
+use Rattle.std.proofs.lemmas.List.{append_assoc, append-nil, drop-drop, length-append, length-drop, length-take}
 use Rattle.std.specs.Prelude.{Option, nat_lt}
 use borrow.Author.Tests.{ltb-true, ltb-false}
 use Rattle.fx_io.specs.declared.coding.Coding.{Coding}
@@ -15,7 +15,7 @@ use Rattle.fx_sound.specs.Output.{Pending, Sent}
 use Rattle.fx_sound.specs.Container.{after_frames}
 use Rattle.fx_sound.specs.Runs.{Ran}
 use Rattle.fx_sound.proofs.RunLaws.{Ran-end, Ran-failed, first_frames-more}
-use Rattle.fx_sound.specs.Sound.{Reading, EndsSound, TakesFrame, at_most_announced, size_of}
+use Rattle.fx_sound.specs.Sound.{Reading, EndsSound, TakesFrame, at_most_announced, beyond, size_of, within}
 use Rattle.fx_heads.specs.Source.{FallsShort, Held, Takes}
 use Rattle.fx_run.specs.Outlet.{WroteFront, coded}
 use Rattle.fx_run.specs.Run.{Flowed, FlowedFront, RanToEnd, RanToFailure, WantsMore, sound_frames}
@@ -61,7 +61,26 @@ RanToFailure-failed told first now n start old new e t f = record {
       let all = Tells-both told start old new (n * size_of first) f.came t f.tells in
       let c = all.counted h in
       omega (arith, all.enough);
+  short = λ h left is.
+      let all = Tells-both told start old new (n * size_of first) f.came t f.tells in
+      let c = all.counted h in
+      let rest : now.left ≡ Some (left - n * size_of first) = ap (λ (p : Reading). p.left) e ∙ ap (λ l. beyond l (n * size_of first)) is in
+      let few : f.came < at_most_announced (Some (left - n * size_of first)) (size_of now) = rw rest at f.few in
+      omega (arith, all.enough, few);
 }
+
+-- the source stands behind the sound
+length-within_beyond : (left : Option ℕ) (k : ℕ) (bytes : List ℕ) → length (within (beyond left k) (drop k bytes)) ≡ length (within left bytes) - k
+length-within_beyond None k bytes = length-drop k bytes
+length-within_beyond (Some a) k bytes = simp (length-take, length-drop) (omega arith)
+
+pub Ran-left : (first now : Reading) (bytes : List ℕ) (n : ℕ) (to_come new : Option (List ℕ)) → Ran first now bytes n to_come
+    → new ≡ Some (drop (length (within now.left (drop (n * size_of first) bytes))) (drop (n * size_of first) bytes)) → new ≡ Some (drop (length (within first.left bytes)) bytes)
+Ran-left first now bytes n to_come new r e =
+    let rest : length (within now.left (drop (n * size_of first) bytes)) ≡ length (within first.left bytes) - n * size_of first =
+    ap (λ (p : Reading). length (within p.left (drop (n * size_of first) bytes))) r.now_is ∙ length-within_beyond first.left (n * size_of first) bytes in
+    e ∙ ap (λ m. Some (drop m (drop (n * size_of first) bytes))) rest
+    ∙ ap Some (drop-drop (length (within first.left bytes) - n * size_of first) (n * size_of first) bytes ∙ ap (λ m. drop m bytes) (omega (arith, r.whole)))
 
 module _ {S R : Type 0} (acts : Acts S R) where
   -- the same stages have enough

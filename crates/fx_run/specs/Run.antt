@@ -1,5 +1,5 @@
 -- What a run has taken off a sound, and what it sends (this project's profile).
-use Rattle.std.specs.Prelude.{◌≡◌, ℕ, ◌+◌, ◌-◌, ◌/◌, ◌%◌, ◌^◌, ◌<◌, ◌≤◌, Bool, true, false, List, ◌++◌, length, Option, Result, Ok, Err}
+use Rattle.std.specs.Prelude.{◌≡◌, ℕ, ◌+◌, ◌-◌, ◌*◌, ◌/◌, ◌%◌, ◌^◌, ◌<◌, ◌≤◌, Bool, true, false, cond, List, ◌++◌, drop, length, Option, Some, Result, Ok, Err}
 use Rattle.fx_io.specs.declared.coding.Coding.{Coding}
 use Rattle.fx_step.specs.Frame.{Samples}
 use Rattle.fx_step.specs.Stage.{Acts, Kind}
@@ -42,6 +42,12 @@ pub record RanToEnd (start : Reading) (bytes : List ℕ) (n missing stray : ℕ)
 pub record RanToFailure {R : Type 0} (told : R → ℕ) (old : Held R) (new : R) (start : Reading) (n : ℕ) : Type 0 where
   pub count : told new < 2 ^ 64 - 1 → n ≡ at_most_announced start.left (length old.bytes + (told new - told old.reader)) / size_of start
   pub later : told new < 2 ^ 64 - 1 → told old.reader ≤ told new
+  -- fewer bytes had come than were announced
+  pub short : told new < 2 ^ 64 - 1 → (left : ℕ) → start.left ≡ Some left → length old.bytes + (told new - told old.reader) < left
+
+-- the bytes behind what was read of a sound: n frames, where these were enough for some effect, and else all of it
+abbrev pub behind_read : Reading → Bool → ℕ → List ℕ → List ℕ
+behind_read start enough n bytes = drop (cond enough (n * size_of start) (length (within start.left bytes))) bytes
 
 -- fewer than n frames were not enough for any effect
 abbrev pub WantsMore : List Kind → ℕ → Type 0

@@ -1,7 +1,7 @@
 //! Frames from a source through a flow to a writer.
-ghost use Rattle.std.specs.Prelude.{◌≡◌, ◌+◌, ◌*◌, ◌<◌, ◌≤◌, ◌^◌, ◌++◌, [], false, true, List, OnErr, OnOk, Err, MatchBool, length};
+ghost use Rattle.std.specs.Prelude.{◌≡◌, ◌+◌, ◌*◌, ◌<◌, ◌≤◌, ◌^◌, ◌++◌, [], false, true, List, OnErr, OnOk, Err, MatchBool, Some, length};
 ghost use Rattle.fx_run.specs.Report.{met_end};
-ghost use Rattle.fx_run.specs.Run.{Flowed, FlowedFront, RanToEnd, RanToFailure, WantsMore, is_read_failed, is_write_failed, sound_frames};
+ghost use Rattle.fx_run.specs.Run.{Flowed, FlowedFront, RanToEnd, RanToFailure, WantsMore, behind_read, is_read_failed, is_write_failed, sound_frames};
 ghost use Rattle.fx_run.specs.Through.{CutOff, Drained};
 ghost use Rattle.fx_flow.specs.Parts.{given_by, most_of, taken_of};
 ghost use Rattle.fx_flow.specs.Composed.{due_of, enough_for};
@@ -116,6 +116,10 @@ pub fn pump<R: ByteIn, S: Feeds, W: ByteOut>(
     ensures too_long { result ≡ Err Cause.TooLong → (progress.new.frames ≡ MOST_FRAMES) × IfKnown (to_come R.reads.rest source.old) (λ bytes.
         (MOST_FRAMES + 1) * size_of progress.old ≤ length (within progress.old.left bytes)) }
     ensures most { progress.new.frames ≤ MOST_FRAMES }
+
+    // Where the source stands.
+    ensures left { OnOk result (IfKnown (to_come R.reads.rest source.old) (λ bytes.
+        to_come R.reads.rest source.new ≡ Some (behind_read progress.old (enough_for (kinds S.acts flow.old.stages) progress.new.frames) progress.new.frames bytes))) }
 
     // A fault is answered only where a failure was counted.
     ensures reads { MatchBool (is_read_failed result)

@@ -1,6 +1,7 @@
 -- A conversion, concluded from its two halves: what is prepared, and what is finished.
 use Rattle.std.proofs.Common.{◌≡◌, ℕ, List, [], refl, sym, ap, subst, ◌∙◌, ◌⊎◌, inl, inr, drop}
-use Rattle.std.specs.Prelude.{Option, Result, Ok, Err}
+use Rattle.std.specs.Prelude.{◌≢◌, true, Option, Result, Ok, Err}
+use Rattle.fx_run.specs.declared.pump.Cause.TheVariants as Causes
 use Rattle.fx_run.specs.declared.report.Report.{Report}
 use Rattle.fx_run.specs.declared.report.RunFault.{RunFault}
 use Rattle.fx_chain.specs.Chain.{IsNewChain}
@@ -53,6 +54,7 @@ module _ {R W : Type 0} (reads : ByteReader R) (writes : ByteWriter W)
       is = record {
         whole = tt;
         all_flushed = tt;
+        due_flushed = λ f e. absurd (cc);
         unfailed = tt;
         clean = λ r e. refl;
         refused = λ f e other bytes known.
@@ -133,6 +135,7 @@ module _ {R W : Type 0} (reads : ByteReader R) (writes : ByteWriter W)
               let head = head-in bytes known in
               record { run = running bytes r known (ap report_in e); ran = rw e at f.ran (drop head.offset bytes) head.others };
           all_flushed = rw e at f.all_flushed;
+          due_flushed = λ f e. absurd (cc);
           unfailed = let went = rw e at f.causes in (ap reads.failures is ∙ went.0 ∙ began.unfailed, went.1);
           clean = λ r e. absurd (cc);
           refused = λ f e. absurd (cc);
@@ -155,6 +158,9 @@ module _ {R W : Type 0} (reads : ByteReader R) (writes : ByteWriter W)
         is = record {
           whole = tt;
           all_flushed = tt;
+          due_flushed = λ x h.
+              let same : fault ≡ x = cc in
+              subst (λ (y : RunFault). cause_of y ≢ Causes.WriteFailed → writes.flushed new_writer ≡ true) same (rw e at f.due_flushed);
           unfailed = tt;
           clean = λ r e. absurd (cc);
           refused = λ f e. absurd (cc);

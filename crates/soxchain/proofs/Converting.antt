@@ -115,6 +115,7 @@ Finished-told reads writes ready source new_source writer new_writer IsSaid IsTo
   outcome = f.outcome;
   ran = f.ran;
   all_flushed = f.all_flushed;
+  due_flushed = f.due_flushed;
   read_failed = f.read_failed;
   wants = f.wants;
   work = f.work;

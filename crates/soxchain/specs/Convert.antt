@@ -96,6 +96,7 @@ pub record Converted {R W : Type 0} (reads : ByteReader R) (writes : ByteWriter 
     (line : Said) (files : List (List ℕ)) (reader new_reader : R) (writer new_writer : W) (outcome : Result Report Stop) : Type 0 where
   pub whole : IfOk outcome (λ r. IfKnown (reads.rest reader) (λ bytes. Whole line files bytes (writes.taken writer) (writes.taken new_writer) r))
   pub all_flushed : IfOk outcome (λ _. writes.flushed new_writer ≡ true)
+  pub due_flushed : (f : RunFault) → outcome ≡ Err (Run f) → cause_of f ≢ Causes.WriteFailed → writes.flushed new_writer ≡ true
   pub unfailed : IfOk outcome (λ _. (reads.failures new_reader ≡ reads.failures reader) × (writes.failures new_writer ≡ writes.failures writer))
   -- what is refused before the run has written nothing
   pub clean : (r : Refusal) → outcome ≡ Err (Refused r) → new_writer ≡ writer

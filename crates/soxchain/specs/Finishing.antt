@@ -1,5 +1,5 @@
 -- What a run that was ready comes to (this project's profile).
-use Rattle.std.specs.Prelude.{◌≡◌, ◌≤◌, ℕ, true, List, Result, Ok, Err, IfErr, OnOk, MatchResult, ◌++◌}
+use Rattle.std.specs.Prelude.{◌≡◌, ◌≢◌, ◌≤◌, ℕ, true, List, Result, Ok, Err, IfErr, OnOk, MatchResult, ◌++◌}
 use Rattle.fx_run.specs.declared.pump.Cause.TheVariants as Causes
 use Rattle.fx_run.specs.declared.report.Report.{Report}
 use Rattle.fx_run.specs.declared.report.RunFault.{RunFault}
@@ -32,6 +32,7 @@ pub record Finished {R W : Type 0} (reads : ByteReader R) (writes : ByteWriter W
   -- what was written and is reported, as functions of the plan and the bytes
   pub ran : IfKnown (to_come reads.rest source) (λ bytes. Ran (planning ready.prepared.plan) bytes (writes.taken writer) (writes.taken new_writer) outcome)
   pub all_flushed : OnOk outcome (writes.flushed new_writer ≡ true)
+  pub due_flushed : IfErr outcome (λ f. cause_of f ≢ Causes.WriteFailed → writes.flushed new_writer ≡ true)
   -- after a failed read all whole frames that were told had come
   pub read_failed : IfErr outcome (λ f. cause_of f ≡ Causes.ReadFailed → RanToFailure reads.told source new_source.reader (start_of ready.prepared.plan.head) (report_at f).frames_in)
   -- no frame was read past those that are enough for some effect, and no more were handed over than the plan says

@@ -45,6 +45,11 @@ returns-in-Ok-close-clause-completed g c = λ bytes known.
       settled = λ e z. p.settled (not-over _ _ p.enough e) bytes known z;
     })
 
+pub returns-in-Ok-close-clause-left : goal.returns-in-Ok-close-clause-left
+returns-in-Ok-close-clause-left g c = λ bytes known.
+    let p = rw (c.new-progress.ensures) at c.in-Ok.ensures in
+    rw (c.report_of-in-Ok.ensures.frames_in) (p.left bytes known)
+
 pub returns-in-Err-WriteFailed-clause-stopped : goal.returns-in-Err-WriteFailed-clause-stopped
 returns-in-Err-WriteFailed-clause-stopped g c = λ bytes known.
     let is : c.pump-pumped.result ≡ Err WriteFailed = search rules in
