@@ -7,7 +7,15 @@ use Rattle.std.proofs.lemmas.List.Elements.{All-cons, All-nil}
 use Rattle.std.proofs.lemmas.List.Folds.{list_all-map}
 use Rattle.smallvec.specs.SmallVec.{SmallVec}
 use Rattle.std.proofs.lemmas.Bool.Decides.{nat_tests}
-use Rattle.fx_cut.specs.Pad.{IsPads, RisesFrom, ats}
+use Rattle.fx_cut.specs.declared.fade.words.Fading.{Fading}
+use Rattle.fx_cut.specs.Fade.{FadeArguments}
+use Rattle.fx_cut.specs.FadeState.{FadeState, fade_acts}
+use Rattle.fx_cut.specs.Pad.{IsPads, PadArguments, RisesFrom, ats}
+use Rattle.fx_cut.specs.PadState.{PadState, pad_acts}
+use Rattle.fx_cut.specs.Trim.{TrimArguments}
+use Rattle.fx_cut.specs.TrimState.{TrimState, trim_acts}
+use Rattle.fx_fixed.specs.Extents.{meant}
+use Rattle.fx_fixed.specs.declared.positions.At.{At}
 use Rattle.fx_fixed.specs.declared.gains.TheConstants.{UNIT}
 use Rattle.fx_fixed.specs.declared.positions.At.TheVariants.{Start, End}
 use Rattle.fx_fixed.specs.declared.weights.Weight.{Weight}
@@ -16,10 +24,12 @@ use Rattle.fx_step.specs.Stage.{IsNew}
 use Rattle.fx_frame.specs.Tapped.{TapState}
 use Rattle.fx_past.specs.Delay.{every_delay}
 use Rattle.fx_past.specs.DelayState.{delay_acts}
+use Rattle.fx_past.specs.Echo.{EchoArguments}
+use Rattle.fx_past.specs.EchoState.{echo_acts}
 use Rattle.fx_past.specs.EchoWords.{EchoValue, Tap, are_echoes, is_tap}
 use Rattle.fx_cut.specs.PadWords.{Length, are_pads, are_rising}
 use Rattle.fx_map.specs.RemixWords.{is_mix, specs_in}
-use Rattle.fx_effects.specs.Effects.{Act, OfDelay, channels_after}
+use Rattle.fx_effects.specs.Effects.{Act, OfDelay, OfEcho, OfFade, OfPad, OfTrim, channels_after}
 use Rattle.fx_effects.specs.Meanings.{InPlace, Placed, line_of, recipe_at}
 use Rattle.fx_stages.specs.declared.stage.EffectStage.{EffectStage}
 use Rattle.fx_stages.specs.declared.stage.EffectStage.TheVariants as stages
@@ -108,6 +118,19 @@ delay-made channels ds s long is = ap (λ (l : List ℕ). InPlace (length l) (Of
 pub delay-new : (channels : ℕ) (ds : List ℕ) (s : TapState (List ℕ)) → length (every_delay channels ds) ≡ channels → IsNew delay_acts (every_delay channels ds) s
     → IsNew effect_acts (recipe_at (InPlace channels (OfDelay ds))) (stages.Delay s)
 delay-new channels ds s long new = record { recipe = delay-made channels ds s long new.recipe; rest = new.rest; counts = new.counts; dry = new.dry; stored = new.stored; own = new.own }
+
+-- a new stage of an effect with a line is a new stage of any effect
+pub trim-new : (channels : ℕ) (ps : List At) (s : TrimState) → IsNew trim_acts (record { channels = channels; positions = ps }) s → IsNew effect_acts (recipe_at (InPlace channels (OfTrim ps))) (stages.Trim s)
+trim-new channels ps s new = record { recipe = ap (λ (r : TrimArguments). InPlace r.channels (OfTrim r.positions)) new.recipe; rest = new.rest; counts = new.counts; dry = new.dry; stored = new.stored; own = new.own }
+
+pub pad-new : (channels : ℕ) (pads : List Length) (s : PadState) → IsNew pad_acts (record { channels = channels; pads = pads }) s → IsNew effect_acts (recipe_at (InPlace channels (OfPad pads))) (stages.Pad s)
+pad-new channels pads s new = record { recipe = ap (λ (r : PadArguments). InPlace r.channels (OfPad r.pads)) new.recipe; rest = new.rest; counts = new.counts; dry = new.dry; stored = new.stored; own = new.own }
+
+pub echo-new : (channels : ℕ) (e : EchoValue) (s : TapState EchoArguments) → IsNew echo_acts (record { channels = channels; gain_in = e.gain_in; gain_out = e.gain_out; echoes = e.taps }) s → IsNew effect_acts (recipe_at (InPlace channels (OfEcho e))) (stages.Echo s)
+echo-new channels e s new = record { recipe = ap (λ (r : EchoArguments). InPlace r.channels (OfEcho (record { gain_in = r.gain_in; gain_out = r.gain_out; taps = r.echoes }))) new.recipe; rest = new.rest; counts = new.counts; dry = new.dry; stored = new.stored; own = new.own }
+
+pub fade-new : (channels : ℕ) (f : Fading) (s : FadeState) → IsNew fade_acts (record { channels = channels; shape = record { fade_in = f.fade_in; stop = meant f.stop; fade_out = f.fade_out } }) s → IsNew effect_acts (recipe_at (InPlace channels (OfFade f))) (stages.Fade s)
+fade-new channels f s new = record { recipe = ap (λ (r : FadeArguments). InPlace r.channels (OfFade (record { fade_in = r.shape.fade_in; stop = r.shape.stop; fade_out = r.shape.fade_out }))) new.recipe; rest = new.rest; counts = new.counts; dry = new.dry; stored = new.stored; own = new.own }
 
 -- effects behind one hold no more than all together, and neither does the one
 pub hold-tail : (a : Act) (acts : List Act) (most : ℕ) → hold_all (a ∷ acts) ≤ most → (line_of a ≤ most) × (hold_all acts ≤ most)

@@ -1,14 +1,15 @@
-use Rattle.std.proofs.Common.{rules, ◌≡◌, List, ℕ, arith, length}
+use Rattle.std.proofs.Common.{◌≡◌, List, ℕ, arith, length}
 use Rattle.std.proofs.lemmas.Grind.{common_steps}
 use Rattle.fx_effects.specs.Effects.{OfDelay}
 use Rattle.fx_effects.specs.Meanings.{InPlace, recipe_at}
 use Rattle.fx_frame.specs.Tapped.{TapState}
 use Rattle.fx_past.specs.Delay.{every_delay}
 use Rattle.fx_past.specs.DelayState.{delay_acts}
+use Rattle.fx_past.specs.EchoWords.{echo_value}
 use Rattle.fx_step.specs.Stage.{IsNew}
 use Rattle.fx_stages.specs.Stages.{effect_acts}
 use Rattle.fx_stages.specs.declared.stage.EffectStage.TheVariants as stages
-use Rattle.fx_stages.proofs.Making.{delay-new, mixes-are, pads-are}
+use Rattle.fx_stages.proofs.Making.{delay-new, echo-new, fade-new, mixes-are, pad-new, pads-are, trim-new}
 use Rattle.fx_stages.proofs.Planned.{delays-long}
 use Rattle.fx_stages.proofs.make.stage_of.Goals as goal
 
@@ -21,11 +22,17 @@ new-requires-in-Remix-clause-few c = rw (c.deref-in-Remix.ensures.value) ((mixes
 pub new-requires-in-Remix-clause-named : goal.new-requires-in-Remix-clause-named
 new-requires-in-Remix-clause-named c = rw (c.deref-in-Remix.ensures.value) ((mixes-are _ _ (rw (c.in-Remix.is) at c.requires.suits)).1)
 
+pub returns-in-Trim : goal.returns-in-Trim
+returns-in-Trim c = let new = trim-new c.args.channels c.in-Trim.positions.items in rw (c.in-Trim.is) (grind (arith, common_steps, new))
+
 pub returns-in-Pad : goal.returns-in-Pad
-returns-in-Pad c = rw (c.in-Pad.is) (search rules)
+returns-in-Pad c = let new = pad-new c.args.channels c.in-Pad.pads.items in rw (c.in-Pad.is) (grind (arith, common_steps, new))
 
 pub returns-in-Echo : goal.returns-in-Echo
-returns-in-Echo c = rw (c.in-Echo.is) (search rules)
+returns-in-Echo c = let new = echo-new c.args.channels (echo_value c.in-Echo.echo) in rw (c.in-Echo.is) (grind (arith, common_steps, new))
+
+pub returns-in-Fade : goal.returns-in-Fade
+returns-in-Fade c = let new = fade-new c.args.channels c.in-Fade.fade in rw (c.in-Fade.is) (grind (arith, common_steps, new))
 
 pub returns-in-Delay : goal.returns-in-Delay
 returns-in-Delay c =
