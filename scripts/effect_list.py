@@ -16,7 +16,7 @@ KEYS = {
     'help': ('help_line usage limits instead manual', '', 'title picture'),
 }
 # The values that a key may have, where these are few.
-VALUES = {'stage.takes_memory': (True, False), 'stage.stored': ('line', 'hand'), 'stage.form': ('Mapped', 'Tapped'), 'stage.by_samples': (True,)}
+VALUES = {'stage.takes_memory': (True, False), 'stage.stored': ('line', 'hand'), 'stage.form': ('Mapped', 'Sifted', 'Tapped'), 'stage.by_samples': (True,)}
 
 
 def effect_names():
@@ -61,7 +61,7 @@ class Effect:
         self.crate = self.tables['crate']
         # The constructor of it as the definitions know effects.
         self.shape = f'Of{self.variant}'
-        # The form of its stage that the prover knows blocks by, Mapped or Tapped, if it is one of these.
+        # The form of its stage that the prover knows blocks by, Mapped, Sifted or Tapped, if it is one of these.
         self.is_passed = self.get('stage.form') is not None
 
     def get(self, key):

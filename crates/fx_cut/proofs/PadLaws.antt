@@ -14,7 +14,7 @@ use Rattle.fx_fixed.specs.declared.positions.At.TheVariants.{Start, End}
 use Rattle.fx_step.specs.Frame.{Samples, silence}
 use Rattle.fx_cut.specs.Pad.{ats, lengths, is_inside, placed, placed_after, silent_at, padded, pads_from_start, pad_due, RisesFrom}
 use Rattle.fx_cut.specs.PadState.{padded_from, silence_from}
-use Rattle.fx_cut.proofs.Ranges.{range_more}
+use Rattle.fx_cut.specs.Ranges.{range_more}
 
 -- ---- which pads lie before a frame
 

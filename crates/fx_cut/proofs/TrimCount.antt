@@ -11,8 +11,8 @@ use Rattle.fx_fixed.specs.declared.positions.At.{At}
 use Rattle.fx_fixed.specs.declared.positions.At.TheVariants.{Start, End}
 use Rattle.fx_cut.specs.Trim.{keeps, starts}
 use Rattle.fx_cut.specs.TrimState.{kept_count}
-use Rattle.fx_cut.proofs.Ranges.{range_split, count_same, count_const}
-use Rattle.fx_cut.proofs.TrimLaws.{count_by-cons, none_before}
+use Rattle.fx_cut.specs.Ranges.{range_split, count_same, count_const}
+use Rattle.fx_cut.specs.TrimLaws.{count_by-cons, none_before}
 
 -- a frame is kept that lies behind an odd number of positions, where the first of these is behind an odd number or not
 abbrev pub odd_from : Bool → ℕ → Bool

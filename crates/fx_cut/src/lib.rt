@@ -7,6 +7,7 @@ pub mod fade;
 mod lines;
 mod many;
 pub mod pad;
+pub mod sifted;
 mod slopes;
 pub mod trim;
 pub mod upsample;

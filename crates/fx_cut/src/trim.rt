@@ -1,52 +1,40 @@
 //! The effect `trim` of sox(1): the frames after an odd number of positions.
-ghost use Rattle.std.specs.Prelude.{ℕ, ◌≡◌, ◌<◌, ◌≤◌, ◌+◌, ◌-◌, ◌++◌, ◌^◌, [], length, count_by, if◌then◌else◌, Err, IfOk, MatchResult, None, option_to_list, true, false, map};
+ghost use Rattle.std.specs.Prelude.{ℕ, ◌≡◌, ◌<◌, ◌≤◌, ◌+◌, ◌-◌, ◌^◌, count_by, if◌then◌else◌, Err, IfOk, MatchResult, map};
 ghost use Rattle.std.specs.List.{range_with_len};
-ghost use Rattle.std.specs.Int.{w32};
 ghost use Rattle.fx_fixed.specs.Extents.{end_distance, greatest};
 ghost use Rattle.fx_fixed.specs.Positions.{place_of, places_of};
-ghost use Rattle.fx_step.specs.Hand.{IsHand};
-ghost use Rattle.fx_ring.specs.Line.{IsLine};
-ghost use Rattle.fx_step.specs.Stage.{Freezes, IsNew, is_enough};
+ghost use Rattle.fx_step.specs.Stage.{Freezes, IsNew};
+ghost use Rattle.fx_cut.specs.Sifted.{IsSiftState, SiftState};
 ghost use Rattle.fx_cut.specs.Trim.{TrimArguments, keeps, starts, trim_enough};
-ghost use Rattle.fx_cut.specs.TrimState.{IsTrim, IsTrimCount, TrimState, kept_count, trim_acts, trim_after};
+ghost use Rattle.fx_cut.specs.TrimState.{kept_count, trim_acts, trim_sifts};
 
 pub mod words;
 
-use crate::lines::push_over;
-use crate::many::{PassesMany, feed_by_pieces};
+use crate::sifted::{Sifted, Sifting, Stretch};
 use fx_fixed::At;
 use fx_fixed::inner::greatest_end;
-use fx_frame::frozen::{stored_in, thawed_line_and_hand};
-use fx_frame::{Feeds, Frame, Line, Passed, Passing, Stage, Tally, ThawFault, WideFrame};
-use fx_step::stage::MOST_TAKEN;
+use fx_frame::{Frame, ThawFault, WideFrame};
 use std::alloc::{AllocError, Global};
 use std::marker::Model;
-
-/// Frames that follow one another and are all kept, or all left out.
-#[derive(Clone, Copy, Drop)]
-struct Stretch {
-    is_kept: bool,
-    frames: u64,
-}
 
 /// The frames from a place on, up to the next position, as far as the positions before the first one from the end say.
 fn stretch_from(positions: &[At], place: u64) -> Stretch
     ensures some { 1 ≤ result.frames }
-    ensures alike { (n : ℕ) → n < result.frames → keeps (places_of 0 (starts positions.now)) (place + n) ≡ result.is_kept }
+    ensures alike { (n : ℕ) → n < result.frames → keeps (places_of 0 (starts positions.now)) (place + n) ≡ result.is_given }
 {
     let mut last: u64 = 0;
     let mut crossed: usize = 0;
     'positions: for at in positions {
         let At::Start(start) = at else {
             return Stretch {
-                is_kept: crossed % 2 == 1,
+                is_given: crossed % 2 == 1,
                 frames: u64::MAX,
             };
         };
         let next = last.max(*start);
         if place < next {
             return Stretch {
-                is_kept: crossed % 2 == 1,
+                is_given: crossed % 2 == 1,
                 frames: next - place,
             };
         }
@@ -54,107 +42,80 @@ fn stretch_from(positions: &[At], place: u64) -> Stretch
         crossed += 1;
     }
     Stretch {
-        is_kept: crossed % 2 == 1,
+        is_given: crossed % 2 == 1,
         frames: u64::MAX,
     }
 }
 
-/// Positions, and the stretch of frames that was looked up last.
+/// The positions of a `trim`, what is enough for them, and the stretch of frames that was looked up last.
 #[derive(Drop)]
-struct Cuts {
+pub struct Cuts {
+    channels: usize,
     positions: Vec<At>,
+    /// From the positions, so that no call goes over them to tell whether a stage is spent.
+    enough: Option<u64>,
     /// The place where that stretch begins.
     first: u64,
     /// From the positions, so that no call goes over them for a frame inside it.
     stretch: Stretch,
 }
 
-// They are the positions.
+// They are what a `trim` is made with.
 impl Model for Cuts {
-    ghost use Rattle.std.specs.Prelude.{ℕ, List, ◌≡◌, ◌<◌, ◌+◌};
+    ghost use Rattle.std.specs.Prelude.{ℕ, ◌≡◌, ◌<◌, ◌+◌};
     ghost use Rattle.fx_fixed.specs.Positions.{places_of};
-    ghost use Rattle.fx_fixed.specs.declared.positions.At.{At};
-    ghost use Rattle.fx_cut.specs.Trim.{keeps, starts};
+    ghost use Rattle.fx_cut.specs.Trim.{TrimArguments, keeps, starts, trim_enough};
 
-    ghost Value = { List At };
+    ghost Value = { TrimArguments };
 
-    ghost view = { λ c. c.positions.items };
+    ghost view = { λ c. record { channels = c.channels; positions = c.positions.items } };
 
-    ghost invariant = { λ c. (n : ℕ) → n < c.stretch.frames → keeps (places_of 0 (starts c.positions.items)) (c.first + n) ≡ c.stretch.is_kept };
+    ghost invariant = { λ c. (c.enough ≡ trim_enough c.positions.items) × ((n : ℕ) → n < c.stretch.frames → keeps (places_of 0 (starts c.positions.items)) (c.first + n) ≡ c.stretch.is_given) };
 }
 
 impl Cuts {
-    /// The positions, of which no stretch was looked up.
-    fn of(positions: Vec<At>) -> Cuts
-        ensures { result ≡ positions.items }
+    /// Those of these positions; AllocError where memory for them is refused.
+    fn of(alloc: Global, channels: usize, positions: &[At]) -> Result<Cuts, AllocError>
+        ensures { IfOk result (λ c. c ≡ record { channels = channels; positions = positions.now }) }
     {
-        Cuts {
-            positions,
+        let mut own = Vec::new(alloc);
+        own.extend_from_slice(positions)?;
+        Ok(Cuts {
+            channels,
+            positions: own,
+            enough: enough_of(positions),
             first: 0,
             stretch: Stretch {
-                is_kept: false,
+                is_given: false,
                 frames: 0,
             },
-        }
-    }
-
-    /// The positions.
-    fn positions(&self) -> &[At]
-        ensures { result.now ≡ self.now }
-    {
-        &self.positions
+        })
     }
 
     /// Is the frame at this place kept, as far as the positions before the first one from the end say?
     #[inline(always)]
     fn keeps(&mut self, place: u64) -> bool
-        ensures kept { result ≡ keeps (places_of 0 (starts self.old)) place }
+        ensures kept { result ≡ keeps (places_of 0 (starts self.old.positions)) place }
         ensures same { self.new ≡ self.old }
     {
         let stretch = self.stretch;
         if place < self.first || place - self.first >= stretch.frames {
             return self.look_up(place);
         }
-        stretch.is_kept
+        stretch.is_given
     }
 
     /// The same, for a place outside the stretch that was looked up last.
     #[inline(never)]
     fn look_up(&mut self, place: u64) -> bool
-        ensures kept { result ≡ keeps (places_of 0 (starts self.old)) place }
+        ensures kept { result ≡ keeps (places_of 0 (starts self.old.positions)) place }
         ensures same { self.new ≡ self.old }
     {
         let stretch = stretch_from(&self.positions, place);
         self.first = place;
         self.stretch = stretch;
-        stretch.is_kept
+        stretch.is_given
     }
-}
-
-/// How many frames a stage may still take before it has enough.
-fn wanted(enough: Option<u64>, taken: u64) -> u64
-    ensures { (n : ℕ) → n < result → is_enough enough (taken + n) ≡ false }
-{
-    match enough {
-        None => u64::MAX,
-        Some(enough) => enough.saturating_sub(taken),
-    }
-}
-
-/// How many frames from a place on are kept, up to the next position, as far as the positions before the first one from the end
-/// say.
-fn kept_ahead(positions: &[At], place: u64) -> u64
-    ensures { (n : ℕ) → n < result → keeps (places_of 0 (starts positions.now)) (place + n) ≡ true }
-{
-    let stretch = stretch_from(positions, place);
-    if stretch.is_kept { stretch.frames } else { 0 }
-}
-
-/// How many of the frames that fell out of the line are given, where they are kept.
-fn given_of(is_kept: bool, fallen: usize) -> usize
-    ensures { result ≡ (if is_kept then fallen else 0) }
-{
-    if is_kept { fallen } else { 0 }
 }
 
 /// Where a position lies in a sound of so many frames.
@@ -243,83 +204,64 @@ fn enough_of(positions: &[At]) -> Option<u64>
     Some(last)
 }
 
-/// Does a stage of these positions, with so many frames in its line and in hand, count so? Before the end it has given what is
-/// due, after the end those that are kept before the line, and it has a frame in hand unless its line is empty.
-fn is_count(
-    positions: &[At],
-    taken: u64,
-    given: u64,
-    lined: u64,
-    hands: u64,
-    is_ended: bool,
-) -> bool
-    requires { given + hands + lined ≤ taken }
-    ensures count { result ≡ true → IsTrimCount positions.now taken given lined hands is_ended }
-    ensures other { result ≡ false → IsTrimCount positions.now taken given lined hands is_ended → ⊥ }
-{
-    if is_ended {
-        let is_over = hands != 0 || lined == 0;
-        return is_over && given + hands == kept_in_sound(positions, taken, taken - lined);
-    }
-    let reach = greatest_end(positions);
-    if lined != taken.min(reach) {
-        return false;
-    }
-    given + hands == kept_before(positions, taken.saturating_sub(reach))
-}
+impl Sifting for Cuts {
+    ghost use Rattle.fx_cut.specs.TrimState.{trim_sifts};
+    ghost use Rattle.fx_cut.specs.TrimSettled.{trim-settled};
 
-/// Takes frames out of the line until one is kept, in a sound of so many frames that ends with those of the line; None where
-/// none is left.
-#[inline(never)]
-fn next_kept(line: &mut Line, positions: &[At], frames: u64) -> Option<Frame>
-    requires { length line.old.items ≤ frames }
-    ensures rest { trim_after positions.now frames line.old.items [] ≡ option_to_list result ++ trim_after positions.now frames line.new.items [] }
-    ensures kept { kept_count positions.now frames (frames - length line.old.items) + length (option_to_list result) ≡ kept_count positions.now frames (frames - length line.new.items) }
-    ensures empty { result ≡ None → line.new.items ≡ [] }
-    ensures fewer { length (option_to_list result) + length line.new.items ≤ length line.old.items }
-    ensures hand { IsHand line.old.channels result }
-    ensures line { IsLine w32 line.new }
-    ensures capacity { line.new.capacity ≡ line.old.capacity }
-    ensures channels { line.new.channels ≡ line.old.channels }
-{
-    let mut left = line.len() as u64;
-    'frames: while let Some(oldest) = line.pop_front() {
-        let kept = is_kept(positions, frames, frames - left);
-        let _held = line.len();
-        left -= 1;
-        if kept {
-            let _channels = oldest.channels();
-            return Some(oldest);
-        }
+    ghost sifts = { trim_sifts };
+
+    ghost settled = { trim-settled };
+
+    fn channels(&self) -> usize {
+        self.channels
     }
-    None
+
+    #[inline(always)]
+    fn enough(&self) -> Option<u64> {
+        self.enough
+    }
+
+    fn due(&self, taken: u64) -> u64 {
+        let reach = greatest_end(&self.positions);
+        kept_before(&self.positions, taken.saturating_sub(reach))
+    }
+
+    fn given_before(&self, frames: u64, place: u64) -> u64 {
+        kept_in_sound(&self.positions, frames, place)
+    }
+
+    fn stretch_from(&self, place: u64) -> Stretch {
+        stretch_from(&self.positions, place)
+    }
+
+    fn sift(&mut self, frame: Frame, place: u64) -> Option<Frame> {
+        if !self.keeps(place) {
+            return None;
+        }
+        let _channels = frame.channels();
+        Some(frame)
+    }
+
+    #[inline(always)]
+    fn sift_over(&mut self, samples: &mut [i32], place: u64) -> bool {
+        self.keeps(place)
+    }
+
+    fn sift_in(&self, frame: Frame, frames: u64, place: u64) -> Option<Frame> {
+        if !is_kept(&self.positions, frames, place) {
+            return None;
+        }
+        let _channels = frame.channels();
+        Some(frame)
+    }
+
+    fn sift_many(&self, samples: &mut [i32], channels: usize, count: usize, place: u64) {}
 }
 
 /// The stage of `trim`: the frames after an odd number of positions, in order. It takes up to `2^56` frames.
-#[derive(Drop)]
-pub struct Trim {
-    hand: Option<Frame>,
-    channels: usize,
-    cuts: Cuts,
-    /// From the positions, so that no call goes over them to tell whether it is spent.
-    enough: Option<u64>,
-    line: Line,
-    taken: u64,
-    given: u64,
-    ended: bool,
-}
+pub type Trim = Sifted<Cuts>;
 
-impl Model for Trim {
-    ghost use Rattle.fx_cut.specs.TrimState.{IsTrim, TrimState};
-
-    ghost Value = { TrimState };
-
-    ghost view = { λ s. record { hand = s.hand; recipe = record { channels = s.channels; positions = s.cuts }; enough = s.enough; line = s.line; taken = s.taken; given = s.given; ended = s.ended } };
-
-    ghost invariant = { λ s. IsTrim (record { hand = s.hand; recipe = record { channels = s.channels; positions = s.cuts }; enough = s.enough; line = s.line; taken = s.taken; given = s.given; ended = s.ended }) };
-}
-
-impl Trim {
+impl Sifted<Cuts> {
     /// The stage for frames of 1 to 16 channels and these positions, one after the other: a position before the one in front
     /// of it counts as that one. It holds as many frames as the greatest distance of a position from the end, at most `2^28`;
     /// AllocError where memory is refused.
@@ -328,19 +270,8 @@ impl Trim {
         requires line { greatest (map end_distance positions.now) ≤ 2 ^ 28 }
         ensures { IfOk result (IsNew trim_acts (record { channels = channels; positions = positions.now })) }
     {
-        let line = Line::new(alloc, channels, greatest_end(positions) as usize)?;
-        let mut own = Vec::new(alloc);
-        own.extend_from_slice(positions)?;
-        Ok(Trim {
-            hand: None,
-            channels,
-            cuts: Cuts::of(own),
-            enough: enough_of(positions),
-            line,
-            taken: 0,
-            given: 0,
-            ended: false,
-        })
+        let cuts = Cuts::of(alloc, channels, positions)?;
+        Sifted::of(alloc, cuts, greatest_end(positions))
     }
 
     /// The stage that stored these frames and counted these numbers: whichever stage of these arguments they came from, that
@@ -354,191 +285,14 @@ impl Trim {
     ) -> Result<Trim, ThawFault>
         requires channels { (1 ≤ channels) × (channels ≤ 16) }
         requires line { greatest (map end_distance positions.now) ≤ 2 ^ 28 }
-        ensures recipe { IfOk result (λ t. t.recipe ≡ record { channels = channels; positions = positions.now }) }
+        ensures recipe { IfOk result (λ t. t.arguments ≡ record { channels = channels; positions = positions.now }) }
         ensures frozen { IfOk result (λ t. Freezes trim_acts t frames.now numbers.now) }
         ensures named { (result ≡ Err ThawFault.WrongPlan) → ⊥ }
-        ensures thawed { (s : TrimState) → IsTrim s → s.recipe ≡ record { channels = channels; positions = positions.now } → Freezes trim_acts s frames.now numbers.now → MatchResult result (λ t. t ≡ s) (λ e. e ≡ ThawFault.Memory) }
+        ensures thawed { (s : SiftState TrimArguments) → IsSiftState trim_sifts s → s.arguments ≡ record { channels = channels; positions = positions.now } → Freezes trim_acts s frames.now numbers.now → MatchResult result (λ t. t ≡ s) (λ e. e ≡ ThawFault.Memory) }
     {
-        let [taken, given, ended, 0, held, hands, 0, 0] = *numbers else {
-            return Err(ThawFault::BadSnapshot);
-        };
-        let capacity = greatest_end(positions);
-        if ended > 1 || held != frames.len() as u64 {
-            return Err(ThawFault::BadSnapshot);
-        }
-        if taken > MOST_TAKEN || given > taken || held > taken - given || hands > held {
-            return Err(ThawFault::BadSnapshot);
-        }
-        if !is_count(positions, taken, given, held - hands, hands, ended == 1) {
-            return Err(ThawFault::BadSnapshot);
-        }
-        let mut own = Vec::new(alloc);
-        let Ok(()) = own.extend_from_slice(positions) else {
+        let Ok(cuts) = Cuts::of(alloc, channels, positions) else {
             return Err(ThawFault::Memory);
         };
-        let (line, hand) = thawed_line_and_hand(alloc, channels, capacity as usize, frames, hands)?;
-        Ok(Trim {
-            hand,
-            channels,
-            cuts: Cuts::of(own),
-            enough: enough_of(positions),
-            line,
-            taken,
-            given,
-            ended: ended == 1,
-        })
-    }
-}
-
-impl Stage for Trim {
-    ghost Recipe = { TrimArguments };
-
-    ghost acts = { trim_acts };
-
-    ghost sound = { λ s. IsTrim s };
-
-    ghost rises = { λ r m n h. h };
-
-    fn take(&mut self, frame: Frame) {
-        let place = self.taken - self.line.len() as u64;
-        self.taken += 1;
-        let fallen = self.line.push(frame);
-        let _held = self.line.len();
-        let Some(oldest) = fallen else {
-            return;
-        };
-        if !self.cuts.keeps(place) {
-            return;
-        }
-        let _channels = oldest.channels();
-        self.hand = Some(oldest);
-    }
-
-    fn end(&mut self) {
-        self.ended = true;
-        self.hand = next_kept(&mut self.line, self.cuts.positions(), self.taken);
-    }
-
-    fn give(&mut self) -> Option<Frame> {
-        let Some(frame) = self.hand else {
-            return None;
-        };
-        self.given += 1;
-        if !self.ended {
-            self.hand = None;
-            return Some(frame);
-        }
-        self.hand = next_kept(&mut self.line, self.cuts.positions(), self.taken);
-        Some(frame)
-    }
-
-    fn is_dry(&self) -> bool {
-        self.hand.is_none()
-    }
-
-    #[inline(always)]
-    fn tally(&self) -> Tally {
-        Tally {
-            taken: self.taken,
-            given: self.given,
-            clips: 0,
-            ended: self.ended,
-        }
-    }
-
-    fn is_spent(&self) -> bool {
-        let Some(enough) = self.enough else {
-            return false;
-        };
-        self.hand.is_none() && enough <= self.taken
-    }
-
-    fn held(&self) -> u64 {
-        self.line.len() as u64 + u64::from(self.hand.is_some())
-    }
-
-    fn hold(&self) -> u64 {
-        self.line.capacity() as u64 + 1
-    }
-
-    fn in_channels(&self) -> usize {
-        self.channels
-    }
-
-    fn out_channels(&self) -> usize {
-        self.channels
-    }
-
-    fn own(&self) -> [u64; 3] {
-        [u64::from(self.hand.is_some()), 0, 0]
-    }
-
-    fn stored(&self, j: usize) -> WideFrame {
-        stored_in(&self.line, self.hand, j)
-    }
-}
-
-impl PassesMany for Trim {
-    /// Passes the frames up to those that a position lets fall out of the line, which are all kept, or all left out.
-    fn pass_many(&mut self, input: &[i32], output: &mut [i32]) -> Passed {
-        let channels = self.channels;
-        if self.hand.is_some() || self.ended || output.len() < channels {
-            return Passed { taken: 0, given: 0 };
-        }
-        let lined = self.line.len();
-        let room = self.line.capacity() - lined;
-        let stretch = stretch_from(self.cuts.positions(), self.taken - lined as u64);
-        let ahead = stretch
-            .frames
-            .saturating_add(room as u64)
-            .min(wanted(self.enough, self.taken));
-        let most = (input.len() / channels).min(output.len() / channels + room);
-        let count = ahead.min(most as u64) as usize;
-        let given = given_of(stretch.is_kept, count.saturating_sub(room));
-        let frames = &input[..count * channels];
-        self.line.oldest_into(frames, given, output);
-        self.line.push_frames(frames, count);
-        let _held = self.line.len();
-        self.taken += count as u64;
-        self.given += given as u64;
-        Passed {
-            taken: count,
-            given,
-        }
-    }
-}
-
-impl Feeds for Trim {
-    fn feed(&mut self, input: &[i32], output: &mut [i32]) -> Passed {
-        feed_by_pieces(self, input, output)
-    }
-
-    #[inline(always)]
-    fn pass_samples(&mut self, samples: &mut [i32]) -> Passing {
-        let place = self.taken - self.line.len() as u64;
-        self.taken += 1;
-        let is_out = push_over(&mut self.line, samples);
-        let _held = self.line.len();
-        if !is_out {
-            return Passing::Kept;
-        }
-        if !self.cuts.keeps(place) {
-            return Passing::Kept;
-        }
-        self.given += 1;
-        Passing::Through
-    }
-
-    fn ahead(&self) -> u64 {
-        wanted(self.enough, self.taken)
-    }
-
-    /// Once its line is full, the frames that let kept ones fall out of it.
-    fn steady(&self) -> u64 {
-        let lined = self.line.capacity() as u64;
-        if self.ended || self.taken < lined {
-            return 0;
-        }
-        kept_ahead(self.cuts.positions(), self.taken - lined)
+        Sifted::thawed(alloc, cuts, greatest_end(positions), frames, numbers)
     }
 }

@@ -9,11 +9,12 @@ use Rattle.smallvec.specs.SmallVec.{SmallVec}
 use Rattle.std.proofs.lemmas.Bool.Decides.{nat_tests}
 use Rattle.fx_cut.specs.declared.fade.words.Fading.{Fading}
 use Rattle.fx_cut.specs.Fade.{FadeArguments}
-use Rattle.fx_cut.specs.FadeState.{FadeState, fade_acts}
+use Rattle.fx_cut.specs.FadeState.{fade_acts}
 use Rattle.fx_cut.specs.Pad.{IsPads, PadArguments, RisesFrom, ats}
 use Rattle.fx_cut.specs.PadState.{PadState, pad_acts}
+use Rattle.fx_cut.specs.Sifted.{SiftState}
 use Rattle.fx_cut.specs.Trim.{TrimArguments}
-use Rattle.fx_cut.specs.TrimState.{TrimState, trim_acts}
+use Rattle.fx_cut.specs.TrimState.{trim_acts}
 use Rattle.fx_fixed.specs.Extents.{meant}
 use Rattle.fx_fixed.specs.declared.positions.At.{At}
 use Rattle.fx_fixed.specs.declared.gains.TheConstants.{UNIT}
@@ -120,7 +121,7 @@ pub delay-new : (channels : ℕ) (ds : List ℕ) (s : TapState (List ℕ)) → l
 delay-new channels ds s long new = record { recipe = delay-made channels ds s long new.recipe; rest = new.rest; counts = new.counts; dry = new.dry; stored = new.stored; own = new.own }
 
 -- a new stage of an effect with a line is a new stage of any effect
-pub trim-new : (channels : ℕ) (ps : List At) (s : TrimState) → IsNew trim_acts (record { channels = channels; positions = ps }) s → IsNew effect_acts (recipe_at (InPlace channels (OfTrim ps))) (stages.Trim s)
+pub trim-new : (channels : ℕ) (ps : List At) (s : SiftState TrimArguments) → IsNew trim_acts (record { channels = channels; positions = ps }) s → IsNew effect_acts (recipe_at (InPlace channels (OfTrim ps))) (stages.Trim s)
 trim-new channels ps s new = record { recipe = ap (λ (r : TrimArguments). InPlace r.channels (OfTrim r.positions)) new.recipe; rest = new.rest; counts = new.counts; dry = new.dry; stored = new.stored; own = new.own }
 
 pub pad-new : (channels : ℕ) (pads : List Length) (s : PadState) → IsNew pad_acts (record { channels = channels; pads = pads }) s → IsNew effect_acts (recipe_at (InPlace channels (OfPad pads))) (stages.Pad s)
@@ -129,7 +130,7 @@ pad-new channels pads s new = record { recipe = ap (λ (r : PadArguments). InPla
 pub echo-new : (channels : ℕ) (e : EchoValue) (s : TapState EchoArguments) → IsNew echo_acts (record { channels = channels; gain_in = e.gain_in; gain_out = e.gain_out; echoes = e.taps }) s → IsNew effect_acts (recipe_at (InPlace channels (OfEcho e))) (stages.Echo s)
 echo-new channels e s new = record { recipe = ap (λ (r : EchoArguments). InPlace r.channels (OfEcho (record { gain_in = r.gain_in; gain_out = r.gain_out; taps = r.echoes }))) new.recipe; rest = new.rest; counts = new.counts; dry = new.dry; stored = new.stored; own = new.own }
 
-pub fade-new : (channels : ℕ) (f : Fading) (s : FadeState) → IsNew fade_acts (record { channels = channels; shape = record { fade_in = f.fade_in; stop = meant f.stop; fade_out = f.fade_out } }) s → IsNew effect_acts (recipe_at (InPlace channels (OfFade f))) (stages.Fade s)
+pub fade-new : (channels : ℕ) (f : Fading) (s : SiftState FadeArguments) → IsNew fade_acts (record { channels = channels; shape = record { fade_in = f.fade_in; stop = meant f.stop; fade_out = f.fade_out } }) s → IsNew effect_acts (recipe_at (InPlace channels (OfFade f))) (stages.Fade s)
 fade-new channels f s new = record { recipe = ap (λ (r : FadeArguments). InPlace r.channels (OfFade (record { fade_in = r.shape.fade_in; stop = r.shape.stop; fade_out = r.shape.fade_out }))) new.recipe; rest = new.rest; counts = new.counts; dry = new.dry; stored = new.stored; own = new.own }
 
 -- effects behind one hold no more than all together, and neither does the one

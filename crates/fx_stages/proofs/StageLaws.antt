@@ -148,6 +148,12 @@ Passes {S} acts wrap = (r : Passing) (s s' : S) (x y : Samples) → PassedOn act
 abbrev pub Runs : {S R : Type 0} → Acts S R → (S → EffectStage) → Type 0
 Runs {S} acts wrap = (xs ys : List Samples) (s s' : S) → EachThrough acts xs ys s s' → EachThrough effect_acts xs ys (wrap s) (wrap s')
 
+pub trim-passed : Passes trim_acts stages.Trim
+trim-passed r s s' x y was = passed trim-joins r s s' x y _ _ refl refl was
+
+pub trim-through : Runs trim_acts stages.Trim
+trim-through xs ys s s' was = through trim-joins xs ys s s' _ _ refl refl was
+
 pub delay-passed : Passes delay_acts stages.Delay
 delay-passed r s s' x y was = passed delay-joins r s s' x y _ _ refl refl was
 
@@ -159,6 +165,12 @@ echo-passed r s s' x y was = passed echo-joins r s s' x y _ _ refl refl was
 
 pub echo-through : Runs echo_acts stages.Echo
 echo-through xs ys s s' was = through echo-joins xs ys s s' _ _ refl refl was
+
+pub fade-passed : Passes fade_acts stages.Fade
+fade-passed r s s' x y was = passed fade-joins r s s' x y _ _ refl refl was
+
+pub fade-through : Runs fade_acts stages.Fade
+fade-through xs ys s s' was = through fade-joins xs ys s s' _ _ refl refl was
 
 pub vol-passed : Passes vol_acts stages.Vol
 vol-passed r s s' x y was = passed vol-joins r s s' x y _ _ refl refl was
@@ -178,10 +190,10 @@ remix-passed r s s' x y was = passed remix-joins r s s' x y _ _ refl refl was
 pub remix-through : Runs remix_acts stages.Remix
 remix-through xs ys s s' was = through remix-joins xs ys s s' _ _ refl refl was
 
-pub ruleset joined = (trim-joins, pad-joins, echos-joins, fade-joins, fir-joins, upsample-joins, downsample-joins)
+pub ruleset joined = (pad-joins, echos-joins, fir-joins, upsample-joins, downsample-joins)
 
 pub ruleset joined_fed = (fed, joined)
 
-pub ruleset joined_passed = (passed, joined, delay-passed, echo-passed, vol-passed, dcshift-passed, remix-passed)
+pub ruleset joined_passed = (passed, joined, trim-passed, delay-passed, echo-passed, fade-passed, vol-passed, dcshift-passed, remix-passed)
 
-pub ruleset joined_through = (through, joined, delay-through, echo-through, vol-through, dcshift-through, remix-through)
+pub ruleset joined_through = (through, joined, trim-through, delay-through, echo-through, fade-through, vol-through, dcshift-through, remix-through)

@@ -1,9 +1,10 @@
 -- The stages of all effects as one type (this project's profile): each behaves as the stage of its effect.
 use Rattle.std.specs.Prelude.{ℕ, ℤ, Bool, List, length}
 use Rattle.fx_cut.specs.DownsampleState.{IsDownsample, downsample_acts}
-use Rattle.fx_cut.specs.FadeState.{IsFade, fade_acts}
+use Rattle.fx_cut.specs.FadeState.{fade_acts, fade_sifts}
 use Rattle.fx_cut.specs.PadState.{IsPad, pad_acts}
-use Rattle.fx_cut.specs.TrimState.{IsTrim, trim_acts}
+use Rattle.fx_cut.specs.Sifted.{IsSiftState}
+use Rattle.fx_cut.specs.TrimState.{trim_acts, trim_sifts}
 use Rattle.fx_cut.specs.UpsampleState.{IsUpsample, upsample_acts}
 use Rattle.fx_step.specs.Frame.{Samples}
 use Rattle.fx_step.specs.Stage.{Acts, Counts, Given, Own}
@@ -69,12 +70,12 @@ stored_of s = (look_of s).stored
 
 -- what holds of it at every moment
 abbrev pub sound_of : EffectStage → Type 0
-sound_of (stages.Trim s) = IsTrim s
+sound_of (stages.Trim s) = IsSiftState trim_sifts s
 sound_of (stages.Pad s) = IsPad s
 sound_of (stages.Delay s) = IsTapState delay_taps s
 sound_of (stages.Echo s) = IsTapState echo_taps s
 sound_of (stages.Echos s) = IsEchos s
-sound_of (stages.Fade s) = IsFade s
+sound_of (stages.Fade s) = IsSiftState fade_sifts s
 sound_of (stages.Vol s) = IsMapState (λ (a : SampleArguments ℤ). a.channels) s
 sound_of (stages.DcShift s) = IsMapState (λ (a : SampleArguments ℤ). a.channels) s
 sound_of (stages.Fir s) = IsFir s

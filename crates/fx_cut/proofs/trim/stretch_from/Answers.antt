@@ -1,6 +1,6 @@
 -- Up to the next position all frames lie behind the positions that were passed.
 use Rattle.std.proofs.Common.{◌≡◌, ◌<◌, ◌≤◌, ◌+◌, max, arith}
-use Rattle.fx_cut.proofs.TrimMany.{alike, before-next, behind-next, no-start, no-more}
+use Rattle.fx_cut.proofs.TrimStretch.{alike, before-next, behind-next, no-start, no-more}
 use Rattle.fx_cut.proofs.trim.stretch_from.Goals as goal
 
 pub returns-in_default-clause-alike : goal.returns-in_default-clause-alike

@@ -1,5 +1,5 @@
 use Rattle.std.proofs.Common.{◌∙◌}
-use Rattle.fx_cut.proofs.FadeLaws.{weight-most, product-most}
+use Rattle.fx_cut.proofs.FadeWeights.{weight-most, product-most}
 use Rattle.fx_cut.proofs.Weighing.{whole-left, whole-right}
 use Rattle.fx_cut.proofs.fade.PreparedFade.weigh.Goals as goal
 

@@ -1,4 +1,4 @@
-use Rattle.fx_cut.proofs.FadeLaws.{weight-most}
+use Rattle.fx_cut.proofs.FadeWeights.{weight-most}
 use Rattle.fx_cut.proofs.Weighing.{whole-frame}
 use Rattle.fx_cut.proofs.slopes.Slope.weigh.Goals as goal
 

@@ -2,7 +2,7 @@ use Rattle.std.proofs.Common.{◌≡◌, ◌+◌, sym, arith}
 use Rattle.fx_cut.proofs.trim.Cuts.look_up.Goals as goal
 
 pub invariant_of-self : goal.invariant_of-self
-invariant_of-self c = rw c.deref.ensures.value at c.stretch_from-stretch.ensures.alike
+invariant_of-self c = (c.self.invariant.0, rw c.deref.ensures.value at c.stretch_from-stretch.ensures.alike)
 
 pub returns-clause-kept : goal.returns-clause-kept
 returns-clause-kept c =

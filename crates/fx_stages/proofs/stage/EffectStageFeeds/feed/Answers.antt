@@ -1,13 +1,19 @@
 -- What a stage that maps or taps frames did when it was fed, the stage of any effect did.
 use Rattle.std.proofs.Common.{refl}
-use Rattle.fx_stages.proofs.StageLaws.{dcshift-joins, delay-joins, echo-joins, fed, remix-joins, vol-joins}
+use Rattle.fx_stages.proofs.StageLaws.{dcshift-joins, delay-joins, echo-joins, fade-joins, fed, remix-joins, trim-joins, vol-joins}
 use Rattle.fx_stages.proofs.stage.EffectStageFeeds.feed.Goals as goal
+
+pub returns-in-Trim-clause-fed : goal.returns-in-Trim-clause-fed
+returns-in-Trim-clause-fed c = rw c.in-Trim.is (fed trim-joins _ _ _ _ _ _ refl refl c.feed-in-Trim.ensures.fed)
 
 pub returns-in-Delay-clause-fed : goal.returns-in-Delay-clause-fed
 returns-in-Delay-clause-fed c = rw c.in-Delay.is (fed delay-joins _ _ _ _ _ _ refl refl c.feed-in-Delay.ensures.fed)
 
 pub returns-in-Echo-clause-fed : goal.returns-in-Echo-clause-fed
 returns-in-Echo-clause-fed c = rw c.in-Echo.is (fed echo-joins _ _ _ _ _ _ refl refl c.feed-in-Echo.ensures.fed)
+
+pub returns-in-Fade-clause-fed : goal.returns-in-Fade-clause-fed
+returns-in-Fade-clause-fed c = rw c.in-Fade.is (fed fade-joins _ _ _ _ _ _ refl refl c.feed-in-Fade.ensures.fed)
 
 pub returns-in-Vol-clause-fed : goal.returns-in-Vol-clause-fed
 returns-in-Vol-clause-fed c = rw c.in-Vol.is (fed vol-joins _ _ _ _ _ _ refl refl c.feed-in-Vol.ensures.fed)

@@ -1,0 +1,322 @@
+-- Frames that are sifted many at a time, as they fall out of the line.
+use Rattle.std.proofs.Common.{◌≡◌, ◌+◌, ◌-◌, ◌*◌, ◌<◌, ◌≤◌, ◌^◌, ℕ, ℤ, suc, Bool, true, false, cond, inl, inr, ◌⊎◌, List, [], ◌∷◌, ◌++◌, map, length, take, refl, sym, ap, ◌∙◌, arith, add-zero, length-append, length-take-le}
+use Rattle.std.specs.Prelude.{FitsSigned, Some, None, option_to_list, is_none}
+use Rattle.std.specs.Int.{w32}
+use Rattle.std.specs.List.{All}
+use Rattle.std.proofs.lemmas.Bool.{cases_lt}
+use Rattle.std.proofs.lemmas.List.Elements.{All-cons, All-head, All-nil, All-tail, All-take}
+use Rattle.fx_step.specs.Feed.{Fed, GaveNext, TookNext, nothing, taken, given}
+use Rattle.fx_step.specs.Frame.{IsFrame, Samples}
+use Rattle.fx_step.specs.Hand.{IsHand}
+use Rattle.fx_step.specs.Given.{plain}
+use Rattle.fx_ring.specs.Line.{Frames, IsLine, IsSamples, pushed_all}
+use Rattle.fx_ring.proofs.ManyFrames.{frames-samples}
+use Rattle.fx_lists.specs.Lists.{pieces}
+use Rattle.fx_lists.proofs.Puts.{pieces-take}
+use Rattle.fx_lists.proofs.Pieces.{length-pieces}
+use Rattle.fx_step.specs.Stage.{Given, is_enough}
+use Rattle.fx_step.proofs.FedLaws.{Fed-then}
+use Rattle.fx_cut.specs.Sifted.{AreSettled, IsSiftState, Sifts, SiftState, made_along, settled_in, sift_acts, sifted_here}
+use Rattle.fx_cut.proofs.Fallen.{fallen, stays, oldest-first}
+use Rattle.fx_cut.proofs.Onto.{gone, onto, onto-line, onto-long, onto-more, onto-none, out-full, out-more, out-room, out_of, same-line}
+use Rattle.fx_cut.proofs.Pieces.{all-pieces}
+use Rattle.fx_cut.proofs.SiftPassing.{Gave-before, IsSift-before, held-sift}
+use Rattle.fx_cut.proofs.SiftSteps.{IsSift-fallen, IsSift-inside, Took-fallen, Took-inside, came, due-given}
+
+no-frames : (gs : List Samples) (ws : List Given) → map plain gs ≡ ws → ws ≡ [] → gs ≡ []
+no-frames [] ws e n = refl
+no-frames (g ∷ gs) ws e n = absurd (cc (e, n))
+
+no-counts : (b : Bool) (g k : ℕ) → k ≡ 0 → cond b (g + k) g ≡ g
+no-counts true g k e = omega arith
+no-counts false g k e = refl
+
+counts-more : (b : Bool) (g k j n : ℕ) → n ≡ k + j → cond b (cond b (g + k) g + j) (cond b (g + k) g) ≡ cond b (g + n) g
+counts-more true g k j n e = omega arith
+counts-more false g k j n e = refl
+
+module _ {M : Type 0} (sifts : Sifts M) where
+  -- after these frames, with no frame in hand, where all that fell out were given, or none
+  abbrev pub later : Bool → SiftState M → List Samples → SiftState M
+  later b s xs = record s { hand = None; line = onto s.line xs; taken = s.taken + length xs; given = cond b (s.given + gone s.line (length xs)) s.given }
+
+  -- what the stage is after so many frames of the input, of which so many were given
+  abbrev pub passed : SiftState M → Frames ℤ → ℕ → ℕ → SiftState M
+  passed s line n k = record s { line = line; taken = s.taken + n; given = s.given + k }
+
+  -- what a stage meets that gives, or leaves out, all the frames that fall out when so many come
+  pub record Alike (b : Bool) (s : SiftState M) (n : ℕ) : Type 0 where
+    pub is : IsSiftState sifts s
+    pub empty : s.hand ≡ None
+    pub running : s.ended ≡ false
+    pub gives : (i : ℕ) → i < gone s.line n → sifts.gives s.arguments (settled_in sifts s.arguments (s.taken - length s.line.items + i)) (s.taken - length s.line.items + i) ≡ b
+    pub wanted : (i : ℕ) → i < n → is_enough (sifts.enough s.arguments) (s.taken + i) ≡ false
+    pub few : s.taken + n ≤ 2 ^ 56
+
+  -- what one frame leads to, where these are given
+  abbrev Next : Bool → SiftState M → Samples → List Samples → Type 0
+  Next b s x gs = Fed (sift_acts sifts) s (x ∷ []) gs (later b s (x ∷ [])) × IsSiftState sifts (later b s (x ∷ []))
+
+  same-state : (s : SiftState M) (l m : Frames ℤ) (t u g h : ℕ) → l ≡ m → t ≡ u → g ≡ h → ◌≡◌ {A = SiftState M} (record s { hand = None; line = l; taken = t; given = g }) (record s { hand = None; line = m; taken = u; given = h })
+  same-state s l m t u g h e e' e'' = rw (e, e', e'') refl
+
+  later-none : (b : Bool) (s : SiftState M) → IsSiftState sifts s → s.hand ≡ None → later b s [] ≡ s
+  later-none b s is e =
+      let within = is.line.within in
+      let none = onto-none s.line within in
+      let gone-none : gone s.line 0 ≡ 0 = omega arith in
+      let back : ◌≡◌ {A = SiftState M} (record s { hand = None }) s = rw (← e) refl in
+      same-state s (onto s.line []) s.line (s.taken + 0) s.taken (cond b (s.given + gone s.line 0) s.given) s.given none.0 (add-zero s.taken) (no-counts b s.given (gone s.line 0) gone-none) ∙ back
+
+  later-more : (b : Bool) (s : SiftState M) (x : Samples) (xs : List Samples) → length s.line.items ≤ s.line.capacity → later b (later b s (x ∷ [])) xs ≡ later b s (x ∷ xs)
+  later-more b s x xs within =
+      let next : Frames ℤ = onto s.line (x ∷ []) in
+      let long = onto-long s.line (x ∷ []) in
+      let t : s.taken + 1 + length xs ≡ s.taken + length (x ∷ xs) = omega arith in
+      let k : gone s.line (length (x ∷ xs)) ≡ gone s.line 1 + gone next (length xs) = omega arith in
+      same-state s (onto next xs) (onto s.line (x ∷ xs)) (s.taken + 1 + length xs) (s.taken + length (x ∷ xs)) _ (cond b (s.given + gone s.line (length (x ∷ xs))) s.given) (onto-more s.line x xs within) t (counts-more b s.given (gone s.line 1) (gone next (length xs)) (gone s.line (length (x ∷ xs))) k)
+
+  module _ (ok : AreSettled sifts) where
+    module _ (b : Bool) (s : SiftState M) (n : ℕ) (x : Samples) (a : Alike b s (suc n)) (sample : IsSamples w32 s.line.channels x) where
+      dry : is_none s.hand ≡ true
+      dry = ap is_none a.empty
+
+      within : length s.line.items ≤ s.line.capacity
+      within = a.is.line.within
+
+      lined : IsLine w32 (onto s.line (x ∷ []))
+      lined = onto-line s.line (x ∷ []) a.is.line (All-cons (IsSamples w32 s.line.channels) x [] sample (All-nil (IsSamples w32 s.line.channels)))
+
+      some : is_enough (sifts.enough s.arguments) s.taken ≡ false
+      some = let k = a.wanted 0 (omega arith) in rw add-zero at k
+
+      below : s.taken < 2 ^ 56
+      below = let few = a.few in omega arith
+
+      -- it stays in the line
+      inside : length s.line.items < s.line.capacity → Next b s x []
+      inside h =
+          let room = out-room s.line x within h in
+          let none : gone s.line 1 ≡ 0 = omega arith in
+          let same : cond b (s.given + gone s.line 1) s.given ≡ s.given = no-counts b s.given (gone s.line 1) none in
+          let mid : SiftState M = came sifts s (onto s.line (x ∷ [])) s.hand in
+          let last : ◌≡◌ {A = SiftState M} (later b s (x ∷ [])) mid = rw (same, a.empty) refl in
+          let now = IsSift-inside sifts ok s x a.is dry a.running (onto s.line (x ∷ [])) room.0 refl lined refl refl below in
+          let step : TookNext (sift_acts sifts) s mid x = record {
+            dry = dry;
+            due = due-given sifts s a.is a.running dry;
+            not_ended = a.running;
+            not_spent = rw a.empty some;
+            took = Took-inside sifts ok s x a.is dry a.running (onto s.line (x ∷ [])) room.0 refl;
+            held = held-sift sifts mid now;
+          } in
+          rw last (taken [] [] x s mid nothing step, now)
+
+      -- the oldest falls out
+      module _ (h : s.line.capacity ≤ length s.line.items) where
+        out : (o : Samples) × (Some o ≡ fallen s.line.capacity s.line.items x) × (out_of s.line (x ∷ []) ≡ o ∷ [])
+        out = out-full s.line x within h
+
+        one : gone s.line 1 ≡ 1
+        one = let w = within in omega arith
+
+        here : sifts.gives s.arguments (settled_in sifts s.arguments (s.taken - length s.line.items)) (s.taken - length s.line.items) ≡ b
+        here =
+            let some-out : 0 < gone s.line (suc n) = let w = within in omega arith in
+            let k = a.gives 0 some-out in
+            rw add-zero at k
+
+        -- and is left out
+        left : b ≡ false → Next b s x []
+        left e =
+            let mid : SiftState M = came sifts s (onto s.line (x ∷ [])) None in
+            let not-here = here ∙ e in
+            let none : [] ≡ sifted_here sifts s.arguments (settled_in sifts s.arguments (s.taken - length s.line.items)) (s.taken - length s.line.items) out.0 = rw not-here refl in
+            let now = IsSift-fallen sifts ok s x a.is dry a.running (onto s.line (x ∷ [])) out.0 None out.1 refl lined refl refl below none (λ y q. absurd (cc)) in
+            let step : TookNext (sift_acts sifts) s mid x = record {
+              dry = dry;
+              due = due-given sifts s a.is a.running dry;
+              not_ended = a.running;
+              not_spent = rw a.empty some;
+              took = Took-fallen sifts ok s x a.is dry a.running (onto s.line (x ∷ [])) out.0 None out.1 refl none;
+              held = held-sift sifts mid now;
+            } in
+            rw e (taken [] [] x s mid nothing step, now)
+
+        -- and is given
+        full : (g : Samples) → b ≡ true → plain g ≡ sifts.made s.arguments (settled_in sifts s.arguments (s.taken - length s.line.items)) (s.taken - length s.line.items) out.0 → IsSamples w32 s.line.channels g → Next b s x (g ∷ [])
+        full g e is-g g-samples =
+            let now-here = here ∙ e in
+            let made : plain g ∷ [] ≡ sifted_here sifts s.arguments (settled_in sifts s.arguments (s.taken - length s.line.items)) (s.taken - length s.line.items) out.0 = rw now-here (ap (λ y. y ∷ []) is-g) in
+            let count = g-samples.count in
+            let lines = a.is.line in
+            let some-channels = lines.some in
+            let few-channels = lines.few in
+            let whole : length g ≡ sifts.channels s.arguments = count ∙ a.is.channels in
+            let framed : IsFrame g = record { some = omega arith; few = omega arith; fits = g-samples.fits } in
+            let mid : SiftState M = came sifts s (onto s.line (x ∷ [])) (Some g) in
+            let last : SiftState M = record mid { hand = None; given = mid.given + 1 } in
+            let same : ◌≡◌ {A = SiftState M} (later b s (x ∷ [])) last = rw (e, one) refl in
+            let hand : IsHand (sifts.channels s.arguments) (Some g) = λ y q. let w : g ≡ y = cc in (rw (← w) framed, rw (← w) whole) in
+            let is-mid : IsSiftState sifts mid = IsSift-fallen sifts ok s x a.is dry a.running (onto s.line (x ∷ [])) out.0 (Some g) out.1 refl lined refl refl below made hand in
+            let is-last = IsSift-before sifts mid g is-mid refl a.running in
+            let step : TookNext (sift_acts sifts) s mid x = record {
+              dry = dry;
+              due = due-given sifts s a.is a.running dry;
+              not_ended = a.running;
+              not_spent = rw a.empty some;
+              took = Took-fallen sifts ok s x a.is dry a.running (onto s.line (x ∷ [])) out.0 (Some g) out.1 refl made;
+              held = held-sift sifts mid is-mid;
+            } in
+            let gave : GaveNext (sift_acts sifts) mid last g = record { gave = Gave-before sifts mid g is-mid refl a.running; held = held-sift sifts last is-last } in
+            rw same (given (x ∷ []) [] g mid last (taken [] [] x s mid nothing step) gave, is-last)
+
+      -- and the others find it so
+      alike-next : IsSiftState sifts (later b s (x ∷ [])) → Alike b (later b s (x ∷ [])) n
+      alike-next is-next =
+          let w = within in
+          let low = a.is.within in
+          let long = onto-long s.line (x ∷ []) in
+          let now : ℕ = length (onto s.line (x ∷ [])).items in
+          record {
+            is = is-next;
+            empty = refl;
+            running = a.running;
+            gives = λ i h.
+                let e : s.taken - length s.line.items + (gone s.line 1 + i) ≡ s.taken + 1 - now + i = omega arith in
+                let k = a.gives (gone s.line 1 + i) (omega arith) in
+                rw e at k;
+            wanted = λ i h. let e : s.taken + (i + 1) ≡ s.taken + 1 + i = omega arith in let k = a.wanted (i + 1) (omega arith) in rw e at k;
+            few = let few = a.few in omega arith;
+          }
+
+    -- these are given for those that fall out
+    abbrev Made : Bool → SiftState M → List Samples → List Samples → Type 0
+    Made b s xs gs = map plain gs ≡ cond b (made_along sifts s.arguments (s.taken - length s.line.items) (out_of s.line xs)) []
+
+    -- what frames lead to, where these are given
+    abbrev Leads : Bool → List Samples → Type 0
+    Leads b xs = (gs : List Samples) (s : SiftState M) → Alike b s (length xs) → All (IsSamples w32 s.line.channels) xs → Made b s xs gs → All (IsSamples w32 s.line.channels) gs
+        → Fed (sift_acts sifts) s xs gs (later b s xs) × IsSiftState sifts (later b s xs)
+
+    leads-none : (b : Bool) → Leads b []
+    leads-none b gs s a samples made fit =
+        let none = (onto-none s.line a.is.line.within).1 in
+        let empty : gs ≡ [] = no-frames gs _ made (nothing-made b none) in
+        rw (later-none b s a.is a.empty, empty) (nothing, a.is)
+      where
+        nothing-made : (c : Bool) → out_of s.line [] ≡ [] → cond c (made_along sifts s.arguments (s.taken - length s.line.items) (out_of s.line [])) [] ≡ []
+        nothing-made true e = ap (λ os. made_along sifts s.arguments (s.taken - length s.line.items) os) e
+        nothing-made false e = refl
+
+    module _ (b : Bool) (x : Samples) (xs : List Samples) (rest : Leads b xs) (s : SiftState M) (a : Alike b s (suc (length xs))) (samples : All (IsSamples w32 s.line.channels) (x ∷ xs)) where
+      sample : IsSamples w32 s.line.channels x
+      sample = All-head (IsSamples w32 s.line.channels) x xs samples
+
+      others : All (IsSamples w32 s.line.channels) xs
+      others = All-tail (IsSamples w32 s.line.channels) x xs samples
+
+      more : out_of s.line (x ∷ []) ++ out_of (onto s.line (x ∷ [])) xs ≡ out_of s.line (x ∷ xs)
+      more = out-more s.line x xs a.is.line.within
+
+      -- the others behind the first frame, for which these were given
+      then : (fs hs : List Samples) → Next b s x fs → Made b (later b s (x ∷ [])) xs hs → All (IsSamples w32 s.line.channels) hs → Fed (sift_acts sifts) s (x ∷ xs) (fs ++ hs) (later b s (x ∷ xs)) × IsSiftState sifts (later b s (x ∷ xs))
+      then fs hs first made fit =
+          let all = rest hs (later b s (x ∷ [])) (alike-next b s (length xs) x a sample first.1) others made fit in
+          let last = later-more b s x xs a.is.line.within in
+          rw (← last) (Fed-then (sift_acts sifts) s (later b s (x ∷ [])) (later b (later b s (x ∷ [])) xs) (x ∷ []) fs xs hs first.0 all.0, all.1)
+
+      room : (gs : List Samples) → length s.line.items < s.line.capacity → Made b s (x ∷ xs) gs → All (IsSamples w32 s.line.channels) gs → Fed (sift_acts sifts) s (x ∷ xs) gs (later b s (x ∷ xs)) × IsSiftState sifts (later b s (x ∷ xs))
+      room gs h made fit =
+          let none = (out-room s.line x a.is.line.within h).1 in
+          let low = a.is.within in
+          let long = onto-long s.line (x ∷ []) in
+          let place : s.taken - length s.line.items ≡ s.taken + 1 - length (onto s.line (x ∷ [])).items = omega arith in
+          let outs : out_of s.line (x ∷ xs) ≡ out_of (onto s.line (x ∷ [])) xs = sym more ∙ ap (λ os. os ++ out_of (onto s.line (x ∷ [])) xs) none in
+          let made' : Made b (later b s (x ∷ [])) xs gs =
+          made ∙ ap (λ os. cond b (made_along sifts s.arguments (s.taken - length s.line.items) os) []) outs ∙ ap (λ n. cond b (made_along sifts s.arguments n (out_of (onto s.line (x ∷ [])) xs)) []) place in
+          then [] gs (inside b s (length xs) x a sample h) made' fit
+
+      falls : (gs : List Samples) → s.line.capacity ≤ length s.line.items → Made b s (x ∷ xs) gs → All (IsSamples w32 s.line.channels) gs → Fed (sift_acts sifts) s (x ∷ xs) gs (later b s (x ∷ xs)) × IsSiftState sifts (later b s (x ∷ xs))
+      falls gs h made fit = go b refl gs (made ∙ ap (λ os. cond b (made_along sifts s.arguments (s.taken - length s.line.items) os) []) outs) fit
+        where
+          oldest : (o : Samples) × (Some o ≡ fallen s.line.capacity s.line.items x) × (out_of s.line (x ∷ []) ≡ o ∷ [])
+          oldest = out b s (length xs) x a sample h
+
+          outs : out_of s.line (x ∷ xs) ≡ oldest.0 ∷ out_of (onto s.line (x ∷ [])) xs
+          outs = sym more ∙ ap (λ os. os ++ out_of (onto s.line (x ∷ [])) xs) oldest.2
+
+          place : s.taken - length s.line.items + 1 ≡ s.taken + 1 - length (onto s.line (x ∷ [])).items
+          place =
+              let low = a.is.within in
+              let w = a.is.line.within in
+              let long = onto-long s.line (x ∷ []) in
+              omega arith
+
+          go : (c : Bool) → c ≡ b → (hs : List Samples) → map plain hs ≡ cond c (made_along sifts s.arguments (s.taken - length s.line.items) (oldest.0 ∷ out_of (onto s.line (x ∷ [])) xs)) [] → All (IsSamples w32 s.line.channels) hs
+              → Fed (sift_acts sifts) s (x ∷ xs) hs (later b s (x ∷ xs)) × IsSiftState sifts (later b s (x ∷ xs))
+          go false e hs m fit' =
+              let empty : hs ≡ [] = no-frames hs [] m refl in
+              then [] hs (left b s (length xs) x a sample h (sym e)) (rw (← e, empty) refl) fit'
+          go true e [] m fit' = absurd (cc (m))
+          go true e (g ∷ hs) m fit' =
+              let first : plain g ≡ sifts.made s.arguments (settled_in sifts s.arguments (s.taken - length s.line.items)) (s.taken - length s.line.items) oldest.0 = cc (m) in
+              let behind : map plain hs ≡ made_along sifts s.arguments (s.taken - length s.line.items + 1) (out_of (onto s.line (x ∷ [])) xs) = cc (m) in
+              let made' : Made b (later b s (x ∷ [])) xs hs = rw (← e) (behind ∙ ap (λ n. made_along sifts s.arguments n (out_of (onto s.line (x ∷ [])) xs)) place) in
+              then (g ∷ []) hs (full b s (length xs) x a sample h g (sym e) first (All-head (IsSamples w32 s.line.channels) g hs fit')) made' (All-tail (IsSamples w32 s.line.channels) g hs fit')
+
+      leads-more : (gs : List Samples) → Made b s (x ∷ xs) gs → All (IsSamples w32 s.line.channels) gs → Fed (sift_acts sifts) s (x ∷ xs) gs (later b s (x ∷ xs)) × IsSiftState sifts (later b s (x ∷ xs))
+      leads-more gs made fit = go (cases_lt (length s.line.items) s.line.capacity)
+        where
+          go : (length s.line.items < s.line.capacity) ⊎ (s.line.capacity ≤ length s.line.items) → Fed (sift_acts sifts) s (x ∷ xs) gs (later b s (x ∷ xs)) × IsSiftState sifts (later b s (x ∷ xs))
+          go (inl l) = room gs l made fit
+          go (inr g) = falls gs g made fit
+
+    stretch-fed : (b : Bool) (xs : List Samples) → Leads b xs
+    stretch-fed b [] = leads-none b
+    stretch-fed b (x ∷ xs) = λ gs s a samples made fit. leads-more b x xs (stretch-fed b xs) s a samples gs made fit
+
+    -- so many frames in front of the input came to the line, and those that fell out are given, or left out
+    pub piece-passed : (b : Bool) (s : SiftState M) (n k : ℕ) (line : Frames ℤ) (input fell made out : List ℤ) → Alike b s n → n * sifts.channels s.arguments ≤ length input → k * sifts.channels s.arguments ≤ length fell
+        → let xs = pieces s.line.channels n (take (n * sifts.channels s.arguments) input) in
+        line.items ≡ pushed_all s.line xs → line.capacity ≡ s.line.capacity → line.channels ≡ s.line.channels → All (IsSamples w32 s.line.channels) xs
+        → k ≡ cond b (gone s.line n) 0 → pieces s.line.channels k fell ≡ take k (s.line.items ++ xs)
+        → map plain (pieces (sifts.channels s.arguments) k made) ≡ made_along sifts s.arguments (s.taken - length s.line.items) (pieces (sifts.channels s.arguments) k (take (k * sifts.channels s.arguments) fell))
+        → All (FitsSigned w32) made → length made ≡ k * sifts.channels s.arguments → pieces (sifts.channels s.arguments) k out ≡ pieces (sifts.channels s.arguments) k made
+        → Fed (sift_acts sifts) s (pieces (sifts.channels s.arguments) n input) (pieces (sifts.channels s.arguments) k out) (passed s line n k) × IsSiftState sifts (passed s line n k)
+    piece-passed b s n k line input fell made out a room cut items capacity channels samples number is gave fits long put =
+        let w : ℕ = sifts.channels s.arguments in
+        let same = a.is.channels in
+        let xs : List Samples = pieces s.line.channels n (take (n * w) input) in
+        let gs : List Samples = pieces w k made in
+        let many : length xs ≡ n = length-pieces s.line.channels n (take (n * w) input) in
+        let front : xs ≡ pieces w n input = ap (λ c. pieces c n (take (n * w) input)) same ∙ pieces-take w n input room in
+        let out-is : pieces w k (take (k * w) fell) ≡ cond b (out_of s.line xs) [] =
+        pieces-take w k fell cut ∙ ap (λ c. pieces c k fell) (sym same) ∙ is ∙ chosen b k xs number many in
+        let all-made : map plain gs ≡ cond b (made_along sifts s.arguments (s.taken - length s.line.items) (out_of s.line xs)) [] =
+        gave ∙ ap (made_along sifts s.arguments (s.taken - length s.line.items)) out-is ∙ inner b (out_of s.line xs) in
+        let fit : All (IsSamples w32 s.line.channels) gs = rw same (frames-samples w32 w k made long fits) in
+        let all = stretch-fed b xs gs s (rw many a) samples all-made fit in
+        let onto-is : line ≡ onto s.line xs = same-line line (onto s.line xs) items capacity channels in
+        let empty : ◌≡◌ {A = SiftState M} (passed s line n k) (record s { hand = None; line = line; taken = s.taken + n; given = s.given + k }) = rw a.empty refl in
+        let last : passed s line n k ≡ later b s xs = empty ∙ same-state s line (onto s.line xs) (s.taken + n) (s.taken + length xs) (s.given + k) (cond b (s.given + gone s.line (length xs)) s.given) onto-is (ap (λ m. s.taken + m) (sym many)) (counts b k xs number many) in
+        rw (put, ← front, last) all
+      where
+        chosen : (c : Bool) (k' : ℕ) (ys : List Samples) → k' ≡ cond c (gone s.line n) 0 → length ys ≡ n → take k' (s.line.items ++ ys) ≡ cond c (out_of s.line ys) []
+        chosen true k' ys e m = rw (e, m) refl
+        chosen false k' ys e m = rw e refl
+
+        inner : (c : Bool) (os : List Samples) → made_along sifts s.arguments (s.taken - length s.line.items) (cond c os []) ≡ cond c (made_along sifts s.arguments (s.taken - length s.line.items) os) []
+        inner true os = refl
+        inner false os = refl
+
+        counts : (c : Bool) (k' : ℕ) (ys : List Samples) → k' ≡ cond c (gone s.line n) 0 → length ys ≡ n → s.given + k' ≡ cond c (s.given + gone s.line (length ys)) s.given
+        counts true k' ys e m = rw (e, m) refl
+        counts false k' ys e m = rw e (add-zero s.given)
+
+-- the samples of frames that fell out of a line fit
+pub fell-fit : (channels k : ℕ) (os : List Samples) (fell : List ℤ) → k * channels ≤ length fell → pieces channels k fell ≡ take k os → All (IsSamples w32 channels) os → All (FitsSigned w32) (take (k * channels) fell)
+fell-fit channels k os fell room is samples =
+    let front : pieces channels k (take (k * channels) fell) ≡ take k os = pieces-take channels k fell room ∙ is in
+    let fit : All (All (FitsSigned w32)) (take k os) = λ i x h. (All-take (IsSamples w32 channels) k os samples i x h).fits in
+    all-pieces (FitsSigned w32) channels k (take (k * channels) fell) (length-take-le (k * channels) fell room) (rw front fit)
