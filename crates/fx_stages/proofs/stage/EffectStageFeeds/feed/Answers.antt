@@ -4,7 +4,7 @@ use Rattle.fx_stages.proofs.StageLaws.{dcshift-joins, delay-joins, echo-joins, f
 use Rattle.fx_stages.proofs.stage.EffectStageFeeds.feed.Goals as goal
 
 pub returns-in-Trim-clause-fed : goal.returns-in-Trim-clause-fed
-returns-in-Trim-clause-fed c = rw c.in-Trim.is (fed trim-joins _ _ _ _ _ _ refl refl c.feed-in-Trim.ensures.fed)
+returns-in-Trim-clause-fed c = rw c.in-Trim.is (fed trim-joins _ _ _ _ _ _ refl refl c.feed.ensures.fed)
 
 pub returns-in-Delay-clause-fed : goal.returns-in-Delay-clause-fed
 returns-in-Delay-clause-fed c = rw c.in-Delay.is (fed delay-joins _ _ _ _ _ _ refl refl c.feed-in-Delay.ensures.fed)
