@@ -44,7 +44,7 @@ all-pieces {X} P size (suc n) xs e all =
     subst (All P) (joined size xs) (All-append P (take size xs) (drop size xs) first rest)
 
 -- frames of at least one sample are no more than the samples
-few-frames : (n w len : ℕ) → 1 ≤ w → n * w ≤ len → n ≤ len
+pub few-frames : (n w len : ℕ) → 1 ≤ w → n * w ≤ len → n ≤ len
 few-frames n w len h k = let m : n * 1 ≤ n * w = mul-le-mul_left n h in omega arith
 
 -- no more frames than there are
@@ -68,6 +68,7 @@ module _ {S R : Type 0} (acts : Acts S R) where
     pub read : n * (kind acts first).inputs ≤ length input
     pub written : k * (kind acts first).outputs ≤ length out
     pub behind : drop (k * (kind acts first).outputs) out ≡ drop (k * (kind acts first).outputs) start
+    pub none : length start < (kind acts first).outputs → n ≡ 0
 
   -- and that it passed all that it could
   pub record FedOut (first s : S) (input out : List ℤ) (n k : ℕ) : Type 0 where
@@ -78,7 +79,7 @@ module _ {S R : Type 0} (acts : Acts S R) where
   pub front-any : (first s : S) (input start out : List ℤ) (n k : ℕ) → FedFront first s [] start out n k → FedFront first s input start out n k
   front-any first s input start out n k one =
       let none = one.read in
-      record { fed = rw (← pieces-cut (kind acts first).inputs n 0 input none) one.fed; read = omega arith; written = one.written; behind = one.behind }
+      record { fed = rw (← pieces-cut (kind acts first).inputs n 0 input none) one.fed; read = omega arith; written = one.written; behind = one.behind; none = one.none }
 
   -- so many frames were passed
   module _ {first s : S} {input start mid : List ℤ} {n k : ℕ} (one : FedFront first s input start mid n k) where
@@ -129,12 +130,14 @@ module _ {S R : Type 0} (acts : Acts S R) where
             let fed = rw (kind-stays, is-part) at two.fed in
             let wrote = rw kind-stays at two.written in
             let rest = rw (kind-stays, is-room) at two.behind in
+            let none = rw (kind-stays, is-room) at two.none in
             let more : (k + j) * outs' ≡ k * outs' + j * outs' = add-mul k j outs' in
             record {
               fed = Fed-behind acts ins' outs' n m k j input mid behind new first s t one.written refl one.fed fed;
               read = read-both m (rw is-part at two.read);
               written = omega (arith, more, wrote, long);
               behind = rw more (sym (drop-drop (j * outs') (k * outs') new) ∙ ap (drop (j * outs')) (drop_at (take (k * outs') mid) behind (k * outs') front) ∙ rest ∙ ap (drop (j * outs')) one.behind ∙ drop-drop (j * outs') (k * outs') start);
+              none = λ few. omega (arith, one.none few, none (omega (arith, few, ap length one.behind, length-drop (k * outs') start)));
             }
 
         out-new : FedOut s t (part (n * ins) input) behind m j → FedOut first t input new (n + m) (k + j)

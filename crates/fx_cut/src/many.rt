@@ -10,14 +10,15 @@ use fx_step::feed::{feed_by_frames, frame_at, pass_by_calls, put_frame};
 /// A stage that can pass many frames in one piece.
 pub trait PassesMany: Stage {
     /// Takes frames from the front of the input, and writes those that are given to the front of the output, as far as one
-    /// piece goes; none where the stage is in no state for that.
+    /// piece goes; none where the stage is in no state for that; where the output has no room for one frame, no frame is taken.
     fn pass_many(&mut self, input: &[i32], output: &mut [i32]) -> Passed
         requires channels { (1 ≤ (kind Self.acts self.old).inputs) × ((kind Self.acts self.old).inputs ≤ 16) }
         requires below_limit { (n : ℕ) → n * (kind Self.acts self.old).inputs ≤ length input.now → (Self.acts.counts self.old).taken + n ≤ (kind Self.acts self.old).limit }
         ensures fed { Fed Self.acts self.old (pieces (kind Self.acts self.old).inputs result.taken input.now) (pieces (kind Self.acts self.old).outputs result.given output.new) self.new }
         ensures read { result.taken * (kind Self.acts self.old).inputs ≤ length input.now }
         ensures written { result.given * (kind Self.acts self.old).outputs ≤ length output.new }
-        ensures behind { drop (result.given * (kind Self.acts self.old).outputs) output.new ≡ drop (result.given * (kind Self.acts self.old).outputs) output.old };
+        ensures behind { drop (result.given * (kind Self.acts self.old).outputs) output.new ≡ drop (result.given * (kind Self.acts self.old).outputs) output.old }
+        ensures none { length output.old < (kind Self.acts self.old).outputs → result.taken ≡ 0 };
 }
 
 /// Passes a piece first, and then frame by frame.
@@ -31,6 +32,7 @@ fn feed_piece<S: PassesMany>(stage: &mut S, input: &[i32], output: &mut [i32]) -
     ensures dry { result.given * (kind S.acts stage.old).outputs + (kind S.acts stage.old).outputs ≤ length output.new → S.acts.dry stage.new ≡ true }
     ensures used { result.given * (kind S.acts stage.old).outputs + (kind S.acts stage.old).outputs ≤ length output.new → (S.acts.counts stage.new).ended ≡ false → spent S.acts stage.new ≡ false
         → length input.now < result.taken * (kind S.acts stage.old).inputs + (kind S.acts stage.old).inputs }
+    ensures none { length output.old < (kind S.acts stage.old).outputs → result.taken ≡ 0 }
 {
     let inputs = stage.in_channels();
     let outputs = stage.out_channels();
@@ -59,6 +61,7 @@ pub fn feed_by_pieces<S: PassesMany>(stage: &mut S, input: &[i32], output: &mut 
     ensures dry { result.given * (kind S.acts stage.old).outputs + (kind S.acts stage.old).outputs ≤ length output.new → S.acts.dry stage.new ≡ true }
     ensures used { result.given * (kind S.acts stage.old).outputs + (kind S.acts stage.old).outputs ≤ length output.new → (S.acts.counts stage.new).ended ≡ false → spent S.acts stage.new ≡ false
         → length input.now < result.taken * (kind S.acts stage.old).inputs + (kind S.acts stage.old).inputs }
+    ensures none { length output.old < (kind S.acts stage.old).outputs → result.taken ≡ 0 }
 {
     let inputs = stage.in_channels();
     let outputs = stage.out_channels();

@@ -37,7 +37,8 @@ pub enum Passing {
 /// gives what waits, and where the stage is dry, not ended and not spent, it takes the next frame of the input, and so on,
 /// until the output has no room for another frame, or the stage is dry and takes none.
 pub trait Feeds: Stage {
-    /// Takes frames from the front of the input, and writes those that are given to the front of the output.
+    /// Takes frames from the front of the input, and writes those that are given to the front of the output; where the output
+    /// has no room for one frame, no frame is taken.
     fn feed(&mut self, input: &[i32], output: &mut [i32]) -> Passed
         requires channels { (1 ≤ (kind Self.acts self.old).inputs) × ((kind Self.acts self.old).inputs ≤ 16) }
         requires below_limit { (n : ℕ) → n * (kind Self.acts self.old).inputs ≤ length input.now → (Self.acts.counts self.old).taken + n ≤ (kind Self.acts self.old).limit }
@@ -48,6 +49,7 @@ pub trait Feeds: Stage {
         ensures dry { result.given * (kind Self.acts self.old).outputs + (kind Self.acts self.old).outputs ≤ length output.new → Self.acts.dry self.new ≡ true }
         ensures used { result.given * (kind Self.acts self.old).outputs + (kind Self.acts self.old).outputs ≤ length output.new → (Self.acts.counts self.new).ended ≡ false → spent Self.acts self.new ≡ false
             → length input.now < result.taken * (kind Self.acts self.old).inputs + (kind Self.acts self.old).inputs }
+        ensures none { length output.old < (kind Self.acts self.old).outputs → result.taken ≡ 0 }
     {
         feed_by_frames(self, input, output)
     }
@@ -271,6 +273,7 @@ pub fn copy_frames(input: &[i32], output: &mut [i32], channels: usize) -> usize
     ensures written { result * channels ≤ length output.new }
     ensures behind { drop (result * channels) output.new ≡ drop (result * channels) output.old }
     ensures used { result * channels + channels ≤ length output.new → length input.now < result * channels + channels }
+    ensures none { length output.old < channels → result ≡ 0 }
 {
     let count = (input.len() / channels).min(output.len() / channels);
     let samples = count * channels;
@@ -289,6 +292,7 @@ pub fn feed_by_frames<S: Stage>(stage: &mut S, input: &[i32], output: &mut [i32]
     ensures dry { result.given * (kind S.acts stage.old).outputs + (kind S.acts stage.old).outputs ≤ length output.new → S.acts.dry stage.new ≡ true }
     ensures used { result.given * (kind S.acts stage.old).outputs + (kind S.acts stage.old).outputs ≤ length output.new → (S.acts.counts stage.new).ended ≡ false → spent S.acts stage.new ≡ false
         → length input.now < result.taken * (kind S.acts stage.old).inputs + (kind S.acts stage.old).inputs }
+    ensures none { length output.old < (kind S.acts stage.old).outputs → result.taken ≡ 0 }
 {
     let inputs = stage.in_channels();
     let outputs = stage.out_channels();

@@ -51,14 +51,14 @@ head-causes X HeadTooLong reads new h = h
 
 -- the frames that had come whole, by the reader's count from the first byte of the input on
 pub Ran-told : {R : Type 0} (told : R → ℕ) (first at : Held R) (reader new : R) (start : Reading) (offset n : ℕ) → first.bytes ≡ [] → first.reader ≡ reader → Takes told first at offset → RanToFailure told at new start n → told new < 2 ^ 64 - 1
-    → (told reader + offset ≤ told new) × (n ≡ at_most_announced start.left (told new - told reader - offset) / size_of start)
+    → (told reader + offset ≤ told new) × (n ≡ at_most_announced start.left (told new - told reader - offset) / size_of start) × ((left : ℕ) → start.left ≡ Some left → told new - told reader - offset < left)
 Ran-told told first at reader new start offset n none is t r h =
     let later = r.later h in
     let here = t.counted (omega arith) in
     let empty : length first.bytes ≡ 0 = ap length none in
     let same : told first.reader ≡ told reader = ap told is in
     let past : length at.bytes + (told new - told at.reader) ≡ told new - told reader - offset = omega arith in
-    (omega arith, r.count h ∙ ap (λ k. at_most_announced start.left k / size_of start) past)
+    (omega arith, r.count h ∙ ap (λ k. at_most_announced start.left k / size_of start) past, λ left e. rw past at (r.short h left e))
 
 -- a line that was made is the words' line
 pub line-read : (found : Result Said LineFault) (line : Said) → LineReads found (Ok line) → found ≡ Ok line

@@ -1,5 +1,5 @@
 -- The conversion of a sound whose command line was accepted, on the whole list of bytes (this project's profile).
-use Rattle.std.specs.Prelude.{◌≡◌, ◌≢◌, ◌⊎◌, ℕ, ◌+◌, ◌-◌, ◌/◌, ◌^◌, ◌<◌, ◌≤◌, true, false, List, drop, length, Option, Result, Ok, Err, IfOk, []}
+use Rattle.std.specs.Prelude.{◌≡◌, ◌≢◌, ◌⊎◌, ℕ, ◌+◌, ◌-◌, ◌/◌, ◌^◌, ◌<◌, ◌≤◌, true, false, List, drop, length, Option, Some, Result, Ok, Err, IfOk, []}
 use Rattle.fx_run.specs.declared.pump.Cause.TheVariants as Causes
 use Rattle.fx_run.specs.declared.report.Report.{Report}
 use Rattle.fx_run.specs.declared.report.RunFault.{RunFault}
@@ -51,9 +51,12 @@ pub record Whole (line : Said) (files : List (List ℕ)) (bytes : List ℕ) (fir
   pub run : Running line files bytes r
   pub ran : Ran run.plan (drop run.offset bytes) first now (Ok r)
 
--- the reader told the head and so many bytes of the sound: n are all their whole frames
+-- the reader told the head and so many bytes of the sound, fewer than are announced: n are all their whole frames
 abbrev pub TookAllTold : {R : Type 0} → ByteReader R → R → R → Head → ℕ → ℕ → Type 0
-TookAllTold reads reader new h offset n = reads.told new < 2 ^ 64 - 1 → (reads.told reader + offset ≤ reads.told new) × (n ≡ at_most_announced h.announced (reads.told new - reads.told reader - offset) / size_of (start_of h))
+TookAllTold reads reader new h offset n = reads.told new < 2 ^ 64 - 1 →
+    (reads.told reader + offset ≤ reads.told new)
+    × (n ≡ at_most_announced h.announced (reads.told new - reads.told reader - offset) / size_of (start_of h))
+    × ((left : ℕ) → h.announced ≡ Some left → reads.told new - reads.told reader - offset < left)
 
 -- a read had failed before: all whole frames had come, no effect had enough of them, and all that was due had been given
 pub record ToldFirst {R : Type 0} (reads : ByteReader R) (reader new : R) (plan : Planning) (offset n given : ℕ) : Type 0 where

@@ -1,5 +1,5 @@
 //! Messages on their way to a writer that may fail.
-ghost use Rattle.std.specs.Prelude.{◌≡◌, ◌++◌, ◌<◌, MatchBool};
+ghost use Rattle.std.specs.Prelude.{◌≡◌, ◌++◌, ◌<◌, MatchBool, false, true};
 ghost use Rattle.std.specs.Io.KnownBytes.{Appends};
 ghost use Rattle.soxchain.specs.Messages.{line_feed};
 ghost use Rattle.soxchain.specs.Saying.{Begins, Says};
@@ -55,6 +55,15 @@ impl<'a, M: ByteOut> Telling<'a, M> {
         self.text(value);
         self.text(end);
     }
+}
+
+/// Writes a whole text, and hands all of it on: `false` where the writer failed, which then has a front of the text.
+pub fn show<W: ByteOut>(writer: &mut W, text: &str) -> bool
+    ensures whole { result ≡ true → Appends (W.writes.taken writer.old) (W.writes.taken writer.new) text.now }
+    ensures flushed { result ≡ true → W.writes.flushed writer.new ≡ true }
+    ensures front { result ≡ false → ToldFront (W.writes.taken writer.old) (W.writes.taken writer.new) (W.writes.failures writer.old) (W.writes.failures writer.new) text.now }
+{
+    hand(writer, text.as_bytes()) && writer.flush().is_ok()
 }
 
 // Hands the writer a whole text: `false` where it failed before the end.

@@ -1,5 +1,5 @@
 -- What the program does, on any machine (this project's profile).
-use Rattle.std.specs.Prelude.{◌≡◌, ◌≢◌, ℕ, true, List, [], Option, Some, None, Ok, Err, codes}
+use Rattle.std.specs.Prelude.{◌≡◌, ◌≢◌, ◌≤◌, ℕ, true, List, [], length, take, Option, Some, None, Ok, Err, codes}
 use Rattle.std.specs.Io.KnownBytes.{Appends}
 use Rattle.std.specs.declared.io.ErrorKind.{ErrorKind}
 use Rattle.std.specs.declared.io.ErrorKind.TheVariants as ErrorKinds
@@ -29,14 +29,17 @@ use Rattle.soxchain_cli.specs.Named.{Files}
 use Rattle.soxchain_words.specs.Files.{AreFronts, IsUnread}
 
 -- A machine, by what it answered to one call: the words behind the program's name, or why they could not be had; a standard stream;
--- a file that it created beside an input of a name, or beside standard input, or refused to create.
+-- a file that it created beside an input of a name, or beside standard input, or refused to create; or by what the call left to it:
+-- standard output, or a file that it had created, to which nothing more is written.
 pub record Machine (I O F : Type 0) : Type 1 where
   pub asked : List (List ℕ) → Type 0
   pub mute : ErrorKind → Type 0
   pub is_input : I → Type 0
   pub is_output : O → Type 0
+  pub left : O → Type 0
   pub created : Option (List ℕ) → List ℕ → F → Type 0
   pub uncreated : Option (List ℕ) → List ℕ → Type 0
+  pub closed : F → Type 0
 
 -- The file that was opened to read by one call, by its name, or the name whose opening was refused.
 pub record Opened (H R : Type 0) : Type 1 where
@@ -85,17 +88,19 @@ module _ {H I R O F M : Type 0} (d : Devices I R O F) (m : H → H → Machine I
         → status ≡ 2
         → Says writes old new (open_message name)
         → Sounds reads line files reader host new_host old new status
-    Streamed : (source left : Held X) (prepared : Prepared) (output : O) (ended : Counts O) (report : Report)
+    Streamed : (next : H) (source left : Held X) (prepared : Prepared) (output : O) (ended : Counts O) (report : Report)
         → IsPrepared reads line files reader source prepared
         → file_name line.output ≡ None
-        → (m host new_host).is_output output
+        → (m host next).is_output output
         → Finished reads (counted_writes d.output) (ready_for line prepared) source left (uncounted output) ended (Says writes old new) status report
+        → (m next new_host).left ended.inner
         → Sounds reads line files reader host new_host old new status
-    Filed : (source left : Held X) (prepared : Prepared) (name : List ℕ) (file ended : F)
+    Filed : (next : H) (source left : Held X) (prepared : Prepared) (name : List ℕ) (file ended : F)
         → IsPrepared reads line files reader source prepared
         → file_name line.output ≡ Some name
-        → (m host new_host).created (file_name line.input) name file
+        → (m host next).created (file_name line.input) name file
         → Files reads d.created d.position writes (ready_for line prepared) source left file ended name old new status
+        → (m next new_host).closed ended
         → Sounds reads line files reader host new_host old new status
 
   -- What becomes of a line whose coefficient files are there: IN could not be opened; or its sound was gone through, from standard
@@ -136,16 +141,20 @@ module _ {H I R O F M : Type 0} (d : Devices I R O F) (m : H → H → Machine I
         → Lines o line files next new_host old new status
         → Works o line host new_host old new status
 
-  -- A text was shown on standard output, or could not be.
+  -- A text was shown on standard output; or this failed, and a front of the text was. Nothing else was written to it.
   pub data IsShown (text : List ℕ) (host new_host : H) (old new : Telling M) (status : ℕ) : Type 0 where
-    Whole : (output ended : O)
-        → (m host new_host).is_output output
+    Whole : (next : H) (output ended : O)
+        → (m host next).is_output output
         → Appends (d.output output) (d.output ended) text
+        → (m next new_host).left ended
         → status ≡ 0
         → new ≡ old
         → IsShown text host new_host old new status
-    Cut : (output : O)
-        → (m host new_host).is_output output
+    Cut : (next : H) (output ended : O) (count : ℕ)
+        → (m host next).is_output output
+        → count ≤ length text
+        → Appends (d.output output) (d.output ended) (take count text)
+        → (m next new_host).left ended
         → status ≡ 2
         → Says writes old new (open_message (codes "-"))
         → IsShown text host new_host old new status

@@ -83,11 +83,13 @@ fn process_from<H: Host, R: ByteIn + Drop, M: ByteOut>(
         Stream::Standard => {
             let mut output = Counted::new(host.output());
             let (status, _report) = finish_for(line, prepared, &mut source, &mut output, telling);
+            host.leave(output.into_inner());
             status
         }
         Stream::Named(name) => match host.create(line.input(), name, &prepared) {
             Ok(file) => {
-                let (status, _file) = process_to(line, prepared, &mut source, file, name, telling);
+                let (status, file) = process_to(line, prepared, &mut source, file, name, telling);
+                host.close(file);
                 status
             }
             Err(_) => cannot_open(telling, name),

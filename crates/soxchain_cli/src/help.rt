@@ -3,9 +3,9 @@ ghost use Rattle.soxchain_cli.specs.Working.{IsShown};
 
 use crate::files::cannot_open;
 use crate::host::Host;
-use fx_frame::ByteOut;
-use soxchain::inner::Telling;
-use soxchain_words::{effects, show};
+use fx_frame::{ByteOut, Counted};
+use soxchain::inner::{Telling, show};
+use soxchain_words::effects;
 
 /// The answer to `--help`, from the table of effects.
 macro_rules! help {
@@ -45,8 +45,12 @@ pub fn tell_answer<H: Host, M: ByteOut>(host: &mut H, answer: &str, telling: &mu
     ensures { IsShown (record { input = H.Input.remaining; file = H.Reader.remaining; output = H.Output.contents; created = H.Created.contents; position = H.Created.stream_position })
         H.machine M.writes answer.now host.old host.new telling.old telling.new result }
 {
-    match show(&mut host.output(), answer) {
-        Ok(()) => 0,
-        Err(_) => cannot_open(telling, "-"),
+    let mut output = Counted::new(host.output());
+    let is_whole = show(&mut output, answer);
+    host.leave(output.into_inner());
+    if is_whole {
+        0
+    } else {
+        cannot_open(telling, "-")
     }
 }

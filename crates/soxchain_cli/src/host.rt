@@ -47,6 +47,10 @@ pub trait Host: Openings {
     fn output(&mut self) -> Self::Output
         ensures { (machine self.old self.new).is_output result };
 
+    /// Leaves standard output as it is: nothing more is written to it.
+    fn leave(&mut self, output: Self::Output)
+        ensures { (machine self.old self.new).left output };
+
     /// Creates the file of this name, or empties an older one, once a new chain stands. Refused where it is the input.
     fn create(
         &mut self,
@@ -57,6 +61,10 @@ pub trait Host: Openings {
         requires { IsNewChain (planning prepared.now.plan) prepared.now.chain }
         ensures created { IfOk result (λ file. (machine self.old self.new).created (name_in input.entry) name.now file) }
         ensures refused { IfErr result (λ _. (machine self.old self.new).uncreated (name_in input.entry) name.now) };
+
+    /// Leaves a file that was created as it is: nothing more is written to it.
+    fn close(&mut self, file: Self::Created)
+        ensures { (machine self.old self.new).closed file };
 }
 
 impl Host for HostRuntime {
@@ -67,7 +75,7 @@ impl Host for HostRuntime {
     type Created = File;
 
     // Of the machine itself nothing is known.
-    ghost machine = { λ _ _. record { asked = λ _. ⊤; mute = λ _. ⊤; is_input = λ _. ⊤; is_output = λ _. ⊤; created = λ _ _ _. ⊤; uncreated = λ _ _. ⊤ } };
+    ghost machine = { λ _ _. record { asked = λ _. ⊤; mute = λ _. ⊤; is_input = λ _. ⊤; is_output = λ _. ⊤; left = λ _. ⊤; created = λ _ _ _. ⊤; uncreated = λ _ _. ⊤; closed = λ _. ⊤ } };
 
     fn memory(&self) -> Global {
         self.alloc()
@@ -85,7 +93,11 @@ impl Host for HostRuntime {
         self.stdout()
     }
 
+    fn leave(&mut self, _output: Stdout) {}
+
     fn create(&mut self, input: Stream<'_>, name: &str, _prepared: &Prepared) -> io::Result<File> {
         create_beside(self, input, name)
     }
+
+    fn close(&mut self, _file: File) {}
 }

@@ -19,18 +19,18 @@ use fx_sound::Head;
 use help::HELP;
 use outline::{Outline, outline_of};
 use reading::head_of;
-use soxchain::inner::{Refusal, Telling};
-use soxchain_words::{FilesFault, VERSION, answer_to, fault_of, read_files, show, words_of};
-use std::io;
+use soxchain::inner::{Refusal, Telling, show};
+use soxchain_words::{FilesFault, VERSION, answer_to, fault_of, read_files, words_of};
 use std::process::ExitCode;
 use stop::Stop;
 use style::Style;
 
-/// The status where something was shown on standard output.
-fn shown(rt: &HostRuntime, done: io::Result<()>) -> u8 {
-    match done {
-        Ok(()) => 0,
-        Err(_) => Stop::CannotOpen("-").tell(&mut Counted::new(rt.stderr())),
+/// The status where something was shown whole on standard output, or was not.
+fn shown(rt: &HostRuntime, is_whole: bool) -> u8 {
+    if is_whole {
+        0
+    } else {
+        Stop::CannotOpen("-").tell(&mut Counted::new(rt.stderr()))
     }
 }
 
@@ -50,7 +50,7 @@ fn stopped(rt: &HostRuntime, style: Style, stop: &Stop<'_>) -> u8 {
         stop.advice(),
     ) {
         Ok(()) => status,
-        Err(_) => shown(rt, Err(io::Error::from(io::ErrorKind::BrokenPipe))),
+        Err(_) => shown(rt, false),
     }
 }
 
@@ -70,7 +70,7 @@ fn plan_line(
         Ok(outline) => outline,
         Err(_) => return stopped(rt, style, &Stop::Refused(line, Refusal::Chain)),
     };
-    shown(rt, outline.show(&mut rt.stdout(), style))
+    shown(rt, outline.show(&mut rt.stdout(), style).is_ok())
 }
 
 /// Does what a command line asks for, and answers the status.
@@ -93,7 +93,7 @@ fn answer_line(rt: &mut HostRuntime, style: Style, line: &CommandLine) -> u8 {
 /// Does what the words ask for, and answers the status.
 fn answer_words(rt: &mut HostRuntime, words: &[String]) -> u8 {
     if let Some(text) = answer_to(words, HELP, VERSION) {
-        return shown(rt, show(&mut rt.stdout(), text));
+        return shown(rt, show(&mut Counted::new(rt.stdout()), text));
     }
     let (style, words) = style::split(words);
     match parse_line(rt.alloc(), words) {

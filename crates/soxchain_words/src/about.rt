@@ -1,10 +1,6 @@
 //! What both programs say of themselves: the version, and the answers to `--help` and `--version`.
-ghost use Rattle.std.specs.Prelude.{◌≡◌, OnOk, map, option_copied, string_bytes};
-ghost use Rattle.std.specs.Io.KnownBytes.{Appends};
+ghost use Rattle.std.specs.Prelude.{◌≡◌, map, option_copied, string_bytes};
 ghost use Rattle.soxchain_words.specs.About.{answer_of};
-
-use std::io;
-use std::io::Write;
 
 /// The version, and the logic by which it is proved: kits that differ only in their compiler share it.
 /// The one place of the version: the manual's pages and the package take it from here.
@@ -25,12 +21,4 @@ pub fn answer_to<'a>(words: &[String], help: &'a str, version: &'a str) -> Optio
     } else {
         None
     }
-}
-
-/// Writes a text, and hands all of it on.
-pub fn show<W: Write>(writer: &mut W, text: &str) -> io::Result<()>
-    ensures bytes { OnOk result (Appends (W.contents writer.old) (W.contents writer.new) text.now) }
-{
-    writer.write_all(text.as_bytes())?;
-    writer.flush()
 }

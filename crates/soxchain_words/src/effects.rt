@@ -1,5 +1,8 @@
 //! What the programs say of the effects: each effect is one row of one table.
-ghost use Rattle.std.specs.Prelude.{◌≡◌, IfSome};
+ghost use Rattle.std.specs.Prelude.{◌≡◌, IfSome, find, is_some, option_copied};
+ghost use Rattle.std.specs.Str.{bytes_eq};
+ghost use Rattle.fx_plan.specs.Names.{name_of};
+ghost use Rattle.soxchain_words.specs.Effects.{is_of_effect};
 
 /// What the programs say of an effect.
 #[derive(Clone, Copy, Drop)]
@@ -138,9 +141,18 @@ macro_rules! rows {
 /// What the programs say of each effect, in the order of `soxchain --help`.
 const EFFECTS: &[EffectHelp] = effects!(rows);
 
-/// What the programs say of the effect of this name.
-pub fn effect_of(name: &str) -> Option<&'static EffectHelp>
-    ensures { IfSome result (λ effect. effect.now.name.now ≡ name.now) }
+/// The first of these rows that is of this name.
+fn row_of<'a>(rows: &'a [EffectHelp], name: &str) -> Option<&'a EffectHelp>
+    ensures first { option_copied result ≡ find (λ row. bytes_eq name.now row.name.now) rows.now }
+    ensures named { IfSome result (λ row. row.now.name.now ≡ name.now) }
 {
-    EFFECTS.iter().find(|effect| effect.name == name)
+    rows.iter().find(|row| name == row.name)
+}
+
+/// What the programs say of the effect of this name, where a plan may have one of this name.
+pub fn effect_of(name: &str) -> Option<&'static EffectHelp>
+    ensures named { IfSome result (λ effect. effect.now.name.now ≡ name.now) }
+    ensures known { is_some result ≡ is_of_effect (name_of name.now) }
+{
+    row_of(EFFECTS, name)
 }

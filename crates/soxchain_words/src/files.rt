@@ -86,8 +86,8 @@ pub enum FilesFault<'a> {
 }
 
 /// The bytes of the coefficient files, in the order of the effects; or why they are not there, which is told of the first file
-/// that cannot be read. Each is opened and read once, in that order, and no other file is. Only the first 32 are kept, since a
-/// line of more effects is refused.
+/// that cannot be read. A file is opened and read once for each time that the words name it, in that order, and no other file is.
+/// Only the first 32 are kept, since a line of more effects is refused.
 pub fn read_files<'a, H: Openings>(
     alloc: Global,
     host: &mut H,

@@ -7,7 +7,7 @@ mod effects;
 mod files;
 mod words;
 
-pub use about::{VERSION, answer_to, show};
+pub use about::{VERSION, answer_to};
 pub use effects::{EffectHelp, SOX_HAS_IT, TIME_LIMITS, effect_of};
 pub use files::{FilesFault, Openings, read_files};
 pub use words::{fault_of, words_of};

@@ -8,7 +8,7 @@ use Rattle.fx_cut.proofs.many.feed_by_pieces.Goals.{After-feed_by_frames-waiting
 one : (g : given.Over) (c : After-feed_by_frames-waiting g) → FedFront g.S.Stage.acts c.args.stage.now c.feed_by_frames-waiting.new.stage c.args.input.now c.args.output.now c.feed_by_frames-waiting.new.output c.feed_by_frames-waiting.result.taken c.feed_by_frames-waiting.result.given
 one g c =
     let p = c.feed_by_frames-waiting.ensures in
-    front-any g.S.Stage.acts c.args.stage.now c.feed_by_frames-waiting.new.stage c.args.input.now c.args.output.now c.feed_by_frames-waiting.new.output c.feed_by_frames-waiting.result.taken c.feed_by_frames-waiting.result.given record { fed = p.fed; read = p.read; written = p.written; behind = p.behind }
+    front-any g.S.Stage.acts c.args.stage.now c.feed_by_frames-waiting.new.stage c.args.input.now c.args.output.now c.feed_by_frames-waiting.new.output c.feed_by_frames-waiting.result.taken c.feed_by_frames-waiting.result.given record { fed = p.fed; read = p.read; written = p.written; behind = p.behind; none = p.none }
 
 pub feed_piece-rest-requires : goal.feed_piece-rest-requires
 feed_piece-rest-requires g c =
@@ -17,7 +17,7 @@ feed_piece-rest-requires g c =
 
 -- and the rest was passed
 two : (g : given.Over) (c : After-feed_piece-rest g) → FedFront g.S.Stage.acts c.feed_by_frames-waiting.new.stage c.feed_piece-rest.new.stage (part (c.feed_by_frames-waiting.result.taken * c.in_channels-inputs.result) c.args.input.now) (part (c.feed_by_frames-waiting.result.given * c.out_channels-outputs.result) c.feed_by_frames-waiting.new.output) c.feed_piece-rest.new.output c.feed_piece-rest.result.taken c.feed_piece-rest.result.given
-two g c = let q = c.feed_piece-rest.ensures in record { fed = q.fed; read = q.read; written = q.written; behind = q.behind }
+two g c = let q = c.feed_piece-rest.ensures in record { fed = q.fed; read = q.read; written = q.written; behind = q.behind; none = q.none }
 
 pub returns : goal.returns
 returns g c =
@@ -25,7 +25,7 @@ returns g c =
     let second = two g (goal.at.returns g c).After-feed_piece-rest in
     let both = front-both g.S.Stage.acts first c.in_channels-inputs.ensures c.out_channels-outputs.ensures second in
     let out = out-both g.S.Stage.acts first c.in_channels-inputs.ensures c.out_channels-outputs.ensures second record { dry = c.feed_piece-rest.ensures.dry; used = c.feed_piece-rest.ensures.used } in
-    record { fed = both.fed; read = both.read; written = both.written; behind = both.behind; dry = out.dry; used = out.used }
+    record { fed = both.fed; read = both.read; written = both.written; behind = both.behind; dry = out.dry; used = out.used; none = both.none }
 
 pub overflow_add-result : goal.overflow_add-result
 overflow_add-result g c =

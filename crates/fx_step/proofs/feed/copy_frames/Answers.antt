@@ -3,6 +3,7 @@ use Rattle.std.proofs.Math.Nat.{div-mul-le_self, mul-le-mul_right}
 use Rattle.std.proofs.lemmas.List.{length-take-le}
 use Rattle.fx_lists.proofs.Puts.{pieces-take}
 use Rattle.fx_lists.proofs.Pieces.{pieces-front}
+use Rattle.fx_step.proofs.Feeding.{none-fit}
 use Rattle.fx_step.proofs.feed.copy_frames.Goals as goal
 
 pub returns-clause-frames : goal.returns-clause-frames
@@ -13,3 +14,10 @@ returns-clause-frames c =
     let room : count * channels ≤ length c.args.input.now = omega (arith, few, div-mul-le_self (length c.args.input.now) channels) in
     rw c.copy_from_slice.ensures.after
     (pieces-front channels count (take (count * channels) c.args.input.now) _ (length-take-le _ _ room) ∙ pieces-take channels count c.args.input.now room)
+
+pub returns-clause-none : goal.returns-clause-none
+returns-clause-none c = λ few.
+    let count = c.min-count.result in
+    let channels = c.args.channels in
+    let fits : count * channels ≤ length c.args.output.now / channels * channels = mul-le-mul_right channels (omega (arith, c.min-count.ensures)) in
+    none-fit count channels (length c.args.output.now) (omega (arith, fits, div-mul-le_self (length c.args.output.now) channels)) few

@@ -36,5 +36,6 @@ turns-preserved g c =
           rw (w.stage-is, w.output-is, w.read-is, w.written-is, w.taken-is, w.given-is, c.in_channels-inputs.ensures)
           (Turned-took acts first _ _ c.turns.stage w.take.new.self w.frame_at.result c.turns.output _ _ _ _ c.turns.invariant
           (record { dry = w.in_default.ensures.0; due = due; not_ended = sym ended ∙ w.if-is_ended.false; not_spent = sym spends ∙ w.if-is_spent.false; took = took; held = here })
-          c.requires.channels.0 (omega (arith, w.if-input-read.false, c.in_channels-inputs.ensures, c.turns.invariant.read_in)) (rw c.in_channels-inputs.ensures at w.frame_at.ensures.frame))
+          c.requires.channels.0 (omega (arith, w.if-input-read.false, c.in_channels-inputs.ensures, c.turns.invariant.read_in))
+          (omega (arith, c.turns-test.true, c.out_channels-outputs.ensures, c.turns.invariant.written_in)) (rw c.in_channels-inputs.ensures at w.frame_at.ensures.frame))
     ]

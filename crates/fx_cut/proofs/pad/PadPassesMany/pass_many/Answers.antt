@@ -47,3 +47,6 @@ invariant_of-self c = (passes (goal.at.invariant_of-self c).After-copy_frames-co
 
 pub returns-clause-fed : goal.returns-clause-fed
 returns-clause-fed c = rw (← c.self.view_is) (passes (goal.at.returns-clause-fed c).After-copy_frames-copied).0
+
+pub returns-clause-none : goal.returns-clause-none
+returns-clause-none c = rw (← c.self.view_is) c.copy_frames-copied.ensures.none

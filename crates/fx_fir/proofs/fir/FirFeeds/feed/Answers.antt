@@ -12,7 +12,7 @@ use Rattle.fx_frame.specs.Tapped.{last_of}
 use Rattle.fx_step.proofs.Flags.{none-of}
 use Rattle.fx_fir.proofs.FirBlocks.{block-fed}
 use Rattle.fx_frame.proofs.TapBlocks.{length-last}
-use Rattle.fx_frame.proofs.WholeFrames.{both-have, no-more}
+use Rattle.fx_frame.proofs.WholeFrames.{both-have, no-more, none-both}
 use Rattle.fx_fir.proofs.fir.FirFeeds.feed.Goals as goal
 
 -- the state after a block of frames went by
@@ -68,6 +68,9 @@ returns-then-is_some-clause-dry c = c.feed_by_frames.ensures.dry
 
 pub returns-then-is_some-clause-used : goal.returns-then-is_some-clause-used
 returns-then-is_some-clause-used c = c.feed_by_frames.ensures.used
+
+pub returns-then-is_some-clause-none : goal.returns-then-is_some-clause-none
+returns-then-is_some-clause-none c = c.feed_by_frames.ensures.none
 
 pub nonzero_div-input : goal.nonzero_div-input
 nonzero_div-input c =
@@ -181,3 +184,8 @@ returns-clause-used c =
     let some = rw (← c.self-2.view_is) at c.requires.channels in
     rw (← c.self-2.view_is)
     (λ room over spent. no-more (length c.args.input.now) (length c.args.output.now) c.self-2.inside.channels c.self-2.inside.channels c.min-count.result (omega (arith, some.0)) (omega (arith, some.0)) c.min-count.ensures (omega (arith, room, c.filter_frames.auto.output)))
+
+pub returns-clause-none : goal.returns-clause-none
+returns-clause-none c =
+    rw (← c.self-2.view_is)
+    (none-both (length c.args.input.now) (length c.args.output.now) c.self-2.inside.channels c.self-2.inside.channels c.min-count.result c.min-count.ensures)

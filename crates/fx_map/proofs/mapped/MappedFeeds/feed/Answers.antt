@@ -3,7 +3,7 @@ use Rattle.std.specs.Prelude.{None}
 use Rattle.fx_frame.specs.Kinds.{most_taken}
 use Rattle.fx_map.proofs.Blocks.{block-fed}
 use Rattle.fx_step.proofs.Flags.{none-of}
-use Rattle.fx_frame.proofs.WholeFrames.{both-have, no-more}
+use Rattle.fx_frame.proofs.WholeFrames.{both-have, no-more, none-both}
 use Rattle.fx_map.proofs.mapped.MappedFeeds.feed.Given as given
 use Rattle.fx_map.proofs.mapped.MappedFeeds.feed.Goals as goal
 use Rattle.fx_map.proofs.mapped.MappedFeeds.feed.Goals.{After-min-count}
@@ -40,7 +40,7 @@ feed_by_frames-requires g c = record { channels = c.requires.channels; below_lim
 pub returns-then-is_some : goal.returns-then-is_some
 returns-then-is_some g c =
     let e = c.feed_by_frames.ensures in
-    record { fed = e.fed; read = e.read; written = e.written; behind = e.behind; dry = e.dry; used = e.used }
+    record { fed = e.fed; read = e.read; written = e.written; behind = e.behind; dry = e.dry; used = e.used; none = e.none }
 
 pub nonzero_div-input : goal.nonzero_div-input
 nonzero_div-input g c =
@@ -93,3 +93,8 @@ returns-clause-used g c =
     let wide : 0 < c.out_channels-outputs.result = omega (arith, c.if-outputs-eq0.false) in
     rw (← c.self.view_is, ← c.in_channels-inputs.ensures, ← c.out_channels-outputs.ensures.value)
     (λ room over spent. no-more (length c.args.input.now) (length c.args.output.now) c.in_channels-inputs.result c.out_channels-outputs.result c.min-count.result (omega (arith, some.0)) wide c.min-count.ensures (omega (arith, room, c.map_many.auto.output)))
+
+pub returns-clause-none : goal.returns-clause-none
+returns-clause-none g c =
+    rw (← c.self.view_is, ← c.out_channels-outputs.ensures.value)
+    (none-both (length c.args.input.now) (length c.args.output.now) c.in_channels-inputs.result c.out_channels-outputs.result c.min-count.result c.min-count.ensures)

@@ -5,7 +5,7 @@ use Rattle.fx_past.proofs.EchosBlocks.{IsEchos-block, block-fed}
 use Rattle.fx_past.proofs.EchosGiven.{length-rows}
 use Rattle.fx_past.proofs.EchosLaws.{places-late}
 use Rattle.fx_step.proofs.Flags.{none-of}
-use Rattle.fx_frame.proofs.WholeFrames.{both-have, no-more}
+use Rattle.fx_frame.proofs.WholeFrames.{both-have, no-more, none-both}
 use Rattle.fx_lists.proofs.Puts.{written_back}
 use Rattle.fx_past.proofs.echos.EchosFeeds.feed.Goals as goal
 use Rattle.fx_past.proofs.echos.EchosFeeds.feed.Goals.{After-echo_many, After-min-count}
@@ -49,7 +49,7 @@ feed_by_frames-requires c = record { channels = c.requires.channels; below_limit
 pub returns-then-is_some : goal.returns-then-is_some
 returns-then-is_some c =
     let fed = c.feed_by_frames.ensures in
-    record { fed = fed.fed; read = fed.read; written = fed.written; behind = fed.behind; dry = fed.dry; used = fed.used }
+    record { fed = fed.fed; read = fed.read; written = fed.written; behind = fed.behind; dry = fed.dry; used = fed.used; none = fed.none }
 
 pub feed_by_frames-requires-in_default : goal.feed_by_frames-requires-in_default
 feed_by_frames-requires-in_default c = record { channels = c.requires.channels; below_limit = c.requires.below_limit }
@@ -57,7 +57,7 @@ feed_by_frames-requires-in_default c = record { channels = c.requires.channels; 
 pub returns-in_default : goal.returns-in_default
 returns-in_default c =
     let fed = c.feed_by_frames-in_default.ensures in
-    record { fed = fed.fed; read = fed.read; written = fed.written; behind = fed.behind; dry = fed.dry; used = fed.used }
+    record { fed = fed.fed; read = fed.read; written = fed.written; behind = fed.behind; dry = fed.dry; used = fed.used; none = fed.none }
 
 pub nonzero_div-input : goal.nonzero_div-input
 nonzero_div-input c =
@@ -123,4 +123,5 @@ returns c =
       behind = c.echo_many.ensures.behind;
       dry = λ space. rw (none, quiet) refl;
       used = λ space going spent. no-more (length c.args.input.now) (length c.args.output.now) s.channels s.channels c.min-count.result (omega (arith, some.0)) (omega (arith, some.0)) c.min-count.ensures (omega (arith, space, c.echo_many.auto.output));
+      none = none-both (length c.args.input.now) (length c.args.output.now) s.channels s.channels c.min-count.result c.min-count.ensures;
     }
