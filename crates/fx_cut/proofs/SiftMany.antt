@@ -1,6 +1,6 @@
 -- Frames that are sifted many at a time, as they fall out of the line.
-use Rattle.std.proofs.Common.{◌≡◌, ◌+◌, ◌-◌, ◌*◌, ◌<◌, ◌≤◌, ◌^◌, ℕ, ℤ, suc, Bool, true, false, cond, inl, inr, ◌⊎◌, List, [], ◌∷◌, ◌++◌, map, length, take, refl, sym, ap, ◌∙◌, arith, add-zero, length-append, length-take-le}
-use Rattle.std.specs.Prelude.{FitsSigned, Some, None, option_to_list, is_none}
+use Rattle.std.proofs.Common.{◌≡◌, ◌+◌, ◌-◌, ◌*◌, ◌<◌, ◌≤◌, ◌^◌, ℕ, ℤ, suc, Bool, true, false, cond, inl, inr, ◌⊎◌, List, [], ◌∷◌, ◌++◌, map, length, take, refl, sym, ap, ◌∙◌, arith, add-zero, length-take-le}
+use Rattle.std.specs.Prelude.{FitsSigned, Some, None, is_none}
 use Rattle.std.specs.Int.{w32}
 use Rattle.std.specs.List.{All}
 use Rattle.std.proofs.lemmas.Bool.{cases_lt}
@@ -17,7 +17,7 @@ use Rattle.fx_lists.proofs.Pieces.{length-pieces}
 use Rattle.fx_step.specs.Stage.{Given, is_enough}
 use Rattle.fx_step.proofs.FedLaws.{Fed-then}
 use Rattle.fx_cut.specs.Sifted.{AreSettled, IsSiftState, Sifts, SiftState, made_along, settled_in, sift_acts, sifted_here}
-use Rattle.fx_cut.proofs.Fallen.{fallen, stays, oldest-first}
+use Rattle.fx_cut.proofs.Fallen.{fallen, stays}
 use Rattle.fx_cut.proofs.Onto.{gone, onto, onto-line, onto-long, onto-more, onto-none, out-full, out-more, out-room, out_of, same-line}
 use Rattle.fx_cut.proofs.Pieces.{all-pieces}
 use Rattle.fx_cut.proofs.SiftPassing.{Gave-before, IsSift-before, held-sift}

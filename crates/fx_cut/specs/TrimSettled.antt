@@ -1,6 +1,6 @@
 -- What `trim` gives of a frame is settled behind the greatest distance of a position from the end.
 use Rattle.std.proofs.Common.{◌≡◌, ℕ, ◌+◌, ◌-◌, ◌<◌, ◌≤◌, ◌%◌, Bool, true, false, cond, eqb, ◌&&◌, List, [], ◌∷◌, map, length, refl, sym, ◌∙◌, ap, arith}
-use Rattle.std.specs.Prelude.{Option, Some, None, filter, slice_index_or}
+use Rattle.std.specs.Prelude.{Some, None, filter, slice_index_or}
 use Rattle.std.specs.List.{list_all, range_with_len}
 use Rattle.std.proofs.lemmas.Bool.{and_parts, eqb-true, false≢true}
 use mathlib.Core.List.{map-map}

@@ -2,7 +2,7 @@
 use Rattle.std.proofs.Common.{◌≡◌, ◌≤◌, ◌+◌, ◌-◌, ◌∙◌, ◌++◌, [], ap, sym, arith, length, length-drop, map}
 use Rattle.std.specs.Prelude.{option_to_list}
 use Rattle.fx_step.specs.Given.{plain}
-use Rattle.fx_cut.specs.Sifted.{given_before, sift_after}
+use Rattle.fx_cut.specs.Sifted.{sift_after}
 use Rattle.fx_cut.proofs.Hands.{not-some}
 use Rattle.fx_cut.proofs.SiftSteps.{drained, given-popped}
 use Rattle.fx_cut.proofs.sifted.next_sifted.Goals as goal

@@ -2,7 +2,7 @@ use Rattle.std.proofs.Common.{◌∙◌, ◌+◌, arith, refl, sym}
 use Rattle.fx_step.specs.declared.feed.Passing.TheVariants.{Kept, Through}
 use Rattle.fx_step.specs.Feed.{PassedOn}
 use Rattle.fx_cut.specs.Sifted.{IsSiftState, sift_acts}
-use Rattle.fx_cut.proofs.SiftPassing.{passed-given, passed-inside, passed-out, settled-sift}
+use Rattle.fx_cut.proofs.SiftPassing.{passed-given, passed-out, settled-sift}
 use Rattle.fx_cut.proofs.SiftSteps.{came, state}
 use Rattle.fx_cut.proofs.sifted.SiftedFeeds.pass_samples.Given as given
 use Rattle.fx_cut.proofs.sifted.SiftedFeeds.pass_samples.Goals as goal
