@@ -1,5 +1,5 @@
 -- What stays true while frames go through a flow to a writer.
-use Rattle.std.proofs.Common.{◌≡◌, ℕ, ◌+◌, ◌-◌, ◌*◌, ◌<◌, ◌≤◌, length, map, Bool, true, false, List, [], ◌∷◌, ◌++◌, drop, take, refl, sym, ap, ◌∙◌, arith, Some, None, option_to_list}
+use Rattle.std.proofs.Common.{◌≡◌, ℕ, ◌+◌, ◌-◌, ◌*◌, ◌≤◌, length, map, Bool, true, false, List, [], ◌∷◌, ◌++◌, drop, take, refl, sym, ap, ◌∙◌, arith, Some, None, option_to_list}
 use Rattle.std.proofs.lemmas.List.{append_assoc, append-nil, drop-drop, length-append, length-drop, length-take}
 use Rattle.std.specs.Prelude.{Option, nat_lt}
 use borrow.Author.Tests.{ltb-true, ltb-false}
@@ -21,7 +21,6 @@ use Rattle.fx_run.specs.Outlet.{WroteFront, coded}
 use Rattle.fx_run.specs.Run.{Flowed, FlowedFront, RanToEnd, RanToFailure, WantsMore, sound_frames}
 use Rattle.fx_run.specs.Through.{CutOff, Drained, Gives, Through, took, told_end, untouched}
 use Rattle.fx_run.proofs.Sending.{coded-append, coded_clips-append}
-use Rattle.fx_heads.proofs.Held.{Tells-both}
 
 -- what is not so is not otherwise
 pub not-both : {X : Type 0} (b : Bool) → b ≡ false → b ≡ true → X
@@ -55,19 +54,9 @@ RanToEnd-end first now new bytes n to_come r e =
 -- the reader failed
 pub RanToFailure-failed : {R : Type 0} (told : R → ℕ) (first now : Reading) (n : ℕ) (start old : Held R) (new : R)
     → now ≡ after_frames first n → Takes told start old (n * size_of first) → FallsShort told old new (at_most_announced now.left (size_of now)) → RanToFailure told start new first n
-RanToFailure-failed told first now n start old new e t f = record {
-  count = (Ran-failed told first now n start old new e t f).count;
-  later = λ h.
-      let all = Tells-both told start old new (n * size_of first) f.came t f.tells in
-      let c = all.counted h in
-      omega (arith, all.enough);
-  short = λ h left is.
-      let all = Tells-both told start old new (n * size_of first) f.came t f.tells in
-      let c = all.counted h in
-      let rest : now.left ≡ Some (left - n * size_of first) = ap (λ (p : Reading). p.left) e ∙ ap (λ l. beyond l (n * size_of first)) is in
-      let few : f.came < at_most_announced (Some (left - n * size_of first)) (size_of now) = rw rest at f.few in
-      omega (arith, all.enough, few);
-}
+RanToFailure-failed told first now n start old new e t f =
+    let all = Ran-failed told first now n start old new e t f in
+    record { count = all.count; later = all.later; short = all.short }
 
 -- the source stands behind the sound
 length-within_beyond : (left : Option ℕ) (k : ℕ) (bytes : List ℕ) → length (within (beyond left k) (drop k bytes)) ≡ length (within left bytes) - k

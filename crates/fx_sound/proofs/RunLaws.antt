@@ -140,6 +140,16 @@ Ran-failed told first now n start old new e t f = record {
       let total : length start.bytes + (told new - told start.reader) ≡ n * size + f.came = omega (arith, all.enough) in
       let few : f.came < at_most_announced (beyond first.left (n * size)) size = rw (ap (λ p. at_most_announced p.left (size_of p)) e) at f.few in
       ap (λ m. m) (at_most_quotient first.left size n f.came few) ∙ ap (λ m. at_most_announced first.left m / size) (sym total);
+  later = λ h.
+      let all = Tells-both told start old new (n * size_of first) f.came t f.tells in
+      let c = all.counted h in
+      omega (arith, all.enough);
+  short = λ h left is.
+      let all = Tells-both told start old new (n * size_of first) f.came t f.tells in
+      let c = all.counted h in
+      let rest : now.left ≡ Some (left - n * size_of first) = ap (λ (p : Reading). p.left) e ∙ ap (λ l. beyond l (n * size_of first)) is in
+      let few : f.came < at_most_announced (Some (left - n * size_of first)) (size_of now) = rw rest at f.few in
+      omega (arith, all.enough, few);
 }
   where
     at_most_quotient : (left : Option ℕ) (size n came : ℕ) → came < at_most_announced (beyond left (n * size)) size → n ≡ at_most_announced left (n * size + came) / size

@@ -1,5 +1,5 @@
 -- A sound in a list of bytes, on the whole list (RIFF WAVE, Sun AU, this project's profile).
-use Rattle.std.specs.Prelude.{◌≡◌, ℕ, ◌+◌, ◌-◌, ◌*◌, ◌/◌, ◌%◌, ◌^◌, ◌<◌, true, List, length, drop, map, Option, Result, Ok, Err}
+use Rattle.std.specs.Prelude.{◌≡◌, ℕ, ◌+◌, ◌-◌, ◌*◌, ◌/◌, ◌%◌, ◌^◌, ◌<◌, ◌≤◌, true, List, length, drop, map, Option, Some, Result, Ok, Err}
 use Rattle.fx_io.specs.declared.coding.Coding.{Coding}
 use Rattle.fx_step.specs.Frame.{Samples}
 use Rattle.fx_heads.specs.FrameCoding.{frame_size, samples_of}
@@ -62,7 +62,10 @@ at_end p sound = record p {
   over = true;
 }
 
--- the reader failed after it had told so many bytes: all whole frames among them were read; by its count of what it
--- told, a claim for counts below the greatest u64
+-- The reader failed after it had told so many bytes: all whole frames among them were read; by its count of what it
+-- told, a claim for counts below the greatest u64.
 pub record ReadAllTold {R : Type 0} (told : R → ℕ) (old : Held R) (new : R) (first : Reading) (n : ℕ) : Type 0 where
   pub count : told new < 2 ^ 64 - 1 → n ≡ at_most_announced first.left (length old.bytes + (told new - told old.reader)) / size_of first
+  pub later : told new < 2 ^ 64 - 1 → told old.reader ≤ told new
+  -- fewer bytes had come than were announced
+  pub short : told new < 2 ^ 64 - 1 → (left : ℕ) → first.left ≡ Some left → length old.bytes + (told new - told old.reader) < left
