@@ -1,3 +1,4 @@
 pub mod Heads
 pub mod Named
+pub mod SameFile
 pub mod Working
