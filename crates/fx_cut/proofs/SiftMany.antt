@@ -17,7 +17,7 @@ use Rattle.fx_lists.proofs.Pieces.{length-pieces}
 use Rattle.fx_step.specs.Stage.{Given, is_enough}
 use Rattle.fx_step.proofs.FedLaws.{Fed-then}
 use Rattle.fx_cut.specs.Sifted.{AreSettled, IsSiftState, Sifts, SiftState, made_along, settled_in, sift_acts, sifted_here}
-use Rattle.fx_cut.proofs.Fallen.{fallen, stays}
+use Rattle.fx_cut.proofs.Fallen.{fallen}
 use Rattle.fx_cut.proofs.Onto.{gone, onto, onto-line, onto-long, onto-more, onto-none, out-full, out-more, out-room, out_of, same-line}
 use Rattle.fx_cut.proofs.Pieces.{all-pieces}
 use Rattle.fx_cut.proofs.SiftPassing.{Gave-before, IsSift-before, held-sift}

@@ -1,14 +1,7 @@
-use Rattle.std.proofs.Common.{arith, rules, pos, ◌<◌, ◌≤◌, ◌*◌, ◌^◌, length, get_or, ◌*ℤ◌, ◌≡◌, to_z, of_z}
-use Rattle.std.specs.Int.{w128}
+use Rattle.std.proofs.Common.{arith, pos, ◌<◌, length, get_or, ◌*ℤ◌, ◌≡◌}
 use Rattle.std.proofs.lemmas.Int.{ints, to_z-of_z}
 use Rattle.fx_convolve.proofs.products.add_rest.Goals as goal
-use Rattle.fx_convolve.proofs.ProductBounds.{sum-fits, sum_of_products-drop}
-
-pub overflow_add-sum : goal.overflow_add-sum
-overflow_add-sum c =
-    let back : to_z w128 (of_z w128 c.product-sum.result) ≡ c.product-sum.result = search rules in
-    let few : c.loop-i.i * 2 ^ 85 ≤ 2 ^ 95 = omega arith in
-    rw back (sum-fits (to_z w128 c.loop-i.sum-bits) c.product-sum.result (c.loop-i.i * 2 ^ 85) few c.loop-i.invariant.low c.loop-i.invariant.high c.product-sum.ensures.low c.product-sum.ensures.high)
+use Rattle.fx_convolve.proofs.ProductBounds.{sum_of_products-drop}
 
 pub loop-i-preserved : goal.loop-i-preserved
 loop-i-preserved c =

@@ -15,6 +15,3 @@ returns-then-capacity-eq0-clause-oldest c =
     let short : c.args.line.now.capacity ≡ 0 = sym c.capacity.ensures.capacity ∙ c.if-capacity-eq0.true in
     let none : c.args.line.now.items ≡ [] = empty_of c.args.line.now.items (omega (arith, within, short)) in
     rw (short, none) refl
-
-pub returns-then-capacity-eq0-clause-frame : goal.returns-then-capacity-eq0-clause-frame
-returns-then-capacity-eq0-clause-frame c = λ out. record { some = c.requires.frame.0; few = c.requires.frame.1; fits = c.see_samples.ensures }

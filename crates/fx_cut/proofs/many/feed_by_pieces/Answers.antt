@@ -1,8 +1,8 @@
 use Rattle.std.proofs.Common.{rules, ◌*◌}
-use Rattle.fx_cut.proofs.Pieces.{FedFront, few-given, few-taken, front-any, front-both, out-both, part, rest-below, rest-channels}
+use Rattle.fx_cut.proofs.Pieces.{FedFront, few-given, front-any, front-both, out-both, part, rest-below, rest-channels}
 use Rattle.fx_cut.proofs.many.feed_by_pieces.Given as given
-use Rattle.fx_cut.proofs.many.feed_by_pieces.Goals as goal
 use Rattle.fx_cut.proofs.many.feed_by_pieces.Goals.{After-feed_by_frames-waiting, After-feed_piece-rest}
+use Rattle.fx_cut.proofs.many.feed_by_pieces.Goals as goal
 
 -- what was waiting was given
 one : (g : given.Over) (c : After-feed_by_frames-waiting g) → FedFront g.S.Stage.acts c.args.stage.now c.feed_by_frames-waiting.new.stage c.args.input.now c.args.output.now c.feed_by_frames-waiting.new.output c.feed_by_frames-waiting.result.taken c.feed_by_frames-waiting.result.given
@@ -26,10 +26,6 @@ returns g c =
     let both = front-both g.S.Stage.acts first c.in_channels-inputs.ensures c.out_channels-outputs.ensures second in
     let out = out-both g.S.Stage.acts first c.in_channels-inputs.ensures c.out_channels-outputs.ensures second record { dry = c.feed_piece-rest.ensures.dry; used = c.feed_piece-rest.ensures.used } in
     record { fed = both.fed; read = both.read; written = both.written; behind = both.behind; dry = out.dry; used = out.used; none = both.none }
-
-pub overflow_add-result : goal.overflow_add-result
-overflow_add-result g c =
-    search (rules, few-taken g.S.Stage.acts (one g (goal.at.overflow_add-result g c).After-feed_by_frames-waiting) c.in_channels-inputs.ensures c.out_channels-outputs.ensures (two g (goal.at.overflow_add-result g c).After-feed_piece-rest) c.requires.channels.0)
 
 pub overflow_add-result-2 : goal.overflow_add-result-2
 overflow_add-result-2 g c =

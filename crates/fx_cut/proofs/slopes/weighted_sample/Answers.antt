@@ -1,4 +1,5 @@
 use Rattle.std.proofs.Common.{◌≡◌, ◌≤◌, ◌^◌, ◌*ℤ◌, pos, ◌∙◌, rules, arith, to_z, of_z, w32}
+use Rattle.std.proofs.lemmas.Grind.{common_steps}
 use Rattle.std.specs.Prelude.{FitsSigned, unsigned_abs}
 use Rattle.std.specs.Int.{w128}
 use Rattle.std.proofs.lemmas.Int.{to_z-of_z, fits_signed_mul, ints}
@@ -45,3 +46,15 @@ returns c =
     let k = rw (product.0, prepared.0) at c.round_within.ensures in
     let out : to_z w32 (of_z w32 c.round_within.result) ≡ c.round_within.result = search rules in
     rw out k
+
+pub overflow_mul-from : goal.overflow_mul-from
+overflow_mul-from c = grind (arith, common_steps)
+
+pub round_clip-rounded-requires-clause-low : goal.round_clip-rounded-requires-clause-low
+round_clip-rounded-requires-clause-low c = grind (arith, common_steps)
+
+pub round_clip-rounded-requires-clause-high : goal.round_clip-rounded-requires-clause-high
+round_clip-rounded-requires-clause-high c = grind (arith, common_steps)
+
+pub overflow_mul-from-2 : goal.overflow_mul-from-2
+overflow_mul-from-2 c = grind (arith, common_steps)

@@ -85,62 +85,8 @@ pieces-preserved c =
       line_channels = c.push_frames.ensures.channels ∙ old.line_channels;
     }
 
-pub overflow_sub-count : goal.overflow_sub-count
-overflow_sub-count c = grind (arith, common_steps)
-
-pub overflow_mul-from : goal.overflow_mul-from
-overflow_mul-from c = grind (arith, common_steps)
-
 pub overflow_mul-to : goal.overflow_mul-to
 overflow_mul-to c = grind (arith, common_steps)
 
 pub overflow_add-to : goal.overflow_add-to
 overflow_add-to c = grind (arith, common_steps)
-
-pub overflow_add-clips : goal.overflow_add-clips
-overflow_add-clips c = grind (arith, common_steps)
-
-pub overflow_add-done : goal.overflow_add-done
-overflow_add-done c = grind (arith, common_steps)
-
-pub filter_piece-clips-requires-clause-channels : goal.filter_piece-clips-requires-clause-channels
-filter_piece-clips-requires-clause-channels c = grind (arith, common_steps)
-
-pub filter_piece-clips-requires-clause-full : goal.filter_piece-clips-requires-clause-full
-filter_piece-clips-requires-clause-full c = grind (arith, common_steps)
-
-pub filter_piece-clips-requires-clause-taps : goal.filter_piece-clips-requires-clause-taps
-filter_piece-clips-requires-clause-taps c = grind (arith, common_steps)
-
-pub filter_piece-clips-requires-clause-count : goal.filter_piece-clips-requires-clause-count
-filter_piece-clips-requires-clause-count c = grind (arith, common_steps)
-
-pub filter_piece-clips-requires-clause-fits : goal.filter_piece-clips-requires-clause-fits
-filter_piece-clips-requires-clause-fits c = grind (arith, common_steps)
-
-pub filter_piece-clips-requires-clause-frames : goal.filter_piece-clips-requires-clause-frames
-filter_piece-clips-requires-clause-frames c = grind (arith, common_steps)
-
-pub filter_piece-clips-requires-clause-out : goal.filter_piece-clips-requires-clause-out
-filter_piece-clips-requires-clause-out c = grind (arith, common_steps)
-
-pub returns-clause-frames : goal.returns-clause-frames
-returns-clause-frames c = grind (arith, common_steps)
-
-pub returns-clause-behind : goal.returns-clause-behind
-returns-clause-behind c = grind (arith, common_steps)
-
-pub returns-clause-clips : goal.returns-clause-clips
-returns-clause-clips c = grind (arith, common_steps)
-
-pub returns-clause-few : goal.returns-clause-few
-returns-clause-few c = grind (arith, common_steps)
-
-pub returns-clause-line : goal.returns-clause-line
-returns-clause-line c = grind (arith, common_steps)
-
-pub returns-clause-line_capacity : goal.returns-clause-line_capacity
-returns-clause-line_capacity c = grind (arith, common_steps)
-
-pub returns-clause-line_channels : goal.returns-clause-line_channels
-returns-clause-line_channels c = grind (arith, common_steps)

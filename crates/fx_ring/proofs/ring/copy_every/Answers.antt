@@ -8,19 +8,6 @@ offset_bounds-out-k g c =
     let inside : c.loop-k.k * c.args.apart + c.args.at < length c.loop-k.out = omega (arith, within-frames c.args.apart c.args.at c.loop-k.k c.args.count c.requires.at c.loop-k-test.true) in
     search rules
 
-pub overflow_mul-k : goal.overflow_mul-k
-overflow_mul-k g c =
-    let inside : c.loop-k.k * c.args.apart + c.args.at < length c.loop-k.out = omega (arith, within-frames c.args.apart c.args.at c.loop-k.k c.args.count c.requires.at c.loop-k-test.true) in
-    search rules
-
-pub overflow_add-k : goal.overflow_add-k
-overflow_add-k g c =
-    let inside : c.loop-k.k * c.args.apart + c.args.at < length c.loop-k.out = omega (arith, within-frames c.args.apart c.args.at c.loop-k.k c.args.count c.requires.at c.loop-k-test.true) in
-    search rules
-
-pub bounds-out-k : goal.bounds-out-k
-bounds-out-k g c = omega (arith, within-frames c.args.apart c.args.at c.loop-k.k c.args.count c.requires.at c.loop-k-test.true)
-
 pub loop-k-preserved : goal.loop-k-preserved
 loop-k-preserved g c =
     let k : ℕ = c.loop-k.k in

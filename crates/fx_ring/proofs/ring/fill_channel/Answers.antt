@@ -2,23 +2,10 @@ use Rattle.std.proofs.Common.{rules, ◌+◌, ◌*◌, ◌<◌, ◌∙◌, ℕ, 
 use Rattle.fx_lists.proofs.ChannelPlaces.{others-stay, put-more, within-frames}
 use Rattle.fx_ring.proofs.ring.fill_channel.Goals as goal
 
-pub overflow_mul-sample : goal.overflow_mul-sample
-overflow_mul-sample g c =
-    let inside : c.loop-k.k * c.args.apart + c.args.at < length c.loop-k.out = omega (arith, within-frames c.args.apart c.args.at c.loop-k.k c.args.count c.requires.at c.loop-k-test.true) in
-    search rules
-
-pub overflow_add-sample : goal.overflow_add-sample
-overflow_add-sample g c =
-    let inside : c.loop-k.k * c.args.apart + c.args.at < length c.loop-k.out = omega (arith, within-frames c.args.apart c.args.at c.loop-k.k c.args.count c.requires.at c.loop-k-test.true) in
-    search rules
-
 pub offset_bounds-out-k : goal.offset_bounds-out-k
 offset_bounds-out-k g c =
     let inside : c.loop-k.k * c.args.apart + c.args.at < length c.loop-k.out = omega (arith, within-frames c.args.apart c.args.at c.loop-k.k c.args.count c.requires.at c.loop-k-test.true) in
     search rules
-
-pub bounds-out-k : goal.bounds-out-k
-bounds-out-k g c = omega (arith, within-frames c.args.apart c.args.at c.loop-k.k c.args.count c.requires.at c.loop-k-test.true)
 
 pub loop-k-preserved : goal.loop-k-preserved
 loop-k-preserved g c =

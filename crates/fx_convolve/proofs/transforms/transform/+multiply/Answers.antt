@@ -8,15 +8,6 @@ use Rattle.fx_convolve.proofs.Writes.{remainders_both}
 use Rattle.fx_convolve.proofs.Steps.{halved, place_left, place_right, place_less, place_even, both_transforms, combined_same, same_front, same_back, product_both}
 use Rattle.fx_convolve.proofs.transforms.transform.+multiply.Goals as goal
 
-pub multiply_four-requires-clause-four : goal.multiply_four-requires-clause-four
-multiply_four-requires-clause-four t c = c.requires.power ∙ rw c.if-levels-eq2.true refl
-
-pub multiply_four-requires-clause-as_many : goal.multiply_four-requires-clause-as_many
-multiply_four-requires-clause-as_many t c = c.requires.as_many ∙ c.requires.power ∙ rw c.if-levels-eq2.true refl
-
-pub multiply_four-requires-clause-place : goal.multiply_four-requires-clause-place
-multiply_four-requires-clause-place t c = place_even c.args.levels (length c.args.values.now) c.args.place c.requires.power (omega arith) c.requires.place
-
 pub returns-then-levels-eq2-clause-product : goal.returns-then-levels-eq2-clause-product
 returns-then-levels-eq2-clause-product t c = λ s a h square a_long h_long same transform.
     let four : length c.args.values.now ≡ 4 = c.requires.power ∙ rw c.if-levels-eq2.true refl in

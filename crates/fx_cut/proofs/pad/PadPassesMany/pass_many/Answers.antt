@@ -8,8 +8,8 @@ use Rattle.fx_cut.specs.declared.pad.Pad.TheView.{view}
 use Rattle.fx_cut.proofs.Hands.{not-some}
 use Rattle.fx_cut.proofs.PadMany.{Quiet, quiet-passed}
 use Rattle.fx_cut.proofs.Pieces.{few-pieces, frames-room, pieces-cut}
-use Rattle.fx_cut.proofs.pad.PadPassesMany.pass_many.Goals as goal
 use Rattle.fx_cut.proofs.pad.PadPassesMany.pass_many.Goals.{After-copy_frames-copied}
+use Rattle.fx_cut.proofs.pad.PadPassesMany.pass_many.Goals as goal
 
 pub returns-then-capacity-ne0-clause-fed : goal.returns-then-capacity-ne0-clause-fed
 returns-then-capacity-ne0-clause-fed c = nothing
@@ -47,6 +47,3 @@ invariant_of-self c = (passes (goal.at.invariant_of-self c).After-copy_frames-co
 
 pub returns-clause-fed : goal.returns-clause-fed
 returns-clause-fed c = rw (← c.self.view_is) (passes (goal.at.returns-clause-fed c).After-copy_frames-copied).0
-
-pub returns-clause-none : goal.returns-clause-none
-returns-clause-none c = rw (← c.self.view_is) c.copy_frames-copied.ensures.none

@@ -1,5 +1,6 @@
 -- Silence is given, or the frame in hand; after the end the oldest frame of the line comes next.
 use Rattle.std.proofs.Common.{refl, ◌≡◌, ◌<◌, arith}
+use Rattle.std.proofs.lemmas.Grind.{common_steps}
 use Rattle.fx_cut.proofs.PadSteps.{Gave-silence, Gave-drawn, IsPad-drawn, left-given}
 use Rattle.fx_cut.proofs.pad.PadStage.give.Goals as goal
 
@@ -23,3 +24,12 @@ returns c =
     let none : c.self.inside.silent ≡ 0 = omega arith in
     let ended = c.if-not-self.false in
     rw (← c.self.view_is) (Gave-drawn _ _ _ _ _ _ c.self.invariant ended e.oldest e.items quiet c.in-Some.frame c.in-Some.is none ended refl refl)
+
+pub invariant_of-self : goal.invariant_of-self
+invariant_of-self c = grind (arith, common_steps)
+
+pub invariant_of-self-then-not-self : goal.invariant_of-self-then-not-self
+invariant_of-self-then-not-self c = grind (arith, common_steps)
+
+pub returns-then-not-self : goal.returns-then-not-self
+returns-then-not-self c = grind (arith, common_steps)

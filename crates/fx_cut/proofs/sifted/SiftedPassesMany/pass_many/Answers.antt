@@ -1,5 +1,6 @@
 -- The frames that fall out up to where a stretch ends are given, or left out, all of them.
-use Rattle.std.proofs.Common.{ℕ, ◌≡◌, ◌≤◌, ◌+◌, ◌*◌, ◌-◌, ◌∙◌, ◌++◌, drop, length, take, sym, arith, w32}
+use Rattle.std.proofs.Common.{ℕ, ◌≡◌, ◌≤◌, ◌*◌, ◌-◌, ◌∙◌, ◌++◌, drop, length, take, sym, arith, w32}
+use Rattle.std.proofs.lemmas.Grind.{common_steps}
 use Rattle.std.proofs.lemmas.List.{length-take-le}
 use Rattle.std.proofs.lemmas.List.Elements.{All-append}
 use Rattle.fx_step.specs.Feed.{Fed, nothing}
@@ -12,8 +13,8 @@ use Rattle.fx_cut.proofs.Onto.{IsPiece, piece-fits}
 use Rattle.fx_cut.proofs.SiftMany.{Alike, fell-fit, passed, piece-passed}
 use Rattle.fx_cut.proofs.SiftSteps.{state}
 use Rattle.fx_cut.proofs.sifted.SiftedPassesMany.pass_many.Given as given
-use Rattle.fx_cut.proofs.sifted.SiftedPassesMany.pass_many.Goals as goal
 use Rattle.fx_cut.proofs.sifted.SiftedPassesMany.pass_many.Goals.{After-given_of-given, After-push_frames, After-self-2-1}
+use Rattle.fx_cut.proofs.sifted.SiftedPassesMany.pass_many.Goals as goal
 
 pub returns-then-is_some-clause-fed : goal.returns-then-is_some-clause-fed
 returns-then-is_some-clause-fed g c = nothing
@@ -112,3 +113,9 @@ returns-clause-written g c =
     let w = c.channels-channels.ensures in
     let fits = (fell g (goal.at.returns-clause-written g c).After-push_frames).0 in
     rw (← c.self.view_is, ← w) (omega (arith, fits, c.sift_many.auto.samples))
+
+pub overflow_mul-frames : goal.overflow_mul-frames
+overflow_mul-frames g c = grind (arith, common_steps)
+
+pub returns-clause-behind : goal.returns-clause-behind
+returns-clause-behind g c = grind (arith, common_steps)

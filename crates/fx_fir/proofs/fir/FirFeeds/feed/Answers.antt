@@ -1,4 +1,4 @@
-use Rattle.std.proofs.Common.{rules, ◌≡◌, ◌+◌, ◌-◌, ◌*◌, ◌≤◌, ◌^◌, ◌++◌, ◌∙◌, ap, ℕ, ℤ, List, false, length, length-append, min, refl, reverse, sym, arith}
+use Rattle.std.proofs.Common.{rules, ◌≡◌, ◌+◌, ◌-◌, ◌*◌, ◌≤◌, ◌^◌, ◌++◌, ◌∙◌, ap, ℕ, ℤ, List, false, length, length-append, min, refl, reverse, arith}
 use Rattle.std.specs.Prelude.{None}
 use Rattle.std.specs.Int.{w32}
 use Rattle.std.proofs.lemmas.List.{length-reverse}
@@ -12,7 +12,7 @@ use Rattle.fx_frame.specs.Tapped.{last_of}
 use Rattle.fx_step.proofs.Flags.{none-of}
 use Rattle.fx_fir.proofs.FirBlocks.{block-fed}
 use Rattle.fx_frame.proofs.TapBlocks.{length-last}
-use Rattle.fx_frame.proofs.WholeFrames.{both-have, no-more, none-both}
+use Rattle.fx_frame.proofs.WholeFrames.{both-have, no-more}
 use Rattle.fx_fir.proofs.fir.FirFeeds.feed.Goals as goal
 
 -- the state after a block of frames went by
@@ -45,63 +45,11 @@ IsFir-block s line n clips xs is none running full few many lined items capacity
       fits = is.fits;
     }
 
-pub feed_by_frames-requires-clause-channels : goal.feed_by_frames-requires-clause-channels
-feed_by_frames-requires-clause-channels c = c.requires.channels
-
-pub feed_by_frames-requires-clause-below_limit : goal.feed_by_frames-requires-clause-below_limit
-feed_by_frames-requires-clause-below_limit c = c.requires.below_limit
-
-pub returns-then-is_some-clause-fed : goal.returns-then-is_some-clause-fed
-returns-then-is_some-clause-fed c = c.feed_by_frames.ensures.fed
-
-pub returns-then-is_some-clause-read : goal.returns-then-is_some-clause-read
-returns-then-is_some-clause-read c = c.feed_by_frames.ensures.read
-
-pub returns-then-is_some-clause-written : goal.returns-then-is_some-clause-written
-returns-then-is_some-clause-written c = c.feed_by_frames.ensures.written
-
-pub returns-then-is_some-clause-behind : goal.returns-then-is_some-clause-behind
-returns-then-is_some-clause-behind c = c.feed_by_frames.ensures.behind
-
-pub returns-then-is_some-clause-dry : goal.returns-then-is_some-clause-dry
-returns-then-is_some-clause-dry c = c.feed_by_frames.ensures.dry
-
-pub returns-then-is_some-clause-used : goal.returns-then-is_some-clause-used
-returns-then-is_some-clause-used c = c.feed_by_frames.ensures.used
-
-pub returns-then-is_some-clause-none : goal.returns-then-is_some-clause-none
-returns-then-is_some-clause-none c = c.feed_by_frames.ensures.none
-
-pub nonzero_div-input : goal.nonzero_div-input
-nonzero_div-input c =
-    let some = rw (← c.self-2.view_is) at c.requires.channels in
-    omega (arith, some.0)
-
-pub nonzero_div-output : goal.nonzero_div-output
-nonzero_div-output c =
-    let some = rw (← c.self-2.view_is) at c.requires.channels in
-    omega (arith, some.0)
-
-pub filter_frames-requires-clause-channels : goal.filter_frames-requires-clause-channels
-filter_frames-requires-clause-channels c = sym c.self-2.invariant.channels
-
-pub filter_frames-requires-clause-capacity : goal.filter_frames-requires-clause-capacity
-filter_frames-requires-clause-capacity c = c.self-2.invariant.capacity
-
-pub filter_frames-requires-clause-taps : goal.filter_frames-requires-clause-taps
-filter_frames-requires-clause-taps c = c.self-2.invariant.count
-
 pub filter_frames-requires-clause-few : goal.filter_frames-requires-clause-few
 filter_frames-requires-clause-few c =
     let both = both-have (length c.args.input.now) (length c.args.output.now) c.self-2.inside.channels c.self-2.inside.channels c.min-count.result c.min-count.ensures in
     let limit = (rw (← c.self-2.view_is) at c.requires.below_limit) c.min-count.result both.0 in
     omega (arith, limit)
-
-pub filter_frames-requires-clause-input : goal.filter_frames-requires-clause-input
-filter_frames-requires-clause-input c = (both-have (length c.args.input.now) (length c.args.output.now) c.self-2.inside.channels c.self-2.inside.channels c.min-count.result c.min-count.ensures).0
-
-pub filter_frames-requires-clause-output : goal.filter_frames-requires-clause-output
-filter_frames-requires-clause-output c = (both-have (length c.args.input.now) (length c.args.output.now) c.self-2.inside.channels c.self-2.inside.channels c.min-count.result c.min-count.ensures).1
 
 pub overflow_add-self : goal.overflow_add-self
 overflow_add-self c =
@@ -111,21 +59,6 @@ overflow_add-self c =
     let both = both-have (length c.args.input.now) (length c.args.output.now) s.channels s.channels c.min-count.result c.min-count.ensures in
     let limit = (rw (← c.self-2.view_is) at c.requires.below_limit) c.min-count.result both.0 in
     omega (arith, counted, limit, c.self-2.invariant.few_clips, c.filter_frames.ensures.few)
-
-pub overflow_add-self-2 : goal.overflow_add-self-2
-overflow_add-self-2 c =
-    let both = both-have (length c.args.input.now) (length c.args.output.now) c.self-2.inside.channels c.self-2.inside.channels c.min-count.result c.min-count.ensures in
-    let limit = (rw (← c.self-2.view_is) at c.requires.below_limit) c.min-count.result both.0 in
-    omega (arith, limit)
-
-pub overflow_add-self-3 : goal.overflow_add-self-3
-overflow_add-self-3 c =
-    let s = c.self-2.inside in
-    let over : s.ended ≡ false = search rules in
-    let counted = rw over at c.self-2.invariant.counted in
-    let both = both-have (length c.args.input.now) (length c.args.output.now) s.channels s.channels c.min-count.result c.min-count.ensures in
-    let limit = (rw (← c.self-2.view_is) at c.requires.below_limit) c.min-count.result both.0 in
-    omega (arith, counted, limit)
 
 pub invariant_of-self : goal.invariant_of-self
 invariant_of-self c =
@@ -160,32 +93,8 @@ returns-clause-fed c =
     (block-fed (record { channels = s.channels; backwards = s.kernel; line = s.line; hand = s.hand; hand_clips = s.hand_clips; tail = s.tail; taken = s.taken; given = s.given; clips = s.clips; ended = s.ended }) c.filter_frames.new.line c.min-count.result c.filter_frames.result c.args.input.now c.filter_frames.new.output
     none zero quiet over even places is.line.within due ensured.frames ensured.clips ensured.line ensured.line_capacity ensured.line_channels)
 
-pub returns-clause-read : goal.returns-clause-read
-returns-clause-read c = rw (← c.self-2.view_is) (both-have (length c.args.input.now) (length c.args.output.now) c.self-2.inside.channels c.self-2.inside.channels c.min-count.result c.min-count.ensures).0
-
-pub returns-clause-written : goal.returns-clause-written
-returns-clause-written c =
-    let both = both-have (length c.args.input.now) (length c.args.output.now) c.self-2.inside.channels c.self-2.inside.channels c.min-count.result c.min-count.ensures in
-    rw (← c.self-2.view_is) (omega (arith, both.1, c.filter_frames.auto.output))
-
-pub returns-clause-behind : goal.returns-clause-behind
-returns-clause-behind c = rw (← c.self-2.view_is) c.filter_frames.ensures.behind
-
-pub returns-clause-dry : goal.returns-clause-dry
-returns-clause-dry c =
-    let s = c.self-2.inside in
-    let over : s.ended ≡ false = search rules in
-    let none : s.hand ≡ None = none-of s.hand (search rules) in
-    let quiet : s.tail ≡ 0 = c.self-2.invariant.not_ended over in
-    λ room. rw (none, quiet) refl
-
 pub returns-clause-used : goal.returns-clause-used
 returns-clause-used c =
     let some = rw (← c.self-2.view_is) at c.requires.channels in
     rw (← c.self-2.view_is)
     (λ room over spent. no-more (length c.args.input.now) (length c.args.output.now) c.self-2.inside.channels c.self-2.inside.channels c.min-count.result (omega (arith, some.0)) (omega (arith, some.0)) c.min-count.ensures (omega (arith, room, c.filter_frames.auto.output)))
-
-pub returns-clause-none : goal.returns-clause-none
-returns-clause-none c =
-    rw (← c.self-2.view_is)
-    (none-both (length c.args.input.now) (length c.args.output.now) c.self-2.inside.channels c.self-2.inside.channels c.min-count.result c.min-count.ensures)

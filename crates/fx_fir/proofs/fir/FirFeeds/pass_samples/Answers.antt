@@ -31,29 +31,20 @@ returns-clause-passed c =
     (frame-passed (record { channels = s.channels; backwards = s.kernel; line = s.line; hand = s.hand; hand_clips = s.hand_clips; tail = s.tail; taken = s.taken; given = s.given; clips = s.clips; ended = s.ended }) c.push-2.new.self xs c.filtered_into-clips.new.out c.filtered_into-clips.result
     none zero quiet over even places is.line.within due made.frame made.clips pushed.items pushed.capacity pushed.channels)
 
-pub filtered_into-clips-requires-clause-channels : goal.filtered_into-clips-requires-clause-channels
-filtered_into-clips-requires-clause-channels c = grind (arith, common_steps)
-
-pub filtered_into-clips-requires-clause-some : goal.filtered_into-clips-requires-clause-some
-filtered_into-clips-requires-clause-some c = grind (arith, common_steps)
-
-pub filtered_into-clips-requires-clause-latest : goal.filtered_into-clips-requires-clause-latest
-filtered_into-clips-requires-clause-latest c = grind (arith, common_steps)
-
-pub filtered_into-clips-requires-clause-fits : goal.filtered_into-clips-requires-clause-fits
-filtered_into-clips-requires-clause-fits c = grind (arith, common_steps)
-
-pub filtered_into-clips-requires-clause-place : goal.filtered_into-clips-requires-clause-place
-filtered_into-clips-requires-clause-place c = grind (arith, common_steps)
-
-pub filtered_into-clips-requires-clause-room : goal.filtered_into-clips-requires-clause-room
-filtered_into-clips-requires-clause-room c = grind (arith, common_steps)
-
 pub filtered_into-clips-requires-clause-end : goal.filtered_into-clips-requires-clause-end
 filtered_into-clips-requires-clause-end c = grind (arith, common_steps)
 
-pub filtered_into-clips-requires-clause-start : goal.filtered_into-clips-requires-clause-start
-filtered_into-clips-requires-clause-start c = grind (arith, common_steps)
+pub invariant_of-self : goal.invariant_of-self
+invariant_of-self c = grind (arith, common_steps)
 
-pub filtered_into-clips-requires-clause-out : goal.filtered_into-clips-requires-clause-out
-filtered_into-clips-requires-clause-out c = grind (arith, common_steps)
+pub returns-then-held-centre_of-clause-passed : goal.returns-then-held-centre_of-clause-passed
+returns-then-held-centre_of-clause-passed c = grind (arith, common_steps)
+
+pub returns-then-held-centre_of-clause-settled : goal.returns-then-held-centre_of-clause-settled
+returns-then-held-centre_of-clause-settled c = grind (arith, common_steps)
+
+pub invariant_of-self-2 : goal.invariant_of-self-2
+invariant_of-self-2 c = grind (arith, common_steps)
+
+pub returns-clause-settled : goal.returns-clause-settled
+returns-clause-settled c = grind (arith, common_steps)

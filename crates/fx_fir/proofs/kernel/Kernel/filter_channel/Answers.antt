@@ -9,12 +9,6 @@ use Rattle.fx_sums.proofs.KernelLaws.{rounded-as}
 use Rattle.fx_lists.proofs.Tabulate.{tabulate-same}
 use Rattle.fx_fir.proofs.kernel.Kernel.filter_channel.Goals as goal
 
-pub convolve-requires : goal.convolve-requires
-convolve-requires c =
-    let told : SumsAs c.self.inside.backwards.items UNIT c.in-Some.reduced = rw c.in-Some.is at c.self.invariant.2 in
-    let fits = rw (← c.self.view_is) at c.requires.window in
-    omega (arith, told.count, fits)
-
 pub returns-in-Some-clause-put : goal.returns-in-Some-clause-put
 returns-in-Some-clause-put c =
     let b : List ℤ = c.self.inside.backwards.items in

@@ -2,21 +2,9 @@ use Rattle.std.proofs.Common.{rules, ◌≡◌, ◌+◌, ◌-◌, ◌∙◌, ap,
 use Rattle.std.specs.Int.{w128}
 use Rattle.fx_fixed.specs.Rounding.{rounding}
 use Rattle.fx_fixed.specs.declared.gains.TheConstants.{UNIT}
-use Rattle.fx_sums.specs.SmallWeights.{SumsAs}
 use Rattle.fx_convolve.specs.Products.{sum_of_products}
 use Rattle.fx_sums.proofs.KernelLaws.{sum_of_products-take}
 use Rattle.fx_fir.proofs.kernel.Kernel.weigh_from.Goals as goal
-
-pub weigh-requires : goal.weigh-requires
-weigh-requires c =
-    let told : SumsAs c.self.inside.backwards.items UNIT c.in-Some.reduced = rw c.in-Some.is at c.self.invariant.2 in
-    let fits = rw (← c.self.view_is) at c.requires in
-    omega (arith, told.count, fits)
-
-pub returns-in-Some : goal.returns-in-Some
-returns-in-Some c =
-    let told : SumsAs c.self.inside.backwards.items UNIT c.in-Some.reduced = rw c.in-Some.is at c.self.invariant.2 in
-    rw (← c.self.view_is) (c.weigh.ensures ∙ told.rounds c.args.samples.now c.args.from)
 
 pub returns : goal.returns
 returns c =

@@ -1,5 +1,5 @@
 use Rattle.std.proofs.Common.{◌≡◌, ◌+◌, ◌*◌, ◌-◌, ◌∙◌, ap, arith, length, replicate}
-use Rattle.fx_ring.proofs.RingLaws.{ring-fits, ring-len}
+use Rattle.fx_ring.proofs.RingLaws.{ring-len}
 use Rattle.fx_ring.proofs.ManyFrames.{ring-before, ring-places_before}
 use Rattle.fx_ring.proofs.ring.Ring.before_into.Goals as goal
 
@@ -8,23 +8,12 @@ overflow_add-self-inside g c =
     let held = ring-len _ _ _ _ _ c.self.view_is c.self.invariant in
     omega (arith, held)
 
-pub split_at_mut-silent-requires : goal.split_at_mut-silent-requires
-split_at_mut-silent-requires g c =
-    let at = ring-places_before _ _ _ _ _ c.self.view_is c.self.invariant c.args.late c.args.count c.quiet_before-quiet.result c.saturating_sub-first.result c.requires.late c.quiet_before-quiet.ensures (omega arith) in
-    let long = rw (← c.self.view_is) at c.requires.len in
-    omega (arith, at.whole, long)
-
 pub copy_part-requires-clause-within : goal.copy_part-requires-clause-within
 copy_part-requires-clause-within g c =
     let at = ring-places_before _ _ _ _ _ c.self.view_is c.self.invariant c.args.late c.args.count c.quiet_before-quiet.result c.saturating_sub-first.result c.requires.late c.quiet_before-quiet.ensures (omega arith) in
     let long = rw (← c.self.view_is) at c.requires.len in
     let own : length c.split_at_mut-silent.result.1.now + c.quiet_before-quiet.result * c.self.inside.channels ≡ length c.args.out.now = c.split_at_mut-silent.ensures.back_len in
     rw c.as_slices.ensures (omega (arith, at.whole, at.room, long, own))
-
-pub copy_part-requires-clause-small : goal.copy_part-requires-clause-small
-copy_part-requires-clause-small g c =
-    let fits = ring-fits _ _ _ _ _ c.self.view_is c.self.invariant in
-    rw c.as_slices.ensures (omega (arith, fits))
 
 pub returns : goal.returns
 returns g c =

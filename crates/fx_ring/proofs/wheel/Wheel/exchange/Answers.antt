@@ -1,10 +1,11 @@
 use Rattle.std.proofs.Common.{◌≡◌, ◌+◌, ◌-◌, ◌≤◌, ◌++◌, ap, ◌∙◌, drop, length, length-append, length-drop, refl, take, arith}
+use Rattle.std.proofs.lemmas.Grind.{common_steps}
 use Rattle.std.proofs.lemmas.List.{length-take-le, with_items_is}
 use borrow.Rule.Slice.PartMut.{put_mid}
 use Rattle.fx_ring.specs.Ring.{buffer, turned}
 use Rattle.fx_ring.proofs.Wheels.{turned-over}
-use Rattle.fx_ring.proofs.wheel.Wheel.exchange.Goals as goal
 use Rattle.fx_ring.proofs.wheel.Wheel.exchange.Goals.{then-end-self, else-end-self}
+use Rattle.fx_ring.proofs.wheel.Wheel.exchange.Goals as goal
 
 pub returns-clause-items : goal.returns-clause-items
 returns-clause-items g c _ =
@@ -26,3 +27,15 @@ returns-clause-items g c _ =
       | then-end-self w ↦ w.next-is
       | else-end-self w ↦ absurd (w.if-end-self.false (omega (arith, n, h)))
     ]))
+
+pub invariant_of-self : goal.invariant_of-self
+invariant_of-self g c = grind (arith, common_steps)
+
+pub returns-clause-full : goal.returns-clause-full
+returns-clause-full g c = grind (arith, common_steps)
+
+pub returns-clause-room : goal.returns-clause-room
+returns-clause-room g c = grind (arith, common_steps)
+
+pub returns-clause-oldest : goal.returns-clause-oldest
+returns-clause-oldest g c = grind (arith, common_steps)

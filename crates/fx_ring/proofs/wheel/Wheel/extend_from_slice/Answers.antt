@@ -1,4 +1,5 @@
 use Rattle.std.proofs.Common.{◌≡◌, ◌-◌, ◌<◌, ◌≤◌, ◌++◌, [], refl, ap, ◌∙◌, length, take, drop, take_at, take-append-drop, length-append, length-drop, arith}
+use Rattle.std.proofs.lemmas.Grind.{common_steps}
 use Rattle.std.proofs.lemmas.List.{take_rest}
 use Rattle.fx_ring.proofs.Wheels.{turned-extended, no-items}
 use Rattle.fx_ring.specs.Ring.{turned}
@@ -19,3 +20,21 @@ returns-then-rest-gt0 g c =
     let now = c.overwrite-start.new.places in
     let kept = rw (c.deref_mut.ensures.value) at c.overwrite-start.ensures.latest in
     turned-extended _ _ _ _ _ c.self.invariant _ c.self.view_is c.args.other.now _ c.split_at.result.0.now c.split_at.result.1.now c.append.new.places.items refl split c.append.ensures.items filled none _ (ap (turned c.overwrite-start.result.0 c.overwrite-start.result.1) (take_at now (drop (length now) c.append.new.places.items) c.append.new.places.len whole) ∙ kept)
+
+pub overwrite-start-requires-clause-behind : goal.overwrite-start-requires-clause-behind
+overwrite-start-requires-clause-behind g c = grind (arith, common_steps)
+
+pub overwrite-start-requires-clause-few : goal.overwrite-start-requires-clause-few
+overwrite-start-requires-clause-few g c = grind (arith, common_steps)
+
+pub overwrite-start-requires-clause-small : goal.overwrite-start-requires-clause-small
+overwrite-start-requires-clause-small g c = grind (arith, common_steps)
+
+pub invariant_of-self : goal.invariant_of-self
+invariant_of-self g c = grind (arith, common_steps)
+
+pub invariant_of-self-else-rest-gt0 : goal.invariant_of-self-else-rest-gt0
+invariant_of-self-else-rest-gt0 g c = grind (arith, common_steps)
+
+pub returns-else-rest-gt0 : goal.returns-else-rest-gt0
+returns-else-rest-gt0 g c = grind (arith, common_steps)
