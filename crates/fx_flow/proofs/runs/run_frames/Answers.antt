@@ -1,4 +1,5 @@
 use Rattle.std.proofs.Common.{rules, ◌≡◌, ◌+◌, ◌*◌, ◌<◌, ◌≤◌, ℕ, length, take, inl, inr, refl, sym, arith}
+use Rattle.std.proofs.lemmas.Grind.{common_steps}
 use Rattle.std.proofs.Math.Nat.{mul-le-mul_right}
 use Rattle.fx_step.specs.Holds.{kinds}
 use Rattle.fx_step.specs.Row.{outputs_of}
@@ -6,8 +7,8 @@ use Rattle.fx_flow.specs.Runs.{MayRun}
 use Rattle.fx_flow.specs.Sound.{most_frames}
 use Rattle.fx_flow.proofs.Running.{Running-frame, Running-none, Running-ran, Running-ready, Wrote}
 use Rattle.fx_flow.proofs.Rows.{AllHeld-lined}
-use Rattle.fx_flow.proofs.runs.run_frames.Goals as goal
 use Rattle.fx_flow.proofs.runs.run_frames.Goals.{then-passage, else-passage}
+use Rattle.fx_flow.proofs.runs.run_frames.Goals as goal
 
 pub frames-init : goal.frames-init
 frames-init g c =
@@ -89,17 +90,5 @@ frames-preserved g c =
       behind = run.turned.behind;
     }
 
-pub returns : goal.returns
-returns g c =
-    let done : c.frames.taken ≡ c.args.count = omega (arith, c.frames-test.false, c.frames.auto.taken-end) in
-    let kept = c.frames.invariant in
-    record {
-      ran = λ left may.
-          let run = rw done at (kept.runs left may) in
-          Running-ran g.S.Stage.acts g.met.S.Stage.rises c.args.widths.inputs c.args.widths.outputs c.args.count left c.args.stages.now c.args.input.now c.args.output.now c.frames.stages c.frames.output (c.args.count * c.args.widths.inputs) (c.frames.given * c.args.widths.outputs) c.args.count c.frames.given run c.requires.input (sym c.requires.outputs);
-      read = omega arith;
-      written = omega (arith, done, kept.fewer);
-      small = kept.small;
-      some = λ one. one;
-      behind = kept.behind;
-    }
+pub overflow_add-written : goal.overflow_add-written
+overflow_add-written g c = grind (arith, common_steps)

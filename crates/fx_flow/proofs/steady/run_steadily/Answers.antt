@@ -22,12 +22,6 @@ slice_bounds-pass_few-end-in-pieces g c =
     let within : c.pieces.done + c.min-piece.result ≤ c.args.count = omega (arith, c.min-piece.ensures, c.pieces.invariant.within) in
     omega (arith, mul-le-mul_right c.args.channels within, add-mul c.pieces.done c.min-piece.result c.args.channels, c.requires.output, c.pieces.auto.output)
 
-pub pass_few-requires-clause-lined : goal.pass_few-requires-clause-lined
-pass_few-requires-clause-lined g c = c.pieces.invariant.lined
-
-pub pass_few-requires-clause-few : goal.pass_few-requires-clause-few
-pass_few-requires-clause-few g c = omega (arith, c.min-piece.ensures, c.saturating_add-few.ensures, c.pieces.auto.stages)
-
 pub pass_few-requires-clause-ready : goal.pass_few-requires-clause-ready
 pass_few-requires-clause-ready g c =
     let left = c.requires.may_run.0 in

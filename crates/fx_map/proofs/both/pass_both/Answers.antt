@@ -1,6 +1,4 @@
-use Rattle.std.proofs.Common.{arith, ◌≡◌, ◌*◌, ◌≤◌, ◌∙◌, ℕ, ℤ, Bool, List, length, map, take, ap, refl}
-use Rattle.std.proofs.Math.Nat.{mul-le-mul}
-use Rattle.std.proofs.lemmas.List.{length-take-le}
+use Rattle.std.proofs.Common.{◌≡◌, ◌*◌, ◌≤◌, ◌∙◌, ℕ, ℤ, Bool, List, length, map, take, ap, refl}
 use Rattle.fx_lists.specs.Lists.{pieces}
 use Rattle.fx_lists.specs.Rounded.{clips_of, samples_of}
 use Rattle.fx_lists.proofs.Pieces.{length-pieces}
@@ -8,27 +6,6 @@ use Rattle.fx_frame.specs.Made.{rounded_given}
 use Rattle.fx_map.proofs.Blocks.{dry-through}
 use Rattle.fx_map.proofs.BothLaws.{between, between-many, between-sides, first-clips, out-is, out-sides, second-clips}
 use Rattle.fx_map.proofs.both.pass_both.Goals as goal
-
-pub count_passed-requires-clause-few_clips : goal.count_passed-requires-clause-few_clips
-count_passed-requires-clause-few_clips g c =
-    let size : ℕ = c.out_channels.result in
-    let wide : c.args.count * size ≤ c.args.count * 16 = mul-le-mul (omega arith) c.out_channels.ensures.frame.1 in
-    let is : size ≡ c.args.first.now.mapping.channels = c.out_channels.ensures.value ∙ ap (λ m. m.channels) c.mapping.ensures.value in
-    let room : c.args.count * size ≤ length c.args.input.now = rw is c.requires.input in
-    omega (arith, wide, c.round_before-clips.ensures.few.0, length-take-le (c.args.count * size) c.args.input.now room)
-
-pub count_passed-requires-2-clause-few : goal.count_passed-requires-2-clause-few
-count_passed-requires-2-clause-few g c =
-    let counted = rw c.requires.first_dry at c.mapping.ensures.sound.counted in
-    omega (arith, counted, c.requires.follows, c.requires.first_few)
-
-pub count_passed-requires-2-clause-few_clips : goal.count_passed-requires-2-clause-few_clips
-count_passed-requires-2-clause-few_clips g c =
-    let size : ℕ = c.out_channels.result in
-    let wide : c.args.count * size ≤ c.args.count * 16 = mul-le-mul (omega arith) c.out_channels.ensures.frame.1 in
-    let is : size ≡ c.args.first.now.mapping.channels = c.out_channels.ensures.value ∙ ap (λ m. m.channels) c.mapping.ensures.value in
-    let room : c.args.count * size ≤ length c.args.input.now = rw is c.requires.input in
-    omega (arith, wide, c.round_before-clips.ensures.few.1, length-take-le (c.args.count * size) c.args.input.now room)
 
 pub returns-clause-through : goal.returns-clause-through
 returns-clause-through g c =

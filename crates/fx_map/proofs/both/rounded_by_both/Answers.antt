@@ -30,12 +30,6 @@ samples-preserved g c =
       fits = All-more (FitsSigned w32) xs k (pos 0) h c.samples.invariant.fits fits;
     }
 
-pub overflow_add-first_clips : goal.overflow_add-first_clips
-overflow_add-first_clips g c = grind (arith, common_steps)
-
-pub overflow_add-second_clips : goal.overflow_add-second_clips
-overflow_add-second_clips g c = grind (arith, common_steps)
-
 pub returns-clause-samples : goal.returns-clause-samples
 returns-clause-samples g c = grind (arith, common_steps)
 
@@ -44,9 +38,6 @@ returns-clause-first g c = grind (arith, common_steps)
 
 pub returns-clause-second : goal.returns-clause-second
 returns-clause-second g c = grind (arith, common_steps)
-
-pub returns-clause-few : goal.returns-clause-few
-returns-clause-few g c = grind (arith, common_steps)
 
 pub returns-clause-fits : goal.returns-clause-fits
 returns-clause-fits g c = grind (arith, common_steps)

@@ -29,11 +29,11 @@ frames-preserved g c =
       few = omega (arith, c.from-clips.ensures, one, old.few);
     }
 
-pub overflow_add-clips : goal.overflow_add-clips
-overflow_add-clips g c = grind (arith, common_steps)
-
 pub overflow_add-at : goal.overflow_add-at
 overflow_add-at g c =
     let far = within-frames c.args.place.channels c.args.place.channel c.frames._turn c.args.shape.count c.requires.place c.frames-test.true in
     let inside : c.frames.at < length c.frames.to = omega (arith, far, c.frames.invariant.at_is, c.requires.to, c.frames.auto.to) in
     search (rules, inside)
+
+pub offset_bounds-to-at : goal.offset_bounds-to-at
+offset_bounds-to-at g c = grind (arith, common_steps)

@@ -1,5 +1,4 @@
 use Rattle.std.proofs.Common.{rules, append_assoc, ◌≡◌, ◌+◌, ◌-◌, ◌*◌, ◌≤◌, ℕ, List, [], ◌∷◌, ◌++◌, length, take, drop, sym, ap, ◌∙◌, arith, add-one, suc}
-use Rattle.std.proofs.lemmas.Grind.{common_steps}
 use Rattle.std.specs.Prelude.{ℤ}
 use Rattle.std.proofs.lemmas.List.{drop-drop}
 use Rattle.std.proofs.Math.Nat.{suc-mul, mul-le-mul_right}
@@ -48,6 +47,3 @@ frames-preserved g c =
       counted = rw (more, clips_in-more mapped (pieces ins turn c.args.input.now) x) (omega (arith, old.counted, clipped));
       few = omega (arith, old.few, c.map_into-clips.ensures.few);
     }
-
-pub overflow_add-clips : goal.overflow_add-clips
-overflow_add-clips g c = grind (arith, common_steps)

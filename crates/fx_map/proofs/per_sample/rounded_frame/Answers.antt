@@ -1,9 +1,9 @@
-use Rattle.std.proofs.Common.{rules, arith, ◌≡◌, ◌<◌, ◌+◌, ◌-◌, ◌∙◌, [], ◌∷◌, ap, sym, get_or, length, ℕ, Bool, to_z, of_z}
+use Rattle.std.proofs.Common.{rules, arith, ◌≡◌, ◌<◌, ◌+◌, ◌-◌, ◌∙◌, ap, get_or, length, ℕ, Bool, to_z, of_z}
 use Rattle.std.specs.Prelude.{ℤ, pos, replicate, List}
 use Rattle.std.specs.Int.{w32}
 use Rattle.std.proofs.lemmas.List.{get_or_append_left}
 use Rattle.std.proofs.Math.ListN.{length-set}
-use Rattle.fx_lists.proofs.Rounds.{samples_of-more, clips_of-more, byte_is, byte-le, rounds-one}
+use Rattle.fx_lists.proofs.Rounds.{samples_of-more, clips_of-more, byte_is, byte-le}
 use Rattle.fx_map.proofs.per_sample.rounded_frame.Goals as goal
 
 pub loop-channel-preserved : goal.loop-channel-preserved
@@ -23,19 +23,4 @@ loop-channel-preserved g c =
       done = rw out (samples_of-more f xs (pos 0) c.loop-channel.out k c.round-sample-in-loop-channel.result.0 h (omega arith) c.loop-channel.invariant.done (ap (λ r. r.0) v));
       counted = ap (λ n. c.loop-channel.clips + n) (c.from-clips.ensures ∙ byte_is c.round-sample-in-loop-channel.result.1) ∙ clips_of-more f xs (pos 0) k c.loop-channel.clips c.round-sample-in-loop-channel.result.1 h c.loop-channel.invariant.counted (ap (λ r. r.1) v);
       few = omega (arith, c.from-clips.ensures, one, c.loop-channel.invariant.few);
-    }
-
-pub returns-then-channels-eq1 : goal.returns-then-channels-eq1
-returns-then-channels-eq1 g c =
-    let f : ℤ → ℤ × Bool = g.S.Sampling.rounded c.args.sampling.now in
-    let single : length c.args.frame ≡ 1 = sym c.channels-channels.ensures.count ∙ c.if-channels-eq1.true in
-    let same : to_z w32 (of_z w32 c.get.result) ≡ c.get.result = search rules in
-    let out : to_z w32 (of_z w32 c.round-sample.result.0) ≡ c.round-sample.result.0 = search rules in
-    let rounds = rounds-one f c.args.frame (pos 0) c.round-sample.result single (c.round-sample.ensures ∙ ap f (same ∙ c.get.ensures)) in
-    let flag = byte-le c.round-sample.result.1 in
-    record {
-      frame = c.one.ensures ∙ ap (λ s. s ∷ []) out ∙ rounds.0;
-      clips = c.from.ensures ∙ rounds.1;
-      few = omega (arith, c.from.ensures, flag, single);
-      channels = ap length c.one.ensures ∙ sym single;
     }

@@ -5,11 +5,6 @@ use Rattle.fx_flow.proofs.Moving.{settled-none, settled-after, count-le, IsWetEn
 use Rattle.fx_lists.proofs.Puts.{written_back}
 use Rattle.fx_flow.proofs.flow.Flow.step.Goals as goal
 
-pub pass_on-self-inside-requires-clause-dry : goal.pass_on-self-inside-requires-clause-dry
-pass_on-self-inside-requires-clause-dry g c =
-    let still = c.if-is_still.ensures.0 refl in
-    rw c.deref_mut.ensures.value (settled-none g.S.Stage.acts c.self.inside.wet c.self.inside.stages.items (omega (arith, still.0)) c.self.invariant.1)
-
 pub pass_on-self-inside-requires-clause-open : goal.pass_on-self-inside-requires-clause-open
 pass_on-self-inside-requires-clause-open g c =
     let still = c.if-is_still.ensures.0 refl in

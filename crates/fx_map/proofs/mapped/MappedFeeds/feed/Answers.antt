@@ -3,10 +3,10 @@ use Rattle.std.specs.Prelude.{None}
 use Rattle.fx_frame.specs.Kinds.{most_taken}
 use Rattle.fx_map.proofs.Blocks.{block-fed}
 use Rattle.fx_step.proofs.Flags.{none-of}
-use Rattle.fx_frame.proofs.WholeFrames.{both-have, no-more, none-both}
+use Rattle.fx_frame.proofs.WholeFrames.{both-have, no-more}
 use Rattle.fx_map.proofs.mapped.MappedFeeds.feed.Given as given
-use Rattle.fx_map.proofs.mapped.MappedFeeds.feed.Goals as goal
 use Rattle.fx_map.proofs.mapped.MappedFeeds.feed.Goals.{After-min-count}
+use Rattle.fx_map.proofs.mapped.MappedFeeds.feed.Goals as goal
 
 -- both slices have so many frames
 both : (g : given.Over) (c : After-min-count g) → (c.min-count.result * c.in_channels-inputs.result ≤ length c.args.input.now) × (c.min-count.result * c.out_channels-outputs.result ≤ length c.args.output.now)
@@ -34,58 +34,11 @@ returns-clause-fed g c =
     (block-fed m.inputs m.outputs m.mapped s.mapping (record { mapping = s.mapping; hand = s.hand; hand_clips = s.hand_clips; taken = s.taken; given = s.given; clips = s.clips; ended = s.ended }) c.min-count.result c.map_many.result c.args.input.now c.map_many.new.output
     refl none zero over even long c.map_many.ensures.frames c.map_many.ensures.clips)
 
-pub feed_by_frames-requires : goal.feed_by_frames-requires
-feed_by_frames-requires g c = record { channels = c.requires.channels; below_limit = c.requires.below_limit }
-
-pub returns-then-is_some : goal.returns-then-is_some
-returns-then-is_some g c =
-    let e = c.feed_by_frames.ensures in
-    record { fed = e.fed; read = e.read; written = e.written; behind = e.behind; dry = e.dry; used = e.used; none = e.none }
-
-pub nonzero_div-input : goal.nonzero_div-input
-nonzero_div-input g c =
-    let some = rw (← c.self.view_is, ← c.in_channels-inputs.ensures) at c.requires.channels in
-    omega (arith, some.0)
-
-pub nonzero_div-output : goal.nonzero_div-output
-nonzero_div-output g c = omega (arith, c.if-outputs-eq0.false)
-
-pub map_many-requires-clause-channels : goal.map_many-requires-clause-channels
-map_many-requires-clause-channels g c = rw (← c.self.view_is) at c.requires.channels
-
 pub map_many-requires-clause-few : goal.map_many-requires-clause-few
 map_many-requires-clause-few g c = omega (arith, limit g (goal.at.map_many-requires-clause-few g c).After-min-count)
 
-pub map_many-requires-clause-input : goal.map_many-requires-clause-input
-map_many-requires-clause-input g c = rw (← c.in_channels-inputs.ensures) (both g (goal.at.map_many-requires-clause-input g c).After-min-count).0
-
-pub map_many-requires-clause-output : goal.map_many-requires-clause-output
-map_many-requires-clause-output g c = rw (← c.out_channels-outputs.ensures.value) (both g (goal.at.map_many-requires-clause-output g c).After-min-count).1
-
 pub overflow_add-self : goal.overflow_add-self
 overflow_add-self g c = omega (arith, limit g (goal.at.overflow_add-self g c).After-min-count, c.self.invariant.counted, c.self.invariant.few_clips, c.map_many.ensures.few)
-
-pub overflow_add-self-2 : goal.overflow_add-self-2
-overflow_add-self-2 g c = omega (arith, limit g (goal.at.overflow_add-self-2 g c).After-min-count)
-
-pub overflow_add-self-3 : goal.overflow_add-self-3
-overflow_add-self-3 g c = omega (arith, limit g (goal.at.overflow_add-self-3 g c).After-min-count, c.self.invariant.counted)
-
-pub returns-clause-read : goal.returns-clause-read
-returns-clause-read g c = rw (← c.self.view_is, ← c.in_channels-inputs.ensures) (both g (goal.at.returns-clause-read g c).After-min-count).0
-
-pub returns-clause-written : goal.returns-clause-written
-returns-clause-written g c =
-    let have = both g (goal.at.returns-clause-written g c).After-min-count in
-    rw (← c.self.view_is, ← c.out_channels-outputs.ensures.value) (omega (arith, have.1, c.map_many.auto.output))
-
-pub returns-clause-behind : goal.returns-clause-behind
-returns-clause-behind g c = rw (← c.self.view_is) c.map_many.ensures.behind
-
-pub returns-clause-dry : goal.returns-clause-dry
-returns-clause-dry g c =
-    let none : c.self.inside.hand ≡ None = none-of c.self.inside.hand (search rules) in
-    λ room. rw none refl
 
 pub returns-clause-used : goal.returns-clause-used
 returns-clause-used g c =
@@ -93,8 +46,3 @@ returns-clause-used g c =
     let wide : 0 < c.out_channels-outputs.result = omega (arith, c.if-outputs-eq0.false) in
     rw (← c.self.view_is, ← c.in_channels-inputs.ensures, ← c.out_channels-outputs.ensures.value)
     (λ room over spent. no-more (length c.args.input.now) (length c.args.output.now) c.in_channels-inputs.result c.out_channels-outputs.result c.min-count.result (omega (arith, some.0)) wide c.min-count.ensures (omega (arith, room, c.map_many.auto.output)))
-
-pub returns-clause-none : goal.returns-clause-none
-returns-clause-none g c =
-    rw (← c.self.view_is, ← c.out_channels-outputs.ensures.value)
-    (none-both (length c.args.input.now) (length c.args.output.now) c.in_channels-inputs.result c.out_channels-outputs.result c.min-count.result c.min-count.ensures)

@@ -1,6 +1,5 @@
-use Rattle.std.proofs.Common.{◌≡◌, ◌*◌, ◌≤◌, ◌∙◌, ap, arith, length, map, sym, ℕ}
+use Rattle.std.proofs.Common.{◌≡◌, ◌*◌, ◌∙◌, ap, arith, length, map, sym}
 use Rattle.std.proofs.lemmas.List.{take_all}
-use Rattle.std.proofs.Math.Nat.{mul-le-mul_right, mul_comm}
 use Rattle.fx_lists.specs.Lists.{pieces}
 use Rattle.fx_lists.specs.Rounded.{clips_of}
 use Rattle.fx_frame.proofs.SamplePieces.{clips-samples, pieces-samples}
@@ -20,12 +19,3 @@ returns-clause-clips g c =
     let whole = take_all (c.args._count * s.channels) c.args.samples.now (omega (arith, all)) in
     rw (← c.self.view_is)
     (c.round_all.ensures.clips ∙ sym (ap (λ l. clips_of (map f l)) whole) ∙ clips-samples f s.channels c.args._count c.args.samples.now)
-
-pub returns-clause-few : goal.returns-clause-few
-returns-clause-few g c =
-    let s = c.self.inside in
-    let n : ℕ = c.args._count in
-    let all : length c.args.samples.now ≡ n * s.channels = rw (← c.self.view_is) at c.requires.samples in
-    let few : s.channels ≤ 16 = c.self.invariant.1 in
-    let most : s.channels * n ≤ 16 * n = mul-le-mul_right n few in
-    omega (arith, all, most, mul_comm n s.channels, c.round_all.ensures.few)

@@ -1,26 +1,11 @@
-use Rattle.std.proofs.Common.{rules, refl, ◌≡◌, ◌+ℤ◌, ◌∙◌, [], ap, ℕ, ℤ, map, pos, slice_index_or, sym, to_z, of_z, w32, w64, FitsSigned}
+use Rattle.std.proofs.Common.{rules, ◌≡◌, ◌+ℤ◌, ◌∙◌, ap, ℕ, ℤ, map, pos, slice_index_or, sym, to_z, of_z, w32, w64}
 use Rattle.fx_fixed.specs.Rounding.{rounding}
 use Rattle.fx_sums.specs.Weights.{Weights}
-use Rattle.fx_map.specs.Mix.{Copies, Means, Reduces, Scales, pair_of}
+use Rattle.fx_map.specs.Mix.{Means, Reduces, Scales, pair_of}
 use Rattle.fx_map.specs.Vol.{scaled_sample}
 use Rattle.fx_convolve.specs.Products.{sum_of_products}
-use Rattle.fx_map.proofs.MixLaws.{copied-sample, gathered, mean-sample, scaled-mix, small-mix}
+use Rattle.fx_map.proofs.MixLaws.{gathered, mean-sample, scaled-mix, small-mix}
 use Rattle.fx_map.proofs.remix.Mix.sample.Goals as goal
-
-pub returns-in-Silent : goal.returns-in-Silent
-returns-in-Silent c =
-    let none : c.self.inside.contributions.items ≡ [] = rw c.in-Silent.is at c.self.invariant.2 in
-    rw (← c.self.view_is, none) refl
-
-pub returns-in-Copied : goal.returns-in-Copied
-returns-in-Copied c =
-    let cs = c.self.inside.contributions.items in
-    let channel : ℕ = c.in-Copied.channel in
-    let copies : Copies cs channel = rw c.in-Copied.is at c.self.invariant.2 in
-    let fits : FitsSigned w32 c.sample_or_silence.result = search rules in
-    let sample = copied-sample cs channel c.args.samples.now copies (rw c.sample_or_silence.ensures at fits) in
-    let back : to_z w32 (of_z w32 c.sample_or_silence.result) ≡ c.sample_or_silence.result = search rules in
-    rw (back, c.sample_or_silence.ensures, ← c.self.view_is) (sym sample)
 
 pub returns-in-Mean : goal.returns-in-Mean
 returns-in-Mean c =

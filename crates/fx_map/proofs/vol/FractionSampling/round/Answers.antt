@@ -3,9 +3,8 @@ use Rattle.std.proofs.lemmas.Grind.{common_steps}
 use Rattle.std.proofs.lemmas.Int.{to_z-of_z}
 use Rattle.fx_fixed.specs.Rounding.{rounding}
 use Rattle.fx_map.specs.Fractions.{fraction_sample}
-use Rattle.fx_map.proofs.vol.FractionSampling.round.Goals as goal
-use Rattle.fx_sums.proofs.Fitting.{product-fits}
 use Rattle.fx_convolve.proofs.SmallSums.{plain-product-64}
+use Rattle.fx_map.proofs.vol.FractionSampling.round.Goals as goal
 
 pub returns : goal.returns
 returns c =
@@ -15,15 +14,6 @@ returns c =
     let small : unsigned_abs c.args.sample ≤ 2 ^ 31 = search rules in
     let few : unsigned_abs f.weight ≤ 2 ^ 31 = omega (arith, c.self.invariant) in
     c.round.ensures ∙ ap (λ z. rounding z f.denominator) (plain-product-64 f.weight c.args.sample c.from.result c.from-2.result weight sample few small) ∙ ap (λ r. fraction_sample r c.args.sample) c.self.view_is
-
-pub overflow_mul-from : goal.overflow_mul-from
-overflow_mul-from c =
-    let f = c.self.inside in
-    let weight : c.from.result ≡ f.weight = search (rules, to_z-of_z) in
-    let sample : c.from-2.result ≡ c.args.sample = search (rules, to_z-of_z) in
-    let small : unsigned_abs c.args.sample ≤ 2 ^ 31 = search rules in
-    let few : unsigned_abs f.weight ≤ 2 ^ 31 = omega (arith, c.self.invariant) in
-    product-fits f.weight c.args.sample c.from.result c.from-2.result weight sample few small
 
 -- The prover finds these too, but searches long.
 pub round-requires : goal.round-requires
