@@ -101,21 +101,3 @@ returns-clause-sound c came h j lt =
 
 pub overflow_add-clips : goal.overflow_add-clips
 overflow_add-clips c = grind (arith, common_steps)
-
-pub overflow_add-done : goal.overflow_add-done
-overflow_add-done c = grind (arith, common_steps)
-
-pub returns-clause-frames : goal.returns-clause-frames
-returns-clause-frames c = grind (arith, common_steps)
-
-pub returns-clause-clips : goal.returns-clause-clips
-returns-clause-clips c = grind (arith, common_steps)
-
-pub returns-clause-few : goal.returns-clause-few
-returns-clause-few c = grind (arith, common_steps)
-
-pub returns-clause-behind : goal.returns-clause-behind
-returns-clause-behind c = grind (arith, common_steps)
-
-pub returns-clause-lines : goal.returns-clause-lines
-returns-clause-lines c = grind (arith, common_steps)

@@ -11,20 +11,11 @@ returns-clause-few c k =
     let all : unsigned_abs (slice_index_or c.places.result k (pos 0)) ≤ 2 ^ 31 = rw c.places.ensures.places small in
     few-more _ _ c.args.gain (slice_index_or c.places.result k (pos 0)) c.args.channels k c.requires.gain all (c.add_places.ensures.added k) (c.add_places.ensures.left k)
 
-pub add_places-requires-clause-channels : goal.add_places-requires-clause-channels
-add_places-requires-clause-channels c = c.requires.channels
-
-pub add_places-requires-clause-gain : goal.add_places-requires-clause-gain
-add_places-requires-clause-gain c = c.requires.gain
-
 pub add_places-requires-clause-small : goal.add_places-requires-clause-small
 add_places-requires-clause-small c k =
     let small : unsigned_abs (slice_index_or (padded c.args.frame) k (pos 0)) ≤ 2 ^ 31 = rw (quiet-behind c.args.frame _ k) (small-frame c.args.frame c.places.ensures.frame.fits k) in
     let all : unsigned_abs (slice_index_or c.places.result k (pos 0)) ≤ 2 ^ 31 = rw c.places.ensures.places small in
     omega (arith, all)
-
-pub add_places-requires-clause-room : goal.add_places-requires-clause-room
-add_places-requires-clause-room c = c.requires.room
 
 pub returns-clause-added : goal.returns-clause-added
 returns-clause-added c k l = rw (c.places.ensures.places, quiet-behind c.args.frame _ k) at (c.add_places.ensures.added k l)

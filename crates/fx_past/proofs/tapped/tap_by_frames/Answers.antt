@@ -1,5 +1,4 @@
-use Rattle.std.proofs.Common.{rules, append_assoc, ◌≡◌, ◌+◌, ◌-◌, ◌*◌, ◌≤◌, ℕ, List, [], ◌∷◌, ◌++◌, length, take, drop, sym, refl, ap, ◌∙◌, arith, add-one, suc}
-use Rattle.std.proofs.lemmas.Grind.{common_steps}
+use Rattle.std.proofs.Common.{rules, append_assoc, ◌≡◌, ◌+◌, ◌-◌, ◌*◌, ◌≤◌, ℕ, List, [], ◌∷◌, ◌++◌, length, take, drop, sym, ap, ◌∙◌, arith, add-one, suc}
 use Rattle.std.specs.Prelude.{ℤ}
 use Rattle.std.proofs.lemmas.List.{drop-drop}
 use Rattle.std.proofs.Math.Nat.{suc-mul, mul-le-mul_right}
@@ -9,23 +8,8 @@ use Rattle.fx_step.specs.Stage.{Given}
 use Rattle.fx_lists.proofs.Puts.{drop-put, pieces-more, pieces-put}
 use Rattle.fx_frame.specs.Tapped.{clips_behind, frames_behind, last_of}
 use Rattle.fx_frame.specs.Past.{sample_before}
-use Rattle.fx_frame.proofs.TapBlocks.{clips-more, frames-more, last-more, last-whole}
+use Rattle.fx_frame.proofs.TapBlocks.{clips-more, frames-more, last-more}
 use Rattle.fx_past.proofs.tapped.tap_by_frames.Goals as goal
-
-pub frames-init : goal.frames-init
-frames-init g c =
-    let whole = last-whole c.args.line.now.capacity c.args.line.now.items c.len-held.ensures.line.within in
-    record {
-      at_is = omega arith;
-      done = refl;
-      behind = refl;
-      counted = refl;
-      few = omega arith;
-      small = omega arith;
-      line = sym whole;
-      line_capacity = refl;
-      line_channels = refl;
-    }
 
 pub frames-preserved : goal.frames-preserved
 frames-preserved g c =
@@ -77,6 +61,3 @@ frames-preserved g c =
       line_capacity = c.push_samples.ensures.capacity ∙ old.line_capacity;
       line_channels = c.push_samples.ensures.channels ∙ old.line_channels;
     }
-
-pub overflow_add-clips : goal.overflow_add-clips
-overflow_add-clips g c = grind (arith, common_steps)

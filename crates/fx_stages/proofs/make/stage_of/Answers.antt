@@ -40,3 +40,30 @@ returns-in-Delay c =
     let long : length (every_delay c.args.channels delays) ≡ c.args.channels = delays-long c.args.channels delays (rw (c.in-Delay.is) at c.requires.suits) in
     let new : (s : TapState (List ℕ)) → IsNew delay_acts (every_delay c.args.channels delays) s → IsNew effect_acts (recipe_at (InPlace c.args.channels (OfDelay delays))) (stages.Delay s) = λ s. delay-new c.args.channels delays s long in
     rw (c.in-Delay.is) (grind (arith, common_steps, new))
+
+pub new-requires-in-Delay-clause-line : goal.new-requires-in-Delay-clause-line
+new-requires-in-Delay-clause-line c = grind (arith, common_steps)
+
+pub new-requires-in-Echo-clause-delays : goal.new-requires-in-Echo-clause-delays
+new-requires-in-Echo-clause-delays c = grind (arith, common_steps)
+
+pub new-requires-in-Echo-clause-decays : goal.new-requires-in-Echo-clause-decays
+new-requires-in-Echo-clause-decays c = grind (arith, common_steps)
+
+pub new-requires-in-Echos-clause-delays : goal.new-requires-in-Echos-clause-delays
+new-requires-in-Echos-clause-delays c = grind (arith, common_steps)
+
+pub new-requires-in-Echos-clause-decays : goal.new-requires-in-Echos-clause-decays
+new-requires-in-Echos-clause-decays c = grind (arith, common_steps)
+
+pub new-requires-in-Remix-clause-outs : goal.new-requires-in-Remix-clause-outs
+new-requires-in-Remix-clause-outs c = grind (arith, common_steps)
+
+pub returns-in-Echos : goal.returns-in-Echos
+returns-in-Echos c = grind (arith, common_steps)
+
+pub returns-in-Fir : goal.returns-in-Fir
+returns-in-Fir c = grind (arith, common_steps)
+
+pub returns-in-Remix : goal.returns-in-Remix
+returns-in-Remix c = grind (arith, common_steps)

@@ -7,8 +7,8 @@ use Rattle.fx_past.proofs.EchosLaws.{places-late}
 use Rattle.fx_step.proofs.Flags.{none-of}
 use Rattle.fx_frame.proofs.WholeFrames.{both-have, no-more, none-both}
 use Rattle.fx_lists.proofs.Puts.{written_back}
-use Rattle.fx_past.proofs.echos.EchosFeeds.feed.Goals as goal
 use Rattle.fx_past.proofs.echos.EchosFeeds.feed.Goals.{After-echo_many, After-min-count}
+use Rattle.fx_past.proofs.echos.EchosFeeds.feed.Goals as goal
 
 -- the input has so many frames, the output has room for them, and the effect may take them
 frames : (c : After-min-count) →
@@ -43,59 +43,12 @@ invariant_of-self c =
     rw (written_back s.lines.items c.echo_many.new.lines s.lines.len s.lines.ok.0 size)
     (IsEchos-block _ c.echo_many.new.lines c.min-count.result c.echo_many.result is none over limit size (sound _ is.lines) c.echo_many.ensures.few, c.self-2.invariant.1)
 
-pub feed_by_frames-requires : goal.feed_by_frames-requires
-feed_by_frames-requires c = record { channels = c.requires.channels; below_limit = c.requires.below_limit }
-
-pub returns-then-is_some : goal.returns-then-is_some
-returns-then-is_some c =
-    let fed = c.feed_by_frames.ensures in
-    record { fed = fed.fed; read = fed.read; written = fed.written; behind = fed.behind; dry = fed.dry; used = fed.used; none = fed.none }
-
-pub feed_by_frames-requires-in_default : goal.feed_by_frames-requires-in_default
-feed_by_frames-requires-in_default c = record { channels = c.requires.channels; below_limit = c.requires.below_limit }
-
-pub returns-in_default : goal.returns-in_default
-returns-in_default c =
-    let fed = c.feed_by_frames-in_default.ensures in
-    record { fed = fed.fed; read = fed.read; written = fed.written; behind = fed.behind; dry = fed.dry; used = fed.used; none = fed.none }
-
-pub nonzero_div-input : goal.nonzero_div-input
-nonzero_div-input c =
-    let some = rw (← c.self-2.view_is) at c.requires.channels in
-    omega (arith, some.0)
-
-pub nonzero_div-output : goal.nonzero_div-output
-nonzero_div-output c =
-    let some = rw (← c.self-2.view_is) at c.requires.channels in
-    omega (arith, some.0)
-
-pub echo_many-requires-clause-channels : goal.echo_many-requires-clause-channels
-echo_many-requires-clause-channels c = rw (← c.self-2.view_is) at c.requires.channels
-
-pub echo_many-requires-clause-input : goal.echo_many-requires-clause-input
-echo_many-requires-clause-input c = (frames (goal.at.echo_many-requires-clause-input c).After-min-count).0
-
-pub echo_many-requires-clause-output : goal.echo_many-requires-clause-output
-echo_many-requires-clause-output c = (frames (goal.at.echo_many-requires-clause-output c).After-min-count).1
-
 pub overflow_add-self : goal.overflow_add-self
 overflow_add-self c =
     let over : c.self-2.inside.ended ≡ false = search rules in
     let counted = rw over at c.self-2.invariant.0.counted in
     let (read, room, limit) = frames (goal.at.overflow_add-self c).After-min-count in
     omega (arith, counted, limit, c.self-2.invariant.0.few_clips, c.echo_many.ensures.few)
-
-pub overflow_add-self-2 : goal.overflow_add-self-2
-overflow_add-self-2 c =
-    let (read, room, limit) = frames (goal.at.overflow_add-self-2 c).After-min-count in
-    omega (arith, limit)
-
-pub overflow_add-self-3 : goal.overflow_add-self-3
-overflow_add-self-3 c =
-    let over : c.self-2.inside.ended ≡ false = search rules in
-    let counted = rw over at c.self-2.invariant.0.counted in
-    let (read, room, limit) = frames (goal.at.overflow_add-self-3 c).After-min-count in
-    omega (arith, counted, limit)
 
 pub returns : goal.returns
 returns c =

@@ -1,33 +1,16 @@
-use Rattle.std.proofs.Common.{rules, refl, sym, ap, ◌∙◌, ◌≡◌, ◌≤◌, ◌+◌, true, inl, inr, min, length, length-append, arith, slice_index_or}
+use Rattle.std.proofs.Common.{rules, refl, sym, ap, ◌∙◌, ◌≡◌, ◌≤◌, ◌+◌, true, min, length, length-append, arith, slice_index_or}
 use Rattle.std.specs.Prelude.{option_to_list}
 use Rattle.std.proofs.lemmas.Bool.Decides.{nat_tests}
-use Rattle.fx_frame.specs.Frozen.{IsStored}
 use Rattle.fx_frame.specs.Tapped.{AreTapCounts, by_name}
 use Rattle.fx_frame.proofs.Counts.{eight-numbers, flag-back, flag-of, times-flag}
 use Rattle.fx_frame.proofs.TapLaws.{counts-are}
 use Rattle.fx_past.proofs.tapped.Tapped.thawed.Goals as goal
-
-pub are_counts-requires-clause-most : goal.are_counts-requires-clause-most
-are_counts-requires-clause-most g c = rw c.most_clips-most.ensures (g.met.T.Tapping.few_clips c.args.arguments)
 
 pub returns-then-not-are_counts-clause-thawed : goal.returns-then-not-are_counts-clause-thawed
 returns-then-not-are_counts-clause-thawed g c =
     λ s is same froze.
     let yes : c.are_counts.result ≡ true = c.are_counts.ensures.1 (rw (c.requires.reach, c.most_clips-most.ensures) (counts-are g.T.Tapping.taps s c.args.arguments c.args.frames.now c.args.numbers.now is same froze)) in
     absurd (cc)
-
-pub returns-in-Err-clause-thawed : goal.returns-in-Err-clause-thawed
-returns-in-Err-clause-thawed g c =
-    λ s is same froze.
-    let stored : IsStored c.channels-channels.result c.args.reach (slice_index_or c.args.numbers.now 6 0) c.args.frames.now s.line s.hand = record {
-      lined = is.line;
-      channels_are = is.channels ∙ ap g.T.Tapping.taps.channels same ∙ sym c.channels-channels.ensures.value;
-      capacity_is = is.capacity ∙ ap g.T.Tapping.taps.reach same ∙ sym c.requires.reach;
-      held = rw (c.channels-channels.ensures.value, ← same) is.fits;
-      hands_are = sym (ap (λ l. slice_index_or l 6 0) froze.counted);
-      stored = froze.stored;
-    } in
-    elim c.in-Err.ensures.refused [ inl e ↦ e | inr e ↦ absurd (e.1 s.line s.hand stored) ]
 
 pub returns-clause-frozen : goal.returns-clause-frozen
 returns-clause-frozen g c =

@@ -1,23 +1,8 @@
-use Rattle.std.proofs.Common.{◌≡◌, ◌+◌, ◌*◌, ◌≤◌, ◌∙◌, ◌^◌, [], ◌∷◌, ℕ, false, refl, arith}
+use Rattle.std.proofs.Common.{◌≡◌, ◌+◌, ◌*◌, ◌≤◌, ◌∙◌, ◌^◌, [], ◌∷◌, false, refl, arith}
 use Rattle.std.specs.Prelude.{None}
-use Rattle.std.proofs.Math.Nat.{mul-le-mul}
 use Rattle.fx_frame.proofs.TapBlocks.{IsTapState-block, frame-passed}
 use Rattle.fx_frame.proofs.DryLaws.{dry-hand}
 use Rattle.fx_past.proofs.tapped.TappedFeeds.pass_samples.Goals as goal
-
-pub overflow_add-self : goal.overflow_add-self
-overflow_add-self g c =
-    let s = c.self.inside in
-    let taps = g.T.Tapping.taps in
-    let is = c.self.invariant in
-    let none : s.hand ≡ None = dry-hand s.hand s.tail (rw (← c.self.view_is) at c.requires.dry) in
-    let over : s.ended ≡ false = rw (← c.self.view_is) at c.requires.not_ended in
-    let most : ℕ = taps.most_clips s.arguments in
-    let counted = rw (none, over) at is.counted in
-    let few : s.given ≤ 2 ^ 56 = omega (arith, counted, is.few) in
-    let all : s.given * most ≤ 2 ^ 56 * 16 = mul-le-mul few (g.met.T.Tapping.few_clips s.arguments) in
-    let one = g.met.T.Tapping.few_clips s.arguments in
-    omega (arith, all, one, is.few_clips, c.tap_over-clips.ensures.few)
 
 pub invariant_of-self : goal.invariant_of-self
 invariant_of-self g c =

@@ -21,3 +21,18 @@ returns-clause-through c =
     let inputs : c.args.channels ≡ (kind effect_acts c.in-Some.first.now).inputs = ready.3 in
     let outputs : c.args.outputs ≡ (kind effect_acts c.in-Some-split_first_mut-2.third.now).outputs = rw (is) at c.requires.outputs in
     rw (is, none, inputs, outputs) (went.0, went.2, (went.1, went.3, (_, went.4, refl)))
+
+pub returns-in_default-clause-through : goal.returns-in_default-clause-through
+returns-in_default-clause-through c = grind (arith, common_steps)
+
+pub pass_two-requires-clause-room : goal.pass_two-requires-clause-room
+pass_two-requires-clause-room c = grind (arith, common_steps)
+
+pub pass_three-requires-clause-room : goal.pass_three-requires-clause-room
+pass_three-requires-clause-room c = grind (arith, common_steps)
+
+pub returns-clause-frame : goal.returns-clause-frame
+returns-clause-frame c = grind (arith, common_steps)
+
+pub returns-clause-behind : goal.returns-clause-behind
+returns-clause-behind c = grind (arith, common_steps)
