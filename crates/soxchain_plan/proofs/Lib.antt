@@ -1,4 +1,6 @@
+pub mod Fronts
 pub mod Heading
 pub mod Made
+pub mod Naming
 pub mod ShownLemmas
 pub mod Writing
