@@ -49,7 +49,7 @@ pub record Devices (I R O : Type 0) : Type 0 where
   pub output : O → Option (List ℕ)
 
 -- a front of a text
-pub record IsFront (text front : List ℕ) : Type 0 where
+pub record IsFrontOf (text front : List ℕ) : Type 0 where
   pub count : ℕ
   pub part : count ≤ length text
   pub is : front ≡ take count text
@@ -59,7 +59,7 @@ abbrev pub HasAll : List ℕ → Option (List ℕ) → Option (List ℕ) → Typ
 HasAll text old new = Appends old new text
 
 abbrev pub HasFront : List ℕ → Option (List ℕ) → Option (List ℕ) → Type 0
-HasFront text old new = (front : List ℕ) × IsFront text front × Appends old new front
+HasFront text old new = (front : List ℕ) × IsFrontOf text front × Appends old new front
 
 abbrev pub HasAnything : Option (List ℕ) → Option (List ℕ) → Type 0
 HasAnything old new = ⊤
@@ -111,7 +111,7 @@ module _ {H I R O M : Type 0} (d : Devices I R O) (m : H → H → Machine I O) 
     Quoted : (advice front : List ℕ)
         → style ≡ Json
         → Advises writes old new message advice
-        → IsFront message front
+        → IsFrontOf message front
         → Outputs (HasAll (stop_json code front advice)) host new_host
         → status ≡ code
         → Stops style message code host new_host old new status

@@ -1,7 +1,7 @@
 //! Why there is no plan: the message of soxchain and its status, and what to do.
 ghost use Rattle.std.specs.Prelude.{◌≡◌};
 ghost use Rattle.soxchain.specs.Saying.{Says};
-ghost use Rattle.soxchain_plan.specs.Answering.{Advises, IsFront};
+ghost use Rattle.soxchain_plan.specs.Answering.{Advises, IsFrontOf};
 ghost use Rattle.soxchain_plan.specs.Stops.{message_of, status_of};
 
 use crate::advice::{
@@ -75,7 +75,7 @@ impl Stop<'_> {
 
     /// The message of soxchain, or the front of it for which there was memory.
     pub fn message(&self, alloc: Global) -> Vec<u8>
-        ensures { IsFront (message_of self.now) result.items }
+        ensures { IsFrontOf (message_of self.now) result.items }
     {
         let mut message = Counted::new(Vec::new(alloc));
         let mut keeping = Telling::new(&mut message);
