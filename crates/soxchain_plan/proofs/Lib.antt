@@ -1,4 +1,7 @@
+pub mod Fronts
 pub mod Heading
+pub mod Lateness
 pub mod Made
+pub mod Naming
 pub mod ShownLemmas
 pub mod Writing

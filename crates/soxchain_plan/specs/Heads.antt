@@ -13,6 +13,12 @@ abbrev pub IsHeadOf : Option Kind → List ℕ → Result Head HeadFault → Typ
 IsHeadOf expected bytes (Ok head) = (offset : ℕ) × Begins expected bytes head offset
 IsHeadOf expected bytes (Err fault) = fault ≢ ReadFailed → head_of expected bytes ≡ Err fault
 
+-- standard input was asked for, and this is read of it
+pub record IsHeadFrom {I : Type 0} (is_input : I → Type 0) (remaining : I → Option (List ℕ)) (expected : Option Kind) (head : Result Head HeadFault) : Type 0 where
+  pub reader : I
+  pub is_reader : is_input reader
+  pub is_head : IfKnown (remaining reader) (λ bytes. IsHeadOf expected bytes head)
+
 -- the file of this name was opened, and this is read of it
 pub record IsHeadIn {R : Type 0} (opened : List ℕ → R → Type 0) (remaining : R → Option (List ℕ)) (name : List ℕ) (expected : Option Kind) (head : Result Head HeadFault) : Type 0 where
   pub reader : R

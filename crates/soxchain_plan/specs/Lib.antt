@@ -1,3 +1,4 @@
+pub mod Answering
 pub mod Heads
 pub mod Outlines
 pub mod Quoted

@@ -1,24 +1,37 @@
 -- What soxchain-plan tells of sounds and effects (this project's profile).
-use Rattle.std.specs.Prelude.{◌≡◌, ℕ, ◌+◌, ◌*◌, ◌/◌, ◌^◌, ◌≤◌, List, Option, Some, length, map, sum}
+use Rattle.std.specs.Prelude.{◌≡◌, ℕ, ◌+◌, ◌*◌, ◌/◌, ◌^◌, ◌≤◌, List, Option, None, Some, length, map, sum}
+use Rattle.std.specs.List.{All}
 use Rattle.std.specs.Option.{option_map}
 use Rattle.fx_io.specs.Coding.{width_of}
 use Rattle.fx_heads.specs.declared.head.Head.{Head}
 use Rattle.fx_step.specs.Frame.{Samples}
-use Rattle.fx_effects.specs.Bounds.{hold_of}
-use Rattle.fx_effects.specs.Effects.{Act, OfEchos, channels_after, name_text}
+use Rattle.fx_effects.specs.Bounds.{hold_all, hold_of}
+use Rattle.fx_effects.specs.Effects.{Act, OfEchos, OfFade, OfFir, OfPad, OfTrim, channels_after, name_text}
 use Rattle.fx_effects.specs.Meanings.{InPlace, Placed, line_of}
+use Rattle.fx_fir.specs.Fir.{centre}
 use Rattle.fx_flow.specs.Composed.{Whole}
 use Rattle.fx_stages.specs.Made.{placed}
 use Rattle.fx_plan.specs.Planning.{Planning}
+use Rattle.fx_chain.specs.Chain.{chain_gives, chain_wholes}
 use Rattle.soxchain_plan.specs.declared.outline.EffectOutline.{EffectOutline}
+use Rattle.soxchain_plan.specs.declared.outline.Outline.{Outline}
 
--- the name and the hold that are told
-abbrev pub told : EffectOutline → List ℕ × ℕ
-told effect = (effect.name.now, effect.hold)
+-- by how many frames of its input an effect gives later than it takes (soxchain-plan(1), DESCRIPTION): those with positions from the
+-- end wait until so many frames more have come, and `fir` for the later half of its sum; every other gives what it has at once
+abbrev pub late_by : Act → ℕ
+late_by (OfTrim positions) = line_of (OfTrim positions)
+late_by (OfPad pads) = line_of (OfPad pads)
+late_by (OfFade fade) = line_of (OfFade fade)
+late_by (OfFir coefficients) = centre (length coefficients)
+late_by other = 0
 
--- the name and the hold of an effect
-abbrev pub known : Act → List ℕ × ℕ
-known act = (name_text act, hold_of act)
+-- the name, the hold and the lateness that are told
+abbrev pub told : EffectOutline → List ℕ × ℕ × ℕ
+told effect = (effect.name.now, effect.hold, effect.late)
+
+-- the name, the hold and the lateness of an effect
+abbrev pub known : Act → List ℕ × ℕ × ℕ
+known act = (name_text act, hold_of act, late_by act)
 
 -- the whole frames that a head announces
 abbrev pub announced_frames : Head → Option ℕ
@@ -56,3 +69,25 @@ whole_frames whole = Some whole.given
 -- the bytes that are told
 abbrev pub told_bytes : EffectOutline → ℕ
 told_bytes outline = outline.bytes
+
+-- What a plan says. Of a sound of up to 2^40 frames, just those that its head announces, the frames behind each effect are as many
+-- as its definition gives; where the head announces none they are not known.
+pub record IsOutline (plan : Planning) (outline : Outline) : Type 0 where
+  pub input_kind : outline.input.kind ≡ plan.head.kind
+  pub input_rate : outline.input.rate ≡ plan.head.rate
+  pub input_channels : outline.input.channels ≡ plan.head.channels
+  pub input_bits : outline.input.bits ≡ 8 * width_of plan.head.coding
+  pub input_frames : outline.input.frames ≡ announced_frames plan.head
+  pub effects : map told outline.effects.items ≡ map known plan.acts
+  pub effect_bytes : map told_bytes outline.effects.items ≡ bytes_along plan.head.channels plan.acts
+  pub effect_frames : (sound : List Samples) → IsAnnounced plan.head sound
+      → map told_frames outline.effects.items ≡ map whole_frames (chain_wholes plan sound)
+  pub effect_unknown : announced_frames plan.head ≡ None → All (λ effect. effect.frames ≡ None) outline.effects.items
+  pub hold : outline.hold ≡ hold_all plan.acts
+  pub bytes : outline.bytes ≡ chain_bytes plan
+  pub kind : outline.output.kind ≡ plan.kind
+  pub rate : outline.output.rate ≡ plan.layout.rate
+  pub channels : outline.output.channels ≡ plan.layout.channels
+  pub bits : outline.output.bits ≡ 8 * width_of plan.coding
+  pub frames : (sound : List Samples) → IsAnnounced plan.head sound → outline.output.frames ≡ Some (length (chain_gives plan sound))
+  pub unknown : announced_frames plan.head ≡ None → outline.output.frames ≡ None

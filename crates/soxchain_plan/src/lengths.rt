@@ -5,10 +5,10 @@ ghost use Rattle.fx_cut.specs.Fade.{stop_in, until};
 ghost use Rattle.fx_cut.specs.Pad.{is_inside};
 ghost use Rattle.fx_cut.specs.TrimState.{kept_count};
 ghost use Rattle.fx_effects.specs.Effects.{Usable, act};
-ghost use Rattle.fx_effects.specs.Meanings.{InPlace, line_of, meaning_at, recipe_at};
+ghost use Rattle.fx_effects.specs.Meanings.{InPlace, kind_at, line_of, meaning_at, recipe_at};
 ghost use Rattle.fx_fixed.specs.Extents.{meant, pad_length};
 ghost use Rattle.fx_fixed.specs.Positions.{place_of};
-ghost use Rattle.soxchain_plan.specs.Outlines.{held_bytes};
+ghost use Rattle.soxchain_plan.specs.Outlines.{held_bytes, late_by};
 
 use fx_cut::fade::words::Fading;
 use fx_effects::Effect;
@@ -98,7 +98,10 @@ pub fn frames_behind(effect: &Effect, line: u64, frames: u64) -> u64
 }
 
 /// By how many frames of its input an effect gives later than it takes; `line` are the places of its line.
-pub fn lateness(effect: &Effect, line: u64) -> u64 {
+pub fn lateness(effect: &Effect, line: u64) -> u64
+    ensures late { line ≡ line_of (act effect.now) → result ≡ late_by (act effect.now) }
+    ensures none_due { line ≡ line_of (act effect.now) → (channels : ℕ) → (kind_at (recipe_at (InPlace channels (act effect.now)))).due result ≡ 0 }
+{
     match effect {
         Effect::Trim(_) | Effect::Pad(_) | Effect::Fade(_) => line,
         Effect::Fir(_) => line / 2,

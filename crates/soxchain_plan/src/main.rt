@@ -4,109 +4,136 @@
 //! and the status of soxchain, and then a line that says what to do.
 #![tactic(auto)]
 
+ghost use Rattle.fx_line.specs.Line.{texts};
+ghost use Rattle.fx_plan.specs.Plans.{bytes_of};
+ghost use Rattle.soxchain_words.specs.About.{answer_of};
+ghost use Rattle.soxchain_plan.specs.Answering.{Answers, Lines, Plans, Words, Works};
+
 mod advice;
 mod help;
+mod host;
 mod lengths;
 mod outline;
 mod quoting;
 mod reading;
+mod showing;
 mod stop;
 mod style;
 
-use fx_frame::Counted;
+use fx_frame::{ByteOut, Counted};
 use fx_plan::{CommandLine, LineFault, parse_line, plan};
 use fx_sound::Head;
 use help::HELP;
-use outline::{Outline, outline_of};
+use host::Host;
+use outline::outline_of;
 use reading::head_of;
-use soxchain::inner::{Refusal, Telling, show};
-use soxchain_words::{FilesFault, VERSION, answer_to, fault_of, read_files, words_of};
+use showing::{show_outline, show_text, stopped};
+use soxchain::inner::Refusal;
+use soxchain_words::{FilesFault, VERSION, answer_to, fault_of, read_files};
 use std::process::ExitCode;
 use stop::Stop;
 use style::Style;
 
-/// The status where something was shown whole on standard output, or was not.
-fn shown(rt: &HostRuntime, is_whole: bool) -> u8 {
-    if is_whole {
-        0
-    } else {
-        Stop::CannotOpen("-").tell(&mut Counted::new(rt.stderr()))
-    }
-}
-
-/// Tells why there is no plan and what to do, and answers the status. As JSON it stands on standard output too.
-fn stopped(rt: &HostRuntime, style: Style, stop: &Stop<'_>) -> u8 {
-    let status = stop.tell(&mut Counted::new(rt.stderr()));
-    if style == Style::Text {
-        return status;
-    }
-    let mut message = Counted::new(Vec::new(rt.alloc()));
-    let mut telling = Telling::new(&mut message);
-    stop.tell_message(&mut telling);
-    match quoting::show_stop(
-        &mut rt.stdout(),
-        status,
-        &message.into_inner(),
-        stop.advice(),
-    ) {
-        Ok(()) => status,
-        Err(_) => shown(rt, false),
-    }
-}
-
-/// What the plan of a line says, behind the head of its input.
-fn plan_line(
-    rt: &HostRuntime,
+/// Shows what the plan of a line says, behind the head of its input, and answers the status.
+fn plan_line<H: Host, M: ByteOut>(
+    host: &mut H,
     style: Style,
     line: &CommandLine,
     head: &Head,
     files: &[Vec<u8>],
-) -> u8 {
-    let plan = match plan(rt.alloc(), line, head, files) {
+    messages: &mut M,
+) -> u8
+    ensures { Plans (record { input = H.Input.remaining; file = H.Reader.remaining; output = H.Output.contents })
+        H.machine M.writes style line.now (bytes_of files.now) head.now host.old host.new messages.old messages.new result }
+{
+    let plan = match plan(host.memory(), line, head, files) {
         Ok(plan) => plan,
-        Err(fault) => return stopped(rt, style, &Stop::Refused(line, Refusal::Plan(fault))),
+        Err(fault) => {
+            let stop = Stop::Refused(line, Refusal::Plan(fault));
+            return stopped(host, style, &stop, messages);
+        }
     };
-    let outline: Outline = match outline_of(rt.alloc(), &plan) {
-        Ok(outline) => outline,
-        Err(_) => return stopped(rt, style, &Stop::Refused(line, Refusal::Chain)),
-    };
-    shown(rt, outline.show(&mut rt.stdout(), style).is_ok())
+    match outline_of(host.memory(), &plan) {
+        Ok(outline) => show_outline(host, style, &outline, messages),
+        Err(_) => stopped(host, style, &Stop::Refused(line, Refusal::Chain), messages),
+    }
 }
 
 /// Does what a command line asks for, and answers the status.
-fn answer_line(rt: &mut HostRuntime, style: Style, line: &CommandLine) -> u8 {
-    let files = match read_files(rt.alloc(), rt, line) {
+fn answer_line<H: Host, M: ByteOut>(
+    host: &mut H,
+    style: Style,
+    line: &CommandLine,
+    messages: &mut M,
+) -> u8
+    ensures { Works (record { input = H.Input.remaining; file = H.Reader.remaining; output = H.Output.contents })
+        H.machine M.writes (record { opened = H.opened; unopened = H.unopened })
+        style line.now host.old host.new messages.old messages.new result }
+{
+    let files = match read_files(host.memory(), host, line) {
         Ok(files) => files,
         Err(FilesFault::CannotRead(name)) => {
-            return stopped(rt, style, &Stop::CannotOpen(name));
+            return stopped(host, style, &Stop::CannotOpen(name), messages);
         }
-        Err(FilesFault::Memory) => return stopped(rt, style, &Stop::Line(LineFault::Memory)),
+        Err(FilesFault::Memory) => {
+            return stopped(host, style, &Stop::Line(LineFault::Memory), messages);
+        }
     };
-    let standard = rt.stdin();
-    match head_of(rt, standard, line) {
-        Ok(Ok(head)) => plan_line(rt, style, line, &head, &files),
-        Ok(Err(fault)) => stopped(rt, style, &Stop::Refused(line, Refusal::Head(fault))),
-        Err(name) => stopped(rt, style, &Stop::CannotOpen(name)),
+    answer_files(host, style, line, &files, messages)
+}
+
+/// Does what a command line asks for, with the bytes of its coefficient files, and answers the status.
+fn answer_files<H: Host, M: ByteOut>(
+    host: &mut H,
+    style: Style,
+    line: &CommandLine,
+    files: &[Vec<u8>],
+    messages: &mut M,
+) -> u8
+    ensures { Lines (record { input = H.Input.remaining; file = H.Reader.remaining; output = H.Output.contents })
+        H.machine M.writes (record { opened = H.opened; unopened = H.unopened })
+        style line.now (bytes_of files.now) host.old host.new messages.old messages.new result }
+{
+    match head_of(host, line) {
+        Ok(Ok(head)) => plan_line(host, style, line, &head, files, messages),
+        Ok(Err(fault)) => {
+            let stop = Stop::Refused(line, Refusal::Head(fault));
+            stopped(host, style, &stop, messages)
+        }
+        Err(name) => stopped(host, style, &Stop::CannotOpen(name), messages),
     }
 }
 
 /// Does what the words ask for, and answers the status.
-fn answer_words(rt: &mut HostRuntime, words: &[String]) -> u8 {
+fn answer_words<H: Host, M: ByteOut>(host: &mut H, words: &[String], messages: &mut M) -> u8
+    ensures { Words (record { input = H.Input.remaining; file = H.Reader.remaining; output = H.Output.contents })
+        H.machine M.writes (record { opened = H.opened; unopened = H.unopened })
+        (answer_of HELP.now VERSION.now) (texts words.now) host.old host.new messages.old messages.new result }
+{
     if let Some(text) = answer_to(words, HELP, VERSION) {
-        return shown(rt, show(&mut Counted::new(rt.stdout()), text));
+        return show_text(host, text, messages);
     }
     let (style, words) = style::split(words);
-    match parse_line(rt.alloc(), words) {
-        Ok(line) => answer_line(rt, style, &line),
-        Err(fault) => stopped(rt, style, &Stop::Line(fault)),
+    match parse_line(host.memory(), words) {
+        Ok(line) => answer_line(host, style, &line, messages),
+        Err(fault) => stopped(host, style, &Stop::Line(fault), messages),
+    }
+}
+
+/// Does what the program is asked for, and answers the status.
+fn answer<H: Host, M: ByteOut>(host: &mut H, messages: &mut M) -> u8
+    ensures { Answers (record { input = H.Input.remaining; file = H.Reader.remaining; output = H.Output.contents })
+        H.machine M.writes (record { opened = H.opened; unopened = H.unopened })
+        (answer_of HELP.now VERSION.now) host.old host.new messages.old messages.new result }
+{
+    match host.words() {
+        Ok(words) => answer_words(host, &words, messages),
+        Err(error) => stopped(host, Style::Text, &Stop::Line(fault_of(&error)), messages),
     }
 }
 
 fn main(rt: HostRuntime) -> ExitCode {
     let mut host = rt;
-    let status = match words_of(&host) {
-        Ok(words) => answer_words(&mut host, &words),
-        Err(error) => stopped(&host, Style::Text, &Stop::Line(fault_of(&error))),
-    };
-    ExitCode::from(status)
+    let mut messages = Counted::new(host.stderr());
+    ExitCode::from(answer(&mut host, &mut messages))
 }

@@ -10,8 +10,7 @@ ghost use Rattle.fx_flow.specs.Composed.{composed, composed_wholes};
 ghost use Rattle.fx_step.specs.Frame.{Samples};
 ghost use Rattle.fx_stages.specs.Made.{recipes_for};
 ghost use Rattle.fx_plan.specs.Planning.{planning};
-ghost use Rattle.fx_chain.specs.Chain.{chain_gives, chain_wholes};
-ghost use Rattle.soxchain_plan.specs.Outlines.{IsAnnounced, announced_frames, bytes_along, chain_bytes, held_bytes, known, told, told_bytes, told_frames, whole_frames};
+ghost use Rattle.soxchain_plan.specs.Outlines.{IsOutline, announced_frames, bytes_along, held_bytes, known, told, told_bytes, told_frames, whole_frames};
 ghost use Rattle.soxchain_plan.specs.Shown.{effect_json, effect_line, effect_lines, effects_json, frames_json, frames_text, outline_json, outline_text, shown, sound_json, sound_line};
 
 use crate::lengths::{bytes_held, frames_behind, lateness};
@@ -155,31 +154,9 @@ fn bytes_of(outlines: &[EffectOutline], channels: usize) -> u64
     bytes
 }
 
-/// What a plan says. Of a sound of up to `2^40` frames, just those that its head announces, the frames behind each effect are as
-/// many as its definition gives; where the head announces none they are not known.
+/// What a plan says.
 pub fn outline_of(alloc: Global, plan: &Plan) -> Result<Outline, AllocError>
-    ensures input_kind { IfOk result (λ outline. outline.input.kind ≡ (planning plan.now).head.kind) }
-    ensures input_rate { IfOk result (λ outline. outline.input.rate ≡ (planning plan.now).head.rate) }
-    ensures input_channels { IfOk result (λ outline. outline.input.channels ≡ (planning plan.now).head.channels) }
-    ensures input_bits { IfOk result (λ outline. outline.input.bits ≡ 8 * width_of (planning plan.now).head.coding) }
-    ensures input_frames { IfOk result (λ outline. outline.input.frames ≡ announced_frames (planning plan.now).head) }
-
-    ensures effects { IfOk result (λ outline. map told outline.effects.items ≡ map known (planning plan.now).acts) }
-    ensures effect_bytes { IfOk result (λ outline. map told_bytes outline.effects.items ≡ bytes_along (planning plan.now).head.channels (planning plan.now).acts) }
-    ensures effect_frames { IfOk result (λ outline. (sound : List Samples) → IsAnnounced (planning plan.now).head sound
-        → map told_frames outline.effects.items ≡ map whole_frames (chain_wholes (planning plan.now) sound)) }
-    ensures effect_unknown { IfOk result (λ outline. announced_frames (planning plan.now).head ≡ None → All (λ effect. effect.frames ≡ None) outline.effects.items) }
-
-    ensures hold { IfOk result (λ outline. outline.hold ≡ hold_all (planning plan.now).acts) }
-    ensures bytes { IfOk result (λ outline. outline.bytes ≡ chain_bytes (planning plan.now)) }
-
-    ensures kind { IfOk result (λ outline. outline.output.kind ≡ (planning plan.now).kind) }
-    ensures rate { IfOk result (λ outline. outline.output.rate ≡ (planning plan.now).layout.rate) }
-    ensures channels { IfOk result (λ outline. outline.output.channels ≡ (planning plan.now).layout.channels) }
-    ensures bits { IfOk result (λ outline. outline.output.bits ≡ 8 * width_of (planning plan.now).coding) }
-    ensures frames { IfOk result (λ outline. (sound : List Samples) → IsAnnounced (planning plan.now).head sound
-        → outline.output.frames ≡ Some (length (chain_gives (planning plan.now) sound))) }
-    ensures unknown { IfOk result (λ outline. announced_frames (planning plan.now).head ≡ None → outline.output.frames ≡ None) }
+    ensures { IfOk result (IsOutline (planning plan.now)) }
 {
     let head = plan.head();
     let input = input_of(&head);

@@ -2,12 +2,12 @@
 ghost use Rattle.std.specs.Prelude.{◌≡◌, IfErr, IfOk, List, None, Some, ℕ};
 ghost use Rattle.fx_heads.specs.Known.{IfKnown};
 ghost use Rattle.fx_plan.specs.CommandLines.{file_name};
-ghost use Rattle.soxchain_plan.specs.Heads.{IsHeadIn, IsHeadOf};
+ghost use Rattle.soxchain_plan.specs.Heads.{IsHeadFrom, IsHeadIn, IsHeadOf};
 
+use crate::host::Host;
 use fx_frame::Counted;
 use fx_plan::{CommandLine, Stream};
 use fx_sound::{Head, HeadFault, Source, read_head};
-use soxchain_words::Openings;
 use std::io::Read;
 
 /// The head of what a reader tells, or what is wrong with it.
@@ -17,20 +17,17 @@ fn head_from<R: Read + Drop>(reader: R, line: &CommandLine) -> Result<Head, Head
     read_head(&mut Source::new(Counted::new(reader)), line.input_kind())
 }
 
-/// The head of IN, or what is wrong with it; or the name of a file that cannot be opened. `standard` is what is read where IN
-/// is `-`.
-pub fn head_of<'a, H: Openings, S: Read + Drop>(
+/// The head of IN, or what is wrong with it; or the name of a file that cannot be opened. Standard input is read where IN is `-`.
+pub fn head_of<'a, H: Host>(
     host: &mut H,
-    standard: S,
     line: &'a CommandLine,
 ) -> Result<Result<Head, HeadFault>, &'a str>
-    ensures standard { file_name line.now.input ≡ None → IfOk result (λ head. IfKnown (S.remaining standard) (λ bytes. IsHeadOf line.now.input_kind bytes head)) }
-    ensures kept { file_name line.now.input ≡ None → host.new ≡ host.old }
+    ensures standard { file_name line.now.input ≡ None → IfOk result (IsHeadFrom (H.machine host.old host.new).is_input H.Input.remaining line.now.input_kind) }
     ensures file { (name : List ℕ) → file_name line.now.input ≡ Some name → IfOk result (IsHeadIn (H.opened host.old host.new) H.Reader.remaining name line.now.input_kind) }
     ensures unopened { IfErr result (λ name. (file_name line.now.input ≡ Some name.now) × H.unopened host.old host.new name.now) }
 {
     match line.input() {
-        Stream::Standard => Ok(head_from(standard, line)),
+        Stream::Standard => Ok(head_from(host.input(), line)),
         Stream::Named(name) => match host.open(name) {
             Ok(file) => Ok(head_from(file, line)),
             Err(_) => Err(name),

@@ -1,18 +1,18 @@
 //! Why there is no plan: the message of soxchain and its status, and what to do.
-ghost use Rattle.std.specs.Prelude.{◌≡◌, ◌++◌, ℕ, List, codes};
-ghost use Rattle.soxchain.specs.Messages.{line_feed};
+ghost use Rattle.std.specs.Prelude.{◌≡◌};
 ghost use Rattle.soxchain.specs.Saying.{Says};
-ghost use Rattle.soxchain.specs.Telling.{Tells};
+ghost use Rattle.soxchain_plan.specs.Answering.{Advises, IsFrontOf};
 ghost use Rattle.soxchain_plan.specs.Stops.{message_of, status_of};
 
 use crate::advice::{
     OPENING, REACHING, advice_on_head, advice_on_line, advice_on_memory, advice_on_plan,
 };
-use fx_frame::ByteOut;
+use fx_frame::{ByteOut, Counted};
 use fx_plan::{CommandLine, LineFault};
 use soxchain::inner::{
     Refusal, Telling, label_of_line, status_of_fault, tell_cannot_open, tell_line, tell_refusal,
 };
+use std::alloc::Global;
 
 /// Why there is no plan.
 #[derive(Clone, Copy, Drop)]
@@ -73,14 +73,24 @@ impl Stop<'_> {
         }
     }
 
+    /// The message of soxchain, or the front of it for which there was memory.
+    pub fn message(&self, alloc: Global) -> Vec<u8>
+        ensures { IsFrontOf (message_of self.now) result.items }
+    {
+        let mut message = Counted::new(Vec::new(alloc));
+        let mut keeping = Telling::new(&mut message);
+        self.tell_message(&mut keeping);
+        message.into_inner()
+    }
+
     /// Tells the message of soxchain and what to do, a line each, and answers the status.
-    pub fn tell<M: ByteOut>(&self, messages: &mut M) -> u8
+    pub fn tell<M: ByteOut>(&self, messages: &mut M, advice: &str) -> u8
         ensures status { result ≡ status_of self.now }
-        ensures told { (advice : List ℕ) × Tells M.writes messages.old messages.new (message_of self.now ++ (codes "soxchain-plan: " ++ advice ++ line_feed)) }
+        ensures told { Advises M.writes messages.old messages.new (message_of self.now) advice.now }
     {
         let mut telling = Telling::new(messages);
         self.tell_message(&mut telling);
-        telling.note("soxchain-plan: ", self.advice());
+        telling.note("soxchain-plan: ", advice);
         self.status()
     }
 }

@@ -1,0 +1,216 @@
+-- What the program does, on any machine (this project's profile).
+use Rattle.std.specs.Prelude.{◌≡◌, ◌≢◌, ◌≤◌, ℕ, List, [], ◌++◌, length, take, Option, Some, None, Ok, Err, codes, ⊤}
+use Rattle.std.specs.Io.KnownBytes.{Appends}
+use Rattle.std.specs.declared.io.ErrorKind.{ErrorKind}
+use Rattle.std.specs.declared.io.ErrorKind.TheVariants as ErrorKinds
+use Rattle.fx_io.specs.Io.{ByteWriter}
+use Rattle.fx_line.specs.declared.line.LineFault.{LineFault}
+use Rattle.fx_line.specs.declared.line.LineFault.TheVariants as LineFaults
+use Rattle.fx_line.specs.Line.{Said, line_of}
+use Rattle.fx_heads.specs.Known.{IfKnown}
+use Rattle.fx_heads.specs.declared.head.Head.{Head}
+use Rattle.fx_heads.specs.declared.head.HeadFault.{HeadFault}
+use Rattle.fx_plan.specs.CommandLines.{LineReads, coefficient_files, effects_in, file_name, planning_in}
+use Rattle.fx_plan.specs.Plans.{RefusesPlan, all_faults, head_layout}
+use Rattle.fx_plan.specs.declared.fault.PlanFault.{PlanFault}
+use Rattle.soxchain.specs.declared.preparing.Refusal.TheVariants as Refusals
+use Rattle.soxchain.specs.FileMessages.{open_message}
+use Rattle.soxchain.specs.Messages.{line_feed, line_label, line_message, refusal_message}
+use Rattle.soxchain.specs.Program.{status_of_line, status_of_refusal}
+use Rattle.soxchain.specs.Telling.{Tells}
+use Rattle.soxchain_words.specs.Files.{AreFronts, IsUnread}
+use Rattle.soxchain_plan.specs.declared.outline.Outline.{Outline}
+use Rattle.soxchain_plan.specs.declared.style.Style.{Style}
+use Rattle.soxchain_plan.specs.declared.style.Style.TheVariants.{Text, Json}
+use Rattle.soxchain_plan.specs.Heads.{IsHeadOf}
+use Rattle.soxchain_plan.specs.Outlines.{IsOutline}
+use Rattle.soxchain_plan.specs.Quoted.{stop_json}
+use Rattle.soxchain_plan.specs.Shown.{shown}
+use Rattle.soxchain_plan.specs.Styles.{styled}
+
+-- A machine, by what it answered to one call: the words behind the program's name, or why they could not be had; a standard stream;
+-- or by what the call left to it: standard output, to which nothing more is written.
+pub record Machine (I O : Type 0) : Type 1 where
+  pub asked : List (List ℕ) → Type 0
+  pub mute : ErrorKind → Type 0
+  pub is_input : I → Type 0
+  pub is_output : O → Type 0
+  pub left : O → Type 0
+
+-- The file that was opened to read by one call, by its name, or the name whose opening was refused.
+pub record Opened (H R : Type 0) : Type 1 where
+  pub opened : H → H → List ℕ → R → Type 0
+  pub unopened : H → H → List ℕ → Type 0
+
+-- how streams and files are known: the bytes to come of standard input and of a file that is read, and the bytes of standard output
+pub record Devices (I R O : Type 0) : Type 0 where
+  pub input : I → Option (List ℕ)
+  pub file : R → Option (List ℕ)
+  pub output : O → Option (List ℕ)
+
+-- a front of a text
+pub record IsFrontOf (text front : List ℕ) : Type 0 where
+  pub count : ℕ
+  pub part : count ≤ length text
+  pub is : front ≡ take count text
+
+-- what a writer has: a text behind what it had; a front of it; or anything
+abbrev pub HasAll : List ℕ → Option (List ℕ) → Option (List ℕ) → Type 0
+HasAll text old new = Appends old new text
+
+abbrev pub HasFront : List ℕ → Option (List ℕ) → Option (List ℕ) → Type 0
+HasFront text old new = (front : List ℕ) × IsFrontOf text front × Appends old new front
+
+abbrev pub HasAnything : Option (List ℕ) → Option (List ℕ) → Type 0
+HasAnything old new = ⊤
+
+-- the message of soxchain was told, and a line that says what to do
+abbrev pub Advises : {M : Type 0} → ByteWriter M → M → M → List ℕ → List ℕ → Type 0
+Advises writes old new message advice = Tells writes old new (message ++ (codes "soxchain-plan: " ++ advice ++ line_feed))
+
+-- it was told that standard output failed, with the status of a file
+pub record TellsFailed {M : Type 0} (writes : ByteWriter M) (old new : M) (status : ℕ) : Type 0 where
+  pub advice : List ℕ
+  pub told : Advises writes old new (open_message (codes "-")) advice
+  pub of_file : status ≡ 2
+
+-- The program asks a machine one thing after another; `m` and `o` say what it was asked for and answered between one of its states
+-- and the next. So the states name all that was asked, in its order: where the last one is that of a call, nothing came behind it.
+-- `old` and `new` are standard error before and behind: where they are one, nothing was told.
+module _ {H I R O M : Type 0} (d : Devices I R O) (m : H → H → Machine I O) (writes : ByteWriter M) where
+  -- standard output has this, and was left
+  pub record Outputs (Has : Option (List ℕ) → Option (List ℕ) → Type 0) (host new_host : H) : Type 0 where
+    pub next : H
+    pub output : O
+    pub ended : O
+    pub is_output : (m host next).is_output output
+    pub has : Has (d.output output) (d.output ended)
+    pub left : (m next new_host).left ended
+
+  -- A text was shown on standard output, and nothing was told; or this failed, and standard output has what is said of that.
+  pub data IsShown (text : List ℕ) (HasThen : Option (List ℕ) → Option (List ℕ) → Type 0) (host new_host : H) (old new : M) (status : ℕ) : Type 0 where
+    Whole :
+        Outputs (HasAll text) host new_host
+        → new ≡ old
+        → status ≡ 0
+        → IsShown text HasThen host new_host old new status
+    Cut :
+        Outputs HasThen host new_host
+        → TellsFailed writes old new status
+        → IsShown text HasThen host new_host old new status
+
+  -- Why there is no plan was told, with this status. As JSON standard output then has it too, with the message or the front of it
+  -- for which there was memory; or this failed, of which nothing is said but that it was told.
+  pub data Stops (style : Style) (message : List ℕ) (code : ℕ) (host new_host : H) (old new : M) (status : ℕ) : Type 0 where
+    Told : (advice : List ℕ)
+        → style ≡ Text
+        → new_host ≡ host
+        → Advises writes old new message advice
+        → status ≡ code
+        → Stops style message code host new_host old new status
+    Quoted : (advice front : List ℕ)
+        → style ≡ Json
+        → Advises writes old new message advice
+        → IsFrontOf message front
+        → Outputs (HasAll (stop_json code front advice)) host new_host
+        → status ≡ code
+        → Stops style message code host new_host old new status
+    Unquoted : (advice : List ℕ) (between : M)
+        → style ≡ Json
+        → Advises writes old between message advice
+        → Outputs HasAnything host new_host
+        → TellsFailed writes between new status
+        → Stops style message code host new_host old new status
+
+  -- What becomes of a line behind the head of its input: its plan has a first fault, or finds no memory; or what the plan says finds
+  -- none; or it is shown.
+  pub data Plans (style : Style) (line : Said) (files : List (List ℕ)) (head : Head) (host new_host : H) (old new : M) (status : ℕ) : Type 0 where
+    Unplanned : (fault : PlanFault)
+        → RefusesPlan fault (all_faults (head_layout head) files (effects_in line))
+        → Stops style (refusal_message line (Refusals.Plan fault)) (status_of_refusal (Refusals.Plan fault)) host new_host old new status
+        → Plans style line files head host new_host old new status
+    Unsaid :
+        all_faults (head_layout head) files (effects_in line) ≡ []
+        → Stops style (refusal_message line Refusals.Chain) (status_of_refusal Refusals.Chain) host new_host old new status
+        → Plans style line files head host new_host old new status
+    Planned : (outline : Outline)
+        → all_faults (head_layout head) files (effects_in line) ≡ []
+        → IsOutline (planning_in head line files) outline
+        → IsShown (shown style outline) HasAnything host new_host old new status
+        → Plans style line files head host new_host old new status
+
+  -- What becomes of a line whose input has these bytes to come, where they are known: they begin with no head; or with this one.
+  pub data Heads (style : Style) (line : Said) (files : List (List ℕ)) (known : Option (List ℕ)) (host new_host : H) (old new : M) (status : ℕ) : Type 0 where
+    Refused : (fault : HeadFault)
+        → IfKnown known (λ bytes. IsHeadOf line.input_kind bytes (Err fault))
+        → Stops style (refusal_message line (Refusals.Head fault)) (status_of_refusal (Refusals.Head fault)) host new_host old new status
+        → Heads style line files known host new_host old new status
+    Read : (head : Head)
+        → IfKnown known (λ bytes. IsHeadOf line.input_kind bytes (Ok head))
+        → Plans style line files head host new_host old new status
+        → Heads style line files known host new_host old new status
+
+  -- What becomes of a line whose coefficient files are there: IN could not be opened; or its head was read, from standard input or
+  -- from the file of IN's own name.
+  pub data Lines (o : Opened H R) (style : Style) (line : Said) (files : List (List ℕ)) (host new_host : H) (old new : M) (status : ℕ) : Type 0 where
+    Unopened : (next : H) (name : List ℕ)
+        → file_name line.input ≡ Some name
+        → o.unopened host next name
+        → Stops style (open_message name) 2 next new_host old new status
+        → Lines o style line files host new_host old new status
+    Standard : (next : H) (input : I)
+        → file_name line.input ≡ None
+        → (m host next).is_input input
+        → Heads style line files (d.input input) next new_host old new status
+        → Lines o style line files host new_host old new status
+    Named : (next : H) (name : List ℕ) (reader : R)
+        → file_name line.input ≡ Some name
+        → o.opened host next name reader
+        → Heads style line files (d.file reader) next new_host old new status
+        → Lines o style line files host new_host old new status
+
+  -- What becomes of a line: a coefficient file that it names could not be read; or there was no memory for their names; or they
+  -- are there, each its own.
+  pub data Works (o : Opened H R) (style : Style) (line : Said) (host new_host : H) (old new : M) (status : ℕ) : Type 0 where
+    Unread : (next : H) (name : List ℕ)
+        → IsUnread o.opened o.unopened d.file host next (coefficient_files (effects_in line)) name
+        → Stops style (open_message name) 2 next new_host old new status
+        → Works o style line host new_host old new status
+    Forgotten :
+        Stops style (line_message (line_label LineFaults.Memory)) (status_of_line LineFaults.Memory) host new_host old new status
+        → Works o style line host new_host old new status
+    Known : (next : H) (files : List (List ℕ))
+        → AreFronts o.opened d.file host next (coefficient_files (effects_in line)) files
+        → Lines o style line files next new_host old new status
+        → Works o style line host new_host old new status
+
+  -- What becomes of the words: they ask for a text; or they are refused, behind the style that the first may ask for; or they are
+  -- a line.
+  pub data Words (o : Opened H R) (answer : List (List ℕ) → Option (List ℕ)) (words : List (List ℕ)) (host new_host : H) (old new : M) (status : ℕ) : Type 0 where
+    Shown : (text : List ℕ)
+        → answer words ≡ Some text
+        → IsShown text (HasFront text) host new_host old new status
+        → Words o answer words host new_host old new status
+    BadWords : (fault : LineFault)
+        → answer words ≡ None
+        → LineReads (line_of (styled words).1) (Err fault)
+        → Stops (styled words).0 (line_message (line_label fault)) (status_of_line fault) host new_host old new status
+        → Words o answer words host new_host old new status
+    Worked : (line : Said)
+        → answer words ≡ None
+        → line_of (styled words).1 ≡ Ok line
+        → Works o (styled words).0 line host new_host old new status
+        → Words o answer words host new_host old new status
+
+  -- What the program does: the words could not be had; or it answers them.
+  pub data Answers (o : Opened H R) (answer : List (List ℕ) → Option (List ℕ)) (host new_host : H) (old new : M) (status : ℕ) : Type 0 where
+    Mute : (next : H) (kind : ErrorKind) (fault : LineFault)
+        → (m host next).mute kind
+        → (kind ≡ ErrorKinds.OutOfMemory → fault ≡ LineFaults.Memory)
+        → (kind ≢ ErrorKinds.OutOfMemory → fault ≡ LineFaults.BadOption)
+        → Stops Text (line_message (line_label fault)) (status_of_line fault) next new_host old new status
+        → Answers o answer host new_host old new status
+    Asked : (next : H) (words : List (List ℕ))
+        → (m host next).asked words
+        → Words o answer words next new_host old new status
+        → Answers o answer host new_host old new status

@@ -1,0 +1,70 @@
+//! The machine that the program works on: its words, its standard streams and the files that it reads.
+ghost use Rattle.std.specs.Prelude.{IfErr, IfOk, ⊤};
+ghost use Rattle.std.specs.IoError.{error_kind};
+ghost use Rattle.fx_line.specs.Line.{texts};
+ghost use Rattle.soxchain_plan.specs.Answering.{Machine};
+
+use soxchain_words::{Openings, words_of};
+use std::alloc::Global;
+use std::io;
+use std::io::{Read, Stdin, Stdout, Write};
+
+/// What the program asks of the machine. What it does with the answers is proved over any such machine. It is another one after
+/// each call, as one that opens files is: so what is proved says all that the program asks, and in which order.
+pub trait Host: Openings {
+    /// Standard input.
+    type Input: Read + Drop;
+
+    /// Standard output.
+    type Output: Write + Drop;
+
+    // What it answered to the call between the one and the other.
+    ghost machine: { Self → Self → Machine Self.Input Self.Output };
+
+    /// Where memory comes from.
+    fn memory(&self) -> Global;
+
+    /// The words behind the program's name.
+    fn words(&mut self) -> io::Result<Vec<String>>
+        ensures words { IfOk result (λ words. (machine self.old self.new).asked (texts words.items)) }
+        ensures refused { IfErr result (λ error. (machine self.old self.new).mute (error_kind error)) };
+
+    /// Standard input.
+    fn input(&mut self) -> Self::Input
+        ensures { (machine self.old self.new).is_input result };
+
+    /// Standard output.
+    fn output(&mut self) -> Self::Output
+        ensures { (machine self.old self.new).is_output result };
+
+    /// Leaves standard output as it is: nothing more is written to it.
+    fn leave(&mut self, output: Self::Output)
+        ensures { (machine self.old self.new).left output };
+}
+
+impl Host for HostRuntime {
+    type Input = Stdin;
+
+    type Output = Stdout;
+
+    // Of the machine itself nothing is known.
+    ghost machine = { λ _ _. record { asked = λ _. ⊤; mute = λ _. ⊤; is_input = λ _. ⊤; is_output = λ _. ⊤; left = λ _. ⊤ } };
+
+    fn memory(&self) -> Global {
+        self.alloc()
+    }
+
+    fn words(&mut self) -> io::Result<Vec<String>> {
+        words_of(self)
+    }
+
+    fn input(&mut self) -> Stdin {
+        self.stdin()
+    }
+
+    fn output(&mut self) -> Stdout {
+        self.stdout()
+    }
+
+    fn leave(&mut self, _output: Stdout) {}
+}
