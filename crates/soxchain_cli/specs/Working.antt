@@ -26,25 +26,15 @@ use Rattle.soxchain.specs.Readying.{Unready}
 use Rattle.soxchain.specs.declared.telling.Telling.{Telling}
 use Rattle.soxchain.specs.Saying.{Says}
 use Rattle.soxchain_cli.specs.Named.{Files}
+use Rattle.soxchain_words.specs.Desks.{Machine, Opened}
 use Rattle.soxchain_words.specs.Files.{AreFronts, IsUnread}
 
--- A machine, by what it answered to one call: the words behind the program's name, or why they could not be had; a standard stream;
--- a file that it created beside an input of a name, or beside standard input, or refused to create; or by what the call left to it:
--- standard output, or a file that it had created, to which nothing more is written.
-pub record Machine (I O F : Type 0) : Type 1 where
-  pub asked : List (List ℕ) → Type 0
-  pub mute : ErrorKind → Type 0
-  pub is_input : I → Type 0
-  pub is_output : O → Type 0
-  pub left : O → Type 0
+-- What a machine that creates files answered to one call: a file that it created beside an input of a name, or beside standard input,
+-- or refused to create; or what the call left to it: a file that it had created, to which nothing more is written.
+pub record Creating (F : Type 0) : Type 1 where
   pub created : Option (List ℕ) → List ℕ → F → Type 0
   pub uncreated : Option (List ℕ) → List ℕ → Type 0
   pub closed : F → Type 0
-
--- The file that was opened to read by one call, by its name, or the name whose opening was refused.
-pub record Opened (H R : Type 0) : Type 1 where
-  pub opened : H → H → List ℕ → R → Type 0
-  pub unopened : H → H → List ℕ → Type 0
 
 -- how streams and files are known: the bytes to come of standard input and of a file that is read, the bytes of standard output and
 -- of a file that was created, and the place in that file
@@ -71,9 +61,9 @@ pub record IsPrepared {R : Type 0} (reads : ByteReader R) (line : Said) (files :
 abbrev pub ready_for : Said → Prepared → Ready
 ready_for line prepared = record { line = line; prepared = prepared }
 
--- The program asks a machine one thing after another; `m` and `o` say what it was asked for and answered between one of its states
+-- The program asks a machine one thing after another; `m`, `c` and `o` say what it was asked for and answered between one of its states
 -- and the next. So the states name all that was asked, in its order: where the last one is that of a call, nothing came behind it.
-module _ {H I R O F M : Type 0} (d : Devices I R O F) (m : H → H → Machine I O F) (writes : ByteWriter M) where
+module _ {H I R O F M : Type 0} (d : Devices I R O F) (m : H → H → Machine I O) (c : H → H → Creating F) (writes : ByteWriter M) where
   -- What becomes of a sound: nothing was ready for it; or OUT could not be created; or it ran to standard output, or into the new
   -- file of OUT's own name.
   pub data Sounds {X : Type 0} (reads : ByteReader X) (line : Said) (files : List (List ℕ)) (reader : X) (host new_host : H) (old new : Telling M) (status : ℕ) : Type 0 where
@@ -84,7 +74,7 @@ module _ {H I R O F M : Type 0} (d : Devices I R O F) (m : H → H → Machine I
     Uncreated : (source : Held X) (prepared : Prepared) (name : List ℕ)
         → IsPrepared reads line files reader source prepared
         → file_name line.output ≡ Some name
-        → (m host new_host).uncreated (file_name line.input) name
+        → (c host new_host).uncreated (file_name line.input) name
         → status ≡ 2
         → Says writes old new (open_message name)
         → Sounds reads line files reader host new_host old new status
@@ -98,9 +88,9 @@ module _ {H I R O F M : Type 0} (d : Devices I R O F) (m : H → H → Machine I
     Filed : (next : H) (source left : Held X) (prepared : Prepared) (name : List ℕ) (file ended : F)
         → IsPrepared reads line files reader source prepared
         → file_name line.output ≡ Some name
-        → (m host next).created (file_name line.input) name file
+        → (c host next).created (file_name line.input) name file
         → Files reads d.created d.position writes (ready_for line prepared) source left file ended name old new status
-        → (m next new_host).closed ended
+        → (c next new_host).closed ended
         → Sounds reads line files reader host new_host old new status
 
   -- What becomes of a line whose coefficient files are there: IN could not be opened; or its sound was gone through, from standard

@@ -18,6 +18,7 @@ use fx_sound::{HeadBytes, Source, head_bytes};
 use soxchain::inner::{
     Prepared, Telling, finish_for, prepare_for, tell_cannot_open, tell_cannot_rewrite,
 };
+use soxchain_words::{Desk, Openings};
 use std::io;
 use std::io::{Seek, Write};
 
@@ -47,7 +48,7 @@ pub fn process<H: Host, M: ByteOut>(
     telling: &mut Telling<M>,
 ) -> u8
     ensures { Lines (record { input = H.Input.remaining; file = H.Reader.remaining; output = H.Output.contents; created = H.Created.contents; position = H.Created.stream_position })
-        H.machine M.writes (record { opened = H.opened; unopened = H.unopened })
+        H.machine H.creating M.writes (record { opened = H.opened; unopened = H.unopened })
         line.now (bytes_of files.now) host.old host.new telling.old telling.new result }
 {
     match line.input() {
@@ -71,7 +72,7 @@ fn process_from<H: Host, R: ByteIn + Drop, M: ByteOut>(
     telling: &mut Telling<M>,
 ) -> u8
     ensures { Sounds (record { input = H.Input.remaining; file = H.Reader.remaining; output = H.Output.contents; created = H.Created.contents; position = H.Created.stream_position })
-        H.machine M.writes R.reads
+        H.machine H.creating M.writes R.reads
         line.now (bytes_of files.now) reader host.old host.new telling.old telling.new result }
 {
     let mut source = Source::new(reader);

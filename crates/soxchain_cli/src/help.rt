@@ -5,7 +5,7 @@ use crate::files::cannot_open;
 use crate::host::Host;
 use fx_frame::{ByteOut, Counted};
 use soxchain::inner::{Telling, show};
-use soxchain_words::effects;
+use soxchain_words::{Desk, effects};
 
 /// The answer to `--help`, from the table of effects.
 macro_rules! help {
@@ -43,7 +43,7 @@ pub const HELP: &str = effects!(help);
 /// Writes an answer to standard output, and answers the status.
 pub fn tell_answer<H: Host, M: ByteOut>(host: &mut H, answer: &str, telling: &mut Telling<M>) -> u8
     ensures { IsShown (record { input = H.Input.remaining; file = H.Reader.remaining; output = H.Output.contents; created = H.Created.contents; position = H.Created.stream_position })
-        H.machine M.writes answer.now host.old host.new telling.old telling.new result }
+        H.machine H.creating M.writes answer.now host.old host.new telling.old telling.new result }
 {
     let mut output = Counted::new(host.output());
     let is_whole = show(&mut output, answer);

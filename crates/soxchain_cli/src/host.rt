@@ -1,55 +1,25 @@
 //! The machine that the program works on: its words, its standard streams and its files.
 ghost use Rattle.std.specs.Prelude.{IfErr, IfOk, ⊤};
-ghost use Rattle.std.specs.IoError.{error_kind};
 ghost use Rattle.fx_chain.specs.Chain.{IsNewChain};
-ghost use Rattle.fx_line.specs.Line.{texts};
 ghost use Rattle.fx_plan.specs.CommandLines.{name_in};
 ghost use Rattle.fx_plan.specs.Planning.{planning};
-ghost use Rattle.soxchain_cli.specs.Working.{Machine};
+ghost use Rattle.soxchain_cli.specs.Working.{Creating};
 
 use crate::same_file::create_beside;
 use fx_plan::Stream;
 use soxchain::inner::Prepared;
-use soxchain_words::{Openings, words_of};
-use std::alloc::Global;
+use soxchain_words::Desk;
 use std::fs::File;
 use std::io;
-use std::io::{Read, Seek, Stdin, Stdout, Write};
+use std::io::{Seek, Write};
 
-/// What the program asks of the machine. What it does with the answers is proved over any such machine. It is another one after
-/// each call, as one that opens files is: so what is proved says all that the program asks, and in which order.
-pub trait Host: Openings {
-    /// Standard input.
-    type Input: Read + Drop;
-
-    /// Standard output.
-    type Output: Write + Drop;
-
+/// A machine that creates files too. It is another one after each of these calls.
+pub trait Host: Desk {
     /// A file that was created.
     type Created: Write + Seek + Drop;
 
     // What it answered to the call between the one and the other.
-    ghost machine: { Self → Self → Machine Self.Input Self.Output Self.Created };
-
-    /// Where memory comes from.
-    fn memory(&self) -> Global;
-
-    /// The words behind the program's name.
-    fn words(&mut self) -> io::Result<Vec<String>>
-        ensures words { IfOk result (λ words. (machine self.old self.new).asked (texts words.items)) }
-        ensures refused { IfErr result (λ error. (machine self.old self.new).mute (error_kind error)) };
-
-    /// Standard input.
-    fn input(&mut self) -> Self::Input
-        ensures { (machine self.old self.new).is_input result };
-
-    /// Standard output.
-    fn output(&mut self) -> Self::Output
-        ensures { (machine self.old self.new).is_output result };
-
-    /// Leaves standard output as it is: nothing more is written to it.
-    fn leave(&mut self, output: Self::Output)
-        ensures { (machine self.old self.new).left output };
+    ghost creating: { Self → Self → Creating Self.Created };
 
     /// Creates the file of this name, or empties an older one, once a new chain stands. Refused where it is the input.
     fn create(
@@ -59,41 +29,19 @@ pub trait Host: Openings {
         prepared: &Prepared,
     ) -> io::Result<Self::Created>
         requires { IsNewChain (planning prepared.now.plan) prepared.now.chain }
-        ensures created { IfOk result (λ file. (machine self.old self.new).created (name_in input.entry) name.now file) }
-        ensures refused { IfErr result (λ _. (machine self.old self.new).uncreated (name_in input.entry) name.now) };
+        ensures created { IfOk result (λ file. (creating self.old self.new).created (name_in input.entry) name.now file) }
+        ensures refused { IfErr result (λ _. (creating self.old self.new).uncreated (name_in input.entry) name.now) };
 
     /// Leaves a file that was created as it is: nothing more is written to it.
     fn close(&mut self, file: Self::Created)
-        ensures { (machine self.old self.new).closed file };
+        ensures { (creating self.old self.new).closed file };
 }
 
 impl Host for HostRuntime {
-    type Input = Stdin;
-
-    type Output = Stdout;
-
     type Created = File;
 
     // Of the machine itself nothing is known.
-    ghost machine = { λ _ _. record { asked = λ _. ⊤; mute = λ _. ⊤; is_input = λ _. ⊤; is_output = λ _. ⊤; left = λ _. ⊤; created = λ _ _ _. ⊤; uncreated = λ _ _. ⊤; closed = λ _. ⊤ } };
-
-    fn memory(&self) -> Global {
-        self.alloc()
-    }
-
-    fn words(&mut self) -> io::Result<Vec<String>> {
-        words_of(self)
-    }
-
-    fn input(&mut self) -> Stdin {
-        self.stdin()
-    }
-
-    fn output(&mut self) -> Stdout {
-        self.stdout()
-    }
-
-    fn leave(&mut self, _output: Stdout) {}
+    ghost creating = { λ _ _. record { created = λ _ _ _. ⊤; uncreated = λ _ _. ⊤; closed = λ _. ⊤ } };
 
     fn create(&mut self, input: Stream<'_>, name: &str, _prepared: &Prepared) -> io::Result<File> {
         create_beside(self, input, name)

@@ -15,13 +15,13 @@ use fx_plan::{CommandLine, LineFault, parse_line};
 use help::{HELP, tell_answer};
 use host::Host;
 use soxchain::inner::{Telling, refuse_line};
-use soxchain_words::{FilesFault, VERSION, answer_to, fault_of, read_files};
+use soxchain_words::{Desk, FilesFault, VERSION, answer_to, fault_of, read_files};
 use std::process::ExitCode;
 
 /// Does what a line asks for, and answers the status.
 fn work_line<H: Host, M: ByteOut>(host: &mut H, line: &CommandLine, telling: &mut Telling<M>) -> u8
     ensures { Works (record { input = H.Input.remaining; file = H.Reader.remaining; output = H.Output.contents; created = H.Created.contents; position = H.Created.stream_position })
-        H.machine M.writes (record { opened = H.opened; unopened = H.unopened })
+        H.machine H.creating M.writes (record { opened = H.opened; unopened = H.unopened })
         line.now host.old host.new telling.old telling.new result }
 {
     let files = match read_files(host.memory(), host, line) {
@@ -35,7 +35,7 @@ fn work_line<H: Host, M: ByteOut>(host: &mut H, line: &CommandLine, telling: &mu
 /// Does what the words ask for, and answers the status.
 fn work<H: Host, M: ByteOut>(host: &mut H, telling: &mut Telling<M>) -> u8
     ensures { Answers (record { input = H.Input.remaining; file = H.Reader.remaining; output = H.Output.contents; created = H.Created.contents; position = H.Created.stream_position })
-        H.machine M.writes (record { opened = H.opened; unopened = H.unopened })
+        H.machine H.creating M.writes (record { opened = H.opened; unopened = H.unopened })
         (answer_of HELP.now VERSION.now) host.old host.new telling.old telling.new result }
 {
     let words = match host.words() {

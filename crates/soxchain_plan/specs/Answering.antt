@@ -18,6 +18,7 @@ use Rattle.soxchain.specs.FileMessages.{open_message}
 use Rattle.soxchain.specs.Messages.{line_feed, line_label, line_message, refusal_message}
 use Rattle.soxchain.specs.Program.{status_of_line, status_of_refusal}
 use Rattle.soxchain.specs.Telling.{Tells}
+use Rattle.soxchain_words.specs.Desks.{Machine, Opened}
 use Rattle.soxchain_words.specs.Files.{AreFronts, IsUnread}
 use Rattle.soxchain_plan.specs.declared.outline.Outline.{Outline}
 use Rattle.soxchain_plan.specs.declared.style.Style.{Style}
@@ -27,20 +28,6 @@ use Rattle.soxchain_plan.specs.Outlines.{IsOutline}
 use Rattle.soxchain_plan.specs.Quoted.{stop_json}
 use Rattle.soxchain_plan.specs.Shown.{shown}
 use Rattle.soxchain_plan.specs.Styles.{styled}
-
--- A machine, by what it answered to one call: the words behind the program's name, or why they could not be had; a standard stream;
--- or by what the call left to it: standard output, to which nothing more is written.
-pub record Machine (I O : Type 0) : Type 1 where
-  pub asked : List (List ℕ) → Type 0
-  pub mute : ErrorKind → Type 0
-  pub is_input : I → Type 0
-  pub is_output : O → Type 0
-  pub left : O → Type 0
-
--- The file that was opened to read by one call, by its name, or the name whose opening was refused.
-pub record Opened (H R : Type 0) : Type 1 where
-  pub opened : H → H → List ℕ → R → Type 0
-  pub unopened : H → H → List ℕ → Type 0
 
 -- how streams and files are known: the bytes to come of standard input and of a file that is read, and the bytes of standard output
 pub record Devices (I R O : Type 0) : Type 0 where

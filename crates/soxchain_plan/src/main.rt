@@ -11,7 +11,6 @@ ghost use Rattle.soxchain_plan.specs.Answering.{Answers, Lines, Plans, Words, Wo
 
 mod advice;
 mod help;
-mod host;
 mod lengths;
 mod outline;
 mod quoting;
@@ -24,18 +23,17 @@ use fx_frame::{ByteOut, Counted};
 use fx_plan::{CommandLine, LineFault, parse_line, plan};
 use fx_sound::Head;
 use help::HELP;
-use host::Host;
 use outline::outline_of;
 use reading::head_of;
 use showing::{show_outline, show_text, stopped};
 use soxchain::inner::Refusal;
-use soxchain_words::{FilesFault, VERSION, answer_to, fault_of, read_files};
+use soxchain_words::{Desk, FilesFault, VERSION, answer_to, fault_of, read_files};
 use std::process::ExitCode;
 use stop::Stop;
 use style::Style;
 
 /// Shows what the plan of a line says, behind the head of its input, and answers the status.
-fn plan_line<H: Host, M: ByteOut>(
+fn plan_line<H: Desk, M: ByteOut>(
     host: &mut H,
     style: Style,
     line: &CommandLine,
@@ -60,7 +58,7 @@ fn plan_line<H: Host, M: ByteOut>(
 }
 
 /// Does what a command line asks for, and answers the status.
-fn answer_line<H: Host, M: ByteOut>(
+fn answer_line<H: Desk, M: ByteOut>(
     host: &mut H,
     style: Style,
     line: &CommandLine,
@@ -83,7 +81,7 @@ fn answer_line<H: Host, M: ByteOut>(
 }
 
 /// Does what a command line asks for, with the bytes of its coefficient files, and answers the status.
-fn answer_files<H: Host, M: ByteOut>(
+fn answer_files<H: Desk, M: ByteOut>(
     host: &mut H,
     style: Style,
     line: &CommandLine,
@@ -105,7 +103,7 @@ fn answer_files<H: Host, M: ByteOut>(
 }
 
 /// Does what the words ask for, and answers the status.
-fn answer_words<H: Host, M: ByteOut>(host: &mut H, words: &[String], messages: &mut M) -> u8
+fn answer_words<H: Desk, M: ByteOut>(host: &mut H, words: &[String], messages: &mut M) -> u8
     ensures { Words (record { input = H.Input.remaining; file = H.Reader.remaining; output = H.Output.contents })
         H.machine M.writes (record { opened = H.opened; unopened = H.unopened })
         (answer_of HELP.now VERSION.now) (texts words.now) host.old host.new messages.old messages.new result }
@@ -121,7 +119,7 @@ fn answer_words<H: Host, M: ByteOut>(host: &mut H, words: &[String], messages: &
 }
 
 /// Does what the program is asked for, and answers the status.
-fn answer<H: Host, M: ByteOut>(host: &mut H, messages: &mut M) -> u8
+fn answer<H: Desk, M: ByteOut>(host: &mut H, messages: &mut M) -> u8
     ensures { Answers (record { input = H.Input.remaining; file = H.Reader.remaining; output = H.Output.contents })
         H.machine M.writes (record { opened = H.opened; unopened = H.unopened })
         (answer_of HELP.now VERSION.now) host.old host.new messages.old messages.new result }

@@ -4,10 +4,10 @@ ghost use Rattle.fx_heads.specs.Known.{IfKnown};
 ghost use Rattle.fx_plan.specs.CommandLines.{file_name};
 ghost use Rattle.soxchain_plan.specs.Heads.{IsHeadFrom, IsHeadIn, IsHeadOf};
 
-use crate::host::Host;
 use fx_frame::Counted;
 use fx_plan::{CommandLine, Stream};
 use fx_sound::{Head, HeadFault, Source, read_head};
+use soxchain_words::{Desk, Openings};
 use std::io::Read;
 
 /// The head of what a reader tells, or what is wrong with it.
@@ -18,7 +18,7 @@ fn head_from<R: Read + Drop>(reader: R, line: &CommandLine) -> Result<Head, Head
 }
 
 /// The head of IN, or what is wrong with it; or the name of a file that cannot be opened. Standard input is read where IN is `-`.
-pub fn head_of<'a, H: Host>(
+pub fn head_of<'a, H: Desk>(
     host: &mut H,
     line: &'a CommandLine,
 ) -> Result<Result<Head, HeadFault>, &'a str>

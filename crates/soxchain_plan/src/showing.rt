@@ -3,13 +3,13 @@ ghost use Rattle.soxchain_plan.specs.Answering.{HasAnything, HasFront, IsShown, 
 ghost use Rattle.soxchain_plan.specs.Shown.{shown};
 ghost use Rattle.soxchain_plan.specs.Stops.{message_of, status_of};
 
-use crate::host::Host;
 use crate::outline::Outline;
 use crate::quoting::show_stop;
 use crate::stop::Stop;
 use crate::style::Style;
 use fx_frame::{ByteOut, Counted};
 use soxchain::inner::show;
+use soxchain_words::Desk;
 
 /// Tells that standard output did not take what is shown, and answers the status.
 fn tell_failed<M: ByteOut>(messages: &mut M) -> u8
@@ -20,7 +20,7 @@ fn tell_failed<M: ByteOut>(messages: &mut M) -> u8
 }
 
 /// Shows a text on standard output, and answers the status.
-pub fn show_text<H: Host, M: ByteOut>(host: &mut H, text: &str, messages: &mut M) -> u8
+pub fn show_text<H: Desk, M: ByteOut>(host: &mut H, text: &str, messages: &mut M) -> u8
     ensures { IsShown (record { input = H.Input.remaining; file = H.Reader.remaining; output = H.Output.contents })
         H.machine M.writes text.now (HasFront text.now) host.old host.new messages.old messages.new result }
 {
@@ -31,7 +31,7 @@ pub fn show_text<H: Host, M: ByteOut>(host: &mut H, text: &str, messages: &mut M
 }
 
 /// Shows on standard output what a plan says, and answers the status.
-pub fn show_outline<H: Host, M: ByteOut>(
+pub fn show_outline<H: Desk, M: ByteOut>(
     host: &mut H,
     style: Style,
     outline: &Outline,
@@ -47,7 +47,7 @@ pub fn show_outline<H: Host, M: ByteOut>(
 }
 
 /// Tells why there is no plan and what to do, and answers the status. As JSON it stands on standard output too.
-pub fn stopped<H: Host, M: ByteOut>(
+pub fn stopped<H: Desk, M: ByteOut>(
     host: &mut H,
     style: Style,
     stop: &Stop<'_>,

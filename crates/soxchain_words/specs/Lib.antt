@@ -1,3 +1,4 @@
 pub mod About
+pub mod Desks
 pub mod Effects
 pub mod Files

@@ -1,17 +1,18 @@
-//! The machine that the program works on: its words, its standard streams and the files that it reads.
+//! The machine that a program works on: its words and its standard streams.
 ghost use Rattle.std.specs.Prelude.{IfErr, IfOk, ⊤};
 ghost use Rattle.std.specs.IoError.{error_kind};
 ghost use Rattle.fx_line.specs.Line.{texts};
-ghost use Rattle.soxchain_plan.specs.Answering.{Machine};
+ghost use Rattle.soxchain_words.specs.Desks.{Machine};
 
-use soxchain_words::{Openings, words_of};
+use crate::files::Openings;
+use crate::words::words_of;
 use std::alloc::Global;
 use std::io;
 use std::io::{Read, Stdin, Stdout, Write};
 
-/// What the program asks of the machine. What it does with the answers is proved over any such machine. It is another one after
-/// each call, as one that opens files is: so what is proved says all that the program asks, and in which order.
-pub trait Host: Openings {
+/// What both programs ask of the machine. What a program does with the answers is proved over any such machine. It is another one
+/// after each call, as one that opens files is: so what is proved says all that the program asks, and in which order.
+pub trait Desk: Openings {
     /// Standard input.
     type Input: Read + Drop;
 
@@ -42,7 +43,7 @@ pub trait Host: Openings {
         ensures { (machine self.old self.new).left output };
 }
 
-impl Host for HostRuntime {
+impl Desk for HostRuntime {
     type Input = Stdin;
 
     type Output = Stdout;

@@ -1,0 +1,17 @@
+-- What a program asks of a machine, and what it answers (this project's profile).
+use Rattle.std.specs.Prelude.{ℕ, List}
+use Rattle.std.specs.declared.io.ErrorKind.{ErrorKind}
+
+-- A machine, by what it answered to one call: the words behind the program's name, or why they could not be had; a standard stream;
+-- or by what the call left to it: standard output, to which nothing more is written.
+pub record Machine (I O : Type 0) : Type 1 where
+  pub asked : List (List ℕ) → Type 0
+  pub mute : ErrorKind → Type 0
+  pub is_input : I → Type 0
+  pub is_output : O → Type 0
+  pub left : O → Type 0
+
+-- The file that was opened to read by one call, by its name, or the name whose opening was refused.
+pub record Opened (H R : Type 0) : Type 1 where
+  pub opened : H → H → List ℕ → R → Type 0
+  pub unopened : H → H → List ℕ → Type 0
