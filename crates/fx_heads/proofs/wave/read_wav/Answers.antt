@@ -3,7 +3,7 @@ use Rattle.std.specs.Prelude.{Some}
 use Rattle.std.proofs.lemmas.List.{length-drop, drop-drop, take-take}
 use Rattle.std.proofs.lemmas.Result.{IfErr-weaker}
 use Rattle.fx_heads.proofs.Faults.{IfOk-both}
-use Rattle.fx_heads.proofs.Held.{Takes-both, Tells-both}
+use Rattle.fx_heads.proofs.Held.{Tells-both}
 use Rattle.fx_heads.proofs.WaveRiff.{riff-short, riff-cut, riff-chunks, riff-unknown, riff-chunks-cut}
 use Rattle.fx_heads.proofs.wave.read_wav.Goals as goal
 
@@ -64,11 +64,3 @@ returns-clause-cut g c = IfErr-weaker c.read_chunks.result _ _ (λ fault fails i
           riff-chunks-cut bytes c.fill.new.out c.name_at-name.result c.in-Ok.got cut.came first.0 first.1 (omega arith) (omega arith) (omega arith) (c.name_at-name.ensures ∙ take-take 4 4 (drop 4 c.fill.new.out) (omega arith)) c.if-ne.ensures
           ∙ cut.undecided _ first.2;
     }) c.read_chunks.ensures.cut
-
-pub returns-clause-told : goal.returns-clause-told
-returns-clause-told g c = IfOk-both c.read_chunks.result _ _ _ c.read_chunks.ensures.offset c.read_chunks.ensures.told (λ head place told.
-    let eight = c.fill.auto.out in
-    let count = c.in-Ok.ensures.count in
-    let far : 12 < head.offset = place.0 in
-    let all : c.in-Ok.got + (head.offset - 12) ≡ head.offset - 4 = omega arith in
-    Takes-both g.R.ByteIn.reads.told _ _ _ c.in-Ok.got (head.offset - 12) _ all c.in-Ok.ensures.told told)

@@ -1,4 +1,5 @@
 use Rattle.std.proofs.Common.{◌≡◌, ◌+◌, ◌-◌, take, ap, ◌∙◌, arith}
+use Rattle.std.proofs.lemmas.Grind.{common_steps}
 use Rattle.std.specs.Prelude.{Some}
 use Rattle.std.specs.Io.KnownBytes.{prepend_known}
 use Rattle.fx_heads.proofs.Held.{take-moved, take-refilled, to_come-read}
@@ -15,3 +16,24 @@ returns-clause-stays g c = λ bytes known.
     ap (λ x. prepend_known c.args.self.now.bytes (g.R.ByteIn.reads.rest x.reader)) c.self.view_is ∙ known in
     rw (size, take-refilled c.copy_within.new.self c.read.new.buffer (s.end - s.start) (4096 - (s.end - s.start)) c.in_ok-n.n (omega arith) bound, held)
     (to_come-read c.args.self.now.bytes (take c.in_ok-n.n c.read.new.buffer) (g.R.ByteIn.reads.rest s.reader) (g.R.ByteIn.reads.rest c.read.new.self) bytes c.in_ok-n.ensures.bytes now)
+
+pub invariant_of-self : goal.invariant_of-self
+invariant_of-self g c = grind (arith, common_steps)
+
+pub returns-in_err-n-clause-err : goal.returns-in_err-n-clause-err
+returns-in_err-n-clause-err g c = grind (arith, common_steps)
+
+pub returns-in_err-n-clause-told : goal.returns-in_err-n-clause-told
+returns-in_err-n-clause-told g c = grind (arith, common_steps)
+
+pub invariant_of-self-2 : goal.invariant_of-self-2
+invariant_of-self-2 g c = grind (arith, common_steps)
+
+pub returns-clause-grows : goal.returns-clause-grows
+returns-clause-grows g c = grind (arith, common_steps)
+
+pub returns-clause-end : goal.returns-clause-end
+returns-clause-end g c = grind (arith, common_steps)
+
+pub returns-clause-told : goal.returns-clause-told
+returns-clause-told g c = grind (arith, common_steps)
