@@ -1,21 +1,9 @@
 use Rattle.std.proofs.Common.{rules, ◌≡◌, ◌<◌, ◌≤◌, ◌≢◌, ◌+◌, ◌^◌, ◌∙◌, refl, ap, ℕ, ℤ, List, pos, ◌+ℤ◌, length, arith, slice_index_or, unsigned_abs, FitsSigned, to_z, of_z, get_or-set_other, get_or-set_same, below_more}
 use Rattle.std.specs.Int.{w32, w64}
-use Rattle.std.proofs.lemmas.Int.{fits_signed_from_abs, ints}
+use Rattle.std.proofs.lemmas.Int.{ints}
 use Rattle.fx_convolve.proofs.SmallSums.{held-in-64, wide-two}
 use Rattle.fx_convolve.proofs.Magnitudes.{added-few}
 use Rattle.fx_sums.proofs.sums.add_samples.Goals as goal
-
-pub overflow_add-out : goal.overflow_add-out
-overflow_add-out c =
-    let i : ℕ = c.loop-place.place in
-    let a : ℤ = slice_index_or c.args.samples.now i (pos 0) in
-    let b : ℤ = slice_index_or c.args.wide.now i (pos 0) in
-    let fits : FitsSigned w32 a = search rules in
-    let small : unsigned_abs a ≤ 2 ^ 31 = omega (arith, ints) in
-    let wide : unsigned_abs b ≤ 2 ^ 34 = c.requires.wide i in
-    let f : c.from.result ≡ a = search rules in
-    let most = added-few a b (2 ^ 31) (2 ^ 34) small wide in
-    rw (wide-two a b c.from.result b f refl small wide) (fits_signed_from_abs w64 (a +ℤ b) (omega (arith, most)))
 
 pub loop-place-preserved : goal.loop-place-preserved
 loop-place-preserved c =
