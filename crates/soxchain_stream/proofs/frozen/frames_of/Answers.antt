@@ -1,13 +1,10 @@
-use Rattle.std.proofs.Common.{◌≡◌, ℕ, ◌++◌, ◌∙◌, ◌∷◌, ◌^◌, List, ap, arith, lit<, length, sym, map, [], append_assoc, take, true, false, rules, suc}
+use Rattle.std.proofs.Common.{◌≡◌, ℕ, ◌++◌, ◌∙◌, ◌∷◌, ◌^◌, List, ap, arith, lit<, length, sym, map, [], append_assoc, take, true, false, suc}
 use Rattle.std.proofs.lemmas.List.{append-nil}
 use Rattle.std.specs.Int.{cast_signed, w64}
 use Rattle.fx_step.specs.Frame.{IsWideFrame, Samples}
 use Rattle.soxchain_stream.specs.Frozen.{frame_words}
 use Rattle.soxchain_stream.proofs.Words.{AreBelow, all-push, below-drop, below-take, FirstFrame, first-frame, frame-words-back, nil-of, no-frames, pieces-more}
 use Rattle.soxchain_stream.proofs.frozen.frames_of.Goals as goal
-
-pub loop-count-init : goal.loop-count-init
-loop-count-init c = record { frames = search rules; below = λ i. (c.type_inv.words i).fits; wide = rw c.new-frames.ensures.items (λ k d h. absurd (omega arith)); left = λ frames wide e. (frames, wide, e, ap (λ (l : List Samples). l ++ frames) (sym c.new-frames.ensures.items)) }
 
 pub loop-count-preserved : goal.loop-count-preserved
 loop-count-preserved c =

@@ -1,4 +1,4 @@
-use Rattle.std.proofs.Common.{◌≡◌, ℕ, ◌++◌, ◌∙◌, ◌≤◌, ◌^◌, List, ap, arith, lit<, length, flat_map, take, drop, rules, ◌<◌, [], sym, inl, inr, true, false}
+use Rattle.std.proofs.Common.{◌≡◌, ℕ, ◌++◌, ◌∙◌, ◌≤◌, ◌^◌, List, ap, arith, lit<, length, flat_map, take, drop, ◌<◌, [], sym, inl, inr, true, false}
 use Rattle.std.proofs.lemmas.Bool.{cases_lt}
 use Rattle.std.proofs.lemmas.Grind.{common_steps}
 use Rattle.std.proofs.lemmas.List.{append-nil, length-append, length-take-le, take-append-drop}
@@ -6,9 +6,6 @@ use Rattle.std.proofs.lemmas.Nat.{le_bytes_8}
 use Rattle.soxchain_stream.specs.Frozen.{word}
 use Rattle.soxchain_stream.proofs.Words.{AreBelow, all-of, below-drop, below-push, below-take, below-of, length-words, nil-of, pieces-more, words-same}
 use Rattle.soxchain_stream.proofs.frozen.to_words.Goals as goal
-
-pub loop-next-init : goal.loop-next-init
-loop-next-init c = record { words = search rules; below = λ i. (c.type_inv.bytes i).fits; words_below = rw c.new-words.ensures.items (λ i. lit< tt) }
 
 pub loop-next-preserved : goal.loop-next-preserved
 loop-next-preserved c =
