@@ -131,12 +131,13 @@ module _ {H I R O F M : Type 0} (d : Devices I R O F) (m : H → H → Machine I
         → Lines o line files next new_host old new status
         → Works o line host new_host old new status
 
-  -- A text was shown on standard output; or this failed, and a front of the text was. Nothing else was written to it.
+  -- A text was shown on standard output, and flushed; or this failed, and a front of the text was. Nothing else was written to it.
   pub data IsShown (text : List ℕ) (host new_host : H) (old new : Telling M) (status : ℕ) : Type 0 where
-    Whole : (next : H) (output ended : O)
+    Whole : (next : H) (output : O) (ended : Counts O)
         → (m host next).is_output output
-        → Appends (d.output output) (d.output ended) text
-        → (m next new_host).left ended
+        → Appends (d.output output) (d.output ended.inner) text
+        → ended.flushed ≡ true
+        → (m next new_host).left ended.inner
         → status ≡ 0
         → new ≡ old
         → IsShown text host new_host old new status

@@ -4,9 +4,10 @@ use Rattle.soxchain_cli.proofs.help.tell_answer.Goals as goal
 
 pub returns-then-is_whole : goal.returns-then-is_whole
 returns-then-is_whole g c =
-    Whole c.output.new.self c.output.result c.into_inner.result c.output.ensures
-    (rw (c.into_inner.ensures, ← c.new-output.ensures.inner) (c.show-is_whole.ensures.whole c.if-is_whole.true))
-    c.leave.ensures refl refl
+    Whole c.output.new.self c.output.result c.show-is_whole.new.writer c.output.ensures
+    (rw (← c.new-output.ensures.inner) (c.show-is_whole.ensures.whole c.if-is_whole.true))
+    (c.show-is_whole.ensures.flushed c.if-is_whole.true)
+    (rw (← c.into_inner.ensures) c.leave.ensures) refl refl
 
 pub returns-else-is_whole : goal.returns-else-is_whole
 returns-else-is_whole g c =
