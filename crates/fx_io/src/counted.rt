@@ -2,8 +2,8 @@
 
 ghost use Rattle.std.specs.Prelude.{◌≡◌, true};
 
-use super::io::{ByteIn, ByteOut, Failed};
-use std::io::{Read, Write};
+use super::io::{ByteIn, ByteOut, Failed, Rewind};
+use std::io::{Read, Seek, Write};
 use std::marker::Model;
 
 /// A reader or writer of std that counts the bytes that it told and the calls that failed.
@@ -98,6 +98,20 @@ impl<T: Write> ByteOut for Counted<T> {
                 self.is_flushed = true;
                 Ok(())
             }
+            Err(_) => {
+                self.failures = self.failures.saturating_add(1);
+                Err(Failed)
+            }
+        }
+    }
+}
+
+impl<T: Write + Seek> Rewind for Counted<T> {
+    ghost place = { λ c. T.stream_position c.inner };
+
+    fn rewind(&mut self) -> Result<(), Failed> {
+        match self.inner.rewind() {
+            Ok(()) => Ok(()),
             Err(_) => {
                 self.failures = self.failures.saturating_add(1);
                 Err(Failed)

@@ -1,6 +1,6 @@
 //! What reads bytes and what takes bytes.
 
-ghost use Rattle.std.specs.Prelude.{◌≡◌, ◌<◌, ◌≤◌, ◌||◌, is_ok, IfOk, length, take};
+ghost use Rattle.std.specs.Prelude.{◌≡◌, ◌<◌, ◌≤◌, ◌||◌, is_ok, IfOk, IfSome, Option, Some, length, take, ℕ};
 ghost use Rattle.std.specs.Io.KnownBytes.{Consumes, IsAtEnd, Keeps, WriteAppends};
 ghost use Rattle.fx_io.specs.Io.{ByteReader, ByteWriter, CountsBytes, CountsFailure, flushed_after};
 
@@ -51,4 +51,15 @@ pub trait ByteOut {
         ensures bytes { Keeps (writes.taken self.old) (writes.taken self.new) }
         ensures flushed { writes.flushed self.new ≡ (is_ok result || writes.flushed self.old) }
         ensures failures { CountsFailure (writes.failures self.old) (writes.failures self.new) result };
+}
+
+/// A writer that can go back to its first byte.
+pub trait Rewind: ByteOut {
+    // The place of the next byte, counted from 0, where it is known.
+    ghost place: { Self → Option ℕ };
+
+    /// Goes back to the first byte: what is written then stands over what was.
+    fn rewind(&mut self) -> Result<(), Failed>
+        ensures start { IfOk result (λ _. IfSome (place self.old) (λ _. place self.new ≡ Some 0)) }
+        ensures failures { CountsFailure (Self.writes.failures self.old) (Self.writes.failures self.new) result };
 }

@@ -6,4 +6,4 @@ pub use crate::messages::{label_of_line, tell_line, tell_refusal};
 pub use crate::prepared::Prepared;
 pub use crate::preparing::{Refusal, prepare_line, status_of_fault};
 pub use crate::ready::{finish_for, prepare_for, refuse_line};
-pub use crate::telling::{Telling, show};
+pub use crate::telling::{Telling, write_whole};

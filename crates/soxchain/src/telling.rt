@@ -57,13 +57,13 @@ impl<'a, M: ByteOut> Telling<'a, M> {
     }
 }
 
-/// Writes a whole text, and hands all of it on: `false` where the writer failed, which then has a front of the text.
-pub fn show<W: ByteOut>(writer: &mut W, text: &str) -> bool
-    ensures whole { result ≡ true → Appends (W.writes.taken writer.old) (W.writes.taken writer.new) text.now }
+/// Writes all bytes, and hands them on: `false` where one call of the writer failed, which then has a front of them.
+pub fn write_whole<W: ByteOut>(writer: &mut W, bytes: &[u8]) -> bool
+    ensures whole { result ≡ true → Appends (W.writes.taken writer.old) (W.writes.taken writer.new) bytes.now }
     ensures flushed { result ≡ true → W.writes.flushed writer.new ≡ true }
-    ensures front { result ≡ false → ToldFront (W.writes.taken writer.old) (W.writes.taken writer.new) (W.writes.failures writer.old) (W.writes.failures writer.new) text.now }
+    ensures front { result ≡ false → ToldFront (W.writes.taken writer.old) (W.writes.taken writer.new) (W.writes.failures writer.old) (W.writes.failures writer.new) bytes.now }
 {
-    hand(writer, text.as_bytes()) && writer.flush().is_ok()
+    hand(writer, bytes) && writer.flush().is_ok()
 }
 
 // Hands the writer a whole text: `false` where it failed before the end.

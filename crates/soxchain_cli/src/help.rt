@@ -4,7 +4,7 @@ ghost use Rattle.soxchain_cli.specs.Working.{IsShown};
 use crate::files::cannot_open;
 use crate::host::Host;
 use fx_frame::{ByteOut, Counted};
-use soxchain::inner::{Telling, show};
+use soxchain::inner::{Telling, write_whole};
 use soxchain_words::{Desk, effects};
 
 /// The answer to `--help`, from the table of effects.
@@ -46,7 +46,7 @@ pub fn tell_answer<H: Host, M: ByteOut>(host: &mut H, answer: &str, telling: &mu
         H.machine H.creating M.writes answer.now host.old host.new telling.old telling.new result }
 {
     let mut output = Counted::new(host.output());
-    let is_whole = show(&mut output, answer);
+    let is_whole = write_whole(&mut output, answer.as_bytes());
     host.leave(output.into_inner());
     if is_whole {
         0

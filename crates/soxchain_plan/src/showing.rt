@@ -8,7 +8,7 @@ use crate::quoting::show_stop;
 use crate::stop::Stop;
 use crate::style::Style;
 use fx_frame::{ByteOut, Counted};
-use soxchain::inner::show;
+use soxchain::inner::write_whole;
 use soxchain_words::Desk;
 
 /// Tells that standard output did not take what is shown, and answers the status.
@@ -25,7 +25,7 @@ pub fn show_text<H: Desk, M: ByteOut>(host: &mut H, text: &str, messages: &mut M
         H.machine M.writes text.now (HasFront text.now) host.old host.new messages.old messages.new result }
 {
     let mut output = Counted::new(host.output());
-    let is_whole = show(&mut output, text);
+    let is_whole = write_whole(&mut output, text.as_bytes());
     host.leave(output.into_inner());
     if is_whole { 0 } else { tell_failed(messages) }
 }
