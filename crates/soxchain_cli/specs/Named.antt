@@ -1,9 +1,8 @@
 -- What becomes of a named OUT (this project's profile).
-use Rattle.std.specs.Prelude.{◌≡◌, ◌≤◌, ◌⊎◌, ℕ, List, Option, Some, IfSome}
-use Rattle.std.specs.Io.KnownBytes.{Appends, Keeps}
+use Rattle.std.specs.Prelude.{◌≡◌, ◌≤◌, ◌+◌, ◌⊎◌, ℕ, true, List, Option, Some, IfSome}
+use Rattle.std.specs.Io.KnownBytes.{Appends}
 use Rattle.fx_run.specs.declared.report.Report.{Report}
-use Rattle.fx_io.specs.Counted.{Counts, counted_writes}
-use Rattle.fx_io.specs.Io.{ByteReader, ByteWriter}
+use Rattle.fx_io.specs.Io.{ByteReader, ByteWriter, saturated}
 use Rattle.fx_plan.specs.Planning.{planning}
 use Rattle.fx_heads.specs.Source.{Held}
 use Rattle.soxchain.specs.declared.prepared.Ready.{Ready}
@@ -11,28 +10,46 @@ use Rattle.soxchain.specs.FileMessages.{rewrite_message}
 use Rattle.soxchain.specs.Finishing.{Finished}
 use Rattle.soxchain.specs.declared.telling.Telling.{Telling}
 use Rattle.soxchain.specs.Saying.{Says}
+use Rattle.soxchain.specs.Telling.{ToldFront}
 use Rattle.soxchain_cli.specs.Heads.{true_head}
 
--- Bytes were written over the beginning of a file: it went back to its first byte, took them all there, and was flushed.
-pub record WritesOver {F : Type 0} (contents : F → Option (List ℕ)) (position : F → Option ℕ) (old new : F) (bytes : List ℕ) : Type 0 where
-  pub start : F
-  pub back : IfSome (position old) (λ _. position start ≡ Some 0)
-  pub filled : F
-  pub took : Appends (contents start) (contents filled) bytes
-  pub flushed : Keeps (contents filled) (contents new)
+-- How a file that was created is known: what it took, and the place of its next byte.
+pub record FileWriter (F : Type 0) : Type 0 where
+  pub writes : ByteWriter F
+  pub place : F → Option ℕ
 
--- A run into a new file: after a fault the file is left as the run left it, and else the true head is written over its beginning.
-pub record Files {R F M : Type 0} (reads : ByteReader R) (contents : F → Option (List ℕ)) (position : F → Option ℕ) (writes : ByteWriter M)
+-- a file went back to its first byte
+abbrev pub IsBack : {F : Type 0} → FileWriter F → F → F → Type 0
+IsBack d old new = IfSome (d.place old) (λ _. d.place new ≡ Some 0)
+
+-- Bytes were written over the beginning of a file: it went back to its first byte, took them all there, and was flushed.
+pub record WritesOver {F : Type 0} (d : FileWriter F) (old new : F) (bytes : List ℕ) : Type 0 where
+  pub start : F
+  pub back : IsBack d old start
+  pub took : Appends (d.writes.taken start) (d.writes.taken new) bytes
+  pub flushed : d.writes.flushed new ≡ true
+
+-- This failed: the file did not go back; or it went back, and a call behind that failed, so it took a front of the bytes.
+pub data FailsOver {F : Type 0} (d : FileWriter F) (old new : F) (bytes : List ℕ) : Type 0 where
+  Stuck :
+      d.writes.failures new ≡ saturated (d.writes.failures old + 1)
+      → FailsOver d old new bytes
+  Cut : (start : F)
+      → IsBack d old start
+      → d.writes.failures start ≡ d.writes.failures old
+      → ToldFront (d.writes.taken start) (d.writes.taken new) (d.writes.failures start) (d.writes.failures new) bytes
+      → FailsOver d old new bytes
+
+-- A run into a new file: after a fault the file is left as the run left it. Else the true head is written over its beginning; or this
+-- fails, and is told.
+pub record Files {R F M : Type 0} (reads : ByteReader R) (d : FileWriter F) (writes : ByteWriter M)
     (ready : Ready) (source new_source : Held R) (file new_file : F) (name : List ℕ) (messages new_messages : Telling M) (status : ℕ) : Type 0 where
-  pub opened : Counts F
-  pub is_file : opened.inner ≡ file
-  pub unfailed : opened.failures ≡ 0
-  pub left : Counts F
+  pub left : F
   pub told_so_far : Telling M
   pub run_status : ℕ
   pub report : Report
-  pub ran : Finished reads (counted_writes contents) ready source new_source opened left (Says writes messages told_so_far) run_status report
-  pub stopped : 1 ≤ run_status → (status ≡ run_status) × (new_file ≡ left.inner) × (new_messages ≡ told_so_far)
+  pub ran : Finished reads d.writes ready source new_source file left (Says writes messages told_so_far) run_status report
+  pub stopped : 1 ≤ run_status → (status ≡ run_status) × (new_file ≡ left) × (new_messages ≡ told_so_far)
   pub headed : run_status ≡ 0 →
-      ((status ≡ 0) × WritesOver contents position left.inner new_file (true_head (planning ready.prepared.plan) report) × (new_messages ≡ told_so_far))
-      ⊎ ((status ≡ 2) × Says writes told_so_far new_messages (rewrite_message name))
+      ((status ≡ 0) × WritesOver d left new_file (true_head (planning ready.prepared.plan) report) × (new_messages ≡ told_so_far))
+      ⊎ ((status ≡ 2) × FailsOver d left new_file (true_head (planning ready.prepared.plan) report) × Says writes told_so_far new_messages (rewrite_message name))

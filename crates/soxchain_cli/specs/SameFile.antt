@@ -1,6 +1,14 @@
 -- OUT as a file of its own: making it must not empty the file that is read (this project's profile).
-use Rattle.std.specs.Prelude.{◌≡◌, ℕ, true, List, Option, Some, None, Result, Ok, Err, codes}
-use Rattle.soxchain_cli.specs.declared.same_file.Identity.{Identity}
+use Rattle.std.specs.Prelude.{◌≡◌, ℕ, true, List, Option, Some, None, codes}
+use Rattle.soxchain_cli.specs.declared.host.Identity.{Identity}
+
+-- The files of a machine: what it has under a name, or nothing that can be looked at; the file that one call made under a name, which
+-- empties an older one; the name for which it refused that; and the made file that it took back, to which nothing more is written.
+pub record Shelf (H F : Type 0) : Type 1 where
+  pub looks : H → List ℕ → Option Identity → Type 0
+  pub made : H → H → List ℕ → F → Type 0
+  pub unmade : H → H → List ℕ → Type 0
+  pub closed : H → H → F → Type 0
 
 -- both could be looked at, and are one file with a content of its own, and no device or pipe
 abbrev pub AreOne : Option Identity → Option Identity → Type 0
@@ -12,25 +20,29 @@ abbrev pub source_name : Option (List ℕ) → List ℕ
 source_name (Some name) = name
 source_name None = codes "/dev/stdin"
 
--- The input and the file of this name were looked at. Where they are one, nothing was made; else the file was made, which empties an
--- older one, or this was refused.
-pub data IsMade {S F E : Type 0} (looks : S → List ℕ → Option Identity → Type 0) (made : S → S → List ℕ → F → Type 0) (unmade : S → S → List ℕ → Type 0)
-    (shelf new_shelf : S) (input : Option (List ℕ)) (name : List ℕ) : Result F E → Type 0 where
-  Same : (one other : Option Identity) (error : E)
-      → looks shelf (source_name input) one
-      → looks shelf name other
+-- the input and the file of this name were looked at, and found to be these
+pub record AreFound {H F : Type 0} (shelf : Shelf H F) (host : H) (input : Option (List ℕ)) (name : List ℕ) (one other : Option Identity) : Type 0 where
+  pub source : shelf.looks host (source_name input) one
+  pub target : shelf.looks host name other
+
+-- The file of this name was looked at beside the input, is another one, and was made.
+pub record IsMade {H F : Type 0} (shelf : Shelf H F) (host new_host : H) (input : Option (List ℕ)) (name : List ℕ) (file : F) : Type 0 where
+  pub one : Option Identity
+  pub other : Option Identity
+  pub found : AreFound shelf host input name one other
+  pub apart : AreOne one other → ⊥
+  pub made : shelf.made host new_host name file
+
+-- The file of this name was looked at beside the input. It is that one, and nothing was made; or it is another one, and making it was
+-- refused.
+pub data IsUnmade {H F : Type 0} (shelf : Shelf H F) (host new_host : H) (input : Option (List ℕ)) (name : List ℕ) : Type 0 where
+  Same : (one other : Option Identity)
+      → AreFound shelf host input name one other
       → AreOne one other
-      → new_shelf ≡ shelf
-      → IsMade looks made unmade shelf new_shelf input name (Err error)
-  Made : (one other : Option Identity) (file : F)
-      → looks shelf (source_name input) one
-      → looks shelf name other
+      → new_host ≡ host
+      → IsUnmade shelf host new_host input name
+  Unmade : (one other : Option Identity)
+      → AreFound shelf host input name one other
       → (AreOne one other → ⊥)
-      → made shelf new_shelf name file
-      → IsMade looks made unmade shelf new_shelf input name (Ok file)
-  Unmade : (one other : Option Identity) (error : E)
-      → looks shelf (source_name input) one
-      → looks shelf name other
-      → (AreOne one other → ⊥)
-      → unmade shelf new_shelf name
-      → IsMade looks made unmade shelf new_shelf input name (Err error)
+      → shelf.unmade host new_host name
+      → IsUnmade shelf host new_host input name

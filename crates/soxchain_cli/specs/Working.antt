@@ -1,11 +1,10 @@
 -- What the program does, on any machine (this project's profile).
-use Rattle.std.specs.Prelude.{◌≡◌, ◌≢◌, ◌≤◌, ℕ, true, List, [], length, take, Option, Some, None, Ok, Err, codes}
+use Rattle.std.specs.Prelude.{◌≡◌, ◌≢◌, ℕ, true, List, [], Option, Some, None, Ok, Err, codes}
 use Rattle.std.specs.Io.KnownBytes.{Appends}
 use Rattle.std.specs.declared.io.ErrorKind.{ErrorKind}
 use Rattle.std.specs.declared.io.ErrorKind.TheVariants as ErrorKinds
 use Rattle.fx_chain.specs.Chain.{IsNewChain}
 use Rattle.fx_run.specs.declared.report.Report.{Report}
-use Rattle.fx_io.specs.Counted.{Counts, counted_reads, counted_writes}
 use Rattle.fx_io.specs.Io.{ByteReader, ByteWriter}
 use Rattle.fx_line.specs.declared.line.LineFault.{LineFault}
 use Rattle.fx_line.specs.declared.line.LineFault.TheVariants as LineFaults
@@ -25,29 +24,19 @@ use Rattle.soxchain.specs.Program.{status_of_line}
 use Rattle.soxchain.specs.Readying.{Unready}
 use Rattle.soxchain.specs.declared.telling.Telling.{Telling}
 use Rattle.soxchain.specs.Saying.{Says}
-use Rattle.soxchain_cli.specs.Named.{Files}
-use Rattle.soxchain_words.specs.Desks.{Machine, Opened}
-use Rattle.soxchain_words.specs.Files.{AreFronts, IsUnread}
+use Rattle.soxchain.specs.Telling.{ToldFront}
+use Rattle.soxchain_cli.specs.Named.{FileWriter, Files}
+use Rattle.soxchain_cli.specs.SameFile.{IsMade, IsUnmade, Shelf}
+use Rattle.soxchain_words.specs.Desks.{IsNewReader, IsNewWriter, Machine, Opened}
+use Rattle.soxchain_words.specs.Files.{AreFronts, IsForgotten, IsUnread}
 
--- What a machine that creates files answered to one call: a file that it created beside an input of a name, or beside standard input,
--- or refused to create; or what the call left to it: a file that it had created, to which nothing more is written.
-pub record Creating (F : Type 0) : Type 1 where
-  pub created : Option (List ℕ) → List ℕ → F → Type 0
-  pub uncreated : Option (List ℕ) → List ℕ → Type 0
-  pub closed : F → Type 0
-
--- how streams and files are known: the bytes to come of standard input and of a file that is read, the bytes of standard output and
--- of a file that was created, and the place in that file
+-- How streams and files are known: standard input and a file that is read, as readers; standard output and a file that was created, as
+-- writers. Each counts the calls of it that failed.
 pub record Devices (I R O F : Type 0) : Type 0 where
-  pub input : I → Option (List ℕ)
-  pub file : R → Option (List ℕ)
-  pub output : O → Option (List ℕ)
-  pub created : F → Option (List ℕ)
-  pub position : F → Option ℕ
-
--- a reader or writer that has counted nothing
-abbrev pub uncounted : {T : Type 0} → T → Counts T
-uncounted inner = record { inner = inner; told = 0; failures = 0; flushed = true }
+  pub input : ByteReader I
+  pub file : ByteReader R
+  pub output : ByteWriter O
+  pub created : FileWriter F
 
 -- What a line asks for is prepared behind the head of a sound: its plan, without a fault, and the chain, which is new.
 pub record IsPrepared {R : Type 0} (reads : ByteReader R) (line : Said) (files : List (List ℕ)) (reader : R) (source : Held R) (prepared : Prepared) : Type 0 where
@@ -61,36 +50,38 @@ pub record IsPrepared {R : Type 0} (reads : ByteReader R) (line : Said) (files :
 abbrev pub ready_for : Said → Prepared → Ready
 ready_for line prepared = record { line = line; prepared = prepared }
 
--- The program asks a machine one thing after another; `m`, `c` and `o` say what it was asked for and answered between one of its states
+-- The program asks a machine one thing after another; `m`, `s` and `o` say what it was asked for and answered between one of its states
 -- and the next. So the states name all that was asked, in its order: where the last one is that of a call, nothing came behind it.
-module _ {H I R O F M : Type 0} (d : Devices I R O F) (m : H → H → Machine I O) (c : H → H → Creating F) (writes : ByteWriter M) where
-  -- What becomes of a sound: nothing was ready for it; or OUT could not be created; or it ran to standard output, or into the new
+module _ {H I R O F M : Type 0} (d : Devices I R O F) (m : H → H → Machine I O) (s : Shelf H F) (writes : ByteWriter M) where
+  -- What becomes of a sound: nothing was ready for it; or OUT is IN, or could not be made; or it ran to standard output, or into the new
   -- file of OUT's own name.
   pub data Sounds {X : Type 0} (reads : ByteReader X) (line : Said) (files : List (List ℕ)) (reader : X) (host new_host : H) (old new : Telling M) (status : ℕ) : Type 0 where
     Refused : (source : Held X)
         → new_host ≡ host
         → Unready reads line files (record { bytes = []; reader = reader }) source (Says writes old new) status
         → Sounds reads line files reader host new_host old new status
-    Uncreated : (source : Held X) (prepared : Prepared) (name : List ℕ)
+    Unmade : (source : Held X) (prepared : Prepared) (name : List ℕ)
         → IsPrepared reads line files reader source prepared
         → file_name line.output ≡ Some name
-        → (c host new_host).uncreated (file_name line.input) name
+        → IsUnmade s host new_host (file_name line.input) name
         → status ≡ 2
         → Says writes old new (open_message name)
         → Sounds reads line files reader host new_host old new status
-    Streamed : (next : H) (source left : Held X) (prepared : Prepared) (output : O) (ended : Counts O) (report : Report)
+    Streamed : (next : H) (source left : Held X) (prepared : Prepared) (output ended : O) (report : Report)
         → IsPrepared reads line files reader source prepared
         → file_name line.output ≡ None
         → (m host next).is_output output
-        → Finished reads (counted_writes d.output) (ready_for line prepared) source left (uncounted output) ended (Says writes old new) status report
-        → (m next new_host).left ended.inner
+        → IsNewWriter d.output output
+        → Finished reads d.output (ready_for line prepared) source left output ended (Says writes old new) status report
+        → (m next new_host).left ended
         → Sounds reads line files reader host new_host old new status
     Filed : (next : H) (source left : Held X) (prepared : Prepared) (name : List ℕ) (file ended : F)
         → IsPrepared reads line files reader source prepared
         → file_name line.output ≡ Some name
-        → (c host next).created (file_name line.input) name file
-        → Files reads d.created d.position writes (ready_for line prepared) source left file ended name old new status
-        → (c next new_host).closed ended
+        → IsMade s host next (file_name line.input) name file
+        → IsNewWriter d.created.writes file
+        → Files reads d.created writes (ready_for line prepared) source left file ended name old new status
+        → s.closed next new_host ended
         → Sounds reads line files reader host new_host old new status
 
   -- What becomes of a line whose coefficient files are there: IN could not be opened; or its sound was gone through, from standard
@@ -105,16 +96,18 @@ module _ {H I R O F M : Type 0} (d : Devices I R O F) (m : H → H → Machine I
     Standard : (next : H) (input : I)
         → file_name line.input ≡ None
         → (m host next).is_input input
-        → Sounds (counted_reads d.input) line files (uncounted input) next new_host old new status
+        → IsNewReader d.input input
+        → Sounds d.input line files input next new_host old new status
         → Lines o line files host new_host old new status
     Named : (next : H) (name : List ℕ) (reader : R)
         → file_name line.input ≡ Some name
         → o.opened host next name reader
-        → Sounds (counted_reads d.file) line files (uncounted reader) next new_host old new status
+        → IsNewReader d.file reader
+        → Sounds d.file line files reader next new_host old new status
         → Lines o line files host new_host old new status
 
-  -- What becomes of a line: a coefficient file that it names could not be read; or there was no memory for their names; or they
-  -- are there, each its own.
+  -- What becomes of a line: a coefficient file that it names could not be read; or there was no memory for their names, or for
+  -- their bytes; or they are there, each its own.
   pub data Works (o : Opened H R) (line : Said) (host new_host : H) (old new : Telling M) (status : ℕ) : Type 0 where
     Unread : (name : List ℕ)
         → IsUnread o.opened o.unopened d.file host new_host (coefficient_files (effects_in line)) name
@@ -122,29 +115,30 @@ module _ {H I R O F M : Type 0} (d : Devices I R O F) (m : H → H → Machine I
         → Says writes old new (open_message name)
         → Works o line host new_host old new status
     Forgotten :
-        new_host ≡ host
+        IsForgotten o.opened d.file.rest host new_host (coefficient_files (effects_in line))
         → status ≡ status_of_line LineFaults.Memory
         → Says writes old new (line_message (line_label LineFaults.Memory))
         → Works o line host new_host old new status
     Read : (next : H) (files : List (List ℕ))
-        → AreFronts o.opened d.file host next (coefficient_files (effects_in line)) files
+        → AreFronts o.opened d.file.rest host next (coefficient_files (effects_in line)) files
         → Lines o line files next new_host old new status
         → Works o line host new_host old new status
 
-  -- A text was shown on standard output, and flushed; or this failed, and a front of the text was. Nothing else was written to it.
+  -- A text was shown on standard output, and flushed; or one call of it failed, and a front of the text was. Nothing else was written to
+  -- it.
   pub data IsShown (text : List ℕ) (host new_host : H) (old new : Telling M) (status : ℕ) : Type 0 where
-    Whole : (next : H) (output : O) (ended : Counts O)
+    Whole : (next : H) (output ended : O)
         → (m host next).is_output output
-        → Appends (d.output output) (d.output ended.inner) text
-        → ended.flushed ≡ true
-        → (m next new_host).left ended.inner
+        → Appends (d.output.taken output) (d.output.taken ended) text
+        → d.output.flushed ended ≡ true
+        → (m next new_host).left ended
         → status ≡ 0
         → new ≡ old
         → IsShown text host new_host old new status
-    Cut : (next : H) (output ended : O) (count : ℕ)
+    Cut : (next : H) (output ended : O)
         → (m host next).is_output output
-        → count ≤ length text
-        → Appends (d.output output) (d.output ended) (take count text)
+        → IsNewWriter d.output output
+        → ToldFront (d.output.taken output) (d.output.taken ended) (d.output.failures output) (d.output.failures ended) text
         → (m next new_host).left ended
         → status ≡ 2
         → Says writes old new (open_message (codes "-"))

@@ -1,5 +1,5 @@
 //! The files of the program: what comes from IN and goes to OUT, each a standard stream or a file.
-ghost use Rattle.std.specs.Prelude.{◌≡◌, OnOk};
+ghost use Rattle.std.specs.Prelude.{◌≡◌, false, true};
 ghost use Rattle.fx_chain.specs.Chain.{IsNewChain};
 ghost use Rattle.fx_plan.specs.Planning.{planning};
 ghost use Rattle.fx_plan.specs.Plans.{bytes_of};
@@ -8,19 +8,19 @@ ghost use Rattle.soxchain.specs.FileMessages.{open_message, rewrite_message};
 ghost use Rattle.soxchain.specs.Finishing.{Finished};
 ghost use Rattle.soxchain.specs.Saying.{Says};
 ghost use Rattle.soxchain_cli.specs.Heads.{true_head};
-ghost use Rattle.soxchain_cli.specs.Named.{Files, WritesOver};
+ghost use Rattle.soxchain_cli.specs.Named.{FailsOver, Files, WritesOver};
 ghost use Rattle.soxchain_cli.specs.Working.{Lines, Sounds, ready_for};
 
 use crate::host::Host;
-use fx_frame::{ByteIn, ByteOut, Counted};
+use crate::same_file::create_beside;
+use fx_frame::{ByteIn, ByteOut};
+use fx_io::Rewind;
 use fx_plan::{CommandLine, Stream};
 use fx_sound::{HeadBytes, Source, head_bytes};
 use soxchain::inner::{
-    Prepared, Telling, finish_for, prepare_for, tell_cannot_open, tell_cannot_rewrite,
+    Prepared, Telling, finish_for, prepare_for, tell_cannot_open, tell_cannot_rewrite, write_whole,
 };
 use soxchain_words::{Desk, Openings};
-use std::io;
-use std::io::{Seek, Write};
 
 /// Tells that a file cannot be opened, read or created, and answers the status.
 pub fn cannot_open<M: ByteOut>(telling: &mut Telling<M>, name: &str) -> u8
@@ -47,17 +47,17 @@ pub fn process<H: Host, M: ByteOut>(
     files: &[Vec<u8>],
     telling: &mut Telling<M>,
 ) -> u8
-    ensures { Lines (record { input = H.Input.remaining; file = H.Reader.remaining; output = H.Output.contents; created = H.Created.contents; position = H.Created.stream_position })
-        H.machine H.creating M.writes (record { opened = H.opened; unopened = H.unopened })
+    ensures { Lines (record { input = H.Input.reads; file = H.Reader.reads; output = H.Output.writes; created = record { writes = H.Made.writes; place = H.Made.place } })
+        H.machine H.shelf M.writes (record { opened = H.opened; unopened = H.unopened })
         line.now (bytes_of files.now) host.old host.new telling.old telling.new result }
 {
     match line.input() {
         Stream::Standard => {
-            let reader = Counted::new(host.input());
+            let reader = host.input();
             process_from(host, line, files, reader, telling)
         }
         Stream::Named(name) => match host.open(name) {
-            Ok(file) => process_from(host, line, files, Counted::new(file), telling),
+            Ok(file) => process_from(host, line, files, file, telling),
             Err(_) => cannot_open(telling, name),
         },
     }
@@ -71,8 +71,8 @@ fn process_from<H: Host, R: ByteIn + Drop, M: ByteOut>(
     reader: R,
     telling: &mut Telling<M>,
 ) -> u8
-    ensures { Sounds (record { input = H.Input.remaining; file = H.Reader.remaining; output = H.Output.contents; created = H.Created.contents; position = H.Created.stream_position })
-        H.machine H.creating M.writes R.reads
+    ensures { Sounds (record { input = H.Input.reads; file = H.Reader.reads; output = H.Output.writes; created = record { writes = H.Made.writes; place = H.Made.place } })
+        H.machine H.shelf M.writes R.reads
         line.now (bytes_of files.now) reader host.old host.new telling.old telling.new result }
 {
     let mut source = Source::new(reader);
@@ -82,18 +82,19 @@ fn process_from<H: Host, R: ByteIn + Drop, M: ByteOut>(
     };
     match line.output() {
         Stream::Standard => {
-            let mut output = Counted::new(host.output());
+            let mut output = host.output();
             let (status, _report) = finish_for(line, prepared, &mut source, &mut output, telling);
-            host.leave(output.into_inner());
+            host.leave(output);
             status
         }
-        Stream::Named(name) => match host.create(line.input(), name, &prepared) {
-            Ok(file) => {
-                let (status, file) = process_to(line, prepared, &mut source, file, name, telling);
+        Stream::Named(name) => match create_beside(host, line.input(), name, &prepared) {
+            Some(file) => {
+                let mut file = file;
+                let status = process_to(line, prepared, &mut source, &mut file, name, telling);
                 host.close(file);
                 status
             }
-            Err(_) => cannot_open(telling, name),
+            None => cannot_open(telling, name),
         },
     }
 }
@@ -120,35 +121,33 @@ fn finish_with_head<R: ByteIn, W: ByteOut, M: ByteOut>(
 }
 
 /// Runs what is prepared and writes it to a new file. Without a fault the head is then written once more, with the true sizes.
-/// Answers the status, and the file.
-fn process_to<R: ByteIn, F: Write + Seek, M: ByteOut>(
+/// Answers the status.
+fn process_to<R: ByteIn, F: Rewind, M: ByteOut>(
     line: &CommandLine,
     prepared: Prepared,
     source: &mut Source<R>,
-    file: F,
+    file: &mut F,
     name: &str,
     telling: &mut Telling<M>,
-) -> (u8, F)
+) -> u8
     requires { IsNewChain (planning prepared.plan) prepared.chain }
-    ensures { Files R.reads F.contents F.stream_position M.writes (ready_for line.now prepared) source.old source.new file result.1 name.now telling.old telling.new result.0 }
+    ensures { Files R.reads (record { writes = F.writes; place = F.place }) M.writes (ready_for line.now prepared) source.old source.new file.old file.new name.now telling.old telling.new result }
 {
-    let mut output = Counted::new(file);
-    let (status, head) = finish_with_head(line, prepared, source, &mut output, telling);
-    let mut file = output.into_inner();
+    let (status, head) = finish_with_head(line, prepared, source, file, telling);
     if status != 0 {
-        return (status, file);
+        return status;
     }
-    match write_over(&mut file, head.as_slice()) {
-        Ok(()) => (0, file),
-        Err(_) => (cannot_rewrite(telling, name), file),
+    if write_over(file, head.as_slice()) {
+        0
+    } else {
+        cannot_rewrite(telling, name)
     }
 }
 
-/// Writes bytes over the beginning of a file.
-fn write_over<F: Write + Seek>(file: &mut F, bytes: &[u8]) -> io::Result<()>
-    ensures { OnOk result (WritesOver F.contents F.stream_position file.old file.new bytes.now) }
+/// Writes bytes over the beginning of a file, and hands them on: false where one call of it failed.
+fn write_over<F: Rewind>(file: &mut F, bytes: &[u8]) -> bool
+    ensures whole { result ≡ true → WritesOver (record { writes = F.writes; place = F.place }) file.old file.new bytes.now }
+    ensures failed { result ≡ false → FailsOver (record { writes = F.writes; place = F.place }) file.old file.new bytes.now }
 {
-    file.rewind()?;
-    file.write_all(bytes)?;
-    file.flush()
+    file.rewind().is_ok() && write_whole(file, bytes)
 }

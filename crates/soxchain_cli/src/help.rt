@@ -3,7 +3,7 @@ ghost use Rattle.soxchain_cli.specs.Working.{IsShown};
 
 use crate::files::cannot_open;
 use crate::host::Host;
-use fx_frame::{ByteOut, Counted};
+use fx_frame::ByteOut;
 use soxchain::inner::{Telling, write_whole};
 use soxchain_words::{Desk, effects};
 
@@ -42,12 +42,12 @@ pub const HELP: &str = effects!(help);
 
 /// Writes an answer to standard output, and answers the status.
 pub fn tell_answer<H: Host, M: ByteOut>(host: &mut H, answer: &str, telling: &mut Telling<M>) -> u8
-    ensures { IsShown (record { input = H.Input.remaining; file = H.Reader.remaining; output = H.Output.contents; created = H.Created.contents; position = H.Created.stream_position })
-        H.machine H.creating M.writes answer.now host.old host.new telling.old telling.new result }
+    ensures { IsShown (record { input = H.Input.reads; file = H.Reader.reads; output = H.Output.writes; created = record { writes = H.Made.writes; place = H.Made.place } })
+        H.machine H.shelf M.writes answer.now host.old host.new telling.old telling.new result }
 {
-    let mut output = Counted::new(host.output());
+    let mut output = host.output();
     let is_whole = write_whole(&mut output, answer.as_bytes());
-    host.leave(output.into_inner());
+    host.leave(output);
     if is_whole {
         0
     } else {

@@ -1,5 +1,5 @@
-pub mod Fronts
 pub mod Heading
+pub mod Kept
 pub mod Lateness
 pub mod Made
 pub mod Naming

@@ -1,13 +1,12 @@
 -- What the program does, on any machine (this project's profile).
-use Rattle.std.specs.Prelude.{◌≡◌, ◌≢◌, ◌≤◌, ℕ, List, [], ◌++◌, length, take, Option, Some, None, Ok, Err, codes, ⊤}
+use Rattle.std.specs.Prelude.{◌≡◌, ◌≢◌, ℕ, true, List, [], ◌++◌, Option, Some, None, Ok, Err, codes}
 use Rattle.std.specs.Io.KnownBytes.{Appends}
 use Rattle.std.specs.declared.io.ErrorKind.{ErrorKind}
 use Rattle.std.specs.declared.io.ErrorKind.TheVariants as ErrorKinds
-use Rattle.fx_io.specs.Io.{ByteWriter}
+use Rattle.fx_io.specs.Io.{ByteReader, ByteWriter}
 use Rattle.fx_line.specs.declared.line.LineFault.{LineFault}
 use Rattle.fx_line.specs.declared.line.LineFault.TheVariants as LineFaults
 use Rattle.fx_line.specs.Line.{Said, line_of}
-use Rattle.fx_heads.specs.Known.{IfKnown}
 use Rattle.fx_heads.specs.declared.head.Head.{Head}
 use Rattle.fx_heads.specs.declared.head.HeadFault.{HeadFault}
 use Rattle.fx_plan.specs.CommandLines.{LineReads, coefficient_files, effects_in, file_name, planning_in}
@@ -17,96 +16,71 @@ use Rattle.soxchain.specs.declared.preparing.Refusal.TheVariants as Refusals
 use Rattle.soxchain.specs.FileMessages.{open_message}
 use Rattle.soxchain.specs.Messages.{line_feed, line_label, line_message, refusal_message}
 use Rattle.soxchain.specs.Program.{status_of_line, status_of_refusal}
-use Rattle.soxchain.specs.Telling.{Tells}
-use Rattle.soxchain_words.specs.Desks.{Machine, Opened}
-use Rattle.soxchain_words.specs.Files.{AreFronts, IsUnread}
+use Rattle.soxchain.specs.Telling.{Tells, ToldFront}
+use Rattle.soxchain_words.specs.Desks.{IsNewReader, IsNewWriter, Machine, Opened}
+use Rattle.soxchain_words.specs.Files.{AreFronts, IsForgotten, IsUnread}
 use Rattle.soxchain_plan.specs.declared.outline.Outline.{Outline}
 use Rattle.soxchain_plan.specs.declared.style.Style.{Style}
 use Rattle.soxchain_plan.specs.declared.style.Style.TheVariants.{Text, Json}
-use Rattle.soxchain_plan.specs.Heads.{IsHeadOf}
+use Rattle.soxchain_plan.specs.Heads.{HeadIsRead}
 use Rattle.soxchain_plan.specs.Outlines.{IsOutline}
 use Rattle.soxchain_plan.specs.Quoted.{stop_json}
 use Rattle.soxchain_plan.specs.Shown.{shown}
 use Rattle.soxchain_plan.specs.Styles.{styled}
 
--- how streams and files are known: the bytes to come of standard input and of a file that is read, and the bytes of standard output
+-- How streams and files are known: standard input and a file that is read, as readers, and standard output, as a writer. Each counts the
+-- calls of it that failed.
 pub record Devices (I R O : Type 0) : Type 0 where
-  pub input : I → Option (List ℕ)
-  pub file : R → Option (List ℕ)
-  pub output : O → Option (List ℕ)
+  pub input : ByteReader I
+  pub file : ByteReader R
+  pub output : ByteWriter O
 
--- a front of a text
-pub record IsFrontOf (text front : List ℕ) : Type 0 where
-  pub count : ℕ
-  pub part : count ≤ length text
-  pub is : front ≡ take count text
-
--- what a writer has: a text behind what it had; a front of it; or anything
-abbrev pub HasAll : List ℕ → Option (List ℕ) → Option (List ℕ) → Type 0
-HasAll text old new = Appends old new text
-
-abbrev pub HasFront : List ℕ → Option (List ℕ) → Option (List ℕ) → Type 0
-HasFront text old new = (front : List ℕ) × IsFrontOf text front × Appends old new front
-
-abbrev pub HasAnything : Option (List ℕ) → Option (List ℕ) → Type 0
-HasAnything old new = ⊤
-
--- the message of soxchain was told, and a line that says what to do
-abbrev pub Advises : {M : Type 0} → ByteWriter M → M → M → List ℕ → List ℕ → Type 0
-Advises writes old new message advice = Tells writes old new (message ++ (codes "soxchain-plan: " ++ advice ++ line_feed))
-
--- it was told that standard output failed, with the status of a file
-pub record TellsFailed {M : Type 0} (writes : ByteWriter M) (old new : M) (status : ℕ) : Type 0 where
-  pub advice : List ℕ
-  pub told : Advises writes old new (open_message (codes "-")) advice
-  pub of_file : status ≡ 2
+-- A message of soxchain was told, and a line that says what to do. This is its status.
+pub record Advises {M : Type 0} (writes : ByteWriter M) (old new : M) (message advice : List ℕ) (code status : ℕ) : Type 0 where
+  pub told : Tells writes old new (message ++ (codes "soxchain-plan: " ++ advice ++ line_feed))
+  pub status_is : status ≡ code
 
 -- The program asks a machine one thing after another; `m` and `o` say what it was asked for and answered between one of its states
 -- and the next. So the states name all that was asked, in its order: where the last one is that of a call, nothing came behind it.
 -- `old` and `new` are standard error before and behind: where they are one, nothing was told.
 module _ {H I R O M : Type 0} (d : Devices I R O) (m : H → H → Machine I O) (writes : ByteWriter M) where
-  -- standard output has this, and was left
-  pub record Outputs (Has : Option (List ℕ) → Option (List ℕ) → Type 0) (host new_host : H) : Type 0 where
-    pub next : H
-    pub output : O
-    pub ended : O
-    pub is_output : (m host next).is_output output
-    pub has : Has (d.output output) (d.output ended)
-    pub left : (m next new_host).left ended
-
-  -- A text was shown on standard output, and nothing was told; or this failed, and standard output has what is said of that.
-  pub data IsShown (text : List ℕ) (HasThen : Option (List ℕ) → Option (List ℕ) → Type 0) (host new_host : H) (old new : M) (status : ℕ) : Type 0 where
-    Whole :
-        Outputs (HasAll text) host new_host
+  -- A text was shown on standard output, and flushed, and nothing was told; or one call of it failed, a front of the text was shown, and
+  -- this was told. Nothing else was written to it.
+  pub data IsShown (text : List ℕ) (code : ℕ) (host new_host : H) (old new : M) (status : ℕ) : Type 0 where
+    Whole : (next : H) (output ended : O)
+        → (m host next).is_output output
+        → Appends (d.output.taken output) (d.output.taken ended) text
+        → d.output.flushed ended ≡ true
+        → (m next new_host).left ended
         → new ≡ old
-        → status ≡ 0
-        → IsShown text HasThen host new_host old new status
-    Cut :
-        Outputs HasThen host new_host
-        → TellsFailed writes old new status
-        → IsShown text HasThen host new_host old new status
+        → status ≡ code
+        → IsShown text code host new_host old new status
+    Cut : (next : H) (output ended : O) (advice : List ℕ)
+        → (m host next).is_output output
+        → IsNewWriter d.output output
+        → ToldFront (d.output.taken output) (d.output.taken ended) (d.output.failures output) (d.output.failures ended) text
+        → (m next new_host).left ended
+        → Advises writes old new (open_message (codes "-")) advice 2 status
+        → IsShown text code host new_host old new status
 
-  -- Why there is no plan was told, with this status. As JSON standard output then has it too, with the message or the front of it
-  -- for which there was memory; or this failed, of which nothing is said but that it was told.
+  -- Why there is no plan was told, with this status. As JSON standard output then has it too, with the message and what to do; or there
+  -- was no memory for that, which was told too.
   pub data Stops (style : Style) (message : List ℕ) (code : ℕ) (host new_host : H) (old new : M) (status : ℕ) : Type 0 where
     Told : (advice : List ℕ)
         → style ≡ Text
         → new_host ≡ host
-        → Advises writes old new message advice
-        → status ≡ code
+        → Advises writes old new message advice code status
         → Stops style message code host new_host old new status
-    Quoted : (advice front : List ℕ)
+    Quoted : (advice : List ℕ) (between : M)
         → style ≡ Json
-        → Advises writes old new message advice
-        → IsFrontOf message front
-        → Outputs (HasAll (stop_json code front advice)) host new_host
-        → status ≡ code
+        → Advises writes old between message advice code code
+        → IsShown (stop_json code message advice) code host new_host between new status
         → Stops style message code host new_host old new status
-    Unquoted : (advice : List ℕ) (between : M)
+    Unquoted : (advice advice_on_memory : List ℕ) (between : M)
         → style ≡ Json
-        → Advises writes old between message advice
-        → Outputs HasAnything host new_host
-        → TellsFailed writes between new status
+        → new_host ≡ host
+        → Advises writes old between message advice code code
+        → Advises writes between new (line_message (line_label LineFaults.Memory)) advice_on_memory (status_of_line LineFaults.Memory) status
         → Stops style message code host new_host old new status
 
   -- What becomes of a line behind the head of its input: its plan has a first fault, or finds no memory; or what the plan says finds
@@ -123,19 +97,19 @@ module _ {H I R O M : Type 0} (d : Devices I R O) (m : H → H → Machine I O) 
     Planned : (outline : Outline)
         → all_faults (head_layout head) files (effects_in line) ≡ []
         → IsOutline (planning_in head line files) outline
-        → IsShown (shown style outline) HasAnything host new_host old new status
+        → IsShown (shown style outline) 0 host new_host old new status
         → Plans style line files head host new_host old new status
 
-  -- What becomes of a line whose input has these bytes to come, where they are known: they begin with no head; or with this one.
-  pub data Heads (style : Style) (line : Said) (files : List (List ℕ)) (known : Option (List ℕ)) (host new_host : H) (old new : M) (status : ℕ) : Type 0 where
+  -- What becomes of a line whose input is this reader: it begins with no head, or a read of it failed; or with this head.
+  pub data Heads {X : Type 0} (reads : ByteReader X) (style : Style) (line : Said) (files : List (List ℕ)) (reader : X) (host new_host : H) (old new : M) (status : ℕ) : Type 0 where
     Refused : (fault : HeadFault)
-        → IfKnown known (λ bytes. IsHeadOf line.input_kind bytes (Err fault))
+        → HeadIsRead reads line.input_kind reader (Err fault)
         → Stops style (refusal_message line (Refusals.Head fault)) (status_of_refusal (Refusals.Head fault)) host new_host old new status
-        → Heads style line files known host new_host old new status
+        → Heads reads style line files reader host new_host old new status
     Read : (head : Head)
-        → IfKnown known (λ bytes. IsHeadOf line.input_kind bytes (Ok head))
+        → HeadIsRead reads line.input_kind reader (Ok head)
         → Plans style line files head host new_host old new status
-        → Heads style line files known host new_host old new status
+        → Heads reads style line files reader host new_host old new status
 
   -- What becomes of a line whose coefficient files are there: IN could not be opened; or its head was read, from standard input or
   -- from the file of IN's own name.
@@ -148,26 +122,29 @@ module _ {H I R O M : Type 0} (d : Devices I R O) (m : H → H → Machine I O) 
     Standard : (next : H) (input : I)
         → file_name line.input ≡ None
         → (m host next).is_input input
-        → Heads style line files (d.input input) next new_host old new status
+        → IsNewReader d.input input
+        → Heads d.input style line files input next new_host old new status
         → Lines o style line files host new_host old new status
     Named : (next : H) (name : List ℕ) (reader : R)
         → file_name line.input ≡ Some name
         → o.opened host next name reader
-        → Heads style line files (d.file reader) next new_host old new status
+        → IsNewReader d.file reader
+        → Heads d.file style line files reader next new_host old new status
         → Lines o style line files host new_host old new status
 
-  -- What becomes of a line: a coefficient file that it names could not be read; or there was no memory for their names; or they
-  -- are there, each its own.
+  -- What becomes of a line: a coefficient file that it names could not be read; or there was no memory for their names, or for
+  -- their bytes; or they are there, each its own.
   pub data Works (o : Opened H R) (style : Style) (line : Said) (host new_host : H) (old new : M) (status : ℕ) : Type 0 where
     Unread : (next : H) (name : List ℕ)
         → IsUnread o.opened o.unopened d.file host next (coefficient_files (effects_in line)) name
         → Stops style (open_message name) 2 next new_host old new status
         → Works o style line host new_host old new status
-    Forgotten :
-        Stops style (line_message (line_label LineFaults.Memory)) (status_of_line LineFaults.Memory) host new_host old new status
+    Forgotten : (next : H)
+        → IsForgotten o.opened d.file.rest host next (coefficient_files (effects_in line))
+        → Stops style (line_message (line_label LineFaults.Memory)) (status_of_line LineFaults.Memory) next new_host old new status
         → Works o style line host new_host old new status
     Known : (next : H) (files : List (List ℕ))
-        → AreFronts o.opened d.file host next (coefficient_files (effects_in line)) files
+        → AreFronts o.opened d.file.rest host next (coefficient_files (effects_in line)) files
         → Lines o style line files next new_host old new status
         → Works o style line host new_host old new status
 
@@ -176,7 +153,7 @@ module _ {H I R O M : Type 0} (d : Devices I R O) (m : H → H → Machine I O) 
   pub data Words (o : Opened H R) (answer : List (List ℕ) → Option (List ℕ)) (words : List (List ℕ)) (host new_host : H) (old new : M) (status : ℕ) : Type 0 where
     Shown : (text : List ℕ)
         → answer words ≡ Some text
-        → IsShown text (HasFront text) host new_host old new status
+        → IsShown text 0 host new_host old new status
         → Words o answer words host new_host old new status
     BadWords : (fault : LineFault)
         → answer words ≡ None

@@ -23,9 +23,9 @@ use fx_frame::{ByteOut, Counted};
 use fx_plan::{CommandLine, LineFault, parse_line, plan};
 use fx_sound::Head;
 use help::HELP;
-use outline::outline_of;
+use outline::text_of;
 use reading::head_of;
-use showing::{show_outline, show_text, stopped};
+use showing::{show, stopped};
 use soxchain::inner::Refusal;
 use soxchain_words::{Desk, FilesFault, VERSION, answer_to, fault_of, read_files};
 use std::process::ExitCode;
@@ -41,7 +41,7 @@ fn plan_line<H: Desk, M: ByteOut>(
     files: &[Vec<u8>],
     messages: &mut M,
 ) -> u8
-    ensures { Plans (record { input = H.Input.remaining; file = H.Reader.remaining; output = H.Output.contents })
+    ensures { Plans (record { input = H.Input.reads; file = H.Reader.reads; output = H.Output.writes })
         H.machine M.writes style line.now (bytes_of files.now) head.now host.old host.new messages.old messages.new result }
 {
     let plan = match plan(host.memory(), line, head, files) {
@@ -51,9 +51,9 @@ fn plan_line<H: Desk, M: ByteOut>(
             return stopped(host, style, &stop, messages);
         }
     };
-    match outline_of(host.memory(), &plan) {
-        Ok(outline) => show_outline(host, style, &outline, messages),
-        Err(_) => stopped(host, style, &Stop::Refused(line, Refusal::Chain), messages),
+    match text_of(host.memory(), &plan, style) {
+        Some(text) => show(host, &text, 0, messages),
+        None => stopped(host, style, &Stop::Refused(line, Refusal::Chain), messages),
     }
 }
 
@@ -64,7 +64,7 @@ fn answer_line<H: Desk, M: ByteOut>(
     line: &CommandLine,
     messages: &mut M,
 ) -> u8
-    ensures { Works (record { input = H.Input.remaining; file = H.Reader.remaining; output = H.Output.contents })
+    ensures { Works (record { input = H.Input.reads; file = H.Reader.reads; output = H.Output.writes })
         H.machine M.writes (record { opened = H.opened; unopened = H.unopened })
         style line.now host.old host.new messages.old messages.new result }
 {
@@ -88,7 +88,7 @@ fn answer_files<H: Desk, M: ByteOut>(
     files: &[Vec<u8>],
     messages: &mut M,
 ) -> u8
-    ensures { Lines (record { input = H.Input.remaining; file = H.Reader.remaining; output = H.Output.contents })
+    ensures { Lines (record { input = H.Input.reads; file = H.Reader.reads; output = H.Output.writes })
         H.machine M.writes (record { opened = H.opened; unopened = H.unopened })
         style line.now (bytes_of files.now) host.old host.new messages.old messages.new result }
 {
@@ -104,12 +104,12 @@ fn answer_files<H: Desk, M: ByteOut>(
 
 /// Does what the words ask for, and answers the status.
 fn answer_words<H: Desk, M: ByteOut>(host: &mut H, words: &[String], messages: &mut M) -> u8
-    ensures { Words (record { input = H.Input.remaining; file = H.Reader.remaining; output = H.Output.contents })
+    ensures { Words (record { input = H.Input.reads; file = H.Reader.reads; output = H.Output.writes })
         H.machine M.writes (record { opened = H.opened; unopened = H.unopened })
         (answer_of HELP.now VERSION.now) (texts words.now) host.old host.new messages.old messages.new result }
 {
     if let Some(text) = answer_to(words, HELP, VERSION) {
-        return show_text(host, text, messages);
+        return show(host, text.as_bytes(), 0, messages);
     }
     let (style, words) = style::split(words);
     match parse_line(host.memory(), words) {
@@ -120,7 +120,7 @@ fn answer_words<H: Desk, M: ByteOut>(host: &mut H, words: &[String], messages: &
 
 /// Does what the program is asked for, and answers the status.
 fn answer<H: Desk, M: ByteOut>(host: &mut H, messages: &mut M) -> u8
-    ensures { Answers (record { input = H.Input.remaining; file = H.Reader.remaining; output = H.Output.contents })
+    ensures { Answers (record { input = H.Input.reads; file = H.Reader.reads; output = H.Output.writes })
         H.machine M.writes (record { opened = H.opened; unopened = H.unopened })
         (answer_of HELP.now VERSION.now) host.old host.new messages.old messages.new result }
 {

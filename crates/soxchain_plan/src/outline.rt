@@ -1,5 +1,5 @@
 //! What a plan says, and how it is shown.
-ghost use Rattle.std.specs.Prelude.{◌≡◌, ◌*◌, ◌+◌, ◌-◌, ◌^◌, ◌<◌, ◌≤◌, false, IfOk, List, None, OnOk, Some, length, map, min, sum_by};
+ghost use Rattle.std.specs.Prelude.{◌≡◌, ◌*◌, ◌+◌, ◌-◌, ◌^◌, ◌<◌, ◌≤◌, false, IfOk, IfSome, List, None, OnOk, Some, length, map, min, sum_by};
 ghost use Rattle.std.specs.Io.KnownBytes.{Appends};
 ghost use Rattle.std.specs.List.{All};
 ghost use Rattle.fx_io.specs.Coding.{width_of};
@@ -155,7 +155,7 @@ fn bytes_of(outlines: &[EffectOutline], channels: usize) -> u64
 }
 
 /// What a plan says.
-pub fn outline_of(alloc: Global, plan: &Plan) -> Result<Outline, AllocError>
+fn outline_of(alloc: Global, plan: &Plan) -> Result<Outline, AllocError>
     ensures { IfOk result (IsOutline (planning plan.now)) }
 {
     let head = plan.head();
@@ -176,6 +176,16 @@ pub fn outline_of(alloc: Global, plan: &Plan) -> Result<Outline, AllocError>
         bytes,
         output,
     })
+}
+
+/// What a plan says, in this style. None where no memory is found for it.
+pub fn text_of(alloc: Global, plan: &Plan, style: Style) -> Option<Vec<u8>>
+    ensures { IfSome result (λ text. (outline : Outline) × IsOutline (planning plan.now) outline × (text.items ≡ shown style outline)) }
+{
+    let outline = outline_of(alloc, plan).ok()?;
+    let mut text = Vec::new(alloc);
+    outline.show(&mut text, style).ok()?;
+    Some(text)
 }
 
 /// Shows a number of frames in a line for people.
@@ -302,15 +312,14 @@ fn show_json_effects<W: Write>(writer: &mut W, effects: &[EffectOutline]) -> io:
 }
 
 impl Outline {
-    /// Shows it in this style, and hands all of it on. After an `Err` the writer may have any first part of it.
-    pub fn show<W: Write>(&self, writer: &mut W, style: Style) -> io::Result<()>
+    /// Shows it in this style. After an `Err` the writer may have any first part of it.
+    fn show<W: Write>(&self, writer: &mut W, style: Style) -> io::Result<()>
         ensures { OnOk result (Appends (W.contents writer.old) (W.contents writer.new) (shown style self.now)) }
     {
         match style {
-            Style::Text => self.show_text(writer)?,
-            Style::Json => self.show_json(writer)?,
+            Style::Text => self.show_text(writer),
+            Style::Json => self.show_json(writer),
         }
-        writer.flush()
     }
 
     /// Lines for people.

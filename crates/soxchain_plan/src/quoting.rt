@@ -61,8 +61,8 @@ fn show_string<W: Write>(writer: &mut W, text: &[u8]) -> io::Result<()>
     write!(writer, "\"")
 }
 
-/// Shows why there is no plan, as one JSON object with the status, the message without one line feed at its end and what to do,
-/// and hands all of it on. After an `Err` the writer may have any first part of it.
+/// Shows why there is no plan, as one JSON object with the status, the message without one line feed at its end and what to do.
+/// After an `Err` the writer may have any first part of it.
 pub fn show_stop<W: Write>(
     writer: &mut W,
     status: u8,
@@ -75,6 +75,5 @@ pub fn show_stop<W: Write>(
     show_string(writer, message)?;
     write!(writer, ", \"advice\": ")?;
     show_string(writer, advice.as_bytes())?;
-    writeln!(writer, "}}")?;
-    writer.flush()
+    writeln!(writer, "}}")
 }

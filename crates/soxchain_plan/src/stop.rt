@@ -1,12 +1,14 @@
 //! Why there is no plan: the message of soxchain and its status, and what to do.
-ghost use Rattle.std.specs.Prelude.{◌≡◌};
+ghost use Rattle.std.specs.Prelude.{◌≡◌, IfSome};
 ghost use Rattle.soxchain.specs.Saying.{Says};
-ghost use Rattle.soxchain_plan.specs.Answering.{Advises, IsFrontOf};
+ghost use Rattle.soxchain_plan.specs.Answering.{Advises};
+ghost use Rattle.soxchain_plan.specs.Quoted.{stop_json};
 ghost use Rattle.soxchain_plan.specs.Stops.{message_of, status_of};
 
 use crate::advice::{
     OPENING, REACHING, advice_on_head, advice_on_line, advice_on_memory, advice_on_plan,
 };
+use crate::quoting::show_stop;
 use fx_frame::{ByteOut, Counted};
 use fx_plan::{CommandLine, LineFault};
 use soxchain::inner::{
@@ -73,20 +75,32 @@ impl Stop<'_> {
         }
     }
 
-    /// The message of soxchain, or the front of it for which there was memory.
-    pub fn message(&self, alloc: Global) -> Vec<u8>
-        ensures { IsFrontOf (message_of self.now) result.items }
+    /// The message of soxchain. None where no memory is found for it.
+    fn message(&self, alloc: Global) -> Option<Vec<u8>>
+        ensures { IfSome result (λ message. message.items ≡ message_of self.now) }
     {
         let mut message = Counted::new(Vec::new(alloc));
         let mut keeping = Telling::new(&mut message);
         self.tell_message(&mut keeping);
-        message.into_inner()
+        if keeping.has_failed {
+            return None;
+        }
+        Some(message.into_inner())
+    }
+
+    /// The status, the message of soxchain and what to do, as one JSON object. None where no memory is found for it.
+    pub fn json(&self, alloc: Global, advice: &str) -> Option<Vec<u8>>
+        ensures { IfSome result (λ text. text.items ≡ stop_json (status_of self.now) (message_of self.now) advice.now) }
+    {
+        let message = self.message(alloc)?;
+        let mut text = Vec::new(alloc);
+        show_stop(&mut text, self.status(), &message, advice).ok()?;
+        Some(text)
     }
 
     /// Tells the message of soxchain and what to do, a line each, and answers the status.
     pub fn tell<M: ByteOut>(&self, messages: &mut M, advice: &str) -> u8
-        ensures status { result ≡ status_of self.now }
-        ensures told { Advises M.writes messages.old messages.new (message_of self.now) advice.now }
+        ensures { Advises M.writes messages.old messages.new (message_of self.now) advice.now (status_of self.now) result }
     {
         let mut telling = Telling::new(messages);
         self.tell_message(&mut telling);

@@ -1,25 +1,44 @@
 -- What is read up to a limit.
-use Rattle.std.proofs.Common.{◌≡◌, ◌<◌, ◌≤◌, ◌+◌, ℕ, List, [], ◌∷◌, ◌++◌, ◌∙◌, ap, arith, false, length, map, nat_lt, slice_get, slice_index_or, inl, inr, sym, zero, suc, Bor, refl}
-use Rattle.std.specs.Prelude.{Option, Some, None, IfSome, option_map, take, Result, Ok, Err, IfOk, OnErr}
+use Rattle.std.proofs.Common.{◌≡◌, ◌<◌, ◌≤◌, ◌+◌, ℕ, List, [], ◌∷◌, ◌++◌, ◌∙◌, ap, append-nil, arith, false, length, map, nat_lt, slice_get, slice_index_or, inl, inr, sym, zero, suc, Bor, refl}
+use Rattle.std.specs.Prelude.{Option, Some, None, IfSome, take, Result, Ok, Err, IfErr}
+use Rattle.std.specs.Io.KnownBytes.{Consumes, IsAtEnd}
 use Rattle.std.proofs.lemmas.Bool.{cases_lt, lt-ltb}
 use Rattle.std.proofs.lemmas.List.{length-append, length-take, take_all, take_more}
-use Rattle.soxchain_words.specs.Files.{AreRead, IsFront, kept_with}
-use Rattle.std.specs.Io.Take.{take_remaining}
-use Rattle.std.specs.declared.io.traits.Take.{Take}
+use Rattle.fx_io.specs.Io.{ByteReader, saturated}
+use Rattle.soxchain_words.specs.Desks.{IsNewReader}
+use Rattle.soxchain_words.specs.Files.{AreRead, AreReadTo, Failed, IsAsked, IsFront, kept_with}
+use Rattle.soxchain_words.specs.declared.files.Unread.{Unread}
+use Rattle.soxchain_words.specs.declared.files.Unread.TheVariants as Unreads
 
-front : (most : ℕ) (there : Option (List ℕ)) (bytes : List ℕ) → IfSome (option_map (take most) there) (λ xs. bytes ≡ [] ++ xs) → IfSome there (λ all. bytes ≡ take most all)
-front most None bytes h = h
-front most (Some all) bytes h = h
+front-of : {X : Type 0} (n : ℕ) (xs ys : List X) → n ≤ length xs → take n (xs ++ ys) ≡ take n xs
+front-of zero xs ys h = refl
+front-of (suc n) [] ys h = absurd (omega (arith, h))
+front-of (suc n) (x ∷ xs) ys h = ap (λ l. x ∷ l) (front-of n xs ys (omega (arith, h)))
 
--- all that was read up to a limit is the front of what there was
-pub front-known : {R : Type 0} (remaining : R → Option (List ℕ)) (t : Take R) (reader : R) (most : ℕ) (old bytes : List ℕ) → t.limit ≡ most → t.inner ≡ reader → old ≡ []
-    → IfSome (take_remaining remaining t) (λ xs. bytes ≡ old ++ xs) → IfSome (remaining reader) (λ all. bytes ≡ take most all)
-front-known remaining t reader most old bytes l i e h = front most (remaining reader) bytes (rw (l, i, e) at h)
+-- all that was told is the front of what there was: where no more came, and where as much was told as is asked for
+pub front-ended : (there later ended : Option (List ℕ)) (bytes piece : List ℕ) (more most : ℕ) → Consumes there later bytes → Consumes later ended (take more piece) → more ≡ 0 → IsAtEnd ended
+    → length bytes ≤ most → IfSome there (λ all. bytes ≡ take most all)
+front-ended None later ended bytes piece more most told last none at_end few = tt
+front-ended (Some all) None ended bytes piece more most told last none at_end few = absurd told
+front-ended (Some all) (Some later) None bytes piece more most told last none at_end few = absurd last
+front-ended (Some all) (Some later) (Some rest) bytes piece more most told last none at_end few =
+    let none_later : later ≡ [] = (rw none at last) ∙ at_end in
+    sym (ap (λ l. take most l) (told ∙ ap (λ l. bytes ++ l) none_later ∙ append-nil bytes) ∙ take_all most bytes few)
 
--- what follows of each result follows of this one
-pub each-ok : {X E : Type 0} {P Q : X → Type 0} (r : Result X E) → ((x : X) → P x → Q x) → IfOk r P → IfOk r Q
-each-ok (Ok x) follows h = follows x h
-each-ok (Err e) follows h = tt
+pub front-full : (there later : Option (List ℕ)) (bytes : List ℕ) (most : ℕ) → Consumes there later bytes → length bytes ≡ most → IfSome there (λ all. bytes ≡ take most all)
+front-full None later bytes most told full = tt
+front-full (Some all) None bytes most told full = absurd told
+front-full (Some all) (Some later) bytes most told full =
+    sym (ap (λ l. take most l) told ∙ front-of most bytes later (omega (arith, full)) ∙ take_all most bytes (omega (arith, full)))
+
+-- a file that was opened, and of which a read failed, was asked for
+pub failed-asked : {X R : Type 0} (opened : List ℕ → R → Type 0) (unopened : List ℕ → Type 0) (reads : ByteReader R) (name : List ℕ) (reader : R) (result : Result X Unread)
+    → opened name reader → IsNewReader reads reader → IfErr result (λ fault. fault ≡ Unreads.Failed → (ended : R) × (reads.failures ended ≡ saturated (reads.failures reader + 1)))
+    → IfErr result (λ fault. fault ≡ Unreads.Failed → IsAsked opened unopened reads name)
+failed-asked opened unopened reads name reader (Ok x) is_opened fresh told = tt
+failed-asked opened unopened reads name reader (Err fault) is_opened fresh told = λ failed.
+    let it = told failed in
+    Failed reader it.0 is_opened fresh (it.1 ∙ ap (λ n. saturated (n + 1)) fresh.unfailed)
 
 -- one more file was read behind those that were
 read-more : {H R : Type 0} (opened : H → H → List ℕ → R → Type 0) (remaining : R → Option (List ℕ)) (old mid new : H) (names files : List (List ℕ)) (name bytes : List ℕ)
@@ -28,11 +47,6 @@ read-more opened remaining old mid new [] [] name bytes are front = (new, rw are
 read-more opened remaining old mid new (n ∷ names) (f ∷ files) name bytes are front = (are.0, are.1, read-more opened remaining are.0 mid new names files name bytes are.2 front)
 read-more opened remaining old mid new [] (f ∷ files) name bytes are front = absurd are
 read-more opened remaining old mid new (n ∷ names) [] name bytes are front = absurd are
-
-front-of : (n : ℕ) (xs ys : List (List ℕ)) → n ≤ length xs → take n (xs ++ ys) ≡ take n xs
-front-of zero xs ys h = refl
-front-of (suc n) [] ys h = absurd (omega (arith, h))
-front-of (suc n) (x ∷ xs) ys h = ap (λ l. x ∷ l) (front-of n xs ys (omega (arith, h)))
 
 -- the first of all and one more are those that are kept
 kept-more : (all : List (List ℕ)) (bytes : List ℕ) → kept_with (take 32 all) bytes ≡ take 32 (all ++ bytes ∷ [])
@@ -71,12 +85,16 @@ name-there [] place d h = absurd (omega (arith, h))
 name-there (n ∷ ns) zero d h = refl
 name-there (n ∷ ns) (suc k) d h = name-there ns k d (omega (arith, h))
 
+-- so the files in front of it were read, where those up to its place were
+pub read-to : {H R : Type 0} (opened : H → H → List ℕ → R → Type 0) (remaining : R → Option (List ℕ)) (old before : H) (names : List (Bor (List ℕ))) (all files : List (List ℕ)) (place : ℕ) (name d : Bor (List ℕ))
+    → map (λ n. n.now) names ≡ all → place < length names → name ≡ slice_index_or names place d → AreSoFar opened remaining old before all files place → AreReadTo opened remaining old before all place name.now
+read-to opened remaining old before names all files place name d same within is far = record {
+  is_there = rw (← same) (name-there names place d within ∙ ap (λ n. Some n.now) (sym is));
+  files = far.all;
+  read = far.read;
+}
+
 pub name-at : (names : List (Bor (List ℕ))) (place : ℕ) (d : Bor (List ℕ)) → place < length names → slice_index_or (map (λ n. n.now) names) place [] ≡ (slice_index_or names place d).now
 name-at [] place d h = absurd (omega (arith, h))
 name-at (n ∷ ns) zero d h = refl
 name-at (n ∷ ns) (suc k) d h = name-at ns k d (omega (arith, h))
-
--- what always is, is where a result is an error
-pub on-error : {X E : Type 0} {P : Type 0} (r : Result X E) → P → OnErr r P
-on-error (Ok x) h = tt
-on-error (Err e) h = h

@@ -1,6 +1,7 @@
 -- What a program asks of a machine, and what it answers (this project's profile).
-use Rattle.std.specs.Prelude.{ℕ, List}
+use Rattle.std.specs.Prelude.{◌≡◌, ℕ, true, List}
 use Rattle.std.specs.declared.io.ErrorKind.{ErrorKind}
+use Rattle.fx_io.specs.Io.{ByteReader, ByteWriter}
 
 -- A machine, by what it answered to one call: the words behind the program's name, or why they could not be had; a standard stream;
 -- or by what the call left to it: standard output, to which nothing more is written.
@@ -15,3 +16,13 @@ pub record Machine (I O : Type 0) : Type 1 where
 pub record Opened (H R : Type 0) : Type 1 where
   pub opened : H → H → List ℕ → R → Type 0
   pub unopened : H → H → List ℕ → Type 0
+
+-- nothing was read of it yet, and no call of it failed
+pub record IsNewReader {R : Type 0} (reads : ByteReader R) (reader : R) : Type 0 where
+  pub untold : reads.told reader ≡ 0
+  pub unfailed : reads.failures reader ≡ 0
+
+-- nothing waits to be handed on, and no call of it failed
+pub record IsNewWriter {W : Type 0} (writes : ByteWriter W) (writer : W) : Type 0 where
+  pub flushed : writes.flushed writer ≡ true
+  pub unfailed : writes.failures writer ≡ 0

@@ -2,22 +2,24 @@
 ghost use Rattle.std.specs.Prelude.{IfErr, IfOk, ⊤};
 ghost use Rattle.std.specs.IoError.{error_kind};
 ghost use Rattle.fx_line.specs.Line.{texts};
-ghost use Rattle.soxchain_words.specs.Desks.{Machine};
+ghost use Rattle.soxchain_words.specs.Desks.{IsNewWriter, IsNewReader, Machine};
 
 use crate::files::Openings;
 use crate::words::words_of;
+use fx_frame::{ByteIn, ByteOut, Counted};
 use std::alloc::Global;
 use std::io;
-use std::io::{Read, Stdin, Stdout, Write};
+use std::io::{Stdin, Stdout};
 
 /// What both programs ask of the machine. What a program does with the answers is proved over any such machine. It is another one
-/// after each call, as one that opens files is: so what is proved says all that the program asks, and in which order.
+/// after each call, as one that opens files is: so what is proved says all that the program asks, and in which order. Its streams
+/// count the calls that failed: so no program can say that one did where none did.
 pub trait Desk: Openings {
     /// Standard input.
-    type Input: Read + Drop;
+    type Input: ByteIn + Drop;
 
     /// Standard output.
-    type Output: Write + Drop;
+    type Output: ByteOut + Drop;
 
     // What it answered to the call between the one and the other.
     ghost machine: { Self → Self → Machine Self.Input Self.Output };
@@ -32,11 +34,13 @@ pub trait Desk: Openings {
 
     /// Standard input.
     fn input(&mut self) -> Self::Input
-        ensures { (machine self.old self.new).is_input result };
+        ensures input { (machine self.old self.new).is_input result }
+        ensures fresh { IsNewReader Self.Input.reads result };
 
     /// Standard output.
     fn output(&mut self) -> Self::Output
-        ensures { (machine self.old self.new).is_output result };
+        ensures output { (machine self.old self.new).is_output result }
+        ensures fresh { IsNewWriter Self.Output.writes result };
 
     /// Leaves standard output as it is: nothing more is written to it.
     fn leave(&mut self, output: Self::Output)
@@ -44,9 +48,9 @@ pub trait Desk: Openings {
 }
 
 impl Desk for HostRuntime {
-    type Input = Stdin;
+    type Input = Counted<Stdin>;
 
-    type Output = Stdout;
+    type Output = Counted<Stdout>;
 
     // Of the machine itself nothing is known.
     ghost machine = { λ _ _. record { asked = λ _. ⊤; mute = λ _. ⊤; is_input = λ _. ⊤; is_output = λ _. ⊤; left = λ _. ⊤ } };
@@ -59,13 +63,13 @@ impl Desk for HostRuntime {
         words_of(self)
     }
 
-    fn input(&mut self) -> Stdin {
-        self.stdin()
+    fn input(&mut self) -> Counted<Stdin> {
+        Counted::new(self.stdin())
     }
 
-    fn output(&mut self) -> Stdout {
-        self.stdout()
+    fn output(&mut self) -> Counted<Stdout> {
+        Counted::new(self.stdout())
     }
 
-    fn leave(&mut self, _output: Stdout) {}
+    fn leave(&mut self, _output: Counted<Stdout>) {}
 }

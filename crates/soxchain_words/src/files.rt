@@ -1,17 +1,22 @@
 //! The coefficient files that the words name.
-ghost use Rattle.std.specs.Prelude.{◌≡◌, ◌+◌, ◌^◌, true, false, List, ℕ, IfErr, IfOk, IfSome, OnErr, take, ⊤};
+ghost use Rattle.std.specs.Prelude.{◌≡◌, ◌+◌, ◌^◌, List, ℕ, IfErr, IfOk, IfSome, take, ⊤};
+ghost use Rattle.fx_io.specs.Io.{saturated};
 ghost use Rattle.fx_plan.specs.CommandLines.{coefficient_files, effects_in};
 ghost use Rattle.fx_plan.specs.Plans.{bytes_of};
+ghost use Rattle.soxchain_words.specs.Desks.{IsNewReader};
 ghost use Rattle.soxchain_words.specs.Files.{AreFronts, IsAsked, IsFront, IsOfFiles, kept_with};
 
+use fx_frame::{ByteIn, Counted};
 use fx_plan::CommandLine;
 use std::alloc::Global;
 use std::fs::File;
 use std::io;
-use std::io::Read;
 
 /// The most bytes that are read of a coefficient file: one more than it may have.
-const MOST_READ: u64 = 0x10_0001;
+const MOST_READ: usize = 0x10_0001;
+
+/// The most bytes that are asked for at once.
+const PIECE: usize = 0x1000;
 
 /// The most files whose bytes are kept: as many as a line may have effects.
 const MOST_KEPT: usize = 32;
@@ -19,7 +24,7 @@ const MOST_KEPT: usize = 32;
 /// What opens files to read. It is another one after each call: so contracts say which calls there were, and that there was no
 /// other.
 pub trait Openings {
-    type Reader: Read + Drop;
+    type Reader: ByteIn + Drop;
 
     // Was the file of this name opened so, between the one and the other?
     ghost opened: { Self → Self → List ℕ → Self.Reader → Type 0 };
@@ -30,58 +35,94 @@ pub trait Openings {
     /// Opens the file of this name.
     fn open(&mut self, name: &str) -> io::Result<Self::Reader>
         ensures opened { IfOk result (λ reader. opened self.old self.new name.now reader) }
+        ensures fresh { IfOk result (IsNewReader Self.Reader.reads) }
         ensures refused { IfErr result (λ _. unopened self.old self.new name.now) };
 }
 
 impl Openings for HostRuntime {
-    type Reader = File;
+    type Reader = Counted<File>;
 
     // Of the files of the machine nothing is known.
     ghost opened = { λ _ _ _ _. ⊤ };
 
     ghost unopened = { λ _ _ _. ⊤ };
 
-    fn open(&mut self, name: &str) -> io::Result<File> {
-        File::open(self, name)
+    fn open(&mut self, name: &str) -> io::Result<Counted<File>> {
+        Ok(Counted::new(File::open(self, name)?))
     }
 }
 
+/// Why the bytes of a file are not there.
+#[derive(Clone, Copy, Debug, Drop, PartialEq, Eq)]
+enum Unread {
+    /// It cannot be opened, or a read of it failed.
+    Failed,
+    /// No memory was found for them.
+    Memory,
+}
+
 /// What a reader tells, at most `MOST_READ` bytes of it.
-fn read_front<R: Read + Drop>(alloc: Global, reader: R) -> io::Result<Vec<u8>>
-    ensures { IfOk result (λ bytes. IfSome (R.remaining reader) (λ all. bytes.items ≡ take (2 ^ 20 + 1) all)) }
+fn read_front<R: ByteIn + Drop>(alloc: Global, reader: R) -> Result<Vec<u8>, Unread>
+    ensures front { IfOk result (λ bytes. IfSome (R.reads.rest reader) (λ all. bytes.items ≡ take (2 ^ 20 + 1) all)) }
+    ensures failed { IfErr result (λ fault. fault ≡ Unread.Failed → (ended : R) × (R.reads.failures ended ≡ saturated (R.reads.failures reader + 1))) }
 {
+    let mut reader = reader;
     let mut bytes = Vec::new(alloc);
-    reader.take(MOST_READ).read_to_end(&mut bytes)?;
+    let mut piece = [0; PIECE];
+    while bytes.len() < MOST_READ {
+        let most = PIECE.min(MOST_READ - bytes.len());
+        let Ok(told) = reader.read(&mut piece[..most]) else {
+            return Err(Unread::Failed);
+        };
+        if told == 0 {
+            return Ok(bytes);
+        }
+        let Ok(()) = bytes.extend_from_slice(&piece[..told]) else {
+            return Err(Unread::Memory);
+        };
+    }
     Ok(bytes)
 }
 
 /// The first bytes of the file of this name.
-fn read_file<H: Openings>(alloc: Global, host: &mut H, name: &str) -> io::Result<Vec<u8>>
-    ensures read { IfOk result (λ bytes. IsFront (H.opened host.old host.new) H.Reader.remaining name.now bytes.items) }
-    ensures asked { OnErr result (IsAsked (H.opened host.old host.new) (H.unopened host.old host.new) name.now) }
+fn read_file<H: Openings>(alloc: Global, host: &mut H, name: &str) -> Result<Vec<u8>, Unread>
+    ensures read { IfOk result (λ bytes. IsFront (H.opened host.old host.new) H.Reader.reads.rest name.now bytes.items) }
+    ensures failed { IfErr result (λ fault. fault ≡ Unread.Failed → IsAsked (H.opened host.old host.new) (H.unopened host.old host.new) H.Reader.reads name.now) }
+    ensures forgotten { IfErr result (λ fault. fault ≡ Unread.Memory → (reader : H.Reader) × H.opened host.old host.new name.now reader) }
 {
-    let reader = host.open(name)?;
+    let Ok(reader) = host.open(name) else {
+        return Err(Unread::Failed);
+    };
     read_front(alloc, reader)
 }
 
-/// Reads the file of this name, and adds its bytes to those of the files before it where they are to be kept. False where it
-/// cannot be opened or read, or its bytes find no memory.
-fn read_next<H: Openings>(alloc: Global, host: &mut H, name: &str, files: &mut Vec<Vec<u8>>) -> bool
-    ensures asked { result ≡ false → IsAsked (H.opened host.old host.new) (H.unopened host.old host.new) name.now }
-    ensures read { result ≡ true → (bytes : List ℕ) × IsFront (H.opened host.old host.new) H.Reader.remaining name.now bytes × (bytes_of files.new.items ≡ kept_with (bytes_of files.old.items) bytes) }
+/// Reads the file of this name, and adds its bytes to those of the files before it where they are to be kept.
+fn read_next<H: Openings>(
+    alloc: Global,
+    host: &mut H,
+    name: &str,
+    files: &mut Vec<Vec<u8>>,
+) -> Result<(), Unread>
+    ensures read { IfOk result (λ _. (bytes : List ℕ) × IsFront (H.opened host.old host.new) H.Reader.reads.rest name.now bytes × (bytes_of files.new.items ≡ kept_with (bytes_of files.old.items) bytes)) }
+    ensures failed { IfErr result (λ fault. fault ≡ Unread.Failed → IsAsked (H.opened host.old host.new) (H.unopened host.old host.new) H.Reader.reads name.now) }
+    ensures forgotten { IfErr result (λ fault. fault ≡ Unread.Memory → (reader : H.Reader) × H.opened host.old host.new name.now reader) }
 {
-    let Ok(bytes) = read_file(alloc, host, name) else {
-        return false;
+    let bytes = match read_file(alloc, host, name) {
+        Ok(bytes) => bytes,
+        Err(fault) => return Err(fault),
     };
-    files.len() >= MOST_KEPT || files.push(bytes).is_ok()
+    if files.len() < MOST_KEPT && files.push(bytes).is_err() {
+        return Err(Unread::Memory);
+    }
+    Ok(())
 }
 
 /// Why the coefficient files of a line are not there.
 #[derive(Clone, Copy, Debug, Drop, PartialEq, Eq)]
 pub enum FilesFault<'a> {
-    /// The file of this name cannot be opened or read, or no memory was found for its bytes.
+    /// The file of this name cannot be opened or read.
     CannotRead(&'a str),
-    /// No memory was found for the list of names.
+    /// No memory was found for the list of names, or for the bytes of a file.
     Memory,
 }
 
@@ -93,8 +134,8 @@ pub fn read_files<'a, H: Openings>(
     host: &mut H,
     line: &'a CommandLine,
 ) -> Result<Vec<Vec<u8>>, FilesFault<'a>>
-    ensures each { IfOk result (λ files. AreFronts H.opened H.Reader.remaining host.old host.new (coefficient_files (effects_in line.now)) (bytes_of files.items)) }
-    ensures named { IfErr result (IsOfFiles H.opened H.unopened H.Reader.remaining host.old host.new (coefficient_files (effects_in line.now))) }
+    ensures each { IfOk result (λ files. AreFronts H.opened H.Reader.reads.rest host.old host.new (coefficient_files (effects_in line.now)) (bytes_of files.items)) }
+    ensures named { IfErr result (IsOfFiles H.opened H.unopened H.Reader.reads host.old host.new (coefficient_files (effects_in line.now))) }
 {
     let Ok(names) = line.coefficient_files(alloc) else {
         return Err(FilesFault::Memory);
@@ -102,8 +143,10 @@ pub fn read_files<'a, H: Openings>(
     let mut files = Vec::new(alloc);
     for place in 0..names.len() {
         let name = names[place];
-        if !read_next(alloc, host, name, &mut files) {
-            return Err(FilesFault::CannotRead(name));
+        match read_next(alloc, host, name, &mut files) {
+            Ok(()) => {}
+            Err(Unread::Failed) => return Err(FilesFault::CannotRead(name)),
+            Err(Unread::Memory) => return Err(FilesFault::Memory),
         }
     }
     Ok(files)

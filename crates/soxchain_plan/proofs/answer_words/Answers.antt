@@ -4,7 +4,7 @@ use Rattle.soxchain_plan.specs.Answering.{BadWords, Shown, Worked}
 use Rattle.soxchain_plan.proofs.answer_words.Goals as goal
 
 pub returns-in-Some : goal.returns-in-Some
-returns-in-Some g c = Shown c.in-Some.text.now (sym c.in-Some.ensures) c.show_text.ensures
+returns-in-Some g c = Shown c.in-Some.text.now (sym c.in-Some.ensures) (rw (c.as_bytes.ensures.value) at c.show.ensures)
 
 pub returns-in-Ok : goal.returns-in-Ok
 returns-in-Ok g c =

@@ -1,10 +1,10 @@
 use Rattle.std.proofs.KnownBytes.{Appends-trans}
 use Rattle.soxchain_plan.proofs.ShownLemmas.{stop_json-parts}
-use Rattle.soxchain_plan.proofs.Writing.{appends_both, appends_flushed}
+use Rattle.soxchain_plan.proofs.Writing.{appends_then}
 use Rattle.soxchain_plan.proofs.quoting.show_stop.Goals as goal
 
 pub returns : goal.returns
 returns g c =
-    appends_flushed _ _ _ _ _ (appends_both _ _ _ _ _ _ (stop_json-parts c.args.status c.args.message.now c.args.advice.now)
+    appends_then _ _ _ _ _ _ _ (stop_json-parts c.args.status c.args.message.now c.args.advice.now)
     (Appends-trans _ _ _ _ _ (Appends-trans _ _ _ _ _ (Appends-trans _ _ _ _ _ c.in_ok-write.ensures.bytes c.in_ok-show_string.ensures) c.in_ok-write-2.ensures.bytes) (rw c.as_bytes.ensures.value at c.in_ok-show_string-2.ensures))
-    c.in_ok-writeln.ensures.bytes) c.flush.ensures.bytes
+    c.writeln.ensures.bytes

@@ -1,10 +1,17 @@
 use Rattle.std.proofs.Common.{◌≡◌, Some, refl}
-use Rattle.fx_io.specs.Counted.{counted_reads}
 use Rattle.fx_heads.specs.Source.{to_come}
 use Rattle.soxchain_plan.proofs.Heading.{known-head}
 use Rattle.soxchain_plan.proofs.reading.head_from.Goals as goal
 
 pub returns : goal.returns
-returns g c = λ bytes e.
-    let come : to_come (counted_reads g.R.Read.remaining).rest c.new-2.result ≡ Some bytes = rw (c.new-2.ensures.bytes, c.new-2.ensures.reader, c.new.ensures.inner, e) refl in
-    rw (← c.input_kind.ensures) (known-head (counted_reads g.R.Read.remaining) c.input_kind.result c.new-2.result c.read_head.new.source bytes c.read_head.result come c.read_head.ensures.head c.read_head.ensures.fault)
+returns g c =
+    let reads = g.R.ByteIn.reads in
+    let source = c.new-source.result in
+    let new = c.new-source.ensures in
+    record {
+      ended = c.read_head.new.source.reader;
+      is_head = λ bytes known.
+          let come : to_come reads.rest source ≡ Some bytes = rw (new.bytes, new.reader, known) refl in
+          rw (← c.input_kind.ensures) (known-head reads c.input_kind.result source c.read_head.new.source bytes c.read_head.result come c.read_head.ensures.head c.read_head.ensures.fault);
+      failures = rw new.reader at c.read_head.ensures.failures;
+    }

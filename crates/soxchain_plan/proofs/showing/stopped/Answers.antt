@@ -1,32 +1,15 @@
-use Rattle.std.proofs.Common.{refl, rules}
+use Rattle.std.proofs.Common.{refl}
 use Rattle.soxchain_plan.specs.Answering.{Quoted, Told, Unquoted}
 use Rattle.soxchain_plan.proofs.showing.stopped.Goals as goal
 
 pub returns-in-Text : goal.returns-in-Text
-returns-in-Text g c = Told c.advice-advice.result.now c.in-Text.is refl c.tell-status.ensures.told c.tell-status.ensures.status
+returns-in-Text g c = Told c.advice-advice.result.now c.in-Text.is refl c.tell-status.ensures
 
-pub returns-then-is_whole : goal.returns-then-is_whole
-returns-then-is_whole g c =
-    Quoted c.advice-advice.result.now c.message-message.result.items c.in-Json.is c.tell-status.ensures.told c.message-message.ensures
-    (record {
-      next = c.output-output.new.self;
-      output = c.output-output.result;
-      ended = c.show_stop.new.writer;
-      is_output = c.output-output.ensures;
-      has = rw (← c.deref.ensures.value, ← c.tell-status.ensures.status) (search rules);
-      left = c.leave.ensures;
-    })
-    c.tell-status.ensures.status
+pub returns-in-Some : goal.returns-in-Some
+returns-in-Some g c =
+    Quoted c.advice-advice.result.now c.tell-status.new.messages c.in-Json.is (record { told = c.tell-status.ensures.told; status_is = refl })
+    (rw (c.deref.ensures.value, c.in-Some.ensures, c.tell-status.ensures.status_is) at c.show.ensures)
 
-pub returns : goal.returns
-returns g c =
-    Unquoted c.advice-advice.result.now c.tell-status.new.messages c.in-Json.is c.tell-status.ensures.told
-    (record {
-      next = c.output-output.new.self;
-      output = c.output-output.result;
-      ended = c.show_stop.new.writer;
-      is_output = c.output-output.ensures;
-      has = tt;
-      left = c.leave.ensures;
-    })
-    c.tell_failed.ensures
+pub returns-in-None : goal.returns-in-None
+returns-in-None g c =
+    Unquoted c.advice-advice.result.now c.tell.ensures.0 c.tell-status.new.messages c.in-Json.is refl (record { told = c.tell-status.ensures.told; status_is = refl }) c.tell.ensures.1

@@ -1,29 +1,34 @@
-use Rattle.std.proofs.Common.{◌≡◌, ◌<◌, ◌∙◌, ap, arith, length, [], slice_index_or, sym}
-use Rattle.std.specs.Prelude.{Some}
+use Rattle.std.proofs.Common.{◌≡◌, ◌<◌, ◌∙◌, ap, arith, length, refl, [], slice_index_or, sym}
 use Rattle.std.proofs.lemmas.List.{length-map}
 use Rattle.fx_plan.specs.CommandLines.{coefficient_files, effects_in}
 use Rattle.fx_plan.specs.Plans.{bytes_of}
-use Rattle.soxchain_words.proofs.Fronts.{name-at, name-there, one-on}
+use Rattle.soxchain_words.specs.Files.{Bytes, Names}
+use Rattle.soxchain_words.proofs.Fronts.{name-at, one-on, read-to}
 use Rattle.soxchain_words.proofs.files.read_files.Goals as goal
 
--- src/files.rt:100:13
-pub returns-then-not-read_next-clause-named : goal.returns-then-not-read_next-clause-named
-returns-then-not-read_next-clause-named g c =
+pub returns-in_default-clause-named : goal.returns-in_default-clause-named
+returns-in_default-clause-named g c = Names refl
+
+pub returns-in-Err-Failed-clause-named : goal.returns-in-Err-Failed-clause-named
+returns-in-Err-Failed-clause-named g c =
     let names = c.in-Ok.names.items in
-    let place = c.loop-place.place in
-    let name = c.index-name.result.now in
-    let within : place < length names = omega (arith, c.loop-place-test.true) in
-    let far = c.loop-place.invariant in
+    let within : c.loop-place.place < length names = omega (arith, c.loop-place-test.true) in
     record {
-      place = place;
-      is_there = rw (← c.in-Ok.ensures) (name-there names place name within ∙ ap (λ n. Some n.now) (sym c.index-name.ensures));
+      place = c.loop-place.place;
       before = c.loop-place.host;
-      files = far.all;
-      read = far.read;
-      asked = c.read_next.ensures.asked c.if-not-read_next.true;
+      front = read-to _ _ _ _ names _ _ c.loop-place.place c.index-name.result.now _ c.in-Ok.ensures within c.index-name.ensures c.loop-place.invariant;
+      asked = c.in-Err-Failed.ensures.failed c.in-Err-Failed.field-0-is;
     }
 
--- src/files.rt:98:5
+pub returns-in-Err-Memory-clause-named : goal.returns-in-Err-Memory-clause-named
+returns-in-Err-Memory-clause-named g c =
+    let names = c.in-Ok.names.items in
+    let within : c.loop-place.place < length names = omega (arith, c.loop-place-test.true) in
+    let opened = c.in-Err-Memory.ensures.forgotten c.in-Err-Memory.field-0-is in
+    Bytes c.loop-place.place c.index-name.result.now.now c.loop-place.host opened.0
+    (read-to _ _ _ _ names _ _ c.loop-place.place c.index-name.result.now _ c.in-Ok.ensures within c.index-name.ensures c.loop-place.invariant)
+    opened.1
+
 pub loop-place-preserved : goal.loop-place-preserved
 loop-place-preserved g c =
     let names = c.in-Ok.names.items in
@@ -33,6 +38,6 @@ loop-place-preserved g c =
     let within : place < length names = omega (arith, c.loop-place-test.true) in
     let is-name : slice_index_or all place [] ≡ name.now = rw (← c.in-Ok.ensures) (name-at names place name within ∙ ap (λ n. n.now) (sym c.index-name.ensures)) in
     let there : place < length all = rw (← c.in-Ok.ensures) (omega (arith, within, length-map names (λ n. n.now))) in
-    let read = c.read_next.ensures.read (c.if-not-read_next.false) in
-    let far = one-on g.H.Openings.opened g.H.Reader.Read.remaining c.args.host.now c.loop-place.host c.read_next.new.host all (bytes_of c.loop-place.files.items) place name.now read.0 c.loop-place.invariant there is-name read.1 in
+    let read = c.in-Ok-read_next.ensures.read in
+    let far = one-on g.H.Openings.opened g.H.Reader.ByteIn.reads.rest c.args.host.now c.loop-place.host c.read_next.new.host all (bytes_of c.loop-place.files.items) place name.now read.0 c.loop-place.invariant there is-name read.1 in
     rw (read.2) far

@@ -1,5 +1,16 @@
-use Rattle.soxchain_words.proofs.Fronts.{front-known}
+use Rattle.std.proofs.Common.{◌≡◌, ◌<◌, length, rules}
+use Rattle.soxchain_words.proofs.Fronts.{front-ended, front-full}
 use Rattle.soxchain_words.proofs.files.read_front.Goals as goal
 
-pub returns : goal.returns
-returns g c = front-known g.R.Read.remaining c.take.result c.args.reader _ c.new-bytes.result.items c.read_to_end.new.buf.items c.take.ensures.limit c.take.ensures.inner c.new-bytes.ensures.items c.in_ok-read_to_end.ensures.bytes
+pub returns-then-told-eq0-clause-front : goal.returns-then-told-eq0-clause-front
+returns-then-told-eq0-clause-front g c =
+    let rest = g.R.ByteIn.reads.rest in
+    let asked : 0 < length c.read.new.buffer = search rules in
+    front-ended (rest c.args.reader) (rest c.loop-piece.reader) (rest c.read.new.self) c.loop-piece.bytes.items c.read.new.buffer c.in-Ok.told 1048577
+    c.loop-piece.invariant.came c.in-Ok.ensures.bytes c.if-told-eq0.true (c.in-Ok.ensures.end c.if-told-eq0.true asked) c.loop-piece.invariant.few
+
+pub returns-clause-front : goal.returns-clause-front
+returns-clause-front g c =
+    let rest = g.R.ByteIn.reads.rest in
+    let full : length c.loop-piece.bytes.items ≡ 1048577 = search rules in
+    front-full (rest c.args.reader) (rest c.loop-piece.reader) c.loop-piece.bytes.items 1048577 c.loop-piece.invariant.came full
