@@ -100,8 +100,8 @@ impl Chain {
     /// Takes frames from the front of the input, and writes those that are given to the front of the output: samples of
     /// frames lie one after another, channel by channel. Each frame goes through all effects before the next one is taken, as
     /// by `take` and `step`; until the output has no room for another frame, or the chain is done, or it is hungry and takes
-    /// none, since the input is used up or some effect gives nothing more. Where the output has no room for one frame, no frame
-    /// is taken.
+    /// none, since the input is used up or some effect gives nothing more. Where the output has no room for one frame, nothing
+    /// changes.
     pub fn feed(&mut self, input: &[i32], output: &mut [i32]) -> Passed
         requires channels { (1 ≤ self.old.plan.head.channels) × (self.old.plan.head.channels ≤ 16) }
         requires few { (n : ℕ) → n * self.old.plan.head.channels ≤ length input.now → taken_of self.old.flow + n ≤ most_frames }
@@ -113,6 +113,7 @@ impl Chain {
         ensures used { let outputs = outputs_of self.old.plan.head.channels (kinds effect_acts self.old.flow.stages) in result.given * outputs + outputs ≤ length output.new → self.new.flow.ended ≡ false → any_spent effect_acts self.new.flow.stages ≡ false
             → length input.now < result.taken * self.old.plan.head.channels + self.old.plan.head.channels }
         ensures none { length output.old < outputs_of self.old.plan.head.channels (kinds effect_acts self.old.flow.stages) → result.taken ≡ 0 }
+        ensures still { length output.old < outputs_of self.old.plan.head.channels (kinds effect_acts self.old.flow.stages) → self.new ≡ self.old }
         ensures plan { self.new.plan ≡ self.old.plan }
     {
         self.flow.feed(input, output)

@@ -144,7 +144,7 @@ impl<R: ByteIn> Source<R> {
         Ok(())
     }
 
-    /// Fills `out` with the next bytes, of which fewer come only where the input ends.
+    /// Fills `out` with the next bytes, of which fewer come only where the input ends. The rest of `out` stays as it is.
     pub fn fill(&mut self, out: &mut [u8]) -> Result<usize, Failed>
         requires { length out.old ≤ BUFFER_SIZE }
         ensures count { IfOk result (λ n. n ≤ length out.new) }
@@ -153,6 +153,8 @@ impl<R: ByteIn> Source<R> {
         ensures all { IfOk result (λ n. n < length out.new → IfKnown (to_come R.reads.rest self.old) (λ bytes. n ≡ length bytes)) }
         ensures told { IfOk result (Takes R.reads.told self.old self.new) }
         ensures short { OnErr result (FallsShort R.reads.told self.old self.new.reader (length out.new)) }
+        ensures unwritten { OnErr result (out.new ≡ out.old) }
+        ensures behind { IfOk result (λ n. drop n out.new ≡ drop n out.old) }
         ensures failures { CountsFailure (R.reads.failures self.old.reader) (R.reads.failures self.new.reader) result }
     {
         self.hold(out.len())?;
@@ -162,7 +164,7 @@ impl<R: ByteIn> Source<R> {
         Ok(n)
     }
 
-    /// Takes `most` bytes off what is to come, or all there are, and says how many.
+    /// Takes `most` bytes off what is to come, or all there are, and says how many. Where a read fails no byte is held.
     pub fn skip(&mut self, most: usize) -> Result<usize, Failed>
         ensures count { IfOk result (λ n. n ≤ most) }
         ensures bytes { IfOk result (λ n. IfKnown (to_come R.reads.rest self.old) (λ bytes.
@@ -170,6 +172,7 @@ impl<R: ByteIn> Source<R> {
         ensures all { IfOk result (λ n. n < most → IfKnown (to_come R.reads.rest self.old) (λ bytes. n ≡ length bytes)) }
         ensures told { IfOk result (Takes R.reads.told self.old self.new) }
         ensures short { OnErr result (FallsShort R.reads.told self.old self.new.reader most) }
+        ensures none { OnErr result (self.new.bytes ≡ []) }
         ensures failures { CountsFailure (R.reads.failures self.old.reader) (R.reads.failures self.new.reader) result }
     {
         let mut got = 0;

@@ -58,8 +58,9 @@ pub trait Rewind: ByteOut {
     // The place of the next byte, counted from 0, where it is known.
     ghost place: { Self → Option ℕ };
 
-    /// Goes back to the first byte: what is written then stands over what was.
+    /// Goes back to the first byte: what is written then stands over what was. It hands on none of it.
     fn rewind(&mut self) -> Result<(), Failed>
         ensures start { IfOk result (λ _. IfSome (place self.old) (λ _. place self.new ≡ Some 0)) }
+        ensures flushed { Self.writes.flushed self.new ≡ Self.writes.flushed self.old }
         ensures failures { CountsFailure (Self.writes.failures self.old) (Self.writes.failures self.new) result };
 }

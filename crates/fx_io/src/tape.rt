@@ -1,6 +1,6 @@
 //! A reader over bytes in memory, for tests.
 
-ghost use Rattle.std.specs.Prelude.{◌≡◌, ◌<◌, ◌≤◌, ◌↔◌, min, Some, IfOk, OnErr, IsErr, length, take};
+ghost use Rattle.std.specs.Prelude.{◌≡◌, ◌<◌, ◌≤◌, ◌↔◌, min, Some, IfOk, OnErr, IsErr, drop, length, take};
 ghost use Rattle.std.specs.Io.KnownBytes.{Consumes, IsAtEnd};
 ghost use Rattle.fx_io.specs.Io.{CountsBytes, CountsFailure};
 ghost use Rattle.fx_io.specs.Device.{RefusesNext, device_after};
@@ -68,6 +68,8 @@ impl ByteIn for Tape {
         ensures refused { IsErr result ↔ RefusesNext self.old.device }
         ensures counted { self.new.device ≡ device_after self.old.device result }
         ensures err { OnErr result (self.new.bytes ≡ self.old.bytes) }
+        ensures unwritten { OnErr result (buffer.new ≡ buffer.old) }
+        ensures behind { IfOk result (λ n. drop n buffer.new ≡ drop n buffer.old) }
     {
         self.device.call()?;
         let left = self.bytes.len() - self.position;

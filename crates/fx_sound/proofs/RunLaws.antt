@@ -46,6 +46,15 @@ Ran-start p bytes to_come e =
       to_come_is = e ∙ ap (λ m. Some (drop m bytes)) (sym none);
     }
 
+-- behind the last frame the rest of the sound is dropped too
+pub Ran-behind : (first now : Reading) (bytes : List ℕ) (n : ℕ) (to_come new_to_come : Option (List ℕ)) → Ran first now bytes n to_come
+    → new_to_come ≡ Some (drop (length (within now.left (drop (n * size_of first) bytes))) (drop (n * size_of first) bytes)) → new_to_come ≡ Some (drop (length (within first.left bytes)) bytes)
+Ran-behind first now bytes n to_come new_to_come r o =
+    let k : ℕ = n * size_of first in
+    let left : now.left ≡ beyond first.left k = ap (λ p. p.left) r.now_is in
+    let rest : length (within now.left (drop k bytes)) ≡ length (within first.left bytes) - k = ap (λ o. length (within o (drop k bytes))) left ∙ length-within_beyond first.left k bytes in
+    o ∙ ap (λ m. Some (drop m (drop k bytes))) rest ∙ ap Some (drop-drop (length (within first.left bytes) - k) k bytes ∙ ap (λ m. drop m bytes) (omega (arith, r.whole)))
+
 -- one frame more is counted
 pub after_frames-more : (p : Reading) (n : ℕ) → after_frame (after_frames p n) ≡ after_frames p (n + 1)
 after_frames-more p n =

@@ -272,6 +272,7 @@ impl Output {
         ensures sent { SendsOn (W.writes.taken writer.old) (W.writes.taken writer.new) self.old self.new }
         ensures count { bytes_put self.new ≡ bytes_put self.old }
         ensures empty { OnOk result (self.new.bytes ≡ []) }
+        ensures room { OnOk result (self.new.room ≡ BUFFER_SIZE) }
         ensures flushed { OnOk result (W.writes.flushed writer.new ≡ true) }
         ensures failures { CountsFailure (W.writes.failures writer.old) (W.writes.failures writer.new) result }
     {

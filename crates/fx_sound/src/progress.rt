@@ -2,7 +2,7 @@
 
 ghost use Rattle.std.specs.Prelude.{◌≡◌, ◌≤◌, ◌<◌, ◌+◌, ◌-◌, ◌*◌, drop, false, true, None, Some, IfOk, IfSome, IfNone, OnErr, OnSome, MatchBool, Ok, Err, length, min};
 ghost use Rattle.fx_io.specs.Io.{saturated};
-ghost use Rattle.fx_heads.specs.Source.{to_come, Takes, FallsShort};
+ghost use Rattle.fx_heads.specs.Source.{to_come, FallsShort, Stays, Takes};
 ghost use Rattle.fx_heads.specs.Known.{IfKnown};
 ghost use Rattle.fx_sound.specs.Sound.{size_of, within, at_most_announced, after_frame, after_end, TakesFrame, EndsSound};
 ghost use Rattle.fx_sound.specs.Container.{after_frames};
@@ -194,8 +194,8 @@ impl Progress {
 /// The next frame of the sound; `None` for good at its end, that is, at the announced size or the
 /// end of the input.
 ///
-/// No read is asked for once the announced bytes are there. After a `ReadFault` the source is used
-/// only for `into_inner`, and the progress only for its counts.
+/// No read is asked for once the announced bytes are there. After `TooLong` what is to come is as it was. After `ReadFailed` the
+/// source is used only for `into_inner`, and the progress only for its counts.
 #[inline]
 pub fn next_frame<R: ByteIn>(
     source: &mut Source<R>,
@@ -222,6 +222,7 @@ pub fn next_frame<R: ByteIn>(
         FallsShort R.reads.told source.old source.new.reader (at_most_announced progress.old.left (size_of progress.old)) }
     ensures too_long { result ≡ Err ReadFault.TooLong → (progress.old.frames ≡ MOST_FRAMES)
         × IfKnown (to_come R.reads.rest source.old) (λ bytes. size_of progress.old ≤ length (within progress.old.left bytes)) }
+    ensures kept { result ≡ Err ReadFault.TooLong → Stays R.reads.rest source.old source.new }
     ensures err { OnErr result (progress.new ≡ progress.old) }
     ensures failures { MatchBool (is_read_failed result)
         (R.reads.failures source.new.reader ≡ saturated (R.reads.failures source.old.reader + 1))

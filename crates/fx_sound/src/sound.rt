@@ -1,9 +1,9 @@
 //! A whole sound in memory.
 
-ghost use Rattle.std.specs.Prelude.{◌≡◌, ◌+◌, ◌≤◌, ◌*◌, false, IfOk, IfErr, MatchBool, OnOk, Err, length};
+ghost use Rattle.std.specs.Prelude.{◌≡◌, ◌+◌, ◌≤◌, ◌*◌, drop, false, IfOk, IfErr, MatchBool, OnErr, OnOk, Err, Some, length};
 ghost use Rattle.fx_io.specs.Io.{saturated};
 ghost use Rattle.fx_sound.specs.Fault.{is_sound_read_failed};
-ghost use Rattle.fx_sound.specs.Container.{container, frames_of, at_end, ReadAllTold};
+ghost use Rattle.fx_sound.specs.Container.{after_frames, container, frames_of, at_end, ReadAllTold};
 ghost use Rattle.fx_heads.specs.Known.{IfKnown};
 ghost use Rattle.fx_sound.specs.Sound.{size_of, within};
 ghost use Rattle.fx_heads.specs.Source.{to_come};
@@ -54,6 +54,9 @@ pub fn read_frames<R: ByteIn>(
         v.items ≡ frames_of progress.old.coding progress.old.channels (within progress.old.left bytes))) }
     ensures end { OnOk result (IfKnown (to_come R.reads.rest source.old) (λ bytes.
         progress.new ≡ at_end progress.old (within progress.old.left bytes))) }
+    ensures left { OnOk result (IfKnown (to_come R.reads.rest source.old) (λ bytes.
+        to_come R.reads.rest source.new ≡ Some (drop (length (within progress.old.left bytes)) bytes))) }
+    ensures counted { OnErr result (progress.new ≡ after_frames progress.old progress.new.frames) }
     ensures read_failed { result ≡ Err (SoundFault.Read ReadFault.ReadFailed)
         → ReadAllTold R.reads.told source.old source.new.reader progress.old progress.new.frames }
     ensures behind_head { IfErr result IsBehindHead }

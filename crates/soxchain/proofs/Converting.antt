@@ -81,7 +81,7 @@ HasCause-before P Q Causes.WriteFailed reads new_reads writes new_writes is (inr
 HasCause-before P Q Causes.TooLong reads new_reads writes new_writes is h f = absurd (cc)
 
 -- the kinds of a new chain's effects are those of its plan
-kinds-new : (p : Planning) (c : ChainParts) → IsNewChain p c → kinds effect_acts c.flow.stages ≡ kinds_of p
+pub kinds-new : (p : Planning) (c : ChainParts) → IsNewChain p c → kinds effect_acts c.flow.stages ≡ kinds_of p
 kinds-new p c new = ap (map effect_acts.kind_of) new.made
 
 pub wants-new : (p : Planning) (c : ChainParts) → IsNewChain p c → (n : ℕ) → WantsMore (kinds effect_acts c.flow.stages) n → WantsMore (kinds_of p) n
@@ -114,6 +114,7 @@ pub Finished-told : {R W : Type 0} (reads : ByteReader R) (writes : ByteWriter W
 Finished-told reads writes ready source new_source writer new_writer IsSaid IsTold status report move f = record {
   outcome = f.outcome;
   ran = f.ran;
+  left = f.left;
   all_flushed = f.all_flushed;
   due_flushed = f.due_flushed;
   read_failed = f.read_failed;

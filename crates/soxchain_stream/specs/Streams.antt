@@ -32,8 +32,9 @@ pub record ChainFed (c c' : ChainParts) (input old new : List ℤ) (passed : Pas
   pub waits : passed.given * outputs_in c + outputs_in c ≤ length new → StateIs effect_acts States.Busy c'.flow → ⊥
   pub used : passed.given * outputs_in c + outputs_in c ≤ length new → c'.flow.ended ≡ false → any_spent effect_acts c'.flow.stages ≡ false
       → length input < passed.taken * inputs_in c + inputs_in c
-  -- where the output has no room for one frame, no frame is taken
+  -- where the output has no room for one frame, no frame is taken, and the chain stays as it is
   pub none : length old < outputs_in c → passed.taken ≡ 0
+  pub still : length old < outputs_in c → c' ≡ c
   pub plan : c'.plan ≡ c.plan
 
 -- a stream's chain was fed, and its plan stayed

@@ -91,11 +91,12 @@ impl Stream {
 
     /// Takes whole frames from the front of the input and writes those that are given to the front of the output, as
     /// `Chain::feed` does. Nothing is taken of samples that make no whole frames, nor of more than 2^40 frames in all; where
-    /// the output has no room for one frame, no frame is taken.
+    /// the output has no room for one frame, nothing changes.
     pub fn feed(&mut self, input: &[i32], output: &mut [i32]) -> Result<Passed, FeedFault>
         ensures fed { IfOk result (λ passed. WasFed self.old self.new input.now output.old output.new passed) }
         ensures part { result ≡ Err FeedFault.PartOfFrame → length input.now % self.old.chain.plan.head.channels ≢ 0 }
-        ensures too_long { result ≡ Err FeedFault.TooLong → most_frames < taken_of self.old.chain.flow + length input.now / self.old.chain.plan.head.channels }
+        ensures too_long { result ≡ Err FeedFault.TooLong → (length input.now % self.old.chain.plan.head.channels ≡ 0)
+            × (most_frames < taken_of self.old.chain.flow + length input.now / self.old.chain.plan.head.channels) }
         ensures refused { OnErr result ((self.new ≡ self.old) × (output.new ≡ output.old)) }
         ensures whole { OnOk result (length input.now % self.old.chain.plan.head.channels ≡ 0) }
         ensures few { OnOk result (taken_of self.old.chain.flow + length input.now / self.old.chain.plan.head.channels ≤ most_frames) }

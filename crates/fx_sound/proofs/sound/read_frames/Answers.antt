@@ -1,12 +1,27 @@
 use Rattle.std.proofs.Common.{◌≡◌, ℕ, ◌+◌, ◌*◌, ◌++◌, ◌∷◌, [], drop, take, sym, ap, ◌∙◌, arith, rules}
-use Rattle.std.specs.Prelude.{Err}
+use Rattle.std.specs.Prelude.{Ok, Err, OnErr, Result}
 use Rattle.fx_heads.specs.FrameCoding.{samples_of}
-use Rattle.fx_sound.specs.Container.{first_frames}
-use Rattle.fx_sound.proofs.RunLaws.{after_frames-more, Ran-turn, Ran-end, Ran-whole, Ran-failed, first_frames-more, first_frames-within}
+use Rattle.fx_sound.specs.Container.{after_frames, first_frames}
+use Rattle.fx_sound.proofs.RunLaws.{after_frames-more, Ran-behind, Ran-turn, Ran-end, Ran-whole, Ran-failed, first_frames-more, first_frames-within}
 use Rattle.fx_sound.specs.Sound.{Reading, size_of, within, after_frame}
 use Rattle.fx_sound.specs.declared.progress.ReadFault.TheVariants.{ReadFailed, TooLong}
 use Rattle.fx_sound.proofs.sound.read_frames.Goals as goal
 use Rattle.fx_heads.proofs.Held.{Takes-both}
+
+-- what always is, is where a result is an error
+on-error : {X E P : Type 0} (result : Result X E) → P → OnErr result P
+on-error (Ok x) holds = tt
+on-error (Err e) holds = holds
+
+pub returns-in_err-map_err-in-Ok-Some-clause-counted : goal.returns-in_err-map_err-in-Ok-Some-clause-counted
+returns-in_err-map_err-in-Ok-Some-clause-counted g c =
+    let p : Reading = c.args.progress.now in
+    let n : ℕ = c.loop-turn._turn in
+    let next = rw c.in-Ok-Some.field-0-is at c.in-Ok-Some.ensures in
+    let is : c.next_frame.new.progress ≡ after_frames p (n + 1) = next.counted ∙ ap after_frame c.loop-turn.invariant.now ∙ after_frames-more p n in
+    let frames : c.next_frame.new.progress.frames ≡ p.frames + (n + 1) = ap (λ q. q.frames) is in
+    let count : n + 1 ≡ c.next_frame.new.progress.frames = omega (arith, frames, c.requires.fresh) in
+    on-error c.from_residual.result (is ∙ ap (after_frames p) count)
 
 pub returns-in-Ok-None-clause-frames : goal.returns-in-Ok-None-clause-frames
 returns-in-Ok-None-clause-frames g c = λ bytes known.
@@ -27,6 +42,15 @@ returns-in-Ok-None-clause-end g c = λ bytes known.
     let next = rw c.in-Ok-None.field-0-is at c.in-Ok-None.ensures in
     let ran = old.ran bytes known in
     (Ran-end p c.loop-turn.progress c.next_frame.new.progress bytes n _ ran (next.end (ap (λ q. q.over) old.now ∙ c.requires.begun) (drop (n * size_of p) bytes) ran.to_come_is)).1
+
+pub returns-in-Ok-None-clause-left : goal.returns-in-Ok-None-clause-left
+returns-in-Ok-None-clause-left g c = λ bytes known.
+    let old = c.loop-turn.invariant in
+    let p : Reading = c.args.progress.now in
+    let n : ℕ = c.loop-turn._turn in
+    let next = rw c.in-Ok-None.field-0-is at c.in-Ok-None.ensures in
+    let ran = old.ran bytes known in
+    Ran-behind p c.loop-turn.progress bytes n _ _ ran (next.left (ap (λ q. q.over) old.now ∙ c.requires.begun) (drop (n * size_of p) bytes) ran.to_come_is)
 
 pub returns-in-Err-clause-read_failed : goal.returns-in-Err-clause-read_failed
 returns-in-Err-clause-read_failed g c = λ e.
