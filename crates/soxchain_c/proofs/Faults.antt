@@ -1,5 +1,5 @@
 -- Why words and files cannot be read, or make no stream, and what follows of it.
-use Rattle.std.proofs.Common.{◌≡◌, ℕ, List, [], Option, Result, Ok, Err, IfOk, IfErr, OnOk, inl, inr}
+use Rattle.std.proofs.Common.{◌≡◌, ◌<◌, ◌≤◌, ℕ, List, [], Option, Result, Ok, Err, IfOk, IfErr, OnOk, inl, inr}
 use Rattle.fx_line.specs.Line.{Said, texts}
 use Rattle.fx_plan.specs.Plans.{bytes_of}
 use Rattle.fx_heads.specs.declared.head.Head.{Head}
@@ -32,11 +32,11 @@ lacks-more line files head status told silent (inr l) = inr (l.0, silent l.1)
 pub new-answers : {T : List ℕ → Type 0} {U : Type 0} (asked : Result Asked TextFault) (words word_ends files file_ends : List ℕ) (rate channels : ℕ) (head : Head) (told : List ℕ) (old new : Option Stream) (status : Status)
     → IfOk asked (λ a. texts a.words.items ≡ cut words 0 word_ends) → IfOk asked (λ a. bytes_of a.files.items ≡ cut files 0 file_ends) → OnOk asked (AreEnds words 0 word_ends × AreEnds files 0 file_ends)
     → OnOk asked (AreTexts (cut words 0 word_ends)) → IfErr asked (λ fault. IsFault fault words word_ends files file_ends) → IsHeadAt rate channels head
-    → ((text : List ℕ) → T text → ToldBytes told text) → (U → told ≡ []) → MakeAnswers asked head old new T U status → NewAnswers words word_ends files file_ends rate channels told old new status
-new-answers (Ok a) words word_ends files file_ends rate channels head told old new status is_words are_files ends are_texts is is_head more silent (inl m) =
+    → (0 < rate) × (1 ≤ channels) × (channels ≤ 16) → ((text : List ℕ) → T text → ToldBytes told text) → (U → told ≡ []) → MakeAnswers asked head old new T U status → NewAnswers words word_ends files file_ends rate channels told old new status
+new-answers (Ok a) words word_ends files file_ends rate channels head told old new status is_words are_files ends are_texts is is_head right more silent (inl m) =
     inl (m.0, silent m.1, (m.2.0, m.2.1, record { words_end = ends.0; files_end = ends.1; are_texts = are_texts; head = head; is_head = is_head; is = rw (is_words, are_files) at m.2.2 }))
-new-answers (Ok a) words word_ends files file_ends rate channels head told old new status is_words are_files ends are_texts is is_head more silent (inr m) =
+new-answers (Ok a) words word_ends files file_ends rate channels head told old new status is_words are_files ends are_texts is is_head right more silent (inr m) =
     let lacks = lacks-more _ _ head status more silent m.2 in
     inr (m.0, m.1, inr (inr (inr (record { words_end = ends.0; files_end = ends.1; are_texts = are_texts; head = head; is_head = is_head; lacks = rw (is_words, are_files) at lacks }))))
-new-answers (Err fault) words word_ends files file_ends rate channels head told old new status is_words are_files ends are_texts is is_head more silent m =
-    inr (m.0, m.1, inr (inr (inl (record { fault = fault; is = is; answers = fault-more fault status more silent m.2 }))))
+new-answers (Err fault) words word_ends files file_ends rate channels head told old new status is_words are_files ends are_texts is is_head right more silent m =
+    inr (m.0, m.1, inr (inr (inl (right.0, right.1, right.2, record { fault = fault; is = is; answers = fault-more fault status more silent m.2 }))))

@@ -38,7 +38,7 @@ FeedAnswers s t input old new passed status =
     IsWait t passed.waits
     × (((status ≡ Fine) × (length input % inputs_in s.chain ≡ 0) × (taken_of s.chain.flow + length input / inputs_in s.chain ≤ most_frames) × WasFed s t input old new (record { taken = passed.taken; given = passed.given }))
     ⊎ ((status ≡ PartOfFrame) × (length input % inputs_in s.chain ≢ 0) × Unfed s t old new passed)
-    ⊎ ((status ≡ TooLong) × (most_frames < taken_of s.chain.flow + length input / inputs_in s.chain) × Unfed s t old new passed))
+    ⊎ ((status ≡ TooLong) × (length input % inputs_in s.chain ≡ 0) × (most_frames < taken_of s.chain.flow + length input / inputs_in s.chain) × Unfed s t old new passed))
 
 -- a stream that waited for frames was told the end, and else stays as it was
 abbrev pub EndAnswers : Stream → Stream → Status → Type 0

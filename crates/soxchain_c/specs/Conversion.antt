@@ -2,14 +2,14 @@
 use Rattle.std.specs.Prelude.{◌≡◌, ◌≢◌, ◌⊎◌, ℕ, ℤ, pos, List, [], drop, Some, Result, Err, IfOk}
 use Rattle.fx_run.specs.declared.report.Report.{Report}
 use Rattle.fx_run.specs.declared.report.RunFault.{RunFault}
-use Rattle.fx_run.specs.Report.{no_report, report_at}
+use Rattle.fx_run.specs.declared.pump.Cause.TheVariants as Causes
+use Rattle.fx_run.specs.Report.{cause_of, no_report, report_at}
 use Rattle.fx_chain.specs.Theorem.{Ran}
 use Rattle.fx_line.specs.declared.line.LineFault.{LineFault}
 use Rattle.fx_line.specs.Line.{Said, line_of}
 use Rattle.fx_plan.specs.declared.fault.PlanFault.{PlanFault}
 use Rattle.fx_plan.specs.CommandLines.{LineReads}
 use Rattle.fx_heads.specs.declared.head.HeadFault.{HeadFault}
-use Rattle.fx_heads.specs.declared.head.HeadFault.TheVariants as HeadFaults
 use Rattle.fx_heads.specs.Head.{head_of}
 use Rattle.soxchain.specs.declared.preparing.Refusal.{Refusal}
 use Rattle.soxchain.specs.declared.preparing.Refusal.TheVariants as Refusals
@@ -42,8 +42,9 @@ told_report r output messages = record {
 abbrev pub ToldBytes : List ℕ → List ℕ → Type 0
 ToldBytes messages text = (count : ℕ) × TellsBytes (Some []) (Some messages) 0 count text
 
--- The run over the bytes stopped, since memory for the output was wanting, or the sound was too long.
+-- The run over the bytes stopped, since memory for the output was wanting, or the sound was too long: no read of bytes in memory fails.
 pub record StoppedBytes (line : Said) (files : List (List ℕ)) (input output : List ℕ) (f : RunFault) : Type 0 where
+  pub read : cause_of f ≢ Causes.ReadFailed
   pub run : Running line files input (report_at f)
   pub ran : Ran run.plan (drop run.offset input) (Some []) (Some output) (Err f)
 
@@ -52,7 +53,7 @@ pub record StoppedBytes (line : Said) (files : List (List ℕ)) (input output : 
 pub record ConvertedBytes (line : Said) (files : List (List ℕ)) (input output : List ℕ) (outcome : Result Report Stop) : Type 0 where
   pub whole : IfOk outcome (λ r. Whole line files input (Some []) (Some output) r)
   pub clean : (r : Refusal) → outcome ≡ Err (Refused r) → output ≡ []
-  pub refused : (f : HeadFault) → outcome ≡ Err (Refused (Refusals.Head f)) → f ≢ HeadFaults.ReadFailed → head_of line.input_kind input ≡ Err f
+  pub refused : (f : HeadFault) → outcome ≡ Err (Refused (Refusals.Head f)) → head_of line.input_kind input ≡ Err f
   pub unplanned : (f : PlanFault) → outcome ≡ Err (Refused (Refusals.Plan f)) → Unplanned line files input f
   pub unchained : outcome ≡ Err (Refused Refusals.Chain) → Unchained line files input
   pub stopped : (f : RunFault) → outcome ≡ Err (Run f) → StoppedBytes line files input output f

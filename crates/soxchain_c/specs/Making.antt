@@ -1,5 +1,5 @@
 -- The stream that words make, or why there is none (this project's profile).
-use Rattle.std.specs.Prelude.{◌≡◌, ◌≢◌, ◌⊎◌, ◌<◌, ℕ, pos, List, [], ◌∷◌, codes, Option, None, Some, Result, Ok, Err}
+use Rattle.std.specs.Prelude.{◌≡◌, ◌≢◌, ◌⊎◌, ◌<◌, ◌≤◌, ℕ, pos, List, [], ◌∷◌, codes, Option, None, Some, Result, Ok, Err}
 use Rattle.fx_chain.specs.Chain.{IsNewChain}
 use Rattle.fx_io.specs.declared.coding.Coding.TheVariants.{S32Be}
 use Rattle.fx_line.specs.declared.bits.Bits.TheVariants.{ThirtyTwo}
@@ -98,7 +98,7 @@ abbrev pub RefusesNew : List ℕ → List ℕ → List ℕ → List ℕ → ℕ 
 RefusesNew words word_ends files file_ends rate channels told status =
     ((status ≡ BadRate) × (rate ≡ 0) × (told ≡ []))
     ⊎ ((status ≡ BadChannels) × (0 < rate) × ((channels ≡ 0) ⊎ (16 < channels)) × (told ≡ []))
-    ⊎ Unread words word_ends files file_ends (ToldBytes told) (told ≡ []) status
+    ⊎ ((0 < rate) × (1 ≤ channels) × (channels ≤ 16) × Unread words word_ends files file_ends (ToldBytes told) (told ≡ []) status)
     ⊎ MakesNone words word_ends files file_ends rate channels told status
 
 -- A new stream stands behind the handle, and nothing is told; or it is as it was, and this is why.

@@ -3,7 +3,6 @@ ghost use Rattle.std.specs.Prelude.{◌≡◌, ℕ, List, [], length};
 ghost use Rattle.fx_run.specs.Report.{no_report};
 ghost use Rattle.fx_line.specs.Line.{texts};
 ghost use Rattle.fx_plan.specs.Plans.{bytes_of};
-ghost use Rattle.fx_heads.specs.Known.{IfKnown};
 ghost use Rattle.soxchain_c.specs.Asked.{FaultAnswers};
 ghost use Rattle.soxchain_c.specs.Conversion.{Conversion, ConversionOf, ToldBytes, told_report};
 ghost use Rattle.soxchain_c.specs.Room.{filled};
@@ -11,10 +10,11 @@ ghost use Rattle.soxchain_c.specs.Status.{code};
 
 use crate::asked::{Asked, read_asked, refuse};
 use crate::room::put;
+use crate::slices::SliceReader;
 use crate::status::{Status, number_of};
 use crate::texts::TextFault;
 use fx_chain::{MOST_EFFECTS, Report};
-use fx_frame::{ByteIn, Counted};
+use fx_frame::Counted;
 use soxchain::convert;
 use std::alloc::Global;
 
@@ -61,9 +61,9 @@ struct Done {
     messages: Vec<u8>,
 }
 
-/// Converts the sound of a reader, in memory.
-fn convert_from<R: ByteIn + Drop>(alloc: Global, asked: &Asked, reader: R) -> Done
-    ensures { IfKnown (R.reads.rest reader) (λ input. Conversion (texts asked.now.words.items) (bytes_of asked.now.files.items) input result.output.items result.messages.items result.status result.report) }
+/// Converts a sound in memory.
+fn convert_asked(alloc: Global, asked: &Asked, input: &[u8]) -> Done
+    ensures { Conversion (texts asked.now.words.items) (bytes_of asked.now.files.items) input.now result.output.items result.messages.items result.status result.report }
 {
     let mut output = Counted::new(Vec::new(alloc));
     let mut messages = Counted::new(Vec::new(alloc));
@@ -71,7 +71,7 @@ fn convert_from<R: ByteIn + Drop>(alloc: Global, asked: &Asked, reader: R) -> Do
         alloc,
         &asked.words,
         &asked.files,
-        reader,
+        SliceReader::new(input),
         &mut output,
         &mut messages,
     );
@@ -81,13 +81,6 @@ fn convert_from<R: ByteIn + Drop>(alloc: Global, asked: &Asked, reader: R) -> Do
         output: output.into_inner(),
         messages: messages.into_inner(),
     }
-}
-
-/// Converts a sound in memory.
-fn convert_asked(alloc: Global, asked: &Asked, input: &[u8]) -> Done
-    ensures { Conversion (texts asked.now.words.items) (bytes_of asked.now.files.items) input.now result.output.items result.messages.items result.status result.report }
-{
-    convert_from(alloc, asked, Counted::new(input))
 }
 
 /// What is answered where words or files cannot be read.

@@ -11,6 +11,7 @@ mod loose;
 pub mod new_call;
 mod planning;
 mod room;
+mod slices;
 pub mod status;
 pub mod stream_calls;
 mod texts;

@@ -1,5 +1,5 @@
 //! How a stream is made of words.
-ghost use Rattle.std.specs.Prelude.{◌≡◌, ◌<◌, ◌⊎◌, ◌++◌, [], ◌∷◌, Err, IfErr, IfOk, OnOk};
+ghost use Rattle.std.specs.Prelude.{◌≡◌, ◌<◌, ◌≤◌, ◌⊎◌, ◌++◌, [], ◌∷◌, Err, IfErr, IfOk, OnOk};
 ghost use Rattle.fx_line.specs.Line.{texts};
 ghost use Rattle.fx_plan.specs.Plans.{bytes_of};
 ghost use Rattle.soxchain.specs.Telling.{Tells};
@@ -17,6 +17,7 @@ use std::alloc::{AllocError, Global};
 /// The head of a sound of 32 bits at this rate, of so many channels.
 pub fn head_of(rate: u32, channels: usize) -> Result<Head, Status>
     ensures head { IfOk result (IsHeadAt rate channels) }
+    ensures right { OnOk result ((0 < rate) × (1 ≤ channels) × (channels ≤ 16)) }
     ensures rate { (result ≡ Err Status.BadRate) → rate ≡ 0 }
     ensures channels { (result ≡ Err Status.BadChannels) → (0 < rate) × ((channels ≡ 0) ⊎ (16 < channels)) }
     ensures causes { IfErr result (λ s. (s ≡ Status.BadRate) ⊎ (s ≡ Status.BadChannels)) }

@@ -15,7 +15,7 @@ returns c =
       number,
       c.len.ensures ∙ c.into_inner-told.result.ok.0,
       rw c.deref.ensures.value at c.put.ensures,
-      new-answers c.read_asked-asked.result _ _ _ _ _ _ c.in-Ok.head _ _ _ _ read.words read.files read.ends read.texts read.fault c.in-Ok.ensures.head
+      new-answers c.read_asked-asked.result _ _ _ _ _ _ c.in-Ok.head _ _ _ _ read.words read.files read.ends read.texts read.fault c.in-Ok.ensures.head c.in-Ok.ensures.right
           (λ text told. (c.make-status.new.messages.failures, rw (before, after, c.new-told.ensures.failures) at told))
           (λ same. sym after ∙ ap (λ m. m.inner.items) same ∙ before)
           c.make-status.ensures,

@@ -1,11 +1,11 @@
-use Rattle.std.proofs.Common.{◌≡◌, [], ap, sym, ◌∙◌, Some}
+use Rattle.std.proofs.Common.{◌≡◌, [], ap, refl, sym, ◌∙◌, Some}
 use Rattle.std.proofs.lemmas.Int.{to_z-of_z}
 use Rattle.std.specs.Int.{w32}
 use Rattle.soxchain_c.proofs.Conversions.{concludes-more, converted-bytes}
-use Rattle.soxchain_c.proofs.conversion.convert_from.Goals as goal
+use Rattle.soxchain_c.proofs.conversion.convert_asked.Goals as goal
 
 pub returns : goal.returns
-returns g c = λ input known.
+returns c =
     let e = c.convert-status.ensures in
     let before : c.new-output.result.inner.items ≡ [] = ap (λ v. v.items) c.new-output.ensures.inner ∙ c.new.ensures.items in
     let after : c.convert-status.new.output.inner.items ≡ c.into_inner.result.items = sym (ap (λ v. v.items) c.into_inner.ensures) in
@@ -17,7 +17,7 @@ returns g c = λ input known.
       found = e.0;
       reads = rw c.deref.ensures.value at e.1;
       concludes = rw (sym c.deref-2.ensures.value) (concludes-more _ _ e.0
-          (λ line outcome converted. converted-bytes _ _ line _ _ _ _ _ outcome input c.into_inner.result.items known (ap Some before) (ap Some after) converted)
+          (λ line outcome converted. converted-bytes _ _ line _ _ _ _ _ outcome c.args.input.now c.into_inner.result.items (λ r. refl) (ap Some c.new-3.ensures.left) (ap Some before) (ap Some after) converted)
           (λ untouched. sym after ∙ ap (λ o. o.inner.items) untouched.1 ∙ before)
           (λ text told. (c.convert-status.new.messages.failures, rw (silent, said, c.new-messages.ensures.failures) at told))
           e.2);
