@@ -13,6 +13,13 @@ pub record ByteWriter (W : Type 0) : Type 0 where
   pub flushed : W → Bool
   pub failures : W → ℕ
 
+-- A writer that can go back to its first byte: the place of its next byte, counted from 0, where it is known; whether one call
+-- took it back, from the one to the other; whether one call failed to, and left the other.
+pub record Rewinds (W : Type 0) : Type 1 where
+  pub place : W → Option ℕ
+  pub back : W → W → Type 0
+  pub stuck : W → W → Type 0
+
 -- a count that stays at the greatest u64
 abbrev pub saturated : ℕ → ℕ
 saturated n = min n (2 ^ 64 - 1)

@@ -107,7 +107,9 @@ impl<T: Write> ByteOut for Counted<T> {
 }
 
 impl<T: Write + Seek> Rewind for Counted<T> {
-    ghost place = { λ c. T.stream_position c.inner };
+    ghost use Rattle.fx_io.specs.Counted.{counted_rewinds};
+
+    ghost rewinds = { counted_rewinds T.stream_position };
 
     fn rewind(&mut self) -> Result<(), Failed> {
         match self.inner.rewind() {

@@ -1,8 +1,8 @@
 //! What reads bytes and what takes bytes.
 
-ghost use Rattle.std.specs.Prelude.{◌≡◌, ◌<◌, ◌≤◌, ◌||◌, is_ok, IfOk, IfSome, Option, Some, length, take, ℕ};
+ghost use Rattle.std.specs.Prelude.{◌≡◌, ◌<◌, ◌≤◌, ◌||◌, is_ok, IfErr, IfOk, IfSome, Some, length, take};
 ghost use Rattle.std.specs.Io.KnownBytes.{Consumes, IsAtEnd, Keeps, WriteAppends};
-ghost use Rattle.fx_io.specs.Io.{ByteReader, ByteWriter, CountsBytes, CountsFailure, flushed_after};
+ghost use Rattle.fx_io.specs.Io.{ByteReader, ByteWriter, CountsBytes, CountsFailure, Rewinds, flushed_after};
 
 use thiserror::Error;
 
@@ -55,12 +55,14 @@ pub trait ByteOut {
 
 /// A writer that can go back to its first byte.
 pub trait Rewind: ByteOut {
-    // The place of the next byte, counted from 0, where it is known.
-    ghost place: { Self → Option ℕ };
+    // The place of its next byte, and what its calls to go back make of it.
+    ghost rewinds: { Rewinds Self };
 
     /// Goes back to the first byte: what is written then stands over what was. It hands on none of it.
     fn rewind(&mut self) -> Result<(), Failed>
-        ensures start { IfOk result (λ _. IfSome (place self.old) (λ _. place self.new ≡ Some 0)) }
+        ensures back { IfOk result (λ _. rewinds.back self.old self.new) }
+        ensures stuck { IfErr result (λ _. rewinds.stuck self.old self.new) }
+        ensures start { IfOk result (λ _. IfSome (rewinds.place self.old) (λ _. rewinds.place self.new ≡ Some 0)) }
         ensures flushed { Self.writes.flushed self.new ≡ Self.writes.flushed self.old }
         ensures failures { CountsFailure (Self.writes.failures self.old) (Self.writes.failures self.new) result };
 }

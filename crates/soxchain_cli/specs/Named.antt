@@ -1,8 +1,8 @@
 -- What becomes of a named OUT (this project's profile).
-use Rattle.std.specs.Prelude.{◌≡◌, ◌≤◌, ◌+◌, ◌⊎◌, ℕ, true, List, Option, Some, IfSome}
+use Rattle.std.specs.Prelude.{◌≡◌, ◌≤◌, ◌+◌, ◌⊎◌, ℕ, true, List, Some, IfSome}
 use Rattle.std.specs.Io.KnownBytes.{Appends}
 use Rattle.fx_run.specs.declared.report.Report.{Report}
-use Rattle.fx_io.specs.Io.{ByteReader, ByteWriter, saturated}
+use Rattle.fx_io.specs.Io.{ByteReader, ByteWriter, Rewinds, saturated}
 use Rattle.fx_plan.specs.Planning.{planning}
 use Rattle.fx_heads.specs.Source.{Held}
 use Rattle.soxchain.specs.declared.prepared.Ready.{Ready}
@@ -13,26 +13,29 @@ use Rattle.soxchain.specs.Saying.{Says}
 use Rattle.soxchain.specs.Telling.{ToldFront}
 use Rattle.soxchain_cli.specs.Heads.{true_head}
 
--- How a file that was created is known: what it took, and the place of its next byte.
-pub record FileWriter (F : Type 0) : Type 0 where
+-- How a file that was created is known: what it took, and how it goes back.
+pub record FileWriter (F : Type 0) : Type 1 where
   pub writes : ByteWriter F
-  pub place : F → Option ℕ
+  pub rewinds : Rewinds F
 
--- a file went back to its first byte
-abbrev pub IsBack : {F : Type 0} → FileWriter F → F → F → Type 0
-IsBack d old new = IfSome (d.place old) (λ _. d.place new ≡ Some 0)
+-- one call took a file back to its first byte
+pub record IsBack {F : Type 0} (d : FileWriter F) (old new : F) : Type 0 where
+  pub back : d.rewinds.back old new
+  pub start : IfSome (d.rewinds.place old) (λ _. d.rewinds.place new ≡ Some 0)
 
--- Bytes were written over the beginning of a file: it went back to its first byte, took them all there, and was flushed.
+-- Bytes were written over the beginning of a file: it went back to its first byte at once, took them all there, and was flushed.
 pub record WritesOver {F : Type 0} (d : FileWriter F) (old new : F) (bytes : List ℕ) : Type 0 where
   pub start : F
   pub back : IsBack d old start
   pub took : Appends (d.writes.taken start) (d.writes.taken new) bytes
   pub flushed : d.writes.flushed new ≡ true
 
--- This failed: the file did not go back; or it went back, and a call behind that failed, so it took a front of the bytes.
+-- This failed: the file could not go back, and nothing came behind that; or it went back at once, and a call behind that failed, so it
+-- took a front of the bytes.
 pub data FailsOver {F : Type 0} (d : FileWriter F) (old new : F) (bytes : List ℕ) : Type 0 where
   Stuck :
-      d.writes.failures new ≡ saturated (d.writes.failures old + 1)
+      d.rewinds.stuck old new
+      → d.writes.failures new ≡ saturated (d.writes.failures old + 1)
       → FailsOver d old new bytes
   Cut : (start : F)
       → IsBack d old start

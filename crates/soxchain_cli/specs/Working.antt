@@ -32,7 +32,7 @@ use Rattle.soxchain_words.specs.Files.{AreFronts, IsForgotten, IsUnread}
 
 -- How streams and files are known: standard input and a file that is read, as readers; standard output and a file that was created, as
 -- writers. Each counts the calls of it that failed.
-pub record Devices (I R O F : Type 0) : Type 0 where
+pub record Devices (I R O F : Type 0) : Type 1 where
   pub input : ByteReader I
   pub file : ByteReader R
   pub output : ByteWriter O

@@ -47,7 +47,7 @@ pub fn process<H: Host, M: ByteOut>(
     files: &[Vec<u8>],
     telling: &mut Telling<M>,
 ) -> u8
-    ensures { Lines (record { input = H.Input.reads; file = H.Reader.reads; output = H.Output.writes; created = record { writes = H.Made.writes; place = H.Made.place } })
+    ensures { Lines (record { input = H.Input.reads; file = H.Reader.reads; output = H.Output.writes; created = record { writes = H.Made.writes; rewinds = H.Made.rewinds } })
         H.machine H.shelf M.writes (record { opened = H.opened; unopened = H.unopened })
         line.now (bytes_of files.now) host.old host.new telling.old telling.new result }
 {
@@ -71,7 +71,7 @@ fn process_from<H: Host, R: ByteIn + Drop, M: ByteOut>(
     reader: R,
     telling: &mut Telling<M>,
 ) -> u8
-    ensures { Sounds (record { input = H.Input.reads; file = H.Reader.reads; output = H.Output.writes; created = record { writes = H.Made.writes; place = H.Made.place } })
+    ensures { Sounds (record { input = H.Input.reads; file = H.Reader.reads; output = H.Output.writes; created = record { writes = H.Made.writes; rewinds = H.Made.rewinds } })
         H.machine H.shelf M.writes R.reads
         line.now (bytes_of files.now) reader host.old host.new telling.old telling.new result }
 {
@@ -88,8 +88,7 @@ fn process_from<H: Host, R: ByteIn + Drop, M: ByteOut>(
             status
         }
         Stream::Named(name) => match create_beside(host, line.input(), name, &prepared) {
-            Some(file) => {
-                let mut file = file;
+            Some(mut file) => {
                 let status = process_to(line, prepared, &mut source, &mut file, name, telling);
                 host.close(file);
                 status
@@ -131,7 +130,7 @@ fn process_to<R: ByteIn, F: Rewind, M: ByteOut>(
     telling: &mut Telling<M>,
 ) -> u8
     requires { IsNewChain (planning prepared.plan) prepared.chain }
-    ensures { Files R.reads (record { writes = F.writes; place = F.place }) M.writes (ready_for line.now prepared) source.old source.new file.old file.new name.now telling.old telling.new result }
+    ensures { Files R.reads (record { writes = F.writes; rewinds = F.rewinds }) M.writes (ready_for line.now prepared) source.old source.new file.old file.new name.now telling.old telling.new result }
 {
     let (status, head) = finish_with_head(line, prepared, source, file, telling);
     if status != 0 {
@@ -146,8 +145,8 @@ fn process_to<R: ByteIn, F: Rewind, M: ByteOut>(
 
 /// Writes bytes over the beginning of a file, and hands them on: false where one call of it failed.
 fn write_over<F: Rewind>(file: &mut F, bytes: &[u8]) -> bool
-    ensures whole { result ≡ true → WritesOver (record { writes = F.writes; place = F.place }) file.old file.new bytes.now }
-    ensures failed { result ≡ false → FailsOver (record { writes = F.writes; place = F.place }) file.old file.new bytes.now }
+    ensures whole { result ≡ true → WritesOver (record { writes = F.writes; rewinds = F.rewinds }) file.old file.new bytes.now }
+    ensures failed { result ≡ false → FailsOver (record { writes = F.writes; rewinds = F.rewinds }) file.old file.new bytes.now }
 {
     file.rewind().is_ok() && write_whole(file, bytes)
 }

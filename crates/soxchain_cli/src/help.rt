@@ -42,7 +42,7 @@ pub const HELP: &str = effects!(help);
 
 /// Writes an answer to standard output, and answers the status.
 pub fn tell_answer<H: Host, M: ByteOut>(host: &mut H, answer: &str, telling: &mut Telling<M>) -> u8
-    ensures { IsShown (record { input = H.Input.reads; file = H.Reader.reads; output = H.Output.writes; created = record { writes = H.Made.writes; place = H.Made.place } })
+    ensures { IsShown (record { input = H.Input.reads; file = H.Reader.reads; output = H.Output.writes; created = record { writes = H.Made.writes; rewinds = H.Made.rewinds } })
         H.machine H.shelf M.writes answer.now host.old host.new telling.old telling.new result }
 {
     let mut output = host.output();
