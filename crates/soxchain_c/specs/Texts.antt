@@ -1,5 +1,5 @@
 -- Words and files that lie in bytes one behind the other, each up to its end (packaging/soxchain.h).
-use Rattle.std.specs.Prelude.{ℕ, ◌≤◌, List, [], ◌∷◌, length, slice_range}
+use Rattle.std.specs.Prelude.{◌⊎◌, ℕ, ◌≤◌, List, [], ◌∷◌, length, slice_range}
 use Rattle.std.specs.Str.{IsUtf8}
 
 -- ends in order from this place on, none past the bytes
@@ -16,3 +16,19 @@ cut bytes start (end ∷ ends) = slice_range bytes start end ∷ cut bytes end e
 abbrev pub AreTexts : List (List ℕ) → Type 0
 AreTexts [] = Unit {0}
 AreTexts (word ∷ words) = IsUtf8 word × AreTexts words
+
+-- this end lies not before the place where its piece begins, nor past the bytes
+abbrev pub IsEnd : List ℕ → ℕ → ℕ → Type 0
+IsEnd bytes start end = (start ≤ end) × (end ≤ length bytes)
+
+-- of the pieces between this place and the ends, the first that is wrong has a bad end
+abbrev pub FindsBadEnd : List ℕ → ℕ → List ℕ → Type 0
+FindsBadEnd bytes start [] = ⊥
+FindsBadEnd bytes start (end ∷ ends) =
+    (IsEnd bytes start end → ⊥) ⊎ (IsEnd bytes start end × IsUtf8 (slice_range bytes start end) × FindsBadEnd bytes end ends)
+
+-- the first that is wrong is no text
+abbrev pub FindsNoText : List ℕ → ℕ → List ℕ → Type 0
+FindsNoText bytes start [] = ⊥
+FindsNoText bytes start (end ∷ ends) =
+    IsEnd bytes start end × ((IsUtf8 (slice_range bytes start end) → ⊥) ⊎ (IsUtf8 (slice_range bytes start end) × FindsNoText bytes end ends))

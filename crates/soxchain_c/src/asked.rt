@@ -21,7 +21,7 @@ pub struct Asked {
     pub files: Vec<Vec<u8>>,
 }
 
-/// The words and files that lie in bytes, each up to its end; or the first fault.
+/// The words and files that lie in bytes, each up to its end; or the first fault, of the words before that of the files.
 pub fn read_asked(
     alloc: Global,
     words: &[u8],

@@ -2,7 +2,7 @@
 ghost use Rattle.std.specs.Prelude.{◌≡◌, Err, IfOk, OnOk};
 ghost use Rattle.fx_line.specs.Line.{texts};
 ghost use Rattle.fx_plan.specs.Plans.{bytes_of};
-ghost use Rattle.soxchain_c.specs.Texts.{AreEnds, AreTexts, cut};
+ghost use Rattle.soxchain_c.specs.Texts.{AreEnds, AreTexts, FindsBadEnd, FindsNoText, cut};
 
 use std::alloc::Global;
 use std::str;
@@ -23,8 +23,8 @@ pub fn read_words(alloc: Global, bytes: &[u8], ends: &[usize]) -> Result<Vec<Str
     ensures words { IfOk result (λ words. texts words.items ≡ cut bytes.now 0 ends.now) }
     ensures ends { OnOk result (AreEnds bytes.now 0 ends.now) }
     ensures texts { OnOk result (AreTexts (cut bytes.now 0 ends.now)) }
-    ensures bad_ends { result ≡ Err TextFault.BadEnds → AreEnds bytes.now 0 ends.now → ⊥ }
-    ensures not_text { result ≡ Err TextFault.NotText → AreTexts (cut bytes.now 0 ends.now) → ⊥ }
+    ensures bad_ends { result ≡ Err TextFault.BadEnds → FindsBadEnd bytes.now 0 ends.now }
+    ensures not_text { result ≡ Err TextFault.NotText → FindsNoText bytes.now 0 ends.now }
 {
     let mut words = Vec::new(alloc);
     let mut start = 0;
