@@ -93,8 +93,9 @@ int soxchain_new(const uint8_t *words, size_t words_length, const size_t *word_e
 
 /* Takes frames from the front of the input and writes those that are given to the front of the output, until the output has no
  * room for another frame, or no frame is left that can be taken. The samples of a frame lie one behind the other, channel by
- * channel; lengths are counted in samples. The output may have any room; where it has no room for one frame, nothing changes.
- * What lies behind the frames given stays as it was. */
+ * channel; lengths are counted in samples. The output may have any room: a frame is taken only while there is room for one more
+ * than was due before it, and where there is no room for one frame, nothing changes. What lies behind the frames given stays as it
+ * was. */
 int soxchain_feed(soxchain_stream *stream, const int32_t *input, size_t input_length, int32_t *output, size_t output_room,
                   soxchain_passed *passed);
 

@@ -1,7 +1,7 @@
 //! The chain of a plan's effects.
 ghost use Rattle.std.specs.Prelude.{◌≡◌, ◌<◌, ◌≤◌, ◌+◌, ◌-◌, ◌*◌, ℕ, false, drop, IfOk, List, Some, [], length, map, option_to_list, slice_index, true};
 ghost use Rattle.fx_chain.specs.Chain.{IsNewChain};
-ghost use Rattle.fx_flow.specs.Feed.{FlowFed};
+ghost use Rattle.fx_flow.specs.Feed.{FlowFed, FlowTookWithRoom};
 ghost use Rattle.fx_step.specs.Row.{outputs_of};
 ghost use Rattle.fx_lists.specs.Lists.{pieces};
 ghost use Rattle.fx_flow.specs.Parts.{AllNew, any_spent, given_by, moves_of, taken_of};
@@ -100,8 +100,8 @@ impl Chain {
     /// Takes frames from the front of the input, and writes those that are given to the front of the output: samples of
     /// frames lie one after another, channel by channel. Each frame goes through all effects before the next one is taken, as
     /// by `take` and `step`; until the output has no room for another frame, or the chain is done, or it is hungry and takes
-    /// none, since the input is used up or some effect gives nothing more. Where the output has no room for one frame, nothing
-    /// changes.
+    /// none, since the input is used up or some effect gives nothing more. A frame is taken only while the output has room for
+    /// one more than was due before it. Where the output has no room for one frame, nothing changes.
     pub fn feed(&mut self, input: &[i32], output: &mut [i32]) -> Passed
         requires channels { (1 ≤ self.old.plan.head.channels) × (self.old.plan.head.channels ≤ 16) }
         requires few { (n : ℕ) → n * self.old.plan.head.channels ≤ length input.now → taken_of self.old.flow + n ≤ most_frames }
@@ -112,7 +112,7 @@ impl Chain {
         ensures waits { let outputs = outputs_of self.old.plan.head.channels (kinds effect_acts self.old.flow.stages) in result.given * outputs + outputs ≤ length output.new → StateIs effect_acts State.Busy self.new.flow → ⊥ }
         ensures used { let outputs = outputs_of self.old.plan.head.channels (kinds effect_acts self.old.flow.stages) in result.given * outputs + outputs ≤ length output.new → self.new.flow.ended ≡ false → any_spent effect_acts self.new.flow.stages ≡ false
             → length input.now < result.taken * self.old.plan.head.channels + self.old.plan.head.channels }
-        ensures none { length output.old < outputs_of self.old.plan.head.channels (kinds effect_acts self.old.flow.stages) → result.taken ≡ 0 }
+        ensures room { FlowTookWithRoom effect_acts self.old.flow result.taken (length output.old) }
         ensures still { length output.old < outputs_of self.old.plan.head.channels (kinds effect_acts self.old.flow.stages) → self.new ≡ self.old }
         ensures plan { self.new.plan ≡ self.old.plan }
     {

@@ -1,11 +1,11 @@
 //! A whole sound through the chain of a plan.
-ghost use Rattle.std.specs.Prelude.{◌≡◌, ◌≢◌, ◌≤◌, IfErr, IfOk, MatchResult, OnOk, Some, true};
+ghost use Rattle.std.specs.Prelude.{◌≡◌, ◌≢◌, ◌+◌, ◌≤◌, IfErr, IfOk, MatchResult, OnOk, Some, true};
 ghost use Rattle.fx_chain.specs.Chain.{IsNewChain, target_for};
-ghost use Rattle.fx_run.specs.Report.{Completed, HasCause, ReadBefore, StoppedAt, cause_of, clips_now, report_at, report_in, start_of};
-ghost use Rattle.fx_run.specs.Run.{RanToFailure, WantsMore, behind_read, sound_frames};
+ghost use Rattle.fx_io.specs.Io.{saturated};
+ghost use Rattle.fx_run.specs.Report.{Completed, HasCause, ReadBefore, Stands, StoppedAt, behind_reported, cause_of, clips_now, report_at, report_in, start_of};
+ghost use Rattle.fx_run.specs.Run.{RanToFailure, WantsMore, sound_frames};
 ghost use Rattle.fx_chain.specs.Theorem.{Ran};
 ghost use Rattle.fx_flow.specs.Parts.{given_by, moves_of, taken_of};
-ghost use Rattle.fx_flow.specs.Composed.{enough_for};
 ghost use Rattle.fx_flow.specs.Steps.{IsDone, IsHungry};
 ghost use Rattle.fx_step.specs.Holds.{kinds};
 ghost use Rattle.fx_effects.specs.Bounds.{work_of};
@@ -55,14 +55,17 @@ pub fn run<R: ByteIn, W: ByteOut>(
         Completed effect_acts chain.old.flow chain.new.flow (target_for chain.old.plan) (start_of chain.old.plan.head) bytes (sound_frames (start_of chain.old.plan.head) r.frames_in bytes) (W.writes.taken writer.old) (W.writes.taken writer.new) r)) }
     ensures flushed { OnOk result (W.writes.flushed writer.new ≡ true) }
     ensures done { OnOk result (IsDone effect_acts chain.new.flow) }
-    ensures left { IfOk result (λ r. IfKnown (to_come R.reads.rest source.old) (λ bytes.
-        to_come R.reads.rest source.new ≡ Some (behind_read (start_of chain.old.plan.head) (enough_for (kinds effect_acts chain.old.flow.stages) r.frames_in) r.frames_in bytes))) }
 
     // After a fault the frames then due were written, or a front.
     ensures stopped { IfErr result (λ f. IfKnown (to_come R.reads.rest source.old) (λ bytes.
         StoppedAt effect_acts chain.old.flow chain.new.flow (target_for chain.old.plan) (start_of chain.old.plan.head) bytes (sound_frames (start_of chain.old.plan.head) (report_at f).frames_in bytes) (W.writes.taken writer.old) (W.writes.taken writer.new) f)) }
     ensures due_flushed { IfErr result (λ f. cause_of f ≢ Cause.WriteFailed → W.writes.flushed writer.new ≡ true) }
     ensures read_failed { IfErr result (λ f. cause_of f ≡ Cause.ReadFailed → RanToFailure R.reads.told source.old source.new.reader (start_of chain.old.plan.head) (report_at f).frames_in) }
+
+    // Where the source stands.
+    ensures stands { IfKnown (to_come R.reads.rest source.old) (λ bytes. Stands result
+        ((R.reads.failures source.new.reader ≡ saturated (R.reads.failures source.old.reader + 1)) × ReadBefore effect_acts R.reads.told source.old source.new.reader chain.old.flow chain.new.flow (start_of chain.old.plan.head) (report_in result).frames_in (report_in result).frames_out)
+        (to_come R.reads.rest source.new ≡ Some (behind_reported (start_of chain.old.plan.head) (report_in result) bytes))) }
 
     // The counts.
     ensures wants { WantsMore (kinds effect_acts chain.old.flow.stages) (report_in result).frames_in }

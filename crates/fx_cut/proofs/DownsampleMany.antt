@@ -4,12 +4,14 @@ use Rattle.std.specs.Prelude.{None, option_to_list, is_none}
 use Rattle.std.specs.Int.{div_ceil}
 use Rattle.std.proofs.lemmas.List.{drop-drop, length-take-le}
 use Rattle.std.proofs.Math.Nat.{add-mul, mul_assoc, mul-le-mul_right, suc-mul}
-use Rattle.fx_step.specs.Feed.{Fed, GaveNext, TookNext, nothing, taken, given}
+use Rattle.fx_step.specs.Feed.{Fed, GaveNext, TookNext, TookWithRoom, nothing, taken, given}
 use Rattle.fx_step.specs.Frame.{Samples}
 use Rattle.fx_lists.specs.Lists.{pieces}
 use Rattle.fx_step.proofs.FedLaws.{Fed-then}
+use Rattle.fx_step.proofs.Rooms.{room-most}
 use Rattle.fx_lists.proofs.Puts.{pieces-split}
 use Rattle.fx_lists.proofs.Pieces.{length-pieces}
+use Rattle.fx_cut.specs.Ceil.{ceil_rises}
 use Rattle.fx_cut.specs.Downsample.{downsampled}
 use Rattle.fx_cut.specs.DownsampleState.{DownsampleState, IsDownsample, downsample_acts}
 use Rattle.fx_cut.specs.Strides.{firsts}
@@ -159,6 +161,13 @@ all-passed s n m input out r h none room few same =
     let two = groups-fed m (past s n) (drop (n * ch) input) one.1 none (omega (arith, room, split, length-drop (n * ch) input)) (omega arith) in
     let end : ◌≡◌ {A = DownsampleState} (record s { skip = s.skip - n; taken = s.taken + n + m * f; given = s.given + m }) (passed (past s n) (m * f) m) = rw (r.empty, none) refl in
     rw (end, same, pieces-split ch n (m * f) input) (Fed-then downsample_acts s (past s n) (passed (past s n) (m * f) m) (pieces ch n input) [] (pieces ch (m * f) (drop (n * ch) input)) (firsts ch f m (drop (n * ch) input)) one.0 two.0, two.1)
+
+-- each of so many frames was taken while the output had room for one more, where it has room for those that were given and one more
+pub took-with-room : (s t : DownsampleState) (n k room : ℕ) → Ready t → t.recipe ≡ s.recipe → t.taken ≡ s.taken + n → t.given ≡ s.given + k → (k + 1) * s.recipe.channels ≤ room → TookWithRoom downsample_acts s n room
+took-with-room s t n k room r same took gave fits =
+    let counted = rw same at r.is.counted in
+    let hand : length (option_to_list t.hand) ≡ 0 = ap (λ h. length (option_to_list h)) r.empty in
+    room-most downsample_acts s n k room (λ i few. omega (arith, counted, hand, gave, ceil_rises (s.taken + i) t.taken s.recipe.factor (omega (arith, took, few)))) fits
 
 -- so many frames and groups are there
 pub groups-room : (len ch f n m : ℕ) → n ≤ len / ch → m ≤ (len / ch - n) / f → (n + m * f) * ch ≤ len

@@ -6,11 +6,12 @@ use Rattle.std.proofs.lemmas.List.Elements.{All-head, All-tail}
 use Rattle.fx_fixed.specs.Extents.{greatest, pad_distance}
 use Rattle.fx_fixed.specs.declared.positions.At.{At}
 use Rattle.fx_step.specs.declared.feed.Passing.TheVariants.{Through}
-use Rattle.fx_step.specs.Feed.{Fed, GaveNext, PassedOn, TookNext, nothing, taken, given}
+use Rattle.fx_step.specs.Feed.{Fed, GaveNext, PassedOn, TookNext, TookWithRoom, nothing, taken, given}
 use Rattle.fx_step.specs.Frame.{Samples}
 use Rattle.fx_lists.specs.Lists.{pieces}
 use Rattle.fx_step.specs.Stage.{IsDry}
 use Rattle.fx_step.proofs.FedLaws.{Fed-then}
+use Rattle.fx_step.proofs.Rooms.{room-each}
 use Rattle.fx_lists.proofs.Pieces.{length-pieces}
 use Rattle.fx_cut.specs.Pad.{pad_due, pads_from_start, silent_at}
 use Rattle.fx_cut.specs.PadState.{PadState, IsPad, pad_acts, pad_left}
@@ -182,3 +183,11 @@ quiet-passed s n input out a room same =
     let all = quiet-fed (pieces ch n input) s (rw many a) (pieces-sides ch n input room) in
     let last : ◌≡◌ {A = PadState} (record s { taken = s.taken + n; given = s.given + n }) (later s n) = rw (a.empty, a.none) refl in
     rw (last, same) (rw many at all)
+
+-- each of them was taken while the output had room for one more
+pub took-with-room : (s : PadState) (n room : ℕ) → Quiet s n → n * s.recipe.channels ≤ room → TookWithRoom pad_acts s n room
+took-with-room s n room a fits =
+    let counted = a.is.counted a.running in
+    let hand : length (option_to_list s.hand) ≡ 0 = ap (λ h. length (option_to_list h)) a.empty in
+    let none = a.none in
+    room-each pad_acts s n room (λ i few. let due = due-quiet s.recipe.pads s.taken i (sym a.is.capacity ∙ a.short) (λ j h. a.quiet j (omega arith)) in omega (arith, due, counted, hand, none)) fits

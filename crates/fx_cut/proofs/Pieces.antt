@@ -5,11 +5,12 @@ use Rattle.std.specs.List.{All}
 use Rattle.std.proofs.lemmas.List.Elements.{All-append, All-head, All-nil, All-tail}
 use Rattle.std.proofs.lemmas.List.{drop-drop, drop_at, length-take, length-take-le, nil_from_length, take-take}
 use Rattle.std.proofs.Math.Nat.{add-mul, div-mul-le_self, mul-le-mul_right, suc-mul, mul-le-mul_left, le_of_mul-le-mul_right}
-use Rattle.fx_step.specs.Feed.{Fed}
+use Rattle.fx_step.specs.Feed.{Fed, TookWithRoom}
 use Rattle.fx_lists.specs.Lists.{pieces}
 use Rattle.fx_step.specs.Stage.{Acts, kind, spent}
 use Rattle.fx_step.proofs.FedLaws.{Fed-gives}
 use Rattle.fx_step.proofs.FeedParts.{Fed-behind}
+use Rattle.fx_step.proofs.Rooms.{room-then}
 use Rattle.fx_lists.proofs.Puts.{part-from, pieces-same, put-from}
 use Rattle.fx_lists.proofs.Pieces.{length-pieces}
 use borrow.Rule.Slice.PartMut.{put_mid}
@@ -68,7 +69,8 @@ module _ {S R : Type 0} (acts : Acts S R) where
     pub read : n * (kind acts first).inputs ≤ length input
     pub written : k * (kind acts first).outputs ≤ length out
     pub behind : drop (k * (kind acts first).outputs) out ≡ drop (k * (kind acts first).outputs) start
-    pub none : length start < (kind acts first).outputs → n ≡ 0
+    pub same : length out ≡ length start
+    pub room : TookWithRoom acts first n (length start)
 
   -- and that it passed all that it could
   pub record FedOut (first s : S) (input out : List ℤ) (n k : ℕ) : Type 0 where
@@ -79,7 +81,7 @@ module _ {S R : Type 0} (acts : Acts S R) where
   pub front-any : (first s : S) (input start out : List ℤ) (n k : ℕ) → FedFront first s [] start out n k → FedFront first s input start out n k
   front-any first s input start out n k one =
       let none = one.read in
-      record { fed = rw (← pieces-cut (kind acts first).inputs n 0 input none) one.fed; read = omega arith; written = one.written; behind = one.behind; none = one.none }
+      record { fed = rw (← pieces-cut (kind acts first).inputs n 0 input none) one.fed; read = omega arith; written = one.written; behind = one.behind; same = one.same; room = one.room }
 
   -- so many frames were passed
   module _ {first s : S} {input start mid : List ℤ} {n k : ℕ} (one : FedFront first s input start mid n k) where
@@ -123,6 +125,19 @@ module _ {S R : Type 0} (acts : Acts S R) where
         long : length new ≡ k * (kind acts first).outputs + length behind
         long = omega (arith, front, length-append (take (k * (kind acts first).outputs) mid) behind)
 
+        -- what was left behind the first call had room for those of the second
+        rooms : TookWithRoom acts first (n + m) (length start)
+        rooms =
+            let outs' : ℕ = (kind acts first).outputs in
+            let all = Fed-gives acts first s _ _ one.fed in
+            let gave : (acts.counts s).given ≡ (acts.counts first).given + k = all.given ∙ ap (λ l. (acts.counts first).given + l) (length-pieces outs' k mid) in
+            let left : length (part (k * outs) mid) ≡ length start - k * outs' = ap length is-room ∙ ap length one.behind ∙ length-drop (k * outs') start in
+            room-then acts first s n k m (length start) all.recipe_stays counted gave (omega (arith, one.written, one.same)) one.room (rw left at two.room)
+
+        -- the output stays as long
+        whole : length new ≡ length mid
+        whole = omega (arith, long, two.same, ap length is-room, one.written, length-drop (k * (kind acts first).outputs) mid)
+
         front-new : FedFront first t input start new (n + m) (k + j)
         front-new =
             let ins' : ℕ = (kind acts first).inputs in
@@ -130,14 +145,14 @@ module _ {S R : Type 0} (acts : Acts S R) where
             let fed = rw (kind-stays, is-part) at two.fed in
             let wrote = rw kind-stays at two.written in
             let rest = rw (kind-stays, is-room) at two.behind in
-            let none = rw (kind-stays, is-room) at two.none in
             let more : (k + j) * outs' ≡ k * outs' + j * outs' = add-mul k j outs' in
             record {
               fed = Fed-behind acts ins' outs' n m k j input mid behind new first s t one.written refl one.fed fed;
               read = read-both m (rw is-part at two.read);
               written = omega (arith, more, wrote, long);
               behind = rw more (sym (drop-drop (j * outs') (k * outs') new) ∙ ap (drop (j * outs')) (drop_at (take (k * outs') mid) behind (k * outs') front) ∙ rest ∙ ap (drop (j * outs')) one.behind ∙ drop-drop (j * outs') (k * outs') start);
-              none = λ few. omega (arith, one.none few, none (omega (arith, few, ap length one.behind, length-drop (k * outs') start)));
+              same = omega (arith, whole, one.same);
+              room = rooms;
             }
 
         out-new : FedOut s t (part (n * ins) input) behind m j → FedOut first t input new (n + m) (k + j)
@@ -167,8 +182,5 @@ module _ {S R : Type 0} (acts : Acts S R) where
         pub few-taken : 1 ≤ (kind acts first).inputs → n + m ≤ length input
         few-taken some = few-frames (n + m) (kind acts first).inputs (length input) some front-new.read
 
-        pub few-given : outs ≢ 0 → length behind ≡ length (part (k * outs) mid) → k + j ≤ length mid
-        few-given some same =
-            let w = one.written in
-            let whole : length new ≡ length mid = omega (arith, long, same, ap length is-room, length-drop (k * (kind acts first).outputs) mid) in
-            few-frames (k + j) (kind acts first).outputs (length mid) (omega (arith, some, outs-is)) (rw whole at front-new.written)
+        pub few-given : outs ≢ 0 → k + j ≤ length mid
+        few-given some = few-frames (k + j) (kind acts first).outputs (length mid) (omega (arith, some, outs-is)) (rw whole at front-new.written)

@@ -1,11 +1,13 @@
 -- Frames that are sifted many at a time, as they fall out of the line.
-use Rattle.std.proofs.Common.{◌≡◌, ◌+◌, ◌-◌, ◌*◌, ◌<◌, ◌≤◌, ◌^◌, ℕ, ℤ, suc, Bool, true, false, cond, inl, inr, ◌⊎◌, List, [], ◌∷◌, ◌++◌, map, length, take, refl, sym, ap, ◌∙◌, arith, add-zero, length-take-le}
+use Rattle.std.proofs.Common.{◌≡◌, ◌+◌, ◌-◌, ◌*◌, ◌/◌, ◌<◌, ◌≤◌, ◌^◌, ℕ, ℤ, suc, Bool, true, false, cond, inl, inr, ◌⊎◌, List, [], ◌∷◌, ◌++◌, map, length, take, refl, sym, ap, ◌∙◌, arith, add-zero, length-take-le}
 use Rattle.std.specs.Prelude.{FitsSigned, Some, None, is_none}
 use Rattle.std.specs.Int.{w32}
 use Rattle.std.specs.List.{All}
 use Rattle.std.proofs.lemmas.Bool.{cases_lt}
 use Rattle.std.proofs.lemmas.List.Elements.{All-cons, All-head, All-nil, All-tail, All-take}
-use Rattle.fx_step.specs.Feed.{Fed, GaveNext, TookNext, nothing, taken, given}
+use Rattle.std.proofs.lemmas.Nat.{le-div}
+use Rattle.std.proofs.Math.Nat.{div-mul-le_self}
+use Rattle.fx_step.specs.Feed.{Fed, GaveNext, TookNext, TookWithRoom, nothing, taken, given}
 use Rattle.fx_step.specs.Frame.{IsFrame, Samples}
 use Rattle.fx_step.specs.Hand.{IsHand}
 use Rattle.fx_step.specs.Given.{plain}
@@ -16,12 +18,13 @@ use Rattle.fx_lists.proofs.Puts.{pieces-take}
 use Rattle.fx_lists.proofs.Pieces.{length-pieces}
 use Rattle.fx_step.specs.Stage.{Given, is_enough}
 use Rattle.fx_step.proofs.FedLaws.{Fed-then}
+use Rattle.fx_step.proofs.Rooms.{room-most}
 use Rattle.fx_cut.specs.Sifted.{AreSettled, IsSiftState, Sifts, SiftState, made_along, settled_in, sift_acts, sifted_here}
 use Rattle.fx_cut.proofs.Fallen.{fallen}
 use Rattle.fx_cut.proofs.Onto.{gone, onto, onto-line, onto-long, onto-more, onto-none, out-full, out-more, out-room, out_of, same-line}
 use Rattle.fx_cut.proofs.Pieces.{all-pieces}
 use Rattle.fx_cut.proofs.SiftPassing.{Gave-before, IsSift-before, held-sift}
-use Rattle.fx_cut.proofs.SiftSteps.{IsSift-fallen, IsSift-inside, Took-fallen, Took-inside, came, due-given}
+use Rattle.fx_cut.proofs.SiftSteps.{IsSift-fallen, IsSift-inside, Took-fallen, Took-inside, came, due-given, due-most}
 
 no-frames : (gs : List Samples) (ws : List Given) → map plain gs ≡ ws → ws ≡ [] → gs ≡ []
 no-frames [] ws e n = refl
@@ -313,6 +316,18 @@ module _ {M : Type 0} (sifts : Sifts M) where
         counts : (c : Bool) (k' : ℕ) (ys : List Samples) → k' ≡ cond c (gone s.line n) 0 → length ys ≡ n → s.given + k' ≡ cond c (s.given + gone s.line (length ys)) s.given
         counts true k' ys e m = rw (e, m) refl
         counts false k' ys e m = rw e (add-zero s.given)
+
+    -- each of so many frames was taken while the output had room for one more, where it has room for those that fall out
+    pub took-with-room : (s : SiftState M) (n room : ℕ) → IsSiftState sifts s → s.hand ≡ None → s.ended ≡ false → 0 < sifts.channels s.arguments → sifts.channels s.arguments ≤ room
+        → n ≤ room / sifts.channels s.arguments + (s.line.capacity - length s.line.items) → TookWithRoom (sift_acts sifts) s n room
+    took-with-room s n room is empty running wide one fits =
+        let w : ℕ = sifts.channels s.arguments in
+        let full = is.full running in
+        let cap = is.capacity in
+        let gave = due-given sifts s is running (ap is_none empty) in
+        let some : 1 ≤ room / w = le-div 1 room w wide (omega arith) in
+        let whole : room / w - 1 + 1 ≡ room / w = omega arith in
+        room-most (sift_acts sifts) s n (room / w - 1) room (λ i few. omega (arith, due-most sifts ok s.arguments s.taken i, few, fits, some, gave, full, cap)) (rw whole (div-mul-le_self room w))
 
 -- the samples of frames that fell out of a line fit
 pub fell-fit : (channels k : ℕ) (os : List Samples) (fell : List ℤ) → k * channels ≤ length fell → pieces channels k fell ≡ take k os → All (IsSamples w32 channels) os → All (FitsSigned w32) (take (k * channels) fell)

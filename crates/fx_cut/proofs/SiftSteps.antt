@@ -2,14 +2,16 @@
 use Rattle.std.proofs.Common.{◌≡◌, ℕ, ℤ, zero, suc, ◌+◌, ◌-◌, ◌<◌, ◌≤◌, ◌^◌, Bool, true, false, cond, List, [], ◌∷◌, ◌++◌, map, length, drop, refl, sym, ◌∙◌, ap, arith, add-zero, length-append, append_assoc, append-nil}
 use Rattle.std.specs.Prelude.{Option, Some, None, option_to_list, is_none, slice_get}
 use Rattle.std.specs.Int.{w32}
-use Rattle.std.proofs.lemmas.Bool.{false≢true}
+use Rattle.std.proofs.lemmas.Bool.{cases_lt, false≢true}
 use Rattle.std.proofs.lemmas.List.{length-map}
+use mathlib.Core.Logic.{inl, inr}
 use mathlib.Core.Path.{ap₂}
 use Rattle.fx_step.specs.Frame.{Samples}
 use Rattle.fx_step.specs.Hand.{IsHand}
 use Rattle.fx_ring.specs.Line.{Frames, IsLine}
 use Rattle.fx_step.specs.Stage.{Gave, Given, Took, coming}
 use Rattle.fx_step.specs.Given.{plain}
+use Rattle.fx_step.proofs.Flags.{flag-le}
 use Rattle.fx_cut.specs.Sifted.{AreSettled, IsSiftState, Sifts, SiftState, given_before, settled_in, sift_acts, sift_after, sifted_from, sifted_here}
 use Rattle.fx_cut.proofs.Fallen.{fallen, stays, no_fall, stays-room, is_full, oldest-first, first-popped}
 use Rattle.fx_cut.proofs.Hands.{at_most_one, empty-hand, empty_of}
@@ -160,6 +162,17 @@ module _ {M : Type 0} (sifts : Sifts M) where
         let one : ◌≡◌ {A = ℕ} (cond (sifts.gives m (settled_in sifts m (s - sifts.reach m + n)) (s - sifts.reach m + n)) 1 0) 1 = ap (λ b. cond b 1 0) (k n (omega arith)) in
         let others = due-along m s n h (λ i l. k i (omega arith)) in
         ap (sifts.due m) next ∙ omega (arith, more, one, others)
+
+    -- no more than one more is due for each frame that falls out
+    pub due-most : (m : M) (s n : ℕ) → sifts.due m (s + n) ≤ sifts.due m s + (n - (sifts.reach m - s))
+    due-most m s zero = let same : s + 0 ≡ s = omega arith in rw same (omega arith)
+    due-most m s (suc n) =
+        let next : s + suc n ≡ s + n + 1 = omega arith in
+        let others = due-most m s n in
+        elim (cases_lt (s + n) (sifts.reach m)) [
+          | inl less ↦ rw next (omega (arith, others, due-early m (s + n) less))
+          | inr more ↦ rw next (omega (arith, others, more, due-next m (s + n) more, flag-le (sifts.gives m (settled_in sifts m (s + n - sifts.reach m)) (s + n - sifts.reach m))))
+        ]
 
     -- where the end comes, all that is due was given
     pub given-due : (s : SiftState M) → IsSiftState sifts s → s.ended ≡ false → s.given + length (option_to_list s.hand) ≡ given_before sifts s.arguments s.taken (s.taken - length s.line.items)

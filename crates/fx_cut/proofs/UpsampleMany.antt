@@ -2,11 +2,12 @@
 use Rattle.std.proofs.Common.{◌≡◌, ◌+◌, ◌-◌, ◌*◌, ◌/◌, ◌<◌, ◌≤◌, ◌^◌, ℕ, ℤ, zero, suc, true, false, List, [], ◌∷◌, ◌++◌, length, take, drop, replicate, refl, sym, ap, ◌∙◌, arith, add-one, add-zero, append-nil, append_assoc, length-drop}
 use Rattle.std.specs.Prelude.{Some, None, option_to_list, pos}
 use Rattle.std.proofs.lemmas.List.{drop-drop, drop-replicate, drop_at, length-take-le, take-replicate, take_at}
-use Rattle.std.proofs.Math.Nat.{suc-mul}
-use Rattle.fx_step.specs.Feed.{Fed, GaveNext, TookNext, nothing, taken, given}
+use Rattle.std.proofs.Math.Nat.{add-mul, mul-le-mul_right, suc-mul}
+use Rattle.fx_step.specs.Feed.{Fed, GaveNext, TookNext, TookWithRoom, nothing, taken, given}
 use Rattle.fx_step.specs.Frame.{Samples, silence}
 use Rattle.fx_lists.specs.Lists.{pieces}
 use Rattle.fx_step.proofs.FedLaws.{Fed-then}
+use Rattle.fx_step.proofs.Rooms.{room-most}
 use Rattle.fx_lists.proofs.Puts.{pieces-split, pieces-take}
 use Rattle.fx_lists.proofs.Pieces.{pieces-front}
 use Rattle.fx_cut.specs.Strides.{spread}
@@ -155,3 +156,16 @@ pub all-passed : (s : UpsampleState) (n : ℕ) (input out : List ℤ) → Ready 
 all-passed s n input out r room few same =
     let end : ◌≡◌ {A = UpsampleState} (record s { taken = s.taken + n; given = s.given + n * s.recipe.factor }) (passed s n (n * s.recipe.factor)) = rw (r.empty, r.none) refl in
     rw (end, same) (frames-fed n s input r room few)
+
+-- each of them was taken while the output had room for one more
+pub took-with-room : (s : UpsampleState) (n room : ℕ) → Ready s → n * s.recipe.factor * s.recipe.channels ≤ room → TookWithRoom upsample_acts s n room
+took-with-room s n room r fits i few =
+    let f : ℕ = s.recipe.factor in
+    let counted = r.is.counted in
+    let hand : length (option_to_list s.hand) ≡ 0 = ap (λ h. length (option_to_list h)) r.empty in
+    let none = r.none in
+    let some : 1 ≤ f = r.is.arguments.some_factor in
+    let before : (j : ℕ) → j < n → j * f + f ≤ n * f = λ j less. let h : (j + 1) * f ≤ n * f = mul-le-mul_right f (omega arith) in omega (arith, h, add-mul j 1 f) in
+    let last = before i few in
+    let whole : n * f - 1 + 1 ≡ n * f = omega arith in
+    room-most upsample_acts s n (n * f - 1) room (λ j less. omega (arith, counted, hand, none, some, before j less, add-mul s.taken j f)) (rw whole fits) i few

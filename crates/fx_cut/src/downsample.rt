@@ -203,7 +203,8 @@ impl Stage for Downsample {
 }
 
 impl PassesMany for Downsample {
-    /// Passes the frames that are to be left out, and then whole groups of a frame that is kept and those left out behind it.
+    /// Passes the frames that are to be left out, and then whole groups of a frame that is kept and those left out behind it,
+    /// while the output has room for a frame behind that of the group.
     fn pass_many(&mut self, input: &[i32], output: &mut [i32]) -> Passed {
         let channels = self.channels;
         if self.hand.is_some() || self.ended || output.len() < channels {
@@ -220,7 +221,7 @@ impl PassesMany for Downsample {
             };
         }
         let factor = self.factor as usize;
-        let groups = ((frames - left_out) / factor).min(output.len() / channels);
+        let groups = ((frames - left_out) / factor).min((output.len() - channels) / channels);
         copy_firsts(
             &input[left_out * channels..],
             output,

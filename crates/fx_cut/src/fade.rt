@@ -1,5 +1,5 @@
 //! The effect `fade` of sox(1), of the type t: a linear rise at the start and a linear fall before the stop.
-ghost use Rattle.std.specs.Prelude.{ℕ, ◌≡◌, ◌≤◌, ◌<◌, ◌+◌, ◌*◌, ◌^◌, length, map, Err, FitsSigned, IfOk, MatchResult, option_to_list, true};
+ghost use Rattle.std.specs.Prelude.{ℕ, ◌≡◌, ◌≤◌, ◌<◌, ◌+◌, ◌*◌, ◌^◌, length, map, Err, FitsSigned, IfOk, MatchResult, false, option_to_list, true};
 ghost use Rattle.std.specs.Int.{w32};
 ghost use Rattle.std.specs.List.{All};
 ghost use Rattle.fx_fixed.specs.Extents.{meant, stop_line};
@@ -173,6 +173,7 @@ impl PreparedFade {
         requires place { place ≤ 2 ^ 56 }
         ensures before { result ≡ is_before (stop_settled self.now.shape place) place }
         ensures samples { result ≡ true → map (weighted (weights self.now.shape (stop_settled self.now.shape place) place)) samples.old ≡ map unclipped samples.new }
+        ensures left { result ≡ false → samples.new ≡ samples.old }
         ensures fit { All (FitsSigned w32) samples.new }
         ensures len { length samples.new ≡ length samples.old }
     {

@@ -1,5 +1,5 @@
 //! Lines that may have no places.
-ghost use Rattle.std.specs.Prelude.{◌≡◌, ◌≤◌, length, true, None, Some, if◌then◌else◌};
+ghost use Rattle.std.specs.Prelude.{◌≡◌, ◌≤◌, length, false, true, None, Some, if◌then◌else◌};
 ghost use Rattle.fx_step.specs.Frame.{IsFrame};
 ghost use Rattle.fx_ring.specs.Line.{pushed, pushed_out};
 
@@ -15,6 +15,7 @@ pub fn push_over(line: &mut Line, samples: &mut [i32]) -> bool
     ensures capacity { line.new.capacity ≡ line.old.capacity }
     ensures channels { line.new.channels ≡ line.old.channels }
     ensures oldest { pushed_out line.old samples.old ≡ (if result then Some samples.new else None) }
+    ensures kept { result ≡ false → samples.new ≡ samples.old }
     ensures frame { result ≡ true → IsFrame samples.new }
     ensures len { length samples.new ≡ length samples.old }
 {

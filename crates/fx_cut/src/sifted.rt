@@ -69,6 +69,7 @@ pub trait Sifting {
         requires place { place ≤ 2 ^ 56 }
         ensures given { result ≡ sifts.gives self.old (settled_in sifts self.old place) place }
         ensures samples { result ≡ true → plain samples.new ≡ sifts.made self.old (settled_in sifts self.old place) place samples.old }
+        ensures left { result ≡ false → samples.new ≡ samples.old }
         ensures fit { All (FitsSigned w32) samples.new }
         ensures len { length samples.new ≡ length samples.old }
         ensures same { self.new ≡ self.old };

@@ -1,5 +1,5 @@
 -- Frames that went through stages in a row by one call, as a run of their flow.
-use Rattle.std.proofs.Common.{ℕ, zero, suc, ◌+◌, ◌*◌, ◌≤◌, ◌≡◌, List, [], ◌∷◌, ◌++◌, length, take, drop, false, refl, ◌∙◌, arith, inr, Some}
+use Rattle.std.proofs.Common.{ℕ, zero, suc, ◌+◌, ◌*◌, ◌≤◌, ◌≡◌, List, [], ◌∷◌, ◌++◌, length, map, take, drop, false, refl, ap, ◌∙◌, arith, inr, Some}
 use Rattle.std.specs.Prelude.{ℤ, FitsSigned}
 use Rattle.std.specs.Int.{w32}
 use Rattle.std.specs.List.{All}
@@ -15,7 +15,9 @@ use Rattle.fx_lists.proofs.Pieces.{length-pieces}
 use Rattle.fx_flow.specs.Feed.{untouched}
 use Rattle.fx_flow.specs.Parts.{AllSettled, Parts}
 use Rattle.fx_flow.specs.Row.{WentThrough}
-use Rattle.fx_flow.specs.Runs.{AllAhead, MayRun, RanOn, flow_of}
+use Rattle.fx_step.specs.Holds.{kinds}
+use Rattle.fx_flow.proofs.Laws.{given_by-due}
+use Rattle.fx_flow.specs.Runs.{AllAhead, GivesOneEach, MayRun, RanOn, flow_of}
 use Rattle.fx_flow.specs.Sound.{IsSound, most_frames}
 use Rattle.fx_flow.proofs.Feeding.{FlowFed-then, FlowGave-none, FlowGave-then}
 use Rattle.fx_flow.proofs.Handing.{AllSettled-dry}
@@ -106,6 +108,23 @@ module _ {S R : Type 0} (acts : Acts S R) where
         let e : left + suc (length xs) ≡ left + 1 + length xs = omega arith in
         rw (one.is, e) (Going-then _ _ _ (x ∷ []) (one.out ∷ []) xs one.outs went refl rest)
 
+    -- and each gave one
+    each-row : (xs ys : List Samples) (left : ℕ) (old new : List S) → AreFrames channels xs → left + length xs ≤ most_frames → IsSound acts (flow_of acts channels old left) → AllSettled acts old → AllHeld acts old → AllAhead acts (length xs) old → RowThrough acts xs ys old new
+        → GivesOneEach acts old left (length xs)
+    each-row [] ys left old new frames few sound settled held ahead row n less = absurd (omega (arith, less))
+    each-row (x ∷ xs) ys left old new frames few sound settled held ahead row zero less =
+        let due = given_by-due acts left false old refl settled sound.joined in
+        let count : left + 0 ≡ left = omega arith in
+        rw (count, ← due) (omega arith)
+    each-row (x ∷ xs) ys left old new frames few sound settled held ahead row (suc n) less =
+        let one = first-through x xs ys old new row in
+        let went = passed-row acts rises channels left x frames.0 frames.1 (omega arith) (Some one.out) old one.mid sound settled (AllAhead-unspent acts (suc (length xs)) old (omega arith) ahead) held one.went in
+        let rest = each-row xs one.outs (left + 1) one.mid new frames.2 (omega arith) went.sound one.settled (AllHeld-went acts x (Some one.out) old one.mid one.went held) (AllAhead-went acts (length xs) x (Some one.out) old one.mid one.went ahead) one.more in
+        let later = rest n (omega (arith, less)) in
+        let count : left + 1 + n ≡ left + suc n = omega arith in
+        let same : kinds acts one.mid ≡ kinds acts old = ap (map acts.kind_of) went.gave.recipes_stay in
+        omega (arith, rw (count, same) at later, went.gave.given)
+
     -- what a row did to frames in front of the input
     pub RanOn-row : (count passed left : ℕ) (old new : List S) (input : List ℤ) (ys : List Samples) → 1 ≤ channels → channels ≤ 16 → passed ≤ count → count * channels ≤ length input → All (FitsSigned w32) (take (passed * channels) input) → MayRun acts channels count old left → AllSettled acts old → AllHeld acts old → AllAhead acts count old
         → RowThrough acts (pieces channels passed input) ys old new → RanOn acts channels (pieces channels passed input) ys old new left
@@ -114,4 +133,5 @@ module _ {S R : Type 0} (acts : Acts S R) where
         let many : length (pieces channels passed input) ≡ passed = length-pieces channels passed input in
         let frames : AreFrames channels (pieces channels passed input) = AreFrames-front channels passed input some few (omega arith) fits in
         let going = Going-row (pieces channels passed input) ys left old new frames (omega (arith, may.few)) may.sound settled held (rw many (AllAhead-less acts passed count old within ahead)) row in
-        record { fed = going.fed; gave = going.gave; sound = going.sound; moves = going.moves }
+        let each = each-row (pieces channels passed input) ys left old new frames (omega (arith, may.few)) may.sound settled held (rw many (AllAhead-less acts passed count old within ahead)) row in
+        record { fed = going.fed; gave = going.gave; sound = going.sound; moves = going.moves; each = each }

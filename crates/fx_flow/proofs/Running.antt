@@ -14,10 +14,16 @@ use Rattle.fx_step.specs.Stage.{Acts, Counts, IsDry, Kind, is_enough, kind, spen
 use Rattle.fx_step.specs.Row.{AreReady, outputs_of}
 use Rattle.fx_flow.specs.Parts.{AllDry, AllSettled, any_spent, ended_of, moves_of}
 use Rattle.fx_flow.specs.Row.{WentThrough}
-use Rattle.fx_flow.specs.Runs.{AllAhead, AllKeep, MayRun, MayRunRow, RanOn, flow_of}
+use Rattle.std.proofs.lemmas.Bool.{cases_lt}
+use Rattle.fx_flow.proofs.Laws.{given_by-due}
+use Rattle.fx_step.proofs.Rooms.{room-grows}
+use Rattle.fx_flow.specs.Composed.{due_of}
+use Rattle.fx_flow.specs.Feed.{FlowTookWithRoom}
+use Rattle.fx_flow.specs.Parts.{given_by}
+use Rattle.fx_flow.specs.Runs.{GivesOneEach, AllAhead, AllKeep, MayRun, MayRunRow, RanOn, flow_of}
 use Rattle.fx_flow.specs.Sound.{IsSound, most_frames}
 use Rattle.fx_flow.specs.declared.runs.Widths.{Widths}
-use Rattle.fx_flow.proofs.Feeding.{Turned, Turned-kept, Turned-none, Turned-through}
+use Rattle.fx_flow.proofs.Feeding.{outs, Turned, Turned-kept, Turned-none, Turned-through}
 use Rattle.fx_lists.proofs.Pieces.{length-pieces}
 use Rattle.fx_flow.proofs.Handing.{AllSettled-dry}
 use Rattle.fx_flow.proofs.Rows.{AllHeld, AreReady-from, CameTo, neither}
@@ -183,6 +189,12 @@ module _ {S R : Type 0} (acts : Acts S R) where
   pub settled-all : (i : ℕ) (new : List S) → length new ≤ i → AllSettled acts (take i new) → AllSettled acts new
   settled-all i new h all = rw (take_all i new h) at all
 
+  -- where before each frame no more is due than one for each that came, and all of them have room
+  pub FlowRoom-each : (channels left : ℕ) (stages : List S) (count room : ℕ) → GivesOneEach acts stages left count → count * outputs_of channels (kinds acts stages) ≤ room → FlowTookWithRoom acts (flow_of acts channels stages left) count room
+  FlowRoom-each channels left stages count room each fits n few =
+      let none : left + 0 + n ≡ left + n = omega arith in
+      rw none (room-grows (due_of (kinds acts stages) (left + n) - given_by acts left stages) count (outputs_of channels (kinds acts stages)) room (omega (arith, each n few, few)) fits)
+
   module _ (rises : (r : R) (m n : ℕ) → m ≤ n → (acts.kind_of r).most m ≤ (acts.kind_of r).most n) (channels outputs count left : ℕ) (first : List S) (input start : List ℤ) where
     -- how far the frames have gone through the stages
     pub record Running (stages : List S) (out : List ℤ) (read written taken given : ℕ) : Type 0 where
@@ -193,6 +205,7 @@ module _ {S R : Type 0} (acts : Acts S R) where
       pub ahead : (m : ℕ) → taken + m ≡ count → AllAhead acts m stages
       pub same : kinds acts stages ≡ kinds acts first
       pub fewer : given ≤ taken
+      pub each : GivesOneEach acts first left taken
 
     pub Running-none : MayRun acts channels count first left → AllHeld acts first → AllAhead acts count first → Running first start 0 0 0 0
     Running-none may held ahead =
@@ -205,7 +218,20 @@ module _ {S R : Type 0} (acts : Acts S R) where
           ahead = λ m is. let same : m ≡ count = omega arith in rw same ahead;
           same = refl;
           fewer = omega arith;
+          each = λ n few. absurd (omega (arith, few));
         }
+
+    -- and before one frame more, where all have given what is due
+    Running-each : (stages : List S) (out : List ℤ) (read written taken given : ℕ) → Running stages out read written taken given → AllSettled acts stages → GivesOneEach acts first left (taken + 1)
+    Running-each stages out read written taken given run settled n few = elim (cases_lt n taken) [
+      | inl less ↦ run.each n less
+      | inr last ↦
+          let due = given_by-due acts (left + taken) false stages refl settled run.sound.joined in
+          let gave = run.turned.gave.given in
+          let count : left + n ≡ left + taken = omega (arith, last, few) in
+          let many = length-pieces (outs acts (flow_of acts channels first left) input start) given out in
+          rw (count, ← run.same, ← due) (omega (arith, gave, many, run.fewer, last))
+    ]
 
     -- none is spent, and all may be passed a frame
     Running-unspent : (stages : List S) (out : List ℤ) (read written taken given : ℕ) → Running stages out read written taken given → taken < count → any_spent acts stages ≡ false
@@ -221,7 +247,7 @@ module _ {S R : Type 0} (acts : Acts S R) where
         → RanOn acts channels (pieces channels taken input) (pieces outputs given out) first stages left
     Running-ran stages out read written taken given run room outs =
         let many : length (pieces channels taken input) ≡ taken = length-pieces channels taken input in
-        record { fed = rw many (rw outs at run.turned.fed); gave = rw many (rw outs at run.turned.gave); sound = rw many run.sound; moves = rw many run.moves }
+        record { fed = rw many (rw outs at run.turned.fed); gave = rw many (rw outs at run.turned.gave); sound = rw many run.sound; moves = rw many run.moves; each = rw many run.each }
 
     module _ (stages stages' : List S) (out : List ℤ) (read written taken given : ℕ) (x : Samples) (run : Running stages out read written taken given) (few : left + count ≤ most_frames) (more : taken < count) (settled : AllSettled acts stages) (shape : IsFrame x) (width : length x ≡ channels) (is : x ≡ take channels (drop read input)) (some : 1 ≤ channels) (room : read + channels ≤ length input) where
       -- of what a frame that goes through the stages keeps
@@ -244,6 +270,7 @@ module _ {S R : Type 0} (acts : Acts S R) where
             ahead = λ m n. keeps None went going.gave.recipes_stay m n;
             same = ap (map acts.kind_of) going.gave.recipes_stay ∙ run.same;
             fewer = let h = run.fewer in omega arith;
+            each = Running-each stages out read written taken given run settled;
           }
 
       -- a frame came out
@@ -263,6 +290,7 @@ module _ {S R : Type 0} (acts : Acts S R) where
             ahead = λ m n. keeps (Some frame) went going.gave.recipes_stay m n;
             same = ap (map acts.kind_of) going.gave.recipes_stay ∙ run.same;
             fewer = let h = run.fewer in omega arith;
+            each = Running-each stages out read written taken given run settled;
           }
 
     -- a frame was copied from the input, went through the stages, and what came out was copied to the output

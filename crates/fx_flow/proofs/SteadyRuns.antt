@@ -1,5 +1,5 @@
 -- Frames that went through stages a few at a time, as a run of their flow.
-use Rattle.std.proofs.Common.{ℕ, ◌+◌, ◌-◌, ◌*◌, ◌≤◌, ◌≡◌, ◌∙◌, List, [], ◌++◌, length, take, drop, refl, sym, ap, arith}
+use Rattle.std.proofs.Common.{ℕ, ◌+◌, ◌-◌, ◌*◌, ◌≤◌, ◌≡◌, ◌∙◌, List, [], ◌++◌, length, map, take, drop, refl, sym, ap, arith}
 use Rattle.std.specs.Prelude.{ℤ, FitsSigned}
 use Rattle.std.specs.Int.{w32}
 use Rattle.std.specs.List.{All}
@@ -14,6 +14,8 @@ use Rattle.fx_step.specs.Stage.{Acts}
 use Rattle.fx_step.proofs.Evenly.{put-between, put-long}
 use Rattle.fx_lists.proofs.Puts.{pieces-split, drop-put, pieces-same, pieces-take}
 use Rattle.fx_lists.proofs.Pieces.{length-pieces, pieces-front}
+use Rattle.std.proofs.lemmas.Bool.{cases_lt}
+use mathlib.Core.Logic.{inl, inr}
 use Rattle.fx_flow.specs.Feed.{untouched}
 use Rattle.fx_flow.specs.Parts.{AllSettled}
 use Rattle.fx_flow.specs.Row.{AllLined}
@@ -26,14 +28,22 @@ use Rattle.fx_flow.proofs.Rows.{AllHeld-lined}
 
 module _ {S R : Type 0} (acts : Acts S R) where
   -- one run behind another
-  RanOn-then : (channels left : ℕ) (xs gs ys hs : List Samples) (first mid new : List S) → RanOn acts channels xs gs first mid left → RanOn acts channels ys hs mid new (left + length xs) → RanOn acts channels (xs ++ ys) (gs ++ hs) first new left
-  RanOn-then channels left xs gs ys hs first mid new one two =
+  RanOn-then : (channels left : ℕ) (xs gs ys hs : List Samples) (first mid new : List S) → length gs ≡ length xs → RanOn acts channels xs gs first mid left → RanOn acts channels ys hs mid new (left + length xs) → RanOn acts channels (xs ++ ys) (gs ++ hs) first new left
+  RanOn-then channels left xs gs ys hs first mid new even one two =
       let n : left + length (xs ++ ys) ≡ left + length xs + length ys = omega (arith, length-append xs ys) in
       record {
         fed = rw n (FlowFed-then acts (flow_of acts channels first left) (flow_of acts channels mid (left + length xs)) (flow_of acts channels new (left + length xs + length ys)) xs gs ys hs one.fed two.fed);
         gave = rw n (FlowGave-then acts (flow_of acts channels first left) (flow_of acts channels mid (left + length xs)) (flow_of acts channels new (left + length xs + length ys)) xs gs ys hs one.gave refl two.gave);
         sound = rw n two.sound;
         moves = rw n (omega (arith, one.moves, two.moves));
+        each = λ m few. elim (cases_lt m (length xs)) [
+          | inl less ↦ one.each m less
+          | inr more ↦
+              let later = two.each (m - length xs) (omega (arith, few, more, length-append xs ys)) in
+              let count : left + length xs + (m - length xs) ≡ left + m = omega (arith, more) in
+              let same : kinds acts mid ≡ kinds acts first = ap (map acts.kind_of) one.gave.recipes_stay in
+              omega (arith, rw (count, same) at later, one.gave.given, even, more)
+        ];
       }
 
   module _ (rises : (r : R) (m n : ℕ) → m ≤ n → (acts.kind_of r).most m ≤ (acts.kind_of r).most n) (channels count : ℕ) (first : List S) (input start : List ℤ) where
@@ -66,7 +76,7 @@ module _ {S R : Type 0} (acts : Acts S R) where
         ran-none : (left : ℕ) → MayRun acts channels count first left → RanOn acts channels [] [] first first left
         ran-none left may =
             let e : left + 0 ≡ left = omega arith in
-            record { fed = rw e untouched; gave = rw e (FlowGave-none acts (flow_of acts channels first left)); sound = rw e may.sound; moves = rw e (omega arith) }
+            record { fed = rw e untouched; gave = rw e (FlowGave-none acts (flow_of acts channels first left)); sound = rw e may.sound; moves = rw e (omega arith); each = λ n few. absurd (omega (arith, few)) }
 
     -- so many frames more may come
     later-may : (stages : List S) (out : List ℤ) (done m left : ℕ) → Steadily stages out done → done + m ≡ count → MayRun acts channels count first left → MayRun acts channels m stages (left + done)
@@ -162,4 +172,4 @@ module _ {S R : Type 0} (acts : Acts S R) where
             let two : RanOn acts channels xs ys stages stages' (left + done) =
             RanOn-row acts rises channels (count - done) few (left + done) stages stages' (drop at input) ys one sixteen (omega (arith, within)) rest fitting next steadily.settled (AllHeld-lined acts stages steadily.lined) (steadily.ahead (count - done) all) row' in
             let before : length (pieces channels done input) ≡ done = length-pieces channels done input in
-            rw (pieces-split channels done few input, outs) (RanOn-then channels left (pieces channels done input) (pieces channels done out) xs ys first stages stages' (steadily.ran left may) (rw before two))
+            rw (pieces-split channels done few input, outs) (RanOn-then channels left (pieces channels done input) (pieces channels done out) xs ys first stages stages' (length-pieces channels done out ∙ sym before) (steadily.ran left may) (rw before two))

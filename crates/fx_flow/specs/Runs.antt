@@ -7,8 +7,9 @@ use Rattle.fx_lists.specs.Lists.{pieces}
 use Rattle.fx_step.specs.Row.{outputs_of}
 use Rattle.fx_step.specs.Stage.{Acts, Kind, is_enough, kind}
 use Rattle.fx_step.specs.declared.feed.Passed.{Passed}
+use Rattle.fx_flow.specs.Composed.{due_of}
 use Rattle.fx_flow.specs.Feed.{FlowFed, FlowGave}
-use Rattle.fx_flow.specs.Parts.{AllSettled, Parts, ended_of, moves_of}
+use Rattle.fx_flow.specs.Parts.{AllSettled, Parts, ended_of, given_by, moves_of}
 use Rattle.fx_flow.specs.Row.{AllLined}
 use Rattle.fx_flow.specs.Sound.{IsSound, most_frames}
 use Rattle.fx_flow.specs.declared.runs.Widths.{Widths}
@@ -38,12 +39,17 @@ module _ {S R : Type 0} (acts : Acts S R) where
     pub sound : IsSound acts (flow_of channels stages left)
     pub few : left + count ≤ most_frames
 
+  -- before each of so many frames no more was due than one for each that came before it
+  abbrev pub GivesOneEach : List S → ℕ → ℕ → Type 0
+  GivesOneEach stages left count = (n : ℕ) → n < count → due_of (kinds acts stages) (left + n) ≤ given_by acts left stages + n
+
   -- these frames came to the flow, and went through the stages; those came out
   pub record RanOn (channels : ℕ) (xs gs : List Samples) (old new : List S) (left : ℕ) : Type 0 where
     pub fed : FlowFed acts (flow_of channels old left) xs gs (flow_of channels new (left + length xs))
     pub gave : FlowGave acts (flow_of channels old left) xs gs (flow_of channels new (left + length xs))
     pub sound : IsSound acts (flow_of channels new (left + length xs))
     pub moves : moves_of acts (flow_of channels old left) + ended_of acts old ≤ moves_of acts (flow_of channels new (left + length xs)) + ended_of acts new
+    pub each : GivesOneEach old left (length xs)
 
   -- So many frames at the front of the input, whose samples these are, may go through stages in a row, and the output has room
   -- for as many. A frame has 1 to 16 channels, and the widths are those of the stages. Each stage has given what is due, holds

@@ -2,7 +2,6 @@
 use Rattle.std.proofs.Common.{ℕ, ◌≡◌, ◌+◌, ◌*◌, ◌/◌, ◌<◌, ◌≤◌, min, arith}
 use Rattle.std.proofs.Math.Nat.{div-mul-le_self, lt-div-mul-add, mul-le-mul_right}
 use Rattle.std.proofs.lemmas.Nat.{le-div}
-use Rattle.fx_step.proofs.Feeding.{none-fit}
 
 pub both-have : (read room inputs outputs count : ℕ) → count ≡ min (read / inputs) (room / outputs) → (count * inputs ≤ read) × (count * outputs ≤ room)
 both-have read room inputs outputs count is =
@@ -18,7 +17,3 @@ no-more read room inputs outputs count some wide is left =
     let more : count + 1 ≤ room / outputs = le-div (count + 1) room outputs wide (omega (arith, left)) in
     let all : count ≡ read / inputs = omega (arith, is, more) in
     rw all (lt-div-mul-add some)
-
--- where there is room for none, both have none
-pub none-both : (read room inputs outputs count : ℕ) → count ≡ min (read / inputs) (room / outputs) → room < outputs → count ≡ 0
-none-both read room inputs outputs count is few = none-fit count outputs room (both-have read room inputs outputs count is).1 few

@@ -199,6 +199,7 @@ module _ {S R X : Type 0} (acts : Acts S R) (device : ByteReader X) (first : Sta
     kept = q.gives.channels ∙ b.gave.channels ∙ p.kept;
     wants = wants-block;
     whole = λ bytes known. (ran-block bytes known).whole;
+    left = λ bytes known. (ran-block bytes known).to_come_is;
     flowed = λ bytes known. Flowed-cut acts first.flow mid new first.coding _ mid_clips new_clips first.wrote wrote new_wrote mid_out new_out first.head (flowed-block bytes known) running-block (rw p.coded at q);
     reads = ap device.failures b.reader ∙ p.reads;
   }
@@ -290,6 +291,7 @@ module _ {S R X : Type 0} (acts : Acts S R) (device : ByteReader X) (first : Sta
     kept = p.kept;
     wants = p.wants;
     whole = λ bytes known. (p.ran bytes known).whole;
+    left = λ bytes known. (p.ran bytes known).to_come_is;
     flowed = λ bytes known.
         let f = p.flowed bytes known in
         let sent = s first.wrote (first.head ++ coded first.coding f.given) f.sent in

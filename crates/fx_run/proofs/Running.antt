@@ -1,7 +1,8 @@
 -- What a run reports.
 use Rattle.std.proofs.Common.{zero, suc, ◌≡◌, ℕ, ◌+◌, ◌-◌, ◌*◌, ◌<◌, ◌≤◌, map, inl, inr, Bool, true, false, List, [], ◌∷◌, ◌++◌, length, take, replicate, refl, sym, ap, ◌∙◌, arith}
+use Rattle.std.proofs.Math.Nat.{div-add-mod'}
 use Rattle.std.proofs.lemmas.List.{append-nil, length-append, length-drop, take_at}
-use Rattle.std.specs.Prelude.{◌⊎◌, MatchBool, Option, Some, slice_index, slice_set}
+use Rattle.std.specs.Prelude.{◌⊎◌, MatchBool, Option, Some, drop, not, slice_index, slice_set}
 use Rattle.fx_heads.specs.Known.{IfKnown}
 use Rattle.fx_io.specs.declared.coding.Coding.{Coding}
 use Rattle.fx_step.specs.Frame.{Samples}
@@ -21,7 +22,7 @@ use Rattle.fx_run.specs.declared.target.Target.{Target}
 use Rattle.fx_run.specs.Outlet.{WroteAll, WroteFront, coded, coded_clips}
 use Rattle.fx_run.specs.Due.{dues}
 use Rattle.fx_run.specs.Report.{Reports, StoppedAt, cause_of, clips_now, head_for, met_end, output_of, pad, report_at, row_of}
-use Rattle.fx_run.specs.Run.{RanToEnd}
+use Rattle.fx_run.specs.Run.{RanToEnd, behind_read}
 use Rattle.fx_run.specs.Through.{Through}
 use Rattle.fx_run.proofs.Reaching.{clips-stopped, moves-stopped}
 
@@ -64,6 +65,14 @@ ended-known known bytes sound n missing stray over enough is e p = ended-either 
 pub not-over : (over enough : Bool) → MatchBool over (enough ≡ false) (enough ≡ true) → enough ≡ true → over ≡ false
 not-over true enough e t = absurd (cc (e, t))
 not-over false enough e t = refl
+
+-- a source stands behind what is reported of its sound
+pub stands-behind : (start : Reading) (bytes : List ℕ) (n missing stray : ℕ) (over : Bool) (to_come known : Option (List ℕ)) → known ≡ Some bytes → to_come ≡ Some (behind_read start (not over) n bytes)
+    → MatchBool over (IfKnown known (λ b. RanToEnd start b n missing stray)) ((missing ≡ 0) × (stray ≡ 0)) → to_come ≡ Some (drop (n * size_of start + stray) bytes)
+stands-behind start bytes n missing stray false to_come known is left p = left ∙ ap (λ m. Some (drop m bytes)) (omega (arith, p.1))
+stands-behind start bytes n missing stray true to_come known is left p =
+    let ran = p bytes is in
+    left ∙ ap (λ m. Some (drop m bytes)) (rw (ran.count, ran.strays) (sym (div-add-mod' (length (within start.left bytes)) (size_of start))))
 
 -- the bytes behind the head
 pub sound-length : (head sound : List ℕ) (put count : ℕ) → put ≡ length (head ++ sound) → count ≡ put - length head → count ≡ length sound

@@ -1,5 +1,5 @@
 -- What stays true while the frames of a sound go through a flow to a writer (this project's profile).
-use Rattle.std.specs.Prelude.{◌≡◌, ℕ, ◌+◌, ◌*◌, ◌≤◌, false, List, Option, length}
+use Rattle.std.specs.Prelude.{◌≡◌, ℕ, ◌+◌, ◌*◌, ◌≤◌, false, List, Option, Some, drop, length}
 use Rattle.fx_io.specs.declared.coding.Coding.{Coding}
 use Rattle.fx_step.specs.Holds.{kinds, recipes}
 use Rattle.fx_io.specs.Io.{ByteReader}
@@ -59,6 +59,7 @@ module _ {S R X : Type 0} (acts : Acts S R) (device : ByteReader X) (first : Sta
     pub kept : flow.channels ≡ first.flow.channels
     pub wants : WantsMore (kinds acts first.flow.stages) progress.frames
     pub whole : IfKnown (to_come device.rest first.source) (λ bytes. progress.frames * size_of first.progress ≤ length (within first.progress.left bytes))
+    pub left : IfKnown (to_come device.rest first.source) (λ bytes. to_come device.rest source ≡ Some (drop (progress.frames * size_of first.progress) bytes))
     pub flowed : IfKnown (to_come device.rest first.source) (λ bytes.
         FlowedFront acts first.flow flow first.coding (sound_frames first.progress progress.frames bytes) clips first.wrote wrote out first.head)
     pub reads : device.failures source.reader ≡ device.failures first.source.reader

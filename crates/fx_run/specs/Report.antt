@@ -1,5 +1,5 @@
 -- What a run reports (this project's profile).
-use Rattle.std.specs.Prelude.{◌≡◌, ◌≢◌, ◌⊎◌, ℕ, ◌+◌, ◌-◌, ◌*◌, ◌%◌, ◌==◌, ◌≤◌, Bool, true, false, cond, not, ◌&&◌, MatchBool, sum, List, [], ◌∷◌, ◌++◌, length, map, replicate, take, Option, None, Result, Ok, Err}
+use Rattle.std.specs.Prelude.{◌≡◌, ◌≢◌, ◌⊎◌, ℕ, ◌+◌, ◌-◌, ◌*◌, ◌%◌, ◌==◌, ◌≤◌, Bool, true, false, cond, not, ◌&&◌, MatchBool, sum, List, [], ◌∷◌, ◌++◌, drop, length, map, replicate, take, Option, Some, None, Result, Ok, Err}
 use Rattle.fx_io.specs.declared.coding.Coding.{Coding}
 use Rattle.fx_step.specs.Frame.{Samples}
 use Rattle.fx_step.specs.Holds.{kinds, recipes, total}
@@ -49,6 +49,17 @@ abbrev pub HasCause : Cause → Type 0 → ℕ → ℕ → ℕ → ℕ → Type 
 HasCause Causes.ReadFailed Before reads new_reads writes new_writes = (new_reads ≡ saturated (reads + 1)) × (new_writes ≡ writes)
 HasCause Causes.WriteFailed Before reads new_reads writes new_writes = ((new_reads ≡ reads) ⊎ ((new_reads ≡ saturated (reads + 1)) × Before)) × (new_writes ≡ saturated (writes + 1))
 HasCause Causes.TooLong Before reads new_reads writes new_writes = (new_reads ≡ reads) × (new_writes ≡ writes)
+
+-- the bytes behind the frames that were read of a sound, and behind its stray bytes
+abbrev pub behind_reported : Reading → Report → List ℕ → List ℕ
+behind_reported start r bytes = drop (r.frames_in * size_of start + r.stray) bytes
+
+-- Where a source stands after a run. Nothing is said of it after a failed read, and where one had failed before a write did.
+abbrev pub Stands : Result Report RunFault → Type 0 → Type 0 → Type 0
+Stands (Ok r) Before There = There
+Stands (Err (ReadFailed r)) Before There = Unit {0}
+Stands (Err (WriteFailed r)) Before There = There ⊎ Before
+Stands (Err (TooLong r)) Before There = There
 
 -- the report of a conversion that ended before its run
 abbrev pub no_report : Report

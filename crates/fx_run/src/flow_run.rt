@@ -2,14 +2,13 @@
 ghost use Rattle.std.specs.Prelude.{◌≡◌, ◌≢◌, ℕ, ◌+◌, ◌<◌, ◌≤◌, ◌^◌, ◌++◌, [], true, IfErr, IfOk, IsTrue, List, MatchResult, None, OnErr, OnOk, Option, Some, length, map};
 ghost use Rattle.fx_run.specs.Due.{dues};
 ghost use Rattle.fx_run.specs.Outlet.{WroteAll, WroteFront};
-ghost use Rattle.fx_run.specs.Report.{Completed, HasCause, ReadBefore, StoppedAt, cause_of, clips_now, pad, report_at, report_in, start_of};
-ghost use Rattle.fx_run.specs.Run.{RanToFailure, WantsMore, behind_read, sound_frames};
+ghost use Rattle.fx_run.specs.Report.{Completed, HasCause, ReadBefore, Stands, StoppedAt, behind_reported, cause_of, clips_now, pad, report_at, report_in, start_of};
+ghost use Rattle.fx_run.specs.Run.{RanToFailure, WantsMore, sound_frames};
 ghost use Rattle.fx_flow.specs.Parts.{given_by, moves_of, most_of, taken_of, work};
-ghost use Rattle.fx_flow.specs.Composed.{enough_for};
 ghost use Rattle.fx_flow.specs.Sound.{most_frames};
 ghost use Rattle.fx_flow.specs.Steps.{IsDone, IsHungry, wholes_of};
 ghost use Rattle.fx_step.specs.Holds.{kinds, recipes, total};
-ghost use Rattle.fx_io.specs.Io.{CountsFailure};
+ghost use Rattle.fx_io.specs.Io.{CountsFailure, saturated};
 ghost use Rattle.fx_heads.specs.Kind.{is_coding_of};
 ghost use Rattle.fx_heads.specs.Known.{IfKnown};
 ghost use Rattle.fx_sound.specs.Output.{Sent, bytes_put};
@@ -132,14 +131,17 @@ pub fn run_flow<R: ByteIn, S: Feeds, W: ByteOut>(
         Completed S.acts flow.old flow.new target (start_of head.now) bytes (sound_frames (start_of head.now) r.frames_in bytes) (W.writes.taken writer.old) (W.writes.taken writer.new) r)) }
     ensures flushed { OnOk result (W.writes.flushed writer.new ≡ true) }
     ensures done { OnOk result (IsDone S.acts flow.new) }
-    ensures left { IfOk result (λ r. IfKnown (to_come R.reads.rest source.old) (λ bytes.
-        to_come R.reads.rest source.new ≡ Some (behind_read (start_of head.now) (enough_for (kinds S.acts flow.old.stages) r.frames_in) r.frames_in bytes))) }
 
     // After a fault the frames then due were written, or a front.
     ensures stopped { IfErr result (λ f. IfKnown (to_come R.reads.rest source.old) (λ bytes.
         StoppedAt S.acts flow.old flow.new target (start_of head.now) bytes (sound_frames (start_of head.now) (report_at f).frames_in bytes) (W.writes.taken writer.old) (W.writes.taken writer.new) f)) }
     ensures due_flushed { IfErr result (λ f. cause_of f ≢ Cause.WriteFailed → W.writes.flushed writer.new ≡ true) }
     ensures read_failed { IfErr result (λ f. cause_of f ≡ Cause.ReadFailed → RanToFailure R.reads.told source.old source.new.reader (start_of head.now) (report_at f).frames_in) }
+
+    // Where the source stands.
+    ensures stands { IfKnown (to_come R.reads.rest source.old) (λ bytes. Stands result
+        ((R.reads.failures source.new.reader ≡ saturated (R.reads.failures source.old.reader + 1)) × ReadBefore S.acts R.reads.told source.old source.new.reader flow.old flow.new (start_of head.now) (report_in result).frames_in (report_in result).frames_out)
+        (to_come R.reads.rest source.new ≡ Some (behind_reported (start_of head.now) (report_in result) bytes))) }
 
     // The counts.
     ensures wants { WantsMore (kinds S.acts flow.old.stages) (report_in result).frames_in }

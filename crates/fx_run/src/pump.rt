@@ -1,5 +1,5 @@
 //! Frames from a source through a flow to a writer.
-ghost use Rattle.std.specs.Prelude.{◌≡◌, ◌+◌, ◌*◌, ◌<◌, ◌≤◌, ◌^◌, ◌++◌, [], false, true, List, OnErr, OnOk, Err, MatchBool, Some, length};
+ghost use Rattle.std.specs.Prelude.{◌≡◌, ◌+◌, ◌*◌, ◌<◌, ◌≤◌, ◌^◌, ◌++◌, [], false, true, not, List, OnErr, OnOk, Err, MatchBool, Some, length};
 ghost use Rattle.fx_run.specs.Report.{met_end};
 ghost use Rattle.fx_run.specs.Run.{Flowed, FlowedFront, RanToEnd, RanToFailure, WantsMore, behind_read, is_read_failed, is_write_failed, sound_frames};
 ghost use Rattle.fx_run.specs.Through.{CutOff, Drained};
@@ -118,8 +118,8 @@ pub fn pump<R: ByteIn, S: Feeds, W: ByteOut>(
     ensures most { progress.new.frames ≤ MOST_FRAMES }
 
     // Where the source stands.
-    ensures left { OnOk result (IfKnown (to_come R.reads.rest source.old) (λ bytes.
-        to_come R.reads.rest source.new ≡ Some (behind_read progress.old (enough_for (kinds S.acts flow.old.stages) progress.new.frames) progress.new.frames bytes))) }
+    ensures left { is_read_failed result ≡ false → IfKnown (to_come R.reads.rest source.old) (λ bytes.
+        to_come R.reads.rest source.new ≡ Some (behind_read progress.old (not progress.new.over) progress.new.frames bytes)) }
 
     // A fault is answered only where a failure was counted.
     ensures reads { MatchBool (is_read_failed result)

@@ -1,12 +1,13 @@
 -- Frames that lie one after another, and one more of them.
-use Rattle.std.proofs.Common.{◌≡◌, ◌+◌, ◌*◌, ◌<◌, ◌≤◌, ℕ, zero, suc, List, ◌++◌, length, take, drop, refl, ap, ◌∙◌, arith, add-one}
-use Rattle.std.proofs.lemmas.List.{length-drop}
+use Rattle.std.proofs.Common.{◌≡◌, ◌+◌, ◌*◌, ◌<◌, ◌≤◌, ℕ, zero, suc, List, ◌++◌, length, take, drop, refl, sym, ap, ◌∙◌, arith, add-one}
 use Rattle.std.proofs.Math.Nat.{suc-mul}
 use Rattle.std.specs.Prelude.{ℤ}
-use Rattle.fx_step.specs.Feed.{Fed, GaveNext, TookNext, nothing, taken, given}
+use Rattle.fx_step.specs.Feed.{Fed, GaveNext, TookNext, TookWithRoom, nothing, taken, given}
 use Rattle.fx_step.specs.Frame.{Samples}
 use Rattle.fx_lists.specs.Lists.{pieces}
 use Rattle.fx_step.specs.Stage.{Acts, Counts, kind}
+use Rattle.fx_lists.proofs.Pieces.{length-pieces}
+use Rattle.fx_step.proofs.Rooms.{room-next}
 use Rattle.fx_lists.proofs.Puts.{drop-put, pieces-more, pieces-put}
 
 -- in too few samples for one frame there is none
@@ -27,11 +28,11 @@ module _ {S R : Type 0} (acts : Acts S R) (first : S) (input start : List ℤ) w
     pub small : given ≤ written
     pub behind : drop written out ≡ drop written start
     pub fed : Fed acts first (pieces (kind acts first).inputs taken input) (pieces (kind acts first).outputs given out) s
-    pub none : length start < (kind acts first).outputs → taken ≡ 0
+    pub room : TookWithRoom acts first taken (length start)
 
   pub Turned-none : Turned first start 0 0 0 0
   Turned-none =
-      record { recipe = refl; count = omega arith; read_is = omega arith; read_in = omega arith; few = omega arith; written_is = omega arith; written_in = omega arith; small = omega arith; behind = refl; fed = nothing; none = λ few. refl }
+      record { recipe = refl; count = omega arith; read_is = omega arith; read_in = omega arith; few = omega arith; written_is = omega arith; written_in = omega arith; small = omega arith; behind = refl; fed = nothing; room = λ n few. absurd (omega (arith, few)) }
 
   pub Turned-gave : (s s' : S) (g : Samples) (out out' : List ℤ) (read written count number : ℕ)
       → Turned s out read written count number → GaveNext acts s s' g → 1 ≤ length g → written + (kind acts first).outputs ≤ length out → out' ≡ take written out ++ g ++ drop (written + length g) out → length out' ≡ length out
@@ -50,13 +51,13 @@ module _ {S R : Type 0} (acts : Acts S R) (first : S) (input start : List ℤ) w
         small = let h = t.small in omega arith;
         behind = rw sides (drop-put written (kind acts first).outputs start out g out' sides room put t.behind);
         fed = rw (pieces-put (kind acts first).outputs number written out g out' t.written_is sides room put) (given _ _ g s s' t.fed gave);
-        none = t.none;
+        room = t.room;
       }
 
   pub Turned-took : (s s' : S) (x : Samples) (out : List ℤ) (read written count number : ℕ)
-      → Turned s out read written count number → TookNext acts s s' x → 1 ≤ (kind acts first).inputs → read + (kind acts first).inputs ≤ length input → written + (kind acts first).outputs ≤ length out → x ≡ take (kind acts first).inputs (drop read input)
+      → Turned s out read written count number → TookNext acts s s' x → 1 ≤ (kind acts first).inputs → read + (kind acts first).inputs ≤ length input → written + (kind acts first).outputs ≤ length out → length out ≡ length start → x ≡ take (kind acts first).inputs (drop read input)
       → Turned s' out (read + (kind acts first).inputs) written (count + 1) number
-  Turned-took s s' x out read written count number t took some room free is =
+  Turned-took s s' x out read written count number t took some room free long is =
       let counted = ap (λ (n : Counts). n.taken) took.took.counted in
       record {
         recipe = took.took.recipe_stays ∙ t.recipe;
@@ -69,5 +70,5 @@ module _ {S R : Type 0} (acts : Acts S R) (first : S) (input start : List ℤ) w
         small = t.small;
         behind = t.behind;
         fed = rw (pieces-more (kind acts first).inputs count read input t.read_is, ← is) (taken _ _ x s s' t.fed took);
-        none = λ few. absurd (omega (arith, few, free, ap length t.behind, length-drop written out, length-drop written start));
+        room = room-next acts first s s' _ _ x count written (length start) t.recipe t.count t.fed took (t.written_is ∙ ap (λ m. m * (kind acts first).outputs) (sym (length-pieces (kind acts first).outputs number out))) (omega (arith, free, long)) t.room;
       }

@@ -4,4 +4,5 @@ pub mod FeedParts
 pub mod Feeding
 pub mod Flags
 pub mod Places
+pub mod Rooms
 pub mod RowLaws

@@ -1,5 +1,5 @@
 -- Frames passed to a stage many at a time, and taken from it likewise (this project's profile).
-use Rattle.std.specs.Prelude.{ℕ, ◌+◌, ◌≤◌, ◌≡◌, true, false, List, [], ◌∷◌, ◌++◌, length}
+use Rattle.std.specs.Prelude.{ℕ, ◌+◌, ◌-◌, ◌*◌, ◌<◌, ◌≤◌, ◌≡◌, true, false, List, [], ◌∷◌, ◌++◌, length}
 use Rattle.fx_step.specs.declared.feed.Passing.{Passing}
 use Rattle.fx_step.specs.declared.feed.Passing.TheVariants.{Kept, Through, More}
 use Rattle.fx_step.specs.Frame.{Samples}
@@ -13,6 +13,10 @@ module _ {S R : Type 0} (acts : Acts S R) where
   -- for so many frames more, one more is due for each
   abbrev pub IsSteady : ℕ → S → Type 0
   IsSteady count s = (n : ℕ) → n ≤ count → (kind acts s).due ((acts.counts s).taken + n) ≡ (kind acts s).due (acts.counts s).taken + n
+
+  -- each of so many frames was taken while so many samples had room for one frame more than was due before it
+  abbrev pub TookWithRoom : S → ℕ → ℕ → Type 0
+  TookWithRoom s taken room = (n : ℕ) → n < taken → ((kind acts s).due ((acts.counts s).taken + n) - (acts.counts s).given + 1) * (kind acts s).outputs ≤ room
 
   -- a stage that was dry, not ended and not spent, and had given all that was due, took a frame
   pub record TookNext (s s' : S) (frame : Samples) : Type 0 where

@@ -2,7 +2,7 @@
 ghost use Rattle.std.specs.Prelude.{◌≡◌, ◌<◌, ◌≤◌, ◌+◌, ◌*◌, ◌++◌, ℕ, true, false, FitsSigned, drop, length, take};
 ghost use Rattle.std.specs.Int.{w32};
 ghost use Rattle.std.specs.List.{All};
-ghost use Rattle.fx_step.specs.Feed.{Fed, IsSteady, PassedOn};
+ghost use Rattle.fx_step.specs.Feed.{Fed, IsSteady, PassedOn, TookWithRoom};
 ghost use Rattle.fx_step.specs.Holds.{kinds};
 ghost use Rattle.fx_lists.specs.Lists.{pieces};
 ghost use Rattle.fx_step.specs.Row.{AreReady, EachThrough, RowThrough, outputs_of};
@@ -37,8 +37,8 @@ pub enum Passing {
 /// gives what waits, and where the stage is dry, not ended and not spent, it takes the next frame of the input, and so on,
 /// until the output has no room for another frame, or the stage is dry and takes none.
 pub trait Feeds: Stage {
-    /// Takes frames from the front of the input, and writes those that are given to the front of the output; where the output
-    /// has no room for one frame, no frame is taken.
+    /// Takes frames from the front of the input, and writes those that are given to the front of the output. It takes a frame
+    /// only while the output has room for one more; where it has no room for one frame, none is taken.
     fn feed(&mut self, input: &[i32], output: &mut [i32]) -> Passed
         requires channels { (1 ≤ (kind Self.acts self.old).inputs) × ((kind Self.acts self.old).inputs ≤ 16) }
         requires below_limit { (n : ℕ) → n * (kind Self.acts self.old).inputs ≤ length input.now → (Self.acts.counts self.old).taken + n ≤ (kind Self.acts self.old).limit }
@@ -49,12 +49,12 @@ pub trait Feeds: Stage {
         ensures dry { result.given * (kind Self.acts self.old).outputs + (kind Self.acts self.old).outputs ≤ length output.new → Self.acts.dry self.new ≡ true }
         ensures used { result.given * (kind Self.acts self.old).outputs + (kind Self.acts self.old).outputs ≤ length output.new → (Self.acts.counts self.new).ended ≡ false → spent Self.acts self.new ≡ false
             → length input.now < result.taken * (kind Self.acts self.old).inputs + (kind Self.acts self.old).inputs }
-        ensures none { length output.old < (kind Self.acts self.old).outputs → result.taken ≡ 0 }
+        ensures room { TookWithRoom Self.acts self.old result.taken (length output.old) }
     {
         feed_by_frames(self, input, output)
     }
 
-    /// Takes a frame, and puts the one that it gives then, if it gives one, in its place.
+    /// Takes a frame, and puts the one that it gives then in its place. Where it gives none, the frame may be any.
     fn pass(&mut self, frame: &mut Frame) -> Passing
         requires dry { Self.acts.dry self.old ≡ true }
         requires not_ended { (Self.acts.counts self.old).ended ≡ false }
@@ -92,7 +92,7 @@ pub trait Feeds: Stage {
     }
 
     /// As `pass`, in sixteen places: the samples of a frame of so many channels are in front, and in their place come those of
-    /// the one that it gives then, and its channels. Where it gives none, both may be any.
+    /// the one that it gives then, and its channels. Where it gives none, both may be any, and the places behind always.
     fn pass_places(&mut self, places: &mut [i32; 16], channels: &mut usize) -> Passing
         requires dry { Self.acts.dry self.old ≡ true }
         requires not_ended { (Self.acts.counts self.old).ended ≡ false }
@@ -292,7 +292,7 @@ pub fn feed_by_frames<S: Stage>(stage: &mut S, input: &[i32], output: &mut [i32]
     ensures dry { result.given * (kind S.acts stage.old).outputs + (kind S.acts stage.old).outputs ≤ length output.new → S.acts.dry stage.new ≡ true }
     ensures used { result.given * (kind S.acts stage.old).outputs + (kind S.acts stage.old).outputs ≤ length output.new → (S.acts.counts stage.new).ended ≡ false → spent S.acts stage.new ≡ false
         → length input.now < result.taken * (kind S.acts stage.old).inputs + (kind S.acts stage.old).inputs }
-    ensures none { length output.old < (kind S.acts stage.old).outputs → result.taken ≡ 0 }
+    ensures room { TookWithRoom S.acts stage.old result.taken (length output.old) }
 {
     let inputs = stage.in_channels();
     let outputs = stage.out_channels();

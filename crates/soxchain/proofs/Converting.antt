@@ -1,5 +1,5 @@
 -- A conversion, put together from its head and its run.
-use Rattle.std.proofs.Common.{map, ◌⊎◌, inl, inr, ◌≡◌, ℕ, ◌+◌, ◌-◌, ◌/◌, ◌^◌, ◌<◌, ◌≤◌, List, [], length, sym, ap, arith, ◌∙◌}
+use Rattle.std.proofs.Common.{Bool, map, ◌⊎◌, inl, inr, ◌≡◌, ℕ, ◌+◌, ◌-◌, ◌/◌, ◌^◌, ◌<◌, ◌≤◌, List, [], length, sym, ap, arith, ◌∙◌}
 use Rattle.std.specs.Prelude.{MatchBool, Option, Some, Result, Ok, Err}
 use Rattle.fx_line.specs.declared.line.LineFault.{LineFault}
 use Rattle.fx_line.specs.Line.{Said}
@@ -7,6 +7,8 @@ use Rattle.fx_plan.specs.CommandLines.{LineReads}
 use Rattle.std.specs.Io.KnownBytes.{prepend_known}
 use mathlib.Core.Path.{ap₂}
 use Rattle.fx_run.specs.declared.report.Report.{Report}
+use Rattle.fx_run.specs.declared.report.RunFault.{RunFault}
+use Rattle.fx_run.specs.declared.report.RunFault.TheVariants as Faults
 use Rattle.fx_io.specs.Io.{ByteReader, ByteWriter, saturated}
 use Rattle.fx_heads.specs.declared.head.HeadFault.{HeadFault}
 use Rattle.fx_heads.specs.declared.head.HeadFault.TheVariants.{ReadFailed, UnknownType, Truncated, BadHeader, NotInProfile, TooManyChannels, HeadTooLong}
@@ -14,7 +16,7 @@ use Rattle.fx_heads.specs.HeadFields.{is_read_failure}
 use Rattle.fx_run.specs.declared.pump.Cause.{Cause}
 use Rattle.fx_run.specs.declared.pump.Cause.TheVariants as Causes
 use Rattle.fx_chain.specs.Chain.{ChainParts, IsNewChain}
-use Rattle.fx_run.specs.Report.{HasCause, ReadBefore, start_of}
+use Rattle.fx_run.specs.Report.{Stands, HasCause, ReadBefore, start_of}
 use Rattle.fx_run.specs.Run.{RanToFailure, WantsMore}
 use Rattle.fx_chain.specs.Theorem.{ReadFirst, kinds_of}
 use Rattle.fx_flow.specs.Parts.{Parts}
@@ -72,6 +74,13 @@ HasCause-map P Q f Causes.WriteFailed reads new_reads writes new_writes (inl sam
 HasCause-map P Q f Causes.WriteFailed reads new_reads writes new_writes (inr before, failed) = (inr (before.0, f before.1), failed)
 HasCause-map P Q f Causes.TooLong reads new_reads writes new_writes h = h
 
+pub Stands-map : (P Q There : Type 0) → (P → Q) → (r : Result Report RunFault) → Stands r P There → Stands r Q There
+Stands-map P Q There f (Ok r) h = h
+Stands-map P Q There f (Err (Faults.ReadFailed r)) h = h
+Stands-map P Q There f (Err (Faults.WriteFailed r)) (inl there) = inl there
+Stands-map P Q There f (Err (Faults.WriteFailed r)) (inr before) = inr (f before)
+Stands-map P Q There f (Err (Faults.TooLong r)) h = h
+
 -- where the writer failed, no read had failed, or one before it
 pub HasCause-before : (P Q : Type 0) (cause : Cause) (reads new_reads writes new_writes : ℕ) → cause ≡ Causes.WriteFailed → HasCause cause P reads new_reads writes new_writes → (P → Q)
     → (new_reads ≡ reads) ⊎ ((new_reads ≡ saturated (reads + 1)) × Q)
@@ -114,7 +123,7 @@ pub Finished-told : {R W : Type 0} (reads : ByteReader R) (writes : ByteWriter W
 Finished-told reads writes ready source new_source writer new_writer IsSaid IsTold status report move f = record {
   outcome = f.outcome;
   ran = f.ran;
-  left = f.left;
+  stands = f.stands;
   all_flushed = f.all_flushed;
   due_flushed = f.due_flushed;
   read_failed = f.read_failed;

@@ -2,7 +2,7 @@
 use Rattle.std.specs.Prelude.{ℕ, ℤ, ◌≡◌, ◌+◌, ◌*◌, ◌-◌, ◌<◌, ◌≤◌, ◌||◌, nat_lt, nat_eq, true, false, if◌then◌else◌, List, drop, length, map, slice_index, option_to_list}
 use Rattle.fx_chain.specs.Chain.{ChainParts}
 use Rattle.fx_flow.specs.declared.flow.State.TheVariants as States
-use Rattle.fx_flow.specs.Feed.{FlowFed}
+use Rattle.fx_flow.specs.Feed.{FlowFed, FlowTookWithRoom}
 use Rattle.fx_step.specs.Row.{outputs_of}
 use Rattle.fx_flow.specs.Parts.{any_spent}
 use Rattle.fx_flow.specs.Steps.{IsHungry, StateIs}
@@ -32,8 +32,9 @@ pub record ChainFed (c c' : ChainParts) (input old new : List ℤ) (passed : Pas
   pub waits : passed.given * outputs_in c + outputs_in c ≤ length new → StateIs effect_acts States.Busy c'.flow → ⊥
   pub used : passed.given * outputs_in c + outputs_in c ≤ length new → c'.flow.ended ≡ false → any_spent effect_acts c'.flow.stages ≡ false
       → length input < passed.taken * inputs_in c + inputs_in c
-  -- where the output has no room for one frame, no frame is taken, and the chain stays as it is
-  pub none : length old < outputs_in c → passed.taken ≡ 0
+  -- each frame was taken while the output had room for one more than was due before it
+  pub room : FlowTookWithRoom effect_acts c.flow passed.taken (length old)
+  -- where the output has no room for one frame, the chain stays as it is
   pub still : length old < outputs_in c → c' ≡ c
   pub plan : c'.plan ≡ c.plan
 

@@ -4,7 +4,7 @@ ghost use Rattle.std.specs.Prelude.{◌≡◌, ◌<◌, ◌≤◌, IfOk};
 use fx_chain::{Chain, Snapshot};
 use fx_flow::flow::{MOST_FRAMES, State};
 use std::alloc::Global;
-use tests_driving::driving::{Driven, Driver, frozen};
+use tests_driving::driving::{Driven, Driver, driver_of, frozen};
 use tests_driving::words::{TWELVE_EFFECTS, plan_of};
 
 /// The most samples of a sound.
@@ -322,6 +322,18 @@ fn feed_of_long_pieces_is_steps(rt: HostRuntime) -> Result<(), &'static str> {
     let mut dice = Dice { state: 3 };
     for effects in LONG_ROWS {
         feed_row(rt.alloc(), effects, LONG, &mut dice)?;
+    }
+    Ok(())
+}
+
+/// Of each four frames the first is kept: the third frame that is kept would have no room.
+#[test]
+fn feed_takes_no_frame_once_the_output_is_full(rt: HostRuntime) -> Result<(), &'static str> {
+    let mut driver = driver_of(rt.alloc(), "downsample 4")?;
+    let piece = [10, 20, 30, 40, 50, 60, 70, 80, 90];
+    let (taken, _waits) = feed_once(&mut driver.chain, &mut driver.driven, &piece, 2)?;
+    if taken != 5 || driver.driven.samples.as_slice() != [10, 50].as_slice() {
+        return Err("it took another number of frames, or gave others");
     }
     Ok(())
 }

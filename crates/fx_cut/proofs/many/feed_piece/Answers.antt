@@ -6,7 +6,7 @@ use Rattle.fx_cut.proofs.many.feed_piece.Goals.{After-pass_many-piece, After-fee
 
 -- a piece was passed
 one : (g : given.Over) (c : After-pass_many-piece g) → FedFront g.S.Stage.acts c.args.stage.now c.pass_many-piece.new.self c.args.input.now c.args.output.now c.pass_many-piece.new.output c.pass_many-piece.result.taken c.pass_many-piece.result.given
-one g c = let p = c.pass_many-piece.ensures in record { fed = p.fed; read = p.read; written = p.written; behind = p.behind; none = p.none }
+one g c = let p = c.pass_many-piece.ensures in record { fed = p.fed; read = p.read; written = p.written; behind = p.behind; same = c.pass_many-piece.auto.output; room = p.room }
 
 pub feed_by_frames-rest-requires : goal.feed_by_frames-rest-requires
 feed_by_frames-rest-requires g c =
@@ -15,7 +15,7 @@ feed_by_frames-rest-requires g c =
 
 -- and the rest was passed
 two : (g : given.Over) (c : After-feed_by_frames-rest g) → FedFront g.S.Stage.acts c.pass_many-piece.new.self c.feed_by_frames-rest.new.stage (part (c.pass_many-piece.result.taken * c.in_channels-inputs.result) c.args.input.now) (part (c.pass_many-piece.result.given * c.out_channels-outputs.result) c.pass_many-piece.new.output) c.feed_by_frames-rest.new.output c.feed_by_frames-rest.result.taken c.feed_by_frames-rest.result.given
-two g c = let q = c.feed_by_frames-rest.ensures in record { fed = q.fed; read = q.read; written = q.written; behind = q.behind; none = q.none }
+two g c = let q = c.feed_by_frames-rest.ensures in record { fed = q.fed; read = q.read; written = q.written; behind = q.behind; same = c.feed_by_frames-rest.auto.output; room = q.room }
 
 pub returns : goal.returns
 returns g c =
@@ -23,7 +23,7 @@ returns g c =
     let second = two g (goal.at.returns g c).After-feed_by_frames-rest in
     let both = front-both g.S.Stage.acts first c.in_channels-inputs.ensures c.out_channels-outputs.ensures second in
     let out = out-both g.S.Stage.acts first c.in_channels-inputs.ensures c.out_channels-outputs.ensures second record { dry = c.feed_by_frames-rest.ensures.dry; used = c.feed_by_frames-rest.ensures.used } in
-    record { fed = both.fed; read = both.read; written = both.written; behind = both.behind; dry = out.dry; used = out.used; none = both.none }
+    record { fed = both.fed; read = both.read; written = both.written; behind = both.behind; dry = out.dry; used = out.used; room = both.room }
 
 pub overflow_add-result : goal.overflow_add-result
 overflow_add-result g c =
@@ -31,4 +31,4 @@ overflow_add-result g c =
 
 pub overflow_add-result-2 : goal.overflow_add-result-2
 overflow_add-result-2 g c =
-    search (rules, few-given g.S.Stage.acts (one g (goal.at.overflow_add-result-2 g c).After-pass_many-piece) c.in_channels-inputs.ensures c.out_channels-outputs.ensures (two g (goal.at.overflow_add-result-2 g c).After-feed_by_frames-rest) c.if-outputs-eq0.false c.feed_by_frames-rest.auto.output)
+    search (rules, few-given g.S.Stage.acts (one g (goal.at.overflow_add-result-2 g c).After-pass_many-piece) c.in_channels-inputs.ensures c.out_channels-outputs.ensures (two g (goal.at.overflow_add-result-2 g c).After-feed_by_frames-rest) c.if-outputs-eq0.false)

@@ -1,11 +1,12 @@
-use Rattle.std.proofs.Common.{rules, ◌≡◌, ◌∙◌, inl, inr, length, refl, sym, ap}
+use Rattle.std.proofs.Common.{rules, ◌≡◌, ◌∙◌, inl, inr, length, refl, subst, sym, ap}
 use Rattle.std.specs.Prelude.{Err}
 use Rattle.fx_run.specs.declared.pump.Cause.TheVariants.{ReadFailed, WriteFailed, TooLong}
 use Rattle.fx_run.specs.Outlet.{coded_clips}
 use Rattle.std.proofs.lemmas.List.{append-nil}
+use Rattle.fx_heads.specs.Source.{to_come}
 use Rattle.fx_run.specs.Report.{row_of, start_of}
 use Rattle.fx_run.specs.Run.{sound_frames}
-use Rattle.fx_run.proofs.Running.{Sent-bytes_put, all-given, clips-all, moves-all, ended-known, ends-known, not-over, sound-length, stopped-due, stopped-front, wrote-all, wrote-front}
+use Rattle.fx_run.proofs.Running.{Sent-bytes_put, all-given, clips-all, moves-all, ended-known, ends-known, not-over, sound-length, stands-behind, stopped-due, stopped-front, wrote-all, wrote-front}
 use Rattle.fx_run.proofs.flow_run.run_flow.Goals as goal
 
 pub returns-in_default-clause-stopped : goal.returns-in_default-clause-stopped
@@ -45,10 +46,45 @@ returns-in-Ok-close-clause-completed g c = λ bytes known.
       settled = λ e z. p.settled (not-over _ _ p.enough e) bytes known z;
     })
 
-pub returns-in-Ok-close-clause-left : goal.returns-in-Ok-close-clause-left
-returns-in-Ok-close-clause-left g c = λ bytes known.
+pub returns-in-Ok-close-clause-stands : goal.returns-in-Ok-close-clause-stands
+returns-in-Ok-close-clause-stands g c = λ bytes known.
     let p = rw (c.new-progress.ensures) at c.in-Ok.ensures in
-    rw (c.report_of-in-Ok.ensures.frames_in) (p.left bytes known)
+    let r = c.report_of-in-Ok.ensures in
+    rw (r.frames_in, r.ends.1) (stands-behind (start_of c.args.head.now) bytes _ _ _ _ _ _ known (p.left refl bytes known) p.ends)
+
+pub returns-in_default-clause-stands : goal.returns-in_default-clause-stands
+returns-in_default-clause-stands g c = λ bytes known.
+    let p = rw (c.new-progress.ensures) at c.in-Ok.ensures in
+    let r = c.report_of.ensures in
+    inl (rw (r.frames_in, r.ends.1) (stands-behind (start_of c.args.head.now) bytes _ _ _ _ _ _ known (p.left refl bytes known) p.ends))
+
+pub returns-in-Err-WriteFailed-clause-stands : goal.returns-in-Err-WriteFailed-clause-stands
+returns-in-Err-WriteFailed-clause-stands g c = λ bytes known.
+    let is : c.pump-pumped.result ≡ Err WriteFailed = search rules in
+    let p = rw (is, c.new-progress.ensures) at c.pump-pumped.ensures in
+    let r = c.report_of-in-Err-WriteFailed.ensures in
+    inl (rw (r.frames_in, r.ends.1) (stands-behind (start_of c.args.head.now) bytes _ _ _ _ _ _ known (p.left refl bytes known) p.ends))
+
+pub returns-in_default-close-clause-stands : goal.returns-in_default-close-clause-stands
+returns-in_default-close-clause-stands g c = λ bytes known.
+    let is : c.pump-pumped.result ≡ Err ReadFailed = search rules in
+    let p = rw (is, c.new-progress.ensures) at c.pump-pumped.ensures in
+    let r = c.report_of-in_default-close.ensures in
+    rw (r.frames_in, r.frames_out) (inr (p.reads, record { due = p.due refl; hungry = p.hungry refl; not_enough = p.not_enough refl; read_failed = p.read_failed refl }))
+
+pub returns-in_default-close-2-clause-stands : goal.returns-in_default-close-2-clause-stands
+returns-in_default-close-2-clause-stands g c = λ bytes known.
+    let is : c.pump-pumped.result ≡ Err TooLong = search rules in
+    let p = rw (is, c.new-progress.ensures) at c.pump-pumped.ensures in
+    let r = c.report_of-in_default-close-2.ensures in
+    inl (rw (r.frames_in, r.ends.1) (stands-behind (start_of c.args.head.now) bytes _ _ _ _ _ _ known (p.left refl bytes known) p.ends))
+
+pub returns-in-Ok-close-3-clause-stands : goal.returns-in-Ok-close-3-clause-stands
+returns-in-Ok-close-3-clause-stands g c = λ bytes known.
+    let is : c.pump-pumped.result ≡ Err TooLong = search rules in
+    let p = rw (is, c.new-progress.ensures) at c.pump-pumped.ensures in
+    let r = c.report_of-in-Err-TooLong.ensures in
+    rw (r.frames_in, r.ends.1) (stands-behind (start_of c.args.head.now) bytes _ _ _ _ _ _ known (p.left refl bytes known) p.ends)
 
 pub returns-in-Err-WriteFailed-clause-stopped : goal.returns-in-Err-WriteFailed-clause-stopped
 returns-in-Err-WriteFailed-clause-stopped g c = λ bytes known.

@@ -11,7 +11,7 @@ use Rattle.fx_run.specs.Run.{is_write_failed}
 use Rattle.fx_run.specs.Pump.{Start}
 use Rattle.fx_run.proofs.Blocks.{Pumped-turn}
 use Rattle.fx_run.proofs.Draining.{given_by-few}
-use Rattle.fx_run.proofs.Passing.{Ran-left, enough-same, settled, Flowed-end, Flowed-start, FlowedFront-end, FlowedFront-start, FlowedFront-turn, RanToEnd-end, RanToFailure-failed, not-both, sound_frames-more}
+use Rattle.fx_run.proofs.Passing.{Ran-left, settled, Flowed-end, Flowed-start, FlowedFront-end, FlowedFront-start, FlowedFront-turn, RanToEnd-end, RanToFailure-failed, not-both, sound_frames-more}
 use Rattle.fx_run.proofs.Sending.{WroteFront-sent}
 use Rattle.fx_run.proofs.pump.pump.Goals as goal
 use Rattle.fx_sound.proofs.Sending.{Sent-start}
@@ -160,20 +160,53 @@ returns-then-is_spent-clause-settled g c = λ _ bytes known z.
     let same = c.is_spent.ensures.same c.if-is_spent.true in
     (settled g.S.Stage.acts c.args.flow.now c.loop-turn.flow _ _ z (old.flowed bytes known).through old.hungry.not_ended (λ y. same y))
 
-pub returns-then-is_spent-clause-left : goal.returns-then-is_spent-clause-left
-returns-then-is_spent-clause-left g c = λ bytes known.
-    let old = c.loop-turn.invariant.pumped in
-    let enough = sym (enough-same g.S.Stage.acts c.args.flow.now c.loop-turn.flow c.loop-turn.progress.frames old.stay old.taken) ∙ sym (c.is_spent.ensures.enough old.hungry) ∙ c.if-is_spent.true in
-    rw enough (old.ran bytes known).to_come_is
+pub returns-in_err-push-clause-left : goal.returns-in_err-push-clause-left
+returns-in_err-push-clause-left g c = λ _ bytes known.
+    let p = c.args.progress.now in
+    rw (c.requires.fresh.1, c.requires.fresh.0) (Ran-start p bytes (to_come g.R.ByteIn.reads.rest c.args.source.now) known).to_come_is
 
-pub returns-in-Ok-None-clause-left : goal.returns-in-Ok-None-clause-left
-returns-in-Ok-None-clause-left g c = λ bytes known.
+pub returns-then-is_spent-clause-left : goal.returns-then-is_spent-clause-left
+returns-then-is_spent-clause-left g c = λ _ bytes known.
+    let old = c.loop-turn.invariant.pumped in
+    rw old.begun (old.ran bytes known).to_come_is
+
+pub returns-in_err-end_flow-clause-left : goal.returns-in_err-end_flow-clause-left
+returns-in_err-end_flow-clause-left g c = λ _ bytes known.
+    let old = c.loop-turn.invariant.pumped in
+    rw old.begun (old.ran bytes known).to_come_is
+
+pub returns-in_err-drain-in-Ok-Some-clause-left : goal.returns-in_err-drain-in-Ok-Some-clause-left
+returns-in_err-drain-in-Ok-Some-clause-left g c = λ _ bytes known.
+    let old = c.loop-turn.invariant.pumped in
+    let next = rw c.in-Ok-Some.field-0-is at c.in-Ok-Some.ensures in
+    let turn : ℕ = c.loop-turn.progress.frames in
+    let count : c.next_frame.new.progress.frames ≡ turn + 1 = ap (λ (p : Reading). p.frames) next.counted in
+    let open_ : c.next_frame.new.progress.over ≡ false = ap (λ (p : Reading). p.over) next.counted ∙ old.begun in
+    let ran = old.ran bytes known in
+    rw (open_, count) (Ran-turn _ _ _ bytes _ turn _ _ ran (next.frame (drop (turn * size_of c.args.progress.now) bytes) ran.to_come_is) next.counted).to_come_is
+
+pub returns-in_err-end_flow-in-Ok-None-clause-left : goal.returns-in_err-end_flow-in-Ok-None-clause-left
+returns-in_err-end_flow-in-Ok-None-clause-left g c = λ _ bytes known.
     let old = c.loop-turn.invariant.pumped in
     let next = rw c.in-Ok-None.field-0-is at c.in-Ok-None.ensures in
     let ran = old.ran bytes known in
-    let more = sym (enough-same g.S.Stage.acts c.args.flow.now c.loop-turn.flow c.loop-turn.progress.frames old.stay old.taken) ∙ sym (c.is_spent.ensures.enough old.hungry) ∙ c.if-is_spent.false in
-    rw (next.over.1, more)
+    rw (next.over.0)
     (Ran-left c.args.progress.now c.loop-turn.progress bytes c.loop-turn.progress.frames _ _ ran (next.left old.begun (drop (c.loop-turn.progress.frames * size_of c.args.progress.now) bytes) ran.to_come_is))
+
+pub returns-in-Ok-None-clause-left : goal.returns-in-Ok-None-clause-left
+returns-in-Ok-None-clause-left g c = λ _ bytes known.
+    let old = c.loop-turn.invariant.pumped in
+    let next = rw c.in-Ok-None.field-0-is at c.in-Ok-None.ensures in
+    let ran = old.ran bytes known in
+    rw (next.over.0)
+    (Ran-left c.args.progress.now c.loop-turn.progress bytes c.loop-turn.progress.frames _ _ ran (next.left old.begun (drop (c.loop-turn.progress.frames * size_of c.args.progress.now) bytes) ran.to_come_is))
+
+pub returns-in-Err-TooLong-clause-left : goal.returns-in-Err-TooLong-clause-left
+returns-in-Err-TooLong-clause-left g c = λ _ bytes known.
+    let old = c.loop-turn.invariant.pumped in
+    let next = rw c.in-Err-TooLong.field-0-is at c.in-Err-TooLong.ensures in
+    let ran = old.ran bytes known in
+    rw (next.err, old.begun) (next.kept refl _ ran.to_come_is)
 
 pub returns-in_err-pump_block : goal.returns-in_err-pump_block
 returns-in_err-pump_block g c =
@@ -208,7 +241,7 @@ returns-in_err-pump_block g c =
       read_failed = λ other. not-both false refl other;
       too_long = λ other. not-both true (ap is_write_failed other) refl;
       most = front.most;
-      left = tt;
+      left = λ _ bytes known. rw front.begun (front.left bytes known);
       reads = front.reads;
       writes = c.in_err-pump_block.ensures.failures ∙ ap (λ n. saturated (n + 1)) (drained.failures ∙ c.loop-turn.invariant.writes);
     })

@@ -37,5 +37,5 @@ turns-preserved g c =
           (Turned-took acts first _ _ c.turns.stage w.take.new.self w.frame_at.result c.turns.output _ _ _ _ c.turns.invariant
           (record { dry = w.in_default.ensures.0; due = due; not_ended = sym ended ∙ w.if-is_ended.false; not_spent = sym spends ∙ w.if-is_spent.false; took = took; held = here })
           c.requires.channels.0 (omega (arith, w.if-input-read.false, c.in_channels-inputs.ensures, c.turns.invariant.read_in))
-          (omega (arith, c.turns-test.true, c.out_channels-outputs.ensures, c.turns.invariant.written_in)) (rw c.in_channels-inputs.ensures at w.frame_at.ensures.frame))
+          (omega (arith, c.turns-test.true, c.out_channels-outputs.ensures, c.turns.invariant.written_in)) c.turns.auto.output (rw c.in_channels-inputs.ensures at w.frame_at.ensures.frame))
     ]

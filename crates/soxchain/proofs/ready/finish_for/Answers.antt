@@ -1,14 +1,14 @@
 use Rattle.std.proofs.Common.{refl}
 use Rattle.std.specs.Prelude.{Ok, Err}
 use Rattle.fx_run.specs.Report.{cause_of}
-use Rattle.soxchain.proofs.Converting.{HasCause-map, ReadFirst-new, kinds-new, wants-new}
+use Rattle.soxchain.proofs.Converting.{HasCause-map, ReadFirst-new, Stands-map, wants-new}
 use Rattle.soxchain.proofs.ready.finish_for.Goals as goal
 
 pub returns-in-Ok : goal.returns-in-Ok
 returns-in-Ok g c = record {
   outcome = Ok c.in-Ok.report;
   ran = c.in-Ok.ensures.ran c.requires;
-  left = rw (kinds-new _ _ c.requires, c.requires.plan) at c.in-Ok.ensures.left;
+  stands = rw (c.requires.plan) at c.in-Ok.ensures.stands;
   all_flushed = c.in-Ok.ensures.flushed;
   due_flushed = tt;
   read_failed = tt;
@@ -26,7 +26,8 @@ returns g c =
     record {
       outcome = Err c.in-Err.fault;
       ran = c.in-Err.ensures.ran c.requires;
-      left = tt;
+      stands = λ bytes known.
+          Stands-map _ _ _ (λ before. (before.0, ReadFirst-new g.R.ByteIn.reads.told _ _ c.requires _ _ _ _ _ before.1)) (Err c.in-Err.fault) (rw (c.requires.plan) at (c.in-Err.ensures.stands bytes known));
       all_flushed = tt;
       due_flushed = c.in-Err.ensures.due_flushed;
       read_failed = rw (c.requires.plan) at c.in-Err.ensures.read_failed;

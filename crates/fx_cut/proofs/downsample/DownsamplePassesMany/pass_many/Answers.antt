@@ -1,12 +1,12 @@
 -- Frames that are left out, and groups behind them.
-use Rattle.std.proofs.Common.{rules, ◌≡◌, ◌≤◌, ◌+◌, ◌-◌, ◌*◌, ◌∙◌, [], length, ap, arith}
+use Rattle.std.proofs.Common.{rules, ◌≡◌, ◌≤◌, ◌+◌, ◌-◌, ◌*◌, ◌∙◌, [], length, ap, arith, refl}
 use Rattle.std.proofs.lemmas.List.{length-drop}
 use Rattle.std.proofs.Math.Nat.{add-mul, mul_assoc}
 use Rattle.fx_step.specs.Feed.{Fed, nothing}
 use Rattle.fx_lists.specs.Lists.{pieces}
 use Rattle.fx_cut.specs.DownsampleState.{downsample_acts}
 use Rattle.fx_cut.specs.declared.downsample.Downsample.TheView.{view}
-use Rattle.fx_cut.proofs.DownsampleMany.{Ready, all-passed, groups-room, lead-passed, past}
+use Rattle.fx_cut.proofs.DownsampleMany.{Ready, all-passed, groups-room, lead-passed, past, took-with-room}
 use Rattle.fx_cut.proofs.Hands.{not-some}
 use Rattle.fx_cut.proofs.Pieces.{frames-room}
 use Rattle.fx_lists.proofs.Puts.{part-from}
@@ -67,3 +67,22 @@ returns-clause-fed c = rw (← c.self.view_is) (groups c).0
 
 pub returns-clause-read : goal.returns-clause-read
 returns-clause-read c = rw (← c.self.view_is) (room (goal.at.returns-clause-read c).After-min-groups)
+
+pub returns-then-self-ne0-clause-room : goal.returns-then-self-ne0-clause-room
+returns-then-self-ne0-clause-room c =
+    let s = view c.self.inside in
+    let n = c.min-left_out.result in
+    let one : (0 + 1) * c.self.inside.channels ≤ length c.args.output.now = omega arith in
+    rw (← c.self.view_is) (took-with-room s (past s n) n 0 (length c.args.output.now) (lead c).1 refl refl (omega arith) one)
+
+pub returns-clause-room : goal.returns-clause-room
+returns-clause-room c =
+    let s = view c.self.inside in
+    let n = c.min-left_out.result in
+    let m = c.min-groups.result in
+    let ch = c.self.inside.channels in
+    let t = record s { skip = s.skip - n; taken = s.taken + n + m * s.recipe.factor; given = s.given + m } in
+    let room = length c.args.output.now in
+    let fewer : m * ch ≤ room - ch = frames-room m ch (room - ch) (omega (arith, c.min-groups.ensures)) in
+    let one : (m + 1) * ch ≤ room = omega (arith, fewer, add-mul m 1 ch) in
+    rw (← c.self.view_is) (took-with-room s t (n + m * c.self.inside.factor) m room (groups (goal.at.returns-clause-room c).After-self-4-1).1 refl (omega arith) refl one)

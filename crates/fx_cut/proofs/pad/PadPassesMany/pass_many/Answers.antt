@@ -6,13 +6,42 @@ use Rattle.fx_lists.specs.Lists.{pieces}
 use Rattle.fx_cut.specs.PadState.{IsPad, pad_acts}
 use Rattle.fx_cut.specs.declared.pad.Pad.TheView.{view}
 use Rattle.fx_cut.proofs.Hands.{not-some}
-use Rattle.fx_cut.proofs.PadMany.{Quiet, quiet-passed}
+use Rattle.fx_cut.proofs.PadMany.{Quiet, quiet-passed, took-with-room}
 use Rattle.fx_cut.proofs.Pieces.{few-pieces, frames-room, pieces-cut}
 use Rattle.fx_cut.proofs.pad.PadPassesMany.pass_many.Goals.{After-copy_frames-copied}
 use Rattle.fx_cut.proofs.pad.PadPassesMany.pass_many.Goals as goal
 
 pub returns-then-capacity-ne0-clause-fed : goal.returns-then-capacity-ne0-clause-fed
 returns-then-capacity-ne0-clause-fed c = nothing
+
+-- the frames up to the next pad, or those of the input, are there
+cut : (c : After-copy_frames-copied) → let n = c.min-count.result * c.self.inside.channels in (n ≤ length c.args.input.now) × (length (take n c.args.input.now) ≡ n)
+cut c =
+    let n = c.min-count.result * c.self.inside.channels in
+    let long : n ≤ length c.args.input.now = frames-room c.min-count.result c.self.inside.channels (length c.args.input.now) (omega (arith, c.min-count.ensures)) in
+    (long, length-take-le n c.args.input.now long)
+
+-- no silence stands before those that are copied
+quiet : (c : After-copy_frames-copied) → Quiet (view c.self.inside) c.copy_frames-copied.result
+quiet c =
+    let n = c.copy_frames-copied.result in
+    let ch = c.self.inside.channels in
+    let count = c.min-count.result in
+    let below = rw (← c.self.view_is) at c.requires.below_limit in
+    let there = cut c in
+    let read = c.copy_frames-copied.ensures.read in
+    let fewer : n ≤ count = few-pieces n count ch (rw (← c.self.view_is) at c.requires.channels.0) (omega (arith, read, there.1)) in
+    let quiet = rw c.all.ensures at c.quiet_from-quiet.ensures in
+    let ahead : n ≤ c.quiet_from-quiet.result = omega (arith, fewer, c.min-count.ensures) in
+    record {
+      is = c.self.invariant;
+      short = search rules;
+      empty = not-some c.self.inside.hand (search rules);
+      none = c.if-self-ne0.false;
+      running = c.if-self.false;
+      quiet = λ i h. quiet i (omega (arith, h, ahead));
+      few = below n (omega (arith, read, there.1, there.0));
+    }
 
 -- so many frames are passed
 passes : (c : After-copy_frames-copied) → let s = view c.self.inside in let n = c.copy_frames-copied.result in let t = record s { taken = s.taken + n; given = s.given + n } in
@@ -21,29 +50,19 @@ passes c =
     let n = c.copy_frames-copied.result in
     let ch = c.self.inside.channels in
     let input = c.args.input.now in
-    let below = rw (← c.self.view_is) at c.requires.below_limit in
-    let count = c.min-count.result in
-    let long : count * ch ≤ length input = frames-room count ch (length input) (omega (arith, c.min-count.ensures)) in
-    let cut : length (take (count * ch) input) ≡ count * ch = length-take-le (count * ch) input long in
+    let there = cut c in
     let read = c.copy_frames-copied.ensures.read in
-    let fewer : n ≤ count = few-pieces n count ch (rw (← c.self.view_is) at c.requires.channels.0) (omega (arith, read, cut)) in
-    let room : n * ch ≤ length input = omega (arith, read, cut, long) in
-    let quiet = rw c.all.ensures at c.quiet_from-quiet.ensures in
-    let ahead : n ≤ c.quiet_from-quiet.result = omega (arith, fewer, c.min-count.ensures) in
-    let a : Quiet (view c.self.inside) n = record {
-      is = c.self.invariant;
-      short = search rules;
-      empty = not-some c.self.inside.hand (search rules);
-      none = c.if-self-ne0.false;
-      running = c.if-self.false;
-      quiet = λ i h. quiet i (omega (arith, h, ahead));
-      few = below n room;
-    } in
-    let same : pieces ch n c.copy_frames-copied.new.output ≡ pieces ch n input = c.copy_frames-copied.ensures.frames ∙ pieces-cut ch n (count * ch) input (omega (arith, read, cut)) in
-    quiet-passed (view c.self.inside) n input c.copy_frames-copied.new.output a room same
+    let same : pieces ch n c.copy_frames-copied.new.output ≡ pieces ch n input = c.copy_frames-copied.ensures.frames ∙ pieces-cut ch n (c.min-count.result * ch) input (omega (arith, read, there.1)) in
+    quiet-passed (view c.self.inside) n input c.copy_frames-copied.new.output (quiet c) (omega (arith, read, there.1, there.0)) same
 
 pub invariant_of-self : goal.invariant_of-self
 invariant_of-self c = (passes (goal.at.invariant_of-self c).After-copy_frames-copied).1
 
 pub returns-clause-fed : goal.returns-clause-fed
 returns-clause-fed c = rw (← c.self.view_is) (passes (goal.at.returns-clause-fed c).After-copy_frames-copied).0
+
+pub returns-clause-room : goal.returns-clause-room
+returns-clause-room c =
+    let a = quiet (goal.at.returns-clause-room c).After-copy_frames-copied in
+    let fits = c.copy_frames-copied.ensures.written in
+    rw (← c.self.view_is) (took-with-room (view c.self.inside) c.copy_frames-copied.result (length c.args.output.now) a (omega (arith, fits, c.copy_frames-copied.auto.output)))

@@ -1,5 +1,5 @@
 -- The frames that fall out up to where a stretch ends are given, or left out, all of them.
-use Rattle.std.proofs.Common.{ℕ, ◌≡◌, ◌≤◌, ◌*◌, ◌-◌, ◌∙◌, ◌++◌, drop, length, take, sym, arith, w32}
+use Rattle.std.proofs.Common.{ℕ, ◌≡◌, ◌≤◌, ◌+◌, ◌*◌, ◌-◌, ◌/◌, ◌∙◌, ◌++◌, drop, length, take, sym, arith, w32}
 use Rattle.std.proofs.lemmas.Grind.{common_steps}
 use Rattle.std.proofs.lemmas.List.{length-take-le}
 use Rattle.std.proofs.lemmas.List.Elements.{All-append}
@@ -10,7 +10,7 @@ use Rattle.fx_lists.proofs.Pieces.{pieces-front}
 use Rattle.fx_cut.specs.Sifted.{IsSiftState, sift_acts}
 use Rattle.fx_cut.proofs.Hands.{not-some}
 use Rattle.fx_cut.proofs.Onto.{IsPiece, piece-fits}
-use Rattle.fx_cut.proofs.SiftMany.{Alike, fell-fit, passed, piece-passed}
+use Rattle.fx_cut.proofs.SiftMany.{Alike, fell-fit, passed, piece-passed, took-with-room}
 use Rattle.fx_cut.proofs.SiftSteps.{state}
 use Rattle.fx_cut.proofs.sifted.SiftedPassesMany.pass_many.Given as given
 use Rattle.fx_cut.proofs.sifted.SiftedPassesMany.pass_many.Goals.{After-given_of-given, After-push_frames, After-self-2-1}
@@ -119,3 +119,14 @@ overflow_mul-frames g c = grind (arith, common_steps)
 
 pub returns-clause-behind : goal.returns-clause-behind
 returns-clause-behind g c = grind (arith, common_steps)
+
+pub returns-clause-room : goal.returns-clause-room
+returns-clause-room g c =
+    let sifts = g.S.Sifting.sifts in
+    let s = state c.self.inside.sifting c.self.inside.hand c.self.inside.line c.self.inside.taken c.self.inside.given c.self.inside.ended in
+    let width = c.channels-channels.ensures in
+    let there = rw (← c.self.view_is) at c.requires.channels.0 in
+    let one : c.channels-channels.result ≤ length c.args.output.now = omega arith in
+    let few : c.min-count.result ≤ length c.args.output.now / c.channels-channels.result + (c.self.inside.line.capacity - length c.self.inside.line.items) = omega arith in
+    rw (← c.self.view_is)
+    (took-with-room sifts g.S.Sifting.settled s c.min-count.result (length c.args.output.now) c.self.invariant (not-some c.self.inside.hand (sym c.if-is_some.ensures)) c.if-self.false there (rw width at one) (rw width at few))

@@ -1,12 +1,11 @@
 -- Each frame is passed with the silence behind it.
-use Rattle.std.proofs.Common.{rules, ℕ, ◌≤◌, ◌+◌, ◌*◌, ◌/◌, ◌^◌, length, arith}
+use Rattle.std.proofs.Common.{rules, ◌≤◌, ◌+◌, ◌*◌, ◌/◌, ◌^◌, length, arith}
 use Rattle.std.proofs.Math.Nat.{mul_assoc}
 use Rattle.fx_step.specs.Feed.{nothing}
 use Rattle.fx_cut.specs.declared.upsample.Upsample.TheView.{view}
 use Rattle.fx_cut.proofs.Hands.{not-some}
-use Rattle.fx_step.proofs.Feeding.{none-fit}
-use Rattle.fx_cut.proofs.Pieces.{few-frames, frames-room}
-use Rattle.fx_cut.proofs.UpsampleMany.{Ready, all-passed, frames-fed}
+use Rattle.fx_cut.proofs.Pieces.{frames-room}
+use Rattle.fx_cut.proofs.UpsampleMany.{Ready, all-passed, frames-fed, took-with-room}
 use Rattle.fx_cut.proofs.upsample.UpsamplePassesMany.pass_many.Goals as goal
 use Rattle.fx_cut.proofs.upsample.UpsamplePassesMany.pass_many.Goals.{After-min-count}
 
@@ -58,9 +57,8 @@ returns-clause-written c =
     let room = fits (goal.at.returns-clause-written c).After-min-count in
     rw (← c.self.view_is) (omega (arith, room, c.spread_frames.auto.output))
 
-pub returns-clause-none : goal.returns-clause-none
-returns-clause-none c =
-    let room = fits (goal.at.returns-clause-none c).After-min-count in
-    let given : ℕ = c.min-count.result * c.self.inside.factor in
-    rw (← c.self.view_is)
-    (λ few. omega (arith, few-frames c.min-count.result c.self.inside.factor given (omega (arith, c.self.invariant.fewer)) (omega arith), none-fit given c.self.inside.channels (length c.args.output.now) room few))
+pub returns-clause-room : goal.returns-clause-room
+returns-clause-room c =
+    let ready = (may (goal.at.returns-clause-room c).After-min-count).0 in
+    let room = fits (goal.at.returns-clause-room c).After-min-count in
+    rw (← c.self.view_is) (took-with-room (view c.self.inside) c.min-count.result (length c.args.output.now) ready room)

@@ -10,6 +10,7 @@ use Rattle.fx_fir.specs.Fir.{centre}
 use Rattle.fx_fir.specs.FirState.{FirState, IsFir}
 use Rattle.fx_frame.specs.Tapped.{last_of}
 use Rattle.fx_step.proofs.Flags.{none-of}
+use Rattle.fx_step.proofs.Rooms.{room-grows}
 use Rattle.fx_fir.proofs.FirBlocks.{block-fed}
 use Rattle.fx_frame.proofs.TapBlocks.{length-last}
 use Rattle.fx_frame.proofs.WholeFrames.{both-have, no-more}
@@ -44,6 +45,13 @@ IsFir-block s line n clips xs is none running full few many lined items capacity
       over = is.over;
       fits = is.fits;
     }
+
+-- while the line is full, no frame is in hand and the sound goes on, as many frames are not given yet as lie behind a centre
+even : (s : FirState) → IsFir s → s.hand ≡ None → s.ended ≡ false → length s.line.items ≡ s.line.capacity → s.given + centre (length (reverse s.backwards)) ≡ s.taken
+even s is none over full =
+    let quiet : s.tail ≡ 0 = is.not_ended over in
+    let counted = rw (none, over) at is.counted in
+    rw (length-reverse s.backwards) (omega (arith, counted, quiet, is.held, full, is.capacity))
 
 pub filter_frames-requires-clause-few : goal.filter_frames-requires-clause-few
 filter_frames-requires-clause-few c =
@@ -80,21 +88,28 @@ returns-clause-fed c =
     let over : s.ended ≡ false = search rules in
     let zero : s.hand_clips ≡ 0 = is.idle (rw none refl) in
     let quiet : s.tail ≡ 0 = is.not_ended over in
-    let counted = rw (none, over) at is.counted in
     let same = length-reverse s.kernel in
     let full : length s.line.items ≡ s.line.capacity = search rules in
-    let held = is.held in
     let room = is.capacity in
     let due : centre (length (reverse s.kernel)) ≤ length s.line.items = rw same (omega (arith, full, room)) in
-    let even : s.given + centre (length (reverse s.kernel)) ≡ s.taken = rw same (omega (arith, counted, quiet, held, full, room)) in
     let places : s.line.capacity + 1 ≡ length (reverse s.kernel) = rw same room in
     let ensured = c.filter_frames.ensures in
     rw (← c.self-2.view_is)
     (block-fed (record { channels = s.channels; backwards = s.kernel; line = s.line; hand = s.hand; hand_clips = s.hand_clips; tail = s.tail; taken = s.taken; given = s.given; clips = s.clips; ended = s.ended }) c.filter_frames.new.line c.min-count.result c.filter_frames.result c.args.input.now c.filter_frames.new.output
-    none zero quiet over even places is.line.within due ensured.frames ensured.clips ensured.line ensured.line_capacity ensured.line_channels)
+    none zero quiet over (even _ is none over full) places is.line.within due ensured.frames ensured.clips ensured.line ensured.line_capacity ensured.line_channels)
 
 pub returns-clause-used : goal.returns-clause-used
 returns-clause-used c =
     let some = rw (← c.self-2.view_is) at c.requires.channels in
     rw (← c.self-2.view_is)
     (λ room over spent. no-more (length c.args.input.now) (length c.args.output.now) c.self-2.inside.channels c.self-2.inside.channels c.min-count.result (omega (arith, some.0)) (omega (arith, some.0)) c.min-count.ensures (omega (arith, room, c.filter_frames.auto.output)))
+
+pub returns-clause-room : goal.returns-clause-room
+returns-clause-room c =
+    let s = c.self-2.inside in
+    let full : length s.line.items ≡ s.line.capacity = search rules in
+    let late : ℕ = centre (length (reverse s.kernel)) in
+    let behind = even _ c.self-2.invariant (none-of s.hand (search rules)) (search rules) full in
+    let both = both-have (length c.args.input.now) (length c.args.output.now) s.channels s.channels c.min-count.result c.min-count.ensures in
+    rw (← c.self-2.view_is)
+    (λ n few. room-grows (s.taken + n - late - s.given) c.min-count.result s.channels (length c.args.output.now) (omega (arith, behind, few)) both.1)

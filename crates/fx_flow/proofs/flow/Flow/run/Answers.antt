@@ -7,7 +7,7 @@ use Rattle.fx_lists.specs.Lists.{pieces}
 use Rattle.fx_step.specs.Row.{outputs_of}
 use Rattle.fx_flow.specs.Runs.{MayRun, RanOn}
 use Rattle.fx_flow.proofs.Moving.{settled-dry}
-use Rattle.fx_flow.proofs.Running.{AllAhead-some, frames-fit, outs-fit}
+use Rattle.fx_flow.proofs.Running.{AllAhead-some, FlowRoom-each, frames-fit, outs-fit}
 use Rattle.fx_lists.proofs.Puts.{written_back}
 use Rattle.fx_flow.proofs.flow.Flow.run.Given as given
 use Rattle.fx_flow.proofs.flow.Flow.run.Goals as goal
@@ -89,4 +89,5 @@ returns g c =
       behind = rw (← c.self.view_is) (rw outputs at c.run-passed.ensures.behind);
       moves = rw (← c.self.view_is, back) (rw many at after.moves);
       some = c.run-passed.ensures.some (omega (arith, c.max-count.ensures));
+      room = rw (← c.self.view_is, none) (λ n few. FlowRoom-each g.S.Stage.acts s.channels s.left s.stages.items passed.taken (length c.args.output.now) (rw many at after.each) (rw (← outputs) (omega (arith, mul-le-mul_right c.args.widths.outputs c.run-passed.ensures.read, out-fits))) n few);
     }

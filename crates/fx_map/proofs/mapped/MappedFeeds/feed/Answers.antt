@@ -1,8 +1,9 @@
-use Rattle.std.proofs.Common.{rules, ◌≡◌, ◌+◌, ◌*◌, ◌≤◌, false, length, refl, arith, ◌<◌}
+use Rattle.std.proofs.Common.{rules, ◌≡◌, ◌+◌, ◌-◌, ◌*◌, ◌≤◌, false, length, refl, arith, ◌<◌}
 use Rattle.std.specs.Prelude.{None}
 use Rattle.fx_frame.specs.Kinds.{most_taken}
 use Rattle.fx_map.proofs.Blocks.{block-fed}
 use Rattle.fx_step.proofs.Flags.{none-of}
+use Rattle.fx_step.proofs.Rooms.{room-grows}
 use Rattle.fx_frame.proofs.WholeFrames.{both-have, no-more}
 use Rattle.fx_map.proofs.mapped.MappedFeeds.feed.Given as given
 use Rattle.fx_map.proofs.mapped.MappedFeeds.feed.Goals.{After-min-count}
@@ -46,3 +47,12 @@ returns-clause-used g c =
     let wide : 0 < c.out_channels-outputs.result = omega (arith, c.if-outputs-eq0.false) in
     rw (← c.self.view_is, ← c.in_channels-inputs.ensures, ← c.out_channels-outputs.ensures.value)
     (λ room over spent. no-more (length c.args.input.now) (length c.args.output.now) c.in_channels-inputs.result c.out_channels-outputs.result c.min-count.result (omega (arith, some.0)) wide c.min-count.ensures (omega (arith, room, c.map_many.auto.output)))
+
+pub returns-clause-room : goal.returns-clause-room
+returns-clause-room g c =
+    let s = c.self.inside in
+    let none : s.hand ≡ None = none-of s.hand (search rules) in
+    let counted = rw none at c.self.invariant.counted in
+    let fits = rw c.out_channels-outputs.ensures.value at (both g (goal.at.returns-clause-room g c).After-min-count).1 in
+    rw (← c.self.view_is)
+    (λ n few. room-grows (s.taken + n - s.given) c.min-count.result (g.M.Mapping.outputs s.mapping) (length c.args.output.now) (omega (arith, counted, few)) fits)

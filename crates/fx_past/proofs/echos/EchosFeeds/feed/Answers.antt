@@ -1,11 +1,12 @@
-use Rattle.std.proofs.Common.{rules, ◌≡◌, ◌+◌, ◌*◌, ◌^◌, ◌≤◌, ◌∙◌, ap, false, length, refl, sym, arith}
+use Rattle.std.proofs.Common.{rules, ◌≡◌, ◌+◌, ◌-◌, ◌*◌, ◌^◌, ◌≤◌, ◌∙◌, ap, false, length, refl, sym, arith}
 use Rattle.std.specs.Prelude.{None}
 use Rattle.fx_lists.specs.Lists.{pieces}
 use Rattle.fx_past.proofs.EchosBlocks.{IsEchos-block, block-fed}
 use Rattle.fx_past.proofs.EchosGiven.{length-rows}
 use Rattle.fx_past.proofs.EchosLaws.{places-late}
 use Rattle.fx_step.proofs.Flags.{none-of}
-use Rattle.fx_frame.proofs.WholeFrames.{both-have, no-more, none-both}
+use Rattle.fx_step.proofs.Rooms.{room-grows}
+use Rattle.fx_frame.proofs.WholeFrames.{both-have, no-more}
 use Rattle.fx_lists.proofs.Puts.{written_back}
 use Rattle.fx_past.proofs.echos.EchosFeeds.feed.Goals.{After-echo_many, After-min-count}
 use Rattle.fx_past.proofs.echos.EchosFeeds.feed.Goals as goal
@@ -76,5 +77,5 @@ returns c =
       behind = c.echo_many.ensures.behind;
       dry = λ space. rw (none, quiet) refl;
       used = λ space going spent. no-more (length c.args.input.now) (length c.args.output.now) s.channels s.channels c.min-count.result (omega (arith, some.0)) (omega (arith, some.0)) c.min-count.ensures (omega (arith, space, c.echo_many.auto.output));
-      none = none-both (length c.args.input.now) (length c.args.output.now) s.channels s.channels c.min-count.result c.min-count.ensures;
+      room = λ n few. room-grows (s.taken + n - s.given) c.min-count.result s.channels (length c.args.output.now) (omega (arith, even, few)) room;
     }

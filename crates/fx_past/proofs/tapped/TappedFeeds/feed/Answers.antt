@@ -1,10 +1,11 @@
-use Rattle.std.proofs.Common.{rules, ◌≡◌, ◌+◌, ◌*◌, ◌^◌, ◌≤◌, ℕ, false, length, refl, arith, ◌<◌}
+use Rattle.std.proofs.Common.{rules, ◌≡◌, ◌+◌, ◌-◌, ◌*◌, ◌^◌, ◌≤◌, ℕ, false, length, refl, arith, ◌<◌}
 use Rattle.std.specs.Prelude.{None}
 use Rattle.std.proofs.Math.Nat.{mul-le-mul}
 use Rattle.fx_lists.proofs.Pieces.{length-pieces}
 use Rattle.fx_step.proofs.Flags.{none-of}
+use Rattle.fx_step.proofs.Rooms.{room-grows}
 use Rattle.fx_frame.proofs.TapBlocks.{IsTapState-block, block-fed}
-use Rattle.fx_frame.proofs.WholeFrames.{both-have, no-more, none-both}
+use Rattle.fx_frame.proofs.WholeFrames.{both-have, no-more}
 use Rattle.fx_past.proofs.tapped.TappedFeeds.feed.Given as given
 use Rattle.fx_past.proofs.tapped.TappedFeeds.feed.Goals as goal
 use Rattle.fx_past.proofs.tapped.TappedFeeds.feed.Goals.{After-min-count}
@@ -44,7 +45,7 @@ feed_by_frames-requires g c = record { channels = c.requires.channels; below_lim
 pub returns-then-is_some : goal.returns-then-is_some
 returns-then-is_some g c =
     let fed = c.feed_by_frames.ensures in
-    record { fed = fed.fed; read = fed.read; written = fed.written; behind = fed.behind; dry = fed.dry; used = fed.used; none = fed.none }
+    record { fed = fed.fed; read = fed.read; written = fed.written; behind = fed.behind; dry = fed.dry; used = fed.used; room = fed.room }
 
 pub nonzero_div-input : goal.nonzero_div-input
 nonzero_div-input g c = omega (arith, c.channels-channels.ensures.some.0)
@@ -103,5 +104,5 @@ returns g c =
       behind = ensured.behind;
       dry = λ space. rw (none, quiet) refl;
       used = rw (← c.channels-channels.ensures.value) (λ space going spent. no-more (length c.args.input.now) (length c.args.output.now) c.channels-channels.result c.channels-channels.result c.min-count.result some some c.min-count.ensures (omega (arith, space, c.tap_many.auto.output)));
-      none = rw (← c.channels-channels.ensures.value) (none-both (length c.args.input.now) (length c.args.output.now) c.channels-channels.result c.channels-channels.result c.min-count.result c.min-count.ensures);
+      room = λ n few. room-grows (s.taken + n - s.given) c.min-count.result (g.T.Tapping.taps.channels s.arguments) (length c.args.output.now) (omega (arith, even, few)) room;
     }
