@@ -9,7 +9,6 @@ use Rattle.fx_chain.specs.Chain.{chain_gives, chain_wholes, planned, target_for}
 use Rattle.fx_run.specs.Due.{clips_in, dues}
 use Rattle.fx_run.specs.Outlet.{WroteFront, coded, coded_clips}
 use Rattle.fx_run.specs.Report.{clips_now, head_for, met_end, output_of, row_of, start_of}
-use Rattle.fx_run.specs.Run.{RanToFailure}
 use Rattle.fx_run.specs.Through.{Reached}
 use Rattle.fx_flow.specs.Parts.{AllNew, Parts, moves_of, taken_of}
 use Rattle.fx_flow.specs.Composed.{Whole, due_of, enough_for}
@@ -21,7 +20,7 @@ use Rattle.fx_step.specs.Stage.{Kind}
 use Rattle.fx_plan.specs.Planning.{Planning}
 use Rattle.fx_heads.specs.declared.head.Head.{Head}
 use Rattle.fx_sound.specs.declared.progress.TheConstants.{MOST_FRAMES}
-use Rattle.fx_sound.specs.Container.{frames_of}
+use Rattle.fx_sound.specs.Container.{frames_of, ReadAllTold}
 use Rattle.fx_sound.specs.Sound.{lacking, within}
 use Rattle.fx_heads.specs.Source.{Held}
 use Rattle.fx_stages.specs.declared.stage.EffectStage.{EffectStage}
@@ -143,7 +142,7 @@ pub record Broken (p : Planning) (bytes : List ℕ) (first now : Option (List �
 pub record ReadFirst {R : Type 0} (told : R → ℕ) (old : Held R) (new : R) (p : Planning) (n given : ℕ) : Type 0 where
   pub due : given ≡ due_of (kinds_of p) n
   pub not_enough : enough_for (kinds_of p) n ≡ false
-  pub read_failed : RanToFailure told old new (start_of p.head) n
+  pub read_failed : ReadAllTold told old new (start_of p.head) n
 
 -- what a run of a new chain came to, over these bytes behind the head
 abbrev pub Ran : Planning → List ℕ → Option (List ℕ) → Option (List ℕ) → Result Report RunFault → Type 0

@@ -3,7 +3,8 @@ ghost use Rattle.std.specs.Prelude.{◌≡◌, ◌≢◌, ◌+◌, ◌≤◌, If
 ghost use Rattle.fx_chain.specs.Chain.{IsNewChain, target_for};
 ghost use Rattle.fx_io.specs.Io.{saturated};
 ghost use Rattle.fx_run.specs.Report.{Completed, HasCause, ReadBefore, Stands, StoppedAt, behind_reported, cause_of, clips_now, report_at, report_in, start_of};
-ghost use Rattle.fx_run.specs.Run.{RanToFailure, WantsMore, sound_frames};
+ghost use Rattle.fx_run.specs.Run.{WantsMore, sound_frames};
+ghost use Rattle.fx_sound.specs.Container.{ReadAllTold};
 ghost use Rattle.fx_chain.specs.Theorem.{Ran};
 ghost use Rattle.fx_flow.specs.Parts.{given_by, moves_of, taken_of};
 ghost use Rattle.fx_flow.specs.Steps.{IsDone, IsHungry};
@@ -60,7 +61,7 @@ pub fn run<R: ByteIn, W: ByteOut>(
     ensures stopped { IfErr result (λ f. IfKnown (to_come R.reads.rest source.old) (λ bytes.
         StoppedAt effect_acts chain.old.flow chain.new.flow (target_for chain.old.plan) (start_of chain.old.plan.head) bytes (sound_frames (start_of chain.old.plan.head) (report_at f).frames_in bytes) (W.writes.taken writer.old) (W.writes.taken writer.new) f)) }
     ensures due_flushed { IfErr result (λ f. cause_of f ≢ Cause.WriteFailed → W.writes.flushed writer.new ≡ true) }
-    ensures read_failed { IfErr result (λ f. cause_of f ≡ Cause.ReadFailed → RanToFailure R.reads.told source.old source.new.reader (start_of chain.old.plan.head) (report_at f).frames_in) }
+    ensures read_failed { IfErr result (λ f. cause_of f ≡ Cause.ReadFailed → ReadAllTold R.reads.told source.old source.new.reader (start_of chain.old.plan.head) (report_at f).frames_in) }
 
     // Where the source stands.
     ensures stands { IfKnown (to_come R.reads.rest source.old) (λ bytes. Stands result

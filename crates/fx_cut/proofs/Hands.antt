@@ -1,4 +1,4 @@
--- A frame in hand, or none; a line without frames.
+-- A frame in hand, or none.
 use Rattle.std.proofs.Common.{◌≡◌, ◌≤◌, true, false, List, [], ◌∷◌, length, refl, arith}
 use Rattle.std.specs.Prelude.{Option, Some, None, option_to_list, is_none, is_some}
 use Rattle.fx_step.specs.Frame.{Samples}
@@ -6,10 +6,6 @@ use Rattle.fx_step.specs.Frame.{Samples}
 pub none_of : (hand : Option Samples) → is_none hand ≡ true → hand ≡ None
 none_of None h = refl
 none_of (Some x) h = absurd (cc)
-
-pub not-some : (hand : Option Samples) → is_some hand ≡ false → hand ≡ None
-not-some None h = refl
-not-some (Some x) h = absurd (cc)
 
 pub empty-hand : (hand : Option Samples) → is_none hand ≡ true → option_to_list hand ≡ []
 empty-hand None h = refl
@@ -22,8 +18,3 @@ at_most_one (Some x) = omega arith
 pub no-hand : (hand : Option Samples) → length (option_to_list hand) ≡ 0 → hand ≡ None
 no-hand None h = refl
 no-hand (Some x) h = absurd (omega arith)
-
--- a list without elements
-pub empty_of : (l : List Samples) → length l ≡ 0 → l ≡ []
-empty_of [] h = refl
-empty_of (x ∷ l) h = absurd (omega arith)

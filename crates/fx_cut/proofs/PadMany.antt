@@ -1,5 +1,6 @@
 -- Frames that a pad without a line passes many at a time, as far as no silence stands before them.
 use Rattle.std.proofs.Common.{◌≡◌, ◌+◌, ◌-◌, ◌*◌, ◌<◌, ◌≤◌, ◌^◌, ℕ, ℤ, zero, suc, true, false, List, [], ◌∷◌, length, refl, subst, sym, ap, ◌∙◌, arith, add-zero, map}
+use Rattle.std.proofs.lemmas.List.{nil_from_length}
 use Rattle.std.specs.Prelude.{Some, None, option_to_list}
 use Rattle.std.specs.List.{All}
 use Rattle.std.proofs.lemmas.List.Elements.{All-head, All-tail}
@@ -16,7 +17,6 @@ use Rattle.fx_lists.proofs.Pieces.{length-pieces}
 use Rattle.fx_cut.specs.Pad.{pad_due, pads_from_start, silent_at}
 use Rattle.fx_cut.specs.PadState.{PadState, IsPad, pad_acts, pad_left}
 use Rattle.fx_cut.proofs.Fallen.{fallen, stays}
-use Rattle.fx_cut.proofs.Hands.{empty_of}
 use Rattle.fx_cut.proofs.PadLaws.{upto_more}
 use Rattle.fx_cut.proofs.PadSteps.{Took-fallen, due-pad, left-fallen, reached}
 use Rattle.fx_frame.proofs.SamplePieces.{pieces-sides}
@@ -49,7 +49,7 @@ pub record Quiet (s : PadState) (n : ℕ) : Type 0 where
 
 module _ (s : PadState) (n : ℕ) (x : Samples) (a : Quiet s (suc n)) where
   no-line : s.line.items ≡ []
-  no-line = let short = a.short in let full = a.is.full a.running in empty_of s.line.items (omega arith)
+  no-line = let short = a.short in let full = a.is.full a.running in nil_from_length s.line.items (omega arith)
 
   no-ends : greatest (map pad_distance s.recipe.pads) ≡ 0
   no-ends = sym a.is.capacity ∙ a.short

@@ -3,7 +3,7 @@ use Rattle.std.proofs.Common.{◌≡◌, ℕ, ℤ, zero, suc, ◌+◌, ◌-◌, 
 use Rattle.std.specs.Prelude.{Option, Some, None, option_to_list, nat_eq, nat_lt, replicate, slice_index_or, sum_by, filter}
 use Rattle.std.proofs.lemmas.Bool.{cases_lt, le-ltb}
 use mathlib.Core.Path.{ap₂}
-use Rattle.std.proofs.lemmas.List.{length-replicate}
+use Rattle.std.proofs.lemmas.List.{length-replicate, nil_from_length}
 use Rattle.fx_fixed.specs.Extents.{greatest, pad_distance}
 use Rattle.fx_fixed.specs.declared.positions.At.{At}
 use Rattle.fx_step.specs.Frame.{Samples, silence}
@@ -12,7 +12,7 @@ use Rattle.fx_ring.specs.Line.{Frames}
 use Rattle.fx_step.specs.Stage.{Freezes, coming, numbers_of}
 use Rattle.fx_cut.specs.Pad.{IsPads, ats, lengths, pad_due, pads_from_start, placed, silent_at, RisesFrom}
 use Rattle.fx_cut.specs.PadState.{PadState, IsPad, IsPadCount, all_padded, later_count, pad_acts, pad_after, pad_left, padded_from, unless_last}
-use Rattle.fx_cut.proofs.Hands.{no-hand, empty_of}
+use Rattle.fx_cut.proofs.Hands.{no-hand}
 use Rattle.fx_cut.proofs.PadLaws.{length_from, length_padded, pad_first, same_silence, silence-few, upto_more}
 use Rattle.fx_cut.proofs.PadRest.{pad_new}
 use Rattle.fx_cut.proofs.Thawing.{lined}
@@ -24,18 +24,19 @@ use Rattle.fx_frame.proofs.Counts.{flag-of}
 abbrev upto : List (ℕ × At) → ℕ → ℕ
 upto ps m = sum_by (λ p. p.0) (filter (λ p. nat_lt p.1 m) (pads_from_start ps))
 
+-- no pad stands before the first frame
+pub no-pads : (pads : List (ℕ × ℕ)) → sum_by (λ p. p.0) (filter (λ p. nat_lt p.1 0) pads) ≡ 0
+no-pads [] = refl
+no-pads ((k, p) ∷ pads) = ap (λ b. sum_by (λ p. p.0) (cond b ((k, p) ∷ filter (λ p. nat_lt p.1 0) pads) (filter (λ p. nat_lt p.1 0) pads))) (le-ltb p 0 (omega arith)) ∙ no-pads pads
+
 -- what was given and what is to be given are no more than came and the pads have
 front : (channels : ℕ) (ps : List (ℕ × At)) (m : ℕ) (y : List Samples) → RisesFrom 0 (ats ps) → (m ≡ 0) ⊎ (greatest (map pad_distance ps) ≤ length y)
     → m + upto ps m + length (padded_from channels (m + length y) ps m y) ≤ m + length y + lengths ps
 front channels ps zero y r h =
-    let none : upto ps 0 ≡ 0 = none-upto (pads_from_start ps) in
+    let none : upto ps 0 ≡ 0 = no-pads (pads_from_start ps) in
     let e : length (padded_from channels (0 + length y) ps 0 y) ≡ length (Rattle.fx_cut.specs.Pad.padded channels ps y) = ap length (sym (pad_new channels ps y)) in
     let most = length_padded channels ps y in
     omega arith
-  where
-    none-upto : (pads : List (ℕ × ℕ)) → sum_by (λ p. p.0) (filter (λ p. nat_lt p.1 0) pads) ≡ 0
-    none-upto [] = refl
-    none-upto ((k, p) ∷ pads) = ap (λ b. sum_by (λ p. p.0) (cond b ((k, p) ∷ filter (λ p. nat_lt p.1 0) pads) (filter (λ p. nat_lt p.1 0) pads))) (le-ltb p 0 (omega arith)) ∙ none-upto pads
 front channels ps (suc m) y r (inl e) = absurd (omega arith)
 front channels ps (suc m) y r (inr h) =
     let before : m + upto ps m + length (padded_from channels (m + length ([] ∷ y)) ps m ([] ∷ y)) ≤ m + length ([] ∷ y) + lengths ps = front channels ps m ([] ∷ y) r (inr (omega arith)) in
@@ -152,7 +153,7 @@ IsPad-thawed channels capacity taken given silent held hands ended ps frames lin
       within = λ z. go z ended refl full counted;
       full = λ e. let k = count.full e in omega arith;
       counted = counted;
-      over = λ e none. let z : hands ≡ 0 = sym h ∙ ap (λ o. length (option_to_list o)) none in let k = count.over e z in empty_of line.items (omega arith);
+      over = λ e none. let z : hands ≡ 0 = sym h ∙ ap (λ o. length (option_to_list o)) none in let k = count.over e z in nil_from_length line.items (omega arith);
       gone = λ e. told [] e;
       fits = st.held;
     }

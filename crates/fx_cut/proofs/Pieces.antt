@@ -3,7 +3,7 @@ use Rattle.std.proofs.Common.{◌≡◌, ◌≢◌, ◌<◌, ◌+◌, ◌-◌, �
 use Rattle.std.specs.Prelude.{ℤ}
 use Rattle.std.specs.List.{All}
 use Rattle.std.proofs.lemmas.List.Elements.{All-append, All-head, All-nil, All-tail}
-use Rattle.std.proofs.lemmas.List.{drop-drop, drop_at, length-take, length-take-le, nil_from_length, take-take}
+use Rattle.std.proofs.lemmas.List.{drop-drop, drop_at, length-take, length-take-le, nil_from_length, take-take, take-append-drop}
 use Rattle.std.proofs.Math.Nat.{add-mul, div-mul-le_self, mul-le-mul_right, suc-mul, mul-le-mul_left, le_of_mul-le-mul_right}
 use Rattle.fx_step.specs.Feed.{Fed, TookWithRoom}
 use Rattle.fx_lists.specs.Lists.{pieces}
@@ -31,18 +31,13 @@ put-piece at size out f long =
     let many : at + size - at ≡ length f = omega (arith, long) in
     ap (λ n. take at out ++ (f ++ drop n (drop at out))) many ∙ ap (λ l. take at out ++ (f ++ l)) (drop-drop (length f) at out) ∙ sym (append_assoc (take at out) f (drop (at + length f) out))
 
-joined : {X : Type 0} (n : ℕ) (xs : List X) → take n xs ++ drop n xs ≡ xs
-joined zero xs = refl
-joined (suc n) [] = refl
-joined (suc n) (x ∷ xs) = ap (λ l. x ∷ l) (joined n xs)
-
 -- what holds of every element of whole frames holds of every sample
 pub all-pieces : {X : Type 0} (P : X → Type 0) (size n : ℕ) (xs : List X) → length xs ≡ n * size → All (All P) (pieces size n xs) → All P xs
 all-pieces {X} P size zero xs e all = let none : xs ≡ [] = nil_from_length xs (omega (arith, e)) in rw none (All-nil P)
 all-pieces {X} P size (suc n) xs e all =
     let first = All-head (All P) (take size xs) (pieces size n (drop size xs)) all in
     let rest = all-pieces P size n (drop size xs) (omega (arith, e, suc-mul n size, length-drop size xs)) (All-tail (All P) (take size xs) (pieces size n (drop size xs)) all) in
-    subst (All P) (joined size xs) (All-append P (take size xs) (drop size xs) first rest)
+    subst (All P) (take-append-drop size xs) (All-append P (take size xs) (drop size xs) first rest)
 
 -- frames of at least one sample are no more than the samples
 pub few-frames : (n w len : ℕ) → 1 ≤ w → n * w ≤ len → n ≤ len

@@ -3,7 +3,7 @@ use Rattle.std.proofs.Common.{◌≡◌, ℕ, ℤ, zero, suc, ◌+◌, ◌-◌, 
 use Rattle.std.specs.Prelude.{Option, Some, None, option_to_list, is_none, slice_get}
 use Rattle.std.specs.Int.{w32}
 use Rattle.std.proofs.lemmas.Bool.{cases_lt, false≢true}
-use Rattle.std.proofs.lemmas.List.{length-map}
+use Rattle.std.proofs.lemmas.List.{length-map, nil_from_length}
 use mathlib.Core.Logic.{inl, inr}
 use mathlib.Core.Path.{ap₂}
 use Rattle.fx_step.specs.Frame.{Samples}
@@ -14,7 +14,7 @@ use Rattle.fx_step.specs.Given.{plain}
 use Rattle.fx_step.proofs.Flags.{flag-le}
 use Rattle.fx_cut.specs.Sifted.{AreSettled, IsSiftState, Sifts, SiftState, given_before, settled_in, sift_acts, sift_after, sifted_from, sifted_here}
 use Rattle.fx_cut.proofs.Fallen.{fallen, stays, no_fall, stays-room, is_full, oldest-first, first-popped}
-use Rattle.fx_cut.proofs.Hands.{at_most_one, empty-hand, empty_of}
+use Rattle.fx_cut.proofs.Hands.{at_most_one, empty-hand}
 use Rattle.fx_cut.specs.Ranges.{count_same, kept_next}
 
 -- a state by its parts
@@ -200,7 +200,7 @@ module _ {M : Type 0} (sifts : Sifts M) where
         let cap = is.capacity in
         let room = is.line.within in
         let zero-reach : sifts.reach s.arguments ≡ 0 = law.0 in
-        let empty : s.line.items ≡ [] = empty_of s.line.items (omega (arith, zero-reach)) in
+        let empty : s.line.items ≡ [] = nil_from_length s.line.items (omega (arith, zero-reach)) in
         rw (none, empty) (none_from s.arguments _ (s.taken - 0) _ (λ place l. law.1 _ place (omega arith)))
 
     -- ---- a frame comes

@@ -1,12 +1,13 @@
 -- A stage that sifts frames comes back from its frames and numbers.
 use Rattle.std.proofs.Common.{◌≡◌, ℕ, ℤ, ◌+◌, ◌-◌, ◌≤◌, ◌^◌, Bool, List, length, sym, ◌∙◌, ap, arith, length-append}
+use Rattle.std.proofs.lemmas.List.{nil_from_length}
 use Rattle.std.specs.Prelude.{Option, option_to_list, nat_eq, slice_index_or}
 use Rattle.fx_step.specs.Frame.{Samples}
 use Rattle.fx_frame.specs.Frozen.{IsStored}
 use Rattle.fx_ring.specs.Line.{Frames}
 use Rattle.fx_step.specs.Stage.{numbers_of}
 use Rattle.fx_cut.specs.Sifted.{IsSiftCount, IsSiftState, Sifts, SiftState, sift_acts}
-use Rattle.fx_cut.proofs.Hands.{no-hand, empty_of}
+use Rattle.fx_cut.proofs.Hands.{no-hand}
 use Rattle.fx_cut.proofs.Thawing.{lined}
 use Rattle.fx_frame.proofs.Counts.{flag-of}
 
@@ -44,7 +45,7 @@ module _ {M : Type 0} (sifts : Sifts M) where
         within = omega arith;
         full = λ e. let f = count.full e in omega arith;
         counted = λ e. let k = count.counted e in omega (arith, k);
-        over = λ e none. let z : hands ≡ 0 = sym h ∙ ap (λ o. length (option_to_list o)) none in let k = count.over e z in empty_of line.items (omega arith);
+        over = λ e none. let z : hands ≡ 0 = sym h ∙ ap (λ o. length (option_to_list o)) none in let k = count.over e z in nil_from_length line.items (omega arith);
         gone = λ e. rw (h, ← items) (count.gone e);
         fits = st.held;
       }

@@ -1,5 +1,6 @@
 -- How a `Fir` behaves.
 use Rattle.std.proofs.Common.{ℕ, ℤ, pos, zero, suc, ◌+◌, ◌-◌, ◌<◌, ◌≤◌, ◌≡◌, Bool, true, false, cond, min, List, [], ◌∷◌, ◌++◌, length, drop, get_or, set, reverse, refl, sym, ap, ◌∙◌, arith, zero-add, append_assoc, append-nil}
+use Rattle.std.proofs.lemmas.Bool.{true_from_ne_false}
 use Rattle.std.specs.Prelude.{slice_get, slice_index_or, Option, Some, None, nat_eq, option_to_list}
 use Rattle.std.proofs.Math.Seq.{set-append_seam}
 use Rattle.std.proofs.lemmas.List.{length-append, length-drop, length-map, length-reverse, reverse-reverse, map-append, drop-append-le}
@@ -18,7 +19,7 @@ use Rattle.fx_convolve.specs.Products.{sum_of_products}
 use Rattle.fx_step.specs.Given.{given_of}
 use Rattle.fx_fixed.specs.Rounding.{rounding}
 use Rattle.fx_fixed.specs.declared.gains.TheConstants.{UNIT}
-use Rattle.fx_frame.proofs.DryLaws.{dry-hand, dry-tail, true_of}
+use Rattle.fx_frame.proofs.DryLaws.{dry-hand, dry-tail}
 use Rattle.fx_frame.proofs.DelayLaws.{sample_before-append, sample_before-drop}
 use Rattle.fx_lists.proofs.Tabulate.{tabulate-same}
 use Rattle.fx_step.proofs.Flags.{flag-le}
@@ -167,7 +168,7 @@ Took-due s line frame out clips is dry running due out_is clips_are items =
     }
 
 ended-tail : (s : FirState) → IsFir s → 0 < s.tail → s.ended ≡ true
-ended-tail s is some = true_of s.ended (λ e. let k = is.not_ended e in absurd (omega arith))
+ended-tail s is some = true_from_ne_false s.ended (λ e. let k = is.not_ended e in absurd (omega arith))
 
 -- the state after one of the last frames was given
 abbrev pub drained_fir : FirState → ℕ → FirState

@@ -1,13 +1,10 @@
 use Rattle.std.proofs.Common.{ℕ, zero, suc, ◌+◌, ◌<◌, ◌≤◌, Bool, true, false, List, [], ◌∷◌, ◌++◌, ◌≡◌, length, map, get_or, add-zero, arith, refl, sym, ap, ◌∙◌, Some, None, Option, option_to_list, ◌&&◌, ◌||◌}
+use Rattle.std.proofs.lemmas.Bool.{and_right}
 use Rattle.fx_step.specs.Frame.{Samples}
 use Rattle.fx_step.specs.Stage.{Counts, Acts, Gave, Took, Ended, is_enough, kind}
 use Rattle.fx_step.specs.Holds.{total, recipes, kinds}
 use Rattle.fx_flow.specs.Parts.{Matching, Within, work, most_of, any_spent, through, wholes, given_by, given_of, ended_of, AllDry, AllSettled, AllEnded, AllNew, IsLastWet, IsFirstOpen, Joined, CanHandOver, HandedOver, CanFeed, Fed, EndPassed}
 use Rattle.fx_flow.specs.Composed.{Whole, frames_of, clips_of, due_of, enough_for}
-
-and-false : (b d : Bool) → d ≡ false → (b && d) ≡ false
-and-false true d h = h
-and-false false d h = refl
 
 -- what would be true only with a false fact is false
 pub none_true : (b c : Bool) → (b ≡ true → c ≡ true) → c ≡ false → b ≡ false
@@ -288,7 +285,7 @@ module _ {S R : Type 0} (acts : Acts S R) where
     CanHandOver-from zero (s ∷ []) n over channels most wet j m w h = wet.0
     CanHandOver-from zero (s ∷ t ∷ stages) n over channels most wet j m w h =
         let up = rises (acts.recipe s) _ _ h in
-        (wet.0, wet.1.0, none_true _ _ j.3.1 (and-false _ _ wet.0), sym m.1.0, j.3.0, rw j.0 (let l = w.1.0 in omega arith))
+        (wet.0, wet.1.0, none_true _ _ j.3.1 (and_right _ _ wet.0), sym m.1.0, j.3.0, rw j.0 (let l = w.1.0 in omega arith))
     CanHandOver-from (suc i) (s ∷ stages) n over channels most wet j m w h =
         let given = j.2 in
         let up = rises (acts.recipe s) _ _ h in

@@ -14,8 +14,3 @@ pub dry-tail : (hand : Option Samples) (tail : ℕ) → 0 < tail → (is_none ha
 dry-tail None zero h = absurd (omega arith)
 dry-tail None (suc n) h = rw (compare.suc-zero) refl
 dry-tail (Some x) n h = refl
-
--- what is not false is true
-pub true_of : (b : Bool) → (b ≡ false → ⊥) → b ≡ true
-true_of true h = refl
-true_of false h = absurd (h refl)

@@ -1,5 +1,6 @@
 -- The steps of a stage that makes each frame of that frame and of those before it.
 use Rattle.std.proofs.Common.{ℕ, ℤ, pos, zero, suc, ◌+◌, ◌-◌, ◌<◌, ◌≤◌, ◌≡◌, true, false, cond, List, [], ◌∷◌, ◌++◌, length, drop, refl, sym, ap, ◌∙◌, min, arith, replicate, append_assoc, add-one, sub-one}
+use Rattle.std.proofs.lemmas.Bool.{true_from_ne_false}
 use Rattle.std.proofs.Math.Nat.{suc-mul}
 use Rattle.std.specs.Prelude.{option_to_list, nat_le, Some, None, ◌^◌}
 use Rattle.std.specs.Int.{w32}
@@ -11,7 +12,7 @@ use Rattle.fx_lists.specs.Lists.{tabulate}
 use Rattle.fx_frame.specs.Tapped.{AreTapCounts, Taps, TapState, IsTapState, IsNear, behind, by_name, tapped, tap_acts}
 use Rattle.fx_frame.specs.Past.{sample_before}
 use Rattle.fx_frame.proofs.Counts.{flag-false, flag-times, flag-true}
-use Rattle.fx_frame.proofs.DryLaws.{dry-hand, dry-tail, true_of}
+use Rattle.fx_frame.proofs.DryLaws.{dry-hand, dry-tail}
 use Rattle.fx_frame.proofs.DelayLaws.{sample_before-append, sample_before-drop, quiet-after}
 use Rattle.fx_lists.proofs.Tabulate.{tabulate-same}
 use Rattle.fx_step.proofs.Flags.{flag-le}
@@ -100,7 +101,7 @@ module _ {M : Type 0} (taps : Taps M) (near : IsNear taps) where
   drained_tap s line clips = record s { line = line; tail = s.tail - 1; given = s.given + 1; clips = s.clips + clips }
 
   ended-tail : (s : TapState M) → IsTapState taps s → 0 < s.tail → s.ended ≡ true
-  ended-tail s is some = true_of s.ended (λ e. let k = is.not_ended e in absurd (omega arith))
+  ended-tail s is some = true_from_ne_false s.ended (λ e. let k = is.not_ended e in absurd (omega arith))
 
   pub IsTapState-drained : (s : TapState M) (line : Frames ℤ) (quiet : Samples) (clips : ℕ) → IsTapState taps s → s.hand ≡ None → 0 < s.tail
       → IsLine w32 line → line.items ≡ pushed s.line quiet → line.capacity ≡ s.line.capacity → line.channels ≡ s.line.channels → clips ≤ taps.most_clips s.arguments

@@ -1,5 +1,6 @@
 -- How an `Echos` behaves.
 use Rattle.std.proofs.Common.{ℕ, ℤ, pos, suc, zero, ◌+◌, ◌-◌, ◌*◌, ◌^◌, ◌<◌, ◌≤◌, ◌≡◌, true, false, map, List, [], ◌∷◌, ◌++◌, length, get_or, drop, replicate, refl, sym, ap, ◌∙◌, arith, add-zero, zero-add, sub-one}
+use Rattle.std.proofs.lemmas.Bool.{true_from_ne_false}
 use Rattle.std.specs.Prelude.{FitsSigned, unsigned_abs, Some, None}
 use Rattle.std.specs.List.{All}
 use Rattle.std.specs.Int.{w64}
@@ -12,7 +13,7 @@ use Rattle.fx_ring.specs.Line.{Frames, IsSamples, pushed_out, empty}
 use Rattle.fx_step.specs.Stage.{Gave, Took}
 use Rattle.fx_past.specs.Echo.{EchoArguments, IsEcho}
 use Rattle.fx_past.specs.EchosState.{EchosState, IsEchos, IsEchoLine, IsRowLine, after_push, came_of, delay_at, echos_acts, fed, frame_of_lines, frames_of, let_go, line_at, lines_after, or_silence, places_of, rows_after, through_lines}
-use Rattle.fx_frame.proofs.DryLaws.{dry-hand, dry-tail, true_of}
+use Rattle.fx_frame.proofs.DryLaws.{dry-hand, dry-tail}
 use Rattle.fx_past.proofs.EchosRow.{Small, small-fed, small-gone}
 use Rattle.fx_lists.proofs.Tabulate.{length-tabulate}
 
@@ -170,7 +171,7 @@ IsEchos-taken s lines frame out clips is dry running few lines_are small clips_f
     }
 
 ended-tail : (s : EchosState) → IsEchos s → 0 < s.tail → s.ended ≡ true
-ended-tail s is some = true_of s.ended (λ e. let k = is.not_ended e in absurd (omega arith))
+ended-tail s is some = true_from_ne_false s.ended (λ e. let k = is.not_ended e in absurd (omega arith))
 
 -- the state after a silent frame went through the lines
 abbrev pub drained_echos : EchosState → List (Frames ℤ) → ℕ → EchosState

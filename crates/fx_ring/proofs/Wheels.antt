@@ -136,10 +136,6 @@ module _ {X : Type 0} where
         let joined : (turned start wrapped xs ++ first) ++ rest ≡ turned start wrapped xs ++ latest = append_assoc (turned start wrapped xs) first rest ∙ ap (λ zs. turned start wrapped xs ++ zs) e-split in
         rw (← is) (ap (λ zs. buffer zs capacity) (e-now ∙ ap (λ m. keep_last m (turned start wrapped filled ++ rest)) n ∙ ap (λ zs. keep_last capacity (zs ++ rest)) grown ∙ ap (keep_last capacity) joined ∙ ap (λ zs. keep_last capacity (turned start wrapped xs ++ zs)) e-latest ∙ keep-latest capacity (turned start wrapped xs) other))
 
-  pub no-items : (xs : List X) → length xs ≡ 0 → xs ≡ []
-  no-items [] e = refl
-  no-items (x ∷ xs) e = absurd (omega arith)
-
   -- the first of them stands where they start
   pub first-turned : (start wrapped : ℕ) (xs ys : List X) (x : X) → start < length xs → x ≡ get_or xs start x → Some x ≡ slice_get (turned start wrapped xs ++ ys) 0
   first-turned start wrapped xs ys x lt e =

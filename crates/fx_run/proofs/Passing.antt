@@ -12,13 +12,13 @@ use Rattle.fx_flow.specs.Parts.{Parts, given_by, taken_of, through}
 use Rattle.fx_flow.specs.Composed.{enough_for}
 use Rattle.fx_flow.specs.Steps.{IsHungry, rest_of, wholes_of}
 use Rattle.fx_sound.specs.Output.{Pending, Sent}
-use Rattle.fx_sound.specs.Container.{after_frames}
+use Rattle.fx_sound.specs.Container.{after_frames, ReadAllTold}
 use Rattle.fx_sound.specs.Runs.{Ran}
 use Rattle.fx_sound.proofs.RunLaws.{Ran-end, Ran-failed, first_frames-more}
 use Rattle.fx_sound.specs.Sound.{Reading, EndsSound, TakesFrame, at_most_announced, beyond, size_of, within}
 use Rattle.fx_heads.specs.Source.{FallsShort, Held, Takes}
 use Rattle.fx_run.specs.Outlet.{WroteFront, coded}
-use Rattle.fx_run.specs.Run.{Flowed, FlowedFront, RanToEnd, RanToFailure, WantsMore, sound_frames}
+use Rattle.fx_run.specs.Run.{Flowed, FlowedFront, RanToEnd, WantsMore, sound_frames}
 use Rattle.fx_run.specs.Through.{CutOff, Drained, Gives, Through, took, told_end, untouched}
 use Rattle.fx_run.proofs.Sending.{coded-append, coded_clips-append}
 
@@ -50,26 +50,6 @@ pub RanToEnd-end : (first now new : Reading) (bytes : List ℕ) (n : ℕ) (to_co
 RanToEnd-end first now new bytes n to_come r e =
     let q = Ran-end first now new bytes n to_come r e in
     record { count = q.0; strays = ap (λ (p : Reading). p.stray) q.1; lacks = ap (λ (p : Reading). p.missing) q.1 }
-
--- the reader failed
-pub RanToFailure-failed : {R : Type 0} (told : R → ℕ) (first now : Reading) (n : ℕ) (start old : Held R) (new : R)
-    → now ≡ after_frames first n → Takes told start old (n * size_of first) → FallsShort told old new (at_most_announced now.left (size_of now)) → RanToFailure told start new first n
-RanToFailure-failed told first now n start old new e t f =
-    let all = Ran-failed told first now n start old new e t f in
-    record { count = all.count; later = all.later; short = all.short }
-
--- the source stands behind the sound
-length-within_beyond : (left : Option ℕ) (k : ℕ) (bytes : List ℕ) → length (within (beyond left k) (drop k bytes)) ≡ length (within left bytes) - k
-length-within_beyond None k bytes = length-drop k bytes
-length-within_beyond (Some a) k bytes = simp (length-take, length-drop) (omega arith)
-
-pub Ran-left : (first now : Reading) (bytes : List ℕ) (n : ℕ) (to_come new : Option (List ℕ)) → Ran first now bytes n to_come
-    → new ≡ Some (drop (length (within now.left (drop (n * size_of first) bytes))) (drop (n * size_of first) bytes)) → new ≡ Some (drop (length (within first.left bytes)) bytes)
-Ran-left first now bytes n to_come new r e =
-    let rest : length (within now.left (drop (n * size_of first) bytes)) ≡ length (within first.left bytes) - n * size_of first =
-    ap (λ (p : Reading). length (within p.left (drop (n * size_of first) bytes))) r.now_is ∙ length-within_beyond first.left (n * size_of first) bytes in
-    e ∙ ap (λ m. Some (drop m (drop (n * size_of first) bytes))) rest
-    ∙ ap Some (drop-drop (length (within first.left bytes) - n * size_of first) (n * size_of first) bytes ∙ ap (λ m. drop m bytes) (omega (arith, r.whole)))
 
 module _ {S R : Type 0} (acts : Acts S R) where
   -- the same stages have enough

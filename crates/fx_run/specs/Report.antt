@@ -23,7 +23,8 @@ use Rattle.fx_run.specs.declared.report.RunFault.TheVariants.{ReadFailed, WriteF
 use Rattle.fx_run.specs.declared.target.Target.{Target}
 use Rattle.fx_run.specs.Due.{clips_in, dues}
 use Rattle.fx_run.specs.Outlet.{WroteAll, WroteFront, coded, coded_clips}
-use Rattle.fx_run.specs.Run.{RanToEnd, RanToFailure}
+use Rattle.fx_run.specs.Run.{RanToEnd}
+use Rattle.fx_sound.specs.Container.{ReadAllTold}
 use Rattle.fx_run.specs.Through.{Reached}
 
 -- the report that comes with a fault
@@ -110,7 +111,7 @@ module _ {S R : Type 0} (acts : Acts S R) where
     pub due : given ≡ due_of (kinds acts start.stages) n
     pub hungry : IsHungry acts at
     pub not_enough : enough_for (kinds acts start.stages) n ≡ false
-    pub read_failed : RanToFailure told old new sound n
+    pub read_failed : ReadAllTold told old new sound n
 
   -- A run to the end: all that the flow gives was written.
   pub record Completed (start at : Parts S) (target : Target) (sound : Reading) (bytes : List ℕ) (frames : List Samples) (first now : Option (List ℕ)) (r : Report) : Type 0 where

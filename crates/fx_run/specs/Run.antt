@@ -38,13 +38,6 @@ pub record RanToEnd (start : Reading) (bytes : List ℕ) (n missing stray : ℕ)
   pub strays : stray ≡ length (within start.left bytes) % size_of start
   pub lacks : missing ≡ lacking start.left (length (within start.left bytes))
 
--- The reader failed after it had told so many bytes: all whole frames of them were taken.
-pub record RanToFailure {R : Type 0} (told : R → ℕ) (old : Held R) (new : R) (start : Reading) (n : ℕ) : Type 0 where
-  pub count : told new < 2 ^ 64 - 1 → n ≡ at_most_announced start.left (length old.bytes + (told new - told old.reader)) / size_of start
-  pub later : told new < 2 ^ 64 - 1 → told old.reader ≤ told new
-  -- fewer bytes had come than were announced
-  pub short : told new < 2 ^ 64 - 1 → (left : ℕ) → start.left ≡ Some left → length old.bytes + (told new - told old.reader) < left
-
 -- the bytes behind what was read of a sound: n frames, where these were enough for some effect, and else all of it
 abbrev pub behind_read : Reading → Bool → ℕ → List ℕ → List ℕ
 behind_read start enough n bytes = drop (cond enough (n * size_of start) (length (within start.left bytes))) bytes

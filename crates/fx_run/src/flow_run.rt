@@ -3,7 +3,8 @@ ghost use Rattle.std.specs.Prelude.{◌≡◌, ◌≢◌, ℕ, ◌+◌, ◌<◌,
 ghost use Rattle.fx_run.specs.Due.{dues};
 ghost use Rattle.fx_run.specs.Outlet.{WroteAll, WroteFront};
 ghost use Rattle.fx_run.specs.Report.{Completed, HasCause, ReadBefore, Stands, StoppedAt, behind_reported, cause_of, clips_now, pad, report_at, report_in, start_of};
-ghost use Rattle.fx_run.specs.Run.{RanToFailure, WantsMore, sound_frames};
+ghost use Rattle.fx_run.specs.Run.{WantsMore, sound_frames};
+ghost use Rattle.fx_sound.specs.Container.{ReadAllTold};
 ghost use Rattle.fx_flow.specs.Parts.{given_by, moves_of, most_of, taken_of, work};
 ghost use Rattle.fx_flow.specs.Sound.{most_frames};
 ghost use Rattle.fx_flow.specs.Steps.{IsDone, IsHungry, wholes_of};
@@ -136,7 +137,7 @@ pub fn run_flow<R: ByteIn, S: Feeds, W: ByteOut>(
     ensures stopped { IfErr result (λ f. IfKnown (to_come R.reads.rest source.old) (λ bytes.
         StoppedAt S.acts flow.old flow.new target (start_of head.now) bytes (sound_frames (start_of head.now) (report_at f).frames_in bytes) (W.writes.taken writer.old) (W.writes.taken writer.new) f)) }
     ensures due_flushed { IfErr result (λ f. cause_of f ≢ Cause.WriteFailed → W.writes.flushed writer.new ≡ true) }
-    ensures read_failed { IfErr result (λ f. cause_of f ≡ Cause.ReadFailed → RanToFailure R.reads.told source.old source.new.reader (start_of head.now) (report_at f).frames_in) }
+    ensures read_failed { IfErr result (λ f. cause_of f ≡ Cause.ReadFailed → ReadAllTold R.reads.told source.old source.new.reader (start_of head.now) (report_at f).frames_in) }
 
     // Where the source stands.
     ensures stands { IfKnown (to_come R.reads.rest source.old) (λ bytes. Stands result

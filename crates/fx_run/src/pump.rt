@@ -1,7 +1,8 @@
 //! Frames from a source through a flow to a writer.
 ghost use Rattle.std.specs.Prelude.{◌≡◌, ◌+◌, ◌*◌, ◌<◌, ◌≤◌, ◌^◌, ◌++◌, [], false, true, not, List, OnErr, OnOk, Err, MatchBool, Some, length};
 ghost use Rattle.fx_run.specs.Report.{met_end};
-ghost use Rattle.fx_run.specs.Run.{Flowed, FlowedFront, RanToEnd, RanToFailure, WantsMore, behind_read, is_read_failed, is_write_failed, sound_frames};
+ghost use Rattle.fx_run.specs.Run.{Flowed, FlowedFront, RanToEnd, WantsMore, behind_read, is_read_failed, is_write_failed, sound_frames};
+ghost use Rattle.fx_sound.specs.Container.{ReadAllTold};
 ghost use Rattle.fx_run.specs.Through.{CutOff, Drained};
 ghost use Rattle.fx_flow.specs.Parts.{given_by, most_of, taken_of};
 ghost use Rattle.fx_flow.specs.Composed.{due_of, enough_for};
@@ -112,7 +113,7 @@ pub fn pump<R: ByteIn, S: Feeds, W: ByteOut>(
     ensures settled { OnOk result (progress.new.over ≡ false → IfKnown (to_come R.reads.rest source.old) (λ bytes. (z : List Samples) →
         rest_of S.acts flow.old (sound_frames progress.old progress.new.frames bytes ++ z) ≡ rest_of S.acts flow.old (sound_frames progress.old progress.new.frames bytes))) }
     ensures not_enough { OnErr result (is_write_failed result ≡ false → enough_for (kinds S.acts flow.old.stages) progress.new.frames ≡ false) }
-    ensures read_failed { is_read_failed result ≡ true → RanToFailure R.reads.told source.old source.new.reader progress.old progress.new.frames }
+    ensures read_failed { is_read_failed result ≡ true → ReadAllTold R.reads.told source.old source.new.reader progress.old progress.new.frames }
     ensures too_long { result ≡ Err Cause.TooLong → (progress.new.frames ≡ MOST_FRAMES) × IfKnown (to_come R.reads.rest source.old) (λ bytes.
         (MOST_FRAMES + 1) * size_of progress.old ≤ length (within progress.old.left bytes)) }
     ensures most { progress.new.frames ≤ MOST_FRAMES }

@@ -1,6 +1,6 @@
 -- What follows where a stage was fed.
 use Rattle.std.proofs.Common.{◌≡◌, ◌+◌, ℕ, List, [], ◌∷◌, ◌++◌, length, map, refl, sym, ap, ◌∙◌, arith, length-append, append_assoc, append-nil, subst, false, true}
-use Rattle.std.proofs.lemmas.List.{map-append}
+use Rattle.std.proofs.lemmas.List.{map-append, nil_from_length}
 use Rattle.fx_step.specs.declared.feed.Passing.{Passing}
 use Rattle.fx_step.specs.declared.feed.Passing.TheVariants.{Kept, Through, More}
 use Rattle.fx_step.specs.Feed.{Fed, GaveNext, IsHeld, PassedOn, TookNext, nothing, taken, given}
@@ -115,10 +115,6 @@ module _ {S R T Q : Type 0} (acts : Acts S R) (whole : Acts T Q) (wrap : S → T
 
 -- A stage that was dry and was fed one frame, with room for one: it took the frame, and gave one or none.
 module _ {S R : Type 0} (acts : Acts S R) (first : S) where
-  none-in : {X : Type 0} (xs : List X) → length xs ≡ 0 → xs ≡ []
-  none-in [] e = refl
-  none-in (x ∷ xs) e = absurd (omega arith)
-
   -- nothing was taken and nothing given
   pub Fed-none : (xs gs : List Samples) (s : S) → Fed acts first xs gs s → length xs ≡ 0 → length gs ≡ 0 → s ≡ first
   Fed-none xs gs s nothing e n = refl
@@ -139,7 +135,7 @@ module _ {S R : Type 0} (acts : Acts S R) (first : S) where
   Fed-took xs gs s (taken ys hs x t t' fed took) e n =
       let none : length ys ≡ 0 = omega (arith, length-append ys (x ∷ []), e) in
       let same : t ≡ first = Fed-none ys hs t fed none n in
-      (x, ap (λ zs. zs ++ x ∷ []) (none-in ys none), subst (λ (u : S). TookNext acts u t' x) same took)
+      (x, ap (λ zs. zs ++ x ∷ []) (nil_from_length ys none), subst (λ (u : S). TookNext acts u t' x) same took)
   Fed-took xs gs s (given ys hs g t t' fed gave) e n = absurd (omega (arith, length-append hs (g ∷ []), n))
 
   -- a frame was taken, and then one given
@@ -152,4 +148,4 @@ module _ {S R : Type 0} (acts : Acts S R) (first : S) where
   Fed-both xs gs s dry (given ys hs g t t' fed gave) e n =
       let none : length hs ≡ 0 = omega (arith, length-append hs (g ∷ []), n) in
       let one = Fed-took ys hs t fed e none in
-      (one.0, g, t, one.1, ap (λ zs. zs ++ g ∷ []) (none-in hs none), one.2, gave)
+      (one.0, g, t, one.1, ap (λ zs. zs ++ g ∷ []) (nil_from_length hs none), one.2, gave)

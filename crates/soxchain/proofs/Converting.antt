@@ -17,7 +17,8 @@ use Rattle.fx_run.specs.declared.pump.Cause.{Cause}
 use Rattle.fx_run.specs.declared.pump.Cause.TheVariants as Causes
 use Rattle.fx_chain.specs.Chain.{ChainParts, IsNewChain}
 use Rattle.fx_run.specs.Report.{Stands, HasCause, ReadBefore, start_of}
-use Rattle.fx_run.specs.Run.{RanToFailure, WantsMore}
+use Rattle.fx_run.specs.Run.{WantsMore}
+use Rattle.fx_sound.specs.Container.{ReadAllTold}
 use Rattle.fx_chain.specs.Theorem.{ReadFirst, kinds_of}
 use Rattle.fx_flow.specs.Parts.{Parts}
 use Rattle.fx_step.specs.Holds.{kinds}
@@ -52,7 +53,7 @@ head-causes X TooManyChannels reads new h = h
 head-causes X HeadTooLong reads new h = h
 
 -- the frames that had come whole, by the reader's count from the first byte of the input on
-pub Ran-told : {R : Type 0} (told : R → ℕ) (first at : Held R) (reader new : R) (start : Reading) (offset n : ℕ) → first.bytes ≡ [] → first.reader ≡ reader → Takes told first at offset → RanToFailure told at new start n → told new < 2 ^ 64 - 1
+pub Ran-told : {R : Type 0} (told : R → ℕ) (first at : Held R) (reader new : R) (start : Reading) (offset n : ℕ) → first.bytes ≡ [] → first.reader ≡ reader → Takes told first at offset → ReadAllTold told at new start n → told new < 2 ^ 64 - 1
     → (told reader + offset ≤ told new) × (n ≡ at_most_announced start.left (told new - told reader - offset) / size_of start) × ((left : ℕ) → start.left ≡ Some left → told new - told reader - offset < left)
 Ran-told told first at reader new start offset n none is t r h =
     let later = r.later h in

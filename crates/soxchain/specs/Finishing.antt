@@ -4,7 +4,8 @@ use Rattle.fx_run.specs.declared.pump.Cause.TheVariants as Causes
 use Rattle.fx_run.specs.declared.report.Report.{Report}
 use Rattle.fx_run.specs.declared.report.RunFault.{RunFault}
 use Rattle.fx_run.specs.Report.{HasCause, Stands, behind_reported, cause_of, report_at, report_in, start_of}
-use Rattle.fx_run.specs.Run.{RanToFailure, WantsMore}
+use Rattle.fx_run.specs.Run.{WantsMore}
+use Rattle.fx_sound.specs.Container.{ReadAllTold}
 use Rattle.fx_chain.specs.Theorem.{Ran, ReadFirst, kinds_of}
 use Rattle.fx_io.specs.Io.{ByteReader, ByteWriter, saturated}
 use Rattle.fx_line.specs.Line.{Said}
@@ -38,7 +39,7 @@ pub record Finished {R W : Type 0} (reads : ByteReader R) (writes : ByteWriter W
   pub all_flushed : OnOk outcome (writes.flushed new_writer ≡ true)
   pub due_flushed : IfErr outcome (λ f. cause_of f ≢ Causes.WriteFailed → writes.flushed new_writer ≡ true)
   -- after a failed read all whole frames that were told had come
-  pub read_failed : IfErr outcome (λ f. cause_of f ≡ Causes.ReadFailed → RanToFailure reads.told source new_source.reader (start_of ready.prepared.plan.head) (report_at f).frames_in)
+  pub read_failed : IfErr outcome (λ f. cause_of f ≡ Causes.ReadFailed → ReadAllTold reads.told source new_source.reader (start_of ready.prepared.plan.head) (report_at f).frames_in)
   -- no frame was read past those that are enough for some effect, and no more were handed over than the plan says
   pub wants : WantsMore (kinds_of (planning ready.prepared.plan)) (report_in outcome).frames_in
   pub work : (report_in outcome).moves ≤ work_of (planning ready.prepared.plan).acts (report_in outcome).frames_in

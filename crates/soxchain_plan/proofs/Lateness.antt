@@ -1,5 +1,6 @@
 -- After just so many frames as the line of an effect with positions holds nothing is due.
 use Rattle.std.proofs.Common.{◌≡◌, ◌∙◌, ◌+◌, ◌-◌, ℕ, zero, suc, List, [], ◌∷◌, Option, Some, None, ap, arith, cond, filter, map, refl, sum_by, zero-add}
+use Rattle.fx_cut.proofs.PadThaw.{no-pads}
 use Rattle.std.specs.Prelude.{count_by, nat_lt}
 use Rattle.std.specs.List.{range_with_len}
 use Rattle.std.proofs.lemmas.Bool.{le-ltb}
@@ -16,11 +17,6 @@ trim-waits ps =
     let line : ℕ = greatest (map end_distance ps) in
     let none : line - line ≡ 0 = omega arith in
     ap (λ n. count_by (keeps (places_of 0 (starts ps))) (range_with_len 0 n)) none
-
--- no pad stands before the first frame
-no-pads : (pads : List (ℕ × ℕ)) → sum_by (λ p. p.0) (filter (λ p. nat_lt p.1 0) pads) ≡ 0
-no-pads [] = refl
-no-pads ((k, p) ∷ pads) = ap (λ b. sum_by (λ p. p.0) (cond b ((k, p) ∷ filter (λ p. nat_lt p.1 0) pads) (filter (λ p. nat_lt p.1 0) pads))) (le-ltb p 0 (omega arith)) ∙ no-pads pads
 
 pub pad-waits : (pads : List (ℕ × At)) → pad_due pads (greatest (map pad_distance pads)) ≡ 0
 pad-waits pads =

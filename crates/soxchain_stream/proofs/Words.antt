@@ -109,10 +109,6 @@ pub length-words : (xs : List ℕ) → length (flat_map word xs) ≡ 8 * length 
 length-words [] = refl
 length-words (x ∷ xs) = omega (arith, length-words xs)
 
-pub nil-of : {X : Type 0} (xs : List X) → length xs ≡ 0 → xs ≡ []
-nil-of [] e = refl
-nil-of (x ∷ xs) e = absurd (omega arith)
-
 -- what holds of an answer holds of it more weakly
 pub if_ok-more : {X E : Type 0} {P Q : X → Type 0} (r : Result X E) → ((x : X) → P x → Q x) → IfOk r P → IfOk r Q
 if_ok-more (Ok x) f h = f x h

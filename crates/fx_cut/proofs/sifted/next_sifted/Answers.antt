@@ -1,9 +1,9 @@
 -- The oldest frame is let go.
 use Rattle.std.proofs.Common.{◌≡◌, ◌≤◌, ◌+◌, ◌-◌, ◌∙◌, ◌++◌, [], ap, sym, arith, length, length-drop, map}
+use Rattle.fx_step.proofs.Flags.{none-of}
 use Rattle.std.specs.Prelude.{option_to_list}
 use Rattle.fx_step.specs.Given.{plain}
 use Rattle.fx_cut.specs.Sifted.{sift_after}
-use Rattle.fx_cut.proofs.Hands.{not-some}
 use Rattle.fx_cut.proofs.SiftSteps.{drained, given-popped}
 use Rattle.fx_cut.proofs.sifted.next_sifted.Goals as goal
 
@@ -23,7 +23,7 @@ frames-preserved g c =
     let f = c.frames.invariant.fewer in
     let h : length c.frames.line.items ≤ c.args.frames = let b = c.requires in omega arith in
     let value = rw n at c.sift_in-sifted.ensures.value in
-    let none = not-some c.sift_in-sifted.result (sym c.if-is_some.ensures) in
+    let none = none-of c.sift_in-sifted.result (sym c.if-is_some.ensures) in
     let d = drained sifts c.args.sifting.now c.args.frames c.frames.line.items c.pop_front.new.self.items c.in-Some.oldest c.in-Some.ensures.oldest c.in-Some.ensures.items h in
     let k = given-popped sifts c.args.sifting.now c.args.frames c.frames.line.items c.pop_front.new.self.items c.in-Some.oldest c.sift_in-sifted.result c.in-Some.ensures.oldest c.in-Some.ensures.items h value in
     let nothing : length (option_to_list c.sift_in-sifted.result) ≡ 0 = ap (λ o. length (option_to_list o)) none in

@@ -1,7 +1,7 @@
 use Rattle.std.proofs.Common.{◌≡◌, ℕ, ◌+◌, ◌*◌, ◌∙◌, [], length, drop, refl, subst, sym, ap, arith, false, true}
 use Rattle.fx_io.specs.Io.{saturated}
 use Rattle.fx_sound.specs.Runs.{Ran}
-use Rattle.fx_sound.proofs.RunLaws.{Ran-start, Ran-turn, Ran-whole, Takes-none}
+use Rattle.fx_sound.proofs.RunLaws.{Ran-start, Ran-turn, Ran-whole, Takes-none, Ran-behind, Ran-failed}
 use Rattle.fx_sound.specs.Container.{after_frames}
 use Rattle.fx_sound.specs.Sound.{Reading, size_of}
 use Rattle.fx_heads.specs.Source.{to_come}
@@ -11,7 +11,7 @@ use Rattle.fx_run.specs.Run.{is_write_failed}
 use Rattle.fx_run.specs.Pump.{Start}
 use Rattle.fx_run.proofs.Blocks.{Pumped-turn}
 use Rattle.fx_run.proofs.Draining.{given_by-few}
-use Rattle.fx_run.proofs.Passing.{Ran-left, settled, Flowed-end, Flowed-start, FlowedFront-end, FlowedFront-start, FlowedFront-turn, RanToEnd-end, RanToFailure-failed, not-both, sound_frames-more}
+use Rattle.fx_run.proofs.Passing.{settled, Flowed-end, Flowed-start, FlowedFront-end, FlowedFront-start, FlowedFront-turn, RanToEnd-end, not-both, sound_frames-more}
 use Rattle.fx_run.proofs.Sending.{WroteFront-sent}
 use Rattle.fx_run.proofs.pump.pump.Goals as goal
 use Rattle.fx_sound.proofs.Sending.{Sent-start}
@@ -127,7 +127,7 @@ returns-in-Err-ReadFailed-clause-read_failed g c = λ _.
     let old = c.loop-turn.invariant.pumped in
     let next = rw c.in-Err-ReadFailed.field-0-is at c.in-Err-ReadFailed.ensures in
     let count : c.next_frame.new.progress.frames ≡ c.loop-turn.progress.frames = ap (λ (p : Reading). p.frames) next.err in
-    rw count (RanToFailure-failed g.R.ByteIn.reads.told c.args.progress.now c.loop-turn.progress c.loop-turn.progress.frames c.args.source.now c.loop-turn.source _ old.at old.takes (next.read_failed refl))
+    rw count (Ran-failed g.R.ByteIn.reads.told c.args.progress.now c.loop-turn.progress c.loop-turn.progress.frames c.args.source.now c.loop-turn.source _ old.at old.takes (next.read_failed refl))
 
 pub returns-in-Err-TooLong-clause-too_long : goal.returns-in-Err-TooLong-clause-too_long
 returns-in-Err-TooLong-clause-too_long g c = λ _.
@@ -191,7 +191,7 @@ returns-in_err-end_flow-in-Ok-None-clause-left g c = λ _ bytes known.
     let next = rw c.in-Ok-None.field-0-is at c.in-Ok-None.ensures in
     let ran = old.ran bytes known in
     rw (next.over.0)
-    (Ran-left c.args.progress.now c.loop-turn.progress bytes c.loop-turn.progress.frames _ _ ran (next.left old.begun (drop (c.loop-turn.progress.frames * size_of c.args.progress.now) bytes) ran.to_come_is))
+    (Ran-behind c.args.progress.now c.loop-turn.progress bytes c.loop-turn.progress.frames _ _ ran (next.left old.begun (drop (c.loop-turn.progress.frames * size_of c.args.progress.now) bytes) ran.to_come_is))
 
 pub returns-in-Ok-None-clause-left : goal.returns-in-Ok-None-clause-left
 returns-in-Ok-None-clause-left g c = λ _ bytes known.
@@ -199,7 +199,7 @@ returns-in-Ok-None-clause-left g c = λ _ bytes known.
     let next = rw c.in-Ok-None.field-0-is at c.in-Ok-None.ensures in
     let ran = old.ran bytes known in
     rw (next.over.0)
-    (Ran-left c.args.progress.now c.loop-turn.progress bytes c.loop-turn.progress.frames _ _ ran (next.left old.begun (drop (c.loop-turn.progress.frames * size_of c.args.progress.now) bytes) ran.to_come_is))
+    (Ran-behind c.args.progress.now c.loop-turn.progress bytes c.loop-turn.progress.frames _ _ ran (next.left old.begun (drop (c.loop-turn.progress.frames * size_of c.args.progress.now) bytes) ran.to_come_is))
 
 pub returns-in-Err-TooLong-clause-left : goal.returns-in-Err-TooLong-clause-left
 returns-in-Err-TooLong-clause-left g c = λ _ bytes known.

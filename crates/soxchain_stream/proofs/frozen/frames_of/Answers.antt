@@ -1,9 +1,9 @@
 use Rattle.std.proofs.Common.{◌≡◌, ℕ, ◌++◌, ◌∙◌, ◌∷◌, ◌^◌, List, ap, arith, lit<, length, sym, map, [], append_assoc, take, true, false, suc}
-use Rattle.std.proofs.lemmas.List.{append-nil}
+use Rattle.std.proofs.lemmas.List.{append-nil, nil_from_length}
 use Rattle.std.specs.Int.{cast_signed, w64}
 use Rattle.fx_step.specs.Frame.{IsWideFrame, Samples}
 use Rattle.soxchain_stream.specs.Frozen.{frame_words}
-use Rattle.soxchain_stream.proofs.Words.{AreBelow, all-push, below-drop, below-take, FirstFrame, first-frame, frame-words-back, nil-of, no-frames, pieces-more}
+use Rattle.soxchain_stream.proofs.Words.{AreBelow, all-push, below-drop, below-take, FirstFrame, first-frame, frame-words-back, no-frames, pieces-more}
 use Rattle.soxchain_stream.proofs.frozen.frames_of.Goals as goal
 
 pub loop-count-preserved : goal.loop-count-preserved
@@ -59,5 +59,5 @@ returns-clause-back c = λ frames wide e.
     let rest : List ℕ = c.loop-count.rest.now in
     let items : List Samples = c.loop-count.frames.items in
     let found = c.loop-count.invariant.left frames wide e in
-    let none : found.0 ≡ [] = no-frames found.0 (found.2 ∙ nil-of rest c.in_default.ensures.cases) in
+    let none : found.0 ≡ [] = no-frames found.0 (found.2 ∙ nil_from_length rest c.in_default.ensures.cases) in
     sym (found.3 ∙ ap (λ (l : List Samples). items ++ l) none ∙ append-nil items)

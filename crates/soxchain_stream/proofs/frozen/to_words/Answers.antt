@@ -1,10 +1,10 @@
 use Rattle.std.proofs.Common.{◌≡◌, ℕ, ◌++◌, ◌∙◌, ◌≤◌, ◌^◌, List, ap, arith, lit<, length, flat_map, take, drop, ◌<◌, [], sym, inl, inr, true, false}
 use Rattle.std.proofs.lemmas.Bool.{cases_lt}
 use Rattle.std.proofs.lemmas.Grind.{common_steps}
-use Rattle.std.proofs.lemmas.List.{append-nil, length-append, length-take-le, take-append-drop}
+use Rattle.std.proofs.lemmas.List.{append-nil, length-append, length-take-le, take-append-drop, nil_from_length}
 use Rattle.std.proofs.lemmas.Nat.{le_bytes_8}
 use Rattle.soxchain_stream.specs.Frozen.{word}
-use Rattle.soxchain_stream.proofs.Words.{AreBelow, all-of, below-drop, below-push, below-take, below-of, length-words, nil-of, pieces-more, words-same}
+use Rattle.soxchain_stream.proofs.Words.{AreBelow, all-of, below-drop, below-push, below-take, below-of, length-words, pieces-more, words-same}
 use Rattle.soxchain_stream.proofs.frozen.to_words.Goals as goal
 
 pub loop-next-preserved : goal.loop-next-preserved
@@ -38,7 +38,7 @@ pub returns-then-is_empty-clause-back : goal.returns-then-is_empty-clause-back
 returns-then-is_empty-clause-back c = λ words each e.
     let rest : List ℕ = c.loop-next.rest.now in
     let items : List ℕ = c.loop-next.words.items in
-    let none : rest ≡ [] = nil-of rest (grind (arith, common_steps, c.if-is_empty.ensures)) in
+    let none : rest ≡ [] = nil_from_length rest (grind (arith, common_steps, c.if-is_empty.ensures)) in
     let all : flat_map word items ≡ c.args.bytes.now = sym (append-nil (flat_map word items)) ∙ ap (λ (l : List ℕ). flat_map word items ++ l) (sym none) ∙ c.loop-next.invariant.words in
     words-same items words c.loop-next.invariant.words_below (below-of (2 ^ 64) words (lit< tt) each) (all ∙ sym e)
 

@@ -1,5 +1,6 @@
 -- Frames that are left out, and groups behind them.
 use Rattle.std.proofs.Common.{rules, ◌≡◌, ◌≤◌, ◌+◌, ◌-◌, ◌*◌, ◌∙◌, [], length, ap, arith, refl}
+use Rattle.fx_step.proofs.Flags.{none-of}
 use Rattle.std.proofs.lemmas.List.{length-drop}
 use Rattle.std.proofs.Math.Nat.{add-mul, mul_assoc}
 use Rattle.fx_step.specs.Feed.{Fed, nothing}
@@ -7,7 +8,6 @@ use Rattle.fx_lists.specs.Lists.{pieces}
 use Rattle.fx_cut.specs.DownsampleState.{downsample_acts}
 use Rattle.fx_cut.specs.declared.downsample.Downsample.TheView.{view}
 use Rattle.fx_cut.proofs.DownsampleMany.{Ready, all-passed, groups-room, lead-passed, past, took-with-room}
-use Rattle.fx_cut.proofs.Hands.{not-some}
 use Rattle.fx_cut.proofs.Pieces.{frames-room}
 use Rattle.fx_lists.proofs.Puts.{part-from}
 use Rattle.fx_cut.proofs.downsample.DownsamplePassesMany.pass_many.Goals as goal
@@ -18,7 +18,7 @@ returns-then-is_some-clause-fed c = nothing
 
 -- no frame is in hand
 ready : (c : After-min-left_out) → Ready (view c.self.inside)
-ready c = record { is = c.self.invariant; empty = not-some c.self.inside.hand (search rules); running = c.if-self.false }
+ready c = record { is = c.self.invariant; empty = none-of c.self.inside.hand (search rules); running = c.if-self.false }
 
 -- the frames that are left out
 lead : (c : Then-self-ne0) → let s = view c.self.inside in let n = c.min-left_out.result in Fed downsample_acts s (pieces s.recipe.channels n c.args.input.now) [] (past s n) × Ready (past s n)

@@ -1,11 +1,11 @@
 -- Up to the next pad the frames are passed, all of them.
 use Rattle.std.proofs.Common.{rules, ◌≡◌, ◌+◌, ◌≤◌, ◌*◌, ◌∙◌, length, take, arith}
+use Rattle.fx_step.proofs.Flags.{none-of}
 use Rattle.std.proofs.lemmas.List.{length-take-le}
 use Rattle.fx_step.specs.Feed.{Fed, nothing}
 use Rattle.fx_lists.specs.Lists.{pieces}
 use Rattle.fx_cut.specs.PadState.{IsPad, pad_acts}
 use Rattle.fx_cut.specs.declared.pad.Pad.TheView.{view}
-use Rattle.fx_cut.proofs.Hands.{not-some}
 use Rattle.fx_cut.proofs.PadMany.{Quiet, quiet-passed, took-with-room}
 use Rattle.fx_cut.proofs.Pieces.{few-pieces, frames-room, pieces-cut}
 use Rattle.fx_cut.proofs.pad.PadPassesMany.pass_many.Goals.{After-copy_frames-copied}
@@ -36,7 +36,7 @@ quiet c =
     record {
       is = c.self.invariant;
       short = search rules;
-      empty = not-some c.self.inside.hand (search rules);
+      empty = none-of c.self.inside.hand (search rules);
       none = c.if-self-ne0.false;
       running = c.if-self.false;
       quiet = λ i h. quiet i (omega (arith, h, ahead));

@@ -1,5 +1,6 @@
 -- The frames that fall out up to where a stretch ends are given, or left out, all of them.
 use Rattle.std.proofs.Common.{ℕ, ◌≡◌, ◌≤◌, ◌+◌, ◌*◌, ◌-◌, ◌/◌, ◌∙◌, ◌++◌, drop, length, take, sym, arith, w32}
+use Rattle.fx_step.proofs.Flags.{none-of}
 use Rattle.std.proofs.lemmas.Grind.{common_steps}
 use Rattle.std.proofs.lemmas.List.{length-take-le}
 use Rattle.std.proofs.lemmas.List.Elements.{All-append}
@@ -8,7 +9,6 @@ use Rattle.fx_ring.specs.Line.{IsSamples}
 use Rattle.fx_lists.specs.Lists.{pieces}
 use Rattle.fx_lists.proofs.Pieces.{pieces-front}
 use Rattle.fx_cut.specs.Sifted.{IsSiftState, sift_acts}
-use Rattle.fx_cut.proofs.Hands.{not-some}
 use Rattle.fx_cut.proofs.Onto.{IsPiece, piece-fits}
 use Rattle.fx_cut.proofs.SiftMany.{Alike, fell-fit, passed, piece-passed, took-with-room}
 use Rattle.fx_cut.proofs.SiftSteps.{state}
@@ -89,7 +89,7 @@ passes g c =
     let at : c.self.inside.taken - c.len-lined.result ≡ c.self.inside.taken - length c.self.inside.line.items = omega arith in
     let a : Alike sifts c.stretch_from-stretch.result.is_given s n = record {
       is = c.self.invariant;
-      empty = not-some c.self.inside.hand (sym c.if-is_some.ensures);
+      empty = none-of c.self.inside.hand (sym c.if-is_some.ensures);
       running = c.if-self.false;
       gives = λ i h. let within = c.self.invariant.line.within in let alike = c.stretch_from-stretch.ensures.alike i (omega arith) in rw at at alike;
       wanted = λ i h. let enough = c.wanted.ensures i (omega arith) in rw c.enough.ensures at enough;
@@ -129,4 +129,4 @@ returns-clause-room g c =
     let one : c.channels-channels.result ≤ length c.args.output.now = omega arith in
     let few : c.min-count.result ≤ length c.args.output.now / c.channels-channels.result + (c.self.inside.line.capacity - length c.self.inside.line.items) = omega arith in
     rw (← c.self.view_is)
-    (took-with-room sifts g.S.Sifting.settled s c.min-count.result (length c.args.output.now) c.self.invariant (not-some c.self.inside.hand (sym c.if-is_some.ensures)) c.if-self.false there (rw width at one) (rw width at few))
+    (took-with-room sifts g.S.Sifting.settled s c.min-count.result (length c.args.output.now) c.self.invariant (none-of c.self.inside.hand (sym c.if-is_some.ensures)) c.if-self.false there (rw width at one) (rw width at few))

@@ -1,9 +1,9 @@
 -- Each frame is passed with the silence behind it.
 use Rattle.std.proofs.Common.{rules, ◌≤◌, ◌+◌, ◌*◌, ◌/◌, ◌^◌, length, arith}
+use Rattle.fx_step.proofs.Flags.{none-of}
 use Rattle.std.proofs.Math.Nat.{mul_assoc}
 use Rattle.fx_step.specs.Feed.{nothing}
 use Rattle.fx_cut.specs.declared.upsample.Upsample.TheView.{view}
-use Rattle.fx_cut.proofs.Hands.{not-some}
 use Rattle.fx_cut.proofs.Pieces.{frames-room}
 use Rattle.fx_cut.proofs.UpsampleMany.{Ready, all-passed, frames-fed, took-with-room}
 use Rattle.fx_cut.proofs.upsample.UpsamplePassesMany.pass_many.Goals as goal
@@ -16,7 +16,7 @@ returns-then-is_some-clause-fed c = nothing
 may : (c : After-min-count) → Ready (view c.self.inside) × (c.min-count.result * c.self.inside.channels ≤ length c.args.input.now) × (c.self.inside.taken + c.min-count.result ≤ 2 ^ 56 / c.self.inside.factor)
 may c =
     let room = frames-room c.min-count.result c.self.inside.channels (length c.args.input.now) (omega (arith, c.min-count.ensures)) in
-    (record { is = c.self.invariant; empty = not-some c.self.inside.hand (search rules); none = c.if-self-ne0.false; running = c.if-self.false }, room, (rw (← c.self.view_is) at c.requires.below_limit) c.min-count.result room)
+    (record { is = c.self.invariant; empty = none-of c.self.inside.hand (search rules); none = c.if-self-ne0.false; running = c.if-self.false }, room, (rw (← c.self.view_is) at c.requires.below_limit) c.min-count.result room)
 
 -- and what they give has room
 fits : (c : After-min-count) → c.min-count.result * c.self.inside.factor * c.self.inside.channels ≤ length c.args.output.now

@@ -1,7 +1,7 @@
 use Rattle.std.proofs.Common.{◌≡◌, ◌-◌, ◌<◌, ◌≤◌, ◌++◌, [], refl, ap, ◌∙◌, length, take, drop, take_at, take-append-drop, length-append, length-drop, arith}
 use Rattle.std.proofs.lemmas.Grind.{common_steps}
-use Rattle.std.proofs.lemmas.List.{take_rest}
-use Rattle.fx_ring.proofs.Wheels.{turned-extended, no-items}
+use Rattle.std.proofs.lemmas.List.{take_rest, nil_from_length}
+use Rattle.fx_ring.proofs.Wheels.{turned-extended}
 use Rattle.fx_ring.specs.Ring.{turned}
 use Rattle.fx_ring.proofs.wheel.Wheel.extend_from_slice.Goals as goal
 
@@ -15,7 +15,7 @@ returns-then-rest-gt0 g c =
     let more : 0 < length c.split_at.result.1.now = c.if-rest-gt0.true in
     let room : c.min-room.result ≡ c.self.inside.capacity - length c.self.inside.samples.items = omega (arith, held, c.min-room.ensures, c.split_at.ensures.back_len, ap length (take_rest c.args.other.now c.saturating_sub.result), length-drop c.saturating_sub.result c.args.other.now, c.saturating_sub.ensures) in
     let filled : length c.append.new.places.items ≡ c.self.inside.capacity = ap length c.append.ensures.items ∙ omega (arith, length-append c.self.inside.samples.items c.split_at.result.0.now, c.self.invariant.within, first, room) in
-    let none : 1 ≤ c.self.inside.wrapped → c.split_at.result.0.now ≡ [] = λ h. no-items c.split_at.result.0.now (omega (arith, (c.self.invariant.filled h).0, first, room)) in
+    let none : 1 ≤ c.self.inside.wrapped → c.split_at.result.0.now ≡ [] = λ h. nil_from_length c.split_at.result.0.now (omega (arith, (c.self.invariant.filled h).0, first, room)) in
     let whole : length c.overwrite-start.new.places ≡ c.append.new.places.len = c.overwrite-start.ensures.len ∙ c.deref_mut.ensures.len in
     let now = c.overwrite-start.new.places in
     let kept = rw (c.deref_mut.ensures.value) at c.overwrite-start.ensures.latest in
