@@ -1,6 +1,6 @@
 -- A frame in hand, or none.
-use Rattle.std.proofs.Common.{◌≡◌, ◌≤◌, true, false, List, [], ◌∷◌, length, refl, arith}
-use Rattle.std.specs.Prelude.{Option, Some, None, option_to_list, is_none, is_some}
+use Rattle.std.proofs.Common.{◌≡◌, ◌≤◌, true, [], ◌∷◌, length, refl, arith}
+use Rattle.std.specs.Prelude.{Option, Some, None, option_to_list, is_none}
 use Rattle.fx_step.specs.Frame.{Samples}
 
 pub none_of : (hand : Option Samples) → is_none hand ≡ true → hand ≡ None

@@ -4,7 +4,7 @@ ghost use Rattle.fx_fixed.specs.Rounding.{rounding};
 ghost use Rattle.fx_fir.specs.FirState.{samples_of_window};
 ghost use Rattle.fx_sums.specs.SmallWeights.{SumsAs};
 ghost use Rattle.fx_fir.specs.Split.{AddUpTo};
-ghost use Rattle.fx_lists.specs.Lists.{tabulate};
+ghost use Rattle.fx_lists.specs.Lists.{IsOther, tabulate};
 ghost use Rattle.fx_convolve.specs.Products.{sum_of_products};
 ghost use Rattle.fx_lists.specs.Rounded.{clips_of};
 
@@ -146,7 +146,7 @@ impl Kernel {
         requires window { length self.now + count ≤ length window.now + 1 }
         requires out { count * channels ≤ length out.old }
         ensures put { (i : ℕ) → i < count → slice_index_or out.new (i * channels + channel) (pos 0) ≡ (rounding (sum_of_products (drop i window.now) self.now) UNIT).0 }
-        ensures others { (i c : ℕ) → c < channels → (c ≡ channel → ⊥) → slice_index_or out.new (i * channels + c) (pos 0) ≡ slice_index_or out.old (i * channels + c) (pos 0) }
+        ensures others { (k : ℕ) → IsOther channels channel count k → slice_index_or out.new k (pos 0) ≡ slice_index_or out.old k (pos 0) }
         ensures clips { result ≡ clips_of (tabulate (λ i. rounding (sum_of_products (drop i window.now) self.now) UNIT) 0 count) }
         ensures few { result ≤ count }
     {
@@ -178,7 +178,7 @@ impl Kernel {
         requires window { length self.now + length sums.old ≤ length window.now + 1 }
         requires out { length sums.old * channels ≤ length out.old }
         ensures put { (i : ℕ) → i < length sums.old → slice_index_or out.new (i * channels + channel) (pos 0) ≡ (rounding (sum_of_products (drop i window.now) self.now) UNIT).0 }
-        ensures others { (i c : ℕ) → c < channels → (c ≡ channel → ⊥) → slice_index_or out.new (i * channels + c) (pos 0) ≡ slice_index_or out.old (i * channels + c) (pos 0) }
+        ensures others { (k : ℕ) → IsOther channels channel (length sums.old) k → slice_index_or out.new k (pos 0) ≡ slice_index_or out.old k (pos 0) }
         ensures clips { result ≡ clips_of (tabulate (λ i. rounding (sum_of_products (drop i window.now) self.now) UNIT) 0 (length sums.old)) }
         ensures few { result ≤ length sums.old }
     {

@@ -2,7 +2,7 @@
 ghost use Rattle.std.specs.Prelude.{◌≡◌, ◌<◌, ◌≤◌, ◌+◌, ◌*◌, ◌^◌, ℕ, pos, neg_ℤ, ◌≤ℤ◌, drop, length, slice_index_or, unsigned_abs, All, IfOk, IfSome};
 ghost use Rattle.fx_fixed.specs.Rounding.{rounding};
 ghost use Rattle.fx_fixed.specs.declared.gains.TheConstants.{UNIT};
-ghost use Rattle.fx_lists.specs.Lists.{tabulate};
+ghost use Rattle.fx_lists.specs.Lists.{IsOther, tabulate};
 ghost use Rattle.fx_lists.specs.Rounded.{clips_of};
 ghost use Rattle.fx_fir.specs.Split.{AddUpTo, joined};
 ghost use Rattle.fx_convolve.specs.Products.{sum_of_products};
@@ -63,7 +63,7 @@ fn round_joined(high: &[i64], low: &[i64], channels: usize, channel: usize, out:
     requires high { (i : ℕ) → i < length high.now → unsigned_abs (slice_index_or high.now i (pos 0)) ≤ 2 ^ 61 }
     requires out { length low.now * channels ≤ length out.old }
     ensures put { (i : ℕ) → i < length low.now → slice_index_or out.new (i * channels + channel) (pos 0) ≡ (rounding (joined (slice_index_or high.now i (pos 0)) (slice_index_or low.now i (pos 0))) UNIT).0 }
-    ensures others { (i c : ℕ) → c < channels → (c ≡ channel → ⊥) → slice_index_or out.new (i * channels + c) (pos 0) ≡ slice_index_or out.old (i * channels + c) (pos 0) }
+    ensures others { (k : ℕ) → IsOther channels channel (length low.now) k → slice_index_or out.new k (pos 0) ≡ slice_index_or out.old k (pos 0) }
     ensures clips { result ≡ clips_of (tabulate (λ i. rounding (joined (slice_index_or high.now i (pos 0)) (slice_index_or low.now i (pos 0))) UNIT) 0 (length low.now)) }
     ensures few { result ≤ length low.now }
 {
@@ -140,7 +140,7 @@ impl Split {
         requires high { length self.now.high + length sums.old ≤ length window.now + 1 }
         requires out { length sums.old * channels ≤ length out.old }
         ensures put { (i : ℕ) → i < length sums.old → slice_index_or out.new (i * channels + channel) (pos 0) ≡ (rounding (joined (sum_of_products (drop i window.now) self.now.high) (sum_of_products (drop i window.now) self.now.low)) UNIT).0 }
-        ensures others { (i c : ℕ) → c < channels → (c ≡ channel → ⊥) → slice_index_or out.new (i * channels + c) (pos 0) ≡ slice_index_or out.old (i * channels + c) (pos 0) }
+        ensures others { (k : ℕ) → IsOther channels channel (length sums.old) k → slice_index_or out.new k (pos 0) ≡ slice_index_or out.old k (pos 0) }
         ensures clips { result ≡ clips_of (tabulate (λ i. rounding (joined (sum_of_products (drop i window.now) self.now.high) (sum_of_products (drop i window.now) self.now.low)) UNIT) 0 (length sums.old)) }
         ensures few { result ≤ length sums.old }
     {

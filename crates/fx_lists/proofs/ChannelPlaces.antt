@@ -1,6 +1,7 @@
 -- One channel of frames that lie one after another.
 use Rattle.std.proofs.Common.{◌≡◌, ℕ, suc, ◌+◌, ◌-◌, ◌*◌, ◌<◌, ◌≤◌, inl, inr, Bool, true, false, List, ◌++◌, length, get_or, set, refl, sym, ap, ◌∙◌, arith}
 use Rattle.std.specs.Prelude.{nat_eq, nat_lt}
+use Rattle.fx_lists.specs.Lists.{IsOther}
 use Rattle.std.proofs.lemmas.Bool.{cases_lt}
 use Rattle.std.proofs.lemmas.Bool.Decides.{nat_tests}
 use Rattle.std.proofs.lemmas.Grind.{get_or-set_at}
@@ -28,6 +29,10 @@ same-channel channels i j c d in_c in_d e =
     let there : i * channels ≡ j * channels = ap (λ n. n * channels) same in
     omega (arith, there, e)
 
+-- a place of another channel is none of this one's
+pub other-channel : (channels channel count i c : ℕ) → channel < channels → c < channels → (c ≡ channel → ⊥) → IsOther channels channel count (i * channels + c)
+other-channel channels channel count i c inside in_c other j less e = other (same-channel channels i j c channel in_c inside e)
+
 -- places of the frames before a number of them
 pub within-frames : (channels channel place count : ℕ) → channel < channels → place < count → place * channels + channel < count * channels
 within-frames channels channel place count inside less =
@@ -51,11 +56,9 @@ module _ {X : Type 0} where
       → ((i : ℕ) → i < place → get_or out (i * channels + channel) d ≡ F i) → (i : ℕ) → i < place + 1 → get_or (set out at y) (i * channels + channel) d ≡ F i
   put-more d F out channels channel place at y inside is room sample done i l = put-by d F out channels channel place at i y (nat_eq i place) refl inside is room sample done l
 
-  -- the other channels stay
-  pub others-stay : (d : X) (out : List X) (channels channel place at i c : ℕ) (y : X) → channel < channels → at ≡ place * channels + channel → c < channels → (c ≡ channel → ⊥)
-      → get_or (set out at y) (i * channels + c) d ≡ get_or out (i * channels + c) d
-  others-stay d out channels channel place at i c y inside is in_c other =
-      get_or-set_other out at (i * channels + c) y d (λ e. other (same-channel channels i place c channel in_c inside (e ∙ is)))
+  -- all other places stay
+  pub others-stay : (d : X) (out : List X) (channels channel count place at k : ℕ) (y : X) → at ≡ place * channels + channel → place < count → IsOther channels channel count k → get_or (set out at y) k d ≡ get_or out k d
+  others-stay d out channels channel count place at k y is less other = get_or-set_other out at k y d (λ e. other place less (e ∙ is))
 
   -- a place among the first so many frames, or behind them
   in-front : (d : X) (near far : List X) (channels n i c : ℕ) → length near ≡ n * channels → c < channels → i < n → get_or (near ++ far) (i * channels + c) d ≡ get_or near (i * channels + c) d
@@ -79,11 +82,14 @@ module _ {X : Type 0} where
         behind d near far channels n i channel long past ∙ rest (i - n) (omega arith) ∙ ap F whole
   ]
 
-  -- the other channels of both stay
-  pub others-joined : (d : X) (near far near' far' : List X) (channels channel n : ℕ) → length near ≡ n * channels → length near' ≡ n * channels
-      → ((i c : ℕ) → c < channels → (c ≡ channel → ⊥) → get_or near' (i * channels + c) d ≡ get_or near (i * channels + c) d) → ((i c : ℕ) → c < channels → (c ≡ channel → ⊥) → get_or far' (i * channels + c) d ≡ get_or far (i * channels + c) d)
-      → (i c : ℕ) → c < channels → (c ≡ channel → ⊥) → get_or (near' ++ far') (i * channels + c) d ≡ get_or (near ++ far) (i * channels + c) d
-  others-joined d near far near' far' channels channel n long long' first rest i c inside other = elim (cases_lt i n) [
-    | inl less ↦ in-front d near' far' channels n i c long' inside less ∙ first i c inside other ∙ sym (in-front d near far channels n i c long inside less)
-    | inr past ↦ behind d near' far' channels n i c long' past ∙ rest (i - n) c inside other ∙ sym (behind d near far channels n i c long past)
+  -- all other places of both stay
+  pub others-joined : (d : X) (near far near' far' : List X) (channels channel n count : ℕ) → n ≤ count → length near ≡ n * channels → length near' ≡ n * channels
+      → ((k : ℕ) → IsOther channels channel n k → get_or near' k d ≡ get_or near k d) → ((k : ℕ) → IsOther channels channel (count - n) k → get_or far' k d ≡ get_or far k d)
+      → (k : ℕ) → IsOther channels channel count k → get_or (near' ++ far') k d ≡ get_or (near ++ far) k d
+  others-joined d near far near' far' channels channel n count within long long' first rest k other = elim (cases_lt k (n * channels)) [
+    | inl less ↦ get_or_append_left near' far' d k (omega (arith, less, long')) ∙ first k (λ i l. other i (omega (arith, l, within))) ∙ sym (get_or_append_left near far d k (omega (arith, less, long)))
+    | inr past ↦
+        get_or-append_right near' far' (n * channels) k d long' past
+        ∙ rest (k - n * channels) (λ i l e. other (n + i) (omega (arith, l)) (omega (arith, e, past, add-mul n i channels)))
+        ∙ sym (get_or-append_right near far (n * channels) k d long past)
   ]

@@ -1,5 +1,5 @@
 -- Lists by index, and lists in pieces (this project's profile).
-use Rattle.std.specs.Prelude.{ℕ, zero, suc, List, [], ◌∷◌, take, drop}
+use Rattle.std.specs.Prelude.{◌≡◌, ℕ, zero, suc, ◌+◌, ◌*◌, ◌<◌, List, [], ◌∷◌, take, drop}
 
 -- f at so many numbers from the first one on
 abbrev pub tabulate : {X : Type 0} → (ℕ → X) → ℕ → ℕ → List X
@@ -10,3 +10,7 @@ tabulate f from (suc count) = f from ∷ tabulate f (suc from) count
 abbrev pub pieces : {X : Type 0} → ℕ → ℕ → List X → List (List X)
 pieces size zero xs = []
 pieces size (suc count) xs = take size xs ∷ pieces size count (drop size xs)
+
+-- a place that is that of no sample of one channel in so many frames
+abbrev pub IsOther : ℕ → ℕ → ℕ → ℕ → Type 0
+IsOther channels channel count place = (i : ℕ) → i < count → place ≡ i * channels + channel → ⊥

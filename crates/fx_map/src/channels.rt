@@ -2,7 +2,7 @@
 ghost use Rattle.std.specs.Prelude.{◌≡◌, ◌<◌, ◌≤◌, ◌+◌, ◌-◌, ◌*◌, ◌^◌, ◌+ℤ◌, ◌*ℤ◌, ◌≤ℤ◌, false, ℕ, pos, neg_ℤ, length, slice_index_or, unsigned_abs, FitsSigned};
 ghost use Rattle.std.specs.Int.{w32};
 ghost use Rattle.fx_fixed.specs.Rounding.{rounding};
-ghost use Rattle.fx_lists.specs.Lists.{tabulate};
+ghost use Rattle.fx_lists.specs.Lists.{IsOther, tabulate};
 ghost use Rattle.fx_lists.specs.Rounded.{clips_of};
 
 use crate::per_sample::Sampling;
@@ -61,7 +61,7 @@ pub(crate) fn place_channel(
     requires outputs { place.channels ≤ 16 }
     requires to { shape.count * place.channels ≤ length to.old }
     ensures put { (i : ℕ) → i < shape.count → slice_index_or to.new (i * place.channels + place.channel) (pos 0) ≡ slice_index_or from.now (i * shape.channels + channel) (pos 0) }
-    ensures others { (i c : ℕ) → c < place.channels → (c ≡ place.channel → ⊥) → slice_index_or to.new (i * place.channels + c) (pos 0) ≡ slice_index_or to.old (i * place.channels + c) (pos 0) }
+    ensures others { (k : ℕ) → IsOther place.channels place.channel shape.count k → slice_index_or to.new k (pos 0) ≡ slice_index_or to.old k (pos 0) }
     ensures samples { (i : ℕ) → i < shape.count → FitsSigned w32 (slice_index_or from.now (i * shape.channels + channel) (pos 0)) }
 {
     let mut read = channel;
@@ -91,7 +91,7 @@ pub(crate) fn place_rounded<S: Sampling>(
     requires outputs { place.channels ≤ 16 }
     requires to { shape.count * place.channels ≤ length to.old }
     ensures put { (i : ℕ) → i < shape.count → slice_index_or to.new (i * place.channels + place.channel) (pos 0) ≡ (S.rounded sampling.now (slice_index_or from.now (i * shape.channels + channel) (pos 0))).0 }
-    ensures others { (i c : ℕ) → c < place.channels → (c ≡ place.channel → ⊥) → slice_index_or to.new (i * place.channels + c) (pos 0) ≡ slice_index_or to.old (i * place.channels + c) (pos 0) }
+    ensures others { (k : ℕ) → IsOther place.channels place.channel shape.count k → slice_index_or to.new k (pos 0) ≡ slice_index_or to.old k (pos 0) }
     ensures clips { result ≡ clips_of (tabulate (λ i. S.rounded sampling.now (slice_index_or from.now (i * shape.channels + channel) (pos 0))) 0 shape.count) }
     ensures few { result ≤ shape.count }
 {
@@ -138,7 +138,7 @@ pub(crate) fn place_mean(
     requires to { shape.count * place.channels ≤ length to.old }
     ensures put { (i : ℕ) → i < shape.count → slice_index_or to.new (i * place.channels + place.channel) (pos 0) ≡ (rounding (slice_index_or from.now (i * shape.channels + first) (pos 0) +ℤ slice_index_or from.now (i * shape.channels + second) (pos 0)) 2).0 }
     ensures unclipped { (i : ℕ) → i < shape.count → (rounding (slice_index_or from.now (i * shape.channels + first) (pos 0) +ℤ slice_index_or from.now (i * shape.channels + second) (pos 0)) 2).1 ≡ false }
-    ensures others { (i c : ℕ) → c < place.channels → (c ≡ place.channel → ⊥) → slice_index_or to.new (i * place.channels + c) (pos 0) ≡ slice_index_or to.old (i * place.channels + c) (pos 0) }
+    ensures others { (k : ℕ) → IsOther place.channels place.channel shape.count k → slice_index_or to.new k (pos 0) ≡ slice_index_or to.old k (pos 0) }
 {
     let mut left = first;
     let mut right = second;

@@ -3,7 +3,7 @@ ghost use Rattle.std.specs.Prelude.{◌≡◌, ◌<◌, ◌≤◌, ◌+◌, ◌*
 ghost use Rattle.fx_convolve.specs.Products.{sum_of_products};
 ghost use Rattle.std.specs.List.{All};
 ghost use Rattle.fx_step.specs.Stage.{Freezes, IsNew};
-ghost use Rattle.fx_lists.specs.Lists.{pieces, tabulate};
+ghost use Rattle.fx_lists.specs.Lists.{IsOther, pieces, tabulate};
 ghost use Rattle.fx_map.specs.Mapped.{IsMapState, MapState};
 ghost use Rattle.fx_frame.specs.Made.{clips_in, made_of};
 ghost use Rattle.fx_lists.specs.Rounded.{clips_of};
@@ -241,7 +241,7 @@ impl Mix {
         requires outputs { place.channels ≤ 16 }
         requires out { shape.count * place.channels ≤ length out.old }
         ensures put { (i : ℕ) → i < shape.count → slice_index_or out.new (i * place.channels + place.channel) (pos 0) ≡ (remixed_sample self.now (slice_index_or (pieces shape.channels shape.count frames.now) i [])).0 }
-        ensures others { (i c : ℕ) → c < place.channels → (c ≡ place.channel → ⊥) → slice_index_or out.new (i * place.channels + c) (pos 0) ≡ slice_index_or out.old (i * place.channels + c) (pos 0) }
+        ensures others { (k : ℕ) → IsOther place.channels place.channel shape.count k → slice_index_or out.new k (pos 0) ≡ slice_index_or out.old k (pos 0) }
         ensures clips { result ≡ clips_of (tabulate (λ i. remixed_sample self.now (slice_index_or (pieces shape.channels shape.count frames.now) i [])) 0 shape.count) }
         ensures few { result ≤ shape.count }
     {
@@ -267,7 +267,7 @@ impl Mix {
         requires outputs { place.channels ≤ 16 }
         requires out { shape.count * place.channels ≤ length out.old }
         ensures put { (i : ℕ) → i < shape.count → slice_index_or out.new (i * place.channels + place.channel) (pos 0) ≡ (remixed_sample self.now (slice_index_or (pieces shape.channels shape.count frames.now) i [])).0 }
-        ensures others { (i c : ℕ) → c < place.channels → (c ≡ place.channel → ⊥) → slice_index_or out.new (i * place.channels + c) (pos 0) ≡ slice_index_or out.old (i * place.channels + c) (pos 0) }
+        ensures others { (k : ℕ) → IsOther place.channels place.channel shape.count k → slice_index_or out.new k (pos 0) ≡ slice_index_or out.old k (pos 0) }
         ensures clips { result ≡ clips_of (tabulate (λ i. remixed_sample self.now (slice_index_or (pieces shape.channels shape.count frames.now) i [])) 0 shape.count) }
         ensures few { result ≤ shape.count }
     {

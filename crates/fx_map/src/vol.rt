@@ -1,6 +1,6 @@
 //! The effect `vol` of sox(1): each sample times a gain.
 ghost use Rattle.std.specs.Prelude.{◌≡◌, ◌<◌, ◌≤◌, ◌+◌, ◌*◌, ℕ, ℤ, pos, length, map, slice_index_or, Ok, IfOk, IfErr};
-ghost use Rattle.fx_lists.specs.Lists.{tabulate};
+ghost use Rattle.fx_lists.specs.Lists.{IsOther, tabulate};
 ghost use Rattle.fx_lists.specs.Rounded.{clips_of, samples_of};
 ghost use Rattle.fx_step.specs.Stage.{Freezes, IsNew};
 ghost use Rattle.fx_map.specs.Mapped.{IsMapState, MapState};
@@ -115,7 +115,7 @@ impl Scale {
         requires outputs { place.channels ≤ 16 }
         requires to { shape.count * place.channels ≤ length to.old }
         ensures put { (i : ℕ) → i < shape.count → slice_index_or to.new (i * place.channels + place.channel) (pos 0) ≡ (scaled_sample self.now (slice_index_or from.now (i * shape.channels + channel) (pos 0))).0 }
-        ensures others { (i c : ℕ) → c < place.channels → (c ≡ place.channel → ⊥) → slice_index_or to.new (i * place.channels + c) (pos 0) ≡ slice_index_or to.old (i * place.channels + c) (pos 0) }
+        ensures others { (k : ℕ) → IsOther place.channels place.channel shape.count k → slice_index_or to.new k (pos 0) ≡ slice_index_or to.old k (pos 0) }
         ensures clips { result ≡ clips_of (tabulate (λ i. scaled_sample self.now (slice_index_or from.now (i * shape.channels + channel) (pos 0))) 0 shape.count) }
         ensures few { result ≤ shape.count }
     {

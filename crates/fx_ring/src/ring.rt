@@ -3,7 +3,7 @@ ghost use Rattle.std.specs.Prelude.{◌≡◌, ◌<◌, ◌≤◌, ◌^◌, ◌+
 ghost use Rattle.std.specs.Option.{option_map};
 ghost use Rattle.fx_ring.specs.Line.{empty, pushed, pushed_all, pushed_out, latest_frames, channel_of};
 ghost use Rattle.fx_ring.specs.Ring.{IsShaped};
-ghost use Rattle.fx_lists.specs.Lists.{pieces};
+ghost use Rattle.fx_lists.specs.Lists.{IsOther, pieces};
 
 use crate::wheel::Wheel;
 use std::alloc::{AllocError, Global};
@@ -219,7 +219,7 @@ impl<T: Copy> Ring<T> {
         requires channel { channel < self.now.channels }
         requires len { length out.old ≡ count * self.now.channels }
         ensures put { (i : ℕ) → i < count → (d : T) → slice_index_or out.new (i * self.now.channels + channel) d ≡ slice_index_or (slice_index_or (latest_frames silence late self.now) i []) channel d }
-        ensures others { (i c : ℕ) → c < self.now.channels → (c ≡ channel → ⊥) → (d : T) → slice_index_or out.new (i * self.now.channels + c) d ≡ slice_index_or out.old (i * self.now.channels + c) d }
+        ensures others { (k : ℕ) → IsOther self.now.channels channel count k → (d : T) → slice_index_or out.new k d ≡ slice_index_or out.old k d }
     {
         let channels = self.channels;
         let quiet = self.quiet_before(late, count);
@@ -330,7 +330,7 @@ fn fill_channel<T: Copy>(sample: T, count: usize, out: &mut [T], at: usize, apar
     requires at { at < apart }
     requires room { count * apart ≤ length out.old }
     ensures put { (k : ℕ) → k < count → (d : T) → slice_index_or out.new (k * apart + at) d ≡ sample }
-    ensures others { (k c : ℕ) → c < apart → (c ≡ at → ⊥) → (d : T) → slice_index_or out.new (k * apart + c) d ≡ slice_index_or out.old (k * apart + c) d }
+    ensures others { (k : ℕ) → IsOther apart at count k → (d : T) → slice_index_or out.new k d ≡ slice_index_or out.old k d }
 {
     for k in 0..count {
         out[k * apart + at] = sample;
@@ -356,7 +356,7 @@ fn copy_channel<T: Copy>(
     requires at { at < apart }
     requires room { count * apart ≤ length out.old }
     ensures put { (k : ℕ) → k < count → (d : T) → slice_index_or out.new (k * apart + at) d ≡ slice_index_or (front.now ++ back.now) (from + k * step) d }
-    ensures others { (k c : ℕ) → c < apart → (c ≡ at → ⊥) → (d : T) → slice_index_or out.new (k * apart + c) d ≡ slice_index_or out.old (k * apart + c) d }
+    ensures others { (k : ℕ) → IsOther apart at count k → (d : T) → slice_index_or out.new k d ≡ slice_index_or out.old k d }
 {
     let seam = front.len();
     let in_front = seam.saturating_sub(from).div_ceil(step).min(count);
@@ -382,7 +382,7 @@ fn copy_every<T: Copy>(
     requires at { at < apart }
     requires room { count * apart ≤ length out.old }
     ensures put { (k : ℕ) → k < count → (d : T) → slice_index_or out.new (k * apart + at) d ≡ slice_index_or source.now (from + k * step) d }
-    ensures others { (k c : ℕ) → c < apart → (c ≡ at → ⊥) → (d : T) → slice_index_or out.new (k * apart + c) d ≡ slice_index_or out.old (k * apart + c) d }
+    ensures others { (k : ℕ) → IsOther apart at count k → (d : T) → slice_index_or out.new k d ≡ slice_index_or out.old k d }
 {
     for k in 0..count {
         out[k * apart + at] = source[from + k * step];

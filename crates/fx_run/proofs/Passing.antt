@@ -1,6 +1,6 @@
 -- What stays true while frames go through a flow to a writer.
-use Rattle.std.proofs.Common.{◌≡◌, ℕ, ◌+◌, ◌-◌, ◌*◌, ◌≤◌, length, map, Bool, true, false, List, [], ◌∷◌, ◌++◌, drop, take, refl, sym, ap, ◌∙◌, arith, Some, None, option_to_list}
-use Rattle.std.proofs.lemmas.List.{append_assoc, append-nil, drop-drop, length-append, length-drop, length-take}
+use Rattle.std.proofs.Common.{◌≡◌, ℕ, ◌+◌, ◌-◌, ◌*◌, ◌≤◌, map, Bool, true, false, List, [], ◌∷◌, ◌++◌, drop, take, refl, sym, ap, ◌∙◌, arith, Some, None, option_to_list}
+use Rattle.std.proofs.lemmas.List.{append_assoc, append-nil, length-append}
 use Rattle.std.specs.Prelude.{Option, nat_lt}
 use borrow.Author.Tests.{ltb-true, ltb-false}
 use Rattle.fx_io.specs.declared.coding.Coding.{Coding}
@@ -12,11 +12,9 @@ use Rattle.fx_flow.specs.Parts.{Parts, given_by, taken_of, through}
 use Rattle.fx_flow.specs.Composed.{enough_for}
 use Rattle.fx_flow.specs.Steps.{IsHungry, rest_of, wholes_of}
 use Rattle.fx_sound.specs.Output.{Pending, Sent}
-use Rattle.fx_sound.specs.Container.{after_frames, ReadAllTold}
 use Rattle.fx_sound.specs.Runs.{Ran}
-use Rattle.fx_sound.proofs.RunLaws.{Ran-end, Ran-failed, first_frames-more}
-use Rattle.fx_sound.specs.Sound.{Reading, EndsSound, TakesFrame, at_most_announced, beyond, size_of, within}
-use Rattle.fx_heads.specs.Source.{FallsShort, Held, Takes}
+use Rattle.fx_sound.proofs.RunLaws.{Ran-end, first_frames-more}
+use Rattle.fx_sound.specs.Sound.{Reading, EndsSound, TakesFrame, size_of}
 use Rattle.fx_run.specs.Outlet.{WroteFront, coded}
 use Rattle.fx_run.specs.Run.{Flowed, FlowedFront, RanToEnd, WantsMore, sound_frames}
 use Rattle.fx_run.specs.Through.{CutOff, Drained, Gives, Through, took, told_end, untouched}

@@ -1,5 +1,5 @@
 -- What a run has taken off a sound, and what it sends (this project's profile).
-use Rattle.std.specs.Prelude.{◌≡◌, ℕ, ◌+◌, ◌-◌, ◌*◌, ◌/◌, ◌%◌, ◌^◌, ◌<◌, ◌≤◌, Bool, true, false, cond, List, ◌++◌, drop, length, Option, Some, Result, Ok, Err}
+use Rattle.std.specs.Prelude.{◌≡◌, ℕ, ◌+◌, ◌-◌, ◌*◌, ◌/◌, ◌%◌, ◌^◌, ◌<◌, ◌≤◌, Bool, true, false, cond, List, ◌++◌, drop, length, Option, Result, Ok, Err}
 use Rattle.fx_io.specs.declared.coding.Coding.{Coding}
 use Rattle.fx_step.specs.Frame.{Samples}
 use Rattle.fx_step.specs.Stage.{Acts, Kind}
@@ -7,8 +7,7 @@ use Rattle.fx_flow.specs.Parts.{Parts}
 use Rattle.fx_flow.specs.Composed.{enough_for}
 use Rattle.fx_sound.specs.Container.{first_frames}
 use Rattle.fx_sound.specs.Output.{Pending, Sent}
-use Rattle.fx_sound.specs.Sound.{Reading, at_most_announced, lacking, size_of, within}
-use Rattle.fx_heads.specs.Source.{Held}
+use Rattle.fx_sound.specs.Sound.{Reading, lacking, size_of, within}
 use Rattle.fx_run.specs.declared.pump.Cause.{Cause}
 use Rattle.fx_run.specs.declared.pump.Cause.TheVariants.{ReadFailed, WriteFailed, TooLong}
 use Rattle.fx_run.specs.Outlet.{WroteFront, coded, coded_clips}

@@ -1,7 +1,7 @@
 //! One channel of frames whose samples lie one after another.
 ghost use Rattle.std.specs.Prelude.{◌≡◌, ◌<◌, ◌≤◌, ◌+◌, ◌*◌, ◌^◌, ℕ, pos, length, slice_index_or, unsigned_abs};
 ghost use Rattle.fx_fixed.specs.Rounding.{rounding};
-ghost use Rattle.fx_lists.specs.Lists.{tabulate};
+ghost use Rattle.fx_lists.specs.Lists.{IsOther, tabulate};
 ghost use Rattle.fx_lists.specs.Rounded.{clips_of};
 
 use fx_fixed::inner::Denominator;
@@ -21,7 +21,7 @@ pub fn round_channel(
     requires small { (i : ℕ) → i < length sums.now → unsigned_abs (slice_index_or sums.now i (pos 0)) ≤ 2 ^ 61 }
     requires out { length sums.now * channels ≤ length out.old }
     ensures put { (i : ℕ) → i < length sums.now → slice_index_or out.new (i * channels + channel) (pos 0) ≡ (rounding (slice_index_or sums.now i (pos 0)) denominator.now).0 }
-    ensures others { (i c : ℕ) → c < channels → (c ≡ channel → ⊥) → slice_index_or out.new (i * channels + c) (pos 0) ≡ slice_index_or out.old (i * channels + c) (pos 0) }
+    ensures others { (k : ℕ) → IsOther channels channel (length sums.now) k → slice_index_or out.new k (pos 0) ≡ slice_index_or out.old k (pos 0) }
     ensures clips { result ≡ clips_of (tabulate (λ i. rounding (slice_index_or sums.now i (pos 0)) denominator.now) 0 (length sums.now)) }
     ensures few { result ≤ length sums.now }
 {

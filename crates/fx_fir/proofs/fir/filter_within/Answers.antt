@@ -1,4 +1,5 @@
-use Rattle.std.proofs.Common.{rules, ◌≡◌, ◌+◌, ◌≤◌, ◌++◌, ◌∙◌, ap, sym, ℕ, ℤ, pos, Bool, List, length, drop, reverse, arith, add-one}
+use Rattle.std.proofs.Common.{rules, ◌≡◌, ◌+◌, ◌*◌, ◌≤◌, ◌++◌, ◌∙◌, ap, sym, ℕ, ℤ, pos, Bool, List, length, drop, reverse, arith, add-one}
+use Rattle.fx_lists.proofs.ChannelPlaces.{other-channel}
 use Rattle.std.proofs.Math.Nat.{suc-mul}
 use Rattle.fx_fixed.specs.Rounding.{rounding}
 use Rattle.fx_fixed.specs.declared.gains.TheConstants.{UNIT}
@@ -41,7 +42,7 @@ channels-preserved g c =
     record {
       size = omega (arith, old.size, c.fill_places.auto.window);
       sums = omega (arith, old.sums, c.filter_channel-clips.auto.sums);
-      put = channel-put (λ i d. (F i d).0) c.channels.out c.filter_channel-clips.new.out c.args.channels k c.args.count c.channels-test.true (λ i l. made.put i l ∙ ap (λ z. z.0) (filtered-window b items xs k i c.requires.full)) made.others old.put;
+      put = channel-put (λ i d. (F i d).0) c.channels.out c.filter_channel-clips.new.out c.args.channels k c.args.count c.channels-test.true (λ i l. made.put i l ∙ ap (λ z. z.0) (filtered-window b items xs k i c.requires.full)) (λ i d in_d other. made.others (i * c.args.channels + d) (other-channel c.args.channels k c.args.count i d c.channels-test.true in_d other)) old.put;
       counted = ap (λ m. c.channels.clips + m) (made.clips ∙ column) ∙ ap (λ m. m + clips_of (tabulate (λ i. F i k) 0 c.args.count)) old.counted ∙ sym (all_clips-more F k 0 c.args.count);
       few = omega (arith, old.few, made.few, suc-mul k c.args.count, add-one k);
     }

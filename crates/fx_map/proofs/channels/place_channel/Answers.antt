@@ -18,6 +18,6 @@ frames-preserved c =
       read_is = omega (arith, old.read_is, suc-mul k c.args.shape.channels, add-one k);
       at_is = omega (arith, old.at_is, suc-mul k c.args.place.channels, add-one k);
       put = put-more (pos 0) (λ i. slice_index_or c.args.from.now (i * c.args.shape.channels + c.args.channel) (pos 0)) c.frames.to c.args.place.channels c.args.place.channel k c.frames.at y c.requires.place old.at_is inside there old.put;
-      others = λ i d in_d other. others-stay (pos 0) c.frames.to c.args.place.channels c.args.place.channel k c.frames.at i d y c.requires.place old.at_is in_d other ∙ old.others i d in_d other;
+      others = λ p other. others-stay (pos 0) c.frames.to c.args.place.channels c.args.place.channel c.args.shape.count k c.frames.at p y old.at_is c.frames-test.true other ∙ old.others p other;
       samples = below_more _ _ old.samples (rw (← there) fits);
     }

@@ -30,7 +30,7 @@ frames-preserved c =
       at_is = omega (arith, old.at_is, suc-mul k c.args.place.channels, add-one k);
       put = put-more (pos 0) (λ i. (rounding (F i) 2).0) c.frames.to c.args.place.channels c.args.place.channel k c.frames.at y c.requires.place old.at_is inside value old.put;
       unclipped = below_more _ _ old.unclipped (ap (λ (r : ℤ × Bool). r.1) made);
-      others = λ i d in_d other. others-stay (pos 0) c.frames.to c.args.place.channels c.args.place.channel k c.frames.at i d y c.requires.place old.at_is in_d other ∙ old.others i d in_d other;
+      others = λ p other. others-stay (pos 0) c.frames.to c.args.place.channels c.args.place.channel c.args.shape.count k c.frames.at p y old.at_is c.frames-test.true other ∙ old.others p other;
     }
 
 pub bounds-from-left : goal.bounds-from-left

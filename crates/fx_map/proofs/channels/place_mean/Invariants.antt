@@ -1,4 +1,5 @@
 use Rattle.std.proofs.Common.{◌≡◌, ◌<◌, ◌+◌, ◌*◌, ◌+ℤ◌, false, ℕ, pos, slice_index_or}
+use Rattle.fx_lists.specs.Lists.{IsOther}
 use Rattle.fx_fixed.specs.Rounding.{rounding}
 use Rattle.fx_map.proofs.channels.place_mean.Given as goal
 
@@ -9,5 +10,5 @@ invariant-frames l = record {
   at_is : l.at ≡ l._turn * l.place.channels + l.place.channel;
   put : (i : ℕ) → i < l._turn → slice_index_or l.to (i * l.place.channels + l.place.channel) (pos 0) ≡ (rounding (slice_index_or l.from (i * l.shape.channels + l.first) (pos 0) +ℤ slice_index_or l.from (i * l.shape.channels + l.second) (pos 0)) 2).0;
   unclipped : (i : ℕ) → i < l._turn → (rounding (slice_index_or l.from (i * l.shape.channels + l.first) (pos 0) +ℤ slice_index_or l.from (i * l.shape.channels + l.second) (pos 0)) 2).1 ≡ false;
-  others : (i c : ℕ) → c < l.place.channels → (c ≡ l.place.channel → ⊥) → slice_index_or l.to (i * l.place.channels + c) (pos 0) ≡ slice_index_or l.fn.to (i * l.place.channels + c) (pos 0);
+  others : (k : ℕ) → IsOther l.place.channels l.place.channel l.shape.count k → slice_index_or l.to k (pos 0) ≡ slice_index_or l.fn.to k (pos 0);
 }

@@ -24,7 +24,7 @@ frames-preserved g c =
       read_is = omega (arith, old.read_is, suc-mul k c.args.shape.channels, add-one k);
       at_is = omega (arith, old.at_is, suc-mul k c.args.place.channels, add-one k);
       put = put-more (pos 0) (λ i. (f i).0) c.frames.to c.args.place.channels c.args.place.channel k c.frames.at y c.requires.place old.at_is inside (ap (λ r. r.0) v) old.put;
-      others = λ i d in_d other. others-stay (pos 0) c.frames.to c.args.place.channels c.args.place.channel k c.frames.at i d y c.requires.place old.at_is in_d other ∙ old.others i d in_d other;
+      others = λ p other. others-stay (pos 0) c.frames.to c.args.place.channels c.args.place.channel c.args.shape.count k c.frames.at p y old.at_is c.frames-test.true other ∙ old.others p other;
       counted = ap (λ n. c.frames.clips + n) (c.from-clips.ensures ∙ byte_is c.round-sample.result.1) ∙ clips_of-next f k c.frames.clips c.round-sample.result.1 old.counted (ap (λ r. r.1) v);
       few = omega (arith, c.from-clips.ensures, one, old.few);
     }

@@ -1,5 +1,5 @@
 use Rattle.std.proofs.Common.{◌≡◌, ◌<◌, ◌≤◌, ◌+◌, ◌*◌, ℕ, pos, slice_index_or}
-use Rattle.fx_lists.specs.Lists.{tabulate}
+use Rattle.fx_lists.specs.Lists.{IsOther, tabulate}
 use Rattle.fx_lists.specs.Rounded.{clips_of}
 use Rattle.fx_map.proofs.channels.place_rounded.Given as goal
 
@@ -8,7 +8,7 @@ invariant-frames g l = record {
   read_is : l.read ≡ l._turn * l.shape.channels + l.channel;
   at_is : l.at ≡ l._turn * l.place.channels + l.place.channel;
   put : (i : ℕ) → i < l._turn → slice_index_or l.to (i * l.place.channels + l.place.channel) (pos 0) ≡ (g.S.Sampling.rounded l.sampling (slice_index_or l.from (i * l.shape.channels + l.channel) (pos 0))).0;
-  others : (i c : ℕ) → c < l.place.channels → (c ≡ l.place.channel → ⊥) → slice_index_or l.to (i * l.place.channels + c) (pos 0) ≡ slice_index_or l.fn.to (i * l.place.channels + c) (pos 0);
+  others : (k : ℕ) → IsOther l.place.channels l.place.channel l.shape.count k → slice_index_or l.to k (pos 0) ≡ slice_index_or l.fn.to k (pos 0);
   counted : l.clips ≡ clips_of (tabulate (λ i. g.S.Sampling.rounded l.sampling (slice_index_or l.from (i * l.shape.channels + l.channel) (pos 0))) 0 l._turn);
   few : l.clips ≤ l._turn;
 }

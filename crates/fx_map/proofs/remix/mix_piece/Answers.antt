@@ -1,4 +1,5 @@
-use Rattle.std.proofs.Common.{◌≡◌, ◌+◌, ◌≤◌, ◌∙◌, [], ap, sym, ℕ, ℤ, Bool, List, get_or, length, arith, add-one, refl, zero-add}
+use Rattle.std.proofs.Common.{◌≡◌, ◌+◌, ◌*◌, ◌≤◌, ◌∙◌, [], ap, sym, ℕ, ℤ, Bool, List, get_or, length, arith, add-one, refl, zero-add}
+use Rattle.fx_lists.proofs.ChannelPlaces.{other-channel}
 use Rattle.std.proofs.Math.Nat.{suc-mul}
 use Rattle.fx_step.specs.Frame.{Samples}
 use Rattle.fx_lists.specs.Lists.{pieces, tabulate}
@@ -30,7 +31,7 @@ mixes-preserved c =
     let mix : c.index-mixes-channel.result ≡ get_or outs k [] = c.index-mixes-channel.is ∙ any-default outs k c.index-mixes-channel.result [] c.mixes-test.true in
     let made = rw mix at c.channel_into-clips.ensures in
     record {
-      put = channel-put (λ i q. (F i q).0) c.mixes.out c.channel_into-clips.new.out (length outs) k c.args.shape.count c.mixes-test.true made.put made.others old.put;
+      put = channel-put (λ i q. (F i q).0) c.mixes.out c.channel_into-clips.new.out (length outs) k c.args.shape.count c.mixes-test.true made.put (λ i d in_d other. made.others (i * length outs + d) (other-channel (length outs) k c.args.shape.count i d c.mixes-test.true in_d other)) old.put;
       counted = ap (λ m. c.mixes.clips + m) made.clips ∙ ap (λ m. m + clips_of (tabulate (λ i. F i k) 0 c.args.shape.count)) old.counted ∙ sym (all_clips-more F k 0 c.args.shape.count);
       few = omega (arith, old.few, made.few, suc-mul k c.args.shape.count, add-one k);
     }

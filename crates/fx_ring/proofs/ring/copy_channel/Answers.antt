@@ -58,7 +58,7 @@ returns g c =
       put = λ k h d. put-joined d (λ k. get_or all (c.args.from + k * c.args.step) d) c.copy_every.new.out c.copy_every-2.new.out c.args.apart c.args.at first c.args.count c.requires.at long
           (λ k l. c.copy_every.ensures.put k l d ∙ sym (get_or_append_left c.args.front.now c.args.back.now d (c.args.from + k * c.args.step) (s.before k l)))
           (λ k l. c.copy_every-2.ensures.put k l d ∙ split-past _ _ _ _ _ _ _ _ d s l) k h;
-      others = λ k e in_e other d. others-joined d c.split_at_mut-near.result.0.now c.split_at_mut-near.result.1.now c.copy_every.new.out c.copy_every-2.new.out c.args.apart c.args.at first c.split_at_mut-near.ensures.front_len long
-          (λ k e in_e other. c.copy_every.ensures.others k e in_e other d) (λ k e in_e other. c.copy_every-2.ensures.others k e in_e other d) k e in_e other
-          ∙ ap (λ xs. get_or xs (k * c.args.apart + e) d) (sym c.split_at_mut-near.ensures.value);
+      others = λ k other d. others-joined d c.split_at_mut-near.result.0.now c.split_at_mut-near.result.1.now c.copy_every.new.out c.copy_every-2.new.out c.args.apart c.args.at first c.args.count s.within c.split_at_mut-near.ensures.front_len long
+          (λ k other. c.copy_every.ensures.others k other d) (λ k other. c.copy_every-2.ensures.others k other d) k other
+          ∙ ap (λ xs. get_or xs k d) (sym c.split_at_mut-near.ensures.value);
     }

@@ -16,5 +16,5 @@ loop-k-preserved g c =
     let inside : at < length c.loop-k.out = omega (arith, within-frames c.args.apart c.args.at k c.args.count c.requires.at c.loop-k-test.true) in
     record {
       put = λ i l d. put-more d (λ i. get_or c.args.source.now (c.args.from + i * c.args.step) d) c.loop-k.out c.args.apart c.args.at k at c.index-source-from.result c.requires.at refl inside (c.index-source-from.is ∙ get_or_default c.args.source.now (c.args.from + k * c.args.step) c.index-source-from.result d (c.requires.source k c.loop-k-test.true)) (λ i l. old.put i l d) i l;
-      others = λ i e in_e other d. others-stay d c.loop-k.out c.args.apart c.args.at k at i e c.index-source-from.result c.requires.at refl in_e other ∙ old.others i e in_e other d;
+      others = λ p other d. others-stay d c.loop-k.out c.args.apart c.args.at c.args.count k at p c.index-source-from.result refl c.loop-k-test.true other ∙ old.others p other d;
     }

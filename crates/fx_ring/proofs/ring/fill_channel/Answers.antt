@@ -15,5 +15,5 @@ loop-k-preserved g c =
     let inside : at < length c.loop-k.out = omega (arith, within-frames c.args.apart c.args.at k c.args.count c.requires.at c.loop-k-test.true) in
     record {
       put = λ i l d. put-more d (λ _. c.args.sample) c.loop-k.out c.args.apart c.args.at k at c.args.sample c.requires.at refl inside refl (λ i l. old.put i l d) i l;
-      others = λ i e in_e other d. others-stay d c.loop-k.out c.args.apart c.args.at k at i e c.args.sample c.requires.at refl in_e other ∙ old.others i e in_e other d;
+      others = λ p other d. others-stay d c.loop-k.out c.args.apart c.args.at c.args.count k at p c.args.sample refl c.loop-k-test.true other ∙ old.others p other d;
     }

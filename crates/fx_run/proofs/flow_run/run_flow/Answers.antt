@@ -1,9 +1,8 @@
-use Rattle.std.proofs.Common.{rules, ◌≡◌, ◌∙◌, inl, inr, length, refl, subst, sym, ap}
+use Rattle.std.proofs.Common.{rules, ◌≡◌, ◌∙◌, inl, inr, length, refl, sym, ap}
 use Rattle.std.specs.Prelude.{Err}
 use Rattle.fx_run.specs.declared.pump.Cause.TheVariants.{ReadFailed, WriteFailed, TooLong}
 use Rattle.fx_run.specs.Outlet.{coded_clips}
 use Rattle.std.proofs.lemmas.List.{append-nil}
-use Rattle.fx_heads.specs.Source.{to_come}
 use Rattle.fx_run.specs.Report.{row_of, start_of}
 use Rattle.fx_run.specs.Run.{sound_frames}
 use Rattle.fx_run.proofs.Running.{Sent-bytes_put, all-given, clips-all, moves-all, ended-known, ends-known, not-over, sound-length, stands-behind, stopped-due, stopped-front, wrote-all, wrote-front}

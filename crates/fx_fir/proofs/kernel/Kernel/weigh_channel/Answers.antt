@@ -27,7 +27,7 @@ frames-preserved c =
     record {
       at_is = omega (arith, old.at_is, suc-mul k c.args.channels, add-one k);
       put = put-more (pos 0) (λ i. (f i).0) c.frames.out c.args.channels c.args.channel k c.frames.at y c.requires.channel old.at_is inside (ap (λ r. r.0) v) old.put;
-      others = λ i d in_d other. others-stay (pos 0) c.frames.out c.args.channels c.args.channel k c.frames.at i d y c.requires.channel old.at_is in_d other ∙ old.others i d in_d other;
+      others = λ p other. others-stay (pos 0) c.frames.out c.args.channels c.args.channel c.args.count k c.frames.at p y old.at_is c.frames-test.true other ∙ old.others p other;
       counted = ap (λ m. c.frames.clips + m) (c.from-clips.ensures ∙ byte_is c.weigh_from-sample.result.1) ∙ clips_of-next f k c.frames.clips c.weigh_from-sample.result.1 old.counted (ap (λ r. r.1) v);
       few = omega (arith, c.from-clips.ensures, one, old.few);
     }

@@ -1,7 +1,7 @@
 use Rattle.std.proofs.Common.{◌≡◌, ◌<◌, ◌≤◌, ◌+◌, ◌*◌, ℕ, pos, drop, slice_index_or}
 use Rattle.fx_fixed.specs.Rounding.{rounding}
 use Rattle.fx_fixed.specs.declared.gains.TheConstants.{UNIT}
-use Rattle.fx_lists.specs.Lists.{tabulate}
+use Rattle.fx_lists.specs.Lists.{IsOther, tabulate}
 use Rattle.fx_convolve.specs.Products.{sum_of_products}
 use Rattle.fx_lists.specs.Rounded.{clips_of}
 use Rattle.fx_fir.proofs.kernel.Kernel.weigh_channel.Given as goal
@@ -10,7 +10,7 @@ abbrev pub invariant-frames : goal.invariant-frames
 invariant-frames l = record {
   at_is : l.at ≡ l.place * l.channels + l.channel;
   put : (i : ℕ) → i < l.place → slice_index_or l.out (i * l.channels + l.channel) (pos 0) ≡ (rounding (sum_of_products (drop i l.window) l.self) UNIT).0;
-  others : (i c : ℕ) → c < l.channels → (c ≡ l.channel → ⊥) → slice_index_or l.out (i * l.channels + c) (pos 0) ≡ slice_index_or l.fn.out (i * l.channels + c) (pos 0);
+  others : (k : ℕ) → IsOther l.channels l.channel l.count k → slice_index_or l.out k (pos 0) ≡ slice_index_or l.fn.out k (pos 0);
   counted : l.clips ≡ clips_of (tabulate (λ i. rounding (sum_of_products (drop i l.window) l.self) UNIT) 0 l.place);
   few : l.clips ≤ l.place;
 }

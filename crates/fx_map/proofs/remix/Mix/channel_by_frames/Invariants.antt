@@ -1,5 +1,5 @@
 use Rattle.std.proofs.Common.{◌≡◌, ◌<◌, ◌≤◌, ◌+◌, ◌*◌, [], ℕ, pos, slice_index_or}
-use Rattle.fx_lists.specs.Lists.{pieces, tabulate}
+use Rattle.fx_lists.specs.Lists.{IsOther, pieces, tabulate}
 use Rattle.fx_map.specs.Remix.{remixed_sample}
 use Rattle.fx_lists.specs.Rounded.{clips_of}
 use Rattle.fx_map.proofs.remix.Mix.channel_by_frames.Given as goal
@@ -9,7 +9,7 @@ invariant-frames l = record {
   from_is : l.from ≡ l._turn * l.shape.channels;
   at_is : l.at ≡ l._turn * l.place.channels + l.place.channel;
   put : (i : ℕ) → i < l._turn → slice_index_or l.out (i * l.place.channels + l.place.channel) (pos 0) ≡ (remixed_sample l.self (slice_index_or (pieces l.shape.channels l.shape.count l.frames) i [])).0;
-  others : (i c : ℕ) → c < l.place.channels → (c ≡ l.place.channel → ⊥) → slice_index_or l.out (i * l.place.channels + c) (pos 0) ≡ slice_index_or l.fn.out (i * l.place.channels + c) (pos 0);
+  others : (k : ℕ) → IsOther l.place.channels l.place.channel l.shape.count k → slice_index_or l.out k (pos 0) ≡ slice_index_or l.fn.out k (pos 0);
   counted : l.clips ≡ clips_of (tabulate (λ i. remixed_sample l.self (slice_index_or (pieces l.shape.channels l.shape.count l.frames) i [])) 0 l._turn);
   few : l.clips ≤ l._turn;
 }

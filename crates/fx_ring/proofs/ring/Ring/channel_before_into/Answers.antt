@@ -55,14 +55,14 @@ returns g c =
     let long : length c.fill_channel.new.out ≡ quiet * channels = c.fill_channel.auto.out ∙ c.split_at_mut-silent.ensures.front_len in
     let same : channels ≡ c.args.self.now.channels = ap (λ v. v.channels) c.self.view_is in
     let new : List g.row.T.Denot = c.fill_channel.new.out ++ c.copy_channel.new.out in
+    let whole = ring-places_before _ _ _ _ _ c.self.view_is c.self.invariant c.args.late c.args.count quiet first c.requires.late c.quiet_before-quiet.ensures (omega arith) in
     record {
       put = λ i h d. ap (λ m. get_or new (i * m + c.args.channel) d) (sym same)
           ∙ put-joined d (λ i. get_or (get_or (latest_frames c.args.silence c.args.late c.args.self.now) i []) c.args.channel d) c.fill_channel.new.out c.copy_channel.new.out channels c.args.channel quiet c.args.count (rw (← same) at c.requires.channel) long
           (λ i l. c.fill_channel.ensures.put i l d ∙ sym (latest-quiet c.args.self.now c.args.silence d c.args.late i c.args.channel (omega arith) c.requires.channel))
           (λ i l. c.copy_channel.ensures.put i l d ∙ ap (λ xs. get_or xs (first * channels + c.args.channel + i * channels) d) c.as_slices.ensures
           ∙ ring-channel_before _ _ _ _ _ c.self.view_is c.self.invariant c.args.silence d c.args.late c.args.count quiet first c.args.channel i c.requires.late c.quiet_before-quiet.ensures (omega arith) c.requires.channel l) i h;
-      others = λ i e in_e other d. ap (λ m. get_or new (i * m + e) d) (sym same)
-          ∙ others-joined d c.split_at_mut-silent.result.0.now c.split_at_mut-silent.result.1.now c.fill_channel.new.out c.copy_channel.new.out channels c.args.channel quiet c.split_at_mut-silent.ensures.front_len long
-          (λ i e in_e other. c.fill_channel.ensures.others i e in_e other d) (λ i e in_e other. c.copy_channel.ensures.others i e in_e other d) i e (rw (← same) at in_e) other
-          ∙ ap (λ xs. get_or xs (i * channels + e) d) (sym c.split_at_mut-silent.ensures.value) ∙ ap (λ m. get_or c.args.out.now (i * m + e) d) same;
+      others = λ k other d. others-joined d c.split_at_mut-silent.result.0.now c.split_at_mut-silent.result.1.now c.fill_channel.new.out c.copy_channel.new.out channels c.args.channel quiet c.args.count whole.few c.split_at_mut-silent.ensures.front_len long
+          (λ k other. c.fill_channel.ensures.others k other d) (λ k other. c.copy_channel.ensures.others k other d) k (rw (← same) at other)
+          ∙ ap (λ xs. get_or xs k d) (sym c.split_at_mut-silent.ensures.value);
     }
