@@ -1,5 +1,5 @@
 //! A whole sound through the chain of a plan.
-ghost use Rattle.std.specs.Prelude.{◌≡◌, ◌≢◌, ◌+◌, ◌≤◌, IfErr, IfOk, MatchResult, OnOk, Some, true};
+ghost use Rattle.std.specs.Prelude.{◌≡◌, ◌≢◌, ◌+◌, ◌*◌, ◌≤◌, IfErr, IfOk, MatchResult, OnOk, Some, true};
 ghost use Rattle.fx_chain.specs.Chain.{IsNewChain, target_for};
 ghost use Rattle.fx_io.specs.Io.{saturated};
 ghost use Rattle.fx_run.specs.Report.{Completed, HasCause, ReadBefore, Stands, StoppedAt, behind_reported, cause_of, clips_now, report_at, report_in, start_of};
@@ -12,7 +12,8 @@ ghost use Rattle.fx_step.specs.Holds.{kinds};
 ghost use Rattle.fx_effects.specs.Bounds.{work_of};
 ghost use Rattle.fx_plan.specs.Planning.{planning};
 ghost use Rattle.fx_heads.specs.Known.{IfKnown};
-ghost use Rattle.fx_heads.specs.Source.{to_come};
+ghost use Rattle.fx_heads.specs.Source.{HoldsWhatCame, to_come};
+ghost use Rattle.fx_sound.specs.Sound.{size_of};
 ghost use Rattle.fx_stages.specs.Stages.{effect_acts};
 
 use crate::chain::Chain;
@@ -65,8 +66,9 @@ pub fn run<R: ByteIn, W: ByteOut>(
 
     // Where the source stands.
     ensures stands { IfKnown (to_come R.reads.rest source.old) (λ bytes. Stands result
-        ((R.reads.failures source.new.reader ≡ saturated (R.reads.failures source.old.reader + 1)) × ReadBefore effect_acts R.reads.told source.old source.new.reader chain.old.flow chain.new.flow (start_of chain.old.plan.head) (report_in result).frames_in (report_in result).frames_out)
-        (to_come R.reads.rest source.new ≡ Some (behind_reported (start_of chain.old.plan.head) (report_in result) bytes))) }
+        (to_come R.reads.rest source.new ≡ Some (behind_reported (start_of chain.old.plan.head) (report_in result) bytes))
+        (HoldsWhatCame R.reads.told source.old source.new bytes ((report_in result).frames_in * size_of (start_of chain.old.plan.head)))
+        ((R.reads.failures source.new.reader ≡ saturated (R.reads.failures source.old.reader + 1)) × ReadBefore effect_acts R.reads.told source.old source.new.reader chain.old.flow chain.new.flow (start_of chain.old.plan.head) (report_in result).frames_in (report_in result).frames_out)) }
 
     // The counts.
     ensures wants { WantsMore (kinds effect_acts chain.old.flow.stages) (report_in result).frames_in }

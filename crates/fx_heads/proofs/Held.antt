@@ -1,12 +1,12 @@
 -- The part of a buffer that is held.
 use Rattle.std.proofs.Common.{◌≡◌, ℕ, ◌+◌, ◌-◌, ◌≤◌, List, ◌++◌, length, take, drop, refl, sym, ap, ◌∙◌, arith}
-use Rattle.std.proofs.lemmas.List.{drop-drop, drop-take, length-take, length-drop, length-append, take-append-drop, take_at, append_assoc, drop-append-le, take-append-le}
+use Rattle.std.proofs.lemmas.List.{drop-drop, drop-take, length-take, length-drop, length-append, take-append-drop, take_all, take_at, append_assoc, drop-append-le, take-append-le}
 use Rattle.std.specs.Io.KnownBytes.{Consumes, prepend_known}
 use Rattle.std.specs.List.{copy_within}
 use Rattle.std.specs.Prelude.{Option, None, Some}
 use borrow.Rule.Slice.PartMut.{put_mid}
 use Rattle.fx_heads.specs.Known.{IfKnown}
-use Rattle.fx_heads.specs.Source.{Held, to_come, Tells, Takes, Stays, HoldsAll}
+use Rattle.fx_heads.specs.Source.{Held, to_come, Tells, Takes, Stays, HoldsAll, HoldsFront, HoldsWhatCame}
 
 -- how long the held part is
 pub length-held : (buffer : List ℕ) (start end : ℕ) → start ≤ end → end ≤ length buffer → length (take (end - start) (drop start buffer)) ≡ end - start
@@ -50,6 +50,10 @@ to_come-front rest s n h bytes known = front (rest s.reader) s.bytes n bytes h k
   front (Some xs) held n bytes h e =
       let same : held ++ xs ≡ bytes = cc in
       (sym (take-append-le n held xs h) ∙ ap (take n) same, omega (arith, length-append held xs, ap length same))
+
+-- all that is held is the first of what is to come
+pub to_come-held : {R : Type 0} (rest : R → Option (List ℕ)) (s : Held R) (bytes : List ℕ) → to_come rest s ≡ Some bytes → HoldsFront s bytes
+to_come-held rest s bytes known = sym (take_all (length s.bytes) s.bytes (omega arith)) ∙ (to_come-front rest s (length s.bytes) (omega arith) bytes known).0
 
 -- held bytes are let go
 pub to_come-dropped : (held : List ℕ) (rest : Option (List ℕ)) (bytes : List ℕ) (n : ℕ) → n ≤ length held → prepend_known held rest ≡ Some bytes
@@ -100,6 +104,11 @@ Takes-both told old mid new n m k place p q = record {
       let f = p.counted (omega (arith, q.enough)) in
       omega (arith, place);
 }
+
+-- where a read failed behind n bytes that were taken
+pub HoldsWhatCame-behind : {R : Type 0} (told : R → ℕ) (first old new : Held R) (bytes : List ℕ) (n : ℕ)
+    → Takes told first old n → HoldsWhatCame told old new (drop n bytes) 0 → HoldsWhatCame told first new bytes n
+HoldsWhatCame-behind told first old new bytes n p came = record { takes = Takes-both told first old new n 0 n (omega arith) p came.takes; front = came.front }
 
 -- where all that is to come is held, and all of it was taken
 pub skip-end : {R : Type 0} (rest : R → Option (List ℕ)) (old mid : Held R) (bytes : List ℕ) (got : ℕ)

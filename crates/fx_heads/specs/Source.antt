@@ -1,5 +1,5 @@
 -- What a source holds, and the bytes that are still to come from it.
-use Rattle.std.specs.Prelude.{◌≡◌, ℕ, ◌+◌, ◌-◌, ◌^◌, ◌<◌, ◌≤◌, List, length, Option, Some}
+use Rattle.std.specs.Prelude.{◌≡◌, ℕ, ◌+◌, ◌-◌, ◌^◌, ◌<◌, ◌≤◌, List, drop, length, take, Option, Some}
 use Rattle.std.specs.Io.KnownBytes.{prepend_known}
 use Rattle.fx_heads.specs.Known.{IfKnown}
 
@@ -20,6 +20,10 @@ Stays rest old new = IfKnown (to_come rest old) (λ bytes. to_come rest new ≡ 
 abbrev pub HoldsAll : {R : Type 0} → (R → Option (List ℕ)) → Held R → Held R → Type 0
 HoldsAll rest old new = IfKnown (to_come rest old) (λ bytes. bytes ≡ new.bytes)
 
+-- the bytes that are held are the first of these
+abbrev pub HoldsFront : {R : Type 0} → Held R → List ℕ → Type 0
+HoldsFront s bytes = s.bytes ≡ take (length s.bytes) bytes
+
 -- n bytes were there or came, by the reader's count of what it told: a claim for counts below the greatest u64
 pub record Tells {R : Type 0} (told : R → ℕ) (old : Held R) (new : R) (n : ℕ) : Type 0 where
   pub enough : length old.bytes ≤ n
@@ -28,6 +32,11 @@ pub record Tells {R : Type 0} (told : R → ℕ) (old : Held R) (new : R) (n : �
 -- n bytes were taken, by the same count
 abbrev pub Takes : {R : Type 0} → (R → ℕ) → Held R → Held R → ℕ → Type 0
 Takes told old new n = Tells told old new.reader (n + length new.bytes)
+
+-- After a failed read n bytes were taken, and of those behind them all that came are held.
+pub record HoldsWhatCame {R : Type 0} (told : R → ℕ) (old new : Held R) (bytes : List ℕ) (n : ℕ) : Type 0 where
+  pub takes : Takes told old new n
+  pub front : HoldsFront new (drop n bytes)
 
 -- all bytes that were there or came are fewer than n
 pub record FallsShort {R : Type 0} (told : R → ℕ) (old : Held R) (new : R) (n : ℕ) : Type 0 where

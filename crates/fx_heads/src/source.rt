@@ -2,7 +2,7 @@
 
 ghost use Rattle.std.specs.Prelude.{◌≡◌, ◌+◌, ◌-◌, ◌<◌, ◌≤◌, [], Some, IfOk, OnOk, OnErr, length, take, drop};
 ghost use Rattle.fx_io.specs.Io.{CountsFailure};
-ghost use Rattle.fx_heads.specs.Source.{to_come, Stays, HoldsAll, Takes, FallsShort};
+ghost use Rattle.fx_heads.specs.Source.{to_come, Stays, HoldsAll, HoldsFront, Takes, FallsShort};
 ghost use Rattle.fx_heads.specs.Known.{IfKnown};
 
 use super::buffer::BUFFER_SIZE;
@@ -108,7 +108,8 @@ impl<R: ByteIn> Source<R> {
         Ok(n)
     }
 
-    /// Sees that so many bytes are held, unless the input ends before. Mostly they are there.
+    /// Sees that so many bytes are held, unless the input ends before. Mostly they are there. Where a read fails those that came before
+    /// it are held.
     #[inline(always)]
     pub fn hold(&mut self, want: usize) -> Result<(), Failed>
         requires { want ≤ BUFFER_SIZE }
@@ -116,6 +117,7 @@ impl<R: ByteIn> Source<R> {
         ensures all { OnOk result (length self.new.bytes < want → HoldsAll R.reads.rest self.old self.new) }
         ensures told { Takes R.reads.told self.old self.new 0 }
         ensures short { OnErr result (length self.new.bytes < want) }
+        ensures front { OnErr result (IfKnown (to_come R.reads.rest self.old) (HoldsFront self.new)) }
         ensures failures { CountsFailure (R.reads.failures self.old.reader) (R.reads.failures self.new.reader) result }
         ensures unread { want ≤ length self.old.bytes → self.new ≡ self.old }
     {
@@ -133,6 +135,7 @@ impl<R: ByteIn> Source<R> {
         ensures all { OnOk result (length self.new.bytes < want → HoldsAll R.reads.rest self.old self.new) }
         ensures told { Takes R.reads.told self.old self.new 0 }
         ensures short { OnErr result (length self.new.bytes < want) }
+        ensures front { OnErr result (IfKnown (to_come R.reads.rest self.old) (HoldsFront self.new)) }
         ensures failures { CountsFailure (R.reads.failures self.old.reader) (R.reads.failures self.new.reader) result }
         ensures unread { want ≤ length self.old.bytes → self.new ≡ self.old }
     {
@@ -144,7 +147,8 @@ impl<R: ByteIn> Source<R> {
         Ok(())
     }
 
-    /// Fills `out` with the next bytes, of which fewer come only where the input ends. The rest of `out` stays as it is.
+    /// Fills `out` with the next bytes, of which fewer come only where the input ends. The rest of `out` stays as it is. Where a read
+    /// fails all of it does, and the bytes that came before are held.
     pub fn fill(&mut self, out: &mut [u8]) -> Result<usize, Failed>
         requires { length out.old ≤ BUFFER_SIZE }
         ensures count { IfOk result (λ n. n ≤ length out.new) }
@@ -153,6 +157,8 @@ impl<R: ByteIn> Source<R> {
         ensures all { IfOk result (λ n. n < length out.new → IfKnown (to_come R.reads.rest self.old) (λ bytes. n ≡ length bytes)) }
         ensures told { IfOk result (Takes R.reads.told self.old self.new) }
         ensures short { OnErr result (FallsShort R.reads.told self.old self.new.reader (length out.new)) }
+        ensures untaken { OnErr result (Takes R.reads.told self.old self.new 0) }
+        ensures front { OnErr result (IfKnown (to_come R.reads.rest self.old) (HoldsFront self.new)) }
         ensures unwritten { OnErr result (out.new ≡ out.old) }
         ensures behind { IfOk result (λ n. drop n out.new ≡ drop n out.old) }
         ensures failures { CountsFailure (R.reads.failures self.old.reader) (R.reads.failures self.new.reader) result }

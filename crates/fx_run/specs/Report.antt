@@ -55,12 +55,13 @@ HasCause Causes.TooLong Before reads new_reads writes new_writes = (new_reads �
 abbrev pub behind_reported : Reading → Report → List ℕ → List ℕ
 behind_reported start r bytes = drop (r.frames_in * size_of start + r.stray) bytes
 
--- Where a source stands after a run. Nothing is said of it after a failed read, and where one had failed before a write did.
-abbrev pub Stands : Result Report RunFault → Type 0 → Type 0 → Type 0
-Stands (Ok r) Before There = There
-Stands (Err (ReadFailed r)) Before There = Unit {0}
-Stands (Err (WriteFailed r)) Before There = There ⊎ Before
-Stands (Err (TooLong r)) Before There = There
+-- Where a source stands after a run: there, or, after a failed read, where it holds what came. A read may have failed before a
+-- write did.
+abbrev pub Stands : Result Report RunFault → Type 0 → Type 0 → Type 0 → Type 0
+Stands (Ok r) There Holds Before = There
+Stands (Err (ReadFailed r)) There Holds Before = Holds
+Stands (Err (WriteFailed r)) There Holds Before = There ⊎ (Holds × Before)
+Stands (Err (TooLong r)) There Holds Before = There
 
 -- the report of a conversion that ended before its run
 abbrev pub no_report : Report

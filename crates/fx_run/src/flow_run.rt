@@ -1,5 +1,5 @@
 //! A whole sound through a flow, from its source to a writer.
-ghost use Rattle.std.specs.Prelude.{◌≡◌, ◌≢◌, ℕ, ◌+◌, ◌<◌, ◌≤◌, ◌^◌, ◌++◌, [], true, IfErr, IfOk, IsTrue, List, MatchResult, None, OnErr, OnOk, Option, Some, length, map};
+ghost use Rattle.std.specs.Prelude.{◌≡◌, ◌≢◌, ℕ, ◌+◌, ◌*◌, ◌<◌, ◌≤◌, ◌^◌, ◌++◌, [], true, IfErr, IfOk, IsTrue, List, MatchResult, None, OnErr, OnOk, Option, Some, length, map};
 ghost use Rattle.fx_run.specs.Due.{dues};
 ghost use Rattle.fx_run.specs.Outlet.{WroteAll, WroteFront};
 ghost use Rattle.fx_run.specs.Report.{Completed, HasCause, ReadBefore, Stands, StoppedAt, behind_reported, cause_of, clips_now, pad, report_at, report_in, start_of};
@@ -13,7 +13,8 @@ ghost use Rattle.fx_io.specs.Io.{CountsFailure, saturated};
 ghost use Rattle.fx_heads.specs.Kind.{is_coding_of};
 ghost use Rattle.fx_heads.specs.Known.{IfKnown};
 ghost use Rattle.fx_sound.specs.Output.{Sent, bytes_put};
-ghost use Rattle.fx_heads.specs.Source.{to_come};
+ghost use Rattle.fx_heads.specs.Source.{HoldsWhatCame, to_come};
+ghost use Rattle.fx_sound.specs.Sound.{size_of};
 ghost use Rattle.fx_heads.specs.Writing.{written_head};
 
 use crate::outlet::Outlet;
@@ -141,8 +142,9 @@ pub fn run_flow<R: ByteIn, S: Feeds, W: ByteOut>(
 
     // Where the source stands.
     ensures stands { IfKnown (to_come R.reads.rest source.old) (λ bytes. Stands result
-        ((R.reads.failures source.new.reader ≡ saturated (R.reads.failures source.old.reader + 1)) × ReadBefore S.acts R.reads.told source.old source.new.reader flow.old flow.new (start_of head.now) (report_in result).frames_in (report_in result).frames_out)
-        (to_come R.reads.rest source.new ≡ Some (behind_reported (start_of head.now) (report_in result) bytes))) }
+        (to_come R.reads.rest source.new ≡ Some (behind_reported (start_of head.now) (report_in result) bytes))
+        (HoldsWhatCame R.reads.told source.old source.new bytes ((report_in result).frames_in * size_of (start_of head.now)))
+        ((R.reads.failures source.new.reader ≡ saturated (R.reads.failures source.old.reader + 1)) × ReadBefore S.acts R.reads.told source.old source.new.reader flow.old flow.new (start_of head.now) (report_in result).frames_in (report_in result).frames_out)) }
 
     // The counts.
     ensures wants { WantsMore (kinds S.acts flow.old.stages) (report_in result).frames_in }

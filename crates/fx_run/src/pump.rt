@@ -14,7 +14,7 @@ ghost use Rattle.fx_io.specs.Io.{CountsFailure, saturated};
 ghost use Rattle.fx_heads.specs.Known.{IfKnown};
 ghost use Rattle.fx_sound.specs.Output.{bytes_put};
 ghost use Rattle.fx_sound.specs.Sound.{size_of, within};
-ghost use Rattle.fx_heads.specs.Source.{to_come};
+ghost use Rattle.fx_heads.specs.Source.{HoldsWhatCame, to_come};
 
 use crate::block::pump_block;
 use crate::drain::drain;
@@ -121,6 +121,8 @@ pub fn pump<R: ByteIn, S: Feeds, W: ByteOut>(
     // Where the source stands.
     ensures left { is_read_failed result ≡ false → IfKnown (to_come R.reads.rest source.old) (λ bytes.
         to_come R.reads.rest source.new ≡ Some (behind_read progress.old (not progress.new.over) progress.new.frames bytes)) }
+    ensures came { is_read_failed result ≡ true → IfKnown (to_come R.reads.rest source.old) (λ bytes.
+        HoldsWhatCame R.reads.told source.old source.new bytes (progress.new.frames * size_of progress.old)) }
 
     // A fault is answered only where a failure was counted.
     ensures reads { MatchBool (is_read_failed result)

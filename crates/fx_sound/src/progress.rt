@@ -2,7 +2,7 @@
 
 ghost use Rattle.std.specs.Prelude.{◌≡◌, ◌≤◌, ◌<◌, ◌+◌, ◌-◌, ◌*◌, drop, false, true, None, Some, IfOk, IfSome, IfNone, OnErr, OnSome, MatchBool, Ok, Err, length, min};
 ghost use Rattle.fx_io.specs.Io.{saturated};
-ghost use Rattle.fx_heads.specs.Source.{to_come, FallsShort, Stays, Takes};
+ghost use Rattle.fx_heads.specs.Source.{to_come, FallsShort, HoldsWhatCame, Stays, Takes};
 ghost use Rattle.fx_heads.specs.Known.{IfKnown};
 ghost use Rattle.fx_sound.specs.Sound.{size_of, within, at_most_announced, after_frame, after_end, TakesFrame, EndsSound};
 ghost use Rattle.fx_sound.specs.Container.{after_frames};
@@ -195,7 +195,7 @@ impl Progress {
 /// end of the input.
 ///
 /// No read is asked for once the announced bytes are there. After `TooLong` what is to come is as it was. After `ReadFailed` the
-/// source is used only for `into_inner`, and the progress only for its counts.
+/// source holds what came of the frame, and the progress is used only for its counts.
 #[inline]
 pub fn next_frame<R: ByteIn>(
     source: &mut Source<R>,
@@ -220,6 +220,7 @@ pub fn next_frame<R: ByteIn>(
     // The faults.
     ensures read_failed { result ≡ Err ReadFault.ReadFailed →
         FallsShort R.reads.told source.old source.new.reader (at_most_announced progress.old.left (size_of progress.old)) }
+    ensures came { result ≡ Err ReadFault.ReadFailed → IfKnown (to_come R.reads.rest source.old) (λ bytes. HoldsWhatCame R.reads.told source.old source.new bytes 0) }
     ensures too_long { result ≡ Err ReadFault.TooLong → (progress.old.frames ≡ MOST_FRAMES)
         × IfKnown (to_come R.reads.rest source.old) (λ bytes. size_of progress.old ≤ length (within progress.old.left bytes)) }
     ensures kept { result ≡ Err ReadFault.TooLong → Stays R.reads.rest source.old source.new }

@@ -6,7 +6,7 @@ ghost use Rattle.fx_sound.specs.Fault.{is_sound_read_failed};
 ghost use Rattle.fx_sound.specs.Container.{after_frames, container, frames_of, at_end, ReadAllTold};
 ghost use Rattle.fx_heads.specs.Known.{IfKnown};
 ghost use Rattle.fx_sound.specs.Sound.{size_of, within};
-ghost use Rattle.fx_heads.specs.Source.{to_come};
+ghost use Rattle.fx_heads.specs.Source.{HoldsWhatCame, to_come};
 ghost use Rattle.fx_sound.specs.WholeSound.{outcome, IsBehindHead, IsHeadFault};
 
 use super::progress::{MOST_FRAMES, Progress, ReadFault, next_frame};
@@ -59,6 +59,10 @@ pub fn read_frames<R: ByteIn>(
     ensures counted { OnErr result (progress.new ≡ after_frames progress.old progress.new.frames) }
     ensures read_failed { result ≡ Err (SoundFault.Read ReadFault.ReadFailed)
         → ReadAllTold R.reads.told source.old source.new.reader progress.old progress.new.frames }
+    ensures came { result ≡ Err (SoundFault.Read ReadFault.ReadFailed) → IfKnown (to_come R.reads.rest source.old) (λ bytes.
+        HoldsWhatCame R.reads.told source.old source.new bytes (progress.new.frames * size_of progress.old)) }
+    ensures stands { OnErr result (is_sound_read_failed result ≡ false → IfKnown (to_come R.reads.rest source.old) (λ bytes.
+        to_come R.reads.rest source.new ≡ Some (drop (progress.new.frames * size_of progress.old) bytes))) }
     ensures behind_head { IfErr result IsBehindHead }
     ensures failures { MatchBool (is_sound_read_failed result)
         (R.reads.failures source.new.reader ≡ saturated (R.reads.failures source.old.reader + 1))

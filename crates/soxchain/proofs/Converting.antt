@@ -1,5 +1,5 @@
 -- A conversion, put together from its head and its run.
-use Rattle.std.proofs.Common.{Bool, map, ◌⊎◌, inl, inr, ◌≡◌, ℕ, ◌+◌, ◌-◌, ◌/◌, ◌^◌, ◌<◌, ◌≤◌, List, [], length, sym, ap, arith, ◌∙◌}
+use Rattle.std.proofs.Common.{map, ◌⊎◌, inl, inr, ◌≡◌, ℕ, ◌+◌, ◌-◌, ◌/◌, ◌^◌, ◌<◌, ◌≤◌, List, [], length, sym, ap, arith, ◌∙◌}
 use Rattle.std.specs.Prelude.{MatchBool, Option, Some, Result, Ok, Err}
 use Rattle.fx_line.specs.declared.line.LineFault.{LineFault}
 use Rattle.fx_line.specs.Line.{Said}
@@ -75,12 +75,12 @@ HasCause-map P Q f Causes.WriteFailed reads new_reads writes new_writes (inl sam
 HasCause-map P Q f Causes.WriteFailed reads new_reads writes new_writes (inr before, failed) = (inr (before.0, f before.1), failed)
 HasCause-map P Q f Causes.TooLong reads new_reads writes new_writes h = h
 
-pub Stands-map : (P Q There : Type 0) → (P → Q) → (r : Result Report RunFault) → Stands r P There → Stands r Q There
-Stands-map P Q There f (Ok r) h = h
-Stands-map P Q There f (Err (Faults.ReadFailed r)) h = h
-Stands-map P Q There f (Err (Faults.WriteFailed r)) (inl there) = inl there
-Stands-map P Q There f (Err (Faults.WriteFailed r)) (inr before) = inr (f before)
-Stands-map P Q There f (Err (Faults.TooLong r)) h = h
+pub Stands-map : (P Q There Holds : Type 0) → (P → Q) → (r : Result Report RunFault) → Stands r There Holds P → Stands r There Holds Q
+Stands-map P Q There Holds f (Ok r) h = h
+Stands-map P Q There Holds f (Err (Faults.ReadFailed r)) h = h
+Stands-map P Q There Holds f (Err (Faults.WriteFailed r)) (inl there) = inl there
+Stands-map P Q There Holds f (Err (Faults.WriteFailed r)) (inr before) = inr (before.0, f before.1)
+Stands-map P Q There Holds f (Err (Faults.TooLong r)) h = h
 
 -- where the writer failed, no read had failed, or one before it
 pub HasCause-before : (P Q : Type 0) (cause : Cause) (reads new_reads writes new_writes : ℕ) → cause ≡ Causes.WriteFailed → HasCause cause P reads new_reads writes new_writes → (P → Q)

@@ -1,5 +1,5 @@
 -- After just so many frames as the line of an effect with positions holds nothing is due.
-use Rattle.std.proofs.Common.{◌≡◌, ◌∙◌, ◌+◌, ◌-◌, ℕ, zero, suc, List, ◌∷◌, Option, Some, None, ap, arith, filter, map, refl, sum_by, zero-add}
+use Rattle.std.proofs.Common.{◌≡◌, ◌∙◌, ◌+◌, ◌-◌, ℕ, zero, suc, List, Option, Some, None, ap, arith, filter, map, refl, sum_by, zero-add}
 use Rattle.fx_cut.proofs.PadThaw.{no-pads}
 use Rattle.std.specs.Prelude.{count_by, nat_lt}
 use Rattle.std.specs.List.{range_with_len}

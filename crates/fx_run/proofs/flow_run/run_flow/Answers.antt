@@ -69,7 +69,13 @@ returns-in_default-close-clause-stands g c = λ bytes known.
     let is : c.pump-pumped.result ≡ Err ReadFailed = search rules in
     let p = rw (is, c.new-progress.ensures) at c.pump-pumped.ensures in
     let r = c.report_of-in_default-close.ensures in
-    rw (r.frames_in, r.frames_out) (inr (p.reads, record { due = p.due refl; hungry = p.hungry refl; not_enough = p.not_enough refl; read_failed = p.read_failed refl }))
+    rw (r.frames_in, r.frames_out) (inr (p.came refl bytes known, (p.reads, record { due = p.due refl; hungry = p.hungry refl; not_enough = p.not_enough refl; read_failed = p.read_failed refl })))
+
+pub returns-in-Ok-close-2-clause-stands : goal.returns-in-Ok-close-2-clause-stands
+returns-in-Ok-close-2-clause-stands g c = λ bytes known.
+    let is : c.pump-pumped.result ≡ Err ReadFailed = search rules in
+    let p = rw (is, c.new-progress.ensures) at c.pump-pumped.ensures in
+    rw (c.report_of-in-Err-ReadFailed.ensures.frames_in) (p.came refl bytes known)
 
 pub returns-in_default-close-2-clause-stands : goal.returns-in_default-close-2-clause-stands
 returns-in_default-close-2-clause-stands g c = λ bytes known.

@@ -15,6 +15,7 @@ use Rattle.fx_run.proofs.Passing.{settled, Flowed-end, Flowed-start, FlowedFront
 use Rattle.fx_run.proofs.Sending.{WroteFront-sent}
 use Rattle.fx_run.proofs.pump.pump.Goals as goal
 use Rattle.fx_sound.proofs.Sending.{Sent-start}
+use Rattle.fx_heads.proofs.Held.{HoldsWhatCame-behind}
 
 pub returns-in_err-push-clause-write_failed : goal.returns-in_err-push-clause-write_failed
 returns-in_err-push-clause-write_failed g c = λ _ bytes known.
@@ -129,6 +130,14 @@ returns-in-Err-ReadFailed-clause-read_failed g c = λ _.
     let count : c.next_frame.new.progress.frames ≡ c.loop-turn.progress.frames = ap (λ (p : Reading). p.frames) next.err in
     rw count (Ran-failed g.R.ByteIn.reads.told c.args.progress.now c.loop-turn.progress c.loop-turn.progress.frames c.args.source.now c.loop-turn.source _ old.at old.takes (next.read_failed refl))
 
+pub returns-in-Err-ReadFailed-clause-came : goal.returns-in-Err-ReadFailed-clause-came
+returns-in-Err-ReadFailed-clause-came g c = λ _ bytes known.
+    let old = c.loop-turn.invariant.pumped in
+    let next = rw c.in-Err-ReadFailed.field-0-is at c.in-Err-ReadFailed.ensures in
+    let count : c.next_frame.new.progress.frames ≡ c.loop-turn.progress.frames = ap (λ (p : Reading). p.frames) next.err in
+    let size : ℕ = c.loop-turn.progress.frames * size_of c.args.progress.now in
+    rw count (HoldsWhatCame-behind g.R.ByteIn.reads.told c.args.source.now c.loop-turn.source _ bytes size old.takes (next.came refl (drop size bytes) (old.ran bytes known).to_come_is))
+
 pub returns-in-Err-TooLong-clause-too_long : goal.returns-in-Err-TooLong-clause-too_long
 returns-in-Err-TooLong-clause-too_long g c = λ _.
     let old = c.loop-turn.invariant.pumped in
@@ -239,6 +248,7 @@ returns-in_err-pump_block g c =
       settled = tt;
       not_enough = λ other. not-both true other refl;
       read_failed = λ other. not-both false refl other;
+      came = λ other. not-both false refl other;
       too_long = λ other. not-both true (ap is_write_failed other) refl;
       most = front.most;
       left = λ _ bytes known. rw front.begun (front.left bytes known);

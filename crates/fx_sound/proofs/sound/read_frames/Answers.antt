@@ -1,4 +1,4 @@
-use Rattle.std.proofs.Common.{◌≡◌, ℕ, ◌+◌, ◌*◌, ◌++◌, ◌∷◌, [], drop, take, sym, ap, ◌∙◌, arith, rules}
+use Rattle.std.proofs.Common.{◌≡◌, false, refl, ℕ, ◌+◌, ◌*◌, ◌++◌, ◌∷◌, [], drop, take, sym, ap, ◌∙◌, arith, rules}
 use Rattle.std.specs.Prelude.{Ok, Err, OnErr, Result}
 use Rattle.fx_heads.specs.FrameCoding.{samples_of}
 use Rattle.fx_sound.specs.Container.{after_frames, first_frames}
@@ -6,12 +6,20 @@ use Rattle.fx_sound.proofs.RunLaws.{after_frames-more, Ran-behind, Ran-turn, Ran
 use Rattle.fx_sound.specs.Sound.{Reading, size_of, within, after_frame}
 use Rattle.fx_sound.specs.declared.progress.ReadFault.TheVariants.{ReadFailed, TooLong}
 use Rattle.fx_sound.proofs.sound.read_frames.Goals as goal
-use Rattle.fx_heads.proofs.Held.{Takes-both}
+use Rattle.fx_heads.proofs.Held.{HoldsWhatCame-behind, Takes-both}
+use Rattle.fx_sound.specs.Fault.{is_sound_read_failed}
+use Rattle.fx_sound.specs.declared.progress.ReadFault.{ReadFault}
+use Rattle.fx_sound.specs.declared.sound.SoundFault.TheVariants.{Read}
 
 -- what always is, is where a result is an error
 on-error : {X E P : Type 0} (result : Result X E) → P → OnErr result P
 on-error (Ok x) holds = tt
 on-error (Err e) holds = holds
+
+-- a read that did not fail met a sound that is too long
+too-long : (fault : ReadFault) → is_sound_read_failed {X = ℕ} (Err (Read fault)) ≡ false → fault ≡ TooLong
+too-long ReadFailed h = absurd (cc)
+too-long TooLong h = refl
 
 pub returns-in_err-map_err-in-Ok-Some-clause-counted : goal.returns-in_err-map_err-in-Ok-Some-clause-counted
 returns-in_err-map_err-in-Ok-Some-clause-counted g c =
@@ -22,6 +30,18 @@ returns-in_err-map_err-in-Ok-Some-clause-counted g c =
     let frames : c.next_frame.new.progress.frames ≡ p.frames + (n + 1) = ap (λ q. q.frames) is in
     let count : n + 1 ≡ c.next_frame.new.progress.frames = omega (arith, frames, c.requires.fresh) in
     on-error c.from_residual.result (is ∙ ap (after_frames p) count)
+
+pub returns-in_err-map_err-in-Ok-Some-clause-stands : goal.returns-in_err-map_err-in-Ok-Some-clause-stands
+returns-in_err-map_err-in-Ok-Some-clause-stands g c =
+    let old = c.loop-turn.invariant in
+    let p : Reading = c.args.progress.now in
+    let n : ℕ = c.loop-turn._turn in
+    let next = rw c.in-Ok-Some.field-0-is at c.in-Ok-Some.ensures in
+    let frames : c.next_frame.new.progress.frames ≡ p.frames + n + 1 = ap (λ q. q.frames) next.counted ∙ ap (λ q. q.frames + 1) old.now in
+    let count : c.next_frame.new.progress.frames ≡ n + 1 = omega (arith, frames, c.requires.fresh) in
+    on-error c.from_residual.result (λ _ bytes known.
+    let ran = old.ran bytes known in
+    rw count (Ran-turn p c.loop-turn.progress c.next_frame.new.progress bytes c.in-Ok-Some.frame n _ _ ran (next.frame (drop (n * size_of p) bytes) ran.to_come_is) next.counted).to_come_is)
 
 pub returns-in-Ok-None-clause-frames : goal.returns-in-Ok-None-clause-frames
 returns-in-Ok-None-clause-frames g c = λ bytes known.
@@ -60,6 +80,22 @@ returns-in-Err-clause-read_failed g c = λ e.
     let none : p.frames + c.loop-turn._turn ≡ c.loop-turn._turn = omega (arith, c.requires.fresh) in
     let count : c.next_frame.new.progress.frames ≡ c.loop-turn._turn = ap (λ q. q.frames) c.in-Err.ensures.err ∙ ap (λ q. q.frames) old.now ∙ none in
     rw count (Ran-failed g.R.ByteIn.reads.told p c.loop-turn.progress c.loop-turn._turn c.args.source.now c.loop-turn.source c.next_frame.new.source.reader old.now old.told (c.in-Err.ensures.read_failed (ap Err is)))
+
+pub returns-in-Err-clause-came : goal.returns-in-Err-clause-came
+returns-in-Err-clause-came g c = λ e bytes known.
+    let old = c.loop-turn.invariant in
+    let size : ℕ = c.loop-turn._turn * size_of c.args.progress.now in
+    let is : c.in-Err.fault ≡ ReadFailed = cc in
+    let none : c.args.progress.now.frames + c.loop-turn._turn ≡ c.loop-turn._turn = omega (arith, c.requires.fresh) in
+    let count : c.next_frame.new.progress.frames ≡ c.loop-turn._turn = ap (λ q. q.frames) c.in-Err.ensures.err ∙ ap (λ q. q.frames) old.now ∙ none in
+    rw count (HoldsWhatCame-behind g.R.ByteIn.reads.told c.args.source.now c.loop-turn.source c.next_frame.new.source bytes size old.told (c.in-Err.ensures.came (ap Err is) (drop size bytes) (old.ran bytes known).to_come_is))
+
+pub returns-in-Err-clause-stands : goal.returns-in-Err-clause-stands
+returns-in-Err-clause-stands g c = λ no bytes known.
+    let old = c.loop-turn.invariant in
+    let none : c.args.progress.now.frames + c.loop-turn._turn ≡ c.loop-turn._turn = omega (arith, c.requires.fresh) in
+    let count : c.next_frame.new.progress.frames ≡ c.loop-turn._turn = ap (λ q. q.frames) c.in-Err.ensures.err ∙ ap (λ q. q.frames) old.now ∙ none in
+    rw count (c.in-Err.ensures.kept (ap Err (too-long c.in-Err.fault no)) _ (old.ran bytes known).to_come_is)
 
 pub returns-in-Err-clause-too_long : goal.returns-in-Err-clause-too_long
 returns-in-Err-clause-too_long g c = λ e bytes known.

@@ -27,7 +27,7 @@ returns g c =
       outcome = Err c.in-Err.fault;
       ran = c.in-Err.ensures.ran c.requires;
       stands = λ bytes known.
-          Stands-map _ _ _ (λ before. (before.0, ReadFirst-new g.R.ByteIn.reads.told _ _ c.requires _ _ _ _ _ before.1)) (Err c.in-Err.fault) (rw (c.requires.plan) at (c.in-Err.ensures.stands bytes known));
+          Stands-map _ _ _ _ (λ before. (before.0, ReadFirst-new g.R.ByteIn.reads.told _ _ c.requires _ _ _ _ _ before.1)) (Err c.in-Err.fault) (rw (c.requires.plan) at (c.in-Err.ensures.stands bytes known));
       all_flushed = tt;
       due_flushed = c.in-Err.ensures.due_flushed;
       read_failed = rw (c.requires.plan) at c.in-Err.ensures.read_failed;
