@@ -1,19 +1,20 @@
 //! The chain of a plan's effects.
 ghost use Rattle.std.specs.Prelude.{◌≡◌, ◌<◌, ◌≤◌, ◌+◌, ◌-◌, ◌*◌, ℕ, false, drop, IfOk, List, Some, [], length, map, option_to_list, slice_index, true};
 ghost use Rattle.fx_chain.specs.Chain.{IsNewChain};
-ghost use Rattle.fx_flow.specs.Feed.{FlowFed, FlowTookWithRoom};
+ghost use Rattle.fx_flow.specs.Feed.{FlowFed, FlowTookWithRoom, GaveLast};
 ghost use Rattle.fx_step.specs.Row.{outputs_of};
 ghost use Rattle.fx_lists.specs.Lists.{pieces};
-ghost use Rattle.fx_flow.specs.Parts.{AllNew, any_spent, given_by, moves_of, taken_of};
+ghost use Rattle.fx_flow.specs.Parts.{AllNew, Parts, any_spent, given_by, moves_of, taken_of};
 ghost use Rattle.fx_flow.specs.Composed.{due_of, enough_for};
 ghost use Rattle.fx_flow.specs.Sound.{most_frames};
-ghost use Rattle.fx_flow.specs.Steps.{IsDone, IsHungry, MovedOn, StateIs, Steps, rest_of, wholes_of};
+ghost use Rattle.fx_flow.specs.Steps.{IsDone, IsHungry, MovedOn, StateIs, Steps, StepsRow, rest_of, wholes_of};
 ghost use Rattle.fx_step.specs.Frame.{Samples};
 ghost use Rattle.fx_step.specs.Holds.{capacity_sum, held_sum, kinds, total};
 ghost use Rattle.fx_effects.specs.Bounds.{hold_all, work_of};
 ghost use Rattle.fx_effects.specs.Meanings.{line_of};
 ghost use Rattle.fx_plan.specs.Planning.{planning};
 ghost use Rattle.fx_stages.specs.Stages.{effect_acts};
+ghost use Rattle.fx_stages.specs.declared.stage.EffectStage.{EffectStage};
 
 use fx_flow::flow::{Flow, State, Step};
 use fx_frame::{Frame, Passed};
@@ -57,10 +58,14 @@ impl Chain {
         Ok(Chain { flow, plan })
     }
 
-    /// What it waits for. Where it is hungry, it has given all frames that are due for those taken.
+    /// What it waits for. Where it is hungry, it has given all frames that are due for those taken. However many steps are made
+    /// in a row from here on, they are no more than the plan's work that is left, and one for each effect: so it is hungry or
+    /// done at the latest behind so many.
     #[inline(always)]
     pub fn state(&self) -> State
         ensures state { StateIs effect_acts result self.now.flow }
+        ensures bounded { (n : ℕ) (last : Parts EffectStage) → StepsRow effect_acts self.now.flow n last
+            → n ≤ work_of self.now.plan.acts (taken_of self.now.flow) - moves_of effect_acts self.now.flow + length self.now.plan.acts }
         ensures due { result ≡ State.Hungry → given_by effect_acts self.now.flow.left self.now.flow.stages ≡ due_of (kinds effect_acts self.now.flow.stages) (taken_of self.now.flow) }
     {
         self.flow.state()
@@ -92,6 +97,7 @@ impl Chain {
         requires { StateIs effect_acts State.Busy self.old.flow }
         ensures steps { Steps effect_acts self.old.flow result self.new.flow }
         ensures moved { MovedOn effect_acts self.old.flow result self.new.flow }
+        ensures row { (first : Parts EffectStage) (n : ℕ) → StepsRow effect_acts first n self.old.flow → StepsRow effect_acts first (n + 1) self.new.flow }
         ensures plan { self.new.plan ≡ self.old.plan }
     {
         self.flow.step()
@@ -101,7 +107,8 @@ impl Chain {
     /// frames lie one after another, channel by channel. Each frame goes through all effects before the next one is taken, as
     /// by `take` and `step`; until the output has no room for another frame, or the chain is done, or it is hungry and takes
     /// none, since the input is used up or some effect gives nothing more. A frame is taken only while the output has room for
-    /// one more than was due before it. Where the output has no room for one frame, nothing changes.
+    /// one more than was due before it. Where the output has no room for one frame, nothing changes; and once it has none,
+    /// nothing is done any more: the last step is the one that gave the last frame.
     pub fn feed(&mut self, input: &[i32], output: &mut [i32]) -> Passed
         requires channels { (1 ≤ self.old.plan.head.channels) × (self.old.plan.head.channels ≤ 16) }
         requires few { (n : ℕ) → n * self.old.plan.head.channels ≤ length input.now → taken_of self.old.flow + n ≤ most_frames }
@@ -114,6 +121,8 @@ impl Chain {
             → length input.now < result.taken * self.old.plan.head.channels + self.old.plan.head.channels }
         ensures room { FlowTookWithRoom effect_acts self.old.flow result.taken (length output.old) }
         ensures still { length output.old < outputs_of self.old.plan.head.channels (kinds effect_acts self.old.flow.stages) → self.new ≡ self.old }
+        ensures full { let outputs = outputs_of self.old.plan.head.channels (kinds effect_acts self.old.flow.stages) in 1 ≤ result.given → length output.old < result.given * outputs + outputs
+            → GaveLast effect_acts self.old.flow (pieces self.old.plan.head.channels result.taken input.now) (pieces outputs result.given output.new) self.new.flow }
         ensures plan { self.new.plan ≡ self.old.plan }
     {
         self.flow.feed(input, output)

@@ -21,6 +21,13 @@ use fx_frame::{ByteIn, ByteOut};
 use fx_plan::Plan;
 use fx_run::{Cause, Report, RunFault, Target, run_flow};
 use fx_sound::Source;
+use fx_sound::inner::BUFFER_SIZE;
+
+/// The bytes that a run keeps beside the chain and one frame on its way: the buffers of its source and of its output, and the
+/// samples, of four bytes each, of a block before the chain and of one after it.
+pub const BYTES_BESIDE_CHAIN: usize = 2 * BUFFER_SIZE + 2 * 4 * BUFFER_SIZE;
+
+const _: () = prove!(BYTES_BESIDE_CHAIN == 40_960);
 
 /// What is written where a plan is run.
 fn target_of(plan: &Plan) -> Target

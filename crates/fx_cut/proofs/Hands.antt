@@ -1,5 +1,5 @@
 -- A frame in hand, or none.
-use Rattle.std.proofs.Common.{◌≡◌, ◌≤◌, true, [], ◌∷◌, length, refl, arith}
+use Rattle.std.proofs.Common.{◌≡◌, ◌≤◌, true, [], length, refl, arith}
 use Rattle.std.specs.Prelude.{Option, Some, None, option_to_list, is_none}
 use Rattle.fx_step.specs.Frame.{Samples}
 

@@ -11,6 +11,7 @@ pub mod FadeWeights
 pub mod SiftSteps
 pub mod SiftPassing
 pub mod SiftMany
+pub mod SiftThrough
 pub mod SiftThaw
 pub mod TrimCount
 pub mod PadLaws

@@ -3,7 +3,7 @@ use Rattle.std.proofs.Common.{◌≡◌, ◌+◌, ◌-◌, ◌*◌, ◌/◌, Boo
 use Rattle.std.specs.Prelude.{None, Some, slice_get}
 use Rattle.std.specs.Int.{w32}
 use Rattle.std.specs.List.{All}
-use Rattle.std.proofs.lemmas.List.{drop-append-le, take-append-le}
+use Rattle.std.proofs.lemmas.List.{drop-append-le, drop_all, nil_from_length, take-append-le, take_all}
 use Rattle.std.proofs.lemmas.List.Elements.{All-append, All-cons, All-drop, All-head, All-nil}
 use Rattle.std.proofs.Math.Nat.{add-mul, div-mul-le_self, mul-le-mul_right}
 use Rattle.fx_step.specs.Frame.{Samples}
@@ -95,6 +95,25 @@ module _ (l : Frames ℤ) (x : Samples) (within : length l.items ≤ l.capacity)
       first : (items : List Samples) → (o : Samples) × (Some o ≡ slice_get (items ++ x ∷ []) 0)
       first [] = (x, refl)
       first (y ∷ ys) = (y, refl)
+
+-- what falls out of a full line when some frames come, and then when others do
+pub full-more : (l : Frames ℤ) (xs ys : List Samples) (n m : ℕ) → length l.items ≡ l.capacity → length xs ≡ n → length ys ≡ m → take n (l.items ++ xs) ++ take m ((onto l xs).items ++ ys) ≡ take (n + m) (l.items ++ (xs ++ ys))
+full-more l xs ys n m full e-n e-m =
+    let zs : List Samples = l.items ++ xs in
+    let out : length zs - l.capacity ≡ n = omega (arith, length-append l.items xs) in
+    let cut : n ≤ length zs = omega (arith, length-append l.items xs) in
+    ap (λ k. take n zs ++ take m (drop k zs ++ ys)) out
+    ∙ ap (λ ws. ws ++ take m (drop n zs ++ ys)) (sym (take-append-le n zs ys cut))
+    ∙ ap (λ ws. take n (zs ++ ys) ++ take m ws) (sym (drop-append-le n zs ys cut))
+    ∙ sym (take-add n m (zs ++ ys))
+    ∙ ap (take (n + m)) (append_assoc l.items xs ys)
+
+-- a line with no places lets all fall out
+pub none-stay : (l : Frames ℤ) (xs : List Samples) (n : ℕ) → IsLine w32 l → l.capacity ≡ 0 → length xs ≡ n → (l.items ≡ pushed_all l xs) × (xs ≡ take n (l.items ++ xs))
+none-stay l xs n is short many =
+    let within = is.within in
+    let none : l.items ≡ [] = nil_from_length l.items (omega arith) in
+    rw (short, none) (sym (drop_all (length xs - 0) xs (omega arith)), sym (take_all n xs (omega arith)))
 
 -- the frame that falls out has the samples of the line
 pub out-samples : (l : Frames ℤ) (x o : Samples) → All (IsSamples w32 l.channels) l.items → IsSamples w32 l.channels x → l.items ++ x ∷ [] ≡ o ∷ stays l.capacity l.items x → IsSamples w32 l.channels o

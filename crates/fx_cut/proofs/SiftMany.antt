@@ -7,7 +7,8 @@ use Rattle.std.proofs.lemmas.Bool.{cases_lt}
 use Rattle.std.proofs.lemmas.List.Elements.{All-cons, All-head, All-nil, All-tail, All-take}
 use Rattle.std.proofs.lemmas.Nat.{le-div}
 use Rattle.std.proofs.Math.Nat.{div-mul-le_self}
-use Rattle.fx_step.specs.Feed.{Fed, GaveNext, TookNext, TookWithRoom, nothing, taken, given}
+use Rattle.fx_step.specs.declared.feed.Passing.TheVariants.{Through}
+use Rattle.fx_step.specs.Feed.{Fed, GaveNext, PassedOn, TookNext, TookWithRoom, nothing, taken, given}
 use Rattle.fx_step.specs.Frame.{IsFrame, Samples}
 use Rattle.fx_step.specs.Hand.{IsHand}
 use Rattle.fx_step.specs.Given.{plain}
@@ -26,7 +27,7 @@ use Rattle.fx_cut.proofs.Pieces.{all-pieces}
 use Rattle.fx_cut.proofs.SiftPassing.{Gave-before, IsSift-before, held-sift}
 use Rattle.fx_cut.proofs.SiftSteps.{IsSift-fallen, IsSift-inside, Took-fallen, Took-inside, came, due-given, due-most}
 
-no-frames : (gs : List Samples) (ws : List Given) → map plain gs ≡ ws → ws ≡ [] → gs ≡ []
+pub no-frames : (gs : List Samples) (ws : List Given) → map plain gs ≡ ws → ws ≡ [] → gs ≡ []
 no-frames [] ws e n = refl
 no-frames (g ∷ gs) ws e n = absurd (cc (e, n))
 
@@ -60,10 +61,10 @@ module _ {M : Type 0} (sifts : Sifts M) where
   abbrev Next : Bool → SiftState M → Samples → List Samples → Type 0
   Next b s x gs = Fed (sift_acts sifts) s (x ∷ []) gs (later b s (x ∷ [])) × IsSiftState sifts (later b s (x ∷ []))
 
-  same-state : (s : SiftState M) (l m : Frames ℤ) (t u g h : ℕ) → l ≡ m → t ≡ u → g ≡ h → ◌≡◌ {A = SiftState M} (record s { hand = None; line = l; taken = t; given = g }) (record s { hand = None; line = m; taken = u; given = h })
+  pub same-state : (s : SiftState M) (l m : Frames ℤ) (t u g h : ℕ) → l ≡ m → t ≡ u → g ≡ h → ◌≡◌ {A = SiftState M} (record s { hand = None; line = l; taken = t; given = g }) (record s { hand = None; line = m; taken = u; given = h })
   same-state s l m t u g h e e' e'' = rw (e, e', e'') refl
 
-  later-none : (b : Bool) (s : SiftState M) → IsSiftState sifts s → s.hand ≡ None → later b s [] ≡ s
+  pub later-none : (b : Bool) (s : SiftState M) → IsSiftState sifts s → s.hand ≡ None → later b s [] ≡ s
   later-none b s is e =
       let within = is.line.within in
       let none = onto-none s.line within in
@@ -71,7 +72,7 @@ module _ {M : Type 0} (sifts : Sifts M) where
       let back : ◌≡◌ {A = SiftState M} (record s { hand = None }) s = rw (← e) refl in
       same-state s (onto s.line []) s.line (s.taken + 0) s.taken (cond b (s.given + gone s.line 0) s.given) s.given none.0 (add-zero s.taken) (no-counts b s.given (gone s.line 0) gone-none) ∙ back
 
-  later-more : (b : Bool) (s : SiftState M) (x : Samples) (xs : List Samples) → length s.line.items ≤ s.line.capacity → later b (later b s (x ∷ [])) xs ≡ later b s (x ∷ xs)
+  pub later-more : (b : Bool) (s : SiftState M) (x : Samples) (xs : List Samples) → length s.line.items ≤ s.line.capacity → later b (later b s (x ∷ [])) xs ≡ later b s (x ∷ xs)
   later-more b s x xs within =
       let next : Frames ℤ = onto s.line (x ∷ []) in
       let long = onto-long s.line (x ∷ []) in
@@ -117,7 +118,7 @@ module _ {M : Type 0} (sifts : Sifts M) where
 
       -- the oldest falls out
       module _ (h : s.line.capacity ≤ length s.line.items) where
-        out : (o : Samples) × (Some o ≡ fallen s.line.capacity s.line.items x) × (out_of s.line (x ∷ []) ≡ o ∷ [])
+        pub out : (o : Samples) × (Some o ≡ fallen s.line.capacity s.line.items x) × (out_of s.line (x ∷ []) ≡ o ∷ [])
         out = out-full s.line x within h
 
         one : gone s.line 1 ≡ 1
@@ -147,8 +148,9 @@ module _ {M : Type 0} (sifts : Sifts M) where
             rw e (taken [] [] x s mid nothing step, now)
 
         -- and is given
-        full : (g : Samples) → b ≡ true → plain g ≡ sifts.made s.arguments (settled_in sifts s.arguments (s.taken - length s.line.items)) (s.taken - length s.line.items) out.0 → IsSamples w32 s.line.channels g → Next b s x (g ∷ [])
-        full g e is-g g-samples =
+        pub given-through : (g : Samples) → b ≡ true → plain g ≡ sifts.made s.arguments (settled_in sifts s.arguments (s.taken - length s.line.items)) (s.taken - length s.line.items) out.0 → IsSamples w32 s.line.channels g
+            → PassedOn (sift_acts sifts) Through s (later b s (x ∷ [])) x g × IsSiftState sifts (later b s (x ∷ []))
+        given-through g e is-g g-samples =
             let now-here = here ∙ e in
             let made : plain g ∷ [] ≡ sifted_here sifts s.arguments (settled_in sifts s.arguments (s.taken - length s.line.items)) (s.taken - length s.line.items) out.0 = rw now-here (ap (λ y. y ∷ []) is-g) in
             let count = g-samples.count in
@@ -172,10 +174,15 @@ module _ {M : Type 0} (sifts : Sifts M) where
               held = held-sift sifts mid is-mid;
             } in
             let gave : GaveNext (sift_acts sifts) mid last g = record { gave = Gave-before sifts mid g is-mid refl a.running; held = held-sift sifts last is-last } in
-            rw same (given (x ∷ []) [] g mid last (taken [] [] x s mid nothing step) gave, is-last)
+            rw same ((mid, step, gave, refl), is-last)
+
+        full : (g : Samples) → b ≡ true → plain g ≡ sifts.made s.arguments (settled_in sifts s.arguments (s.taken - length s.line.items)) (s.taken - length s.line.items) out.0 → IsSamples w32 s.line.channels g → Next b s x (g ∷ [])
+        full g e is-g g-samples =
+            let passed-on = given-through g e is-g g-samples in
+            (given (x ∷ []) [] g passed-on.0.0 (later b s (x ∷ [])) (taken [] [] x s passed-on.0.0 nothing passed-on.0.1) passed-on.0.2, passed-on.1)
 
       -- and the others find it so
-      alike-next : IsSiftState sifts (later b s (x ∷ [])) → Alike b (later b s (x ∷ [])) n
+      pub alike-next : IsSiftState sifts (later b s (x ∷ [])) → Alike b (later b s (x ∷ [])) n
       alike-next is-next =
           let w = within in
           let low = a.is.within in

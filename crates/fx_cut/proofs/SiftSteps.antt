@@ -146,7 +146,7 @@ module _ {M : Type 0} (sifts : Sifts M) where
         let more = kept_next (λ n. sifts.gives m (settled_in sifts m n) n) (taken - sifts.reach m) in
         ok.due m (taken + 1) ∙ rw next (more ∙ ap (λ k. k + cond (sifts.gives m (settled_in sifts m (taken - sifts.reach m)) (taken - sifts.reach m)) 1 0) (sym (ok.due m taken)))
 
-    due-early : (m : M) (taken : ℕ) → taken < sifts.reach m → sifts.due m (taken + 1) ≡ sifts.due m taken
+    pub due-early : (m : M) (taken : ℕ) → taken < sifts.reach m → sifts.due m (taken + 1) ≡ sifts.due m taken
     due-early m taken h =
         let one : taken + 1 - sifts.reach m ≡ 0 = omega arith in
         let none : taken - sifts.reach m ≡ 0 = omega arith in

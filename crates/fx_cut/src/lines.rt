@@ -1,7 +1,8 @@
 //! Lines that may have no places.
-ghost use Rattle.std.specs.Prelude.{◌≡◌, ◌≤◌, length, false, true, None, Some, if◌then◌else◌};
+ghost use Rattle.std.specs.Prelude.{◌≡◌, ◌≤◌, ◌*◌, ◌++◌, ◌^◌, length, take, false, true, None, Some, if◌then◌else◌};
 ghost use Rattle.fx_step.specs.Frame.{IsFrame};
-ghost use Rattle.fx_ring.specs.Line.{pushed, pushed_out};
+ghost use Rattle.fx_lists.specs.Lists.{pieces};
+ghost use Rattle.fx_ring.specs.Line.{pushed, pushed_all, pushed_out};
 
 use fx_frame::Line;
 use fx_step::feed::see_samples;
@@ -24,4 +25,87 @@ pub fn push_over(line: &mut Line, samples: &mut [i32]) -> bool
         return true;
     }
     line.push_over(samples)
+}
+
+/// The most samples of a group: frames that are exchanged with a line at once. The room for them is cleared each time, so it
+/// is small.
+const SAMPLES_OF_GROUP: usize = 64;
+
+/// The most frames of a group.
+fn frames_of_group(channels: usize) -> usize
+    requires { (1 ≤ channels) × (channels ≤ 16) }
+    ensures some { 1 ≤ result }
+    ensures room { result * channels ≤ 64 }
+{
+    SAMPLES_OF_GROUP / channels
+}
+
+/// Puts the frames of a group in the line, and in their places as many of the oldest: those of the line first, and then those
+/// that came.
+fn exchange_group(line: &mut Line, samples: &mut [i32], count: usize)
+    requires group { length samples.old ≤ 64 }
+    requires samples { length samples.old ≡ count * line.old.channels }
+    ensures oldest { pieces line.old.channels count samples.new ≡ take count (line.old.items ++ pieces line.old.channels count samples.old) }
+    ensures items { line.new.items ≡ pushed_all line.old (pieces line.old.channels count samples.old) }
+    ensures capacity { line.new.capacity ≡ line.old.capacity }
+    ensures channels { line.new.channels ≡ line.old.channels }
+    ensures len { length samples.new ≡ length samples.old }
+{
+    let mut places = [0; SAMPLES_OF_GROUP];
+    let came = &mut places[..samples.len()];
+    if line.exchange_frames(samples, count, came) {
+        return;
+    }
+    came.copy_from_slice(samples);
+    line.oldest_into(came, count, samples);
+    line.push_frames(came, count);
+}
+
+/// Puts so many frames in a line that has no room for one more, and in their places those that fall out of it, a group at a time.
+fn exchange_groups(line: &mut Line, channels: usize, samples: &mut [i32], count: usize)
+    requires channels { channels ≡ line.old.channels }
+    requires full { 1 ≤ count → length line.old.items ≡ line.old.capacity }
+    requires few { count ≤ 2 ^ 56 }
+    requires samples { length samples.old ≡ count * line.old.channels }
+    ensures fallen { pieces line.old.channels count samples.new ≡ take count (line.old.items ++ pieces line.old.channels count samples.old) }
+    ensures items { line.new.items ≡ pushed_all line.old (pieces line.old.channels count samples.old) }
+    ensures capacity { line.new.capacity ≡ line.old.capacity }
+    ensures channels { line.new.channels ≡ line.old.channels }
+    ensures len { length samples.new ≡ length samples.old }
+{
+    let _held = line.len();
+    let most = frames_of_group(channels);
+    let mut done = 0;
+    'groups: while done < count {
+        let now = most.min(count - done);
+        let from = done * channels;
+        let to = from + now * channels;
+        exchange_group(line, &mut samples[from..to], now);
+        done += now;
+    }
+}
+
+/// Puts so many frames in a line that has no room for one more, and in their places those that fall out of it. A line with no
+/// places lets the frames fall out that came.
+pub fn exchange_full(line: &mut Line, channels: usize, samples: &mut [i32], count: usize)
+    requires channels { channels ≡ line.old.channels }
+    requires full { 1 ≤ count → length line.old.items ≡ line.old.capacity }
+    requires few { count ≤ 2 ^ 56 }
+    requires samples { length samples.old ≡ count * line.old.channels }
+    ensures fallen { pieces line.old.channels count samples.new ≡ take count (line.old.items ++ pieces line.old.channels count samples.old) }
+    ensures items { line.new.items ≡ pushed_all line.old (pieces line.old.channels count samples.old) }
+    ensures capacity { line.new.capacity ≡ line.old.capacity }
+    ensures channels { line.new.channels ≡ line.old.channels }
+    ensures len { length samples.new ≡ length samples.old }
+{
+    let capacity = line.capacity();
+    if capacity == 0 {
+        return;
+    }
+    // A single group, as in most chains, needs no division.
+    if samples.len() <= SAMPLES_OF_GROUP {
+        exchange_group(line, samples, count);
+        return;
+    }
+    exchange_groups(line, channels, samples, count);
 }

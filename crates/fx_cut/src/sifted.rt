@@ -10,10 +10,11 @@ ghost use Rattle.fx_step.specs.Stage.{Freezes, IsNew, is_enough};
 ghost use Rattle.fx_step.specs.Given.{plain};
 ghost use Rattle.fx_cut.specs.Sifted.{AreSettled, IsSiftCount, Sifts, SiftState, given_before, made_along, settled_in, sift_acts, sift_after, sifted_here};
 
-use crate::lines::push_over;
+use crate::lines::{exchange_full, push_over};
 use crate::many::{PassesMany, feed_by_pieces};
 use fx_frame::frozen::{stored_in, thawed_line_and_hand};
 use fx_frame::{Feeds, Frame, Line, Passed, Passing, Stage, Tally, ThawFault, WideFrame};
+use fx_step::feed::see_samples;
 use fx_step::stage::MOST_TAKEN;
 use std::alloc::{AllocError, Global};
 use std::marker::Model;
@@ -383,6 +384,20 @@ impl<S: Sifting + Drop> Feeds for Sifted<S> {
         }
         self.given += 1;
         Passing::Through
+    }
+
+    /// As many are due as come, so the line has no room for one more, and each frame that falls out of it is given.
+    fn pass_frames(&mut self, count: usize, samples: &mut [i32]) {
+        let channels = self.sifting.channels();
+        let place = self.taken - self.line.len() as u64;
+        see_samples(samples);
+        exchange_full(&mut self.line, channels, samples, count);
+        see_samples(samples);
+        self.sifting.sift_many(samples, channels, count, place);
+        let _held = self.line.len();
+        let passed = count as u64;
+        self.taken += passed;
+        self.given += passed;
     }
 
     fn ahead(&self) -> u64 {

@@ -6,10 +6,13 @@ ghost use Rattle.fx_past.specs.EchoWords.{echo_value};
 ghost use Rattle.fx_map.specs.RemixWords.{specs_in};
 
 use fx_cut::fade::words::Fading;
+use fx_cut::pad::words::Pads;
+use fx_cut::trim::words::Positions;
 use fx_fixed::inner::{
     all_pads, all_taps, greatest_end, greatest_pad_end, longest, longest_tap, meant_stop, stop_line,
 };
-use fx_fixed::{At, Gain, OutSpec};
+use fx_fixed::{Gain, OutSpec};
+use fx_past::delay::words::Delays;
 use fx_past::echo::words::Echoing;
 use smallvec::SmallVec;
 use std::alloc::{AllocError, Global};
@@ -27,11 +30,11 @@ pub struct Layout {
 #[derive(Debug, Drop, PartialEq, Eq)]
 pub enum Effect {
     /// The positions between which frames are kept.
-    Trim(Vec<At>),
+    Trim(Positions),
     /// Lengths of silence and where they go.
-    Pad(Vec<(u64, At)>),
+    Pad(Pads),
     /// The delays of the first channels.
-    Delay(Vec<u64>),
+    Delay(Delays),
     /// Echoes of the input.
     Echo(Echoing),
     /// Echoes in series.
@@ -138,7 +141,7 @@ fn copy_echo(alloc: Global, echo: &Echoing) -> Result<Echoing, AllocError>
     Ok(Echoing {
         gain_in: echo.gain_in,
         gain_out: echo.gain_out,
-        taps: Vec::from_slice(alloc, &echo.taps)?,
+        taps: SmallVec::from_slice(alloc, &echo.taps)?,
     })
 }
 
@@ -168,9 +171,9 @@ impl Effect {
         ensures { IfOk result (λ copy. act copy ≡ act self.now) }
     {
         match self {
-            Effect::Trim(positions) => Vec::from_slice(alloc, positions).map(Effect::Trim),
-            Effect::Pad(pads) => Vec::from_slice(alloc, pads).map(Effect::Pad),
-            Effect::Delay(delays) => Vec::from_slice(alloc, delays).map(Effect::Delay),
+            Effect::Trim(positions) => SmallVec::from_slice(alloc, positions).map(Effect::Trim),
+            Effect::Pad(pads) => SmallVec::from_slice(alloc, pads).map(Effect::Pad),
+            Effect::Delay(delays) => SmallVec::from_slice(alloc, delays).map(Effect::Delay),
             Effect::Echo(echo) => copy_echo(alloc, echo).map(Effect::Echo),
             Effect::Echos(echos) => copy_echo(alloc, echos).map(Effect::Echos),
             Effect::Fade(fade) => Ok(Effect::Fade(*fade)),

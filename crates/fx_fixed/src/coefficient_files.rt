@@ -21,9 +21,9 @@ const MOST_COEFFICIENTS: usize = 1024;
 #[derive(Clone, Copy, Debug, Drop, Eq, Error, PartialEq)]
 pub enum CoefFault {
     #[error("not a list of coefficients")]
-    BadCoefficients,
+    BadCoefficients = 1,
     #[error("no memory for the coefficients")]
-    Memory,
+    Memory = 2,
 }
 
 /// Whether a byte is a space, tab, line feed, vertical tab, form feed or carriage return.

@@ -23,15 +23,15 @@ pub(crate) const NUMBER_BYTES: usize = 40;
 #[derive(Clone, Copy, Debug, Drop, Eq, Error, PartialEq)]
 pub enum NumberFault {
     #[error("not a number")]
-    NotANumber,
+    NotANumber = 1,
     #[error("a number of more than 40 bytes")]
-    TooLong,
+    TooLong = 2,
     #[error("a number out of range")]
-    OutOfRange,
+    OutOfRange = 3,
 }
 
 /// A factor in whole trillionths, from -1000 to 1000.
-#[derive(Clone, Copy, Debug, Drop, Eq, PartialEq)]
+#[derive(Clone, Copy, Debug, Default, Drop, Eq, PartialEq)]
 pub struct Gain {
     trillionths: i64,
 }

@@ -22,6 +22,17 @@ pub enum At {
     End(u64),
 }
 
+/// The start of the sound.
+impl Default for At {
+    ghost use Rattle.fx_fixed.specs.declared.positions.At.TheVariants.{Start};
+
+    ghost is_default = { λ position. position ≡ Start 0 };
+
+    fn default() -> At {
+        At::Start(0)
+    }
+}
+
 /// The anchor that a text's first byte names, and the rest of the text.
 fn split_anchor(text: &[u8], default: Anchor) -> (Anchor, &[u8])
     ensures anchor { result.0 ≡ anchor_of default text.now }

@@ -14,13 +14,13 @@ pub const FARTHEST: u64 = 1 << 40;
 #[derive(Clone, Copy, Debug, Drop, Eq, Error, PartialEq)]
 pub enum TimeFault {
     #[error("not a time")]
-    BadTime,
+    BadTime = 1,
     #[error("not a whole number of frames")]
-    NotWhole,
+    NotWhole = 2,
     #[error("a time before the start")]
-    Negative,
+    Negative = 3,
     #[error("a time of more than 2^40 frames")]
-    TooFar,
+    TooFar = 4,
 }
 
 /// What is ahead less what is back, in frames: `Negative` below 0, `TooFar` over `2^40`.

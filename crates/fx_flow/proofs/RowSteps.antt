@@ -4,7 +4,7 @@ use Rattle.fx_step.specs.Feed.{GaveNext, IsHeld}
 use Rattle.fx_step.specs.Frame.{IsFrame, Samples}
 use Rattle.fx_step.specs.Holds.{kinds}
 use Rattle.fx_step.specs.Stage.{Acts}
-use Rattle.fx_flow.specs.Feed.{FlowFed, FlowGave, HoldsFew, Stepped, stepped, taken_in, untouched}
+use Rattle.fx_flow.specs.Feed.{FlowFed, FlowGave, GaveLast, HoldsFew, Stepped, stepped, taken_in, untouched}
 use Rattle.fx_step.specs.Row.{outputs_of}
 use Rattle.fx_flow.specs.Parts.{AllSettled, Fed, HandedOver, IsLastWet, Parts, any_spent, ended_of, moves_of, taken_of}
 use Rattle.fx_flow.specs.Composed.{enough_for}
@@ -46,6 +46,31 @@ module _ {S R : Type 0} (acts : Acts S R) where
   Overs-row mid s' frame out [] (t' ∷ stages') gave settled held went = absurd went
   Overs-row mid s' frame out (t ∷ stages) [] gave settled held went = absurd went
 
+  -- the last stage gave a frame out, and nothing moved behind that
+  record OverLast (first : List S) (frame : Samples) (new : List S) : Type 0 where
+    pub old : List S
+    pub place : ℕ
+    pub before : Overs first [] old
+    pub last : IsLastWet acts place old
+    pub over : HandedOver acts place (Some frame) old new
+    pub held : AllHeld acts new
+
+  OverLast-lift : (s : S) (first new : List S) (frame : Samples) → IsHeld acts s → OverLast first frame new → OverLast (s ∷ first) frame (s ∷ new)
+  OverLast-lift s first new frame h o = record { old = s ∷ o.old; place = suc o.place; before = Overs-lift s first o.old [] h o.before; last = o.last; over = (refl, o.over); held = (h, o.held) }
+
+  OverLast-row : (mid s' : S) (frame out : Samples) (stages stages' : List S) → GaveNext acts mid s' frame → AllSettled acts stages → AllHeld acts stages → WentThrough acts frame (Some out) stages stages' → OverLast (mid ∷ stages) out (s' ∷ stages')
+  OverLast-row mid s' frame out [] [] gave settled held went =
+      let same : out ≡ frame = cc (went) in
+      rw same (record { old = mid ∷ []; place = 0; before = still; last = (gave.gave.was_wet, tt); over = gave.gave; held = (gave.held, tt) })
+  OverLast-row mid s' frame out (t ∷ stages) (t' ∷ stages') gave settled held (inl kept) = let none = kept.1 in absurd (cc (none))
+  OverLast-row mid s' frame out (t ∷ stages) (t' ∷ stages') gave settled held (inr went) =
+      let one : Overs (mid ∷ t ∷ stages) [] (s' ∷ went.0 ∷ stages) =
+      over [] (mid ∷ t ∷ stages) (s' ∷ went.0 ∷ stages) 0 None still (gave.gave.was_wet, settled) (frame, gave.gave, went.2.took, refl) (gave.held, (went.2.held, held.1)) in
+      let more = OverLast-lift s' (went.0 ∷ stages) (t' ∷ stages') out gave.held (OverLast-row went.0 t' went.1 out stages stages' went.3 settled.2 held.1 went.4) in
+      record { old = more.old; place = more.place; before = Overs-then _ _ _ [] [] one more.before; last = more.last; over = more.over; held = more.held }
+  OverLast-row mid s' frame out [] (t' ∷ stages') gave settled held went = absurd went
+  OverLast-row mid s' frame out (t ∷ stages) [] gave settled held went = absurd went
+
   -- a flow was fed these frames and gave those, and is sound
   pub record Going (first : Parts S) (xs gs : List Samples) (f : Parts S) : Type 0 where
     pub fed : FlowFed acts first xs gs f
@@ -54,11 +79,20 @@ module _ {S R : Type 0} (acts : Acts S R) where
     pub moves : moves_of acts first + ended_of acts first.stages ≤ moves_of acts f + ended_of acts f.stages
 
   module _ (rises : (r : R) (m n : ℕ) → m ≤ n → (acts.kind_of r).most m ≤ (acts.kind_of r).most n) where
+    Stepped-over : (f : Parts S) (i : ℕ) (out : Option Samples) (stages : List S) → f.inlet ≡ None → IsLastWet acts i f.stages → HandedOver acts i out f.stages stages → AllHeld acts stages → Stepped acts f (step_of out) (after_over acts rises f stages)
+    Stepped-over f i out stages empty last handed held =
+        let few : HoldsFew acts (after_over acts rises f stages) = rw empty (omega (arith, AllHeld-sum acts stages held)) in
+        record { moved = inl (record { place = i; out = out; last = last; over = handed; told = refl; others = refl }); held = few }
+
+    Stepped-feed : (f : Parts S) (frame : Samples) (out : Option Samples) (stages : List S) → AllSettled acts f.stages → f.inlet ≡ Some frame → Fed acts frame out f.stages stages → AllHeld acts stages → Stepped acts f (step_of out) (after_feed acts rises f stages)
+    Stepped-feed f frame out stages settled inlet fed held =
+        let few : HoldsFew acts (after_feed acts rises f stages) = omega (arith, AllHeld-sum acts stages held) in
+        record { moved = inr (inl (record { frame = frame; out = out; dry = AllSettled-dry acts f.stages settled; inlet = inlet; fed = fed; told = refl; others = refl })); held = few }
+
     Going-over : (first f : Parts S) (xs gs : List Samples) (i : ℕ) (out : Option Samples) (stages : List S) → Going first xs gs f → f.inlet ≡ None → IsLastWet acts i f.stages → HandedOver acts i out f.stages stages → AllHeld acts stages
         → Going first xs (gs ++ option_to_list out) (after_over acts rises f stages)
     Going-over first f xs gs i out stages going empty last handed held =
-        let few : HoldsFew acts (after_over acts rises f stages) = rw empty (omega (arith, AllHeld-sum acts stages held)) in
-        let one : Stepped acts f (step_of out) (after_over acts rises f stages) = record { moved = inl (record { place = i; out = out; last = last; over = handed; told = refl; others = refl }); held = few } in
+        let one = Stepped-over f i out stages empty last handed held in
         let steps = Steps-over acts rises f i out stages going.sound last handed in
         rw (← given_out-step_of out)
         (record { fed = stepped xs gs (step_of out) f (after_over acts rises f stages) going.fed one; gave = FlowGave-stepped acts first f (after_over acts rises f stages) xs gs (step_of out) going.gave steps; sound = IsSound-over acts rises f i out stages going.sound last handed; moves = omega (arith, going.moves, steps.steps) })
@@ -72,9 +106,7 @@ module _ {S R : Type 0} (acts : Acts S R) where
     Going-feed : (first f : Parts S) (xs gs : List Samples) (frame : Samples) (out : Option Samples) (stages : List S) → Going first xs gs f → AllSettled acts f.stages → f.inlet ≡ Some frame → Fed acts frame out f.stages stages → AllHeld acts stages
         → Going first xs (gs ++ option_to_list out) (after_feed acts rises f stages)
     Going-feed first f xs gs frame out stages going settled inlet fed held =
-        let few : HoldsFew acts (after_feed acts rises f stages) = omega (arith, AllHeld-sum acts stages held) in
-        let one : Stepped acts f (step_of out) (after_feed acts rises f stages) =
-        record { moved = inr (inl (record { frame = frame; out = out; dry = AllSettled-dry acts f.stages settled; inlet = inlet; fed = fed; told = refl; others = refl })); held = few } in
+        let one = Stepped-feed f frame out stages settled inlet fed held in
         let steps = Steps-feed acts rises f frame out stages going.sound settled inlet fed in
         rw (← given_out-step_of out)
         (record { fed = stepped xs gs (step_of out) f (after_feed acts rises f stages) going.fed one; gave = FlowGave-stepped acts first f (after_feed acts rises f stages) xs gs (step_of out) going.gave steps; sound = IsSound-feed acts rises f frame out stages going.sound settled inlet fed; moves = omega (arith, going.moves, steps.steps) })
@@ -109,6 +141,24 @@ module _ {S R : Type 0} (acts : Acts S R) where
           Going-overs _ _ (frame ∷ []) [] (option_to_list out) (s' ∷ stages') one refl (Overs-row went.0 s' went.1 out stages stages' went.3 settled.2 held.1 went.4)
       passed-row out [] (s' ∷ stages') sound settled unspent held went = absurd went
       passed-row out (s ∷ stages) [] sound settled unspent held went = absurd went
+
+      -- where a frame came out, nothing was done behind that
+      pub passed-row-last : (out : Samples) (stages stages' : List S) → IsSound acts (flow_of acts channels stages left) → AllSettled acts stages → any_spent acts stages ≡ false → AllHeld acts stages → WentThrough acts frame (Some out) stages stages'
+          → GaveLast acts (flow_of acts channels stages left) (frame ∷ []) (out ∷ []) (flow_of acts channels stages' (left + 1))
+      passed-row-last out [] [] sound settled unspent held went =
+          let same : out ≡ frame = cc (went) in
+          let taken = taken-row [] sound settled unspent held in
+          rw same (record { earlier = []; frame = frame; before = record (flow_of acts channels [] left) { inlet = Some frame }; all = refl; fed = taken.fed; gave = Stepped-feed (record (flow_of acts channels [] left) { inlet = Some frame }) frame (Some frame) [] settled refl refl tt })
+      passed-row-last out (s ∷ stages) (s' ∷ stages') sound settled unspent held (inl kept) = let none = kept.1 in absurd (cc (none))
+      passed-row-last out (s ∷ stages) (s' ∷ stages') sound settled unspent held (inr went) =
+          let first : Parts S = flow_of acts channels (s ∷ stages) left in
+          let mid : Parts S = flow_of acts channels (went.0 ∷ stages) (left + 1) in
+          let one : Going first (frame ∷ []) [] mid = Going-feed _ _ (frame ∷ []) [] frame None (went.0 ∷ stages) (taken-row (s ∷ stages) sound settled unspent held) settled refl (went.2.took, refl) (went.2.held, held.1) in
+          let o = OverLast-row went.0 s' went.1 out stages stages' went.3 settled.2 held.1 went.4 in
+          let going = Going-overs first mid (frame ∷ []) [] [] o.old one refl o.before in
+          record { earlier = []; frame = out; before = after_over acts rises mid o.old; all = refl; fed = going.fed; gave = Stepped-over (after_over acts rises mid o.old) o.place (Some out) (s' ∷ stages') refl o.last o.over o.held }
+      passed-row-last out [] (s' ∷ stages') sound settled unspent held went = absurd went
+      passed-row-last out (s ∷ stages) [] sound settled unspent held went = absurd went
 
   -- what comes out behind the stages has the channels of the last
   pub WentThrough-sides : (channels : ℕ) (frame out : Samples) (stages stages' : List S) → WentThrough acts frame (Some out) stages stages' → length frame ≡ channels → length out ≡ outputs_of channels (kinds acts stages)

@@ -1,5 +1,5 @@
 -- Frames that went through stages in a row by one call, as a run of their flow.
-use Rattle.std.proofs.Common.{ℕ, zero, suc, ◌+◌, ◌*◌, ◌≤◌, ◌≡◌, List, [], ◌∷◌, ◌++◌, length, map, take, drop, false, refl, ap, ◌∙◌, arith, inr, Some}
+use Rattle.std.proofs.Common.{ℕ, zero, suc, ◌+◌, ◌*◌, ◌≤◌, ◌≡◌, List, [], ◌∷◌, ◌++◌, length, map, take, drop, false, refl, sym, ap, ◌∙◌, subst, arith, inr, Some}
 use Rattle.std.specs.Prelude.{ℤ, FitsSigned}
 use Rattle.std.specs.Int.{w32}
 use Rattle.std.specs.List.{All}
@@ -12,17 +12,17 @@ use Rattle.fx_step.specs.Row.{AreReady, EachThrough, RowThrough}
 use Rattle.fx_step.specs.Stage.{Acts}
 use Rattle.fx_lists.proofs.Puts.{pieces-take}
 use Rattle.fx_lists.proofs.Pieces.{length-pieces}
-use Rattle.fx_flow.specs.Feed.{untouched}
+use Rattle.fx_flow.specs.Feed.{GaveLast, untouched}
 use Rattle.fx_flow.specs.Parts.{AllSettled, Parts}
 use Rattle.fx_flow.specs.Row.{WentThrough}
 use Rattle.fx_step.specs.Holds.{kinds}
 use Rattle.fx_flow.proofs.Laws.{given_by-due}
 use Rattle.fx_flow.specs.Runs.{AllAhead, GivesOneEach, MayRun, RanOn, flow_of}
 use Rattle.fx_flow.specs.Sound.{IsSound, most_frames}
-use Rattle.fx_flow.proofs.Feeding.{FlowFed-then, FlowGave-none, FlowGave-then}
+use Rattle.fx_flow.proofs.Feeding.{FlowFed-then, FlowGave-none, FlowGave-then, GaveLast-then}
 use Rattle.fx_flow.proofs.Handing.{AllSettled-dry}
 use Rattle.fx_flow.proofs.Rows.{AllHeld, AreReady-from}
-use Rattle.fx_flow.proofs.RowSteps.{Going, passed-row}
+use Rattle.fx_flow.proofs.RowSteps.{Going, passed-row, passed-row-last}
 use Rattle.fx_flow.proofs.Running.{AllAhead-less, AllAhead-unspent, AllAhead-went, AllHeld-went}
 
 -- each is a frame of so many channels
@@ -108,6 +108,28 @@ module _ {S R : Type 0} (acts : Acts S R) where
         let e : left + suc (length xs) ≡ left + 1 + length xs = omega arith in
         rw (one.is, e) (Going-then _ _ _ (x ∷ []) (one.out ∷ []) xs one.outs went refl rest)
 
+    -- the last of the calls gave the last of them
+    last-of-row : (x : Samples) (xs ys : List Samples) (left : ℕ) (old new : List S) → AreFrames channels (x ∷ xs) → left + length (x ∷ xs) ≤ most_frames → IsSound acts (flow_of acts channels old left) → AllSettled acts old → AllHeld acts old → AllAhead acts (length (x ∷ xs)) old → RowThrough acts (x ∷ xs) ys old new
+        → GaveLast acts (flow_of acts channels old left) (x ∷ xs) ys (flow_of acts channels new (left + length (x ∷ xs)))
+    last-of-row x [] ys left old new frames few sound settled held ahead row =
+        let one = first-through x [] ys old new row in
+        let none = RowThrough-nothing one.outs one.mid new one.more in
+        let out : ys ≡ one.out ∷ [] = one.is ∙ ap (λ l. one.out ∷ l) none.0 in
+        let last = passed-row-last acts rises channels left x frames.0 frames.1 (omega arith) one.out old one.mid sound settled (AllAhead-unspent acts 1 old (omega arith) ahead) held one.went in
+        subst (λ (m : List S). GaveLast acts (flow_of acts channels old left) (x ∷ []) ys (flow_of acts channels m (left + 1))) (sym none.1)
+        (subst (λ (l : List Samples). GaveLast acts (flow_of acts channels old left) (x ∷ []) l (flow_of acts channels one.mid (left + 1))) (sym out) last)
+    last-of-row x (y ∷ xs) ys left old new frames few sound settled held ahead row =
+        let one = first-through x (y ∷ xs) ys old new row in
+        let went = passed-row acts rises channels left x frames.0 frames.1 (omega arith) (Some one.out) old one.mid sound settled (AllAhead-unspent acts (length (x ∷ y ∷ xs)) old (omega arith) ahead) held one.went in
+        let rest = last-of-row y xs one.outs (left + 1) one.mid new frames.2 (omega arith) went.sound one.settled (AllHeld-went acts x (Some one.out) old one.mid one.went held) (AllAhead-went acts (length (y ∷ xs)) x (Some one.out) old one.mid one.went ahead) one.more in
+        let e : left + length (x ∷ y ∷ xs) ≡ left + 1 + length (y ∷ xs) = omega arith in
+        rw (one.is, e) (GaveLast-then acts _ _ _ (x ∷ []) (one.out ∷ []) (y ∷ xs) one.outs went.fed rest)
+
+    last-row : (xs ys : List Samples) (left : ℕ) (old new : List S) → AreFrames channels xs → left + length xs ≤ most_frames → IsSound acts (flow_of acts channels old left) → AllSettled acts old → AllHeld acts old → AllAhead acts (length xs) old → RowThrough acts xs ys old new → 1 ≤ length ys
+        → GaveLast acts (flow_of acts channels old left) xs ys (flow_of acts channels new (left + length xs))
+    last-row [] ys left old new frames few sound settled held ahead row some = let same = RowThrough-nothing ys old new row in absurd (omega (arith, ap length same.0, some))
+    last-row (x ∷ xs) ys left old new frames few sound settled held ahead row some = last-of-row x xs ys left old new frames few sound settled held ahead row
+
     -- and each gave one
     each-row : (xs ys : List Samples) (left : ℕ) (old new : List S) → AreFrames channels xs → left + length xs ≤ most_frames → IsSound acts (flow_of acts channels old left) → AllSettled acts old → AllHeld acts old → AllAhead acts (length xs) old → RowThrough acts xs ys old new
         → GivesOneEach acts old left (length xs)
@@ -134,4 +156,4 @@ module _ {S R : Type 0} (acts : Acts S R) where
         let frames : AreFrames channels (pieces channels passed input) = AreFrames-front channels passed input some few (omega arith) fits in
         let going = Going-row (pieces channels passed input) ys left old new frames (omega (arith, may.few)) may.sound settled held (rw many (AllAhead-less acts passed count old within ahead)) row in
         let each = each-row (pieces channels passed input) ys left old new frames (omega (arith, may.few)) may.sound settled held (rw many (AllAhead-less acts passed count old within ahead)) row in
-        record { fed = going.fed; gave = going.gave; sound = going.sound; moves = going.moves; each = each }
+        record { fed = going.fed; gave = going.gave; sound = going.sound; moves = going.moves; each = each; last = λ even one_out. last-row (pieces channels passed input) ys left old new frames (omega (arith, may.few)) may.sound settled held (rw many (AllAhead-less acts passed count old within ahead)) row one_out }

@@ -18,16 +18,16 @@ use Rattle.std.proofs.lemmas.Bool.{cases_lt}
 use Rattle.fx_flow.proofs.Laws.{given_by-due}
 use Rattle.fx_step.proofs.Rooms.{room-grows}
 use Rattle.fx_flow.specs.Composed.{due_of}
-use Rattle.fx_flow.specs.Feed.{FlowTookWithRoom}
+use Rattle.fx_flow.specs.Feed.{FlowTookWithRoom, GaveLast}
 use Rattle.fx_flow.specs.Parts.{given_by}
 use Rattle.fx_flow.specs.Runs.{GivesOneEach, AllAhead, AllKeep, MayRun, MayRunRow, RanOn, flow_of}
 use Rattle.fx_flow.specs.Sound.{IsSound, most_frames}
 use Rattle.fx_flow.specs.declared.runs.Widths.{Widths}
-use Rattle.fx_flow.proofs.Feeding.{outs, Turned, Turned-kept, Turned-none, Turned-through}
+use Rattle.fx_flow.proofs.Feeding.{outs, Turned, Turned-kept, Turned-last, Turned-none, Turned-through}
 use Rattle.fx_lists.proofs.Pieces.{length-pieces}
 use Rattle.fx_flow.proofs.Handing.{AllSettled-dry}
 use Rattle.fx_flow.proofs.Rows.{AllHeld, AreReady-from, CameTo, neither}
-use Rattle.fx_flow.proofs.RowSteps.{passed-row}
+use Rattle.fx_flow.proofs.RowSteps.{passed-row, passed-row-last}
 
 -- what comes out has as many channels as what goes in
 pub outputs-keep : (channels : ℕ) (ks : List Kind) → AllKeep channels ks → outputs_of channels ks ≡ channels
@@ -206,6 +206,7 @@ module _ {S R : Type 0} (acts : Acts S R) where
       pub same : kinds acts stages ≡ kinds acts first
       pub fewer : given ≤ taken
       pub each : GivesOneEach acts first left taken
+      pub last : given ≡ taken → 1 ≤ given → GaveLast acts (flow_of acts channels first left) (pieces channels taken input) (pieces (outputs_of channels (kinds acts first)) given out) (flow_of acts channels stages (left + taken))
 
     pub Running-none : MayRun acts channels count first left → AllHeld acts first → AllAhead acts count first → Running first start 0 0 0 0
     Running-none may held ahead =
@@ -219,6 +220,7 @@ module _ {S R : Type 0} (acts : Acts S R) where
           same = refl;
           fewer = omega arith;
           each = λ n few. absurd (omega (arith, few));
+          last = λ even some. absurd (omega (arith, some));
         }
 
     -- and before one frame more, where all have given what is due
@@ -247,7 +249,7 @@ module _ {S R : Type 0} (acts : Acts S R) where
         → RanOn acts channels (pieces channels taken input) (pieces outputs given out) first stages left
     Running-ran stages out read written taken given run room outs =
         let many : length (pieces channels taken input) ≡ taken = length-pieces channels taken input in
-        record { fed = rw many (rw outs at run.turned.fed); gave = rw many (rw outs at run.turned.gave); sound = rw many run.sound; moves = rw many run.moves; each = rw many run.each }
+        record { fed = rw many (rw outs at run.turned.fed); gave = rw many (rw outs at run.turned.gave); sound = rw many run.sound; moves = rw many run.moves; each = rw many run.each; last = λ even some. let gave : length (pieces outputs given out) ≡ given = length-pieces outputs given out in rw many (rw outs at (run.last (omega (arith, gave, many, even)) (omega (arith, gave, some)))) }
 
     module _ (stages stages' : List S) (out : List ℤ) (read written taken given : ℕ) (x : Samples) (run : Running stages out read written taken given) (few : left + count ≤ most_frames) (more : taken < count) (settled : AllSettled acts stages) (shape : IsFrame x) (width : length x ≡ channels) (is : x ≡ take channels (drop read input)) (some : 1 ≤ channels) (room : read + channels ≤ length input) where
       -- of what a frame that goes through the stages keeps
@@ -271,6 +273,7 @@ module _ {S R : Type 0} (acts : Acts S R) where
             same = ap (map acts.kind_of) going.gave.recipes_stay ∙ run.same;
             fewer = let h = run.fewer in omega arith;
             each = Running-each stages out read written taken given run settled;
+            last = λ even some. absurd (omega (arith, even, run.fewer));
           }
 
       -- a frame came out
@@ -291,6 +294,8 @@ module _ {S R : Type 0} (acts : Acts S R) where
             same = ap (map acts.kind_of) going.gave.recipes_stay ∙ run.same;
             fewer = let h = run.fewer in omega arith;
             each = Running-each stages out read written taken given run settled;
+            last = λ even some. rw e (Turned-last acts (flow_of acts channels first left) input start (flow_of acts channels stages (left + taken)) (flow_of acts channels stages' (left + taken + 1)) x frame out out' read written taken given run.turned
+                (passed-row-last acts rises channels (left + taken) x shape width (omega arith) frame stages stages' run.sound settled unspent run.held went) is (sides ∙ sym outs) (omega (arith, outs)) put');
           }
 
     -- a frame was copied from the input, went through the stages, and what came out was copied to the output

@@ -21,15 +21,16 @@ use Rattle.fx_flow.specs.Parts.{AllSettled}
 use Rattle.fx_flow.specs.Row.{AllLined}
 use Rattle.fx_flow.specs.Runs.{AllAhead, AllKeep, AllSteady, MayRun, RanOn, flow_of}
 use Rattle.fx_flow.specs.Sound.{most_frames}
-use Rattle.fx_flow.proofs.Feeding.{FlowFed-then, FlowGave-none, FlowGave-then}
+use Rattle.fx_flow.specs.Together.{CameTogether, WentInGroups, group, no_group}
+use Rattle.fx_flow.proofs.Feeding.{FlowFed-then, FlowGave-none, FlowGave-then, GaveLast-then}
 use Rattle.fx_flow.proofs.PieceLaws.{ahead-row, kinds-row, settled-row, steady-row}
 use Rattle.fx_flow.proofs.Rowing.{AreReady-run, RanOn-row}
 use Rattle.fx_flow.proofs.Rows.{AllHeld-lined}
 
 module _ {S R : Type 0} (acts : Acts S R) where
   -- one run behind another
-  RanOn-then : (channels left : ℕ) (xs gs ys hs : List Samples) (first mid new : List S) → length gs ≡ length xs → RanOn acts channels xs gs first mid left → RanOn acts channels ys hs mid new (left + length xs) → RanOn acts channels (xs ++ ys) (gs ++ hs) first new left
-  RanOn-then channels left xs gs ys hs first mid new even one two =
+  RanOn-then : (channels left : ℕ) (xs gs ys hs : List Samples) (first mid new : List S) → length gs ≡ length xs → length hs ≡ length ys → 1 ≤ length hs → RanOn acts channels xs gs first mid left → RanOn acts channels ys hs mid new (left + length xs) → RanOn acts channels (xs ++ ys) (gs ++ hs) first new left
+  RanOn-then channels left xs gs ys hs first mid new even also some one two =
       let n : left + length (xs ++ ys) ≡ left + length xs + length ys = omega (arith, length-append xs ys) in
       record {
         fed = rw n (FlowFed-then acts (flow_of acts channels first left) (flow_of acts channels mid (left + length xs)) (flow_of acts channels new (left + length xs + length ys)) xs gs ys hs one.fed two.fed);
@@ -44,6 +45,7 @@ module _ {S R : Type 0} (acts : Acts S R) where
               let same : kinds acts mid ≡ kinds acts first = ap (map acts.kind_of) one.gave.recipes_stay in
               omega (arith, rw (count, same) at later, one.gave.given, even, more)
         ];
+        last = λ all one_out. rw n (GaveLast-then acts (flow_of acts channels first left) (flow_of acts channels mid (left + length xs)) (flow_of acts channels new (left + length xs + length ys)) xs gs ys hs one.fed (two.last also some));
       }
 
   module _ (rises : (r : R) (m n : ℕ) → m ≤ n → (acts.kind_of r).most m ≤ (acts.kind_of r).most n) (channels count : ℕ) (first : List S) (input start : List ℤ) where
@@ -51,6 +53,7 @@ module _ {S R : Type 0} (acts : Acts S R) where
     pub record Steadily (stages : List S) (out : List ℤ) (done : ℕ) : Type 0 where
       pub within : done ≤ count
       pub ran : (left : ℕ) → MayRun acts channels count first left → RanOn acts channels (pieces channels done input) (pieces channels done out) first stages left
+      pub groups : WentInGroups acts first (pieces channels done input) (pieces channels done out) stages
       pub settled : AllSettled acts stages
       pub lined : AllLined acts stages
       pub ahead : (m : ℕ) → done + m ≡ count → AllAhead acts m stages
@@ -64,6 +67,7 @@ module _ {S R : Type 0} (acts : Acts S R) where
         record {
           within = omega arith;
           ran = λ left may. ran-none left may;
+          groups = no_group;
           settled = settled;
           lined = lined;
           ahead = λ m all. let same : m ≡ count = omega (arith, all) in rw same ahead;
@@ -76,7 +80,7 @@ module _ {S R : Type 0} (acts : Acts S R) where
         ran-none : (left : ℕ) → MayRun acts channels count first left → RanOn acts channels [] [] first first left
         ran-none left may =
             let e : left + 0 ≡ left = omega arith in
-            record { fed = rw e untouched; gave = rw e (FlowGave-none acts (flow_of acts channels first left)); sound = rw e may.sound; moves = rw e (omega arith); each = λ n few. absurd (omega (arith, few)) }
+            record { fed = rw e untouched; gave = rw e (FlowGave-none acts (flow_of acts channels first left)); sound = rw e may.sound; moves = rw e (omega arith); each = λ n few. absurd (omega (arith, few)); last = λ even one_out. absurd (omega (arith, one_out)) }
 
     -- so many frames more may come
     later-may : (stages : List S) (out : List ℤ) (done m left : ℕ) → Steadily stages out done → done + m ≡ count → MayRun acts channels count first left → MayRun acts channels m stages (left + done)
@@ -95,11 +99,13 @@ module _ {S R : Type 0} (acts : Acts S R) where
     -- a few went through
     pub Steadily-next : (stages stages' : List S) (out out' y : List ℤ) (done few : ℕ) → Steadily stages out done → 1 ≤ channels → channels ≤ 16 → done + few ≤ count → 1 ≤ few → count * channels ≤ length input → count * channels ≤ length start → All (FitsSigned w32) (take (count * channels) input)
         → length y ≡ few * channels → RowThrough acts (pieces channels few (take (few * channels) (drop (done * channels) input))) (pieces channels few y) stages stages' → AllLined acts stages'
+        → few ≤ 1 + length stages → CameTogether acts stages (pieces channels few (take (few * channels) (drop (done * channels) input))) (length stages) (pieces channels few y) stages'
         → out' ≡ take (done * channels) out ++ (y ++ drop (few * channels) (drop (done * channels) out)) → Steadily stages' out' (done + few)
-    Steadily-next stages stages' out out' y done few steadily one sixteen within some reach room fits sides row lined put =
+    Steadily-next stages stages' out out' y done few steadily one sixteen within some reach room fits sides row lined small together put =
         record {
           within = within;
           ran = λ left may. went left may;
+          groups = rw (pieces-split channels done few input, outs) (group (pieces channels done input) (pieces channels done out) xs ys stages stages' steadily.groups (rw many small) together');
           settled = settled-row acts xs ys stages stages' row' steadily.settled;
           lined = lined;
           ahead = λ m all. ahead-row acts xs ys m stages stages' row' (rw many (steadily.ahead (few + m) (omega (arith, all))));
@@ -118,6 +124,9 @@ module _ {S R : Type 0} (acts : Acts S R) where
         ys : List Samples
         ys = pieces channels few y
 
+        given : length ys ≡ few
+        given = length-pieces channels few y
+
         place : (done + few) * channels ≡ at + few * channels
         place = add-mul done few channels
 
@@ -132,6 +141,9 @@ module _ {S R : Type 0} (acts : Acts S R) where
 
         row' : RowThrough acts xs ys stages stages'
         row' = rw (pieces-take channels few (drop at input) reached) at row
+
+        together' : CameTogether acts stages xs (length stages) ys stages'
+        together' = rw (pieces-take channels few (drop at input) reached) at together
 
         many : length xs ≡ few
         many = length-pieces channels few (drop at input)
@@ -172,4 +184,4 @@ module _ {S R : Type 0} (acts : Acts S R) where
             let two : RanOn acts channels xs ys stages stages' (left + done) =
             RanOn-row acts rises channels (count - done) few (left + done) stages stages' (drop at input) ys one sixteen (omega (arith, within)) rest fitting next steadily.settled (AllHeld-lined acts stages steadily.lined) (steadily.ahead (count - done) all) row' in
             let before : length (pieces channels done input) ≡ done = length-pieces channels done input in
-            rw (pieces-split channels done few input, outs) (RanOn-then channels left (pieces channels done input) (pieces channels done out) xs ys first stages stages' (length-pieces channels done out ∙ sym before) (steadily.ran left may) (rw before two))
+            rw (pieces-split channels done few input, outs) (RanOn-then channels left (pieces channels done input) (pieces channels done out) xs ys first stages stages' (length-pieces channels done out ∙ sym before) (given ∙ sym many) (omega (arith, given, some)) (steadily.ran left may) (rw before two))

@@ -8,7 +8,7 @@ use Rattle.fx_step.specs.Row.{outputs_of}
 use Rattle.fx_step.specs.Stage.{Acts, Kind, is_enough, kind}
 use Rattle.fx_step.specs.declared.feed.Passed.{Passed}
 use Rattle.fx_flow.specs.Composed.{due_of}
-use Rattle.fx_flow.specs.Feed.{FlowFed, FlowGave}
+use Rattle.fx_flow.specs.Feed.{FlowFed, FlowGave, GaveLast}
 use Rattle.fx_flow.specs.Parts.{AllSettled, Parts, ended_of, given_by, moves_of}
 use Rattle.fx_flow.specs.Row.{AllLined}
 use Rattle.fx_flow.specs.Sound.{IsSound, most_frames}
@@ -50,6 +50,7 @@ module _ {S R : Type 0} (acts : Acts S R) where
     pub sound : IsSound acts (flow_of channels new (left + length xs))
     pub moves : moves_of acts (flow_of channels old left) + ended_of acts old ≤ moves_of acts (flow_of channels new (left + length xs)) + ended_of acts new
     pub each : GivesOneEach old left (length xs)
+    pub last : length gs ≡ length xs → 1 ≤ length gs → GaveLast acts (flow_of channels old left) xs gs (flow_of channels new (left + length xs))
 
   -- So many frames at the front of the input, whose samples these are, may go through stages in a row, and the output has room
   -- for as many. A frame has 1 to 16 channels, and the widths are those of the stages. Each stage has given what is due, holds

@@ -104,3 +104,8 @@ module _ {S R : Type 0} (acts : Acts S R) where
     pub given : given_by acts new.left new.stages ≡ given_by acts old.left old.stages + length (given_out step)
     -- at most so many hand-overs, and ends, for the frames that came
     pub within : moves_of acts new + ended_of acts new.stages ≤ work (kinds acts new.stages) (taken_of new) + length new.stages
+
+  -- so many steps in a row, each made where the flow waited for steps
+  pub data StepsRow (first : Parts S) : ℕ → Parts S → Type 0 where
+    not_begun : StepsRow first 0 first
+    one_more : (n : ℕ) (step : Step) (f f' : Parts S) → StepsRow first n f → StateIs Busy f → Steps f step f' → StepsRow first (n + 1) f'

@@ -6,6 +6,7 @@ ghost use Rattle.fx_step.specs.Row.{AreReady, RowThrough};
 ghost use Rattle.fx_flow.specs.Parts.{AllSettled};
 ghost use Rattle.fx_flow.specs.Row.{AllLined};
 ghost use Rattle.fx_flow.specs.Runs.{AllAhead, AllKeep, AllSteady, MayRun, RanOn};
+ghost use Rattle.fx_flow.specs.Together.{CameTogether, WentInGroups};
 
 use fx_step::Feeds;
 use fx_step::feed::see_samples;
@@ -46,6 +47,7 @@ fn pass_few<S: Feeds>(
     ensures through { RowThrough S.acts (pieces channels count input.now) (pieces channels count output.new) stages.old stages.new }
     ensures lined { AllLined S.acts stages.new }
     ensures within { held_sum S.acts stages.new + count ≤ 1 + hold_sum (kinds S.acts stages.new) }
+    ensures together { CameTogether S.acts stages.old (pieces channels count input.now) (length stages.old) (pieces channels count output.new) stages.new }
 {
     output.copy_from_slice(input);
     'stages: for place in 0..stages.len() {
@@ -77,6 +79,7 @@ pub fn run_steadily<S: Feeds>(
     requires steady { AllSteady S.acts count stages.old }
     ensures ran { (left : ℕ) → MayRun S.acts channels count stages.old left → RanOn S.acts channels (pieces channels count input.now) (pieces channels count output.new) stages.old stages.new left }
     ensures behind { drop (count * channels) output.new ≡ drop (count * channels) output.old }
+    ensures groups { WentInGroups S.acts stages.old (pieces channels count input.now) (pieces channels count output.new) stages.new }
 {
     see_samples(&input[..count * channels]);
     let few = stages.len().saturating_add(1);

@@ -11,7 +11,8 @@ use Rattle.fx_step.specs.Feed.{Fed, GaveNext, PassedOn, TookNext, nothing, taken
 use Rattle.fx_step.specs.Frame.{Samples, silence}
 use Rattle.fx_ring.specs.Line.{Frames, IsLine}
 use Rattle.fx_lists.specs.Lists.{pieces}
-use Rattle.fx_step.specs.Stage.{Acts, Given}
+use Rattle.fx_step.specs.Row.{EachThrough}
+use Rattle.fx_step.specs.Stage.{Acts, Given, IsDry}
 use Rattle.fx_step.specs.Holds.{total}
 use Rattle.fx_step.proofs.FedLaws.{Fed-then, total-append}
 use Rattle.fx_ring.proofs.RingLaws.{keep-twice}
@@ -224,6 +225,36 @@ module _ {M : Type 0} (taps : Taps M) (near : IsNear taps) where
         (subst (λ (n : ℕ). Fed acts (ready line count clips) (x ∷ xs) (made.samples ∷ frames_behind taps m next.items xs) (ready (through next xs) n (clips + made.clips + clips_behind taps m next.items xs))) places all)) in
         subst (λ (l : List Samples). Fed acts (ready line count clips) (x ∷ xs) l (ready (through line (x ∷ xs)) (count + length (x ∷ xs)) (clips + clips_behind taps m line.items (x ∷ xs)))) (sym frames) whole
 
+    ready-dry : (line : Frames ℤ) (count clips : ℕ) → IsDry acts (ready line count clips)
+    ready-dry line count clips = record { due = λ e. refl; over = λ e. absurd (cc (e)) }
+
+    -- each given before the next is taken
+    taps-through : (xs : List Samples) (line : Frames ℤ) (count clips : ℕ) → line.capacity ≡ taps.reach m → length line.items ≤ line.capacity → All (λ (y : Samples). length y ≡ taps.channels m) (frames_behind taps m line.items xs)
+        → EachThrough acts xs (frames_behind taps m line.items xs) (ready line count clips) (ready (through line xs) (count + length xs) (clips + clips_behind taps m line.items xs))
+    taps-through [] line count clips size within sides = rw (add-zero, add-zero, last-whole line.capacity line.items within) refl
+    taps-through (x ∷ xs) line count clips size within sides =
+        let next : Frames ℤ = through line (x ∷ []) in
+        let made : Given = made_behind line x in
+        let steps : behind taps m line.items (x ∷ xs) ≡ made ∷ behind taps m next.items xs = behind-step taps near m line.items xs x line.capacity within (omega arith) in
+        let frames : frames_behind taps m line.items (x ∷ xs) ≡ made.samples ∷ frames_behind taps m next.items xs = ap (map (λ (g : Given). g.samples)) steps in
+        let clipped : clips_behind taps m line.items (x ∷ xs) ≡ made.clips + clips_behind taps m next.items xs = ap (total (λ (g : Given). g.clips)) steps in
+        let each : All (λ (y : Samples). length y ≡ taps.channels m) (made.samples ∷ frames_behind taps m next.items xs) = subst (λ (l : List Samples). All (λ (y : Samples). length y ≡ taps.channels m) l) frames sides in
+        let room : length next.items ≤ next.capacity = let n = length-last line.capacity (line.items ++ x ∷ []) in omega arith in
+        let more = taps-through xs next (count + 1) (clips + made.clips) size room (All-tail (λ (y : Samples). length y ≡ taps.channels m) made.samples (frames_behind taps m next.items xs) each) in
+        let places : count + 1 + length xs ≡ count + length (x ∷ xs) = omega arith in
+        let sums : clips + made.clips + clips_behind taps m next.items xs ≡ clips + clips_behind taps m line.items (x ∷ xs) = omega (arith, clipped) in
+        let end : TapState M = ready (through line (x ∷ xs)) (count + length (x ∷ xs)) (clips + clips_behind taps m line.items (x ∷ xs)) in
+        let same : ready (through next xs) (count + 1 + length xs) (clips + made.clips + clips_behind taps m next.items xs) ≡ end =
+        ap (λ (n : ℕ). ready (through next xs) n (clips + made.clips + clips_behind taps m next.items xs)) places ∙ ap (λ (n : ℕ). ready (through next xs) (count + length (x ∷ xs)) n) sums
+        ∙ ap (λ (l : List Samples). ready (record { items = l; capacity = line.capacity; channels = line.channels }) (count + length (x ∷ xs)) (clips + clips_behind taps m line.items (x ∷ xs))) (last-first line.capacity line.items xs x) in
+        let whole : EachThrough acts (x ∷ xs) (made.samples ∷ frames_behind taps m next.items xs) (ready line count clips) end = (
+          ready next (count + 1) (clips + made.clips),
+          one-passed line count clips x size within (All-head (λ (y : Samples). length y ≡ taps.channels m) made.samples (frames_behind taps m next.items xs) each),
+          ready-dry next (count + 1) (clips + made.clips),
+          subst (λ (u : TapState M). EachThrough acts xs (frames_behind taps m next.items xs) (ready next (count + 1) (clips + made.clips)) u) same more,
+        ) in
+        subst (λ (l : List Samples). EachThrough acts (x ∷ xs) l (ready line count clips) end) (sym frames) whole
+
     -- a block of frames: the counters are added to once
     pub block-fed : (s : TapState M) (line : Frames ℤ) (n clips : ℕ) (input output : List ℤ) → s.arguments ≡ m → s.hand ≡ None → s.hand_clips ≡ 0 → s.tail ≡ 0 → s.ended ≡ false → s.given ≡ s.taken
         → s.line.capacity ≡ taps.reach m → length s.line.items ≤ s.line.capacity → n * taps.channels m ≤ length output
@@ -243,3 +274,23 @@ module _ {M : Type 0} (taps : Taps M) (near : IsNear taps) where
         left ∙ ap (λ (j : ℕ). ready line (s.taken + j) (s.clips + clips)) (sym many) ∙ ap (λ (j : ℕ). ready line (s.taken + length xs) (s.clips + j)) counted ∙ ap (λ (l : Frames ℤ). ready l (s.taken + length xs) (s.clips + clips_behind taps m s.line.items xs)) went in
         let start : s ≡ ready s.line s.taken s.clips = whole in
         rw (made, last) (subst (λ (u : TapState M). Fed acts u xs (frames_behind taps m s.line.items xs) (ready (through s.line xs) (s.taken + length xs) (s.clips + clips_behind taps m s.line.items xs))) (sym start) fed)
+
+    -- the same, each given before the next is taken
+    pub block-through : (s : TapState M) (line : Frames ℤ) (n clips : ℕ) (input output : List ℤ) → s.arguments ≡ m → s.hand ≡ None → s.hand_clips ≡ 0 → s.tail ≡ 0 → s.ended ≡ false → s.given ≡ s.taken
+        → s.line.capacity ≡ taps.reach m → length s.line.items ≤ s.line.capacity → n * taps.channels m ≤ length output
+        → pieces (taps.channels m) n output ≡ frames_behind taps m s.line.items (pieces (taps.channels m) n input) → clips ≡ clips_behind taps m s.line.items (pieces (taps.channels m) n input)
+        → line.items ≡ last_of s.line.capacity (s.line.items ++ pieces (taps.channels m) n input) → line.capacity ≡ s.line.capacity → line.channels ≡ s.line.channels
+        → EachThrough acts (pieces (taps.channels m) n input) (pieces (taps.channels m) n output) s (record s { line = line; taken = s.taken + n; given = s.given + n; clips = s.clips + clips })
+    block-through s line n clips input output e h k t over g size within long made counted items capacity channels =
+        let xs : List Samples = pieces (taps.channels m) n input in
+        let same : ◌≡◌ {A = Frames ℤ} (record { items = line.items; capacity = line.capacity; channels = line.channels }) (through s.line xs) = rw (items, capacity, channels) refl in
+        let went : line ≡ through s.line xs = same in
+        let sides : All (λ (y : Samples). length y ≡ taps.channels m) (frames_behind taps m s.line.items xs) = rw (← made) (pieces-sides (taps.channels m) n output long) in
+        let fed : EachThrough acts xs (frames_behind taps m s.line.items xs) (ready s.line s.taken s.clips) (ready (through s.line xs) (s.taken + length xs) (s.clips + clips_behind taps m s.line.items xs)) = taps-through xs s.line s.taken s.clips size within sides in
+        let many : length xs ≡ n = length-pieces (taps.channels m) n input in
+        let whole : ◌≡◌ {A = TapState M} (record { arguments = s.arguments; line = s.line; hand = s.hand; hand_clips = s.hand_clips; tail = s.tail; taken = s.taken; given = s.given; clips = s.clips; ended = s.ended }) (ready s.line s.taken s.clips) = rw (e, h, k, t, over, g) refl in
+        let left : ◌≡◌ {A = TapState M} (record { arguments = s.arguments; line = line; hand = s.hand; hand_clips = s.hand_clips; tail = s.tail; taken = s.taken + n; given = s.given + n; clips = s.clips + clips; ended = s.ended }) (ready line (s.taken + n) (s.clips + clips)) = rw (e, h, k, t, over, g) refl in
+        let last : ◌≡◌ {A = TapState M} (record { arguments = s.arguments; line = line; hand = s.hand; hand_clips = s.hand_clips; tail = s.tail; taken = s.taken + n; given = s.given + n; clips = s.clips + clips; ended = s.ended }) (ready (through s.line xs) (s.taken + length xs) (s.clips + clips_behind taps m s.line.items xs)) =
+        left ∙ ap (λ (j : ℕ). ready line (s.taken + j) (s.clips + clips)) (sym many) ∙ ap (λ (j : ℕ). ready line (s.taken + length xs) (s.clips + j)) counted ∙ ap (λ (l : Frames ℤ). ready l (s.taken + length xs) (s.clips + clips_behind taps m s.line.items xs)) went in
+        let start : s ≡ ready s.line s.taken s.clips = whole in
+        rw (made, last) (subst (λ (u : TapState M). EachThrough acts xs (frames_behind taps m s.line.items xs) u (ready (through s.line xs) (s.taken + length xs) (s.clips + clips_behind taps m s.line.items xs))) (sym start) fed)

@@ -1,12 +1,15 @@
 -- What a source holds, and the bytes that are still to come from it.
-use Rattle.std.specs.Prelude.{◌≡◌, ℕ, ◌+◌, ◌-◌, ◌^◌, ◌<◌, ◌≤◌, List, drop, length, take, Option, Some}
+use Rattle.std.specs.Prelude.{◌≡◌, ℕ, ◌+◌, ◌-◌, ◌^◌, ◌<◌, ◌≤◌, Bool, List, ◌++◌, drop, length, take, Option, Some}
 use Rattle.std.specs.Io.KnownBytes.{prepend_known}
+use Rattle.fx_io.specs.Moments.{Moment, came_short}
 use Rattle.fx_heads.specs.Known.{IfKnown}
 
--- bytes that the reader told and nobody took yet, and the reader
+-- bytes that the reader told and nobody took yet, the reader, and whether its last read failed or brought fewer bytes than were
+-- asked for
 pub record Held (R : Type 0) : Type 0 where
   pub bytes : List ℕ
   pub reader : R
+  pub short : Bool
 
 -- the bytes that are still to come, where they are known
 abbrev pub to_come : {R : Type 0} → (R → Option (List ℕ)) → Held R → Option (List ℕ)
@@ -43,3 +46,11 @@ pub record FallsShort {R : Type 0} (told : R → ℕ) (old : Held R) (new : R) (
   pub came : ℕ
   pub few : came < n
   pub tells : Tells told old new came
+
+-- The reader was asked once, with a writer in sight that had taken these bytes: what it told came behind the bytes that were held.
+pub record AsksBeside {R : Type 0} (asked : R → R → Moment → Type 0) (old new : Held R) (taken : Option (List ℕ)) : Type 0 where
+  pub moment : Moment
+  pub read : asked old.reader new.reader moment
+  pub brought : new.bytes ≡ old.bytes ++ moment.told
+  pub short : new.short ≡ came_short moment
+  pub seen : moment.taken ≡ taken

@@ -11,13 +11,14 @@ ghost use Rattle.fx_heads.specs.Source.{Takes};
 use super::fields::{AU_UNKNOWN, Format, HeadFields};
 use super::head::{FARTHEST, HeadFault, Kind};
 use super::source::Source;
+use byteorder::{BigEndian, ByteOrder};
 use fx_io::{ByteIn, Coding};
 
 fn word(bytes: &[u8], i: usize) -> u32
     requires { i + 4 ≤ length bytes.now }
     ensures { result ≡ word_at i bytes.now }
 {
-    u32::from_be_bytes([bytes[i], bytes[i + 1], bytes[i + 2], bytes[i + 3]])
+    BigEndian::read_u32(&bytes[i..i + 4])
 }
 
 fn coding_of(encoding: u32) -> Option<Coding>

@@ -1,21 +1,25 @@
 //! A reader with a buffer of its own.
 
-ghost use Rattle.std.specs.Prelude.{◌≡◌, ◌+◌, ◌-◌, ◌<◌, ◌≤◌, [], Some, IfOk, OnOk, OnErr, length, take, drop};
+ghost use Rattle.std.specs.Prelude.{◌≡◌, ◌+◌, ◌-◌, ◌<◌, ◌≤◌, [], true, false, Some, MatchBool, IfOk, OnOk, OnErr, length, take, drop};
 ghost use Rattle.fx_io.specs.Io.{CountsFailure};
-ghost use Rattle.fx_heads.specs.Source.{to_come, Stays, HoldsAll, HoldsFront, Takes, FallsShort};
+ghost use Rattle.fx_heads.specs.Source.{to_come, AsksBeside, Stays, HoldsAll, HoldsFront, Takes, FallsShort};
 ghost use Rattle.fx_heads.specs.Known.{IfKnown};
 
 use super::buffer::BUFFER_SIZE;
-use fx_io::{ByteIn, Failed};
+use fx_io::{ByteIn, ByteOut, Failed, ReadBeside};
 use std::marker::Model;
 
 /// A reader with a buffer of 4,096 bytes.
+///
+/// It remembers whether its last read brought fewer bytes than were asked for: then the reader may be slower than we are, and
+/// the next read may have to wait.
 #[derive(Drop)]
 pub struct Source<R> {
     reader: R,
     buffer: [u8; BUFFER_SIZE],
     start: usize,
     end: usize,
+    is_short: bool,
 }
 
 impl<R> Model for Source<R> {
@@ -25,7 +29,7 @@ impl<R> Model for Source<R> {
 
     ghost Value = { Held R };
 
-    ghost view = { λ s. record { bytes = take (s.end - s.start) (drop s.start s.buffer); reader = s.reader } };
+    ghost view = { λ s. record { bytes = take (s.end - s.start) (drop s.start s.buffer); reader = s.reader; short = s.is_short } };
 
     ghost invariant = { λ s. (s.start ≤ s.end) × (s.end ≤ BUFFER_SIZE) × (length s.buffer ≡ BUFFER_SIZE) };
 }
@@ -35,12 +39,14 @@ impl<R> Source<R> {
     pub fn new(reader: R) -> Source<R>
         ensures bytes { result.bytes ≡ [] }
         ensures reader { result.reader ≡ reader }
+        ensures short { result.short ≡ false }
     {
         Source {
             reader,
             buffer: [0; BUFFER_SIZE],
             start: 0,
             end: 0,
+            is_short: false,
         }
     }
 
@@ -53,6 +59,7 @@ impl<R> Source<R> {
             buffer: _,
             start: _,
             end: _,
+            is_short: _,
         } = self;
         reader
     }
@@ -64,6 +71,14 @@ impl<R> Source<R> {
         ensures most { result ≤ BUFFER_SIZE }
     {
         self.end - self.start
+    }
+
+    /// Did the last read fail, or bring fewer bytes than were asked for?
+    #[inline(always)]
+    pub fn came_short(&self) -> bool
+        ensures { result ≡ self.now.short }
+    {
+        self.is_short
     }
 
     /// The first bytes that are held.
@@ -83,19 +98,22 @@ impl<R> Source<R> {
         requires { n ≤ length self.old.bytes }
         ensures bytes { self.new.bytes ≡ drop n self.old.bytes }
         ensures reader { self.new.reader ≡ self.old.reader }
+        ensures short { self.new.short ≡ self.old.short }
     {
         self.start += n;
     }
 }
 
-impl<R: ByteIn> Source<R> {
-    // Moves what is held to the front of the buffer, and asks the reader once.
-    fn refill(&mut self) -> Result<usize, Failed>
+impl<R: ReadBeside> Source<R> {
+    /// Moves what is held to the front of the buffer, and asks the reader once, for as many bytes as there is room for, with the
+    /// writer in sight.
+    pub fn refill_beside<W: ByteOut>(&mut self, writer: &W) -> Result<usize, Failed>
         requires { length self.old.bytes < BUFFER_SIZE }
         ensures grows { IfOk result (λ n. length self.new.bytes ≡ length self.old.bytes + n) }
         ensures stays { OnOk result (Stays R.reads.rest self.old self.new) }
         ensures end { IfOk result (λ n. n ≡ 0 → HoldsAll R.reads.rest self.old self.new) }
         ensures err { OnErr result (self.new.bytes ≡ self.old.bytes) }
+        ensures asked { AsksBeside R.asked self.old self.new (W.writes.taken writer.now) }
         ensures told { Takes R.reads.told self.old self.new 0 }
         ensures failures { CountsFailure (R.reads.failures self.old.reader) (R.reads.failures self.new.reader) result }
     {
@@ -103,8 +121,35 @@ impl<R: ByteIn> Source<R> {
         self.buffer.copy_within(self.start..self.end, 0);
         self.start = 0;
         self.end = held;
-        let n = self.reader.read(&mut self.buffer[held..])?;
+        self.is_short = true;
+        let n = self.reader.read_beside(writer, &mut self.buffer[held..])?;
         self.end = held + n;
+        self.is_short = held + n < BUFFER_SIZE;
+        Ok(n)
+    }
+}
+
+impl<R: ByteIn> Source<R> {
+    /// Moves what is held to the front of the buffer, and asks the reader once, for as many bytes as there is room for.
+    fn refill(&mut self) -> Result<usize, Failed>
+        requires { length self.old.bytes < BUFFER_SIZE }
+        ensures grows { IfOk result (λ n. length self.new.bytes ≡ length self.old.bytes + n) }
+        ensures stays { OnOk result (Stays R.reads.rest self.old self.new) }
+        ensures end { IfOk result (λ n. n ≡ 0 → HoldsAll R.reads.rest self.old self.new) }
+        ensures err { OnErr result (self.new.bytes ≡ self.old.bytes) }
+        ensures short { OnOk result (MatchBool self.new.short (length self.new.bytes < BUFFER_SIZE) (length self.new.bytes ≡ BUFFER_SIZE)) }
+        ensures failed { OnErr result (self.new.short ≡ true) }
+        ensures told { Takes R.reads.told self.old self.new 0 }
+        ensures failures { CountsFailure (R.reads.failures self.old.reader) (R.reads.failures self.new.reader) result }
+    {
+        let kept = self.end - self.start;
+        self.buffer.copy_within(self.start..self.end, 0);
+        self.start = 0;
+        self.end = kept;
+        self.is_short = true;
+        let n = self.reader.read(&mut self.buffer[kept..])?;
+        self.end = kept + n;
+        self.is_short = self.end < BUFFER_SIZE;
         Ok(n)
     }
 

@@ -11,6 +11,7 @@ ghost use Rattle.fx_heads.specs.Reads.{Reads, Refuses, Fails};
 use super::fields::{EXTENSIBLE, Format, HeadFields, PCM_GUID, PLAIN, WAV_UNKNOWN};
 use super::head::{FARTHEST, HeadFault, Kind};
 use super::source::Source;
+use byteorder::{ByteOrder, LittleEndian};
 use fx_io::{ByteIn, Coding};
 
 // The farthest place at which a chunk may begin.
@@ -38,14 +39,14 @@ fn half(bytes: &[u8], i: usize) -> u16
     requires { i + 2 ≤ length bytes.now }
     ensures { result ≡ half_at i bytes.now }
 {
-    u16::from_le_bytes([bytes[i], bytes[i + 1]])
+    LittleEndian::read_u16(&bytes[i..i + 2])
 }
 
 fn long(bytes: &[u8], i: usize) -> u32
     requires { i + 4 ≤ length bytes.now }
     ensures { result ≡ long_at i bytes.now }
 {
-    u32::from_le_bytes([bytes[i], bytes[i + 1], bytes[i + 2], bytes[i + 3]])
+    LittleEndian::read_u32(&bytes[i..i + 4])
 }
 
 fn coding_of(bits: u16) -> Option<Coding>

@@ -6,6 +6,7 @@ ghost use Rattle.fx_heads.specs.Writing.{known_size, format_fields, format_body,
 
 use super::fields::{AU_UNKNOWN, EXTENSIBLE, PCM_GUID, PLAIN, WAV_UNKNOWN};
 use super::head::Kind;
+use byteorder::{BigEndian, ByteOrder, LittleEndian};
 use fx_io::Coding;
 use fx_io::copies::copy_part;
 use std::marker::Model;
@@ -57,6 +58,26 @@ impl HeadBytes {
         copy_part(&mut self.bytes, self.len, bytes, 0, bytes.len());
         self.len += bytes.len();
     }
+
+    // Puts a number of 16 bits behind them.
+    fn put_u16<B: ByteOrder>(&mut self, number: u16)
+        requires { length self.old + 2 ≤ MOST_HEAD }
+        ensures { self.new ≡ self.old ++ B.bytes_of 2 number }
+    {
+        let mut bytes = [0; 2];
+        B::write_u16(&mut bytes, number);
+        self.put(&bytes);
+    }
+
+    // Puts a number of 32 bits behind them.
+    fn put_u32<B: ByteOrder>(&mut self, number: u32)
+        requires { length self.old + 4 ≤ MOST_HEAD }
+        ensures { self.new ≡ self.old ++ B.bytes_of 4 number }
+    {
+        let mut bytes = [0; 4];
+        B::write_u32(&mut bytes, number);
+        self.put(&bytes);
+    }
 }
 
 // The bytes of sound, where they are known and can be written.
@@ -77,12 +98,12 @@ fn put_format(body: &mut HeadBytes, tag: u16, rate: u32, channels: usize, width:
     ensures { body.new ≡ format_fields tag rate channels width }
 {
     let align = channels * width;
-    body.put(&tag.to_le_bytes());
-    body.put(&(channels as u16).to_le_bytes());
-    body.put(&rate.to_le_bytes());
-    body.put(&rate.saturating_mul(align as u32).to_le_bytes());
-    body.put(&(align as u16).to_le_bytes());
-    body.put(&(8 * width as u16).to_le_bytes());
+    body.put_u16::<LittleEndian>(tag);
+    body.put_u16::<LittleEndian>(channels as u16);
+    body.put_u32::<LittleEndian>(rate);
+    body.put_u32::<LittleEndian>(rate.saturating_mul(align as u32));
+    body.put_u16::<LittleEndian>(align as u16);
+    body.put_u16::<LittleEndian>(8 * width as u16);
 }
 
 // The body of the format chunk.
@@ -98,9 +119,9 @@ fn format_bytes(rate: u32, channels: usize, width: usize) -> HeadBytes
         return body;
     }
     put_format(&mut body, EXTENSIBLE, rate, channels, width);
-    body.put(&22u16.to_le_bytes());
-    body.put(&(8 * width as u16).to_le_bytes());
-    body.put(&0u32.to_le_bytes());
+    body.put_u16::<LittleEndian>(22);
+    body.put_u16::<LittleEndian>(8 * width as u16);
+    body.put_u32::<LittleEndian>(0);
     body.put(&PCM_GUID);
     body
 }
@@ -117,13 +138,13 @@ fn wav_bytes(format: &[u8], size: Option<u32>) -> HeadBytes
     };
     let mut head = HeadBytes::new();
     head.put(b"RIFF");
-    head.put(&riff_size.to_le_bytes());
+    head.put_u32::<LittleEndian>(riff_size);
     head.put(b"WAVE");
     head.put(b"fmt ");
-    head.put(&(format.len() as u32).to_le_bytes());
+    head.put_u32::<LittleEndian>(format.len() as u32);
     head.put(format);
     head.put(b"data");
-    head.put(&data_size.to_le_bytes());
+    head.put_u32::<LittleEndian>(data_size);
     head
 }
 
@@ -134,12 +155,12 @@ fn au_bytes(rate: u32, channels: usize, width: usize, size: Option<u32>) -> Head
 {
     let mut head = HeadBytes::new();
     head.put(b".snd");
-    head.put(&28u32.to_be_bytes());
-    head.put(&size.unwrap_or(AU_UNKNOWN).to_be_bytes());
-    head.put(&(width as u32 + 1).to_be_bytes());
-    head.put(&rate.to_be_bytes());
-    head.put(&(channels as u32).to_be_bytes());
-    head.put(&0u32.to_be_bytes());
+    head.put_u32::<BigEndian>(28);
+    head.put_u32::<BigEndian>(size.unwrap_or(AU_UNKNOWN));
+    head.put_u32::<BigEndian>(width as u32 + 1);
+    head.put_u32::<BigEndian>(rate);
+    head.put_u32::<BigEndian>(channels as u32);
+    head.put_u32::<BigEndian>(0);
     head
 }
 

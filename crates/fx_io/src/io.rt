@@ -3,6 +3,7 @@
 ghost use Rattle.std.specs.Prelude.{◌≡◌, ◌<◌, ◌≤◌, ◌||◌, is_ok, IfErr, IfOk, IfSome, Some, length, take};
 ghost use Rattle.std.specs.Io.KnownBytes.{Consumes, IsAtEnd, Keeps, WriteAppends};
 ghost use Rattle.fx_io.specs.Io.{ByteReader, ByteWriter, CountsBytes, CountsFailure, Rewinds, flushed_after};
+ghost use Rattle.fx_io.specs.Moments.{Moment, moment_of};
 
 use thiserror::Error;
 
@@ -51,6 +52,37 @@ pub trait ByteOut {
         ensures bytes { Keeps (writes.taken self.old) (writes.taken self.new) }
         ensures flushed { writes.flushed self.new ≡ (is_ok result || writes.flushed self.old) }
         ensures failures { CountsFailure (writes.failures self.old) (writes.failures self.new) result };
+}
+
+/// A reader that is asked with the writer of a run in sight.
+///
+/// Every `ByteIn` is one, and looks at nothing. One with an implementation of its own says in `asked` what it saw at a read. So
+/// what a run promises of the moment of a read is said of each read of such a reader.
+pub trait ReadBeside {
+    // What is still to be told, and what was counted.
+    ghost reads: { ByteReader Self };
+
+    // One call took the reader from the first to the second, and had this moment.
+    ghost asked: { Self → Self → Moment → Type 0 };
+
+    /// As `read` of `ByteIn`. The writer is not changed.
+    fn read_beside<W: ByteOut>(&mut self, writer: &W, buffer: &mut [u8]) -> Result<usize, Failed>
+        ensures bound { IfOk result (λ n. n ≤ length buffer.new) }
+        ensures bytes { IfOk result (λ n. Consumes (reads.rest self.old) (reads.rest self.new) (take n buffer.new)) }
+        ensures end { IfOk result (λ n. n ≡ 0 → 0 < length buffer.new → IsAtEnd (reads.rest self.new)) }
+        ensures told { CountsBytes (reads.told self.old) (reads.told self.new) result }
+        ensures failures { CountsFailure (reads.failures self.old) (reads.failures self.new) result }
+        ensures asked { asked self.old self.new (moment_of result buffer.new (W.writes.taken writer.now)) };
+}
+
+impl<R: ByteIn> ReadBeside for R {
+    ghost reads = { R.reads };
+
+    ghost asked = { λ _ _ _. Unit {0} };
+
+    fn read_beside<W: ByteOut>(&mut self, _writer: &W, buffer: &mut [u8]) -> Result<usize, Failed> {
+        self.read(buffer)
+    }
 }
 
 /// A writer that can go back to its first byte.

@@ -12,6 +12,6 @@ pub mod tape;
 pub use coding::Coding;
 pub use counted::Counted;
 pub use device::Device;
-pub use io::{ByteIn, ByteOut, Failed, Rewind};
+pub use io::{ByteIn, ByteOut, Failed, ReadBeside, Rewind};
 pub use sink::Sink;
 pub use tape::Tape;

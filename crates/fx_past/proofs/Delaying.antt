@@ -5,7 +5,7 @@ use Rattle.std.specs.Int.{w32}
 use Rattle.std.specs.List.{All}
 use borrow.Author.Tests.{ltb-true, ltb-false}
 use Rattle.std.proofs.lemmas.Bool.{cases_lt, le-leb, lt-leb}
-use Rattle.std.proofs.lemmas.List.{drop-drop, drop_at, drop_more, get_or-append_right, get_or_append_left, get_or-replicate, length-replicate, take_all, take_at}
+use Rattle.std.proofs.lemmas.List.{drop-drop, drop_at, drop_more, get_or-append_right, get_or_append_left, get_or-replicate, length-replicate, take-append-le, take_all, take_at}
 use Rattle.std.proofs.lemmas.List.Elements.{All-append, All-cons, All-nil}
 use Rattle.std.proofs.Math.Nat.{add-mul}
 use Rattle.fx_step.specs.Frame.{Samples, silence}
@@ -155,3 +155,17 @@ even-all delays line width n input out all is same wide room written =
 
 pub even-line : (line : Frames ℤ) (ch width n : ℕ) (input : List ℤ) (items : List Samples) → line.channels ≡ ch → width ≡ ch → n * ch ≤ length input → items ≡ pushed_all line (pieces line.channels n (take (n * width) input)) → items ≡ last_of line.capacity (line.items ++ pieces ch n input)
 even-line line ch width n input items same wide room is = rw (same, wide, pieces-take ch n input room) at is
+
+-- so many of the oldest frames of a full line are what is made of as many that come
+pub even-exchanged : (delays : List ℕ) (line : Frames ℤ) (n : ℕ) (input out : List ℤ) → ((k : ℕ) → k < length delays → slice_index delays k ≡ line.capacity) → IsLine w32 line → line.channels ≡ length delays → n * length delays ≤ length input
+    → length line.items ≡ line.capacity → n ≤ length line.items → pieces line.channels n out ≡ take n line.items
+    → pieces (length delays) n out ≡ frames_behind delay_taps delays line.items (pieces (length delays) n input)
+even-exchanged delays line n input out all is same room full few written =
+    let ch : ℕ = length delays in
+    let none : line.capacity - length line.items ≡ 0 = omega arith in
+    let made : pieces ch n out ≡ take n line.items = rw same at written in
+    let many : length (pieces ch n input) ≡ n = length-pieces ch n input in
+    let sides : All (λ (f : Samples). length f ≡ ch) line.items = λ k d h. (is.frames k d h).count ∙ same in
+    let meant = even-meant delays line.capacity all line.items (pieces ch n input) is.within sides (pieces-sides ch n input room) in
+    let behind : take (length (pieces ch n input)) (line.items ++ pieces ch n input) ≡ frames_behind delay_taps delays line.items (pieces ch n input) = rw none at meant in
+    made ∙ sym (take-append-le n line.items (pieces ch n input) few) ∙ ap (λ m. take m (line.items ++ pieces ch n input)) (sym many) ∙ behind

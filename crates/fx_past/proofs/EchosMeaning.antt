@@ -37,7 +37,8 @@ sum-same f g (suc n) h =
     let last = h n (omega arith) in
     rw (more, last) refl
 
-read-table : {X : Type 0} (f : ℕ → X) (from count k : ℕ) (d : X) → k < count → get_or (tabulate f from count) k d ≡ f (from + k)
+-- one of a table
+pub read-table : {X : Type 0} (f : ℕ → X) (from count k : ℕ) (d : X) → k < count → get_or (tabulate f from count) k d ≡ f (from + k)
 read-table f from zero k d h = absurd (omega arith)
 read-table f from (suc count) zero d h = rw add-zero refl
 read-table f from (suc count) (suc k) d h =

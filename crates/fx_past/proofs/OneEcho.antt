@@ -1,24 +1,33 @@
 -- One echo, as late as the line has places: the frame that it needs is the one that leaves the line.
-use Rattle.std.proofs.Common.{◌≡◌, ◌-◌, ◌<◌, ◌≤◌, ℕ, ℤ, pos, ◌+ℤ◌, ◌*ℤ◌, Bool, true, false, cond, List, [], ◌∷◌, ◌++◌, length, map, drop, get_or, refl, sym, ap, ◌∙◌, arith, zero-add}
+use Rattle.std.proofs.Common.{◌≡◌, ◌+◌, ◌*◌, take, ◌-◌, ◌<◌, ◌≤◌, ℕ, ℤ, pos, ◌+ℤ◌, ◌*ℤ◌, Bool, true, false, cond, List, [], ◌∷◌, ◌++◌, length, map, drop, get_or, refl, sym, ap, ◌∙◌, arith, zero-add}
 use Rattle.std.specs.Prelude.{nat_le, nat_lt}
 use Rattle.std.specs.Int.{w32}
 use borrow.Author.Tests.{ltb-true, ltb-false}
 use Rattle.std.proofs.lemmas.Bool.{le-leb, lt-leb}
 use Rattle.std.proofs.lemmas.Int.{ints}
+use Rattle.std.proofs.lemmas.List.{get_or_append_left, get_or-take}
 use Rattle.fx_fixed.specs.Extents.{greatest, tap_delay}
 use Rattle.fx_fixed.specs.Rounding.{rounding}
 use Rattle.fx_step.specs.Frame.{Samples, silence}
 use Rattle.fx_ring.specs.Line.{Frames, IsLine}
-use Rattle.fx_lists.specs.Lists.{tabulate}
-use Rattle.fx_lists.proofs.Tabulate.{tabulate-same}
-use Rattle.fx_past.specs.Echo.{EchoArguments, echoed_sample, echoes_of}
+use Rattle.fx_lists.specs.Lists.{pieces, tabulate}
+use Rattle.fx_lists.specs.Rounded.{clips_of, samples_of}
+use Rattle.fx_lists.proofs.ChannelPlaces.{within-frames}
+use Rattle.fx_lists.proofs.Pieces.{get_or-piece, length-pieces}
+use Rattle.fx_lists.proofs.Tabulate.{length-tabulate, tabulate-same}
+use Rattle.fx_past.specs.Echo.{EchoArguments, echo_sum, echoed_sample, echoes_of}
+use Rattle.fx_past.specs.EchoState.{echo_taps}
 use Rattle.fx_sums.specs.Weights.{SoundsAs, Weights}
-use Rattle.fx_past.specs.EchoWeights.{weighed_echoes}
+use Rattle.fx_past.specs.EchoWeights.{weighed, weighed_echoes}
 use Rattle.fx_frame.specs.Past.{Past, sample_before}
+use Rattle.fx_frame.specs.Tapped.{clips_behind, frames_behind}
+use Rattle.fx_frame.proofs.Tables.{map-tabulate}
 use Rattle.fx_lists.proofs.Places.{quiet-sample}
 use Rattle.fx_past.proofs.EchoLaws.{sample-now}
 use Rattle.fx_sums.proofs.WeightLaws.{second-on}
+use Rattle.fx_past.proofs.EchoPieces.{coming-sample, piece-clips, piece-frames}
 use Rattle.fx_past.proofs.EchoWeights.{small-sample}
+use Rattle.fx_past.proofs.EchosMeaning.{read-table}
 
 -- a sample of the frame that leaves the line, or of silence
 late-one : (line : Frames ℤ) (x : Samples) (k : ℕ) (b : Bool) → IsLine w32 line → nat_lt (length line.items) line.capacity ≡ b
@@ -56,3 +65,46 @@ one-echo a w line x early n sounds one is far wide left =
     ∙ ap (λ z. rounding ((get_or ws 0 (pos 0) *ℤ past 0 k) +ℤ z) w.denominator) (ap (λ z. get_or ws 1 (pos 0) *ℤ z) before ∙ late-echo a.echoes ws past k line.capacity one far)
     ∙ small-sample a w past k sounds in
     rw wide (tabulate-same (λ k. rounding ((get_or ws 0 (pos 0) *ℤ get_or x k (pos 0)) +ℤ (get_or ws 1 (pos 0) *ℤ get_or early k (pos 0))) w.denominator) (echoed_sample a past) 0 0 a.channels (λ k l. rw zero-add (each k)))
+
+-- a sample of a frame that leaves a full line
+gone-sample : (line : Frames ℤ) (coming : List Samples) (early : List ℤ) (n i k : ℕ) → length line.items ≡ line.capacity → n ≤ length line.items → i < n → k < line.channels → pieces line.channels n early ≡ take n line.items
+    → get_or early (i * line.channels + k) (pos 0) ≡ sample_before (line.items ++ coming) (length line.items + i) line.capacity k
+gone-sample line coming early n i k full few lt within e =
+    let there : nat_le line.capacity (length line.items + i) ≡ true = le-leb line.capacity (length line.items + i) (omega arith) in
+    let at : length line.items + i - line.capacity ≡ i = omega arith in
+    let inside : i < length line.items = omega arith in
+    let frame : get_or (pieces line.channels n early) i [] ≡ get_or (line.items ++ coming) i [] = ap (λ (ps : List Samples). get_or ps i []) e ∙ get_or-take n line.items i [] lt ∙ sym (get_or_append_left line.items coming [] i inside) in
+    rw (there, at) (sym (get_or-piece line.channels n early i k (pos 0) lt within) ∙ ap (λ (f : Samples). get_or f k (pos 0)) frame)
+
+-- so many frames of one echo: those that it needs are those that leave a full line
+module _ (a : EchoArguments) (w : Weights) (line : Frames ℤ) (came early : List ℤ) (n : ℕ) (sounds : SoundsAs a.gain_in a.gain_out a.echoes w) (one : length a.echoes ≡ 1) (far : line.capacity ≡ greatest (map tap_delay a.echoes)) (same : line.channels ≡ a.channels)
+    (full : length line.items ≡ line.capacity) (few : n ≤ length line.items) (gone : pieces line.channels n early ≡ take n line.items) (long : length early ≡ n * a.channels) where
+  -- a sample and the one that leaves the line, each times its weight
+  abbrev both : ℕ → ℤ
+  both k = (get_or w.weights 0 (pos 0) *ℤ get_or came k (pos 0)) +ℤ (get_or w.weights 1 (pos 0) *ℤ get_or early k (pos 0))
+
+  sums-long : length (tabulate both 0 (n * a.channels)) ≡ n * a.channels
+  sums-long = length-tabulate both 0 (n * a.channels)
+
+  rounds : tabulate (λ k. rounding (both k) w.denominator) 0 (length early) ≡ map (λ z. rounding z w.denominator) (tabulate both 0 (n * a.channels))
+  rounds = ap (tabulate (λ k. rounding (both k) w.denominator) 0) long ∙ sym (map-tabulate (λ z. rounding z w.denominator) both 0 (n * a.channels))
+
+  sum-is : (i k : ℕ) → i < n → k < a.channels → get_or (tabulate both 0 (n * a.channels)) (i * a.channels + k) (pos 0) ≡ echo_sum (weighed a w.weights) (sample_before (line.items ++ pieces a.channels n came) (length line.items + i)) k
+  sum-is i k lt within =
+      let at : ℕ = i * a.channels + k in
+      let past : Past = sample_before (line.items ++ pieces a.channels n came) (length line.items + i) in
+      let ws : List ℤ = w.weights in
+      let now : get_or came at (pos 0) ≡ past 0 k = sym (coming-sample a.channels n i k line.items came lt within) in
+      let left : get_or early at (pos 0) ≡ past line.capacity k = ap (λ m. get_or early (i * m + k) (pos 0)) (sym same) ∙ gone-sample line (pieces a.channels n came) early n i k full few lt (omega (arith, within, same)) gone in
+      read-table both 0 (n * a.channels) at (pos 0) (within-frames a.channels k i n within lt)
+      ∙ ap both (zero-add at)
+      ∙ ap (λ z. (get_or ws 0 (pos 0) *ℤ z) +ℤ (get_or ws 1 (pos 0) *ℤ get_or early at (pos 0))) now
+      ∙ ap (λ z. (get_or ws 0 (pos 0) *ℤ past 0 k) +ℤ z) (ap (λ z. get_or ws 1 (pos 0) *ℤ z) left ∙ late-echo a.echoes ws past k line.capacity one far)
+
+  pub group-frames : (out : List ℤ) → out ≡ samples_of (tabulate (λ k. rounding (both k) w.denominator) 0 (length early)) → pieces a.channels n out ≡ frames_behind echo_taps a line.items (pieces a.channels n came)
+  group-frames out is =
+      piece-frames a w sounds line.items (pieces a.channels n came) n (tabulate both 0 (n * a.channels)) (length-pieces a.channels n came) sums-long sum-is out (is ∙ ap samples_of rounds)
+
+  pub group-clips : (clips : ℕ) → clips ≡ clips_of (tabulate (λ k. rounding (both k) w.denominator) 0 (length early)) → clips ≡ clips_behind echo_taps a line.items (pieces a.channels n came)
+  group-clips clips is =
+      piece-clips a w sounds line.items (pieces a.channels n came) n (tabulate both 0 (n * a.channels)) (length-pieces a.channels n came) sums-long sum-is clips (is ∙ ap clips_of rounds)

@@ -1,5 +1,5 @@
 //! The effect `delay` of sox(1): each channel comes later by its own number of frames.
-ghost use Rattle.std.specs.Prelude.{◌≡◌, ◌<◌, ◌≤◌, ◌⊎◌, nat_lt, if◌then◌else◌, ◌-◌, ◌*◌, ◌^◌, ◌++◌, ◌∷◌, [], ℕ, List, true, length, drop, take, replicate, slice_index, slice_index_or, pos, Err, IfOk, MatchResult};
+ghost use Rattle.std.specs.Prelude.{◌≡◌, ◌<◌, ◌≤◌, ◌⊎◌, nat_lt, if◌then◌else◌, ◌-◌, ◌*◌, ◌^◌, ◌++◌, ◌∷◌, [], ℕ, List, true, false, length, drop, take, replicate, slice_index, slice_index_or, pos, Err, IfOk, MatchResult};
 ghost use Rattle.fx_fixed.specs.Extents.{greatest};
 ghost use Rattle.fx_step.specs.Frame.{IsFrame, silence};
 ghost use Rattle.fx_ring.specs.Line.{pushed, pushed_all};
@@ -15,7 +15,10 @@ ghost use Rattle.std.proofs.Common.{zero-le};
 pub mod words;
 
 use crate::echo::SAMPLES_OF_PIECE;
-use crate::tapped::{Tapped, Tapping, TapsMany, sample, tap_and_push, tap_by_frames};
+use crate::tapped::{
+    SAMPLES_OF_GROUP, Tapped, Tapping, TapsMany, sample, tap_and_push, tap_by_frames,
+    tap_over_by_frames,
+};
 use fx_fixed::inner::longest;
 use fx_frame::{Frame, Line, ThawFault, WideFrame};
 use std::alloc::{AllocError, Global};
@@ -195,6 +198,32 @@ pub(crate) fn delay_over(line: &mut Line, samples: &mut [i32])
     }
 }
 
+/// Writes the frames that came as many frames before as the line has places over so many, which go into the line, where each
+/// delay is so long and the line has them all. The frames that came then stand in `room`. Else it answers false, and nothing changes.
+fn exchange_evenly(
+    delays: &[u64],
+    line: &mut Line,
+    samples: &mut [i32],
+    count: usize,
+    room: &mut [i32],
+) -> bool
+    requires channels { line.old.channels ≡ length delays.now }
+    requires samples { length samples.old ≡ count * length delays.now }
+    requires room { length room.old ≡ length samples.old }
+    ensures kept { result ≡ false → (line.new ≡ line.old) × (samples.new ≡ samples.old) }
+    ensures frames { result ≡ true → pieces (length delays.now) count samples.new ≡ frames_behind delay_taps delays.now line.old.items (pieces (length delays.now) count samples.old) }
+    ensures line { result ≡ true → line.new.items ≡ last_of line.old.capacity (line.old.items ++ pieces (length delays.now) count samples.old) }
+    ensures line_capacity { line.new.capacity ≡ line.old.capacity }
+    ensures line_channels { line.new.channels ≡ line.old.channels }
+    ensures len { length samples.new ≡ length samples.old }
+{
+    let _held = line.len();
+    if all_are(delays, line.capacity() as u64) {
+        return line.exchange_frames(samples, count, room);
+    }
+    false
+}
+
 /// The fewest frames of a piece: fewer take longer at once than one at a time.
 const FEWEST_OF_PIECE: usize = 8;
 
@@ -291,5 +320,20 @@ impl TapsMany for Delays {
             return 0;
         }
         tap_and_push(self, line, samples)
+    }
+
+    fn tap_frames(&self, line: &mut Line, samples: &mut [i32], count: usize) -> u64 {
+        let mut places = [0; SAMPLES_OF_GROUP];
+        let came = &mut places[..samples.len()];
+        if exchange_evenly(&self.delays, line, samples, count, came) {
+            return 0;
+        }
+        if count > frames_of_piece(&self.delays) {
+            return tap_over_by_frames(self, line, samples, count);
+        }
+        came.copy_from_slice(samples);
+        delay_piece(&self.delays, line, came, count, samples);
+        line.push_frames(came, count);
+        0
     }
 }

@@ -13,14 +13,17 @@ ghost use Rattle.fx_past.specs.EchoState.{echo_acts, echo_taps};
 ghost use Rattle.fx_sums.specs.Weights.{SoundsAs};
 ghost use Rattle.fx_past.specs.EchoWeights.{weighed};
 ghost use Rattle.fx_past.specs.Near.{echoes-near};
-ghost use Rattle.fx_frame.specs.Tapped.{IsTapState, TapState, clips_behind, frames_behind};
+ghost use Rattle.fx_frame.specs.Tapped.{IsTapState, TapState, clips_behind, frames_behind, last_of};
 ghost use Rattle.fx_frame.specs.Past.{sample_before};
 
 pub mod words;
 
 use crate::delay::delay_over;
 use crate::sums::{add_scaled, round_sums, rounded_sums, sums_into};
-use crate::tapped::{Tapped, Tapping, TapsMany, sample, tap_and_push, tap_by_frames};
+use crate::tapped::{
+    SAMPLES_OF_GROUP, Tapped, Tapping, TapsMany, sample, tap_and_push, tap_by_frames,
+    tap_over_by_frames,
+};
 use fx_fixed::inner::longest_tap;
 use fx_fixed::{Gain, UNIT};
 use fx_frame::{Frame, Line, ThawFault, WideFrame};
@@ -425,6 +428,34 @@ impl PreparedEcho {
     }
 }
 
+impl PreparedEcho {
+    /// What `tap_frames` does where there is one echo and its weights are small. The frames that it needs are those which leave
+    /// the line.
+    fn group_over(&self, small: &Small, line: &mut Line, samples: &mut [i32], count: usize) -> u64
+        requires sounds { SoundsAs self.now.gain_in self.now.gain_out self.now.echoes small.now }
+        requires one { length self.now.echoes ≡ 1 }
+        requires channels { line.old.channels ≡ self.now.channels }
+        requires capacity { line.old.capacity ≡ greatest (map tap_delay self.now.echoes) }
+        requires few { count ≤ 2 ^ 56 }
+        requires group { length samples.old ≤ 64 }
+        requires samples { length samples.old ≡ count * self.now.channels }
+        ensures frames { pieces self.now.channels count samples.new ≡ frames_behind echo_taps self.now line.old.items (pieces self.now.channels count samples.old) }
+        ensures clips { result ≡ clips_behind echo_taps self.now line.old.items (pieces self.now.channels count samples.old) }
+        ensures few { result ≤ count * 16 }
+        ensures line { line.new.items ≡ last_of line.old.capacity (line.old.items ++ pieces self.now.channels count samples.old) }
+        ensures line_capacity { line.new.capacity ≡ line.old.capacity }
+        ensures line_channels { line.new.channels ≡ line.old.channels }
+    {
+        let _held = line.len();
+        let mut places = [0; SAMPLES_OF_GROUP];
+        let came = &mut places[..samples.len()];
+        if line.exchange_frames(samples, count, came) {
+            return one_echo_over(small, came, samples);
+        }
+        tap_over_by_frames(self, line, samples, count)
+    }
+}
+
 impl TapsMany for PreparedEcho {
     fn tap_many(&self, line: &mut Line, input: &[i32], output: &mut [i32], count: usize) -> u64 {
         let Some(small) = &self.small else {
@@ -445,6 +476,15 @@ impl TapsMany for PreparedEcho {
             done += now;
         }
         clips
+    }
+
+    fn tap_frames(&self, line: &mut Line, samples: &mut [i32], count: usize) -> u64 {
+        if let Some(small) = &self.small {
+            if self.echoes.len() == 1 {
+                return self.group_over(small, line, samples, count);
+            }
+        }
+        tap_over_by_frames(self, line, samples, count)
     }
 
     #[inline(always)]

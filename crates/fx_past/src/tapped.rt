@@ -1,5 +1,5 @@
 //! Effects that make each frame of that frame and of frames at fixed distances before it: a line, and a tail after the end.
-ghost use Rattle.std.specs.Prelude.{◌≡◌, ◌↔◌, true, ◌<◌, ◌≤◌, ◌*◌, ◌^◌, ◌++◌, ◌∷◌, [], None, drop, length, Err, IfOk, MatchResult};
+ghost use Rattle.std.specs.Prelude.{◌≡◌, ◌↔◌, ◌+◌, true, false, ◌<◌, ◌≤◌, ◌*◌, ◌^◌, ◌++◌, ◌∷◌, [], None, drop, length, Err, IfOk, MatchResult};
 ghost use Rattle.fx_ring.specs.Line.{pushed};
 ghost use Rattle.fx_lists.specs.Lists.{pieces};
 ghost use Rattle.fx_step.specs.Stage.{Freezes, Gave, IsNew};
@@ -89,6 +89,25 @@ pub trait TapsMany: Tapping {
         ensures line_channels { line.new.channels ≡ line.old.channels }
     {
         tap_and_push(self, line, samples)
+    }
+
+    /// Makes so many frames of those of a group, which come behind those of the line, in their places, and counts their clips.
+    /// They go through the line.
+    fn tap_frames(&self, line: &mut Line, samples: &mut [i32], count: usize) -> u64
+        requires channels { line.old.channels ≡ Self.taps.channels self.now }
+        requires capacity { line.old.capacity ≡ Self.taps.reach self.now }
+        requires few { count ≤ 2 ^ 56 }
+        requires group { length samples.old ≤ 64 }
+        requires samples { length samples.old ≡ count * Self.taps.channels self.now }
+        ensures frames { pieces (Self.taps.channels self.now) count samples.new ≡ frames_behind Self.taps self.now line.old.items (pieces (Self.taps.channels self.now) count samples.old) }
+        ensures clips { result ≡ clips_behind Self.taps self.now line.old.items (pieces (Self.taps.channels self.now) count samples.old) }
+        ensures few { result ≤ count * Self.taps.most_clips self.now }
+        ensures small { result ≤ 16 * count }
+        ensures line { line.new.items ≡ last_of line.old.capacity (line.old.items ++ pieces (Self.taps.channels self.now) count samples.old) }
+        ensures line_capacity { line.new.capacity ≡ line.old.capacity }
+        ensures line_channels { line.new.channels ≡ line.old.channels }
+    {
+        tap_over_by_frames(self, line, samples, count)
     }
 }
 
@@ -216,6 +235,83 @@ pub fn tap_by_frames<T: Tapping>(
         clips += tapping.tap_into(line, frame, &mut output[at..at + channels]);
         push_samples(line, frame);
         at += channels;
+    }
+    clips
+}
+
+/// What `tap_frames` does, for any such effect and any number of frames, one frame at a time.
+pub fn tap_over_by_frames<T: Tapping>(
+    tapping: &T,
+    line: &mut Line,
+    samples: &mut [i32],
+    count: usize,
+) -> u64
+    requires channels { line.old.channels ≡ T.taps.channels tapping.now }
+    requires capacity { line.old.capacity ≡ T.taps.reach tapping.now }
+    requires few { count ≤ 2 ^ 56 }
+    requires samples { length samples.old ≡ count * T.taps.channels tapping.now }
+    ensures frames { pieces (T.taps.channels tapping.now) count samples.new ≡ frames_behind T.taps tapping.now line.old.items (pieces (T.taps.channels tapping.now) count samples.old) }
+    ensures clips { result ≡ clips_behind T.taps tapping.now line.old.items (pieces (T.taps.channels tapping.now) count samples.old) }
+    ensures few { result ≤ count * T.taps.most_clips tapping.now }
+    ensures small { result ≤ 16 * count }
+    ensures line { line.new.items ≡ last_of line.old.capacity (line.old.items ++ pieces (T.taps.channels tapping.now) count samples.old) }
+    ensures line_capacity { line.new.capacity ≡ line.old.capacity }
+    ensures line_channels { line.new.channels ≡ line.old.channels }
+{
+    let channels = tapping.channels();
+    let _held = line.len();
+    let mut from = 0;
+    let mut clips = 0;
+    'frames: for _turn in 0..count {
+        clips += tap_and_push(tapping, line, &mut samples[from..from + channels]);
+        from += channels;
+    }
+    clips
+}
+
+/// The most samples of a group: frames that are exchanged with the line at once. The room for them is cleared each time, so it
+/// is small.
+pub(crate) const SAMPLES_OF_GROUP: usize = 64;
+
+/// The most frames of a group.
+fn frames_of_group(channels: usize) -> usize
+    requires { (1 ≤ channels) × (channels ≤ 16) }
+    ensures some { 1 ≤ result }
+    ensures room { result * channels ≤ 64 }
+{
+    SAMPLES_OF_GROUP / channels
+}
+
+/// Makes so many frames in the places of those that come behind those of the line, a group at a time, and counts their clips.
+/// They go through the line.
+fn tap_groups<T: TapsMany>(tapping: &T, line: &mut Line, samples: &mut [i32], count: usize) -> u64
+    requires channels { line.old.channels ≡ T.taps.channels tapping.now }
+    requires capacity { line.old.capacity ≡ T.taps.reach tapping.now }
+    requires few { count ≤ 2 ^ 56 }
+    requires samples { length samples.old ≡ count * T.taps.channels tapping.now }
+    ensures frames { pieces (T.taps.channels tapping.now) count samples.new ≡ frames_behind T.taps tapping.now line.old.items (pieces (T.taps.channels tapping.now) count samples.old) }
+    ensures clips { result ≡ clips_behind T.taps tapping.now line.old.items (pieces (T.taps.channels tapping.now) count samples.old) }
+    ensures few { result ≤ count * T.taps.most_clips tapping.now }
+    ensures small { result ≤ 16 * count }
+    ensures line { line.new.items ≡ last_of line.old.capacity (line.old.items ++ pieces (T.taps.channels tapping.now) count samples.old) }
+    ensures line_capacity { line.new.capacity ≡ line.old.capacity }
+    ensures line_channels { line.new.channels ≡ line.old.channels }
+{
+    // A single group, as in most chains, needs no division.
+    if samples.len() <= SAMPLES_OF_GROUP {
+        return tapping.tap_frames(line, samples, count);
+    }
+    let channels = tapping.channels();
+    let most = frames_of_group(channels);
+    let _held = line.len();
+    let mut done = 0;
+    let mut clips = 0;
+    'groups: while done < count {
+        let now = most.min(count - done);
+        let from = done * channels;
+        let to = from + now * channels;
+        clips += tapping.tap_frames(line, &mut samples[from..to], now);
+        done += now;
     }
     clips
 }
@@ -468,6 +564,15 @@ impl<T: TapsMany + Drop> Feeds for Tapped<T> {
         self.taken += 1;
         self.given += 1;
         Passing::Through
+    }
+
+    fn pass_frames(&mut self, count: usize, samples: &mut [i32]) {
+        let clips = tap_groups(&self.arguments, &mut self.line, samples, count);
+        let _held = self.line.len();
+        let passed = count as u64;
+        self.clips += clips;
+        self.taken += passed;
+        self.given += passed;
     }
 
     fn ahead(&self) -> u64 {

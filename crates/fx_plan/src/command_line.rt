@@ -180,20 +180,20 @@ impl CommandLine {
         }
     }
 
-    /// The names of all coefficient files, in the order of the effects; AllocError where memory for the list is refused. It goes
-    /// over the words once.
-    pub fn coefficient_files(&self, alloc: Global) -> Result<Vec<&str>, AllocError>
-        ensures { IfOk result (λ names. map (λ name. name.now) names.items ≡ coefficient_files (effects_in self.now)) }
-    {
-        list_files(alloc, &self.words)
-    }
-
     /// Whether the output is a file, and not standard output.
     fn is_named(&self) -> bool
         ensures { result ≡ is_some (file_name self.now.output) }
     {
         matches!(self.output(), Stream::Named(_))
     }
+}
+
+/// The names of all coefficient files of a line, in the order of the effects; AllocError where memory for the list is refused. It
+/// goes over the words once.
+pub fn coefficient_file_names(alloc: Global, line: &CommandLine) -> Result<Vec<&str>, AllocError>
+    ensures { IfOk result (λ names. map (λ name. name.now) names.items ≡ coefficient_files (effects_in line.now)) }
+{
+    list_files(alloc, &line.words)
 }
 
 /// The plan of a line's effects behind the input's head, with the bytes of each coefficient file, in order; or the

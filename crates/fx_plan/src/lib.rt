@@ -7,6 +7,7 @@ mod command_line;
 mod equality;
 mod fault;
 mod groups;
+pub mod inner;
 mod listing;
 mod name;
 mod planned;

@@ -1,4 +1,3 @@
 pub mod ManyFrames
 pub mod Parts
 pub mod RingLaws
-pub mod Wheels

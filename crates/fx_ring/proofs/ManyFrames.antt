@@ -6,13 +6,14 @@ use Rattle.std.specs.Prelude.{ℤ, FitsSigned}
 use Rattle.std.proofs.lemmas.Bool.{cases_lt}
 use Rattle.std.proofs.lemmas.List.{get_or_append_left, get_or-append_right, get_or-drop, get_or-replicate, drop-drop, drop-replicate, drop-take, drop_at, length-replicate, length-take-le, take-append-le, take-replicate, take_all, take_at}
 use Rattle.std.proofs.lemmas.List.Elements.{All-append, All-cons, All-drop, All-nil, All-take}
-use Rattle.std.proofs.Math.Nat.{add-mul, mul-le-mul_right, suc-mul}
+use Rattle.std.proofs.Math.Nat.{add-mul, mul-le-mul_right, suc-mul, zero-mul}
 use Rattle.std.proofs.Math.Seq.{take-append-add}
 use Rattle.fx_ring.specs.Line.{Frames, IsSamples, latest_frames, pushed_all}
-use Rattle.fx_ring.specs.Ring.{IsRing, Buffer, buffer, keep_last}
+use Rattle.circular_buffer.specs.Buffer.{Buffer, buffer, keep_last}
+use Rattle.fx_ring.specs.Ring.{IsRing}
 use Rattle.fx_lists.specs.Lists.{pieces}
 use Rattle.fx_lists.proofs.Puts.{pieces-split, pieces-take}
-use Rattle.fx_ring.proofs.RingLaws.{frames_of, ring-len, ring-place, ring-small}
+use Rattle.fx_ring.proofs.RingLaws.{frames_of, ring-full, ring-len, ring-place, ring-small}
 use Rattle.fx_lists.proofs.Pieces.{get_or-piece, length-pieces, pieces-first, pieces-front}
 use borrow.Rule.Slice.PartMut.{put_mid}
 
@@ -196,6 +197,39 @@ module _ {X : Type 0} where
         ∙ pieces-take channels count (samples.items ++ coming) within
         ∙ sym (pieces-first channels count (len + n) (samples.items ++ coming) (omega arith))
         ∙ ap (take count) (pieces-joined channels len n samples.items coming r.filled))
+
+    -- so many of the oldest came out into the places of those that came
+    pub ring-exchanged : (frames out : List X) (count n : ℕ) → length frames ≡ count * l.channels → count ≤ len → n ≡ min (length frames) (length samples.items) → out ≡ take n samples.items ++ drop n frames → pieces l.channels count out ≡ take count l.items
+    ring-exchanged frames out count n e few e-n is =
+        let same : channels ≡ l.channels = ap (λ v. v.channels) is-l in
+        let long : length frames ≡ count * channels = e ∙ ap (λ m. count * m) (sym same) in
+        let held : len ≡ length l.items = ring-len channels capacity len samples l is-l r in
+        let fits : count * channels ≤ len * channels = mul-le-mul_right channels few in
+        let all : n ≡ count * channels = omega (arith, r.filled) in
+        let whole : samples.items ++ [] ≡ samples.items = append-nil samples.items in
+        let within : count * channels ≤ length (samples.items ++ []) = rw whole (omega (arith, r.filled)) in
+        let cut : out ≡ take (count * channels) (samples.items ++ []) ++ drop (count * channels) frames = is ∙ ap (λ m. take m samples.items ++ drop m frames) all ∙ ap (λ xs. take (count * channels) xs ++ drop (count * channels) frames) (sym whole) in
+        let none : zero * l.channels ≤ length {A = X} [] = omega (arith, zero-mul l.channels) in
+        ring-oldest [] frames out count cut within zero none (omega arith) ∙ ap (take count) (append-nil l.items)
+
+    -- where all places are filled, as many frames stay
+    pub ring-level_many : (count : ℕ) → length samples.items ≡ samples.capacity → len ≡ min (len + count) capacity
+    ring-level_many count e = let one = ring-full channels capacity len samples l is-l r e in omega (arith, r.within)
+
+    -- all places are filled where there are as many frames as there may be
+    pub ring-whole : length samples.items ≡ samples.capacity → length l.items ≡ l.capacity
+    ring-whole e =
+        let one = ring-full channels capacity len samples l is-l r e in
+        let held : len ≡ length l.items = ring-len channels capacity len samples l is-l r in
+        let most : capacity ≡ l.capacity = ap (λ v. v.capacity) is-l in
+        omega (arith, r.within)
+
+    pub ring-filled : length l.items ≡ l.capacity → length samples.items ≡ samples.capacity
+    ring-filled e =
+        let held : len ≡ length l.items = ring-len channels capacity len samples l is-l r in
+        let most : capacity ≡ l.capacity = ap (λ v. v.capacity) is-l in
+        let same : len ≡ capacity = omega arith in
+        r.filled ∙ ap (λ n. n * channels) same ∙ sym r.room
 
     -- where frames stand that come so many places before the next one, silent ones first
     pub record IsBefore (count quiet first : ℕ) : Type 0 where

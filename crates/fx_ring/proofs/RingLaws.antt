@@ -1,6 +1,6 @@
 -- The frames of a ring, in the places of its samples.
-use Rattle.std.proofs.Common.{◌≡◌, ◌+◌, ◌*◌, ◌-◌, ◌<◌, ◌≤◌, ◌^◌, inl, inr, ℕ, zero, suc, List, [], ◌∷◌, ◌++◌, length, take, drop, slice_get, get_or, Option, Some, None, refl, sym, ap, ◌∙◌, arith, length-append, length-drop, append_assoc, Bool, true, false, cond, nat_lt, min}
-use Rattle.std.proofs.lemmas.List.{drop-append-le, drop-drop, get_or-take, get_or-map, get_or_default, same_lists, length-map, take-append-le}
+use Rattle.std.proofs.Common.{◌≡◌, ◌+◌, ◌*◌, ◌-◌, ◌<◌, ◌≤◌, ◌^◌, inl, inr, ℕ, zero, suc, List, [], ◌∷◌, ◌++◌, length, take, drop, slice_get, get_or, Option, Some, None, refl, sym, ap, ◌∙◌, arith, length-append, length-drop, append_assoc, append-nil, Bool, true, false, cond, nat_lt, min}
+use Rattle.std.proofs.lemmas.List.{drop-append-le, drop-drop, drop_all, get_or-take, get_or-map, get_or_default, nil_from_length, same_lists, length-map, take-append-le, take_all}
 use Rattle.std.proofs.Math.Nat.{suc-mul, zero-mul, mul_comm, mul-le-mul_right}
 use Rattle.std.proofs.lemmas.Bool.{cases_lt}
 use Rattle.std.specs.Option.{option_map, option_zip}
@@ -8,7 +8,8 @@ use Rattle.std.proofs.lemmas.Nat.{mul-le, mul-add-lt}
 use Rattle.std.proofs.lemmas.Option.{get_or_from_slice_get, slice_get-get_or}
 use Rattle.fx_ring.specs.Line.{Frames, pushed, pushed_out, channel_of}
 use Rattle.fx_lists.specs.Lists.{pieces}
-use Rattle.fx_ring.specs.Ring.{IsShaped, IsRing, Buffer, buffer, keep_last}
+use Rattle.circular_buffer.specs.Buffer.{Buffer, buffer, keep_last}
+use Rattle.fx_ring.specs.Ring.{IsShaped, IsRing}
 use Rattle.fx_lists.proofs.Pieces.{each-piece, get_or-piece, get_or-pieces, length-pieces, pieces-append, pieces-rest}
 
 -- all the samples have room exactly where one more frame has
@@ -74,6 +75,18 @@ module _ {X : Type 0} where
         rw none refl
   ]
 
+  -- where enough come behind them, the first so many may go before
+  keep-rest : (n k : ℕ) (xs ys : List X) → k ≤ length xs → k + n ≤ length (xs ++ ys) → keep_last n (drop k xs ++ ys) ≡ keep_last n (xs ++ ys)
+  keep-rest n k xs ys le more =
+      let cut : drop k xs ++ ys ≡ drop k (xs ++ ys) = sym (drop-append-le k xs ys le) in
+      let both : k + (length (drop k (xs ++ ys)) - n) ≡ length (xs ++ ys) - n = omega (arith, length-drop k (xs ++ ys)) in
+      rw cut (drop-drop (length (drop k (xs ++ ys)) - n) k (xs ++ ys) ∙ ap (λ m. drop m (xs ++ ys)) both)
+
+  -- the oldest items go, and as many come
+  pub keep-exchanged : (samples mid after : Buffer X) (f : List X) (n : ℕ) → length samples.items ≡ samples.capacity → n ≡ min (length f) (length samples.items) → mid ≡ buffer (drop n samples.items) samples.capacity → after ≡ buffer (keep_last mid.capacity (mid.items ++ f)) mid.capacity → after ≡ buffer (keep_last samples.capacity (samples.items ++ f)) samples.capacity
+  keep-exchanged samples mid after f n full e-n e-mid e-after =
+      rw (e-after, e-mid) (ap (λ ys. buffer ys samples.capacity) (keep-rest samples.capacity n samples.items f (omega arith) (omega (arith, length-append samples.items f))))
+
   -- two items at the end, one after the other
   pub keep-two : (samples mid after : Buffer X) (a b : X) → mid ≡ buffer (keep_last samples.capacity (samples.items ++ a ∷ [])) samples.capacity → after ≡ buffer (keep_last mid.capacity (mid.items ++ b ∷ [])) mid.capacity → after ≡ buffer (keep_last samples.capacity (samples.items ++ a ∷ b ∷ [])) samples.capacity
   keep-two samples mid after a b e-mid e-after =
@@ -88,6 +101,13 @@ module _ {X : Type 0} where
   -- both items, where there are two
   abbrev pub both : Option X → Option X → Option (List X)
   both o o' = option_map (λ (p : X × X). p.0 ∷ p.1 ∷ []) (option_zip o o')
+
+  -- both came out, or none did
+  pub both-out : (o o' : Option X) (p : X × X) (y : Option (List X)) → Some p ≡ option_zip o o' → both o o' ≡ y → Some (p.0 ∷ p.1 ∷ []) ≡ y
+  both-out o o' p y e h = ap (option_map (λ (p : X × X). p.0 ∷ p.1 ∷ [])) e ∙ h
+
+  pub none-out : (o o' : Option X) (y : Option (List X)) → None ≡ option_zip o o' → both o o' ≡ y → None ≡ y
+  none-out o o' y e h = ap (option_map (λ (p : X × X). p.0 ∷ p.1 ∷ [])) e ∙ h
 
   full-two : (xs : List X) (n k : ℕ) (a b : X) → length xs ≡ n → n ≡ k * 2 → both (slice_get (xs ++ a ∷ []) 0) (cond (nat_lt (length (keep_last n (xs ++ a ∷ []))) n) None (slice_get (keep_last n (xs ++ a ∷ []) ++ b ∷ []) 0)) ≡ Some (take 2 (xs ++ a ∷ b ∷ []))
   full-two [] n k a b e par = let none : n ≡ 0 = omega arith in rw none refl
@@ -142,6 +162,44 @@ module _ {X : Type 0} where
         let no : nat_lt len capacity ≡ false = sym room-at ∙ level in
         let front : take channels (samples.items ++ f) ≡ out = take-append-le channels samples.items f (omega arith) ∙ ap (λ m. take m samples.items) (sym n-f) ∙ sym is in
         ring-pushed_out f e-f ∙ rw no (ap Some front)
+
+    -- the frame that goes, where it came out in two steps
+    pub ring-out_read : (f out : List X) (n : ℕ) → length f ≡ l.channels → length samples.items ≡ samples.capacity → n ≡ min (length f) (length samples.items) → out ≡ take n samples.items ++ drop n f → pushed_out l f ≡ Some out
+    ring-out_read f out n e-f full e-n is =
+        let n-f : length f ≡ channels = e-f ∙ sym (ap (λ v. v.channels) is-l) in
+        elim (cases_lt 0 len) [
+          | inl some ↦
+              let one : suc zero * channels ≤ len * channels = mul-le-mul_right channels some in
+              let all : n ≡ length f = omega (arith, r.filled, suc-mul zero channels, zero-mul channels) in
+              ring-out_full f out e-f full (omega arith) (is ∙ ap (λ m. take m samples.items ++ drop m f) all ∙ ap (λ ys. take (length f) samples.items ++ ys) (drop_all (length f) f (omega arith)) ∙ append-nil (take (length f) samples.items))
+          | inr h ↦
+              let empty : length samples.items ≡ 0 = r.filled ∙ ap (λ m. m * channels) (let none : len ≡ 0 = omega arith in none) ∙ zero-mul channels in
+              let none : n ≡ 0 = omega arith in
+              let level : nat_lt (length samples.items) samples.capacity ≡ false = grind arith in
+              let no : nat_lt len capacity ≡ false = sym room-at ∙ level in
+              let whole : take channels (samples.items ++ f) ≡ out = rw (nil_from_length samples.items empty) (take_all channels f (omega arith)) ∙ sym (is ∙ ap (λ m. take m samples.items ++ drop m f) none) in
+              ring-pushed_out f e-f ∙ rw no (ap Some whole)
+        ]
+
+    -- one frame more, where none goes
+    pub ring-grown : (f : List X) → length f ≡ l.channels → None ≡ pushed_out l f → len + 1 ≡ min (len + 1) capacity
+    ring-grown f e-f e = elim (cases_lt len capacity) [
+      | inl h ↦ omega arith
+      | inr h ↦
+          let no : nat_lt len capacity ≡ false = grind arith in
+          let some : None ≡ Some (take channels (samples.items ++ f)) = rw no at (e ∙ ring-pushed_out f e-f) in
+          cc
+    ]
+
+    -- and as many as before, where one goes
+    pub ring-level : (f out : List X) → length f ≡ l.channels → Some out ≡ pushed_out l f → len ≡ min (len + 1) capacity
+    ring-level f out e-f e = elim (cases_lt len capacity) [
+      | inl h ↦
+          let yes : nat_lt len capacity ≡ true = grind arith in
+          let none : Some out ≡ None = rw yes at (e ∙ ring-pushed_out f e-f) in
+          cc
+      | inr h ↦ omega (arith, r.within)
+    ]
 
     pub ring-out_one : (a : X) → l.channels ≡ 1 → (o : Option X) → o ≡ cond (nat_lt (length samples.items) samples.capacity) None (slice_get (samples.items ++ a ∷ []) 0) → option_map (λ x. x ∷ []) o ≡ pushed_out l (a ∷ [])
     ring-out_one a one o e-o =

@@ -2,6 +2,5 @@
 #![tactic(auto)]
 
 mod ring;
-mod wheel;
 
 pub use ring::Ring;

@@ -1,19 +1,20 @@
 //! One ring of samples for whole frames, each of as many samples as there are channels.
-ghost use Rattle.std.specs.Prelude.{◌≡◌, ◌<◌, ◌≤◌, ◌^◌, ◌++◌, ◌+◌, ◌-◌, ◌*◌, ◌∷◌, [], ℕ, min, length, take, drop, replicate, slice_get, slice_index_or, true, false, IfOk, Some};
+ghost use Rattle.std.specs.Prelude.{◌≡◌, ◌↔◌, ◌<◌, ◌≤◌, ◌^◌, ◌++◌, ◌+◌, ◌-◌, ◌*◌, ◌∷◌, [], ℕ, min, length, take, drop, replicate, slice_get, slice_index_or, true, false, IfOk, Some};
 ghost use Rattle.std.specs.Option.{option_map};
 ghost use Rattle.fx_ring.specs.Line.{empty, pushed, pushed_all, pushed_out, latest_frames, channel_of};
 ghost use Rattle.fx_ring.specs.Ring.{IsShaped};
 ghost use Rattle.fx_lists.specs.Lists.{IsOther, pieces};
 
-use crate::wheel::Wheel;
+use circular_buffer::HeapCircularBuffer;
 use std::alloc::{AllocError, Global};
 use std::marker::Model;
+use std_alloc::room::may_hold;
 
 /// The latest frames, up to a capacity. A frame goes in and out as its samples.
 #[derive(Drop)]
 pub struct Ring<T: Copy> {
     /// The frames one after another, in exactly `channels` times `capacity` places.
-    samples: Wheel<T>,
+    samples: HeapCircularBuffer<T>,
     /// How many samples each frame has.
     channels: usize,
     /// How many frames there may be.
@@ -44,7 +45,7 @@ impl<T: Copy> Ring<T> {
         ensures { IfOk result (λ r. r ≡ empty channels capacity) }
     {
         Ok(Ring {
-            samples: Wheel::with_capacity(alloc, capacity * channels)?,
+            samples: HeapCircularBuffer::with_capacity(alloc, capacity * channels)?,
             channels,
             capacity,
             len: 0,
@@ -87,23 +88,13 @@ impl<T: Copy> Ring<T> {
         ensures channels { self.new.channels ≡ self.old.channels }
         ensures oldest { option_map (λ x. x ∷ []) result ≡ pushed_out self.old (sample ∷ []) }
     {
-        if let Some(oldest) = self.samples.replace(sample) {
-            return Some(oldest);
+        match self.samples.push_back(sample) {
+            Some(oldest) => Some(oldest),
+            None => {
+                self.len += 1;
+                None
+            }
         }
-        self.push_one_more(sample)
-    }
-
-    /// The same, as long as there is room.
-    #[inline(never)]
-    fn push_one_more(&mut self, sample: T) -> Option<T>
-        requires { self.old.channels ≡ 1 }
-        ensures items { self.new.items ≡ pushed self.old (sample ∷ []) }
-        ensures capacity { self.new.capacity ≡ self.old.capacity }
-        ensures channels { self.new.channels ≡ self.old.channels }
-        ensures oldest { option_map (λ x. x ∷ []) result ≡ pushed_out self.old (sample ∷ []) }
-    {
-        self.len = (self.len + 1).min(self.capacity);
-        self.samples.push_back(sample)
     }
 
     /// Adds a frame of two samples. The oldest goes where there is no room.
@@ -115,28 +106,15 @@ impl<T: Copy> Ring<T> {
         ensures channels { self.new.channels ≡ self.old.channels }
         ensures oldest { option_map (λ p. p.0 ∷ p.1 ∷ []) result ≡ pushed_out self.old (first ∷ second ∷ []) }
     {
-        if let Some(first_out) = self.samples.replace(first) {
-            match self.samples.replace(second) {
-                Some(second_out) => return Some((first_out, second_out)),
-                None => unreachable!(),
-            }
-        }
-        self.push_two_more(first, second)
-    }
-
-    /// The same, as long as there is room.
-    #[inline(never)]
-    fn push_two_more(&mut self, first: T, second: T) -> Option<(T, T)>
-        requires { self.old.channels ≡ 2 }
-        ensures items { self.new.items ≡ pushed self.old (first ∷ second ∷ []) }
-        ensures capacity { self.new.capacity ≡ self.old.capacity }
-        ensures channels { self.new.channels ≡ self.old.channels }
-        ensures oldest { option_map (λ p. p.0 ∷ p.1 ∷ []) result ≡ pushed_out self.old (first ∷ second ∷ []) }
-    {
-        self.len = (self.len + 1).min(self.capacity);
         let first_out = self.samples.push_back(first);
         let second_out = self.samples.push_back(second);
-        first_out.zip(second_out)
+        match first_out.zip(second_out) {
+            Some(pair) => Some(pair),
+            None => {
+                self.len += 1;
+                None
+            }
+        }
     }
 
     /// Adds a frame. The oldest goes where there is no room.
@@ -150,7 +128,7 @@ impl<T: Copy> Ring<T> {
         self.samples.extend_from_slice(frame);
     }
 
-    /// Writes a frame over the oldest, and that over the frame, where there is no room for one more and it lies in one piece.
+    /// Puts a frame in the place of the oldest, and writes that over the frame, where there is no room for one more.
     /// Else it answers false, and nothing changes.
     #[inline(always)]
     pub fn exchange(&mut self, frame: &mut [T]) -> bool
@@ -160,8 +138,48 @@ impl<T: Copy> Ring<T> {
         ensures capacity { self.new.capacity ≡ self.old.capacity }
         ensures channels { self.new.channels ≡ self.old.channels }
         ensures oldest { result ≡ true → pushed_out self.old frame.old ≡ Some frame.new }
+        ensures full { result ≡ true → length self.old.items ≡ self.old.capacity }
     {
-        self.samples.exchange(frame)
+        if !self.samples.is_full() {
+            return false;
+        }
+        if !may_hold::<T>(16) {
+            return false;
+        }
+        let mut places = [frame[0]; 16];
+        let came = &mut places[..frame.len()];
+        came.copy_from_slice(frame);
+        self.samples.read_into(frame);
+        self.samples.extend_from_slice(came);
+        true
+    }
+
+    /// Puts so many frames in the places of as many of the oldest, and writes those over them, where there is no room for one more
+    /// and there are so many. The frames that came then stand in `room`. Else it answers false, and nothing changes.
+    #[inline(always)]
+    pub fn exchange_frames(&mut self, frames: &mut [T], count: usize, room: &mut [T]) -> bool
+        requires frames { length frames.old ≡ count * self.old.channels }
+        requires room { length room.old ≡ length frames.old }
+        ensures kept { result ≡ false → (self.new ≡ self.old) × (frames.new ≡ frames.old) }
+        ensures items { result ≡ true → self.new.items ≡ pushed_all self.old (pieces self.old.channels count frames.old) }
+        ensures capacity { self.new.capacity ≡ self.old.capacity }
+        ensures channels { self.new.channels ≡ self.old.channels }
+        ensures oldest { result ≡ true → pieces self.old.channels count frames.new ≡ take count self.old.items }
+        ensures few { result ≡ true → count ≤ length self.old.items }
+        ensures came { result ≡ true → room.new ≡ frames.old }
+        ensures len { length frames.new ≡ length frames.old }
+        ensures when { result ≡ true ↔ (length self.old.items ≡ self.old.capacity) × (count ≤ length self.old.items) }
+    {
+        if !self.samples.is_full() {
+            return false;
+        }
+        if count > self.len {
+            return false;
+        }
+        room.copy_from_slice(frames);
+        self.samples.read_into(frames);
+        self.samples.extend_from_slice(room);
+        true
     }
 
     /// Adds so many frames, which lie one after another. The oldest go where there is no room.

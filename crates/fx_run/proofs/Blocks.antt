@@ -105,6 +105,7 @@ Blocked-none acts f s p coding clips out few =
       held = record { there = omega (arith, none); announced = omega (arith, none); few = few; begun = λ over. refl };
       bytes = rw none refl;
       reader = refl;
+      short = refl;
       counted = (Ran-start p [] (Some []) refl).now_is;
       fed = untouched;
       gave = FlowGave-none acts f;
@@ -246,7 +247,7 @@ Pumped-turn acts device first flow fed new source source' progress progress' cod
           let frames = ap (λ n. sound_frames first.progress n bytes) count ∙ sound_frames-more _ _ _ _ _ _ _ ran taken in
           rw frames
           (Flowed-turn acts first.flow flow fed new first.coding _ _ _ _ _ _ _ _ _ first.head (p.flowed bytes known) p.hungry is (rw p.coded at q));
-      takes = Takes-both device.told _ _ _ (turn * size) size _ (sym (ap (λ n. n * size) count ∙ more)) p.takes (rw p.size at taken);
+      takes = Takes-both device.told first.source source source' (turn * size) size _ (sym (ap (λ n. n * size) count ∙ more)) p.takes (rw p.size at taken);
       reads = reads ∙ p.reads;
     }
 

@@ -4,3 +4,4 @@ pub mod Passing
 pub mod Reaching
 pub mod Running
 pub mod Sending
+pub mod Waiting

@@ -22,6 +22,7 @@ module _ {S R X : Type 0} (acts : Acts S R) where
     pub held : AreHeld p s.bytes count
     pub bytes : s'.bytes ≡ drop (count * size_of p) s.bytes
     pub reader : s'.reader ≡ s.reader
+    pub short : s'.short ≡ s.short
     pub counted : p' ≡ after_frames p count
     pub fed : FlowFed acts f (first_frames p.coding p.channels count s.bytes) given f'
     pub gave : FlowGave acts f (first_frames p.coding p.channels count s.bytes) given f'

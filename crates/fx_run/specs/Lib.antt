@@ -5,3 +5,4 @@ pub mod Pump
 pub mod Report
 pub mod Run
 pub mod Through
+pub mod Waiting

@@ -33,6 +33,12 @@ report_at (ReadFailed r) = r
 report_at (WriteFailed r) = r
 report_at (TooLong r) = r
 
+-- the number of a fault, as those of the other faults are counted: from 1, in the order of its declaration
+abbrev pub number_of_fault : RunFault → ℕ
+number_of_fault (ReadFailed r) = 1
+number_of_fault (WriteFailed r) = 2
+number_of_fault (TooLong r) = 3
+
 -- the report of a run, with or without a fault
 abbrev pub report_in : Result Report RunFault → Report
 report_in (Ok r) = r

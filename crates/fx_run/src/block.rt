@@ -8,11 +8,12 @@ ghost use Rattle.fx_flow.specs.Steps.{IsHungry};
 ghost use Rattle.fx_step.specs.Holds.{kinds};
 ghost use Rattle.fx_io.specs.Io.{CountsFailure};
 ghost use Rattle.fx_sound.specs.Output.{bytes_put};
+ghost use Rattle.fx_sound.specs.Sound.{size_of};
 
 use crate::drain::drain;
 use crate::outlet::Outlet;
 use fx_flow::flow::Flow;
-use fx_frame::{ByteIn, ByteOut, Failed, Feeds};
+use fx_frame::{ByteOut, Failed, Feeds, ReadBeside};
 use fx_sound::inner::BUFFER_SIZE;
 use fx_sound::{Progress, Source};
 
@@ -68,7 +69,7 @@ fn pass_block<R, S: Feeds>(
 
 /// Passes frames that are held through a flow, as many as the outlet has room for, and then steps it until it waits. Then
 /// it makes way in the outlet: long filters take a whole buffer in fewer products than its two parts.
-pub fn pump_block<R: ByteIn, S: Feeds, W: ByteOut>(
+pub fn pump_block<R: ReadBeside, S: Feeds, W: ByteOut>(
     flow: &mut Flow<S>,
     source: &mut Source<R>,
     progress: &mut Progress,
@@ -90,6 +91,8 @@ pub fn pump_block<R: ByteIn, S: Feeds, W: ByteOut>(
     ensures cut_off { OnErr result ((first : Start S R) → Pumped S.acts R.reads first flow.old source.old progress.old outlet.old.coding outlet.old.clips outlet.old.output (W.writes.taken writer.old)
         → PumpedFront S.acts R.reads first flow.new source.new progress.new outlet.new.clips outlet.new.output (W.writes.taken writer.new)) }
     ensures more { progress.old.frames ≤ progress.new.frames }
+    ensures unread { (source.new.reader ≡ source.old.reader) × (source.new.short ≡ source.old.short) }
+    ensures held { progress.new.frames * size_of progress.old + length source.new.bytes ≡ progress.old.frames * size_of progress.old + length source.old.bytes }
     ensures failures { CountsFailure (W.writes.failures writer.old) (W.writes.failures writer.new) result }
 {
     pass_block(flow, source, progress, outlet, input, output);

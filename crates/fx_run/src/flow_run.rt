@@ -2,8 +2,9 @@
 ghost use Rattle.std.specs.Prelude.{◌≡◌, ◌≢◌, ℕ, ◌+◌, ◌*◌, ◌<◌, ◌≤◌, ◌^◌, ◌++◌, [], true, IfErr, IfOk, IsTrue, List, MatchResult, None, OnErr, OnOk, Option, Some, length, map};
 ghost use Rattle.fx_run.specs.Due.{dues};
 ghost use Rattle.fx_run.specs.Outlet.{WroteAll, WroteFront};
-ghost use Rattle.fx_run.specs.Report.{Completed, HasCause, ReadBefore, Stands, StoppedAt, behind_reported, cause_of, clips_now, pad, report_at, report_in, start_of};
+ghost use Rattle.fx_run.specs.Report.{Completed, HasCause, ReadBefore, Stands, StoppedAt, behind_reported, cause_of, clips_now, pad, head_for, report_at, report_in, start_of};
 ghost use Rattle.fx_run.specs.Run.{WantsMore, sound_frames};
+ghost use Rattle.fx_run.specs.Waiting.{WaitedUntil, due_bytes};
 ghost use Rattle.fx_sound.specs.Container.{ReadAllTold};
 ghost use Rattle.fx_flow.specs.Parts.{given_by, moves_of, most_of, taken_of, work};
 ghost use Rattle.fx_flow.specs.Sound.{most_frames};
@@ -22,7 +23,7 @@ use crate::pump::{Cause, pump};
 use crate::report::{MOST_EFFECTS, Report, RunFault};
 use crate::target::Target;
 use fx_flow::flow::Flow;
-use fx_frame::{ByteIn, ByteOut, Failed, Feeds};
+use fx_frame::{ByteOut, Failed, Feeds, ReadBeside};
 use fx_sound::inner::Output;
 use fx_sound::{Head, HeadBytes, Kind, Progress, Source, head_bytes};
 use fx_step::stage::Stage;
@@ -112,7 +113,7 @@ fn streamed_head(target: Target) -> HeadBytes
 ///
 /// Reads no more frames than some stage has enough of. After a failed read, and where the sound is too long, the frames
 /// then due are written; after a failed write the writer has a front of the whole output. Takes no memory.
-pub fn run_flow<R: ByteIn, S: Feeds, W: ByteOut>(
+pub fn run_flow<R: ReadBeside, S: Feeds, W: ByteOut>(
     flow: &mut Flow<S>,
     head: &Head,
     target: Target,
@@ -145,6 +146,10 @@ pub fn run_flow<R: ByteIn, S: Feeds, W: ByteOut>(
         (to_come R.reads.rest source.new ≡ Some (behind_reported (start_of head.now) (report_in result) bytes))
         (HoldsWhatCame R.reads.told source.old source.new bytes ((report_in result).frames_in * size_of (start_of head.now)))
         ((R.reads.failures source.new.reader ≡ saturated (R.reads.failures source.old.reader + 1)) × ReadBefore S.acts R.reads.told source.old source.new.reader flow.old flow.new (start_of head.now) (report_in result).frames_in (report_in result).frames_out)) }
+
+    // Before each read that may have had to wait, the writer had just the head and the frames then due.
+    ensures waited { IfKnown (to_come R.reads.rest source.old) (λ bytes. WaitedUntil R.asked
+        (due_bytes S.acts flow.old target.coding (head_for target) (start_of head.now) bytes) (W.writes.taken writer.old) source.old source.new.reader) }
 
     // The counts.
     ensures wants { WantsMore (kinds S.acts flow.old.stages) (report_in result).frames_in }

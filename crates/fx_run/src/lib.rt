@@ -6,6 +6,7 @@ mod drain;
 mod flow_run;
 mod outlet;
 mod pump;
+mod reading;
 mod report;
 mod target;
 

@@ -4,6 +4,7 @@ ghost use Rattle.fx_run.specs.Report.{met_end};
 ghost use Rattle.fx_run.specs.Run.{Flowed, FlowedFront, RanToEnd, WantsMore, behind_read, is_read_failed, is_write_failed, sound_frames};
 ghost use Rattle.fx_sound.specs.Container.{ReadAllTold};
 ghost use Rattle.fx_run.specs.Through.{CutOff, Drained};
+ghost use Rattle.fx_run.specs.Waiting.{WaitedUntil, due_bytes};
 ghost use Rattle.fx_flow.specs.Parts.{given_by, most_of, taken_of};
 ghost use Rattle.fx_flow.specs.Composed.{due_of, enough_for};
 ghost use Rattle.fx_flow.specs.Sound.{most_frames};
@@ -19,21 +20,26 @@ ghost use Rattle.fx_heads.specs.Source.{HoldsWhatCame, to_come};
 use crate::block::pump_block;
 use crate::drain::drain;
 use crate::outlet::Outlet;
+use crate::reading::next_frame;
 use fx_flow::flow::Flow;
-use fx_frame::{ByteIn, ByteOut, Failed, Feeds};
+use fx_frame::{ByteOut, Failed, Feeds, ReadBeside};
 use fx_sound::inner::BUFFER_SIZE;
-use fx_sound::{MOST_FRAMES, Progress, ReadFault, Source, next_frame};
+use fx_sound::{MOST_FRAMES, Progress, Source};
 use fx_step::stage::Stage;
+use thiserror::Error;
 
 /// Why a run stopped.
-#[derive(Clone, Copy, Debug, PartialEq, Eq)]
+#[derive(Clone, Copy, Debug, Drop, PartialEq, Eq, Error)]
 pub enum Cause {
     /// A read failed.
-    ReadFailed,
+    #[error("the reader failed")]
+    ReadFailed = 1,
     /// A write failed.
-    WriteFailed,
+    #[error("the writer failed")]
+    WriteFailed = 2,
     /// A frame follows after 2^40 frames.
-    TooLong,
+    #[error("the sound is too long")]
+    TooLong = 3,
 }
 
 impl From<Failed> for Cause {
@@ -69,7 +75,7 @@ fn end_flow<S: Stage, W: ByteOut>(
 }
 
 /// Puts the head into the outlet, and what a flow gives for the frames of a sound behind it.
-pub fn pump<R: ByteIn, S: Feeds, W: ByteOut>(
+pub fn pump<R: ReadBeside, S: Feeds, W: ByteOut>(
     head: &[u8],
     flow: &mut Flow<S>,
     source: &mut Source<R>,
@@ -124,6 +130,10 @@ pub fn pump<R: ByteIn, S: Feeds, W: ByteOut>(
     ensures came { is_read_failed result ≡ true → IfKnown (to_come R.reads.rest source.old) (λ bytes.
         HoldsWhatCame R.reads.told source.old source.new bytes (progress.new.frames * size_of progress.old)) }
 
+    // Before each read that may have had to wait, all that was due had been written.
+    ensures waited { IfKnown (to_come R.reads.rest source.old) (λ bytes. WaitedUntil R.asked
+        (due_bytes S.acts flow.old outlet.old.coding head.now progress.old bytes) (W.writes.taken writer.old) source.old source.new.reader) }
+
     // A fault is answered only where a failure was counted.
     ensures reads { MatchBool (is_read_failed result)
         (R.reads.failures source.new.reader ≡ saturated (R.reads.failures source.old.reader + 1))
@@ -141,7 +151,7 @@ pub fn pump<R: ByteIn, S: Feeds, W: ByteOut>(
             end_flow(flow, outlet, writer)?;
             return Ok(());
         }
-        match next_frame(source, progress) {
+        match next_frame(source, progress, &mut outlet.output, writer) {
             Ok(Some(frame)) => {
                 flow.take(frame);
                 drain(flow, outlet, writer)?;
@@ -150,8 +160,9 @@ pub fn pump<R: ByteIn, S: Feeds, W: ByteOut>(
                 end_flow(flow, outlet, writer)?;
                 return Ok(());
             }
-            Err(ReadFault::ReadFailed) => return Err(Cause::ReadFailed),
-            Err(ReadFault::TooLong) => return Err(Cause::TooLong),
+            Err(Cause::ReadFailed) => return Err(Cause::ReadFailed),
+            Err(Cause::WriteFailed) => return Err(Cause::WriteFailed),
+            Err(Cause::TooLong) => return Err(Cause::TooLong),
         }
         pump_block(
             flow,

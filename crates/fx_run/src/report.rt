@@ -42,7 +42,7 @@ pub enum RunFault {
 }
 
 impl RunFault {
-    ghost use Rattle.fx_run.specs.Report.{report_at};
+    ghost use Rattle.fx_run.specs.Report.{number_of_fault, report_at};
 
     /// What was done by then.
     pub fn report(&self) -> Report
@@ -52,6 +52,17 @@ impl RunFault {
             RunFault::ReadFailed(report)
             | RunFault::WriteFailed(report)
             | RunFault::TooLong(report) => *report,
+        }
+    }
+
+    /// The number of the fault, 1 to 3 in the order above, whatever was done by then.
+    pub fn number(&self) -> u8
+        ensures { result ≡ number_of_fault self.now }
+    {
+        match self {
+            RunFault::ReadFailed(_) => 1,
+            RunFault::WriteFailed(_) => 2,
+            RunFault::TooLong(_) => 3,
         }
     }
 }

@@ -36,6 +36,7 @@ impl Progress {
         requires { AreHeld self.old source.old.bytes count }
         ensures bytes { source.new.bytes ≡ drop (count * size_of self.old) source.old.bytes }
         ensures reader { source.new.reader ≡ source.old.reader }
+        ensures short { source.new.short ≡ source.old.short }
         ensures counted { self.new ≡ after_frames self.old count }
     {
         source.let_go(count * self.frame_size());

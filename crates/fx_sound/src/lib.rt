@@ -11,4 +11,4 @@ pub mod progress;
 mod sound;
 
 pub use fx_heads::{Head, HeadBytes, HeadFault, Kind, Source, head_bytes, read_head};
-pub use progress::{MOST_FRAMES, Progress, ReadFault, next_frame};
+pub use progress::{MOST_FRAMES, Progress, ReadFault, TooLong, next_frame, take_frame};

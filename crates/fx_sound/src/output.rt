@@ -16,8 +16,7 @@ const MOST_FRAME_BYTES: usize = 64;
 
 /// An output buffer of 4,096 bytes. The writer comes with each call.
 ///
-/// Bytes go to the writer where they leave no room for more, in `make_way`, and at the end: a whole output of less than
-/// 4,096 bytes is written at the end alone.
+/// Bytes go to the writer where they leave no room for more, in `make_way`, in `drain`, and at the end.
 #[derive(Drop)]
 pub struct Output {
     buffer: [u8; BUFFER_SIZE],
@@ -88,9 +87,9 @@ impl Output {
         Ok(())
     }
 
-    // Hands the writer all that waits.
+    /// Hands the writer all that waits.
     #[inline(never)]
-    fn drain<W: ByteOut>(&mut self, writer: &mut W) -> Result<(), Failed>
+    pub fn drain<W: ByteOut>(&mut self, writer: &mut W) -> Result<(), Failed>
         ensures sent { SendsOn (W.writes.taken writer.old) (W.writes.taken writer.new) self.old self.new }
         ensures count { bytes_put self.new ≡ bytes_put self.old }
         ensures empty { OnOk result (self.new.bytes ≡ []) }

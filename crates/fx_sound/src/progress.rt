@@ -9,7 +9,7 @@ ghost use Rattle.fx_sound.specs.Container.{after_frames};
 ghost use Rattle.fx_sound.specs.Fault.{is_read_failed};
 
 use crate::frame_coding::decoded;
-use fx_frame::{ByteIn, Coding, Frame};
+use fx_frame::{ByteIn, Coding, Frame, ReadBeside};
 use fx_heads::{Head, Source};
 use std::marker::Model;
 use thiserror::Error;
@@ -27,6 +27,11 @@ pub enum ReadFault {
     #[error("the sound is too long")]
     TooLong = 2,
 }
+
+/// A frame follows after 2^40 frames.
+#[derive(Clone, Copy, Debug, PartialEq, Eq, Error)]
+#[error("the sound is too long")]
+pub struct TooLong;
 
 /// How far a sound was read.
 #[derive(Drop)]
@@ -93,9 +98,9 @@ impl Progress {
         self.stray
     }
 
-    // How many bytes the next frame asks for.
+    /// How many bytes the next frame asks for.
     #[inline(always)]
-    fn wanted(&self) -> usize
+    pub fn wanted(&self) -> usize
         ensures value { result ≡ at_most_announced self.now.left (size_of self.now) }
         ensures most { result ≤ size_of self.now }
         ensures few { size_of self.now ≤ 64 }
@@ -236,19 +241,61 @@ pub fn next_frame<R: ByteIn>(
     if progress.is_over {
         return Ok(None);
     }
-    let wanted = progress.wanted();
-    let Ok(()) = source.hold(wanted) else {
+    let Ok(()) = source.hold(progress.wanted()) else {
         return Err(ReadFault::ReadFailed);
     };
+    match take_frame(source, progress) {
+        Ok(next) => Ok(next),
+        Err(TooLong) => Err(ReadFault::TooLong),
+    }
+}
+
+/// The next frame off the bytes that are held; `None` where they are fewer than it asks for, which is the end where no more are
+/// to come.
+///
+/// No read is asked for. After `TooLong` the source is as it was.
+#[inline]
+pub fn take_frame<R: ReadBeside>(
+    source: &mut Source<R>,
+    progress: &mut Progress,
+) -> Result<Option<Frame>, TooLong>
+    requires begun { progress.old.over ≡ false }
+
+    // A frame.
+    ensures frame { IfOk result (λ o. IfSome o (λ f. IfKnown (to_come R.reads.rest source.old) (λ bytes.
+        TakesFrame progress.old bytes f (to_come R.reads.rest source.new)))) }
+    ensures channels { IfOk result (λ o. IfSome o (λ f. length f ≡ progress.old.channels)) }
+    ensures told { IfOk result (λ o. OnSome o (Takes R.reads.told source.old source.new (size_of progress.old))) }
+    ensures counted { IfOk result (λ o. OnSome o (progress.new ≡ after_frame progress.old)) }
+    ensures below { IfOk result (λ o. OnSome o (progress.old.frames < MOST_FRAMES)) }
+
+    // The end.
+    ensures end { IfOk result (λ o. IfNone o (IfKnown (to_come R.reads.rest source.old) (λ bytes.
+        (length source.old.bytes < at_most_announced progress.old.left (size_of progress.old) → bytes ≡ source.old.bytes) → EndsSound progress.old bytes progress.new))) }
+    ensures left { IfOk result (λ o. IfNone o (IfKnown (to_come R.reads.rest source.old) (λ bytes.
+        (length source.old.bytes < at_most_announced progress.old.left (size_of progress.old) → bytes ≡ source.old.bytes) → to_come R.reads.rest source.new ≡ Some (drop (length (within progress.old.left bytes)) bytes)))) }
+    ensures over { IfOk result (λ o. IfNone o ((progress.new.over ≡ true) × (progress.new.frames ≡ progress.old.frames))) }
+
+    // Too many frames.
+    ensures too_long { OnErr result ((progress.old.frames ≡ MOST_FRAMES)
+        × IfKnown (to_come R.reads.rest source.old) (λ bytes. size_of progress.old ≤ length (within progress.old.left bytes))) }
+    ensures kept { OnErr result (source.new ≡ source.old) }
+    ensures err { OnErr result (progress.new ≡ progress.old) }
+
+    ensures most { progress.new.frames ≤ MOST_FRAMES }
+    ensures bytes { IfOk result (λ o. OnSome o (length source.old.bytes ≡ size_of progress.old + length source.new.bytes)) }
+    ensures reader { source.new.reader ≡ source.old.reader }
+    ensures short { source.new.short ≡ source.old.short }
+{
     let size = progress.size;
-    let got = source.held().min(wanted);
+    let got = source.held().min(progress.wanted());
     if got < size {
         source.let_go(got);
         progress.finish(got);
         return Ok(None);
     }
     if progress.frames >= MOST_FRAMES {
-        return Err(ReadFault::TooLong);
+        return Err(TooLong);
     }
     let frame = decoded(progress.coding, progress.channels, source.peek(size));
     source.let_go(size);

@@ -3,5 +3,6 @@
 
 pub use fx_convolve::dot;
 pub use fx_fir::Fir;
+pub use fx_fixed::{OutSpec, Weight};
 pub use fx_map::{DcShift, Remix, Vol};
 pub use fx_past::{Delay, Echo, Echos};

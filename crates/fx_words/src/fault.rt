@@ -60,18 +60,21 @@ pub enum PlanCause {
 
 /// Why the words of an effect are refused, and the number of the word. A call that takes no memory answers no other
 /// fault.
-#[derive(Clone, Copy, Debug, Drop, PartialEq, Eq)]
+#[derive(Clone, Copy, Debug, Drop, PartialEq, Eq, Error)]
+#[error("word {word}: {cause}")]
 pub struct Mark {
     pub cause: PlanCause,
     pub word: usize,
 }
 
 /// Why an effect's words give no effect, of a call that takes memory.
-#[derive(Clone, Copy, Debug, Drop, PartialEq, Eq)]
+#[derive(Clone, Copy, Debug, Drop, PartialEq, Eq, Error)]
 pub enum Refusal {
     /// A growth was refused.
+    #[error("out of memory")]
     Memory,
     /// A word is refused.
+    #[error("{0}")]
     Marked(Mark),
 }
 

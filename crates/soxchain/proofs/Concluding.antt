@@ -1,6 +1,6 @@
 -- A conversion, concluded from its two halves: what is prepared, and what is finished.
 use Rattle.std.proofs.Common.{◌≡◌, ℕ, List, [], refl, sym, ap, subst, ◌∙◌, ◌⊎◌, inl, inr, drop}
-use Rattle.std.specs.Prelude.{◌≢◌, true, Option, Result, Ok, Err}
+use Rattle.std.specs.Prelude.{◌≢◌, true, false, Option, Result, Ok, Err}
 use Rattle.fx_run.specs.declared.pump.Cause.TheVariants as Causes
 use Rattle.fx_run.specs.declared.report.Report.{Report}
 use Rattle.fx_run.specs.declared.report.RunFault.{RunFault}
@@ -16,10 +16,9 @@ use Rattle.fx_heads.specs.declared.head.HeadFault.TheVariants.{ReadFailed}
 use Rattle.fx_heads.specs.Head.{ReadsHead}
 use Rattle.fx_heads.specs.Known.{IfKnown}
 use Rattle.fx_heads.specs.Source.{Held, to_come}
-use Rattle.soxchain.specs.declared.prepared.Ready.{Ready}
 use Rattle.soxchain.specs.declared.preparing.Refusal.TheVariants.{Chain, Head, Plan}
 use Rattle.soxchain.specs.Convert.{Converted, Running, StopHasCause, Stopped, ToldFirst}
-use Rattle.soxchain.specs.Finishing.{Finished, run_status}
+use Rattle.soxchain.specs.Finishing.{Finished, ReadyParts, run_status}
 use Rattle.soxchain.specs.Program.{Concludes}
 use Rattle.soxchain.specs.Readying.{LineRefused, LineUnready}
 use Rattle.soxchain.specs.Stops.{Stop, Refused, Run}
@@ -27,7 +26,7 @@ use Rattle.soxchain.proofs.Converting.{HasCause-before, HasCause-map, Ran-told, 
 
 -- a source that holds nothing yet
 abbrev pub fresh : {R : Type 0} → R → Held R
-fresh reader = record { bytes = []; reader = reader }
+fresh reader = record { bytes = []; reader = reader; short = false }
 
 -- the line that the words are is read
 pub line-reads : (found : Result Said LineFault) (line : Said) → found ≡ Ok line → LineReads found (Ok line)
@@ -95,7 +94,7 @@ module _ {R W : Type 0} (reads : ByteReader R) (writes : ByteWriter W)
   )
 
   -- what was ready when a run began
-  pub record Began (middle : Held R) (ready : Ready) : Type 0 where
+  pub record Began (middle : Held R) (ready : ReadyParts) : Type 0 where
     pub line : line_of words ≡ Ok ready.line
     pub head : IfKnown (to_come reads.rest (fresh reader)) (λ bytes. ReadsHead reads.rest reads.told ready.line.input_kind bytes (fresh reader) middle ready.prepared.plan.head)
     pub no_faults : all_faults (head_layout ready.prepared.plan.head) files (effects_in ready.line) ≡ []
@@ -103,7 +102,7 @@ module _ {R W : Type 0} (reads : ByteReader R) (writes : ByteWriter W)
     pub chain : IsNewChain (planning ready.prepared.plan) ready.prepared.chain
     pub unfailed : reads.failures middle.reader ≡ reads.failures reader
 
-  module _ (middle new : Held R) (ready : Ready) (writer new_writer : W) (inner : R) (status : ℕ) (report : Report)
+  module _ (middle new : Held R) (ready : ReadyParts) (writer new_writer : W) (inner : R) (status : ℕ) (report : Report)
       (began : Began middle ready) (f : Finished reads writes ready middle new writer new_writer IsTold status report) (is : inner ≡ new.reader) where
     -- the head that the bytes begin with
     abbrev pub head-in : (bytes : List ℕ) → reads.rest reader ≡ Option.Some bytes → ReadsHead reads.rest reads.told ready.line.input_kind bytes (fresh reader) middle ready.prepared.plan.head

@@ -1,6 +1,6 @@
 -- A conversion, put together from its head and its run.
 use Rattle.std.proofs.Common.{map, ◌⊎◌, inl, inr, ◌≡◌, ℕ, ◌+◌, ◌-◌, ◌/◌, ◌^◌, ◌<◌, ◌≤◌, List, [], length, sym, ap, arith, ◌∙◌}
-use Rattle.std.specs.Prelude.{MatchBool, Option, Some, Result, Ok, Err}
+use Rattle.std.specs.Prelude.{false, MatchBool, Option, Some, Result, Ok, Err}
 use Rattle.fx_line.specs.declared.line.LineFault.{LineFault}
 use Rattle.fx_line.specs.Line.{Said}
 use Rattle.fx_plan.specs.CommandLines.{LineReads}
@@ -28,19 +28,18 @@ use Rattle.fx_stages.specs.Stages.{effect_acts}
 use Rattle.fx_sound.specs.Sound.{Reading, at_most_announced, size_of}
 use Rattle.fx_heads.specs.Source.{Held, Takes, to_come}
 use Rattle.soxchain.specs.declared.preparing.Refusal.TheVariants.{Head}
-use Rattle.soxchain.specs.declared.prepared.Ready.{Ready}
-use Rattle.soxchain.specs.Finishing.{Finished, run_messages}
+use Rattle.soxchain.specs.Finishing.{Finished, ReadyParts, run_messages}
 use Rattle.soxchain.specs.Messages.{refusal_message}
 use Rattle.soxchain.specs.Preparing.{RefusalHasCause}
 use Rattle.soxchain.specs.Readying.{Unready}
 
 -- a new source holds nothing
-pub held-is : {R : Type 0} (s : Held R) (reader : R) → s.bytes ≡ [] → s.reader ≡ reader → s ≡ record { bytes = []; reader = reader }
-held-is s reader b r = ap₂ (λ bs x. record { bytes = bs; reader = x }) b r
+pub held-is : {R : Type 0} (s : Held R) (reader : R) → s.bytes ≡ [] → s.reader ≡ reader → s.short ≡ false → s ≡ record { bytes = []; reader = reader; short = false }
+held-is s reader b r h = ap₂ (λ bs x. record { bytes = bs; reader = x; short = s.short }) b r ∙ ap (λ t. record { bytes = []; reader = reader; short = t }) h
 
 -- what is to come from it is what the reader has still to tell
 pub to_come-start : {R : Type 0} (rest : R → Option (List ℕ)) (s : Held R) (reader : R) (bytes : List ℕ) → s.bytes ≡ [] → s.reader ≡ reader → rest reader ≡ Some bytes → to_come rest s ≡ Some bytes
-to_come-start rest s reader bytes b r k = ap (to_come rest) (held-is s reader b r) ∙ ap (prepend_known []) k
+to_come-start rest s reader bytes b r k = ap (λ bs. prepend_known bs (rest s.reader)) b ∙ ap (λ x. prepend_known [] (rest x)) r ∙ ap (prepend_known []) k
 
 -- a refused head has its cause
 pub head-causes : (X : Type 0) (f : HeadFault) (reads new : ℕ) → MatchBool (is_read_failure ((λ (r : Result X HeadFault). r) (Err f))) (new ≡ saturated (reads + 1)) (new ≡ reads) → RefusalHasCause (Head f) reads new
@@ -119,7 +118,7 @@ Unready-told reads line files old new IsSaid IsTold status move u = record {
 }
 
 -- what a run came to, told by another measure
-pub Finished-told : {R W : Type 0} (reads : ByteReader R) (writes : ByteWriter W) (ready : Ready) (source new_source : Held R) (writer new_writer : W) (IsSaid IsTold : List ℕ → Type 0) (status : ℕ) (report : Report)
+pub Finished-told : {R W : Type 0} (reads : ByteReader R) (writes : ByteWriter W) (ready : ReadyParts) (source new_source : Held R) (writer new_writer : W) (IsSaid IsTold : List ℕ → Type 0) (status : ℕ) (report : Report)
     → ((text : List ℕ) → IsSaid text → IsTold text) → Finished reads writes ready source new_source writer new_writer IsSaid status report → Finished reads writes ready source new_source writer new_writer IsTold status report
 Finished-told reads writes ready source new_source writer new_writer IsSaid IsTold status report move f = record {
   outcome = f.outcome;

@@ -104,7 +104,7 @@ pub record Converted {R W : Type 0} (reads : ByteReader R) (writes : ByteWriter 
   -- what is refused before the run has written nothing
   pub clean : (r : Refusal) → outcome ≡ Err (Refused r) → new_writer ≡ writer
   pub refused : (f : HeadFault) → outcome ≡ Err (Refused (Refusals.Head f)) → f ≢ HeadFaults.ReadFailed → IfKnown (reads.rest reader) (λ bytes. head_of line.input_kind bytes ≡ Err f)
-  pub cut : outcome ≡ Err (Refused (Refusals.Head HeadFaults.ReadFailed)) → (new : Held R) × CutOff reads.rest reads.told (head_of line.input_kind) (record { bytes = []; reader = reader }) new × (new.reader ≡ new_reader)
+  pub cut : outcome ≡ Err (Refused (Refusals.Head HeadFaults.ReadFailed)) → (new : Held R) × CutOff reads.rest reads.told (head_of line.input_kind) (record { bytes = []; reader = reader; short = false }) new × (new.reader ≡ new_reader)
   pub unplanned : (f : PlanFault) → outcome ≡ Err (Refused (Refusals.Plan f)) → IfKnown (reads.rest reader) (λ bytes. Unplanned line files bytes f)
   -- no memory for the chain: head and plan had stood
   pub unchained : outcome ≡ Err (Refused Refusals.Chain) → IfKnown (reads.rest reader) (λ bytes. Unchained line files bytes)

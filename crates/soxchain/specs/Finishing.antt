@@ -14,8 +14,13 @@ use Rattle.fx_effects.specs.Bounds.{work_of}
 use Rattle.fx_plan.specs.Planning.{planning}
 use Rattle.fx_heads.specs.Known.{IfKnown}
 use Rattle.fx_heads.specs.Source.{Held, HoldsWhatCame, to_come}
-use Rattle.soxchain.specs.declared.prepared.Ready.{Ready}
+use Rattle.soxchain.specs.declared.prepared.Prepared.{Prepared}
 use Rattle.soxchain.specs.Messages.{run_label, run_message, warnings}
+
+-- what is ready for a run: what the command line says, and the plan and the chain that it asks for
+pub record ReadyParts : Type 0 where
+  pub line : Said
+  pub prepared : Prepared
 
 -- 0 without a fault, and else 2
 abbrev pub run_status : Result Report RunFault → ℕ
@@ -29,7 +34,7 @@ run_messages line (Err f) = warnings line (report_at f) ++ run_message (run_labe
 
 -- A run of what was ready: how it went, and status, report and messages that follow from it.
 pub record Finished {R W : Type 0} (reads : ByteReader R) (writes : ByteWriter W)
-    (ready : Ready) (source new_source : Held R) (writer new_writer : W) (IsTold : List ℕ → Type 0) (status : ℕ) (report : Report) : Type 0 where
+    (ready : ReadyParts) (source new_source : Held R) (writer new_writer : W) (IsTold : List ℕ → Type 0) (status : ℕ) (report : Report) : Type 0 where
   pub outcome : Result Report RunFault
   -- what was written and is reported, as functions of the plan and the bytes
   pub ran : IfKnown (to_come reads.rest source) (λ bytes. Ran (planning ready.prepared.plan) bytes (writes.taken writer) (writes.taken new_writer) outcome)

@@ -12,5 +12,4 @@ mod telling;
 
 pub use conversion::convert;
 pub use fx_chain::{MOST_EFFECTS, Report, RunFault};
-pub use prepared::Ready;
-pub use ready::{finish, prepare};
+pub use ready::{Ready, finish, prepare};

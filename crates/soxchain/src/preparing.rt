@@ -18,15 +18,19 @@ use fx_line::LineFault;
 use fx_plan::{CommandLine, PlanCause, PlanFault, plan};
 use fx_sound::{HeadFault, Source, read_head};
 use std::alloc::{AllocError, Global};
+use thiserror::Error;
 
 /// Why a conversion whose command line was accepted stopped before its run. Nothing was written.
-#[derive(Clone, Copy, Debug, Drop, PartialEq, Eq)]
+#[derive(Clone, Copy, Debug, Drop, PartialEq, Eq, Error)]
 pub enum Refusal {
     /// The head is refused.
+    #[error("the head: {0}")]
     Head(HeadFault),
     /// The effects are refused.
+    #[error("{0}")]
     Plan(PlanFault),
     /// No memory was found for the chain.
+    #[error("no memory for the chain")]
     Chain,
 }
 

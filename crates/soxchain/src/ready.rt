@@ -16,7 +16,7 @@ ghost use Rattle.soxchain.specs.Saying.{Says};
 ghost use Rattle.soxchain.specs.Telling.{Tells};
 
 use crate::messages::{label_of_line, tell_fault, tell_line, tell_refusal, tell_warnings};
-use crate::prepared::{Prepared, Ready};
+use crate::prepared::Prepared;
 use crate::preparing::{prepare_line, status_of_fault};
 use crate::telling::Telling;
 use fx_chain::{Report, run};
@@ -25,6 +25,27 @@ use fx_line::LineFault;
 use fx_plan::{CommandLine, Plan, parse_line};
 use fx_sound::Source;
 use std::alloc::Global;
+use std::marker::Model;
+
+/// A command line, and the plan and the new chain that it asks for: what `prepare` makes and `finish` runs.
+#[derive(Drop)]
+pub struct Ready {
+    line: CommandLine,
+    prepared: Prepared,
+}
+
+impl Model for Ready {
+    ghost use Rattle.fx_chain.specs.Chain.{IsNewChain};
+    ghost use Rattle.fx_plan.specs.Planning.{planning};
+    ghost use Rattle.soxchain.specs.Finishing.{ReadyParts};
+
+    ghost Value = { ReadyParts };
+
+    ghost view = { λ r. record { line = r.line; prepared = r.prepared } };
+
+    // The chain is that of the plan, and has taken nothing.
+    ghost invariant = { λ r. IsNewChain (planning r.prepared.plan) r.prepared.chain };
+}
 
 impl Ready {
     /// The plan: of the line's effects, behind the head that was read.
@@ -141,7 +162,6 @@ pub fn finish<R: ByteIn, W: ByteOut, M: ByteOut>(
     output: &mut W,
     messages: &mut M,
 ) -> (u8, Report)
-    requires { IsNewChain (planning ready.prepared.plan) ready.prepared.chain }
     ensures { Finished R.reads W.writes ready source.old source.new output.old output.new (Tells M.writes messages.old messages.new) result.0 result.1 }
 {
     let Ready { line, prepared } = ready;

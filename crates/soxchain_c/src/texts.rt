@@ -6,16 +6,20 @@ ghost use Rattle.soxchain_c.specs.Texts.{AreEnds, AreTexts, FindsBadEnd, FindsNo
 
 use std::alloc::Global;
 use std::str;
+use thiserror::Error;
 
 /// Why words or files are not told rightly.
-#[derive(Clone, Copy, Debug, PartialEq, Eq)]
+#[derive(Clone, Copy, Debug, Drop, PartialEq, Eq, Error)]
 pub enum TextFault {
     /// An end lies before the one before it, or past the bytes.
-    BadEnds,
+    #[error("the ends are not in order or not in the bytes")]
+    BadEnds = 1,
     /// A word is not UTF-8.
-    NotText,
+    #[error("a word is not UTF-8")]
+    NotText = 2,
     /// No memory was found.
-    Memory,
+    #[error("out of memory")]
+    Memory = 3,
 }
 
 /// The words that lie in bytes one behind the other, each up to its end; or the first fault.

@@ -5,9 +5,8 @@ use Rattle.fx_run.specs.declared.report.Report.{Report}
 use Rattle.fx_io.specs.Io.{ByteReader, ByteWriter, Rewinds, saturated}
 use Rattle.fx_plan.specs.Planning.{planning}
 use Rattle.fx_heads.specs.Source.{Held}
-use Rattle.soxchain.specs.declared.prepared.Ready.{Ready}
 use Rattle.soxchain.specs.FileMessages.{rewrite_message}
-use Rattle.soxchain.specs.Finishing.{Finished}
+use Rattle.soxchain.specs.Finishing.{Finished, ReadyParts}
 use Rattle.soxchain.specs.declared.telling.Telling.{Telling}
 use Rattle.soxchain.specs.Saying.{Says}
 use Rattle.soxchain.specs.Telling.{ToldFront}
@@ -46,7 +45,7 @@ pub data FailsOver {F : Type 0} (d : FileWriter F) (old new : F) (bytes : List �
 -- A run into a new file: after a fault the file is left as the run left it. Else the true head is written over its beginning; or this
 -- fails, and is told.
 pub record Files {R F M : Type 0} (reads : ByteReader R) (d : FileWriter F) (writes : ByteWriter M)
-    (ready : Ready) (source new_source : Held R) (file new_file : F) (name : List ℕ) (messages new_messages : Telling M) (status : ℕ) : Type 0 where
+    (ready : ReadyParts) (source new_source : Held R) (file new_file : F) (name : List ℕ) (messages new_messages : Telling M) (status : ℕ) : Type 0 where
   pub left : F
   pub told_so_far : Telling M
   pub run_status : ℕ

@@ -1,5 +1,5 @@
 -- What the program does, on any machine (this project's profile).
-use Rattle.std.specs.Prelude.{◌≡◌, ◌≢◌, ℕ, true, List, [], Option, Some, None, Ok, Err, codes}
+use Rattle.std.specs.Prelude.{◌≡◌, ◌≢◌, ℕ, true, false, List, [], Option, Some, None, Ok, Err, codes}
 use Rattle.std.specs.Io.KnownBytes.{Appends}
 use Rattle.std.specs.declared.io.ErrorKind.{ErrorKind}
 use Rattle.std.specs.declared.io.ErrorKind.TheVariants as ErrorKinds
@@ -16,9 +16,8 @@ use Rattle.fx_heads.specs.Head.{ReadsHead}
 use Rattle.fx_heads.specs.Known.{IfKnown}
 use Rattle.fx_heads.specs.Source.{Held, to_come}
 use Rattle.soxchain.specs.declared.prepared.Prepared.{Prepared}
-use Rattle.soxchain.specs.declared.prepared.Ready.{Ready}
 use Rattle.soxchain.specs.FileMessages.{open_message}
-use Rattle.soxchain.specs.Finishing.{Finished}
+use Rattle.soxchain.specs.Finishing.{Finished, ReadyParts}
 use Rattle.soxchain.specs.Messages.{line_label, line_message}
 use Rattle.soxchain.specs.Program.{status_of_line}
 use Rattle.soxchain.specs.Readying.{Unready}
@@ -40,14 +39,14 @@ pub record Devices (I R O F : Type 0) : Type 1 where
 
 -- What a line asks for is prepared behind the head of a sound: its plan, without a fault, and the chain, which is new.
 pub record IsPrepared {R : Type 0} (reads : ByteReader R) (line : Said) (files : List (List ℕ)) (reader : R) (source : Held R) (prepared : Prepared) : Type 0 where
-  pub head : IfKnown (to_come reads.rest (record { bytes = []; reader = reader })) (λ bytes. ReadsHead reads.rest reads.told line.input_kind bytes (record { bytes = []; reader = reader }) source prepared.plan.head)
+  pub head : IfKnown (to_come reads.rest (record { bytes = []; reader = reader; short = false })) (λ bytes. ReadsHead reads.rest reads.told line.input_kind bytes (record { bytes = []; reader = reader; short = false }) source prepared.plan.head)
   pub no_faults : all_faults (head_layout prepared.plan.head) files (effects_in line) ≡ []
   pub planned : planning prepared.plan ≡ planning_in prepared.plan.head line files
   pub chain : IsNewChain (planning prepared.plan) prepared.chain
   pub unfailed : reads.failures source.reader ≡ reads.failures reader
 
 -- a line, and what is prepared for it
-abbrev pub ready_for : Said → Prepared → Ready
+abbrev pub ready_for : Said → Prepared → ReadyParts
 ready_for line prepared = record { line = line; prepared = prepared }
 
 -- The program asks a machine one thing after another; `m`, `s` and `o` say what it was asked for and answered between one of its states
@@ -58,7 +57,7 @@ module _ {H I R O F M : Type 0} (d : Devices I R O F) (m : H → H → Machine I
   pub data Sounds {X : Type 0} (reads : ByteReader X) (line : Said) (files : List (List ℕ)) (reader : X) (host new_host : H) (old new : Telling M) (status : ℕ) : Type 0 where
     Refused : (source : Held X)
         → new_host ≡ host
-        → Unready reads line files (record { bytes = []; reader = reader }) source (Says writes old new) status
+        → Unready reads line files (record { bytes = []; reader = reader; short = false }) source (Says writes old new) status
         → Sounds reads line files reader host new_host old new status
     Unmade : (source : Held X) (prepared : Prepared) (name : List ℕ)
         → IsPrepared reads line files reader source prepared

@@ -1,12 +1,12 @@
 -- What soxchain-plan tells of sounds and effects (this project's profile).
-use Rattle.std.specs.Prelude.{◌≡◌, ℕ, ◌+◌, ◌*◌, ◌/◌, ◌^◌, ◌≤◌, List, Option, None, Some, length, map, sum}
+use Rattle.std.specs.Prelude.{◌≡◌, ℕ, ◌+◌, ◌-◌, ◌*◌, ◌/◌, ◌^◌, ◌≤◌, List, [], ◌∷◌, Option, None, Some, length, map, min, sum}
 use Rattle.std.specs.List.{All}
 use Rattle.std.specs.Option.{option_map}
 use Rattle.fx_io.specs.Coding.{width_of}
 use Rattle.fx_heads.specs.declared.head.Head.{Head}
 use Rattle.fx_step.specs.Frame.{Samples}
 use Rattle.fx_effects.specs.Bounds.{hold_all, hold_of}
-use Rattle.fx_effects.specs.Effects.{Act, OfEchos, OfFade, OfFir, OfPad, OfTrim, channels_after, name_text}
+use Rattle.fx_effects.specs.Effects.{Act, OfDownsample, OfEchos, OfFade, OfFir, OfPad, OfTrim, OfUpsample, channels_after, name_text}
 use Rattle.fx_effects.specs.Meanings.{InPlace, Placed, line_of}
 use Rattle.fx_fir.specs.Fir.{centre}
 use Rattle.fx_flow.specs.Composed.{Whole}
@@ -32,6 +32,27 @@ told effect = (effect.name.now, effect.hold, effect.late)
 -- the name, the hold and the lateness of an effect
 abbrev pub known : Act → List ℕ × ℕ × ℕ
 known act = (name_text act, hold_of act, late_by act)
+
+-- the frames in a second of what an effect gives, where it takes so many: times the factor of `upsample`, or by that of `downsample`,
+-- rounded down; every other leaves them as they are. No plan that is accepted comes to the limit of 32 bits
+abbrev pub rate_after : Act → ℕ → ℕ
+rate_after (OfUpsample factor) rate = min (rate * factor) (2 ^ 32 - 1)
+rate_after (OfDownsample factor) rate = rate / factor
+rate_after other rate = rate
+
+-- the frames in a second of the input of each effect, the first of which takes so many
+abbrev pub rates_along : ℕ → List Act → List ℕ
+rates_along rate [] = []
+rates_along rate (act ∷ acts) = rate ∷ rates_along (rate_after act rate) acts
+
+-- the frames in a second that are told
+abbrev pub told_rate : EffectOutline → ℕ
+told_rate outline = outline.rate
+
+-- the milliseconds that so many frames take, of which there are so many in a second, rounded up; 0 where a second has none, as in no
+-- plan that is accepted
+abbrev pub milliseconds : ℕ → ℕ → ℕ
+milliseconds frames rate = (frames * 1000 + rate - 1) / rate
 
 -- the whole frames that a head announces
 abbrev pub announced_frames : Head → Option ℕ
@@ -79,6 +100,7 @@ pub record IsOutline (plan : Planning) (outline : Outline) : Type 0 where
   pub input_bits : outline.input.bits ≡ 8 * width_of plan.head.coding
   pub input_frames : outline.input.frames ≡ announced_frames plan.head
   pub effects : map told outline.effects.items ≡ map known plan.acts
+  pub effect_rates : map told_rate outline.effects.items ≡ rates_along plan.head.rate plan.acts
   pub effect_bytes : map told_bytes outline.effects.items ≡ bytes_along plan.head.channels plan.acts
   pub effect_frames : (sound : List Samples) → IsAnnounced plan.head sound
       → map told_frames outline.effects.items ≡ map whole_frames (chain_wholes plan sound)

@@ -5,6 +5,7 @@ use Rattle.soxchain_plan.specs.declared.outline.Outline.{Outline}
 use Rattle.soxchain_plan.specs.declared.outline.SoundOutline.{SoundOutline}
 use Rattle.soxchain_plan.specs.declared.style.Style.{Style}
 use Rattle.soxchain_plan.specs.declared.style.Style.TheVariants.{Text, Json}
+use Rattle.soxchain_plan.specs.Outlines.{milliseconds}
 use Rattle.soxchain_plan.specs.Quoted.{kind_text}
 
 -- how many frames there are, at the end of a line
@@ -22,8 +23,8 @@ sound_line title sound =
 unfoldable pub effect_line : ℕ → EffectOutline → List ℕ
 effect_line number effect =
     codes "effect " ++ decimal number ++ codes " " ++ effect.name.now ++ codes ": holds at most " ++ decimal effect.hold
-    ++ codes " frames, " ++ decimal effect.bytes ++ codes " bytes; gives " ++ decimal effect.late ++ codes " frames late"
-    ++ frames_text effect.frames
+    ++ codes " frames, " ++ decimal effect.bytes ++ codes " bytes; gives " ++ decimal effect.late ++ codes " frames late ("
+    ++ decimal (milliseconds effect.late effect.rate) ++ codes " ms)" ++ frames_text effect.frames
 
 -- a line on each effect, the first of which has this number
 abbrev pub effect_lines : ℕ → List EffectOutline → List ℕ
@@ -55,7 +56,8 @@ sound_json sound =
 unfoldable pub effect_json : EffectOutline → List ℕ
 effect_json effect =
     codes "{\"name\": \"" ++ effect.name.now ++ codes "\", \"hold\": " ++ decimal effect.hold ++ codes ", \"bytes\": "
-    ++ decimal effect.bytes ++ codes ", \"late\": " ++ decimal effect.late ++ codes ", " ++ frames_json effect.frames
+    ++ decimal effect.bytes ++ codes ", \"late\": " ++ decimal effect.late ++ codes ", \"late_ms\": "
+    ++ decimal (milliseconds effect.late effect.rate) ++ codes ", " ++ frames_json effect.frames
 
 -- effects as the elements of an array
 abbrev pub effects_json : List EffectOutline → List ℕ

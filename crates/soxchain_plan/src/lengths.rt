@@ -1,4 +1,4 @@
-//! What each effect does to the number of frames, of channels and of bytes, and how late it gives.
+//! What each effect does to the number of frames, of channels and of bytes and to the rate, and how late it gives.
 ghost use Rattle.std.specs.Prelude.{◌≡◌, ◌*◌, ◌+◌, ◌-◌, ◌^◌, ◌≤◌, List, filter, if◌then◌else◌, length, min, sum_by, ℕ};
 ghost use Rattle.fx_step.specs.Frame.{Samples};
 ghost use Rattle.fx_cut.specs.Fade.{stop_in, until};
@@ -8,7 +8,7 @@ ghost use Rattle.fx_effects.specs.Effects.{Usable, act};
 ghost use Rattle.fx_effects.specs.Meanings.{InPlace, kind_at, line_of, meaning_at, recipe_at};
 ghost use Rattle.fx_fixed.specs.Extents.{meant, pad_length};
 ghost use Rattle.fx_fixed.specs.Positions.{place_of};
-ghost use Rattle.soxchain_plan.specs.Outlines.{held_bytes, late_by};
+ghost use Rattle.soxchain_plan.specs.Outlines.{held_bytes, late_by, milliseconds, rate_after};
 
 use fx_cut::fade::words::Fading;
 use fx_effects::Effect;
@@ -106,6 +106,30 @@ pub fn lateness(effect: &Effect, line: u64) -> u64
         Effect::Trim(_) | Effect::Pad(_) | Effect::Fade(_) => line,
         Effect::Fir(_) => line / 2,
         _ => 0,
+    }
+}
+
+/// The frames in a second of what an effect gives, where it takes so many, or `u32::MAX` where they are more.
+pub fn rate_after(effect: &Effect, rate: u32) -> u32
+    requires { Usable (act effect.now) }
+    ensures { result ≡ rate_after (act effect.now) rate }
+{
+    match effect {
+        Effect::Upsample(factor) => rate.saturating_mul(*factor),
+        Effect::Downsample(factor) => rate / *factor,
+        _ => rate,
+    }
+}
+
+/// The milliseconds that so many frames take, of which there are so many in a second, rounded up; 0 where a second has none.
+pub fn in_milliseconds(frames: u64, rate: u32) -> u128
+    ensures { result ≡ milliseconds frames rate }
+{
+    if rate == 0 {
+        0
+    } else {
+        let rate = u128::from(rate);
+        (u128::from(frames) * 1000 + rate - 1) / rate
     }
 }
 

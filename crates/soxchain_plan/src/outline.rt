@@ -10,10 +10,10 @@ ghost use Rattle.fx_flow.specs.Composed.{composed, composed_wholes};
 ghost use Rattle.fx_step.specs.Frame.{Samples};
 ghost use Rattle.fx_stages.specs.Made.{recipes_for};
 ghost use Rattle.fx_plan.specs.Planning.{planning};
-ghost use Rattle.soxchain_plan.specs.Outlines.{IsOutline, announced_frames, bytes_along, held_bytes, known, told, told_bytes, told_frames, whole_frames};
+ghost use Rattle.soxchain_plan.specs.Outlines.{IsOutline, announced_frames, bytes_along, held_bytes, known, rates_along, told, told_bytes, told_frames, told_rate, whole_frames};
 ghost use Rattle.soxchain_plan.specs.Shown.{effect_json, effect_line, effect_lines, effects_json, frames_json, frames_text, outline_json, outline_text, shown, sound_json, sound_line};
 
-use crate::lengths::{bytes_held, frames_behind, lateness};
+use crate::lengths::{bytes_held, frames_behind, in_milliseconds, lateness, rate_after};
 use crate::quoting::{bits_of, name_of_kind};
 use crate::style::Style;
 use fx_effects::Effect;
@@ -38,6 +38,8 @@ pub struct SoundOutline {
 #[derive(Clone, Copy, Drop)]
 pub struct EffectOutline {
     name: &'static str,
+    /// The frames of its input in a second.
+    rate: u32,
     /// The frames that it may hold.
     hold: u64,
     /// The bytes of their samples.
@@ -85,12 +87,18 @@ fn input_of(head: &Head) -> SoundOutline
     }
 }
 
-/// What an effect says that takes frames of so many channels, and so many of them.
-fn outline_of_effect(effect: &Effect, channels: usize, frames: Option<u64>) -> EffectOutline
+/// What an effect says that takes so many frames a second, of so many channels, and so many of them in all.
+fn outline_of_effect(
+    effect: &Effect,
+    rate: u32,
+    channels: usize,
+    frames: Option<u64>,
+) -> EffectOutline
     requires usable { Usable (act effect.now) }
     requires held { line_of (act effect.now) < 2 ^ 28 }
     requires few { channels ≤ 16 }
     ensures told { told result ≡ known (act effect.now) }
+    ensures rate { result.rate ≡ rate }
     ensures bytes { result.bytes ≡ held_bytes (InPlace channels (act effect.now)) }
     ensures frames { (sound : List Samples) → frames ≡ Some (length sound)
         → result.frames ≡ Some (min (length (meaning_at (recipe_at (InPlace channels (act effect.now))) sound)) (2 ^ 64 - 1)) }
@@ -103,6 +111,7 @@ fn outline_of_effect(effect: &Effect, channels: usize, frames: Option<u64>) -> E
     };
     EffectOutline {
         name: effect.name(),
+        rate,
         hold: line + 1,
         bytes: bytes_held(effect, line, channels),
         late: lateness(effect, line),
@@ -110,10 +119,12 @@ fn outline_of_effect(effect: &Effect, channels: usize, frames: Option<u64>) -> E
     }
 }
 
-/// What effects say, the first of which takes frames of so many channels and so many of them, and the frames behind them.
+/// What effects say, the first of which takes so many frames a second, of so many channels, and so many of them in all, and the frames
+/// behind them.
 fn outlines_of(
     alloc: Global,
     effects: &[Effect],
+    rate: u32,
     channels: usize,
     frames: Option<u64>,
 ) -> Result<(Vec<EffectOutline>, Option<u64>), AllocError>
@@ -122,6 +133,7 @@ fn outlines_of(
     requires short { is_too_long (map act effects.now) ≡ false }
     requires few { channels ≤ 16 }
     ensures told { IfOk result (λ it. map told it.0.items ≡ map known (map act effects.now)) }
+    ensures rates { IfOk result (λ it. map told_rate it.0.items ≡ rates_along rate (map act effects.now)) }
     ensures bytes { IfOk result (λ it. map told_bytes it.0.items ≡ bytes_along channels (map act effects.now)) }
     ensures each { IfOk result (λ it. (sound : List Samples) → frames ≡ Some (length sound) → length sound ≤ 2 ^ 40
         → map told_frames it.0.items ≡ map whole_frames (composed_wholes meaning_at (recipes_for channels (map act effects.now)) sound)) }
@@ -131,11 +143,13 @@ fn outlines_of(
     ensures end { IfOk result (λ it. frames ≡ None → it.1 ≡ None) }
 {
     let mut outlines = Vec::new(alloc);
+    let mut input_rate = rate;
     let mut inputs = channels;
     let mut left = frames;
     'effects: for effect in effects {
-        let outline = outline_of_effect(effect, inputs, left);
+        let outline = outline_of_effect(effect, input_rate, inputs, left);
         outlines.push(outline)?;
+        input_rate = rate_after(effect, input_rate);
         inputs = effect.channels_after(inputs);
         left = outline.frames;
     }
@@ -160,7 +174,13 @@ fn outline_of(alloc: Global, plan: &Plan) -> Result<Outline, AllocError>
 {
     let head = plan.head();
     let input = input_of(&head);
-    let (effects, frames) = outlines_of(alloc, plan.effects(), head.channels, input.frames)?;
+    let (effects, frames) = outlines_of(
+        alloc,
+        plan.effects(),
+        head.rate,
+        head.channels,
+        input.frames,
+    )?;
     let bytes = bytes_of(&effects, head.channels);
     let output = SoundOutline {
         kind: plan.kind(),
@@ -258,9 +278,10 @@ impl EffectOutline {
             late,
             ..
         } = *self;
+        let milliseconds = in_milliseconds(late, self.rate);
         write!(
             writer,
-            "effect {number} {name}: holds at most {hold} frames, {bytes} bytes; gives {late} frames late"
+            "effect {number} {name}: holds at most {hold} frames, {bytes} bytes; gives {late} frames late ({milliseconds} ms)"
         )?;
         show_frames(writer, self.frames)
     }
@@ -276,9 +297,10 @@ impl EffectOutline {
             late,
             ..
         } = *self;
+        let milliseconds = in_milliseconds(late, self.rate);
         write!(
             writer,
-            "{{\"name\": \"{name}\", \"hold\": {hold}, \"bytes\": {bytes}, \"late\": {late}, "
+            "{{\"name\": \"{name}\", \"hold\": {hold}, \"bytes\": {bytes}, \"late\": {late}, \"late_ms\": {milliseconds}, "
         )?;
         show_json_frames(writer, self.frames)
     }

@@ -8,6 +8,7 @@ ghost use Rattle.std.specs.List.{All};
 ghost use Rattle.fx_step.specs.Frame.{IsWideFrame, Samples};
 ghost use Rattle.soxchain_stream.specs.Frozen.{AreStored, IsWord, frame_words, snapshot_bytes, snapshot_words, word};
 
+use byteorder::{ByteOrder, LittleEndian};
 use fx_frame::WideFrame;
 use std::alloc::{AllocError, Global};
 
@@ -32,7 +33,9 @@ fn to_bytes(alloc: Global, words: &[u64]) -> Result<Vec<u8>, AllocError>
     let mut bytes = Vec::new(alloc);
     let mut rest = words;
     while let Some((next, more)) = rest.split_first() {
-        bytes.extend_from_slice(&next.to_le_bytes())?;
+        let mut word = [0; 8];
+        LittleEndian::write_u64(&mut word, *next);
+        bytes.extend_from_slice(&word)?;
         rest = more;
     }
     Ok(bytes)
@@ -47,7 +50,7 @@ fn to_words(alloc: Global, bytes: &[u8]) -> Result<Option<Vec<u64>>, AllocError>
     let mut words = Vec::new(alloc);
     let mut rest = bytes;
     while let Some((next, more)) = rest.split_first_chunk::<8>() {
-        words.push(u64::from_le_bytes(*next))?;
+        words.push(LittleEndian::read_u64(next))?;
         rest = more;
     }
     if rest.is_empty() {

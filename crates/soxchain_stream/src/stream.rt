@@ -16,6 +16,7 @@ use fx_flow::flow::{MOST_FRAMES, State};
 use fx_frame::{Passed, ThawFault};
 use fx_plan::Plan;
 use std::alloc::{AllocError, Global};
+use thiserror::Error;
 
 /// The chain of a plan, and the plan.
 #[derive(Drop)]
@@ -39,12 +40,14 @@ pub enum Waits {
 }
 
 /// Why nothing was taken.
-#[derive(Clone, Copy, Debug, PartialEq, Eq)]
+#[derive(Clone, Copy, Debug, Drop, PartialEq, Eq, Error)]
 pub enum FeedFault {
     /// The samples make no whole frames.
-    PartOfFrame,
+    #[error("the samples make no whole frames")]
+    PartOfFrame = 1,
     /// More than 2^40 frames would have come.
-    TooLong,
+    #[error("the sound is too long")]
+    TooLong = 2,
 }
 
 impl Stream {

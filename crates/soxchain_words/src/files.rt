@@ -8,9 +8,11 @@ ghost use Rattle.soxchain_words.specs.Files.{AreFronts, IsAsked, IsFront, IsOfFi
 
 use fx_frame::{ByteIn, Counted};
 use fx_plan::CommandLine;
+use fx_plan::inner::coefficient_file_names;
 use std::alloc::Global;
 use std::fs::File;
 use std::io;
+use thiserror::Error;
 
 /// The most bytes that are read of a coefficient file: one more than it may have.
 const MOST_READ: usize = 0x10_0001;
@@ -118,11 +120,13 @@ fn read_next<H: Openings>(
 }
 
 /// Why the coefficient files of a line are not there.
-#[derive(Clone, Copy, Debug, Drop, PartialEq, Eq)]
+#[derive(Clone, Copy, Debug, Drop, PartialEq, Eq, Error)]
 pub enum FilesFault<'a> {
     /// The file of this name cannot be opened or read.
+    #[error("{0} cannot be read")]
     CannotRead(&'a str),
     /// No memory was found for the list of names, or for the bytes of a file.
+    #[error("no memory for the files")]
     Memory,
 }
 
@@ -137,7 +141,7 @@ pub fn read_files<'a, H: Openings>(
     ensures each { IfOk result (λ files. AreFronts H.opened H.Reader.reads.rest host.old host.new (coefficient_files (effects_in line.now)) (bytes_of files.items)) }
     ensures named { IfErr result (IsOfFiles H.opened H.unopened H.Reader.reads host.old host.new (coefficient_files (effects_in line.now))) }
 {
-    let Ok(names) = line.coefficient_files(alloc) else {
+    let Ok(names) = coefficient_file_names(alloc, line) else {
         return Err(FilesFault::Memory);
     };
     let mut files = Vec::new(alloc);

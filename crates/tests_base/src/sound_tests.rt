@@ -32,20 +32,12 @@ const HEAD_WAVE_S24: &str =
 
 /// Adds the bytes of hexadecimal digits, between which there may be spaces.
 fn add_hex(text: &str, bytes: &mut Vec<u8>) -> Result<(), &'static str> {
-    let mut high = None;
-    for c in text.chars() {
-        let Some(digit) = c.to_digit(16) else {
-            continue;
+    for word in text.split(' ') {
+        let Ok(decoded) = hex::decode(*bytes.allocator(), word) else {
+            return Err(REFUSED);
         };
-        let digit = (digit & 15) as u8;
-        match high {
-            None => high = Some(digit),
-            Some(first) => {
-                if bytes.push((first & 15) * 16 + digit).is_err() {
-                    return Err(REFUSED);
-                }
-                high = None;
-            }
+        if bytes.extend_from_slice(&decoded).is_err() {
+            return Err(REFUSED);
         }
     }
     Ok(())

@@ -1,8 +1,7 @@
 //! What the lines of a row say.
 
-ghost use Rattle.std.specs.Prelude.{◌<◌, IfSome};
-
 use crate::show::show_row;
+use hex::FromHexError;
 use std::alloc::{AllocError, Global};
 use std::io;
 
@@ -63,34 +62,16 @@ impl Row {
     }
 }
 
-/// The value of a hexadecimal digit.
-fn digit_value(byte: u8) -> Option<u8>
-    ensures { IfSome result (λ value. value < 16) }
-{
-    match byte {
-        b'0'..=b'9' => Some(byte - b'0'),
-        b'a'..=b'f' => Some(byte - b'a' + 10),
-        _ => None,
-    }
-}
-
-/// The byte of two digits.
-fn byte_of(digits: &[u8]) -> Option<u8> {
-    let [high, low] = digits else {
-        return None;
-    };
-    Some(digit_value(*high)? * 16 + digit_value(*low)?)
-}
-
 /// Appends the bytes of hexadecimal digits. Is that what the text has?
 fn add_bytes(input: &mut Vec<u8>, text: &str) -> Result<bool, AllocError> {
-    for digits in text.as_bytes().chunks(2) {
-        let Some(byte) = byte_of(digits) else {
-            return Ok(false);
-        };
-        input.push(byte)?;
+    match hex::decode(*input.allocator(), text) {
+        Ok(bytes) => {
+            input.extend_from_slice(&bytes)?;
+            Ok(true)
+        }
+        Err(FromHexError::OutOfMemory) => Err(AllocError),
+        Err(_) => Ok(false),
     }
-    Ok(true)
 }
 
 /// Appends all of these bytes in hexadecimal digits. Is that what the text has?

@@ -4,6 +4,7 @@ ghost use Rattle.std.specs.Prelude.{◌<◌, IfSome, length};
 
 use fx_plan::Bits;
 use fx_sound::{Head, Kind};
+use hex::FromHex;
 use std::alloc::{AllocError, Global};
 
 /// A coefficient file.
@@ -20,18 +21,6 @@ pub struct Known {
     pub files: Vec<File>,
 }
 
-/// The value of a hexadecimal digit.
-fn digit_value(byte: u8) -> Option<u8>
-    ensures { IfSome result (λ value. value < 16) }
-{
-    match byte {
-        b'0'..=b'9' => Some(byte - b'0'),
-        b'A'..=b'F' => Some(byte - b'A' + 10),
-        b'a'..=b'f' => Some(byte - b'a' + 10),
-        _ => None,
-    }
-}
-
 /// The first byte that a text stands for, and the text behind it; None where there is none, or digits are missing.
 fn first_byte(text: &[u8]) -> Option<(u8, &[u8])>
     ensures { IfSome result (λ x. length x.1.now < length text.now) }
@@ -40,9 +29,9 @@ fn first_byte(text: &[u8]) -> Option<(u8, &[u8])>
     if *byte != b'%' {
         return Some((*byte, rest));
     }
-    let (high, rest) = rest.split_first()?;
-    let (low, rest) = rest.split_first()?;
-    Some((digit_value(*high)? * 16 + digit_value(*low)?, rest))
+    let (digits, rest) = rest.split_first_chunk::<2>()?;
+    let [byte] = <[u8; 1] as FromHex>::from_hex(*digits).ok()?;
+    Some((byte, rest))
 }
 
 /// The bytes that a text stands for; None where digits are missing.

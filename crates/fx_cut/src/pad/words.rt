@@ -9,7 +9,11 @@ ghost use Rattle.fx_cut.specs.TrimWords.{order_faults};
 use crate::trim::words::{MOST_POSITIONS, is_behind};
 use fx_fixed::{Anchor, At};
 use fx_words::{Mark, PlanCause, Refusal, at_word, marked, read_frames, read_position};
+use smallvec::SmallVec;
 use std::alloc::Global;
+
+/// Lengths of silence, each with its position: up to four stand in the value itself, and more on the heap.
+pub type Pads = SmallVec<(u64, At), 4>;
 
 /// The length and the position that a word is.
 fn read_length(
@@ -37,13 +41,13 @@ fn read_length(
 }
 
 /// The lengths and positions that the words are.
-fn read_lengths(alloc: Global, rate: u32, words: &[String]) -> Result<Vec<(u64, At)>, Refusal>
+fn read_lengths(alloc: Global, rate: u32, words: &[String]) -> Result<Pads, Refusal>
     requires rate { 0 < rate }
     requires few { length words.now < 65 }
     ensures read { Reads (λ v. v.items) result (length_faults rate 2 beginning (texts words.now)) (lengths rate 2 beginning (texts words.now)) }
     ensures length { IfOk result (λ v. length v.items ≡ length words.now) }
 {
-    let mut pads = Vec::new(alloc);
+    let mut pads = SmallVec::new(alloc);
     let mut rest = words;
     let mut number = 2;
     let mut previous = At::Start(0);
@@ -82,7 +86,7 @@ fn check_order(pads: &[(u64, At)]) -> Result<(), Mark>
 
 /// The lengths and positions of a `pad` with these words after its name.
 #[tactic(auto, unfolding(crate::specs::PadWords::pad_faults))]
-pub fn read_pad(alloc: Global, rate: u32, words: &[String]) -> Result<Vec<(u64, At)>, Refusal>
+pub fn read_pad(alloc: Global, rate: u32, words: &[String]) -> Result<Pads, Refusal>
     requires { 0 < rate }
     ensures read { Reads (λ v. v.items) result (pad_faults rate (texts words.now)) (lengths rate 2 beginning (texts words.now)) }
     ensures fit { IfOk result (λ v. are_pads v.items ≡ true) }

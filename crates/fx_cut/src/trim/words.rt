@@ -8,19 +8,23 @@ ghost use Rattle.fx_cut.specs.TrimWords.{order_faults, place_faults, places, tri
 
 use fx_fixed::{Anchor, At};
 use fx_words::{Mark, PlanCause, Refusal, at_word, marked, read_position};
+use smallvec::SmallVec;
 use std::alloc::Global;
 
 /// The most positions of a `trim`, and the most lengths of a `pad`.
 pub(crate) const MOST_POSITIONS: usize = 64;
 
+/// Positions: up to four stand in the value itself, and more on the heap.
+pub type Positions = SmallVec<At, 4>;
+
 /// The positions that the words are, each counted from the one before it unless its sign says otherwise.
-fn read_places(alloc: Global, rate: u32, words: &[String]) -> Result<Vec<At>, Refusal>
+fn read_places(alloc: Global, rate: u32, words: &[String]) -> Result<Positions, Refusal>
     requires rate { 0 < rate }
     requires few { length words.now < 65 }
     ensures read { Reads (λ v. v.items) result (place_faults rate 2 beginning (texts words.now)) (places rate beginning (texts words.now)) }
     ensures length { IfOk result (λ v. length v.items ≡ length words.now) }
 {
-    let mut positions = Vec::new(alloc);
+    let mut positions = SmallVec::new(alloc);
     let mut rest = words;
     let mut number = 2;
     let mut previous = At::Start(0);
@@ -70,7 +74,7 @@ fn check_order(positions: &[At]) -> Result<(), Mark>
 
 /// The positions of a `trim` with these words after its name.
 #[tactic(auto, unfolding(crate::specs::TrimWords::trim_faults))]
-pub fn read_trim(alloc: Global, rate: u32, words: &[String]) -> Result<Vec<At>, Refusal>
+pub fn read_trim(alloc: Global, rate: u32, words: &[String]) -> Result<Positions, Refusal>
     requires { 0 < rate }
     ensures { Reads (λ v. v.items) result (trim_faults rate (texts words.now)) (places rate beginning (texts words.now)) }
 {

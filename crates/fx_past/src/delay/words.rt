@@ -6,7 +6,11 @@ ghost use Rattle.fx_past.specs.DelayWords.{delay_at, delay_faults, delays, each_
 
 use fx_fixed::{Anchor, At};
 use fx_words::{PlanCause, Refusal, marked, read_position};
+use smallvec::SmallVec;
 use std::alloc::Global;
+
+/// Delays in frames: up to four stand in the value itself, and more on the heap.
+pub type Delays = SmallVec<u64, 4>;
 
 /// The delay that a word is, behind one of so many frames.
 fn read_place(rate: u32, previous: u64, word: &str) -> Result<u64, PlanCause>
@@ -20,13 +24,13 @@ fn read_place(rate: u32, previous: u64, word: &str) -> Result<u64, PlanCause>
 }
 
 /// The delays that the words are.
-fn read_delays(alloc: Global, rate: u32, words: &[String]) -> Result<Vec<u64>, Refusal>
+fn read_delays(alloc: Global, rate: u32, words: &[String]) -> Result<Delays, Refusal>
     requires rate { 0 < rate }
     requires few { length words.now < 17 }
     ensures read { Reads (λ v. v.items) result (each_faults rate 2 0 (texts words.now)) (delays rate 0 (texts words.now)) }
     ensures count { IfOk result (λ v. length v.items ≡ length words.now) }
 {
-    let mut frames = Vec::new(alloc);
+    let mut frames = SmallVec::new(alloc);
     let mut rest = words;
     let mut number = 2;
     let mut previous = 0;
@@ -52,7 +56,7 @@ pub fn read_delay_words(
     rate: u32,
     channels: usize,
     words: &[String],
-) -> Result<Vec<u64>, Refusal>
+) -> Result<Delays, Refusal>
     requires rate { 0 < rate }
     requires channels { channels ≤ 16 }
     ensures read { Reads (λ v. v.items) result (delay_faults rate channels (texts words.now)) (delays rate 0 (texts words.now)) }

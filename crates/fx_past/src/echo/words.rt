@@ -6,6 +6,7 @@ ghost use Rattle.fx_past.specs.EchoWords.{are_echoes, echo_faults, echo_value, e
 
 use fx_fixed::Gain;
 use fx_words::{PlanCause, Refusal, marked, read_delay, read_gain_up_to};
+use smallvec::SmallVec;
 use std::alloc::Global;
 
 /// The most words after the name: two gains and seven pairs.
@@ -13,6 +14,9 @@ const MOST_WORDS: usize = 16;
 
 /// The greatest gain of the output.
 const GREATEST_GAIN_OUT: u32 = 1000;
+
+/// Delays in frames, each with its decay: up to four stand in the value itself, and more on the heap.
+pub type Taps = SmallVec<(u64, Gain), 4>;
 
 /// What an `echo` or `echos` does.
 #[derive(Debug, Drop, PartialEq, Eq)]
@@ -22,16 +26,16 @@ pub struct Echoing {
     /// The gain of the output.
     pub gain_out: Gain,
     /// The delays in frames, each with its decay.
-    pub taps: Vec<(u64, Gain)>,
+    pub taps: Taps,
 }
 
 /// The pairs that the words are.
-fn read_taps(alloc: Global, rate: u32, words: &[String]) -> Result<Vec<(u64, Gain)>, Refusal>
+fn read_taps(alloc: Global, rate: u32, words: &[String]) -> Result<Taps, Refusal>
     requires rate { 0 < rate }
     requires few { length words.now < 17 }
     ensures { Reads (λ v. v.items) result (tap_faults rate 4 (texts words.now)) (taps rate (texts words.now)) }
 {
-    let mut pairs = Vec::new(alloc);
+    let mut pairs = SmallVec::new(alloc);
     let mut rest = words;
     let mut number = 4;
     while let Some((delay, more)) = rest.split_first() {

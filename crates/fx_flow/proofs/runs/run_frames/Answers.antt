@@ -64,6 +64,24 @@ returns-then-passage-2 g c =
       behind = run.turned.behind;
     }
 
+pub returns : goal.returns
+returns g c =
+    let acts = g.S.Stage.acts in
+    let inputs : ℕ = c.args.widths.inputs in
+    let outputs : ℕ = c.args.widths.outputs in
+    let outs : outputs_of inputs (kinds acts c.args.stages.now) ≡ outputs = sym c.requires.outputs in
+    let all : c.frames.taken ≡ c.args.count = omega (arith, c.frames-test.false, c.frames.auto.taken-end) in
+    let fit : c.frames.taken * inputs ≤ c.args.count * inputs = mul-le-mul_right inputs (omega (arith, all)) in
+    record {
+      ran = λ left may. rw all at (Running-ran acts g.met.S.Stage.rises inputs outputs c.args.count left c.args.stages.now c.args.input.now c.args.output.now c.frames.stages c.frames.output _ _ c.frames.taken c.frames.given (c.frames.invariant.runs left may)
+          (omega (arith, fit, c.requires.input)) outs);
+      read = omega arith;
+      written = omega (arith, c.frames.invariant.fewer, all);
+      small = c.frames.invariant.small;
+      some = λ one. one;
+      behind = c.frames.invariant.behind;
+    }
+
 pub frames-preserved : goal.frames-preserved
 frames-preserved g c =
     let acts = g.S.Stage.acts in

@@ -1,15 +1,26 @@
-use Rattle.std.proofs.Common.{◌≡◌, ◌∙◌, add-one, get_or, length, refl, sym, ap, arith}
+use Rattle.std.proofs.Common.{◌≡◌, ◌∙◌, ◌<◌, add-one, get_or, length, set, refl, sym, ap, arith}
 use Rattle.fx_lists.specs.Lists.{pieces}
 use Rattle.fx_step.specs.Stage.{kind}
 use Rattle.fx_lists.proofs.Pieces.{length-pieces}
 use Rattle.std.proofs.lemmas.List.{length-set}
-use Rattle.fx_flow.proofs.PieceLaws.{AllKeep-piece, MayFeed, MayFeed-at, PieceTo-next, PieceTo-out}
+use Rattle.fx_step.specs.Row.{EachThrough}
+use Rattle.fx_flow.specs.Together.{in_front, one_further}
+use Rattle.fx_flow.proofs.PieceLaws.{AllKeep-piece, MayFeed, MayFeed-at, PieceTo-next, PieceTo-out, ThroughAt-set}
 use Rattle.fx_flow.proofs.Rows.{AllLined-set, lined-few}
 use Rattle.fx_flow.proofs.steady.pass_few.Given as given
 use Rattle.fx_flow.proofs.steady.pass_few.Goals as goal
 
 pub stages-init : goal.stages-init
-stages-init g c = record { came_to = (refl, ap (pieces c.args.channels c.args.count) c.copy_from_slice.ensures.after, refl); long = ap length c.copy_from_slice.ensures.after ∙ c.requires.input; lined = c.requires.lined; within = lined-few g.S.Stage.acts c.args.count c.args.stages.now c.requires.lined c.requires.few }
+stages-init g c =
+    let within = lined-few g.S.Stage.acts c.args.count c.args.stages.now c.requires.lined c.requires.few in
+    let many : length (pieces c.args.channels c.args.count c.args.input.now) ≡ c.args.count = length-pieces c.args.channels c.args.count c.args.input.now in
+    record {
+      came_to = (refl, ap (pieces c.args.channels c.args.count) c.copy_from_slice.ensures.after, refl);
+      together = rw c.copy_from_slice.ensures.after (in_front (rw many within));
+      long = ap length c.copy_from_slice.ensures.after ∙ c.requires.input;
+      lined = c.requires.lined;
+      within = within;
+    }
 
 -- the frames may be passed to the stage at the place
 may : (g : given.Over) (c : goal.After-pass_frames-arg-1 g) → MayFeed g.S.Stage.acts (get_or c.stages.stages c.stages.place c.index-stages-place.result) c.args.channels c.args.count
@@ -55,15 +66,23 @@ stages-preserved g c =
     (omega (arith, c.stages-test.true, c.stages.auto.stages)) in
     let lined = AllLined-set acts c.stages.place c.stages.stages c.pass_frames.new.self c.pass_frames.ensures.lined c.stages.invariant.lined in
     let many = length-set c.stages.stages c.stages.place c.pass_frames.new.self in
+    let before : c.stages.place < length c.stages.stages = omega (arith, c.stages-test.true, c.stages.auto.stages) in
+    let within = lined-few acts c.args.count (set c.stages.stages c.stages.place c.pass_frames.new.self) lined (omega (arith, c.requires.few, c.stages.auto.stages, many)) in
+    let given : length (pieces c.args.channels c.args.count c.pass_frames.new.samples) ≡ c.args.count = length-pieces c.args.channels c.args.count c.pass_frames.new.samples in
+    let each : EachThrough acts (pieces c.args.channels c.args.count c.stages.output) (pieces c.args.channels c.args.count c.pass_frames.new.samples) (get_or c.stages.stages c.stages.place c.index-stages-place.result) c.pass_frames.new.self =
+    rw (← m.inputs) at c.pass_frames.ensures.through in
+    let further = one_further c.stages.place _ _ c.stages.stages _ c.stages.invariant.together (ThroughAt-set acts c.stages.place _ _ c.stages.stages c.pass_frames.new.self c.index-stages-place.result before each) (rw given within) in
     rw add-one (record {
       came_to = PieceTo-next acts c.stages.place c.args.channels c.args.channels c.args.channels (pieces c.args.channels c.args.count c.args.input.now) (pieces c.args.channels c.args.count c.stages.output) (pieces c.args.channels c.args.count c.pass_frames.new.samples) c.args.stages.now c.stages.stages c.pass_frames.new.self
           c.index-stages-place.result (omega (arith, c.stages-test.true, c.stages.auto.stages)) c.stages.invariant.came_to (rw (← m.inputs) at c.pass_frames.ensures.through) (sym keeps);
       long = c.pass_frames.auto.samples ∙ c.stages.invariant.long;
+      together = rw add-one at further;
       lined = lined;
-      within = lined-few acts c.args.count _ lined (omega (arith, c.requires.few, c.stages.auto.stages, many));
+      within = within;
     })
 
 pub returns : goal.returns
 returns g c =
     let out = PieceTo-out g.S.Stage.acts c.stages.place c.args.channels c.args.channels (pieces c.args.channels c.args.count c.args.input.now) (pieces c.args.channels c.args.count c.stages.output) c.args.stages.now c.stages.stages (omega (arith, c.stages-test.false, c.stages.auto.stages)) c.stages.invariant.came_to in
-    record { through = out.0; lined = c.stages.invariant.lined; within = c.stages.invariant.within }
+    let all : c.stages.place ≡ length c.args.stages.now = omega (arith, c.stages-test.false, c.stages.auto.stages, c.stages.auto.place-end) in
+    record { through = out.0; lined = c.stages.invariant.lined; within = c.stages.invariant.within; together = rw (← all) c.stages.invariant.together }

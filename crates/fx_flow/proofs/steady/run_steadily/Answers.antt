@@ -1,4 +1,4 @@
-use Rattle.std.proofs.Common.{◌≡◌, ◌∙◌, ◌+◌, ◌-◌, ◌*◌, ◌++◌, ◌≤◌, ℕ, List, length, take, drop, refl, arith}
+use Rattle.std.proofs.Common.{rules, ◌≡◌, ◌∙◌, ◌+◌, ◌-◌, ◌*◌, ◌++◌, ◌≤◌, ℕ, List, length, take, drop, refl, arith}
 use Rattle.std.specs.Prelude.{ℤ}
 use Rattle.std.proofs.lemmas.List.{length-drop, length-take-le}
 use Rattle.std.proofs.Math.Nat.{add-mul, mul-le-mul_right}
@@ -53,4 +53,4 @@ pieces-preserved g c =
     let free : at + n ≤ length c.pieces.output = omega (arith, mul-le-mul_right ch within, place, c.requires.output, c.pieces.auto.output) in
     let sides : length y ≡ n = c.pass_few.auto.output ∙ (rw size (length-take-le n (drop at c.pieces.output) (omega (arith, free, length-drop at c.pieces.output)))) in
     Steadily-next g.S.Stage.acts g.met.S.Stage.rises ch c.args.count c.args.stages.now c.args.input.now c.args.output.now c.pieces.stages c.pass_few.new.stages c.pieces.output out y c.pieces.done c.min-piece.result c.pieces.invariant c.requires.frame.0 c.requires.frame.1 within some c.requires.input c.requires.output c.see_samples.ensures
-    sides (rw size at c.pass_few.ensures.through) c.pass_few.ensures.lined put
+    sides (rw size at c.pass_few.ensures.through) c.pass_few.ensures.lined (search rules) (rw size at c.pass_few.ensures.together) put

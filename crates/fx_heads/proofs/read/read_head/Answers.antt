@@ -66,6 +66,6 @@ returns-clause-head g c = λ bytes known.
       spelt = head_of-read c.args.expected bytes c.fill.new.out c.in-Ok.got _ first.0 first.1 (omega arith) (omega arith) (omega arith) c.in-Some.ensures
           ∙ ap (spelt_as c.in-Some.kind) then.0;
       there = omega (arith, then.1, first.1, place, length-drop c.in-Ok.got bytes);
-      tells = Takes-both g.R.ByteIn.reads.told _ _ _ c.in-Ok.got (c.in_ok-fields.fields.offset - 4) c.in_ok-fields.fields.offset place c.in-Ok.ensures.told c.in_ok-fields.ensures.told;
+      tells = Takes-both g.R.ByteIn.reads.told _ _ c.read_fields.new.source c.in-Ok.got (c.in_ok-fields.fields.offset - 4) c.in_ok-fields.fields.offset place c.in-Ok.ensures.told c.in_ok-fields.ensures.told;
       others = then.2 ∙ ap Some (drop-drop (c.in_ok-fields.fields.offset - 4) c.in-Ok.got bytes ∙ ap (λ i. drop i bytes) place);
     }

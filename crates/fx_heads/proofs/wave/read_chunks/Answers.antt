@@ -51,7 +51,7 @@ loop-turn-preserved g c =
                 ∙ sym (turn-next most_chunks c.loop-turn._turn c.loop-turn.offset c.in-Next.next c.loop-turn.seen c.in-Next.format _ (omega arith) (new.0 ∙ ap Ok c.in-Next.is))
                 ∙ old.2,
           );
-      told = Takes-both g.R.ByteIn.reads.told _ _ _ _ _ _ all c.loop-turn.invariant.told c.in_ok-head.ensures.told;
+      told = Takes-both g.R.ByteIn.reads.told _ _ c.read_step.new.source _ _ _ all c.loop-turn.invariant.told c.in_ok-head.ensures.told;
       cut = λ bytes known.
           let old = c.loop-turn.invariant.rest bytes known in
           let new = c.in_ok-head.ensures.step _ old.1 in

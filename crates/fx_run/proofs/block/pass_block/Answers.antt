@@ -89,6 +89,7 @@ returns g c =
         held = AreHeld-fewer _ _ taken c.held_frames-count.result few c.held_frames-count.ensures.held;
         bytes = c.pass_held.ensures.bytes;
         reader = c.pass_held.ensures.reader;
+        short = c.pass_held.ensures.short;
         counted = c.pass_held.ensures.counted;
         fed = subst Fed same_frames (rw (← c.out_channels-outputs.ensures) at c.feed-passed.ensures.fed);
         gave = subst In same_frames (rw (← c.out_channels-outputs.ensures) at c.feed-passed.ensures.gave);

@@ -9,13 +9,19 @@ use Rattle.std.proofs.lemmas.Result.{err_from_is_err_and}
 use Rattle.std.specs.Prelude.{Some}
 use Rattle.fx_run.specs.Run.{is_write_failed}
 use Rattle.fx_run.specs.Pump.{Start}
-use Rattle.fx_run.proofs.Blocks.{Pumped-turn}
+use Rattle.fx_run.proofs.Blocks.{Pumped-sent, Pumped-stuck, Pumped-turn}
 use Rattle.fx_run.proofs.Draining.{given_by-few}
 use Rattle.fx_run.proofs.Passing.{settled, Flowed-end, Flowed-start, FlowedFront-end, FlowedFront-start, FlowedFront-turn, RanToEnd-end, not-both, sound_frames-more}
 use Rattle.fx_run.proofs.Sending.{WroteFront-sent}
+use Rattle.fx_run.specs.Waiting.{begun}
+use Rattle.fx_run.proofs.Waiting.{Waits-asked, Waits-until, WaitsMore-turn, WaitsMore-until, WaitsUntil, came-turn}
 use Rattle.fx_run.proofs.pump.pump.Goals as goal
 use Rattle.fx_sound.proofs.Sending.{Sent-start}
 use Rattle.fx_heads.proofs.Held.{HoldsWhatCame-behind}
+
+-- before the first frame
+none-read : (held size : ℕ) → 0 * size + held ≡ held
+none-read held size = omega arith
 
 pub returns-in_err-push-clause-write_failed : goal.returns-in_err-push-clause-write_failed
 returns-in_err-push-clause-write_failed g c = λ _ bytes known.
@@ -46,15 +52,16 @@ loop-turn-init g c =
         few = omega (arith, c.requires.empty.2);
         coded = refl;
         ran = λ bytes known.
-            let Read : ℕ → Type 0 = λ n. Ran p p bytes n (to_come g.R.ByteIn.reads.rest c.args.source.now) in
-            subst Read (sym fresh) (Ran-start p bytes (to_come g.R.ByteIn.reads.rest c.args.source.now) known);
+            let Read : ℕ → Type 0 = λ n. Ran p p bytes n (to_come g.R.ReadBeside.reads.rest c.args.source.now) in
+            subst Read (sym fresh) (Ran-start p bytes (to_come g.R.ReadBeside.reads.rest c.args.source.now) known);
         flowed = λ bytes known.
             rw fresh
             (Flowed-start g.S.Stage.acts c.args.flow.now c.args.outlet.now.coding _ _ _ _ c.args.head.now c.requires.new.1 c.requires.empty.2
             (c.in_ok-push.ensures.sent (g.W.ByteOut.writes.taken c.args.writer.now) [] (Sent-start _ _ c.requires.empty.0 c.requires.empty.1)));
-        takes = rw (fresh, none) (Takes-none g.R.ByteIn.reads.told c.args.source.now);
+        takes = rw (fresh, none) (Takes-none g.R.ReadBeside.reads.told c.args.source.now);
         reads = refl;
       };
+      waited = λ bytes known. rw (fresh, none-read (length c.args.source.now.bytes) (size_of p)) begun;
       writes = c.in_ok-push.ensures.failures;
     }
 
@@ -72,8 +79,8 @@ returns-then-is_spent-clause-sent g c = λ _ bytes known.
 
 pub returns-in_err-drain-in-Ok-Some-clause-write_failed : goal.returns-in_err-drain-in-Ok-Some-clause-write_failed
 returns-in_err-drain-in-Ok-Some-clause-write_failed g c = λ _ bytes known.
-    let old = c.loop-turn.invariant.pumped in
     let next = rw c.in-Ok-Some.field-0-is at c.in-Ok-Some.ensures in
+    let old = Pumped-sent g.S.Stage.acts g.R.ReadBeside.reads _ _ _ _ _ _ _ _ _ _ c.loop-turn.invariant.pumped next.sent next.count in
     let turn : ℕ = c.loop-turn.progress.frames in
     let count : c.next_frame.new.progress.frames ≡ turn + 1 = ap (λ (p : Reading). p.frames) next.counted in
     let ran = old.ran bytes known in
@@ -93,8 +100,8 @@ returns-in_err-drain-in-Ok-Some-clause-whole g c = λ bytes known.
 
 pub returns-in_err-end_flow-in-Ok-None-clause-write_failed : goal.returns-in_err-end_flow-in-Ok-None-clause-write_failed
 returns-in_err-end_flow-in-Ok-None-clause-write_failed g c = λ _ bytes known.
-    let old = c.loop-turn.invariant.pumped in
     let next = rw c.in-Ok-None.field-0-is at c.in-Ok-None.ensures in
+    let old = Pumped-sent g.S.Stage.acts g.R.ReadBeside.reads _ _ _ _ _ _ _ _ _ _ c.loop-turn.invariant.pumped next.sent next.count in
     rw (next.over.1)
     (FlowedFront-end g.S.Stage.acts c.args.flow.now c.loop-turn.flow _ c.end_flow-in-Ok-None.new.flow c.args.outlet.now.coding _ _ _ _ _ _ _ _ c.args.head.now (old.flowed bytes known) old.hungry refl
     (rw (old.coded) at c.in_err-end_flow-in-Ok-None.ensures.cut_off))
@@ -105,12 +112,12 @@ returns-in_err-end_flow-in-Ok-None-clause-ends g c =
     let next = rw c.in-Ok-None.field-0-is at c.in-Ok-None.ensures in
     rw (next.over.0) (λ bytes known.
     let ran = old.ran bytes known in
-    rw (next.over.1) (RanToEnd-end _ _ _ bytes c.loop-turn.progress.frames _ ran (next.end old.begun (drop (c.loop-turn.progress.frames * size_of c.args.progress.now) bytes) ran.to_come_is)))
+    rw (next.over.1) (RanToEnd-end _ _ _ bytes c.loop-turn.progress.frames _ ran (next.end (drop (c.loop-turn.progress.frames * size_of c.args.progress.now) bytes) ran.to_come_is)))
 
 pub returns-in-Ok-None-clause-sent : goal.returns-in-Ok-None-clause-sent
 returns-in-Ok-None-clause-sent g c = λ _ bytes known.
-    let old = c.loop-turn.invariant.pumped in
     let next = rw c.in-Ok-None.field-0-is at c.in-Ok-None.ensures in
+    let old = Pumped-sent g.S.Stage.acts g.R.ReadBeside.reads _ _ _ _ _ _ _ _ _ _ c.loop-turn.invariant.pumped next.sent next.count in
     rw (next.over.1)
     (Flowed-end g.S.Stage.acts c.args.flow.now c.loop-turn.flow _ c.end_flow-in-Ok-None.new.flow c.args.outlet.now.coding _ _ _ _ _ _ _ _ c.args.head.now (old.flowed bytes known) old.hungry refl
     (rw (old.coded) at c.in_ok-end_flow-in-Ok-None.ensures.drained))
@@ -121,14 +128,14 @@ returns-in-Ok-None-clause-ends g c =
     let next = rw c.in-Ok-None.field-0-is at c.in-Ok-None.ensures in
     rw (next.over.0) (λ bytes known.
     let ran = old.ran bytes known in
-    rw (next.over.1) (RanToEnd-end _ _ _ bytes c.loop-turn.progress.frames _ ran (next.end old.begun (drop (c.loop-turn.progress.frames * size_of c.args.progress.now) bytes) ran.to_come_is)))
+    rw (next.over.1) (RanToEnd-end _ _ _ bytes c.loop-turn.progress.frames _ ran (next.end (drop (c.loop-turn.progress.frames * size_of c.args.progress.now) bytes) ran.to_come_is)))
 
 pub returns-in-Err-ReadFailed-clause-read_failed : goal.returns-in-Err-ReadFailed-clause-read_failed
 returns-in-Err-ReadFailed-clause-read_failed g c = λ _.
     let old = c.loop-turn.invariant.pumped in
     let next = rw c.in-Err-ReadFailed.field-0-is at c.in-Err-ReadFailed.ensures in
     let count : c.next_frame.new.progress.frames ≡ c.loop-turn.progress.frames = ap (λ (p : Reading). p.frames) next.err in
-    rw count (Ran-failed g.R.ByteIn.reads.told c.args.progress.now c.loop-turn.progress c.loop-turn.progress.frames c.args.source.now c.loop-turn.source _ old.at old.takes (next.read_failed refl))
+    rw count (Ran-failed g.R.ReadBeside.reads.told c.args.progress.now c.loop-turn.progress c.loop-turn.progress.frames c.args.source.now c.loop-turn.source _ old.at old.takes (next.read_failed refl))
 
 pub returns-in-Err-ReadFailed-clause-came : goal.returns-in-Err-ReadFailed-clause-came
 returns-in-Err-ReadFailed-clause-came g c = λ _ bytes known.
@@ -136,7 +143,7 @@ returns-in-Err-ReadFailed-clause-came g c = λ _ bytes known.
     let next = rw c.in-Err-ReadFailed.field-0-is at c.in-Err-ReadFailed.ensures in
     let count : c.next_frame.new.progress.frames ≡ c.loop-turn.progress.frames = ap (λ (p : Reading). p.frames) next.err in
     let size : ℕ = c.loop-turn.progress.frames * size_of c.args.progress.now in
-    rw count (HoldsWhatCame-behind g.R.ByteIn.reads.told c.args.source.now c.loop-turn.source _ bytes size old.takes (next.came refl (drop size bytes) (old.ran bytes known).to_come_is))
+    rw count (HoldsWhatCame-behind g.R.ReadBeside.reads.told c.args.source.now c.loop-turn.source _ bytes size old.takes (next.came refl (drop size bytes) (old.ran bytes known).to_come_is))
 
 pub returns-in-Err-TooLong-clause-too_long : goal.returns-in-Err-TooLong-clause-too_long
 returns-in-Err-TooLong-clause-too_long g c = λ _.
@@ -153,13 +160,13 @@ returns-in-Err-TooLong-clause-too_long g c = λ _.
 
 pub returns-in-Err-ReadFailed-clause-room : goal.returns-in-Err-ReadFailed-clause-room
 returns-in-Err-ReadFailed-clause-room g c = λ _.
-    let old = c.loop-turn.invariant.pumped in
+    let old = Pumped-sent g.S.Stage.acts g.R.ReadBeside.reads _ _ _ _ _ _ _ _ _ _ c.loop-turn.invariant.pumped c.in-Err-ReadFailed.ensures.sent c.in-Err-ReadFailed.ensures.count in
     let few = given_by-few g.S.Stage.acts g.met.S.Stage.rises c.args.flow.now c.loop-turn.flow old.stay c.requires.fits c.stages-stages.ensures.most c.stages-stages.ensures.sound.few in
     omega (arith, few, old.room)
 
 pub returns-in-Err-TooLong-clause-room : goal.returns-in-Err-TooLong-clause-room
 returns-in-Err-TooLong-clause-room g c = λ _.
-    let old = c.loop-turn.invariant.pumped in
+    let old = Pumped-sent g.S.Stage.acts g.R.ReadBeside.reads _ _ _ _ _ _ _ _ _ _ c.loop-turn.invariant.pumped c.in-Err-TooLong.ensures.sent c.in-Err-TooLong.ensures.count in
     let few = given_by-few g.S.Stage.acts g.met.S.Stage.rises c.args.flow.now c.loop-turn.flow old.stay c.requires.fits c.stages-stages.ensures.most c.stages-stages.ensures.sound.few in
     omega (arith, few, old.room)
 
@@ -172,7 +179,7 @@ returns-then-is_spent-clause-settled g c = λ _ bytes known z.
 pub returns-in_err-push-clause-left : goal.returns-in_err-push-clause-left
 returns-in_err-push-clause-left g c = λ _ bytes known.
     let p = c.args.progress.now in
-    rw (c.requires.fresh.1, c.requires.fresh.0) (Ran-start p bytes (to_come g.R.ByteIn.reads.rest c.args.source.now) known).to_come_is
+    rw (c.requires.fresh.1, c.requires.fresh.0) (Ran-start p bytes (to_come g.R.ReadBeside.reads.rest c.args.source.now) known).to_come_is
 
 pub returns-then-is_spent-clause-left : goal.returns-then-is_spent-clause-left
 returns-then-is_spent-clause-left g c = λ _ bytes known.
@@ -200,7 +207,7 @@ returns-in_err-end_flow-in-Ok-None-clause-left g c = λ _ bytes known.
     let next = rw c.in-Ok-None.field-0-is at c.in-Ok-None.ensures in
     let ran = old.ran bytes known in
     rw (next.over.0)
-    (Ran-behind c.args.progress.now c.loop-turn.progress bytes c.loop-turn.progress.frames _ _ ran (next.left old.begun (drop (c.loop-turn.progress.frames * size_of c.args.progress.now) bytes) ran.to_come_is))
+    (Ran-behind c.args.progress.now c.loop-turn.progress bytes c.loop-turn.progress.frames _ _ ran (next.left (drop (c.loop-turn.progress.frames * size_of c.args.progress.now) bytes) ran.to_come_is))
 
 pub returns-in-Ok-None-clause-left : goal.returns-in-Ok-None-clause-left
 returns-in-Ok-None-clause-left g c = λ _ bytes known.
@@ -208,7 +215,7 @@ returns-in-Ok-None-clause-left g c = λ _ bytes known.
     let next = rw c.in-Ok-None.field-0-is at c.in-Ok-None.ensures in
     let ran = old.ran bytes known in
     rw (next.over.0)
-    (Ran-behind c.args.progress.now c.loop-turn.progress bytes c.loop-turn.progress.frames _ _ ran (next.left old.begun (drop (c.loop-turn.progress.frames * size_of c.args.progress.now) bytes) ran.to_come_is))
+    (Ran-behind c.args.progress.now c.loop-turn.progress bytes c.loop-turn.progress.frames _ _ ran (next.left (drop (c.loop-turn.progress.frames * size_of c.args.progress.now) bytes) ran.to_come_is))
 
 pub returns-in-Err-TooLong-clause-left : goal.returns-in-Err-TooLong-clause-left
 returns-in-Err-TooLong-clause-left g c = λ _ bytes known.
@@ -220,12 +227,15 @@ returns-in-Err-TooLong-clause-left g c = λ _ bytes known.
 pub returns-in_err-pump_block : goal.returns-in_err-pump_block
 returns-in_err-pump_block g c =
     let next = rw c.in-Ok-Some.field-0-is at c.in-Ok-Some.ensures in
+    let old = Pumped-sent g.S.Stage.acts g.R.ReadBeside.reads _ _ _ _ _ _ _ _ _ _ c.loop-turn.invariant.pumped next.sent next.count in
     let drained = c.in_ok-drain-in-Ok-Some.ensures in
-    let old = c.loop-turn.invariant.pumped in
-    let turned = Pumped-turn g.S.Stage.acts g.R.ByteIn.reads _ c.loop-turn.flow c.take.new.self c.drain.new.flow c.loop-turn.source c.next_frame.new.source c.loop-turn.progress c.next_frame.new.progress
-    _ _ _ _ _ _ _ _ old next.counted next.most next.frame next.told next.failures (sym (c.is_spent.ensures.enough old.hungry) ∙ c.if-is_spent.false) c.take.ensures drained.drained drained.waits drained.room drained.few in
+    let turned = Pumped-turn g.S.Stage.acts g.R.ReadBeside.reads _ c.loop-turn.flow c.take.new.self c.drain.new.flow c.loop-turn.source c.next_frame.new.source c.loop-turn.progress c.next_frame.new.progress
+    _ _ _ _ _ _ _ _ old next.counted next.most next.frame next.told next.reads (sym (c.is_spent.ensures.enough old.hungry) ∙ c.if-is_spent.false) c.take.ensures drained.drained drained.waits drained.room drained.few in
     let first : Start g.row.S.Denot g.row.R.Denot =
     record { flow = c.args.flow.now; source = c.args.source.now; progress = c.args.progress.now; coding = c.args.outlet.now.coding; head = c.args.head.now; wrote = g.W.ByteOut.writes.taken c.args.writer.now } in
+    let due = c.stages-stages.ensures.due c.loop-turn.invariant.pumped.hungry in
+    let waits = Waits-asked g.S.Stage.acts g.R.ReadBeside.reads g.R.ReadBeside.asked first _ c.loop-turn.source _ _ _ _ _ c.loop-turn.invariant.pumped due c.next_frame.new.source _ c.next_frame.ensures.asked c.loop-turn.invariant.waited in
+    let Until : g.row.R.Denot → Type 0 = λ r. WaitsUntil g.S.Stage.acts g.R.ReadBeside.reads g.R.ReadBeside.asked first r in
     let front = c.in_err-pump_block.ensures.cut_off first (rw drained.coding turned) in
     let failed = err_from_is_err_and c.from_residual-in_err-pump_block.result c.from_residual-in_err-pump_block.ensures.1 in
     rw (failed.1, failed.2)
@@ -252,20 +262,132 @@ returns-in_err-pump_block g c =
       too_long = λ other. not-both true (ap is_write_failed other) refl;
       most = front.most;
       left = λ _ bytes known. rw front.begun (front.left bytes known);
+      waited = subst Until (sym c.pump_block.ensures.unread.0) (WaitsMore-until g.S.Stage.acts g.R.ReadBeside.reads g.R.ReadBeside.asked first _ c.next_frame.new.source _ waits);
       reads = front.reads;
-      writes = c.in_err-pump_block.ensures.failures ∙ ap (λ n. saturated (n + 1)) (drained.failures ∙ c.loop-turn.invariant.writes);
+      writes = c.in_err-pump_block.ensures.failures ∙ ap (λ n. saturated (n + 1)) (drained.failures ∙ next.writes ∙ c.loop-turn.invariant.writes);
     })
 
 pub loop-turn-preserved : goal.loop-turn-preserved
 loop-turn-preserved g c =
     let next = rw c.in-Ok-Some.field-0-is at c.in-Ok-Some.ensures in
+    let old = Pumped-sent g.S.Stage.acts g.R.ReadBeside.reads _ _ _ _ _ _ _ _ _ _ c.loop-turn.invariant.pumped next.sent next.count in
     let drained = c.in_ok-drain-in-Ok-Some.ensures in
-    let old = c.loop-turn.invariant.pumped in
-    let turned = Pumped-turn g.S.Stage.acts g.R.ByteIn.reads _ c.loop-turn.flow c.take.new.self c.drain.new.flow c.loop-turn.source c.next_frame.new.source c.loop-turn.progress c.next_frame.new.progress
-    _ _ _ _ _ _ _ _ old next.counted next.most next.frame next.told next.failures (sym (c.is_spent.ensures.enough old.hungry) ∙ c.if-is_spent.false) c.take.ensures drained.drained drained.waits drained.room drained.few in
+    let turned = Pumped-turn g.S.Stage.acts g.R.ReadBeside.reads _ c.loop-turn.flow c.take.new.self c.drain.new.flow c.loop-turn.source c.next_frame.new.source c.loop-turn.progress c.next_frame.new.progress
+    _ _ _ _ _ _ _ _ old next.counted next.most next.frame next.told next.reads (sym (c.is_spent.ensures.enough old.hungry) ∙ c.if-is_spent.false) c.take.ensures drained.drained drained.waits drained.room drained.few in
     let count = ap (λ (p : Reading). p.frames) next.counted in
+    let first : Start g.row.S.Denot g.row.R.Denot =
+    record { flow = c.args.flow.now; source = c.args.source.now; progress = c.args.progress.now; coding = c.args.outlet.now.coding; head = c.args.head.now; wrote = g.W.ByteOut.writes.taken c.args.writer.now } in
+    let due = c.stages-stages.ensures.due c.loop-turn.invariant.pumped.hungry in
+    let waits = Waits-asked g.S.Stage.acts g.R.ReadBeside.reads g.R.ReadBeside.asked first _ c.loop-turn.source _ _ _ _ _ c.loop-turn.invariant.pumped due c.next_frame.new.source _ next.asked c.loop-turn.invariant.waited in
     record {
       turns = omega (arith, count, c.in_ok-pump_block.ensures.more, c.loop-turn.invariant.turns);
       pumped = c.in_ok-pump_block.ensures.pumped _ (rw drained.coding turned);
-      writes = c.in_ok-pump_block.ensures.failures ∙ drained.failures ∙ c.loop-turn.invariant.writes;
+      waited = WaitsMore-turn g.S.Stage.acts g.R.ReadBeside.reads g.R.ReadBeside.asked first _ _ c.next_frame.new.source c.pump_block.new.source _ waits
+          (λ more fits. came-turn c.loop-turn.progress.frames c.next_frame.new.progress.frames c.pump_block.new.progress.frames (size_of c.args.progress.now) _ more _ _ count (fits ∙ ap (λ n. n + length c.next_frame.new.source.bytes) old.size)
+          (rw turned.size at c.pump_block.ensures.held)) c.pump_block.ensures.unread.0 c.pump_block.ensures.unread.1;
+      writes = c.in_ok-pump_block.ensures.failures ∙ drained.failures ∙ next.writes ∙ c.loop-turn.invariant.writes;
     }
+
+pub returns-in-Err-ReadFailed-clause-sent : goal.returns-in-Err-ReadFailed-clause-sent
+returns-in-Err-ReadFailed-clause-sent g c = λ _ bytes known.
+    let next = rw c.in-Err-ReadFailed.field-0-is at c.in-Err-ReadFailed.ensures in
+    let old = Pumped-sent g.S.Stage.acts g.R.ReadBeside.reads _ _ _ _ _ _ _ _ _ _ c.loop-turn.invariant.pumped next.sent next.count in
+    rw next.err (old.flowed bytes known)
+
+pub returns-in-Err-TooLong-clause-sent : goal.returns-in-Err-TooLong-clause-sent
+returns-in-Err-TooLong-clause-sent g c = λ _ bytes known.
+    let next = rw c.in-Err-TooLong.field-0-is at c.in-Err-TooLong.ensures in
+    let old = Pumped-sent g.S.Stage.acts g.R.ReadBeside.reads _ _ _ _ _ _ _ _ _ _ c.loop-turn.invariant.pumped next.sent next.count in
+    rw next.err (old.flowed bytes known)
+
+pub returns-in-Err-WriteFailed : goal.returns-in-Err-WriteFailed
+returns-in-Err-WriteFailed g c =
+    let next = rw c.in-Err-WriteFailed.field-0-is at c.in-Err-WriteFailed.ensures in
+    let first : Start g.row.S.Denot g.row.R.Denot =
+    record { flow = c.args.flow.now; source = c.args.source.now; progress = c.args.progress.now; coding = c.args.outlet.now.coding; head = c.args.head.now; wrote = g.W.ByteOut.writes.taken c.args.writer.now } in
+    let due = c.stages-stages.ensures.due c.loop-turn.invariant.pumped.hungry in
+    let waits = Waits-asked g.S.Stage.acts g.R.ReadBeside.reads g.R.ReadBeside.asked first _ c.loop-turn.source _ _ _ _ _ c.loop-turn.invariant.pumped due c.next_frame.new.source _ c.next_frame.ensures.asked c.loop-turn.invariant.waited in
+    let front = Pumped-stuck g.S.Stage.acts g.R.ReadBeside.reads first _ _ _ _ _ _ _ _ _ c.loop-turn.invariant.pumped next.sent in
+    rw next.err
+    (record {
+      sent = λ other. not-both true other refl;
+      write_failed = λ _. front.flowed;
+      room = λ other. not-both true other refl;
+      done = tt;
+      hungry = λ other. not-both true other refl;
+      due = λ other. not-both true other refl;
+      recipes = front.stay;
+      width = front.kept;
+      taken = front.taken;
+      whole = front.whole;
+      ends = rw front.begun front.ends;
+      met = rw (front.begun, front.running) refl;
+      over = λ other. not-both true other refl;
+      wants = front.wants;
+      enough = tt;
+      settled = tt;
+      not_enough = λ other. not-both true other refl;
+      read_failed = λ other. not-both false refl other;
+      came = λ other. not-both false refl other;
+      too_long = λ other. not-both true (ap is_write_failed other) refl;
+      most = front.most;
+      left = λ _ bytes known. rw front.begun (next.kept refl _ (front.left bytes known));
+      waited = WaitsMore-until g.S.Stage.acts g.R.ReadBeside.reads g.R.ReadBeside.asked first _ c.next_frame.new.source _ waits;
+      reads = next.reads ∙ front.reads;
+      writes = next.writes ∙ ap (λ n. saturated (n + 1)) c.loop-turn.invariant.writes;
+    })
+
+pub returns-then-is_spent-clause-waited : goal.returns-then-is_spent-clause-waited
+returns-then-is_spent-clause-waited g c =
+    let first : Start g.row.S.Denot g.row.R.Denot =
+    record { flow = c.args.flow.now; source = c.args.source.now; progress = c.args.progress.now; coding = c.args.outlet.now.coding; head = c.args.head.now; wrote = g.W.ByteOut.writes.taken c.args.writer.now } in
+    Waits-until g.S.Stage.acts g.R.ReadBeside.reads g.R.ReadBeside.asked first _ _ _ c.loop-turn.invariant.waited
+
+pub returns-in_err-end_flow-clause-waited : goal.returns-in_err-end_flow-clause-waited
+returns-in_err-end_flow-clause-waited g c =
+    let first : Start g.row.S.Denot g.row.R.Denot =
+    record { flow = c.args.flow.now; source = c.args.source.now; progress = c.args.progress.now; coding = c.args.outlet.now.coding; head = c.args.head.now; wrote = g.W.ByteOut.writes.taken c.args.writer.now } in
+    Waits-until g.S.Stage.acts g.R.ReadBeside.reads g.R.ReadBeside.asked first _ _ _ c.loop-turn.invariant.waited
+
+pub returns-in_err-push-clause-waited : goal.returns-in_err-push-clause-waited
+returns-in_err-push-clause-waited g c = λ bytes known. record { came = length c.args.source.now.bytes; short = c.args.source.now.short; waited = begun }
+
+pub returns-in_err-drain-in-Ok-Some-clause-waited : goal.returns-in_err-drain-in-Ok-Some-clause-waited
+returns-in_err-drain-in-Ok-Some-clause-waited g c =
+    let first : Start g.row.S.Denot g.row.R.Denot =
+    record { flow = c.args.flow.now; source = c.args.source.now; progress = c.args.progress.now; coding = c.args.outlet.now.coding; head = c.args.head.now; wrote = g.W.ByteOut.writes.taken c.args.writer.now } in
+    let due = c.stages-stages.ensures.due c.loop-turn.invariant.pumped.hungry in
+    let waits = Waits-asked g.S.Stage.acts g.R.ReadBeside.reads g.R.ReadBeside.asked first _ c.loop-turn.source _ _ _ _ _ c.loop-turn.invariant.pumped due c.next_frame.new.source _ c.next_frame.ensures.asked c.loop-turn.invariant.waited in
+    WaitsMore-until g.S.Stage.acts g.R.ReadBeside.reads g.R.ReadBeside.asked first _ c.next_frame.new.source _ waits
+
+pub returns-in_err-end_flow-in-Ok-None-clause-waited : goal.returns-in_err-end_flow-in-Ok-None-clause-waited
+returns-in_err-end_flow-in-Ok-None-clause-waited g c =
+    let first : Start g.row.S.Denot g.row.R.Denot =
+    record { flow = c.args.flow.now; source = c.args.source.now; progress = c.args.progress.now; coding = c.args.outlet.now.coding; head = c.args.head.now; wrote = g.W.ByteOut.writes.taken c.args.writer.now } in
+    let due = c.stages-stages.ensures.due c.loop-turn.invariant.pumped.hungry in
+    let waits = Waits-asked g.S.Stage.acts g.R.ReadBeside.reads g.R.ReadBeside.asked first _ c.loop-turn.source _ _ _ _ _ c.loop-turn.invariant.pumped due c.next_frame.new.source _ c.next_frame.ensures.asked c.loop-turn.invariant.waited in
+    WaitsMore-until g.S.Stage.acts g.R.ReadBeside.reads g.R.ReadBeside.asked first _ c.next_frame.new.source _ waits
+
+pub returns-in-Ok-None-clause-waited : goal.returns-in-Ok-None-clause-waited
+returns-in-Ok-None-clause-waited g c =
+    let first : Start g.row.S.Denot g.row.R.Denot =
+    record { flow = c.args.flow.now; source = c.args.source.now; progress = c.args.progress.now; coding = c.args.outlet.now.coding; head = c.args.head.now; wrote = g.W.ByteOut.writes.taken c.args.writer.now } in
+    let due = c.stages-stages.ensures.due c.loop-turn.invariant.pumped.hungry in
+    let waits = Waits-asked g.S.Stage.acts g.R.ReadBeside.reads g.R.ReadBeside.asked first _ c.loop-turn.source _ _ _ _ _ c.loop-turn.invariant.pumped due c.next_frame.new.source _ c.next_frame.ensures.asked c.loop-turn.invariant.waited in
+    WaitsMore-until g.S.Stage.acts g.R.ReadBeside.reads g.R.ReadBeside.asked first _ c.next_frame.new.source _ waits
+
+pub returns-in-Err-ReadFailed-clause-waited : goal.returns-in-Err-ReadFailed-clause-waited
+returns-in-Err-ReadFailed-clause-waited g c =
+    let first : Start g.row.S.Denot g.row.R.Denot =
+    record { flow = c.args.flow.now; source = c.args.source.now; progress = c.args.progress.now; coding = c.args.outlet.now.coding; head = c.args.head.now; wrote = g.W.ByteOut.writes.taken c.args.writer.now } in
+    let due = c.stages-stages.ensures.due c.loop-turn.invariant.pumped.hungry in
+    let waits = Waits-asked g.S.Stage.acts g.R.ReadBeside.reads g.R.ReadBeside.asked first _ c.loop-turn.source _ _ _ _ _ c.loop-turn.invariant.pumped due c.next_frame.new.source _ c.next_frame.ensures.asked c.loop-turn.invariant.waited in
+    WaitsMore-until g.S.Stage.acts g.R.ReadBeside.reads g.R.ReadBeside.asked first _ c.next_frame.new.source _ waits
+
+pub returns-in-Err-TooLong-clause-waited : goal.returns-in-Err-TooLong-clause-waited
+returns-in-Err-TooLong-clause-waited g c =
+    let first : Start g.row.S.Denot g.row.R.Denot =
+    record { flow = c.args.flow.now; source = c.args.source.now; progress = c.args.progress.now; coding = c.args.outlet.now.coding; head = c.args.head.now; wrote = g.W.ByteOut.writes.taken c.args.writer.now } in
+    let due = c.stages-stages.ensures.due c.loop-turn.invariant.pumped.hungry in
+    let waits = Waits-asked g.S.Stage.acts g.R.ReadBeside.reads g.R.ReadBeside.asked first _ c.loop-turn.source _ _ _ _ _ c.loop-turn.invariant.pumped due c.next_frame.new.source _ c.next_frame.ensures.asked c.loop-turn.invariant.waited in
+    WaitsMore-until g.S.Stage.acts g.R.ReadBeside.reads g.R.ReadBeside.asked first _ c.next_frame.new.source _ waits

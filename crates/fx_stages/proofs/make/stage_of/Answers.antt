@@ -14,7 +14,7 @@ use Rattle.fx_stages.proofs.Planned.{delays-long}
 use Rattle.fx_stages.proofs.make.stage_of.Goals as goal
 
 pub new-requires-in-Pad-clause-pads : goal.new-requires-in-Pad-clause-pads
-new-requires-in-Pad-clause-pads c = rw (c.deref-in-Pad.ensures.value) (pads-are _ (rw (c.in-Pad.is) at c.requires.suits))
+new-requires-in-Pad-clause-pads c = rw (c.deref-in-Pad.ensures) (pads-are _ (rw (c.in-Pad.is) at c.requires.suits))
 
 pub new-requires-in-Remix-clause-few : goal.new-requires-in-Remix-clause-few
 new-requires-in-Remix-clause-few c = rw (c.deref-in-Remix.ensures.value) ((mixes-are _ _ (rw (c.in-Remix.is) at c.requires.suits)).0)

@@ -11,13 +11,13 @@ returns-in-Err g c =
     let new = c.new-source.ensures in
     rw (c.none.ensures) (refused g.R.ByteIn.reads g.W.ByteOut.writes (texts c.args.words.now) (bytes_of c.args.files.now) c.args.reader
     (Tells g.M.ByteOut.writes c.args.messages.now c.prepare.new.messages)
-    c.prepare.new.source c.args.output.now c.into_inner.result c.in-Err.status c.into_inner.ensures (rw (held-is c.new-source.result c.args.reader new.bytes new.reader) at c.in-Err.ensures.refused))
+    c.prepare.new.source c.args.output.now c.into_inner.result c.in-Err.status c.into_inner.ensures (rw (held-is c.new-source.result c.args.reader new.bytes new.reader new.short) at c.in-Err.ensures.refused))
 
 pub returns : goal.returns
 returns g c =
     let new = c.new-source.ensures in
     let told = c.in-Ok.ensures in
-    let start = held-is c.new-source.result c.args.reader new.bytes new.reader in
+    let start = held-is c.new-source.result c.args.reader new.bytes new.reader new.short in
     concluded g.R.ByteIn.reads g.W.ByteOut.writes (texts c.args.words.now) (bytes_of c.args.files.now) c.args.reader
     (Tells g.M.ByteOut.writes c.args.messages.now c.finish-status.new.messages)
     c.prepare.new.source c.finish-status.new.source c.in-Ok.ready c.args.output.now c.finish-status.new.output c.into_inner-2.result c.finish-status.result.0 c.finish-status.result.1

@@ -6,12 +6,12 @@ use Rattle.soxchain_cli.proofs.files.process_from.Goals as goal
 pub returns-in-Err : goal.returns-in-Err
 returns-in-Err g c =
     let new = c.new-source.ensures in
-    Refused c.prepare_for.new.source refl (rw (held-is c.new-source.result c.args.reader new.bytes new.reader) at c.in-Err.ensures.refused)
+    Refused c.prepare_for.new.source refl (rw (held-is c.new-source.result c.args.reader new.bytes new.reader new.short) at c.in-Err.ensures.refused)
 
 pub returns-in-Standard : goal.returns-in-Standard
 returns-in-Standard g c =
     let new = c.new-source.ensures in
-    let start = held-is c.new-source.result c.args.reader new.bytes new.reader in
+    let start = held-is c.new-source.result c.args.reader new.bytes new.reader new.short in
     let told = c.in-Ok.ensures in
     let output = c.output-output.ensures in
     Streamed c.output-output.new.self c.prepare_for.new.source c.finish_for-status.new.source c.in-Ok.prepared c.output-output.result c.finish_for-status.new.output c.finish_for-status.result.1
@@ -29,7 +29,7 @@ returns-in-Standard g c =
 pub returns-in-Some : goal.returns-in-Some
 returns-in-Some g c =
     let new = c.new-source.ensures in
-    let start = held-is c.new-source.result c.args.reader new.bytes new.reader in
+    let start = held-is c.new-source.result c.args.reader new.bytes new.reader new.short in
     let told = c.in-Ok.ensures in
     let file = c.in-Some.ensures in
     Filed c.create_beside.new.host c.prepare_for.new.source c.process_to-status.new.source c.in-Ok.prepared c.in-Named.name.now c.in-Some.file c.process_to-status.new.file
@@ -46,7 +46,7 @@ returns-in-Some g c =
 pub returns : goal.returns
 returns g c =
     let new = c.new-source.ensures in
-    let start = held-is c.new-source.result c.args.reader new.bytes new.reader in
+    let start = held-is c.new-source.result c.args.reader new.bytes new.reader new.short in
     let told = c.in-Ok.ensures in
     Unmade c.prepare_for.new.source c.in-Ok.prepared c.in-Named.name.now
     (record {

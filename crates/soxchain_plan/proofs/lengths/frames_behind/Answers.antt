@@ -7,12 +7,12 @@ use Rattle.soxchain_plan.proofs.lengths.frames_behind.Goals as goal
 
 pub returns-in-Trim : goal.returns-in-Trim
 returns-in-Trim c =
-    let kept : c.kept.result ≡ kept_count c.in-Trim.positions.items c.args.frames c.args.frames = rw c.deref.ensures.value at c.kept.ensures in
+    let kept : c.kept.result ≡ kept_count c.in-Trim.positions.items c.args.frames c.args.frames = rw c.deref.ensures at c.kept.ensures in
     behind (act c.args.effect.now) c.args.frames c.kept.result (rw c.in-Trim.is (omega (arith, kept)))
 
 pub returns-in-Pad : goal.returns-in-Pad
 returns-in-Pad c =
-    let silent = rw c.deref-in-Pad.ensures.value at c.silence.ensures in
+    let silent = rw c.deref-in-Pad.ensures at c.silence.ensures in
     behind (act c.args.effect.now) c.args.frames c.saturating_add.result (rw c.in-Pad.is (omega (arith, silent)))
 
 pub returns-in-Fade : goal.returns-in-Fade

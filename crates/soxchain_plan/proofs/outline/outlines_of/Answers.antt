@@ -1,5 +1,6 @@
 -- Effect by effect, what is told and what is still to be told are together what the effects are.
-use Rattle.std.proofs.Common.{◌≡◌, ◌+◌, ◌^◌, ◌++◌, [], ◌∷◌, List, None, Some, append-nil, drop, length, refl, map, sym, ap, ◌∙◌, arith}
+use Rattle.std.proofs.Common.{◌≡◌, ℕ, ◌+◌, ◌^◌, ◌<◌, ◌++◌, [], ◌∷◌, List, None, Some, append-nil, drop, get_or, length, refl, map, sym, ap, ◌∙◌, arith}
+use Rattle.std.specs.List.{All}
 use Rattle.std.proofs.lemmas.List.{drop_more, drop_all}
 use Rattle.std.proofs.lemmas.List.Elements.{All-head, All-tail}
 use Rattle.std.proofs.lemmas.List.Sums.{sum_by-cons}
@@ -7,13 +8,14 @@ use Rattle.fx_effects.proofs.Lasting.{within-fewer}
 use Rattle.fx_effects.specs.Bounds.{hold_of}
 use Rattle.fx_effects.specs.Effects.{Usable, act, channels_after}
 use Rattle.fx_effects.specs.declared.effect.Effect.{Effect}
-use Rattle.soxchain_plan.specs.Outlines.{bytes_along, known, told, told_bytes, told_frames}
+use Rattle.soxchain_plan.specs.Outlines.{bytes_along, known, rate_after, rates_along, told, told_bytes, told_frames, told_rate}
 use Rattle.soxchain_plan.proofs.Made.{all-more, all-none, appended, begun, by-number, composed-made, counted-more, few-after, map-more, wholes-made}
 use Rattle.soxchain_plan.proofs.outline.outlines_of.Goals as goal
 
 pub effects-init : goal.effects-init
 effects-init c = let empty = c.new-outlines.ensures.items in record {
   told = rw empty refl;
+  rates = rw empty refl;
   bytes = rw empty refl;
   usable = c.requires.usable;
   held = omega arith;
@@ -23,10 +25,17 @@ effects-init c = let empty = c.new-outlines.ensures.items in record {
   end = λ e. e;
 }
 
+-- the first of those that are still to come
+usable-next : (effects : List Effect) (i : ℕ) (e : Effect) → i < length effects → e ≡ get_or effects i e → All Usable (map act (drop i effects)) → Usable (act e)
+usable-next effects i e h is usable =
+    let cut : drop i effects ≡ e ∷ drop (i + 1) effects = drop_more effects i e h ∙ ap (λ x. x ∷ drop (i + 1) effects) (sym is) in
+    All-head Usable (act e) (map act (drop (i + 1) effects)) (rw cut at usable)
+
 pub outline_of_effect-outline-requires-clause-usable : goal.outline_of_effect-outline-requires-clause-usable
-outline_of_effect-outline-requires-clause-usable c =
-    let cut : drop c.effects.effect-index c.args.effects.now ≡ c.effect-item.result ∷ drop (c.effects.effect-index + 1) c.args.effects.now = drop_more c.args.effects.now c.effects.effect-index c.effect-item.result c.effects-test.true ∙ ap (λ e. e ∷ drop (c.effects.effect-index + 1) c.args.effects.now) (sym c.effect-item.is) in
-    All-head Usable (act c.effect-item.result) (map act (drop (c.effects.effect-index + 1) c.args.effects.now)) (rw cut at c.effects.invariant.usable)
+outline_of_effect-outline-requires-clause-usable c = usable-next c.args.effects.now c.effects.effect-index c.effect-item.result c.effects-test.true c.effect-item.is c.effects.invariant.usable
+
+pub rate_after-input_rate-requires : goal.rate_after-input_rate-requires
+rate_after-input_rate-requires c = usable-next c.args.effects.now c.effects.effect-index c.effect-item.result c.effects-test.true c.effect-item.is c.effects.invariant.usable
 
 pub effects-preserved : goal.effects-preserved
 effects-preserved c =
@@ -41,6 +50,11 @@ effects-preserved c =
     record {
       told = ap (λ l. l ++ map known (map act more)) (map-more told c.effects.outlines.items c.push.new.self.items outline.result items)
           ∙ appended (map told c.effects.outlines.items) (map known (map act more)) (map known (map act c.args.effects.now)) (told outline.result) (known (act e)) (rw cut at i.told) outline.ensures.told;
+      rates =
+          let after = c.rate_after-input_rate.ensures in
+          ap (λ n. map told_rate c.push.new.self.items ++ rates_along n (map act more)) after
+          ∙ ap (λ l. l ++ rates_along (rate_after (act e) c.effects.input_rate) (map act more)) (map-more told_rate c.effects.outlines.items c.push.new.self.items outline.result items)
+          ∙ appended (map told_rate c.effects.outlines.items) (rates_along (rate_after (act e) c.effects.input_rate) (map act more)) _ outline.result.rate _ (rw cut at i.rates) outline.ensures.rate;
       bytes =
           let after = c.channels_after-inputs.ensures in
           ap (λ n. map told_bytes c.push.new.self.items ++ bytes_along n (map act more)) after

@@ -3,12 +3,13 @@ use Rattle.std.specs.List.{All}
 use Rattle.fx_effects.specs.Bounds.{hold_of}
 use Rattle.fx_effects.specs.Effects.{Usable, act}
 use Rattle.soxchain_plan.proofs.Made.{Counted}
-use Rattle.soxchain_plan.specs.Outlines.{bytes_along, known, told, told_bytes, told_frames}
+use Rattle.soxchain_plan.specs.Outlines.{bytes_along, known, rates_along, told, told_bytes, told_frames, told_rate}
 use Rattle.soxchain_plan.proofs.outline.outlines_of.Given as goal
 
 abbrev pub invariant-effects : goal.invariant-effects
 invariant-effects l = record {
   told : map told l.outlines.items ++ map known (map act (drop l.effect-index l.effects)) ≡ map known (map act l.effects);
+  rates : map told_rate l.outlines.items ++ rates_along l.input_rate (map act (drop l.effect-index l.effects)) ≡ rates_along l.fn.rate (map act l.effects);
   bytes : map told_bytes l.outlines.items ++ bytes_along l.inputs (map act (drop l.effect-index l.effects)) ≡ bytes_along l.fn.channels (map act l.effects);
   usable : All Usable (map act (drop l.effect-index l.effects));
   held : sum_by hold_of (map act (drop l.effect-index l.effects)) < 2 ^ 28;

@@ -18,11 +18,11 @@ loop-next-preserved c =
     let size : length next ≡ 8 = ap length front ∙ length-take-le 8 rest whole in
     let joined : next ++ more ≡ rest = rw (front, back) (take-append-drop 8 rest) in
     let bytes : AreBelow 256 next = rw front (below-take 256 8 rest (lit< tt) c.loop-next.invariant.below) in
-    let back_again : word c.from_le_bytes.result ≡ next = le_bytes_8 next c.from_le_bytes.result size bytes c.from_le_bytes.ensures in
+    let back_again : word c.read_u64.result ≡ next = le_bytes_8 next c.read_u64.result size bytes (omega (arith, c.read_u64.ensures)) in
     record {
-      words = rw c.in_ok-push.ensures.items (pieces-more word c.loop-next.words.items c.from_le_bytes.result more rest c.args.bytes.now (ap (λ (l : List ℕ). l ++ more) back_again ∙ joined) c.loop-next.invariant.words);
+      words = rw c.in_ok-push.ensures.items (pieces-more word c.loop-next.words.items c.read_u64.result more rest c.args.bytes.now (ap (λ (l : List ℕ). l ++ more) back_again ∙ joined) c.loop-next.invariant.words);
       below = rw back (below-drop 256 8 rest c.loop-next.invariant.below);
-      words_below = rw c.in_ok-push.ensures.items (below-push (2 ^ 64) c.loop-next.words.items c.from_le_bytes.result c.loop-next.invariant.words_below (omega arith));
+      words_below = rw c.in_ok-push.ensures.items (below-push (2 ^ 64) c.loop-next.words.items c.read_u64.result c.loop-next.invariant.words_below (omega arith));
     }
 
 pub returns-else-is_empty-clause-back : goal.returns-else-is_empty-clause-back

@@ -9,5 +9,5 @@ returns-clause-fit c =
     let words = texts c.args.words.now in
     let count : length words ≡ length c.args.words.now = length-map c.args.words.now string_bytes in
     let few : length words ≤ 64 = omega (arith, count) in
-    let order = rw c.deref.ensures.value at c.in_ok-check_order.ensures.0 in
+    let order = rw c.deref.ensures at c.in_ok-check_order.ensures.0 in
     pads_fit c.args.rate words c.in_ok-pads.pads.items c.in_ok-pads.ensures.read.1 order few

@@ -1,4 +1,4 @@
-use Rattle.std.proofs.Common.{rules, ◌≡◌, false, ◌*◌, ◌≤◌, ◌++◌, ◌∙◌, drop, length, take, ap, arith}
+use Rattle.std.proofs.Common.{rules, ◌≡◌, false, ◌+◌, ◌*◌, ◌<◌, ◌≤◌, ◌++◌, ◌∙◌, drop, length, take, ap, sym, arith}
 use Rattle.std.specs.Prelude.{None}
 use Rattle.std.proofs.Math.Nat.{mul-le-mul_right}
 use Rattle.fx_lists.proofs.Pieces.{length-pieces}
@@ -6,6 +6,7 @@ use Rattle.fx_step.specs.Holds.{kinds}
 use Rattle.fx_lists.specs.Lists.{pieces}
 use Rattle.fx_step.specs.Row.{outputs_of}
 use Rattle.fx_flow.specs.Runs.{MayRun, RanOn}
+use Rattle.fx_flow.proofs.Feeding.{all-gave}
 use Rattle.fx_flow.proofs.Moving.{settled-dry}
 use Rattle.fx_flow.proofs.Running.{AllAhead-some, FlowRoom-each, frames-fit, outs-fit}
 use Rattle.fx_lists.proofs.Puts.{written_back}
@@ -90,4 +91,9 @@ returns g c =
       moves = rw (← c.self.view_is, back) (rw many at after.moves);
       some = c.run-passed.ensures.some (omega (arith, c.max-count.ensures));
       room = rw (← c.self.view_is, none) (λ n few. FlowRoom-each g.S.Stage.acts s.channels s.left s.stages.items passed.taken (length c.args.output.now) (rw many at after.each) (rw (← outputs) (omega (arith, mul-le-mul_right c.args.widths.outputs c.run-passed.ensures.read, out-fits))) n few);
+      full = rw (← c.self.view_is, back, none, going) (λ one_out full.
+          let filled : length c.args.output.now < passed.given * c.args.widths.outputs + c.args.widths.outputs = rw outputs full in
+          let all : passed.given ≡ passed.taken = all-gave passed.given passed.taken c.max-count.result c.args.widths.outputs (length c.args.output.now) c.run-passed.ensures.written c.run-passed.ensures.read out-fits filled in
+          let gave : length (pieces c.args.widths.outputs passed.given c.run-passed.new.output) ≡ passed.given = length-pieces c.args.widths.outputs passed.given c.run-passed.new.output in
+          rw (many, outputs) at (after.last (gave ∙ all ∙ sym many) (omega (arith, gave, one_out))));
     }

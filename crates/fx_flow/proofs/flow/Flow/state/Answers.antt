@@ -2,6 +2,7 @@ use Rattle.std.proofs.Common.{add-zero}
 use Rattle.fx_flow.proofs.Handing.{IsFirstOpen-not_ended, AllSettled-dry}
 use Rattle.fx_flow.proofs.Laws.{given_by-due}
 use Rattle.fx_flow.proofs.Moving.{settled-none, wet-some}
+use Rattle.fx_flow.proofs.Steps.{StepsRow-few}
 use Rattle.fx_flow.proofs.flow.Flow.state.Goals as goal
 
 pub returns-then-self-gt0-clause-state : goal.returns-then-self-gt0-clause-state
@@ -25,3 +26,18 @@ pub returns-then-not-self-clause-due : goal.returns-then-not-self-clause-due
 returns-then-not-self-clause-due g c =
     let dry = settled-none g.S.Stage.acts _ _ c.if-self-gt0.false c.self.invariant.1 in
     rw (← c.self.view_is, c.in_default.is, add-zero) (λ e. given_by-due g.S.Stage.acts _ _ _ c.if-not-self.true dry c.self.invariant.0.joined)
+
+pub returns-then-self-gt0-clause-bounded : goal.returns-then-self-gt0-clause-bounded
+returns-then-self-gt0-clause-bounded g c = rw (← c.self.view_is) (λ n last row. StepsRow-few g.S.Stage.acts g.met.S.Stage.rises _ last n c.self.invariant.0 row)
+
+pub returns-in-Some-clause-bounded : goal.returns-in-Some-clause-bounded
+returns-in-Some-clause-bounded g c = rw (← c.self.view_is) (λ n last row. StepsRow-few g.S.Stage.acts g.met.S.Stage.rises _ last n c.self.invariant.0 row)
+
+pub returns-then-not-self-clause-bounded : goal.returns-then-not-self-clause-bounded
+returns-then-not-self-clause-bounded g c = rw (← c.self.view_is) (λ n last row. StepsRow-few g.S.Stage.acts g.met.S.Stage.rises _ last n c.self.invariant.0 row)
+
+pub returns-in-Some-first_open-clause-bounded : goal.returns-in-Some-first_open-clause-bounded
+returns-in-Some-first_open-clause-bounded g c = rw (← c.self.view_is) (λ n last row. StepsRow-few g.S.Stage.acts g.met.S.Stage.rises _ last n c.self.invariant.0 row)
+
+pub returns-clause-bounded : goal.returns-clause-bounded
+returns-clause-bounded g c = rw (← c.self.view_is) (λ n last row. StepsRow-few g.S.Stage.acts g.met.S.Stage.rises _ last n c.self.invariant.0 row)

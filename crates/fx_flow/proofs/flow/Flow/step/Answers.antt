@@ -3,6 +3,7 @@ use Rattle.fx_step.specs.Holds.{hold_sum, kinds}
 use Rattle.fx_flow.proofs.Steps.{IsSound-pass, Steps-pass, ended-busy, never-idle}
 use Rattle.fx_flow.proofs.Moving.{settled-none, settled-after, count-le, IsWetEnd-le, CanMove-sound, IsSound-move, Steps-move, MovedOn-move, MovedOn-pass}
 use Rattle.fx_lists.proofs.Puts.{written_back}
+use Rattle.fx_flow.specs.Steps.{one_more}
 use Rattle.fx_flow.proofs.flow.Flow.step.Goals as goal
 
 pub pass_on-self-inside-requires-clause-open : goal.pass_on-self-inside-requires-clause-open
@@ -84,3 +85,22 @@ returns-clause-moved g c =
     let back = written_back c.self.inside.stages.items c.move_on-out.new.stages c.self.inside.stages.len c.self.inside.stages.ok.0 (c.move_on-out.auto.stages ∙ ap length c.deref_mut-2.ensures.value) in
     rw (← c.self.view_is, back, c.made.ensures, one)
     (MovedOn-move g.S.Stage.acts g.met.S.Stage.rises _ c.self.inside.wet _ _ _ c.self.invariant.1 moved)
+
+pub returns-then-is_still-clause-row : goal.returns-then-is_still-clause-row
+returns-then-is_still-clause-row g c =
+    let still = c.if-is_still.ensures.0 refl in
+    let dry = settled-none g.S.Stage.acts c.self.inside.wet c.self.inside.stages.items (omega (arith, still.0)) c.self.invariant.1 in
+    let busy = rw (← c.self.view_is) at c.requires in
+    let over = ended-busy g.S.Stage.acts _ still.1 dry busy.0 in
+    let passed = rw c.deref_mut.ensures.value at c.pass_on-self-inside.ensures.passed in
+    rw (← c.self.view_is, written_back c.self.inside.stages.items c.pass_on-self-inside.new.stages c.self.inside.stages.len c.self.inside.stages.ok.0 (c.pass_on-self-inside.auto.stages ∙ ap length c.deref_mut.ensures.value))
+    (λ first n row. one_more n _ _ _ row busy (Steps-pass g.S.Stage.acts g.met.S.Stage.rises _ passed.0 c.pass_on-self-inside.new.stages c.self.invariant.0 over dry passed.1 passed.2))
+
+pub returns-clause-row : goal.returns-clause-row
+returns-clause-row g c =
+    let one : c.from.result ≡ cond (nat_eq c.self.inside.wet 0) 1 0 = search rules in
+    let moved = rw c.deref_mut-2.ensures.value at c.move_on-out.ensures in
+    let back = written_back c.self.inside.stages.items c.move_on-out.new.stages c.self.inside.stages.len c.self.inside.stages.ok.0 (c.move_on-out.auto.stages ∙ ap length c.deref_mut-2.ensures.value) in
+    let busy = rw (← c.self.view_is) at c.requires in
+    rw (← c.self.view_is, back, one)
+    (λ first n row. one_more n _ _ _ row busy (Steps-move g.S.Stage.acts g.met.S.Stage.rises _ c.self.inside.wet _ _ _ c.self.invariant.0 c.self.invariant.1 moved))

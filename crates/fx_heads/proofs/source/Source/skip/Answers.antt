@@ -11,6 +11,6 @@ loop-got-preserved g c =
     record {
       within = omega arith;
       bytes = λ bytes known. skip-turn g.R.ByteIn.reads.rest c.loop-got.self c.hold.new.self c.let_go.new.self bytes c.loop-got.got c.min-n.result (old.bytes bytes known) mid.stays count went.bytes went.reader;
-      told = Takes-turn g.R.ByteIn.reads.told _ _ _ _ c.loop-got.got c.min-n.result old.told mid.told went.bytes went.reader count;
+      told = Takes-turn g.R.ByteIn.reads.told _ _ c.hold.new.self c.let_go.new.self c.loop-got.got c.min-n.result old.told mid.told went.bytes went.reader count;
       failures = ap g.R.ByteIn.reads.failures went.reader ∙ mid.failures ∙ old.failures;
     }

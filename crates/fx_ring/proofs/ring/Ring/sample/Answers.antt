@@ -12,9 +12,6 @@ overflow_add-place g c =
     let at = ring-place _ _ _ _ _ c.self.view_is c.self.invariant _ _ c.requires.place c.requires.channel in
     omega (arith, at.1)
 
-pub get-requires : goal.get-requires
-get-requires g c = (ring-place _ _ _ _ _ c.self.view_is c.self.invariant _ _ c.requires.place c.requires.channel).0
-
 pub unreachable-requires : goal.unreachable-requires
 unreachable-requires g c =
     let at = ring-place _ _ _ _ _ c.self.view_is c.self.invariant _ _ c.requires.place c.requires.channel in

@@ -13,7 +13,7 @@ use Rattle.fx_stages.proofs.Planned.{delays-long}
 use Rattle.fx_stages.proofs.make.EffectStageThaws.thaw.Goals as goal
 
 pub thaw-requires-in-Pad-clause-pads : goal.thaw-requires-in-Pad-clause-pads
-thaw-requires-in-Pad-clause-pads c = rw (c.deref-in-Pad.ensures.value) (pads-are _ (rw (c.in-Pad.is) at c.requires.suits))
+thaw-requires-in-Pad-clause-pads c = rw (c.deref-in-Pad.ensures) (pads-are _ (rw (c.in-Pad.is) at c.requires.suits))
 
 pub thaw-requires-in-Remix-clause-few : goal.thaw-requires-in-Remix-clause-few
 thaw-requires-in-Remix-clause-few c = rw (c.deref-in-Remix.ensures.value) ((mixes-are _ _ (rw (c.in-Remix.is) at c.requires.suits)).0)
