@@ -8,10 +8,11 @@ DESTDIR =
 # The one place of the version is the program.
 VERSION := $(shell sed -n 's/^pub const VERSION.*"soxchain \([0-9.]*\)\\n.*/\1/p' crates/soxchain_words/src/about.rt)
 
-.PHONY: help test soxchain soxchain-plan lib demo conformance wrong-bodies bench pictures install uninstall deb dist check-docs check-library same-bytes clean
+.PHONY: help quick test soxchain soxchain-plan lib demo conformance wrong-bodies bench pictures install uninstall deb dist check-docs check-library same-bytes clean
 
 help:
 	@echo 'make demo      processes a sound of examples/ and says what it wrote'
+	@echo 'make quick     in minutes and with no proof: the tests, the worked rows, formatting, the scripts'
 	@echo 'make test      the whole gate: every proof, the tests, the programs, the checks of scripts/checks, some wrong bodies'
 	@echo 'make soxchain  builds the proved program as build/soxchain'
 	@echo 'make soxchain-plan  builds the program that says in advance what soxchain would do, as build/soxchain-plan'
@@ -27,6 +28,10 @@ help:
 	@echo 'make check-library  runs the examples of the library for C and Python beside the proved program'
 	@echo 'make same-bytes  builds both programs in two folders, and compares their bytes'
 	@echo 'make clean     removes build/ and what the checks kept'
+
+# What a few minutes show, with nothing proved.
+quick:
+	@scripts/quick
 
 # The whole gate, from nothing.
 test:
