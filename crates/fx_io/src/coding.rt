@@ -111,15 +111,15 @@ impl Coding {
     }
 }
 
-// A sample in one byte, and whether it was clipped.
+// A sample in one byte, and whether it was clipped: it is limited before it is rounded, so that the sum has 32 bits.
 #[tactic(auto, using(crate::proofs::Shifts::shift_floors))]
 #[inline(always)]
 fn in_one_byte(sample: i32) -> (i8, bool)
     ensures value { result.0 ≡ limited 1 sample }
     ensures clips { result.1 ≡ is_too_large 1 sample }
 {
-    let rounded = ((sample >> 23) + 1) >> 1;
-    (rounded.min(0x7f) as i8, rounded > 0x7f)
+    let limited = sample.min(0x7f7f_ffff);
+    (((limited + 0x80_0000) >> 24) as i8, sample > 0x7f7f_ffff)
 }
 
 #[tactic(auto, using(crate::proofs::Shifts::shift_floors))]
@@ -128,8 +128,8 @@ fn in_two_bytes(sample: i32) -> (i16, bool)
     ensures value { result.0 ≡ limited 2 sample }
     ensures clips { result.1 ≡ is_too_large 2 sample }
 {
-    let rounded = ((sample >> 15) + 1) >> 1;
-    (rounded.min(0x7fff) as i16, rounded > 0x7fff)
+    let limited = sample.min(0x7fff_7fff);
+    (((limited + 0x8000) >> 16) as i16, sample > 0x7fff_7fff)
 }
 
 #[tactic(auto, using(crate::proofs::Shifts::shift_floors))]
@@ -138,6 +138,6 @@ fn in_three_bytes(sample: i32) -> (i32, bool)
     ensures value { result.0 ≡ limited 3 sample }
     ensures clips { result.1 ≡ is_too_large 3 sample }
 {
-    let rounded = ((sample >> 7) + 1) >> 1;
-    (rounded.min(0x7f_ffff), rounded > 0x7f_ffff)
+    let limited = sample.min(0x7fff_ff7f);
+    ((limited + 0x80) >> 8, sample > 0x7fff_ff7f)
 }
