@@ -1,12 +1,14 @@
 -- A conversion, concluded from its two halves: what is prepared, and what is finished.
-use Rattle.std.proofs.Common.{◌≡◌, ℕ, List, [], refl, sym, ap, subst, ◌∙◌, ◌⊎◌, inl, inr, drop}
-use Rattle.std.specs.Prelude.{◌≢◌, true, false, Option, Result, Ok, Err}
+use Rattle.std.proofs.Common.{◌≡◌, ℕ, List, ◌+◌, [], refl, sym, ap, subst, ◌∙◌, ◌⊎◌, inl, inr, drop}
+use Rattle.std.specs.Prelude.{◌≢◌, true, Option, Result, Ok, Err}
 use Rattle.fx_run.specs.declared.pump.Cause.TheVariants as Causes
 use Rattle.fx_run.specs.declared.report.Report.{Report}
 use Rattle.fx_run.specs.declared.report.RunFault.{RunFault}
 use Rattle.fx_chain.specs.Chain.{IsNewChain}
 use Rattle.fx_run.specs.Report.{cause_of, no_report, report_at, report_in, start_of}
-use Rattle.fx_io.specs.Io.{ByteReader, ByteWriter}
+use Rattle.fx_sound.specs.Container.{ReadAllTold}
+use Rattle.fx_chain.specs.Theorem.{ReadFirst}
+use Rattle.fx_io.specs.Io.{ByteReader, ByteWriter, saturated}
 use Rattle.fx_line.specs.declared.line.LineFault.{LineFault}
 use Rattle.fx_line.specs.Line.{Said, line_of}
 use Rattle.fx_plan.specs.CommandLines.{LineReads, effects_in, planning_in}
@@ -17,16 +19,12 @@ use Rattle.fx_heads.specs.Head.{ReadsHead}
 use Rattle.fx_heads.specs.Known.{IfKnown}
 use Rattle.fx_heads.specs.Source.{Held, to_come}
 use Rattle.soxchain.specs.declared.preparing.Refusal.TheVariants.{Chain, Head, Plan}
-use Rattle.soxchain.specs.Convert.{Converted, Running, StopHasCause, Stopped, ToldFirst}
+use Rattle.soxchain.specs.Convert.{Converted, ReaderStands, Running, StopHasCause, Stopped, ToldFirst, TookAllTold, unread_source}
 use Rattle.soxchain.specs.Finishing.{Finished, ReadyParts, run_status}
 use Rattle.soxchain.specs.Program.{Concludes}
 use Rattle.soxchain.specs.Readying.{LineRefused, LineUnready}
 use Rattle.soxchain.specs.Stops.{Stop, Refused, Run}
-use Rattle.soxchain.proofs.Converting.{HasCause-before, HasCause-map, Ran-told, to_come-start}
-
--- a source that holds nothing yet
-abbrev pub fresh : {R : Type 0} → R → Held R
-fresh reader = record { bytes = []; reader = reader; short = false }
+use Rattle.soxchain.proofs.Converting.{HasCause-before, HasCause-map, Ran-told, SourceStands-behind, to_come-start}
 
 -- the line that the words are is read
 pub line-reads : (found : Result Said LineFault) (line : Said) → found ≡ Ok line → LineReads found (Ok line)
@@ -41,7 +39,7 @@ module _ {R W : Type 0} (reads : ByteReader R) (writes : ByteWriter W)
 
   -- nothing was ready: the line, the head or the plan was refused, or memory was wanting
   pub refused : (new : Held R) (writer : W) (inner : R) (status : ℕ) → inner ≡ new.reader
-      → LineRefused words (fresh reader) new IsTold status ⊎ LineUnready reads words files (fresh reader) new IsTold status
+      → LineRefused words (unread_source reader) new IsTold status ⊎ LineUnready reads words files (unread_source reader) new IsTold status
       → Concluded writer writer inner status no_report
   refused new writer inner status is (inl r) =
       (Err r.fault, r.reads, (r.status_is, refl, (is ∙ ap (λ (s : Held R). s.reader) r.unread, refl), r.told))
@@ -58,14 +56,14 @@ module _ {R W : Type 0} (reads : ByteReader R) (writes : ByteWriter W)
         clean = λ r e. refl;
         refused = λ f e other bytes known.
             let same : u.unready.refusal ≡ Head f = cc in
-            u.unready.head_refused f same other bytes (to_come-start reads.rest (fresh reader) reader bytes refl refl known);
+            u.unready.head_refused f same other bytes (to_come-start reads.rest (unread_source reader) reader bytes refl refl known);
         cut = λ e.
             let same : u.unready.refusal ≡ Head ReadFailed = cc in
             (new, u.unready.head_cut ReadFailed same refl, sym is);
         unplanned = λ f e bytes known.
             let same : u.unready.refusal ≡ Plan f = cc in
             let found = u.unready.plan_refused f same in
-            let head = found.read bytes (to_come-start reads.rest (fresh reader) reader bytes refl refl known) in
+            let head = found.read bytes (to_come-start reads.rest (unread_source reader) reader bytes refl refl known) in
             record {
               head = found.head;
               offset = head.offset;
@@ -75,7 +73,7 @@ module _ {R W : Type 0} (reads : ByteReader R) (writes : ByteWriter W)
         unchained = λ e bytes known.
             let same : u.unready.refusal ≡ Chain = cc in
             let found = u.unready.chain_refused same in
-            let head = found.read bytes (to_come-start reads.rest (fresh reader) reader bytes refl refl known) in
+            let head = found.read bytes (to_come-start reads.rest (unread_source reader) reader bytes refl refl known) in
             record {
               head = found.head;
               offset = head.offset;
@@ -83,6 +81,7 @@ module _ {R W : Type 0} (reads : ByteReader R) (writes : ByteWriter W)
               no_faults = found.no_faults;
             };
         stopped = λ f e. absurd (cc);
+        stands = tt;
         causes = λ s e.
             let same : Refused u.unready.refusal ≡ s = cc in
             subst (λ (t : Stop). StopHasCause t (reads.failures reader) (reads.failures inner) (writes.failures writer) (writes.failures writer)) same (rw (← is) at u.unready.cause);
@@ -96,7 +95,7 @@ module _ {R W : Type 0} (reads : ByteReader R) (writes : ByteWriter W)
   -- what was ready when a run began
   pub record Began (middle : Held R) (ready : ReadyParts) : Type 0 where
     pub line : line_of words ≡ Ok ready.line
-    pub head : IfKnown (to_come reads.rest (fresh reader)) (λ bytes. ReadsHead reads.rest reads.told ready.line.input_kind bytes (fresh reader) middle ready.prepared.plan.head)
+    pub head : IfKnown (to_come reads.rest (unread_source reader)) (λ bytes. ReadsHead reads.rest reads.told ready.line.input_kind bytes (unread_source reader) middle ready.prepared.plan.head)
     pub no_faults : all_faults (head_layout ready.prepared.plan.head) files (effects_in ready.line) ≡ []
     pub planned : planning ready.prepared.plan ≡ planning_in ready.prepared.plan.head ready.line files
     pub chain : IsNewChain (planning ready.prepared.plan) ready.prepared.chain
@@ -105,8 +104,8 @@ module _ {R W : Type 0} (reads : ByteReader R) (writes : ByteWriter W)
   module _ (middle new : Held R) (ready : ReadyParts) (writer new_writer : W) (inner : R) (status : ℕ) (report : Report)
       (began : Began middle ready) (f : Finished reads writes ready middle new writer new_writer IsTold status report) (is : inner ≡ new.reader) where
     -- the head that the bytes begin with
-    abbrev pub head-in : (bytes : List ℕ) → reads.rest reader ≡ Option.Some bytes → ReadsHead reads.rest reads.told ready.line.input_kind bytes (fresh reader) middle ready.prepared.plan.head
-    head-in bytes known = began.head bytes (to_come-start reads.rest (fresh reader) reader bytes refl refl known)
+    abbrev pub head-in : (bytes : List ℕ) → reads.rest reader ≡ Option.Some bytes → ReadsHead reads.rest reads.told ready.line.input_kind bytes (unread_source reader) middle ready.prepared.plan.head
+    head-in bytes known = began.head bytes (to_come-start reads.rest (unread_source reader) reader bytes refl refl known)
 
     -- the run, as far as it came
     abbrev pub running : (bytes : List ℕ) (r : Report) → reads.rest reader ≡ Option.Some bytes → report_in f.outcome ≡ r → Running ready.line files bytes r
@@ -120,6 +119,26 @@ module _ {R W : Type 0} (reads : ByteReader R) (writes : ByteWriter W)
           planned = began.planned;
           wants = rw e at f.wants;
           work = rw e at f.work;
+        }
+
+    -- all whole frames that were told had come, by the count from the first byte of the input on
+    abbrev pub told-all : (bytes : List ℕ) (known : reads.rest reader ≡ Option.Some bytes) (n : ℕ) → ReadAllTold reads.told middle new.reader (start_of ready.prepared.plan.head) n → TookAllTold reads reader new.reader ready.prepared.plan.head (head-in bytes known).offset n
+    told-all bytes known n all = λ few. Ran-told reads.told (unread_source reader) middle reader new.reader (start_of ready.prepared.plan.head) (head-in bytes known).offset n refl refl (head-in bytes known).tells all few
+
+    -- one read had failed before
+    abbrev pub told-first : (bytes : List ℕ) (known : reads.rest reader ≡ Option.Some bytes) (n given : ℕ) → reads.failures new.reader ≡ saturated (reads.failures middle.reader + 1) → ReadFirst reads.told middle new.reader (planning ready.prepared.plan) n given → ToldFirst reads reader new.reader (planning ready.prepared.plan) (head-in bytes known).offset n given
+    told-first bytes known n given failed q = record { failed = rw began.unfailed at failed; due = q.due; not_enough = q.not_enough; took_all = told-all bytes known n q.read_failed }
+
+    -- where the reader stands
+    abbrev pub reader-stands : (bytes : List ℕ) → reads.rest reader ≡ Option.Some bytes → (o : Result Report RunFault) → f.outcome ≡ o → ReaderStands reads ready.line files bytes reader inner o
+    reader-stands bytes known o e =
+        let head = head-in bytes known in
+        record {
+          run = running bytes (report_in o) known (ap report_in e);
+          left = new;
+          is_left = sym is;
+          stands = rw is (SourceStands-behind reads (unread_source reader) middle new ready.prepared.plan.head head.offset bytes _ _ o head.tells
+              (λ before. told-first bytes known (report_in o).frames_in (report_in o).frames_out before.0 before.1) (rw e at f.stands (drop head.offset bytes) head.others));
         }
 
     -- what was ready ran, and the run ended so
@@ -142,6 +161,7 @@ module _ {R W : Type 0} (reads : ByteReader R) (writes : ByteWriter W)
           unplanned = λ f e. absurd (cc);
           unchained = λ e. absurd (cc);
           stopped = λ f e. absurd (cc);
+          stands = λ bytes known. reader-stands bytes known (Ok r) e;
           causes = λ s e. absurd (cc);
         };
         status_is = f.status_is ∙ ap run_status e;
@@ -169,14 +189,14 @@ module _ {R W : Type 0} (reads : ByteReader R) (writes : ByteWriter W)
           stopped = λ x h bytes known.
               let same : fault ≡ x = cc in
               let head = head-in bytes known in
-              let told-of = Ran-told reads.told (fresh reader) middle reader new.reader (start_of ready.prepared.plan.head) head.offset (report_at fault).frames_in refl refl head.tells in
               subst (λ (y : RunFault). Stopped reads ready.line files bytes reader inner (writes.taken writer) (writes.taken new_writer) y) same
               (record {
                 run = running bytes (report_at fault) known (ap report_in e);
                 ran = rw e at f.ran (drop head.offset bytes) head.others;
-                read_failed = λ c few. rw (← is) at (told-of (rw e at f.read_failed c) (rw is at few));
-                read_before = λ c. rw (is, ← began.unfailed) (HasCause-before _ (ToldFirst reads reader new.reader (planning ready.prepared.plan) head.offset (report_at fault).frames_in (report_at fault).frames_out) (cause_of fault) _ _ _ _ c (rw e at f.causes) (λ q. record { due = q.due; not_enough = q.not_enough; took_all = λ few. told-of q.read_failed few }));
+                read_failed = λ c few. rw (← is) at (told-all bytes known (report_at fault).frames_in (rw e at f.read_failed c) (rw is at few));
+                read_before = λ c. rw (is, ← began.unfailed) (HasCause-before _ (ToldFirst reads reader new.reader (planning ready.prepared.plan) head.offset (report_at fault).frames_in (report_at fault).frames_out) (cause_of fault) _ _ _ _ c (rw e at f.causes) (told-first bytes known (report_at fault).frames_in (report_at fault).frames_out));
               });
+          stands = λ bytes known. reader-stands bytes known (Err fault) e;
           causes = λ s h.
               let same : Run fault ≡ s = cc in
               subst (λ (t : Stop). StopHasCause t (reads.failures reader) (reads.failures inner) (writes.failures writer) (writes.failures new_writer)) same (HasCause-map _ _ (λ _. tt) (cause_of fault) _ _ _ _ (rw (← is, began.unfailed, e) at f.causes));

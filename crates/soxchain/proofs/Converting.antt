@@ -1,5 +1,6 @@
 -- A conversion, put together from its head and its run.
-use Rattle.std.proofs.Common.{map, ◌⊎◌, inl, inr, ◌≡◌, ℕ, ◌+◌, ◌-◌, ◌/◌, ◌^◌, ◌<◌, ◌≤◌, List, [], length, sym, ap, arith, ◌∙◌}
+use Rattle.std.proofs.Common.{map, ◌⊎◌, inl, inr, ◌≡◌, ℕ, ◌+◌, ◌-◌, ◌*◌, ◌/◌, ◌^◌, ◌<◌, ◌≤◌, List, [], drop, length, sym, ap, arith, ◌∙◌}
+use Rattle.std.proofs.lemmas.List.{drop-drop}
 use Rattle.std.specs.Prelude.{false, MatchBool, Option, Some, Result, Ok, Err}
 use Rattle.fx_line.specs.declared.line.LineFault.{LineFault}
 use Rattle.fx_line.specs.Line.{Said}
@@ -10,13 +11,14 @@ use Rattle.fx_run.specs.declared.report.Report.{Report}
 use Rattle.fx_run.specs.declared.report.RunFault.{RunFault}
 use Rattle.fx_run.specs.declared.report.RunFault.TheVariants as Faults
 use Rattle.fx_io.specs.Io.{ByteReader, ByteWriter, saturated}
+use Rattle.fx_heads.specs.declared.head.Head.{Head}
 use Rattle.fx_heads.specs.declared.head.HeadFault.{HeadFault}
 use Rattle.fx_heads.specs.declared.head.HeadFault.TheVariants.{ReadFailed, UnknownType, Truncated, BadHeader, NotInProfile, TooManyChannels, HeadTooLong}
 use Rattle.fx_heads.specs.HeadFields.{is_read_failure}
 use Rattle.fx_run.specs.declared.pump.Cause.{Cause}
 use Rattle.fx_run.specs.declared.pump.Cause.TheVariants as Causes
 use Rattle.fx_chain.specs.Chain.{ChainParts, IsNewChain}
-use Rattle.fx_run.specs.Report.{Stands, HasCause, ReadBefore, start_of}
+use Rattle.fx_run.specs.Report.{Stands, HasCause, ReadBefore, behind_reported, report_in, start_of}
 use Rattle.fx_run.specs.Run.{WantsMore}
 use Rattle.fx_sound.specs.Container.{ReadAllTold}
 use Rattle.fx_chain.specs.Theorem.{ReadFirst, kinds_of}
@@ -26,8 +28,9 @@ use Rattle.fx_plan.specs.Planning.{Planning}
 use Rattle.fx_stages.specs.declared.stage.EffectStage.{EffectStage}
 use Rattle.fx_stages.specs.Stages.{effect_acts}
 use Rattle.fx_sound.specs.Sound.{Reading, at_most_announced, size_of}
-use Rattle.fx_heads.specs.Source.{Held, Takes, to_come}
-use Rattle.soxchain.specs.declared.preparing.Refusal.TheVariants.{Head}
+use Rattle.fx_heads.specs.Source.{Held, HoldsWhatCame, Takes, to_come}
+use Rattle.soxchain.specs.declared.preparing.Refusal.TheVariants as Refusals
+use Rattle.soxchain.specs.Convert.{SourceStands}
 use Rattle.soxchain.specs.Finishing.{Finished, ReadyParts, run_messages}
 use Rattle.soxchain.specs.Messages.{refusal_message}
 use Rattle.soxchain.specs.Preparing.{RefusalHasCause}
@@ -42,7 +45,7 @@ pub to_come-start : {R : Type 0} (rest : R → Option (List ℕ)) (s : Held R) (
 to_come-start rest s reader bytes b r k = ap (λ bs. prepend_known bs (rest s.reader)) b ∙ ap (λ x. prepend_known [] (rest x)) r ∙ ap (prepend_known []) k
 
 -- a refused head has its cause
-pub head-causes : (X : Type 0) (f : HeadFault) (reads new : ℕ) → MatchBool (is_read_failure ((λ (r : Result X HeadFault). r) (Err f))) (new ≡ saturated (reads + 1)) (new ≡ reads) → RefusalHasCause (Head f) reads new
+pub head-causes : (X : Type 0) (f : HeadFault) (reads new : ℕ) → MatchBool (is_read_failure ((λ (r : Result X HeadFault). r) (Err f))) (new ≡ saturated (reads + 1)) (new ≡ reads) → RefusalHasCause (Refusals.Head f) reads new
 head-causes X ReadFailed reads new h = h
 head-causes X UnknownType reads new h = h
 head-causes X Truncated reads new h = h
@@ -50,6 +53,44 @@ head-causes X BadHeader reads new h = h
 head-causes X NotInProfile reads new h = h
 head-causes X TooManyChannels reads new h = h
 head-causes X HeadTooLong reads new h = h
+
+-- what was held behind so many bytes more, by the reader's count from the first byte of the input on
+HoldsWhatCame-behind : {R : Type 0} (told : R → ℕ) (first at new : Held R) (bytes : List ℕ) (offset n : ℕ) → Takes told first at offset → HoldsWhatCame told at new (drop offset bytes) n → HoldsWhatCame told first new bytes (offset + n)
+HoldsWhatCame-behind told first at new bytes offset n t h =
+    let there = t.enough in
+    let more = h.takes.enough in
+    record {
+      takes = record {
+        enough = omega arith;
+        counted = λ few.
+            let later = h.takes.counted few in
+            let here = t.counted (omega arith) in
+            omega arith;
+      };
+      front = rw (drop-drop n offset bytes) at h.front;
+    }
+
+from-zero : (n : ℕ) → 0 + n ≡ n
+from-zero n = omega arith
+
+-- where a source stands after a run of all that was to come
+pub SourceStands-run : {R : Type 0} (reads : ByteReader R) (source new : Held R) (h : Head) (bytes : List ℕ) (P Q : Type 0) → (P → Q) → (ended : Result Report RunFault)
+    → Stands ended (to_come reads.rest new ≡ Some (behind_reported (start_of h) (report_in ended) bytes)) (HoldsWhatCame reads.told source new bytes ((report_in ended).frames_in * size_of (start_of h))) P
+    → SourceStands reads source new h 0 bytes ended Q
+SourceStands-run reads source new h bytes P Q f (Ok r) there = there
+SourceStands-run reads source new h bytes P Q f (Err (Faults.ReadFailed r)) holds = rw from-zero holds
+SourceStands-run reads source new h bytes P Q f (Err (Faults.WriteFailed r)) (inl there) = inl there
+SourceStands-run reads source new h bytes P Q f (Err (Faults.WriteFailed r)) (inr before) = inr (rw from-zero before.0, f before.1)
+SourceStands-run reads source new h bytes P Q f (Err (Faults.TooLong r)) there = there
+
+-- where a source stands behind the head, from the first byte of the input on
+pub SourceStands-behind : {R : Type 0} (reads : ByteReader R) (first at new : Held R) (h : Head) (offset : ℕ) (bytes : List ℕ) (P Q : Type 0) (ended : Result Report RunFault) → Takes reads.told first at offset → (P → Q)
+    → SourceStands reads at new h 0 (drop offset bytes) ended P → SourceStands reads first new h offset bytes ended Q
+SourceStands-behind reads first at new h offset bytes P Q (Ok r) t f there = there
+SourceStands-behind reads first at new h offset bytes P Q (Err (Faults.ReadFailed r)) t f holds = HoldsWhatCame-behind reads.told first at new bytes offset _ t (rw from-zero at holds)
+SourceStands-behind reads first at new h offset bytes P Q (Err (Faults.WriteFailed r)) t f (inl there) = inl there
+SourceStands-behind reads first at new h offset bytes P Q (Err (Faults.WriteFailed r)) t f (inr before) = inr (HoldsWhatCame-behind reads.told first at new bytes offset _ t (rw from-zero at before.0), f before.1)
+SourceStands-behind reads first at new h offset bytes P Q (Err (Faults.TooLong r)) t f there = there
 
 -- the frames that had come whole, by the reader's count from the first byte of the input on
 pub Ran-told : {R : Type 0} (told : R → ℕ) (first at : Held R) (reader new : R) (start : Reading) (offset n : ℕ) → first.bytes ≡ [] → first.reader ≡ reader → Takes told first at offset → ReadAllTold told at new start n → told new < 2 ^ 64 - 1
@@ -74,19 +115,12 @@ HasCause-map P Q f Causes.WriteFailed reads new_reads writes new_writes (inl sam
 HasCause-map P Q f Causes.WriteFailed reads new_reads writes new_writes (inr before, failed) = (inr (before.0, f before.1), failed)
 HasCause-map P Q f Causes.TooLong reads new_reads writes new_writes h = h
 
-pub Stands-map : (P Q There Holds : Type 0) → (P → Q) → (r : Result Report RunFault) → Stands r There Holds P → Stands r There Holds Q
-Stands-map P Q There Holds f (Ok r) h = h
-Stands-map P Q There Holds f (Err (Faults.ReadFailed r)) h = h
-Stands-map P Q There Holds f (Err (Faults.WriteFailed r)) (inl there) = inl there
-Stands-map P Q There Holds f (Err (Faults.WriteFailed r)) (inr before) = inr (before.0, f before.1)
-Stands-map P Q There Holds f (Err (Faults.TooLong r)) h = h
-
 -- where the writer failed, no read had failed, or one before it
-pub HasCause-before : (P Q : Type 0) (cause : Cause) (reads new_reads writes new_writes : ℕ) → cause ≡ Causes.WriteFailed → HasCause cause P reads new_reads writes new_writes → (P → Q)
-    → (new_reads ≡ reads) ⊎ ((new_reads ≡ saturated (reads + 1)) × Q)
+pub HasCause-before : (P Q : Type 0) (cause : Cause) (reads new_reads writes new_writes : ℕ) → cause ≡ Causes.WriteFailed → HasCause cause P reads new_reads writes new_writes → (new_reads ≡ saturated (reads + 1) → P → Q)
+    → (new_reads ≡ reads) ⊎ Q
 HasCause-before P Q Causes.ReadFailed reads new_reads writes new_writes is h f = absurd (cc)
 HasCause-before P Q Causes.WriteFailed reads new_reads writes new_writes is (inl same, failed) f = inl same
-HasCause-before P Q Causes.WriteFailed reads new_reads writes new_writes is (inr before, failed) f = inr (before.0, f before.1)
+HasCause-before P Q Causes.WriteFailed reads new_reads writes new_writes is (inr before, failed) f = inr (f before.0 before.1)
 HasCause-before P Q Causes.TooLong reads new_reads writes new_writes is h f = absurd (cc)
 
 -- the kinds of a new chain's effects are those of its plan

@@ -1,9 +1,9 @@
 -- The conversion of a sound whose command line was accepted, on the whole list of bytes (this project's profile).
-use Rattle.std.specs.Prelude.{◌≡◌, ◌≢◌, ◌⊎◌, ℕ, ◌+◌, ◌-◌, ◌/◌, ◌^◌, ◌<◌, ◌≤◌, true, false, List, drop, length, Option, Some, Result, Ok, Err, IfOk, []}
+use Rattle.std.specs.Prelude.{◌≡◌, ◌≢◌, ◌⊎◌, ℕ, ◌+◌, ◌-◌, ◌*◌, ◌/◌, ◌^◌, ◌<◌, ◌≤◌, true, false, List, drop, length, Option, Some, Result, Ok, Err, IfOk, []}
 use Rattle.fx_run.specs.declared.pump.Cause.TheVariants as Causes
 use Rattle.fx_run.specs.declared.report.Report.{Report}
 use Rattle.fx_run.specs.declared.report.RunFault.{RunFault}
-use Rattle.fx_run.specs.Report.{HasCause, cause_of, report_at, start_of}
+use Rattle.fx_run.specs.Report.{HasCause, Stands, behind_reported, cause_of, report_at, report_in, start_of}
 use Rattle.fx_run.specs.Run.{WantsMore}
 use Rattle.fx_chain.specs.Theorem.{Ran, kinds_of}
 use Rattle.fx_flow.specs.Composed.{due_of, enough_for}
@@ -22,11 +22,15 @@ use Rattle.fx_heads.specs.Head.{head_of, spelling}
 use Rattle.fx_heads.specs.Known.{IfKnown}
 use Rattle.fx_heads.specs.Reads.{CutOff}
 use Rattle.fx_sound.specs.Sound.{at_most_announced, size_of}
-use Rattle.fx_heads.specs.Source.{Held}
+use Rattle.fx_heads.specs.Source.{Held, HoldsWhatCame, to_come}
 use Rattle.soxchain.specs.declared.preparing.Refusal.{Refusal}
 use Rattle.soxchain.specs.declared.preparing.Refusal.TheVariants as Refusals
 use Rattle.soxchain.specs.Preparing.{RefusalHasCause}
 use Rattle.soxchain.specs.Stops.{Stop, Refused, Run}
+
+-- the source that holds nothing of its reader yet
+abbrev pub unread_source : {R : Type 0} → R → Held R
+unread_source reader = record { bytes = []; reader = reader; short = false }
 
 -- the bytes begin with this head, which says that the sound begins at that place
 pub record Begins (expected : Option Kind) (bytes : List ℕ) (h : Head) (offset : ℕ) : Type 0 where
@@ -58,8 +62,9 @@ TookAllTold reads reader new h offset n = reads.told new < 2 ^ 64 - 1 →
     × (n ≡ at_most_announced h.announced (reads.told new - reads.told reader - offset) / size_of (start_of h))
     × ((left : ℕ) → h.announced ≡ Some left → reads.told new - reads.told reader - offset < left)
 
--- a read had failed before: all whole frames had come, no effect had enough of them, and all that was due had been given
+-- one read had failed before: all whole frames had come, no effect had enough of them, and all that was due had been given
 pub record ToldFirst {R : Type 0} (reads : ByteReader R) (reader new : R) (plan : Planning) (offset n given : ℕ) : Type 0 where
+  pub failed : reads.failures new ≡ saturated (reads.failures reader + 1)
   pub due : given ≡ due_of (kinds_of plan) n
   pub not_enough : enough_for (kinds_of plan) n ≡ false
   pub took_all : TookAllTold reads reader new plan.head offset n
@@ -73,7 +78,30 @@ pub record Stopped {R : Type 0} (reads : ByteReader R) (line : Said) (files : Li
   pub read_failed : cause_of f ≡ Causes.ReadFailed → TookAllTold reads reader new run.plan.head run.offset (report_at f).frames_in
   -- where the writer failed no read had failed, or one had before
   pub read_before : cause_of f ≡ Causes.WriteFailed → (reads.failures new ≡ reads.failures reader)
-      ⊎ ((reads.failures new ≡ saturated (reads.failures reader + 1)) × ToldFirst reads reader new run.plan run.offset (report_at f).frames_in (report_at f).frames_out)
+      ⊎ ToldFirst reads reader new run.plan run.offset (report_at f).frames_in (report_at f).frames_out
+
+-- Where a source stands after a run over the sound that begins at that place of the bytes: behind the reported frames and the stray
+-- bytes; or, after a failed read, behind these frames, with all held that came of the next one. After a failed write it is one of
+-- both, the second only where a read had failed before.
+abbrev pub SourceStands : {R : Type 0} → ByteReader R → Held R → Held R → Head → ℕ → List ℕ → Result Report RunFault → Type 0 → Type 0
+SourceStands reads source new_source h offset bytes ended Before = Stands ended
+    (to_come reads.rest new_source ≡ Some (behind_reported (start_of h) (report_in ended) (drop offset bytes)))
+    (HoldsWhatCame reads.told source new_source bytes (offset + (report_in ended).frames_in * size_of (start_of h)))
+    Before
+
+-- the reader after a run over the bytes, with what is held of it, stands there
+pub record ReaderStands {R : Type 0} (reads : ByteReader R) (line : Said) (files : List (List ℕ)) (bytes : List ℕ) (reader new : R) (ended : Result Report RunFault) : Type 0 where
+  pub run : Running line files bytes (report_in ended)
+  pub left : Held R
+  pub is_left : left.reader ≡ new
+  pub stands : SourceStands reads (unread_source reader) left run.plan.head run.offset bytes ended
+      (ToldFirst reads reader new run.plan run.offset (report_in ended).frames_in (report_in ended).frames_out)
+
+-- what holds of how the run ended, where there was one
+abbrev pub IfRun : Result Report Stop → (Result Report RunFault → Type 0) → Type 0
+IfRun (Ok r) P = P (Ok r)
+IfRun (Err (Refused r)) P = Unit {0}
+IfRun (Err (Run f)) P = P (Err f)
 
 -- a stop is answered only where its cause was counted
 abbrev pub StopHasCause : Stop → ℕ → ℕ → ℕ → ℕ → Type 0
@@ -104,9 +132,10 @@ pub record Converted {R W : Type 0} (reads : ByteReader R) (writes : ByteWriter 
   -- what is refused before the run has written nothing
   pub clean : (r : Refusal) → outcome ≡ Err (Refused r) → new_writer ≡ writer
   pub refused : (f : HeadFault) → outcome ≡ Err (Refused (Refusals.Head f)) → f ≢ HeadFaults.ReadFailed → IfKnown (reads.rest reader) (λ bytes. head_of line.input_kind bytes ≡ Err f)
-  pub cut : outcome ≡ Err (Refused (Refusals.Head HeadFaults.ReadFailed)) → (new : Held R) × CutOff reads.rest reads.told (head_of line.input_kind) (record { bytes = []; reader = reader; short = false }) new × (new.reader ≡ new_reader)
+  pub cut : outcome ≡ Err (Refused (Refusals.Head HeadFaults.ReadFailed)) → (new : Held R) × CutOff reads.rest reads.told (head_of line.input_kind) (unread_source reader) new × (new.reader ≡ new_reader)
   pub unplanned : (f : PlanFault) → outcome ≡ Err (Refused (Refusals.Plan f)) → IfKnown (reads.rest reader) (λ bytes. Unplanned line files bytes f)
   -- no memory for the chain: head and plan had stood
   pub unchained : outcome ≡ Err (Refused Refusals.Chain) → IfKnown (reads.rest reader) (λ bytes. Unchained line files bytes)
   pub stopped : (f : RunFault) → outcome ≡ Err (Run f) → IfKnown (reads.rest reader) (λ bytes. Stopped reads line files bytes reader new_reader (writes.taken writer) (writes.taken new_writer) f)
+  pub stands : IfRun outcome (λ ended. IfKnown (reads.rest reader) (λ bytes. ReaderStands reads line files bytes reader new_reader ended))
   pub causes : (s : Stop) → outcome ≡ Err s → StopHasCause s (reads.failures reader) (reads.failures new_reader) (writes.failures writer) (writes.failures new_writer)

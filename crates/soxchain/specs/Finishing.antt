@@ -1,20 +1,20 @@
 -- What a run that was ready comes to (this project's profile).
-use Rattle.std.specs.Prelude.{◌≡◌, ◌≢◌, ◌+◌, ◌*◌, ◌≤◌, ℕ, true, List, Some, Result, Ok, Err, IfErr, OnOk, MatchResult, ◌++◌}
+use Rattle.std.specs.Prelude.{◌≡◌, ◌≢◌, ◌+◌, ◌≤◌, ℕ, true, List, Result, Ok, Err, IfErr, OnOk, MatchResult, ◌++◌}
 use Rattle.fx_run.specs.declared.pump.Cause.TheVariants as Causes
 use Rattle.fx_run.specs.declared.report.Report.{Report}
 use Rattle.fx_run.specs.declared.report.RunFault.{RunFault}
-use Rattle.fx_run.specs.Report.{HasCause, Stands, behind_reported, cause_of, report_at, report_in, start_of}
+use Rattle.fx_run.specs.Report.{HasCause, cause_of, report_at, report_in, start_of}
 use Rattle.fx_run.specs.Run.{WantsMore}
 use Rattle.fx_sound.specs.Container.{ReadAllTold}
-use Rattle.fx_sound.specs.Sound.{size_of}
 use Rattle.fx_chain.specs.Theorem.{Ran, ReadFirst, kinds_of}
 use Rattle.fx_io.specs.Io.{ByteReader, ByteWriter, saturated}
 use Rattle.fx_line.specs.Line.{Said}
 use Rattle.fx_effects.specs.Bounds.{work_of}
 use Rattle.fx_plan.specs.Planning.{planning}
 use Rattle.fx_heads.specs.Known.{IfKnown}
-use Rattle.fx_heads.specs.Source.{Held, HoldsWhatCame, to_come}
+use Rattle.fx_heads.specs.Source.{Held, to_come}
 use Rattle.soxchain.specs.declared.prepared.Prepared.{Prepared}
+use Rattle.soxchain.specs.Convert.{SourceStands}
 use Rattle.soxchain.specs.Messages.{run_label, run_message, warnings}
 
 -- what is ready for a run: what the command line says, and the plan and the chain that it asks for
@@ -39,9 +39,7 @@ pub record Finished {R W : Type 0} (reads : ByteReader R) (writes : ByteWriter W
   -- what was written and is reported, as functions of the plan and the bytes
   pub ran : IfKnown (to_come reads.rest source) (λ bytes. Ran (planning ready.prepared.plan) bytes (writes.taken writer) (writes.taken new_writer) outcome)
   -- the source stands behind the frames that were read and the stray bytes, or holds what came of the next frame
-  pub stands : IfKnown (to_come reads.rest source) (λ bytes. Stands outcome
-      (to_come reads.rest new_source ≡ Some (behind_reported (start_of ready.prepared.plan.head) (report_in outcome) bytes))
-      (HoldsWhatCame reads.told source new_source bytes ((report_in outcome).frames_in * size_of (start_of ready.prepared.plan.head)))
+  pub stands : IfKnown (to_come reads.rest source) (λ bytes. SourceStands reads source new_source ready.prepared.plan.head 0 bytes outcome
       ((reads.failures new_source.reader ≡ saturated (reads.failures source.reader + 1)) × ReadFirst reads.told source new_source.reader (planning ready.prepared.plan) (report_in outcome).frames_in (report_in outcome).frames_out))
   pub all_flushed : OnOk outcome (writes.flushed new_writer ≡ true)
   pub due_flushed : IfErr outcome (λ f. cause_of f ≢ Causes.WriteFailed → writes.flushed new_writer ≡ true)

@@ -61,6 +61,7 @@ impl<'a, M: ByteOut> Telling<'a, M> {
 pub fn write_whole<W: ByteOut>(writer: &mut W, bytes: &[u8]) -> bool
     ensures whole { result ≡ true → Appends (W.writes.taken writer.old) (W.writes.taken writer.new) bytes.now }
     ensures flushed { result ≡ true → W.writes.flushed writer.new ≡ true }
+    ensures unfailed { result ≡ true → W.writes.failures writer.new ≡ W.writes.failures writer.old }
     ensures front { result ≡ false → ToldFront (W.writes.taken writer.old) (W.writes.taken writer.new) (W.writes.failures writer.old) (W.writes.failures writer.new) bytes.now }
 {
     hand(writer, bytes) && writer.flush().is_ok()

@@ -22,12 +22,14 @@ pub record IsBack {F : Type 0} (d : FileWriter F) (old new : F) : Type 0 where
   pub back : d.rewinds.back old new
   pub start : IfSome (d.rewinds.place old) (λ _. d.rewinds.place new ≡ Some 0)
 
--- Bytes were written over the beginning of a file: it went back to its first byte at once, took them all there, and was flushed.
+-- Bytes were written over the beginning of a file: it went back to its first byte at once, took them all there, and was flushed. No
+-- call of it failed.
 pub record WritesOver {F : Type 0} (d : FileWriter F) (old new : F) (bytes : List ℕ) : Type 0 where
   pub start : F
   pub back : IsBack d old start
   pub took : Appends (d.writes.taken start) (d.writes.taken new) bytes
   pub flushed : d.writes.flushed new ≡ true
+  pub unfailed : d.writes.failures new ≡ d.writes.failures old
 
 -- This failed: the file could not go back, and nothing came behind that; or it went back at once, and a call behind that failed, so it
 -- took a front of the bytes.

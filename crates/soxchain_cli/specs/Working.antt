@@ -123,13 +123,14 @@ module _ {H I R O F M : Type 0} (d : Devices I R O F) (m : H → H → Machine I
         → Lines o line files next new_host old new status
         → Works o line host new_host old new status
 
-  -- A text was shown on standard output, and flushed; or one call of it failed, and a front of the text was. Nothing else was written to
-  -- it.
+  -- A text was shown on standard output, and flushed, and no call of it failed; or one did, and a front of the text was shown. Nothing
+  -- else was written to it.
   pub data IsShown (text : List ℕ) (host new_host : H) (old new : Telling M) (status : ℕ) : Type 0 where
     Whole : (next : H) (output ended : O)
         → (m host next).is_output output
         → Appends (d.output.taken output) (d.output.taken ended) text
         → d.output.flushed ended ≡ true
+        → d.output.failures ended ≡ d.output.failures output
         → (m next new_host).left ended
         → status ≡ 0
         → new ≡ old

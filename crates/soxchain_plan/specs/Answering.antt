@@ -44,13 +44,14 @@ pub record Advises {M : Type 0} (writes : ByteWriter M) (old new : M) (message a
 -- and the next. So the states name all that was asked, in its order: where the last one is that of a call, nothing came behind it.
 -- `old` and `new` are standard error before and behind: where they are one, nothing was told.
 module _ {H I R O M : Type 0} (d : Devices I R O) (m : H → H → Machine I O) (writes : ByteWriter M) where
-  -- A text was shown on standard output, and flushed, and nothing was told; or one call of it failed, a front of the text was shown, and
-  -- this was told. Nothing else was written to it.
+  -- A text was shown on standard output, and flushed, no call of it failed, and nothing was told; or one call failed, a front of the text
+  -- was shown, and this was told. Nothing else was written to it.
   pub data IsShown (text : List ℕ) (code : ℕ) (host new_host : H) (old new : M) (status : ℕ) : Type 0 where
     Whole : (next : H) (output ended : O)
         → (m host next).is_output output
         → Appends (d.output.taken output) (d.output.taken ended) text
         → d.output.flushed ended ≡ true
+        → d.output.failures ended ≡ d.output.failures output
         → (m next new_host).left ended
         → new ≡ old
         → status ≡ code

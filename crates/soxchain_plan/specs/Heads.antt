@@ -7,8 +7,10 @@ use Rattle.fx_heads.specs.declared.head.Head.{Head}
 use Rattle.fx_heads.specs.declared.head.HeadFault.{HeadFault}
 use Rattle.fx_heads.specs.declared.head.HeadFault.TheVariants.{ReadFailed}
 use Rattle.fx_heads.specs.declared.head.Kind.{Kind}
+use Rattle.fx_heads.specs.Reads.{CutOff}
+use Rattle.fx_heads.specs.Source.{Held}
 use Rattle.fx_io.specs.Io.{ByteReader, saturated}
-use Rattle.soxchain.specs.Convert.{Begins}
+use Rattle.soxchain.specs.Convert.{Begins, unread_source}
 use Rattle.soxchain_words.specs.Desks.{IsNewReader}
 
 -- the bytes begin with this head, or else have this fault unless a read failed
@@ -16,11 +18,13 @@ abbrev pub IsHeadOf : Option Kind → List ℕ → Result Head HeadFault → Typ
 IsHeadOf expected bytes (Ok head) = (offset : ℕ) × Begins expected bytes head offset
 IsHeadOf expected bytes (Err fault) = fault ≢ ReadFailed → head_of expected bytes ≡ Err fault
 
--- This is read of a reader, which comes to this end. A read is said to have failed only where one did, and only one.
+-- This is read of a reader, which comes to this end, with what is held of it. A read is said to have failed only where one did, and
+-- only one; what had come before that decided nothing.
 pub record HeadIsRead {R : Type 0} (reads : ByteReader R) (expected : Option Kind) (reader : R) (head : Result Head HeadFault) : Type 0 where
-  pub ended : R
+  pub ended : Held R
   pub is_head : IfKnown (reads.rest reader) (λ bytes. IsHeadOf expected bytes head)
-  pub failures : MatchBool (is_read_failure head) (reads.failures ended ≡ saturated (reads.failures reader + 1)) (reads.failures ended ≡ reads.failures reader)
+  pub failures : MatchBool (is_read_failure head) (reads.failures ended.reader ≡ saturated (reads.failures reader + 1)) (reads.failures ended.reader ≡ reads.failures reader)
+  pub cut : head ≡ Err ReadFailed → CutOff reads.rest reads.told (head_of expected) (unread_source reader) ended
 
 -- standard input was asked for, and this is read of it
 pub record IsHeadFrom {I : Type 0} (is_input : I → Type 0) (reads : ByteReader I) (expected : Option Kind) (head : Result Head HeadFault) : Type 0 where

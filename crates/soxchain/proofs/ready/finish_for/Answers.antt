@@ -1,7 +1,7 @@
 use Rattle.std.proofs.Common.{refl}
 use Rattle.std.specs.Prelude.{Ok, Err}
 use Rattle.fx_run.specs.Report.{cause_of}
-use Rattle.soxchain.proofs.Converting.{HasCause-map, ReadFirst-new, Stands-map, wants-new}
+use Rattle.soxchain.proofs.Converting.{HasCause-map, ReadFirst-new, SourceStands-run, wants-new}
 use Rattle.soxchain.proofs.ready.finish_for.Goals as goal
 
 pub returns-in-Ok : goal.returns-in-Ok
@@ -27,7 +27,7 @@ returns g c =
       outcome = Err c.in-Err.fault;
       ran = c.in-Err.ensures.ran c.requires;
       stands = λ bytes known.
-          Stands-map _ _ _ _ (λ before. (before.0, ReadFirst-new g.R.ByteIn.reads.told _ _ c.requires _ _ _ _ _ before.1)) (Err c.in-Err.fault) (rw (c.requires.plan) at (c.in-Err.ensures.stands bytes known));
+          SourceStands-run g.R.ByteIn.reads c.args.source.now c.run.new.source c.args.prepared.plan.head bytes _ _ (λ before. (before.0, ReadFirst-new g.R.ByteIn.reads.told _ _ c.requires _ _ _ _ _ before.1)) (Err c.in-Err.fault) (rw (c.requires.plan) at (c.in-Err.ensures.stands bytes known));
       all_flushed = tt;
       due_flushed = c.in-Err.ensures.due_flushed;
       read_failed = rw (c.requires.plan) at c.in-Err.ensures.read_failed;

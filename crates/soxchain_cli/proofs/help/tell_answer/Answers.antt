@@ -7,6 +7,7 @@ returns-then-is_whole g c =
     Whole c.output-output.new.self c.output-output.result c.write_whole-is_whole.new.writer c.output-output.ensures.output
     (rw (c.as_bytes.ensures.value) at (c.write_whole-is_whole.ensures.whole c.if-is_whole.true))
     (c.write_whole-is_whole.ensures.flushed c.if-is_whole.true)
+    (c.write_whole-is_whole.ensures.unfailed c.if-is_whole.true)
     c.leave.ensures refl refl
 
 pub returns-else-is_whole : goal.returns-else-is_whole
