@@ -109,17 +109,17 @@ module _ {H I R O F M : Type 0} (d : Devices I R O F) (m : H → H → Machine I
   -- their bytes; or they are there, each its own.
   pub data Works (o : Opened H R) (line : Said) (host new_host : H) (old new : Telling M) (status : ℕ) : Type 0 where
     Unread : (name : List ℕ)
-        → IsUnread o.opened o.unopened d.file host new_host (coefficient_files (effects_in line)) name
+        → IsUnread o d.file host new_host (coefficient_files (effects_in line)) name
         → status ≡ 2
         → Says writes old new (open_message name)
         → Works o line host new_host old new status
     Forgotten :
-        IsForgotten o.opened d.file.rest host new_host (coefficient_files (effects_in line))
+        IsForgotten o d.file host new_host (coefficient_files (effects_in line))
         → status ≡ status_of_line LineFaults.Memory
         → Says writes old new (line_message (line_label LineFaults.Memory))
         → Works o line host new_host old new status
     Read : (next : H) (files : List (List ℕ))
-        → AreFronts o.opened d.file.rest host next (coefficient_files (effects_in line)) files
+        → AreFronts o d.file host next (coefficient_files (effects_in line)) files
         → Lines o line files next new_host old new status
         → Works o line host new_host old new status
 

@@ -48,7 +48,7 @@ pub fn process<H: Host, M: ByteOut>(
     telling: &mut Telling<M>,
 ) -> u8
     ensures { Lines (record { input = H.Input.reads; file = H.Reader.reads; output = H.Output.writes; created = record { writes = H.Made.writes; rewinds = H.Made.rewinds } })
-        H.machine H.shelf M.writes (record { opened = H.opened; unopened = H.unopened })
+        H.machine H.shelf M.writes (record { opened = H.opened; unopened = H.unopened; closed = H.closed })
         line.now (bytes_of files.now) host.old host.new telling.old telling.new result }
 {
     match line.input() {

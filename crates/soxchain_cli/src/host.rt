@@ -22,17 +22,17 @@ pub struct Identity {
     pub inode: u64,
 }
 
-/// A machine that makes files too. It is another one after each call but a look.
+/// A machine that looks at files and makes them too. It is another one after each call, a look among them.
 pub trait Host: Desk {
     /// A file that was made.
     type Made: Rewind + Drop;
 
-    // Which files it has, and which it made, refused to make and took back.
+    // Which files it looked at, made, refused to make and took back.
     ghost shelf: { Shelf Self Self.Made };
 
     /// The file of this name; None where it cannot be looked at.
-    fn look(&self, name: &str) -> Option<Identity>
-        ensures { shelf.looks self.now name.now result };
+    fn look(&mut self, name: &str) -> Option<Identity>
+        ensures { shelf.looks self.old self.new name.now result };
 
     /// Makes the file of this name, or empties an older one, once a new chain stands.
     fn make(&mut self, name: &str, prepared: &Prepared) -> io::Result<Self::Made>
@@ -50,9 +50,9 @@ impl Host for HostRuntime {
     type Made = Counted<File>;
 
     // Of the files of the machine itself nothing is known.
-    ghost shelf = { record { looks = λ _ _ _. ⊤; made = λ _ _ _ _. ⊤; unmade = λ _ _ _. ⊤; closed = λ _ _ _. ⊤ } };
+    ghost shelf = { record { looks = λ _ _ _ _. ⊤; made = λ _ _ _ _. ⊤; unmade = λ _ _ _. ⊤; closed = λ _ _ _. ⊤ } };
 
-    fn look(&self, name: &str) -> Option<Identity> {
+    fn look(&mut self, name: &str) -> Option<Identity> {
         let found = fs::metadata(self, name).ok()?;
         Some(Identity {
             is_plain: found.is_file(),

@@ -21,7 +21,7 @@ use std::process::ExitCode;
 /// Does what a line asks for, and answers the status.
 fn work_line<H: Host, M: ByteOut>(host: &mut H, line: &CommandLine, telling: &mut Telling<M>) -> u8
     ensures { Works (record { input = H.Input.reads; file = H.Reader.reads; output = H.Output.writes; created = record { writes = H.Made.writes; rewinds = H.Made.rewinds } })
-        H.machine H.shelf M.writes (record { opened = H.opened; unopened = H.unopened })
+        H.machine H.shelf M.writes (record { opened = H.opened; unopened = H.unopened; closed = H.closed })
         line.now host.old host.new telling.old telling.new result }
 {
     let files = match read_files(host.memory(), host, line) {
@@ -35,7 +35,7 @@ fn work_line<H: Host, M: ByteOut>(host: &mut H, line: &CommandLine, telling: &mu
 /// Does what the words ask for, and answers the status.
 fn work<H: Host, M: ByteOut>(host: &mut H, telling: &mut Telling<M>) -> u8
     ensures { Answers (record { input = H.Input.reads; file = H.Reader.reads; output = H.Output.writes; created = record { writes = H.Made.writes; rewinds = H.Made.rewinds } })
-        H.machine H.shelf M.writes (record { opened = H.opened; unopened = H.unopened })
+        H.machine H.shelf M.writes (record { opened = H.opened; unopened = H.unopened; closed = H.closed })
         (answer_of HELP.now VERSION.now) host.old host.new telling.old telling.new result }
 {
     let words = match host.words() {

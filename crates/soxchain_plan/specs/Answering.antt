@@ -137,15 +137,15 @@ module _ {H I R O M : Type 0} (d : Devices I R O) (m : H → H → Machine I O) 
   -- their bytes; or they are there, each its own.
   pub data Works (o : Opened H R) (style : Style) (line : Said) (host new_host : H) (old new : M) (status : ℕ) : Type 0 where
     Unread : (next : H) (name : List ℕ)
-        → IsUnread o.opened o.unopened d.file host next (coefficient_files (effects_in line)) name
+        → IsUnread o d.file host next (coefficient_files (effects_in line)) name
         → Stops style (open_message name) 2 next new_host old new status
         → Works o style line host new_host old new status
     Forgotten : (next : H)
-        → IsForgotten o.opened d.file.rest host next (coefficient_files (effects_in line))
+        → IsForgotten o d.file host next (coefficient_files (effects_in line))
         → Stops style (line_message (line_label LineFaults.Memory)) (status_of_line LineFaults.Memory) next new_host old new status
         → Works o style line host new_host old new status
     Known : (next : H) (files : List (List ℕ))
-        → AreFronts o.opened d.file.rest host next (coefficient_files (effects_in line)) files
+        → AreFronts o d.file host next (coefficient_files (effects_in line)) files
         → Lines o style line files next new_host old new status
         → Works o style line host new_host old new status
 

@@ -65,7 +65,7 @@ fn answer_line<H: Desk, M: ByteOut>(
     messages: &mut M,
 ) -> u8
     ensures { Works (record { input = H.Input.reads; file = H.Reader.reads; output = H.Output.writes })
-        H.machine M.writes (record { opened = H.opened; unopened = H.unopened })
+        H.machine M.writes (record { opened = H.opened; unopened = H.unopened; closed = H.closed })
         style line.now host.old host.new messages.old messages.new result }
 {
     let files = match read_files(host.memory(), host, line) {
@@ -89,7 +89,7 @@ fn answer_files<H: Desk, M: ByteOut>(
     messages: &mut M,
 ) -> u8
     ensures { Lines (record { input = H.Input.reads; file = H.Reader.reads; output = H.Output.writes })
-        H.machine M.writes (record { opened = H.opened; unopened = H.unopened })
+        H.machine M.writes (record { opened = H.opened; unopened = H.unopened; closed = H.closed })
         style line.now (bytes_of files.now) host.old host.new messages.old messages.new result }
 {
     match head_of(host, line) {
@@ -105,7 +105,7 @@ fn answer_files<H: Desk, M: ByteOut>(
 /// Does what the words ask for, and answers the status.
 fn answer_words<H: Desk, M: ByteOut>(host: &mut H, words: &[String], messages: &mut M) -> u8
     ensures { Words (record { input = H.Input.reads; file = H.Reader.reads; output = H.Output.writes })
-        H.machine M.writes (record { opened = H.opened; unopened = H.unopened })
+        H.machine M.writes (record { opened = H.opened; unopened = H.unopened; closed = H.closed })
         (answer_of HELP.now VERSION.now) (texts words.now) host.old host.new messages.old messages.new result }
 {
     if let Some(text) = answer_to(words, HELP, VERSION) {
@@ -121,7 +121,7 @@ fn answer_words<H: Desk, M: ByteOut>(host: &mut H, words: &[String], messages: &
 /// Does what the program is asked for, and answers the status.
 fn answer<H: Desk, M: ByteOut>(host: &mut H, messages: &mut M) -> u8
     ensures { Answers (record { input = H.Input.reads; file = H.Reader.reads; output = H.Output.writes })
-        H.machine M.writes (record { opened = H.opened; unopened = H.unopened })
+        H.machine M.writes (record { opened = H.opened; unopened = H.unopened; closed = H.closed })
         (answer_of HELP.now VERSION.now) host.old host.new messages.old messages.new result }
 {
     match host.words() {

@@ -1,12 +1,12 @@
 -- What is read up to a limit.
 use Rattle.std.proofs.Common.{◌≡◌, ◌<◌, ◌≤◌, ◌+◌, ℕ, List, [], ◌∷◌, ◌++◌, ◌∙◌, ap, append-nil, arith, false, length, map, nat_lt, slice_get, slice_index_or, inl, inr, sym, zero, suc, Bor, refl}
-use Rattle.std.specs.Prelude.{Option, Some, None, IfSome, take, Result, Ok, Err, IfErr}
+use Rattle.std.specs.Prelude.{◌^◌, Option, Some, None, IfOk, IfSome, take, Result, Ok, Err, IfErr}
 use Rattle.std.specs.Io.KnownBytes.{Consumes, IsAtEnd}
 use Rattle.std.proofs.lemmas.Bool.{cases_lt, lt-ltb}
 use Rattle.std.proofs.lemmas.List.{length-append, length-take, take_all, take_more}
 use Rattle.fx_io.specs.Io.{ByteReader, saturated}
-use Rattle.soxchain_words.specs.Desks.{IsNewReader}
-use Rattle.soxchain_words.specs.Files.{AreRead, AreReadTo, Failed, IsAsked, IsFront, kept_with}
+use Rattle.soxchain_words.specs.Desks.{IsNewReader, Opened}
+use Rattle.soxchain_words.specs.Files.{AreRead, AreReadTo, Failed, IsAsked, IsFront, IsOpenedAndClosed, kept_with}
 use Rattle.soxchain_words.specs.declared.files.Unread.{Unread}
 use Rattle.soxchain_words.specs.declared.files.Unread.TheVariants as Unreads
 
@@ -31,22 +31,54 @@ front-full (Some all) None bytes most told full = absurd told
 front-full (Some all) (Some later) bytes most told full =
     sym (ap (λ l. take most l) told ∙ front-of most bytes later (omega (arith, full)) ∙ take_all most bytes (omega (arith, full)))
 
--- a file that was opened, and of which a read failed, was asked for
-pub failed-asked : {X R : Type 0} (opened : List ℕ → R → Type 0) (unopened : List ℕ → Type 0) (reads : ByteReader R) (name : List ℕ) (reader : R) (result : Result X Unread)
-    → opened name reader → IsNewReader reads reader → IfErr result (λ fault. fault ≡ Unreads.Failed → (ended : R) × (reads.failures ended ≡ saturated (reads.failures reader + 1)))
-    → IfErr result (λ fault. fault ≡ Unreads.Failed → IsAsked opened unopened reads name)
-failed-asked opened unopened reads name reader (Ok x) is_opened fresh told = tt
-failed-asked opened unopened reads name reader (Err fault) is_opened fresh told = λ failed.
-    let it = told failed in
-    Failed reader it.0 is_opened fresh (it.1 ∙ ap (λ n. saturated (n + 1)) fresh.unfailed)
+-- what a reader that was opened told, or a failed read of it, is so of the file once it is closed
+module _ {H R : Type 0} (o : Opened H R) (reads : ByteReader R) (old between new : H) (name : List ℕ) (reader ended : R)
+    (is_opened : o.opened old between name reader) (fresh : IsNewReader reads reader) (is_closed : o.closed between new ended) where
+  opened-closed : (failures : ℕ) → reads.failures ended ≡ failures → IsOpenedAndClosed o reads failures old new name
+  opened-closed failures is = record {
+    reader = reader;
+    between = between;
+    ended = ended;
+    is_opened = is_opened;
+    fresh = fresh;
+    is_closed = is_closed;
+    failed = is;
+  }
+
+  pub front-closed : {X : Type 0} (result : Result X Unread) (items : X → List ℕ)
+      → IfOk result (λ x. IfSome (reads.rest reader) (λ all. items x ≡ take (2 ^ 20 + 1) all))
+      → IfOk result (λ x. length (items x) ≤ 2 ^ 20 + 1)
+      → IfOk result (λ x. reads.told reader ≡ 0 → reads.told ended ≡ length (items x))
+      → IfOk result (λ _. reads.failures ended ≡ reads.failures reader)
+      → IfOk result (λ x. IsFront o reads old new name (items x))
+  unfolding opened-closed
+  front-closed (Ok x) items front bound told unfailed = record {
+    file = opened-closed 0 (unfailed ∙ fresh.unfailed);
+    told = told fresh.untold;
+    bound = bound;
+    front = front;
+  }
+  front-closed (Err fault) items front bound told unfailed = tt
+
+  pub failed-closed : {X : Type 0} (result : Result X Unread)
+      → IfErr result (λ fault. fault ≡ Unreads.Failed → reads.failures ended ≡ saturated (reads.failures reader + 1))
+      → IfErr result (λ fault. fault ≡ Unreads.Failed → IsAsked o reads old new name)
+  failed-closed (Ok x) told = tt
+  failed-closed (Err fault) told = λ failed. Failed (opened-closed 1 (told failed ∙ ap (λ n. saturated (n + 1)) fresh.unfailed))
+
+  pub forgotten-closed : {X : Type 0} (result : Result X Unread)
+      → IfErr result (λ fault. fault ≡ Unreads.Memory → reads.failures ended ≡ reads.failures reader)
+      → IfErr result (λ fault. fault ≡ Unreads.Memory → IsOpenedAndClosed o reads 0 old new name)
+  forgotten-closed (Ok x) told = tt
+  forgotten-closed (Err fault) told = λ forgotten. opened-closed 0 (told forgotten ∙ fresh.unfailed)
 
 -- one more file was read behind those that were
-read-more : {H R : Type 0} (opened : H → H → List ℕ → R → Type 0) (remaining : R → Option (List ℕ)) (old mid new : H) (names files : List (List ℕ)) (name bytes : List ℕ)
-    → AreRead opened remaining old mid names files → IsFront (opened mid new) remaining name bytes → AreRead opened remaining old new (names ++ name ∷ []) (files ++ bytes ∷ [])
-read-more opened remaining old mid new [] [] name bytes are front = (new, rw are at front, refl)
-read-more opened remaining old mid new (n ∷ names) (f ∷ files) name bytes are front = (are.0, are.1, read-more opened remaining are.0 mid new names files name bytes are.2 front)
-read-more opened remaining old mid new [] (f ∷ files) name bytes are front = absurd are
-read-more opened remaining old mid new (n ∷ names) [] name bytes are front = absurd are
+read-more : {H R : Type 0} (o : Opened H R) (reads : ByteReader R) (old mid new : H) (names files : List (List ℕ)) (name bytes : List ℕ)
+    → AreRead o reads old mid names files → IsFront o reads mid new name bytes → AreRead o reads old new (names ++ name ∷ []) (files ++ bytes ∷ [])
+read-more o reads old mid new [] [] name bytes are front = (new, rw are at front, refl)
+read-more o reads old mid new (n ∷ names) (f ∷ files) name bytes are front = (are.0, are.1, read-more o reads are.0 mid new names files name bytes are.2 front)
+read-more o reads old mid new [] (f ∷ files) name bytes are front = absurd are
+read-more o reads old mid new (n ∷ names) [] name bytes are front = absurd are
 
 -- the first of all and one more are those that are kept
 kept-more : (all : List (List ℕ)) (bytes : List ℕ) → kept_with (take 32 all) bytes ≡ take 32 (all ++ bytes ∷ [])
@@ -62,17 +94,17 @@ kept-more all bytes = elim (cases_lt (length all) 32) [
 ]
 
 -- the files of the names up to a place were read, and the first 32 are there
-pub record AreSoFar {H R : Type 0} (opened : H → H → List ℕ → R → Type 0) (remaining : R → Option (List ℕ)) (old now : H) (names files : List (List ℕ)) (place : ℕ) : Type 0 where
+pub record AreSoFar {H R : Type 0} (o : Opened H R) (reads : ByteReader R) (old now : H) (names files : List (List ℕ)) (place : ℕ) : Type 0 where
   pub all : List (List ℕ)
-  pub read : AreRead opened remaining old now (take place names) all
+  pub read : AreRead o reads old now (take place names) all
   pub kept : files ≡ take 32 all
 
 -- and so it is one place on
-pub one-on : {H R : Type 0} (opened : H → H → List ℕ → R → Type 0) (remaining : R → Option (List ℕ)) (old mid new : H) (names files : List (List ℕ)) (place : ℕ) (name bytes : List ℕ)
-    → AreSoFar opened remaining old mid names files place → place < length names → slice_index_or names place [] ≡ name → IsFront (opened mid new) remaining name bytes
-    → AreSoFar opened remaining old new names (kept_with files bytes) (place + 1)
-one-on opened remaining old mid new names files place name bytes far within e front =
-    let more = read-more opened remaining old mid new (take place names) far.all name bytes far.read front in
+pub one-on : {H R : Type 0} (o : Opened H R) (reads : ByteReader R) (old mid new : H) (names files : List (List ℕ)) (place : ℕ) (name bytes : List ℕ)
+    → AreSoFar o reads old mid names files place → place < length names → slice_index_or names place [] ≡ name → IsFront o reads mid new name bytes
+    → AreSoFar o reads old new names (kept_with files bytes) (place + 1)
+one-on o reads old mid new names files place name bytes far within e front =
+    let more = read-more o reads old mid new (take place names) far.all name bytes far.read front in
     record {
       all = far.all ++ bytes ∷ [];
       read = rw (take_more names place [] within, e) more;
@@ -86,9 +118,9 @@ name-there (n ∷ ns) zero d h = refl
 name-there (n ∷ ns) (suc k) d h = name-there ns k d (omega (arith, h))
 
 -- so the files in front of it were read, where those up to its place were
-pub read-to : {H R : Type 0} (opened : H → H → List ℕ → R → Type 0) (remaining : R → Option (List ℕ)) (old before : H) (names : List (Bor (List ℕ))) (all files : List (List ℕ)) (place : ℕ) (name d : Bor (List ℕ))
-    → map (λ n. n.now) names ≡ all → place < length names → name ≡ slice_index_or names place d → AreSoFar opened remaining old before all files place → AreReadTo opened remaining old before all place name.now
-read-to opened remaining old before names all files place name d same within is far = record {
+pub read-to : {H R : Type 0} (o : Opened H R) (reads : ByteReader R) (old before : H) (names : List (Bor (List ℕ))) (all files : List (List ℕ)) (place : ℕ) (name d : Bor (List ℕ))
+    → map (λ n. n.now) names ≡ all → place < length names → name ≡ slice_index_or names place d → AreSoFar o reads old before all files place → AreReadTo o reads old before all place name.now
+read-to o reads old before names all files place name d same within is far = record {
   is_there = rw (← same) (name-there names place d within ∙ ap (λ n. Some n.now) (sym is));
   files = far.all;
   read = far.read;

@@ -12,10 +12,12 @@ pub record Machine (I O : Type 0) : Type 1 where
   pub is_output : O → Type 0
   pub left : O → Type 0
 
--- The file that was opened to read by one call, by its name, or the name whose opening was refused.
+-- The file that was opened to read by one call, by its name; the name whose opening was refused; and the opened file that was closed,
+-- of which nothing more is read.
 pub record Opened (H R : Type 0) : Type 1 where
   pub opened : H → H → List ℕ → R → Type 0
   pub unopened : H → H → List ℕ → Type 0
+  pub closed : H → H → R → Type 0
 
 -- nothing was read of it yet, and no call of it failed
 pub record IsNewReader {R : Type 0} (reads : ByteReader R) (reader : R) : Type 0 where

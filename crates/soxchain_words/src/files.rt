@@ -1,10 +1,10 @@
 //! The coefficient files that the words name.
-ghost use Rattle.std.specs.Prelude.{◌≡◌, ◌+◌, ◌^◌, List, ℕ, IfErr, IfOk, IfSome, take, ⊤};
+ghost use Rattle.std.specs.Prelude.{◌≡◌, ◌≤◌, ◌+◌, ◌^◌, List, ℕ, IfErr, IfOk, IfSome, length, take, ⊤};
 ghost use Rattle.fx_io.specs.Io.{saturated};
 ghost use Rattle.fx_plan.specs.CommandLines.{coefficient_files, effects_in};
 ghost use Rattle.fx_plan.specs.Plans.{bytes_of};
 ghost use Rattle.soxchain_words.specs.Desks.{IsNewReader};
-ghost use Rattle.soxchain_words.specs.Files.{AreFronts, IsAsked, IsFront, IsOfFiles, kept_with};
+ghost use Rattle.soxchain_words.specs.Files.{AreFronts, IsAsked, IsFront, IsOfFiles, IsOpenedAndClosed, kept_with};
 
 use fx_frame::{ByteIn, Counted};
 use fx_plan::CommandLine;
@@ -34,11 +34,18 @@ pub trait Openings {
     // Was an opening of the file of this name refused between them?
     ghost unopened: { Self → Self → List ℕ → Type 0 };
 
+    // Was the opened file closed between them, as this?
+    ghost closed: { Self → Self → Self.Reader → Type 0 };
+
     /// Opens the file of this name.
     fn open(&mut self, name: &str) -> io::Result<Self::Reader>
         ensures opened { IfOk result (λ reader. opened self.old self.new name.now reader) }
         ensures fresh { IfOk result (IsNewReader Self.Reader.reads) }
         ensures refused { IfErr result (λ _. unopened self.old self.new name.now) };
+
+    /// Closes an opened file: nothing more is read of it.
+    fn close_reader(&mut self, reader: Self::Reader)
+        ensures { closed self.old self.new reader };
 }
 
 impl Openings for HostRuntime {
@@ -49,9 +56,13 @@ impl Openings for HostRuntime {
 
     ghost unopened = { λ _ _ _. ⊤ };
 
+    ghost closed = { λ _ _ _. ⊤ };
+
     fn open(&mut self, name: &str) -> io::Result<Counted<File>> {
         Ok(Counted::new(File::open(self, name)?))
     }
+
+    fn close_reader(&mut self, _reader: Counted<File>) {}
 }
 
 /// Why the bytes of a file are not there.
@@ -64,11 +75,14 @@ enum Unread {
 }
 
 /// What a reader tells, at most `MOST_READ` bytes of it.
-fn read_front<R: ByteIn + Drop>(alloc: Global, reader: R) -> Result<Vec<u8>, Unread>
-    ensures front { IfOk result (λ bytes. IfSome (R.reads.rest reader) (λ all. bytes.items ≡ take (2 ^ 20 + 1) all)) }
-    ensures failed { IfErr result (λ fault. fault ≡ Unread.Failed → (ended : R) × (R.reads.failures ended ≡ saturated (R.reads.failures reader + 1))) }
+fn read_front<R: ByteIn>(alloc: Global, reader: &mut R) -> Result<Vec<u8>, Unread>
+    ensures front { IfOk result (λ bytes. IfSome (R.reads.rest reader.old) (λ all. bytes.items ≡ take (2 ^ 20 + 1) all)) }
+    ensures bound { IfOk result (λ bytes. length bytes.items ≤ 2 ^ 20 + 1) }
+    ensures told { IfOk result (λ bytes. R.reads.told reader.old ≡ 0 → R.reads.told reader.new ≡ length bytes.items) }
+    ensures unfailed { IfOk result (λ _. R.reads.failures reader.new ≡ R.reads.failures reader.old) }
+    ensures failed { IfErr result (λ fault. fault ≡ Unread.Failed → R.reads.failures reader.new ≡ saturated (R.reads.failures reader.old + 1)) }
+    ensures forgotten { IfErr result (λ fault. fault ≡ Unread.Memory → R.reads.failures reader.new ≡ R.reads.failures reader.old) }
 {
-    let mut reader = reader;
     let mut bytes = Vec::new(alloc);
     let mut piece = [0; PIECE];
     while bytes.len() < MOST_READ {
@@ -86,16 +100,24 @@ fn read_front<R: ByteIn + Drop>(alloc: Global, reader: R) -> Result<Vec<u8>, Unr
     Ok(bytes)
 }
 
-/// The first bytes of the file of this name.
+/// The first bytes of the file of this name, which is closed then.
 fn read_file<H: Openings>(alloc: Global, host: &mut H, name: &str) -> Result<Vec<u8>, Unread>
-    ensures read { IfOk result (λ bytes. IsFront (H.opened host.old host.new) H.Reader.reads.rest name.now bytes.items) }
-    ensures failed { IfErr result (λ fault. fault ≡ Unread.Failed → IsAsked (H.opened host.old host.new) (H.unopened host.old host.new) H.Reader.reads name.now) }
-    ensures forgotten { IfErr result (λ fault. fault ≡ Unread.Memory → (reader : H.Reader) × H.opened host.old host.new name.now reader) }
+    ensures read { IfOk result (λ bytes.
+        IsFront (record { opened = H.opened; unopened = H.unopened; closed = H.closed }) H.Reader.reads
+        host.old host.new name.now bytes.items) }
+    ensures failed { IfErr result (λ fault. fault ≡ Unread.Failed →
+        IsAsked (record { opened = H.opened; unopened = H.unopened; closed = H.closed }) H.Reader.reads
+        host.old host.new name.now) }
+    ensures forgotten { IfErr result (λ fault. fault ≡ Unread.Memory →
+        IsOpenedAndClosed (record { opened = H.opened; unopened = H.unopened; closed = H.closed }) H.Reader.reads
+        0 host.old host.new name.now) }
 {
-    let Ok(reader) = host.open(name) else {
+    let Ok(mut reader) = host.open(name) else {
         return Err(Unread::Failed);
     };
-    read_front(alloc, reader)
+    let bytes = read_front(alloc, &mut reader);
+    host.close_reader(reader);
+    bytes
 }
 
 /// Reads the file of this name, and adds its bytes to those of the files before it where they are to be kept.
@@ -105,9 +127,15 @@ fn read_next<H: Openings>(
     name: &str,
     files: &mut Vec<Vec<u8>>,
 ) -> Result<(), Unread>
-    ensures read { IfOk result (λ _. (bytes : List ℕ) × IsFront (H.opened host.old host.new) H.Reader.reads.rest name.now bytes × (bytes_of files.new.items ≡ kept_with (bytes_of files.old.items) bytes)) }
-    ensures failed { IfErr result (λ fault. fault ≡ Unread.Failed → IsAsked (H.opened host.old host.new) (H.unopened host.old host.new) H.Reader.reads name.now) }
-    ensures forgotten { IfErr result (λ fault. fault ≡ Unread.Memory → (reader : H.Reader) × H.opened host.old host.new name.now reader) }
+    ensures read { IfOk result (λ _. (bytes : List ℕ) ×
+        IsFront (record { opened = H.opened; unopened = H.unopened; closed = H.closed }) H.Reader.reads
+        host.old host.new name.now bytes × (bytes_of files.new.items ≡ kept_with (bytes_of files.old.items) bytes)) }
+    ensures failed { IfErr result (λ fault. fault ≡ Unread.Failed →
+        IsAsked (record { opened = H.opened; unopened = H.unopened; closed = H.closed }) H.Reader.reads
+        host.old host.new name.now) }
+    ensures forgotten { IfErr result (λ fault. fault ≡ Unread.Memory →
+        IsOpenedAndClosed (record { opened = H.opened; unopened = H.unopened; closed = H.closed }) H.Reader.reads
+        0 host.old host.new name.now) }
 {
     let bytes = match read_file(alloc, host, name) {
         Ok(bytes) => bytes,
@@ -131,15 +159,19 @@ pub enum FilesFault<'a> {
 }
 
 /// The bytes of the coefficient files, in the order of the effects; or why they are not there, which is told of the first file
-/// that cannot be read. A file is opened and read once for each time that the words name it, in that order, and no other file is.
+/// that cannot be read. A file is opened, read and closed once for each time that the words name it, in that order, and no other is.
 /// Only the first 32 are kept, since a line of more effects is refused.
 pub fn read_files<'a, H: Openings>(
     alloc: Global,
     host: &mut H,
     line: &'a CommandLine,
 ) -> Result<Vec<Vec<u8>>, FilesFault<'a>>
-    ensures each { IfOk result (λ files. AreFronts H.opened H.Reader.reads.rest host.old host.new (coefficient_files (effects_in line.now)) (bytes_of files.items)) }
-    ensures named { IfErr result (IsOfFiles H.opened H.unopened H.Reader.reads host.old host.new (coefficient_files (effects_in line.now))) }
+    ensures each { IfOk result (λ files.
+        AreFronts (record { opened = H.opened; unopened = H.unopened; closed = H.closed }) H.Reader.reads
+        host.old host.new (coefficient_files (effects_in line.now)) (bytes_of files.items)) }
+    ensures named { IfErr result (
+        IsOfFiles (record { opened = H.opened; unopened = H.unopened; closed = H.closed }) H.Reader.reads
+        host.old host.new (coefficient_files (effects_in line.now))) }
 {
     let Ok(names) = coefficient_file_names(alloc, line) else {
         return Err(FilesFault::Memory);

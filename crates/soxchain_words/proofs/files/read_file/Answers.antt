@@ -1,7 +1,21 @@
-use Rattle.soxchain_words.proofs.Fronts.{failed-asked}
+use Rattle.soxchain_words.proofs.Fronts.{failed-closed, forgotten-closed, front-closed}
 use Rattle.soxchain_words.proofs.files.read_file.Goals as goal
+
+pub returns-clause-read : goal.returns-clause-read
+returns-clause-read g c =
+    let told = c.read_front-bytes.ensures in
+    front-closed (record { opened = g.H.Openings.opened; unopened = g.H.Openings.unopened; closed = g.H.Openings.closed }) g.H.Reader.ByteIn.reads c.args.host.now c.open.new.self c.close_reader.new.self c.args.name.now
+    c.in-Ok.reader c.read_front-bytes.new.reader c.in-Ok.ensures.opened c.in-Ok.ensures.fresh c.close_reader.ensures
+    c.read_front-bytes.result (λ bytes. bytes.items) told.front told.bound told.told told.unfailed
 
 pub returns-clause-failed : goal.returns-clause-failed
 returns-clause-failed g c =
-    failed-asked (g.H.Openings.opened c.args.host.now c.open.new.self) (g.H.Openings.unopened c.args.host.now c.open.new.self) g.H.Reader.ByteIn.reads c.args.name.now
-    c.in-Ok.reader c.read_front.result c.in-Ok.ensures.opened c.in-Ok.ensures.fresh c.read_front.ensures.failed
+    failed-closed (record { opened = g.H.Openings.opened; unopened = g.H.Openings.unopened; closed = g.H.Openings.closed }) g.H.Reader.ByteIn.reads c.args.host.now c.open.new.self c.close_reader.new.self c.args.name.now
+    c.in-Ok.reader c.read_front-bytes.new.reader c.in-Ok.ensures.opened c.in-Ok.ensures.fresh c.close_reader.ensures
+    c.read_front-bytes.result c.read_front-bytes.ensures.failed
+
+pub returns-clause-forgotten : goal.returns-clause-forgotten
+returns-clause-forgotten g c =
+    forgotten-closed (record { opened = g.H.Openings.opened; unopened = g.H.Openings.unopened; closed = g.H.Openings.closed }) g.H.Reader.ByteIn.reads c.args.host.now c.open.new.self c.close_reader.new.self c.args.name.now
+    c.in-Ok.reader c.read_front-bytes.new.reader c.in-Ok.ensures.opened c.in-Ok.ensures.fresh c.close_reader.ensures
+    c.read_front-bytes.result c.read_front-bytes.ensures.forgotten

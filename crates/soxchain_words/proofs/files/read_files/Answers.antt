@@ -24,10 +24,9 @@ pub returns-in-Err-Memory-clause-named : goal.returns-in-Err-Memory-clause-named
 returns-in-Err-Memory-clause-named g c =
     let names = c.in-Ok.names.items in
     let within : c.loop-place.place < length names = omega (arith, c.loop-place-test.true) in
-    let opened = c.in-Err-Memory.ensures.forgotten c.in-Err-Memory.field-0-is in
-    Bytes c.loop-place.place c.index-name.result.now.now c.loop-place.host opened.0
+    Bytes c.loop-place.place c.index-name.result.now.now c.loop-place.host
     (read-to _ _ _ _ names _ _ c.loop-place.place c.index-name.result.now _ c.in-Ok.ensures within c.index-name.ensures c.loop-place.invariant)
-    opened.1
+    (c.in-Err-Memory.ensures.forgotten c.in-Err-Memory.field-0-is)
 
 pub loop-place-preserved : goal.loop-place-preserved
 loop-place-preserved g c =
@@ -39,5 +38,5 @@ loop-place-preserved g c =
     let is-name : slice_index_or all place [] ≡ name.now = rw (← c.in-Ok.ensures) (name-at names place name within ∙ ap (λ n. n.now) (sym c.index-name.ensures)) in
     let there : place < length all = rw (← c.in-Ok.ensures) (omega (arith, within, length-map names (λ n. n.now))) in
     let read = c.in-Ok-read_next.ensures.read in
-    let far = one-on g.H.Openings.opened g.H.Reader.ByteIn.reads.rest c.args.host.now c.loop-place.host c.read_next.new.host all (bytes_of c.loop-place.files.items) place name.now read.0 c.loop-place.invariant there is-name read.1 in
+    let far = one-on _ _ c.args.host.now c.loop-place.host c.read_next.new.host all (bytes_of c.loop-place.files.items) place name.now read.0 c.loop-place.invariant there is-name read.1 in
     rw (read.2) far

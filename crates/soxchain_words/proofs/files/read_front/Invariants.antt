@@ -6,6 +6,7 @@ abbrev pub invariant-loop-piece : goal.invariant-loop-piece
 invariant-loop-piece g l = record {
   came : Consumes (g.R.ByteIn.reads.rest l.fn.reader) (g.R.ByteIn.reads.rest l.reader) l.bytes.items;
   few : length l.bytes.items ≤ 1048577;
+  told : g.R.ByteIn.reads.told l.fn.reader ≡ 0 → g.R.ByteIn.reads.told l.reader ≡ length l.bytes.items;
   unfailed : g.R.ByteIn.reads.failures l.reader ≡ g.R.ByteIn.reads.failures l.fn.reader;
 }
 
