@@ -12,6 +12,7 @@ use Rattle.soxchain.specs.Program.{Concludes}
 use Rattle.soxchain.specs.Stops.{Stop, Refused, Run}
 use Rattle.soxchain.specs.declared.preparing.Refusal.TheVariants.{Head}
 use Rattle.soxchain_c.specs.Conversion.{ConvertedBytes}
+use Rattle.soxchain_c.proofs.Standing.{there-ran}
 use Rattle.soxchain_stream.proofs.Words.{if_ok-more}
 
 -- what is concluded of a line is concluded more weakly
@@ -30,7 +31,9 @@ pub converted-bytes : {R W : Type 0} (reads : ByteReader R) (writes : ByteWriter
     → ((r : R) → reads.failures r ≡ 0) → reads.rest reader ≡ Some input → writes.taken writer ≡ Some [] → writes.taken new_writer ≡ Some output
     → Converted reads writes line files reader new_reader writer new_writer outcome → ConvertedBytes line files input output outcome
 converted-bytes reads writes line files reader new_reader writer new_writer outcome input output unfailing known first now c = record {
-  whole = if_ok-more outcome (λ r whole. rw (first, now) at (whole input known)) c.whole;
+  whole = if_ok-more outcome (λ r whole.
+      let w = rw (first, now) at (whole input known) in
+      record { whole = w; there = there-ran w.run.plan (drop w.run.offset input) (Some []) (Some output) (Ok r) w.ran }) c.whole;
   clean = λ r e. (let same : Some output ≡ Some [] = sym now ∙ ap writes.taken (c.clean r e) ∙ first in cc);
   refused = λ f e. c.refused f e (λ is. unfailed _ _ (unfailing reader) (unfailing new_reader) (subst (λ x. RefusalHasCause (Head x) (reads.failures reader) (reads.failures new_reader)) is (c.causes (Refused (Head f)) e))) input known;
   unplanned = λ f e. c.unplanned f e input known;
@@ -43,5 +46,6 @@ converted-bytes reads writes line files reader new_reader writer new_writer outc
         read = λ is. unfailed _ _ (unfailing reader) (unfailing new_reader) (subst (λ x. HasCause x (Unit {0}) (reads.failures reader) (reads.failures new_reader) (writes.failures writer) (writes.failures new_writer)) is (c.causes (Run f) e)).0;
         run = s.run;
         ran = subst Q now (subst P first s.ran);
+        there = there-ran s.run.plan (drop s.run.offset input) (writes.taken writer) (writes.taken new_writer) (Err f) s.ran;
       };
 }

@@ -9,8 +9,8 @@ use Rattle.soxchain_stream.specs.declared.stream.Stream.{Stream}
 use Rattle.soxchain_c.specs.declared.texts.TextFault.{TextFault}
 use Rattle.soxchain_c.specs.declared.texts.TextFault.TheVariants.{BadEnds, NotText, Memory}
 use Rattle.soxchain_c.specs.Asked.{FaultAnswers, IsFault}
-use Rattle.soxchain_c.specs.Conversion.{ToldBytes}
 use Rattle.soxchain_c.specs.Making.{IsHeadAt, LacksStream, MakeAnswers, NewAnswers, RefusesStream}
+use Rattle.soxchain_c.specs.Messages.{ToldBytes}
 use Rattle.soxchain_c.specs.Texts.{AreEnds, AreTexts, cut}
 
 -- what is answered is told more weakly

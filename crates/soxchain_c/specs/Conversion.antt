@@ -1,5 +1,5 @@
 -- A conversion in memory (this project's profile; packaging/soxchain.h).
-use Rattle.std.specs.Prelude.{◌≡◌, ◌≢◌, ◌⊎◌, ℕ, ℤ, pos, List, [], drop, Some, Result, Err, IfOk}
+use Rattle.std.specs.Prelude.{◌≡◌, ◌≢◌, ◌⊎◌, ◌+◌, ◌*◌, ◌≤◌, ℕ, ℤ, pos, List, [], drop, length, Some, Result, Err, IfOk}
 use Rattle.fx_run.specs.declared.report.Report.{Report}
 use Rattle.fx_run.specs.declared.report.RunFault.{RunFault}
 use Rattle.fx_run.specs.declared.pump.Cause.TheVariants as Causes
@@ -9,17 +9,20 @@ use Rattle.fx_line.specs.declared.line.LineFault.{LineFault}
 use Rattle.fx_line.specs.Line.{Said, line_of}
 use Rattle.fx_plan.specs.declared.fault.PlanFault.{PlanFault}
 use Rattle.fx_plan.specs.CommandLines.{LineReads}
+use Rattle.fx_plan.specs.Planning.{Planning}
 use Rattle.fx_heads.specs.declared.head.HeadFault.{HeadFault}
+use Rattle.fx_heads.specs.FrameCoding.{frame_size}
 use Rattle.fx_heads.specs.Head.{head_of}
+use Rattle.fx_sound.specs.Sound.{within}
 use Rattle.soxchain.specs.declared.preparing.Refusal.{Refusal}
 use Rattle.soxchain.specs.declared.preparing.Refusal.TheVariants as Refusals
 use Rattle.soxchain.specs.Convert.{Running, Unchained, Unplanned, Whole}
 use Rattle.soxchain.specs.Program.{Concludes}
 use Rattle.soxchain.specs.Stops.{Stop, Refused, Run}
-use Rattle.soxchain.specs.Telling.{TellsBytes}
 use Rattle.soxchain_c.specs.declared.conversion.SoxchainReport.{SoxchainReport}
 use Rattle.soxchain_c.specs.declared.status.Status.{Status}
 use Rattle.soxchain_c.specs.Asked.{Unread}
+use Rattle.soxchain_c.specs.Messages.{ToldBytes}
 use Rattle.soxchain_c.specs.Status.{code}
 use Rattle.soxchain_c.specs.Texts.{AreEnds, AreTexts, cut}
 
@@ -38,20 +41,27 @@ told_report r output messages = record {
   stray = r.stray;
 }
 
--- these bytes were told as messages: all of the text, or a front of it where memory was wanting
-abbrev pub ToldBytes : List ℕ → List ℕ → Type 0
-ToldBytes messages text = (count : ℕ) × TellsBytes (Some []) (Some messages) 0 count text
+-- The frames that a report names, and its stray bytes, stand behind the head.
+abbrev pub AreThere : Planning → List ℕ → Report → Type 0
+AreThere p bytes r =
+    r.frames_in * frame_size p.head.coding p.head.channels + r.stray ≤ length (within p.head.announced bytes)
+
+-- The bytes were a whole sound, or as much of it was read as is enough.
+pub record WholeBytes (line : Said) (files : List (List ℕ)) (input output : List ℕ) (r : Report) : Type 0 where
+  pub whole : Whole line files input (Some []) (Some output) r
+  pub there : AreThere whole.run.plan (drop whole.run.offset input) r
 
 -- The run over the bytes stopped, since memory for the output was wanting, or the sound was too long: no read of bytes in memory fails.
 pub record StoppedBytes (line : Said) (files : List (List ℕ)) (input output : List ℕ) (f : RunFault) : Type 0 where
   pub read : cause_of f ≢ Causes.ReadFailed
   pub run : Running line files input (report_at f)
   pub ran : Ran run.plan (drop run.offset input) (Some []) (Some output) (Err f)
+  pub there : AreThere run.plan (drop run.offset input) (report_at f)
 
 -- A sound in memory whose command line was accepted: as `Converted` says of a reader that tells these bytes, and of a writer that
 -- took none and then these.
 pub record ConvertedBytes (line : Said) (files : List (List ℕ)) (input output : List ℕ) (outcome : Result Report Stop) : Type 0 where
-  pub whole : IfOk outcome (λ r. Whole line files input (Some []) (Some output) r)
+  pub whole : IfOk outcome (λ r. WholeBytes line files input output r)
   pub clean : (r : Refusal) → outcome ≡ Err (Refused r) → output ≡ []
   pub refused : (f : HeadFault) → outcome ≡ Err (Refused (Refusals.Head f)) → head_of line.input_kind input ≡ Err f
   pub unplanned : (f : PlanFault) → outcome ≡ Err (Refused (Refusals.Plan f)) → Unplanned line files input f

@@ -3,6 +3,7 @@ pub mod Calls
 pub mod Conversion
 pub mod Kept
 pub mod Making
+pub mod Messages
 pub mod Room
 pub mod Status
 pub mod Texts

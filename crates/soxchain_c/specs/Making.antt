@@ -19,7 +19,7 @@ use Rattle.soxchain_c.specs.declared.status.Status.TheVariants.{BadChannels, Bad
 use Rattle.soxchain_stream.specs.declared.stream.Stream.{Stream}
 use Rattle.soxchain_c.specs.declared.texts.TextFault.{TextFault}
 use Rattle.soxchain_c.specs.Asked.{FaultAnswers, Unread}
-use Rattle.soxchain_c.specs.Conversion.{ToldBytes}
+use Rattle.soxchain_c.specs.Messages.{ToldBytes}
 use Rattle.soxchain_c.specs.Status.{code}
 use Rattle.soxchain_c.specs.Texts.{AreEnds, AreTexts, cut}
 

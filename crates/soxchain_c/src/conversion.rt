@@ -4,11 +4,13 @@ ghost use Rattle.fx_run.specs.Report.{no_report};
 ghost use Rattle.fx_line.specs.Line.{texts};
 ghost use Rattle.fx_plan.specs.Plans.{bytes_of};
 ghost use Rattle.soxchain_c.specs.Asked.{FaultAnswers};
-ghost use Rattle.soxchain_c.specs.Conversion.{Conversion, ConversionOf, ToldBytes, told_report};
+ghost use Rattle.soxchain_c.specs.Conversion.{Conversion, ConversionOf, told_report};
+ghost use Rattle.soxchain_c.specs.Messages.{ToldBytes};
 ghost use Rattle.soxchain_c.specs.Room.{filled};
 ghost use Rattle.soxchain_c.specs.Status.{code};
 
 use crate::asked::{Asked, read_asked, refuse};
+use crate::messages::{Messages, Text};
 use crate::room::put;
 use crate::slices::SliceReader;
 use crate::status::{Status, number_of};
@@ -58,7 +60,7 @@ struct Done {
     status: i32,
     report: Report,
     output: Vec<u8>,
-    messages: Vec<u8>,
+    messages: Text,
 }
 
 /// Converts a sound in memory.
@@ -66,7 +68,7 @@ fn convert_asked(alloc: Global, asked: &Asked, input: &[u8]) -> Done
     ensures { Conversion (texts asked.now.words.items) (bytes_of asked.now.files.items) input.now result.output.items result.messages.items result.status result.report }
 {
     let mut output = Counted::new(Vec::new(alloc));
-    let mut messages = Counted::new(Vec::new(alloc));
+    let mut messages = Messages::new(alloc);
     let (status, report, _reader) = convert(
         alloc,
         &asked.words,
@@ -79,7 +81,7 @@ fn convert_asked(alloc: Global, asked: &Asked, input: &[u8]) -> Done
         status: i32::from(status),
         report,
         output: output.into_inner(),
-        messages: messages.into_inner(),
+        messages: messages.into_text(),
     }
 }
 
@@ -89,13 +91,13 @@ fn unread(alloc: Global, fault: TextFault) -> Done
     ensures output { result.output.items ≡ [] }
     ensures report { result.report ≡ no_report }
 {
-    let mut told = Counted::new(Vec::new(alloc));
+    let mut told = Messages::new(alloc);
     let status = number_of(refuse(&mut told, fault));
     Done {
         status,
         report: Report::none(),
         output: Vec::new(alloc),
-        messages: told.into_inner(),
+        messages: told.into_text(),
     }
 }
 
@@ -120,8 +122,9 @@ pub extern "C" fn soxchain_convert(
         Ok(asked) => convert_asked(alloc, &asked, input),
         Err(fault) => unread(alloc, fault),
     };
-    *report = report_of(&done.report, done.output.len(), done.messages.len());
+    let told = done.messages.as_slice();
+    *report = report_of(&done.report, done.output.len(), told.len());
     put(output, &done.output);
-    put(messages, &done.messages);
+    put(messages, told);
     done.status
 }

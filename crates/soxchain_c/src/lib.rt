@@ -8,6 +8,7 @@ mod asked;
 pub mod conversion;
 pub mod handle;
 mod loose;
+mod messages;
 pub mod new_call;
 mod planning;
 mod room;

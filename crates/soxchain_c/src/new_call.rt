@@ -9,12 +9,13 @@ ghost use Rattle.soxchain_c.specs.Status.{code};
 
 use crate::asked::{Asked, read_asked, refuse};
 use crate::handle::Handle;
+use crate::messages::Messages;
 use crate::planning::{head_of, make_stream};
 use crate::room::put;
 use crate::status::{Status, number_of};
 use crate::stream_calls::put_back;
 use crate::texts::TextFault;
-use fx_frame::{ByteOut, Counted};
+use fx_frame::ByteOut;
 use fx_sound::Head;
 use soxchain_stream::Stream;
 use std::alloc::Global;
@@ -89,11 +90,11 @@ pub extern "C" fn soxchain_new(
         Ok(head) => head,
         Err(status) => return number_of(status),
     };
-    let mut told = Counted::new(Vec::new(alloc));
+    let mut told = Messages::new(alloc);
     let asked = read_asked(alloc, words, word_ends, files, file_ends);
     let status = make(alloc, &asked, &head, &mut told, handle);
-    let told = told.into_inner();
-    *messages_length = told.len();
-    put(messages, &told);
+    let told = told.into_text();
+    *messages_length = told.as_slice().len();
+    put(messages, told.as_slice());
     number_of(status)
 }
