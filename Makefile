@@ -54,7 +54,7 @@ build/soxchain-plan: $(SOURCES)
 # The proved library for C, with its header; docs/library.md. PROVED=--proved is for the gate, which has just run rt ci.
 PROVED =
 lib: build/libsoxchain.so
-build/libsoxchain.so: $(SOURCES) packaging/soxchain.h packaging/strerror.c scripts/library
+build/libsoxchain.so: $(SOURCES) packaging/soxchain.h packaging/strerror.c packaging/effects.c scripts/library
 	@scripts/library $(PROVED) '$(VERSION)'
 
 # The library beside the program. The gate does the same over what rt ci has proved.

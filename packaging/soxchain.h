@@ -124,6 +124,40 @@ int soxchain_thaw(soxchain_stream *stream, const uint8_t *bytes, size_t bytes_le
 /* Frees the stream, if there is one. The handle is then as it began. */
 void soxchain_free(soxchain_stream *stream);
 
+/* The short way: effects from an argument list, and frames of int or short. It stands on the calls above, and is tested, not
+ * proved. Here a pointer may be NULL where the length behind it is 0, and so may each pointer to a result. */
+
+/* The version, as "0.1.0". */
+const char *soxchain_version_string(void);
+
+/* Effects with what they keep of a sound. */
+typedef struct soxchain_effects soxchain_effects;
+
+/* The effects of an argument list, as {"echo", "0.8", "0.9", "100", "0.3"}, for frames of so many channels at this rate. NULL where
+ * they are refused or no memory is found; error then gets the status, and SOXCHAIN_OK else. A coefficient file is not read: give
+ * fir its numbers, or use soxchain_new. */
+soxchain_effects *soxchain_open(int argc, const char *const argv[], uint32_t rate, int channels, int *error);
+
+/* Frees the effects, if there are any. */
+void soxchain_close(soxchain_effects *effects);
+
+/* Samples in a frame and frames in a second that come out; 0 where there are no effects. */
+int soxchain_output_channels(soxchain_effects *effects);
+uint32_t soxchain_output_rate(soxchain_effects *effects);
+
+/* Takes frames from the front of the input, and writes those that come out to the front of the output, until no frame is left or no
+ * room. The samples of a frame lie side by side; lengths are counted in frames. used and made get how many frames were taken and
+ * given; frames that change nothing any more count as taken. With is_end no frame comes after these: call again with what is left of
+ * the input, and then with none, until made is 0.
+ * The statuses are those of soxchain_feed and soxchain_end. */
+int soxchain_process_int(soxchain_effects *effects, const int32_t *input, size_t input_frames, size_t *used, int32_t *output,
+                         size_t output_frames, size_t *made, int is_end);
+
+/* The same for samples of 16 bits. Inside they are times 65536; what comes out is rounded with halves upward, and the greatest
+ * numbers are clipped, as in a file of 16 bits. */
+int soxchain_process_short(soxchain_effects *effects, const int16_t *input, size_t input_frames, size_t *used, int16_t *output,
+                           size_t output_frames, size_t *made, int is_end);
+
 #ifdef __cplusplus
 }
 #endif
