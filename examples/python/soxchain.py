@@ -195,6 +195,11 @@ def _samples_of(data: Any) -> memoryview:
     return view
 
 
+def _is_scale(limits: Any, scale: int) -> bool:
+    """Is each number within these limits an int32 when it is multiplied by the scale?"""
+    return all(-2**31 <= number * scale < 2**31 for number in (limits.min, limits.max))
+
+
 def _number(name: str, value: Any, most: int, status: int) -> int:
     """The number, which is at most so much."""
     number = operator.index(value)
@@ -253,8 +258,7 @@ class Stream:
         if scale == 1 and frames.dtype != numpy.int32:
             raise TypeError(f'an array of int32 is wanted, or scale beside one of smaller integers (65536 for int16); this one is of {frames.dtype}')
         if scale != 1:
-            most = 2**31 // abs(scale) if scale else 0
-            if not numpy.can_cast(frames.dtype, numpy.int32, 'safe') or numpy.iinfo(frames.dtype).max > most:
+            if not numpy.can_cast(frames.dtype, numpy.int32, 'safe') or not _is_scale(numpy.iinfo(frames.dtype), operator.index(scale)):
                 raise TypeError(f'{frames.dtype} times {scale} is not always an int32')
             frames = frames.astype(numpy.int32) * numpy.int32(scale)
         self._gives_rows = frames.ndim == 2
