@@ -1,3 +1,4 @@
 pub mod Chaining
+pub mod Constants
 pub mod Stating
 pub mod Thawing

@@ -1,5 +1,5 @@
 -- What a run came to, as functions of the plan and the bytes.
-use Rattle.std.proofs.Common.{◌≡◌, ℕ, zero, suc, ◌+◌, ◌*◌, ◌/◌, ◌%◌, ◌<◌, ◌≤◌, ◌⊎◌, inl, inr, map, Bool, true, false, cond, List, [], ◌∷◌, ◌++◌, length, drop, take, refl, sym, ap, ◌∙◌, arith, Option}
+use Rattle.std.proofs.Common.{◌≡◌, ℕ, zero, suc, ◌+◌, ◌*◌, ◌/◌, ◌%◌, ◌^◌, ◌<◌, ◌≤◌, ◌⊎◌, inl, inr, map, Bool, true, false, cond, List, [], ◌∷◌, ◌++◌, length, drop, take, refl, sym, ap, ◌∙◌, arith, Option}
 use Rattle.std.proofs.lemmas.List.{length-map, length-take-le, take-append-drop, take-map, take_all}
 use Rattle.std.proofs.lemmas.Nat.{le-div}
 use Rattle.std.specs.Prelude.{IfErr, IfOk, MatchBool, Result, Ok, Err, sum}
@@ -17,7 +17,6 @@ use Rattle.fx_plan.specs.Planning.{Planning}
 use Rattle.fx_stages.specs.declared.stage.EffectStage.{EffectStage}
 use Rattle.fx_stages.specs.Stages.{effect_acts}
 use Rattle.fx_heads.specs.declared.head.Head.{Head}
-use Rattle.fx_sound.specs.declared.progress.TheConstants.{MOST_FRAMES}
 use Rattle.fx_heads.specs.Known.{IfKnown}
 use Rattle.fx_sound.proofs.RunLaws.{first_frames-within}
 use Rattle.fx_sound.specs.Sound.{lacking, within}
@@ -32,6 +31,7 @@ use Rattle.fx_run.specs.Report.{Completed, StoppedAt, cause_of, clips_now, head_
 use Rattle.fx_run.specs.Run.{RanToEnd, WantsMore, sound_frames}
 use Rattle.fx_run.proofs.Passing.{WantsMore-next}
 use Rattle.fx_run.proofs.Reaching.{clips-reached}
+use Rattle.fx_chain.proofs.Constants.{most-frames}
 use Rattle.fx_chain.specs.Theorem.{Broken, Due, Ran, frames_read, given_due, kinds_of, lacks, reported, reported_due, sound_in, strays, until_enough, written_due}
 use Rattle.fx_lists.proofs.Pieces.{length-pieces, pieces-first}
 
@@ -236,8 +236,8 @@ module _ (p : Planning) (c : ChainParts) (new : IsNewChain p c) where
   Ran-stopped at bytes first now (ReadFailed r) some wants moves clips done = Ran-due at bytes first now (ReadFailed r) some wants done (λ e. absurd (cc))
   Ran-stopped at bytes first now (WriteFailed r) some wants moves clips done = Ran-broken at bytes first now (WriteFailed r) some wants moves clips done refl
   Ran-stopped at bytes first now (TooLong r) some wants moves clips done =
-      let long = done.too_long refl in
-      (Ran-due at bytes first now (TooLong r) some wants done (λ e. absurd (cc)), long.0, sound-part p.head (MOST_FRAMES + 1) bytes some long.1)
+      let long = rw most-frames at done.too_long refl in
+      (Ran-due at bytes first now (TooLong r) some wants done (λ e. absurd (cc)), long.0, sound-part p.head (2 ^ 40 + 1) bytes some long.1)
 
   -- what any run came to
   pub Ran-result : (at : Parts EffectStage) (known first now : Option (List ℕ)) (result : Result Report RunFault) → 0 < p.head.channels → WantsMore (kinds effect_acts c.flow.stages) (report_in result).frames_in

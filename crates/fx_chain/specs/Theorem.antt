@@ -1,6 +1,6 @@
 -- What a run makes of a plan and the bytes behind the head that was read, to be read from top to bottom (this project's
 -- profile). Each is a function of the plan and the bytes, so an example is computed by hand.
-use Rattle.std.specs.Prelude.{◌≡◌, ◌⊎◌, ℕ, ◌+◌, ◌%◌, ◌<◌, ◌≤◌, cond, false, true, MatchBool, sum, List, [], ◌∷◌, ◌++◌, length, map, take, Option, Result, Ok, Err}
+use Rattle.std.specs.Prelude.{◌≡◌, ◌⊎◌, ℕ, ◌+◌, ◌%◌, ◌^◌, ◌<◌, ◌≤◌, cond, false, true, MatchBool, sum, List, [], ◌∷◌, ◌++◌, length, map, take, Option, Result, Ok, Err}
 use Rattle.std.specs.Io.KnownBytes.{Appends}
 use Rattle.fx_run.specs.declared.report.Report.{Report}
 use Rattle.fx_run.specs.declared.report.RunFault.{RunFault}
@@ -19,7 +19,6 @@ use Rattle.fx_step.specs.Holds.{recipes, total}
 use Rattle.fx_step.specs.Stage.{Kind}
 use Rattle.fx_plan.specs.Planning.{Planning}
 use Rattle.fx_heads.specs.declared.head.Head.{Head}
-use Rattle.fx_sound.specs.declared.progress.TheConstants.{MOST_FRAMES}
 use Rattle.fx_sound.specs.Container.{frames_of, ReadAllTold}
 use Rattle.fx_sound.specs.Sound.{lacking, within}
 use Rattle.fx_heads.specs.Source.{Held}
@@ -148,5 +147,5 @@ pub record ReadFirst {R : Type 0} (told : R → ℕ) (old : Held R) (new : R) (p
 abbrev pub Ran : Planning → List ℕ → Option (List ℕ) → Option (List ℕ) → Result Report RunFault → Type 0
 Ran p bytes first now (Ok r) = Complete p bytes first now r
 Ran p bytes first now (Err (ReadFailed r)) = Due p bytes first now r
-Ran p bytes first now (Err (TooLong r)) = Due p bytes first now r × (r.frames_in ≡ MOST_FRAMES) × (MOST_FRAMES + 1 ≤ length (sound_in p.head bytes))
+Ran p bytes first now (Err (TooLong r)) = Due p bytes first now r × (r.frames_in ≡ 2 ^ 40) × (2 ^ 40 + 1 ≤ length (sound_in p.head bytes))
 Ran p bytes first now (Err (WriteFailed r)) = Broken p bytes first now r

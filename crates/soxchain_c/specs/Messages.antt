@@ -7,13 +7,13 @@ pub record Memory : Type 0 where
   pub flushed : Bool
   pub failures : ℕ
 
--- Not all of a text was told, since memory was wanting. It is long: its first 4,096 bytes were told, whatever was wanting.
+-- A front of a text was told, of 4,096 bytes at the least.
 pub record ToldInPart (messages text : List ℕ) : Type 0 where
   pub count : ℕ
   pub at_least : 4096 ≤ count
   pub part : count ≤ length text
   pub told : messages ≡ take count text
 
--- These bytes were told as messages: all of the text, or a front of one that is long.
+-- These bytes were told as messages: all of the text, or a front of one that is long, where memory is wanting for more.
 abbrev pub ToldBytes : List ℕ → List ℕ → Type 0
 ToldBytes messages text = (messages ≡ text) ⊎ ToldInPart messages text

@@ -1,0 +1,12 @@
+-- The numbers of the constants of the code. Where the statement has the number, the constant is that number.
+use Rattle.std.proofs.Common.{◌≡◌, ◌^◌, refl}
+use Rattle.fx_fixed.specs.declared.gains.TheConstants.{UNIT}
+use Rattle.fx_sound.specs.declared.progress.TheConstants.{MOST_FRAMES}
+
+-- no run reads more frames
+pub most-frames : MOST_FRAMES ≡ 2 ^ 40
+most-frames = refl
+
+-- gains are counted in trillionths
+pub gain-unit : UNIT ≡ 10 ^ 12
+gain-unit = refl
