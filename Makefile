@@ -61,11 +61,11 @@ build/libsoxchain.so: $(SOURCES) packaging/soxchain.h packaging/strerror.c packa
 check-library: build/soxchain build/soxchain-plan
 	@scripts/check_library
 
-# A sound half as loud. The proved program takes minutes to prove, so this runs it unproved, with checks.
+# A sound at half its amplitude. The proved program takes minutes to prove, so this runs it unproved, with checks.
 demo:
 	@mkdir -p build
 	@cd $(PROGRAM) && rt try -- - -t au - vol 0.5 <../../examples/tone.au >../../build/demo.au 2>../../build/demo.log || { cat ../../build/demo.log >&2; exit 1; }
-	@echo "wrote build/demo.au, $$(wc -c <build/demo.au) bytes: examples/tone.au half as loud (run unproved; make soxchain builds the proved program)"
+	@echo "wrote build/demo.au, $$(wc -c <build/demo.au) bytes: examples/tone.au at half its amplitude (run unproved; make soxchain builds the proved program)"
 
 # The proved program on all cases of conformance/, and a short soak of random runs.
 conformance: build/soxchain
