@@ -8,8 +8,10 @@ use crate::files::Openings;
 use crate::words::words_of;
 use fx_frame::{ByteIn, ByteOut, Counted};
 use std::alloc::Global;
-use std::io;
+use std::fs::File;
 use std::io::{Stdin, Stdout};
+use std::os::fd::AsRawFd;
+use std::{io, mem};
 
 /// What both programs ask of the machine. What a program does with the answers is proved over any such machine. It is another one
 /// after each call, as one that opens files is: so what is proved says all that the program asks, and in which order. Its streams
@@ -47,6 +49,20 @@ pub trait Desk: Openings {
         ensures { (machine self.old self.new).left output };
 }
 
+/// Opens the standard streams that are closed, so that no file takes their place and gets the messages. Such a stream has no bytes,
+/// and takes none. Of the streams of a machine nothing is known, so no contract says that.
+fn hold_streams(rt: &HostRuntime) {
+    for _stream in 0..3 {
+        let Ok(file) = File::open(rt, "/dev/null") else {
+            return;
+        };
+        if file.as_raw_fd() > 2 {
+            return;
+        }
+        mem::forget(file);
+    }
+}
+
 impl Desk for HostRuntime {
     type Input = Counted<Stdin>;
 
@@ -60,6 +76,7 @@ impl Desk for HostRuntime {
     }
 
     fn words(&mut self) -> io::Result<Vec<String>> {
+        hold_streams(self);
         words_of(self)
     }
 
