@@ -6,7 +6,7 @@ PROGRAM = crates/soxchain_cli
 PREFIX = /usr/local
 DESTDIR =
 # The one place of the version is the program.
-VERSION := $(shell sed -n 's/^pub const VERSION.*"soxchain \([0-9.]*\)\\n.*/\1/p' crates/soxchain_words/src/about.rt)
+VERSION := $(shell sed -n 's/^pub const VERSION.*"soxchain \([0-9.]*\)\\n.*/\1/p' crates/soxchain_common/src/about.rt)
 
 .PHONY: help quick test soxchain soxchain-plan lib demo conformance wrong-bodies bench pictures install uninstall deb dist check-docs check-library same-bytes clean
 

@@ -1,6 +1,6 @@
 # Completion of soxchain and soxchain-plan for bash.
 
-# The names of the effects, as the program tells them.
+# The names of the effects, as the program lists them.
 _soxchain_effects() {
     soxchain --help 2>/dev/null | sed -n '/^effects:/,/^$/s/^  \([a-z]*\) .*/\1/p' | sort -u
 }

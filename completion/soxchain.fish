@@ -16,7 +16,7 @@ function __soxchain_files
     echo $files
 end
 
-# The names of the effects, as the program tells them.
+# The names of the effects, as the program lists them.
 function __soxchain_effects
     soxchain --help 2>/dev/null | sed -n '/^effects:/,/^$/s/^  \([a-z]*\) .*/\1/p' | sort -u
 end

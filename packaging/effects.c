@@ -1,4 +1,4 @@
-/* The short way to the library: effects from an argument list, frames of int or short. It is not proved; what it calls is. */
+/* The simpler interface of the library: effects from an argument list, frames of int or short. It is not proved; what it calls is. */
 #include "soxchain.h"
 
 #include <stdlib.h>
@@ -83,7 +83,7 @@ static int has_enough(const soxchain_passed *passed) {
     return passed->waits == SOXCHAIN_WAITS_FOR_END || passed->waits == SOXCHAIN_WAITS_FOR_NOTHING;
 }
 
-/* Tells the end, once, where the stream waits for frames. */
+/* Signals the end of input, once, where the stream waits for frames. */
 static int end(soxchain_effects *effects, const soxchain_passed *passed) {
     int is_waiting = passed->waits == SOXCHAIN_WAITS_FOR_FRAMES || passed->waits == SOXCHAIN_WAITS_FOR_END;
     if (effects->has_ended || !is_waiting) return SOXCHAIN_OK;
@@ -94,7 +94,7 @@ static int end(soxchain_effects *effects, const soxchain_passed *passed) {
 
 int soxchain_process_int(soxchain_effects *effects, const int32_t *input, size_t input_frames, size_t *used, int32_t *output,
                          size_t output_frames, size_t *made, int is_end) {
-    int32_t no_room[1];
+    int32_t no_space[1];
     size_t taken = 0, given = 0;
     int status = effects == NULL ? SOXCHAIN_NO_STREAM : SOXCHAIN_OK;
     int goes_on = status == SOXCHAIN_OK;
@@ -103,7 +103,7 @@ int soxchain_process_int(soxchain_effects *effects, const int32_t *input, size_t
         size_t left = input_frames - taken, room = output_frames - given;
         int had_ended = effects->has_ended;
         status = soxchain_feed(&effects->stream, left == 0 ? no_samples : input + taken * effects->inputs, left * effects->inputs,
-                               room == 0 ? no_room : output + given * effects->outputs, room * effects->outputs, &passed);
+                               room == 0 ? no_space : output + given * effects->outputs, room * effects->outputs, &passed);
         taken = has_enough(&passed) ? input_frames : taken + passed.taken;
         given += passed.given;
         if (status == SOXCHAIN_OK && is_end && taken == input_frames) status = end(effects, &passed);

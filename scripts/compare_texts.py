@@ -27,7 +27,7 @@ from fractions import Fraction
 from math import floor
 
 TRILLIONTHS = 10**12
-FARTHEST = 2**40
+MAX_POSITION = 2**40
 GREATEST = 2**64 - 1
 
 
@@ -100,7 +100,7 @@ def millis(text, rate):
     if billionths < 0:
         raise Fault("Negative")
     frames = max(1, floor(Fraction(billionths * rate, 1000 * 10**9)))
-    if frames > FARTHEST:
+    if frames > MAX_POSITION:
         raise Fault("TooFar")
     return frames
 
@@ -168,7 +168,7 @@ def terms_of(text, rate):
             value = floor(value * rate + Fraction(1, 2))
         elif value.denominator != 1:
             raise Fault("NotWhole")
-        if value > FARTHEST:
+        if value > MAX_POSITION:
             raise Fault("TooFar")
         frames.append(sign * int(value))
     return frames
@@ -177,7 +177,7 @@ def terms_of(text, rate):
 def within(frames):
     if frames < 0:
         raise Fault("Negative")
-    if frames > FARTHEST:
+    if frames > MAX_POSITION:
         raise Fault("TooFar")
     return frames
 
@@ -302,7 +302,7 @@ def whole_term(source):
             f"{source.randint(0, 9)}:{source.randint(0, 99)}:{source.randint(0, 99)}t",
             f"{source.randint(0, 99)}.{source.randint(0, 99)}e{source.randint(2, 5)}s",
             f"0.{source.randint(0, 10**18 - 1):018}",
-            f"{source.choice((FARTHEST - 1, FARTHEST, FARTHEST + 1))}s",
+            f"{source.choice((MAX_POSITION - 1, MAX_POSITION, MAX_POSITION + 1))}s",
         )
     )
 
@@ -345,7 +345,7 @@ def random_line(source):
         return f"{kind} {rate} {text}"
     default = source.choice(("start", "previous", "end"))
     base = source.choice(("start", "end"))
-    far = source.choice((0, 3, 100, 20000, FARTHEST, GREATEST, source.randint(0, GREATEST)))
+    far = source.choice((0, 3, 100, 20000, MAX_POSITION, GREATEST, source.randint(0, GREATEST)))
     return f"position {rate} {default} {base}:{far} {text}"
 
 

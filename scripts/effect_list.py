@@ -1,5 +1,5 @@
 """The effects as effects/ has them: a list of their names, in the order in which programs, rules and documents list them, and of
-each an entry, what the files that all effects share say of it."""
+each an entry, what the files that are written say of it."""
 import os
 import sys
 import tomllib
@@ -9,14 +9,14 @@ import sounds
 FOLDER = os.path.join(sounds.TOP, 'effects')
 # Of each table of an entry the keys that it needs, those that only an effect with words has, which has all of them, and others.
 KEYS = {
-    'effect': ('doc copy', 'type argument', 'line most_frames frames_behind layout_after channels_after'),
-    'act': ('settled length uses', 'type value of', 'layout_after channels_after fits is_usable fits_layout recipe rises made limits_use'),
-    'words': ('reader read faults uses', 'says equal', ''),
+    'effect': ('doc copy', 'type argument', 'line max_frames frames_after frames_use layout_after channels_after uses'),
+    'act': ('determined length uses', 'type value of', 'layout_after channels_after fits is_usable fits_layout recipe rises rises_use made length_use answer answer_use limits_use'),
+    'words': ('reader read faults uses', 'says equal', 'equal_use'),
     'stage': ('takes_memory placed sound stored uses', '', 'made form by_samples keeps'),
     'help': ('help_line usage limits instead manual', '', 'title picture'),
 }
 # The values that a key may have, where these are few.
-VALUES = {'stage.takes_memory': (True, False), 'stage.stored': ('line', 'hand'), 'stage.form': ('Mapped', 'Sifted', 'Tapped'), 'stage.by_samples': (True,)}
+VALUES = {'stage.takes_memory': (True, False), 'stage.stored': ('line', 'pending'), 'stage.form': ('Mapped', 'Selected', 'Tapped'), 'stage.by_samples': (True,)}
 
 
 def effect_names():
@@ -48,7 +48,7 @@ def fault_of(name, tables):
 
 
 class Effect:
-    """An entry, effects/NAME.toml: its name, its variant and its crate, and a table for each crate that shares files."""
+    """An entry, effects/NAME.toml: its name, its variant and its crate, and a table for each crate that has a generated file."""
 
     def __init__(self, name):
         with open(os.path.join(FOLDER, f'{name}.toml'), 'rb') as file:
@@ -61,7 +61,7 @@ class Effect:
         self.crate = self.tables['crate']
         # The constructor of it as the definitions know effects.
         self.shape = f'Of{self.variant}'
-        # The form of its stage that the prover knows blocks by, Mapped, Sifted or Tapped, if it is one of these.
+        # The form of its stage that the prover knows blocks by, Mapped, Selected or Tapped, if it is one of these.
         self.is_passed = self.get('stage.form') is not None
 
     def get(self, key):

@@ -104,7 +104,7 @@ class BadLine(Exception):
 
 
 def front_of(words, takes_bits):
-    """The options before a file, the file, and the words behind it."""
+    """The options before a file, the file, and the words after it."""
     kind = bits = None
     words = list(words)
     while words:
@@ -146,7 +146,7 @@ def shown(text):
 
 
 def plain(text):
-    """The bytes of a text; a ValueError where digits are missing behind `%`."""
+    """The bytes of a text; a ValueError where digits are missing after `%`."""
     if re.search("%(?![0-9A-Fa-f]{2})", text):
         raise ValueError(text)
     return re.sub(rb"%([0-9A-Fa-f]{2})", lambda found: bytes([int(found[1], 16)]), text.encode())
@@ -162,7 +162,7 @@ def head_of(fields):
 
 
 def answer(words, head, files):
-    """The answer to a command line behind a head."""
+    """The answer to a command line after a head."""
     try:
         source, target, kind, bits, effects = line_of(words)
     except BadLine as fault:

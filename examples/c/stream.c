@@ -3,7 +3,7 @@
  *     stream [-r RATE] [-c CHANNELS] [-n FRAMES SNAPSHOT | -t SNAPSHOT] EFFECT [WORD ..]
  *
  * With -n it stops after so many frames of input and keeps the stream in SNAPSHOT; with -t it goes on from there, perhaps in
- * another process, with the input behind those frames. The status is 0, or what the library answered.
+ * another process, with the input after those frames. The status is 0, or what the library answered.
  */
 #include "soxchain.h"
 
@@ -11,7 +11,7 @@
 #include <stdlib.h>
 #include <string.h>
 
-enum { BLOCK = 1024, MOST_CHANNELS = 16 };
+enum { BLOCK = 1024, MAX_CHANNELS = 16 };
 
 static const uint8_t no_bytes[1];
 static const size_t no_ends[1];
@@ -84,7 +84,7 @@ static int go_on(soxchain_stream *stream, const char *name) {
 
 /* Feeds what is in a block, and writes what comes; then waits says what the stream waits for. */
 static int feed(soxchain_stream *stream, const int32_t *input, size_t frames, size_t channels, uint32_t *waits) {
-    int32_t output[BLOCK * MOST_CHANNELS];
+    int32_t output[BLOCK * MAX_CHANNELS];
     soxchain_passed passed = {0, 0, 0};
     size_t width = soxchain_channels(stream);
     do {
@@ -100,7 +100,7 @@ static int feed(soxchain_stream *stream, const int32_t *input, size_t frames, si
 
 /* Feeds standard input to the end, or so many frames of it; then the end, unless the stream is to be kept. */
 static int run(soxchain_stream *stream, size_t channels, uint64_t most, int is_kept) {
-    int32_t input[BLOCK * MOST_CHANNELS];
+    int32_t input[BLOCK * MAX_CHANNELS];
     uint32_t waits = SOXCHAIN_WAITS_FOR_FRAMES;
     int status = SOXCHAIN_OK;
     while (status == SOXCHAIN_OK && waits == SOXCHAIN_WAITS_FOR_FRAMES && most > 0) {

@@ -1,5 +1,5 @@
 /* One sound through several chains at once, each in a thread of its own: samples of 32 bits from standard input, as this machine has
- * them, and to standard output what the chains give, one chain behind the other.
+ * them, and to standard output what the chains give, one chain after the other.
  *
  *     threads [-r RATE] [-c CHANNELS] CHAIN ..
  *
@@ -13,7 +13,7 @@
 #include <stdlib.h>
 #include <string.h>
 
-enum { MOST_CHAINS = 64, ROOM = 4096 };
+enum { MOST_CHAINS = 64, CAPACITY = 4096 };
 
 static const uint8_t no_bytes[1];
 static const size_t no_ends[1];
@@ -58,11 +58,11 @@ static int keep(job *it, const int32_t *samples, size_t count) {
 
 /* Feeds samples, as many as the stream takes. */
 static int feed(job *it, soxchain_stream *stream, const int32_t *input, size_t samples, uint32_t *waits) {
-    int32_t room[ROOM];
+    int32_t room[CAPACITY];
     soxchain_passed passed;
     size_t width = soxchain_channels(stream);
     do {
-        int status = soxchain_feed(stream, input, samples, room, ROOM, &passed);
+        int status = soxchain_feed(stream, input, samples, room, CAPACITY, &passed);
         if (status == SOXCHAIN_OK) status = keep(it, room, passed.given * width);
         if (status != SOXCHAIN_OK) return status;
         input += passed.taken * it->channels;

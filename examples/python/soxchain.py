@@ -41,7 +41,7 @@ _WANTED = 'samples of 32 bits are wanted: an array of int32, or bytes, bytearray
 
 
 class Error(Exception):
-    """What the library refused: its status, and the messages that it told."""
+    """What the library refused: its status, and its messages."""
 
     def __init__(self, status: int, messages: str = ''):
         super().__init__(messages.rstrip('\n') or _library().soxchain_strerror(status).decode())
@@ -209,7 +209,7 @@ def _number(name: str, value: Any, most: int, status: int) -> int:
 
 
 class Stream:
-    """Effects that are fed a block at a time. The words are those behind OUT on the program's command line.
+    """Effects that are fed a block at a time. The words are those after OUT on the program's command line.
 
     A stream stays with one thread. It is freed by `close`, at the end of `with`, or once nothing refers to it."""
 

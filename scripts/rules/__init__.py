@@ -1,6 +1,6 @@
 """The rules of effects, each in a module of this folder, or in one with those of the same words; here is what they share.
 
-A rule is a function of the effect's name, with `@in_profile(MAKER)` above it. Of the words behind the name, the rate, the channels
+A rule is a function of the effect's name, with `@in_profile(MAKER)` above it. Of the words after the name, the rate, the channels
 and the bytes of the coefficient file that the words name it makes an `Effect`, or it raises `Refused`. MAKER makes words of the
 effect from a source of random numbers, right ones and wrong ones. `scripts/plan_rules.py` loads all modules of this folder.
 """
@@ -36,7 +36,7 @@ class Refused(Exception):
 
 
 class Effect:
-    """What an effect holds and makes: its line, how late it gives, the frames of n, and the layout behind it."""
+    """What an effect holds and makes: its line, how late it gives, the frames of n, and the layout after it."""
 
     def __init__(self, rate, channels, line=0, late=0, more=0, times=Fraction(1)):
         self.rate, self.channels, self.line, self.late, self.more, self.times = rate, channels, line, late, more, times
@@ -85,7 +85,7 @@ def in_order(positions):
                 raise Refused("PositionBehind", number)
 
 
-def greatest_end(positions):
+def max_end(positions):
     return max([frames for anchor, frames in positions if anchor == "end"], default=0)
 
 

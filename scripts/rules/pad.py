@@ -5,7 +5,7 @@ from rules import (
     Effect,
     Refused,
     count,
-    greatest_end,
+    max_end,
     in_order,
     in_profile,
     position_text,
@@ -39,4 +39,4 @@ def pad(words, rate, channels, file):
         else:
             positions.append(("start", 0) if number == 2 else ("end", 0))
     in_order(positions)
-    return Effect(rate, channels, line=greatest_end(positions), late=greatest_end(positions), more=total)
+    return Effect(rate, channels, line=max_end(positions), late=max_end(positions), more=total)

@@ -1,6 +1,6 @@
 """trim {position}"""
 
-from rules import Effect, count, greatest_end, in_order, in_profile, position_text, read_position, several
+from rules import Effect, count, max_end, in_order, in_profile, position_text, read_position, several
 
 
 def trim_words(source):
@@ -15,4 +15,4 @@ def trim(words, rate, channels, file):
         previous = positions[-1] if positions else ("start", 0)
         positions.append(read_position(number, text, rate, "previous", previous))
     in_order(positions)
-    return Effect(rate, channels, line=greatest_end(positions), late=greatest_end(positions))
+    return Effect(rate, channels, line=max_end(positions), late=max_end(positions))

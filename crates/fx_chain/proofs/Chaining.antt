@@ -2,34 +2,34 @@
 use Rattle.std.proofs.Common.{◌≡◌, ℕ, suc, ◌+◌, ◌*◌, ◌^◌, ◌≤◌, List, [], ◌∷◌, length, map, true, false, refl, sym, ap, ◌∙◌, arith}
 use Rattle.std.specs.List.{All}
 use Rattle.fx_chain.specs.Chain.{ChainParts, IsChain}
-use Rattle.fx_flow.specs.Parts.{most_of, work}
-use Rattle.fx_flow.specs.Sound.{IsPlanned}
-use Rattle.fx_step.specs.Holds.{hold_sum, kinds, line_sum, recipes, total}
-use Rattle.fx_step.specs.Stage.{Kind}
-use Rattle.fx_effects.specs.Bounds.{hold_all, is_too_long, work_of}
-use Rattle.fx_effects.specs.Effects.{Act, Usable, channels_after}
-use Rattle.fx_effects.specs.Meanings.{kind_at, line_of}
-use Rattle.fx_effects.proofs.Lasting.{work-bound}
-use Rattle.fx_stages.specs.declared.stage.EffectStage.{EffectStage}
-use Rattle.fx_stages.specs.Stages.{effect_acts}
-use Rattle.fx_stages.specs.Made.{all_suit, recipes_for}
-use Rattle.fx_stages.proofs.Planned.{hold-for, kinds_for, line-is, matching-for, most-for, within-for, work-for}
+use Rattle.fx_chain_flow.specs.Parts.{max_of, work}
+use Rattle.fx_chain_flow.specs.Sound.{IsPlanned}
+use Rattle.fx_frame_stage.specs.Holds.{hold_sum, kinds, line_sum, recipes, total}
+use Rattle.fx_frame_stage.specs.Stage.{StageKind}
+use Rattle.fx_plan_effects.specs.Bounds.{hold_all, is_too_long, work_of}
+use Rattle.fx_plan_effects.specs.Effects.{Act, Usable, channels_after}
+use Rattle.fx_plan_effects.specs.Meanings.{kind_at, line_of_act}
+use Rattle.fx_plan_effects.proofs.Lasting.{work-bound}
+use Rattle.fx_chain_stages.specs.declared.registry.EffectStage.{EffectStage}
+use Rattle.fx_chain_stages.specs.Stages.{effect_acts}
+use Rattle.fx_chain_stages.specs.Made.{all_suit, recipes_for}
+use Rattle.fx_chain_stages.proofs.Planned.{hold-for, kinds_for, line-is, matching-for, maximum-for, within-for, work-for}
 
 -- the kinds of stages that were made for effects
 pub kinds-made : (stages : List EffectStage) (channels : ℕ) (acts : List Act) → recipes effect_acts stages ≡ recipes_for channels acts → kinds effect_acts stages ≡ kinds_for channels acts
 kinds-made stages channels acts made = ap (map kind_at) made
 
 pub hold-is : (c : ChainParts) → IsChain c → 1 + hold_sum (kinds effect_acts c.flow.stages) ≡ hold_all c.plan.acts
-hold-is c h = ap (λ (ks : List Kind). 1 + hold_sum ks) (kinds-made c.flow.stages c.plan.head.channels c.plan.acts h.made) ∙ hold-for c.plan.head.channels c.plan.acts
+hold-is c h = ap (λ (ks : List StageKind). 1 + hold_sum ks) (kinds-made c.flow.stages c.plan.head.channels c.plan.acts h.made) ∙ hold-for c.plan.head.channels c.plan.acts
 
 pub work-is : (c : ChainParts) → IsChain c → (n : ℕ) → work (kinds effect_acts c.flow.stages) n ≡ work_of c.plan.acts n
-work-is c h n = ap (λ (ks : List Kind). work ks n) (kinds-made c.flow.stages c.plan.head.channels c.plan.acts h.made) ∙ work-for c.plan.head.channels c.plan.acts n
+work-is c h n = ap (λ (ks : List StageKind). work ks n) (kinds-made c.flow.stages c.plan.head.channels c.plan.acts h.made) ∙ work-for c.plan.head.channels c.plan.acts n
 
-lines-for : (channels : ℕ) (acts : List Act) → line_sum (kinds_for channels acts) ≡ total line_of acts
+lines-for : (channels : ℕ) (acts : List Act) → line_sum (kinds_for channels acts) ≡ total line_of_act acts
 lines-for channels [] = refl
 lines-for channels (a ∷ acts) = rw (line-is channels a, lines-for (channels_after channels a) acts) refl
 
-pub lines-are : (c : ChainParts) → IsChain c → line_sum (kinds effect_acts c.flow.stages) ≡ total line_of c.plan.acts
+pub lines-are : (c : ChainParts) → IsChain c → line_sum (kinds effect_acts c.flow.stages) ≡ total line_of_act c.plan.acts
 lines-are c h = ap line_sum (kinds-made c.flow.stages c.plan.head.channels c.plan.acts h.made) ∙ lines-for c.plan.head.channels c.plan.acts
 
 recipes-count : (channels : ℕ) (acts : List Act) → length (recipes_for channels acts) ≡ length acts
@@ -43,21 +43,21 @@ made-count (s ∷ stages) = ap suc (made-count stages)
 pub count-is : (c : ChainParts) → IsChain c → length c.flow.stages ≡ length c.plan.acts
 count-is c h = sym (made-count c.flow.stages) ∙ ap length h.made ∙ recipes-count c.plan.head.channels c.plan.acts
 
-pub short-is : (c : ChainParts) → IsChain c → most_of (kinds effect_acts c.flow.stages) (2 ^ 40) ≤ 2 ^ 56
-short-is c h = rw (kinds-made c.flow.stages c.plan.head.channels c.plan.acts h.made) (most-for c.plan.head.channels c.plan.acts (2 ^ 40) h.short)
+pub short-is : (c : ChainParts) → IsChain c → max_of (kinds effect_acts c.flow.stages) (2 ^ 40) ≤ 2 ^ 56
+short-is c h = rw (kinds-made c.flow.stages c.plan.head.channels c.plan.acts h.made) (maximum-for c.plan.head.channels c.plan.acts (2 ^ 40) h.short)
 
 -- the stages of a plan's effects may stand in a row
 pub planned-is : (stages : List EffectStage) (channels : ℕ) (acts : List Act) → recipes effect_acts stages ≡ recipes_for channels acts
     → All Usable acts → all_suit channels acts ≡ true → length acts ≤ 32 → hold_all acts ≤ 2 ^ 28 → is_too_long acts ≡ false
     → IsPlanned (kinds effect_acts stages) channels
-planned-is stages channels acts made usable suit few hold short =
+planned-is stages channels acts made usable suit bound hold short =
     let n : ℕ = 2 ^ 40 in
     let work : work (kinds_for channels acts) (2 ^ 40) ≡ work_of acts (2 ^ 40) = work-for channels acts (2 ^ 40) in
-    let bound : work_of acts (2 ^ 40) ≤ (length acts + 1) * 2 ^ 56 = work-bound acts (2 ^ 40) short in
+    let work_max : work_of acts (2 ^ 40) ≤ (length acts + 1) * 2 ^ 56 = work-bound acts (2 ^ 40) short in
     let held = hold-for channels acts in
     rw (kinds-made stages channels acts made) (record {
       matching = matching-for channels acts suit;
       within = within-for channels acts (2 ^ 40) usable short;
-      work = omega (arith, work, bound, few);
+      work = omega (arith, work, work_max, bound);
       hold = omega (arith, held, hold);
     })

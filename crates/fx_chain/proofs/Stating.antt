@@ -3,37 +3,37 @@ use Rattle.std.proofs.Common.{◌≡◌, ℕ, zero, suc, ◌+◌, ◌*◌, ◌/�
 use Rattle.std.proofs.lemmas.List.{length-map, length-take-le, take-append-drop, take-map, take_all}
 use Rattle.std.proofs.lemmas.Nat.{le-div}
 use Rattle.std.specs.Prelude.{IfErr, IfOk, MatchBool, Result, Ok, Err, sum}
-use Rattle.fx_io.specs.declared.coding.Coding.{Coding}
-use Rattle.fx_io.specs.declared.coding.Coding.TheVariants.{U8, S8, S16Le, S16Be, S24Le, S24Be, S32Le, S32Be}
-use Rattle.fx_step.specs.Frame.{Samples}
-use Rattle.fx_heads.specs.FrameCoding.{frame_size, samples_of}
-use Rattle.fx_step.specs.Holds.{kinds, recipes, total}
-use Rattle.fx_lists.specs.Lists.{pieces}
-use Rattle.fx_step.specs.Stage.{Kind}
-use Rattle.fx_flow.specs.Parts.{Parts, moves_of}
-use Rattle.fx_flow.specs.Composed.{Whole, due_of, enough_for}
-use Rattle.fx_flow.specs.Steps.{IsDone, rest_of, wholes_of}
+use Rattle.fx_frame_io.specs.declared.coding.Coding.{Coding}
+use Rattle.fx_frame_io.specs.declared.coding.Coding.TheVariants.{U8, S8, S16Le, S16Be, S24Le, S24Be, S32Le, S32Be}
+use Rattle.fx_frame_stage.specs.Frame.{Samples}
+use Rattle.fx_sound_heads.specs.FrameCoding.{frame_size, coded_samples}
+use Rattle.fx_frame_stage.specs.Holds.{kinds, recipes, total}
+use Rattle.fx_frame_lists.specs.Lists.{pieces}
+use Rattle.fx_frame_stage.specs.Stage.{StageKind}
+use Rattle.fx_chain_flow.specs.Parts.{Parts, moves_of}
+use Rattle.fx_chain_flow.specs.Composed.{Whole, due_of, enough_for}
+use Rattle.fx_chain_flow.specs.Steps.{IsDone, rest_of, wholes_of}
 use Rattle.fx_plan.specs.Planning.{Planning}
-use Rattle.fx_stages.specs.declared.stage.EffectStage.{EffectStage}
-use Rattle.fx_stages.specs.Stages.{effect_acts}
-use Rattle.fx_heads.specs.declared.head.Head.{Head}
-use Rattle.fx_heads.specs.Known.{IfKnown}
+use Rattle.fx_chain_stages.specs.declared.registry.EffectStage.{EffectStage}
+use Rattle.fx_chain_stages.specs.Stages.{effect_acts}
+use Rattle.fx_sound_heads.specs.declared.head.Head.{Head}
+use Rattle.fx_sound_heads.specs.Known.{IfKnown}
 use Rattle.fx_sound.proofs.RunLaws.{first_frames-within}
-use Rattle.fx_sound.specs.Sound.{lacking, within}
-use Rattle.fx_run.specs.declared.report.Report.{Report}
-use Rattle.fx_run.specs.declared.pump.Cause.TheVariants as Causes
-use Rattle.fx_run.specs.declared.report.RunFault.{RunFault}
-use Rattle.fx_run.specs.declared.report.RunFault.TheVariants.{ReadFailed, WriteFailed, TooLong}
+use Rattle.fx_sound.specs.Sound.{lacking, within_sound}
+use Rattle.fx_chain_run.specs.declared.report.Report.{Report}
+use Rattle.fx_chain_run.specs.declared.pump.Cause.TheVariants as Causes
+use Rattle.fx_chain_run.specs.declared.report.RunFault.{RunFault}
+use Rattle.fx_chain_run.specs.declared.report.RunFault.TheVariants.{ReadFailed, WriteFailed, TooLong}
 use Rattle.fx_chain.specs.Chain.{ChainParts, IsNewChain, chain_gives, chain_wholes, planned, target_for}
-use Rattle.fx_run.specs.Due.{clips_in, dues}
-use Rattle.fx_run.specs.Outlet.{WroteFront, coded, coded_clips}
-use Rattle.fx_run.specs.Report.{Completed, StoppedAt, cause_of, clips_now, head_for, output_of, report_at, report_in, row_of, start_of}
-use Rattle.fx_run.specs.Run.{RanToEnd, WantsMore, sound_frames}
-use Rattle.fx_run.proofs.Passing.{WantsMore-next}
-use Rattle.fx_run.proofs.Reaching.{clips-reached}
-use Rattle.fx_chain.proofs.Constants.{most-frames}
+use Rattle.fx_chain_run.specs.Due.{clips_due, dues}
+use Rattle.fx_chain_run.specs.FrameWriter.{WroteFront, coded, coded_clips}
+use Rattle.fx_chain_run.specs.Report.{Completed, StoppedAt, cause_of, clips_now, head_for, output_of, report_at, report_in, clip_counts_of, start_of}
+use Rattle.fx_chain_run.specs.Run.{RanToEnd, WantsMore, sound_frames}
+use Rattle.fx_chain_run.proofs.Passing.{WantsMore-next}
+use Rattle.fx_chain_run.proofs.Reaching.{clips-reached}
+use Rattle.fx_chain.proofs.Constants.{maximum-frames}
 use Rattle.fx_chain.specs.Theorem.{Broken, Due, Ran, frames_read, given_due, kinds_of, lacks, reported, reported_due, sound_in, strays, until_enough, written_due}
-use Rattle.fx_lists.proofs.Pieces.{length-pieces, pieces-first}
+use Rattle.fx_frame_lists.proofs.Pieces.{length-pieces, pieces-first}
 
 -- a frame takes some bytes
 frame-some : (coding : Coding) (channels : ℕ) → 0 < channels → 0 < frame_size coding channels
@@ -47,27 +47,27 @@ frame-some S32Le channels h = omega arith
 frame-some S32Be channels h = omega arith
 
 -- how many whole frames a sound has
-pub sound-count : (h : Head) (bytes : List ℕ) → length (sound_in h bytes) ≡ length (within h.announced bytes) / frame_size h.coding h.channels
-sound-count h bytes = length-map (pieces (frame_size h.coding h.channels) (length (within h.announced bytes) / frame_size h.coding h.channels) (within h.announced bytes)) (samples_of h.coding h.channels) ∙ length-pieces _ _ _
+pub sound-count : (h : Head) (bytes : List ℕ) → length (sound_in h bytes) ≡ length (within_sound h.announced bytes) / frame_size h.coding h.channels
+sound-count h bytes = length-map (pieces (frame_size h.coding h.channels) (length (within_sound h.announced bytes) / frame_size h.coding h.channels) (within_sound h.announced bytes)) (coded_samples h.coding h.channels) ∙ length-pieces _ _ _
 
-pub sound-part : (h : Head) (n : ℕ) (bytes : List ℕ) → 0 < h.channels → n * frame_size h.coding h.channels ≤ length (within h.announced bytes) → n ≤ length (sound_in h bytes)
-sound-part h n bytes some room =
+pub sound-part : (h : Head) (n : ℕ) (bytes : List ℕ) → 0 < h.channels → n * frame_size h.coding h.channels ≤ length (within_sound h.announced bytes) → n ≤ length (sound_in h bytes)
+sound-part h n bytes some free =
     let all = sound-count h bytes in
-    let part = le-div n (length (within h.announced bytes)) (frame_size h.coding h.channels) (frame-some h.coding h.channels some) room in
+    let part = le-div n (length (within_sound h.announced bytes)) (frame_size h.coding h.channels) (frame-some h.coding h.channels some) free in
     rw all part
 
 -- the first frames of a sound
-pub sound-first : (h : Head) (n : ℕ) (bytes : List ℕ) → 0 < h.channels → n * frame_size h.coding h.channels ≤ length (within h.announced bytes) → sound_frames (start_of h) n bytes ≡ take n (sound_in h bytes)
-sound-first h n bytes some room =
+pub sound-first : (h : Head) (n : ℕ) (bytes : List ℕ) → 0 < h.channels → n * frame_size h.coding h.channels ≤ length (within_sound h.announced bytes) → sound_frames (start_of h) n bytes ≡ take n (sound_in h bytes)
+sound-first h n bytes some free =
     let size : ℕ = frame_size h.coding h.channels in
-    let sound : List ℕ = within h.announced bytes in
-    let part = le-div n (length sound) size (frame-some h.coding h.channels some) room in
-    sym (first_frames-within h.coding h.channels n h.announced bytes room)
-    ∙ ap (map (samples_of h.coding h.channels)) (sym (pieces-first size n (length sound / size) sound part))
-    ∙ sym (take-map (samples_of h.coding h.channels) n (pieces size (length sound / size) sound))
+    let sound : List ℕ = within_sound h.announced bytes in
+    let part = le-div n (length sound) size (frame-some h.coding h.channels some) free in
+    sym (first_frames-within h.coding h.channels n h.announced bytes free)
+    ∙ ap (map (coded_samples h.coding h.channels)) (sym (pieces-first size n (length sound / size) sound part))
+    ∙ sym (take-map (coded_samples h.coding h.channels) n (pieces size (length sound / size) sound))
 
 -- frames are read until some effect has enough, or to the end
-pub until-take : (ks : List Kind) (from n : ℕ) (fs : List Samples) → ((m : ℕ) → from ≤ m → m < from + n → enough_for ks m ≡ false) → n ≤ length fs → (enough_for ks (from + n) ≡ true) ⊎ (n ≡ length fs)
+pub until-take : (ks : List StageKind) (from n : ℕ) (fs : List Samples) → ((m : ℕ) → from ≤ m → m < from + n → enough_for ks m ≡ false) → n ≤ length fs → (enough_for ks (from + n) ≡ true) ⊎ (n ≡ length fs)
     → until_enough ks from fs ≡ take n fs
 until-take ks from zero [] wants part ends = refl
 until-take ks from (suc n) [] wants part ends = absurd (omega arith)
@@ -95,11 +95,11 @@ module _ (p : Planning) (c : ChainParts) (new : IsNewChain p c) where
   kinds-are = ap (map effect_acts.kind_of) new.made
 
   -- the frames that were read
-  first-read : (n : ℕ) (bytes : List ℕ) → 0 < p.head.channels → n * frame_size p.head.coding p.head.channels ≤ length (within p.head.announced bytes)
+  first-read : (n : ℕ) (bytes : List ℕ) → 0 < p.head.channels → n * frame_size p.head.coding p.head.channels ≤ length (within_sound p.head.announced bytes)
       → WantsMore (kinds effect_acts c.flow.stages) n → (enough_for (kinds effect_acts c.flow.stages) n ≡ true) ⊎ (n ≡ length (sound_in p.head bytes))
       → frames_read p bytes ≡ take n (sound_in p.head bytes)
-  first-read n bytes some room wants ends =
-      until-take (kinds_of p) 0 n (sound_in p.head bytes) (λ m low high. rw (← kinds-are) (wants m (omega arith))) (sound-part p.head n bytes some room) (let e : 0 + n ≡ n = omega arith in rw e (rw kinds-are at ends))
+  first-read n bytes some free wants ends =
+      until-take (kinds_of p) 0 n (sound_in p.head bytes) (λ m low high. rw (← kinds-are) (wants m (omega arith))) (sound-part p.head n bytes some free) (let e : 0 + n ≡ n = omega arith in rw e (rw kinds-are at ends))
 
   -- without a fault
   pub Ran-ok : (at : Parts EffectStage) (bytes : List ℕ) (first now : Option (List ℕ)) (r : Report) → 0 < p.head.channels → WantsMore (kinds effect_acts c.flow.stages) r.frames_in
@@ -121,10 +121,10 @@ module _ (p : Planning) (c : ChainParts) (new : IsNewChain p c) where
         wrote = rw (← output) done.wrote.took;
         reports = same-report r (reported p bytes) count (done.frames_out ∙ ap length gives) (done.wrote.whole ∙ ap length output)
             (done.moves ∙ ap (λ m. m + total (λ (w : Whole). w.given) (wholes_of effect_acts c.flow x)) count ∙ ap (λ ws. length (frames_read p bytes) + total (λ (w : Whole). w.given) ws) wholes)
-            (done.clips ∙ ap (λ ws. row_of (map (λ (w : Whole). w.clips) ws)) wholes) (done.out_clips ∙ ap (coded_clips p.coding) gives) ends.0 ends.1;
-        whole_sound = whole-sound x first-is read done.ended done.settled;
+            (done.clips ∙ ap (λ ws. clip_counts_of (map (λ (w : Whole). w.clips) ws)) wholes) (done.out_clips ∙ ap (coded_clips p.coding) gives) ends.0 ends.1;
+        whole_sound = whole-sound x first-is read done.ended done.determined;
         whatever = λ enough z.
-            ap (λ y. chain_gives p (y ++ z)) (sym same) ∙ sym (new.gives (x ++ z)) ∙ done.settled (ap (λ ks. enough_for ks r.frames_in) kinds-are ∙ enough) z ∙ gives;
+            ap (λ y. chain_gives p (y ++ z)) (sym same) ∙ sym (new.gives (x ++ z)) ∙ done.determined (ap (λ ks. enough_for ks r.frames_in) kinds-are ∙ enough) z ∙ gives;
       }
     where
       ended : ((enough_for (kinds effect_acts c.flow.stages) r.frames_in ≡ false) × RanToEnd (start_of p.head) bytes r.frames_in r.missing r.stray) ⊎ ((enough_for (kinds effect_acts c.flow.stages) r.frames_in ≡ true) × ((r.missing ≡ 0) × (r.stray ≡ 0)))
@@ -136,21 +136,21 @@ module _ (p : Planning) (c : ChainParts) (new : IsNewChain p c) where
           → r.frames_in ≡ length (frames_read p bytes) → (r.missing ≡ lacks p bytes) × (r.stray ≡ strays p bytes)
       counted (inl over) count =
           let e : enough_for (kinds_of p) (length (frames_read p bytes)) ≡ false = sym (ap (λ ks. enough_for ks r.frames_in) kinds-are ∙ ap (enough_for (kinds_of p)) count) ∙ over.0 in
-          (over.1.lacks ∙ sym (ap (λ b. cond b 0 (lacking p.head.announced (length (within p.head.announced bytes)))) e), over.1.strays ∙ sym (ap (λ b. cond b 0 (length (within p.head.announced bytes) % frame_size p.head.coding p.head.channels)) e))
+          (over.1.lacks ∙ sym (ap (λ b. cond b 0 (lacking p.head.announced (length (within_sound p.head.announced bytes)))) e), over.1.strays ∙ sym (ap (λ b. cond b 0 (length (within_sound p.head.announced bytes) % frame_size p.head.coding p.head.channels)) e))
       counted (inr enough) count =
           let e : enough_for (kinds_of p) (length (frames_read p bytes)) ≡ true = sym (ap (λ ks. enough_for ks r.frames_in) kinds-are ∙ ap (enough_for (kinds_of p)) count) ∙ enough.0 in
-          (enough.1.0 ∙ sym (ap (λ b. cond b 0 (lacking p.head.announced (length (within p.head.announced bytes)))) e), enough.1.1 ∙ sym (ap (λ b. cond b 0 (length (within p.head.announced bytes) % frame_size p.head.coding p.head.channels)) e))
+          (enough.1.0 ∙ sym (ap (λ b. cond b 0 (lacking p.head.announced (length (within_sound p.head.announced bytes)))) e), enough.1.1 ∙ sym (ap (λ b. cond b 0 (length (within_sound p.head.announced bytes) % frame_size p.head.coding p.head.channels)) e))
 
       whole-sound : (x : List Samples) → x ≡ take r.frames_in (sound_in p.head bytes) → frames_read p bytes ≡ take r.frames_in (sound_in p.head bytes)
           → ((enough_for (kinds effect_acts c.flow.stages) r.frames_in ≡ false) × RanToEnd (start_of p.head) bytes r.frames_in r.missing r.stray) ⊎ ((enough_for (kinds effect_acts c.flow.stages) r.frames_in ≡ true) × ((r.missing ≡ 0) × (r.stray ≡ 0)))
           → (enough_for (kinds effect_acts c.flow.stages) r.frames_in ≡ true → (z : List Samples) → rest_of effect_acts c.flow (x ++ z) ≡ rest_of effect_acts c.flow x)
           → chain_gives p (frames_read p bytes) ≡ chain_gives p (sound_in p.head bytes)
-      whole-sound x e read (inl over) settled =
+      whole-sound x e read (inl over) determined =
           let count : r.frames_in ≡ length (sound_in p.head bytes) = over.1.count ∙ sym (sound-count p.head bytes) in
           ap (chain_gives p) (read ∙ take_all r.frames_in (sound_in p.head bytes) (omega (arith, count)))
-      whole-sound x e read (inr enough) settled =
+      whole-sound x e read (inr enough) determined =
           let same : x ≡ frames_read p bytes = e ∙ sym read in
-          ap (chain_gives p) (sym same) ∙ sym (new.gives x) ∙ sym (settled enough.0 (drop r.frames_in (sound_in p.head bytes))) ∙ new.gives (x ++ drop r.frames_in (sound_in p.head bytes)) ∙ ap (λ l. chain_gives p (l ++ drop r.frames_in (sound_in p.head bytes))) e ∙ ap (chain_gives p) (take-append-drop r.frames_in (sound_in p.head bytes))
+          ap (chain_gives p) (sym same) ∙ sym (new.gives x) ∙ sym (determined enough.0 (drop r.frames_in (sound_in p.head bytes))) ∙ new.gives (x ++ drop r.frames_in (sound_in p.head bytes)) ∙ ap (λ l. chain_gives p (l ++ drop r.frames_in (sound_in p.head bytes))) e ∙ ap (chain_gives p) (take-append-drop r.frames_in (sound_in p.head bytes))
 
   -- after a failed read, and where the sound is too long
   pub Ran-due : (at : Parts EffectStage) (bytes : List ℕ) (first now : Option (List ℕ)) (f : RunFault) → 0 < p.head.channels → WantsMore (kinds effect_acts c.flow.stages) (report_at f).frames_in
@@ -174,7 +174,7 @@ module _ (p : Planning) (c : ChainParts) (new : IsNewChain p c) where
         not_enough = λ m low. rw (← kinds-are) (WantsMore-next (kinds effect_acts c.flow.stages) n wants (done.not_enough other) m (omega arith));
         wrote = wrote.took;
         reports = same-report r (reported_due p (take n all)) count due wrote.whole (done.moves other ∙ ap (λ m. m + sum (dues (kinds effect_acts c.flow.stages) n)) count ∙ ap (λ ds. length (take n all) + sum ds) dues-are)
-            (done.clips other new.fresh ∙ ap (λ ds. row_of (clips_in effect_acts.meaning ds (recipes effect_acts c.flow.stages) x)) dues-are ∙ ap (λ rs. row_of (clips_in effect_acts.meaning (dues (kinds_of p) (length (take n all))) rs x)) new.made ∙ ap (λ y. row_of (clips_in effect_acts.meaning (dues (kinds_of p) (length (take n all))) (planned p) y)) first-is)
+            (done.clips other new.fresh ∙ ap (λ ds. clip_counts_of (clips_due effect_acts.meaning ds (recipes effect_acts c.flow.stages) x)) dues-are ∙ ap (λ rs. clip_counts_of (clips_due effect_acts.meaning (dues (kinds_of p) (length (take n all))) rs x)) new.made ∙ ap (λ y. clip_counts_of (clips_due effect_acts.meaning (dues (kinds_of p) (length (take n all))) (planned p) y)) first-is)
             (done.reports.out_clips ∙ ap (coded_clips p.coding) given) (done.no_ends other).0 (done.no_ends other).1;
         whatever = λ z.
             ap (λ y. take r.frames_out (chain_gives p (y ++ z))) (sym first-is) ∙ ap (take r.frames_out) (sym (new.gives (x ++ z))) ∙ done.whatever other z ∙ given;
@@ -210,8 +210,8 @@ module _ (p : Planning) (c : ChainParts) (new : IsNewChain p c) where
         moves = moves;
         clips = clips;
         counted =
-            clips ∙ ap row_of (clips-reached effect_acts c.flow at x _ new.fresh new.hungry.empty done.reports.reached)
-            ∙ ap (λ rs. row_of (clips_in effect_acts.meaning (map (λ s. (effect_acts.counts s).given) at.stages) rs x)) new.made ∙ ap (λ y. row_of (clips_in effect_acts.meaning (map (λ s. (effect_acts.counts s).given) at.stages) (planned p) y)) first-is;
+            clips ∙ ap clip_counts_of (clips-reached effect_acts c.flow at x _ new.fresh new.hungry.empty done.reports.reached)
+            ∙ ap (λ rs. clip_counts_of (clips_due effect_acts.meaning (map (λ s. (effect_acts.counts s).given) at.stages) rs x)) new.made ∙ ap (λ y. clip_counts_of (clips_due effect_acts.meaning (map (λ s. (effect_acts.counts s).given) at.stages) (planned p) y)) first-is;
         out_clips = done.reports.out_clips;
         wrote = wrote (done.front is);
         ends = ended _ (rw kinds-are at (done.ends is));
@@ -225,7 +225,7 @@ module _ (p : Planning) (c : ChainParts) (new : IsNewChain p c) where
       wrote (inr all) = inr (all.0, rw (ap (output_of (target_for p)) (new.gives (sound_frames (start_of p.head) (report_at f).frames_in bytes) ∙ ap (chain_gives p) (sound-first p.head (report_at f).frames_in bytes some done.whole))) at all.1)
 
       ended : (b : Bool) → MatchBool b (RanToEnd (start_of p.head) bytes (report_at f).frames_in (report_at f).missing (report_at f).stray) (((report_at f).missing ≡ 0) × ((report_at f).stray ≡ 0))
-          → MatchBool b (((report_at f).frames_in ≡ length (sound_in p.head bytes)) × ((report_at f).missing ≡ lacking p.head.announced (length (within p.head.announced bytes))) × ((report_at f).stray ≡ length (within p.head.announced bytes) % frame_size p.head.coding p.head.channels)) (((report_at f).missing ≡ 0) × ((report_at f).stray ≡ 0))
+          → MatchBool b (((report_at f).frames_in ≡ length (sound_in p.head bytes)) × ((report_at f).missing ≡ lacking p.head.announced (length (within_sound p.head.announced bytes))) × ((report_at f).stray ≡ length (within_sound p.head.announced bytes) % frame_size p.head.coding p.head.channels)) (((report_at f).missing ≡ 0) × ((report_at f).stray ≡ 0))
       ended true over = (over.count ∙ sym (sound-count p.head bytes), over.lacks, over.strays)
       ended false zeros = zeros
 
@@ -236,7 +236,7 @@ module _ (p : Planning) (c : ChainParts) (new : IsNewChain p c) where
   Ran-stopped at bytes first now (ReadFailed r) some wants moves clips done = Ran-due at bytes first now (ReadFailed r) some wants done (λ e. absurd (cc))
   Ran-stopped at bytes first now (WriteFailed r) some wants moves clips done = Ran-broken at bytes first now (WriteFailed r) some wants moves clips done refl
   Ran-stopped at bytes first now (TooLong r) some wants moves clips done =
-      let long = rw most-frames at done.too_long refl in
+      let long = rw maximum-frames at done.too_long refl in
       (Ran-due at bytes first now (TooLong r) some wants done (λ e. absurd (cc)), long.0, sound-part p.head (2 ^ 40 + 1) bytes some long.1)
 
   -- what any run came to

@@ -1,17 +1,17 @@
 -- The chain of a plan's effects (this project's profile).
 use Rattle.std.specs.Prelude.{◌≡◌, ◌≤◌, false, List, length}
-use Rattle.fx_run.specs.declared.target.Target.{Target}
-use Rattle.fx_flow.specs.Parts.{AllNew, Parts, given_by, taken_of}
-use Rattle.fx_flow.specs.Composed.{Whole, composed, composed_wholes}
-use Rattle.fx_flow.specs.Steps.{IsHungry, rest_of, wholes_of}
-use Rattle.fx_step.specs.Frame.{Samples}
-use Rattle.fx_step.specs.Holds.{recipes}
-use Rattle.fx_effects.specs.Bounds.{is_too_long}
+use Rattle.fx_chain_run.specs.declared.target.Target.{Target}
+use Rattle.fx_chain_flow.specs.Parts.{AllNew, Parts, given_by, taken_of}
+use Rattle.fx_chain_flow.specs.Composed.{Whole, composed, composed_wholes}
+use Rattle.fx_chain_flow.specs.Steps.{IsHungry, rest_of, wholes_of}
+use Rattle.fx_frame_stage.specs.Frame.{Samples}
+use Rattle.fx_frame_stage.specs.Holds.{recipes}
+use Rattle.fx_plan_effects.specs.Bounds.{is_too_long}
 use Rattle.fx_plan.specs.Planning.{Planning}
-use Rattle.fx_stages.specs.declared.stage.EffectStage.{EffectStage}
-use Rattle.fx_effects.specs.Meanings.{Placed, meaning_at}
-use Rattle.fx_stages.specs.Made.{recipes_for}
-use Rattle.fx_stages.specs.Stages.{effect_acts}
+use Rattle.fx_chain_stages.specs.declared.registry.EffectStage.{EffectStage}
+use Rattle.fx_plan_effects.specs.Meanings.{Placed, meaning_at}
+use Rattle.fx_chain_stages.specs.Made.{recipes_for}
+use Rattle.fx_chain_stages.specs.Stages.{effect_acts}
 
 -- the stages of a plan's effects
 abbrev pub planned : Planning → List Placed
@@ -25,7 +25,7 @@ chain_gives p x = composed meaning_at (planned p) x
 abbrev pub chain_wholes : Planning → List Samples → List Whole
 chain_wholes p x = composed_wholes meaning_at (planned p) x
 
--- a chain, to its callers: its plan, and its stages with the frames and counts that they have
+-- a chain, as its callers see it: its plan, and its stages with the frames and counts that they have
 pub record ChainParts : Type 0 where
   pub plan : Planning
   pub flow : Parts EffectStage
@@ -34,7 +34,7 @@ pub record ChainParts : Type 0 where
 pub record IsChain (c : ChainParts) : Type 0 where
   pub made : recipes effect_acts c.flow.stages ≡ planned c.plan
   pub channels : c.flow.channels ≡ c.plan.head.channels
-  pub few : length c.plan.acts ≤ 32
+  pub bound : length c.plan.acts ≤ 32
   pub short : is_too_long c.plan.acts ≡ false
 
 -- what is written where a plan is run

@@ -2,16 +2,16 @@
 use Rattle.std.specs.Prelude.{◌≡◌}
 use Rattle.fx_chain.specs.Chain.{ChainParts, IsChain}
 use Rattle.fx_chain.specs.declared.snapshot.Snapshot.{Snapshot}
-use Rattle.fx_flow.specs.Frozen.{AllSound, FreezesFlow}
-use Rattle.fx_flow.specs.Sound.{IsSound}
+use Rattle.fx_chain_flow.specs.Frozen.{AllSound, FreezesFlow}
+use Rattle.fx_chain_flow.specs.Sound.{IsSound}
 use Rattle.fx_plan.specs.Planning.{planning}
-use Rattle.fx_stages.specs.Stages.{effect_acts, sound_of}
+use Rattle.fx_chain_stages.specs.Stages.{effect_acts, sound_of_stages}
 
--- what holds of a chain, of its flow and of each of its stages at every moment
+-- the invariant of a chain, of its flow and of each of its stages
 pub record IsSoundChain (c : ChainParts) : Type 0 where
   pub chain : IsChain c
   pub flow : IsSound effect_acts c.flow
-  pub stages : AllSound sound_of c.flow.stages
+  pub stages : AllSound sound_of_stages c.flow.stages
 
 -- a snapshot of a chain: its plan, the frames that it stores, and the numbers that it counts
 pub record IsSnapshotOf (c : ChainParts) (s : Snapshot) : Type 0 where

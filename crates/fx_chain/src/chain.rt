@@ -1,31 +1,31 @@
 //! The chain of a plan's effects.
 ghost use Rattle.std.specs.Prelude.{◌≡◌, ◌<◌, ◌≤◌, ◌+◌, ◌-◌, ◌*◌, ℕ, false, drop, IfOk, List, Some, [], length, map, option_to_list, slice_index, true};
 ghost use Rattle.fx_chain.specs.Chain.{IsNewChain};
-ghost use Rattle.fx_flow.specs.Feed.{FlowFed, FlowTookWithRoom, GaveLast};
-ghost use Rattle.fx_step.specs.Row.{outputs_of};
-ghost use Rattle.fx_lists.specs.Lists.{pieces};
-ghost use Rattle.fx_flow.specs.Parts.{AllNew, Parts, any_spent, given_by, moves_of, taken_of};
-ghost use Rattle.fx_flow.specs.Composed.{due_of, enough_for};
-ghost use Rattle.fx_flow.specs.Sound.{most_frames};
-ghost use Rattle.fx_flow.specs.Steps.{IsDone, IsHungry, MovedOn, StateIs, Steps, StepsRow, rest_of, wholes_of};
-ghost use Rattle.fx_step.specs.Frame.{Samples};
-ghost use Rattle.fx_step.specs.Holds.{capacity_sum, held_sum, kinds, total};
-ghost use Rattle.fx_effects.specs.Bounds.{hold_all, work_of};
-ghost use Rattle.fx_effects.specs.Meanings.{line_of};
+ghost use Rattle.fx_chain_flow.specs.Feed.{FlowFed, FlowTookWithinCapacity, GaveLast};
+ghost use Rattle.fx_frame_stage.specs.Pipeline.{outputs_of};
+ghost use Rattle.fx_frame_lists.specs.Lists.{pieces};
+ghost use Rattle.fx_chain_flow.specs.Parts.{AllNew, Parts, any_spent, given_by, moves_of, taken_of};
+ghost use Rattle.fx_chain_flow.specs.Composed.{due_of, enough_for};
+ghost use Rattle.fx_chain_flow.specs.Sound.{max_frames};
+ghost use Rattle.fx_chain_flow.specs.Steps.{IsDone, IsHungry, MovedOn, StateIs, Steps, StepsInSequence, rest_of, wholes_of};
+ghost use Rattle.fx_frame_stage.specs.Frame.{Samples};
+ghost use Rattle.fx_frame_stage.specs.Holds.{capacity_sum, held_sum, kinds, total};
+ghost use Rattle.fx_plan_effects.specs.Bounds.{hold_all, work_of};
+ghost use Rattle.fx_plan_effects.specs.Meanings.{line_of_act};
 ghost use Rattle.fx_plan.specs.Planning.{planning};
-ghost use Rattle.fx_stages.specs.Stages.{effect_acts};
-ghost use Rattle.fx_stages.specs.declared.stage.EffectStage.{EffectStage};
+ghost use Rattle.fx_chain_stages.specs.Stages.{effect_acts};
+ghost use Rattle.fx_chain_stages.specs.declared.registry.EffectStage.{EffectStage};
 
-use fx_flow::flow::{Flow, State, Step};
+use fx_chain_flow::flow::{Flow, State, Step};
+use fx_chain_stages::{EffectStage, stages_of};
 use fx_frame::{Frame, Passed};
 use fx_plan::Plan;
-use fx_stages::{EffectStage, stages_of};
 use std::alloc::{AllocError, Global};
 use std::marker::Model;
 
-/// The effects of a plan in a row, behind an inlet of one frame, and a copy of the plan.
+/// The effects of a plan in sequence, after an inlet of one frame, and a copy of the plan.
 ///
-/// It takes a frame, or is told the end, only where it is hungry; then it is stepped until it is hungry again, or done.
+/// It takes a frame, or is given the end, only where it is hungry; then it is stepped until it is hungry again, or done.
 /// A step moves one frame. At every moment it holds at most the frames of its plan's `hold()`.
 #[derive(Drop)]
 pub struct Chain {
@@ -46,7 +46,7 @@ impl Model for Chain {
 
 impl Chain {
     /// The chain of a plan, which has taken nothing; AllocError where memory is refused, for the lines of its effects or
-    /// the copy of the plan. No other call takes memory but `freeze` and `thaw`.
+    /// the copy of the plan. No other call allocates memory except `freeze` and `thaw`.
     pub fn new(alloc: Global, plan: &Plan) -> Result<Chain, AllocError>
         ensures made { IfOk result (λ c. IsNewChain (planning plan.now) c) }
         ensures new { IfOk result (λ c. AllNew effect_acts c.flow.stages) }
@@ -59,12 +59,12 @@ impl Chain {
     }
 
     /// What it waits for. Where it is hungry, it has given all frames that are due for those taken. However many steps are made
-    /// in a row from here on, they are no more than the plan's work that is left, and one for each effect: so it is hungry or
-    /// done at the latest behind so many.
+    /// in sequence from here on, they are no more than the plan's remaining work, and one for each effect: so it is hungry or
+    /// done after at most that many.
     #[inline(always)]
     pub fn state(&self) -> State
         ensures state { StateIs effect_acts result self.now.flow }
-        ensures bounded { (n : ℕ) (last : Parts EffectStage) → StepsRow effect_acts self.now.flow n last
+        ensures bounded { (n : ℕ) (last : Parts EffectStage) → StepsInSequence effect_acts self.now.flow n last
             → n ≤ work_of self.now.plan.acts (taken_of self.now.flow) - moves_of effect_acts self.now.flow + length self.now.plan.acts }
         ensures due { result ≡ State.Hungry → given_by effect_acts self.now.flow.left self.now.flow.stages ≡ due_of (kinds effect_acts self.now.flow.stages) (taken_of self.now.flow) }
     {
@@ -76,13 +76,13 @@ impl Chain {
     pub fn take(&mut self, frame: Frame)
         requires hungry { IsHungry effect_acts self.old.flow }
         requires channels { length frame ≡ self.old.plan.head.channels }
-        requires few { taken_of self.old.flow < most_frames }
+        requires bound { taken_of self.old.flow < max_frames }
         ensures { self.new ≡ record self.old { flow = record self.old.flow { inlet = Some frame } } }
     {
         self.flow.take(frame);
     }
 
-    /// Tells it that no frame will come.
+    /// Gives it the end: no frame will come.
     pub fn end(&mut self)
         requires { IsHungry effect_acts self.old.flow }
         ensures { self.new ≡ record self.old { flow = record self.old.flow { ended = true } } }
@@ -91,13 +91,13 @@ impl Chain {
     }
 
     /// Moves one frame from the last effect that is not dry; where all are dry, from the inlet; where that is empty too and
-    /// the end was given, tells the first effect that is not ended the end.
+    /// the end was given, gives the end to the first effect that is not ended.
     #[inline(always)]
     pub fn step(&mut self) -> Step
         requires { StateIs effect_acts State.Busy self.old.flow }
         ensures steps { Steps effect_acts self.old.flow result self.new.flow }
         ensures moved { MovedOn effect_acts self.old.flow result self.new.flow }
-        ensures row { (first : Parts EffectStage) (n : ℕ) → StepsRow effect_acts first n self.old.flow → StepsRow effect_acts first (n + 1) self.new.flow }
+        ensures sequence { (first : Parts EffectStage) (n : ℕ) → StepsInSequence effect_acts first n self.old.flow → StepsInSequence effect_acts first (n + 1) self.new.flow }
         ensures plan { self.new.plan ≡ self.old.plan }
     {
         self.flow.step()
@@ -105,22 +105,22 @@ impl Chain {
 
     /// Takes frames from the front of the input, and writes those that are given to the front of the output: samples of
     /// frames lie one after another, channel by channel. Each frame goes through all effects before the next one is taken, as
-    /// by `take` and `step`; until the output has no room for another frame, or the chain is done, or it is hungry and takes
-    /// none, since the input is used up or some effect gives nothing more. A frame is taken only while the output has room for
-    /// one more than was due before it. Where the output has no room for one frame, nothing changes; and once it has none,
-    /// nothing is done any more: the last step is the one that gave the last frame.
+    /// by `take` and `step`; until the output has no space for another frame, or the chain is done, or it is hungry and takes
+    /// none, since the input is used up or some effect gives nothing more. A frame is taken only while the output has space for
+    /// one more than was due before it. Where the output has no space for one frame, nothing changes; and once it has none,
+    /// the call ends: the last step is the one that gave the last frame.
     pub fn feed(&mut self, input: &[i32], output: &mut [i32]) -> Passed
         requires channels { (1 ≤ self.old.plan.head.channels) × (self.old.plan.head.channels ≤ 16) }
-        requires few { (n : ℕ) → n * self.old.plan.head.channels ≤ length input.now → taken_of self.old.flow + n ≤ most_frames }
+        requires bound { (n : ℕ) → n * self.old.plan.head.channels ≤ length input.now → taken_of self.old.flow + n ≤ max_frames }
         ensures fed { FlowFed effect_acts self.old.flow (pieces self.old.plan.head.channels result.taken input.now) (pieces (outputs_of self.old.plan.head.channels (kinds effect_acts self.old.flow.stages)) result.given output.new) self.new.flow }
         ensures read { result.taken * self.old.plan.head.channels ≤ length input.now }
         ensures written { result.given * outputs_of self.old.plan.head.channels (kinds effect_acts self.old.flow.stages) ≤ length output.new }
-        ensures behind { drop (result.given * outputs_of self.old.plan.head.channels (kinds effect_acts self.old.flow.stages)) output.new ≡ drop (result.given * outputs_of self.old.plan.head.channels (kinds effect_acts self.old.flow.stages)) output.old }
+        ensures rest_unchanged { drop (result.given * outputs_of self.old.plan.head.channels (kinds effect_acts self.old.flow.stages)) output.new ≡ drop (result.given * outputs_of self.old.plan.head.channels (kinds effect_acts self.old.flow.stages)) output.old }
         ensures waits { let outputs = outputs_of self.old.plan.head.channels (kinds effect_acts self.old.flow.stages) in result.given * outputs + outputs ≤ length output.new → StateIs effect_acts State.Busy self.new.flow → ⊥ }
         ensures used { let outputs = outputs_of self.old.plan.head.channels (kinds effect_acts self.old.flow.stages) in result.given * outputs + outputs ≤ length output.new → self.new.flow.ended ≡ false → any_spent effect_acts self.new.flow.stages ≡ false
             → length input.now < result.taken * self.old.plan.head.channels + self.old.plan.head.channels }
-        ensures room { FlowTookWithRoom effect_acts self.old.flow result.taken (length output.old) }
-        ensures still { length output.old < outputs_of self.old.plan.head.channels (kinds effect_acts self.old.flow.stages) → self.new ≡ self.old }
+        ensures free { FlowTookWithinCapacity effect_acts self.old.flow result.taken (length output.old) }
+        ensures unchanged { length output.old < outputs_of self.old.plan.head.channels (kinds effect_acts self.old.flow.stages) → self.new ≡ self.old }
         ensures full { let outputs = outputs_of self.old.plan.head.channels (kinds effect_acts self.old.flow.stages) in 1 ≤ result.given → length output.old < result.given * outputs + outputs
             → GaveLast effect_acts self.old.flow (pieces self.old.plan.head.channels result.taken input.now) (pieces outputs result.given output.new) self.new.flow }
         ensures plan { self.new.plan ≡ self.old.plan }
@@ -131,7 +131,7 @@ impl Chain {
     /// How many frames it took.
     pub fn taken(&self) -> u64
         ensures value { result ≡ taken_of self.now.flow }
-        ensures few { result ≤ most_frames }
+        ensures bound { result ≤ max_frames }
     {
         self.flow.taken()
     }
@@ -146,7 +146,7 @@ impl Chain {
         self.flow.moves()
     }
 
-    /// How many frames it holds: in the inlet, in the lines of its effects, and in their hands. At most the plan's `hold`.
+    /// How many frames it holds: in the inlet, in the lines of its effects, and pending. At most the plan's `hold`.
     pub fn held(&self) -> u64
         ensures value { result ≡ length (option_to_list self.now.flow.inlet) + held_sum effect_acts self.now.flow.stages }
         ensures within { result ≤ hold_all self.now.plan.acts }
@@ -154,10 +154,10 @@ impl Chain {
         self.flow.held()
     }
 
-    /// How many frames it may hold: the plan's `hold`. The lines of its effects have as many places as the plan says.
+    /// How many frames it may hold: the plan's `hold`. The capacities of the lines of its effects are those of the plan.
     pub fn hold(&self) -> u64
         ensures value { result ≡ hold_all self.now.plan.acts }
-        ensures capacities { capacity_sum effect_acts self.now.flow.stages ≡ total line_of self.now.plan.acts }
+        ensures capacities { capacity_sum effect_acts self.now.flow.stages ≡ total line_of_act self.now.plan.acts }
     {
         self.flow.hold()
     }
@@ -172,7 +172,7 @@ impl Chain {
         self.flow.clips(number - 1)
     }
 
-    /// Does some effect give nothing more, whatever comes? Then no frame that comes changes what is still to be given.
+    /// Whether some effect gives nothing more, whatever input follows. Then no further frame changes what is still to be given.
     pub fn is_spent(&self) -> bool
         ensures value { result ≡ any_spent effect_acts self.now.flow.stages }
         ensures enough { IsHungry effect_acts self.now.flow → result ≡ enough_for (kinds effect_acts self.now.flow.stages) (taken_of self.now.flow) }

@@ -6,7 +6,7 @@ mod plan_run;
 mod snapshot;
 
 pub use chain::Chain;
-pub use fx_flow::flow::{State, Step};
-pub use fx_run::{MOST_EFFECTS, Report, RunFault};
+pub use fx_chain_flow::flow::{State, Step};
+pub use fx_chain_run::{MAX_EFFECTS, Report, RunFault};
 pub use plan_run::{BYTES_BESIDE_CHAIN, run};
 pub use snapshot::Snapshot;

@@ -3,36 +3,36 @@ ghost use Rattle.std.specs.Prelude.{◌≡◌, ◌≤◌, ◌+◌, ◌*◌, ◌�
 ghost use Rattle.std.specs.List.{All};
 ghost use Rattle.fx_chain.specs.Chain.{ChainParts};
 ghost use Rattle.fx_chain.specs.Snapshot.{IsSnapshotOf, IsSoundChain};
-ghost use Rattle.fx_step.specs.Holds.{held_sum};
-ghost use Rattle.fx_effects.specs.Bounds.{hold_all};
+ghost use Rattle.fx_frame_stage.specs.Holds.{held_sum};
+ghost use Rattle.fx_plan_effects.specs.Bounds.{hold_all};
 ghost use Rattle.fx_plan.specs.Planning.{planning};
-ghost use Rattle.fx_stages.specs.Stages.{effect_acts};
-ghost use Rattle.fx_stages.specs.Narrow.{AreNarrow, IsNarrow};
+ghost use Rattle.fx_chain_stages.specs.Stages.{effect_acts};
+ghost use Rattle.fx_chain_stages.specs.Narrow.{AreNarrow, IsNarrow};
 
 use crate::chain::Chain;
-use fx_flow::flow::Flow;
+use fx_chain_flow::flow::Flow;
+use fx_chain_stages::arguments_of;
 use fx_frame::WideFrame;
+use fx_frame_stage::stage::ThawFault;
 use fx_plan::Plan;
-use fx_stages::arguments_of;
-use fx_step::stage::ThawFault;
 use std::alloc::{AllocError, Global};
 
-/// All that decides what a chain still gives: its plan, the frames that it holds, and what it counted.
+/// All that determines what a chain still gives: its plan, the frames that it holds, and what it counted.
 #[derive(Drop)]
 pub struct Snapshot {
     /// The chain's plan.
     pub plan: Plan,
     /// The frame in the inlet, if there is one; then of each effect in order its line from the oldest frame to the newest
-    /// and the frame in hand, if there is one. The line of `echos` is its lines from the first to the last.
+    /// and the pending frame, if there is one. The line of `echos` is its lines from the first to the last.
     pub frames: Vec<WideFrame>,
     /// Eight of the inlet, then eight of each effect: frames taken, frames given, 1 after the end and else 0, clips, frames
-    /// stored, and three of its own.
+    /// stored, and three state counters.
     pub numbers: Vec<u64>,
 }
 
 impl Chain {
-    /// The chain as it is now, as frames and numbers; AllocError where memory for them is refused. The chain stays as it
-    /// is. There are exactly `held()` frames, and 8 numbers for each effect and the inlet.
+    /// The chain as it is now, as frames and numbers; AllocError where memory for them is refused. The chain is
+    /// unchanged. There are exactly `held()` frames, and 8 numbers for each effect and the inlet.
     ///
     /// Samples in a line of `echos` may be sums beyond 32 bits, no others.
     pub fn freeze(&self, alloc: Global) -> Result<Snapshot, AllocError>
@@ -53,12 +53,12 @@ impl Chain {
         })
     }
 
-    /// The chain of this plan that was frozen as the snapshot. Whichever chain that was, one of the same value comes back. No
-    /// answer of a chain depends on anything but its value, as the clauses of its calls show: so the two answer every call,
-    /// now and later, alike.
+    /// The chain of this plan that was frozen as the snapshot. Whichever chain that was, one of the same value is restored. No
+    /// result of a chain depends on anything but its value, as the contracts of its calls show: so the two return the same for
+    /// every call, now and later.
     ///
     /// WrongPlan exactly where the plan is not equal to the snapshot's, BadSnapshot where no chain of the plan stores these
-    /// frames and counts these numbers, Memory where a growth was refused.
+    /// frames and counts these numbers, Memory where an allocation was refused.
     pub fn thaw(alloc: Global, plan: &Plan, snapshot: &Snapshot) -> Result<Chain, ThawFault>
         ensures wrong_plan { (result ≡ Err ThawFault.WrongPlan) ↔ (planning plan.now ≡ planning snapshot.now.plan → ⊥) }
         ensures plan { IfOk result (λ c. c.plan ≡ planning plan.now) }

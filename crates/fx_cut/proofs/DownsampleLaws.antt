@@ -3,17 +3,17 @@ use Rattle.std.proofs.Common.{ℕ, suc, ◌+◌, ◌-◌, ◌*◌, ◌<◌, ◌�
 use Rattle.std.specs.Int.{div_ceil}
 use Rattle.std.specs.Prelude.{slice_index_or, is_none}
 use Rattle.std.proofs.lemmas.Grind.{div_ceil_times}
-use Rattle.fx_step.specs.Frame.{Samples}
-use Rattle.fx_step.specs.Stage.{Given, Took}
+use Rattle.fx_frame_stage.specs.Frame.{Samples}
+use Rattle.fx_frame_stage.specs.Stage.{Given, Took}
 use Rattle.std.proofs.lemmas.Bool.{cases_lt}
 use Rattle.std.proofs.lemmas.List.{get_or-drop}
-use Rattle.fx_step.specs.Hand.{IsHand}
+use Rattle.fx_frame_stage.specs.PendingFrame.{IsPending}
 use Rattle.fx_cut.specs.Ceil.{by_products}
-use Rattle.fx_lists.specs.Lists.{tabulate}
-use Rattle.fx_step.specs.Given.{plain}
+use Rattle.fx_frame_lists.specs.Lists.{tabulate}
+use Rattle.fx_frame_stage.specs.Given.{plain}
 use Rattle.fx_cut.specs.Downsample.{downsampled}
 use Rattle.fx_cut.specs.DownsampleState.{DownsampleState, IsDownsample, downsample_acts}
-use Rattle.fx_lists.proofs.Tabulate.{tabulate-same}
+use Rattle.fx_frame_lists.proofs.Tabulate.{tabulate-same}
 
 -- the quotient, by its product
 pub ceil_is : (s k q f : ℕ) → 0 < f → s + k ≡ q * f → k < f → div_ceil s f ≡ q
@@ -55,32 +55,32 @@ downsampled-cons f x z some =
     ap (tabulate F 0) count ∙ ap (λ g. g ∷ tabulate F 1 q) here ∙ ap (λ l. plain x ∷ l) more
 
 -- where it is dry nothing is in hand
-pub dry-hand : (hand : Option Samples) (after : List Given) → is_none hand ≡ true → map plain (option_to_list hand) ++ after ≡ after
-dry-hand None after h = refl
-dry-hand (Some x) after h = absurd (cc)
+pub dry-pending : (pending : Option Samples) (after : List Given) → is_none pending ≡ true → map plain (option_to_list pending) ++ after ≡ after
+dry-pending None after h = refl
+dry-pending (Some x) after h = absurd (cc)
 
-dry-count : (hand : Option Samples) → is_none hand ≡ true → length (option_to_list hand) ≡ 0
+dry-count : (pending : Option Samples) → is_none pending ≡ true → length (option_to_list pending) ≡ 0
 dry-count None h = refl
 dry-count (Some x) h = absurd (cc)
 
 -- a frame that is kept
 abbrev pub kept : DownsampleState → Samples → DownsampleState
-kept s frame = record s { hand = Some frame; skip = s.recipe.factor - 1; taken = s.taken + 1 }
+kept s frame = record s { pending = Some frame; skip = s.recipe.factor - 1; taken = s.taken + 1 }
 
 -- a frame that is left out
 abbrev pub left : DownsampleState → DownsampleState
 left s = record s { skip = s.skip - 1; taken = s.taken + 1 }
 
-module _ (s : DownsampleState) (frame : Samples) (is : IsDownsample s) (dry : is_none s.hand ≡ true) (running : s.ended ≡ false) where
+module _ (s : DownsampleState) (frame : Samples) (is : IsDownsample s) (dry : is_none s.pending ≡ true) (running : s.ended ≡ false) where
   pub Took-kept : s.skip ≡ 0 → Took downsample_acts s (kept s frame) frame
   Took-kept e =
       record {
-        rest = λ z. rw (running, e) (sym (downsampled-cons s.recipe.factor frame z is.arguments.some_factor) ∙ sym (dry-hand s.hand _ dry));
+        rest = λ z. rw (running, e) (sym (downsampled-cons s.recipe.factor frame z is.arguments.some_factor) ∙ sym (dry-pending s.pending _ dry));
         counted = refl;
         recipe_stays = refl;
       }
 
-  pub IsDownsample-kept : s.skip ≡ 0 → s.taken < 2 ^ 56 → IsHand s.recipe.channels (Some frame) → IsDownsample (kept s frame)
+  pub IsDownsample-kept : s.skip ≡ 0 → s.taken < 2 ^ 56 → IsPending s.recipe.channels (Some frame) → IsDownsample (kept s frame)
   IsDownsample-kept e below fits =
       let f : ℕ = s.recipe.factor in
       let some : 0 < f = is.arguments.some_factor in
@@ -88,14 +88,14 @@ module _ (s : DownsampleState) (frame : Samples) (is : IsDownsample s) (dry : is
       let before : s.taken + s.skip ≡ q * f = is.skipped in
       let after : (s.taken + 1) + (f - 1) ≡ suc q * f = omega arith in
       let next : div_ceil (s.taken + 1) f ≡ suc q = ceil_is (s.taken + 1) (f - 1) (suc q) f some after (omega arith) in
-      let none = dry-count s.hand dry in
+      let none = dry-count s.pending dry in
       let c = is.counted in
       record {
         arguments = is.arguments;
         counted = rw next (omega arith);
         skipped = rw next after;
-        few = omega arith;
-        behind = λ held. omega arith;
+        bound = omega arith;
+        pending_place = λ held. omega arith;
         over = λ ended. absurd (cc (running, ended));
         fits = fits;
       }
@@ -112,8 +112,8 @@ module _ (s : DownsampleState) (frame : Samples) (is : IsDownsample s) (dry : is
         arguments = is.arguments;
         counted = rw next is.counted;
         skipped = rw next after;
-        few = omega arith;
-        behind = λ held. absurd (let none = dry-count s.hand dry in omega arith);
+        bound = omega arith;
+        pending_place = λ held. absurd (let none = dry-count s.pending dry in omega arith);
         over = λ ended. absurd (cc (running, ended));
         fits = is.fits;
       }

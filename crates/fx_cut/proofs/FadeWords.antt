@@ -3,10 +3,10 @@ use Rattle.std.proofs.Common.{◌≡◌, ℕ, ◌^◌, ◌≤◌, true, List, []
 use Rattle.std.specs.Result.{result_unwrap_or}
 use Rattle.std.proofs.lemmas.Bool.{and_from, le-leb}
 use Rattle.fx_fixed.specs.declared.positions.Anchor.TheVariants as anchors
-use Rattle.fx_words.specs.Faults.{Word, fault_at}
-use Rattle.fx_words.specs.Numbers.{beginning, frames_in, position_in}
+use Rattle.fx_plan_words.specs.Faults.{Word, fault_at}
+use Rattle.fx_plan_words.specs.Numbers.{beginning, frames_in, position_in}
 use Rattle.fx_cut.specs.FadeWords.{fade_by, fade_of, in_faults, is_fade, stop_faults}
-use Rattle.fx_words.proofs.Ranges.{frames_near, kept, no_faults}
+use Rattle.fx_plan_words.proofs.Ranges.{frames_near, kept, no_faults}
 
 -- the lengths of a fade
 pub fade_by-fits : (rate fade_in : ℕ) (words : List Word) → fade_in ≤ 2 ^ 40 → stop_faults rate words ≡ [] → is_fade (fade_by rate fade_in words) ≡ true

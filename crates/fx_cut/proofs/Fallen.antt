@@ -4,9 +4,9 @@ use Rattle.std.specs.Prelude.{ℤ, Option, Some, None, slice_get, nat_lt}
 use Rattle.std.specs.Int.{w32}
 use Rattle.std.specs.List.{All}
 use Rattle.std.proofs.lemmas.Bool.{lt-ltb, le-ltb, cases_lt}
-use Rattle.fx_step.specs.Frame.{IsFrame, Samples}
-use Rattle.fx_step.specs.Hand.{IsHand}
-use Rattle.fx_ring.specs.Line.{Frames, IsLine, IsSamples}
+use Rattle.fx_frame_stage.specs.Frame.{IsFrame, Samples}
+use Rattle.fx_frame_stage.specs.PendingFrame.{IsPending}
+use Rattle.fx_frame_line.specs.Line.{Frames, IsLine, IsSamples}
 
 -- the frame that falls out, where there is one
 abbrev pub fallen : ℕ → List Samples → Samples → Option Samples
@@ -19,8 +19,8 @@ stays capacity items frame = drop (length (items ++ frame ∷ []) - capacity) (i
 pub full_out : (capacity : ℕ) (items : List Samples) (frame : Samples) → capacity ≤ length items → fallen capacity items frame ≡ slice_get (items ++ frame ∷ []) 0
 full_out capacity items frame h = ap (λ b. cond b None (slice_get (items ++ frame ∷ []) 0)) (le-ltb (length items) capacity h)
 
-pub room_out : (capacity : ℕ) (items : List Samples) (frame : Samples) → length items < capacity → fallen capacity items frame ≡ None
-room_out capacity items frame h = ap (λ b. cond b None (slice_get (items ++ frame ∷ []) 0)) (lt-ltb (length items) capacity h)
+pub free_out : (capacity : ℕ) (items : List Samples) (frame : Samples) → length items < capacity → fallen capacity items frame ≡ None
+free_out capacity items frame h = ap (λ b. cond b None (slice_get (items ++ frame ∷ []) 0)) (lt-ltb (length items) capacity h)
 
 first_some : (items : List Samples) (frame : Samples) → slice_get (items ++ frame ∷ []) 0 ≡ None → ⊥
 first_some [] frame e = cc
@@ -38,15 +38,15 @@ no_fall capacity items frame e = go (cases_lt (length items) capacity)
     go (inl l) = l
     go (inr g) = absurd (first_some items frame (sym (full_out capacity items frame g) ∙ sym e))
 
-pub stays-room : (capacity : ℕ) (items : List Samples) (frame : Samples) → length items < capacity → stays capacity items frame ≡ items ++ frame ∷ []
-stays-room capacity items frame l = ap (λ n. drop n (items ++ frame ∷ [])) (let e : length (items ++ frame ∷ []) - capacity ≡ 0 = omega (arith, length-append items (frame ∷ [])) in e)
+pub stays-free : (capacity : ℕ) (items : List Samples) (frame : Samples) → length items < capacity → stays capacity items frame ≡ items ++ frame ∷ []
+stays-free capacity items frame l = ap (λ n. drop n (items ++ frame ∷ [])) (let e : length (items ++ frame ∷ []) - capacity ≡ 0 = omega (arith, length-append items (frame ∷ [])) in e)
 
 -- the oldest falls out: there was no room
 pub is_full : (capacity : ℕ) (items : List Samples) (frame o : Samples) → Some o ≡ fallen capacity items frame → capacity ≤ length items
 is_full capacity items frame o e = go (cases_lt (length items) capacity)
   where
     go : (length items < capacity) ⊎ (capacity ≤ length items) → capacity ≤ length items
-    go (inl l) = absurd (let n = room_out capacity items frame l in cc (e, n))
+    go (inl l) = absurd (let n = free_out capacity items frame l in cc (e, n))
     go (inr g) = g
 
 pub oldest-first : (capacity : ℕ) (items : List Samples) (frame o : Samples) → Some o ≡ fallen capacity items frame → length items ≤ capacity → items ++ frame ∷ [] ≡ o ∷ stays capacity items frame
@@ -69,7 +69,7 @@ module _ (line : Frames ℤ) (channels : ℕ) (frame o : Samples) (is : IsLine w
   oldest-length = oldest-channels line.channels _ _ frame o is.frames (f ∙ sym same) (oldest-first _ _ _ _ out is.within) ∙ same
 
   -- it can be in hand
-  pub oldest-fits : IsFrame o → IsHand channels (Some o)
+  pub oldest-fits : IsFrame o → IsPending channels (Some o)
   oldest-fits framed = λ x q. let w : o ≡ x = cc in (rw (← w) framed, rw (← w) oldest-length)
 
 pub first-popped : (items items' : List Samples) (o : Samples) → Some o ≡ slice_get items 0 → items' ≡ drop 1 items → items ≡ o ∷ items'

@@ -6,11 +6,11 @@ use Rattle.std.specs.List.{All}
 use Rattle.std.proofs.lemmas.List.{drop-append-le, drop_all, nil_from_length, take-append-le, take_all}
 use Rattle.std.proofs.lemmas.List.Elements.{All-append, All-cons, All-drop, All-head, All-nil}
 use Rattle.std.proofs.Math.Nat.{add-mul, div-mul-le_self, mul-le-mul_right}
-use Rattle.fx_step.specs.Frame.{Samples}
-use Rattle.fx_ring.specs.Line.{Frames, IsLine, IsSamples, pushed_all}
-use Rattle.fx_ring.proofs.RingLaws.{keep-twice}
-use Rattle.fx_cut.proofs.Fallen.{fallen, full_out, oldest-first, room_out, stays}
-use Rattle.fx_cut.proofs.Pieces.{frames-room}
+use Rattle.fx_frame_stage.specs.Frame.{Samples}
+use Rattle.fx_frame_line.specs.Line.{Frames, IsLine, IsSamples, pushed_all}
+use Rattle.fx_frame_line.proofs.RingLaws.{keep-twice}
+use Rattle.fx_cut.proofs.Fallen.{fallen, full_out, oldest-first, free_out, stays}
+use Rattle.fx_cut.proofs.Pieces.{frames-free}
 
 -- how many of so many frames, or of those before them, fall out
 abbrev pub gone : Frames ℤ → ℕ → ℕ
@@ -38,7 +38,7 @@ onto-long l xs = omega (arith, length-append l.items xs, length-drop (length (l.
 pub onto-line : (l : Frames ℤ) (xs : List Samples) → IsLine w32 l → All (IsSamples w32 l.channels) xs → IsLine w32 (onto l xs)
 onto-line l xs is all = record {
   some = is.some;
-  few = is.few;
+  bound = is.bound;
   small = is.small;
   within = let h = is.within in omega (arith, onto-long l xs);
   frames = All-drop (IsSamples w32 l.channels) (length (l.items ++ xs) - l.capacity) (l.items ++ xs) (All-append (IsSamples w32 l.channels) l.items xs is.frames all);
@@ -79,10 +79,10 @@ module _ (l : Frames ℤ) (x : Samples) (xs : List Samples) (within : length l.i
 
 module _ (l : Frames ℤ) (x : Samples) (within : length l.items ≤ l.capacity) where
   -- there is room for one more
-  pub out-room : length l.items < l.capacity → (None ≡ fallen l.capacity l.items x) × (out_of l (x ∷ []) ≡ [])
-  out-room h =
+  pub out-free : length l.items < l.capacity → (None ≡ fallen l.capacity l.items x) × (out_of l (x ∷ []) ≡ [])
+  out-free h =
       let none : length l.items + 1 - l.capacity ≡ 0 = omega arith in
-      (sym (room_out l.capacity l.items x h), ap (λ n. take n (l.items ++ x ∷ [])) none)
+      (sym (free_out l.capacity l.items x h), ap (λ n. take n (l.items ++ x ∷ [])) none)
 
   -- there is none
   pub out-full : l.capacity ≤ length l.items → (o : Samples) × (Some o ≡ fallen l.capacity l.items x) × (out_of l (x ∷ []) ≡ o ∷ [])
@@ -127,24 +127,24 @@ pub record IsPiece (b : Bool) (l : Frames ℤ) (n k w ins outs : ℕ) : Type 0 w
   pub number : k ≡ cond b (gone l n) 0
   pub read : n * w ≤ ins
   pub written : k * w ≤ outs
-  pub few : k ≤ length l.items + n
+  pub bound : k ≤ length l.items + n
   pub enough : k * w ≤ length l.items * w + n * w
 
-pub piece-fits : (b : Bool) (l : Frames ℤ) (n k room w read written : ℕ) → length l.items ≤ l.capacity → room ≡ l.capacity - length l.items → n ≤ read / w → n ≤ written / w + room → k ≡ cond b (n - room) 0
+pub piece-fits : (b : Bool) (l : Frames ℤ) (n k free w read written : ℕ) → length l.items ≤ l.capacity → free ≡ l.capacity - length l.items → n ≤ read / w → n ≤ written / w + free → k ≡ cond b (n - free) 0
     → IsPiece b l n k w read written
-piece-fits b l n k room w read written within is-room fits out is =
-    let few : k ≤ n - room = at-most b is in
+piece-fits b l n k free w read written within is-free fits out is =
+    let bound : k ≤ n - free = at-maximum b is in
     let first : k * w ≤ written / w * w = mul-le-mul_right w (omega arith) in
     let second : k * w ≤ (length l.items + n) * w = mul-le-mul_right w (omega arith) in
-    let out-room : n - room ≡ gone l n = omega arith in
+    let out-free : n - free ≡ gone l n = omega arith in
     record {
-      number = is ∙ ap (λ m. cond b m 0) out-room;
-      read = frames-room n w read fits;
+      number = is ∙ ap (λ m. cond b m 0) out-free;
+      read = frames-free n w read fits;
       written = omega (arith, first, div-mul-le_self written w);
-      few = omega arith;
+      bound = omega arith;
       enough = omega (arith, second, add-mul (length l.items) n w);
     }
   where
-    at-most : (c : Bool) → k ≡ cond c (n - room) 0 → k ≤ n - room
-    at-most true e = omega arith
-    at-most false e = omega arith
+    at-maximum : (c : Bool) → k ≡ cond c (n - free) 0 → k ≤ n - free
+    at-maximum true e = omega arith
+    at-maximum false e = omega arith

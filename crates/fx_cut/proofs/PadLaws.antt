@@ -7,11 +7,12 @@ use Rattle.std.proofs.lemmas.List.{length-replicate}
 use Rattle.std.proofs.lemmas.List.Sums.{sum_by-cons, sum_by-append}
 use Rattle.std.proofs.lemmas.List.Concat.{length-flat_map}
 use Rattle.std.proofs.lemmas.Option.{slice_get_past}
-use Rattle.fx_fixed.specs.Extents.{greatest, pad_distance}
+use Rattle.fx_fixed.specs.Extents.{largest}
+use Rattle.fx_cut.specs.PadExtents.{pad_distance}
 use Rattle.fx_fixed.specs.Positions.{place_of, places_after}
 use Rattle.fx_fixed.specs.declared.positions.At.{At}
 use Rattle.fx_fixed.specs.declared.positions.At.TheVariants.{Start, End}
-use Rattle.fx_step.specs.Frame.{Samples, silence}
+use Rattle.fx_frame_stage.specs.Frame.{Samples, silence}
 use Rattle.fx_cut.specs.Pad.{ats, lengths, is_inside, placed, placed_after, silent_at, padded, pads_from_start, pad_due, RisesFrom}
 use Rattle.fx_cut.specs.PadState.{padded_from, silence_from}
 use Rattle.fx_cut.specs.Ranges.{range_more}
@@ -47,7 +48,7 @@ RisesFrom-le l m (Start p ∷ ps) h r = let r0 = r.0 in (omega arith, r.1)
 RisesFrom-le l m (End b ∷ ps) h r = tt
 
 -- before the end positions, the pads before them count
-pub same_silence : (len n m : ℕ) (ps : List (ℕ × At)) → n + greatest (map pad_distance ps) < len → RisesFrom m (ats ps)
+pub same_silence : (len n m : ℕ) (ps : List (ℕ × At)) → n + largest (map pad_distance ps) < len → RisesFrom m (ats ps)
     → sum_by (here n) (placed_after len m ps) ≡ sum_by (here n) (pads_from_start ps)
 same_silence len n m [] h r = refl
 same_silence len n m ((k, Start p) ∷ ps) h r =
@@ -60,7 +61,7 @@ same_silence len n m ((k, Start p) ∷ ps) h r =
     go : (b : Bool) → leb p len ≡ b → sum_by (here n) (placed_after len m ps) ≡ sum_by (here n) (pads_from_start ps)
         → sum_by (here n) (placed_after len (max m p) ps) ≡ sum_by (here n) (pads_from_start ps)
         → sum_by (here n) (placed_if b len m k (Start p) ps) ≡ here n (k, p) + sum_by (here n) (pads_from_start ps)
-    go false e skipped taken = let past : len < p = leb-false p len e in omega (arith, skipped, here_not n k p (λ e. omega arith))
+    go false e skipped taken = let beyond : len < p = leb-false p len e in omega (arith, skipped, here_not n k p (λ e. omega arith))
     go true e skipped taken = let mp : m ≤ p = r.0 in let q : max m p ≡ p = omega arith in
         sum_by-cons (here n) (k, max m p) (placed_after len (max m p) ps) ∙ cc (q, taken)
 same_silence len n m ((k, End b) ∷ ps) h r =
@@ -148,15 +149,15 @@ length_padded channels ps x =
 -- at first nothing is due
 pub none-due : (ps : List (ℕ × At)) → pad_due ps 0 ≡ 0
 none-due ps =
-    let none : 0 - greatest (map pad_distance ps) ≡ 0 = omega arith in
+    let none : 0 - largest (map pad_distance ps) ≡ 0 = omega arith in
     rw none (none_upto (pads_from_start ps))
 
 -- ---- how many frames come after a place
 
 -- the pads at a place or behind it
-behind-step : (n : ℕ) (pads : List (ℕ × ℕ)) → silence_from pads n ≡ sum_by (here n) pads + silence_from pads (n + 1)
-behind-step n [] = refl
-behind-step n ((k, p) ∷ pads) = go (cases_order p n) (behind-step n pads) ∙ ap (λ s. s + silence_from ((k, p) ∷ pads) (n + 1)) (sym (sum_by-cons (here n) (k, p) pads))
+rest_unchanged-step : (n : ℕ) (pads : List (ℕ × ℕ)) → silence_from pads n ≡ sum_by (here n) pads + silence_from pads (n + 1)
+rest_unchanged-step n [] = refl
+rest_unchanged-step n ((k, p) ∷ pads) = go (cases_order p n) (rest_unchanged-step n pads) ∙ ap (λ s. s + silence_from ((k, p) ∷ pads) (n + 1)) (sym (sum_by-cons (here n) (k, p) pads))
   where
     yes : (m : ℕ) → m ≤ p → silence_from ((k, p) ∷ pads) m ≡ k + silence_from pads m
     yes m h = ap (λ b. sum_by (λ p. p.0) (cond b ((k, p) ∷ filter (λ p. leb m p.1) pads) (filter (λ p. leb m p.1) pads))) (le-leb m p h) ∙ sum_by-cons (λ p. p.0) (k, p) (filter (λ p. leb m p.1) pads)
@@ -175,9 +176,9 @@ inside-le : (len k : ℕ) (p : At) → is_inside len (k, p) ≡ true → place_o
 inside-le len k (Start p) h = leb-true p len h
 inside-le len k (End b) h = omega arith
 
-none_behind : (len m : ℕ) (ps : List (ℕ × At)) → m ≤ len → silence_from (placed_after len m ps) (len + 1) ≡ 0
-none_behind len m [] h = refl
-none_behind len m ((k, p) ∷ ps) h = go (is_inside len (k, p)) refl (none_behind len m ps h) (λ g. none_behind len (max m (place_of len p)) ps g)
+none_after : (len m : ℕ) (ps : List (ℕ × At)) → m ≤ len → silence_from (placed_after len m ps) (len + 1) ≡ 0
+none_after len m [] h = refl
+none_after len m ((k, p) ∷ ps) h = go (is_inside len (k, p)) refl (none_after len m ps h) (λ g. none_after len (max m (place_of len p)) ps g)
   where
     go : (b : Bool) → is_inside len (k, p) ≡ b → silence_from (placed_after len m ps) (len + 1) ≡ 0 → (max m (place_of len p) ≤ len → silence_from (placed_after len (max m (place_of len p)) ps) (len + 1) ≡ 0)
         → silence_from (placed_if b len m k p ps) (len + 1) ≡ 0
@@ -198,11 +199,11 @@ from_first ((k, p) ∷ pads) =
     ∙ sym (sum_by-cons (λ p. p.0) (k, p) pads)
 
 -- and is no more than that of all pads
-pub silence-few : (len : ℕ) (ps : List (ℕ × At)) → silence_from (placed len ps) 0 ≤ lengths ps
-silence-few len ps = omega (arith, from_first (placed len ps), taken_le len 0 ps)
+pub silence-bound : (len : ℕ) (ps : List (ℕ × At)) → silence_from (placed len ps) 0 ≤ lengths ps
+silence-bound len ps = omega (arith, from_first (placed len ps), taken_le len 0 ps)
 
 -- the silence before a place that no pad from the end reaches, and that behind it, are all of it
-pub silence-parts : (len : ℕ) (ps : List (ℕ × At)) (m : ℕ) → RisesFrom 0 (ats ps) → (m ≡ 0) ⊎ (m + greatest (map pad_distance ps) ≤ len)
+pub silence-parts : (len : ℕ) (ps : List (ℕ × At)) (m : ℕ) → RisesFrom 0 (ats ps) → (m ≡ 0) ⊎ (m + largest (map pad_distance ps) ≤ len)
     → sum_by (λ p. p.0) (filter (λ p. ltb p.1 m) (pads_from_start ps)) + silence_from (placed len ps) m ≡ silence_from (placed len ps) 0
 silence-parts len ps zero r h = omega (arith, none_upto (pads_from_start ps))
 silence-parts len ps (suc m) r (inl e) = absurd (omega arith)
@@ -211,8 +212,8 @@ silence-parts len ps (suc m) r (inr h) =
     let same : sum_by (here m) (placed len ps) ≡ sum_by (here m) (pads_from_start ps) = same_silence len m 0 ps (omega arith) r in
     let next : suc m ≡ m + 1 = omega arith in
     let more : sum_by (λ p. p.0) (filter (λ p. ltb p.1 (suc m)) (pads_from_start ps)) ≡ sum_by (λ p. p.0) (filter (λ p. ltb p.1 m) (pads_from_start ps)) + sum_by (here m) (pads_from_start ps) = ap (λ n. sum_by (λ p. p.0) (filter (λ p. ltb p.1 n) (pads_from_start ps))) next ∙ upto_more m (pads_from_start ps) in
-    let behind : silence_from (placed len ps) m ≡ sum_by (here m) (placed len ps) + silence_from (placed len ps) (suc m) = behind-step m (placed len ps) ∙ ap (λ n. sum_by (here m) (placed len ps) + silence_from (placed len ps) n) (sym next) in
-    omega (arith, before, same, more, behind)
+    let rest_unchanged : silence_from (placed len ps) m ≡ sum_by (here m) (placed len ps) + silence_from (placed len ps) (suc m) = rest_unchanged-step m (placed len ps) ∙ ap (λ n. sum_by (here m) (placed len ps) + silence_from (placed len ps) n) (sym next) in
+    omega (arith, before, same, more, rest_unchanged)
 
 -- the first frame, behind its silence
 pub pad_first : (channels len : ℕ) (ps : List (ℕ × At)) (n : ℕ) (frame : Samples) (x : List Samples)
@@ -226,13 +227,13 @@ pad_first channels len ps n frame x =
 pub length_from : (channels len : ℕ) (ps : List (ℕ × At)) (n : ℕ) (x : List Samples) → n + length x ≡ len → length (padded_from channels len ps n x) ≡ length x + silence_from (placed len ps) n
 length_from channels len ps n [] h =
     let e : n ≡ len = omega arith in
-    let last : silence_from (placed len ps) len ≡ sum_by (here len) (placed len ps) = behind-step len (placed len ps) ∙ ap (λ k. sum_by (here len) (placed len ps) + k) (none_behind len 0 ps (omega arith)) ∙ add-zero (sum_by (here len) (placed len ps)) in
+    let last : silence_from (placed len ps) len ≡ sum_by (here len) (placed len ps) = rest_unchanged-step len (placed len ps) ∙ ap (λ k. sum_by (here len) (placed len ps) + k) (none_after len 0 ps (omega arith)) ∙ add-zero (sum_by (here len) (placed len ps)) in
     length-replicate (silent_at (placed len ps) len) (silence channels) ∙ sym last ∙ ap (silence_from (placed len ps)) (sym e) ∙ sym (zero-add (silence_from (placed len ps) n))
 length_from channels len ps n (f ∷ x) h =
     let pads : List (ℕ × ℕ) = placed len ps in
-    let quiet : List Samples = replicate (silent_at pads n) (silence channels) in
+    let silence_here : List Samples = replicate (silent_at pads n) (silence channels) in
     let more : length (padded_from channels len ps (n + 1) x) ≡ length x + silence_from pads (n + 1) = length_from channels len ps (n + 1) x (omega arith) in
-    let whole : length (padded_from channels len ps n (f ∷ x)) ≡ length quiet + (1 + length (padded_from channels len ps (n + 1) x)) =
-    ap length (pad_first channels len ps n f x) ∙ length-append quiet (f ∷ padded_from channels len ps (n + 1) x) ∙ ap (λ k. length quiet + k) (let e : suc (length (padded_from channels len ps (n + 1) x)) ≡ 1 + length (padded_from channels len ps (n + 1) x) = omega arith in e) in
-    let size : length quiet ≡ sum_by (here n) pads = length-replicate (silent_at pads n) (silence channels) in
-    omega (arith, whole, size, more, behind-step n pads)
+    let whole : length (padded_from channels len ps n (f ∷ x)) ≡ length silence_here + (1 + length (padded_from channels len ps (n + 1) x)) =
+    ap length (pad_first channels len ps n f x) ∙ length-append silence_here (f ∷ padded_from channels len ps (n + 1) x) ∙ ap (λ k. length silence_here + k) (let e : suc (length (padded_from channels len ps (n + 1) x)) ≡ 1 + length (padded_from channels len ps (n + 1) x) = omega arith in e) in
+    let size : length silence_here ≡ sum_by (here n) pads = length-replicate (silent_at pads n) (silence channels) in
+    omega (arith, whole, size, more, rest_unchanged-step n pads)

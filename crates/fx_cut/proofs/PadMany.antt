@@ -4,16 +4,17 @@ use Rattle.std.proofs.lemmas.List.{nil_from_length}
 use Rattle.std.specs.Prelude.{Some, None, option_to_list}
 use Rattle.std.specs.List.{All}
 use Rattle.std.proofs.lemmas.List.Elements.{All-head, All-tail}
-use Rattle.fx_fixed.specs.Extents.{greatest, pad_distance}
+use Rattle.fx_fixed.specs.Extents.{largest}
+use Rattle.fx_cut.specs.PadExtents.{pad_distance}
 use Rattle.fx_fixed.specs.declared.positions.At.{At}
-use Rattle.fx_step.specs.declared.feed.Passing.TheVariants.{Through}
-use Rattle.fx_step.specs.Feed.{Fed, GaveNext, PassedOn, TookNext, TookWithRoom, nothing, taken, given}
-use Rattle.fx_step.specs.Frame.{Samples}
-use Rattle.fx_lists.specs.Lists.{pieces}
-use Rattle.fx_step.specs.Stage.{IsDry}
-use Rattle.fx_step.proofs.FedLaws.{Fed-then}
-use Rattle.fx_step.proofs.Rooms.{room-each}
-use Rattle.fx_lists.proofs.Pieces.{length-pieces}
+use Rattle.fx_frame_stage.specs.declared.feed.Passing.TheVariants.{Through}
+use Rattle.fx_frame_stage.specs.Feed.{Fed, GaveNext, PassedOn, TookNext, TookWithinCapacity, nothing, taken, given}
+use Rattle.fx_frame_stage.specs.Frame.{Samples}
+use Rattle.fx_frame_lists.specs.Lists.{pieces}
+use Rattle.fx_frame_stage.specs.Stage.{IsDry}
+use Rattle.fx_frame_stage.proofs.FedLaws.{Fed-then}
+use Rattle.fx_frame_stage.proofs.Capacities.{free-each}
+use Rattle.fx_frame_lists.proofs.Pieces.{length-pieces}
 use Rattle.fx_cut.specs.Pad.{pad_due, pads_from_start, silent_at}
 use Rattle.fx_cut.specs.PadState.{PadState, IsPad, pad_acts, pad_left}
 use Rattle.fx_cut.proofs.Fallen.{fallen, stays}
@@ -22,40 +23,40 @@ use Rattle.fx_cut.proofs.PadSteps.{Took-fallen, due-pad, left-fallen, reached}
 use Rattle.fx_frame.proofs.SamplePieces.{pieces-sides}
 
 -- where no silence stands before the next frames, one more is due for each
-pub due-quiet : (pads : List (ℕ × At)) (s n : ℕ) → greatest (map pad_distance pads) ≡ 0 → ((i : ℕ) → i < n → silent_at (pads_from_start pads) (s + i) ≡ 0) → pad_due pads (s + n) ≡ pad_due pads s + n
-due-quiet pads s zero no-ends quiet = ap (pad_due pads) (add-zero s) ∙ sym (add-zero (pad_due pads s))
-due-quiet pads s (suc n) no-ends quiet =
+pub due-silence_here : (pads : List (ℕ × At)) (s n : ℕ) → largest (map pad_distance pads) ≡ 0 → ((i : ℕ) → i < n → silent_at (pads_from_start pads) (s + i) ≡ 0) → pad_due pads (s + n) ≡ pad_due pads s + n
+due-silence_here pads s zero no-ends silence_here = ap (pad_due pads) (add-zero s) ∙ sym (add-zero (pad_due pads s))
+due-silence_here pads s (suc n) no-ends silence_here =
     let next : s + suc n - 0 ≡ s + n + 1 = omega arith in
     let last : s + n - 0 ≡ s + n = omega arith in
     let more = upto_more (s + n) (pads_from_start pads) in
-    let none = quiet n (omega arith) in
-    let before = due-quiet pads s n no-ends (λ i l. quiet i (omega arith)) in
+    let none = silence_here n (omega arith) in
+    let before = due-silence_here pads s n no-ends (λ i l. silence_here i (omega arith)) in
     let others = rw (no-ends, last) at before in
     rw (no-ends, next) (omega (arith, more, none, others))
 
 -- so many frames later, with no frame to give
 abbrev pub later : PadState → ℕ → PadState
-later s n = record s { hand = None; silent = 0; taken = s.taken + n; given = s.given + n }
+later s n = record s { pending = None; silent = 0; taken = s.taken + n; given = s.given + n }
 
 -- what a pad without a line meets before so many frames with no silence before them
-pub record Quiet (s : PadState) (n : ℕ) : Type 0 where
+pub record SilentHere (s : PadState) (n : ℕ) : Type 0 where
   pub is : IsPad s
   pub short : s.line.capacity ≡ 0
-  pub empty : s.hand ≡ None
+  pub empty : s.pending ≡ None
   pub none : s.silent ≡ 0
   pub running : s.ended ≡ false
-  pub quiet : (i : ℕ) → i < n → silent_at (pads_from_start s.recipe.pads) (s.taken + i) ≡ 0
-  pub few : s.taken + n ≤ 2 ^ 56
+  pub silence_here : (i : ℕ) → i < n → silent_at (pads_from_start s.recipe.pads) (s.taken + i) ≡ 0
+  pub bound : s.taken + n ≤ 2 ^ 56
 
-module _ (s : PadState) (n : ℕ) (x : Samples) (a : Quiet s (suc n)) where
+module _ (s : PadState) (n : ℕ) (x : Samples) (a : SilentHere s (suc n)) where
   no-line : s.line.items ≡ []
   no-line = let short = a.short in let full = a.is.full a.running in nil_from_length s.line.items (omega arith)
 
-  no-ends : greatest (map pad_distance s.recipe.pads) ≡ 0
+  no-ends : largest (map pad_distance s.recipe.pads) ≡ 0
   no-ends = sym a.is.capacity ∙ a.short
 
   here : silent_at (pads_from_start s.recipe.pads) s.taken ≡ 0
-  here = let q = a.quiet 0 (omega arith) in rw add-zero at q
+  here = let q = a.silence_here 0 (omega arith) in rw add-zero at q
 
   dry : pad_acts.dry s ≡ true
   dry = rw (a.empty, a.none) refl
@@ -82,11 +83,11 @@ module _ (s : PadState) (n : ℕ) (x : Samples) (a : Quiet s (suc n)) where
   pub is-next : IsPad (later s 1)
   is-next =
       let is = a.is in
-      let few = a.few in
+      let bound = a.bound in
       let short = a.short in
       let none = a.none in
       let lined : length s.line.items ≡ 0 = ap length no-line in
-      let hand : length (option_to_list s.hand) ≡ 0 = ap (λ h. length (option_to_list h)) a.empty in
+      let pending : length (option_to_list s.pending) ≡ 0 = ap (λ h. length (option_to_list h)) a.empty in
       let counted = is.counted a.running in
       let next = due in
       record {
@@ -94,7 +95,7 @@ module _ (s : PadState) (n : ℕ) (x : Samples) (a : Quiet s (suc n)) where
         channels = is.channels;
         capacity = is.capacity;
         pads = is.pads;
-        few = omega arith;
+        bound = omega arith;
         held = omega arith;
         within = λ z.
             let m = is.within (x ∷ z) in
@@ -109,15 +110,15 @@ module _ (s : PadState) (n : ℕ) (x : Samples) (a : Quiet s (suc n)) where
         fits = λ y e. absurd (cc);
       }
 
-  pub quiet-next : Quiet (later s 1) n
-  quiet-next = record {
+  pub silence_here-next : SilentHere (later s 1) n
+  silence_here-next = record {
     is = is-next;
     short = a.short;
     empty = refl;
     none = refl;
     running = a.running;
-    quiet = λ i h. let e : s.taken + (i + 1) ≡ s.taken + 1 + i = omega arith in let q = a.quiet (i + 1) (omega arith) in rw e at q;
-    few = let few = a.few in omega arith;
+    silence_here = λ i h. let e : s.taken + (i + 1) ≡ s.taken + 1 + i = omega arith in let q = a.silence_here (i + 1) (omega arith) in rw e at q;
+    bound = let bound = a.bound in omega arith;
   }
 
   -- it is taken, and given
@@ -143,7 +144,7 @@ module _ (s : PadState) (n : ℕ) (x : Samples) (a : Quiet s (suc n)) where
           gives = record { clips = 0; first = λ z. rw a.running refl; counted = refl };
           channels = sides;
           due = λ e. omega arith;
-          most = omega arith;
+          maximum = omega arith;
           recipe_stays = refl;
         };
         held = rw no-line (omega arith);
@@ -159,35 +160,35 @@ module _ (s : PadState) (n : ℕ) (x : Samples) (a : Quiet s (suc n)) where
       subst (λ (u : PadState). PassedOn pad_acts Through s u x x × IsPad u) (sym same) ((reached s s.line 0 (Some x), one-taken, one-given sides, refl), is-next)
 
 -- before the end, where it has nothing to give it has given what is due
-pub settled-pad : (s : PadState) → IsPad s → s.ended ≡ false → pad_acts.dry s ≡ true → IsDry pad_acts s
-settled-pad s is running dry =
+pub determined-pad : (s : PadState) → IsPad s → s.ended ≡ false → pad_acts.dry s ≡ true → IsDry pad_acts s
+determined-pad s is running dry =
     record { due = λ r. due-pad s is r dry; over = λ r. absurd (cc (r, running)) }
 
-pub quiet-fed : (xs : List Samples) (s : PadState) → Quiet s (length xs) → All (λ (x : Samples). length x ≡ s.recipe.channels) xs → Fed pad_acts s xs xs (later s (length xs)) × IsPad (later s (length xs))
-quiet-fed [] s a sides =
+pub silence_here-fed : (xs : List Samples) (s : PadState) → SilentHere s (length xs) → All (λ (x : Samples). length x ≡ s.recipe.channels) xs → Fed pad_acts s xs xs (later s (length xs)) × IsPad (later s (length xs))
+silence_here-fed [] s a sides =
     let same : ◌≡◌ {A = PadState} (later s 0) s = rw (add-zero s.taken, add-zero s.given, ← a.empty, ← a.none) refl in
     rw same (nothing, a.is)
-quiet-fed (x ∷ xs) s a sides =
+silence_here-fed (x ∷ xs) s a sides =
     let one = one-fed s (length xs) x a (All-head (λ (y : Samples). length y ≡ s.recipe.channels) x xs sides) in
-    let rest = quiet-fed xs (later s 1) (quiet-next s (length xs) x a) (All-tail (λ (y : Samples). length y ≡ s.recipe.channels) x xs sides) in
+    let rest = silence_here-fed xs (later s 1) (silence_here-next s (length xs) x a) (All-tail (λ (y : Samples). length y ≡ s.recipe.channels) x xs sides) in
     let count : s.taken + suc (length xs) ≡ s.taken + 1 + length xs = omega arith in
     let made : s.given + suc (length xs) ≡ s.given + 1 + length xs = omega arith in
     rw (count, made) (Fed-then pad_acts s (later s 1) (later (later s 1) (length xs)) (x ∷ []) (x ∷ []) xs xs one rest.0, rest.1)
 
 -- so many frames in front of the input
-pub quiet-passed : (s : PadState) (n : ℕ) (input out : List ℤ) → Quiet s n → n * s.recipe.channels ≤ length input → pieces s.recipe.channels n out ≡ pieces s.recipe.channels n input
+pub silence_here-passed : (s : PadState) (n : ℕ) (input out : List ℤ) → SilentHere s n → n * s.recipe.channels ≤ length input → pieces s.recipe.channels n out ≡ pieces s.recipe.channels n input
     → Fed pad_acts s (pieces s.recipe.channels n input) (pieces s.recipe.channels n out) (record s { taken = s.taken + n; given = s.given + n }) × IsPad (record s { taken = s.taken + n; given = s.given + n })
-quiet-passed s n input out a room same =
+silence_here-passed s n input out a free same =
     let ch : ℕ = s.recipe.channels in
     let many : length (pieces ch n input) ≡ n = length-pieces ch n input in
-    let all = quiet-fed (pieces ch n input) s (rw many a) (pieces-sides ch n input room) in
+    let all = silence_here-fed (pieces ch n input) s (rw many a) (pieces-sides ch n input free) in
     let last : ◌≡◌ {A = PadState} (record s { taken = s.taken + n; given = s.given + n }) (later s n) = rw (a.empty, a.none) refl in
     rw (last, same) (rw many at all)
 
 -- each of them was taken while the output had room for one more
-pub took-with-room : (s : PadState) (n room : ℕ) → Quiet s n → n * s.recipe.channels ≤ room → TookWithRoom pad_acts s n room
-took-with-room s n room a fits =
+pub took-with-free : (s : PadState) (n free : ℕ) → SilentHere s n → n * s.recipe.channels ≤ free → TookWithinCapacity pad_acts s n free
+took-with-free s n free a fits =
     let counted = a.is.counted a.running in
-    let hand : length (option_to_list s.hand) ≡ 0 = ap (λ h. length (option_to_list h)) a.empty in
+    let pending : length (option_to_list s.pending) ≡ 0 = ap (λ h. length (option_to_list h)) a.empty in
     let none = a.none in
-    room-each pad_acts s n room (λ i few. let due = due-quiet s.recipe.pads s.taken i (sym a.is.capacity ∙ a.short) (λ j h. a.quiet j (omega arith)) in omega (arith, due, counted, hand, none)) fits
+    free-each pad_acts s n free (λ i bound. let due = due-silence_here s.recipe.pads s.taken i (sym a.is.capacity ∙ a.short) (λ j h. a.silence_here j (omega arith)) in omega (arith, due, counted, pending, none)) fits

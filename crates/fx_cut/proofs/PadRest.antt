@@ -3,9 +3,10 @@ use Rattle.std.proofs.Common.{◌≡◌, ℕ, zero, suc, ◌+◌, ◌-◌, ◌<�
 use Rattle.std.specs.Prelude.{flat_map, slice_get, option_to_list, replicate, Option, Some, None}
 use Rattle.std.specs.List.{range_with_len, enumerate_from}
 use mathlib.Core.Path.{ap₂}
-use Rattle.fx_fixed.specs.Extents.{greatest, pad_distance}
+use Rattle.fx_fixed.specs.Extents.{largest}
+use Rattle.fx_cut.specs.PadExtents.{pad_distance}
 use Rattle.fx_fixed.specs.declared.positions.At.{At}
-use Rattle.fx_step.specs.Frame.{Samples, silence}
+use Rattle.fx_frame_stage.specs.Frame.{Samples, silence}
 use Rattle.fx_cut.specs.Pad.{PadArguments, ats, placed, silent_at, padded, pads_from_start, RisesFrom}
 use Rattle.fx_cut.specs.PadState.{padded_from, pad_rest, pad_after, unless_last}
 use Rattle.fx_cut.proofs.PadLaws.{pad_first, same_silence}
@@ -37,7 +38,7 @@ pad_new channels ps z =
 pub pad_taken : (channels : ℕ) (ps : List (ℕ × At)) (n : ℕ) (items : List Samples) (frame : Samples) (z : List Samples) → pad_rest channels ps n items (frame ∷ z) ≡ pad_rest channels ps n (items ++ frame ∷ []) z
 pad_taken channels ps n items frame z = ap (λ y. padded_from channels (n + length y) ps n y) (sym (append_assoc items (frame ∷ []) z))
 
-pub pad_let_go : (channels : ℕ) (ps : List (ℕ × At)) (n : ℕ) (o : Samples) (items z : List Samples) → RisesFrom 0 (ats ps) → greatest (map pad_distance ps) ≤ length items
+pub pad_let_go : (channels : ℕ) (ps : List (ℕ × At)) (n : ℕ) (o : Samples) (items z : List Samples) → RisesFrom 0 (ats ps) → largest (map pad_distance ps) ≤ length items
     → pad_rest channels ps n (o ∷ items) z ≡ replicate (silent_at (pads_from_start ps) n) (silence channels) ++ (o ∷ pad_rest channels ps (n + 1) items z)
 pad_let_go channels ps n o items z r h =
     let len : ℕ = n + length (o ∷ (items ++ z)) in
@@ -46,8 +47,8 @@ pad_let_go channels ps n o items z r h =
     ∙ ap₂ (λ k l. replicate k (silence channels) ++ (o ∷ padded_from channels l ps (n + 1) (items ++ z))) (same_silence len n 0 ps (omega (arith, length-append items z)) r) e
 
 -- after the end: the silence before the oldest frame of the line, and that frame; or the last silence
-pub pad_drained : (r : PadArguments) (frames : ℕ) (items items' : List Samples) (hand : Option Samples) → hand ≡ slice_get items 0 → items' ≡ drop 1 items → length items ≤ frames
-    → pad_after r frames items [] ≡ replicate (silent_at (placed frames r.pads) (frames - length items)) (silence r.channels) ++ (option_to_list hand ++ unless_last true hand (pad_after r frames items' []))
+pub pad_drained : (r : PadArguments) (frames : ℕ) (items items' : List Samples) (pending : Option Samples) → pending ≡ slice_get items 0 → items' ≡ drop 1 items → length items ≤ frames
+    → pad_after r frames items [] ≡ replicate (silent_at (placed frames r.pads) (frames - length items)) (silence r.channels) ++ (option_to_list pending ++ unless_last true pending (pad_after r frames items' []))
 pad_drained r frames [] items' None e e' h =
     let z : frames - 0 + 0 ≡ frames = omega arith in
     let n : frames - 0 ≡ frames = omega arith in

@@ -5,71 +5,72 @@ use Rattle.std.specs.Int.{w32}
 use Rattle.std.proofs.lemmas.Bool.{false≢true, and_parts, cases_lt, eqb-true}
 use Rattle.std.proofs.lemmas.List.{length-replicate}
 use mathlib.Core.Path.{ap₂}
-use Rattle.fx_fixed.specs.Extents.{greatest, pad_distance}
+use Rattle.fx_fixed.specs.Extents.{largest}
+use Rattle.fx_cut.specs.PadExtents.{pad_distance}
 use Rattle.fx_fixed.specs.declared.positions.At.{At}
-use Rattle.fx_step.specs.Frame.{Samples, silence}
-use Rattle.fx_step.specs.Hand.{IsHand}
-use Rattle.fx_ring.specs.Line.{Frames, IsLine}
-use Rattle.fx_step.specs.Stage.{Gave, Took, Ended, coming}
-use Rattle.fx_step.specs.Given.{plain}
+use Rattle.fx_frame_stage.specs.Frame.{Samples, silence}
+use Rattle.fx_frame_stage.specs.PendingFrame.{IsPending}
+use Rattle.fx_frame_line.specs.Line.{Frames, IsLine}
+use Rattle.fx_frame_stage.specs.Stage.{Gave, Took, Ended, coming}
+use Rattle.fx_frame_stage.specs.Given.{plain}
 use Rattle.fx_cut.specs.Pad.{PadArguments, IsPads, lengths, pad_due, padded, pads_from_start, placed, silent_at}
 use Rattle.fx_cut.specs.PadState.{PadState, IsPad, all_padded, pad_acts, pad_after, pad_left, pad_rest, padded_from, silence_from, unless_last}
-use Rattle.fx_cut.proofs.Fallen.{fallen, stays, no_fall, stays-room, is_full, oldest-first}
-use Rattle.fx_cut.proofs.Hands.{none_of}
-use Rattle.fx_cut.proofs.PadLaws.{upto_more, length_from, length_padded, none-due, silence-few, silence-parts}
+use Rattle.fx_cut.proofs.Fallen.{fallen, stays, no_fall, stays-free, is_full, oldest-first}
+use Rattle.fx_cut.proofs.PendingLemmas.{none_of}
+use Rattle.fx_cut.proofs.PadLaws.{upto_more, length_from, length_padded, none-due, silence-bound, silence-parts}
 use Rattle.fx_cut.proofs.PadRest.{pad_new, pad_taken, pad_let_go, pad_drained}
 use Rattle.fx_frame.proofs.DryLaws.{dry-tail}
 
 -- where it is dry nothing is in hand, and no silence is to be given
-pub dry-hand : (hand : Option Samples) (silent : ℕ) → (is_none hand && nat_eq silent 0) ≡ true → (hand ≡ None) × (silent ≡ 0)
-dry-hand hand silent h =
-    let p = and_parts (is_none hand) (nat_eq silent 0) h in
-    (none_of hand p.0, eqb-true silent 0 p.1)
+pub dry-pending : (pending : Option Samples) (silent : ℕ) → (is_none pending && nat_eq silent 0) ≡ true → (pending ≡ None) × (silent ≡ 0)
+dry-pending pending silent h =
+    let p = and_parts (is_none pending) (nat_eq silent 0) h in
+    (none_of pending p.0, eqb-true silent 0 p.1)
 
 -- the frame that the line lets go, and the others
-popped-length : (items items' : List Samples) (hand : Option Samples) → hand ≡ slice_get items 0 → items' ≡ drop 1 items → length items' + length (option_to_list hand) ≡ length items
-popped-length [] items' hand e e' = rw (e, e') refl
-popped-length (x ∷ items) items' hand e e' = rw (e, e') (omega arith)
+popped-length : (items items' : List Samples) (pending : Option Samples) → pending ≡ slice_get items 0 → items' ≡ drop 1 items → length items' + length (option_to_list pending) ≡ length items
+popped-length [] items' pending e e' = rw (e, e') refl
+popped-length (x ∷ items) items' pending e e' = rw (e, e') (omega arith)
 
-popped-none : (items items' : List Samples) (hand : Option Samples) → hand ≡ slice_get items 0 → items' ≡ drop 1 items → hand ≡ None → items' ≡ []
-popped-none [] items' hand e e' none = e'
-popped-none (x ∷ items) items' hand e e' none = absurd (cc)
+popped-none : (items items' : List Samples) (pending : Option Samples) → pending ≡ slice_get items 0 → items' ≡ drop 1 items → pending ≡ None → items' ≡ []
+popped-none [] items' pending e e' none = e'
+popped-none (x ∷ items) items' pending e e' none = absurd (cc)
 
 -- what is to be given where it is dry, before the end
 left-now : (s : PadState) → pad_acts.dry s ≡ true → s.ended ≡ false → (z : List Samples) → pad_left s z ≡ pad_after s.recipe s.taken s.line.items z
 left-now s dry running z =
-    let d = dry-hand s.hand s.silent dry in
+    let d = dry-pending s.pending s.silent dry in
     rw (d.0, d.1, running) refl
 
 -- before the end, where it has nothing to give it has given what is due
 pub due-pad : (s : PadState) → IsPad s → s.ended ≡ false → pad_acts.dry s ≡ true → s.given ≡ pad_due s.recipe.pads s.taken
 due-pad s is running dry =
-    let d = dry-hand s.hand s.silent dry in
-    let empty : length (option_to_list s.hand) ≡ 0 = ap (λ h. length (option_to_list h)) d.0 in
+    let d = dry-pending s.pending s.silent dry in
+    let empty : length (option_to_list s.pending) ≡ 0 = ap (λ h. length (option_to_list h)) d.0 in
     let none = d.1 in
     let counted = is.counted running in
     omega (arith, counted, empty, none)
 
 -- the state after a frame came
 abbrev pub reached : PadState → Frames ℤ → ℕ → Option Samples → PadState
-reached s line silent hand = record s { line = line; silent = silent; hand = hand; taken = s.taken + 1 }
+reached s line silent pending = record s { line = line; silent = silent; pending = pending; taken = s.taken + 1 }
 
 module _ (s : PadState) (frame : Samples) (is : IsPad s) (dry : pad_acts.dry s ≡ true) (running : s.ended ≡ false) where
-  none : s.hand ≡ None
-  none = (dry-hand s.hand s.silent dry).0
+  none : s.pending ≡ None
+  none = (dry-pending s.pending s.silent dry).0
 
-  quiet : s.silent ≡ 0
-  quiet = (dry-hand s.hand s.silent dry).1
+  silence_here : s.silent ≡ 0
+  silence_here = (dry-pending s.pending s.silent dry).1
 
   -- it stays in the line
   left-inside : (line : Frames ℤ) → None ≡ fallen s.line.capacity s.line.items frame → line.items ≡ stays s.line.capacity s.line.items frame → (z : List Samples)
-      → pad_left (reached s line s.silent s.hand) z ≡ pad_left s (frame ∷ z)
+      → pad_left (reached s line s.silent s.pending) z ≡ pad_left s (frame ∷ z)
   left-inside line e items z =
       let l = no_fall _ _ _ e in
-      let i : line.items ≡ s.line.items ++ frame ∷ [] = items ∙ stays-room _ _ _ l in
+      let i : line.items ≡ s.line.items ++ frame ∷ [] = items ∙ stays-free _ _ _ l in
       let h = is.held in
       let n : s.taken + 1 - length (s.line.items ++ frame ∷ []) ≡ s.taken - length s.line.items = omega (arith, length-append s.line.items (frame ∷ [])) in
-      rw (none, quiet, running, i, n) (sym (pad_taken s.recipe.channels s.recipe.pads (s.taken - length s.line.items) s.line.items frame z))
+      rw (none, silence_here, running, i, n) (sym (pad_taken s.recipe.channels s.recipe.pads (s.taken - length s.line.items) s.line.items frame z))
 
   -- the oldest falls out
   pub left-fallen : (line : Frames ℤ) (o : Samples) (silent : ℕ) → Some o ≡ fallen s.line.capacity s.line.items frame → line.items ≡ stays s.line.capacity s.line.items frame
@@ -82,15 +83,15 @@ module _ (s : PadState) (frame : Samples) (is : IsPad s) (dry : pad_acts.dry s �
       let cap = is.capacity in
       let h = is.held in
       let long : length line.items ≡ length s.line.items = omega (arith, ap length split, length-append s.line.items (frame ∷ [])) in
-      let ends : greatest (map pad_distance s.recipe.pads) ≤ length line.items = omega arith in
+      let ends : largest (map pad_distance s.recipe.pads) ≤ length line.items = omega arith in
       let n : ℕ = s.taken - length s.line.items in
       let next : s.taken + 1 - length line.items ≡ n + 1 = omega arith in
-      rw (none, quiet, running, k, next) (sym (
+      rw (none, silence_here, running, k, next) (sym (
       pad_taken s.recipe.channels s.recipe.pads n s.line.items frame z
       ∙ ap (λ l. pad_rest s.recipe.channels s.recipe.pads n l z) split
       ∙ pad_let_go s.recipe.channels s.recipe.pads n o line.items z is.pads.rising ends))
 
-  pub Took-inside : (line : Frames ℤ) → None ≡ fallen s.line.capacity s.line.items frame → line.items ≡ stays s.line.capacity s.line.items frame → Took pad_acts s (reached s line s.silent s.hand) frame
+  pub Took-inside : (line : Frames ℤ) → None ≡ fallen s.line.capacity s.line.items frame → line.items ≡ stays s.line.capacity s.line.items frame → Took pad_acts s (reached s line s.silent s.pending) frame
   Took-inside line e items = record { rest = λ z. ap (map plain) (left-inside line e items z); counted = refl; recipe_stays = refl }
 
   pub Took-fallen : (line : Frames ℤ) (o : Samples) (silent : ℕ) → Some o ≡ fallen s.line.capacity s.line.items frame → line.items ≡ stays s.line.capacity s.line.items frame
@@ -98,23 +99,23 @@ module _ (s : PadState) (frame : Samples) (is : IsPad s) (dry : pad_acts.dry s �
   Took-fallen line o silent e items k = record { rest = λ z. ap (map plain) (left-fallen line o silent e items k z); counted = refl; recipe_stays = refl }
 
   pub IsPad-inside : (line : Frames ℤ) → None ≡ fallen s.line.capacity s.line.items frame → line.items ≡ stays s.line.capacity s.line.items frame
-      → IsLine w32 line → line.capacity ≡ s.line.capacity → line.channels ≡ s.line.channels → s.taken < 2 ^ 56 → IsPad (reached s line s.silent s.hand)
+      → IsLine w32 line → line.capacity ≡ s.line.capacity → line.channels ≡ s.line.channels → s.taken < 2 ^ 56 → IsPad (reached s line s.silent s.pending)
   IsPad-inside line e items lined capacity channels below =
       let l = no_fall _ _ _ e in
-      let i : line.items ≡ s.line.items ++ frame ∷ [] = items ∙ stays-room _ _ _ l in
+      let i : line.items ≡ s.line.items ++ frame ∷ [] = items ∙ stays-free _ _ _ l in
       let long : length line.items ≡ length s.line.items + 1 = ap length i ∙ length-append s.line.items (frame ∷ []) in
       let w = is.held in
       let f = is.full running in
       let cap = is.capacity in
-      let early : s.taken + 1 - greatest (map pad_distance s.recipe.pads) ≡ s.taken - greatest (map pad_distance s.recipe.pads) = omega arith in
+      let early : s.taken + 1 - largest (map pad_distance s.recipe.pads) ≡ s.taken - largest (map pad_distance s.recipe.pads) = omega arith in
       record {
         line = lined;
         channels = channels ∙ is.channels;
         capacity = capacity ∙ is.capacity;
         pads = is.pads;
-        few = omega arith;
+        bound = omega arith;
         held = omega arith;
-        within = λ z. let m = is.within (frame ∷ z) in let n : length (pad_left (reached s line s.silent s.hand) z) ≡ length (pad_left s (frame ∷ z)) = ap length (left-inside line e items z) in omega arith;
+        within = λ z. let m = is.within (frame ∷ z) in let n : length (pad_left (reached s line s.silent s.pending) z) ≡ length (pad_left s (frame ∷ z)) = ap length (left-inside line e items z) in omega arith;
         full = λ r. rw capacity (omega arith);
         counted = λ r. rw early (is.counted running);
         over = λ r. absurd (cc (r, running));
@@ -124,7 +125,7 @@ module _ (s : PadState) (frame : Samples) (is : IsPad s) (dry : pad_acts.dry s �
 
   pub IsPad-fallen : (line : Frames ℤ) (o : Samples) (silent : ℕ) → Some o ≡ fallen s.line.capacity s.line.items frame → line.items ≡ stays s.line.capacity s.line.items frame
       → IsLine w32 line → line.capacity ≡ s.line.capacity → line.channels ≡ s.line.channels → s.taken < 2 ^ 56
-      → silent ≡ silent_at (pads_from_start s.recipe.pads) (s.taken - length s.line.items) → IsHand s.recipe.channels (Some o) → IsPad (reached s line silent (Some o))
+      → silent ≡ silent_at (pads_from_start s.recipe.pads) (s.taken - length s.line.items) → IsPending s.recipe.channels (Some o) → IsPad (reached s line silent (Some o))
   IsPad-fallen line o silent e items lined capacity channels below k fits =
       let within : length s.line.items ≤ s.line.capacity = is.line.within in
       let split : s.line.items ++ frame ∷ [] ≡ o ∷ line.items = oldest-first _ _ _ _ e within ∙ ap (λ l. o ∷ l) (sym items) in
@@ -133,11 +134,11 @@ module _ (s : PadState) (frame : Samples) (is : IsPad s) (dry : pad_acts.dry s �
       let w = is.held in
       let f = is.full running in
       let cap = is.capacity in
-      let n : ℕ = s.taken - greatest (map pad_distance s.recipe.pads) in
+      let n : ℕ = s.taken - largest (map pad_distance s.recipe.pads) in
       let same : s.taken - length s.line.items ≡ n = omega arith in
-      let next : s.taken + 1 - greatest (map pad_distance s.recipe.pads) ≡ n + 1 = omega arith in
-      let empty : length (option_to_list s.hand) ≡ 0 = ap (λ h. length (option_to_list h)) none in
-      let nothing : s.silent ≡ 0 = quiet in
+      let next : s.taken + 1 - largest (map pad_distance s.recipe.pads) ≡ n + 1 = omega arith in
+      let empty : length (option_to_list s.pending) ≡ 0 = ap (λ h. length (option_to_list h)) none in
+      let nothing : s.silent ≡ 0 = silence_here in
       let counted = is.counted running in
       let k' : silent ≡ silent_at (pads_from_start s.recipe.pads) n = rw same at k in
       let more = upto_more n (pads_from_start s.recipe.pads) in
@@ -146,7 +147,7 @@ module _ (s : PadState) (frame : Samples) (is : IsPad s) (dry : pad_acts.dry s �
         channels = channels ∙ is.channels;
         capacity = capacity ∙ is.capacity;
         pads = is.pads;
-        few = omega arith;
+        bound = omega arith;
         held = omega arith;
         within = λ z. let m = is.within (frame ∷ z) in let n : length (pad_left (reached s line silent (Some o)) z) ≡ length (pad_left s (frame ∷ z)) = ap length (left-fallen line o silent e items k z) in omega arith;
         full = λ r. rw capacity (omega arith);
@@ -159,48 +160,48 @@ module _ (s : PadState) (frame : Samples) (is : IsPad s) (dry : pad_acts.dry s �
 -- ---- after the end
 
 -- what is to be given after the end
-left-ended : (r : PadArguments) (silent : ℕ) (hand : Option Samples) (taken : ℕ) (items : List Samples) (ended : Bool) (z : List Samples) → ended ≡ true
-    → replicate silent (silence r.channels) ++ (option_to_list hand ++ unless_last ended hand (pad_after r taken items (coming ended z)))
-    ≡ replicate silent (silence r.channels) ++ (option_to_list hand ++ unless_last true hand (pad_after r taken items []))
-left-ended r silent hand taken items false z e = absurd (false≢true e)
-left-ended r silent hand taken items true z e = refl
+left-ended : (r : PadArguments) (silent : ℕ) (pending : Option Samples) (taken : ℕ) (items : List Samples) (ended : Bool) (z : List Samples) → ended ≡ true
+    → replicate silent (silence r.channels) ++ (option_to_list pending ++ unless_last ended pending (pad_after r taken items (coming ended z)))
+    ≡ replicate silent (silence r.channels) ++ (option_to_list pending ++ unless_last true pending (pad_after r taken items []))
+left-ended r silent pending taken items false z e = absurd (false≢true e)
+left-ended r silent pending taken items true z e = refl
 
 -- the state after the oldest frame was taken out of the line, behind its silence
 abbrev pub drawn : PadState → Frames ℤ → ℕ → Option Samples → ℕ → Bool → PadState
-drawn s line silent hand given ended = record s { line = line; silent = silent; hand = hand; given = given; ended = ended }
+drawn s line silent pending given ended = record s { line = line; silent = silent; pending = pending; given = given; ended = ended }
 
-module _ (s : PadState) (line : Frames ℤ) (silent : ℕ) (hand : Option Samples) (given : ℕ) (ended : Bool) (is : IsPad s) (over : ended ≡ true)
-    (oldest : hand ≡ slice_get s.line.items 0) (items : line.items ≡ drop 1 s.line.items) (quiet : silent ≡ silent_at (placed s.taken s.recipe.pads) (s.taken - length s.line.items)) where
-  left-drawn : (z : List Samples) → pad_left (drawn s line silent hand given ended) z ≡ pad_after s.recipe s.taken s.line.items []
+module _ (s : PadState) (line : Frames ℤ) (silent : ℕ) (pending : Option Samples) (given : ℕ) (ended : Bool) (is : IsPad s) (over : ended ≡ true)
+    (oldest : pending ≡ slice_get s.line.items 0) (items : line.items ≡ drop 1 s.line.items) (silence_here : silent ≡ silent_at (placed s.taken s.recipe.pads) (s.taken - length s.line.items)) where
+  left-drawn : (z : List Samples) → pad_left (drawn s line silent pending given ended) z ≡ pad_after s.recipe s.taken s.line.items []
   left-drawn z =
       let h : length s.line.items ≤ s.taken = let w = is.held in omega arith in
-      left-ended s.recipe silent hand s.taken line.items ended z over
-      ∙ ap (λ k. replicate k (silence s.recipe.channels) ++ (option_to_list hand ++ unless_last true hand (pad_after s.recipe s.taken line.items []))) quiet
-      ∙ sym (pad_drained s.recipe s.taken s.line.items line.items hand oldest items h)
+      left-ended s.recipe silent pending s.taken line.items ended z over
+      ∙ ap (λ k. replicate k (silence s.recipe.channels) ++ (option_to_list pending ++ unless_last true pending (pad_after s.recipe s.taken line.items []))) silence_here
+      ∙ sym (pad_drained s.recipe s.taken s.line.items line.items pending oldest items h)
 
-  pub IsPad-drawn : IsLine w32 line → line.capacity ≡ s.line.capacity → line.channels ≡ s.line.channels → IsHand s.recipe.channels hand
-      → given + length (pad_after s.recipe s.taken s.line.items []) ≡ all_padded s.recipe.pads s.taken → IsPad (drawn s line silent hand given ended)
+  pub IsPad-drawn : IsLine w32 line → line.capacity ≡ s.line.capacity → line.channels ≡ s.line.channels → IsPending s.recipe.channels pending
+      → given + length (pad_after s.recipe s.taken s.line.items []) ≡ all_padded s.recipe.pads s.taken → IsPad (drawn s line silent pending given ended)
   IsPad-drawn lined capacity channels fits all =
       let held = is.held in
-      let few = silence-few s.taken s.recipe.pads in
-      let popped = popped-length s.line.items line.items hand oldest items in
+      let bound = silence-bound s.taken s.recipe.pads in
+      let popped = popped-length s.line.items line.items pending oldest items in
       record {
         line = lined;
         channels = channels ∙ is.channels;
         capacity = capacity ∙ is.capacity;
         pads = is.pads;
-        few = is.few;
+        bound = is.bound;
         held = omega arith;
-        within = λ z. let n : length (pad_left (drawn s line silent hand given ended) z) ≡ length (pad_after s.recipe s.taken s.line.items []) = ap length (left-drawn z) in omega (arith, n, all, few);
+        within = λ z. let n : length (pad_left (drawn s line silent pending given ended) z) ≡ length (pad_after s.recipe s.taken s.line.items []) = ap length (left-drawn z) in omega (arith, n, all, bound);
         full = λ r. absurd (cc (r, over));
         counted = λ r. absurd (cc (r, over));
-        over = λ e none. popped-none s.line.items line.items hand oldest items none;
+        over = λ e none. popped-none s.line.items line.items pending oldest items none;
         gone = λ e. ap (λ l. given + length l) (left-drawn []) ∙ all;
         fits = fits;
       }
 
   -- the end came
-  pub Ended-pad : pad_acts.dry s ≡ true → s.ended ≡ false → given ≡ s.given → Ended pad_acts s (drawn s line silent hand given ended)
+  pub Ended-pad : pad_acts.dry s ≡ true → s.ended ≡ false → given ≡ s.given → Ended pad_acts s (drawn s line silent pending given ended)
   Ended-pad dry running same =
       record {
         rest = λ z. ap (map plain) (left-drawn z ∙ sym (left-now s dry running []));
@@ -209,20 +210,20 @@ module _ (s : PadState) (line : Frames ℤ) (silent : ℕ) (hand : Option Sample
       }
 
   -- the frame in hand was given
-  pub Gave-drawn : (frame : Samples) → s.hand ≡ Some frame → s.silent ≡ 0 → s.ended ≡ true → given ≡ s.given + 1 → ended ≡ s.ended → Gave pad_acts s (drawn s line silent hand given ended) frame
-  Gave-drawn frame e none was same still =
-      let first : (z : List Samples) → pad_left s z ≡ frame ∷ pad_left (drawn s line silent hand given ended) z = λ z.
-      left-ended s.recipe s.silent s.hand s.taken s.line.items s.ended z was
+  pub Gave-drawn : (frame : Samples) → s.pending ≡ Some frame → s.silent ≡ 0 → s.ended ≡ true → given ≡ s.given + 1 → ended ≡ s.ended → Gave pad_acts s (drawn s line silent pending given ended) frame
+  Gave-drawn frame e none was same unchanged =
+      let first : (z : List Samples) → pad_left s z ≡ frame ∷ pad_left (drawn s line silent pending given ended) z = λ z.
+      left-ended s.recipe s.silent s.pending s.taken s.line.items s.ended z was
       ∙ ap₂ (λ k o. replicate k (silence s.recipe.channels) ++ (option_to_list o ++ unless_last true o (pad_after s.recipe s.taken s.line.items []))) none e
       ∙ ap (λ l. frame ∷ l) (sym (left-drawn z)) in
-      let long : length (pad_left s []) ≡ suc (length (pad_left (drawn s line silent hand given ended) [])) = ap length (first []) in
+      let long : length (pad_left s []) ≡ suc (length (pad_left (drawn s line silent pending given ended) [])) = ap length (first []) in
       let within : s.given + length (pad_left s []) ≤ s.taken + 0 + lengths s.recipe.pads = is.within [] in
       record {
         was_wet = ap (λ o. is_none o && nat_eq s.silent 0) e;
-        gives = record { clips = 0; first = λ z. ap (map plain) (first z); counted = rw (same, still) refl };
+        gives = record { clips = 0; first = λ z. ap (map plain) (first z); counted = rw (same, unchanged) refl };
         channels = (is.fits frame e).1;
         due = λ running. absurd (cc (running, was));
-        most = omega arith;
+        maximum = omega arith;
         recipe_stays = refl;
       }
 
@@ -232,13 +233,13 @@ left-dry s is dry running =
     let ps : List (ℕ × At) = s.recipe.pads in
     let items : List Samples = s.line.items in
     let m : ℕ = s.taken - length items in
-    let nothing = dry-hand s.hand s.silent dry in
-    let hands : length (option_to_list s.hand) ≡ 0 = ap (λ h. length (option_to_list h)) nothing.0 in
+    let nothing = dry-pending s.pending s.silent dry in
+    let pending_count : length (option_to_list s.pending) ≡ 0 = ap (λ h. length (option_to_list h)) nothing.0 in
     let full = is.full running in
     let reach = is.capacity in
-    let place : s.taken - greatest (map pad_distance ps) ≡ m = omega arith in
-    let counted : s.given + s.silent + length (option_to_list s.hand) ≡ m + sum_by (λ p. p.0) (filter (λ p. nat_lt p.1 m) (pads_from_start ps)) = is.counted running ∙ ap (λ n. n + sum_by (λ p. p.0) (filter (λ p. nat_lt p.1 n) (pads_from_start ps))) place in
-    let far : (m ≡ 0) ⊎ (m + greatest (map pad_distance ps) ≤ s.taken) = apart (cases_lt (greatest (map pad_distance ps)) s.taken) in
+    let place : s.taken - largest (map pad_distance ps) ≡ m = omega arith in
+    let counted : s.given + s.silent + length (option_to_list s.pending) ≡ m + sum_by (λ p. p.0) (filter (λ p. nat_lt p.1 m) (pads_from_start ps)) = is.counted running ∙ ap (λ n. n + sum_by (λ p. p.0) (filter (λ p. nat_lt p.1 n) (pads_from_start ps))) place in
+    let far : (m ≡ 0) ⊎ (m + largest (map pad_distance ps) ≤ s.taken) = apart (cases_lt (largest (map pad_distance ps)) s.taken) in
     let parts = silence-parts s.taken ps m is.pads.rising far in
     let nil : items ++ [] ≡ items = append-nil items in
     let whole : m + length items ≡ s.taken = omega arith in
@@ -246,17 +247,17 @@ left-dry s is dry running =
     ap (λ l. length (padded_from s.recipe.channels (m + length l) ps m l)) nil
     ∙ ap (λ t. length (padded_from s.recipe.channels t ps m items)) whole
     ∙ length_from s.recipe.channels s.taken ps m items whole in
-    omega (arith, nothing.1, hands, counted, parts, later, whole)
+    omega (arith, nothing.1, pending_count, counted, parts, later, whole)
   where
-    apart : (greatest (map pad_distance s.recipe.pads) < s.taken) ⊎ (s.taken ≤ greatest (map pad_distance s.recipe.pads)) → (s.taken - length s.line.items ≡ 0) ⊎ (s.taken - length s.line.items + greatest (map pad_distance s.recipe.pads) ≤ s.taken)
+    apart : (largest (map pad_distance s.recipe.pads) < s.taken) ⊎ (s.taken ≤ largest (map pad_distance s.recipe.pads)) → (s.taken - length s.line.items ≡ 0) ⊎ (s.taken - length s.line.items + largest (map pad_distance s.recipe.pads) ≤ s.taken)
     apart (inl l) = let full = is.full running in let reach = is.capacity in inr (omega (arith, l, full, reach))
     apart (inr g) = let full = is.full running in let reach = is.capacity in inl (omega (arith, g, full, reach))
 
 -- what is left when the frame in hand was given after the end
-pub left-given : (s : PadState) (frame : Samples) → IsPad s → s.hand ≡ Some frame → s.silent ≡ 0 → s.ended ≡ true → s.given + 1 + length (pad_after s.recipe s.taken s.line.items []) ≡ all_padded s.recipe.pads s.taken
+pub left-given : (s : PadState) (frame : Samples) → IsPad s → s.pending ≡ Some frame → s.silent ≡ 0 → s.ended ≡ true → s.given + 1 + length (pad_after s.recipe s.taken s.line.items []) ≡ all_padded s.recipe.pads s.taken
 left-given s frame is e none was =
     let first : pad_left s [] ≡ frame ∷ pad_after s.recipe s.taken s.line.items [] =
-    left-ended s.recipe s.silent s.hand s.taken s.line.items s.ended [] was
+    left-ended s.recipe s.silent s.pending s.taken s.line.items s.ended [] was
     ∙ ap₂ (λ k o. replicate k (silence s.recipe.channels) ++ (option_to_list o ++ unless_last true o (pad_after s.recipe s.taken s.line.items []))) none e in
     let long : length (pad_left s []) ≡ suc (length (pad_after s.recipe s.taken s.line.items [])) = ap length first in
     let gone : s.given + length (pad_left s []) ≡ all_padded s.recipe.pads s.taken = is.gone was in
@@ -274,17 +275,17 @@ Gave-silence s is some =
     let long : length (pad_left s []) ≡ suc (length (pad_left (record s { silent = s.silent - 1; given = s.given + 1 }) [])) = ap length (first []) in
     let within : s.given + length (pad_left s []) ≤ s.taken + 0 + lengths s.recipe.pads = is.within [] in
     record {
-      was_wet = dry-tail s.hand s.silent some;
+      was_wet = dry-tail s.pending s.silent some;
       gives = record { clips = 0; first = λ z. ap (map plain) (first z); counted = refl };
       channels = length-replicate _ _;
       due = λ running. let k = is.counted running in omega arith;
-      most = omega arith;
+      maximum = omega arith;
       recipe_stays = refl;
     }
 
 -- a new stage
-pub IsPad-new : (r : PadArguments) (line : Frames ℤ) → IsLine w32 line → line.items ≡ [] → line.channels ≡ r.channels → line.capacity ≡ greatest (map pad_distance r.pads) → IsPads r.pads
-    → IsPad (record { hand = None; recipe = r; silent = 0; line = line; taken = 0; given = 0; ended = false })
+pub IsPad-new : (r : PadArguments) (line : Frames ℤ) → IsLine w32 line → line.items ≡ [] → line.channels ≡ r.channels → line.capacity ≡ largest (map pad_distance r.pads) → IsPads r.pads
+    → IsPad (record { pending = None; recipe = r; silent = 0; line = line; taken = 0; given = 0; ended = false })
 IsPad-new r line lined items channels capacity pads =
     let empty : length line.items ≡ 0 = ap length items in
     record {
@@ -292,12 +293,12 @@ IsPad-new r line lined items channels capacity pads =
       channels = channels;
       capacity = capacity;
       pads = pads;
-      few = omega arith;
+      bound = omega arith;
       held = omega arith;
       within = λ z.
           let e : pad_after r 0 line.items z ≡ pad_rest r.channels r.pads 0 [] z = ap (λ l. pad_after r 0 l z) items in
           let n : length (pad_after r 0 line.items z) ≡ length (padded r.channels r.pads z) = ap length (e ∙ sym (pad_new r.channels r.pads z)) in
-          let most = length_padded r.channels r.pads z in
+          let maximum = length_padded r.channels r.pads z in
           omega arith;
       full = λ e. omega arith;
       counted = λ e. sym (none-due r.pads);

@@ -5,14 +5,14 @@ use Rattle.std.specs.List.{All}
 use Rattle.std.proofs.lemmas.List.Elements.{All-append, All-head, All-nil, All-tail}
 use Rattle.std.proofs.lemmas.List.{drop-drop, drop_at, length-take, length-take-le, nil_from_length, take-take, take-append-drop}
 use Rattle.std.proofs.Math.Nat.{add-mul, div-mul-le_self, mul-le-mul_right, suc-mul, mul-le-mul_left, le_of_mul-le-mul_right}
-use Rattle.fx_step.specs.Feed.{Fed, TookWithRoom}
-use Rattle.fx_lists.specs.Lists.{pieces}
-use Rattle.fx_step.specs.Stage.{Acts, kind, spent}
-use Rattle.fx_step.proofs.FedLaws.{Fed-gives}
-use Rattle.fx_step.proofs.FeedParts.{Fed-behind}
-use Rattle.fx_step.proofs.Rooms.{room-then}
-use Rattle.fx_lists.proofs.Puts.{part-from, pieces-same, put-from}
-use Rattle.fx_lists.proofs.Pieces.{length-pieces}
+use Rattle.fx_frame_stage.specs.Feed.{Fed, TookWithinCapacity}
+use Rattle.fx_frame_lists.specs.Lists.{pieces}
+use Rattle.fx_frame_stage.specs.Stage.{Acts, kind, spent}
+use Rattle.fx_frame_stage.proofs.FedLaws.{Fed-gives}
+use Rattle.fx_frame_stage.proofs.FeedParts.{Fed-rest_unchanged}
+use Rattle.fx_frame_stage.proofs.Capacities.{free-then}
+use Rattle.fx_frame_lists.proofs.Puts.{part-from, pieces-same, put-from}
+use Rattle.fx_frame_lists.proofs.Pieces.{length-pieces}
 use borrow.Rule.Slice.PartMut.{put_mid}
 
 module _ {X : Type 0} where
@@ -40,16 +40,16 @@ all-pieces {X} P size (suc n) xs e all =
     subst (All P) (take-append-drop size xs) (All-append P (take size xs) (drop size xs) first rest)
 
 -- frames of at least one sample are no more than the samples
-pub few-frames : (n w len : ℕ) → 1 ≤ w → n * w ≤ len → n ≤ len
-few-frames n w len h k = let m : n * 1 ≤ n * w = mul-le-mul_left n h in omega arith
+pub bound-frames : (n w len : ℕ) → 1 ≤ w → n * w ≤ len → n ≤ len
+bound-frames n w len h k = let m : n * 1 ≤ n * w = mul-le-mul_left n h in omega arith
 
 -- no more frames than there are
-pub frames-room : (n w len : ℕ) → n ≤ len / w → n * w ≤ len
-frames-room n w len h = let all : n * w ≤ len / w * w = mul-le-mul_right w h in omega (arith, all, div-mul-le_self len w)
+pub frames-free : (n w len : ℕ) → n ≤ len / w → n * w ≤ len
+frames-free n w len h = let all : n * w ≤ len / w * w = mul-le-mul_right w h in omega (arith, all, div-mul-le_self len w)
 
 -- as many frames as fit in those of a number
-pub few-pieces : (n m w : ℕ) → 1 ≤ w → n * w ≤ m * w → n ≤ m
-few-pieces n m w h k = le_of_mul-le-mul_right k (omega arith)
+pub bound-pieces : (n m w : ℕ) → 1 ≤ w → n * w ≤ m * w → n ≤ m
+bound-pieces n m w h k = le_of_mul-le-mul_right k (omega arith)
 
 -- what lies behind frames does not matter
 pub pieces-cut : {X : Type 0} (size n m : ℕ) (xs : List X) → n * size ≤ length (take m xs) → pieces size n (take m xs) ≡ pieces size n xs
@@ -63,9 +63,9 @@ module _ {S R : Type 0} (acts : Acts S R) where
     pub fed : Fed acts first (pieces (kind acts first).inputs n input) (pieces (kind acts first).outputs k out) s
     pub read : n * (kind acts first).inputs ≤ length input
     pub written : k * (kind acts first).outputs ≤ length out
-    pub behind : drop (k * (kind acts first).outputs) out ≡ drop (k * (kind acts first).outputs) start
+    pub rest_unchanged : drop (k * (kind acts first).outputs) out ≡ drop (k * (kind acts first).outputs) start
     pub same : length out ≡ length start
-    pub room : TookWithRoom acts first n (length start)
+    pub free : TookWithinCapacity acts first n (length start)
 
   -- and that it passed all that it could
   pub record FedOut (first s : S) (input out : List ℤ) (n k : ℕ) : Type 0 where
@@ -76,7 +76,7 @@ module _ {S R : Type 0} (acts : Acts S R) where
   pub front-any : (first s : S) (input start out : List ℤ) (n k : ℕ) → FedFront first s [] start out n k → FedFront first s input start out n k
   front-any first s input start out n k one =
       let none = one.read in
-      record { fed = rw (← pieces-cut (kind acts first).inputs n 0 input none) one.fed; read = omega arith; written = one.written; behind = one.behind; same = one.same; room = one.room }
+      record { fed = rw (← pieces-cut (kind acts first).inputs n 0 input none) one.fed; read = omega arith; written = one.written; rest_unchanged = one.rest_unchanged; same = one.same; free = one.free }
 
   -- so many frames were passed
   module _ {first s : S} {input start mid : List ℤ} {n k : ℕ} (one : FedFront first s input start mid n k) where
@@ -98,8 +98,8 @@ module _ {S R : Type 0} (acts : Acts S R) where
       is-part : part (n * ins) input ≡ drop (n * (kind acts first).inputs) input
       is-part = rw (← ins-is) (part-from (n * ins) input)
 
-      is-room : part (k * outs) mid ≡ drop (k * (kind acts first).outputs) mid
-      is-room = rw (← outs-is) (part-from (k * outs) mid)
+      is-free : part (k * outs) mid ≡ drop (k * (kind acts first).outputs) mid
+      is-free = rw (← outs-is) (part-from (k * outs) mid)
 
       -- it may be passed
       pub rest-channels : (1 ≤ (kind acts first).inputs) × ((kind acts first).inputs ≤ 16) → (1 ≤ (kind acts s).inputs) × ((kind acts s).inputs ≤ 16)
@@ -110,28 +110,28 @@ module _ {S R : Type 0} (acts : Acts S R) where
           let all = below (n + i) (read-both i (rw is-part at h)) in
           rw kind-stays (omega (arith, counted, all))
 
-      module _ {t : S} {behind : List ℤ} {m j : ℕ} (two : FedFront s t (part (n * ins) input) (part (k * outs) mid) behind m j) where
+      module _ {t : S} {rest_unchanged : List ℤ} {m j : ℕ} (two : FedFront s t (part (n * ins) input) (part (k * outs) mid) rest_unchanged m j) where
         abbrev new : List ℤ
-        new = take (k * (kind acts first).outputs) mid ++ behind
+        new = take (k * (kind acts first).outputs) mid ++ rest_unchanged
 
         front : length (take (k * (kind acts first).outputs) mid) ≡ k * (kind acts first).outputs
         front = length-take-le (k * (kind acts first).outputs) mid one.written
 
-        long : length new ≡ k * (kind acts first).outputs + length behind
-        long = omega (arith, front, length-append (take (k * (kind acts first).outputs) mid) behind)
+        long : length new ≡ k * (kind acts first).outputs + length rest_unchanged
+        long = omega (arith, front, length-append (take (k * (kind acts first).outputs) mid) rest_unchanged)
 
         -- what was left behind the first call had room for those of the second
-        rooms : TookWithRoom acts first (n + m) (length start)
-        rooms =
+        free_lengths : TookWithinCapacity acts first (n + m) (length start)
+        free_lengths =
             let outs' : ℕ = (kind acts first).outputs in
             let all = Fed-gives acts first s _ _ one.fed in
             let gave : (acts.counts s).given ≡ (acts.counts first).given + k = all.given ∙ ap (λ l. (acts.counts first).given + l) (length-pieces outs' k mid) in
-            let left : length (part (k * outs) mid) ≡ length start - k * outs' = ap length is-room ∙ ap length one.behind ∙ length-drop (k * outs') start in
-            room-then acts first s n k m (length start) all.recipe_stays counted gave (omega (arith, one.written, one.same)) one.room (rw left at two.room)
+            let left : length (part (k * outs) mid) ≡ length start - k * outs' = ap length is-free ∙ ap length one.rest_unchanged ∙ length-drop (k * outs') start in
+            free-then acts first s n k m (length start) all.recipe_stays counted gave (omega (arith, one.written, one.same)) one.free (rw left at two.free)
 
         -- the output stays as long
         whole : length new ≡ length mid
-        whole = omega (arith, long, two.same, ap length is-room, one.written, length-drop (k * (kind acts first).outputs) mid)
+        whole = omega (arith, long, two.same, ap length is-free, one.written, length-drop (k * (kind acts first).outputs) mid)
 
         front-new : FedFront first t input start new (n + m) (k + j)
         front-new =
@@ -139,18 +139,18 @@ module _ {S R : Type 0} (acts : Acts S R) where
             let outs' : ℕ = (kind acts first).outputs in
             let fed = rw (kind-stays, is-part) at two.fed in
             let wrote = rw kind-stays at two.written in
-            let rest = rw (kind-stays, is-room) at two.behind in
+            let rest = rw (kind-stays, is-free) at two.rest_unchanged in
             let more : (k + j) * outs' ≡ k * outs' + j * outs' = add-mul k j outs' in
             record {
-              fed = Fed-behind acts ins' outs' n m k j input mid behind new first s t one.written refl one.fed fed;
+              fed = Fed-rest_unchanged acts ins' outs' n m k j input mid rest_unchanged new first s t one.written refl one.fed fed;
               read = read-both m (rw is-part at two.read);
               written = omega (arith, more, wrote, long);
-              behind = rw more (sym (drop-drop (j * outs') (k * outs') new) ∙ ap (drop (j * outs')) (drop_at (take (k * outs') mid) behind (k * outs') front) ∙ rest ∙ ap (drop (j * outs')) one.behind ∙ drop-drop (j * outs') (k * outs') start);
+              rest_unchanged = rw more (sym (drop-drop (j * outs') (k * outs') new) ∙ ap (drop (j * outs')) (drop_at (take (k * outs') mid) rest_unchanged (k * outs') front) ∙ rest ∙ ap (drop (j * outs')) one.rest_unchanged ∙ drop-drop (j * outs') (k * outs') start);
               same = omega (arith, whole, one.same);
-              room = rooms;
+              free = free_lengths;
             }
 
-        out-new : FedOut s t (part (n * ins) input) behind m j → FedOut first t input new (n + m) (k + j)
+        out-new : FedOut s t (part (n * ins) input) rest_unchanged m j → FedOut first t input new (n + m) (k + j)
         out-new out =
             let ins' : ℕ = (kind acts first).inputs in
             let outs' : ℕ = (kind acts first).outputs in
@@ -164,18 +164,18 @@ module _ {S R : Type 0} (acts : Acts S R) where
             }
 
         -- both together, where the rest was written in its place
-        placed : put_mid (k * outs) (length mid - k * outs) mid behind ≡ new
+        placed : put_mid (k * outs) (length mid - k * outs) mid rest_unchanged ≡ new
         placed = rw (put-from, outs-is) refl
 
-        pub front-both : FedFront first t input start (put_mid (k * outs) (length mid - k * outs) mid behind) (n + m) (k + j)
+        pub front-both : FedFront first t input start (put_mid (k * outs) (length mid - k * outs) mid rest_unchanged) (n + m) (k + j)
         front-both = rw placed front-new
 
-        pub out-both : FedOut s t (part (n * ins) input) behind m j → FedOut first t input (put_mid (k * outs) (length mid - k * outs) mid behind) (n + m) (k + j)
+        pub out-both : FedOut s t (part (n * ins) input) rest_unchanged m j → FedOut first t input (put_mid (k * outs) (length mid - k * outs) mid rest_unchanged) (n + m) (k + j)
         out-both out = rw placed (out-new out)
 
         -- they are no more than the samples
-        pub few-taken : 1 ≤ (kind acts first).inputs → n + m ≤ length input
-        few-taken some = few-frames (n + m) (kind acts first).inputs (length input) some front-new.read
+        pub bound-taken : 1 ≤ (kind acts first).inputs → n + m ≤ length input
+        bound-taken some = bound-frames (n + m) (kind acts first).inputs (length input) some front-new.read
 
-        pub few-given : outs ≢ 0 → k + j ≤ length mid
-        few-given some = few-frames (k + j) (kind acts first).outputs (length mid) (omega (arith, some, outs-is)) (rw whole at front-new.written)
+        pub bound-given : outs ≢ 0 → k + j ≤ length mid
+        bound-given some = bound-frames (k + j) (kind acts first).outputs (length mid) (omega (arith, some, outs-is)) (rw whole at front-new.written)

@@ -1,7 +1,7 @@
 -- What the numbers of a stage tell again.
 use Rattle.std.proofs.Common.{◌≡◌, ◌-◌, List, ◌++◌, length, arith, length-append}
-use Rattle.fx_step.specs.Frame.{Samples}
+use Rattle.fx_frame_stage.specs.Frame.{Samples}
 
 -- the frames of the line are those that are stored and not in hand
-pub lined : (items hands : List Samples) → length (items ++ hands) - length hands ≡ length items
-lined items hands = omega (arith, length-append items hands)
+pub lined : (items pending_count : List Samples) → length (items ++ pending_count) - length pending_count ≡ length items
+lined items pending_count = omega (arith, length-append items pending_count)

@@ -98,7 +98,7 @@ count-start ps i kept last end p next is_kept h g w n f e =
     let whole : kept + kept_in is_kept last end (Start p ∷ drop (i + 1) ps) ≡ kept_in false 0 end ps =
     ap (λ l. kept + kept_in is_kept last end l) (sym (drop_more ps i (Start 0) h ∙ ap (λ a. a ∷ drop (i + 1) ps) g)) ∙ e in
     let step = kept-more is_kept 0 last end (Start p) (starts (drop (i + 1) ps)) w in
-    let few = between-le is_kept (next - last) in
+    let bound = between-le is_kept (next - last) in
     (rw n (omega (arith, whole, step)), omega arith)
 
 -- ---- the same of all positions
@@ -115,5 +115,5 @@ whole-more ps frames i kept last end next a is_kept h g w n f e =
     let whole : kept + kept_from is_kept frames last end (a ∷ drop (i + 1) ps) ≡ kept_from false frames 0 end ps =
     ap (λ l. kept + kept_from is_kept frames last end l) (sym (drop_more ps i (Start 0) h ∙ ap (λ b. b ∷ drop (i + 1) ps) g)) ∙ e in
     let step = kept-more is_kept frames last end a (drop (i + 1) ps) w in
-    let few = between-le is_kept (next - last) in
+    let bound = between-le is_kept (next - last) in
     (rw n (omega (arith, whole, step)), omega arith)

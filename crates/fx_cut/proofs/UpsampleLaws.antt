@@ -3,14 +3,14 @@ use Rattle.std.proofs.Common.{ℕ, zero, suc, ◌+◌, ◌-◌, ◌*◌, ◌<◌
 use Rattle.std.specs.Prelude.{is_none}
 use Rattle.std.proofs.Math.Nat.{mod-eq_of_lt, div-eq_of_lt, add-mod_left, add-div_left}
 use Rattle.std.proofs.lemmas.List.{length-replicate}
-use Rattle.fx_step.specs.Stage.{Gave, Took, Given}
+use Rattle.fx_frame_stage.specs.Stage.{Gave, Took, Given}
 use Rattle.fx_cut.specs.UpsampleState.{UpsampleState, IsUpsample, upsample_acts}
 use Prim.Native.Nat.compare
-use Rattle.fx_step.specs.Frame.{Samples, silence}
-use Rattle.fx_lists.specs.Lists.{tabulate}
-use Rattle.fx_step.specs.Given.{plain}
+use Rattle.fx_frame_stage.specs.Frame.{Samples, silence}
+use Rattle.fx_frame_lists.specs.Lists.{tabulate}
+use Rattle.fx_frame_stage.specs.Given.{plain}
 use Rattle.fx_cut.specs.Upsample.{upsampled, upsampled_at}
-use Rattle.fx_lists.proofs.Tabulate.{tabulate-append, tabulate-same, tabulate-replicate}
+use Rattle.fx_frame_lists.proofs.Tabulate.{tabulate-append, tabulate-same, tabulate-replicate}
 use Rattle.fx_frame.proofs.DryLaws.{dry-tail}
 
 module _ (channels factor : ℕ) (some : 0 < factor) (x : Samples) (z : List Samples) where
@@ -52,22 +52,22 @@ dry-rest None (suc n) p after h = absurd (let k = dry-tail None (suc n) (omega a
 dry-rest (Some x) n p after h = absurd (cc)
 
 -- it takes a frame
-pub Took-upsample : (s : UpsampleState) (frame : Samples) → IsUpsample s → upsample_acts.dry s ≡ true → s.ended ≡ false → Took upsample_acts s (record s { hand = Some frame; silent = s.recipe.factor - 1; taken = s.taken + 1 }) frame
+pub Took-upsample : (s : UpsampleState) (frame : Samples) → IsUpsample s → upsample_acts.dry s ≡ true → s.ended ≡ false → Took upsample_acts s (record s { pending = Some frame; silent = s.recipe.factor - 1; taken = s.taken + 1 }) frame
 Took-upsample s frame is dry running =
     record {
-      rest = λ z. rw running (sym (upsampled-cons s.recipe.channels s.recipe.factor is.arguments.some_factor frame z) ∙ sym (dry-rest s.hand s.silent _ _ dry));
+      rest = λ z. rw running (sym (upsampled-cons s.recipe.channels s.recipe.factor is.arguments.some_factor frame z) ∙ sym (dry-rest s.pending s.silent _ _ dry));
       counted = refl;
       recipe_stays = refl;
     }
 
 -- it gives a silent frame
-pub Gave-silent : (s : UpsampleState) → IsUpsample s → s.hand ≡ None → 0 < s.silent → Gave upsample_acts s (record s { silent = s.silent - 1; given = s.given + 1 }) (silence s.recipe.channels)
+pub Gave-silent : (s : UpsampleState) → IsUpsample s → s.pending ≡ None → 0 < s.silent → Gave upsample_acts s (record s { silent = s.silent - 1; given = s.given + 1 }) (silence s.recipe.channels)
 Gave-silent s is e some =
     record {
-      was_wet = dry-tail s.hand s.silent some;
+      was_wet = dry-tail s.pending s.silent some;
       gives = record { clips = 0; first = λ z. silent-first _ _ _ _ e some; counted = refl };
       channels = length-replicate _ _;
       due = λ running. let k = is.counted in omega arith;
-      most = let k = is.counted in omega arith;
+      maximum = let k = is.counted in omega arith;
       recipe_stays = refl;
     }

@@ -3,13 +3,13 @@ use Rattle.std.proofs.Common.{◌≡◌, ◌+◌, ◌-◌, ◌*◌, ◌/◌, ◌
 use Rattle.std.specs.Prelude.{Some, None, option_to_list, pos}
 use Rattle.std.proofs.lemmas.List.{drop-drop, drop-replicate, drop_at, length-take-le, take-replicate, take_at}
 use Rattle.std.proofs.Math.Nat.{add-mul, mul-le-mul_right, suc-mul}
-use Rattle.fx_step.specs.Feed.{Fed, GaveNext, TookNext, TookWithRoom, nothing, taken, given}
-use Rattle.fx_step.specs.Frame.{Samples, silence}
-use Rattle.fx_lists.specs.Lists.{pieces}
-use Rattle.fx_step.proofs.FedLaws.{Fed-then}
-use Rattle.fx_step.proofs.Rooms.{room-most}
-use Rattle.fx_lists.proofs.Puts.{pieces-split, pieces-take}
-use Rattle.fx_lists.proofs.Pieces.{pieces-front}
+use Rattle.fx_frame_stage.specs.Feed.{Fed, GaveNext, TookNext, TookWithinCapacity, nothing, taken, given}
+use Rattle.fx_frame_stage.specs.Frame.{Samples, silence}
+use Rattle.fx_frame_lists.specs.Lists.{pieces}
+use Rattle.fx_frame_stage.proofs.FedLaws.{Fed-then}
+use Rattle.fx_frame_stage.proofs.Capacities.{free-maximum}
+use Rattle.fx_frame_lists.proofs.Puts.{pieces-split, pieces-take}
+use Rattle.fx_frame_lists.proofs.Pieces.{pieces-front}
 use Rattle.fx_cut.specs.Strides.{spread}
 use Rattle.fx_cut.specs.UpsampleState.{UpsampleState, IsUpsample, upsample_acts}
 use Rattle.fx_cut.proofs.Pieces.{first-piece}
@@ -21,10 +21,10 @@ silent-pieces : (size n : ℕ) → pieces size n (replicate (n * size) (pos 0)) 
 silent-pieces size zero = refl
 silent-pieces size (suc n) =
     let more : suc n * size ≡ size + n * size = omega (arith, suc-mul n size) in
-    let least : size ≤ size + n * size = omega arith in
+    let minimum : size ≤ size + n * size = omega arith in
     let rest : size + n * size - size ≡ n * size = omega arith in
     let back : drop size (replicate (size + n * size) (pos 0)) ≡ replicate (n * size) (pos 0) = drop-replicate size (size + n * size) (pos 0) ∙ ap (λ k. replicate k (pos 0)) rest in
-    rw (more, take-replicate size (size + n * size) (pos 0) least, back) (ap (λ l. silence size ∷ l) (silent-pieces size n))
+    rw (more, take-replicate size (size + n * size) (pos 0) minimum, back) (ap (λ l. silence size ∷ l) (silent-pieces size n))
 
 -- a frame with the silence behind it
 pub group-pieces : (size factor : ℕ) (x : Samples) → 1 ≤ factor → length x ≡ size → pieces size factor (x ++ replicate (factor * size - size) (pos 0)) ≡ x ∷ replicate (factor - 1) (silence size)
@@ -38,10 +38,10 @@ group-pieces size factor x some long =
 
 -- a group more is written
 pub pieces-group : (size factor n at : ℕ) (out g new : List ℤ) → at ≡ n * size → length g ≡ factor * size → at ≤ length out → new ≡ take at out ++ g ++ drop (at + length g) out → pieces size (n + factor) new ≡ pieces size n out ++ pieces size factor g
-pieces-group size factor n at out g new e long room w =
+pieces-group size factor n at out g new e long free w =
     let rest : List ℤ = drop (at + length g) out in
     let parts : new ≡ take at out ++ (g ++ rest) = w ∙ append_assoc (take at out) g rest in
-    let cut : length (take at out) ≡ n * size = length-take-le at out room ∙ e in
+    let cut : length (take at out) ≡ n * size = length-take-le at out free ∙ e in
     let front : pieces size n new ≡ pieces size n out = rw parts (pieces-front size n (take at out) (g ++ rest) cut ∙ ap (λ m. pieces size n (take m out)) e ∙ pieces-take size n out (omega arith)) in
     let back : pieces size factor (drop (n * size) new) ≡ pieces size factor g = rw parts (ap (pieces size factor) (drop_at (take at out) (g ++ rest) (n * size) cut) ∙ pieces-front size factor g rest long) in
     rw (pieces-split size n factor new, front, back) refl
@@ -61,11 +61,11 @@ spread-more size factor (suc n) at xs e =
 -- such a stage with no frame to give, before the end
 pub record Ready (s : UpsampleState) : Type 0 where
   pub is : IsUpsample s
-  pub empty : s.hand ≡ None
+  pub empty : s.pending ≡ None
   pub none : s.silent ≡ 0
   pub running : s.ended ≡ false
 
-silent-fed : (k : ℕ) (s : UpsampleState) → IsUpsample s → s.hand ≡ None → s.ended ≡ false → s.silent ≡ k
+silent-fed : (k : ℕ) (s : UpsampleState) → IsUpsample s → s.pending ≡ None → s.ended ≡ false → s.silent ≡ k
     → Fed upsample_acts s [] (replicate k (silence s.recipe.channels)) (record s { silent = 0; given = s.given + k }) × Ready (record s { silent = 0; given = s.given + k })
 silent-fed zero s is empty running e =
     let same : ◌≡◌ {A = UpsampleState} (record s { silent = 0; given = s.given + 0 }) s = rw (add-zero, ← e) refl in
@@ -75,14 +75,14 @@ silent-fed (suc k) s is empty running e =
     let next : UpsampleState = record s { silent = s.silent - 1; given = s.given + 1 } in
     let counted = is.counted in
     let fewer = is.fewer in
-    let hand : length (option_to_list s.hand) ≡ 0 = ap (λ h. length (option_to_list h)) empty in
+    let pending : length (option_to_list s.pending) ≡ 0 = ap (λ h. length (option_to_list h)) empty in
     let is' : IsUpsample next = record {
       arguments = is.arguments;
       counted = omega arith;
       fewer = omega arith;
-      behind = λ h. absurd (omega arith);
+      pending_place = λ h. absurd (omega arith);
       over = λ o. absurd (cc (running, o));
-      few = is.few;
+      bound = is.bound;
       fits = is.fits;
     } in
     let rest = silent-fed k next is' empty running (omega arith) in
@@ -92,20 +92,20 @@ silent-fed (suc k) s is empty running e =
 
 -- so many frames were passed
 abbrev pub passed : UpsampleState → ℕ → ℕ → UpsampleState
-passed s count made = record s { hand = None; silent = 0; taken = s.taken + count; given = s.given + made }
+passed s count made = record s { pending = None; silent = 0; taken = s.taken + count; given = s.given + made }
 
 one-fed : (s : UpsampleState) (x : Samples) → Ready s → length x ≡ s.recipe.channels → s.taken + 1 ≤ 2 ^ 56 / s.recipe.factor
     → Fed upsample_acts s (x ∷ []) (x ∷ replicate (s.recipe.factor - 1) (silence s.recipe.channels)) (passed s 1 s.recipe.factor) × Ready (passed s 1 s.recipe.factor)
-one-fed s x r sides few =
+one-fed s x r sides bound =
     let f : ℕ = s.recipe.factor in
     let is = r.is in
     let some : 1 ≤ f = is.arguments.some_factor in
     let counted = is.counted in
     let none = r.none in
-    let hand : length (option_to_list s.hand) ≡ 0 = ap (λ h. length (option_to_list h)) r.empty in
+    let pending : length (option_to_list s.pending) ≡ 0 = ap (λ h. length (option_to_list h)) r.empty in
     let more : (s.taken + 1) * f ≡ s.taken * f + f = rw add-one (omega (arith, suc-mul s.taken f)) in
-    let mid : UpsampleState = record s { hand = Some x; silent = f - 1; taken = s.taken + 1 } in
-    let last : UpsampleState = record s { hand = None; silent = f - 1; taken = s.taken + 1; given = s.given + 1 } in
+    let mid : UpsampleState = record s { pending = Some x; silent = f - 1; taken = s.taken + 1 } in
+    let last : UpsampleState = record s { pending = None; silent = f - 1; taken = s.taken + 1; given = s.given + 1 } in
     let dry : upsample_acts.dry s ≡ true = rw (r.empty, r.none) refl in
     let took : TookNext upsample_acts s mid x = record { dry = dry; due = omega arith; not_ended = r.running; not_spent = rw dry refl; took = Took-upsample s x is dry r.running; held = omega arith } in
     let gave : GaveNext upsample_acts mid last x = record {
@@ -114,7 +114,7 @@ one-fed s x r sides few =
         gives = record { clips = 0; first = λ z. refl; counted = refl };
         channels = sides;
         due = λ e. omega arith;
-        most = omega arith;
+        maximum = omega arith;
         recipe_stays = refl;
       };
       held = omega arith;
@@ -123,9 +123,9 @@ one-fed s x r sides few =
       arguments = is.arguments;
       counted = omega arith;
       fewer = omega arith;
-      behind = λ h. absurd (omega arith);
+      pending_place = λ h. absurd (omega arith);
       over = λ o. absurd (cc (r.running, o));
-      few = few;
+      bound = bound;
       fits = λ y e. absurd (cc);
     } in
     let rest = silent-fed (f - 1) last is' refl r.running refl in
@@ -135,11 +135,11 @@ one-fed s x r sides few =
 
 pub frames-fed : (n : ℕ) (s : UpsampleState) (input : List ℤ) → Ready s → n * s.recipe.channels ≤ length input → s.taken + n ≤ 2 ^ 56 / s.recipe.factor
     → Fed upsample_acts s (pieces s.recipe.channels n input) (spread s.recipe.channels s.recipe.factor n input) (passed s n (n * s.recipe.factor)) × Ready (passed s n (n * s.recipe.factor))
-frames-fed zero s input r room few =
+frames-fed zero s input r free bound =
     let z : 0 * s.recipe.factor ≡ 0 = omega arith in
     let same : ◌≡◌ {A = UpsampleState} (passed s 0 0) s = rw (add-zero s.taken, add-zero s.given, ← r.empty, ← r.none) refl in
     rw (z, same) (nothing, r)
-frames-fed (suc n) s input r room few =
+frames-fed (suc n) s input r free bound =
     let f : ℕ = s.recipe.factor in
     let ch : ℕ = s.recipe.channels in
     let wide : suc n * ch ≡ ch + n * ch = omega (arith, suc-mul n ch) in
@@ -153,19 +153,19 @@ frames-fed (suc n) s input r room few =
 -- the same where the output has them
 pub all-passed : (s : UpsampleState) (n : ℕ) (input out : List ℤ) → Ready s → n * s.recipe.channels ≤ length input → s.taken + n ≤ 2 ^ 56 / s.recipe.factor → pieces s.recipe.channels (n * s.recipe.factor) out ≡ spread s.recipe.channels s.recipe.factor n input
     → Fed upsample_acts s (pieces s.recipe.channels n input) (pieces s.recipe.channels (n * s.recipe.factor) out) (record s { taken = s.taken + n; given = s.given + n * s.recipe.factor }) × Ready (record s { taken = s.taken + n; given = s.given + n * s.recipe.factor })
-all-passed s n input out r room few same =
+all-passed s n input out r free bound same =
     let end : ◌≡◌ {A = UpsampleState} (record s { taken = s.taken + n; given = s.given + n * s.recipe.factor }) (passed s n (n * s.recipe.factor)) = rw (r.empty, r.none) refl in
-    rw (end, same) (frames-fed n s input r room few)
+    rw (end, same) (frames-fed n s input r free bound)
 
 -- each of them was taken while the output had room for one more
-pub took-with-room : (s : UpsampleState) (n room : ℕ) → Ready s → n * s.recipe.factor * s.recipe.channels ≤ room → TookWithRoom upsample_acts s n room
-took-with-room s n room r fits i few =
+pub took-with-free : (s : UpsampleState) (n free : ℕ) → Ready s → n * s.recipe.factor * s.recipe.channels ≤ free → TookWithinCapacity upsample_acts s n free
+took-with-free s n free r fits i bound =
     let f : ℕ = s.recipe.factor in
     let counted = r.is.counted in
-    let hand : length (option_to_list s.hand) ≡ 0 = ap (λ h. length (option_to_list h)) r.empty in
+    let pending : length (option_to_list s.pending) ≡ 0 = ap (λ h. length (option_to_list h)) r.empty in
     let none = r.none in
     let some : 1 ≤ f = r.is.arguments.some_factor in
     let before : (j : ℕ) → j < n → j * f + f ≤ n * f = λ j less. let h : (j + 1) * f ≤ n * f = mul-le-mul_right f (omega arith) in omega (arith, h, add-mul j 1 f) in
-    let last = before i few in
+    let last = before i bound in
     let whole : n * f - 1 + 1 ≡ n * f = omega arith in
-    room-most upsample_acts s n (n * f - 1) room (λ j less. omega (arith, counted, hand, none, some, before j less, add-mul s.taken j f)) (rw whole fits) i few
+    free-maximum upsample_acts s n (n * f - 1) free (λ j less. omega (arith, counted, pending, none, some, before j less, add-mul s.taken j f)) (rw whole fits) i bound

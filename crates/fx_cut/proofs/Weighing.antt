@@ -12,8 +12,8 @@ use Rattle.fx_fixed.specs.Rounding.{nearest, nearest_natural, signed, clipping}
 use Rattle.fx_fixed.proofs.Shifting.{nearest_natural-cancel}
 use Rattle.fx_fixed.proofs.Signs.{nearest-neg}
 use Rattle.fx_fixed.proofs.AtMostWhole.{fits-neg, fits-pos, nearest-le, not-clipped, unclipped-neg, unclipped-pos}
-use Rattle.fx_step.specs.Given.{given_of, plain}
-use Rattle.fx_lists.specs.Rounded.{unclipped}
+use Rattle.fx_frame_stage.specs.Given.{given_samples, plain}
+use Rattle.fx_frame_lists.specs.Rounded.{unclipped}
 use Rattle.fx_cut.specs.Fade.{both, weighted}
 
 nearest-whole : (n d : ℕ) → 0 < d → nearest_natural (n * d) d ≡ n
@@ -29,11 +29,11 @@ small-abs x n h g = omega (arith, unsigned_abs-mul x (pos n), mul-le-mul h g)
 pub small-product : (x y : ℤ) (n : ℕ) → y ≡ x → FitsSigned w32 x → n ≤ 2 ^ 30 → (to_z w64 (of_z w64 (to_z w64 (of_z w64 y) *ℤ to_z w64 n)) ≡ x *ℤ pos n) × (unsigned_abs (x *ℤ pos n) ≤ 2 ^ 61)
 small-product x y n same fits g =
     let m : unsigned_abs x ≤ 2 ^ 31 = omega (arith, ints) in
-    let few = small-abs x n m g in
+    let bound = small-abs x n m g in
     let one : to_z w64 (of_z w64 x) ≡ x = to_z-of_z w64 x (fits_signed_from_abs w64 x (omega arith)) in
     let two : to_z w64 n ≡ pos n = to_z_pos w64 n (omega arith) in
     let all : to_z w64 (of_z w64 (x *ℤ pos n)) ≡ x *ℤ pos n = to_z-of_z w64 (x *ℤ pos n) (fits_signed_from_abs w64 (x *ℤ pos n) (omega arith)) in
-    (rw (same, one, two) all, few)
+    (rw (same, one, two) all, bound)
 
 -- a weight of 1 beside another changes nothing
 nearest-times : (x : ℤ) (a b q : ℕ) → 0 < a → 0 < q → nearest (x *ℤ pos (a * b)) (a * q) ≡ nearest (x *ℤ pos b) q
@@ -96,8 +96,8 @@ weighted-more w xs out i y h k e v =
     ∙ sym (ap (map unclipped) (take_more_set out i y k) ∙ map-append unclipped (take i out) (y ∷ []))
 
 -- a frame of which nothing was clipped
-pub given-plain : (rounds : List (ℤ × Bool)) (frame : List ℤ) → rounds ≡ map unclipped frame → given_of rounds ≡ plain frame
-given-plain rounds frame e = ap given_of e ∙ cc (samples frame, clips frame)
+pub given-plain : (rounds : List (ℤ × Bool)) (frame : List ℤ) → rounds ≡ map unclipped frame → given_samples rounds ≡ plain frame
+given-plain rounds frame e = ap given_samples e ∙ cc (samples frame, clips frame)
   where
     samples : (xs : List ℤ) → map (λ r. r.0) (map unclipped xs) ≡ xs
     samples [] = refl

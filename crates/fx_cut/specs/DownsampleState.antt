@@ -1,17 +1,17 @@
--- The stage of `downsample`: what it stores, what holds of that, and what it is still to give (this project's profile).
+-- The stage of `downsample`: what it stores, its invariant, and what it is still to give (this project's profile).
 use Rattle.std.specs.Prelude.{ℕ, ◌+◌, ◌*◌, ◌^◌, ◌<◌, ◌≤◌, ◌≡◌, Bool, true, Option, ◌++◌, drop, length, map, option_to_list, is_none}
 use Rattle.std.specs.Int.{div_ceil}
-use Rattle.fx_step.specs.Frame.{Samples}
-use Rattle.fx_step.specs.Stage.{Acts, coming}
-use Rattle.fx_step.specs.Hand.{IsHand}
-use Rattle.fx_step.specs.Given.{plain}
+use Rattle.fx_frame_stage.specs.Frame.{Samples}
+use Rattle.fx_frame_stage.specs.Stage.{Acts, coming}
+use Rattle.fx_frame_stage.specs.PendingFrame.{IsPending}
+use Rattle.fx_frame_stage.specs.Given.{plain}
 use Rattle.fx_cut.specs.Factor.{FactorArguments, IsFactor}
 use Rattle.fx_cut.specs.Downsample.{downsampled, downsample_kind, downsample_meaning}
 
 -- what a `Downsample` stores
 pub record DownsampleState : Type 0 where
   -- the frame to be given
-  pub hand : Option Samples
+  pub pending : Option Samples
   pub recipe : FactorArguments
   -- how many frames are still to be left out
   pub skip : ℕ
@@ -19,16 +19,16 @@ pub record DownsampleState : Type 0 where
   pub given : ℕ
   pub ended : Bool
 
--- what holds of it at every moment
+-- the invariant of the stage
 pub record IsDownsample (s : DownsampleState) : Type 0 where
   pub arguments : IsFactor s.recipe
-  pub counted : s.given + length (option_to_list s.hand) ≡ div_ceil s.taken s.recipe.factor
+  pub counted : s.given + length (option_to_list s.pending) ≡ div_ceil s.taken s.recipe.factor
   pub skipped : s.taken + s.skip ≡ div_ceil s.taken s.recipe.factor * s.recipe.factor
-  -- a frame is in hand only before the frames that are left out, and none after the end
-  pub behind : 0 < length (option_to_list s.hand) → s.skip + 1 ≡ s.recipe.factor
-  pub over : s.ended ≡ true → length (option_to_list s.hand) ≡ 0
-  pub few : s.taken ≤ 2 ^ 56
-  pub fits : IsHand s.recipe.channels s.hand
+  -- a frame is pending only before the frames that are left out, and none after the end
+  pub pending_place : 0 < length (option_to_list s.pending) → s.skip + 1 ≡ s.recipe.factor
+  pub over : s.ended ≡ true → length (option_to_list s.pending) ≡ 0
+  pub bound : s.taken ≤ 2 ^ 56
+  pub fits : IsPending s.recipe.channels s.pending
 
 -- how the stages of `downsample` behave
 abbrev pub downsample_acts : Acts DownsampleState FactorArguments
@@ -36,10 +36,10 @@ downsample_acts = record {
   recipe = λ s. s.recipe;
   kind_of = downsample_kind;
   meaning = downsample_meaning;
-  rest = λ s z. map plain (option_to_list s.hand) ++ downsampled s.recipe.factor (drop s.skip (coming s.ended z));
+  rest = λ s z. map plain (option_to_list s.pending) ++ downsampled s.recipe.factor (drop s.skip (coming s.ended z));
   counts = λ s. record { taken = s.taken; given = s.given; clips = 0; ended = s.ended };
-  dry = λ s. is_none s.hand;
-  stored = λ s. option_to_list s.hand;
+  dry = λ s. is_none s.pending;
+  stored = λ s. option_to_list s.pending;
   capacity = λ s. 0;
-  own = λ s. record { first = s.skip; second = 0; third = 0 };
+  state_counters = λ s. record { first = s.skip; second = 0; third = 0 };
 }

@@ -1,6 +1,6 @@
 -- What `upsample` and `downsample` are made with (this project's profile).
 use Rattle.std.specs.Prelude.{ℕ, ◌≤◌}
-use Rattle.fx_cut.specs.declared.factor.TheConstants.{MOST_FACTOR}
+use Rattle.fx_cut.specs.declared.factor.TheConstants.{MAX_FACTOR}
 
 -- the channels of each frame, and the factor
 pub record FactorArguments : Type 0 where
@@ -10,6 +10,6 @@ pub record FactorArguments : Type 0 where
 -- 1 to 16 channels, and a factor from 1 on
 pub record IsFactor (r : FactorArguments) : Type 0 where
   pub some_channels : 1 ≤ r.channels
-  pub few_channels : r.channels ≤ 16
+  pub channels_max : r.channels ≤ 16
   pub some_factor : 1 ≤ r.factor
-  pub few_factor : r.factor ≤ MOST_FACTOR
+  pub factor_max : r.factor ≤ MAX_FACTOR

@@ -3,10 +3,10 @@ use Rattle.std.specs.Prelude.{ℕ, ◌*◌, ◌%◌, ◌^◌, ◌-◌, nat_lt, n
 use Rattle.std.specs.Str.Parse.{digits_value}
 use Rattle.std.specs.Result.{result_unwrap_or}
 use Rattle.fx_fixed.specs.Decimals.{is_numeral}
-use Rattle.fx_words.specs.declared.fault.Mark.{Mark}
-use Rattle.fx_words.specs.declared.fault.PlanCause.{PlanCause}
-use Rattle.fx_words.specs.declared.fault.PlanCause.TheVariants.{WrongCount, BadArgument, OutOfRange, RateNotDivisible, RateTooLarge}
-use Rattle.fx_words.specs.Faults.{Word, mark, when, fault_at}
+use Rattle.fx_plan_words.specs.declared.fault.Mark.{Mark}
+use Rattle.fx_plan_words.specs.declared.fault.PlanCause.{PlanCause}
+use Rattle.fx_plan_words.specs.declared.fault.PlanCause.TheVariants.{WrongCount, BadArgument, OutOfRange, RateNotDivisible, RateTooLarge}
+use Rattle.fx_plan_words.specs.Faults.{Word, mark, when, fault_at}
 
 -- the factor that a word is: digits alone, however many, and from 1 to 256
 abbrev pub factor_in : Word → Result ℕ PlanCause
@@ -19,7 +19,7 @@ abbrev pub factor_of : List Word → Result ℕ PlanCause
 factor_of [] = Ok 2
 factor_of (word ∷ more) = factor_in word
 
--- the factor, or 1 past a fault
+-- the factor, or 1 where there is a fault
 abbrev pub usable : Result ℕ PlanCause → ℕ
 usable factor = result_unwrap_or factor 1
 

@@ -2,15 +2,15 @@
 -- Overlapping fades multiply, and both weights and the sample are one fraction that is rounded once (this project's profile).
 use Rattle.std.specs.Prelude.{ℕ, ℤ, pos, zero, suc, ◌-◌, ◌*◌, ◌*ℤ◌, ◌^◌, ◌≤◌, min, Bool, List, [], length, map, slice_index_or, Option, Some, None}
 use Rattle.std.specs.List.{range_with_len}
-use Rattle.fx_fixed.specs.Extents.{stop_line}
+use Rattle.fx_cut.specs.FadeExtents.{stop_line}
 use Rattle.fx_fixed.specs.Positions.{place_of}
 use Rattle.fx_fixed.specs.Rounding.{rounding}
 use Rattle.fx_fixed.specs.declared.positions.At.{At}
 use Rattle.fx_fixed.specs.declared.positions.At.TheVariants.{Start, End}
-use Rattle.fx_step.specs.Frame.{Samples}
-use Rattle.fx_step.specs.Stage.{Given, Kind}
-use Rattle.fx_step.specs.Given.{given_of}
-use Rattle.fx_cut.specs.declared.fade.Shape.{Shape}
+use Rattle.fx_frame_stage.specs.Frame.{Samples}
+use Rattle.fx_frame_stage.specs.Stage.{Given, StageKind}
+use Rattle.fx_frame_stage.specs.Given.{given_samples}
+use Rattle.fx_cut.specs.declared.fade.FadeShape.{FadeShape}
 
 -- n parts of a length, at most 1, as a numerator and a denominator; a fade of no length has the weight 1
 abbrev pub weight : ℕ → ℕ → ℕ × ℕ
@@ -22,7 +22,7 @@ abbrev pub both : ℕ × ℕ → ℕ × ℕ → ℕ × ℕ
 both v w = (v.0 * w.0, v.1 * w.1)
 
 -- the weight of frame n, where the sound stops at a place or does not stop
-abbrev pub weights : Shape → Option ℕ → ℕ → ℕ × ℕ
+abbrev pub weights : FadeShape → Option ℕ → ℕ → ℕ × ℕ
 weights f None n = weight f.fade_in n
 weights f (Some stop) n = both (weight f.fade_in n) (weight f.fade_out (stop - n))
 
@@ -31,34 +31,34 @@ abbrev pub weighted : ℕ × ℕ → ℤ → ℤ × Bool
 weighted w sample = rounding (sample *ℤ pos (w.0)) (w.1)
 
 -- frame n with its weight
-abbrev pub faded_frame : Shape → Option ℕ → ℕ → Samples → Given
-faded_frame f stop n frame = given_of (map (weighted (weights f stop n)) frame)
+abbrev pub faded_frame : FadeShape → Option ℕ → ℕ → Samples → Given
+faded_frame f stop n frame = given_samples (map (weighted (weights f stop n)) frame)
 
--- where the stop lies in a sound of so many frames
+-- where the stop lies in a sound of `len` frames
 abbrev pub stop_in : ℕ → Option At → Option ℕ
 stop_in len None = None
 stop_in len (Some at) = Some (place_of len at)
 
--- how many of so many frames are given
+-- how many of `len` frames are given
 abbrev pub until : Option ℕ → ℕ → ℕ
 until None len = len
 until (Some stop) len = min len stop
 
 -- the frames up to the stop, or all of them, each with its weight
-abbrev pub faded : Shape → List Samples → List Given
+abbrev pub faded : FadeShape → List Samples → List Given
 faded f x = map (λ n. faded_frame f (stop_in (length x) f.stop) n (slice_index_or x n [])) (range_with_len 0 (until (stop_in (length x) f.stop) (length x)))
 
--- the frames that a fade waits for
-abbrev pub fade_line : Shape → ℕ
+-- the frames that a fade needs to look ahead
+abbrev pub fade_line : FadeShape → ℕ
 fade_line f = stop_line f.stop f.fade_out
 
--- how many frames are given after so many, with no end
+-- how many frames are given after `s` taken frames, with no end
 abbrev pub due_by : Option At → ℕ → ℕ → ℕ
 due_by (Some (End b)) fade_out s = s - b - fade_out
 due_by (Some (Start p)) fade_out s = min s p
 due_by None fade_out s = s
 
-abbrev pub fade_due : Shape → ℕ → ℕ
+abbrev pub fade_due : FadeShape → ℕ → ℕ
 fade_due f s = due_by f.stop f.fade_out s
 
 -- a stop from the start is enough
@@ -69,16 +69,16 @@ fade_enough _ = None
 -- what a `Fade` is made with
 pub record FadeArguments : Type 0 where
   pub channels : ℕ
-  pub shape : Shape
+  pub shape : FadeShape
 
 -- fades of at most 2^40 frames
-pub record IsShape (f : Shape) : Type 0 where
+pub record IsShape (f : FadeShape) : Type 0 where
   pub short_in : f.fade_in ≤ 2 ^ 40
   pub short_out : f.fade_out ≤ 2 ^ 40
 
--- what it takes and gives, and when
-abbrev pub fade_kind : FadeArguments → Kind
-fade_kind r = record { inputs = r.channels; outputs = r.channels; line = fade_line r.shape; limit = 2 ^ 56; due = fade_due r.shape; most = λ n. n; enough = fade_enough r.shape.stop }
+-- what it takes and gives, and when each frame is due
+abbrev pub fade_kind : FadeArguments → StageKind
+fade_kind r = record { inputs = r.channels; outputs = r.channels; line = fade_line r.shape; limit = 2 ^ 56; due = fade_due r.shape; maximum = λ n. n; enough = fade_enough r.shape.stop }
 
 -- what it gives for a sound
 abbrev pub fade_meaning : FadeArguments → List Samples → List Given

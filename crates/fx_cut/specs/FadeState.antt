@@ -1,10 +1,10 @@
--- The stage of `fade`: how it sifts a sound (this project's profile).
+-- The stage of `fade`: how it selects frames of a sound (this project's profile).
 use Rattle.std.specs.Prelude.{ℕ, ◌+◌, nat_lt, Bool, true, if◌then◌else◌, List, [], ◌∷◌, Option, Some, None}
-use Rattle.fx_step.specs.Frame.{Samples}
-use Rattle.fx_step.specs.Stage.{Acts, Given}
-use Rattle.fx_cut.specs.declared.fade.Shape.{Shape}
+use Rattle.fx_frame_stage.specs.Frame.{Samples}
+use Rattle.fx_frame_stage.specs.Stage.{Acts, Given}
+use Rattle.fx_cut.specs.declared.fade.FadeShape.{FadeShape}
 use Rattle.fx_cut.specs.Fade.{faded_frame, stop_in, fade_line, fade_due, fade_enough, FadeArguments, fade_meaning}
-use Rattle.fx_cut.specs.Sifted.{Sifts, SiftState, sift_acts}
+use Rattle.fx_cut.specs.Selected.{Selects, SelectedState, selected_acts}
 
 -- frame n lies before the stop
 abbrev pub is_before : Option ℕ → ℕ → Bool
@@ -12,16 +12,16 @@ is_before None n = true
 is_before (Some stop) n = nat_lt n stop
 
 -- what is given of frame n
-abbrev pub faded_here : Shape → Option ℕ → ℕ → Samples → List Given
+abbrev pub faded_here : FadeShape → Option ℕ → ℕ → Samples → List Given
 faded_here f stop n frame = if is_before stop n then faded_frame f stop n frame ∷ [] else []
 
 -- the stop in the shortest sound in which frame n falls out of the line before the end
-abbrev pub stop_settled : Shape → ℕ → Option ℕ
-stop_settled f n = stop_in (n + fade_line f + 1) f.stop
+abbrev pub stop_determined : FadeShape → ℕ → Option ℕ
+stop_determined f n = stop_in (n + fade_line f + 1) f.stop
 
 -- which frames `fade` gives: those before the stop, each with its weight
-abbrev pub fade_sifts : Sifts FadeArguments
-fade_sifts = record {
+abbrev pub fade_selects : Selects FadeArguments
+fade_selects = record {
   channels = λ r. r.channels;
   reach = λ r. fade_line r.shape;
   due = λ r. fade_due r.shape;
@@ -32,5 +32,5 @@ fade_sifts = record {
 }
 
 -- how the stages of `fade` behave
-abbrev pub fade_acts : Acts (SiftState FadeArguments) FadeArguments
-fade_acts = sift_acts fade_sifts
+abbrev pub fade_acts : Acts (SelectedState FadeArguments) FadeArguments
+fade_acts = selected_acts fade_selects

@@ -3,11 +3,11 @@ use Rattle.std.specs.Prelude.{ℕ, ◌^◌, nat_le, nat_lt, nat_eq, not, ◌&&�
 use Rattle.std.specs.Str.{bytes_eq}
 use Rattle.std.specs.Result.{result_unwrap_or}
 use Rattle.fx_fixed.specs.declared.positions.Anchor.TheVariants as anchors
-use Rattle.fx_words.specs.declared.fault.Mark.{Mark}
-use Rattle.fx_words.specs.declared.fault.PlanCause.TheVariants.{WrongCount, NotInProfile}
+use Rattle.fx_plan_words.specs.declared.fault.Mark.{Mark}
+use Rattle.fx_plan_words.specs.declared.fault.PlanCause.TheVariants.{WrongCount, NotInProfile}
 use Rattle.fx_cut.specs.declared.fade.words.Fading.{Fading}
-use Rattle.fx_words.specs.Faults.{Word, mark, when, fault_at}
-use Rattle.fx_words.specs.Numbers.{frames_in, position_in, beginning}
+use Rattle.fx_plan_words.specs.Faults.{Word, mark, when, fault_at}
+use Rattle.fx_plan_words.specs.Numbers.{frames_in, position_in, beginning}
 
 -- lengths of 2^40 frames at most
 abbrev pub is_fade : Fading → Bool
@@ -26,7 +26,7 @@ abbrev pub in_faults : ℕ → List Word → List Mark
 in_faults rate [] = []
 in_faults rate (word ∷ words) = fault_at 3 (frames_in rate word) ++ stop_faults rate words
 
--- the type alone is too few words; any other type is left out
+-- the type alone is too few words; any other type is not supported
 unfoldable pub fade_faults : ℕ → List Word → List Mark
 fade_faults rate [] = mark WrongCount 1 ∷ []
 fade_faults rate (type ∷ lengths) =

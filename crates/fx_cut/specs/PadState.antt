@@ -1,21 +1,22 @@
--- The stage of `pad`: what it stores, what holds of that, and what it is still to give (this project's profile).
+-- The stage of `pad`: what it stores, its invariant, and what it is still to give (this project's profile).
 use Rattle.std.specs.Prelude.{ℕ, ℤ, ◌+◌, ◌-◌, ◌^◌, ◌≤◌, ◌≡◌, min, nat_le, nat_eq, Bool, true, false, ◌&&◌, if◌then◌else◌, List, [], ◌∷◌, ◌++◌, filter, flat_map, length, map, replicate, sum_by, Option, Some, None, option_to_list, is_none}
 use Rattle.std.proofs.Common.{arith}
 use Rattle.std.specs.List.{enumerate_from}
 use Rattle.std.specs.Int.{w32}
-use Rattle.fx_fixed.specs.Extents.{greatest, pad_distance}
+use Rattle.fx_fixed.specs.Extents.{largest}
+use Rattle.fx_cut.specs.PadExtents.{pad_distance}
 use Rattle.fx_fixed.specs.declared.positions.At.{At}
-use Rattle.fx_step.specs.Frame.{Samples, silence}
-use Rattle.fx_ring.specs.Line.{Frames, IsLine}
-use Rattle.fx_step.specs.Hand.{IsHand}
-use Rattle.fx_step.specs.Stage.{Acts, coming}
-use Rattle.fx_step.specs.Given.{plain}
+use Rattle.fx_frame_stage.specs.Frame.{Samples, silence}
+use Rattle.fx_frame_line.specs.Line.{Frames, IsLine}
+use Rattle.fx_frame_stage.specs.PendingFrame.{IsPending}
+use Rattle.fx_frame_stage.specs.Stage.{Acts, coming}
+use Rattle.fx_frame_stage.specs.Given.{plain}
 use Rattle.fx_cut.specs.Pad.{lengths, placed, silent_at, pad_due, IsPads, PadArguments, pad_kind, pad_meaning}
 
 -- what a `Pad` stores
 pub record PadState : Type 0 where
   -- the frame to be given after the silence
-  pub hand : Option Samples
+  pub pending : Option Samples
   pub recipe : PadArguments
   -- how many silent frames are to be given
   pub silent : ℕ
@@ -24,7 +25,7 @@ pub record PadState : Type 0 where
   pub given : ℕ
   pub ended : Bool
 
--- what is given for the frames from frame n on, in a sound of so many frames that ends with them
+-- what is given for the frames from frame n on, in a sound of `len` frames that ends with them
 abbrev pub padded_from : ℕ → ℕ → List (ℕ × At) → ℕ → List Samples → List Samples
 padded_from channels len pads n x =
     flat_map (λ e. replicate (silent_at (placed len pads) e.0) (silence channels) ++ e.1 ∷ []) (enumerate_from n x)
@@ -34,53 +35,53 @@ padded_from channels len pads n x =
 abbrev pub pad_rest : ℕ → List (ℕ × At) → ℕ → List Samples → List Samples → List Samples
 pad_rest channels pads n items z = padded_from channels (n + length (items ++ z)) pads n (items ++ z)
 
--- the same where the newest frame of the line is the last of so many
+-- the same where the newest frame of the line is the last of `taken` frames
 abbrev pub pad_after : PadArguments → ℕ → List Samples → List Samples → List Samples
 pad_after r taken items z = pad_rest r.channels r.pads (taken - length items) items z
 
--- what comes after the frame in hand: after the end, nothing where there is none
+-- what comes after the pending frame: after the end, nothing where there is none
 abbrev pub unless_last : Bool → Option Samples → List Samples → List Samples
 unless_last true None later = []
 unless_last true (Some x) later = later
-unless_last false hand later = later
+unless_last false pending later = later
 
--- what is still to be given: silence, the frame in hand, and what is given for the frames of the line and those that come
+-- what is still to be given: silence, the pending frame, and what is given for the frames of the line and those that come
 abbrev pub pad_left : PadState → List Samples → List Samples
-pad_left s z = replicate s.silent (silence s.recipe.channels) ++ (option_to_list s.hand ++ unless_last s.ended s.hand (pad_after s.recipe s.taken s.line.items (coming s.ended z)))
+pad_left s z = replicate s.silent (silence s.recipe.channels) ++ (option_to_list s.pending ++ unless_last s.ended s.pending (pad_after s.recipe s.taken s.line.items (coming s.ended z)))
 
--- how many silent frames stand at a place or behind it
+-- how many silent frames stand at a place or after it
 abbrev pub silence_from : List (ℕ × ℕ) → ℕ → ℕ
 silence_from pads n = sum_by (λ p. p.0) (filter (λ p. nat_le n p.1) pads)
 
--- all frames of a sound of so many, and all silence that is put into it
+-- all frames of a sound of `taken` frames, and all silence that is put into it
 abbrev pub all_padded : List (ℕ × At) → ℕ → ℕ
 all_padded pads taken = taken + silence_from (placed taken pads) 0
 
--- what holds of it at every moment
+-- the invariant of the stage
 pub record IsPad (s : PadState) : Type 0 where
   pub line : IsLine w32 s.line
   pub channels : s.line.channels ≡ s.recipe.channels
-  pub capacity : s.line.capacity ≡ greatest (map pad_distance s.recipe.pads)
+  pub capacity : s.line.capacity ≡ largest (map pad_distance s.recipe.pads)
   pub pads : IsPads s.recipe.pads
-  pub few : s.taken ≤ 2 ^ 56
-  pub held : length s.line.items + length (option_to_list s.hand) ≤ s.taken
+  pub bound : s.taken ≤ 2 ^ 56
+  pub held : length s.line.items + length (option_to_list s.pending) ≤ s.taken
   pub within : (z : List Samples) → s.given + length (pad_left s z) ≤ s.taken + length z + lengths s.recipe.pads
   pub full : s.ended ≡ false → length s.line.items ≡ min s.taken s.line.capacity
-  pub counted : s.ended ≡ false → s.given + s.silent + length (option_to_list s.hand) ≡ pad_due s.recipe.pads s.taken
-  pub over : s.ended ≡ true → s.hand ≡ None → s.line.items ≡ []
+  pub counted : s.ended ≡ false → s.given + s.silent + length (option_to_list s.pending) ≡ pad_due s.recipe.pads s.taken
+  pub over : s.ended ≡ true → s.pending ≡ None → s.line.items ≡ []
   pub gone : s.ended ≡ true → s.given + length (pad_left s []) ≡ all_padded s.recipe.pads s.taken
-  pub fits : IsHand s.recipe.channels s.hand
+  pub fits : IsPending s.recipe.channels s.pending
 
--- how many frames come after the one in hand, after the end of a sound of so many frames, the last of which are in the line
+-- how many frames come after the pending one, after the end of a sound of `taken` frames, the last of which are in the line
 abbrev pub later_count : List (ℕ × At) → ℕ → ℕ → ℕ → ℕ
-later_count pads taken lined hands = if nat_eq hands 0 then 0 else lined + silence_from (placed taken pads) (taken - lined)
+later_count pads taken lined pending_count = if nat_eq pending_count 0 then 0 else lined + silence_from (placed taken pads) (taken - lined)
 
--- what holds of its counts alone: so many frames taken and given, in the line and in hand, and silent ones to be given
-pub record IsPadCount (pads : List (ℕ × At)) (taken given silent lined hands : ℕ) (ended : Bool) : Type 0 where
-  pub full : ended ≡ false → lined ≡ min taken (greatest (map pad_distance pads))
-  pub counted : ended ≡ false → given + silent + hands ≡ pad_due pads taken
-  pub over : ended ≡ true → hands ≡ 0 → lined ≡ 0
-  pub gone : ended ≡ true → given + silent + hands + later_count pads taken lined hands ≡ all_padded pads taken
+-- the invariant of its counts: frames taken and given, in the line and pending, and silent frames to be given
+pub record IsPadCount (pads : List (ℕ × At)) (taken given silent lined pending_count : ℕ) (ended : Bool) : Type 0 where
+  pub full : ended ≡ false → lined ≡ min taken (largest (map pad_distance pads))
+  pub counted : ended ≡ false → given + silent + pending_count ≡ pad_due pads taken
+  pub over : ended ≡ true → pending_count ≡ 0 → lined ≡ 0
+  pub gone : ended ≡ true → given + silent + pending_count + later_count pads taken lined pending_count ≡ all_padded pads taken
 
 -- how the stages of `pad` behave
 abbrev pub pad_acts : Acts PadState PadArguments
@@ -90,12 +91,12 @@ pad_acts = record {
   meaning = pad_meaning;
   rest = λ s z. map plain (pad_left s z);
   counts = λ s. record { taken = s.taken; given = s.given; clips = 0; ended = s.ended };
-  dry = λ s. is_none s.hand && nat_eq s.silent 0;
-  stored = λ s. s.line.items ++ option_to_list s.hand;
+  dry = λ s. is_none s.pending && nat_eq s.silent 0;
+  stored = λ s. s.line.items ++ option_to_list s.pending;
   capacity = λ s. s.line.capacity;
-  own = λ s. record { first = s.silent; second = length (option_to_list s.hand); third = 0 };
+  state_counters = λ s. record { first = s.silent; second = length (option_to_list s.pending); third = 0 };
 }
 
--- more frames in give no fewer out
+-- more frames taken never mean fewer frames given
 pub pad_rises : (r : PadArguments) (m n : ℕ) → m ≤ n → m + lengths r.pads ≤ n + lengths r.pads
 pad_rises r m n h = omega arith

@@ -1,13 +1,13 @@
 -- The effect `trim` (sox(1), EFFECTS, trim): the frames after an odd number of positions.
 use Rattle.std.specs.Prelude.{ℕ, ◌-◌, ◌%◌, ◌^◌, ◌==◌, ◌&&◌, max, nat_le, Bool, true, false, if◌then◌else◌, List, [], ◌∷◌, count_by, filter, length, map, slice_index_or, Option, Some, None}
 use Rattle.std.specs.List.{range_with_len, list_all}
-use Rattle.fx_fixed.specs.Extents.{end_distance, greatest}
+use Rattle.fx_fixed.specs.Extents.{end_distance, largest}
 use Rattle.fx_fixed.specs.Positions.{places_of}
 use Rattle.fx_fixed.specs.declared.positions.At.{At}
 use Rattle.fx_fixed.specs.declared.positions.At.TheVariants.{Start, End}
-use Rattle.fx_step.specs.Frame.{Samples}
-use Rattle.fx_step.specs.Given.{plain}
-use Rattle.fx_step.specs.Stage.{Kind, Given}
+use Rattle.fx_frame_stage.specs.Frame.{Samples}
+use Rattle.fx_frame_stage.specs.Given.{plain}
+use Rattle.fx_frame_stage.specs.Stage.{StageKind, Given}
 
 -- an odd number of the places are at n or before it
 abbrev pub keeps : List ℕ → ℕ → Bool
@@ -34,10 +34,10 @@ last_start [] = 0
 last_start (Start p ∷ ps) = max p (last_start ps)
 last_start (End b ∷ ps) = last_start ps
 
--- how many frames are given after so many, with no end: those before each end position, as far as the positions before the
--- first one from the end keep them
+-- how many frames are given after `s` taken frames, with no end: those before each end position, as far as the positions before
+-- the first one from the end keep them
 abbrev pub trim_due : List At → ℕ → ℕ
-trim_due ps s = count_by (keeps (places_of 0 (starts ps))) (range_with_len 0 (s - greatest (map end_distance ps)))
+trim_due ps s = count_by (keeps (places_of 0 (starts ps))) (range_with_len 0 (s - largest (map end_distance ps)))
 
 -- an even number of positions, all from the start: nothing is kept from the greatest one on, which is the last where they
 -- are in order
@@ -49,9 +49,9 @@ pub record TrimArguments : Type 0 where
   pub channels : ℕ
   pub positions : List At
 
--- what it takes and gives, and when
-abbrev pub trim_kind : TrimArguments → Kind
-trim_kind r = record { inputs = r.channels; outputs = r.channels; line = greatest (map end_distance r.positions); limit = 2 ^ 56; due = trim_due r.positions; most = λ n. n; enough = trim_enough r.positions }
+-- what it takes and gives, and when each frame is due
+abbrev pub trim_kind : TrimArguments → StageKind
+trim_kind r = record { inputs = r.channels; outputs = r.channels; line = largest (map end_distance r.positions); limit = 2 ^ 56; due = trim_due r.positions; maximum = λ n. n; enough = trim_enough r.positions }
 
 -- what it gives for a sound
 abbrev pub trim_meaning : TrimArguments → List Samples → List Given

@@ -4,7 +4,7 @@ use Rattle.std.specs.Prelude.{count_by}
 use Rattle.std.specs.List.{list_all}
 use Rattle.std.proofs.lemmas.Bool.{lt-leb, le-leb, false≢true}
 use Rattle.std.proofs.lemmas.List.Sums.{sum_by-cons}
-use Rattle.fx_fixed.specs.Extents.{end_distance, greatest}
+use Rattle.fx_fixed.specs.Extents.{end_distance, largest}
 use Rattle.fx_fixed.specs.Positions.{place_of, places_after, places_of}
 use Rattle.fx_fixed.specs.declared.positions.At.{At}
 use Rattle.fx_fixed.specs.declared.positions.At.TheVariants.{Start, End}
@@ -23,7 +23,7 @@ none_before len n m (p ∷ ps) h =
     ap (λ b. cond b 1 0 + count_by (λ q. leb q n) (places_after len q ps)) e ∙ omega (arith, none_before len n q ps (omega arith)))
 
 -- before the end positions, only the positions before them count
-pub crossed : (len n m : ℕ) (ps : List At) → n + greatest (map end_distance ps) < len
+pub crossed : (len n m : ℕ) (ps : List At) → n + largest (map end_distance ps) < len
     → count_by (λ q. leb q n) (places_after len m ps) ≡ count_by (λ q. leb q n) (places_after 0 m (starts ps))
 crossed len n m [] h = refl
 crossed len n m (Start p ∷ ps) h =
@@ -37,7 +37,7 @@ crossed len n m (End b ∷ ps) h =
     ap (λ t. cond t 1 0 + count_by (λ q. leb q n) (places_after len q ps)) e ∙ omega (arith, none_before len n q ps (omega arith)))
 
 -- a frame that lies before each end position is kept whatever the length
-pub kept-early : (len n : ℕ) (ps : List At) → n + greatest (map end_distance ps) < len → keeps (places_of len ps) n ≡ keeps (places_of 0 (starts ps)) n
+pub kept-early : (len n : ℕ) (ps : List At) → n + largest (map end_distance ps) < len → keeps (places_of len ps) n ≡ keeps (places_of 0 (starts ps)) n
 kept-early len n ps h = ap (λ k. eqb (k % 2) 1) (crossed len n 0 ps h)
 
 -- from the greatest of the start positions on, all of them are at n or before it

@@ -3,10 +3,10 @@ use Rattle.std.specs.Prelude.{ℕ, ◌+◌, nat_lt, nat_eq, Bool, false, List, [
 use Rattle.fx_fixed.specs.declared.positions.Anchor.TheVariants as anchors
 use Rattle.fx_fixed.specs.declared.positions.At.{At}
 use Rattle.fx_fixed.specs.declared.positions.At.TheVariants.{Start, End}
-use Rattle.fx_words.specs.declared.fault.Mark.{Mark}
-use Rattle.fx_words.specs.declared.fault.PlanCause.TheVariants.{WrongCount, PositionBehind}
-use Rattle.fx_words.specs.Faults.{Word, mark, when}
-use Rattle.fx_words.specs.Numbers.{position_in, beginning}
+use Rattle.fx_plan_words.specs.declared.fault.Mark.{Mark}
+use Rattle.fx_plan_words.specs.declared.fault.PlanCause.TheVariants.{WrongCount, PositionBehind}
+use Rattle.fx_plan_words.specs.Faults.{Word, mark, when}
+use Rattle.fx_plan_words.specs.Numbers.{position_in, beginning}
 
 -- the words that are no positions, each by its number
 abbrev pub place_faults : ℕ → ℕ → At → List Word → List Mark
@@ -24,17 +24,17 @@ places rate previous (word ∷ words) = elim (position_in rate anchors.Previous 
   | Ok position ↦ position ∷ places rate position words
 ]
 
--- a position lies before the one in front of it, both of one anchor
-abbrev pub is_behind : At → At → Bool
-is_behind (Start first) (Start second) = nat_lt second first
-is_behind (End first) (End second) = nat_lt first second
-is_behind first second = false
+-- a position lies before the previous one, both of one anchor
+abbrev pub is_passed : At → At → Bool
+is_passed (Start first) (Start second) = nat_lt second first
+is_passed (End first) (End second) = nat_lt first second
+is_passed first second = false
 
--- the positions that lie before the one in front of them, the later one's word being named
+-- the positions that lie before the previous one; the fault names the word of the later one
 abbrev pub order_faults : ℕ → List At → List Mark
 order_faults number [] = []
 order_faults number (p ∷ []) = []
-order_faults number (p ∷ q ∷ ps) = when (is_behind p q) (mark PositionBehind number) ++ order_faults (number + 1) (q ∷ ps)
+order_faults number (p ∷ q ∷ ps) = when (is_passed p q) (mark PositionBehind number) ++ order_faults (number + 1) (q ∷ ps)
 
 unfoldable pub trim_faults : ℕ → List Word → List Mark
 trim_faults rate words =

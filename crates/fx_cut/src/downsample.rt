@@ -1,25 +1,25 @@
-//! The effect `downsample` of sox(1): the first of every so many frames.
+//! The effect `downsample` of sox(1): the first frame of every group of as many frames as the factor.
 ghost use Rattle.std.specs.Prelude.{◌≡◌, ◌≤◌, ◌*◌, Ok, IfOk, IfErr, drop, length};
-ghost use Rattle.fx_lists.specs.Lists.{pieces};
-ghost use Rattle.fx_step.specs.Stage.{Freezes, IsNew};
+ghost use Rattle.fx_frame_lists.specs.Lists.{pieces};
+ghost use Rattle.fx_frame_stage.specs.Stage.{Freezes, IsNew};
 ghost use Rattle.fx_cut.specs.Factor.{FactorArguments, IsFactor};
 ghost use Rattle.fx_cut.specs.DownsampleState.{DownsampleState, IsDownsample, downsample_acts};
 ghost use Rattle.fx_cut.specs.Strides.{firsts};
 
 use crate::many::{PassesMany, feed_by_pieces};
-use fx_frame::{Feeds, Frame, Passed, Stage, Tally, ThawFault, WideFrame};
-use fx_step::hand::{stored_hand, thawed_hand};
-use fx_step::stage::MOST_TAKEN;
+use fx_frame::{Counters, Feeds, Frame, Passed, Stage, ThawFault, WideFrame};
+use fx_frame_stage::pending::{stored_pending, thawed_pending};
+use fx_frame_stage::stage::MAX_TAKEN;
 use std::marker::Model;
 
-/// Copies the first frame of each of so many groups in front of the input to the front of the output.
+/// Copies the first frame of each of `groups` groups at the front of the input to the front of the output.
 #[inline(always)]
 fn copy_groups(input: &[i32], output: &mut [i32], channels: usize, step: usize, groups: usize)
     requires step { 1 ≤ step }
     requires input { groups * (step * channels) ≤ length input.now }
     requires output { groups * channels ≤ length output.old }
     ensures frames { pieces channels groups output.new ≡ firsts channels step groups input.now }
-    ensures behind { drop (groups * channels) output.new ≡ drop (groups * channels) output.old }
+    ensures rest_unchanged { drop (groups * channels) output.new ≡ drop (groups * channels) output.old }
 {
     let mut read = 0;
     let mut written = 0;
@@ -36,7 +36,7 @@ fn copy_firsts(input: &[i32], output: &mut [i32], channels: usize, step: usize, 
     requires input { groups * (step * channels) ≤ length input.now }
     requires output { groups * channels ≤ length output.old }
     ensures frames { pieces channels groups output.new ≡ firsts channels step groups input.now }
-    ensures behind { drop (groups * channels) output.new ≡ drop (groups * channels) output.old }
+    ensures rest_unchanged { drop (groups * channels) output.new ≡ drop (groups * channels) output.old }
 {
     match channels {
         1 => copy_groups(input, output, 1, step, groups),
@@ -50,7 +50,7 @@ fn copy_firsts(input: &[i32], output: &mut [i32], channels: usize, step: usize, 
 /// `2^56` frames.
 #[derive(Drop)]
 pub struct Downsample {
-    hand: Option<Frame>,
+    pending: Option<Frame>,
     channels: usize,
     factor: u64,
     skip: u64,
@@ -64,19 +64,19 @@ impl Model for Downsample {
 
     ghost Value = { DownsampleState };
 
-    ghost view = { λ s. record { hand = s.hand; recipe = record { channels = s.channels; factor = s.factor }; skip = s.skip; taken = s.taken; given = s.given; ended = s.ended } };
+    ghost view = { λ s. record { pending = s.pending; recipe = record { channels = s.channels; factor = s.factor }; skip = s.skip; taken = s.taken; given = s.given; ended = s.ended } };
 
-    ghost invariant = { λ s. IsDownsample (record { hand = s.hand; recipe = record { channels = s.channels; factor = s.factor }; skip = s.skip; taken = s.taken; given = s.given; ended = s.ended }) };
+    ghost invariant = { λ s. IsDownsample (record { pending = s.pending; recipe = record { channels = s.channels; factor = s.factor }; skip = s.skip; taken = s.taken; given = s.given; ended = s.ended }) };
 }
 
 impl Downsample {
-    /// The stage for frames of 1 to 16 channels and a factor from 1 to 256. Takes no memory.
+    /// The stage for frames of 1 to 16 channels and a factor from 1 to 256. Allocates no memory.
     pub fn new(channels: usize, factor: u64) -> Downsample
         requires { IsFactor (record { channels = channels; factor = factor }) }
         ensures { IsNew downsample_acts (record { channels = channels; factor = factor }) result }
     {
         Downsample {
-            hand: None,
+            pending: None,
             channels,
             factor,
             skip: 0,
@@ -87,7 +87,7 @@ impl Downsample {
     }
 
     /// The stage that stored these frames and counted these numbers: whichever stage of these arguments they came from, that
-    /// stage comes back. BadSnapshot where there is none. Takes no memory.
+    /// stage is restored. BadSnapshot where there is none. Allocates no memory.
     pub fn thaw(
         channels: usize,
         factor: u64,
@@ -103,7 +103,7 @@ impl Downsample {
         let [taken, given, ended, 0, held, skip, 0, 0] = *numbers else {
             return Err(ThawFault::BadSnapshot);
         };
-        if ended > 1 || held != frames.len() as u64 || taken > MOST_TAKEN {
+        if ended > 1 || held != frames.len() as u64 || taken > MAX_TAKEN {
             return Err(ThawFault::BadSnapshot);
         }
         let made = taken.div_ceil(factor);
@@ -113,9 +113,9 @@ impl Downsample {
         if held != 0 && (ended != 0 || skip + 1 != factor) {
             return Err(ThawFault::BadSnapshot);
         }
-        let hand = thawed_hand(frames, channels)?;
+        let pending = thawed_pending(frames, channels)?;
         Ok(Downsample {
-            hand,
+            pending,
             channels,
             factor,
             skip,
@@ -144,7 +144,7 @@ impl Stage for Downsample {
             self.skip -= 1;
             return;
         }
-        self.hand = Some(frame);
+        self.pending = Some(frame);
         self.skip = self.factor - 1;
     }
 
@@ -153,19 +153,19 @@ impl Stage for Downsample {
     }
 
     fn give(&mut self) -> Option<Frame> {
-        let frame = self.hand?;
-        self.hand = None;
+        let frame = self.pending?;
+        self.pending = None;
         self.given += 1;
         Some(frame)
     }
 
     fn is_dry(&self) -> bool {
-        self.hand.is_none()
+        self.pending.is_none()
     }
 
     #[inline(always)]
-    fn tally(&self) -> Tally {
-        Tally {
+    fn counter_values(&self) -> Counters {
+        Counters {
             taken: self.taken,
             given: self.given,
             clips: 0,
@@ -178,7 +178,7 @@ impl Stage for Downsample {
     }
 
     fn held(&self) -> u64 {
-        u64::from(self.hand.is_some())
+        u64::from(self.pending.is_some())
     }
 
     fn hold(&self) -> u64 {
@@ -193,21 +193,21 @@ impl Stage for Downsample {
         self.channels
     }
 
-    fn own(&self) -> [u64; 3] {
+    fn state_counters(&self) -> [u64; 3] {
         [self.skip, 0, 0]
     }
 
     fn stored(&self, j: usize) -> WideFrame {
-        stored_hand(self.hand, j)
+        stored_pending(self.pending, j)
     }
 }
 
 impl PassesMany for Downsample {
-    /// Passes the frames that are to be left out, and then whole groups of a frame that is kept and those left out behind it,
-    /// while the output has room for a frame behind that of the group.
+    /// Passes the frames that are to be left out, and then whole groups of a frame that is kept and those left out after it,
+    /// while the output has space for a frame after that of the group.
     fn pass_many(&mut self, input: &[i32], output: &mut [i32]) -> Passed {
         let channels = self.channels;
-        if self.hand.is_some() || self.ended || output.len() < channels {
+        if self.pending.is_some() || self.ended || output.len() < channels {
             return Passed { taken: 0, given: 0 };
         }
         let frames = input.len() / channels;

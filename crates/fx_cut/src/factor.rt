@@ -3,4 +3,4 @@
 pub mod words;
 
 /// The greatest factor of a change of rate.
-pub const MOST_FACTOR: u64 = 256;
+pub const MAX_FACTOR: u64 = 256;

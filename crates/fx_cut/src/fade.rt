@@ -2,28 +2,28 @@
 ghost use Rattle.std.specs.Prelude.{ℕ, ◌≡◌, ◌≤◌, ◌<◌, ◌+◌, ◌*◌, ◌^◌, length, map, Err, FitsSigned, IfOk, MatchResult, false, option_to_list, true};
 ghost use Rattle.std.specs.Int.{w32};
 ghost use Rattle.std.specs.List.{All};
-ghost use Rattle.fx_fixed.specs.Extents.{meant, stop_line};
-ghost use Rattle.fx_step.specs.Hand.{IsHand};
-ghost use Rattle.fx_step.specs.Stage.{Freezes, IsNew};
-ghost use Rattle.fx_step.specs.Given.{plain};
-ghost use Rattle.fx_lists.specs.Rounded.{unclipped};
+ghost use Rattle.fx_cut.specs.FadeExtents.{effective, stop_line};
+ghost use Rattle.fx_frame_stage.specs.PendingFrame.{IsPending};
+ghost use Rattle.fx_frame_stage.specs.Stage.{Freezes, IsNew};
+ghost use Rattle.fx_frame_stage.specs.Given.{plain};
+ghost use Rattle.fx_frame_lists.specs.Rounded.{unclipped};
 ghost use Rattle.fx_cut.specs.Fade.{FadeArguments, fade_enough, fade_line, stop_in, until, weighted, weights};
-ghost use Rattle.fx_cut.specs.FadeState.{fade_acts, fade_sifts, faded_here, is_before, stop_settled};
-ghost use Rattle.fx_cut.specs.Sifted.{IsSiftState, SiftState};
+ghost use Rattle.fx_cut.specs.FadeState.{fade_acts, fade_selects, faded_here, is_before, stop_determined};
+ghost use Rattle.fx_cut.specs.Selected.{IsSelectedState, SelectedState};
 
 pub mod words;
 
-use crate::sifted::{Sifted, Sifting, Stretch};
+use crate::extents::{effective_stop, stop_line};
+use crate::selected::{FrameRun, Selected, Selection};
 use crate::slopes::{Slope, weigh_by};
 use fx_fixed::At;
-use fx_fixed::inner::{meant_stop, stop_line};
 use fx_frame::{Frame, ThawFault, WideFrame};
 use std::alloc::{AllocError, Global};
 use std::marker::Model;
 
 /// What a fade does to a sound, whatever its channels.
 #[derive(Drop)]
-pub struct Shape {
+pub struct FadeShape {
     /// The frames of the rise; 0 for no rise.
     pub fade_in: u64,
     /// Where the sound stops, if it does before its end or fades out at its end.
@@ -32,7 +32,7 @@ pub struct Shape {
     pub fade_out: u64,
 }
 
-/// Does the frame at this place lie before the stop?
+/// Whether the frame at this place lies before the stop.
 #[inline(always)]
 fn is_ahead(stop: Option<u64>, place: u64) -> bool
     ensures { result ≡ is_before stop place }
@@ -47,7 +47,7 @@ fn is_ahead(stop: Option<u64>, place: u64) -> bool
 #[derive(Drop)]
 pub struct PreparedFade {
     channels: usize,
-    shape: Shape,
+    shape: FadeShape,
     rise: Slope,
     fall: Slope,
 }
@@ -68,14 +68,14 @@ impl PreparedFade {
     /// Prepares the rise and the fall of a fade. A stop at 0 from the start means the end.
     fn of(channels: usize, fade_in: u64, stop: Option<At>, fade_out: u64) -> PreparedFade
         requires fades { (fade_in ≤ 2 ^ 40) × (fade_out ≤ 2 ^ 40) }
-        ensures { result ≡ record { channels = channels; shape = record { fade_in = fade_in; stop = meant stop; fade_out = fade_out } } }
+        ensures { result ≡ record { channels = channels; shape = record { fade_in = fade_in; stop = effective stop; fade_out = fade_out } } }
     {
         let rise = Slope::new(fade_in);
         let fall = Slope::new(fade_out);
-        let stop = meant_stop(stop);
+        let stop = effective_stop(stop);
         PreparedFade {
             channels,
-            shape: Shape {
+            shape: FadeShape {
                 fade_in,
                 stop,
                 fade_out,
@@ -85,7 +85,7 @@ impl PreparedFade {
         }
     }
 
-    /// Where the stop lies in a sound of so many frames.
+    /// Where the stop lies in a sound of `frames` frames.
     fn stop(&self, frames: u64) -> Option<u64>
         ensures { result ≡ stop_in frames self.now.shape.stop }
     {
@@ -104,12 +104,12 @@ impl PreparedFade {
         stop_line(self.shape.stop, self.shape.fade_out)
     }
 
-    /// Where the stop lies as far as is settled when the frame at this place falls out of the line: a stop from the end lies
-    /// further behind that frame than the fall is long.
+    /// Where the stop lies as far as is determined when the frame at this place falls out of the line: a stop from the end lies
+    /// farther after that frame than the length of the fall.
     #[inline(always)]
     fn next_stop(&self, place: u64) -> Option<u64>
         requires place { place ≤ 2 ^ 56 }
-        ensures { result ≡ stop_settled self.now.shape place }
+        ensures { result ≡ stop_determined self.now.shape place }
     {
         match self.shape.stop {
             None => None,
@@ -118,12 +118,12 @@ impl PreparedFade {
         }
     }
 
-    /// How many frames from this place on lie between the rise and the fall, as far as is settled when they fall out of the
+    /// How many frames from this place on lie between the rise and the fall, as far as is determined when they fall out of the
     /// line.
     #[inline(always)]
     fn flat_from(&self, place: u64) -> u64
-        ensures whole { (n : ℕ) → n < result → (weights self.now.shape (stop_settled self.now.shape (place + n)) (place + n)).0 ≡ (weights self.now.shape (stop_settled self.now.shape (place + n)) (place + n)).1 }
-        ensures before { (n : ℕ) → n < result → is_before (stop_settled self.now.shape (place + n)) (place + n) ≡ true }
+        ensures whole { (n : ℕ) → n < result → (weights self.now.shape (stop_determined self.now.shape (place + n)) (place + n)).0 ≡ (weights self.now.shape (stop_determined self.now.shape (place + n)) (place + n)).1 }
+        ensures before { (n : ℕ) → n < result → is_before (stop_determined self.now.shape (place + n)) (place + n) ≡ true }
     {
         if place < self.shape.fade_in {
             return 0;
@@ -136,7 +136,7 @@ impl PreparedFade {
             .saturating_sub(place)
     }
 
-    /// Weighs the samples of the frame at this place, where the sound stops at another or does not stop, in their place.
+    /// Weighs, in place, the samples of the frame at this place, where the sound stops at another or does not stop.
     #[inline(always)]
     fn weigh(&self, samples: &mut [i32], stop: Option<u64>, place: u64)
         requires fit { All (FitsSigned w32) samples.old }
@@ -166,13 +166,13 @@ impl PreparedFade {
         }
     }
 
-    /// The same as `sift_over`, for a frame that may lie on the rise or the fall.
+    /// The same as `select_over`, for a frame that may lie on the rise or the fall.
     #[inline(never)]
     fn weigh_sloped(&self, samples: &mut [i32], place: u64) -> bool
         requires fit { All (FitsSigned w32) samples.old }
         requires place { place ≤ 2 ^ 56 }
-        ensures before { result ≡ is_before (stop_settled self.now.shape place) place }
-        ensures samples { result ≡ true → map (weighted (weights self.now.shape (stop_settled self.now.shape place) place)) samples.old ≡ map unclipped samples.new }
+        ensures before { result ≡ is_before (stop_determined self.now.shape place) place }
+        ensures samples { result ≡ true → map (weighted (weights self.now.shape (stop_determined self.now.shape place) place)) samples.old ≡ map unclipped samples.new }
         ensures left { result ≡ false → samples.new ≡ samples.old }
         ensures fit { All (FitsSigned w32) samples.new }
         ensures len { length samples.new ≡ length samples.old }
@@ -185,11 +185,11 @@ impl PreparedFade {
         true
     }
 
-    /// What is given of the frame at this place, in a sound that stops at another or does not stop: nothing behind the stop.
+    /// What is given of the frame at this place, in a sound that stops at another or does not stop: nothing after the stop.
     #[inline(always)]
     fn faded(&self, frame: Frame, stop: Option<u64>, place: u64) -> Option<Frame>
         ensures value { map plain (option_to_list result) ≡ faded_here self.now.shape stop place frame }
-        ensures fits { IsHand (length frame) result }
+        ensures fits { IsPending (length frame) result }
     {
         if !is_ahead(stop, place) {
             return None;
@@ -201,7 +201,7 @@ impl PreparedFade {
     }
 }
 
-/// How many of so many frames lie before the stop.
+/// How many of `frames` frames lie before the stop.
 fn frames_until(stop: Option<u64>, frames: u64) -> u64
     ensures { result ≡ until stop frames }
 {
@@ -211,13 +211,13 @@ fn frames_until(stop: Option<u64>, frames: u64) -> u64
     }
 }
 
-impl Sifting for PreparedFade {
-    ghost use Rattle.fx_cut.specs.FadeState.{fade_sifts};
-    ghost use Rattle.fx_cut.specs.FadeSettled.{fade-settled};
+impl Selection for PreparedFade {
+    ghost use Rattle.fx_cut.specs.FadeState.{fade_selects};
+    ghost use Rattle.fx_cut.specs.FadeDetermined.{fade-determined};
 
-    ghost sifts = { fade_sifts };
+    ghost selects = { fade_selects };
 
-    ghost settled = { fade-settled };
+    ghost determined = { fade-determined };
 
     fn channels(&self) -> usize {
         self.channels
@@ -246,45 +246,45 @@ impl Sifting for PreparedFade {
         frames_until(self.stop(frames), place)
     }
 
-    fn stretch_from(&self, place: u64) -> Stretch {
+    fn frame_run_from(&self, place: u64) -> FrameRun {
         let Some(At::Start(start)) = self.shape.stop else {
-            return Stretch {
+            return FrameRun {
                 is_given: true,
                 frames: u64::MAX,
             };
         };
         if place < start {
-            return Stretch {
+            return FrameRun {
                 is_given: true,
                 frames: start - place,
             };
         }
-        Stretch {
+        FrameRun {
             is_given: false,
             frames: u64::MAX,
         }
     }
 
-    fn sift(&mut self, frame: Frame, place: u64) -> Option<Frame> {
+    fn select(&mut self, frame: Frame, place: u64) -> Option<Frame> {
         let stop = self.next_stop(place);
         self.faded(frame, stop, place)
     }
 
     /// Between the rise and the fall no sample is touched.
     #[inline(always)]
-    fn sift_over(&mut self, samples: &mut [i32], place: u64) -> bool {
+    fn select_over(&mut self, samples: &mut [i32], place: u64) -> bool {
         if self.flat_from(place) > 0 {
             return true;
         }
         self.weigh_sloped(samples, place)
     }
 
-    fn sift_in(&self, frame: Frame, frames: u64, place: u64) -> Option<Frame> {
+    fn selected_in(&self, frame: Frame, frames: u64, place: u64) -> Option<Frame> {
         let stop = self.stop(frames);
         self.faded(frame, stop, place)
     }
 
-    fn sift_many(&self, samples: &mut [i32], channels: usize, count: usize, place: u64) {
+    fn select_many(&self, samples: &mut [i32], channels: usize, count: usize, place: u64) {
         if count as u64 <= self.flat_from(place) {
             return;
         }
@@ -300,9 +300,9 @@ impl Sifting for PreparedFade {
 
 /// The stage of `fade`: the frames before the stop, or all of them, each sample times the weights of the rise and of the fall,
 /// rounded once. No sample is clipped. It takes up to `2^56` frames.
-pub type Fade = Sifted<PreparedFade>;
+pub type Fade = Selected<PreparedFade>;
 
-impl Sifted<PreparedFade> {
+impl Selected<PreparedFade> {
     /// The stage for frames of 1 to 16 channels, with a rise and a fall of at most `2^40` frames. Without a stop there is no
     /// fall; a stop at 0 from the start means the end. A stop from the end needs a line of its distance and the fall, at most
     /// `2^28` frames; AllocError where memory for it is refused.
@@ -315,16 +315,16 @@ impl Sifted<PreparedFade> {
     ) -> Result<Fade, AllocError>
         requires channels { (1 ≤ channels) × (channels ≤ 16) }
         requires fades { (fade_in ≤ 2 ^ 40) × (fade_out ≤ 2 ^ 40) }
-        requires line { stop_line (meant stop) fade_out ≤ 2 ^ 28 }
-        ensures { IfOk result (IsNew fade_acts (record { channels = channels; shape = record { fade_in = fade_in; stop = meant stop; fade_out = fade_out } })) }
+        requires line { stop_line (effective stop) fade_out ≤ 2 ^ 28 }
+        ensures { IfOk result (IsNew fade_acts (record { channels = channels; shape = record { fade_in = fade_in; stop = effective stop; fade_out = fade_out } })) }
     {
         let fading = PreparedFade::of(channels, fade_in, stop, fade_out);
         let reach = fading.line();
-        Sifted::of(alloc, fading, reach)
+        Selected::of(alloc, fading, reach)
     }
 
     /// The stage that stored these frames and counted these numbers: whichever stage of these arguments they came from, that
-    /// stage comes back, unless memory is refused. BadSnapshot where there is no such stage, Memory where memory is refused.
+    /// stage is restored, unless memory is refused. BadSnapshot where there is no such stage, Memory where memory is refused.
     pub fn thaw(
         alloc: Global,
         channels: usize,
@@ -336,14 +336,14 @@ impl Sifted<PreparedFade> {
     ) -> Result<Fade, ThawFault>
         requires channels { (1 ≤ channels) × (channels ≤ 16) }
         requires fades { (fade_in ≤ 2 ^ 40) × (fade_out ≤ 2 ^ 40) }
-        requires line { stop_line (meant stop) fade_out ≤ 2 ^ 28 }
-        ensures recipe { IfOk result (λ t. t.arguments ≡ record { channels = channels; shape = record { fade_in = fade_in; stop = meant stop; fade_out = fade_out } }) }
+        requires line { stop_line (effective stop) fade_out ≤ 2 ^ 28 }
+        ensures recipe { IfOk result (λ t. t.arguments ≡ record { channels = channels; shape = record { fade_in = fade_in; stop = effective stop; fade_out = fade_out } }) }
         ensures frozen { IfOk result (λ t. Freezes fade_acts t frames.now numbers.now) }
         ensures named { (result ≡ Err ThawFault.WrongPlan) → ⊥ }
-        ensures thawed { (s : SiftState FadeArguments) → IsSiftState fade_sifts s → s.arguments ≡ record { channels = channels; shape = record { fade_in = fade_in; stop = meant stop; fade_out = fade_out } } → Freezes fade_acts s frames.now numbers.now → MatchResult result (λ t. t ≡ s) (λ e. e ≡ ThawFault.Memory) }
+        ensures thawed { (s : SelectedState FadeArguments) → IsSelectedState fade_selects s → s.arguments ≡ record { channels = channels; shape = record { fade_in = fade_in; stop = effective stop; fade_out = fade_out } } → Freezes fade_acts s frames.now numbers.now → MatchResult result (λ t. t ≡ s) (λ e. e ≡ ThawFault.Memory) }
     {
         let fading = PreparedFade::of(channels, fade_in, stop, fade_out);
         let reach = fading.line();
-        Sifted::thawed(alloc, fading, reach, frames, numbers)
+        Selected::thawed(alloc, fading, reach, frames, numbers)
     }
 }

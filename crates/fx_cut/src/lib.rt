@@ -1,13 +1,14 @@
-//! Effects that cut a sound: they give frames as they are, in other places or not at all.
+//! Effects that cut a sound: they give frames unchanged, at other places or not at all.
 #![tactic(auto)]
 
 pub mod downsample;
+pub mod extents;
 pub mod factor;
 pub mod fade;
 mod lines;
 mod many;
 pub mod pad;
-pub mod sifted;
+pub mod selected;
 mod slopes;
 pub mod trim;
 pub mod upsample;

@@ -1,13 +1,14 @@
-//! Lines that may have no places.
+//! Lines whose capacity may be 0.
 ghost use Rattle.std.specs.Prelude.{◌≡◌, ◌≤◌, ◌*◌, ◌++◌, ◌^◌, length, take, false, true, None, Some, if◌then◌else◌};
-ghost use Rattle.fx_step.specs.Frame.{IsFrame};
-ghost use Rattle.fx_lists.specs.Lists.{pieces};
-ghost use Rattle.fx_ring.specs.Line.{pushed, pushed_all, pushed_out};
+ghost use Rattle.fx_frame_stage.specs.Frame.{IsFrame};
+ghost use Rattle.fx_frame_lists.specs.Lists.{pieces};
+ghost use Rattle.fx_frame_line.specs.Line.{pushed, pushed_all, pushed_out};
 
 use fx_frame::Line;
-use fx_step::feed::see_samples;
+use fx_frame::groups::{SAMPLES_OF_GROUP, frames_of_group};
+use fx_frame_stage::feed::see_samples;
 
-/// What `push_over` of a line does. A line with no places stays as it is, and hands the frame back.
+/// What `push_over` of a line does. A line with no places is unchanged, and returns the frame.
 #[inline(always)]
 pub fn push_over(line: &mut Line, samples: &mut [i32]) -> bool
     requires channels { length samples.old ≡ line.old.channels }
@@ -25,19 +26,6 @@ pub fn push_over(line: &mut Line, samples: &mut [i32]) -> bool
         return true;
     }
     line.push_over(samples)
-}
-
-/// The most samples of a group: frames that are exchanged with a line at once. The room for them is cleared each time, so it
-/// is small.
-const SAMPLES_OF_GROUP: usize = 64;
-
-/// The most frames of a group.
-fn frames_of_group(channels: usize) -> usize
-    requires { (1 ≤ channels) × (channels ≤ 16) }
-    ensures some { 1 ≤ result }
-    ensures room { result * channels ≤ 64 }
-{
-    SAMPLES_OF_GROUP / channels
 }
 
 /// Puts the frames of a group in the line, and in their places as many of the oldest: those of the line first, and then those
@@ -61,11 +49,12 @@ fn exchange_group(line: &mut Line, samples: &mut [i32], count: usize)
     line.push_frames(came, count);
 }
 
-/// Puts so many frames in a line that has no room for one more, and in their places those that fall out of it, a group at a time.
+/// Puts `count` frames in a line that has no space for one more, and in their places those that fall out of it, a group at a
+/// time.
 fn exchange_groups(line: &mut Line, channels: usize, samples: &mut [i32], count: usize)
     requires channels { channels ≡ line.old.channels }
     requires full { 1 ≤ count → length line.old.items ≡ line.old.capacity }
-    requires few { count ≤ 2 ^ 56 }
+    requires bound { count ≤ 2 ^ 56 }
     requires samples { length samples.old ≡ count * line.old.channels }
     ensures fallen { pieces line.old.channels count samples.new ≡ take count (line.old.items ++ pieces line.old.channels count samples.old) }
     ensures items { line.new.items ≡ pushed_all line.old (pieces line.old.channels count samples.old) }
@@ -74,10 +63,10 @@ fn exchange_groups(line: &mut Line, channels: usize, samples: &mut [i32], count:
     ensures len { length samples.new ≡ length samples.old }
 {
     let _held = line.len();
-    let most = frames_of_group(channels);
+    let maximum = frames_of_group(channels);
     let mut done = 0;
     'groups: while done < count {
-        let now = most.min(count - done);
+        let now = maximum.min(count - done);
         let from = done * channels;
         let to = from + now * channels;
         exchange_group(line, &mut samples[from..to], now);
@@ -85,12 +74,12 @@ fn exchange_groups(line: &mut Line, channels: usize, samples: &mut [i32], count:
     }
 }
 
-/// Puts so many frames in a line that has no room for one more, and in their places those that fall out of it. A line with no
-/// places lets the frames fall out that came.
+/// Puts `count` frames in a line that has no space for one more, and in their places those that fall out of it. A line with no
+/// places outputs the frames that came.
 pub fn exchange_full(line: &mut Line, channels: usize, samples: &mut [i32], count: usize)
     requires channels { channels ≡ line.old.channels }
     requires full { 1 ≤ count → length line.old.items ≡ line.old.capacity }
-    requires few { count ≤ 2 ^ 56 }
+    requires bound { count ≤ 2 ^ 56 }
     requires samples { length samples.old ≡ count * line.old.channels }
     ensures fallen { pieces line.old.channels count samples.new ≡ take count (line.old.items ++ pieces line.old.channels count samples.old) }
     ensures items { line.new.items ≡ pushed_all line.old (pieces line.old.channels count samples.old) }

@@ -1,40 +1,40 @@
 //! Stages that pass many frames in one piece, and the rest one at a time.
 ghost use Rattle.std.specs.Prelude.{◌≡◌, ◌<◌, ◌≤◌, ◌+◌, ◌*◌, ℕ, true, false, drop, length};
-ghost use Rattle.fx_step.specs.Feed.{Fed, PassedOn, TookWithRoom};
-ghost use Rattle.fx_lists.specs.Lists.{pieces};
-ghost use Rattle.fx_step.specs.Stage.{IsDry, kind, spent};
+ghost use Rattle.fx_frame_stage.specs.Feed.{Fed, PassedOn, TookWithinCapacity};
+ghost use Rattle.fx_frame_lists.specs.Lists.{pieces};
+ghost use Rattle.fx_frame_stage.specs.Stage.{IsDry, kind, spent};
 
 use fx_frame::{Passed, Passing, Stage};
-use fx_step::feed::{feed_by_frames, frame_at, pass_by_calls, put_frame};
+use fx_frame_stage::feed::{feed_by_frames, frame_at, pass_by_calls, put_frame};
 
 /// A stage that can pass many frames in one piece.
 pub trait PassesMany: Stage {
     /// Takes frames from the front of the input, and writes those that are given to the front of the output, as far as one
-    /// piece goes; none where the stage is in no state for that. It takes a frame only while the output has room for one more;
-    /// where it has no room for one frame, none is taken.
+    /// piece goes; none where the stage is in no state for that. It takes a frame only while the output has space for one more;
+    /// where it has no space for one frame, none is taken.
     fn pass_many(&mut self, input: &[i32], output: &mut [i32]) -> Passed
         requires channels { (1 ≤ (kind Self.acts self.old).inputs) × ((kind Self.acts self.old).inputs ≤ 16) }
         requires below_limit { (n : ℕ) → n * (kind Self.acts self.old).inputs ≤ length input.now → (Self.acts.counts self.old).taken + n ≤ (kind Self.acts self.old).limit }
         ensures fed { Fed Self.acts self.old (pieces (kind Self.acts self.old).inputs result.taken input.now) (pieces (kind Self.acts self.old).outputs result.given output.new) self.new }
         ensures read { result.taken * (kind Self.acts self.old).inputs ≤ length input.now }
         ensures written { result.given * (kind Self.acts self.old).outputs ≤ length output.new }
-        ensures behind { drop (result.given * (kind Self.acts self.old).outputs) output.new ≡ drop (result.given * (kind Self.acts self.old).outputs) output.old }
-        ensures room { TookWithRoom Self.acts self.old result.taken (length output.old) };
+        ensures rest_unchanged { drop (result.given * (kind Self.acts self.old).outputs) output.new ≡ drop (result.given * (kind Self.acts self.old).outputs) output.old }
+        ensures free { TookWithinCapacity Self.acts self.old result.taken (length output.old) };
 }
 
-/// Passes a piece first, and then frame by frame. It takes a frame only while the output has room for one more; where it has no
-/// room for one frame, none is taken.
+/// Passes a piece first, and then frame by frame. It takes a frame only while the output has space for one more; where it has
+/// no space for one frame, none is taken.
 fn feed_piece<S: PassesMany>(stage: &mut S, input: &[i32], output: &mut [i32]) -> Passed
     requires channels { (1 ≤ (kind S.acts stage.old).inputs) × ((kind S.acts stage.old).inputs ≤ 16) }
     requires below_limit { (n : ℕ) → n * (kind S.acts stage.old).inputs ≤ length input.now → (S.acts.counts stage.old).taken + n ≤ (kind S.acts stage.old).limit }
     ensures fed { Fed S.acts stage.old (pieces (kind S.acts stage.old).inputs result.taken input.now) (pieces (kind S.acts stage.old).outputs result.given output.new) stage.new }
     ensures read { result.taken * (kind S.acts stage.old).inputs ≤ length input.now }
     ensures written { result.given * (kind S.acts stage.old).outputs ≤ length output.new }
-    ensures behind { drop (result.given * (kind S.acts stage.old).outputs) output.new ≡ drop (result.given * (kind S.acts stage.old).outputs) output.old }
+    ensures rest_unchanged { drop (result.given * (kind S.acts stage.old).outputs) output.new ≡ drop (result.given * (kind S.acts stage.old).outputs) output.old }
     ensures dry { result.given * (kind S.acts stage.old).outputs + (kind S.acts stage.old).outputs ≤ length output.new → S.acts.dry stage.new ≡ true }
     ensures used { result.given * (kind S.acts stage.old).outputs + (kind S.acts stage.old).outputs ≤ length output.new → (S.acts.counts stage.new).ended ≡ false → spent S.acts stage.new ≡ false
         → length input.now < result.taken * (kind S.acts stage.old).inputs + (kind S.acts stage.old).inputs }
-    ensures room { TookWithRoom S.acts stage.old result.taken (length output.old) }
+    ensures free { TookWithinCapacity S.acts stage.old result.taken (length output.old) }
 {
     let inputs = stage.in_channels();
     let outputs = stage.out_channels();
@@ -51,19 +51,19 @@ fn feed_piece<S: PassesMany>(stage: &mut S, input: &[i32], output: &mut [i32]) -
     }
 }
 
-/// What `feed` does for a stage that can pass many frames: it gives what waits, passes a piece, and then goes on frame by
-/// frame. It takes a frame only while the output has room for one more; where it has no room for one frame, none is taken.
+/// What `feed` does for a stage that can pass many frames: it gives what is pending, passes a piece, and then goes on frame by
+/// frame. It takes a frame only while the output has space for one more; where it has no space for one frame, none is taken.
 pub fn feed_by_pieces<S: PassesMany>(stage: &mut S, input: &[i32], output: &mut [i32]) -> Passed
     requires channels { (1 ≤ (kind S.acts stage.old).inputs) × ((kind S.acts stage.old).inputs ≤ 16) }
     requires below_limit { (n : ℕ) → n * (kind S.acts stage.old).inputs ≤ length input.now → (S.acts.counts stage.old).taken + n ≤ (kind S.acts stage.old).limit }
     ensures fed { Fed S.acts stage.old (pieces (kind S.acts stage.old).inputs result.taken input.now) (pieces (kind S.acts stage.old).outputs result.given output.new) stage.new }
     ensures read { result.taken * (kind S.acts stage.old).inputs ≤ length input.now }
     ensures written { result.given * (kind S.acts stage.old).outputs ≤ length output.new }
-    ensures behind { drop (result.given * (kind S.acts stage.old).outputs) output.new ≡ drop (result.given * (kind S.acts stage.old).outputs) output.old }
+    ensures rest_unchanged { drop (result.given * (kind S.acts stage.old).outputs) output.new ≡ drop (result.given * (kind S.acts stage.old).outputs) output.old }
     ensures dry { result.given * (kind S.acts stage.old).outputs + (kind S.acts stage.old).outputs ≤ length output.new → S.acts.dry stage.new ≡ true }
     ensures used { result.given * (kind S.acts stage.old).outputs + (kind S.acts stage.old).outputs ≤ length output.new → (S.acts.counts stage.new).ended ≡ false → spent S.acts stage.new ≡ false
         → length input.now < result.taken * (kind S.acts stage.old).inputs + (kind S.acts stage.old).inputs }
-    ensures room { TookWithRoom S.acts stage.old result.taken (length output.old) }
+    ensures free { TookWithinCapacity S.acts stage.old result.taken (length output.old) }
 {
     let inputs = stage.in_channels();
     let outputs = stage.out_channels();
@@ -92,7 +92,7 @@ pub fn pass_by_frame<S: Stage>(stage: &mut S, samples: &mut [i32]) -> Passing
     requires below_limit { (S.acts.counts stage.old).taken < (kind S.acts stage.old).limit }
     ensures passed { PassedOn S.acts result stage.old stage.new samples.old samples.new }
     ensures channels { length samples.new ≡ length samples.old }
-    ensures settled { S.acts.dry stage.new ≡ true → IsDry S.acts stage.new }
+    ensures determined { S.acts.dry stage.new ≡ true → IsDry S.acts stage.new }
 {
     let channels = samples.len();
     let mut frame = frame_at(samples, 0, channels);

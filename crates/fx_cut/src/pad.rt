@@ -1,26 +1,28 @@
 //! The effect `pad` of sox(1): silence at positions.
 ghost use Rattle.std.specs.Prelude.{ℕ, ◌≡◌, ◌<◌, ◌≤◌, ◌+◌, ◌-◌, ◌^◌, drop, filter, length, nat_lt, slice_get, sum_by, Err, IfOk, MatchResult, true, false, map};
 ghost use Rattle.std.specs.Int.{w32};
-ghost use Rattle.fx_fixed.specs.Extents.{greatest, pad_distance};
-ghost use Rattle.fx_step.specs.Hand.{IsHand};
-ghost use Rattle.fx_ring.specs.Line.{IsLine};
-ghost use Rattle.fx_step.specs.Stage.{Freezes, IsNew};
+ghost use Rattle.fx_fixed.specs.Extents.{largest};
+ghost use Rattle.fx_cut.specs.PadExtents.{pad_distance};
+ghost use Rattle.fx_frame_stage.specs.PendingFrame.{IsPending};
+ghost use Rattle.fx_frame_line.specs.Line.{IsLine};
+ghost use Rattle.fx_frame_stage.specs.Stage.{Freezes, IsNew};
 ghost use Rattle.fx_cut.specs.Pad.{IsPads, PadArguments, lengths, pads_from_start, placed, silent_at};
 ghost use Rattle.fx_cut.specs.PadState.{IsPad, IsPadCount, PadState, later_count, pad_acts, pad_rises, silence_from};
 
 pub mod words;
 
+use crate::extents::max_pad_end;
 use crate::many::{PassesMany, feed_by_pieces, pass_by_frame};
 use fx_fixed::At;
-use fx_fixed::inner::greatest_pad_end;
-use fx_frame::frozen::{stored_in, thawed_line_and_hand};
-use fx_frame::{Feeds, Frame, Line, Passed, Passing, Stage, Tally, ThawFault, WideFrame};
-use fx_step::feed::copy_frames;
-use fx_step::stage::MOST_TAKEN;
+use fx_frame::frozen::{stored_in, thawed_line_and_pending};
+use fx_frame::{Counters, Feeds, Frame, Line, Passed, Passing, Stage, ThawFault, WideFrame};
+use fx_frame_stage::feed::copy_frames;
+use fx_frame_stage::stage::MAX_TAKEN;
 use std::alloc::{AllocError, Global};
 use std::marker::Model;
 
-/// How many silent frames stand before the frame at this place, as far as the pads before the first one from the end say.
+/// How many silent frames stand before the frame at this place, as far as the pads before the first one from the end determine
+/// it.
 fn silence_by_starts(pads: &[(u64, At)], place: u64) -> u64
     requires { lengths pads.now ≤ 2 ^ 46 }
     ensures { result ≡ silent_at (pads_from_start pads.now) place }
@@ -37,20 +39,21 @@ fn silence_by_starts(pads: &[(u64, At)], place: u64) -> u64
     silent
 }
 
-/// How many frames from a place on have no silence before them, as far as the pads before the first one from the end say.
-fn quiet_from(pads: &[(u64, At)], place: u64) -> u64
+/// How many frames from a place on have no silence before them, as far as the pads before the first one from the end determine
+/// it.
+fn silent_from(pads: &[(u64, At)], place: u64) -> u64
     ensures { (n : ℕ) → n < result → silent_at (pads_from_start pads.now) (place + n) ≡ 0 }
 {
-    let mut quiet = u64::MAX;
+    let mut silence_here = u64::MAX;
     'pads: for (_length, at) in pads {
         let At::Start(start) = at else {
-            return quiet;
+            return silence_here;
         };
         if place <= *start {
-            quiet = quiet.min(*start - place);
+            silence_here = silence_here.min(*start - place);
         }
     }
-    quiet
+    silence_here
 }
 
 /// Pads, and the frames with no silence before them that were looked up last.
@@ -59,8 +62,8 @@ struct Pads {
     pads: Vec<(u64, At)>,
     /// The place of the first of these frames.
     first: u64,
-    /// How many there are. From the pads, so that no call goes over them for one of these frames.
-    quiet: u64,
+    /// How many there are. From the pads, so that no call scans them for one of these frames.
+    silence_here: u64,
 }
 
 // They are the pads.
@@ -73,7 +76,7 @@ impl Model for Pads {
 
     ghost view = { λ p. p.pads.items };
 
-    ghost invariant = { λ p. (n : ℕ) → n < p.quiet → silent_at (pads_from_start p.pads.items) (p.first + n) ≡ 0 };
+    ghost invariant = { λ p. (n : ℕ) → n < p.silence_here → silent_at (pads_from_start p.pads.items) (p.first + n) ≡ 0 };
 }
 
 impl Pads {
@@ -84,7 +87,7 @@ impl Pads {
         Pads {
             pads,
             first: 0,
-            quiet: 0,
+            silence_here: 0,
         }
     }
 
@@ -95,16 +98,17 @@ impl Pads {
         &self.pads
     }
 
-    /// Is it known that the frame at this place has no silence before it, as far as the pads before the first one from the end
-    /// say?
+    /// Whether it is known that the frame at this place has no silence before it, as far as the pads before the first one from
+    /// the end determine it.
     #[inline(always)]
-    fn is_quiet(&self, place: u64) -> bool
+    fn is_silent(&self, place: u64) -> bool
         ensures { result ≡ true → silent_at (pads_from_start self.now) place ≡ 0 }
     {
-        self.first <= place && place - self.first < self.quiet
+        self.first <= place && place - self.first < self.silence_here
     }
 
-    /// How many silent frames stand before the frame at this place, as far as the pads before the first one from the end say.
+    /// How many silent frames stand before the frame at this place, as far as the pads before the first one from the end determine
+    /// it.
     /// It looks up the frames behind that one.
     fn silence_at(&mut self, place: u64) -> u64
         requires { lengths self.old ≤ 2 ^ 46 }
@@ -112,13 +116,13 @@ impl Pads {
         ensures same { self.new ≡ self.old }
     {
         let first = place.saturating_add(1);
-        self.quiet = quiet_from(&self.pads, first);
+        self.silence_here = silent_from(&self.pads, first);
         self.first = first;
         silence_by_starts(&self.pads, place)
     }
 }
 
-/// How many silent frames stand before the frame at this place, in a sound of so many frames.
+/// How many silent frames stand before the frame at this place, in a sound of `frames` frames.
 fn silence_in(pads: &[(u64, At)], frames: u64, place: u64) -> u64
     requires { lengths pads.now ≤ 2 ^ 46 }
     ensures { result ≡ silent_at (placed frames pads.now) place }
@@ -141,7 +145,7 @@ fn silence_in(pads: &[(u64, At)], frames: u64, place: u64) -> u64
     silent
 }
 
-/// How many silent frames stand before this place, as far as the pads before the first one from the end say.
+/// How many silent frames stand before this place, as far as the pads before the first one from the end determine it.
 fn silence_before(pads: &[(u64, At)], end: u64) -> u64
     requires { lengths pads.now ≤ 2 ^ 46 }
     ensures { result ≡ sum_by (λ p. p.0) (filter (λ p. nat_lt p.1 end) (pads_from_start pads.now)) }
@@ -158,8 +162,8 @@ fn silence_before(pads: &[(u64, At)], end: u64) -> u64
     silent
 }
 
-/// How many silent frames stand at this place or behind it, in a sound of so many frames.
-fn silence_behind(pads: &[(u64, At)], frames: u64, place: u64) -> u64
+/// How many silent frames stand at this place or after it, in a sound of `frames` frames.
+fn silence_after(pads: &[(u64, At)], frames: u64, place: u64) -> u64
     requires { lengths pads.now ≤ 2 ^ 46 }
     ensures { result ≡ silence_from (placed frames pads.now) place }
 {
@@ -181,42 +185,43 @@ fn silence_behind(pads: &[(u64, At)], frames: u64, place: u64) -> u64
     silent
 }
 
-/// How many frames come after those in hand, after the end of a sound of so many frames, the last of which are in the line.
-fn later_frames(pads: &[(u64, At)], taken: u64, lined: u64, hands: u64) -> u128
+/// How many frames come after those pending, after the end of a sound of `taken` frames, the last of which are in the line.
+fn later_frames(pads: &[(u64, At)], taken: u64, lined: u64, pending_count: u64) -> u128
     requires lined { lined ≤ taken }
     requires pads { lengths pads.now ≤ 2 ^ 46 }
-    ensures value { result ≡ later_count pads.now taken lined hands }
-    ensures few { result ≤ 2 ^ 65 }
+    ensures value { result ≡ later_count pads.now taken lined pending_count }
+    ensures bound { result ≤ 2 ^ 65 }
 {
-    if hands == 0 {
+    if pending_count == 0 {
         return 0;
     }
-    u128::from(lined) + u128::from(silence_behind(pads, taken, taken - lined))
+    u128::from(lined) + u128::from(silence_after(pads, taken, taken - lined))
 }
 
-/// Does a stage of these pads, with so many frames in its line and in hand, count so? Before the end it has given what is due,
-/// after the end that and what is still to come are all frames that came and all silence that is put between them.
+/// Whether a stage of these pads, with `lined` frames in its line and `pending_count` pending, has these counts. Before the end
+/// it has given what is due, after the end that and what is still to come are all frames that came and all silence that is put
+/// between them.
 fn is_count(
     pads: &[(u64, At)],
     taken: u64,
     given: u64,
     silent: u64,
     lined: u64,
-    hands: u64,
+    pending_count: u64,
     is_ended: bool,
 ) -> bool
     requires lined { lined ≤ taken }
     requires pads { lengths pads.now ≤ 2 ^ 46 }
-    ensures count { result ≡ true → IsPadCount pads.now taken given silent lined hands is_ended }
-    ensures other { result ≡ false → IsPadCount pads.now taken given silent lined hands is_ended → ⊥ }
+    ensures count { result ≡ true → IsPadCount pads.now taken given silent lined pending_count is_ended }
+    ensures other { result ≡ false → IsPadCount pads.now taken given silent lined pending_count is_ended → ⊥ }
 {
-    let made = u128::from(given) + u128::from(silent) + u128::from(hands);
+    let made = u128::from(given) + u128::from(silent) + u128::from(pending_count);
     if is_ended {
-        let all = u128::from(taken) + u128::from(silence_behind(pads, taken, 0));
-        let told = made + later_frames(pads, taken, lined, hands);
-        return (hands != 0 || lined == 0) && told == all;
+        let all = u128::from(taken) + u128::from(silence_after(pads, taken, 0));
+        let delivered = made + later_frames(pads, taken, lined, pending_count);
+        return (pending_count != 0 || lined == 0) && delivered == all;
     }
-    let reach = greatest_pad_end(pads);
+    let reach = max_pad_end(pads);
     if lined != taken.min(reach) {
         return false;
     }
@@ -224,7 +229,7 @@ fn is_count(
     made == u128::from(before) + u128::from(silence_before(pads, before))
 }
 
-/// The silent frames before the oldest frame of the line, and that frame, in a sound of so many frames that ends with those of
+/// The silent frames before the oldest frame of the line, and that frame, in a sound of `frames` frames that ends with those of
 /// the line; at the end of the line the last silent frames.
 #[inline(never)]
 fn next_padded(line: &mut Line, pads: &[(u64, At)], frames: u64) -> (u64, Option<Frame>)
@@ -233,7 +238,7 @@ fn next_padded(line: &mut Line, pads: &[(u64, At)], frames: u64) -> (u64, Option
     ensures silent { result.0 ≡ silent_at (placed frames pads.now) (frames - length line.old.items) }
     ensures oldest { result.1 ≡ slice_get line.old.items 0 }
     ensures items { line.new.items ≡ drop 1 line.old.items }
-    ensures hand { IsHand line.old.channels result.1 }
+    ensures pending { IsPending line.old.channels result.1 }
     ensures line { IsLine w32 line.new }
     ensures capacity { line.new.capacity ≡ line.old.capacity }
     ensures channels { line.new.channels ≡ line.old.channels }
@@ -248,11 +253,11 @@ fn next_padded(line: &mut Line, pads: &[(u64, At)], frames: u64) -> (u64, Option
     (silent, first)
 }
 
-/// The stage of `pad`: each frame, with the silence of the pads before it, and at the end the silence of those behind the last
+/// The stage of `pad`: each frame, with the silence of the pads before it, and at the end the silence of those after the last
 /// frame. It takes up to `2^56` frames.
 #[derive(Drop)]
 pub struct Pad {
-    hand: Option<Frame>,
+    pending: Option<Frame>,
     channels: usize,
     pads: Pads,
     silent: u64,
@@ -267,9 +272,9 @@ impl Model for Pad {
 
     ghost Value = { PadState };
 
-    ghost view = { λ s. record { hand = s.hand; recipe = record { channels = s.channels; pads = s.pads }; silent = s.silent; line = s.line; taken = s.taken; given = s.given; ended = s.ended } };
+    ghost view = { λ s. record { pending = s.pending; recipe = record { channels = s.channels; pads = s.pads }; silent = s.silent; line = s.line; taken = s.taken; given = s.given; ended = s.ended } };
 
-    ghost invariant = { λ s. IsPad (record { hand = s.hand; recipe = record { channels = s.channels; pads = s.pads }; silent = s.silent; line = s.line; taken = s.taken; given = s.given; ended = s.ended }) };
+    ghost invariant = { λ s. IsPad (record { pending = s.pending; recipe = record { channels = s.channels; pads = s.pads }; silent = s.silent; line = s.line; taken = s.taken; given = s.given; ended = s.ended }) };
 }
 
 impl Pad {
@@ -279,16 +284,16 @@ impl Pad {
     pub fn new(alloc: Global, channels: usize, pads: &[(u64, At)]) -> Result<Pad, AllocError>
         requires channels { (1 ≤ channels) × (channels ≤ 16) }
         requires pads { IsPads pads.now }
-        requires line { greatest (map pad_distance pads.now) ≤ 2 ^ 28 }
+        requires line { largest (map pad_distance pads.now) ≤ 2 ^ 28 }
         ensures { IfOk result (IsNew pad_acts (record { channels = channels; pads = pads.now })) }
     {
-        let line = Line::new(alloc, channels, greatest_pad_end(pads) as usize)?;
-        let mut own = Vec::new(alloc);
-        own.extend_from_slice(pads)?;
+        let line = Line::new(alloc, channels, max_pad_end(pads) as usize)?;
+        let mut copies = Vec::new(alloc);
+        copies.extend_from_slice(pads)?;
         Ok(Pad {
-            hand: None,
+            pending: None,
             channels,
-            pads: Pads::of(own),
+            pads: Pads::of(copies),
             silent: 0,
             line,
             taken: 0,
@@ -298,7 +303,7 @@ impl Pad {
     }
 
     /// The stage that stored these frames and counted these numbers: whichever stage of these arguments they came from, that
-    /// stage comes back, unless memory is refused. BadSnapshot where there is no such stage, Memory where memory is refused.
+    /// stage is restored, unless memory is refused. BadSnapshot where there is no such stage, Memory where memory is refused.
     pub fn thaw(
         alloc: Global,
         channels: usize,
@@ -308,34 +313,48 @@ impl Pad {
     ) -> Result<Pad, ThawFault>
         requires channels { (1 ≤ channels) × (channels ≤ 16) }
         requires pads { IsPads pads.now }
-        requires line { greatest (map pad_distance pads.now) ≤ 2 ^ 28 }
+        requires line { largest (map pad_distance pads.now) ≤ 2 ^ 28 }
         ensures recipe { IfOk result (λ t. t.recipe ≡ record { channels = channels; pads = pads.now }) }
         ensures frozen { IfOk result (λ t. Freezes pad_acts t frames.now numbers.now) }
         ensures named { (result ≡ Err ThawFault.WrongPlan) → ⊥ }
         ensures thawed { (s : PadState) → IsPad s → s.recipe ≡ record { channels = channels; pads = pads.now } → Freezes pad_acts s frames.now numbers.now → MatchResult result (λ t. t ≡ s) (λ e. e ≡ ThawFault.Memory) }
     {
-        let [taken, given, ended, 0, held, silent, hands, 0] = *numbers else {
+        let [taken, given, ended, 0, held, silent, pending_count, 0] = *numbers else {
             return Err(ThawFault::BadSnapshot);
         };
-        let capacity = greatest_pad_end(pads);
+        let capacity = max_pad_end(pads);
         if ended > 1 || held != frames.len() as u64 {
             return Err(ThawFault::BadSnapshot);
         }
-        if taken > MOST_TAKEN || held > taken || hands > held {
+        if taken > MAX_TAKEN || held > taken || pending_count > held {
             return Err(ThawFault::BadSnapshot);
         }
-        if !is_count(pads, taken, given, silent, held - hands, hands, ended == 1) {
+        if !is_count(
+            pads,
+            taken,
+            given,
+            silent,
+            held - pending_count,
+            pending_count,
+            ended == 1,
+        ) {
             return Err(ThawFault::BadSnapshot);
         }
-        let mut own = Vec::new(alloc);
-        let Ok(()) = own.extend_from_slice(pads) else {
+        let mut copies = Vec::new(alloc);
+        let Ok(()) = copies.extend_from_slice(pads) else {
             return Err(ThawFault::Memory);
         };
-        let (line, hand) = thawed_line_and_hand(alloc, channels, capacity as usize, frames, hands)?;
-        Ok(Pad {
-            hand,
+        let (line, pending) = thawed_line_and_pending(
+            alloc,
             channels,
-            pads: Pads::of(own),
+            capacity as usize,
+            frames,
+            pending_count,
+        )?;
+        Ok(Pad {
+            pending,
+            channels,
+            pads: Pads::of(copies),
             silent,
             line,
             taken,
@@ -364,14 +383,14 @@ impl Stage for Pad {
         };
         let _channels = oldest.channels();
         self.silent = self.pads.silence_at(place);
-        self.hand = Some(oldest);
+        self.pending = Some(oldest);
     }
 
     fn end(&mut self) {
         self.ended = true;
-        let (silent, hand) = next_padded(&mut self.line, self.pads.all(), self.taken);
+        let (silent, pending) = next_padded(&mut self.line, self.pads.all(), self.taken);
         self.silent = silent;
-        self.hand = hand;
+        self.pending = pending;
     }
 
     fn give(&mut self) -> Option<Frame> {
@@ -380,27 +399,27 @@ impl Stage for Pad {
             self.given += 1;
             return Some(Frame::silence(self.channels));
         }
-        let Some(frame) = self.hand else {
+        let Some(frame) = self.pending else {
             return None;
         };
         self.given += 1;
         if !self.ended {
-            self.hand = None;
+            self.pending = None;
             return Some(frame);
         }
-        let (silent, hand) = next_padded(&mut self.line, self.pads.all(), self.taken);
+        let (silent, pending) = next_padded(&mut self.line, self.pads.all(), self.taken);
         self.silent = silent;
-        self.hand = hand;
+        self.pending = pending;
         Some(frame)
     }
 
     fn is_dry(&self) -> bool {
-        self.hand.is_none() && self.silent == 0
+        self.pending.is_none() && self.silent == 0
     }
 
     #[inline(always)]
-    fn tally(&self) -> Tally {
-        Tally {
+    fn counter_values(&self) -> Counters {
+        Counters {
             taken: self.taken,
             given: self.given,
             clips: 0,
@@ -413,7 +432,7 @@ impl Stage for Pad {
     }
 
     fn held(&self) -> u64 {
-        self.line.len() as u64 + u64::from(self.hand.is_some())
+        self.line.len() as u64 + u64::from(self.pending.is_some())
     }
 
     fn hold(&self) -> u64 {
@@ -428,12 +447,12 @@ impl Stage for Pad {
         self.channels
     }
 
-    fn own(&self) -> [u64; 3] {
-        [self.silent, u64::from(self.hand.is_some()), 0]
+    fn state_counters(&self) -> [u64; 3] {
+        [self.silent, u64::from(self.pending.is_some()), 0]
     }
 
     fn stored(&self, j: usize) -> WideFrame {
-        stored_in(&self.line, self.hand, j)
+        stored_in(&self.line, self.pending, j)
     }
 }
 
@@ -441,11 +460,11 @@ impl PassesMany for Pad {
     /// Where it has no line, copies the frames up to the next pad.
     fn pass_many(&mut self, input: &[i32], output: &mut [i32]) -> Passed {
         let channels = self.channels;
-        if self.line.capacity() != 0 || self.hand.is_some() || self.silent != 0 || self.ended {
+        if self.line.capacity() != 0 || self.pending.is_some() || self.silent != 0 || self.ended {
             return Passed { taken: 0, given: 0 };
         }
-        let quiet = quiet_from(self.pads.all(), self.taken);
-        let count = quiet.min((input.len() / channels) as u64) as usize;
+        let silence_here = silent_from(self.pads.all(), self.taken);
+        let count = silence_here.min((input.len() / channels) as u64) as usize;
         let copied = copy_frames(&input[..count * channels], output, channels);
         self.taken += copied as u64;
         self.given += copied as u64;
@@ -463,7 +482,7 @@ impl Feeds for Pad {
 
     #[inline(always)]
     fn pass_samples(&mut self, samples: &mut [i32]) -> Passing {
-        let is_known = self.line.capacity() == 0 && self.pads.is_quiet(self.taken);
+        let is_known = self.line.capacity() == 0 && self.pads.is_silent(self.taken);
         if is_known {
             self.taken += 1;
             self.given += 1;
@@ -477,10 +496,10 @@ impl Feeds for Pad {
     }
 
     /// Where it has no line, the frames up to the next pad.
-    fn steady(&self) -> u64 {
+    fn one_to_one(&self) -> u64 {
         if self.line.capacity() != 0 || self.ended {
             return 0;
         }
-        quiet_from(self.pads.all(), self.taken)
+        silent_from(self.pads.all(), self.taken)
     }
 }

@@ -3,16 +3,16 @@ ghost use Rattle.std.specs.Prelude.{◌≡◌, ◌<◌, ◌≤◌, ◌^◌, map,
 ghost use Rattle.std.specs.Int.{w32};
 ghost use Rattle.std.specs.List.{All};
 ghost use Rattle.fx_cut.specs.Fade.{weight, weighted};
-ghost use Rattle.fx_lists.specs.Rounded.{unclipped};
+ghost use Rattle.fx_frame_lists.specs.Rounded.{unclipped};
 
 use fx_fixed::inner::Denominator;
 use fx_fixed::round_clip;
 use std::marker::Model;
 
 /// The longest slope whose weights times samples fit the 64 bits that a `Denominator` rounds.
-const LONGEST_PREPARED: u64 = 1 << 30;
+const MAX_PREPARED: u64 = 1 << 30;
 
-/// A rise or a fall of so many frames. Its length is prepared as a denominator where it has one to `2^30`.
+/// A rise or a fall. Its length in frames is prepared as a denominator where it is from 1 to `2^30`.
 #[derive(Drop)]
 pub(crate) struct Slope {
     length: u64,
@@ -44,7 +44,7 @@ fn weighted_sample(sample: i32, over: u128, under: u128, prepared: &Option<Denom
     denominator.round_within(i64::from(sample) * over as i64)
 }
 
-/// Samples times a weight of at most 1, each rounded, in their place.
+/// Samples times a weight of at most 1, each rounded, in place.
 #[inline(always)]
 pub(crate) fn weigh_by(samples: &mut [i32], over: u128, under: u128, prepared: &Option<Denominator>)
     requires weight { (over ≤ under) × (0 < under) }
@@ -61,11 +61,11 @@ pub(crate) fn weigh_by(samples: &mut [i32], over: u128, under: u128, prepared: &
 }
 
 impl Slope {
-    /// The slope of so many frames; 0 for none.
+    /// The slope of `length` frames; 0 for none.
     pub(crate) fn new(length: u64) -> Slope
         ensures { result ≡ length }
     {
-        let prepared = if 0 < length && length <= LONGEST_PREPARED {
+        let prepared = if 0 < length && length <= MAX_PREPARED {
             Some(Denominator::new(length))
         } else {
             None
@@ -73,7 +73,7 @@ impl Slope {
         Slope { length, prepared }
     }
 
-    /// So many parts of it, at most 1, as a numerator and a denominator.
+    /// `parts` parts of it, at most 1, as a numerator and a denominator.
     #[inline(always)]
     pub(crate) fn at(&self, parts: u64) -> (u64, u64)
         ensures { result ≡ weight self.now parts }
@@ -84,7 +84,7 @@ impl Slope {
         (parts.min(self.length), self.length)
     }
 
-    /// Samples times so many parts of it, each rounded, in their place. Where that is 1 no sample is touched.
+    /// Samples times `parts` parts of it, each rounded, in place. Where that is 1 no sample is touched.
     #[inline(always)]
     pub(crate) fn weigh(&self, samples: &mut [i32], parts: u64)
         requires fit { All (FitsSigned w32) samples.old }

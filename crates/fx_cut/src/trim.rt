@@ -1,24 +1,24 @@
 //! The effect `trim` of sox(1): the frames after an odd number of positions.
 ghost use Rattle.std.specs.Prelude.{ℕ, ◌≡◌, ◌<◌, ◌≤◌, ◌+◌, ◌-◌, ◌^◌, count_by, if◌then◌else◌, Err, IfOk, MatchResult, map};
 ghost use Rattle.std.specs.List.{range_with_len};
-ghost use Rattle.fx_fixed.specs.Extents.{end_distance, greatest};
+ghost use Rattle.fx_fixed.specs.Extents.{end_distance, largest};
 ghost use Rattle.fx_fixed.specs.Positions.{place_of, places_of};
-ghost use Rattle.fx_step.specs.Stage.{Freezes, IsNew};
-ghost use Rattle.fx_cut.specs.Sifted.{IsSiftState, SiftState};
+ghost use Rattle.fx_frame_stage.specs.Stage.{Freezes, IsNew};
+ghost use Rattle.fx_cut.specs.Selected.{IsSelectedState, SelectedState};
 ghost use Rattle.fx_cut.specs.Trim.{TrimArguments, keeps, starts, trim_enough};
-ghost use Rattle.fx_cut.specs.TrimState.{kept_count, trim_acts, trim_sifts};
+ghost use Rattle.fx_cut.specs.TrimState.{kept_count, trim_acts, trim_selects};
 
 pub mod words;
 
-use crate::sifted::{Sifted, Sifting, Stretch};
+use crate::selected::{FrameRun, Selected, Selection};
 use fx_fixed::At;
-use fx_fixed::inner::greatest_end;
+use fx_fixed::inner::max_end;
 use fx_frame::{Frame, ThawFault, WideFrame};
 use std::alloc::{AllocError, Global};
 use std::marker::Model;
 
-/// The frames from a place on, up to the next position, as far as the positions before the first one from the end say.
-fn stretch_from(positions: &[At], place: u64) -> Stretch
+/// The frames from a place on, up to the next position, as far as the positions before the first one from the end determine it.
+fn frame_run_from(positions: &[At], place: u64) -> FrameRun
     ensures some { 1 ≤ result.frames }
     ensures alike { (n : ℕ) → n < result.frames → keeps (places_of 0 (starts positions.now)) (place + n) ≡ result.is_given }
 {
@@ -26,14 +26,14 @@ fn stretch_from(positions: &[At], place: u64) -> Stretch
     let mut crossed: usize = 0;
     'positions: for at in positions {
         let At::Start(start) = at else {
-            return Stretch {
+            return FrameRun {
                 is_given: crossed % 2 == 1,
                 frames: u64::MAX,
             };
         };
         let next = last.max(*start);
         if place < next {
-            return Stretch {
+            return FrameRun {
                 is_given: crossed % 2 == 1,
                 frames: next - place,
             };
@@ -41,23 +41,23 @@ fn stretch_from(positions: &[At], place: u64) -> Stretch
         last = next;
         crossed += 1;
     }
-    Stretch {
+    FrameRun {
         is_given: crossed % 2 == 1,
         frames: u64::MAX,
     }
 }
 
-/// The positions of a `trim`, what is enough for them, and the stretch of frames that was looked up last.
+/// The positions of a `trim`, what is enough for them, and the run of frames that was looked up last.
 #[derive(Drop)]
 pub struct Cuts {
     channels: usize,
     positions: Vec<At>,
-    /// From the positions, so that no call goes over them to tell whether a stage is spent.
+    /// From the positions, so that no call scans them to find whether a stage is spent.
     enough: Option<u64>,
-    /// The place where that stretch begins.
+    /// The place where that run begins.
     first: u64,
-    /// From the positions, so that no call goes over them for a frame inside it.
-    stretch: Stretch,
+    /// From the positions, so that no call scans them for a frame inside it.
+    frame_run: FrameRun,
 }
 
 // They are what a `trim` is made with.
@@ -70,7 +70,7 @@ impl Model for Cuts {
 
     ghost view = { λ c. record { channels = c.channels; positions = c.positions.items } };
 
-    ghost invariant = { λ c. (c.enough ≡ trim_enough c.positions.items) × ((n : ℕ) → n < c.stretch.frames → keeps (places_of 0 (starts c.positions.items)) (c.first + n) ≡ c.stretch.is_given) };
+    ghost invariant = { λ c. (c.enough ≡ trim_enough c.positions.items) × ((n : ℕ) → n < c.frame_run.frames → keeps (places_of 0 (starts c.positions.items)) (c.first + n) ≡ c.frame_run.is_given) };
 }
 
 impl Cuts {
@@ -78,47 +78,47 @@ impl Cuts {
     fn of(alloc: Global, channels: usize, positions: &[At]) -> Result<Cuts, AllocError>
         ensures { IfOk result (λ c. c ≡ record { channels = channels; positions = positions.now }) }
     {
-        let mut own = Vec::new(alloc);
-        own.extend_from_slice(positions)?;
+        let mut copies = Vec::new(alloc);
+        copies.extend_from_slice(positions)?;
         Ok(Cuts {
             channels,
-            positions: own,
+            positions: copies,
             enough: enough_of(positions),
             first: 0,
-            stretch: Stretch {
+            frame_run: FrameRun {
                 is_given: false,
                 frames: 0,
             },
         })
     }
 
-    /// Is the frame at this place kept, as far as the positions before the first one from the end say?
+    /// Whether the frame at this place is kept, as far as the positions before the first one from the end determine it.
     #[inline(always)]
     fn keeps(&mut self, place: u64) -> bool
         ensures kept { result ≡ keeps (places_of 0 (starts self.old.positions)) place }
         ensures same { self.new ≡ self.old }
     {
-        let stretch = self.stretch;
-        if place < self.first || place - self.first >= stretch.frames {
+        let frame_run = self.frame_run;
+        if place < self.first || place - self.first >= frame_run.frames {
             return self.look_up(place);
         }
-        stretch.is_given
+        frame_run.is_given
     }
 
-    /// The same, for a place outside the stretch that was looked up last.
+    /// The same, for a place outside the run that was looked up last.
     #[inline(never)]
     fn look_up(&mut self, place: u64) -> bool
         ensures kept { result ≡ keeps (places_of 0 (starts self.old.positions)) place }
         ensures same { self.new ≡ self.old }
     {
-        let stretch = stretch_from(&self.positions, place);
+        let frame_run = frame_run_from(&self.positions, place);
         self.first = place;
-        self.stretch = stretch;
-        stretch.is_given
+        self.frame_run = frame_run;
+        frame_run.is_given
     }
 }
 
-/// Where a position lies in a sound of so many frames.
+/// Where a position lies in a sound of `frames` frames.
 fn place_in(frames: u64, at: At) -> u64
     ensures { result ≡ place_of frames at }
 {
@@ -128,7 +128,7 @@ fn place_in(frames: u64, at: At) -> u64
     }
 }
 
-/// Is the frame at this place kept, in a sound of so many frames?
+/// Whether the frame at this place is kept, in a sound of `frames` frames.
 fn is_kept(positions: &[At], frames: u64, place: u64) -> bool
     ensures { result ≡ keeps (places_of frames positions.now) place }
 {
@@ -151,7 +151,7 @@ fn kept_between(is_kept: bool, from: u64, to: u64) -> u64
     if is_kept { to.saturating_sub(from) } else { 0 }
 }
 
-/// How many frames before this place are kept, as far as the positions before the first one from the end say?
+/// How many frames before this place are kept, as far as the positions before the first one from the end determine it.
 fn kept_before(positions: &[At], end: u64) -> u64
     ensures { result ≡ count_by (keeps (places_of 0 (starts positions.now))) (range_with_len 0 end) }
 {
@@ -170,7 +170,7 @@ fn kept_before(positions: &[At], end: u64) -> u64
     kept + kept_between(is_kept, last, end)
 }
 
-/// How many frames before this place are kept, in a sound of so many frames?
+/// How many frames before this place are kept, in a sound of `frames` frames.
 fn kept_in_sound(positions: &[At], frames: u64, end: u64) -> u64
     ensures { result ≡ kept_count positions.now frames end }
 {
@@ -187,7 +187,7 @@ fn kept_in_sound(positions: &[At], frames: u64, end: u64) -> u64
     kept + kept_between(is_kept, last, end)
 }
 
-/// How many frames are enough, where the positions say so.
+/// How many frames are enough, where the positions determine that.
 fn enough_of(positions: &[At]) -> Option<u64>
     ensures { result ≡ trim_enough positions.now }
 {
@@ -204,13 +204,13 @@ fn enough_of(positions: &[At]) -> Option<u64>
     Some(last)
 }
 
-impl Sifting for Cuts {
-    ghost use Rattle.fx_cut.specs.TrimState.{trim_sifts};
-    ghost use Rattle.fx_cut.specs.TrimSettled.{trim-settled};
+impl Selection for Cuts {
+    ghost use Rattle.fx_cut.specs.TrimState.{trim_selects};
+    ghost use Rattle.fx_cut.specs.TrimDetermined.{trim-determined};
 
-    ghost sifts = { trim_sifts };
+    ghost selects = { trim_selects };
 
-    ghost settled = { trim-settled };
+    ghost determined = { trim-determined };
 
     fn channels(&self) -> usize {
         self.channels
@@ -222,7 +222,7 @@ impl Sifting for Cuts {
     }
 
     fn due(&self, taken: u64) -> u64 {
-        let reach = greatest_end(&self.positions);
+        let reach = max_end(&self.positions);
         kept_before(&self.positions, taken.saturating_sub(reach))
     }
 
@@ -230,11 +230,11 @@ impl Sifting for Cuts {
         kept_in_sound(&self.positions, frames, place)
     }
 
-    fn stretch_from(&self, place: u64) -> Stretch {
-        stretch_from(&self.positions, place)
+    fn frame_run_from(&self, place: u64) -> FrameRun {
+        frame_run_from(&self.positions, place)
     }
 
-    fn sift(&mut self, frame: Frame, place: u64) -> Option<Frame> {
+    fn select(&mut self, frame: Frame, place: u64) -> Option<Frame> {
         if !self.keeps(place) {
             return None;
         }
@@ -243,11 +243,11 @@ impl Sifting for Cuts {
     }
 
     #[inline(always)]
-    fn sift_over(&mut self, samples: &mut [i32], place: u64) -> bool {
+    fn select_over(&mut self, samples: &mut [i32], place: u64) -> bool {
         self.keeps(place)
     }
 
-    fn sift_in(&self, frame: Frame, frames: u64, place: u64) -> Option<Frame> {
+    fn selected_in(&self, frame: Frame, frames: u64, place: u64) -> Option<Frame> {
         if !is_kept(&self.positions, frames, place) {
             return None;
         }
@@ -255,27 +255,27 @@ impl Sifting for Cuts {
         Some(frame)
     }
 
-    fn sift_many(&self, samples: &mut [i32], channels: usize, count: usize, place: u64) {}
+    fn select_many(&self, samples: &mut [i32], channels: usize, count: usize, place: u64) {}
 }
 
 /// The stage of `trim`: the frames after an odd number of positions, in order. It takes up to `2^56` frames.
-pub type Trim = Sifted<Cuts>;
+pub type Trim = Selected<Cuts>;
 
-impl Sifted<Cuts> {
-    /// The stage for frames of 1 to 16 channels and these positions, one after the other: a position before the one in front
-    /// of it counts as that one. It holds as many frames as the greatest distance of a position from the end, at most `2^28`;
+impl Selected<Cuts> {
+    /// The stage for frames of 1 to 16 channels and these positions, one after the other: a position before the previous
+    /// one counts as that one. It holds as many frames as the greatest distance of a position from the end, at most `2^28`;
     /// AllocError where memory is refused.
     pub fn new(alloc: Global, channels: usize, positions: &[At]) -> Result<Trim, AllocError>
         requires channels { (1 ≤ channels) × (channels ≤ 16) }
-        requires line { greatest (map end_distance positions.now) ≤ 2 ^ 28 }
+        requires line { largest (map end_distance positions.now) ≤ 2 ^ 28 }
         ensures { IfOk result (IsNew trim_acts (record { channels = channels; positions = positions.now })) }
     {
         let cuts = Cuts::of(alloc, channels, positions)?;
-        Sifted::of(alloc, cuts, greatest_end(positions))
+        Selected::of(alloc, cuts, max_end(positions))
     }
 
     /// The stage that stored these frames and counted these numbers: whichever stage of these arguments they came from, that
-    /// stage comes back, unless memory is refused. BadSnapshot where there is no such stage, Memory where memory is refused.
+    /// stage is restored, unless memory is refused. BadSnapshot where there is no such stage, Memory where memory is refused.
     pub fn thaw(
         alloc: Global,
         channels: usize,
@@ -284,15 +284,15 @@ impl Sifted<Cuts> {
         numbers: &[u64; 8],
     ) -> Result<Trim, ThawFault>
         requires channels { (1 ≤ channels) × (channels ≤ 16) }
-        requires line { greatest (map end_distance positions.now) ≤ 2 ^ 28 }
+        requires line { largest (map end_distance positions.now) ≤ 2 ^ 28 }
         ensures recipe { IfOk result (λ t. t.arguments ≡ record { channels = channels; positions = positions.now }) }
         ensures frozen { IfOk result (λ t. Freezes trim_acts t frames.now numbers.now) }
         ensures named { (result ≡ Err ThawFault.WrongPlan) → ⊥ }
-        ensures thawed { (s : SiftState TrimArguments) → IsSiftState trim_sifts s → s.arguments ≡ record { channels = channels; positions = positions.now } → Freezes trim_acts s frames.now numbers.now → MatchResult result (λ t. t ≡ s) (λ e. e ≡ ThawFault.Memory) }
+        ensures thawed { (s : SelectedState TrimArguments) → IsSelectedState trim_selects s → s.arguments ≡ record { channels = channels; positions = positions.now } → Freezes trim_acts s frames.now numbers.now → MatchResult result (λ t. t ≡ s) (λ e. e ≡ ThawFault.Memory) }
     {
         let Ok(cuts) = Cuts::of(alloc, channels, positions) else {
             return Err(ThawFault::Memory);
         };
-        Sifted::thawed(alloc, cuts, greatest_end(positions), frames, numbers)
+        Selected::thawed(alloc, cuts, max_end(positions), frames, numbers)
     }
 }

@@ -1,18 +1,18 @@
 //! The effect `upsample` of sox(1): each frame is followed by silence.
 ghost use Rattle.std.specs.Prelude.{◌≡◌, ◌≤◌, ◌-◌, ◌*◌, ◌++◌, Ok, IfOk, IfErr, drop, length, pos, replicate};
-ghost use Rattle.fx_lists.specs.Lists.{pieces};
-ghost use Rattle.fx_step.specs.Stage.{Freezes, IsNew};
+ghost use Rattle.fx_frame_lists.specs.Lists.{pieces};
+ghost use Rattle.fx_frame_stage.specs.Stage.{Freezes, IsNew};
 ghost use Rattle.fx_cut.specs.Factor.{FactorArguments, IsFactor};
 ghost use Rattle.fx_cut.specs.UpsampleState.{UpsampleState, IsUpsample, upsample_acts};
 ghost use Rattle.fx_cut.specs.Strides.{spread};
 
 use crate::many::{PassesMany, feed_by_pieces};
-use fx_frame::{Feeds, Frame, Passed, Stage, Tally, ThawFault, WideFrame};
-use fx_step::hand::{stored_hand, thawed_hand};
-use fx_step::stage::MOST_TAKEN;
+use fx_frame::{Counters, Feeds, Frame, Passed, Stage, ThawFault, WideFrame};
+use fx_frame_stage::pending::{stored_pending, thawed_pending};
+use fx_frame_stage::stage::MAX_TAKEN;
 use std::marker::Model;
 
-/// Fills a group with a frame and silence behind it.
+/// Fills a group with a frame and silence after it.
 #[inline(always)]
 fn fill_group(group: &mut [i32], frame: &[i32])
     requires { length frame.now ≤ length group.old }
@@ -23,14 +23,14 @@ fn fill_group(group: &mut [i32], frame: &[i32])
     group[channels..].fill(0);
 }
 
-/// Copies so many frames in front of the input to the front of the output, each with the silence behind it.
+/// Copies `count` frames at the front of the input to the front of the output, each with the silence after it.
 #[inline(always)]
 fn spread_each(input: &[i32], output: &mut [i32], channels: usize, factor: usize, count: usize)
     requires factor { 1 ≤ factor }
     requires input { count * channels ≤ length input.now }
     requires output { count * (factor * channels) ≤ length output.old }
     ensures frames { pieces channels (count * factor) output.new ≡ spread channels factor count input.now }
-    ensures behind { drop (count * (factor * channels)) output.new ≡ drop (count * (factor * channels)) output.old }
+    ensures rest_unchanged { drop (count * (factor * channels)) output.new ≡ drop (count * (factor * channels)) output.old }
 {
     let mut read = 0;
     let mut written = 0;
@@ -48,7 +48,7 @@ fn spread_frames(input: &[i32], output: &mut [i32], channels: usize, factor: usi
     requires input { count * channels ≤ length input.now }
     requires output { count * (factor * channels) ≤ length output.old }
     ensures frames { pieces channels (count * factor) output.new ≡ spread channels factor count input.now }
-    ensures behind { drop (count * (factor * channels)) output.new ≡ drop (count * (factor * channels)) output.old }
+    ensures rest_unchanged { drop (count * (factor * channels)) output.new ≡ drop (count * (factor * channels)) output.old }
 {
     match channels {
         1 => spread_each(input, output, 1, factor, count),
@@ -62,7 +62,7 @@ fn spread_frames(input: &[i32], output: &mut [i32], channels: usize, factor: usi
 /// `2^56` divided by f frames.
 #[derive(Drop)]
 pub struct Upsample {
-    hand: Option<Frame>,
+    pending: Option<Frame>,
     channels: usize,
     factor: u64,
     silent: u64,
@@ -76,19 +76,19 @@ impl Model for Upsample {
 
     ghost Value = { UpsampleState };
 
-    ghost view = { λ s. record { hand = s.hand; recipe = record { channels = s.channels; factor = s.factor }; silent = s.silent; taken = s.taken; given = s.given; ended = s.ended } };
+    ghost view = { λ s. record { pending = s.pending; recipe = record { channels = s.channels; factor = s.factor }; silent = s.silent; taken = s.taken; given = s.given; ended = s.ended } };
 
-    ghost invariant = { λ s. IsUpsample (record { hand = s.hand; recipe = record { channels = s.channels; factor = s.factor }; silent = s.silent; taken = s.taken; given = s.given; ended = s.ended }) };
+    ghost invariant = { λ s. IsUpsample (record { pending = s.pending; recipe = record { channels = s.channels; factor = s.factor }; silent = s.silent; taken = s.taken; given = s.given; ended = s.ended }) };
 }
 
 impl Upsample {
-    /// The stage for frames of 1 to 16 channels and a factor from 1 to 256. Takes no memory.
+    /// The stage for frames of 1 to 16 channels and a factor from 1 to 256. Allocates no memory.
     pub fn new(channels: usize, factor: u64) -> Upsample
         requires { IsFactor (record { channels = channels; factor = factor }) }
         ensures { IsNew upsample_acts (record { channels = channels; factor = factor }) result }
     {
         Upsample {
-            hand: None,
+            pending: None,
             channels,
             factor,
             silent: 0,
@@ -99,7 +99,7 @@ impl Upsample {
     }
 
     /// The stage that stored these frames and counted these numbers: whichever stage of these arguments they came from, that
-    /// stage comes back. BadSnapshot where there is none. Takes no memory.
+    /// stage is restored. BadSnapshot where there is none. Allocates no memory.
     pub fn thaw(
         channels: usize,
         factor: u64,
@@ -115,7 +115,7 @@ impl Upsample {
         let [taken, given, ended, 0, held, silent, 0, 0] = *numbers else {
             return Err(ThawFault::BadSnapshot);
         };
-        if ended > 1 || held != frames.len() as u64 || taken > MOST_TAKEN / factor {
+        if ended > 1 || held != frames.len() as u64 || taken > MAX_TAKEN / factor {
             return Err(ThawFault::BadSnapshot);
         }
         let made = taken * factor;
@@ -128,9 +128,9 @@ impl Upsample {
         {
             return Err(ThawFault::BadSnapshot);
         }
-        let hand = thawed_hand(frames, channels)?;
+        let pending = thawed_pending(frames, channels)?;
         Ok(Upsample {
-            hand,
+            pending,
             channels,
             factor,
             silent,
@@ -153,7 +153,7 @@ impl Stage for Upsample {
     ghost rises = { λ r m n h. mul-le-mul_right r.factor h };
 
     fn take(&mut self, frame: Frame) {
-        self.hand = Some(frame);
+        self.pending = Some(frame);
         self.silent = self.factor - 1;
         self.taken += 1;
     }
@@ -163,8 +163,8 @@ impl Stage for Upsample {
     }
 
     fn give(&mut self) -> Option<Frame> {
-        if let Some(frame) = self.hand {
-            self.hand = None;
+        if let Some(frame) = self.pending {
+            self.pending = None;
             self.given += 1;
             return Some(frame);
         }
@@ -177,12 +177,12 @@ impl Stage for Upsample {
     }
 
     fn is_dry(&self) -> bool {
-        self.hand.is_none() && self.silent == 0
+        self.pending.is_none() && self.silent == 0
     }
 
     #[inline(always)]
-    fn tally(&self) -> Tally {
-        Tally {
+    fn counter_values(&self) -> Counters {
+        Counters {
             taken: self.taken,
             given: self.given,
             clips: 0,
@@ -195,15 +195,15 @@ impl Stage for Upsample {
     }
 
     fn held(&self) -> u64 {
-        u64::from(self.hand.is_some())
+        u64::from(self.pending.is_some())
     }
 
-    fn own(&self) -> [u64; 3] {
+    fn state_counters(&self) -> [u64; 3] {
         [self.silent, 0, 0]
     }
 
     fn stored(&self, j: usize) -> WideFrame {
-        stored_hand(self.hand, j)
+        stored_pending(self.pending, j)
     }
 
     fn hold(&self) -> u64 {
@@ -220,10 +220,10 @@ impl Stage for Upsample {
 }
 
 impl PassesMany for Upsample {
-    /// Passes each frame with the silence behind it.
+    /// Passes each frame with the silence after it.
     fn pass_many(&mut self, input: &[i32], output: &mut [i32]) -> Passed {
         let channels = self.channels;
-        if self.hand.is_some() || self.silent != 0 || self.ended {
+        if self.pending.is_some() || self.silent != 0 || self.ended {
             return Passed { taken: 0, given: 0 };
         }
         let factor = self.factor as usize;

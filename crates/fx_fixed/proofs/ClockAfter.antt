@@ -3,7 +3,7 @@ use Rattle.std.proofs.Common.{ℕ, ◌+◌, ◌*◌, Bool, ◌&&◌, List, lengt
 use Rattle.std.specs.Prelude.{nat_lt, ◌==◌, sum_by, fold, if◌then◌else◌, Result}
 use Rattle.std.specs.List.{list_all}
 use Rattle.std.specs.Str.Parse.{digits_value}
-use Rattle.fx_fixed.specs.Clock.{components_of, fraction_of, frames_of, is_short, tail_of, within_reach}
+use Rattle.fx_fixed.specs.Clock.{components_of, fraction_of, clock_frames_of, is_short, tail_of, within_reach}
 use Rattle.fx_fixed.specs.declared.times.TimeFault.{TimeFault}
 use Rattle.fx_fixed.specs.declared.times.TimeFault.TheVariants.{BadTime}
 
@@ -25,7 +25,7 @@ abbrev pub clock_by : ℕ → ℕ → ℕ → ℕ → List (List ℕ) → List �
 clock_by rate total count digits components fraction tail =
     if is_clock count digits components fraction tail
     then within_reach
-    (frames_of rate (seconds_after total components) (digits_value 10 fraction) (length fraction))
+    (clock_frames_of rate (seconds_after total components) (digits_value 10 fraction) (length fraction))
     else Err BadTime
 
 -- the same of a text

@@ -13,7 +13,7 @@ use Rattle.std.proofs.lemmas.List.Splits.{slice_split-cons_no, slice_split-cons_
 use Rattle.std.proofs.lemmas.List.Sums.{prefix_len-le-length, sum_by-cons}
 use Rattle.fx_fixed.specs.Decimals.{is_point}
 use Rattle.fx_fixed.proofs.ClockAfter.{clock_after, clock_by}
-use Rattle.fx_fixed.specs.Clock.{before_point, components_of, is_colon, fraction_of, frames_of, is_short, is_t, tail_of, within_reach}
+use Rattle.fx_fixed.specs.Clock.{before_point, components_of, is_colon, fraction_of, clock_frames_of, is_short, is_t, tail_of, within_reach}
 use Rattle.fx_fixed.specs.ClockEnd.{BeginsNot, after_components, after_fraction, by_parts, is_last}
 use Rattle.fx_fixed.specs.declared.times.TimeFault.TheVariants.{BadTime}
 use Rattle.fx_fixed.proofs.Cutting.{FailsDigits, Stops, Stops-drop, after_first-digits, all_ascii_digits-take_while, before_first-digits, fails-append, length-take_while, none_of_digits, point_fails, run_and_rest}
@@ -75,10 +75,10 @@ fraction_parts rate seconds digits more rest body tail all body_is tail_is =
 
 -- where it is the digits alone
 good_fraction : (rate seconds digits : ℕ) (more tail : List ℕ) → all_ascii_digits more ≡ true → length more < 19 →
-    by_parts rate seconds digits [] (more ++ []) tail ≡ (if nat_lt 0 (digits + length more) && (length tail == 0) then within_reach (frames_of rate seconds (digits_value 10 more) (length more)) else Err BadTime)
+    by_parts rate seconds digits [] (more ++ []) tail ≡ (if nat_lt 0 (digits + length more) && (length tail == 0) then within_reach (clock_frames_of rate seconds (digits_value 10 more) (length more)) else Err BadTime)
 good_fraction rate seconds digits more tail all short =
-    let few = lt-ltb (length more) 19 short in
-    ap (λ xs. by_parts rate seconds digits [] xs tail) (append-nil more) ∙ rw (all, few) refl
+    let bound = lt-ltb (length more) 19 short in
+    ap (λ xs. by_parts rate seconds digits [] xs tail) (append-nil more) ∙ rw (all, bound) refl
 
 pub fraction_read : (rate seconds digits : ℕ) (more rest : List ℕ) → all_ascii_digits more ≡ true → length more < 19 → Stops rest →
     after_components rate seconds digits (46 ∷ (more ++ rest)) ≡ after_fraction rate seconds digits (digits_value 10 more) (length more) rest
@@ -117,11 +117,11 @@ fraction_of_text rate seconds digits fraction places rest text after rest_is sho
     let more = take_while is_ascii_digit text in
     let size = length-take_while text after after_is in
     let stops : Stops after = rw after_is (Stops-drop text) in
-    let bound = prefix_len-le-length is_ascii_digit text in
-    let few : length more < 19 = rw length-take (omega arith) in
+    let prefix_bound = prefix_len-le-length is_ascii_digit text in
+    let bound : length more < 19 = rw length-take (omega arith) in
     let text_is : rest ≡ 46 ∷ (more ++ after) = rest_is ∙ ap (λ xs. 46 ∷ xs) (sym (run_and_rest text after after_is)) in
     ap (λ xs. after_components rate seconds digits xs) text_is
-    ∙ fraction_read rate seconds digits more after (all_ascii_digits-take_while text) few stops
+    ∙ fraction_read rate seconds digits more after (all_ascii_digits-take_while text) bound stops
     ∙ ap (λ n. after_fraction rate seconds digits n (length more) after) (sym fraction_is)
     ∙ ap (λ n. after_fraction rate seconds digits fraction n after) (size ∙ sym places_is)
 
@@ -130,7 +130,7 @@ pub fraction_of_long_text : (rate seconds digits : ℕ) (rest text : List ℕ) �
 fraction_of_long_text rate seconds digits rest text rest_is long =
     let more = take_while is_ascii_digit text in
     let after = drop (prefix_len is_ascii_digit text) text in
-    let bound = prefix_len-le-length is_ascii_digit text in
+    let prefix_bound = prefix_len-le-length is_ascii_digit text in
     let many : 19 ≤ length more = rw length-take (omega arith) in
     let text_is : rest ≡ 46 ∷ (more ++ after) = rest_is ∙ ap (λ xs. 46 ∷ xs) (sym (run_and_rest text after refl)) in
     ap (λ xs. after_components rate seconds digits xs) text_is ∙ fraction_long rate seconds digits more after (all_ascii_digits-take_while text) many
@@ -199,20 +199,20 @@ colon_follows rate total count digits run rest short =
 -- nothing before the point: the components are read
 nothing_follows : (rate total count digits : ℕ) (run rest : List ℕ) → is_short run ≡ true → count < 3 → before_point rest ≡ [] →
     clock_after rate total count digits (run ++ rest) ≡ after_components rate (60 * total + digits_value 10 run) (digits + length run) rest
-nothing_follows rate total count digits run rest short few front =
+nothing_follows rate total count digits run rest short bound front =
     let all = (and_parts (all_ascii_digits run) (nat_lt (length run) 19) short).0 in
     let parts : slice_split is_colon (before_point rest) ≡ [] ∷ [] = ap (λ xs. slice_split is_colon xs) front in
     let seconds = 60 * total + digits_value 10 run in
-    let room : nat_lt (count + 1 + 0) 4 ≡ true = lt-ltb (count + 1 + 0) 4 (omega arith) in
+    let free : nat_lt (count + 1 + 0) 4 ≡ true = lt-ltb (count + 1 + 0) 4 (omega arith) in
     let size : digits + length run + 0 + length (fraction_of rest) ≡ digits + length run + length (fraction_of rest) = omega arith in
     clock_parts rate total count digits run rest [] [] all parts
     ∙ ap (λ xs. clock_by rate total count digits (xs ∷ []) (fraction_of rest) (tail_of rest)) (append-nil run)
     ∙ component_read rate total count digits run (fraction_of rest) (tail_of rest) [] short
-    ∙ ends rate seconds (count + 1) (digits + length run) (fraction_of rest) (tail_of rest) room
+    ∙ ends rate seconds (count + 1) (digits + length run) (fraction_of rest) (tail_of rest) free
     ∙ sym (parts_are rate seconds (digits + length run) rest [] (fraction_of rest) (tail_of rest) front refl refl)
   where
     ends : (rate seconds count digits : ℕ) (fraction tail : List ℕ) → nat_lt (count + 0) 4 ≡ true → clock_by rate seconds count digits [] fraction tail ≡ by_parts rate seconds digits [] fraction tail
-    ends rate seconds count digits fraction tail room = rw (room, and-true (is_short fraction), add-zero digits) refl
+    ends rate seconds count digits fraction tail free = rw (free, and-true (is_short fraction), add-zero digits) refl
 
 -- something else before the point: no clock time
 other_follows : (rate total count digits c : ℕ) (run rest cs : List ℕ) → all_ascii_digits run ≡ true → before_point rest ≡ c ∷ cs → is_ascii_digit c ≡ false → is_colon c ≡ false →
@@ -257,39 +257,39 @@ front_cases (c ∷ cs) stops colon = go (is_t c) (is_point c) refl refl where
 
 -- a run at the front is short where its length is
 short_run : (text : List ℕ) → prefix_len is_ascii_digit text < 19 → is_short (take_while is_ascii_digit text) ≡ true
-short_run text few =
-    let bound = prefix_len-le-length is_ascii_digit text in
+short_run text bound =
+    let prefix_bound = prefix_len-le-length is_ascii_digit text in
     let size : length (take_while is_ascii_digit text) < 19 = rw length-take (omega arith) in
     and_from (all_ascii_digits (take_while is_ascii_digit text)) (nat_lt (length (take_while is_ascii_digit text)) 19) (all_ascii_digits-take_while text) (lt-ltb (length (take_while is_ascii_digit text)) 19 size)
 
 pub clock_goes_on : (rate total count digits value more : ℕ) (text after rest : List ℕ) → prefix_len is_ascii_digit text < 19 → after ≡ drop (prefix_len is_ascii_digit text) text → after ≡ 58 ∷ rest →
     value ≡ digits_value 10 (take_while is_ascii_digit text) → more ≡ length text - length after →
     clock_after rate (60 * total + value) (count + 1) (digits + more) rest ≡ clock_after rate total count digits text
-clock_goes_on rate total count digits value more text after rest few after_is rest_is value_is more_is =
+clock_goes_on rate total count digits value more text after rest bound after_is rest_is value_is more_is =
     let run = take_while is_ascii_digit text in
     let text_is : text ≡ run ++ 58 ∷ rest = sym (run_and_rest text after after_is) ∙ ap (λ xs. run ++ xs) rest_is in
     let size : more ≡ length run = more_is ∙ sym (length-take_while text after after_is) in
     ap (λ n. clock_after rate (60 * total + n) (count + 1) (digits + more) rest) value_is
     ∙ ap (λ n. clock_after rate (60 * total + digits_value 10 run) (count + 1) (digits + n) rest) size
-    ∙ sym (ap (λ xs. clock_after rate total count digits xs) text_is ∙ colon_follows rate total count digits run rest (short_run text few))
+    ∙ sym (ap (λ xs. clock_after rate total count digits xs) text_is ∙ colon_follows rate total count digits run rest (short_run text bound))
 
 pub clock_ends : (rate total count digits value more : ℕ) (text after : List ℕ) → count < 3 → prefix_len is_ascii_digit text < 19 → after ≡ drop (prefix_len is_ascii_digit text) text → BeginsNot 58 after →
     value ≡ digits_value 10 (take_while is_ascii_digit text) → more ≡ length text - length after →
     after_components rate (60 * total + value) (digits + more) after ≡ clock_after rate total count digits text
-clock_ends rate total count digits value more text after room few after_is colon value_is more_is =
+clock_ends rate total count digits value more text after free bound after_is colon value_is more_is =
     let run = take_while is_ascii_digit text in
     let text_is : text ≡ run ++ after = sym (run_and_rest text after after_is) in
     let size : more ≡ length run = more_is ∙ sym (length-take_while text after after_is) in
     let stops : Stops after = rw after_is (Stops-drop text) in
     ap (λ n. after_components rate (60 * total + n) (digits + more) after) value_is
     ∙ ap (λ n. after_components rate (60 * total + digits_value 10 run) (digits + n) after) size
-    ∙ sym (ap (λ xs. clock_after rate total count digits xs) text_is ∙ by_cases rate total count digits run after (short_run text few) (all_ascii_digits-take_while text) room (front_cases after stops colon))
+    ∙ sym (ap (λ xs. clock_after rate total count digits xs) text_is ∙ by_cases rate total count digits run after (short_run text bound) (all_ascii_digits-take_while text) free (front_cases after stops colon))
   where
     by_cases : (rate total count digits : ℕ) (run after : List ℕ) → is_short run ≡ true → all_ascii_digits run ≡ true → count < 3 →
         (before_point after ≡ []) ⊎ ((c : ℕ) × (cs : List ℕ) × (before_point after ≡ c ∷ cs) × (is_ascii_digit c ≡ false) × (is_colon c ≡ false)) →
         clock_after rate total count digits (run ++ after) ≡ after_components rate (60 * total + digits_value 10 run) (digits + length run) after
-    by_cases rate total count digits run after short all room (inl nothing) = nothing_follows rate total count digits run after short room nothing
-    by_cases rate total count digits run after short all room (inr other) =
+    by_cases rate total count digits run after short all free (inl nothing) = nothing_follows rate total count digits run after short free nothing
+    by_cases rate total count digits run after short all free (inr other) =
         other_follows rate total count digits other.0 run after other.1 all other.2 other.3 other.4
         ∙ sym (parts_are rate (60 * total + digits_value 10 run) (digits + length run) after (other.0 ∷ other.1) (fraction_of after) (tail_of after) other.2 refl refl
         ∙ bad_front rate (60 * total + digits_value 10 run) (digits + length run) other.0 other.1 (fraction_of after) (tail_of after))
@@ -298,11 +298,11 @@ pub clock_too_long : (rate total count digits : ℕ) (text : List ℕ) → 19 �
 clock_too_long rate total count digits text long =
     let run = take_while is_ascii_digit text in
     let after = drop (prefix_len is_ascii_digit text) text in
-    let bound = prefix_len-le-length is_ascii_digit text in
+    let prefix_bound = prefix_len-le-length is_ascii_digit text in
     let many : 19 ≤ length run = rw length-take (omega arith) in
     ap (λ xs. clock_after rate total count digits xs) (sym (run_and_rest text after refl)) ∙ run_too_long rate total count digits run after (all_ascii_digits-take_while text) many
 
 pub run_size : (text after : List ℕ) → after ≡ drop (prefix_len is_ascii_digit text) text → prefix_len is_ascii_digit text < 19 → length text - length after ≤ 18
-run_size text after after_is few =
-    let bound = prefix_len-le-length is_ascii_digit text in
+run_size text after after_is bound =
+    let prefix_bound = prefix_len-le-length is_ascii_digit text in
     rw (after_is, length-drop) (omega arith)

@@ -78,8 +78,8 @@ digits_below ds k all short = digits_value_short (numerals_by_value (λ ds. all_
 
 -- where the value is small, no digit was dropped
 kept_whole : (kept dropped lost value : ℕ) → value ≡ kept * 10 ^ dropped + lost → lost < 10 ^ dropped → (0 < dropped → 10 ^ 37 ≤ kept) → value < 10 ^ 36 → kept ≡ value
-kept_whole kept zero lost value value_is few large small = omega arith
-kept_whole kept (suc dropped) lost value value_is few large small =
+kept_whole kept zero lost value value_is bound large small = omega arith
+kept_whole kept (suc dropped) lost value value_is bound large small =
     let many = large (omega arith) in
     absurd (omega (arith, mul-le-mul_left kept (power_positive (suc dropped))))
 
@@ -111,7 +111,7 @@ pub record Counted (number : Decimal) (text : List ℕ) : Type 0 where
   pub value : whole_of number.digits.kept number.raised (number.places + number.lowered) ≡ count_of text
 
 pub counted : (number : Decimal) (text : List ℕ) → is_decimal text ≡ true → Shows number text → number.whole ≤ 18 → number.places ≤ 18 → number.exponent_digits ≤ 2 → Counted number text
-counted number text form shown few_whole few_places few_exponent =
+counted number text form shown whole_max places_max exponent_max =
     let whole = whole_digits text in
     let fraction = fraction_digits text in
     let parts = and_parts (all_ascii_digits whole && all_ascii_digits fraction && nat_lt 0 (length whole + length fraction)) (not (list_any is_mark text) || is_numeral (unsigned (exponent_text text))) form in
@@ -122,7 +122,7 @@ counted number text form shown few_whole few_places few_exponent =
     let exponent_size : length (unsigned (exponent_text text)) < 3 = omega (arith, shown.exponent_digits) in
     let size : length (whole ++ fraction) ≤ 36 = simp length-append (omega arith) in
     let bound : digits_value 10 (whole ++ fraction) < 10 ^ 36 = digits_below (whole ++ fraction) 36 all size in
-    let kept = kept_whole number.digits.kept number.digits.dropped shown.digits.lost (digits_value 10 (whole ++ fraction)) shown.digits.value shown.digits.few_lost shown.digits.large bound in
+    let kept = kept_whole number.digits.kept number.digits.dropped shown.digits.lost (digits_value 10 (whole ++ fraction)) shown.digits.value shown.digits.lost_max shown.digits.large bound in
     let exponents = raised_small text (exponent_small text parts.1 (omega arith)) in
     let raised = not_capped number.raised (raised_by text) shown.raised exponents.0 in
     let lowered = not_capped number.lowered (lowered_by text) shown.lowered exponents.1 in

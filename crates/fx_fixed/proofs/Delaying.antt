@@ -19,10 +19,10 @@ too_far rate billionths some many =
     let far : 2 ^ 40 < delay_of rate billionths = omega arith in
     rw (lt-ltb (2 ^ 40) (delay_of rate billionths) far) refl
 
-exponent_few : (number : Decimal) (body : List ℕ) → Shows number body → number.raised ≤ 30 → number.lowered ≤ 30 → exponent_size body ≤ 30
-exponent_few number body shown raised lowered = go (is_negative (exponent_text body)) refl where
+exponent_bound : (number : Decimal) (body : List ℕ) → Shows number body → number.raised ≤ 30 → number.lowered ≤ 30 → exponent_size body ≤ 30
+exponent_bound number body shown raised lowered = go (is_negative (exponent_text body)) refl where
   capped : (n m size : ℕ) → n ≡ min m 100 → n ≤ 30 → m ≡ size → size ≤ 30
-  capped n m size n_is few m_is = omega arith
+  capped n m size n_is bound m_is = omega arith
 
   go : (b : Bool) → is_negative (exponent_text body) ≡ b → exponent_size body ≤ 30
   go true minus = capped number.lowered (lowered_by body) (exponent_size body) shown.lowered lowered (rw minus refl)
@@ -32,9 +32,9 @@ exponent_few number body shown raised lowered = go (is_negative (exponent_text b
 millis_read : (rate : ℕ) (text : List ℕ) (number : Decimal) → length text ≤ 40 → is_decimal (unsigned text) ≡ true → Shows number (unsigned text) → number.raised ≤ 30 → number.lowered ≤ 30 →
     (is_negative text && nat_lt 0 (parts_of (10 ^ 9) (unsigned text))) ≡ false → millis_of rate text ≡ within_reach (delay_of rate (parts_of (10 ^ 9) (unsigned text)))
 millis_read rate text number short form shown raised lowered sign =
-    let few : nat_lt 40 (length text) ≡ false = le-ltb 40 (length text) short in
-    let near : nat_lt 30 (exponent_size (unsigned text)) ≡ false = le-ltb 30 (exponent_size (unsigned text)) (exponent_few number (unsigned text) shown raised lowered) in
-    rw (few, form, near, sign) refl
+    let bound : nat_lt 40 (length text) ≡ false = le-ltb 40 (length text) short in
+    let near : nat_lt 30 (exponent_size (unsigned text)) ≡ false = le-ltb 30 (exponent_size (unsigned text)) (exponent_bound number (unsigned text) shown raised lowered) in
+    rw (bound, form, near, sign) refl
 
 not_below : (sign : Bool) (parts : ℕ) → ((sign ≡ true) × (parts ≤ 0)) ⊎ (sign ≡ false) → (sign && nat_lt 0 parts) ≡ false
 not_below sign parts (inl none) = rw (none.0, le-ltb 0 parts none.1) refl

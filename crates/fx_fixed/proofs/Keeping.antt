@@ -24,13 +24,13 @@ keeps_dropping sum after ds c digit large kept_is dropped_is keeps =
     let small = digit_value-small c digit in
     let power : 10 ^ after.dropped ≡ 10 ^ sum.dropped * 10 = rw (dropped_is, add-one, pow-suc) refl in
     let value = keeps.value in
-    let few = keeps.few_lost in
+    let bound = keeps.lost_max in
     let written : digits_value 10 ds * 10 + (c - 48) ≡ after.kept * 10 ^ after.dropped + (keeps.lost * 10 + (c - 48)) = rw (value, power, kept_is) (omega arith) in
-    let bound : keeps.lost * 10 + (c - 48) < 10 ^ after.dropped = rw power (omega arith) in
+    let lost_below : keeps.lost * 10 + (c - 48) < 10 ^ after.dropped = rw power (omega arith) in
     record {
       lost = keeps.lost * 10 + (c - 48);
       value = digits_value-push_digit ds c digit ∙ written;
-      few_lost = bound;
+      lost_max = lost_below;
       large = λ _. rw kept_is large;
     }
 
@@ -39,17 +39,17 @@ pub keeps_adding : (sum after : Digits) (ds : List ℕ) (c : ℕ) → IsTrue (is
 keeps_adding sum after ds c digit small kept_is dropped_is keeps =
     let large = keeps.large in
     let value = keeps.value in
-    let few = keeps.few_lost in
+    let bound = keeps.lost_max in
     let whole : sum.dropped ≡ 0 = grind arith in
     let whole_after : after.dropped ≡ 0 = dropped_is ∙ whole in
-    let few_then = rw whole at few in
+    let max_then = rw whole at bound in
     let value_then = rw whole at value in
     let written : digits_value 10 ds * 10 + (c - 48) ≡ after.kept * 10 ^ after.dropped + 0 = rw (value_then, whole_after, kept_is) (omega arith) in
-    let bound : 0 < 10 ^ after.dropped = rw whole_after (omega arith) in
+    let lost_below : 0 < 10 ^ after.dropped = rw whole_after (omega arith) in
     record {
       lost = 0;
       value = digits_value-push_digit ds c digit ∙ written;
-      few_lost = bound;
+      lost_max = lost_below;
       large = λ some. absurd (omega arith);
     }
 

@@ -26,8 +26,8 @@ lowered_away number places small far =
     let power = power_at_most 39 places far in
     sym (nearest_natural-small number (10 ^ places) (omega arith))
 
-pub raised_above : (number places most : ℕ) → 0 < number → 37 < places → most < 10 ^ 37 → number * 10 ^ places ≤ most → ⊥
-raised_above number places most some far small below =
+pub raised_above : (number places maximum : ℕ) → 0 < number → 37 < places → maximum < 10 ^ 37 → number * 10 ^ places ≤ maximum → ⊥
+raised_above number places maximum some far small below =
     let power = power_at_most 38 places far in
     omega (arith, mul-le-mul_left (10 ^ places) some)
 
@@ -51,13 +51,13 @@ raised_at_least kept lost j r l s sum =
 
 -- down: the lost digits don't matter
 lowered_exactly : (kept lost j r l s : ℕ) → lost < 10 ^ j → l ≡ r + j + suc s → nearest_natural ((kept * 10 ^ j + lost) * 10 ^ r) (10 ^ l) ≡ nearest_natural kept (10 ^ suc s)
-lowered_exactly kept lost j r l s few sum =
+lowered_exactly kept lost j r l s bound sum =
     let power : 10 ^ l ≡ 10 ^ r * 10 ^ j * 10 ^ suc s = ap (λ n. 10 ^ n) sum ∙ pow-add 10 (r + j) (suc s) ∙ ap (λ p. p * 10 ^ suc s) (pow-add 10 r j) in
     let even : 10 ^ suc s ≡ 2 * (5 * 10 ^ s) = pow-suc 10 s ∙ omega arith in
     let below : 10 ^ l ≡ 2 * (5 * 10 ^ s) * 10 ^ j * 10 ^ r = power ∙ rw even (omega arith) in
     ap (λ q. nearest_natural ((kept * 10 ^ j + lost) * 10 ^ r) q) below
     ∙ nearest_natural-cancel (kept * 10 ^ j + lost) (2 * (5 * 10 ^ s) * 10 ^ j) (10 ^ r) (power_positive r)
-    ∙ nearest_natural-lost kept lost (5 * 10 ^ s) (10 ^ j) few
+    ∙ nearest_natural-lost kept lost (5 * 10 ^ s) (10 ^ j) bound
     ∙ ap (λ q. nearest_natural kept q) (sym even)
 
 -- ---- the same of what was read
@@ -83,28 +83,28 @@ parts_of_shown number body decimals raised lowered shown =
     ∙ ap (λ n. nearest_natural ((number.digits.kept * 10 ^ number.digits.dropped + shown.digits.lost) * 10 ^ (number.raised + decimals)) (10 ^ (n + lowered_by body))) (sym shown.places)
     ∙ ap (λ n. nearest_natural ((number.digits.kept * 10 ^ number.digits.dropped + shown.digits.lost) * 10 ^ (number.raised + decimals)) (10 ^ (number.places + n))) (not_capped number.lowered (lowered_by body) shown.lowered lowered)
 
-raise_gives : (r : Option ℕ) (kept s most parts : ℕ) → (parts ≡ kept * 10 ^ s) ⊎ ((most < kept) × (kept * 10 ^ s ≤ parts)) → SomeIff r (kept * 10 ^ s ≤ most) (kept * 10 ^ s) → SomeIff r (parts ≤ most) parts
-raise_gives r kept s most parts (inl same) given = rw same given
-raise_gives None kept s most parts (inr more) given = λ below. omega (arith, mul-le-mul_left kept (power_positive s))
-raise_gives (Some n) kept s most parts (inr more) given = absurd (omega (arith, mul-le-mul_left kept (power_positive s)))
+raise_gives : (r : Option ℕ) (kept s maximum parts : ℕ) → (parts ≡ kept * 10 ^ s) ⊎ ((maximum < kept) × (kept * 10 ^ s ≤ parts)) → SomeIff r (kept * 10 ^ s ≤ maximum) (kept * 10 ^ s) → SomeIff r (parts ≤ maximum) parts
+raise_gives r kept s maximum parts (inl same) given = rw same given
+raise_gives None kept s maximum parts (inr more) given = λ below. omega (arith, mul-le-mul_left kept (power_positive s))
+raise_gives (Some n) kept s maximum parts (inr more) given = absurd (omega (arith, mul-le-mul_left kept (power_positive s)))
 
-raised_cases : (kept lost j r l s most parts : ℕ) → parts ≡ nearest_natural ((kept * 10 ^ j + lost) * 10 ^ r) (10 ^ l) → lost < 10 ^ j → (0 < j → 10 ^ 37 ≤ kept) → most < 10 ^ 37 → l + s ≡ r + j →
-    (parts ≡ kept * 10 ^ s) ⊎ ((most < kept) × (kept * 10 ^ s ≤ parts))
-raised_cases kept lost zero r l s most parts parts_is few large small sum =
+raised_cases : (kept lost j r l s maximum parts : ℕ) → parts ≡ nearest_natural ((kept * 10 ^ j + lost) * 10 ^ r) (10 ^ l) → lost < 10 ^ j → (0 < j → 10 ^ 37 ≤ kept) → maximum < 10 ^ 37 → l + s ≡ r + j →
+    (parts ≡ kept * 10 ^ s) ⊎ ((maximum < kept) × (kept * 10 ^ s ≤ parts))
+raised_cases kept lost zero r l s maximum parts parts_is bound large small sum =
     let none : kept * 10 ^ 0 + lost ≡ kept = omega arith in
     inl (parts_is ∙ ap (λ n. nearest_natural (n * 10 ^ r) (10 ^ l)) none ∙ raised_exactly kept r l s (omega arith))
-raised_cases kept lost (suc j) r l s most parts parts_is few large small sum =
+raised_cases kept lost (suc j) r l s maximum parts parts_is bound large small sum =
     let above = large (omega arith) in
     inr (omega arith, rw parts_is (raised_at_least kept lost (suc j) r l s sum))
 
-pub raised_parts : (number : Decimal) (body : List ℕ) (decimals most : ℕ) (r : Option ℕ) → number.raised ≤ 30 → number.lowered ≤ 30 → most < 10 ^ 37 → Shows number body →
+pub raised_parts : (number : Decimal) (body : List ℕ) (decimals maximum : ℕ) (r : Option ℕ) → number.raised ≤ 30 → number.lowered ≤ 30 → maximum < 10 ^ 37 → Shows number body →
     (up down : ℕ) → up ≡ decimals + number.digits.dropped + number.raised → down ≡ number.places + number.lowered → down ≤ up →
-    SomeIff r (number.digits.kept * 10 ^ (up - down) ≤ most) (number.digits.kept * 10 ^ (up - down)) →
-    SomeIff r (parts_of (10 ^ decimals) body ≤ most) (parts_of (10 ^ decimals) body)
-raised_parts number body decimals most r raised lowered small shown up down up_is down_is order given =
-    let cases = raised_cases number.digits.kept shown.digits.lost number.digits.dropped (number.raised + decimals) (number.places + number.lowered) (up - down) most (parts_of (10 ^ decimals) body)
-    (parts_of_shown number body decimals raised lowered shown) shown.digits.few_lost shown.digits.large small (omega arith) in
-    raise_gives r number.digits.kept (up - down) most (parts_of (10 ^ decimals) body) cases given
+    SomeIff r (number.digits.kept * 10 ^ (up - down) ≤ maximum) (number.digits.kept * 10 ^ (up - down)) →
+    SomeIff r (parts_of (10 ^ decimals) body ≤ maximum) (parts_of (10 ^ decimals) body)
+raised_parts number body decimals maximum r raised lowered small shown up down up_is down_is order given =
+    let cases = raised_cases number.digits.kept shown.digits.lost number.digits.dropped (number.raised + decimals) (number.places + number.lowered) (up - down) maximum (parts_of (10 ^ decimals) body)
+    (parts_of_shown number body decimals raised lowered shown) shown.digits.lost_max shown.digits.large small (omega arith) in
+    raise_gives r number.digits.kept (up - down) maximum (parts_of (10 ^ decimals) body) cases given
 
 pub lowered_parts : (number : Decimal) (body : List ℕ) (decimals : ℕ) → number.raised ≤ 30 → number.lowered ≤ 30 → Shows number body →
     (up down : ℕ) → up ≡ decimals + number.digits.dropped + number.raised → down ≡ number.places + number.lowered → up < down →
@@ -113,7 +113,7 @@ lowered_parts number body decimals raised lowered shown up down up_is down_is or
     let parts_is = parts_of_shown number body decimals raised lowered shown in
     let gap : down - up ≡ suc (down - up - 1) = omega arith in
     let sum : number.places + number.lowered ≡ number.raised + decimals + number.digits.dropped + suc (down - up - 1) = omega arith in
-    let exact = lowered_exactly number.digits.kept shown.digits.lost number.digits.dropped (number.raised + decimals) (number.places + number.lowered) (down - up - 1) shown.digits.few_lost sum in
+    let exact = lowered_exactly number.digits.kept shown.digits.lost number.digits.dropped (number.raised + decimals) (number.places + number.lowered) (down - up - 1) shown.digits.lost_max sum in
     sym (parts_is ∙ exact ∙ ap (λ n. nearest_natural number.digits.kept (10 ^ n)) (sym gap))
 
 pub not_both : (m n : ℕ) → m < n → n ≤ m → ⊥
@@ -156,7 +156,7 @@ seconds_more seconds value count before small =
     rw next (omega arith)
 
 pub seconds_fit : (seconds value count : ℕ) → seconds < 10 ^ 18 * 100 ^ count → value < 10 ^ 18 → count < 3 → 60 * seconds + value < 10 ^ 24
-seconds_fit seconds value count before small few =
+seconds_fit seconds value count before small bound =
     let more = seconds_more seconds value count before small in
-    let most = hundreds count few in
+    let maximum = hundreds count bound in
     omega arith

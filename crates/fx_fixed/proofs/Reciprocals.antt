@@ -16,9 +16,9 @@ quotient-is n d f p positive above near =
     div-eq_of_lt-le p (omega (arith, low)) high
 
 near-by : (n d f t : ℕ) → n < 2 ^ 63 → 0 < t → d ≤ 2 * t → f * d ≤ 2 ^ 64 * t + d → n * (f * d) < n * (2 ^ 64 * t) + 2 ^ 64 * t
-near-by n d f t small positive few near =
+near-by n d f t small positive bound near =
     let a : n * (f * d) ≤ n * (2 ^ 64 * t + d) = mul-le-mul (omega arith) near in
-    let b : n * d ≤ n * (2 * t) = mul-le-mul (omega arith) few in
+    let b : n * d ≤ n * (2 * t) = mul-le-mul (omega arith) bound in
     let e : n * t ≤ (2 ^ 63 - 1) * t = mul-le-mul (omega arith) (omega arith) in
     omega (arith, a, b, e, positive)
 
@@ -26,25 +26,25 @@ near-by n d f t small positive few near =
 pub divided : (n d f s : ℕ) → IsReciprocal d f s → 0 < 2 ^ s → n < 2 ^ 63 → n * f / 2 ^ 64 / 2 ^ s ≡ n / d
 divided n d f s prepared positive small =
     div-div-eq-div-mul (n * f) (2 ^ 64) (2 ^ s)
-    ∙ quotient-is n d f (2 ^ 64 * 2 ^ s) prepared.positive (omega (arith, prepared.above)) (near-by n d f (2 ^ s) small positive prepared.greatest prepared.near)
+    ∙ quotient-is n d f (2 ^ 64 * 2 ^ s) prepared.positive (omega (arith, prepared.above)) (near-by n d f (2 ^ s) small positive prepared.largest prepared.near)
 
 -- the factor of a divisor fits
 pub factor-fits : (d t : ℕ) → 2 ≤ d → d < 2 ^ 63 → t ≤ d - 1 → 2 ^ 64 * t / d + 1 < 2 ^ 64
-factor-fits d t least greatest under =
-    let p : 2 ^ 64 * t < (2 ^ 64 - 1) * d = omega (arith, least, greatest, under) in
-    let q : 2 ^ 64 * t / d < 2 ^ 64 - 1 = (div-lt_iff_lt-mul (omega (arith, least))).1 p in
+factor-fits d t minimum largest under =
+    let p : 2 ^ 64 * t < (2 ^ 64 - 1) * d = omega (arith, minimum, largest, under) in
+    let q : 2 ^ 64 * t / d < 2 ^ 64 - 1 = (div-lt_iff_lt-mul (omega (arith, minimum))).1 p in
     omega (arith, q)
 
 -- the preparation
 pub prepared : (d s : ℕ) → 2 ≤ d → s < 64 → 2 ^ s ≤ d - 1 → d - 1 < 2 * 2 ^ s → IsReciprocal d (2 ^ 64 * 2 ^ s / d + 1) s
-prepared d s least few under over =
-    let rest : 2 ^ 64 * 2 ^ s < 2 ^ 64 * 2 ^ s / d * d + d = lt-div-mul-add (omega (arith, least)) in
+prepared d s minimum bound under over =
+    let rest : 2 ^ 64 * 2 ^ s < 2 ^ 64 * 2 ^ s / d * d + d = lt-div-mul-add (omega (arith, minimum)) in
     let whole : 2 ^ 64 * 2 ^ s / d * d ≤ 2 ^ 64 * 2 ^ s = div-mul-le_self (2 ^ 64 * 2 ^ s) d in
     record {
-      positive = omega (arith, least);
-      least = omega (arith, under);
-      greatest = omega (arith, over);
-      few = few;
+      positive = omega (arith, minimum);
+      minimum = omega (arith, under);
+      largest = omega (arith, over);
+      bound = bound;
       above = omega (arith, rest);
       near = omega (arith, whole);
     }

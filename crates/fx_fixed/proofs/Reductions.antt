@@ -17,11 +17,11 @@ passed-on : (divisor product next n : ℕ) → IsGcd divisor product next → n 
 passed-on divisor product next n common whole = mod-eq-zero_of_dvd next (dvd_trans next common.0 (dvd_of_mod-eq-zero divisor whole))
 
 -- a divisor of what is not 0 is not 0
-still-positive : (divisor product next : ℕ) → 0 < divisor → IsGcd divisor product next → 0 < next
-still-positive divisor product zero positive common =
+unchanged-positive : (divisor product next : ℕ) → 0 < divisor → IsGcd divisor product next → 0 < next
+unchanged-positive divisor product zero positive common =
     let none : divisor ≡ 0 = eq-zero_of_zero-dvd common.0 in
     omega (arith, positive, none)
-still-positive divisor product (suc n) positive common = omega arith
+unchanged-positive divisor product (suc n) positive common = omega arith
 
 at-place : (f : ℕ → ℕ) (divisor next product i k : ℕ) (b : Bool) → nat_eq k i ≡ b → IsGcd divisor product next → f i ≡ product → ((k : ℕ) → k < i → f k % divisor ≡ 0) → k < i + 1 → f k % next ≡ 0
 at-place f divisor next product i k true t common is done l =
@@ -38,7 +38,7 @@ pub record Divides (f : ℕ → ℕ) (all divisor i : ℕ) : Type 0 where
 
 pub divides-more : (f : ℕ → ℕ) (whole divisor next product i : ℕ) → 0 < divisor → whole % divisor ≡ 0 → ((k : ℕ) → k < i → f k % divisor ≡ 0) → IsGcd divisor product next → f i ≡ product → Divides f whole next (i + 1)
 divides-more f whole divisor next product i positive even done common is = record {
-  positive = still-positive divisor product next positive common;
+  positive = unchanged-positive divisor product next positive common;
   whole = passed-on divisor product next whole common even;
   products = λ k l. at-place f divisor next product i k (nat_eq k i) refl common is done l;
 }

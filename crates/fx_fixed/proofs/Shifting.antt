@@ -19,7 +19,7 @@ half_step n q b small =
 
 -- digits that are lost don't change what is rounded at a higher place
 pub nearest_natural-lost : (kept lost h p : ℕ) → lost < p → nearest_natural (kept * p + lost) (2 * h * p) ≡ nearest_natural kept (2 * h)
-nearest_natural-lost kept lost h p few =
+nearest_natural-lost kept lost h p bound =
     let positive : 0 < p = omega arith in
     let above : 2 * (kept * p + lost) + 2 * h * p ≡ 2 * (kept + h) * p + 2 * lost = omega arith in
     let below : 2 * (2 * h * p) ≡ p * (2 * (2 * h)) = omega arith in

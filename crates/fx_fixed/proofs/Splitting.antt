@@ -9,7 +9,7 @@ use Rattle.std.proofs.lemmas.Bool.{false≢true, le-ltb}
 use Rattle.std.proofs.Math.Bool.{and-false}
 use Rattle.std.proofs.lemmas.List.{take_all}
 use Rattle.std.proofs.lemmas.List.Sums.{sum_by-cons}
-use Rattle.fx_fixed.specs.Clock.{clock_of, components_of, fraction_of, frames_of, has_clock_form, seconds_of, within_reach}
+use Rattle.fx_fixed.specs.Clock.{clock_of, components_of, fraction_of, clock_frames_of, has_clock_form, seconds_of, within_reach}
 use Rattle.fx_fixed.specs.Count.{count_of, is_count, whole_of}
 use Rattle.fx_fixed.specs.Decimals.{fraction_digits, is_mark, is_sign, lowered_by, raised_by, unsigned, whole_digits}
 use Rattle.fx_fixed.specs.Later.{BeginsSigned, IsLater, IsNext, frames_in, is_bad}
@@ -73,7 +73,7 @@ is_count-by text = go (is_count text) refl where
   go false other = rw other refl
 
 has_clock_form-by : (rate : ℕ) (text : List ℕ) → has_clock_form text ≡ not (is_bad (clock_of rate text))
-has_clock_form-by rate text = by_form (has_clock_form text) (frames_of rate (seconds_of (components_of text)) (digits_value 10 (fraction_of text)) (length (fraction_of text))) where
+has_clock_form-by rate text = by_form (has_clock_form text) (clock_frames_of rate (seconds_of (components_of text)) (digits_value 10 (fraction_of text)) (length (fraction_of text))) where
   by_form : (b : Bool) (frames : ℕ) → b ≡ not (is_bad (if b then within_reach frames else Err BadTime))
   by_form true frames = rw (not_bad_reach frames) refl
   by_form false frames = refl
@@ -118,13 +118,13 @@ taken_next rate text after term is_taken before next =
     rw (next.cut, sum, first) (omega arith)
 
 -- a term moves by 2^40 frames at most
-pub frames_few : (term : Result ℕ TimeFault) → IfOk term (λ frames. frames ≤ 2 ^ 40) → frames_in term ≤ 2 ^ 40
-frames_few (Ok frames) few = few
-frames_few (Err fault) few = omega arith
+pub frames_bound : (term : Result ℕ TimeFault) → IfOk term (λ frames. frames ≤ 2 ^ 40) → frames_in term ≤ 2 ^ 40
+frames_bound (Ok frames) bound = bound
+frames_bound (Err fault) bound = omega arith
 
-pub moved_few : (is_taken : Bool) (frames : ℕ) → frames ≤ 2 ^ 40 → ((if is_taken then 0 else frames) ≤ 2 ^ 40) × ((if is_taken then frames else 0) ≤ 2 ^ 40)
-moved_few true frames few = (omega arith, few)
-moved_few false frames few = (few, omega arith)
+pub moved_bound : (is_taken : Bool) (frames : ℕ) → frames ≤ 2 ^ 40 → ((if is_taken then 0 else frames) ≤ 2 ^ 40) × ((if is_taken then frames else 0) ≤ 2 ^ 40)
+moved_bound true frames bound = (omega arith, bound)
+moved_bound false frames bound = (bound, omega arith)
 
 -- ---- the first term, and the later ones
 
@@ -132,8 +132,8 @@ moved_few false frames few = (few, omega arith)
 pub terms_split : (rate : ℕ) (text first rest : List ℕ) (end : ℕ) → length text ≤ 80 → end ≡ term_len false text → first ≡ take end text → rest ≡ drop end text →
     terms_of rate text ≡ terms_by rate (first ∷ later_terms rest)
 terms_split rate text first rest end short end_is first_is rest_is =
-    let few : nat_lt 80 (length text) ≡ false = le-ltb 80 (length text) short in
-    rw (few, first_is, rest_is, end_is) (ap (terms_by rate) (terms_cut false text))
+    let bound : nat_lt 80 (length text) ≡ false = le-ltb 80 (length text) short in
+    rw (bound, first_is, rest_is, end_is) (ap (terms_by rate) (terms_cut false text))
 
 -- one of the later terms is bad
 pub bad_later : (rate : ℕ) (first : List ℕ) (later : List (List ℕ)) → list_all (λ term. is_term (unsigned term)) later ≡ false → terms_by rate (first ∷ later) ≡ Err BadTime

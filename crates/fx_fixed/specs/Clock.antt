@@ -37,15 +37,15 @@ abbrev pub seconds_of : List (List ℕ) → ℕ
 seconds_of components = fold (λ seconds component. 60 * seconds + digits_value 10 component) 0 components
 
 -- seconds and a fraction of a second in frames, to the nearest
-abbrev pub frames_of : ℕ → ℕ → ℕ → ℕ → ℕ
-frames_of rate seconds fraction places =
+abbrev pub clock_frames_of : ℕ → ℕ → ℕ → ℕ → ℕ
+clock_frames_of rate seconds fraction places =
     nearest_natural ((seconds * 10 ^ places + fraction) * rate) (10 ^ places)
 
 -- that number, or the fault that it is too far
 abbrev pub within_reach : ℕ → Result ℕ TimeFault
 within_reach frames = if nat_lt (2 ^ 40) frames then Err TooFar else Ok frames
 
--- the form of a clock time: one to three components, a digit in these or in the fraction, and nothing behind a `t`
+-- the form of a clock time: one to three components, a digit in these or in the fraction, and nothing after a `t`
 abbrev pub has_clock_form : List ℕ → Bool
 has_clock_form text =
     list_all is_short (components_of text)
@@ -59,5 +59,5 @@ abbrev pub clock_of : ℕ → List ℕ → Result ℕ TimeFault
 clock_of rate text =
     if has_clock_form text
     then within_reach
-    (frames_of rate (seconds_of (components_of text)) (digits_value 10 (fraction_of text)) (length (fraction_of text)))
+    (clock_frames_of rate (seconds_of (components_of text)) (digits_value 10 (fraction_of text)) (length (fraction_of text)))
     else Err BadTime

@@ -1,7 +1,7 @@
 -- What follows the components of a clock time.
 use Rattle.std.specs.Prelude.{ℕ, ◌≡◌, ◌+◌, ◌==◌, nat_lt, ◌&&◌, Bool, true, false, ⊤, if◌then◌else◌, List, [], ◌∷◌, length, Result, Err}
 use Rattle.std.specs.Str.Parse.{digits_value}
-use Rattle.fx_fixed.specs.Clock.{before_point, fraction_of, frames_of, is_short, is_t, tail_of, within_reach}
+use Rattle.fx_fixed.specs.Clock.{before_point, fraction_of, clock_frames_of, is_short, is_t, tail_of, within_reach}
 use Rattle.fx_fixed.specs.declared.times.TimeFault.{TimeFault}
 use Rattle.fx_fixed.specs.declared.times.TimeFault.TheVariants.{BadTime}
 
@@ -19,7 +19,7 @@ is_last (c ∷ cs) = is_t c && (length cs == 0)
 abbrev pub after_fraction : ℕ → ℕ → ℕ → ℕ → ℕ → List ℕ → Result ℕ TimeFault
 after_fraction rate seconds digits fraction places rest =
     if nat_lt 0 (digits + places) && is_last rest
-    then within_reach (frames_of rate seconds fraction places)
+    then within_reach (clock_frames_of rate seconds fraction places)
     else Err BadTime
 
 -- the frames by what stands between the components' digits and the point, the fraction, and what follows a `t`
@@ -29,7 +29,7 @@ by_parts rate seconds digits front fraction tail =
     && is_short fraction
     && nat_lt 0 (digits + length fraction)
     && (length tail == 0)
-    then within_reach (frames_of rate seconds (digits_value 10 fraction) (length fraction))
+    then within_reach (clock_frames_of rate seconds (digits_value 10 fraction) (length fraction))
     else Err BadTime
 
 -- the frames where the digits of the components were read

@@ -5,7 +5,7 @@ use Rattle.fx_fixed.specs.Decimals.{exponent_text, fraction_digits, is_decimal, 
 use Rattle.fx_fixed.specs.declared.times.TimeFault.{TimeFault}
 use Rattle.fx_fixed.specs.declared.times.TimeFault.TheVariants.{BadTime, NotWhole}
 
--- a number, raised and lowered by so many places, where that is whole
+-- a number, raised and lowered by these numbers of places, where that is whole
 abbrev pub whole_of : ℕ → ℕ → ℕ → Result ℕ TimeFault
 whole_of n raised lowered =
     if (n * 10 ^ raised) % 10 ^ lowered == 0

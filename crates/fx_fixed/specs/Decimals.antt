@@ -62,7 +62,7 @@ lowered_by body = if is_negative (exponent_text body) then exponent_size body el
 abbrev pub mantissa_of : List ℕ → ℕ
 mantissa_of body = digits_value 10 (whole_digits body ++ fraction_digits body)
 
--- an unsigned decimal number, counted in parts of one and rounded, halves up
+-- an unsigned decimal number, counted in fractions of one and rounded, halves up
 abbrev pub parts_of : ℕ → List ℕ → ℕ
 parts_of units body =
     nearest_natural (mantissa_of body * 10 ^ raised_by body * units)

@@ -5,7 +5,7 @@ use Rattle.fx_fixed.specs.Decimals.{exponent_size, is_decimal, is_negative, part
 use Rattle.fx_fixed.specs.declared.times.TimeFault.{TimeFault}
 use Rattle.fx_fixed.specs.declared.times.TimeFault.TheVariants.{BadTime, Negative, TooFar}
 
--- the frames of so many billionths of a millisecond: one at least
+-- the frames of these billionths of a millisecond: at least one
 abbrev pub delay_of : ℕ → ℕ → ℕ
 delay_of rate billionths = max 1 (billionths * rate / (1000 * 10 ^ 9))
 

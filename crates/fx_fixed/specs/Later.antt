@@ -23,7 +23,7 @@ pub record IsNext (text : List ℕ) (is_taken : Bool) (term after : List ℕ) : 
   pub shorter : length after < length text
   pub term_shorter : length term < length text
 
--- a fault that says that a text has the form of no term
+-- a fault for a text that has the form of no term
 abbrev pub is_bad : Result ℕ TimeFault → Bool
 is_bad (Ok frames) = false
 is_bad (Err BadTime) = true

@@ -31,7 +31,7 @@ start_by (Err fault) = Err fault
 abbrev pub start_at : ℕ → ℕ → Result At TimeFault
 start_at ahead back = start_by (frames_between ahead back)
 
--- a position before the end: at the end where it would lie behind it, and not too far
+-- a position before the end: at the end where it would lie after it, and not too far
 abbrev pub end_at : ℕ → ℕ → Result At TimeFault
 end_at ahead back = if nat_lt (2 ^ 40) (ahead - back) then Err TooFar else Ok (End (ahead - back))
 
@@ -51,12 +51,12 @@ abbrev pub position_of : ℕ → Anchor → At → List ℕ → Result At TimeFa
 position_of rate default previous text =
     position_from (anchor_of default text) previous (terms_of rate (distance_of text))
 
--- where a position lies in a sound of so many frames
+-- where a position lies in a sound of `total` frames
 abbrev pub place_of : ℕ → At → ℕ
 place_of total (Start p) = p
 place_of total (End b) = total - b
 
--- where positions lie in effect, one after the other: none before the one in front of it
+-- where positions lie in effect, one after the other: none before the previous one
 abbrev pub places_after : ℕ → ℕ → List At → List ℕ
 places_after total last [] = []
 places_after total last (position ∷ positions) =

@@ -5,7 +5,7 @@ use Rattle.fx_fixed.specs.declared.sums.Digits.{Digits}
 use Rattle.fx_fixed.specs.Decimals.{exponent_text, fraction_digits, is_mark, is_numeral, is_point, lowered_by, raised_by, unsigned, whole_digits}
 use Rattle.fx_fixed.specs.Kept.{Keeps}
 
--- a text has no point in front
+-- a text does not begin with a point
 abbrev pub HasNoPoint : List ℕ → Type 0
 HasNoPoint [] = ⊤
 HasNoPoint (c ∷ cs) = is_point c ≡ false
@@ -15,7 +15,7 @@ abbrev pub is_end : List ℕ → Bool
 is_end [] = true
 is_end (c ∷ cs) = is_mark c && is_numeral (unsigned cs)
 
--- a number of those digits, of which so many stand before and after the point, and of the exponent of that text
+-- a number of those digits, with these counts before and after the point, and of the exponent of that text
 pub record Ends (number : Decimal) (sum : Digits) (before_point after_point : ℕ) (rest : List ℕ) : Type 0 where
   pub digits : number.digits ≡ sum
   pub whole : number.whole ≡ before_point

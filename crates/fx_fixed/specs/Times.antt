@@ -1,4 +1,4 @@
--- Time specifications as text, by sox(1), Effects, and this project's profile: cut into terms, each rounded for itself.
+-- Time specifications as text, by sox(1), Effects, and this project's profile: cut into terms, each rounded separately.
 use Rattle.std.specs.Prelude.{ℕ, ◌+◌, ◌-◌, nat_eq, nat_lt, not, ◌&&◌, Bool, false, if◌then◌else◌, List, [], ◌∷◌, length, take, drop, codes, sum_by, Option, Some, None, Result, Ok, Err}
 use Rattle.std.specs.List.{ends_with, list_all, onto_first}
 use Rattle.std.specs.Option.{option_or}
@@ -10,7 +10,7 @@ use Rattle.fx_fixed.specs.declared.terms.Terms.{Terms}
 use Rattle.fx_fixed.specs.declared.times.TimeFault.{TimeFault}
 use Rattle.fx_fixed.specs.declared.times.TimeFault.TheVariants.{BadTime, Negative}
 
--- the terms of a text, each but the first with its sign in front: cut before each plus or minus that follows no `e`
+-- the terms of a text, each but the first beginning with its sign: cut before each plus or minus that follows no `e`
 abbrev pub terms_after : Bool → List ℕ → List (List ℕ)
 terms_after after_mark [] = [] ∷ []
 terms_after after_mark (c ∷ cs) =
@@ -32,7 +32,7 @@ without_last term = take (length term - 1) term
 abbrev pub is_term : List ℕ → Bool
 is_term term = if is_counted term then is_count (without_last term) else has_clock_form term
 
--- later terms, with their signs in front, all have that form
+-- later terms, each beginning with its sign, all have that form
 abbrev pub are_terms : List (List ℕ) → Bool
 are_terms terms = list_all (λ term. is_term (unsigned term)) terms
 
@@ -40,13 +40,13 @@ are_terms terms = list_all (λ term. is_term (unsigned term)) terms
 abbrev pub term_of : ℕ → List ℕ → Result ℕ TimeFault
 term_of rate term = if is_counted term then count_of (without_last term) else clock_of rate term
 
--- the first fault of terms with their signs in front
+-- the first fault of terms that each begin with a sign
 abbrev pub fault_in : ℕ → List (List ℕ) → Option TimeFault
 fault_in rate [] = None
 fault_in rate (term ∷ terms) =
     option_or (result_err (term_of rate (unsigned term))) (fault_in rate terms)
 
--- the frames of a term with its sign in front, where it adds some, and where it takes some away
+-- the frames that a term beginning with its sign adds, and those that it subtracts
 abbrev pub added_by : ℕ → List ℕ → ℕ
 added_by rate term = if is_negative term then 0 else result_unwrap_or (term_of rate (unsigned term)) 0
 

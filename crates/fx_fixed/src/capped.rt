@@ -1,4 +1,4 @@
-//! Numbers of which a greatest one stands for each that is more.
+//! Numbers with a cap, which stands for each greater number.
 
 ghost use Rattle.std.specs.Prelude.{◌≡◌, ◌≤◌, ◌^◌, ◌↔◌, IfSome, IsSome, IsTrue, min};
 ghost use Rattle.std.specs.Str.Parse.{digits_value};

@@ -8,9 +8,9 @@ ghost use Rattle.fx_fixed.specs.Clock.{clock_of};
 ghost use Rattle.fx_fixed.specs.ClockEnd.{BeginsNot, after_components, after_fraction};
 
 use crate::number::power_of_ten;
-use crate::times::{FARTHEST, TimeFault};
+use crate::times::{MAX_POSITION, TimeFault};
 
-/// The greatest number of digits in a run.
+/// The maximum number of digits in a run.
 pub(crate) const RUN_DIGITS: usize = 18;
 
 /// The number of the digits at the front, of which there may be eighteen, and what follows them.
@@ -73,7 +73,7 @@ fn frames_at(
     let rate = u128::from(rate);
     let part = (2 * u128::from(fraction) * rate + power) / (2 * power);
     let frames = seconds * rate + part;
-    if frames > u128::from(FARTHEST) {
+    if frames > u128::from(MAX_POSITION) {
         return Err(TimeFault::TooFar);
     }
     Ok(frames as u64)

@@ -11,11 +11,11 @@ use crate::gains::Gain;
 use std::alloc::Global;
 use thiserror::Error;
 
-/// The greatest number of bytes of a coefficient file.
+/// The maximum number of bytes of a coefficient file.
 const FILE_BYTES: usize = 1 << 20;
 
 /// The greatest number of coefficients.
-const MOST_COEFFICIENTS: usize = 1024;
+pub const MAX_COEFFICIENTS: usize = 1024;
 
 /// Why there are no coefficients.
 #[derive(Clone, Copy, Debug, Drop, Eq, Error, PartialEq)]
@@ -108,7 +108,7 @@ impl Coefficients {
     /// `#` to a line feed.
     ///
     /// `BadCoefficients` where the file has over `2^20` bytes, no number, over 1024 numbers or a word
-    /// that is none; `Memory` where a growth of the list was refused.
+    /// that is none; `Memory` where an allocation for the list was refused.
     pub fn parse(alloc: Global, bytes: &[u8]) -> Result<Vec<Gain>, CoefFault>
         ensures accepted { IfOk result (λ gains. coefficients_of bytes.now ≡ Some gains.items) }
         ensures refused { result ≡ Err CoefFault.BadCoefficients → coefficients_of bytes.now ≡ None }
@@ -122,7 +122,7 @@ impl Coefficients {
             let Ok(gain) = Gain::parse_bytes(word) else {
                 return Err(CoefFault::BadCoefficients);
             };
-            if gains.len() == MOST_COEFFICIENTS {
+            if gains.len() == MAX_COEFFICIENTS {
                 return Err(CoefFault::BadCoefficients);
             }
             gains.push(gain).map_err(|_| CoefFault::Memory)?;

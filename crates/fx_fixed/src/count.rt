@@ -6,9 +6,9 @@ ghost use Rattle.fx_fixed.specs.Count.{count_of, whole_of};
 use crate::clock::RUN_DIGITS;
 use crate::decimals::read_decimal;
 use crate::number::power_of_ten;
-use crate::times::{FARTHEST, TimeFault};
+use crate::times::{MAX_POSITION, TimeFault};
 
-/// A number, raised and lowered by so many places, where that is whole and not too far.
+/// A number, raised and lowered by these numbers of places, where that is whole and not too far.
 #[tactic(auto, using(crate::proofs::Counting::whole_numbers))]
 fn whole_frames(number: u128, raised: u32, lowered: u32) -> Result<u64, TimeFault>
     requires number { number < 10 ^ 36 }
@@ -23,11 +23,11 @@ fn whole_frames(number: u128, raised: u32, lowered: u32) -> Result<u64, TimeFaul
         if raised - lowered > 12 {
             return Err(TimeFault::TooFar);
         }
-        if number > u128::from(FARTHEST) {
+        if number > u128::from(MAX_POSITION) {
             return Err(TimeFault::TooFar);
         }
         let frames = number * power_of_ten(raised - lowered);
-        if frames > u128::from(FARTHEST) {
+        if frames > u128::from(MAX_POSITION) {
             return Err(TimeFault::TooFar);
         }
         return Ok(frames as u64);
@@ -40,7 +40,7 @@ fn whole_frames(number: u128, raised: u32, lowered: u32) -> Result<u64, TimeFaul
         return Err(TimeFault::NotWhole);
     }
     let frames = number / power;
-    if frames > u128::from(FARTHEST) {
+    if frames > u128::from(MAX_POSITION) {
         return Err(TimeFault::TooFar);
     }
     Ok(frames as u64)

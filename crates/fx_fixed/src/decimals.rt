@@ -22,7 +22,7 @@ pub fn split_sign(text: &[u8]) -> (bool, &[u8])
     }
 }
 
-/// A decimal number of which these digits were read, so many of them before the point and so many
+/// A decimal number of which these digits were read, `whole` of them before the point and `places`
 /// after it, and of which the rest of the text is to be the exponent.
 fn with_exponent(digits: Digits, whole: usize, places: usize, rest: &[u8]) -> Option<Decimal>
     requires { whole + places < 100 }

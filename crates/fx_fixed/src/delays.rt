@@ -6,8 +6,8 @@ ghost use Rattle.fx_fixed.specs.Clock.{within_reach};
 
 use crate::decimals::{read_decimal, split_sign};
 use crate::gains::NUMBER_BYTES;
-use crate::number::GREATEST_EXPONENT;
-use crate::times::{FARTHEST, TimeFault};
+use crate::number::MAX_EXPONENT;
+use crate::times::{MAX_POSITION, TimeFault};
 
 /// The decimals to which a number of milliseconds is rounded.
 const MILLIS_DECIMALS: u32 = 9;
@@ -15,13 +15,13 @@ const MILLIS_DECIMALS: u32 = 9;
 /// How many billionths of a millisecond make a second.
 const SECOND: u128 = 1_000_000_000_000;
 
-/// The frames of so many billionths of a millisecond, from 1 to `2^40`.
+/// The frames of these billionths of a millisecond, from 1 to `2^40`.
 fn delay_frames(billionths: u128, rate: u32) -> Result<u64, TimeFault>
     requires { billionths < 10 ^ 28 }
     ensures { result ≡ within_reach (delay_of rate billionths) }
 {
     let frames = (billionths * u128::from(rate) / SECOND).max(1);
-    if frames > u128::from(FARTHEST) {
+    if frames > u128::from(MAX_POSITION) {
         return Err(TimeFault::TooFar);
     }
     Ok(frames as u64)
@@ -43,12 +43,12 @@ pub fn millis(text: &str, rate: u32) -> Result<u64, TimeFault>
     let Some(number) = read_decimal(body) else {
         return Err(TimeFault::BadTime);
     };
-    if number.raised > GREATEST_EXPONENT || number.lowered > GREATEST_EXPONENT {
+    if number.raised > MAX_EXPONENT || number.lowered > MAX_EXPONENT {
         return Err(TimeFault::TooFar);
     }
     // At one frame a second, more billionths than this are too far, and at any rate above too.
-    let most = u128::from(FARTHEST + 1) * SECOND;
-    let Some(billionths) = number.nearest_parts(MILLIS_DECIMALS, most) else {
+    let maximum = u128::from(MAX_POSITION + 1) * SECOND;
+    let Some(billionths) = number.nearest_parts(MILLIS_DECIMALS, maximum) else {
         if is_negative {
             return Err(TimeFault::Negative);
         }

@@ -3,7 +3,7 @@
 ghost use Rattle.std.specs.Prelude.{◌≡◌, ◌*◌, ◌≤◌, unsigned_abs};
 
 use crate::decimals::{read_decimal, split_sign};
-use crate::number::GREATEST_EXPONENT;
+use crate::number::MAX_EXPONENT;
 use std::marker::Model;
 use thiserror::Error;
 
@@ -14,9 +14,9 @@ pub const UNIT: u64 = 1_000_000_000_000;
 const DECIMALS: u32 = 12;
 
 /// The greatest magnitude of a gain.
-pub const GREATEST_GAIN: u64 = 1000;
+pub const MAX_GAIN: u64 = 1000;
 
-/// The greatest number of bytes of a number's text.
+/// The maximum number of bytes of a number's text.
 pub(crate) const NUMBER_BYTES: usize = 40;
 
 /// Why a text is no gain.
@@ -39,13 +39,13 @@ pub struct Gain {
 // A gain is its trillionths.
 impl Model for Gain {
     ghost use Rattle.std.specs.Prelude.{ℤ, ◌*◌, ◌≤◌, unsigned_abs};
-    ghost use Rattle.fx_fixed.specs.declared.gains.TheConstants.{GREATEST_GAIN, UNIT};
+    ghost use Rattle.fx_fixed.specs.declared.gains.TheConstants.{MAX_GAIN, UNIT};
 
     ghost Value = { ℤ };
 
     ghost view = { λ gain. gain.trillionths };
 
-    ghost invariant = { λ gain. unsigned_abs gain.trillionths ≤ GREATEST_GAIN * UNIT };
+    ghost invariant = { λ gain. unsigned_abs gain.trillionths ≤ MAX_GAIN * UNIT };
 
     ghost inverse = { λ trillionths. record { trillionths = trillionths } };
 }
@@ -76,11 +76,11 @@ impl Gain {
         let Some(number) = read_decimal(body) else {
             return Err(NumberFault::NotANumber);
         };
-        if number.raised > GREATEST_EXPONENT || number.lowered > GREATEST_EXPONENT {
+        if number.raised > MAX_EXPONENT || number.lowered > MAX_EXPONENT {
             return Err(NumberFault::OutOfRange);
         }
-        let most = u128::from(GREATEST_GAIN * UNIT);
-        let Some(parts) = number.nearest_parts(DECIMALS, most) else {
+        let maximum = u128::from(MAX_GAIN * UNIT);
+        let Some(parts) = number.nearest_parts(DECIMALS, maximum) else {
             return Err(NumberFault::OutOfRange);
         };
         let size = parts as i64;
@@ -93,7 +93,7 @@ impl Gain {
     /// The gain in trillionths, at most `1000 * UNIT` in magnitude.
     pub fn trillionths(self) -> i64
         ensures value { result ≡ self }
-        ensures bound { unsigned_abs result ≤ GREATEST_GAIN * UNIT }
+        ensures bound { unsigned_abs result ≤ MAX_GAIN * UNIT }
     {
         self.trillionths
     }

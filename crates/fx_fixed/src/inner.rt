@@ -1,12 +1,11 @@
-//! What the effects need beside the calls for everyone.
+//! What the effects need beyond the public functions.
 
 ghost use Rattle.std.specs.Prelude.{◌≡◌, ◌*ℤ◌};
 ghost use Rattle.fx_fixed.specs.Rounding.{rounding};
 
 pub use crate::capped::capped_number;
-pub use crate::extents::{
-    all_pads, all_taps, greatest_end, greatest_pad_end, longest, longest_tap, meant_stop, stop_line,
-};
+pub use crate::coefficient_files::MAX_COEFFICIENTS;
+pub use crate::extents::{end_distance, max_end};
 use crate::gains::{Gain, UNIT};
 pub use crate::reciprocal::Denominator;
 pub use crate::reduced::reduce;

@@ -1,5 +1,5 @@
 //! Exact numbers: gains in whole trillionths, rounding to samples, times, positions, delays in
-//! milliseconds and coefficient files, each read from text without any loss.
+//! milliseconds and coefficient files, each read from text exactly.
 #![tactic(auto)]
 
 mod capped;
@@ -19,12 +19,10 @@ mod rounding;
 mod sums;
 mod terms;
 mod times;
-mod weights;
 
 pub use coefficient_files::{CoefFault, Coefficients};
 pub use delays::millis;
-pub use gains::{GREATEST_GAIN, Gain, NumberFault, UNIT};
+pub use gains::{Gain, MAX_GAIN, NumberFault, UNIT};
 pub use positions::{Anchor, At, Position};
 pub use rounding::round_clip;
-pub use times::{FARTHEST, TimeFault, TimeSpec};
-pub use weights::{OutSpec, Weight};
+pub use times::{MAX_POSITION, TimeFault, TimeSpec};

@@ -7,9 +7,9 @@ ghost use Rattle.fx_fixed.specs.Rounding.{nearest_natural};
 use crate::sums::Digits;
 
 /// The greatest exponent of a number, up or down.
-pub(crate) const GREATEST_EXPONENT: u32 = 30;
+pub(crate) const MAX_EXPONENT: u32 = 30;
 
-/// What stands for each exponent that is not below it: more than any number may have.
+/// Stands for each exponent that is not below it: more than any number may have.
 pub(crate) const EXPONENT_CAP: u32 = 100;
 
 /// An unsigned decimal number as it is written.
@@ -25,7 +25,7 @@ pub struct Decimal {
     /// By how many places the exponent raises or lowers the number, at most `EXPONENT_CAP`.
     pub raised: u32,
     pub lowered: u32,
-    ghost few_places: { places < 100 },
+    ghost places_max: { places < 100 },
 }
 
 /// Ten to an exponent.
@@ -33,16 +33,16 @@ pub struct Decimal {
 pub(crate) fn power_of_ten(exponent: u32) -> u128
     requires { exponent ≤ 38 }
     ensures value { result ≡ 10 ^ exponent }
-    ensures least { 0 < result }
-    ensures most { result ≤ 10 ^ 38 }
+    ensures minimum { 0 < result }
+    ensures maximum { result ≤ 10 ^ 38 }
 {
     10u128.pow(exponent)
 }
 
 /// A number times a power of ten, where that is at most a limit.
-fn raise(number: u128, places: u32, most: u128) -> Option<u128>
-    requires { most < 10 ^ 37 }
-    ensures { SomeIff result (number * 10 ^ places ≤ most) (number * 10 ^ places) }
+fn raise(number: u128, places: u32, maximum: u128) -> Option<u128>
+    requires { maximum < 10 ^ 37 }
+    ensures { SomeIff result (number * 10 ^ places ≤ maximum) (number * 10 ^ places) }
 {
     if number == 0 {
         return Some(0);
@@ -51,7 +51,7 @@ fn raise(number: u128, places: u32, most: u128) -> Option<u128>
         return None;
     }
     let power = power_of_ten(places);
-    if number > most / power {
+    if number > maximum / power {
         return None;
     }
     Some(number * power)
@@ -73,23 +73,23 @@ impl Decimal {
     ghost use Rattle.fx_fixed.specs.Decimals.{parts_of};
     ghost use Rattle.fx_fixed.specs.Shown.{Shows};
 
-    /// The number counted in parts of one and rounded, where that is at most a limit. One has as
+    /// The number counted in fractions of one and rounded, where that is at most a limit. One has as
     /// many parts as ten to the number of decimals.
-    pub fn nearest_parts(self, decimals: u32, most: u128) -> Option<u128>
+    pub fn nearest_parts(self, decimals: u32, maximum: u128) -> Option<u128>
         requires raised { self.raised ≤ 30 }
         requires lowered { self.lowered ≤ 30 }
         requires decimals { decimals < 100 }
-        requires limit { most < 10 ^ 37 }
+        requires limit { maximum < 10 ^ 37 }
         ensures { (body : List ℕ) → Shows self body →
-            SomeIff result (parts_of (10 ^ decimals) body ≤ most) (parts_of (10 ^ decimals) body) }
+            SomeIff result (parts_of (10 ^ decimals) body ≤ maximum) (parts_of (10 ^ decimals) body) }
     {
         let raised = decimals + self.digits.dropped + self.raised;
         let lowered = self.places as u32 + self.lowered;
         if raised >= lowered {
-            return raise(self.digits.kept, raised - lowered, most);
+            return raise(self.digits.kept, raised - lowered, maximum);
         }
         let nearest = lower(self.digits.kept, lowered - raised);
-        if nearest > most {
+        if nearest > maximum {
             return None;
         }
         Some(nearest)

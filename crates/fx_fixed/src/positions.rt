@@ -5,7 +5,7 @@ ghost use Rattle.fx_fixed.specs.Positions;
 ghost use Rattle.fx_fixed.specs.Positions.{anchor_of, distance_of, position_by, position_of};
 
 use crate::terms::{Terms, read_terms};
-use crate::times::{FARTHEST, TimeFault, frames_between};
+use crate::times::{MAX_POSITION, TimeFault, frames_between};
 
 /// What a position is counted from.
 #[derive(Clone, Copy, Debug, Drop, Eq, PartialEq)]
@@ -15,7 +15,7 @@ pub enum Anchor {
     End,
 }
 
-/// A position: so many frames after the start of a sound, or before its end.
+/// A position: a number of frames after the start of a sound, or before its end.
 #[derive(Clone, Copy, Debug, Drop, Eq, PartialEq)]
 pub enum At {
     Start(u64),
@@ -46,19 +46,19 @@ fn split_anchor(text: &[u8], default: Anchor) -> (Anchor, &[u8])
     }
 }
 
-/// A position so many frames after the start.
+/// A position this number of frames after the start.
 fn start_at(ahead: u128, back: u128) -> Result<At, TimeFault>
     ensures { result ≡ Positions.start_at ahead back }
 {
     Ok(At::Start(frames_between(ahead, back)?))
 }
 
-/// A position so many frames before the end, and not behind it.
+/// A position this number of frames before the end, and not after it.
 fn end_at(ahead: u128, back: u128) -> Result<At, TimeFault>
     ensures { result ≡ Positions.end_at ahead back }
 {
     let frames = ahead.saturating_sub(back);
-    if frames > u128::from(FARTHEST) {
+    if frames > u128::from(MAX_POSITION) {
         return Err(TimeFault::TooFar);
     }
     Ok(At::End(frames as u64))
@@ -88,7 +88,7 @@ impl Position {
     /// The position that a text names at a rate of at least 1: `=` counts from the start, `+` from
     /// the previous position, `-` back from the end, no sign from the default anchor. The first
     /// term goes in the anchor's direction, and each later term moves the position itself; a
-    /// position behind the end is at the end.
+    /// position after the end is at the end.
     ///
     /// Refused are, in this order: what `TimeSpec::frames` refuses of the terms, the sign not
     /// counted; a position before the start (`Negative`); one over `2^40` frames from the start or

@@ -27,8 +27,8 @@ impl Model for Reciprocal {
 impl Reciprocal {
     /// Prepares a divisor from 2 to `2^63 - 1`.
     pub fn new(divisor: u64) -> Reciprocal
-        requires least { 2 ≤ divisor }
-        requires greatest { divisor < 2 ^ 63 }
+        requires minimum { 2 ≤ divisor }
+        requires largest { divisor < 2 ^ 63 }
         ensures { result ≡ divisor }
     {
         let shift = (divisor - 1).ilog2();
@@ -73,8 +73,8 @@ impl Model for Denominator {
 impl Denominator {
     /// Prepares a denominator from 1 to `2^61`.
     pub fn new(value: u64) -> Denominator
-        requires least { 1 ≤ value }
-        requires greatest { value ≤ 2 ^ 61 }
+        requires minimum { 1 ≤ value }
+        requires largest { value ≤ 2 ^ 61 }
         ensures { result ≡ value }
     {
         Denominator {
@@ -110,7 +110,7 @@ impl Denominator {
         self.nearest(sum) as i32
     }
 
-    /// The whole number nearest to a sum over the denominator, halves away from zero.
+    /// The integer nearest to a sum over the denominator, halves away from zero.
     #[inline(always)]
     fn nearest(&self, sum: i64) -> i64
         requires { unsigned_abs sum ≤ 2 ^ 61 }
@@ -121,12 +121,12 @@ impl Denominator {
     }
 }
 
-/// A whole number clipped to the range of a sample, `-2^31` to `2^31 - 1`, and whether it was clipped.
+/// An integer clipped to the range of a sample, `-2^31` to `2^31 - 1`, and whether it was clipped.
 #[inline(always)]
 fn clip_whole(number: i64) -> (i32, bool)
     ensures { result ≡ clipping number }
 {
-    // A number that is a sample is told by one comparison: that is nearly every one.
+    // A number that is a sample is known by one comparison: that is nearly every one.
     if number >= -0x8000_0000 && number <= 0x7fff_ffff {
         return (number as i32, false);
     }

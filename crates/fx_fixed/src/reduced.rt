@@ -6,10 +6,10 @@ ghost use Rattle.fx_fixed.specs.Reduced.{IsReduced};
 use crate::reciprocal::Denominator;
 
 /// The greatest sum of the magnitudes of reduced weights: times samples they make sums that a `Denominator` rounds.
-const GREATEST_WEIGHTS: u64 = 1 << 30;
+const MAX_COMMON_WEIGHT: u64 = 1 << 30;
 
 /// The greatest denominator over which a `Denominator` rounds.
-const GREATEST_DENOMINATOR: u128 = 1 << 61;
+const MAX_DENOMINATOR: u128 = 1 << 61;
 
 /// The greatest common divisor.
 fn common_divisor(a: u128, b: u128) -> u128
@@ -71,7 +71,7 @@ fn weight_of(gain: i64, coefficient: i64, divisor: u128) -> Option<i32>
     })
 }
 
-/// Reduces the gain times each coefficient over a denominator: writes the weights, and hands back their denominator. None
+/// Reduces the gain times each coefficient over a denominator: writes the weights, and returns their denominator. None
 /// where they are too large for sums of 64 bits; the weights then mean nothing.
 pub fn reduce(
     coefficients: &[i64],
@@ -80,14 +80,14 @@ pub fn reduce(
     weights: &mut [i32],
 ) -> Option<Denominator>
     requires denominator { 0 < denominator }
-    requires few { length coefficients.now ≤ 2 ^ 20 }
+    requires bound { length coefficients.now ≤ 2 ^ 20 }
     requires weights { length weights.old ≡ length coefficients.now }
     ensures reduced { IfSome result (IsReduced gain denominator coefficients.now weights.new) }
     ensures len { length weights.new ≡ length weights.old }
 {
     let divisor = divisor_of(coefficients, gain, denominator);
     let below = denominator / divisor;
-    if below > GREATEST_DENOMINATOR {
+    if below > MAX_DENOMINATOR {
         return None;
     }
     'coefficients: for place in 0..coefficients.len() {
@@ -96,7 +96,7 @@ pub fn reduce(
         };
         weights[place] = weight;
     }
-    if size_of_weights(weights) > GREATEST_WEIGHTS {
+    if size_of_weights(weights) > MAX_COMMON_WEIGHT {
         return None;
     }
     Some(Denominator::new(below as u64))

@@ -3,7 +3,7 @@
 ghost use Rattle.std.specs.Prelude.{◌≡◌, ◌-◌, ◌^◌, pos, ◌<ℤ◌, ◌≤ℤ◌, unsigned_abs, neg_ℤ};
 ghost use Rattle.fx_fixed.specs.Rounding.{clipping, rounding, signed};
 
-/// The whole number of that sign and magnitude, clipped to the range of a sample, `-2^31` to
+/// The integer of that sign and magnitude, clipped to the range of a sample, `-2^31` to
 /// `2^31 - 1`, and whether it was clipped.
 pub(crate) fn clip(magnitude: u128, is_negative: bool) -> (i32, bool)
     ensures { result ≡ clipping (signed is_negative magnitude) }

@@ -10,7 +10,7 @@ pub struct Digits {
     pub kept: u128,
     pub dropped: u32,
     ghost bounded: { kept < 10 ^ 38 },
-    ghost few_dropped: { dropped < 100 },
+    ghost dropped_max: { dropped < 100 },
 }
 
 impl Digits {
@@ -30,7 +30,7 @@ impl Digits {
     #[tactic(auto, using(crate::proofs::Keeping::one_digit_more))]
     pub fn push(self, digit: u8) -> Digits
         requires digit { IsTrue (is_ascii_digit digit) }
-        requires room { self.dropped < 99 }
+        requires free { self.dropped < 99 }
         ensures keeps { (ds : List ℕ) → Keeps self ds → Keeps result (ds ++ digit ∷ []) }
         ensures one_more { result.dropped ≤ self.dropped + 1 }
     {
@@ -48,7 +48,7 @@ impl Digits {
 
     /// The digits at the front of a text in addition, and what follows them.
     pub fn read(self, text: &[u8]) -> (Digits, &[u8])
-        requires room { self.dropped + length text.now < 100 }
+        requires free { self.dropped + length text.now < 100 }
         ensures keeps { (ds : List ℕ) → Keeps self ds →
             Keeps result.0 (ds ++ take_while is_ascii_digit text.now) }
         ensures one_more { result.0.dropped + length result.1.now ≤ self.dropped + length text.now }

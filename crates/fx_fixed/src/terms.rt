@@ -10,7 +10,7 @@ use crate::clock::clock_frames;
 use crate::count::count_frames;
 use crate::times::TimeFault;
 
-/// The greatest number of bytes of a time specification.
+/// The maximum number of bytes of a time specification.
 const TIME_BYTES: usize = 80;
 
 /// The frames of a time's first term, and what its later terms add and take away.

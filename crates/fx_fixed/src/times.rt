@@ -7,8 +7,8 @@ ghost use Rattle.fx_fixed.specs.Times.{time_of};
 use crate::terms::read_terms;
 use thiserror::Error;
 
-/// The greatest number of frames of a time: `2^40`.
-pub const FARTHEST: u64 = 1 << 40;
+/// The maximum number of frames of a time: `2^40`.
+pub const MAX_POSITION: u64 = 1 << 40;
 
 /// Why a text is no time or position.
 #[derive(Clone, Copy, Debug, Drop, Eq, Error, PartialEq)]
@@ -30,7 +30,7 @@ pub(crate) fn frames_between(ahead: u128, back: u128) -> Result<u64, TimeFault>
     if ahead < back {
         return Err(TimeFault::Negative);
     }
-    if ahead - back > u128::from(FARTHEST) {
+    if ahead - back > u128::from(MAX_POSITION) {
         return Err(TimeFault::TooFar);
     }
     Ok((ahead - back) as u64)
@@ -42,7 +42,7 @@ pub struct TimeSpec;
 
 impl TimeSpec {
     /// The frames of a time at a rate of at least 1, at most `2^40`; each term is rounded to whole
-    /// frames for itself, halves up.
+    /// frames separately, halves up.
     ///
     /// Refused are, in this order: another form anywhere, over 80 bytes or over 18 digits in a run
     /// (`BadTime`); term by term a sample count that is not whole (`NotWhole`) and a term over

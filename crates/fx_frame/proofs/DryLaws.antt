@@ -2,15 +2,15 @@
 use Rattle.std.proofs.Common.{ℕ, zero, suc, ◌<◌, ◌≡◌, true, false, refl, arith}
 use Rattle.std.specs.Prelude.{Option, Some, None, is_none, nat_eq, ◌&&◌}
 use Prim.Native.Nat.compare
-use Rattle.fx_step.specs.Frame.{Samples}
+use Rattle.fx_frame_stage.specs.Frame.{Samples}
 
 -- a dry stage has no frame in hand
-pub dry-hand : (hand : Option Samples) (tail : ℕ) → (is_none hand && nat_eq tail 0) ≡ true → hand ≡ None
-dry-hand None tail h = refl
-dry-hand (Some x) tail h = absurd (cc)
+pub dry-pending : (pending : Option Samples) (tail : ℕ) → (is_none pending && nat_eq tail 0) ≡ true → pending ≡ None
+dry-pending None tail h = refl
+dry-pending (Some x) tail h = absurd (cc)
 
 -- one with frames to come is not dry
-pub dry-tail : (hand : Option Samples) (tail : ℕ) → 0 < tail → (is_none hand && nat_eq tail 0) ≡ false
+pub dry-tail : (pending : Option Samples) (tail : ℕ) → 0 < tail → (is_none pending && nat_eq tail 0) ≡ false
 dry-tail None zero h = absurd (omega arith)
 dry-tail None (suc n) h = rw (compare.suc-zero) refl
 dry-tail (Some x) n h = refl

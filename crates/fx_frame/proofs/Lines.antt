@@ -5,10 +5,10 @@ use Rattle.std.specs.List.{All}
 use Rattle.std.proofs.lemmas.Bool.{cases_lt}
 use Rattle.std.proofs.lemmas.List.Elements.{All-head, All-push, All-drop}
 use Rattle.std.proofs.lemmas.Option.{same_Some, slice_get-get_or}
-use Rattle.fx_ring.specs.Line.{Frames, pushed, pushed_out, IsLineOf, from_newest}
+use Rattle.fx_frame_line.specs.Line.{Frames, pushed, pushed_out, IsLineOf, from_newest}
 use Rattle.std.proofs.lemmas.List.{get_or_past}
-use Rattle.fx_ring.specs.Ring.{IsShaped}
-use Rattle.fx_step.specs.Frame.{IsFrameOf}
+use Rattle.fx_frame_line.specs.Ring.{IsShaped}
+use Rattle.fx_frame_stage.specs.Frame.{IsFrameOf}
 
 -- what `map` gives, where the function always gives f
 pub mapped : {A B : Type 0} (f : A → B) (o : Option A) (m : Option B) → MatchOption o (m ≡ None) (λ x. IsSomeAnd m (λ y. y ≡ f x)) → m ≡ option_map f o
@@ -35,8 +35,8 @@ module _ {X : Type 0} where
   All-pushed P l f after all h e = rw e (All-drop P (length (l.items ++ f ∷ []) - l.capacity) (l.items ++ f ∷ []) (All-push P l.items f all h))
 
   -- no frame has a sample past its channels
-  pub none-past : (l : Frames X) (k channel : ℕ) (d : X) → IsShaped l → k < length l.items → l.channels ≤ channel → d ≡ get_or (unwrap_or (from_newest l k) []) channel d
-  none-past l k channel d s lt h =
+  pub none-history : (l : Frames X) (k channel : ℕ) (d : X) → IsShaped l → k < length l.items → l.channels ≤ channel → d ≡ get_or (unwrap_or (from_newest l k) []) channel d
+  none-history l k channel d s lt h =
       let yes : nat_lt k (length l.items) ≡ true = grind arith in
       let at : length l.items - k - 1 < length l.items = omega arith in
       let side : length (get_or l.items (length l.items - k - 1) []) ≡ l.channels = s.each (length l.items - k - 1) [] at in
@@ -88,8 +88,8 @@ module _ {X : Type 0} where
       go (y ∷ ys) each fit is =
           let same : y ≡ x = same_Some y x is in
           let long : length y ≡ l.channels = All-head (λ (g : List X). length g ≡ l.channels) y ys each in
-          rw (← same) record { some = rw long s.some; few = rw long s.few; fits = All-head (All Fits) y ys fit }
+          rw (← same) record { some = rw long s.some; bound = rw long s.bound; fits = All-head (All Fits) y ys fit }
 
   -- a line is shaped, and each sample fits
   pub is-line : (Fits : X → Type 0) (l : Frames X) → IsShaped l → All (All Fits) l.items → IsLineOf Fits l
-  is-line Fits l s fits = record { some = s.some; few = s.few; small = s.small; within = s.within; frames = λ k d h. record { count = s.each k d h; fits = fits k d h } }
+  is-line Fits l s fits = record { some = s.some; bound = s.bound; small = s.small; within = s.within; frames = λ k d h. record { count = s.each k d h; fits = fits k d h } }

@@ -6,21 +6,21 @@ use Rattle.std.proofs.Math.Nat.{add-mul}
 use Rattle.std.specs.List.{All}
 use Rattle.std.proofs.lemmas.List.Elements.{All-head, All-tail}
 use Rattle.std.proofs.lemmas.List.{map-append}
-use Rattle.fx_step.specs.declared.feed.Passing.TheVariants.{Through}
-use Rattle.fx_step.specs.Feed.{Fed, GaveNext, PassedOn, TookNext, nothing, taken, given}
-use Rattle.fx_step.specs.Frame.{Samples, silence}
-use Rattle.fx_ring.specs.Line.{Frames, IsLine}
-use Rattle.fx_lists.specs.Lists.{pieces}
-use Rattle.fx_step.specs.Row.{EachThrough}
-use Rattle.fx_step.specs.Stage.{Acts, Given, IsDry}
-use Rattle.fx_step.specs.Holds.{total}
-use Rattle.fx_step.proofs.FedLaws.{Fed-then, total-append}
-use Rattle.fx_ring.proofs.RingLaws.{keep-twice}
-use Rattle.fx_lists.proofs.Pieces.{length-pieces}
-use Rattle.fx_frame.specs.Tapped.{Taps, TapState, IsNear, IsTapState, behind, clips_behind, frames_behind, last_of, tap_acts}
-use Rattle.fx_frame.specs.Past.{sample_before}
+use Rattle.fx_frame_stage.specs.declared.feed.Passing.TheVariants.{Through}
+use Rattle.fx_frame_stage.specs.Feed.{Fed, GaveNext, PassedOn, TookNext, nothing, taken, given}
+use Rattle.fx_frame_stage.specs.Frame.{Samples, silence}
+use Rattle.fx_frame_line.specs.Line.{Frames, IsLine}
+use Rattle.fx_frame_lists.specs.Lists.{pieces}
+use Rattle.fx_frame_stage.specs.Pipeline.{EachThrough}
+use Rattle.fx_frame_stage.specs.Stage.{Acts, Given, IsDry}
+use Rattle.fx_frame_stage.specs.Holds.{total}
+use Rattle.fx_frame_stage.proofs.FedLaws.{Fed-then, total-append}
+use Rattle.fx_frame_line.proofs.RingLaws.{keep-twice}
+use Rattle.fx_frame_lists.proofs.Pieces.{length-pieces}
+use Rattle.fx_frame.specs.Tapped.{Taps, TapState, IsNear, IsTapState, given_after, clips_after, frames_after, last_of, tap_acts}
+use Rattle.fx_frame.specs.History.{sample_before}
 use Rattle.fx_frame.proofs.SamplePieces.{pieces-sides}
-use Rattle.fx_frame.proofs.TapLaws.{behind-step}
+use Rattle.fx_frame.proofs.TapLaws.{rest_unchanged-step}
 
 -- the samples of one channel, and of two
 pub one-sample : (xs : List ℤ) → length xs ≡ 1 → get_or xs 0 (pos 0) ∷ [] ≡ xs
@@ -69,10 +69,10 @@ last-whole c items h =
     rw (append-nil, none) refl
 
 -- the state after a block of frames went by
-pub IsTapState-block : {M : Type 0} (taps : Taps M) (s : TapState M) (line : Frames ℤ) (n clips : ℕ) (xs : List Samples) → IsTapState taps s → s.hand ≡ None → s.ended ≡ false → s.taken + n ≤ 2 ^ 56 → length xs ≡ n
-    → IsLine w32 line → line.items ≡ last_of s.line.capacity (s.line.items ++ xs) → line.capacity ≡ s.line.capacity → line.channels ≡ s.line.channels → clips ≤ n * taps.most_clips s.arguments
+pub IsTapState-block : {M : Type 0} (taps : Taps M) (s : TapState M) (line : Frames ℤ) (n clips : ℕ) (xs : List Samples) → IsTapState taps s → s.pending ≡ None → s.ended ≡ false → s.taken + n ≤ 2 ^ 56 → length xs ≡ n
+    → IsLine w32 line → line.items ≡ last_of s.line.capacity (s.line.items ++ xs) → line.capacity ≡ s.line.capacity → line.channels ≡ s.line.channels → clips ≤ n * taps.max_clips s.arguments
     → IsTapState taps (record s { line = line; taken = s.taken + n; given = s.given + n; clips = s.clips + clips })
-IsTapState-block taps s line n clips xs is none running few many lined items capacity channels little =
+IsTapState-block taps s line n clips xs is none running bound many lined items capacity channels little =
     let counted : s.given + 0 + s.tail ≡ s.taken + 0 = rw (none, running) at is.counted in
     let before : length s.line.items ≡ min (s.given + 0) s.line.capacity = rw none at is.held in
     let after : length line.items ≡ min (length (s.line.items ++ xs)) s.line.capacity = ap length items ∙ length-last s.line.capacity (s.line.items ++ xs) in
@@ -85,42 +85,42 @@ IsTapState-block taps s line n clips xs is none running few many lined items cap
       held = rw none (omega (arith, before, after, all, capacity));
       idle = is.idle;
       over = is.over;
-      few = few;
+      bound = bound;
       not_ended = is.not_ended;
-      few_clips = omega (arith, is.few_clips, little, add-mul s.given n (taps.most_clips s.arguments));
-      hand_few = is.hand_few;
+      clips_max = omega (arith, is.clips_max, little, add-mul s.given n (taps.max_clips s.arguments));
+      pending_max = is.pending_max;
       fits = is.fits;
     }
 
 module _ {M : Type 0} (taps : Taps M) (near : IsNear taps) where
   -- what is given for some frames, and for others behind them
-  pub behind-joined : (m : M) (c : ℕ) (xs ys items : List Samples) → length items ≤ c → taps.reach m ≤ c → behind taps m items (xs ++ ys) ≡ behind taps m items xs ++ behind taps m (last_of c (items ++ xs)) ys
-  behind-joined m c [] ys items held long = rw (last-whole c items held) refl
-  behind-joined m c (x ∷ xs) ys items held long =
+  pub rest_unchanged-joined : (m : M) (c : ℕ) (xs ys items : List Samples) → length items ≤ c → taps.reach m ≤ c → given_after taps m items (xs ++ ys) ≡ given_after taps m items xs ++ given_after taps m (last_of c (items ++ xs)) ys
+  rest_unchanged-joined m c [] ys items held long = rw (last-whole c items held) refl
+  rest_unchanged-joined m c (x ∷ xs) ys items held long =
       let next : List Samples = last_of c (items ++ x ∷ []) in
-      let room : length next ≤ c = let n = length-last c (items ++ x ∷ []) in omega arith in
-      let more = behind-joined m c xs ys next room long in
+      let free : length next ≤ c = let n = length-last c (items ++ x ∷ []) in omega arith in
+      let more = rest_unchanged-joined m c xs ys next free long in
       let same : last_of c (next ++ xs) ≡ last_of c (items ++ x ∷ xs) = last-first c items xs x in
-      behind-step taps near m items (xs ++ ys) x c held long
+      rest_unchanged-step taps near m items (xs ++ ys) x c held long
       ∙ ap (λ gs. taps.made m (sample_before (items ++ x ∷ []) (length items)) ∷ gs) (rw same at more)
-      ∙ ap (λ gs. gs ++ behind taps m (last_of c (items ++ x ∷ xs)) ys) (sym (behind-step taps near m items xs x c held long))
+      ∙ ap (λ gs. gs ++ given_after taps m (last_of c (items ++ x ∷ xs)) ys) (sym (rest_unchanged-step taps near m items xs x c held long))
 
-  pub frames-joined : (m : M) (c : ℕ) (xs ys items : List Samples) → length items ≤ c → taps.reach m ≤ c → frames_behind taps m items (xs ++ ys) ≡ frames_behind taps m items xs ++ frames_behind taps m (last_of c (items ++ xs)) ys
+  pub frames-joined : (m : M) (c : ℕ) (xs ys items : List Samples) → length items ≤ c → taps.reach m ≤ c → frames_after taps m items (xs ++ ys) ≡ frames_after taps m items xs ++ frames_after taps m (last_of c (items ++ xs)) ys
   frames-joined m c xs ys items held long =
-      ap (map (λ (g : Given). g.samples)) (behind-joined m c xs ys items held long) ∙ map-append (λ (g : Given). g.samples) (behind taps m items xs) (behind taps m (last_of c (items ++ xs)) ys)
+      ap (map (λ (g : Given). g.samples)) (rest_unchanged-joined m c xs ys items held long) ∙ map-append (λ (g : Given). g.samples) (given_after taps m items xs) (given_after taps m (last_of c (items ++ xs)) ys)
 
-  pub clips-joined : (m : M) (c : ℕ) (xs ys items : List Samples) → length items ≤ c → taps.reach m ≤ c → clips_behind taps m items (xs ++ ys) ≡ clips_behind taps m items xs + clips_behind taps m (last_of c (items ++ xs)) ys
+  pub clips-joined : (m : M) (c : ℕ) (xs ys items : List Samples) → length items ≤ c → taps.reach m ≤ c → clips_after taps m items (xs ++ ys) ≡ clips_after taps m items xs + clips_after taps m (last_of c (items ++ xs)) ys
   clips-joined m c xs ys items held long =
-      ap (total (λ (g : Given). g.clips)) (behind-joined m c xs ys items held long) ∙ total-append (λ (g : Given). g.clips) (behind taps m items xs) (behind taps m (last_of c (items ++ xs)) ys)
+      ap (total (λ (g : Given). g.clips)) (rest_unchanged-joined m c xs ys items held long) ∙ total-append (λ (g : Given). g.clips) (given_after taps m items xs) (given_after taps m (last_of c (items ++ xs)) ys)
 
   -- and for one more
   pub frames-more : (m : M) (c : ℕ) (xs items : List Samples) (x : Samples) → length items ≤ c → taps.reach m ≤ c
-      → frames_behind taps m items (xs ++ x ∷ []) ≡ frames_behind taps m items xs ++ (taps.made m (sample_before (last_of c (items ++ xs) ++ x ∷ []) (length (last_of c (items ++ xs))))).samples ∷ []
+      → frames_after taps m items (xs ++ x ∷ []) ≡ frames_after taps m items xs ++ (taps.made m (sample_before (last_of c (items ++ xs) ++ x ∷ []) (length (last_of c (items ++ xs))))).samples ∷ []
   frames-more m c xs items x held long = frames-joined m c xs (x ∷ []) items held long
 
   pub clips-more : (m : M) (c : ℕ) (xs items : List Samples) (x : Samples) → length items ≤ c → taps.reach m ≤ c
-      → clips_behind taps m items (xs ++ x ∷ []) ≡ clips_behind taps m items xs + (taps.made m (sample_before (last_of c (items ++ xs) ++ x ∷ []) (length (last_of c (items ++ xs))))).clips
-  clips-more m c xs items x held long = clips-joined m c xs (x ∷ []) items held long ∙ ap (λ n. clips_behind taps m items xs + n) (add-zero _)
+      → clips_after taps m items (xs ++ x ∷ []) ≡ clips_after taps m items xs + (taps.made m (sample_before (last_of c (items ++ xs) ++ x ∷ []) (length (last_of c (items ++ xs))))).clips
+  clips-more m c xs items x held long = clips-joined m c xs (x ∷ []) items held long ∙ ap (λ n. clips_after taps m items xs + n) (add-zero _)
 
   module _ (m : M) where
     abbrev pub acts : Acts (TapState M) M
@@ -128,169 +128,169 @@ module _ {M : Type 0} (taps : Taps M) (near : IsNear taps) where
 
     -- such a stage with no frame in hand, which has given what it took
     abbrev pub ready : Frames ℤ → ℕ → ℕ → TapState M
-    ready line count clips = record { arguments = m; line = line; hand = None; hand_clips = 0; tail = 0; taken = count; given = count; clips = clips; ended = false }
+    ready line count clips = record { arguments = m; line = line; pending = None; pending_clips = 0; tail = 0; taken = count; given = count; clips = clips; ended = false }
 
     -- the line after these frames
     abbrev pub through : Frames ℤ → List Samples → Frames ℤ
     through line xs = record { items = last_of line.capacity (line.items ++ xs); capacity = line.capacity; channels = line.channels }
 
     -- what is made of a frame behind those of the line
-    abbrev pub made_behind : Frames ℤ → Samples → Given
-    made_behind line x = taps.made m (sample_before (line.items ++ x ∷ []) (length line.items))
+    abbrev pub made_after : Frames ℤ → Samples → Given
+    made_after line x = taps.made m (sample_before (line.items ++ x ∷ []) (length line.items))
 
     -- a frame was taken, and what is made of it is in hand
     abbrev pub holding : Frames ℤ → ℕ → ℕ → Samples → TapState M
-    holding line count clips x = record { arguments = m; line = through line (x ∷ []); hand = Some (made_behind line x).samples; hand_clips = (made_behind line x).clips; tail = 0; taken = count + 1; given = count; clips = clips; ended = false }
+    holding line count clips x = record { arguments = m; line = through line (x ∷ []); pending = Some (made_after line x).samples; pending_clips = (made_after line x).clips; tail = 0; taken = count + 1; given = count; clips = clips; ended = false }
 
-    one-passed : (line : Frames ℤ) (count clips : ℕ) (x : Samples) → line.capacity ≡ taps.reach m → length line.items ≤ line.capacity → length (made_behind line x).samples ≡ taps.channels m
-        → PassedOn acts Through (ready line count clips) (ready (through line (x ∷ [])) (count + 1) (clips + (made_behind line x).clips)) x (made_behind line x).samples
+    one-passed : (line : Frames ℤ) (count clips : ℕ) (x : Samples) → line.capacity ≡ taps.reach m → length line.items ≤ line.capacity → length (made_after line x).samples ≡ taps.channels m
+        → PassedOn acts Through (ready line count clips) (ready (through line (x ∷ [])) (count + 1) (clips + (made_after line x).clips)) x (made_after line x).samples
     one-passed line count clips x size within sides =
         let first : TapState M = ready line count clips in
         let mid : TapState M = holding line count clips x in
-        let last : TapState M = ready (through line (x ∷ [])) (count + 1) (clips + (made_behind line x).clips) in
-        let few : length (last_of line.capacity (line.items ++ x ∷ [])) ≤ taps.reach m = let n = length-last line.capacity (line.items ++ x ∷ []) in omega arith in
+        let last : TapState M = ready (through line (x ∷ [])) (count + 1) (clips + (made_after line x).clips) in
+        let bound : length (last_of line.capacity (line.items ++ x ∷ [])) ≤ taps.reach m = let n = length-last line.capacity (line.items ++ x ∷ []) in omega arith in
         let took : TookNext acts first mid x = record {
           dry = refl;
           due = refl;
           not_ended = refl;
           not_spent = refl;
           took = record {
-            rest = λ z. sym (behind-step taps near m line.items (z ++ replicate line.capacity (silence (taps.channels m))) x line.capacity within (omega arith));
+            rest = λ z. sym (rest_unchanged-step taps near m line.items (z ++ replicate line.capacity (silence (taps.channels m))) x line.capacity within (omega arith));
             counted = refl;
             recipe_stays = refl;
           };
-          held = omega (arith, few, length-append (last_of line.capacity (line.items ++ x ∷ [])) ((made_behind line x).samples ∷ []));
+          held = omega (arith, bound, length-append (last_of line.capacity (line.items ++ x ∷ [])) ((made_after line x).samples ∷ []));
         } in
-        let gave : GaveNext acts mid last (made_behind line x).samples = record {
+        let gave : GaveNext acts mid last (made_after line x).samples = record {
           gave = record {
             was_wet = refl;
-            gives = record { clips = (made_behind line x).clips; first = λ z. refl; counted = refl };
+            gives = record { clips = (made_after line x).clips; first = λ z. refl; counted = refl };
             channels = sides;
             due = λ e. omega arith;
-            most = omega arith;
+            maximum = omega arith;
             recipe_stays = refl;
           };
-          held = omega (arith, few, length-append (last_of line.capacity (line.items ++ x ∷ [])) []);
+          held = omega (arith, bound, length-append (last_of line.capacity (line.items ++ x ∷ [])) []);
         } in
         (mid, took, gave, refl)
 
-    one-fed : (line : Frames ℤ) (count clips : ℕ) (x : Samples) → line.capacity ≡ taps.reach m → length line.items ≤ line.capacity → length (made_behind line x).samples ≡ taps.channels m
-        → Fed acts (ready line count clips) (x ∷ []) ((made_behind line x).samples ∷ []) (ready (through line (x ∷ [])) (count + 1) (clips + (made_behind line x).clips))
+    one-fed : (line : Frames ℤ) (count clips : ℕ) (x : Samples) → line.capacity ≡ taps.reach m → length line.items ≤ line.capacity → length (made_after line x).samples ≡ taps.channels m
+        → Fed acts (ready line count clips) (x ∷ []) ((made_after line x).samples ∷ []) (ready (through line (x ∷ [])) (count + 1) (clips + (made_after line x).clips))
     one-fed line count clips x size within sides =
         let passed = one-passed line count clips x size within sides in
-        given (x ∷ []) [] (made_behind line x).samples passed.0 (ready (through line (x ∷ [])) (count + 1) (clips + (made_behind line x).clips)) (taken [] [] x (ready line count clips) passed.0 nothing passed.1) passed.2
+        given (x ∷ []) [] (made_after line x).samples passed.0 (ready (through line (x ∷ [])) (count + 1) (clips + (made_after line x).clips)) (taken [] [] x (ready line count clips) passed.0 nothing passed.1) passed.2
 
     -- one frame, passed on in its place
-    pub frame-passed : (s : TapState M) (line : Frames ℤ) (x y : Samples) (clips : ℕ) → s.arguments ≡ m → s.hand ≡ None → s.hand_clips ≡ 0 → s.tail ≡ 0 → s.ended ≡ false → s.given ≡ s.taken
-        → s.line.capacity ≡ taps.reach m → length s.line.items ≤ s.line.capacity → length y ≡ taps.channels m → y ≡ (made_behind s.line x).samples → clips ≡ (made_behind s.line x).clips
+    pub frame-passed : (s : TapState M) (line : Frames ℤ) (x y : Samples) (clips : ℕ) → s.arguments ≡ m → s.pending ≡ None → s.pending_clips ≡ 0 → s.tail ≡ 0 → s.ended ≡ false → s.given ≡ s.taken
+        → s.line.capacity ≡ taps.reach m → length s.line.items ≤ s.line.capacity → length y ≡ taps.channels m → y ≡ (made_after s.line x).samples → clips ≡ (made_after s.line x).clips
         → line.items ≡ last_of s.line.capacity (s.line.items ++ x ∷ []) → line.capacity ≡ s.line.capacity → line.channels ≡ s.line.channels
         → PassedOn acts Through s (record s { line = line; taken = s.taken + 1; given = s.given + 1; clips = s.clips + clips }) x y
     frame-passed s line x y clips e h k t over g size within wide made counted items capacity channels =
         let went : ◌≡◌ {A = Frames ℤ} (record { items = line.items; capacity = line.capacity; channels = line.channels }) (through s.line (x ∷ [])) = rw (items, capacity, channels) refl in
         let now : line ≡ through s.line (x ∷ []) = went in
-        let next : TapState M = ready (through s.line (x ∷ [])) (s.taken + 1) (s.clips + (made_behind s.line x).clips) in
-        let whole : ◌≡◌ {A = TapState M} (record { arguments = s.arguments; line = s.line; hand = s.hand; hand_clips = s.hand_clips; tail = s.tail; taken = s.taken; given = s.given; clips = s.clips; ended = s.ended }) (ready s.line s.taken s.clips) = rw (e, h, k, t, over, g) refl in
-        let left : ◌≡◌ {A = TapState M} (record { arguments = s.arguments; line = line; hand = s.hand; hand_clips = s.hand_clips; tail = s.tail; taken = s.taken + 1; given = s.given + 1; clips = s.clips + clips; ended = s.ended }) (ready line (s.taken + 1) (s.clips + clips)) = rw (e, h, k, t, over, g) refl in
-        let last : ◌≡◌ {A = TapState M} (record { arguments = s.arguments; line = line; hand = s.hand; hand_clips = s.hand_clips; tail = s.tail; taken = s.taken + 1; given = s.given + 1; clips = s.clips + clips; ended = s.ended }) next =
-        left ∙ ap (λ (j : ℕ). ready line (s.taken + 1) (s.clips + j)) counted ∙ ap (λ (l : Frames ℤ). ready l (s.taken + 1) (s.clips + (made_behind s.line x).clips)) now in
+        let next : TapState M = ready (through s.line (x ∷ [])) (s.taken + 1) (s.clips + (made_after s.line x).clips) in
+        let whole : ◌≡◌ {A = TapState M} (record { arguments = s.arguments; line = s.line; pending = s.pending; pending_clips = s.pending_clips; tail = s.tail; taken = s.taken; given = s.given; clips = s.clips; ended = s.ended }) (ready s.line s.taken s.clips) = rw (e, h, k, t, over, g) refl in
+        let left : ◌≡◌ {A = TapState M} (record { arguments = s.arguments; line = line; pending = s.pending; pending_clips = s.pending_clips; tail = s.tail; taken = s.taken + 1; given = s.given + 1; clips = s.clips + clips; ended = s.ended }) (ready line (s.taken + 1) (s.clips + clips)) = rw (e, h, k, t, over, g) refl in
+        let last : ◌≡◌ {A = TapState M} (record { arguments = s.arguments; line = line; pending = s.pending; pending_clips = s.pending_clips; tail = s.tail; taken = s.taken + 1; given = s.given + 1; clips = s.clips + clips; ended = s.ended }) next =
+        left ∙ ap (λ (j : ℕ). ready line (s.taken + 1) (s.clips + j)) counted ∙ ap (λ (l : Frames ℤ). ready l (s.taken + 1) (s.clips + (made_after s.line x).clips)) now in
         let start : s ≡ ready s.line s.taken s.clips = whole in
-        let sides : length (made_behind s.line x).samples ≡ taps.channels m = sym (ap length made) ∙ wide in
-        let passed : PassedOn acts Through (ready s.line s.taken s.clips) next x (made_behind s.line x).samples = one-passed s.line s.taken s.clips x size within sides in
+        let sides : length (made_after s.line x).samples ≡ taps.channels m = sym (ap length made) ∙ wide in
+        let passed : PassedOn acts Through (ready s.line s.taken s.clips) next x (made_after s.line x).samples = one-passed s.line s.taken s.clips x size within sides in
         let new : record s { line = line; taken = s.taken + 1; given = s.given + 1; clips = s.clips + clips } ≡ next = last in
-        let From : TapState M → Type 0 = λ u. PassedOn acts Through u next x (made_behind s.line x).samples in
-        let To : TapState M → Type 0 = λ u. PassedOn acts Through s u x (made_behind s.line x).samples in
+        let From : TapState M → Type 0 = λ u. PassedOn acts Through u next x (made_after s.line x).samples in
+        let To : TapState M → Type 0 = λ u. PassedOn acts Through s u x (made_after s.line x).samples in
         rw made (subst To (sym new) (subst From (sym start) passed))
 
     -- frame by frame
-    pub taps-fed : (xs : List Samples) (line : Frames ℤ) (count clips : ℕ) → line.capacity ≡ taps.reach m → length line.items ≤ line.capacity → All (λ (y : Samples). length y ≡ taps.channels m) (frames_behind taps m line.items xs)
-        → Fed acts (ready line count clips) xs (frames_behind taps m line.items xs) (ready (through line xs) (count + length xs) (clips + clips_behind taps m line.items xs))
+    pub taps-fed : (xs : List Samples) (line : Frames ℤ) (count clips : ℕ) → line.capacity ≡ taps.reach m → length line.items ≤ line.capacity → All (λ (y : Samples). length y ≡ taps.channels m) (frames_after taps m line.items xs)
+        → Fed acts (ready line count clips) xs (frames_after taps m line.items xs) (ready (through line xs) (count + length xs) (clips + clips_after taps m line.items xs))
     taps-fed [] line count clips size within sides = rw (add-zero, add-zero, last-whole line.capacity line.items within) nothing
     taps-fed (x ∷ xs) line count clips size within sides =
         let next : Frames ℤ = through line (x ∷ []) in
-        let made : Given = made_behind line x in
-        let steps : behind taps m line.items (x ∷ xs) ≡ made ∷ behind taps m next.items xs = behind-step taps near m line.items xs x line.capacity within (omega arith) in
-        let frames : frames_behind taps m line.items (x ∷ xs) ≡ made.samples ∷ frames_behind taps m next.items xs = ap (map (λ (g : Given). g.samples)) steps in
-        let clipped : clips_behind taps m line.items (x ∷ xs) ≡ made.clips + clips_behind taps m next.items xs = ap (total (λ (g : Given). g.clips)) steps in
-        let each : All (λ (y : Samples). length y ≡ taps.channels m) (made.samples ∷ frames_behind taps m next.items xs) = subst (λ (l : List Samples). All (λ (y : Samples). length y ≡ taps.channels m) l) frames sides in
-        let room : length next.items ≤ next.capacity = let n = length-last line.capacity (line.items ++ x ∷ []) in omega arith in
+        let made : Given = made_after line x in
+        let steps : given_after taps m line.items (x ∷ xs) ≡ made ∷ given_after taps m next.items xs = rest_unchanged-step taps near m line.items xs x line.capacity within (omega arith) in
+        let frames : frames_after taps m line.items (x ∷ xs) ≡ made.samples ∷ frames_after taps m next.items xs = ap (map (λ (g : Given). g.samples)) steps in
+        let clipped : clips_after taps m line.items (x ∷ xs) ≡ made.clips + clips_after taps m next.items xs = ap (total (λ (g : Given). g.clips)) steps in
+        let each : All (λ (y : Samples). length y ≡ taps.channels m) (made.samples ∷ frames_after taps m next.items xs) = subst (λ (l : List Samples). All (λ (y : Samples). length y ≡ taps.channels m) l) frames sides in
+        let free : length next.items ≤ next.capacity = let n = length-last line.capacity (line.items ++ x ∷ []) in omega arith in
         let one : Fed acts (ready line count clips) (x ∷ []) (made.samples ∷ []) (ready next (count + 1) (clips + made.clips)) =
-        one-fed line count clips x size within (All-head (λ (y : Samples). length y ≡ taps.channels m) made.samples (frames_behind taps m next.items xs) each) in
-        let more = taps-fed xs next (count + 1) (clips + made.clips) size room (All-tail (λ (y : Samples). length y ≡ taps.channels m) made.samples (frames_behind taps m next.items xs) each) in
-        let all : Fed acts (ready line count clips) (x ∷ xs) (made.samples ∷ frames_behind taps m next.items xs) (ready (through next xs) (count + 1 + length xs) (clips + made.clips + clips_behind taps m next.items xs)) = Fed-then acts _ _ _ _ _ _ _ one more in
+        one-fed line count clips x size within (All-head (λ (y : Samples). length y ≡ taps.channels m) made.samples (frames_after taps m next.items xs) each) in
+        let more = taps-fed xs next (count + 1) (clips + made.clips) size free (All-tail (λ (y : Samples). length y ≡ taps.channels m) made.samples (frames_after taps m next.items xs) each) in
+        let all : Fed acts (ready line count clips) (x ∷ xs) (made.samples ∷ frames_after taps m next.items xs) (ready (through next xs) (count + 1 + length xs) (clips + made.clips + clips_after taps m next.items xs)) = Fed-then acts _ _ _ _ _ _ _ one more in
         let places : count + 1 + length xs ≡ count + length (x ∷ xs) = omega arith in
-        let sums : clips + made.clips + clips_behind taps m next.items xs ≡ clips + clips_behind taps m line.items (x ∷ xs) = omega (arith, clipped) in
-        let whole : Fed acts (ready line count clips) (x ∷ xs) (made.samples ∷ frames_behind taps m next.items xs) (ready (through line (x ∷ xs)) (count + length (x ∷ xs)) (clips + clips_behind taps m line.items (x ∷ xs))) =
-        subst (λ (l : List Samples). Fed acts (ready line count clips) (x ∷ xs) (made.samples ∷ frames_behind taps m next.items xs) (ready (record { items = l; capacity = line.capacity; channels = line.channels }) (count + length (x ∷ xs)) (clips + clips_behind taps m line.items (x ∷ xs)))) (last-first line.capacity line.items xs x)
-        (subst (λ (n : ℕ). Fed acts (ready line count clips) (x ∷ xs) (made.samples ∷ frames_behind taps m next.items xs) (ready (through next xs) (count + length (x ∷ xs)) n)) sums
-        (subst (λ (n : ℕ). Fed acts (ready line count clips) (x ∷ xs) (made.samples ∷ frames_behind taps m next.items xs) (ready (through next xs) n (clips + made.clips + clips_behind taps m next.items xs))) places all)) in
-        subst (λ (l : List Samples). Fed acts (ready line count clips) (x ∷ xs) l (ready (through line (x ∷ xs)) (count + length (x ∷ xs)) (clips + clips_behind taps m line.items (x ∷ xs)))) (sym frames) whole
+        let sums : clips + made.clips + clips_after taps m next.items xs ≡ clips + clips_after taps m line.items (x ∷ xs) = omega (arith, clipped) in
+        let whole : Fed acts (ready line count clips) (x ∷ xs) (made.samples ∷ frames_after taps m next.items xs) (ready (through line (x ∷ xs)) (count + length (x ∷ xs)) (clips + clips_after taps m line.items (x ∷ xs))) =
+        subst (λ (l : List Samples). Fed acts (ready line count clips) (x ∷ xs) (made.samples ∷ frames_after taps m next.items xs) (ready (record { items = l; capacity = line.capacity; channels = line.channels }) (count + length (x ∷ xs)) (clips + clips_after taps m line.items (x ∷ xs)))) (last-first line.capacity line.items xs x)
+        (subst (λ (n : ℕ). Fed acts (ready line count clips) (x ∷ xs) (made.samples ∷ frames_after taps m next.items xs) (ready (through next xs) (count + length (x ∷ xs)) n)) sums
+        (subst (λ (n : ℕ). Fed acts (ready line count clips) (x ∷ xs) (made.samples ∷ frames_after taps m next.items xs) (ready (through next xs) n (clips + made.clips + clips_after taps m next.items xs))) places all)) in
+        subst (λ (l : List Samples). Fed acts (ready line count clips) (x ∷ xs) l (ready (through line (x ∷ xs)) (count + length (x ∷ xs)) (clips + clips_after taps m line.items (x ∷ xs)))) (sym frames) whole
 
     ready-dry : (line : Frames ℤ) (count clips : ℕ) → IsDry acts (ready line count clips)
     ready-dry line count clips = record { due = λ e. refl; over = λ e. absurd (cc (e)) }
 
     -- each given before the next is taken
-    taps-through : (xs : List Samples) (line : Frames ℤ) (count clips : ℕ) → line.capacity ≡ taps.reach m → length line.items ≤ line.capacity → All (λ (y : Samples). length y ≡ taps.channels m) (frames_behind taps m line.items xs)
-        → EachThrough acts xs (frames_behind taps m line.items xs) (ready line count clips) (ready (through line xs) (count + length xs) (clips + clips_behind taps m line.items xs))
+    taps-through : (xs : List Samples) (line : Frames ℤ) (count clips : ℕ) → line.capacity ≡ taps.reach m → length line.items ≤ line.capacity → All (λ (y : Samples). length y ≡ taps.channels m) (frames_after taps m line.items xs)
+        → EachThrough acts xs (frames_after taps m line.items xs) (ready line count clips) (ready (through line xs) (count + length xs) (clips + clips_after taps m line.items xs))
     taps-through [] line count clips size within sides = rw (add-zero, add-zero, last-whole line.capacity line.items within) refl
     taps-through (x ∷ xs) line count clips size within sides =
         let next : Frames ℤ = through line (x ∷ []) in
-        let made : Given = made_behind line x in
-        let steps : behind taps m line.items (x ∷ xs) ≡ made ∷ behind taps m next.items xs = behind-step taps near m line.items xs x line.capacity within (omega arith) in
-        let frames : frames_behind taps m line.items (x ∷ xs) ≡ made.samples ∷ frames_behind taps m next.items xs = ap (map (λ (g : Given). g.samples)) steps in
-        let clipped : clips_behind taps m line.items (x ∷ xs) ≡ made.clips + clips_behind taps m next.items xs = ap (total (λ (g : Given). g.clips)) steps in
-        let each : All (λ (y : Samples). length y ≡ taps.channels m) (made.samples ∷ frames_behind taps m next.items xs) = subst (λ (l : List Samples). All (λ (y : Samples). length y ≡ taps.channels m) l) frames sides in
-        let room : length next.items ≤ next.capacity = let n = length-last line.capacity (line.items ++ x ∷ []) in omega arith in
-        let more = taps-through xs next (count + 1) (clips + made.clips) size room (All-tail (λ (y : Samples). length y ≡ taps.channels m) made.samples (frames_behind taps m next.items xs) each) in
+        let made : Given = made_after line x in
+        let steps : given_after taps m line.items (x ∷ xs) ≡ made ∷ given_after taps m next.items xs = rest_unchanged-step taps near m line.items xs x line.capacity within (omega arith) in
+        let frames : frames_after taps m line.items (x ∷ xs) ≡ made.samples ∷ frames_after taps m next.items xs = ap (map (λ (g : Given). g.samples)) steps in
+        let clipped : clips_after taps m line.items (x ∷ xs) ≡ made.clips + clips_after taps m next.items xs = ap (total (λ (g : Given). g.clips)) steps in
+        let each : All (λ (y : Samples). length y ≡ taps.channels m) (made.samples ∷ frames_after taps m next.items xs) = subst (λ (l : List Samples). All (λ (y : Samples). length y ≡ taps.channels m) l) frames sides in
+        let free : length next.items ≤ next.capacity = let n = length-last line.capacity (line.items ++ x ∷ []) in omega arith in
+        let more = taps-through xs next (count + 1) (clips + made.clips) size free (All-tail (λ (y : Samples). length y ≡ taps.channels m) made.samples (frames_after taps m next.items xs) each) in
         let places : count + 1 + length xs ≡ count + length (x ∷ xs) = omega arith in
-        let sums : clips + made.clips + clips_behind taps m next.items xs ≡ clips + clips_behind taps m line.items (x ∷ xs) = omega (arith, clipped) in
-        let end : TapState M = ready (through line (x ∷ xs)) (count + length (x ∷ xs)) (clips + clips_behind taps m line.items (x ∷ xs)) in
-        let same : ready (through next xs) (count + 1 + length xs) (clips + made.clips + clips_behind taps m next.items xs) ≡ end =
-        ap (λ (n : ℕ). ready (through next xs) n (clips + made.clips + clips_behind taps m next.items xs)) places ∙ ap (λ (n : ℕ). ready (through next xs) (count + length (x ∷ xs)) n) sums
-        ∙ ap (λ (l : List Samples). ready (record { items = l; capacity = line.capacity; channels = line.channels }) (count + length (x ∷ xs)) (clips + clips_behind taps m line.items (x ∷ xs))) (last-first line.capacity line.items xs x) in
-        let whole : EachThrough acts (x ∷ xs) (made.samples ∷ frames_behind taps m next.items xs) (ready line count clips) end = (
+        let sums : clips + made.clips + clips_after taps m next.items xs ≡ clips + clips_after taps m line.items (x ∷ xs) = omega (arith, clipped) in
+        let end : TapState M = ready (through line (x ∷ xs)) (count + length (x ∷ xs)) (clips + clips_after taps m line.items (x ∷ xs)) in
+        let same : ready (through next xs) (count + 1 + length xs) (clips + made.clips + clips_after taps m next.items xs) ≡ end =
+        ap (λ (n : ℕ). ready (through next xs) n (clips + made.clips + clips_after taps m next.items xs)) places ∙ ap (λ (n : ℕ). ready (through next xs) (count + length (x ∷ xs)) n) sums
+        ∙ ap (λ (l : List Samples). ready (record { items = l; capacity = line.capacity; channels = line.channels }) (count + length (x ∷ xs)) (clips + clips_after taps m line.items (x ∷ xs))) (last-first line.capacity line.items xs x) in
+        let whole : EachThrough acts (x ∷ xs) (made.samples ∷ frames_after taps m next.items xs) (ready line count clips) end = (
           ready next (count + 1) (clips + made.clips),
-          one-passed line count clips x size within (All-head (λ (y : Samples). length y ≡ taps.channels m) made.samples (frames_behind taps m next.items xs) each),
+          one-passed line count clips x size within (All-head (λ (y : Samples). length y ≡ taps.channels m) made.samples (frames_after taps m next.items xs) each),
           ready-dry next (count + 1) (clips + made.clips),
-          subst (λ (u : TapState M). EachThrough acts xs (frames_behind taps m next.items xs) (ready next (count + 1) (clips + made.clips)) u) same more,
+          subst (λ (u : TapState M). EachThrough acts xs (frames_after taps m next.items xs) (ready next (count + 1) (clips + made.clips)) u) same more,
         ) in
         subst (λ (l : List Samples). EachThrough acts (x ∷ xs) l (ready line count clips) end) (sym frames) whole
 
     -- a block of frames: the counters are added to once
-    pub block-fed : (s : TapState M) (line : Frames ℤ) (n clips : ℕ) (input output : List ℤ) → s.arguments ≡ m → s.hand ≡ None → s.hand_clips ≡ 0 → s.tail ≡ 0 → s.ended ≡ false → s.given ≡ s.taken
+    pub block-fed : (s : TapState M) (line : Frames ℤ) (n clips : ℕ) (input output : List ℤ) → s.arguments ≡ m → s.pending ≡ None → s.pending_clips ≡ 0 → s.tail ≡ 0 → s.ended ≡ false → s.given ≡ s.taken
         → s.line.capacity ≡ taps.reach m → length s.line.items ≤ s.line.capacity → n * taps.channels m ≤ length output
-        → pieces (taps.channels m) n output ≡ frames_behind taps m s.line.items (pieces (taps.channels m) n input) → clips ≡ clips_behind taps m s.line.items (pieces (taps.channels m) n input)
+        → pieces (taps.channels m) n output ≡ frames_after taps m s.line.items (pieces (taps.channels m) n input) → clips ≡ clips_after taps m s.line.items (pieces (taps.channels m) n input)
         → line.items ≡ last_of s.line.capacity (s.line.items ++ pieces (taps.channels m) n input) → line.capacity ≡ s.line.capacity → line.channels ≡ s.line.channels
         → Fed acts s (pieces (taps.channels m) n input) (pieces (taps.channels m) n output) (record s { line = line; taken = s.taken + n; given = s.given + n; clips = s.clips + clips })
     block-fed s line n clips input output e h k t over g size within long made counted items capacity channels =
         let xs : List Samples = pieces (taps.channels m) n input in
         let same : ◌≡◌ {A = Frames ℤ} (record { items = line.items; capacity = line.capacity; channels = line.channels }) (through s.line xs) = rw (items, capacity, channels) refl in
         let went : line ≡ through s.line xs = same in
-        let sides : All (λ (y : Samples). length y ≡ taps.channels m) (frames_behind taps m s.line.items xs) = rw (← made) (pieces-sides (taps.channels m) n output long) in
-        let fed : Fed acts (ready s.line s.taken s.clips) xs (frames_behind taps m s.line.items xs) (ready (through s.line xs) (s.taken + length xs) (s.clips + clips_behind taps m s.line.items xs)) = taps-fed xs s.line s.taken s.clips size within sides in
+        let sides : All (λ (y : Samples). length y ≡ taps.channels m) (frames_after taps m s.line.items xs) = rw (← made) (pieces-sides (taps.channels m) n output long) in
+        let fed : Fed acts (ready s.line s.taken s.clips) xs (frames_after taps m s.line.items xs) (ready (through s.line xs) (s.taken + length xs) (s.clips + clips_after taps m s.line.items xs)) = taps-fed xs s.line s.taken s.clips size within sides in
         let many : length xs ≡ n = length-pieces (taps.channels m) n input in
-        let whole : ◌≡◌ {A = TapState M} (record { arguments = s.arguments; line = s.line; hand = s.hand; hand_clips = s.hand_clips; tail = s.tail; taken = s.taken; given = s.given; clips = s.clips; ended = s.ended }) (ready s.line s.taken s.clips) = rw (e, h, k, t, over, g) refl in
-        let left : ◌≡◌ {A = TapState M} (record { arguments = s.arguments; line = line; hand = s.hand; hand_clips = s.hand_clips; tail = s.tail; taken = s.taken + n; given = s.given + n; clips = s.clips + clips; ended = s.ended }) (ready line (s.taken + n) (s.clips + clips)) = rw (e, h, k, t, over, g) refl in
-        let last : ◌≡◌ {A = TapState M} (record { arguments = s.arguments; line = line; hand = s.hand; hand_clips = s.hand_clips; tail = s.tail; taken = s.taken + n; given = s.given + n; clips = s.clips + clips; ended = s.ended }) (ready (through s.line xs) (s.taken + length xs) (s.clips + clips_behind taps m s.line.items xs)) =
-        left ∙ ap (λ (j : ℕ). ready line (s.taken + j) (s.clips + clips)) (sym many) ∙ ap (λ (j : ℕ). ready line (s.taken + length xs) (s.clips + j)) counted ∙ ap (λ (l : Frames ℤ). ready l (s.taken + length xs) (s.clips + clips_behind taps m s.line.items xs)) went in
+        let whole : ◌≡◌ {A = TapState M} (record { arguments = s.arguments; line = s.line; pending = s.pending; pending_clips = s.pending_clips; tail = s.tail; taken = s.taken; given = s.given; clips = s.clips; ended = s.ended }) (ready s.line s.taken s.clips) = rw (e, h, k, t, over, g) refl in
+        let left : ◌≡◌ {A = TapState M} (record { arguments = s.arguments; line = line; pending = s.pending; pending_clips = s.pending_clips; tail = s.tail; taken = s.taken + n; given = s.given + n; clips = s.clips + clips; ended = s.ended }) (ready line (s.taken + n) (s.clips + clips)) = rw (e, h, k, t, over, g) refl in
+        let last : ◌≡◌ {A = TapState M} (record { arguments = s.arguments; line = line; pending = s.pending; pending_clips = s.pending_clips; tail = s.tail; taken = s.taken + n; given = s.given + n; clips = s.clips + clips; ended = s.ended }) (ready (through s.line xs) (s.taken + length xs) (s.clips + clips_after taps m s.line.items xs)) =
+        left ∙ ap (λ (j : ℕ). ready line (s.taken + j) (s.clips + clips)) (sym many) ∙ ap (λ (j : ℕ). ready line (s.taken + length xs) (s.clips + j)) counted ∙ ap (λ (l : Frames ℤ). ready l (s.taken + length xs) (s.clips + clips_after taps m s.line.items xs)) went in
         let start : s ≡ ready s.line s.taken s.clips = whole in
-        rw (made, last) (subst (λ (u : TapState M). Fed acts u xs (frames_behind taps m s.line.items xs) (ready (through s.line xs) (s.taken + length xs) (s.clips + clips_behind taps m s.line.items xs))) (sym start) fed)
+        rw (made, last) (subst (λ (u : TapState M). Fed acts u xs (frames_after taps m s.line.items xs) (ready (through s.line xs) (s.taken + length xs) (s.clips + clips_after taps m s.line.items xs))) (sym start) fed)
 
     -- the same, each given before the next is taken
-    pub block-through : (s : TapState M) (line : Frames ℤ) (n clips : ℕ) (input output : List ℤ) → s.arguments ≡ m → s.hand ≡ None → s.hand_clips ≡ 0 → s.tail ≡ 0 → s.ended ≡ false → s.given ≡ s.taken
+    pub block-through : (s : TapState M) (line : Frames ℤ) (n clips : ℕ) (input output : List ℤ) → s.arguments ≡ m → s.pending ≡ None → s.pending_clips ≡ 0 → s.tail ≡ 0 → s.ended ≡ false → s.given ≡ s.taken
         → s.line.capacity ≡ taps.reach m → length s.line.items ≤ s.line.capacity → n * taps.channels m ≤ length output
-        → pieces (taps.channels m) n output ≡ frames_behind taps m s.line.items (pieces (taps.channels m) n input) → clips ≡ clips_behind taps m s.line.items (pieces (taps.channels m) n input)
+        → pieces (taps.channels m) n output ≡ frames_after taps m s.line.items (pieces (taps.channels m) n input) → clips ≡ clips_after taps m s.line.items (pieces (taps.channels m) n input)
         → line.items ≡ last_of s.line.capacity (s.line.items ++ pieces (taps.channels m) n input) → line.capacity ≡ s.line.capacity → line.channels ≡ s.line.channels
         → EachThrough acts (pieces (taps.channels m) n input) (pieces (taps.channels m) n output) s (record s { line = line; taken = s.taken + n; given = s.given + n; clips = s.clips + clips })
     block-through s line n clips input output e h k t over g size within long made counted items capacity channels =
         let xs : List Samples = pieces (taps.channels m) n input in
         let same : ◌≡◌ {A = Frames ℤ} (record { items = line.items; capacity = line.capacity; channels = line.channels }) (through s.line xs) = rw (items, capacity, channels) refl in
         let went : line ≡ through s.line xs = same in
-        let sides : All (λ (y : Samples). length y ≡ taps.channels m) (frames_behind taps m s.line.items xs) = rw (← made) (pieces-sides (taps.channels m) n output long) in
-        let fed : EachThrough acts xs (frames_behind taps m s.line.items xs) (ready s.line s.taken s.clips) (ready (through s.line xs) (s.taken + length xs) (s.clips + clips_behind taps m s.line.items xs)) = taps-through xs s.line s.taken s.clips size within sides in
+        let sides : All (λ (y : Samples). length y ≡ taps.channels m) (frames_after taps m s.line.items xs) = rw (← made) (pieces-sides (taps.channels m) n output long) in
+        let fed : EachThrough acts xs (frames_after taps m s.line.items xs) (ready s.line s.taken s.clips) (ready (through s.line xs) (s.taken + length xs) (s.clips + clips_after taps m s.line.items xs)) = taps-through xs s.line s.taken s.clips size within sides in
         let many : length xs ≡ n = length-pieces (taps.channels m) n input in
-        let whole : ◌≡◌ {A = TapState M} (record { arguments = s.arguments; line = s.line; hand = s.hand; hand_clips = s.hand_clips; tail = s.tail; taken = s.taken; given = s.given; clips = s.clips; ended = s.ended }) (ready s.line s.taken s.clips) = rw (e, h, k, t, over, g) refl in
-        let left : ◌≡◌ {A = TapState M} (record { arguments = s.arguments; line = line; hand = s.hand; hand_clips = s.hand_clips; tail = s.tail; taken = s.taken + n; given = s.given + n; clips = s.clips + clips; ended = s.ended }) (ready line (s.taken + n) (s.clips + clips)) = rw (e, h, k, t, over, g) refl in
-        let last : ◌≡◌ {A = TapState M} (record { arguments = s.arguments; line = line; hand = s.hand; hand_clips = s.hand_clips; tail = s.tail; taken = s.taken + n; given = s.given + n; clips = s.clips + clips; ended = s.ended }) (ready (through s.line xs) (s.taken + length xs) (s.clips + clips_behind taps m s.line.items xs)) =
-        left ∙ ap (λ (j : ℕ). ready line (s.taken + j) (s.clips + clips)) (sym many) ∙ ap (λ (j : ℕ). ready line (s.taken + length xs) (s.clips + j)) counted ∙ ap (λ (l : Frames ℤ). ready l (s.taken + length xs) (s.clips + clips_behind taps m s.line.items xs)) went in
+        let whole : ◌≡◌ {A = TapState M} (record { arguments = s.arguments; line = s.line; pending = s.pending; pending_clips = s.pending_clips; tail = s.tail; taken = s.taken; given = s.given; clips = s.clips; ended = s.ended }) (ready s.line s.taken s.clips) = rw (e, h, k, t, over, g) refl in
+        let left : ◌≡◌ {A = TapState M} (record { arguments = s.arguments; line = line; pending = s.pending; pending_clips = s.pending_clips; tail = s.tail; taken = s.taken + n; given = s.given + n; clips = s.clips + clips; ended = s.ended }) (ready line (s.taken + n) (s.clips + clips)) = rw (e, h, k, t, over, g) refl in
+        let last : ◌≡◌ {A = TapState M} (record { arguments = s.arguments; line = line; pending = s.pending; pending_clips = s.pending_clips; tail = s.tail; taken = s.taken + n; given = s.given + n; clips = s.clips + clips; ended = s.ended }) (ready (through s.line xs) (s.taken + length xs) (s.clips + clips_after taps m s.line.items xs)) =
+        left ∙ ap (λ (j : ℕ). ready line (s.taken + j) (s.clips + clips)) (sym many) ∙ ap (λ (j : ℕ). ready line (s.taken + length xs) (s.clips + j)) counted ∙ ap (λ (l : Frames ℤ). ready l (s.taken + length xs) (s.clips + clips_after taps m s.line.items xs)) went in
         let start : s ≡ ready s.line s.taken s.clips = whole in
-        rw (made, last) (subst (λ (u : TapState M). EachThrough acts xs (frames_behind taps m s.line.items xs) u (ready (through s.line xs) (s.taken + length xs) (s.clips + clips_behind taps m s.line.items xs))) (sym start) fed)
+        rw (made, last) (subst (λ (u : TapState M). EachThrough acts xs (frames_after taps m s.line.items xs) u (ready (through s.line xs) (s.taken + length xs) (s.clips + clips_after taps m s.line.items xs))) (sym start) fed)

@@ -5,23 +5,23 @@ use Rattle.std.proofs.Math.Nat.{suc-mul}
 use Rattle.std.specs.Prelude.{option_to_list, nat_le, Some, None, ◌^◌}
 use Rattle.std.specs.Int.{w32}
 use Rattle.std.proofs.lemmas.List.{length-append, length-drop, length-replicate, drop-append-le}
-use Rattle.fx_step.specs.Frame.{Samples, silence, IsFrame}
-use Rattle.fx_ring.specs.Line.{Frames, pushed, IsLine}
-use Rattle.fx_step.specs.Stage.{Freezes, Gave, Took}
-use Rattle.fx_lists.specs.Lists.{tabulate}
-use Rattle.fx_frame.specs.Tapped.{AreTapCounts, Taps, TapState, IsTapState, IsNear, behind, by_name, tapped, tap_acts}
-use Rattle.fx_frame.specs.Past.{sample_before}
+use Rattle.fx_frame_stage.specs.Frame.{Samples, silence, IsFrame}
+use Rattle.fx_frame_line.specs.Line.{Frames, pushed, IsLine}
+use Rattle.fx_frame_stage.specs.Stage.{Freezes, Gave, Took}
+use Rattle.fx_frame_lists.specs.Lists.{tabulate}
+use Rattle.fx_frame.specs.Tapped.{AreTapCounts, Taps, TapState, IsTapState, IsNear, given_after, by_name, tapped, tap_acts}
+use Rattle.fx_frame.specs.History.{sample_before}
 use Rattle.fx_frame.proofs.Counts.{flag-false, flag-times, flag-true}
-use Rattle.fx_frame.proofs.DryLaws.{dry-hand, dry-tail}
-use Rattle.fx_frame.proofs.DelayLaws.{sample_before-append, sample_before-drop, quiet-after}
-use Rattle.fx_lists.proofs.Tabulate.{tabulate-same}
-use Rattle.fx_step.proofs.Flags.{flag-le}
+use Rattle.fx_frame.proofs.DryLaws.{dry-pending, dry-tail}
+use Rattle.fx_frame.proofs.DelayLaws.{sample_before-append, sample_before-drop, silence_here-after}
+use Rattle.fx_frame_lists.proofs.Tabulate.{tabulate-same}
+use Rattle.fx_frame_stage.proofs.Flags.{flag-le}
 
 module _ {M : Type 0} (taps : Taps M) (near : IsNear taps) where
   -- one more frame comes
-  pub behind-step : (m : M) (items xs : List Samples) (f : Samples) (c : ℕ) → length items ≤ c → taps.reach m ≤ c
-      → behind taps m items (f ∷ xs) ≡ taps.made m (sample_before (items ++ f ∷ []) (length items)) ∷ behind taps m (drop (length (items ++ f ∷ []) - c) (items ++ f ∷ [])) xs
-  behind-step m items xs f c held long =
+  pub rest_unchanged-step : (m : M) (items xs : List Samples) (f : Samples) (c : ℕ) → length items ≤ c → taps.reach m ≤ c
+      → given_after taps m items (f ∷ xs) ≡ taps.made m (sample_before (items ++ f ∷ []) (length items)) ∷ given_after taps m (drop (length (items ++ f ∷ []) - c) (items ++ f ∷ [])) xs
+  rest_unchanged-step m items xs f c held long =
       let whole : List Samples = items ++ f ∷ [] in
       let n : length whole ≡ length items + 1 = length-append items (f ∷ []) in
       let j : ℕ = length whole - c in
@@ -30,7 +30,7 @@ module _ {M : Type 0} (taps : Taps M) (near : IsNear taps) where
       rw split (near m _ _ (λ d k l. sample_before-append whole xs (length items) d k (omega arith))) in
       let left : length (drop j whole) ≡ length whole - j = length-drop j whole in
       let dropped : drop j whole ++ xs ≡ drop j (whole ++ xs) = sym (drop-append-le j whole xs (omega arith)) in
-      let more : tabulate (λ n. taps.made m (sample_before (items ++ f ∷ xs) n)) (suc (length items)) (length xs) ≡ behind taps m (drop j whole) xs =
+      let more : tabulate (λ n. taps.made m (sample_before (items ++ f ∷ xs) n)) (suc (length items)) (length xs) ≡ given_after taps m (drop j whole) xs =
       tabulate-same _ _ _ _ (length xs) (λ k l.
       let at : length (drop j whole) + k + j ≡ suc (length items) + k = omega arith in
       rw (split, dropped, ← at) (near m _ _ (λ d q short.
@@ -39,16 +39,16 @@ module _ {M : Type 0} (taps : Taps M) (near : IsNear taps) where
       ∙ ap (λ ys. taps.made m (sample_before whole (length items)) ∷ ys) more
 
   -- with an empty line it is what is given for the whole sound
-  pub behind-all : (m : M) (z : List Samples) → behind taps m [] (z ++ replicate (taps.reach m) (silence (taps.channels m))) ≡ tapped taps m z
-  behind-all m z =
+  pub rest_unchanged-all : (m : M) (z : List Samples) → given_after taps m [] (z ++ replicate (taps.reach m) (silence (taps.channels m))) ≡ tapped taps m z
+  rest_unchanged-all m z =
       let n : length (z ++ replicate (taps.reach m) (silence (taps.channels m))) ≡ length z + taps.reach m = simp (length-append, length-replicate) in
       rw n (tabulate-same _ _ 0 0 (length z + taps.reach m) (λ k l.
       near m (sample_before (z ++ replicate (taps.reach m) (silence (taps.channels m))) (0 + k)) (sample_before z (0 + k)) (λ d q short.
-      ap (λ s. cond (nat_le d (0 + k)) s (pos 0)) (quiet-after z (taps.reach m) (taps.channels m) (0 + k - d) q))))
+      ap (λ s. cond (nat_le d (0 + k)) s (pos 0)) (silence_here-after z (taps.reach m) (taps.channels m) (0 + k - d) q))))
 
   -- the state after a frame came
   abbrev pub taken_tap : TapState M → Frames ℤ → Samples → ℕ → TapState M
-  taken_tap s line out clips = record s { line = line; hand = Some out; hand_clips = clips; taken = s.taken + 1 }
+  taken_tap s line out clips = record s { line = line; pending = Some out; pending_clips = clips; taken = s.taken + 1 }
 
   pub Took-tap : (s : TapState M) (line : Frames ℤ) (frame out : Samples) (clips : ℕ) → IsTapState taps s → (tap_acts taps).dry s ≡ true → s.ended ≡ false
       → out ≡ (taps.made s.arguments (sample_before (s.line.items ++ frame ∷ []) (length s.line.items))).samples
@@ -56,11 +56,11 @@ module _ {M : Type 0} (taps : Taps M) (near : IsNear taps) where
       → line.items ≡ pushed s.line frame → line.capacity ≡ s.line.capacity
       → Took (tap_acts taps) s (taken_tap s line out clips) frame
   Took-tap s line frame out clips is dry running e f items capacity =
-      let none = dry-hand s.hand s.tail dry in
+      let none = dry-pending s.pending s.tail dry in
       let held = is.line.within in
       let long : taps.reach s.arguments ≤ s.line.capacity = let k = is.capacity in omega arith in
       record {
-        rest = λ z. rw (none, running, e, f, items, capacity) (sym (behind-step s.arguments s.line.items (z ++ replicate s.line.capacity (silence (taps.channels s.arguments))) frame s.line.capacity held long));
+        rest = λ z. rw (none, running, e, f, items, capacity) (sym (rest_unchanged-step s.arguments s.line.items (z ++ replicate s.line.capacity (silence (taps.channels s.arguments))) frame s.line.capacity held long));
         counted = refl;
         recipe_stays = refl;
       }
@@ -74,10 +74,10 @@ module _ {M : Type 0} (taps : Taps M) (near : IsNear taps) where
       omega (arith, n, d)
 
   pub IsTapState-taken : (s : TapState M) (line : Frames ℤ) (frame out : Samples) (clips : ℕ) → IsTapState taps s → (tap_acts taps).dry s ≡ true → s.ended ≡ false → s.taken < 2 ^ 56
-      → IsLine w32 line → line.items ≡ pushed s.line frame → line.capacity ≡ s.line.capacity → line.channels ≡ s.line.channels → IsFrame out → length out ≡ taps.channels s.arguments → clips ≤ taps.most_clips s.arguments
+      → IsLine w32 line → line.items ≡ pushed s.line frame → line.capacity ≡ s.line.capacity → line.channels ≡ s.line.channels → IsFrame out → length out ≡ taps.channels s.arguments → clips ≤ taps.max_clips s.arguments
       → IsTapState taps (taken_tap s line out clips)
-  IsTapState-taken s line frame out clips is dry running few lined items capacity channels framed len little =
-      let none = dry-hand s.hand s.tail dry in
+  IsTapState-taken s line frame out clips is dry running bound lined items capacity channels framed len little =
+      let none = dry-pending s.pending s.tail dry in
       let counted : s.given + 0 + s.tail ≡ s.taken + 0 = rw (none, running) at is.counted in
       let before : length s.line.items ≡ min (s.given + 0) s.line.capacity = rw none at is.held in
       let after : length line.items ≡ min (length s.line.items + 1) s.line.capacity = ap length items ∙ length-pushed s.line frame in
@@ -89,10 +89,10 @@ module _ {M : Type 0} (taps : Taps M) (near : IsNear taps) where
         held = omega (arith, before, after, capacity);
         idle = λ none. absurd (omega arith);
         over = λ ended. absurd (cc (running, ended));
-        few = omega arith;
+        bound = omega arith;
         not_ended = is.not_ended;
-        few_clips = is.few_clips;
-        hand_few = little;
+        clips_max = is.clips_max;
+        pending_max = little;
         fits = λ x q. let same : out ≡ x = cc in (rw (← same) framed, rw (← same) len);
       }
 
@@ -103,14 +103,14 @@ module _ {M : Type 0} (taps : Taps M) (near : IsNear taps) where
   ended-tail : (s : TapState M) → IsTapState taps s → 0 < s.tail → s.ended ≡ true
   ended-tail s is some = true_from_ne_false s.ended (λ e. let k = is.not_ended e in absurd (omega arith))
 
-  pub IsTapState-drained : (s : TapState M) (line : Frames ℤ) (quiet : Samples) (clips : ℕ) → IsTapState taps s → s.hand ≡ None → 0 < s.tail
-      → IsLine w32 line → line.items ≡ pushed s.line quiet → line.capacity ≡ s.line.capacity → line.channels ≡ s.line.channels → clips ≤ taps.most_clips s.arguments
+  pub IsTapState-drained : (s : TapState M) (line : Frames ℤ) (silence_here : Samples) (clips : ℕ) → IsTapState taps s → s.pending ≡ None → 0 < s.tail
+      → IsLine w32 line → line.items ≡ pushed s.line silence_here → line.capacity ≡ s.line.capacity → line.channels ≡ s.line.channels → clips ≤ taps.max_clips s.arguments
       → IsTapState taps (drained_tap s line clips)
-  IsTapState-drained s line quiet clips is none some lined items capacity channels little =
+  IsTapState-drained s line silence_here clips is none some lined items capacity channels little =
       let over = ended-tail s is some in
       let counted : s.given + 0 + s.tail ≡ s.taken + s.line.capacity = rw (none, over) at is.counted in
       let before : length s.line.items ≡ min (s.given + 0) s.line.capacity = rw none at is.held in
-      let after : length line.items ≡ min (length s.line.items + 1) s.line.capacity = ap length items ∙ length-pushed s.line quiet in
+      let after : length line.items ≡ min (length s.line.items + 1) s.line.capacity = ap length items ∙ length-pushed s.line silence_here in
       record {
         line = lined;
         channels = channels ∙ is.channels;
@@ -119,59 +119,59 @@ module _ {M : Type 0} (taps : Taps M) (near : IsNear taps) where
         held = rw none (omega (arith, before, after, capacity));
         idle = is.idle;
         over = is.over;
-        few = is.few;
+        bound = is.bound;
         not_ended = λ running. absurd (cc (running, over));
-        few_clips = omega (arith, is.few_clips, little, suc-mul s.given (taps.most_clips s.arguments), add-one s.given);
-        hand_few = is.hand_few;
+        clips_max = omega (arith, is.clips_max, little, suc-mul s.given (taps.max_clips s.arguments), add-one s.given);
+        pending_max = is.pending_max;
         fits = is.fits;
       }
 
-  behind-quiet : (m : M) (items : List Samples) (quiet : Samples) (tail c : ℕ) → 0 < tail → length items ≤ c → taps.reach m ≤ c
-      → behind taps m items (replicate tail quiet) ≡ taps.made m (sample_before (items ++ quiet ∷ []) (length items)) ∷ behind taps m (drop (length (items ++ quiet ∷ []) - c) (items ++ quiet ∷ [])) (replicate (tail - 1) quiet)
-  behind-quiet m items quiet zero c some held long = absurd (omega arith)
-  behind-quiet m items quiet (suc t) c some held long = rw sub-one (behind-step m items (replicate t quiet) quiet c held long)
+  rest_unchanged-silence_here : (m : M) (items : List Samples) (silence_here : Samples) (tail c : ℕ) → 0 < tail → length items ≤ c → taps.reach m ≤ c
+      → given_after taps m items (replicate tail silence_here) ≡ taps.made m (sample_before (items ++ silence_here ∷ []) (length items)) ∷ given_after taps m (drop (length (items ++ silence_here ∷ []) - c) (items ++ silence_here ∷ [])) (replicate (tail - 1) silence_here)
+  rest_unchanged-silence_here m items silence_here zero c some held long = absurd (omega arith)
+  rest_unchanged-silence_here m items silence_here (suc t) c some held long = rw sub-one (rest_unchanged-step m items (replicate t silence_here) silence_here c held long)
 
-  pub Gave-tail : (s : TapState M) (line : Frames ℤ) (quiet out : Samples) (clips : ℕ) → IsTapState taps s → s.hand ≡ None → 0 < s.tail → quiet ≡ silence (taps.channels s.arguments)
-      → out ≡ (taps.made s.arguments (sample_before (s.line.items ++ quiet ∷ []) (length s.line.items))).samples
-      → clips ≡ (taps.made s.arguments (sample_before (s.line.items ++ quiet ∷ []) (length s.line.items))).clips
-      → length out ≡ taps.channels s.arguments → line.items ≡ pushed s.line quiet → line.capacity ≡ s.line.capacity
+  pub Gave-tail : (s : TapState M) (line : Frames ℤ) (silence_here out : Samples) (clips : ℕ) → IsTapState taps s → s.pending ≡ None → 0 < s.tail → silence_here ≡ silence (taps.channels s.arguments)
+      → out ≡ (taps.made s.arguments (sample_before (s.line.items ++ silence_here ∷ []) (length s.line.items))).samples
+      → clips ≡ (taps.made s.arguments (sample_before (s.line.items ++ silence_here ∷ []) (length s.line.items))).clips
+      → length out ≡ taps.channels s.arguments → line.items ≡ pushed s.line silence_here → line.capacity ≡ s.line.capacity
       → Gave (tap_acts taps) s (drained_tap s line clips) out
-  Gave-tail s line quiet out clips is none some q e f len items capacity =
+  Gave-tail s line silence_here out clips is none some q e f len items capacity =
       let over = ended-tail s is some in
       let held = is.line.within in
       let long : taps.reach s.arguments ≤ s.line.capacity = let k = is.capacity in omega arith in
       let counted : s.given + 0 + s.tail ≡ s.taken + s.line.capacity = rw (none, over) at is.counted in
       let same = is.capacity in
       record {
-        was_wet = dry-tail s.hand s.tail some;
+        was_wet = dry-tail s.pending s.tail some;
         gives = record {
           clips = clips;
-          first = λ z. rw (none, over, e, f, items, q) (behind-quiet s.arguments s.line.items (silence (taps.channels s.arguments)) s.tail s.line.capacity some held long);
+          first = λ z. rw (none, over, e, f, items, q) (rest_unchanged-silence_here s.arguments s.line.items (silence (taps.channels s.arguments)) s.tail s.line.capacity some held long);
           counted = refl;
         };
         channels = len;
         due = λ running. absurd (cc (running, over));
-        most = omega arith;
+        maximum = omega arith;
         recipe_stays = refl;
       }
 
 -- a stage of these arguments that froze to these frames and numbers has such counts
 pub counts-are : {M : Type 0} (taps : Taps M) (s : TapState M) (m : M) (frames : List Samples) (numbers : List ℕ) → IsTapState taps s → s.arguments ≡ m → Freezes (tap_acts taps) s frames numbers
-    → AreTapCounts (taps.reach m) (taps.most_clips m) (length frames) (by_name numbers)
+    → AreTapCounts (taps.reach m) (taps.max_clips m) (length frames) (by_name numbers)
 counts-are taps s m frames numbers is same froze =
-    let all : length (s.line.items ++ option_to_list s.hand) ≡ length s.line.items + length (option_to_list s.hand) = length-append s.line.items (option_to_list s.hand) in
+    let all : length (s.line.items ++ option_to_list s.pending) ≡ length s.line.items + length (option_to_list s.pending) = length-append s.line.items (option_to_list s.pending) in
     let held = is.held in
     let reach : s.line.capacity ≡ taps.reach m = is.capacity ∙ ap taps.reach same in
     rw froze.counted
     record {
       flag = flag-le s.ended;
-      few = is.few;
+      bound = is.bound;
       all = ap length (sym froze.stored);
       counted = rw (← reach) (is.counted ∙ ap (λ n. s.taken + n) (flag-times s.ended s.line.capacity));
       held = omega (arith, all, held, reach);
       idle = is.idle;
       over = λ some. is.over (flag-true s.ended some);
       not_ended = λ z. is.not_ended (flag-false s.ended z);
-      few_clips = rw (← same) is.few_clips;
-      hand_few = rw (← same) is.hand_few;
+      clips_max = rw (← same) is.clips_max;
+      pending_max = rw (← same) is.pending_max;
     }

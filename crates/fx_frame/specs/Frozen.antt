@@ -1,19 +1,19 @@
--- What a stage stores and counts, read again. Source: this project's profile.
+-- What a stage stores and counts, restored. Source: this project's profile.
 use Rattle.std.specs.Prelude.{ℕ, ℤ, List, ◌++◌, Option, length, option_to_list, ◌≡◌}
 use Rattle.std.specs.Int.{w32}
-use Rattle.fx_step.specs.Frame.{Samples}
-use Rattle.fx_step.specs.Hand.{IsHand}
-use Rattle.fx_ring.specs.Line.{Frames, IsLine}
+use Rattle.fx_frame_stage.specs.Frame.{Samples}
+use Rattle.fx_frame_stage.specs.PendingFrame.{IsPending}
+use Rattle.fx_frame_line.specs.Line.{Frames, IsLine}
 
--- the line of so many channels and places that holds these frames
+-- the line of `channels` channels and `capacity` places that holds these frames
 abbrev pub line_of : ℕ → ℕ → List Samples → Frames ℤ
 line_of channels capacity frames = record { items = frames; capacity = capacity; channels = channels }
 
--- a stage with such a line and so many frames in hand stores these frames
-pub record IsStored (channels capacity hands : ℕ) (frames : List Samples) (line : Frames ℤ) (hand : Option Samples) : Type 0 where
+-- a stage with such a line and `pending_count` pending frames stores these frames
+pub record IsStored (channels capacity pending_count : ℕ) (frames : List Samples) (line : Frames ℤ) (pending : Option Samples) : Type 0 where
   pub lined : IsLine w32 line
   pub channels_are : line.channels ≡ channels
   pub capacity_is : line.capacity ≡ capacity
-  pub held : IsHand channels hand
-  pub hands_are : length (option_to_list hand) ≡ hands
-  pub stored : frames ≡ line.items ++ option_to_list hand
+  pub held : IsPending channels pending
+  pub pending_count_is : length (option_to_list pending) ≡ pending_count
+  pub stored : frames ≡ line.items ++ option_to_list pending

@@ -1,11 +1,11 @@
--- What is made of frames, each alone (this project's profile).
+-- What is made of frames, one output frame for each input frame (this project's profile).
 use Rattle.std.specs.Prelude.{List, map, ℕ, ℤ, Bool}
-use Rattle.fx_step.specs.Frame.{Samples}
-use Rattle.fx_step.specs.Stage.{Given}
-use Rattle.fx_step.specs.Holds.{total}
-use Rattle.fx_step.specs.Given.{given_of}
+use Rattle.fx_frame_stage.specs.Frame.{Samples}
+use Rattle.fx_frame_stage.specs.Stage.{Given}
+use Rattle.fx_frame_stage.specs.Holds.{total}
+use Rattle.fx_frame_stage.specs.Given.{given_samples}
 
--- the frames that a mapping makes of frames
+-- the output frames of a mapping
 abbrev pub made_of : (Samples → Given) → List Samples → List Samples
 made_of mapped xs = map (λ x. (mapped x).samples) xs
 
@@ -13,6 +13,6 @@ made_of mapped xs = map (λ x. (mapped x).samples) xs
 abbrev pub clips_in : (Samples → Given) → List Samples → ℕ
 clips_in mapped xs = total (λ x. (mapped x).clips) xs
 
--- what it gives for a frame
+-- the output frame for a frame
 abbrev pub rounded_given : (ℤ → ℤ × Bool) → Samples → Given
-rounded_given rounded frame = given_of (map rounded frame)
+rounded_given rounded frame = given_samples (map rounded frame)

@@ -1,28 +1,28 @@
-//! What a stage stores, frame by frame, and what it stored, read again.
+//! What a stage stores, frame by frame, and how that is restored.
 ghost use Rattle.std.specs.Prelude.{◌≡◌, ◌<◌, ◌≤◌, ◌^◌, ◌++◌, ◌⊎◌, [], ℤ, IfOk, IfErr, Option, length, option_to_list, slice_index_or};
 ghost use Rattle.std.specs.Int.{w32, w64};
-ghost use Rattle.fx_step.specs.Frame.{Samples};
-ghost use Rattle.fx_ring.specs.Line.{Frames, IsLine};
+ghost use Rattle.fx_frame_stage.specs.Frame.{Samples};
+ghost use Rattle.fx_frame_line.specs.Line.{Frames, IsLine};
 ghost use Rattle.fx_frame.specs.Frozen.{IsStored, line_of};
 
 use crate::line::{Line, WideLine};
-use fx_step::hand::thawed_hand;
-use fx_step::{Frame, ThawFault, WideFrame};
+use fx_frame_stage::pending::thawed_pending;
+use fx_frame_stage::{Frame, ThawFault, WideFrame};
 use std::alloc::Global;
 
-/// The frame that a stage stores at a place, from 0: those of its line from the oldest on, and then the one in hand.
-pub fn stored_in(line: &Line, hand: Option<Frame>, place: usize) -> WideFrame
-    requires { place < length (line.now.items ++ option_to_list hand) }
-    ensures { result ≡ slice_index_or (line.now.items ++ option_to_list hand) place [] }
+/// The frame that a stage stores at a place, from 0: those of its line from the oldest on, and then the pending one.
+pub fn stored_in(line: &Line, pending: Option<Frame>, place: usize) -> WideFrame
+    requires { place < length (line.now.items ++ option_to_list pending) }
+    ensures { result ≡ slice_index_or (line.now.items ++ option_to_list pending) place [] }
 {
-    match line.get(place).or(hand) {
+    match line.get(place).or(pending) {
         Some(frame) => WideFrame::from_frame(frame),
         None => unreachable!(),
     }
 }
 
-/// The line of so many channels and places that holds these frames, the oldest first. BadSnapshot where
-/// there is none: too many frames, or one of other channels or of wider samples. Memory where a growth
+/// The line of `channels` channels and `capacity` places that holds these frames, the oldest first. BadSnapshot where
+/// there is none: too many frames, or one of other channels or of wider samples. Memory where an allocation
 /// was refused.
 pub fn thawed_line(
     alloc: Global,
@@ -55,8 +55,8 @@ pub fn thawed_line(
     Ok(line)
 }
 
-/// The line of so many channels and places that holds these wide frames, the oldest first. BadSnapshot
-/// where there is none: too many frames, or one of other channels. Memory where a growth was refused.
+/// The line of `channels` channels and `capacity` places that holds these wide frames, the oldest first. BadSnapshot
+/// where there is none: too many frames, or one of other channels. Memory where an allocation was refused.
 pub fn thawed_wide_line(
     alloc: Global,
     channels: usize,
@@ -85,27 +85,27 @@ pub fn thawed_wide_line(
     Ok(line)
 }
 
-/// The line and the frames in hand, none or one, of a stage that stored these frames. BadSnapshot where
-/// there are none, Memory where a growth was refused.
-pub fn thawed_line_and_hand(
+/// The line and the pending frame, none or one, of a stage that stored these frames. BadSnapshot where
+/// there are none, Memory where an allocation was refused.
+pub fn thawed_line_and_pending(
     alloc: Global,
     channels: usize,
     capacity: usize,
     frames: &[WideFrame],
-    hands: u64,
+    pending_count: u64,
 ) -> Result<(Line, Option<Frame>), ThawFault>
     requires channels { (1 ≤ channels) × (channels ≤ 16) }
     requires capacity { capacity ≤ 2 ^ 28 }
-    ensures found { IfOk result (λ p. IsStored channels capacity hands frames.now p.0 p.1) }
-    ensures only { IfOk result (λ p. (line : Frames ℤ) (hand : Option Samples) → IsStored channels capacity hands frames.now line hand → (p.0 ≡ line) × (p.1 ≡ hand)) }
-    ensures refused { IfErr result (λ e. (e ≡ ThawFault.Memory) ⊎ ((e ≡ ThawFault.BadSnapshot) × ((line : Frames ℤ) (hand : Option Samples) → IsStored channels capacity hands frames.now line hand → ⊥))) }
+    ensures found { IfOk result (λ p. IsStored channels capacity pending_count frames.now p.0 p.1) }
+    ensures only { IfOk result (λ p. (line : Frames ℤ) (pending : Option Samples) → IsStored channels capacity pending_count frames.now line pending → (p.0 ≡ line) × (p.1 ≡ pending)) }
+    ensures refused { IfErr result (λ e. (e ≡ ThawFault.Memory) ⊎ ((e ≡ ThawFault.BadSnapshot) × ((line : Frames ℤ) (pending : Option Samples) → IsStored channels capacity pending_count frames.now line pending → ⊥))) }
 {
     let count = frames.len() as u64;
-    if hands > 1 || hands > count {
+    if pending_count > 1 || pending_count > count {
         return Err(ThawFault::BadSnapshot);
     }
-    let (lined, held) = frames.split_at((count - hands) as usize);
-    let hand = thawed_hand(held, channels)?;
+    let (lined, held) = frames.split_at((count - pending_count) as usize);
+    let pending = thawed_pending(held, channels)?;
     let line = thawed_line(alloc, channels, capacity, lined)?;
-    Ok((line, hand))
+    Ok((line, pending))
 }

@@ -36,11 +36,11 @@ a & b = (a, b)
 -- the values of an enum
 pub exact_values : (N : Record) (each : Each Bool N.parts) → Exact N.parts each N.make → (a b : N.D) → Decides (by false false N.parts each (N.as_values a) (N.as_values b)) (a ≡ b)
 exact_values N each all a b =
-    let told = exact (λ d. place N.parts (N.as_values d)) 0 N.parts each N.make (λ c. let same = ap (place N.parts) (N.beta c) in omega arith) all (N.as_values a) (N.as_values b) in
-    (λ e. sym (N.eta a) ∙ told.0 e ∙ N.eta b, λ e. told.1 (N.eta a ∙ e ∙ sym (N.eta b)))
+    let delivered = exact (λ d. place N.parts (N.as_values d)) 0 N.parts each N.make (λ c. let same = ap (place N.parts) (N.beta c) in omega arith) all (N.as_values a) (N.as_values b) in
+    (λ e. sym (N.eta a) ∙ delivered.0 e ∙ N.eta b, λ e. delivered.1 (N.eta a ∙ e ∙ sym (N.eta b)))
 
 -- what a function tells of the values of an enum, where it tells the variant
-pub exact_told : {A : Type 0} (N : Record) (tell : N.D → A) (tag : A → ℕ) → ((d : N.D) → tag (tell d) ≡ place N.parts (N.as_values d)) → (each : Each Bool N.parts) → Exact N.parts each (λ c. tell (N.make c)) → (a b : N.D) → Decides (by false false N.parts each (N.as_values a) (N.as_values b)) (tell a ≡ tell b)
-exact_told N tell tag tagged each all a b =
-    let told = exact tag 0 N.parts each (λ c. tell (N.make c)) (λ c. let same = tagged (N.make c) ∙ ap (place N.parts) (N.beta c) in omega arith) all (N.as_values a) (N.as_values b) in
-    (λ e. sym (ap tell (N.eta a)) ∙ told.0 e ∙ ap tell (N.eta b), λ e. told.1 (ap tell (N.eta a) ∙ e ∙ sym (ap tell (N.eta b))))
+pub exact_stated : {A : Type 0} (N : Record) (tell : N.D → A) (tag : A → ℕ) → ((d : N.D) → tag (tell d) ≡ place N.parts (N.as_values d)) → (each : Each Bool N.parts) → Exact N.parts each (λ c. tell (N.make c)) → (a b : N.D) → Decides (by false false N.parts each (N.as_values a) (N.as_values b)) (tell a ≡ tell b)
+exact_stated N tell tag tagged each all a b =
+    let delivered = exact tag 0 N.parts each (λ c. tell (N.make c)) (λ c. let same = tagged (N.make c) ∙ ap (place N.parts) (N.beta c) in omega arith) all (N.as_values a) (N.as_values b) in
+    (λ e. sym (ap tell (N.eta a)) ∙ delivered.0 e ∙ ap tell (N.eta b), λ e. delivered.1 (ap tell (N.eta a) ∙ e ∙ sym (ap tell (N.eta b))))

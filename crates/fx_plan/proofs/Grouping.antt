@@ -1,7 +1,7 @@
 -- Effects by their first name.
 use Rattle.std.proofs.Common.{◌≡◌, ℕ, suc, ◌+◌, List, [], ◌∷◌, Bool, true, false, not, cond, take, drop, ap, ◌∙◌, refl, arith, add-one}
 use Rattle.std.specs.List.{position_or_len}
-use Rattle.fx_words.specs.Faults.{Word}
+use Rattle.fx_plan_words.specs.Faults.{Word}
 use Rattle.fx_plan.specs.Names.{is_name}
 use Rattle.fx_plan.specs.Groups.{Groups, groups_of, effects_of}
 

@@ -3,7 +3,7 @@ use Rattle.std.proofs.Common.{◌≡◌, List, [], ◌∷◌, Bool, true, ◌&&�
 use Rattle.std.proofs.lemmas.Bool.Decides.{nat_tests}
 use Rattle.std.specs.Str.{bytes_eq}
 use Rattle.fx_plan.specs.CommandLines.{file_in}
-use Rattle.fx_words.specs.Faults.{Word}
+use Rattle.fx_plan_words.specs.Faults.{Word}
 use Rattle.fx_plan.specs.Names.{name_of}
 use Rattle.fx_plan.specs.Plans.{is_file, is_fir, names_file}
 use Rattle.fx_plan.proofs.Refusing.{both}
@@ -12,8 +12,8 @@ use Rattle.fx_plan.proofs.Refusing.{both}
 one_word : (fir : Bool) (word : Word) (words : List Word) → (fir && is_file (word ∷ words)) ≡ true → words ≡ []
 one_word fir word [] h = refl
 one_word fir word (next ∷ more) h =
-    let behind = both fir (is_file (word ∷ next ∷ more)) h in
-    let alone = both (nat_eq (length (next ∷ more)) 0) (not (bytes_eq word (codes "-"))) behind.1 in
+    let rest_unchanged = both fir (is_file (word ∷ next ∷ more)) h in
+    let alone = both (nat_eq (length (next ∷ more)) 0) (not (bytes_eq word (codes "-"))) rest_unchanged.1 in
     let none : length (next ∷ more) ≡ 0 = grind (arith, nat_tests) in
     absurd (omega arith)
 

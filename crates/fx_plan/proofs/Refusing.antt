@@ -1,18 +1,18 @@
 -- The first of all faults, and what the effects behind one are.
 use Rattle.std.proofs.Common.{◌≡◌, ℕ, ◌+◌, inl, inr, List, [], ◌∷◌, ◌++◌, map, Some, refl, ap, sym, ◌∙◌, ◌≤◌, arith, nat_lt, Bool, ◌&&◌, false, true}
 use Rattle.std.proofs.lemmas.Bool.Decides.{nat_tests}
-use Rattle.fx_effects.specs.declared.effect.Layout.{Layout}
-use Rattle.fx_words.specs.declared.fault.Mark.{Mark}
+use Rattle.fx_plan_effects.specs.declared.effect.Layout.{Layout}
+use Rattle.fx_plan_words.specs.declared.fault.Mark.{Mark}
 use Rattle.fx_plan.specs.declared.fault.PlanFault.{PlanFault}
-use Rattle.fx_words.specs.declared.fault.Refusal.{Refusal}
-use Rattle.fx_words.specs.declared.fault.Refusal.TheVariants as refusals
-use Rattle.fx_words.specs.Faults.{Word, Refuses, first_of}
-use Rattle.fx_effects.specs.Effects.{Act, all_fit, fits_layout, layout_after}
+use Rattle.fx_plan_words.specs.declared.fault.WordsRefusal.{WordsRefusal}
+use Rattle.fx_plan_words.specs.declared.fault.WordsRefusal.TheVariants as refusals
+use Rattle.fx_plan_words.specs.Faults.{Word, RefusesWords, first_of}
+use Rattle.fx_plan_effects.specs.Effects.{Act, all_fit, fits_layout, layout_after}
 use Rattle.fx_plan.specs.Names.{effect_faults}
 use Rattle.fx_plan.specs.Plans.{RefusesPlan, acts_of, at_effect, done, effects_faults, fault_of, files_after, last_layout, next_file, step_faults}
 
 -- a refusal of an effect's words refuses the plan
-pub refuses_effect : (number : ℕ) (r : Refusal) (faults : List Mark) → Refuses r faults → RefusesPlan (fault_of number r) (map (at_effect number) faults)
+pub refuses_effect : (number : ℕ) (r : WordsRefusal) (faults : List Mark) → RefusesWords r faults → RefusesPlan (fault_of number r) (map (at_effect number) faults)
 refuses_effect number refusals.Memory faults h = inl refl
 refuses_effect number (refusals.Marked m) [] h = cc
 refuses_effect number (refusals.Marked m) (x ∷ xs) h = inr cc
@@ -24,8 +24,8 @@ refuses_front f [] back all e (inr h) = cc
 refuses_front f (x ∷ xs) back all e (inr h) = inr (sym (ap first_of e) ∙ h)
 
 -- the fault of the effect of a number
-pub refuses_step : (number : ℕ) (layout : Layout) (file : List ℕ) (words : List Word) (r : Refusal) → number ≤ 32 → Refuses r (effect_faults layout file words) → RefusesPlan (fault_of number r) (step_faults number layout file words)
-refuses_step number layout file words r few h =
+pub refuses_step : (number : ℕ) (layout : Layout) (file : List ℕ) (words : List Word) (r : WordsRefusal) → number ≤ 32 → RefusesWords r (effect_faults layout file words) → RefusesPlan (fault_of number r) (step_faults number layout file words)
+refuses_step number layout file words r bound h =
     let within : nat_lt 32 number ≡ false = grind (arith, nat_tests) in
     rw within (refuses_effect number r (effect_faults layout file words) h)
 
@@ -59,16 +59,16 @@ both true t h = (refl, h)
 both false t h = cc
 
 -- the layout behind effects
-abbrev pub layout_behind : Layout → List Act → Layout
-layout_behind layout [] = layout
-layout_behind layout (a ∷ acts) = layout_behind (layout_after layout (Some a)) acts
+abbrev pub layout_after_effects : Layout → List Act → Layout
+layout_after_effects layout [] = layout
+layout_after_effects layout (a ∷ acts) = layout_after_effects (layout_after layout (Some a)) acts
 
 -- one effect more
-pub behind-push : (layout : Layout) (acts : List Act) (a : Act) → layout_behind layout (acts ++ a ∷ []) ≡ layout_after (layout_behind layout acts) (Some a)
-behind-push layout [] a = refl
-behind-push layout (b ∷ acts) a = behind-push (layout_after layout (Some b)) acts a
+pub rest_unchanged-push : (layout : Layout) (acts : List Act) (a : Act) → layout_after_effects layout (acts ++ a ∷ []) ≡ layout_after (layout_after_effects layout acts) (Some a)
+rest_unchanged-push layout [] a = refl
+rest_unchanged-push layout (b ∷ acts) a = rest_unchanged-push (layout_after layout (Some b)) acts a
 
-pub fit-push : (layout : Layout) (acts : List Act) (a : Act) → all_fit layout acts ≡ true → fits_layout (layout_behind layout acts) a ≡ true → all_fit layout (acts ++ a ∷ []) ≡ true
+pub fit-push : (layout : Layout) (acts : List Act) (a : Act) → all_fit layout acts ≡ true → fits_layout (layout_after_effects layout acts) a ≡ true → all_fit layout (acts ++ a ∷ []) ≡ true
 fit-push layout [] a h k = rw k refl
 fit-push layout (b ∷ acts) a h k =
     let parts = both (fits_layout layout b) (all_fit (layout_after layout (Some b)) acts) h in

@@ -1,19 +1,19 @@
--- What a command line tells of its words: where its sounds are, its effects, and the coefficient files that they name
+-- The content of a command line: where its sounds are, its effects, and the coefficient files that they name
 -- (this project's profile of sox(1), SYNOPSIS, and of its EFFECTS, fir).
 use Rattle.std.specs.Prelude.{ℕ, ◌-◌, ◌≡◌, if◌then◌else◌, is_some, slice_get, unwrap_or, List, [], flat_map, codes, drop, Option, Some, None, Result, Ok, Err}
 use Rattle.std.specs.Str.{bytes_eq}
-use Rattle.fx_line.specs.declared.line.LineFault.{LineFault}
-use Rattle.fx_line.specs.declared.line.LineFault.TheVariants.{Memory}
-use Rattle.fx_line.specs.Line.{Said}
-use Rattle.fx_heads.specs.declared.head.Head.{Head}
-use Rattle.fx_plan.specs.declared.command_line.Stream.{Stream}
-use Rattle.fx_plan.specs.declared.command_line.Stream.TheVariants.{Standard, Named}
-use Rattle.fx_words.specs.Faults.{Word}
+use Rattle.fx_plan_line.specs.declared.line.LineFault.{LineFault}
+use Rattle.fx_plan_line.specs.declared.line.LineFault.TheVariants.{Memory}
+use Rattle.fx_plan_line.specs.Line.{Said}
+use Rattle.fx_sound_heads.specs.declared.head.Head.{Head}
+use Rattle.fx_plan.specs.declared.command_line.Endpoint.{Endpoint}
+use Rattle.fx_plan.specs.declared.command_line.Endpoint.TheVariants.{Standard, Named}
+use Rattle.fx_plan_words.specs.Faults.{Word}
 use Rattle.fx_plan.specs.Groups.{effects_of}
 use Rattle.fx_plan.specs.Planning.{Planning, planning_of}
 use Rattle.fx_plan.specs.Plans.{names_file}
 
--- what is answered for words that make a line or have a fault: want of memory keeps a line back, and hides no fault
+-- the result for words that make a line or have a fault: lack of memory may replace a line, but no fault
 abbrev pub LineReads : Result Said LineFault → Result Said LineFault → Type 0
 LineReads (Ok line) (Ok found) = found ≡ line
 LineReads (Ok line) (Err fault) = fault ≡ Memory
@@ -23,7 +23,7 @@ LineReads (Err fault) found = found ≡ Err fault
 abbrev pub file_name : Word → Option Word
 file_name word = if bytes_eq word (codes "-") then None else Some word
 
-abbrev pub name_in : Stream → Option Word
+abbrev pub name_in : Endpoint → Option Word
 name_in Standard = None
 name_in (Named name) = Some name.now
 
@@ -35,7 +35,7 @@ effects_in line = effects_of line.effects
 abbrev pub effect_words : ℕ → List (List Word) → List Word
 effect_words number effects = unwrap_or (slice_get effects (number - 1)) []
 
--- the coefficient file that an effect names: the one word behind its `fir`
+-- the coefficient file that an effect names: the one word after its `fir`
 abbrev pub file_in : List Word → List Word
 file_in words = if names_file words then drop 1 words else []
 

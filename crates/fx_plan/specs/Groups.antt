@@ -1,6 +1,6 @@
 -- The effects that the words after the output are: each begins with a name, and any other word belongs to the one before it.
 use Rattle.std.specs.Prelude.{if◌then◌else◌, List, [], ◌∷◌}
-use Rattle.fx_words.specs.Faults.{Word}
+use Rattle.fx_plan_words.specs.Faults.{Word}
 use Rattle.fx_plan.specs.Names.{is_name}
 
 -- the words before the first name, and the effects from that name on
@@ -14,7 +14,7 @@ abbrev pub groups_of : List Word → Groups
 groups_of [] = ([], [])
 groups_of (word ∷ words) = with_word word (groups_of words)
 
--- the first word counts as a name, whatever it is
+-- the first word counts as a name in any case
 abbrev pub effects_of : List Word → List (List Word)
 effects_of [] = []
 effects_of (word ∷ words) = (word ∷ (groups_of words).0) ∷ (groups_of words).1

@@ -4,3 +4,5 @@ pub mod Groups
 pub mod Names
 pub mod Planning
 pub mod Plans
+pub mod Refusals
+pub mod Registry

@@ -1,18 +1,18 @@
--- What a plan tells (this project's profile).
+-- The content of a plan (this project's profile).
 use Rattle.std.specs.Prelude.{ℕ, Bool, List, map, Option, unwrap_or}
-use Rattle.fx_io.specs.declared.coding.Coding.{Coding}
-use Rattle.fx_line.specs.Bits.{bits_in, coding_with}
-use Rattle.fx_line.specs.declared.bits.Bits.{Bits}
-use Rattle.fx_heads.specs.declared.head.Head.{Head}
-use Rattle.fx_heads.specs.declared.head.Kind.{Kind}
-use Rattle.fx_effects.specs.declared.effect.Layout.{Layout}
+use Rattle.fx_frame_io.specs.declared.coding.Coding.{Coding}
+use Rattle.fx_plan_line.specs.Bits.{bits_in, coding_with}
+use Rattle.fx_plan_line.specs.declared.bits.Bits.{Bits}
+use Rattle.fx_sound_heads.specs.declared.head.Head.{Head}
+use Rattle.fx_sound_heads.specs.declared.head.Kind.{Kind}
+use Rattle.fx_plan_effects.specs.declared.effect.Layout.{Layout}
 use Rattle.fx_plan.specs.declared.accepted.Plan.{Plan}
-use Rattle.fx_effects.specs.Effects.{Act, act}
+use Rattle.fx_plan_effects.specs.Effects.{Act, act}
 use Rattle.fx_plan.specs.Plans.{head_layout, acts_of, last_layout}
-use Rattle.fx_words.specs.Faults.{Word}
+use Rattle.fx_plan_words.specs.Faults.{Word}
 
 -- a plan's parts: the input's head; the output's container, coding and whether it is a file; what the effects do, and
--- the layout behind them
+-- the layout after them
 pub record Planning : Type 0 where
   pub head : Head
   pub kind : Kind
@@ -31,7 +31,7 @@ planning plan = record {
   layout = plan.layout;
 }
 
--- the parts of the plan of these effects' words; the output has samples of so many bits, by default those of the input
+-- the parts of the plan of these effects' words; the output has samples of these bits, by default those of the input
 abbrev pub planning_of : Head → Bool → Kind → Option Bits → List (List ℕ) → List (List Word) → Planning
 planning_of head is_named kind bits files effects = record {
   head = head;

@@ -1,21 +1,21 @@
-//! How a plan is made, and what it tells.
+//! How a plan is made, and its content.
 
 ghost use Rattle.std.specs.Prelude.{◌≡◌, ℕ, ◌<◌, ◌≤◌, ◌-◌, ◌*◌, ◌^◌, IfOk, IsTrue, Some, false, length, map, slice_get, true};
-ghost use Rattle.fx_heads.specs.Kind.{is_coding_of};
-ghost use Rattle.fx_effects.specs.Bounds.{hold_all, hold_of, is_too_long, work_of};
+ghost use Rattle.fx_sound_heads.specs.Kind.{is_coding_of};
+ghost use Rattle.fx_plan_effects.specs.Bounds.{hold_all, hold_of_act, is_too_long, work_of};
 ghost use Rattle.std.specs.List.{All};
-ghost use Rattle.fx_effects.specs.Effects.{IsLayout, Usable, act, all_fit, name_text};
-ghost use Rattle.fx_plan.specs.Plans.{head_layout, PlanReads, all_faults, bytes_of};
-ghost use Rattle.fx_words.specs.Faults.{texts};
+ghost use Rattle.fx_plan_effects.specs.Effects.{IsLayout, Usable, act, all_fit, name_text};
+ghost use Rattle.fx_plan.specs.Plans.{head_layout, PlanReads, all_faults, plan_bytes};
+ghost use Rattle.fx_plan_words.specs.Faults.{word_texts};
 ghost use Rattle.fx_plan.specs.Groups.{effects_of};
 ghost use Rattle.fx_plan.specs.Planning.{planning, planning_of};
 
 use crate::accepted::Plan;
 use crate::fault::PlanFault;
 use crate::planned::{copy_effects, read_plan};
-use fx_effects::{Effect, Layout, hold, work};
 use fx_frame::Coding;
-use fx_line::Bits;
+use fx_plan_effects::{Effect, Layout, hold, work};
+use fx_plan_line::Bits;
 use fx_sound::{Head, Kind};
 use std::alloc::{AllocError, Global};
 
@@ -27,8 +27,8 @@ fn layout_of(rate: u32, channels: usize) -> Layout
     Layout { rate, channels }
 }
 
-/// The plan of the effects that the words after the output are, behind a head; the output is of this kind, with
-/// samples of so many bits, or of those of the input.
+/// The plan of the effects that the words after the output are, after a head; the output is of this kind, with
+/// samples of these bits, or of those of the input.
 pub fn plan_words(
     alloc: Global,
     head: &Head,
@@ -38,7 +38,7 @@ pub fn plan_words(
     bits: Option<Bits>,
     files: &[Vec<u8>],
 ) -> Result<Plan, PlanFault>
-    ensures { PlanReads planning result (all_faults (head_layout head.now) (bytes_of files.now) (effects_of (texts words.now))) (planning_of head.now is_named kind bits (bytes_of files.now) (effects_of (texts words.now))) }
+    ensures { PlanReads planning result (all_faults (head_layout head.now) (plan_bytes files.now) (effects_of (word_texts words.now))) (planning_of head.now is_named kind bits (plan_bytes files.now) (effects_of (word_texts words.now))) }
 {
     let layout = layout_of(head.rate, head.channels);
     let planned = read_plan(alloc, layout, words, files)?;
@@ -58,7 +58,7 @@ impl Plan {
         ensures value { result ≡ (planning self.now).head }
         ensures rated { 0 < result.rate }
         ensures some { 0 < result.channels }
-        ensures most { result.channels ≤ 16 }
+        ensures maximum { result.channels ≤ 16 }
     {
         self.head
     }
@@ -70,7 +70,7 @@ impl Plan {
         self.kind
     }
 
-    /// How a sample of the output stands in bytes.
+    /// How a sample of the output is coded in bytes.
     pub fn coding(&self) -> Coding
         ensures value { result ≡ (planning self.now).coding }
         ensures kind { IsTrue (is_coding_of (planning self.now).kind result) }
@@ -85,19 +85,19 @@ impl Plan {
         self.is_named
     }
 
-    /// Frames of the output in a second.
+    /// Frames per second of the output.
     pub fn rate(&self) -> u32
         ensures value { result ≡ (planning self.now).layout.rate }
-        ensures least { 0 < result }
+        ensures minimum { 0 < result }
     {
         self.layout.rate
     }
 
-    /// Samples in a frame of the output, 1 to 16.
+    /// Samples per frame of the output, 1 to 16.
     pub fn channels(&self) -> usize
         ensures value { result ≡ (planning self.now).layout.channels }
-        ensures least { 0 < result }
-        ensures most { result ≤ 16 }
+        ensures minimum { 0 < result }
+        ensures maximum { result ≤ 16 }
     {
         self.layout.channels
     }
@@ -105,7 +105,7 @@ impl Plan {
     /// How many effects there are, at most 32.
     pub fn effect_count(&self) -> usize
         ensures value { result ≡ length (planning self.now).acts }
-        ensures most { result ≤ 32 }
+        ensures maximum { result ≤ 32 }
     {
         self.effects.len()
     }
@@ -113,27 +113,27 @@ impl Plan {
     /// How many frames a chain of the effects holds at most: one before the first effect, and what each holds.
     pub fn hold(&self) -> u64
         ensures value { result ≡ hold_all (planning self.now).acts }
-        ensures most { result ≤ 2 ^ 28 }
+        ensures maximum { result ≤ 2 ^ 28 }
     {
         hold(&self.effects)
     }
 
-    /// How many frames effect `number`, counted from 1, holds at most: its line and one in hand.
+    /// How many frames effect `number`, counted from 1, holds at most: its line and one pending frame.
     pub fn hold_of(&self, number: usize) -> u64
         requires first { 1 ≤ number }
         requires last { number ≤ length (planning self.now).acts }
-        ensures { slice_get (map hold_of (planning self.now).acts) (number - 1) ≡ Some result }
+        ensures { slice_get (map hold_of_act (planning self.now).acts) (number - 1) ≡ Some result }
     {
         self.effects[number - 1].line() + 1
     }
 
-    /// How many frames the inlet and the effects hand over for so many frames at the most. More frames never make it
-    /// less.
+    /// How many frames the inlet and the effects hand over for `frames` frames at most. It never
+    /// decreases with more frames.
     pub fn work(&self, frames: u64) -> u64
         requires { frames ≤ 2 ^ 40 }
         ensures value { result ≡ work_of (planning self.now).acts frames }
         ensures rises { (fewer : ℕ) → fewer ≤ frames → work_of (planning self.now).acts fewer ≤ result }
-        ensures most { result ≤ 33 * 2 ^ 56 }
+        ensures maximum { result ≤ 33 * 2 ^ 56 }
     {
         work(&self.effects, frames)
     }
@@ -162,14 +162,14 @@ impl Plan {
         })
     }
 
-    /// The effects with their arguments, in order. The first of them is behind the layout of the head, each other one
-    /// behind that which those before it leave; there each meets what its place asks for.
+    /// The effects with their arguments, in order. The first of them is after the layout of the head, each other one
+    /// after the layout that those before it produce; there each satisfies the requirements of its place.
     pub fn effects(&self) -> &[Effect]
         ensures value { map act result.now ≡ (planning self.now).acts }
         ensures layout { IsLayout (head_layout (planning self.now).head) }
         ensures usable { All Usable (map act result.now) }
         ensures fit { all_fit (head_layout (planning self.now).head) (map act result.now) ≡ true }
-        ensures few { length result.now ≤ 32 }
+        ensures bound { length result.now ≤ 32 }
         ensures held { hold_all (map act result.now) ≤ 2 ^ 28 }
         ensures short { is_too_long (map act result.now) ≡ false }
     {

@@ -1,31 +1,31 @@
 //! The command line, read once and kept: where the sounds are, their kinds, and the words of the effects.
 
 ghost use Rattle.std.specs.Prelude.{◌≡◌, ◌≤◌, ◌-◌, IfOk, Some, is_some, length, map, slice_get, string_bytes};
-ghost use Rattle.fx_line.specs.Line.{line_of, shown};
+ghost use Rattle.fx_plan_line.specs.Line.{line_of_words, shown_line};
 ghost use Rattle.fx_plan.specs.CommandLines.{LineReads, coefficient_files, effect_words, effects_in, file_name, name_in, planning_in};
-ghost use Rattle.fx_plan.specs.Plans.{head_layout, PlanReads, all_faults, bytes_of};
-ghost use Rattle.fx_words.specs.Faults.{texts};
+ghost use Rattle.fx_plan.specs.Plans.{head_layout, PlanReads, all_faults, plan_bytes};
+ghost use Rattle.fx_plan_words.specs.Faults.{word_texts};
 ghost use Rattle.fx_plan.specs.Planning.{planning};
 
 use crate::accepted::Plan;
 use crate::answers::plan_words;
 use crate::fault::PlanFault;
 use crate::listing::{count_effects, count_files, effect_at, file_at, list_files};
-use fx_line::{Bits, CommandWords, LineFault, read_line};
+use fx_plan_line::{Bits, CommandWords, LineFault, read_line};
 use fx_sound::{Head, Kind};
 use std::alloc::{AllocError, Global};
 use std::marker::Model;
 
 /// Where a sound comes from or goes to.
 #[derive(Clone, Copy, Debug, PartialEq, Eq)]
-pub enum Stream<'a> {
+pub enum Endpoint<'a> {
     /// Standard input or standard output.
     Standard,
     /// The file of this name.
     Named(&'a str),
 }
 
-/// What the words of a command line say, kept for as long as it is needed.
+/// The meaning of the words of a command line, owned.
 #[derive(Debug, Drop)]
 pub struct CommandLine {
     input_kind: Option<Kind>,
@@ -38,7 +38,7 @@ pub struct CommandLine {
 
 impl Model for CommandLine {
     ghost use Rattle.std.specs.Prelude.{string_bytes};
-    ghost use Rattle.fx_line.specs.Line.{Said, texts};
+    ghost use Rattle.fx_plan_line.specs.Line.{Said, texts};
 
     ghost Value = { Said };
 
@@ -54,7 +54,7 @@ impl Model for CommandLine {
 
 /// A copy of words.
 fn copy_words(alloc: Global, words: &[String]) -> Result<Vec<String>, AllocError>
-    ensures { IfOk result (λ copies. texts copies.items ≡ texts words.now) }
+    ensures { IfOk result (λ copies. word_texts copies.items ≡ word_texts words.now) }
 {
     let mut copies = Vec::new(alloc);
     let mut rest = words;
@@ -66,18 +66,18 @@ fn copy_words(alloc: Global, words: &[String]) -> Result<Vec<String>, AllocError
 }
 
 /// The stream that a word stands for.
-fn stream_of(word: &str) -> Stream<'_>
+fn stream_of(word: &str) -> Endpoint<'_>
     ensures { name_in result ≡ file_name word.now }
 {
     if word == "-" {
-        return Stream::Standard;
+        return Endpoint::Standard;
     }
-    Stream::Named(word)
+    Endpoint::Named(word)
 }
 
-/// A line of its own of words that were read.
+/// An owned copy of a line that was read.
 fn copy_line(alloc: Global, found: CommandWords<'_>) -> Result<CommandLine, AllocError>
-    ensures { IfOk result (λ line. line ≡ shown found.entry) }
+    ensures { IfOk result (λ line. line ≡ shown_line found.entry) }
 {
     Ok(CommandLine {
         input_kind: found.input_kind,
@@ -92,7 +92,7 @@ fn copy_line(alloc: Global, found: CommandWords<'_>) -> Result<CommandLine, Allo
 /// Reads the words of a command line, without the program's name: the line that they make, or the first fault from
 /// left to right. `Memory` comes only for words without a fault.
 pub fn parse_line(alloc: Global, words: &[String]) -> Result<CommandLine, LineFault>
-    ensures { LineReads (line_of (texts words.now)) result }
+    ensures { LineReads (line_of_words (word_texts words.now)) result }
 {
     let found = read_line(words)?;
     copy_line(alloc, found).map_err(|_| LineFault::Memory)
@@ -100,20 +100,20 @@ pub fn parse_line(alloc: Global, words: &[String]) -> Result<CommandLine, LineFa
 
 impl CommandLine {
     /// Where the sound comes from.
-    pub fn input(&self) -> Stream<'_>
+    pub fn input(&self) -> Endpoint<'_>
         ensures { name_in result ≡ file_name self.now.input }
     {
         stream_of(&self.input)
     }
 
     /// Where the sound goes to.
-    pub fn output(&self) -> Stream<'_>
+    pub fn output(&self) -> Endpoint<'_>
         ensures { name_in result ≡ file_name self.now.output }
     {
         stream_of(&self.output)
     }
 
-    /// The container that the input has to be; None where its first bytes say it.
+    /// The required container of the input; None where its first bytes determine it.
     pub fn input_kind(&self) -> Option<Kind>
         ensures { result ≡ self.now.input_kind }
     {
@@ -184,27 +184,27 @@ impl CommandLine {
     fn is_named(&self) -> bool
         ensures { result ≡ is_some (file_name self.now.output) }
     {
-        matches!(self.output(), Stream::Named(_))
+        matches!(self.output(), Endpoint::Named(_))
     }
 }
 
 /// The names of all coefficient files of a line, in the order of the effects; AllocError where memory for the list is refused. It
-/// goes over the words once.
+/// scans the words once.
 pub fn coefficient_file_names(alloc: Global, line: &CommandLine) -> Result<Vec<&str>, AllocError>
     ensures { IfOk result (λ names. map (λ name. name.now) names.items ≡ coefficient_files (effects_in line.now)) }
 {
     list_files(alloc, &line.words)
 }
 
-/// The plan of a line's effects behind the input's head, with the bytes of each coefficient file, in order; or the
-/// first of all faults, or want of memory. A coefficient file that is not there counts as one without a byte.
+/// The plan of a line's effects after the input's head, with the bytes of each coefficient file, in order; or the
+/// first of all faults, or lack of memory. A coefficient file that is missing counts as an empty one.
 pub fn plan(
     alloc: Global,
     line: &CommandLine,
     head: &Head,
     files: &[Vec<u8>],
 ) -> Result<Plan, PlanFault>
-    ensures { PlanReads planning result (all_faults (head_layout head.now) (bytes_of files.now) (effects_in line.now)) (planning_in head.now line.now (bytes_of files.now)) }
+    ensures { PlanReads planning result (all_faults (head_layout head.now) (plan_bytes files.now) (effects_in line.now)) (planning_in head.now line.now (plan_bytes files.now)) }
 {
     plan_words(
         alloc,

@@ -8,8 +8,8 @@ ghost use Rattle.fx_plan.specs.Planning.{planning};
 
 use crate::accepted::Plan;
 
-// Two plans are equal exactly where they have the same parts and their effects do the same. Of two references `*p == *q`
-// tells so; `p == q` and `!=` tell only the test, of which the lemma `plan_exact` says what it tests.
+// Two plans are equal exactly where they have the same parts and their effects do the same. Of two references, `*p == *q`
+// states so; `p == q` and `!=` state only the test, and the lemma `plan_exact` states what the test decides.
 impl PartialEq for Plan {
     ghost eq = { same_parts };
 

@@ -2,13 +2,13 @@
 
 ghost use Rattle.std.specs.Prelude.{◌≡◌, ◌<◌, ◌≤◌, ◌∷◌, [], IfSome, MatchOption, length, string_bytes};
 ghost use Rattle.std.specs.List.{position_or_len};
-ghost use Rattle.fx_words.specs.Faults.{texts};
+ghost use Rattle.fx_plan_words.specs.Faults.{word_texts};
 ghost use Rattle.fx_plan.specs.Groups.{effects_of};
 ghost use Rattle.fx_plan.specs.Names;
 
-use crate::name::{Name, read_name};
+use crate::registry::{Name, read_name};
 
-/// Whether a word is the name of an effect, left out or not.
+/// Whether a word is the name of an effect, supported or not.
 fn is_name(word: &str) -> bool
     ensures { result ≡ Names.is_name word.now }
 {
@@ -18,7 +18,7 @@ fn is_name(word: &str) -> bool
 /// How many words stand before the first name.
 #[tactic(auto, using(std::proofs::lemmas::List::Sums::position_or_len_is))]
 fn words_before_name(words: &[String]) -> usize
-    ensures value { result ≡ position_or_len Names.is_name (texts words.now) }
+    ensures value { result ≡ position_or_len Names.is_name (word_texts words.now) }
     ensures within { result ≤ length words.now }
 {
     let mut rest = words;
@@ -33,10 +33,10 @@ fn words_before_name(words: &[String]) -> usize
     count
 }
 
-/// The words of the first effect, its name in front, and the words of the effects behind it.
+/// The words of the first effect, its name first, and the words of the effects after it.
 pub fn next_effect(words: &[String]) -> Option<(&[String], &[String])>
     ensures effects { MatchOption result (words.now ≡ [])
-        (λ x. effects_of (texts words.now) ≡ texts x.0.now ∷ effects_of (texts x.1.now)) }
+        (λ x. effects_of (word_texts words.now) ≡ word_texts x.0.now ∷ effects_of (word_texts x.1.now)) }
     ensures named { IfSome result (λ x. 0 < length x.0.now) }
     ensures shorter { IfSome result (λ x. length x.1.now < length words.now) }
 {
@@ -44,10 +44,10 @@ pub fn next_effect(words: &[String]) -> Option<(&[String], &[String])>
     Some(words.split_at(words_before_name(others) + 1))
 }
 
-/// The first effect's name, its other words, and the words of the effects behind it.
+/// The first effect's name, its other words, and the words of the effects after it.
 pub fn split_effect(words: &[String]) -> Option<(&String, &[String], &[String])>
     ensures effects { MatchOption result (words.now ≡ [])
-        (λ x. effects_of (texts words.now) ≡ (string_bytes x.0.now ∷ texts x.1.now) ∷ effects_of (texts x.2.now)) }
+        (λ x. effects_of (word_texts words.now) ≡ (string_bytes x.0.now ∷ word_texts x.1.now) ∷ effects_of (word_texts x.2.now)) }
     ensures shorter { IfSome result (λ x. length x.2.now < length words.now) }
 {
     let (effect, rest) = next_effect(words)?;

@@ -11,9 +11,11 @@ pub mod inner;
 mod listing;
 mod name;
 mod planned;
+mod registry;
+mod whole_sound;
 
 pub use accepted::Plan;
-pub use command_line::{CommandLine, Stream, parse_line, plan};
+pub use command_line::{CommandLine, Endpoint, parse_line, plan};
 pub use fault::PlanFault;
-pub use fx_line::{Bits, LineFault};
-pub use fx_words::PlanCause;
+pub use fx_plan_line::{Bits, LineFault};
+pub use fx_plan_words::PlanCause;

@@ -2,7 +2,7 @@
 
 ghost use Rattle.std.specs.Prelude.{◌≡◌, ◌∷◌, [], IfOk, MatchOption, None, Some, length, map, slice_get, string_bytes, unwrap_or};
 ghost use Rattle.fx_plan.specs.CommandLines.{coefficient_files, file_in};
-ghost use Rattle.fx_words.specs.Faults.{texts};
+ghost use Rattle.fx_plan_words.specs.Faults.{word_texts};
 ghost use Rattle.fx_plan.specs.Groups.{effects_of};
 
 use crate::groups::next_effect;
@@ -11,7 +11,7 @@ use std::alloc::{AllocError, Global};
 
 /// How many effects the words name.
 pub fn count_effects(words: &[String]) -> usize
-    ensures { result ≡ length (effects_of (texts words.now)) }
+    ensures { result ≡ length (effects_of (word_texts words.now)) }
 {
     let mut rest = words;
     let mut count = 0;
@@ -24,7 +24,7 @@ pub fn count_effects(words: &[String]) -> usize
 
 /// The words of the effect at this place, counted from 0; none where there is no such effect.
 pub fn effect_at(words: &[String], place: usize) -> &[String]
-    ensures { texts result.now ≡ unwrap_or (slice_get (effects_of (texts words.now)) place) [] }
+    ensures { word_texts result.now ≡ unwrap_or (slice_get (effects_of (word_texts words.now)) place) [] }
 {
     let mut rest = words;
     let mut left = place;
@@ -40,7 +40,7 @@ pub fn effect_at(words: &[String], place: usize) -> &[String]
 
 /// The coefficient file that an effect names.
 fn read_file(effect: &[String]) -> Option<&String>
-    ensures { MatchOption result (file_in (texts effect.now) ≡ []) (λ name. file_in (texts effect.now) ≡ string_bytes name.now ∷ []) }
+    ensures { MatchOption result (file_in (word_texts effect.now) ≡ []) (λ name. file_in (word_texts effect.now) ≡ string_bytes name.now ∷ []) }
 {
     let (name, words) = effect.split_first()?;
     if !names_file(name, words) {
@@ -52,7 +52,7 @@ fn read_file(effect: &[String]) -> Option<&String>
 
 /// How many coefficient files the effects of the words name.
 pub fn count_files(words: &[String]) -> usize
-    ensures { result ≡ length (coefficient_files (effects_of (texts words.now))) }
+    ensures { result ≡ length (coefficient_files (effects_of (word_texts words.now))) }
 {
     let mut rest = words;
     let mut count = 0;
@@ -65,9 +65,9 @@ pub fn count_files(words: &[String]) -> usize
     count
 }
 
-/// The name of the coefficient file at this place, counted from 0, if there are so many.
+/// The name of the coefficient file at this place, counted from 0, if there are that many.
 pub fn file_at(words: &[String], place: usize) -> Option<&String>
-    ensures { MatchOption result (slice_get (coefficient_files (effects_of (texts words.now))) place ≡ None) (λ name. slice_get (coefficient_files (effects_of (texts words.now))) place ≡ Some (string_bytes name.now)) }
+    ensures { MatchOption result (slice_get (coefficient_files (effects_of (word_texts words.now))) place ≡ None) (λ name. slice_get (coefficient_files (effects_of (word_texts words.now))) place ≡ Some (string_bytes name.now)) }
 {
     let mut rest = words;
     let mut left = place;
@@ -86,7 +86,7 @@ pub fn file_at(words: &[String], place: usize) -> Option<&String>
 
 /// The names of all coefficient files, in order; AllocError where memory for the list is refused.
 pub fn list_files(alloc: Global, words: &[String]) -> Result<Vec<&str>, AllocError>
-    ensures { IfOk result (λ names. map (λ name. name.now) names.items ≡ coefficient_files (effects_of (texts words.now))) }
+    ensures { IfOk result (λ names. map (λ name. name.now) names.items ≡ coefficient_files (effects_of (word_texts words.now))) }
 {
     let mut names = Vec::new(alloc);
     let mut rest = words;

@@ -5,25 +5,25 @@ use Rattle.std.proofs.lemmas.Grind.{flat_map-append}
 use Rattle.std.proofs.lemmas.List.Sums.{count_by_more_yes, count_by_more_no, sum_by-append}
 use Rattle.std.proofs.Math.Seq.{drop-cons, take-add}
 use Rattle.std.specs.List.{All}
-use Rattle.fx_io.specs.declared.coding.Coding.{Coding}
-use Rattle.fx_io.specs.declared.coding.Coding.TheVariants.{U8, S8, S16Le, S16Be, S24Le, S24Be, S32Le, S32Be}
-use Rattle.fx_io.specs.Coding.{width_of, read_sample, written, clips_written}
-use Rattle.fx_step.specs.Frame.{Samples}
-use Rattle.fx_heads.specs.FrameCoding.{samples_of, bytes_of, clips_of}
-use Rattle.fx_lists.specs.Lists.{pieces}
-use Rattle.fx_lists.proofs.Puts.{pieces-suc}
+use Rattle.fx_frame_io.specs.declared.coding.Coding.{Coding}
+use Rattle.fx_frame_io.specs.declared.coding.Coding.TheVariants.{U8, S8, S16Le, S16Be, S24Le, S24Be, S32Le, S32Be}
+use Rattle.fx_frame_io.specs.Coding.{width_of, read_sample, written_sample, clips_written}
+use Rattle.fx_frame_stage.specs.Frame.{Samples}
+use Rattle.fx_sound_heads.specs.FrameCoding.{coded_samples, bytes_of, clips_of}
+use Rattle.fx_frame_lists.specs.Lists.{pieces}
+use Rattle.fx_frame_lists.proofs.Puts.{pieces-suc}
 use borrow.Rule.Slice.PartMut.{put_mid}
 use mir.Val.{bool_byte}
 
 -- one sample more is read
 pub samples_of-more : (coding : Coding) (n : ℕ) (bytes : List ℕ)
-    → samples_of coding (n + 1) bytes ≡ samples_of coding n bytes ++ read_sample coding (take (width_of coding) (drop (n * width_of coding) bytes)) ∷ []
+    → coded_samples coding (n + 1) bytes ≡ coded_samples coding n bytes ++ read_sample coding (take (width_of coding) (drop (n * width_of coding) bytes)) ∷ []
 samples_of-more coding n bytes =
     rw add-one (ap (map (read_sample coding)) (pieces-suc (width_of coding) n bytes)
     ∙ map-append (read_sample coding) (pieces (width_of coding) n bytes) (take (width_of coding) (drop (n * width_of coding) bytes) ∷ []))
 
 -- how many bytes a sample takes
-pub length-written : (coding : Coding) (z : ℤ) → length (written coding z) ≡ width_of coding
+pub length-written : (coding : Coding) (z : ℤ) → length (written_sample coding z) ≡ width_of coding
 length-written U8 z = refl
 length-written S8 z = refl
 length-written S16Le z = refl
@@ -36,11 +36,11 @@ length-written S32Be z = refl
 -- how many bytes a frame takes
 pub length-bytes_of : (coding : Coding) (xs : Samples) → length (bytes_of coding xs) ≡ length xs * width_of coding
 length-bytes_of coding [] = omega arith
-length-bytes_of coding (x ∷ xs) = omega (arith, length-append (written coding x) (bytes_of coding xs), length-written coding x, length-bytes_of coding xs)
+length-bytes_of coding (x ∷ xs) = omega (arith, length-append (written_sample coding x) (bytes_of coding xs), length-written coding x, length-bytes_of coding xs)
 
 -- the first samples and those behind them are written, and their clips are counted
 pub bytes_of-part : (coding : Coding) (xs : Samples) (k n : ℕ) → bytes_of coding (take (k + n) xs) ≡ bytes_of coding (take k xs) ++ bytes_of coding (take n (drop k xs))
-bytes_of-part coding xs k n = ap (bytes_of coding) (take-add k n xs) ∙ flat_map-append (written coding) (take k xs) (take n (drop k xs))
+bytes_of-part coding xs k n = ap (bytes_of coding) (take-add k n xs) ∙ flat_map-append (written_sample coding) (take k xs) (take n (drop k xs))
 
 pub clips_of-part : (coding : Coding) (xs : Samples) (k n : ℕ) → clips_of coding (take (k + n) xs) ≡ clips_of coding (take k xs) + clips_of coding (take n (drop k xs))
 clips_of-part coding xs k n = ap (clips_of coding) (take-add k n xs) ∙ sum_by-append (λ z. cond (clips_written coding z) 1 0) (take k xs) (take n (drop k xs))
@@ -54,19 +54,19 @@ bytes_of-piece coding xs first out new k n at size h a s e is =
     let width : ℕ = width_of coding in
     let front : length (bytes_of coding (take k xs)) ≡ k * width = length-bytes_of coding (take k xs) ∙ ap (λ m. m * width) (length-take k xs ∙ (omega arith)) in
     let kept : take (k * width) out ≡ bytes_of coding (take k xs) = ap (take (k * width)) e ∙ take_at (bytes_of coding (take k xs)) (drop (k * width) first) (k * width) front in
-    let behind : drop (k * width) out ≡ drop (k * width) first = ap (drop (k * width)) e ∙ drop_at (bytes_of coding (take k xs)) (drop (k * width) first) (k * width) front in
+    let rest_unchanged : drop (k * width) out ≡ drop (k * width) first = ap (drop (k * width)) e ∙ drop_at (bytes_of coding (take k xs)) (drop (k * width) first) (k * width) front in
     let place : k * width + n * width ≡ (k + n) * width = omega arith in
     let left : drop (n * width) (drop (k * width) out) ≡ drop ((k + n) * width) first =
-    ap (drop (n * width)) behind ∙ drop-drop (n * width) (k * width) first ∙ ap (λ m. drop m first) place in
+    ap (drop (n * width)) rest_unchanged ∙ drop-drop (n * width) (k * width) first ∙ ap (λ m. drop m first) place in
     rw (a, s, kept, left, is, bytes_of-part coding xs k n) (sym (append_assoc (bytes_of coding (take k xs)) (bytes_of coding (take n (drop k xs))) (drop ((k + n) * width) first)))
 
 -- a turn of the loop that writes one sample
 pub bytes_of-turn : (coding : Coding) (xs : Samples) (first out new : List ℕ) (k width : ℕ) → k < length xs → width ≡ width_of coding
     → out ≡ bytes_of coding (take k xs) ++ drop (k * width_of coding) first
-    → new ≡ written coding (get_or xs k (pos 0))
+    → new ≡ written_sample coding (get_or xs k (pos 0))
     → put_mid (k * width) (k * width + width - k * width) out new ≡ bytes_of coding (take (k + 1) xs) ++ drop ((k + 1) * width_of coding) first
 bytes_of-turn coding xs first out new k width h w e n =
-    let one : bytes_of coding (take 1 (drop k xs)) ≡ written coding (get_or xs k (pos 0)) = rw (drop-cons xs k (pos 0) h) (append-nil (written coding (get_or xs k (pos 0)))) in
+    let one : bytes_of coding (take 1 (drop k xs)) ≡ written_sample coding (get_or xs k (pos 0)) = rw (drop-cons xs k (pos 0) h) (append-nil (written_sample coding (get_or xs k (pos 0)))) in
     let size : k * width + width - k * width ≡ 1 * width_of coding = omega arith in
     bytes_of-piece coding xs first out new k 1 (k * width) (k * width + width - k * width) (omega arith) (ap (λ m. k * m) w) size e (n ∙ sym one)
 
@@ -99,12 +99,12 @@ both_counted false false m n i j = omega (arith, i, j)
 
 -- a pair, written and counted
 pub bytes_of-pair : (coding : Coding) (xs : Samples) (first second : List ℕ) → length xs ≡ 2 → All (FitsSigned w32) xs
-    → first ≡ written coding (to_z w32 (of_z w32 (get_or xs 0 (pos 0)))) → second ≡ written coding (to_z w32 (of_z w32 (get_or xs 1 (pos 0))))
+    → first ≡ written_sample coding (to_z w32 (of_z w32 (get_or xs 0 (pos 0)))) → second ≡ written_sample coding (to_z w32 (of_z w32 (get_or xs 1 (pos 0))))
     → first ++ second ≡ bytes_of coding xs
 bytes_of-pair coding xs first second two fits f s =
     let a = stored xs 0 fits (omega arith) in
     let b = stored xs 1 fits (omega arith) in
-    rw (f, s, a, b) (ap (λ l. written coding (get_or xs 0 (pos 0)) ++ l) (sym (append-nil (written coding (get_or xs 1 (pos 0))))) ∙ ap (bytes_of coding) (sym (pair_of xs two)))
+    rw (f, s, a, b) (ap (λ l. written_sample coding (get_or xs 0 (pos 0)) ++ l) (sym (append-nil (written_sample coding (get_or xs 1 (pos 0))))) ∙ ap (bytes_of coding) (sym (pair_of xs two)))
 
 pub clips_of-pair : (coding : Coding) (xs : Samples) (p q : Bool) (m n : ℕ) → length xs ≡ 2 → All (FitsSigned w32) xs
     → p ≡ clips_written coding (to_z w32 (of_z w32 (get_or xs 0 (pos 0)))) → q ≡ clips_written coding (to_z w32 (of_z w32 (get_or xs 1 (pos 0))))

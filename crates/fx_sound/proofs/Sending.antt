@@ -12,11 +12,11 @@ use Rattle.fx_sound.specs.Output.{Pending, Sent}
 pub Sent-taken : (first now new : Option (List ℕ)) (out new_out : Pending) (all : List ℕ) (n : ℕ) → Sent first now out all
     → Appends now new (take n out.bytes) → n ≤ length out.bytes → new_out.bytes ≡ drop n out.bytes → new_out.written ≡ out.written + n → Sent first new new_out all
 Sent-taken first now new out new_out all n s a h b w =
-    let room : n ≤ length (drop out.written all) = rw (← s.waiting) h in
+    let free : n ≤ length (drop out.written all) = rw (← s.waiting) h in
     let parts : take out.written all ++ take n out.bytes ≡ take new_out.written all =
     ap (λ l. take out.written all ++ take n l) s.waiting ∙ sym (take-add out.written n all) ∙ ap (λ m. take m all) (sym w) in
     record {
-      within = omega (arith, s.within, w, simp length-drop at room);
+      within = omega (arith, s.within, w, simp length-drop at free);
       taken = rw (← parts) (Appends-trans first now new _ _ s.taken a);
       waiting = b ∙ ap (drop n) s.waiting ∙ drop-drop n out.written all ∙ ap (λ m. drop m all) (sym w);
     }

@@ -6,14 +6,14 @@ use Rattle.std.specs.List.{flat_map}
 use Rattle.std.proofs.lemmas.Int.{clamps, int_wrap_fits, ints, to_z-of_z, to_z_pos, wrapping_add_onto}
 use Rattle.std.proofs.lemmas.Bool.{cases_lt, le-ltb}
 use Rattle.byteorder.specs.Endian.{big_number, little_bytes, little_number, low_bytes, twos_complement}
-use Rattle.fx_io.specs.declared.coding.Coding.{Coding}
-use Rattle.fx_io.specs.declared.coding.Coding.TheVariants.{U8, S8, S16Le, S16Be, S24Le, S24Be, S32Le, S32Be}
-use Rattle.fx_io.specs.Coding.{is_too_large, limited, narrowed, widened, width_of}
-use Rattle.fx_step.specs.Frame.{Samples}
-use Rattle.fx_heads.specs.FrameCoding.{bytes_of, samples_of}
-use Rattle.fx_lists.specs.Lists.{tabulate, pieces}
-use Rattle.fx_lists.proofs.Tabulate.{tabulate-same}
-use Rattle.fx_io.proofs.Shifts.{shift_floors}
+use Rattle.fx_frame_io.specs.declared.coding.Coding.{Coding}
+use Rattle.fx_frame_io.specs.declared.coding.Coding.TheVariants.{U8, S8, S16Le, S16Be, S24Le, S24Be, S32Le, S32Be}
+use Rattle.fx_frame_io.specs.Coding.{is_too_large, limited, narrowed, widened, width_of}
+use Rattle.fx_frame_stage.specs.Frame.{Samples}
+use Rattle.fx_sound_heads.specs.FrameCoding.{bytes_of, coded_samples}
+use Rattle.fx_frame_lists.specs.Lists.{tabulate, pieces}
+use Rattle.fx_frame_lists.proofs.Tabulate.{tabulate-same}
+use Rattle.fx_frame_io.proofs.Shifts.{shift_floors}
 use Rattle.std.proofs.lemmas.Simd.{mask_l-mod, ones-mask_l}
 use lib.Count.{ones}
 use lib.Lanes.{digits_l, mask_l, number_l, top}
@@ -35,11 +35,11 @@ one-of-threes S32Be e = absurd (omega arith)
 self : {X : Type 0} (d : X) (xs : List X) → tabulate (λ i. get_or xs i d) 0 (length xs) ≡ xs
 self d [] = refl
 self d (x ∷ xs) =
-    let behind : (k : ℕ) → k < length xs → get_or (x ∷ xs) (1 + k) d ≡ get_or xs (0 + k) d = λ k h.
+    let rest_unchanged : (k : ℕ) → k < length xs → get_or (x ∷ xs) (1 + k) d ≡ get_or xs (0 + k) d = λ k h.
     let a : 1 + k ≡ suc k = omega arith in
     let b : 0 + k ≡ k = omega arith in
     rw (a, b) refl in
-    ap (λ l. x ∷ l) (tabulate-same (λ i. get_or (x ∷ xs) i d) (λ i. get_or xs i d) 1 0 (length xs) behind ∙ self d xs)
+    ap (λ l. x ∷ l) (tabulate-same (λ i. get_or (x ∷ xs) i d) (λ i. get_or xs i d) 1 0 (length xs) rest_unchanged ∙ self d xs)
 
 pub listed : {X : Type 0} (d : X) (n : ℕ) (xs : List X) → length xs ≡ n → xs ≡ tabulate (λ i. get_or xs i d) 0 n
 listed d n xs e = sym (self d xs) ∙ ap (λ m. tabulate (λ i. get_or xs i d) 0 m) e
@@ -106,12 +106,12 @@ lanes-samples a b c d number p q r s same =
 
 -- the lanes of twelve bytes, each with a zero before its own three
 module _ (b : ℕ → ℕ) (bytes : (i : ℕ) → b i < 256) where
-  pub little-lanes : lanes (number_l 256 (0 ∷ b 0 ∷ b 1 ∷ b 2 ∷ 0 ∷ b 3 ∷ b 4 ∷ b 5 ∷ 0 ∷ b 6 ∷ b 7 ∷ b 8 ∷ 0 ∷ b 9 ∷ b 10 ∷ b 11 ∷ [])) ≡ samples_of S24Le 4 (tabulate b 0 12)
+  pub little-lanes : lanes (number_l 256 (0 ∷ b 0 ∷ b 1 ∷ b 2 ∷ 0 ∷ b 3 ∷ b 4 ∷ b 5 ∷ 0 ∷ b 6 ∷ b 7 ∷ b 8 ∷ 0 ∷ b 9 ∷ b 10 ∷ b 11 ∷ [])) ≡ coded_samples S24Le 4 (tabulate b 0 12)
   little-lanes =
       lanes-samples (little_number 3 (b 0 ∷ b 1 ∷ b 2 ∷ [])) (little_number 3 (b 3 ∷ b 4 ∷ b 5 ∷ [])) (little_number 3 (b 6 ∷ b 7 ∷ b 8 ∷ [])) (little_number 3 (b 9 ∷ b 10 ∷ b 11 ∷ [])) _
       (omega (arith, bytes 0, bytes 1, bytes 2)) (omega (arith, bytes 3, bytes 4, bytes 5)) (omega (arith, bytes 6, bytes 7, bytes 8)) (omega (arith, bytes 9, bytes 10, bytes 11)) (omega arith)
 
-  pub big-lanes : lanes (number_l 256 (0 ∷ b 2 ∷ b 1 ∷ b 0 ∷ 0 ∷ b 5 ∷ b 4 ∷ b 3 ∷ 0 ∷ b 8 ∷ b 7 ∷ b 6 ∷ 0 ∷ b 11 ∷ b 10 ∷ b 9 ∷ [])) ≡ samples_of S24Be 4 (tabulate b 0 12)
+  pub big-lanes : lanes (number_l 256 (0 ∷ b 2 ∷ b 1 ∷ b 0 ∷ 0 ∷ b 5 ∷ b 4 ∷ b 3 ∷ 0 ∷ b 8 ∷ b 7 ∷ b 6 ∷ 0 ∷ b 11 ∷ b 10 ∷ b 9 ∷ [])) ≡ coded_samples S24Be 4 (tabulate b 0 12)
   big-lanes =
       lanes-samples (big_number 3 (b 0 ∷ b 1 ∷ b 2 ∷ [])) (big_number 3 (b 3 ∷ b 4 ∷ b 5 ∷ [])) (big_number 3 (b 6 ∷ b 7 ∷ b 8 ∷ [])) (big_number 3 (b 9 ∷ b 10 ∷ b 11 ∷ [])) _
       (omega (arith, bytes 0, bytes 1, bytes 2)) (omega (arith, bytes 3, bytes 4, bytes 5)) (omega (arith, bytes 6, bytes 7, bytes 8)) (omega (arith, bytes 9, bytes 10, bytes 11)) (omega arith)

@@ -4,15 +4,15 @@ use Rattle.fx_sound.specs.declared.progress.ReadFault.{ReadFault}
 use Rattle.fx_sound.specs.declared.progress.ReadFault.TheVariants.{ReadFailed, TooLong}
 use Rattle.fx_sound.specs.declared.sound.SoundFault.{SoundFault}
 use Rattle.fx_sound.specs.declared.sound.SoundFault.TheVariants as sounds
-use Rattle.fx_heads.specs.HeadFields.{is_read_failure}
+use Rattle.fx_sound_heads.specs.HeadFields.{is_read_failure}
 
--- did a read fail
+-- whether a read failed
 abbrev pub is_read_failed : {X : Type 0} → Result X ReadFault → Bool
 is_read_failed (Ok x) = false
 is_read_failed (Err ReadFailed) = true
 is_read_failed (Err TooLong) = false
 
--- did a read of the head or behind it fail
+-- whether a read of the head or after it failed
 abbrev pub is_sound_read_failed : {X : Type 0} → Result X SoundFault → Bool
 is_sound_read_failed (Ok x) = false
 is_sound_read_failed (Err (sounds.Head e)) = is_read_failure {X = Bool} (Err e)

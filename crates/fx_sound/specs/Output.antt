@@ -1,28 +1,28 @@
--- What an output has handed on, and what it still holds.
+-- What an output has written, and what is pending.
 use Rattle.std.specs.Prelude.{◌≡◌, ℕ, ◌+◌, ◌≤◌, List, ◌++◌, length, take, drop, Option}
 use Rattle.std.specs.Io.KnownBytes.{Appends}
 
--- bytes that wait, how many were written, and how many more there is room for
+-- pending bytes, how many were written, and how many more there is space for
 pub record Pending : Type 0 where
   pub bytes : List ℕ
   pub written : ℕ
-  pub room : ℕ
+  pub free : ℕ
 
--- of all these bytes the writer took the first since it had `first`, and the others wait
+-- of all these bytes the writer took the first since it had `first`, and the others are pending
 pub record Sent (first now : Option (List ℕ)) (out : Pending) (all : List ℕ) : Type 0 where
   pub within : out.written ≤ length all
   pub taken : Appends first now (take out.written all)
   pub waiting : out.bytes ≡ drop out.written all
 
--- all that was to be sent is still all, whatever it was
+-- what is to be sent is unchanged
 abbrev pub SendsOn : Option (List ℕ) → Option (List ℕ) → Pending → Pending → Type 0
 SendsOn now new_now out new_out = (first : Option (List ℕ)) (all : List ℕ) → Sent first now out all → Sent first new_now new_out all
 
--- these bytes come behind all that was to be sent
+-- these bytes are appended to what is to be sent
 abbrev pub SendsMore : Option (List ℕ) → Option (List ℕ) → Pending → Pending → List ℕ → Type 0
 SendsMore now new_now out new_out bytes = (first : Option (List ℕ)) (all : List ℕ) → Sent first now out all → Sent first new_now new_out (all ++ bytes)
 
--- the first so many of these bytes, and none of the others, come behind all that was to be sent
+-- the first `count` of these bytes, and none of the others, are appended to what is to be sent
 pub record SendsPart (now new_now : Option (List ℕ)) (out new_out : Pending) (bytes : List ℕ) : Type 0 where
   pub count : ℕ
   pub within : count ≤ length bytes

@@ -1,9 +1,9 @@
 //! Samples of many frames as bytes.
 ghost use Rattle.std.specs.Prelude.{◌≡◌, ◌*◌, ℕ, length, map, sum_by, ◌≤◌, ◌^◌};
 ghost use Rattle.std.specs.List.{flat_map};
-ghost use Rattle.fx_io.specs.Coding.{width_of};
-ghost use Rattle.fx_heads.specs.FrameCoding.{bytes_of, clips_of, frame_size, samples_of};
-ghost use Rattle.fx_lists.specs.Lists.{pieces};
+ghost use Rattle.fx_frame_io.specs.Coding.{width_of};
+ghost use Rattle.fx_sound_heads.specs.FrameCoding.{bytes_of, clips_of, frame_size, coded_samples};
+ghost use Rattle.fx_frame_lists.specs.Lists.{pieces};
 
 use crate::fours::{read_four, write_four};
 use fx_frame::Coding;
@@ -12,7 +12,7 @@ use fx_frame::Coding;
 #[inline(always)]
 fn decode_as(coding: Coding, bytes: &[u8], samples: &mut [i32])
     requires { length bytes.now ≡ length samples.old * width_of coding }
-    ensures { samples.new ≡ samples_of coding (length samples.old) bytes.now }
+    ensures { samples.new ≡ coded_samples coding (length samples.old) bytes.now }
 {
     let width = coding.width();
     'samples: for k in 0..samples.len() {
@@ -21,12 +21,12 @@ fn decode_as(coding: Coding, bytes: &[u8], samples: &mut [i32])
     }
 }
 
-/// The same where a sample has three bytes: by fours, and what is left one by one.
+/// The same where a sample has three bytes: by fours, and the rest one by one.
 #[inline(always)]
 fn decode_by_fours(coding: Coding, bytes: &[u8], samples: &mut [i32])
     requires width { width_of coding ≡ 3 }
     requires bytes { length bytes.now ≡ length samples.old * width_of coding }
-    ensures { samples.new ≡ samples_of coding (length samples.old) bytes.now }
+    ensures { samples.new ≡ coded_samples coding (length samples.old) bytes.now }
 {
     let fours = samples.len() / 4;
     'fours: for k in 0..fours {
@@ -43,7 +43,7 @@ fn decode_by_fours(coding: Coding, bytes: &[u8], samples: &mut [i32])
 /// The same, with a loop for each coding.
 fn decode_each(coding: Coding, bytes: &[u8], samples: &mut [i32])
     requires { length bytes.now ≡ length samples.old * width_of coding }
-    ensures { samples.new ≡ samples_of coding (length samples.old) bytes.now }
+    ensures { samples.new ≡ coded_samples coding (length samples.old) bytes.now }
 {
     match coding {
         Coding::U8 => decode_as(Coding::U8, bytes, samples),
@@ -57,24 +57,24 @@ fn decode_each(coding: Coding, bytes: &[u8], samples: &mut [i32])
     }
 }
 
-/// Writes the samples that the bytes are: in frames of whatever channels, the frames that the bytes are.
+/// Writes the samples that the bytes are: for any number of channels, the frames that the bytes are.
 pub fn decode_into(coding: Coding, bytes: &[u8], samples: &mut [i32])
     requires { length bytes.now ≡ length samples.old * width_of coding }
-    ensures samples { samples.new ≡ samples_of coding (length samples.old) bytes.now }
-    ensures frames { (channels n : ℕ) → length samples.old ≡ n * channels → pieces channels n samples.new ≡ map (samples_of coding channels) (pieces (frame_size coding channels) n bytes.now) }
+    ensures samples { samples.new ≡ coded_samples coding (length samples.old) bytes.now }
+    ensures frames { (channels n : ℕ) → length samples.old ≡ n * channels → pieces channels n samples.new ≡ map (coded_samples coding channels) (pieces (frame_size coding channels) n bytes.now) }
 {
     decode_each(coding, bytes, samples)
 }
 
-/// The most samples of a loop that counts in 32 bits.
+/// The maximum number of samples of a loop that counts in 32 bits.
 const SAMPLES_OF_LOOP: usize = 1 << 16;
 
-/// Writes the bytes of so few samples, and tells how many samples were clipped.
-// The counter has 32 bits as the samples have, so that the loop works on as many at once as there is room for samples.
+/// Writes the bytes of so few samples, and returns how many samples were clipped.
+// The counter has 32 bits as the samples have, so that the loop works on as many at once as there is space for samples.
 #[inline(always)]
-fn encode_few(coding: Coding, samples: &[i32], out: &mut [u8]) -> u32
+fn encode_batch(coding: Coding, samples: &[i32], out: &mut [u8]) -> u32
     requires bytes { length out.old ≡ length samples.now * width_of coding }
-    requires few { length samples.now ≤ 2 ^ 16 }
+    requires bound { length samples.now ≤ 2 ^ 16 }
     ensures bytes { out.new ≡ bytes_of coding samples.now }
     ensures clips { result ≡ clips_of coding samples.now }
 {
@@ -89,7 +89,7 @@ fn encode_few(coding: Coding, samples: &[i32], out: &mut [u8]) -> u32
     clips
 }
 
-/// Writes the bytes of samples, and tells how many samples were clipped.
+/// Writes the bytes of samples, and returns how many samples were clipped.
 #[inline(always)]
 fn encode_as(coding: Coding, samples: &[i32], out: &mut [u8]) -> u64
     requires { length out.old ≡ length samples.now * width_of coding }
@@ -101,7 +101,7 @@ fn encode_as(coding: Coding, samples: &[i32], out: &mut [u8]) -> u64
     let mut clips = 0;
     'pieces: while done < samples.len() {
         let end = done + SAMPLES_OF_LOOP.min(samples.len() - done);
-        let piece = encode_few(
+        let piece = encode_batch(
             coding,
             &samples[done..end],
             &mut out[done * width..end * width],
@@ -112,7 +112,7 @@ fn encode_as(coding: Coding, samples: &[i32], out: &mut [u8]) -> u64
     clips
 }
 
-/// The same where a sample has three bytes: by fours, and what is left one by one.
+/// The same where a sample has three bytes: by fours, and the rest one by one.
 #[inline(always)]
 fn encode_by_fours(coding: Coding, samples: &[i32], out: &mut [u8]) -> u64
     requires width { width_of coding ≡ 3 }
@@ -131,7 +131,7 @@ fn encode_by_fours(coding: Coding, samples: &[i32], out: &mut [u8]) -> u64
         clips += u64::from(four);
     }
     let done = 4 * fours;
-    let left = encode_few(coding, &samples[done..], &mut out[3 * done..]);
+    let left = encode_batch(coding, &samples[done..], &mut out[3 * done..]);
     clips + u64::from(left)
 }
 
@@ -153,7 +153,7 @@ fn encode_each(coding: Coding, samples: &[i32], out: &mut [u8]) -> u64
     }
 }
 
-/// Writes the bytes of samples, and tells how many samples were clipped: in frames of whatever channels, the bytes of the
+/// Writes the bytes of samples, and returns how many samples were clipped: for any number of channels, the bytes of the
 /// frames, one after another, and their clips together.
 pub fn encode_into(coding: Coding, samples: &[i32], out: &mut [u8]) -> u64
     requires { length out.old ≡ length samples.now * width_of coding }

@@ -5,14 +5,14 @@ ghost use Rattle.std.specs.Prelude.{◌≡◌, ◌++◌, [], ◌∷◌, count_by
 ghost use Rattle.std.specs.Int.{w64};
 ghost use Rattle.std.specs.List.{flat_map};
 ghost use Rattle.byteorder.specs.Endian.{little_bytes, low_bytes};
-ghost use Rattle.fx_io.specs.Coding.{is_too_large, limited, width_of};
-ghost use Rattle.fx_heads.specs.FrameCoding.{bytes_of, clips_of, samples_of};
-ghost use Rattle.fx_lists.specs.Lists.{pieces};
+ghost use Rattle.fx_frame_io.specs.Coding.{is_too_large, limited, width_of};
+ghost use Rattle.fx_sound_heads.specs.FrameCoding.{bytes_of, clips_of, coded_samples};
+ghost use Rattle.fx_frame_lists.specs.Lists.{pieces};
 
 use fx_frame::Coding;
 use std::simd::prelude::*;
 
-/// Twelve bytes, and four zeros behind them.
+/// Twelve bytes, and four zeros after them.
 #[inline(always)]
 fn load_twelve(bytes: &[u8]) -> u8x16
     requires { length bytes.now ≡ 12 }
@@ -34,24 +34,24 @@ fn store_twelve(bytes: u8x16, out: &mut [u8])
     bytes.extract::<8, 4>().copy_to_slice(&mut out[8..]);
 }
 
-/// Writes the four samples of twelve bytes, the lowest byte of each first.
+/// Writes the four samples of twelve bytes, each little-endian.
 // The byte at place 12 is zero, so that a lane is its number times 2^8.
 #[inline(always)]
 fn read_little(bytes: &[u8], samples: &mut [i32])
     requires bytes { length bytes.now ≡ 12 }
     requires samples { length samples.old ≡ 4 }
-    ensures { samples.new ≡ samples_of Coding.S24Le 4 bytes.now }
+    ensures { samples.new ≡ coded_samples Coding.S24Le 4 bytes.now }
 {
     let lanes = load_twelve(bytes).swizzle([12, 0, 1, 2, 12, 3, 4, 5, 12, 6, 7, 8, 12, 9, 10, 11]);
     i32x4::from_le_bytes(lanes).copy_to_slice(samples);
 }
 
-/// The same, the highest byte of each first.
+/// The same, each big-endian.
 #[inline(always)]
 fn read_big(bytes: &[u8], samples: &mut [i32])
     requires bytes { length bytes.now ≡ 12 }
     requires samples { length samples.old ≡ 4 }
-    ensures { samples.new ≡ samples_of Coding.S24Be 4 bytes.now }
+    ensures { samples.new ≡ coded_samples Coding.S24Be 4 bytes.now }
 {
     let lanes = load_twelve(bytes).swizzle([12, 2, 1, 0, 12, 5, 4, 3, 12, 8, 7, 6, 12, 11, 10, 9]);
     i32x4::from_le_bytes(lanes).copy_to_slice(samples);
@@ -63,7 +63,7 @@ pub(crate) fn read_four(coding: Coding, bytes: &[u8], samples: &mut [i32])
     requires width { width_of coding ≡ 3 }
     requires bytes { length bytes.now ≡ 12 }
     requires samples { length samples.old ≡ 4 }
-    ensures { samples.new ≡ samples_of coding 4 bytes.now }
+    ensures { samples.new ≡ coded_samples coding 4 bytes.now }
 {
     match coding {
         Coding::S24Be => read_big(bytes, samples),
@@ -71,22 +71,22 @@ pub(crate) fn read_four(coding: Coding, bytes: &[u8], samples: &mut [i32])
     }
 }
 
-/// Four samples as numbers of 24 bits in lanes of four bytes, the lowest first, and how many samples were clipped.
+/// Four samples as numbers of 24 bits in lanes of four bytes, little-endian, and how many samples were clipped.
 #[inline(always)]
 fn limited_four(samples: &[i32]) -> (u8x16, u32)
     requires { length samples.now ≡ 4 }
     ensures lanes { result.0 ≡ flat_map (λ z. little_bytes 4 (low_bytes w64 4 (limited 3 z))) samples.now }
     ensures clips { result.1 ≡ count_by (is_too_large 3) samples.now }
 {
-    let greatest = i32x4::splat(0x7f_ffff);
-    // The proof knows of a sample that is read by its place that it has 32 bits; all four are one load.
+    let largest = i32x4::splat(0x7f_ffff);
+    // The proof knows that a sample read by index has 32 bits; all four are one load.
     let four = i32x4::from_array([samples[0], samples[1], samples[2], samples[3]]);
     let rounded = ((four >> i32x4::splat(7)) + i32x4::splat(1)) >> i32x4::splat(1);
-    let clips = rounded.simd_gt(greatest).to_bitmask().count_ones();
-    (rounded.simd_min(greatest).to_le_bytes(), clips)
+    let clips = rounded.simd_gt(largest).to_bitmask().count_ones();
+    (rounded.simd_min(largest).to_le_bytes(), clips)
 }
 
-/// Writes the three lowest bytes of four lanes, the lowest first.
+/// Writes the three lowest bytes of four lanes, the lowest byte first.
 // The last four places are the highest bytes of the lanes, which are not written.
 #[inline(always)]
 fn write_little(lanes: u8x16, out: &mut [u8])
@@ -99,7 +99,7 @@ fn write_little(lanes: u8x16, out: &mut [u8])
     );
 }
 
-/// The same, the highest first.
+/// The same, the highest byte first.
 #[inline(always)]
 fn write_big(lanes: u8x16, out: &mut [u8])
     requires { length out.old ≡ 12 }
@@ -111,7 +111,7 @@ fn write_big(lanes: u8x16, out: &mut [u8])
     );
 }
 
-/// Writes the twelve bytes of four samples, and tells how many samples were clipped.
+/// Writes the twelve bytes of four samples, and returns how many samples were clipped.
 #[inline(always)]
 pub(crate) fn write_four(coding: Coding, samples: &[i32], out: &mut [u8]) -> u32
     requires width { width_of coding ≡ 3 }

@@ -1,7 +1,7 @@
-//! Frames as bytes, at the pace of the inner loop.
+//! Frames as bytes, for the inner loop.
 
 ghost use Rattle.std.specs.Prelude.{◌≡◌, ◌*◌, ◌≤◌, length};
-ghost use Rattle.fx_heads.specs.FrameCoding.{frame_size, samples_of, bytes_of, clips_of};
+ghost use Rattle.fx_sound_heads.specs.FrameCoding.{frame_size, coded_samples, bytes_of, clips_of};
 
 use crate::bulk::{decode_into, encode_into};
 use fx_frame::{Coding, Frame};
@@ -11,7 +11,7 @@ use fx_frame::{Coding, Frame};
 pub fn decoded(coding: Coding, channels: usize, bytes: &[u8]) -> Frame
     requires channels { (1 ≤ channels) × (channels ≤ 16) }
     requires bytes { length bytes.now ≡ frame_size coding channels }
-    ensures samples { result ≡ samples_of coding channels bytes.now }
+    ensures samples { result ≡ coded_samples coding channels bytes.now }
     ensures channels { length result ≡ channels }
 {
     match channels {
@@ -28,7 +28,7 @@ pub fn decoded(coding: Coding, channels: usize, bytes: &[u8]) -> Frame
 fn decoded_wide(coding: Coding, channels: usize, bytes: &[u8]) -> Frame
     requires channels { (1 ≤ channels) × (channels ≤ 16) }
     requires bytes { length bytes.now ≡ frame_size coding channels }
-    ensures samples { result ≡ samples_of coding channels bytes.now }
+    ensures samples { result ≡ coded_samples coding channels bytes.now }
     ensures channels { length result ≡ channels }
 {
     let mut samples = [0; 16];
@@ -36,7 +36,7 @@ fn decoded_wide(coding: Coding, channels: usize, bytes: &[u8]) -> Frame
     Frame::of_first(channels, samples)
 }
 
-/// Writes the bytes of a frame, and tells how many of its samples were clipped.
+/// Writes the bytes of a frame, and returns how many of its samples were clipped.
 #[inline]
 pub fn encode(frame: &Frame, coding: Coding, out: &mut [u8]) -> u64
     requires { length out.old ≡ frame_size coding (length frame.now) }

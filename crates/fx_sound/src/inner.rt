@@ -3,4 +3,4 @@
 pub use crate::frame_coding::encode;
 pub use crate::output::Output;
 pub use crate::sound::{Sound, SoundFault, read_frames, read_sound};
-pub use fx_heads::buffer::BUFFER_SIZE;
+pub use fx_sound_heads::buffer::BUFFER_SIZE;

@@ -1,4 +1,4 @@
-//! Sounds in RIFF WAVE and Sun AU, read in pieces and written in pieces; and by name the heads of fx_heads.
+//! Sounds in RIFF WAVE and Sun AU, read in pieces and written in pieces; it exports the heads of `fx_sound_heads`.
 #![tactic(auto)]
 
 mod block;
@@ -10,5 +10,5 @@ mod output;
 pub mod progress;
 mod sound;
 
-pub use fx_heads::{Head, HeadBytes, HeadFault, Kind, Source, head_bytes, read_head};
-pub use progress::{MOST_FRAMES, Progress, ReadFault, TooLong, next_frame, take_frame};
+pub use fx_sound_heads::{Head, HeadBytes, HeadFault, Kind, Source, head_bytes, read_head};
+pub use progress::{MAX_FRAMES, Progress, ReadFault, TooLong, next_frame, take_frame};

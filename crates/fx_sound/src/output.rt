@@ -1,22 +1,22 @@
-//! Bytes on their way to a writer, in a buffer.
+//! Buffered bytes for a writer.
 
 ghost use Rattle.std.specs.Prelude.{◌≡◌, ◌+◌, ◌-◌, ◌*◌, ◌<◌, ◌≤◌, ◌^◌, ◌++◌, true, [], IsOk, OnOk, OnErr, IfOk, length};
-ghost use Rattle.fx_io.specs.Io.{CountsFailure};
-ghost use Rattle.fx_heads.specs.FrameCoding.{frame_size, bytes_of, clips_of};
+ghost use Rattle.fx_frame_io.specs.Io.{CountsFailure};
+ghost use Rattle.fx_sound_heads.specs.FrameCoding.{frame_size, bytes_of, clips_of};
 ghost use Rattle.fx_sound.specs.Output.{SendsOn, SendsMore, SendsPart, bytes_put};
 
 use crate::bulk::encode_into;
 use crate::frame_coding::encode;
 use fx_frame::{ByteOut, Coding, Failed, Frame};
-use fx_heads::buffer::BUFFER_SIZE;
+use fx_sound_heads::buffer::BUFFER_SIZE;
 use std::marker::Model;
 
-/// The most bytes of a frame: 16 channels of 32 bits.
-const MOST_FRAME_BYTES: usize = 64;
+/// The maximum number of bytes of a frame: 16 channels of 32 bits.
+const MAX_FRAME_BYTES: usize = 64;
 
 /// An output buffer of 4,096 bytes. The writer comes with each call.
 ///
-/// Bytes go to the writer where they leave no room for more, in `make_way`, in `drain`, and at the end.
+/// Bytes go to the writer where they leave no space for more, in `make_way`, in `drain`, and at the end.
 #[derive(Drop)]
 pub struct Output {
     buffer: [u8; BUFFER_SIZE],
@@ -28,21 +28,21 @@ pub struct Output {
 impl Model for Output {
     ghost use Rattle.std.specs.Prelude.{◌≡◌, ◌≤◌, ◌<◌, ◌-◌, ◌+◌, ◌^◌, take, drop, length};
     ghost use Rattle.fx_sound.specs.Output.{Pending};
-    ghost use Rattle.fx_heads.specs.declared.buffer.TheConstants.{BUFFER_SIZE};
+    ghost use Rattle.fx_sound_heads.specs.declared.buffer.TheConstants.{BUFFER_SIZE};
 
     ghost Value = { Pending };
 
-    ghost view = { λ o. record { bytes = take (o.end - o.start) (drop o.start o.buffer); written = o.written; room = BUFFER_SIZE - o.end } };
+    ghost view = { λ o. record { bytes = take (o.end - o.start) (drop o.start o.buffer); written = o.written; free = BUFFER_SIZE - o.end } };
 
     ghost invariant = { λ o. (o.start ≤ o.end) × (o.end ≤ BUFFER_SIZE) × (length o.buffer ≡ BUFFER_SIZE) × (o.written + (o.end - o.start) < 2 ^ 64) };
 }
 
 impl Output {
-    /// Nothing waits, and nothing was written. Takes no memory.
+    /// Nothing is pending, and nothing was written. Allocates no memory.
     pub fn new() -> Output
         ensures bytes { result.bytes ≡ [] }
         ensures written { result.written ≡ 0 }
-        ensures room { result.room ≡ BUFFER_SIZE }
+        ensures free { result.free ≡ BUFFER_SIZE }
     {
         Output {
             buffer: [0; BUFFER_SIZE],
@@ -59,21 +59,21 @@ impl Output {
         self.written
     }
 
-    /// How many bytes were ever put into it: those that the writer took, and those that wait.
+    /// How many bytes were ever put into it: those that the writer took, and the pending ones.
     pub fn bytes_put(&self) -> u64
         ensures { result ≡ bytes_put self.now }
     {
         self.written + self.waiting() as u64
     }
 
-    // How many bytes wait.
+    // How many bytes are pending.
     fn waiting(&self) -> usize
         ensures { result ≡ length self.now.bytes }
     {
         self.end - self.start
     }
 
-    // Hands the writer what waits, once.
+    // Passes the pending bytes to the writer, in one call.
     fn write_some<W: ByteOut>(&mut self, writer: &mut W) -> Result<(), Failed>
         requires { 0 < length self.old.bytes }
         ensures sent { SendsOn (W.writes.taken writer.old) (W.writes.taken writer.new) self.old self.new }
@@ -87,13 +87,13 @@ impl Output {
         Ok(())
     }
 
-    /// Hands the writer all that waits.
+    /// Passes all pending bytes to the writer.
     #[inline(never)]
     pub fn drain<W: ByteOut>(&mut self, writer: &mut W) -> Result<(), Failed>
         ensures sent { SendsOn (W.writes.taken writer.old) (W.writes.taken writer.new) self.old self.new }
         ensures count { bytes_put self.new ≡ bytes_put self.old }
         ensures empty { OnOk result (self.new.bytes ≡ []) }
-        ensures room { OnOk result (self.new.room ≡ BUFFER_SIZE) }
+        ensures free { OnOk result (self.new.free ≡ BUFFER_SIZE) }
         ensures failures { CountsFailure (W.writes.failures writer.old) (W.writes.failures writer.new) result }
     {
         while self.waiting() > 0 {
@@ -104,15 +104,15 @@ impl Output {
         Ok(())
     }
 
-    // Sees that there is room for so many bytes. Mostly there is.
+    // Makes space for `size` bytes. Usually there is enough.
     #[inline(always)]
-    fn make_room<W: ByteOut>(&mut self, writer: &mut W, size: usize) -> Result<(), Failed>
+    fn make_space<W: ByteOut>(&mut self, writer: &mut W, size: usize) -> Result<(), Failed>
         requires { size ≤ BUFFER_SIZE }
         ensures sent { SendsOn (W.writes.taken writer.old) (W.writes.taken writer.new) self.old self.new }
         ensures count { bytes_put self.new ≡ bytes_put self.old }
-        ensures room { OnOk result (size ≤ self.new.room) }
+        ensures free { OnOk result (size ≤ self.new.free) }
         ensures failures { CountsFailure (W.writes.failures writer.old) (W.writes.failures writer.new) result }
-        ensures waits { size ≤ self.old.room → IsOk result × (writer.new ≡ writer.old) × (self.new ≡ self.old) }
+        ensures waits { size ≤ self.old.free → IsOk result × (writer.new ≡ writer.old) × (self.new ≡ self.old) }
     {
         if size <= BUFFER_SIZE - self.end {
             return Ok(());
@@ -120,13 +120,13 @@ impl Output {
         self.drain(writer)
     }
 
-    /// Hands the writer all that waits where less than half of the buffer is free and bytes have gone to it before, so that
-    /// a whole buffer of frames finds room at once. Where a frame of so many bytes does not fit, it is left to that one.
+    /// Passes all pending bytes to the writer where less than half of the buffer is free and bytes have gone to it before, so
+    /// that a whole buffer of frames fits at once. Where a frame of `size` bytes does not fit, that frame makes the space.
     pub fn make_way<W: ByteOut>(&mut self, writer: &mut W, size: usize) -> Result<(), Failed>
         ensures early { self.old.written ≡ 0 → IsOk result × (writer.new ≡ writer.old) × (self.new ≡ self.old) }
-        ensures roomy { BUFFER_SIZE ≤ 2 * self.old.room → IsOk result × (writer.new ≡ writer.old) × (self.new ≡ self.old) }
-        ensures full { self.old.room < size → IsOk result × (writer.new ≡ writer.old) × (self.new ≡ self.old) }
-        ensures way { 0 < self.old.written → 2 * self.old.room < BUFFER_SIZE → size ≤ self.old.room → OnOk result (self.new.bytes ≡ []) }
+        ensures roomy { BUFFER_SIZE ≤ 2 * self.old.free → IsOk result × (writer.new ≡ writer.old) × (self.new ≡ self.old) }
+        ensures full { self.old.free < size → IsOk result × (writer.new ≡ writer.old) × (self.new ≡ self.old) }
+        ensures way { 0 < self.old.written → 2 * self.old.free < BUFFER_SIZE → size ≤ self.old.free → OnOk result (self.new.bytes ≡ []) }
         ensures sent { SendsOn (W.writes.taken writer.old) (W.writes.taken writer.new) self.old self.new }
         ensures count { bytes_put self.new ≡ bytes_put self.old }
         ensures failures { CountsFailure (W.writes.failures writer.old) (W.writes.failures writer.new) result }
@@ -138,13 +138,13 @@ impl Output {
         self.drain(writer)
     }
 
-    // Puts bytes behind those that wait.
+    // Appends bytes to the pending ones.
     fn put(&mut self, bytes: &[u8])
-        requires room { length bytes.now ≤ self.old.room }
+        requires free { length bytes.now ≤ self.old.free }
         requires count { bytes_put self.old + length bytes.now < 2 ^ 64 }
         ensures bytes { self.new.bytes ≡ self.old.bytes ++ bytes.now }
         ensures written { self.new.written ≡ self.old.written }
-        ensures room { self.new.room ≡ self.old.room - length bytes.now }
+        ensures free { self.new.free ≡ self.old.free - length bytes.now }
     {
         let start = self.end;
         let end = start + bytes.len();
@@ -152,15 +152,15 @@ impl Output {
         self.end = end;
     }
 
-    // Puts the bytes of a frame behind those that wait, and tells its clips.
+    // Appends the bytes of a frame to the pending ones, and returns its clips.
     #[inline(always)]
     fn put_coded(&mut self, frame: &Frame, coding: Coding) -> u64
-        requires room { frame_size coding (length frame.now) ≤ self.old.room }
+        requires free { frame_size coding (length frame.now) ≤ self.old.free }
         requires count { bytes_put self.old + frame_size coding (length frame.now) < 2 ^ 64 }
         ensures bytes { self.new.bytes ≡ self.old.bytes ++ bytes_of coding frame.now }
         ensures count { bytes_put self.new ≡ bytes_put self.old + frame_size coding (length frame.now) }
         ensures written { self.new.written ≡ self.old.written }
-        ensures room { self.new.room ≡ self.old.room - frame_size coding (length frame.now) }
+        ensures free { self.new.free ≡ self.old.free - frame_size coding (length frame.now) }
         ensures clips { result ≡ clips_of coding frame.now }
     {
         let size = frame.channels() * coding.width();
@@ -171,8 +171,8 @@ impl Output {
         clips
     }
 
-    /// Puts at most 4,096 bytes behind those that wait, which go to the writer first where they
-    /// leave no room.
+    /// Appends at most 4,096 bytes to the pending ones, which go to the writer first where they
+    /// leave no space.
     pub fn push<W: ByteOut>(&mut self, writer: &mut W, bytes: &[u8]) -> Result<(), Failed>
         requires piece { length bytes.now ≤ BUFFER_SIZE }
         requires count { bytes_put self.old + length bytes.now < 2 ^ 64 }
@@ -180,16 +180,16 @@ impl Output {
         ensures sent_err { OnErr result (SendsOn (W.writes.taken writer.old) (W.writes.taken writer.new) self.old self.new) }
         ensures count { OnOk result (bytes_put self.new ≡ bytes_put self.old + length bytes.now) }
         ensures failures { CountsFailure (W.writes.failures writer.old) (W.writes.failures writer.new) result }
-        ensures waits { length bytes.now ≤ self.old.room → IsOk result × (writer.new ≡ writer.old) × (self.new.room ≡ self.old.room - length bytes.now) }
+        ensures waits { length bytes.now ≤ self.old.free → IsOk result × (writer.new ≡ writer.old) × (self.new.free ≡ self.old.free - length bytes.now) }
     {
-        self.make_room(writer, bytes.len())?;
+        self.make_space(writer, bytes.len())?;
         self.put(bytes);
         Ok(())
     }
 
-    /// Puts the bytes of a frame behind those that wait, and tells how many of its samples were clipped. Where they leave no room,
-    /// its first bytes fill the buffer, all of which goes to the writer before the others: pieces of 4,096 bytes that begin at a
-    /// whole page of a file cost the system least. After a fault the writer may have some of them.
+    /// Appends the bytes of a frame to the pending ones, and returns how many of its samples were clipped. Where they leave no
+    /// space, its first bytes fill the buffer, all of which goes to the writer before the others: pieces of 4,096 bytes that
+    /// begin at a whole page of a file are the cheapest for the system. After a fault the writer may have some of them.
     #[inline]
     pub fn push_frame<W: ByteOut>(
         &mut self,
@@ -199,13 +199,13 @@ impl Output {
     ) -> Result<u64, Failed>
         requires { bytes_put self.old + 64 < 2 ^ 64 }
         ensures sent { OnOk result (SendsMore (W.writes.taken writer.old) (W.writes.taken writer.new) self.old self.new (bytes_of coding frame.now)) }
-        ensures most { frame_size coding (length frame.now) ≤ 64 }
+        ensures maximum { frame_size coding (length frame.now) ≤ 64 }
         ensures clips { IfOk result (λ n. n ≡ clips_of coding frame.now) }
         ensures sent_err { OnErr result (SendsPart (W.writes.taken writer.old) (W.writes.taken writer.new) self.old self.new (bytes_of coding frame.now)) }
         ensures count { OnOk result (bytes_put self.new ≡ bytes_put self.old + frame_size coding (length frame.now)) }
         ensures failures { CountsFailure (W.writes.failures writer.old) (W.writes.failures writer.new) result }
-        ensures waits { frame_size coding (length frame.now) ≤ self.old.room
-            → IsOk result × (writer.new ≡ writer.old) × (self.new.room ≡ self.old.room - frame_size coding (length frame.now)) }
+        ensures waits { frame_size coding (length frame.now) ≤ self.old.free
+            → IsOk result × (writer.new ≡ writer.old) × (self.new.free ≡ self.old.free - frame_size coding (length frame.now)) }
     {
         if frame.channels() * coding.width() > BUFFER_SIZE - self.end {
             return self.push_over_edge(writer, frame, coding);
@@ -222,15 +222,15 @@ impl Output {
         coding: Coding,
     ) -> Result<u64, Failed>
         requires count { bytes_put self.old + 64 < 2 ^ 64 }
-        requires room { self.old.room < frame_size coding (length frame.now) }
-        requires most { frame_size coding (length frame.now) ≤ 64 }
+        requires free { self.old.free < frame_size coding (length frame.now) }
+        requires maximum { frame_size coding (length frame.now) ≤ 64 }
         ensures sent { OnOk result (SendsMore (W.writes.taken writer.old) (W.writes.taken writer.new) self.old self.new (bytes_of coding frame.now)) }
         ensures clips { IfOk result (λ n. n ≡ clips_of coding frame.now) }
         ensures sent_err { OnErr result (SendsPart (W.writes.taken writer.old) (W.writes.taken writer.new) self.old self.new (bytes_of coding frame.now)) }
         ensures count { OnOk result (bytes_put self.new ≡ bytes_put self.old + frame_size coding (length frame.now)) }
         ensures failures { CountsFailure (W.writes.failures writer.old) (W.writes.failures writer.new) result }
     {
-        let mut bytes = [0; MOST_FRAME_BYTES];
+        let mut bytes = [0; MAX_FRAME_BYTES];
         let coded = &mut bytes[..frame.channels() * coding.width()];
         let clips = encode(frame, coding, coded);
         let (first, others) = coded.split_at(BUFFER_SIZE - self.end);
@@ -241,21 +241,21 @@ impl Output {
     }
 
     /// How many more bytes it takes before some have to go to the writer.
-    pub fn room(&self) -> usize
-        ensures value { result ≡ self.now.room }
-        ensures most { result ≤ BUFFER_SIZE }
+    pub fn free(&self) -> usize
+        ensures value { result ≡ self.now.free }
+        ensures maximum { result ≤ BUFFER_SIZE }
     {
         BUFFER_SIZE - self.end
     }
 
-    /// Puts the bytes of samples behind those that wait, for which there is room, and tells how many samples were clipped.
+    /// Appends the bytes of samples, which must fit, to the pending ones, and returns how many samples were clipped.
     pub fn put_samples(&mut self, samples: &[i32], coding: Coding) -> u64
-        requires room { frame_size coding (length samples.now) ≤ self.old.room }
+        requires free { frame_size coding (length samples.now) ≤ self.old.free }
         requires count { bytes_put self.old + frame_size coding (length samples.now) < 2 ^ 64 }
         ensures bytes { self.new.bytes ≡ self.old.bytes ++ bytes_of coding samples.now }
         ensures count { bytes_put self.new ≡ bytes_put self.old + frame_size coding (length samples.now) }
         ensures written { self.new.written ≡ self.old.written }
-        ensures room { self.new.room ≡ self.old.room - frame_size coding (length samples.now) }
+        ensures free { self.new.free ≡ self.old.free - frame_size coding (length samples.now) }
         ensures clips { result ≡ clips_of coding samples.now }
     {
         let size = samples.len() * coding.width();
@@ -266,12 +266,12 @@ impl Output {
         clips
     }
 
-    /// Hands the writer all that waits, and flushes it.
+    /// Passes all pending bytes to the writer, and flushes it.
     pub fn finish<W: ByteOut>(&mut self, writer: &mut W) -> Result<(), Failed>
         ensures sent { SendsOn (W.writes.taken writer.old) (W.writes.taken writer.new) self.old self.new }
         ensures count { bytes_put self.new ≡ bytes_put self.old }
         ensures empty { OnOk result (self.new.bytes ≡ []) }
-        ensures room { OnOk result (self.new.room ≡ BUFFER_SIZE) }
+        ensures free { OnOk result (self.new.free ≡ BUFFER_SIZE) }
         ensures flushed { OnOk result (W.writes.flushed writer.new ≡ true) }
         ensures failures { CountsFailure (W.writes.failures writer.old) (W.writes.failures writer.new) result }
     {

@@ -1,21 +1,19 @@
 //! The frames of a sound, one after the other.
 
 ghost use Rattle.std.specs.Prelude.{◌≡◌, ◌≤◌, ◌<◌, ◌+◌, ◌-◌, ◌*◌, drop, false, true, None, Some, IfOk, IfSome, IfNone, OnErr, OnSome, MatchBool, Ok, Err, length, min};
-ghost use Rattle.fx_io.specs.Io.{saturated};
-ghost use Rattle.fx_heads.specs.Source.{to_come, FallsShort, HoldsWhatCame, Stays, Takes};
-ghost use Rattle.fx_heads.specs.Known.{IfKnown};
-ghost use Rattle.fx_sound.specs.Sound.{size_of, within, at_most_announced, after_frame, after_end, TakesFrame, EndsSound};
+ghost use Rattle.fx_frame_io.specs.Io.{saturated};
+ghost use Rattle.fx_sound_heads.specs.Source.{to_come, FallsShort, HoldsWhatCame, Stays, Takes};
+ghost use Rattle.fx_sound_heads.specs.Known.{IfKnown};
+ghost use Rattle.fx_sound.specs.Sound.{size_of, within_sound, at_most_announced, after_frame, sound_after_end, TakesFrame, EndsSound};
 ghost use Rattle.fx_sound.specs.Container.{after_frames};
 ghost use Rattle.fx_sound.specs.Fault.{is_read_failed};
 
 use crate::frame_coding::decoded;
 use fx_frame::{ByteIn, Coding, Frame, ReadBeside};
-use fx_heads::{Head, Source};
+pub use fx_frame_stage::stage::MAX_FRAMES;
+use fx_sound_heads::{Head, Source};
 use std::marker::Model;
 use thiserror::Error;
-
-/// The most frames of a sound that are read.
-pub const MOST_FRAMES: u64 = 1 << 40;
 
 /// Why there is no next frame.
 #[derive(Clone, Copy, Debug, PartialEq, Eq, Error)]
@@ -33,7 +31,7 @@ pub enum ReadFault {
 #[error("the sound is too long")]
 pub struct TooLong;
 
-/// How far a sound was read.
+/// The progress of reading a sound.
 #[derive(Drop)]
 pub struct Progress {
     coding: Coding,
@@ -49,19 +47,19 @@ pub struct Progress {
 
 impl Model for Progress {
     ghost use Rattle.std.specs.Prelude.{◌≡◌, ◌<◌, ◌≤◌};
-    ghost use Rattle.fx_heads.specs.FrameCoding.{frame_size};
+    ghost use Rattle.fx_sound_heads.specs.FrameCoding.{frame_size};
     ghost use Rattle.fx_sound.specs.Sound.{Reading};
-    ghost use Rattle.fx_sound.specs.declared.progress.TheConstants.{MOST_FRAMES};
+    ghost use Rattle.fx_frame_stage.specs.declared.stage.TheConstants.{MAX_FRAMES};
 
     ghost Value = { Reading };
 
     ghost view = { λ p. record { coding = p.coding; channels = p.channels; left = p.left; frames = p.frames; missing = p.missing; stray = p.stray; over = p.is_over } };
 
-    ghost invariant = { λ p. (0 < p.channels) × (p.channels ≤ 16) × (p.size ≡ frame_size p.coding p.channels) × (p.frames ≤ MOST_FRAMES) };
+    ghost invariant = { λ p. (0 < p.channels) × (p.channels ≤ 16) × (p.size ≡ frame_size p.coding p.channels) × (p.frames ≤ MAX_FRAMES) };
 }
 
 impl Progress {
-    /// Nothing of the sound behind this head is read yet.
+    /// Nothing of the sound after this head is read yet.
     pub fn new(head: &Head) -> Progress
         ensures { result ≡ record { coding = head.now.coding; channels = head.now.channels; left = head.now.announced; frames = 0; missing = 0; stray = 0; over = false } }
     {
@@ -84,14 +82,14 @@ impl Progress {
         self.frames
     }
 
-    /// How many announced bytes were not there, once the end was met.
+    /// How many announced bytes were not there, once the end was reached.
     pub fn missing(&self) -> u64
         ensures { result ≡ self.now.missing }
     {
         self.missing
     }
 
-    /// How many bytes came after the last frame, once the end was met.
+    /// How many bytes came after the last frame, once the end was reached.
     pub fn stray(&self) -> u64
         ensures { result ≡ self.now.stray }
     {
@@ -102,8 +100,8 @@ impl Progress {
     #[inline(always)]
     pub fn wanted(&self) -> usize
         ensures value { result ≡ at_most_announced self.now.left (size_of self.now) }
-        ensures most { result ≤ size_of self.now }
-        ensures few { size_of self.now ≤ 64 }
+        ensures maximum { result ≤ size_of self.now }
+        ensures bound { size_of self.now ≤ 64 }
     {
         match self.left {
             Some(left) if left < self.size as u64 => left as usize,
@@ -115,7 +113,7 @@ impl Progress {
     pub fn channels(&self) -> usize
         ensures value { result ≡ self.now.channels }
         ensures some { 1 ≤ result }
-        ensures few { result ≤ 16 }
+        ensures bound { result ≤ 16 }
     {
         self.channels
     }
@@ -131,19 +129,19 @@ impl Progress {
     pub(crate) fn frame_size(&self) -> usize
         ensures value { result ≡ size_of self.now }
         ensures some { 1 ≤ result }
-        ensures few { result ≤ 64 }
+        ensures bound { result ≤ 64 }
     {
         let _width = self.coding.width();
         self.size
     }
 
-    // How many whole frames lie in so many bytes, as far as they are announced and few enough to be read.
+    // How many whole frames lie in `held` bytes, as far as they are announced and few enough to be read.
     pub(crate) fn frames_in(&self, held: usize) -> usize
         ensures held { result * size_of self.now ≤ held }
         ensures announced { result * size_of self.now ≤ at_most_announced self.now.left (result * size_of self.now) }
-        ensures few { self.now.frames + result ≤ MOST_FRAMES }
+        ensures bound { self.now.frames + result ≤ MAX_FRAMES }
         ensures begun { self.now.over ≡ true → result ≡ 0 }
-        ensures all { self.now.over ≡ false → self.now.frames + result < MOST_FRAMES → at_most_announced self.now.left held < (result + 1) * size_of self.now }
+        ensures all { self.now.over ≡ false → self.now.frames + result < MAX_FRAMES → at_most_announced self.now.left held < (result + 1) * size_of self.now }
     {
         if self.is_over {
             return 0;
@@ -153,12 +151,12 @@ impl Progress {
             None => held as u64,
         };
         let frames = announced / self.frame_size() as u64;
-        frames.min(MOST_FRAMES - self.frames) as usize
+        frames.min(MAX_FRAMES - self.frames) as usize
     }
 
-    // Counts so many frames.
+    // Counts `count` frames.
     pub(crate) fn advance_by(&mut self, count: usize)
-        requires { self.old.frames + count ≤ MOST_FRAMES }
+        requires { self.old.frames + count ≤ MAX_FRAMES }
         ensures { self.new ≡ after_frames self.old count }
     {
         let size = self.frame_size();
@@ -172,7 +170,7 @@ impl Progress {
     // Counts a frame.
     #[inline(always)]
     fn advance(&mut self)
-        requires { self.old.frames < MOST_FRAMES }
+        requires { self.old.frames < MAX_FRAMES }
         ensures { self.new ≡ after_frame self.old }
     {
         self.frames += 1;
@@ -182,10 +180,10 @@ impl Progress {
         };
     }
 
-    // Counts the bytes after the last frame, and those that lack.
+    // Counts the bytes after the last frame, and the missing ones.
     #[inline(never)]
     fn finish(&mut self, got: usize)
-        ensures { self.new ≡ after_end self.old got }
+        ensures { self.new ≡ sound_after_end self.old got }
     {
         self.stray = got as u64;
         self.missing = match self.left {
@@ -196,11 +194,11 @@ impl Progress {
     }
 }
 
-/// The next frame of the sound; `None` for good at its end, that is, at the announced size or the
+/// The next frame of the sound; always `None` at its end, that is, at the announced size or the
 /// end of the input.
 ///
-/// No read is asked for once the announced bytes are there. After `TooLong` what is to come is as it was. After `ReadFailed` the
-/// source holds what came of the frame, and the progress is used only for its counts.
+/// No read is asked for once the announced bytes are there. After `TooLong` what is to come is unchanged. After `ReadFailed`
+/// the source holds what came of the frame, and the progress is used only for its counts.
 #[inline]
 pub fn next_frame<R: ByteIn>(
     source: &mut Source<R>,
@@ -210,30 +208,30 @@ pub fn next_frame<R: ByteIn>(
     ensures frame { IfOk result (λ o. IfSome o (λ f. IfKnown (to_come R.reads.rest source.old) (λ bytes.
         TakesFrame progress.old bytes f (to_come R.reads.rest source.new)))) }
     ensures channels { IfOk result (λ o. IfSome o (λ f. length f ≡ progress.old.channels)) }
-    ensures told { IfOk result (λ o. OnSome o (Takes R.reads.told source.old source.new (size_of progress.old))) }
+    ensures delivered { IfOk result (λ o. OnSome o (Takes R.reads.delivered source.old source.new (size_of progress.old))) }
     ensures counted { IfOk result (λ o. OnSome o (progress.new ≡ after_frame progress.old)) }
-    ensures below { IfOk result (λ o. OnSome o ((progress.old.over ≡ false) × (progress.old.frames < MOST_FRAMES))) }
+    ensures below { IfOk result (λ o. OnSome o ((progress.old.over ≡ false) × (progress.old.frames < MAX_FRAMES))) }
 
     // The end, and from then on.
     ensures end { IfOk result (λ o. IfNone o (progress.old.over ≡ false → IfKnown (to_come R.reads.rest source.old) (λ bytes.
         EndsSound progress.old bytes progress.new))) }
     ensures left { IfOk result (λ o. IfNone o (progress.old.over ≡ false → IfKnown (to_come R.reads.rest source.old) (λ bytes.
-        to_come R.reads.rest source.new ≡ Some (drop (length (within progress.old.left bytes)) bytes)))) }
+        to_come R.reads.rest source.new ≡ Some (drop (length (within_sound progress.old.left bytes)) bytes)))) }
     ensures over { IfOk result (λ o. IfNone o ((progress.new.over ≡ true) × (progress.new.frames ≡ progress.old.frames))) }
     ensures stays { progress.old.over ≡ true → (result ≡ Ok None) × (progress.new ≡ progress.old) × (source.new ≡ source.old) }
 
     // The faults.
     ensures read_failed { result ≡ Err ReadFault.ReadFailed →
-        FallsShort R.reads.told source.old source.new.reader (at_most_announced progress.old.left (size_of progress.old)) }
-    ensures came { result ≡ Err ReadFault.ReadFailed → IfKnown (to_come R.reads.rest source.old) (λ bytes. HoldsWhatCame R.reads.told source.old source.new bytes 0) }
-    ensures too_long { result ≡ Err ReadFault.TooLong → (progress.old.frames ≡ MOST_FRAMES)
-        × IfKnown (to_come R.reads.rest source.old) (λ bytes. size_of progress.old ≤ length (within progress.old.left bytes)) }
+        FallsShort R.reads.delivered source.old source.new.reader (at_most_announced progress.old.left (size_of progress.old)) }
+    ensures came { result ≡ Err ReadFault.ReadFailed → IfKnown (to_come R.reads.rest source.old) (λ bytes. HoldsWhatCame R.reads.delivered source.old source.new bytes 0) }
+    ensures too_long { result ≡ Err ReadFault.TooLong → (progress.old.frames ≡ MAX_FRAMES)
+        × IfKnown (to_come R.reads.rest source.old) (λ bytes. size_of progress.old ≤ length (within_sound progress.old.left bytes)) }
     ensures kept { result ≡ Err ReadFault.TooLong → Stays R.reads.rest source.old source.new }
     ensures err { OnErr result (progress.new ≡ progress.old) }
     ensures failures { MatchBool (is_read_failed result)
         (R.reads.failures source.new.reader ≡ saturated (R.reads.failures source.old.reader + 1))
         (R.reads.failures source.new.reader ≡ R.reads.failures source.old.reader) }
-    ensures most { progress.new.frames ≤ MOST_FRAMES }
+    ensures maximum { progress.new.frames ≤ MAX_FRAMES }
 
     // No read where the bytes are there.
     ensures unread { at_most_announced progress.old.left (size_of progress.old) ≤ length source.old.bytes → source.new.reader ≡ source.old.reader }
@@ -250,10 +248,10 @@ pub fn next_frame<R: ByteIn>(
     }
 }
 
-/// The next frame off the bytes that are held; `None` where they are fewer than it asks for, which is the end where no more are
-/// to come.
+/// The next frame from the bytes that are held; `None` where they are fewer than it asks for, which is the end where no more
+/// are to come.
 ///
-/// No read is asked for. After `TooLong` the source is as it was.
+/// No read is asked for. After `TooLong` the source is unchanged.
 #[inline]
 pub fn take_frame<R: ReadBeside>(
     source: &mut Source<R>,
@@ -265,24 +263,24 @@ pub fn take_frame<R: ReadBeside>(
     ensures frame { IfOk result (λ o. IfSome o (λ f. IfKnown (to_come R.reads.rest source.old) (λ bytes.
         TakesFrame progress.old bytes f (to_come R.reads.rest source.new)))) }
     ensures channels { IfOk result (λ o. IfSome o (λ f. length f ≡ progress.old.channels)) }
-    ensures told { IfOk result (λ o. OnSome o (Takes R.reads.told source.old source.new (size_of progress.old))) }
+    ensures delivered { IfOk result (λ o. OnSome o (Takes R.reads.delivered source.old source.new (size_of progress.old))) }
     ensures counted { IfOk result (λ o. OnSome o (progress.new ≡ after_frame progress.old)) }
-    ensures below { IfOk result (λ o. OnSome o (progress.old.frames < MOST_FRAMES)) }
+    ensures below { IfOk result (λ o. OnSome o (progress.old.frames < MAX_FRAMES)) }
 
     // The end.
     ensures end { IfOk result (λ o. IfNone o (IfKnown (to_come R.reads.rest source.old) (λ bytes.
         (length source.old.bytes < at_most_announced progress.old.left (size_of progress.old) → bytes ≡ source.old.bytes) → EndsSound progress.old bytes progress.new))) }
     ensures left { IfOk result (λ o. IfNone o (IfKnown (to_come R.reads.rest source.old) (λ bytes.
-        (length source.old.bytes < at_most_announced progress.old.left (size_of progress.old) → bytes ≡ source.old.bytes) → to_come R.reads.rest source.new ≡ Some (drop (length (within progress.old.left bytes)) bytes)))) }
+        (length source.old.bytes < at_most_announced progress.old.left (size_of progress.old) → bytes ≡ source.old.bytes) → to_come R.reads.rest source.new ≡ Some (drop (length (within_sound progress.old.left bytes)) bytes)))) }
     ensures over { IfOk result (λ o. IfNone o ((progress.new.over ≡ true) × (progress.new.frames ≡ progress.old.frames))) }
 
     // Too many frames.
-    ensures too_long { OnErr result ((progress.old.frames ≡ MOST_FRAMES)
-        × IfKnown (to_come R.reads.rest source.old) (λ bytes. size_of progress.old ≤ length (within progress.old.left bytes))) }
+    ensures too_long { OnErr result ((progress.old.frames ≡ MAX_FRAMES)
+        × IfKnown (to_come R.reads.rest source.old) (λ bytes. size_of progress.old ≤ length (within_sound progress.old.left bytes))) }
     ensures kept { OnErr result (source.new ≡ source.old) }
     ensures err { OnErr result (progress.new ≡ progress.old) }
 
-    ensures most { progress.new.frames ≤ MOST_FRAMES }
+    ensures maximum { progress.new.frames ≤ MAX_FRAMES }
     ensures bytes { IfOk result (λ o. OnSome o (length source.old.bytes ≡ size_of progress.old + length source.new.bytes)) }
     ensures reader { source.new.reader ≡ source.old.reader }
     ensures short { source.new.short ≡ source.old.short }
@@ -294,7 +292,7 @@ pub fn take_frame<R: ReadBeside>(
         progress.finish(got);
         return Ok(None);
     }
-    if progress.frames >= MOST_FRAMES {
+    if progress.frames >= MAX_FRAMES {
         return Err(TooLong);
     }
     let frame = decoded(progress.coding, progress.channels, source.peek(size));

@@ -1,24 +1,24 @@
 //! A whole sound in memory.
 
 ghost use Rattle.std.specs.Prelude.{◌≡◌, ◌+◌, ◌≤◌, ◌*◌, drop, false, IfOk, IfErr, MatchBool, OnErr, OnOk, Err, Some, length};
-ghost use Rattle.fx_io.specs.Io.{saturated};
+ghost use Rattle.fx_frame_io.specs.Io.{saturated};
 ghost use Rattle.fx_sound.specs.Fault.{is_sound_read_failed};
-ghost use Rattle.fx_sound.specs.Container.{after_frames, container, frames_of, at_end, ReadAllTold};
-ghost use Rattle.fx_heads.specs.Known.{IfKnown};
-ghost use Rattle.fx_sound.specs.Sound.{size_of, within};
-ghost use Rattle.fx_heads.specs.Source.{HoldsWhatCame, to_come};
-ghost use Rattle.fx_sound.specs.WholeSound.{outcome, IsBehindHead, IsHeadFault};
+ghost use Rattle.fx_sound.specs.Container.{after_frames, container, frames_of_sound, at_end, ReadAllDelivered};
+ghost use Rattle.fx_sound_heads.specs.Known.{IfKnown};
+ghost use Rattle.fx_sound.specs.Sound.{size_of, within_sound};
+ghost use Rattle.fx_sound_heads.specs.Source.{HoldsWhatCame, to_come};
+ghost use Rattle.fx_sound.specs.WholeSound.{outcome, IsAfterHead, IsHeadFault};
 
-use super::progress::{MOST_FRAMES, Progress, ReadFault, next_frame};
+use super::progress::{MAX_FRAMES, Progress, ReadFault, next_frame};
 use fx_frame::{ByteIn, Frame};
-use fx_heads::{Head, HeadFault, Kind, Source, read_head};
+use fx_sound_heads::{Head, HeadFault, Kind, Source, read_head};
 use std::alloc::Global;
 use thiserror::Error;
 
 /// A whole sound.
 #[derive(Drop)]
 pub struct Sound {
-    /// What its head says.
+    /// The content of its head.
     pub head: Head,
     /// Its whole frames.
     pub frames: Vec<Frame>,
@@ -37,7 +37,7 @@ pub enum SoundFault {
     /// Why there was no next frame.
     #[error("the sound: {0}")]
     Read(ReadFault),
-    /// A growth was refused.
+    /// An allocation was refused.
     #[error("no memory")]
     Memory,
 }
@@ -51,27 +51,27 @@ pub fn read_frames<R: ByteIn>(
     requires fresh { progress.old.frames ≡ 0 }
     requires begun { progress.old.over ≡ false }
     ensures frames { IfOk result (λ v. IfKnown (to_come R.reads.rest source.old) (λ bytes.
-        v.items ≡ frames_of progress.old.coding progress.old.channels (within progress.old.left bytes))) }
+        v.items ≡ frames_of_sound progress.old.coding progress.old.channels (within_sound progress.old.left bytes))) }
     ensures end { OnOk result (IfKnown (to_come R.reads.rest source.old) (λ bytes.
-        progress.new ≡ at_end progress.old (within progress.old.left bytes))) }
+        progress.new ≡ at_end progress.old (within_sound progress.old.left bytes))) }
     ensures left { OnOk result (IfKnown (to_come R.reads.rest source.old) (λ bytes.
-        to_come R.reads.rest source.new ≡ Some (drop (length (within progress.old.left bytes)) bytes))) }
+        to_come R.reads.rest source.new ≡ Some (drop (length (within_sound progress.old.left bytes)) bytes))) }
     ensures counted { OnErr result (progress.new ≡ after_frames progress.old progress.new.frames) }
     ensures read_failed { result ≡ Err (SoundFault.Read ReadFault.ReadFailed)
-        → ReadAllTold R.reads.told source.old source.new.reader progress.old progress.new.frames }
+        → ReadAllDelivered R.reads.delivered source.old source.new.reader progress.old progress.new.frames }
     ensures came { result ≡ Err (SoundFault.Read ReadFault.ReadFailed) → IfKnown (to_come R.reads.rest source.old) (λ bytes.
-        HoldsWhatCame R.reads.told source.old source.new bytes (progress.new.frames * size_of progress.old)) }
+        HoldsWhatCame R.reads.delivered source.old source.new bytes (progress.new.frames * size_of progress.old)) }
     ensures stands { OnErr result (is_sound_read_failed result ≡ false → IfKnown (to_come R.reads.rest source.old) (λ bytes.
         to_come R.reads.rest source.new ≡ Some (drop (progress.new.frames * size_of progress.old) bytes))) }
-    ensures behind_head { IfErr result IsBehindHead }
+    ensures after_head { IfErr result IsAfterHead }
     ensures failures { MatchBool (is_sound_read_failed result)
         (R.reads.failures source.new.reader ≡ saturated (R.reads.failures source.old.reader + 1))
         (R.reads.failures source.new.reader ≡ R.reads.failures source.old.reader) }
     ensures too_long { result ≡ Err (SoundFault.Read ReadFault.TooLong) → IfKnown (to_come R.reads.rest source.old) (λ bytes.
-        (MOST_FRAMES + 1) * size_of progress.old ≤ length (within progress.old.left bytes)) }
+        (MAX_FRAMES + 1) * size_of progress.old ≤ length (within_sound progress.old.left bytes)) }
 {
     let mut frames = Vec::new(alloc);
-    for _turn in 0..MOST_FRAMES + 1 {
+    for _turn in 0..MAX_FRAMES + 1 {
         match next_frame(source, progress) {
             Ok(Some(frame)) => frames.push(frame).map_err(|_| SoundFault::Memory)?,
             Ok(None) => return Ok(frames),
@@ -81,7 +81,7 @@ pub fn read_frames<R: ByteIn>(
     unreachable!()
 }
 
-/// A whole sound: its head and its frames, as the container says them of all the bytes at once.
+/// A whole sound: its head and its frames, as the container defines them on all bytes at once.
 pub fn read_sound<R: ByteIn>(
     alloc: Global,
     source: &mut Source<R>,

@@ -1,8 +1,8 @@
+// Written by scripts/effects from effects/*.toml. Do not edit.
 //! Effects that compute samples: each sample is one exact fraction, rounded once.
 #![tactic(auto)]
 
-pub use fx_convolve::dot;
-pub use fx_fir::Fir;
-pub use fx_fixed::{OutSpec, Weight};
-pub use fx_map::{DcShift, Remix, Vol};
-pub use fx_past::{Delay, Echo, Echos};
+pub use fx_tap_convolve::dot;
+pub use fx_tap_delays::{Delay, Echo, Echos};
+pub use fx_tap_fir::Fir;
+pub use fx_tap_pointwise::{DcShift, OutSpec, Remix, Vol, Weight};

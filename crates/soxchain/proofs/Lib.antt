@@ -1,3 +1,3 @@
 pub mod Concluding
 pub mod Converting
-pub mod TellingLemmas
+pub mod MessageWriterLemmas

@@ -7,4 +7,4 @@ pub mod Program
 pub mod Readying
 pub mod Saying
 pub mod Stops
-pub mod Telling
+pub mod MessageWriter

@@ -1,19 +1,19 @@
 -- The messages of the program (this project's profile), as the bytes of a line each.
 use Rattle.std.specs.Prelude.{ℕ, zero, suc, ◌+◌, ◌-◌, nat_lt, min, slice_get, slice_index_or, unwrap_or, Bool, true, false, ◌&&◌, if◌then◌else◌, Result, Ok, Err, List, [], ◌∷◌, ◌++◌, codes, decimal, length}
-use Rattle.fx_run.specs.declared.report.Report.{Report}
-use Rattle.fx_run.specs.declared.report.RunFault.{RunFault}
-use Rattle.fx_run.specs.declared.report.RunFault.TheVariants as RunFaults
-use Rattle.fx_run.specs.Report.{report_at}
-use Rattle.fx_line.specs.declared.line.LineFault.{LineFault}
-use Rattle.fx_line.specs.declared.line.LineFault.TheVariants as LineFaults
-use Rattle.fx_line.specs.Line.{Said}
-use Rattle.fx_words.specs.declared.fault.PlanCause.{PlanCause}
-use Rattle.fx_words.specs.declared.fault.PlanCause.TheVariants as causes
+use Rattle.fx_chain_run.specs.declared.report.Report.{Report}
+use Rattle.fx_chain_run.specs.declared.report.RunFault.{RunFault}
+use Rattle.fx_chain_run.specs.declared.report.RunFault.TheVariants as RunFaults
+use Rattle.fx_chain_run.specs.Report.{report_at}
+use Rattle.fx_plan_line.specs.declared.line.LineFault.{LineFault}
+use Rattle.fx_plan_line.specs.declared.line.LineFault.TheVariants as LineFaults
+use Rattle.fx_plan_line.specs.Line.{Said}
+use Rattle.fx_plan_words.specs.declared.fault.PlanCause.{PlanCause}
+use Rattle.fx_plan_words.specs.declared.fault.PlanCause.TheVariants as causes
 use Rattle.fx_plan.specs.declared.fault.PlanFault.{PlanFault}
 use Rattle.fx_plan.specs.CommandLines.{effect_words, effects_in}
-use Rattle.fx_words.specs.Faults.{Word}
-use Rattle.fx_heads.specs.declared.head.HeadFault.{HeadFault}
-use Rattle.fx_heads.specs.declared.head.HeadFault.TheVariants as HeadFaults
+use Rattle.fx_plan_words.specs.Faults.{Word}
+use Rattle.fx_sound_heads.specs.declared.head.HeadFault.{HeadFault}
+use Rattle.fx_sound_heads.specs.declared.head.HeadFault.TheVariants as HeadFaults
 use Rattle.soxchain.specs.declared.preparing.Refusal.{Refusal}
 use Rattle.soxchain.specs.declared.preparing.Refusal.TheVariants as refusals
 use Rattle.soxchain.specs.Stops.{Stop, Refused, Run}
@@ -79,7 +79,7 @@ plan_label causes.HoldTooLarge = codes "14 HoldTooLarge"
 plan_label causes.TooLong = codes "15 TooLong"
 plan_label causes.Memory = codes "16 Memory"
 
--- a fault of no one effect
+-- a fault that belongs to no single effect
 abbrev pub is_of_all : PlanCause → Bool
 is_of_all causes.HoldTooLarge = true
 is_of_all causes.TooLong = true
@@ -87,8 +87,8 @@ is_of_all causes.Memory = true
 is_of_all cause = false
 
 -- a word of an effect, both counted from 1; no bytes where there is none
-abbrev pub told_word : List (List Word) → ℕ → ℕ → Word
-told_word effects number place =
+abbrev pub reported_word : List (List Word) → ℕ → ℕ → Word
+reported_word effects number place =
     if nat_lt 0 number && nat_lt 0 place then unwrap_or (slice_get (effect_words number effects) (place - 1)) [] else []
 
 -- the message on effects that are refused
@@ -96,7 +96,7 @@ abbrev pub plan_message : List (List Word) → PlanFault → List ℕ
 plan_message effects f =
     if is_of_all f.cause
     then effects_message (plan_label f.cause)
-    else effect_message f.effect (told_word effects f.effect 1) (plan_label f.cause) (told_word effects f.effect f.word)
+    else effect_message f.effect (reported_word effects f.effect 1) (plan_label f.cause) (reported_word effects f.effect f.word)
 
 -- number and name of what is wrong with a head
 abbrev pub head_label : HeadFault → List ℕ
@@ -121,10 +121,10 @@ effect_warning number name (suc n) =
     (codes "soxchain: warning: effect " ++ decimal number ++ codes " " ++ name ++ codes ": clipped samples ")
     ++ (decimal (suc n) ++ line_feed)
 
--- the warnings of the first effects, so many of them
+-- the warnings of the first effects, this number of them
 abbrev pub effect_warnings : List (List Word) → List ℕ → ℕ → List ℕ
 effect_warnings effects clips zero = []
-effect_warnings effects clips (suc n) = effect_warnings effects clips n ++ effect_warning (n + 1) (told_word effects (n + 1) 1) (slice_index_or clips n 0)
+effect_warnings effects clips (suc n) = effect_warnings effects clips n ++ effect_warning (n + 1) (reported_word effects (n + 1) 1) (slice_index_or clips n 0)
 
 -- the warnings of a run, a line each, in this order
 abbrev pub warnings : Said → Report → List ℕ

@@ -1,31 +1,31 @@
 -- What comes before a run (this project's profile).
 use Rattle.std.specs.Prelude.{◌≡◌, ℕ, ◌+◌, List, []}
-use Rattle.fx_io.specs.Io.{ByteReader, saturated}
-use Rattle.fx_line.specs.Line.{Said}
+use Rattle.fx_frame_io.specs.Io.{ByteReader, saturated}
+use Rattle.fx_plan_line.specs.Line.{Said}
 use Rattle.fx_plan.specs.declared.fault.PlanFault.{PlanFault}
 use Rattle.fx_plan.specs.CommandLines.{effects_in}
 use Rattle.fx_plan.specs.Plans.{head_layout, RefusesPlan, all_faults}
-use Rattle.fx_heads.specs.declared.head.Head.{Head}
-use Rattle.fx_heads.specs.declared.head.HeadFault.TheVariants as HeadFaults
-use Rattle.fx_heads.specs.Known.{IfKnown}
-use Rattle.fx_heads.specs.Head.{ReadsHead}
-use Rattle.fx_heads.specs.Source.{Held, to_come}
+use Rattle.fx_sound_heads.specs.declared.head.Head.{Head}
+use Rattle.fx_sound_heads.specs.declared.head.HeadFault.TheVariants as HeadFaults
+use Rattle.fx_sound_heads.specs.Known.{IfKnown}
+use Rattle.fx_sound_heads.specs.Head.{ReadsHead}
+use Rattle.fx_sound_heads.specs.Source.{Held, to_come}
 use Rattle.soxchain.specs.declared.preparing.Refusal.{Refusal}
 use Rattle.soxchain.specs.declared.preparing.Refusal.TheVariants as Refusals
 
--- The plan of a line behind the head that was read is refused, by its first fault or for want of memory.
+-- The plan of a line after the head that was read is refused, by its first fault or for lack of memory.
 pub record PlanIsRefused {R : Type 0} (reads : ByteReader R) (line : Said) (files : List (List ℕ)) (old new : Held R) (f : PlanFault) : Type 0 where
   pub head : Head
-  pub read : IfKnown (to_come reads.rest old) (λ bytes. ReadsHead reads.rest reads.told line.input_kind bytes old new head)
+  pub read : IfKnown (to_come reads.rest old) (λ bytes. ReadsHead reads.rest reads.delivered line.input_kind bytes old new head)
   pub refuses : RefusesPlan f (all_faults (head_layout head) files (effects_in line))
 
--- No memory was found for the chain of a line: the head stood, and the plan behind it has no fault.
+-- No memory was found for the chain of a line: its head and the plan after it have no fault.
 pub record ChainIsRefused {R : Type 0} (reads : ByteReader R) (line : Said) (files : List (List ℕ)) (old new : Held R) : Type 0 where
   pub head : Head
-  pub read : IfKnown (to_come reads.rest old) (λ bytes. ReadsHead reads.rest reads.told line.input_kind bytes old new head)
+  pub read : IfKnown (to_come reads.rest old) (λ bytes. ReadsHead reads.rest reads.delivered line.input_kind bytes old new head)
   pub no_faults : all_faults (head_layout head) files (effects_in line) ≡ []
 
--- a refusal is answered only where its cause was counted
+-- a refusal is returned only where its cause was counted
 abbrev pub RefusalHasCause : Refusal → ℕ → ℕ → Type 0
 RefusalHasCause (Refusals.Head HeadFaults.ReadFailed) reads new_reads = new_reads ≡ saturated (reads + 1)
 RefusalHasCause (Refusals.Head f) reads new_reads = new_reads ≡ reads

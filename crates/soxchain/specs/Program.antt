@@ -1,18 +1,18 @@
--- The answers of the program (this project's profile).
+-- The results of the program (this project's profile).
 use Rattle.std.specs.Prelude.{◌≡◌, ℕ, List, Result, Ok, Err}
-use Rattle.fx_run.specs.declared.report.Report.{Report}
-use Rattle.fx_run.specs.Report.{no_report, report_at}
-use Rattle.fx_line.specs.declared.line.LineFault.{LineFault}
-use Rattle.fx_line.specs.declared.line.LineFault.TheVariants as LineFaults
-use Rattle.fx_line.specs.Line.{Said}
-use Rattle.fx_words.specs.declared.fault.PlanCause.{PlanCause}
-use Rattle.fx_words.specs.declared.fault.PlanCause.TheVariants.{Memory}
+use Rattle.fx_chain_run.specs.declared.report.Report.{Report}
+use Rattle.fx_chain_run.specs.Report.{no_report, report_at}
+use Rattle.fx_plan_line.specs.declared.line.LineFault.{LineFault}
+use Rattle.fx_plan_line.specs.declared.line.LineFault.TheVariants as LineFaults
+use Rattle.fx_plan_line.specs.Line.{Said}
+use Rattle.fx_plan_words.specs.declared.fault.PlanCause.{PlanCause}
+use Rattle.fx_plan_words.specs.declared.fault.PlanCause.TheVariants.{Memory}
 use Rattle.soxchain.specs.declared.preparing.Refusal.{Refusal}
 use Rattle.soxchain.specs.declared.preparing.Refusal.TheVariants.{Head, Plan, Chain}
 use Rattle.soxchain.specs.Messages.{line_label, line_message, outcome_messages}
 use Rattle.soxchain.specs.Stops.{Stop, Refused, Run}
 
--- 1 for a command line that is refused, and 2 where memory was wanting
+-- 1 for a command line that is refused, and 2 where memory was refused
 abbrev pub status_of_line : LineFault → ℕ
 status_of_line LineFaults.MissingFile = 1
 status_of_line LineFaults.BadOption = 1
@@ -20,7 +20,7 @@ status_of_line LineFaults.NoOutputType = 1
 status_of_line LineFaults.BadBits = 1
 status_of_line LineFaults.Memory = 2
 
--- 1 for effects that are refused, and 2 where memory was wanting
+-- 1 for effects that are refused, and 2 where memory was refused
 abbrev pub status_of_plan : PlanCause → ℕ
 status_of_plan Memory = 2
 status_of_plan cause = 1
@@ -43,16 +43,16 @@ report_of (Ok r) = r
 report_of (Err (Refused r)) = no_report
 report_of (Err (Run f)) = report_at f
 
--- an outcome that is so, and status, report and messages that follow from it
-pub record Answers (line : Said) (IsOutcome : Result Report Stop → Type 0) (IsTold : List ℕ → Type 0) (status : ℕ) (report : Report) : Type 0 where
+-- an outcome with this property, and status, report and messages that follow from it
+pub record Answers (line : Said) (IsOutcome : Result Report Stop → Type 0) (IsReported : List ℕ → Type 0) (status : ℕ) (report : Report) : Type 0 where
   pub outcome : Result Report Stop
   pub is : IsOutcome outcome
   pub status_is : status ≡ outcome_status outcome
   pub report_is : report ≡ report_of outcome
-  pub told : IsTold (outcome_messages line outcome)
+  pub delivered : IsReported (outcome_messages line outcome)
 
--- What a command line comes to: where it is refused one message, nothing being touched, and else the answers on it.
+-- The result of a command line: one message where it is refused, with nothing read or written, and else the result for it.
 abbrev pub Concludes : (Said → Result Report Stop → Type 0) → Type 0 → (List ℕ → Type 0) → ℕ → Report → Result Said LineFault → Type 0
-Concludes IsOutcome Untouched IsTold status report (Err fault) =
-    (status ≡ status_of_line fault) × (report ≡ no_report) × Untouched × IsTold (line_message (line_label fault))
-Concludes IsOutcome Untouched IsTold status report (Ok line) = Answers line (IsOutcome line) IsTold status report
+Concludes IsOutcome Untouched IsReported status report (Err fault) =
+    (status ≡ status_of_line fault) × (report ≡ no_report) × Untouched × IsReported (line_message (line_label fault))
+Concludes IsOutcome Untouched IsReported status report (Ok line) = Answers line (IsOutcome line) IsReported status report

@@ -1,5 +1,5 @@
 -- Why a conversion stopped whose command line was accepted (this project's profile).
-use Rattle.fx_run.specs.declared.report.RunFault.{RunFault}
+use Rattle.fx_chain_run.specs.declared.report.RunFault.{RunFault}
 use Rattle.soxchain.specs.declared.preparing.Refusal.{Refusal}
 
 -- before its run, and then nothing was written; or the run stopped

@@ -1,12 +1,12 @@
 //! The conversion of a sound, from words and bytes to bytes, messages and a status.
 ghost use Rattle.std.specs.Prelude.{◌≡◌, Result};
-ghost use Rattle.fx_line.specs.Line.{Said, line_of, texts};
+ghost use Rattle.fx_plan_line.specs.Line.{Said, line_of_words, texts};
 ghost use Rattle.fx_plan.specs.CommandLines.{LineReads};
-ghost use Rattle.fx_plan.specs.Plans.{bytes_of};
-ghost use Rattle.fx_line.specs.declared.line.LineFault.{LineFault};
+ghost use Rattle.fx_plan.specs.Plans.{plan_bytes};
+ghost use Rattle.fx_plan_line.specs.declared.line.LineFault.{LineFault};
 ghost use Rattle.soxchain.specs.Convert.{Converted};
 ghost use Rattle.soxchain.specs.Program.{Concludes};
-ghost use Rattle.soxchain.specs.Telling.{Tells};
+ghost use Rattle.soxchain.specs.MessageWriter.{WritesMessage};
 
 use crate::ready::{finish, prepare};
 use fx_chain::Report;
@@ -18,7 +18,7 @@ use std::alloc::Global;
 ///
 /// The words are `[-D] [-t wav|au] IN [-D] [-t wav|au] [-b 8|16|24|32] OUT [EFFECT [WORD ..] ..]`. The sound comes from the
 /// reader and goes to the output, whatever IN and OUT are; where OUT is a file, a WAVE of odd length gets its zero byte.
-/// Answers the status (0: all went well, 1: the words are refused, 2: every other fault), what was done, and the reader.
+/// Returns the status (0: all went well, 1: the words are refused, 2: every other fault), what was done, and the reader.
 /// Faults and warnings go to `messages`, a line each; after a fault of that writer no more is written to it, and nothing
 /// else changes.
 pub fn convert<R: ByteIn, W: ByteOut, M: ByteOut>(
@@ -31,10 +31,10 @@ pub fn convert<R: ByteIn, W: ByteOut, M: ByteOut>(
 ) -> (u8, Report, R)
     // The words are a command line, or have a fault, or no memory was found for the line. A line that is refused reads and
     // writes nothing.
-    ensures { (found : Result Said LineFault) × LineReads (line_of (texts words.now)) found × Concludes
-        (λ line. Converted R.reads W.writes line (bytes_of files.now) reader result.2 output.old output.new)
+    ensures { (found : Result Said LineFault) × LineReads (line_of_words (texts words.now)) found × Concludes
+        (λ line. Converted R.reads W.writes line (plan_bytes files.now) reader result.2 output.old output.new)
         ((result.2 ≡ reader) × (output.new ≡ output.old))
-        (Tells M.writes messages.old messages.new) result.0 result.1 found }
+        (WritesMessage M.writes messages.old messages.new) result.0 result.1 found }
 {
     let mut source = Source::new(reader);
     let ready = match prepare(alloc, words, files, &mut source, messages) {

@@ -2,19 +2,19 @@
 ghost use Rattle.soxchain.specs.FileMessages.{open_message, rewrite_message};
 ghost use Rattle.soxchain.specs.Saying.{Says};
 
-use crate::telling::Telling;
+use crate::message_writer::MessageWriter;
 use fx_frame::ByteOut;
 
 /// `soxchain: cannot open NAME`, where the file of this name cannot be opened, read or created.
-pub fn tell_cannot_open<M: ByteOut>(telling: &mut Telling<M>, name: &str)
-    ensures { Says M.writes telling.old telling.new (open_message name.now) }
+pub fn tell_cannot_open<M: ByteOut>(message_writer: &mut MessageWriter<M>, name: &str)
+    ensures { Says M.writes message_writer.old message_writer.new (open_message name.now) }
 {
-    telling.note("soxchain: cannot open ", name);
+    message_writer.note("soxchain: cannot open ", name);
 }
 
 /// `soxchain: cannot rewrite NAME`, where the head of this file cannot be written again with its true sizes.
-pub fn tell_cannot_rewrite<M: ByteOut>(telling: &mut Telling<M>, name: &str)
-    ensures { Says M.writes telling.old telling.new (rewrite_message name.now) }
+pub fn tell_cannot_rewrite<M: ByteOut>(message_writer: &mut MessageWriter<M>, name: &str)
+    ensures { Says M.writes message_writer.old message_writer.new (rewrite_message name.now) }
 {
-    telling.note("soxchain: cannot rewrite ", name);
+    message_writer.note("soxchain: cannot rewrite ", name);
 }

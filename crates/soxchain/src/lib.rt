@@ -4,12 +4,12 @@
 mod conversion;
 mod file_messages;
 pub mod inner;
+mod message_writer;
 mod messages;
 mod prepared;
 mod preparing;
 mod ready;
-mod telling;
 
 pub use conversion::convert;
-pub use fx_chain::{MOST_EFFECTS, Report, RunFault};
+pub use fx_chain::{MAX_EFFECTS, Report, RunFault};
 pub use ready::{Ready, finish, prepare};

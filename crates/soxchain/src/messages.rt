@@ -1,69 +1,69 @@
 //! The messages of the program, one line each.
 ghost use Rattle.std.specs.Prelude.{◌≡◌, ◌++◌, length, min};
-ghost use Rattle.fx_run.specs.Report.{report_at};
+ghost use Rattle.fx_chain_run.specs.Report.{report_at};
 ghost use Rattle.fx_plan.specs.CommandLines.{effects_in};
 ghost use Rattle.soxchain.specs.Messages;
 ghost use Rattle.soxchain.specs.Messages.{chain_message, effect_message, effect_warning, effect_warnings, effects_message, head_label, input_message, line_label, line_message, plan_label, plan_message, refusal_message, run_label, run_message, warning, warnings};
 ghost use Rattle.soxchain.specs.Saying.{Says};
 
+use crate::message_writer::MessageWriter;
 use crate::preparing::Refusal;
-use crate::telling::Telling;
-use fx_chain::{MOST_EFFECTS, Report, RunFault};
+use fx_chain::{MAX_EFFECTS, Report, RunFault};
 use fx_frame::ByteOut;
-use fx_line::LineFault;
 use fx_plan::{CommandLine, PlanCause, PlanFault};
+use fx_plan_line::LineFault;
 use fx_sound::HeadFault;
 use itoa::Buffer;
 
 /// `soxchain: command line: 2 BadOption`, with the number and name of the fault.
-pub fn tell_line<M: ByteOut>(telling: &mut Telling<M>, fault: &str)
-    ensures { Says M.writes telling.old telling.new (line_message fault.now) }
+pub fn tell_line<M: ByteOut>(message_writer: &mut MessageWriter<M>, fault: &str)
+    ensures { Says M.writes message_writer.old message_writer.new (line_message fault.now) }
 {
-    telling.note("soxchain: command line: ", fault);
+    message_writer.note("soxchain: command line: ", fault);
 }
 
 /// `soxchain: effect 1 vol: 5 BadArgument: x`, with the effect's number and name, the fault's number and name, and the word.
 pub fn tell_effect<M: ByteOut>(
-    telling: &mut Telling<M>,
+    message_writer: &mut MessageWriter<M>,
     number: usize,
     name: &str,
     fault: &str,
     word: &str,
 )
-    ensures { Says M.writes telling.old telling.new (effect_message number name.now fault.now word.now) }
+    ensures { Says M.writes message_writer.old message_writer.new (effect_message number name.now fault.now word.now) }
 {
     let mut buffer = Buffer::new();
-    telling.sentence(
+    message_writer.sentence(
         "soxchain: effect ",
         buffer.format(number as u64),
         " ",
         name,
         ": ",
     );
-    telling.text(fault);
-    telling.note(": ", word);
+    message_writer.text(fault);
+    message_writer.note(": ", word);
 }
 
 /// `soxchain: effects: 14 HoldTooLarge`, with the number and name of the fault.
-pub fn tell_effects<M: ByteOut>(telling: &mut Telling<M>, fault: &str)
-    ensures { Says M.writes telling.old telling.new (effects_message fault.now) }
+pub fn tell_effects<M: ByteOut>(message_writer: &mut MessageWriter<M>, fault: &str)
+    ensures { Says M.writes message_writer.old message_writer.new (effects_message fault.now) }
 {
-    telling.note("soxchain: effects: ", fault);
+    message_writer.note("soxchain: effects: ", fault);
 }
 
 /// `soxchain: input: 3 Truncated`, with the number and name of the fault.
-pub fn tell_input<M: ByteOut>(telling: &mut Telling<M>, fault: &str)
-    ensures { Says M.writes telling.old telling.new (input_message fault.now) }
+pub fn tell_input<M: ByteOut>(message_writer: &mut MessageWriter<M>, fault: &str)
+    ensures { Says M.writes message_writer.old message_writer.new (input_message fault.now) }
 {
-    telling.note("soxchain: input: ", fault);
+    message_writer.note("soxchain: input: ", fault);
 }
 
 /// `soxchain: run: 1 ReadFailed after frames 5`, with the number and name of the fault and the frames that were read.
-pub fn tell_run<M: ByteOut>(telling: &mut Telling<M>, fault: &str, frames: u64)
-    ensures { Says M.writes telling.old telling.new (run_message fault.now frames) }
+pub fn tell_run<M: ByteOut>(message_writer: &mut MessageWriter<M>, fault: &str, frames: u64)
+    ensures { Says M.writes message_writer.old message_writer.new (run_message fault.now frames) }
 {
     let mut buffer = Buffer::new();
-    telling.sentence(
+    message_writer.sentence(
         "soxchain: run: ",
         fault,
         " after frames ",
@@ -73,14 +73,14 @@ pub fn tell_run<M: ByteOut>(telling: &mut Telling<M>, fault: &str, frames: u64)
 }
 
 /// `soxchain: warning: input: missing bytes 3`, with what is counted and how often; nothing where that is 0.
-pub fn tell_warning<M: ByteOut>(telling: &mut Telling<M>, counted: &str, count: u64)
-    ensures { Says M.writes telling.old telling.new (warning counted.now count) }
+pub fn tell_warning<M: ByteOut>(message_writer: &mut MessageWriter<M>, counted: &str, count: u64)
+    ensures { Says M.writes message_writer.old message_writer.new (warning counted.now count) }
 {
     if count == 0 {
         return;
     }
     let mut buffer = Buffer::new();
-    telling.sentence(
+    message_writer.sentence(
         "soxchain: warning: ",
         counted,
         " ",
@@ -103,10 +103,10 @@ pub fn label_of_line(fault: LineFault) -> &'static str
 }
 
 /// `soxchain: chain: no memory`.
-pub fn tell_chain<M: ByteOut>(telling: &mut Telling<M>)
-    ensures { Says M.writes telling.old telling.new chain_message }
+pub fn tell_chain<M: ByteOut>(message_writer: &mut MessageWriter<M>)
+    ensures { Says M.writes message_writer.old message_writer.new chain_message }
 {
-    telling.note("soxchain: chain: ", "no memory");
+    message_writer.note("soxchain: chain: ", "no memory");
 }
 
 // Number and name of what is wrong with a head.
@@ -159,7 +159,7 @@ fn label_of_plan(cause: PlanCause) -> &'static str
     }
 }
 
-// A fault of no one effect.
+// A fault that belongs to no single effect.
 fn is_of_all(cause: PlanCause) -> bool
     ensures { result ≡ Messages.is_of_all cause }
 {
@@ -170,8 +170,8 @@ fn is_of_all(cause: PlanCause) -> bool
 }
 
 // A word of an effect, both counted from 1; no text where there is none.
-fn told_word(line: &CommandLine, number: usize, place: usize) -> &str
-    ensures { result.now ≡ Messages.told_word (effects_in line.now) number place }
+fn reported_word(line: &CommandLine, number: usize, place: usize) -> &str
+    ensures { result.now ≡ Messages.reported_word (effects_in line.now) number place }
 {
     if number == 0 || place == 0 || number > line.effect_count() {
         return "";
@@ -183,33 +183,37 @@ fn told_word(line: &CommandLine, number: usize, place: usize) -> &str
 }
 
 /// The message on effects that are refused.
-pub fn tell_plan<M: ByteOut>(telling: &mut Telling<M>, line: &CommandLine, fault: PlanFault)
-    ensures { Says M.writes telling.old telling.new (plan_message (effects_in line.now) fault) }
+pub fn tell_plan<M: ByteOut>(
+    message_writer: &mut MessageWriter<M>,
+    line: &CommandLine,
+    fault: PlanFault,
+)
+    ensures { Says M.writes message_writer.old message_writer.new (plan_message (effects_in line.now) fault) }
 {
     let label = label_of_plan(fault.cause);
     if is_of_all(fault.cause) {
-        tell_effects(telling, label);
+        tell_effects(message_writer, label);
         return;
     }
-    let name = told_word(line, fault.effect, 1);
-    let word = told_word(line, fault.effect, fault.word);
-    tell_effect(telling, fault.effect, name, label, word);
+    let name = reported_word(line, fault.effect, 1);
+    let word = reported_word(line, fault.effect, fault.word);
+    tell_effect(message_writer, fault.effect, name, label, word);
 }
 
 /// `soxchain: warning: effect 1 vol: clipped samples 2`, with the effect's number and name; nothing where the count is 0.
 pub fn tell_effect_warning<M: ByteOut>(
-    telling: &mut Telling<M>,
+    message_writer: &mut MessageWriter<M>,
     number: usize,
     name: &str,
     count: u64,
 )
-    ensures { Says M.writes telling.old telling.new (effect_warning number name.now count) }
+    ensures { Says M.writes message_writer.old message_writer.new (effect_warning number name.now count) }
 {
     if count == 0 {
         return;
     }
     let mut buffer = Buffer::new();
-    telling.sentence(
+    message_writer.sentence(
         "soxchain: warning: effect ",
         buffer.format(number as u64),
         " ",
@@ -217,53 +221,65 @@ pub fn tell_effect_warning<M: ByteOut>(
         ": clipped samples ",
     );
     let mut digits = Buffer::new();
-    telling.text(digits.format(count));
-    telling.text("\n");
+    message_writer.text(digits.format(count));
+    message_writer.text("\n");
 }
 
 /// The warnings of the effects, first to last.
 fn tell_effect_warnings<M: ByteOut>(
-    telling: &mut Telling<M>,
+    message_writer: &mut MessageWriter<M>,
     line: &CommandLine,
-    clips: &[u64; MOST_EFFECTS],
+    clips: &[u64; MAX_EFFECTS],
 )
-    ensures { Says M.writes telling.old telling.new (effect_warnings (effects_in line.now) clips.now (min (length (effects_in line.now)) 32)) }
+    ensures { Says M.writes message_writer.old message_writer.new (effect_warnings (effects_in line.now) clips.now (min (length (effects_in line.now)) 32)) }
 {
-    let count = line.effect_count().min(MOST_EFFECTS);
+    let count = line.effect_count().min(MAX_EFFECTS);
     let mut place = 0;
     while place < count {
-        let name = told_word(line, place + 1, 1);
-        tell_effect_warning(telling, place + 1, name, clips[place]);
+        let name = reported_word(line, place + 1, 1);
+        tell_effect_warning(message_writer, place + 1, name, clips[place]);
         place += 1;
     }
 }
 
 /// The warnings of a run.
-pub fn tell_warnings<M: ByteOut>(telling: &mut Telling<M>, line: &CommandLine, report: &Report)
-    ensures { Says M.writes telling.old telling.new (warnings line.now report.now) }
+pub fn tell_warnings<M: ByteOut>(
+    message_writer: &mut MessageWriter<M>,
+    line: &CommandLine,
+    report: &Report,
+)
+    ensures { Says M.writes message_writer.old message_writer.new (warnings line.now report.now) }
 {
-    tell_warning(telling, "input: missing bytes", report.missing);
-    tell_warning(telling, "input: stray bytes", report.stray);
-    tell_effect_warnings(telling, line, &report.clips);
-    tell_warning(telling, "output: clipped samples", report.out_clips);
+    tell_warning(message_writer, "input: missing bytes", report.missing);
+    tell_warning(message_writer, "input: stray bytes", report.stray);
+    tell_effect_warnings(message_writer, line, &report.clips);
+    tell_warning(message_writer, "output: clipped samples", report.out_clips);
 }
 
 /// The message on what is refused before the run.
-pub fn tell_refusal<M: ByteOut>(telling: &mut Telling<M>, line: &CommandLine, refusal: &Refusal)
-    ensures { Says M.writes telling.old telling.new (refusal_message line.now refusal.now) }
+pub fn tell_refusal<M: ByteOut>(
+    message_writer: &mut MessageWriter<M>,
+    line: &CommandLine,
+    refusal: &Refusal,
+)
+    ensures { Says M.writes message_writer.old message_writer.new (refusal_message line.now refusal.now) }
 {
     match refusal {
-        Refusal::Head(fault) => tell_input(telling, label_of_head(*fault)),
-        Refusal::Plan(fault) => tell_plan(telling, line, *fault),
-        Refusal::Chain => tell_chain(telling),
+        Refusal::Head(fault) => tell_input(message_writer, label_of_head(*fault)),
+        Refusal::Plan(fault) => tell_plan(message_writer, line, *fault),
+        Refusal::Chain => tell_chain(message_writer),
     }
 }
 
-/// The messages on a run that stopped, behind its warnings.
-pub fn tell_fault<M: ByteOut>(telling: &mut Telling<M>, line: &CommandLine, fault: &RunFault)
-    ensures { Says M.writes telling.old telling.new (warnings line.now (report_at fault.now) ++ run_message (run_label fault.now) (report_at fault.now).frames_in) }
+/// The messages on a run that stopped, after its warnings.
+pub fn tell_fault<M: ByteOut>(
+    message_writer: &mut MessageWriter<M>,
+    line: &CommandLine,
+    fault: &RunFault,
+)
+    ensures { Says M.writes message_writer.old message_writer.new (warnings line.now (report_at fault.now) ++ run_message (run_label fault.now) (report_at fault.now).frames_in) }
 {
     let report = fault.report();
-    tell_warnings(telling, line, &report);
-    tell_run(telling, label_of_run(fault), report.frames_in);
+    tell_warnings(message_writer, line, &report);
+    tell_run(message_writer, label_of_run(fault), report.frames_in);
 }

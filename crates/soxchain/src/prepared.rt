@@ -1,4 +1,4 @@
-//! What stands before a run: a plan and its chain.
+//! What a run needs: a plan and its chain.
 
 use fx_chain::Chain;
 use fx_plan::Plan;

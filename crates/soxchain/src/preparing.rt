@@ -2,20 +2,20 @@
 ghost use Rattle.std.specs.Prelude.{◌≡◌, [], IfOk, Err, MatchResult};
 ghost use Rattle.fx_chain.specs.Chain.{IsNewChain};
 ghost use Rattle.fx_plan.specs.CommandLines.{effects_in, planning_in};
-ghost use Rattle.fx_plan.specs.Plans.{head_layout, all_faults, bytes_of};
+ghost use Rattle.fx_plan.specs.Plans.{head_layout, all_faults, plan_bytes};
 ghost use Rattle.fx_plan.specs.Planning.{planning};
-ghost use Rattle.fx_heads.specs.Head.{ReadsHead, head_of};
-ghost use Rattle.fx_heads.specs.Known.{IfKnown};
-ghost use Rattle.fx_heads.specs.Reads.{Fails, Refuses};
-ghost use Rattle.fx_heads.specs.Source.{to_come};
+ghost use Rattle.fx_sound_heads.specs.Head.{ReadsHead, head_of};
+ghost use Rattle.fx_sound_heads.specs.Known.{IfKnown};
+ghost use Rattle.fx_sound_heads.specs.Reads.{Fails, Refuses};
+ghost use Rattle.fx_sound_heads.specs.Source.{to_come};
 ghost use Rattle.soxchain.specs.Preparing.{ChainIsRefused, PlanIsRefused, RefusalHasCause};
 ghost use Rattle.soxchain.specs.Program.{status_of_line, status_of_refusal};
 
 use crate::prepared::Prepared;
 use fx_chain::Chain;
 use fx_frame::ByteIn;
-use fx_line::LineFault;
 use fx_plan::{CommandLine, PlanCause, PlanFault, plan};
+use fx_plan_line::LineFault;
 use fx_sound::{HeadFault, Source, read_head};
 use std::alloc::{AllocError, Global};
 use thiserror::Error;
@@ -34,29 +34,29 @@ pub enum Refusal {
     Chain,
 }
 
-/// Reads the head of a sound, and makes the plan of a line's effects behind it, and its chain.
+/// Reads the head of a sound, and makes the plan of a line's effects after it, and its chain.
 pub fn prepare_line<R: ByteIn>(
     alloc: Global,
     line: &CommandLine,
     files: &[Vec<u8>],
     source: &mut Source<R>,
 ) -> Result<Prepared, Refusal>
-    // The plan is that of the line behind the head that was read.
-    ensures head { IfOk result (λ p. IfKnown (to_come R.reads.rest source.old) (λ bytes. ReadsHead R.reads.rest R.reads.told line.now.input_kind bytes source.old source.new p.plan.head)) }
-    ensures no_faults { IfOk result (λ p. all_faults (head_layout p.plan.head) (bytes_of files.now) (effects_in line.now) ≡ []) }
-    ensures planned { IfOk result (λ p. planning p.plan ≡ planning_in p.plan.head line.now (bytes_of files.now)) }
+    // The plan is that of the line after the head that was read.
+    ensures head { IfOk result (λ p. IfKnown (to_come R.reads.rest source.old) (λ bytes. ReadsHead R.reads.rest R.reads.delivered line.now.input_kind bytes source.old source.new p.plan.head)) }
+    ensures no_faults { IfOk result (λ p. all_faults (head_layout p.plan.head) (plan_bytes files.now) (effects_in line.now) ≡ []) }
+    ensures planned { IfOk result (λ p. planning p.plan ≡ planning_in p.plan.head line.now (plan_bytes files.now)) }
 
     ensures chain { IfOk result (λ p. IsNewChain (planning p.plan) p.chain) }
 
     // A head or a plan is refused by its first fault.
     ensures head_refused { (f : HeadFault) → result ≡ Err (Refusal.Head f) → Refuses R.reads.rest (head_of line.now.input_kind) source.old f }
-    ensures head_cut { (f : HeadFault) → result ≡ Err (Refusal.Head f) → Fails R.reads.rest R.reads.told (head_of line.now.input_kind) source.old source.new f }
-    ensures plan_refused { (f : PlanFault) → result ≡ Err (Refusal.Plan f) → PlanIsRefused R.reads line.now (bytes_of files.now) source.old source.new f }
+    ensures head_cut { (f : HeadFault) → result ≡ Err (Refusal.Head f) → Fails R.reads.rest R.reads.delivered (head_of line.now.input_kind) source.old source.new f }
+    ensures plan_refused { (f : PlanFault) → result ≡ Err (Refusal.Plan f) → PlanIsRefused R.reads line.now (plan_bytes files.now) source.old source.new f }
 
-    // Where no memory was found for the chain, head and plan had stood.
-    ensures chain_refused { result ≡ Err Refusal.Chain → ChainIsRefused R.reads line.now (bytes_of files.now) source.old source.new }
+    // Where no memory was found for the chain, the head and the plan had no fault.
+    ensures chain_refused { result ≡ Err Refusal.Chain → ChainIsRefused R.reads line.now (plan_bytes files.now) source.old source.new }
 
-    // A read has failed only where the head says so.
+    // A read has failed only where the refusal reports it.
     ensures failures { MatchResult result (λ _. R.reads.failures source.new.reader ≡ R.reads.failures source.old.reader) (λ r. RefusalHasCause r (R.reads.failures source.old.reader) (R.reads.failures source.new.reader)) }
 {
     let head = match read_head(source, line.input_kind()) {

@@ -1,28 +1,28 @@
-//! A conversion in two parts: what comes before the output is opened, and the run.
+//! A conversion in two parts: preparation before the output is opened, and the run.
 ghost use Rattle.std.specs.Prelude.{◌≡◌, ◌⊎◌, [], IfErr, IfOk, OnOk, Ok, Result};
 ghost use Rattle.fx_chain.specs.Chain.{IsNewChain};
-ghost use Rattle.fx_line.specs.Line.{line_of, texts};
+ghost use Rattle.fx_plan_line.specs.Line.{line_of_words, texts};
 ghost use Rattle.fx_plan.specs.CommandLines.{effects_in, planning_in};
-ghost use Rattle.fx_plan.specs.Plans.{head_layout, all_faults, bytes_of};
+ghost use Rattle.fx_plan.specs.Plans.{head_layout, all_faults, plan_bytes};
 ghost use Rattle.fx_plan.specs.Planning.{planning};
-ghost use Rattle.fx_heads.specs.Head.{ReadsHead};
-ghost use Rattle.fx_heads.specs.Known.{IfKnown};
-ghost use Rattle.fx_heads.specs.Source.{to_come};
+ghost use Rattle.fx_sound_heads.specs.Head.{ReadsHead};
+ghost use Rattle.fx_sound_heads.specs.Known.{IfKnown};
+ghost use Rattle.fx_sound_heads.specs.Source.{to_come};
 ghost use Rattle.soxchain.specs.Finishing.{Finished};
 ghost use Rattle.soxchain.specs.Messages.{line_label, line_message};
 ghost use Rattle.soxchain.specs.Program.{status_of_line};
 ghost use Rattle.soxchain.specs.Readying.{LineRefused, LineUnready, Unready};
 ghost use Rattle.soxchain.specs.Saying.{Says};
-ghost use Rattle.soxchain.specs.Telling.{Tells};
+ghost use Rattle.soxchain.specs.MessageWriter.{WritesMessage};
 
+use crate::message_writer::MessageWriter;
 use crate::messages::{label_of_line, tell_fault, tell_line, tell_refusal, tell_warnings};
 use crate::prepared::Prepared;
 use crate::preparing::{prepare_line, status_of_fault};
-use crate::telling::Telling;
 use fx_chain::{Report, run};
 use fx_frame::{ByteIn, ByteOut};
-use fx_line::LineFault;
 use fx_plan::{CommandLine, Plan, parse_line};
+use fx_plan_line::LineFault;
 use fx_sound::Source;
 use std::alloc::Global;
 use std::marker::Model;
@@ -48,7 +48,7 @@ impl Model for Ready {
 }
 
 impl Ready {
-    /// The plan: of the line's effects, behind the head that was read.
+    /// The plan: of the line's effects, after the head that was read.
     pub fn plan(&self) -> &Plan
         ensures { result.now ≡ self.now.prepared.plan }
     {
@@ -56,48 +56,48 @@ impl Ready {
     }
 }
 
-/// Reads the head of a sound behind a command line that was read, and makes the plan of its effects and their chain; `files`
-/// are the bytes of the line's coefficient files, in order. Where they are refused, says why in one message and answers the
-/// status: 1 for a fault of the effects' words, 2 for every other.
+/// Reads the head of a sound after a command line that was read, and makes the plan of its effects and their chain; `files` are
+/// the bytes of the line's coefficient files, in order. Where they are refused, writes one message with the reason and returns
+/// the status: 1 for a fault of the effects' words, 2 for every other.
 pub fn prepare_for<R: ByteIn, M: ByteOut>(
     alloc: Global,
     line: &CommandLine,
     files: &[Vec<u8>],
     source: &mut Source<R>,
-    telling: &mut Telling<M>,
+    message_writer: &mut MessageWriter<M>,
 ) -> Result<Prepared, u8>
     // The head, the plan and its chain, and no message.
-    ensures head { IfOk result (λ p. IfKnown (to_come R.reads.rest source.old) (λ bytes. ReadsHead R.reads.rest R.reads.told line.now.input_kind bytes source.old source.new p.plan.head)) }
-    ensures no_faults { IfOk result (λ p. all_faults (head_layout p.plan.head) (bytes_of files.now) (effects_in line.now) ≡ []) }
-    ensures planned { IfOk result (λ p. planning p.plan ≡ planning_in p.plan.head line.now (bytes_of files.now)) }
+    ensures head { IfOk result (λ p. IfKnown (to_come R.reads.rest source.old) (λ bytes. ReadsHead R.reads.rest R.reads.delivered line.now.input_kind bytes source.old source.new p.plan.head)) }
+    ensures no_faults { IfOk result (λ p. all_faults (head_layout p.plan.head) (plan_bytes files.now) (effects_in line.now) ≡ []) }
+    ensures planned { IfOk result (λ p. planning p.plan ≡ planning_in p.plan.head line.now (plan_bytes files.now)) }
     ensures chain { IfOk result (λ p. IsNewChain (planning p.plan) p.chain) }
     ensures unfailed { OnOk result (R.reads.failures source.new.reader ≡ R.reads.failures source.old.reader) }
-    ensures silent { OnOk result (telling.new ≡ telling.old) }
+    ensures silent { OnOk result (message_writer.new ≡ message_writer.old) }
 
     // What the line asks for is refused.
-    ensures refused { IfErr result (λ status. Unready R.reads line.now (bytes_of files.now) source.old source.new (Says M.writes telling.old telling.new) status) }
+    ensures refused { IfErr result (λ status. Unready R.reads line.now (plan_bytes files.now) source.old source.new (Says M.writes message_writer.old message_writer.new) status) }
 {
     match prepare_line(alloc, line, files, source) {
         Ok(prepared) => Ok(prepared),
         Err(refusal) => {
-            tell_refusal(telling, line, &refusal);
+            tell_refusal(message_writer, line, &refusal);
             Err(refusal.status())
         }
     }
 }
 
-/// Says in one message why a command line is refused, and answers the status.
-pub fn refuse_line<M: ByteOut>(fault: LineFault, telling: &mut Telling<M>) -> u8
+/// Writes one message why a command line is refused, and returns the status.
+pub fn refuse_line<M: ByteOut>(fault: LineFault, message_writer: &mut MessageWriter<M>) -> u8
     ensures status { result ≡ status_of_line fault }
-    ensures told { Says M.writes telling.old telling.new (line_message (line_label fault)) }
+    ensures delivered { Says M.writes message_writer.old message_writer.new (line_message (line_label fault)) }
 {
-    tell_line(telling, label_of_line(fault));
+    tell_line(message_writer, label_of_line(fault));
     status_of_fault(fault)
 }
 
 /// Reads the words of a command line and the head of a sound, and makes the plan and its chain; `files` are the bytes of the
-/// line's coefficient files, in order. Where they are refused, says why in one message and answers the status: 1 for a fault
-/// of the words, 2 for every other.
+/// line's coefficient files, in order. Where they are refused, writes one message with the reason and returns the status: 1 for
+/// a fault of the words, 2 for every other.
 pub fn prepare<R: ByteIn, M: ByteOut>(
     alloc: Global,
     words: &[String],
@@ -106,25 +106,25 @@ pub fn prepare<R: ByteIn, M: ByteOut>(
     messages: &mut M,
 ) -> Result<Ready, u8>
     // The line, the head, the plan and its chain, and no message.
-    ensures line { IfOk result (λ ready. line_of (texts words.now) ≡ Ok ready.line) }
-    ensures head { IfOk result (λ ready. IfKnown (to_come R.reads.rest source.old) (λ bytes. ReadsHead R.reads.rest R.reads.told ready.line.input_kind bytes source.old source.new ready.prepared.plan.head)) }
-    ensures no_faults { IfOk result (λ ready. all_faults (head_layout ready.prepared.plan.head) (bytes_of files.now) (effects_in ready.line) ≡ []) }
-    ensures planned { IfOk result (λ ready. planning ready.prepared.plan ≡ planning_in ready.prepared.plan.head ready.line (bytes_of files.now)) }
+    ensures line { IfOk result (λ ready. line_of_words (texts words.now) ≡ Ok ready.line) }
+    ensures head { IfOk result (λ ready. IfKnown (to_come R.reads.rest source.old) (λ bytes. ReadsHead R.reads.rest R.reads.delivered ready.line.input_kind bytes source.old source.new ready.prepared.plan.head)) }
+    ensures no_faults { IfOk result (λ ready. all_faults (head_layout ready.prepared.plan.head) (plan_bytes files.now) (effects_in ready.line) ≡ []) }
+    ensures planned { IfOk result (λ ready. planning ready.prepared.plan ≡ planning_in ready.prepared.plan.head ready.line (plan_bytes files.now)) }
     ensures chain { IfOk result (λ ready. IsNewChain (planning ready.prepared.plan) ready.prepared.chain) }
     ensures unfailed { OnOk result (R.reads.failures source.new.reader ≡ R.reads.failures source.old.reader) }
     ensures silent { OnOk result (messages.new ≡ messages.old) }
 
     // The line is refused, or what it asks for is.
     ensures refused { IfErr result (λ status.
-        LineRefused (texts words.now) source.old source.new (Tells M.writes messages.old messages.new) status
-        ⊎ LineUnready R.reads (texts words.now) (bytes_of files.now) source.old source.new (Tells M.writes messages.old messages.new) status) }
+        LineRefused (texts words.now) source.old source.new (WritesMessage M.writes messages.old messages.new) status
+        ⊎ LineUnready R.reads (texts words.now) (plan_bytes files.now) source.old source.new (WritesMessage M.writes messages.old messages.new) status) }
 {
-    let mut telling = Telling::new(messages);
+    let mut message_writer = MessageWriter::new(messages);
     let line = match parse_line(alloc, words) {
         Ok(line) => line,
-        Err(fault) => return Err(refuse_line(fault, &mut telling)),
+        Err(fault) => return Err(refuse_line(fault, &mut message_writer)),
     };
-    match prepare_for(alloc, &line, files, source, &mut telling) {
+    match prepare_for(alloc, &line, files, source, &mut message_writer) {
         Ok(prepared) => Ok(Ready { line, prepared }),
         Err(status) => Err(status),
     }
@@ -136,35 +136,35 @@ pub fn finish_for<R: ByteIn, W: ByteOut, M: ByteOut>(
     prepared: Prepared,
     source: &mut Source<R>,
     output: &mut W,
-    telling: &mut Telling<M>,
+    message_writer: &mut MessageWriter<M>,
 ) -> (u8, Report)
     requires { IsNewChain (planning prepared.plan) prepared.chain }
-    ensures { Finished R.reads W.writes (record { line = line.now; prepared = prepared }) source.old source.new output.old output.new (Says M.writes telling.old telling.new) result.0 result.1 }
+    ensures { Finished R.reads W.writes (record { line = line.now; prepared = prepared }) source.old source.new output.old output.new (Says M.writes message_writer.old message_writer.new) result.0 result.1 }
 {
     let Prepared { plan, mut chain } = prepared;
     match run(&mut chain, &plan, source, output) {
         Ok(report) => {
-            tell_warnings(telling, line, &report);
+            tell_warnings(message_writer, line, &report);
             (0, report)
         }
         Err(fault) => {
-            tell_fault(telling, line, &fault);
+            tell_fault(message_writer, line, &fault);
             (2, fault.report())
         }
     }
 }
 
-/// Runs what is ready, over the sound behind the head, and tells warnings and the fault that stopped it. Answers the status,
-/// 0 without a fault and else 2, and what was done. Takes no memory.
+/// Runs what is ready, over the sound after the head, and reports warnings and the fault that stopped it. Returns the status,
+/// 0 without a fault and else 2, and what was done. Allocates no memory.
 pub fn finish<R: ByteIn, W: ByteOut, M: ByteOut>(
     ready: Ready,
     source: &mut Source<R>,
     output: &mut W,
     messages: &mut M,
 ) -> (u8, Report)
-    ensures { Finished R.reads W.writes ready source.old source.new output.old output.new (Tells M.writes messages.old messages.new) result.0 result.1 }
+    ensures { Finished R.reads W.writes ready source.old source.new output.old output.new (WritesMessage M.writes messages.old messages.new) result.0 result.1 }
 {
     let Ready { line, prepared } = ready;
-    let mut telling = Telling::new(messages);
-    finish_for(&line, prepared, source, output, &mut telling)
+    let mut message_writer = MessageWriter::new(messages);
+    finish_for(&line, prepared, source, output, &mut message_writer)
 }

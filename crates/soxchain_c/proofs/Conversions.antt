@@ -1,12 +1,12 @@
 -- A conversion in memory, from what `convert` says of readers and writers.
 use Rattle.std.proofs.Common.{◌≡◌, ℕ, List, [], Option, Some, Result, Ok, Err, ap, arith, ◌+◌, drop, subst, sym, ◌∙◌}
-use Rattle.fx_run.specs.declared.report.Report.{Report}
+use Rattle.fx_chain_run.specs.declared.report.Report.{Report}
 use Rattle.fx_chain.specs.Theorem.{Ran}
-use Rattle.fx_io.specs.Io.{ByteReader, ByteWriter, saturated}
-use Rattle.fx_line.specs.declared.line.LineFault.{LineFault}
-use Rattle.fx_line.specs.Line.{Said}
+use Rattle.fx_frame_io.specs.Io.{ByteReader, ByteWriter, saturated}
+use Rattle.fx_plan_line.specs.declared.line.LineFault.{LineFault}
+use Rattle.fx_plan_line.specs.Line.{Said}
 use Rattle.soxchain.specs.Convert.{Converted}
-use Rattle.fx_run.specs.Report.{HasCause}
+use Rattle.fx_chain_run.specs.Report.{HasCause}
 use Rattle.soxchain.specs.Preparing.{RefusalHasCause}
 use Rattle.soxchain.specs.Program.{Concludes}
 use Rattle.soxchain.specs.Stops.{Stop, Refused, Run}
@@ -18,12 +18,12 @@ use Rattle.soxchain_stream.proofs.Words.{if_ok-more}
 -- what is concluded of a line is concluded more weakly
 pub concludes-more : {P Q : Said → Result Report Stop → Type 0} {U V : Type 0} {T S : List ℕ → Type 0} (status : ℕ) (report : Report) (found : Result Said LineFault)
     → ((line : Said) (outcome : Result Report Stop) → P line outcome → Q line outcome) → (U → V) → ((text : List ℕ) → T text → S text) → Concludes P U T status report found → Concludes Q V S status report found
-concludes-more status report (Err fault) is untouched told c = (c.0, c.1, untouched c.2, told _ c.3)
-concludes-more status report (Ok line) is untouched told c = record { outcome = c.outcome; is = is line c.outcome c.is; status_is = c.status_is; report_is = c.report_is; told = told _ c.told }
+concludes-more status report (Err fault) is untouched delivered c = (c.0, c.1, untouched c.2, delivered _ c.3)
+concludes-more status report (Ok line) is untouched delivered c = record { outcome = c.outcome; is = is line c.outcome c.is; status_is = c.status_is; report_is = c.report_is; delivered = delivered _ c.delivered }
 
 -- where no failure is counted, none rises
 unfailed : (failures new_failures : ℕ) → failures ≡ 0 → new_failures ≡ 0 → new_failures ≡ saturated (failures + 1) → ⊥
-unfailed failures new_failures none still risen = let one : new_failures ≡ 1 = rw none at risen in absurd (omega (arith, one, still))
+unfailed failures new_failures none unchanged risen = let one : new_failures ≡ 1 = rw none at risen in absurd (omega (arith, one, unchanged))
 
 -- a conversion of bytes by a reader that never fails, into memory
 pub converted-bytes : {R W : Type 0} (reads : ByteReader R) (writes : ByteWriter W)

@@ -2,5 +2,5 @@ pub mod Conversions
 pub mod Faults
 pub mod Standing
 pub mod Steps
-pub mod Telling
+pub mod MessageWriter
 pub mod Values

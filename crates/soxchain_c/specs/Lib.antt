@@ -4,6 +4,6 @@ pub mod Conversion
 pub mod Kept
 pub mod Making
 pub mod Messages
-pub mod Room
+pub mod Buffer
 pub mod Status
 pub mod Texts

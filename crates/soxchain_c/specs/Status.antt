@@ -1,4 +1,4 @@
--- The numbers that C gets for what a call answers (this project's profile; packaging/soxchain.h).
+-- The numbers that C gets for what a call returns (this project's profile; packaging/soxchain.h).
 use Rattle.std.specs.Prelude.{ℤ, pos}
 use Rattle.soxchain_c.specs.declared.status.Status.{Status}
 use Rattle.soxchain_c.specs.declared.status.Status.TheVariants.{Fine, Refused, Failed, NoMemory, BadEnds, NoStream, BadRate, BadChannels, PartOfFrame, TooLong, NotWaiting, BadSnapshot}

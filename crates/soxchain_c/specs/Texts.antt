@@ -1,8 +1,8 @@
--- Words and files that lie in bytes one behind the other, each up to its end (packaging/soxchain.h).
+-- Words and files that lie in bytes one after the other, each up to its end (packaging/soxchain.h).
 use Rattle.std.specs.Prelude.{◌⊎◌, ℕ, ◌≤◌, List, [], ◌∷◌, length, slice_range}
 use Rattle.std.specs.Str.{IsUtf8}
 
--- ends in order from this place on, none past the bytes
+-- ends in order from this place on, none after the end of the bytes
 abbrev pub AreEnds : List ℕ → ℕ → List ℕ → Type 0
 AreEnds bytes start [] = Unit {0}
 AreEnds bytes start (end ∷ ends) = (start ≤ end) × (end ≤ length bytes) × AreEnds bytes end ends
@@ -17,7 +17,7 @@ abbrev pub AreTexts : List (List ℕ) → Type 0
 AreTexts [] = Unit {0}
 AreTexts (word ∷ words) = IsUtf8 word × AreTexts words
 
--- this end lies not before the place where its piece begins, nor past the bytes
+-- this end does not lie before the start of its piece, nor after the end of the bytes
 abbrev pub IsEnd : List ℕ → ℕ → ℕ → Type 0
 IsEnd bytes start end = (start ≤ end) × (end ≤ length bytes)
 

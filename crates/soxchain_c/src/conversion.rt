@@ -1,26 +1,26 @@
 //! A conversion in memory, to C.
 ghost use Rattle.std.specs.Prelude.{◌≡◌, ℕ, List, [], length};
-ghost use Rattle.fx_run.specs.Report.{no_report};
-ghost use Rattle.fx_line.specs.Line.{texts};
-ghost use Rattle.fx_plan.specs.Plans.{bytes_of};
+ghost use Rattle.fx_chain_run.specs.Report.{no_report};
+ghost use Rattle.fx_plan_line.specs.Line.{texts};
+ghost use Rattle.fx_plan.specs.Plans.{plan_bytes};
 ghost use Rattle.soxchain_c.specs.Asked.{FaultAnswers};
-ghost use Rattle.soxchain_c.specs.Conversion.{Conversion, ConversionOf, told_report};
-ghost use Rattle.soxchain_c.specs.Messages.{ToldBytes};
-ghost use Rattle.soxchain_c.specs.Room.{filled};
+ghost use Rattle.soxchain_c.specs.Conversion.{Conversion, ConversionOf, reported_report};
+ghost use Rattle.soxchain_c.specs.Messages.{ReportedBytes};
+ghost use Rattle.soxchain_c.specs.Buffer.{filled};
 ghost use Rattle.soxchain_c.specs.Status.{code};
 
 use crate::asked::{Asked, read_asked, refuse};
+use crate::bytes_out::put;
 use crate::messages::{Messages, Text};
-use crate::room::put;
 use crate::slices::SliceReader;
 use crate::status::{Status, number_of};
 use crate::texts::TextFault;
-use fx_chain::{MOST_EFFECTS, Report};
+use fx_chain::{MAX_EFFECTS, Report};
 use fx_frame::Counted;
 use soxchain::convert;
 use std::alloc::Global;
 
-/// What a conversion did, and the bytes of what it wrote and told.
+/// What a conversion did, and the bytes of what it wrote and reported.
 #[repr(C)]
 #[derive(Drop)]
 pub struct SoxchainReport {
@@ -30,7 +30,7 @@ pub struct SoxchainReport {
     pub frames_out: u64,
     pub bytes_out: u64,
     pub moves: u64,
-    pub clips: [u64; MOST_EFFECTS],
+    pub clips: [u64; MAX_EFFECTS],
     pub out_clips: u64,
     pub missing: u64,
     pub stray: u64,
@@ -38,7 +38,7 @@ pub struct SoxchainReport {
 
 /// A report to C.
 fn report_of(report: &Report, output_length: usize, messages_length: usize) -> SoxchainReport
-    ensures { result ≡ told_report report.now output_length messages_length }
+    ensures { result ≡ reported_report report.now output_length messages_length }
 {
     SoxchainReport {
         output_length,
@@ -54,7 +54,7 @@ fn report_of(report: &Report, output_length: usize, messages_length: usize) -> S
     }
 }
 
-/// What a conversion answered, wrote and told.
+/// What a conversion returned, wrote and reported.
 #[derive(Drop)]
 struct Done {
     status: i32,
@@ -65,7 +65,7 @@ struct Done {
 
 /// Converts a sound in memory.
 fn convert_asked(alloc: Global, asked: &Asked, input: &[u8]) -> Done
-    ensures { Conversion (texts asked.now.words.items) (bytes_of asked.now.files.items) input.now result.output.items result.messages.items result.status result.report }
+    ensures { Conversion (texts asked.now.words.items) (plan_bytes asked.now.files.items) input.now result.output.items result.messages.items result.status result.report }
 {
     let mut output = Counted::new(Vec::new(alloc));
     let mut messages = Messages::new(alloc);
@@ -85,24 +85,25 @@ fn convert_asked(alloc: Global, asked: &Asked, input: &[u8]) -> Done
     }
 }
 
-/// What is answered where words or files cannot be read.
+/// What is returned where words or files cannot be read.
 fn unread(alloc: Global, fault: TextFault) -> Done
-    ensures answers { (status : Status) × (result.status ≡ code status) × FaultAnswers fault (ToldBytes result.messages.items) (result.messages.items ≡ []) status }
+    ensures answers { (status : Status) × (result.status ≡ code status) × FaultAnswers fault (ReportedBytes result.messages.items) (result.messages.items ≡ []) status }
     ensures output { result.output.items ≡ [] }
     ensures report { result.report ≡ no_report }
 {
-    let mut told = Messages::new(alloc);
-    let status = number_of(refuse(&mut told, fault));
+    let mut delivered = Messages::new(alloc);
+    let status = number_of(refuse(&mut delivered, fault));
     Done {
         status,
         report: Report::none(),
         output: Vec::new(alloc),
-        messages: told.into_text(),
+        messages: delivered.into_text(),
     }
 }
 
 /// Converts a sound in memory: the words are those of the command line, the files the bytes of the coefficient files, in order.
-/// Output and messages are copied where the room has place for all their bytes; the report tells both lengths, also where not.
+/// Output and messages are copied where the output buffer has space for all their bytes; the report has both lengths, also
+/// where not.
 #[unsafe(no_mangle)]
 pub extern "C" fn soxchain_convert(
     alloc: Global,
@@ -115,16 +116,16 @@ pub extern "C" fn soxchain_convert(
     messages: &mut [u8],
     report: &mut SoxchainReport,
 ) -> i32
-    ensures { (bytes : List ℕ) × (told : List ℕ) × (done : Report) × ConversionOf words.now word_ends.now files.now file_ends.now input.now bytes told result done
-        × (report.new ≡ told_report done (length bytes) (length told)) × (output.new ≡ filled bytes output.old) × (messages.new ≡ filled told messages.old) }
+    ensures { (bytes : List ℕ) × (delivered : List ℕ) × (done : Report) × ConversionOf words.now word_ends.now files.now file_ends.now input.now bytes delivered result done
+        × (report.new ≡ reported_report done (length bytes) (length delivered)) × (output.new ≡ filled bytes output.old) × (messages.new ≡ filled delivered messages.old) }
 {
     let done = match read_asked(alloc, words, word_ends, files, file_ends) {
         Ok(asked) => convert_asked(alloc, &asked, input),
         Err(fault) => unread(alloc, fault),
     };
-    let told = done.messages.as_slice();
-    *report = report_of(&done.report, done.output.len(), told.len());
+    let delivered = done.messages.as_slice();
+    *report = report_of(&done.report, done.output.len(), delivered.len());
     put(output, &done.output);
-    put(messages, told);
+    put(messages, delivered);
     done.status
 }

@@ -7,7 +7,7 @@ use smallvec::SmallVec;
 use std::alloc::Global;
 use std::marker::Model;
 
-/// So many bytes of messages lie in the value itself, and take no memory.
+/// How many bytes of messages are stored in the value itself, without an allocation.
 const PLACE: usize = 4096;
 
 /// The bytes of messages.
@@ -30,7 +30,7 @@ impl Model for Messages {
 }
 
 impl Messages {
-    /// Nothing is told yet.
+    /// Nothing is written yet.
     pub fn new(alloc: Global) -> Messages
         ensures bytes { result.bytes ≡ [] }
         ensures flushed { result.flushed ≡ true }
@@ -43,7 +43,7 @@ impl Messages {
         }
     }
 
-    /// What was told.
+    /// What was written.
     pub fn into_text(self) -> Text
         ensures bytes { result.items ≡ self.bytes }
         ensures long { 0 < self.failures → 4096 ≤ length result.items }
@@ -81,7 +81,7 @@ impl ByteOut for Messages {
     }
 }
 
-/// How many of so many bytes are taken at once: those for which there is a place, and all where none is left.
+/// How many of `count` bytes are taken at once: those for which there is space, and all where none is left.
 fn taken_at_once(places: usize, count: usize) -> usize
     ensures bound { result ≤ count }
     ensures some { 0 < count → 0 < result }

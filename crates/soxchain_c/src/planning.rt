@@ -1,8 +1,8 @@
 //! How a stream is made of words.
 ghost use Rattle.std.specs.Prelude.{◌≡◌, ◌<◌, ◌≤◌, ◌⊎◌, ◌++◌, [], ◌∷◌, Err, IfErr, IfOk, OnOk};
-ghost use Rattle.fx_line.specs.Line.{texts};
-ghost use Rattle.fx_plan.specs.Plans.{bytes_of};
-ghost use Rattle.soxchain.specs.Telling.{Tells};
+ghost use Rattle.fx_plan_line.specs.Line.{texts};
+ghost use Rattle.fx_plan.specs.Plans.{plan_bytes};
+ghost use Rattle.soxchain.specs.MessageWriter.{WritesMessage};
 ghost use Rattle.soxchain_c.specs.Making.{IsRefusalOf, IsStreamOf, RefusesStream, IsHeadAt, stream_line, stream_words};
 
 use crate::status::Status;
@@ -10,11 +10,13 @@ use fx_chain::Chain;
 use fx_frame::{ByteOut, Coding};
 use fx_plan::{CommandLine, LineFault, parse_line, plan};
 use fx_sound::{Head, Kind};
-use soxchain::inner::{Refusal, Telling, label_of_line, status_of_fault, tell_line, tell_refusal};
+use soxchain::inner::{
+    MessageWriter, Refusal, label_of_line, status_of_fault, tell_line, tell_refusal,
+};
 use soxchain_stream::Stream;
 use std::alloc::{AllocError, Global};
 
-/// The head of a sound of 32 bits at this rate, of so many channels.
+/// The head of a sound of 32 bits at this rate, of `channels` channels.
 pub fn head_of(rate: u32, channels: usize) -> Result<Head, Status>
     ensures head { IfOk result (IsHeadAt rate channels) }
     ensures right { OnOk result ((0 < rate) × (1 ≤ channels) × (channels ≤ 16)) }
@@ -59,7 +61,7 @@ fn front_words(alloc: Global) -> Result<Vec<String>, AllocError>
     Ok(line)
 }
 
-/// The words of a command line from and to a standard stream, and these behind them.
+/// The words of a command line from and to a standard stream, and these after them.
 fn line_words(alloc: Global, words: &[String]) -> Result<Vec<String>, AllocError>
     ensures { IfOk result (λ line. texts line.items ≡ stream_words (texts words.now)) }
 {
@@ -72,7 +74,7 @@ fn line_words(alloc: Global, words: &[String]) -> Result<Vec<String>, AllocError
     Ok(line)
 }
 
-/// The line of these words, which are those behind OUT. It is refused only for want of memory.
+/// The line of these words, which are those after OUT. It is refused only for lack of memory.
 fn read_words_of(alloc: Global, words: &[String]) -> Result<CommandLine, LineFault>
     ensures line { IfOk result (λ line. line ≡ stream_line (texts words.now)) }
     ensures memory { IfErr result (λ fault. fault ≡ LineFault.Memory) }
@@ -83,15 +85,15 @@ fn read_words_of(alloc: Global, words: &[String]) -> Result<CommandLine, LineFau
     parse_line(alloc, &words)
 }
 
-/// The stream of a line's effects behind a head.
+/// The stream of a line's effects after a head.
 fn stream_of(
     alloc: Global,
     line: &CommandLine,
     head: &Head,
     files: &[Vec<u8>],
 ) -> Result<Stream, Refusal>
-    ensures made { IfOk result (λ s. IsStreamOf line.now (bytes_of files.now) head.now s) }
-    ensures refused { IfErr result (IsRefusalOf line.now (bytes_of files.now) head.now) }
+    ensures made { IfOk result (λ s. IsStreamOf line.now (plan_bytes files.now) head.now s) }
+    ensures refused { IfErr result (IsRefusalOf line.now (plan_bytes files.now) head.now) }
 {
     let plan = match plan(alloc, line, head, files) {
         Ok(plan) => plan,
@@ -103,9 +105,9 @@ fn stream_of(
     }
 }
 
-/// The stream of these words, which are those behind OUT, for frames as the head says; `files` are the bytes of the
-/// coefficient files that the words name, in order. Where it is refused, says why in one message and answers the status: 1
-/// for a fault of the words, 2 where memory was wanting.
+/// The stream of these words, which are those after OUT, for the frames that the head describes; `files` are the bytes of the
+/// coefficient files that the words name, in order. Where it is refused, writes one message with the reason and returns the
+/// status: 1 for a fault of the words, 2 where memory was refused.
 pub fn make_stream<M: ByteOut>(
     alloc: Global,
     words: &[String],
@@ -113,22 +115,22 @@ pub fn make_stream<M: ByteOut>(
     head: &Head,
     messages: &mut M,
 ) -> Result<Stream, u8>
-    ensures made { IfOk result (λ s. IsStreamOf (stream_line (texts words.now)) (bytes_of files.now) head.now s) }
+    ensures made { IfOk result (λ s. IsStreamOf (stream_line (texts words.now)) (plan_bytes files.now) head.now s) }
     ensures silent { OnOk result (messages.new ≡ messages.old) }
-    ensures refused { IfErr result (RefusesStream (stream_line (texts words.now)) (bytes_of files.now) head.now (Tells M.writes messages.old messages.new)) }
+    ensures refused { IfErr result (RefusesStream (stream_line (texts words.now)) (plan_bytes files.now) head.now (WritesMessage M.writes messages.old messages.new)) }
 {
-    let mut telling = Telling::new(messages);
+    let mut message_writer = MessageWriter::new(messages);
     let line = match read_words_of(alloc, words) {
         Ok(line) => line,
         Err(fault) => {
-            tell_line(&mut telling, label_of_line(fault));
+            tell_line(&mut message_writer, label_of_line(fault));
             return Err(status_of_fault(fault));
         }
     };
     match stream_of(alloc, &line, head, files) {
         Ok(stream) => Ok(stream),
         Err(refusal) => {
-            tell_refusal(&mut telling, &line, &refusal);
+            tell_refusal(&mut message_writer, &line, &refusal);
             Err(refusal.status())
         }
     }

@@ -1,21 +1,21 @@
-//! What a call answers to C, as a number.
+//! What a call returns to C, as a number.
 ghost use Rattle.std.specs.Prelude.{◌≡◌};
 ghost use Rattle.soxchain_c.specs.Status.{code};
 
-/// What a call answers. The numbers are those of the header.
+/// What a call returns. The numbers are those of the header.
 #[derive(Clone, Copy, Debug, PartialEq, Eq)]
 pub enum Status {
     /// All went well.
     Fine,
-    /// The words or the coefficient files are refused; a message says why.
+    /// The words or the coefficient files are refused; a message gives the reason.
     Refused,
-    /// The sound is refused or cut off, or no memory was found; a message says why.
+    /// The sound is refused or cut off, or no memory was found; a message gives the reason.
     Failed,
     /// No memory was found.
     NoMemory,
-    /// The ends of words or files are not in order, or past their bytes.
+    /// The ends of words or files are not in order, or after the end of their bytes.
     BadEnds,
-    /// There is no stream behind the handle.
+    /// The handle has no stream.
     NoStream,
     /// A rate of 0.
     BadRate,

@@ -1,20 +1,20 @@
-//! Streams, to C: a stream stands behind a handle, which is at null where there is none.
+//! Streams, to C: a handle owns a stream, or is null.
 ghost use Rattle.std.specs.Prelude.{◌≡◌, IfSome, MatchOption, None, Some};
-ghost use Rattle.fx_effects.specs.Bounds.{hold_all};
+ghost use Rattle.fx_plan_effects.specs.Bounds.{hold_all};
 ghost use Rattle.soxchain_c.specs.Calls.{EndAnswers, FeedAnswers, FreezeAnswers, ThawAnswers, nothing_passed};
 ghost use Rattle.soxchain_c.specs.Status.{code};
-ghost use Rattle.soxchain_stream.specs.Streams.{clips_of, held_in, wait_number};
+ghost use Rattle.soxchain_stream.specs.Streams.{stream_clips, held_in, wait_number};
 
+use crate::bytes_out::put;
 use crate::handle::Handle;
 use crate::loose::Loose;
-use crate::room::put;
 use crate::status::{Status, number_of};
 use fx_frame::{Passed, ThawFault};
 use soxchain_stream::{FeedFault, Stream, Waits};
 use std::alloc::Global;
 use std::mem;
 
-/// How many frames a call took and gave, and what the stream then waits for: 0 for frames or the end, 1 for room in the
+/// How many frames a call took and gave, and what the stream then waits for: 0 for frames or the end, 1 for space in the
 /// output, 2 for nothing, since all was given, 3 for the end, since no frame changes what is still to be given.
 #[repr(C)]
 #[derive(Drop)]
@@ -30,7 +30,7 @@ fn number_of_wait(waits: Waits) -> u32
 {
     match waits {
         Waits::Frames => 0,
-        Waits::Room => 1,
+        Waits::Buffer => 1,
         Waits::Nothing => 2,
         Waits::End => 3,
     }
@@ -49,7 +49,7 @@ fn take(alloc: Global, handle: &mut Handle) -> Option<Box<Stream>>
     }
 }
 
-/// Puts a stream behind a handle, and frees the one that was there.
+/// Puts a stream into a handle, and frees the one that was there.
 pub(crate) fn put_back(handle: &mut Handle, stream: Box<Stream>)
     ensures { handle.new.value ≡ Some stream.value }
 {
@@ -90,7 +90,7 @@ pub extern "C" fn soxchain_hold(alloc: Global, handle: &mut Handle) -> u64
 /// The samples that effect `number`, counted from 1, clipped; 0 where there is no such effect, or no stream.
 #[unsafe(no_mangle)]
 pub extern "C" fn soxchain_clips(alloc: Global, handle: &mut Handle, number: usize) -> u64
-    ensures value { MatchOption handle.old.value (result ≡ 0) (λ s. result ≡ clips_of s number) }
+    ensures value { MatchOption handle.old.value (result ≡ 0) (λ s. result ≡ stream_clips s number) }
     ensures same { handle.new.value ≡ handle.old.value }
 {
     let Some(stream) = take(alloc, handle) else {
@@ -101,7 +101,7 @@ pub extern "C" fn soxchain_clips(alloc: Global, handle: &mut Handle, number: usi
     clips
 }
 
-/// Frames in a second that the stream gives; 0 where there is none.
+/// Frames per second that the stream gives; 0 where there is none.
 #[unsafe(no_mangle)]
 pub extern "C" fn soxchain_rate(alloc: Global, handle: &mut Handle) -> u32
     ensures value { MatchOption handle.old.value (result ≡ 0) (λ s. result ≡ s.chain.plan.layout.rate) }
@@ -115,7 +115,7 @@ pub extern "C" fn soxchain_rate(alloc: Global, handle: &mut Handle) -> u32
     rate
 }
 
-/// Samples in a frame that the stream gives; 0 where there is none.
+/// Samples per frame that the stream gives; 0 where there is none.
 #[unsafe(no_mangle)]
 pub extern "C" fn soxchain_channels(alloc: Global, handle: &mut Handle) -> usize
     ensures value { MatchOption handle.old.value (result ≡ 0) (λ s. result ≡ s.chain.plan.layout.channels) }
@@ -137,7 +137,7 @@ pub extern "C" fn soxchain_free(alloc: Global, handle: &mut Handle)
     let _stream = take(alloc, handle);
 }
 
-/// Feeds a stream; what it answers.
+/// Feeds a stream; what it returns.
 fn feed_stream(
     stream: &mut Stream,
     input: &[i32],
@@ -187,7 +187,7 @@ pub extern "C" fn soxchain_feed(
     number_of(status)
 }
 
-/// Tells a stream the end; what it answers.
+/// Gives a stream the end; what it returns.
 fn end_stream(stream: &mut Stream) -> Status
     ensures { EndAnswers stream.old stream.new result }
 {
@@ -198,7 +198,7 @@ fn end_stream(stream: &mut Stream) -> Status
     }
 }
 
-/// Tells the stream that no frame will come; then `soxchain_feed` gives what is left.
+/// Gives the stream the end: no frame will come; then `soxchain_feed` gives what is left.
 #[unsafe(no_mangle)]
 pub extern "C" fn soxchain_end(alloc: Global, handle: &mut Handle) -> i32
     ensures none { handle.old.value ≡ None → (result ≡ code Status.NoStream) × (handle.new.value ≡ None) }
@@ -212,14 +212,14 @@ pub extern "C" fn soxchain_end(alloc: Global, handle: &mut Handle) -> i32
     number_of(status)
 }
 
-/// Freezes a stream; what it answers.
-fn freeze_stream(alloc: Global, stream: &Stream, room: &mut [u8], length: &mut usize) -> Status
-    ensures { FreezeAnswers stream.now room.old room.new length.new result }
+/// Freezes a stream; what it returns.
+fn freeze_stream(alloc: Global, stream: &Stream, bytes_out: &mut [u8], length: &mut usize) -> Status
+    ensures { FreezeAnswers stream.now bytes_out.old bytes_out.new length.new result }
 {
     match stream.freeze(alloc) {
         Ok(bytes) => {
             *length = bytes.len();
-            put(room, &bytes);
+            put(bytes_out, &bytes);
             Status::Fine
         }
         Err(_) => {
@@ -229,28 +229,28 @@ fn freeze_stream(alloc: Global, stream: &Stream, room: &mut [u8], length: &mut u
     }
 }
 
-/// The stream as bytes, which are copied where the room has place for all of them; `length` gets their number.
+/// The stream as bytes, which are copied where the output buffer has space for all of them; `length` gets their number.
 #[unsafe(no_mangle)]
 pub extern "C" fn soxchain_freeze(
     alloc: Global,
     handle: &mut Handle,
-    room: &mut [u8],
+    bytes_out: &mut [u8],
     length: &mut usize,
 ) -> i32
     ensures same { handle.new.value ≡ handle.old.value }
-    ensures none { handle.old.value ≡ None → (result ≡ code Status.NoStream) × (room.new ≡ room.old) × (length.new ≡ 0) }
-    ensures frozen { IfSome handle.old.value (λ s. (status : Status) × (result ≡ code status) × FreezeAnswers s room.old room.new length.new status) }
+    ensures none { handle.old.value ≡ None → (result ≡ code Status.NoStream) × (bytes_out.new ≡ bytes_out.old) × (length.new ≡ 0) }
+    ensures frozen { IfSome handle.old.value (λ s. (status : Status) × (result ≡ code status) × FreezeAnswers s bytes_out.old bytes_out.new length.new status) }
 {
     let Some(stream) = take(alloc, handle) else {
         *length = 0;
         return number_of(Status::NoStream);
     };
-    let status = freeze_stream(alloc, &stream, room, length);
+    let status = freeze_stream(alloc, &stream, bytes_out, length);
     put_back(handle, stream);
     number_of(status)
 }
 
-/// Thaws a stream; what it answers.
+/// Thaws a stream; what it returns.
 fn thaw_stream(alloc: Global, stream: &mut Stream, bytes: &[u8]) -> Status
     ensures { ThawAnswers stream.old stream.new bytes.now result }
 {
@@ -261,7 +261,7 @@ fn thaw_stream(alloc: Global, stream: &mut Stream, bytes: &[u8]) -> Status
     }
 }
 
-/// Goes on from a stream that was frozen to these bytes: it has to be made of the same words, files, rate and channels.
+/// Continues from a stream that was frozen to these bytes: it must be made of the same words, files, rate and channels.
 #[unsafe(no_mangle)]
 pub extern "C" fn soxchain_thaw(alloc: Global, handle: &mut Handle, bytes: &[u8]) -> i32
     ensures none { handle.old.value ≡ None → (result ≡ code Status.NoStream) × (handle.new.value ≡ None) }

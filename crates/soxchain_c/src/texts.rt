@@ -1,17 +1,17 @@
-//! Words and files that C tells as bytes and ends.
+//! Words and files that C passes as bytes and ends.
 ghost use Rattle.std.specs.Prelude.{◌≡◌, Err, IfOk, OnOk};
-ghost use Rattle.fx_line.specs.Line.{texts};
-ghost use Rattle.fx_plan.specs.Plans.{bytes_of};
+ghost use Rattle.fx_plan_line.specs.Line.{texts};
+ghost use Rattle.fx_plan.specs.Plans.{plan_bytes};
 ghost use Rattle.soxchain_c.specs.Texts.{AreEnds, AreTexts, FindsBadEnd, FindsNoText, cut};
 
 use std::alloc::Global;
 use std::str;
 use thiserror::Error;
 
-/// Why words or files are not told rightly.
+/// Why words or files are not passed correctly.
 #[derive(Clone, Copy, Debug, Drop, PartialEq, Eq, Error)]
 pub enum TextFault {
-    /// An end lies before the one before it, or past the bytes.
+    /// An end lies before the one before it, or after the end of the bytes.
     #[error("the ends are not in order or not in the bytes")]
     BadEnds = 1,
     /// A word is not UTF-8.
@@ -22,7 +22,7 @@ pub enum TextFault {
     Memory = 3,
 }
 
-/// The words that lie in bytes one behind the other, each up to its end; or the first fault.
+/// The words that lie in bytes one after the other, each up to its end; or the first fault.
 pub fn read_words(alloc: Global, bytes: &[u8], ends: &[usize]) -> Result<Vec<String>, TextFault>
     ensures words { IfOk result (λ words. texts words.items ≡ cut bytes.now 0 ends.now) }
     ensures ends { OnOk result (AreEnds bytes.now 0 ends.now) }
@@ -52,9 +52,9 @@ pub fn read_words(alloc: Global, bytes: &[u8], ends: &[usize]) -> Result<Vec<Str
     Ok(words)
 }
 
-/// The files that lie in bytes one behind the other, each up to its end; or the first fault.
+/// The files that lie in bytes one after the other, each up to its end; or the first fault.
 pub fn read_files(alloc: Global, bytes: &[u8], ends: &[usize]) -> Result<Vec<Vec<u8>>, TextFault>
-    ensures files { IfOk result (λ files. bytes_of files.items ≡ cut bytes.now 0 ends.now) }
+    ensures files { IfOk result (λ files. plan_bytes files.items ≡ cut bytes.now 0 ends.now) }
     ensures ends { OnOk result (AreEnds bytes.now 0 ends.now) }
     ensures bad_ends { result ≡ Err TextFault.BadEnds → AreEnds bytes.now 0 ends.now → ⊥ }
     ensures text { result ≡ Err TextFault.NotText → ⊥ }

@@ -1,45 +1,45 @@
--- What the program does, on any machine (this project's profile).
+-- What the program does, on any host (this project's profile).
 use Rattle.std.specs.Prelude.{◌≡◌, ◌≢◌, ℕ, true, false, List, [], Option, Some, None, Ok, Err, codes}
 use Rattle.std.specs.Io.KnownBytes.{Appends}
 use Rattle.std.specs.declared.io.ErrorKind.{ErrorKind}
 use Rattle.std.specs.declared.io.ErrorKind.TheVariants as ErrorKinds
 use Rattle.fx_chain.specs.Chain.{IsNewChain}
-use Rattle.fx_run.specs.declared.report.Report.{Report}
-use Rattle.fx_io.specs.Io.{ByteReader, ByteWriter}
-use Rattle.fx_line.specs.declared.line.LineFault.{LineFault}
-use Rattle.fx_line.specs.declared.line.LineFault.TheVariants as LineFaults
-use Rattle.fx_line.specs.Line.{Said, line_of}
+use Rattle.fx_chain_run.specs.declared.report.Report.{Report}
+use Rattle.fx_frame_io.specs.Io.{ByteReader, ByteWriter}
+use Rattle.fx_plan_line.specs.declared.line.LineFault.{LineFault}
+use Rattle.fx_plan_line.specs.declared.line.LineFault.TheVariants as LineFaults
+use Rattle.fx_plan_line.specs.Line.{Said, line_of_words}
 use Rattle.fx_plan.specs.CommandLines.{LineReads, coefficient_files, effects_in, file_name, planning_in}
 use Rattle.fx_plan.specs.Plans.{head_layout, all_faults}
 use Rattle.fx_plan.specs.Planning.{planning}
-use Rattle.fx_heads.specs.Head.{ReadsHead}
-use Rattle.fx_heads.specs.Known.{IfKnown}
-use Rattle.fx_heads.specs.Source.{Held, to_come}
+use Rattle.fx_sound_heads.specs.Head.{ReadsHead}
+use Rattle.fx_sound_heads.specs.Known.{IfKnown}
+use Rattle.fx_sound_heads.specs.Source.{Held, to_come}
 use Rattle.soxchain.specs.declared.prepared.Prepared.{Prepared}
 use Rattle.soxchain.specs.FileMessages.{open_message}
 use Rattle.soxchain.specs.Finishing.{Finished, ReadyParts}
 use Rattle.soxchain.specs.Messages.{line_label, line_message}
 use Rattle.soxchain.specs.Program.{status_of_line}
 use Rattle.soxchain.specs.Readying.{Unready}
-use Rattle.soxchain.specs.declared.telling.Telling.{Telling}
+use Rattle.soxchain.specs.declared.message_writer.MessageWriter.{MessageWriter}
 use Rattle.soxchain.specs.Saying.{Says}
-use Rattle.soxchain.specs.Telling.{ToldFront}
+use Rattle.soxchain.specs.MessageWriter.{ReportedFront}
 use Rattle.soxchain_cli.specs.Named.{FileWriter, Files}
-use Rattle.soxchain_cli.specs.SameFile.{IsMade, IsUnmade, Shelf}
-use Rattle.soxchain_words.specs.Desks.{IsNewReader, IsNewWriter, Machine, Opened}
-use Rattle.soxchain_words.specs.Files.{AreFronts, IsForgotten, IsUnread}
+use Rattle.soxchain_cli.specs.SameFile.{IsMade, IsUnmade, OpenedFiles}
+use Rattle.soxchain_common.specs.Consoles.{IsNewReader, IsNewWriter, Machine, Opened}
+use Rattle.soxchain_common.specs.Files.{AreFronts, IsMemoryRefused, IsUnread}
 
--- How streams and files are known: standard input and a file that is read, as readers; standard output and a file that was created, as
--- writers. Each counts the calls of it that failed.
+-- How streams and files are specified: standard input and a file that is read, as readers; standard output and a file that was
+-- created, as writers. Each counts the calls of it that failed.
 pub record Devices (I R O F : Type 0) : Type 1 where
   pub input : ByteReader I
   pub file : ByteReader R
   pub output : ByteWriter O
   pub created : FileWriter F
 
--- What a line asks for is prepared behind the head of a sound: its plan, without a fault, and the chain, which is new.
+-- What a line asks for is prepared after the head of a sound: its plan, without a fault, and the chain, which is new.
 pub record IsPrepared {R : Type 0} (reads : ByteReader R) (line : Said) (files : List (List ℕ)) (reader : R) (source : Held R) (prepared : Prepared) : Type 0 where
-  pub head : IfKnown (to_come reads.rest (record { bytes = []; reader = reader; short = false })) (λ bytes. ReadsHead reads.rest reads.told line.input_kind bytes (record { bytes = []; reader = reader; short = false }) source prepared.plan.head)
+  pub head : IfKnown (to_come reads.rest (record { bytes = []; reader = reader; short = false })) (λ bytes. ReadsHead reads.rest reads.delivered line.input_kind bytes (record { bytes = []; reader = reader; short = false }) source prepared.plan.head)
   pub no_faults : all_faults (head_layout prepared.plan.head) files (effects_in line) ≡ []
   pub planned : planning prepared.plan ≡ planning_in prepared.plan.head line files
   pub chain : IsNewChain (planning prepared.plan) prepared.chain
@@ -49,12 +49,12 @@ pub record IsPrepared {R : Type 0} (reads : ByteReader R) (line : Said) (files :
 abbrev pub ready_for : Said → Prepared → ReadyParts
 ready_for line prepared = record { line = line; prepared = prepared }
 
--- The program asks a machine one thing after another; `m`, `s` and `o` say what it was asked for and answered between one of its states
--- and the next. So the states name all that was asked, in its order: where the last one is that of a call, nothing came behind it.
-module _ {H I R O F M : Type 0} (d : Devices I R O F) (m : H → H → Machine I O) (s : Shelf H F) (writes : ByteWriter M) where
-  -- What becomes of a sound: nothing was ready for it; or OUT is IN, or could not be made; or it ran to standard output, or into the new
-  -- file of OUT's own name.
-  pub data Sounds {X : Type 0} (reads : ByteReader X) (line : Said) (files : List (List ℕ)) (reader : X) (host new_host : H) (old new : Telling M) (status : ℕ) : Type 0 where
+-- The program makes one request of the host after another; `m`, `s` and `o` state the request and the answer between one of its
+-- states and the next. So the states name all requests, in order: where the last one is that of a call, nothing came after it.
+module _ {H I R O F M : Type 0} (d : Devices I R O F) (m : H → H → Machine I O) (s : OpenedFiles H F) (writes : ByteWriter M) where
+  -- The result for a sound: nothing was ready for it; or OUT is IN, or could not be made; or it ran to standard output, or into
+  -- the new file of OUT's own name.
+  pub data Sounds {X : Type 0} (reads : ByteReader X) (line : Said) (files : List (List ℕ)) (reader : X) (host new_host : H) (old new : MessageWriter M) (status : ℕ) : Type 0 where
     Refused : (source : Held X)
         → new_host ≡ host
         → Unready reads line files (record { bytes = []; reader = reader; short = false }) source (Says writes old new) status
@@ -83,9 +83,9 @@ module _ {H I R O F M : Type 0} (d : Devices I R O F) (m : H → H → Machine I
         → s.closed next new_host ended
         → Sounds reads line files reader host new_host old new status
 
-  -- What becomes of a line whose coefficient files are there: IN could not be opened; or its sound was gone through, from standard
+  -- The result for a line whose coefficient files are there: IN could not be opened; or its sound was processed, from standard
   -- input or from the file of IN's own name.
-  pub data Lines (o : Opened H R) (line : Said) (files : List (List ℕ)) (host new_host : H) (old new : Telling M) (status : ℕ) : Type 0 where
+  pub data Lines (o : Opened H R) (line : Said) (files : List (List ℕ)) (host new_host : H) (old new : MessageWriter M) (status : ℕ) : Type 0 where
     Unopened : (name : List ℕ)
         → file_name line.input ≡ Some name
         → o.unopened host new_host name
@@ -105,16 +105,16 @@ module _ {H I R O F M : Type 0} (d : Devices I R O F) (m : H → H → Machine I
         → Sounds d.file line files reader next new_host old new status
         → Lines o line files host new_host old new status
 
-  -- What becomes of a line: a coefficient file that it names could not be read; or there was no memory for their names, or for
-  -- their bytes; or they are there, each its own.
-  pub data Works (o : Opened H R) (line : Said) (host new_host : H) (old new : Telling M) (status : ℕ) : Type 0 where
+  -- The result for a line: a coefficient file that it names could not be read; or memory for their names was refused, or for
+  -- their bytes; or all of them were read.
+  pub data Works (o : Opened H R) (line : Said) (host new_host : H) (old new : MessageWriter M) (status : ℕ) : Type 0 where
     Unread : (name : List ℕ)
         → IsUnread o d.file host new_host (coefficient_files (effects_in line)) name
         → status ≡ 2
         → Says writes old new (open_message name)
         → Works o line host new_host old new status
-    Forgotten :
-        IsForgotten o d.file host new_host (coefficient_files (effects_in line))
+    MemoryRefused :
+        IsMemoryRefused o d.file host new_host (coefficient_files (effects_in line))
         → status ≡ status_of_line LineFaults.Memory
         → Says writes old new (line_message (line_label LineFaults.Memory))
         → Works o line host new_host old new status
@@ -123,9 +123,9 @@ module _ {H I R O F M : Type 0} (d : Devices I R O F) (m : H → H → Machine I
         → Lines o line files next new_host old new status
         → Works o line host new_host old new status
 
-  -- A text was shown on standard output, and flushed, and no call of it failed; or one did, and a front of the text was shown. Nothing
-  -- else was written to it.
-  pub data IsShown (text : List ℕ) (host new_host : H) (old new : Telling M) (status : ℕ) : Type 0 where
+  -- A text was shown on standard output, and flushed, and no call of it failed; or one did, and a prefix of the text was shown.
+  -- Nothing else was written to it.
+  pub data IsShown (text : List ℕ) (host new_host : H) (old new : MessageWriter M) (status : ℕ) : Type 0 where
     Whole : (next : H) (output ended : O)
         → (m host next).is_output output
         → Appends (d.output.taken output) (d.output.taken ended) text
@@ -138,36 +138,36 @@ module _ {H I R O F M : Type 0} (d : Devices I R O F) (m : H → H → Machine I
     Cut : (next : H) (output ended : O)
         → (m host next).is_output output
         → IsNewWriter d.output output
-        → ToldFront (d.output.taken output) (d.output.taken ended) (d.output.failures output) (d.output.failures ended) text
+        → ReportedFront (d.output.taken output) (d.output.taken ended) (d.output.failures output) (d.output.failures ended) text
         → (m next new_host).left ended
         → status ≡ 2
         → Says writes old new (open_message (codes "-"))
         → IsShown text host new_host old new status
 
-  -- What the program does: the words could not be had; or they ask for a text; or they are refused; or they are a line.
-  pub data Answers (o : Opened H R) (answer : List (List ℕ) → Option (List ℕ)) (host new_host : H) (old new : Telling M) (status : ℕ) : Type 0 where
+  -- What the program does: the words could not be read; or they ask for a text; or they are refused; or they are a line.
+  pub data CliAnswers (o : Opened H R) (answer : List (List ℕ) → Option (List ℕ)) (host new_host : H) (old new : MessageWriter M) (status : ℕ) : Type 0 where
     Mute : (kind : ErrorKind) (fault : LineFault)
         → (m host new_host).mute kind
         → (kind ≡ ErrorKinds.OutOfMemory → fault ≡ LineFaults.Memory)
         → (kind ≢ ErrorKinds.OutOfMemory → fault ≡ LineFaults.BadOption)
         → status ≡ status_of_line fault
         → Says writes old new (line_message (line_label fault))
-        → Answers o answer host new_host old new status
+        → CliAnswers o answer host new_host old new status
     Shown : (next : H) (words : List (List ℕ)) (text : List ℕ)
         → (m host next).asked words
         → answer words ≡ Some text
         → IsShown text next new_host old new status
-        → Answers o answer host new_host old new status
+        → CliAnswers o answer host new_host old new status
     BadWords : (words : List (List ℕ)) (fault : LineFault)
         → (m host new_host).asked words
         → answer words ≡ None
-        → LineReads (line_of words) (Err fault)
+        → LineReads (line_of_words words) (Err fault)
         → status ≡ status_of_line fault
         → Says writes old new (line_message (line_label fault))
-        → Answers o answer host new_host old new status
+        → CliAnswers o answer host new_host old new status
     Worked : (next : H) (words : List (List ℕ)) (line : Said)
         → (m host next).asked words
         → answer words ≡ None
-        → line_of words ≡ Ok line
+        → line_of_words words ≡ Ok line
         → Works o line next new_host old new status
-        → Answers o answer host new_host old new status
+        → CliAnswers o answer host new_host old new status

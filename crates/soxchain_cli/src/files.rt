@@ -2,8 +2,8 @@
 ghost use Rattle.std.specs.Prelude.{◌≡◌, false, true};
 ghost use Rattle.fx_chain.specs.Chain.{IsNewChain};
 ghost use Rattle.fx_plan.specs.Planning.{planning};
-ghost use Rattle.fx_plan.specs.Plans.{bytes_of};
-ghost use Rattle.fx_run.specs.declared.report.Report.{Report};
+ghost use Rattle.fx_plan.specs.Plans.{plan_bytes};
+ghost use Rattle.fx_chain_run.specs.declared.report.Report.{Report};
 ghost use Rattle.soxchain.specs.FileMessages.{open_message, rewrite_message};
 ghost use Rattle.soxchain.specs.Finishing.{Finished};
 ghost use Rattle.soxchain.specs.Saying.{Says};
@@ -14,136 +14,150 @@ ghost use Rattle.soxchain_cli.specs.Working.{Lines, Sounds, ready_for};
 use crate::host::Host;
 use crate::same_file::create_beside;
 use fx_frame::{ByteIn, ByteOut};
-use fx_io::Rewind;
-use fx_plan::{CommandLine, Stream};
+use fx_frame_io::Rewind;
+use fx_plan::{CommandLine, Endpoint};
 use fx_sound::{HeadBytes, Source, head_bytes};
 use soxchain::inner::{
-    Prepared, Telling, finish_for, prepare_for, tell_cannot_open, tell_cannot_rewrite, write_whole,
+    MessageWriter, Prepared, finish_for, prepare_for, tell_cannot_open, tell_cannot_rewrite,
+    write_whole,
 };
-use soxchain_words::{Desk, Openings};
+use soxchain_common::{Console, Openings};
 
-/// Tells that a file cannot be opened, read or created, and answers the status.
-pub fn cannot_open<M: ByteOut>(telling: &mut Telling<M>, name: &str) -> u8
+/// Reports that a file cannot be opened, read or created, and returns the status.
+pub fn cannot_open<M: ByteOut>(message_writer: &mut MessageWriter<M>, name: &str) -> u8
     ensures status { result ≡ 2 }
-    ensures told { Says M.writes telling.old telling.new (open_message name.now) }
+    ensures delivered { Says M.writes message_writer.old message_writer.new (open_message name.now) }
 {
-    tell_cannot_open(telling, name);
+    tell_cannot_open(message_writer, name);
     2
 }
 
-/// Tells that the head of a file cannot be written again, and answers the status.
-fn cannot_rewrite<M: ByteOut>(telling: &mut Telling<M>, name: &str) -> u8
+/// Reports that the head of a file cannot be written again, and returns the status.
+fn cannot_rewrite<M: ByteOut>(message_writer: &mut MessageWriter<M>, name: &str) -> u8
     ensures status { result ≡ 2 }
-    ensures told { Says M.writes telling.old telling.new (rewrite_message name.now) }
+    ensures delivered { Says M.writes message_writer.old message_writer.new (rewrite_message name.now) }
 {
-    tell_cannot_rewrite(telling, name);
+    tell_cannot_rewrite(message_writer, name);
     2
 }
 
-/// Does what a line asks for, from IN to OUT, with the bytes of its coefficient files, and answers the status.
+/// Executes a command line, from IN to OUT, with the bytes of its coefficient files, and returns the status.
 pub fn process<H: Host, M: ByteOut>(
     host: &mut H,
     line: &CommandLine,
     files: &[Vec<u8>],
-    telling: &mut Telling<M>,
+    message_writer: &mut MessageWriter<M>,
 ) -> u8
     ensures { Lines (record { input = H.Input.reads; file = H.Reader.reads; output = H.Output.writes; created = record { writes = H.Made.writes; rewinds = H.Made.rewinds } })
-        H.machine H.shelf M.writes (record { opened = H.opened; unopened = H.unopened; closed = H.closed })
-        line.now (bytes_of files.now) host.old host.new telling.old telling.new result }
+        H.machine H.opened_files M.writes (record { opened = H.opened; unopened = H.unopened; closed = H.closed })
+        line.now (plan_bytes files.now) host.old host.new message_writer.old message_writer.new result }
 {
     match line.input() {
-        Stream::Standard => {
+        Endpoint::Standard => {
             let reader = host.input();
-            process_from(host, line, files, reader, telling)
+            process_from(host, line, files, reader, message_writer)
         }
-        Stream::Named(name) => match host.open(name) {
-            Ok(file) => process_from(host, line, files, file, telling),
-            Err(_) => cannot_open(telling, name),
+        Endpoint::Named(name) => match host.open(name) {
+            Ok(file) => process_from(host, line, files, file, message_writer),
+            Err(_) => cannot_open(message_writer, name),
         },
     }
 }
 
-/// Does what a line asks for to the sound of a reader. OUT is created only once the chain stands.
+/// Executes a command line on the sound of a reader. OUT is created only once the chain exists.
 fn process_from<H: Host, R: ByteIn + Drop, M: ByteOut>(
     host: &mut H,
     line: &CommandLine,
     files: &[Vec<u8>],
     reader: R,
-    telling: &mut Telling<M>,
+    message_writer: &mut MessageWriter<M>,
 ) -> u8
     ensures { Sounds (record { input = H.Input.reads; file = H.Reader.reads; output = H.Output.writes; created = record { writes = H.Made.writes; rewinds = H.Made.rewinds } })
-        H.machine H.shelf M.writes R.reads
-        line.now (bytes_of files.now) reader host.old host.new telling.old telling.new result }
+        H.machine H.opened_files M.writes R.reads
+        line.now (plan_bytes files.now) reader host.old host.new message_writer.old message_writer.new result }
 {
     let mut source = Source::new(reader);
-    let prepared = match prepare_for(host.memory(), line, files, &mut source, telling) {
+    let prepared = match prepare_for(host.memory(), line, files, &mut source, message_writer) {
         Ok(prepared) => prepared,
         Err(status) => return status,
     };
     match line.output() {
-        Stream::Standard => {
+        Endpoint::Standard => {
             let mut output = host.output();
-            let (status, _report) = finish_for(line, prepared, &mut source, &mut output, telling);
+            let (status, _report) = finish_for(
+                line,
+                prepared,
+                &mut source,
+                &mut output,
+                message_writer,
+            );
             host.leave(output);
             status
         }
-        Stream::Named(name) => match create_beside(host, line.input(), name, &prepared) {
+        Endpoint::Named(name) => match create_beside(host, line.input(), name, &prepared) {
             Some(mut file) => {
-                let status = process_to(line, prepared, &mut source, &mut file, name, telling);
+                let status = process_to(
+                    line,
+                    prepared,
+                    &mut source,
+                    &mut file,
+                    name,
+                    message_writer,
+                );
                 host.close(file);
                 status
             }
-            None => cannot_open(telling, name),
+            None => cannot_open(message_writer, name),
         },
     }
 }
 
-/// Runs what is prepared for a line. Answers the status, and the head with the true number of frames.
+/// Runs what is prepared for a line. Returns the status, and the head with the true number of frames.
 fn finish_with_head<R: ByteIn, W: ByteOut, M: ByteOut>(
     line: &CommandLine,
     prepared: Prepared,
     source: &mut Source<R>,
     output: &mut W,
-    telling: &mut Telling<M>,
+    message_writer: &mut MessageWriter<M>,
 ) -> (u8, HeadBytes)
     requires { IsNewChain (planning prepared.plan) prepared.chain }
     ensures { (report : Report)
-        × Finished R.reads W.writes (ready_for line.now prepared) source.old source.new output.old output.new (Says M.writes telling.old telling.new) result.0 report
+        × Finished R.reads W.writes (ready_for line.now prepared) source.old source.new output.old output.new (Says M.writes message_writer.old message_writer.new) result.0 report
         × (result.1 ≡ true_head (planning prepared.plan) report) }
 {
     let plan = &prepared.plan;
     let (kind, coding) = (plan.kind(), plan.coding());
     let (rate, channels) = (plan.rate(), plan.channels());
-    let (status, report) = finish_for(line, prepared, source, output, telling);
+    let (status, report) = finish_for(line, prepared, source, output, message_writer);
     let head = head_bytes(kind, rate, channels, coding, Some(report.frames_out));
     (status, head)
 }
 
 /// Runs what is prepared and writes it to a new file. Without a fault the head is then written once more, with the true sizes.
-/// Answers the status.
+/// Returns the status.
 fn process_to<R: ByteIn, F: Rewind, M: ByteOut>(
     line: &CommandLine,
     prepared: Prepared,
     source: &mut Source<R>,
     file: &mut F,
     name: &str,
-    telling: &mut Telling<M>,
+    message_writer: &mut MessageWriter<M>,
 ) -> u8
     requires { IsNewChain (planning prepared.plan) prepared.chain }
-    ensures { Files R.reads (record { writes = F.writes; rewinds = F.rewinds }) M.writes (ready_for line.now prepared) source.old source.new file.old file.new name.now telling.old telling.new result }
+    ensures { Files R.reads (record { writes = F.writes; rewinds = F.rewinds }) M.writes (ready_for line.now prepared) source.old source.new file.old file.new name.now message_writer.old message_writer.new result }
 {
-    let (status, head) = finish_with_head(line, prepared, source, file, telling);
+    let (status, head) = finish_with_head(line, prepared, source, file, message_writer);
     if status != 0 {
         return status;
     }
     if write_over(file, head.as_slice()) {
         0
     } else {
-        cannot_rewrite(telling, name)
+        cannot_rewrite(message_writer, name)
     }
 }
 
-/// Writes bytes over the beginning of a file, and hands them on: false where one call of it failed.
+/// Writes bytes over the beginning of a file, and flushes them: false where one call of it failed.
 fn write_over<F: Rewind>(file: &mut F, bytes: &[u8]) -> bool
     ensures whole { result ≡ true → WritesOver (record { writes = F.writes; rewinds = F.rewinds }) file.old file.new bytes.now }
     ensures failed { result ≡ false → FailsOver (record { writes = F.writes; rewinds = F.rewinds }) file.old file.new bytes.now }

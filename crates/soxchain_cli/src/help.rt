@@ -1,11 +1,11 @@
-//! What the program says of itself, on standard output.
+//! What the program prints about itself, on standard output.
 ghost use Rattle.soxchain_cli.specs.Working.{IsShown};
 
 use crate::files::cannot_open;
 use crate::host::Host;
 use fx_frame::ByteOut;
-use soxchain::inner::{Telling, write_whole};
-use soxchain_words::{Desk, effects};
+use soxchain::inner::{MessageWriter, write_whole};
+use soxchain_common::{Console, effects};
 
 /// The answer to `--help`, from the table of effects.
 macro_rules! help {
@@ -40,10 +40,14 @@ The manual: man soxchain
 /// The answer to `--help`.
 pub const HELP: &str = effects!(help);
 
-/// Writes an answer to standard output, and answers the status.
-pub fn tell_answer<H: Host, M: ByteOut>(host: &mut H, answer: &str, telling: &mut Telling<M>) -> u8
+/// Writes an answer to standard output, and returns the status.
+pub fn tell_answer<H: Host, M: ByteOut>(
+    host: &mut H,
+    answer: &str,
+    message_writer: &mut MessageWriter<M>,
+) -> u8
     ensures { IsShown (record { input = H.Input.reads; file = H.Reader.reads; output = H.Output.writes; created = record { writes = H.Made.writes; rewinds = H.Made.rewinds } })
-        H.machine H.shelf M.writes answer.now host.old host.new telling.old telling.new result }
+        H.machine H.opened_files M.writes answer.now host.old host.new message_writer.old message_writer.new result }
 {
     let mut output = host.output();
     let is_whole = write_whole(&mut output, answer.as_bytes());
@@ -51,6 +55,6 @@ pub fn tell_answer<H: Host, M: ByteOut>(host: &mut H, answer: &str, telling: &mu
     if is_whole {
         0
     } else {
-        cannot_open(telling, "-")
+        cannot_open(message_writer, "-")
     }
 }

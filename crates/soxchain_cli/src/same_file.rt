@@ -1,19 +1,19 @@
-//! The output as a file of its own: making it must not empty the file that is read.
+//! The output as a separate file: creating it must not empty the file that is read.
 ghost use Rattle.std.specs.Prelude.{◌≡◌, false, true, IfNone, IfSome};
 ghost use Rattle.fx_chain.specs.Chain.{IsNewChain};
 ghost use Rattle.fx_plan.specs.CommandLines.{name_in};
 ghost use Rattle.fx_plan.specs.Planning.{planning};
 ghost use Rattle.soxchain_cli.specs.SameFile.{AreOne, IsMade, IsUnmade, source_name};
-ghost use Rattle.soxchain_words.specs.Desks.{IsNewWriter};
+ghost use Rattle.soxchain_common.specs.Consoles.{IsNewWriter};
 
 use crate::host::{Host, Identity};
-use fx_plan::Stream;
+use fx_plan::Endpoint;
 use soxchain::inner::Prepared;
 
 /// The name of standard input among the files.
 const STANDARD_INPUT: &str = "/dev/stdin";
 
-/// Whether both are one file with a content of its own. One that cannot be looked at is not.
+/// Whether both are one file with stored content. One that cannot be inspected is not.
 fn are_one(one: Option<Identity>, other: Option<Identity>) -> bool
     ensures one { result ≡ true → AreOne one other }
     ensures apart { result ≡ false → AreOne one other → ⊥ }
@@ -26,28 +26,28 @@ fn are_one(one: Option<Identity>, other: Option<Identity>) -> bool
     }
 }
 
-/// The name under which the input is looked at.
-fn source_of<'a>(input: Stream<'a>) -> &'a str
+/// The name under which the input is inspected.
+fn source_of<'a>(input: Endpoint<'a>) -> &'a str
     ensures { result.now ≡ source_name (name_in input.entry) }
 {
     match input {
-        Stream::Standard => STANDARD_INPUT,
-        Stream::Named(name) => name,
+        Endpoint::Standard => STANDARD_INPUT,
+        Endpoint::Named(name) => name,
     }
 }
 
-/// Makes the output, or empties an older one, once a new chain stands. None where it is the input, by device and inode, or cannot be
-/// made.
+/// Creates the output, or empties an older one, once a new chain exists. None where it is the input, by device and inode, or
+/// cannot be made.
 pub fn create_beside<H: Host>(
     host: &mut H,
-    input: Stream<'_>,
+    input: Endpoint<'_>,
     name: &str,
     prepared: &Prepared,
 ) -> Option<H::Made>
     requires { IsNewChain (planning prepared.now.plan) prepared.now.chain }
-    ensures made { IfSome result (IsMade H.shelf host.old host.new (name_in input.entry) name.now) }
+    ensures made { IfSome result (IsMade H.opened_files host.old host.new (name_in input.entry) name.now) }
     ensures fresh { IfSome result (IsNewWriter H.Made.writes) }
-    ensures unmade { IfNone result (IsUnmade H.shelf host.old host.new (name_in input.entry) name.now) }
+    ensures unmade { IfNone result (IsUnmade H.opened_files host.old host.new (name_in input.entry) name.now) }
 {
     let source = host.look(source_of(input));
     let target = host.look(name);

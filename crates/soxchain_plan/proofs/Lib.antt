@@ -3,5 +3,7 @@ pub mod Kept
 pub mod Lateness
 pub mod Made
 pub mod Naming
+pub mod Padded
+pub mod Registered
 pub mod ShownLemmas
 pub mod Writing

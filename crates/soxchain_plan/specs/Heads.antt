@@ -1,39 +1,39 @@
 -- The head of IN as it is read (this project's profile).
 use Rattle.std.specs.Prelude.{◌≡◌, ◌≢◌, ℕ, ◌+◌, List, Option, Result, Ok, Err, MatchBool}
-use Rattle.fx_heads.specs.Head.{head_of}
-use Rattle.fx_heads.specs.HeadFields.{is_read_failure}
-use Rattle.fx_heads.specs.Known.{IfKnown}
-use Rattle.fx_heads.specs.declared.head.Head.{Head}
-use Rattle.fx_heads.specs.declared.head.HeadFault.{HeadFault}
-use Rattle.fx_heads.specs.declared.head.HeadFault.TheVariants.{ReadFailed}
-use Rattle.fx_heads.specs.declared.head.Kind.{Kind}
-use Rattle.fx_heads.specs.Reads.{CutOff}
-use Rattle.fx_heads.specs.Source.{Held}
-use Rattle.fx_io.specs.Io.{ByteReader, saturated}
+use Rattle.fx_sound_heads.specs.Head.{head_of}
+use Rattle.fx_sound_heads.specs.HeadFields.{is_read_failure}
+use Rattle.fx_sound_heads.specs.Known.{IfKnown}
+use Rattle.fx_sound_heads.specs.declared.head.Head.{Head}
+use Rattle.fx_sound_heads.specs.declared.head.HeadFault.{HeadFault}
+use Rattle.fx_sound_heads.specs.declared.head.HeadFault.TheVariants.{ReadFailed}
+use Rattle.fx_sound_heads.specs.declared.head.Kind.{Kind}
+use Rattle.fx_sound_heads.specs.Reads.{CutOff}
+use Rattle.fx_sound_heads.specs.Source.{Held}
+use Rattle.fx_frame_io.specs.Io.{ByteReader, saturated}
 use Rattle.soxchain.specs.Convert.{Begins, unread_source}
-use Rattle.soxchain_words.specs.Desks.{IsNewReader}
+use Rattle.soxchain_common.specs.Consoles.{IsNewReader}
 
 -- the bytes begin with this head, or else have this fault unless a read failed
 abbrev pub IsHeadOf : Option Kind → List ℕ → Result Head HeadFault → Type 0
 IsHeadOf expected bytes (Ok head) = (offset : ℕ) × Begins expected bytes head offset
 IsHeadOf expected bytes (Err fault) = fault ≢ ReadFailed → head_of expected bytes ≡ Err fault
 
--- This is read of a reader, which comes to this end, with what is held of it. A read is said to have failed only where one did, and
--- only one; what had come before that decided nothing.
+-- This is read from a reader, which ends in this state, with what is held of it. A failed read is reported only where one
+-- failed, and only one; what had come before did not decide the result.
 pub record HeadIsRead {R : Type 0} (reads : ByteReader R) (expected : Option Kind) (reader : R) (head : Result Head HeadFault) : Type 0 where
   pub ended : Held R
   pub is_head : IfKnown (reads.rest reader) (λ bytes. IsHeadOf expected bytes head)
   pub failures : MatchBool (is_read_failure head) (reads.failures ended.reader ≡ saturated (reads.failures reader + 1)) (reads.failures ended.reader ≡ reads.failures reader)
-  pub cut : head ≡ Err ReadFailed → CutOff reads.rest reads.told (head_of expected) (unread_source reader) ended
+  pub cut : head ≡ Err ReadFailed → CutOff reads.rest reads.delivered (head_of expected) (unread_source reader) ended
 
--- standard input was asked for, and this is read of it
+-- standard input was requested, and this is read from it
 pub record IsHeadFrom {I : Type 0} (is_input : I → Type 0) (reads : ByteReader I) (expected : Option Kind) (head : Result Head HeadFault) : Type 0 where
   pub reader : I
   pub is_reader : is_input reader
   pub fresh : IsNewReader reads reader
   pub read : HeadIsRead reads expected reader head
 
--- the file of this name was opened, and this is read of it
+-- the file of this name was opened, and this is read from it
 pub record IsHeadIn {R : Type 0} (opened : List ℕ → R → Type 0) (reads : ByteReader R) (name : List ℕ) (expected : Option Kind) (head : Result Head HeadFault) : Type 0 where
   pub reader : R
   pub is_opened : opened name reader

@@ -1,56 +1,57 @@
--- What soxchain-plan tells of sounds and effects (this project's profile).
+-- What soxchain-plan reports of sounds and effects (this project's profile).
 use Rattle.std.specs.Prelude.{◌≡◌, ℕ, ◌+◌, ◌-◌, ◌*◌, ◌/◌, ◌^◌, ◌≤◌, List, [], ◌∷◌, Option, None, Some, length, map, min, sum}
 use Rattle.std.specs.List.{All}
 use Rattle.std.specs.Option.{option_map}
-use Rattle.fx_io.specs.Coding.{width_of}
-use Rattle.fx_heads.specs.declared.head.Head.{Head}
-use Rattle.fx_step.specs.Frame.{Samples}
-use Rattle.fx_effects.specs.Bounds.{hold_all, hold_of}
-use Rattle.fx_effects.specs.Effects.{Act, OfDownsample, OfEchos, OfFade, OfFir, OfPad, OfTrim, OfUpsample, channels_after, name_text}
-use Rattle.fx_effects.specs.Meanings.{InPlace, Placed, line_of}
-use Rattle.fx_fir.specs.Fir.{centre}
-use Rattle.fx_flow.specs.Composed.{Whole}
-use Rattle.fx_stages.specs.Made.{placed}
+use Rattle.fx_frame_io.specs.Coding.{width_of}
+use Rattle.fx_sound_heads.specs.declared.head.Head.{Head}
+use Rattle.fx_frame_stage.specs.Frame.{Samples}
+use Rattle.fx_plan_effects.specs.Bounds.{hold_all, hold_of_act}
+use Rattle.fx_plan_effects.specs.Effects.{Act, channels_after, name_text}
+use Rattle.fx_plan_effects.specs.Registry.{OfDownsample, OfEchos, OfFade, OfFir, OfPad, OfTrim, OfUpsample}
+use Rattle.fx_plan_effects.specs.Meanings.{InPlace, Placed, line_of_act}
+use Rattle.fx_tap_fir.specs.Fir.{centre}
+use Rattle.fx_chain_flow.specs.Composed.{Whole}
+use Rattle.fx_chain_stages.specs.Made.{placed_in}
 use Rattle.fx_plan.specs.Planning.{Planning}
 use Rattle.fx_chain.specs.Chain.{chain_gives, chain_wholes}
 use Rattle.soxchain_plan.specs.declared.outline.EffectOutline.{EffectOutline}
 use Rattle.soxchain_plan.specs.declared.outline.Outline.{Outline}
 
--- by how many frames of its input an effect gives later than it takes (soxchain-plan(1), DESCRIPTION): those with positions from the
--- end wait until so many frames more have come, and `fir` for the later half of its sum; every other gives what it has at once
+-- the latency of an effect, in frames of its input (soxchain-plan(1), DESCRIPTION): effects with positions from the
+-- end wait for that many more frames, and `fir` for the later half of its sum; every other effect gives its output at once
 abbrev pub late_by : Act → ℕ
-late_by (OfTrim positions) = line_of (OfTrim positions)
-late_by (OfPad pads) = line_of (OfPad pads)
-late_by (OfFade fade) = line_of (OfFade fade)
+late_by (OfTrim positions) = line_of_act (OfTrim positions)
+late_by (OfPad pads) = line_of_act (OfPad pads)
+late_by (OfFade fade) = line_of_act (OfFade fade)
 late_by (OfFir coefficients) = centre (length coefficients)
 late_by other = 0
 
--- the name, the hold and the lateness that are told
-abbrev pub told : EffectOutline → List ℕ × ℕ × ℕ
-told effect = (effect.name.now, effect.hold, effect.late)
+-- the name, the hold and the latency that are reported
+abbrev pub delivered : EffectOutline → List ℕ × ℕ × ℕ
+delivered effect = (effect.name.now, effect.hold, effect.late)
 
--- the name, the hold and the lateness of an effect
+-- the name, the hold and the latency of an effect
 abbrev pub known : Act → List ℕ × ℕ × ℕ
-known act = (name_text act, hold_of act, late_by act)
+known act = (name_text act, hold_of_act act, late_by act)
 
--- the frames in a second of what an effect gives, where it takes so many: times the factor of `upsample`, or by that of `downsample`,
--- rounded down; every other leaves them as they are. No plan that is accepted comes to the limit of 32 bits
+-- the frames per second that an effect gives, where it takes `rate`: times the factor of `upsample`, or divided by that of
+-- `downsample`, rounded down; every other leaves them unchanged. No accepted plan reaches the limit of 32 bits
 abbrev pub rate_after : Act → ℕ → ℕ
 rate_after (OfUpsample factor) rate = min (rate * factor) (2 ^ 32 - 1)
 rate_after (OfDownsample factor) rate = rate / factor
 rate_after other rate = rate
 
--- the frames in a second of the input of each effect, the first of which takes so many
+-- the frames per second of the input of each effect, the first of which takes `rate`
 abbrev pub rates_along : ℕ → List Act → List ℕ
 rates_along rate [] = []
 rates_along rate (act ∷ acts) = rate ∷ rates_along (rate_after act rate) acts
 
--- the frames in a second that are told
-abbrev pub told_rate : EffectOutline → ℕ
-told_rate outline = outline.rate
+-- the frames per second that are reported
+abbrev pub stated_rate : EffectOutline → ℕ
+stated_rate outline = outline.rate
 
--- the milliseconds that so many frames take, of which there are so many in a second, rounded up; 0 where a second has none, as in no
--- plan that is accepted
+-- the milliseconds of `frames` frames at a rate, rounded up; 0 where the rate is 0, as in no
+-- accepted plan
 abbrev pub milliseconds : ℕ → ℕ → ℕ
 milliseconds frames rate = (frames * 1000 + rate - 1) / rate
 
@@ -61,7 +62,7 @@ announced_frames head = option_map (λ bytes. bytes / (head.channels * width_of 
 -- a sound of just the frames that a head announces, no more than a run takes
 pub record IsAnnounced (head : Head) (sound : List Samples) : Type 0 where
   pub announced : announced_frames head ≡ Some (length sound)
-  pub few : length sound ≤ 2 ^ 40
+  pub bound : length sound ≤ 2 ^ 40
 
 -- the bytes of a sample in the line of an effect: 64 bits in `echos`, else 32
 abbrev pub sample_bytes : Act → ℕ
@@ -70,40 +71,40 @@ sample_bytes other = 4
 
 -- the bytes of the samples that an effect in its place may hold: those of its line, and of one frame that it gives
 abbrev pub held_bytes : Placed → ℕ
-held_bytes (InPlace channels act) = line_of act * channels * sample_bytes act + channels_after channels act * 4
+held_bytes (InPlace channels act) = line_of_act act * channels * sample_bytes act + channels_after channels act * 4
 
--- the same of each effect, the first of which takes frames of so many channels
+-- the same of each effect, the first of which takes frames of `channels` channels
 abbrev pub bytes_along : ℕ → List Act → List ℕ
-bytes_along channels acts = map held_bytes (placed channels acts)
+bytes_along channels acts = map held_bytes (placed_in channels acts)
 
--- the same of a whole chain: those of a frame in front of the first effect, and those of each effect
+-- the same of a whole chain: those of a frame before the first effect, and those of each effect
 abbrev pub chain_bytes : Planning → ℕ
 chain_bytes plan = 4 * plan.head.channels + sum (bytes_along plan.head.channels plan.acts)
 
--- the frames that an effect gives in all, as they are told and by its definition
-abbrev pub told_frames : EffectOutline → Option ℕ
-told_frames outline = outline.frames
+-- the frames that an effect gives in all, as they are reported and by its definition
+abbrev pub stated_frames : EffectOutline → Option ℕ
+stated_frames outline = outline.frames
 
 abbrev pub whole_frames : Whole → Option ℕ
 whole_frames whole = Some whole.given
 
--- the bytes that are told
-abbrev pub told_bytes : EffectOutline → ℕ
-told_bytes outline = outline.bytes
+-- the bytes that are reported
+abbrev pub stated_bytes : EffectOutline → ℕ
+stated_bytes outline = outline.bytes
 
--- What a plan says. Of a sound of up to 2^40 frames, just those that its head announces, the frames behind each effect are as many
--- as its definition gives; where the head announces none they are not known.
+-- The content of a plan. Of a sound of up to 2^40 frames, just those that its head announces, the frames after each effect are
+-- as many as its definition gives; where the head announces none they are not known.
 pub record IsOutline (plan : Planning) (outline : Outline) : Type 0 where
   pub input_kind : outline.input.kind ≡ plan.head.kind
   pub input_rate : outline.input.rate ≡ plan.head.rate
   pub input_channels : outline.input.channels ≡ plan.head.channels
   pub input_bits : outline.input.bits ≡ 8 * width_of plan.head.coding
   pub input_frames : outline.input.frames ≡ announced_frames plan.head
-  pub effects : map told outline.effects.items ≡ map known plan.acts
-  pub effect_rates : map told_rate outline.effects.items ≡ rates_along plan.head.rate plan.acts
-  pub effect_bytes : map told_bytes outline.effects.items ≡ bytes_along plan.head.channels plan.acts
+  pub effects : map delivered outline.effects.items ≡ map known plan.acts
+  pub effect_rates : map stated_rate outline.effects.items ≡ rates_along plan.head.rate plan.acts
+  pub effect_bytes : map stated_bytes outline.effects.items ≡ bytes_along plan.head.channels plan.acts
   pub effect_frames : (sound : List Samples) → IsAnnounced plan.head sound
-      → map told_frames outline.effects.items ≡ map whole_frames (chain_wholes plan sound)
+      → map stated_frames outline.effects.items ≡ map whole_frames (chain_wholes plan sound)
   pub effect_unknown : announced_frames plan.head ≡ None → All (λ effect. effect.frames ≡ None) outline.effects.items
   pub hold : outline.hold ≡ hold_all plan.acts
   pub bytes : outline.bytes ≡ chain_bytes plan

@@ -2,16 +2,16 @@
 use Rattle.std.specs.Prelude.{ℕ, ◌/◌, ◌%◌, ◌==◌, ◌||◌, nat_lt, false, if◌then◌else◌, List, [], ◌∷◌, ◌++◌, codes, decimal, flat_map}
 use Rattle.std.specs.Fmt.{digit_glyph}
 use Rattle.std.specs.Io.BufRead.{strip_last}
-use Rattle.fx_heads.specs.declared.head.Kind.{Kind}
-use Rattle.fx_heads.specs.declared.head.Kind.TheVariants.{Wav, Au}
+use Rattle.fx_sound_heads.specs.declared.head.Kind.{Kind}
+use Rattle.fx_sound_heads.specs.declared.head.Kind.TheVariants.{Wav, Au}
 
 -- the name of a kind
 abbrev pub kind_text : Kind → List ℕ
 kind_text Wav = codes "wav"
 kind_text Au = codes "au"
 
--- a byte within a string (RFC 8259, section 7): quotation mark and reverse solidus behind a reverse solidus, a control
--- character by its number in four digits, every other byte as it is
+-- a byte within a string (RFC 8259, section 7): quotation mark and reverse solidus after a reverse solidus, a control
+-- character by its number in four digits, every other byte unchanged
 abbrev pub json_byte : ℕ → List ℕ
 json_byte byte =
     if (byte == 34) || (byte == 92) then 92 ∷ byte ∷ []

@@ -1,4 +1,4 @@
--- How a plan is shown (this project's profile): as lines for people, or as one JSON object (RFC 8259) on a line.
+-- How a plan is shown (this project's profile): as human-readable lines, or as one JSON object (RFC 8259) on a line.
 use Rattle.std.specs.Prelude.{ℕ, ◌+◌, List, [], ◌∷◌, ◌++◌, codes, decimal, flat_map, Option, Some, None}
 use Rattle.soxchain_plan.specs.declared.outline.EffectOutline.{EffectOutline}
 use Rattle.soxchain_plan.specs.declared.outline.Outline.{Outline}
@@ -35,7 +35,7 @@ effect_lines number (effect ∷ effects) = effect_line number effect ++ effect_l
 abbrev pub chain_line : Outline → List ℕ
 chain_line outline = codes "chain: holds at most " ++ decimal outline.hold ++ codes " frames, " ++ decimal outline.bytes ++ codes " bytes\n"
 
--- lines for people
+-- human-readable lines
 abbrev pub outline_text : Outline → List ℕ
 outline_text outline =
     sound_line (codes "in") outline.input ++ effect_lines 1 outline.effects.items ++ chain_line outline

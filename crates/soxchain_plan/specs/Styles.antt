@@ -1,4 +1,4 @@
--- As what a plan is shown, by the first word (this project's profile).
+-- The style in which a plan is shown, by the first word (this project's profile).
 use Rattle.std.specs.Prelude.{ℕ, List, [], ◌∷◌, codes, if◌then◌else◌}
 use Rattle.std.specs.Str.{bytes_eq}
 use Rattle.soxchain_plan.specs.declared.style.Style.{Style}

@@ -1,13 +1,13 @@
-//! What to do where there is no plan: the limit, the word that was meant, the tool that can.
+//! What to do where there is no plan: the limit, the intended word, or the tool that can do it.
 
 use fx_plan::{LineFault, PlanCause};
 use fx_sound::HeadFault;
-use soxchain_words::{SOX_HAS_IT, TIME_LIMITS, effect_of, effects};
+use soxchain_common::{SOX_HAS_IT, TIME_LIMITS, effect_of, effects};
 
 /// Where a file cannot be opened.
 pub const OPENING: &str = "see that there is a file of this name, and that it may be read";
 
-/// Where standard output does not take what is shown.
+/// Where writing to standard output fails.
 pub const REACHING: &str =
     "standard output took not all of it: see that its disk has room, or its reader waits";
 
@@ -18,7 +18,7 @@ macro_rules! names {
     };
 }
 
-/// Where a word is no effect, and none was meant.
+/// Where a word is no effect, and no intended one is known.
 const NAMES: &str = effects!(names);
 
 /// Where there is no memory.
@@ -70,8 +70,8 @@ fn limits_of(name: &str) -> &'static str {
     effect_of(name).map_or(TIME_LIMITS, |effect| effect.limits)
 }
 
-/// The effect that was meant by a word that is none.
-fn meant_by(word: &str) -> &'static str {
+/// The effect intended by a word that is none.
+fn effective_name(word: &str) -> &'static str {
     match word {
         "volume" | "amplify" => "say vol and a factor: vol 0.5",
         "cut" | "crop" | "slice" =>
@@ -87,7 +87,7 @@ fn meant_by(word: &str) -> &'static str {
     }
 }
 
-/// What stands for words that are left out, or for a whole effect.
+/// A substitute for words that are not supported, or for a whole effect.
 fn instead_of(name: &str) -> &'static str {
     match name {
         "gain" => "say a factor with vol: vol 0.501187 for gain -6, by 10 ^ (dB / 20)",
@@ -100,7 +100,7 @@ fn instead_of(name: &str) -> &'static str {
 /// Where the effects are refused; the name is that of the effect, or no text.
 pub fn advice_on_plan(cause: PlanCause, name: &str) -> &'static str {
     match cause {
-        PlanCause::UnknownEffect => meant_by(name),
+        PlanCause::UnknownEffect => effective_name(name),
         PlanCause::NotInProfile => instead_of(name),
         PlanCause::NeedsWholeSound =>
             "it needs the whole sound before it gives a frame: sox IN OUT EFFECT .. holds it",

@@ -1,6 +1,6 @@
-//! What the program says of itself.
+//! What the program prints about itself.
 
-use soxchain_words::effects;
+use soxchain_common::effects;
 
 /// The answer to `--help`, from the table of effects.
 macro_rules! help {

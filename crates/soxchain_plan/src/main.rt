@@ -1,13 +1,13 @@
-//! The program soxchain-plan: what soxchain would do with the same words, known from the words and the head of IN alone.
+//! The program soxchain-plan: what soxchain would do with the same words, computed from the words and the head of IN alone.
 //!
-//! On standard output comes what the plan says, as text or, behind `--json`, as one JSON object. A refusal has the message
+//! Standard output gets the plan as text or, after `--json`, as one JSON object. A refusal has the message
 //! and the status of soxchain, and then a line that says what to do.
 #![tactic(auto)]
 
-ghost use Rattle.fx_line.specs.Line.{texts};
-ghost use Rattle.fx_plan.specs.Plans.{bytes_of};
-ghost use Rattle.soxchain_words.specs.About.{answer_of};
-ghost use Rattle.soxchain_plan.specs.Answering.{Answers, Lines, Plans, Words, Works};
+ghost use Rattle.fx_plan_line.specs.Line.{texts};
+ghost use Rattle.fx_plan.specs.Plans.{plan_bytes};
+ghost use Rattle.soxchain_common.specs.About.{answer_of};
+ghost use Rattle.soxchain_plan.specs.Answering.{PlanAnswers, PlanLines, Plans, Words, PlanWorks};
 
 mod advice;
 mod help;
@@ -15,6 +15,7 @@ mod lengths;
 mod outline;
 mod quoting;
 mod reading;
+mod registry;
 mod showing;
 mod stop;
 mod style;
@@ -27,13 +28,13 @@ use outline::text_of;
 use reading::head_of;
 use showing::{show, stopped};
 use soxchain::inner::Refusal;
-use soxchain_words::{Desk, FilesFault, VERSION, answer_to, fault_of, read_files};
+use soxchain_common::{Console, FilesFault, VERSION, answer_to, fault_of, read_files};
 use std::process::ExitCode;
-use stop::Stop;
+use stop::PlanStop;
 use style::Style;
 
-/// Shows what the plan of a line says, behind the head of its input, and answers the status.
-fn plan_line<H: Desk, M: ByteOut>(
+/// Shows the plan of a line, after the head of its input, and returns the status.
+fn plan_line<H: Console, M: ByteOut>(
     host: &mut H,
     style: Style,
     line: &CommandLine,
@@ -42,68 +43,73 @@ fn plan_line<H: Desk, M: ByteOut>(
     messages: &mut M,
 ) -> u8
     ensures { Plans (record { input = H.Input.reads; file = H.Reader.reads; output = H.Output.writes })
-        H.machine M.writes style line.now (bytes_of files.now) head.now host.old host.new messages.old messages.new result }
+        H.machine M.writes style line.now (plan_bytes files.now) head.now host.old host.new messages.old messages.new result }
 {
     let plan = match plan(host.memory(), line, head, files) {
         Ok(plan) => plan,
         Err(fault) => {
-            let stop = Stop::Refused(line, Refusal::Plan(fault));
+            let stop = PlanStop::Refused(line, Refusal::Plan(fault));
             return stopped(host, style, &stop, messages);
         }
     };
     match text_of(host.memory(), &plan, style) {
         Some(text) => show(host, &text, 0, messages),
-        None => stopped(host, style, &Stop::Refused(line, Refusal::Chain), messages),
+        None => stopped(
+            host,
+            style,
+            &PlanStop::Refused(line, Refusal::Chain),
+            messages,
+        ),
     }
 }
 
-/// Does what a command line asks for, and answers the status.
-fn answer_line<H: Desk, M: ByteOut>(
+/// Executes a command line, and returns the status.
+fn answer_line<H: Console, M: ByteOut>(
     host: &mut H,
     style: Style,
     line: &CommandLine,
     messages: &mut M,
 ) -> u8
-    ensures { Works (record { input = H.Input.reads; file = H.Reader.reads; output = H.Output.writes })
+    ensures { PlanWorks (record { input = H.Input.reads; file = H.Reader.reads; output = H.Output.writes })
         H.machine M.writes (record { opened = H.opened; unopened = H.unopened; closed = H.closed })
         style line.now host.old host.new messages.old messages.new result }
 {
     let files = match read_files(host.memory(), host, line) {
         Ok(files) => files,
         Err(FilesFault::CannotRead(name)) => {
-            return stopped(host, style, &Stop::CannotOpen(name), messages);
+            return stopped(host, style, &PlanStop::CannotOpen(name), messages);
         }
         Err(FilesFault::Memory) => {
-            return stopped(host, style, &Stop::Line(LineFault::Memory), messages);
+            return stopped(host, style, &PlanStop::Line(LineFault::Memory), messages);
         }
     };
     answer_files(host, style, line, &files, messages)
 }
 
-/// Does what a command line asks for, with the bytes of its coefficient files, and answers the status.
-fn answer_files<H: Desk, M: ByteOut>(
+/// Executes a command line, with the bytes of its coefficient files, and returns the status.
+fn answer_files<H: Console, M: ByteOut>(
     host: &mut H,
     style: Style,
     line: &CommandLine,
     files: &[Vec<u8>],
     messages: &mut M,
 ) -> u8
-    ensures { Lines (record { input = H.Input.reads; file = H.Reader.reads; output = H.Output.writes })
+    ensures { PlanLines (record { input = H.Input.reads; file = H.Reader.reads; output = H.Output.writes })
         H.machine M.writes (record { opened = H.opened; unopened = H.unopened; closed = H.closed })
-        style line.now (bytes_of files.now) host.old host.new messages.old messages.new result }
+        style line.now (plan_bytes files.now) host.old host.new messages.old messages.new result }
 {
     match head_of(host, line) {
         Ok(Ok(head)) => plan_line(host, style, line, &head, files, messages),
         Ok(Err(fault)) => {
-            let stop = Stop::Refused(line, Refusal::Head(fault));
+            let stop = PlanStop::Refused(line, Refusal::Head(fault));
             stopped(host, style, &stop, messages)
         }
-        Err(name) => stopped(host, style, &Stop::CannotOpen(name), messages),
+        Err(name) => stopped(host, style, &PlanStop::CannotOpen(name), messages),
     }
 }
 
-/// Does what the words ask for, and answers the status.
-fn answer_words<H: Desk, M: ByteOut>(host: &mut H, words: &[String], messages: &mut M) -> u8
+/// Executes the words, and returns the status.
+fn answer_words<H: Console, M: ByteOut>(host: &mut H, words: &[String], messages: &mut M) -> u8
     ensures { Words (record { input = H.Input.reads; file = H.Reader.reads; output = H.Output.writes })
         H.machine M.writes (record { opened = H.opened; unopened = H.unopened; closed = H.closed })
         (answer_of HELP.now VERSION.now) (texts words.now) host.old host.new messages.old messages.new result }
@@ -114,19 +120,24 @@ fn answer_words<H: Desk, M: ByteOut>(host: &mut H, words: &[String], messages: &
     let (style, words) = style::split(words);
     match parse_line(host.memory(), words) {
         Ok(line) => answer_line(host, style, &line, messages),
-        Err(fault) => stopped(host, style, &Stop::Line(fault), messages),
+        Err(fault) => stopped(host, style, &PlanStop::Line(fault), messages),
     }
 }
 
-/// Does what the program is asked for, and answers the status.
-fn answer<H: Desk, M: ByteOut>(host: &mut H, messages: &mut M) -> u8
-    ensures { Answers (record { input = H.Input.reads; file = H.Reader.reads; output = H.Output.writes })
+/// Executes the program, and returns the status.
+fn answer<H: Console, M: ByteOut>(host: &mut H, messages: &mut M) -> u8
+    ensures { PlanAnswers (record { input = H.Input.reads; file = H.Reader.reads; output = H.Output.writes })
         H.machine M.writes (record { opened = H.opened; unopened = H.unopened; closed = H.closed })
         (answer_of HELP.now VERSION.now) host.old host.new messages.old messages.new result }
 {
     match host.words() {
         Ok(words) => answer_words(host, &words, messages),
-        Err(error) => stopped(host, Style::Text, &Stop::Line(fault_of(&error)), messages),
+        Err(error) => stopped(
+            host,
+            Style::Text,
+            &PlanStop::Line(fault_of(&error)),
+            messages,
+        ),
     }
 }
 

@@ -1,29 +1,30 @@
-//! What a plan says, and how it is shown.
+//! The content of a plan, and how it is shown.
 ghost use Rattle.std.specs.Prelude.{◌≡◌, ◌*◌, ◌+◌, ◌-◌, ◌^◌, ◌<◌, ◌≤◌, false, IfOk, IfSome, List, None, OnOk, Some, length, map, min, sum_by};
 ghost use Rattle.std.specs.Io.KnownBytes.{Appends};
 ghost use Rattle.std.specs.List.{All};
-ghost use Rattle.fx_io.specs.Coding.{width_of};
-ghost use Rattle.fx_effects.specs.Bounds.{hold_all, is_too_long};
-ghost use Rattle.fx_effects.specs.Effects.{Usable, act};
-ghost use Rattle.fx_effects.specs.Meanings.{InPlace, line_of, meaning_at, recipe_at};
-ghost use Rattle.fx_flow.specs.Composed.{composed, composed_wholes};
-ghost use Rattle.fx_step.specs.Frame.{Samples};
-ghost use Rattle.fx_stages.specs.Made.{recipes_for};
+ghost use Rattle.fx_frame_io.specs.Coding.{width_of};
+ghost use Rattle.fx_plan_effects.specs.Bounds.{hold_all, is_too_long};
+ghost use Rattle.fx_plan_effects.specs.Effects.{Usable, act};
+ghost use Rattle.fx_plan_effects.specs.Meanings.{InPlace, line_of_act, meaning_at, recipe_at};
+ghost use Rattle.fx_chain_flow.specs.Composed.{composed, composed_wholes};
+ghost use Rattle.fx_frame_stage.specs.Frame.{Samples};
+ghost use Rattle.fx_chain_stages.specs.Made.{recipes_for};
 ghost use Rattle.fx_plan.specs.Planning.{planning};
-ghost use Rattle.soxchain_plan.specs.Outlines.{IsOutline, announced_frames, bytes_along, held_bytes, known, rates_along, told, told_bytes, told_frames, told_rate, whole_frames};
+ghost use Rattle.soxchain_plan.specs.Outlines.{IsOutline, announced_frames, bytes_along, held_bytes, known, rates_along, delivered, stated_bytes, stated_frames, stated_rate, whole_frames};
 ghost use Rattle.soxchain_plan.specs.Shown.{effect_json, effect_line, effect_lines, effects_json, frames_json, frames_text, outline_json, outline_text, shown, sound_json, sound_line};
 
-use crate::lengths::{bytes_held, frames_behind, in_milliseconds, lateness, rate_after};
+use crate::lengths::{bytes_held, in_milliseconds, lateness, rate_after};
 use crate::quoting::{bits_of, name_of_kind};
+use crate::registry::frames_after;
 use crate::style::Style;
-use fx_effects::Effect;
 use fx_plan::Plan;
+use fx_plan_effects::Effect;
 use fx_sound::{Head, Kind};
 use std::alloc::{AllocError, Global};
 use std::io;
 use std::io::Write;
 
-/// What is said of a sound.
+/// What is reported of a sound.
 #[derive(Clone, Copy, Drop)]
 pub struct SoundOutline {
     kind: Kind,
@@ -34,23 +35,23 @@ pub struct SoundOutline {
     frames: Option<u64>,
 }
 
-/// What is said of an effect.
+/// What is reported of an effect.
 #[derive(Clone, Copy, Drop)]
 pub struct EffectOutline {
     name: &'static str,
-    /// The frames of its input in a second.
+    /// The frames per second of its input.
     rate: u32,
     /// The frames that it may hold.
     hold: u64,
     /// The bytes of their samples.
     bytes: u64,
-    /// By how many frames of its input it gives later than it takes.
+    /// Its latency, in frames of its input.
     late: u64,
     /// The frames that it gives in all.
     frames: Option<u64>,
 }
 
-/// What a plan says.
+/// The content of a plan.
 #[derive(Drop)]
 pub struct Outline {
     input: SoundOutline,
@@ -69,7 +70,7 @@ fn frames_in(head: &Head) -> Option<u64>
     Some(head.announced? / size as u64)
 }
 
-/// What the head of the input says.
+/// The content of the head of the input.
 fn input_of(head: &Head) -> SoundOutline
     requires channels { (1 ≤ head.now.channels) × (head.now.channels ≤ 16) }
     ensures kind { result.kind ≡ head.now.kind }
@@ -87,7 +88,7 @@ fn input_of(head: &Head) -> SoundOutline
     }
 }
 
-/// What an effect says that takes so many frames a second, of so many channels, and so many of them in all.
+/// The report on an effect that takes `rate` frames per second, of `channels` channels, and `frames` frames in all.
 fn outline_of_effect(
     effect: &Effect,
     rate: u32,
@@ -95,9 +96,9 @@ fn outline_of_effect(
     frames: Option<u64>,
 ) -> EffectOutline
     requires usable { Usable (act effect.now) }
-    requires held { line_of (act effect.now) < 2 ^ 28 }
-    requires few { channels ≤ 16 }
-    ensures told { told result ≡ known (act effect.now) }
+    requires held { line_of_act (act effect.now) < 2 ^ 28 }
+    requires bound { channels ≤ 16 }
+    ensures delivered { delivered result ≡ known (act effect.now) }
     ensures rate { result.rate ≡ rate }
     ensures bytes { result.bytes ≡ held_bytes (InPlace channels (act effect.now)) }
     ensures frames { (sound : List Samples) → frames ≡ Some (length sound)
@@ -106,7 +107,7 @@ fn outline_of_effect(
 {
     let line = effect.line();
     let frames = match frames {
-        Some(n) => Some(frames_behind(effect, line, n)),
+        Some(n) => Some(frames_after(effect, line, n)),
         None => None,
     };
     EffectOutline {
@@ -119,8 +120,8 @@ fn outline_of_effect(
     }
 }
 
-/// What effects say, the first of which takes so many frames a second, of so many channels, and so many of them in all, and the frames
-/// behind them.
+/// The reports on effects, the first of which takes `rate` frames per second, of `channels` channels, and `frames` frames in
+/// all, and the frames after them.
 fn outlines_of(
     alloc: Global,
     effects: &[Effect],
@@ -131,12 +132,12 @@ fn outlines_of(
     requires usable { All Usable (map act effects.now) }
     requires held { hold_all (map act effects.now) ≤ 2 ^ 28 }
     requires short { is_too_long (map act effects.now) ≡ false }
-    requires few { channels ≤ 16 }
-    ensures told { IfOk result (λ it. map told it.0.items ≡ map known (map act effects.now)) }
-    ensures rates { IfOk result (λ it. map told_rate it.0.items ≡ rates_along rate (map act effects.now)) }
-    ensures bytes { IfOk result (λ it. map told_bytes it.0.items ≡ bytes_along channels (map act effects.now)) }
+    requires bound { channels ≤ 16 }
+    ensures delivered { IfOk result (λ it. map delivered it.0.items ≡ map known (map act effects.now)) }
+    ensures rates { IfOk result (λ it. map stated_rate it.0.items ≡ rates_along rate (map act effects.now)) }
+    ensures bytes { IfOk result (λ it. map stated_bytes it.0.items ≡ bytes_along channels (map act effects.now)) }
     ensures each { IfOk result (λ it. (sound : List Samples) → frames ≡ Some (length sound) → length sound ≤ 2 ^ 40
-        → map told_frames it.0.items ≡ map whole_frames (composed_wholes meaning_at (recipes_for channels (map act effects.now)) sound)) }
+        → map stated_frames it.0.items ≡ map whole_frames (composed_wholes meaning_at (recipes_for channels (map act effects.now)) sound)) }
     ensures last { IfOk result (λ it. (sound : List Samples) → frames ≡ Some (length sound) → length sound ≤ 2 ^ 40
         → it.1 ≡ Some (length (composed meaning_at (recipes_for channels (map act effects.now)) sound))) }
     ensures unknown { IfOk result (λ it. frames ≡ None → All (λ outline. outline.frames ≡ None) it.0.items) }
@@ -156,10 +157,10 @@ fn outlines_of(
     Ok((outlines, left))
 }
 
-/// The bytes of the samples that a chain may hold: a frame in front of the first effect, and what each effect may hold.
+/// The bytes of the samples that a chain may hold: a frame before the first effect, and what each effect may hold.
 fn bytes_of(outlines: &[EffectOutline], channels: usize) -> u64
-    requires { 4 * channels + sum_by told_bytes outlines.now < 2 ^ 64 }
-    ensures { result ≡ 4 * channels + sum_by told_bytes outlines.now }
+    requires { 4 * channels + sum_by stated_bytes outlines.now < 2 ^ 64 }
+    ensures { result ≡ 4 * channels + sum_by stated_bytes outlines.now }
 {
     let mut bytes = 4 * channels as u64;
     for outline in outlines {
@@ -168,7 +169,7 @@ fn bytes_of(outlines: &[EffectOutline], channels: usize) -> u64
     bytes
 }
 
-/// What a plan says.
+/// The content of a plan.
 fn outline_of(alloc: Global, plan: &Plan) -> Result<Outline, AllocError>
     ensures { IfOk result (IsOutline (planning plan.now)) }
 {
@@ -198,7 +199,7 @@ fn outline_of(alloc: Global, plan: &Plan) -> Result<Outline, AllocError>
     })
 }
 
-/// What a plan says, in this style. None where no memory is found for it.
+/// The content of a plan, in this style. None where no memory is found for it.
 pub fn text_of(alloc: Global, plan: &Plan, style: Style) -> Option<Vec<u8>>
     ensures { IfSome result (λ text. (outline : Outline) × IsOutline (planning plan.now) outline × (text.items ≡ shown style outline)) }
 {
@@ -208,7 +209,7 @@ pub fn text_of(alloc: Global, plan: &Plan, style: Style) -> Option<Vec<u8>>
     Some(text)
 }
 
-/// Shows a number of frames in a line for people.
+/// Shows a number of frames in a human-readable line.
 fn show_frames<W: Write>(writer: &mut W, frames: Option<u64>) -> io::Result<()>
     ensures { OnOk result (Appends (W.contents writer.old) (W.contents writer.new) (frames_text frames)) }
 {
@@ -229,7 +230,7 @@ fn show_json_frames<W: Write>(writer: &mut W, frames: Option<u64>) -> io::Result
 }
 
 impl SoundOutline {
-    /// A line for people.
+    /// A human-readable line.
     fn show<W: Write>(&self, writer: &mut W, title: &str) -> io::Result<()>
         ensures { OnOk result (Appends (W.contents writer.old) (W.contents writer.new) (sound_line title.now self.now)) }
     {
@@ -267,7 +268,7 @@ impl SoundOutline {
 }
 
 impl EffectOutline {
-    /// A line for people.
+    /// A human-readable line.
     fn show<W: Write>(&self, writer: &mut W, number: usize) -> io::Result<()>
         ensures { OnOk result (Appends (W.contents writer.old) (W.contents writer.new) (effect_line number self.now)) }
     {
@@ -306,7 +307,7 @@ impl EffectOutline {
     }
 }
 
-/// Shows a line for people for each effect.
+/// Shows a human-readable line for each effect.
 fn show_effects<W: Write>(writer: &mut W, effects: &[EffectOutline]) -> io::Result<()>
     ensures { OnOk result (Appends (W.contents writer.old) (W.contents writer.new) (effect_lines 1 effects.now)) }
 {
@@ -334,7 +335,7 @@ fn show_json_effects<W: Write>(writer: &mut W, effects: &[EffectOutline]) -> io:
 }
 
 impl Outline {
-    /// Shows it in this style. After an `Err` the writer may have any first part of it.
+    /// Shows it in this style. After an `Err` the writer may have any prefix of it.
     fn show<W: Write>(&self, writer: &mut W, style: Style) -> io::Result<()>
         ensures { OnOk result (Appends (W.contents writer.old) (W.contents writer.new) (shown style self.now)) }
     {
@@ -344,7 +345,7 @@ impl Outline {
         }
     }
 
-    /// Lines for people.
+    /// Human-readable lines.
     fn show_text<W: Write>(&self, writer: &mut W) -> io::Result<()>
         ensures { OnOk result (Appends (W.contents writer.old) (W.contents writer.new) (outline_text self.now)) }
     {

@@ -2,7 +2,7 @@
 ghost use Rattle.std.specs.Prelude.{◌≡◌, ◌*◌, OnOk};
 ghost use Rattle.std.specs.Io.BufRead.{strip_last};
 ghost use Rattle.std.specs.Io.KnownBytes.{Appends};
-ghost use Rattle.fx_io.specs.Coding.{width_of};
+ghost use Rattle.fx_frame_io.specs.Coding.{width_of};
 ghost use Rattle.soxchain_plan.specs.Quoted.{json_byte, json_string, kind_text, stop_json};
 
 use fx_frame::Coding;
@@ -27,7 +27,7 @@ pub fn bits_of(coding: Coding) -> usize
     8 * coding.width()
 }
 
-/// Shows a byte within a JSON string. The bytes of a letter beyond ASCII stay as they are.
+/// Shows a byte within a JSON string. The bytes of a character beyond ASCII are unchanged.
 fn show_byte<W: Write>(writer: &mut W, byte: u8) -> io::Result<()>
     ensures { OnOk result (Appends (W.contents writer.old) (W.contents writer.new) (json_byte byte)) }
 {
@@ -62,7 +62,7 @@ fn show_string<W: Write>(writer: &mut W, text: &[u8]) -> io::Result<()>
 }
 
 /// Shows why there is no plan, as one JSON object with the status, the message without one line feed at its end and what to do.
-/// After an `Err` the writer may have any first part of it.
+/// After an `Err` the writer may have any prefix of it.
 pub fn show_stop<W: Write>(
     writer: &mut W,
     status: u8,

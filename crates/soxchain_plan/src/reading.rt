@@ -4,11 +4,11 @@ ghost use Rattle.fx_plan.specs.CommandLines.{file_name};
 ghost use Rattle.soxchain_plan.specs.Heads.{HeadIsRead, IsHeadFrom, IsHeadIn};
 
 use fx_frame::ByteIn;
-use fx_plan::{CommandLine, Stream};
+use fx_plan::{CommandLine, Endpoint};
 use fx_sound::{Head, HeadFault, Source, read_head};
-use soxchain_words::{Desk, Openings};
+use soxchain_common::{Console, Openings};
 
-/// The head of what a reader tells, or what is wrong with it.
+/// The head of what a reader delivers, or what is wrong with it.
 fn head_from<R: ByteIn + Drop>(reader: R, line: &CommandLine) -> Result<Head, HeadFault>
     ensures { HeadIsRead R.reads line.now.input_kind reader result }
 {
@@ -17,7 +17,7 @@ fn head_from<R: ByteIn + Drop>(reader: R, line: &CommandLine) -> Result<Head, He
 }
 
 /// The head of IN, or what is wrong with it; or the name of a file that cannot be opened. Standard input is read where IN is `-`.
-pub fn head_of<'a, H: Desk>(
+pub fn head_of<'a, H: Console>(
     host: &mut H,
     line: &'a CommandLine,
 ) -> Result<Result<Head, HeadFault>, &'a str>
@@ -26,8 +26,8 @@ pub fn head_of<'a, H: Desk>(
     ensures unopened { IfErr result (λ name. (file_name line.now.input ≡ Some name.now) × H.unopened host.old host.new name.now) }
 {
     match line.input() {
-        Stream::Standard => Ok(head_from(host.input(), line)),
-        Stream::Named(name) => match host.open(name) {
+        Endpoint::Standard => Ok(head_from(host.input(), line)),
+        Endpoint::Named(name) => match host.open(name) {
             Ok(file) => Ok(head_from(file, line)),
             Err(_) => Err(name),
         },

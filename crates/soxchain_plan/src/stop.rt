@@ -12,13 +12,14 @@ use crate::quoting::show_stop;
 use fx_frame::{ByteOut, Counted};
 use fx_plan::{CommandLine, LineFault};
 use soxchain::inner::{
-    Refusal, Telling, label_of_line, status_of_fault, tell_cannot_open, tell_line, tell_refusal,
+    MessageWriter, Refusal, label_of_line, status_of_fault, tell_cannot_open, tell_line,
+    tell_refusal,
 };
 use std::alloc::Global;
 
 /// Why there is no plan.
 #[derive(Clone, Copy, Drop)]
-pub enum Stop<'a> {
+pub enum PlanStop<'a> {
     /// The command line is refused.
     Line(LineFault),
     /// A file cannot be opened or read; `-` is standard output.
@@ -38,40 +39,40 @@ fn name_of(line: &CommandLine, number: usize) -> &str {
     line.word(number, 1)
 }
 
-impl Stop<'_> {
+impl PlanStop<'_> {
     /// The status of soxchain.
     pub fn status(&self) -> u8
         ensures { result ≡ status_of self.now }
     {
         match self {
-            Stop::Line(fault) => status_of_fault(*fault),
-            Stop::CannotOpen(_) => 2,
-            Stop::Refused(_, refusal) => refusal.status(),
+            PlanStop::Line(fault) => status_of_fault(*fault),
+            PlanStop::CannotOpen(_) => 2,
+            PlanStop::Refused(_, refusal) => refusal.status(),
         }
     }
 
     /// What to do.
     pub fn advice(&self) -> &'static str {
         match self {
-            Stop::Line(fault) => advice_on_line(*fault),
-            Stop::CannotOpen("-") => REACHING,
-            Stop::CannotOpen(_) => OPENING,
-            Stop::Refused(_, Refusal::Head(fault)) => advice_on_head(*fault),
-            Stop::Refused(line, Refusal::Plan(fault)) => {
+            PlanStop::Line(fault) => advice_on_line(*fault),
+            PlanStop::CannotOpen("-") => REACHING,
+            PlanStop::CannotOpen(_) => OPENING,
+            PlanStop::Refused(_, Refusal::Head(fault)) => advice_on_head(*fault),
+            PlanStop::Refused(line, Refusal::Plan(fault)) => {
                 advice_on_plan(fault.cause, name_of(line, fault.effect))
             }
-            Stop::Refused(_, Refusal::Chain) => advice_on_memory(),
+            PlanStop::Refused(_, Refusal::Chain) => advice_on_memory(),
         }
     }
 
-    /// Tells the message of soxchain.
-    pub fn tell_message<M: ByteOut>(&self, telling: &mut Telling<M>)
-        ensures { Says M.writes telling.old telling.new (message_of self.now) }
+    /// Writes the message of soxchain.
+    pub fn tell_message<M: ByteOut>(&self, message_writer: &mut MessageWriter<M>)
+        ensures { Says M.writes message_writer.old message_writer.new (message_of self.now) }
     {
         match self {
-            Stop::Line(fault) => tell_line(telling, label_of_line(*fault)),
-            Stop::CannotOpen(name) => tell_cannot_open(telling, name),
-            Stop::Refused(line, refusal) => tell_refusal(telling, line, refusal),
+            PlanStop::Line(fault) => tell_line(message_writer, label_of_line(*fault)),
+            PlanStop::CannotOpen(name) => tell_cannot_open(message_writer, name),
+            PlanStop::Refused(line, refusal) => tell_refusal(message_writer, line, refusal),
         }
     }
 
@@ -80,7 +81,7 @@ impl Stop<'_> {
         ensures { IfSome result (λ message. message.items ≡ message_of self.now) }
     {
         let mut message = Counted::new(Vec::new(alloc));
-        let mut keeping = Telling::new(&mut message);
+        let mut keeping = MessageWriter::new(&mut message);
         self.tell_message(&mut keeping);
         if keeping.has_failed {
             return None;
@@ -98,13 +99,13 @@ impl Stop<'_> {
         Some(text)
     }
 
-    /// Tells the message of soxchain and what to do, a line each, and answers the status.
+    /// Writes the message of soxchain and what to do, a line each, and returns the status.
     pub fn tell<M: ByteOut>(&self, messages: &mut M, advice: &str) -> u8
         ensures { Advises M.writes messages.old messages.new (message_of self.now) advice.now (status_of self.now) result }
     {
-        let mut telling = Telling::new(messages);
-        self.tell_message(&mut telling);
-        telling.note("soxchain-plan: ", advice);
+        let mut message_writer = MessageWriter::new(messages);
+        self.tell_message(&mut message_writer);
+        message_writer.note("soxchain-plan: ", advice);
         self.status()
     }
 }

@@ -1,11 +1,11 @@
-//! As what a plan is shown.
+//! The style in which a plan is shown.
 ghost use Rattle.std.specs.Prelude.{◌≡◌, map, string_bytes};
 ghost use Rattle.soxchain_plan.specs.Styles.{styled};
 
-/// As what a plan is shown.
+/// The style in which a plan is shown.
 #[derive(Clone, Copy, Debug, Drop, PartialEq, Eq)]
 pub enum Style {
-    /// Lines for people.
+    /// Human-readable lines.
     Text,
     /// One JSON object.
     Json,

@@ -6,7 +6,7 @@ use Rattle.std.proofs.lemmas.List.{flat_map_more, get_or-drop, get_or-take, get_
 use Rattle.std.proofs.lemmas.Nat.{from_le_bytes-to_le_bytes_8}
 use Rattle.std.specs.List.{All}
 use Rattle.std.proofs.lemmas.List.Elements.{All-cons, All-head, All-tail}
-use Rattle.fx_step.specs.Frame.{IsWideFrame, Samples}
+use Rattle.fx_frame_stage.specs.Frame.{IsWideFrame, Samples}
 use Rattle.std.specs.Int.{cast_signed, cast_unsigned, from_le_bytes, w64}
 use Rattle.soxchain_stream.specs.Frozen.{frame_words, word}
 
@@ -21,7 +21,7 @@ pub below-take : (bound n : ℕ) (xs : List ℕ) → 0 < bound → AreBelow boun
 below-take bound n xs some h i =
     elim (cases_lt i n) [
       | inl within ↦ rw (get_or-take n xs i 0 within) (h i)
-      | inr past ↦ rw (get_or_past (take n xs) i 0 (omega (arith, length-take n xs))) some
+      | inr beyond ↦ rw (get_or_past (take n xs) i 0 (omega (arith, length-take n xs))) some
     ]
 
 -- one more piece in front of what is left
@@ -60,12 +60,12 @@ unsigned-back (z ∷ zs) h =
 -- the first of the frames that words are: its count stands in front of it
 pub record FirstFrame (frames : List Samples) (count : ℕ) (more : List ℕ) : Type 0 where
   pub some : 1 ≤ count
-  pub few : count ≤ 16
+  pub bound : count ≤ 16
   pub whole : count ≤ length more
   pub left : List Samples
   pub all : frames ≡ map (cast_signed w64) (take count more) ∷ left
   pub wide : All IsWideFrame left
-  pub behind : flat_map frame_words left ≡ drop count more
+  pub after : flat_map frame_words left ≡ drop count more
 
 pub first-frame : (frames : List Samples) (count : ℕ) (more : List ℕ) → All IsWideFrame frames → flat_map frame_words frames ≡ count ∷ more → FirstFrame frames count more
 first-frame [] count more wide e = cc
@@ -78,12 +78,12 @@ first-frame (f ∷ frames) count more wide e =
     let front : take count more ≡ words = ap (take count) (sym rest) ∙ take_at words (flat_map frame_words frames) count long in
     record {
       some = omega (arith, is.some);
-      few = omega (arith, is.few);
+      bound = omega (arith, is.bound);
       whole = omega (arith, ap length rest, length-append words (flat_map frame_words frames));
       left = frames;
       all = ap (λ (g : Samples). g ∷ frames) (sym (ap (map (cast_signed w64)) front ∙ unsigned-back f is.fits));
       wide = λ k d h. wide (suc k) d (omega arith);
-      behind = sym (ap (drop count) (sym rest) ∙ drop_at words (flat_map frame_words frames) count long);
+      after = sym (ap (drop count) (sym rest) ∙ drop_at words (flat_map frame_words frames) count long);
     }
 
 -- a frame is never no word
@@ -95,7 +95,7 @@ pub below-of : (bound : ℕ) (xs : List ℕ) → 0 < bound → All (λ n. n < bo
 below-of bound xs some h i =
     elim (cases_lt i (length xs)) [
       | inl within ↦ h i 0 within
-      | inr past ↦ rw (get_or_past xs i 0 past) some
+      | inr beyond ↦ rw (get_or_past xs i 0 beyond) some
     ]
 
 pub below-push : (bound : ℕ) (xs : List ℕ) (n : ℕ) → AreBelow bound xs → n < bound → AreBelow bound (xs ++ n ∷ [])

@@ -2,13 +2,13 @@
 use Rattle.std.specs.Prelude.{ℕ, ◌<◌, ◌^◌, List, ◌∷◌, ◌++◌, flat_map, length, map}
 use Rattle.std.specs.Int.{cast_unsigned, to_le_bytes, w64}
 use Rattle.std.specs.List.{All}
-use Rattle.fx_step.specs.Frame.{IsWideFrame, Samples}
+use Rattle.fx_frame_stage.specs.Frame.{IsWideFrame, Samples}
 
 -- a number of 64 bits
 abbrev pub IsWord : ℕ → Type 0
 IsWord n = n < 2 ^ 64
 
--- a number as eight bytes, the lowest first
+-- a number as eight bytes, little-endian
 abbrev pub word : ℕ → List ℕ
 word n = to_le_bytes w64 n
 

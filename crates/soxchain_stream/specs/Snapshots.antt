@@ -1,9 +1,9 @@
 -- A chain as bytes (docs/library.md, "A frozen stream").
 use Rattle.std.specs.Prelude.{ℕ, List, ◌≡◌}
 use Rattle.fx_chain.specs.Chain.{ChainParts}
-use Rattle.fx_flow.specs.Frozen.{FreezesFlow}
-use Rattle.fx_step.specs.Frame.{Samples}
-use Rattle.fx_stages.specs.Stages.{effect_acts}
+use Rattle.fx_chain_flow.specs.Frozen.{FreezesFlow}
+use Rattle.fx_frame_stage.specs.Frame.{Samples}
+use Rattle.fx_chain_stages.specs.Stages.{effect_acts}
 use Rattle.soxchain_stream.specs.Frozen.{AreStored, snapshot_bytes}
 
 -- these are the bytes of the frames that a chain stores and the numbers that it counts

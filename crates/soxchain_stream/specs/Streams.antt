@@ -1,20 +1,20 @@
--- What the calls of a stream answer (this project's profile).
+-- What the calls of a stream return (this project's profile).
 use Rattle.std.specs.Prelude.{ℕ, ℤ, ◌≡◌, ◌+◌, ◌*◌, ◌-◌, ◌<◌, ◌≤◌, ◌||◌, nat_lt, nat_eq, true, false, if◌then◌else◌, List, drop, length, map, slice_index, option_to_list}
 use Rattle.fx_chain.specs.Chain.{ChainParts}
-use Rattle.fx_flow.specs.declared.flow.State.TheVariants as States
-use Rattle.fx_flow.specs.Feed.{FlowFed, FlowTookWithRoom}
-use Rattle.fx_step.specs.Row.{outputs_of}
-use Rattle.fx_flow.specs.Parts.{any_spent}
-use Rattle.fx_flow.specs.Steps.{IsHungry, StateIs}
-use Rattle.fx_step.specs.declared.feed.Passed.{Passed}
-use Rattle.fx_step.specs.Holds.{held_sum, kinds}
-use Rattle.fx_lists.specs.Lists.{pieces}
-use Rattle.fx_stages.specs.Stages.{effect_acts}
+use Rattle.fx_chain_flow.specs.declared.flow.State.TheVariants as States
+use Rattle.fx_chain_flow.specs.Feed.{FlowFed, FlowTookWithinCapacity}
+use Rattle.fx_frame_stage.specs.Pipeline.{outputs_of}
+use Rattle.fx_chain_flow.specs.Parts.{any_spent}
+use Rattle.fx_chain_flow.specs.Steps.{IsHungry, StateIs}
+use Rattle.fx_frame_stage.specs.declared.feed.Passed.{Passed}
+use Rattle.fx_frame_stage.specs.Holds.{held_sum, kinds}
+use Rattle.fx_frame_lists.specs.Lists.{pieces}
+use Rattle.fx_chain_stages.specs.Stages.{effect_acts}
 use Rattle.soxchain_stream.specs.declared.stream.Stream.{Stream}
 use Rattle.soxchain_stream.specs.declared.stream.Waits.{Waits}
-use Rattle.soxchain_stream.specs.declared.stream.Waits.TheVariants.{Frames, Room, Nothing, End}
+use Rattle.soxchain_stream.specs.declared.stream.Waits.TheVariants.{Frames, Buffer, Nothing, End}
 
--- samples in a frame that a chain takes, and in one that it gives
+-- samples per frame that a chain takes, and per frame that it gives
 abbrev pub inputs_in : ChainParts → ℕ
 inputs_in c = c.plan.head.channels
 
@@ -22,24 +22,24 @@ abbrev pub outputs_in : ChainParts → ℕ
 outputs_in c = outputs_of c.plan.head.channels (kinds effect_acts c.flow.stages)
 
 -- A chain was fed: it took frames from the front of the input, one after the other, each through all effects before the next
--- one, and wrote those that were given over the front of the output.
+-- one, and wrote those that were given to the front of the output.
 pub record ChainFed (c c' : ChainParts) (input old new : List ℤ) (passed : Passed) : Type 0 where
   pub fed : FlowFed effect_acts c.flow (pieces (inputs_in c) passed.taken input) (pieces (outputs_in c) passed.given new) c'.flow
   pub read : passed.taken * inputs_in c ≤ length input
   pub written : passed.given * outputs_in c ≤ length new
-  pub behind : drop (passed.given * outputs_in c) new ≡ drop (passed.given * outputs_in c) old
-  -- where there was room for one more frame, nothing waits to be given, and no frame was left that could be taken
+  pub rest_unchanged : drop (passed.given * outputs_in c) new ≡ drop (passed.given * outputs_in c) old
+  -- where there was space for one more frame, no frame is pending, and no frame was left that could be taken
   pub waits : passed.given * outputs_in c + outputs_in c ≤ length new → StateIs effect_acts States.Busy c'.flow → ⊥
   pub used : passed.given * outputs_in c + outputs_in c ≤ length new → c'.flow.ended ≡ false → any_spent effect_acts c'.flow.stages ≡ false
       → length input < passed.taken * inputs_in c + inputs_in c
-  -- each frame was taken while the output had room for one more than was due before it
-  pub room : FlowTookWithRoom effect_acts c.flow passed.taken (length old)
-  -- where the output has no room for one frame, the chain stays as it is
-  pub still : length old < outputs_in c → c' ≡ c
+  -- each frame was taken while the output had space for one more than was due before it
+  pub free : FlowTookWithinCapacity effect_acts c.flow passed.taken (length old)
+  -- where the output has no space for one frame, the chain is unchanged
+  pub unchanged : length old < outputs_in c → c' ≡ c
   pub plan : c'.plan ≡ c.plan
 
--- a stream's chain was fed, and its plan stayed
-pub record WasFed (s t : Stream) (input old new : List ℤ) (passed : Passed) : Type 0 where
+-- a stream's chain was fed, and its plan is unchanged
+pub record StreamWasFed (s t : Stream) (input old new : List ℤ) (passed : Passed) : Type 0 where
   pub chain : ChainFed s.chain t.chain input old new passed
   pub plan : t.plan ≡ s.plan
 
@@ -47,16 +47,16 @@ pub record WasFed (s t : Stream) (input old new : List ℤ) (passed : Passed) : 
 abbrev pub WaitsFor : Waits → Stream → Type 0
 WaitsFor Frames s = IsHungry effect_acts s.chain.flow × (any_spent effect_acts s.chain.flow.stages ≡ false)
 WaitsFor End s = IsHungry effect_acts s.chain.flow × (any_spent effect_acts s.chain.flow.stages ≡ true)
-WaitsFor Room s = StateIs effect_acts States.Busy s.chain.flow
+WaitsFor Buffer s = StateIs effect_acts States.Busy s.chain.flow
 WaitsFor Nothing s = StateIs effect_acts States.Done s.chain.flow
 
--- a stream that was told the end
+-- a stream that was given the end
 abbrev pub ended : Stream → Stream
 ended s = record s { chain = record s.chain { flow = record s.chain.flow { ended = true } } }
 
 -- the samples that effect `number`, counted from 1, clipped; none where there is no such effect
-abbrev pub clips_of : Stream → ℕ → ℕ
-clips_of s number =
+abbrev pub stream_clips : Stream → ℕ → ℕ
+stream_clips s number =
     if nat_eq number 0 || nat_lt (length s.chain.plan.acts) number then 0
     else slice_index (map (λ e. (effect_acts.counts e).clips) s.chain.flow.stages) (number - 1)
 
@@ -67,6 +67,6 @@ held_in s = length (option_to_list s.chain.flow.inlet) + held_sum effect_acts s.
 -- what C gets for what a stream waits for (packaging/soxchain.h)
 abbrev pub wait_number : Waits → ℕ
 wait_number Frames = 0
-wait_number Room = 1
+wait_number Buffer = 1
 wait_number Nothing = 2
 wait_number End = 3

@@ -1,24 +1,24 @@
-//! A frozen chain as bytes: words of 64 bits, the lowest byte of each first.
+//! A frozen chain as bytes: words of 64 bits, little-endian.
 //!
 //! First "soxchain" and the version of this form, 1; then how many numbers there are, and these; then each frame: how many
-//! samples it has, and these, a negative one as 2^64 more.
+//! samples it has, and these, a negative one plus 2^64.
 ghost use Rattle.std.specs.Prelude.{◌≡◌, ◌↔◌, ◌≤◌, ◌++◌, flat_map, length, IfOk, IfSome, MatchOption, IsSome, OnOk, map, List, ℕ};
 ghost use Rattle.std.specs.Int.{cast_signed, w64};
 ghost use Rattle.std.specs.List.{All};
-ghost use Rattle.fx_step.specs.Frame.{IsWideFrame, Samples};
+ghost use Rattle.fx_frame_stage.specs.Frame.{IsWideFrame, Samples};
 ghost use Rattle.soxchain_stream.specs.Frozen.{AreStored, IsWord, frame_words, snapshot_bytes, snapshot_words, word};
 
 use byteorder::{ByteOrder, LittleEndian};
 use fx_frame::WideFrame;
 use std::alloc::{AllocError, Global};
 
-/// "soxchain", the lowest byte first.
+/// "soxchain", little-endian.
 const MARK: u64 = 0x6e69_6168_6378_6f73;
 
 /// The version of the form.
-const VERSION: u64 = 1;
+const FORMAT_VERSION: u64 = 1;
 
-/// Numbers and frames that were bytes.
+/// Numbers and frames read from bytes.
 #[derive(Drop)]
 pub struct Stored {
     pub numbers: Vec<u64>,
@@ -79,7 +79,7 @@ fn words_of(alloc: Global, numbers: &[u64], frames: &[WideFrame]) -> Result<Vec<
     ensures wide { OnOk result (All IsWideFrame frames.now) }
 {
     let mut words = Vec::new(alloc);
-    words.extend_from_slice(&[MARK, VERSION, numbers.len() as u64])?;
+    words.extend_from_slice(&[MARK, FORMAT_VERSION, numbers.len() as u64])?;
     words.extend_from_slice(numbers)?;
     let mut rest = frames;
     while let Some((frame, more)) = rest.split_first() {
@@ -119,7 +119,7 @@ fn frame_of(words: &[u64]) -> Option<WideFrame>
     WideFrame::from_slice(&samples[..count])
 }
 
-/// The frames that are these words; None where there are none such.
+/// The frames that are these words; None where there are none.
 fn frames_of(alloc: Global, words: &[u64]) -> Result<Option<Vec<WideFrame>>, AllocError>
     ensures some { IfOk result (λ found. IfSome found (λ frames. flat_map frame_words frames.items ≡ words.now)) }
     ensures wide { IfOk result (λ found. IfSome found (λ frames. All IsWideFrame frames.items)) }
@@ -131,17 +131,17 @@ fn frames_of(alloc: Global, words: &[u64]) -> Result<Option<Vec<WideFrame>>, All
         if *count > more.len() as u64 {
             return Ok(None);
         }
-        let (samples, behind) = more.split_at(*count as usize);
+        let (samples, after) = more.split_at(*count as usize);
         let Some(frame) = frame_of(samples) else {
             return Ok(None);
         };
         frames.push(frame)?;
-        rest = behind;
+        rest = after;
     }
     Ok(Some(frames))
 }
 
-/// The numbers and frames that are these words; None where there are none such.
+/// The numbers and frames that are these words; None where there are none.
 fn stored_of(alloc: Global, words: &[u64]) -> Result<Option<Stored>, AllocError>
     ensures some { IfOk result (λ found. IfSome found (λ s. snapshot_words s.numbers.items s.frames.items ≡ words.now)) }
     ensures wide { IfOk result (λ found. IfSome found (λ s. All IsWideFrame s.frames.items)) }
@@ -150,7 +150,7 @@ fn stored_of(alloc: Global, words: &[u64]) -> Result<Option<Stored>, AllocError>
     let Some(([mark, version, count], rest)) = words.split_first_chunk::<3>() else {
         return Ok(None);
     };
-    if *mark != MARK || *version != VERSION || *count > rest.len() as u64 {
+    if *mark != MARK || *version != FORMAT_VERSION || *count > rest.len() as u64 {
         return Ok(None);
     }
     let (numbers, rest) = rest.split_at(*count as usize);

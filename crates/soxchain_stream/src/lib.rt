@@ -1,4 +1,4 @@
-//! A chain that is fed a block at a time, and goes on from the bytes that it was frozen to.
+//! A chain that is fed a block at a time, and can be restored from the bytes that it was frozen to.
 #![tactic(auto)]
 
 mod frozen;

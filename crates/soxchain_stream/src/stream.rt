@@ -2,17 +2,17 @@
 ghost use Rattle.std.specs.Prelude.{◌≡◌, ◌≢◌, ◌<◌, ◌≤◌, ◌+◌, ◌/◌, ◌%◌, Err, IfOk, MatchResult, OnErr, OnOk, false, length, true};
 ghost use Rattle.fx_chain.specs.Chain.{ChainParts};
 ghost use Rattle.fx_chain.specs.Snapshot.{IsSoundChain};
-ghost use Rattle.fx_flow.specs.Parts.{taken_of};
-ghost use Rattle.fx_flow.specs.Sound.{most_frames};
-ghost use Rattle.fx_flow.specs.Steps.{IsHungry};
-ghost use Rattle.fx_effects.specs.Bounds.{hold_all};
+ghost use Rattle.fx_chain_flow.specs.Parts.{taken_of};
+ghost use Rattle.fx_chain_flow.specs.Sound.{max_frames};
+ghost use Rattle.fx_chain_flow.specs.Steps.{IsHungry};
+ghost use Rattle.fx_plan_effects.specs.Bounds.{hold_all};
 ghost use Rattle.fx_plan.specs.Planning.{planning};
-ghost use Rattle.fx_stages.specs.Stages.{effect_acts};
+ghost use Rattle.fx_chain_stages.specs.Stages.{effect_acts};
 ghost use Rattle.soxchain_stream.specs.Snapshots.{IsFrozenAs};
 
 use crate::frozen::{Stored, freeze_to_bytes, thaw_from_bytes};
 use fx_chain::{Chain, Snapshot};
-use fx_flow::flow::{MOST_FRAMES, State};
+use fx_chain_flow::flow::{MAX_FRAMES, State};
 use fx_frame::{Passed, ThawFault};
 use fx_plan::Plan;
 use std::alloc::{AllocError, Global};
@@ -31,8 +31,8 @@ pub struct Stream {
 pub enum Waits {
     /// For frames or the end.
     Frames,
-    /// For room in the output.
-    Room,
+    /// For space in the output.
+    Buffer,
     /// For nothing: all was given.
     Nothing,
     /// For the end: no frame changes what is still to be given.
@@ -51,9 +51,9 @@ pub enum FeedFault {
 }
 
 impl Stream {
-    ghost use Rattle.soxchain_stream.specs.Streams.{WasFed, WaitsFor, clips_of, ended, held_in};
+    ghost use Rattle.soxchain_stream.specs.Streams.{StreamWasFed, WaitsFor, stream_clips, ended, held_in};
 
-    /// Samples in a frame that it takes, 1 to 16.
+    /// Samples per frame that it takes, 1 to 16.
     pub fn inputs(&self) -> usize
         ensures value { result ≡ self.now.chain.plan.head.channels }
         ensures some { 0 < result }
@@ -61,14 +61,14 @@ impl Stream {
         self.plan.head().channels
     }
 
-    /// Samples in a frame that it gives, 1 to 16.
+    /// Samples per frame that it gives, 1 to 16.
     pub fn outputs(&self) -> usize
         ensures { result ≡ self.now.chain.plan.layout.channels }
     {
         self.plan.channels()
     }
 
-    /// Frames in a second that it gives.
+    /// Frames per second that it gives.
     pub fn rate(&self) -> u32
         ensures { result ≡ self.now.chain.plan.layout.rate }
     {
@@ -80,7 +80,7 @@ impl Stream {
         ensures { WaitsFor result self.now }
     {
         match self.chain.state() {
-            State::Busy => Waits::Room,
+            State::Busy => Waits::Buffer,
             State::Done => Waits::Nothing,
             State::Hungry => {
                 if self.chain.is_spent() {
@@ -94,30 +94,30 @@ impl Stream {
 
     /// Takes whole frames from the front of the input and writes those that are given to the front of the output, as
     /// `Chain::feed` does. Nothing is taken of samples that make no whole frames, nor of more than 2^40 frames in all; where
-    /// the output has no room for one frame, nothing changes.
+    /// the output has no space for one frame, nothing changes.
     pub fn feed(&mut self, input: &[i32], output: &mut [i32]) -> Result<Passed, FeedFault>
-        ensures fed { IfOk result (λ passed. WasFed self.old self.new input.now output.old output.new passed) }
+        ensures fed { IfOk result (λ passed. StreamWasFed self.old self.new input.now output.old output.new passed) }
         ensures part { result ≡ Err FeedFault.PartOfFrame → length input.now % self.old.chain.plan.head.channels ≢ 0 }
         ensures too_long { result ≡ Err FeedFault.TooLong → (length input.now % self.old.chain.plan.head.channels ≡ 0)
-            × (most_frames < taken_of self.old.chain.flow + length input.now / self.old.chain.plan.head.channels) }
+            × (max_frames < taken_of self.old.chain.flow + length input.now / self.old.chain.plan.head.channels) }
         ensures refused { OnErr result ((self.new ≡ self.old) × (output.new ≡ output.old)) }
         ensures whole { OnOk result (length input.now % self.old.chain.plan.head.channels ≡ 0) }
-        ensures few { OnOk result (taken_of self.old.chain.flow + length input.now / self.old.chain.plan.head.channels ≤ most_frames) }
+        ensures bound { OnOk result (taken_of self.old.chain.flow + length input.now / self.old.chain.plan.head.channels ≤ max_frames) }
     {
         let channels = self.inputs();
         if input.len() % channels != 0 {
             return Err(FeedFault::PartOfFrame);
         }
         let frames = (input.len() / channels) as u64;
-        if frames > MOST_FRAMES - self.chain.taken() {
+        if frames > MAX_FRAMES - self.chain.taken() {
             return Err(FeedFault::TooLong);
         }
         Ok(self.chain.feed(input, output))
     }
 
-    /// Tells it that no frame will come, where it waits for one. Was it?
+    /// Gives it the end, where it waits for a frame. True where it did.
     pub fn end(&mut self) -> bool
-        ensures told { result ≡ true → IsHungry effect_acts self.old.chain.flow × (self.new ≡ ended self.old) }
+        ensures delivered { result ≡ true → IsHungry effect_acts self.old.chain.flow × (self.new ≡ ended self.old) }
         ensures refused { result ≡ false → (IsHungry effect_acts self.old.chain.flow → ⊥) × (self.new ≡ self.old) }
     {
         let State::Hungry = self.chain.state() else {
@@ -143,7 +143,7 @@ impl Stream {
 
     /// The samples that effect `number`, counted from 1, clipped; 0 where there is no such effect.
     pub fn clips(&self, number: usize) -> u64
-        ensures { result ≡ clips_of self.now number }
+        ensures { result ≡ stream_clips self.now number }
     {
         if number == 0 || number > self.plan.effect_count() {
             return 0;
@@ -151,7 +151,7 @@ impl Stream {
         self.chain.clips(number)
     }
 
-    /// The chain as bytes; it stays as it is.
+    /// The chain as bytes; it is unchanged.
     pub fn freeze(&self, alloc: Global) -> Result<Vec<u8>, AllocError>
         ensures frozen { IfOk result (λ bytes. IsFrozenAs self.now.chain bytes.items) }
         ensures sound { OnOk result (IsSoundChain self.now.chain) }
@@ -160,8 +160,9 @@ impl Stream {
         freeze_to_bytes(alloc, &snapshot.numbers, &snapshot.frames)
     }
 
-    /// Goes on from a chain of the same plan that was frozen to these bytes: whichever it was, one of the same value takes the
-    /// place of this one. Else why not, and nothing has changed: Memory, or BadSnapshot where no chain of the plan was.
+    /// Continues from a chain of the same plan that was frozen to these bytes: whichever it was, one of the same value takes
+    /// the place of this one. Else the reason, and nothing has changed: Memory, or BadSnapshot where no chain of the plan was
+    /// frozen so.
     pub fn thaw(&mut self, alloc: Global, bytes: &[u8]) -> Result<(), ThawFault>
         ensures frozen { OnOk result (IsFrozenAs self.new.chain bytes.now) }
         ensures plan { self.new.plan ≡ self.old.plan }

@@ -148,15 +148,15 @@ fn rounded_samples() -> Result<(), &'static str> {
     check_sample("1 / 2", round_clip(1, 2), (1, false))?;
     check_sample("-1 / 2", round_clip(-1, 2), (-1, false))?;
     check_sample("1 / 3", round_clip(1, 3), (0, false))?;
-    let most = 2147483647;
-    check_sample("clipped", round_clip(4294967295, 2), (most, true))?;
-    check_sample("not clipped", round_clip(4294967293, 2), (most, false))?;
-    let least = -2147483648;
-    check_sample("clipped below", round_clip(-4294967297, 2), (least, true))?;
+    let maximum = 2147483647;
+    check_sample("clipped", round_clip(4294967295, 2), (maximum, true))?;
+    check_sample("not clipped", round_clip(4294967293, 2), (maximum, false))?;
+    let minimum = -2147483648;
+    check_sample("clipped below", round_clip(-4294967297, 2), (minimum, true))?;
     check_sample(
         "not clipped below",
         round_clip(-4294967296, 2),
-        (least, false),
+        (minimum, false),
     )?;
     Ok(())
 }

@@ -174,8 +174,8 @@ fn numbered(channels: usize, number: i32) -> Frame
 }
 
 /// Takes the oldest frame out of a list that has more than so many.
-fn oldest_over(list: &mut Vec<Frame>, most: usize) -> Option<Frame> {
-    if list.len() > most {
+fn oldest_over(list: &mut Vec<Frame>, maximum: usize) -> Option<Frame> {
+    if list.len() > maximum {
         Some(list.remove(0))
     } else {
         None

@@ -1,6 +1,6 @@
 //! Sums by transforms beside plain sums.
 use crate::fixed_tests::REFUSED;
-use fx_convolve::transforms::Spectrum;
+use fx_tap_convolve::transforms::Spectrum;
 use std::alloc::{AllocError, Global};
 
 /// Numbers of 32 bits that look random, from a place on.
@@ -155,7 +155,7 @@ fn is_right_of_alike(
 }
 
 #[test]
-fn greatest_sums(rt: HostRuntime) -> Result<(), &'static str> {
+fn largest_sums(rt: HostRuntime) -> Result<(), &'static str> {
     for (text, sample, weight, taps) in [
         ("least by 2^30", i32::MIN, 1_073_741_824, 1),
         ("least by -2^30", i32::MIN, -1_073_741_824, 1),

@@ -3,7 +3,7 @@ ghost use Rattle.std.specs.Prelude.{◌≡◌};
 ghost use Rattle.fx_plan.specs.Planning.{planning};
 
 use fx_chain::Chain;
-use fx_flow::flow::{State, Step};
+use fx_chain_flow::flow::{State, Step};
 use fx_plan::Plan;
 use std::alloc::Global;
 use tests_driving::driving::{Driver, chain_of, driver_of, mono, next_step, put, tell_end};
@@ -39,7 +39,7 @@ fn is_within(
     driver.driven.samples.as_slice() == samples
         && plan.hold() == hold
         && driver.chain.hold() == hold
-        && driver.driven.most_held <= hold
+        && driver.driven.max_held <= hold
         && plan.rate() == 8000
         && work_and_moves.unwrap_or(counts) == counts
 }

@@ -2,7 +2,7 @@
 ghost use Rattle.std.specs.Prelude.{◌≡◌, ◌<◌, ◌≤◌, IfOk};
 
 use fx_chain::{Chain, Snapshot};
-use fx_flow::flow::{MOST_FRAMES, State};
+use fx_chain_flow::flow::{MAX_FRAMES, State};
 use std::alloc::Global;
 use tests_driving::driving::{Driven, Driver, driver_of, frozen};
 use tests_driving::words::{TWELVE_EFFECTS, plan_of};
@@ -11,31 +11,31 @@ use tests_driving::words::{TWELVE_EFFECTS, plan_of};
 const SAMPLES: usize = 2500;
 
 /// How many pieces the feeding of a row takes at the most.
-const MOST_PIECES: u32 = 5000;
+const MAX_PIECES: u32 = 5000;
 
 /// The greatest room for samples that are given.
-const MOST_ROOM: u32 = 1400;
+const MAX_CAPACITY: u32 = 1400;
 
 /// How long a sound is, and below which sizes its pieces and the rooms for what is given are chosen.
 #[derive(Clone, Copy)]
 struct Portions {
     samples: usize,
     piece: u32,
-    room: u32,
+    free: u32,
 }
 
 /// A few frames at a time.
 const SHORT: Portions = Portions {
     samples: 300,
     piece: 51,
-    room: 40,
+    free: 40,
 };
 
 /// Among them more frames than go through several stages in one piece.
 const LONG: Portions = Portions {
     samples: SAMPLES,
     piece: 2200,
-    room: MOST_ROOM,
+    free: MAX_CAPACITY,
 };
 
 /// How many plans of random effects are fed.
@@ -132,18 +132,18 @@ fn feed_once(
     chain: &mut Chain,
     driven: &mut Driven,
     piece: &[i32],
-    room: usize,
+    free: usize,
 ) -> Result<(usize, bool), &'static str>
     requires channels { chain.old.plan.head.channels ≡ 1 }
-    requires room { room ≤ MOST_ROOM }
+    requires free { free ≤ MAX_CAPACITY }
     ensures { chain.new.plan ≡ chain.old.plan }
 {
-    if piece.len() > SAMPLES || chain.taken() > MOST_FRAMES / 2 {
+    if piece.len() > SAMPLES || chain.taken() > MAX_FRAMES / 2 {
         return Err("too many frames");
     }
-    let mut output = [0; MOST_ROOM as usize];
-    let passed = chain.feed(piece, &mut output[..room]);
-    if passed.given > room {
+    let mut output = [0; MAX_CAPACITY as usize];
+    let passed = chain.feed(piece, &mut output[..free]);
+    if passed.given > free {
         return Err("more given than there is room for");
     }
     let given = &output[..passed.given];
@@ -166,9 +166,9 @@ fn feed_piece(
     ensures { chain.new.plan ≡ chain.old.plan }
 {
     let mut rest = piece;
-    'calls: for _call in 0..MOST_PIECES {
-        let room = dice.next_below(portions.room.max(1)).min(MOST_ROOM) as usize;
-        let (taken, waits) = feed_once(chain, driven, rest, room)?;
+    'calls: for _call in 0..MAX_PIECES {
+        let free = dice.next_below(portions.free.max(1)).min(MAX_CAPACITY) as usize;
+        let (taken, waits) = feed_once(chain, driven, rest, free)?;
         if taken > rest.len().min(SAMPLES) {
             return Err("more taken than there is");
         }
@@ -264,7 +264,7 @@ fn feed_sound(
     requires stepped { pair.old.stepped.chain.plan.head.channels ≡ 1 }
 {
     let mut rest = samples;
-    'pieces: for _piece in 0..MOST_PIECES {
+    'pieces: for _piece in 0..MAX_PIECES {
         if rest.is_empty() || pair.stepped.chain.is_spent() {
             return Ok(());
         }

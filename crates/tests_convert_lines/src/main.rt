@@ -11,7 +11,7 @@
 //! - `file TEXT`: the next coefficient file, with `|` for a line feed.
 //! - `reader fails`: the read behind the last byte fails.
 //! - `reader fails CALL once`, `reader fails CALL ever`: the read of that number fails, or each from it on.
-//! - `writer room BYTES`: the writer takes so many bytes and then fails; `messages room BYTES`: so does that of messages.
+//! - `writer free BYTES`: the writer takes so many bytes and then fails; `messages free BYTES`: so does that of messages.
 //! - `writer fails CALL once`, `writer fails CALL ever`: the write or flush of that number fails, or each from it on.
 //! - `pieces BYTES`: reads and writes move at most so many bytes. Without it a row is tried in pieces of several sizes.
 //! - `convert WORD ..`: the command line, without the program's name.

@@ -34,7 +34,7 @@ fn call_of(failing: Failing, bytes: usize, piece: usize) -> (u64, bool)
     let begun = u64::from(bytes % piece > 0);
     match failing {
         Failing::Never => (0, false),
-        Failing::Behind => (((bytes / piece) as u64).saturating_add(begun + 1), true),
+        Failing::AfterHead => (((bytes / piece) as u64).saturating_add(begun + 1), true),
         Failing::Once(call) => (call, false),
         Failing::Ever(call) => (call, true),
     }
@@ -45,9 +45,9 @@ fn devices(alloc: Global, row: &Row, piece: usize) -> Result<(Tape, Sink, Sink),
     let piece = piece.max(1);
     let (call, for_good) = call_of(row.reader, row.input.len(), piece);
     let reader = Tape::new(Vec::from_slice(alloc, &row.input)?, piece, call, for_good);
-    let (call, for_good) = call_of(row.writer, row.room, piece);
-    let output = Sink::new(alloc, row.room, piece, call, for_good)?;
-    let messages = Sink::new(alloc, row.messages_room, piece, 0, false)?;
+    let (call, for_good) = call_of(row.writer, row.free, piece);
+    let output = Sink::new(alloc, row.free, piece, call, for_good)?;
+    let messages = Sink::new(alloc, row.messages_capacity, piece, 0, false)?;
     Ok((reader, output, messages))
 }
 

@@ -11,7 +11,7 @@ pub enum Failing {
     /// Never.
     Never,
     /// At the call behind those that move all bytes.
-    Behind,
+    AfterHead,
     /// At the call of that number.
     Once(u64),
     /// At each call from that number on.
@@ -26,14 +26,14 @@ pub struct Row {
     pub files: Vec<Vec<u8>>,
     pub reader: Failing,
     pub writer: Failing,
-    pub room: usize,
-    pub messages_room: usize,
+    pub free: usize,
+    pub messages_capacity: usize,
     /// The most bytes that a call moves, for each way to try it.
     pub pieces: Vec<usize>,
 }
 
 /// The bytes that a device in memory takes where nothing else is said.
-const ROOM: usize = 4096;
+const CAPACITY: usize = 4096;
 
 /// The sizes of pieces in which a row is tried where it names none.
 const PIECES: [usize; 3] = [4096, 5, 1];
@@ -47,8 +47,8 @@ impl Row {
             files: Vec::new(alloc),
             reader: Failing::Never,
             writer: Failing::Never,
-            room: ROOM,
-            messages_room: ROOM,
+            free: CAPACITY,
+            messages_capacity: CAPACITY,
             pieces: Vec::from_slice(alloc, &PIECES)?,
         })
     }
@@ -116,10 +116,10 @@ fn failing_of(text: &str) -> Option<Failing> {
 }
 
 /// Keeps what is said of a device: when it fails, or for how many bytes it has room. Is it that?
-fn keep_device(failing: &mut Failing, room: &mut usize, text: &str) -> bool {
+fn keep_device(failing: &mut Failing, free: &mut usize, text: &str) -> bool {
     match text.split_once(' ') {
         None if text == "fails" => {
-            *failing = Failing::Behind;
+            *failing = Failing::AfterHead;
             true
         }
         Some(("fails", calls)) => match failing_of(calls) {
@@ -131,7 +131,7 @@ fn keep_device(failing: &mut Failing, room: &mut usize, text: &str) -> bool {
         },
         Some(("room", bytes)) => match bytes.parse::<usize>() {
             Ok(bytes) => {
-                *room = bytes;
+                *free = bytes;
                 true
             }
             Err(_) => false,
@@ -168,13 +168,13 @@ fn keep(alloc: Global, row: &mut Row, word: &str, text: &str) -> Result<bool, Al
             Ok(true)
         }
         "reader" => {
-            let mut room = ROOM;
-            Ok(keep_device(&mut row.reader, &mut room, text))
+            let mut free = CAPACITY;
+            Ok(keep_device(&mut row.reader, &mut free, text))
         }
-        "writer" => Ok(keep_device(&mut row.writer, &mut row.room, text)),
+        "writer" => Ok(keep_device(&mut row.writer, &mut row.free, text)),
         "messages" => {
             let mut failing = Failing::Never;
-            Ok(keep_device(&mut failing, &mut row.messages_room, text))
+            Ok(keep_device(&mut failing, &mut row.messages_capacity, text))
         }
         "pieces" => {
             let Ok(piece) = text.parse::<usize>() else {

@@ -4,19 +4,19 @@ ghost use Rattle.fx_plan.specs.Planning.{planning};
 
 use crate::words::plan_of;
 use fx_chain::{Chain, Snapshot};
-use fx_flow::flow::{MOST_FRAMES, State, Step};
+use fx_chain_flow::flow::{MAX_FRAMES, State, Step};
 use fx_frame::Frame;
 use fx_plan::Plan;
 use std::alloc::Global;
 
 /// More steps than a chain of these rows makes between two frames.
-const MOST_STEPS: u32 = 1000;
+const MAX_STEPS: u32 = 1000;
 
 /// What a chain did: the samples of the frames that it gave, and the most frames that it held after a call.
 #[derive(Drop)]
 pub struct Driven {
     pub samples: Vec<i32>,
-    pub most_held: u64,
+    pub max_held: u64,
 }
 
 impl Driven {
@@ -24,13 +24,13 @@ impl Driven {
     pub fn new(alloc: Global) -> Driven {
         Driven {
             samples: Vec::new(alloc),
-            most_held: 0,
+            max_held: 0,
         }
     }
 
     /// Sees how many frames a chain holds.
     fn see_held(&mut self, chain: &Chain) {
-        self.most_held = self.most_held.max(chain.held());
+        self.max_held = self.max_held.max(chain.held());
     }
 }
 
@@ -61,7 +61,7 @@ pub fn next_step(chain: &mut Chain) -> Option<Step>
 fn settle(chain: &mut Chain, driven: &mut Driven) -> Result<(), &'static str>
     ensures { chain.new.plan ≡ chain.old.plan }
 {
-    'steps: for _step in 0..MOST_STEPS {
+    'steps: for _step in 0..MAX_STEPS {
         let Some(step) = next_step(chain) else {
             return Ok(());
         };
@@ -83,7 +83,7 @@ pub fn put(chain: &mut Chain, sample: i32) -> Result<(), &'static str>
     let State::Hungry = chain.state() else {
         return Err("not hungry");
     };
-    if chain.taken() >= MOST_FRAMES {
+    if chain.taken() >= MAX_FRAMES {
         return Err("too many frames");
     }
     chain.take(mono(sample));

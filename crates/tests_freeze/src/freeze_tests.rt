@@ -3,10 +3,10 @@ ghost use Rattle.std.specs.Prelude.{◌≡◌, IfOk, IfSome};
 ghost use Rattle.fx_plan.specs.Planning.{planning};
 
 use fx_chain::{Chain, Snapshot};
-use fx_flow::flow::{MOST_FRAMES, State, Step};
+use fx_chain_flow::flow::{MAX_FRAMES, State, Step};
 use fx_frame::WideFrame;
+use fx_frame_stage::stage::ThawFault;
 use fx_plan::Plan;
-use fx_step::stage::ThawFault;
 use std::alloc::Global;
 use tests_driving::driving::{
     Driven, Driver, chain_of, driver_of, first_sample, frozen, mono, next_step, put, tell_end,
@@ -14,7 +14,7 @@ use tests_driving::driving::{
 use tests_driving::words::{TWELVE_EFFECTS, found_plan, plan_of};
 
 /// More calls than a chain of these rows is given.
-const MOST_CALLS: u32 = 1000;
+const MAX_CALLS: u32 = 1000;
 
 const TWELVE_SAMPLES: [i32; 4] = [8, 8, 8, 8];
 
@@ -278,7 +278,7 @@ fn spoil(snapshot: &mut Snapshot, damage: Damage) -> Result<(), &'static str> {
         return Err("another snapshot");
     }
     match damage {
-        Damage::TooManyTaken => snapshot.numbers[0] = MOST_FRAMES + 1,
+        Damage::TooManyTaken => snapshot.numbers[0] = MAX_FRAMES + 1,
         Damage::HalfEnded => snapshot.numbers[10] = 2,
         Damage::Stereo => snapshot.frames[0] = wide(&[3, 3])?,
         Damage::Wide => snapshot.frames[0] = wide(&[1 << 31])?,
@@ -349,7 +349,7 @@ fn keep_given(step: Step, out: &mut Vec<i32>) -> Result<(), &'static str> {
 fn go_on(chain: &mut Chain, samples: &[i32], out: &mut Vec<i32>) -> Result<(), &'static str>
     requires { chain.old.plan.head.channels ≡ 1 }
 {
-    'calls: for _call in 0..MOST_CALLS {
+    'calls: for _call in 0..MAX_CALLS {
         if !advance(chain, samples, out)? {
             return Ok(());
         }
@@ -421,7 +421,7 @@ fn go_on_thawed(alloc: Global, chain: &mut Chain, numbers: &[u64]) -> Result<(),
     requires { chain.old.plan.head.channels ≡ 1 }
 {
     let mut out = Vec::new(alloc);
-    'calls: for _call in 0..MOST_CALLS {
+    'calls: for _call in 0..MAX_CALLS {
         comes_to(alloc, chain, &out, numbers)?;
         if !advance(chain, &TWELVE_SAMPLES, &mut out)? {
             return Ok(());
@@ -472,7 +472,7 @@ fn found_driver(alloc: Global) -> Option<Driver>
     };
     let driven = Driven {
         samples,
-        most_held: 0,
+        max_held: 0,
     };
     Some(Driver { chain, driven })
 }

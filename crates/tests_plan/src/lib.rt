@@ -1,4 +1,4 @@
-//! The worked rows of fx_line and fx_plan. They stand in a crate of their own, so that those crates are not proved once more for
+//! The worked rows of fx_plan_line and fx_plan. They stand in a crate of their own, so that those crates are not proved once more for
 //! them, and apart from tests_base, which need not wait for the effects.
 #![tactic(auto)]
 

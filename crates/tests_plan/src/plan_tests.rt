@@ -53,7 +53,7 @@ fir e.txt -> 13 at 1 2
 vol 1 vol 1 vol 1 vol 1 vol 1 vol 1 vol 1 vol 1 vol 1 vol 1 vol 1 vol 1 vol 1 vol 1 vol 1 vol 1 vol 1 vol 1 vol 1 vol 1 vol 1 vol 1 vol 1 vol 1 vol 1 vol 1 vol 1 vol 1 vol 1 vol 1 vol 1 vol 1 vol 1 -> 12 at 33 1
 ";
 
-const PAST_LIMITS: &str = "\
+const BEYOND_LIMITS: &str = "\
 echo 1.0000000004 1 0.125 0.5 -> 6 at 1 2
 dcshift 2.0000000004 -> 6 at 1 2
 vol 1000.0000000004 -> 6 at 1 2
@@ -140,7 +140,7 @@ fn line_of(alloc: Global, text: &str) -> Result<CommandLine, LineFault> {
 fn head(rate: u32, channels: usize) -> Head
     requires rate { 0 < rate }
     requires some { 0 < channels }
-    requires most { channels ≤ 16 }
+    requires maximum { channels ≤ 16 }
 {
     Head {
         kind: Kind::Au,
@@ -152,7 +152,7 @@ fn head(rate: u32, channels: usize) -> Head
 }
 
 /// What a plan holds, what comes out of it and what it does; or how it is refused.
-fn told(alloc: Global, made: Result<Plan, PlanFault>) -> Result<String, AllocError> {
+fn delivered(alloc: Global, made: Result<Plan, PlanFault>) -> Result<String, AllocError> {
     match made {
         Ok(plan) => {
             let (hold, rate, channels) = (plan.hold(), plan.rate(), plan.channels());
@@ -170,7 +170,7 @@ fn told(alloc: Global, made: Result<Plan, PlanFault>) -> Result<String, AllocErr
 /// What is answered for a line; each coefficient file that it names counts as one without a byte.
 fn answered(alloc: Global, head: &Head, text: &str) -> Result<String, AllocError> {
     match line_of(alloc, text) {
-        Ok(line) => told(alloc, plan(alloc, &line, head, &[])),
+        Ok(line) => delivered(alloc, plan(alloc, &line, head, &[])),
         Err(fault) => format!(in alloc; "line {}", fault as u8),
     }
 }
@@ -223,8 +223,8 @@ fn small_refusals(rt: HostRuntime) -> Result<(), Fail> {
 }
 
 #[test]
-fn gains_past_limits(rt: HostRuntime) -> Result<(), Fail> {
-    check_effects(rt.alloc(), &head(8000, 1), PAST_LIMITS)
+fn gains_beyond_limits(rt: HostRuntime) -> Result<(), Fail> {
+    check_effects(rt.alloc(), &head(8000, 1), BEYOND_LIMITS)
 }
 
 #[test]

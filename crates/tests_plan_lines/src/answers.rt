@@ -4,7 +4,7 @@ ghost use Rattle.std.specs.Prelude.{◌≡◌, IfOk, length};
 ghost use Rattle.fx_plan.specs.CommandLines.{coefficient_files, effects_in};
 
 use crate::lines::{File, Known, file_of, head_of, words_of};
-use fx_plan::{CommandLine, Plan, PlanFault, Stream, parse_line, plan};
+use fx_plan::{CommandLine, Endpoint, Plan, PlanFault, parse_line, plan};
 use std::alloc::{AllocError, Global};
 use std::io;
 
@@ -25,10 +25,10 @@ fn shown(alloc: Global, word: &str) -> Result<String, AllocError> {
 }
 
 /// The name of a stream as it is printed.
-fn shown_stream(alloc: Global, stream: Stream<'_>) -> Result<String, AllocError> {
+fn shown_stream(alloc: Global, stream: Endpoint<'_>) -> Result<String, AllocError> {
     match stream {
-        Stream::Standard => String::from_str(alloc, "-"),
-        Stream::Named(name) => shown(alloc, name),
+        Endpoint::Standard => String::from_str(alloc, "-"),
+        Endpoint::Named(name) => shown(alloc, name),
     }
 }
 

@@ -52,7 +52,7 @@ fn dot_great() -> Result<(), &'static str> {
 }
 
 #[test]
-fn dot_greatest() -> Result<(), &'static str> {
+fn dot_largest() -> Result<(), &'static str> {
     sums_to(
         &[-1_000_000_000_000_000; 1024],
         2_199_023_255_552_000_000_000_000_000,

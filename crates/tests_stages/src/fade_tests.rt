@@ -1,7 +1,7 @@
 //! The worked rows of `fade`.
 
 use crate::driving::{gives, gives_holding, holds_four, say};
-use crate::thawing::{frozen_behind, goes_on};
+use crate::thawing::{frozen_after, goes_on};
 use fx_cut::Fade;
 use fx_fixed::At;
 
@@ -29,7 +29,7 @@ fn fade_thaws(rt: HostRuntime) -> Result<(), &'static str> {
     let alloc = rt.alloc();
     let stop = Some(At::End(2));
     let fade = Fade::new(alloc, 1, 0, stop, 2);
-    let (frames, numbers) = frozen_behind(alloc, fade, "fade: 100*4 ->")?;
+    let (frames, numbers) = frozen_after(alloc, fade, "fade: 100*4 ->")?;
     let again = Fade::thaw(alloc, 1, 0, stop, 2, &frames, &numbers);
     goes_on(alloc, again, 4, "fade thawed: 100 -> 100 100 50")
 }

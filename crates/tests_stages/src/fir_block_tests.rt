@@ -9,7 +9,7 @@ use std::alloc::{AllocError, Global};
 use std::test::Fail;
 
 /// How many blocks a sound has at the most.
-const MOST_BLOCKS: u32 = 10_000;
+const MAX_BLOCKS: u32 = 10_000;
 
 /// A number of 32 bits that looks random.
 fn noise(place: usize) -> i32 {
@@ -93,12 +93,12 @@ fn plainly(
 }
 
 /// Feeds a block, of which all has to be taken, into a room; how many samples are given.
-fn feed_into(fir: &mut Fir, block: &[i32], room: &mut [i32]) -> Result<usize, &'static str> {
+fn feed_into(fir: &mut Fir, block: &[i32], free: &mut [i32]) -> Result<usize, &'static str> {
     let channels = fir.in_channels();
     if channels == 0 || channels > 16 || block.len() > 1 << 20 || fir.counters()[0] > 1 << 20 {
         return Err("not ready for the block");
     }
-    let passed = fir.feed(block, room);
+    let passed = fir.feed(block, free);
     if passed.taken.wrapping_mul(channels) != block.len() {
         return Err("not the whole block");
     }
@@ -106,8 +106,8 @@ fn feed_into(fir: &mut Fir, block: &[i32], room: &mut [i32]) -> Result<usize, &'
 }
 
 /// Adds so many of the samples of a room.
-fn add_part(room: &[i32], count: usize, given: &mut Vec<i32>) -> Result<(), &'static str> {
-    let Some(samples) = room.get(..count) else {
+fn add_part(free: &[i32], count: usize, given: &mut Vec<i32>) -> Result<(), &'static str> {
+    let Some(samples) = free.get(..count) else {
         return Err("more than there is room for");
     };
     match given.extend_from_slice(samples) {
@@ -123,12 +123,12 @@ fn feed_block(
     block: &[i32],
     given: &mut Vec<i32>,
 ) -> Result<(), &'static str> {
-    let mut room = Vec::new(alloc);
-    if room.resize(block.len(), 0).is_err() {
+    let mut free = Vec::new(alloc);
+    if free.resize(block.len(), 0).is_err() {
         return Err(REFUSED);
     }
-    let count = feed_into(fir, block, &mut room)?;
-    add_part(&room, count, given)
+    let count = feed_into(fir, block, &mut free)?;
+    add_part(&free, count, given)
 }
 
 /// Makes a `fir` of these coefficients again from what it stores and counts.
@@ -175,7 +175,7 @@ fn feed_blocks(
     requires coefficients { (1 ≤ length coefficients.now) × (length coefficients.now ≤ 1024) }
 {
     let mut rest = sound;
-    for block in 0..MOST_BLOCKS {
+    for block in 0..MAX_BLOCKS {
         if rest.is_empty() {
             break;
         }

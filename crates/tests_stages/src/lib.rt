@@ -1,8 +1,9 @@
-//! The worked rows of fx_cut, fx_map, fx_past, fx_fir and fx_sums. They stand in a crate of their own, so that those crates are
-//! not proved once more for them.
+// Written by scripts/effects from effects/*.toml. Do not edit.
+//! The worked rows of fx_cut, fx_tap_pointwise, fx_tap_delays, fx_tap_fir and fx_tap_sums. They are in a crate of their own, so
+//! that those crates are not proved once more for them.
 //!
-//! An effect has a file of its own, or one with the effect that has the same words. In each row stands a name, and behind the
-//! arrow what is given for the samples before it. A test whose name begins with `growth_` prints `refused` where memory is
+//! An effect has a file of its own, or one with the effect that has the same words. Each row has a name, and after the arrow
+//! what is given for the samples before it. A test whose name begins with `growth_` prints `refused` where memory is
 //! wanting, in `new`, for the stored frames or in `thaw`, and `made` where none was.
 #![tactic(auto)]
 

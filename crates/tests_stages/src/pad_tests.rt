@@ -1,7 +1,7 @@
 //! The worked rows of `pad`.
 
 use crate::driving::{gives, holds_four, say};
-use crate::thawing::{frozen_behind, goes_on};
+use crate::thawing::{frozen_after, goes_on};
 use fx_cut::Pad;
 use fx_fixed::At;
 
@@ -11,8 +11,8 @@ fn pad_rows(rt: HostRuntime) -> Result<(), &'static str> {
     let alloc = rt.alloc();
     let ends = Pad::new(alloc, 1, &[(2, At::Start(0)), (1, At::End(0))]);
     gives(alloc, ends, "empty sound: -> | 0 0 0", 0)?;
-    let past = Pad::new(alloc, 1, &[(1, At::Start(9)), (2, At::End(0))]);
-    gives(alloc, past, "past end: 1 2 -> 1 2 0 0", 0)?;
+    let beyond = Pad::new(alloc, 1, &[(1, At::Start(9)), (2, At::End(0))]);
+    gives(alloc, beyond, "past end: 1 2 -> 1 2 0 0", 0)?;
     for row in [
         "mixed anchors: 1 2 3 -> 1 0 0 2 | 0 3",
         "mixed anchors of one: 1 -> 1 0 0 0",
@@ -30,7 +30,7 @@ fn pad_thaws(rt: HostRuntime) -> Result<(), &'static str> {
     let alloc = rt.alloc();
     let pads = [(2, At::Start(1)), (1, At::End(1))];
     let pad = Pad::new(alloc, 1, &pads);
-    let (frames, numbers) = frozen_behind(alloc, pad, "pad: 1 2 -> 1")?;
+    let (frames, numbers) = frozen_after(alloc, pad, "pad: 1 2 -> 1")?;
     let again = Pad::thaw(alloc, 1, &pads, &frames, &numbers);
     goes_on(alloc, again, 2, "pad thawed: 3 -> 0 0 2 0 3")
 }

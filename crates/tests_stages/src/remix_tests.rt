@@ -3,9 +3,8 @@ ghost use Rattle.std.specs.Prelude.{◌≡◌, IfOk};
 
 use crate::driving::{REFUSED, gain, gives, say};
 use crate::thawing::{comes_back, frozen};
-use fx_fixed::{OutSpec, Weight};
 use fx_frame::Stage;
-use fx_tap::Remix;
+use fx_tap::{OutSpec, Remix, Weight};
 use smallvec::SmallVec;
 use std::alloc::Global;
 

@@ -1,6 +1,6 @@
 //! How the tests freeze a stage and make it again.
 ghost use Rattle.std.specs.Prelude.{◌≤◌, ◌^◌, IfOk};
-ghost use Rattle.fx_step.specs.Stage.{kind};
+ghost use Rattle.fx_frame_stage.specs.Stage.{kind};
 
 use crate::driving::{REFUSED, compare, gives, stored};
 use fx_frame::{Frame, Stage, ThawFault, WideFrame};
@@ -54,7 +54,7 @@ pub(crate) fn comes_back<S: Stage + Drop>(
 }
 
 /// What a stage that was made stores and counts once it gave what a row says, with no end.
-pub(crate) fn frozen_behind<S: Stage + Drop>(
+pub(crate) fn frozen_after<S: Stage + Drop>(
     alloc: Global,
     made: Result<S, AllocError>,
     row: &'static str,

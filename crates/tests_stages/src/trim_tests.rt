@@ -1,7 +1,7 @@
 //! The worked rows of `trim`.
 
 use crate::driving::{gives, gives_holding, holds_four, refused, say};
-use crate::thawing::{frozen_behind, goes_on};
+use crate::thawing::{frozen_after, goes_on};
 use fx_cut::Trim;
 use fx_fixed::At;
 use fx_frame::{Frame, WideFrame};
@@ -28,7 +28,7 @@ fn trim_thaws(rt: HostRuntime) -> Result<(), &'static str> {
     let alloc = rt.alloc();
     let positions = [At::Start(1), At::End(1)];
     let trim = Trim::new(alloc, 1, &positions);
-    let (frames, numbers) = frozen_behind(alloc, trim, "trim: 1 2 3 -> 2")?;
+    let (frames, numbers) = frozen_after(alloc, trim, "trim: 1 2 3 -> 2")?;
     let again = Trim::thaw(alloc, 1, &positions, &frames, &numbers);
     goes_on(alloc, again, 3, "trim thawed: 4 5 -> 3 4")
 }
@@ -38,8 +38,8 @@ fn trim_thaws(rt: HostRuntime) -> Result<(), &'static str> {
 fn trim_refused(rt: HostRuntime) -> Result<(), &'static str> {
     let frames = [WideFrame::from_frame(Frame::one(7))];
     let numbers = [5, 0, 1, 0, 1, 1, 0, 0];
-    let few = Trim::thaw(rt.alloc(), 1, &[At::Start(0)], &frames, &numbers);
-    refused(few, "one of five")
+    let bound = Trim::thaw(rt.alloc(), 1, &[At::Start(0)], &frames, &numbers);
+    refused(bound, "one of five")
 }
 
 /// Each request of a `trim` for memory refused in turn.

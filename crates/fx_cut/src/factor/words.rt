@@ -1,14 +1,14 @@
 //! The word of `upsample` and of `downsample`: a factor.
 
 ghost use Rattle.std.specs.Prelude.{◌≡◌, ◌<◌, ◌≤◌, ◌*◌, ◌^◌, IfOk};
-ghost use Rattle.fx_words.specs.Faults.{Finds, texts};
+ghost use Rattle.fx_plan_words.specs.Faults.{Finds, word_texts};
 ghost use Rattle.fx_cut.specs.FactorWords;
 ghost use Rattle.fx_cut.specs.FactorWords.{downsample_faults, factor_in, factor_of, upsample_faults, usable};
 
-use fx_words::{Mark, PlanCause, at_word, capped_number};
+use fx_plan_words::{Mark, PlanCause, at_word, capped_number};
 
-/// The greatest factor.
-const GREATEST_FACTOR: u32 = 256;
+/// The maximum factor.
+const MAX_FACTOR_WORD: u32 = 256;
 
 /// The factor where the words name none.
 const DEFAULT_FACTOR: u32 = 2;
@@ -21,7 +21,7 @@ fn read_factor(word: &str) -> Result<u32, PlanCause>
     let Some(factor) = capped_number(word.as_bytes()) else {
         return Err(PlanCause::BadArgument);
     };
-    if factor == 0 || factor > GREATEST_FACTOR {
+    if factor == 0 || factor > MAX_FACTOR_WORD {
         return Err(PlanCause::OutOfRange);
     }
     Ok(factor)
@@ -29,7 +29,7 @@ fn read_factor(word: &str) -> Result<u32, PlanCause>
 
 /// The factor that the words name or leave out, and the number of the word to blame for it.
 fn read_factor_word(words: &[String]) -> Result<(u32, usize), Mark>
-    ensures read { Finds result (FactorWords.word_faults (texts words.now)) (usable (factor_of (texts words.now)), FactorWords.factor_word (texts words.now)) }
+    ensures read { Finds result (FactorWords.word_faults (word_texts words.now)) (usable (factor_of (word_texts words.now)), FactorWords.factor_word (word_texts words.now)) }
     ensures range { IfOk result (λ found. (1 ≤ found.0) × (found.0 ≤ 256)) }
 {
     let Some((word, more)) = words.split_first() else {
@@ -47,7 +47,7 @@ fn read_factor_word(words: &[String]) -> Result<(u32, usize), Mark>
 /// The factor of an `upsample` with these words after its name.
 #[tactic(auto, unfolding(crate::specs::FactorWords::upsample_faults))]
 pub fn read_upsample(rate: u32, words: &[String]) -> Result<u32, Mark>
-    ensures read { Finds result (upsample_faults rate (texts words.now)) (usable (factor_of (texts words.now))) }
+    ensures read { Finds result (upsample_faults rate (word_texts words.now)) (usable (factor_of (word_texts words.now))) }
     ensures range { IfOk result (λ factor. (1 ≤ factor) × (factor ≤ 256) × (rate * factor < 2 ^ 32)) }
 {
     let (factor, number) = read_factor_word(words)?;
@@ -61,7 +61,7 @@ pub fn read_upsample(rate: u32, words: &[String]) -> Result<u32, Mark>
 #[tactic(auto, unfolding(crate::specs::FactorWords::downsample_faults))]
 pub fn read_downsample(rate: u32, words: &[String]) -> Result<u32, Mark>
     requires { 0 < rate }
-    ensures read { Finds result (downsample_faults rate (texts words.now)) (usable (factor_of (texts words.now))) }
+    ensures read { Finds result (downsample_faults rate (word_texts words.now)) (usable (factor_of (word_texts words.now))) }
     ensures range { IfOk result (λ factor. (1 ≤ factor) × (factor ≤ 256) × (factor ≤ rate)) }
 {
     let (factor, number) = read_factor_word(words)?;

@@ -1,11 +1,11 @@
 //! The words of `fade`: the type `t`, the length in, and optionally the stop and the length out.
 
 ghost use Rattle.std.specs.Prelude.{◌≡◌, ◌<◌, IfOk, true};
-ghost use Rattle.fx_words.specs.Faults.{Finds, texts};
+ghost use Rattle.fx_plan_words.specs.Faults.{Finds, word_texts};
 ghost use Rattle.fx_cut.specs.FadeWords.{fade_by, fade_faults, fade_of, fading, in_faults, is_fade, length_out, out_faults, stop_faults};
 
 use fx_fixed::{Anchor, At};
-use fx_words::{Mark, PlanCause, at_word, read_frames, read_position};
+use fx_plan_words::{Mark, PlanCause, at_word, read_frames, read_position};
 
 /// What a `fade` does: its lengths in frames, and where the sound stops.
 #[derive(Clone, Copy, Debug, Drop, PartialEq, Eq)]
@@ -21,7 +21,7 @@ pub struct Fading {
 /// The length out that the words are, or this one where there is none.
 fn read_length_out(rate: u32, fade_in: u64, words: &[String]) -> Result<u64, Mark>
     requires { 0 < rate }
-    ensures { Finds result (out_faults rate (texts words.now)) (length_out rate fade_in (texts words.now)) }
+    ensures { Finds result (out_faults rate (word_texts words.now)) (length_out rate fade_in (word_texts words.now)) }
 {
     let Some((word, _)) = words.split_first() else {
         return Ok(fade_in);
@@ -29,10 +29,10 @@ fn read_length_out(rate: u32, fade_in: u64, words: &[String]) -> Result<u64, Mar
     read_frames(rate, word).map_err(|cause| at_word(cause, 5))
 }
 
-/// The fade of this length in with these words behind it.
+/// The fade of this length in with these words after it.
 fn read_stop(rate: u32, fade_in: u64, words: &[String]) -> Result<Fading, Mark>
     requires { 0 < rate }
-    ensures { Finds result (stop_faults rate (texts words.now)) (fade_by rate fade_in (texts words.now)) }
+    ensures { Finds result (stop_faults rate (word_texts words.now)) (fade_by rate fade_in (word_texts words.now)) }
 {
     let Some((word, more)) = words.split_first() else {
         return Ok(Fading {
@@ -56,7 +56,7 @@ fn read_stop(rate: u32, fade_in: u64, words: &[String]) -> Result<Fading, Mark>
 /// The fade whose length in is the first of these words.
 fn read_lengths(rate: u32, words: &[String]) -> Result<Fading, Mark>
     requires { 0 < rate }
-    ensures { Finds result (in_faults rate (texts words.now)) (fade_of rate (texts words.now)) }
+    ensures { Finds result (in_faults rate (word_texts words.now)) (fade_of rate (word_texts words.now)) }
 {
     let Some((word, more)) = words.split_first() else {
         return Ok(Fading {
@@ -76,7 +76,7 @@ fn read_lengths(rate: u32, words: &[String]) -> Result<Fading, Mark>
 #[tactic(auto, unfolding(crate::specs::FadeWords::fade_faults))]
 pub fn read_fade(rate: u32, words: &[String]) -> Result<Fading, Mark>
     requires { 0 < rate }
-    ensures read { Finds result (fade_faults rate (texts words.now)) (fading rate (texts words.now)) }
+    ensures read { Finds result (fade_faults rate (word_texts words.now)) (fading rate (word_texts words.now)) }
     ensures fit { IfOk result (λ fade. is_fade fade ≡ true) }
 {
     let Some((kind, lengths)) = words.split_first() else {

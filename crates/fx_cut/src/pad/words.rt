@@ -1,19 +1,19 @@
 //! The words of `pad`: lengths, each with a position or without one.
 
 ghost use Rattle.std.specs.Prelude.{◌≡◌, ◌<◌, IfOk, length, map, true};
-ghost use Rattle.fx_words.specs.Faults.{Finds, Reads, texts};
-ghost use Rattle.fx_words.specs.Numbers.{beginning};
-ghost use Rattle.fx_cut.specs.PadWords.{are_pads, length_faults, lengths, pad_faults, pad_in, position_at};
+ghost use Rattle.fx_plan_words.specs.Faults.{Finds, ReadsWords, word_texts};
+ghost use Rattle.fx_plan_words.specs.Numbers.{beginning};
+ghost use Rattle.fx_cut.specs.PadWords.{are_pads, length_faults, word_lengths, pad_faults, pad_in, position_at};
 ghost use Rattle.fx_cut.specs.TrimWords.{order_faults};
 
-use crate::trim::words::{MOST_POSITIONS, is_behind};
+use crate::trim::words::{MAX_POSITIONS, is_passed};
 use fx_fixed::{Anchor, At};
-use fx_words::{Mark, PlanCause, Refusal, at_word, marked, read_frames, read_position};
+use fx_plan_words::{Mark, PlanCause, WordsRefusal, at_word, marked, read_frames, read_position};
 use smallvec::SmallVec;
 use std::alloc::Global;
 
-/// Lengths of silence, each with its position: up to four stand in the value itself, and more on the heap.
-pub type Pads = SmallVec<(u64, At), 4>;
+/// Lengths of silence, each with its position: up to four are stored in the value itself, more on the heap.
+pub type PadList = SmallVec<(u64, At), 4>;
 
 /// The length and the position that a word is.
 fn read_length(
@@ -41,10 +41,10 @@ fn read_length(
 }
 
 /// The lengths and positions that the words are.
-fn read_lengths(alloc: Global, rate: u32, words: &[String]) -> Result<Pads, Refusal>
+fn read_lengths(alloc: Global, rate: u32, words: &[String]) -> Result<PadList, WordsRefusal>
     requires rate { 0 < rate }
-    requires few { length words.now < 65 }
-    ensures read { Reads (λ v. v.items) result (length_faults rate 2 beginning (texts words.now)) (lengths rate 2 beginning (texts words.now)) }
+    requires bound { length words.now < 65 }
+    ensures read { ReadsWords (λ v. v.items) result (length_faults rate 2 beginning (word_texts words.now)) (word_lengths rate 2 beginning (word_texts words.now)) }
     ensures length { IfOk result (λ v. length v.items ≡ length words.now) }
 {
     let mut pads = SmallVec::new(alloc);
@@ -57,7 +57,7 @@ fn read_lengths(alloc: Global, rate: u32, words: &[String]) -> Result<Pads, Refu
             Err(cause) => return Err(marked(cause, number)),
         };
         if pads.push(pad).is_err() {
-            return Err(Refusal::Memory);
+            return Err(WordsRefusal::Memory);
         }
         previous = pad.1;
         rest = more;
@@ -66,7 +66,7 @@ fn read_lengths(alloc: Global, rate: u32, words: &[String]) -> Result<Pads, Refu
     Ok(pads)
 }
 
-/// Refuses the first position that lies behind.
+/// Refuses the first position that is out of order.
 #[tactic(auto, using(crate::proofs::PadWords::pad_orders))]
 fn check_order(pads: &[(u64, At)]) -> Result<(), Mark>
     requires { length pads.now < 2000 }
@@ -75,7 +75,7 @@ fn check_order(pads: &[(u64, At)]) -> Result<(), Mark>
     let mut rest = pads;
     let mut number = 3;
     while let [front, next, ..] = rest {
-        if is_behind(front.1, next.1) {
+        if is_passed(front.1, next.1) {
             return Err(at_word(PlanCause::PositionBehind, number));
         }
         rest = &rest[1..];
@@ -86,16 +86,16 @@ fn check_order(pads: &[(u64, At)]) -> Result<(), Mark>
 
 /// The lengths and positions of a `pad` with these words after its name.
 #[tactic(auto, unfolding(crate::specs::PadWords::pad_faults))]
-pub fn read_pad(alloc: Global, rate: u32, words: &[String]) -> Result<Pads, Refusal>
+pub fn read_pad(alloc: Global, rate: u32, words: &[String]) -> Result<PadList, WordsRefusal>
     requires { 0 < rate }
-    ensures read { Reads (λ v. v.items) result (pad_faults rate (texts words.now)) (lengths rate 2 beginning (texts words.now)) }
+    ensures read { ReadsWords (λ v. v.items) result (pad_faults rate (word_texts words.now)) (word_lengths rate 2 beginning (word_texts words.now)) }
     ensures fit { IfOk result (λ v. are_pads v.items ≡ true) }
 {
     if words.is_empty() {
         return Err(marked(PlanCause::WrongCount, 1));
     }
-    if words.len() > MOST_POSITIONS {
-        return Err(marked(PlanCause::WrongCount, MOST_POSITIONS + 2));
+    if words.len() > MAX_POSITIONS {
+        return Err(marked(PlanCause::WrongCount, MAX_POSITIONS + 2));
     }
     let pads = read_lengths(alloc, rate, words)?;
     check_order(&pads)?;

@@ -1,27 +1,27 @@
 //! The words of `trim`: positions.
 
 ghost use Rattle.std.specs.Prelude.{◌≡◌, ◌<◌, IfOk, length};
-ghost use Rattle.fx_words.specs.Faults.{Finds, Reads, texts};
-ghost use Rattle.fx_words.specs.Numbers.{beginning};
+ghost use Rattle.fx_plan_words.specs.Faults.{Finds, ReadsWords, word_texts};
+ghost use Rattle.fx_plan_words.specs.Numbers.{beginning};
 ghost use Rattle.fx_cut.specs.TrimWords;
 ghost use Rattle.fx_cut.specs.TrimWords.{order_faults, place_faults, places, trim_faults};
 
 use fx_fixed::{Anchor, At};
-use fx_words::{Mark, PlanCause, Refusal, at_word, marked, read_position};
+use fx_plan_words::{Mark, PlanCause, WordsRefusal, at_word, marked, read_position};
 use smallvec::SmallVec;
 use std::alloc::Global;
 
-/// The most positions of a `trim`, and the most lengths of a `pad`.
-pub(crate) const MOST_POSITIONS: usize = 64;
+/// The maximum number of positions of a `trim`, and the maximum number of lengths of a `pad`.
+pub(crate) const MAX_POSITIONS: usize = 64;
 
-/// Positions: up to four stand in the value itself, and more on the heap.
+/// Positions: up to four are stored in the value itself, more on the heap.
 pub type Positions = SmallVec<At, 4>;
 
 /// The positions that the words are, each counted from the one before it unless its sign says otherwise.
-fn read_places(alloc: Global, rate: u32, words: &[String]) -> Result<Positions, Refusal>
+fn read_places(alloc: Global, rate: u32, words: &[String]) -> Result<Positions, WordsRefusal>
     requires rate { 0 < rate }
-    requires few { length words.now < 65 }
-    ensures read { Reads (λ v. v.items) result (place_faults rate 2 beginning (texts words.now)) (places rate beginning (texts words.now)) }
+    requires bound { length words.now < 65 }
+    ensures read { ReadsWords (λ v. v.items) result (place_faults rate 2 beginning (word_texts words.now)) (places rate beginning (word_texts words.now)) }
     ensures length { IfOk result (λ v. length v.items ≡ length words.now) }
 {
     let mut positions = SmallVec::new(alloc);
@@ -34,7 +34,7 @@ fn read_places(alloc: Global, rate: u32, words: &[String]) -> Result<Positions, 
             Err(cause) => return Err(marked(cause, number)),
         };
         if positions.push(position).is_err() {
-            return Err(Refusal::Memory);
+            return Err(WordsRefusal::Memory);
         }
         previous = position;
         rest = more;
@@ -43,9 +43,9 @@ fn read_places(alloc: Global, rate: u32, words: &[String]) -> Result<Positions, 
     Ok(positions)
 }
 
-/// Whether a position lies before the one in front of it, both of one anchor.
-pub(crate) fn is_behind(front: At, next: At) -> bool
-    ensures { result ≡ TrimWords.is_behind front next }
+/// Whether a position lies before the previous one, both of one anchor.
+pub(crate) fn is_passed(front: At, next: At) -> bool
+    ensures { result ≡ TrimWords.is_passed front next }
 {
     match (front, next) {
         (At::Start(first), At::Start(second)) => second < first,
@@ -54,7 +54,7 @@ pub(crate) fn is_behind(front: At, next: At) -> bool
     }
 }
 
-/// Refuses the first position that lies behind.
+/// Refuses the first position that is out of order.
 #[tactic(auto, using(crate::proofs::TrimWords::orders))]
 fn check_order(positions: &[At]) -> Result<(), Mark>
     requires { length positions.now < 2000 }
@@ -63,7 +63,7 @@ fn check_order(positions: &[At]) -> Result<(), Mark>
     let mut rest = positions;
     let mut number = 3;
     while let [front, next, ..] = rest {
-        if is_behind(*front, *next) {
+        if is_passed(*front, *next) {
             return Err(at_word(PlanCause::PositionBehind, number));
         }
         rest = &rest[1..];
@@ -74,15 +74,15 @@ fn check_order(positions: &[At]) -> Result<(), Mark>
 
 /// The positions of a `trim` with these words after its name.
 #[tactic(auto, unfolding(crate::specs::TrimWords::trim_faults))]
-pub fn read_trim(alloc: Global, rate: u32, words: &[String]) -> Result<Positions, Refusal>
+pub fn read_trim(alloc: Global, rate: u32, words: &[String]) -> Result<Positions, WordsRefusal>
     requires { 0 < rate }
-    ensures { Reads (λ v. v.items) result (trim_faults rate (texts words.now)) (places rate beginning (texts words.now)) }
+    ensures { ReadsWords (λ v. v.items) result (trim_faults rate (word_texts words.now)) (places rate beginning (word_texts words.now)) }
 {
     if words.is_empty() {
         return Err(marked(PlanCause::WrongCount, 1));
     }
-    if words.len() > MOST_POSITIONS {
-        return Err(marked(PlanCause::WrongCount, MOST_POSITIONS + 2));
+    if words.len() > MAX_POSITIONS {
+        return Err(marked(PlanCause::WrongCount, MAX_POSITIONS + 2));
     }
     let positions = read_places(alloc, rate, words)?;
     check_order(&positions)?;

@@ -7,7 +7,7 @@ use Rattle.fx_chain.proofs.plan_run.run.Goals as goal
 pub run_flow-requires-clause-count : goal.run_flow-requires-clause-count
 run_flow-requires-clause-count g c =
     let count = count-is _ c.chain.invariant in
-    omega (arith, count, c.chain.invariant.few)
+    omega (arith, count, c.chain.invariant.bound)
 
 pub run_flow-requires-clause-fits : goal.run_flow-requires-clause-fits
 run_flow-requires-clause-fits g c = short-is _ c.chain.invariant

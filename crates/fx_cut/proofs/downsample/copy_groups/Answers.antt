@@ -2,7 +2,7 @@
 use Rattle.std.proofs.Common.{◌≡◌, ◌≤◌, ◌*◌, ◌+◌, ◌-◌, ◌++◌, ◌∙◌, ap, length, take, drop, sym, [], ◌∷◌, arith, add-one}
 use Rattle.std.proofs.lemmas.List.{length-drop, length-take-le}
 use Rattle.std.proofs.Math.Nat.{suc-mul, mul-le-mul_right}
-use Rattle.fx_lists.proofs.Puts.{drop-put, pieces-put}
+use Rattle.fx_frame_lists.proofs.Puts.{drop-put, pieces-put}
 use Rattle.fx_cut.specs.Strides.{firsts}
 use Rattle.fx_cut.proofs.DownsampleMany.{firsts-more}
 use Rattle.fx_cut.proofs.Pieces.{put-piece}
@@ -21,20 +21,20 @@ groups-preserved c =
     let read = v.read in
     let written = v.written in
     let frames = v.frames in
-    let behind = v.behind in
-    let most : (i + 1) * stride ≤ c.args.groups * stride = mul-le-mul_right stride (omega (arith, c.groups-test.true)) in
+    let rest_unchanged = v.rest_unchanged in
+    let maximum : (i + 1) * stride ≤ c.args.groups * stride = mul-le-mul_right stride (omega (arith, c.groups-test.true)) in
     let here : (i + 1) * stride ≡ i * stride + stride = rw add-one (omega (arith, suc-mul i stride)) in
-    let least : 1 * ch ≤ stride = mul-le-mul_right ch c.requires.step in
-    let most' : (i + 1) * ch ≤ c.args.groups * ch = mul-le-mul_right ch (omega (arith, c.groups-test.true)) in
+    let minimum : 1 * ch ≤ stride = mul-le-mul_right ch c.requires.step in
+    let maximum' : (i + 1) * ch ≤ c.args.groups * ch = mul-le-mul_right ch (omega (arith, c.groups-test.true)) in
     let here' : (i + 1) * ch ≡ i * ch + ch = rw add-one (omega (arith, suc-mul i ch)) in
     let many : c.groups.read + ch - c.groups.read ≡ ch = omega arith in
     let is : f ≡ take ch (drop c.groups.read input) = c.copy_from_slice.ensures.after ∙ ap (λ n. take n (drop c.groups.read input)) many in
-    let inside : c.groups.read + ch ≤ length input = omega (arith, c.requires.input, most, here, least, read) in
+    let inside : c.groups.read + ch ≤ length input = omega (arith, c.requires.input, maximum, here, minimum, read) in
     let long : length f ≡ ch = ap length is ∙ length-take-le ch (drop c.groups.read input) (omega (arith, inside, length-drop c.groups.read input)) in
-    let room : at + ch ≤ length out = omega (arith, c.requires.output, most', here', written, c.groups.auto.output) in
+    let free : at + ch ≤ length out = omega (arith, c.requires.output, maximum', here', written, c.groups.auto.output) in
     record {
       read = omega (arith, here, read);
       written = omega (arith, here', written);
-      frames = pieces-put ch i at out f _ written long room (put-piece at ch out f long) ∙ ap (λ l. l ++ f ∷ []) frames ∙ ap (λ g. firsts ch c.args.step i input ++ g ∷ []) is ∙ sym (firsts-more ch c.args.step i c.groups.read input read);
-      behind = drop-put at ch c.args.output.now out f _ long room (put-piece at ch out f long) behind;
+      frames = pieces-put ch i at out f _ written long free (put-piece at ch out f long) ∙ ap (λ l. l ++ f ∷ []) frames ∙ ap (λ g. firsts ch c.args.step i input ++ g ∷ []) is ∙ sym (firsts-more ch c.args.step i c.groups.read input read);
+      rest_unchanged = drop-put at ch c.args.output.now out f _ long free (put-piece at ch out f long) rest_unchanged;
     }

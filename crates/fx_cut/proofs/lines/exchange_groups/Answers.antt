@@ -2,12 +2,12 @@ use Rattle.std.proofs.Common.{append_assoc, ◌≡◌, ◌+◌, ◌-◌, ◌*◌
 use Rattle.std.specs.Prelude.{ℤ}
 use Rattle.std.proofs.lemmas.List.{drop-drop, length-drop, length-take-le}
 use Rattle.std.proofs.Math.Nat.{add-mul, mul-le-mul_right}
-use Rattle.fx_step.specs.Frame.{Samples}
-use Rattle.fx_lists.specs.Lists.{pieces}
-use Rattle.fx_lists.proofs.Pieces.{length-pieces}
-use Rattle.fx_lists.proofs.Puts.{pieces-split, drop-put, pieces-take}
-use Rattle.fx_ring.specs.Line.{Frames}
-use Rattle.fx_ring.proofs.ManyFrames.{pieces-put_many}
+use Rattle.fx_frame_stage.specs.Frame.{Samples}
+use Rattle.fx_frame_lists.specs.Lists.{pieces}
+use Rattle.fx_frame_lists.proofs.Pieces.{length-pieces}
+use Rattle.fx_frame_lists.proofs.Puts.{pieces-split, drop-put, pieces-take}
+use Rattle.fx_frame_line.specs.Line.{Frames}
+use Rattle.fx_frame_line.proofs.ManyFrames.{pieces-put_many}
 use Rattle.fx_frame.specs.Tapped.{last_of}
 use Rattle.fx_frame.proofs.TapBlocks.{last-joined}
 use Rattle.fx_cut.proofs.Onto.{full-more}
@@ -29,12 +29,12 @@ groups-preserved c =
     let start : List ℤ = c.args.samples.now in
     let line : Frames ℤ = c.args.line.now in
     let items : List Samples = line.items in
-    let room : ℕ = line.capacity in
+    let free : ℕ = line.capacity in
     let out : List ℤ = c.groups.samples in
     let made : List ℤ = c.exchange_group.new.samples in
     let old = c.groups.invariant in
     let size = rw (← c.requires.channels) at c.requires.samples in
-    let full : length items ≡ room = c.requires.full (omega arith) in
+    let full : length items ≡ free = c.requires.full (omega arith) in
     let within : done + n ≤ c.args.count = omega arith in
     let all : (done + n) * ch ≤ c.args.count * ch = mul-le-mul_right ch within in
     let both : (done + n) * ch ≡ at + n * ch = add-mul done n ch in
@@ -46,7 +46,7 @@ groups-preserved c =
     let read : n * ch ≤ length (drop at start) = omega (arith, both, all, size, length-drop at start) in
     let more : pieces ch (done + n) start ≡ xs ++ ys = pieces-split ch done n start ∙ ap (λ ps. xs ++ ps) (sym (pieces-take ch n (drop at start) read)) in
     let fits : at + n * ch ≤ length out = omega (arith, both, all, size, c.groups.auto.samples) in
-    let ensured = rw (lined, width, old.behind) at c.exchange_group.ensures in
+    let ensured = rw (lined, width, old.rest_unchanged) at c.exchange_group.ensures in
     let kept = rw width at c.exchange_group.auto.samples in
     let sides : length made ≡ n * ch = kept ∙ length-take-le (n * ch) (drop at out) (omega (arith, fits, length-drop at out)) in
     let new : List ℤ = take at out ++ (made ++ drop (n * ch) (drop at out)) in
@@ -61,10 +61,10 @@ groups-preserved c =
           ∙ ap (λ ps. take done (items ++ xs) ++ ps) (ensured.oldest ∙ ap (λ l. take n (l ++ ys)) old.items)
           ∙ full-more line xs ys done n full (length-pieces ch done start) (length-pieces ch n part)
           ∙ sym (ap (λ ps. take (done + n) (items ++ ps)) more);
-      behind = rw both (drop-put at (n * ch) start out made new sides fits put old.behind);
+      rest_unchanged = rw both (drop-put at (n * ch) start out made new sides fits put old.rest_unchanged);
       items =
           ensured.items ∙ ap (λ k. last_of k (c.groups.line.items ++ ys)) old.line_capacity
-          ∙ ap (λ l. last_of room (l ++ ys)) old.items ∙ last-joined room items xs ys ∙ sym (ap (λ ps. last_of room (items ++ ps)) more);
+          ∙ ap (λ l. last_of free (l ++ ys)) old.items ∙ last-joined free items xs ys ∙ sym (ap (λ ps. last_of free (items ++ ps)) more);
       line_capacity = c.exchange_group.ensures.capacity ∙ old.line_capacity;
       line_channels = c.exchange_group.ensures.channels ∙ old.line_channels;
     }

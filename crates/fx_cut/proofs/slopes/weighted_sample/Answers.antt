@@ -25,7 +25,7 @@ pub round_within-requires-clause-small : goal.round_within-requires-clause-small
 round_within-requires-clause-small c =
     let prepared = rw c.in-Some.is at c.requires.prepared in
     let same : c.from-2.result ≡ c.args.sample = c.from-2.ensures ∙ to_z-of_z w32 c.args.sample c.ranges.sample in
-    let least = c.requires.weight.0 in
+    let minimum = c.requires.weight.0 in
     let product = small-product c.args.sample c.from-2.result c.args.over same c.ranges.sample (omega (arith, prepared.1)) in
     rw product.0 product.1
 
@@ -33,7 +33,7 @@ pub round_within-requires-clause-within : goal.round_within-requires-clause-with
 round_within-requires-clause-within c =
     let prepared = rw c.in-Some.is at c.requires.prepared in
     let same : c.from-2.result ≡ c.args.sample = c.from-2.ensures ∙ to_z-of_z w32 c.args.sample c.ranges.sample in
-    let least = c.requires.weight.0 in
+    let minimum = c.requires.weight.0 in
     let product = small-product c.args.sample c.from-2.result c.args.over same c.ranges.sample (omega (arith, prepared.1)) in
     rw (product.0, prepared.0) (not-clipped c.args.sample c.args.over c.args.under c.requires.weight.1 c.requires.weight.0 c.ranges.sample)
 
@@ -41,7 +41,7 @@ pub returns : goal.returns
 returns c =
     let prepared = rw c.in-Some.is at c.requires.prepared in
     let same : c.from-2.result ≡ c.args.sample = c.from-2.ensures ∙ to_z-of_z w32 c.args.sample c.ranges.sample in
-    let least = c.requires.weight.0 in
+    let minimum = c.requires.weight.0 in
     let product = small-product c.args.sample c.from-2.result c.args.over same c.ranges.sample (omega (arith, prepared.1)) in
     let k = rw (product.0, prepared.0) at c.round_within.ensures in
     let out : to_z w32 (of_z w32 c.round_within.result) ≡ c.round_within.result = search rules in

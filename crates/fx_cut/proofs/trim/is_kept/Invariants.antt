@@ -6,5 +6,5 @@ use Rattle.fx_cut.proofs.trim.is_kept.Given as goal
 abbrev pub invariant-positions : goal.invariant-positions
 invariant-positions l = record {
   counted : l.crossed + count_by (λ q. nat_le q l.place) (places_after l.frames l.last (drop l.at-index l.positions)) ≡ count_by (λ q. nat_le q l.place) (places_after l.frames 0 l.positions);
-  few : l.crossed ≤ l.at-index;
+  bound : l.crossed ≤ l.at-index;
 }

@@ -13,12 +13,12 @@ pub positions-preserved : goal.positions-preserved
 positions-preserved c =
     let i = c.positions.invariant in
     let next = c.max-next.ensures ∙ ap (λ m. max c.positions.last m) c.min.ensures in
-    let s = count-start c.args.positions.now c.positions.at-index c.positions.kept c.positions.last c.args.end c.in-Start.start c.max-next.result c.positions.is_kept c.positions-test.true c.in-Start.is i.within next i.few i.counted in
+    let s = count-start c.args.positions.now c.positions.at-index c.positions.kept c.positions.last c.args.end c.in-Start.start c.max-next.result c.positions.is_kept c.positions-test.true c.in-Start.is i.within next i.bound i.counted in
     let w = i.within in
     record {
       counted = rw c.kept_between-kept.ensures (s.0);
       within = omega arith;
-      few = rw c.kept_between-kept.ensures (s.1);
+      bound = rw c.kept_between-kept.ensures (s.1);
     }
 
 pub returns : goal.returns

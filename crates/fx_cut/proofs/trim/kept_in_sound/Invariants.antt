@@ -6,5 +6,5 @@ abbrev pub invariant-positions : goal.invariant-positions
 invariant-positions l = record {
   counted : l.kept + kept_from l.is_kept l.frames l.last l.end (drop l.at-index l.positions) ≡ kept_from false l.frames 0 l.end l.positions;
   within : l.last ≤ l.end;
-  few : l.kept ≤ l.last;
+  bound : l.kept ≤ l.last;
 }

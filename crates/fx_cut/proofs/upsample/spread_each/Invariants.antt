@@ -1,5 +1,5 @@
 use Rattle.std.proofs.Common.{◌≡◌, ◌*◌, drop}
-use Rattle.fx_lists.specs.Lists.{pieces}
+use Rattle.fx_frame_lists.specs.Lists.{pieces}
 use Rattle.fx_cut.specs.Strides.{spread}
 use Rattle.fx_cut.proofs.upsample.spread_each.Given as goal
 
@@ -8,5 +8,5 @@ invariant-frames l = record {
   read : l.read ≡ l._frame * l.channels;
   written : l.written ≡ l._frame * (l.factor * l.channels);
   frames : pieces l.channels (l._frame * l.factor) l.output ≡ spread l.channels l.factor l._frame l.input;
-  behind : drop l.written l.output ≡ drop l.written l.fn.output;
+  rest_unchanged : drop l.written l.output ≡ drop l.written l.fn.output;
 }

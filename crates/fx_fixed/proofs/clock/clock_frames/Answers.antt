@@ -12,21 +12,21 @@ returns-in_default c =
 
 pub returns-in-None : goal.returns-in-None
 returns-in-None c =
-    let few = c.in-Some.ensures.form.0 refl in
+    let bound = c.in-Some.ensures.form.0 refl in
     let value = c.from.ensures ∙ c.in-Some.ensures.value in
     c.end_of_clock.ensures
-    ∙ clock_ends c.args.rate c.loop-count.seconds c.loop-count._count c.loop-count.digits _ _ c.loop-count.rest.now c.in-Some.after.now c.loop-count-test.true few c.in-Some.ensures.rest c.in-None.ensures value refl
+    ∙ clock_ends c.args.rate c.loop-count.seconds c.loop-count._count c.loop-count.digits _ _ c.loop-count.rest.now c.in-Some.after.now c.loop-count-test.true bound c.in-Some.ensures.rest c.in-None.ensures value refl
     ∙ c.loop-count.invariant.value
 
 pub loop-count-preserved : goal.loop-count-preserved
 loop-count-preserved c =
-    let few = c.in-Some.ensures.form.0 refl in
+    let bound = c.in-Some.ensures.form.0 refl in
     let value = c.from.ensures ∙ c.in-Some.ensures.value in
     let small : c.from.result < 10 ^ 18 = omega (arith, c.in-Some.ensures.bound) in
     record {
-      value = clock_goes_on c.args.rate c.loop-count.seconds c.loop-count._count c.loop-count.digits _ _ c.loop-count.rest.now c.in-Some.after.now c.in-Some-after_byte.tail.now few c.in-Some.ensures.rest c.in-Some-after_byte.ensures value refl ∙ c.loop-count.invariant.value;
+      value = clock_goes_on c.args.rate c.loop-count.seconds c.loop-count._count c.loop-count.digits _ _ c.loop-count.rest.now c.in-Some.after.now c.in-Some-after_byte.tail.now bound c.in-Some.ensures.rest c.in-Some-after_byte.ensures value refl ∙ c.loop-count.invariant.value;
       seconds = seconds_more c.loop-count.seconds c.from.result c.loop-count._count c.loop-count.invariant.seconds small;
-      digits = omega (arith, run_size c.loop-count.rest.now c.in-Some.after.now c.in-Some.ensures.rest few);
+      digits = omega (arith, run_size c.loop-count.rest.now c.in-Some.after.now c.in-Some.ensures.rest bound);
     }
 
 pub returns : goal.returns

@@ -4,5 +4,5 @@ use Rattle.fx_fixed.proofs.reduced.size_of_weights.Given as goal
 abbrev pub invariant-weights : goal.invariant-weights
 invariant-weights l = record {
   sum : l.size ≡ sum_by unsigned_abs (take l.weight-index l.weights);
-  few : l.size ≤ l.weight-index * 2 ^ 31;
+  bound : l.size ≤ l.weight-index * 2 ^ 31;
 }

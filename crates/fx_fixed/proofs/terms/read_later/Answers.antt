@@ -1,7 +1,7 @@
 use Rattle.std.proofs.Common.{◌∙◌, arith, sym}
 use Rattle.fx_fixed.proofs.terms.read_later.Goals as goal
 use Rattle.fx_fixed.specs.Later.{frames_in}
-use Rattle.fx_fixed.proofs.Splitting.{added_next, fault_next, form_bad, form_next, frames_few, moved_few, taken_next}
+use Rattle.fx_fixed.proofs.Splitting.{added_next, fault_next, form_bad, form_next, frames_bound, moved_bound, taken_next}
 
 pub returns-in_err-later : goal.returns-in_err-later
 returns-in_err-later c =
@@ -21,7 +21,7 @@ loop-is_taken-preserved c =
     let shorter = next.shorter in
     let kept = c.loop-is_taken.invariant in
     let read = rw c.term_frames.ensures.value at c.in_ok-later.ensures in
-    let few = moved_few is_taken (frames_in c.term_frames.result) (frames_few c.term_frames.result c.term_frames.ensures.bound) in
+    let bound = moved_bound is_taken (frames_in c.term_frames.result) (frames_bound c.term_frames.result c.term_frames.ensures.bound) in
     let added = c.in_ok-later.ensures.added in
     let taken = c.in_ok-later.ensures.taken in
     record {
@@ -31,6 +31,6 @@ loop-is_taken-preserved c =
       fault = rw read.fault (fault_next rate rest after term is_taken before.fault next ∙ kept.fault);
       added = rw read.added (added_next rate rest after term is_taken before.added next ∙ kept.added);
       taken = rw read.taken (taken_next rate rest after term is_taken before.taken next ∙ kept.taken);
-      added_bound = omega (arith, added, few.0, shorter, kept.added_bound);
-      taken_bound = omega (arith, taken, few.1, shorter, kept.taken_bound);
+      added_bound = omega (arith, added, bound.0, shorter, kept.added_bound);
+      taken_bound = omega (arith, taken, bound.1, shorter, kept.taken_bound);
     }

@@ -1,6 +1,6 @@
 use Rattle.std.proofs.Common.{◌≡◌, ◌+◌, ◌≤◌, length}
 use Rattle.fx_plan.specs.CommandLines.{coefficient_files}
-use Rattle.fx_words.specs.Faults.{texts}
+use Rattle.fx_plan_words.specs.Faults.{word_texts}
 use Rattle.fx_plan.specs.Groups.{effects_of}
 use Rattle.fx_plan.proofs.listing.count_files.Given as goal
 
@@ -9,6 +9,6 @@ decreases-loop-effect l = length l.rest
 
 abbrev pub invariant-loop-effect : goal.invariant-loop-effect
 invariant-loop-effect l = record {
-  value : l.count + length (coefficient_files (effects_of (texts l.rest))) ≡ length (coefficient_files (effects_of (texts l.words)));
+  value : l.count + length (coefficient_files (effects_of (word_texts l.rest))) ≡ length (coefficient_files (effects_of (word_texts l.words)));
   counted : l.count + length l.rest ≤ length l.words;
 }

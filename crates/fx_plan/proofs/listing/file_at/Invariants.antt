@@ -1,6 +1,6 @@
 use Rattle.std.proofs.Common.{◌≡◌, length, slice_get}
 use Rattle.fx_plan.specs.CommandLines.{coefficient_files}
-use Rattle.fx_words.specs.Faults.{texts}
+use Rattle.fx_plan_words.specs.Faults.{word_texts}
 use Rattle.fx_plan.specs.Groups.{effects_of}
 use Rattle.fx_plan.proofs.listing.file_at.Given as goal
 
@@ -9,4 +9,4 @@ decreases-loop-effect l = length l.rest
 
 abbrev pub invariant-loop-effect : goal.invariant-loop-effect
 invariant-loop-effect l =
-    slice_get (coefficient_files (effects_of (texts l.rest))) l.left ≡ slice_get (coefficient_files (effects_of (texts l.words))) l.place
+    slice_get (coefficient_files (effects_of (word_texts l.rest))) l.left ≡ slice_get (coefficient_files (effects_of (word_texts l.words))) l.place

@@ -1,5 +1,5 @@
 use Rattle.std.proofs.Common.{◌≡◌, ◌++◌, length, map}
-use Rattle.fx_effects.specs.Effects.{act}
+use Rattle.fx_plan_effects.specs.Effects.{act}
 use Rattle.fx_plan.proofs.planned.copy_effects.Given as goal
 
 abbrev pub decreases-loop-effect : goal.decreases-loop-effect

@@ -1,7 +1,7 @@
 use Rattle.std.proofs.Common.{◌≡◌, ◌+◌, ◌-◌, ◌*◌, [], ◌∷◌, ◌++◌, take, drop, ap, ◌∙◌, sym, arith, rules, w32, to_z, of_z}
 use Rattle.std.proofs.lemmas.List.{take_more_set}
-use Rattle.fx_io.specs.Coding.{width_of, read_sample}
-use Rattle.fx_heads.specs.FrameCoding.{samples_of}
+use Rattle.fx_frame_io.specs.Coding.{width_of, read_sample}
+use Rattle.fx_sound_heads.specs.FrameCoding.{coded_samples}
 use Rattle.fx_sound.proofs.FrameBytes.{samples_of-more}
 use Rattle.fx_sound.proofs.bulk.decode_as.Goals as goal
 
@@ -15,5 +15,5 @@ samples-preserved c =
     let store : to_z w32 (of_z w32 c.read.result) ≡ c.read.result = search rules in
     rw store record {
       front = take_more_set _ _ _ (omega arith) ∙ ap (λ l. l ++ c.read.result ∷ []) c.samples.invariant.front
-          ∙ ap (λ s. samples_of c.args.coding c.samples.k c.args.bytes.now ++ s ∷ []) sample ∙ sym (samples_of-more c.args.coding c.samples.k c.args.bytes.now);
+          ∙ ap (λ s. coded_samples c.args.coding c.samples.k c.args.bytes.now ++ s ∷ []) sample ∙ sym (samples_of-more c.args.coding c.samples.k c.args.bytes.now);
     }

@@ -1,6 +1,6 @@
 use Rattle.std.proofs.Common.{◌≡◌, take}
-use Rattle.fx_heads.specs.FrameCoding.{samples_of}
+use Rattle.fx_sound_heads.specs.FrameCoding.{coded_samples}
 use Rattle.fx_sound.proofs.bulk.decode_as.Given as goal
 
 abbrev pub invariant-samples : goal.invariant-samples
-invariant-samples l = record { front : take l.k l.samples ≡ samples_of l.coding l.k l.bytes }
+invariant-samples l = record { front : take l.k l.samples ≡ coded_samples l.coding l.k l.bytes }

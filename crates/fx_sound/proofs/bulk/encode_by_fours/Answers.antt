@@ -1,9 +1,9 @@
 use Rattle.std.proofs.Common.{◌≡◌, ◌+◌, ◌-◌, ◌*◌, ◌/◌, ℕ, length, take, drop, ap, ◌∙◌, sym, arith}
 use Rattle.std.proofs.lemmas.List.{append-nil, drop_all, length-take, take_all}
 use Rattle.std.proofs.lemmas.List.Sums.{count_by-le-length}
-use Rattle.fx_io.specs.Coding.{clips_written, width_of}
-use Rattle.fx_step.specs.Frame.{Samples}
-use Rattle.fx_heads.specs.FrameCoding.{bytes_of, clips_of}
+use Rattle.fx_frame_io.specs.Coding.{clips_written, width_of}
+use Rattle.fx_frame_stage.specs.Frame.{Samples}
+use Rattle.fx_sound_heads.specs.FrameCoding.{bytes_of, clips_of}
 use Rattle.fx_sound.proofs.FrameBytes.{bytes_of-piece, clips_of-part}
 use Rattle.fx_sound.proofs.bulk.encode_by_fours.Goals as goal
 
@@ -21,7 +21,7 @@ fours-preserved c =
       written = bytes_of-piece coding xs c.args.out.now c.fours.out c.write_four-four.new.out (4 * k) 4 _ _ (omega arith) at size c.fours.invariant.written
           (c.write_four-four.ensures.bytes ∙ ap (λ m. bytes_of coding (take m (drop (4 * k) xs))) cut);
       counted = ap (λ m. m + c.from-clips.result) c.fours.invariant.counted ∙ ap (λ m. clips_of coding (take (4 * k) xs) + m) clips ∙ sym (clips_of-part coding xs (4 * k) 4);
-      few = omega (arith, c.fours.invariant.few, clips, count_by-le-length (clips_written coding) (take 4 (drop (4 * k) xs)), length-take 4 (drop (4 * k) xs));
+      bound = omega (arith, c.fours.invariant.bound, clips, count_by-le-length (clips_written coding) (take 4 (drop (4 * k) xs)), length-take 4 (drop (4 * k) xs));
     }
 
 pub returns-clause-bytes : goal.returns-clause-bytes
@@ -36,7 +36,7 @@ returns-clause-bytes c =
     let at : 3 * done ≡ done * width_of coding = rw c.requires.width (omega arith) in
     let size : length c.fours.out - 3 * done ≡ left * width_of coding = rw c.requires.width (omega (arith, all)) in
     let none : drop (length xs * width_of coding) c.args.out.now ≡ drop (length c.args.out.now) c.args.out.now = ap (λ m. drop m c.args.out.now) (sym c.requires.bytes) in
-    bytes_of-piece coding xs c.args.out.now c.fours.out c.encode_few-left.new.out done left _ _ (omega arith) at size (rw end at c.fours.invariant.written) c.encode_few-left.ensures.bytes
+    bytes_of-piece coding xs c.args.out.now c.fours.out c.encode_batch-left.new.out done left _ _ (omega arith) at size (rw end at c.fours.invariant.written) c.encode_batch-left.ensures.bytes
     ∙ rw (whole, none, drop_all (length c.args.out.now) c.args.out.now (omega arith), take_all (length xs) xs (omega arith)) (append-nil (bytes_of coding xs))
 
 pub returns-clause-clips : goal.returns-clause-clips
@@ -47,5 +47,5 @@ returns-clause-clips c =
     let left : ℕ = length xs - done in
     let end : 4 * c.fours.k ≡ done = omega arith in
     let whole : take (done + left) xs ≡ xs = take_all (done + left) xs (omega arith) in
-    ap (λ m. m + c.from.result) (rw end at c.fours.invariant.counted) ∙ ap (λ m. clips_of coding (take done xs) + m) (c.from.ensures ∙ c.encode_few-left.ensures.clips)
+    ap (λ m. m + c.from.result) (rw end at c.fours.invariant.counted) ∙ ap (λ m. clips_of coding (take done xs) + m) (c.from.ensures ∙ c.encode_batch-left.ensures.clips)
     ∙ sym (clips_of-part coding xs done left) ∙ ap (clips_of coding) whole

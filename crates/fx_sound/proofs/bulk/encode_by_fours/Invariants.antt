@@ -1,11 +1,11 @@
 use Rattle.std.proofs.Common.{◌≡◌, ◌≤◌, ◌*◌, ◌++◌, take, drop}
-use Rattle.fx_io.specs.Coding.{width_of}
-use Rattle.fx_heads.specs.FrameCoding.{bytes_of, clips_of}
+use Rattle.fx_frame_io.specs.Coding.{width_of}
+use Rattle.fx_sound_heads.specs.FrameCoding.{bytes_of, clips_of}
 use Rattle.fx_sound.proofs.bulk.encode_by_fours.Given as goal
 
 abbrev pub invariant-fours : goal.invariant-fours
 invariant-fours l = record {
   written : l.out ≡ bytes_of l.coding (take (4 * l.k) l.samples) ++ drop (4 * l.k * width_of l.coding) l.initial.out;
   counted : l.clips ≡ clips_of l.coding (take (4 * l.k) l.samples);
-  few : l.clips ≤ 4 * l.k;
+  bound : l.clips ≤ 4 * l.k;
 }

@@ -1,5 +1,5 @@
 use Rattle.std.proofs.Common.{◌≡◌, ◌≤◌, length, ap, ◌∙◌, arith}
-use Rattle.fx_heads.specs.FrameCoding.{samples_of}
+use Rattle.fx_sound_heads.specs.FrameCoding.{coded_samples}
 use Rattle.fx_sound.specs.Sound.{size_of}
 use Rattle.fx_sound.proofs.Sounds.{TakesFrame-held}
 use Rattle.fx_sound.proofs.progress.take_frame.Goals as goal
@@ -7,7 +7,7 @@ use Rattle.fx_sound.proofs.progress.take_frame.Goals as goal
 pub returns-clause-frame : goal.returns-clause-frame
 returns-clause-frame g c =
     let size : c.progress.inside.size ≡ size_of c.args.progress.now = c.progress.invariant.2 ∙ ap size_of c.progress.view_is in
-    let samples = c.decoded-frame.ensures.samples ∙ ap (λ p. samples_of p.coding p.channels c.peek.result.now) c.progress.view_is in
+    let samples = c.decoded-frame.ensures.samples ∙ ap (λ p. coded_samples p.coding p.channels c.peek.result.now) c.progress.view_is in
     let there : c.progress.inside.size ≤ length c.args.source.now.bytes = omega arith in
     TakesFrame-held g.R.ReadBeside.reads.rest c.args.progress.now c.args.source.now c.args.source.now c.let_go-2.new.self c.wanted.result c.progress.inside.size _ _
     (λ bytes known. known) size c.wanted.ensures.value (omega arith) there c.peek.ensures samples c.let_go-2.ensures.bytes c.let_go-2.ensures.reader

@@ -1,12 +1,12 @@
 use Rattle.std.proofs.Common.{◌≡◌, false, refl, ℕ, ◌+◌, ◌*◌, ◌++◌, ◌∷◌, [], drop, take, sym, ap, ◌∙◌, arith, rules}
 use Rattle.std.specs.Prelude.{Ok, Err, OnErr, Result}
-use Rattle.fx_heads.specs.FrameCoding.{samples_of}
+use Rattle.fx_sound_heads.specs.FrameCoding.{coded_samples}
 use Rattle.fx_sound.specs.Container.{after_frames, first_frames}
-use Rattle.fx_sound.proofs.RunLaws.{after_frames-more, Ran-behind, Ran-turn, Ran-end, Ran-whole, Ran-failed, first_frames-more, first_frames-within}
-use Rattle.fx_sound.specs.Sound.{Reading, size_of, within, after_frame}
+use Rattle.fx_sound.proofs.RunLaws.{after_frames-more, Ran-rest_unchanged, Ran-turn, Ran-end, Ran-whole, Ran-failed, first_frames-more, first_frames-within}
+use Rattle.fx_sound.specs.Sound.{Reading, size_of, within_sound, after_frame}
 use Rattle.fx_sound.specs.declared.progress.ReadFault.TheVariants.{ReadFailed, TooLong}
 use Rattle.fx_sound.proofs.sound.read_frames.Goals as goal
-use Rattle.fx_heads.proofs.Held.{HoldsWhatCame-behind, Takes-both}
+use Rattle.fx_sound_heads.proofs.Held.{HoldsWhatCame-rest_of_head, Takes-both}
 use Rattle.fx_sound.specs.Fault.{is_sound_read_failed}
 use Rattle.fx_sound.specs.declared.progress.ReadFault.{ReadFault}
 use Rattle.fx_sound.specs.declared.sound.SoundFault.TheVariants.{Read}
@@ -52,7 +52,7 @@ returns-in-Ok-None-clause-frames g c = λ bytes known.
     let ran = old.ran bytes known in
     let end = Ran-end p c.loop-turn.progress c.next_frame.new.progress bytes n _ ran (next.end (ap (λ q. q.over) old.now ∙ c.requires.begun) (drop (n * size_of p) bytes) ran.to_come_is) in
     old.items bytes known ∙ sym (first_frames-within p.coding p.channels n p.left bytes ran.whole)
-    ∙ ap (λ m. first_frames p.coding p.channels m (within p.left bytes)) end.0
+    ∙ ap (λ m. first_frames p.coding p.channels m (within_sound p.left bytes)) end.0
 
 pub returns-in-Ok-None-clause-end : goal.returns-in-Ok-None-clause-end
 returns-in-Ok-None-clause-end g c = λ bytes known.
@@ -70,7 +70,7 @@ returns-in-Ok-None-clause-left g c = λ bytes known.
     let n : ℕ = c.loop-turn._turn in
     let next = rw c.in-Ok-None.field-0-is at c.in-Ok-None.ensures in
     let ran = old.ran bytes known in
-    Ran-behind p c.loop-turn.progress bytes n _ _ ran (next.left (ap (λ q. q.over) old.now ∙ c.requires.begun) (drop (n * size_of p) bytes) ran.to_come_is)
+    Ran-rest_unchanged p c.loop-turn.progress bytes n _ _ ran (next.left (ap (λ q. q.over) old.now ∙ c.requires.begun) (drop (n * size_of p) bytes) ran.to_come_is)
 
 pub returns-in-Err-clause-read_failed : goal.returns-in-Err-clause-read_failed
 returns-in-Err-clause-read_failed g c = λ e.
@@ -79,7 +79,7 @@ returns-in-Err-clause-read_failed g c = λ e.
     let is : c.in-Err.fault ≡ ReadFailed = cc in
     let none : p.frames + c.loop-turn._turn ≡ c.loop-turn._turn = omega (arith, c.requires.fresh) in
     let count : c.next_frame.new.progress.frames ≡ c.loop-turn._turn = ap (λ q. q.frames) c.in-Err.ensures.err ∙ ap (λ q. q.frames) old.now ∙ none in
-    rw count (Ran-failed g.R.ByteIn.reads.told p c.loop-turn.progress c.loop-turn._turn c.args.source.now c.loop-turn.source c.next_frame.new.source.reader old.now old.told (c.in-Err.ensures.read_failed (ap Err is)))
+    rw count (Ran-failed g.R.ByteIn.reads.delivered p c.loop-turn.progress c.loop-turn._turn c.args.source.now c.loop-turn.source c.next_frame.new.source.reader old.now old.delivered (c.in-Err.ensures.read_failed (ap Err is)))
 
 pub returns-in-Err-clause-came : goal.returns-in-Err-clause-came
 returns-in-Err-clause-came g c = λ e bytes known.
@@ -88,7 +88,7 @@ returns-in-Err-clause-came g c = λ e bytes known.
     let is : c.in-Err.fault ≡ ReadFailed = cc in
     let none : c.args.progress.now.frames + c.loop-turn._turn ≡ c.loop-turn._turn = omega (arith, c.requires.fresh) in
     let count : c.next_frame.new.progress.frames ≡ c.loop-turn._turn = ap (λ q. q.frames) c.in-Err.ensures.err ∙ ap (λ q. q.frames) old.now ∙ none in
-    rw count (HoldsWhatCame-behind g.R.ByteIn.reads.told c.args.source.now c.loop-turn.source c.next_frame.new.source bytes size old.told (c.in-Err.ensures.came (ap Err is) (drop size bytes) (old.ran bytes known).to_come_is))
+    rw count (HoldsWhatCame-rest_of_head g.R.ByteIn.reads.delivered c.args.source.now c.loop-turn.source c.next_frame.new.source bytes size old.delivered (c.in-Err.ensures.came (ap Err is) (drop size bytes) (old.ran bytes known).to_come_is))
 
 pub returns-in-Err-clause-stands : goal.returns-in-Err-clause-stands
 returns-in-Err-clause-stands g c = λ no bytes known.
@@ -102,11 +102,11 @@ returns-in-Err-clause-too_long g c = λ e bytes known.
     let old = c.loop-turn.invariant in
     let p : Reading = c.args.progress.now in
     let is : c.in-Err.fault ≡ TooLong = cc in
-    let most = c.in-Err.ensures.too_long (ap Err is) in
+    let maximum = c.in-Err.ensures.too_long (ap Err is) in
     let ran = old.ran bytes known in
-    let whole = Ran-whole p c.loop-turn.progress bytes c.loop-turn._turn _ ran (most.1 (drop (c.loop-turn._turn * size_of p) bytes) ran.to_come_is) in
+    let whole = Ran-whole p c.loop-turn.progress bytes c.loop-turn._turn _ ran (maximum.1 (drop (c.loop-turn._turn * size_of p) bytes) ran.to_come_is) in
     let none : p.frames + c.loop-turn._turn ≡ c.loop-turn._turn = omega (arith, c.requires.fresh) in
-    let count : c.loop-turn._turn ≡ 1099511627776 = sym none ∙ sym (ap (λ q. q.frames) old.now) ∙ most.0 in
+    let count : c.loop-turn._turn ≡ 1099511627776 = sym none ∙ sym (ap (λ q. q.frames) old.now) ∙ maximum.0 in
     rw count at whole
 
 pub loop-turn-preserved : goal.loop-turn-preserved
@@ -121,7 +121,7 @@ loop-turn-preserved g c =
     let pushed : c.push.new.self.items ≡ c.loop-turn.frames.items ++ c.in-Ok-Some.frame ∷ [] = search rules in
     record {
       now = next.counted ∙ ap after_frame old.now ∙ after_frames-more p n;
-      most = next.most;
+      maximum = next.maximum;
       failures = next.failures ∙ old.failures;
       ran = λ bytes known.
           let ran = old.ran bytes known in
@@ -129,9 +129,9 @@ loop-turn-preserved g c =
       items = λ bytes known.
           let ran = old.ran bytes known in
           let taken = next.frame (drop (n * size) bytes) ran.to_come_is in
-          let frame : c.in-Ok-Some.frame ≡ samples_of p.coding p.channels (take size (drop (n * size) bytes)) =
-          taken.samples ∙ ap (λ q. samples_of q.coding q.channels (take (size_of q) (drop (n * size) bytes))) old.now in
+          let frame : c.in-Ok-Some.frame ≡ coded_samples p.coding p.channels (take size (drop (n * size) bytes)) =
+          taken.samples ∙ ap (λ q. coded_samples q.coding q.channels (take (size_of q) (drop (n * size) bytes))) old.now in
           pushed ∙ ap (λ l. l ++ c.in-Ok-Some.frame ∷ []) (old.items bytes known)
           ∙ ap (λ f. first_frames p.coding p.channels n bytes ++ f ∷ []) frame ∙ sym (first_frames-more p.coding p.channels n bytes);
-      told = Takes-both g.R.ByteIn.reads.told c.args.source.now c.loop-turn.source c.next_frame.new.source (n * size) (size_of c.loop-turn.progress) _ more old.told next.told;
+      delivered = Takes-both g.R.ByteIn.reads.delivered c.args.source.now c.loop-turn.source c.next_frame.new.source (n * size) (size_of c.loop-turn.progress) _ more old.delivered next.delivered;
     }

@@ -1,7 +1,7 @@
 use Rattle.std.proofs.Common.{◌∙◌, ap}
-use Rattle.fx_line.specs.Line.{texts}
-use Rattle.fx_plan.specs.Plans.{bytes_of}
-use Rattle.soxchain.specs.Telling.{Tells}
+use Rattle.fx_plan_line.specs.Line.{texts}
+use Rattle.fx_plan.specs.Plans.{plan_bytes}
+use Rattle.soxchain.specs.MessageWriter.{WritesMessage}
 use Rattle.soxchain.proofs.Concluding.{concluded, refused}
 use Rattle.soxchain.proofs.Converting.{held-is}
 use Rattle.soxchain.proofs.conversion.convert.Goals as goal
@@ -9,24 +9,24 @@ use Rattle.soxchain.proofs.conversion.convert.Goals as goal
 pub returns-in-Err : goal.returns-in-Err
 returns-in-Err g c =
     let new = c.new-source.ensures in
-    rw (c.none.ensures) (refused g.R.ByteIn.reads g.W.ByteOut.writes (texts c.args.words.now) (bytes_of c.args.files.now) c.args.reader
-    (Tells g.M.ByteOut.writes c.args.messages.now c.prepare.new.messages)
+    rw (c.none.ensures) (refused g.R.ByteIn.reads g.W.ByteOut.writes (texts c.args.words.now) (plan_bytes c.args.files.now) c.args.reader
+    (WritesMessage g.M.ByteOut.writes c.args.messages.now c.prepare.new.messages)
     c.prepare.new.source c.args.output.now c.into_inner.result c.in-Err.status c.into_inner.ensures (rw (held-is c.new-source.result c.args.reader new.bytes new.reader new.short) at c.in-Err.ensures.refused))
 
 pub returns : goal.returns
 returns g c =
     let new = c.new-source.ensures in
-    let told = c.in-Ok.ensures in
+    let delivered = c.in-Ok.ensures in
     let start = held-is c.new-source.result c.args.reader new.bytes new.reader new.short in
-    concluded g.R.ByteIn.reads g.W.ByteOut.writes (texts c.args.words.now) (bytes_of c.args.files.now) c.args.reader
-    (Tells g.M.ByteOut.writes c.args.messages.now c.finish-status.new.messages)
+    concluded g.R.ByteIn.reads g.W.ByteOut.writes (texts c.args.words.now) (plan_bytes c.args.files.now) c.args.reader
+    (WritesMessage g.M.ByteOut.writes c.args.messages.now c.finish-status.new.messages)
     c.prepare.new.source c.finish-status.new.source c.in-Ok.ready c.args.output.now c.finish-status.new.output c.into_inner-2.result c.finish-status.result.0 c.finish-status.result.1
     (record {
-      line = told.line;
-      head = rw start at told.head;
-      no_faults = told.no_faults;
-      planned = told.planned;
-      chain = told.chain;
-      unfailed = told.unfailed ∙ ap g.R.ByteIn.reads.failures new.reader;
+      line = delivered.line;
+      head = rw start at delivered.head;
+      no_faults = delivered.no_faults;
+      planned = delivered.planned;
+      chain = delivered.chain;
+      unfailed = delivered.unfailed ∙ ap g.R.ByteIn.reads.failures new.reader;
     })
-    (rw (told.silent) at c.finish-status.ensures) c.into_inner-2.ensures
+    (rw (delivered.silent) at c.finish-status.ensures) c.into_inner-2.ensures

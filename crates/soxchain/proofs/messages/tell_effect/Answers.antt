@@ -1,4 +1,4 @@
-use Rattle.soxchain.proofs.TellingLemmas.{Says-then}
+use Rattle.soxchain.proofs.MessageWriterLemmas.{Says-then}
 use Rattle.soxchain.proofs.messages.tell_effect.Goals as goal
 
 pub returns : goal.returns

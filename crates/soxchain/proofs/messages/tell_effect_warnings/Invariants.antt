@@ -7,7 +7,7 @@ use Rattle.soxchain.proofs.messages.tell_effect_warnings.Given as goal
 abbrev pub invariant-loop-place : goal.invariant-loop-place
 invariant-loop-place g l = record {
   within : l.place ≤ l.count;
-  told : Says g.M.ByteOut.writes l.fn.telling l.telling (effect_warnings (effects_in l.line) l.clips l.place);
+  delivered : Says g.M.ByteOut.writes l.fn.message_writer l.message_writer (effect_warnings (effects_in l.line) l.clips l.place);
 }
 
 abbrev pub decreases-loop-place : goal.decreases-loop-place

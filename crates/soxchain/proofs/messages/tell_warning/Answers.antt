@@ -1,5 +1,5 @@
 use Rattle.std.proofs.Common.{◌<◌, arith}
-use Rattle.soxchain.proofs.TellingLemmas.{warning-counted}
+use Rattle.soxchain.proofs.MessageWriterLemmas.{warning-counted}
 use Rattle.soxchain.proofs.messages.tell_warning.Goals as goal
 
 pub returns : goal.returns

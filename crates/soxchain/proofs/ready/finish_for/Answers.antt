@@ -1,6 +1,6 @@
 use Rattle.std.proofs.Common.{refl}
 use Rattle.std.specs.Prelude.{Ok, Err}
-use Rattle.fx_run.specs.Report.{cause_of}
+use Rattle.fx_chain_run.specs.Report.{cause_of}
 use Rattle.soxchain.proofs.Converting.{HasCause-map, ReadFirst-new, SourceStands-run, wants-new}
 use Rattle.soxchain.proofs.ready.finish_for.Goals as goal
 
@@ -17,7 +17,7 @@ returns-in-Ok g c = record {
   causes = c.in-Ok.ensures.causes;
   status_is = refl;
   report_is = refl;
-  told_is = c.tell_warnings.ensures;
+  delivered_is = c.tell_warnings.ensures;
 }
 
 pub returns : goal.returns
@@ -27,14 +27,14 @@ returns g c =
       outcome = Err c.in-Err.fault;
       ran = c.in-Err.ensures.ran c.requires;
       stands = λ bytes known.
-          SourceStands-run g.R.ByteIn.reads c.args.source.now c.run.new.source c.args.prepared.plan.head bytes _ _ (λ before. (before.0, ReadFirst-new g.R.ByteIn.reads.told _ _ c.requires _ _ _ _ _ before.1)) (Err c.in-Err.fault) (rw (c.requires.plan) at (c.in-Err.ensures.stands bytes known));
+          SourceStands-run g.R.ByteIn.reads c.args.source.now c.run.new.source c.args.prepared.plan.head bytes _ _ (λ before. (before.0, ReadFirst-new g.R.ByteIn.reads.delivered _ _ c.requires _ _ _ _ _ before.1)) (Err c.in-Err.fault) (rw (c.requires.plan) at (c.in-Err.ensures.stands bytes known));
       all_flushed = tt;
       due_flushed = c.in-Err.ensures.due_flushed;
       read_failed = rw (c.requires.plan) at c.in-Err.ensures.read_failed;
       wants = wants-new _ _ c.requires _ c.in-Err.ensures.wants;
       work = rw (c.requires.plan) at c.in-Err.ensures.work;
-      causes = HasCause-map _ _ (ReadFirst-new g.R.ByteIn.reads.told _ _ c.requires _ _ _ _ _) (cause_of c.in-Err.fault) _ _ _ _ caused;
+      causes = HasCause-map _ _ (ReadFirst-new g.R.ByteIn.reads.delivered _ _ c.requires _ _ _ _ _) (cause_of c.in-Err.fault) _ _ _ _ caused;
       status_is = refl;
       report_is = c.report.ensures;
-      told_is = c.tell_fault.ensures;
+      delivered_is = c.tell_fault.ensures;
     }

@@ -14,5 +14,5 @@ returns-in-Err-clause-refused g c =
       chain_refused = λ e. refused.chain_refused (ap (λ (r : Refusal). Err r) e);
       cause = refused.failures;
       status_is = c.status.ensures;
-      told = c.tell_refusal.ensures;
+      delivered = c.tell_refusal.ensures;
     }

@@ -1,4 +1,4 @@
 use Rattle.soxchain.proofs.ready.refuse_line.Goals as goal
 
-pub returns-clause-told : goal.returns-clause-told
-returns-clause-told g c = rw (c.label_of_line.ensures) at c.tell_line.ensures
+pub returns-clause-delivered : goal.returns-clause-delivered
+returns-clause-delivered g c = rw (c.label_of_line.ensures) at c.tell_line.ensures

@@ -2,7 +2,7 @@ use Rattle.std.proofs.Common.{◌≡◌, [], ap, refl, sym, ◌∙◌, Some}
 use Rattle.std.proofs.lemmas.Int.{to_z-of_z}
 use Rattle.std.specs.Int.{w32}
 use Rattle.soxchain_c.proofs.Conversions.{concludes-more, converted-bytes}
-use Rattle.soxchain_c.proofs.Telling.{told-bytes}
+use Rattle.soxchain_c.proofs.MessageWriter.{delivered-bytes}
 use Rattle.soxchain_c.proofs.conversion.convert_asked.Goals as goal
 
 pub returns : goal.returns
@@ -20,6 +20,6 @@ returns c =
       concludes = rw (sym c.deref-2.ensures.value) (concludes-more _ _ e.0
           (λ line outcome converted. converted-bytes _ _ line _ _ _ _ _ outcome c.args.input.now c.into_inner.result.items (λ r. refl) (ap Some c.new-2.ensures.left) (ap Some before) (ap Some after) converted)
           (λ untouched. sym after ∙ ap (λ o. o.inner.items) untouched.1 ∙ before)
-          (λ text told. told-bytes c.convert-status.new.messages.failures _ text c.into_text.ensures.long (rw (silent, said, c.new-messages.ensures.failures) at told))
+          (λ text delivered. delivered-bytes c.convert-status.new.messages.failures _ text c.into_text.ensures.long (rw (silent, said, c.new-messages.ensures.failures) at delivered))
           e.2);
     }

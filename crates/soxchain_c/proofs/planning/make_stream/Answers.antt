@@ -1,14 +1,14 @@
 use Rattle.std.proofs.Common.{◌≡◌, ◌∙◌, ap, inl, inr, rules}
-use Rattle.soxchain.proofs.TellingLemmas.{Tells-said}
+use Rattle.soxchain.proofs.MessageWriterLemmas.{Tells-said}
 use Rattle.soxchain.specs.Program.{status_of_line}
-use Rattle.fx_line.specs.Line.{texts}
+use Rattle.fx_plan_line.specs.Line.{texts}
 use Rattle.soxchain_c.specs.Making.{stream_line}
 use Rattle.soxchain_c.proofs.planning.make_stream.Goals as goal
 
 pub returns-in-Err-clause-refused : goal.returns-in-Err-clause-refused
 returns-in-Err-clause-refused g c = inr (
   c.status_of_fault.ensures ∙ ap status_of_line c.in-Err.ensures.memory,
-  Tells-said g.M.ByteOut.writes _ _ _ _ _ c.new-telling.ensures (search rules) (rw (c.label_of_line.ensures, c.in-Err.ensures.memory) at c.tell_line.ensures),
+  Tells-said g.M.ByteOut.writes _ _ _ _ _ c.new-message_writer.ensures (search rules) (rw (c.label_of_line.ensures, c.in-Err.ensures.memory) at c.tell_line.ensures),
 )
 
 pub returns-clause-refused : goal.returns-clause-refused
@@ -18,5 +18,5 @@ returns-clause-refused g c =
       refusal = c.in-Err-stream_of.refusal;
       is = rw line at c.in-Err-stream_of.ensures.refused;
       status_is = c.status.ensures;
-      told = Tells-said g.M.ByteOut.writes _ _ _ _ _ c.new-telling.ensures (search rules) (rw line at c.tell_refusal.ensures);
+      delivered = Tells-said g.M.ByteOut.writes _ _ _ _ _ c.new-message_writer.ensures (search rules) (rw line at c.tell_refusal.ensures);
     })

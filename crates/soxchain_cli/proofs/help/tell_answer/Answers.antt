@@ -14,4 +14,4 @@ pub returns-else-is_whole : goal.returns-else-is_whole
 returns-else-is_whole g c =
     Cut c.output-output.new.self c.output-output.result c.write_whole-is_whole.new.writer c.output-output.ensures.output c.output-output.ensures.fresh
     (rw (c.as_bytes.ensures.value) at (c.write_whole-is_whole.ensures.front c.if-is_whole.false))
-    c.leave.ensures c.cannot_open.ensures.status c.cannot_open.ensures.told
+    c.leave.ensures c.cannot_open.ensures.status c.cannot_open.ensures.delivered

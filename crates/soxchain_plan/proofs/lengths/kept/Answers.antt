@@ -14,9 +14,9 @@ loop-position-preserved c =
     let i = c.loop-position.invariant in
     let last : c.max-to.result ≡ max c.loop-position.from c.min.result = c.max-to.ensures in
     let next = last ∙ ap (λ m. max c.loop-position.from m) (c.min.ensures ∙ ap (λ p. min c.args.frames p) c.place.ensures) in
-    let s = whole-more c.args.positions.now c.args.frames c.loop-position.position-index c.loop-position.kept c.loop-position.from c.args.frames c.max-to.result _ c.loop-position.is_keeping c.loop-position-test.true refl i.within next i.few i.counted in
+    let s = whole-more c.args.positions.now c.args.frames c.loop-position.position-index c.loop-position.kept c.loop-position.from c.args.frames c.max-to.result _ c.loop-position.is_keeping c.loop-position-test.true refl i.within next i.bound i.counted in
     record {
       counted = rw c.between-kept.ensures (s.0);
       within = let w = i.within in omega arith;
-      few = rw c.between-kept.ensures (s.1);
+      bound = rw c.between-kept.ensures (s.1);
     }

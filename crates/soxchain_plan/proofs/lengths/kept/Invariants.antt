@@ -6,5 +6,5 @@ abbrev pub invariant-loop-position : goal.invariant-loop-position
 invariant-loop-position l = record {
   counted : l.kept + kept_from l.is_keeping l.frames l.from l.frames (drop l.position-index l.positions) ≡ kept_from false l.frames 0 l.frames l.positions;
   within : l.from ≤ l.frames;
-  few : l.kept ≤ l.from;
+  bound : l.kept ≤ l.from;
 }

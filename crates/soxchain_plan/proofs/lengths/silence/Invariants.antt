@@ -1,6 +1,6 @@
 use Rattle.std.proofs.Common.{◌≡◌, ◌-◌, ◌^◌, filter, min, sum_by, take}
 use Rattle.fx_cut.specs.Pad.{is_inside}
-use Rattle.fx_fixed.specs.Extents.{pad_length}
+use Rattle.fx_cut.specs.PadExtents.{pad_length}
 use Rattle.soxchain_plan.proofs.lengths.silence.Given as goal
 
 abbrev pub invariant-loop-length : goal.invariant-loop-length

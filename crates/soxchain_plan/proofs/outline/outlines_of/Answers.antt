@@ -4,22 +4,22 @@ use Rattle.std.specs.List.{All}
 use Rattle.std.proofs.lemmas.List.{drop_more, drop_all}
 use Rattle.std.proofs.lemmas.List.Elements.{All-head, All-tail}
 use Rattle.std.proofs.lemmas.List.Sums.{sum_by-cons}
-use Rattle.fx_effects.proofs.Lasting.{within-fewer}
-use Rattle.fx_effects.specs.Bounds.{hold_of}
-use Rattle.fx_effects.specs.Effects.{Usable, act, channels_after}
-use Rattle.fx_effects.specs.declared.effect.Effect.{Effect}
-use Rattle.soxchain_plan.specs.Outlines.{bytes_along, known, rate_after, rates_along, told, told_bytes, told_frames, told_rate}
-use Rattle.soxchain_plan.proofs.Made.{all-more, all-none, appended, begun, by-number, composed-made, counted-more, few-after, map-more, wholes-made}
+use Rattle.fx_plan_effects.proofs.Lasting.{within-fewer}
+use Rattle.fx_plan_effects.specs.Bounds.{hold_of_act}
+use Rattle.fx_plan_effects.specs.Effects.{Usable, act, channels_after}
+use Rattle.fx_plan_effects.specs.declared.registry.Effect.{Effect}
+use Rattle.soxchain_plan.specs.Outlines.{bytes_along, known, rate_after, rates_along, delivered, stated_bytes, stated_frames, stated_rate}
+use Rattle.soxchain_plan.proofs.Made.{all-more, all-none, appended, begun, by-number, composed-made, counted-more, bound-after, map-more, wholes-made}
 use Rattle.soxchain_plan.proofs.outline.outlines_of.Goals as goal
 
 pub effects-init : goal.effects-init
 effects-init c = let empty = c.new-outlines.ensures.items in record {
-  told = rw empty refl;
+  delivered = rw empty refl;
   rates = rw empty refl;
   bytes = rw empty refl;
   usable = c.requires.usable;
   held = omega arith;
-  few = c.requires.few;
+  bound = c.requires.bound;
   counted = λ n e b. rw empty (begun (map act c.args.effects.now) c.args.frames n e (within-fewer (map act c.args.effects.now) n (2 ^ 40) b c.requires.short));
   unknown = λ e. all-none (λ outline. outline.frames ≡ None) c.new-outlines.result.items empty;
   end = λ e. e;
@@ -48,23 +48,23 @@ effects-preserved c =
     let usable = rw cut at i.usable in
     let held = rw cut at i.held in
     record {
-      told = ap (λ l. l ++ map known (map act more)) (map-more told c.effects.outlines.items c.push.new.self.items outline.result items)
-          ∙ appended (map told c.effects.outlines.items) (map known (map act more)) (map known (map act c.args.effects.now)) (told outline.result) (known (act e)) (rw cut at i.told) outline.ensures.told;
+      delivered = ap (λ l. l ++ map known (map act more)) (map-more delivered c.effects.outlines.items c.push.new.self.items outline.result items)
+          ∙ appended (map delivered c.effects.outlines.items) (map known (map act more)) (map known (map act c.args.effects.now)) (delivered outline.result) (known (act e)) (rw cut at i.delivered) outline.ensures.delivered;
       rates =
           let after = c.rate_after-input_rate.ensures in
-          ap (λ n. map told_rate c.push.new.self.items ++ rates_along n (map act more)) after
-          ∙ ap (λ l. l ++ rates_along (rate_after (act e) c.effects.input_rate) (map act more)) (map-more told_rate c.effects.outlines.items c.push.new.self.items outline.result items)
-          ∙ appended (map told_rate c.effects.outlines.items) (rates_along (rate_after (act e) c.effects.input_rate) (map act more)) _ outline.result.rate _ (rw cut at i.rates) outline.ensures.rate;
+          ap (λ n. map stated_rate c.push.new.self.items ++ rates_along n (map act more)) after
+          ∙ ap (λ l. l ++ rates_along (rate_after (act e) c.effects.input_rate) (map act more)) (map-more stated_rate c.effects.outlines.items c.push.new.self.items outline.result items)
+          ∙ appended (map stated_rate c.effects.outlines.items) (rates_along (rate_after (act e) c.effects.input_rate) (map act more)) _ outline.result.rate _ (rw cut at i.rates) outline.ensures.rate;
       bytes =
           let after = c.channels_after-inputs.ensures in
-          ap (λ n. map told_bytes c.push.new.self.items ++ bytes_along n (map act more)) after
-          ∙ ap (λ l. l ++ bytes_along (channels_after c.effects.inputs (act e)) (map act more)) (map-more told_bytes c.effects.outlines.items c.push.new.self.items outline.result items)
-          ∙ appended (map told_bytes c.effects.outlines.items) (bytes_along (channels_after c.effects.inputs (act e)) (map act more)) _ outline.result.bytes _ (rw cut at i.bytes) outline.ensures.bytes;
+          ap (λ n. map stated_bytes c.push.new.self.items ++ bytes_along n (map act more)) after
+          ∙ ap (λ l. l ++ bytes_along (channels_after c.effects.inputs (act e)) (map act more)) (map-more stated_bytes c.effects.outlines.items c.push.new.self.items outline.result items)
+          ∙ appended (map stated_bytes c.effects.outlines.items) (bytes_along (channels_after c.effects.inputs (act e)) (map act more)) _ outline.result.bytes _ (rw cut at i.bytes) outline.ensures.bytes;
       usable = All-tail Usable (act e) (map act more) usable;
-      held = omega (arith, held, sum_by-cons hold_of (act e) (map act more));
-      few = let few = few-after c.effects.inputs (act e) (All-head Usable (act e) (map act more) usable) i.few in omega (arith, few, c.channels_after-inputs.ensures);
-      counted = λ n s b. rw (map-more told_frames c.effects.outlines.items c.push.new.self.items outline.result items)
-          (counted-more (map act c.args.effects.now) (map act more) (act e) (map told_frames c.effects.outlines.items) c.effects.left outline.result.frames n (rw cut at (i.counted n s b))
+      held = omega (arith, held, sum_by-cons hold_of_act (act e) (map act more));
+      bound = let bound = bound-after c.effects.inputs (act e) (All-head Usable (act e) (map act more) usable) i.bound in omega (arith, bound, c.channels_after-inputs.ensures);
+      counted = λ n s b. rw (map-more stated_frames c.effects.outlines.items c.push.new.self.items outline.result items)
+          (counted-more (map act c.args.effects.now) (map act more) (act e) (map stated_frames c.effects.outlines.items) c.effects.left outline.result.frames n (rw cut at (i.counted n s b))
           (λ m l. by-number (act e) c.effects.inputs m c.effects.left outline.result.frames outline.ensures.frames l));
       unknown = λ s. all-more (λ outline. outline.frames ≡ None) c.effects.outlines.items c.push.new.self.items outline.result items (i.unknown s) (outline.ensures.unknown (i.end s));
       end = λ s. outline.ensures.unknown (i.end s);
@@ -74,7 +74,7 @@ pub returns-clause-each : goal.returns-clause-each
 returns-clause-each c = λ sound s b.
     let over : drop c.effects.effect-index c.args.effects.now ≡ [] = drop_all c.effects.effect-index c.args.effects.now c.effects-test.false in
     let all = rw over at (c.effects.invariant.counted (length sound) s b) in
-    sym (append-nil (map told_frames c.effects.outlines.items)) ∙ all.each ∙ sym (wholes-made c.args.channels (map act c.args.effects.now) sound)
+    sym (append-nil (map stated_frames c.effects.outlines.items)) ∙ all.each ∙ sym (wholes-made c.args.channels (map act c.args.effects.now) sound)
 
 pub returns-clause-last : goal.returns-clause-last
 returns-clause-last c = λ sound s b.

@@ -10,8 +10,8 @@ loop-effect-preserved g c = record {
   first = grind (arith, nat_tests);
   written = elim c.if-not-is_first.branch [
     | then-not-is_first+in_ok-write w ↦
-        let behind : 0 < c.loop-effect.effect-index = grind (arith, nat_tests, c.loop-effect.invariant.first, w.if-not-is_first.true) in
-        appends_both _ _ _ _ _ _ (effects_json-taken c.args.effects.now c.loop-effect.effect-index _ c.loop-effect-test.true behind) c.loop-effect.invariant.written
+        let rest_unchanged : 0 < c.loop-effect.effect-index = grind (arith, nat_tests, c.loop-effect.invariant.first, w.if-not-is_first.true) in
+        appends_both _ _ _ _ _ _ (effects_json-taken c.args.effects.now c.loop-effect.effect-index _ c.loop-effect-test.true rest_unchanged) c.loop-effect.invariant.written
         (appends_both _ _ _ _ _ _ refl w.in_ok-write.ensures.bytes (rw w.writer-is at c.in_ok-show_json.ensures))
     | else-not-is_first w ↦
         let begun : c.loop-effect.effect-index ≡ 0 = grind (arith, nat_tests, c.loop-effect.invariant.first, w.if-not-is_first.false) in

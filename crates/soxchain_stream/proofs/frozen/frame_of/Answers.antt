@@ -12,9 +12,9 @@ loop-place-preserved c =
     let x : ℕ = get_or words place 0 in
     let v : ℤ = cast_signed w64 (cast_unsigned w64 c.cast_signed.result) in
     let is : v ≡ cast_signed w64 x = ap (λ (r : ℤ). cast_signed w64 (cast_unsigned w64 r)) c.cast_signed.ensures ∙ ap (cast_signed w64) (of_z-to_z w64 x (c.type_inv.words place).fits) in
-    let inside : place < length samples = omega (arith, c.loop-place.invariant.room) in
+    let inside : place < length samples = omega (arith, c.loop-place.invariant.free) in
     record {
-      room = length-set samples place v ∙ c.loop-place.invariant.room;
+      free = length-set samples place v ∙ c.loop-place.invariant.free;
       samples = take_more_set samples place v inside ∙ ap (λ (l : List ℤ). l ++ v ∷ []) c.loop-place.invariant.samples
           ∙ ap (λ (y : ℤ). map (cast_signed w64) (take place words) ++ y ∷ []) is ∙ sym (map_more (cast_signed w64) words place 0 c.loop-place-test.true);
     }

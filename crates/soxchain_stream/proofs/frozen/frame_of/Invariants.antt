@@ -4,6 +4,6 @@ use Rattle.soxchain_stream.proofs.frozen.frame_of.Given as goal
 
 abbrev pub invariant-loop-place : goal.invariant-loop-place
 invariant-loop-place l = record {
-  room : length l.samples ≡ 16;
+  free : length l.samples ≡ 16;
   samples : take l.place l.samples ≡ map (cast_signed w64) (take l.place l.words);
 }

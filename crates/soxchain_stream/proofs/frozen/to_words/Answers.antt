@@ -30,7 +30,7 @@ returns-else-is_empty-clause-back c = λ words each e.
     let rest : List ℕ = c.loop-next.rest.now in
     let left : 0 < length rest = grind (arith, common_steps, c.if-is_empty.ensures) in
     elim (cases_lt (length rest) 8) [
-      | inl few ↦ absurd (omega (arith, length-words words, ap length e, length-words c.loop-next.words.items, ap length c.loop-next.invariant.words, length-append (flat_map word c.loop-next.words.items) rest))
+      | inl bound ↦ absurd (omega (arith, length-words words, ap length e, length-words c.loop-next.words.items, ap length c.loop-next.invariant.words, length-append (flat_map word c.loop-next.words.items) rest))
       | inr whole ↦ (let none : false ≡ true = c.in_default.ensures.variant.1 whole in cc)
     ]
 

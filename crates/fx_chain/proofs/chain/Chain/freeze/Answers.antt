@@ -1,6 +1,6 @@
 use Rattle.std.proofs.Common.{arith}
 use Rattle.fx_chain.proofs.Chaining.{count-is}
-use Rattle.fx_stages.proofs.StageLaws.{narrow-hand, narrow-stages}
+use Rattle.fx_chain_stages.proofs.StageLaws.{narrow-pending, narrow-stages}
 use Rattle.fx_chain.proofs.chain.Chain.freeze.Goals as goal
 
 pub returns-clause-within : goal.returns-clause-within
@@ -19,4 +19,4 @@ returns-clause-numbers c =
 pub returns-clause-narrow : goal.returns-clause-narrow
 returns-clause-narrow c =
     let sound = c.in_ok-frames.ensures.sound in
-    rw (← c.self.view_is) (narrow-hand _ _ sound.0.inlet, narrow-stages _ sound.1)
+    rw (← c.self.view_is) (narrow-pending _ _ sound.0.inlet, narrow-stages _ sound.1)

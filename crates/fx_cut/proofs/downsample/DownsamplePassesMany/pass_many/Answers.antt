@@ -1,15 +1,15 @@
 -- Frames that are left out, and groups behind them.
 use Rattle.std.proofs.Common.{rules, ◌≡◌, ◌≤◌, ◌+◌, ◌-◌, ◌*◌, ◌∙◌, [], length, ap, arith, refl}
-use Rattle.fx_step.proofs.Flags.{none-of}
+use Rattle.fx_frame_stage.proofs.Flags.{none-of}
 use Rattle.std.proofs.lemmas.List.{length-drop}
 use Rattle.std.proofs.Math.Nat.{add-mul, mul_assoc}
-use Rattle.fx_step.specs.Feed.{Fed, nothing}
-use Rattle.fx_lists.specs.Lists.{pieces}
+use Rattle.fx_frame_stage.specs.Feed.{Fed, nothing}
+use Rattle.fx_frame_lists.specs.Lists.{pieces}
 use Rattle.fx_cut.specs.DownsampleState.{downsample_acts}
 use Rattle.fx_cut.specs.declared.downsample.Downsample.TheView.{view}
-use Rattle.fx_cut.proofs.DownsampleMany.{Ready, all-passed, groups-room, lead-passed, past, took-with-room}
-use Rattle.fx_cut.proofs.Pieces.{frames-room}
-use Rattle.fx_lists.proofs.Puts.{part-from}
+use Rattle.fx_cut.proofs.DownsampleMany.{Ready, all-passed, groups-free, lead-passed, beyond, took-with-free}
+use Rattle.fx_cut.proofs.Pieces.{frames-free}
+use Rattle.fx_frame_lists.proofs.Puts.{part-from}
 use Rattle.fx_cut.proofs.downsample.DownsamplePassesMany.pass_many.Goals as goal
 use Rattle.fx_cut.proofs.downsample.DownsamplePassesMany.pass_many.Goals.{After-min-left_out, After-min-groups, Then-self-ne0, After-self-4-1}
 
@@ -18,15 +18,15 @@ returns-then-is_some-clause-fed c = nothing
 
 -- no frame is in hand
 ready : (c : After-min-left_out) → Ready (view c.self.inside)
-ready c = record { is = c.self.invariant; empty = none-of c.self.inside.hand (search rules); running = c.if-self.false }
+ready c = record { is = c.self.invariant; empty = none-of c.self.inside.pending (search rules); running = c.if-self.false }
 
 -- the frames that are left out
-lead : (c : Then-self-ne0) → let s = view c.self.inside in let n = c.min-left_out.result in Fed downsample_acts s (pieces s.recipe.channels n c.args.input.now) [] (past s n) × Ready (past s n)
+lead : (c : Then-self-ne0) → let s = view c.self.inside in let n = c.min-left_out.result in Fed downsample_acts s (pieces s.recipe.channels n c.args.input.now) [] (beyond s n) × Ready (beyond s n)
 lead c =
     let n = c.min-left_out.result in
     let below = rw (← c.self.view_is) at c.requires.below_limit in
-    let room : n * c.self.inside.channels ≤ length c.args.input.now = frames-room n c.self.inside.channels (length c.args.input.now) (omega (arith, c.min-left_out.ensures)) in
-    lead-passed (view c.self.inside) n c.args.input.now (ready (goal.at.invariant_of-self c).After-min-left_out) (omega (arith, c.min-left_out.ensures)) (below n room)
+    let free : n * c.self.inside.channels ≤ length c.args.input.now = frames-free n c.self.inside.channels (length c.args.input.now) (omega (arith, c.min-left_out.ensures)) in
+    lead-passed (view c.self.inside) n c.args.input.now (ready (goal.at.invariant_of-self c).After-min-left_out) (omega (arith, c.min-left_out.ensures)) (below n free)
 
 pub invariant_of-self : goal.invariant_of-self
 invariant_of-self c = (lead c).1.is
@@ -35,8 +35,8 @@ pub returns-then-self-ne0-clause-fed : goal.returns-then-self-ne0-clause-fed
 returns-then-self-ne0-clause-fed c = rw (← c.self.view_is) (lead c).0
 
 -- the groups behind them are there
-room : (c : After-min-groups) → (c.min-left_out.result + c.min-groups.result * c.self.inside.factor) * c.self.inside.channels ≤ length c.args.input.now
-room c = groups-room (length c.args.input.now) c.self.inside.channels c.self.inside.factor c.min-left_out.result c.min-groups.result (omega (arith, c.min-left_out.ensures)) (omega (arith, c.min-groups.ensures))
+free : (c : After-min-groups) → (c.min-left_out.result + c.min-groups.result * c.self.inside.factor) * c.self.inside.channels ≤ length c.args.input.now
+free c = groups-free (length c.args.input.now) c.self.inside.channels c.self.inside.factor c.min-left_out.result c.min-groups.result (omega (arith, c.min-left_out.ensures)) (omega (arith, c.min-groups.ensures))
 
 pub copy_firsts-requires-clause-input : goal.copy_firsts-requires-clause-input
 copy_firsts-requires-clause-input c =
@@ -44,7 +44,7 @@ copy_firsts-requires-clause-input c =
     let ch = c.self.inside.channels in
     let f = c.self.inside.factor in
     let m = c.min-groups.result in
-    let all = room (goal.at.copy_firsts-requires-clause-input c).After-min-groups in
+    let all = free (goal.at.copy_firsts-requires-clause-input c).After-min-groups in
     let split : (n + m * f) * ch ≡ n * ch + m * (f * ch) = add-mul n (m * f) ch ∙ ap (λ k. n * ch + k) (mul_assoc m f ch) in
     rw part-from (omega (arith, all, split, length-drop (n * ch) c.args.input.now))
 
@@ -54,7 +54,7 @@ groups : (c : After-self-4-1) → let s = view c.self.inside in let n = c.min-le
     Fed downsample_acts s (pieces s.recipe.channels (n + m * s.recipe.factor) c.args.input.now) (pieces s.recipe.channels m c.copy_firsts.new.output) t × Ready t
 groups c =
     let n = c.min-left_out.result in
-    let all = room (goal.at.invariant_of-self-2 c).After-min-groups in
+    let all = free (goal.at.invariant_of-self-2 c).After-min-groups in
     let below = rw (← c.self.view_is) at c.requires.below_limit in
     let same = rw part-from at c.copy_firsts.ensures.frames in
     all-passed (view c.self.inside) n c.min-groups.result c.args.input.now c.copy_firsts.new.output (ready (goal.at.invariant_of-self-2 c).After-min-left_out) (omega (arith, c.min-left_out.ensures)) c.if-self-ne0.false all (below (n + c.min-groups.result * c.self.inside.factor) all) same
@@ -66,23 +66,23 @@ pub returns-clause-fed : goal.returns-clause-fed
 returns-clause-fed c = rw (← c.self.view_is) (groups c).0
 
 pub returns-clause-read : goal.returns-clause-read
-returns-clause-read c = rw (← c.self.view_is) (room (goal.at.returns-clause-read c).After-min-groups)
+returns-clause-read c = rw (← c.self.view_is) (free (goal.at.returns-clause-read c).After-min-groups)
 
-pub returns-then-self-ne0-clause-room : goal.returns-then-self-ne0-clause-room
-returns-then-self-ne0-clause-room c =
+pub returns-then-self-ne0-clause-free : goal.returns-then-self-ne0-clause-free
+returns-then-self-ne0-clause-free c =
     let s = view c.self.inside in
     let n = c.min-left_out.result in
     let one : (0 + 1) * c.self.inside.channels ≤ length c.args.output.now = omega arith in
-    rw (← c.self.view_is) (took-with-room s (past s n) n 0 (length c.args.output.now) (lead c).1 refl refl (omega arith) one)
+    rw (← c.self.view_is) (took-with-free s (beyond s n) n 0 (length c.args.output.now) (lead c).1 refl refl (omega arith) one)
 
-pub returns-clause-room : goal.returns-clause-room
-returns-clause-room c =
+pub returns-clause-free : goal.returns-clause-free
+returns-clause-free c =
     let s = view c.self.inside in
     let n = c.min-left_out.result in
     let m = c.min-groups.result in
     let ch = c.self.inside.channels in
     let t = record s { skip = s.skip - n; taken = s.taken + n + m * s.recipe.factor; given = s.given + m } in
-    let room = length c.args.output.now in
-    let fewer : m * ch ≤ room - ch = frames-room m ch (room - ch) (omega (arith, c.min-groups.ensures)) in
-    let one : (m + 1) * ch ≤ room = omega (arith, fewer, add-mul m 1 ch) in
-    rw (← c.self.view_is) (took-with-room s t (n + m * c.self.inside.factor) m room (groups (goal.at.returns-clause-room c).After-self-4-1).1 refl (omega arith) refl one)
+    let free = length c.args.output.now in
+    let fewer : m * ch ≤ free - ch = frames-free m ch (free - ch) (omega (arith, c.min-groups.ensures)) in
+    let one : (m + 1) * ch ≤ free = omega (arith, fewer, add-mul m 1 ch) in
+    rw (← c.self.view_is) (took-with-free s t (n + m * c.self.inside.factor) m free (groups (goal.at.returns-clause-free c).After-self-4-1).1 refl (omega arith) refl one)

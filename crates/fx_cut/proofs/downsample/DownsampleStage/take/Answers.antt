@@ -1,7 +1,7 @@
 -- A frame is kept, or left out.
 use Rattle.std.proofs.Common.{arith, rules, ◌≡◌}
 use Rattle.std.specs.Prelude.{Some}
-use Rattle.fx_step.specs.Hand.{IsHand}
+use Rattle.fx_frame_stage.specs.PendingFrame.{IsPending}
 use Rattle.fx_cut.proofs.DownsampleLaws.{Took-kept, IsDownsample-kept, IsDownsample-left}
 use Rattle.fx_cut.proofs.downsample.DownsampleStage.take.Goals as goal
 
@@ -13,7 +13,7 @@ invariant_of-self c =
 pub invariant_of-self-2 : goal.invariant_of-self-2
 invariant_of-self-2 c =
     let none : c.self.inside.skip ≡ 0 = omega arith in
-    let fits : IsHand c.self.inside.channels (Some c.args.frame) = search (rules, c.channels-channels.ensures) in
+    let fits : IsPending c.self.inside.channels (Some c.args.frame) = search (rules, c.channels-channels.ensures) in
     IsDownsample-kept _ c.args.frame c.self.invariant (rw (← c.self.view_is) at c.requires.dry) (rw (← c.self.view_is) at c.requires.not_ended)
     none (rw (← c.self.view_is) at c.requires.below_limit) fits
 

@@ -1,12 +1,12 @@
 use Rattle.std.proofs.Common.{◌≡◌, ◌+◌, ◌∙◌, arith, sym}
 use Rattle.std.proofs.lemmas.Bool.{eqb-true}
-use Rattle.fx_step.specs.declared.feed.Passing.TheVariants.{Through}
-use Rattle.fx_step.specs.Feed.{PassedOn}
+use Rattle.fx_frame_stage.specs.declared.feed.Passing.TheVariants.{Through}
+use Rattle.fx_frame_stage.specs.Feed.{PassedOn}
 use Rattle.fx_cut.specs.Pad.{pads_from_start, silent_at}
 use Rattle.fx_cut.specs.PadState.{IsPad, pad_acts}
 use Rattle.fx_cut.specs.declared.pad.Pad.TheView.{view}
-use Rattle.fx_cut.proofs.PadMany.{Quiet, one-passed, settled-pad}
-use Rattle.fx_cut.proofs.PadSteps.{dry-hand}
+use Rattle.fx_cut.proofs.PadMany.{SilentHere, one-passed, determined-pad}
+use Rattle.fx_cut.proofs.PadSteps.{dry-pending}
 use Rattle.fx_cut.proofs.pad.PadFeeds.pass_samples.Goals as goal
 use Rattle.fx_cut.proofs.pad.PadFeeds.pass_samples.Goals.{Then-is_known, then-capacity-eq0, else-capacity-eq0}
 
@@ -14,21 +14,21 @@ use Rattle.fx_cut.proofs.pad.PadFeeds.pass_samples.Goals.{Then-is_known, then-ca
 passed : (c : Then-is_known) → let s = view c.self.inside in let t = record s { taken = s.taken + 1; given = s.given + 1 } in PassedOn pad_acts Through s t c.args.samples.now c.args.samples.now × IsPad t
 passed c =
     let may = rw (← c.self.view_is) at c.requires in
-    let nothing = dry-hand c.self.inside.hand c.self.inside.silent may.dry in
+    let nothing = dry-pending c.self.inside.pending c.self.inside.silent may.dry in
     let below = may.below_limit in
     let known : (c.self.inside.line.capacity ≡ 0) × (silent_at (pads_from_start c.self.inside.pads) c.self.inside.taken ≡ 0) =
     elim c.if-capacity-eq0.branch [
-      | then-capacity-eq0 w ↦ (sym c.capacity.ensures.capacity ∙ w.if-capacity-eq0.true, w.is_quiet-is_known.ensures (sym w.is_known-is ∙ c.if-is_known.true))
+      | then-capacity-eq0 w ↦ (sym c.capacity.ensures.capacity ∙ w.if-capacity-eq0.true, w.is_silent-is_known.ensures (sym w.is_known-is ∙ c.if-is_known.true))
       | else-capacity-eq0 w ↦ absurd (let none : c.capacity.result ≡ 0 = eqb-true c.capacity.result 0 (sym w.is_known-is ∙ c.if-is_known.true) in omega (arith, none, w.if-capacity-eq0.false))
     ] in
-    let a : Quiet (view c.self.inside) 1 = record {
+    let a : SilentHere (view c.self.inside) 1 = record {
       is = c.self.invariant;
       short = known.0;
       empty = nothing.0;
       none = nothing.1;
       running = may.not_ended;
-      quiet = λ i h. let at : c.self.inside.taken + i ≡ c.self.inside.taken = omega (arith, h) in rw at known.1;
-      few = omega (arith, below);
+      silence_here = λ i h. let at : c.self.inside.taken + i ≡ c.self.inside.taken = omega (arith, h) in rw at known.1;
+      bound = omega (arith, below);
     } in
     one-passed (view c.self.inside) 0 c.args.samples.now a may.channels
 
@@ -38,5 +38,5 @@ invariant_of-self c = (passed (goal.at.invariant_of-self c).Then-is_known).1
 pub returns-then-is_known-clause-passed : goal.returns-then-is_known-clause-passed
 returns-then-is_known-clause-passed c = rw (← c.self.view_is) (passed (goal.at.returns-then-is_known-clause-passed c).Then-is_known).0
 
-pub returns-then-is_known-clause-settled : goal.returns-then-is_known-clause-settled
-returns-then-is_known-clause-settled c = λ none. settled-pad _ (invariant_of-self c) (rw (← c.self.view_is) at c.requires.not_ended) none
+pub returns-then-is_known-clause-determined : goal.returns-then-is_known-clause-determined
+returns-then-is_known-clause-determined c = λ none. determined-pad _ (invariant_of-self c) (rw (← c.self.view_is) at c.requires.not_ended) none

@@ -1,13 +1,13 @@
 -- Up to the next pad the frames are passed, all of them.
 use Rattle.std.proofs.Common.{rules, ◌≡◌, ◌+◌, ◌≤◌, ◌*◌, ◌∙◌, length, take, arith}
-use Rattle.fx_step.proofs.Flags.{none-of}
+use Rattle.fx_frame_stage.proofs.Flags.{none-of}
 use Rattle.std.proofs.lemmas.List.{length-take-le}
-use Rattle.fx_step.specs.Feed.{Fed, nothing}
-use Rattle.fx_lists.specs.Lists.{pieces}
+use Rattle.fx_frame_stage.specs.Feed.{Fed, nothing}
+use Rattle.fx_frame_lists.specs.Lists.{pieces}
 use Rattle.fx_cut.specs.PadState.{IsPad, pad_acts}
 use Rattle.fx_cut.specs.declared.pad.Pad.TheView.{view}
-use Rattle.fx_cut.proofs.PadMany.{Quiet, quiet-passed, took-with-room}
-use Rattle.fx_cut.proofs.Pieces.{few-pieces, frames-room, pieces-cut}
+use Rattle.fx_cut.proofs.PadMany.{SilentHere, silence_here-passed, took-with-free}
+use Rattle.fx_cut.proofs.Pieces.{bound-pieces, frames-free, pieces-cut}
 use Rattle.fx_cut.proofs.pad.PadPassesMany.pass_many.Goals.{After-copy_frames-copied}
 use Rattle.fx_cut.proofs.pad.PadPassesMany.pass_many.Goals as goal
 
@@ -18,29 +18,29 @@ returns-then-capacity-ne0-clause-fed c = nothing
 cut : (c : After-copy_frames-copied) → let n = c.min-count.result * c.self.inside.channels in (n ≤ length c.args.input.now) × (length (take n c.args.input.now) ≡ n)
 cut c =
     let n = c.min-count.result * c.self.inside.channels in
-    let long : n ≤ length c.args.input.now = frames-room c.min-count.result c.self.inside.channels (length c.args.input.now) (omega (arith, c.min-count.ensures)) in
+    let long : n ≤ length c.args.input.now = frames-free c.min-count.result c.self.inside.channels (length c.args.input.now) (omega (arith, c.min-count.ensures)) in
     (long, length-take-le n c.args.input.now long)
 
 -- no silence stands before those that are copied
-quiet : (c : After-copy_frames-copied) → Quiet (view c.self.inside) c.copy_frames-copied.result
-quiet c =
+silence_here : (c : After-copy_frames-copied) → SilentHere (view c.self.inside) c.copy_frames-copied.result
+silence_here c =
     let n = c.copy_frames-copied.result in
     let ch = c.self.inside.channels in
     let count = c.min-count.result in
     let below = rw (← c.self.view_is) at c.requires.below_limit in
     let there = cut c in
     let read = c.copy_frames-copied.ensures.read in
-    let fewer : n ≤ count = few-pieces n count ch (rw (← c.self.view_is) at c.requires.channels.0) (omega (arith, read, there.1)) in
-    let quiet = rw c.all.ensures at c.quiet_from-quiet.ensures in
-    let ahead : n ≤ c.quiet_from-quiet.result = omega (arith, fewer, c.min-count.ensures) in
+    let fewer : n ≤ count = bound-pieces n count ch (rw (← c.self.view_is) at c.requires.channels.0) (omega (arith, read, there.1)) in
+    let silence_here = rw c.all.ensures at c.silent_from-silence_here.ensures in
+    let ahead : n ≤ c.silent_from-silence_here.result = omega (arith, fewer, c.min-count.ensures) in
     record {
       is = c.self.invariant;
       short = search rules;
-      empty = none-of c.self.inside.hand (search rules);
+      empty = none-of c.self.inside.pending (search rules);
       none = c.if-self-ne0.false;
       running = c.if-self.false;
-      quiet = λ i h. quiet i (omega (arith, h, ahead));
-      few = below n (omega (arith, read, there.1, there.0));
+      silence_here = λ i h. silence_here i (omega (arith, h, ahead));
+      bound = below n (omega (arith, read, there.1, there.0));
     }
 
 -- so many frames are passed
@@ -53,7 +53,7 @@ passes c =
     let there = cut c in
     let read = c.copy_frames-copied.ensures.read in
     let same : pieces ch n c.copy_frames-copied.new.output ≡ pieces ch n input = c.copy_frames-copied.ensures.frames ∙ pieces-cut ch n (c.min-count.result * ch) input (omega (arith, read, there.1)) in
-    quiet-passed (view c.self.inside) n input c.copy_frames-copied.new.output (quiet c) (omega (arith, read, there.1, there.0)) same
+    silence_here-passed (view c.self.inside) n input c.copy_frames-copied.new.output (silence_here c) (omega (arith, read, there.1, there.0)) same
 
 pub invariant_of-self : goal.invariant_of-self
 invariant_of-self c = (passes (goal.at.invariant_of-self c).After-copy_frames-copied).1
@@ -61,8 +61,8 @@ invariant_of-self c = (passes (goal.at.invariant_of-self c).After-copy_frames-co
 pub returns-clause-fed : goal.returns-clause-fed
 returns-clause-fed c = rw (← c.self.view_is) (passes (goal.at.returns-clause-fed c).After-copy_frames-copied).0
 
-pub returns-clause-room : goal.returns-clause-room
-returns-clause-room c =
-    let a = quiet (goal.at.returns-clause-room c).After-copy_frames-copied in
+pub returns-clause-free : goal.returns-clause-free
+returns-clause-free c =
+    let a = silence_here (goal.at.returns-clause-free c).After-copy_frames-copied in
     let fits = c.copy_frames-copied.ensures.written in
-    rw (← c.self.view_is) (took-with-room (view c.self.inside) c.copy_frames-copied.result (length c.args.output.now) a (omega (arith, fits, c.copy_frames-copied.auto.output)))
+    rw (← c.self.view_is) (took-with-free (view c.self.inside) c.copy_frames-copied.result (length c.args.output.now) a (omega (arith, fits, c.copy_frames-copied.auto.output)))

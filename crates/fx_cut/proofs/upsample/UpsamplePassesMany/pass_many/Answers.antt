@@ -1,11 +1,11 @@
 -- Each frame is passed with the silence behind it.
 use Rattle.std.proofs.Common.{rules, ◌≤◌, ◌+◌, ◌*◌, ◌/◌, ◌^◌, length, arith}
-use Rattle.fx_step.proofs.Flags.{none-of}
+use Rattle.fx_frame_stage.proofs.Flags.{none-of}
 use Rattle.std.proofs.Math.Nat.{mul_assoc}
-use Rattle.fx_step.specs.Feed.{nothing}
+use Rattle.fx_frame_stage.specs.Feed.{nothing}
 use Rattle.fx_cut.specs.declared.upsample.Upsample.TheView.{view}
-use Rattle.fx_cut.proofs.Pieces.{frames-room}
-use Rattle.fx_cut.proofs.UpsampleMany.{Ready, all-passed, frames-fed, took-with-room}
+use Rattle.fx_cut.proofs.Pieces.{frames-free}
+use Rattle.fx_cut.proofs.UpsampleMany.{Ready, all-passed, frames-fed, took-with-free}
 use Rattle.fx_cut.proofs.upsample.UpsamplePassesMany.pass_many.Goals as goal
 use Rattle.fx_cut.proofs.upsample.UpsamplePassesMany.pass_many.Goals.{After-min-count}
 
@@ -15,19 +15,19 @@ returns-then-is_some-clause-fed c = nothing
 -- the frames are there and may be passed
 may : (c : After-min-count) → Ready (view c.self.inside) × (c.min-count.result * c.self.inside.channels ≤ length c.args.input.now) × (c.self.inside.taken + c.min-count.result ≤ 2 ^ 56 / c.self.inside.factor)
 may c =
-    let room = frames-room c.min-count.result c.self.inside.channels (length c.args.input.now) (omega (arith, c.min-count.ensures)) in
-    (record { is = c.self.invariant; empty = none-of c.self.inside.hand (search rules); none = c.if-self-ne0.false; running = c.if-self.false }, room, (rw (← c.self.view_is) at c.requires.below_limit) c.min-count.result room)
+    let free = frames-free c.min-count.result c.self.inside.channels (length c.args.input.now) (omega (arith, c.min-count.ensures)) in
+    (record { is = c.self.invariant; empty = none-of c.self.inside.pending (search rules); none = c.if-self-ne0.false; running = c.if-self.false }, free, (rw (← c.self.view_is) at c.requires.below_limit) c.min-count.result free)
 
 -- and what they give has room
 fits : (c : After-min-count) → c.min-count.result * c.self.inside.factor * c.self.inside.channels ≤ length c.args.output.now
 fits c =
-    let groups = frames-room c.min-count.result c.self.inside.factor (length c.args.output.now / c.self.inside.channels) (omega (arith, c.min-count.ensures)) in
-    frames-room (c.min-count.result * c.self.inside.factor) c.self.inside.channels (length c.args.output.now) groups
+    let groups = frames-free c.min-count.result c.self.inside.factor (length c.args.output.now / c.self.inside.channels) (omega (arith, c.min-count.ensures)) in
+    frames-free (c.min-count.result * c.self.inside.factor) c.self.inside.channels (length c.args.output.now) groups
 
 pub spread_frames-requires-clause-output : goal.spread_frames-requires-clause-output
 spread_frames-requires-clause-output c =
-    let room = fits (goal.at.spread_frames-requires-clause-output c).After-min-count in
-    omega (arith, room, mul_assoc c.min-count.result c.self.inside.factor c.self.inside.channels)
+    let free = fits (goal.at.spread_frames-requires-clause-output c).After-min-count in
+    omega (arith, free, mul_assoc c.min-count.result c.self.inside.factor c.self.inside.channels)
 
 pub overflow_add-self-2 : goal.overflow_add-self-2
 overflow_add-self-2 c =
@@ -36,8 +36,8 @@ overflow_add-self-2 c =
     let f = c.self.inside.factor in
     let all = frames-fed n (view c.self.inside) c.args.input.now m.0 m.1 m.2 in
     let counted = all.1.is.counted in
-    let most : (c.self.inside.taken + n) * f ≤ 2 ^ 56 = frames-room (c.self.inside.taken + n) f (2 ^ 56) m.2 in
-    let least : c.self.inside.given + n * f ≤ 2 ^ 56 = omega (arith, counted, most) in
+    let maximum : (c.self.inside.taken + n) * f ≤ 2 ^ 56 = frames-free (c.self.inside.taken + n) f (2 ^ 56) m.2 in
+    let minimum : c.self.inside.given + n * f ≤ 2 ^ 56 = omega (arith, counted, maximum) in
     search rules
 
 pub invariant_of-self : goal.invariant_of-self
@@ -54,11 +54,11 @@ returns-clause-fed c =
 
 pub returns-clause-written : goal.returns-clause-written
 returns-clause-written c =
-    let room = fits (goal.at.returns-clause-written c).After-min-count in
-    rw (← c.self.view_is) (omega (arith, room, c.spread_frames.auto.output))
+    let free = fits (goal.at.returns-clause-written c).After-min-count in
+    rw (← c.self.view_is) (omega (arith, free, c.spread_frames.auto.output))
 
-pub returns-clause-room : goal.returns-clause-room
-returns-clause-room c =
-    let ready = (may (goal.at.returns-clause-room c).After-min-count).0 in
-    let room = fits (goal.at.returns-clause-room c).After-min-count in
-    rw (← c.self.view_is) (took-with-room (view c.self.inside) c.min-count.result (length c.args.output.now) ready room)
+pub returns-clause-free : goal.returns-clause-free
+returns-clause-free c =
+    let ready = (may (goal.at.returns-clause-free c).After-min-count).0 in
+    let free = fits (goal.at.returns-clause-free c).After-min-count in
+    rw (← c.self.view_is) (took-with-free (view c.self.inside) c.min-count.result (length c.args.output.now) ready free)

@@ -8,7 +8,7 @@ abbrev pub invariant-loop-word : goal.invariant-loop-word
 invariant-loop-word l = record {
   accepted : list_all is_gain (words_of l.rest) ≡ list_all is_gain (words_of l.bytes);
   gains : l.gains.items ++ map gain_in (words_of l.rest) ≡ map gain_in (words_of l.bytes);
-  few : length l.gains.items ≤ 1024;
+  bound : length l.gains.items ≤ 1024;
 }
 
 abbrev pub decreases-loop-word : goal.decreases-loop-word

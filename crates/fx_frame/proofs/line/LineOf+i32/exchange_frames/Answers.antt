@@ -1,8 +1,8 @@
 use Rattle.std.proofs.Common.{◌≡◌, Bool, true, false, refl, ℤ, List, FitsSigned}
 use Rattle.std.specs.Int.{w32}
 use Rattle.std.specs.List.{All}
-use Rattle.fx_ring.specs.Line.{Frames, pushed_all}
-use Rattle.fx_ring.proofs.ManyFrames.{All-pieces, All-pushed_all}
+use Rattle.fx_frame_line.specs.Line.{Frames, pushed_all}
+use Rattle.fx_frame_line.proofs.ManyFrames.{All-pieces, All-pushed_all}
 use Rattle.fx_frame.proofs.line.LineOf+i32.exchange_frames.Goals as goal
 
 -- whether they were exchanged or not, each sample of the line fits

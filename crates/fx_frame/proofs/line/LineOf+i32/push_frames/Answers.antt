@@ -1,5 +1,5 @@
 use Rattle.std.specs.Int.{w32}
-use Rattle.fx_ring.proofs.ManyFrames.{frames-samples}
+use Rattle.fx_frame_line.proofs.ManyFrames.{frames-samples}
 use Rattle.fx_frame.proofs.line.LineOf+i32.push_frames.Goals as goal
 
 pub returns-clause-frames : goal.returns-clause-frames

@@ -6,7 +6,7 @@ use Rattle.fx_frame.proofs.line.LineOf+i32.push_over_in_pieces.Goals as goal
 
 pub returns-then-capacity-eq0-clause-frame : goal.returns-then-capacity-eq0-clause-frame
 returns-then-capacity-eq0-clause-frame c _ =
-    record { some = rw c.requires.channels c.requires.shape.some; few = rw c.requires.channels c.requires.shape.few; fits = c.see_samples.ensures }
+    record { some = rw c.requires.channels c.requires.shape.some; bound = rw c.requires.channels c.requires.shape.bound; fits = c.see_samples.ensures }
 
 pub invariant_of-self : goal.invariant_of-self
 invariant_of-self c = All-pushed (All (FitsSigned w32)) c.self.inside.ring c.args.samples.now _ c.self.invariant c.see_samples.ensures c.push.ensures.items

@@ -1,5 +1,5 @@
 use Rattle.std.specs.List.{All}
-use Rattle.fx_ring.proofs.ManyFrames.{All-pieces, All-pushed_all}
+use Rattle.fx_frame_line.proofs.ManyFrames.{All-pieces, All-pushed_all}
 use Rattle.fx_frame.proofs.line.LineOf.put_frames.Goals as goal
 
 pub invariant_of-self : goal.invariant_of-self

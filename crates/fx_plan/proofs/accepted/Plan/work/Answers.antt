@@ -1,6 +1,6 @@
 use Rattle.std.proofs.Common.{map}
-use Rattle.fx_effects.specs.Effects.{act}
-use Rattle.fx_effects.proofs.Lasting.{within-fewer, work-rises}
+use Rattle.fx_plan_effects.specs.Effects.{act}
+use Rattle.fx_plan_effects.proofs.Lasting.{within-fewer, work-rises}
 use Rattle.fx_plan.proofs.accepted.Plan.work.Goals as goal
 
 pub work-requires-clause-short : goal.work-requires-clause-short

@@ -1,0 +1,13 @@
+pub mod HandOvers
+pub mod Laws
+pub mod Steps
+pub mod Moving
+pub mod Thawing
+pub mod Feeding
+pub mod Feedings
+pub mod Pipelines
+pub mod PipelineSteps
+pub mod Running
+pub mod PipelineRuns
+pub mod PieceLaws
+pub mod OneToOneRuns

@@ -1,0 +1,134 @@
+use Rattle.std.proofs.Common.{rules, ◌≡◌, ◌+◌, ◌≤◌, ◌++◌, ◌∙◌, false, [], drop, length, take, ap, arith}
+use Rattle.std.proofs.lemmas.List.{nil_from_length}
+use Rattle.std.proofs.lemmas.Grind.{common_steps}
+use Rattle.std.specs.Prelude.{None}
+use Rattle.fx_frame_lists.proofs.Pieces.{length-pieces}
+use Rattle.fx_frame_lists.specs.Lists.{pieces}
+use Rattle.fx_chain_flow.specs.Feed.{FedOnly}
+use Rattle.fx_chain_flow.specs.Sound.{IsSound, max_frames}
+use Rattle.fx_chain_flow.specs.Runs.{flow_of}
+use Rattle.fx_chain_flow.proofs.Feedings.{none-fed, none-gave, none-last, none-free, none-sound, only-fed, only-gave, only-last, only-read, only-free, only-sound, only-unchanged, only-used}
+use Rattle.fx_frame_stage.proofs.Flags.{none-of}
+use Rattle.fx_frame_lists.proofs.Puts.{written_back}
+use Rattle.fx_chain_flow.proofs.flow.Flow.feed.Given as given
+use Rattle.fx_chain_flow.proofs.flow.Flow.feed.Goals.{After-copy_frames-count, After-feed_only-passed}
+use Rattle.fx_chain_flow.proofs.flow.Flow.feed.Goals as goal
+
+-- the only stage of the flow was fed, and was written back
+only : (g : given.Over) (c : After-feed_only-passed g) →
+    let s = c.self-2.inside in
+    let new = c.feed_only-passed.new in
+    (s.inlet ≡ None) × (s.ended ≡ false) × IsSound g.S.Stage.acts (flow_of g.S.Stage.acts s.channels s.stages.items s.left)
+    × FedOnly g.S.Stage.acts c.args.input.now c.args.output.now new.output c.feed_only-passed.result.taken c.feed_only-passed.result.given s.stages.items new.stages × (take s.stages.len (new.stages ++ drop (length new.stages) s.stages.items) ≡ new.stages)
+only g c =
+    let s = c.self-2.inside in
+    let none : s.inlet ≡ None = none-of s.inlet (search rules) in
+    let going : s.ended ≡ false = search rules in
+    let back = written_back s.stages.items c.feed_only-passed.new.stages s.stages.len s.stages.ok.0 (c.feed_only-passed.auto.stages ∙ ap length c.deref_mut.ensures.value) in
+    (none, going, rw (none, going) at c.self-2.invariant.0, rw c.deref_mut.ensures.value at c.feed_only-passed.ensures, back)
+
+pub invariant_of-self-2 : goal.invariant_of-self-2
+invariant_of-self-2 g c =
+    let acts = g.S.Stage.acts in
+    let s = c.self-2.inside in
+    let passed = c.feed_only-passed.result in
+    let (none, going, sound, fed, back) = only g (goal.at.invariant_of-self-2 g c).After-feed_only-passed in
+    let read = only-read acts s.channels s.left passed.taken passed.given c.args.input.now c.args.output.now _ s.stages.items _ sound fed in
+    let all = rw (← c.self-2.view_is, none) at c.requires.bound in
+    let bound : s.left + passed.taken ≤ max_frames = omega (arith, all passed.taken read) in
+    rw (back, none, going)
+    (only-sound acts g.met.S.Stage.rises s.channels s.left passed.taken passed.given c.args.input.now c.args.output.now _ s.stages.items _ sound bound fed, rw (c.deref.ensures.value, back) at c.wet_end-self-inside.ensures)
+
+pub returns-clause-fed : goal.returns-clause-fed
+returns-clause-fed g c =
+    let (none, going, sound, fed, back) = only g (goal.at.returns-clause-fed g c).After-feed_only-passed in
+    rw (← c.self-2.view_is, back, none, going) (only-fed g.S.Stage.acts _ _ _ _ c.args.input.now c.args.output.now _ _ _ sound fed)
+
+pub returns-clause-gave : goal.returns-clause-gave
+returns-clause-gave g c =
+    let (none, going, sound, fed, back) = only g (goal.at.returns-clause-gave g c).After-feed_only-passed in
+    rw (← c.self-2.view_is, back, none, going) (only-gave g.S.Stage.acts _ _ _ _ c.args.input.now c.args.output.now _ _ _ sound fed)
+
+pub returns-clause-used : goal.returns-clause-used
+returns-clause-used g c =
+    let (none, going, sound, fed, back) = only g (goal.at.returns-clause-used g c).After-feed_only-passed in
+    rw (← c.self-2.view_is, back) (λ free _ spends. only-used g.S.Stage.acts _ _ _ _ c.args.input.now c.args.output.now _ _ _ sound fed free spends)
+
+pub returns-clause-free : goal.returns-clause-free
+returns-clause-free g c =
+    let s = c.self-2.inside in
+    let (none, going, sound, fed, back) = only g (goal.at.returns-clause-free g c).After-feed_only-passed in
+    rw (← c.self-2.view_is, none) (only-free g.S.Stage.acts s.channels s.left _ _ c.args.input.now c.args.output.now _ s.stages.items _ sound fed)
+
+pub returns-clause-unchanged : goal.returns-clause-unchanged
+returns-clause-unchanged g c =
+    let s = c.self-2.inside in
+    let (none, going, sound, fed, back) = only g (goal.at.returns-clause-unchanged g c).After-feed_only-passed in
+    rw (← c.self-2.view_is, back, none, going) (only-unchanged g.S.Stage.acts s.channels s.left _ _ c.args.input.now c.args.output.now _ s.stages.items _ fed c.feed_only-passed.auto.output)
+
+pub returns-clause-full : goal.returns-clause-full
+returns-clause-full g c =
+    let (none, going, sound, fed, back) = only g (goal.at.returns-clause-full g c).After-feed_only-passed in
+    rw (← c.self-2.view_is, back, none, going) (λ some full. only-last g.S.Stage.acts _ _ _ _ c.args.input.now c.args.output.now _ _ _ sound fed some full)
+
+-- the flow has no stage, and its frames were copied
+bare : (g : given.Over) (c : After-copy_frames-count g) → let s = c.self-2.inside in (s.inlet ≡ None) × (s.ended ≡ false) × (s.stages.items ≡ []) × (length (pieces s.channels c.copy_frames-count.result c.args.input.now) ≡ c.copy_frames-count.result)
+bare g c =
+    let s = c.self-2.inside in
+    let empty = nil_from_length s.stages.items (omega (arith, c.len-stages.ensures, c.if-stages-eq0.true, s.stages.ok.0)) in
+    (none-of s.inlet (search rules), search rules, empty, length-pieces s.channels c.copy_frames-count.result c.args.input.now)
+
+pub invariant_of-self : goal.invariant_of-self
+invariant_of-self g c =
+    let s = c.self-2.inside in
+    let (none, going, empty, many) = bare g (goal.at.invariant_of-self g c).After-copy_frames-count in
+    let sound = rw (none, going, empty) at c.self-2.invariant.0 in
+    let all = rw (← c.self-2.view_is, none) at c.requires.bound in
+    let bound : s.left + c.copy_frames-count.result ≤ max_frames = omega (arith, all c.copy_frames-count.result c.copy_frames-count.ensures.read) in
+    rw (none, going, empty) (none-sound g.S.Stage.acts s.channels s.left c.copy_frames-count.result sound bound, rw empty at c.self-2.invariant.1)
+
+pub returns-then-stages-eq0-clause-fed : goal.returns-then-stages-eq0-clause-fed
+returns-then-stages-eq0-clause-fed g c =
+    let (none, going, empty, many) = bare g (goal.at.returns-then-stages-eq0-clause-fed g c).After-copy_frames-count in
+    rw (← c.self-2.view_is, none, going, empty, c.copy_frames-count.ensures.frames) (rw many at (none-fed g.S.Stage.acts c.self-2.inside.channels c.self-2.inside.left (pieces c.self-2.inside.channels c.copy_frames-count.result c.args.input.now)))
+
+pub returns-then-stages-eq0-clause-gave : goal.returns-then-stages-eq0-clause-gave
+returns-then-stages-eq0-clause-gave g c =
+    let (none, going, empty, many) = bare g (goal.at.returns-then-stages-eq0-clause-gave g c).After-copy_frames-count in
+    rw (← c.self-2.view_is, none, going, empty, c.copy_frames-count.ensures.frames) (rw many at (none-gave g.S.Stage.acts c.self-2.inside.channels c.self-2.inside.left (pieces c.self-2.inside.channels c.copy_frames-count.result c.args.input.now)))
+
+pub returns-then-stages-eq0-clause-full : goal.returns-then-stages-eq0-clause-full
+returns-then-stages-eq0-clause-full g c =
+    let (none, going, empty, many) = bare g (goal.at.returns-then-stages-eq0-clause-full g c).After-copy_frames-count in
+    rw (← c.self-2.view_is, none, going, empty, c.copy_frames-count.ensures.frames)
+    (λ some full. rw many at (none-last g.S.Stage.acts c.self-2.inside.channels c.self-2.inside.left (pieces c.self-2.inside.channels c.copy_frames-count.result c.args.input.now) (rw many some)))
+
+pub returns-then-stages-eq0-clause-free : goal.returns-then-stages-eq0-clause-free
+returns-then-stages-eq0-clause-free g c =
+    let s = c.self-2.inside in
+    let (none, going, empty, many) = bare g (goal.at.returns-then-stages-eq0-clause-free g c).After-copy_frames-count in
+    rw (← c.self-2.view_is, none, empty) (none-free g.S.Stage.acts s.channels s.left c.copy_frames-count.result (length c.args.output.now) (omega (arith, c.copy_frames-count.ensures.written, c.copy_frames-count.auto.output)))
+
+pub returns-then-stages-eq0-clause-unchanged : goal.returns-then-stages-eq0-clause-unchanged
+returns-then-stages-eq0-clause-unchanged g c =
+    let s = c.self-2.inside in
+    let (none, going, empty, many) = bare g (goal.at.returns-then-stages-eq0-clause-unchanged g c).After-copy_frames-count in
+    rw (← c.self-2.view_is, none, going, empty) (λ bound. ap (λ n. flow_of g.S.Stage.acts s.channels [] n) (let taken = c.copy_frames-count.ensures.none bound in omega (arith, taken)))
+
+pub returns-then-stages-eq0-clause-written : goal.returns-then-stages-eq0-clause-written
+returns-then-stages-eq0-clause-written g c = grind (arith, common_steps)
+
+pub returns-then-stages-eq0-clause-rest_unchanged : goal.returns-then-stages-eq0-clause-rest_unchanged
+returns-then-stages-eq0-clause-rest_unchanged g c = grind (arith, common_steps)
+
+pub returns-then-stages-eq0-clause-waits : goal.returns-then-stages-eq0-clause-waits
+returns-then-stages-eq0-clause-waits g c = grind (arith, common_steps)
+
+pub returns-then-stages-eq0-clause-used : goal.returns-then-stages-eq0-clause-used
+returns-then-stages-eq0-clause-used g c = grind (arith, common_steps)
+
+pub feed_only-passed-requires : goal.feed_only-passed-requires
+feed_only-passed-requires g c = grind (arith, common_steps)
+
+pub overflow_add-self-2 : goal.overflow_add-self-2
+overflow_add-self-2 g c = grind (arith, common_steps)

@@ -1,0 +1,16 @@
+use Rattle.std.proofs.Common.{◌≡◌, ◌≤◌, ◌*◌, drop, ℕ}
+use Rattle.fx_frame_stage.specs.Holds.{kinds}
+use Rattle.fx_chain_flow.specs.Parts.{AllDetermined}
+use Rattle.fx_chain_flow.specs.Runs.{MayRun}
+use Rattle.fx_chain_flow.proofs.Running.{Running}
+use Rattle.fx_chain_flow.proofs.runs.run_frames.Given as goal
+
+abbrev pub invariant-frames : goal.invariant-frames
+invariant-frames g l = record {
+  runs : (left : ℕ) → MayRun g.S.Stage.acts l.widths.inputs l.count l.fn.stages left → Running g.S.Stage.acts g.met.S.Stage.rises l.widths.inputs l.widths.outputs l.count left l.fn.stages l.input l.fn.output l.stages l.output (l.taken * l.widths.inputs) (l.given * l.widths.outputs) l.taken l.given;
+  determined : AllDetermined g.S.Stage.acts l.stages;
+  same : kinds g.S.Stage.acts l.stages ≡ kinds g.S.Stage.acts l.fn.stages;
+  fewer : l.given ≤ l.taken;
+  small : l.given ≤ l.given * l.widths.outputs;
+  rest_unchanged : drop (l.given * l.widths.outputs) l.output ≡ drop (l.given * l.widths.outputs) l.fn.output;
+}

@@ -1,0 +1,12 @@
+pub mod Composed
+pub mod Feed
+pub mod Frozen
+pub mod Inlets
+pub mod Moving
+pub mod Parts
+pub mod Pipeline
+pub mod Runs
+pub mod Sound
+pub mod Steps
+pub mod Thawing
+pub mod Together

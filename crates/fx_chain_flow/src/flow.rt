@@ -1,0 +1,456 @@
+ghost use Rattle.std.specs.Prelude.{◌≡◌, ◌<◌, ◌≤◌, ◌+◌, ◌-◌, ℕ, true, false, List, [], length, map, slice_index, option_to_list, Option, Some, None, IfOk, OnOk, MatchResult, Err, ◌*◌, drop};
+ghost use Rattle.std.specs.List.{All};
+ghost use Rattle.fx_chain_flow.specs.Frozen.{FreezesFlow, AllMade, AllSound};
+ghost use Rattle.fx_frame_stage.specs.Frame.{Samples};
+ghost use Rattle.fx_frame_stage.specs.Holds.{recipes, kinds, hold_sum, line_sum, held_sum, capacity_sum, total};
+ghost use Rattle.fx_chain_flow.specs.Feed.{FlowFed, FlowGave, FlowTookWithinCapacity, GaveLast};
+ghost use Rattle.fx_frame_stage.specs.Pipeline.{outputs_of};
+ghost use Rattle.fx_frame_lists.specs.Lists.{pieces};
+ghost use Rattle.fx_chain_flow.specs.Steps.{step_of};
+
+use crate::feed::feed_by_steps;
+use crate::frozen::{
+    HELD, Inlet, append_frames, append_inlet, append_numbers, is_joined, thaw_all, thaw_inlet,
+};
+use crate::moves::{
+    feed_only, first_open, given_by_all, given_by_last, is_any_spent, is_unchanged, last_channels,
+    move_on, pass_on, see_lined, wet_end,
+};
+use crate::runs::{Widths, keeps_channels, min_ahead, run};
+use fx_frame_stage::feed::copy_frames;
+use fx_frame_stage::frame::Frame;
+use fx_frame_stage::holds::{held_by, hold_by};
+pub use fx_frame_stage::stage::MAX_FRAMES;
+use fx_frame_stage::stage::{Stage, ThawFault, Thaws};
+use fx_frame_stage::wide::WideFrame;
+use fx_frame_stage::{Feeds, Passed};
+use std::alloc::{AllocError, Global};
+use std::marker::Model;
+
+/// What a flow waits for.
+#[derive(Clone, Copy, Debug, PartialEq, Eq)]
+pub enum State {
+    /// For a frame or the end: the inlet is empty, no end was given, all stages are dry.
+    Hungry,
+    /// For steps.
+    Busy,
+    /// For nothing: the end was given, all stages are ended and dry.
+    Done,
+}
+
+/// What a step did.
+#[derive(Clone, Copy, Debug, PartialEq, Eq)]
+pub enum Step {
+    /// It moved a frame from the inlet or a stage to the next stage.
+    Moved,
+    /// It moved a frame out.
+    Given(Frame),
+    /// It gave a stage the end.
+    Idle,
+}
+
+/// Stages in sequence, each of which takes what the one before gives, after an inlet of one frame.
+///
+/// It takes a frame, or is given the end, only where it is hungry. Then it is stepped until it is hungry
+/// again, or done. A step moves one frame, so between two steps the frames that it holds are those
+/// in the inlet, in the lines of the stages and pending in the stages.
+#[derive(Drop)]
+pub struct Flow<S: Stage> {
+    stages: Vec<S>,
+    inlet: Option<Frame>,
+    /// One place after the last stage that is not dry; 0 where all are dry.
+    wet: usize,
+    /// The frames that left the inlet.
+    left: u64,
+    channels: usize,
+    ended: bool,
+}
+
+impl<S: Stage> Model for Flow<S> {
+    ghost use Rattle.std.specs.Prelude.{◌≡◌};
+    ghost use Rattle.fx_chain_flow.specs.Parts.{Parts, IsWetEnd};
+    ghost use Rattle.fx_chain_flow.specs.Sound.{IsSound};
+
+    ghost Value = { Parts S };
+
+    ghost view = { λ f. record { stages = f.stages.items; inlet = f.inlet; ended = f.ended; left = f.left; channels = f.channels } };
+
+    ghost invariant = { λ f. IsSound S.acts (record { stages = f.stages.items; inlet = f.inlet; ended = f.ended; left = f.left; channels = f.channels }) × IsWetEnd S.acts f.wet f.stages.items };
+}
+
+impl<S: Stage> Flow<S> {
+    ghost use Rattle.fx_chain_flow.specs.Parts.{Parts, taken_of, moves_of, ended_of, AllNew, AllDetermined, given_by, max_of, work, any_spent};
+    ghost use Rattle.fx_chain_flow.specs.Composed.{due_of, enough_for, composed, composed_wholes};
+    ghost use Rattle.fx_chain_flow.specs.Sound.{IsPlanned, IsSound, max_frames};
+    ghost use Rattle.fx_chain_flow.specs.Steps.{StateIs, IsHungry, IsDone, Steps, StepsInSequence, MovedOn, rest_of, wholes_of};
+
+    /// New stages in sequence, which takes frames of `channels` channels.
+    pub fn new(stages: Vec<S>, channels: usize) -> Flow<S>
+        requires new { AllNew S.acts stages.items }
+        requires planned { IsPlanned (kinds S.acts stages.items) channels }
+        ensures hungry { IsHungry S.acts result }
+        ensures value { result ≡ record { stages = stages.items; inlet = None; ended = false; left = 0; channels = channels } }
+        ensures rest { (z : List Samples) → rest_of S.acts result z ≡ composed S.acts.meaning (recipes S.acts stages.items) z }
+        ensures whole { (z : List Samples) → wholes_of S.acts result z ≡ composed_wholes S.acts.meaning (recipes S.acts stages.items) z }
+        ensures none_given { given_by S.acts result.left result.stages ≡ 0 }
+    {
+        let wet = wet_end(&stages, stages.len());
+        Flow {
+            stages,
+            inlet: None,
+            wet,
+            left: 0,
+            channels,
+            ended: false,
+        }
+    }
+
+    /// What it waits for. Where it is hungry, the last stage has given all frames that are due for
+    /// those taken. However many steps are made in sequence from here on, they are no more than the remaining work,
+    /// and one for each stage: so it is hungry or done after at most that many.
+    #[inline(always)]
+    pub fn state(&self) -> State
+        ensures state { StateIs S.acts result self.now }
+        ensures bounded { (n : ℕ) (last : Parts S) → StepsInSequence S.acts self.now n last
+            → n ≤ work (kinds S.acts self.now.stages) (taken_of self.now) - moves_of S.acts self.now + length self.now.stages }
+        ensures due { result ≡ State.Hungry → given_by S.acts self.now.left self.now.stages ≡ due_of (kinds S.acts self.now.stages) (taken_of self.now) }
+    {
+        if self.wet > 0 {
+            return State::Busy;
+        }
+        if let Some(_) = self.inlet {
+            return State::Busy;
+        }
+        if !self.ended {
+            return State::Hungry;
+        }
+        if let Some(_) = first_open(&self.stages) {
+            return State::Busy;
+        }
+        State::Done
+    }
+
+    /// Takes a frame.
+    #[inline(always)]
+    pub fn take(&mut self, frame: Frame)
+        requires hungry { IsHungry S.acts self.old }
+        requires channels { length frame ≡ self.old.channels }
+        requires bound { taken_of self.old < max_frames }
+        ensures { self.new ≡ record self.old { inlet = Some frame } }
+    {
+        let _channels = frame.channels();
+        self.inlet = Some(frame);
+    }
+
+    /// Gives it the end: no frame will come.
+    pub fn end(&mut self)
+        requires { IsHungry S.acts self.old }
+        ensures { self.new ≡ record self.old { ended = true } }
+    {
+        self.ended = true;
+    }
+
+    /// Moves one frame from the last stage that is not dry; where all are dry, from the inlet; where
+    /// that is empty too and the end was given, gives the end to the first stage that is not ended.
+    #[inline(always)]
+    pub fn step(&mut self) -> Step
+        requires { StateIs S.acts State.Busy self.old }
+        ensures steps { Steps S.acts self.old result self.new }
+        ensures moved { MovedOn S.acts self.old result self.new }
+        ensures sequence { (first : Parts S) (n : ℕ) → StepsInSequence S.acts first n self.old → StepsInSequence S.acts first (n + 1) self.new }
+    {
+        if is_unchanged(self.wet, &self.inlet) {
+            self.wet = pass_on(&mut self.stages);
+            return Step::Idle;
+        }
+        let place = self.wet;
+        let out = move_on(&mut self.stages, &mut self.inlet, place);
+        self.left += u64::from(place == 0);
+        let count = self.stages.len();
+        self.wet = wet_end(&self.stages, count.min(place + 1));
+        made(out)
+    }
+
+    /// The channels of the frames that it takes.
+    pub fn in_channels(&self) -> usize
+        ensures { result ≡ self.now.channels }
+    {
+        self.channels
+    }
+
+    /// The channels of the frames that it gives.
+    pub fn out_channels(&self) -> usize
+        ensures { result ≡ outputs_of self.now.channels (kinds S.acts self.now.stages) }
+    {
+        last_channels(self.channels, &self.stages)
+    }
+
+    /// How many frames it took.
+    pub fn taken(&self) -> u64
+        ensures value { result ≡ taken_of self.now }
+        ensures bound { result ≤ max_frames }
+    {
+        self.left + u64::from(self.inlet.is_some())
+    }
+
+    /// How many frames it gave.
+    pub fn given(&self) -> u64
+        ensures { result ≡ given_by S.acts self.now.left self.now.stages }
+    {
+        given_by_last(self.left, &self.stages)
+    }
+
+    /// How many frames left the inlet or a stage. For the frames taken it is at most their work; where
+    /// it is done, it is the frames taken and the frames that each stage gives in all.
+    pub fn moves(&self) -> u64
+        ensures value { result ≡ moves_of S.acts self.now }
+        ensures within { result ≤ work (kinds S.acts self.now.stages) (taken_of self.now) }
+        ensures done { IsDone S.acts self.now → result ≡ taken_of self.now + total (λ w. w.given) (wholes_of S.acts self.now []) }
+    {
+        self.left + given_by_all(&self.stages)
+    }
+
+    /// How many frames it holds: in the inlet, and in the stages.
+    pub fn held(&self) -> u64
+        ensures value { result ≡ length (option_to_list self.now.inlet) + held_sum S.acts self.now.stages }
+        ensures within { result ≤ 1 + hold_sum (kinds S.acts self.now.stages) }
+    {
+        u64::from(self.inlet.is_some()) + held_by(&self.stages)
+    }
+
+    /// How many frames it may hold. The capacities of the lines are those that the arguments of the stages require.
+    pub fn hold(&self) -> u64
+        ensures value { result ≡ 1 + hold_sum (kinds S.acts self.now.stages) }
+        ensures lines { result ≡ 1 + line_sum (kinds S.acts self.now.stages) + length self.now.stages }
+        ensures capacities { capacity_sum S.acts self.now.stages ≡ line_sum (kinds S.acts self.now.stages) }
+    {
+        1 + hold_by(&self.stages)
+    }
+
+    /// How many samples were clipped in the frames that a stage gave; stages count from 0.
+    pub fn clips(&self, i: usize) -> u64
+        requires { i < length self.now.stages }
+        ensures value { result ≡ slice_index (map (λ s. (S.acts.counts s).clips) self.now.stages) i }
+        ensures done { IsDone S.acts self.now → result ≡ slice_index (map (λ w. w.clips) (wholes_of S.acts self.now [])) i }
+    {
+        let stages = &self.stages;
+        stages[i].clips()
+    }
+
+    /// Whether some stage gives nothing more, whatever input follows. Then no further frame changes what is
+    /// still to be given.
+    pub fn is_spent(&self) -> bool
+        ensures value { result ≡ any_spent S.acts self.now.stages }
+        ensures enough { IsHungry S.acts self.now → result ≡ enough_for (kinds S.acts self.now.stages) (taken_of self.now) }
+        ensures same { result ≡ true → (z : List Samples) → rest_of S.acts self.now z ≡ rest_of S.acts self.now [] }
+    {
+        is_any_spent(&self.stages)
+    }
+
+    /// The frames that it holds, first that of the inlet, then those of each stage; and eight numbers of the
+    /// inlet and eight of each stage.
+    pub fn freeze(&self, alloc: Global) -> Result<(Vec<WideFrame>, Vec<u64>), AllocError>
+        ensures frozen { IfOk result (λ p. FreezesFlow S.acts self.now p.0.items p.1.items) }
+        ensures frames { IfOk result (λ p. length p.0.items ≡ length (option_to_list self.now.inlet) + held_sum S.acts self.now.stages) }
+        ensures numbers { IfOk result (λ p. length p.1.items ≡ 8 * (length self.now.stages + 1)) }
+        ensures sound { OnOk result (IsSound S.acts self.now × AllSound S.sound self.now.stages) }
+    {
+        let held = u64::from(self.inlet.is_some());
+        let state_counters = [
+            self.taken(),
+            self.left,
+            u64::from(self.ended),
+            0,
+            held,
+            0,
+            0,
+            0,
+        ];
+        let mut numbers = Vec::new(alloc);
+        numbers.extend_from_slice(&state_counters)?;
+        append_numbers(&self.stages, &mut numbers)?;
+        let mut frames = Vec::new(alloc);
+        append_inlet(&self.inlet, &mut frames)?;
+        append_frames(&self.stages, &mut frames)?;
+        Ok((frames, numbers))
+    }
+
+    /// The stages, in order. The last has given no more frames than it may give for those taken, and where the flow is
+    /// hungry each has given all that are due.
+    pub fn stages(&self) -> &[S]
+        ensures value { result.now ≡ self.now.stages }
+        ensures due { IsHungry S.acts self.now → given_by S.acts self.now.left self.now.stages ≡ due_of (kinds S.acts self.now.stages) (taken_of self.now) }
+        ensures maximum { given_by S.acts self.now.left self.now.stages ≤ max_of (kinds S.acts self.now.stages) (taken_of self.now) }
+        ensures determined { IsHungry S.acts self.now → AllDetermined S.acts self.now.stages }
+        ensures sound { IsSound S.acts self.now }
+    {
+        &self.stages
+    }
+
+    /// The frame in the inlet, if there is one.
+    pub fn inlet(&self) -> Option<Frame>
+        ensures { result ≡ self.now.inlet }
+    {
+        self.inlet
+    }
+}
+
+impl<S: Feeds> Flow<S> {
+    ghost use Rattle.fx_chain_flow.specs.Parts.{any_spent, taken_of};
+    ghost use Rattle.fx_chain_flow.specs.Sound.{max_frames};
+    ghost use Rattle.fx_chain_flow.specs.Steps.{StateIs};
+
+    /// Takes frames from the front of the input, and writes those that are given to the front of the output, each frame
+    /// through all stages before the next one is taken: until the output has no space for another frame, or the flow is
+    /// done, or it is hungry and takes none. A frame is taken only while the output has space for one more than was due before
+    /// it; where the output has no space for one frame, nothing changes, and once it has none, the call ends: the
+    /// last step is the one that gave the last frame.
+    pub fn feed(&mut self, input: &[i32], output: &mut [i32]) -> Passed
+        requires channels { (1 ≤ self.old.channels) × (self.old.channels ≤ 16) }
+        requires bound { (n : ℕ) → n * self.old.channels ≤ length input.now → taken_of self.old + n ≤ max_frames }
+        ensures fed { FlowFed S.acts self.old (pieces self.old.channels result.taken input.now) (pieces (outputs_of self.old.channels (kinds S.acts self.old.stages)) result.given output.new) self.new }
+        ensures gave { FlowGave S.acts self.old (pieces self.old.channels result.taken input.now) (pieces (outputs_of self.old.channels (kinds S.acts self.old.stages)) result.given output.new) self.new }
+        ensures read { result.taken * self.old.channels ≤ length input.now }
+        ensures written { result.given * outputs_of self.old.channels (kinds S.acts self.old.stages) ≤ length output.new }
+        ensures rest_unchanged { drop (result.given * outputs_of self.old.channels (kinds S.acts self.old.stages)) output.new ≡ drop (result.given * outputs_of self.old.channels (kinds S.acts self.old.stages)) output.old }
+        ensures waits { let outputs = outputs_of self.old.channels (kinds S.acts self.old.stages) in result.given * outputs + outputs ≤ length output.new → StateIs S.acts State.Busy self.new → ⊥ }
+        ensures used { let outputs = outputs_of self.old.channels (kinds S.acts self.old.stages) in result.given * outputs + outputs ≤ length output.new → self.new.ended ≡ false → any_spent S.acts self.new.stages ≡ false
+            → length input.now < result.taken * self.old.channels + self.old.channels }
+        ensures free { FlowTookWithinCapacity S.acts self.old result.taken (length output.old) }
+        ensures unchanged { length output.old < outputs_of self.old.channels (kinds S.acts self.old.stages) → self.new ≡ self.old }
+        ensures full { let outputs = outputs_of self.old.channels (kinds S.acts self.old.stages) in 1 ≤ result.given → length output.old < result.given * outputs + outputs
+            → GaveLast S.acts self.old (pieces self.old.channels result.taken input.now) (pieces outputs result.given output.new) self.new }
+    {
+        if self.inlet.is_some() || self.ended {
+            return feed_by_steps(self, input, output);
+        }
+        let stages = self.stages.len();
+        if stages == 0 {
+            let count = copy_frames(input, output, self.channels);
+            self.left += count as u64;
+            return Passed {
+                taken: count,
+                given: count,
+            };
+        }
+        if stages > 1 {
+            return feed_by_steps(self, input, output);
+        }
+        let passed = feed_only(&mut self.stages, input, output);
+        self.left += passed.taken as u64;
+        let count = self.stages.len();
+        self.wet = wet_end(&self.stages, count);
+        passed
+    }
+}
+
+impl<S: Feeds> Flow<S> {
+    ghost use Rattle.fx_chain_flow.specs.Parts.{any_spent, ended_of, moves_of, taken_of};
+    ghost use Rattle.fx_chain_flow.specs.Runs.{AllKeep};
+    ghost use Rattle.fx_chain_flow.specs.Sound.{max_frames};
+    ghost use Rattle.fx_chain_flow.specs.Steps.{IsHungry};
+
+    /// The channels of the frames that it takes and gives, and whether each stage gives as many as it takes.
+    pub(crate) fn widths(&self) -> Widths
+        ensures inputs { result.inputs ≡ self.now.channels }
+        ensures outputs { result.outputs ≡ outputs_of self.now.channels (kinds S.acts self.now.stages) }
+        ensures keep { result.keeps ≡ true → AllKeep self.now.channels (kinds S.acts self.now.stages) }
+    {
+        Widths {
+            inputs: self.channels,
+            outputs: last_channels(self.channels, &self.stages),
+            keeps: keeps_channels(&self.stages, self.channels),
+        }
+    }
+
+    /// Passes frames at the front of the input through the stages of a hungry flow, at least one, each through all stages
+    /// before the next one is taken, and writes those that come out to the front of the output.
+    pub(crate) fn run(&mut self, widths: Widths, input: &[i32], output: &mut [i32]) -> Passed
+        requires hungry { IsHungry S.acts self.old }
+        requires not_spent { any_spent S.acts self.old.stages ≡ false }
+        requires channels { (1 ≤ self.old.channels) × (self.old.channels ≤ 16) }
+        requires bound { (n : ℕ) → n * self.old.channels ≤ length input.now → taken_of self.old + n ≤ max_frames }
+        requires inputs { widths.inputs ≡ self.old.channels }
+        requires outputs { widths.outputs ≡ outputs_of self.old.channels (kinds S.acts self.old.stages) }
+        requires keep { widths.keeps ≡ true → AllKeep self.old.channels (kinds S.acts self.old.stages) }
+        requires one_in { self.old.channels ≤ length input.now }
+        requires one_out { widths.outputs ≤ length output.old }
+        ensures fed { FlowFed S.acts self.old (pieces self.old.channels result.taken input.now) (pieces (outputs_of self.old.channels (kinds S.acts self.old.stages)) result.given output.new) self.new }
+        ensures gave { FlowGave S.acts self.old (pieces self.old.channels result.taken input.now) (pieces (outputs_of self.old.channels (kinds S.acts self.old.stages)) result.given output.new) self.new }
+        ensures read { result.taken * self.old.channels ≤ length input.now }
+        ensures written { result.given * outputs_of self.old.channels (kinds S.acts self.old.stages) ≤ length output.new }
+        ensures small { result.given ≤ result.given * outputs_of self.old.channels (kinds S.acts self.old.stages) }
+        ensures rest_unchanged { drop (result.given * outputs_of self.old.channels (kinds S.acts self.old.stages)) output.new ≡ drop (result.given * outputs_of self.old.channels (kinds S.acts self.old.stages)) output.old }
+        ensures moves { moves_of S.acts self.old + ended_of S.acts self.old.stages ≤ moves_of S.acts self.new + ended_of S.acts self.new.stages }
+        ensures some { 1 ≤ result.taken }
+        ensures free { FlowTookWithinCapacity S.acts self.old result.taken (length output.old) }
+        ensures full { let outputs = outputs_of self.old.channels (kinds S.acts self.old.stages) in 1 ≤ result.given → length output.old < result.given * outputs + outputs
+            → GaveLast S.acts self.old (pieces self.old.channels result.taken input.now) (pieces outputs result.given output.new) self.new }
+    {
+        let maximum = (input.len() / widths.inputs).min(output.len() / widths.outputs.max(1));
+        let count = min_ahead(&self.stages, maximum).max(1);
+        see_lined(&self.stages);
+        let passed = run(&mut self.stages, widths, count, input, output);
+        self.left += passed.taken as u64;
+        let stages = self.stages.len();
+        self.wet = wet_end(&self.stages, stages);
+        passed
+    }
+}
+
+impl<S: Thaws + Drop> Flow<S> {
+    ghost use Rattle.fx_chain_flow.specs.Parts.{Parts};
+    ghost use Rattle.fx_chain_flow.specs.Sound.{IsPlanned, IsSound};
+
+    /// The flow of stages of these arguments, which takes frames of `channels` channels, that held these
+    /// frames and counted these numbers: whichever it was is restored, unless memory is refused.
+    /// BadSnapshot where there is none, Memory where an allocation was refused.
+    pub fn thaw(
+        alloc: Global,
+        arguments: &[S::Arguments],
+        channels: usize,
+        frames: &[WideFrame],
+        numbers: &[u64],
+    ) -> Result<Flow<S>, ThawFault>
+        requires fits { All S.fits arguments.now }
+        requires planned { (stages : List S) → AllMade S.made arguments.now stages → IsPlanned (kinds S.acts stages) channels }
+        ensures made { IfOk result (λ t. AllMade S.made arguments.now t.stages × (t.channels ≡ channels)) }
+        ensures frozen { IfOk result (λ t. FreezesFlow S.acts t frames.now numbers.now) }
+        ensures named { (result ≡ Err ThawFault.WrongPlan) → ⊥ }
+        ensures thawed { (f : Parts S) → IsSound S.acts f → AllSound S.sound f.stages → AllMade S.made arguments.now f.stages → f.channels ≡ channels → FreezesFlow S.acts f frames.now numbers.now → MatchResult result (λ t. t ≡ f) (λ e. e ≡ ThawFault.Memory) }
+    {
+        let Some((state_counters, rest)) = numbers.split_first_chunk::<8>() else {
+            return Err(ThawFault::BadSnapshot);
+        };
+        let held = state_counters[HELD];
+        if held > frames.len() as u64 {
+            return Err(ThawFault::BadSnapshot);
+        }
+        let (first, later) = frames.split_at(held as usize);
+        let Inlet { frame, left, ended } = thaw_inlet(first, state_counters, channels)?;
+        let stages = thaw_all(alloc, arguments, later, rest)?;
+        if !is_joined(&stages, left, ended) {
+            return Err(ThawFault::BadSnapshot);
+        }
+        let wet = wet_end(&stages, stages.len());
+        Ok(Flow {
+            stages,
+            inlet: frame,
+            wet,
+            left,
+            channels,
+            ended,
+        })
+    }
+}
+
+/// The step that gives this frame out, or none.
+#[inline(always)]
+fn made(out: Option<Frame>) -> Step
+    ensures { result ≡ step_of out }
+{
+    match out {
+        Some(frame) => Step::Given(frame),
+        None => Step::Moved,
+    }
+}

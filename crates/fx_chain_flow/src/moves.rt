@@ -1,0 +1,190 @@
+ghost use Rattle.std.specs.Prelude.{◌≡◌, ◌<◌, ◌≤◌, ◌↔◌, ◌^◌, ℕ, true, Some, None, drop, length, MatchOption, List};
+ghost use Rattle.fx_frame_stage.specs.Frame.{Samples};
+ghost use Rattle.fx_chain_flow.specs.Parts.{AllDetermined, AllEnded, IsWetEnd, IsFirstOpen, EndPassed, any_spent, given_by, given_of, through};
+ghost use Rattle.fx_chain_flow.specs.Feed.{CanFeedOnly, FedOnly};
+ghost use Rattle.fx_frame_stage.specs.Pipeline.{outputs_of};
+ghost use Rattle.fx_chain_flow.specs.Moving.{CanMove, Lifted, MovedFrom};
+ghost use Rattle.fx_chain_flow.specs.Pipeline.{AllLined};
+ghost use Rattle.fx_frame_stage.specs.Holds.{kinds};
+
+use fx_frame_stage::frame::Frame;
+use fx_frame_stage::stage::Stage;
+use fx_frame_stage::{Feeds, Passed};
+
+/// One place after the last stage that is not dry, or 0 where all are dry. From that place on all are dry.
+#[inline(always)]
+pub fn wet_end<S: Stage>(stages: &[S], from: usize) -> usize
+    requires within { from ≤ length stages.now }
+    requires dry { AllDetermined S.acts (drop from stages.now) }
+    ensures { IsWetEnd S.acts result stages.now }
+{
+    'stages: for place in (0..from).rev() {
+        let dry = stages[place].is_dry();
+        if !dry {
+            return place + 1;
+        }
+    }
+    0
+}
+
+/// Takes a frame out of the stage before a place, or out of the inlet before all.
+#[inline(always)]
+fn lift<S: Stage>(stages: &mut [S], inlet: &mut Option<Frame>, place: usize) -> Frame
+    requires { CanMove S.acts place inlet.old stages.old }
+    ensures { Lifted S.acts place inlet.old inlet.new result stages.old stages.new }
+{
+    if place == 0 {
+        let Some(frame) = inlet.take() else {
+            unreachable!()
+        };
+        return frame;
+    }
+    let count = stages.len();
+    let before = place - 1;
+    prove!(before < count);
+    let Some(frame) = stages[before].give() else {
+        unreachable!()
+    };
+    frame
+}
+
+/// Moves a frame from the stage before a place, or from the inlet before all, to the stage at the
+/// place, or out where there is none.
+#[inline(always)]
+pub fn move_on<S: Stage>(stages: &mut [S], inlet: &mut Option<Frame>, place: usize) -> Option<Frame>
+    requires { CanMove S.acts place inlet.old stages.old }
+    ensures { MovedFrom S.acts place inlet.old inlet.new result stages.old stages.new }
+{
+    let frame = lift(stages, inlet, place);
+    let count = stages.len();
+    if place == count {
+        return Some(frame);
+    }
+    prove!(place < count);
+    stages[place].take(frame);
+    None
+}
+
+/// The first stage that is not ended.
+pub fn first_open<S: Stage>(stages: &[S]) -> Option<usize>
+    ensures { MatchOption result (AllEnded S.acts stages.now) (λ i. IsFirstOpen S.acts i stages.now) }
+{
+    'stages: for i in 0..stages.len() {
+        let ended = stages[i].is_ended();
+        if !ended {
+            return Some(i);
+        }
+    }
+    None
+}
+
+/// Gives a stage the end.
+fn pass_end<S: Stage>(stages: &mut [S], i: usize)
+    requires dry { AllDetermined S.acts stages.old }
+    requires first { IsFirstOpen S.acts i stages.old }
+    ensures { EndPassed S.acts i stages.old stages.new }
+{
+    let count = stages.len();
+    prove!(i < count);
+    stages[i].end();
+}
+
+/// Gives the end to the first stage that is not ended. One place after the last stage that is not dry then,
+/// or 0 where all are dry.
+#[cold]
+#[inline(never)]
+pub fn pass_on<S: Stage>(stages: &mut [S]) -> usize
+    requires dry { AllDetermined S.acts stages.old }
+    requires open { AllEnded S.acts stages.old → ⊥ }
+    ensures passed { (i : ℕ) × IsFirstOpen S.acts i stages.old × EndPassed S.acts i stages.old stages.new }
+    ensures wet { IsWetEnd S.acts result stages.new }
+{
+    let Some(place) = first_open(stages) else {
+        unreachable!()
+    };
+    pass_end(stages, place);
+    let count = stages.len();
+    wet_end(stages, count)
+}
+
+/// Whether nothing is to be moved, neither from a stage nor from the inlet.
+#[inline(always)]
+pub fn is_unchanged(wet: usize, inlet: &Option<Frame>) -> bool
+    ensures { result ≡ true ↔ ((wet ≡ 0) × (inlet.now ≡ None)) }
+{
+    wet == 0 && inlet.is_none()
+}
+
+/// How many frames the stages gave.
+pub fn given_by_all<S: Stage>(stages: &[S]) -> u64
+    requires { given_of S.acts stages.now < 2 ^ 64 }
+    ensures { result ≡ given_of S.acts stages.now }
+{
+    let mut sum = 0;
+    'stages: for stage in stages {
+        sum += stage.counter_values().given;
+    }
+    sum
+}
+
+/// How many frames the last stage gave; without a stage those that left the inlet.
+pub fn given_by_last<S: Stage>(left: u64, stages: &[S]) -> u64
+    ensures { result ≡ given_by S.acts left stages.now }
+{
+    let mut given = left;
+    let mut rest = stages;
+    while let Some((stage, more)) = rest.split_first() {
+        given = stage.counter_values().given;
+        rest = more;
+    }
+    given
+}
+
+/// Whether some stage gives nothing more, whatever input follows. Then the output of the last one does not depend on it.
+pub fn is_any_spent<S: Stage>(stages: &[S]) -> bool
+    ensures value { result ≡ any_spent S.acts stages.now }
+    ensures same { result ≡ true → (x y : List Samples) → through S.acts stages.now x ≡ through S.acts stages.now y }
+{
+    'stages: for i in 0..stages.len() {
+        let spent = stages[i].is_spent();
+        if spent {
+            return true;
+        }
+    }
+    false
+}
+
+/// The channels of the frames that the last stage gives; without a stage of those that come.
+pub fn last_channels<S: Stage>(channels: usize, stages: &[S]) -> usize
+    ensures { result ≡ outputs_of channels (kinds S.acts stages.now) }
+{
+    let mut last = channels;
+    let mut rest = stages;
+    'stages: while let Some((stage, more)) = rest.split_first() {
+        last = stage.out_channels();
+        rest = more;
+    }
+    last
+}
+
+/// Feeds the only stage.
+#[inline(always)]
+pub fn feed_only<S: Feeds>(stages: &mut [S], input: &[i32], output: &mut [i32]) -> Passed
+    requires { CanFeedOnly S.acts input.now stages.old }
+    ensures { FedOnly S.acts input.now output.old output.new result.taken result.given stages.old stages.new }
+{
+    let count = stages.len();
+    prove!(0 < count);
+    let _held = stages[0].held();
+    stages[0].feed(input, output)
+}
+
+/// Shows that dry stages hold only the frames of their lines.
+pub fn see_lined<S: Stage>(stages: &[S])
+    requires { AllDetermined S.acts stages.now }
+    ensures { AllLined S.acts stages.now }
+{
+    'stages: for place in (0..stages.len()).rev() {
+        let _dry = stages[place].is_dry();
+    }
+}

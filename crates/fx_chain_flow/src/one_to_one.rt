@@ -1,0 +1,100 @@
+//! Frames that go through stages a few at a time, as long as each stage gives one frame for each that it takes.
+ghost use Rattle.std.specs.Prelude.{◌≡◌, ◌+◌, ◌*◌, ◌≤◌, ℕ, drop, length};
+ghost use Rattle.fx_frame_stage.specs.Holds.{held_sum, hold_sum, kinds};
+ghost use Rattle.fx_frame_lists.specs.Lists.{pieces};
+ghost use Rattle.fx_frame_stage.specs.Pipeline.{AreReady, PipelineThrough};
+ghost use Rattle.fx_chain_flow.specs.Parts.{AllDetermined};
+ghost use Rattle.fx_chain_flow.specs.Pipeline.{AllLined};
+ghost use Rattle.fx_chain_flow.specs.Runs.{AllAhead, AllKeep, AllOneToOne, MayRun, RanOn};
+ghost use Rattle.fx_chain_flow.specs.Together.{CameTogether, WentInGroups};
+
+use fx_frame_stage::Feeds;
+use fx_frame_stage::feed::see_samples;
+
+/// For how many frames more, at most `maximum`, each stage gives one for each.
+pub fn min_one_to_one<S: Feeds>(stages: &[S], maximum: usize) -> usize
+    ensures maximum { result ≤ maximum }
+    ensures one_to_one { AllOneToOne S.acts result stages.now }
+{
+    let mut minimum = maximum;
+    'stages: for place in (0..stages.len()).rev() {
+        let one_to_one = stages[place].one_to_one();
+        minimum = (minimum as u64).min(one_to_one) as usize;
+    }
+    minimum
+}
+
+/// Passes `count` frames through stages that are dry and give one for each, and writes those that come out. All of them go
+/// through a stage before the first goes through the next: with the frames of the lines they are no more than the stages and
+/// the inlet may hold, before the first stage, between any two, and after the last.
+fn pass_batch<S: Feeds>(
+    stages: &mut [S],
+    channels: usize,
+    count: usize,
+    input: &[i32],
+    output: &mut [i32],
+)
+    requires frame { (1 ≤ channels) × (channels ≤ 16) }
+    requires some { 1 ≤ count }
+    requires ready { (taken maximum : ℕ) × (taken + count ≤ maximum) × AreReady S.acts channels taken maximum stages.old }
+    requires keep { AllKeep channels (kinds S.acts stages.old) }
+    requires one_to_one { AllOneToOne S.acts count stages.old }
+    requires ahead { AllAhead S.acts count stages.old }
+    requires lined { AllLined S.acts stages.old }
+    requires bound { count ≤ 1 + length stages.old }
+    requires input { length input.now ≡ count * channels }
+    requires output { length output.old ≡ count * channels }
+    ensures through { PipelineThrough S.acts (pieces channels count input.now) (pieces channels count output.new) stages.old stages.new }
+    ensures lined { AllLined S.acts stages.new }
+    ensures within { held_sum S.acts stages.new + count ≤ 1 + hold_sum (kinds S.acts stages.new) }
+    ensures together { CameTogether S.acts stages.old (pieces channels count input.now) (length stages.old) (pieces channels count output.new) stages.new }
+{
+    output.copy_from_slice(input);
+    'stages: for place in 0..stages.len() {
+        stages[place].pass_frames(count, output);
+    }
+}
+
+/// Passes `count` frames at the front of the input through stages that are dry and give one for each, and writes those that
+/// come out to the front of the output.
+///
+/// They go a few at a time, all of them through a stage before the first goes through the next: as many as the inlet and the
+/// stages can hold as pending frames together, so that with the frames of the lines there are never more than the flow may
+/// hold.
+pub fn run_steadily<S: Feeds>(
+    stages: &mut [S],
+    channels: usize,
+    count: usize,
+    input: &[i32],
+    output: &mut [i32],
+)
+    requires frame { (1 ≤ channels) × (channels ≤ 16) }
+    requires keep { AllKeep channels (kinds S.acts stages.old) }
+    requires input { count * channels ≤ length input.now }
+    requires output { count * channels ≤ length output.old }
+    requires may_run { (left : ℕ) × MayRun S.acts channels count stages.old left }
+    requires determined { AllDetermined S.acts stages.old }
+    requires lined { AllLined S.acts stages.old }
+    requires ahead { AllAhead S.acts count stages.old }
+    requires one_to_one { AllOneToOne S.acts count stages.old }
+    ensures ran { (left : ℕ) → MayRun S.acts channels count stages.old left → RanOn S.acts channels (pieces channels count input.now) (pieces channels count output.new) stages.old stages.new left }
+    ensures rest_unchanged { drop (count * channels) output.new ≡ drop (count * channels) output.old }
+    ensures groups { WentInGroups S.acts stages.old (pieces channels count input.now) (pieces channels count output.new) stages.new }
+{
+    see_samples(&input[..count * channels]);
+    let bound = stages.len().saturating_add(1);
+    let mut done = 0;
+    'pieces: while done < count {
+        let piece = bound.min(count - done);
+        let from = done * channels;
+        let to = from + piece * channels;
+        pass_batch(
+            stages,
+            channels,
+            piece,
+            &input[from..to],
+            &mut output[from..to],
+        );
+        done += piece;
+    }
+}

@@ -1,0 +1,251 @@
+//! Frames that go through stages one after another, with no checks between two of them.
+ghost use Rattle.std.specs.Prelude.{◌≡◌, ◌<◌, ◌≤◌, ℕ, Some, None, true, false, take, if◌then◌else◌};
+ghost use Rattle.fx_frame_stage.specs.Pipeline.{AreReady, outputs_of};
+ghost use Rattle.fx_chain_flow.specs.Parts.{AllDetermined};
+ghost use Rattle.fx_chain_flow.specs.Pipeline.{WentThrough};
+ghost use Rattle.fx_chain_flow.specs.Runs.{AllAhead, AllKeep, MayRunPipeline, RanPipeline};
+ghost use Rattle.fx_frame_stage.specs.Feed.{PassedOn};
+ghost use Rattle.fx_frame_stage.specs.Holds.{kinds};
+ghost use Rattle.fx_frame_stage.specs.Stage.{IsDry, kind, spent};
+
+use crate::one_to_one::{min_one_to_one, run_steadily};
+use fx_frame_stage::feed::{copy_samples, see_samples};
+use fx_frame_stage::stage::Stage;
+use fx_frame_stage::{Feeds, Passed, Passing};
+
+/// The result of passing a frame through stages.
+#[derive(Clone, Copy)]
+pub struct Passage {
+    /// The last stage gave a frame for it.
+    pub is_given: bool,
+    /// A stage has another frame to give now.
+    pub is_wet: bool,
+}
+
+/// Whether each stage gives frames of `channels` channels.
+pub fn keeps_channels<S: Stage>(stages: &[S], channels: usize) -> bool
+    ensures { result ≡ true → AllKeep channels (kinds S.acts stages.now) }
+{
+    'stages: for place in (0..stages.len()).rev() {
+        if stages[place].out_channels() != channels {
+            return false;
+        }
+    }
+    true
+}
+
+/// For how many frames more, at most `maximum`, no stage has had enough.
+pub fn min_ahead<S: Feeds>(stages: &[S], maximum: usize) -> usize
+    ensures maximum { result ≤ maximum }
+    ensures ahead { AllAhead S.acts result stages.now }
+{
+    let mut minimum = maximum;
+    'stages: for place in (0..stages.len()).rev() {
+        let ahead = stages[place].ahead();
+        minimum = (minimum as u64).min(ahead) as usize;
+    }
+    minimum
+}
+
+/// The channels of the frames that go through stages.
+#[derive(Clone, Copy)]
+pub struct Widths {
+    /// Those of the frames that go in.
+    pub inputs: usize,
+    /// Those of the frames that come out.
+    pub outputs: usize,
+    /// Each stage gives as many as go in.
+    pub keeps: bool,
+}
+
+impl Widths {
+    /// Those of stages that each give as many as go in.
+    #[inline(always)]
+    fn kept(channels: usize) -> Widths
+        ensures { result ≡ record { inputs = channels; outputs = channels; keeps = true } }
+    {
+        Widths {
+            inputs: channels,
+            outputs: channels,
+            keeps: true,
+        }
+    }
+}
+
+/// Passes a frame of `channels` channels, whose samples come first in sixteen places, to a stage. Where it gives one then, its
+/// samples come first, and its channels are returned.
+#[inline(always)]
+fn pass_to<S: Feeds>(
+    stage: &mut S,
+    keeps: bool,
+    places: &mut [i32; 16],
+    channels: &mut usize,
+) -> Passing
+    requires dry { S.acts.dry stage.old ≡ true }
+    requires not_ended { (S.acts.counts stage.old).ended ≡ false }
+    requires not_spent { spent S.acts stage.old ≡ false }
+    requires channels { channels.old ≡ (kind S.acts stage.old).inputs }
+    requires frame { (1 ≤ channels.old) × (channels.old ≤ 16) }
+    requires keep { keeps ≡ true → (kind S.acts stage.old).outputs ≡ (kind S.acts stage.old).inputs }
+    requires below_limit { (S.acts.counts stage.old).taken < (kind S.acts stage.old).limit }
+    ensures passed { PassedOn S.acts result stage.old stage.new (take channels.old places.old) (take channels.new places.new) }
+    ensures frame { (1 ≤ channels.new) × (channels.new ≤ 16) }
+    ensures kept { keeps ≡ true → channels.new ≡ channels.old }
+    ensures determined { S.acts.dry stage.new ≡ true → IsDry S.acts stage.new }
+{
+    if keeps {
+        stage.pass_samples(&mut places[..*channels])
+    } else {
+        stage.pass_places(places, channels)
+    }
+}
+
+/// Passes a frame of `channels` channels, whose samples come first in sixteen places, through stages that are dry, one after
+/// another. Where the last gives a frame, its samples then come first.
+#[inline(always)]
+fn pass_along<S: Feeds>(
+    stages: &mut [S],
+    keeps: bool,
+    channels: usize,
+    places: &mut [i32; 16],
+) -> Passage
+    requires frame { (1 ≤ channels) × (channels ≤ 16) }
+    requires ready { (taken maximum : ℕ) × (taken < maximum) × AreReady S.acts channels taken maximum stages.old }
+    requires keep { keeps ≡ true → AllKeep channels (kinds S.acts stages.old) }
+    requires determined { AllDetermined S.acts stages.old }
+    ensures went { WentThrough S.acts (take channels places.old) (if result.is_given then Some (take (outputs_of channels (kinds S.acts stages.old)) places.new) else None) stages.old stages.new }
+    ensures frame { result.is_given ≡ true → (1 ≤ outputs_of channels (kinds S.acts stages.old)) × (outputs_of channels (kinds S.acts stages.old) ≤ 16) }
+    ensures determined { result.is_wet ≡ false → AllDetermined S.acts stages.new }
+{
+    let mut is_wet = false;
+    let mut width = channels;
+    'stages: for place in 0..stages.len() {
+        match pass_to(&mut stages[place], keeps, places, &mut width) {
+            Passing::Kept => {
+                return Passage {
+                    is_given: false,
+                    is_wet,
+                };
+            }
+            Passing::Through => {}
+            Passing::More => is_wet = true,
+        }
+    }
+    Passage {
+        is_given: true,
+        is_wet,
+    }
+}
+
+/// Passes `count` frames at the front of the input through stages that are dry, each through all of them before the next, and
+/// writes those that come out to the front of the output; fewer where a stage has more to give.
+#[inline(always)]
+fn run_frames<S: Feeds>(
+    stages: &mut [S],
+    widths: Widths,
+    count: usize,
+    input: &[i32],
+    output: &mut [i32],
+) -> Passed
+    requires { MayRunPipeline S.acts widths count input.now output.old stages.old }
+    ensures { RanPipeline S.acts widths count input.now output.old output.new stages.old stages.new result }
+{
+    see_samples(&input[..count * widths.inputs]);
+    let mut places = [0; 16];
+    let mut given = 0;
+    'frames: for taken in 0..count {
+        let read = taken * widths.inputs;
+        copy_samples(
+            &input[read..read + widths.inputs],
+            &mut places[..widths.inputs],
+        );
+        let passage = pass_along(stages, widths.keeps, widths.inputs, &mut places);
+        if passage.is_given {
+            let written = given * widths.outputs;
+            copy_samples(
+                &places[..widths.outputs],
+                &mut output[written..written + widths.outputs],
+            );
+            given += 1;
+        }
+        if passage.is_wet {
+            return Passed {
+                taken: taken + 1,
+                given,
+            };
+        }
+    }
+    Passed {
+        taken: count,
+        given,
+    }
+}
+
+/// As `run_frames`, where the channels are often known beforehand.
+fn run_by_frames<S: Feeds>(
+    stages: &mut [S],
+    widths: Widths,
+    count: usize,
+    input: &[i32],
+    output: &mut [i32],
+) -> Passed
+    requires { MayRunPipeline S.acts widths count input.now output.old stages.old }
+    ensures { RanPipeline S.acts widths count input.now output.old output.new stages.old stages.new result }
+{
+    if !widths.keeps {
+        return run_frames(stages, widths, count, input, output);
+    }
+    match widths.inputs {
+        1 => run_frames(stages, Widths::kept(1), count, input, output),
+        2 => run_frames(stages, Widths::kept(2), count, input, output),
+        8 => run_frames(stages, Widths::kept(8), count, input, output),
+        channels => run_frames(stages, Widths::kept(channels), count, input, output),
+    }
+}
+
+/// As `run_by_frames`; where each stage gives one frame for each and keeps the channels, a few frames at a time.
+fn run_apart<S: Feeds>(
+    stages: &mut [S],
+    widths: Widths,
+    count: usize,
+    input: &[i32],
+    output: &mut [i32],
+) -> Passed
+    requires { MayRunPipeline S.acts widths count input.now output.old stages.old }
+    ensures { RanPipeline S.acts widths count input.now output.old output.new stages.old stages.new result }
+{
+    let one_to_one = min_one_to_one(stages, count);
+    if !widths.keeps || one_to_one == 0 {
+        return run_by_frames(stages, widths, count, input, output);
+    }
+    run_steadily(stages, widths.inputs, one_to_one, input, output);
+    Passed {
+        taken: one_to_one,
+        given: one_to_one,
+    }
+}
+
+/// Passes `count` frames at the front of the input through stages that are dry: in one call for all of them where they have one
+/// for exactly this sequence of effects, else as `run_apart`.
+pub fn run<S: Feeds>(
+    stages: &mut [S],
+    widths: Widths,
+    count: usize,
+    input: &[i32],
+    output: &mut [i32],
+) -> Passed
+    requires { MayRunPipeline S.acts widths count input.now output.old stages.old }
+    ensures { RanPipeline S.acts widths count input.now output.old output.new stages.old stages.new result }
+{
+    if count == 0 {
+        return Passed { taken: 0, given: 0 };
+    }
+    let passed = S::pass_pipeline(stages, widths.inputs, widths.outputs, count, input, output);
+    if passed > 0 {
+        return Passed {
+            taken: passed,
+            given: passed,
+        };
+    }
+    run_apart(stages, widths, count, input, output)
+}

@@ -1,0 +1,6 @@
+pub mod Joining
+pub mod Making
+pub mod Planned
+pub mod Registered
+pub mod StageLaws
+pub mod Thawing

@@ -1,0 +1,202 @@
+//! The stage of any effect.
+ghost use Rattle.std.specs.Prelude.{◌≡◌, ◌+◌, ◌*◌, ◌≤◌, List, FitsSigned, false, true, drop, length, take};
+ghost use Rattle.std.specs.Int.{w32};
+ghost use Rattle.std.specs.List.{All};
+ghost use Rattle.fx_frame_stage.specs.Frame.{Samples};
+ghost use Rattle.fx_frame_lists.specs.Lists.{pieces};
+ghost use Rattle.fx_frame_stage.specs.Pipeline.{EachThrough};
+ghost use Rattle.fx_frame_stage.specs.Stage.{kind};
+ghost use Rattle.fx_chain_stages.specs.Stages.{effect_acts};
+
+use crate::registry::{EffectStage, each, each_by_samples};
+use fx_frame::{Counters, Feeds, Frame, Passed, Passing, WideFrame};
+use fx_frame_stage::stage::Stage;
+use fx_tap_pointwise::around::pass_around;
+use fx_tap_pointwise::both::pass_both;
+
+impl Stage for EffectStage {
+    ghost use Rattle.fx_plan_effects.proofs.Lasting.{rises-at};
+    ghost use Rattle.fx_plan_effects.specs.Meanings.{Placed};
+    ghost use Rattle.fx_chain_stages.specs.Stages.{effect_acts, sound_of_stages};
+
+    ghost Recipe = { Placed };
+
+    ghost acts = { effect_acts };
+
+    ghost sound = { sound_of_stages };
+
+    ghost rises = { rises-at };
+
+    fn take(&mut self, frame: Frame) {
+        each!(self, stage => stage.take(frame))
+    }
+
+    fn end(&mut self) {
+        each!(self, stage => stage.end())
+    }
+
+    fn give(&mut self) -> Option<Frame> {
+        each!(self, stage => stage.give())
+    }
+
+    fn is_dry(&self) -> bool {
+        each!(self, stage => stage.is_dry())
+    }
+
+    fn counter_values(&self) -> Counters {
+        each!(self, stage => stage.counter_values())
+    }
+
+    fn is_spent(&self) -> bool {
+        each!(self, stage => stage.is_spent())
+    }
+
+    fn held(&self) -> u64 {
+        each!(self, stage => stage.held())
+    }
+
+    fn hold(&self) -> u64 {
+        each!(self, stage => stage.hold())
+    }
+
+    fn in_channels(&self) -> usize {
+        each!(self, stage => stage.in_channels())
+    }
+
+    fn out_channels(&self) -> usize {
+        each!(self, stage => stage.out_channels())
+    }
+
+    fn state_counters(&self) -> [u64; 3] {
+        each!(self, stage => stage.state_counters())
+    }
+
+    fn stored(&self, j: usize) -> WideFrame {
+        each!(self, stage => stage.stored(j))
+    }
+}
+
+/// Passes `count` frames at the front of the input through two dry stages, where each rounds each sample alone: each frame
+/// through both before the next. Returns how many.
+fn pass_two(
+    first: &mut EffectStage,
+    second: &mut EffectStage,
+    count: usize,
+    input: &[i32],
+    output: &mut [i32],
+) -> usize
+    requires first_dry { effect_acts.dry first.old ≡ true }
+    requires first_open { (effect_acts.counts first.old).ended ≡ false }
+    requires first_bound { (effect_acts.counts first.old).taken + count ≤ (kind effect_acts first.old).limit }
+    requires second_dry { effect_acts.dry second.old ≡ true }
+    requires second_open { (effect_acts.counts second.old).ended ≡ false }
+    requires follows { (effect_acts.counts second.old).taken ≡ (effect_acts.counts first.old).given }
+    requires channels { (kind effect_acts second.old).inputs ≡ (kind effect_acts first.old).outputs }
+    requires input { count * (kind effect_acts first.old).inputs ≤ length input.now }
+    requires free { count * (kind effect_acts second.old).outputs ≤ length output.old }
+    ensures bound { result ≤ count }
+    ensures keeps { 1 ≤ result → (kind effect_acts second.old).outputs ≡ (kind effect_acts first.old).inputs }
+    ensures samples { All (FitsSigned w32) (take (result * (kind effect_acts first.old).inputs) input.now) }
+    ensures through { (between : List Samples) × EachThrough effect_acts (pieces (kind effect_acts first.old).inputs result input.now) between first.old first.new × EachThrough effect_acts between (pieces (kind effect_acts second.old).outputs result output.new) second.old second.new }
+    ensures rest_unchanged { drop (result * (kind effect_acts second.old).outputs) output.new ≡ drop (result * (kind effect_acts second.old).outputs) output.old }
+{
+    each_by_samples!(first, first => each_by_samples!(second, second => {
+        pass_both(first, second, count, input, output);
+    }));
+    count
+}
+
+/// Passes `count` frames at the front of the input through three dry stages, where the middle one is a `remix` and the others
+/// round each sample alone: each frame through all three before the next. Returns how many.
+fn pass_three(
+    first: &mut EffectStage,
+    middle: &mut EffectStage,
+    last: &mut EffectStage,
+    count: usize,
+    input: &[i32],
+    output: &mut [i32],
+) -> usize
+    requires first_dry { effect_acts.dry first.old ≡ true }
+    requires first_open { (effect_acts.counts first.old).ended ≡ false }
+    requires first_bound { (effect_acts.counts first.old).taken + count ≤ (kind effect_acts first.old).limit }
+    requires middle_dry { effect_acts.dry middle.old ≡ true }
+    requires middle_open { (effect_acts.counts middle.old).ended ≡ false }
+    requires middle_follows { (effect_acts.counts middle.old).taken ≡ (effect_acts.counts first.old).given }
+    requires middle_channels { (kind effect_acts middle.old).inputs ≡ (kind effect_acts first.old).outputs }
+    requires last_dry { effect_acts.dry last.old ≡ true }
+    requires last_open { (effect_acts.counts last.old).ended ≡ false }
+    requires last_follows { (effect_acts.counts last.old).taken ≡ (effect_acts.counts middle.old).given }
+    requires last_channels { (kind effect_acts last.old).inputs ≡ (kind effect_acts middle.old).outputs }
+    requires input { count * (kind effect_acts first.old).inputs ≤ length input.now }
+    requires free { count * (kind effect_acts last.old).outputs ≤ length output.old }
+    ensures bound { result ≤ count }
+    ensures frame { 1 ≤ result → 1 ≤ (kind effect_acts last.old).outputs }
+    ensures samples { All (FitsSigned w32) (take (result * (kind effect_acts first.old).inputs) input.now) }
+    ensures through { (before after : List Samples) × EachThrough effect_acts (pieces (kind effect_acts first.old).inputs result input.now) before first.old first.new × EachThrough effect_acts before after middle.old middle.new × EachThrough effect_acts after (pieces (kind effect_acts last.old).outputs result output.new) last.old last.new }
+    ensures rest_unchanged { drop (result * (kind effect_acts last.old).outputs) output.new ≡ drop (result * (kind effect_acts last.old).outputs) output.old }
+{
+    let EffectStage::Remix(middle) = middle else {
+        return 0;
+    };
+    each_by_samples!(first, first => each_by_samples!(last, last => {
+        pass_around(first, middle, last, count, input, output);
+    }));
+    count
+}
+
+impl Feeds for EffectStage {
+    #[tactic(auto, using(crate::proofs::Registered::joined_fed))]
+    fn feed(&mut self, input: &[i32], output: &mut [i32]) -> Passed {
+        each!(self, stage => stage.feed(input, output))
+    }
+
+    #[tactic(auto, using(crate::proofs::Registered::joined_passed))]
+    #[inline(always)]
+    fn pass_samples(&mut self, samples: &mut [i32]) -> Passing {
+        each!(self, stage => stage.pass_samples(samples))
+    }
+
+    #[inline(never)] // so that the loop over frames stays small enough for its stages to be inlined
+    fn pass_places(&mut self, places: &mut [i32; 16], channels: &mut usize) -> Passing {
+        match self {
+            EffectStage::Remix(stage) => stage.pass_places(places, channels),
+            _ => self.pass_samples(&mut places[..*channels]),
+        }
+    }
+
+    fn pass_pipeline(
+        stages: &mut [EffectStage],
+        channels: usize,
+        outputs: usize,
+        count: usize,
+        input: &[i32],
+        output: &mut [i32],
+    ) -> usize {
+        let Some((first, rest)) = stages.split_first_mut() else {
+            return 0;
+        };
+        let Some((second, rest)) = rest.split_first_mut() else {
+            return 0;
+        };
+        let Some((third, rest)) = rest.split_first_mut() else {
+            return pass_two(first, second, count, input, output);
+        };
+        if !rest.is_empty() {
+            return 0;
+        }
+        pass_three(first, second, third, count, input, output)
+    }
+
+    fn ahead(&self) -> u64 {
+        each!(self, stage => stage.ahead())
+    }
+
+    fn one_to_one(&self) -> u64 {
+        each!(self, stage => stage.one_to_one())
+    }
+
+    #[tactic(auto, using(crate::proofs::Registered::joined_through))]
+    fn pass_frames(&mut self, count: usize, samples: &mut [i32]) {
+        each!(self, stage => stage.pass_frames(count, samples))
+    }
+}

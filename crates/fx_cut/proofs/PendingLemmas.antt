@@ -1,0 +1,20 @@
+-- A frame in hand, or none.
+use Rattle.std.proofs.Common.{◌≡◌, ◌≤◌, true, [], length, refl, arith}
+use Rattle.std.specs.Prelude.{Option, Some, None, option_to_list, is_none}
+use Rattle.fx_frame_stage.specs.Frame.{Samples}
+
+pub none_of : (pending : Option Samples) → is_none pending ≡ true → pending ≡ None
+none_of None h = refl
+none_of (Some x) h = absurd (cc)
+
+pub empty-pending : (pending : Option Samples) → is_none pending ≡ true → option_to_list pending ≡ []
+empty-pending None h = refl
+empty-pending (Some x) h = absurd (cc)
+
+pub at_most_one : (pending : Option Samples) → length (option_to_list pending) ≤ 1
+at_most_one None = omega arith
+at_most_one (Some x) = omega arith
+
+pub no-pending : (pending : Option Samples) → length (option_to_list pending) ≡ 0 → pending ≡ None
+no-pending None h = refl
+no-pending (Some x) h = absurd (omega arith)

@@ -1,6 +1,0 @@
-use Rattle.fx_lists.specs.Lists.{pieces}
-use Rattle.fx_cut.specs.TrimSettled.{plain-along}
-use Rattle.fx_cut.proofs.trim.CutsSifting.sift_many.Goals as goal
-
-pub returns-clause-frames : goal.returns-clause-frames
-returns-clause-frames c = plain-along c.args.self.now c.args.place (pieces c.args.channels c.args.count c.args.samples.now)

@@ -1,0 +1,112 @@
+-- A stage whose frames wait in a line until it is determined whether each is given, and with which samples (this project's
+-- profile).
+use Rattle.std.specs.Prelude.{ℕ, ℤ, ◌+◌, ◌-◌, ◌<◌, ◌≤◌, ◌≡◌, min, if◌then◌else◌, Bool, true, false, List, [], ◌∷◌, ◌++◌, count_by, flat_map, length, map, Option, Some, None, option_to_list, is_none}
+use Rattle.std.specs.List.{range_with_len, enumerate_from}
+use Rattle.std.specs.Int.{w32}
+use Rattle.fx_frame_stage.specs.Frame.{Samples}
+use Rattle.fx_frame_line.specs.Line.{Frames, IsLine}
+use Rattle.fx_frame_stage.specs.PendingFrame.{IsPending}
+use Rattle.fx_frame_stage.specs.Stage.{Acts, Given, StageKind, coming}
+use Rattle.fx_frame_stage.specs.Given.{plain}
+use Rattle.fx_frame.specs.Kinds.{max_taken}
+
+-- what effects of such arguments give of the frames of a sound
+pub record Selects (M : Type 0) : Type 0 where
+  pub channels : M → ℕ
+  -- the reach: that many frames later it is determined what is given of a frame
+  pub reach : M → ℕ
+  -- how many frames are given after that many taken frames, with no end
+  pub due : M → ℕ → ℕ
+  -- after that many frames nothing more is given
+  pub enough : M → Option ℕ
+  -- in a sound of that many frames, the frame at a place is given
+  pub gives : M → ℕ → ℕ → Bool
+  -- and its samples are these
+  pub made : M → ℕ → ℕ → Samples → Given
+  -- what is given for a whole sound
+  pub meaning : M → List Samples → List Given
+
+-- what a stage with such arguments stores
+pub record SelectedState (M : Type 0) : Type 0 where
+  pub arguments : M
+  -- the frame to be given
+  pub pending : Option Samples
+  pub line : Frames ℤ
+  pub taken : ℕ
+  pub given : ℕ
+  pub ended : Bool
+
+module _ {M : Type 0} (selects : Selects M) where
+  -- the shortest sound in which it is determined before the end what is given of the frame at this place
+  abbrev pub determined_in : M → ℕ → ℕ
+  determined_in m place = place + selects.reach m + 1
+
+  -- what is given of the frame at this place, in a sound of `frames` frames
+  abbrev pub selected_here : M → ℕ → ℕ → Samples → List Given
+  selected_here m frames place frame = if selects.gives m frames place then selects.made m frames place frame ∷ [] else []
+
+  -- what is given of these frames, the first of which is that at a place, in a sound of `frames` frames
+  abbrev pub selected_from : M → ℕ → ℕ → List Samples → List Given
+  selected_from m frames place x = flat_map (λ e. selected_here m frames e.0 e.1) (enumerate_from place x)
+
+  -- how many of the frames before a place are given, in a sound of `frames` frames
+  abbrev pub given_before : M → ℕ → ℕ → ℕ
+  given_before m frames place = count_by (selects.gives m frames) (range_with_len 0 place)
+
+  -- frames that are given once they are determined, the first of which is that at a place
+  abbrev pub made_along : M → ℕ → List Samples → List Given
+  made_along m place frames = map (λ e. selects.made m (determined_in m e.0) e.0 e.1) (enumerate_from place frames)
+
+  -- what such effects must satisfy
+  pub record AreDetermined : Type 0 where
+    -- as many frames later as the reach, it is determined whether a frame is given, and with which samples
+    pub gives : (m : M) (frames place : ℕ) → place + selects.reach m < frames → selects.gives m frames place ≡ selects.gives m (determined_in m place) place
+    pub made : (m : M) (frames place : ℕ) (frame : Samples) → place + selects.reach m < frames → selects.made m frames place frame ≡ selects.made m (determined_in m place) place frame
+    -- the due frames are those that are determined and given
+    pub due : (m : M) (taken : ℕ) → selects.due m taken ≡ count_by (λ n. selects.gives m (determined_in m n) n) (range_with_len 0 (taken - selects.reach m))
+    -- where some number of frames is enough, none waits, and none is given from there on
+    pub enough : (m : M) (maximum : ℕ) → selects.enough m ≡ Some maximum → (selects.reach m ≡ 0) × ((frames place : ℕ) → maximum ≤ place → selects.gives m frames place ≡ false)
+    pub whole : (m : M) (x : List Samples) → selects.meaning m x ≡ selected_from m (length x) 0 x
+
+  -- what is still to be given of the frames of the line, the newest of which is the last that was taken, and of these that come
+  abbrev pub selected_after : M → ℕ → List Samples → List Samples → List Given
+  selected_after m taken items z = selected_from m (taken - length items + length (items ++ z)) (taken - length items) (items ++ z)
+
+  -- the invariant of a stage
+  pub record IsSelectedState (s : SelectedState M) : Type 0 where
+    pub line : IsLine w32 s.line
+    pub channels : s.line.channels ≡ selects.channels s.arguments
+    pub capacity : s.line.capacity ≡ selects.reach s.arguments
+    pub bound : s.taken ≤ max_taken
+    pub within : s.given + length (option_to_list s.pending) + length s.line.items ≤ s.taken
+    pub full : s.ended ≡ false → length s.line.items ≡ min s.taken s.line.capacity
+    pub counted : s.ended ≡ false → s.given + length (option_to_list s.pending) ≡ selects.due s.arguments s.taken
+    pub over : s.ended ≡ true → s.pending ≡ None → s.line.items ≡ []
+    -- after the end, those given and pending are those that are given before the frames of the line
+    pub gone : s.ended ≡ true → s.given + length (option_to_list s.pending) ≡ given_before s.arguments s.taken (s.taken - length s.line.items)
+    pub fits : IsPending (selects.channels s.arguments) s.pending
+
+  -- the invariant of its counts: frames taken and given, in the line and pending
+  pub record IsSelectCount (m : M) (taken given lined pending_count : ℕ) (ended : Bool) : Type 0 where
+    pub full : ended ≡ false → lined ≡ min taken (selects.reach m)
+    pub counted : ended ≡ false → given + pending_count ≡ selects.due m taken
+    pub over : ended ≡ true → pending_count ≡ 0 → lined ≡ 0
+    pub gone : ended ≡ true → given + pending_count ≡ given_before m taken (taken - lined)
+
+  -- what it takes and gives, and when each frame is due
+  abbrev pub selected_kind : M → StageKind
+  selected_kind m = record { inputs = selects.channels m; outputs = selects.channels m; line = selects.reach m; limit = max_taken; due = selects.due m; maximum = λ n. n; enough = selects.enough m }
+
+  -- how such stages behave
+  abbrev pub selected_acts : Acts (SelectedState M) M
+  selected_acts = record {
+    recipe = λ s. s.arguments;
+    kind_of = selected_kind;
+    meaning = selects.meaning;
+    rest = λ s z. map plain (option_to_list s.pending) ++ selected_after s.arguments s.taken s.line.items (coming s.ended z);
+    counts = λ s. record { taken = s.taken; given = s.given; clips = 0; ended = s.ended };
+    dry = λ s. is_none s.pending;
+    stored = λ s. s.line.items ++ option_to_list s.pending;
+    capacity = λ s. s.line.capacity;
+    state_counters = λ s. record { first = length (option_to_list s.pending); second = 0; third = 0 };
+  }

@@ -1,9 +1,0 @@
-//! The effects of a plan: each with its resolved arguments, what it does to rate and channels, how many frames it holds, and how
-//! many it makes.
-#![tactic(auto)]
-
-mod bounds;
-mod effect;
-
-pub use bounds::{LONGEST, hold, is_too_long, work};
-pub use effect::{Effect, Layout};

@@ -1,8 +1,0 @@
-use Rattle.std.proofs.Common.{◌≡◌, ◌-◌, suc, arith, add-one}
-use Rattle.fx_flow.proofs.Handing.{IsLastWet-at}
-use Rattle.fx_flow.proofs.moves.wet_end.Goals as goal
-
-pub returns-then-not-dry : goal.returns-then-not-dry
-returns-then-not-dry g c =
-    let e : c.stages.place ≡ suc (c.stages.place - 1) = omega arith in
-    rw add-one (IsLastWet-at g.S.Stage.acts (c.stages.place - 1) c.args.stages.now c.index-stages-place.result (omega arith) (cc (c.is_dry-dry.ensures.value)) (rw (← e) c.stages.invariant))

@@ -1,6 +1,0 @@
-use Rattle.std.proofs.Common.{arith}
-use Rattle.std.proofs.lemmas.Grind.{common_steps}
-use Rattle.fx_map.proofs.mapped.Mapped.thawed.Goals as goal
-
-pub returns-clause-frozen : goal.returns-clause-frozen
-returns-clause-frozen g c = grind (arith, common_steps)

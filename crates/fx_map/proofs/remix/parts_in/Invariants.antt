@@ -1,6 +1,0 @@
-use Rattle.std.proofs.Common.{◌≡◌, map, take}
-use Rattle.fx_map.proofs.remix.parts_in.Given as goal
-
--- the parts so far
-abbrev pub invariant-contributions : goal.invariant-contributions
-invariant-contributions l = l.parts.items ≡ map (λ c. c.parts) (take l.contribution-index l.contributions)

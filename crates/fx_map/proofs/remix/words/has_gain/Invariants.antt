@@ -1,7 +1,0 @@
-use Rattle.std.proofs.Common.{◌≡◌, take, false}
-use Rattle.std.specs.List.{list_any}
-use Rattle.fx_map.specs.RemixWords.{has_gain}
-use Rattle.fx_map.proofs.remix.words.has_gain.Given as goal
-
-abbrev pub invariant-loop-contribution : goal.invariant-loop-contribution
-invariant-loop-contribution l = list_any has_gain (take l.contribution-index l.sum) ≡ false

@@ -1,6 +1,0 @@
-use Rattle.std.proofs.Common.{◌≡◌, ℕ, ◌<◌, get_or, false}
-use Rattle.fx_map.specs.InSpecs.{is_letter}
-use Rattle.fx_map.proofs.remix.words.in_spec.letter_place.Given as goal
-
-abbrev pub invariant-loop-i : goal.invariant-loop-i
-invariant-loop-i l = (k : ℕ) → k < l.i → is_letter (get_or l.text k 0) ≡ false

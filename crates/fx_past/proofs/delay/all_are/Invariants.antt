@@ -1,6 +1,0 @@
-use Rattle.std.proofs.Common.{ℕ, ◌≡◌, ◌<◌}
-use Rattle.std.specs.Prelude.{slice_index}
-use Rattle.fx_past.proofs.delay.all_are.Given as goal
-
-abbrev pub invariant-delays : goal.invariant-delays
-invariant-delays l = (k : ℕ) → k < l.delay-index → slice_index l.delays k ≡ l.reach

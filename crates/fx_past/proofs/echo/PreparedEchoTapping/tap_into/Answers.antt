@@ -1,7 +1,0 @@
-use Rattle.fx_sums.specs.Weights.{SoundsAs}
-use Rattle.fx_past.proofs.echo.PreparedEchoTapping.tap_into.Goals as goal
-
-pub small_into-requires-clause-sounds : goal.small_into-requires-clause-sounds
-small_into-requires-clause-sounds c =
-    let told : SoundsAs c.self.inside.gain_in c.self.inside.gain_out c.self.inside.echoes.items c.in-Some.small = rw c.in-Some.is at c.self.invariant.1 in
-    rw (← c.self.view_is) told

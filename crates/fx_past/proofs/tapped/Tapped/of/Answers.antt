@@ -1,8 +1,0 @@
-use Rattle.std.proofs.Common.{refl}
-use Rattle.fx_frame.proofs.TapLaws.{behind-all}
-use Rattle.fx_past.proofs.tapped.Tapped.of.Goals as goal
-
-pub returns : goal.returns
-returns g c =
-    rw (c.in_ok-line.ensures, c.channels.ensures.value, c.requires.reach)
-    (record { recipe = refl; rest = λ z. behind-all g.T.Tapping.taps g.met.T.Tapping.near c.args.arguments z; counts = refl; dry = refl; stored = refl; own = refl })

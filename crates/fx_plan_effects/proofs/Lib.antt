@@ -1,0 +1,2 @@
+pub mod Lasting
+pub mod Registered

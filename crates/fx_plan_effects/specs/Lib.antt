@@ -1,0 +1,5 @@
+pub mod Bounds
+pub mod Effects
+pub mod Meanings
+pub mod Registry
+pub mod Determined

@@ -1,6 +1,0 @@
-//! One ring of samples for whole frames, each of as many samples as there are channels.
-#![tactic(auto)]
-
-mod ring;
-
-pub use ring::Ring;

@@ -1,8 +1,0 @@
-pub mod Block
-pub mod Due
-pub mod Outlet
-pub mod Pump
-pub mod Report
-pub mod Run
-pub mod Through
-pub mod Waiting

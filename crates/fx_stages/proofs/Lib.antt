@@ -1,4 +1,0 @@
-pub mod Making
-pub mod Planned
-pub mod StageLaws
-pub mod Thawing

@@ -1,4 +1,0 @@
-pub mod Made
-pub mod Narrow
-pub mod Stages
-pub mod Thawed

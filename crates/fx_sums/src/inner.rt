@@ -1,6 +1,0 @@
-//! What the effects need of sums.
-
-pub use crate::sums::{
-    Places, Sums, add_places, add_products, add_samples, add_wide_products, product,
-    sample_or_silence,
-};

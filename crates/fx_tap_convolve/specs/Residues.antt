@@ -1,0 +1,18 @@
+-- Integers modulo another one.
+use Rattle.std.specs.Prelude.{ℕ, ◌≡◌, ◌<◌, List, ℤ, pos, ◌*ℤ◌, ◌+ℤ◌, length, slice_index_or}
+
+-- equal but for a multiple of p
+abbrev pub Same : ℤ → ℤ → ℤ → Type 0
+Same p a b = (k : ℤ) × (a ≡ b +ℤ (p *ℤ k))
+
+-- the modulus, a prime with a root of order 2,048
+abbrev pub modulus : ℕ
+modulus = 6269010681299730433
+
+-- numbers below p, as remainders modulo p are
+abbrev pub AreRemainders : ℕ → List ℕ → Type 0
+AreRemainders p xs = (i : ℕ) → i < length xs → slice_index_or xs i 0 < p
+
+-- each remainder is the same as the number at its place of a list
+abbrev pub AreSame : ℕ → List ℕ → List ℤ → Type 0
+AreSame p xs zs = (i : ℕ) → i < length xs → Same (pos p) (pos (slice_index_or xs i 0)) (slice_index_or zs i (pos 0))

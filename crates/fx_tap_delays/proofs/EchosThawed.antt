@@ -1,0 +1,60 @@
+-- What an `echos` counted and stored, where it froze.
+use Rattle.std.proofs.Common.{ℕ, ℤ, ◌≡◌, ◌+◌, ◌*◌, ◌≤◌, ◌++◌, ◌∙◌, Option, List, length, refl, sym, ap, arith, length-append}
+use Rattle.std.specs.Prelude.{nat_eq, option_to_list, slice_index_or}
+use Rattle.fx_tap_delays.specs.DelayExtents.{sum_of_delays}
+use Rattle.fx_frame_stage.specs.Frame.{Samples}
+use Rattle.fx_frame_line.specs.Line.{Frames}
+use Rattle.fx_frame_stage.specs.Stage.{Freezes}
+use Rattle.fx_tap_delays.specs.Echo.{EchoArguments}
+use Rattle.fx_tap_delays.specs.EchosState.{EchosState, IsEchos, echos_acts, frames_of_lines}
+use Rattle.fx_tap_delays.specs.EchosStored.{IsSeriesStored}
+use Rattle.fx_frame.specs.Kinds.{max_taken}
+use Rattle.fx_frame.specs.Tapped.{TailNumbers, by_name}
+use Rattle.fx_frame.proofs.Counts.{flag-false, flag-of, flag-times, flag-true}
+use Rattle.fx_frame_stage.proofs.Flags.{flag-le}
+
+-- what holds of the numbers of a stage whose delays have that sum, which stores so many frames
+pub record AreEchosCounts (whole stored : ℕ) (n : TailNumbers) : Type 0 where
+  pub flag : n.ended ≤ 1
+  pub all : n.stored ≡ stored
+  pub pending_count_held : n.pending_count ≤ n.stored
+  pub bound : n.taken ≤ max_taken
+  pub not_ended : n.ended ≡ 0 → n.tail ≡ 0
+  pub counted : n.given + n.pending_count + n.tail ≡ n.taken + n.ended * whole
+  pub clips_max : n.clips ≤ 16 * n.given
+  pub pending_max : n.pending_clips ≤ 16
+  pub idle : n.pending_count ≡ 0 → n.pending_clips ≡ 0
+  pub over : 1 ≤ n.ended → n.pending_count ≡ 0
+
+module _ (s : EchosState) (a : EchoArguments) (frames : List Samples) (numbers : List ℕ) (is : IsEchos s) (made : s.arguments ≡ a) (froze : Freezes echos_acts s frames numbers) where
+  -- a stage of these arguments that froze to these frames and numbers has such counts
+  pub counts-are : AreEchosCounts (sum_of_delays a.taps) (length frames) (by_name numbers)
+  counts-are =
+      let all : length (frames_of_lines s.lines ++ option_to_list s.pending) ≡ length (frames_of_lines s.lines) + length (option_to_list s.pending) = length-append (frames_of_lines s.lines) (option_to_list s.pending) in
+      rw (froze.counted, ← made)
+      record {
+        flag = flag-le s.ended;
+        all = ap length (sym froze.stored);
+        pending_count_held = omega (arith, all);
+        bound = is.bound;
+        not_ended = λ z. is.not_ended (flag-false s.ended z);
+        counted = is.counted ∙ ap (λ n. s.taken + n) (flag-times s.ended (sum_of_delays s.arguments.taps));
+        clips_max = is.clips_max;
+        pending_max = is.pending_max;
+        idle = is.idle;
+        over = λ some. is.over (flag-true s.ended some);
+      }
+
+  -- its lines and the frame in hand are stored
+  pub series-is : IsSeriesStored a.channels (slice_index_or numbers 1 0 + slice_index_or numbers 6 0) a.taps (slice_index_or numbers 6 0) frames s.lines s.pending
+  series-is = rw (froze.counted, ← made) record {
+    series = record { as_many = is.as_many; lines_are = is.lines };
+    held = is.fits;
+    pending_count_is = refl;
+    stored = froze.stored;
+  }
+
+  -- and it is the stage that is made of them
+  pub thawed-is : (lines : List (Frames ℤ)) (pending : Option Samples) → lines ≡ s.lines → pending ≡ s.pending
+      → record { arguments = a; lines = lines; pending = pending; pending_clips = slice_index_or numbers 7 0; tail = slice_index_or numbers 5 0; taken = slice_index_or numbers 0 0; given = slice_index_or numbers 1 0; clips = slice_index_or numbers 3 0; ended = nat_eq (slice_index_or numbers 2 0) 1 } ≡ s
+  thawed-is lines pending lines_are pending_is = rw (← made, lines_are, pending_is, froze.counted, flag-of s.ended) refl

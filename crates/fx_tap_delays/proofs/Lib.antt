@@ -1,0 +1,17 @@
+pub mod DelayPieces
+pub mod Delaying
+pub mod EchoLaws
+pub mod EchoPieces
+pub mod EchoWeights
+pub mod EchosBlocks
+pub mod EchosGiven
+pub mod EchosLaws
+pub mod EchosMeaning
+pub mod EchosPieces
+pub mod EchosSeries
+pub mod EchosStored
+pub mod EchosThawed
+pub mod OneEcho
+pub mod SumPieces
+pub mod EchoWords
+pub mod MaxDelay

@@ -1,0 +1,20 @@
+-- All channels are delayed by as many frames as the line has places, or each by its own number.
+use Rattle.std.proofs.Common.{length, sym}
+use Rattle.fx_frame_lists.specs.Lists.{pieces}
+use Rattle.fx_tap_delays.proofs.Delaying.{even-all, even-clips, even-line}
+use Rattle.fx_tap_delays.proofs.delay.DelaysTapsMany.tap_many.Goals as goal
+
+pub returns-then-all_are-clause-frames : goal.returns-then-all_are-clause-frames
+returns-then-all_are-clause-frames c =
+    let all = rw (c.deref.ensures.value, c.self.view_is, c.capacity.ensures.capacity) at c.all_are.ensures in
+    even-all c.args.self.now c.args.line.now c.channels-channels.result c.args.count c.args.input.now c.delay_evenly.new.output (all c.if-all_are.true) c.capacity.ensures.line c.requires.channels c.channels-channels.ensures.value c.requires.input c.delay_evenly.ensures.frames
+
+pub returns-then-all_are-clause-clips : goal.returns-then-all_are-clause-clips
+returns-then-all_are-clause-clips c = sym (even-clips c.args.self.now c.args.line.now.items (pieces (length c.args.self.now) c.args.count c.args.input.now))
+
+pub returns-then-all_are-clause-line : goal.returns-then-all_are-clause-line
+returns-then-all_are-clause-line c =
+    even-line c.args.line.now (length c.args.self.now) c.channels-channels.result c.args.count c.args.input.now c.delay_evenly.new.line.items c.requires.channels c.channels-channels.ensures.value c.requires.input c.delay_evenly.ensures.items
+
+pub returns-clause-clips : goal.returns-clause-clips
+returns-clause-clips c = sym (even-clips c.args.self.now c.args.line.now.items (pieces (length c.args.self.now) c.args.count c.args.input.now))

@@ -1,0 +1,31 @@
+use Rattle.std.proofs.Common.{rules, arith, ◌≡◌, ◌<◌, ◌+◌, ◌++◌, ◌∷◌, [], ◌∙◌, ap, ℕ, ℤ, Bool, length, to_z, of_z, w32, w64}
+use Rattle.fx_fixed.specs.Rounding.{rounding}
+use Rattle.fx_tap_delays.specs.Echo.{EchoArguments, echo_sum, echoed_sample}
+use Rattle.fx_tap_sums.specs.Weights.{Weights}
+use Rattle.fx_tap_delays.specs.EchoWeights.{weighed}
+use Rattle.fx_frame.specs.History.{History, sample_before}
+use Rattle.fx_tap_delays.proofs.EchoWeights.{small-sample}
+use Rattle.fx_frame_lists.proofs.Rounds.{samples_of-next, clips_of-next, byte_is, byte-le}
+use Rattle.fx_tap_convolve.proofs.SmallSums.{held-in-64}
+use Rattle.fx_tap_delays.proofs.echo.PreparedEcho.small_into.Goals as goal
+
+pub channels-preserved : goal.channels-preserved
+channels-preserved c =
+    let a : EchoArguments = c.args.self.now in
+    let w : Weights = c.args.small.now in
+    let history : History = sample_before (c.args.line.now.items ++ c.args.frame.now ∷ []) (length c.args.line.now.items) in
+    let i : ℕ = c.channels.channel in
+    let f : ℕ → ℤ × Bool = echoed_sample a history in
+    let out : to_z w32 (of_z w32 c.round-sample.result.0) ≡ c.round-sample.result.0 = search rules in
+    let bound = c.small_sum-sum.ensures.small in
+    let held : to_z w64 (of_z w64 c.small_sum-sum.result) ≡ c.small_sum-sum.result = held-in-64 c.small_sum-sum.result (omega (arith, bound)) in
+    let whole : c.small.inside.denominator ≡ w.denominator = ap (λ (x : Weights). x.denominator) c.small.view_is in
+    let v : c.round-sample.result ≡ f i =
+    c.round-sample.ensures ∙ ap (λ z. rounding z c.small.inside.denominator) (held ∙ c.small_sum-sum.ensures.value) ∙ ap (λ d. rounding (echo_sum (weighed a w.weights) history i) d) whole ∙ small-sample a w history i c.requires.sounds in
+    let one = byte-le c.round-sample.result.1 in
+    let inside : i < length c.channels.out = search rules in
+    record {
+      done = rw out (samples_of-next f c.channels.out i c.round-sample.result.0 inside c.channels.invariant.done (ap (λ r. r.0) v));
+      counted = ap (λ n. c.channels.clips + n) (c.from-clips.ensures ∙ byte_is c.round-sample.result.1) ∙ clips_of-next f i c.channels.clips c.round-sample.result.1 c.channels.invariant.counted (ap (λ r. r.1) v);
+      bound = omega (arith, c.from-clips.ensures, one, c.channels.invariant.bound);
+    }

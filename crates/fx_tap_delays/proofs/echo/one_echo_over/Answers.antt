@@ -1,0 +1,49 @@
+use Rattle.std.proofs.Common.{rules, arith, ◌≡◌, ◌<◌, ◌+◌, ◌+ℤ◌, ◌*ℤ◌, ◌∙◌, ap, sym, get_or, drop, length, ℕ, ℤ, Bool, List, ◌∷◌, pos, to_z, of_z, w32, w64}
+use Rattle.std.proofs.lemmas.List.{drop-set-lt, drop_more}
+use Rattle.fx_fixed.specs.Rounding.{rounding}
+use Rattle.fx_tap_sums.specs.Weights.{Weights}
+use Rattle.fx_tap_delays.proofs.EchoWeights.{held-weight}
+use Rattle.fx_tap_convolve.proofs.SmallSums.{held-in-64, plain-added}
+use Rattle.fx_frame_lists.proofs.Rounds.{samples_of-next, clips_of-next, byte_is, byte-le}
+use Rattle.fx_tap_delays.proofs.echo.one_echo_over.Goals as goal
+
+pub overflow_add-direct : goal.overflow_add-direct
+overflow_add-direct c =
+    let direct : to_z w64 (of_z w64 c.product-direct.result) ≡ c.product-direct.result = held-in-64 c.product-direct.result (omega (arith, c.product-direct.ensures.bound)) in
+    (plain-added (to_z w64 (of_z w64 c.product-direct.result)) c.product-echo.result (rw direct (omega (arith, c.product-direct.ensures.bound))) c.product-echo.ensures.bound).0
+
+pub overflow_add-clips : goal.overflow_add-clips
+overflow_add-clips c = omega (arith, c.channels.invariant.bound, c.from-clips.ensures, byte-le c.round-sample.result.1, c.channels-test.true, c.channels.auto.channel-end)
+
+pub channels-preserved : goal.channels-preserved
+channels-preserved c =
+    let w : Weights = record { weights = c.small.inside.weights; denominator = c.small.inside.denominator } in
+    let ws : List ℤ = w.weights in
+    let k : ℕ = c.channels.channel in
+    let xs : List ℤ = c.args.came.now in
+    let ys : List ℤ = c.args.earlier.now in
+    let now : List ℤ = c.channels.earlier in
+    let f : ℕ → ℤ × Bool = λ i. rounding ((get_or ws 0 (pos 0) *ℤ get_or xs i (pos 0)) +ℤ (get_or ws 1 (pos 0) *ℤ get_or ys i (pos 0))) w.denominator in
+    let old = rw (← c.small.view_is) at c.channels.invariant in
+    let h : k < length ys = omega (arith, c.channels-test.true, c.requires.places) in
+    let long : k < length now = omega (arith, h, c.channels.auto.earlier) in
+    let both : get_or now k (pos 0) ∷ drop (k + 1) now ≡ get_or ys k (pos 0) ∷ drop (k + 1) ys = sym (drop_more now k (pos 0) long) ∙ old.rest ∙ drop_more ys k (pos 0) h in
+    let place : get_or now k (pos 0) ≡ get_or ys k (pos 0) = cc (both) in
+    let next : drop (k + 1) now ≡ drop (k + 1) ys = cc (both) in
+    let out : to_z w32 (of_z w32 c.round-sample.result.0) ≡ c.round-sample.result.0 = search rules in
+    let came : to_z w32 (of_z w32 (get_or xs k (pos 0))) ≡ get_or xs k (pos 0) = search rules in
+    let early : to_z w32 (of_z w32 (get_or now k (pos 0))) ≡ get_or now k (pos 0) = search rules in
+    let first = rw (held-weight ws 0 c.small.invariant, came) at c.product-direct.ensures.value in
+    let second = (rw (held-weight ws 1 c.small.invariant, early) at c.product-echo.ensures.value) ∙ ap (λ z. get_or ws 1 (pos 0) *ℤ z) place in
+    let direct : to_z w64 (of_z w64 c.product-direct.result) ≡ c.product-direct.result = held-in-64 c.product-direct.result (omega (arith, c.product-direct.ensures.bound)) in
+    let sum = rw direct at (plain-added (to_z w64 (of_z w64 c.product-direct.result)) c.product-echo.result (rw direct (omega (arith, c.product-direct.ensures.bound))) c.product-echo.ensures.bound).1 in
+    let both_are : c.product-direct.result +ℤ c.product-echo.result ≡ (get_or ws 0 (pos 0) *ℤ get_or xs k (pos 0)) +ℤ (get_or ws 1 (pos 0) *ℤ get_or ys k (pos 0)) = ap (λ z. z +ℤ c.product-echo.result) first ∙ ap (λ z. (get_or ws 0 (pos 0) *ℤ get_or xs k (pos 0)) +ℤ z) second in
+    let v : c.round-sample.result ≡ f k = c.round-sample.ensures ∙ ap (λ z. rounding z w.denominator) ((rw direct sum) ∙ both_are) in
+    let one = byte-le c.round-sample.result.1 in
+    rw (← c.small.view_is)
+    record {
+      done = rw out (samples_of-next f now k c.round-sample.result.0 long old.done (ap (λ r. r.0) v));
+      rest = drop-set-lt (k + 1) now k _ (omega arith) ∙ next;
+      counted = ap (λ n. c.channels.clips + n) (c.from-clips.ensures ∙ byte_is c.round-sample.result.1) ∙ clips_of-next f k c.channels.clips c.round-sample.result.1 old.counted (ap (λ r. r.1) v);
+      bound = omega (arith, c.from-clips.ensures, one, old.bound);
+    }

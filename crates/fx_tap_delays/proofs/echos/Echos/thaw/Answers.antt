@@ -1,0 +1,28 @@
+use Rattle.std.proofs.Common.{rules, ◌≡◌, arith, length, slice_index_or}
+use Rattle.fx_frame.proofs.Counts.{eight-numbers, flag-back}
+use Rattle.fx_tap_delays.proofs.EchosThawed.{counts-are, series-is, thawed-is}
+use Rattle.fx_tap_delays.proofs.echos.Echos.thaw.Goals as goal
+
+pub returns-then-ended-gt1-clause-thawed : goal.returns-then-ended-gt1-clause-thawed
+returns-then-ended-gt1-clause-thawed c =
+    λ s is made froze.
+    let n = counts-are s _ c.args.frames.now c.args.numbers.now is made froze in
+    absurd (grind (arith, n.flag, n.all, n.pending_count_held))
+
+pub returns-clause-frozen : goal.returns-clause-frozen
+returns-clause-frozen c =
+    let st = c.in_ok-lines.ensures.found in
+    let eight : length c.args.numbers.now ≡ 8 = search rules in
+    let all : slice_index_or c.args.numbers.now 4 0 ≡ length c.args.frames.now = omega arith in
+    let flag = flag-back (slice_index_or c.args.numbers.now 2 0) c.if-ended-gt1.false in
+    record {
+      stored = st.stored;
+      counted = rw (flag, ← st.stored, ← all, st.pending_count_is) (eight-numbers c.args.numbers.now eight);
+    }
+
+pub returns-clause-thawed : goal.returns-clause-thawed
+returns-clause-thawed c =
+    λ s is made froze.
+    let series = series-is s _ c.args.frames.now c.args.numbers.now is made froze in
+    let same = c.in_ok-lines.ensures.only s.lines s.pending series in
+    rw c.in-Ok.ensures (thawed-is s _ c.args.frames.now c.args.numbers.now is made froze _ _ same.0 same.1)

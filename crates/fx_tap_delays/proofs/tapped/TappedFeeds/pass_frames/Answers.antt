@@ -1,0 +1,80 @@
+use Rattle.std.proofs.Common.{◌≡◌, ◌*◌, ◌^◌, ◌≤◌, ℕ, false, length, refl, arith, append-nil}
+use Rattle.std.specs.Prelude.{None}
+use Rattle.std.proofs.Math.Nat.{mul-le-mul}
+use Rattle.fx_frame_lists.proofs.Pieces.{length-pieces}
+use Rattle.fx_frame.proofs.DryLaws.{dry-pending}
+use Rattle.fx_frame.proofs.TapBlocks.{IsTapState-block, block-through}
+use Rattle.fx_tap_delays.proofs.tapped.TappedFeeds.pass_frames.Goals as goal
+
+pub tap_groups-clips-requires-clause-channels : goal.tap_groups-clips-requires-clause-channels
+tap_groups-clips-requires-clause-channels g c = c.self.invariant.channels
+
+pub tap_groups-clips-requires-clause-capacity : goal.tap_groups-clips-requires-clause-capacity
+tap_groups-clips-requires-clause-capacity g c = c.self.invariant.capacity
+
+pub tap_groups-clips-requires-clause-bound : goal.tap_groups-clips-requires-clause-bound
+tap_groups-clips-requires-clause-bound g c =
+    let limit = rw (← c.self.view_is) at c.requires.below_limit in
+    omega (arith, limit)
+
+pub tap_groups-clips-requires-clause-samples : goal.tap_groups-clips-requires-clause-samples
+tap_groups-clips-requires-clause-samples g c = rw (← c.self.view_is) at c.requires.samples
+
+pub overflow_add-self : goal.overflow_add-self
+overflow_add-self g c =
+    let s = c.self.inside in
+    let maximum : ℕ = g.T.Tapping.taps.max_clips s.arguments in
+    let none : s.pending ≡ None = dry-pending s.pending s.tail (rw (← c.self.view_is) at c.requires.dry) in
+    let over : s.ended ≡ false = rw (← c.self.view_is) at c.requires.not_ended in
+    let counted = rw (none, over) at c.self.invariant.counted in
+    let bound : s.given ≤ 2 ^ 56 = omega (arith, counted, c.self.invariant.bound) in
+    let all : s.given * maximum ≤ 2 ^ 56 * 16 = mul-le-mul bound (g.met.T.Tapping.clips_max s.arguments) in
+    let limit = rw (← c.self.view_is) at c.requires.below_limit in
+    omega (arith, all, limit, c.self.invariant.clips_max, c.tap_groups-clips.ensures.small)
+
+pub overflow_add-self-2 : goal.overflow_add-self-2
+overflow_add-self-2 g c =
+    let limit = rw (← c.self.view_is) at c.requires.below_limit in
+    omega (arith, limit)
+
+pub overflow_add-self-3 : goal.overflow_add-self-3
+overflow_add-self-3 g c =
+    let s = c.self.inside in
+    let none : s.pending ≡ None = dry-pending s.pending s.tail (rw (← c.self.view_is) at c.requires.dry) in
+    let over : s.ended ≡ false = rw (← c.self.view_is) at c.requires.not_ended in
+    let counted = rw (none, over) at c.self.invariant.counted in
+    let limit = rw (← c.self.view_is) at c.requires.below_limit in
+    omega (arith, counted, limit)
+
+pub invariant_of-self : goal.invariant_of-self
+invariant_of-self g c =
+    let s = c.self.inside in
+    let none : s.pending ≡ None = dry-pending s.pending s.tail (rw (← c.self.view_is) at c.requires.dry) in
+    let over : s.ended ≡ false = rw (← c.self.view_is) at c.requires.not_ended in
+    let limit = rw (← c.self.view_is) at c.requires.below_limit in
+    let delivered = c.tap_groups-clips.ensures in
+    IsTapState-block g.T.Tapping.taps _ c.tap_groups-clips.new.line c.args.count c.tap_groups-clips.result _ c.self.invariant none over limit (length-pieces (g.T.Tapping.taps.channels s.arguments) c.args.count c.args.samples.now) c.len-held.ensures.line delivered.line delivered.line_capacity delivered.line_channels delivered.bound
+
+pub returns-clause-through : goal.returns-clause-through
+returns-clause-through g c =
+    let s = c.self.inside in
+    let is = c.self.invariant in
+    let none : s.pending ≡ None = dry-pending s.pending s.tail (rw (← c.self.view_is) at c.requires.dry) in
+    let over : s.ended ≡ false = rw (← c.self.view_is) at c.requires.not_ended in
+    let zero : s.pending_clips ≡ 0 = is.idle (rw none refl) in
+    let silence_here : s.tail ≡ 0 = is.not_ended over in
+    let counted = rw (none, over) at is.counted in
+    let even : s.given ≡ s.taken = omega (arith, counted, silence_here) in
+    let size = rw (← c.self.view_is) at c.requires.samples in
+    let out : c.args.count * g.T.Tapping.taps.channels s.arguments ≤ length c.tap_groups-clips.new.samples = omega (arith, size, c.tap_groups-clips.auto.samples) in
+    let delivered = c.tap_groups-clips.ensures in
+    rw (← c.self.view_is)
+    (block-through g.T.Tapping.taps g.met.T.Tapping.near s.arguments (record { arguments = s.arguments; line = s.line; pending = s.pending; pending_clips = s.pending_clips; tail = s.tail; taken = s.taken; given = s.given; clips = s.clips; ended = s.ended }) c.tap_groups-clips.new.line c.args.count c.tap_groups-clips.result c.args.samples.now c.tap_groups-clips.new.samples refl none zero silence_here over even is.capacity is.line.within out delivered.frames delivered.clips delivered.line delivered.line_capacity delivered.line_channels)
+
+pub returns-clause-lined : goal.returns-clause-lined
+returns-clause-lined g c =
+    let s = c.self.inside in
+    let none : s.pending ≡ None = dry-pending s.pending s.tail (rw (← c.self.view_is) at c.requires.dry) in
+    let within = c.len-held.ensures.line.within in
+    let delivered = c.tap_groups-clips.ensures in
+    rw none (simp append-nil (omega (arith, within, delivered.line_capacity, c.self.invariant.capacity)))

@@ -1,0 +1,23 @@
+use Rattle.std.proofs.Common.{◌≡◌, ◌≤◌, ◌-◌, ◌*◌, ◌++◌, drop}
+use Rattle.fx_frame_lists.specs.Lists.{pieces}
+use Rattle.fx_frame.specs.Tapped.{clips_after, frames_after, last_of}
+use Rattle.fx_tap_delays.proofs.tapped.tap_groups.Given as goal
+
+abbrev pub invariant-groups : goal.invariant-groups
+invariant-groups g l =
+    let taps = g.T.Tapping.taps in
+    let m = l.tapping in
+    record {
+      within : l.done ≤ l.count;
+      made : pieces (taps.channels m) l.done l.samples ≡ frames_after taps m l.fn.line.items (pieces (taps.channels m) l.done l.fn.samples);
+      rest_unchanged : drop (l.done * taps.channels m) l.samples ≡ drop (l.done * taps.channels m) l.fn.samples;
+      counted : l.clips ≡ clips_after taps m l.fn.line.items (pieces (taps.channels m) l.done l.fn.samples);
+      bound : l.clips ≤ l.done * taps.max_clips m;
+      small : l.clips ≤ 16 * l.done;
+      line : l.line.items ≡ last_of l.fn.line.capacity (l.fn.line.items ++ pieces (taps.channels m) l.done l.fn.samples);
+      line_capacity : l.line.capacity ≡ l.fn.line.capacity;
+      line_channels : l.line.channels ≡ l.fn.line.channels;
+    }
+
+abbrev pub decreases-groups : goal.decreases-groups
+decreases-groups g l = l.count - l.done

@@ -1,0 +1,56 @@
+-- The effect `echo` (sox(1), EFFECTS, echo): each frame times gain-in, and earlier ones each times a decay, added and
+-- times gain-out. That a decay is not relative to gain-in, rounding and clips are this project's profile.
+use Rattle.std.specs.Prelude.{ℕ, ℤ, pos, ◌+◌, ◌*◌, ◌+ℤ◌, ◌*ℤ◌, ◌≤◌, unsigned_abs, Bool, List, [], ◌∷◌, length, map}
+use Rattle.std.specs.List.{All}
+use Rattle.fx_fixed.specs.Extents.{largest}
+use Rattle.fx_tap_delays.specs.DelayExtents.{tap_delay}
+use Rattle.fx_fixed.specs.Rounding.{rounding}
+use Rattle.fx_fixed.specs.declared.gains.TheConstants.{UNIT}
+use Rattle.fx_frame_stage.specs.Frame.{Samples}
+use Rattle.fx_frame_stage.specs.Stage.{Given, StageKind}
+use Rattle.fx_frame_lists.specs.Lists.{tabulate}
+use Rattle.fx_frame_stage.specs.Given.{given_samples}
+use Rattle.fx_frame.specs.History.{History, sample_before}
+use Rattle.fx_frame.specs.Kinds.{tap_kind}
+
+-- what an `echo` is made with; gains and decays are in trillionths
+pub record EchoArguments : Type 0 where
+  pub channels : ℕ
+  pub gain_in : ℤ
+  pub gain_out : ℤ
+  -- of each echo its delay in frames, and its decay
+  pub taps : List (ℕ × ℤ)
+
+-- its invariant
+pub record IsEcho (a : EchoArguments) : Type 0 where
+  pub some : 1 ≤ a.channels
+  pub bound : a.channels ≤ 16
+  pub gain_in : unsigned_abs a.gain_in ≤ UNIT
+  pub echoes_max : length a.taps ≤ 7
+  pub delays : All (λ e. 1 ≤ e.0) a.taps
+  pub decays : All (λ e. unsigned_abs e.1 ≤ UNIT) a.taps
+
+-- the echoes of channel k, added
+abbrev pub echoes_of : List (ℕ × ℤ) → History → ℕ → ℤ
+echoes_of [] history k = pos 0
+echoes_of (e ∷ es) history k = (e.1 *ℤ history e.0 k) +ℤ echoes_of es history k
+
+-- channel k and its echoes, added
+abbrev pub echo_sum : EchoArguments → History → ℕ → ℤ
+echo_sum a history k = (a.gain_in *ℤ history 0 k) +ℤ echoes_of a.taps history k
+
+-- channel k of the frame with its echoes: one exact fraction, rounded once
+abbrev pub echoed_sample : EchoArguments → History → ℕ → ℤ × Bool
+echoed_sample a history k = rounding (a.gain_out *ℤ echo_sum a history k) (UNIT * UNIT)
+
+-- the frame with its echoes
+abbrev pub echoed_frame : EchoArguments → History → Given
+echoed_frame a history = given_samples (tabulate (echoed_sample a history) 0 a.channels)
+
+-- what `echo` gives for a sound
+abbrev pub echo : EchoArguments → List Samples → List Given
+echo a x = tabulate (λ n. echoed_frame a (sample_before x n)) 0 (length x + largest (map tap_delay a.taps))
+
+-- what it takes and gives, and when each frame is due
+abbrev pub echo_kind : EchoArguments → StageKind
+echo_kind a = tap_kind a.channels (largest (map tap_delay a.taps))

@@ -1,0 +1,15 @@
+-- How the stages of `echo` behave (this project's profile).
+use Rattle.std.specs.Prelude.{map}
+use Rattle.fx_fixed.specs.Extents.{largest}
+use Rattle.fx_tap_delays.specs.DelayExtents.{tap_delay}
+use Rattle.fx_frame_stage.specs.Stage.{Acts}
+use Rattle.fx_frame.specs.Tapped.{Taps, TapState, tap_acts}
+use Rattle.fx_tap_delays.specs.Echo.{EchoArguments, echoed_frame, echo}
+
+-- how `echo` makes frames
+abbrev pub echo_taps : Taps EchoArguments
+echo_taps = record { channels = λ a. a.channels; reach = λ a. largest (map tap_delay a.taps); max_clips = λ a. 16; made = echoed_frame }
+
+-- how the stages of `echo` behave
+abbrev pub echo_acts : Acts (TapState EchoArguments) EchoArguments
+echo_acts = record (tap_acts echo_taps) { meaning = echo }

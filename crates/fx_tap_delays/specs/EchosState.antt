@@ -1,0 +1,144 @@
+-- The stage of `echos`: lines in series, its invariant, and what it is still to give (this project's profile).
+use Rattle.std.specs.Prelude.{ℕ, ℤ, pos, ◌+◌, ◌*◌, ◌^◌, ◌<◌, ◌≤◌, ◌≡◌, ◌+ℤ◌, ◌*ℤ◌, Bool, true, false, ◌&&◌, Option, Some, None, List, [], ◌∷◌, ◌++◌, length, map, min, replicate, take, option_to_list, is_none, slice_index_or, nat_eq, cond, unsigned_abs}
+use Rattle.std.specs.List.{All}
+use Rattle.std.specs.Int.{w64}
+use Rattle.fx_tap_delays.specs.DelayExtents.{sum_of_delays}
+use Rattle.fx_fixed.specs.Rounding.{rounding}
+use Rattle.fx_fixed.specs.declared.gains.TheConstants.{UNIT}
+use Rattle.fx_frame_stage.specs.Frame.{Samples, silence}
+use Rattle.fx_frame_stage.specs.PendingFrame.{IsPending}
+use Rattle.fx_frame_line.specs.Line.{Frames, IsLine, pushed, pushed_out, channel_of, empty}
+use Rattle.fx_frame_stage.specs.Stage.{Given, Acts}
+use Rattle.fx_tap_delays.specs.Echo.{EchoArguments, IsEcho}
+use Rattle.fx_frame_lists.specs.Lists.{tabulate}
+use Rattle.fx_frame.specs.Kinds.{max_taken}
+use Rattle.fx_tap_convolve.specs.Products.{sum_of_products}
+use Rattle.fx_frame_stage.specs.Given.{given_samples}
+use Rattle.fx_tap_delays.specs.Echos.{decays, echos, echos_kind}
+
+-- a frame and what the line before output, added
+abbrev pub fed : ℕ → Samples → Samples → Samples
+fed channels x before = tabulate (λ k. slice_index_or x k (pos 0) +ℤ slice_index_or before k (pos 0)) 0 channels
+
+-- a frame, or silence
+abbrev pub or_silence : ℕ → Option Samples → Samples
+or_silence channels None = replicate channels (pos 0)
+or_silence channels (Some f) = f
+
+-- a line after a frame was pushed
+abbrev pub after_push : Frames ℤ → Samples → Frames ℤ
+after_push l f = record { items = pushed l f; capacity = l.capacity; channels = l.channels }
+
+-- what the lines output when a frame comes, one after the other
+abbrev pub let_go : ℕ → List (Frames ℤ) → Samples → Samples → List Samples
+let_go channels [] x before = []
+let_go channels (l ∷ ls) x before = or_silence channels (pushed_out l (fed channels x before)) ∷ let_go channels ls x (or_silence channels (pushed_out l (fed channels x before)))
+
+-- the lines after a frame came
+abbrev pub lines_after : ℕ → List (Frames ℤ) → Samples → Samples → List (Frames ℤ)
+lines_after channels [] x before = []
+lines_after channels (l ∷ ls) x before = after_push l (fed channels x before) ∷ lines_after channels ls x (or_silence channels (pushed_out l (fed channels x before)))
+
+-- the lines after these frames came, one after the other
+abbrev pub series_lines_after : ℕ → List (Frames ℤ) → List Samples → List (Frames ℤ)
+series_lines_after channels lines [] = lines
+series_lines_after channels lines (x ∷ xs) = series_lines_after channels (lines_after channels lines x (replicate channels (pos 0))) xs
+
+-- what the lines output for the frame at a place of those that come
+abbrev pub gone_at : ℕ → List (Frames ℤ) → List Samples → ℕ → List Samples
+gone_at channels lines xs i = let_go channels (series_lines_after channels lines (take i xs)) (slice_index_or xs i []) (replicate channels (pos 0))
+
+-- the frame that is given for a frame and what the lines output
+abbrev pub frame_of_lines : EchoArguments → Samples → List Samples → Given
+frame_of_lines a x gone = given_samples (tabulate (λ k. rounding (a.gain_out *ℤ ((a.gain_in *ℤ slice_index_or x k (pos 0)) +ℤ sum_of_products (decays a.taps) (channel_of gone k (pos 0)))) (UNIT * UNIT)) 0 a.channels)
+
+-- what is given for frames that come
+abbrev pub through_lines : EchoArguments → List (Frames ℤ) → List Samples → List Given
+through_lines a lines [] = []
+through_lines a lines (x ∷ xs) = frame_of_lines a x (let_go a.channels lines x (replicate a.channels (pos 0))) ∷ through_lines a (lines_after a.channels lines x (replicate a.channels (pos 0))) xs
+
+-- what an `Echos` stores
+pub record EchosState : Type 0 where
+  pub arguments : EchoArguments
+  pub lines : List (Frames ℤ)
+  -- the frame to be given, and how many of its samples were clipped
+  pub pending : Option Samples
+  pub pending_clips : ℕ
+  -- how many frames are to be given after it
+  pub tail : ℕ
+  pub taken : ℕ
+  pub given : ℕ
+  pub clips : ℕ
+  pub ended : Bool
+
+-- what a frame that comes needs of the line at place j: no sample is greater than j + 1 samples added
+pub record IsSeriesLine (channels j : ℕ) (l : Frames ℤ) : Type 0 where
+  pub channels_are : l.channels ≡ channels
+  pub small : All (All (λ x. unsigned_abs x ≤ (j + 1) * 2 ^ 31)) l.items
+
+-- the invariant of the line at place j, with `delay` places, after `came` frames came
+pub record IsEchoLine (channels came j delay : ℕ) (l : Frames ℤ) : Type 0 where
+  pub line : IsLine w64 l
+  pub channels_are : l.channels ≡ channels
+  pub capacity : l.capacity ≡ delay
+  pub some : 1 ≤ delay
+  pub held : length l.items ≡ min came delay
+  pub small : All (All (λ x. unsigned_abs x ≤ (j + 1) * 2 ^ 31)) l.items
+
+-- how many frames went through the lines
+abbrev pub came_of : EchosState → ℕ
+came_of s = s.given + length (option_to_list s.pending)
+
+-- the delay of the line at place j
+abbrev pub delay_at : List (ℕ × ℤ) → ℕ → ℕ
+delay_at taps j = (slice_index_or taps j (0, pos 0)).0
+
+abbrev pub line_at : List (Frames ℤ) → ℕ → Frames ℤ
+line_at lines j = slice_index_or lines j (empty 0 0)
+
+-- the invariant of the stage
+pub record IsEchos (s : EchosState) : Type 0 where
+  pub arguments : IsEcho s.arguments
+  pub whole : sum_of_delays s.arguments.taps ≤ 2 ^ 28
+  pub as_many : length s.lines ≡ length s.arguments.taps
+  pub lines : (j : ℕ) → j < length s.lines → IsEchoLine s.arguments.channels (came_of s) j (delay_at s.arguments.taps j) (line_at s.lines j)
+  pub counted : came_of s + s.tail ≡ s.taken + cond s.ended (sum_of_delays s.arguments.taps) 0
+  pub bound : s.taken ≤ max_taken
+  pub not_ended : s.ended ≡ false → s.tail ≡ 0
+  pub clips_max : s.clips ≤ 16 * s.given
+  pub pending_max : s.pending_clips ≤ 16
+  -- no clips without a pending frame, and no pending frame after the end
+  pub idle : length (option_to_list s.pending) ≡ 0 → s.pending_clips ≡ 0
+  pub over : s.ended ≡ true → length (option_to_list s.pending) ≡ 0
+  pub fits : IsPending s.arguments.channels s.pending
+
+-- the frames that come, with silence where the sound has ended
+abbrev pub echos_coming : EchosState → List Samples → List Samples
+echos_coming s z = cond s.ended (replicate s.tail (silence s.arguments.channels)) (z ++ replicate (sum_of_delays s.arguments.taps) (silence s.arguments.channels))
+
+-- the pending frame
+abbrev pub echos_pending : EchosState → List Given
+echos_pending s = map (λ x. record { samples = x; clips = s.pending_clips }) (option_to_list s.pending)
+
+-- the frames of all lines, from the first line to the last
+abbrev pub frames_of_lines : List (Frames ℤ) → List Samples
+frames_of_lines [] = []
+frames_of_lines (l ∷ ls) = l.items ++ frames_of_lines ls
+
+-- the capacities of all lines, added
+abbrev pub echo_places : List (Frames ℤ) → ℕ
+echo_places [] = 0
+echo_places (l ∷ ls) = l.capacity + echo_places ls
+
+abbrev pub echos_acts : Acts EchosState EchoArguments
+echos_acts = record {
+  recipe = λ s. s.arguments;
+  kind_of = echos_kind;
+  meaning = echos;
+  rest = λ s z. echos_pending s ++ through_lines s.arguments s.lines (echos_coming s z);
+  counts = λ s. record { taken = s.taken; given = s.given; clips = s.clips; ended = s.ended };
+  dry = λ s. is_none s.pending && nat_eq s.tail 0;
+  stored = λ s. frames_of_lines s.lines ++ option_to_list s.pending;
+  capacity = λ s. echo_places s.lines;
+  state_counters = λ s. record { first = s.tail; second = length (option_to_list s.pending); third = s.pending_clips };
+}

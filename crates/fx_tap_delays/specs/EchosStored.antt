@@ -1,0 +1,23 @@
+-- What an `echos` stores, restored (this project's profile).
+use Rattle.std.specs.Prelude.{ℕ, ℤ, ◌<◌, ◌≤◌, ◌≡◌, ◌++◌, List, Option, length, option_to_list, unsigned_abs}
+use Rattle.std.specs.List.{All}
+use Rattle.fx_frame_stage.specs.Frame.{Samples}
+use Rattle.fx_frame_stage.specs.PendingFrame.{IsPending}
+use Rattle.fx_frame_line.specs.Line.{Frames}
+use Rattle.fx_tap_delays.specs.EchosState.{IsEchoLine, delay_at, frames_of_lines, line_at}
+
+-- no sample of a frame is greater in magnitude
+abbrev pub IsSmall : ℕ → Samples → Type 0
+IsSmall maximum frame = All (λ x. unsigned_abs x ≤ maximum) frame
+
+-- the lines of these echoes after `came` frames came
+pub record IsSeries (channels came : ℕ) (taps : List (ℕ × ℤ)) (lines : List (Frames ℤ)) : Type 0 where
+  pub as_many : length lines ≡ length taps
+  pub lines_are : (j : ℕ) → j < length lines → IsEchoLine channels came j (delay_at taps j) (line_at lines j)
+
+-- a stage with such lines and `pending_count` pending frames stores these frames
+pub record IsSeriesStored (channels came : ℕ) (taps : List (ℕ × ℤ)) (pending_count : ℕ) (frames : List Samples) (lines : List (Frames ℤ)) (pending : Option Samples) : Type 0 where
+  pub series : IsSeries channels came taps lines
+  pub held : IsPending channels pending
+  pub pending_count_is : length (option_to_list pending) ≡ pending_count
+  pub stored : frames ≡ frames_of_lines lines ++ option_to_list pending

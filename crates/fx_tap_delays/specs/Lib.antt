@@ -1,0 +1,12 @@
+pub mod Delay
+pub mod DelayExtents
+pub mod DelayState
+pub mod DelayWords
+pub mod Echo
+pub mod EchoState
+pub mod EchoWeights
+pub mod EchoWords
+pub mod Echos
+pub mod EchosState
+pub mod EchosStored
+pub mod Near

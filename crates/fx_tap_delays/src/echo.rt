@@ -1,0 +1,513 @@
+//! The effect `echo` of sox(1): earlier frames are added again, each with a decay.
+ghost use Rattle.std.specs.Prelude.{◌≡◌, ◌<◌, ◌≤◌, ◌+◌, ◌*◌, ◌^◌, ◌++◌, ◌∷◌, [], ℕ, pos, ◌+ℤ◌, ◌*ℤ◌, length, slice_index_or, unsigned_abs, Err, IfOk, IfSome, MatchResult, map};
+ghost use Rattle.std.proofs.Common.{rules};
+ghost use Rattle.std.specs.List.{All};
+ghost use Rattle.fx_fixed.specs.Extents.{largest};
+ghost use Rattle.fx_tap_delays.specs.DelayExtents.{tap_delay};
+ghost use Rattle.fx_fixed.specs.Rounding.{rounding};
+ghost use Rattle.fx_frame_line.specs.Line.{pushed};
+ghost use Rattle.fx_frame_lists.specs.Lists.{tabulate, pieces};
+ghost use Rattle.fx_frame_stage.specs.Given.{given_samples};
+ghost use Rattle.fx_frame_stage.specs.Stage.{Freezes, IsNew};
+ghost use Rattle.fx_tap_delays.specs.Echo.{EchoArguments, IsEcho, echo_sum, echoed_frame};
+ghost use Rattle.fx_tap_delays.specs.EchoState.{echo_acts, echo_taps};
+ghost use Rattle.fx_tap_sums.specs.Weights.{SoundsAs};
+ghost use Rattle.fx_tap_delays.specs.EchoWeights.{weighed};
+ghost use Rattle.fx_tap_delays.specs.Near.{taps-near};
+ghost use Rattle.fx_frame.specs.Tapped.{IsTapState, TapState, clips_after, frames_after, last_of};
+ghost use Rattle.fx_frame.specs.History.{sample_before};
+
+pub mod words;
+
+use crate::delay::delay_over;
+use crate::extents::max_tap_delay;
+use crate::sums::{add_scaled, round_sums, rounded_sums, sums_into};
+use crate::tapped::{
+    Tapped, Tapping, TapsMany, sample, tap_and_push, tap_by_frames, tap_over_by_frames,
+};
+use fx_fixed::{Gain, UNIT};
+use fx_frame::groups::SAMPLES_OF_GROUP;
+use fx_frame::{Frame, Line, ThawFault, WideFrame};
+use fx_frame_stage::feed::{copy_samples, frame_at};
+use fx_tap_sums::inner::{Sums, add_products, product};
+use fx_tap_sums::weights::{SmallWeights, small_of};
+use std::alloc::{AllocError, Global};
+use std::marker::Model;
+
+/// The greatest weight of small ones: of eight such products of samples the sum fits 61 bits.
+const MAX_ECHO_WEIGHT: u32 = 1 << 27;
+
+/// What an `echo` is made with, and the same in lowest terms, where these are small.
+#[derive(Drop)]
+pub struct PreparedEcho {
+    channels: usize,
+    gain_in: Gain,
+    gain_out: Gain,
+    taps: Vec<(u64, Gain)>,
+    small: Option<SmallWeights>,
+}
+
+impl Model for PreparedEcho {
+    ghost use Rattle.std.specs.Prelude.{IfSome};
+    ghost use Rattle.fx_tap_delays.specs.Echo.{EchoArguments, IsEcho};
+    ghost use Rattle.fx_tap_sums.specs.Weights.{SoundsAs};
+
+    ghost Value = { EchoArguments };
+
+    ghost view = { λ s. record { channels = s.channels; gain_in = s.gain_in; gain_out = s.gain_out; taps = s.taps.items } };
+
+    ghost invariant = { λ s. IsEcho (record { channels = s.channels; gain_in = s.gain_in; gain_out = s.gain_out; taps = s.taps.items }) × IfSome s.small (SoundsAs s.gain_in s.gain_out s.taps.items) };
+}
+
+/// Adds the echo of a frame that comes after those of the line.
+#[inline(always)]
+fn add_echo(sums: &mut Sums, channels: usize, line: &Line, frame: Frame, echo: (u64, Gain))
+    requires channels { channels ≤ 16 }
+    requires late { 1 ≤ echo.0 }
+    requires decay { unsigned_abs echo.1 ≤ UNIT }
+    requires free { (k : ℕ) → unsigned_abs (slice_index_or sums.old k (pos 0)) ≤ 2 ^ 100 }
+    ensures added { (k : ℕ) → k < channels → slice_index_or sums.new k (pos 0) ≡ slice_index_or sums.old k (pos 0) +ℤ (echo.1 *ℤ sample_before (line.now.items ++ frame ∷ []) (length line.now.items) echo.0 k) }
+    ensures bound { (k : ℕ) → unsigned_abs (slice_index_or sums.new k (pos 0)) ≤ unsigned_abs (slice_index_or sums.old k (pos 0)) + UNIT * 2 ^ 31 }
+{
+    let (late, decay) = echo;
+    let Some(from) = line.back(late as usize - 1) else {
+        return;
+    };
+    add_scaled(sums, channels, decay, from);
+}
+
+impl PreparedEcho {
+    /// Those of at most seven echoes, prepared.
+    fn of(channels: usize, gain_in: Gain, gain_out: Gain, taps: Vec<(u64, Gain)>) -> PreparedEcho
+        requires { IsEcho (record { channels = channels; gain_in = gain_in; gain_out = gain_out; taps = taps.items }) }
+        ensures { result ≡ record { channels = channels; gain_in = gain_in; gain_out = gain_out; taps = taps.items } }
+    {
+        let small = small_of(gain_in, gain_out, &taps, MAX_ECHO_WEIGHT);
+        PreparedEcho {
+            channels,
+            gain_in,
+            gain_out,
+            taps,
+            small,
+        }
+    }
+
+    /// A sample of a frame that comes after those of the line, and its echoes, each times its weight, added.
+    #[inline(always)]
+    fn small_sum(&self, small: &SmallWeights, line: &Line, frame: &[i32], channel: usize) -> i64
+        ensures value { result ≡ echo_sum (weighed self.now small.now.weights) (sample_before (line.now.items ++ frame.now ∷ []) (length line.now.items)) channel }
+        ensures small { unsigned_abs result ≤ 2 ^ 61 }
+    {
+        let mut sum = product(small.weights[0], sample(line, frame, 0, channel));
+        'taps: for place in 0..self.taps.len() {
+            let (late, _) = self.taps[place];
+            let earlier = sample(line, frame, late as usize, channel);
+            sum += product(small.weights[place + 1], earlier);
+        }
+        sum
+    }
+
+    /// Writes the samples of a frame that comes after those of the line, with their echoes, and counts how many were clipped.
+    #[inline(always)]
+    fn small_into(&self, small: &SmallWeights, line: &Line, frame: &[i32], out: &mut [i32]) -> u64
+        requires sounds { SoundsAs self.now.gain_in self.now.gain_out self.now.taps small.now }
+        requires out { length out.old ≡ self.now.channels }
+        ensures frame { out.new ≡ (echoed_frame self.now (sample_before (line.now.items ++ frame.now ∷ []) (length line.now.items))).samples }
+        ensures clips { result ≡ (echoed_frame self.now (sample_before (line.now.items ++ frame.now ∷ []) (length line.now.items))).clips }
+        ensures bound { result ≤ length out.old }
+    {
+        let mut clips = 0;
+        'channels: for channel in 0..out.len() {
+            let sum = self.small_sum(small, line, frame, channel);
+            let (sample, is_clipped) = small.denominator.round(sum);
+            out[channel] = sample;
+            clips += u64::from(is_clipped);
+        }
+        clips
+    }
+
+    /// The frame times gain-in, and its echoes, added.
+    #[inline(always)]
+    fn sums(&self, line: &Line, frame: Frame) -> Sums
+        ensures value { (k : ℕ) → k < self.now.channels → slice_index_or result k (pos 0) ≡ echo_sum self.now (sample_before (line.now.items ++ frame ∷ []) (length line.now.items)) k }
+        ensures small { (k : ℕ) → unsigned_abs (slice_index_or result k (pos 0)) ≤ 8 * (UNIT * 2 ^ 31) }
+    {
+        let mut sums = [0; 16];
+        add_scaled(&mut sums, self.channels, self.gain_in, frame);
+        'taps: for echo in &self.taps {
+            add_echo(&mut sums, self.channels, line, frame, *echo);
+        }
+        sums
+    }
+}
+
+impl PreparedEcho {
+    /// Writes the samples of a frame that comes after those of the line, with their echoes, whatever the gains, and counts how
+    /// many were clipped.
+    // Stack space for the wide sums is used only where this is called.
+    #[inline(never)]
+    fn wide_into(&self, line: &Line, frame: &[i32], out: &mut [i32]) -> u64
+        requires frame { length frame.now ≡ self.now.channels }
+        requires out { length out.old ≡ self.now.channels }
+        ensures frame { out.new ≡ (echoed_frame self.now (sample_before (line.now.items ++ frame.now ∷ []) (length line.now.items))).samples }
+        ensures clips { result ≡ (echoed_frame self.now (sample_before (line.now.items ++ frame.now ∷ []) (length line.now.items))).clips }
+        ensures bound { result ≤ length out.old }
+    {
+        let frame = frame_at(frame, 0, self.channels);
+        let sums = self.sums(line, frame);
+        sums_into(&sums, self.gain_out, out)
+    }
+}
+
+impl Tapping for PreparedEcho {
+    ghost taps = { echo_taps };
+
+    fn tap(&self, line: &Line, frame: Frame) -> (Frame, u64) {
+        if let Some(small) = &self.small {
+            let mut out = [0; 16];
+            let clips = self.small_into(small, line, frame.samples(), &mut out[..self.channels]);
+            return (Frame::of_first(self.channels, out), clips);
+        }
+        let sums = self.sums(line, frame);
+        rounded_sums(&sums, self.channels, self.gain_out)
+    }
+
+    #[inline(always)]
+    fn tap_into(&self, line: &Line, frame: &[i32], out: &mut [i32]) -> u64 {
+        let Some(small) = &self.small else {
+            return self.wide_into(line, frame, out);
+        };
+        self.small_into(small, line, frame, out)
+    }
+
+    fn channels(&self) -> usize {
+        self.channels
+    }
+
+    fn max_clips(&self) -> u64 {
+        16
+    }
+
+    ghost near = { taps-near };
+
+    ghost clips_max = { λ m. Prim.search rules };
+}
+
+/// A list of the same echoes.
+pub(crate) fn copied(alloc: Global, taps: &[(u64, Gain)]) -> Result<Vec<(u64, Gain)>, AllocError>
+    ensures { IfOk result (λ v. v.items ≡ taps.now) }
+{
+    let mut copies = Vec::new(alloc);
+    'taps: for echo in taps {
+        copies.push(*echo)?;
+    }
+    Ok(copies)
+}
+
+/// The stage of `echo`: each frame times gain-in and the frames before it at the delays, each times its decay, added,
+/// times gain-out and rounded once. A sample that is clipped counts for one clip.
+pub type Echo = Tapped<PreparedEcho>;
+
+impl Tapped<PreparedEcho> {
+    /// The stage for frames of 1 to 16 channels, with 1 to 7 echoes, each with its delay in frames, at least 1, and its
+    /// decay. Gain-in and the decays are at most 1, gain-out is at most 1000. It holds as many frames as the longest delay has, at
+    /// most `2^28`; AllocError where memory for them is refused.
+    pub fn new(
+        alloc: Global,
+        channels: usize,
+        gain_in: Gain,
+        gain_out: Gain,
+        taps: &[(u64, Gain)],
+    ) -> Result<Echo, AllocError>
+        requires channels { (1 ≤ channels) × (channels ≤ 16) }
+        requires gain_in { unsigned_abs gain_in ≤ UNIT }
+        requires taps { (1 ≤ length taps.now) × (length taps.now ≤ 7) }
+        requires delays { All (λ e. 1 ≤ e.0) taps.now }
+        requires decays { All (λ e. unsigned_abs e.1 ≤ UNIT) taps.now }
+        requires line { largest (map tap_delay taps.now) ≤ 2 ^ 28 }
+        ensures { IfOk result (IsNew echo_acts (record { channels = channels; gain_in = gain_in; gain_out = gain_out; taps = taps.now })) }
+    {
+        let reach = max_tap_delay(taps) as usize;
+        let taps = copied(alloc, taps)?;
+        let arguments = PreparedEcho::of(channels, gain_in, gain_out, taps);
+        Tapped::of(alloc, arguments, reach)
+    }
+    /// The stage that stored these frames and counted these numbers: whichever stage of these arguments they came from, that
+    /// stage is restored, unless memory is refused. BadSnapshot where there is no such stage, Memory where an allocation was
+    /// refused.
+    pub fn thaw(
+        alloc: Global,
+        channels: usize,
+        gain_in: Gain,
+        gain_out: Gain,
+        taps: &[(u64, Gain)],
+        frames: &[WideFrame],
+        numbers: &[u64; 8],
+    ) -> Result<Echo, ThawFault>
+        requires channels { (1 ≤ channels) × (channels ≤ 16) }
+        requires gain_in { unsigned_abs gain_in ≤ UNIT }
+        requires taps { (1 ≤ length taps.now) × (length taps.now ≤ 7) }
+        requires delays { All (λ e. 1 ≤ e.0) taps.now }
+        requires decays { All (λ e. unsigned_abs e.1 ≤ UNIT) taps.now }
+        requires line { largest (map tap_delay taps.now) ≤ 2 ^ 28 }
+        ensures recipe { IfOk result (λ t. echo_acts.recipe t ≡ record { channels = channels; gain_in = gain_in; gain_out = gain_out; taps = taps.now }) }
+        ensures frozen { IfOk result (λ t. Freezes echo_acts t frames.now numbers.now) }
+        ensures thawed { (s : TapState EchoArguments) → IsTapState echo_taps s → echo_acts.recipe s ≡ record { channels = channels; gain_in = gain_in; gain_out = gain_out; taps = taps.now } → Freezes echo_acts s frames.now numbers.now → MatchResult result (λ t. t ≡ s) (λ e. e ≡ ThawFault.Memory) }
+        ensures named { (result ≡ Err ThawFault.WrongPlan) → ⊥ }
+    {
+        let reach = max_tap_delay(taps) as usize;
+        let Ok(taps) = copied(alloc, taps) else {
+            return Err(ThawFault::Memory);
+        };
+        let arguments = PreparedEcho::of(channels, gain_in, gain_out, taps);
+        Tapped::thawed(alloc, arguments, reach, frames, numbers)
+    }
+}
+
+/// The maximum number of samples of a piece: frames that are made at once.
+pub(crate) const SAMPLES_OF_PIECE: usize = 256;
+
+/// The maximum number of frames of a piece: there is space for their samples, and none of them is an echo of another.
+pub(crate) fn frames_of_piece(channels: usize, taps: &[(u64, Gain)]) -> usize
+    requires channels { (1 ≤ channels) × (channels ≤ 16) }
+    requires delays { All (λ e. 1 ≤ e.0) taps.now }
+    ensures some { 1 ≤ result }
+    ensures free { result * channels ≤ 256 }
+    ensures late { All (λ e. result ≤ e.0) taps.now }
+{
+    let mut maximum = SAMPLES_OF_PIECE / channels;
+    'taps: for echo in taps {
+        maximum = maximum.min(echo.0 as usize);
+    }
+    maximum
+}
+
+impl PreparedEcho {
+    /// Adds to the sums `count` frames that follow those of the line, and their echoes, each times its weight.
+    fn add_piece(
+        &self,
+        small: &SmallWeights,
+        line: &Line,
+        frames: &[i32],
+        count: usize,
+        sums: &mut [i64],
+    )
+        requires channels { line.now.channels ≡ self.now.channels }
+        requires late { All (λ e. count ≤ e.0) self.now.taps }
+        requires free { count * self.now.channels ≤ 256 }
+        requires frames { length frames.now ≡ count * self.now.channels }
+        requires sums { length sums.old ≡ count * self.now.channels }
+        requires empty { (k : ℕ) → slice_index_or sums.old k (pos 0) ≡ pos 0 }
+        ensures value { (i k : ℕ) → i < count → k < self.now.channels → slice_index_or sums.new (i * self.now.channels + k) (pos 0) ≡ echo_sum (weighed self.now small.now.weights) (sample_before (line.now.items ++ pieces self.now.channels count frames.now) (length line.now.items + i)) k }
+        ensures small { (k : ℕ) → unsigned_abs (slice_index_or sums.new k (pos 0)) ≤ 2 ^ 61 }
+    {
+        add_products(sums, frames, small.weights[0]);
+        let mut places = [0; SAMPLES_OF_PIECE];
+        let earlier = &mut places[..frames.len()];
+        'taps: for place in 0..self.taps.len() {
+            let (late, _) = self.taps[place];
+            line.before_into(late as usize, count, earlier);
+            add_products(sums, earlier, small.weights[place + 1]);
+        }
+    }
+
+    /// Writes `count` frames with their echoes, which come after those of the line, and counts how many of their samples
+    /// were clipped. None of them is an echo of another.
+    fn tap_piece(
+        &self,
+        small: &SmallWeights,
+        line: &Line,
+        frames: &[i32],
+        count: usize,
+        out: &mut [i32],
+    ) -> u64
+        requires sounds { SoundsAs self.now.gain_in self.now.gain_out self.now.taps small.now }
+        requires channels { line.now.channels ≡ self.now.channels }
+        requires late { All (λ e. count ≤ e.0) self.now.taps }
+        requires free { count * self.now.channels ≤ 256 }
+        requires frames { length frames.now ≡ count * self.now.channels }
+        requires out { length out.old ≡ count * self.now.channels }
+        ensures frames { pieces self.now.channels count out.new ≡ frames_after echo_taps self.now line.now.items (pieces self.now.channels count frames.now) }
+        ensures clips { result ≡ clips_after echo_taps self.now line.now.items (pieces self.now.channels count frames.now) }
+        ensures bound { result ≤ count * self.now.channels }
+    {
+        let mut places = [0; SAMPLES_OF_PIECE];
+        let sums = &mut places[..frames.len()];
+        self.add_piece(small, line, frames, count, sums);
+        round_sums(sums, &small.denominator, out)
+    }
+}
+
+/// Writes over each earlier sample the sum of the one that came and of itself, each times its weight, rounded once, and counts
+/// how many were clipped.
+#[inline(always)]
+fn one_echo_over(small: &SmallWeights, came: &[i32], earlier: &mut [i32]) -> u64
+    requires places { length came.now ≡ length earlier.old }
+    ensures frame { earlier.new ≡ (given_samples (tabulate (λ k. rounding ((slice_index_or small.now.weights 0 (pos 0) *ℤ slice_index_or came.now k (pos 0)) +ℤ (slice_index_or small.now.weights 1 (pos 0) *ℤ slice_index_or earlier.old k (pos 0))) small.now.denominator) 0 (length earlier.old))).samples }
+    ensures clips { result ≡ (given_samples (tabulate (λ k. rounding ((slice_index_or small.now.weights 0 (pos 0) *ℤ slice_index_or came.now k (pos 0)) +ℤ (slice_index_or small.now.weights 1 (pos 0) *ℤ slice_index_or earlier.old k (pos 0))) small.now.denominator) 0 (length earlier.old))).clips }
+    ensures bound { result ≤ length earlier.old }
+{
+    let mut clips = 0;
+    'channels: for channel in 0..earlier.len() {
+        let direct = product(small.weights[0], came[channel]);
+        let echo = product(small.weights[1], earlier[channel]);
+        let (sample, is_clipped) = small.denominator.round(direct + echo);
+        earlier[channel] = sample;
+        clips += u64::from(is_clipped);
+    }
+    clips
+}
+
+impl PreparedEcho {
+    /// What `tap_over` does where there is one echo and its weights are small, by way of a buffer for the samples that came.
+    /// The frame that it needs is the one which leaves the line.
+    #[inline(always)]
+    fn one_through(
+        &self,
+        small: &SmallWeights,
+        line: &mut Line,
+        samples: &mut [i32],
+        came: &mut [i32],
+    ) -> u64
+        requires sounds { SoundsAs self.now.gain_in self.now.gain_out self.now.taps small.now }
+        requires one { length self.now.taps ≡ 1 }
+        requires channels { line.old.channels ≡ self.now.channels }
+        requires capacity { line.old.capacity ≡ largest (map tap_delay self.now.taps) }
+        requires frame { length samples.old ≡ self.now.channels }
+        requires bound { length samples.old ≤ 16 }
+        requires free { length came.old ≡ length samples.old }
+        ensures frame { samples.new ≡ (echoed_frame self.now (sample_before (line.old.items ++ samples.old ∷ []) (length line.old.items))).samples }
+        ensures clips { result ≡ (echoed_frame self.now (sample_before (line.old.items ++ samples.old ∷ []) (length line.old.items))).clips }
+        ensures bound { result ≤ 16 }
+        ensures items { line.new.items ≡ pushed line.old samples.old }
+        ensures line_capacity { line.new.capacity ≡ line.old.capacity }
+        ensures line_channels { line.new.channels ≡ line.old.channels }
+    {
+        let _held = line.len();
+        copy_samples(samples, came);
+        delay_over(line, samples);
+        one_echo_over(small, came, samples)
+    }
+
+    /// What `tap_over` does where there is one echo and its weights are small.
+    // Where there are one or two channels their number is known to the loops over them.
+    #[inline(always)]
+    fn one_over(&self, small: &SmallWeights, line: &mut Line, samples: &mut [i32]) -> u64
+        requires sounds { SoundsAs self.now.gain_in self.now.gain_out self.now.taps small.now }
+        requires one { length self.now.taps ≡ 1 }
+        requires channels { line.old.channels ≡ self.now.channels }
+        requires capacity { line.old.capacity ≡ largest (map tap_delay self.now.taps) }
+        requires frame { length samples.old ≡ self.now.channels }
+        requires bound { length samples.old ≤ 16 }
+        ensures frame { samples.new ≡ (echoed_frame self.now (sample_before (line.old.items ++ samples.old ∷ []) (length line.old.items))).samples }
+        ensures clips { result ≡ (echoed_frame self.now (sample_before (line.old.items ++ samples.old ∷ []) (length line.old.items))).clips }
+        ensures bound { result ≤ 16 }
+        ensures items { line.new.items ≡ pushed line.old samples.old }
+        ensures line_capacity { line.new.capacity ≡ line.old.capacity }
+        ensures line_channels { line.new.channels ≡ line.old.channels }
+    {
+        match samples.len() {
+            1 => self.one_through(small, line, samples, &mut [0]),
+            2 => self.one_through(small, line, samples, &mut [0; 2]),
+            _ => self.one_through_places(small, line, samples),
+        }
+    }
+
+    /// What `tap_over` does where there is one echo and its weights are small, for as many channels as there may be.
+    // Stack space for sixteen samples is used only where this is called.
+    #[inline(never)]
+    fn one_through_places(&self, small: &SmallWeights, line: &mut Line, samples: &mut [i32]) -> u64
+        requires sounds { SoundsAs self.now.gain_in self.now.gain_out self.now.taps small.now }
+        requires one { length self.now.taps ≡ 1 }
+        requires channels { line.old.channels ≡ self.now.channels }
+        requires capacity { line.old.capacity ≡ largest (map tap_delay self.now.taps) }
+        requires frame { length samples.old ≡ self.now.channels }
+        requires bound { length samples.old ≤ 16 }
+        ensures frame { samples.new ≡ (echoed_frame self.now (sample_before (line.old.items ++ samples.old ∷ []) (length line.old.items))).samples }
+        ensures clips { result ≡ (echoed_frame self.now (sample_before (line.old.items ++ samples.old ∷ []) (length line.old.items))).clips }
+        ensures bound { result ≤ 16 }
+        ensures items { line.new.items ≡ pushed line.old samples.old }
+        ensures line_capacity { line.new.capacity ≡ line.old.capacity }
+        ensures line_channels { line.new.channels ≡ line.old.channels }
+    {
+        let mut places = [0; 16];
+        let free = &mut places[..samples.len()];
+        self.one_through(small, line, samples, free)
+    }
+}
+
+impl PreparedEcho {
+    /// What `tap_frames` does where there is one echo and its weights are small. The frames that it needs are those which leave
+    /// the line.
+    fn group_over(
+        &self,
+        small: &SmallWeights,
+        line: &mut Line,
+        samples: &mut [i32],
+        count: usize,
+    ) -> u64
+        requires sounds { SoundsAs self.now.gain_in self.now.gain_out self.now.taps small.now }
+        requires one { length self.now.taps ≡ 1 }
+        requires channels { line.old.channels ≡ self.now.channels }
+        requires capacity { line.old.capacity ≡ largest (map tap_delay self.now.taps) }
+        requires bound { count ≤ 2 ^ 56 }
+        requires group { length samples.old ≤ 64 }
+        requires samples { length samples.old ≡ count * self.now.channels }
+        ensures frames { pieces self.now.channels count samples.new ≡ frames_after echo_taps self.now line.old.items (pieces self.now.channels count samples.old) }
+        ensures clips { result ≡ clips_after echo_taps self.now line.old.items (pieces self.now.channels count samples.old) }
+        ensures bound { result ≤ count * 16 }
+        ensures line { line.new.items ≡ last_of line.old.capacity (line.old.items ++ pieces self.now.channels count samples.old) }
+        ensures line_capacity { line.new.capacity ≡ line.old.capacity }
+        ensures line_channels { line.new.channels ≡ line.old.channels }
+    {
+        let _held = line.len();
+        let mut places = [0; SAMPLES_OF_GROUP];
+        let came = &mut places[..samples.len()];
+        if line.exchange_frames(samples, count, came) {
+            return one_echo_over(small, came, samples);
+        }
+        tap_over_by_frames(self, line, samples, count)
+    }
+}
+
+impl TapsMany for PreparedEcho {
+    fn tap_many(&self, line: &mut Line, input: &[i32], output: &mut [i32], count: usize) -> u64 {
+        let Some(small) = &self.small else {
+            return tap_by_frames(self, line, input, output, count);
+        };
+        let channels = self.channels;
+        let maximum = frames_of_piece(channels, &self.taps);
+        let _held = line.len();
+        let mut done = 0;
+        let mut clips = 0;
+        'pieces: while done < count {
+            let now = maximum.min(count - done);
+            let from = done * channels;
+            let to = from + now * channels;
+            let frames = &input[from..to];
+            clips += self.tap_piece(small, line, frames, now, &mut output[from..to]);
+            line.push_frames(frames, now);
+            done += now;
+        }
+        clips
+    }
+
+    fn tap_frames(&self, line: &mut Line, samples: &mut [i32], count: usize) -> u64 {
+        if let Some(small) = &self.small {
+            if self.taps.len() == 1 {
+                return self.group_over(small, line, samples, count);
+            }
+        }
+        tap_over_by_frames(self, line, samples, count)
+    }
+
+    #[inline(always)]
+    fn tap_over(&self, line: &mut Line, samples: &mut [i32]) -> u64 {
+        if let Some(small) = &self.small {
+            if self.taps.len() == 1 {
+                return self.one_over(small, line, samples);
+            }
+        }
+        tap_and_push(self, line, samples)
+    }
+}

@@ -1,0 +1,671 @@
+//! The effect `echos` of sox(1): echoes in series, each line taking the frame and what the line before it outputs.
+ghost use Rattle.std.specs.Prelude.{◌≡◌, ◌↔◌, true, ◌<◌, ◌≤◌, ◌+◌, ◌*◌, ◌^◌, ◌+ℤ◌, ◌*ℤ◌, ℕ, pos, length, map, unsigned_abs, slice_get, slice_index_or, replicate, drop, Err, IfOk, IfSome, MatchResult};
+ghost use Rattle.std.specs.List.{All};
+ghost use Rattle.fx_tap_delays.specs.DelayExtents.{sum_of_delays};
+ghost use Rattle.fx_frame_stage.specs.Frame.{IsFrame};
+ghost use Rattle.fx_frame_line.specs.Line.{channel_of, empty, pushed_out};
+ghost use Rattle.fx_frame_stage.specs.Holds.{total};
+ghost use Rattle.fx_frame_lists.specs.Lists.{pieces};
+ghost use Rattle.fx_frame_stage.specs.Stage.{Freezes, Given, IsNew};
+ghost use Rattle.fx_tap_delays.specs.Echo.{EchoArguments};
+ghost use Rattle.fx_tap_delays.specs.Echos.{decays};
+ghost use Rattle.fx_tap_delays.specs.EchosState.{EchosState, IsEchoLine, IsEchos, IsSeriesLine, after_push, delay_at, echos_acts, fed, frame_of_lines, frames_of_lines, gone_at, let_go, line_at, lines_after, or_silence, series_lines_after, through_lines};
+ghost use Rattle.fx_tap_sums.specs.Weights.{AreSmall};
+ghost use Rattle.fx_tap_delays.specs.EchoWeights.{Suits};
+ghost use Rattle.fx_tap_convolve.specs.Products.{sum_of_products};
+
+use crate::echo::{SAMPLES_OF_PIECE, copied, frames_of_piece};
+use crate::extents::all_taps;
+use crate::series_lines::thawed_series_and_pending;
+use crate::sums::{add_scaled, round_sums, sums_into};
+use fx_fixed::{Gain, UNIT};
+use fx_frame::{Counters, Feeds, Frame, Passed, Passing, Stage, ThawFault, WideFrame, WideLine};
+use fx_frame_stage::feed::{copy_samples, feed_by_frames, frame_at};
+use fx_frame_stage::frame::MAX_CHANNELS;
+use fx_frame_stage::pending::stored_pending;
+use fx_frame_stage::stage::MAX_TAKEN;
+use fx_tap_sums::inner::{Sums, add_places, add_products, add_samples, add_wide_products};
+use fx_tap_sums::weights::{SmallWeights, small_of};
+use std::alloc::{AllocError, Global};
+use std::marker::Model;
+
+/// The stage of `echos`: each frame times gain-in, and what each of several lines in series outputs times its decay, added,
+/// times gain-out and rounded once. A sample that is clipped counts for one clip.
+#[derive(Drop)]
+pub struct Echos {
+    pending: Option<Frame>,
+    pending_clips: u64,
+    channels: usize,
+    gain_in: Gain,
+    gain_out: Gain,
+    taps: Vec<(u64, Gain)>,
+    small: Option<SmallWeights>,
+    lines: Vec<WideLine>,
+    tail: u64,
+    taken: u64,
+    given: u64,
+    clips: u64,
+    ended: bool,
+}
+
+impl Model for Echos {
+    ghost use Rattle.fx_tap_delays.specs.Echo.{EchoArguments};
+    ghost use Rattle.std.specs.Prelude.{IfSome};
+    ghost use Rattle.fx_tap_delays.specs.EchosState.{EchosState, IsEchos};
+    ghost use Rattle.fx_tap_delays.specs.EchoWeights.{Suits};
+
+    ghost Value = { EchosState };
+
+    ghost view = { λ s. record { arguments = record { channels = s.channels; gain_in = s.gain_in; gain_out = s.gain_out; taps = s.taps.items }; lines = s.lines.items; pending = s.pending; pending_clips = s.pending_clips; tail = s.tail; taken = s.taken; given = s.given; clips = s.clips; ended = s.ended } };
+
+    ghost invariant = { λ s. IsEchos (record { arguments = record { channels = s.channels; gain_in = s.gain_in; gain_out = s.gain_out; taps = s.taps.items }; lines = s.lines.items; pending = s.pending; pending_clips = s.pending_clips; tail = s.tail; taken = s.taken; given = s.given; clips = s.clips; ended = s.ended }) × IfSome s.small (Suits (record { channels = s.channels; gain_in = s.gain_in; gain_out = s.gain_out; taps = s.taps.items })) };
+}
+
+/// A frame and what the line before output, added.
+#[inline(always)]
+fn fed_frame(channels: usize, frame: Frame, before: WideFrame) -> WideFrame
+    requires channels { (1 ≤ channels) × (channels ≤ 16) }
+    requires small { (k : ℕ) → unsigned_abs (slice_index_or before k (pos 0)) ≤ 2 ^ 34 }
+    ensures value { result ≡ fed channels frame before }
+    ensures count { length result ≡ channels }
+{
+    let samples = frame.places();
+    let passed = before.places();
+    let mut sums = [0i64; 16];
+    'channels: for channel in 0..channels {
+        sums[channel] = i64::from(samples[channel]) + passed[channel];
+    }
+    WideFrame::of_first(channels, sums)
+}
+
+/// Pushes a frame and what the line before output, added; returns what this line outputs, or silence.
+#[inline(always)]
+fn feed(line: &mut WideLine, channels: usize, frame: Frame, before: WideFrame) -> WideFrame
+    requires channels { (1 ≤ channels) × (channels ≤ 16) }
+    requires line { line.old.channels ≡ channels }
+    requires small { (k : ℕ) → unsigned_abs (slice_index_or before k (pos 0)) ≤ 2 ^ 34 }
+    ensures gone { result ≡ or_silence channels (pushed_out line.old (fed channels frame before)) }
+    ensures line { line.new ≡ after_push line.old (fed channels frame before) }
+{
+    let fed = fed_frame(channels, frame, before);
+    let Some(gone) = line.push(fed) else {
+        return WideFrame::from_frame(Frame::silence(channels));
+    };
+    gone
+}
+
+/// Adds what a line outputs, times a decay, which is at most 1 in magnitude.
+#[inline(always)]
+fn add_gone(sums: &mut Sums, channels: usize, decay: Gain, gone: WideFrame)
+    requires channels { channels ≤ 16 }
+    requires decay { unsigned_abs decay ≤ UNIT }
+    requires small { (k : ℕ) → unsigned_abs (slice_index_or gone k (pos 0)) ≤ 2 ^ 34 }
+    requires free { (k : ℕ) → unsigned_abs (slice_index_or sums.old k (pos 0)) ≤ 2 ^ 100 }
+    ensures added { (k : ℕ) → k < channels → slice_index_or sums.new k (pos 0) ≡ slice_index_or sums.old k (pos 0) +ℤ (decay *ℤ slice_index_or gone k (pos 0)) }
+    ensures left { (k : ℕ) → channels ≤ k → slice_index_or sums.new k (pos 0) ≡ slice_index_or sums.old k (pos 0) }
+{
+    add_places(sums, channels, decay, &gone.places());
+}
+
+/// Sends a frame through the lines, and adds what each outputs, times its decay.
+fn pass(
+    lines: &mut [WideLine],
+    taps: &[(u64, Gain)],
+    channels: usize,
+    frame: Frame,
+    sums: &mut Sums,
+)
+    requires channels { (1 ≤ channels) × (channels ≤ 16) }
+    requires count { (length lines.old ≡ length taps.now) × (length lines.old ≤ 7) }
+    requires lines { (j : ℕ) → j < length lines.old → IsSeriesLine channels j (line_at lines.old j) }
+    requires decays { All (λ e. unsigned_abs e.1 ≤ UNIT) taps.now }
+    requires free { (k : ℕ) → unsigned_abs (slice_index_or sums.old k (pos 0)) ≤ UNIT * 2 ^ 31 }
+    ensures lines { lines.new ≡ lines_after channels lines.old frame (replicate channels (pos 0)) }
+    ensures sums { (k : ℕ) → k < channels → slice_index_or sums.new k (pos 0) ≡ slice_index_or sums.old k (pos 0) +ℤ sum_of_products (decays taps.now) (channel_of (let_go channels lines.old frame (replicate channels (pos 0))) k (pos 0)) }
+    ensures small { (k : ℕ) → unsigned_abs (slice_index_or sums.new k (pos 0)) ≤ 29 * (UNIT * 2 ^ 31) }
+{
+    let _count = frame.channels();
+    let mut before = WideFrame::from_frame(Frame::silence(channels));
+    'lines: for place in 0..lines.len() {
+        let gone = feed(&mut lines[place], channels, frame, before);
+        add_gone(sums, channels, taps[place].1, gone);
+        before = gone;
+    }
+}
+
+/// The greatest weight of small ones: of eight such products of what lines output the sum fits 61 bits.
+const MAX_ECHOS_WEIGHT: u32 = 1 << 24;
+
+/// Sends `count` frames, together at most `N` samples, through the lines, no more than each has places, and adds them and
+/// what each line outputs, each times its weight.
+fn pass_piece<const N: usize>(
+    lines: &mut [WideLine],
+    small: &SmallWeights,
+    channels: usize,
+    frames: &[i32],
+    count: usize,
+    sums: &mut [i64],
+)
+    requires channels { (1 ≤ channels) × (channels ≤ 16) }
+    requires bound { length lines.old ≤ 7 }
+    requires lines { (j : ℕ) → j < length lines.old → IsSeriesLine channels j (line_at lines.old j) }
+    requires late { (j : ℕ) → j < length lines.old → count ≤ (line_at lines.old j).capacity }
+    requires weights { AreSmall (2 ^ 24) small.now.weights }
+    requires places { N ≤ 256 }
+    requires free { count * channels ≤ N }
+    requires frames { length frames.now ≡ count * channels }
+    requires sums { length sums.old ≡ count * channels }
+    requires empty { (k : ℕ) → slice_index_or sums.old k (pos 0) ≡ pos 0 }
+    ensures lines { lines.new ≡ series_lines_after channels lines.old (pieces channels count frames.now) }
+    ensures value { (i k : ℕ) → i < count → k < channels → slice_index_or sums.new (i * channels + k) (pos 0) ≡ (slice_index_or small.now.weights 0 (pos 0) *ℤ slice_index_or frames.now (i * channels + k) (pos 0)) +ℤ sum_of_products (drop 1 small.now.weights) (channel_of (gone_at channels lines.old (pieces channels count frames.now) i) k (pos 0)) }
+    ensures small { (k : ℕ) → unsigned_abs (slice_index_or sums.new k (pos 0)) ≤ 2 ^ 61 }
+    ensures frames { (k : ℕ) → k < length frames.now → unsigned_abs (slice_index_or frames.now k (pos 0)) ≤ 2 ^ 31 }
+{
+    add_products(sums, frames, small.weights[0]);
+    let mut passed = [0; N];
+    let before = &mut passed[..frames.len()];
+    let mut places = [0; N];
+    let fed = &mut places[..frames.len()];
+    'lines: for place in 0..lines.len() {
+        add_samples(fed, frames, before);
+        let line = &mut lines[place];
+        line.before_into(line.capacity(), count, before);
+        line.push_frames(fed, count);
+        add_wide_products(sums, before, small.weights[place + 1]);
+    }
+}
+
+/// Sends `count` frames, together at most `N` samples, through the lines, no more than each has places: writes the frames
+/// that are given for them, and counts how many of their samples were clipped.
+fn echo_piece<const N: usize>(
+    lines: &mut [WideLine],
+    small: &SmallWeights,
+    channels: usize,
+    frames: &[i32],
+    count: usize,
+    out: &mut [i32],
+) -> u64
+    requires channels { (1 ≤ channels) × (channels ≤ 16) }
+    requires bound { length lines.old ≤ 7 }
+    requires weights { AreSmall (2 ^ 24) small.now.weights }
+    requires lines { (j : ℕ) → j < length lines.old → IsSeriesLine channels j (line_at lines.old j) }
+    requires late { (j : ℕ) → j < length lines.old → count ≤ (line_at lines.old j).capacity }
+    requires places { N ≤ 256 }
+    requires free { count * channels ≤ N }
+    requires frames { length frames.now ≡ count * channels }
+    requires out { length out.old ≡ count * channels }
+    ensures lines { lines.new ≡ series_lines_after channels lines.old (pieces channels count frames.now) }
+    ensures frames { (a : EchoArguments) → Suits a small.now → a.channels ≡ channels → length a.taps ≡ length lines.old → pieces channels count out.new ≡ map (λ (g : Given). g.samples) (through_lines a lines.old (pieces channels count frames.now)) }
+    ensures clips { (a : EchoArguments) → Suits a small.now → a.channels ≡ channels → length a.taps ≡ length lines.old → result ≡ total (λ (g : Given). g.clips) (through_lines a lines.old (pieces channels count frames.now)) }
+    ensures bound { result ≤ count * channels }
+    ensures samples { (k : ℕ) → k < length frames.now → unsigned_abs (slice_index_or frames.now k (pos 0)) ≤ 2 ^ 31 }
+{
+    let mut places = [0; N];
+    let sums = &mut places[..frames.len()];
+    pass_piece::<N>(lines, small, channels, frames, count, sums);
+    round_sums(sums, &small.denominator, out)
+}
+
+/// Sends `count` frames at the front of the input through the lines, some at a time: writes the frames that are given for
+/// them to the front of the output, and counts how many of their samples were clipped.
+fn echo_many(
+    lines: &mut [WideLine],
+    taps: &[(u64, Gain)],
+    small: &SmallWeights,
+    channels: usize,
+    input: &[i32],
+    output: &mut [i32],
+    count: usize,
+) -> u64
+    requires channels { (1 ≤ channels) × (channels ≤ 16) }
+    requires taps { (length lines.old ≡ length taps.now) × (length lines.old ≤ 7) }
+    requires delays { All (λ e. 1 ≤ e.0) taps.now }
+    requires lines { (came : ℕ) × ((j : ℕ) → j < length lines.old → IsEchoLine channels came j (delay_at taps.now j) (line_at lines.old j)) }
+    requires weights { AreSmall (2 ^ 24) small.now.weights }
+    requires bound { count ≤ 2 ^ 56 }
+    requires input { count * channels ≤ length input.now }
+    requires output { count * channels ≤ length output.old }
+    ensures lines { lines.new ≡ series_lines_after channels lines.old (pieces channels count input.now) }
+    ensures frames { (a : EchoArguments) → Suits a small.now → a.channels ≡ channels → length a.taps ≡ length lines.old → pieces channels count output.new ≡ map (λ (g : Given). g.samples) (through_lines a lines.old (pieces channels count input.now)) }
+    ensures clips { (a : EchoArguments) → Suits a small.now → a.channels ≡ channels → length a.taps ≡ length lines.old → result ≡ total (λ (g : Given). g.clips) (through_lines a lines.old (pieces channels count input.now)) }
+    ensures bound { result ≤ count * 16 }
+    ensures rest_unchanged { drop (count * channels) output.new ≡ drop (count * channels) output.old }
+    ensures sound { (came : ℕ) → ((j : ℕ) → j < length lines.old → IsEchoLine channels came j (delay_at taps.now j) (line_at lines.old j)) → (j : ℕ) → j < length lines.new → IsEchoLine channels (came + count) j (delay_at taps.now j) (line_at lines.new j) }
+{
+    let maximum = frames_of_piece(channels, taps);
+    let mut done = 0;
+    let mut clips = 0;
+    'pieces: while done < count {
+        let now = maximum.min(count - done);
+        let from = done * channels;
+        let to = from + now * channels;
+        let frames = &input[from..to];
+        let out = &mut output[from..to];
+        clips += echo_piece::<SAMPLES_OF_PIECE>(lines, small, channels, frames, now, out);
+        done += now;
+    }
+    clips
+}
+
+/// Sends a frame through the lines, whatever the gains: writes the samples of the frame that is given for it over its own,
+/// and counts how many were clipped.
+// Stack space for the wide sums is used only where this is called.
+#[inline(never)]
+fn wide_over(
+    lines: &mut [WideLine],
+    taps: &[(u64, Gain)],
+    channels: usize,
+    gains: (Gain, Gain),
+    samples: &mut [i32],
+) -> u64
+    requires channels { (1 ≤ channels) × (channels ≤ 16) }
+    requires frame { length samples.old ≡ channels }
+    requires count { (length lines.old ≡ length taps.now) × (length lines.old ≤ 7) }
+    requires lines { (j : ℕ) → j < length lines.old → IsSeriesLine channels j (line_at lines.old j) }
+    requires gain_in { unsigned_abs gains.0 ≤ UNIT }
+    requires decays { All (λ e. unsigned_abs e.1 ≤ UNIT) taps.now }
+    ensures lines { lines.new ≡ lines_after channels lines.old samples.old (replicate channels (pos 0)) }
+    ensures frame { samples.new ≡ (frame_of_lines (record { channels = channels; gain_in = gains.0; gain_out = gains.1; taps = taps.now }) samples.old (let_go channels lines.old samples.old (replicate channels (pos 0)))).samples }
+    ensures clips { result ≡ (frame_of_lines (record { channels = channels; gain_in = gains.0; gain_out = gains.1; taps = taps.now }) samples.old (let_go channels lines.old samples.old (replicate channels (pos 0)))).clips }
+    ensures bound { result ≤ 16 }
+    ensures small { (k : ℕ) → unsigned_abs (slice_index_or samples.old k (pos 0)) ≤ 2 ^ 31 }
+{
+    let frame = frame_at(samples, 0, channels);
+    let mut sums = [0; 16];
+    add_scaled(&mut sums, channels, gains.0, frame);
+    pass(lines, taps, channels, frame, &mut sums);
+    let _count = frame.channels();
+    sums_into(&sums, gains.1, samples)
+}
+
+/// Sends a frame through the lines: writes the samples of the frame that is given for it over its own, and counts how many
+/// were clipped.
+fn echo_over(
+    lines: &mut [WideLine],
+    taps: &[(u64, Gain)],
+    small: &Option<SmallWeights>,
+    channels: usize,
+    gains: (Gain, Gain),
+    samples: &mut [i32],
+) -> u64
+    requires channels { (1 ≤ channels) × (channels ≤ 16) }
+    requires frame { length samples.old ≡ channels }
+    requires count { (length lines.old ≡ length taps.now) × (length lines.old ≤ 7) }
+    requires lines { (j : ℕ) → j < length lines.old → IsSeriesLine channels j (line_at lines.old j) }
+    requires late { (j : ℕ) → j < length lines.old → 1 ≤ (line_at lines.old j).capacity }
+    requires small { IfSome small.now (Suits (record { channels = channels; gain_in = gains.0; gain_out = gains.1; taps = taps.now })) }
+    requires gain_in { unsigned_abs gains.0 ≤ UNIT }
+    requires decays { All (λ e. unsigned_abs e.1 ≤ UNIT) taps.now }
+    ensures lines { lines.new ≡ lines_after channels lines.old samples.old (replicate channels (pos 0)) }
+    ensures frame { samples.new ≡ (frame_of_lines (record { channels = channels; gain_in = gains.0; gain_out = gains.1; taps = taps.now }) samples.old (let_go channels lines.old samples.old (replicate channels (pos 0)))).samples }
+    ensures clips { result ≡ (frame_of_lines (record { channels = channels; gain_in = gains.0; gain_out = gains.1; taps = taps.now }) samples.old (let_go channels lines.old samples.old (replicate channels (pos 0)))).clips }
+    ensures bound { result ≤ 16 }
+    ensures small { (k : ℕ) → unsigned_abs (slice_index_or samples.old k (pos 0)) ≤ 2 ^ 31 }
+{
+    if let Some(small) = small {
+        let mut places = [0; MAX_CHANNELS];
+        let out = &mut places[..channels];
+        let clips = echo_piece::<MAX_CHANNELS>(lines, small, channels, samples, 1, out);
+        copy_samples(out, samples);
+        return clips;
+    }
+    wide_over(lines, taps, channels, gains, samples)
+}
+
+/// Sends a frame through the lines: the frame that is given for it, and how many of its samples were clipped.
+fn echoed(
+    lines: &mut [WideLine],
+    taps: &[(u64, Gain)],
+    small: &Option<SmallWeights>,
+    channels: usize,
+    gains: (Gain, Gain),
+    frame: Frame,
+) -> (Frame, u64)
+    requires channels { (1 ≤ channels) × (channels ≤ 16) }
+    requires frame { length frame ≡ channels }
+    requires count { (length lines.old ≡ length taps.now) × (length lines.old ≤ 7) }
+    requires lines { (j : ℕ) → j < length lines.old → IsSeriesLine channels j (line_at lines.old j) }
+    requires late { (j : ℕ) → j < length lines.old → 1 ≤ (line_at lines.old j).capacity }
+    requires small { IfSome small.now (Suits (record { channels = channels; gain_in = gains.0; gain_out = gains.1; taps = taps.now })) }
+    requires gain_in { unsigned_abs gains.0 ≤ UNIT }
+    requires decays { All (λ e. unsigned_abs e.1 ≤ UNIT) taps.now }
+    ensures lines { lines.new ≡ lines_after channels lines.old frame (replicate channels (pos 0)) }
+    ensures frame { result.0 ≡ (frame_of_lines (record { channels = channels; gain_in = gains.0; gain_out = gains.1; taps = taps.now }) frame (let_go channels lines.old frame (replicate channels (pos 0)))).samples }
+    ensures clips { result.1 ≡ (frame_of_lines (record { channels = channels; gain_in = gains.0; gain_out = gains.1; taps = taps.now }) frame (let_go channels lines.old frame (replicate channels (pos 0)))).clips }
+    ensures bound { result.1 ≤ 16 }
+    ensures fits { IsFrame result.0 × (length result.0 ≡ channels) }
+{
+    let mut out = frame.places();
+    let clips = echo_over(lines, taps, small, channels, gains, &mut out[..channels]);
+    let made = Frame::of_first(channels, out);
+    let _count = made.channels();
+    (made, clips)
+}
+
+/// A line for each echo, with no frame.
+fn empty_lines(
+    alloc: Global,
+    channels: usize,
+    taps: &[(u64, Gain)],
+) -> Result<Vec<WideLine>, AllocError>
+    requires channels { (1 ≤ channels) × (channels ≤ 16) }
+    requires delays { All (λ e. e.0 ≤ 2 ^ 28) taps.now }
+    ensures { IfOk result (λ v. v.items ≡ map (λ e. empty channels e.0) taps.now) }
+{
+    let mut lines = Vec::new(alloc);
+    'taps: for echo in taps {
+        let line = WideLine::new(alloc, channels, echo.0 as usize)?;
+        lines.push(line)?;
+    }
+    Ok(lines)
+}
+
+/// How many frames the lines hold.
+fn held_in(lines: &[WideLine]) -> u64
+    requires { length (frames_of_lines lines.now) ≤ 2 ^ 32 }
+    ensures { result ≡ length (frames_of_lines lines.now) }
+{
+    let mut count = 0;
+    'lines: for line in lines {
+        count += line.len() as u64;
+    }
+    count
+}
+
+/// The frame at a place, counted from the first line's oldest one.
+fn stored_in(lines: &[WideLine], j: usize) -> Option<WideFrame>
+    ensures { result ≡ slice_get (frames_of_lines lines.now) j }
+{
+    let mut place = j;
+    'lines: for line in lines {
+        let count = line.len();
+        if place < count {
+            return line.get(place);
+        }
+        place -= count;
+    }
+    None
+}
+
+impl Echos {
+    /// The stage for frames of 1 to 16 channels, with 1 to 7 echoes, each with its delay in frames, at least 1, and its
+    /// decay. Gain-in and the decays are at most 1, gain-out is at most 1000. Its lines together hold as many frames as the
+    /// delays have, at most `2^28`; AllocError where memory for them is refused.
+    pub fn new(
+        alloc: Global,
+        channels: usize,
+        gain_in: Gain,
+        gain_out: Gain,
+        taps: &[(u64, Gain)],
+    ) -> Result<Echos, AllocError>
+        requires channels { (1 ≤ channels) × (channels ≤ 16) }
+        requires gain_in { unsigned_abs gain_in ≤ UNIT }
+        requires taps { (1 ≤ length taps.now) × (length taps.now ≤ 7) }
+        requires delays { All (λ e. 1 ≤ e.0) taps.now }
+        requires decays { All (λ e. unsigned_abs e.1 ≤ UNIT) taps.now }
+        requires lines { sum_of_delays taps.now ≤ 2 ^ 28 }
+        ensures { IfOk result (IsNew echos_acts (record { channels = channels; gain_in = gain_in; gain_out = gain_out; taps = taps.now })) }
+    {
+        let small = small_of(gain_in, gain_out, taps, MAX_ECHOS_WEIGHT);
+        let lines = empty_lines(alloc, channels, taps)?;
+        let taps = copied(alloc, taps)?;
+        Ok(Echos {
+            pending: None,
+            pending_clips: 0,
+            channels,
+            gain_in,
+            gain_out,
+            taps,
+            small,
+            lines,
+            tail: 0,
+            taken: 0,
+            given: 0,
+            clips: 0,
+            ended: false,
+        })
+    }
+}
+
+/// Whether a stage that gave `given` frames can have clipped `clips` samples, and `pending_clips` more in its `pending_count`
+/// pending frames.
+fn are_clips(given: u64, clips: u64, pending_count: u64, pending_clips: u64) -> bool
+    requires { given ≤ 2 ^ 57 }
+    ensures { result ≡ true ↔ ((clips ≤ 16 * given) × (pending_clips ≤ 16) × (pending_count ≡ 0 → pending_clips ≡ 0)) }
+{
+    clips <= 16 * given && pending_clips <= 16 && (pending_count != 0 || pending_clips == 0)
+}
+
+impl Echos {
+    /// The stage that stored these frames and counted these numbers, with the arguments of `new`: whichever stage of these
+    /// arguments they came from, that stage is restored, unless memory is refused. BadSnapshot where there is no such stage,
+    /// Memory where an allocation was refused.
+    pub fn thaw(
+        alloc: Global,
+        channels: usize,
+        gain_in: Gain,
+        gain_out: Gain,
+        taps: &[(u64, Gain)],
+        frames: &[WideFrame],
+        numbers: &[u64; 8],
+    ) -> Result<Echos, ThawFault>
+        requires channels { (1 ≤ channels) × (channels ≤ 16) }
+        requires gain_in { unsigned_abs gain_in ≤ UNIT }
+        requires taps { (1 ≤ length taps.now) × (length taps.now ≤ 7) }
+        requires delays { All (λ e. 1 ≤ e.0) taps.now }
+        requires decays { All (λ e. unsigned_abs e.1 ≤ UNIT) taps.now }
+        requires lines { sum_of_delays taps.now ≤ 2 ^ 28 }
+        ensures recipe { IfOk result (λ t. echos_acts.recipe t ≡ record { channels = channels; gain_in = gain_in; gain_out = gain_out; taps = taps.now }) }
+        ensures frozen { IfOk result (λ t. Freezes echos_acts t frames.now numbers.now) }
+        ensures thawed { (s : EchosState) → IsEchos s → echos_acts.recipe s ≡ record { channels = channels; gain_in = gain_in; gain_out = gain_out; taps = taps.now } → Freezes echos_acts s frames.now numbers.now → MatchResult result (λ t. t ≡ s) (λ e. e ≡ ThawFault.Memory) }
+        ensures named { (result ≡ Err ThawFault.WrongPlan) → ⊥ }
+    {
+        let [
+            taken,
+            given,
+            ended,
+            clips,
+            held,
+            tail,
+            pending_count,
+            pending_clips,
+        ] = *numbers;
+        if ended > 1 || held != frames.len() as u64 || pending_count > held {
+            return Err(ThawFault::BadSnapshot);
+        }
+        if taken > MAX_TAKEN || (ended == 0 && tail != 0) {
+            return Err(ThawFault::BadSnapshot);
+        }
+        let made = taken + ended * all_taps(taps);
+        if given > made || pending_count > made - given || tail != made - given - pending_count {
+            return Err(ThawFault::BadSnapshot);
+        }
+        if !are_clips(given, clips, pending_count, pending_clips)
+            || (pending_count != 0 && ended != 0)
+        {
+            return Err(ThawFault::BadSnapshot);
+        }
+        let small = small_of(gain_in, gain_out, taps, MAX_ECHOS_WEIGHT);
+        let came = given + pending_count;
+        let (lines, pending) = thawed_series_and_pending(
+            alloc,
+            channels,
+            came,
+            taps,
+            frames,
+            pending_count,
+        )?;
+        let Ok(taps) = copied(alloc, taps) else {
+            return Err(ThawFault::Memory);
+        };
+        Ok(Echos {
+            pending,
+            pending_clips,
+            channels,
+            gain_in,
+            gain_out,
+            taps,
+            small,
+            lines,
+            tail,
+            taken,
+            given,
+            clips,
+            ended: ended == 1,
+        })
+    }
+}
+
+impl Stage for Echos {
+    ghost use Rattle.fx_frame.specs.Tapped.{tap_rises};
+
+    ghost Recipe = { EchoArguments };
+
+    ghost acts = { echos_acts };
+
+    ghost sound = { λ s. IsEchos s };
+
+    ghost rises = { λ r. tap_rises (sum_of_delays r.taps) };
+
+    fn take(&mut self, frame: Frame) {
+        let gains = (self.gain_in, self.gain_out);
+        let _count = frame.channels();
+        let (out, clips) = echoed(
+            &mut self.lines,
+            &self.taps,
+            &self.small,
+            self.channels,
+            gains,
+            frame,
+        );
+        self.pending = Some(out);
+        self.pending_clips = clips;
+        self.taken += 1;
+    }
+
+    fn end(&mut self) {
+        self.tail = all_taps(&self.taps);
+        self.ended = true;
+    }
+
+    fn give(&mut self) -> Option<Frame> {
+        if let Some(frame) = self.pending {
+            self.pending = None;
+            self.given += 1;
+            self.clips += self.pending_clips;
+            self.pending_clips = 0;
+            return Some(frame);
+        }
+        if self.tail == 0 {
+            return None;
+        }
+        let gains = (self.gain_in, self.gain_out);
+        let silence_here = Frame::silence(self.channels);
+        let (out, clips) = echoed(
+            &mut self.lines,
+            &self.taps,
+            &self.small,
+            self.channels,
+            gains,
+            silence_here,
+        );
+        self.tail -= 1;
+        self.given += 1;
+        self.clips += clips;
+        Some(out)
+    }
+
+    fn is_dry(&self) -> bool {
+        self.pending.is_none() && self.tail == 0
+    }
+
+    #[inline(always)]
+    fn counter_values(&self) -> Counters {
+        Counters {
+            taken: self.taken,
+            given: self.given,
+            clips: self.clips,
+            ended: self.ended,
+        }
+    }
+
+    fn is_spent(&self) -> bool {
+        false
+    }
+
+    fn held(&self) -> u64 {
+        held_in(&self.lines) + u64::from(self.pending.is_some())
+    }
+
+    fn hold(&self) -> u64 {
+        all_taps(&self.taps) + 1
+    }
+
+    fn in_channels(&self) -> usize {
+        self.channels
+    }
+
+    fn out_channels(&self) -> usize {
+        self.channels
+    }
+
+    fn state_counters(&self) -> [u64; 3] {
+        [
+            self.tail,
+            u64::from(self.pending.is_some()),
+            self.pending_clips,
+        ]
+    }
+
+    fn stored(&self, j: usize) -> WideFrame {
+        if let Some(frame) = stored_in(&self.lines, j) {
+            return frame;
+        }
+        stored_pending(self.pending, 0)
+    }
+}
+
+impl Feeds for Echos {
+    fn feed(&mut self, input: &[i32], output: &mut [i32]) -> Passed {
+        if self.pending.is_some() || self.ended {
+            return feed_by_frames(self, input, output);
+        }
+        let Some(small) = &self.small else {
+            return feed_by_frames(self, input, output);
+        };
+        let channels = self.channels;
+        let count = (input.len() / channels).min(output.len() / channels);
+        let lines = &mut self.lines;
+        self.clips += echo_many(lines, &self.taps, small, channels, input, output, count);
+        self.taken += count as u64;
+        self.given += count as u64;
+        Passed {
+            taken: count,
+            given: count,
+        }
+    }
+
+    fn pass_samples(&mut self, samples: &mut [i32]) -> Passing {
+        let gains = (self.gain_in, self.gain_out);
+        let clips = echo_over(
+            &mut self.lines,
+            &self.taps,
+            &self.small,
+            self.channels,
+            gains,
+            samples,
+        );
+        self.clips += clips;
+        self.taken += 1;
+        self.given += 1;
+        Passing::Through
+    }
+
+    fn ahead(&self) -> u64 {
+        u64::MAX
+    }
+
+    fn one_to_one(&self) -> u64 {
+        u64::MAX
+    }
+}

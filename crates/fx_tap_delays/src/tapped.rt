@@ -1,0 +1,598 @@
+//! Effects whose output frame depends on the input frame and on frames at fixed distances before it: a line, and a tail after
+//! the end.
+ghost use Rattle.std.specs.Prelude.{◌≡◌, ◌↔◌, ◌+◌, true, false, ◌<◌, ◌≤◌, ◌*◌, ◌^◌, ◌++◌, ◌∷◌, [], None, drop, length, Err, IfOk, MatchResult};
+ghost use Rattle.fx_frame_line.specs.Line.{pushed};
+ghost use Rattle.fx_frame_lists.specs.Lists.{pieces};
+ghost use Rattle.fx_frame_stage.specs.Stage.{Freezes, Gave, IsNew};
+ghost use Rattle.fx_frame.specs.Tapped.{AreTapCounts, IsNear, Taps, TapState, by_name, clips_after, frames_after, last_of, tap_acts};
+ghost use Rattle.fx_frame.specs.History.{sample_before};
+
+use fx_frame::frozen::{stored_in, thawed_line_and_pending};
+use fx_frame::groups::{SAMPLES_OF_GROUP, frames_of_group};
+use fx_frame::{Counters, Feeds, Frame, Line, Passed, Passing, Stage, ThawFault, WideFrame};
+use fx_frame_stage::feed::{copy_samples, feed_by_frames, frame_at};
+use fx_frame_stage::stage::MAX_TAKEN;
+use fx_tap_sums::inner::sample_or_silence;
+use std::alloc::{AllocError, Global};
+use std::marker::Model;
+
+/// What an effect makes of a frame and of its history.
+pub trait Tapping {
+    /// How it makes frames.
+    ghost taps: { Taps Self };
+
+    /// The frame that it makes of a frame which comes after those of the line, and how many of its samples were clipped.
+    fn tap(&self, line: &Line, frame: Frame) -> (Frame, u64)
+        ensures frame { result.0 ≡ (taps.made self.now (sample_before (line.now.items ++ frame ∷ []) (length line.now.items))).samples }
+        ensures clips { result.1 ≡ (taps.made self.now (sample_before (line.now.items ++ frame ∷ []) (length line.now.items))).clips }
+        ensures bound { result.1 ≤ taps.max_clips self.now }
+        ensures channels { length result.0 ≡ taps.channels self.now };
+
+    /// Writes the samples of the frame that it makes of those of a frame which comes after those of the line, and counts how
+    /// many were clipped.
+    fn tap_into(&self, line: &Line, frame: &[i32], out: &mut [i32]) -> u64
+        requires frame { length frame.now ≡ taps.channels self.now }
+        requires out { length out.old ≡ taps.channels self.now }
+        ensures frame { out.new ≡ (taps.made self.now (sample_before (line.now.items ++ frame.now ∷ []) (length line.now.items))).samples }
+        ensures clips { result ≡ (taps.made self.now (sample_before (line.now.items ++ frame.now ∷ []) (length line.now.items))).clips }
+        ensures bound { result ≤ taps.max_clips self.now };
+
+    /// The channels of the frames that it takes and makes.
+    fn channels(&self) -> usize
+        ensures value { result ≡ taps.channels self.now }
+        ensures some { (1 ≤ result) × (result ≤ 16) };
+
+    /// How many samples of a frame may be clipped.
+    fn max_clips(&self) -> u64
+        ensures { result ≡ taps.max_clips self.now };
+
+    /// No output frame depends on frames before the reach.
+    ghost near: { IsNear taps };
+
+    /// It has at most 16 channels to clip.
+    ghost clips_max: { (m : Self) → taps.max_clips m ≤ 16 };
+}
+
+/// An effect that makes many frames in one call.
+pub trait TapsMany: Tapping {
+    /// Makes `count` frames from those at the front of the input, which come after those of the line, at the front of the
+    /// output, and counts their clips. They go through the line.
+    fn tap_many(&self, line: &mut Line, input: &[i32], output: &mut [i32], count: usize) -> u64
+        requires channels { line.old.channels ≡ Self.taps.channels self.now }
+        requires capacity { line.old.capacity ≡ Self.taps.reach self.now }
+        requires bound { count ≤ 2 ^ 56 }
+        requires input { count * Self.taps.channels self.now ≤ length input.now }
+        requires output { count * Self.taps.channels self.now ≤ length output.old }
+        ensures frames { pieces (Self.taps.channels self.now) count output.new ≡ frames_after Self.taps self.now line.old.items (pieces (Self.taps.channels self.now) count input.now) }
+        ensures rest_unchanged { drop (count * Self.taps.channels self.now) output.new ≡ drop (count * Self.taps.channels self.now) output.old }
+        ensures clips { result ≡ clips_after Self.taps self.now line.old.items (pieces (Self.taps.channels self.now) count input.now) }
+        ensures bound { result ≤ count * Self.taps.max_clips self.now }
+        ensures small { result ≤ 16 * count }
+        ensures line { line.new.items ≡ last_of line.old.capacity (line.old.items ++ pieces (Self.taps.channels self.now) count input.now) }
+        ensures line_capacity { line.new.capacity ≡ line.old.capacity }
+        ensures line_channels { line.new.channels ≡ line.old.channels }
+    {
+        tap_by_frames(self, line, input, output, count)
+    }
+
+    /// Writes the samples of the frame that it makes of those of a frame which comes after those of the line over them, and
+    /// counts how many were clipped. The frame that came goes into the line.
+    #[inline(always)]
+    fn tap_over(&self, line: &mut Line, samples: &mut [i32]) -> u64
+        requires channels { line.old.channels ≡ Self.taps.channels self.now }
+        requires capacity { line.old.capacity ≡ Self.taps.reach self.now }
+        requires frame { length samples.old ≡ Self.taps.channels self.now }
+        requires bound { length samples.old ≤ 16 }
+        ensures frame { samples.new ≡ (Self.taps.made self.now (sample_before (line.old.items ++ samples.old ∷ []) (length line.old.items))).samples }
+        ensures clips { result ≡ (Self.taps.made self.now (sample_before (line.old.items ++ samples.old ∷ []) (length line.old.items))).clips }
+        ensures bound { result ≤ Self.taps.max_clips self.now }
+        ensures items { line.new.items ≡ pushed line.old samples.old }
+        ensures line_capacity { line.new.capacity ≡ line.old.capacity }
+        ensures line_channels { line.new.channels ≡ line.old.channels }
+    {
+        tap_and_push(self, line, samples)
+    }
+
+    /// Makes `count` frames in place from those of a group, which come after those of the line, and counts their clips.
+    /// They go through the line.
+    fn tap_frames(&self, line: &mut Line, samples: &mut [i32], count: usize) -> u64
+        requires channels { line.old.channels ≡ Self.taps.channels self.now }
+        requires capacity { line.old.capacity ≡ Self.taps.reach self.now }
+        requires bound { count ≤ 2 ^ 56 }
+        requires group { length samples.old ≤ 64 }
+        requires samples { length samples.old ≡ count * Self.taps.channels self.now }
+        ensures frames { pieces (Self.taps.channels self.now) count samples.new ≡ frames_after Self.taps self.now line.old.items (pieces (Self.taps.channels self.now) count samples.old) }
+        ensures clips { result ≡ clips_after Self.taps self.now line.old.items (pieces (Self.taps.channels self.now) count samples.old) }
+        ensures bound { result ≤ count * Self.taps.max_clips self.now }
+        ensures small { result ≤ 16 * count }
+        ensures line { line.new.items ≡ last_of line.old.capacity (line.old.items ++ pieces (Self.taps.channels self.now) count samples.old) }
+        ensures line_capacity { line.new.capacity ≡ line.old.capacity }
+        ensures line_channels { line.new.channels ≡ line.old.channels }
+    {
+        tap_over_by_frames(self, line, samples, count)
+    }
+}
+
+/// A sample of the frame `delay` places before this one, which comes after those of the line.
+#[inline(always)]
+pub(crate) fn sample(line: &Line, frame: &[i32], delay: usize, channel: usize) -> i32
+    ensures { result ≡ sample_before (line.now.items ++ frame.now ∷ []) (length line.now.items) delay channel }
+{
+    if delay == 0 {
+        return sample_or_silence(frame, channel);
+    }
+    line.sample_back(delay - 1, channel)
+}
+
+/// Adds the frame of these samples to the line; the oldest goes where there is no space for one more.
+#[inline(always)]
+fn push_samples(line: &mut Line, samples: &[i32])
+    requires channels { length samples.now ≡ line.old.channels }
+    requires some { (1 ≤ length samples.now) × (length samples.now ≤ 16) }
+    ensures items { line.new.items ≡ pushed line.old samples.now }
+    ensures capacity { line.new.capacity ≡ line.old.capacity }
+    ensures channels { line.new.channels ≡ line.old.channels }
+{
+    let frame = match samples.len() {
+        1 => Frame::one(samples[0]),
+        2 => Frame::two(samples[0], samples[1]),
+        channels => frame_at(samples, 0, channels),
+    };
+    line.push(frame);
+}
+
+/// What `tap_over` does, for any such effect, by way of a buffer for the frame that is made.
+#[inline(always)]
+fn tap_through<T: Tapping>(
+    tapping: &T,
+    line: &mut Line,
+    samples: &mut [i32],
+    made: &mut [i32],
+) -> u64
+    requires channels { line.old.channels ≡ T.taps.channels tapping.now }
+    requires frame { length samples.old ≡ T.taps.channels tapping.now }
+    requires bound { length samples.old ≤ 16 }
+    requires free { length made.old ≡ length samples.old }
+    ensures frame { samples.new ≡ (T.taps.made tapping.now (sample_before (line.old.items ++ samples.old ∷ []) (length line.old.items))).samples }
+    ensures clips { result ≡ (T.taps.made tapping.now (sample_before (line.old.items ++ samples.old ∷ []) (length line.old.items))).clips }
+    ensures bound { result ≤ T.taps.max_clips tapping.now }
+    ensures items { line.new.items ≡ pushed line.old samples.old }
+    ensures line_capacity { line.new.capacity ≡ line.old.capacity }
+    ensures line_channels { line.new.channels ≡ line.old.channels }
+{
+    let clips = tapping.tap_into(line, samples, made);
+    line.push_over(samples);
+    copy_samples(made, samples);
+    clips
+}
+
+/// What `tap_over` does, for any such effect.
+// Where there are one or two channels their number is known to the loops over them.
+#[inline(always)]
+pub fn tap_and_push<T: Tapping>(tapping: &T, line: &mut Line, samples: &mut [i32]) -> u64
+    requires channels { line.old.channels ≡ T.taps.channels tapping.now }
+    requires frame { length samples.old ≡ T.taps.channels tapping.now }
+    requires bound { length samples.old ≤ 16 }
+    ensures frame { samples.new ≡ (T.taps.made tapping.now (sample_before (line.old.items ++ samples.old ∷ []) (length line.old.items))).samples }
+    ensures clips { result ≡ (T.taps.made tapping.now (sample_before (line.old.items ++ samples.old ∷ []) (length line.old.items))).clips }
+    ensures bound { result ≤ T.taps.max_clips tapping.now }
+    ensures items { line.new.items ≡ pushed line.old samples.old }
+    ensures line_capacity { line.new.capacity ≡ line.old.capacity }
+    ensures line_channels { line.new.channels ≡ line.old.channels }
+{
+    match samples.len() {
+        1 => tap_through(tapping, line, samples, &mut [0]),
+        2 => tap_through(tapping, line, samples, &mut [0; 2]),
+        _ => tap_through_places(tapping, line, samples),
+    }
+}
+
+/// What `tap_over` does, for any such effect and as many channels as there may be.
+// Stack space for sixteen samples is used only where this is called.
+#[inline(never)]
+fn tap_through_places<T: Tapping>(tapping: &T, line: &mut Line, samples: &mut [i32]) -> u64
+    requires channels { line.old.channels ≡ T.taps.channels tapping.now }
+    requires frame { length samples.old ≡ T.taps.channels tapping.now }
+    requires bound { length samples.old ≤ 16 }
+    ensures frame { samples.new ≡ (T.taps.made tapping.now (sample_before (line.old.items ++ samples.old ∷ []) (length line.old.items))).samples }
+    ensures clips { result ≡ (T.taps.made tapping.now (sample_before (line.old.items ++ samples.old ∷ []) (length line.old.items))).clips }
+    ensures bound { result ≤ T.taps.max_clips tapping.now }
+    ensures items { line.new.items ≡ pushed line.old samples.old }
+    ensures line_capacity { line.new.capacity ≡ line.old.capacity }
+    ensures line_channels { line.new.channels ≡ line.old.channels }
+{
+    let mut places = [0; 16];
+    let free = &mut places[..samples.len()];
+    tap_through(tapping, line, samples, free)
+}
+
+/// What `tap_many` does, for any such effect, one frame at a time.
+pub fn tap_by_frames<T: Tapping>(
+    tapping: &T,
+    line: &mut Line,
+    input: &[i32],
+    output: &mut [i32],
+    count: usize,
+) -> u64
+    requires channels { line.old.channels ≡ T.taps.channels tapping.now }
+    requires capacity { line.old.capacity ≡ T.taps.reach tapping.now }
+    requires bound { count ≤ 2 ^ 56 }
+    requires input { count * T.taps.channels tapping.now ≤ length input.now }
+    requires output { count * T.taps.channels tapping.now ≤ length output.old }
+    ensures frames { pieces (T.taps.channels tapping.now) count output.new ≡ frames_after T.taps tapping.now line.old.items (pieces (T.taps.channels tapping.now) count input.now) }
+    ensures rest_unchanged { drop (count * T.taps.channels tapping.now) output.new ≡ drop (count * T.taps.channels tapping.now) output.old }
+    ensures clips { result ≡ clips_after T.taps tapping.now line.old.items (pieces (T.taps.channels tapping.now) count input.now) }
+    ensures bound { result ≤ count * T.taps.max_clips tapping.now }
+    ensures small { result ≤ 16 * count }
+    ensures line { line.new.items ≡ last_of line.old.capacity (line.old.items ++ pieces (T.taps.channels tapping.now) count input.now) }
+    ensures line_capacity { line.new.capacity ≡ line.old.capacity }
+    ensures line_channels { line.new.channels ≡ line.old.channels }
+{
+    let channels = tapping.channels();
+    let _held = line.len();
+    let mut at = 0;
+    let mut clips = 0;
+    'frames: for _turn in 0..count {
+        let frame = &input[at..at + channels];
+        clips += tapping.tap_into(line, frame, &mut output[at..at + channels]);
+        push_samples(line, frame);
+        at += channels;
+    }
+    clips
+}
+
+/// What `tap_frames` does, for any such effect and any number of frames, one frame at a time.
+pub fn tap_over_by_frames<T: Tapping>(
+    tapping: &T,
+    line: &mut Line,
+    samples: &mut [i32],
+    count: usize,
+) -> u64
+    requires channels { line.old.channels ≡ T.taps.channels tapping.now }
+    requires capacity { line.old.capacity ≡ T.taps.reach tapping.now }
+    requires bound { count ≤ 2 ^ 56 }
+    requires samples { length samples.old ≡ count * T.taps.channels tapping.now }
+    ensures frames { pieces (T.taps.channels tapping.now) count samples.new ≡ frames_after T.taps tapping.now line.old.items (pieces (T.taps.channels tapping.now) count samples.old) }
+    ensures clips { result ≡ clips_after T.taps tapping.now line.old.items (pieces (T.taps.channels tapping.now) count samples.old) }
+    ensures bound { result ≤ count * T.taps.max_clips tapping.now }
+    ensures small { result ≤ 16 * count }
+    ensures line { line.new.items ≡ last_of line.old.capacity (line.old.items ++ pieces (T.taps.channels tapping.now) count samples.old) }
+    ensures line_capacity { line.new.capacity ≡ line.old.capacity }
+    ensures line_channels { line.new.channels ≡ line.old.channels }
+{
+    let channels = tapping.channels();
+    let _held = line.len();
+    let mut from = 0;
+    let mut clips = 0;
+    'frames: for _turn in 0..count {
+        clips += tap_and_push(tapping, line, &mut samples[from..from + channels]);
+        from += channels;
+    }
+    clips
+}
+
+/// Makes `count` frames in the places of those that come after those of the line, a group at a time, and counts their clips.
+/// They go through the line.
+fn tap_groups<T: TapsMany>(tapping: &T, line: &mut Line, samples: &mut [i32], count: usize) -> u64
+    requires channels { line.old.channels ≡ T.taps.channels tapping.now }
+    requires capacity { line.old.capacity ≡ T.taps.reach tapping.now }
+    requires bound { count ≤ 2 ^ 56 }
+    requires samples { length samples.old ≡ count * T.taps.channels tapping.now }
+    ensures frames { pieces (T.taps.channels tapping.now) count samples.new ≡ frames_after T.taps tapping.now line.old.items (pieces (T.taps.channels tapping.now) count samples.old) }
+    ensures clips { result ≡ clips_after T.taps tapping.now line.old.items (pieces (T.taps.channels tapping.now) count samples.old) }
+    ensures bound { result ≤ count * T.taps.max_clips tapping.now }
+    ensures small { result ≤ 16 * count }
+    ensures line { line.new.items ≡ last_of line.old.capacity (line.old.items ++ pieces (T.taps.channels tapping.now) count samples.old) }
+    ensures line_capacity { line.new.capacity ≡ line.old.capacity }
+    ensures line_channels { line.new.channels ≡ line.old.channels }
+{
+    // A single group, as in most chains, needs no division.
+    if samples.len() <= SAMPLES_OF_GROUP {
+        return tapping.tap_frames(line, samples, count);
+    }
+    let channels = tapping.channels();
+    let maximum = frames_of_group(channels);
+    let _held = line.len();
+    let mut done = 0;
+    let mut clips = 0;
+    'groups: while done < count {
+        let now = maximum.min(count - done);
+        let from = done * channels;
+        let to = from + now * channels;
+        clips += tapping.tap_frames(line, &mut samples[from..to], now);
+        done += now;
+    }
+    clips
+}
+
+/// Whether a stage of reach `reach`, with `maximum` clips a frame at most, that stores `stored` frames, can have counted these
+/// numbers.
+fn are_counts(reach: usize, maximum: u64, stored: usize, numbers: &[u64; 8]) -> bool
+    requires reach { reach ≤ 2 ^ 28 }
+    requires maximum { maximum ≤ 16 }
+    ensures { result ≡ true ↔ AreTapCounts reach maximum stored (by_name numbers.now) }
+{
+    let [
+        taken,
+        given,
+        ended,
+        clips,
+        held,
+        tail,
+        pending_count,
+        pending_clips,
+    ] = *numbers;
+    if ended > 1 || held != stored as u64 {
+        return false;
+    }
+    if taken > MAX_TAKEN || (ended == 0 && tail != 0) {
+        return false;
+    }
+    let made = taken + ended * reach as u64;
+    if given > made || pending_count > made - given || tail != made - given - pending_count {
+        return false;
+    }
+    if pending_count > held || held - pending_count != (given + pending_count).min(reach as u64) {
+        return false;
+    }
+    if (pending_count == 0 && pending_clips != 0) || (pending_count != 0 && ended != 0) {
+        return false;
+    }
+    if pending_clips > maximum || clips > given * maximum {
+        return false;
+    }
+    true
+}
+
+/// The stage of an effect whose output frame depends on the input frame and on those before it. It holds as many frames as its
+/// reach, and takes up to `2^56` frames.
+#[derive(Drop)]
+pub struct Tapped<T: Tapping + Drop> {
+    pending: Option<Frame>,
+    pending_clips: u64,
+    taken: u64,
+    given: u64,
+    clips: u64,
+    ended: bool,
+    tail: usize,
+    line: Line,
+    arguments: T,
+}
+
+impl<T: Tapping + Drop> Model for Tapped<T> {
+    ghost use Rattle.fx_frame.specs.Tapped.{TapState, IsTapState};
+
+    ghost Value = { TapState T };
+
+    ghost view = { λ s. record { arguments = s.arguments; line = s.line; pending = s.pending; pending_clips = s.pending_clips; tail = s.tail; taken = s.taken; given = s.given; clips = s.clips; ended = s.ended } };
+
+    ghost invariant = { λ s. IsTapState T.taps (record { arguments = s.arguments; line = s.line; pending = s.pending; pending_clips = s.pending_clips; tail = s.tail; taken = s.taken; given = s.given; clips = s.clips; ended = s.ended }) };
+}
+
+impl<T: Tapping + Drop> Tapped<T> {
+    ghost use Rattle.fx_frame.specs.Tapped.{IsTapState, TapState};
+
+    /// The stage of an effect that reaches back `reach` frames; AllocError where memory for them is refused.
+    pub(crate) fn of(alloc: Global, arguments: T, reach: usize) -> Result<Tapped<T>, AllocError>
+        requires reach { reach ≡ T.taps.reach arguments }
+        requires line { reach ≤ 2 ^ 28 }
+        ensures { IfOk result (IsNew (tap_acts T.taps) arguments) }
+    {
+        let line = Line::new(alloc, arguments.channels(), reach)?;
+        Ok(Tapped {
+            pending: None,
+            pending_clips: 0,
+            taken: 0,
+            given: 0,
+            clips: 0,
+            ended: false,
+            tail: 0,
+            line,
+            arguments,
+        })
+    }
+
+    /// The stage that stored these frames and counted these numbers. BadSnapshot where there is none, Memory where an
+    /// allocation was refused.
+    pub(crate) fn thawed(
+        alloc: Global,
+        arguments: T,
+        reach: usize,
+        frames: &[WideFrame],
+        numbers: &[u64; 8],
+    ) -> Result<Tapped<T>, ThawFault>
+        requires reach { reach ≡ T.taps.reach arguments }
+        requires line { reach ≤ 2 ^ 28 }
+        ensures recipe { IfOk result (λ t. t.arguments ≡ arguments) }
+        ensures frozen { IfOk result (λ t. Freezes (tap_acts T.taps) t frames.now numbers.now) }
+        ensures thawed { (s : TapState T) → IsTapState T.taps s → s.arguments ≡ arguments → Freezes (tap_acts T.taps) s frames.now numbers.now → MatchResult result (λ t. t ≡ s) (λ e. e ≡ ThawFault.Memory) }
+        ensures named { (result ≡ Err ThawFault.WrongPlan) → ⊥ }
+    {
+        let maximum = arguments.max_clips();
+        if !are_counts(reach, maximum, frames.len(), numbers) {
+            return Err(ThawFault::BadSnapshot);
+        }
+        let [
+            taken,
+            given,
+            ended,
+            clips,
+            _,
+            tail,
+            pending_count,
+            pending_clips,
+        ] = *numbers;
+        let channels = arguments.channels();
+        let (line, pending) = match thawed_line_and_pending(
+            alloc,
+            channels,
+            reach,
+            frames,
+            pending_count,
+        ) {
+            Ok(stored) => stored,
+            Err(fault) => return Err(fault),
+        };
+        Ok(Tapped {
+            pending,
+            pending_clips,
+            taken,
+            given,
+            clips,
+            ended: ended == 1,
+            tail: tail as usize,
+            line,
+            arguments,
+        })
+    }
+
+    /// Gives a frame that is made of silence, which comes after those of the line.
+    #[inline(never)]
+    fn give_of_tail(&mut self) -> Frame
+        requires pending { self.old.pending ≡ None }
+        requires tail { 0 < self.old.tail }
+        ensures { Gave (tap_acts T.taps) self.old self.new result }
+    {
+        let silence_here = Frame::silence(self.arguments.channels());
+        let (made, clips) = self.arguments.tap(&self.line, silence_here);
+        self.line.push(silence_here);
+        let _held = self.line.len();
+        self.tail -= 1;
+        self.given += 1;
+        self.clips += clips;
+        made
+    }
+}
+
+impl<T: Tapping + Drop> Stage for Tapped<T> {
+    ghost use Rattle.fx_frame.specs.Tapped.{IsTapState, tap_acts, tap_rises};
+
+    ghost Recipe = { T };
+
+    ghost acts = { tap_acts T.taps };
+
+    ghost sound = { λ s. IsTapState T.taps s };
+
+    ghost rises = { λ m. tap_rises (T.taps.reach m) };
+
+    fn take(&mut self, frame: Frame) {
+        let (made, clips) = self.arguments.tap(&self.line, frame);
+        let _channels = made.channels();
+        self.line.push(frame);
+        let _held = self.line.len();
+        self.pending = Some(made);
+        self.pending_clips = clips;
+        self.taken += 1;
+    }
+
+    fn end(&mut self) {
+        self.tail = self.line.capacity();
+        self.ended = true;
+    }
+
+    fn give(&mut self) -> Option<Frame> {
+        let Some(frame) = self.pending else {
+            if self.tail == 0 {
+                return None;
+            }
+            return Some(self.give_of_tail());
+        };
+        self.pending = None;
+        self.given += 1;
+        self.clips += self.pending_clips;
+        self.pending_clips = 0;
+        Some(frame)
+    }
+
+    fn is_dry(&self) -> bool {
+        self.pending.is_none() && self.tail == 0
+    }
+
+    #[inline(always)]
+    fn counter_values(&self) -> Counters {
+        Counters {
+            taken: self.taken,
+            given: self.given,
+            clips: self.clips,
+            ended: self.ended,
+        }
+    }
+
+    fn is_spent(&self) -> bool {
+        false
+    }
+
+    fn held(&self) -> u64 {
+        self.line.len() as u64 + u64::from(self.pending.is_some())
+    }
+
+    fn hold(&self) -> u64 {
+        self.line.capacity() as u64 + 1
+    }
+
+    fn in_channels(&self) -> usize {
+        self.arguments.channels()
+    }
+
+    fn out_channels(&self) -> usize {
+        self.arguments.channels()
+    }
+
+    fn state_counters(&self) -> [u64; 3] {
+        [
+            self.tail as u64,
+            u64::from(self.pending.is_some()),
+            self.pending_clips,
+        ]
+    }
+
+    fn stored(&self, j: usize) -> WideFrame {
+        stored_in(&self.line, self.pending, j)
+    }
+}
+
+impl<T: TapsMany + Drop> Feeds for Tapped<T> {
+    fn feed(&mut self, input: &[i32], output: &mut [i32]) -> Passed {
+        if self.pending.is_some() || self.ended {
+            return feed_by_frames(self, input, output);
+        }
+        let channels = self.arguments.channels();
+        let count = (input.len() / channels).min(output.len() / channels);
+        self.clips += self
+            .arguments
+            .tap_many(&mut self.line, input, output, count);
+        let _held = self.line.len();
+        self.taken += count as u64;
+        self.given += count as u64;
+        Passed {
+            taken: count,
+            given: count,
+        }
+    }
+
+    fn pass_samples(&mut self, samples: &mut [i32]) -> Passing {
+        let clips = self.arguments.tap_over(&mut self.line, samples);
+        let _held = self.line.len();
+        self.clips += clips;
+        self.taken += 1;
+        self.given += 1;
+        Passing::Through
+    }
+
+    fn pass_frames(&mut self, count: usize, samples: &mut [i32]) {
+        let clips = tap_groups(&self.arguments, &mut self.line, samples, count);
+        let _held = self.line.len();
+        let passed = count as u64;
+        self.clips += clips;
+        self.taken += passed;
+        self.given += passed;
+    }
+
+    fn ahead(&self) -> u64 {
+        u64::MAX
+    }
+
+    fn one_to_one(&self) -> u64 {
+        u64::MAX
+    }
+}

@@ -1,0 +1,291 @@
+-- Frames that lie one after another, filtered channel by channel, and a `Fir` that they go through.
+use Rattle.std.proofs.Common.{◌≡◌, ℕ, ℤ, pos, zero, suc, append-nil, ◌+◌, ◌-◌, ◌*◌, ◌<◌, ◌≤◌, Bool, false, List, [], ◌∷◌, ◌++◌, length, map, min, take, drop, get_or, reverse, refl, sym, ap, ◌∙◌, arith, add-zero, zero-add, length-append, subst}
+use Rattle.std.specs.Prelude.{None, Some, ◌^◌}
+use Rattle.std.specs.Int.{w32}
+use Rattle.std.proofs.lemmas.List.{drop_all, drop_at, length-drop, length-map, length-take, map-append, length-take-le, take_at}
+use Rattle.fx_fixed.specs.Rounding.{rounding}
+use Rattle.fx_fixed.specs.declared.gains.TheConstants.{UNIT}
+use Rattle.fx_frame_stage.specs.declared.feed.Passing.TheVariants.{Through}
+use Rattle.fx_frame_stage.specs.Feed.{Fed, GaveNext, PassedOn, TookNext, nothing, taken, given}
+use Rattle.fx_frame_stage.specs.Frame.{Samples}
+use Rattle.fx_frame_stage.specs.Holds.{total}
+use Rattle.fx_frame_line.specs.Line.{Frames, IsLine, channel_of}
+use Rattle.fx_frame_lists.specs.Lists.{pieces, tabulate}
+use Rattle.fx_frame_stage.specs.Stage.{Given}
+use Rattle.fx_frame_stage.proofs.FedLaws.{Fed-then, total-append}
+use Rattle.fx_frame_lists.proofs.Puts.{pieces-split, pieces-same}
+use Rattle.fx_frame_lists.proofs.Pieces.{length-pieces, pieces-front}
+use Rattle.fx_tap_fir.specs.Fir.{FirArguments, centre, filtered_frame, filtered_sample}
+use Rattle.fx_tap_fir.specs.FirState.{FirState, IsFir, fir_acts, fir_taps}
+use Rattle.fx_tap_convolve.specs.Products.{sum_of_products}
+use Rattle.fx_frame_lists.specs.Rounded.{clips_rounded, samples_of}
+use Rattle.fx_frame.specs.Tapped.{IsNear, Taps, given_after, clips_after, frames_after, last_of}
+use Rattle.fx_frame.specs.History.{sample_before}
+use Rattle.fx_tap_fir.proofs.FirLaws.{rest_unchanged-due}
+use Rattle.fx_frame.proofs.Tables.{map-tabulate, samples_of-tabulate, all_clips, pieces-table}
+use Rattle.fx_frame_lists.proofs.Tabulate.{length-tabulate, tabulate-same}
+use Rattle.fx_frame.proofs.TapBlocks.{last-first, last-whole, length-last}
+use Rattle.fx_frame.proofs.TapLaws.{rest_unchanged-step}
+use Rattle.fx_tap_fir.proofs.WindowSums.{back_sum-is, filtered-is}
+
+-- no frame is made of frames before its reach
+pub fir-near : IsNear fir_taps
+fir-near r p q agree =
+    ap (λ (rounds : List (ℤ × Bool)). record { samples = samples_of rounds; clips = clips_rounded rounds })
+    (tabulate-same _ _ 0 0 r.channels (λ c l.
+    ap (λ s. rounding (sum_of_products s r.coefficients) UNIT)
+    (tabulate-same _ _ 0 0 (length r.coefficients) (λ k less. agree (0 + k) (0 + c) (omega (arith, less))))))
+
+-- ---- one channel after the other
+
+-- behind a full line each place of the window is that of a frame
+pub filtered-window : (b : List ℤ) (items xs : List Samples) (channel i : ℕ) → length items + 1 ≡ length b
+    → rounding (sum_of_products (drop i (channel_of (items ++ xs) channel (pos 0))) b) UNIT ≡ filtered_sample (reverse b) (items ++ xs) (length items + i) channel
+filtered-window b items xs channel i full =
+    let window : List ℤ = channel_of (items ++ xs) channel (pos 0) in
+    let place : ℕ = length items + i in
+    let from : place + 1 - length b ≡ i = omega (arith, full) in
+    let whole : length b - (place + 1) ≡ 0 = omega (arith, full) in
+    let e = rw (from, whole) at (back_sum-is window place b) in
+    filtered-is b (items ++ xs) place channel (sum_of_products (drop i window) b) (sym e)
+
+-- ---- frames of places
+
+-- the frames that are made of frames behind those of a line
+pub block-frames : (r : FirArguments) (items xs : List Samples) (n : ℕ) (out : List ℤ) → length xs ≡ n → n * r.channels ≤ length out
+    → ((i c : ℕ) → i < n → c < r.channels → get_or out (i * r.channels + c) (pos 0) ≡ (filtered_sample r.coefficients (items ++ xs) (length items + i) c).0) → pieces r.channels n out ≡ frames_after fir_taps r items xs
+block-frames r items xs n out many free put =
+    let G : ℕ → ℕ → ℤ × Bool = λ m. filtered_sample r.coefficients (items ++ xs) m in
+    pieces-table r.channels n out free
+    ∙ tabulate-same _ (λ m. samples_of (tabulate (G m) 0 r.channels)) 0 (length items) n (λ i l.
+    tabulate-same _ _ 0 0 r.channels (λ c k. put (0 + i) (0 + c) (omega (arith, l)) (omega (arith, k)) ∙ rw zero-add refl) ∙ sym (samples_of-tabulate (G (length items + i)) 0 r.channels))
+    ∙ rw (← many) (sym (map-tabulate (λ (g : Given). g.samples) (λ m. fir_taps.made r (sample_before (items ++ xs) m)) (length items) (length xs)))
+
+total-same : {X Y : Type 0} (f : X → ℕ) (g : Y → ℕ) (u : ℕ → X) (v : ℕ → Y) (from to n : ℕ) → ((k : ℕ) → k < n → f (u (from + k)) ≡ g (v (to + k))) → total f (tabulate u from n) ≡ total g (tabulate v to n)
+total-same f g u v from to zero h = refl
+total-same f g u v from to (suc n) h =
+    let here : f (u from) ≡ g (v to) = rw (add-zero, add-zero) at (h 0 (omega arith)) in
+    let rest = total-same f g u v (suc from) (suc to) n (λ k l.
+    let a : suc from + k ≡ from + suc k = omega arith in
+    let b : suc to + k ≡ to + suc k = omega arith in
+    rw (a, b) (h (suc k) (omega (arith, l)))) in
+    omega (arith, here, rest)
+
+pub block-clips : (r : FirArguments) (items xs : List Samples) (n clips : ℕ) → length xs ≡ n → clips ≡ all_clips (λ i. filtered_sample r.coefficients (items ++ xs) (length items + i)) r.channels 0 n → clips ≡ clips_after fir_taps r items xs
+block-clips r items xs n clips many counted =
+    counted ∙ total-same clips_rounded (λ (g : Given). g.clips) _ (λ m. fir_taps.made r (sample_before (items ++ xs) m)) 0 (length items) n (λ k l. rw zero-add refl)
+    ∙ ap (λ k. total (λ (g : Given). g.clips) (tabulate (λ m. fir_taps.made r (sample_before (items ++ xs) m)) (length items) k)) (sym many)
+
+-- ---- one piece of frames behind the other
+
+pub rest_unchanged-append : {M : Type 0} (taps : Taps M) (near : IsNear taps) (m : M) (c : ℕ) (items xs ys : List Samples) → length items ≤ c → taps.reach m ≤ c
+    → given_after taps m items (xs ++ ys) ≡ given_after taps m items xs ++ given_after taps m (last_of c (items ++ xs)) ys
+rest_unchanged-append taps near m c items [] ys held long = rw (last-whole c items held) refl
+rest_unchanged-append taps near m c items (x ∷ xs) ys held long =
+    let next : List Samples = last_of c (items ++ x ∷ []) in
+    let free : length next ≤ c = let n = length-last c (items ++ x ∷ []) in omega arith in
+    let same : last_of c (next ++ xs) ≡ last_of c (items ++ x ∷ xs) = last-first c items xs x in
+    let more = rest_unchanged-append taps near m c next xs ys free long in
+    rest_unchanged-step taps near m items (xs ++ ys) x c held long
+    ∙ ap (λ gs. taps.made m (sample_before (items ++ x ∷ []) (length items)) ∷ gs) (rw same at more)
+    ∙ ap (λ gs. gs ++ given_after taps m (last_of c (items ++ x ∷ xs)) ys) (sym (rest_unchanged-step taps near m items xs x c held long))
+
+pub frames-append : {M : Type 0} (taps : Taps M) (near : IsNear taps) (m : M) (c : ℕ) (items xs ys : List Samples) → length items ≤ c → taps.reach m ≤ c
+    → frames_after taps m items (xs ++ ys) ≡ frames_after taps m items xs ++ frames_after taps m (last_of c (items ++ xs)) ys
+frames-append taps near m c items xs ys held long =
+    ap (map (λ (g : Given). g.samples)) (rest_unchanged-append taps near m c items xs ys held long) ∙ map-append (λ (g : Given). g.samples) (given_after taps m items xs) (given_after taps m (last_of c (items ++ xs)) ys)
+
+pub clips-append : {M : Type 0} (taps : Taps M) (near : IsNear taps) (m : M) (c : ℕ) (items xs ys : List Samples) → length items ≤ c → taps.reach m ≤ c
+    → clips_after taps m items (xs ++ ys) ≡ clips_after taps m items xs + clips_after taps m (last_of c (items ++ xs)) ys
+clips-append taps near m c items xs ys held long =
+    ap (total (λ (g : Given). g.clips)) (rest_unchanged-append taps near m c items xs ys held long) ∙ total-append (λ (g : Given). g.clips) (given_after taps m items xs) (given_after taps m (last_of c (items ++ xs)) ys)
+
+-- what was written behind the frames so far
+pub pieces-joined : (size n m : ℕ) (out made rest new : List ℤ) → n * size ≤ length out → length made ≡ m * size → new ≡ take (n * size) out ++ (made ++ rest) → pieces size (n + m) new ≡ pieces size n out ++ pieces size m made
+pieces-joined size n m out made rest new long sides written =
+    let front : length (take (n * size) out) ≡ n * size = length-take-le (n * size) out long in
+    let all : n * size ≤ length new = rw written (omega (arith, front, length-append (take (n * size) out) (made ++ rest))) in
+    let kept : take (n * size) new ≡ take (n * size) out = rw written (take_at (take (n * size) out) (made ++ rest) (n * size) front) in
+    let given_after : drop (n * size) new ≡ made ++ rest = rw written (drop_at (take (n * size) out) (made ++ rest) (n * size) front) in
+    pieces-split size n m new ∙ ap (λ ps. ps ++ pieces size m (drop (n * size) new)) (pieces-same size n new out all long kept) ∙ ap (λ l. pieces size n out ++ pieces size m l) given_after ∙ ap (λ ps. pieces size n out ++ ps) (pieces-front size m made rest sides)
+
+-- ---- a window of a line and of frames behind it
+
+pub window-joined : (items xs : List Samples) (channel held : ℕ) (held_samples window column rest : List ℤ) → held_samples ≡ channel_of items channel (pos 0) → held ≡ length items → column ≡ channel_of xs channel (pos 0) → rest ≡ []
+    → take held (held_samples ++ window) ++ (column ++ rest) ≡ channel_of (items ++ xs) channel (pos 0)
+window-joined items xs channel held held_samples window column rest is size column_is none =
+    let long : length held_samples ≡ held = ap length is ∙ length-map items (λ f. get_or f channel (pos 0)) ∙ sym size in
+    rw (take_at held_samples window held long, none, append-nil, is, column_is) (sym (map-append (λ f. get_or f channel (pos 0)) items xs))
+
+pub places-left : (held_samples window : List ℤ) (held count : ℕ) → length held_samples ≡ held → length window ≡ held + count → length (take (length (held_samples ++ drop held window) - held) (drop held (held_samples ++ drop held window))) ≡ count
+places-left held_samples window held count long all =
+    let whole : List ℤ = held_samples ++ drop held window in
+    omega (arith, long, all, length-append held_samples (drop held window), length-drop held window, length-drop held whole, length-take (length whole - held) (drop held whole))
+
+pub none-left : (whole : List ℤ) (held : ℕ) → drop (length whole - held) (drop held whole) ≡ []
+none-left whole held =
+    let left = length-drop held whole in
+    drop_all (length whole - held) (drop held whole) (omega (arith, left))
+
+-- ---- a stage that frames go through
+
+-- the state after a block of frames went by
+pub IsFir-block : (s : FirState) (line : Frames ℤ) (n clips : ℕ) (xs : List Samples) → IsFir s → s.pending ≡ None → s.ended ≡ false → s.taken + n ≤ 2 ^ 56 → length xs ≡ n → centre (length s.backwards) ≤ length s.line.items
+    → IsLine w32 line → line.items ≡ last_of s.line.capacity (s.line.items ++ xs) → line.capacity ≡ s.line.capacity → line.channels ≡ s.line.channels → clips ≤ 16 * n
+    → IsFir (record s { line = line; taken = s.taken + n; given = s.given + n; clips = s.clips + clips })
+IsFir-block s line n clips xs is none running bound many due lined items capacity channels little =
+    let silence_here : s.tail ≡ 0 = is.not_ended running in
+    let counted : s.given + 0 + s.tail ≡ s.taken - centre (length s.backwards) = rw (none, running) at is.counted in
+    let before = is.held in
+    let after : length line.items ≡ min (length (s.line.items ++ xs)) s.line.capacity = ap length items ∙ length-last s.line.capacity (s.line.items ++ xs) in
+    let all : length (s.line.items ++ xs) ≡ length s.line.items + n = length-append s.line.items xs ∙ ap (λ k. length s.line.items + k) many in
+    let full = is.capacity in
+    let tail_held = is.tail_held in
+    let clips_max = is.clips_max in
+    record {
+      line = lined;
+      channels = channels ∙ is.channels;
+      capacity = rw capacity full;
+      count = is.count;
+      small = is.small;
+      held = omega (arith, before, after, all, capacity);
+      counted = rw (none, running) (omega (arith, counted, before, due, silence_here));
+      tail_held = omega (arith, silence_here);
+      tail_bound = is.tail_bound;
+      not_ended = is.not_ended;
+      bound = bound;
+      clips_max = omega (arith, clips_max, little);
+      pending_max = is.pending_max;
+      idle = is.idle;
+      over = is.over;
+      fits = is.fits;
+    }
+
+module _ (channels : ℕ) (b : List ℤ) where
+  abbrev pub made_with : FirArguments
+  made_with = record { channels = channels; coefficients = reverse b }
+
+  -- such a stage with no frame in hand
+  abbrev pub ready : Frames ℤ → ℕ → ℕ → ℕ → FirState
+  ready line count number clips = record { channels = channels; backwards = b; line = line; pending = None; pending_clips = 0; tail = 0; taken = count; given = number; clips = clips; ended = false }
+
+  -- the line after these frames
+  abbrev pub through : Frames ℤ → List Samples → Frames ℤ
+  through line xs = record { items = last_of line.capacity (line.items ++ xs); capacity = line.capacity; channels = line.channels }
+
+  -- what is made of a frame behind those of the line
+  abbrev pub made_after : Frames ℤ → Samples → Given
+  made_after line x = filtered_frame made_with (line.items ++ x ∷ []) (length line.items)
+
+  abbrev pub holding : Frames ℤ → ℕ → ℕ → ℕ → Samples → FirState
+  holding line count number clips x = record { channels = channels; backwards = b; line = through line (x ∷ []); pending = Some (made_after line x).samples; pending_clips = (made_after line x).clips; tail = 0; taken = count + 1; given = number; clips = clips; ended = false }
+
+  made-sides : (line : Frames ℤ) (x : Samples) → length (made_after line x).samples ≡ channels
+  made-sides line x = ap length (samples_of-tabulate (filtered_sample (reverse b) (line.items ++ x ∷ []) (length line.items)) 0 channels) ∙ length-tabulate _ 0 channels
+
+  one-passed : (line : Frames ℤ) (count number clips : ℕ) (x : Samples) → line.capacity + 1 ≡ length (reverse b) → length line.items ≤ line.capacity → centre (length (reverse b)) ≤ length line.items → number + centre (length (reverse b)) ≡ count
+      → PassedOn fir_acts Through (ready line count number clips) (ready (through line (x ∷ [])) (count + 1) (number + 1) (clips + (made_after line x).clips)) x (made_after line x).samples
+  one-passed line count number clips x full within due counted =
+      let first : FirState = ready line count number clips in
+      let mid : FirState = holding line count number clips x in
+      let last : FirState = ready (through line (x ∷ [])) (count + 1) (number + 1) (clips + (made_after line x).clips) in
+      let bound : length (last_of line.capacity (line.items ++ x ∷ [])) ≤ line.capacity = let n = length-last line.capacity (line.items ++ x ∷ []) in omega arith in
+      let took : TookNext fir_acts first mid x = record {
+        dry = refl;
+        due = omega (arith, counted);
+        not_ended = refl;
+        not_spent = refl;
+        took = record {
+          rest = λ z. sym (rest_unchanged-due made_with line.items z x line.capacity full within due);
+          counted = refl;
+          recipe_stays = refl;
+        };
+        held = omega (arith, bound, full, length-append (last_of line.capacity (line.items ++ x ∷ [])) ((made_after line x).samples ∷ []));
+      } in
+      let gave : GaveNext fir_acts mid last (made_after line x).samples = record {
+        gave = record {
+          was_wet = refl;
+          gives = record { clips = (made_after line x).clips; first = λ z. refl; counted = refl };
+          channels = made-sides line x;
+          due = λ e. omega (arith, counted);
+          maximum = omega (arith, counted);
+          recipe_stays = refl;
+        };
+        held = omega (arith, bound, full, length-append (last_of line.capacity (line.items ++ x ∷ [])) []);
+      } in
+      (mid, took, gave, refl)
+
+  -- frame by frame
+  pub frames-fed : (xs : List Samples) (line : Frames ℤ) (count number clips : ℕ) → line.capacity + 1 ≡ length (reverse b) → length line.items ≤ line.capacity → centre (length (reverse b)) ≤ length line.items → number + centre (length (reverse b)) ≡ count
+      → Fed fir_acts (ready line count number clips) xs (frames_after fir_taps made_with line.items xs) (ready (through line xs) (count + length xs) (number + length xs) (clips + clips_after fir_taps made_with line.items xs))
+  frames-fed [] line count number clips full within due counted = rw (add-zero, add-zero, add-zero, last-whole line.capacity line.items within) nothing
+  frames-fed (x ∷ xs) line count number clips full within due counted =
+      let next : Frames ℤ = through line (x ∷ []) in
+      let made : Given = made_after line x in
+      let long : fir_taps.reach made_with ≤ line.capacity = omega (arith, full) in
+      let steps : given_after fir_taps made_with line.items (x ∷ xs) ≡ made ∷ given_after fir_taps made_with next.items xs = rest_unchanged-step fir_taps fir-near made_with line.items xs x line.capacity within long in
+      let frames : frames_after fir_taps made_with line.items (x ∷ xs) ≡ made.samples ∷ frames_after fir_taps made_with next.items xs = ap (map (λ (g : Given). g.samples)) steps in
+      let clipped : clips_after fir_taps made_with line.items (x ∷ xs) ≡ made.clips + clips_after fir_taps made_with next.items xs = ap (total (λ (g : Given). g.clips)) steps in
+      let size : length next.items ≡ min (length line.items + 1) line.capacity = length-last line.capacity (line.items ++ x ∷ []) ∙ ap (λ n. min n line.capacity) (length-append line.items (x ∷ [])) in
+      let free : length next.items ≤ next.capacity = omega (arith, size) in
+      let later : centre (length (reverse b)) ≤ length next.items = omega (arith, size, due, full) in
+      let passed = one-passed line count number clips x full within due counted in
+      let one : Fed fir_acts (ready line count number clips) (x ∷ []) (made.samples ∷ []) (ready next (count + 1) (number + 1) (clips + made.clips)) =
+      given (x ∷ []) [] made.samples passed.0 (ready next (count + 1) (number + 1) (clips + made.clips)) (taken [] [] x (ready line count number clips) passed.0 nothing passed.1) passed.2 in
+      let more = frames-fed xs next (count + 1) (number + 1) (clips + made.clips) full free later (omega (arith, counted)) in
+      let all : Fed fir_acts (ready line count number clips) (x ∷ xs) (made.samples ∷ frames_after fir_taps made_with next.items xs) (ready (through next xs) (count + 1 + length xs) (number + 1 + length xs) (clips + made.clips + clips_after fir_taps made_with next.items xs)) = Fed-then fir_acts _ _ _ _ _ _ _ one more in
+      let places : count + 1 + length xs ≡ count + length (x ∷ xs) = omega arith in
+      let numbers : number + 1 + length xs ≡ number + length (x ∷ xs) = omega arith in
+      let sums : clips + made.clips + clips_after fir_taps made_with next.items xs ≡ clips + clips_after fir_taps made_with line.items (x ∷ xs) = omega (arith, clipped) in
+      rw (frames, ← last-first line.capacity line.items xs x, ← sums, ← places, ← numbers) all
+
+-- a block of frames: the counters are added to once
+pub block-fed : (s : FirState) (line : Frames ℤ) (n clips : ℕ) (input output : List ℤ) → s.pending ≡ None → s.pending_clips ≡ 0 → s.tail ≡ 0 → s.ended ≡ false → s.given + centre (length (reverse s.backwards)) ≡ s.taken
+    → s.line.capacity + 1 ≡ length (reverse s.backwards) → length s.line.items ≤ s.line.capacity → centre (length (reverse s.backwards)) ≤ length s.line.items
+    → pieces s.channels n output ≡ frames_after fir_taps (made_with s.channels s.backwards) s.line.items (pieces s.channels n input) → clips ≡ clips_after fir_taps (made_with s.channels s.backwards) s.line.items (pieces s.channels n input)
+    → line.items ≡ last_of s.line.capacity (s.line.items ++ pieces s.channels n input) → line.capacity ≡ s.line.capacity → line.channels ≡ s.line.channels
+    → Fed fir_acts s (pieces s.channels n input) (pieces s.channels n output) (record s { line = line; taken = s.taken + n; given = s.given + n; clips = s.clips + clips })
+block-fed s line n clips input output h k t over counted full within due made clipped items capacity channels =
+    let xs : List Samples = pieces s.channels n input in
+    let b : List ℤ = s.backwards in
+    let Ready : Frames ℤ → ℕ → ℕ → ℕ → FirState = ready s.channels b in
+    let Through : Frames ℤ = record { items = last_of s.line.capacity (s.line.items ++ xs); capacity = s.line.capacity; channels = s.line.channels } in
+    let same : ◌≡◌ {A = Frames ℤ} (record { items = line.items; capacity = line.capacity; channels = line.channels }) Through = rw (items, capacity, channels) refl in
+    let went : line ≡ Through = same in
+    let many : length xs ≡ n = length-pieces s.channels n input in
+    let fed : Fed fir_acts (Ready s.line s.taken s.given s.clips) xs (frames_after fir_taps (made_with s.channels b) s.line.items xs) (Ready Through (s.taken + length xs) (s.given + length xs) (s.clips + clips_after fir_taps (made_with s.channels b) s.line.items xs)) =
+    frames-fed s.channels b xs s.line s.taken s.given s.clips full within due counted in
+    let whole : ◌≡◌ {A = FirState} (record { channels = s.channels; backwards = s.backwards; line = s.line; pending = s.pending; pending_clips = s.pending_clips; tail = s.tail; taken = s.taken; given = s.given; clips = s.clips; ended = s.ended }) (Ready s.line s.taken s.given s.clips) = rw (h, k, t, over) refl in
+    let start : s ≡ Ready s.line s.taken s.given s.clips = whole in
+    let left : ◌≡◌ {A = FirState} (record { channels = s.channels; backwards = s.backwards; line = line; pending = s.pending; pending_clips = s.pending_clips; tail = s.tail; taken = s.taken + n; given = s.given + n; clips = s.clips + clips; ended = s.ended }) (Ready line (s.taken + n) (s.given + n) (s.clips + clips)) = rw (h, k, t, over) refl in
+    let last : ◌≡◌ {A = FirState} (record { channels = s.channels; backwards = s.backwards; line = line; pending = s.pending; pending_clips = s.pending_clips; tail = s.tail; taken = s.taken + n; given = s.given + n; clips = s.clips + clips; ended = s.ended }) (Ready Through (s.taken + length xs) (s.given + length xs) (s.clips + clips_after fir_taps (made_with s.channels b) s.line.items xs)) =
+    left ∙ ap (λ (l : Frames ℤ). Ready l (s.taken + n) (s.given + n) (s.clips + clips)) went ∙ ap (λ (j : ℕ). Ready Through (s.taken + n) (s.given + n) (s.clips + j)) clipped ∙ ap (λ (j : ℕ). Ready Through (s.taken + j) (s.given + j) (s.clips + clips_after fir_taps (made_with s.channels b) s.line.items xs)) (sym many) in
+    let new : record s { line = line; taken = s.taken + n; given = s.given + n; clips = s.clips + clips } ≡ Ready Through (s.taken + length xs) (s.given + length xs) (s.clips + clips_after fir_taps (made_with s.channels b) s.line.items xs) = last in
+    let From : FirState → Type 0 = λ u. Fed fir_acts u xs (frames_after fir_taps (made_with s.channels b) s.line.items xs) (Ready Through (s.taken + length xs) (s.given + length xs) (s.clips + clips_after fir_taps (made_with s.channels b) s.line.items xs)) in
+    let To : FirState → Type 0 = λ u. Fed fir_acts s xs (frames_after fir_taps (made_with s.channels b) s.line.items xs) u in
+    rw made (subst To (sym new) (subst From (sym start) fed))
+
+-- one frame, passed on in its place
+pub frame-passed : (s : FirState) (line : Frames ℤ) (x y : Samples) (clips : ℕ) → s.pending ≡ None → s.pending_clips ≡ 0 → s.tail ≡ 0 → s.ended ≡ false → s.given + centre (length (reverse s.backwards)) ≡ s.taken
+    → s.line.capacity + 1 ≡ length (reverse s.backwards) → length s.line.items ≤ s.line.capacity → centre (length (reverse s.backwards)) ≤ length s.line.items
+    → y ≡ (made_after s.channels s.backwards s.line x).samples → clips ≡ (made_after s.channels s.backwards s.line x).clips
+    → line.items ≡ last_of s.line.capacity (s.line.items ++ x ∷ []) → line.capacity ≡ s.line.capacity → line.channels ≡ s.line.channels
+    → PassedOn fir_acts Through s (record s { line = line; taken = s.taken + 1; given = s.given + 1; clips = s.clips + clips }) x y
+frame-passed s line x y clips h k t over counted full within due made clipped items capacity channels =
+    let b : List ℤ = s.backwards in
+    let Ready : Frames ℤ → ℕ → ℕ → ℕ → FirState = ready s.channels b in
+    let Next : Frames ℤ = record { items = last_of s.line.capacity (s.line.items ++ x ∷ []); capacity = s.line.capacity; channels = s.line.channels } in
+    let same : ◌≡◌ {A = Frames ℤ} (record { items = line.items; capacity = line.capacity; channels = line.channels }) Next = rw (items, capacity, channels) refl in
+    let went : line ≡ Next = same in
+    let all : ℕ = s.clips + (made_after s.channels b s.line x).clips in
+    let passed : PassedOn fir_acts Through (Ready s.line s.taken s.given s.clips) (Ready Next (s.taken + 1) (s.given + 1) all) x (made_after s.channels b s.line x).samples =
+    one-passed s.channels b s.line s.taken s.given s.clips x full within due counted in
+    let whole : ◌≡◌ {A = FirState} (record { channels = s.channels; backwards = s.backwards; line = s.line; pending = s.pending; pending_clips = s.pending_clips; tail = s.tail; taken = s.taken; given = s.given; clips = s.clips; ended = s.ended }) (Ready s.line s.taken s.given s.clips) = rw (h, k, t, over) refl in
+    let start : s ≡ Ready s.line s.taken s.given s.clips = whole in
+    let left : ◌≡◌ {A = FirState} (record { channels = s.channels; backwards = s.backwards; line = line; pending = s.pending; pending_clips = s.pending_clips; tail = s.tail; taken = s.taken + 1; given = s.given + 1; clips = s.clips + clips; ended = s.ended }) (Ready line (s.taken + 1) (s.given + 1) (s.clips + clips)) = rw (h, k, t, over) refl in
+    let last : ◌≡◌ {A = FirState} (record { channels = s.channels; backwards = s.backwards; line = line; pending = s.pending; pending_clips = s.pending_clips; tail = s.tail; taken = s.taken + 1; given = s.given + 1; clips = s.clips + clips; ended = s.ended }) (Ready Next (s.taken + 1) (s.given + 1) all) =
+    left ∙ ap (λ (l : Frames ℤ). Ready l (s.taken + 1) (s.given + 1) (s.clips + clips)) went ∙ ap (λ (j : ℕ). Ready Next (s.taken + 1) (s.given + 1) (s.clips + j)) clipped in
+    let new : record s { line = line; taken = s.taken + 1; given = s.given + 1; clips = s.clips + clips } ≡ Ready Next (s.taken + 1) (s.given + 1) all = last in
+    let From : FirState → Type 0 = λ u. PassedOn fir_acts Through u (Ready Next (s.taken + 1) (s.given + 1) all) x (made_after s.channels b s.line x).samples in
+    let To : FirState → Type 0 = λ u. PassedOn fir_acts Through s u x (made_after s.channels b s.line x).samples in
+    rw made (subst To (sym new) (subst From (sym start) passed))

@@ -1,0 +1,109 @@
+-- The stage of `fir`: what it stores, its invariant, and what it is still to give (this project's profile).
+use Rattle.std.specs.Prelude.{ℕ, ℤ, pos, ◌+◌, ◌-◌, ◌*◌, ◌^◌, ◌≤◌, ◌≡◌, Bool, true, false, ◌&&◌, Option, List, ◌++◌, length, map, min, reverse, option_to_list, is_none, nat_eq, nat_le, slice_index_or, cond, unsigned_abs, All}
+use Rattle.std.specs.Int.{w32}
+use Rattle.fx_fixed.specs.Rounding.{rounding}
+use Rattle.fx_fixed.specs.declared.gains.TheConstants.{UNIT}
+use Rattle.fx_frame_stage.specs.Frame.{Samples}
+use Rattle.fx_frame_stage.specs.PendingFrame.{IsPending}
+use Rattle.fx_frame_line.specs.Line.{Frames, IsLine}
+use Rattle.fx_frame_stage.specs.Stage.{Given, Acts}
+use Rattle.fx_frame.specs.Tapped.{TailNumbers, Taps}
+use Rattle.fx_frame_lists.specs.Lists.{tabulate}
+use Rattle.fx_frame.specs.Kinds.{max_taken}
+use Rattle.fx_tap_convolve.specs.Products.{sum_of_products}
+use Rattle.fx_frame_stage.specs.Given.{given_samples}
+use Rattle.fx_tap_fir.specs.Fir.{FirArguments, centre, filtered_at, filtered, fir_kind}
+
+-- `count` samples of a window from place m on backwards; outside of it there is silence
+abbrev pub samples_of_window : List ℤ → ℕ → ℕ → List ℤ
+samples_of_window window m count = tabulate (λ k. cond (nat_le k m) (slice_index_or window (m - k) (pos 0)) (pos 0)) 0 count
+
+-- the output frame for a frame and as many before it as there are further coefficients
+abbrev pub fir_taps : Taps FirArguments
+fir_taps = record {
+  channels = λ r. r.channels;
+  reach = λ r. length r.coefficients - 1;
+  max_clips = λ r. 16;
+  made = λ r history. given_samples (tabulate (λ c. rounding (sum_of_products (tabulate (λ k. history k c) 0 (length r.coefficients)) r.coefficients) UNIT) 0 r.channels);
+}
+
+-- what a `Fir` stores
+pub record FirState : Type 0 where
+  pub channels : ℕ
+  -- the coefficients, the last one first
+  pub backwards : List ℤ
+  pub line : Frames ℤ
+  -- the frame to be given, and how many of its samples were clipped
+  pub pending : Option Samples
+  pub pending_clips : ℕ
+  -- how many frames are to be given after it
+  pub tail : ℕ
+  pub taken : ℕ
+  pub given : ℕ
+  pub clips : ℕ
+  pub ended : Bool
+
+-- what it was made with
+abbrev pub arguments_of : FirState → FirArguments
+arguments_of s = record { channels = s.channels; coefficients = reverse s.backwards }
+
+-- the invariant of the stage
+pub record IsFir (s : FirState) : Type 0 where
+  pub line : IsLine w32 s.line
+  pub channels : s.line.channels ≡ s.channels
+  pub capacity : s.line.capacity + 1 ≡ length s.backwards
+  pub count : length s.backwards ≤ 1024
+  pub small : All (λ c. unsigned_abs c ≤ 10 ^ 15) s.backwards
+  pub held : length s.line.items ≡ min s.taken s.line.capacity
+  pub counted : s.given + length (option_to_list s.pending) + s.tail ≡ cond s.ended s.taken (s.taken - centre (length s.backwards))
+  pub tail_held : s.tail ≤ length s.line.items
+  pub tail_bound : s.tail ≤ centre (length s.backwards)
+  pub not_ended : s.ended ≡ false → s.tail ≡ 0
+  pub bound : s.taken ≤ max_taken
+  pub clips_max : s.clips ≤ 16 * s.given
+  pub pending_max : s.pending_clips ≤ 16
+  -- no clips without a pending frame, and no pending frame after the end
+  pub idle : length (option_to_list s.pending) ≡ 0 → s.pending_clips ≡ 0
+  pub over : s.ended ≡ true → length (option_to_list s.pending) ≡ 0
+  pub fits : IsPending s.channels s.pending
+
+-- the invariant of the counts of a stage with `count` coefficients and `stored` stored frames
+pub record AreFirCounts (count stored : ℕ) (n : TailNumbers) : Type 0 where
+  pub flag : n.ended ≤ 1
+  pub bound : n.taken ≤ max_taken
+  pub all : n.stored ≡ stored
+  pub held : n.stored ≡ n.pending_count + min n.taken (count - 1)
+  pub running : n.ended ≡ 0 → n.given + n.pending_count + n.tail ≡ n.taken - centre count
+  pub through : 1 ≤ n.ended → n.given + n.pending_count + n.tail ≡ n.taken
+  pub tail_held : n.tail ≤ min n.taken (count - 1)
+  pub tail_bound : n.tail ≤ centre count
+  pub not_ended : n.ended ≡ 0 → n.tail ≡ 0
+  pub clips_max : n.clips ≤ 16 * n.given
+  pub pending_max : n.pending_clips ≤ 16
+  pub idle : n.pending_count ≡ 0 → n.pending_clips ≡ 0
+  pub over : 1 ≤ n.ended → n.pending_count ≡ 0
+
+-- the pending frame
+abbrev pub fir_pending : FirState → List Given
+fir_pending s = map (λ x. record { samples = x; clips = s.pending_clips }) (option_to_list s.pending)
+
+-- what is given for frames that follow those of the line
+abbrev pub fir_after : FirArguments → List Samples → List Samples → List Given
+fir_after r items z = tabulate (filtered_at r (items ++ z)) (length items - centre (length r.coefficients)) (min (length items) (centre (length r.coefficients)) + length z)
+
+-- the last frames, after the end
+abbrev pub fir_tail : FirArguments → List Samples → ℕ → List Given
+fir_tail r items tail = tabulate (filtered_at r items) (length items - tail) tail
+
+abbrev pub fir_acts : Acts FirState FirArguments
+fir_acts = record {
+  recipe = arguments_of;
+  kind_of = fir_kind;
+  meaning = filtered;
+  rest = λ s z. fir_pending s ++ cond s.ended (fir_tail (arguments_of s) s.line.items s.tail) (fir_after (arguments_of s) s.line.items z);
+  counts = λ s. record { taken = s.taken; given = s.given; clips = s.clips; ended = s.ended };
+  dry = λ s. is_none s.pending && nat_eq s.tail 0;
+  stored = λ s. s.line.items ++ option_to_list s.pending;
+  capacity = λ s. s.line.capacity;
+  state_counters = λ s. record { first = s.tail; second = length (option_to_list s.pending); third = s.pending_clips };
+}

@@ -1,0 +1,582 @@
+//! The effect `fir` of sox(1): each sample is a sum of the samples around it, times the coefficients.
+ghost use Rattle.std.specs.Prelude.{◌≡◌, ◌↔◌, true, ◌+◌, ◌-◌, ◌*◌, ◌^◌, ◌<◌, ◌≤◌, ◌++◌, length, reverse, drop, pos, All, IfOk, Err, MatchResult, cond, min, nat_eq};
+ghost use Rattle.fx_frame_stage.specs.Frame.{IsFrame};
+ghost use Rattle.fx_frame_line.specs.Line.{channel_of};
+ghost use Rattle.fx_frame_lists.specs.Lists.{pieces};
+ghost use Rattle.fx_frame_stage.specs.Stage.{Freezes, IsNew};
+ghost use Rattle.fx_tap_fir.specs.Fir.{FirArguments, centre, filtered_frame, filtered_sample};
+ghost use Rattle.fx_tap_fir.specs.FirState.{AreFirCounts, FirState, IsFir, fir_acts, fir_taps};
+ghost use Rattle.fx_frame.specs.Tapped.{by_name, clips_after, frames_after, last_of};
+
+pub mod words;
+
+use crate::channels::take_channel;
+use crate::kernel::Kernel;
+use fx_fixed::Gain;
+use fx_frame::frozen::{stored_in, thawed_line_and_pending};
+use fx_frame::{Counters, Feeds, Frame, Line, Passed, Passing, Stage, ThawFault, WideFrame};
+use fx_frame_stage::feed::{feed_by_frames, frame_at};
+use fx_frame_stage::stage::MAX_TAKEN;
+use std::alloc::{AllocError, Global};
+use std::marker::Model;
+
+/// The stage of `fir`: each sample is the sum of the samples around it times the coefficients, rounded once.
+#[derive(Drop)]
+pub struct Fir {
+    pending: Option<Frame>,
+    pending_clips: u64,
+    channels: usize,
+    kernel: Kernel,
+    line: Line,
+    tail: usize,
+    taken: u64,
+    given: u64,
+    clips: u64,
+    ended: bool,
+}
+
+impl Model for Fir {
+    ghost use Rattle.fx_tap_fir.specs.FirState.{FirState, IsFir};
+
+    ghost Value = { FirState };
+
+    ghost view = { λ s. record { channels = s.channels; backwards = s.kernel; line = s.line; pending = s.pending; pending_clips = s.pending_clips; tail = s.tail; taken = s.taken; given = s.given; clips = s.clips; ended = s.ended } };
+
+    ghost invariant = { λ s. IsFir (record { channels = s.channels; backwards = s.kernel; line = s.line; pending = s.pending; pending_clips = s.pending_clips; tail = s.tail; taken = s.taken; given = s.given; clips = s.clips; ended = s.ended }) };
+}
+
+/// Fills the window with the samples of a channel: those of the line, the oldest first, and the latest.
+fn fill_window(line: &Line, latest: &[Frame], channel: usize, window: &mut [i32])
+    requires channel { channel < line.now.channels }
+    requires latest { length latest.now ≤ 1 }
+    requires fits { All (λ f. length f ≡ line.now.channels) latest.now }
+    requires len { length window.old ≡ length line.now.items + length latest.now }
+    ensures { window.new ≡ channel_of (line.now.items ++ latest.now) channel (pos 0) }
+{
+    let held = line.len();
+    line.channel_into(channel, &mut window[..held]);
+    let Some(frame) = latest.first() else {
+        return;
+    };
+    window[held] = frame.get(channel);
+}
+
+/// The sample of a channel whose sum goes from one place on backwards, among the frames of the line and the latest. The
+/// window has a place for each of them.
+#[inline(always)]
+fn filtered_within(
+    line: &Line,
+    latest: &[Frame],
+    channel: usize,
+    kernel: &Kernel,
+    place: usize,
+    window: &mut [i32],
+) -> (i32, bool)
+    requires channel { channel < line.now.channels }
+    requires latest { length latest.now ≤ 1 }
+    requires fits { All (λ f. length f ≡ line.now.channels) latest.now }
+    requires place { place ≤ 2 ^ 20 }
+    requires window { length window.old ≡ length line.now.items + length latest.now }
+    requires end { length (line.now.items ++ latest.now) ≤ place + 1 }
+    requires start { place + 1 ≤ length kernel.now + length (line.now.items ++ latest.now) }
+    ensures { result ≡ filtered_sample (reverse kernel.now) (line.now.items ++ latest.now) place channel }
+{
+    fill_window(line, latest, channel, window);
+    kernel.weigh(window, place)
+}
+
+/// The same for windows of up to 1024 places, which are cleared first: a short one is cleared sooner.
+fn filtered_sample(
+    line: &Line,
+    latest: &[Frame],
+    channel: usize,
+    kernel: &Kernel,
+    place: usize,
+) -> (i32, bool)
+    requires channel { channel < line.now.channels }
+    requires latest { length latest.now ≤ 1 }
+    requires fits { All (λ f. length f ≡ line.now.channels) latest.now }
+    requires place { place ≤ 2 ^ 20 }
+    requires free { length line.now.items + 1 ≤ 1024 }
+    requires end { length (line.now.items ++ latest.now) ≤ place + 1 }
+    requires start { place + 1 ≤ length kernel.now + length (line.now.items ++ latest.now) }
+    ensures { result ≡ filtered_sample (reverse kernel.now) (line.now.items ++ latest.now) place channel }
+{
+    let count = line.len() + latest.len();
+    if count <= 64 {
+        let mut window = [0; 64];
+        let window = &mut window[..count];
+        return filtered_within(line, latest, channel, kernel, place, window);
+    }
+    let mut window = [0; 1024];
+    filtered_within(line, latest, channel, kernel, place, &mut window[..count])
+}
+
+/// Writes the samples of the frame whose sums go from one place on backwards, and counts how many were clipped.
+fn filtered_into(
+    line: &Line,
+    latest: &[Frame],
+    channels: usize,
+    kernel: &Kernel,
+    place: usize,
+    out: &mut [i32],
+) -> u64
+    requires channels { channels ≡ line.now.channels }
+    requires some { (1 ≤ channels) × (channels ≤ 16) }
+    requires latest { length latest.now ≤ 1 }
+    requires fits { All (λ f. length f ≡ line.now.channels) latest.now }
+    requires place { place ≤ 2 ^ 20 }
+    requires free { length line.now.items + 1 ≤ 1024 }
+    requires end { length (line.now.items ++ latest.now) ≤ place + 1 }
+    requires start { place + 1 ≤ length kernel.now + length (line.now.items ++ latest.now) }
+    requires out { length out.old ≡ channels }
+    ensures frame { out.new ≡ (filtered_frame (record { channels = channels; coefficients = reverse kernel.now }) (line.now.items ++ latest.now) place).samples }
+    ensures clips { result ≡ (filtered_frame (record { channels = channels; coefficients = reverse kernel.now }) (line.now.items ++ latest.now) place).clips }
+    ensures bound { result ≤ 16 }
+{
+    let mut clips = 0;
+    'channels: for channel in 0..channels {
+        let (sample, is_clipped) = filtered_sample(line, latest, channel, kernel, place);
+        out[channel] = sample;
+        clips += u64::from(is_clipped);
+    }
+    clips
+}
+
+/// The frame whose sums go from one place on backwards, and how many of its samples were clipped.
+fn filtered_frame(
+    line: &Line,
+    latest: &[Frame],
+    channels: usize,
+    kernel: &Kernel,
+    place: usize,
+) -> (Frame, u64)
+    requires channels { channels ≡ line.now.channels }
+    requires some { (1 ≤ channels) × (channels ≤ 16) }
+    requires latest { length latest.now ≤ 1 }
+    requires fits { All (λ f. length f ≡ line.now.channels) latest.now }
+    requires place { place ≤ 2 ^ 20 }
+    requires free { length line.now.items + 1 ≤ 1024 }
+    requires end { length (line.now.items ++ latest.now) ≤ place + 1 }
+    requires start { place + 1 ≤ length kernel.now + length (line.now.items ++ latest.now) }
+    ensures frame { result.0 ≡ (filtered_frame (record { channels = channels; coefficients = reverse kernel.now }) (line.now.items ++ latest.now) place).samples }
+    ensures clips { result.1 ≡ (filtered_frame (record { channels = channels; coefficients = reverse kernel.now }) (line.now.items ++ latest.now) place).clips }
+    ensures bound { result.1 ≤ 16 }
+    ensures fits { IsFrame result.0 × (length result.0 ≡ channels) }
+{
+    let mut samples = [0; 16];
+    let out = &mut samples[..channels];
+    let clips = filtered_into(line, latest, channels, kernel, place, out);
+    let out = Frame::of_first(channels, samples);
+    let _channels = out.channels();
+    (out, clips)
+}
+
+/// How many samples that come after a sample are in its sum, with `count` coefficients.
+fn centre_of(count: usize) -> usize
+    requires { 1 ≤ count }
+    ensures { result ≡ centre count }
+{
+    (count - 1) / 2
+}
+
+/// How many of the frames taken are not made yet: none after the end.
+fn due_late(ended: u64, taken: u64, centre: u64) -> u64
+    ensures { result ≡ cond (nat_eq ended 0) (min taken centre) 0 }
+{
+    if ended != 0 {
+        return 0;
+    }
+    taken.min(centre)
+}
+
+/// Fills the window with the samples of a channel: those of the line, the oldest first, and those of frames that come after
+/// them.
+fn fill_places(
+    line: &Line,
+    channels: usize,
+    channel: usize,
+    count: usize,
+    frames: &[i32],
+    window: &mut [i32],
+)
+    requires channels { channels ≡ line.now.channels }
+    requires channel { channel < channels }
+    requires window { length window.old ≡ length line.now.items + count }
+    requires frames { count * channels ≤ length frames.now }
+    ensures { window.new ≡ channel_of (line.now.items ++ pieces channels count frames.now) channel (pos 0) }
+{
+    let held = line.len();
+    line.channel_into(channel, &mut window[..held]);
+    take_channel(frames, channels, channel, &mut window[held..]);
+}
+
+/// Filters `count` frames, at most `SUMS`, that come after those of a full line, and counts how many samples were clipped.
+/// The line and they fit `PLACES`.
+fn filter_within<const PLACES: usize, const SUMS: usize>(
+    kernel: &Kernel,
+    line: &Line,
+    channels: usize,
+    count: usize,
+    frames: &[i32],
+    out: &mut [i32],
+) -> u64
+    requires channels { channels ≡ line.now.channels }
+    requires full { length line.now.items + 1 ≡ length kernel.now }
+    requires sizes { (PLACES ≤ 2048) × (SUMS ≤ 1920) }
+    requires count { count ≤ SUMS }
+    requires places { length line.now.items + count ≤ PLACES }
+    requires frames { length frames.now ≡ count * channels }
+    requires out { length out.old ≡ count * channels }
+    ensures frames { pieces channels count out.new ≡ frames_after fir_taps (record { channels = channels; coefficients = reverse kernel.now }) line.now.items (pieces channels count frames.now) }
+    ensures clips { result ≡ clips_after fir_taps (record { channels = channels; coefficients = reverse kernel.now }) line.now.items (pieces channels count frames.now) }
+    ensures bound { result ≤ 16 * count }
+{
+    let mut window = [0; PLACES];
+    let window = &mut window[..line.len() + count];
+    let mut sums = [0; SUMS];
+    let sums = &mut sums[..count];
+    let mut clips = 0;
+    'channels: for channel in 0..channels {
+        fill_places(line, channels, channel, count, frames, window);
+        clips += kernel.filter_channel(window, sums, channels, channel, out);
+    }
+    clips
+}
+
+/// Filters `count` frames, at most as many as the kernel makes at once, that come after those of a full line, and counts
+/// how many samples were clipped. Few frames take a smaller buffer, which is cleared first.
+fn filter_piece(
+    kernel: &Kernel,
+    line: &Line,
+    channels: usize,
+    count: usize,
+    frames: &[i32],
+    out: &mut [i32],
+) -> u64
+    requires channels { channels ≡ line.now.channels }
+    requires full { length line.now.items + 1 ≡ length kernel.now }
+    requires taps { length kernel.now ≤ 1024 }
+    requires count { count ≤ 1920 }
+    requires fits { length kernel.now + count ≤ 2048 }
+    requires frames { length frames.now ≡ count * channels }
+    requires out { length out.old ≡ count * channels }
+    ensures frames { pieces channels count out.new ≡ frames_after fir_taps (record { channels = channels; coefficients = reverse kernel.now }) line.now.items (pieces channels count frames.now) }
+    ensures clips { result ≡ clips_after fir_taps (record { channels = channels; coefficients = reverse kernel.now }) line.now.items (pieces channels count frames.now) }
+    ensures bound { result ≤ 16 * count }
+{
+    if count <= 256 {
+        return filter_within::<1279, 256>(kernel, line, channels, count, frames, out);
+    }
+    filter_within::<2047, 1920>(kernel, line, channels, count, frames, out)
+}
+
+/// Filters `count` of the frames at the front of the input, which come after those of a full line, to the front of the output,
+/// and counts their clips. They go through the line.
+fn filter_frames(
+    kernel: &Kernel,
+    line: &mut Line,
+    channels: usize,
+    count: usize,
+    input: &[i32],
+    output: &mut [i32],
+) -> u64
+    requires channels { channels ≡ line.old.channels }
+    requires full { length line.old.items ≡ line.old.capacity }
+    requires capacity { line.old.capacity + 1 ≡ length kernel.now }
+    requires taps { length kernel.now ≤ 1024 }
+    requires bound { count ≤ 2 ^ 56 }
+    requires input { count * channels ≤ length input.now }
+    requires output { count * channels ≤ length output.old }
+    ensures frames { pieces channels count output.new ≡ frames_after fir_taps (record { channels = channels; coefficients = reverse kernel.now }) line.old.items (pieces channels count input.now) }
+    ensures rest_unchanged { drop (count * channels) output.new ≡ drop (count * channels) output.old }
+    ensures clips { result ≡ clips_after fir_taps (record { channels = channels; coefficients = reverse kernel.now }) line.old.items (pieces channels count input.now) }
+    ensures bound { result ≤ 16 * count }
+    ensures line { line.new.items ≡ last_of line.old.capacity (line.old.items ++ pieces channels count input.now) }
+    ensures line_capacity { line.new.capacity ≡ line.old.capacity }
+    ensures line_channels { line.new.channels ≡ line.old.channels }
+{
+    let maximum = kernel.max_at_once();
+    let mut done = 0;
+    let mut clips = 0;
+    'pieces: while done < count {
+        let piece = (count - done).min(maximum);
+        let from = done * channels;
+        let to = from + piece * channels;
+        let frames = &input[from..to];
+        clips += filter_piece(kernel, line, channels, piece, frames, &mut output[from..to]);
+        line.push_frames(frames, piece);
+        let _held = line.len();
+        done += piece;
+    }
+    clips
+}
+
+impl Fir {
+    /// The stage for frames of 1 to 16 channels, with 1 to 1024 coefficients. It holds one frame fewer than it has
+    /// coefficients; AllocError where memory for them is refused.
+    pub fn new(alloc: Global, channels: usize, coefficients: &[Gain]) -> Result<Fir, AllocError>
+        requires channels { (1 ≤ channels) × (channels ≤ 16) }
+        requires coefficients { (1 ≤ length coefficients.now) × (length coefficients.now ≤ 1024) }
+        ensures { IfOk result (IsNew fir_acts (record { channels = channels; coefficients = coefficients.now })) }
+    {
+        let kernel = Kernel::of(alloc, coefficients)?;
+        let line = Line::new(alloc, channels, coefficients.len() - 1)?;
+        Ok(Fir {
+            pending: None,
+            pending_clips: 0,
+            channels,
+            kernel,
+            line,
+            tail: 0,
+            taken: 0,
+            given: 0,
+            clips: 0,
+            ended: false,
+        })
+    }
+}
+
+/// Whether a stage with `count` coefficients that stores `stored` frames can have counted these numbers.
+fn are_counts(count: usize, stored: usize, numbers: &[u64; 8]) -> bool
+    requires { (1 ≤ count) × (count ≤ 1024) }
+    ensures { result ≡ true ↔ AreFirCounts count stored (by_name numbers.now) }
+{
+    let [
+        taken,
+        given,
+        ended,
+        clips,
+        held,
+        tail,
+        pending_count,
+        pending_clips,
+    ] = *numbers;
+    let centre = centre_of(count) as u64;
+    if ended > 1 || taken > MAX_TAKEN || held != stored as u64 {
+        return false;
+    }
+    if pending_count > held
+        || held - pending_count != taken.min(count as u64 - 1)
+        || pending_clips > 16
+    {
+        return false;
+    }
+    let made = taken - due_late(ended, taken, centre);
+    if given > made || pending_count > made - given || tail != made - given - pending_count {
+        return false;
+    }
+    if (pending_count == 0 && pending_clips != 0) || (pending_count != 0 && ended != 0) {
+        return false;
+    }
+    clips <= 16 * given
+        && tail <= centre
+        && tail <= held - pending_count
+        && (ended != 0 || tail == 0)
+}
+
+impl Fir {
+    /// The stage that stored these frames and counted these numbers, with the arguments of `new`. BadSnapshot where there is
+    /// none, Memory where an allocation was refused.
+    pub fn thaw(
+        alloc: Global,
+        channels: usize,
+        coefficients: &[Gain],
+        frames: &[WideFrame],
+        numbers: &[u64; 8],
+    ) -> Result<Fir, ThawFault>
+        requires channels { (1 ≤ channels) × (channels ≤ 16) }
+        requires coefficients { (1 ≤ length coefficients.now) × (length coefficients.now ≤ 1024) }
+        ensures recipe { IfOk result (λ t. fir_acts.recipe t ≡ record { channels = channels; coefficients = coefficients.now }) }
+        ensures frozen { IfOk result (λ t. Freezes fir_acts t frames.now numbers.now) }
+        ensures named { (result ≡ Err ThawFault.WrongPlan) → ⊥ }
+        ensures thawed { (s : FirState) → IsFir s → fir_acts.recipe s ≡ record { channels = channels; coefficients = coefficients.now } → Freezes fir_acts s frames.now numbers.now → MatchResult result (λ t. t ≡ s) (λ e. e ≡ ThawFault.Memory) }
+    {
+        if !are_counts(coefficients.len(), frames.len(), numbers) {
+            return Err(ThawFault::BadSnapshot);
+        }
+        let [
+            taken,
+            given,
+            ended,
+            clips,
+            _,
+            tail,
+            pending_count,
+            pending_clips,
+        ] = *numbers;
+        let capacity = coefficients.len() - 1;
+        let (line, pending) = match thawed_line_and_pending(
+            alloc,
+            channels,
+            capacity,
+            frames,
+            pending_count,
+        ) {
+            Ok(stored) => stored,
+            Err(fault) => return Err(fault),
+        };
+        let Ok(kernel) = Kernel::of(alloc, coefficients) else {
+            return Err(ThawFault::Memory);
+        };
+        Ok(Fir {
+            pending,
+            pending_clips,
+            channels,
+            kernel,
+            line,
+            tail: tail as usize,
+            taken,
+            given,
+            clips,
+            ended: ended == 1,
+        })
+    }
+}
+
+impl Stage for Fir {
+    ghost use Rattle.fx_tap_fir.specs.Fir.{FirArguments};
+
+    ghost Recipe = { FirArguments };
+
+    ghost acts = { fir_acts };
+
+    ghost sound = { λ s. IsFir s };
+
+    ghost rises = { λ r m n h. h };
+
+    fn take(&mut self, frame: Frame) {
+        let held = self.line.len();
+        if held < centre_of(self.kernel.len()) {
+            self.line.push(frame);
+            let _held = self.line.len();
+            self.taken += 1;
+            return;
+        }
+        let (out, clips) = filtered_frame(&self.line, &[frame], self.channels, &self.kernel, held);
+        self.line.push(frame);
+        let _held = self.line.len();
+        self.pending = Some(out);
+        self.pending_clips = clips;
+        self.taken += 1;
+    }
+
+    fn end(&mut self) {
+        self.tail = self.line.len().min(centre_of(self.kernel.len()));
+        self.ended = true;
+    }
+
+    fn give(&mut self) -> Option<Frame> {
+        if let Some(frame) = self.pending {
+            self.pending = None;
+            self.given += 1;
+            self.clips += self.pending_clips;
+            self.pending_clips = 0;
+            return Some(frame);
+        }
+        if self.tail == 0 {
+            return None;
+        }
+        let place = self.line.len() - self.tail + centre_of(self.kernel.len());
+        let (out, clips) = filtered_frame(&self.line, &[], self.channels, &self.kernel, place);
+        self.tail -= 1;
+        self.given += 1;
+        self.clips += clips;
+        Some(out)
+    }
+
+    fn is_dry(&self) -> bool {
+        self.pending.is_none() && self.tail == 0
+    }
+
+    #[inline(always)]
+    fn counter_values(&self) -> Counters {
+        Counters {
+            taken: self.taken,
+            given: self.given,
+            clips: self.clips,
+            ended: self.ended,
+        }
+    }
+
+    fn is_spent(&self) -> bool {
+        false
+    }
+
+    fn held(&self) -> u64 {
+        self.line.len() as u64 + u64::from(self.pending.is_some())
+    }
+
+    fn hold(&self) -> u64 {
+        self.line.capacity() as u64 + 1
+    }
+
+    fn in_channels(&self) -> usize {
+        self.channels
+    }
+
+    fn out_channels(&self) -> usize {
+        self.channels
+    }
+
+    fn state_counters(&self) -> [u64; 3] {
+        [
+            self.tail as u64,
+            u64::from(self.pending.is_some()),
+            self.pending_clips,
+        ]
+    }
+
+    fn stored(&self, j: usize) -> WideFrame {
+        stored_in(&self.line, self.pending, j)
+    }
+}
+
+impl Feeds for Fir {
+    fn feed(&mut self, input: &[i32], output: &mut [i32]) -> Passed {
+        if self.pending.is_some() || self.ended || self.line.len() < self.line.capacity() {
+            return feed_by_frames(self, input, output);
+        }
+        let channels = self.channels;
+        let count = (input.len() / channels).min(output.len() / channels);
+        self.clips += filter_frames(&self.kernel, &mut self.line, channels, count, input, output);
+        let _held = self.line.len();
+        self.taken += count as u64;
+        self.given += count as u64;
+        Passed {
+            taken: count,
+            given: count,
+        }
+    }
+
+    fn pass_samples(&mut self, samples: &mut [i32]) -> Passing {
+        let came = frame_at(samples, 0, samples.len());
+        let held = self.line.len();
+        if held < centre_of(self.kernel.len()) {
+            self.line.push(came);
+            let _held = self.line.len();
+            self.taken += 1;
+            return Passing::Kept;
+        }
+        let latest = &[came];
+        let channels = self.channels;
+        let clips = filtered_into(&self.line, latest, channels, &self.kernel, held, samples);
+        self.line.push(came);
+        let _held = self.line.len();
+        self.clips += clips;
+        self.taken += 1;
+        self.given += 1;
+        Passing::Through
+    }
+
+    fn ahead(&self) -> u64 {
+        u64::MAX
+    }
+
+    fn one_to_one(&self) -> u64 {
+        if self.taken < centre_of(self.kernel.len()) as u64 {
+            return 0;
+        }
+        u64::MAX
+    }
+}

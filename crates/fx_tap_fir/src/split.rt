@@ -1,0 +1,153 @@
+//! Coefficients in two parts, for sums by transforms where they are not small.
+ghost use Rattle.std.specs.Prelude.{◌≡◌, ◌<◌, ◌≤◌, ◌+◌, ◌*◌, ◌^◌, ℕ, pos, neg_ℤ, ◌≤ℤ◌, drop, length, slice_index_or, unsigned_abs, All, IfOk, IfSome};
+ghost use Rattle.fx_fixed.specs.Rounding.{rounding};
+ghost use Rattle.fx_fixed.specs.declared.gains.TheConstants.{UNIT};
+ghost use Rattle.fx_frame_lists.specs.Lists.{IsOtherPlace, tabulate};
+ghost use Rattle.fx_frame_lists.specs.Rounded.{clips_rounded};
+ghost use Rattle.fx_tap_fir.specs.Split.{AddUpTo, joined_split};
+ghost use Rattle.fx_tap_convolve.specs.Products.{sum_of_products};
+
+use crate::kernel::rounded;
+use crate::reduced::MAX_SUMS;
+use fx_tap_convolve::transforms::Spectrum;
+use std::alloc::{AllocError, Global};
+use std::marker::Model;
+
+/// How many coefficients there are at least where two transforms pay.
+const MIN_COEFFICIENTS: usize = 256;
+
+/// How many products take as long as the sums of two transforms, which are made at a fixed price.
+const PRODUCTS_OF_TRANSFORMS: usize = 400_000;
+
+/// The high part of a coefficient, which counts 2^20 times, and the low one.
+fn parts_of(coefficient: i64) -> (i32, i32)
+    requires { unsigned_abs coefficient ≤ 10 ^ 15 }
+    ensures { coefficient ≡ joined_split result.0 result.1 }
+{
+    let high = coefficient >> 20;
+    (high as i32, (coefficient - high * (1 << 20)) as i32)
+}
+
+/// Writes the parts of each coefficient.
+fn split_into(coefficients: &[i64], high: &mut [i32], low: &mut [i32])
+    requires small { All (λ c. unsigned_abs c ≤ 10 ^ 15) coefficients.now }
+    requires high { length high.old ≡ length coefficients.now }
+    requires low { length low.old ≡ length coefficients.now }
+    ensures { (k : ℕ) → k < length coefficients.now → slice_index_or coefficients.now k (pos 0) ≡ joined_split (slice_index_or high.new k (pos 0)) (slice_index_or low.new k (pos 0)) }
+{
+    'coefficients: for place in 0..coefficients.len() {
+        let (above, below) = parts_of(coefficients[place]);
+        high[place] = above;
+        low[place] = below;
+    }
+}
+
+/// A sum of high parts and one of low parts, joined.
+fn join(high: i64, low: i64) -> i128
+    requires high { unsigned_abs high ≤ 2 ^ 61 }
+    requires low { unsigned_abs low ≤ 2 ^ 61 }
+    ensures value { result ≡ joined_split high low }
+    ensures low { neg_ℤ (pos (2 ^ 102)) ≤ℤ result }
+    ensures high { result ≤ℤ pos (2 ^ 102) }
+{
+    i128::from(high) * (1 << 20) + i128::from(low)
+}
+
+/// Writes sums of high parts and of low parts, joined and rounded, as one channel of as many frames, and counts how many
+/// samples were clipped.
+fn round_joined(high: &[i64], low: &[i64], channels: usize, channel: usize, out: &mut [i32]) -> u64
+    requires channel { channel < channels }
+    requires channels { channels ≤ 16 }
+    requires many { length high.now ≡ length low.now }
+    requires low { (i : ℕ) → i < length low.now → unsigned_abs (slice_index_or low.now i (pos 0)) ≤ 2 ^ 61 }
+    requires high { (i : ℕ) → i < length high.now → unsigned_abs (slice_index_or high.now i (pos 0)) ≤ 2 ^ 61 }
+    requires out { length low.now * channels ≤ length out.old }
+    ensures put { (i : ℕ) → i < length low.now → slice_index_or out.new (i * channels + channel) (pos 0) ≡ (rounding (joined_split (slice_index_or high.now i (pos 0)) (slice_index_or low.now i (pos 0))) UNIT).0 }
+    ensures others { (k : ℕ) → IsOtherPlace channels channel (length low.now) k → slice_index_or out.new k (pos 0) ≡ slice_index_or out.old k (pos 0) }
+    ensures clips { result ≡ clips_rounded (tabulate (λ i. rounding (joined_split (slice_index_or high.now i (pos 0)) (slice_index_or low.now i (pos 0))) UNIT) 0 (length low.now)) }
+    ensures bound { result ≤ length low.now }
+{
+    let mut at = channel;
+    let mut clips = 0;
+    'frames: for place in 0..low.len() {
+        let (sample, is_clipped) = rounded(join(high[place], low[place]));
+        out[at] = sample;
+        clips += u64::from(is_clipped);
+        at += channels;
+    }
+    clips
+}
+
+/// The parts of coefficients, prepared for sums by transforms.
+#[derive(Drop)]
+pub(crate) struct Split {
+    count: usize,
+    high: Spectrum,
+    low: Spectrum,
+}
+
+impl Model for Split {
+    ghost use Rattle.fx_tap_fir.specs.Split.{SplitParts};
+
+    ghost Value = { SplitParts };
+
+    ghost view = { λ s. record { high = s.high; low = s.low } };
+}
+
+impl Split {
+    /// Those of coefficients. None where transforms are no faster, or where the parts are too large for them.
+    pub(crate) fn of(alloc: Global, coefficients: &[i64]) -> Result<Option<Split>, AllocError>
+        requires { All (λ c. unsigned_abs c ≤ 10 ^ 15) coefficients.now }
+        ensures { IfOk result (λ split. IfSome split (AddUpTo coefficients.now)) }
+    {
+        let count = coefficients.len();
+        if count < MIN_COEFFICIENTS {
+            return Ok(None);
+        }
+        let mut low = Vec::new(alloc);
+        low.resize(count, 0)?;
+        let mut high = Vec::new(alloc);
+        high.resize(count, 0)?;
+        split_into(coefficients, &mut high, &mut low);
+        let Some(low) = Spectrum::of(alloc, &low)? else {
+            return Ok(None);
+        };
+        let Some(high) = Spectrum::of(alloc, &high)? else {
+            return Ok(None);
+        };
+        Ok(Some(Split { count, high, low }))
+    }
+
+    /// Tests that `sums` sums are faster by transforms than one by one.
+    pub(crate) fn pays(&self, sums: usize) -> bool {
+        sums.saturating_mul(self.count) >= PRODUCTS_OF_TRANSFORMS
+    }
+
+    /// Writes one channel of as many frames as there are places for sums, and counts how many samples were clipped: the sums
+    /// of the coefficients times as many samples of the window from each of its places on, rounded.
+    pub(crate) fn filter_channel(
+        &self,
+        window: &[i32],
+        sums: &mut [i64],
+        channels: usize,
+        channel: usize,
+        out: &mut [i32],
+    ) -> u64
+        requires channel { channel < channels }
+        requires channels { channels ≤ 16 }
+        requires count { length sums.old ≤ 1920 }
+        requires low { length self.now.low + length sums.old ≤ length window.now + 1 }
+        requires high { length self.now.high + length sums.old ≤ length window.now + 1 }
+        requires out { length sums.old * channels ≤ length out.old }
+        ensures put { (i : ℕ) → i < length sums.old → slice_index_or out.new (i * channels + channel) (pos 0) ≡ (rounding (joined_split (sum_of_products (drop i window.now) self.now.high) (sum_of_products (drop i window.now) self.now.low)) UNIT).0 }
+        ensures others { (k : ℕ) → IsOtherPlace channels channel (length sums.old) k → slice_index_or out.new k (pos 0) ≡ slice_index_or out.old k (pos 0) }
+        ensures clips { result ≡ clips_rounded (tabulate (λ i. rounding (joined_split (sum_of_products (drop i window.now) self.now.high) (sum_of_products (drop i window.now) self.now.low)) UNIT) 0 (length sums.old)) }
+        ensures bound { result ≤ length sums.old }
+    {
+        let mut places = [0; MAX_SUMS];
+        let high = &mut places[..sums.len()];
+        self.low.convolve(window, sums);
+        self.high.convolve(window, high);
+        round_joined(high, sums, channels, channel, out)
+    }
+}

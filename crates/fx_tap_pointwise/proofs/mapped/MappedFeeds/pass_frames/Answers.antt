@@ -1,0 +1,21 @@
+use Rattle.std.proofs.Common.{◌≡◌, ◌*◌, false, length, arith}
+use Rattle.std.specs.Prelude.{None}
+use Rattle.fx_frame_lists.specs.Lists.{pieces}
+use Rattle.fx_frame_lists.proofs.Pieces.{length-pieces}
+use Rattle.fx_tap_pointwise.proofs.Blocks.{dry-through, none-is}
+use Rattle.fx_frame.proofs.SamplePieces.{pieces-sides}
+use Rattle.fx_tap_pointwise.proofs.mapped.MappedFeeds.pass_frames.Goals as goal
+
+pub returns-clause-through : goal.returns-clause-through
+returns-clause-through g c =
+    let m = g.M.Mapping in
+    let s = c.self.inside in
+    let none : s.pending ≡ None = none-is s.pending (rw (← c.self.view_is) at c.requires.dry) in
+    let over : s.ended ≡ false = rw (← c.self.view_is) at c.requires.not_ended in
+    let alike : m.outputs s.mapping ≡ m.inputs s.mapping = rw (← c.self.view_is) at c.requires.same_channels in
+    let all : length c.args.samples.now ≡ c.args.count * m.inputs s.mapping = rw (← c.self.view_is) at c.requires.samples in
+    let sides = pieces-sides (m.inputs s.mapping) c.args.count c.map_many_over.new.samples (omega (arith, all, c.map_many_over.auto.samples)) in
+    rw (← c.self.view_is)
+    (dry-through m.inputs m.outputs m.mapped (record { mapping = s.mapping; pending = s.pending; pending_clips = s.pending_clips; taken = s.taken; given = s.given; clips = s.clips; ended = s.ended }) c.args.count c.map_many_over.result
+    (pieces (m.inputs s.mapping) c.args.count c.args.samples.now) (pieces (m.inputs s.mapping) c.args.count c.map_many_over.new.samples)
+    c.self.invariant none over (length-pieces (m.inputs s.mapping) c.args.count c.args.samples.now) (rw alike sides) c.map_many_over.ensures.frames c.map_many_over.ensures.clips)

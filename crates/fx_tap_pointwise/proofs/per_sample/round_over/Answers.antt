@@ -1,0 +1,28 @@
+use Rattle.std.proofs.Common.{rules, arith, ◌≡◌, ◌<◌, ◌+◌, ◌∙◌, ap, sym, get_or, drop, length, ℕ, Bool, to_z, of_z, List, ◌∷◌}
+use Rattle.std.specs.Prelude.{ℤ, pos}
+use Rattle.std.specs.Int.{w32}
+use Rattle.std.proofs.lemmas.List.{drop-set-lt, drop_more}
+use Rattle.fx_frame_lists.proofs.Rounds.{samples_of-more, clips_of-more, byte_is, byte-le}
+use Rattle.fx_tap_pointwise.proofs.per_sample.round_over.Goals as goal
+
+pub samples-preserved : goal.samples-preserved
+samples-preserved g c =
+    let k : ℕ = c.samples.place in
+    let xs : List ℤ = c.args.samples.now in
+    let now : List ℤ = c.samples.samples in
+    let f : ℤ → ℤ × Bool = g.S.Sampling.rounded c.args.sampling.now in
+    let h : k < length xs = omega (arith, c.samples-test.true) in
+    let long : k < length now = omega (arith, h, c.samples.auto.samples) in
+    let both : get_or now k (pos 0) ∷ drop (k + 1) now ≡ get_or xs k (pos 0) ∷ drop (k + 1) xs = sym (drop_more now k (pos 0) long) ∙ c.samples.invariant.rest ∙ drop_more xs k (pos 0) h in
+    let place : get_or now k (pos 0) ≡ get_or xs k (pos 0) = cc (both) in
+    let next : drop (k + 1) now ≡ drop (k + 1) xs = cc (both) in
+    let sample : to_z w32 (of_z w32 (get_or now k (pos 0))) ≡ get_or now k (pos 0) = search rules in
+    let out : to_z w32 (of_z w32 c.round-sample.result.0) ≡ c.round-sample.result.0 = search rules in
+    let v : c.round-sample.result ≡ f (get_or xs k (pos 0)) = c.round-sample.ensures ∙ ap f (sample ∙ place) in
+    let one = byte-le c.round-sample.result.1 in
+    record {
+      done = rw out (samples_of-more f xs (pos 0) now k c.round-sample.result.0 h long c.samples.invariant.done (ap (λ r. r.0) v));
+      rest = drop-set-lt (k + 1) now k _ (omega arith) ∙ next;
+      counted = ap (λ n. c.samples.clips + n) (c.from-clips.ensures ∙ byte_is c.round-sample.result.1) ∙ clips_of-more f xs (pos 0) k c.samples.clips c.round-sample.result.1 h c.samples.invariant.counted (ap (λ r. r.1) v);
+      bound = omega (arith, c.from-clips.ensures, one, c.samples.invariant.bound);
+    }

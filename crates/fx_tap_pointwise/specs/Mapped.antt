@@ -1,0 +1,46 @@
+-- The stage of a memoryless effect (this project's profile).
+use Rattle.std.specs.Prelude.{ℕ, ◌+◌, ◌*◌, ◌≤◌, ◌≡◌, Bool, true, List, ◌++◌, Option, length, map, option_to_list, is_none}
+use Rattle.fx_frame_stage.specs.Frame.{Samples}
+use Rattle.fx_frame_stage.specs.PendingFrame.{IsPending}
+use Rattle.fx_frame_stage.specs.Stage.{Given, Acts, coming}
+use Rattle.fx_frame.specs.Kinds.{map_kind, max_taken}
+
+-- what such a stage stores
+pub record MapState (M : Type 0) : Type 0 where
+  pub mapping : M
+  -- the frame to be given, and how many of its samples were clipped
+  pub pending : Option Samples
+  pub pending_clips : ℕ
+  pub taken : ℕ
+  pub given : ℕ
+  pub clips : ℕ
+  pub ended : Bool
+
+-- the invariant of the stage
+pub record IsMapState {M : Type 0} (outputs : M → ℕ) (s : MapState M) : Type 0 where
+  pub counted : s.given + length (option_to_list s.pending) ≡ s.taken
+  pub bound : s.taken ≤ max_taken
+  pub clips_max : s.clips ≤ 16 * s.given
+  pub pending_max : s.pending_clips ≤ 16
+  -- no clips without a pending frame, and no pending frame after the end
+  pub idle : length (option_to_list s.pending) ≡ 0 → s.pending_clips ≡ 0
+  pub over : s.ended ≡ true → length (option_to_list s.pending) ≡ 0
+  pub fits : IsPending (outputs s.mapping) s.pending
+
+-- the pending frame
+abbrev pub pending_given : {M : Type 0} → MapState M → List Given
+pending_given s = map (λ x. record { samples = x; clips = s.pending_clips }) (option_to_list s.pending)
+
+-- it gives for each frame the output frame of the mapping
+abbrev pub map_acts : {M : Type 0} → (M → ℕ) → (M → ℕ) → (M → Samples → Given) → Acts (MapState M) M
+map_acts inputs outputs mapped = record {
+  recipe = λ s. s.mapping;
+  kind_of = λ m. map_kind (inputs m) (outputs m);
+  meaning = λ m x. map (mapped m) x;
+  rest = λ s z. pending_given s ++ map (mapped s.mapping) (coming s.ended z);
+  counts = λ s. record { taken = s.taken; given = s.given; clips = s.clips; ended = s.ended };
+  dry = λ s. is_none s.pending;
+  stored = λ s. option_to_list s.pending;
+  capacity = λ s. 0;
+  state_counters = λ s. record { first = s.pending_clips; second = 0; third = 0 };
+}

@@ -1,0 +1,133 @@
+//! Three memoryless effects in sequence, of which the first and the last keep the number of channels: a frame goes through all
+//! three before the next.
+ghost use Rattle.std.specs.Prelude.{◌≡◌, ◌+◌, ◌*◌, ◌^◌, ◌≤◌, List, FitsSigned, None, false, drop, length, take};
+ghost use Rattle.std.specs.Int.{w32};
+ghost use Rattle.std.specs.List.{All};
+ghost use Rattle.fx_frame_stage.specs.Frame.{Samples};
+ghost use Rattle.fx_frame_lists.specs.Lists.{pieces};
+ghost use Rattle.fx_frame_stage.specs.Pipeline.{EachThrough};
+ghost use Rattle.fx_frame.specs.Made.{clips_in, made_of};
+ghost use Rattle.fx_tap_pointwise.specs.Mapped.{map_acts};
+ghost use Rattle.fx_frame.specs.Kinds.{max_taken};
+
+use crate::mapped::{Mapped, Mapping};
+use fx_frame_stage::feed::see_samples;
+
+/// The channels of the frames that go in, and of those that come out.
+#[derive(Clone, Copy)]
+struct PairWidths {
+    inputs: usize,
+    outputs: usize,
+}
+
+/// How many samples each of three effects clipped.
+#[derive(Clone, Copy)]
+struct RowClips {
+    first: u64,
+    middle: u64,
+    last: u64,
+}
+
+/// Writes what the last effect makes of what the middle one makes of what the first makes of each frame, and counts how many
+/// samples each clipped.
+#[inline(always)]
+fn mapped_by_three<A: Mapping, B: Mapping, C: Mapping>(
+    first: &A,
+    middle: &B,
+    last: &C,
+    widths: PairWidths,
+    count: usize,
+    input: &[i32],
+    output: &mut [i32],
+) -> RowClips
+    requires inputs { (A.inputs first.now ≡ widths.inputs) × (A.outputs first.now ≡ widths.inputs) × (B.inputs middle.now ≡ widths.inputs) }
+    requires outputs { (B.outputs middle.now ≡ widths.outputs) × (C.inputs last.now ≡ widths.outputs) × (C.outputs last.now ≡ widths.outputs) }
+    requires frames { (widths.inputs ≤ 16) × (widths.outputs ≤ 16) }
+    requires bound { count ≤ 2 ^ 56 }
+    requires input { count * widths.inputs ≤ length input.now }
+    requires free { count * widths.outputs ≤ length output.old }
+    ensures frames { pieces widths.outputs count output.new ≡ made_of (C.mapped last.now) (made_of (B.mapped middle.now) (made_of (A.mapped first.now) (pieces widths.inputs count input.now))) }
+    ensures rest_unchanged { drop (count * widths.outputs) output.new ≡ drop (count * widths.outputs) output.old }
+    ensures first { result.first ≡ clips_in (A.mapped first.now) (pieces widths.inputs count input.now) }
+    ensures middle { result.middle ≡ clips_in (B.mapped middle.now) (made_of (A.mapped first.now) (pieces widths.inputs count input.now)) }
+    ensures last { result.last ≡ clips_in (C.mapped last.now) (made_of (B.mapped middle.now) (made_of (A.mapped first.now) (pieces widths.inputs count input.now))) }
+    ensures before { All (λ (s : Samples). length s ≡ widths.inputs) (made_of (A.mapped first.now) (pieces widths.inputs count input.now)) }
+    ensures after { All (λ (s : Samples). length s ≡ widths.outputs) (made_of (B.mapped middle.now) (made_of (A.mapped first.now) (pieces widths.inputs count input.now))) }
+    ensures bound { (result.first ≤ 16 * count) × (result.middle ≤ 16 * count) × (result.last ≤ 16 * count) }
+{
+    let mut before = [0; 16];
+    let mut after_middle = [0; 16];
+    let mut first_clips = 0;
+    let mut middle_clips = 0;
+    let mut last_clips = 0;
+    'frames: for turn in 0..count {
+        let read = turn * widths.inputs;
+        let written = turn * widths.outputs;
+        first_clips += first.map_into(
+            &input[read..read + widths.inputs],
+            &mut before[..widths.inputs],
+        );
+        middle_clips += middle.map_into(
+            &before[..widths.inputs],
+            &mut after_middle[..widths.outputs],
+        );
+        last_clips += last.map_into(
+            &after_middle[..widths.outputs],
+            &mut output[written..written + widths.outputs],
+        );
+    }
+    RowClips {
+        first: first_clips,
+        middle: middle_clips,
+        last: last_clips,
+    }
+}
+
+/// Passes `count` frames at the front of the input through three dry stages, each frame through all of them before the next,
+/// and writes those that come out to the front of the output.
+pub fn pass_around<A: Mapping + Drop, B: Mapping + Drop, C: Mapping + Drop>(
+    first: &mut Mapped<A>,
+    middle: &mut Mapped<B>,
+    last: &mut Mapped<C>,
+    count: usize,
+    input: &[i32],
+    output: &mut [i32],
+)
+    requires first_dry { first.old.pending ≡ None }
+    requires first_open { first.old.ended ≡ false }
+    requires first_bound { first.old.taken + count ≤ max_taken }
+    requires first_keeps { A.outputs first.old.mapping ≡ A.inputs first.old.mapping }
+    requires middle_dry { middle.old.pending ≡ None }
+    requires middle_open { middle.old.ended ≡ false }
+    requires middle_follows { middle.old.taken ≡ first.old.given }
+    requires middle_channels { B.inputs middle.old.mapping ≡ A.inputs first.old.mapping }
+    requires last_dry { last.old.pending ≡ None }
+    requires last_open { last.old.ended ≡ false }
+    requires last_follows { last.old.taken ≡ middle.old.given }
+    requires last_channels { C.inputs last.old.mapping ≡ B.outputs middle.old.mapping }
+    requires last_keeps { C.outputs last.old.mapping ≡ C.inputs last.old.mapping }
+    requires input { count * A.inputs first.old.mapping ≤ length input.now }
+    requires free { count * B.outputs middle.old.mapping ≤ length output.old }
+    ensures frame { 1 ≤ B.outputs middle.old.mapping }
+    ensures samples { All (FitsSigned w32) (take (count * A.inputs first.old.mapping) input.now) }
+    ensures through { (before after : List Samples) × EachThrough (map_acts A.inputs A.outputs A.mapped) (pieces (A.inputs first.old.mapping) count input.now) before first.old first.new × EachThrough (map_acts B.inputs B.outputs B.mapped) before after middle.old middle.new × EachThrough (map_acts C.inputs C.outputs C.mapped) after (pieces (B.outputs middle.old.mapping) count output.new) last.old last.new }
+    ensures rest_unchanged { drop (count * B.outputs middle.old.mapping) output.new ≡ drop (count * B.outputs middle.old.mapping) output.old }
+{
+    let widths = PairWidths {
+        inputs: first.mapping().out_channels(),
+        outputs: middle.mapping().out_channels(),
+    };
+    see_samples(&input[..count * widths.inputs]);
+    let clips = mapped_by_three(
+        first.mapping(),
+        middle.mapping(),
+        last.mapping(),
+        widths,
+        count,
+        input,
+        output,
+    );
+    first.count_passed(count, clips.first);
+    middle.count_passed(count, clips.middle);
+    last.count_passed(count, clips.last);
+}

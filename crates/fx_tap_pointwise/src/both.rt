@@ -1,0 +1,82 @@
+//! Two effects one after the other, each of which rounds each sample alone: a sample goes through both before the next.
+ghost use Rattle.std.specs.Prelude.{◌≡◌, ◌+◌, ◌*◌, ◌≤◌, List, FitsSigned, None, false, drop, length, map, take};
+ghost use Rattle.std.specs.Int.{w32};
+ghost use Rattle.std.specs.List.{All};
+ghost use Rattle.fx_frame_stage.specs.Frame.{Samples};
+ghost use Rattle.fx_frame_lists.specs.Lists.{pieces};
+ghost use Rattle.fx_frame_lists.specs.Rounded.{clips_rounded, samples_of};
+ghost use Rattle.fx_frame_stage.specs.Pipeline.{EachThrough};
+ghost use Rattle.fx_frame.specs.Kinds.{max_taken};
+ghost use Rattle.fx_tap_pointwise.specs.PerSampleState.{sample_acts};
+
+use crate::mapped::{Mapped, Mapping};
+use crate::per_sample::{PerSample, SamplesMany, Sampling};
+
+/// How many samples each of two effects clipped.
+#[derive(Clone, Copy)]
+pub struct BothClips {
+    pub first: u64,
+    pub second: u64,
+}
+
+/// Writes what the second effect makes of what the first makes of each sample, and counts how many each clipped.
+#[inline(always)]
+pub(crate) fn rounded_by_both<A: Sampling, B: Sampling>(
+    first: &A,
+    second: &B,
+    input: &[i32],
+    output: &mut [i32],
+) -> BothClips
+    requires { length output.old ≡ length input.now }
+    ensures samples { output.new ≡ samples_of (map (λ x. B.rounded second.now (A.rounded first.now x).0) input.now) }
+    ensures first { result.first ≡ clips_rounded (map (A.rounded first.now) input.now) }
+    ensures second { result.second ≡ clips_rounded (map (λ x. B.rounded second.now (A.rounded first.now x).0) input.now) }
+    ensures bound { (result.first ≤ length input.now) × (result.second ≤ length input.now) }
+    ensures fits { All (FitsSigned w32) input.now }
+{
+    let mut first_clips = 0;
+    let mut second_clips = 0;
+    'samples: for place in 0..input.len() {
+        let (between, is_clipped) = first.round(input[place]);
+        first_clips += u64::from(is_clipped);
+        let (sample, is_clipped) = second.round(between);
+        second_clips += u64::from(is_clipped);
+        output[place] = sample;
+    }
+    BothClips {
+        first: first_clips,
+        second: second_clips,
+    }
+}
+
+/// Passes `count` frames at the front of the input through two dry stages, each frame through both before the next, and writes
+/// those that come out to the front of the output.
+pub fn pass_both<A: SamplesMany + Drop, B: SamplesMany + Drop>(
+    first: &mut Mapped<PerSample<A>>,
+    second: &mut Mapped<PerSample<B>>,
+    count: usize,
+    input: &[i32],
+    output: &mut [i32],
+)
+    requires first_dry { first.old.pending ≡ None }
+    requires first_open { first.old.ended ≡ false }
+    requires first_bound { first.old.taken + count ≤ max_taken }
+    requires second_dry { second.old.pending ≡ None }
+    requires second_open { second.old.ended ≡ false }
+    requires follows { second.old.taken ≡ first.old.given }
+    requires channels { second.old.mapping.channels ≡ first.old.mapping.channels }
+    requires input { count * first.old.mapping.channels ≤ length input.now }
+    requires free { count * first.old.mapping.channels ≤ length output.old }
+    ensures samples { All (FitsSigned w32) (take (count * first.old.mapping.channels) input.now) }
+    ensures through { (between : List Samples) × EachThrough (sample_acts A.rounded) (pieces first.old.mapping.channels count input.now) between first.old first.new × EachThrough (sample_acts B.rounded) between (pieces first.old.mapping.channels count output.new) second.old second.new }
+    ensures rest_unchanged { drop (count * first.old.mapping.channels) output.new ≡ drop (count * first.old.mapping.channels) output.old }
+{
+    let samples = count * first.mapping().out_channels();
+    let clips = first.mapping().sampling().round_before(
+        second.mapping().sampling(),
+        &input[..samples],
+        &mut output[..samples],
+    );
+    first.count_passed(count, clips.first);
+    second.count_passed(count, clips.second);
+}

@@ -1,0 +1,152 @@
+//! Channels of frames whose samples lie one after another.
+ghost use Rattle.std.specs.Prelude.{◌≡◌, ◌<◌, ◌≤◌, ◌+◌, ◌-◌, ◌*◌, ◌^◌, ◌+ℤ◌, ◌*ℤ◌, ◌≤ℤ◌, false, ℕ, pos, neg_ℤ, length, slice_index_or, unsigned_abs, FitsSigned};
+ghost use Rattle.std.specs.Int.{w32};
+ghost use Rattle.fx_fixed.specs.Rounding.{rounding};
+ghost use Rattle.fx_frame_lists.specs.Lists.{IsOtherPlace, tabulate};
+ghost use Rattle.fx_frame_lists.specs.Rounded.{clips_rounded};
+
+use crate::per_sample::Sampling;
+
+/// How many frames are read, and of how many channels each is.
+#[derive(Clone, Copy)]
+pub(crate) struct ChannelShape {
+    pub count: usize,
+    pub channels: usize,
+}
+
+/// The channel that is written, and how many channels each frame has that it is one of.
+#[derive(Clone, Copy)]
+pub(crate) struct Place {
+    pub channel: usize,
+    pub channels: usize,
+}
+
+/// Adds the samples of one channel of as many frames, each times a weight, to the sums.
+#[inline(always)]
+pub(crate) fn add_channel(
+    frames: &[i32],
+    channels: usize,
+    channel: usize,
+    weight: i32,
+    sums: &mut [i64],
+)
+    requires channel { channel < channels }
+    requires channels { channels ≤ 16 }
+    requires frames { length sums.old * channels ≤ length frames.now }
+    requires free { (i : ℕ) → i < length sums.old → unsigned_abs (slice_index_or frames.now (i * channels + channel) (pos 0)) ≤ 2 ^ 31 → unsigned_abs (slice_index_or sums.old i (pos 0) +ℤ (slice_index_or frames.now (i * channels + channel) (pos 0) *ℤ weight)) ≤ 2 ^ 62 }
+    ensures added { (i : ℕ) → i < length sums.old → slice_index_or sums.new i (pos 0) ≡ slice_index_or sums.old i (pos 0) +ℤ (slice_index_or frames.now (i * channels + channel) (pos 0) *ℤ weight) }
+    ensures samples { (i : ℕ) → i < length sums.old → unsigned_abs (slice_index_or frames.now (i * channels + channel) (pos 0)) ≤ 2 ^ 31 }
+{
+    let factor = i64::from(weight);
+    let mut at = channel;
+    'frames: for place in 0..sums.len() {
+        sums[place] += i64::from(frames[at]) * factor;
+        at += channels;
+    }
+}
+
+/// Copies one channel of these frames over one of as many frames of other channels.
+#[inline(always)]
+pub(crate) fn place_channel(
+    from: &[i32],
+    shape: ChannelShape,
+    channel: usize,
+    to: &mut [i32],
+    place: Place,
+)
+    requires channel { channel < shape.channels }
+    requires inputs { shape.channels ≤ 16 }
+    requires from { shape.count * shape.channels ≤ length from.now }
+    requires place { place.channel < place.channels }
+    requires outputs { place.channels ≤ 16 }
+    requires to { shape.count * place.channels ≤ length to.old }
+    ensures put { (i : ℕ) → i < shape.count → slice_index_or to.new (i * place.channels + place.channel) (pos 0) ≡ slice_index_or from.now (i * shape.channels + channel) (pos 0) }
+    ensures others { (k : ℕ) → IsOtherPlace place.channels place.channel shape.count k → slice_index_or to.new k (pos 0) ≡ slice_index_or to.old k (pos 0) }
+    ensures samples { (i : ℕ) → i < shape.count → FitsSigned w32 (slice_index_or from.now (i * shape.channels + channel) (pos 0)) }
+{
+    let mut read = channel;
+    let mut at = place.channel;
+    'frames: for _turn in 0..shape.count {
+        to[at] = from[read];
+        read += shape.channels;
+        at += place.channels;
+    }
+}
+
+/// Writes what an effect makes of each sample of one channel of these frames over a channel of as many frames of other
+/// channels, and counts how many were clipped.
+#[inline(always)]
+pub(crate) fn place_rounded<S: Sampling>(
+    sampling: &S,
+    from: &[i32],
+    shape: ChannelShape,
+    channel: usize,
+    to: &mut [i32],
+    place: Place,
+) -> u64
+    requires channel { channel < shape.channels }
+    requires inputs { shape.channels ≤ 16 }
+    requires from { shape.count * shape.channels ≤ length from.now }
+    requires place { place.channel < place.channels }
+    requires outputs { place.channels ≤ 16 }
+    requires to { shape.count * place.channels ≤ length to.old }
+    ensures put { (i : ℕ) → i < shape.count → slice_index_or to.new (i * place.channels + place.channel) (pos 0) ≡ (S.rounded sampling.now (slice_index_or from.now (i * shape.channels + channel) (pos 0))).0 }
+    ensures others { (k : ℕ) → IsOtherPlace place.channels place.channel shape.count k → slice_index_or to.new k (pos 0) ≡ slice_index_or to.old k (pos 0) }
+    ensures clips { result ≡ clips_rounded (tabulate (λ i. S.rounded sampling.now (slice_index_or from.now (i * shape.channels + channel) (pos 0))) 0 shape.count) }
+    ensures bound { result ≤ shape.count }
+{
+    let mut read = channel;
+    let mut at = place.channel;
+    let mut clips = 0;
+    'frames: for _turn in 0..shape.count {
+        let (sample, is_clipped) = sampling.round(from[read]);
+        to[at] = sample;
+        clips += u64::from(is_clipped);
+        read += shape.channels;
+        at += place.channels;
+    }
+    clips
+}
+
+/// Half the sum of two samples, halves away from zero.
+#[inline(always)]
+pub(crate) fn halved(sum: i64) -> i32
+    requires minimum { neg_ℤ (pos (2 ^ 32)) ≤ℤ sum }
+    requires maximum { sum ≤ℤ pos (2 ^ 32 - 2) }
+    ensures { rounding sum 2 ≡ (result, false) }
+{
+    ((sum + 1 + (sum >> 63)) >> 1) as i32
+}
+
+/// Writes the mean of two channels of these frames, rounded once, over a channel of as many frames of other channels. None
+/// is clipped.
+#[inline(always)]
+pub(crate) fn place_mean(
+    from: &[i32],
+    shape: ChannelShape,
+    first: usize,
+    second: usize,
+    to: &mut [i32],
+    place: Place,
+)
+    requires first { first < shape.channels }
+    requires second { second < shape.channels }
+    requires inputs { shape.channels ≤ 16 }
+    requires from { shape.count * shape.channels ≤ length from.now }
+    requires place { place.channel < place.channels }
+    requires outputs { place.channels ≤ 16 }
+    requires to { shape.count * place.channels ≤ length to.old }
+    ensures put { (i : ℕ) → i < shape.count → slice_index_or to.new (i * place.channels + place.channel) (pos 0) ≡ (rounding (slice_index_or from.now (i * shape.channels + first) (pos 0) +ℤ slice_index_or from.now (i * shape.channels + second) (pos 0)) 2).0 }
+    ensures unclipped { (i : ℕ) → i < shape.count → (rounding (slice_index_or from.now (i * shape.channels + first) (pos 0) +ℤ slice_index_or from.now (i * shape.channels + second) (pos 0)) 2).1 ≡ false }
+    ensures others { (k : ℕ) → IsOtherPlace place.channels place.channel shape.count k → slice_index_or to.new k (pos 0) ≡ slice_index_or to.old k (pos 0) }
+{
+    let mut left = first;
+    let mut right = second;
+    let mut at = place.channel;
+    'frames: for _turn in 0..shape.count {
+        to[at] = halved(i64::from(from[left]) + i64::from(from[right]));
+        left += shape.channels;
+        right += shape.channels;
+        at += place.channels;
+    }
+}

@@ -1,0 +1,134 @@
+//! The effect `dcshift` of sox(1): each sample plus a shift.
+ghost use Rattle.std.specs.Prelude.{◌≡◌, ◌*◌, ◌^◌, ◌≤◌, ℤ, unsigned_abs, Ok, IfOk, IfErr};
+ghost use Rattle.fx_fixed.specs.Rounding.{clipping};
+ghost use Rattle.fx_frame_stage.specs.Stage.{Freezes, IsNew};
+ghost use Rattle.fx_tap_pointwise.specs.Mapped.{IsMapState, MapState};
+ghost use Rattle.fx_tap_pointwise.specs.PerSample.{SampleArguments};
+ghost use Rattle.fx_tap_pointwise.specs.DcShift.{shifted_sample};
+ghost use Rattle.fx_tap_pointwise.specs.DcShiftState.{dcshift_acts, leaves_half, raised, steps_of};
+
+pub mod words;
+
+use crate::mapped::Mapped;
+use crate::per_sample::{PerSample, SamplesAfter, SamplesMany, Sampling};
+use fx_fixed::{Gain, UNIT};
+use fx_frame::{ThawFault, WideFrame};
+use std::marker::Model;
+
+/// A shift, ready to be added: whole steps of a sample, and whether half a step is left.
+#[derive(Drop)]
+pub struct Shift {
+    shift: Gain,
+    steps: i64,
+    is_half: bool,
+}
+
+impl Model for Shift {
+    ghost use Rattle.std.specs.Prelude.{◌≡◌, ◌^◌, ◌≤◌, ℤ, unsigned_abs};
+    ghost use Rattle.fx_fixed.specs.declared.gains.TheConstants.{UNIT};
+    ghost use Rattle.fx_tap_pointwise.specs.DcShift.{units_of};
+    ghost use Rattle.fx_tap_pointwise.specs.DcShiftState.{leaves_half, steps_of};
+
+    ghost Value = { ℤ };
+
+    ghost view = { λ s. s.shift };
+
+    ghost invariant = { λ s. (unsigned_abs s.steps ≤ 2 ^ 33) × (s.steps ≡ steps_of UNIT (units_of s.shift)) × (s.is_half ≡ leaves_half UNIT (units_of s.shift)) };
+}
+
+impl Shift {
+    /// A shift from -2 to 2.
+    fn of(shift: Gain) -> Shift
+        requires { unsigned_abs shift ≤ 2 * UNIT }
+        ensures { result ≡ shift }
+    {
+        let (steps, is_half) = steps_in(i128::from(shift.trillionths()) * 0x8000_0000);
+        Shift {
+            shift,
+            steps,
+            is_half,
+        }
+    }
+}
+
+/// The whole steps of a shift in units, and whether exactly half a step is left.
+fn steps_in(units: i128) -> (i64, bool)
+    requires { unsigned_abs units ≤ 2 ^ 32 * UNIT }
+    ensures steps { result.0 ≡ steps_of UNIT units }
+    ensures half { result.1 ≡ leaves_half UNIT units }
+    ensures bound { unsigned_abs result.0 ≤ 2 ^ 33 }
+{
+    let unit = i128::from(UNIT);
+    let floor = units.div_euclid(unit) as i64;
+    let over = units.rem_euclid(unit);
+    if 2 * over > unit {
+        return (floor + 1, false);
+    }
+    (floor, 2 * over == unit)
+}
+
+impl Sampling for Shift {
+    ghost rounded = { shifted_sample };
+
+    fn round(&self, sample: i32) -> (i32, bool) {
+        clipped(raised(self.is_half, i64::from(sample) + self.steps))
+    }
+}
+
+impl SamplesAfter for Shift {}
+
+impl SamplesMany for Shift {}
+
+/// The nearest integer to a sum and, where there is one, half a step beyond it, which is rounded away from zero.
+#[inline(always)]
+fn raised(is_half: bool, sum: i64) -> i64
+    requires { unsigned_abs sum ≤ 2 ^ 34 }
+    ensures { result ≡ raised is_half sum }
+{
+    if is_half && sum >= 0 {
+        return sum + 1;
+    }
+    sum
+}
+
+/// The number clipped to the range of a sample, and whether it was clipped.
+#[inline(always)]
+fn clipped(sum: i64) -> (i32, bool)
+    ensures { result ≡ clipping sum }
+{
+    let sample = sum.clamp(i64::from(i32::MIN), i64::from(i32::MAX));
+    (sample as i32, sample != sum)
+}
+
+/// The stage of `dcshift`: each sample plus the shift, of which 1 is the greatest amplitude, rounded once. A sample that
+/// is clipped counts for one clip.
+pub type DcShift = Mapped<PerSample<Shift>>;
+
+impl Mapped<PerSample<Shift>> {
+    /// The stage for frames of 1 to 16 channels, with a shift from -2 to 2. Allocates no memory.
+    pub fn new(channels: usize, shift: Gain) -> DcShift
+        requires channels { (1 ≤ channels) × (channels ≤ 16) }
+        requires shift { unsigned_abs shift ≤ 2 * UNIT }
+        ensures { IsNew dcshift_acts (record { channels = channels; sampling = shift }) result }
+    {
+        Mapped::each(channels, Shift::of(shift))
+    }
+
+    /// The stage that stored these frames and counted these numbers: whichever stage of these channels and this shift they
+    /// came from, that stage is restored. BadSnapshot where there is no such stage. Allocates no memory.
+    pub fn thaw(
+        channels: usize,
+        shift: Gain,
+        frames: &[WideFrame],
+        numbers: &[u64; 8],
+    ) -> Result<DcShift, ThawFault>
+        requires channels { (1 ≤ channels) × (channels ≤ 16) }
+        requires shift { unsigned_abs shift ≤ 2 * UNIT }
+        ensures recipe { IfOk result (λ t. dcshift_acts.recipe t ≡ record { channels = channels; sampling = shift }) }
+        ensures frozen { IfOk result (λ t. Freezes dcshift_acts t frames.now numbers.now) }
+        ensures thawed { (s : MapState (SampleArguments ℤ)) → IsMapState (λ m. m.channels) s → dcshift_acts.recipe s ≡ record { channels = channels; sampling = shift } → Freezes dcshift_acts s frames.now numbers.now → result ≡ Ok s }
+        ensures refused { IfErr result (λ e. e ≡ ThawFault.BadSnapshot) }
+    {
+        Mapped::each_thawed(channels, Shift::of(shift), frames, numbers)
+    }
+}

@@ -1,0 +1,382 @@
+//! Memoryless effects: one frame out for each frame in, and no line.
+ghost use Rattle.std.specs.Prelude.{◌≡◌, ◌≤◌, ◌*◌, ◌^◌, ℕ, drop, length, Ok, IfOk, IfErr};
+ghost use Rattle.fx_frame_stage.specs.Frame.{Samples};
+ghost use Rattle.fx_frame_lists.specs.Lists.{pieces};
+ghost use Rattle.fx_frame_stage.specs.Stage.{Freezes, Given, IsNew};
+ghost use Rattle.fx_frame.specs.Made.{clips_in, made_of};
+
+use fx_frame::{Counters, Feeds, Frame, Passed, Passing, Stage, ThawFault, WideFrame};
+use fx_frame_stage::feed::{feed_by_frames, frame_at, put_frame};
+use fx_frame_stage::pending::{stored_pending, thawed_pending};
+use fx_frame_stage::stage::MAX_TAKEN;
+use std::marker::Model;
+
+/// What an effect makes of a frame, independent of its history.
+pub trait Mapping {
+    /// The channels of the frames that it takes.
+    ghost inputs: { Self → ℕ };
+
+    /// The channels of the frames that it makes.
+    ghost outputs: { Self → ℕ };
+
+    /// What it makes of a frame.
+    ghost mapped: { Self → Samples → Given };
+
+    /// The frame that it makes of a frame, and how many of its samples were clipped.
+    fn map(&self, frame: Frame) -> (Frame, u64)
+        requires { length frame ≡ inputs self.now }
+        ensures frame { result.0 ≡ (mapped self.now frame).samples }
+        ensures clips { result.1 ≡ (mapped self.now frame).clips }
+        ensures bound { result.1 ≤ 16 }
+        ensures channels { length result.0 ≡ outputs self.now };
+
+    /// Writes the samples of the frame that it makes of those of a frame, and counts how many were clipped.
+    fn map_into(&self, frame: &[i32], out: &mut [i32]) -> u64
+        requires frame { length frame.now ≡ inputs self.now }
+        requires out { length out.old ≡ outputs self.now }
+        ensures frame { out.new ≡ (mapped self.now frame.now).samples }
+        ensures clips { result ≡ (mapped self.now frame.now).clips }
+        ensures bound { result ≤ 16 };
+
+    /// Writes the samples of the frame that it makes of those of a frame over them, and counts how many were clipped.
+    #[inline(never)] // so that the loop over frames stays small enough for its stages to be inlined
+    fn map_over(&self, samples: &mut [i32]) -> u64
+        requires frame { (1 ≤ length samples.old) × (length samples.old ≤ 16) }
+        requires inputs { length samples.old ≡ inputs self.now }
+        requires outputs { length samples.old ≡ outputs self.now }
+        ensures frame { samples.new ≡ (mapped self.now samples.old).samples }
+        ensures clips { result ≡ (mapped self.now samples.old).clips }
+        ensures bound { result ≤ 16 }
+    {
+        let channels = samples.len();
+        let (made, clips) = self.map(frame_at(samples, 0, channels));
+        put_frame(samples, 0, &made);
+        clips
+    }
+
+    /// The channels of the frames that it takes.
+    fn in_channels(&self) -> usize
+        ensures { result ≡ inputs self.now };
+
+    /// The channels of the frames that it makes.
+    fn out_channels(&self) -> usize
+        ensures value { result ≡ outputs self.now }
+        ensures frame { (1 ≤ result) × (result ≤ 16) };
+}
+
+/// A mapping that makes many frames in one call.
+pub trait MapsMany: Mapping {
+    /// Maps `count` frames from the front of the input to the front of the output, and counts their clips.
+    fn map_many(&self, input: &[i32], output: &mut [i32], count: usize) -> u64
+        requires channels { (1 ≤ Self.inputs self.now) × (Self.inputs self.now ≤ 16) }
+        requires bound { count ≤ 2 ^ 56 }
+        requires input { count * Self.inputs self.now ≤ length input.now }
+        requires output { count * Self.outputs self.now ≤ length output.old }
+        ensures frames { pieces (Self.outputs self.now) count output.new ≡ made_of (Self.mapped self.now) (pieces (Self.inputs self.now) count input.now) }
+        ensures rest_unchanged { drop (count * Self.outputs self.now) output.new ≡ drop (count * Self.outputs self.now) output.old }
+        ensures clips { result ≡ clips_in (Self.mapped self.now) (pieces (Self.inputs self.now) count input.now) }
+        ensures bound { result ≤ 16 * count }
+    {
+        map_by_frames(self, input, output, count)
+    }
+
+    /// Maps `count` frames in place, and counts their clips, where it keeps the number of channels.
+    fn map_many_over(&self, samples: &mut [i32], count: usize) -> u64
+        requires channels { (1 ≤ Self.inputs self.now) × (Self.inputs self.now ≤ 16) }
+        requires keeps { Self.outputs self.now ≡ Self.inputs self.now }
+        requires bound { count ≤ 2 ^ 56 }
+        requires samples { length samples.old ≡ count * Self.inputs self.now }
+        ensures frames { pieces (Self.inputs self.now) count samples.new ≡ made_of (Self.mapped self.now) (pieces (Self.inputs self.now) count samples.old) }
+        ensures clips { result ≡ clips_in (Self.mapped self.now) (pieces (Self.inputs self.now) count samples.old) }
+        ensures bound { result ≤ 16 * count }
+    {
+        let channels = self.in_channels();
+        let mut clips = 0;
+        'frames: for turn in 0..count {
+            let at = turn * channels;
+            clips += self.map_over(&mut samples[at..at + channels]);
+        }
+        clips
+    }
+}
+
+/// What `map_many` does, for any mapping, one frame at a time.
+pub fn map_by_frames<M: Mapping>(
+    mapping: &M,
+    input: &[i32],
+    output: &mut [i32],
+    count: usize,
+) -> u64
+    requires channels { (1 ≤ M.inputs mapping.now) × (M.inputs mapping.now ≤ 16) }
+    requires bound { count ≤ 2 ^ 56 }
+    requires input { count * M.inputs mapping.now ≤ length input.now }
+    requires output { count * M.outputs mapping.now ≤ length output.old }
+    ensures frames { pieces (M.outputs mapping.now) count output.new ≡ made_of (M.mapped mapping.now) (pieces (M.inputs mapping.now) count input.now) }
+    ensures rest_unchanged { drop (count * M.outputs mapping.now) output.new ≡ drop (count * M.outputs mapping.now) output.old }
+    ensures clips { result ≡ clips_in (M.mapped mapping.now) (pieces (M.inputs mapping.now) count input.now) }
+    ensures bound { result ≤ 16 * count }
+{
+    let inputs = mapping.in_channels();
+    let outputs = mapping.out_channels();
+    let mut read = 0;
+    let mut written = 0;
+    let mut clips = 0;
+    'frames: for _turn in 0..count {
+        let frame = &input[read..read + inputs];
+        clips += mapping.map_into(frame, &mut output[written..written + outputs]);
+        read += inputs;
+        written += outputs;
+    }
+    clips
+}
+
+/// The stage of a memoryless effect. It takes up to `2^56` frames.
+#[derive(Drop)]
+pub struct Mapped<M: Mapping + Drop> {
+    pending: Option<Frame>,
+    pending_clips: u64,
+    taken: u64,
+    given: u64,
+    clips: u64,
+    ended: bool,
+    mapping: M,
+}
+
+impl<M: Mapping + Drop> Model for Mapped<M> {
+    ghost use Rattle.fx_tap_pointwise.specs.Mapped.{MapState, IsMapState};
+
+    ghost Value = { MapState M };
+
+    ghost view = { λ s. record { mapping = s.mapping; pending = s.pending; pending_clips = s.pending_clips; taken = s.taken; given = s.given; clips = s.clips; ended = s.ended } };
+
+    ghost invariant = { λ s. IsMapState M.outputs (record { mapping = s.mapping; pending = s.pending; pending_clips = s.pending_clips; taken = s.taken; given = s.given; clips = s.clips; ended = s.ended }) };
+}
+
+impl<M: Mapping + Drop> Mapped<M> {
+    ghost use Rattle.fx_tap_pointwise.specs.Mapped.{MapState, IsMapState, map_acts};
+
+    /// The stage of a mapping.
+    pub(crate) fn of(mapping: M) -> Mapped<M>
+        ensures { IsNew (map_acts M.inputs M.outputs M.mapped) mapping result }
+    {
+        Mapped {
+            pending: None,
+            pending_clips: 0,
+            taken: 0,
+            given: 0,
+            clips: 0,
+            ended: false,
+            mapping,
+        }
+    }
+
+    /// The stage of a mapping that stored these frames and counted these numbers. BadSnapshot where there is none.
+    pub(crate) fn thawed(
+        mapping: M,
+        frames: &[WideFrame],
+        numbers: &[u64; 8],
+    ) -> Result<Mapped<M>, ThawFault>
+        ensures recipe { IfOk result (λ t. t.mapping ≡ mapping) }
+        ensures frozen { IfOk result (λ t. Freezes (map_acts M.inputs M.outputs M.mapped) t frames.now numbers.now) }
+        ensures thawed { (s : MapState M) → IsMapState M.outputs s → s.mapping ≡ mapping → Freezes (map_acts M.inputs M.outputs M.mapped) s frames.now numbers.now → result ≡ Ok s }
+        ensures refused { IfErr result (λ e. e ≡ ThawFault.BadSnapshot) }
+    {
+        let [
+            taken,
+            given,
+            ended,
+            clips,
+            held,
+            pending_clips,
+            second_counter,
+            third_counter,
+        ] = *numbers;
+        if ended > 1 || second_counter != 0 || third_counter != 0 || held != frames.len() as u64 {
+            return Err(ThawFault::BadSnapshot);
+        }
+        if taken > MAX_TAKEN || given > taken || held != taken - given {
+            return Err(ThawFault::BadSnapshot);
+        }
+        if pending_clips > 16 || clips > 16 * given {
+            return Err(ThawFault::BadSnapshot);
+        }
+        if (held == 0 && pending_clips != 0) || (held != 0 && ended != 0) {
+            return Err(ThawFault::BadSnapshot);
+        }
+        let pending = thawed_pending(frames, mapping.out_channels())?;
+        Ok(Mapped {
+            pending,
+            pending_clips,
+            taken,
+            given,
+            clips,
+            ended: ended == 1,
+            mapping,
+        })
+    }
+}
+
+impl<M: Mapping + Drop> Mapped<M> {
+    ghost use Rattle.std.specs.Prelude.{◌+◌, None};
+    ghost use Rattle.fx_tap_pointwise.specs.Mapped.{IsMapState};
+    ghost use Rattle.fx_frame.specs.Kinds.{max_taken};
+
+    /// What it makes of a frame.
+    #[inline(always)]
+    pub(crate) fn mapping(&self) -> &M
+        ensures value { result.now ≡ self.now.mapping }
+        ensures sound { IsMapState M.outputs self.now }
+    {
+        &self.mapping
+    }
+
+    /// Counts frames that it took and gave, and how many of their samples were clipped.
+    #[inline(always)]
+    pub(crate) fn count_passed(&mut self, count: usize, clips: u64)
+        requires dry { self.old.pending ≡ None }
+        requires bound { self.old.taken + count ≤ max_taken }
+        requires clips_max { clips ≤ 16 * count }
+        ensures { self.new ≡ record self.old { taken = self.old.taken + count; given = self.old.given + count; clips = self.old.clips + clips } }
+    {
+        self.taken += count as u64;
+        self.given += count as u64;
+        self.clips += clips;
+    }
+}
+
+impl<M: Mapping + Drop> Stage for Mapped<M> {
+    ghost use Rattle.fx_tap_pointwise.specs.Mapped.{IsMapState, map_acts};
+
+    ghost Recipe = { M };
+
+    ghost acts = { map_acts M.inputs M.outputs M.mapped };
+
+    ghost sound = { λ s. IsMapState M.outputs s };
+
+    ghost rises = { λ r m n h. h };
+
+    fn take(&mut self, frame: Frame) {
+        let (made, clips) = self.mapping.map(frame);
+        let _channels = made.channels();
+        self.pending = Some(made);
+        self.pending_clips = clips;
+        self.taken += 1;
+    }
+
+    fn end(&mut self) {
+        self.ended = true;
+    }
+
+    fn give(&mut self) -> Option<Frame> {
+        let frame = self.pending?;
+        self.pending = None;
+        self.given += 1;
+        self.clips += self.pending_clips;
+        self.pending_clips = 0;
+        Some(frame)
+    }
+
+    fn is_dry(&self) -> bool {
+        self.pending.is_none()
+    }
+
+    #[inline(always)]
+    fn counter_values(&self) -> Counters {
+        Counters {
+            taken: self.taken,
+            given: self.given,
+            clips: self.clips,
+            ended: self.ended,
+        }
+    }
+
+    fn is_spent(&self) -> bool {
+        false
+    }
+
+    fn held(&self) -> u64 {
+        u64::from(self.pending.is_some())
+    }
+
+    fn hold(&self) -> u64 {
+        1
+    }
+
+    fn in_channels(&self) -> usize {
+        self.mapping.in_channels()
+    }
+
+    fn out_channels(&self) -> usize {
+        self.mapping.out_channels()
+    }
+
+    fn state_counters(&self) -> [u64; 3] {
+        [self.pending_clips, 0, 0]
+    }
+
+    fn stored(&self, j: usize) -> WideFrame {
+        stored_pending(self.pending, j)
+    }
+}
+
+impl<M: MapsMany + Drop> Feeds for Mapped<M> {
+    fn feed(&mut self, input: &[i32], output: &mut [i32]) -> Passed {
+        let inputs = self.mapping.in_channels();
+        let outputs = self.mapping.out_channels();
+        if self.pending.is_some() || self.pending_clips != 0 || self.ended || outputs == 0 {
+            return feed_by_frames(self, input, output);
+        }
+        let count = (input.len() / inputs).min(output.len() / outputs);
+        self.clips += self.mapping.map_many(input, output, count);
+        self.taken += count as u64;
+        self.given += count as u64;
+        Passed {
+            taken: count,
+            given: count,
+        }
+    }
+
+    fn pass(&mut self, frame: &mut Frame) -> Passing {
+        let (made, clips) = self.mapping.map(*frame);
+        let _channels = made.channels();
+        *frame = made;
+        self.taken += 1;
+        self.given += 1;
+        self.clips += clips;
+        Passing::Through
+    }
+
+    #[inline(always)]
+    fn pass_samples(&mut self, samples: &mut [i32]) -> Passing {
+        self.clips += self.mapping.map_over(samples);
+        self.taken += 1;
+        self.given += 1;
+        Passing::Through
+    }
+
+    #[inline(always)]
+    fn pass_places(&mut self, places: &mut [i32; 16], channels: &mut usize) -> Passing {
+        let samples = *places;
+        let outputs = self.mapping.out_channels();
+        let made = &mut places[..outputs];
+        self.clips += self.mapping.map_into(&samples[..*channels], made);
+        *channels = outputs;
+        self.taken += 1;
+        self.given += 1;
+        Passing::Through
+    }
+
+    fn pass_frames(&mut self, count: usize, samples: &mut [i32]) {
+        self.clips += self.mapping.map_many_over(samples, count);
+        self.taken += count as u64;
+        self.given += count as u64;
+    }
+
+    fn ahead(&self) -> u64 {
+        u64::MAX
+    }
+
+    fn one_to_one(&self) -> u64 {
+        u64::MAX
+    }
+}

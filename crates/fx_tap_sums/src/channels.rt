@@ -1,0 +1,37 @@
+//! One channel of frames whose samples lie one after another.
+ghost use Rattle.std.specs.Prelude.{◌≡◌, ◌<◌, ◌≤◌, ◌+◌, ◌*◌, ◌^◌, ℕ, pos, length, slice_index_or, unsigned_abs};
+ghost use Rattle.fx_fixed.specs.Rounding.{rounding};
+ghost use Rattle.fx_frame_lists.specs.Lists.{IsOtherPlace, tabulate};
+ghost use Rattle.fx_frame_lists.specs.Rounded.{clips_rounded};
+
+use fx_fixed::inner::Denominator;
+
+/// Writes sums over a denominator, each rounded once, as one channel of as many frames, and counts how many samples were
+/// clipped.
+#[inline(always)]
+pub fn round_channel(
+    sums: &[i64],
+    denominator: &Denominator,
+    channels: usize,
+    channel: usize,
+    out: &mut [i32],
+) -> u64
+    requires channel { channel < channels }
+    requires channels { channels ≤ 16 }
+    requires small { (i : ℕ) → i < length sums.now → unsigned_abs (slice_index_or sums.now i (pos 0)) ≤ 2 ^ 61 }
+    requires out { length sums.now * channels ≤ length out.old }
+    ensures put { (i : ℕ) → i < length sums.now → slice_index_or out.new (i * channels + channel) (pos 0) ≡ (rounding (slice_index_or sums.now i (pos 0)) denominator.now).0 }
+    ensures others { (k : ℕ) → IsOtherPlace channels channel (length sums.now) k → slice_index_or out.new k (pos 0) ≡ slice_index_or out.old k (pos 0) }
+    ensures clips { result ≡ clips_rounded (tabulate (λ i. rounding (slice_index_or sums.now i (pos 0)) denominator.now) 0 (length sums.now)) }
+    ensures bound { result ≤ length sums.now }
+{
+    let mut at = channel;
+    let mut clips = 0;
+    'frames: for place in 0..sums.len() {
+        let (sample, is_clipped) = denominator.round(sums[place]);
+        out[at] = sample;
+        clips += u64::from(is_clipped);
+        at += channels;
+    }
+    clips
+}

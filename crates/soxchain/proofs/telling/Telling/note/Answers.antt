@@ -1,5 +1,0 @@
-use Rattle.soxchain.proofs.TellingLemmas.{Says-three}
-use Rattle.soxchain.proofs.telling.Telling.note.Goals as goal
-
-pub returns : goal.returns
-returns g c = Says-three g.M.ByteOut.writes _ _ _ _ _ _ _ c.text.ensures c.text-2.ensures c.text-3.ensures

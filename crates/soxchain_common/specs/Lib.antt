@@ -1,0 +1,4 @@
+pub mod About
+pub mod Consoles
+pub mod Effects
+pub mod Files

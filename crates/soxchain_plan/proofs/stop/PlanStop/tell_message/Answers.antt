@@ -1,0 +1,10 @@
+use Rattle.soxchain_plan.proofs.stop.PlanStop.tell_message.Goals as goal
+
+pub returns-in-Line : goal.returns-in-Line
+returns-in-Line g c = rw c.in-Line.is (rw (c.label_of_line.ensures) at c.tell_line.ensures)
+
+pub returns-in-CannotOpen : goal.returns-in-CannotOpen
+returns-in-CannotOpen g c = rw c.in-CannotOpen.is c.tell_cannot_open.ensures
+
+pub returns-in-Refused : goal.returns-in-Refused
+returns-in-Refused g c = rw c.in-Refused.is c.tell_refusal.ensures

@@ -1,7 +1,0 @@
-use Rattle.fx_plan.specs.CommandLines.{coefficient_files, effects_in}
-use Rattle.fx_plan.specs.Plans.{bytes_of}
-use Rattle.soxchain_words.proofs.Fronts.{AreSoFar}
-use Rattle.soxchain_words.proofs.files.read_files.Given as goal
-
-abbrev pub invariant-loop-place : goal.invariant-loop-place
-invariant-loop-place g l = AreSoFar (record { opened = g.H.Openings.opened; unopened = g.H.Openings.unopened; closed = g.H.Openings.closed }) g.H.Reader.ByteIn.reads l.fn.host l.host (coefficient_files (effects_in l.line)) (bytes_of l.files.items) l.place

@@ -1,4 +1,0 @@
-pub mod About
-pub mod Desks
-pub mod Effects
-pub mod Files
