@@ -1,3 +1,5 @@
+-- Written by scripts/effects from effects/*.toml. Do not edit.
+-- Each file of this folder is a module.
 pub mod Ceil
 pub mod Downsample
 pub mod DownsampleState
@@ -17,8 +19,8 @@ pub mod Ranges
 pub mod Selected
 pub mod Strides
 pub mod Trim
-pub mod TrimLaws
 pub mod TrimDetermined
+pub mod TrimLaws
 pub mod TrimState
 pub mod TrimWords
 pub mod Upsample

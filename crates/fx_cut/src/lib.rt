@@ -1,3 +1,4 @@
+// Written by scripts/effects from effects/*.toml. Do not edit.
 //! Effects that cut a sound: they give frames unchanged, at other places or not at all.
 #![tactic(auto)]
 

@@ -144,7 +144,7 @@ fn next_selected<S: Selection>(line: &mut Line, selection: &S, frames: u64) -> O
     ensures rest { selected_after S.selects selection.now frames line.old.items [] ≡ map plain (option_to_list result) ++ selected_after S.selects selection.now frames line.new.items [] }
     ensures given { given_before S.selects selection.now frames (frames - length line.old.items) + length (option_to_list result) ≡ given_before S.selects selection.now frames (frames - length line.new.items) }
     ensures empty { result ≡ None → line.new.items ≡ [] }
-    ensures fewer { length (option_to_list result) + length line.new.items ≤ length line.old.items }
+    ensures bound { length (option_to_list result) + length line.new.items ≤ length line.old.items }
     ensures pending { IsPending line.old.channels result }
     ensures line { IsLine w32 line.new }
     ensures capacity { line.new.capacity ≡ line.old.capacity }

@@ -1,8 +1,11 @@
+-- Written by scripts/effects from effects/*.toml. Do not edit.
+-- Each file of this folder is a module.
 pub mod DelayPieces
 pub mod Delaying
 pub mod EchoLaws
 pub mod EchoPieces
 pub mod EchoWeights
+pub mod EchoWords
 pub mod EchosBlocks
 pub mod EchosGiven
 pub mod EchosLaws
@@ -11,7 +14,6 @@ pub mod EchosPieces
 pub mod EchosSeries
 pub mod EchosStored
 pub mod EchosThawed
+pub mod MaxDelay
 pub mod OneEcho
 pub mod SumPieces
-pub mod EchoWords
-pub mod MaxDelay

@@ -1,3 +1,5 @@
+-- Written by scripts/effects from effects/*.toml. Do not edit.
+-- Each file of this folder is a module.
 pub mod Delay
 pub mod DelayExtents
 pub mod DelayState

@@ -1,3 +1,4 @@
+// Written by scripts/effects from effects/*.toml. Do not edit.
 //! Effects whose output frame depends on the input frame and on earlier ones: each sample is one exact fraction, rounded once.
 #![tactic(auto)]
 

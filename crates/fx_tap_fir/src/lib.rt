@@ -1,3 +1,4 @@
+// Written by scripts/effects from effects/*.toml. Do not edit.
 //! The effect `fir`: sums of samples times coefficients, each one exact fraction, rounded once.
 #![tactic(auto)]
 

@@ -1,11 +1,13 @@
+-- Written by scripts/effects from effects/*.toml. Do not edit.
+-- Each file of this folder is a module.
 pub mod Blocks
 pub mod BothLaws
 pub mod Fractions
+pub mod InSpecs
 pub mod MapLaws
 pub mod MixLaws
 pub mod MixPieces
 pub mod ProperRounding
-pub mod Shifting
-pub mod RemixWords
 pub mod RemixParts
-pub mod InSpecs
+pub mod RemixWords
+pub mod Shifting

@@ -1,3 +1,4 @@
+// Written by scripts/effects from effects/*.toml. Do not edit.
 //! Memoryless effects: each output frame depends on one input frame. Each sample is one exact fraction, rounded once.
 #![tactic(auto)]
 

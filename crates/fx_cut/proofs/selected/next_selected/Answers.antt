@@ -11,7 +11,7 @@ pub returns-then-is_some-clause-given : goal.returns-then-is_some-clause-given
 returns-then-is_some-clause-given g c =
     let selects = g.S.Selection.selects in
     let n = c.frames.invariant.counted in
-    let h : length c.frames.line.items ≤ c.args.frames = let a = c.frames.invariant.fewer in let b = c.requires in omega arith in
+    let h : length c.frames.line.items ≤ c.args.frames = let a = c.frames.invariant.bound in let b = c.requires in omega arith in
     let value = rw n at c.selected_in-selected.ensures.value in
     ap (λ m. m + length (option_to_list c.selected_in-selected.result)) c.frames.invariant.given
     ∙ given-popped selects c.args.selection.now c.args.frames c.frames.line.items c.pop_front.new.self.items c.in-Some.oldest c.selected_in-selected.result c.in-Some.ensures.oldest c.in-Some.ensures.items h value
@@ -20,7 +20,7 @@ pub frames-preserved : goal.frames-preserved
 frames-preserved g c =
     let selects = g.S.Selection.selects in
     let n = c.frames.invariant.counted in
-    let f = c.frames.invariant.fewer in
+    let f = c.frames.invariant.bound in
     let h : length c.frames.line.items ≤ c.args.frames = let b = c.requires in omega arith in
     let value = rw n at c.selected_in-selected.ensures.value in
     let none = none-of c.selected_in-selected.result (sym c.if-is_some.ensures) in
@@ -34,7 +34,7 @@ frames-preserved g c =
           ∙ ap (λ o. map plain (option_to_list o) ++ selected_after selects c.args.selection.now c.args.frames c.pop_front.new.self.items []) none;
       given = c.frames.invariant.given ∙ omega (arith, k, nothing);
       counted = omega arith;
-      fewer = omega arith;
+      bound = omega arith;
       lined = c.len-held.ensures.line;
       capacity = c.in-Some.ensures.capacity ∙ c.frames.invariant.capacity;
       channels = c.in-Some.ensures.channels ∙ c.frames.invariant.channels;

@@ -11,7 +11,7 @@ invariant-frames g l =
       rest : selected_after selects l.selection l.fn.frames l.fn.line.items [] ≡ selected_after selects l.selection l.fn.frames l.line.items [];
       given : given_before selects l.selection l.fn.frames (l.fn.frames - length l.fn.line.items) ≡ given_before selects l.selection l.fn.frames (l.fn.frames - length l.line.items);
       counted : l.left ≡ length l.line.items;
-      fewer : length l.line.items ≤ length l.fn.line.items;
+      bound : length l.line.items ≤ length l.fn.line.items;
       lined : IsLine w32 l.line;
       capacity : l.line.capacity ≡ l.fn.line.capacity;
       channels : l.line.channels ≡ l.fn.line.channels;

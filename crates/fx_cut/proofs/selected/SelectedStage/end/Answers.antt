@@ -12,4 +12,4 @@ invariant_of-self g c =
     let within = is.within in
     let next = c.next_selected-self-inside.ensures in
     let e : c.self.inside.given ≡ c.self.inside.given + length (option_to_list c.self.inside.pending) = omega arith in
-    IsSelect-over g.S.Selection.selects _ _ _ c.self.inside.given is (omega arith) (e ∙ due) next.given next.empty next.fewer next.pending next.line next.capacity next.channels
+    IsSelect-over g.S.Selection.selects _ _ _ c.self.inside.given is (omega arith) (e ∙ due) next.given next.empty next.bound next.pending next.line next.capacity next.channels
