@@ -4,8 +4,8 @@ use Rattle.std.specs.List.{All}
 use Rattle.fx_chain.specs.Chain.{ChainParts, IsChain}
 use Rattle.fx_chain_flow.specs.Parts.{max_of, work}
 use Rattle.fx_chain_flow.specs.Sound.{IsPlanned}
-use Rattle.fx_frame_stage.specs.Holds.{hold_sum, kinds, line_sum, recipes, total}
-use Rattle.fx_frame_stage.specs.Stage.{StageKind}
+use Rattle.fx_frame_base.specs.Holds.{hold_sum, kinds, line_sum, recipes, total}
+use Rattle.fx_frame_base.specs.Stage.{StageKind}
 use Rattle.fx_plan_effects.specs.Bounds.{hold_all, is_too_long, work_of}
 use Rattle.fx_plan_effects.specs.Effects.{Act, Usable, channels_after}
 use Rattle.fx_plan_effects.specs.Meanings.{kind_at, line_of_act}

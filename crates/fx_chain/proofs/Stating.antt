@@ -3,21 +3,21 @@ use Rattle.std.proofs.Common.{◌≡◌, ℕ, zero, suc, ◌+◌, ◌*◌, ◌/�
 use Rattle.std.proofs.lemmas.List.{length-map, length-take-le, take-append-drop, take-map, take_all}
 use Rattle.std.proofs.lemmas.Nat.{le-div}
 use Rattle.std.specs.Prelude.{IfErr, IfOk, MatchBool, Result, Ok, Err, sum}
-use Rattle.fx_frame_io.specs.declared.coding.Coding.{Coding}
-use Rattle.fx_frame_io.specs.declared.coding.Coding.TheVariants.{U8, S8, S16Le, S16Be, S24Le, S24Be, S32Le, S32Be}
-use Rattle.fx_frame_stage.specs.Frame.{Samples}
-use Rattle.fx_sound_heads.specs.FrameCoding.{frame_size, coded_samples}
-use Rattle.fx_frame_stage.specs.Holds.{kinds, recipes, total}
-use Rattle.fx_frame_lists.specs.Lists.{pieces}
-use Rattle.fx_frame_stage.specs.Stage.{StageKind}
+use Rattle.fx_frame_base.specs.declared.coding.Coding.{Coding}
+use Rattle.fx_frame_base.specs.declared.coding.Coding.TheVariants.{U8, S8, S16Le, S16Be, S24Le, S24Be, S32Le, S32Be}
+use Rattle.fx_frame_base.specs.Frame.{Samples}
+use Rattle.fx_sound.specs.FrameCoding.{frame_size, coded_samples}
+use Rattle.fx_frame_base.specs.Holds.{kinds, recipes, total}
+use Rattle.fx_frame_base.specs.Lists.{pieces}
+use Rattle.fx_frame_base.specs.Stage.{StageKind}
 use Rattle.fx_chain_flow.specs.Parts.{Parts, moves_of}
 use Rattle.fx_chain_flow.specs.Composed.{Whole, due_of, enough_for}
 use Rattle.fx_chain_flow.specs.Steps.{IsDone, rest_of, wholes_of}
 use Rattle.fx_plan.specs.Planning.{Planning}
 use Rattle.fx_chain_stages.specs.declared.registry.EffectStage.{EffectStage}
 use Rattle.fx_chain_stages.specs.Stages.{effect_acts}
-use Rattle.fx_sound_heads.specs.declared.head.Head.{Head}
-use Rattle.fx_sound_heads.specs.Known.{IfKnown}
+use Rattle.fx_sound.specs.declared.head.Head.{Head}
+use Rattle.fx_sound.specs.Known.{IfKnown}
 use Rattle.fx_sound.proofs.RunLaws.{first_frames-within}
 use Rattle.fx_sound.specs.Sound.{lacking, within_sound}
 use Rattle.fx_chain_run.specs.declared.report.Report.{Report}
@@ -33,7 +33,7 @@ use Rattle.fx_chain_run.proofs.Passing.{WantsMore-next}
 use Rattle.fx_chain_run.proofs.Reaching.{clips-reached}
 use Rattle.fx_chain.proofs.Constants.{maximum-frames}
 use Rattle.fx_chain.specs.Theorem.{Broken, Due, Ran, frames_read, given_due, kinds_of, lacks, reported, reported_due, sound_in, strays, until_enough, written_due}
-use Rattle.fx_frame_lists.proofs.Pieces.{length-pieces, pieces-first}
+use Rattle.fx_frame_base.proofs.Pieces.{length-pieces, pieces-first}
 
 -- a frame takes some bytes
 frame-some : (coding : Coding) (channels : ℕ) → 0 < channels → 0 < frame_size coding channels

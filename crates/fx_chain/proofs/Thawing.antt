@@ -3,7 +3,7 @@ use Rattle.std.proofs.Common.{◌≡◌, ℕ, ◌≤◌, List, map, length, fals
 use Rattle.fx_chain.specs.Chain.{ChainParts, IsChain, planned}
 use Rattle.fx_chain_flow.specs.Frozen.{AllMade}
 use Rattle.fx_chain_flow.specs.Parts.{Parts}
-use Rattle.fx_frame_stage.specs.Holds.{recipes}
+use Rattle.fx_frame_base.specs.Holds.{recipes}
 use Rattle.fx_plan_effects.specs.Bounds.{is_too_long}
 use Rattle.fx_plan_effects.specs.Effects.{Act}
 use Rattle.fx_plan.specs.Planning.{Planning}

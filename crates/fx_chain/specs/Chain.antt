@@ -4,8 +4,8 @@ use Rattle.fx_chain_run.specs.declared.target.Target.{Target}
 use Rattle.fx_chain_flow.specs.Parts.{AllNew, Parts, given_by, taken_of}
 use Rattle.fx_chain_flow.specs.Composed.{Whole, composed, composed_wholes}
 use Rattle.fx_chain_flow.specs.Steps.{IsHungry, rest_of, wholes_of}
-use Rattle.fx_frame_stage.specs.Frame.{Samples}
-use Rattle.fx_frame_stage.specs.Holds.{recipes}
+use Rattle.fx_frame_base.specs.Frame.{Samples}
+use Rattle.fx_frame_base.specs.Holds.{recipes}
 use Rattle.fx_plan_effects.specs.Bounds.{is_too_long}
 use Rattle.fx_plan.specs.Planning.{Planning}
 use Rattle.fx_chain_stages.specs.declared.registry.EffectStage.{EffectStage}

@@ -13,15 +13,15 @@ use Rattle.fx_chain_run.specs.Through.{Reached}
 use Rattle.fx_chain_flow.specs.Parts.{AllNew, Parts, moves_of, taken_of}
 use Rattle.fx_chain_flow.specs.Composed.{Whole, due_of, enough_for}
 use Rattle.fx_chain_flow.specs.Steps.{IsDone, IsHungry, rest_of, wholes_of}
-use Rattle.fx_frame_stage.specs.Frame.{Samples}
-use Rattle.fx_sound_heads.specs.FrameCoding.{frame_size}
-use Rattle.fx_frame_stage.specs.Holds.{recipes, total}
-use Rattle.fx_frame_stage.specs.Stage.{StageKind}
+use Rattle.fx_frame_base.specs.Frame.{Samples}
+use Rattle.fx_sound.specs.FrameCoding.{frame_size}
+use Rattle.fx_frame_base.specs.Holds.{recipes, total}
+use Rattle.fx_frame_base.specs.Stage.{StageKind}
 use Rattle.fx_plan.specs.Planning.{Planning}
-use Rattle.fx_sound_heads.specs.declared.head.Head.{Head}
+use Rattle.fx_sound.specs.declared.head.Head.{Head}
 use Rattle.fx_sound.specs.Container.{frames_of_sound, ReadAllDelivered}
 use Rattle.fx_sound.specs.Sound.{lacking, within_sound}
-use Rattle.fx_sound_heads.specs.Source.{Held}
+use Rattle.fx_sound.specs.Source.{Held}
 use Rattle.fx_chain_stages.specs.declared.registry.EffectStage.{EffectStage}
 use Rattle.fx_plan_effects.specs.Meanings.{kind_at, meaning_at}
 use Rattle.fx_chain_stages.specs.Stages.{effect_acts}

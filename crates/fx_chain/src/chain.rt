@@ -1,15 +1,15 @@
 //! The chain of a plan's effects.
 ghost use Rattle.std.specs.Prelude.{◌≡◌, ◌<◌, ◌≤◌, ◌+◌, ◌-◌, ◌*◌, ℕ, false, drop, IfOk, List, Some, [], length, map, option_to_list, slice_index, true};
 ghost use Rattle.fx_chain.specs.Chain.{IsNewChain};
-ghost use Rattle.fx_chain_flow.specs.Feed.{FlowFed, FlowTookWithinCapacity, GaveLast};
-ghost use Rattle.fx_frame_stage.specs.Pipeline.{outputs_of};
-ghost use Rattle.fx_frame_lists.specs.Lists.{pieces};
+ghost use Rattle.fx_chain_flow.specs.Feed.{FlowFed, FlowTookWithinSpace, GaveLast};
+ghost use Rattle.fx_frame_base.specs.Pipeline.{outputs_of};
+ghost use Rattle.fx_frame_base.specs.Lists.{pieces};
 ghost use Rattle.fx_chain_flow.specs.Parts.{AllNew, Parts, any_spent, given_by, moves_of, taken_of};
 ghost use Rattle.fx_chain_flow.specs.Composed.{due_of, enough_for};
 ghost use Rattle.fx_chain_flow.specs.Sound.{max_frames};
 ghost use Rattle.fx_chain_flow.specs.Steps.{IsDone, IsHungry, MovedOn, StateIs, Steps, StepsInSequence, rest_of, wholes_of};
-ghost use Rattle.fx_frame_stage.specs.Frame.{Samples};
-ghost use Rattle.fx_frame_stage.specs.Holds.{capacity_sum, held_sum, kinds, total};
+ghost use Rattle.fx_frame_base.specs.Frame.{Samples};
+ghost use Rattle.fx_frame_base.specs.Holds.{capacity_sum, held_sum, kinds, total};
 ghost use Rattle.fx_plan_effects.specs.Bounds.{hold_all, work_of};
 ghost use Rattle.fx_plan_effects.specs.Meanings.{line_of_act};
 ghost use Rattle.fx_plan.specs.Planning.{planning};
@@ -119,7 +119,7 @@ impl Chain {
         ensures waits { let outputs = outputs_of self.old.plan.head.channels (kinds effect_acts self.old.flow.stages) in result.given * outputs + outputs ≤ length output.new → StateIs effect_acts State.Busy self.new.flow → ⊥ }
         ensures used { let outputs = outputs_of self.old.plan.head.channels (kinds effect_acts self.old.flow.stages) in result.given * outputs + outputs ≤ length output.new → self.new.flow.ended ≡ false → any_spent effect_acts self.new.flow.stages ≡ false
             → length input.now < result.taken * self.old.plan.head.channels + self.old.plan.head.channels }
-        ensures free { FlowTookWithinCapacity effect_acts self.old.flow result.taken (length output.old) }
+        ensures free { FlowTookWithinSpace effect_acts self.old.flow result.taken (length output.old) }
         ensures unchanged { length output.old < outputs_of self.old.plan.head.channels (kinds effect_acts self.old.flow.stages) → self.new ≡ self.old }
         ensures full { let outputs = outputs_of self.old.plan.head.channels (kinds effect_acts self.old.flow.stages) in 1 ≤ result.given → length output.old < result.given * outputs + outputs
             → GaveLast effect_acts self.old.flow (pieces self.old.plan.head.channels result.taken input.now) (pieces outputs result.given output.new) self.new.flow }

@@ -1,18 +1,18 @@
 //! A whole sound through the chain of a plan.
 ghost use Rattle.std.specs.Prelude.{◌≡◌, ◌≢◌, ◌+◌, ◌*◌, ◌≤◌, IfErr, IfOk, MatchResult, OnOk, Some, true};
 ghost use Rattle.fx_chain.specs.Chain.{IsNewChain, target_for};
-ghost use Rattle.fx_frame_io.specs.Io.{saturated};
+ghost use Rattle.fx_frame_base.specs.Io.{saturated};
 ghost use Rattle.fx_chain_run.specs.Report.{Completed, HasCause, ReadBefore, Stands, StoppedAt, after_reported, cause_of, clips_now, report_at, report_in, start_of};
 ghost use Rattle.fx_chain_run.specs.Run.{WantsMore, sound_frames};
 ghost use Rattle.fx_sound.specs.Container.{ReadAllDelivered};
 ghost use Rattle.fx_chain.specs.Theorem.{Ran};
 ghost use Rattle.fx_chain_flow.specs.Parts.{given_by, moves_of, taken_of};
 ghost use Rattle.fx_chain_flow.specs.Steps.{IsDone, IsHungry};
-ghost use Rattle.fx_frame_stage.specs.Holds.{kinds};
+ghost use Rattle.fx_frame_base.specs.Holds.{kinds};
 ghost use Rattle.fx_plan_effects.specs.Bounds.{work_of};
 ghost use Rattle.fx_plan.specs.Planning.{planning};
-ghost use Rattle.fx_sound_heads.specs.Known.{IfKnown};
-ghost use Rattle.fx_sound_heads.specs.Source.{HoldsWhatCame, to_come};
+ghost use Rattle.fx_sound.specs.Known.{IfKnown};
+ghost use Rattle.fx_sound.specs.Source.{HoldsWhatCame, to_come};
 ghost use Rattle.fx_sound.specs.Sound.{size_of};
 ghost use Rattle.fx_chain_stages.specs.Stages.{effect_acts};
 

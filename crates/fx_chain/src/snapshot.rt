@@ -3,7 +3,7 @@ ghost use Rattle.std.specs.Prelude.{◌≡◌, ◌≤◌, ◌+◌, ◌*◌, ◌�
 ghost use Rattle.std.specs.List.{All};
 ghost use Rattle.fx_chain.specs.Chain.{ChainParts};
 ghost use Rattle.fx_chain.specs.Snapshot.{IsSnapshotOf, IsSoundChain};
-ghost use Rattle.fx_frame_stage.specs.Holds.{held_sum};
+ghost use Rattle.fx_frame_base.specs.Holds.{held_sum};
 ghost use Rattle.fx_plan_effects.specs.Bounds.{hold_all};
 ghost use Rattle.fx_plan.specs.Planning.{planning};
 ghost use Rattle.fx_chain_stages.specs.Stages.{effect_acts};
@@ -13,7 +13,7 @@ use crate::chain::Chain;
 use fx_chain_flow::flow::Flow;
 use fx_chain_stages::arguments_of;
 use fx_frame::WideFrame;
-use fx_frame_stage::stage::ThawFault;
+use fx_frame_base::stage::ThawFault;
 use fx_plan::Plan;
 use std::alloc::{AllocError, Global};
 

@@ -3,15 +3,15 @@ use Rattle.std.proofs.Common.{◌≡◌, ◌+◌, ◌-◌, ◌*◌, ◌<◌, ◌
 use Rattle.std.specs.Prelude.{ℤ}
 use Rattle.std.proofs.lemmas.List.{drop-drop, drop_at, length-drop, length-map, length-take-le, take_at}
 use Rattle.std.proofs.Math.Nat.{add-mul, mul-le-mul_right, suc-mul}
-use Rattle.fx_frame_stage.specs.Frame.{Samples}
-use Rattle.fx_frame_stage.specs.Holds.{kinds, recipes}
-use Rattle.fx_frame_lists.specs.Lists.{pieces}
-use Rattle.fx_frame_stage.specs.Stage.{Acts, StageKind}
-use Rattle.fx_frame_lists.proofs.Puts.{pieces-split, drop-put, pieces-more, pieces-put, pieces-same}
-use Rattle.fx_frame_lists.proofs.Pieces.{length-pieces}
-use Rattle.fx_frame_stage.proofs.Capacities.{free-grows}
-use Rattle.fx_chain_flow.specs.Feed.{FlowFed, FlowGave, FlowTookWithinCapacity, GaveLast, Stepped, TookIn, stepped, taken_in, untouched}
-use Rattle.fx_frame_stage.specs.Pipeline.{outputs_of}
+use Rattle.fx_frame_base.specs.Frame.{Samples}
+use Rattle.fx_frame_base.specs.Holds.{kinds, recipes}
+use Rattle.fx_frame_base.specs.Lists.{pieces}
+use Rattle.fx_frame_base.specs.Stage.{Acts, StageKind}
+use Rattle.fx_frame_base.proofs.Puts.{pieces-split, drop-put, pieces-more, pieces-put, pieces-same}
+use Rattle.fx_frame_base.proofs.Pieces.{length-pieces}
+use Rattle.fx_frame_base.proofs.Capacities.{free-grows}
+use Rattle.fx_chain_flow.specs.Feed.{FlowFed, FlowGave, FlowTookWithinSpace, GaveLast, Stepped, TookIn, stepped, taken_in, untouched}
+use Rattle.fx_frame_base.specs.Pipeline.{outputs_of}
 use Rattle.fx_chain_flow.specs.Parts.{PipelineFed, HandedOver, Parts, ended_of, given_by, moves_of, taken_of, work}
 use Rattle.fx_chain_flow.specs.Composed.{due_of, enough_for}
 use Rattle.fx_chain_flow.proofs.Laws.{recipes-EndPassed, recipes-Fed, recipes-HandedOver}
@@ -331,7 +331,7 @@ module _ {S R : Type 0} (acts : Acts S R) (first : Parts S) (input start : List 
 
   -- frames were taken while there was room, and behind them more in the room that was left
   pub Turned-free : (f : Parts S) (out : List ℤ) (read written count number n free : ℕ) → Turned f out read written count number
-      → FlowTookWithinCapacity acts first count free → FlowTookWithinCapacity acts f n (free - written) → written ≤ free → FlowTookWithinCapacity acts first (count + n) free
+      → FlowTookWithinSpace acts first count free → FlowTookWithinSpace acts f n (free - written) → written ≤ free → FlowTookWithinSpace acts first (count + n) free
   Turned-free f out read written count number n free t before after within i bound = elim (cases_lt i count) [
     | inl less ↦ before i less
     | inr more ↦

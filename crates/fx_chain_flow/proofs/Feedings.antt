@@ -3,17 +3,17 @@ use Rattle.std.proofs.Common.{◌≡◌, ◌+◌, ◌-◌, ◌*◌, ◌<◌, ◌
 use Rattle.std.proofs.lemmas.Bool.{false_from_ne_true}
 use Rattle.std.specs.Prelude.{ℤ}
 use Rattle.std.proofs.lemmas.List.{length-map, map-append}
-use Rattle.fx_frame_stage.specs.Feed.{Fed, GaveNext, IsHeld, TookNext, TookWithinCapacity, nothing, taken, given}
-use Rattle.fx_frame_stage.specs.Frame.{Samples}
-use Rattle.fx_frame_stage.specs.Holds.{kinds}
-use Rattle.fx_frame_lists.specs.Lists.{pieces}
-use Rattle.fx_frame_stage.specs.Stage.{Acts, Counts, Given as GivenFrame, after_taking, kind, spent}
-use Rattle.fx_frame_lists.proofs.Pieces.{length-pieces}
-use Rattle.fx_frame_stage.proofs.Feeding.{none-fit}
-use Rattle.fx_frame_stage.proofs.FedLaws.{Fed-gives, Fed-none, total-append}
-use Rattle.fx_frame_stage.proofs.Capacities.{free-grows, free-some}
-use Rattle.fx_chain_flow.specs.Feed.{FlowTookWithinCapacity, FedOnly, FlowFed, FlowGave, GaveLast, HoldsBound, Stepped, TookIn, stepped, taken_in, untouched}
-use Rattle.fx_frame_stage.specs.Pipeline.{outputs_of}
+use Rattle.fx_frame_base.specs.Feed.{Fed, GaveNext, IsHeld, TookNext, TookWithinSpace, nothing, taken, given}
+use Rattle.fx_frame_base.specs.Frame.{Samples}
+use Rattle.fx_frame_base.specs.Holds.{kinds}
+use Rattle.fx_frame_base.specs.Lists.{pieces}
+use Rattle.fx_frame_base.specs.Stage.{Acts, Counts, Given as GivenFrame, after_taking, kind, spent}
+use Rattle.fx_frame_base.proofs.Pieces.{length-pieces}
+use Rattle.fx_frame_base.proofs.Feeding.{none-fit}
+use Rattle.fx_frame_base.proofs.FedLaws.{Fed-gives, Fed-none, total-append}
+use Rattle.fx_frame_base.proofs.Capacities.{free-grows, free-some}
+use Rattle.fx_chain_flow.specs.Feed.{FlowTookWithinSpace, FedOnly, FlowFed, FlowGave, GaveLast, HoldsBound, Stepped, TookIn, stepped, taken_in, untouched}
+use Rattle.fx_frame_base.specs.Pipeline.{outputs_of}
 use Rattle.fx_chain_flow.specs.Parts.{Parts, any_spent}
 use Rattle.fx_chain_flow.specs.Composed.{Whole, enough_for, frames_of, clips_given}
 use Rattle.fx_chain_flow.specs.Runs.{flow_of}
@@ -75,7 +75,7 @@ module _ {S R : Type 0} (acts : Acts S R) where
       alone-gave channels left first t t' ys hs g (left + length ys) gave (alone-fed channels left first t ys hs held count fed)
 
   -- a frame was taken last only where the output had room for another
-  took-free : (first t : S) (ys hs : List Samples) (free : ℕ) → Fed acts first ys hs t → (acts.counts t).given ≡ (kind acts t).due (acts.counts t).taken → TookWithinCapacity acts first (length ys + 1) free → length hs * (kind acts first).outputs + (kind acts first).outputs ≤ free
+  took-free : (first t : S) (ys hs : List Samples) (free : ℕ) → Fed acts first ys hs t → (acts.counts t).given ≡ (kind acts t).due (acts.counts t).taken → TookWithinSpace acts first (length ys + 1) free → length hs * (kind acts first).outputs + (kind acts first).outputs ≤ free
   took-free first t ys hs free fed due took =
       let all = Fed-gives acts first t ys hs fed in
       let many : length all.whole ≡ length hs = simp length-map at (ap length all.frames) in
@@ -86,7 +86,7 @@ module _ {S R : Type 0} (acts : Acts S R) where
       omega (arith, rw count at fits_out, suc-mul (length hs) (kind acts first).outputs)
 
   -- once the output is full, what the flow did last was to give
-  alone-last : (channels left free : ℕ) (first s : S) (xs gs : List Samples) → IsHeld acts first → (acts.counts first).taken ≡ left → Fed acts first xs gs s → TookWithinCapacity acts first (length xs) free → 1 ≤ length gs → free < length gs * (kind acts first).outputs + (kind acts first).outputs
+  alone-last : (channels left free : ℕ) (first s : S) (xs gs : List Samples) → IsHeld acts first → (acts.counts first).taken ≡ left → Fed acts first xs gs s → TookWithinSpace acts first (length xs) free → 1 ≤ length gs → free < length gs * (kind acts first).outputs + (kind acts first).outputs
       → GaveLast acts (alone channels first left) xs gs (alone channels s (left + length xs))
   alone-last channels left free first s xs gs held count nothing took some full = absurd (omega (arith, some))
   alone-last channels left free first s xs gs held count (taken ys hs x t t' fed next) took some full =
@@ -199,7 +199,7 @@ module _ {S R : Type 0} (acts : Acts S R) where
   only-used channels left count number input old new stages stages' sound h free none = absurd h
 
   pub only-free : (channels left count number : ℕ) (input old new : List ℤ) (stages stages' : List S) → IsSound acts (flow_of acts channels stages left) → FedOnly acts input old new count number stages stages'
-      → FlowTookWithinCapacity acts (flow_of acts channels stages left) count (length old)
+      → FlowTookWithinSpace acts (flow_of acts channels stages left) count (length old)
   only-free channels left count number input old new (s ∷ []) (s' ∷ []) sound h n bound =
       let joined = sound.joined in
       let same : left + 0 + n ≡ (acts.counts s).taken + n = omega (arith, joined.0) in
@@ -222,7 +222,7 @@ module _ {S R : Type 0} (acts : Acts S R) where
   only-unchanged channels left count number input old new stages stages' h same bound = absurd h
 
   -- without a stage as many frames are taken as have room
-  pub none-free : (channels left count free : ℕ) → count * channels ≤ free → FlowTookWithinCapacity acts (flow_of acts channels [] left) count free
+  pub none-free : (channels left count free : ℕ) → count * channels ≤ free → FlowTookWithinSpace acts (flow_of acts channels [] left) count free
   none-free channels left count free fits n bound = free-grows (left + 0 + n - left) count channels free (omega (arith, bound)) fits
 
   -- without a stage each frame goes straight through

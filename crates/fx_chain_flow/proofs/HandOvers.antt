@@ -1,7 +1,7 @@
 use Rattle.std.proofs.Common.{ℕ, zero, suc, ◌+◌, ◌-◌, sub-one, ◌<◌, ◌≤◌, true, false, List, [], ◌∷◌, ◌≡◌, length, drop, take, get_or, arith, refl, ap, ◌∙◌, Option, Some, None}
 use Rattle.std.proofs.Math.ListN.{set}
-use Rattle.fx_frame_stage.specs.Frame.{Samples}
-use Rattle.fx_frame_stage.specs.Stage.{Counts, Acts, Gave, Took, Ended, IsDry, kind}
+use Rattle.fx_frame_base.specs.Frame.{Samples}
+use Rattle.fx_frame_base.specs.Stage.{Counts, Acts, Gave, Took, Ended, IsDry, kind}
 use Rattle.fx_chain_flow.specs.Parts.{AllDry, AllDetermined, AllEnded, IsLastWet, IsFirstOpen, CanHandOver, CanFeed, GaveAt, HandedOver, PipelineFed, EndPassed, through}
 use Rattle.fx_chain_flow.specs.Moving.{CanMove, Lifted, MovedFrom}
 

@@ -1,8 +1,8 @@
 use Rattle.std.proofs.Common.{ℕ, zero, suc, ◌+◌, ◌<◌, ◌≤◌, Bool, true, false, List, [], ◌∷◌, ◌++◌, ◌≡◌, length, map, get_or, add-zero, arith, refl, sym, ap, ◌∙◌, Some, None, Option, option_to_list, ◌&&◌, ◌||◌}
 use Rattle.std.proofs.lemmas.Bool.{and_right}
-use Rattle.fx_frame_stage.specs.Frame.{Samples}
-use Rattle.fx_frame_stage.specs.Stage.{Counts, Acts, Gave, Took, Ended, is_enough, kind}
-use Rattle.fx_frame_stage.specs.Holds.{total, recipes, kinds}
+use Rattle.fx_frame_base.specs.Frame.{Samples}
+use Rattle.fx_frame_base.specs.Stage.{Counts, Acts, Gave, Took, Ended, is_enough, kind}
+use Rattle.fx_frame_base.specs.Holds.{total, recipes, kinds}
 use Rattle.fx_chain_flow.specs.Parts.{Matching, Within, work, max_of, any_spent, through, wholes, given_by, given_of, ended_of, AllDry, AllDetermined, AllEnded, AllNew, IsLastWet, IsFirstOpen, Joined, CanHandOver, HandedOver, CanFeed, PipelineFed, EndPassed}
 use Rattle.fx_chain_flow.specs.Composed.{Whole, frames_of, clips_given, due_of, enough_for}
 

@@ -1,8 +1,8 @@
 use Rattle.std.proofs.Common.{ℕ, zero, suc, ◌+◌, ◌<◌, ◌≤◌, true, List, [], ◌∷◌, ◌≡◌, length, drop, min, cond, nat_eq, add-zero, zero-add, inl, inr, arith, refl, ap, ◌∙◌, Some, None, Option}
 use Prim.Native.Nat.compare
-use Rattle.fx_frame_stage.specs.Frame.{Samples}
-use Rattle.fx_frame_stage.specs.Stage.{Acts}
-use Rattle.fx_frame_stage.specs.Holds.{kinds, recipes, hold_sum}
+use Rattle.fx_frame_base.specs.Frame.{Samples}
+use Rattle.fx_frame_base.specs.Stage.{Acts}
+use Rattle.fx_frame_base.specs.Holds.{kinds, recipes, hold_sum}
 use Rattle.fx_chain_flow.specs.Parts.{Parts, AllDry, AllDetermined, AllNew, IsLastWet, IsWetEnd, IsFirstOpen, HandedOver, PipelineFed, EndPassed, through, wholes}
 use Rattle.fx_chain_flow.specs.Composed.{Whole, frames_of, clips_given, composed, composed_wholes}
 use Rattle.fx_chain_flow.specs.Moving.{CanMove, MovedFrom}

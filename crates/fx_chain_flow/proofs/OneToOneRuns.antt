@@ -6,14 +6,14 @@ use Rattle.std.specs.List.{All}
 use Rattle.std.proofs.lemmas.List.{drop-take, drop_at, length-append, length-drop, length-take-le, take-take, take_at}
 use Rattle.std.proofs.lemmas.List.Elements.{All-drop, All-take}
 use Rattle.std.proofs.Math.Nat.{add-mul, mul-le-mul_right}
-use Rattle.fx_frame_stage.specs.Frame.{Samples}
-use Rattle.fx_frame_stage.specs.Holds.{kinds}
-use Rattle.fx_frame_lists.specs.Lists.{pieces}
-use Rattle.fx_frame_stage.specs.Pipeline.{AreReady, PipelineThrough}
-use Rattle.fx_frame_stage.specs.Stage.{Acts}
-use Rattle.fx_frame_stage.proofs.Evenly.{put-between, put-long}
-use Rattle.fx_frame_lists.proofs.Puts.{pieces-split, drop-put, pieces-same, pieces-take}
-use Rattle.fx_frame_lists.proofs.Pieces.{length-pieces, pieces-front}
+use Rattle.fx_frame_base.specs.Frame.{Samples}
+use Rattle.fx_frame_base.specs.Holds.{kinds}
+use Rattle.fx_frame_base.specs.Lists.{pieces}
+use Rattle.fx_frame_base.specs.Pipeline.{AreReady, PipelineThrough}
+use Rattle.fx_frame_base.specs.Stage.{Acts}
+use Rattle.fx_frame_base.proofs.Evenly.{put-between, put-long}
+use Rattle.fx_frame_base.proofs.Puts.{pieces-split, drop-put, pieces-same, pieces-take}
+use Rattle.fx_frame_base.proofs.Pieces.{length-pieces, pieces-front}
 use Rattle.std.proofs.lemmas.Bool.{cases_lt}
 use mathlib.Core.Logic.{inl, inr}
 use Rattle.fx_chain_flow.specs.Feed.{untouched}

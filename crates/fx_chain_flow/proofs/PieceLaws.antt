@@ -1,11 +1,11 @@
 -- Frames that go through stages piece by piece.
 use Rattle.std.proofs.Common.{ℕ, zero, suc, ◌+◌, ◌<◌, ◌≤◌, ◌≡◌, false, true, List, [], ◌∷◌, get_or, length, drop, set, refl, ap, ◌∙◌, subst, arith}
-use Rattle.fx_frame_stage.specs.declared.feed.Passing.TheVariants.{Through}
-use Rattle.fx_frame_stage.specs.Feed.{IsOneToOne, PassedOn}
-use Rattle.fx_frame_stage.specs.Frame.{Samples}
-use Rattle.fx_frame_stage.specs.Holds.{kinds}
-use Rattle.fx_frame_stage.specs.Pipeline.{AreReady, EachThrough, PipelineThrough, outputs_of}
-use Rattle.fx_frame_stage.specs.Stage.{Acts, Counts, IsDry, is_enough, kind}
+use Rattle.fx_frame_base.specs.declared.feed.Passing.TheVariants.{Through}
+use Rattle.fx_frame_base.specs.Feed.{IsOneToOne, PassedOn}
+use Rattle.fx_frame_base.specs.Frame.{Samples}
+use Rattle.fx_frame_base.specs.Holds.{kinds}
+use Rattle.fx_frame_base.specs.Pipeline.{AreReady, EachThrough, PipelineThrough, outputs_of}
+use Rattle.fx_frame_base.specs.Stage.{Acts, Counts, IsDry, is_enough, kind}
 use Rattle.fx_chain_flow.specs.Parts.{AllDetermined}
 use Rattle.fx_chain_flow.specs.Runs.{AllAhead, AllKeep, AllOneToOne}
 use Rattle.fx_chain_flow.specs.Together.{ThroughAt}

@@ -6,16 +6,16 @@ use Rattle.std.specs.List.{All}
 use Rattle.std.proofs.lemmas.List.{length-drop, length-take-le}
 use Rattle.std.proofs.lemmas.List.Elements.{All-drop, All-take}
 use Rattle.std.proofs.Math.Nat.{mul-le-mul_right, suc-mul}
-use Rattle.fx_frame_stage.specs.Frame.{IsFrame, Samples}
-use Rattle.fx_frame_lists.specs.Lists.{pieces}
-use Rattle.fx_frame_stage.specs.Pipeline.{AreReady, EachThrough, PipelineThrough}
-use Rattle.fx_frame_stage.specs.Stage.{Acts}
-use Rattle.fx_frame_lists.proofs.Puts.{pieces-take}
-use Rattle.fx_frame_lists.proofs.Pieces.{length-pieces}
+use Rattle.fx_frame_base.specs.Frame.{IsFrame, Samples}
+use Rattle.fx_frame_base.specs.Lists.{pieces}
+use Rattle.fx_frame_base.specs.Pipeline.{AreReady, EachThrough, PipelineThrough}
+use Rattle.fx_frame_base.specs.Stage.{Acts}
+use Rattle.fx_frame_base.proofs.Puts.{pieces-take}
+use Rattle.fx_frame_base.proofs.Pieces.{length-pieces}
 use Rattle.fx_chain_flow.specs.Feed.{GaveLast, untouched}
 use Rattle.fx_chain_flow.specs.Parts.{AllDetermined, Parts}
 use Rattle.fx_chain_flow.specs.Pipeline.{WentThrough}
-use Rattle.fx_frame_stage.specs.Holds.{kinds}
+use Rattle.fx_frame_base.specs.Holds.{kinds}
 use Rattle.fx_chain_flow.proofs.Laws.{given_by-due}
 use Rattle.fx_chain_flow.specs.Runs.{AllAhead, GivesOneEach, MayRun, RanOn, flow_of}
 use Rattle.fx_chain_flow.specs.Sound.{IsSound, max_frames}

@@ -1,11 +1,11 @@
 -- A frame that went through stages in a row, as steps of their flow.
 use Rattle.std.proofs.Common.{ℕ, suc, ◌+◌, ◌<◌, ◌≤◌, ◌≡◌, false, List, [], ◌∷◌, ◌++◌, length, refl, sym, ap, ◌∙◌, arith, inl, inr, Option, Some, None, option_to_list, append-nil, append_assoc}
-use Rattle.fx_frame_stage.specs.Feed.{GaveNext, IsHeld}
-use Rattle.fx_frame_stage.specs.Frame.{IsFrame, Samples}
-use Rattle.fx_frame_stage.specs.Holds.{kinds}
-use Rattle.fx_frame_stage.specs.Stage.{Acts}
+use Rattle.fx_frame_base.specs.Feed.{GaveNext, IsHeld}
+use Rattle.fx_frame_base.specs.Frame.{IsFrame, Samples}
+use Rattle.fx_frame_base.specs.Holds.{kinds}
+use Rattle.fx_frame_base.specs.Stage.{Acts}
 use Rattle.fx_chain_flow.specs.Feed.{FlowFed, FlowGave, GaveLast, HoldsBound, Stepped, stepped, taken_in, untouched}
-use Rattle.fx_frame_stage.specs.Pipeline.{outputs_of}
+use Rattle.fx_frame_base.specs.Pipeline.{outputs_of}
 use Rattle.fx_chain_flow.specs.Parts.{AllDetermined, PipelineFed, HandedOver, IsLastWet, Parts, any_spent, ended_of, moves_of, taken_of}
 use Rattle.fx_chain_flow.specs.Composed.{enough_for}
 use Rattle.fx_chain_flow.specs.Pipeline.{WentThrough}

@@ -2,15 +2,15 @@
 use Rattle.std.proofs.Common.{ℕ, zero, suc, ◌+◌, ◌<◌, ◌≤◌, true, false, List, [], ◌∷◌, ◌≡◌, length, drop, get_or, refl, sym, ap, ◌∙◌, subst, arith, inl, inr, Bool, ◌||◌, ◌&&◌, Some, None, option_to_list}
 use Rattle.std.specs.Prelude.{if◌then◌else◌}
 use Rattle.std.proofs.Math.ListN.{set}
-use Rattle.fx_frame_stage.specs.declared.feed.Passing.{Passing}
-use Rattle.fx_frame_stage.specs.declared.feed.Passing.TheVariants.{Kept, Through, More}
-use Rattle.fx_frame_stage.specs.Feed.{GaveNext, IsHeld, PassedOn, TookNext}
-use Rattle.fx_frame_stage.specs.Frame.{Samples}
-use Rattle.fx_frame_stage.specs.Holds.{held_sum, hold_sum, kinds}
-use Rattle.fx_frame_stage.specs.Stage.{Acts, Counts, IsLined, kind, spent}
+use Rattle.fx_frame_base.specs.declared.feed.Passing.{Passing}
+use Rattle.fx_frame_base.specs.declared.feed.Passing.TheVariants.{Kept, Through, More}
+use Rattle.fx_frame_base.specs.Feed.{GaveNext, IsHeld, PassedOn, TookNext}
+use Rattle.fx_frame_base.specs.Frame.{Samples}
+use Rattle.fx_frame_base.specs.Holds.{held_sum, hold_sum, kinds}
+use Rattle.fx_frame_base.specs.Stage.{Acts, Counts, IsLined, kind, spent}
 use Rattle.fx_chain_flow.specs.Parts.{AllDry, Joined, Matching, Within, any_spent}
 use Rattle.fx_chain_flow.specs.Pipeline.{AllLined, WentThrough}
-use Rattle.fx_frame_stage.specs.Pipeline.{AreReady}
+use Rattle.fx_frame_base.specs.Pipeline.{AreReady}
 use Rattle.fx_chain_flow.proofs.Laws.{none_true}
 
 pub neither : (a b : Bool) → a || b ≡ false → (a ≡ false) × (b ≡ false)

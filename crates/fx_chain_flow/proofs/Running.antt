@@ -6,25 +6,25 @@ use Rattle.std.specs.List.{All}
 use Rattle.std.proofs.lemmas.List.{append-nil, append_assoc, drop-drop, drop-take, drop_all, length-append, length-drop, length-take-le, take-take, take_all, take_at}
 use Rattle.std.proofs.lemmas.List.Elements.{All-drop, All-take}
 use Rattle.std.proofs.Math.Nat.{div-mul-le_self, mul-le-mul_right, suc-mul}
-use Rattle.fx_frame_stage.specs.Feed.{GaveNext, TookNext}
-use Rattle.fx_frame_stage.specs.Frame.{IsFrame, Samples}
-use Rattle.fx_frame_stage.specs.Holds.{kinds, recipes}
-use Rattle.fx_frame_lists.specs.Lists.{pieces}
-use Rattle.fx_frame_stage.specs.Stage.{Acts, Counts, IsDry, StageKind, is_enough, kind, spent}
-use Rattle.fx_frame_stage.specs.Pipeline.{AreReady, outputs_of}
+use Rattle.fx_frame_base.specs.Feed.{GaveNext, TookNext}
+use Rattle.fx_frame_base.specs.Frame.{IsFrame, Samples}
+use Rattle.fx_frame_base.specs.Holds.{kinds, recipes}
+use Rattle.fx_frame_base.specs.Lists.{pieces}
+use Rattle.fx_frame_base.specs.Stage.{Acts, Counts, IsDry, StageKind, is_enough, kind, spent}
+use Rattle.fx_frame_base.specs.Pipeline.{AreReady, outputs_of}
 use Rattle.fx_chain_flow.specs.Parts.{AllDry, AllDetermined, any_spent, ended_of, moves_of}
 use Rattle.fx_chain_flow.specs.Pipeline.{WentThrough}
 use Rattle.std.proofs.lemmas.Bool.{cases_lt}
 use Rattle.fx_chain_flow.proofs.Laws.{given_by-due}
-use Rattle.fx_frame_stage.proofs.Capacities.{free-grows}
+use Rattle.fx_frame_base.proofs.Capacities.{free-grows}
 use Rattle.fx_chain_flow.specs.Composed.{due_of}
-use Rattle.fx_chain_flow.specs.Feed.{FlowTookWithinCapacity, GaveLast}
+use Rattle.fx_chain_flow.specs.Feed.{FlowTookWithinSpace, GaveLast}
 use Rattle.fx_chain_flow.specs.Parts.{given_by}
 use Rattle.fx_chain_flow.specs.Runs.{GivesOneEach, AllAhead, AllKeep, MayRun, MayRunPipeline, RanOn, flow_of}
 use Rattle.fx_chain_flow.specs.Sound.{IsSound, max_frames}
 use Rattle.fx_chain_flow.specs.declared.runs.Widths.{Widths}
 use Rattle.fx_chain_flow.proofs.Feeding.{outs, Turned, Turned-kept, Turned-last, Turned-none, Turned-through}
-use Rattle.fx_frame_lists.proofs.Pieces.{length-pieces}
+use Rattle.fx_frame_base.proofs.Pieces.{length-pieces}
 use Rattle.fx_chain_flow.proofs.HandOvers.{AllDetermined-dry}
 use Rattle.fx_chain_flow.proofs.Pipelines.{AllHeld, AreReady-from, CameTo, neither}
 use Rattle.fx_chain_flow.proofs.PipelineSteps.{passed-pipeline, passed-pipeline-last}
@@ -190,7 +190,7 @@ module _ {S R : Type 0} (acts : Acts S R) where
   determined-all i new h all = rw (take_all i new h) at all
 
   -- where before each frame no more is due than one for each that came, and all of them have room
-  pub FlowCapacity-each : (channels left : ℕ) (stages : List S) (count free : ℕ) → GivesOneEach acts stages left count → count * outputs_of channels (kinds acts stages) ≤ free → FlowTookWithinCapacity acts (flow_of acts channels stages left) count free
+  pub FlowCapacity-each : (channels left : ℕ) (stages : List S) (count free : ℕ) → GivesOneEach acts stages left count → count * outputs_of channels (kinds acts stages) ≤ free → FlowTookWithinSpace acts (flow_of acts channels stages left) count free
   FlowCapacity-each channels left stages count free each fits n bound =
       let none : left + 0 + n ≡ left + n = omega arith in
       rw none (free-grows (due_of (kinds acts stages) (left + n) - given_by acts left stages) count (outputs_of channels (kinds acts stages)) free (omega (arith, each n bound, bound)) fits)

@@ -1,9 +1,9 @@
 use Rattle.std.proofs.Common.{ℕ, ◌+◌, ◌-◌, ◌<◌, ◌≤◌, ◌^◌, true, false, List, [], ◌∷◌, ◌++◌, ◌≡◌, length, arith, refl, sym, ap, ◌∙◌, Some, None, Option, option_to_list, map, get_or}
 use Rattle.std.proofs.lemmas.Bool.{false_from_ne_true, true_from_ne_false}
 use Rattle.std.proofs.lemmas.List.{length-map}
-use Rattle.fx_frame_stage.specs.Frame.{Samples}
-use Rattle.fx_frame_stage.specs.Stage.{Acts}
-use Rattle.fx_frame_stage.specs.Holds.{total, recipes, kinds}
+use Rattle.fx_frame_base.specs.Frame.{Samples}
+use Rattle.fx_frame_base.specs.Stage.{Acts}
+use Rattle.fx_frame_base.specs.Holds.{total, recipes, kinds}
 use Rattle.fx_chain_flow.specs.Parts.{Parts, taken_of, work, moves_of, given_by, ended_of, AllDetermined, AllEnded, IsLastWet, IsFirstOpen, CanHandOver, HandedOver, CanFeed, PipelineFed, EndPassed}
 use Rattle.fx_chain_flow.specs.Composed.{Whole}
 use Rattle.fx_chain_flow.specs.Sound.{IsSound}
@@ -11,7 +11,7 @@ use Rattle.fx_chain_flow.specs.Steps.{wholes_of, IsHungry, IsDone, rest_of, Step
 use Rattle.fx_chain_flow.proofs.Laws.{last-HandedOver, last-Fed, last-EndPassed, through-HandedOver, recipes-HandedOver, given-HandedOver, ended-HandedOver, wholes-HandedOver, wholes-Done, given-wholes, clips-wholes, Joined-HandedOver, CanHandOver-from, through-Fed, recipes-Fed, given-Fed, ended-Fed, wholes-Fed, Joined-Fed, CanFeed-from, through-EndPassed, recipes-EndPassed, given-EndPassed, ended-EndPassed, wholes-EndPassed, Joined-EndPassed, Joined-along, work-le}
 use Rattle.fx_chain_flow.proofs.HandOvers.{AllDetermined-dry}
 use Rattle.fx_chain_flow.specs.declared.flow.Step.TheVariants.{Idle}
-use Rattle.fx_frame_stage.proofs.Flags.{flag-le}
+use Rattle.fx_frame_base.proofs.Flags.{flag-le}
 
 -- stages with the same recipes have the same kinds
 pub kinds-stay : {S R : Type 0} (acts : Acts S R) (new old : List S) → recipes acts new ≡ recipes acts old → kinds acts new ≡ kinds acts old

@@ -2,9 +2,9 @@ use Rattle.std.proofs.Common.{ℕ, zero, suc, ◌+◌, ◌*◌, ◌<◌, ◌≡�
 use Rattle.std.specs.Prelude.{slice_index_or, option_to_list}
 use Rattle.std.proofs.lemmas.List.{append-nil, take_more, length-append}
 use Rattle.std.proofs.Math.Seq.{take-append_seam, drop-append_seam}
-use Rattle.fx_frame_stage.specs.Frame.{Samples}
-use Rattle.fx_frame_stage.specs.Stage.{Acts, Freezes, numbers_of}
-use Rattle.fx_frame_stage.specs.Holds.{held_sum}
+use Rattle.fx_frame_base.specs.Frame.{Samples}
+use Rattle.fx_frame_base.specs.Stage.{Acts, Freezes, numbers_of}
+use Rattle.fx_frame_base.specs.Holds.{held_sum}
 use Rattle.fx_chain_flow.specs.Parts.{Parts}
 use Rattle.fx_chain_flow.specs.Sound.{IsSound}
 use Rattle.fx_chain_flow.specs.Inlets.{IsInlet}

@@ -1,8 +1,8 @@
 -- Effects in sequence, each of which takes what the one before gives, by their definitions alone (this project's profile).
 use Rattle.std.specs.Prelude.{ℕ, Bool, false, ◌||◌, List, [], ◌∷◌, length, map}
-use Rattle.fx_frame_stage.specs.Frame.{Samples}
-use Rattle.fx_frame_stage.specs.Holds.{total}
-use Rattle.fx_frame_stage.specs.Stage.{Given, StageKind, is_enough}
+use Rattle.fx_frame_base.specs.Frame.{Samples}
+use Rattle.fx_frame_base.specs.Holds.{total}
+use Rattle.fx_frame_base.specs.Stage.{Given, StageKind, is_enough}
 
 -- the frames without their clips
 abbrev pub frames_of : List Given → List Samples

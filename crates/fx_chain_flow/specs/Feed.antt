@@ -1,11 +1,11 @@
 -- Frames passed to a flow many at a time, and taken from it likewise (this project's profile).
 use Rattle.std.specs.Prelude.{ℕ, ℤ, ◌+◌, ◌-◌, ◌*◌, ◌<◌, ◌≤◌, ◌≡◌, true, false, List, [], ◌∷◌, ◌++◌, drop, length, Some, option_to_list}
-use Rattle.fx_frame_stage.specs.Feed.{Fed, IsHeld, TookWithinCapacity}
-use Rattle.fx_frame_stage.specs.Frame.{Samples}
-use Rattle.fx_frame_stage.specs.Holds.{held_sum, hold_sum, kinds, recipes}
-use Rattle.fx_frame_stage.specs.Pipeline.{outputs_of}
-use Rattle.fx_frame_lists.specs.Lists.{pieces}
-use Rattle.fx_frame_stage.specs.Stage.{Acts, kind, spent}
+use Rattle.fx_frame_base.specs.Feed.{Fed, IsHeld, TookWithinSpace}
+use Rattle.fx_frame_base.specs.Frame.{Samples}
+use Rattle.fx_frame_base.specs.Holds.{held_sum, hold_sum, kinds, recipes}
+use Rattle.fx_frame_base.specs.Pipeline.{outputs_of}
+use Rattle.fx_frame_base.specs.Lists.{pieces}
+use Rattle.fx_frame_base.specs.Stage.{Acts, kind, spent}
 use Rattle.fx_chain_flow.specs.Parts.{Parts, any_spent, given_by, taken_of}
 use Rattle.fx_chain_flow.specs.Composed.{due_of, enough_for}
 use Rattle.fx_chain_flow.specs.Steps.{IsHungry, MovedOn, given_out, rest_of, wholes_of}
@@ -18,8 +18,8 @@ module _ {S R : Type 0} (acts : Acts S R) where
   HoldsBound f = length (option_to_list f.inlet) + held_sum acts f.stages ≤ 1 + hold_sum (kinds acts f.stages)
 
   -- each of the `taken` frames was taken while the free space had a place for one frame more than was due before it
-  abbrev pub FlowTookWithinCapacity : Parts S → ℕ → ℕ → Type 0
-  FlowTookWithinCapacity f taken free =
+  abbrev pub FlowTookWithinSpace : Parts S → ℕ → ℕ → Type 0
+  FlowTookWithinSpace f taken free =
       (n : ℕ) → n < taken → (due_of (kinds acts f.stages) (taken_of f + n) - given_by acts f.left f.stages + 1) * outputs_of f.channels (kinds acts f.stages) ≤ free
 
   -- a hungry flow, no stage of which was spent, and which had not enough, took a frame
@@ -69,7 +69,7 @@ module _ {S R : Type 0} (acts : Acts S R) where
     pub rest_unchanged : drop (given * (kind acts s).outputs) new ≡ drop (given * (kind acts s).outputs) old
     pub dry : given * (kind acts s).outputs + (kind acts s).outputs ≤ length new → acts.dry s' ≡ true
     pub used : given * (kind acts s).outputs + (kind acts s).outputs ≤ length new → (acts.counts s').ended ≡ false → spent acts s' ≡ false → length input < taken * (kind acts s).inputs + (kind acts s).inputs
-    pub free : TookWithinCapacity acts s taken (length old)
+    pub free : TookWithinSpace acts s taken (length old)
 
   -- there is one stage, which may be fed from these samples
   abbrev pub CanFeedOnly : List ℤ → List S → Type 0

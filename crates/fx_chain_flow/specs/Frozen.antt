@@ -1,8 +1,8 @@
 -- What a flow stores and counts (this project's profile): the frame of the inlet, then what each stage stores; eight
 -- numbers of the inlet, then eight of each stage.
 use Rattle.std.specs.Prelude.{ℕ, ◌+◌, Bool, Option, List, [], ◌∷◌, ◌++◌, ◌≡◌, cond, length, option_to_list}
-use Rattle.fx_frame_stage.specs.Frame.{Samples}
-use Rattle.fx_frame_stage.specs.Stage.{Acts, numbers_of}
+use Rattle.fx_frame_base.specs.Frame.{Samples}
+use Rattle.fx_frame_base.specs.Stage.{Acts, numbers_of}
 use Rattle.fx_chain_flow.specs.Parts.{Parts}
 
 -- of an inlet: the frames taken, the frames handed over, 1 after the end and else 0, and the frames stored

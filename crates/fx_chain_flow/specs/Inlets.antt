@@ -1,7 +1,7 @@
 -- The inlet of a flow, restored (this project's profile).
 use Rattle.std.specs.Prelude.{ℕ, ◌+◌, ◌≤◌, true, None, List, ◌≡◌, length, option_to_list}
-use Rattle.fx_frame_stage.specs.Frame.{Samples}
-use Rattle.fx_frame_stage.specs.PendingFrame.{IsPending}
+use Rattle.fx_frame_base.specs.Frame.{Samples}
+use Rattle.fx_frame_base.specs.PendingFrame.{IsPending}
 use Rattle.fx_chain_flow.specs.Sound.{max_frames}
 use Rattle.fx_chain_flow.specs.Frozen.{inlet_numbers}
 use Rattle.fx_chain_flow.specs.declared.frozen.Inlet.{Inlet}

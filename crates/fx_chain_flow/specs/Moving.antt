@@ -1,7 +1,7 @@
 -- One frame in transit from a stage, or from the inlet, to the next stage, or out (this project's profile).
 use Rattle.std.specs.Prelude.{ℕ, zero, suc, Option, Some, None, List, ◌≡◌}
-use Rattle.fx_frame_stage.specs.Frame.{Samples}
-use Rattle.fx_frame_stage.specs.Stage.{Acts}
+use Rattle.fx_frame_base.specs.Frame.{Samples}
+use Rattle.fx_frame_base.specs.Stage.{Acts}
 use Rattle.fx_chain_flow.specs.Parts.{CanHandOver, CanFeed, GaveAt, HandedOver, PipelineFed}
 
 module _ {S R : Type 0} (acts : Acts S R) where

@@ -1,7 +1,7 @@
 use Rattle.std.specs.Prelude.{ℕ, zero, suc, ◌+◌, ◌<◌, ◌≤◌, Bool, true, false, ◌&&◌, ◌||◌, List, [], ◌∷◌, ◌≡◌, length, Option, Some, None, option_to_list, cond}
-use Rattle.fx_frame_stage.specs.Frame.{Samples}
-use Rattle.fx_frame_stage.specs.Stage.{StageKind, Acts, IsNew, Gave, Took, Ended, IsDry, kind, spent}
-use Rattle.fx_frame_stage.specs.Holds.{total}
+use Rattle.fx_frame_base.specs.Frame.{Samples}
+use Rattle.fx_frame_base.specs.Stage.{StageKind, Acts, IsNew, Gave, Took, Ended, IsDry, kind, spent}
+use Rattle.fx_frame_base.specs.Holds.{total}
 use Rattle.fx_chain_flow.specs.Composed.{Whole, clips_given, frames_of}
 
 -- Stages in sequence, each of which takes what the one before gives (this project's profile).

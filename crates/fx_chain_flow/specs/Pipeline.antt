@@ -1,8 +1,8 @@
 -- A frame that goes through stages in sequence, one after another (this project's profile).
 use Rattle.std.specs.Prelude.{◌≡◌, ◌⊎◌, List, [], ◌∷◌, Option, Some, None}
-use Rattle.fx_frame_stage.specs.Feed.{GaveNext, TookNext}
-use Rattle.fx_frame_stage.specs.Frame.{Samples}
-use Rattle.fx_frame_stage.specs.Stage.{Acts, IsLined}
+use Rattle.fx_frame_base.specs.Feed.{GaveNext, TookNext}
+use Rattle.fx_frame_base.specs.Frame.{Samples}
+use Rattle.fx_frame_base.specs.Stage.{Acts, IsLined}
 
 module _ {S R : Type 0} (acts : Acts S R) where
   -- each holds no more frames than the capacity of its line

@@ -1,12 +1,12 @@
 -- Frames that go through stages in sequence one after another, with no checks between two of them (this project's profile).
 use Rattle.std.specs.Prelude.{ℕ, ℤ, ◌+◌, ◌*◌, ◌<◌, ◌≤◌, ◌≡◌, true, false, None, List, [], ◌∷◌, drop, length}
-use Rattle.fx_frame_stage.specs.Feed.{IsOneToOne}
-use Rattle.fx_frame_stage.specs.Frame.{Samples}
-use Rattle.fx_frame_stage.specs.Holds.{kinds}
-use Rattle.fx_frame_lists.specs.Lists.{pieces}
-use Rattle.fx_frame_stage.specs.Pipeline.{outputs_of}
-use Rattle.fx_frame_stage.specs.Stage.{Acts, StageKind, is_enough, kind}
-use Rattle.fx_frame_stage.specs.declared.feed.Passed.{Passed}
+use Rattle.fx_frame_base.specs.Feed.{IsOneToOne}
+use Rattle.fx_frame_base.specs.Frame.{Samples}
+use Rattle.fx_frame_base.specs.Holds.{kinds}
+use Rattle.fx_frame_base.specs.Lists.{pieces}
+use Rattle.fx_frame_base.specs.Pipeline.{outputs_of}
+use Rattle.fx_frame_base.specs.Stage.{Acts, StageKind, is_enough, kind}
+use Rattle.fx_frame_base.specs.declared.feed.Passed.{Passed}
 use Rattle.fx_chain_flow.specs.Composed.{due_of}
 use Rattle.fx_chain_flow.specs.Feed.{FlowFed, FlowGave, GaveLast}
 use Rattle.fx_chain_flow.specs.Parts.{AllDetermined, Parts, ended_of, given_by, moves_of}

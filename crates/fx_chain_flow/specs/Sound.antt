@@ -1,7 +1,7 @@
 use Rattle.std.specs.Prelude.{ℕ, ◌+◌, ◌<◌, ◌≤◌, ◌^◌, true, List, ◌≡◌, None}
-use Rattle.fx_frame_stage.specs.PendingFrame.{IsPending}
-use Rattle.fx_frame_stage.specs.Stage.{Acts, StageKind}
-use Rattle.fx_frame_stage.specs.Holds.{kinds, hold_sum}
+use Rattle.fx_frame_base.specs.PendingFrame.{IsPending}
+use Rattle.fx_frame_base.specs.Stage.{Acts, StageKind}
+use Rattle.fx_frame_base.specs.Holds.{kinds, hold_sum}
 use Rattle.fx_chain_flow.specs.Parts.{Parts, taken_of, Matching, Within, work, Joined}
 
 -- the maximum number of frames that a flow takes

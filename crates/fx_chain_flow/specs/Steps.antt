@@ -1,8 +1,8 @@
 -- What a step does to stages in sequence (this project's profile).
 use Rattle.std.specs.Prelude.{ℕ, ◌+◌, ◌≤◌, true, false, List, [], ◌∷◌, ◌++◌, ◌≡◌, ◌⊎◌, length, Option, Some, None, option_to_list}
-use Rattle.fx_frame_stage.specs.Frame.{Samples}
-use Rattle.fx_frame_stage.specs.Stage.{Acts}
-use Rattle.fx_frame_stage.specs.Holds.{recipes, kinds}
+use Rattle.fx_frame_base.specs.Frame.{Samples}
+use Rattle.fx_frame_base.specs.Stage.{Acts}
+use Rattle.fx_frame_base.specs.Holds.{recipes, kinds}
 use Rattle.fx_chain_flow.specs.Parts.{Parts, taken_of, work, moves_of, ended_of, through, wholes, AllDry, AllDetermined, AllEnded, IsLastWet, IsFirstOpen, HandedOver, PipelineFed, EndPassed, given_by}
 use Rattle.fx_chain_flow.specs.Composed.{Whole}
 use Rattle.fx_chain_flow.specs.declared.flow.State.{State}

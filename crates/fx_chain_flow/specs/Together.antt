@@ -1,10 +1,10 @@
 -- Frames that go through stages in sequence together, all of them through a stage before the first goes through the next (this
 -- project's profile).
 use Rattle.std.specs.Prelude.{ℕ, zero, suc, ◌+◌, ◌≤◌, ◌≡◌, List, [], ◌∷◌, ◌++◌, length}
-use Rattle.fx_frame_stage.specs.Frame.{Samples}
-use Rattle.fx_frame_stage.specs.Holds.{held_sum, hold_sum, kinds}
-use Rattle.fx_frame_stage.specs.Pipeline.{EachThrough}
-use Rattle.fx_frame_stage.specs.Stage.{Acts}
+use Rattle.fx_frame_base.specs.Frame.{Samples}
+use Rattle.fx_frame_base.specs.Holds.{held_sum, hold_sum, kinds}
+use Rattle.fx_frame_base.specs.Pipeline.{EachThrough}
+use Rattle.fx_frame_base.specs.Stage.{Acts}
 
 module _ {S R : Type 0} (acts : Acts S R) where
   -- the stages, with `count` frames in transit between two of them, hold no more than the stages and the inlet may

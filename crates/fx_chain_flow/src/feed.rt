@@ -1,16 +1,16 @@
 //! Frames passed to a flow many at a time.
 ghost use Rattle.std.specs.Prelude.{◌≡◌, ◌<◌, ◌≤◌, ◌+◌, ◌*◌, ℕ, false, drop, length};
-ghost use Rattle.fx_chain_flow.specs.Feed.{FlowFed, FlowGave, FlowTookWithinCapacity, GaveLast};
-ghost use Rattle.fx_frame_stage.specs.Pipeline.{outputs_of};
+ghost use Rattle.fx_chain_flow.specs.Feed.{FlowFed, FlowGave, FlowTookWithinSpace, GaveLast};
+ghost use Rattle.fx_frame_base.specs.Pipeline.{outputs_of};
 ghost use Rattle.fx_chain_flow.specs.Parts.{any_spent, taken_of};
 ghost use Rattle.fx_chain_flow.specs.Sound.{max_frames};
 ghost use Rattle.fx_chain_flow.specs.Steps.{StateIs};
-ghost use Rattle.fx_frame_stage.specs.Holds.{kinds};
-ghost use Rattle.fx_frame_lists.specs.Lists.{pieces};
+ghost use Rattle.fx_frame_base.specs.Holds.{kinds};
+ghost use Rattle.fx_frame_base.specs.Lists.{pieces};
 
 use crate::flow::{Flow, State, Step};
-use fx_frame_stage::feed::put_frame;
-use fx_frame_stage::{Feeds, Passed};
+use fx_frame_base::feed::put_frame;
+use fx_frame_base::{Feeds, Passed};
 
 /// What `feed` does, for any flow, one frame at a time.
 pub fn feed_by_steps<S: Feeds>(flow: &mut Flow<S>, input: &[i32], output: &mut [i32]) -> Passed
@@ -24,7 +24,7 @@ pub fn feed_by_steps<S: Feeds>(flow: &mut Flow<S>, input: &[i32], output: &mut [
     ensures waits { let outputs = outputs_of flow.old.channels (kinds S.acts flow.old.stages) in result.given * outputs + outputs ≤ length output.new → StateIs S.acts State.Busy flow.new → ⊥ }
     ensures used { let outputs = outputs_of flow.old.channels (kinds S.acts flow.old.stages) in result.given * outputs + outputs ≤ length output.new → flow.new.ended ≡ false → any_spent S.acts flow.new.stages ≡ false
         → length input.now < result.taken * flow.old.channels + flow.old.channels }
-    ensures free { FlowTookWithinCapacity S.acts flow.old result.taken (length output.old) }
+    ensures free { FlowTookWithinSpace S.acts flow.old result.taken (length output.old) }
     ensures unchanged { length output.old < outputs_of flow.old.channels (kinds S.acts flow.old.stages) → flow.new ≡ flow.old }
     ensures full { let outputs = outputs_of flow.old.channels (kinds S.acts flow.old.stages) in 1 ≤ result.given → length output.old < result.given * outputs + outputs
         → GaveLast S.acts flow.old (pieces flow.old.channels result.taken input.now) (pieces outputs result.given output.new) flow.new }

@@ -1,11 +1,11 @@
 ghost use Rattle.std.specs.Prelude.{◌≡◌, ◌<◌, ◌≤◌, ◌+◌, ◌-◌, ℕ, true, false, List, [], length, map, slice_index, option_to_list, Option, Some, None, IfOk, OnOk, MatchResult, Err, ◌*◌, drop};
 ghost use Rattle.std.specs.List.{All};
 ghost use Rattle.fx_chain_flow.specs.Frozen.{FreezesFlow, AllMade, AllSound};
-ghost use Rattle.fx_frame_stage.specs.Frame.{Samples};
-ghost use Rattle.fx_frame_stage.specs.Holds.{recipes, kinds, hold_sum, line_sum, held_sum, capacity_sum, total};
-ghost use Rattle.fx_chain_flow.specs.Feed.{FlowFed, FlowGave, FlowTookWithinCapacity, GaveLast};
-ghost use Rattle.fx_frame_stage.specs.Pipeline.{outputs_of};
-ghost use Rattle.fx_frame_lists.specs.Lists.{pieces};
+ghost use Rattle.fx_frame_base.specs.Frame.{Samples};
+ghost use Rattle.fx_frame_base.specs.Holds.{recipes, kinds, hold_sum, line_sum, held_sum, capacity_sum, total};
+ghost use Rattle.fx_chain_flow.specs.Feed.{FlowFed, FlowGave, FlowTookWithinSpace, GaveLast};
+ghost use Rattle.fx_frame_base.specs.Pipeline.{outputs_of};
+ghost use Rattle.fx_frame_base.specs.Lists.{pieces};
 ghost use Rattle.fx_chain_flow.specs.Steps.{step_of};
 
 use crate::feed::feed_by_steps;
@@ -13,17 +13,17 @@ use crate::frozen::{
     HELD, Inlet, append_frames, append_inlet, append_numbers, is_joined, thaw_all, thaw_inlet,
 };
 use crate::moves::{
-    feed_only, first_open, given_by_all, given_by_last, is_any_spent, is_unchanged, last_channels,
+    feed_only, first_open, given_by_all, given_by_last, is_any_spent, is_idle, last_channels,
     move_on, pass_on, see_lined, wet_end,
 };
 use crate::runs::{Widths, keeps_channels, min_ahead, run};
-use fx_frame_stage::feed::copy_frames;
-use fx_frame_stage::frame::Frame;
-use fx_frame_stage::holds::{held_by, hold_by};
-pub use fx_frame_stage::stage::MAX_FRAMES;
-use fx_frame_stage::stage::{Stage, ThawFault, Thaws};
-use fx_frame_stage::wide::WideFrame;
-use fx_frame_stage::{Feeds, Passed};
+use fx_frame_base::feed::copy_frames;
+use fx_frame_base::frame::Frame;
+use fx_frame_base::holds::{held_by, hold_by};
+pub use fx_frame_base::stage::MAX_FRAMES;
+use fx_frame_base::stage::{Stage, ThawFault, Thaws};
+use fx_frame_base::wide::WideFrame;
+use fx_frame_base::{Feeds, Passed};
 use std::alloc::{AllocError, Global};
 use std::marker::Model;
 
@@ -159,7 +159,7 @@ impl<S: Stage> Flow<S> {
         ensures moved { MovedOn S.acts self.old result self.new }
         ensures sequence { (first : Parts S) (n : ℕ) → StepsInSequence S.acts first n self.old → StepsInSequence S.acts first (n + 1) self.new }
     {
-        if is_unchanged(self.wet, &self.inlet) {
+        if is_idle(self.wet, &self.inlet) {
             self.wet = pass_on(&mut self.stages);
             return Step::Idle;
         }
@@ -256,7 +256,7 @@ impl<S: Stage> Flow<S> {
         ensures sound { OnOk result (IsSound S.acts self.now × AllSound S.sound self.now.stages) }
     {
         let held = u64::from(self.inlet.is_some());
-        let state_counters = [
+        let of_inlet = [
             self.taken(),
             self.left,
             u64::from(self.ended),
@@ -267,7 +267,7 @@ impl<S: Stage> Flow<S> {
             0,
         ];
         let mut numbers = Vec::new(alloc);
-        numbers.extend_from_slice(&state_counters)?;
+        numbers.extend_from_slice(&of_inlet)?;
         append_numbers(&self.stages, &mut numbers)?;
         let mut frames = Vec::new(alloc);
         append_inlet(&self.inlet, &mut frames)?;
@@ -316,7 +316,7 @@ impl<S: Feeds> Flow<S> {
         ensures waits { let outputs = outputs_of self.old.channels (kinds S.acts self.old.stages) in result.given * outputs + outputs ≤ length output.new → StateIs S.acts State.Busy self.new → ⊥ }
         ensures used { let outputs = outputs_of self.old.channels (kinds S.acts self.old.stages) in result.given * outputs + outputs ≤ length output.new → self.new.ended ≡ false → any_spent S.acts self.new.stages ≡ false
             → length input.now < result.taken * self.old.channels + self.old.channels }
-        ensures free { FlowTookWithinCapacity S.acts self.old result.taken (length output.old) }
+        ensures free { FlowTookWithinSpace S.acts self.old result.taken (length output.old) }
         ensures unchanged { length output.old < outputs_of self.old.channels (kinds S.acts self.old.stages) → self.new ≡ self.old }
         ensures full { let outputs = outputs_of self.old.channels (kinds S.acts self.old.stages) in 1 ≤ result.given → length output.old < result.given * outputs + outputs
             → GaveLast S.acts self.old (pieces self.old.channels result.taken input.now) (pieces outputs result.given output.new) self.new }
@@ -383,7 +383,7 @@ impl<S: Feeds> Flow<S> {
         ensures rest_unchanged { drop (result.given * outputs_of self.old.channels (kinds S.acts self.old.stages)) output.new ≡ drop (result.given * outputs_of self.old.channels (kinds S.acts self.old.stages)) output.old }
         ensures moves { moves_of S.acts self.old + ended_of S.acts self.old.stages ≤ moves_of S.acts self.new + ended_of S.acts self.new.stages }
         ensures some { 1 ≤ result.taken }
-        ensures free { FlowTookWithinCapacity S.acts self.old result.taken (length output.old) }
+        ensures free { FlowTookWithinSpace S.acts self.old result.taken (length output.old) }
         ensures full { let outputs = outputs_of self.old.channels (kinds S.acts self.old.stages) in 1 ≤ result.given → length output.old < result.given * outputs + outputs
             → GaveLast S.acts self.old (pieces self.old.channels result.taken input.now) (pieces outputs result.given output.new) self.new }
     {

@@ -6,10 +6,10 @@ ghost use Rattle.fx_chain_flow.specs.Inlets.{IsInlet};
 ghost use Rattle.fx_chain_flow.specs.declared.frozen.Inlet.{Inlet};
 
 use crate::flow::MAX_FRAMES;
-use fx_frame_stage::frame::Frame;
-use fx_frame_stage::pending::thawed_pending;
-use fx_frame_stage::stage::{Stage, ThawFault, Thaws};
-use fx_frame_stage::wide::WideFrame;
+use fx_frame_base::frame::Frame;
+use fx_frame_base::pending::thawed_pending;
+use fx_frame_base::stage::{Stage, ThawFault, Thaws};
+use fx_frame_base::wide::WideFrame;
 use std::alloc::{AllocError, Global};
 
 /// The place of the frames held among the eight numbers of an inlet or a stage.

@@ -1,15 +1,15 @@
 ghost use Rattle.std.specs.Prelude.{◌≡◌, ◌<◌, ◌≤◌, ◌↔◌, ◌^◌, ℕ, true, Some, None, drop, length, MatchOption, List};
-ghost use Rattle.fx_frame_stage.specs.Frame.{Samples};
+ghost use Rattle.fx_frame_base.specs.Frame.{Samples};
 ghost use Rattle.fx_chain_flow.specs.Parts.{AllDetermined, AllEnded, IsWetEnd, IsFirstOpen, EndPassed, any_spent, given_by, given_of, through};
 ghost use Rattle.fx_chain_flow.specs.Feed.{CanFeedOnly, FedOnly};
-ghost use Rattle.fx_frame_stage.specs.Pipeline.{outputs_of};
+ghost use Rattle.fx_frame_base.specs.Pipeline.{outputs_of};
 ghost use Rattle.fx_chain_flow.specs.Moving.{CanMove, Lifted, MovedFrom};
 ghost use Rattle.fx_chain_flow.specs.Pipeline.{AllLined};
-ghost use Rattle.fx_frame_stage.specs.Holds.{kinds};
+ghost use Rattle.fx_frame_base.specs.Holds.{kinds};
 
-use fx_frame_stage::frame::Frame;
-use fx_frame_stage::stage::Stage;
-use fx_frame_stage::{Feeds, Passed};
+use fx_frame_base::frame::Frame;
+use fx_frame_base::stage::Stage;
+use fx_frame_base::{Feeds, Passed};
 
 /// One place after the last stage that is not dry, or 0 where all are dry. From that place on all are dry.
 #[inline(always)]
@@ -109,7 +109,7 @@ pub fn pass_on<S: Stage>(stages: &mut [S]) -> usize
 
 /// Whether nothing is to be moved, neither from a stage nor from the inlet.
 #[inline(always)]
-pub fn is_unchanged(wet: usize, inlet: &Option<Frame>) -> bool
+pub fn is_idle(wet: usize, inlet: &Option<Frame>) -> bool
     ensures { result ≡ true ↔ ((wet ≡ 0) × (inlet.now ≡ None)) }
 {
     wet == 0 && inlet.is_none()

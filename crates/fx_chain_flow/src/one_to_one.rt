@@ -1,15 +1,15 @@
 //! Frames that go through stages a few at a time, as long as each stage gives one frame for each that it takes.
 ghost use Rattle.std.specs.Prelude.{◌≡◌, ◌+◌, ◌*◌, ◌≤◌, ℕ, drop, length};
-ghost use Rattle.fx_frame_stage.specs.Holds.{held_sum, hold_sum, kinds};
-ghost use Rattle.fx_frame_lists.specs.Lists.{pieces};
-ghost use Rattle.fx_frame_stage.specs.Pipeline.{AreReady, PipelineThrough};
+ghost use Rattle.fx_frame_base.specs.Holds.{held_sum, hold_sum, kinds};
+ghost use Rattle.fx_frame_base.specs.Lists.{pieces};
+ghost use Rattle.fx_frame_base.specs.Pipeline.{AreReady, PipelineThrough};
 ghost use Rattle.fx_chain_flow.specs.Parts.{AllDetermined};
 ghost use Rattle.fx_chain_flow.specs.Pipeline.{AllLined};
 ghost use Rattle.fx_chain_flow.specs.Runs.{AllAhead, AllKeep, AllOneToOne, MayRun, RanOn};
 ghost use Rattle.fx_chain_flow.specs.Together.{CameTogether, WentInGroups};
 
-use fx_frame_stage::Feeds;
-use fx_frame_stage::feed::see_samples;
+use fx_frame_base::Feeds;
+use fx_frame_base::feed::see_samples;
 
 /// For how many frames more, at most `maximum`, each stage gives one for each.
 pub fn min_one_to_one<S: Feeds>(stages: &[S], maximum: usize) -> usize
@@ -61,7 +61,7 @@ fn pass_batch<S: Feeds>(
 /// They go a few at a time, all of them through a stage before the first goes through the next: as many as the inlet and the
 /// stages can hold as pending frames together, so that with the frames of the lines there are never more than the flow may
 /// hold.
-pub fn run_steadily<S: Feeds>(
+pub fn run_one_to_one<S: Feeds>(
     stages: &mut [S],
     channels: usize,
     count: usize,

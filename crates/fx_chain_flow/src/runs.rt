@@ -1,17 +1,17 @@
 //! Frames that go through stages one after another, with no checks between two of them.
 ghost use Rattle.std.specs.Prelude.{◌≡◌, ◌<◌, ◌≤◌, ℕ, Some, None, true, false, take, if◌then◌else◌};
-ghost use Rattle.fx_frame_stage.specs.Pipeline.{AreReady, outputs_of};
+ghost use Rattle.fx_frame_base.specs.Pipeline.{AreReady, outputs_of};
 ghost use Rattle.fx_chain_flow.specs.Parts.{AllDetermined};
 ghost use Rattle.fx_chain_flow.specs.Pipeline.{WentThrough};
 ghost use Rattle.fx_chain_flow.specs.Runs.{AllAhead, AllKeep, MayRunPipeline, RanPipeline};
-ghost use Rattle.fx_frame_stage.specs.Feed.{PassedOn};
-ghost use Rattle.fx_frame_stage.specs.Holds.{kinds};
-ghost use Rattle.fx_frame_stage.specs.Stage.{IsDry, kind, spent};
+ghost use Rattle.fx_frame_base.specs.Feed.{PassedOn};
+ghost use Rattle.fx_frame_base.specs.Holds.{kinds};
+ghost use Rattle.fx_frame_base.specs.Stage.{IsDry, kind, spent};
 
-use crate::one_to_one::{min_one_to_one, run_steadily};
-use fx_frame_stage::feed::{copy_samples, see_samples};
-use fx_frame_stage::stage::Stage;
-use fx_frame_stage::{Feeds, Passed, Passing};
+use crate::one_to_one::{min_one_to_one, run_one_to_one};
+use fx_frame_base::feed::{copy_samples, see_samples};
+use fx_frame_base::stage::Stage;
+use fx_frame_base::{Feeds, Passed, Passing};
 
 /// The result of passing a frame through stages.
 #[derive(Clone, Copy)]
@@ -218,7 +218,7 @@ fn run_apart<S: Feeds>(
     if !widths.keeps || one_to_one == 0 {
         return run_by_frames(stages, widths, count, input, output);
     }
-    run_steadily(stages, widths.inputs, one_to_one, input, output);
+    run_one_to_one(stages, widths.inputs, one_to_one, input, output);
     Passed {
         taken: one_to_one,
         given: one_to_one,

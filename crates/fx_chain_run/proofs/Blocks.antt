@@ -3,27 +3,27 @@ use Rattle.std.proofs.Common.{◌≡◌, ℕ, ◌+◌, ◌-◌, ◌*◌, ◌<◌
 use Rattle.std.proofs.lemmas.Bool.{cases_lt}
 use Rattle.std.proofs.lemmas.List.{append_assoc, append-nil, length-append}
 use Rattle.std.specs.Prelude.{Option, Some}
-use Rattle.fx_frame_io.specs.declared.coding.Coding.{Coding}
-use Rattle.fx_frame_stage.specs.Frame.{Samples}
-use Rattle.fx_frame_stage.specs.Holds.{kinds, recipes}
-use Rattle.fx_frame_io.specs.Io.{ByteReader}
-use Rattle.fx_frame_stage.specs.Stage.{Acts}
+use Rattle.fx_frame_base.specs.declared.coding.Coding.{Coding}
+use Rattle.fx_frame_base.specs.Frame.{Samples}
+use Rattle.fx_frame_base.specs.Holds.{kinds, recipes}
+use Rattle.fx_frame_base.specs.Io.{ByteReader}
+use Rattle.fx_frame_base.specs.Stage.{Acts}
 use Rattle.fx_chain_flow.proofs.Feeding.{FlowGave-none}
 use Rattle.fx_chain_flow.specs.Feed.{FlowFed, FlowGave, stepped, taken_in, untouched}
 use Rattle.fx_chain_flow.specs.Parts.{Parts, given_by, taken_of}
 use Rattle.fx_chain_flow.specs.Composed.{enough_for}
 use Rattle.fx_chain_flow.specs.Steps.{given_out, rest_of, wholes_of}
-use Rattle.fx_sound_heads.proofs.Held.{Takes-both, Takes-turn}
+use Rattle.fx_sound.proofs.Held.{Takes-both, Takes-turn}
 use Rattle.fx_sound.proofs.Sending.{Sent-put}
 use Rattle.fx_sound.proofs.Sounds.{first_frames-add, held-next, held-passed, length-first_frames}
 use Rattle.fx_sound.specs.Container.{after_frames, first_frames}
 use Rattle.fx_sound.specs.Output.{Pending, SendsOn, bytes_put}
 use Rattle.fx_sound.specs.Runs.{RanFrames}
 use Rattle.fx_sound.proofs.RunLaws.{Ran-block, Ran-start, Ran-turn, Takes-none, after_frames-add, after_frames-more}
-use Rattle.fx_frame_stage.specs.declared.stage.TheConstants.{MAX_FRAMES}
-use Rattle.fx_sound_heads.specs.Known.{IfKnown}
+use Rattle.fx_frame_base.specs.declared.stage.TheConstants.{MAX_FRAMES}
+use Rattle.fx_sound.specs.Known.{IfKnown}
 use Rattle.fx_sound.specs.Sound.{Reading, TakesFrame, after_frame, size_of}
-use Rattle.fx_sound_heads.specs.Source.{Held, Takes, to_come}
+use Rattle.fx_sound.specs.Source.{Held, Takes, to_come}
 use Rattle.fx_chain_run.specs.Block.{Blocked}
 use Rattle.fx_chain_run.specs.FrameWriter.{coded, coded_clips}
 use Rattle.fx_chain_run.specs.Pump.{Pumped, PumpedFront, Start}

@@ -2,11 +2,11 @@
 use Rattle.std.proofs.Common.{◌≡◌, ℕ, ◌+◌, ◌≤◌, ◌^◌, map, List, [], ◌∷◌, ◌++◌, refl, sym, ap, ◌∙◌, arith}
 use Rattle.std.proofs.lemmas.List.{append_assoc, append-nil, length-append}
 use Rattle.std.specs.Prelude.{Option}
-use Rattle.fx_frame_io.specs.declared.coding.Coding.{Coding}
-use Rattle.fx_frame_stage.specs.Frame.{Samples}
-use Rattle.fx_sound_heads.specs.FrameCoding.{bytes_of, clips_of}
-use Rattle.fx_frame_stage.specs.Stage.{Acts}
-use Rattle.fx_frame_stage.specs.Holds.{kinds, recipes}
+use Rattle.fx_frame_base.specs.declared.coding.Coding.{Coding}
+use Rattle.fx_frame_base.specs.Frame.{Samples}
+use Rattle.fx_sound.specs.FrameCoding.{bytes_of, clips_of}
+use Rattle.fx_frame_base.specs.Stage.{Acts}
+use Rattle.fx_frame_base.specs.Holds.{kinds, recipes}
 use Rattle.fx_chain_flow.specs.Parts.{Parts, given_by, max_of, taken_of}
 use Rattle.fx_chain_flow.specs.Sound.{max_frames}
 use Rattle.fx_chain_flow.proofs.Laws.{max_of-le}

@@ -3,11 +3,11 @@ use Rattle.std.proofs.Common.{◌≡◌, ℕ, ◌+◌, ◌*◌, ◌≤◌, map, 
 use Rattle.std.proofs.lemmas.List.{append_assoc, append-nil, length-append}
 use Rattle.std.specs.Prelude.{Option, nat_lt}
 use borrow.Author.Tests.{ltb-true, ltb-false}
-use Rattle.fx_frame_io.specs.declared.coding.Coding.{Coding}
-use Rattle.fx_frame_stage.specs.Frame.{Samples}
-use Rattle.fx_sound_heads.specs.FrameCoding.{coded_samples}
-use Rattle.fx_frame_stage.specs.Holds.{kinds, recipes}
-use Rattle.fx_frame_stage.specs.Stage.{Acts, StageKind}
+use Rattle.fx_frame_base.specs.declared.coding.Coding.{Coding}
+use Rattle.fx_frame_base.specs.Frame.{Samples}
+use Rattle.fx_sound.specs.FrameCoding.{coded_samples}
+use Rattle.fx_frame_base.specs.Holds.{kinds, recipes}
+use Rattle.fx_frame_base.specs.Stage.{Acts, StageKind}
 use Rattle.fx_chain_flow.specs.Parts.{Parts, given_by, taken_of, through}
 use Rattle.fx_chain_flow.specs.Composed.{enough_for}
 use Rattle.fx_chain_flow.specs.Steps.{IsHungry, rest_of, wholes_of}

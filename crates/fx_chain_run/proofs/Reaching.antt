@@ -3,16 +3,16 @@ use Rattle.std.proofs.Common.{◌≡◌, ℕ, zero, suc, ◌+◌, map, Bool, tru
 use Rattle.std.proofs.lemmas.List.{append_assoc, append-nil, length-append, take_at}
 use Rattle.std.proofs.lemmas.List.Sums.{sum_by-cons}
 use Rattle.std.specs.Prelude.{sum}
-use Rattle.fx_frame_stage.specs.Frame.{Samples}
-use Rattle.fx_frame_stage.specs.Holds.{kinds, recipes}
-use Rattle.fx_frame_stage.specs.Stage.{Acts, Counts, Given}
+use Rattle.fx_frame_base.specs.Frame.{Samples}
+use Rattle.fx_frame_base.specs.Holds.{kinds, recipes}
+use Rattle.fx_frame_base.specs.Stage.{Acts, Counts, Given}
 use Rattle.fx_chain_flow.specs.Parts.{AllNew, AllDetermined, EndPassed, PipelineFed, HandedOver, IsFirstOpen, Joined, Parts, given_of, moves_of, taken_of}
 use Rattle.fx_chain_flow.specs.Composed.{clips_given, frames_of}
 use Rattle.fx_chain_flow.specs.Steps.{IsHungry, MovedOn}
 use Rattle.fx_chain_run.specs.Due.{clips_due, dues, first_due, meanings}
 use Rattle.fx_chain_run.specs.Through.{Reached, took, end_reported, untouched, stepped}
 use Rattle.fx_chain_flow.proofs.Laws.{none_true}
-use Rattle.fx_frame_stage.proofs.FedLaws.{total-append}
+use Rattle.fx_frame_base.proofs.FedLaws.{total-append}
 
 -- one list behind the other, each at its place
 abbrev both : List (List Given) → List (List Given) → List (List Given)

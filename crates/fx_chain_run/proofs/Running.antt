@@ -3,16 +3,16 @@ use Rattle.std.proofs.Common.{zero, suc, ◌≡◌, ℕ, ◌+◌, ◌-◌, ◌*�
 use Rattle.std.proofs.Math.Nat.{div-add-mod'}
 use Rattle.std.proofs.lemmas.List.{append-nil, length-append, length-drop, take_at}
 use Rattle.std.specs.Prelude.{◌⊎◌, MatchBool, Option, Some, drop, not, slice_index, slice_set}
-use Rattle.fx_sound_heads.specs.Known.{IfKnown}
-use Rattle.fx_frame_io.specs.declared.coding.Coding.{Coding}
-use Rattle.fx_frame_stage.specs.Frame.{Samples}
-use Rattle.fx_frame_stage.specs.Holds.{kinds, recipes, total}
-use Rattle.fx_frame_stage.specs.Stage.{Acts}
+use Rattle.fx_sound.specs.Known.{IfKnown}
+use Rattle.fx_frame_base.specs.declared.coding.Coding.{Coding}
+use Rattle.fx_frame_base.specs.Frame.{Samples}
+use Rattle.fx_frame_base.specs.Holds.{kinds, recipes, total}
+use Rattle.fx_frame_base.specs.Stage.{Acts}
 use Rattle.fx_chain_flow.specs.Parts.{Parts, given_by, moves_of, taken_of}
 use Rattle.fx_chain_flow.specs.Composed.{Whole, due_of, enough_for}
 use Rattle.fx_chain_flow.specs.Steps.{IsDone, IsHungry, rest_of, wholes_of}
 use Rattle.fx_chain_flow.proofs.Laws.{through-Done, wholes-Done}
-use Rattle.fx_frame_stage.specs.declared.stage.TheConstants.{MAX_FRAMES}
+use Rattle.fx_frame_base.specs.declared.stage.TheConstants.{MAX_FRAMES}
 use Rattle.fx_sound.specs.Output.{Pending, Sent, bytes_put}
 use Rattle.fx_sound.specs.Sound.{Reading, size_of, within_sound}
 use Rattle.fx_chain_run.specs.declared.pump.Cause.TheVariants.{WriteFailed, TooLong}

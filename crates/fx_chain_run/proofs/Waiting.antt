@@ -5,16 +5,16 @@ use Rattle.std.proofs.Math.Nat.{add-mul}
 use Rattle.std.proofs.lemmas.Nat.{div-mul-add}
 use Rattle.std.specs.Io.KnownBytes.{Appends}
 use Rattle.std.specs.Prelude.{None, Option, Some}
-use Rattle.fx_sound_heads.specs.Known.{IfKnown}
-use Rattle.fx_frame_io.specs.Io.{ByteReader}
-use Rattle.fx_frame_io.specs.Moments.{Moment, came_short}
-use Rattle.fx_frame_io.specs.declared.coding.Coding.{Coding}
-use Rattle.fx_frame_stage.specs.Holds.{kinds}
-use Rattle.fx_frame_stage.specs.Stage.{Acts}
+use Rattle.fx_sound.specs.Known.{IfKnown}
+use Rattle.fx_frame_base.specs.Io.{ByteReader}
+use Rattle.fx_frame_base.specs.Moments.{Moment, came_short}
+use Rattle.fx_frame_base.specs.declared.coding.Coding.{Coding}
+use Rattle.fx_frame_base.specs.Holds.{kinds}
+use Rattle.fx_frame_base.specs.Stage.{Acts}
 use Rattle.fx_chain_flow.specs.Composed.{due_of}
 use Rattle.fx_chain_flow.specs.Parts.{Parts, given_by, taken_of}
 use Rattle.fx_chain_flow.proofs.Steps.{kinds-stay}
-use Rattle.fx_sound_heads.specs.Source.{AsksBeside, Held, to_come}
+use Rattle.fx_sound.specs.Source.{AsksBeside, Held, to_come}
 use Rattle.fx_sound.specs.Output.{Pending, Sent, SendsOn}
 use Rattle.fx_sound.specs.Sound.{Reading, at_most_announced, beyond, size_of, within_sound}
 use Rattle.fx_chain_run.specs.FrameWriter.{coded}

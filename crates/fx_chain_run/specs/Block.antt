@@ -1,16 +1,16 @@
 -- Whole buffers of frames through a flow (this project's profile).
 use Rattle.std.specs.Prelude.{◌≡◌, ℕ, ◌+◌, ◌*◌, ◌<◌, false, List, ◌++◌, drop}
-use Rattle.fx_frame_io.specs.declared.coding.Coding.{Coding}
-use Rattle.fx_frame_stage.specs.Frame.{Samples}
-use Rattle.fx_frame_stage.specs.Holds.{kinds}
-use Rattle.fx_frame_stage.specs.Stage.{Acts}
+use Rattle.fx_frame_base.specs.declared.coding.Coding.{Coding}
+use Rattle.fx_frame_base.specs.Frame.{Samples}
+use Rattle.fx_frame_base.specs.Holds.{kinds}
+use Rattle.fx_frame_base.specs.Stage.{Acts}
 use Rattle.fx_chain_flow.specs.Feed.{FlowFed, FlowGave}
 use Rattle.fx_chain_flow.specs.Parts.{Parts, taken_of}
 use Rattle.fx_chain_flow.specs.Composed.{enough_for}
 use Rattle.fx_sound.specs.Container.{after_frames, first_frames}
 use Rattle.fx_sound.specs.Output.{Pending}
 use Rattle.fx_sound.specs.Sound.{AreHeld, Reading, size_of}
-use Rattle.fx_sound_heads.specs.Source.{Held}
+use Rattle.fx_sound.specs.Source.{Held}
 use Rattle.fx_chain_run.specs.FrameWriter.{coded, coded_clips}
 
 module _ {S R X : Type 0} (acts : Acts S R) where

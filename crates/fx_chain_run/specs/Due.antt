@@ -1,7 +1,7 @@
 -- What effects in sequence have given when each has given all that is due (this project's profile).
 use Rattle.std.specs.Prelude.{ℕ, List, [], ◌∷◌, map, take}
-use Rattle.fx_frame_stage.specs.Frame.{Samples}
-use Rattle.fx_frame_stage.specs.Stage.{Given, StageKind}
+use Rattle.fx_frame_base.specs.Frame.{Samples}
+use Rattle.fx_frame_base.specs.Stage.{Given, StageKind}
 use Rattle.fx_chain_flow.specs.Composed.{clips_given, frames_of}
 
 -- of each effect how many frames it has given when all are dry after n frames, with no end

@@ -1,18 +1,18 @@
 -- The invariant while the frames of a sound go through a flow to a writer (this project's profile).
 use Rattle.std.specs.Prelude.{◌≡◌, ℕ, ◌+◌, ◌*◌, ◌≤◌, false, List, Option, Some, drop, length}
-use Rattle.fx_frame_io.specs.declared.coding.Coding.{Coding}
-use Rattle.fx_frame_stage.specs.Holds.{kinds, recipes}
-use Rattle.fx_frame_io.specs.Io.{ByteReader}
-use Rattle.fx_frame_stage.specs.Stage.{Acts}
+use Rattle.fx_frame_base.specs.declared.coding.Coding.{Coding}
+use Rattle.fx_frame_base.specs.Holds.{kinds, recipes}
+use Rattle.fx_frame_base.specs.Io.{ByteReader}
+use Rattle.fx_frame_base.specs.Stage.{Acts}
 use Rattle.fx_chain_flow.specs.Parts.{Parts, given_by, taken_of}
 use Rattle.fx_chain_flow.specs.Steps.{IsHungry}
-use Rattle.fx_frame_stage.specs.declared.stage.TheConstants.{MAX_FRAMES}
+use Rattle.fx_frame_base.specs.declared.stage.TheConstants.{MAX_FRAMES}
 use Rattle.fx_sound.specs.Container.{after_frames}
-use Rattle.fx_sound_heads.specs.Known.{IfKnown}
+use Rattle.fx_sound.specs.Known.{IfKnown}
 use Rattle.fx_sound.specs.Output.{Pending, bytes_put}
 use Rattle.fx_sound.specs.Runs.{RanFrames}
 use Rattle.fx_sound.specs.Sound.{Reading, size_of, within_sound}
-use Rattle.fx_sound_heads.specs.Source.{Held, Takes, to_come}
+use Rattle.fx_sound.specs.Source.{Held, Takes, to_come}
 use Rattle.fx_chain_run.specs.Run.{Flowed, FlowedFront, WantsMore, sound_frames}
 
 -- what a run begins with: a flow, a source, how far its sound was read, the coding and the head of the output, and what the

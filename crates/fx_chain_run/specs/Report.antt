@@ -1,20 +1,20 @@
 -- What a run reports (this project's profile).
 use Rattle.std.specs.Prelude.{◌≡◌, ◌≢◌, ◌⊎◌, ℕ, ◌+◌, ◌-◌, ◌*◌, ◌%◌, ◌==◌, ◌≤◌, Bool, true, false, cond, not, ◌&&◌, MatchBool, sum, List, [], ◌∷◌, ◌++◌, drop, length, map, replicate, take, Option, None, Result, Ok, Err}
-use Rattle.fx_frame_io.specs.declared.coding.Coding.{Coding}
-use Rattle.fx_frame_stage.specs.Frame.{Samples}
-use Rattle.fx_frame_stage.specs.Holds.{kinds, recipes, total}
-use Rattle.fx_frame_io.specs.Io.{saturated}
-use Rattle.fx_frame_stage.specs.Stage.{Acts}
+use Rattle.fx_frame_base.specs.declared.coding.Coding.{Coding}
+use Rattle.fx_frame_base.specs.Frame.{Samples}
+use Rattle.fx_frame_base.specs.Holds.{kinds, recipes, total}
+use Rattle.fx_frame_base.specs.Io.{saturated}
+use Rattle.fx_frame_base.specs.Stage.{Acts}
 use Rattle.fx_chain_flow.specs.Parts.{AllNew, Parts}
 use Rattle.fx_chain_flow.specs.Composed.{Whole, due_of, enough_for}
 use Rattle.fx_chain_flow.specs.Steps.{IsDone, IsHungry, rest_of, wholes_of}
-use Rattle.fx_sound_heads.specs.declared.head.Head.{Head}
-use Rattle.fx_sound_heads.specs.declared.head.Kind.{Kind}
-use Rattle.fx_sound_heads.specs.declared.head.Kind.TheVariants.{Wav, Au}
-use Rattle.fx_frame_stage.specs.declared.stage.TheConstants.{MAX_FRAMES}
+use Rattle.fx_sound.specs.declared.head.Head.{Head}
+use Rattle.fx_sound.specs.declared.head.Kind.{Kind}
+use Rattle.fx_sound.specs.declared.head.Kind.TheVariants.{Wav, Au}
+use Rattle.fx_frame_base.specs.declared.stage.TheConstants.{MAX_FRAMES}
 use Rattle.fx_sound.specs.Sound.{Reading, size_of, within_sound}
-use Rattle.fx_sound_heads.specs.Source.{Held}
-use Rattle.fx_sound_heads.specs.Writing.{written_head}
+use Rattle.fx_sound.specs.Source.{Held}
+use Rattle.fx_sound.specs.Writing.{written_head}
 use Rattle.fx_chain_run.specs.declared.pump.Cause.{Cause}
 use Rattle.fx_chain_run.specs.declared.pump.Cause.TheVariants as Causes
 use Rattle.fx_chain_run.specs.declared.report.Report.{Report}

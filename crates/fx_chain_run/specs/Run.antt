@@ -1,8 +1,8 @@
 -- What a run has taken from a sound, and what it sends (this project's profile).
 use Rattle.std.specs.Prelude.{◌≡◌, ℕ, ◌*◌, ◌/◌, ◌%◌, ◌<◌, Bool, true, false, cond, List, ◌++◌, drop, length, Option, Result, Ok, Err}
-use Rattle.fx_frame_io.specs.declared.coding.Coding.{Coding}
-use Rattle.fx_frame_stage.specs.Frame.{Samples}
-use Rattle.fx_frame_stage.specs.Stage.{Acts, StageKind}
+use Rattle.fx_frame_base.specs.declared.coding.Coding.{Coding}
+use Rattle.fx_frame_base.specs.Frame.{Samples}
+use Rattle.fx_frame_base.specs.Stage.{Acts, StageKind}
 use Rattle.fx_chain_flow.specs.Parts.{Parts}
 use Rattle.fx_chain_flow.specs.Composed.{enough_for}
 use Rattle.fx_sound.specs.Container.{first_frames}

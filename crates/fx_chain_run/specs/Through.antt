@@ -1,9 +1,9 @@
 -- Frames that go through a flow to a writer (this project's profile).
 use Rattle.std.specs.Prelude.{◌≡◌, ℕ, ◌+◌, true, false, List, [], ◌∷◌, ◌++◌, length, Option, Some}
-use Rattle.fx_frame_io.specs.declared.coding.Coding.{Coding}
-use Rattle.fx_frame_stage.specs.Frame.{Samples}
-use Rattle.fx_frame_stage.specs.Holds.{recipes}
-use Rattle.fx_frame_stage.specs.Stage.{Acts}
+use Rattle.fx_frame_base.specs.declared.coding.Coding.{Coding}
+use Rattle.fx_frame_base.specs.Frame.{Samples}
+use Rattle.fx_frame_base.specs.Holds.{recipes}
+use Rattle.fx_frame_base.specs.Stage.{Acts}
 use Rattle.fx_chain_flow.specs.Parts.{Parts, given_by, taken_of}
 use Rattle.fx_chain_flow.specs.Steps.{IsDone, IsHungry, MovedOn, given_out, rest_of, wholes_of}
 use Rattle.fx_chain_flow.specs.declared.flow.Step.{Step}

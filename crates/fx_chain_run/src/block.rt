@@ -5,8 +5,8 @@ ghost use Rattle.fx_chain_run.specs.Pump.{Pumped, PumpedFront, Start};
 ghost use Rattle.fx_chain_flow.specs.Parts.{given_by, max_of, taken_of};
 ghost use Rattle.fx_chain_flow.specs.Sound.{max_frames};
 ghost use Rattle.fx_chain_flow.specs.Steps.{IsHungry};
-ghost use Rattle.fx_frame_stage.specs.Holds.{kinds};
-ghost use Rattle.fx_frame_io.specs.Io.{CountsFailure};
+ghost use Rattle.fx_frame_base.specs.Holds.{kinds};
+ghost use Rattle.fx_frame_base.specs.Io.{CountsFailure};
 ghost use Rattle.fx_sound.specs.Output.{bytes_put};
 ghost use Rattle.fx_sound.specs.Sound.{size_of};
 

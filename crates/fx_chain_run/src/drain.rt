@@ -3,14 +3,14 @@ ghost use Rattle.std.specs.Prelude.{◌≡◌, ◌+◌, ◌*◌, ◌≤◌, ◌^
 ghost use Rattle.fx_chain_run.specs.Through.{RunCutOff, Drained, RunWaits};
 ghost use Rattle.fx_chain_flow.specs.Parts.{given_by, max_of};
 ghost use Rattle.fx_chain_flow.specs.Sound.{max_frames};
-ghost use Rattle.fx_frame_stage.specs.Holds.{kinds};
-ghost use Rattle.fx_frame_io.specs.Io.{CountsFailure};
+ghost use Rattle.fx_frame_base.specs.Holds.{kinds};
+ghost use Rattle.fx_frame_base.specs.Io.{CountsFailure};
 ghost use Rattle.fx_sound.specs.Output.{bytes_put};
 
 use crate::frame_writer::FrameWriter;
 use fx_chain_flow::flow::{Flow, State, Step};
 use fx_frame::{ByteOut, Failed};
-use fx_frame_stage::stage::Stage;
+use fx_frame_base::stage::Stage;
 
 /// Steps a flow until it waits, and sends what it gives.
 #[inline(always)]

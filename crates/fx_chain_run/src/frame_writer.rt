@@ -1,8 +1,8 @@
 //! Frames in transit to a writer.
 ghost use Rattle.std.specs.Prelude.{◌≡◌, ◌+◌, ◌*◌, ◌<◌, ◌≤◌, ◌^◌, ◌++◌, OnErr, OnOk, length};
-ghost use Rattle.fx_frame_io.specs.Coding.{width_of};
-ghost use Rattle.fx_sound_heads.specs.FrameCoding.{bytes_of, clips_of, frame_size};
-ghost use Rattle.fx_frame_io.specs.Io.{CountsFailure};
+ghost use Rattle.fx_frame_base.specs.Coding.{width_of};
+ghost use Rattle.fx_sound.specs.FrameCoding.{bytes_of, clips_of, frame_size};
+ghost use Rattle.fx_frame_base.specs.Io.{CountsFailure};
 ghost use Rattle.fx_sound.specs.Output.{SendsMore, SendsPart, bytes_put};
 
 use fx_frame::{ByteOut, Coding, Failed, Frame};

@@ -1,9 +1,9 @@
 //! The next frame of a sound whose bytes may come slowly.
 ghost use Rattle.std.specs.Prelude.{◌≡◌, ◌≢◌, ◌+◌, ◌*◌, ◌<◌, ◌≤◌, [], false, true, Err, IfNone, IfOk, IfSome, MatchBool, OnErr, OnOk, OnSome, Some, drop, length};
 ghost use Rattle.fx_chain_run.specs.Run.{run_read_failed, is_write_failed};
-ghost use Rattle.fx_frame_io.specs.Io.{CountsFailure, saturated};
-ghost use Rattle.fx_sound_heads.specs.Known.{IfKnown};
-ghost use Rattle.fx_sound_heads.specs.Source.{AsksBeside, FallsShort, HoldsAll, HoldsFront, HoldsWhatCame, Stays, Takes, to_come};
+ghost use Rattle.fx_frame_base.specs.Io.{CountsFailure, saturated};
+ghost use Rattle.fx_sound.specs.Known.{IfKnown};
+ghost use Rattle.fx_sound.specs.Source.{AsksBeside, FallsShort, HoldsAll, HoldsFront, HoldsWhatCame, Stays, Takes, to_come};
 ghost use Rattle.fx_chain_run.specs.Waiting.{AsksOn};
 ghost use Rattle.fx_sound.specs.Output.{SendsOn, bytes_put};
 ghost use Rattle.fx_sound.specs.Sound.{EndsSound, TakesFrame, after_frame, at_most_announced, size_of, within_sound};

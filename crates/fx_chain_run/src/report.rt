@@ -1,7 +1,7 @@
 //! What a run did.
 ghost use Rattle.std.specs.Prelude.{◌≡◌};
 
-pub use fx_frame_stage::stage::MAX_EFFECTS;
+pub use fx_frame_base::stage::MAX_EFFECTS;
 use thiserror::Error;
 
 /// What a run did.

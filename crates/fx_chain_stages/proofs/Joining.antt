@@ -4,15 +4,15 @@ use Rattle.std.specs.Prelude.{ℕ, ℤ, Option, Some, None, FitsSigned, option_t
 use Rattle.std.specs.Int.{w32}
 use Rattle.std.specs.List.{All}
 use Rattle.std.proofs.lemmas.List.Elements.{All-append, All-cons, All-head, All-nil, All-tail}
-use Rattle.fx_frame_stage.proofs.FedLaws.{Fed-along, PassedOn-along}
-use Rattle.fx_frame_stage.proofs.PipelineLaws.{EachThrough-along}
-use Rattle.fx_frame_stage.specs.declared.feed.Passing.{Passing}
-use Rattle.fx_frame_stage.specs.Feed.{Fed, PassedOn}
-use Rattle.fx_frame_stage.specs.Frame.{Samples}
-use Rattle.fx_frame_stage.specs.PendingFrame.{IsPending}
+use Rattle.fx_frame_base.proofs.FedLaws.{Fed-along, PassedOn-along}
+use Rattle.fx_frame_base.proofs.PipelineLaws.{EachThrough-along}
+use Rattle.fx_frame_base.specs.declared.feed.Passing.{Passing}
+use Rattle.fx_frame_base.specs.Feed.{Fed, PassedOn}
+use Rattle.fx_frame_base.specs.Frame.{Samples}
+use Rattle.fx_frame_base.specs.PendingFrame.{IsPending}
 use Rattle.fx_frame_line.specs.Line.{Frames, IsLine, IsSamples}
-use Rattle.fx_frame_stage.specs.Pipeline.{EachThrough}
-use Rattle.fx_frame_stage.specs.Stage.{Acts, kind}
+use Rattle.fx_frame_base.specs.Pipeline.{EachThrough}
+use Rattle.fx_frame_base.specs.Stage.{Acts, kind}
 use Rattle.fx_chain_stages.specs.declared.registry.EffectStage.{EffectStage}
 use Rattle.fx_chain_stages.specs.declared.registry.EffectStage.TheVariants as stages
 use Rattle.fx_plan_effects.specs.Meanings.{Placed, kind_at}

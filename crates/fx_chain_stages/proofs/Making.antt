@@ -21,7 +21,7 @@ use Rattle.fx_fixed.specs.declared.gains.TheConstants.{UNIT}
 use Rattle.fx_fixed.specs.declared.positions.At.TheVariants.{Start, End}
 use Rattle.fx_tap_pointwise.specs.declared.out_spec.Weight.{Weight}
 use Rattle.fx_chain_flow.specs.Parts.{AllNew}
-use Rattle.fx_frame_stage.specs.Stage.{IsNew}
+use Rattle.fx_frame_base.specs.Stage.{IsNew}
 use Rattle.fx_frame.specs.Tapped.{TapState}
 use Rattle.fx_tap_delays.specs.Delay.{every_delay}
 use Rattle.fx_tap_delays.specs.DelayState.{delay_acts}
@@ -37,7 +37,7 @@ use Rattle.fx_chain_stages.specs.declared.registry.EffectStage.{EffectStage}
 use Rattle.fx_chain_stages.specs.declared.registry.EffectStage.TheVariants as stages
 use Rattle.fx_chain_stages.specs.Stages.{effect_acts}
 use Rattle.fx_chain_stages.specs.Made.{recipes_for}
-use Rattle.fx_frame_stage.specs.Holds.{recipes}
+use Rattle.fx_frame_base.specs.Holds.{recipes}
 use Rattle.fx_plan_effects.specs.Bounds.{hold_all, hold_of_act}
 use Rattle.std.proofs.lemmas.List.Sums.{sum_by-cons}
 

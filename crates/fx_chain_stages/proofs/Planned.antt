@@ -4,8 +4,8 @@ use Rattle.std.specs.Prelude.{Some, sum_by, nat_le}
 use Rattle.std.specs.List.{All, list_any}
 use Rattle.std.proofs.lemmas.Bool.Decides.{nat_tests}
 use Rattle.fx_chain_flow.specs.Parts.{Matching, Within, max_of, work}
-use Rattle.fx_frame_stage.specs.Holds.{hold_sum}
-use Rattle.fx_frame_stage.specs.Stage.{StageKind}
+use Rattle.fx_frame_base.specs.Holds.{hold_sum}
+use Rattle.fx_frame_base.specs.Stage.{StageKind}
 use Rattle.fx_plan_effects.specs.Bounds
 use Rattle.fx_plan_effects.specs.Bounds.{hold_all, is_beyond_limit, maxima, work_of}
 use Rattle.fx_plan_effects.specs.Effects.{Act, Usable, all_fit, fits_layout, layout_after, channels_after}

@@ -6,7 +6,7 @@ use Rattle.std.proofs.lemmas.Bool.{and_parts}
 use Rattle.std.proofs.lemmas.List.{map-append}
 use Rattle.std.proofs.lemmas.List.Elements.{All-cons, All-head, All-nil, All-tail}
 use Rattle.fx_chain_flow.specs.Frozen.{AllMade}
-use Rattle.fx_frame_stage.specs.Holds.{recipes}
+use Rattle.fx_frame_base.specs.Holds.{recipes}
 use Rattle.fx_plan_effects.specs.Bounds.{hold_all}
 use Rattle.fx_plan_effects.specs.Effects.{Act, Usable, channels_after}
 use Rattle.fx_chain_stages.specs.declared.registry.EffectStage.{EffectStage}

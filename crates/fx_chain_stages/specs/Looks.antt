@@ -1,7 +1,7 @@
 -- What a stage of any effect shows of itself (this project's profile).
 use Rattle.std.specs.Prelude.{ℕ, Bool, List}
-use Rattle.fx_frame_stage.specs.Frame.{Samples}
-use Rattle.fx_frame_stage.specs.Stage.{Acts, Counts, Given, StateCounters}
+use Rattle.fx_frame_base.specs.Frame.{Samples}
+use Rattle.fx_frame_base.specs.Stage.{Acts, Counts, Given, StateCounters}
 use Rattle.fx_plan_effects.specs.Meanings.{Placed}
 
 -- the observable state of a stage: its effect in its place, what is still to be given, what it counted, that it has nothing to

@@ -2,7 +2,7 @@
 use Rattle.std.specs.Prelude.{List, FitsSigned, option_to_list}
 use Rattle.std.specs.Int.{w32}
 use Rattle.std.specs.List.{All}
-use Rattle.fx_frame_stage.specs.Frame.{Samples}
+use Rattle.fx_frame_base.specs.Frame.{Samples}
 use Rattle.fx_chain_stages.specs.declared.registry.EffectStage.{EffectStage}
 use Rattle.fx_chain_stages.specs.declared.registry.EffectStage.TheVariants as stages
 use Rattle.fx_chain_stages.specs.Stages.{stored_of}

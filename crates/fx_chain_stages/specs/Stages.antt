@@ -1,7 +1,7 @@
 -- The stages of all effects as one type (this project's profile): each behaves as the stage of its effect.
 use Rattle.std.specs.Prelude.{List}
-use Rattle.fx_frame_stage.specs.Frame.{Samples}
-use Rattle.fx_frame_stage.specs.Stage.{Acts}
+use Rattle.fx_frame_base.specs.Frame.{Samples}
+use Rattle.fx_frame_base.specs.Stage.{Acts}
 use Rattle.fx_chain_stages.specs.declared.registry.EffectStage.{EffectStage}
 use Rattle.fx_plan_effects.specs.Meanings.{Placed, kind_at, meaning_at}
 pub use Rattle.fx_chain_stages.specs.Looks.{Look, look}

@@ -2,8 +2,8 @@
 ghost use Rattle.std.specs.Prelude.{◌≡◌, ◌≤◌, ◌^◌, IfOk, map, true};
 ghost use Rattle.std.specs.List.{All};
 ghost use Rattle.fx_chain_flow.specs.Parts.{AllNew};
-ghost use Rattle.fx_frame_stage.specs.Holds.{recipes};
-ghost use Rattle.fx_frame_stage.specs.Stage.{IsNew};
+ghost use Rattle.fx_frame_base.specs.Holds.{recipes};
+ghost use Rattle.fx_frame_base.specs.Stage.{IsNew};
 ghost use Rattle.fx_plan_effects.specs.Bounds.{hold_all};
 ghost use Rattle.fx_plan_effects.specs.Effects.{Usable, act};
 ghost use Rattle.fx_plan_effects.specs.Meanings.{InPlace, line_of_act, recipe_at};
@@ -13,7 +13,7 @@ ghost use Rattle.fx_chain_stages.specs.Made.{all_suit, recipes_for, suits};
 use crate::registry::{EffectStage, made};
 use crate::thaw::EffectArguments;
 use fx_frame::WideFrame;
-use fx_frame_stage::stage::{ThawFault, Thaws};
+use fx_frame_base::stage::{ThawFault, Thaws};
 use fx_plan_effects::Effect;
 use std::alloc::{AllocError, Global};
 

@@ -2,15 +2,15 @@
 ghost use Rattle.std.specs.Prelude.{◌≡◌, ◌+◌, ◌*◌, ◌≤◌, List, FitsSigned, false, true, drop, length, take};
 ghost use Rattle.std.specs.Int.{w32};
 ghost use Rattle.std.specs.List.{All};
-ghost use Rattle.fx_frame_stage.specs.Frame.{Samples};
-ghost use Rattle.fx_frame_lists.specs.Lists.{pieces};
-ghost use Rattle.fx_frame_stage.specs.Pipeline.{EachThrough};
-ghost use Rattle.fx_frame_stage.specs.Stage.{kind};
+ghost use Rattle.fx_frame_base.specs.Frame.{Samples};
+ghost use Rattle.fx_frame_base.specs.Lists.{pieces};
+ghost use Rattle.fx_frame_base.specs.Pipeline.{EachThrough};
+ghost use Rattle.fx_frame_base.specs.Stage.{kind};
 ghost use Rattle.fx_chain_stages.specs.Stages.{effect_acts};
 
 use crate::registry::{EffectStage, each, each_by_samples};
 use fx_frame::{Counters, Feeds, Frame, Passed, Passing, WideFrame};
-use fx_frame_stage::stage::Stage;
+use fx_frame_base::stage::Stage;
 use fx_tap_pointwise::around::pass_around;
 use fx_tap_pointwise::both::pass_both;
 

@@ -3,17 +3,17 @@ use Rattle.std.proofs.Common.{ℕ, suc, ◌+◌, ◌-◌, ◌*◌, ◌<◌, ◌�
 use Rattle.std.specs.Int.{div_ceil}
 use Rattle.std.specs.Prelude.{slice_index_or, is_none}
 use Rattle.std.proofs.lemmas.Grind.{div_ceil_times}
-use Rattle.fx_frame_stage.specs.Frame.{Samples}
-use Rattle.fx_frame_stage.specs.Stage.{Given, Took}
+use Rattle.fx_frame_base.specs.Frame.{Samples}
+use Rattle.fx_frame_base.specs.Stage.{Given, Took}
 use Rattle.std.proofs.lemmas.Bool.{cases_lt}
 use Rattle.std.proofs.lemmas.List.{get_or-drop}
-use Rattle.fx_frame_stage.specs.PendingFrame.{IsPending}
+use Rattle.fx_frame_base.specs.PendingFrame.{IsPending}
 use Rattle.fx_cut.specs.Ceil.{by_products}
-use Rattle.fx_frame_lists.specs.Lists.{tabulate}
-use Rattle.fx_frame_stage.specs.Given.{plain}
+use Rattle.fx_frame_base.specs.Lists.{tabulate}
+use Rattle.fx_frame_base.specs.Given.{plain}
 use Rattle.fx_cut.specs.Downsample.{downsampled}
 use Rattle.fx_cut.specs.DownsampleState.{DownsampleState, IsDownsample, downsample_acts}
-use Rattle.fx_frame_lists.proofs.Tabulate.{tabulate-same}
+use Rattle.fx_frame_base.proofs.Tabulate.{tabulate-same}
 
 -- the quotient, by its product
 pub ceil_is : (s k q f : ℕ) → 0 < f → s + k ≡ q * f → k < f → div_ceil s f ≡ q

@@ -4,13 +4,13 @@ use Rattle.std.specs.Prelude.{None, option_to_list, is_none}
 use Rattle.std.specs.Int.{div_ceil}
 use Rattle.std.proofs.lemmas.List.{drop-drop, length-take-le}
 use Rattle.std.proofs.Math.Nat.{add-mul, mul_assoc, mul-le-mul_right, suc-mul}
-use Rattle.fx_frame_stage.specs.Feed.{Fed, GaveNext, TookNext, TookWithinCapacity, nothing, taken, given}
-use Rattle.fx_frame_stage.specs.Frame.{Samples}
-use Rattle.fx_frame_lists.specs.Lists.{pieces}
-use Rattle.fx_frame_stage.proofs.FedLaws.{Fed-then}
-use Rattle.fx_frame_stage.proofs.Capacities.{free-maximum}
-use Rattle.fx_frame_lists.proofs.Puts.{pieces-split}
-use Rattle.fx_frame_lists.proofs.Pieces.{length-pieces}
+use Rattle.fx_frame_base.specs.Feed.{Fed, GaveNext, TookNext, TookWithinSpace, nothing, taken, given}
+use Rattle.fx_frame_base.specs.Frame.{Samples}
+use Rattle.fx_frame_base.specs.Lists.{pieces}
+use Rattle.fx_frame_base.proofs.FedLaws.{Fed-then}
+use Rattle.fx_frame_base.proofs.Capacities.{free-maximum}
+use Rattle.fx_frame_base.proofs.Puts.{pieces-split}
+use Rattle.fx_frame_base.proofs.Pieces.{length-pieces}
 use Rattle.fx_cut.specs.Ceil.{ceil_rises}
 use Rattle.fx_cut.specs.Downsample.{downsampled}
 use Rattle.fx_cut.specs.DownsampleState.{DownsampleState, IsDownsample, downsample_acts}
@@ -163,7 +163,7 @@ all-passed s n m input out r h none free bound same =
     rw (end, same, pieces-split ch n (m * f) input) (Fed-then downsample_acts s (beyond s n) (passed (beyond s n) (m * f) m) (pieces ch n input) [] (pieces ch (m * f) (drop (n * ch) input)) (firsts ch f m (drop (n * ch) input)) one.0 two.0, two.1)
 
 -- each of so many frames was taken while the output had room for one more, where it has room for those that were given and one more
-pub took-with-free : (s t : DownsampleState) (n k free : ℕ) → Ready t → t.recipe ≡ s.recipe → t.taken ≡ s.taken + n → t.given ≡ s.given + k → (k + 1) * s.recipe.channels ≤ free → TookWithinCapacity downsample_acts s n free
+pub took-with-free : (s t : DownsampleState) (n k free : ℕ) → Ready t → t.recipe ≡ s.recipe → t.taken ≡ s.taken + n → t.given ≡ s.given + k → (k + 1) * s.recipe.channels ≤ free → TookWithinSpace downsample_acts s n free
 took-with-free s t n k free r same took gave fits =
     let counted = rw same at r.is.counted in
     let pending : length (option_to_list t.pending) ≡ 0 = ap (λ h. length (option_to_list h)) r.empty in

@@ -5,9 +5,9 @@ use Rattle.std.specs.Int.{w32}
 use Rattle.std.specs.List.{All, enumerate_from}
 use Rattle.std.proofs.lemmas.List.Elements.{All-head, All-tail}
 use Rattle.std.proofs.Math.Nat.{mul-le-mul_left, mul-le-mul_right}
-use Rattle.fx_frame_stage.specs.Frame.{Samples}
-use Rattle.fx_frame_stage.specs.Stage.{Given}
-use Rattle.fx_frame_stage.specs.Given.{plain}
+use Rattle.fx_frame_base.specs.Frame.{Samples}
+use Rattle.fx_frame_base.specs.Stage.{Given}
+use Rattle.fx_frame_base.specs.Given.{plain}
 use Rattle.fx_frame_line.specs.Line.{IsSamples}
 use Rattle.fx_cut.specs.declared.fade.FadeShape.{FadeShape}
 use Rattle.fx_cut.specs.Fade.{faded_frame, weight, weighted, weights}

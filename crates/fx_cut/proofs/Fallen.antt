@@ -4,8 +4,8 @@ use Rattle.std.specs.Prelude.{ℤ, Option, Some, None, slice_get, nat_lt}
 use Rattle.std.specs.Int.{w32}
 use Rattle.std.specs.List.{All}
 use Rattle.std.proofs.lemmas.Bool.{lt-ltb, le-ltb, cases_lt}
-use Rattle.fx_frame_stage.specs.Frame.{IsFrame, Samples}
-use Rattle.fx_frame_stage.specs.PendingFrame.{IsPending}
+use Rattle.fx_frame_base.specs.Frame.{IsFrame, Samples}
+use Rattle.fx_frame_base.specs.PendingFrame.{IsPending}
 use Rattle.fx_frame_line.specs.Line.{Frames, IsLine, IsSamples}
 
 -- the frame that falls out, where there is one

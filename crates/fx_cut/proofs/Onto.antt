@@ -6,7 +6,7 @@ use Rattle.std.specs.List.{All}
 use Rattle.std.proofs.lemmas.List.{drop-append-le, drop_all, nil_from_length, take-append-le, take_all}
 use Rattle.std.proofs.lemmas.List.Elements.{All-append, All-cons, All-drop, All-head, All-nil}
 use Rattle.std.proofs.Math.Nat.{add-mul, div-mul-le_self, mul-le-mul_right}
-use Rattle.fx_frame_stage.specs.Frame.{Samples}
+use Rattle.fx_frame_base.specs.Frame.{Samples}
 use Rattle.fx_frame_line.specs.Line.{Frames, IsLine, IsSamples, pushed_all}
 use Rattle.fx_frame_line.proofs.RingLaws.{keep-twice}
 use Rattle.fx_cut.proofs.Fallen.{fallen, full_out, oldest-first, free_out, stays}

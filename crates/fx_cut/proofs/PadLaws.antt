@@ -12,7 +12,7 @@ use Rattle.fx_cut.specs.PadExtents.{pad_distance}
 use Rattle.fx_fixed.specs.Positions.{place_of, places_after}
 use Rattle.fx_fixed.specs.declared.positions.At.{At}
 use Rattle.fx_fixed.specs.declared.positions.At.TheVariants.{Start, End}
-use Rattle.fx_frame_stage.specs.Frame.{Samples, silence}
+use Rattle.fx_frame_base.specs.Frame.{Samples, silence}
 use Rattle.fx_cut.specs.Pad.{ats, lengths, is_inside, placed, placed_after, silent_at, padded, pads_from_start, pad_due, RisesFrom}
 use Rattle.fx_cut.specs.PadState.{padded_from, silence_from}
 use Rattle.fx_cut.specs.Ranges.{range_more}
@@ -231,9 +231,9 @@ length_from channels len ps n [] h =
     length-replicate (silent_at (placed len ps) len) (silence channels) ∙ sym last ∙ ap (silence_from (placed len ps)) (sym e) ∙ sym (zero-add (silence_from (placed len ps) n))
 length_from channels len ps n (f ∷ x) h =
     let pads : List (ℕ × ℕ) = placed len ps in
-    let silence_here : List Samples = replicate (silent_at pads n) (silence channels) in
+    let silent_frames : List Samples = replicate (silent_at pads n) (silence channels) in
     let more : length (padded_from channels len ps (n + 1) x) ≡ length x + silence_from pads (n + 1) = length_from channels len ps (n + 1) x (omega arith) in
-    let whole : length (padded_from channels len ps n (f ∷ x)) ≡ length silence_here + (1 + length (padded_from channels len ps (n + 1) x)) =
-    ap length (pad_first channels len ps n f x) ∙ length-append silence_here (f ∷ padded_from channels len ps (n + 1) x) ∙ ap (λ k. length silence_here + k) (let e : suc (length (padded_from channels len ps (n + 1) x)) ≡ 1 + length (padded_from channels len ps (n + 1) x) = omega arith in e) in
-    let size : length silence_here ≡ sum_by (here n) pads = length-replicate (silent_at pads n) (silence channels) in
+    let whole : length (padded_from channels len ps n (f ∷ x)) ≡ length silent_frames + (1 + length (padded_from channels len ps (n + 1) x)) =
+    ap length (pad_first channels len ps n f x) ∙ length-append silent_frames (f ∷ padded_from channels len ps (n + 1) x) ∙ ap (λ k. length silent_frames + k) (let e : suc (length (padded_from channels len ps (n + 1) x)) ≡ 1 + length (padded_from channels len ps (n + 1) x) = omega arith in e) in
+    let size : length silent_frames ≡ sum_by (here n) pads = length-replicate (silent_at pads n) (silence channels) in
     omega (arith, whole, size, more, rest_unchanged-step n pads)

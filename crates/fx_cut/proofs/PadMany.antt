@@ -7,14 +7,14 @@ use Rattle.std.proofs.lemmas.List.Elements.{All-head, All-tail}
 use Rattle.fx_fixed.specs.Extents.{largest}
 use Rattle.fx_cut.specs.PadExtents.{pad_distance}
 use Rattle.fx_fixed.specs.declared.positions.At.{At}
-use Rattle.fx_frame_stage.specs.declared.feed.Passing.TheVariants.{Through}
-use Rattle.fx_frame_stage.specs.Feed.{Fed, GaveNext, PassedOn, TookNext, TookWithinCapacity, nothing, taken, given}
-use Rattle.fx_frame_stage.specs.Frame.{Samples}
-use Rattle.fx_frame_lists.specs.Lists.{pieces}
-use Rattle.fx_frame_stage.specs.Stage.{IsDry}
-use Rattle.fx_frame_stage.proofs.FedLaws.{Fed-then}
-use Rattle.fx_frame_stage.proofs.Capacities.{free-each}
-use Rattle.fx_frame_lists.proofs.Pieces.{length-pieces}
+use Rattle.fx_frame_base.specs.declared.feed.Passing.TheVariants.{Through}
+use Rattle.fx_frame_base.specs.Feed.{Fed, GaveNext, PassedOn, TookNext, TookWithinSpace, nothing, taken, given}
+use Rattle.fx_frame_base.specs.Frame.{Samples}
+use Rattle.fx_frame_base.specs.Lists.{pieces}
+use Rattle.fx_frame_base.specs.Stage.{IsDry}
+use Rattle.fx_frame_base.proofs.FedLaws.{Fed-then}
+use Rattle.fx_frame_base.proofs.Capacities.{free-each}
+use Rattle.fx_frame_base.proofs.Pieces.{length-pieces}
 use Rattle.fx_cut.specs.Pad.{pad_due, pads_from_start, silent_at}
 use Rattle.fx_cut.specs.PadState.{PadState, IsPad, pad_acts, pad_left}
 use Rattle.fx_cut.proofs.Fallen.{fallen, stays}
@@ -23,14 +23,14 @@ use Rattle.fx_cut.proofs.PadSteps.{Took-fallen, due-pad, left-fallen, reached}
 use Rattle.fx_frame.proofs.SamplePieces.{pieces-sides}
 
 -- where no silence stands before the next frames, one more is due for each
-pub due-silence_here : (pads : List (ℕ × At)) (s n : ℕ) → largest (map pad_distance pads) ≡ 0 → ((i : ℕ) → i < n → silent_at (pads_from_start pads) (s + i) ≡ 0) → pad_due pads (s + n) ≡ pad_due pads s + n
-due-silence_here pads s zero no-ends silence_here = ap (pad_due pads) (add-zero s) ∙ sym (add-zero (pad_due pads s))
-due-silence_here pads s (suc n) no-ends silence_here =
+pub due-clear_frames : (pads : List (ℕ × At)) (s n : ℕ) → largest (map pad_distance pads) ≡ 0 → ((i : ℕ) → i < n → silent_at (pads_from_start pads) (s + i) ≡ 0) → pad_due pads (s + n) ≡ pad_due pads s + n
+due-clear_frames pads s zero no-ends clear_frames = ap (pad_due pads) (add-zero s) ∙ sym (add-zero (pad_due pads s))
+due-clear_frames pads s (suc n) no-ends clear_frames =
     let next : s + suc n - 0 ≡ s + n + 1 = omega arith in
     let last : s + n - 0 ≡ s + n = omega arith in
     let more = upto_more (s + n) (pads_from_start pads) in
-    let none = silence_here n (omega arith) in
-    let before = due-silence_here pads s n no-ends (λ i l. silence_here i (omega arith)) in
+    let none = clear_frames n (omega arith) in
+    let before = due-clear_frames pads s n no-ends (λ i l. clear_frames i (omega arith)) in
     let others = rw (no-ends, last) at before in
     rw (no-ends, next) (omega (arith, more, none, others))
 
@@ -39,16 +39,16 @@ abbrev pub later : PadState → ℕ → PadState
 later s n = record s { pending = None; silent = 0; taken = s.taken + n; given = s.given + n }
 
 -- what a pad without a line meets before so many frames with no silence before them
-pub record SilentHere (s : PadState) (n : ℕ) : Type 0 where
+pub record AreClear (s : PadState) (n : ℕ) : Type 0 where
   pub is : IsPad s
   pub short : s.line.capacity ≡ 0
   pub empty : s.pending ≡ None
   pub none : s.silent ≡ 0
   pub running : s.ended ≡ false
-  pub silence_here : (i : ℕ) → i < n → silent_at (pads_from_start s.recipe.pads) (s.taken + i) ≡ 0
+  pub clear_frames : (i : ℕ) → i < n → silent_at (pads_from_start s.recipe.pads) (s.taken + i) ≡ 0
   pub bound : s.taken + n ≤ 2 ^ 56
 
-module _ (s : PadState) (n : ℕ) (x : Samples) (a : SilentHere s (suc n)) where
+module _ (s : PadState) (n : ℕ) (x : Samples) (a : AreClear s (suc n)) where
   no-line : s.line.items ≡ []
   no-line = let short = a.short in let full = a.is.full a.running in nil_from_length s.line.items (omega arith)
 
@@ -56,7 +56,7 @@ module _ (s : PadState) (n : ℕ) (x : Samples) (a : SilentHere s (suc n)) where
   no-ends = sym a.is.capacity ∙ a.short
 
   here : silent_at (pads_from_start s.recipe.pads) s.taken ≡ 0
-  here = let q = a.silence_here 0 (omega arith) in rw add-zero at q
+  here = let q = a.clear_frames 0 (omega arith) in rw add-zero at q
 
   dry : pad_acts.dry s ≡ true
   dry = rw (a.empty, a.none) refl
@@ -110,14 +110,14 @@ module _ (s : PadState) (n : ℕ) (x : Samples) (a : SilentHere s (suc n)) where
         fits = λ y e. absurd (cc);
       }
 
-  pub silence_here-next : SilentHere (later s 1) n
-  silence_here-next = record {
+  pub clear_frames-next : AreClear (later s 1) n
+  clear_frames-next = record {
     is = is-next;
     short = a.short;
     empty = refl;
     none = refl;
     running = a.running;
-    silence_here = λ i h. let e : s.taken + (i + 1) ≡ s.taken + 1 + i = omega arith in let q = a.silence_here (i + 1) (omega arith) in rw e at q;
+    clear_frames = λ i h. let e : s.taken + (i + 1) ≡ s.taken + 1 + i = omega arith in let q = a.clear_frames (i + 1) (omega arith) in rw e at q;
     bound = let bound = a.bound in omega arith;
   }
 
@@ -164,31 +164,31 @@ pub determined-pad : (s : PadState) → IsPad s → s.ended ≡ false → pad_ac
 determined-pad s is running dry =
     record { due = λ r. due-pad s is r dry; over = λ r. absurd (cc (r, running)) }
 
-pub silence_here-fed : (xs : List Samples) (s : PadState) → SilentHere s (length xs) → All (λ (x : Samples). length x ≡ s.recipe.channels) xs → Fed pad_acts s xs xs (later s (length xs)) × IsPad (later s (length xs))
-silence_here-fed [] s a sides =
+pub clear_frames-fed : (xs : List Samples) (s : PadState) → AreClear s (length xs) → All (λ (x : Samples). length x ≡ s.recipe.channels) xs → Fed pad_acts s xs xs (later s (length xs)) × IsPad (later s (length xs))
+clear_frames-fed [] s a sides =
     let same : ◌≡◌ {A = PadState} (later s 0) s = rw (add-zero s.taken, add-zero s.given, ← a.empty, ← a.none) refl in
     rw same (nothing, a.is)
-silence_here-fed (x ∷ xs) s a sides =
+clear_frames-fed (x ∷ xs) s a sides =
     let one = one-fed s (length xs) x a (All-head (λ (y : Samples). length y ≡ s.recipe.channels) x xs sides) in
-    let rest = silence_here-fed xs (later s 1) (silence_here-next s (length xs) x a) (All-tail (λ (y : Samples). length y ≡ s.recipe.channels) x xs sides) in
+    let rest = clear_frames-fed xs (later s 1) (clear_frames-next s (length xs) x a) (All-tail (λ (y : Samples). length y ≡ s.recipe.channels) x xs sides) in
     let count : s.taken + suc (length xs) ≡ s.taken + 1 + length xs = omega arith in
     let made : s.given + suc (length xs) ≡ s.given + 1 + length xs = omega arith in
     rw (count, made) (Fed-then pad_acts s (later s 1) (later (later s 1) (length xs)) (x ∷ []) (x ∷ []) xs xs one rest.0, rest.1)
 
 -- so many frames in front of the input
-pub silence_here-passed : (s : PadState) (n : ℕ) (input out : List ℤ) → SilentHere s n → n * s.recipe.channels ≤ length input → pieces s.recipe.channels n out ≡ pieces s.recipe.channels n input
+pub clear_frames-passed : (s : PadState) (n : ℕ) (input out : List ℤ) → AreClear s n → n * s.recipe.channels ≤ length input → pieces s.recipe.channels n out ≡ pieces s.recipe.channels n input
     → Fed pad_acts s (pieces s.recipe.channels n input) (pieces s.recipe.channels n out) (record s { taken = s.taken + n; given = s.given + n }) × IsPad (record s { taken = s.taken + n; given = s.given + n })
-silence_here-passed s n input out a free same =
+clear_frames-passed s n input out a free same =
     let ch : ℕ = s.recipe.channels in
     let many : length (pieces ch n input) ≡ n = length-pieces ch n input in
-    let all = silence_here-fed (pieces ch n input) s (rw many a) (pieces-sides ch n input free) in
+    let all = clear_frames-fed (pieces ch n input) s (rw many a) (pieces-sides ch n input free) in
     let last : ◌≡◌ {A = PadState} (record s { taken = s.taken + n; given = s.given + n }) (later s n) = rw (a.empty, a.none) refl in
     rw (last, same) (rw many at all)
 
 -- each of them was taken while the output had room for one more
-pub took-with-free : (s : PadState) (n free : ℕ) → SilentHere s n → n * s.recipe.channels ≤ free → TookWithinCapacity pad_acts s n free
+pub took-with-free : (s : PadState) (n free : ℕ) → AreClear s n → n * s.recipe.channels ≤ free → TookWithinSpace pad_acts s n free
 took-with-free s n free a fits =
     let counted = a.is.counted a.running in
     let pending : length (option_to_list s.pending) ≡ 0 = ap (λ h. length (option_to_list h)) a.empty in
     let none = a.none in
-    free-each pad_acts s n free (λ i bound. let due = due-silence_here s.recipe.pads s.taken i (sym a.is.capacity ∙ a.short) (λ j h. a.silence_here j (omega arith)) in omega (arith, due, counted, pending, none)) fits
+    free-each pad_acts s n free (λ i bound. let due = due-clear_frames s.recipe.pads s.taken i (sym a.is.capacity ∙ a.short) (λ j h. a.clear_frames j (omega arith)) in omega (arith, due, counted, pending, none)) fits

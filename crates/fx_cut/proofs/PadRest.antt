@@ -6,7 +6,7 @@ use mathlib.Core.Path.{ap₂}
 use Rattle.fx_fixed.specs.Extents.{largest}
 use Rattle.fx_cut.specs.PadExtents.{pad_distance}
 use Rattle.fx_fixed.specs.declared.positions.At.{At}
-use Rattle.fx_frame_stage.specs.Frame.{Samples, silence}
+use Rattle.fx_frame_base.specs.Frame.{Samples, silence}
 use Rattle.fx_cut.specs.Pad.{PadArguments, ats, placed, silent_at, padded, pads_from_start, RisesFrom}
 use Rattle.fx_cut.specs.PadState.{padded_from, pad_rest, pad_after, unless_last}
 use Rattle.fx_cut.proofs.PadLaws.{pad_first, same_silence}

@@ -8,11 +8,11 @@ use mathlib.Core.Path.{ap₂}
 use Rattle.fx_fixed.specs.Extents.{largest}
 use Rattle.fx_cut.specs.PadExtents.{pad_distance}
 use Rattle.fx_fixed.specs.declared.positions.At.{At}
-use Rattle.fx_frame_stage.specs.Frame.{Samples, silence}
-use Rattle.fx_frame_stage.specs.PendingFrame.{IsPending}
+use Rattle.fx_frame_base.specs.Frame.{Samples, silence}
+use Rattle.fx_frame_base.specs.PendingFrame.{IsPending}
 use Rattle.fx_frame_line.specs.Line.{Frames, IsLine}
-use Rattle.fx_frame_stage.specs.Stage.{Gave, Took, Ended, coming}
-use Rattle.fx_frame_stage.specs.Given.{plain}
+use Rattle.fx_frame_base.specs.Stage.{Gave, Took, Ended, coming}
+use Rattle.fx_frame_base.specs.Given.{plain}
 use Rattle.fx_cut.specs.Pad.{PadArguments, IsPads, lengths, pad_due, padded, pads_from_start, placed, silent_at}
 use Rattle.fx_cut.specs.PadState.{PadState, IsPad, all_padded, pad_acts, pad_after, pad_left, pad_rest, padded_from, silence_from, unless_last}
 use Rattle.fx_cut.proofs.Fallen.{fallen, stays, no_fall, stays-free, is_full, oldest-first}
@@ -59,8 +59,8 @@ module _ (s : PadState) (frame : Samples) (is : IsPad s) (dry : pad_acts.dry s �
   none : s.pending ≡ None
   none = (dry-pending s.pending s.silent dry).0
 
-  silence_here : s.silent ≡ 0
-  silence_here = (dry-pending s.pending s.silent dry).1
+  silent_frames : s.silent ≡ 0
+  silent_frames = (dry-pending s.pending s.silent dry).1
 
   -- it stays in the line
   left-inside : (line : Frames ℤ) → None ≡ fallen s.line.capacity s.line.items frame → line.items ≡ stays s.line.capacity s.line.items frame → (z : List Samples)
@@ -70,7 +70,7 @@ module _ (s : PadState) (frame : Samples) (is : IsPad s) (dry : pad_acts.dry s �
       let i : line.items ≡ s.line.items ++ frame ∷ [] = items ∙ stays-free _ _ _ l in
       let h = is.held in
       let n : s.taken + 1 - length (s.line.items ++ frame ∷ []) ≡ s.taken - length s.line.items = omega (arith, length-append s.line.items (frame ∷ [])) in
-      rw (none, silence_here, running, i, n) (sym (pad_taken s.recipe.channels s.recipe.pads (s.taken - length s.line.items) s.line.items frame z))
+      rw (none, silent_frames, running, i, n) (sym (pad_taken s.recipe.channels s.recipe.pads (s.taken - length s.line.items) s.line.items frame z))
 
   -- the oldest falls out
   pub left-fallen : (line : Frames ℤ) (o : Samples) (silent : ℕ) → Some o ≡ fallen s.line.capacity s.line.items frame → line.items ≡ stays s.line.capacity s.line.items frame
@@ -86,7 +86,7 @@ module _ (s : PadState) (frame : Samples) (is : IsPad s) (dry : pad_acts.dry s �
       let ends : largest (map pad_distance s.recipe.pads) ≤ length line.items = omega arith in
       let n : ℕ = s.taken - length s.line.items in
       let next : s.taken + 1 - length line.items ≡ n + 1 = omega arith in
-      rw (none, silence_here, running, k, next) (sym (
+      rw (none, silent_frames, running, k, next) (sym (
       pad_taken s.recipe.channels s.recipe.pads n s.line.items frame z
       ∙ ap (λ l. pad_rest s.recipe.channels s.recipe.pads n l z) split
       ∙ pad_let_go s.recipe.channels s.recipe.pads n o line.items z is.pads.rising ends))
@@ -138,7 +138,7 @@ module _ (s : PadState) (frame : Samples) (is : IsPad s) (dry : pad_acts.dry s �
       let same : s.taken - length s.line.items ≡ n = omega arith in
       let next : s.taken + 1 - largest (map pad_distance s.recipe.pads) ≡ n + 1 = omega arith in
       let empty : length (option_to_list s.pending) ≡ 0 = ap (λ h. length (option_to_list h)) none in
-      let nothing : s.silent ≡ 0 = silence_here in
+      let nothing : s.silent ≡ 0 = silent_frames in
       let counted = is.counted running in
       let k' : silent ≡ silent_at (pads_from_start s.recipe.pads) n = rw same at k in
       let more = upto_more n (pads_from_start s.recipe.pads) in
@@ -171,12 +171,12 @@ abbrev pub drawn : PadState → Frames ℤ → ℕ → Option Samples → ℕ �
 drawn s line silent pending given ended = record s { line = line; silent = silent; pending = pending; given = given; ended = ended }
 
 module _ (s : PadState) (line : Frames ℤ) (silent : ℕ) (pending : Option Samples) (given : ℕ) (ended : Bool) (is : IsPad s) (over : ended ≡ true)
-    (oldest : pending ≡ slice_get s.line.items 0) (items : line.items ≡ drop 1 s.line.items) (silence_here : silent ≡ silent_at (placed s.taken s.recipe.pads) (s.taken - length s.line.items)) where
+    (oldest : pending ≡ slice_get s.line.items 0) (items : line.items ≡ drop 1 s.line.items) (silent_frames : silent ≡ silent_at (placed s.taken s.recipe.pads) (s.taken - length s.line.items)) where
   left-drawn : (z : List Samples) → pad_left (drawn s line silent pending given ended) z ≡ pad_after s.recipe s.taken s.line.items []
   left-drawn z =
       let h : length s.line.items ≤ s.taken = let w = is.held in omega arith in
       left-ended s.recipe silent pending s.taken line.items ended z over
-      ∙ ap (λ k. replicate k (silence s.recipe.channels) ++ (option_to_list pending ++ unless_last true pending (pad_after s.recipe s.taken line.items []))) silence_here
+      ∙ ap (λ k. replicate k (silence s.recipe.channels) ++ (option_to_list pending ++ unless_last true pending (pad_after s.recipe s.taken line.items []))) silent_frames
       ∙ sym (pad_drained s.recipe s.taken s.line.items line.items pending oldest items h)
 
   pub IsPad-drawn : IsLine w32 line → line.capacity ≡ s.line.capacity → line.channels ≡ s.line.channels → IsPending s.recipe.channels pending

@@ -7,10 +7,10 @@ use Rattle.std.proofs.lemmas.List.{length-replicate, nil_from_length}
 use Rattle.fx_fixed.specs.Extents.{largest}
 use Rattle.fx_cut.specs.PadExtents.{pad_distance}
 use Rattle.fx_fixed.specs.declared.positions.At.{At}
-use Rattle.fx_frame_stage.specs.Frame.{Samples, silence}
+use Rattle.fx_frame_base.specs.Frame.{Samples, silence}
 use Rattle.fx_frame.specs.Frozen.{IsStored}
 use Rattle.fx_frame_line.specs.Line.{Frames}
-use Rattle.fx_frame_stage.specs.Stage.{Freezes, coming, numbers_of}
+use Rattle.fx_frame_base.specs.Stage.{Freezes, coming, numbers_of}
 use Rattle.fx_cut.specs.Pad.{IsPads, ats, lengths, pad_due, pads_from_start, placed, silent_at, RisesFrom}
 use Rattle.fx_cut.specs.PadState.{PadState, IsPad, IsPadCount, all_padded, later_count, pad_acts, pad_after, pad_left, padded_from, unless_last}
 use Rattle.fx_cut.proofs.PendingLemmas.{no-pending}
@@ -42,11 +42,11 @@ front channels ps (suc m) y r (inl e) = absurd (omega arith)
 front channels ps (suc m) y r (inr h) =
     let before : m + upto ps m + length (padded_from channels (m + length ([] ∷ y)) ps m ([] ∷ y)) ≤ m + length ([] ∷ y) + lengths ps = front channels ps m ([] ∷ y) r (inr (omega arith)) in
     let len : ℕ = m + length ([] ∷ y) in
-    let silence_here : List Samples = replicate (silent_at (placed len ps) m) (silence channels) in
+    let silent_frames : List Samples = replicate (silent_at (placed len ps) m) (silence channels) in
     let same : silent_at (placed len ps) m ≡ silent_at (pads_from_start ps) m = same_silence len m 0 ps (omega arith) r in
-    let size : length silence_here ≡ silent_at (placed len ps) m = length-replicate (silent_at (placed len ps) m) (silence channels) in
-    let whole : length (padded_from channels len ps m ([] ∷ y)) ≡ length silence_here + suc (length (padded_from channels len ps (m + 1) y)) =
-    ap length (pad_first channels len ps m [] y) ∙ length-append silence_here ([] ∷ padded_from channels len ps (m + 1) y) in
+    let size : length silent_frames ≡ silent_at (placed len ps) m = length-replicate (silent_at (placed len ps) m) (silence channels) in
+    let whole : length (padded_from channels len ps m ([] ∷ y)) ≡ length silent_frames + suc (length (padded_from channels len ps (m + 1) y)) =
+    ap length (pad_first channels len ps m [] y) ∙ length-append silent_frames ([] ∷ padded_from channels len ps (m + 1) y) in
     let next : length (padded_from channels len ps (m + 1) y) ≡ length (padded_from channels (suc m + length y) ps (suc m) y) =
     ap (λ (p : ℕ × ℕ). length (padded_from channels (p.0) ps (p.1) y)) (let a : len ≡ suc m + length y = omega arith in let b : m + 1 ≡ suc m = omega arith in ap₂ (λ u v. (u, v)) a b) in
     let more : upto ps (suc m) ≡ upto ps m + silent_at (pads_from_start ps) m = ap (upto ps) (let b : suc m ≡ m + 1 = omega arith in b) ∙ upto_more m (pads_from_start ps) in

@@ -1,7 +1,7 @@
 -- A frame in hand, or none.
 use Rattle.std.proofs.Common.{◌≡◌, ◌≤◌, true, [], length, refl, arith}
 use Rattle.std.specs.Prelude.{Option, Some, None, option_to_list, is_none}
-use Rattle.fx_frame_stage.specs.Frame.{Samples}
+use Rattle.fx_frame_base.specs.Frame.{Samples}
 
 pub none_of : (pending : Option Samples) → is_none pending ≡ true → pending ≡ None
 none_of None h = refl

@@ -5,14 +5,14 @@ use Rattle.std.specs.List.{All}
 use Rattle.std.proofs.lemmas.List.Elements.{All-append, All-head, All-nil, All-tail}
 use Rattle.std.proofs.lemmas.List.{drop-drop, drop_at, length-take, length-take-le, nil_from_length, take-take, take-append-drop}
 use Rattle.std.proofs.Math.Nat.{add-mul, div-mul-le_self, mul-le-mul_right, suc-mul, mul-le-mul_left, le_of_mul-le-mul_right}
-use Rattle.fx_frame_stage.specs.Feed.{Fed, TookWithinCapacity}
-use Rattle.fx_frame_lists.specs.Lists.{pieces}
-use Rattle.fx_frame_stage.specs.Stage.{Acts, kind, spent}
-use Rattle.fx_frame_stage.proofs.FedLaws.{Fed-gives}
-use Rattle.fx_frame_stage.proofs.FeedParts.{Fed-rest_unchanged}
-use Rattle.fx_frame_stage.proofs.Capacities.{free-then}
-use Rattle.fx_frame_lists.proofs.Puts.{part-from, pieces-same, put-from}
-use Rattle.fx_frame_lists.proofs.Pieces.{length-pieces}
+use Rattle.fx_frame_base.specs.Feed.{Fed, TookWithinSpace}
+use Rattle.fx_frame_base.specs.Lists.{pieces}
+use Rattle.fx_frame_base.specs.Stage.{Acts, kind, spent}
+use Rattle.fx_frame_base.proofs.FedLaws.{Fed-gives}
+use Rattle.fx_frame_base.proofs.FeedParts.{Fed-rest_unchanged}
+use Rattle.fx_frame_base.proofs.Capacities.{free-then}
+use Rattle.fx_frame_base.proofs.Puts.{part-from, pieces-same, put-from}
+use Rattle.fx_frame_base.proofs.Pieces.{length-pieces}
 use borrow.Rule.Slice.PartMut.{put_mid}
 
 module _ {X : Type 0} where
@@ -65,7 +65,7 @@ module _ {S R : Type 0} (acts : Acts S R) where
     pub written : k * (kind acts first).outputs ≤ length out
     pub rest_unchanged : drop (k * (kind acts first).outputs) out ≡ drop (k * (kind acts first).outputs) start
     pub same : length out ≡ length start
-    pub free : TookWithinCapacity acts first n (length start)
+    pub free : TookWithinSpace acts first n (length start)
 
   -- and that it passed all that it could
   pub record FedOut (first s : S) (input out : List ℤ) (n k : ℕ) : Type 0 where
@@ -121,7 +121,7 @@ module _ {S R : Type 0} (acts : Acts S R) where
         long = omega (arith, front, length-append (take (k * (kind acts first).outputs) mid) rest_unchanged)
 
         -- what was left behind the first call had room for those of the second
-        free_lengths : TookWithinCapacity acts first (n + m) (length start)
+        free_lengths : TookWithinSpace acts first (n + m) (length start)
         free_lengths =
             let outs' : ℕ = (kind acts first).outputs in
             let all = Fed-gives acts first s _ _ one.fed in

@@ -7,19 +7,19 @@ use Rattle.std.proofs.lemmas.Bool.{cases_lt}
 use Rattle.std.proofs.lemmas.List.Elements.{All-cons, All-head, All-nil, All-tail, All-take}
 use Rattle.std.proofs.lemmas.Nat.{le-div}
 use Rattle.std.proofs.Math.Nat.{div-mul-le_self}
-use Rattle.fx_frame_stage.specs.declared.feed.Passing.TheVariants.{Through}
-use Rattle.fx_frame_stage.specs.Feed.{Fed, GaveNext, PassedOn, TookNext, TookWithinCapacity, nothing, taken, given}
-use Rattle.fx_frame_stage.specs.Frame.{IsFrame, Samples}
-use Rattle.fx_frame_stage.specs.PendingFrame.{IsPending}
-use Rattle.fx_frame_stage.specs.Given.{plain}
+use Rattle.fx_frame_base.specs.declared.feed.Passing.TheVariants.{Through}
+use Rattle.fx_frame_base.specs.Feed.{Fed, GaveNext, PassedOn, TookNext, TookWithinSpace, nothing, taken, given}
+use Rattle.fx_frame_base.specs.Frame.{IsFrame, Samples}
+use Rattle.fx_frame_base.specs.PendingFrame.{IsPending}
+use Rattle.fx_frame_base.specs.Given.{plain}
 use Rattle.fx_frame_line.specs.Line.{Frames, IsLine, IsSamples, pushed_all}
 use Rattle.fx_frame_line.proofs.ManyFrames.{frames-samples}
-use Rattle.fx_frame_lists.specs.Lists.{pieces}
-use Rattle.fx_frame_lists.proofs.Puts.{pieces-take}
-use Rattle.fx_frame_lists.proofs.Pieces.{length-pieces}
-use Rattle.fx_frame_stage.specs.Stage.{Given, is_enough}
-use Rattle.fx_frame_stage.proofs.FedLaws.{Fed-then}
-use Rattle.fx_frame_stage.proofs.Capacities.{free-maximum}
+use Rattle.fx_frame_base.specs.Lists.{pieces}
+use Rattle.fx_frame_base.proofs.Puts.{pieces-take}
+use Rattle.fx_frame_base.proofs.Pieces.{length-pieces}
+use Rattle.fx_frame_base.specs.Stage.{Given, is_enough}
+use Rattle.fx_frame_base.proofs.FedLaws.{Fed-then}
+use Rattle.fx_frame_base.proofs.Capacities.{free-maximum}
 use Rattle.fx_cut.specs.Selected.{AreDetermined, IsSelectedState, Selects, SelectedState, made_along, determined_in, selected_acts, selected_here}
 use Rattle.fx_cut.proofs.Fallen.{fallen}
 use Rattle.fx_cut.proofs.Onto.{gone, onto, onto-line, onto-long, onto-more, onto-none, out-full, out-more, out-free, out_of, same-line}
@@ -326,7 +326,7 @@ module _ {M : Type 0} (selects : Selects M) where
 
     -- each of so many frames was taken while the output had room for one more, where it has room for those that fall out
     pub took-with-free : (s : SelectedState M) (n free : ℕ) → IsSelectedState selects s → s.pending ≡ None → s.ended ≡ false → 0 < selects.channels s.arguments → selects.channels s.arguments ≤ free
-        → n ≤ free / selects.channels s.arguments + (s.line.capacity - length s.line.items) → TookWithinCapacity (selected_acts selects) s n free
+        → n ≤ free / selects.channels s.arguments + (s.line.capacity - length s.line.items) → TookWithinSpace (selected_acts selects) s n free
     took-with-free s n free is empty running wide one fits =
         let w : ℕ = selects.channels s.arguments in
         let full = is.full running in

@@ -2,13 +2,13 @@
 use Rattle.std.proofs.Common.{◌≡◌, ◌+◌, ◌-◌, ◌<◌, ◌≤◌, ◌^◌, true, false, [], ◌∷◌, length, map, refl, subst, sym, ap, arith, length-append, ℤ}
 use Rattle.std.specs.Prelude.{Some, None, option_to_list, is_none}
 use Rattle.std.specs.Int.{w32}
-use Rattle.fx_frame_stage.specs.declared.feed.Passing.TheVariants.{Kept, Through}
-use Rattle.fx_frame_stage.specs.Feed.{GaveNext, IsHeld, PassedOn, TookNext}
-use Rattle.fx_frame_stage.specs.Frame.{IsFrame, Samples}
-use Rattle.fx_frame_stage.specs.PendingFrame.{IsPending}
-use Rattle.fx_frame_stage.specs.Given.{plain}
+use Rattle.fx_frame_base.specs.declared.feed.Passing.TheVariants.{Kept, Through}
+use Rattle.fx_frame_base.specs.Feed.{GaveNext, IsHeld, PassedOn, TookNext}
+use Rattle.fx_frame_base.specs.Frame.{IsFrame, Samples}
+use Rattle.fx_frame_base.specs.PendingFrame.{IsPending}
+use Rattle.fx_frame_base.specs.Given.{plain}
 use Rattle.fx_frame_line.specs.Line.{Frames, IsLine}
-use Rattle.fx_frame_stage.specs.Stage.{Gave, IsDry, spent}
+use Rattle.fx_frame_base.specs.Stage.{Gave, IsDry, spent}
 use Rattle.fx_cut.specs.Selected.{AreDetermined, IsSelectedState, Selects, SelectedState, determined_in, selected_acts, selected_here}
 use Rattle.fx_cut.proofs.Fallen.{fallen, stays}
 use Rattle.fx_cut.proofs.PendingLemmas.{at_most_one, empty-pending, none_of}

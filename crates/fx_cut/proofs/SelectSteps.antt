@@ -6,12 +6,12 @@ use Rattle.std.proofs.lemmas.Bool.{cases_lt, false≢true}
 use Rattle.std.proofs.lemmas.List.{length-map, nil_from_length}
 use mathlib.Core.Logic.{inl, inr}
 use mathlib.Core.Path.{ap₂}
-use Rattle.fx_frame_stage.specs.Frame.{Samples}
-use Rattle.fx_frame_stage.specs.PendingFrame.{IsPending}
+use Rattle.fx_frame_base.specs.Frame.{Samples}
+use Rattle.fx_frame_base.specs.PendingFrame.{IsPending}
 use Rattle.fx_frame_line.specs.Line.{Frames, IsLine}
-use Rattle.fx_frame_stage.specs.Stage.{Gave, Given, Took, coming}
-use Rattle.fx_frame_stage.specs.Given.{plain}
-use Rattle.fx_frame_stage.proofs.Flags.{flag-le}
+use Rattle.fx_frame_base.specs.Stage.{Gave, Given, Took, coming}
+use Rattle.fx_frame_base.specs.Given.{plain}
+use Rattle.fx_frame_base.proofs.Flags.{flag-le}
 use Rattle.fx_cut.specs.Selected.{AreDetermined, IsSelectedState, Selects, SelectedState, given_before, determined_in, selected_acts, selected_after, selected_from, selected_here}
 use Rattle.fx_cut.proofs.Fallen.{fallen, stays, no_fall, stays-free, is_full, oldest-first, first-popped}
 use Rattle.fx_cut.proofs.PendingLemmas.{at_most_one, empty-pending}

@@ -2,10 +2,10 @@
 use Rattle.std.proofs.Common.{◌≡◌, ℕ, ℤ, ◌+◌, ◌-◌, ◌≤◌, ◌^◌, Bool, List, length, sym, ◌∙◌, ap, arith, length-append}
 use Rattle.std.proofs.lemmas.List.{nil_from_length}
 use Rattle.std.specs.Prelude.{Option, option_to_list, nat_eq, slice_index_or}
-use Rattle.fx_frame_stage.specs.Frame.{Samples}
+use Rattle.fx_frame_base.specs.Frame.{Samples}
 use Rattle.fx_frame.specs.Frozen.{IsStored}
 use Rattle.fx_frame_line.specs.Line.{Frames}
-use Rattle.fx_frame_stage.specs.Stage.{numbers_of}
+use Rattle.fx_frame_base.specs.Stage.{numbers_of}
 use Rattle.fx_cut.specs.Selected.{IsSelectCount, IsSelectedState, Selects, SelectedState, selected_acts}
 use Rattle.fx_cut.proofs.PendingLemmas.{no-pending}
 use Rattle.fx_cut.proofs.Thawing.{lined}

@@ -5,14 +5,14 @@ use Rattle.std.specs.Int.{w32}
 use Rattle.std.specs.List.{All}
 use Rattle.std.proofs.lemmas.Bool.{cases_lt}
 use Rattle.std.proofs.lemmas.List.Elements.{All-head, All-tail}
-use Rattle.fx_frame_stage.specs.Frame.{Samples}
-use Rattle.fx_frame_stage.specs.Given.{plain}
-use Rattle.fx_frame_stage.specs.Pipeline.{EachThrough}
-use Rattle.fx_frame_stage.specs.Stage.{is_enough}
+use Rattle.fx_frame_base.specs.Frame.{Samples}
+use Rattle.fx_frame_base.specs.Given.{plain}
+use Rattle.fx_frame_base.specs.Pipeline.{EachThrough}
+use Rattle.fx_frame_base.specs.Stage.{is_enough}
 use Rattle.fx_frame_line.specs.Line.{Frames, IsSamples, pushed_all}
 use Rattle.fx_frame_line.proofs.ManyFrames.{frames-samples}
-use Rattle.fx_frame_lists.specs.Lists.{pieces}
-use Rattle.fx_frame_lists.proofs.Pieces.{length-pieces}
+use Rattle.fx_frame_base.specs.Lists.{pieces}
+use Rattle.fx_frame_base.proofs.Pieces.{length-pieces}
 use Rattle.fx_cut.specs.Selected.{AreDetermined, IsSelectedState, Selects, SelectedState, made_along, determined_in, selected_acts}
 use Rattle.fx_cut.proofs.Fallen.{fallen}
 use Rattle.fx_cut.proofs.Onto.{gone, onto, onto-long, onto-none, out-more, out_of, same-line}

@@ -1,6 +1,6 @@
 -- What the numbers of a stage tell again.
 use Rattle.std.proofs.Common.{◌≡◌, ◌-◌, List, ◌++◌, length, arith, length-append}
-use Rattle.fx_frame_stage.specs.Frame.{Samples}
+use Rattle.fx_frame_base.specs.Frame.{Samples}
 
 -- the frames of the line are those that are stored and not in hand
 pub lined : (items pending_count : List Samples) → length (items ++ pending_count) - length pending_count ≡ length items

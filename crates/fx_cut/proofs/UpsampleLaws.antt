@@ -3,14 +3,14 @@ use Rattle.std.proofs.Common.{ℕ, zero, suc, ◌+◌, ◌-◌, ◌*◌, ◌<◌
 use Rattle.std.specs.Prelude.{is_none}
 use Rattle.std.proofs.Math.Nat.{mod-eq_of_lt, div-eq_of_lt, add-mod_left, add-div_left}
 use Rattle.std.proofs.lemmas.List.{length-replicate}
-use Rattle.fx_frame_stage.specs.Stage.{Gave, Took, Given}
+use Rattle.fx_frame_base.specs.Stage.{Gave, Took, Given}
 use Rattle.fx_cut.specs.UpsampleState.{UpsampleState, IsUpsample, upsample_acts}
 use Prim.Native.Nat.compare
-use Rattle.fx_frame_stage.specs.Frame.{Samples, silence}
-use Rattle.fx_frame_lists.specs.Lists.{tabulate}
-use Rattle.fx_frame_stage.specs.Given.{plain}
+use Rattle.fx_frame_base.specs.Frame.{Samples, silence}
+use Rattle.fx_frame_base.specs.Lists.{tabulate}
+use Rattle.fx_frame_base.specs.Given.{plain}
 use Rattle.fx_cut.specs.Upsample.{upsampled, upsampled_at}
-use Rattle.fx_frame_lists.proofs.Tabulate.{tabulate-append, tabulate-same, tabulate-replicate}
+use Rattle.fx_frame_base.proofs.Tabulate.{tabulate-append, tabulate-same, tabulate-replicate}
 use Rattle.fx_frame.proofs.DryLaws.{dry-tail}
 
 module _ (channels factor : ℕ) (some : 0 < factor) (x : Samples) (z : List Samples) where

@@ -3,13 +3,13 @@ use Rattle.std.proofs.Common.{◌≡◌, ◌+◌, ◌-◌, ◌*◌, ◌/◌, ◌
 use Rattle.std.specs.Prelude.{Some, None, option_to_list, pos}
 use Rattle.std.proofs.lemmas.List.{drop-drop, drop-replicate, drop_at, length-take-le, take-replicate, take_at}
 use Rattle.std.proofs.Math.Nat.{add-mul, mul-le-mul_right, suc-mul}
-use Rattle.fx_frame_stage.specs.Feed.{Fed, GaveNext, TookNext, TookWithinCapacity, nothing, taken, given}
-use Rattle.fx_frame_stage.specs.Frame.{Samples, silence}
-use Rattle.fx_frame_lists.specs.Lists.{pieces}
-use Rattle.fx_frame_stage.proofs.FedLaws.{Fed-then}
-use Rattle.fx_frame_stage.proofs.Capacities.{free-maximum}
-use Rattle.fx_frame_lists.proofs.Puts.{pieces-split, pieces-take}
-use Rattle.fx_frame_lists.proofs.Pieces.{pieces-front}
+use Rattle.fx_frame_base.specs.Feed.{Fed, GaveNext, TookNext, TookWithinSpace, nothing, taken, given}
+use Rattle.fx_frame_base.specs.Frame.{Samples, silence}
+use Rattle.fx_frame_base.specs.Lists.{pieces}
+use Rattle.fx_frame_base.proofs.FedLaws.{Fed-then}
+use Rattle.fx_frame_base.proofs.Capacities.{free-maximum}
+use Rattle.fx_frame_base.proofs.Puts.{pieces-split, pieces-take}
+use Rattle.fx_frame_base.proofs.Pieces.{pieces-front}
 use Rattle.fx_cut.specs.Strides.{spread}
 use Rattle.fx_cut.specs.UpsampleState.{UpsampleState, IsUpsample, upsample_acts}
 use Rattle.fx_cut.proofs.Pieces.{first-piece}
@@ -158,7 +158,7 @@ all-passed s n input out r free bound same =
     rw (end, same) (frames-fed n s input r free bound)
 
 -- each of them was taken while the output had room for one more
-pub took-with-free : (s : UpsampleState) (n free : ℕ) → Ready s → n * s.recipe.factor * s.recipe.channels ≤ free → TookWithinCapacity upsample_acts s n free
+pub took-with-free : (s : UpsampleState) (n free : ℕ) → Ready s → n * s.recipe.factor * s.recipe.channels ≤ free → TookWithinSpace upsample_acts s n free
 took-with-free s n free r fits i bound =
     let f : ℕ = s.recipe.factor in
     let counted = r.is.counted in

@@ -12,8 +12,8 @@ use Rattle.fx_fixed.specs.Rounding.{nearest, nearest_natural, signed, clipping}
 use Rattle.fx_fixed.proofs.Shifting.{nearest_natural-cancel}
 use Rattle.fx_fixed.proofs.Signs.{nearest-neg}
 use Rattle.fx_fixed.proofs.AtMostWhole.{fits-neg, fits-pos, nearest-le, not-clipped, unclipped-neg, unclipped-pos}
-use Rattle.fx_frame_stage.specs.Given.{given_samples, plain}
-use Rattle.fx_frame_lists.specs.Rounded.{unclipped}
+use Rattle.fx_frame_base.specs.Given.{given_samples, plain}
+use Rattle.fx_frame_base.specs.Rounded.{unclipped}
 use Rattle.fx_cut.specs.Fade.{both, weighted}
 
 nearest-whole : (n d : ℕ) → 0 < d → nearest_natural (n * d) d ≡ n

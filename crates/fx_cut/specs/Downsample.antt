@@ -1,10 +1,10 @@
 -- The effect `downsample` (sox(1), EFFECTS, downsample): the first frame of every group of as many frames as the factor.
 use Rattle.std.specs.Prelude.{ℕ, ◌*◌, ◌^◌, None, List, [], length, slice_index_or}
 use Rattle.std.specs.Int.{div_ceil}
-use Rattle.fx_frame_stage.specs.Frame.{Samples}
-use Rattle.fx_frame_stage.specs.Stage.{Given, StageKind}
-use Rattle.fx_frame_lists.specs.Lists.{tabulate}
-use Rattle.fx_frame_stage.specs.Given.{plain}
+use Rattle.fx_frame_base.specs.Frame.{Samples}
+use Rattle.fx_frame_base.specs.Stage.{Given, StageKind}
+use Rattle.fx_frame_base.specs.Lists.{tabulate}
+use Rattle.fx_frame_base.specs.Given.{plain}
 use Rattle.fx_cut.specs.Factor.{FactorArguments}
 
 -- the frames whose numbers are multiples of the factor

@@ -1,10 +1,10 @@
 -- The stage of `downsample`: what it stores, its invariant, and what it is still to give (this project's profile).
 use Rattle.std.specs.Prelude.{ℕ, ◌+◌, ◌*◌, ◌^◌, ◌<◌, ◌≤◌, ◌≡◌, Bool, true, Option, ◌++◌, drop, length, map, option_to_list, is_none}
 use Rattle.std.specs.Int.{div_ceil}
-use Rattle.fx_frame_stage.specs.Frame.{Samples}
-use Rattle.fx_frame_stage.specs.Stage.{Acts, coming}
-use Rattle.fx_frame_stage.specs.PendingFrame.{IsPending}
-use Rattle.fx_frame_stage.specs.Given.{plain}
+use Rattle.fx_frame_base.specs.Frame.{Samples}
+use Rattle.fx_frame_base.specs.Stage.{Acts, coming}
+use Rattle.fx_frame_base.specs.PendingFrame.{IsPending}
+use Rattle.fx_frame_base.specs.Given.{plain}
 use Rattle.fx_cut.specs.Factor.{FactorArguments, IsFactor}
 use Rattle.fx_cut.specs.Downsample.{downsampled, downsample_kind, downsample_meaning}
 

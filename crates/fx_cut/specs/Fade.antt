@@ -7,9 +7,9 @@ use Rattle.fx_fixed.specs.Positions.{place_of}
 use Rattle.fx_fixed.specs.Rounding.{rounding}
 use Rattle.fx_fixed.specs.declared.positions.At.{At}
 use Rattle.fx_fixed.specs.declared.positions.At.TheVariants.{Start, End}
-use Rattle.fx_frame_stage.specs.Frame.{Samples}
-use Rattle.fx_frame_stage.specs.Stage.{Given, StageKind}
-use Rattle.fx_frame_stage.specs.Given.{given_samples}
+use Rattle.fx_frame_base.specs.Frame.{Samples}
+use Rattle.fx_frame_base.specs.Stage.{Given, StageKind}
+use Rattle.fx_frame_base.specs.Given.{given_samples}
 use Rattle.fx_cut.specs.declared.fade.FadeShape.{FadeShape}
 
 -- n parts of a length, at most 1, as a numerator and a denominator; a fade of no length has the weight 1

@@ -7,7 +7,7 @@ use Rattle.std.proofs.lemmas.Bool.{cases_lt, le-ltb, lt-ltb}
 use Rattle.fx_cut.specs.FadeExtents.{stop_line}
 use Rattle.fx_fixed.specs.declared.positions.At.{At}
 use Rattle.fx_fixed.specs.declared.positions.At.TheVariants.{Start, End}
-use Rattle.fx_frame_stage.specs.Frame.{Samples}
+use Rattle.fx_frame_base.specs.Frame.{Samples}
 use Rattle.fx_cut.specs.declared.fade.FadeShape.{FadeShape}
 use Rattle.fx_cut.specs.Fade.{FadeArguments, due_by, fade_enough, fade_meaning, faded_frame, stop_in, until, weight}
 use Rattle.fx_cut.specs.FadeState.{fade_selects, is_before}

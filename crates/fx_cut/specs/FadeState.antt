@@ -1,7 +1,7 @@
 -- The stage of `fade`: how it selects frames of a sound (this project's profile).
 use Rattle.std.specs.Prelude.{ℕ, ◌+◌, nat_lt, Bool, true, if◌then◌else◌, List, [], ◌∷◌, Option, Some, None}
-use Rattle.fx_frame_stage.specs.Frame.{Samples}
-use Rattle.fx_frame_stage.specs.Stage.{Acts, Given}
+use Rattle.fx_frame_base.specs.Frame.{Samples}
+use Rattle.fx_frame_base.specs.Stage.{Acts, Given}
 use Rattle.fx_cut.specs.declared.fade.FadeShape.{FadeShape}
 use Rattle.fx_cut.specs.Fade.{faded_frame, stop_in, fade_line, fade_due, fade_enough, FadeArguments, fade_meaning}
 use Rattle.fx_cut.specs.Selected.{Selects, SelectedState, selected_acts}

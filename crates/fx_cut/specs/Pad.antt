@@ -7,9 +7,9 @@ use Rattle.fx_cut.specs.PadExtents.{pad_distance, pad_length}
 use Rattle.fx_fixed.specs.Positions.{places_after}
 use Rattle.fx_fixed.specs.declared.positions.At.{At}
 use Rattle.fx_fixed.specs.declared.positions.At.TheVariants.{Start, End}
-use Rattle.fx_frame_stage.specs.Frame.{Samples, silence}
-use Rattle.fx_frame_stage.specs.Given.{plain}
-use Rattle.fx_frame_stage.specs.Stage.{StageKind, Given}
+use Rattle.fx_frame_base.specs.Frame.{Samples, silence}
+use Rattle.fx_frame_base.specs.Given.{plain}
+use Rattle.fx_frame_base.specs.Stage.{StageKind, Given}
 
 -- the positions of pads, each of which is a length and a position
 abbrev pub ats : List (ℕ × At) → List At

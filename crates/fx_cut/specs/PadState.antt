@@ -6,11 +6,11 @@ use Rattle.std.specs.Int.{w32}
 use Rattle.fx_fixed.specs.Extents.{largest}
 use Rattle.fx_cut.specs.PadExtents.{pad_distance}
 use Rattle.fx_fixed.specs.declared.positions.At.{At}
-use Rattle.fx_frame_stage.specs.Frame.{Samples, silence}
+use Rattle.fx_frame_base.specs.Frame.{Samples, silence}
 use Rattle.fx_frame_line.specs.Line.{Frames, IsLine}
-use Rattle.fx_frame_stage.specs.PendingFrame.{IsPending}
-use Rattle.fx_frame_stage.specs.Stage.{Acts, coming}
-use Rattle.fx_frame_stage.specs.Given.{plain}
+use Rattle.fx_frame_base.specs.PendingFrame.{IsPending}
+use Rattle.fx_frame_base.specs.Stage.{Acts, coming}
+use Rattle.fx_frame_base.specs.Given.{plain}
 use Rattle.fx_cut.specs.Pad.{lengths, placed, silent_at, pad_due, IsPads, PadArguments, pad_kind, pad_meaning}
 
 -- what a `Pad` stores

@@ -3,11 +3,11 @@
 use Rattle.std.specs.Prelude.{ℕ, ℤ, ◌+◌, ◌-◌, ◌<◌, ◌≤◌, ◌≡◌, min, if◌then◌else◌, Bool, true, false, List, [], ◌∷◌, ◌++◌, count_by, flat_map, length, map, Option, Some, None, option_to_list, is_none}
 use Rattle.std.specs.List.{range_with_len, enumerate_from}
 use Rattle.std.specs.Int.{w32}
-use Rattle.fx_frame_stage.specs.Frame.{Samples}
+use Rattle.fx_frame_base.specs.Frame.{Samples}
 use Rattle.fx_frame_line.specs.Line.{Frames, IsLine}
-use Rattle.fx_frame_stage.specs.PendingFrame.{IsPending}
-use Rattle.fx_frame_stage.specs.Stage.{Acts, Given, StageKind, coming}
-use Rattle.fx_frame_stage.specs.Given.{plain}
+use Rattle.fx_frame_base.specs.PendingFrame.{IsPending}
+use Rattle.fx_frame_base.specs.Stage.{Acts, Given, StageKind, coming}
+use Rattle.fx_frame_base.specs.Given.{plain}
 use Rattle.fx_frame.specs.Kinds.{max_taken}
 
 -- what effects of such arguments give of the frames of a sound

@@ -1,6 +1,6 @@
 -- Frames of a list of samples by strides (this project's profile).
 use Rattle.std.specs.Prelude.{ℕ, ℤ, zero, suc, ◌*◌, ◌-◌, List, [], ◌∷◌, ◌++◌, take, drop, replicate}
-use Rattle.fx_frame_stage.specs.Frame.{Samples, silence}
+use Rattle.fx_frame_base.specs.Frame.{Samples, silence}
 
 -- the first frames, of `size` samples, of groups of `step` samples
 abbrev pub firsts : {X : Type 0} → ℕ → ℕ → ℕ → List X → List (List X)

@@ -5,9 +5,9 @@ use Rattle.fx_fixed.specs.Extents.{end_distance, largest}
 use Rattle.fx_fixed.specs.Positions.{places_of}
 use Rattle.fx_fixed.specs.declared.positions.At.{At}
 use Rattle.fx_fixed.specs.declared.positions.At.TheVariants.{Start, End}
-use Rattle.fx_frame_stage.specs.Frame.{Samples}
-use Rattle.fx_frame_stage.specs.Given.{plain}
-use Rattle.fx_frame_stage.specs.Stage.{StageKind, Given}
+use Rattle.fx_frame_base.specs.Frame.{Samples}
+use Rattle.fx_frame_base.specs.Given.{plain}
+use Rattle.fx_frame_base.specs.Stage.{StageKind, Given}
 
 -- an odd number of the places are at n or before it
 abbrev pub keeps : List ℕ → ℕ → Bool

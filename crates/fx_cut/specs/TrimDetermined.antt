@@ -7,8 +7,8 @@ use mathlib.Core.List.{map-map}
 use Rattle.fx_fixed.specs.Extents.{end_distance, largest}
 use Rattle.fx_fixed.specs.Positions.{places_of}
 use Rattle.fx_fixed.specs.declared.positions.At.{At}
-use Rattle.fx_frame_stage.specs.Frame.{Samples}
-use Rattle.fx_frame_stage.specs.Given.{plain}
+use Rattle.fx_frame_base.specs.Frame.{Samples}
+use Rattle.fx_frame_base.specs.Given.{plain}
 use Rattle.fx_cut.specs.Selected.{AreDetermined, made_along, determined_in, selected_from}
 use Rattle.fx_cut.specs.Trim.{TrimArguments, keeps, starts, is_start, last_start, trim_enough, trim_meaning}
 use Rattle.fx_cut.specs.TrimState.{trim_selects}

@@ -4,8 +4,8 @@ use Rattle.std.specs.List.{range_with_len}
 use Rattle.fx_fixed.specs.Extents.{end_distance, largest}
 use Rattle.fx_fixed.specs.Positions.{places_of}
 use Rattle.fx_fixed.specs.declared.positions.At.{At}
-use Rattle.fx_frame_stage.specs.Stage.{Acts}
-use Rattle.fx_frame_stage.specs.Given.{plain}
+use Rattle.fx_frame_base.specs.Stage.{Acts}
+use Rattle.fx_frame_base.specs.Given.{plain}
 use Rattle.fx_cut.specs.Selected.{Selects, SelectedState, selected_acts}
 use Rattle.fx_cut.specs.Trim.{keeps, trim_due, trim_enough, TrimArguments, trim_meaning}
 

@@ -1,9 +1,9 @@
 -- The stage of `upsample`: what it stores, its invariant, and what it is still to give (this project's profile).
 use Rattle.std.specs.Prelude.{ℕ, ◌+◌, ◌*◌, ◌/◌, ◌^◌, ◌<◌, ◌≤◌, ◌≡◌, Bool, true, ◌&&◌, Option, ◌++◌, length, map, replicate, option_to_list, is_none, nat_eq}
-use Rattle.fx_frame_stage.specs.Frame.{Samples, silence}
-use Rattle.fx_frame_stage.specs.Stage.{Acts, coming}
-use Rattle.fx_frame_stage.specs.PendingFrame.{IsPending}
-use Rattle.fx_frame_stage.specs.Given.{plain}
+use Rattle.fx_frame_base.specs.Frame.{Samples, silence}
+use Rattle.fx_frame_base.specs.Stage.{Acts, coming}
+use Rattle.fx_frame_base.specs.PendingFrame.{IsPending}
+use Rattle.fx_frame_base.specs.Given.{plain}
 use Rattle.fx_cut.specs.Factor.{FactorArguments, IsFactor}
 use Rattle.fx_cut.specs.Upsample.{upsampled, upsample_kind, upsample_meaning}
 

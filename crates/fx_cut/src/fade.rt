@@ -3,10 +3,10 @@ ghost use Rattle.std.specs.Prelude.{ℕ, ◌≡◌, ◌≤◌, ◌<◌, ◌+◌,
 ghost use Rattle.std.specs.Int.{w32};
 ghost use Rattle.std.specs.List.{All};
 ghost use Rattle.fx_cut.specs.FadeExtents.{effective, stop_line};
-ghost use Rattle.fx_frame_stage.specs.PendingFrame.{IsPending};
-ghost use Rattle.fx_frame_stage.specs.Stage.{Freezes, IsNew};
-ghost use Rattle.fx_frame_stage.specs.Given.{plain};
-ghost use Rattle.fx_frame_lists.specs.Rounded.{unclipped};
+ghost use Rattle.fx_frame_base.specs.PendingFrame.{IsPending};
+ghost use Rattle.fx_frame_base.specs.Stage.{Freezes, IsNew};
+ghost use Rattle.fx_frame_base.specs.Given.{plain};
+ghost use Rattle.fx_frame_base.specs.Rounded.{unclipped};
 ghost use Rattle.fx_cut.specs.Fade.{FadeArguments, fade_enough, fade_line, stop_in, until, weighted, weights};
 ghost use Rattle.fx_cut.specs.FadeState.{fade_acts, fade_selects, faded_here, is_before, stop_determined};
 ghost use Rattle.fx_cut.specs.Selected.{IsSelectedState, SelectedState};

@@ -1,12 +1,12 @@
 //! Lines whose capacity may be 0.
 ghost use Rattle.std.specs.Prelude.{◌≡◌, ◌≤◌, ◌*◌, ◌++◌, ◌^◌, length, take, false, true, None, Some, if◌then◌else◌};
-ghost use Rattle.fx_frame_stage.specs.Frame.{IsFrame};
-ghost use Rattle.fx_frame_lists.specs.Lists.{pieces};
+ghost use Rattle.fx_frame_base.specs.Frame.{IsFrame};
+ghost use Rattle.fx_frame_base.specs.Lists.{pieces};
 ghost use Rattle.fx_frame_line.specs.Line.{pushed, pushed_all, pushed_out};
 
 use fx_frame::Line;
 use fx_frame::groups::{SAMPLES_OF_GROUP, frames_of_group};
-use fx_frame_stage::feed::see_samples;
+use fx_frame_base::feed::see_samples;
 
 /// What `push_over` of a line does. A line with no places is unchanged, and returns the frame.
 #[inline(always)]

@@ -1,11 +1,11 @@
 //! Stages that pass many frames in one piece, and the rest one at a time.
 ghost use Rattle.std.specs.Prelude.{◌≡◌, ◌<◌, ◌≤◌, ◌+◌, ◌*◌, ℕ, true, false, drop, length};
-ghost use Rattle.fx_frame_stage.specs.Feed.{Fed, PassedOn, TookWithinCapacity};
-ghost use Rattle.fx_frame_lists.specs.Lists.{pieces};
-ghost use Rattle.fx_frame_stage.specs.Stage.{IsDry, kind, spent};
+ghost use Rattle.fx_frame_base.specs.Feed.{Fed, PassedOn, TookWithinSpace};
+ghost use Rattle.fx_frame_base.specs.Lists.{pieces};
+ghost use Rattle.fx_frame_base.specs.Stage.{IsDry, kind, spent};
 
 use fx_frame::{Passed, Passing, Stage};
-use fx_frame_stage::feed::{feed_by_frames, frame_at, pass_by_calls, put_frame};
+use fx_frame_base::feed::{feed_by_frames, frame_at, pass_by_calls, put_frame};
 
 /// A stage that can pass many frames in one piece.
 pub trait PassesMany: Stage {
@@ -19,7 +19,7 @@ pub trait PassesMany: Stage {
         ensures read { result.taken * (kind Self.acts self.old).inputs ≤ length input.now }
         ensures written { result.given * (kind Self.acts self.old).outputs ≤ length output.new }
         ensures rest_unchanged { drop (result.given * (kind Self.acts self.old).outputs) output.new ≡ drop (result.given * (kind Self.acts self.old).outputs) output.old }
-        ensures free { TookWithinCapacity Self.acts self.old result.taken (length output.old) };
+        ensures free { TookWithinSpace Self.acts self.old result.taken (length output.old) };
 }
 
 /// Passes a piece first, and then frame by frame. It takes a frame only while the output has space for one more; where it has
@@ -34,7 +34,7 @@ fn feed_piece<S: PassesMany>(stage: &mut S, input: &[i32], output: &mut [i32]) -
     ensures dry { result.given * (kind S.acts stage.old).outputs + (kind S.acts stage.old).outputs ≤ length output.new → S.acts.dry stage.new ≡ true }
     ensures used { result.given * (kind S.acts stage.old).outputs + (kind S.acts stage.old).outputs ≤ length output.new → (S.acts.counts stage.new).ended ≡ false → spent S.acts stage.new ≡ false
         → length input.now < result.taken * (kind S.acts stage.old).inputs + (kind S.acts stage.old).inputs }
-    ensures free { TookWithinCapacity S.acts stage.old result.taken (length output.old) }
+    ensures free { TookWithinSpace S.acts stage.old result.taken (length output.old) }
 {
     let inputs = stage.in_channels();
     let outputs = stage.out_channels();
@@ -63,7 +63,7 @@ pub fn feed_by_pieces<S: PassesMany>(stage: &mut S, input: &[i32], output: &mut 
     ensures dry { result.given * (kind S.acts stage.old).outputs + (kind S.acts stage.old).outputs ≤ length output.new → S.acts.dry stage.new ≡ true }
     ensures used { result.given * (kind S.acts stage.old).outputs + (kind S.acts stage.old).outputs ≤ length output.new → (S.acts.counts stage.new).ended ≡ false → spent S.acts stage.new ≡ false
         → length input.now < result.taken * (kind S.acts stage.old).inputs + (kind S.acts stage.old).inputs }
-    ensures free { TookWithinCapacity S.acts stage.old result.taken (length output.old) }
+    ensures free { TookWithinSpace S.acts stage.old result.taken (length output.old) }
 {
     let inputs = stage.in_channels();
     let outputs = stage.out_channels();

@@ -3,9 +3,9 @@ ghost use Rattle.std.specs.Prelude.{ℕ, ◌≡◌, ◌<◌, ◌≤◌, ◌+◌,
 ghost use Rattle.std.specs.Int.{w32};
 ghost use Rattle.fx_fixed.specs.Extents.{largest};
 ghost use Rattle.fx_cut.specs.PadExtents.{pad_distance};
-ghost use Rattle.fx_frame_stage.specs.PendingFrame.{IsPending};
+ghost use Rattle.fx_frame_base.specs.PendingFrame.{IsPending};
 ghost use Rattle.fx_frame_line.specs.Line.{IsLine};
-ghost use Rattle.fx_frame_stage.specs.Stage.{Freezes, IsNew};
+ghost use Rattle.fx_frame_base.specs.Stage.{Freezes, IsNew};
 ghost use Rattle.fx_cut.specs.Pad.{IsPads, PadArguments, lengths, pads_from_start, placed, silent_at};
 ghost use Rattle.fx_cut.specs.PadState.{IsPad, IsPadCount, PadState, later_count, pad_acts, pad_rises, silence_from};
 
@@ -16,8 +16,8 @@ use crate::many::{PassesMany, feed_by_pieces, pass_by_frame};
 use fx_fixed::At;
 use fx_frame::frozen::{stored_in, thawed_line_and_pending};
 use fx_frame::{Counters, Feeds, Frame, Line, Passed, Passing, Stage, ThawFault, WideFrame};
-use fx_frame_stage::feed::copy_frames;
-use fx_frame_stage::stage::MAX_TAKEN;
+use fx_frame_base::feed::copy_frames;
+use fx_frame_base::stage::MAX_TAKEN;
 use std::alloc::{AllocError, Global};
 use std::marker::Model;
 
@@ -41,19 +41,19 @@ fn silence_by_starts(pads: &[(u64, At)], place: u64) -> u64
 
 /// How many frames from a place on have no silence before them, as far as the pads before the first one from the end determine
 /// it.
-fn silent_from(pads: &[(u64, At)], place: u64) -> u64
+fn clear_frames_from(pads: &[(u64, At)], place: u64) -> u64
     ensures { (n : ℕ) → n < result → silent_at (pads_from_start pads.now) (place + n) ≡ 0 }
 {
-    let mut silence_here = u64::MAX;
+    let mut clear_frames = u64::MAX;
     'pads: for (_length, at) in pads {
         let At::Start(start) = at else {
-            return silence_here;
+            return clear_frames;
         };
         if place <= *start {
-            silence_here = silence_here.min(*start - place);
+            clear_frames = clear_frames.min(*start - place);
         }
     }
-    silence_here
+    clear_frames
 }
 
 /// Pads, and the frames with no silence before them that were looked up last.
@@ -63,7 +63,7 @@ struct Pads {
     /// The place of the first of these frames.
     first: u64,
     /// How many there are. From the pads, so that no call scans them for one of these frames.
-    silence_here: u64,
+    clear_frames: u64,
 }
 
 // They are the pads.
@@ -76,7 +76,7 @@ impl Model for Pads {
 
     ghost view = { λ p. p.pads.items };
 
-    ghost invariant = { λ p. (n : ℕ) → n < p.silence_here → silent_at (pads_from_start p.pads.items) (p.first + n) ≡ 0 };
+    ghost invariant = { λ p. (n : ℕ) → n < p.clear_frames → silent_at (pads_from_start p.pads.items) (p.first + n) ≡ 0 };
 }
 
 impl Pads {
@@ -87,7 +87,7 @@ impl Pads {
         Pads {
             pads,
             first: 0,
-            silence_here: 0,
+            clear_frames: 0,
         }
     }
 
@@ -101,22 +101,22 @@ impl Pads {
     /// Whether it is known that the frame at this place has no silence before it, as far as the pads before the first one from
     /// the end determine it.
     #[inline(always)]
-    fn is_silent(&self, place: u64) -> bool
+    fn is_clear(&self, place: u64) -> bool
         ensures { result ≡ true → silent_at (pads_from_start self.now) place ≡ 0 }
     {
-        self.first <= place && place - self.first < self.silence_here
+        self.first <= place && place - self.first < self.clear_frames
     }
 
     /// How many silent frames stand before the frame at this place, as far as the pads before the first one from the end determine
     /// it.
-    /// It looks up the frames behind that one.
+    /// It looks up the frames after that one.
     fn silence_at(&mut self, place: u64) -> u64
         requires { lengths self.old ≤ 2 ^ 46 }
         ensures silent { result ≡ silent_at (pads_from_start self.old) place }
         ensures same { self.new ≡ self.old }
     {
         let first = place.saturating_add(1);
-        self.silence_here = silent_from(&self.pads, first);
+        self.clear_frames = clear_frames_from(&self.pads, first);
         self.first = first;
         silence_by_starts(&self.pads, place)
     }
@@ -463,8 +463,8 @@ impl PassesMany for Pad {
         if self.line.capacity() != 0 || self.pending.is_some() || self.silent != 0 || self.ended {
             return Passed { taken: 0, given: 0 };
         }
-        let silence_here = silent_from(self.pads.all(), self.taken);
-        let count = silence_here.min((input.len() / channels) as u64) as usize;
+        let clear_frames = clear_frames_from(self.pads.all(), self.taken);
+        let count = clear_frames.min((input.len() / channels) as u64) as usize;
         let copied = copy_frames(&input[..count * channels], output, channels);
         self.taken += copied as u64;
         self.given += copied as u64;
@@ -482,7 +482,7 @@ impl Feeds for Pad {
 
     #[inline(always)]
     fn pass_samples(&mut self, samples: &mut [i32]) -> Passing {
-        let is_known = self.line.capacity() == 0 && self.pads.is_silent(self.taken);
+        let is_known = self.line.capacity() == 0 && self.pads.is_clear(self.taken);
         if is_known {
             self.taken += 1;
             self.given += 1;
@@ -500,6 +500,6 @@ impl Feeds for Pad {
         if self.line.capacity() != 0 || self.ended {
             return 0;
         }
-        silent_from(self.pads.all(), self.taken)
+        clear_frames_from(self.pads.all(), self.taken)
     }
 }

@@ -3,19 +3,19 @@
 ghost use Rattle.std.specs.Prelude.{ℕ, ◌≡◌, ◌<◌, ◌≤◌, ◌+◌, ◌-◌, ◌*◌, ◌++◌, ◌^◌, [], length, map, Err, FitsSigned, IfOk, MatchResult, None, option_to_list, true, false, if◌then◌else◌};
 ghost use Rattle.std.specs.Int.{w32};
 ghost use Rattle.std.specs.List.{All};
-ghost use Rattle.fx_frame_stage.specs.PendingFrame.{IsPending};
+ghost use Rattle.fx_frame_base.specs.PendingFrame.{IsPending};
 ghost use Rattle.fx_frame_line.specs.Line.{IsLine};
-ghost use Rattle.fx_frame_lists.specs.Lists.{pieces};
-ghost use Rattle.fx_frame_stage.specs.Stage.{Freezes, IsNew, is_enough};
-ghost use Rattle.fx_frame_stage.specs.Given.{plain};
+ghost use Rattle.fx_frame_base.specs.Lists.{pieces};
+ghost use Rattle.fx_frame_base.specs.Stage.{Freezes, IsNew, is_enough};
+ghost use Rattle.fx_frame_base.specs.Given.{plain};
 ghost use Rattle.fx_cut.specs.Selected.{AreDetermined, IsSelectCount, Selects, SelectedState, given_before, made_along, determined_in, selected_acts, selected_after, selected_here};
 
 use crate::lines::{exchange_full, push_over};
 use crate::many::{PassesMany, feed_by_pieces};
 use fx_frame::frozen::{stored_in, thawed_line_and_pending};
 use fx_frame::{Counters, Feeds, Frame, Line, Passed, Passing, Stage, ThawFault, WideFrame};
-use fx_frame_stage::feed::see_samples;
-use fx_frame_stage::stage::MAX_TAKEN;
+use fx_frame_base::feed::see_samples;
+use fx_frame_base::stage::MAX_TAKEN;
 use std::alloc::{AllocError, Global};
 use std::marker::Model;
 

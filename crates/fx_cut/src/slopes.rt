@@ -3,7 +3,7 @@ ghost use Rattle.std.specs.Prelude.{◌≡◌, ◌<◌, ◌≤◌, ◌^◌, map,
 ghost use Rattle.std.specs.Int.{w32};
 ghost use Rattle.std.specs.List.{All};
 ghost use Rattle.fx_cut.specs.Fade.{weight, weighted};
-ghost use Rattle.fx_frame_lists.specs.Rounded.{unclipped};
+ghost use Rattle.fx_frame_base.specs.Rounded.{unclipped};
 
 use fx_fixed::inner::Denominator;
 use fx_fixed::round_clip;

@@ -3,7 +3,7 @@ ghost use Rattle.std.specs.Prelude.{ℕ, ◌≡◌, ◌<◌, ◌≤◌, ◌+◌,
 ghost use Rattle.std.specs.List.{range_with_len};
 ghost use Rattle.fx_fixed.specs.Extents.{end_distance, largest};
 ghost use Rattle.fx_fixed.specs.Positions.{place_of, places_of};
-ghost use Rattle.fx_frame_stage.specs.Stage.{Freezes, IsNew};
+ghost use Rattle.fx_frame_base.specs.Stage.{Freezes, IsNew};
 ghost use Rattle.fx_cut.specs.Selected.{IsSelectedState, SelectedState};
 ghost use Rattle.fx_cut.specs.Trim.{TrimArguments, keeps, starts, trim_enough};
 ghost use Rattle.fx_cut.specs.TrimState.{kept_count, trim_acts, trim_selects};

@@ -1,15 +1,15 @@
 //! The effect `upsample` of sox(1): each frame is followed by silence.
 ghost use Rattle.std.specs.Prelude.{◌≡◌, ◌≤◌, ◌-◌, ◌*◌, ◌++◌, Ok, IfOk, IfErr, drop, length, pos, replicate};
-ghost use Rattle.fx_frame_lists.specs.Lists.{pieces};
-ghost use Rattle.fx_frame_stage.specs.Stage.{Freezes, IsNew};
+ghost use Rattle.fx_frame_base.specs.Lists.{pieces};
+ghost use Rattle.fx_frame_base.specs.Stage.{Freezes, IsNew};
 ghost use Rattle.fx_cut.specs.Factor.{FactorArguments, IsFactor};
 ghost use Rattle.fx_cut.specs.UpsampleState.{UpsampleState, IsUpsample, upsample_acts};
 ghost use Rattle.fx_cut.specs.Strides.{spread};
 
 use crate::many::{PassesMany, feed_by_pieces};
 use fx_frame::{Counters, Feeds, Frame, Passed, Stage, ThawFault, WideFrame};
-use fx_frame_stage::pending::{stored_pending, thawed_pending};
-use fx_frame_stage::stage::MAX_TAKEN;
+use fx_frame_base::pending::{stored_pending, thawed_pending};
+use fx_frame_base::stage::MAX_TAKEN;
 use std::marker::Model;
 
 /// Fills a group with a frame and silence after it.

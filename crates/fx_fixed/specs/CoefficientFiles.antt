@@ -3,7 +3,6 @@ use Rattle.std.specs.Prelude.{ℕ, ◌^◌, ◌==◌, nat_lt, not, ◌&&◌, ◌
 use Rattle.std.specs.List.{before_first, filter, flat_map, list_all, slice_split}
 use Rattle.std.specs.Result.{result_unwrap_or}
 use Rattle.fx_fixed.specs.Gains.{gain_of}
-use Rattle.fx_fixed.specs.declared.gains.TheConstants.{UNIT}
 
 -- white space: a space, or a tab, line feed, vertical tab, form feed or carriage return
 abbrev pub is_white : ℕ → Bool
@@ -29,10 +28,10 @@ words_of bytes = flat_map words_in (slice_split is_feed bytes)
 
 -- a word is a gain, and which
 abbrev pub is_gain : List ℕ → Bool
-is_gain word = is_ok (gain_of UNIT word)
+is_gain word = is_ok (gain_of (10 ^ 12) word)
 
 abbrev pub gain_in : List ℕ → ℤ
-gain_in word = result_unwrap_or (gain_of UNIT word) (pos 0)
+gain_in word = result_unwrap_or (gain_of (10 ^ 12) word) (pos 0)
 
 -- a file of at most 2^20 bytes has 1 to 1024 words, each of which is a gain
 abbrev pub is_accepted : List ℕ → Bool

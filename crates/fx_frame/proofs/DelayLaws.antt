@@ -6,11 +6,11 @@ use Rattle.std.proofs.Math.Seq.{set-append_seam}
 use Rattle.std.proofs.lemmas.Option.{get_or_from_slice_get, slice_get-get_or}
 use Rattle.std.proofs.lemmas.Bool.Decides.{nat_tests}
 use Rattle.std.proofs.lemmas.List.{get_or_append_left, get_or-drop}
-use Rattle.fx_frame_stage.specs.Frame.{Samples, silence}
-use Rattle.fx_frame_lists.specs.Lists.{tabulate}
+use Rattle.fx_frame_base.specs.Frame.{Samples, silence}
+use Rattle.fx_frame_base.specs.Lists.{tabulate}
 use Rattle.fx_frame.specs.History.{sample_before}
-use Rattle.fx_frame_lists.proofs.Tabulate.{tabulate-append, length-tabulate}
-use Rattle.fx_frame_lists.proofs.Places.{silence_here-sample}
+use Rattle.fx_frame_base.proofs.Tabulate.{tabulate-append, length-tabulate}
+use Rattle.fx_frame_base.proofs.ListPlaces.{zeros-sample}
 
 -- what comes later is not read
 pub sample_before-append : (x y : List Samples) (n d k : ℕ) → n < length x → sample_before (x ++ y) n d k ≡ sample_before x n d k
@@ -28,16 +28,16 @@ sample_before-drop x (suc j) m d k h =
     let i : suc j + (m - d) ≡ m + suc j - d = omega arith in
     rw (a, b, get_or-drop (suc j) x (m - d) [], i) refl
 
-silence_here-frame : (count channels i k : ℕ) → get_or (get_or (replicate count (silence channels)) i []) k (pos 0) ≡ pos 0
-silence_here-frame zero channels i k = refl
-silence_here-frame (suc count) channels zero k = silence_here-sample channels k
-silence_here-frame (suc count) channels (suc i) k = silence_here-frame count channels i k
+silence-frame : (count channels i k : ℕ) → get_or (get_or (replicate count (silence channels)) i []) k (pos 0) ≡ pos 0
+silence-frame zero channels i k = refl
+silence-frame (suc count) channels zero k = zeros-sample channels k
+silence-frame (suc count) channels (suc i) k = silence-frame count channels i k
 
 -- silence after the last frame is as good as no frame
-pub silence_here-after : (z : List Samples) (count channels i k : ℕ) → get_or (get_or (z ++ replicate count (silence channels)) i []) k (pos 0) ≡ get_or (get_or z i []) k (pos 0)
-silence_here-after [] count channels i k = silence_here-frame count channels i k
-silence_here-after (x ∷ z) count channels zero k = refl
-silence_here-after (x ∷ z) count channels (suc i) k = silence_here-after z count channels i k
+pub silence-after : (z : List Samples) (count channels i k : ℕ) → get_or (get_or (z ++ replicate count (silence channels)) i []) k (pos 0) ≡ get_or (get_or z i []) k (pos 0)
+silence-after [] count channels i k = silence-frame count channels i k
+silence-after (x ∷ z) count channels zero k = refl
+silence-after (x ∷ z) count channels (suc i) k = silence-after z count channels i k
 
 -- what the line answers is the sample
 back-some : (items : List Samples) (f x : Samples) (d k : ℕ) (b : Bool) → nat_lt (d - 1) (length items) ≡ b → 0 < d → Some x ≡ cond b (slice_get items (length items - (d - 1) - 1)) None

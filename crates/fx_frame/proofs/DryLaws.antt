@@ -2,7 +2,7 @@
 use Rattle.std.proofs.Common.{ℕ, zero, suc, ◌<◌, ◌≡◌, true, false, refl, arith}
 use Rattle.std.specs.Prelude.{Option, Some, None, is_none, nat_eq, ◌&&◌}
 use Prim.Native.Nat.compare
-use Rattle.fx_frame_stage.specs.Frame.{Samples}
+use Rattle.fx_frame_base.specs.Frame.{Samples}
 
 -- a dry stage has no frame in hand
 pub dry-pending : (pending : Option Samples) (tail : ℕ) → (is_none pending && nat_eq tail 0) ≡ true → pending ≡ None

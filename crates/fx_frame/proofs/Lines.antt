@@ -8,7 +8,7 @@ use Rattle.std.proofs.lemmas.Option.{same_Some, slice_get-get_or}
 use Rattle.fx_frame_line.specs.Line.{Frames, pushed, pushed_out, IsLineOf, from_newest}
 use Rattle.std.proofs.lemmas.List.{get_or_past}
 use Rattle.fx_frame_line.specs.Ring.{IsShaped}
-use Rattle.fx_frame_stage.specs.Frame.{IsFrameOf}
+use Rattle.fx_frame_base.specs.Frame.{IsFrameOf}
 
 -- what `map` gives, where the function always gives f
 pub mapped : {A B : Type 0} (f : A → B) (o : Option A) (m : Option B) → MatchOption o (m ≡ None) (λ x. IsSomeAnd m (λ y. y ≡ f x)) → m ≡ option_map f o

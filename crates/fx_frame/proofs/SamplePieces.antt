@@ -2,9 +2,9 @@
 use Rattle.std.proofs.Common.{◌≡◌, ℕ, zero, suc, Bool, List, ◌∷◌, map, take, drop, refl, ap, ◌∙◌, ◌+◌, ◌*◌, cond, ◌++◌, arith, ◌≤◌, length, length-drop}
 use Rattle.std.specs.Prelude.{ℤ}
 use Rattle.std.proofs.lemmas.List.{take-map, drop-map, map-append, length-take-le}
-use Rattle.fx_frame_lists.specs.Lists.{pieces}
+use Rattle.fx_frame_base.specs.Lists.{pieces}
 use Rattle.fx_frame.specs.Made.{made_of, clips_in, rounded_given}
-use Rattle.fx_frame_lists.specs.Rounded.{samples_of, clips_rounded}
+use Rattle.fx_frame_base.specs.Rounded.{samples_of, clips_rounded}
 use Rattle.std.proofs.lemmas.List.Sums.{sum_by-append}
 use Rattle.std.proofs.Math.Seq.{take-add}
 use Rattle.std.proofs.Math.Nat.{suc-mul}

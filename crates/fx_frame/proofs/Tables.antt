@@ -1,15 +1,15 @@
 -- Frames of places, channel by channel.
 use Rattle.std.proofs.Common.{◌≡◌, ◌+◌, ◌<◌, ℕ, suc, List, [], ◌∷◌, length, map, get_or, refl, ap, arith, add-zero, ℤ, zero, Bool, pos, ◌≤◌, take, drop, ◌∙◌, ◌*◌, ◌++◌, sym, zero-add, subst}
-use Rattle.fx_frame_lists.specs.Lists.{tabulate, pieces}
-use Rattle.fx_frame_lists.specs.Rounded.{samples_of, clips_rounded}
-use Rattle.fx_frame_stage.specs.Holds.{total}
+use Rattle.fx_frame_base.specs.Lists.{tabulate, pieces}
+use Rattle.fx_frame_base.specs.Rounded.{samples_of, clips_rounded}
+use Rattle.fx_frame_base.specs.Holds.{total}
 use Rattle.std.specs.Prelude.{cond}
 use Rattle.std.proofs.lemmas.List.Sums.{sum_by-cons}
-use Rattle.fx_frame_lists.proofs.Rounds.{clips_of-next}
+use Rattle.fx_frame_base.proofs.Rounds.{clips_of-next}
 use Rattle.std.proofs.lemmas.List.{drop_more}
 use Rattle.std.proofs.Math.Nat.{suc-mul}
-use Rattle.fx_frame_lists.proofs.Puts.{pieces-more}
-use Rattle.fx_frame_lists.proofs.Tabulate.{tabulate-append, tabulate-same}
+use Rattle.fx_frame_base.proofs.Puts.{pieces-more}
+use Rattle.fx_frame_base.proofs.Tabulate.{tabulate-append, tabulate-same}
 
 -- what is made of each element, by its place
 pub map-table : {X Y : Type 0} (g : X → Y) (h : ℕ → Y) (d : X) (xs : List X) (from : ℕ) → ((i : ℕ) → i < length xs → g (get_or xs i d) ≡ h (from + i)) → map g xs ≡ tabulate h from (length xs)

@@ -6,17 +6,17 @@ use Rattle.std.proofs.Math.Nat.{add-mul}
 use Rattle.std.specs.List.{All}
 use Rattle.std.proofs.lemmas.List.Elements.{All-head, All-tail}
 use Rattle.std.proofs.lemmas.List.{map-append}
-use Rattle.fx_frame_stage.specs.declared.feed.Passing.TheVariants.{Through}
-use Rattle.fx_frame_stage.specs.Feed.{Fed, GaveNext, PassedOn, TookNext, nothing, taken, given}
-use Rattle.fx_frame_stage.specs.Frame.{Samples, silence}
+use Rattle.fx_frame_base.specs.declared.feed.Passing.TheVariants.{Through}
+use Rattle.fx_frame_base.specs.Feed.{Fed, GaveNext, PassedOn, TookNext, nothing, taken, given}
+use Rattle.fx_frame_base.specs.Frame.{Samples, silence}
 use Rattle.fx_frame_line.specs.Line.{Frames, IsLine}
-use Rattle.fx_frame_lists.specs.Lists.{pieces}
-use Rattle.fx_frame_stage.specs.Pipeline.{EachThrough}
-use Rattle.fx_frame_stage.specs.Stage.{Acts, Given, IsDry}
-use Rattle.fx_frame_stage.specs.Holds.{total}
-use Rattle.fx_frame_stage.proofs.FedLaws.{Fed-then, total-append}
+use Rattle.fx_frame_base.specs.Lists.{pieces}
+use Rattle.fx_frame_base.specs.Pipeline.{EachThrough}
+use Rattle.fx_frame_base.specs.Stage.{Acts, Given, IsDry}
+use Rattle.fx_frame_base.specs.Holds.{total}
+use Rattle.fx_frame_base.proofs.FedLaws.{Fed-then, total-append}
 use Rattle.fx_frame_line.proofs.RingLaws.{keep-twice}
-use Rattle.fx_frame_lists.proofs.Pieces.{length-pieces}
+use Rattle.fx_frame_base.proofs.Pieces.{length-pieces}
 use Rattle.fx_frame.specs.Tapped.{Taps, TapState, IsNear, IsTapState, given_after, clips_after, frames_after, last_of, tap_acts}
 use Rattle.fx_frame.specs.History.{sample_before}
 use Rattle.fx_frame.proofs.SamplePieces.{pieces-sides}

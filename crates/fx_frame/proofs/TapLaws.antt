@@ -5,17 +5,17 @@ use Rattle.std.proofs.Math.Nat.{suc-mul}
 use Rattle.std.specs.Prelude.{option_to_list, nat_le, Some, None, ◌^◌}
 use Rattle.std.specs.Int.{w32}
 use Rattle.std.proofs.lemmas.List.{length-append, length-drop, length-replicate, drop-append-le}
-use Rattle.fx_frame_stage.specs.Frame.{Samples, silence, IsFrame}
+use Rattle.fx_frame_base.specs.Frame.{Samples, silence, IsFrame}
 use Rattle.fx_frame_line.specs.Line.{Frames, pushed, IsLine}
-use Rattle.fx_frame_stage.specs.Stage.{Freezes, Gave, Took}
-use Rattle.fx_frame_lists.specs.Lists.{tabulate}
+use Rattle.fx_frame_base.specs.Stage.{Freezes, Gave, Took}
+use Rattle.fx_frame_base.specs.Lists.{tabulate}
 use Rattle.fx_frame.specs.Tapped.{AreTapCounts, Taps, TapState, IsTapState, IsNear, given_after, by_name, tapped, tap_acts}
 use Rattle.fx_frame.specs.History.{sample_before}
 use Rattle.fx_frame.proofs.Counts.{flag-false, flag-times, flag-true}
 use Rattle.fx_frame.proofs.DryLaws.{dry-pending, dry-tail}
-use Rattle.fx_frame.proofs.DelayLaws.{sample_before-append, sample_before-drop, silence_here-after}
-use Rattle.fx_frame_lists.proofs.Tabulate.{tabulate-same}
-use Rattle.fx_frame_stage.proofs.Flags.{flag-le}
+use Rattle.fx_frame.proofs.DelayLaws.{sample_before-append, sample_before-drop, silence-after}
+use Rattle.fx_frame_base.proofs.Tabulate.{tabulate-same}
+use Rattle.fx_frame_base.proofs.Flags.{flag-le}
 
 module _ {M : Type 0} (taps : Taps M) (near : IsNear taps) where
   -- one more frame comes
@@ -44,7 +44,7 @@ module _ {M : Type 0} (taps : Taps M) (near : IsNear taps) where
       let n : length (z ++ replicate (taps.reach m) (silence (taps.channels m))) ≡ length z + taps.reach m = simp (length-append, length-replicate) in
       rw n (tabulate-same _ _ 0 0 (length z + taps.reach m) (λ k l.
       near m (sample_before (z ++ replicate (taps.reach m) (silence (taps.channels m))) (0 + k)) (sample_before z (0 + k)) (λ d q short.
-      ap (λ s. cond (nat_le d (0 + k)) s (pos 0)) (silence_here-after z (taps.reach m) (taps.channels m) (0 + k - d) q))))
+      ap (λ s. cond (nat_le d (0 + k)) s (pos 0)) (silence-after z (taps.reach m) (taps.channels m) (0 + k - d) q))))
 
   -- the state after a frame came
   abbrev pub taken_tap : TapState M → Frames ℤ → Samples → ℕ → TapState M
@@ -103,14 +103,14 @@ module _ {M : Type 0} (taps : Taps M) (near : IsNear taps) where
   ended-tail : (s : TapState M) → IsTapState taps s → 0 < s.tail → s.ended ≡ true
   ended-tail s is some = true_from_ne_false s.ended (λ e. let k = is.not_ended e in absurd (omega arith))
 
-  pub IsTapState-drained : (s : TapState M) (line : Frames ℤ) (silence_here : Samples) (clips : ℕ) → IsTapState taps s → s.pending ≡ None → 0 < s.tail
-      → IsLine w32 line → line.items ≡ pushed s.line silence_here → line.capacity ≡ s.line.capacity → line.channels ≡ s.line.channels → clips ≤ taps.max_clips s.arguments
+  pub IsTapState-drained : (s : TapState M) (line : Frames ℤ) (silent_frame : Samples) (clips : ℕ) → IsTapState taps s → s.pending ≡ None → 0 < s.tail
+      → IsLine w32 line → line.items ≡ pushed s.line silent_frame → line.capacity ≡ s.line.capacity → line.channels ≡ s.line.channels → clips ≤ taps.max_clips s.arguments
       → IsTapState taps (drained_tap s line clips)
-  IsTapState-drained s line silence_here clips is none some lined items capacity channels little =
+  IsTapState-drained s line silent_frame clips is none some lined items capacity channels little =
       let over = ended-tail s is some in
       let counted : s.given + 0 + s.tail ≡ s.taken + s.line.capacity = rw (none, over) at is.counted in
       let before : length s.line.items ≡ min (s.given + 0) s.line.capacity = rw none at is.held in
-      let after : length line.items ≡ min (length s.line.items + 1) s.line.capacity = ap length items ∙ length-pushed s.line silence_here in
+      let after : length line.items ≡ min (length s.line.items + 1) s.line.capacity = ap length items ∙ length-pushed s.line silent_frame in
       record {
         line = lined;
         channels = channels ∙ is.channels;
@@ -126,17 +126,17 @@ module _ {M : Type 0} (taps : Taps M) (near : IsNear taps) where
         fits = is.fits;
       }
 
-  rest_unchanged-silence_here : (m : M) (items : List Samples) (silence_here : Samples) (tail c : ℕ) → 0 < tail → length items ≤ c → taps.reach m ≤ c
-      → given_after taps m items (replicate tail silence_here) ≡ taps.made m (sample_before (items ++ silence_here ∷ []) (length items)) ∷ given_after taps m (drop (length (items ++ silence_here ∷ []) - c) (items ++ silence_here ∷ [])) (replicate (tail - 1) silence_here)
-  rest_unchanged-silence_here m items silence_here zero c some held long = absurd (omega arith)
-  rest_unchanged-silence_here m items silence_here (suc t) c some held long = rw sub-one (rest_unchanged-step m items (replicate t silence_here) silence_here c held long)
+  rest-silence : (m : M) (items : List Samples) (silent_frame : Samples) (tail c : ℕ) → 0 < tail → length items ≤ c → taps.reach m ≤ c
+      → given_after taps m items (replicate tail silent_frame) ≡ taps.made m (sample_before (items ++ silent_frame ∷ []) (length items)) ∷ given_after taps m (drop (length (items ++ silent_frame ∷ []) - c) (items ++ silent_frame ∷ [])) (replicate (tail - 1) silent_frame)
+  rest-silence m items silent_frame zero c some held long = absurd (omega arith)
+  rest-silence m items silent_frame (suc t) c some held long = rw sub-one (rest_unchanged-step m items (replicate t silent_frame) silent_frame c held long)
 
-  pub Gave-tail : (s : TapState M) (line : Frames ℤ) (silence_here out : Samples) (clips : ℕ) → IsTapState taps s → s.pending ≡ None → 0 < s.tail → silence_here ≡ silence (taps.channels s.arguments)
-      → out ≡ (taps.made s.arguments (sample_before (s.line.items ++ silence_here ∷ []) (length s.line.items))).samples
-      → clips ≡ (taps.made s.arguments (sample_before (s.line.items ++ silence_here ∷ []) (length s.line.items))).clips
-      → length out ≡ taps.channels s.arguments → line.items ≡ pushed s.line silence_here → line.capacity ≡ s.line.capacity
+  pub Gave-tail : (s : TapState M) (line : Frames ℤ) (silent_frame out : Samples) (clips : ℕ) → IsTapState taps s → s.pending ≡ None → 0 < s.tail → silent_frame ≡ silence (taps.channels s.arguments)
+      → out ≡ (taps.made s.arguments (sample_before (s.line.items ++ silent_frame ∷ []) (length s.line.items))).samples
+      → clips ≡ (taps.made s.arguments (sample_before (s.line.items ++ silent_frame ∷ []) (length s.line.items))).clips
+      → length out ≡ taps.channels s.arguments → line.items ≡ pushed s.line silent_frame → line.capacity ≡ s.line.capacity
       → Gave (tap_acts taps) s (drained_tap s line clips) out
-  Gave-tail s line silence_here out clips is none some q e f len items capacity =
+  Gave-tail s line silent_frame out clips is none some q e f len items capacity =
       let over = ended-tail s is some in
       let held = is.line.within in
       let long : taps.reach s.arguments ≤ s.line.capacity = let k = is.capacity in omega arith in
@@ -146,7 +146,7 @@ module _ {M : Type 0} (taps : Taps M) (near : IsNear taps) where
         was_wet = dry-tail s.pending s.tail some;
         gives = record {
           clips = clips;
-          first = λ z. rw (none, over, e, f, items, q) (rest_unchanged-silence_here s.arguments s.line.items (silence (taps.channels s.arguments)) s.tail s.line.capacity some held long);
+          first = λ z. rw (none, over, e, f, items, q) (rest-silence s.arguments s.line.items (silence (taps.channels s.arguments)) s.tail s.line.capacity some held long);
           counted = refl;
         };
         channels = len;

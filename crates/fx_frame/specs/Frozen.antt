@@ -1,8 +1,8 @@
 -- What a stage stores and counts, restored. Source: this project's profile.
 use Rattle.std.specs.Prelude.{ℕ, ℤ, List, ◌++◌, Option, length, option_to_list, ◌≡◌}
 use Rattle.std.specs.Int.{w32}
-use Rattle.fx_frame_stage.specs.Frame.{Samples}
-use Rattle.fx_frame_stage.specs.PendingFrame.{IsPending}
+use Rattle.fx_frame_base.specs.Frame.{Samples}
+use Rattle.fx_frame_base.specs.PendingFrame.{IsPending}
 use Rattle.fx_frame_line.specs.Line.{Frames, IsLine}
 
 -- the line of `channels` channels and `capacity` places that holds these frames

@@ -1,6 +1,6 @@
 -- The samples before a frame of a sound (this project's profile).
 use Rattle.std.specs.Prelude.{ℕ, ℤ, pos, ◌-◌, List, [], cond, nat_le, slice_index_or}
-use Rattle.fx_frame_stage.specs.Frame.{Samples}
+use Rattle.fx_frame_base.specs.Frame.{Samples}
 
 -- channel k of the frame that is d frames before frame n; silence before the first frame and after the last
 abbrev pub sample_before : List Samples → ℕ → ℕ → ℕ → ℤ

@@ -1,6 +1,6 @@
 -- What stages take and give, and when (this project's profile).
 use Rattle.std.specs.Prelude.{ℕ, ◌+◌, ◌^◌, None}
-use Rattle.fx_frame_stage.specs.Stage.{StageKind}
+use Rattle.fx_frame_base.specs.Stage.{StageKind}
 
 -- the maximum number of frames that a stage takes
 abbrev pub max_taken : ℕ

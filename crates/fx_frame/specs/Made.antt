@@ -1,9 +1,9 @@
 -- What is made of frames, one output frame for each input frame (this project's profile).
 use Rattle.std.specs.Prelude.{List, map, ℕ, ℤ, Bool}
-use Rattle.fx_frame_stage.specs.Frame.{Samples}
-use Rattle.fx_frame_stage.specs.Stage.{Given}
-use Rattle.fx_frame_stage.specs.Holds.{total}
-use Rattle.fx_frame_stage.specs.Given.{given_samples}
+use Rattle.fx_frame_base.specs.Frame.{Samples}
+use Rattle.fx_frame_base.specs.Stage.{Given}
+use Rattle.fx_frame_base.specs.Holds.{total}
+use Rattle.fx_frame_base.specs.Given.{given_samples}
 
 -- the output frames of a mapping
 abbrev pub made_of : (Samples → Given) → List Samples → List Samples

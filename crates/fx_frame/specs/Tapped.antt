@@ -2,14 +2,14 @@
 use Rattle.std.specs.Prelude.{ℕ, ℤ, ◌+◌, ◌-◌, ◌*◌, ◌≤◌, ◌≡◌, Bool, true, false, ◌&&◌, Option, List, ◌++◌, length, drop, map, min, replicate, option_to_list, is_none, slice_index_or, nat_eq, cond}
 use Rattle.std.proofs.Common.{arith}
 use Rattle.std.specs.Int.{w32}
-use Rattle.fx_frame_stage.specs.Frame.{Samples, silence}
+use Rattle.fx_frame_base.specs.Frame.{Samples, silence}
 use Rattle.fx_frame_line.specs.Line.{Frames, IsLine}
-use Rattle.fx_frame_stage.specs.PendingFrame.{IsPending}
-use Rattle.fx_frame_stage.specs.Holds.{total}
-use Rattle.fx_frame_stage.specs.Stage.{Given, Acts}
+use Rattle.fx_frame_base.specs.PendingFrame.{IsPending}
+use Rattle.fx_frame_base.specs.Holds.{total}
+use Rattle.fx_frame_base.specs.Stage.{Given, Acts}
 use Rattle.fx_frame.specs.Kinds.{max_taken, tap_kind}
 use Rattle.fx_frame.specs.History.{History, sample_before}
-use Rattle.fx_frame_lists.specs.Lists.{tabulate}
+use Rattle.fx_frame_base.specs.Lists.{tabulate}
 
 -- how effects with such arguments make frames
 pub record Taps (M : Type 0) : Type 0 where

@@ -1,13 +1,13 @@
 //! What a stage stores, frame by frame, and how that is restored.
 ghost use Rattle.std.specs.Prelude.{◌≡◌, ◌<◌, ◌≤◌, ◌^◌, ◌++◌, ◌⊎◌, [], ℤ, IfOk, IfErr, Option, length, option_to_list, slice_index_or};
 ghost use Rattle.std.specs.Int.{w32, w64};
-ghost use Rattle.fx_frame_stage.specs.Frame.{Samples};
+ghost use Rattle.fx_frame_base.specs.Frame.{Samples};
 ghost use Rattle.fx_frame_line.specs.Line.{Frames, IsLine};
 ghost use Rattle.fx_frame.specs.Frozen.{IsStored, line_of};
 
 use crate::line::{Line, WideLine};
-use fx_frame_stage::pending::thawed_pending;
-use fx_frame_stage::{Frame, ThawFault, WideFrame};
+use fx_frame_base::pending::thawed_pending;
+use fx_frame_base::{Frame, ThawFault, WideFrame};
 use std::alloc::Global;
 
 /// The frame that a stage stores at a place, from 0: those of its line from the oldest on, and then the pending one.

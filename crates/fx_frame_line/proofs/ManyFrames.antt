@@ -11,25 +11,25 @@ use Rattle.std.proofs.Math.Seq.{take-append-add}
 use Rattle.fx_frame_line.specs.Line.{Frames, IsSamples, latest_frames, pushed_all}
 use Rattle.circular_buffer.specs.Buffer.{Buffer, buffer, keep_last}
 use Rattle.fx_frame_line.specs.Ring.{IsRing}
-use Rattle.fx_frame_lists.specs.Lists.{pieces}
-use Rattle.fx_frame_lists.proofs.Puts.{pieces-split, pieces-take}
+use Rattle.fx_frame_base.specs.Lists.{pieces}
+use Rattle.fx_frame_base.proofs.Puts.{pieces-split, pieces-take}
 use Rattle.fx_frame_line.proofs.RingLaws.{frames_of, ring-full, ring-len, ring-place, ring-small}
-use Rattle.fx_frame_lists.proofs.Pieces.{get_or-piece, length-pieces, pieces-first, pieces-front}
+use Rattle.fx_frame_base.proofs.Pieces.{get_or-piece, length-pieces, pieces-first, pieces-front}
 use borrow.Rule.Slice.PartMut.{put_mid}
 
 -- the same so many times, and others behind it
-pub replicate-front : {Y : Type 0} (s : Y) (silence_here n : ℕ) (ys : List Y) (first : ℕ) → first ≡ min silence_here n → take n (replicate silence_here s ++ ys) ≡ replicate first s ++ take (n - first) ys
-replicate-front {Y} s silence_here n ys first e = go (cases_lt silence_here n)
+pub replicate-front : {Y : Type 0} (s : Y) (silent_frames n : ℕ) (ys : List Y) (first : ℕ) → first ≡ min silent_frames n → take n (replicate silent_frames s ++ ys) ≡ replicate first s ++ take (n - first) ys
+replicate-front {Y} s silent_frames n ys first e = go (cases_lt silent_frames n)
   where
-    go : (silence_here < n) ⊎ (n ≤ silence_here) → take n (replicate silence_here s ++ ys) ≡ replicate first s ++ take (n - first) ys
+    go : (silent_frames < n) ⊎ (n ≤ silent_frames) → take n (replicate silent_frames s ++ ys) ≡ replicate first s ++ take (n - first) ys
     go (inl l) =
-        let all : first ≡ silence_here = omega arith in
-        let more : n ≡ length (replicate silence_here s) + (n - silence_here) = omega (arith, length-replicate silence_here s) in
-        rw all (ap (λ m. take m (replicate silence_here s ++ ys)) more ∙ take-append-add (replicate silence_here s) ys (n - silence_here))
+        let all : first ≡ silent_frames = omega arith in
+        let more : n ≡ length (replicate silent_frames s) + (n - silent_frames) = omega (arith, length-replicate silent_frames s) in
+        rw all (ap (λ m. take m (replicate silent_frames s ++ ys)) more ∙ take-append-add (replicate silent_frames s) ys (n - silent_frames))
     go (inr g) =
         let all : first ≡ n = omega arith in
         let none : n - n ≡ 0 = omega arith in
-        rw (all, none, append-nil) (take-append-le n (replicate silence_here s) ys (omega (arith, length-replicate silence_here s)) ∙ take-replicate n silence_here s g)
+        rw (all, none, append-nil) (take-append-le n (replicate silent_frames s) ys (omega (arith, length-replicate silent_frames s)) ∙ take-replicate n silent_frames s g)
 
 -- of a rest that begins elsewhere nothing is taken
 take-same : {Y : Type 0} (n i j : ℕ) (ys : List Y) → (0 < n → i ≡ j) → take n (drop i ys) ≡ take n (drop j ys)
@@ -145,8 +145,8 @@ module _ {X : Type 0} where
       ]
 
   -- silence among the latest frames
-  pub latest-silence_here : (l : Frames X) (s d : X) (late i channel : ℕ) → i < late - length l.items → channel < l.channels → get_or (get_or (latest_frames s late l) i []) channel d ≡ s
-  latest-silence_here l s d late i channel h within =
+  pub latest-silence : (l : Frames X) (s d : X) (late i channel : ℕ) → i < late - length l.items → channel < l.channels → get_or (get_or (latest_frames s late l) i []) channel d ≡ s
+  latest-silence l s d late i channel h within =
       let none : List (List X) = replicate (late - length l.items) (replicate l.channels s) in
       let front : length none ≡ late - length l.items = length-replicate (late - length l.items) (replicate l.channels s) in
       ap (λ f. get_or f channel d) (get_or_append_left none (drop (length l.items - late) l.items) [] i (omega arith) ∙ get_or-replicate (late - length l.items) i (replicate l.channels s) [] h)
@@ -232,51 +232,51 @@ module _ {X : Type 0} where
         r.filled ∙ ap (λ n. n * channels) same ∙ sym r.free
 
     -- where frames stand that come so many places before the next one, silent ones first
-    pub record IsBefore (count silence_here first : ℕ) : Type 0 where
-      pub bound : silence_here ≤ count
-      pub whole : silence_here * channels + (count - silence_here) * channels ≡ count * channels
-      pub inside : first + (count - silence_here) ≤ len
-      pub free : first * channels + (count - silence_here) * channels ≤ length samples.items
+    pub record IsBefore (count silent_frames first : ℕ) : Type 0 where
+      pub bound : silent_frames ≤ count
+      pub whole : silent_frames * channels + (count - silent_frames) * channels ≡ count * channels
+      pub inside : first + (count - silent_frames) ≤ len
+      pub free : first * channels + (count - silent_frames) * channels ≤ length samples.items
 
-    pub ring-places_before : (late count silence_here first : ℕ) → count ≤ late → silence_here ≡ min (late - length l.items) count → first ≡ len + silence_here - late → IsBefore count silence_here first
-    ring-places_before late count silence_here first h e-silence_here e-first =
+    pub ring-places_before : (late count silent_frames first : ℕ) → count ≤ late → silent_frames ≡ min (late - length l.items) count → first ≡ len + silent_frames - late → IsBefore count silent_frames first
+    ring-places_before late count silent_frames first h e-silent_frames e-first =
         let held : len ≡ length l.items = ring-len channels capacity len samples l is-l r in
-        let bound : silence_here ≤ count = omega arith in
-        let inside : first + (count - silence_here) ≤ len = omega arith in
-        let both : silence_here + (count - silence_here) ≡ count = omega arith in
+        let bound : silent_frames ≤ count = omega arith in
+        let inside : first + (count - silent_frames) ≤ len = omega arith in
+        let both : silent_frames + (count - silent_frames) ≡ count = omega arith in
         record {
           bound = bound;
-          whole = sym (add-mul silence_here (count - silence_here) channels) ∙ ap (λ n. n * channels) both;
+          whole = sym (add-mul silent_frames (count - silent_frames) channels) ∙ ap (λ n. n * channels) both;
           inside = inside;
-          free = omega (arith, mul-le-mul_right channels inside, add-mul first (count - silence_here) channels, r.filled);
+          free = omega (arith, mul-le-mul_right channels inside, add-mul first (count - silent_frames) channels, r.filled);
         }
 
     -- silence, and the frames that stand so many places before the next one
-    pub ring-before : (s : X) (late count silence_here first : ℕ) (silent own : List X) → count ≤ late → silence_here ≡ min (late - length l.items) count → first ≡ len + silence_here - late
-        → silent ≡ replicate (silence_here * channels) s → own ≡ take ((count - silence_here) * channels) (drop (first * channels) samples.items)
+    pub ring-before : (s : X) (late count silent_frames first : ℕ) (silent own : List X) → count ≤ late → silent_frames ≡ min (late - length l.items) count → first ≡ len + silent_frames - late
+        → silent ≡ replicate (silent_frames * channels) s → own ≡ take ((count - silent_frames) * channels) (drop (first * channels) samples.items)
         → pieces l.channels count (silent ++ own) ≡ take count (latest_frames s late l)
-    ring-before s late count silence_here first silent own h e-silence_here e-first e-silent e-own =
-        let at = ring-places_before late count silence_here first h e-silence_here e-first in
+    ring-before s late count silent_frames first silent own h e-silent_frames e-first e-silent e-own =
+        let at = ring-places_before late count silent_frames first h e-silent_frames e-first in
         let held : len ≡ length l.items = ring-len channels capacity len samples l is-l r in
-        let silence : silence_here ≡ min (late - len) count = omega arith in
+        let silence : silent_frames ≡ min (late - len) count = omega arith in
         let frames : List (List X) = pieces channels len samples.items in
-        let both : count ≡ silence_here + (count - silence_here) = omega arith in
-        let long : length silent ≡ silence_here * channels = ap length e-silent ∙ length-replicate (silence_here * channels) s in
+        let both : count ≡ silent_frames + (count - silent_frames) = omega arith in
+        let long : length silent ≡ silent_frames * channels = ap length e-silent ∙ length-replicate (silent_frames * channels) s in
         let many : length (pieces channels len samples.items) ≡ len = length-pieces channels len samples.items in
-        let left : (count - silence_here) * channels ≤ length (drop (first * channels) samples.items) = omega (arith, length-drop (first * channels) samples.items, at.free) in
-        let front : pieces channels silence_here silent ≡ replicate silence_here (replicate channels s) = ap (pieces channels silence_here) e-silent ∙ pieces-replicate channels silence_here s in
-        let back : pieces channels (count - silence_here) own ≡ take (count - silence_here) (drop first frames) =
-        ap (pieces channels (count - silence_here)) e-own ∙ pieces-take channels (count - silence_here) (drop (first * channels) samples.items) left ∙ pieces-beyond channels first (count - silence_here) samples.items
-        ∙ ap (drop first) (sym (pieces-first channels (first + (count - silence_here)) len samples.items at.inside)) ∙ drop-take first (count - silence_here) frames in
-        let same : take (count - silence_here) (drop first frames) ≡ take (count - silence_here) (drop (len - late) frames) = take-same (count - silence_here) first (len - late) frames (λ some. omega arith) in
-        rw (← is-l, many) (ap (λ n. pieces channels n (silent ++ own)) both ∙ pieces-joined channels silence_here (count - silence_here) silent own long
-        ∙ ap (λ ps. ps ++ pieces channels (count - silence_here) own) front ∙ ap (λ ps. replicate silence_here (replicate channels s) ++ ps) (back ∙ same)
-        ∙ sym (replicate-front (replicate channels s) (late - len) count (drop (len - late) frames) silence_here silence))
+        let left : (count - silent_frames) * channels ≤ length (drop (first * channels) samples.items) = omega (arith, length-drop (first * channels) samples.items, at.free) in
+        let front : pieces channels silent_frames silent ≡ replicate silent_frames (replicate channels s) = ap (pieces channels silent_frames) e-silent ∙ pieces-replicate channels silent_frames s in
+        let back : pieces channels (count - silent_frames) own ≡ take (count - silent_frames) (drop first frames) =
+        ap (pieces channels (count - silent_frames)) e-own ∙ pieces-take channels (count - silent_frames) (drop (first * channels) samples.items) left ∙ pieces-beyond channels first (count - silent_frames) samples.items
+        ∙ ap (drop first) (sym (pieces-first channels (first + (count - silent_frames)) len samples.items at.inside)) ∙ drop-take first (count - silent_frames) frames in
+        let same : take (count - silent_frames) (drop first frames) ≡ take (count - silent_frames) (drop (len - late) frames) = take-same (count - silent_frames) first (len - late) frames (λ some. omega arith) in
+        rw (← is-l, many) (ap (λ n. pieces channels n (silent ++ own)) both ∙ pieces-joined channels silent_frames (count - silent_frames) silent own long
+        ∙ ap (λ ps. ps ++ pieces channels (count - silent_frames) own) front ∙ ap (λ ps. replicate silent_frames (replicate channels s) ++ ps) (back ∙ same)
+        ∙ sym (replicate-front (replicate channels s) (late - len) count (drop (len - late) frames) silent_frames silence))
 
     -- where one channel of these frames stands
-    pub ring-channel_from : (late count silence_here first channel : ℕ) → count ≤ late → silence_here ≡ min (late - length l.items) count → first ≡ len + silence_here - late → channel < l.channels
-        → (first * channels + channel + length samples.items < 2 ^ 62) × ((k : ℕ) → k < count - silence_here → first * channels + channel + k * channels < length samples.items)
-    ring-channel_from late count silence_here first channel h e-silence_here e-first within =
+    pub ring-channel_from : (late count silent_frames first channel : ℕ) → count ≤ late → silent_frames ≡ min (late - length l.items) count → first ≡ len + silent_frames - late → channel < l.channels
+        → (first * channels + channel + length samples.items < 2 ^ 62) × ((k : ℕ) → k < count - silent_frames → first * channels + channel + k * channels < length samples.items)
+    ring-channel_from late count silent_frames first channel h e-silent_frames e-first within =
         let held : len ≡ length l.items = ring-len channels capacity len samples l is-l r in
         let same : channels ≡ l.channels = ap (λ v. v.channels) is-l in
         let bound : len * channels ≤ 2 ^ 32 = ring-small channels capacity len samples l is-l r in
@@ -288,16 +288,16 @@ module _ {X : Type 0} where
         )
 
     -- one channel of the frames that stand so many places before the next one
-    pub ring-channel_before : (s d : X) (late count silence_here first channel k : ℕ) → count ≤ late → silence_here ≡ min (late - length l.items) count → first ≡ len + silence_here - late → channel < l.channels → k < count - silence_here
-        → get_or samples.items (first * channels + channel + k * channels) d ≡ get_or (get_or (latest_frames s late l) (silence_here + k) []) channel d
-    ring-channel_before s d late count silence_here first channel k h e-silence_here e-first within lt =
+    pub ring-channel_before : (s d : X) (late count silent_frames first channel k : ℕ) → count ≤ late → silent_frames ≡ min (late - length l.items) count → first ≡ len + silent_frames - late → channel < l.channels → k < count - silent_frames
+        → get_or samples.items (first * channels + channel + k * channels) d ≡ get_or (get_or (latest_frames s late l) (silent_frames + k) []) channel d
+    ring-channel_before s d late count silent_frames first channel k h e-silent_frames e-first within lt =
         let held : len ≡ length l.items = ring-len channels capacity len samples l is-l r in
         let at : first + k < len = omega arith in
         let inside : channel < channels = rw (← ap (λ v. v.channels) is-l) at within in
-        let there : length l.items + (silence_here + k) - late ≡ first + k = omega arith in
+        let there : length l.items + (silent_frames + k) - late ≡ first + k = omega arith in
         let place : first * channels + channel + k * channels ≡ (first + k) * channels + channel = omega (arith, add-mul first k channels) in
         let piece : get_or (get_or l.items (first + k) []) channel d ≡ get_or samples.items ((first + k) * channels + channel) d = rw (← is-l) (get_or-piece channels len samples.items (first + k) channel d at inside) in
-        ap (λ m. get_or samples.items m d) place ∙ sym (ap (λ f. get_or f channel d) (latest-held l s late (silence_here + k) (omega arith) ∙ ap (λ m. get_or l.items m []) there) ∙ piece)
+        ap (λ m. get_or samples.items m d) place ∙ sym (ap (λ f. get_or f channel d) (latest-held l s late (silent_frames + k) (omega arith) ∙ ap (λ m. get_or l.items m []) there) ∙ piece)
 
 -- samples that fit, in frames of a line
 pub frames-samples : (w : Width) (channels n : ℕ) (xs : List ℤ) → length xs ≡ n * channels → All (FitsSigned w) xs → All (IsSamples w channels) (pieces channels n xs)

@@ -7,10 +7,10 @@ use Rattle.std.specs.Option.{option_map, option_zip}
 use Rattle.std.proofs.lemmas.Nat.{mul-le, mul-add-lt}
 use Rattle.std.proofs.lemmas.Option.{get_or_from_slice_get, slice_get-get_or}
 use Rattle.fx_frame_line.specs.Line.{Frames, pushed, pushed_out, channel_of}
-use Rattle.fx_frame_lists.specs.Lists.{pieces}
+use Rattle.fx_frame_base.specs.Lists.{pieces}
 use Rattle.circular_buffer.specs.Buffer.{Buffer, buffer, keep_last}
 use Rattle.fx_frame_line.specs.Ring.{IsShaped, IsRing}
-use Rattle.fx_frame_lists.proofs.Pieces.{each-piece, get_or-piece, get_or-pieces, length-pieces, pieces-append, pieces-rest}
+use Rattle.fx_frame_base.proofs.Pieces.{each-piece, get_or-piece, get_or-pieces, length-pieces, pieces-append, pieces-rest}
 
 -- all the samples have room exactly where one more frame has
 pub lt-scaled : (size count free : ℕ) → 1 ≤ size → nat_lt (count * size) (free * size) ≡ nat_lt count free

@@ -32,7 +32,7 @@ module _ {X : Type 0} where
 
   -- the latest `count` frames, the oldest first; where there are fewer, silence stands before them
   abbrev pub latest_frames : X → ℕ → Frames X → List (List X)
-  latest_frames silence_here count l = replicate (count - length l.items) (replicate l.channels silence_here) ++ drop (length l.items - count) l.items
+  latest_frames silent_sample count l = replicate (count - length l.items) (replicate l.channels silent_sample) ++ drop (length l.items - count) l.items
 
   -- one channel of each frame
   abbrev pub channel_of : List (List X) → ℕ → X → List X

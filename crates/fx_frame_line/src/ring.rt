@@ -3,7 +3,7 @@ ghost use Rattle.std.specs.Prelude.{◌≡◌, ◌↔◌, ◌<◌, ◌≤◌, �
 ghost use Rattle.std.specs.Option.{option_map};
 ghost use Rattle.fx_frame_line.specs.Line.{empty, pushed, pushed_all, pushed_out, latest_frames, channel_of};
 ghost use Rattle.fx_frame_line.specs.Ring.{IsShaped};
-ghost use Rattle.fx_frame_lists.specs.Lists.{IsOtherPlace, pieces};
+ghost use Rattle.fx_frame_base.specs.Lists.{IsOtherPlace, pieces};
 
 use circular_buffer::HeapCircularBuffer;
 use std::alloc::{AllocError, Global};
@@ -25,7 +25,7 @@ pub struct Ring<T: Copy> {
 
 impl<T: Copy> Model for Ring<T> {
     ghost use Rattle.fx_frame_line.specs.Line.{Frames};
-    ghost use Rattle.fx_frame_lists.specs.Lists.{pieces};
+    ghost use Rattle.fx_frame_base.specs.Lists.{pieces};
     ghost use Rattle.fx_frame_line.specs.Ring.{frames_code, IsRing};
 
     ghost Value = { Frames T };
@@ -155,18 +155,18 @@ impl<T: Copy> Ring<T> {
     }
 
     /// Puts `count` frames in the places of as many of the oldest, and writes those over them, where there is no space for one
-    /// more and there are that many. The frames that came then stand in `free`. Else it returns false, and nothing changes.
+    /// more and there are that many. The frames that came then stand in `came`. Else it returns false, and nothing changes.
     #[inline(always)]
-    pub fn exchange_frames(&mut self, frames: &mut [T], count: usize, free: &mut [T]) -> bool
+    pub fn exchange_frames(&mut self, frames: &mut [T], count: usize, came: &mut [T]) -> bool
         requires frames { length frames.old ≡ count * self.old.channels }
-        requires free { length free.old ≡ length frames.old }
+        requires free { length came.old ≡ length frames.old }
         ensures kept { result ≡ false → (self.new ≡ self.old) × (frames.new ≡ frames.old) }
         ensures items { result ≡ true → self.new.items ≡ pushed_all self.old (pieces self.old.channels count frames.old) }
         ensures capacity { self.new.capacity ≡ self.old.capacity }
         ensures channels { self.new.channels ≡ self.old.channels }
         ensures oldest { result ≡ true → pieces self.old.channels count frames.new ≡ take count self.old.items }
         ensures bound { result ≡ true → count ≤ length self.old.items }
-        ensures came { result ≡ true → free.new ≡ frames.old }
+        ensures came { result ≡ true → came.new ≡ frames.old }
         ensures len { length frames.new ≡ length frames.old }
         ensures when { result ≡ true ↔ (length self.old.items ≡ self.old.capacity) × (count ≤ length self.old.items) }
     {
@@ -176,9 +176,9 @@ impl<T: Copy> Ring<T> {
         if count > self.len {
             return false;
         }
-        free.copy_from_slice(frames);
+        came.copy_from_slice(frames);
         self.samples.read_into(frames);
-        self.samples.extend_from_slice(free);
+        self.samples.extend_from_slice(came);
         true
     }
 
@@ -215,9 +215,9 @@ impl<T: Copy> Ring<T> {
         requires len { length out.old ≡ count * self.now.channels }
         ensures { pieces self.now.channels count out.new ≡ take count (latest_frames silence late self.now) }
     {
-        let silence_here = self.silent_before(late, count);
-        let first = (self.len + silence_here).saturating_sub(late);
-        let (silent, own) = out.split_at_mut(silence_here * self.channels);
+        let silent_frames = self.silent_before(late, count);
+        let first = (self.len + silent_frames).saturating_sub(late);
+        let (silent, own) = out.split_at_mut(silent_frames * self.channels);
         fill(silent, silence);
         let (front, back) = self.samples.as_slices();
         copy_part(front, back, first * self.channels, own);
@@ -240,10 +240,10 @@ impl<T: Copy> Ring<T> {
         ensures others { (k : ℕ) → IsOtherPlace self.now.channels channel count k → (d : T) → slice_index_or out.new k d ≡ slice_index_or out.old k d }
     {
         let channels = self.channels;
-        let silence_here = self.silent_before(late, count);
-        let first = (self.len + silence_here).saturating_sub(late);
-        let (silent, own) = out.split_at_mut(silence_here * channels);
-        fill_channel(silence, silence_here, silent, channel, channels);
+        let silent_frames = self.silent_before(late, count);
+        let first = (self.len + silent_frames).saturating_sub(late);
+        let (silent, own) = out.split_at_mut(silent_frames * channels);
+        fill_channel(silence, silent_frames, silent, channel, channels);
         let (front, back) = self.samples.as_slices();
         let from = first * channels + channel;
         copy_channel(
@@ -251,7 +251,7 @@ impl<T: Copy> Ring<T> {
             back,
             from,
             channels,
-            count - silence_here,
+            count - silent_frames,
             own,
             channel,
             channels,

@@ -7,15 +7,15 @@ use Rattle.std.proofs.lemmas.Bool.Decides.{Decides-and, Decides-like}
 use denote.Enum.Bare.{Bare, sameb, same_true, true_same}
 use denote.Enum.Declared.{Declared, declared}
 use mathlib.Core.HLevel.{is_prop→PathP}
-use Rattle.fx_sound_heads.specs.Kind.{is_coding_of}
-use Rattle.fx_frame_io.specs.declared.coding.Coding.{Coding}
-use Rattle.fx_frame_io.specs.contracts.coding.Coding as coding
-use Rattle.fx_frame_io.specs.contracts.coding.CodingPartialEq.TheImpl as coding_eq
-use Rattle.fx_sound_heads.specs.declared.head.Kind.{Kind}
-use Rattle.fx_sound_heads.specs.contracts.head.Kind as kind
-use Rattle.fx_sound_heads.specs.contracts.head.KindPartialEq.TheImpl as kind_eq
-use Rattle.fx_sound_heads.specs.declared.head.Head.{Head}
-use Rattle.fx_sound_heads.specs.contracts.head.HeadPartialEq.TheImpl as head_eq
+use Rattle.fx_sound.specs.Kind.{is_coding_of}
+use Rattle.fx_frame_base.specs.declared.coding.Coding.{Coding}
+use Rattle.fx_frame_base.specs.contracts.coding.Coding as coding
+use Rattle.fx_frame_base.specs.contracts.coding.CodingPartialEq.TheImpl as coding_eq
+use Rattle.fx_sound.specs.declared.head.Kind.{Kind}
+use Rattle.fx_sound.specs.contracts.head.Kind as kind
+use Rattle.fx_sound.specs.contracts.head.KindPartialEq.TheImpl as kind_eq
+use Rattle.fx_sound.specs.declared.head.Head.{Head}
+use Rattle.fx_sound.specs.contracts.head.HeadPartialEq.TheImpl as head_eq
 use Rattle.fx_plan_effects.specs.declared.effect.Layout.{Layout}
 use Rattle.fx_plan_effects.specs.contracts.effect.LayoutPartialEq.TheImpl as layout_eq
 use Rattle.fx_plan_effects.specs.Effects.{act}

@@ -2,10 +2,10 @@
 -- (this project's profile of sox(1), SYNOPSIS, and of its EFFECTS, fir).
 use Rattle.std.specs.Prelude.{ℕ, ◌-◌, ◌≡◌, if◌then◌else◌, is_some, slice_get, unwrap_or, List, [], flat_map, codes, drop, Option, Some, None, Result, Ok, Err}
 use Rattle.std.specs.Str.{bytes_eq}
-use Rattle.fx_plan_line.specs.declared.line.LineFault.{LineFault}
-use Rattle.fx_plan_line.specs.declared.line.LineFault.TheVariants.{Memory}
-use Rattle.fx_plan_line.specs.Line.{Said}
-use Rattle.fx_sound_heads.specs.declared.head.Head.{Head}
+use Rattle.fx_plan.specs.declared.line.LineFault.{LineFault}
+use Rattle.fx_plan.specs.declared.line.LineFault.TheVariants.{Memory}
+use Rattle.fx_plan.specs.Line.{Said}
+use Rattle.fx_sound.specs.declared.head.Head.{Head}
 use Rattle.fx_plan.specs.declared.command_line.Endpoint.{Endpoint}
 use Rattle.fx_plan.specs.declared.command_line.Endpoint.TheVariants.{Standard, Named}
 use Rattle.fx_plan_words.specs.Faults.{Word}

@@ -4,14 +4,14 @@ use Rattle.std.specs.Bool.{beq}
 use Rattle.std.specs.Cmp.{IsEquivalence, and_equiv, bool_eq_equiv, on_equiv}
 use Rattle.std.specs.Cmp.Lexicographic.{lists_equiv, pointwise}
 use Rattle.std.specs.Ordering.{eq_of_both, on}
-use Rattle.fx_frame_io.specs.contracts.coding.CodingPartialEq.TheImpl as codings
-use Rattle.fx_sound_heads.specs.contracts.head.HeadPartialEq.TheImpl as heads
-use Rattle.fx_sound_heads.specs.contracts.head.KindPartialEq.TheImpl as kinds
+use Rattle.fx_frame_base.specs.contracts.coding.CodingPartialEq.TheImpl as codings
+use Rattle.fx_sound.specs.contracts.head.HeadPartialEq.TheImpl as heads
+use Rattle.fx_sound.specs.contracts.head.KindPartialEq.TheImpl as kinds
 use Rattle.fx_plan_effects.specs.contracts.registry.EffectPartialEq.TheImpl as effects
 use Rattle.fx_plan_effects.specs.contracts.effect.LayoutPartialEq.TheImpl as layouts
-use Rattle.fx_frame_io.specs.contracts.coding.CodingEq.TheImpl.Laws as coding_laws
-use Rattle.fx_sound_heads.specs.contracts.head.HeadEq.TheImpl.Laws as head_laws
-use Rattle.fx_sound_heads.specs.contracts.head.KindEq.TheImpl.Laws as kind_laws
+use Rattle.fx_frame_base.specs.contracts.coding.CodingEq.TheImpl.Laws as coding_laws
+use Rattle.fx_sound.specs.contracts.head.HeadEq.TheImpl.Laws as head_laws
+use Rattle.fx_sound.specs.contracts.head.KindEq.TheImpl.Laws as kind_laws
 use Rattle.fx_plan_effects.specs.contracts.registry.EffectEq.TheImpl.Laws as effect_laws
 use Rattle.fx_plan_effects.specs.contracts.effect.LayoutEq.TheImpl.Laws as layout_laws
 use Rattle.fx_plan.specs.declared.accepted.Plan.{Plan}

@@ -1,8 +1,11 @@
+pub mod Bits
 pub mod CommandLines
 pub mod Equality
 pub mod Groups
+pub mod Line
 pub mod Names
 pub mod Planning
 pub mod Plans
 pub mod Refusals
 pub mod Registry
+pub mod Spelling

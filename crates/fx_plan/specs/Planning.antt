@@ -1,10 +1,10 @@
 -- The content of a plan (this project's profile).
 use Rattle.std.specs.Prelude.{ℕ, Bool, List, map, Option, unwrap_or}
-use Rattle.fx_frame_io.specs.declared.coding.Coding.{Coding}
-use Rattle.fx_plan_line.specs.Bits.{bits_in, coding_with}
-use Rattle.fx_plan_line.specs.declared.bits.Bits.{Bits}
-use Rattle.fx_sound_heads.specs.declared.head.Head.{Head}
-use Rattle.fx_sound_heads.specs.declared.head.Kind.{Kind}
+use Rattle.fx_frame_base.specs.declared.coding.Coding.{Coding}
+use Rattle.fx_plan.specs.Bits.{bits_in, coding_with}
+use Rattle.fx_plan.specs.declared.bits.Bits.{Bits}
+use Rattle.fx_sound.specs.declared.head.Head.{Head}
+use Rattle.fx_sound.specs.declared.head.Kind.{Kind}
 use Rattle.fx_plan_effects.specs.declared.effect.Layout.{Layout}
 use Rattle.fx_plan.specs.declared.accepted.Plan.{Plan}
 use Rattle.fx_plan_effects.specs.Effects.{Act, act}

@@ -2,7 +2,7 @@
 use Rattle.std.specs.Prelude.{ℕ, ◌+◌, ◌≡◌, ◌^◌, ◌⊎◌, nat_lt, nat_eq, Bool, true, false, not, ◌&&◌, if◌then◌else◌, List, [], ◌∷◌, ◌++◌, codes, length, map, drop, Vec, Option, Some, None, Result, Ok, Err}
 use Rattle.std.specs.Str.{bytes_eq}
 use Rattle.fx_plan_effects.specs.declared.effect.Layout.{Layout}
-use Rattle.fx_sound_heads.specs.declared.head.Head.{Head}
+use Rattle.fx_sound.specs.declared.head.Head.{Head}
 use Rattle.fx_plan_words.specs.declared.fault.Mark.{Mark}
 use Rattle.fx_plan_words.specs.declared.fault.PlanCause.{PlanCause}
 use Rattle.fx_plan_words.specs.declared.fault.PlanCause.TheVariants.{TooManyEffects, HoldTooLarge, TooLong, Memory}

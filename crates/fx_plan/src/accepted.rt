@@ -2,7 +2,7 @@
 
 ghost use Rattle.std.specs.Prelude.{◌≡◌, ◌<◌, ◌≤◌, ◌^◌, IsTrue, false, length, map, true};
 ghost use Rattle.std.specs.List.{All};
-ghost use Rattle.fx_sound_heads.specs.Kind.{is_coding_of};
+ghost use Rattle.fx_sound.specs.Kind.{is_coding_of};
 ghost use Rattle.fx_plan_effects.specs.Bounds.{hold_all, is_too_long};
 ghost use Rattle.fx_plan_effects.specs.Effects.{IsLayout, Usable, act, all_fit};
 ghost use Rattle.fx_plan.specs.Plans.{head_layout};

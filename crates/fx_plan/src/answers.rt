@@ -1,7 +1,7 @@
 //! How a plan is made, and its content.
 
 ghost use Rattle.std.specs.Prelude.{◌≡◌, ℕ, ◌<◌, ◌≤◌, ◌-◌, ◌*◌, ◌^◌, IfOk, IsTrue, Some, false, length, map, slice_get, true};
-ghost use Rattle.fx_sound_heads.specs.Kind.{is_coding_of};
+ghost use Rattle.fx_sound.specs.Kind.{is_coding_of};
 ghost use Rattle.fx_plan_effects.specs.Bounds.{hold_all, hold_of_act, is_too_long, work_of};
 ghost use Rattle.std.specs.List.{All};
 ghost use Rattle.fx_plan_effects.specs.Effects.{IsLayout, Usable, act, all_fit, name_text};
@@ -10,12 +10,12 @@ ghost use Rattle.fx_plan_words.specs.Faults.{word_texts};
 ghost use Rattle.fx_plan.specs.Groups.{effects_of};
 ghost use Rattle.fx_plan.specs.Planning.{planning, planning_of};
 
+use crate::Bits;
 use crate::accepted::Plan;
 use crate::fault::PlanFault;
 use crate::planned::{copy_effects, read_plan};
 use fx_frame::Coding;
 use fx_plan_effects::{Effect, Layout, hold, work};
-use fx_plan_line::Bits;
 use fx_sound::{Head, Kind};
 use std::alloc::{AllocError, Global};
 

@@ -1,7 +1,7 @@
 //! The command line, read once and kept: where the sounds are, their kinds, and the words of the effects.
 
 ghost use Rattle.std.specs.Prelude.{◌≡◌, ◌≤◌, ◌-◌, IfOk, Some, is_some, length, map, slice_get, string_bytes};
-ghost use Rattle.fx_plan_line.specs.Line.{line_of_words, shown_line};
+ghost use Rattle.fx_plan.specs.Line.{line_of_words, shown_line};
 ghost use Rattle.fx_plan.specs.CommandLines.{LineReads, coefficient_files, effect_words, effects_in, file_name, name_in, planning_in};
 ghost use Rattle.fx_plan.specs.Plans.{head_layout, PlanReads, all_faults, plan_bytes};
 ghost use Rattle.fx_plan_words.specs.Faults.{word_texts};
@@ -11,7 +11,7 @@ use crate::accepted::Plan;
 use crate::answers::plan_words;
 use crate::fault::PlanFault;
 use crate::listing::{count_effects, count_files, effect_at, file_at, list_files};
-use fx_plan_line::{Bits, CommandWords, LineFault, read_line};
+use crate::{Bits, CommandWords, LineFault, read_line};
 use fx_sound::{Head, Kind};
 use std::alloc::{AllocError, Global};
 use std::marker::Model;
@@ -38,7 +38,7 @@ pub struct CommandLine {
 
 impl Model for CommandLine {
     ghost use Rattle.std.specs.Prelude.{string_bytes};
-    ghost use Rattle.fx_plan_line.specs.Line.{Said, texts};
+    ghost use Rattle.fx_plan.specs.Line.{Said, texts};
 
     ghost Value = { Said };
 

@@ -15,7 +15,7 @@ use crate::fault::PlanFault;
 use crate::groups::split_effect;
 use crate::name::read_effect;
 use crate::registry::{Name, read_name};
-use fx_frame_stage::stage::MAX_EFFECTS;
+use fx_frame_base::stage::MAX_EFFECTS;
 use fx_plan_effects::{Effect, Layout, hold, is_too_long};
 use fx_plan_words::{PlanCause, WordsRefusal};
 use std::alloc::{AllocError, Global};

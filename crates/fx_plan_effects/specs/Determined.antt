@@ -1,7 +1,7 @@
 -- What is determined for a stage's whole lifetime, and the definition of its effect (this project's profile).
 use Rattle.std.specs.Prelude.{List}
-use Rattle.fx_frame_stage.specs.Frame.{Samples}
-use Rattle.fx_frame_stage.specs.Stage.{Given, StageKind}
+use Rattle.fx_frame_base.specs.Frame.{Samples}
+use Rattle.fx_frame_base.specs.Stage.{Given, StageKind}
 
 -- what is determined for a stage's whole lifetime, and the definition of its effect
 pub record Determined : Type 0 where

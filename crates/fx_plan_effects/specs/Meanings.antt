@@ -2,8 +2,8 @@
 -- by its own definitions (this project's profile).
 use Rattle.std.specs.Prelude.{ℕ, List}
 use Rattle.fx_plan_effects.specs.Effects.{Act}
-use Rattle.fx_frame_stage.specs.Frame.{Samples}
-use Rattle.fx_frame_stage.specs.Stage.{Given, StageKind}
+use Rattle.fx_frame_base.specs.Frame.{Samples}
+use Rattle.fx_frame_base.specs.Stage.{Given, StageKind}
 pub use Rattle.fx_plan_effects.specs.Registry.{Placed, InPlace, determined_at, recipe_at}
 pub use Rattle.fx_plan_effects.specs.Determined.{Determined, determined}
 

@@ -13,7 +13,7 @@ use fx_fixed::Gain;
 use fx_fixed::inner::max_end;
 use fx_tap_delays::delay::words::DelayList;
 use fx_tap_delays::echo::words::Echoing;
-use fx_tap_delays::extents::{all_taps, max_delay, max_tap_delay};
+use fx_tap_delays::extents::{max_delay, max_tap_delay, total_delay};
 use fx_tap_pointwise::OutSpec;
 use smallvec::SmallVec;
 use std::alloc::{AllocError, Global};
@@ -89,7 +89,7 @@ impl Effect {
             Effect::Pad(pads) => max_pad_end(pads),
             Effect::Delay(delays) => max_delay(delays),
             Effect::Echo(echo) => max_tap_delay(&echo.taps),
-            Effect::Echos(echos) => all_taps(&echos.taps),
+            Effect::Echos(echos) => total_delay(&echos.taps),
             Effect::Fade(fade) => stop_line(effective_stop(fade.stop), fade.fade_out),
             Effect::Fir(gains) => (gains.len() as u64).saturating_sub(1),
             _ => 0,
@@ -105,7 +105,7 @@ impl Effect {
             Effect::Pad(pads) => frames.saturating_add(all_pads(pads)),
             Effect::Delay(delays) => frames.saturating_add(max_delay(delays)),
             Effect::Echo(echo) => frames.saturating_add(max_tap_delay(&echo.taps)),
-            Effect::Echos(echos) => frames.saturating_add(all_taps(&echos.taps)),
+            Effect::Echos(echos) => frames.saturating_add(total_delay(&echos.taps)),
             Effect::Upsample(factor) => frames.saturating_mul(u64::from(*factor)),
             Effect::Downsample(factor) => frames.div_ceil(u64::from(*factor)),
             _ => frames,

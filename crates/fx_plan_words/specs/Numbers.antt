@@ -1,8 +1,7 @@
 -- Numbers, times and positions in the words of effects, and which fault of a plan each fault of theirs is (this project's profile).
-use Rattle.std.specs.Prelude.{ℕ, ◌*◌, nat_lt, ◌||◌, Bool, if◌then◌else◌, ℤ, pos, int_lt, unsigned_abs, Result, Ok, Err}
+use Rattle.std.specs.Prelude.{ℕ, ◌*◌, nat_lt, ◌||◌, Bool, if◌then◌else◌, ℤ, pos, int_lt, unsigned_abs, Result, Ok, Err, ◌^◌}
 use Rattle.fx_fixed.specs.declared.gains.NumberFault.{NumberFault}
 use Rattle.fx_fixed.specs.declared.gains.NumberFault.TheVariants as numbers
-use Rattle.fx_fixed.specs.declared.gains.TheConstants.{UNIT}
 use Rattle.fx_fixed.specs.declared.times.TimeFault.{TimeFault}
 use Rattle.fx_fixed.specs.declared.times.TimeFault.TheVariants as times
 use Rattle.fx_fixed.specs.declared.positions.Anchor.{Anchor}
@@ -36,14 +35,14 @@ within passes (Err cause) = Err cause
 
 -- the gain that a word is
 unfoldable pub gain_in : Word → Result ℤ PlanCause
-gain_in word = with_cause number_cause (gain_of UNIT word)
+gain_in word = with_cause number_cause (gain_of (10 ^ 12) word)
 
 -- a gain is below zero, or more than `maximum` units in magnitude
 abbrev pub is_below : ℤ → Bool
 is_below gain = int_lt gain (pos 0)
 
 abbrev pub is_beyond : ℕ → ℤ → Bool
-is_beyond maximum gain = nat_lt (maximum * UNIT) (unsigned_abs gain)
+is_beyond maximum gain = nat_lt (maximum * 10 ^ 12) (unsigned_abs gain)
 
 -- a value, unless a test refuses it as out of range
 abbrev pub unless : {A : Type 0} → (A → Bool) → Result A PlanCause → Result A PlanCause

@@ -6,14 +6,14 @@ use Rattle.std.proofs.lemmas.List.{append-nil, drop_all, map-append, length-map,
 use Rattle.std.proofs.lemmas.List.Sums.{sum_by-cons}
 use Rattle.std.proofs.lemmas.Slice.{take-put_mid}
 use Rattle.std.proofs.Math.Nat.{suc-mul}
-use Rattle.fx_frame_io.specs.declared.coding.Coding.{Coding}
-use Rattle.fx_frame_io.specs.Coding.{read_sample, width_of}
-use Rattle.fx_frame_stage.specs.Frame.{Samples}
-use Rattle.fx_sound_heads.specs.FrameCoding.{bytes_of, clips_of, frame_size, coded_samples}
-use Rattle.fx_frame_lists.specs.Lists.{pieces}
-use Rattle.fx_frame_lists.proofs.Puts.{pieces-split, pieces-take}
+use Rattle.fx_frame_base.specs.declared.coding.Coding.{Coding}
+use Rattle.fx_frame_base.specs.Coding.{read_sample, width_of}
+use Rattle.fx_frame_base.specs.Frame.{Samples}
+use Rattle.fx_sound.specs.FrameCoding.{bytes_of, clips_of, frame_size, coded_samples}
+use Rattle.fx_frame_base.specs.Lists.{pieces}
+use Rattle.fx_frame_base.proofs.Puts.{pieces-split, pieces-take}
 use Rattle.fx_sound.proofs.FrameBytes.{bytes_of-part, clips_of-part}
-use Rattle.fx_frame_lists.proofs.Pieces.{length-pieces}
+use Rattle.fx_frame_base.proofs.Pieces.{length-pieces}
 use borrow.Rule.Slice.PartMut.{put_mid}
 
 -- the first samples, and those behind them

@@ -3,16 +3,16 @@ use Rattle.std.specs.Prelude.{◌≡◌, ℕ, zero, suc, true, ◌+◌, ◌-◌,
 use Rattle.std.proofs.Common.{sym, ap, ◌∙◌, arith, add-one}
 use Rattle.std.proofs.lemmas.List.{drop-drop, length-drop, length-take, map-append, take-take, drop-take}
 use Rattle.std.proofs.Math.Arith.{digits_div, digits_mod}
-use Rattle.fx_frame_io.specs.declared.coding.Coding.{Coding}
-use Rattle.fx_frame_stage.specs.Frame.{Samples}
-use Rattle.fx_sound_heads.specs.FrameCoding.{frame_size, coded_samples}
-use Rattle.fx_frame_lists.specs.Lists.{pieces}
-use Rattle.fx_frame_lists.proofs.Puts.{pieces-suc}
-use Rattle.fx_sound_heads.specs.Source.{Held, Takes, FallsShort}
+use Rattle.fx_frame_base.specs.declared.coding.Coding.{Coding}
+use Rattle.fx_frame_base.specs.Frame.{Samples}
+use Rattle.fx_sound.specs.FrameCoding.{frame_size, coded_samples}
+use Rattle.fx_frame_base.specs.Lists.{pieces}
+use Rattle.fx_frame_base.proofs.Puts.{pieces-suc}
+use Rattle.fx_sound.specs.Source.{Held, Takes, FallsShort}
 use Rattle.fx_sound.specs.Sound.{Reading, size_of, within_sound, at_most_announced, beyond, lacking, after_frame, sound_after_end, TakesFrame, EndsSound}
 use Rattle.fx_sound.specs.Runs.{RanFrames}
 use Rattle.fx_sound.specs.Container.{first_frames, after_frames, at_end, ReadAllDelivered}
-use Rattle.fx_sound_heads.proofs.Held.{Tells-both}
+use Rattle.fx_sound.proofs.Held.{Tells-both}
 
 -- a length in whole parts
 quotient_of : (n size rest total : ℕ) → rest < size → total ≡ n * size + rest → (n ≡ total / size) × (rest ≡ total % size)

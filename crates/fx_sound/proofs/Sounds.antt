@@ -4,17 +4,17 @@ use Rattle.std.proofs.Math.Nat.{mul-le-mul_right}
 use Rattle.std.proofs.lemmas.List.{length-map, length-take, map-append, take_at}
 use Rattle.std.specs.Prelude.{Option, None, Some}
 use Rattle.std.specs.Io.KnownBytes.{prepend_known}
-use Rattle.fx_frame_stage.specs.Frame.{Samples}
-use Rattle.fx_frame_io.specs.declared.coding.Coding.{Coding}
-use Rattle.fx_sound_heads.specs.FrameCoding.{frame_size, coded_samples}
-use Rattle.fx_frame_lists.specs.Lists.{pieces}
-use Rattle.fx_frame_lists.proofs.Puts.{pieces-take, pieces-split}
-use Rattle.fx_frame_lists.proofs.Pieces.{length-pieces}
+use Rattle.fx_frame_base.specs.Frame.{Samples}
+use Rattle.fx_frame_base.specs.declared.coding.Coding.{Coding}
+use Rattle.fx_sound.specs.FrameCoding.{frame_size, coded_samples}
+use Rattle.fx_frame_base.specs.Lists.{pieces}
+use Rattle.fx_frame_base.proofs.Puts.{pieces-take, pieces-split}
+use Rattle.fx_frame_base.proofs.Pieces.{length-pieces}
 use Rattle.fx_sound.specs.Container.{first_frames}
-use Rattle.fx_sound_heads.specs.Known.{IfKnown}
-use Rattle.fx_sound_heads.specs.Source.{Held, to_come, Stays}
+use Rattle.fx_sound.specs.Known.{IfKnown}
+use Rattle.fx_sound.specs.Source.{Held, to_come, Stays}
 use Rattle.fx_sound.specs.Sound.{AreHeld, Reading, size_of, within_sound, at_most_announced, TakesFrame}
-use Rattle.fx_sound_heads.proofs.Held.{to_come-front, to_come-dropped}
+use Rattle.fx_sound.proofs.Held.{to_come-front, to_come-dropped}
 
 -- a whole frame is announced and there
 pub whole_within : (left : Option ℕ) (bytes : List ℕ) (size : ℕ) → size ≤ at_most_announced left size → size ≤ length bytes → size ≤ length (within_sound left bytes)

@@ -6,14 +6,14 @@ use Rattle.std.specs.List.{flat_map}
 use Rattle.std.proofs.lemmas.Int.{clamps, int_wrap_fits, ints, to_z-of_z, to_z_pos, wrapping_add_onto}
 use Rattle.std.proofs.lemmas.Bool.{cases_lt, le-ltb}
 use Rattle.byteorder.specs.Endian.{big_number, little_bytes, little_number, low_bytes, twos_complement}
-use Rattle.fx_frame_io.specs.declared.coding.Coding.{Coding}
-use Rattle.fx_frame_io.specs.declared.coding.Coding.TheVariants.{U8, S8, S16Le, S16Be, S24Le, S24Be, S32Le, S32Be}
-use Rattle.fx_frame_io.specs.Coding.{is_too_large, limited, narrowed, widened, width_of}
-use Rattle.fx_frame_stage.specs.Frame.{Samples}
-use Rattle.fx_sound_heads.specs.FrameCoding.{bytes_of, coded_samples}
-use Rattle.fx_frame_lists.specs.Lists.{tabulate, pieces}
-use Rattle.fx_frame_lists.proofs.Tabulate.{tabulate-same}
-use Rattle.fx_frame_io.proofs.Shifts.{shift_floors}
+use Rattle.fx_frame_base.specs.declared.coding.Coding.{Coding}
+use Rattle.fx_frame_base.specs.declared.coding.Coding.TheVariants.{U8, S8, S16Le, S16Be, S24Le, S24Be, S32Le, S32Be}
+use Rattle.fx_frame_base.specs.Coding.{is_too_large, limited, narrowed, widened, width_of}
+use Rattle.fx_frame_base.specs.Frame.{Samples}
+use Rattle.fx_sound.specs.FrameCoding.{bytes_of, coded_samples}
+use Rattle.fx_frame_base.specs.Lists.{tabulate, pieces}
+use Rattle.fx_frame_base.proofs.Tabulate.{tabulate-same}
+use Rattle.fx_frame_base.proofs.Shifts.{shift_floors}
 use Rattle.std.proofs.lemmas.Simd.{mask_l-mod, ones-mask_l}
 use lib.Count.{ones}
 use lib.Lanes.{digits_l, mask_l, number_l, top}

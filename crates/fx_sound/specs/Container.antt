@@ -1,15 +1,15 @@
 -- A sound in a list of bytes, on the whole list (RIFF WAVE, Sun AU, this project's profile).
 use Rattle.std.specs.Prelude.{◌≡◌, ℕ, ◌+◌, ◌-◌, ◌*◌, ◌/◌, ◌%◌, ◌^◌, ◌<◌, ◌≤◌, true, List, length, drop, map, Option, Some, Result, Ok, Err}
-use Rattle.fx_frame_io.specs.declared.coding.Coding.{Coding}
-use Rattle.fx_frame_stage.specs.Frame.{Samples}
-use Rattle.fx_sound_heads.specs.FrameCoding.{frame_size, coded_samples}
-use Rattle.fx_frame_lists.specs.Lists.{pieces}
-use Rattle.fx_sound_heads.specs.declared.head.Kind.{Kind}
-use Rattle.fx_sound_heads.specs.declared.head.HeadFault.{HeadFault}
-use Rattle.fx_sound_heads.specs.declared.fields.Format.{Format}
-use Rattle.fx_sound_heads.specs.Head.{Spelt, head_of}
+use Rattle.fx_frame_base.specs.declared.coding.Coding.{Coding}
+use Rattle.fx_frame_base.specs.Frame.{Samples}
+use Rattle.fx_sound.specs.FrameCoding.{frame_size, coded_samples}
+use Rattle.fx_frame_base.specs.Lists.{pieces}
+use Rattle.fx_sound.specs.declared.head.Kind.{Kind}
+use Rattle.fx_sound.specs.declared.head.HeadFault.{HeadFault}
+use Rattle.fx_sound.specs.declared.fields.Format.{Format}
+use Rattle.fx_sound.specs.Head.{Spelt, head_of}
 use Rattle.fx_sound.specs.Sound.{Reading, size_of, within_sound, at_most_announced, beyond, lacking}
-use Rattle.fx_sound_heads.specs.Source.{Held}
+use Rattle.fx_sound.specs.Source.{Held}
 
 -- the first n frames
 abbrev pub first_frames : Coding → ℕ → ℕ → List ℕ → List Samples

@@ -4,7 +4,7 @@ use Rattle.fx_sound.specs.declared.progress.ReadFault.{ReadFault}
 use Rattle.fx_sound.specs.declared.progress.ReadFault.TheVariants.{ReadFailed, TooLong}
 use Rattle.fx_sound.specs.declared.sound.SoundFault.{SoundFault}
 use Rattle.fx_sound.specs.declared.sound.SoundFault.TheVariants as sounds
-use Rattle.fx_sound_heads.specs.HeadFields.{is_read_failure}
+use Rattle.fx_sound.specs.HeadFields.{is_read_failure}
 
 -- whether a read failed
 abbrev pub is_read_failed : {X : Type 0} → Result X ReadFault → Bool

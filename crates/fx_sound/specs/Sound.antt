@@ -1,8 +1,8 @@
 -- The sound that follows a head (RIFF WAVE, Sun AU, this project's profile).
 use Rattle.std.specs.Prelude.{◌≡◌, ℕ, ◌+◌, ◌-◌, ◌*◌, ◌^◌, ◌<◌, ◌≤◌, min, Bool, true, List, length, take, drop, Option, None, Some}
-use Rattle.fx_frame_io.specs.declared.coding.Coding.{Coding}
-use Rattle.fx_frame_stage.specs.Frame.{Samples}
-use Rattle.fx_sound_heads.specs.FrameCoding.{frame_size, coded_samples}
+use Rattle.fx_frame_base.specs.declared.coding.Coding.{Coding}
+use Rattle.fx_frame_base.specs.Frame.{Samples}
+use Rattle.fx_sound.specs.FrameCoding.{frame_size, coded_samples}
 
 -- the progress of reading a sound: the announced bytes that are left, the frames, the missing bytes, the bytes after the
 -- last frame, and whether the end was reached

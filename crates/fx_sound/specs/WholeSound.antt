@@ -1,7 +1,7 @@
 -- A whole sound in memory, against the definition of the container.
 use Rattle.std.specs.Prelude.{◌≡◌, ◌≢◌, Result, Err}
-use Rattle.fx_sound_heads.specs.declared.head.HeadFault.{HeadFault}
-use Rattle.fx_sound_heads.specs.declared.head.HeadFault.TheVariants.{ReadFailed}
+use Rattle.fx_sound.specs.declared.head.HeadFault.{HeadFault}
+use Rattle.fx_sound.specs.declared.head.HeadFault.TheVariants.{ReadFailed}
 use Rattle.fx_sound.specs.declared.sound.Sound.{Sound}
 use Rattle.fx_sound.specs.declared.sound.SoundFault.{SoundFault}
 use Rattle.fx_sound.specs.declared.sound.SoundFault.TheVariants as fault

@@ -1,14 +1,14 @@
 //! Frames of a sound that a source holds already, many at a time.
 
 ghost use Rattle.std.specs.Prelude.{◌≡◌, ◌≤◌, ◌<◌, ◌+◌, ◌*◌, false, length, drop};
-ghost use Rattle.fx_frame_stage.specs.declared.stage.TheConstants.{MAX_FRAMES};
-ghost use Rattle.fx_frame_lists.specs.Lists.{pieces};
+ghost use Rattle.fx_frame_base.specs.declared.stage.TheConstants.{MAX_FRAMES};
+ghost use Rattle.fx_frame_base.specs.Lists.{pieces};
 ghost use Rattle.fx_sound.specs.Container.{after_frames, first_frames};
 ghost use Rattle.fx_sound.specs.Sound.{AreHeld, at_most_announced, size_of};
 
 use super::progress::Progress;
+use crate::Source;
 use crate::bulk::decode_into;
-use fx_sound_heads::Source;
 
 impl Progress {
     /// How many whole frames of a sound its source holds, that are announced, and few enough to be read: at most `maximum`. No read

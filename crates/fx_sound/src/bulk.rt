@@ -1,9 +1,9 @@
 //! Samples of many frames as bytes.
 ghost use Rattle.std.specs.Prelude.{◌≡◌, ◌*◌, ℕ, length, map, sum_by, ◌≤◌, ◌^◌};
 ghost use Rattle.std.specs.List.{flat_map};
-ghost use Rattle.fx_frame_io.specs.Coding.{width_of};
-ghost use Rattle.fx_sound_heads.specs.FrameCoding.{bytes_of, clips_of, frame_size, coded_samples};
-ghost use Rattle.fx_frame_lists.specs.Lists.{pieces};
+ghost use Rattle.fx_frame_base.specs.Coding.{width_of};
+ghost use Rattle.fx_sound.specs.FrameCoding.{bytes_of, clips_of, frame_size, coded_samples};
+ghost use Rattle.fx_frame_base.specs.Lists.{pieces};
 
 use crate::fours::{read_four, write_four};
 use fx_frame::Coding;

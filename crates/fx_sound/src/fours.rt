@@ -5,9 +5,9 @@ ghost use Rattle.std.specs.Prelude.{◌≡◌, ◌++◌, [], ◌∷◌, count_by
 ghost use Rattle.std.specs.Int.{w64};
 ghost use Rattle.std.specs.List.{flat_map};
 ghost use Rattle.byteorder.specs.Endian.{little_bytes, low_bytes};
-ghost use Rattle.fx_frame_io.specs.Coding.{is_too_large, limited, width_of};
-ghost use Rattle.fx_sound_heads.specs.FrameCoding.{bytes_of, clips_of, coded_samples};
-ghost use Rattle.fx_frame_lists.specs.Lists.{pieces};
+ghost use Rattle.fx_frame_base.specs.Coding.{is_too_large, limited, width_of};
+ghost use Rattle.fx_sound.specs.FrameCoding.{bytes_of, clips_of, coded_samples};
+ghost use Rattle.fx_frame_base.specs.Lists.{pieces};
 
 use fx_frame::Coding;
 use std::simd::prelude::*;

@@ -1,7 +1,7 @@
 //! Frames as bytes, for the inner loop.
 
 ghost use Rattle.std.specs.Prelude.{◌≡◌, ◌*◌, ◌≤◌, length};
-ghost use Rattle.fx_sound_heads.specs.FrameCoding.{frame_size, coded_samples, bytes_of, clips_of};
+ghost use Rattle.fx_sound.specs.FrameCoding.{frame_size, coded_samples, bytes_of, clips_of};
 
 use crate::bulk::{decode_into, encode_into};
 use fx_frame::{Coding, Frame};

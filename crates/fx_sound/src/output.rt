@@ -1,14 +1,14 @@
 //! Buffered bytes for a writer.
 
 ghost use Rattle.std.specs.Prelude.{◌≡◌, ◌+◌, ◌-◌, ◌*◌, ◌<◌, ◌≤◌, ◌^◌, ◌++◌, true, [], IsOk, OnOk, OnErr, IfOk, length};
-ghost use Rattle.fx_frame_io.specs.Io.{CountsFailure};
-ghost use Rattle.fx_sound_heads.specs.FrameCoding.{frame_size, bytes_of, clips_of};
+ghost use Rattle.fx_frame_base.specs.Io.{CountsFailure};
+ghost use Rattle.fx_sound.specs.FrameCoding.{frame_size, bytes_of, clips_of};
 ghost use Rattle.fx_sound.specs.Output.{SendsOn, SendsMore, SendsPart, bytes_put};
 
+use crate::buffer::BUFFER_SIZE;
 use crate::bulk::encode_into;
 use crate::frame_coding::encode;
 use fx_frame::{ByteOut, Coding, Failed, Frame};
-use fx_sound_heads::buffer::BUFFER_SIZE;
 use std::marker::Model;
 
 /// The maximum number of bytes of a frame: 16 channels of 32 bits.
@@ -28,7 +28,7 @@ pub struct Output {
 impl Model for Output {
     ghost use Rattle.std.specs.Prelude.{◌≡◌, ◌≤◌, ◌<◌, ◌-◌, ◌+◌, ◌^◌, take, drop, length};
     ghost use Rattle.fx_sound.specs.Output.{Pending};
-    ghost use Rattle.fx_sound_heads.specs.declared.buffer.TheConstants.{BUFFER_SIZE};
+    ghost use Rattle.fx_sound.specs.declared.buffer.TheConstants.{BUFFER_SIZE};
 
     ghost Value = { Pending };
 

@@ -1,17 +1,17 @@
 //! The frames of a sound, one after the other.
 
 ghost use Rattle.std.specs.Prelude.{◌≡◌, ◌≤◌, ◌<◌, ◌+◌, ◌-◌, ◌*◌, drop, false, true, None, Some, IfOk, IfSome, IfNone, OnErr, OnSome, MatchBool, Ok, Err, length, min};
-ghost use Rattle.fx_frame_io.specs.Io.{saturated};
-ghost use Rattle.fx_sound_heads.specs.Source.{to_come, FallsShort, HoldsWhatCame, Stays, Takes};
-ghost use Rattle.fx_sound_heads.specs.Known.{IfKnown};
+ghost use Rattle.fx_frame_base.specs.Io.{saturated};
+ghost use Rattle.fx_sound.specs.Source.{to_come, FallsShort, HoldsWhatCame, Stays, Takes};
+ghost use Rattle.fx_sound.specs.Known.{IfKnown};
 ghost use Rattle.fx_sound.specs.Sound.{size_of, within_sound, at_most_announced, after_frame, sound_after_end, TakesFrame, EndsSound};
 ghost use Rattle.fx_sound.specs.Container.{after_frames};
 ghost use Rattle.fx_sound.specs.Fault.{is_read_failed};
 
 use crate::frame_coding::decoded;
+use crate::{Head, Source};
 use fx_frame::{ByteIn, Coding, Frame, ReadBeside};
-pub use fx_frame_stage::stage::MAX_FRAMES;
-use fx_sound_heads::{Head, Source};
+pub use fx_frame_base::stage::MAX_FRAMES;
 use std::marker::Model;
 use thiserror::Error;
 
@@ -47,9 +47,9 @@ pub struct Progress {
 
 impl Model for Progress {
     ghost use Rattle.std.specs.Prelude.{◌≡◌, ◌<◌, ◌≤◌};
-    ghost use Rattle.fx_sound_heads.specs.FrameCoding.{frame_size};
+    ghost use Rattle.fx_sound.specs.FrameCoding.{frame_size};
     ghost use Rattle.fx_sound.specs.Sound.{Reading};
-    ghost use Rattle.fx_frame_stage.specs.declared.stage.TheConstants.{MAX_FRAMES};
+    ghost use Rattle.fx_frame_base.specs.declared.stage.TheConstants.{MAX_FRAMES};
 
     ghost Value = { Reading };
 

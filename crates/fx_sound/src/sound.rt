@@ -1,17 +1,17 @@
 //! A whole sound in memory.
 
 ghost use Rattle.std.specs.Prelude.{◌≡◌, ◌+◌, ◌≤◌, ◌*◌, drop, false, IfOk, IfErr, MatchBool, OnErr, OnOk, Err, Some, length};
-ghost use Rattle.fx_frame_io.specs.Io.{saturated};
+ghost use Rattle.fx_frame_base.specs.Io.{saturated};
 ghost use Rattle.fx_sound.specs.Fault.{is_sound_read_failed};
 ghost use Rattle.fx_sound.specs.Container.{after_frames, container, frames_of_sound, at_end, ReadAllDelivered};
-ghost use Rattle.fx_sound_heads.specs.Known.{IfKnown};
+ghost use Rattle.fx_sound.specs.Known.{IfKnown};
 ghost use Rattle.fx_sound.specs.Sound.{size_of, within_sound};
-ghost use Rattle.fx_sound_heads.specs.Source.{HoldsWhatCame, to_come};
+ghost use Rattle.fx_sound.specs.Source.{HoldsWhatCame, to_come};
 ghost use Rattle.fx_sound.specs.WholeSound.{outcome, IsAfterHead, IsHeadFault};
 
 use super::progress::{MAX_FRAMES, Progress, ReadFault, next_frame};
+use crate::{Head, HeadFault, Kind, Source, read_head};
 use fx_frame::{ByteIn, Frame};
-use fx_sound_heads::{Head, HeadFault, Kind, Source, read_head};
 use std::alloc::Global;
 use thiserror::Error;
 

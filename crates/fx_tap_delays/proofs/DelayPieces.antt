@@ -1,15 +1,15 @@
 -- Frames whose channels are delayed, many of them made at once.
 use Rattle.std.proofs.Common.{◌≡◌, ◌+◌, ◌*◌, ◌<◌, ◌≤◌, ◌⊎◌, inl, inr, ℕ, ℤ, pos, List, ◌++◌, length, get_or, sym, ◌∙◌, arith, zero-add}
 use Rattle.std.specs.Prelude.{slice_index}
-use Rattle.fx_frame_stage.specs.Frame.{Samples}
-use Rattle.fx_frame_lists.specs.Lists.{pieces}
-use Rattle.fx_frame_stage.specs.Stage.{Given}
+use Rattle.fx_frame_base.specs.Frame.{Samples}
+use Rattle.fx_frame_base.specs.Lists.{pieces}
+use Rattle.fx_frame_base.specs.Stage.{Given}
 use Rattle.fx_tap_delays.specs.Delay.{delayed_frame}
 use Rattle.fx_tap_delays.specs.DelayState.{delay_taps}
 use Rattle.fx_frame.specs.Tapped.{frames_after}
 use Rattle.fx_frame.specs.History.{sample_before}
 use Rattle.fx_frame.proofs.Tables.{map-tabulate, pieces-table}
-use Rattle.fx_frame_lists.proofs.Tabulate.{tabulate-same}
+use Rattle.fx_frame_base.proofs.Tabulate.{tabulate-same}
 
 -- so many frames behind those of a line, sample by sample
 pub delay-frames : (delays : List ℕ) (items xs : List Samples) (n : ℕ) (out : List ℤ) → length xs ≡ n → n * length delays ≤ length out

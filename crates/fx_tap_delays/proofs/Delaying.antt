@@ -8,51 +8,51 @@ use Rattle.std.proofs.lemmas.Bool.{cases_lt, le-leb, lt-leb}
 use Rattle.std.proofs.lemmas.List.{drop-drop, drop_at, drop_more, get_or-append_right, get_or_append_left, get_or-replicate, length-replicate, take-append-le, take_all, take_at}
 use Rattle.std.proofs.lemmas.List.Elements.{All-append, All-cons, All-nil}
 use Rattle.std.proofs.Math.Nat.{add-mul}
-use Rattle.fx_frame_stage.specs.Frame.{Samples, silence}
-use Rattle.fx_frame_stage.specs.Holds.{total}
+use Rattle.fx_frame_base.specs.Frame.{Samples, silence}
+use Rattle.fx_frame_base.specs.Holds.{total}
 use Rattle.fx_frame_line.specs.Line.{Frames, IsLine, pushed_all}
-use Rattle.fx_frame_lists.specs.Lists.{pieces, tabulate}
-use Rattle.fx_frame_stage.specs.Stage.{Given}
-use Rattle.fx_frame_lists.proofs.Puts.{part-from, pieces-take, put-from}
+use Rattle.fx_frame_base.specs.Lists.{pieces, tabulate}
+use Rattle.fx_frame_base.specs.Stage.{Given}
+use Rattle.fx_frame_base.proofs.Puts.{part-from, pieces-take, put-from}
 use Rattle.fx_frame_line.proofs.ManyFrames.{pieces-joined, pieces-replicate, replicate-front}
-use Rattle.fx_frame_lists.proofs.Pieces.{length-pieces}
+use Rattle.fx_frame_base.proofs.Pieces.{length-pieces}
 use Rattle.fx_tap_delays.specs.Delay.{delayed_frame}
 use Rattle.fx_tap_delays.specs.DelayState.{delay_taps}
-use Rattle.fx_frame_stage.specs.Given.{plain}
+use Rattle.fx_frame_base.specs.Given.{plain}
 use Rattle.fx_frame.proofs.Tables.{map-tabulate}
 use Rattle.fx_frame.specs.Tapped.{clips_after, frames_after, last_of}
 use Rattle.fx_frame.specs.History.{sample_before}
 use Rattle.fx_frame.proofs.SamplePieces.{pieces-sides}
-use Rattle.fx_frame_lists.proofs.Tabulate.{tabulate-replicate, tabulate-same}
+use Rattle.fx_frame_base.proofs.Tabulate.{tabulate-replicate, tabulate-same}
 use borrow.Rule.Slice.PartMut.{put_mid}
 
 -- ---- what is written
 
-module _ (ch silence_here count : ℕ) (old mid rest_unchanged : List ℤ) (bound : silence_here ≤ count) (is : mid ≡ replicate (silence_here * ch) (pos 0) ++ drop (silence_here * ch) old) where
-  whole : put_mid (silence_here * ch) (length mid - silence_here * ch) mid rest_unchanged ≡ replicate (silence_here * ch) (pos 0) ++ rest_unchanged
-  whole = put-from (silence_here * ch) mid rest_unchanged ∙ ap (λ l. l ++ rest_unchanged) (ap (take (silence_here * ch)) is ∙ take_at (replicate (silence_here * ch) (pos 0)) (drop (silence_here * ch) old) (silence_here * ch) (length-replicate (silence_here * ch) (pos 0)))
+module _ (ch silent_frames count : ℕ) (old mid rest_unchanged : List ℤ) (bound : silent_frames ≤ count) (is : mid ≡ replicate (silent_frames * ch) (pos 0) ++ drop (silent_frames * ch) old) where
+  whole : put_mid (silent_frames * ch) (length mid - silent_frames * ch) mid rest_unchanged ≡ replicate (silent_frames * ch) (pos 0) ++ rest_unchanged
+  whole = put-from (silent_frames * ch) mid rest_unchanged ∙ ap (λ l. l ++ rest_unchanged) (ap (take (silent_frames * ch)) is ∙ take_at (replicate (silent_frames * ch) (pos 0)) (drop (silent_frames * ch) old) (silent_frames * ch) (length-replicate (silent_frames * ch) (pos 0)))
 
   -- so many frames were written, the first of silence
-  pub even-frames : (ys : List Samples) (places : ℕ) → silence_here ≡ min places count → pieces ch (count - silence_here) rest_unchanged ≡ take (count - silence_here) ys → pieces ch count (put_mid (silence_here * ch) (length mid - silence_here * ch) mid rest_unchanged) ≡ take count (replicate places (silence ch) ++ ys)
+  pub even-frames : (ys : List Samples) (places : ℕ) → silent_frames ≡ min places count → pieces ch (count - silent_frames) rest_unchanged ≡ take (count - silent_frames) ys → pieces ch count (put_mid (silent_frames * ch) (length mid - silent_frames * ch) mid rest_unchanged) ≡ take count (replicate places (silence ch) ++ ys)
   even-frames ys places e made =
-      let both : count ≡ silence_here + (count - silence_here) = omega arith in
-      let front : length (replicate (silence_here * ch) (pos 0)) ≡ silence_here * ch = length-replicate (silence_here * ch) (pos 0) in
+      let both : count ≡ silent_frames + (count - silent_frames) = omega arith in
+      let front : length (replicate (silent_frames * ch) (pos 0)) ≡ silent_frames * ch = length-replicate (silent_frames * ch) (pos 0) in
       ap (pieces ch count) whole
-      ∙ ap (λ n. pieces ch n (replicate (silence_here * ch) (pos 0) ++ rest_unchanged)) both
-      ∙ pieces-joined ch silence_here (count - silence_here) (replicate (silence_here * ch) (pos 0)) rest_unchanged front
-      ∙ ap (λ l. l ++ pieces ch (count - silence_here) rest_unchanged) (pieces-replicate ch silence_here (pos 0))
-      ∙ ap (λ l. replicate silence_here (silence ch) ++ l) made
-      ∙ sym (replicate-front (silence ch) places count ys silence_here e)
+      ∙ ap (λ n. pieces ch n (replicate (silent_frames * ch) (pos 0) ++ rest_unchanged)) both
+      ∙ pieces-joined ch silent_frames (count - silent_frames) (replicate (silent_frames * ch) (pos 0)) rest_unchanged front
+      ∙ ap (λ l. l ++ pieces ch (count - silent_frames) rest_unchanged) (pieces-replicate ch silent_frames (pos 0))
+      ∙ ap (λ l. replicate silent_frames (silence ch) ++ l) made
+      ∙ sym (replicate-front (silence ch) places count ys silent_frames e)
 
   -- and the output behind them stays
-  pub even-rest_unchanged : drop ((count - silence_here) * ch) rest_unchanged ≡ drop ((count - silence_here) * ch) (take (length mid - silence_here * ch) (drop (silence_here * ch) mid)) → drop (count * ch) (put_mid (silence_here * ch) (length mid - silence_here * ch) mid rest_unchanged) ≡ drop (count * ch) old
+  pub even-rest_unchanged : drop ((count - silent_frames) * ch) rest_unchanged ≡ drop ((count - silent_frames) * ch) (take (length mid - silent_frames * ch) (drop (silent_frames * ch) mid)) → drop (count * ch) (put_mid (silent_frames * ch) (length mid - silent_frames * ch) mid rest_unchanged) ≡ drop (count * ch) old
   even-rest_unchanged stays =
-      let both : count ≡ silence_here + (count - silence_here) = omega arith in
-      let long : count * ch ≡ silence_here * ch + (count - silence_here) * ch = ap (λ n. n * ch) both ∙ add-mul silence_here (count - silence_here) ch in
-      let front : length (replicate (silence_here * ch) (pos 0)) ≡ silence_here * ch = length-replicate (silence_here * ch) (pos 0) in
-      let tail : (zs : List ℤ) → drop (silence_here * ch + (count - silence_here) * ch) zs ≡ drop ((count - silence_here) * ch) (drop (silence_here * ch) zs) = λ zs. sym (drop-drop ((count - silence_here) * ch) (silence_here * ch) zs) in
-      let free : take (length mid - silence_here * ch) (drop (silence_here * ch) mid) ≡ drop (silence_here * ch) old = part-from (silence_here * ch) mid ∙ ap (drop (silence_here * ch)) is ∙ drop_at (replicate (silence_here * ch) (pos 0)) (drop (silence_here * ch) old) (silence_here * ch) front in
-      rw (whole, long) (tail (replicate (silence_here * ch) (pos 0) ++ rest_unchanged) ∙ ap (drop ((count - silence_here) * ch)) (drop_at (replicate (silence_here * ch) (pos 0)) rest_unchanged (silence_here * ch) front) ∙ stays ∙ ap (drop ((count - silence_here) * ch)) free ∙ sym (tail old))
+      let both : count ≡ silent_frames + (count - silent_frames) = omega arith in
+      let long : count * ch ≡ silent_frames * ch + (count - silent_frames) * ch = ap (λ n. n * ch) both ∙ add-mul silent_frames (count - silent_frames) ch in
+      let front : length (replicate (silent_frames * ch) (pos 0)) ≡ silent_frames * ch = length-replicate (silent_frames * ch) (pos 0) in
+      let tail : (zs : List ℤ) → drop (silent_frames * ch + (count - silent_frames) * ch) zs ≡ drop ((count - silent_frames) * ch) (drop (silent_frames * ch) zs) = λ zs. sym (drop-drop ((count - silent_frames) * ch) (silent_frames * ch) zs) in
+      let free : take (length mid - silent_frames * ch) (drop (silent_frames * ch) mid) ≡ drop (silent_frames * ch) old = part-from (silent_frames * ch) mid ∙ ap (drop (silent_frames * ch)) is ∙ drop_at (replicate (silent_frames * ch) (pos 0)) (drop (silent_frames * ch) old) (silent_frames * ch) front in
+      rw (whole, long) (tail (replicate (silent_frames * ch) (pos 0) ++ rest_unchanged) ∙ ap (drop ((count - silent_frames) * ch)) (drop_at (replicate (silent_frames * ch) (pos 0)) rest_unchanged (silent_frames * ch) front) ∙ stays ∙ ap (drop ((count - silent_frames) * ch)) free ∙ sym (tail old))
 
 -- ---- what is meant
 
@@ -71,8 +71,8 @@ no-clips g from (suc count) = let h = no-clips g (suc from) count in omega (arit
 
 module _ (delays : List ℕ) (reach : ℕ) (all : (k : ℕ) → k < length delays → slice_index delays k ≡ reach) where
   -- before the first frame there is silence
-  silence_here-now : (x : List Samples) (n : ℕ) → n < reach → delayed_frame delays (sample_before x n) ≡ silence (length delays)
-  silence_here-now x n h = tabulate-replicate (λ k. sample_before x n (slice_index delays k) k) (pos 0) 0 (length delays) (λ k l.
+  silent_frames-now : (x : List Samples) (n : ℕ) → n < reach → delayed_frame delays (sample_before x n) ≡ silence (length delays)
+  silent_frames-now x n h = tabulate-replicate (λ k. sample_before x n (slice_index delays k) k) (pos 0) 0 (length delays) (λ k l.
       let e : 0 + k ≡ k = zero-add k in
       let none : nat_le reach n ≡ false = lt-leb reach n h in
       rw (e, all k l, none) refl)
@@ -87,8 +87,8 @@ module _ (delays : List ℕ) (reach : ℕ) (all : (k : ℕ) → k < length delay
       ∙ take_all (length delays) f (omega arith)
 
   module _ (items coming : List Samples) (within : length items ≤ reach) (sides : All (λ (f : Samples). length f ≡ length delays) items) (more : All (λ (f : Samples). length f ≡ length delays) coming) where
-    silence_here : List Samples
-    silence_here = replicate (reach - length items) (silence (length delays))
+    silent_frames : List Samples
+    silent_frames = replicate (reach - length items) (silence (length delays))
 
     front : length (replicate (reach - length items) (silence (length delays))) ≡ reach - length items
     front = length-replicate (reach - length items) (silence (length delays))
@@ -98,7 +98,7 @@ module _ (delays : List ℕ) (reach : ℕ) (all : (k : ℕ) → k < length delay
     one k l (inl h) =
         let e : 0 + k ≡ k = zero-add k in
         let f : length (replicate (reach - length items) (silence (length delays))) ≡ reach - length items = front in
-        rw e (silence_here-now (items ++ coming) (length items + k) (omega arith)
+        rw e (silent_frames-now (items ++ coming) (length items + k) (omega arith)
         ∙ sym (get_or_append_left (replicate (reach - length items) (silence (length delays))) (items ++ coming) [] k (omega arith) ∙ get_or-replicate (reach - length items) k (silence (length delays)) [] h))
     one k l (inr h) =
         let e : 0 + k ≡ k = zero-add k in
@@ -132,7 +132,7 @@ even-one delays line x all is same wide = go (nat_lt (length line.items) line.ca
     go : (b : Bool) → nat_lt (length line.items) line.capacity ≡ b → cond b (silence (length x)) (get_or (line.items ++ x ∷ []) 0 []) ≡ delayed_frame delays (sample_before (line.items ++ x ∷ []) (length line.items))
     go true t =
         let bound : length line.items < line.capacity = ltb-true _ _ t in
-        ap silence wide ∙ sym (silence_here-now delays line.capacity all (line.items ++ x ∷ []) (length line.items) bound)
+        ap silence wide ∙ sym (silent_frames-now delays line.capacity all (line.items ++ x ∷ []) (length line.items) bound)
     go false t =
         let full : line.capacity ≤ length line.items = ltb-false _ _ t in
         let first : length line.items - line.capacity ≡ 0 = omega (arith, is.within) in

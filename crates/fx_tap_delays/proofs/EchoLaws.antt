@@ -6,11 +6,11 @@ use Rattle.std.proofs.lemmas.Int.{ints}
 use Rattle.std.proofs.lemmas.List.{drop_all}
 use Rattle.fx_fixed.specs.Rounding.{rounding}
 use Rattle.fx_fixed.specs.declared.gains.TheConstants.{UNIT}
-use Rattle.fx_frame_stage.specs.Frame.{Samples}
-use Rattle.fx_frame_lists.specs.Lists.{tabulate}
+use Rattle.fx_frame_base.specs.Frame.{Samples}
+use Rattle.fx_frame_base.specs.Lists.{tabulate}
 use Rattle.fx_tap_delays.specs.Echo.{EchoArguments, echo_sum, echoed_sample, echoes_of}
 use Rattle.fx_frame.specs.History.{History, sample_before}
-use Rattle.fx_frame_lists.proofs.Tabulate.{tabulate-same}
+use Rattle.fx_frame_base.proofs.Tabulate.{tabulate-same}
 use Rattle.fx_tap_sums.proofs.SumLaws.{add-next}
 
 -- the frame that comes after those of the line is the one that is 0 frames ago

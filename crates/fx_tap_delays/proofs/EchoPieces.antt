@@ -4,19 +4,19 @@ use Rattle.std.specs.Prelude.{nat_le}
 use Rattle.std.proofs.lemmas.Bool.{cases_lt, le-leb, lt-leb}
 use Rattle.std.proofs.lemmas.List.{get_or-append-add, get_or_append_left, get_or-take}
 use Rattle.fx_fixed.specs.Rounding.{rounding}
-use Rattle.fx_frame_stage.specs.Frame.{Samples}
-use Rattle.fx_frame_stage.specs.Holds.{total}
+use Rattle.fx_frame_base.specs.Frame.{Samples}
+use Rattle.fx_frame_base.specs.Holds.{total}
 use Rattle.fx_frame_line.specs.Line.{Frames, latest_frames}
-use Rattle.fx_frame_lists.specs.Lists.{pieces, tabulate}
-use Rattle.fx_frame_stage.specs.Stage.{Given}
-use Rattle.fx_frame_line.proofs.ManyFrames.{latest-held, latest-silence_here}
-use Rattle.fx_frame_lists.proofs.Pieces.{get_or-piece}
+use Rattle.fx_frame_base.specs.Lists.{pieces, tabulate}
+use Rattle.fx_frame_base.specs.Stage.{Given}
+use Rattle.fx_frame_line.proofs.ManyFrames.{latest-held, latest-silence}
+use Rattle.fx_frame_base.proofs.Pieces.{get_or-piece}
 use Rattle.fx_tap_delays.specs.Echo.{EchoArguments, echo_sum, echoed_frame, echoed_sample}
 use Rattle.fx_tap_delays.specs.EchoState.{echo_taps}
 use Rattle.fx_tap_sums.specs.Weights.{SoundsAs, Weights}
 use Rattle.fx_tap_delays.specs.EchoWeights.{weighed}
 use Rattle.fx_frame.specs.Made.{rounded_given}
-use Rattle.fx_frame_lists.specs.Rounded.{clips_rounded, samples_of}
+use Rattle.fx_frame_base.specs.Rounded.{clips_rounded, samples_of}
 use Rattle.fx_frame.specs.Tapped.{clips_after, frames_after}
 use Rattle.fx_frame.specs.History.{sample_before}
 use Rattle.fx_tap_delays.proofs.EchoWeights.{small-sample}
@@ -29,7 +29,7 @@ pub late-sample : (l : Frames ℤ) (coming : List Samples) (late n i k : ℕ) �
 late-sample l coming late n i k h lt within = elim (cases_lt i (late - length l.items)) [
   | inl q ↦
       let none : nat_le late (length l.items + i) ≡ false = lt-leb late (length l.items + i) (omega arith) in
-      rw none (latest-silence_here l (pos 0) (pos 0) late i k q within)
+      rw none (latest-silence l (pos 0) (pos 0) late i k q within)
   | inr q ↦
       let there : nat_le late (length l.items + i) ≡ true = le-leb late (length l.items + i) (omega arith) in
       let inside : length l.items + i - late < length l.items = omega arith in

@@ -9,7 +9,7 @@ use Rattle.fx_fixed.specs.declared.gains.TheConstants.{UNIT}
 use Rattle.fx_tap_delays.specs.Echo.{EchoArguments, echo_sum, echoed_sample, echoes_of}
 use Rattle.fx_tap_sums.specs.Weights.{AreSmall, SoundsAs, Weights}
 use Rattle.fx_tap_delays.specs.EchoWeights.{Suits, weighed, weighed_echoes}
-use Rattle.fx_tap_convolve.specs.Products.{sum_of_products}
+use Rattle.fx_tap_sums.specs.Products.{sum_of_products}
 use Rattle.fx_frame.specs.History.{History}
 use Rattle.fx_tap_sums.proofs.WeightLaws.{second-on}
 

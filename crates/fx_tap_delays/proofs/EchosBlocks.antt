@@ -3,19 +3,19 @@ use Rattle.std.proofs.Common.{◌≡◌, ◌+◌, ◌*◌, ◌<◌, ◌≤◌, �
 use Rattle.std.specs.Prelude.{None, Some}
 use Rattle.std.proofs.lemmas.List.{length-map}
 use Rattle.fx_tap_delays.specs.DelayExtents.{sum_of_delays}
-use Rattle.fx_frame_stage.specs.declared.feed.Passing.TheVariants.{Through}
-use Rattle.fx_frame_stage.specs.Feed.{Fed, GaveNext, PassedOn, TookNext, nothing, taken, given}
-use Rattle.fx_frame_stage.specs.Frame.{Samples}
-use Rattle.fx_frame_stage.specs.Holds.{total}
+use Rattle.fx_frame_base.specs.declared.feed.Passing.TheVariants.{Through}
+use Rattle.fx_frame_base.specs.Feed.{Fed, GaveNext, PassedOn, TookNext, nothing, taken, given}
+use Rattle.fx_frame_base.specs.Frame.{Samples}
+use Rattle.fx_frame_base.specs.Holds.{total}
 use Rattle.fx_frame_line.specs.Line.{Frames, pushed, pushed_out}
-use Rattle.fx_frame_lists.specs.Lists.{pieces}
-use Rattle.fx_frame_stage.specs.Stage.{Given}
-use Rattle.fx_frame_stage.proofs.FedLaws.{Fed-then}
-use Rattle.fx_frame_lists.proofs.Pieces.{length-pieces}
+use Rattle.fx_frame_base.specs.Lists.{pieces}
+use Rattle.fx_frame_base.specs.Stage.{Given}
+use Rattle.fx_frame_base.proofs.FedLaws.{Fed-then}
+use Rattle.fx_frame_base.proofs.Pieces.{length-pieces}
 use Rattle.fx_tap_delays.specs.Echo.{EchoArguments}
 use Rattle.fx_tap_delays.specs.EchosState.{EchosState, IsEchoLine, IsEchos, came_of, delay_at, echos_acts, fed, frame_of_lines, frames_of_lines, let_go, line_at, lines_after, or_silence, echo_places, series_lines_after, through_lines}
 use Rattle.fx_tap_delays.proofs.EchosPieces.{pushed-within}
-use Rattle.fx_frame_lists.proofs.Tabulate.{length-tabulate}
+use Rattle.fx_frame_base.proofs.Tabulate.{length-tabulate}
 
 after-bound : (c : ℕ) (ls : List (Frames ℤ)) (x b : Samples) → length (frames_of_lines (lines_after c ls x b)) ≤ echo_places ls
 after-bound c [] x b = omega arith

@@ -3,20 +3,20 @@ use Rattle.std.proofs.Common.{◌≡◌, ◌+◌, ◌*◌, ◌<◌, ◌+ℤ◌, 
 use Rattle.std.proofs.lemmas.List.{length-map}
 use Rattle.fx_fixed.specs.Rounding.{rounding}
 use Rattle.fx_fixed.specs.declared.gains.TheConstants.{UNIT}
-use Rattle.fx_frame_stage.specs.Frame.{Samples}
-use Rattle.fx_frame_stage.specs.Holds.{total}
+use Rattle.fx_frame_base.specs.Frame.{Samples}
+use Rattle.fx_frame_base.specs.Holds.{total}
 use Rattle.fx_frame_line.specs.Line.{Frames, channel_of, pushed_out}
-use Rattle.fx_frame_lists.specs.Lists.{pieces, tabulate}
-use Rattle.fx_frame_stage.specs.Stage.{Given}
-use Rattle.fx_frame_lists.proofs.Pieces.{get_or-piece, length-pieces}
+use Rattle.fx_frame_base.specs.Lists.{pieces, tabulate}
+use Rattle.fx_frame_base.specs.Stage.{Given}
+use Rattle.fx_frame_base.proofs.Pieces.{get_or-piece, length-pieces}
 use Rattle.fx_tap_delays.specs.Echo.{EchoArguments}
 use Rattle.fx_tap_delays.specs.EchoWeights.{Suits}
 use Rattle.fx_tap_sums.specs.Weights.{Weights}
 use Rattle.fx_tap_delays.specs.Echos.{decays}
 use Rattle.fx_tap_delays.specs.EchosState.{fed, frame_of_lines, gone_at, let_go, lines_after, or_silence, series_lines_after, through_lines}
 use Rattle.fx_frame.specs.Made.{rounded_given}
-use Rattle.fx_tap_convolve.specs.Products.{sum_of_products}
-use Rattle.fx_frame_lists.specs.Rounded.{clips_rounded, samples_of}
+use Rattle.fx_tap_sums.specs.Products.{sum_of_products}
+use Rattle.fx_frame_base.specs.Rounded.{clips_rounded, samples_of}
 use Rattle.fx_tap_delays.proofs.EchosLaws.{length-after}
 use Rattle.fx_tap_delays.proofs.EchosPieces.{through-table}
 use Rattle.fx_tap_delays.proofs.SumPieces.{rounded-clips, rounded-frame, rounded-frames}

@@ -8,14 +8,14 @@ use Rattle.std.proofs.lemmas.Int.{fits_signed_from_abs}
 use Rattle.std.proofs.lemmas.List.{length-append, length-drop, length-map, get_or-map}
 use Rattle.std.proofs.lemmas.List.Elements.{All-nil, All-drop, All-push, All-weaker, All-from_get_or, All-get_or}
 use Rattle.fx_tap_delays.specs.DelayExtents.{sum_of_delays}
-use Rattle.fx_frame_stage.specs.Frame.{Samples, silence, IsFrame}
+use Rattle.fx_frame_base.specs.Frame.{Samples, silence, IsFrame}
 use Rattle.fx_frame_line.specs.Line.{Frames, IsSamples, pushed_out, empty}
-use Rattle.fx_frame_stage.specs.Stage.{Gave, Took}
+use Rattle.fx_frame_base.specs.Stage.{Gave, Took}
 use Rattle.fx_tap_delays.specs.Echo.{EchoArguments, IsEcho}
 use Rattle.fx_tap_delays.specs.EchosState.{EchosState, IsEchos, IsEchoLine, IsSeriesLine, after_push, came_of, delay_at, echos_acts, fed, frame_of_lines, frames_of_lines, let_go, line_at, lines_after, or_silence, echo_places, series_lines_after, through_lines}
 use Rattle.fx_frame.proofs.DryLaws.{dry-pending, dry-tail}
 use Rattle.fx_tap_delays.proofs.EchosSeries.{Small, small-fed, small-gone}
-use Rattle.fx_frame_lists.proofs.Tabulate.{length-tabulate}
+use Rattle.fx_frame_base.proofs.Tabulate.{length-tabulate}
 
 -- ---- the lines after one frame more
 
@@ -177,21 +177,21 @@ ended-tail s is some = true_from_ne_false s.ended (λ e. let k = is.not_ended e 
 abbrev pub drained_echos : EchosState → List (Frames ℤ) → ℕ → EchosState
 drained_echos s lines clips = record s { lines = lines; tail = s.tail - 1; given = s.given + 1; clips = s.clips + clips }
 
-silence_here-step : (a : EchoArguments) (lines : List (Frames ℤ)) (silence_here : Samples) (tail : ℕ) → 0 < tail
-    → through_lines a lines (replicate tail silence_here) ≡ frame_of_lines a silence_here (let_go a.channels lines silence_here (replicate a.channels (pos 0))) ∷ through_lines a (lines_after a.channels lines silence_here (replicate a.channels (pos 0))) (replicate (tail - 1) silence_here)
-silence_here-step a lines silence_here zero some = absurd (omega arith)
-silence_here-step a lines silence_here (suc t) some = rw sub-one refl
+silence-step : (a : EchoArguments) (lines : List (Frames ℤ)) (silent_frame : Samples) (tail : ℕ) → 0 < tail
+    → through_lines a lines (replicate tail silent_frame) ≡ frame_of_lines a silent_frame (let_go a.channels lines silent_frame (replicate a.channels (pos 0))) ∷ through_lines a (lines_after a.channels lines silent_frame (replicate a.channels (pos 0))) (replicate (tail - 1) silent_frame)
+silence-step a lines silent_frame zero some = absurd (omega arith)
+silence-step a lines silent_frame (suc t) some = rw sub-one refl
 
-pub Gave-silence_here : (s : EchosState) (lines : List (Frames ℤ)) (silence_here out : Samples) (clips : ℕ) → IsEchos s → s.pending ≡ None → 0 < s.tail → silence_here ≡ silence s.arguments.channels → lines ≡ series_after s silence_here
-    → out ≡ (frame_of_lines s.arguments silence_here (series_gone s silence_here)).samples → clips ≡ (frame_of_lines s.arguments silence_here (series_gone s silence_here)).clips → length out ≡ s.arguments.channels → Gave echos_acts s (drained_echos s lines clips) out
-Gave-silence_here s lines silence_here out clips is none some q lines_are out_is clips_are long =
+pub Gave-silence : (s : EchosState) (lines : List (Frames ℤ)) (silent_frame out : Samples) (clips : ℕ) → IsEchos s → s.pending ≡ None → 0 < s.tail → silent_frame ≡ silence s.arguments.channels → lines ≡ series_after s silent_frame
+    → out ≡ (frame_of_lines s.arguments silent_frame (series_gone s silent_frame)).samples → clips ≡ (frame_of_lines s.arguments silent_frame (series_gone s silent_frame)).clips → length out ≡ s.arguments.channels → Gave echos_acts s (drained_echos s lines clips) out
+Gave-silence s lines silent_frame out clips is none some q lines_are out_is clips_are long =
     let over = ended-tail s is some in
     let counted : s.given + 0 + s.tail ≡ s.taken + sum_of_delays s.arguments.taps = rw (none, over) at is.counted in
     record {
       was_wet = dry-tail s.pending s.tail some;
       gives = record {
         clips = clips;
-        first = λ z. rw (none, over, lines_are, out_is, clips_are, q) (silence_here-step s.arguments s.lines (silence s.arguments.channels) s.tail some);
+        first = λ z. rw (none, over, lines_are, out_is, clips_are, q) (silence-step s.arguments s.lines (silence s.arguments.channels) s.tail some);
         counted = refl;
       };
       channels = long;
@@ -200,17 +200,17 @@ Gave-silence_here s lines silence_here out clips is none some q lines_are out_is
       recipe_stays = refl;
     }
 
-pub IsEchos-drained : (s : EchosState) (lines : List (Frames ℤ)) (silence_here : Samples) (clips : ℕ) → IsEchos s → s.pending ≡ None → 0 < s.tail → Small (2 ^ 31) silence_here → lines ≡ series_after s silence_here → clips ≤ 16 → IsEchos (drained_echos s lines clips)
-IsEchos-drained s lines silence_here clips is none some small lines_are clips_bound =
+pub IsEchos-drained : (s : EchosState) (lines : List (Frames ℤ)) (silent_frame : Samples) (clips : ℕ) → IsEchos s → s.pending ≡ None → 0 < s.tail → Small (2 ^ 31) silent_frame → lines ≡ series_after s silent_frame → clips ≤ 16 → IsEchos (drained_echos s lines clips)
+IsEchos-drained s lines silent_frame clips is none some small lines_are clips_bound =
     let over = ended-tail s is some in
     let counted : s.given + 0 + s.tail ≡ s.taken + sum_of_delays s.arguments.taps = rw (none, over) at is.counted in
     let came : s.given + 0 + 1 ≡ s.given + 1 + 0 = omega arith in
-    let sound = rw (none, came) at (lines-sound s silence_here is small) in
+    let sound = rw (none, came) at (lines-sound s silent_frame is small) in
     let bound = is.clips_max in
     record {
       arguments = is.arguments;
       whole = is.whole;
-      as_many = ap length lines_are ∙ length-after s.arguments.channels s.lines silence_here (replicate s.arguments.channels (pos 0)) ∙ is.as_many;
+      as_many = ap length lines_are ∙ length-after s.arguments.channels s.lines silent_frame (replicate s.arguments.channels (pos 0)) ∙ is.as_many;
       lines = rw (lines_are, none) sound;
       counted = rw (none, over) (omega arith);
       bound = is.bound;

@@ -8,18 +8,18 @@ use borrow.Author.Tests.{ltb-true, ltb-false}
 use Rattle.fx_tap_delays.specs.DelayExtents.{sum_of_delays}
 use Rattle.fx_fixed.specs.Rounding.{rounding}
 use Rattle.fx_fixed.specs.declared.gains.TheConstants.{UNIT}
-use Rattle.fx_frame_stage.specs.Frame.{Samples, silence}
+use Rattle.fx_frame_base.specs.Frame.{Samples, silence}
 use Rattle.fx_frame_line.specs.Line.{Frames, pushed_out, channel_of, empty}
 use Rattle.fx_tap_delays.specs.Echo.{EchoArguments}
 use Rattle.fx_tap_delays.specs.Echos.{decays, echos, echos_frame, passed, sum_below, way}
 use Rattle.fx_tap_delays.specs.EchosState.{after_push, delay_at, fed, frame_of_lines, let_go, lines_after, or_silence, through_lines}
-use Rattle.fx_frame_lists.specs.Lists.{tabulate}
-use Rattle.fx_tap_convolve.specs.Products.{sum_of_products}
-use Rattle.fx_frame_stage.specs.Given.{given_samples}
+use Rattle.fx_frame_base.specs.Lists.{tabulate}
+use Rattle.fx_tap_sums.specs.Products.{sum_of_products}
+use Rattle.fx_frame_base.specs.Given.{given_samples}
 use Rattle.fx_frame.specs.History.{History, sample_before}
-use Rattle.fx_frame.proofs.DelayLaws.{silence_here-after}
-use Rattle.fx_frame_lists.proofs.Places.{silence_here-sample}
-use Rattle.fx_frame_lists.proofs.Tabulate.{tabulate-append, tabulate-same, length-tabulate}
+use Rattle.fx_frame.proofs.DelayLaws.{silence-after}
+use Rattle.fx_frame_base.proofs.ListPlaces.{zeros-sample}
+use Rattle.fx_frame_base.proofs.Tabulate.{tabulate-append, tabulate-same, length-tabulate}
 
 -- ---- sums and tables
 
@@ -158,7 +158,7 @@ module _ (c : ℕ) (w : List Samples) (es : List (ℕ × ℤ)) where
       let d : ℕ = delay_at es j in
       let long = length-tabulate (taken_at j) (n - min n d) (min n d) in
       let less = ltb-true _ _ t in
-      silence_here-sample c k ∙ sym (passed-early w es n j k lt (omega arith))
+      zeros-sample c k ∙ sym (passed-early w es n j k lt (omega arith))
   gone-by n j false lt some t k l =
       let d : ℕ = delay_at es j in
       let long = length-tabulate (taken_at j) (n - min n d) (min n d) in
@@ -198,7 +198,7 @@ module _ (a : EchoArguments) (w : List Samples) (some : (i : ℕ) → i < length
   series_lines_at n = tabulate (series_line a.channels w a.taps n) 0 (length a.taps)
 
   silent-gone : (n : ℕ) → IsGone a.channels w a.taps n 0 (replicate a.channels (pos 0))
-  silent-gone n k l = silence_here-sample a.channels k
+  silent-gone n k l = zeros-sample a.channels k
 
   frame-is : (n : ℕ) → frame_of_lines a (get_or w n []) (let_go a.channels (series_lines_at n) (get_or w n []) (replicate a.channels (pos 0))) ≡ echos_frame a (sample_before w n)
   frame-is n =
@@ -250,4 +250,4 @@ through-all a z some =
     run-is a w some 0 w refl (omega arith)
     ∙ ap (tabulate (λ m. echos_frame a (sample_before w m)) 0) long
     ∙ tabulate-same _ _ 0 0 (length z + sum_of_delays a.taps) (λ n l. history-same a (sample_before w (0 + n)) (sample_before z (0 + n)) (λ d k.
-    ap (λ s. cond (nat_le d (0 + n)) s (pos 0)) (silence_here-after z (sum_of_delays a.taps) a.channels (0 + n - d) k))))
+    ap (λ s. cond (nat_le d (0 + n)) s (pos 0)) (silence-after z (sum_of_delays a.taps) a.channels (0 + n - d) k))))

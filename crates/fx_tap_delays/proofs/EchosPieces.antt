@@ -9,19 +9,19 @@ use Rattle.std.proofs.lemmas.Int.{fits_signed_from_abs, ints}
 use Rattle.std.proofs.lemmas.List.{drop_more, get_or-take, get_or-drop, get_or_past, length-replicate, take-append-le, take_more_set}
 use Rattle.std.proofs.lemmas.List.Elements.{All-append, All-drop, All-from_get_or, All-head, All-replicate, All-tail, All-take}
 use Rattle.std.proofs.Math.Nat.{suc-mul}
-use Rattle.fx_frame_stage.specs.Frame.{Samples}
+use Rattle.fx_frame_base.specs.Frame.{Samples}
 use Rattle.fx_frame_line.specs.Line.{Frames, channel_of, empty, latest_frames, pushed, pushed_all, pushed_out}
-use Rattle.fx_frame_lists.specs.Lists.{pieces, tabulate}
-use Rattle.fx_frame_lists.proofs.Pieces.{get_or-piece, length-pieces}
+use Rattle.fx_frame_base.specs.Lists.{pieces, tabulate}
+use Rattle.fx_frame_base.proofs.Pieces.{get_or-piece, length-pieces}
 use Rattle.fx_tap_delays.specs.Echo.{EchoArguments}
 use Rattle.fx_tap_delays.specs.EchosState.{after_push, fed, frame_of_lines, gone_at, let_go, line_at, lines_after, or_silence, series_lines_after, through_lines}
-use Rattle.fx_tap_convolve.specs.Products.{sum_of_products}
+use Rattle.fx_tap_sums.specs.Products.{sum_of_products}
 use Rattle.fx_frame.proofs.SamplePieces.{pieces-sides}
 use Rattle.fx_tap_delays.proofs.EchosSeries.{Small, small_of}
 use Rattle.fx_tap_delays.proofs.EchosStored.{same-line}
 use Rattle.fx_frame.proofs.TapBlocks.{last-joined, last-whole, length-last}
-use Rattle.fx_frame_lists.proofs.Tabulate.{tabulate-same}
-use Rattle.fx_frame_lists.proofs.ChannelPlaces.{within-frames}
+use Rattle.fx_frame_base.proofs.Tabulate.{tabulate-same}
+use Rattle.fx_frame_base.proofs.ChannelPlaces.{within-frames}
 
 -- ---- one line
 
@@ -213,10 +213,10 @@ flat-small c (suc n) m xs long all k = go (cases_lt k c) (flat-small c n m (drop
 pub latest-small : (m n late : ℕ) (l : Frames ℤ) → All (All (λ x. unsigned_abs x ≤ m)) l.items → All (All (λ x. unsigned_abs x ≤ m)) (take n (latest_frames (pos 0) late l))
 latest-small m n late l small =
     let Each : Samples → Type 0 = All (λ x. unsigned_abs x ≤ m) in
-    let silence_here : All (λ x. unsigned_abs x ≤ m) (replicate l.channels (pos 0)) = All-replicate (λ x. unsigned_abs x ≤ m) l.channels (pos 0) (omega arith) in
+    let silent_frame : All (λ x. unsigned_abs x ≤ m) (replicate l.channels (pos 0)) = All-replicate (λ x. unsigned_abs x ≤ m) l.channels (pos 0) (omega arith) in
     All-take (All (λ x. unsigned_abs x ≤ m)) n (latest_frames (pos 0) late l)
     (All-append (All (λ x. unsigned_abs x ≤ m)) (replicate (late - length l.items) (replicate l.channels (pos 0))) (drop (length l.items - late) l.items)
-    (All-replicate (All (λ x. unsigned_abs x ≤ m)) (late - length l.items) (replicate l.channels (pos 0)) silence_here) (All-drop (All (λ x. unsigned_abs x ≤ m)) (length l.items - late) l.items small))
+    (All-replicate (All (λ x. unsigned_abs x ≤ m)) (late - length l.items) (replicate l.channels (pos 0)) silent_frame) (All-drop (All (λ x. unsigned_abs x ≤ m)) (length l.items - late) l.items small))
 
 pub piece-small : (c n m : ℕ) (xs : List ℤ) → n * c ≤ length xs → ((k : ℕ) → k < length xs → unsigned_abs (get_or xs k (pos 0)) ≤ m) → (i : ℕ) → i < n → Small m (get_or (pieces c n xs) i [])
 piece-small c n m xs free h i lt k = go (cases_lt k c)

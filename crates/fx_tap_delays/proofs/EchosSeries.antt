@@ -7,19 +7,19 @@ use Rattle.std.proofs.lemmas.Int.{ints}
 use Rattle.std.proofs.lemmas.List.{drop_more, take_more_set, get_or-drop, drop-drop, drop-set-lt}
 use Rattle.std.proofs.lemmas.List.Elements.{All-head, All-tail}
 use Rattle.fx_fixed.specs.declared.gains.TheConstants.{UNIT}
-use Rattle.fx_frame_stage.specs.Frame.{Samples}
+use Rattle.fx_frame_base.specs.Frame.{Samples}
 use Rattle.fx_frame_line.specs.Line.{Frames, pushed_out, channel_of, empty}
 use Rattle.fx_fixed.specs.Rounding.{rounding}
 use Rattle.fx_tap_delays.specs.Echo.{EchoArguments}
-use Rattle.fx_frame_stage.specs.Given.{given_samples}
-use Rattle.fx_frame_lists.proofs.Tabulate.{tabulate-same}
+use Rattle.fx_frame_base.specs.Given.{given_samples}
+use Rattle.fx_frame_base.proofs.Tabulate.{tabulate-same}
 use Rattle.fx_tap_delays.specs.Echos.{decays}
 use Rattle.fx_tap_delays.specs.EchosState.{IsSeriesLine, after_push, fed, frame_of_lines, let_go, line_at, lines_after, or_silence}
-use Rattle.fx_frame_lists.specs.Lists.{tabulate}
-use Rattle.fx_tap_convolve.specs.Products.{sum_of_products}
+use Rattle.fx_frame_base.specs.Lists.{tabulate}
+use Rattle.fx_tap_sums.specs.Products.{sum_of_products}
 use borrow.Author.Tests.{ltb-true, ltb-false}
-use Rattle.fx_frame_lists.proofs.Places.{silence_here-sample}
-use Rattle.fx_tap_convolve.proofs.Magnitudes.{added-bound, scaled-bound}
+use Rattle.fx_frame_base.proofs.ListPlaces.{zeros-sample}
+use Rattle.fx_tap_sums.proofs.Magnitudes.{added-bound, scaled-bound}
 
 -- ---- how large
 
@@ -49,7 +49,7 @@ small-fed c j x before h b =
     omega arith)
 
 pub small-silence : (m c : ℕ) → Small m (replicate c (pos 0))
-small-silence m c k = rw (silence_here-sample c k) (omega arith)
+small-silence m c k = rw (zeros-sample c k) (omega arith)
 
 gone-by : (m c : ℕ) (items : List Samples) (u : Samples) (b : Bool) → All (All (λ x. unsigned_abs x ≤ m)) items → Small m u → Small m (or_silence c (if b then None else slice_get (items ++ u ∷ []) 0))
 gone-by m c items u true h s = small-silence m c

@@ -4,7 +4,7 @@ use Rattle.std.specs.List.{All}
 use Rattle.std.specs.Int.{w64}
 use Rattle.std.proofs.Math.Seq.{take-append_seam, drop-append_seam}
 use Rattle.std.proofs.lemmas.List.{drop_more, drop_all, length-append, take_more, take-append-drop}
-use Rattle.fx_frame_stage.specs.Frame.{Samples}
+use Rattle.fx_frame_base.specs.Frame.{Samples}
 use Rattle.fx_frame.specs.Frozen.{line_of}
 use Rattle.fx_frame_line.specs.Line.{Frames, IsLine, empty}
 use Rattle.fx_tap_delays.specs.EchosState.{IsEchoLine, delay_at, frames_of_lines, line_at}

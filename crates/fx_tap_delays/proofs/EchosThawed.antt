@@ -2,16 +2,16 @@
 use Rattle.std.proofs.Common.{ℕ, ℤ, ◌≡◌, ◌+◌, ◌*◌, ◌≤◌, ◌++◌, ◌∙◌, Option, List, length, refl, sym, ap, arith, length-append}
 use Rattle.std.specs.Prelude.{nat_eq, option_to_list, slice_index_or}
 use Rattle.fx_tap_delays.specs.DelayExtents.{sum_of_delays}
-use Rattle.fx_frame_stage.specs.Frame.{Samples}
+use Rattle.fx_frame_base.specs.Frame.{Samples}
 use Rattle.fx_frame_line.specs.Line.{Frames}
-use Rattle.fx_frame_stage.specs.Stage.{Freezes}
+use Rattle.fx_frame_base.specs.Stage.{Freezes}
 use Rattle.fx_tap_delays.specs.Echo.{EchoArguments}
 use Rattle.fx_tap_delays.specs.EchosState.{EchosState, IsEchos, echos_acts, frames_of_lines}
 use Rattle.fx_tap_delays.specs.EchosStored.{IsSeriesStored}
 use Rattle.fx_frame.specs.Kinds.{max_taken}
 use Rattle.fx_frame.specs.Tapped.{TailNumbers, by_name}
 use Rattle.fx_frame.proofs.Counts.{flag-false, flag-of, flag-times, flag-true}
-use Rattle.fx_frame_stage.proofs.Flags.{flag-le}
+use Rattle.fx_frame_base.proofs.Flags.{flag-le}
 
 -- what holds of the numbers of a stage whose delays have that sum, which stores so many frames
 pub record AreEchosCounts (whole stored : ℕ) (n : TailNumbers) : Type 0 where

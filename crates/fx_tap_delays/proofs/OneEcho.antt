@@ -9,13 +9,13 @@ use Rattle.std.proofs.lemmas.List.{get_or_append_left, get_or-take}
 use Rattle.fx_fixed.specs.Extents.{largest}
 use Rattle.fx_tap_delays.specs.DelayExtents.{tap_delay}
 use Rattle.fx_fixed.specs.Rounding.{rounding}
-use Rattle.fx_frame_stage.specs.Frame.{Samples, silence}
+use Rattle.fx_frame_base.specs.Frame.{Samples, silence}
 use Rattle.fx_frame_line.specs.Line.{Frames, IsLine}
-use Rattle.fx_frame_lists.specs.Lists.{pieces, tabulate}
-use Rattle.fx_frame_lists.specs.Rounded.{clips_rounded, samples_of}
-use Rattle.fx_frame_lists.proofs.ChannelPlaces.{within-frames}
-use Rattle.fx_frame_lists.proofs.Pieces.{get_or-piece, length-pieces}
-use Rattle.fx_frame_lists.proofs.Tabulate.{length-tabulate, tabulate-same}
+use Rattle.fx_frame_base.specs.Lists.{pieces, tabulate}
+use Rattle.fx_frame_base.specs.Rounded.{clips_rounded, samples_of}
+use Rattle.fx_frame_base.proofs.ChannelPlaces.{within-frames}
+use Rattle.fx_frame_base.proofs.Pieces.{get_or-piece, length-pieces}
+use Rattle.fx_frame_base.proofs.Tabulate.{length-tabulate, tabulate-same}
 use Rattle.fx_tap_delays.specs.Echo.{EchoArguments, echo_sum, echoed_sample, echoes_of}
 use Rattle.fx_tap_delays.specs.EchoState.{echo_taps}
 use Rattle.fx_tap_sums.specs.Weights.{SoundsAs, Weights}
@@ -23,7 +23,7 @@ use Rattle.fx_tap_delays.specs.EchoWeights.{weighed, weighed_echoes}
 use Rattle.fx_frame.specs.History.{History, sample_before}
 use Rattle.fx_frame.specs.Tapped.{clips_after, frames_after}
 use Rattle.fx_frame.proofs.Tables.{map-tabulate}
-use Rattle.fx_frame_lists.proofs.Places.{silence_here-sample}
+use Rattle.fx_frame_base.proofs.ListPlaces.{zeros-sample}
 use Rattle.fx_tap_delays.proofs.EchoLaws.{sample-now}
 use Rattle.fx_tap_sums.proofs.WeightLaws.{second-on}
 use Rattle.fx_tap_delays.proofs.EchoPieces.{coming-sample, piece-clips, piece-frames}
@@ -36,7 +36,7 @@ late-one : (line : Frames ℤ) (x : Samples) (k : ℕ) (b : Bool) → IsLine w32
 late-one line x k true is t =
     let bound : length line.items < line.capacity = ltb-true _ _ t in
     let none : nat_le line.capacity (length line.items) ≡ false = lt-leb line.capacity (length line.items) bound in
-    rw none (silence_here-sample (length x) k)
+    rw none (zeros-sample (length x) k)
 late-one line x k false is t =
     let full : line.capacity ≤ length line.items = ltb-false _ _ t in
     let there : nat_le line.capacity (length line.items) ≡ true = le-leb line.capacity (length line.items) full in

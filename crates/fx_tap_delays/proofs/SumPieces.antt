@@ -2,14 +2,14 @@
 use Rattle.std.proofs.Common.{◌≡◌, ◌+◌, ◌*◌, ◌<◌, ℕ, ℤ, pos, Bool, List, [], ◌∷◌, length, map, take, get_or, refl, sym, ap, ◌∙◌, arith, zero-add}
 use Rattle.std.proofs.lemmas.List.{take_all}
 use Rattle.std.proofs.lemmas.Simd.{map-map}
-use Rattle.fx_frame_stage.specs.Frame.{Samples}
-use Rattle.fx_frame_stage.specs.Holds.{total}
-use Rattle.fx_frame_lists.specs.Lists.{pieces, tabulate}
-use Rattle.fx_frame_stage.specs.Stage.{Given}
-use Rattle.fx_frame_lists.proofs.Pieces.{get_or-piece, length-pieces}
+use Rattle.fx_frame_base.specs.Frame.{Samples}
+use Rattle.fx_frame_base.specs.Holds.{total}
+use Rattle.fx_frame_base.specs.Lists.{pieces, tabulate}
+use Rattle.fx_frame_base.specs.Stage.{Given}
+use Rattle.fx_frame_base.proofs.Pieces.{get_or-piece, length-pieces}
 use Rattle.fx_frame.specs.Made.{clips_in, rounded_given}
-use Rattle.fx_frame_lists.specs.Rounded.{clips_rounded, samples_of}
-use Rattle.fx_frame_stage.specs.Given.{given_samples}
+use Rattle.fx_frame_base.specs.Rounded.{clips_rounded, samples_of}
+use Rattle.fx_frame_base.specs.Given.{given_samples}
 use Rattle.fx_frame.proofs.SamplePieces.{clips-samples, pieces-samples, pieces-sides}
 use Rattle.fx_frame.proofs.Tables.{map-table}
 

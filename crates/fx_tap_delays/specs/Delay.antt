@@ -1,10 +1,10 @@
 -- The effect `delay` (sox(1), EFFECTS, delay): each channel is delayed by its own number of frames.
 use Rattle.std.specs.Prelude.{ℕ, ◌+◌, ◌-◌, List, ◌++◌, length, replicate, slice_index}
 use Rattle.fx_fixed.specs.Extents.{largest}
-use Rattle.fx_frame_stage.specs.Frame.{Samples}
-use Rattle.fx_frame_stage.specs.Stage.{Given, StageKind}
-use Rattle.fx_frame_lists.specs.Lists.{tabulate}
-use Rattle.fx_frame_stage.specs.Given.{plain}
+use Rattle.fx_frame_base.specs.Frame.{Samples}
+use Rattle.fx_frame_base.specs.Stage.{Given, StageKind}
+use Rattle.fx_frame_base.specs.Lists.{tabulate}
+use Rattle.fx_frame_base.specs.Given.{plain}
 use Rattle.fx_frame.specs.History.{History, sample_before}
 use Rattle.fx_frame.specs.Kinds.{tap_kind}
 

@@ -1,8 +1,8 @@
 -- How the stages of `delay` behave (this project's profile).
 use Rattle.std.specs.Prelude.{ℕ, List, length}
 use Rattle.fx_fixed.specs.Extents.{largest}
-use Rattle.fx_frame_stage.specs.Stage.{Acts}
-use Rattle.fx_frame_stage.specs.Given.{plain}
+use Rattle.fx_frame_base.specs.Stage.{Acts}
+use Rattle.fx_frame_base.specs.Given.{plain}
 use Rattle.fx_frame.specs.Tapped.{Taps, TapState, tap_acts}
 use Rattle.fx_tap_delays.specs.Delay.{delayed_frame, delayed}
 

@@ -1,15 +1,15 @@
 -- The effect `echo` (sox(1), EFFECTS, echo): each frame times gain-in, and earlier ones each times a decay, added and
 -- times gain-out. That a decay is not relative to gain-in, rounding and clips are this project's profile.
-use Rattle.std.specs.Prelude.{ℕ, ℤ, pos, ◌+◌, ◌*◌, ◌+ℤ◌, ◌*ℤ◌, ◌≤◌, unsigned_abs, Bool, List, [], ◌∷◌, length, map}
+use Rattle.std.specs.Prelude.{ℕ, ℤ, pos, ◌+◌, ◌*◌, ◌+ℤ◌, ◌*ℤ◌, ◌≤◌, unsigned_abs, Bool, List, [], ◌∷◌, length, map, ◌^◌}
 use Rattle.std.specs.List.{All}
 use Rattle.fx_fixed.specs.Extents.{largest}
 use Rattle.fx_tap_delays.specs.DelayExtents.{tap_delay}
 use Rattle.fx_fixed.specs.Rounding.{rounding}
 use Rattle.fx_fixed.specs.declared.gains.TheConstants.{UNIT}
-use Rattle.fx_frame_stage.specs.Frame.{Samples}
-use Rattle.fx_frame_stage.specs.Stage.{Given, StageKind}
-use Rattle.fx_frame_lists.specs.Lists.{tabulate}
-use Rattle.fx_frame_stage.specs.Given.{given_samples}
+use Rattle.fx_frame_base.specs.Frame.{Samples}
+use Rattle.fx_frame_base.specs.Stage.{Given, StageKind}
+use Rattle.fx_frame_base.specs.Lists.{tabulate}
+use Rattle.fx_frame_base.specs.Given.{given_samples}
 use Rattle.fx_frame.specs.History.{History, sample_before}
 use Rattle.fx_frame.specs.Kinds.{tap_kind}
 
@@ -41,7 +41,7 @@ echo_sum a history k = (a.gain_in *ℤ history 0 k) +ℤ echoes_of a.taps histor
 
 -- channel k of the frame with its echoes: one exact fraction, rounded once
 abbrev pub echoed_sample : EchoArguments → History → ℕ → ℤ × Bool
-echoed_sample a history k = rounding (a.gain_out *ℤ echo_sum a history k) (UNIT * UNIT)
+echoed_sample a history k = rounding (a.gain_out *ℤ echo_sum a history k) (10 ^ 12 * 10 ^ 12)
 
 -- the frame with its echoes
 abbrev pub echoed_frame : EchoArguments → History → Given

@@ -2,7 +2,7 @@
 use Rattle.std.specs.Prelude.{map}
 use Rattle.fx_fixed.specs.Extents.{largest}
 use Rattle.fx_tap_delays.specs.DelayExtents.{tap_delay}
-use Rattle.fx_frame_stage.specs.Stage.{Acts}
+use Rattle.fx_frame_base.specs.Stage.{Acts}
 use Rattle.fx_frame.specs.Tapped.{Taps, TapState, tap_acts}
 use Rattle.fx_tap_delays.specs.Echo.{EchoArguments, echoed_frame, echo}
 

@@ -1,16 +1,15 @@
 -- The effect `echos` (sox(1), EFFECTS, echos: echoes in series): each frame times gain-in, and what each of several lines in
 -- series outputs, times a decay, added and times gain-out. That the next line takes the frame and what the line before it
 -- outputs, not decayed, that a decay is not relative to gain-in, rounding and clips are this project's profile.
-use Rattle.std.specs.Prelude.{ℕ, ℤ, pos, zero, suc, ◌+◌, ◌*◌, ◌+ℤ◌, ◌*ℤ◌, List, length, map, drop, take}
+use Rattle.std.specs.Prelude.{ℕ, ℤ, pos, zero, suc, ◌+◌, ◌*◌, ◌+ℤ◌, ◌*ℤ◌, List, length, map, drop, take, ◌^◌}
 use Rattle.fx_tap_delays.specs.DelayExtents.{sum_of_delays}
 use Rattle.fx_fixed.specs.Rounding.{rounding}
-use Rattle.fx_fixed.specs.declared.gains.TheConstants.{UNIT}
-use Rattle.fx_frame_stage.specs.Frame.{Samples}
-use Rattle.fx_frame_stage.specs.Stage.{Given, StageKind}
+use Rattle.fx_frame_base.specs.Frame.{Samples}
+use Rattle.fx_frame_base.specs.Stage.{Given, StageKind}
 use Rattle.fx_tap_delays.specs.Echo.{EchoArguments}
-use Rattle.fx_frame_lists.specs.Lists.{tabulate}
-use Rattle.fx_tap_convolve.specs.Products.{sum_of_products}
-use Rattle.fx_frame_stage.specs.Given.{given_samples}
+use Rattle.fx_frame_base.specs.Lists.{tabulate}
+use Rattle.fx_tap_sums.specs.Products.{sum_of_products}
+use Rattle.fx_frame_base.specs.Given.{given_samples}
 use Rattle.fx_frame.specs.History.{History, sample_before}
 use Rattle.fx_frame.specs.Kinds.{tap_kind}
 
@@ -37,7 +36,7 @@ echos_sum a history k = (a.gain_in *ℤ history 0 k) +ℤ sum_of_products (decay
 
 -- that sum times gain-out: one exact fraction, rounded once
 abbrev pub echos_frame : EchoArguments → History → Given
-echos_frame a history = given_samples (tabulate (λ k. rounding (a.gain_out *ℤ echos_sum a history k) (UNIT * UNIT)) 0 a.channels)
+echos_frame a history = given_samples (tabulate (λ k. rounding (a.gain_out *ℤ echos_sum a history k) (10 ^ 12 * 10 ^ 12)) 0 a.channels)
 
 -- what `echos` gives for a sound
 abbrev pub echos : EchoArguments → List Samples → List Given

@@ -4,16 +4,15 @@ use Rattle.std.specs.List.{All}
 use Rattle.std.specs.Int.{w64}
 use Rattle.fx_tap_delays.specs.DelayExtents.{sum_of_delays}
 use Rattle.fx_fixed.specs.Rounding.{rounding}
-use Rattle.fx_fixed.specs.declared.gains.TheConstants.{UNIT}
-use Rattle.fx_frame_stage.specs.Frame.{Samples, silence}
-use Rattle.fx_frame_stage.specs.PendingFrame.{IsPending}
+use Rattle.fx_frame_base.specs.Frame.{Samples, silence}
+use Rattle.fx_frame_base.specs.PendingFrame.{IsPending}
 use Rattle.fx_frame_line.specs.Line.{Frames, IsLine, pushed, pushed_out, channel_of, empty}
-use Rattle.fx_frame_stage.specs.Stage.{Given, Acts}
+use Rattle.fx_frame_base.specs.Stage.{Given, Acts}
 use Rattle.fx_tap_delays.specs.Echo.{EchoArguments, IsEcho}
-use Rattle.fx_frame_lists.specs.Lists.{tabulate}
+use Rattle.fx_frame_base.specs.Lists.{tabulate}
 use Rattle.fx_frame.specs.Kinds.{max_taken}
-use Rattle.fx_tap_convolve.specs.Products.{sum_of_products}
-use Rattle.fx_frame_stage.specs.Given.{given_samples}
+use Rattle.fx_tap_sums.specs.Products.{sum_of_products}
+use Rattle.fx_frame_base.specs.Given.{given_samples}
 use Rattle.fx_tap_delays.specs.Echos.{decays, echos, echos_kind}
 
 -- a frame and what the line before output, added
@@ -50,7 +49,7 @@ gone_at channels lines xs i = let_go channels (series_lines_after channels lines
 
 -- the frame that is given for a frame and what the lines output
 abbrev pub frame_of_lines : EchoArguments → Samples → List Samples → Given
-frame_of_lines a x gone = given_samples (tabulate (λ k. rounding (a.gain_out *ℤ ((a.gain_in *ℤ slice_index_or x k (pos 0)) +ℤ sum_of_products (decays a.taps) (channel_of gone k (pos 0)))) (UNIT * UNIT)) 0 a.channels)
+frame_of_lines a x gone = given_samples (tabulate (λ k. rounding (a.gain_out *ℤ ((a.gain_in *ℤ slice_index_or x k (pos 0)) +ℤ sum_of_products (decays a.taps) (channel_of gone k (pos 0)))) (10 ^ 12 * 10 ^ 12)) 0 a.channels)
 
 -- what is given for frames that come
 abbrev pub through_lines : EchoArguments → List (Frames ℤ) → List Samples → List Given

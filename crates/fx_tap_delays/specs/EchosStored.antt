@@ -1,8 +1,8 @@
 -- What an `echos` stores, restored (this project's profile).
 use Rattle.std.specs.Prelude.{ℕ, ℤ, ◌<◌, ◌≤◌, ◌≡◌, ◌++◌, List, Option, length, option_to_list, unsigned_abs}
 use Rattle.std.specs.List.{All}
-use Rattle.fx_frame_stage.specs.Frame.{Samples}
-use Rattle.fx_frame_stage.specs.PendingFrame.{IsPending}
+use Rattle.fx_frame_base.specs.Frame.{Samples}
+use Rattle.fx_frame_base.specs.PendingFrame.{IsPending}
 use Rattle.fx_frame_line.specs.Line.{Frames}
 use Rattle.fx_tap_delays.specs.EchosState.{IsEchoLine, delay_at, frames_of_lines, line_at}
 

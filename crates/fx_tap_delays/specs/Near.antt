@@ -3,8 +3,8 @@ use Rattle.std.specs.Prelude.{ℕ, ℤ, ◌≤◌, ◌≡◌, List, [], ◌∷�
 use Rattle.std.proofs.Common.{zero, suc, refl, ap, arith}
 use Rattle.fx_fixed.specs.Extents.{largest}
 use Rattle.fx_tap_delays.specs.DelayExtents.{tap_delay}
-use Rattle.fx_frame_lists.specs.Lists.{tabulate}
-use Rattle.fx_frame_stage.specs.Given.{plain, given_samples}
+use Rattle.fx_frame_base.specs.Lists.{tabulate}
+use Rattle.fx_frame_base.specs.Given.{plain, given_samples}
 use Rattle.fx_frame.specs.Tapped.{Agree, IsNear}
 use Rattle.fx_frame.specs.History.{History}
 use Rattle.fx_tap_delays.specs.DelayState.{delay_taps}

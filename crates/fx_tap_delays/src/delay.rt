@@ -1,10 +1,10 @@
 //! The effect `delay` of sox(1): each channel is delayed by its own number of frames.
 ghost use Rattle.std.specs.Prelude.{◌≡◌, ◌<◌, ◌≤◌, ◌⊎◌, nat_lt, if◌then◌else◌, ◌-◌, ◌*◌, ◌^◌, ◌++◌, ◌∷◌, [], ℕ, List, true, false, length, drop, take, replicate, slice_index, slice_index_or, pos, Err, IfOk, MatchResult};
 ghost use Rattle.fx_fixed.specs.Extents.{largest};
-ghost use Rattle.fx_frame_stage.specs.Frame.{IsFrame, silence};
+ghost use Rattle.fx_frame_base.specs.Frame.{IsFrame, silence};
 ghost use Rattle.fx_frame_line.specs.Line.{pushed, pushed_all};
-ghost use Rattle.fx_frame_lists.specs.Lists.{pieces};
-ghost use Rattle.fx_frame_stage.specs.Stage.{Freezes, IsNew};
+ghost use Rattle.fx_frame_base.specs.Lists.{pieces};
+ghost use Rattle.fx_frame_base.specs.Stage.{Freezes, IsNew};
 ghost use Rattle.fx_tap_delays.specs.Delay.{delayed_frame, every_delay};
 ghost use Rattle.fx_tap_delays.specs.DelayState.{delay_acts, delay_taps};
 ghost use Rattle.fx_frame.specs.Tapped.{IsTapState, TapState, frames_after, last_of};
@@ -177,12 +177,12 @@ fn delay_evenly(line: &mut Line, channels: usize, frames: &[i32], count: usize, 
     ensures capacity { line.new.capacity ≡ line.old.capacity }
     ensures channels { line.new.channels ≡ line.old.channels }
 {
-    let silence_here = (line.capacity() - line.len()).min(count);
-    write_silence(output, channels, silence_here);
+    let silent_frames = (line.capacity() - line.len()).min(count);
+    write_silence(output, channels, silent_frames);
     line.oldest_into(
         frames,
-        count - silence_here,
-        &mut output[silence_here * channels..],
+        count - silent_frames,
+        &mut output[silent_frames * channels..],
     );
     line.push_frames(frames, count);
 }
@@ -203,18 +203,18 @@ pub(crate) fn delay_over(line: &mut Line, samples: &mut [i32])
 }
 
 /// Writes over `count` frames those that came as many frames before as the line has places; the new ones go into the line,
-/// where each delay is so long and the line has them all. The frames that came then stand in `free`. Else it returns false, and
+/// where each delay is so long and the line has them all. The frames that came then stand in `came`. Else it returns false, and
 /// nothing changes.
 fn exchange_evenly(
     delays: &[u64],
     line: &mut Line,
     samples: &mut [i32],
     count: usize,
-    free: &mut [i32],
+    came: &mut [i32],
 ) -> bool
     requires channels { line.old.channels ≡ length delays.now }
     requires samples { length samples.old ≡ count * length delays.now }
-    requires free { length free.old ≡ length samples.old }
+    requires free { length came.old ≡ length samples.old }
     ensures kept { result ≡ false → (line.new ≡ line.old) × (samples.new ≡ samples.old) }
     ensures frames { result ≡ true → pieces (length delays.now) count samples.new ≡ frames_after delay_taps delays.now line.old.items (pieces (length delays.now) count samples.old) }
     ensures line { result ≡ true → line.new.items ≡ last_of line.old.capacity (line.old.items ++ pieces (length delays.now) count samples.old) }
@@ -224,7 +224,7 @@ fn exchange_evenly(
 {
     let _held = line.len();
     if all_are(delays, line.capacity() as u64) {
-        return line.exchange_frames(samples, count, free);
+        return line.exchange_frames(samples, count, came);
     }
     false
 }

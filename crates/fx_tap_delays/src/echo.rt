@@ -6,9 +6,9 @@ ghost use Rattle.fx_fixed.specs.Extents.{largest};
 ghost use Rattle.fx_tap_delays.specs.DelayExtents.{tap_delay};
 ghost use Rattle.fx_fixed.specs.Rounding.{rounding};
 ghost use Rattle.fx_frame_line.specs.Line.{pushed};
-ghost use Rattle.fx_frame_lists.specs.Lists.{tabulate, pieces};
-ghost use Rattle.fx_frame_stage.specs.Given.{given_samples};
-ghost use Rattle.fx_frame_stage.specs.Stage.{Freezes, IsNew};
+ghost use Rattle.fx_frame_base.specs.Lists.{tabulate, pieces};
+ghost use Rattle.fx_frame_base.specs.Given.{given_samples};
+ghost use Rattle.fx_frame_base.specs.Stage.{Freezes, IsNew};
 ghost use Rattle.fx_tap_delays.specs.Echo.{EchoArguments, IsEcho, echo_sum, echoed_frame};
 ghost use Rattle.fx_tap_delays.specs.EchoState.{echo_acts, echo_taps};
 ghost use Rattle.fx_tap_sums.specs.Weights.{SoundsAs};
@@ -28,7 +28,7 @@ use crate::tapped::{
 use fx_fixed::{Gain, UNIT};
 use fx_frame::groups::SAMPLES_OF_GROUP;
 use fx_frame::{Frame, Line, ThawFault, WideFrame};
-use fx_frame_stage::feed::{copy_samples, frame_at};
+use fx_frame_base::feed::{copy_samples, frame_at};
 use fx_tap_sums::inner::{Sums, add_products, product};
 use fx_tap_sums::weights::{SmallWeights, small_of};
 use std::alloc::{AllocError, Global};
@@ -431,8 +431,8 @@ impl PreparedEcho {
         ensures line_channels { line.new.channels ≡ line.old.channels }
     {
         let mut places = [0; 16];
-        let free = &mut places[..samples.len()];
-        self.one_through(small, line, samples, free)
+        let came = &mut places[..samples.len()];
+        self.one_through(small, line, samples, came)
     }
 }
 

@@ -2,28 +2,28 @@
 ghost use Rattle.std.specs.Prelude.{◌≡◌, ◌↔◌, true, ◌<◌, ◌≤◌, ◌+◌, ◌*◌, ◌^◌, ◌+ℤ◌, ◌*ℤ◌, ℕ, pos, length, map, unsigned_abs, slice_get, slice_index_or, replicate, drop, Err, IfOk, IfSome, MatchResult};
 ghost use Rattle.std.specs.List.{All};
 ghost use Rattle.fx_tap_delays.specs.DelayExtents.{sum_of_delays};
-ghost use Rattle.fx_frame_stage.specs.Frame.{IsFrame};
+ghost use Rattle.fx_frame_base.specs.Frame.{IsFrame};
 ghost use Rattle.fx_frame_line.specs.Line.{channel_of, empty, pushed_out};
-ghost use Rattle.fx_frame_stage.specs.Holds.{total};
-ghost use Rattle.fx_frame_lists.specs.Lists.{pieces};
-ghost use Rattle.fx_frame_stage.specs.Stage.{Freezes, Given, IsNew};
+ghost use Rattle.fx_frame_base.specs.Holds.{total};
+ghost use Rattle.fx_frame_base.specs.Lists.{pieces};
+ghost use Rattle.fx_frame_base.specs.Stage.{Freezes, Given, IsNew};
 ghost use Rattle.fx_tap_delays.specs.Echo.{EchoArguments};
 ghost use Rattle.fx_tap_delays.specs.Echos.{decays};
 ghost use Rattle.fx_tap_delays.specs.EchosState.{EchosState, IsEchoLine, IsEchos, IsSeriesLine, after_push, delay_at, echos_acts, fed, frame_of_lines, frames_of_lines, gone_at, let_go, line_at, lines_after, or_silence, series_lines_after, through_lines};
 ghost use Rattle.fx_tap_sums.specs.Weights.{AreSmall};
 ghost use Rattle.fx_tap_delays.specs.EchoWeights.{Suits};
-ghost use Rattle.fx_tap_convolve.specs.Products.{sum_of_products};
+ghost use Rattle.fx_tap_sums.specs.Products.{sum_of_products};
 
 use crate::echo::{SAMPLES_OF_PIECE, copied, frames_of_piece};
-use crate::extents::all_taps;
+use crate::extents::total_delay;
 use crate::series_lines::thawed_series_and_pending;
 use crate::sums::{add_scaled, round_sums, sums_into};
 use fx_fixed::{Gain, UNIT};
 use fx_frame::{Counters, Feeds, Frame, Passed, Passing, Stage, ThawFault, WideFrame, WideLine};
-use fx_frame_stage::feed::{copy_samples, feed_by_frames, frame_at};
-use fx_frame_stage::frame::MAX_CHANNELS;
-use fx_frame_stage::pending::stored_pending;
-use fx_frame_stage::stage::MAX_TAKEN;
+use fx_frame_base::feed::{copy_samples, feed_by_frames, frame_at};
+use fx_frame_base::frame::MAX_CHANNELS;
+use fx_frame_base::pending::stored_pending;
+use fx_frame_base::stage::MAX_TAKEN;
 use fx_tap_sums::inner::{Sums, add_places, add_products, add_samples, add_wide_products};
 use fx_tap_sums::weights::{SmallWeights, small_of};
 use std::alloc::{AllocError, Global};
@@ -476,7 +476,7 @@ impl Echos {
         if taken > MAX_TAKEN || (ended == 0 && tail != 0) {
             return Err(ThawFault::BadSnapshot);
         }
-        let made = taken + ended * all_taps(taps);
+        let made = taken + ended * total_delay(taps);
         if given > made || pending_count > made - given || tail != made - given - pending_count {
             return Err(ThawFault::BadSnapshot);
         }
@@ -544,7 +544,7 @@ impl Stage for Echos {
     }
 
     fn end(&mut self) {
-        self.tail = all_taps(&self.taps);
+        self.tail = total_delay(&self.taps);
         self.ended = true;
     }
 
@@ -560,14 +560,14 @@ impl Stage for Echos {
             return None;
         }
         let gains = (self.gain_in, self.gain_out);
-        let silence_here = Frame::silence(self.channels);
+        let silent_frame = Frame::silence(self.channels);
         let (out, clips) = echoed(
             &mut self.lines,
             &self.taps,
             &self.small,
             self.channels,
             gains,
-            silence_here,
+            silent_frame,
         );
         self.tail -= 1;
         self.given += 1;
@@ -598,7 +598,7 @@ impl Stage for Echos {
     }
 
     fn hold(&self) -> u64 {
-        all_taps(&self.taps) + 1
+        total_delay(&self.taps) + 1
     }
 
     fn in_channels(&self) -> usize {

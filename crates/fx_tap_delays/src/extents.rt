@@ -29,7 +29,7 @@ pub fn max_tap_delay(taps: &[(u64, Gain)]) -> u64
 }
 
 /// The delays of taps, added, or `u64::MAX` where that is more.
-pub fn all_taps(taps: &[(u64, Gain)]) -> u64
+pub fn total_delay(taps: &[(u64, Gain)]) -> u64
     ensures { result ≡ min (sum_of_delays taps.now) (2 ^ 64 - 1) }
 {
     let mut total: u64 = 0;

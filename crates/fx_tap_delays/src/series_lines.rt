@@ -3,7 +3,7 @@ ghost use Rattle.std.specs.Prelude.{◌≡◌, ◌<◌, ◌≤◌, ◌+◌, ◌*
 ghost use Rattle.std.specs.Int.{w64};
 ghost use Rattle.std.specs.List.{All};
 ghost use Rattle.fx_tap_delays.specs.DelayExtents.{sum_of_delays};
-ghost use Rattle.fx_frame_stage.specs.Frame.{Samples};
+ghost use Rattle.fx_frame_base.specs.Frame.{Samples};
 ghost use Rattle.fx_frame.specs.Frozen.{line_of};
 ghost use Rattle.fx_frame_line.specs.Line.{Frames, IsLine};
 ghost use Rattle.fx_tap_delays.specs.EchosState.{frames_of_lines};
@@ -12,7 +12,7 @@ ghost use Rattle.fx_tap_delays.specs.EchosStored.{IsSeries, IsSeriesStored, IsSm
 use fx_fixed::Gain;
 use fx_frame::frozen::thawed_wide_line;
 use fx_frame::{Frame, ThawFault, WideFrame, WideLine};
-use fx_frame_stage::pending::thawed_pending;
+use fx_frame_base::pending::thawed_pending;
 use std::alloc::Global;
 
 /// No sample of the frame is greater in magnitude.

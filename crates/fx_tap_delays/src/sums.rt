@@ -1,9 +1,9 @@
 //! Sums of samples times gains, one for each channel, each rounded once.
 ghost use Rattle.std.specs.Prelude.{◌≡◌, ◌<◌, ◌≤◌, ◌+◌, ◌*◌, ◌^◌, ℕ, ℤ, pos, ◌+ℤ◌, ◌*ℤ◌, length, map, slice_index_or, unsigned_abs};
 ghost use Rattle.fx_fixed.specs.Rounding.{rounding};
-ghost use Rattle.fx_frame_lists.specs.Lists.{tabulate};
-ghost use Rattle.fx_frame_lists.specs.Rounded.{clips_rounded, samples_of};
-ghost use Rattle.fx_frame_stage.specs.Given.{given_samples};
+ghost use Rattle.fx_frame_base.specs.Lists.{tabulate};
+ghost use Rattle.fx_frame_base.specs.Rounded.{clips_rounded, samples_of};
+ghost use Rattle.fx_frame_base.specs.Given.{given_samples};
 
 use fx_fixed::inner::Denominator;
 use fx_fixed::{Gain, UNIT, round_clip};

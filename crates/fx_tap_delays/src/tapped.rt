@@ -2,16 +2,16 @@
 //! the end.
 ghost use Rattle.std.specs.Prelude.{◌≡◌, ◌↔◌, ◌+◌, true, false, ◌<◌, ◌≤◌, ◌*◌, ◌^◌, ◌++◌, ◌∷◌, [], None, drop, length, Err, IfOk, MatchResult};
 ghost use Rattle.fx_frame_line.specs.Line.{pushed};
-ghost use Rattle.fx_frame_lists.specs.Lists.{pieces};
-ghost use Rattle.fx_frame_stage.specs.Stage.{Freezes, Gave, IsNew};
+ghost use Rattle.fx_frame_base.specs.Lists.{pieces};
+ghost use Rattle.fx_frame_base.specs.Stage.{Freezes, Gave, IsNew};
 ghost use Rattle.fx_frame.specs.Tapped.{AreTapCounts, IsNear, Taps, TapState, by_name, clips_after, frames_after, last_of, tap_acts};
 ghost use Rattle.fx_frame.specs.History.{sample_before};
 
 use fx_frame::frozen::{stored_in, thawed_line_and_pending};
 use fx_frame::groups::{SAMPLES_OF_GROUP, frames_of_group};
 use fx_frame::{Counters, Feeds, Frame, Line, Passed, Passing, Stage, ThawFault, WideFrame};
-use fx_frame_stage::feed::{copy_samples, feed_by_frames, frame_at};
-use fx_frame_stage::stage::MAX_TAKEN;
+use fx_frame_base::feed::{copy_samples, feed_by_frames, frame_at};
+use fx_frame_base::stage::MAX_TAKEN;
 use fx_tap_sums::inner::sample_or_silence;
 use std::alloc::{AllocError, Global};
 use std::marker::Model;
@@ -202,8 +202,8 @@ fn tap_through_places<T: Tapping>(tapping: &T, line: &mut Line, samples: &mut [i
     ensures line_channels { line.new.channels ≡ line.old.channels }
 {
     let mut places = [0; 16];
-    let free = &mut places[..samples.len()];
-    tap_through(tapping, line, samples, free)
+    let came = &mut places[..samples.len()];
+    tap_through(tapping, line, samples, came)
 }
 
 /// What `tap_many` does, for any such effect, one frame at a time.
@@ -453,9 +453,9 @@ impl<T: Tapping + Drop> Tapped<T> {
         requires tail { 0 < self.old.tail }
         ensures { Gave (tap_acts T.taps) self.old self.new result }
     {
-        let silence_here = Frame::silence(self.arguments.channels());
-        let (made, clips) = self.arguments.tap(&self.line, silence_here);
-        self.line.push(silence_here);
+        let silent_frame = Frame::silence(self.arguments.channels());
+        let (made, clips) = self.arguments.tap(&self.line, silent_frame);
+        self.line.push(silent_frame);
         let _held = self.line.len();
         self.tail -= 1;
         self.given += 1;

@@ -5,25 +5,25 @@ use Rattle.std.specs.Int.{w32}
 use Rattle.std.proofs.lemmas.List.{drop_all, drop_at, length-drop, length-map, length-take, map-append, length-take-le, take_at}
 use Rattle.fx_fixed.specs.Rounding.{rounding}
 use Rattle.fx_fixed.specs.declared.gains.TheConstants.{UNIT}
-use Rattle.fx_frame_stage.specs.declared.feed.Passing.TheVariants.{Through}
-use Rattle.fx_frame_stage.specs.Feed.{Fed, GaveNext, PassedOn, TookNext, nothing, taken, given}
-use Rattle.fx_frame_stage.specs.Frame.{Samples}
-use Rattle.fx_frame_stage.specs.Holds.{total}
+use Rattle.fx_frame_base.specs.declared.feed.Passing.TheVariants.{Through}
+use Rattle.fx_frame_base.specs.Feed.{Fed, GaveNext, PassedOn, TookNext, nothing, taken, given}
+use Rattle.fx_frame_base.specs.Frame.{Samples}
+use Rattle.fx_frame_base.specs.Holds.{total}
 use Rattle.fx_frame_line.specs.Line.{Frames, IsLine, channel_of}
-use Rattle.fx_frame_lists.specs.Lists.{pieces, tabulate}
-use Rattle.fx_frame_stage.specs.Stage.{Given}
-use Rattle.fx_frame_stage.proofs.FedLaws.{Fed-then, total-append}
-use Rattle.fx_frame_lists.proofs.Puts.{pieces-split, pieces-same}
-use Rattle.fx_frame_lists.proofs.Pieces.{length-pieces, pieces-front}
+use Rattle.fx_frame_base.specs.Lists.{pieces, tabulate}
+use Rattle.fx_frame_base.specs.Stage.{Given}
+use Rattle.fx_frame_base.proofs.FedLaws.{Fed-then, total-append}
+use Rattle.fx_frame_base.proofs.Puts.{pieces-split, pieces-same}
+use Rattle.fx_frame_base.proofs.Pieces.{length-pieces, pieces-front}
 use Rattle.fx_tap_fir.specs.Fir.{FirArguments, centre, filtered_frame, filtered_sample}
 use Rattle.fx_tap_fir.specs.FirState.{FirState, IsFir, fir_acts, fir_taps}
-use Rattle.fx_tap_convolve.specs.Products.{sum_of_products}
-use Rattle.fx_frame_lists.specs.Rounded.{clips_rounded, samples_of}
+use Rattle.fx_tap_sums.specs.Products.{sum_of_products}
+use Rattle.fx_frame_base.specs.Rounded.{clips_rounded, samples_of}
 use Rattle.fx_frame.specs.Tapped.{IsNear, Taps, given_after, clips_after, frames_after, last_of}
 use Rattle.fx_frame.specs.History.{sample_before}
 use Rattle.fx_tap_fir.proofs.FirLaws.{rest_unchanged-due}
 use Rattle.fx_frame.proofs.Tables.{map-tabulate, samples_of-tabulate, all_clips, pieces-table}
-use Rattle.fx_frame_lists.proofs.Tabulate.{length-tabulate, tabulate-same}
+use Rattle.fx_frame_base.proofs.Tabulate.{length-tabulate, tabulate-same}
 use Rattle.fx_frame.proofs.TapBlocks.{last-first, last-whole, length-last}
 use Rattle.fx_frame.proofs.TapLaws.{rest_unchanged-step}
 use Rattle.fx_tap_fir.proofs.WindowSums.{back_sum-is, filtered-is}
@@ -134,7 +134,7 @@ pub IsFir-block : (s : FirState) (line : Frames ℤ) (n clips : ℕ) (xs : List 
     → IsLine w32 line → line.items ≡ last_of s.line.capacity (s.line.items ++ xs) → line.capacity ≡ s.line.capacity → line.channels ≡ s.line.channels → clips ≤ 16 * n
     → IsFir (record s { line = line; taken = s.taken + n; given = s.given + n; clips = s.clips + clips })
 IsFir-block s line n clips xs is none running bound many due lined items capacity channels little =
-    let silence_here : s.tail ≡ 0 = is.not_ended running in
+    let no_tail : s.tail ≡ 0 = is.not_ended running in
     let counted : s.given + 0 + s.tail ≡ s.taken - centre (length s.backwards) = rw (none, running) at is.counted in
     let before = is.held in
     let after : length line.items ≡ min (length (s.line.items ++ xs)) s.line.capacity = ap length items ∙ length-last s.line.capacity (s.line.items ++ xs) in
@@ -149,8 +149,8 @@ IsFir-block s line n clips xs is none running bound many due lined items capacit
       count = is.count;
       small = is.small;
       held = omega (arith, before, after, all, capacity);
-      counted = rw (none, running) (omega (arith, counted, before, due, silence_here));
-      tail_held = omega (arith, silence_here);
+      counted = rw (none, running) (omega (arith, counted, before, due, no_tail));
+      tail_held = omega (arith, no_tail);
       tail_bound = is.tail_bound;
       not_ended = is.not_ended;
       bound = bound;

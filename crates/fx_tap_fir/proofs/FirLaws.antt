@@ -5,24 +5,24 @@ use Rattle.std.specs.Prelude.{slice_get, slice_index_or, Option, Some, None, nat
 use Rattle.std.proofs.Math.Seq.{set-append_seam}
 use Rattle.std.proofs.lemmas.List.{length-append, length-drop, length-map, length-reverse, reverse-reverse, map-append, drop-append-le}
 use Rattle.std.proofs.lemmas.Bool.Decides.{nat_tests}
-use Rattle.fx_frame_stage.specs.Frame.{Samples}
+use Rattle.fx_frame_base.specs.Frame.{Samples}
 use Rattle.fx_frame_line.specs.Line.{Frames, pushed, channel_of}
 use Rattle.fx_frame.specs.Frozen.{IsStored}
-use Rattle.fx_frame_stage.specs.Stage.{Gave, Took, Freezes, numbers_of}
+use Rattle.fx_frame_base.specs.Stage.{Gave, Took, Freezes, numbers_of}
 use Rattle.fx_frame.specs.Tapped.{by_name}
 use Rattle.fx_frame.specs.History.{sample_before}
 use Rattle.fx_frame.proofs.Counts.{flag-false, flag-of, flag-true}
 use Rattle.fx_tap_fir.specs.Fir.{FirArguments, centre, filtered_frame, filtered_at, filtered}
 use Rattle.fx_tap_fir.specs.FirState.{AreFirCounts, FirState, IsFir, fir_after, fir_tail, fir_acts, arguments_of}
-use Rattle.fx_frame_lists.specs.Lists.{tabulate}
-use Rattle.fx_tap_convolve.specs.Products.{sum_of_products}
-use Rattle.fx_frame_stage.specs.Given.{given_samples}
+use Rattle.fx_frame_base.specs.Lists.{tabulate}
+use Rattle.fx_tap_sums.specs.Products.{sum_of_products}
+use Rattle.fx_frame_base.specs.Given.{given_samples}
 use Rattle.fx_fixed.specs.Rounding.{rounding}
 use Rattle.fx_fixed.specs.declared.gains.TheConstants.{UNIT}
 use Rattle.fx_frame.proofs.DryLaws.{dry-pending, dry-tail}
 use Rattle.fx_frame.proofs.DelayLaws.{sample_before-append, sample_before-drop}
-use Rattle.fx_frame_lists.proofs.Tabulate.{tabulate-same}
-use Rattle.fx_frame_stage.proofs.Flags.{flag-le}
+use Rattle.fx_frame_base.proofs.Tabulate.{tabulate-same}
+use Rattle.fx_frame_base.proofs.Flags.{flag-le}
 
 -- ---- a window
 

@@ -6,8 +6,8 @@ use Rattle.std.proofs.lemmas.Grind.{get_or-set_at}
 use Rattle.std.proofs.lemmas.Int.{ints}
 use Rattle.std.proofs.lemmas.List.{get_or-set_other}
 use Rattle.fx_tap_fir.specs.Split.{AddUpTo, joined_split}
-use Rattle.fx_tap_convolve.specs.Products.{sum_of_products}
-use Rattle.fx_tap_convolve.proofs.Numbers.{mul-add, mul_assoc}
+use Rattle.fx_tap_sums.specs.Products.{sum_of_products}
+use Rattle.fx_tap_sums.proofs.Numbers.{mul-add, mul_assoc}
 use Rattle.std.proofs.Math.IntN.{*ℤ_comm}
 
 -- one product more, in parts

@@ -6,13 +6,13 @@ use Rattle.std.proofs.lemmas.Bool.Decides.{nat_tests}
 use Rattle.std.proofs.lemmas.List.{reverse-append, length-reverse}
 use Rattle.fx_fixed.specs.Rounding.{rounding}
 use Rattle.fx_fixed.specs.declared.gains.TheConstants.{UNIT}
-use Rattle.fx_frame_stage.specs.Frame.{Samples}
+use Rattle.fx_frame_base.specs.Frame.{Samples}
 use Rattle.fx_frame_line.specs.Line.{channel_of}
 use Rattle.fx_tap_fir.specs.Fir.{samples_back, filtered_sample}
 use Rattle.fx_tap_fir.specs.FirState.{samples_of_window}
-use Rattle.fx_frame_lists.specs.Lists.{tabulate}
-use Rattle.fx_tap_convolve.specs.Products.{sum_of_products}
-use Rattle.fx_frame_lists.proofs.Tabulate.{tabulate-append, tabulate-same, length-tabulate}
+use Rattle.fx_frame_base.specs.Lists.{tabulate}
+use Rattle.fx_tap_sums.specs.Products.{sum_of_products}
+use Rattle.fx_frame_base.proofs.Tabulate.{tabulate-append, tabulate-same, length-tabulate}
 
 -- one product more
 pub sum_of_products-more : (xs cs : List ℤ) (x c : ℤ) → length xs ≡ length cs → sum_of_products (xs ++ x ∷ []) (cs ++ c ∷ []) ≡ (x *ℤ c) +ℤ sum_of_products xs cs

@@ -1,15 +1,14 @@
 -- The effect `fir` (sox(1), EFFECTS, fir): each sample is a sum of the samples around it, times the coefficients. That the
 -- sum is centred, so that the output has no delay, and rounding and clips are this project's profile.
-use Rattle.std.specs.Prelude.{ℕ, ℤ, ◌+◌, ◌-◌, ◌/◌, Bool, None, List, length}
+use Rattle.std.specs.Prelude.{ℕ, ℤ, ◌+◌, ◌-◌, ◌/◌, Bool, None, List, length, ◌^◌}
 use Rattle.fx_fixed.specs.Rounding.{rounding}
-use Rattle.fx_fixed.specs.declared.gains.TheConstants.{UNIT}
-use Rattle.fx_frame_stage.specs.Frame.{Samples}
-use Rattle.fx_frame_stage.specs.Stage.{Given, StageKind}
+use Rattle.fx_frame_base.specs.Frame.{Samples}
+use Rattle.fx_frame_base.specs.Stage.{Given, StageKind}
 use Rattle.fx_frame.specs.History.{sample_before}
-use Rattle.fx_frame_lists.specs.Lists.{tabulate}
+use Rattle.fx_frame_base.specs.Lists.{tabulate}
 use Rattle.fx_frame.specs.Kinds.{max_taken}
-use Rattle.fx_tap_convolve.specs.Products.{sum_of_products}
-use Rattle.fx_frame_stage.specs.Given.{given_samples}
+use Rattle.fx_tap_sums.specs.Products.{sum_of_products}
+use Rattle.fx_frame_base.specs.Given.{given_samples}
 
 -- what a `Fir` is made with: its channels, and its coefficients in trillionths
 pub record FirArguments : Type 0 where
@@ -26,7 +25,7 @@ samples_back x m channel count = tabulate (λ k. sample_before x m k channel) 0 
 
 -- the sum of h_k * x[m - k] of a channel, rounded
 abbrev pub filtered_sample : List ℤ → List Samples → ℕ → ℕ → ℤ × Bool
-filtered_sample h x m channel = rounding (sum_of_products (samples_back x m channel (length h)) h) UNIT
+filtered_sample h x m channel = rounding (sum_of_products (samples_back x m channel (length h)) h) (10 ^ 12)
 
 -- those of all channels
 abbrev pub filtered_frame : FirArguments → List Samples → ℕ → Given

@@ -3,15 +3,15 @@ use Rattle.std.specs.Prelude.{ℕ, ℤ, pos, ◌+◌, ◌-◌, ◌*◌, ◌^◌,
 use Rattle.std.specs.Int.{w32}
 use Rattle.fx_fixed.specs.Rounding.{rounding}
 use Rattle.fx_fixed.specs.declared.gains.TheConstants.{UNIT}
-use Rattle.fx_frame_stage.specs.Frame.{Samples}
-use Rattle.fx_frame_stage.specs.PendingFrame.{IsPending}
+use Rattle.fx_frame_base.specs.Frame.{Samples}
+use Rattle.fx_frame_base.specs.PendingFrame.{IsPending}
 use Rattle.fx_frame_line.specs.Line.{Frames, IsLine}
-use Rattle.fx_frame_stage.specs.Stage.{Given, Acts}
+use Rattle.fx_frame_base.specs.Stage.{Given, Acts}
 use Rattle.fx_frame.specs.Tapped.{TailNumbers, Taps}
-use Rattle.fx_frame_lists.specs.Lists.{tabulate}
+use Rattle.fx_frame_base.specs.Lists.{tabulate}
 use Rattle.fx_frame.specs.Kinds.{max_taken}
-use Rattle.fx_tap_convolve.specs.Products.{sum_of_products}
-use Rattle.fx_frame_stage.specs.Given.{given_samples}
+use Rattle.fx_tap_sums.specs.Products.{sum_of_products}
+use Rattle.fx_frame_base.specs.Given.{given_samples}
 use Rattle.fx_tap_fir.specs.Fir.{FirArguments, centre, filtered_at, filtered, fir_kind}
 
 -- `count` samples of a window from place m on backwards; outside of it there is silence

@@ -1,6 +1,6 @@
 -- Coefficients in two parts.
 use Rattle.std.specs.Prelude.{◌≡◌, List, ℤ, pos, ◌+ℤ◌, ◌*ℤ◌, length}
-use Rattle.fx_tap_convolve.specs.Products.{sum_of_products}
+use Rattle.fx_tap_sums.specs.Products.{sum_of_products}
 
 -- the high parts of coefficients, and the low ones
 pub record SplitParts : Type 0 where

@@ -1,7 +1,7 @@
 //! One channel of frames whose samples lie one after another.
 ghost use Rattle.std.specs.Prelude.{◌≡◌, ◌<◌, ◌≤◌, ◌*◌, pos, length};
 ghost use Rattle.fx_frame_line.specs.Line.{channel_of};
-ghost use Rattle.fx_frame_lists.specs.Lists.{pieces};
+ghost use Rattle.fx_frame_base.specs.Lists.{pieces};
 
 /// Fills the places with one channel of as many frames.
 #[inline(always)]

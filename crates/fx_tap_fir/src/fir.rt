@@ -1,9 +1,9 @@
 //! The effect `fir` of sox(1): each sample is a sum of the samples around it, times the coefficients.
 ghost use Rattle.std.specs.Prelude.{◌≡◌, ◌↔◌, true, ◌+◌, ◌-◌, ◌*◌, ◌^◌, ◌<◌, ◌≤◌, ◌++◌, length, reverse, drop, pos, All, IfOk, Err, MatchResult, cond, min, nat_eq};
-ghost use Rattle.fx_frame_stage.specs.Frame.{IsFrame};
+ghost use Rattle.fx_frame_base.specs.Frame.{IsFrame};
 ghost use Rattle.fx_frame_line.specs.Line.{channel_of};
-ghost use Rattle.fx_frame_lists.specs.Lists.{pieces};
-ghost use Rattle.fx_frame_stage.specs.Stage.{Freezes, IsNew};
+ghost use Rattle.fx_frame_base.specs.Lists.{pieces};
+ghost use Rattle.fx_frame_base.specs.Stage.{Freezes, IsNew};
 ghost use Rattle.fx_tap_fir.specs.Fir.{FirArguments, centre, filtered_frame, filtered_sample};
 ghost use Rattle.fx_tap_fir.specs.FirState.{AreFirCounts, FirState, IsFir, fir_acts, fir_taps};
 ghost use Rattle.fx_frame.specs.Tapped.{by_name, clips_after, frames_after, last_of};
@@ -15,8 +15,8 @@ use crate::kernel::Kernel;
 use fx_fixed::Gain;
 use fx_frame::frozen::{stored_in, thawed_line_and_pending};
 use fx_frame::{Counters, Feeds, Frame, Line, Passed, Passing, Stage, ThawFault, WideFrame};
-use fx_frame_stage::feed::{feed_by_frames, frame_at};
-use fx_frame_stage::stage::MAX_TAKEN;
+use fx_frame_base::feed::{feed_by_frames, frame_at};
+use fx_frame_base::stage::MAX_TAKEN;
 use std::alloc::{AllocError, Global};
 use std::marker::Model;
 

@@ -4,15 +4,14 @@ ghost use Rattle.fx_fixed.specs.Rounding.{rounding};
 ghost use Rattle.fx_tap_fir.specs.FirState.{samples_of_window};
 ghost use Rattle.fx_tap_sums.specs.SmallWeights.{SumsAs};
 ghost use Rattle.fx_tap_fir.specs.Split.{AddUpTo};
-ghost use Rattle.fx_frame_lists.specs.Lists.{IsOtherPlace, tabulate};
-ghost use Rattle.fx_tap_convolve.specs.Products.{sum_of_products};
-ghost use Rattle.fx_frame_lists.specs.Rounded.{clips_rounded};
+ghost use Rattle.fx_frame_base.specs.Lists.{IsOtherPlace, tabulate};
+ghost use Rattle.fx_tap_sums.specs.Products.{sum_of_products};
+ghost use Rattle.fx_frame_base.specs.Rounded.{clips_rounded};
 
 use crate::reduced::{Reduced, SUMS_OF_PIECE, max_by_transforms};
 use crate::split::Split;
 use fx_fixed::{Gain, UNIT, round_clip};
-use fx_tap_convolve::dot;
-use fx_tap_sums::round_channel;
+use fx_tap_sums::{dot, round_channel};
 use std::alloc::{AllocError, Global};
 use std::marker::Model;
 

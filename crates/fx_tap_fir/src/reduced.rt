@@ -2,12 +2,12 @@
 ghost use Rattle.std.specs.Prelude.{◌≡◌, ◌<◌, ◌≤◌, ◌+◌, ◌^◌, ℕ, pos, drop, length, slice_index_or, unsigned_abs, IfOk, IfSome};
 ghost use Rattle.fx_fixed.specs.Rounding.{rounding};
 ghost use Rattle.fx_tap_sums.specs.SmallWeights.{SumsAs};
-ghost use Rattle.fx_tap_convolve.specs.Products.{sum_of_products};
+ghost use Rattle.fx_tap_sums.specs.Products.{sum_of_products};
 
 use fx_fixed::inner::Denominator;
-use fx_tap_convolve::convolve::{convolve, small_dot};
-use fx_tap_convolve::transforms::Spectrum;
+use fx_tap_sums::convolve::{convolve, small_dot};
 use fx_tap_sums::small::{Small, small_of};
+use fx_tap_sums::transforms::Spectrum;
 use std::alloc::{AllocError, Global};
 use std::marker::Model;
 

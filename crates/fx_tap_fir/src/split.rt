@@ -2,14 +2,14 @@
 ghost use Rattle.std.specs.Prelude.{◌≡◌, ◌<◌, ◌≤◌, ◌+◌, ◌*◌, ◌^◌, ℕ, pos, neg_ℤ, ◌≤ℤ◌, drop, length, slice_index_or, unsigned_abs, All, IfOk, IfSome};
 ghost use Rattle.fx_fixed.specs.Rounding.{rounding};
 ghost use Rattle.fx_fixed.specs.declared.gains.TheConstants.{UNIT};
-ghost use Rattle.fx_frame_lists.specs.Lists.{IsOtherPlace, tabulate};
-ghost use Rattle.fx_frame_lists.specs.Rounded.{clips_rounded};
+ghost use Rattle.fx_frame_base.specs.Lists.{IsOtherPlace, tabulate};
+ghost use Rattle.fx_frame_base.specs.Rounded.{clips_rounded};
 ghost use Rattle.fx_tap_fir.specs.Split.{AddUpTo, joined_split};
-ghost use Rattle.fx_tap_convolve.specs.Products.{sum_of_products};
+ghost use Rattle.fx_tap_sums.specs.Products.{sum_of_products};
 
 use crate::kernel::rounded;
 use crate::reduced::MAX_SUMS;
-use fx_tap_convolve::transforms::Spectrum;
+use fx_tap_sums::transforms::Spectrum;
 use std::alloc::{AllocError, Global};
 use std::marker::Model;
 

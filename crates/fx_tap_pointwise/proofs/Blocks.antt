@@ -4,18 +4,18 @@ use Rattle.std.specs.Prelude.{ℤ, None, Option, Some, is_none, true}
 use Rattle.std.specs.List.{All}
 use Rattle.std.proofs.lemmas.List.Elements.{All-head, All-tail}
 use Rattle.std.proofs.lemmas.List.{map-append, length-map, length-take-le}
-use Rattle.fx_frame_stage.specs.declared.feed.Passing.TheVariants.{Through}
-use Rattle.fx_frame_stage.specs.Feed.{Fed, GaveNext, PassedOn, TookNext, nothing, taken, given}
-use Rattle.fx_frame_stage.specs.Frame.{Samples}
-use Rattle.fx_frame_lists.specs.Lists.{pieces}
-use Rattle.fx_frame_stage.specs.Pipeline.{EachThrough}
-use Rattle.fx_frame_stage.specs.Stage.{Acts, Given, IsDry}
-use Rattle.fx_frame_stage.proofs.FedLaws.{Fed-then, total-append}
-use Rattle.fx_frame_lists.proofs.Puts.{pieces-take}
-use Rattle.fx_frame_lists.proofs.Pieces.{length-pieces, pieces-front}
+use Rattle.fx_frame_base.specs.declared.feed.Passing.TheVariants.{Through}
+use Rattle.fx_frame_base.specs.Feed.{Fed, GaveNext, PassedOn, TookNext, nothing, taken, given}
+use Rattle.fx_frame_base.specs.Frame.{Samples}
+use Rattle.fx_frame_base.specs.Lists.{pieces}
+use Rattle.fx_frame_base.specs.Pipeline.{EachThrough}
+use Rattle.fx_frame_base.specs.Stage.{Acts, Given, IsDry}
+use Rattle.fx_frame_base.proofs.FedLaws.{Fed-then, total-append}
+use Rattle.fx_frame_base.proofs.Puts.{pieces-take}
+use Rattle.fx_frame_base.proofs.Pieces.{length-pieces, pieces-front}
 use Rattle.fx_tap_pointwise.specs.Mapped.{IsMapState, MapState, map_acts}
 use Rattle.fx_frame.specs.Made.{clips_in, made_of, rounded_given}
-use Rattle.fx_frame_lists.specs.Rounded.{samples_of}
+use Rattle.fx_frame_base.specs.Rounded.{samples_of}
 use Rattle.fx_frame.proofs.SamplePieces.{pieces-samples, pieces-sides}
 
 -- the same where the samples are those of so many frames, and others lie behind

@@ -3,11 +3,11 @@ use Rattle.std.proofs.Common.{◌≡◌, ◌*◌, ◌≤◌, ◌∙◌, ℕ, Lis
 use Rattle.std.specs.Prelude.{ℤ}
 use Rattle.std.specs.List.{All}
 use Rattle.std.proofs.lemmas.List.{length-append, length-map, length-take-le, take_all}
-use Rattle.fx_frame_stage.specs.Frame.{Samples}
-use Rattle.fx_frame_lists.specs.Lists.{pieces}
-use Rattle.fx_frame_lists.specs.Rounded.{clips_rounded, samples_of}
-use Rattle.fx_frame_lists.proofs.Puts.{pieces-take}
-use Rattle.fx_frame_lists.proofs.Pieces.{length-pieces, pieces-front}
+use Rattle.fx_frame_base.specs.Frame.{Samples}
+use Rattle.fx_frame_base.specs.Lists.{pieces}
+use Rattle.fx_frame_base.specs.Rounded.{clips_rounded, samples_of}
+use Rattle.fx_frame_base.proofs.Puts.{pieces-take}
+use Rattle.fx_frame_base.proofs.Pieces.{length-pieces, pieces-front}
 use Rattle.fx_frame.specs.Made.{clips_in, made_of, rounded_given}
 use Rattle.fx_frame.proofs.SamplePieces.{clips-samples, pieces-samples, pieces-sides}
 

@@ -9,7 +9,7 @@ use Rattle.fx_fixed.specs.Reduced.{IsReduced}
 use Rattle.fx_fixed.specs.declared.gains.TheConstants.{UNIT}
 use Rattle.fx_fixed.proofs.Reductions.{rounding-reduced}
 use Rattle.fx_tap_pointwise.specs.Fractions.{Ratio, Rounds, fraction_sample}
-use Rattle.fx_tap_convolve.proofs.Numbers.{mul_assoc, below-positive, one-times}
+use Rattle.fx_tap_sums.proofs.Numbers.{mul_assoc, below-positive, one-times}
 
 -- the weight is that of the reduced gain
 pub reduced-rounds : (gain g : ℤ) (whole : ℕ) (weights : List ℤ) (f : Ratio) → g ≡ gain → whole ≡ UNIT → f.weight ≡ get_or weights 0 (pos 0) → IsReduced (pos 1) whole (g ∷ []) weights f.denominator → Rounds gain f

@@ -1,12 +1,12 @@
 -- What a stage that maps each frame alone counted, where it froze.
 use Rattle.std.proofs.Common.{ℕ, ◌≡◌, ◌+◌, ◌*◌, ◌≤◌, Option, Some, None, List, length, refl, sym, ap, ◌∙◌}
 use Rattle.std.specs.Prelude.{nat_eq, option_to_list, slice_index_or}
-use Rattle.fx_frame_stage.specs.Frame.{Samples}
-use Rattle.fx_frame_stage.specs.Stage.{Freezes, Given}
+use Rattle.fx_frame_base.specs.Frame.{Samples}
+use Rattle.fx_frame_base.specs.Stage.{Freezes, Given}
 use Rattle.fx_tap_pointwise.specs.Mapped.{IsMapState, MapState, map_acts}
 use Rattle.fx_frame.specs.Kinds.{max_taken}
 use Rattle.fx_frame.proofs.Counts.{flag-of, flag-true}
-use Rattle.fx_frame_stage.proofs.Flags.{flag-le}
+use Rattle.fx_frame_base.proofs.Flags.{flag-le}
 
 -- what holds of the eight numbers of a stage that stores so many frames
 pub record AreMapCounts (stored : ℕ) (ns : List ℕ) : Type 0 where

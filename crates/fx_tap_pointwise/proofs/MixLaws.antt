@@ -7,7 +7,7 @@ use mathlib.Core.Path.{ap₂}
 use Rattle.std.proofs.lemmas.Int.{ints}
 use Rattle.std.proofs.lemmas.List.{drop_all, get_or-map, length-map}
 use Rattle.std.proofs.lemmas.List.Sums.{sum_by-cons}
-use Rattle.fx_frame_stage.specs.Frame.{Samples}
+use Rattle.fx_frame_base.specs.Frame.{Samples}
 use Rattle.fx_tap_pointwise.specs.declared.remix.Contribution.{Contribution}
 use Rattle.std.specs.List.{All}
 use Rattle.std.proofs.lemmas.List.Elements.{All-head, All-tail}
@@ -16,12 +16,12 @@ use Rattle.fx_fixed.proofs.Reductions.{rounding-reduced}
 use Rattle.fx_fixed.specs.declared.gains.TheConstants.{UNIT}
 use Rattle.fx_tap_pointwise.specs.declared.out_spec.Weight.{Weight}
 use Rattle.fx_tap_sums.specs.Weights.{Weights}
-use Rattle.fx_frame_lists.specs.Lists.{tabulate}
+use Rattle.fx_frame_base.specs.Lists.{tabulate}
 use Rattle.fx_tap_pointwise.specs.Mix.{Copies, IsContribution, Means, Scales, all_parts, pair_of}
-use Rattle.fx_tap_convolve.specs.Products.{sum_of_products}
-use Rattle.fx_frame_lists.specs.Rounded.{clips_rounded}
+use Rattle.fx_tap_sums.specs.Products.{sum_of_products}
+use Rattle.fx_frame_base.specs.Rounded.{clips_rounded}
 use Rattle.fx_tap_sums.specs.SmallWeights.{SumsAs}
-use Rattle.fx_tap_convolve.proofs.Convolving.{Adding, Adding-next}
+use Rattle.fx_tap_sums.proofs.Convolving.{Adding, Adding-next}
 use Rattle.fx_tap_sums.proofs.KernelLaws.{rounded-as}
 use Rattle.fx_tap_pointwise.specs.Remix.{mixed_parts, remix_parts, remixed_sample}
 use Rattle.fx_tap_pointwise.specs.Vol.{scaled_sample}

@@ -2,19 +2,19 @@
 use Rattle.std.proofs.Common.{◌≡◌, ◌+◌, ◌*◌, ◌<◌, ◌≤◌, ◌^◌, ◌+ℤ◌, ◌*ℤ◌, unsigned_abs, ℕ, ℤ, suc, pos, List, [], ◌∷◌, length, get_or, map, refl, sym, ap, ◌∙◌, arith, add-zero, zero-add}
 use Rattle.std.proofs.lemmas.Int.{ints}
 use Rattle.std.proofs.lemmas.List.{get_or_past}
-use Rattle.fx_frame_stage.specs.Frame.{Samples}
-use Rattle.fx_frame_lists.specs.Lists.{pieces, tabulate}
-use Rattle.fx_frame_lists.proofs.Pieces.{get_or-piece, length-pieces}
+use Rattle.fx_frame_base.specs.Frame.{Samples}
+use Rattle.fx_frame_base.specs.Lists.{pieces, tabulate}
+use Rattle.fx_frame_base.proofs.Pieces.{get_or-piece, length-pieces}
 use Rattle.fx_tap_pointwise.specs.declared.remix.Contribution.{Contribution}
 use Rattle.fx_frame.specs.Made.{clips_in, made_of}
 use Rattle.fx_tap_pointwise.specs.Mix.{pair_of}
 use Rattle.fx_tap_pointwise.specs.Remix.{Contributions, remixed_frame, remixed_sample}
-use Rattle.fx_frame_lists.specs.Rounded.{clips_rounded, samples_of}
+use Rattle.fx_frame_base.specs.Rounded.{clips_rounded, samples_of}
 use Rattle.fx_frame.proofs.SamplePieces.{pieces-sides}
-use Rattle.fx_tap_convolve.proofs.Convolving.{Adding}
+use Rattle.fx_tap_sums.proofs.Convolving.{Adding}
 use Rattle.fx_frame.proofs.Tables.{all_clips, pieces-table, samples_of-tabulate, map-table}
 use Rattle.fx_tap_pointwise.proofs.MixLaws.{gathered, mixing-next}
-use Rattle.fx_frame_lists.proofs.Tabulate.{tabulate-same}
+use Rattle.fx_frame_base.proofs.Tabulate.{tabulate-same}
 
 -- the samples of a frame, channel by channel
 outs-table : (outs : List Contributions) (x : Samples) → map (λ o. remixed_sample o x) outs ≡ tabulate (λ k. remixed_sample (get_or outs k []) x) 0 (length outs)

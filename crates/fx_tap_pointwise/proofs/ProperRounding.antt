@@ -10,8 +10,8 @@ use Rattle.fx_fixed.specs.Rounding.{clipping, nearest, nearest_natural}
 use Rattle.fx_fixed.proofs.Signs.{nearest-neg}
 use Rattle.fx_fixed.proofs.AtMostWhole.{not-clipped}
 use Rattle.fx_tap_pointwise.specs.Fractions.{IsProperFraction}
-use Rattle.fx_tap_convolve.proofs.SmallSums.{plain-product-64}
-use Rattle.fx_tap_convolve.proofs.Magnitudes.{scaled-bound}
+use Rattle.fx_tap_sums.proofs.SmallSums.{plain-product-64}
+use Rattle.fx_tap_sums.proofs.Magnitudes.{scaled-bound}
 
 -- a shift by 31 places rounds down
 floors : (z : ℤ) → ((pos (2 ^ 31) *ℤ shr_z z (2 ^ 31)) ≤ℤ z) × (z <ℤ ((pos (2 ^ 31) *ℤ shr_z z (2 ^ 31)) +ℤ pos (2 ^ 31)))

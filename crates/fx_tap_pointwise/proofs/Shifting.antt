@@ -7,7 +7,7 @@ use Rattle.fx_tap_pointwise.specs.DcShiftState.{floor_of, over_of, steps_of, lea
 use Rattle.std.proofs.lemmas.Int.{ints}
 use Rattle.fx_fixed.specs.Rounding.{nearest_natural, nearest, signed}
 use Rattle.fx_fixed.proofs.Signs.{nearest-neg, none_below_zero}
-use Rattle.fx_tap_convolve.proofs.Numbers.{add-mul}
+use Rattle.fx_tap_sums.proofs.Numbers.{add-mul}
 
 -- a quotient whose rest is known
 quotient-is : (n u k rest : ℕ) → rest < u → n ≡ u * k + rest → n / u ≡ k

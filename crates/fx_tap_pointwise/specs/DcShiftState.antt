@@ -1,7 +1,7 @@
 -- How the stages of `dcshift` behave, and a shift in whole steps and a half (this project's profile).
 use Rattle.std.specs.Prelude.{ℕ, ◌*◌, ◌==◌, nat_lt, ℤ, pos, ◌+ℤ◌, unsigned_abs, if◌then◌else◌, int_lt, Bool, not, ◌&&◌}
 use Rattle.std.specs.Int.{int_div_euclid, int_rem_euclid}
-use Rattle.fx_frame_stage.specs.Stage.{Acts}
+use Rattle.fx_frame_base.specs.Stage.{Acts}
 use Rattle.fx_tap_pointwise.specs.Mapped.{MapState}
 use Rattle.fx_tap_pointwise.specs.PerSample.{SampleArguments}
 use Rattle.fx_tap_pointwise.specs.PerSampleState.{sample_acts}

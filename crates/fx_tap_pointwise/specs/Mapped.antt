@@ -1,8 +1,8 @@
 -- The stage of a memoryless effect (this project's profile).
 use Rattle.std.specs.Prelude.{ℕ, ◌+◌, ◌*◌, ◌≤◌, ◌≡◌, Bool, true, List, ◌++◌, Option, length, map, option_to_list, is_none}
-use Rattle.fx_frame_stage.specs.Frame.{Samples}
-use Rattle.fx_frame_stage.specs.PendingFrame.{IsPending}
-use Rattle.fx_frame_stage.specs.Stage.{Given, Acts, coming}
+use Rattle.fx_frame_base.specs.Frame.{Samples}
+use Rattle.fx_frame_base.specs.PendingFrame.{IsPending}
+use Rattle.fx_frame_base.specs.Stage.{Given, Acts, coming}
 use Rattle.fx_frame.specs.Kinds.{map_kind, max_taken}
 
 -- what such a stage stores

@@ -1,6 +1,6 @@
 -- Effects that round each sample alone, the same in every channel (this project's profile).
 use Rattle.std.specs.Prelude.{ℕ}
-use Rattle.fx_frame_stage.specs.Stage.{StageKind}
+use Rattle.fx_frame_base.specs.Stage.{StageKind}
 use Rattle.fx_frame.specs.Kinds.{map_kind}
 
 -- what such an effect is made with

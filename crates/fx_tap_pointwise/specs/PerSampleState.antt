@@ -1,6 +1,6 @@
 -- How the stages of effects behave that round each sample alone (this project's profile).
 use Rattle.std.specs.Prelude.{ℤ, Bool}
-use Rattle.fx_frame_stage.specs.Stage.{Acts}
+use Rattle.fx_frame_base.specs.Stage.{Acts}
 use Rattle.fx_tap_pointwise.specs.Mapped.{MapState, map_acts}
 use Rattle.fx_tap_pointwise.specs.PerSample.{SampleArguments}
 use Rattle.fx_frame.specs.Made.{rounded_given}

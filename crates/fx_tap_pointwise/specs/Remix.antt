@@ -1,11 +1,10 @@
 -- The effect `remix` (sox(1), EFFECTS, remix): each channel of the output is a sum of channels of the input, each times a
 -- weight. That a share is an exact fraction, rounding and clips are this project's profile.
-use Rattle.std.specs.Prelude.{ℕ, ℤ, pos, ◌*◌, ◌+ℤ◌, ◌*ℤ◌, ◌≤◌, Bool, false, List, [], ◌∷◌, length, map, slice_index_or}
+use Rattle.std.specs.Prelude.{ℕ, ℤ, pos, ◌*◌, ◌+ℤ◌, ◌*ℤ◌, ◌≤◌, Bool, false, List, [], ◌∷◌, length, map, slice_index_or, ◌^◌}
 use Rattle.fx_fixed.specs.Rounding.{rounding}
-use Rattle.fx_fixed.specs.declared.gains.TheConstants.{UNIT}
-use Rattle.fx_frame_stage.specs.Frame.{Samples}
-use Rattle.fx_frame_stage.specs.Stage.{Given as GivenFrame, StageKind}
-use Rattle.fx_frame_stage.specs.Given.{given_samples}
+use Rattle.fx_frame_base.specs.Frame.{Samples}
+use Rattle.fx_frame_base.specs.Stage.{Given as GivenFrame, StageKind}
+use Rattle.fx_frame_base.specs.Given.{given_samples}
 use Rattle.fx_tap_pointwise.specs.declared.out_spec.Weight.{Weight}
 use Rattle.fx_tap_pointwise.specs.declared.out_spec.Weight.TheVariants.{Given, Share, One}
 use Rattle.fx_frame.specs.Kinds.{map_kind}
@@ -14,11 +13,11 @@ use Rattle.fx_frame.specs.Kinds.{map_kind}
 abbrev pub Contributions : Type 0
 Contributions = List (ℕ × Weight)
 
--- a weight among n contributions in parts, n * UNIT of which are one
+-- a weight among n contributions in parts, n * 10 ^ 12 of which are one
 abbrev pub remix_parts : ℕ → Weight → ℤ
 remix_parts n (Given gain) = pos n *ℤ gain
-remix_parts n Share = pos UNIT
-remix_parts n One = pos (n * UNIT)
+remix_parts n Share = pos (10 ^ 12)
+remix_parts n One = pos (n * 10 ^ 12)
 
 -- the channels times their weights, in such parts, added
 abbrev pub mixed_parts : ℕ → Contributions → Samples → ℤ
@@ -28,7 +27,7 @@ mixed_parts n (c ∷ cs) frame = (remix_parts n c.1 *ℤ slice_index_or frame c.
 -- the sample of an output channel: silence where nothing contributes, else one exact fraction, rounded once
 abbrev pub remixed_sample : Contributions → Samples → ℤ × Bool
 remixed_sample [] frame = (pos 0, false)
-remixed_sample (c ∷ cs) frame = rounding (mixed_parts (length (c ∷ cs)) (c ∷ cs) frame) (length (c ∷ cs) * UNIT)
+remixed_sample (c ∷ cs) frame = rounding (mixed_parts (length (c ∷ cs)) (c ∷ cs) frame) (length (c ∷ cs) * 10 ^ 12)
 
 -- the frame with one sample for each output channel
 abbrev pub remixed_frame : List Contributions → Samples → GivenFrame

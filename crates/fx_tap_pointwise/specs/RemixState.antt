@@ -1,6 +1,6 @@
 -- How the stages of `remix` behave (this project's profile).
 use Rattle.std.specs.Prelude.{length}
-use Rattle.fx_frame_stage.specs.Stage.{Acts}
+use Rattle.fx_frame_base.specs.Stage.{Acts}
 use Rattle.fx_tap_pointwise.specs.Mapped.{MapState, map_acts}
 use Rattle.fx_tap_pointwise.specs.Remix.{remixed_frame, RemixArguments, remix_meaning}
 

@@ -1,6 +1,6 @@
 -- How the stages of `vol` behave (this project's profile).
 use Rattle.std.specs.Prelude.{ℤ}
-use Rattle.fx_frame_stage.specs.Stage.{Acts}
+use Rattle.fx_frame_base.specs.Stage.{Acts}
 use Rattle.fx_tap_pointwise.specs.Mapped.{MapState}
 use Rattle.fx_tap_pointwise.specs.PerSample.{SampleArguments}
 use Rattle.fx_tap_pointwise.specs.PerSampleState.{sample_acts}

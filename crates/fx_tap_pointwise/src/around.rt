@@ -3,15 +3,15 @@
 ghost use Rattle.std.specs.Prelude.{◌≡◌, ◌+◌, ◌*◌, ◌^◌, ◌≤◌, List, FitsSigned, None, false, drop, length, take};
 ghost use Rattle.std.specs.Int.{w32};
 ghost use Rattle.std.specs.List.{All};
-ghost use Rattle.fx_frame_stage.specs.Frame.{Samples};
-ghost use Rattle.fx_frame_lists.specs.Lists.{pieces};
-ghost use Rattle.fx_frame_stage.specs.Pipeline.{EachThrough};
+ghost use Rattle.fx_frame_base.specs.Frame.{Samples};
+ghost use Rattle.fx_frame_base.specs.Lists.{pieces};
+ghost use Rattle.fx_frame_base.specs.Pipeline.{EachThrough};
 ghost use Rattle.fx_frame.specs.Made.{clips_in, made_of};
 ghost use Rattle.fx_tap_pointwise.specs.Mapped.{map_acts};
 ghost use Rattle.fx_frame.specs.Kinds.{max_taken};
 
 use crate::mapped::{Mapped, Mapping};
-use fx_frame_stage::feed::see_samples;
+use fx_frame_base::feed::see_samples;
 
 /// The channels of the frames that go in, and of those that come out.
 #[derive(Clone, Copy)]

@@ -2,10 +2,10 @@
 ghost use Rattle.std.specs.Prelude.{◌≡◌, ◌+◌, ◌*◌, ◌≤◌, List, FitsSigned, None, false, drop, length, map, take};
 ghost use Rattle.std.specs.Int.{w32};
 ghost use Rattle.std.specs.List.{All};
-ghost use Rattle.fx_frame_stage.specs.Frame.{Samples};
-ghost use Rattle.fx_frame_lists.specs.Lists.{pieces};
-ghost use Rattle.fx_frame_lists.specs.Rounded.{clips_rounded, samples_of};
-ghost use Rattle.fx_frame_stage.specs.Pipeline.{EachThrough};
+ghost use Rattle.fx_frame_base.specs.Frame.{Samples};
+ghost use Rattle.fx_frame_base.specs.Lists.{pieces};
+ghost use Rattle.fx_frame_base.specs.Rounded.{clips_rounded, samples_of};
+ghost use Rattle.fx_frame_base.specs.Pipeline.{EachThrough};
 ghost use Rattle.fx_frame.specs.Kinds.{max_taken};
 ghost use Rattle.fx_tap_pointwise.specs.PerSampleState.{sample_acts};
 

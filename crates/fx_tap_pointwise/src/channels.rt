@@ -2,8 +2,8 @@
 ghost use Rattle.std.specs.Prelude.{◌≡◌, ◌<◌, ◌≤◌, ◌+◌, ◌-◌, ◌*◌, ◌^◌, ◌+ℤ◌, ◌*ℤ◌, ◌≤ℤ◌, false, ℕ, pos, neg_ℤ, length, slice_index_or, unsigned_abs, FitsSigned};
 ghost use Rattle.std.specs.Int.{w32};
 ghost use Rattle.fx_fixed.specs.Rounding.{rounding};
-ghost use Rattle.fx_frame_lists.specs.Lists.{IsOtherPlace, tabulate};
-ghost use Rattle.fx_frame_lists.specs.Rounded.{clips_rounded};
+ghost use Rattle.fx_frame_base.specs.Lists.{IsOtherPlace, tabulate};
+ghost use Rattle.fx_frame_base.specs.Rounded.{clips_rounded};
 
 use crate::per_sample::Sampling;
 

@@ -1,7 +1,7 @@
 //! The effect `dcshift` of sox(1): each sample plus a shift.
 ghost use Rattle.std.specs.Prelude.{◌≡◌, ◌*◌, ◌^◌, ◌≤◌, ℤ, unsigned_abs, Ok, IfOk, IfErr};
 ghost use Rattle.fx_fixed.specs.Rounding.{clipping};
-ghost use Rattle.fx_frame_stage.specs.Stage.{Freezes, IsNew};
+ghost use Rattle.fx_frame_base.specs.Stage.{Freezes, IsNew};
 ghost use Rattle.fx_tap_pointwise.specs.Mapped.{IsMapState, MapState};
 ghost use Rattle.fx_tap_pointwise.specs.PerSample.{SampleArguments};
 ghost use Rattle.fx_tap_pointwise.specs.DcShift.{shifted_sample};

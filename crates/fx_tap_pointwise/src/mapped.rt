@@ -1,14 +1,14 @@
 //! Memoryless effects: one frame out for each frame in, and no line.
 ghost use Rattle.std.specs.Prelude.{◌≡◌, ◌≤◌, ◌*◌, ◌^◌, ℕ, drop, length, Ok, IfOk, IfErr};
-ghost use Rattle.fx_frame_stage.specs.Frame.{Samples};
-ghost use Rattle.fx_frame_lists.specs.Lists.{pieces};
-ghost use Rattle.fx_frame_stage.specs.Stage.{Freezes, Given, IsNew};
+ghost use Rattle.fx_frame_base.specs.Frame.{Samples};
+ghost use Rattle.fx_frame_base.specs.Lists.{pieces};
+ghost use Rattle.fx_frame_base.specs.Stage.{Freezes, Given, IsNew};
 ghost use Rattle.fx_frame.specs.Made.{clips_in, made_of};
 
 use fx_frame::{Counters, Feeds, Frame, Passed, Passing, Stage, ThawFault, WideFrame};
-use fx_frame_stage::feed::{feed_by_frames, frame_at, put_frame};
-use fx_frame_stage::pending::{stored_pending, thawed_pending};
-use fx_frame_stage::stage::MAX_TAKEN;
+use fx_frame_base::feed::{feed_by_frames, frame_at, put_frame};
+use fx_frame_base::pending::{stored_pending, thawed_pending};
+use fx_frame_base::stage::MAX_TAKEN;
 use std::marker::Model;
 
 /// What an effect makes of a frame, independent of its history.

@@ -3,7 +3,7 @@ ghost use Rattle.std.specs.Prelude.{◌≡◌, ◌≤◌, ℤ, Bool, FitsSigned,
 ghost use Rattle.std.specs.Int.{w32};
 ghost use Rattle.std.specs.List.{All};
 ghost use Rattle.fx_frame.specs.Made.{rounded_given};
-ghost use Rattle.fx_frame_lists.specs.Rounded.{clips_rounded, samples_of};
+ghost use Rattle.fx_frame_base.specs.Rounded.{clips_rounded, samples_of};
 
 use crate::both::{BothClips, rounded_by_both};
 use crate::mapped::{Mapped, Mapping, MapsMany};
@@ -203,7 +203,7 @@ impl<S: SamplesMany + Drop> MapsMany for PerSample<S> {
 }
 
 impl<S: SamplesMany + Drop> Mapped<PerSample<S>> {
-    ghost use Rattle.fx_frame_stage.specs.Stage.{Freezes, IsNew};
+    ghost use Rattle.fx_frame_base.specs.Stage.{Freezes, IsNew};
     ghost use Rattle.fx_tap_pointwise.specs.Mapped.{IsMapState, MapState};
     ghost use Rattle.fx_tap_pointwise.specs.PerSample.{SampleArguments};
     ghost use Rattle.fx_tap_pointwise.specs.PerSampleState.{sample_acts};

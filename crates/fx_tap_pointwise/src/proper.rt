@@ -1,7 +1,7 @@
 //! Gains that are proper fractions: a sample times such a gain is rounded by two products of 32 bits.
 ghost use Rattle.std.specs.Prelude.{◌≡◌, ◌<◌, ◌^◌, ◌↔◌, pos, neg_ℤ, ◌*ℤ◌, ◌≤ℤ◌, ◌<ℤ◌, length, map, IfSome, IsSome};
 ghost use Rattle.fx_fixed.specs.Rounding.{nearest};
-ghost use Rattle.fx_frame_lists.specs.Rounded.{clips_rounded, samples_of};
+ghost use Rattle.fx_frame_base.specs.Rounded.{clips_rounded, samples_of};
 ghost use Rattle.fx_tap_pointwise.specs.Fractions.{fraction_sample};
 
 use crate::per_sample::Sampling;

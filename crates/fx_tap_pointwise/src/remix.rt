@@ -1,12 +1,12 @@
 //! The effect `remix` of sox(1): each channel is a sum of channels, each times a weight.
 ghost use Rattle.std.specs.Prelude.{◌≡◌, ◌<◌, ◌≤◌, ◌+◌, ◌*◌, ◌^◌, [], ℕ, pos, map, drop, length, slice_index_or, sum_by, unsigned_abs, Err, IfOk, MatchResult};
-ghost use Rattle.fx_tap_convolve.specs.Products.{sum_of_products};
+ghost use Rattle.fx_tap_sums.specs.Products.{sum_of_products};
 ghost use Rattle.std.specs.List.{All};
-ghost use Rattle.fx_frame_stage.specs.Stage.{Freezes, IsNew};
-ghost use Rattle.fx_frame_lists.specs.Lists.{IsOtherPlace, pieces, tabulate};
+ghost use Rattle.fx_frame_base.specs.Stage.{Freezes, IsNew};
+ghost use Rattle.fx_frame_base.specs.Lists.{IsOtherPlace, pieces, tabulate};
 ghost use Rattle.fx_tap_pointwise.specs.Mapped.{IsMapState, MapState};
 ghost use Rattle.fx_frame.specs.Made.{clips_in, made_of};
-ghost use Rattle.fx_frame_lists.specs.Rounded.{clips_rounded};
+ghost use Rattle.fx_frame_base.specs.Rounded.{clips_rounded};
 ghost use Rattle.fx_tap_pointwise.specs.Mix.{MixFits, IsContribution, all_parts};
 ghost use Rattle.fx_tap_pointwise.specs.Remix.{RemixArguments, mixed_parts, remix_parts, remixed_frame, remixed_sample};
 ghost use Rattle.fx_tap_pointwise.specs.RemixState.{remix_acts};
@@ -20,7 +20,7 @@ use crate::per_sample::Sampling;
 use crate::vol::Scale;
 use fx_fixed::{UNIT, round_clip};
 use fx_frame::{Frame, ThawFault, WideFrame};
-use fx_frame_stage::feed::copy_samples;
+use fx_frame_base::feed::copy_samples;
 use fx_tap_sums::inner::sample_or_silence;
 use fx_tap_sums::round_channel;
 use fx_tap_sums::small::{Small, small_of};

@@ -1,8 +1,8 @@
 //! The effect `vol` of sox(1): each sample times a gain.
 ghost use Rattle.std.specs.Prelude.{◌≡◌, ◌<◌, ◌≤◌, ◌+◌, ◌*◌, ℕ, ℤ, pos, length, map, slice_index_or, Ok, IfOk, IfErr};
-ghost use Rattle.fx_frame_lists.specs.Lists.{IsOtherPlace, tabulate};
-ghost use Rattle.fx_frame_lists.specs.Rounded.{clips_rounded, samples_of};
-ghost use Rattle.fx_frame_stage.specs.Stage.{Freezes, IsNew};
+ghost use Rattle.fx_frame_base.specs.Lists.{IsOtherPlace, tabulate};
+ghost use Rattle.fx_frame_base.specs.Rounded.{clips_rounded, samples_of};
+ghost use Rattle.fx_frame_base.specs.Stage.{Freezes, IsNew};
 ghost use Rattle.fx_tap_pointwise.specs.Mapped.{IsMapState, MapState};
 ghost use Rattle.fx_tap_pointwise.specs.PerSample.{SampleArguments};
 ghost use Rattle.fx_tap_pointwise.specs.Fractions.{fraction_sample};

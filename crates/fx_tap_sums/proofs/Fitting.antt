@@ -4,9 +4,9 @@ use Rattle.std.specs.Prelude.{FitsSigned, unsigned_abs}
 use Rattle.std.specs.Int.{w64}
 use Rattle.std.proofs.lemmas.Int.{fits_signed_from_abs}
 use Rattle.fx_fixed.specs.declared.gains.TheConstants.{UNIT}
-use Rattle.fx_tap_convolve.proofs.SmallSums.{held-in-64, wide-bound}
+use Rattle.fx_tap_sums.proofs.SmallSums.{held-in-64, wide-bound}
 use Rattle.fx_tap_sums.proofs.SumLaws.{held}
-use Rattle.fx_tap_convolve.proofs.Magnitudes.{scaled-bound}
+use Rattle.fx_tap_sums.proofs.Magnitudes.{scaled-bound}
 use mir.Syntax.{w128}
 
 -- two numbers of 32 bits in 64

@@ -9,8 +9,8 @@ use Rattle.fx_fixed.specs.Rounding.{rounding}
 use Rattle.fx_fixed.proofs.Reductions.{rounding-reduced}
 use Rattle.fx_tap_sums.specs.Weights.{Weights}
 use Rattle.fx_tap_sums.specs.SmallWeights.{SumsAs}
-use Rattle.fx_tap_convolve.specs.Products.{sum_of_products}
-use Rattle.fx_tap_convolve.proofs.Numbers.{below-positive, one-times, mul-add, mul_assoc}
+use Rattle.fx_tap_sums.specs.Products.{sum_of_products}
+use Rattle.fx_tap_sums.proofs.Numbers.{below-positive, one-times, mul-add, mul_assoc}
 use Rattle.std.proofs.Math.IntN.{*ℤ_comm}
 
 -- a factor of each weight is one of the sum

@@ -7,7 +7,7 @@ use Rattle.std.proofs.lemmas.Int.{ints, unsigned_abs-mul, fits_signed_from_abs, 
 use Rattle.std.proofs.lemmas.List.{get_or-set_other}
 use Rattle.fx_fixed.specs.declared.gains.TheConstants.{UNIT}
 use mir.Syntax.{w128}
-use Rattle.fx_tap_convolve.proofs.Magnitudes.{added-bound, scaled-bound}
+use Rattle.fx_tap_sums.proofs.Magnitudes.{added-bound, scaled-bound}
 
 -- it fits 128 bits
 pub held : (z : ℤ) → unsigned_abs z < 2 ^ 127 → to_z w128 (of_z w128 z) ≡ z

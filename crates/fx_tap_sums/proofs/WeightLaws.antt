@@ -1,8 +1,8 @@
 -- Gains in lowest terms sound as the gains.
 use Rattle.std.proofs.Common.{ℕ, ℤ, pos, suc, ◌≡◌, List, [], ◌∷◌, drop, get_or, refl, ◌+ℤ◌, ◌*ℤ◌, sym, ap, ◌∙◌, arith, ◌<◌, ◌≤◌, length, map, ◌+◌, ◌*◌}
-use Rattle.fx_tap_convolve.proofs.Numbers.{mul-add, mul_assoc, below-positive}
+use Rattle.fx_tap_sums.proofs.Numbers.{mul-add, mul_assoc, below-positive}
 use Rattle.std.proofs.lemmas.Int.{ints}
-use Rattle.fx_tap_convolve.specs.Products.{sum_of_products}
+use Rattle.fx_tap_sums.specs.Products.{sum_of_products}
 use Rattle.std.proofs.lemmas.List.{length-drop}
 use Rattle.fx_fixed.specs.Reduced.{IsReduced}
 use Rattle.fx_fixed.specs.Rounding.{rounding}

@@ -1,2 +1,7 @@
+pub mod Lanes
+pub mod Prepared
+pub mod Products
+pub mod Residues
 pub mod SmallWeights
+pub mod Transform
 pub mod Weights

@@ -2,7 +2,7 @@
 use Rattle.std.specs.Prelude.{ℕ, ℤ, ◌≡◌, ◌^◌, ◌≤◌, List, drop, length, sum_by, unsigned_abs}
 use Rattle.fx_fixed.specs.Rounding.{rounding}
 use Rattle.fx_tap_sums.specs.Weights.{Weights}
-use Rattle.fx_tap_convolve.specs.Products.{sum_of_products}
+use Rattle.fx_tap_sums.specs.Products.{sum_of_products}
 
 -- those weights are small, and sums of samples times them, from any of them on, round as those of the coefficients over the whole
 pub record SumsAs (coefficients : List ℤ) (whole : ℕ) (w : Weights) : Type 0 where

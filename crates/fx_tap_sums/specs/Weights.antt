@@ -2,7 +2,7 @@
 use Rattle.std.specs.Prelude.{ℕ, ℤ, List, pos, ◌≤◌, slice_index_or, unsigned_abs, ◌≡◌, ◌*◌, ◌*ℤ◌, ◌+ℤ◌, length, map, drop}
 use Rattle.fx_fixed.specs.Rounding.{rounding}
 use Rattle.fx_fixed.specs.declared.gains.TheConstants.{UNIT}
-use Rattle.fx_tap_convolve.specs.Products.{sum_of_products}
+use Rattle.fx_tap_sums.specs.Products.{sum_of_products}
 
 -- weights over a denominator, that of gain-in first
 pub record Weights : Type 0 where

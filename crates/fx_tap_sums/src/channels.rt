@@ -1,8 +1,8 @@
 //! One channel of frames whose samples lie one after another.
 ghost use Rattle.std.specs.Prelude.{◌≡◌, ◌<◌, ◌≤◌, ◌+◌, ◌*◌, ◌^◌, ℕ, pos, length, slice_index_or, unsigned_abs};
 ghost use Rattle.fx_fixed.specs.Rounding.{rounding};
-ghost use Rattle.fx_frame_lists.specs.Lists.{IsOtherPlace, tabulate};
-ghost use Rattle.fx_frame_lists.specs.Rounded.{clips_rounded};
+ghost use Rattle.fx_frame_base.specs.Lists.{IsOtherPlace, tabulate};
+ghost use Rattle.fx_frame_base.specs.Rounded.{clips_rounded};
 
 use fx_fixed::inner::Denominator;
 

@@ -1,10 +1,15 @@
-//! Sums of samples times weights and gains, and their rounding; nothing here depends on frames.
+//! Sums of samples times weights and gains, and their rounding: product by product, several side by side, and by transforms.
+//! Nothing here depends on frames.
 #![tactic(auto)]
 
 mod channels;
+pub mod convolve;
 pub mod inner;
+mod products;
 pub mod small;
 mod sums;
+pub mod transforms;
 pub mod weights;
 
 pub use channels::round_channel;
+pub use products::dot;

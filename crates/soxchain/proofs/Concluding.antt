@@ -8,16 +8,16 @@ use Rattle.fx_chain.specs.Chain.{IsNewChain}
 use Rattle.fx_chain_run.specs.Report.{cause_of, no_report, report_at, report_in, start_of}
 use Rattle.fx_sound.specs.Container.{ReadAllDelivered}
 use Rattle.fx_chain.specs.Theorem.{ReadFirst}
-use Rattle.fx_frame_io.specs.Io.{ByteReader, ByteWriter, saturated}
-use Rattle.fx_plan_line.specs.declared.line.LineFault.{LineFault}
-use Rattle.fx_plan_line.specs.Line.{Said, line_of_words}
+use Rattle.fx_frame_base.specs.Io.{ByteReader, ByteWriter, saturated}
+use Rattle.fx_plan.specs.declared.line.LineFault.{LineFault}
+use Rattle.fx_plan.specs.Line.{Said, line_of_words}
 use Rattle.fx_plan.specs.CommandLines.{LineReads, effects_in, planning_in}
 use Rattle.fx_plan.specs.Plans.{head_layout, all_faults}
 use Rattle.fx_plan.specs.Planning.{planning}
-use Rattle.fx_sound_heads.specs.declared.head.HeadFault.TheVariants.{ReadFailed}
-use Rattle.fx_sound_heads.specs.Head.{ReadsHead}
-use Rattle.fx_sound_heads.specs.Known.{IfKnown}
-use Rattle.fx_sound_heads.specs.Source.{Held, to_come}
+use Rattle.fx_sound.specs.declared.head.HeadFault.TheVariants.{ReadFailed}
+use Rattle.fx_sound.specs.Head.{ReadsHead}
+use Rattle.fx_sound.specs.Known.{IfKnown}
+use Rattle.fx_sound.specs.Source.{Held, to_come}
 use Rattle.soxchain.specs.declared.preparing.Refusal.TheVariants.{Chain, Head, Plan}
 use Rattle.soxchain.specs.Convert.{Converted, ReaderStands, Running, StopHasCause, Stopped, ReportedFirst, TookAllDelivered, unread_source}
 use Rattle.soxchain.specs.Finishing.{Finished, ReadyParts, run_status}

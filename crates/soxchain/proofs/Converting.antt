@@ -2,19 +2,19 @@
 use Rattle.std.proofs.Common.{map, ◌⊎◌, inl, inr, ◌≡◌, ℕ, ◌+◌, ◌-◌, ◌*◌, ◌/◌, ◌^◌, ◌<◌, ◌≤◌, List, [], drop, length, sym, ap, arith, ◌∙◌}
 use Rattle.std.proofs.lemmas.List.{drop-drop}
 use Rattle.std.specs.Prelude.{false, MatchBool, Option, Some, Result, Ok, Err}
-use Rattle.fx_plan_line.specs.declared.line.LineFault.{LineFault}
-use Rattle.fx_plan_line.specs.Line.{Said}
+use Rattle.fx_plan.specs.declared.line.LineFault.{LineFault}
+use Rattle.fx_plan.specs.Line.{Said}
 use Rattle.fx_plan.specs.CommandLines.{LineReads}
 use Rattle.std.specs.Io.KnownBytes.{prepend_known}
 use mathlib.Core.Path.{ap₂}
 use Rattle.fx_chain_run.specs.declared.report.Report.{Report}
 use Rattle.fx_chain_run.specs.declared.report.RunFault.{RunFault}
 use Rattle.fx_chain_run.specs.declared.report.RunFault.TheVariants as Faults
-use Rattle.fx_frame_io.specs.Io.{ByteReader, ByteWriter, saturated}
-use Rattle.fx_sound_heads.specs.declared.head.Head.{Head}
-use Rattle.fx_sound_heads.specs.declared.head.HeadFault.{HeadFault}
-use Rattle.fx_sound_heads.specs.declared.head.HeadFault.TheVariants.{ReadFailed, UnknownType, Truncated, BadHeader, NotInProfile, TooManyChannels, HeadTooLong}
-use Rattle.fx_sound_heads.specs.HeadFields.{is_read_failure}
+use Rattle.fx_frame_base.specs.Io.{ByteReader, ByteWriter, saturated}
+use Rattle.fx_sound.specs.declared.head.Head.{Head}
+use Rattle.fx_sound.specs.declared.head.HeadFault.{HeadFault}
+use Rattle.fx_sound.specs.declared.head.HeadFault.TheVariants.{ReadFailed, UnknownType, Truncated, BadHeader, NotInProfile, TooManyChannels, HeadTooLong}
+use Rattle.fx_sound.specs.HeadFields.{is_read_failure}
 use Rattle.fx_chain_run.specs.declared.pump.Cause.{Cause}
 use Rattle.fx_chain_run.specs.declared.pump.Cause.TheVariants as Causes
 use Rattle.fx_chain.specs.Chain.{ChainParts, IsNewChain}
@@ -23,12 +23,12 @@ use Rattle.fx_chain_run.specs.Run.{WantsMore}
 use Rattle.fx_sound.specs.Container.{ReadAllDelivered}
 use Rattle.fx_chain.specs.Theorem.{ReadFirst, kinds_of}
 use Rattle.fx_chain_flow.specs.Parts.{Parts}
-use Rattle.fx_frame_stage.specs.Holds.{kinds}
+use Rattle.fx_frame_base.specs.Holds.{kinds}
 use Rattle.fx_plan.specs.Planning.{Planning}
 use Rattle.fx_chain_stages.specs.declared.registry.EffectStage.{EffectStage}
 use Rattle.fx_chain_stages.specs.Stages.{effect_acts}
 use Rattle.fx_sound.specs.Sound.{Reading, at_most_announced, size_of}
-use Rattle.fx_sound_heads.specs.Source.{Held, HoldsWhatCame, Takes, to_come}
+use Rattle.fx_sound.specs.Source.{Held, HoldsWhatCame, Takes, to_come}
 use Rattle.soxchain.specs.declared.preparing.Refusal.TheVariants as Refusals
 use Rattle.soxchain.specs.Convert.{SourceStands}
 use Rattle.soxchain.specs.Finishing.{Finished, ReadyParts, run_messages}

@@ -5,7 +5,7 @@ use Rattle.std.proofs.Math.Seq.{take-add, take-append-add}
 use Rattle.std.proofs.KnownBytes.{Appends-nil, Appends-trans}
 use Rattle.std.specs.Io.KnownBytes.{Appends}
 use Rattle.std.specs.Prelude.{MatchBool, codes, decimal, slice_index_or}
-use Rattle.fx_frame_io.specs.Io.{ByteWriter}
+use Rattle.fx_frame_base.specs.Io.{ByteWriter}
 use Rattle.fx_plan_words.specs.Faults.{Word}
 use Rattle.soxchain.specs.Messages.{effect_warning, effect_warnings, line_feed, reported_word, warning}
 use Rattle.std.specs.Borrow.{MutBor}

@@ -7,22 +7,22 @@ use Rattle.fx_chain_run.specs.Report.{HasCause, Stands, after_reported, cause_of
 use Rattle.fx_chain_run.specs.Run.{WantsMore}
 use Rattle.fx_chain.specs.Theorem.{Ran, kinds_of}
 use Rattle.fx_chain_flow.specs.Composed.{due_of, enough_for}
-use Rattle.fx_frame_io.specs.Io.{ByteReader, ByteWriter, saturated}
-use Rattle.fx_plan_line.specs.Line.{Said}
+use Rattle.fx_frame_base.specs.Io.{ByteReader, ByteWriter, saturated}
+use Rattle.fx_plan.specs.Line.{Said}
 use Rattle.fx_plan.specs.declared.fault.PlanFault.{PlanFault}
 use Rattle.fx_plan_effects.specs.Bounds.{work_of}
 use Rattle.fx_plan.specs.CommandLines.{effects_in, planning_in}
 use Rattle.fx_plan.specs.Plans.{head_layout, RefusesPlan, all_faults}
 use Rattle.fx_plan.specs.Planning.{Planning}
-use Rattle.fx_sound_heads.specs.declared.head.Head.{Head}
-use Rattle.fx_sound_heads.specs.declared.head.HeadFault.{HeadFault}
-use Rattle.fx_sound_heads.specs.declared.head.HeadFault.TheVariants as HeadFaults
-use Rattle.fx_sound_heads.specs.declared.head.Kind.{Kind}
-use Rattle.fx_sound_heads.specs.Head.{head_of, spelling}
-use Rattle.fx_sound_heads.specs.Known.{IfKnown}
-use Rattle.fx_sound_heads.specs.Reads.{CutOff}
+use Rattle.fx_sound.specs.declared.head.Head.{Head}
+use Rattle.fx_sound.specs.declared.head.HeadFault.{HeadFault}
+use Rattle.fx_sound.specs.declared.head.HeadFault.TheVariants as HeadFaults
+use Rattle.fx_sound.specs.declared.head.Kind.{Kind}
+use Rattle.fx_sound.specs.Head.{head_of, spelling}
+use Rattle.fx_sound.specs.Known.{IfKnown}
+use Rattle.fx_sound.specs.Reads.{CutOff}
 use Rattle.fx_sound.specs.Sound.{at_most_announced, size_of}
-use Rattle.fx_sound_heads.specs.Source.{Held, HoldsWhatCame, to_come}
+use Rattle.fx_sound.specs.Source.{Held, HoldsWhatCame, to_come}
 use Rattle.soxchain.specs.declared.preparing.Refusal.{Refusal}
 use Rattle.soxchain.specs.declared.preparing.Refusal.TheVariants as Refusals
 use Rattle.soxchain.specs.Preparing.{RefusalHasCause}

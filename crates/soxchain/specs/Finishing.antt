@@ -7,12 +7,12 @@ use Rattle.fx_chain_run.specs.Report.{HasCause, cause_of, report_at, report_in, 
 use Rattle.fx_chain_run.specs.Run.{WantsMore}
 use Rattle.fx_sound.specs.Container.{ReadAllDelivered}
 use Rattle.fx_chain.specs.Theorem.{Ran, ReadFirst, kinds_of}
-use Rattle.fx_frame_io.specs.Io.{ByteReader, ByteWriter, saturated}
-use Rattle.fx_plan_line.specs.Line.{Said}
+use Rattle.fx_frame_base.specs.Io.{ByteReader, ByteWriter, saturated}
+use Rattle.fx_plan.specs.Line.{Said}
 use Rattle.fx_plan_effects.specs.Bounds.{work_of}
 use Rattle.fx_plan.specs.Planning.{planning}
-use Rattle.fx_sound_heads.specs.Known.{IfKnown}
-use Rattle.fx_sound_heads.specs.Source.{Held, to_come}
+use Rattle.fx_sound.specs.Known.{IfKnown}
+use Rattle.fx_sound.specs.Source.{Held, to_come}
 use Rattle.soxchain.specs.declared.prepared.Prepared.{Prepared}
 use Rattle.soxchain.specs.Convert.{SourceStands}
 use Rattle.soxchain.specs.Messages.{run_label, run_message, warnings}

@@ -1,7 +1,7 @@
 -- What was written to a message writer.
 use Rattle.std.specs.Prelude.{◌≡◌, ℕ, ◌+◌, ◌≤◌, Bool, true, false, List, ◌++◌, length, take, Option}
 use Rattle.std.specs.Io.KnownBytes.{Appends}
-use Rattle.fx_frame_io.specs.Io.{ByteWriter, saturated}
+use Rattle.fx_frame_base.specs.Io.{ByteWriter, saturated}
 
 -- one call failed, and the writer has a prefix of these bytes
 pub record ReportedFront (first now : Option (List ℕ)) (failures new_failures : ℕ) (all : List ℕ) : Type 0 where

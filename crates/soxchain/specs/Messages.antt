@@ -4,16 +4,16 @@ use Rattle.fx_chain_run.specs.declared.report.Report.{Report}
 use Rattle.fx_chain_run.specs.declared.report.RunFault.{RunFault}
 use Rattle.fx_chain_run.specs.declared.report.RunFault.TheVariants as RunFaults
 use Rattle.fx_chain_run.specs.Report.{report_at}
-use Rattle.fx_plan_line.specs.declared.line.LineFault.{LineFault}
-use Rattle.fx_plan_line.specs.declared.line.LineFault.TheVariants as LineFaults
-use Rattle.fx_plan_line.specs.Line.{Said}
+use Rattle.fx_plan.specs.declared.line.LineFault.{LineFault}
+use Rattle.fx_plan.specs.declared.line.LineFault.TheVariants as LineFaults
+use Rattle.fx_plan.specs.Line.{Said}
 use Rattle.fx_plan_words.specs.declared.fault.PlanCause.{PlanCause}
 use Rattle.fx_plan_words.specs.declared.fault.PlanCause.TheVariants as causes
 use Rattle.fx_plan.specs.declared.fault.PlanFault.{PlanFault}
 use Rattle.fx_plan.specs.CommandLines.{effect_words, effects_in}
 use Rattle.fx_plan_words.specs.Faults.{Word}
-use Rattle.fx_sound_heads.specs.declared.head.HeadFault.{HeadFault}
-use Rattle.fx_sound_heads.specs.declared.head.HeadFault.TheVariants as HeadFaults
+use Rattle.fx_sound.specs.declared.head.HeadFault.{HeadFault}
+use Rattle.fx_sound.specs.declared.head.HeadFault.TheVariants as HeadFaults
 use Rattle.soxchain.specs.declared.preparing.Refusal.{Refusal}
 use Rattle.soxchain.specs.declared.preparing.Refusal.TheVariants as refusals
 use Rattle.soxchain.specs.Stops.{Stop, Refused, Run}

@@ -1,15 +1,15 @@
 -- What comes before a run (this project's profile).
 use Rattle.std.specs.Prelude.{◌≡◌, ℕ, ◌+◌, List, []}
-use Rattle.fx_frame_io.specs.Io.{ByteReader, saturated}
-use Rattle.fx_plan_line.specs.Line.{Said}
+use Rattle.fx_frame_base.specs.Io.{ByteReader, saturated}
+use Rattle.fx_plan.specs.Line.{Said}
 use Rattle.fx_plan.specs.declared.fault.PlanFault.{PlanFault}
 use Rattle.fx_plan.specs.CommandLines.{effects_in}
 use Rattle.fx_plan.specs.Plans.{head_layout, RefusesPlan, all_faults}
-use Rattle.fx_sound_heads.specs.declared.head.Head.{Head}
-use Rattle.fx_sound_heads.specs.declared.head.HeadFault.TheVariants as HeadFaults
-use Rattle.fx_sound_heads.specs.Known.{IfKnown}
-use Rattle.fx_sound_heads.specs.Head.{ReadsHead}
-use Rattle.fx_sound_heads.specs.Source.{Held, to_come}
+use Rattle.fx_sound.specs.declared.head.Head.{Head}
+use Rattle.fx_sound.specs.declared.head.HeadFault.TheVariants as HeadFaults
+use Rattle.fx_sound.specs.Known.{IfKnown}
+use Rattle.fx_sound.specs.Head.{ReadsHead}
+use Rattle.fx_sound.specs.Source.{Held, to_come}
 use Rattle.soxchain.specs.declared.preparing.Refusal.{Refusal}
 use Rattle.soxchain.specs.declared.preparing.Refusal.TheVariants as Refusals
 

@@ -2,9 +2,9 @@
 use Rattle.std.specs.Prelude.{◌≡◌, ℕ, List, Result, Ok, Err}
 use Rattle.fx_chain_run.specs.declared.report.Report.{Report}
 use Rattle.fx_chain_run.specs.Report.{no_report, report_at}
-use Rattle.fx_plan_line.specs.declared.line.LineFault.{LineFault}
-use Rattle.fx_plan_line.specs.declared.line.LineFault.TheVariants as LineFaults
-use Rattle.fx_plan_line.specs.Line.{Said}
+use Rattle.fx_plan.specs.declared.line.LineFault.{LineFault}
+use Rattle.fx_plan.specs.declared.line.LineFault.TheVariants as LineFaults
+use Rattle.fx_plan.specs.Line.{Said}
 use Rattle.fx_plan_words.specs.declared.fault.PlanCause.{PlanCause}
 use Rattle.fx_plan_words.specs.declared.fault.PlanCause.TheVariants.{Memory}
 use Rattle.soxchain.specs.declared.preparing.Refusal.{Refusal}

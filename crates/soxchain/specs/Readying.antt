@@ -1,14 +1,14 @@
 -- Why nothing is ready for a run (this project's profile).
 use Rattle.std.specs.Prelude.{◌≡◌, ℕ, List, Result, Ok, Err}
-use Rattle.fx_frame_io.specs.Io.{ByteReader}
-use Rattle.fx_plan_line.specs.declared.line.LineFault.{LineFault}
-use Rattle.fx_plan_line.specs.Line.{Said, line_of_words}
+use Rattle.fx_frame_base.specs.Io.{ByteReader}
+use Rattle.fx_plan.specs.declared.line.LineFault.{LineFault}
+use Rattle.fx_plan.specs.Line.{Said, line_of_words}
 use Rattle.fx_plan.specs.declared.fault.PlanFault.{PlanFault}
 use Rattle.fx_plan.specs.CommandLines.{LineReads}
-use Rattle.fx_sound_heads.specs.declared.head.HeadFault.{HeadFault}
-use Rattle.fx_sound_heads.specs.Head.{head_of}
-use Rattle.fx_sound_heads.specs.Reads.{Fails, Refuses}
-use Rattle.fx_sound_heads.specs.Source.{Held}
+use Rattle.fx_sound.specs.declared.head.HeadFault.{HeadFault}
+use Rattle.fx_sound.specs.Head.{head_of}
+use Rattle.fx_sound.specs.Reads.{Fails, Refuses}
+use Rattle.fx_sound.specs.Source.{Held}
 use Rattle.soxchain.specs.declared.preparing.Refusal.{Refusal}
 use Rattle.soxchain.specs.declared.preparing.Refusal.TheVariants.{Chain, Head, Plan}
 use Rattle.soxchain.specs.Messages.{line_label, line_message, refusal_message}

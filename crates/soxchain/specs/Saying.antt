@@ -1,7 +1,7 @@
 -- What is written through one message writer, from its first text on.
 use Rattle.std.specs.Prelude.{◌≡◌, ℕ, List, false}
 use Rattle.std.specs.Borrow.{MutBor}
-use Rattle.fx_frame_io.specs.Io.{ByteWriter}
+use Rattle.fx_frame_base.specs.Io.{ByteWriter}
 use Rattle.soxchain.specs.declared.message_writer.MessageWriter.{MessageWriter}
 use Rattle.soxchain.specs.MessageWriter.{TellsMore}
 

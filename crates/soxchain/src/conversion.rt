@@ -1,9 +1,9 @@
 //! The conversion of a sound, from words and bytes to bytes, messages and a status.
 ghost use Rattle.std.specs.Prelude.{◌≡◌, Result};
-ghost use Rattle.fx_plan_line.specs.Line.{Said, line_of_words, texts};
+ghost use Rattle.fx_plan.specs.Line.{Said, line_of_words, texts};
 ghost use Rattle.fx_plan.specs.CommandLines.{LineReads};
 ghost use Rattle.fx_plan.specs.Plans.{plan_bytes};
-ghost use Rattle.fx_plan_line.specs.declared.line.LineFault.{LineFault};
+ghost use Rattle.fx_plan.specs.declared.line.LineFault.{LineFault};
 ghost use Rattle.soxchain.specs.Convert.{Converted};
 ghost use Rattle.soxchain.specs.Program.{Concludes};
 ghost use Rattle.soxchain.specs.MessageWriter.{WritesMessage};

@@ -10,8 +10,7 @@ use crate::message_writer::MessageWriter;
 use crate::preparing::Refusal;
 use fx_chain::{MAX_EFFECTS, Report, RunFault};
 use fx_frame::ByteOut;
-use fx_plan::{CommandLine, PlanCause, PlanFault};
-use fx_plan_line::LineFault;
+use fx_plan::{CommandLine, LineFault, PlanCause, PlanFault};
 use fx_sound::HeadFault;
 use itoa::Buffer;
 

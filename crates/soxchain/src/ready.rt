@@ -1,13 +1,13 @@
 //! A conversion in two parts: preparation before the output is opened, and the run.
 ghost use Rattle.std.specs.Prelude.{◌≡◌, ◌⊎◌, [], IfErr, IfOk, OnOk, Ok, Result};
 ghost use Rattle.fx_chain.specs.Chain.{IsNewChain};
-ghost use Rattle.fx_plan_line.specs.Line.{line_of_words, texts};
+ghost use Rattle.fx_plan.specs.Line.{line_of_words, texts};
 ghost use Rattle.fx_plan.specs.CommandLines.{effects_in, planning_in};
 ghost use Rattle.fx_plan.specs.Plans.{head_layout, all_faults, plan_bytes};
 ghost use Rattle.fx_plan.specs.Planning.{planning};
-ghost use Rattle.fx_sound_heads.specs.Head.{ReadsHead};
-ghost use Rattle.fx_sound_heads.specs.Known.{IfKnown};
-ghost use Rattle.fx_sound_heads.specs.Source.{to_come};
+ghost use Rattle.fx_sound.specs.Head.{ReadsHead};
+ghost use Rattle.fx_sound.specs.Known.{IfKnown};
+ghost use Rattle.fx_sound.specs.Source.{to_come};
 ghost use Rattle.soxchain.specs.Finishing.{Finished};
 ghost use Rattle.soxchain.specs.Messages.{line_label, line_message};
 ghost use Rattle.soxchain.specs.Program.{status_of_line};
@@ -21,8 +21,7 @@ use crate::prepared::Prepared;
 use crate::preparing::{prepare_line, status_of_fault};
 use fx_chain::{Report, run};
 use fx_frame::{ByteIn, ByteOut};
-use fx_plan::{CommandLine, Plan, parse_line};
-use fx_plan_line::LineFault;
+use fx_plan::{CommandLine, LineFault, Plan, parse_line};
 use fx_sound::Source;
 use std::alloc::Global;
 use std::marker::Model;

@@ -2,9 +2,9 @@
 use Rattle.std.proofs.Common.{◌≡◌, ℕ, List, [], Option, Some, Result, Ok, Err, ap, arith, ◌+◌, drop, subst, sym, ◌∙◌}
 use Rattle.fx_chain_run.specs.declared.report.Report.{Report}
 use Rattle.fx_chain.specs.Theorem.{Ran}
-use Rattle.fx_frame_io.specs.Io.{ByteReader, ByteWriter, saturated}
-use Rattle.fx_plan_line.specs.declared.line.LineFault.{LineFault}
-use Rattle.fx_plan_line.specs.Line.{Said}
+use Rattle.fx_frame_base.specs.Io.{ByteReader, ByteWriter, saturated}
+use Rattle.fx_plan.specs.declared.line.LineFault.{LineFault}
+use Rattle.fx_plan.specs.Line.{Said}
 use Rattle.soxchain.specs.Convert.{Converted}
 use Rattle.fx_chain_run.specs.Report.{HasCause}
 use Rattle.soxchain.specs.Preparing.{RefusalHasCause}

@@ -1,8 +1,8 @@
 -- Why words and files cannot be read, or make no stream, and what follows of it.
 use Rattle.std.proofs.Common.{◌≡◌, ◌<◌, ◌≤◌, ℕ, List, [], Option, Result, Ok, Err, IfOk, IfErr, OnOk, inl, inr}
-use Rattle.fx_plan_line.specs.Line.{Said, texts}
+use Rattle.fx_plan.specs.Line.{Said, texts}
 use Rattle.fx_plan.specs.Plans.{plan_bytes}
-use Rattle.fx_sound_heads.specs.declared.head.Head.{Head}
+use Rattle.fx_sound.specs.declared.head.Head.{Head}
 use Rattle.soxchain_c.specs.declared.asked.Asked.{Asked}
 use Rattle.soxchain_c.specs.declared.status.Status.{Status}
 use Rattle.soxchain_stream.specs.declared.stream.Stream.{Stream}

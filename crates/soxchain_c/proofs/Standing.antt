@@ -5,7 +5,7 @@ use Rattle.std.specs.Prelude.{ℤ, MatchBool, Result, Ok, Err}
 use Rattle.fx_chain.specs.Theorem.{Ran, frames_read, kinds_of, sound_in, strays, until_enough}
 use Rattle.fx_chain.proofs.Stating.{sound-count}
 use Rattle.fx_chain_flow.specs.Composed.{enough_for}
-use Rattle.fx_sound_heads.specs.FrameCoding.{frame_size}
+use Rattle.fx_sound.specs.FrameCoding.{frame_size}
 use Rattle.fx_plan.specs.Planning.{Planning}
 use Rattle.fx_chain_run.specs.declared.report.Report.{Report}
 use Rattle.fx_chain_run.specs.declared.report.RunFault.{RunFault}

@@ -1,6 +1,6 @@
 -- Why words and files cannot be read, and what is then returned (this project's profile; packaging/soxchain.h).
 use Rattle.std.specs.Prelude.{◌≡◌, ◌⊎◌, ℕ, List}
-use Rattle.fx_plan_line.specs.declared.line.LineFault.TheVariants as LineFaults
+use Rattle.fx_plan.specs.declared.line.LineFault.TheVariants as LineFaults
 use Rattle.soxchain.specs.Messages.{line_label, line_message}
 use Rattle.soxchain_c.specs.declared.status.Status.{Status}
 use Rattle.soxchain_c.specs.declared.status.Status.TheVariants as Statuses

@@ -3,4 +3,4 @@ use Rattle.std.specs.Prelude.{ℕ, ◌++◌, List, drop, length, nat_le, if◌th
 
 -- an output buffer with these bytes at its front, where it has space for all of them; else unchanged
 abbrev pub filled : List ℕ → List ℕ → List ℕ
-filled bytes bytes_out = if nat_le (length bytes) (length bytes_out) then bytes ++ drop (length bytes) bytes_out else bytes_out
+filled bytes buffer = if nat_le (length bytes) (length buffer) then bytes ++ drop (length bytes) buffer else buffer

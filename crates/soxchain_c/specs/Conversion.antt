@@ -5,14 +5,14 @@ use Rattle.fx_chain_run.specs.declared.report.RunFault.{RunFault}
 use Rattle.fx_chain_run.specs.declared.pump.Cause.TheVariants as Causes
 use Rattle.fx_chain_run.specs.Report.{cause_of, no_report, report_at}
 use Rattle.fx_chain.specs.Theorem.{Ran}
-use Rattle.fx_plan_line.specs.declared.line.LineFault.{LineFault}
-use Rattle.fx_plan_line.specs.Line.{Said, line_of_words}
+use Rattle.fx_plan.specs.declared.line.LineFault.{LineFault}
+use Rattle.fx_plan.specs.Line.{Said, line_of_words}
 use Rattle.fx_plan.specs.declared.fault.PlanFault.{PlanFault}
 use Rattle.fx_plan.specs.CommandLines.{LineReads}
 use Rattle.fx_plan.specs.Planning.{Planning}
-use Rattle.fx_sound_heads.specs.declared.head.HeadFault.{HeadFault}
-use Rattle.fx_sound_heads.specs.FrameCoding.{frame_size}
-use Rattle.fx_sound_heads.specs.Head.{head_of}
+use Rattle.fx_sound.specs.declared.head.HeadFault.{HeadFault}
+use Rattle.fx_sound.specs.FrameCoding.{frame_size}
+use Rattle.fx_sound.specs.Head.{head_of}
 use Rattle.fx_sound.specs.Sound.{within_sound}
 use Rattle.soxchain.specs.declared.preparing.Refusal.{Refusal}
 use Rattle.soxchain.specs.declared.preparing.Refusal.TheVariants as Refusals

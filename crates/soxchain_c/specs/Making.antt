@@ -1,14 +1,14 @@
 -- The stream that words make, or why there is none (this project's profile).
 use Rattle.std.specs.Prelude.{◌≡◌, ◌≢◌, ◌⊎◌, ◌<◌, ◌≤◌, ℕ, pos, List, [], ◌∷◌, codes, Option, None, Some, Result, Ok, Err}
 use Rattle.fx_chain.specs.Chain.{IsNewChain}
-use Rattle.fx_frame_io.specs.declared.coding.Coding.TheVariants.{S32Be}
-use Rattle.fx_plan_line.specs.declared.bits.Bits.TheVariants.{ThirtyTwo}
-use Rattle.fx_plan_line.specs.declared.line.LineFault.TheVariants.{Memory}
-use Rattle.fx_plan_line.specs.Line.{Said, texts}
+use Rattle.fx_frame_base.specs.declared.coding.Coding.TheVariants.{S32Be}
+use Rattle.fx_plan.specs.declared.bits.Bits.TheVariants.{ThirtyTwo}
+use Rattle.fx_plan.specs.declared.line.LineFault.TheVariants.{Memory}
+use Rattle.fx_plan.specs.Line.{Said, texts}
 use Rattle.fx_plan.specs.CommandLines.{effects_in, planning_in}
 use Rattle.fx_plan.specs.Plans.{head_layout, RefusesPlan, all_faults, plan_bytes}
-use Rattle.fx_sound_heads.specs.declared.head.Head.{Head}
-use Rattle.fx_sound_heads.specs.declared.head.Kind.TheVariants.{Au}
+use Rattle.fx_sound.specs.declared.head.Head.{Head}
+use Rattle.fx_sound.specs.declared.head.Kind.TheVariants.{Au}
 use Rattle.soxchain.specs.declared.preparing.Refusal.{Refusal}
 use Rattle.soxchain.specs.declared.preparing.Refusal.TheVariants as Refusals
 use Rattle.soxchain.specs.Messages.{line_label, line_message, refusal_message}

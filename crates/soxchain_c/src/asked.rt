@@ -1,6 +1,6 @@
 //! The words and files of a call, and why they cannot be read.
 ghost use Rattle.std.specs.Prelude.{◌≡◌, ◌≢◌, IfErr, IfOk, OnOk};
-ghost use Rattle.fx_plan_line.specs.Line.{texts};
+ghost use Rattle.fx_plan.specs.Line.{texts};
 ghost use Rattle.fx_plan.specs.Plans.{plan_bytes};
 ghost use Rattle.soxchain.specs.Messages.{line_label, line_message};
 ghost use Rattle.soxchain.specs.MessageWriter.{WritesMessage};

@@ -1,7 +1,7 @@
 //! A conversion in memory, to C.
 ghost use Rattle.std.specs.Prelude.{◌≡◌, ℕ, List, [], length};
 ghost use Rattle.fx_chain_run.specs.Report.{no_report};
-ghost use Rattle.fx_plan_line.specs.Line.{texts};
+ghost use Rattle.fx_plan.specs.Line.{texts};
 ghost use Rattle.fx_plan.specs.Plans.{plan_bytes};
 ghost use Rattle.soxchain_c.specs.Asked.{FaultAnswers};
 ghost use Rattle.soxchain_c.specs.Conversion.{Conversion, ConversionOf, reported_report};

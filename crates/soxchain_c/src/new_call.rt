@@ -1,6 +1,6 @@
 //! How C makes a stream.
 ghost use Rattle.std.specs.Prelude.{◌≡◌, ◌≢◌, ℕ, List, length, IfErr, IfOk, OnOk};
-ghost use Rattle.fx_plan_line.specs.Line.{texts};
+ghost use Rattle.fx_plan.specs.Line.{texts};
 ghost use Rattle.fx_plan.specs.Plans.{plan_bytes};
 ghost use Rattle.soxchain.specs.MessageWriter.{WritesMessage};
 ghost use Rattle.soxchain_c.specs.Making.{IsStreamOf, LacksStream, MakeAnswers, NewAnswers, stream_line};

@@ -1,6 +1,6 @@
 //! How a stream is made of words.
 ghost use Rattle.std.specs.Prelude.{◌≡◌, ◌<◌, ◌≤◌, ◌⊎◌, ◌++◌, [], ◌∷◌, Err, IfErr, IfOk, OnOk};
-ghost use Rattle.fx_plan_line.specs.Line.{texts};
+ghost use Rattle.fx_plan.specs.Line.{texts};
 ghost use Rattle.fx_plan.specs.Plans.{plan_bytes};
 ghost use Rattle.soxchain.specs.MessageWriter.{WritesMessage};
 ghost use Rattle.soxchain_c.specs.Making.{IsRefusalOf, IsStreamOf, RefusesStream, IsHeadAt, stream_line, stream_words};

@@ -30,7 +30,7 @@ fn number_of_wait(waits: Waits) -> u32
 {
     match waits {
         Waits::Frames => 0,
-        Waits::Buffer => 1,
+        Waits::Output => 1,
         Waits::Nothing => 2,
         Waits::End => 3,
     }
@@ -213,13 +213,13 @@ pub extern "C" fn soxchain_end(alloc: Global, handle: &mut Handle) -> i32
 }
 
 /// Freezes a stream; what it returns.
-fn freeze_stream(alloc: Global, stream: &Stream, bytes_out: &mut [u8], length: &mut usize) -> Status
-    ensures { FreezeAnswers stream.now bytes_out.old bytes_out.new length.new result }
+fn freeze_stream(alloc: Global, stream: &Stream, buffer: &mut [u8], length: &mut usize) -> Status
+    ensures { FreezeAnswers stream.now buffer.old buffer.new length.new result }
 {
     match stream.freeze(alloc) {
         Ok(bytes) => {
             *length = bytes.len();
-            put(bytes_out, &bytes);
+            put(buffer, &bytes);
             Status::Fine
         }
         Err(_) => {
@@ -234,18 +234,18 @@ fn freeze_stream(alloc: Global, stream: &Stream, bytes_out: &mut [u8], length: &
 pub extern "C" fn soxchain_freeze(
     alloc: Global,
     handle: &mut Handle,
-    bytes_out: &mut [u8],
+    buffer: &mut [u8],
     length: &mut usize,
 ) -> i32
     ensures same { handle.new.value ≡ handle.old.value }
-    ensures none { handle.old.value ≡ None → (result ≡ code Status.NoStream) × (bytes_out.new ≡ bytes_out.old) × (length.new ≡ 0) }
-    ensures frozen { IfSome handle.old.value (λ s. (status : Status) × (result ≡ code status) × FreezeAnswers s bytes_out.old bytes_out.new length.new status) }
+    ensures none { handle.old.value ≡ None → (result ≡ code Status.NoStream) × (buffer.new ≡ buffer.old) × (length.new ≡ 0) }
+    ensures frozen { IfSome handle.old.value (λ s. (status : Status) × (result ≡ code status) × FreezeAnswers s buffer.old buffer.new length.new status) }
 {
     let Some(stream) = take(alloc, handle) else {
         *length = 0;
         return number_of(Status::NoStream);
     };
-    let status = freeze_stream(alloc, &stream, bytes_out, length);
+    let status = freeze_stream(alloc, &stream, buffer, length);
     put_back(handle, stream);
     number_of(status)
 }

@@ -1,6 +1,6 @@
 //! Words and files that C passes as bytes and ends.
 ghost use Rattle.std.specs.Prelude.{◌≡◌, Err, IfOk, OnOk};
-ghost use Rattle.fx_plan_line.specs.Line.{texts};
+ghost use Rattle.fx_plan.specs.Line.{texts};
 ghost use Rattle.fx_plan.specs.Plans.{plan_bytes};
 ghost use Rattle.soxchain_c.specs.Texts.{AreEnds, AreTexts, FindsBadEnd, FindsNoText, cut};
 

@@ -2,9 +2,9 @@
 use Rattle.std.specs.Prelude.{◌≡◌, ◌≤◌, ◌+◌, ◌⊎◌, ℕ, true, List, Some, IfSome}
 use Rattle.std.specs.Io.KnownBytes.{Appends}
 use Rattle.fx_chain_run.specs.declared.report.Report.{Report}
-use Rattle.fx_frame_io.specs.Io.{ByteReader, ByteWriter, Rewinds, saturated}
+use Rattle.fx_frame_base.specs.Io.{ByteReader, ByteWriter, Rewinds, saturated}
 use Rattle.fx_plan.specs.Planning.{planning}
-use Rattle.fx_sound_heads.specs.Source.{Held}
+use Rattle.fx_sound.specs.Source.{Held}
 use Rattle.soxchain.specs.FileMessages.{rewrite_message}
 use Rattle.soxchain.specs.Finishing.{Finished, ReadyParts}
 use Rattle.soxchain.specs.declared.message_writer.MessageWriter.{MessageWriter}

@@ -5,7 +5,7 @@ use Rattle.soxchain_cli.specs.declared.host.Identity.{Identity}
 -- The files of a host: what one call found under a name, or nothing that can be inspected; the file that one call created under
 -- a name, which empties an older one; the name for which it refused that; and the created file that was given back, to which
 -- nothing more is written.
-pub record OpenedFiles (H F : Type 0) : Type 1 where
+pub record FileCalls (H F : Type 0) : Type 1 where
   pub looks : H → H → List ℕ → Option Identity → Type 0
   pub made : H → H → List ℕ → F → Type 0
   pub unmade : H → H → List ℕ → Type 0
@@ -22,29 +22,29 @@ source_name (Some name) = name
 source_name None = codes "/dev/stdin"
 
 -- The input and then the file of this name were inspected, and found to be these. Nothing else was asked for.
-pub record AreFound {H F : Type 0} (opened_files : OpenedFiles H F) (host new_host : H) (input : Option (List ℕ)) (name : List ℕ) (one other : Option Identity) : Type 0 where
+pub record AreFound {H F : Type 0} (file_calls : FileCalls H F) (host new_host : H) (input : Option (List ℕ)) (name : List ℕ) (one other : Option Identity) : Type 0 where
   pub between : H
-  pub source : opened_files.looks host between (source_name input) one
-  pub target : opened_files.looks between new_host name other
+  pub source : file_calls.looks host between (source_name input) one
+  pub target : file_calls.looks between new_host name other
 
 -- The file of this name was compared with the input, is another one, and was created. Nothing else was asked for.
-pub record IsMade {H F : Type 0} (opened_files : OpenedFiles H F) (host new_host : H) (input : Option (List ℕ)) (name : List ℕ) (file : F) : Type 0 where
+pub record IsMade {H F : Type 0} (file_calls : FileCalls H F) (host new_host : H) (input : Option (List ℕ)) (name : List ℕ) (file : F) : Type 0 where
   pub looked : H
   pub one : Option Identity
   pub other : Option Identity
-  pub found : AreFound opened_files host looked input name one other
+  pub found : AreFound file_calls host looked input name one other
   pub apart : AreOne one other → ⊥
-  pub made : opened_files.made looked new_host name file
+  pub made : file_calls.made looked new_host name file
 
 -- The file of this name was compared with the input. It is the same, and nothing followed the inspection; or it is another one,
 -- and creating it was refused. Nothing else was asked for.
-pub data IsUnmade {H F : Type 0} (opened_files : OpenedFiles H F) (host new_host : H) (input : Option (List ℕ)) (name : List ℕ) : Type 0 where
+pub data IsUnmade {H F : Type 0} (file_calls : FileCalls H F) (host new_host : H) (input : Option (List ℕ)) (name : List ℕ) : Type 0 where
   Same : (one other : Option Identity)
-      → AreFound opened_files host new_host input name one other
+      → AreFound file_calls host new_host input name one other
       → AreOne one other
-      → IsUnmade opened_files host new_host input name
+      → IsUnmade file_calls host new_host input name
   Unmade : (looked : H) (one other : Option Identity)
-      → AreFound opened_files host looked input name one other
+      → AreFound file_calls host looked input name one other
       → (AreOne one other → ⊥)
-      → opened_files.unmade looked new_host name
-      → IsUnmade opened_files host new_host input name
+      → file_calls.unmade looked new_host name
+      → IsUnmade file_calls host new_host input name

@@ -5,16 +5,16 @@ use Rattle.std.specs.declared.io.ErrorKind.{ErrorKind}
 use Rattle.std.specs.declared.io.ErrorKind.TheVariants as ErrorKinds
 use Rattle.fx_chain.specs.Chain.{IsNewChain}
 use Rattle.fx_chain_run.specs.declared.report.Report.{Report}
-use Rattle.fx_frame_io.specs.Io.{ByteReader, ByteWriter}
-use Rattle.fx_plan_line.specs.declared.line.LineFault.{LineFault}
-use Rattle.fx_plan_line.specs.declared.line.LineFault.TheVariants as LineFaults
-use Rattle.fx_plan_line.specs.Line.{Said, line_of_words}
+use Rattle.fx_frame_base.specs.Io.{ByteReader, ByteWriter}
+use Rattle.fx_plan.specs.declared.line.LineFault.{LineFault}
+use Rattle.fx_plan.specs.declared.line.LineFault.TheVariants as LineFaults
+use Rattle.fx_plan.specs.Line.{Said, line_of_words}
 use Rattle.fx_plan.specs.CommandLines.{LineReads, coefficient_files, effects_in, file_name, planning_in}
 use Rattle.fx_plan.specs.Plans.{head_layout, all_faults}
 use Rattle.fx_plan.specs.Planning.{planning}
-use Rattle.fx_sound_heads.specs.Head.{ReadsHead}
-use Rattle.fx_sound_heads.specs.Known.{IfKnown}
-use Rattle.fx_sound_heads.specs.Source.{Held, to_come}
+use Rattle.fx_sound.specs.Head.{ReadsHead}
+use Rattle.fx_sound.specs.Known.{IfKnown}
+use Rattle.fx_sound.specs.Source.{Held, to_come}
 use Rattle.soxchain.specs.declared.prepared.Prepared.{Prepared}
 use Rattle.soxchain.specs.FileMessages.{open_message}
 use Rattle.soxchain.specs.Finishing.{Finished, ReadyParts}
@@ -25,7 +25,7 @@ use Rattle.soxchain.specs.declared.message_writer.MessageWriter.{MessageWriter}
 use Rattle.soxchain.specs.Saying.{Says}
 use Rattle.soxchain.specs.MessageWriter.{ReportedFront}
 use Rattle.soxchain_cli.specs.Named.{FileWriter, Files}
-use Rattle.soxchain_cli.specs.SameFile.{IsMade, IsUnmade, OpenedFiles}
+use Rattle.soxchain_cli.specs.SameFile.{IsMade, IsUnmade, FileCalls}
 use Rattle.soxchain_common.specs.Consoles.{IsNewReader, IsNewWriter, Machine, Opened}
 use Rattle.soxchain_common.specs.Files.{AreFronts, IsMemoryRefused, IsUnread}
 
@@ -51,7 +51,7 @@ ready_for line prepared = record { line = line; prepared = prepared }
 
 -- The program makes one request of the host after another; `m`, `s` and `o` state the request and the answer between one of its
 -- states and the next. So the states name all requests, in order: where the last one is that of a call, nothing came after it.
-module _ {H I R O F M : Type 0} (d : Devices I R O F) (m : H → H → Machine I O) (s : OpenedFiles H F) (writes : ByteWriter M) where
+module _ {H I R O F M : Type 0} (d : Devices I R O F) (m : H → H → Machine I O) (s : FileCalls H F) (writes : ByteWriter M) where
   -- The result for a sound: nothing was ready for it; or OUT is IN, or could not be made; or it ran to standard output, or into
   -- the new file of OUT's own name.
   pub data Sounds {X : Type 0} (reads : ByteReader X) (line : Said) (files : List (List ℕ)) (reader : X) (host new_host : H) (old new : MessageWriter M) (status : ℕ) : Type 0 where

@@ -2,11 +2,11 @@
 ghost use Rattle.std.specs.Prelude.{IfErr, IfOk, Option, List, ⊤, ℕ};
 ghost use Rattle.fx_chain.specs.Chain.{IsNewChain};
 ghost use Rattle.fx_plan.specs.Planning.{planning};
-ghost use Rattle.soxchain_cli.specs.SameFile.{OpenedFiles};
+ghost use Rattle.soxchain_cli.specs.SameFile.{FileCalls};
 ghost use Rattle.soxchain_common.specs.Consoles.{IsNewWriter};
 
 use fx_frame::Counted;
-use fx_frame_io::Rewind;
+use fx_frame_base::Rewind;
 use soxchain::inner::Prepared;
 use soxchain_common::Console;
 use std::fs::{self, File};
@@ -28,29 +28,29 @@ pub trait Host: Console {
     type Made: Rewind + Drop;
 
     // Which files it inspected, created, refused to create and took back.
-    ghost opened_files: { OpenedFiles Self Self.Made };
+    ghost file_calls: { FileCalls Self Self.Made };
 
     /// The file of this name; None where it cannot be inspected.
     fn look(&mut self, name: &str) -> Option<Identity>
-        ensures { opened_files.looks self.old self.new name.now result };
+        ensures { file_calls.looks self.old self.new name.now result };
 
     /// Creates the file of this name, or empties an older one, once a new chain exists.
     fn make(&mut self, name: &str, prepared: &Prepared) -> io::Result<Self::Made>
         requires { IsNewChain (planning prepared.now.plan) prepared.now.chain }
-        ensures made { IfOk result (λ file. opened_files.made self.old self.new name.now file) }
+        ensures made { IfOk result (λ file. file_calls.made self.old self.new name.now file) }
         ensures fresh { IfOk result (IsNewWriter Self.Made.writes) }
-        ensures refused { IfErr result (λ _. opened_files.unmade self.old self.new name.now) };
+        ensures refused { IfErr result (λ _. file_calls.unmade self.old self.new name.now) };
 
     /// Ends the use of a created file: nothing more is written to it.
     fn close(&mut self, file: Self::Made)
-        ensures { opened_files.closed self.old self.new file };
+        ensures { file_calls.closed self.old self.new file };
 }
 
 impl Host for HostRuntime {
     type Made = Counted<File>;
 
     // Nothing is known of the files of the host itself.
-    ghost opened_files = { record { looks = λ _ _ _ _. ⊤; made = λ _ _ _ _. ⊤; unmade = λ _ _ _. ⊤; closed = λ _ _ _. ⊤ } };
+    ghost file_calls = { record { looks = λ _ _ _ _. ⊤; made = λ _ _ _ _. ⊤; unmade = λ _ _ _. ⊤; closed = λ _ _ _. ⊤ } };
 
     fn look(&mut self, name: &str) -> Option<Identity> {
         let found = fs::metadata(self, name).ok()?;

@@ -45,9 +45,9 @@ pub fn create_beside<H: Host>(
     prepared: &Prepared,
 ) -> Option<H::Made>
     requires { IsNewChain (planning prepared.now.plan) prepared.now.chain }
-    ensures made { IfSome result (IsMade H.opened_files host.old host.new (name_in input.entry) name.now) }
+    ensures made { IfSome result (IsMade H.file_calls host.old host.new (name_in input.entry) name.now) }
     ensures fresh { IfSome result (IsNewWriter H.Made.writes) }
-    ensures unmade { IfNone result (IsUnmade H.opened_files host.old host.new (name_in input.entry) name.now) }
+    ensures unmade { IfNone result (IsUnmade H.file_calls host.old host.new (name_in input.entry) name.now) }
 {
     let source = host.look(source_of(input));
     let target = host.look(name);

@@ -4,7 +4,7 @@ use Rattle.std.specs.Prelude.{◌^◌, Option, Some, None, IfOk, IfSome, take, R
 use Rattle.std.specs.Io.KnownBytes.{Consumes, IsAtEnd}
 use Rattle.std.proofs.lemmas.Bool.{cases_lt, lt-ltb}
 use Rattle.std.proofs.lemmas.List.{length-append, length-take, take_all, take_more}
-use Rattle.fx_frame_io.specs.Io.{ByteReader, saturated}
+use Rattle.fx_frame_base.specs.Io.{ByteReader, saturated}
 use Rattle.soxchain_common.specs.Consoles.{IsNewReader, Opened}
 use Rattle.soxchain_common.specs.Files.{AreRead, AreReadTo, Failed, IsAsked, IsFront, IsOpenedAndClosed, kept_with}
 use Rattle.soxchain_common.specs.declared.files.UnreadFile.{UnreadFile}

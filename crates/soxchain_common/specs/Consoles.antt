@@ -1,7 +1,7 @@
 -- What a program asks of a host, and what it answers (this project's profile).
 use Rattle.std.specs.Prelude.{◌≡◌, ℕ, true, List}
 use Rattle.std.specs.declared.io.ErrorKind.{ErrorKind}
-use Rattle.fx_frame_io.specs.Io.{ByteReader, ByteWriter}
+use Rattle.fx_frame_base.specs.Io.{ByteReader, ByteWriter}
 
 -- A host, by what it answered to one call: the words after the program's name, or why they could not be read; a standard
 -- stream; or standard output, given back by the call: nothing more is written to it.

@@ -1,6 +1,6 @@
 -- The coefficient files as they are read (this project's profile).
 use Rattle.std.specs.Prelude.{◌≡◌, ◌≤◌, ℕ, ◌+◌, ◌^◌, List, [], ◌∷◌, ◌++◌, Some, IfSome, length, slice_get, take, if◌then◌else◌, nat_lt}
-use Rattle.fx_frame_io.specs.Io.{ByteReader}
+use Rattle.fx_frame_base.specs.Io.{ByteReader}
 use Rattle.soxchain_common.specs.Consoles.{IsNewReader, Opened}
 use Rattle.soxchain_common.specs.declared.files.FilesFault.{FilesFault}
 use Rattle.soxchain_common.specs.declared.files.FilesFault.TheVariants.{CannotRead, Memory}

@@ -1,7 +1,7 @@
 //! The host that a program works on: its words and its standard streams.
 ghost use Rattle.std.specs.Prelude.{IfErr, IfOk, ⊤};
 ghost use Rattle.std.specs.IoError.{error_kind};
-ghost use Rattle.fx_plan_line.specs.Line.{texts};
+ghost use Rattle.fx_plan.specs.Line.{texts};
 ghost use Rattle.soxchain_common.specs.Consoles.{IsNewWriter, IsNewReader, Machine};
 
 use crate::files::Openings;

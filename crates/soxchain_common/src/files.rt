@@ -1,6 +1,6 @@
 //! The coefficient files that the words name.
 ghost use Rattle.std.specs.Prelude.{◌≡◌, ◌≤◌, ◌+◌, ◌^◌, List, ℕ, IfErr, IfOk, IfSome, length, take, ⊤};
-ghost use Rattle.fx_frame_io.specs.Io.{saturated};
+ghost use Rattle.fx_frame_base.specs.Io.{saturated};
 ghost use Rattle.fx_plan.specs.CommandLines.{coefficient_files, effects_in};
 ghost use Rattle.fx_plan.specs.Plans.{plan_bytes};
 ghost use Rattle.soxchain_common.specs.Consoles.{IsNewReader};

@@ -1,15 +1,15 @@
 -- What is read of a head, from a reader of which nothing was read yet.
 use Rattle.std.proofs.Common.{◌≡◌, ℕ, ◌+◌, List, Option, Some, Result, Ok, Err, IfErr, IfOk, MatchBool, refl}
-use Rattle.fx_frame_io.specs.Io.{ByteReader, saturated}
-use Rattle.fx_sound_heads.specs.Head.{ReadsHead, head_of}
-use Rattle.fx_sound_heads.specs.HeadFields.{is_read_failure}
-use Rattle.fx_sound_heads.specs.Known.{IfKnown}
-use Rattle.fx_sound_heads.specs.Reads.{CutOff, Fails, Refuses}
-use Rattle.fx_sound_heads.specs.Source.{Held, to_come}
-use Rattle.fx_sound_heads.specs.declared.head.Head.{Head}
-use Rattle.fx_sound_heads.specs.declared.head.HeadFault.{HeadFault}
-use Rattle.fx_sound_heads.specs.declared.head.HeadFault.TheVariants.{ReadFailed}
-use Rattle.fx_sound_heads.specs.declared.head.Kind.{Kind}
+use Rattle.fx_frame_base.specs.Io.{ByteReader, saturated}
+use Rattle.fx_sound.specs.Head.{ReadsHead, head_of}
+use Rattle.fx_sound.specs.HeadFields.{is_read_failure}
+use Rattle.fx_sound.specs.Known.{IfKnown}
+use Rattle.fx_sound.specs.Reads.{CutOff, Fails, Refuses}
+use Rattle.fx_sound.specs.Source.{Held, to_come}
+use Rattle.fx_sound.specs.declared.head.Head.{Head}
+use Rattle.fx_sound.specs.declared.head.HeadFault.{HeadFault}
+use Rattle.fx_sound.specs.declared.head.HeadFault.TheVariants.{ReadFailed}
+use Rattle.fx_sound.specs.declared.head.Kind.{Kind}
 use Rattle.soxchain.specs.Convert.{unread_source}
 use Rattle.soxchain.proofs.Converting.{to_come-start}
 use Rattle.soxchain_plan.specs.Heads.{HeadIsRead, IsHeadOf}

@@ -1,7 +1,7 @@
 -- What was kept of a message.
 use Rattle.std.proofs.Common.{◌≡◌, ℕ, false, List, [], MutBor, Some, refl}
 use Rattle.std.proofs.KnownBytes.{Appends-nil}
-use Rattle.fx_frame_io.specs.Io.{ByteWriter}
+use Rattle.fx_frame_base.specs.Io.{ByteWriter}
 use Rattle.soxchain.specs.declared.message_writer.MessageWriter.{MessageWriter}
 use Rattle.soxchain.specs.Saying.{BeginsMessage, Says}
 use Rattle.soxchain.specs.MessageWriter.{Delivered}

@@ -3,12 +3,12 @@ use Rattle.std.specs.Prelude.{◌≡◌, ◌≢◌, ℕ, true, List, [], ◌++�
 use Rattle.std.specs.Io.KnownBytes.{Appends}
 use Rattle.std.specs.declared.io.ErrorKind.{ErrorKind}
 use Rattle.std.specs.declared.io.ErrorKind.TheVariants as ErrorKinds
-use Rattle.fx_frame_io.specs.Io.{ByteReader, ByteWriter}
-use Rattle.fx_plan_line.specs.declared.line.LineFault.{LineFault}
-use Rattle.fx_plan_line.specs.declared.line.LineFault.TheVariants as LineFaults
-use Rattle.fx_plan_line.specs.Line.{Said, line_of_words}
-use Rattle.fx_sound_heads.specs.declared.head.Head.{Head}
-use Rattle.fx_sound_heads.specs.declared.head.HeadFault.{HeadFault}
+use Rattle.fx_frame_base.specs.Io.{ByteReader, ByteWriter}
+use Rattle.fx_plan.specs.declared.line.LineFault.{LineFault}
+use Rattle.fx_plan.specs.declared.line.LineFault.TheVariants as LineFaults
+use Rattle.fx_plan.specs.Line.{Said, line_of_words}
+use Rattle.fx_sound.specs.declared.head.Head.{Head}
+use Rattle.fx_sound.specs.declared.head.HeadFault.{HeadFault}
 use Rattle.fx_plan.specs.CommandLines.{LineReads, coefficient_files, effects_in, file_name, planning_in}
 use Rattle.fx_plan.specs.Plans.{RefusesPlan, all_faults, head_layout}
 use Rattle.fx_plan.specs.declared.fault.PlanFault.{PlanFault}

@@ -1,15 +1,15 @@
 -- The head of IN as it is read (this project's profile).
 use Rattle.std.specs.Prelude.{◌≡◌, ◌≢◌, ℕ, ◌+◌, List, Option, Result, Ok, Err, MatchBool}
-use Rattle.fx_sound_heads.specs.Head.{head_of}
-use Rattle.fx_sound_heads.specs.HeadFields.{is_read_failure}
-use Rattle.fx_sound_heads.specs.Known.{IfKnown}
-use Rattle.fx_sound_heads.specs.declared.head.Head.{Head}
-use Rattle.fx_sound_heads.specs.declared.head.HeadFault.{HeadFault}
-use Rattle.fx_sound_heads.specs.declared.head.HeadFault.TheVariants.{ReadFailed}
-use Rattle.fx_sound_heads.specs.declared.head.Kind.{Kind}
-use Rattle.fx_sound_heads.specs.Reads.{CutOff}
-use Rattle.fx_sound_heads.specs.Source.{Held}
-use Rattle.fx_frame_io.specs.Io.{ByteReader, saturated}
+use Rattle.fx_sound.specs.Head.{head_of}
+use Rattle.fx_sound.specs.HeadFields.{is_read_failure}
+use Rattle.fx_sound.specs.Known.{IfKnown}
+use Rattle.fx_sound.specs.declared.head.Head.{Head}
+use Rattle.fx_sound.specs.declared.head.HeadFault.{HeadFault}
+use Rattle.fx_sound.specs.declared.head.HeadFault.TheVariants.{ReadFailed}
+use Rattle.fx_sound.specs.declared.head.Kind.{Kind}
+use Rattle.fx_sound.specs.Reads.{CutOff}
+use Rattle.fx_sound.specs.Source.{Held}
+use Rattle.fx_frame_base.specs.Io.{ByteReader, saturated}
 use Rattle.soxchain.specs.Convert.{Begins, unread_source}
 use Rattle.soxchain_common.specs.Consoles.{IsNewReader}
 

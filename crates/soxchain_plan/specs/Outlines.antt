@@ -2,9 +2,9 @@
 use Rattle.std.specs.Prelude.{◌≡◌, ℕ, ◌+◌, ◌-◌, ◌*◌, ◌/◌, ◌^◌, ◌≤◌, List, [], ◌∷◌, Option, None, Some, length, map, min, sum}
 use Rattle.std.specs.List.{All}
 use Rattle.std.specs.Option.{option_map}
-use Rattle.fx_frame_io.specs.Coding.{width_of}
-use Rattle.fx_sound_heads.specs.declared.head.Head.{Head}
-use Rattle.fx_frame_stage.specs.Frame.{Samples}
+use Rattle.fx_frame_base.specs.Coding.{width_of}
+use Rattle.fx_sound.specs.declared.head.Head.{Head}
+use Rattle.fx_frame_base.specs.Frame.{Samples}
 use Rattle.fx_plan_effects.specs.Bounds.{hold_all, hold_of_act}
 use Rattle.fx_plan_effects.specs.Effects.{Act, channels_after, name_text}
 use Rattle.fx_plan_effects.specs.Registry.{OfDownsample, OfEchos, OfFade, OfFir, OfPad, OfTrim, OfUpsample}

@@ -2,8 +2,8 @@
 use Rattle.std.specs.Prelude.{ℕ, ◌/◌, ◌%◌, ◌==◌, ◌||◌, nat_lt, false, if◌then◌else◌, List, [], ◌∷◌, ◌++◌, codes, decimal, flat_map}
 use Rattle.std.specs.Fmt.{digit_glyph}
 use Rattle.std.specs.Io.BufRead.{strip_last}
-use Rattle.fx_sound_heads.specs.declared.head.Kind.{Kind}
-use Rattle.fx_sound_heads.specs.declared.head.Kind.TheVariants.{Wav, Au}
+use Rattle.fx_sound.specs.declared.head.Kind.{Kind}
+use Rattle.fx_sound.specs.declared.head.Kind.TheVariants.{Wav, Au}
 
 -- the name of a kind
 abbrev pub kind_text : Kind → List ℕ

@@ -1,6 +1,6 @@
 //! What each effect does to the number of frames, of channels and of bytes and to the rate, and its latency.
 ghost use Rattle.std.specs.Prelude.{◌≡◌, ◌*◌, ◌+◌, ◌-◌, ◌^◌, ◌≤◌, List, filter, if◌then◌else◌, length, min, sum_by, ℕ};
-ghost use Rattle.fx_frame_stage.specs.Frame.{Samples};
+ghost use Rattle.fx_frame_base.specs.Frame.{Samples};
 ghost use Rattle.fx_cut.specs.Fade.{stop_in, until};
 ghost use Rattle.fx_cut.specs.Pad.{is_inside};
 ghost use Rattle.fx_cut.specs.TrimState.{kept_count};

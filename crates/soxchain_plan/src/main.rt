@@ -4,7 +4,7 @@
 //! and the status of soxchain, and then a line that says what to do.
 #![tactic(auto)]
 
-ghost use Rattle.fx_plan_line.specs.Line.{texts};
+ghost use Rattle.fx_plan.specs.Line.{texts};
 ghost use Rattle.fx_plan.specs.Plans.{plan_bytes};
 ghost use Rattle.soxchain_common.specs.About.{answer_of};
 ghost use Rattle.soxchain_plan.specs.Answering.{PlanAnswers, PlanLines, Plans, Words, PlanWorks};

@@ -2,12 +2,12 @@
 ghost use Rattle.std.specs.Prelude.{◌≡◌, ◌*◌, ◌+◌, ◌-◌, ◌^◌, ◌<◌, ◌≤◌, false, IfOk, IfSome, List, None, OnOk, Some, length, map, min, sum_by};
 ghost use Rattle.std.specs.Io.KnownBytes.{Appends};
 ghost use Rattle.std.specs.List.{All};
-ghost use Rattle.fx_frame_io.specs.Coding.{width_of};
+ghost use Rattle.fx_frame_base.specs.Coding.{width_of};
 ghost use Rattle.fx_plan_effects.specs.Bounds.{hold_all, is_too_long};
 ghost use Rattle.fx_plan_effects.specs.Effects.{Usable, act};
 ghost use Rattle.fx_plan_effects.specs.Meanings.{InPlace, line_of_act, meaning_at, recipe_at};
 ghost use Rattle.fx_chain_flow.specs.Composed.{composed, composed_wholes};
-ghost use Rattle.fx_frame_stage.specs.Frame.{Samples};
+ghost use Rattle.fx_frame_base.specs.Frame.{Samples};
 ghost use Rattle.fx_chain_stages.specs.Made.{recipes_for};
 ghost use Rattle.fx_plan.specs.Planning.{planning};
 ghost use Rattle.soxchain_plan.specs.Outlines.{IsOutline, announced_frames, bytes_along, held_bytes, known, rates_along, delivered, stated_bytes, stated_frames, stated_rate, whole_frames};

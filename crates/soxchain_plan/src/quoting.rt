@@ -2,7 +2,7 @@
 ghost use Rattle.std.specs.Prelude.{◌≡◌, ◌*◌, OnOk};
 ghost use Rattle.std.specs.Io.BufRead.{strip_last};
 ghost use Rattle.std.specs.Io.KnownBytes.{Appends};
-ghost use Rattle.fx_frame_io.specs.Coding.{width_of};
+ghost use Rattle.fx_frame_base.specs.Coding.{width_of};
 ghost use Rattle.soxchain_plan.specs.Quoted.{json_byte, json_string, kind_text, stop_json};
 
 use fx_frame::Coding;

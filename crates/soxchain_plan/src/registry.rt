@@ -1,7 +1,7 @@
 // Written by scripts/effects from effects/*.toml. Do not edit.
 //! How many frames each effect makes.
 ghost use Rattle.std.specs.Prelude.{◌≡◌, ◌-◌, ◌^◌, List, length, min, ℕ};
-ghost use Rattle.fx_frame_stage.specs.Frame.{Samples};
+ghost use Rattle.fx_frame_base.specs.Frame.{Samples};
 ghost use Rattle.fx_plan_effects.specs.Effects.{Usable, act};
 ghost use Rattle.fx_plan_effects.specs.Meanings.{InPlace, line_of_act, meaning_at, recipe_at};
 

@@ -6,7 +6,7 @@ use Rattle.std.proofs.lemmas.List.{flat_map_more, get_or-drop, get_or-take, get_
 use Rattle.std.proofs.lemmas.Nat.{from_le_bytes-to_le_bytes_8}
 use Rattle.std.specs.List.{All}
 use Rattle.std.proofs.lemmas.List.Elements.{All-cons, All-head, All-tail}
-use Rattle.fx_frame_stage.specs.Frame.{IsWideFrame, Samples}
+use Rattle.fx_frame_base.specs.Frame.{IsWideFrame, Samples}
 use Rattle.std.specs.Int.{cast_signed, cast_unsigned, from_le_bytes, w64}
 use Rattle.soxchain_stream.specs.Frozen.{frame_words, word}
 

@@ -2,7 +2,7 @@
 use Rattle.std.specs.Prelude.{ℕ, ◌<◌, ◌^◌, List, ◌∷◌, ◌++◌, flat_map, length, map}
 use Rattle.std.specs.Int.{cast_unsigned, to_le_bytes, w64}
 use Rattle.std.specs.List.{All}
-use Rattle.fx_frame_stage.specs.Frame.{IsWideFrame, Samples}
+use Rattle.fx_frame_base.specs.Frame.{IsWideFrame, Samples}
 
 -- a number of 64 bits
 abbrev pub IsWord : ℕ → Type 0

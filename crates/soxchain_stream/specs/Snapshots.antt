@@ -2,7 +2,7 @@
 use Rattle.std.specs.Prelude.{ℕ, List, ◌≡◌}
 use Rattle.fx_chain.specs.Chain.{ChainParts}
 use Rattle.fx_chain_flow.specs.Frozen.{FreezesFlow}
-use Rattle.fx_frame_stage.specs.Frame.{Samples}
+use Rattle.fx_frame_base.specs.Frame.{Samples}
 use Rattle.fx_chain_stages.specs.Stages.{effect_acts}
 use Rattle.soxchain_stream.specs.Frozen.{AreStored, snapshot_bytes}
 

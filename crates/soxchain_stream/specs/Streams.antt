@@ -2,17 +2,17 @@
 use Rattle.std.specs.Prelude.{ℕ, ℤ, ◌≡◌, ◌+◌, ◌*◌, ◌-◌, ◌<◌, ◌≤◌, ◌||◌, nat_lt, nat_eq, true, false, if◌then◌else◌, List, drop, length, map, slice_index, option_to_list}
 use Rattle.fx_chain.specs.Chain.{ChainParts}
 use Rattle.fx_chain_flow.specs.declared.flow.State.TheVariants as States
-use Rattle.fx_chain_flow.specs.Feed.{FlowFed, FlowTookWithinCapacity}
-use Rattle.fx_frame_stage.specs.Pipeline.{outputs_of}
+use Rattle.fx_chain_flow.specs.Feed.{FlowFed, FlowTookWithinSpace}
+use Rattle.fx_frame_base.specs.Pipeline.{outputs_of}
 use Rattle.fx_chain_flow.specs.Parts.{any_spent}
 use Rattle.fx_chain_flow.specs.Steps.{IsHungry, StateIs}
-use Rattle.fx_frame_stage.specs.declared.feed.Passed.{Passed}
-use Rattle.fx_frame_stage.specs.Holds.{held_sum, kinds}
-use Rattle.fx_frame_lists.specs.Lists.{pieces}
+use Rattle.fx_frame_base.specs.declared.feed.Passed.{Passed}
+use Rattle.fx_frame_base.specs.Holds.{held_sum, kinds}
+use Rattle.fx_frame_base.specs.Lists.{pieces}
 use Rattle.fx_chain_stages.specs.Stages.{effect_acts}
 use Rattle.soxchain_stream.specs.declared.stream.Stream.{Stream}
 use Rattle.soxchain_stream.specs.declared.stream.Waits.{Waits}
-use Rattle.soxchain_stream.specs.declared.stream.Waits.TheVariants.{Frames, Buffer, Nothing, End}
+use Rattle.soxchain_stream.specs.declared.stream.Waits.TheVariants.{Frames, Output, Nothing, End}
 
 -- samples per frame that a chain takes, and per frame that it gives
 abbrev pub inputs_in : ChainParts → ℕ
@@ -33,7 +33,7 @@ pub record ChainFed (c c' : ChainParts) (input old new : List ℤ) (passed : Pas
   pub used : passed.given * outputs_in c + outputs_in c ≤ length new → c'.flow.ended ≡ false → any_spent effect_acts c'.flow.stages ≡ false
       → length input < passed.taken * inputs_in c + inputs_in c
   -- each frame was taken while the output had space for one more than was due before it
-  pub free : FlowTookWithinCapacity effect_acts c.flow passed.taken (length old)
+  pub free : FlowTookWithinSpace effect_acts c.flow passed.taken (length old)
   -- where the output has no space for one frame, the chain is unchanged
   pub unchanged : length old < outputs_in c → c' ≡ c
   pub plan : c'.plan ≡ c.plan
@@ -47,7 +47,7 @@ pub record StreamWasFed (s t : Stream) (input old new : List ℤ) (passed : Pass
 abbrev pub WaitsFor : Waits → Stream → Type 0
 WaitsFor Frames s = IsHungry effect_acts s.chain.flow × (any_spent effect_acts s.chain.flow.stages ≡ false)
 WaitsFor End s = IsHungry effect_acts s.chain.flow × (any_spent effect_acts s.chain.flow.stages ≡ true)
-WaitsFor Buffer s = StateIs effect_acts States.Busy s.chain.flow
+WaitsFor Output s = StateIs effect_acts States.Busy s.chain.flow
 WaitsFor Nothing s = StateIs effect_acts States.Done s.chain.flow
 
 -- a stream that was given the end
@@ -67,6 +67,6 @@ held_in s = length (option_to_list s.chain.flow.inlet) + held_sum effect_acts s.
 -- what C gets for what a stream waits for (packaging/soxchain.h)
 abbrev pub wait_number : Waits → ℕ
 wait_number Frames = 0
-wait_number Buffer = 1
+wait_number Output = 1
 wait_number Nothing = 2
 wait_number End = 3

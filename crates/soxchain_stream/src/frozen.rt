@@ -5,7 +5,7 @@
 ghost use Rattle.std.specs.Prelude.{◌≡◌, ◌↔◌, ◌≤◌, ◌++◌, flat_map, length, IfOk, IfSome, MatchOption, IsSome, OnOk, map, List, ℕ};
 ghost use Rattle.std.specs.Int.{cast_signed, w64};
 ghost use Rattle.std.specs.List.{All};
-ghost use Rattle.fx_frame_stage.specs.Frame.{IsWideFrame, Samples};
+ghost use Rattle.fx_frame_base.specs.Frame.{IsWideFrame, Samples};
 ghost use Rattle.soxchain_stream.specs.Frozen.{AreStored, IsWord, frame_words, snapshot_bytes, snapshot_words, word};
 
 use byteorder::{ByteOrder, LittleEndian};

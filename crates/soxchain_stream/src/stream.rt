@@ -32,7 +32,7 @@ pub enum Waits {
     /// For frames or the end.
     Frames,
     /// For space in the output.
-    Buffer,
+    Output,
     /// For nothing: all was given.
     Nothing,
     /// For the end: no frame changes what is still to be given.
@@ -80,7 +80,7 @@ impl Stream {
         ensures { WaitsFor result self.now }
     {
         match self.chain.state() {
-            State::Busy => Waits::Buffer,
+            State::Busy => Waits::Output,
             State::Done => Waits::Nothing,
             State::Hungry => {
                 if self.chain.is_spent() {

@@ -1,6 +1,6 @@
 //! Sums by transforms beside plain sums.
 use crate::fixed_tests::REFUSED;
-use fx_tap_convolve::transforms::Spectrum;
+use fx_tap_sums::transforms::Spectrum;
 use std::alloc::{AllocError, Global};
 
 /// Numbers of 32 bits that look random, from a place on.

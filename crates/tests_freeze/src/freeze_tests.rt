@@ -5,7 +5,7 @@ ghost use Rattle.fx_plan.specs.Planning.{planning};
 use fx_chain::{Chain, Snapshot};
 use fx_chain_flow::flow::{MAX_FRAMES, State, Step};
 use fx_frame::WideFrame;
-use fx_frame_stage::stage::ThawFault;
+use fx_frame_base::stage::ThawFault;
 use fx_plan::Plan;
 use std::alloc::Global;
 use tests_driving::driving::{

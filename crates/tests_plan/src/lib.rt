@@ -1,5 +1,5 @@
-//! The worked rows of fx_plan_line and fx_plan. They stand in a crate of their own, so that those crates are not proved once more for
-//! them, and apart from tests_base, which need not wait for the effects.
+//! The worked rows of fx_plan. They stand in a crate of their own, so that it is not proved once more for them,
+//! and apart from tests_base, which need not wait for the effects.
 #![tactic(auto)]
 
 #[cfg(test)]

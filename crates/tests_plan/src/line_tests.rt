@@ -1,6 +1,6 @@
 //! Command lines that are refused and accepted.
 
-use fx_plan_line::{Bits, LineFault, read_line};
+use fx_plan::{Bits, LineFault, read_line};
 use fx_sound::Kind;
 use std::alloc::{AllocError, Global};
 use std::test::Fail;

@@ -1,7 +1,7 @@
 //! How the rows drive a stage. Samples of frames stand one after the other, those of a frame together. An error is a text, so
 //! that it is not dropped where a function is left.
 ghost use Rattle.std.specs.Prelude.{◌≡◌, ◌^◌, ◌≤◌, IfOk, unsigned_abs};
-ghost use Rattle.fx_frame_stage.specs.Stage.{kind};
+ghost use Rattle.fx_frame_base.specs.Stage.{kind};
 
 use fx_fixed::{Gain, UNIT};
 use fx_frame::{Frame, Stage, ThawFault, WideFrame};

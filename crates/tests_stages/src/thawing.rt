@@ -1,6 +1,6 @@
 //! How the tests freeze a stage and make it again.
 ghost use Rattle.std.specs.Prelude.{◌≤◌, ◌^◌, IfOk};
-ghost use Rattle.fx_frame_stage.specs.Stage.{kind};
+ghost use Rattle.fx_frame_base.specs.Stage.{kind};
 
 use crate::driving::{REFUSED, compare, gives, stored};
 use fx_frame::{Frame, Stage, ThawFault, WideFrame};

@@ -1,6 +1,6 @@
 use Rattle.std.proofs.Common.{sym}
 use Rattle.std.specs.IoError.{error_kind}
-use Rattle.fx_plan_line.specs.Line.{texts}
+use Rattle.fx_plan.specs.Line.{texts}
 use Rattle.soxchain.proofs.Converting.{line-read}
 use Rattle.soxchain_cli.specs.Working.{Mute, Shown, BadWords, Worked}
 use Rattle.soxchain_cli.proofs.work.Goals as goal

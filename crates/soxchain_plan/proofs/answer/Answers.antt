@@ -1,5 +1,5 @@
 use Rattle.std.specs.IoError.{error_kind}
-use Rattle.fx_plan_line.specs.Line.{texts}
+use Rattle.fx_plan.specs.Line.{texts}
 use Rattle.soxchain_plan.specs.Answering.{Asked, Mute}
 use Rattle.soxchain_plan.proofs.answer.Goals as goal
 

@@ -1,9 +1,9 @@
 use Rattle.std.proofs.Common.{◌<◌, ◌≤◌, ◌+◌, ◌-◌, ◌*◌, ◌∙◌, drop, length, refl, ap, arith}
 use Rattle.std.proofs.lemmas.List.{length-drop, take_all}
 use Rattle.std.proofs.Math.Nat.{add-mul}
-use Rattle.fx_frame_lists.proofs.Pieces.{length-pieces}
-use Rattle.fx_frame_stage.specs.Holds.{kinds}
-use Rattle.fx_frame_stage.specs.Pipeline.{outputs_of}
+use Rattle.fx_frame_base.proofs.Pieces.{length-pieces}
+use Rattle.fx_frame_base.specs.Holds.{kinds}
+use Rattle.fx_frame_base.specs.Pipeline.{outputs_of}
 use Rattle.fx_chain_flow.specs.Feed.{HoldsBound}
 use Rattle.fx_chain_flow.proofs.Feeding.{Turned-none, Turned-gave, Turned-gave-last, Turned-moved, Turned-outs, Turned-ran, Turned-ran-last, Turned-free, Turned-sides, none-out, smaller-run, smaller-step, some-gave}
 use Rattle.fx_chain_flow.proofs.Running.{put-rest}

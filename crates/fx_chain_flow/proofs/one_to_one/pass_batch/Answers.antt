@@ -1,9 +1,9 @@
 use Rattle.std.proofs.Common.{◌≡◌, ◌∙◌, ◌<◌, add-one, get_or, length, set, refl, sym, ap, arith}
-use Rattle.fx_frame_lists.specs.Lists.{pieces}
-use Rattle.fx_frame_stage.specs.Stage.{kind}
-use Rattle.fx_frame_lists.proofs.Pieces.{length-pieces}
+use Rattle.fx_frame_base.specs.Lists.{pieces}
+use Rattle.fx_frame_base.specs.Stage.{kind}
+use Rattle.fx_frame_base.proofs.Pieces.{length-pieces}
 use Rattle.std.proofs.lemmas.List.{length-set}
-use Rattle.fx_frame_stage.specs.Pipeline.{EachThrough}
+use Rattle.fx_frame_base.specs.Pipeline.{EachThrough}
 use Rattle.fx_chain_flow.specs.Together.{in_front, one_further}
 use Rattle.fx_chain_flow.proofs.PieceLaws.{AllKeep-piece, MayFeed, MayFeed-at, PieceTo-next, PieceTo-out, ThroughAt-set}
 use Rattle.fx_chain_flow.proofs.Pipelines.{AllLined-set, lined-bound}

@@ -1,6 +1,6 @@
 use Rattle.std.proofs.Common.{◌≡◌, ◌+◌, ◌*◌, ◌≤◌, length}
-use Rattle.fx_frame_lists.specs.Lists.{pieces}
-use Rattle.fx_frame_stage.specs.Holds.{held_sum, hold_sum, kinds}
+use Rattle.fx_frame_base.specs.Lists.{pieces}
+use Rattle.fx_frame_base.specs.Holds.{held_sum, hold_sum, kinds}
 use Rattle.fx_chain_flow.specs.Pipeline.{AllLined}
 use Rattle.fx_chain_flow.specs.Together.{CameTogether}
 use Rattle.fx_chain_flow.proofs.PieceLaws.{PieceTo}

@@ -1,5 +1,5 @@
 use Rattle.std.proofs.Common.{drop}
-use Rattle.fx_frame_stage.specs.Holds.{kinds}
+use Rattle.fx_frame_base.specs.Holds.{kinds}
 use Rattle.fx_chain_flow.specs.Runs.{AllKeep}
 use Rattle.fx_chain_flow.proofs.runs.keeps_channels.Given as goal
 

@@ -1,7 +1,7 @@
 use Rattle.std.proofs.Common.{rules, ◌≡◌, ◌<◌, ◌∙◌, Some, get_or, length, take, sym, arith, add-one}
 use Rattle.std.proofs.lemmas.List.{length-take-le}
-use Rattle.fx_frame_stage.specs.Holds.{kinds}
-use Rattle.fx_frame_stage.specs.Pipeline.{outputs_of}
+use Rattle.fx_frame_base.specs.Holds.{kinds}
+use Rattle.fx_frame_base.specs.Pipeline.{outputs_of}
 use Rattle.fx_chain_flow.specs.Pipeline.{WentThrough}
 use Rattle.fx_chain_flow.proofs.Pipelines.{CameTo-next, MayPass, MayPass-at, WentThrough-kept, WentThrough-out}
 use Rattle.fx_chain_flow.proofs.PipelineSteps.{WentThrough-sides}

@@ -3,8 +3,8 @@ use Rattle.std.specs.Prelude.{ℤ, FitsSigned}
 use Rattle.std.specs.Int.{w32}
 use Rattle.std.proofs.lemmas.List.Elements.{All-nil}
 use Rattle.std.proofs.Math.Nat.{mul-le-mul_left}
-use Rattle.fx_frame_lists.specs.Lists.{pieces}
-use Rattle.fx_frame_stage.proofs.PipelineLaws.{PipelineThrough-none}
+use Rattle.fx_frame_base.specs.Lists.{pieces}
+use Rattle.fx_frame_base.proofs.PipelineLaws.{PipelineThrough-none}
 use Rattle.fx_chain_flow.specs.Sound.{max_frames}
 use Rattle.fx_chain_flow.proofs.PipelineRuns.{AreReady-run, RanOn-pipeline, PipelineThrough-stays}
 use Rattle.fx_chain_flow.proofs.Pipelines.{AllHeld-lined}

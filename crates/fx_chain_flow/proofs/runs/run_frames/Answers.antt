@@ -1,8 +1,8 @@
 use Rattle.std.proofs.Common.{rules, ◌≡◌, ◌+◌, ◌*◌, ◌<◌, ◌≤◌, ℕ, length, take, inl, inr, refl, sym, arith}
 use Rattle.std.proofs.lemmas.Grind.{common_steps}
 use Rattle.std.proofs.Math.Nat.{mul-le-mul_right}
-use Rattle.fx_frame_stage.specs.Holds.{kinds}
-use Rattle.fx_frame_stage.specs.Pipeline.{outputs_of}
+use Rattle.fx_frame_base.specs.Holds.{kinds}
+use Rattle.fx_frame_base.specs.Pipeline.{outputs_of}
 use Rattle.fx_chain_flow.specs.Runs.{MayRun}
 use Rattle.fx_chain_flow.specs.Sound.{max_frames}
 use Rattle.fx_chain_flow.proofs.Running.{Running-frame, Running-none, Running-ran, Running-ready, Wrote}

@@ -1,5 +1,5 @@
 use Rattle.std.proofs.Common.{◌≡◌, ◌≤◌, ◌*◌, drop, ℕ}
-use Rattle.fx_frame_stage.specs.Holds.{kinds}
+use Rattle.fx_frame_base.specs.Holds.{kinds}
 use Rattle.fx_chain_flow.specs.Parts.{AllDetermined}
 use Rattle.fx_chain_flow.specs.Runs.{MayRun}
 use Rattle.fx_chain_flow.proofs.Running.{Running}

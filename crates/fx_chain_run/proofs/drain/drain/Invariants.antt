@@ -1,7 +1,7 @@
 use Rattle.std.proofs.Common.{◌≡◌, ◌+◌, ◌-◌, ◌*◌, ◌≤◌, length}
 use Rattle.fx_chain_run.specs.Through.{Drained}
 use Rattle.fx_chain_flow.specs.Parts.{given_by, work, taken_of, ended_of, moves_of}
-use Rattle.fx_frame_stage.specs.Holds.{kinds, recipes}
+use Rattle.fx_frame_base.specs.Holds.{kinds, recipes}
 use Rattle.fx_sound.specs.Output.{bytes_put}
 use Rattle.fx_chain_run.proofs.drain.drain.Given as goal
 

@@ -1,6 +1,6 @@
 use Rattle.std.proofs.Common.{◌∙◌, ap, arith}
 use Rattle.fx_chain_flow.specs.Parts.{Parts}
-use Rattle.fx_frame_stage.specs.Holds.{recipes}
+use Rattle.fx_frame_base.specs.Holds.{recipes}
 use Rattle.fx_chain_run.proofs.Draining.{given_by-bound}
 use Rattle.fx_chain_run.proofs.pump.end_flow.Goals as goal
 

@@ -1,10 +1,10 @@
 use Rattle.std.proofs.Common.{◌≡◌, ℕ, ◌+◌, ◌*◌, ◌∙◌, [], length, drop, refl, subst, sym, ap, arith, false, true}
-use Rattle.fx_frame_io.specs.Io.{saturated}
+use Rattle.fx_frame_base.specs.Io.{saturated}
 use Rattle.fx_sound.specs.Runs.{RanFrames}
 use Rattle.fx_sound.proofs.RunLaws.{Ran-start, Ran-turn, Ran-whole, Takes-none, Ran-rest_unchanged, Ran-failed}
 use Rattle.fx_sound.specs.Container.{after_frames}
 use Rattle.fx_sound.specs.Sound.{Reading, size_of}
-use Rattle.fx_sound_heads.specs.Source.{to_come}
+use Rattle.fx_sound.specs.Source.{to_come}
 use Rattle.std.proofs.lemmas.Result.{err_from_is_err_and}
 use Rattle.std.specs.Prelude.{Some}
 use Rattle.fx_chain_run.specs.Run.{is_write_failed}
@@ -17,7 +17,7 @@ use Rattle.fx_chain_run.specs.Waiting.{begun}
 use Rattle.fx_chain_run.proofs.Waiting.{Waits-asked, Waits-until, WaitsMore-turn, WaitsMore-until, WaitsUntil, came-turn}
 use Rattle.fx_chain_run.proofs.pump.pump.Goals as goal
 use Rattle.fx_sound.proofs.Sending.{Sent-start}
-use Rattle.fx_sound_heads.proofs.Held.{HoldsWhatCame-rest_of_head}
+use Rattle.fx_sound.proofs.Held.{HoldsWhatCame-rest}
 
 -- before the first frame
 none-read : (held size : ℕ) → 0 * size + held ≡ held
@@ -143,7 +143,7 @@ returns-in-Err-ReadFailed-clause-came g c = λ _ bytes known.
     let next = rw c.in-Err-ReadFailed.field-0-is at c.in-Err-ReadFailed.ensures in
     let count : c.next_frame.new.progress.frames ≡ c.loop-turn.progress.frames = ap (λ (p : Reading). p.frames) next.err in
     let size : ℕ = c.loop-turn.progress.frames * size_of c.args.progress.now in
-    rw count (HoldsWhatCame-rest_of_head g.R.ReadBeside.reads.delivered c.args.source.now c.loop-turn.source _ bytes size old.takes (next.came refl (drop size bytes) (old.ran bytes known).to_come_is))
+    rw count (HoldsWhatCame-rest g.R.ReadBeside.reads.delivered c.args.source.now c.loop-turn.source _ bytes size old.takes (next.came refl (drop size bytes) (old.ran bytes known).to_come_is))
 
 pub returns-in-Err-TooLong-clause-too_long : goal.returns-in-Err-TooLong-clause-too_long
 returns-in-Err-TooLong-clause-too_long g c = λ _.

@@ -1,5 +1,5 @@
 use Rattle.std.proofs.Common.{◌≡◌, ◌+◌, ◌-◌, length}
-use Rattle.fx_sound_heads.specs.Source.{Stays, Takes}
+use Rattle.fx_sound.specs.Source.{Stays, Takes}
 use Rattle.fx_sound.specs.Output.{SendsOn, bytes_put}
 use Rattle.fx_chain_run.specs.Waiting.{AsksOn}
 use Rattle.fx_chain_run.proofs.reading.fetch.Given as goal

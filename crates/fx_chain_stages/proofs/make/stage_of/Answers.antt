@@ -6,7 +6,7 @@ use Rattle.fx_frame.specs.Tapped.{TapState}
 use Rattle.fx_tap_delays.specs.Delay.{every_delay}
 use Rattle.fx_tap_delays.specs.DelayState.{delay_acts}
 use Rattle.fx_tap_delays.specs.EchoWords.{echo_value}
-use Rattle.fx_frame_stage.specs.Stage.{IsNew}
+use Rattle.fx_frame_base.specs.Stage.{IsNew}
 use Rattle.fx_chain_stages.specs.Stages.{effect_acts}
 use Rattle.fx_chain_stages.specs.declared.registry.EffectStage.TheVariants as stages
 use Rattle.fx_chain_stages.proofs.Making.{delay-new, echo-new, fade-new, mixes-are, pad-new, pads-are, trim-new}

@@ -1,7 +1,7 @@
 use Rattle.std.proofs.Common.{◌≡◌, ◌++◌, ◌≤◌, ◌^◌, length, map, true}
 use Rattle.std.specs.List.{All}
 use Rattle.fx_chain_flow.specs.Parts.{AllNew}
-use Rattle.fx_frame_stage.specs.Holds.{recipes}
+use Rattle.fx_frame_base.specs.Holds.{recipes}
 use Rattle.fx_plan_effects.specs.Bounds.{hold_all}
 use Rattle.fx_plan_effects.specs.Effects.{Usable, act}
 use Rattle.fx_chain_stages.specs.Stages.{effect_acts}

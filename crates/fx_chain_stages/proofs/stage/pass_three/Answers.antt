@@ -3,7 +3,7 @@ use Rattle.std.proofs.Common.{◌≡◌, ◌*◌, ℕ, ℤ, [], List, FitsSigned
 use Rattle.std.specs.Int.{w32}
 use Rattle.std.specs.List.{All}
 use Rattle.std.proofs.lemmas.List.Elements.{All-nil}
-use Rattle.fx_frame_lists.specs.Lists.{pieces}
+use Rattle.fx_frame_base.specs.Lists.{pieces}
 use Rattle.fx_chain_stages.proofs.Joining.{through}
 use Rattle.fx_chain_stages.proofs.Registered.{dcshift-joins, remix-joins, vol-joins}
 use Rattle.fx_chain_stages.proofs.stage.pass_three.Goals as goal

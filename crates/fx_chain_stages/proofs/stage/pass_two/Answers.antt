@@ -1,6 +1,6 @@
 -- What two stages that round each sample alone passed on, the stages of any effects passed on.
 use Rattle.std.proofs.Common.{◌≡◌, ap, refl, sym}
-use Rattle.fx_frame_lists.specs.Lists.{pieces}
+use Rattle.fx_frame_base.specs.Lists.{pieces}
 use Rattle.fx_chain_stages.proofs.Joining.{through}
 use Rattle.fx_chain_stages.proofs.Registered.{dcshift-joins, vol-joins}
 use Rattle.fx_chain_stages.proofs.stage.pass_two.Goals as goal

@@ -2,7 +2,7 @@
 use Rattle.std.proofs.Common.{◌≡◌, ◌≤◌, ◌*◌, ◌+◌, ◌-◌, ◌++◌, ◌∙◌, ap, length, take, drop, sym, [], ◌∷◌, arith, add-one}
 use Rattle.std.proofs.lemmas.List.{length-drop, length-take-le}
 use Rattle.std.proofs.Math.Nat.{suc-mul, mul-le-mul_right}
-use Rattle.fx_frame_lists.proofs.Puts.{drop-put, pieces-put}
+use Rattle.fx_frame_base.proofs.Puts.{drop-put, pieces-put}
 use Rattle.fx_cut.specs.Strides.{firsts}
 use Rattle.fx_cut.proofs.DownsampleMany.{firsts-more}
 use Rattle.fx_cut.proofs.Pieces.{put-piece}

@@ -1,5 +1,5 @@
 use Rattle.std.proofs.Common.{◌≡◌, ◌*◌, drop}
-use Rattle.fx_frame_lists.specs.Lists.{pieces}
+use Rattle.fx_frame_base.specs.Lists.{pieces}
 use Rattle.fx_cut.specs.Strides.{firsts}
 use Rattle.fx_cut.proofs.downsample.copy_groups.Given as goal
 

@@ -1,5 +1,5 @@
 use Rattle.std.proofs.Common.{◌≡◌, ◌∙◌, sym}
-use Rattle.fx_frame_lists.proofs.Pieces.{length-pieces}
+use Rattle.fx_frame_base.proofs.Pieces.{length-pieces}
 use Rattle.fx_cut.proofs.Onto.{none-stay}
 use Rattle.fx_cut.proofs.lines.exchange_full.Goals as goal
 

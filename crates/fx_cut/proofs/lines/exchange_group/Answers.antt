@@ -1,7 +1,7 @@
 use Rattle.std.proofs.Common.{◌∙◌, List, sym}
 use Rattle.std.proofs.lemmas.List.{take-append-le}
-use Rattle.fx_frame_stage.specs.Frame.{Samples}
-use Rattle.fx_frame_lists.specs.Lists.{pieces}
+use Rattle.fx_frame_base.specs.Frame.{Samples}
+use Rattle.fx_frame_base.specs.Lists.{pieces}
 use Rattle.fx_cut.proofs.lines.exchange_group.Goals as goal
 
 pub returns-then-exchange_frames-clause-oldest : goal.returns-then-exchange_frames-clause-oldest

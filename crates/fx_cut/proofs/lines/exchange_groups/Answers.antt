@@ -2,10 +2,10 @@ use Rattle.std.proofs.Common.{append_assoc, ◌≡◌, ◌+◌, ◌-◌, ◌*◌
 use Rattle.std.specs.Prelude.{ℤ}
 use Rattle.std.proofs.lemmas.List.{drop-drop, length-drop, length-take-le}
 use Rattle.std.proofs.Math.Nat.{add-mul, mul-le-mul_right}
-use Rattle.fx_frame_stage.specs.Frame.{Samples}
-use Rattle.fx_frame_lists.specs.Lists.{pieces}
-use Rattle.fx_frame_lists.proofs.Pieces.{length-pieces}
-use Rattle.fx_frame_lists.proofs.Puts.{pieces-split, drop-put, pieces-take}
+use Rattle.fx_frame_base.specs.Frame.{Samples}
+use Rattle.fx_frame_base.specs.Lists.{pieces}
+use Rattle.fx_frame_base.proofs.Pieces.{length-pieces}
+use Rattle.fx_frame_base.proofs.Puts.{pieces-split, drop-put, pieces-take}
 use Rattle.fx_frame_line.specs.Line.{Frames}
 use Rattle.fx_frame_line.proofs.ManyFrames.{pieces-put_many}
 use Rattle.fx_frame.specs.Tapped.{last_of}

@@ -3,7 +3,7 @@ use Rattle.std.specs.Prelude.{FitsSigned, List, ℤ}
 use Rattle.std.proofs.lemmas.List.Elements.{All-set}
 use Rattle.std.proofs.lemmas.List.{drop-set-lt, drop_more}
 use Rattle.fx_cut.specs.Fade.{weighted}
-use Rattle.fx_frame_lists.specs.Rounded.{unclipped}
+use Rattle.fx_frame_base.specs.Rounded.{unclipped}
 use Rattle.fx_cut.proofs.Weighing.{weighted-more}
 use Rattle.fx_cut.proofs.slopes.weigh_by.Goals as goal
 

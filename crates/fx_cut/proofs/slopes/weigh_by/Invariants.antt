@@ -3,7 +3,7 @@ use Rattle.std.specs.Prelude.{FitsSigned}
 use Rattle.std.specs.Int.{w32}
 use Rattle.std.specs.List.{All}
 use Rattle.fx_cut.specs.Fade.{weighted}
-use Rattle.fx_frame_lists.specs.Rounded.{unclipped}
+use Rattle.fx_frame_base.specs.Rounded.{unclipped}
 use Rattle.fx_cut.proofs.slopes.weigh_by.Given as goal
 
 -- the samples so far are weighed, and the others as they came

@@ -2,7 +2,7 @@ use Rattle.std.proofs.Common.{rules, ◌≡◌, ◌+◌, ◌*◌, ◌-◌, ◌++
 use Rattle.std.proofs.lemmas.Grind.{div_ceil_times}
 use Rattle.std.proofs.lemmas.List.{get_or_append_left}
 use Rattle.std.proofs.Math.Nat.{add-mul, mul-le-mul_right}
-use Rattle.fx_frame_lists.proofs.ChannelPlaces.{others-joined, put-joined}
+use Rattle.fx_frame_base.proofs.ChannelPlaces.{others-joined, put-joined}
 use Rattle.fx_frame_line.proofs.Parts.{IsSplit, split-found, split-left, split-beyond}
 use Rattle.fx_frame_line.proofs.ring.copy_channel.Goals as goal
 

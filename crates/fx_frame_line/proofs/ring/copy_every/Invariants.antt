@@ -1,5 +1,5 @@
 use Rattle.std.proofs.Common.{◌≡◌, ◌+◌, ◌*◌, ◌<◌, ℕ, get_or}
-use Rattle.fx_frame_lists.specs.Lists.{IsOtherPlace}
+use Rattle.fx_frame_base.specs.Lists.{IsOtherPlace}
 use Rattle.fx_frame_line.proofs.ring.copy_every.Given as goal
 
 abbrev pub invariant-loop-k : goal.invariant-loop-k

@@ -1,5 +1,5 @@
 use Rattle.std.proofs.Common.{rules, ◌+◌, ◌*◌, ◌<◌, ◌∙◌, ℕ, length, refl, arith}
-use Rattle.fx_frame_lists.proofs.ChannelPlaces.{others-stay, put-more, within-frames}
+use Rattle.fx_frame_base.proofs.ChannelPlaces.{others-stay, put-more, within-frames}
 use Rattle.fx_frame_line.proofs.ring.fill_channel.Goals as goal
 
 pub offset_bounds-out-k : goal.offset_bounds-out-k

@@ -1,7 +1,7 @@
 use Rattle.std.proofs.Common.{◌≡◌, ◌+◌, ◌-◌, ◌*◌, [], ◌∷◌, ◌++◌, take, drop, ap, ◌∙◌, sym, arith, rules, w32, to_z, of_z}
 use Rattle.std.proofs.lemmas.List.{take_more_set}
-use Rattle.fx_frame_io.specs.Coding.{width_of, read_sample}
-use Rattle.fx_sound_heads.specs.FrameCoding.{coded_samples}
+use Rattle.fx_frame_base.specs.Coding.{width_of, read_sample}
+use Rattle.fx_sound.specs.FrameCoding.{coded_samples}
 use Rattle.fx_sound.proofs.FrameBytes.{samples_of-more}
 use Rattle.fx_sound.proofs.bulk.decode_as.Goals as goal
 

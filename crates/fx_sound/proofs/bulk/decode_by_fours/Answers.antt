@@ -1,7 +1,7 @@
 use Rattle.std.proofs.Common.{◌≡◌, ◌+◌, ◌-◌, ◌*◌, ◌/◌, ◌≤◌, ℕ, List, length, take, drop, ap, ◌∙◌, arith, length-drop, length-take}
-use Rattle.fx_frame_io.specs.Coding.{width_of}
-use Rattle.fx_frame_stage.specs.Frame.{Samples}
-use Rattle.fx_sound_heads.specs.FrameCoding.{coded_samples}
+use Rattle.fx_frame_base.specs.Coding.{width_of}
+use Rattle.fx_frame_base.specs.Frame.{Samples}
+use Rattle.fx_sound.specs.FrameCoding.{coded_samples}
 use Rattle.fx_sound.proofs.ManyBytes.{samples_of-piece, samples_of-rest}
 use Rattle.fx_sound.proofs.bulk.decode_by_fours.Goals as goal
 

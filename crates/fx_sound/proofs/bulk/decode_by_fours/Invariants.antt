@@ -1,5 +1,5 @@
 use Rattle.std.proofs.Common.{◌≡◌, ◌*◌, take}
-use Rattle.fx_sound_heads.specs.FrameCoding.{coded_samples}
+use Rattle.fx_sound.specs.FrameCoding.{coded_samples}
 use Rattle.fx_sound.proofs.bulk.decode_by_fours.Given as goal
 
 abbrev pub invariant-fours : goal.invariant-fours

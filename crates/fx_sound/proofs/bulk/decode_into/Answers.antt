@@ -1,7 +1,7 @@
 use Rattle.std.proofs.Common.{◌≡◌, ◌*◌, length, ap, ◌∙◌, arith}
-use Rattle.fx_frame_io.specs.Coding.{width_of}
-use Rattle.fx_sound_heads.specs.FrameCoding.{coded_samples}
-use Rattle.fx_frame_lists.specs.Lists.{pieces}
+use Rattle.fx_frame_base.specs.Coding.{width_of}
+use Rattle.fx_sound.specs.FrameCoding.{coded_samples}
+use Rattle.fx_frame_base.specs.Lists.{pieces}
 use Rattle.fx_sound.proofs.ManyBytes.{decoded-frames}
 use Rattle.fx_sound.proofs.bulk.decode_into.Goals as goal
 

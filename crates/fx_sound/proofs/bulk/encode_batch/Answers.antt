@@ -1,6 +1,6 @@
 use Rattle.std.proofs.Common.{rules, ◌≡◌, ◌<◌, length, get_or, ap, ◌∙◌, sym, arith, pos, w32, to_z, of_z}
-use Rattle.fx_frame_io.specs.Coding.{written_sample, clips_written}
-use Rattle.fx_frame_stage.specs.Frame.{Samples}
+use Rattle.fx_frame_base.specs.Coding.{written_sample, clips_written}
+use Rattle.fx_frame_base.specs.Frame.{Samples}
 use Rattle.fx_sound.proofs.FrameBytes.{bytes_of-turn, clips_of-yes, clips_of-no}
 use Rattle.fx_sound.proofs.bulk.encode_batch.Goals as goal
 use Rattle.fx_sound.proofs.bulk.encode_batch.Goals.{then-write, else-write}

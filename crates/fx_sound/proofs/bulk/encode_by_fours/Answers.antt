@@ -1,9 +1,9 @@
 use Rattle.std.proofs.Common.{◌≡◌, ◌+◌, ◌-◌, ◌*◌, ◌/◌, ℕ, length, take, drop, ap, ◌∙◌, sym, arith}
 use Rattle.std.proofs.lemmas.List.{append-nil, drop_all, length-take, take_all}
 use Rattle.std.proofs.lemmas.List.Sums.{count_by-le-length}
-use Rattle.fx_frame_io.specs.Coding.{clips_written, width_of}
-use Rattle.fx_frame_stage.specs.Frame.{Samples}
-use Rattle.fx_sound_heads.specs.FrameCoding.{bytes_of, clips_of}
+use Rattle.fx_frame_base.specs.Coding.{clips_written, width_of}
+use Rattle.fx_frame_base.specs.Frame.{Samples}
+use Rattle.fx_sound.specs.FrameCoding.{bytes_of, clips_of}
 use Rattle.fx_sound.proofs.FrameBytes.{bytes_of-piece, clips_of-part}
 use Rattle.fx_sound.proofs.bulk.encode_by_fours.Goals as goal
 

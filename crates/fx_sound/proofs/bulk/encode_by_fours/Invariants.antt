@@ -1,6 +1,6 @@
 use Rattle.std.proofs.Common.{◌≡◌, ◌≤◌, ◌*◌, ◌++◌, take, drop}
-use Rattle.fx_frame_io.specs.Coding.{width_of}
-use Rattle.fx_sound_heads.specs.FrameCoding.{bytes_of, clips_of}
+use Rattle.fx_frame_base.specs.Coding.{width_of}
+use Rattle.fx_sound.specs.FrameCoding.{bytes_of, clips_of}
 use Rattle.fx_sound.proofs.bulk.encode_by_fours.Given as goal
 
 abbrev pub invariant-fours : goal.invariant-fours

@@ -1,6 +1,6 @@
 use Rattle.std.proofs.Common.{◌≡◌, ◌*◌, take, sym, ap, ◌∙◌, arith}
 use Rattle.std.proofs.lemmas.List.{take_all}
-use Rattle.fx_sound_heads.specs.FrameCoding.{bytes_of, clips_of}
+use Rattle.fx_sound.specs.FrameCoding.{bytes_of, clips_of}
 use Rattle.fx_sound.proofs.ManyBytes.{encoded-clips, encoded-frames}
 use Rattle.fx_sound.proofs.bulk.encode_into.Goals as goal
 

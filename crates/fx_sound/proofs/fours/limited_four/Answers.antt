@@ -1,5 +1,5 @@
 use Rattle.std.proofs.Common.{get_or, pos, w32, rules}
-use Rattle.fx_frame_stage.specs.Frame.{Samples}
+use Rattle.fx_frame_base.specs.Frame.{Samples}
 use Rattle.fx_sound.proofs.Threes.{clipped-lane, clipped-lanes, limited-below, limited-bytes, limited-lane}
 use Rattle.fx_sound.proofs.fours.limited_four.Goals as goal
 use mir.Val.{SFits}

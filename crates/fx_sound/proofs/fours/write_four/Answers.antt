@@ -1,6 +1,6 @@
 use Rattle.std.proofs.Common.{ap, ◌∙◌, sym, inl, inr}
-use Rattle.fx_frame_stage.specs.Frame.{Samples}
-use Rattle.fx_sound_heads.specs.FrameCoding.{bytes_of, clips_of}
+use Rattle.fx_frame_base.specs.Frame.{Samples}
+use Rattle.fx_sound.specs.FrameCoding.{bytes_of, clips_of}
 use Rattle.fx_sound.proofs.Threes.{big-written, little-written, one-of-threes}
 use Rattle.fx_sound.proofs.fours.write_four.Goals as goal
 

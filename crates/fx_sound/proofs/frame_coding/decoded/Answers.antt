@@ -1,7 +1,7 @@
 use Rattle.std.proofs.Common.{◌≡◌, ◌*◌, length, take, drop, ap, ◌∙◌, sym, arith, refl, rules, to_z, of_z, w32}
 use Rattle.std.proofs.lemmas.List.{take_all, length-drop}
-use Rattle.fx_frame_io.specs.Coding.{width_of, read_sample}
-use Rattle.fx_sound_heads.specs.FrameCoding.{coded_samples}
+use Rattle.fx_frame_base.specs.Coding.{width_of, read_sample}
+use Rattle.fx_sound.specs.FrameCoding.{coded_samples}
 use Rattle.fx_sound.proofs.frame_coding.decoded.Goals as goal
 
 pub returns-in-2-clause-samples : goal.returns-in-2-clause-samples

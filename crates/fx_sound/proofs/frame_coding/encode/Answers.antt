@@ -2,8 +2,8 @@ use Rattle.std.proofs.Common.{◌≡◌, length, ap, ◌∙◌, sym, subst, arit
 use Rattle.std.specs.Prelude.{FitsSigned}
 use Rattle.std.specs.Int.{w32}
 use Rattle.std.specs.List.{All}
-use Rattle.fx_sound_heads.specs.FrameCoding.{bytes_of, clips_of}
-use Rattle.fx_frame_stage.specs.Frame.{Samples}
+use Rattle.fx_sound.specs.FrameCoding.{bytes_of, clips_of}
+use Rattle.fx_frame_base.specs.Frame.{Samples}
 use Rattle.fx_sound.proofs.FrameBytes.{bytes_of-pair, clips_of-pair}
 use Rattle.fx_sound.proofs.frame_coding.encode.Goals as goal
 

@@ -1,5 +1,5 @@
 use Rattle.std.proofs.Common.{◌≡◌, ◌≤◌, length, ap, ◌∙◌, arith}
-use Rattle.fx_sound_heads.specs.FrameCoding.{coded_samples}
+use Rattle.fx_sound.specs.FrameCoding.{coded_samples}
 use Rattle.fx_sound.specs.Sound.{size_of}
 use Rattle.fx_sound.proofs.Sounds.{TakesFrame-held}
 use Rattle.fx_sound.proofs.progress.take_frame.Goals as goal

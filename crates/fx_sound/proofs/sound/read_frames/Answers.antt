@@ -1,12 +1,12 @@
 use Rattle.std.proofs.Common.{◌≡◌, false, refl, ℕ, ◌+◌, ◌*◌, ◌++◌, ◌∷◌, [], drop, take, sym, ap, ◌∙◌, arith, rules}
 use Rattle.std.specs.Prelude.{Ok, Err, OnErr, Result}
-use Rattle.fx_sound_heads.specs.FrameCoding.{coded_samples}
+use Rattle.fx_sound.specs.FrameCoding.{coded_samples}
 use Rattle.fx_sound.specs.Container.{after_frames, first_frames}
 use Rattle.fx_sound.proofs.RunLaws.{after_frames-more, Ran-rest_unchanged, Ran-turn, Ran-end, Ran-whole, Ran-failed, first_frames-more, first_frames-within}
 use Rattle.fx_sound.specs.Sound.{Reading, size_of, within_sound, after_frame}
 use Rattle.fx_sound.specs.declared.progress.ReadFault.TheVariants.{ReadFailed, TooLong}
 use Rattle.fx_sound.proofs.sound.read_frames.Goals as goal
-use Rattle.fx_sound_heads.proofs.Held.{HoldsWhatCame-rest_of_head, Takes-both}
+use Rattle.fx_sound.proofs.Held.{HoldsWhatCame-rest, Takes-both}
 use Rattle.fx_sound.specs.Fault.{is_sound_read_failed}
 use Rattle.fx_sound.specs.declared.progress.ReadFault.{ReadFault}
 use Rattle.fx_sound.specs.declared.sound.SoundFault.TheVariants.{Read}
@@ -88,7 +88,7 @@ returns-in-Err-clause-came g c = λ e bytes known.
     let is : c.in-Err.fault ≡ ReadFailed = cc in
     let none : c.args.progress.now.frames + c.loop-turn._turn ≡ c.loop-turn._turn = omega (arith, c.requires.fresh) in
     let count : c.next_frame.new.progress.frames ≡ c.loop-turn._turn = ap (λ q. q.frames) c.in-Err.ensures.err ∙ ap (λ q. q.frames) old.now ∙ none in
-    rw count (HoldsWhatCame-rest_of_head g.R.ByteIn.reads.delivered c.args.source.now c.loop-turn.source c.next_frame.new.source bytes size old.delivered (c.in-Err.ensures.came (ap Err is) (drop size bytes) (old.ran bytes known).to_come_is))
+    rw count (HoldsWhatCame-rest g.R.ByteIn.reads.delivered c.args.source.now c.loop-turn.source c.next_frame.new.source bytes size old.delivered (c.in-Err.ensures.came (ap Err is) (drop size bytes) (old.ran bytes known).to_come_is))
 
 pub returns-in-Err-clause-stands : goal.returns-in-Err-clause-stands
 returns-in-Err-clause-stands g c = λ no bytes known.

@@ -1,10 +1,10 @@
 use Rattle.std.proofs.Common.{◌≡◌, ◌*◌, ◌≤◌}
 use Rattle.fx_sound.specs.Container.{first_frames, after_frames}
-use Rattle.fx_sound_heads.specs.Known.{IfKnown}
+use Rattle.fx_sound.specs.Known.{IfKnown}
 use Rattle.fx_sound.specs.Runs.{RanFrames}
 use Rattle.fx_sound.specs.Sound.{size_of}
-use Rattle.fx_sound_heads.specs.Source.{to_come, Takes}
-use Rattle.fx_frame_stage.specs.declared.stage.TheConstants.{MAX_FRAMES}
+use Rattle.fx_sound.specs.Source.{to_come, Takes}
+use Rattle.fx_frame_base.specs.declared.stage.TheConstants.{MAX_FRAMES}
 use Rattle.fx_sound.proofs.sound.read_frames.Given as goal
 
 abbrev pub invariant-loop-turn : goal.invariant-loop-turn

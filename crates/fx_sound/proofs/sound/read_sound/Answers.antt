@@ -1,16 +1,16 @@
 use Rattle.std.proofs.Common.{◌≡◌, ℕ, ◌%◌, List, length, drop, sym, ap, ◌∙◌, rules}
 use Rattle.std.specs.Prelude.{Ok, Result}
 use Rattle.std.proofs.lemmas.Result.{IfOk-at_ok}
-use Rattle.fx_sound_heads.specs.declared.head.HeadFault.{HeadFault}
+use Rattle.fx_sound.specs.declared.head.HeadFault.{HeadFault}
 use Rattle.fx_sound.specs.declared.sound.SoundFault.{SoundFault}
 use Rattle.fx_sound.specs.declared.sound.SoundFault.TheVariants as fault
-use Rattle.fx_frame_stage.specs.Frame.{Samples}
-use Rattle.fx_sound_heads.specs.FrameCoding.{frame_size}
-use Rattle.fx_sound_heads.specs.declared.fields.Format.{Format}
+use Rattle.fx_frame_base.specs.Frame.{Samples}
+use Rattle.fx_sound.specs.FrameCoding.{frame_size}
+use Rattle.fx_sound.specs.declared.fields.Format.{Format}
 use Rattle.fx_sound.specs.Sound.{within_sound, lacking}
 use Rattle.fx_sound.specs.Container.{Outcome, container, with_frames, frames_of_sound, at_end}
 use Rattle.fx_sound.specs.WholeSound.{IsHeadFault, IsAfterHead}
-use Rattle.fx_sound_heads.proofs.Faults.{IfErr-passed}
+use Rattle.fx_sound.proofs.Faults.{IfErr-passed}
 use Rattle.fx_sound.proofs.sound.read_sound.Goals as goal
 
 no_head : (c : Result Outcome HeadFault) (e : SoundFault) → IsAfterHead e → IsHeadFault c e

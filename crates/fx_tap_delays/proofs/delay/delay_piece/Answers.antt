@@ -1,14 +1,14 @@
 -- One channel more is delayed, or stands as it came.
 use Rattle.std.proofs.Common.{ap, pos, get_or, ◌*◌, ◌≡◌, ◌+◌, ◌<◌, ◌≤◌, ◌++◌, ℕ, ℤ, List, length, refl, sym, ◌∙◌, arith}
-use Rattle.fx_frame_lists.proofs.ChannelPlaces.{other-channel}
+use Rattle.fx_frame_base.proofs.ChannelPlaces.{other-channel}
 use Rattle.std.specs.Prelude.{slice_index}
-use Rattle.fx_frame_stage.specs.Frame.{Samples}
-use Rattle.fx_frame_lists.specs.Lists.{pieces}
-use Rattle.fx_frame_lists.proofs.Pieces.{length-pieces}
+use Rattle.fx_frame_base.specs.Frame.{Samples}
+use Rattle.fx_frame_base.specs.Lists.{pieces}
+use Rattle.fx_frame_base.proofs.Pieces.{length-pieces}
 use Rattle.fx_frame.specs.History.{sample_before}
 use Rattle.fx_tap_delays.proofs.DelayPieces.{delay-frames, late-by}
 use Rattle.fx_tap_delays.proofs.EchoPieces.{coming-sample, late-sample}
-use Rattle.fx_frame_lists.proofs.Places.{channel-put}
+use Rattle.fx_frame_base.proofs.ListPlaces.{channel-put}
 use Rattle.fx_tap_delays.proofs.delay.delay_piece.Goals as goal
 use Rattle.fx_tap_delays.proofs.delay.delay_piece.Goals.{then-late-ne0, else-late-ne0}
 

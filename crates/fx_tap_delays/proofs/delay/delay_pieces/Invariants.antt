@@ -1,5 +1,5 @@
 use Rattle.std.proofs.Common.{◌≡◌, ◌≤◌, ◌-◌, ◌*◌, ◌++◌, drop, length}
-use Rattle.fx_frame_lists.specs.Lists.{pieces}
+use Rattle.fx_frame_base.specs.Lists.{pieces}
 use Rattle.fx_tap_delays.specs.DelayState.{delay_taps}
 use Rattle.fx_frame.specs.Tapped.{frames_after, last_of}
 use Rattle.fx_tap_delays.proofs.delay.delay_pieces.Given as goal

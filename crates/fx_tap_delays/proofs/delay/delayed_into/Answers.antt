@@ -1,9 +1,9 @@
 use Rattle.std.proofs.Common.{◌≡◌, ◌<◌, ◌++◌, ◌∷◌, [], ℕ, ℤ, length, rules, to_z, of_z, w32, ap, sym, ◌∙◌, zero-add, ◌+◌}
 use Rattle.std.specs.Prelude.{slice_index}
 use Rattle.std.proofs.lemmas.List.{take_more_set}
-use Rattle.fx_frame_lists.specs.Lists.{tabulate}
+use Rattle.fx_frame_base.specs.Lists.{tabulate}
 use Rattle.fx_frame.specs.History.{sample_before}
-use Rattle.fx_frame_lists.proofs.Tabulate.{tabulate-append}
+use Rattle.fx_frame_base.proofs.Tabulate.{tabulate-append}
 use Rattle.fx_tap_delays.proofs.delay.delayed_into.Goals as goal
 
 pub channels-preserved : goal.channels-preserved

@@ -1,6 +1,6 @@
 use Rattle.std.proofs.Common.{◌≡◌, ◌++◌, ◌∷◌, [], length, take}
 use Rattle.std.specs.Prelude.{slice_index}
-use Rattle.fx_frame_lists.specs.Lists.{tabulate}
+use Rattle.fx_frame_base.specs.Lists.{tabulate}
 use Rattle.fx_frame.specs.History.{sample_before}
 use Rattle.fx_tap_delays.proofs.delay.delayed_into.Given as goal
 

@@ -3,8 +3,8 @@ use Rattle.std.proofs.lemmas.List.{drop-set-lt, drop_more}
 use Rattle.fx_fixed.specs.Rounding.{rounding}
 use Rattle.fx_tap_sums.specs.Weights.{Weights}
 use Rattle.fx_tap_delays.proofs.EchoWeights.{held-weight}
-use Rattle.fx_tap_convolve.proofs.SmallSums.{held-in-64, plain-added}
-use Rattle.fx_frame_lists.proofs.Rounds.{samples_of-next, clips_of-next, byte_is, byte-le}
+use Rattle.fx_tap_sums.proofs.SmallSums.{held-in-64, plain-added}
+use Rattle.fx_frame_base.proofs.Rounds.{samples_of-next, clips_of-next, byte_is, byte-le}
 use Rattle.fx_tap_delays.proofs.echo.one_echo_over.Goals as goal
 
 pub overflow_add-direct : goal.overflow_add-direct

@@ -3,15 +3,15 @@ use Rattle.std.proofs.lemmas.Grind.{common_steps}
 use Rattle.std.specs.Prelude.{ℤ}
 use Rattle.std.proofs.lemmas.List.{drop-drop, length-drop, length-take-le, map-append}
 use Rattle.std.proofs.Math.Nat.{add-mul, mul-le-mul_left, mul-le-mul_right}
-use Rattle.fx_frame_stage.specs.Frame.{Samples}
-use Rattle.fx_frame_stage.specs.Holds.{total}
+use Rattle.fx_frame_base.specs.Frame.{Samples}
+use Rattle.fx_frame_base.specs.Holds.{total}
 use Rattle.fx_frame_line.specs.Line.{Frames}
-use Rattle.fx_frame_lists.specs.Lists.{pieces}
-use Rattle.fx_frame_stage.specs.Stage.{Given}
-use Rattle.fx_frame_stage.proofs.FedLaws.{total-append}
-use Rattle.fx_frame_lists.proofs.Puts.{pieces-split, drop-put, pieces-take}
+use Rattle.fx_frame_base.specs.Lists.{pieces}
+use Rattle.fx_frame_base.specs.Stage.{Given}
+use Rattle.fx_frame_base.proofs.FedLaws.{total-append}
+use Rattle.fx_frame_base.proofs.Puts.{pieces-split, drop-put, pieces-take}
 use Rattle.fx_frame_line.proofs.ManyFrames.{pieces-put_many}
-use Rattle.fx_frame_lists.proofs.Pieces.{length-pieces}
+use Rattle.fx_frame_base.proofs.Pieces.{length-pieces}
 use Rattle.fx_tap_delays.specs.EchosState.{delay_at, series_lines_after, through_lines}
 use Rattle.fx_tap_delays.proofs.EchosLaws.{series_lines-sound}
 use Rattle.fx_tap_delays.proofs.EchosPieces.{piece-small, series_lines-more, through-more}

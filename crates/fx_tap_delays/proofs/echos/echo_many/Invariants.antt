@@ -1,7 +1,7 @@
 use Rattle.std.proofs.Common.{◌≡◌, ◌<◌, ◌≤◌, ◌+◌, ◌-◌, ◌*◌, ℕ, drop, length, map}
-use Rattle.fx_frame_stage.specs.Holds.{total}
-use Rattle.fx_frame_lists.specs.Lists.{pieces}
-use Rattle.fx_frame_stage.specs.Stage.{Given}
+use Rattle.fx_frame_base.specs.Holds.{total}
+use Rattle.fx_frame_base.specs.Lists.{pieces}
+use Rattle.fx_frame_base.specs.Stage.{Given}
 use Rattle.fx_tap_delays.specs.Echo.{EchoArguments}
 use Rattle.fx_tap_delays.specs.EchosState.{IsEchoLine, delay_at, line_at, series_lines_after, through_lines}
 use Rattle.fx_tap_delays.specs.EchoWeights.{Suits}

@@ -2,12 +2,12 @@ use Rattle.std.proofs.Common.{◌≡◌, ◌≤◌, ◌*◌, ◌∙◌, arith, l
 use Rattle.std.proofs.lemmas.List.{length-replicate, length-take-le}
 use Rattle.fx_tap_delays.specs.EchoWeights.{Suits}
 use Rattle.fx_tap_sums.specs.Weights.{Weights}
-use Rattle.fx_frame_lists.proofs.Places.{silence_here-part}
+use Rattle.fx_frame_base.proofs.ListPlaces.{zeros-part}
 use Rattle.fx_tap_delays.proofs.EchosGiven.{given-clips, given-frames}
 use Rattle.fx_tap_delays.proofs.echos.echo_piece.Goals as goal
 
 pub pass_piece-requires-clause-empty : goal.pass_piece-requires-clause-empty
-pass_piece-requires-clause-empty g c = λ k. silence_here-part (length c.args.frames.now) g.row.N k
+pass_piece-requires-clause-empty g c = λ k. zeros-part (length c.args.frames.now) g.row.N k
 
 pub returns-clause-frames : goal.returns-clause-frames
 returns-clause-frames g c a suits width many =

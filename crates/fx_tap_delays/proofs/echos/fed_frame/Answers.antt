@@ -1,10 +1,10 @@
 use Rattle.std.proofs.Common.{rules, ◌≡◌, ◌≤◌, ◌^◌, ◌∙◌, ap, refl, ℕ, ℤ, pos, ◌+ℤ◌, length, arith, set, slice_index_or, unsigned_abs, FitsSigned, to_z, of_z, w32, w64}
 use Rattle.std.proofs.lemmas.Int.{ints, fits_signed_from_abs}
 use Rattle.fx_frame.proofs.DelayLaws.{channel-set}
-use Rattle.fx_frame_lists.proofs.Tabulate.{take-tabulate, length-tabulate}
-use Rattle.fx_tap_convolve.proofs.Magnitudes.{added-bound}
-use Rattle.fx_frame_lists.proofs.Places.{silence_here-rest_unchanged}
-use Rattle.fx_tap_convolve.proofs.SmallSums.{held-in-64, wide-two}
+use Rattle.fx_frame_base.proofs.Tabulate.{take-tabulate, length-tabulate}
+use Rattle.fx_tap_sums.proofs.Magnitudes.{added-bound}
+use Rattle.fx_frame_base.proofs.ListPlaces.{zeros-rest}
+use Rattle.fx_tap_sums.proofs.SmallSums.{held-in-64, wide-two}
 use Rattle.fx_tap_delays.proofs.echos.fed_frame.Goals as goal
 
 pub overflow_add-sums : goal.overflow_add-sums
@@ -14,7 +14,7 @@ overflow_add-sums c =
     let b : ℤ = slice_index_or c.places-passed.result i (pos 0) in
     let fits : FitsSigned w32 a = search rules in
     let small : unsigned_abs a ≤ 2 ^ 31 = omega (arith, ints) in
-    let from : b ≡ slice_index_or c.args.before i (pos 0) = ap (λ l. slice_index_or l i (pos 0)) c.places-passed.ensures.places ∙ silence_here-rest_unchanged c.args.before _ i in
+    let from : b ≡ slice_index_or c.args.before i (pos 0) = ap (λ l. slice_index_or l i (pos 0)) c.places-passed.ensures.places ∙ zeros-rest c.args.before _ i in
     let wide : unsigned_abs b ≤ 2 ^ 34 = rw from (c.requires.small i) in
     let f : c.from.result ≡ a = c.from.ensures ∙ search rules in
     let maximum = added-bound a b (2 ^ 31) (2 ^ 34) small wide in
@@ -28,8 +28,8 @@ channels-preserved c =
     let F : ℕ → ℤ = λ k. slice_index_or c.args.frame k (pos 0) +ℤ slice_index_or c.args.before k (pos 0) in
     let fits : FitsSigned w32 a = search rules in
     let small : unsigned_abs a ≤ 2 ^ 31 = omega (arith, ints) in
-    let first : a ≡ slice_index_or c.args.frame i (pos 0) = ap (λ l. slice_index_or l i (pos 0)) c.places-samples.ensures.places ∙ silence_here-rest_unchanged c.args.frame _ i in
-    let from : b ≡ slice_index_or c.args.before i (pos 0) = ap (λ l. slice_index_or l i (pos 0)) c.places-passed.ensures.places ∙ silence_here-rest_unchanged c.args.before _ i in
+    let first : a ≡ slice_index_or c.args.frame i (pos 0) = ap (λ l. slice_index_or l i (pos 0)) c.places-samples.ensures.places ∙ zeros-rest c.args.frame _ i in
+    let from : b ≡ slice_index_or c.args.before i (pos 0) = ap (λ l. slice_index_or l i (pos 0)) c.places-passed.ensures.places ∙ zeros-rest c.args.before _ i in
     let wide : unsigned_abs b ≤ 2 ^ 34 = rw from (c.requires.small i) in
     let f : c.from.result ≡ a = c.from.ensures ∙ search rules in
     let maximum = added-bound a b (2 ^ 31) (2 ^ 34) small wide in

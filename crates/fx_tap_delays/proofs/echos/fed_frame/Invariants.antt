@@ -1,5 +1,5 @@
 use Rattle.std.proofs.Common.{◌≡◌, ◌-◌, ◌++◌, pos, ◌+ℤ◌, replicate, slice_index_or}
-use Rattle.fx_frame_lists.specs.Lists.{tabulate}
+use Rattle.fx_frame_base.specs.Lists.{tabulate}
 use Rattle.fx_tap_delays.proofs.echos.fed_frame.Given as goal
 
 -- the channels so far are added

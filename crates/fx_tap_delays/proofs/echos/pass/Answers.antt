@@ -2,12 +2,12 @@ use Rattle.std.proofs.Common.{◌≡◌, ◌<◌, ◌≤◌, ◌+◌, ◌*◌, �
 use Rattle.std.proofs.lemmas.List.{get_or-map, length-map, length-set}
 use Rattle.std.proofs.lemmas.List.Elements.{All-get_or}
 use Rattle.fx_fixed.specs.declared.gains.TheConstants.{UNIT}
-use Rattle.fx_frame_stage.specs.Frame.{Samples}
+use Rattle.fx_frame_base.specs.Frame.{Samples}
 use Rattle.fx_frame_line.specs.Line.{Frames, empty, pushed_out}
 use Rattle.fx_tap_delays.specs.Echos.{decays}
 use Rattle.fx_tap_delays.specs.EchosState.{after_push, fed, line_at, or_silence}
 use Rattle.fx_tap_delays.proofs.EchosSeries.{Small, bound-more, bound-seven, left-step, lines-step, same-line, small-fed, small-frame, small-gone, sums-step}
-use Rattle.fx_frame_lists.proofs.Places.{any-default}
+use Rattle.fx_frame_base.proofs.ListPlaces.{any-default}
 use Rattle.fx_tap_delays.proofs.echos.pass.Goals as goal
 
 pub feed-gone-requires-clause-line : goal.feed-gone-requires-clause-line

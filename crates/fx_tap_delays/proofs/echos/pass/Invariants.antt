@@ -3,7 +3,7 @@ use Rattle.fx_fixed.specs.declared.gains.TheConstants.{UNIT}
 use Rattle.fx_frame_line.specs.Line.{channel_of}
 use Rattle.fx_tap_delays.specs.Echos.{decays}
 use Rattle.fx_tap_delays.specs.EchosState.{let_go, lines_after}
-use Rattle.fx_tap_convolve.specs.Products.{sum_of_products}
+use Rattle.fx_tap_sums.specs.Products.{sum_of_products}
 use Rattle.fx_tap_delays.proofs.EchosSeries.{Small, up_to}
 use Rattle.fx_tap_delays.proofs.echos.pass.Given as goal
 

@@ -2,20 +2,20 @@ use Rattle.std.proofs.Common.{rules, ◌≡◌, ◌<◌, ◌≤◌, ◌+◌, ◌
 use Rattle.std.specs.List.{All}
 use Rattle.std.proofs.lemmas.Int.{ints}
 use Rattle.std.proofs.lemmas.List.{append-nil, drop_all, length-replicate, length-set, length-take-le, take-replicate, take_all}
-use Rattle.fx_frame_stage.specs.Frame.{Samples}
+use Rattle.fx_frame_base.specs.Frame.{Samples}
 use Rattle.fx_frame_line.specs.Line.{Frames, channel_of, empty, latest_frames, pushed_all}
-use Rattle.fx_frame_lists.specs.Lists.{pieces}
+use Rattle.fx_frame_base.specs.Lists.{pieces}
 use Rattle.fx_frame_line.proofs.ManyFrames.{pieces-replicate}
-use Rattle.fx_frame_lists.proofs.Pieces.{get_or-piece, length-pieces}
+use Rattle.fx_frame_base.proofs.Pieces.{get_or-piece, length-pieces}
 use Rattle.fx_tap_delays.specs.EchosState.{line_at}
-use Rattle.fx_tap_convolve.specs.Products.{sum_of_products}
-use Rattle.fx_frame_lists.proofs.Places.{silence_here-part, any-default}
+use Rattle.fx_tap_sums.specs.Products.{sum_of_products}
+use Rattle.fx_frame_base.proofs.ListPlaces.{zeros-part, any-default}
 use Rattle.fx_tap_delays.proofs.EchoLaws.{echo-first}
 use Rattle.fx_tap_delays.proofs.EchoWeights.{held-weight}
 use Rattle.fx_tap_delays.proofs.EchosSeries.{left-step, same-line}
 use Rattle.fx_tap_delays.proofs.EchosPieces.{column, column-is, fed-pieces, fed_all, let_out, after_all, pushed-is, series_lines-step, sums-step, flat-fits, flat-small, latest-small, let_out-is, series_after, series_after-is, series_gone}
-use Rattle.fx_frame_lists.proofs.ChannelPlaces.{within-frames}
-use Rattle.fx_tap_convolve.proofs.Cyclic.{nothing}
+use Rattle.fx_frame_base.proofs.ChannelPlaces.{within-frames}
+use Rattle.fx_tap_sums.proofs.Cyclic.{nothing}
 use Rattle.fx_tap_delays.proofs.echos.pass_piece.Given as given
 use Rattle.fx_tap_delays.proofs.echos.pass_piece.Goals as goal
 use Rattle.fx_tap_delays.proofs.echos.pass_piece.Goals.{After-before_into, After-capacity}
@@ -29,18 +29,18 @@ lines-init g c =
     let xs : List Samples = pieces ch n c.args.frames.now in
     let start : List ℤ = take (length c.args.frames.now) (replicate g.row.N (pos 0)) in
     let weight = held-weight ws 0 c.small.invariant in
-    let silence_here : pieces ch n start ≡ replicate n (replicate ch (pos 0)) =
+    let silent_frame : pieces ch n start ≡ replicate n (replicate ch (pos 0)) =
     ap (pieces ch n) (ap (λ m. take m (replicate g.row.N (pos 0))) c.requires.frames ∙ take-replicate (n * ch) g.row.N (pos 0) c.requires.free) ∙ pieces-replicate ch n (pos 0) in
     rw (← c.small.view_is)
     record {
       many = refl;
       left = refl;
-      lines = ap (series_after ch old xs) silence_here;
-      before = λ k. rw (silence_here-part (length c.args.frames.now) g.row.N k) (omega arith);
+      lines = ap (series_after ch old xs) silent_frame;
+      before = λ k. rw (zeros-part (length c.args.frames.now) g.row.N k) (omega arith);
       sums = λ i k lt within.
           let at : i * ch + k < length c.args.sums.now = omega (arith, within-frames ch k i n within lt, c.requires.sums) in
           echo-first _ _ _ _ (sum_of_products (drop 1 ws) (channel_of (column i (series_gone ch old xs (pieces ch n start))) k (pos 0))) (rw weight at c.add_products.ensures.added (i * ch + k) at) (c.requires.empty (i * ch + k)) refl
-          ∙ ap (λ bs. (slice_index_or ws 0 (pos 0) *ℤ slice_index_or c.args.frames.now (i * ch + k) (pos 0)) +ℤ sum_of_products (drop 1 ws) (channel_of (column i (series_gone ch old xs bs)) k (pos 0))) silence_here;
+          ∙ ap (λ bs. (slice_index_or ws 0 (pos 0) *ℤ slice_index_or c.args.frames.now (i * ch + k) (pos 0)) +ℤ sum_of_products (drop 1 ws) (channel_of (column i (series_gone ch old xs bs)) k (pos 0))) silent_frame;
       bound = λ k. omega (arith, rw (c.requires.empty k) at (c.add_products.ensures.bound k));
     }
 

@@ -1,7 +1,7 @@
 use Rattle.std.proofs.Common.{◌≡◌, ◌<◌, ◌≤◌, ◌+◌, ◌*◌, ◌^◌, ◌++◌, ℕ, pos, ◌+ℤ◌, ◌*ℤ◌, length, take, drop, replicate, slice_index_or, unsigned_abs}
 use Rattle.fx_frame_line.specs.Line.{channel_of}
-use Rattle.fx_frame_lists.specs.Lists.{pieces}
-use Rattle.fx_tap_convolve.specs.Products.{sum_of_products}
+use Rattle.fx_frame_base.specs.Lists.{pieces}
+use Rattle.fx_tap_sums.specs.Products.{sum_of_products}
 use Rattle.fx_tap_delays.proofs.EchosPieces.{column, series_after, series_gone}
 use Rattle.fx_tap_delays.proofs.echos.pass_piece.Given as goal
 

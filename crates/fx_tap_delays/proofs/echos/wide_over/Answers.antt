@@ -1,14 +1,14 @@
 use Rattle.std.proofs.Common.{◌≡◌, ◌<◌, ◌∙◌, ap, ℕ, pos, ◌+ℤ◌, ◌*ℤ◌, arith, replicate, slice_index_or, List}
 use Rattle.std.proofs.lemmas.Int.{ints}
 use Rattle.std.proofs.lemmas.List.{take_all}
-use Rattle.fx_frame_stage.specs.Frame.{Samples}
+use Rattle.fx_frame_base.specs.Frame.{Samples}
 use Rattle.fx_frame_line.specs.Line.{channel_of}
-use Rattle.fx_frame_stage.specs.Stage.{Given}
+use Rattle.fx_frame_base.specs.Stage.{Given}
 use Rattle.fx_tap_delays.specs.Echo.{EchoArguments}
 use Rattle.fx_tap_delays.specs.Echos.{decays}
 use Rattle.fx_tap_delays.specs.EchosState.{let_go}
-use Rattle.fx_tap_convolve.specs.Products.{sum_of_products}
-use Rattle.fx_frame_lists.proofs.Places.{silence_here-sample}
+use Rattle.fx_tap_sums.specs.Products.{sum_of_products}
+use Rattle.fx_frame_base.proofs.ListPlaces.{zeros-sample}
 use Rattle.fx_tap_delays.proofs.EchosSeries.{echoed-is, small-frame}
 use Rattle.fx_tap_delays.proofs.echos.wide_over.Goals as goal
 
@@ -21,7 +21,7 @@ returns c =
     let scaled = rw whole at c.add_scaled.ensures.added in
     let went = rw whole at c.pass.ensures.sums in
     let sums : (k : ℕ) → k < c.args.channels → slice_index_or c.pass.new.sums k (pos 0) ≡ (c.args.gains.0 *ℤ slice_index_or x k (pos 0)) +ℤ sum_of_products (decays c.args.taps.now) (channel_of gone k (pos 0)) = λ k l.
-    let none : slice_index_or (replicate 16 (pos 0)) k (pos 0) ≡ pos 0 = silence_here-sample 16 k in
+    let none : slice_index_or (replicate 16 (pos 0)) k (pos 0) ≡ pos 0 = zeros-sample 16 k in
     went k l ∙ ap (λ z. z +ℤ sum_of_products (decays c.args.taps.now) (channel_of gone k (pos 0))) (scaled k l ∙ ap (λ z. z +ℤ (c.args.gains.0 *ℤ slice_index_or x k (pos 0))) none ∙ omega (arith, ints)) in
     let given = echoed-is a x c.pass.new.sums gone sums in
     record {

@@ -1,6 +1,6 @@
 use Rattle.std.proofs.Common.{rules, arith, ◌≡◌, ◌<◌, ◌+◌, ◌∙◌, ap, get_or, length, ℕ, ℤ, Bool, List, pos, to_z, of_z, w32}
 use Rattle.fx_fixed.specs.Rounding.{rounding}
-use Rattle.fx_frame_lists.proofs.Rounds.{samples_of-more, clips_of-more, byte_is, byte-le}
+use Rattle.fx_frame_base.proofs.Rounds.{samples_of-more, clips_of-more, byte_is, byte-le}
 use Rattle.fx_tap_delays.proofs.sums.round_sums.Goals as goal
 
 pub sums-preserved : goal.sums-preserved

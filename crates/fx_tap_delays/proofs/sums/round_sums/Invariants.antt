@@ -1,6 +1,6 @@
 use Rattle.std.proofs.Common.{◌≡◌, ◌≤◌, map, take}
 use Rattle.fx_fixed.specs.Rounding.{rounding}
-use Rattle.fx_frame_lists.specs.Rounded.{clips_rounded, samples_of}
+use Rattle.fx_frame_base.specs.Rounded.{clips_rounded, samples_of}
 use Rattle.fx_tap_delays.proofs.sums.round_sums.Given as goal
 
 -- the sums so far are rounded, and their clips counted

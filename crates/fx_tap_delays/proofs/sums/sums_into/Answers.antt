@@ -2,7 +2,7 @@ use Rattle.std.proofs.Common.{rules, arith, ◌≡◌, ◌≤◌, ◌+◌, ◌^�
 use Rattle.fx_fixed.specs.Rounding.{rounding}
 use Rattle.fx_fixed.specs.declared.gains.TheConstants.{UNIT}
 use Rattle.fx_tap_sums.proofs.Fitting.{scaled-fits}
-use Rattle.fx_frame_lists.proofs.Rounds.{samples_of-next, clips_of-next, byte_is, byte-le}
+use Rattle.fx_frame_base.proofs.Rounds.{samples_of-next, clips_of-next, byte_is, byte-le}
 use Rattle.fx_tap_sums.proofs.SumLaws.{scaled-sum, scaled-low, scaled-high}
 use Rattle.fx_tap_delays.proofs.sums.sums_into.Goals as goal
 

@@ -2,10 +2,10 @@ use Rattle.std.proofs.Common.{rules, append_assoc, ◌≡◌, ◌+◌, ◌-◌, 
 use Rattle.std.specs.Prelude.{ℤ}
 use Rattle.std.proofs.lemmas.List.{drop-drop}
 use Rattle.std.proofs.Math.Nat.{suc-mul, mul-le-mul_right}
-use Rattle.fx_frame_stage.specs.Frame.{Samples}
-use Rattle.fx_frame_lists.specs.Lists.{pieces}
-use Rattle.fx_frame_stage.specs.Stage.{Given}
-use Rattle.fx_frame_lists.proofs.Puts.{drop-put, pieces-more, pieces-put}
+use Rattle.fx_frame_base.specs.Frame.{Samples}
+use Rattle.fx_frame_base.specs.Lists.{pieces}
+use Rattle.fx_frame_base.specs.Stage.{Given}
+use Rattle.fx_frame_base.proofs.Puts.{drop-put, pieces-more, pieces-put}
 use Rattle.fx_frame.specs.Tapped.{clips_after, frames_after, last_of}
 use Rattle.fx_frame.specs.History.{sample_before}
 use Rattle.fx_frame.proofs.TapBlocks.{clips-more, frames-more, last-more}

@@ -1,5 +1,5 @@
 use Rattle.std.proofs.Common.{◌≡◌, ◌≤◌, ◌*◌, ◌++◌, drop}
-use Rattle.fx_frame_lists.specs.Lists.{pieces}
+use Rattle.fx_frame_base.specs.Lists.{pieces}
 use Rattle.fx_frame.specs.Tapped.{clips_after, frames_after, last_of}
 use Rattle.fx_tap_delays.proofs.tapped.tap_over_by_frames.Given as goal
 

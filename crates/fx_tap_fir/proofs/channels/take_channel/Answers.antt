@@ -1,11 +1,11 @@
 use Rattle.std.proofs.Common.{rules, ◌≡◌, ◌+◌, ◌*◌, ◌<◌, ◌∙◌, ap, sym, ℕ, ℤ, pos, List, [], ◌∷◌, ◌++◌, length, take, drop, set, get_or, arith, slice_index_or, refl, add-one, to_z, of_z, w32}
 use Rattle.std.proofs.Math.Nat.{suc-mul}
 use Rattle.std.proofs.lemmas.List.{get_or-drop, get_or-take, map-append, take_more_set}
-use Rattle.fx_frame_stage.specs.Frame.{Samples}
+use Rattle.fx_frame_base.specs.Frame.{Samples}
 use Rattle.fx_frame_line.specs.Line.{channel_of}
-use Rattle.fx_frame_lists.specs.Lists.{pieces}
-use Rattle.fx_frame_lists.proofs.ChannelPlaces.{within-frames}
-use Rattle.fx_frame_lists.proofs.Puts.{pieces-more}
+use Rattle.fx_frame_base.specs.Lists.{pieces}
+use Rattle.fx_frame_base.proofs.ChannelPlaces.{within-frames}
+use Rattle.fx_frame_base.proofs.Puts.{pieces-more}
 use Rattle.fx_tap_fir.proofs.channels.take_channel.Goals as goal
 
 -- one more frame's sample

@@ -1,6 +1,6 @@
 use Rattle.std.proofs.Common.{◌≡◌, ◌+◌, ◌*◌, pos, take}
 use Rattle.fx_frame_line.specs.Line.{channel_of}
-use Rattle.fx_frame_lists.specs.Lists.{pieces}
+use Rattle.fx_frame_base.specs.Lists.{pieces}
 use Rattle.fx_tap_fir.proofs.channels.take_channel.Given as goal
 
 abbrev pub invariant-frames : goal.invariant-frames

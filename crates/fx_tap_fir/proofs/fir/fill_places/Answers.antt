@@ -1,7 +1,7 @@
 use Rattle.std.proofs.Common.{◌≡◌, ap, ℕ, ℤ, pos, List, length, arith, slice_index_or}
 use Rattle.std.proofs.lemmas.List.{length-map}
-use Rattle.fx_frame_stage.specs.Frame.{Samples}
-use Rattle.fx_frame_lists.specs.Lists.{pieces}
+use Rattle.fx_frame_base.specs.Frame.{Samples}
+use Rattle.fx_frame_base.specs.Lists.{pieces}
 use Rattle.fx_tap_fir.proofs.FirBlocks.{none-left, places-left, window-joined}
 use Rattle.fx_tap_fir.proofs.fir.fill_places.Goals as goal
 

@@ -2,9 +2,9 @@ use Rattle.std.proofs.Common.{rules, ◌≡◌, ◌+◌, ◌-◌, ◌*◌, ◌�
 use Rattle.std.proofs.lemmas.Grind.{common_steps}
 use Rattle.std.proofs.Math.Nat.{add-mul, mul-le-mul_right}
 use Rattle.std.proofs.lemmas.List.{drop-drop, length-append, length-drop, length-reverse}
-use Rattle.fx_frame_stage.specs.Frame.{Samples}
-use Rattle.fx_frame_lists.specs.Lists.{pieces}
-use Rattle.fx_frame_lists.proofs.Puts.{pieces-split, drop-put, pieces-take}
+use Rattle.fx_frame_base.specs.Frame.{Samples}
+use Rattle.fx_frame_base.specs.Lists.{pieces}
+use Rattle.fx_frame_base.proofs.Puts.{pieces-split, drop-put, pieces-take}
 use Rattle.fx_frame_line.proofs.RingLaws.{keep-twice}
 use Rattle.fx_tap_fir.specs.Fir.{FirArguments}
 use Rattle.fx_tap_fir.specs.FirState.{fir_taps}

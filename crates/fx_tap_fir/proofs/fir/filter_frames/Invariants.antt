@@ -1,5 +1,5 @@
 use Rattle.std.proofs.Common.{◌≡◌, ◌≤◌, ◌-◌, ◌*◌, ◌++◌, drop, length, reverse}
-use Rattle.fx_frame_lists.specs.Lists.{pieces}
+use Rattle.fx_frame_base.specs.Lists.{pieces}
 use Rattle.fx_tap_fir.specs.Fir.{FirArguments}
 use Rattle.fx_tap_fir.specs.FirState.{fir_taps}
 use Rattle.fx_frame.specs.Tapped.{clips_after, frames_after, last_of}

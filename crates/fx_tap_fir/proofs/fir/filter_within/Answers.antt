@@ -1,19 +1,19 @@
 use Rattle.std.proofs.Common.{rules, ◌≡◌, ◌+◌, ◌*◌, ◌≤◌, ◌++◌, ◌∙◌, ap, sym, ℕ, ℤ, pos, Bool, List, length, drop, reverse, arith, add-one}
-use Rattle.fx_frame_lists.proofs.ChannelPlaces.{other-channel}
+use Rattle.fx_frame_base.proofs.ChannelPlaces.{other-channel}
 use Rattle.std.proofs.Math.Nat.{suc-mul}
 use Rattle.fx_fixed.specs.Rounding.{rounding}
 use Rattle.fx_fixed.specs.declared.gains.TheConstants.{UNIT}
-use Rattle.fx_frame_stage.specs.Frame.{Samples}
+use Rattle.fx_frame_base.specs.Frame.{Samples}
 use Rattle.fx_frame_line.specs.Line.{channel_of}
-use Rattle.fx_frame_lists.specs.Lists.{pieces, tabulate}
-use Rattle.fx_frame_lists.proofs.Pieces.{length-pieces}
+use Rattle.fx_frame_base.specs.Lists.{pieces, tabulate}
+use Rattle.fx_frame_base.proofs.Pieces.{length-pieces}
 use Rattle.fx_tap_fir.specs.Fir.{FirArguments, filtered_sample}
-use Rattle.fx_tap_convolve.specs.Products.{sum_of_products}
-use Rattle.fx_frame_lists.specs.Rounded.{clips_rounded}
+use Rattle.fx_tap_sums.specs.Products.{sum_of_products}
+use Rattle.fx_frame_base.specs.Rounded.{clips_rounded}
 use Rattle.fx_frame.proofs.Tables.{all_clips-more, all_clips-none}
 use Rattle.fx_tap_fir.proofs.FirBlocks.{block-clips, block-frames, filtered-window}
-use Rattle.fx_frame_lists.proofs.Places.{channel-put}
-use Rattle.fx_frame_lists.proofs.Tabulate.{tabulate-same}
+use Rattle.fx_frame_base.proofs.ListPlaces.{channel-put}
+use Rattle.fx_frame_base.proofs.Tabulate.{tabulate-same}
 use Rattle.fx_tap_fir.proofs.fir.filter_within.Goals as goal
 
 pub channels-init : goal.channels-init

@@ -1,5 +1,5 @@
 use Rattle.std.proofs.Common.{◌≡◌, ◌<◌, ◌≤◌, ◌+◌, ◌*◌, ◌++◌, ℕ, pos, length, reverse, slice_index_or}
-use Rattle.fx_frame_lists.specs.Lists.{pieces}
+use Rattle.fx_frame_base.specs.Lists.{pieces}
 use Rattle.fx_tap_fir.specs.Fir.{filtered_sample}
 use Rattle.fx_frame.proofs.Tables.{all_clips}
 use Rattle.fx_tap_fir.proofs.fir.filter_within.Given as goal

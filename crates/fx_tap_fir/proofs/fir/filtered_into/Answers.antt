@@ -1,6 +1,6 @@
 use Rattle.std.proofs.Common.{rules, ◌≡◌, ◌+◌, ◌<◌, ◌++◌, ◌∙◌, ap, ℕ, ℤ, Bool, length, reverse, arith, to_z, of_z, w32}
 use Rattle.fx_tap_fir.specs.Fir.{filtered_sample}
-use Rattle.fx_frame_lists.proofs.Rounds.{samples_of-next, clips_of-next, byte_is, byte-le}
+use Rattle.fx_frame_base.proofs.Rounds.{samples_of-next, clips_of-next, byte_is, byte-le}
 use Rattle.fx_tap_fir.proofs.fir.filtered_into.Goals as goal
 
 pub channels-preserved : goal.channels-preserved

@@ -3,8 +3,8 @@ use Rattle.std.proofs.Math.Nat.{suc-mul}
 use Rattle.fx_fixed.specs.Rounding.{rounding}
 use Rattle.fx_fixed.specs.declared.gains.TheConstants.{UNIT}
 use Rattle.fx_tap_fir.specs.Split.{joined_split}
-use Rattle.fx_frame_lists.proofs.ChannelPlaces.{others-stay, put-more, within-frames}
-use Rattle.fx_frame_lists.proofs.Rounds.{clips_of-next, byte_is, byte-le}
+use Rattle.fx_frame_base.proofs.ChannelPlaces.{others-stay, put-more, within-frames}
+use Rattle.fx_frame_base.proofs.Rounds.{clips_of-next, byte_is, byte-le}
 use Rattle.fx_tap_fir.proofs.split.round_joined.Goals as goal
 
 pub frames-preserved : goal.frames-preserved

@@ -1,7 +1,7 @@
 use Rattle.std.proofs.Common.{◌≡◌, ◌<◌, ◌≤◌, ◌+◌, ◌*◌, ℕ, pos, length, slice_index_or}
 use Rattle.fx_fixed.specs.Rounding.{rounding}
-use Rattle.fx_frame_lists.specs.Lists.{IsOtherPlace, tabulate}
-use Rattle.fx_frame_lists.specs.Rounded.{clips_rounded}
+use Rattle.fx_frame_base.specs.Lists.{IsOtherPlace, tabulate}
+use Rattle.fx_frame_base.specs.Rounded.{clips_rounded}
 use Rattle.fx_fixed.specs.declared.gains.TheConstants.{UNIT}
 use Rattle.fx_tap_fir.specs.Split.{joined_split}
 use Rattle.fx_tap_fir.proofs.split.round_joined.Given as goal

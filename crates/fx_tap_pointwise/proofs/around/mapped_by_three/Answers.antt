@@ -3,10 +3,10 @@ use Rattle.std.specs.Prelude.{ℤ}
 use Rattle.std.proofs.lemmas.List.{drop-drop, take_at}
 use Rattle.std.proofs.lemmas.List.Elements.{All-push}
 use Rattle.std.proofs.Math.Nat.{suc-mul, mul-le-mul_right}
-use Rattle.fx_frame_stage.specs.Frame.{Samples}
-use Rattle.fx_frame_lists.specs.Lists.{pieces}
-use Rattle.fx_frame_stage.specs.Stage.{Given}
-use Rattle.fx_frame_lists.proofs.Puts.{drop-put, pieces-more, pieces-put}
+use Rattle.fx_frame_base.specs.Frame.{Samples}
+use Rattle.fx_frame_base.specs.Lists.{pieces}
+use Rattle.fx_frame_base.specs.Stage.{Given}
+use Rattle.fx_frame_base.proofs.Puts.{drop-put, pieces-more, pieces-put}
 use Rattle.fx_frame.specs.Made.{made_of}
 use Rattle.fx_tap_pointwise.proofs.Blocks.{clips_in-more, made_of-more}
 use Rattle.fx_tap_pointwise.proofs.around.mapped_by_three.Goals as goal

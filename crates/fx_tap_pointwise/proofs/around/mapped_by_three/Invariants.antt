@@ -1,7 +1,7 @@
 use Rattle.std.proofs.Common.{◌≡◌, ◌≤◌, ◌*◌, drop, length}
 use Rattle.std.specs.List.{All}
-use Rattle.fx_frame_stage.specs.Frame.{Samples}
-use Rattle.fx_frame_lists.specs.Lists.{pieces}
+use Rattle.fx_frame_base.specs.Frame.{Samples}
+use Rattle.fx_frame_base.specs.Lists.{pieces}
 use Rattle.fx_frame.specs.Made.{clips_in, made_of}
 use Rattle.fx_tap_pointwise.proofs.around.mapped_by_three.Given as goal
 

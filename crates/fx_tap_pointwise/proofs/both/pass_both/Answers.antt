@@ -1,7 +1,7 @@
 use Rattle.std.proofs.Common.{◌≡◌, ◌*◌, ◌≤◌, ◌∙◌, ℕ, ℤ, Bool, List, length, map, take, ap, refl}
-use Rattle.fx_frame_lists.specs.Lists.{pieces}
-use Rattle.fx_frame_lists.specs.Rounded.{clips_rounded, samples_of}
-use Rattle.fx_frame_lists.proofs.Pieces.{length-pieces}
+use Rattle.fx_frame_base.specs.Lists.{pieces}
+use Rattle.fx_frame_base.specs.Rounded.{clips_rounded, samples_of}
+use Rattle.fx_frame_base.proofs.Pieces.{length-pieces}
 use Rattle.fx_frame.specs.Made.{rounded_given}
 use Rattle.fx_tap_pointwise.proofs.Blocks.{dry-through}
 use Rattle.fx_tap_pointwise.proofs.BothLaws.{between, between-many, between-sides, first-clips, out-is, out-sides, second-clips}

@@ -3,7 +3,7 @@ use Rattle.std.proofs.lemmas.Grind.{common_steps}
 use Rattle.std.specs.Prelude.{ℤ, pos}
 use Rattle.std.specs.Int.{w32}
 use Rattle.std.proofs.lemmas.List.Elements.{All-more}
-use Rattle.fx_frame_lists.proofs.Rounds.{samples_of-more, clips_of-more, byte_is, byte-le}
+use Rattle.fx_frame_base.proofs.Rounds.{samples_of-more, clips_of-more, byte_is, byte-le}
 use Rattle.fx_tap_pointwise.proofs.both.rounded_by_both.Goals as goal
 
 pub samples-preserved : goal.samples-preserved

@@ -1,7 +1,7 @@
 use Rattle.std.proofs.Common.{◌≡◌, ◌≤◌, FitsSigned, map, take}
 use Rattle.std.specs.Int.{w32}
 use Rattle.std.specs.List.{All}
-use Rattle.fx_frame_lists.specs.Rounded.{clips_rounded, samples_of}
+use Rattle.fx_frame_base.specs.Rounded.{clips_rounded, samples_of}
 use Rattle.fx_tap_pointwise.proofs.both.rounded_by_both.Given as goal
 
 abbrev pub invariant-samples : goal.invariant-samples

@@ -3,9 +3,9 @@ use Rattle.std.specs.Int.{w32, w64}
 use Rattle.std.proofs.Math.Nat.{suc-mul}
 use Rattle.std.proofs.lemmas.Int.{fits_signed_from_abs, ints, fits_signed_mul}
 use Rattle.std.proofs.lemmas.List.{get_or-set_other}
-use Rattle.fx_tap_convolve.proofs.SmallSums.{held-64, plain-product-64}
+use Rattle.fx_tap_sums.proofs.SmallSums.{held-64, plain-product-64}
 use Rattle.fx_tap_sums.proofs.SumLaws.{added-more}
-use Rattle.fx_frame_lists.proofs.ChannelPlaces.{within-frames}
+use Rattle.fx_frame_base.proofs.ChannelPlaces.{within-frames}
 use Rattle.fx_tap_pointwise.proofs.channels.add_channel.Goals as goal
 
 pub overflow_add-sums : goal.overflow_add-sums

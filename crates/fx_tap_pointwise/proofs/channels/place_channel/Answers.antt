@@ -1,6 +1,6 @@
 use Rattle.std.proofs.Common.{rules, ◌≡◌, ◌+◌, ◌*◌, ◌<◌, ◌∙◌, ap, ℕ, ℤ, pos, length, arith, slice_index_or, FitsSigned, add-one, below_more, to_z, of_z, w32}
 use Rattle.std.proofs.Math.Nat.{suc-mul}
-use Rattle.fx_frame_lists.proofs.ChannelPlaces.{others-stay, put-more, within-frames}
+use Rattle.fx_frame_base.proofs.ChannelPlaces.{others-stay, put-more, within-frames}
 use Rattle.fx_tap_pointwise.proofs.channels.place_channel.Goals as goal
 
 pub frames-preserved : goal.frames-preserved

@@ -1,5 +1,5 @@
 use Rattle.std.proofs.Common.{◌≡◌, ◌<◌, ◌+◌, ◌*◌, ℕ, pos, slice_index_or, FitsSigned}
-use Rattle.fx_frame_lists.specs.Lists.{IsOtherPlace}
+use Rattle.fx_frame_base.specs.Lists.{IsOtherPlace}
 use Rattle.std.specs.Int.{w32}
 use Rattle.fx_tap_pointwise.proofs.channels.place_channel.Given as goal
 

@@ -1,5 +1,5 @@
 use Rattle.std.proofs.Common.{◌≡◌, ◌<◌, ◌+◌, ◌*◌, ◌+ℤ◌, false, ℕ, pos, slice_index_or}
-use Rattle.fx_frame_lists.specs.Lists.{IsOtherPlace}
+use Rattle.fx_frame_base.specs.Lists.{IsOtherPlace}
 use Rattle.fx_fixed.specs.Rounding.{rounding}
 use Rattle.fx_tap_pointwise.proofs.channels.place_mean.Given as goal
 

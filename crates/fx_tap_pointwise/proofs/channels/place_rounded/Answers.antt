@@ -1,8 +1,8 @@
 use Rattle.std.proofs.Common.{rules, ◌≡◌, ◌+◌, ◌*◌, ◌<◌, ◌∙◌, ap, ℕ, ℤ, pos, Bool, length, arith, slice_index_or, add-one, to_z, of_z, w32}
 use Rattle.std.proofs.lemmas.Grind.{common_steps}
 use Rattle.std.proofs.Math.Nat.{suc-mul}
-use Rattle.fx_frame_lists.proofs.ChannelPlaces.{others-stay, put-more, within-frames}
-use Rattle.fx_frame_lists.proofs.Rounds.{clips_of-next, byte_is, byte-le}
+use Rattle.fx_frame_base.proofs.ChannelPlaces.{others-stay, put-more, within-frames}
+use Rattle.fx_frame_base.proofs.Rounds.{clips_of-next, byte_is, byte-le}
 use Rattle.fx_tap_pointwise.proofs.channels.place_rounded.Goals as goal
 
 pub frames-preserved : goal.frames-preserved

@@ -1,6 +1,6 @@
 use Rattle.std.proofs.Common.{◌≡◌, ◌<◌, ◌≤◌, ◌+◌, ◌*◌, ℕ, pos, slice_index_or}
-use Rattle.fx_frame_lists.specs.Lists.{IsOtherPlace, tabulate}
-use Rattle.fx_frame_lists.specs.Rounded.{clips_rounded}
+use Rattle.fx_frame_base.specs.Lists.{IsOtherPlace, tabulate}
+use Rattle.fx_frame_base.specs.Rounded.{clips_rounded}
 use Rattle.fx_tap_pointwise.proofs.channels.place_rounded.Given as goal
 
 abbrev pub invariant-frames : goal.invariant-frames

@@ -1,5 +1,5 @@
 use Rattle.std.proofs.Common.{◌≡◌, ◌≤◌, ◌*◌, drop}
-use Rattle.fx_frame_lists.specs.Lists.{pieces}
+use Rattle.fx_frame_base.specs.Lists.{pieces}
 use Rattle.fx_frame.specs.Made.{clips_in, made_of}
 use Rattle.fx_tap_pointwise.proofs.mapped.map_by_frames.Given as goal
 

@@ -3,7 +3,7 @@ use Rattle.std.specs.Prelude.{ℤ, pos, replicate, List}
 use Rattle.std.specs.Int.{w32}
 use Rattle.std.proofs.lemmas.List.{get_or_append_left}
 use Rattle.std.proofs.Math.ListN.{length-set}
-use Rattle.fx_frame_lists.proofs.Rounds.{samples_of-more, clips_of-more, byte_is, byte-le}
+use Rattle.fx_frame_base.proofs.Rounds.{samples_of-more, clips_of-more, byte_is, byte-le}
 use Rattle.fx_tap_pointwise.proofs.per_sample.rounded_frame.Goals as goal
 
 pub loop-channel-preserved : goal.loop-channel-preserved

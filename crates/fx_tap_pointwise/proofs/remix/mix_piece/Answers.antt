@@ -1,12 +1,12 @@
 use Rattle.std.proofs.Common.{◌≡◌, ◌+◌, ◌*◌, ◌≤◌, ◌∙◌, [], ap, sym, ℕ, ℤ, Bool, List, get_or, length, arith, add-one, refl, zero-add}
-use Rattle.fx_frame_lists.proofs.ChannelPlaces.{other-channel}
+use Rattle.fx_frame_base.proofs.ChannelPlaces.{other-channel}
 use Rattle.std.proofs.Math.Nat.{suc-mul}
-use Rattle.fx_frame_stage.specs.Frame.{Samples}
-use Rattle.fx_frame_lists.specs.Lists.{pieces, tabulate}
-use Rattle.fx_frame_lists.proofs.Pieces.{length-pieces}
+use Rattle.fx_frame_base.specs.Frame.{Samples}
+use Rattle.fx_frame_base.specs.Lists.{pieces, tabulate}
+use Rattle.fx_frame_base.proofs.Pieces.{length-pieces}
 use Rattle.fx_tap_pointwise.specs.Remix.{Contributions, remixed_sample}
-use Rattle.fx_frame_lists.specs.Rounded.{clips_rounded}
-use Rattle.fx_frame_lists.proofs.Places.{any-default, channel-put}
+use Rattle.fx_frame_base.specs.Rounded.{clips_rounded}
+use Rattle.fx_frame_base.proofs.ListPlaces.{any-default, channel-put}
 use Rattle.fx_frame.proofs.Tables.{all_clips, all_clips-more, all_clips-none}
 use Rattle.fx_tap_pointwise.proofs.MixPieces.{mixed-clips, mixed-frames}
 use Rattle.fx_tap_pointwise.proofs.remix.mix_piece.Goals as goal

@@ -1,5 +1,5 @@
 use Rattle.std.proofs.Common.{◌≡◌, ◌<◌, ◌≤◌, ◌+◌, ◌*◌, [], ℕ, length, pos, slice_index_or}
-use Rattle.fx_frame_lists.specs.Lists.{pieces}
+use Rattle.fx_frame_base.specs.Lists.{pieces}
 use Rattle.fx_tap_pointwise.specs.Remix.{remixed_sample}
 use Rattle.fx_frame.proofs.Tables.{all_clips}
 use Rattle.fx_tap_pointwise.proofs.remix.mix_piece.Given as goal

@@ -2,8 +2,8 @@ use Rattle.std.proofs.Common.{rules, ◌≡◌, ◌+◌, ◌<◌, ◌∙◌, ap,
 use Rattle.std.proofs.lemmas.Grind.{common_steps}
 use Rattle.std.proofs.Math.Nat.{suc-mul}
 use Rattle.fx_fixed.specs.Rounding.{rounding}
-use Rattle.fx_frame_lists.proofs.ChannelPlaces.{others-stay, put-more, within-frames}
-use Rattle.fx_frame_lists.proofs.Rounds.{clips_of-next, byte_is, byte-le}
+use Rattle.fx_frame_base.proofs.ChannelPlaces.{others-stay, put-more, within-frames}
+use Rattle.fx_frame_base.proofs.Rounds.{clips_of-next, byte_is, byte-le}
 use Rattle.fx_tap_sums.proofs.channels.round_channel.Goals as goal
 
 pub frames-preserved : goal.frames-preserved

@@ -2,7 +2,7 @@ use Rattle.std.proofs.Common.{rules, ◌≡◌, ◌<◌, ◌≤◌, ◌^◌, ◌
 use Rattle.std.proofs.lemmas.Int.{fits_signed_from_abs}
 use Rattle.std.proofs.lemmas.List.{get_or-set_other}
 use Rattle.std.proofs.Math.ListN.{length-set}
-use Rattle.fx_tap_convolve.proofs.Magnitudes.{scaled-bound, added-bound}
+use Rattle.fx_tap_sums.proofs.Magnitudes.{scaled-bound, added-bound}
 use Rattle.fx_tap_sums.proofs.SumLaws.{held, plain-sum, added-more}
 use Rattle.fx_tap_sums.proofs.sums.add_places.Goals as goal
 use mir.Syntax.{w128}

@@ -3,8 +3,8 @@ use Rattle.std.specs.Int.{w32, w64}
 use Rattle.std.proofs.lemmas.Int.{fits_signed_from_abs}
 use Rattle.std.proofs.lemmas.List.{get_or-set_other}
 use Rattle.fx_tap_sums.proofs.Fitting.{wide-fits}
-use Rattle.fx_tap_convolve.proofs.SmallSums.{held-in-64, plain-wide-sum, wide-bound}
-use Rattle.fx_tap_convolve.proofs.Magnitudes.{added-bound}
+use Rattle.fx_tap_sums.proofs.SmallSums.{held-in-64, plain-wide-sum, wide-bound}
+use Rattle.fx_tap_sums.proofs.Magnitudes.{added-bound}
 use Rattle.fx_tap_sums.proofs.SumLaws.{added-more, bound-at-more}
 use Rattle.fx_tap_sums.proofs.sums.add_wide_products.Goals as goal
 

@@ -1,7 +1,7 @@
 use Rattle.std.proofs.Common.{rules, ◌≡◌, ◌≤◌, ◌^◌, ◌∙◌, ap, ◌*ℤ◌, arith, unsigned_abs, FitsSigned, to_z, of_z}
 use Rattle.std.specs.Int.{w32, w64}
 use Rattle.std.proofs.lemmas.Int.{fits_signed_from_abs, ints}
-use Rattle.fx_tap_convolve.proofs.SmallSums.{held-in-64, plain-product, weighed-bound}
+use Rattle.fx_tap_sums.proofs.SmallSums.{held-in-64, plain-product, weighed-bound}
 use Rattle.fx_tap_sums.proofs.sums.product.Goals as goal
 
 pub overflow_mul-result : goal.overflow_mul-result

@@ -1,5 +1,5 @@
 use Rattle.std.proofs.Common.{◌∙◌, ap}
-use Rattle.fx_plan_line.specs.Line.{texts}
+use Rattle.fx_plan.specs.Line.{texts}
 use Rattle.fx_plan.specs.Plans.{plan_bytes}
 use Rattle.soxchain.specs.MessageWriter.{WritesMessage}
 use Rattle.soxchain.proofs.Concluding.{concluded, refused}

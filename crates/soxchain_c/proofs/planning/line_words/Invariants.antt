@@ -1,5 +1,5 @@
 use Rattle.std.proofs.Common.{◌≡◌, ◌++◌, length}
-use Rattle.fx_plan_line.specs.Line.{texts}
+use Rattle.fx_plan.specs.Line.{texts}
 use Rattle.soxchain_c.specs.Making.{stream_words}
 use Rattle.soxchain_c.proofs.planning.line_words.Given as goal
 

@@ -1,7 +1,7 @@
 use Rattle.std.proofs.Common.{◌≡◌, ◌∙◌, ap, inl, inr, rules}
 use Rattle.soxchain.proofs.MessageWriterLemmas.{Tells-said}
 use Rattle.soxchain.specs.Program.{status_of_line}
-use Rattle.fx_plan_line.specs.Line.{texts}
+use Rattle.fx_plan.specs.Line.{texts}
 use Rattle.soxchain_c.specs.Making.{stream_line}
 use Rattle.soxchain_c.proofs.planning.make_stream.Goals as goal
 

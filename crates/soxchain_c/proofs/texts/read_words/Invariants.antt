@@ -1,5 +1,5 @@
 use Rattle.std.proofs.Common.{◌≡◌, ◌++◌, ◌≤◌, length}
-use Rattle.fx_plan_line.specs.Line.{texts}
+use Rattle.fx_plan.specs.Line.{texts}
 use Rattle.soxchain_c.specs.Texts.{AreEnds, AreTexts, FindsBadEnd, FindsNoText, cut}
 use Rattle.soxchain_c.proofs.texts.read_words.Given as goal
 

@@ -1,7 +1,7 @@
 use Rattle.std.proofs.Common.{◌≡◌, ℕ, ◌++◌, ◌∙◌, ◌∷◌, ◌^◌, List, ap, arith, lit<, length, sym, map, [], append_assoc, take, true, false, suc}
 use Rattle.std.proofs.lemmas.List.{append-nil, nil_from_length}
 use Rattle.std.specs.Int.{cast_signed, w64}
-use Rattle.fx_frame_stage.specs.Frame.{IsWideFrame, Samples}
+use Rattle.fx_frame_base.specs.Frame.{IsWideFrame, Samples}
 use Rattle.soxchain_stream.specs.Frozen.{frame_words}
 use Rattle.soxchain_stream.proofs.Words.{AreBelow, all-push, below-drop, below-take, FirstFrame, first-frame, frame-words-back, no-frames, pieces-more}
 use Rattle.soxchain_stream.proofs.frozen.frames_of.Goals as goal

@@ -1,6 +1,6 @@
 use Rattle.std.proofs.Common.{◌≡◌, ◌++◌, ◌^◌, List, flat_map, length}
 use Rattle.std.specs.List.{All}
-use Rattle.fx_frame_stage.specs.Frame.{IsWideFrame, Samples}
+use Rattle.fx_frame_base.specs.Frame.{IsWideFrame, Samples}
 use Rattle.soxchain_stream.specs.Frozen.{frame_words}
 use Rattle.soxchain_stream.proofs.Words.{AreBelow}
 use Rattle.soxchain_stream.proofs.frozen.frames_of.Given as goal

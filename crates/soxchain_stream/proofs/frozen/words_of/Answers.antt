@@ -1,7 +1,7 @@
 use Rattle.std.proofs.Common.{arith}
 use Rattle.std.proofs.lemmas.Grind.{common_steps}
 use Rattle.std.proofs.lemmas.List.Elements.{All-cons}
-use Rattle.fx_frame_stage.specs.Frame.{IsWideFrame}
+use Rattle.fx_frame_base.specs.Frame.{IsWideFrame}
 use Rattle.soxchain_stream.proofs.frozen.words_of.Goals as goal
 
 pub loop-frame-preserved : goal.loop-frame-preserved

@@ -1,6 +1,6 @@
 use Rattle.std.proofs.Common.{◌≡◌, ◌++◌, flat_map, length}
 use Rattle.std.specs.List.{All}
-use Rattle.fx_frame_stage.specs.Frame.{IsWideFrame}
+use Rattle.fx_frame_base.specs.Frame.{IsWideFrame}
 use Rattle.soxchain_stream.specs.Frozen.{frame_words, snapshot_words}
 use Rattle.soxchain_stream.proofs.frozen.words_of.Given as goal
 

@@ -2,14 +2,14 @@ use Rattle.std.proofs.Common.{rules, ◌≡◌, ◌+◌, ◌≤◌, ◌++◌, �
 use Rattle.std.proofs.lemmas.List.{nil_from_length}
 use Rattle.std.proofs.lemmas.Grind.{common_steps}
 use Rattle.std.specs.Prelude.{None}
-use Rattle.fx_frame_lists.proofs.Pieces.{length-pieces}
-use Rattle.fx_frame_lists.specs.Lists.{pieces}
+use Rattle.fx_frame_base.proofs.Pieces.{length-pieces}
+use Rattle.fx_frame_base.specs.Lists.{pieces}
 use Rattle.fx_chain_flow.specs.Feed.{FedOnly}
 use Rattle.fx_chain_flow.specs.Sound.{IsSound, max_frames}
 use Rattle.fx_chain_flow.specs.Runs.{flow_of}
 use Rattle.fx_chain_flow.proofs.Feedings.{none-fed, none-gave, none-last, none-free, none-sound, only-fed, only-gave, only-last, only-read, only-free, only-sound, only-unchanged, only-used}
-use Rattle.fx_frame_stage.proofs.Flags.{none-of}
-use Rattle.fx_frame_lists.proofs.Puts.{written_back}
+use Rattle.fx_frame_base.proofs.Flags.{none-of}
+use Rattle.fx_frame_base.proofs.Puts.{written_back}
 use Rattle.fx_chain_flow.proofs.flow.Flow.feed.Given as given
 use Rattle.fx_chain_flow.proofs.flow.Flow.feed.Goals.{After-copy_frames-count, After-feed_only-passed}
 use Rattle.fx_chain_flow.proofs.flow.Flow.feed.Goals as goal

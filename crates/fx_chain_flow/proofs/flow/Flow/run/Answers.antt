@@ -1,15 +1,15 @@
 use Rattle.std.proofs.Common.{rules, ◌≡◌, false, ◌+◌, ◌*◌, ◌<◌, ◌≤◌, ◌++◌, ◌∙◌, drop, length, take, ap, sym, arith}
 use Rattle.std.specs.Prelude.{None}
 use Rattle.std.proofs.Math.Nat.{mul-le-mul_right}
-use Rattle.fx_frame_lists.proofs.Pieces.{length-pieces}
-use Rattle.fx_frame_stage.specs.Holds.{kinds}
-use Rattle.fx_frame_lists.specs.Lists.{pieces}
-use Rattle.fx_frame_stage.specs.Pipeline.{outputs_of}
+use Rattle.fx_frame_base.proofs.Pieces.{length-pieces}
+use Rattle.fx_frame_base.specs.Holds.{kinds}
+use Rattle.fx_frame_base.specs.Lists.{pieces}
+use Rattle.fx_frame_base.specs.Pipeline.{outputs_of}
 use Rattle.fx_chain_flow.specs.Runs.{MayRun, RanOn}
 use Rattle.fx_chain_flow.proofs.Feeding.{all-gave}
 use Rattle.fx_chain_flow.proofs.Moving.{determined-dry}
 use Rattle.fx_chain_flow.proofs.Running.{AllAhead-some, FlowCapacity-each, frames-fit, outs-fit}
-use Rattle.fx_frame_lists.proofs.Puts.{written_back}
+use Rattle.fx_frame_base.proofs.Puts.{written_back}
 use Rattle.fx_chain_flow.proofs.flow.Flow.run.Given as given
 use Rattle.fx_chain_flow.proofs.flow.Flow.run.Goals as goal
 use Rattle.fx_chain_flow.proofs.flow.Flow.run.Goals.{After-deref_mut, After-run-passed}

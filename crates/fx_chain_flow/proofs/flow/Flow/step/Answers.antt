@@ -1,21 +1,21 @@
 use Rattle.std.proofs.Common.{rules, cond, nat_eq, ◌≡◌, ◌+◌, ◌<◌, ◌^◌, length, refl, sym, ap, ◌∙◌, arith}
-use Rattle.fx_frame_stage.specs.Holds.{hold_sum, kinds}
+use Rattle.fx_frame_base.specs.Holds.{hold_sum, kinds}
 use Rattle.fx_chain_flow.proofs.Steps.{IsSound-pass, Steps-pass, ended-busy, never-idle}
 use Rattle.fx_chain_flow.proofs.Moving.{determined-none, determined-after, count-le, IsWetEnd-le, CanMove-sound, IsSound-move, Steps-move, MovedOn-move, MovedOn-pass}
-use Rattle.fx_frame_lists.proofs.Puts.{written_back}
+use Rattle.fx_frame_base.proofs.Puts.{written_back}
 use Rattle.fx_chain_flow.specs.Steps.{one_more}
 use Rattle.fx_chain_flow.proofs.flow.Flow.step.Goals as goal
 
 pub pass_on-self-inside-requires-clause-open : goal.pass_on-self-inside-requires-clause-open
 pass_on-self-inside-requires-clause-open g c =
-    let unchanged = c.if-is_unchanged.ensures.0 refl in
+    let unchanged = c.if-is_idle.ensures.0 refl in
     let dry = determined-none g.S.Stage.acts c.self.inside.wet c.self.inside.stages.items (omega (arith, unchanged.0)) c.self.invariant.1 in
     let busy = rw (← c.self.view_is) at c.requires in
     rw c.deref_mut.ensures.value (λ ended. never-idle g.S.Stage.acts _ unchanged.1 dry ended busy.0 busy.1)
 
 pub invariant_of-self : goal.invariant_of-self
 invariant_of-self g c =
-    let unchanged = c.if-is_unchanged.ensures.0 refl in
+    let unchanged = c.if-is_idle.ensures.0 refl in
     let dry = determined-none g.S.Stage.acts c.self.inside.wet c.self.inside.stages.items (omega (arith, unchanged.0)) c.self.invariant.1 in
     let busy = rw (← c.self.view_is) at c.requires in
     let over = ended-busy g.S.Stage.acts _ unchanged.1 dry busy.0 in
@@ -23,9 +23,9 @@ invariant_of-self g c =
     rw (written_back c.self.inside.stages.items c.pass_on-self-inside.new.stages c.self.inside.stages.len c.self.inside.stages.ok.0 (c.pass_on-self-inside.auto.stages ∙ ap length c.deref_mut.ensures.value))
     (IsSound-pass g.S.Stage.acts g.met.S.Stage.rises _ passed.0 c.pass_on-self-inside.new.stages c.self.invariant.0 over dry passed.1 passed.2, c.pass_on-self-inside.ensures.wet)
 
-pub returns-then-is_unchanged-clause-steps : goal.returns-then-is_unchanged-clause-steps
-returns-then-is_unchanged-clause-steps g c =
-    let unchanged = c.if-is_unchanged.ensures.0 refl in
+pub returns-then-is_idle-clause-steps : goal.returns-then-is_idle-clause-steps
+returns-then-is_idle-clause-steps g c =
+    let unchanged = c.if-is_idle.ensures.0 refl in
     let dry = determined-none g.S.Stage.acts c.self.inside.wet c.self.inside.stages.items (omega (arith, unchanged.0)) c.self.invariant.1 in
     let busy = rw (← c.self.view_is) at c.requires in
     let over = ended-busy g.S.Stage.acts _ unchanged.1 dry busy.0 in
@@ -33,9 +33,9 @@ returns-then-is_unchanged-clause-steps g c =
     rw (← c.self.view_is, written_back c.self.inside.stages.items c.pass_on-self-inside.new.stages c.self.inside.stages.len c.self.inside.stages.ok.0 (c.pass_on-self-inside.auto.stages ∙ ap length c.deref_mut.ensures.value))
     (Steps-pass g.S.Stage.acts g.met.S.Stage.rises _ passed.0 c.pass_on-self-inside.new.stages c.self.invariant.0 over dry passed.1 passed.2)
 
-pub returns-then-is_unchanged-clause-moved : goal.returns-then-is_unchanged-clause-moved
-returns-then-is_unchanged-clause-moved g c =
-    let unchanged = c.if-is_unchanged.ensures.0 refl in
+pub returns-then-is_idle-clause-moved : goal.returns-then-is_idle-clause-moved
+returns-then-is_idle-clause-moved g c =
+    let unchanged = c.if-is_idle.ensures.0 refl in
     let dry = determined-none g.S.Stage.acts c.self.inside.wet c.self.inside.stages.items (omega (arith, unchanged.0)) c.self.invariant.1 in
     let busy = rw (← c.self.view_is) at c.requires in
     let over = ended-busy g.S.Stage.acts _ unchanged.1 dry busy.0 in
@@ -46,7 +46,7 @@ returns-then-is_unchanged-clause-moved g c =
 pub move_on-out-requires : goal.move_on-out-requires
 move_on-out-requires g c =
     rw c.deref_mut-2.ensures.value
-    (CanMove-sound g.S.Stage.acts g.met.S.Stage.rises _ c.self.inside.wet c.self.invariant.0 c.self.invariant.1 (λ unchanged. let e = c.if-is_unchanged.ensures.1 unchanged in absurd (cc)))
+    (CanMove-sound g.S.Stage.acts g.met.S.Stage.rises _ c.self.inside.wet c.self.invariant.0 c.self.invariant.1 (λ unchanged. let e = c.if-is_idle.ensures.1 unchanged in absurd (cc)))
 
 pub overflow_add-place : goal.overflow_add-place
 overflow_add-place g c =
@@ -86,9 +86,9 @@ returns-clause-moved g c =
     rw (← c.self.view_is, back, c.made.ensures, one)
     (MovedOn-move g.S.Stage.acts g.met.S.Stage.rises _ c.self.inside.wet _ _ _ c.self.invariant.1 moved)
 
-pub returns-then-is_unchanged-clause-sequence : goal.returns-then-is_unchanged-clause-sequence
-returns-then-is_unchanged-clause-sequence g c =
-    let unchanged = c.if-is_unchanged.ensures.0 refl in
+pub returns-then-is_idle-clause-sequence : goal.returns-then-is_idle-clause-sequence
+returns-then-is_idle-clause-sequence g c =
+    let unchanged = c.if-is_idle.ensures.0 refl in
     let dry = determined-none g.S.Stage.acts c.self.inside.wet c.self.inside.stages.items (omega (arith, unchanged.0)) c.self.invariant.1 in
     let busy = rw (← c.self.view_is) at c.requires in
     let over = ended-busy g.S.Stage.acts _ unchanged.1 dry busy.0 in

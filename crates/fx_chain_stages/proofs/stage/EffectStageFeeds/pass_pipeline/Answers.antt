@@ -1,8 +1,8 @@
 -- Three stages that frames went through, as a list of stages.
 use Rattle.std.proofs.Common.{rules, ◌≡◌, [], ◌∷◌, arith, refl}
 use Rattle.std.proofs.lemmas.Grind.{common_steps}
-use Rattle.fx_frame_stage.proofs.PipelineLaws.{PipelineThrough-none}
-use Rattle.fx_frame_stage.specs.Stage.{kind}
+use Rattle.fx_frame_base.proofs.PipelineLaws.{PipelineThrough-none}
+use Rattle.fx_frame_base.specs.Stage.{kind}
 use Rattle.fx_chain_stages.specs.Stages.{effect_acts}
 use Rattle.fx_chain_stages.proofs.stage.EffectStageFeeds.pass_pipeline.Goals as goal
 

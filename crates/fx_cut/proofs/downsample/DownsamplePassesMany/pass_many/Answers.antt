@@ -1,15 +1,15 @@
 -- Frames that are left out, and groups behind them.
 use Rattle.std.proofs.Common.{rules, ◌≡◌, ◌≤◌, ◌+◌, ◌-◌, ◌*◌, ◌∙◌, [], length, ap, arith, refl}
-use Rattle.fx_frame_stage.proofs.Flags.{none-of}
+use Rattle.fx_frame_base.proofs.Flags.{none-of}
 use Rattle.std.proofs.lemmas.List.{length-drop}
 use Rattle.std.proofs.Math.Nat.{add-mul, mul_assoc}
-use Rattle.fx_frame_stage.specs.Feed.{Fed, nothing}
-use Rattle.fx_frame_lists.specs.Lists.{pieces}
+use Rattle.fx_frame_base.specs.Feed.{Fed, nothing}
+use Rattle.fx_frame_base.specs.Lists.{pieces}
 use Rattle.fx_cut.specs.DownsampleState.{downsample_acts}
 use Rattle.fx_cut.specs.declared.downsample.Downsample.TheView.{view}
 use Rattle.fx_cut.proofs.DownsampleMany.{Ready, all-passed, groups-free, lead-passed, beyond, took-with-free}
 use Rattle.fx_cut.proofs.Pieces.{frames-free}
-use Rattle.fx_frame_lists.proofs.Puts.{part-from}
+use Rattle.fx_frame_base.proofs.Puts.{part-from}
 use Rattle.fx_cut.proofs.downsample.DownsamplePassesMany.pass_many.Goals as goal
 use Rattle.fx_cut.proofs.downsample.DownsamplePassesMany.pass_many.Goals.{After-min-left_out, After-min-groups, Then-self-ne0, After-self-4-1}
 

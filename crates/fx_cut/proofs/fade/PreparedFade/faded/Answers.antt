@@ -2,8 +2,8 @@ use Rattle.std.proofs.Common.{refl, ◌≡◌, ◌∷◌, ◌-◌, [], ap, sym, 
 use Rattle.std.specs.Prelude.{ℤ}
 use Rattle.std.proofs.lemmas.List.{take_at}
 use Rattle.fx_cut.specs.Fade.{faded_frame, weighted, weights}
-use Rattle.fx_frame_stage.specs.Given.{plain}
-use Rattle.fx_frame_lists.specs.Rounded.{unclipped}
+use Rattle.fx_frame_base.specs.Given.{plain}
+use Rattle.fx_frame_base.specs.Rounded.{unclipped}
 use Rattle.fx_cut.proofs.Weighing.{given-plain}
 use Rattle.fx_cut.proofs.fade.PreparedFade.faded.Goals as goal
 

@@ -3,14 +3,14 @@ use Rattle.std.specs.Prelude.{FitsSigned, ℤ}
 use Rattle.std.proofs.lemmas.List.Elements.{All-append, All-drop, All-take}
 use Rattle.std.proofs.Math.Nat.{suc-mul, mul-le-mul_right}
 use Rattle.std.proofs.lemmas.List.{map-append}
-use Rattle.fx_frame_stage.specs.Frame.{Samples}
-use Rattle.fx_frame_lists.specs.Lists.{pieces}
-use Rattle.fx_frame_lists.proofs.Puts.{drop-put, pieces-more, pieces-put}
+use Rattle.fx_frame_base.specs.Frame.{Samples}
+use Rattle.fx_frame_base.specs.Lists.{pieces}
+use Rattle.fx_frame_base.proofs.Puts.{drop-put, pieces-more, pieces-put}
 use Rattle.fx_frame_line.proofs.ManyFrames.{frames-samples}
-use Rattle.fx_frame_lists.proofs.Pieces.{length-pieces}
+use Rattle.fx_frame_base.proofs.Pieces.{length-pieces}
 use Rattle.fx_cut.specs.Fade.{faded_frame}
 use Rattle.fx_cut.specs.FadeState.{stop_determined}
-use Rattle.fx_frame_stage.specs.Given.{plain}
+use Rattle.fx_frame_base.specs.Given.{plain}
 use Rattle.fx_cut.proofs.FadeWeights.{all-flat, faded_along, faded_along-more}
 use Rattle.fx_cut.proofs.Pieces.{put-piece}
 use Rattle.fx_cut.proofs.Weighing.{given-plain}

@@ -2,7 +2,7 @@ use Rattle.std.proofs.Common.{refl, sym, ap, rules}
 use Rattle.std.specs.Prelude.{map}
 use Rattle.std.specs.Int.{w32}
 use Rattle.fx_frame_line.specs.Line.{IsLine}
-use Rattle.fx_frame_stage.specs.Given.{plain}
+use Rattle.fx_frame_base.specs.Given.{plain}
 use Rattle.fx_cut.proofs.PadRest.{pad_new}
 use Rattle.fx_cut.proofs.PadSteps.{IsPad-new}
 use Rattle.fx_cut.proofs.pad.Pad.new.Goals as goal

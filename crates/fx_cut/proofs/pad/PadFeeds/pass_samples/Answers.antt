@@ -1,11 +1,11 @@
 use Rattle.std.proofs.Common.{◌≡◌, ◌+◌, ◌∙◌, arith, sym}
 use Rattle.std.proofs.lemmas.Bool.{eqb-true}
-use Rattle.fx_frame_stage.specs.declared.feed.Passing.TheVariants.{Through}
-use Rattle.fx_frame_stage.specs.Feed.{PassedOn}
+use Rattle.fx_frame_base.specs.declared.feed.Passing.TheVariants.{Through}
+use Rattle.fx_frame_base.specs.Feed.{PassedOn}
 use Rattle.fx_cut.specs.Pad.{pads_from_start, silent_at}
 use Rattle.fx_cut.specs.PadState.{IsPad, pad_acts}
 use Rattle.fx_cut.specs.declared.pad.Pad.TheView.{view}
-use Rattle.fx_cut.proofs.PadMany.{SilentHere, one-passed, determined-pad}
+use Rattle.fx_cut.proofs.PadMany.{AreClear, one-passed, determined-pad}
 use Rattle.fx_cut.proofs.PadSteps.{dry-pending}
 use Rattle.fx_cut.proofs.pad.PadFeeds.pass_samples.Goals as goal
 use Rattle.fx_cut.proofs.pad.PadFeeds.pass_samples.Goals.{Then-is_known, then-capacity-eq0, else-capacity-eq0}
@@ -18,16 +18,16 @@ passed c =
     let below = may.below_limit in
     let known : (c.self.inside.line.capacity ≡ 0) × (silent_at (pads_from_start c.self.inside.pads) c.self.inside.taken ≡ 0) =
     elim c.if-capacity-eq0.branch [
-      | then-capacity-eq0 w ↦ (sym c.capacity.ensures.capacity ∙ w.if-capacity-eq0.true, w.is_silent-is_known.ensures (sym w.is_known-is ∙ c.if-is_known.true))
+      | then-capacity-eq0 w ↦ (sym c.capacity.ensures.capacity ∙ w.if-capacity-eq0.true, w.is_clear-is_known.ensures (sym w.is_known-is ∙ c.if-is_known.true))
       | else-capacity-eq0 w ↦ absurd (let none : c.capacity.result ≡ 0 = eqb-true c.capacity.result 0 (sym w.is_known-is ∙ c.if-is_known.true) in omega (arith, none, w.if-capacity-eq0.false))
     ] in
-    let a : SilentHere (view c.self.inside) 1 = record {
+    let a : AreClear (view c.self.inside) 1 = record {
       is = c.self.invariant;
       short = known.0;
       empty = nothing.0;
       none = nothing.1;
       running = may.not_ended;
-      silence_here = λ i h. let at : c.self.inside.taken + i ≡ c.self.inside.taken = omega (arith, h) in rw at known.1;
+      clear_frames = λ i h. let at : c.self.inside.taken + i ≡ c.self.inside.taken = omega (arith, h) in rw at known.1;
       bound = omega (arith, below);
     } in
     one-passed (view c.self.inside) 0 c.args.samples.now a may.channels

@@ -1,12 +1,12 @@
 -- Up to the next pad the frames are passed, all of them.
 use Rattle.std.proofs.Common.{rules, ◌≡◌, ◌+◌, ◌≤◌, ◌*◌, ◌∙◌, length, take, arith}
-use Rattle.fx_frame_stage.proofs.Flags.{none-of}
+use Rattle.fx_frame_base.proofs.Flags.{none-of}
 use Rattle.std.proofs.lemmas.List.{length-take-le}
-use Rattle.fx_frame_stage.specs.Feed.{Fed, nothing}
-use Rattle.fx_frame_lists.specs.Lists.{pieces}
+use Rattle.fx_frame_base.specs.Feed.{Fed, nothing}
+use Rattle.fx_frame_base.specs.Lists.{pieces}
 use Rattle.fx_cut.specs.PadState.{IsPad, pad_acts}
 use Rattle.fx_cut.specs.declared.pad.Pad.TheView.{view}
-use Rattle.fx_cut.proofs.PadMany.{SilentHere, silence_here-passed, took-with-free}
+use Rattle.fx_cut.proofs.PadMany.{AreClear, clear_frames-passed, took-with-free}
 use Rattle.fx_cut.proofs.Pieces.{bound-pieces, frames-free, pieces-cut}
 use Rattle.fx_cut.proofs.pad.PadPassesMany.pass_many.Goals.{After-copy_frames-copied}
 use Rattle.fx_cut.proofs.pad.PadPassesMany.pass_many.Goals as goal
@@ -22,8 +22,8 @@ cut c =
     (long, length-take-le n c.args.input.now long)
 
 -- no silence stands before those that are copied
-silence_here : (c : After-copy_frames-copied) → SilentHere (view c.self.inside) c.copy_frames-copied.result
-silence_here c =
+clear_frames : (c : After-copy_frames-copied) → AreClear (view c.self.inside) c.copy_frames-copied.result
+clear_frames c =
     let n = c.copy_frames-copied.result in
     let ch = c.self.inside.channels in
     let count = c.min-count.result in
@@ -31,15 +31,15 @@ silence_here c =
     let there = cut c in
     let read = c.copy_frames-copied.ensures.read in
     let fewer : n ≤ count = bound-pieces n count ch (rw (← c.self.view_is) at c.requires.channels.0) (omega (arith, read, there.1)) in
-    let silence_here = rw c.all.ensures at c.silent_from-silence_here.ensures in
-    let ahead : n ≤ c.silent_from-silence_here.result = omega (arith, fewer, c.min-count.ensures) in
+    let clear_frames = rw c.all.ensures at c.clear_frames_from-clear_frames.ensures in
+    let ahead : n ≤ c.clear_frames_from-clear_frames.result = omega (arith, fewer, c.min-count.ensures) in
     record {
       is = c.self.invariant;
       short = search rules;
       empty = none-of c.self.inside.pending (search rules);
       none = c.if-self-ne0.false;
       running = c.if-self.false;
-      silence_here = λ i h. silence_here i (omega (arith, h, ahead));
+      clear_frames = λ i h. clear_frames i (omega (arith, h, ahead));
       bound = below n (omega (arith, read, there.1, there.0));
     }
 
@@ -53,7 +53,7 @@ passes c =
     let there = cut c in
     let read = c.copy_frames-copied.ensures.read in
     let same : pieces ch n c.copy_frames-copied.new.output ≡ pieces ch n input = c.copy_frames-copied.ensures.frames ∙ pieces-cut ch n (c.min-count.result * ch) input (omega (arith, read, there.1)) in
-    silence_here-passed (view c.self.inside) n input c.copy_frames-copied.new.output (silence_here c) (omega (arith, read, there.1, there.0)) same
+    clear_frames-passed (view c.self.inside) n input c.copy_frames-copied.new.output (clear_frames c) (omega (arith, read, there.1, there.0)) same
 
 pub invariant_of-self : goal.invariant_of-self
 invariant_of-self c = (passes (goal.at.invariant_of-self c).After-copy_frames-copied).1
@@ -63,6 +63,6 @@ returns-clause-fed c = rw (← c.self.view_is) (passes (goal.at.returns-clause-f
 
 pub returns-clause-free : goal.returns-clause-free
 returns-clause-free c =
-    let a = silence_here (goal.at.returns-clause-free c).After-copy_frames-copied in
+    let a = clear_frames (goal.at.returns-clause-free c).After-copy_frames-copied in
     let fits = c.copy_frames-copied.ensures.written in
     rw (← c.self.view_is) (took-with-free (view c.self.inside) c.copy_frames-copied.result (length c.args.output.now) a (omega (arith, fits, c.copy_frames-copied.auto.output)))

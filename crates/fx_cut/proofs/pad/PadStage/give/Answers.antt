@@ -12,18 +12,18 @@ returns-then-self-gt0 c =
 pub invariant_of-self-2 : goal.invariant_of-self-2
 invariant_of-self-2 c =
     let e = c.next_padded-silent.ensures in
-    let silence_here = rw c.all.ensures at e.silent in
+    let silent_frames = rw c.all.ensures at e.silent in
     let none : c.self.inside.silent ≡ 0 = omega arith in
     let ended = c.if-not-self.false in
-    IsPad-drawn _ _ _ _ _ _ c.self.invariant ended e.oldest e.items silence_here e.line e.capacity e.channels (rw c.self.invariant.channels at e.pending) (left-given _ c.in-Some.frame c.self.invariant c.in-Some.is none ended)
+    IsPad-drawn _ _ _ _ _ _ c.self.invariant ended e.oldest e.items silent_frames e.line e.capacity e.channels (rw c.self.invariant.channels at e.pending) (left-given _ c.in-Some.frame c.self.invariant c.in-Some.is none ended)
 
 pub returns : goal.returns
 returns c =
     let e = c.next_padded-silent.ensures in
-    let silence_here = rw c.all.ensures at e.silent in
+    let silent_frames = rw c.all.ensures at e.silent in
     let none : c.self.inside.silent ≡ 0 = omega arith in
     let ended = c.if-not-self.false in
-    rw (← c.self.view_is) (Gave-drawn _ _ _ _ _ _ c.self.invariant ended e.oldest e.items silence_here c.in-Some.frame c.in-Some.is none ended refl refl)
+    rw (← c.self.view_is) (Gave-drawn _ _ _ _ _ _ c.self.invariant ended e.oldest e.items silent_frames c.in-Some.frame c.in-Some.is none ended refl refl)
 
 pub invariant_of-self : goal.invariant_of-self
 invariant_of-self c = grind (arith, common_steps)

@@ -1,7 +1,7 @@
 use Rattle.std.proofs.Common.{◌≡◌, ◌*◌, ◌∙◌, ℕ, length, sym, ap, arith, append-nil}
 use Rattle.std.specs.Prelude.{None}
-use Rattle.fx_frame_stage.specs.Pipeline.{EachThrough}
-use Rattle.fx_frame_lists.specs.Lists.{pieces}
+use Rattle.fx_frame_base.specs.Pipeline.{EachThrough}
+use Rattle.fx_frame_base.specs.Lists.{pieces}
 use Rattle.fx_cut.specs.Selected.{IsSelectedState, selected_acts}
 use Rattle.fx_cut.proofs.PendingLemmas.{none_of}
 use Rattle.fx_cut.proofs.SelectMany.{passed}

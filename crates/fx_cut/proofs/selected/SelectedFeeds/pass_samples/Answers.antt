@@ -1,6 +1,6 @@
 use Rattle.std.proofs.Common.{◌∙◌, ◌+◌, arith, refl, sym}
-use Rattle.fx_frame_stage.specs.declared.feed.Passing.TheVariants.{Kept, Through}
-use Rattle.fx_frame_stage.specs.Feed.{PassedOn}
+use Rattle.fx_frame_base.specs.declared.feed.Passing.TheVariants.{Kept, Through}
+use Rattle.fx_frame_base.specs.Feed.{PassedOn}
 use Rattle.fx_cut.specs.Selected.{IsSelectedState, selected_acts}
 use Rattle.fx_cut.proofs.SelectPassing.{passed-given, passed-out, determined-select}
 use Rattle.fx_cut.proofs.SelectSteps.{came, state}

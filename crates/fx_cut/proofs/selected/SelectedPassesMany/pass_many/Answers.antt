@@ -1,13 +1,13 @@
 -- The frames that fall out up to where a stretch ends are given, or left out, all of them.
 use Rattle.std.proofs.Common.{ℕ, ◌≡◌, ◌≤◌, ◌+◌, ◌*◌, ◌-◌, ◌/◌, ◌∙◌, ◌++◌, drop, length, take, sym, arith, w32}
-use Rattle.fx_frame_stage.proofs.Flags.{none-of}
+use Rattle.fx_frame_base.proofs.Flags.{none-of}
 use Rattle.std.proofs.lemmas.Grind.{common_steps}
 use Rattle.std.proofs.lemmas.List.{length-take-le}
 use Rattle.std.proofs.lemmas.List.Elements.{All-append}
-use Rattle.fx_frame_stage.specs.Feed.{Fed, nothing}
+use Rattle.fx_frame_base.specs.Feed.{Fed, nothing}
 use Rattle.fx_frame_line.specs.Line.{IsSamples}
-use Rattle.fx_frame_lists.specs.Lists.{pieces}
-use Rattle.fx_frame_lists.proofs.Pieces.{pieces-front}
+use Rattle.fx_frame_base.specs.Lists.{pieces}
+use Rattle.fx_frame_base.proofs.Pieces.{pieces-front}
 use Rattle.fx_cut.specs.Selected.{IsSelectedState, selected_acts}
 use Rattle.fx_cut.proofs.Onto.{IsPiece, piece-fits}
 use Rattle.fx_cut.proofs.SelectMany.{Alike, fell-fit, passed, piece-passed, took-with-free}

@@ -1,5 +1,5 @@
 use Rattle.std.proofs.Common.{◌∙◌, sym}
-use Rattle.fx_frame_stage.proofs.Flags.{none-of}
+use Rattle.fx_frame_base.proofs.Flags.{none-of}
 use Rattle.std.proofs.lemmas.Bool.{leb-true}
 use Rattle.fx_cut.proofs.SelectSteps.{spent-rest}
 use Rattle.fx_cut.proofs.selected.SelectedStage.is_spent.Goals as goal

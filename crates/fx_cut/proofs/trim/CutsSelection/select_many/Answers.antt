@@ -1,4 +1,4 @@
-use Rattle.fx_frame_lists.specs.Lists.{pieces}
+use Rattle.fx_frame_base.specs.Lists.{pieces}
 use Rattle.fx_cut.specs.TrimDetermined.{plain-along}
 use Rattle.fx_cut.proofs.trim.CutsSelection.select_many.Goals as goal
 

@@ -1,8 +1,8 @@
 -- Each frame is passed with the silence behind it.
 use Rattle.std.proofs.Common.{rules, ◌≤◌, ◌+◌, ◌*◌, ◌/◌, ◌^◌, length, arith}
-use Rattle.fx_frame_stage.proofs.Flags.{none-of}
+use Rattle.fx_frame_base.proofs.Flags.{none-of}
 use Rattle.std.proofs.Math.Nat.{mul_assoc}
-use Rattle.fx_frame_stage.specs.Feed.{nothing}
+use Rattle.fx_frame_base.specs.Feed.{nothing}
 use Rattle.fx_cut.specs.declared.upsample.Upsample.TheView.{view}
 use Rattle.fx_cut.proofs.Pieces.{frames-free}
 use Rattle.fx_cut.proofs.UpsampleMany.{Ready, all-passed, frames-fed, took-with-free}

@@ -16,5 +16,5 @@ returns-in-2-clause-oldest g c =
     let a = c.seen-in-2.result in
     let b = c.seen-in-2-2.result in
     let got = mapped (λ p. p.0 ∷ p.1 ∷ []) c.push_two.result c.map-in-2.result c.map-in-2.ensures.cases in
-    let whole : c.args.frame ≡ a ∷ b ∷ [] = two-samples c.args.frame g.T.Sample.silence_here (c.requires ∙ ap (λ v. v.channels) (sym c.self.view_is) ∙ sym c.channels.ensures.channels ∙ c.in-2.is) ∙ (cc) in
+    let whole : c.args.frame ≡ a ∷ b ∷ [] = two-samples c.args.frame g.T.Sample.silent_sample (c.requires ∙ ap (λ v. v.channels) (sym c.self.view_is) ∙ sym c.channels.ensures.channels ∙ c.in-2.is) ∙ (cc) in
     rw (← c.self.view_is, whole) (got ∙ c.push_two.ensures.oldest)

@@ -1,7 +1,7 @@
 use Rattle.std.proofs.Common.{◌≡◌, ◌++◌, ◌-◌, ◌≤◌, length, take, ap, sym, ◌∙◌, arith}
 use Rattle.std.proofs.lemmas.List.{append_assoc}
 use Rattle.std.proofs.lemmas.Result.{MatchResult-from_err}
-use Rattle.fx_sound_heads.specs.FrameCoding.{bytes_of}
+use Rattle.fx_sound.specs.FrameCoding.{bytes_of}
 use Rattle.fx_sound.proofs.Sending.{Sent-put}
 use Rattle.fx_sound.proofs.output.Output.push_over_edge.Goals as goal
 

@@ -1,7 +1,7 @@
 use Rattle.std.proofs.Common.{◌≡◌, ◌-◌, ◌*◌, length, ap, sym, ◌∙◌, arith, refl}
 use Rattle.std.proofs.lemmas.List.{length-append}
-use Rattle.fx_frame_io.specs.Coding.{width_of}
-use Rattle.fx_sound_heads.specs.FrameCoding.{bytes_of}
+use Rattle.fx_frame_base.specs.Coding.{width_of}
+use Rattle.fx_sound.specs.FrameCoding.{bytes_of}
 use Rattle.fx_sound.proofs.Sending.{held-put}
 use Rattle.fx_sound.proofs.output.Output.put_coded.Goals as goal
 

@@ -1,5 +1,5 @@
 use Rattle.std.proofs.Common.{◌≡◌, ◌-◌, ◌*◌, length, ap, arith}
-use Rattle.fx_frame_io.specs.Coding.{width_of}
+use Rattle.fx_frame_base.specs.Coding.{width_of}
 use Rattle.fx_sound.proofs.Sending.{held-put}
 use Rattle.fx_sound.proofs.output.Output.put_samples.Goals as goal
 

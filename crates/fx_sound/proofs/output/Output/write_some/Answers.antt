@@ -1,5 +1,5 @@
 use Rattle.std.proofs.Common.{◌-◌, ◌≤◌, refl, arith}
-use Rattle.fx_sound_heads.proofs.Held.{drop-held, length-held}
+use Rattle.fx_sound.proofs.Held.{drop-held, length-held}
 use Rattle.fx_sound.proofs.Sending.{Sent-taken}
 use Rattle.fx_sound.proofs.output.Output.write_some.Goals as goal
 

@@ -1,6 +1,6 @@
 use Rattle.std.proofs.Common.{◌≡◌, ◌*◌, length, ap, ◌∙◌, arith}
 use Rattle.std.proofs.lemmas.List.{length-take-le}
-use Rattle.fx_sound_heads.specs.FrameCoding.{frame_size}
+use Rattle.fx_sound.specs.FrameCoding.{frame_size}
 use Rattle.fx_sound.proofs.Sounds.{first_frames-taken}
 use Rattle.fx_sound.proofs.progress.Progress.decode_held.Goals as goal
 

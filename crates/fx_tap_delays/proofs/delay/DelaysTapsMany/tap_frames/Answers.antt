@@ -1,5 +1,5 @@
 use Rattle.std.proofs.Common.{length, sym}
-use Rattle.fx_frame_lists.specs.Lists.{pieces}
+use Rattle.fx_frame_base.specs.Lists.{pieces}
 use Rattle.fx_tap_delays.proofs.Delaying.{even-clips}
 use Rattle.fx_tap_delays.proofs.delay.DelaysTapsMany.tap_frames.Goals as goal
 

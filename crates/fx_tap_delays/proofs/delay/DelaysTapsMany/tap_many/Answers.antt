@@ -1,6 +1,6 @@
 -- All channels are delayed by as many frames as the line has places, or each by its own number.
 use Rattle.std.proofs.Common.{length, sym}
-use Rattle.fx_frame_lists.specs.Lists.{pieces}
+use Rattle.fx_frame_base.specs.Lists.{pieces}
 use Rattle.fx_tap_delays.proofs.Delaying.{even-all, even-clips, even-line}
 use Rattle.fx_tap_delays.proofs.delay.DelaysTapsMany.tap_many.Goals as goal
 

@@ -1,10 +1,10 @@
 use Rattle.std.proofs.Common.{◌<◌, ◌≤◌, ◌+◌, ◌*◌, ◌+ℤ◌, ◌*ℤ◌, ◌∙◌, ap, arith, length, List, ℕ, ℤ, drop, pos, slice_index_or}
-use Rattle.fx_frame_lists.specs.Lists.{pieces}
+use Rattle.fx_frame_base.specs.Lists.{pieces}
 use Rattle.fx_tap_delays.specs.EchoWeights.{weighed_echoes}
 use Rattle.fx_tap_delays.proofs.EchoLaws.{echo-first, echo-next, echo-last}
 use Rattle.fx_tap_delays.proofs.EchoPieces.{coming-sample, earlier-sample}
 use Rattle.fx_tap_delays.proofs.EchoWeights.{held-weight, weighed-at, weighed-length}
-use Rattle.fx_frame_lists.proofs.ChannelPlaces.{within-frames}
+use Rattle.fx_frame_base.proofs.ChannelPlaces.{within-frames}
 use Rattle.fx_tap_delays.proofs.echo.PreparedEcho.add_piece.Goals as goal
 
 pub taps-init : goal.taps-init

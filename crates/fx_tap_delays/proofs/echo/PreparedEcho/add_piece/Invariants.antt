@@ -1,5 +1,5 @@
 use Rattle.std.proofs.Common.{◌≡◌, ◌<◌, ◌≤◌, ◌+◌, ◌*◌, ◌^◌, ◌++◌, ℕ, pos, ◌+ℤ◌, drop, length, slice_index_or, unsigned_abs}
-use Rattle.fx_frame_lists.specs.Lists.{pieces}
+use Rattle.fx_frame_base.specs.Lists.{pieces}
 use Rattle.fx_tap_delays.specs.Echo.{echo_sum, echoes_of}
 use Rattle.fx_tap_delays.specs.EchoWeights.{weighed, weighed_echoes}
 use Rattle.fx_frame.specs.History.{sample_before}

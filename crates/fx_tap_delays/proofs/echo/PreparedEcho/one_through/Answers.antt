@@ -1,5 +1,5 @@
 use Rattle.std.proofs.Common.{◌∙◌, ap}
-use Rattle.fx_frame_lists.specs.Rounded.{clips_rounded, samples_of}
+use Rattle.fx_frame_base.specs.Rounded.{clips_rounded, samples_of}
 use Rattle.fx_tap_delays.proofs.OneEcho.{one-echo}
 use Rattle.fx_tap_delays.proofs.echo.PreparedEcho.one_through.Goals as goal
 

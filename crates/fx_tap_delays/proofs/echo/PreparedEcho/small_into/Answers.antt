@@ -5,8 +5,8 @@ use Rattle.fx_tap_sums.specs.Weights.{Weights}
 use Rattle.fx_tap_delays.specs.EchoWeights.{weighed}
 use Rattle.fx_frame.specs.History.{History, sample_before}
 use Rattle.fx_tap_delays.proofs.EchoWeights.{small-sample}
-use Rattle.fx_frame_lists.proofs.Rounds.{samples_of-next, clips_of-next, byte_is, byte-le}
-use Rattle.fx_tap_convolve.proofs.SmallSums.{held-in-64}
+use Rattle.fx_frame_base.proofs.Rounds.{samples_of-next, clips_of-next, byte_is, byte-le}
+use Rattle.fx_tap_sums.proofs.SmallSums.{held-in-64}
 use Rattle.fx_tap_delays.proofs.echo.PreparedEcho.small_into.Goals as goal
 
 pub channels-preserved : goal.channels-preserved

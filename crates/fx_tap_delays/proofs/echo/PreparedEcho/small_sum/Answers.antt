@@ -5,8 +5,8 @@ use Rattle.fx_tap_delays.specs.EchoWeights.{weighed_echoes}
 use Rattle.fx_frame.specs.History.{History, sample_before}
 use Rattle.fx_tap_delays.proofs.EchoLaws.{echo-next, echo-last}
 use Rattle.fx_tap_delays.proofs.EchoWeights.{held-weight, weighed-at, weighed-length}
-use Rattle.fx_tap_convolve.proofs.SmallSums.{held-in-64, plain-added}
-use Rattle.fx_tap_convolve.proofs.Magnitudes.{added-bound}
+use Rattle.fx_tap_sums.proofs.SmallSums.{held-in-64, plain-added}
+use Rattle.fx_tap_sums.proofs.Magnitudes.{added-bound}
 use Rattle.fx_tap_delays.proofs.echo.PreparedEcho.small_sum.Goals as goal
 
 pub overflow_add-sum : goal.overflow_add-sum

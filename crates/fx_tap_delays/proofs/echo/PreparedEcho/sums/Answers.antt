@@ -1,5 +1,5 @@
 use Rattle.std.proofs.Common.{ap, ◌*ℤ◌, arith}
-use Rattle.fx_frame_lists.proofs.Places.{silence_here-sample}
+use Rattle.fx_frame_base.proofs.ListPlaces.{zeros-sample}
 use Rattle.fx_tap_delays.proofs.EchoLaws.{echo-first, echo-next, echo-last, sample-now}
 use Rattle.fx_tap_delays.proofs.echo.PreparedEcho.sums.Goals as goal
 
@@ -9,10 +9,10 @@ taps-init c =
     record {
       value = λ k l.
           let now = sample-now c.args.line.now.items c.args.frame k in
-          echo-first _ _ _ _ _ (c.add_scaled.ensures.added k l) (silence_here-sample 16 k) (ap (λ z. c.self.inside.gain_in *ℤ z) now);
+          echo-first _ _ _ _ _ (c.add_scaled.ensures.added k l) (zeros-sample 16 k) (ap (λ z. c.self.inside.gain_in *ℤ z) now);
       small = λ k.
           let bound = c.add_scaled.ensures.bound k in
-          let none = silence_here-sample 16 k in
+          let none = zeros-sample 16 k in
           omega (arith, rw none at bound);
     }
 

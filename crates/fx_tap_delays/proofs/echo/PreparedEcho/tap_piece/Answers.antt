@@ -1,15 +1,15 @@
 use Rattle.std.proofs.Common.{◌≡◌, ◌≤◌, ◌*◌, ◌∙◌, arith, length, replicate, List, ℤ, pos}
 use Rattle.std.proofs.lemmas.List.{length-replicate, length-take-le}
-use Rattle.fx_frame_lists.specs.Lists.{pieces}
-use Rattle.fx_frame_lists.proofs.Pieces.{length-pieces}
+use Rattle.fx_frame_base.specs.Lists.{pieces}
+use Rattle.fx_frame_base.proofs.Pieces.{length-pieces}
 use Rattle.fx_tap_delays.specs.Echo.{EchoArguments}
 use Rattle.fx_tap_sums.specs.Weights.{SoundsAs, Weights}
-use Rattle.fx_frame_lists.proofs.Places.{silence_here-part}
+use Rattle.fx_frame_base.proofs.ListPlaces.{zeros-part}
 use Rattle.fx_tap_delays.proofs.EchoPieces.{piece-clips, piece-frames}
 use Rattle.fx_tap_delays.proofs.echo.PreparedEcho.tap_piece.Goals as goal
 
 pub add_piece-requires-clause-empty : goal.add_piece-requires-clause-empty
-add_piece-requires-clause-empty c = λ k. silence_here-part (length c.args.frames.now) 256 k
+add_piece-requires-clause-empty c = λ k. zeros-part (length c.args.frames.now) 256 k
 
 pub returns-clause-frames : goal.returns-clause-frames
 returns-clause-frames c =

@@ -1,6 +1,6 @@
 use Rattle.std.proofs.Common.{◌∙◌, ◌++◌, ◌∷◌, [], length, ap}
 use Rattle.fx_frame.specs.History.{sample_before}
-use Rattle.fx_frame_lists.specs.Rounded.{clips_rounded, samples_of}
+use Rattle.fx_frame_base.specs.Rounded.{clips_rounded, samples_of}
 use Rattle.fx_tap_sums.specs.Weights.{SoundsAs}
 use Rattle.fx_tap_delays.proofs.EchoLaws.{echoed-is}
 use Rattle.fx_tap_delays.proofs.echo.PreparedEchoTapping.tap.Goals as goal

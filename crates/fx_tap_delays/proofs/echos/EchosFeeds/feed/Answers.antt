@@ -1,13 +1,13 @@
 use Rattle.std.proofs.Common.{rules, ◌≡◌, ◌+◌, ◌-◌, ◌*◌, ◌^◌, ◌≤◌, ◌∙◌, ap, false, length, refl, sym, arith}
 use Rattle.std.specs.Prelude.{None}
-use Rattle.fx_frame_lists.specs.Lists.{pieces}
+use Rattle.fx_frame_base.specs.Lists.{pieces}
 use Rattle.fx_tap_delays.proofs.EchosBlocks.{IsEchos-block, block-fed}
 use Rattle.fx_tap_delays.proofs.EchosGiven.{length-series_lines}
 use Rattle.fx_tap_delays.proofs.EchosLaws.{places-late}
-use Rattle.fx_frame_stage.proofs.Flags.{none-of}
-use Rattle.fx_frame_stage.proofs.Capacities.{free-grows}
+use Rattle.fx_frame_base.proofs.Flags.{none-of}
+use Rattle.fx_frame_base.proofs.Capacities.{free-grows}
 use Rattle.fx_frame.proofs.WholeFrames.{both-have, no-more}
-use Rattle.fx_frame_lists.proofs.Puts.{written_back}
+use Rattle.fx_frame_base.proofs.Puts.{written_back}
 use Rattle.fx_tap_delays.proofs.echos.EchosFeeds.feed.Goals.{After-echo_many, After-min-count}
 use Rattle.fx_tap_delays.proofs.echos.EchosFeeds.feed.Goals as goal
 
@@ -60,9 +60,9 @@ returns c =
     let size = many (goal.at.returns c).After-echo_many in
     let (read, free, limit) = frames (goal.at.returns c).After-min-count in
     let zero : s.pending_clips ≡ 0 = is.idle (rw none refl) in
-    let silence_here : s.tail ≡ 0 = is.not_ended over in
+    let no_tail : s.tail ≡ 0 = is.not_ended over in
     let counted : s.given + 0 + s.tail ≡ s.taken + 0 = rw (none, over) at is.counted in
-    let even : s.given ≡ s.taken = omega (arith, counted, silence_here) in
+    let even : s.given ≡ s.taken = omega (arith, counted, no_tail) in
     let suits = rw c.in-Some.is at c.self-2.invariant.1 in
     let lines = rw c.deref_mut.ensures.value at c.echo_many.ensures.lines in
     let given = rw c.deref_mut.ensures.value at c.echo_many.ensures.frames in
@@ -71,11 +71,11 @@ returns c =
     rw (← c.self-2.view_is)
     record {
       fed = rw (written_back s.lines.items c.echo_many.new.lines s.lines.len s.lines.ok.0 size)
-          (block-fed _ c.echo_many.new.lines c.min-count.result c.echo_many.result c.args.input.now c.echo_many.new.output none zero silence_here over even (places-late _ is) (given _ suits refl (sym is.as_many)) (clips _ suits refl (sym is.as_many)) lines);
+          (block-fed _ c.echo_many.new.lines c.min-count.result c.echo_many.result c.args.input.now c.echo_many.new.output none zero no_tail over even (places-late _ is) (given _ suits refl (sym is.as_many)) (clips _ suits refl (sym is.as_many)) lines);
       read = read;
       written = omega (arith, free, c.echo_many.auto.output);
       rest_unchanged = c.echo_many.ensures.rest_unchanged;
-      dry = λ space. rw (none, silence_here) refl;
+      dry = λ space. rw (none, no_tail) refl;
       used = λ space going spent. no-more (length c.args.input.now) (length c.args.output.now) s.channels s.channels c.min-count.result (omega (arith, some.0)) (omega (arith, some.0)) c.min-count.ensures (omega (arith, space, c.echo_many.auto.output));
       free = λ n bound. free-grows (s.taken + n - s.given) c.min-count.result s.channels (length c.args.output.now) (omega (arith, even, bound)) free;
     }

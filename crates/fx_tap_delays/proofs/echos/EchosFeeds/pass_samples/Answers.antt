@@ -1,11 +1,11 @@
 use Rattle.std.proofs.Common.{◌≡◌, ◌+◌, ◌≤◌, ◌<◌, ◌^◌, ◌∙◌, ap, ℕ, false, length, refl, arith}
 use Rattle.std.specs.Prelude.{None}
-use Rattle.fx_frame_stage.specs.Frame.{Samples}
+use Rattle.fx_frame_base.specs.Frame.{Samples}
 use Rattle.fx_tap_delays.specs.EchosState.{EchosState, IsEchos, IsEchoLine, came_of, delay_at, line_at}
 use Rattle.fx_frame.proofs.DryLaws.{dry-pending}
 use Rattle.fx_tap_delays.proofs.EchosBlocks.{IsEchos-block, frame-passed}
 use Rattle.fx_tap_delays.proofs.EchosLaws.{length-series, lines-sound, places-late, series_after}
-use Rattle.fx_frame_lists.proofs.Puts.{written_back}
+use Rattle.fx_frame_base.proofs.Puts.{written_back}
 use Rattle.fx_tap_delays.proofs.echos.EchosFeeds.pass_samples.Goals as goal
 
 pub invariant_of-self : goal.invariant_of-self
@@ -53,10 +53,10 @@ returns-clause-passed c =
     let series : c.echo_over-clips.new.lines ≡ series_after s x = rw (c.deref_mut.ensures.value) at c.echo_over-clips.ensures.lines in
     let size : length c.echo_over-clips.new.lines ≡ length s.lines = ap length series ∙ length-series s x in
     let zero : s.pending_clips ≡ 0 = is.idle (rw none refl) in
-    let silence_here : s.tail ≡ 0 = is.not_ended over in
+    let no_tail : s.tail ≡ 0 = is.not_ended over in
     let counted : s.given + 0 + s.tail ≡ s.taken + 0 = rw (none, over) at is.counted in
-    let even : s.given ≡ s.taken = omega (arith, counted, silence_here) in
+    let even : s.given ≡ s.taken = omega (arith, counted, no_tail) in
     let frame = rw (c.deref_mut.ensures.value, c.deref.ensures.value) at c.echo_over-clips.ensures.frame in
     let clips = rw (c.deref_mut.ensures.value, c.deref.ensures.value) at c.echo_over-clips.ensures.clips in
     rw (← c.self.view_is, written_back c.self.inside.lines.items c.echo_over-clips.new.lines c.self.inside.lines.len c.self.inside.lines.ok.0 size)
-    (frame-passed s c.echo_over-clips.new.lines x c.echo_over-clips.new.samples c.echo_over-clips.result none zero silence_here over even (places-late s is) frame clips series)
+    (frame-passed s c.echo_over-clips.new.lines x c.echo_over-clips.new.samples c.echo_over-clips.result none zero no_tail over even (places-late s is) frame clips series)

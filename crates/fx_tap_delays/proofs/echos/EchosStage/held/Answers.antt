@@ -1,7 +1,7 @@
 use Rattle.std.proofs.Common.{arith, ap, ◌≤◌, ◌+◌, ◌∙◌, length}
 use Rattle.fx_tap_delays.specs.DelayExtents.{sum_of_delays}
 use Rattle.fx_tap_delays.specs.EchosState.{frames_of_lines}
-use Rattle.fx_frame_lists.proofs.Rounds.{byte-le}
+use Rattle.fx_frame_base.proofs.Rounds.{byte-le}
 use Rattle.fx_tap_delays.proofs.EchosLaws.{frames-late}
 use Rattle.fx_tap_delays.proofs.echos.EchosStage.held.Goals as goal
 

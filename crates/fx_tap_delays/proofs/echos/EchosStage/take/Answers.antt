@@ -2,7 +2,7 @@ use Rattle.std.proofs.Common.{◌≡◌, ◌∙◌, ap, length}
 use Rattle.fx_tap_delays.specs.EchosState.{EchosState}
 use Rattle.fx_tap_delays.proofs.EchosSeries.{small-frame}
 use Rattle.fx_tap_delays.proofs.EchosLaws.{IsEchos-taken, length-series, series_after}
-use Rattle.fx_frame_lists.proofs.Puts.{written_back}
+use Rattle.fx_frame_base.proofs.Puts.{written_back}
 use Rattle.fx_tap_delays.proofs.echos.EchosStage.take.Goals as goal
 
 pub invariant_of-self : goal.invariant_of-self

@@ -1,9 +1,9 @@
 use Rattle.std.proofs.Common.{rules, ◌≡◌, ◌+◌, ◌-◌, ◌*◌, ◌^◌, ◌≤◌, ℕ, false, length, refl, arith, ◌<◌}
 use Rattle.std.specs.Prelude.{None}
 use Rattle.std.proofs.Math.Nat.{mul-le-mul}
-use Rattle.fx_frame_lists.proofs.Pieces.{length-pieces}
-use Rattle.fx_frame_stage.proofs.Flags.{none-of}
-use Rattle.fx_frame_stage.proofs.Capacities.{free-grows}
+use Rattle.fx_frame_base.proofs.Pieces.{length-pieces}
+use Rattle.fx_frame_base.proofs.Flags.{none-of}
+use Rattle.fx_frame_base.proofs.Capacities.{free-grows}
 use Rattle.fx_frame.proofs.TapBlocks.{IsTapState-block, block-fed}
 use Rattle.fx_frame.proofs.WholeFrames.{both-have, no-more}
 use Rattle.fx_tap_delays.proofs.tapped.TappedFeeds.feed.Given as given
@@ -89,20 +89,20 @@ returns g c =
     let none : s.pending ≡ None = none-of s.pending (search rules) in
     let over : s.ended ≡ false = search rules in
     let zero : s.pending_clips ≡ 0 = is.idle (rw none refl) in
-    let silence_here : s.tail ≡ 0 = is.not_ended over in
+    let no_tail : s.tail ≡ 0 = is.not_ended over in
     let counted = rw (none, over) at is.counted in
-    let even : s.given ≡ s.taken = omega (arith, counted, silence_here) in
+    let even : s.given ≡ s.taken = omega (arith, counted, no_tail) in
     let (read, free, limit) = frames g (goal.at.returns g c).After-min-count in
     let out : c.min-count.result * g.T.Tapping.taps.channels s.arguments ≤ length c.tap_many.new.output = omega (arith, free, c.tap_many.auto.output) in
     let some : 0 < c.channels-channels.result = omega (arith, c.channels-channels.ensures.some.0) in
     let ensured = c.tap_many.ensures in
     rw (← c.self-2.view_is)
     record {
-      fed = block-fed g.T.Tapping.taps g.met.T.Tapping.near s.arguments _ c.tap_many.new.line c.min-count.result c.tap_many.result c.args.input.now c.tap_many.new.output refl none zero silence_here over even is.capacity is.line.within out ensured.frames ensured.clips ensured.line ensured.line_capacity ensured.line_channels;
+      fed = block-fed g.T.Tapping.taps g.met.T.Tapping.near s.arguments _ c.tap_many.new.line c.min-count.result c.tap_many.result c.args.input.now c.tap_many.new.output refl none zero no_tail over even is.capacity is.line.within out ensured.frames ensured.clips ensured.line ensured.line_capacity ensured.line_channels;
       read = read;
       written = out;
       rest_unchanged = ensured.rest_unchanged;
-      dry = λ space. rw (none, silence_here) refl;
+      dry = λ space. rw (none, no_tail) refl;
       used = rw (← c.channels-channels.ensures.value) (λ space going spent. no-more (length c.args.input.now) (length c.args.output.now) c.channels-channels.result c.channels-channels.result c.min-count.result some some c.min-count.ensures (omega (arith, space, c.tap_many.auto.output)));
       free = λ n bound. free-grows (s.taken + n - s.given) c.min-count.result (g.T.Tapping.taps.channels s.arguments) (length c.args.output.now) (omega (arith, even, bound)) free;
     }

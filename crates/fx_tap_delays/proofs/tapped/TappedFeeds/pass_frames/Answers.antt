@@ -1,7 +1,7 @@
 use Rattle.std.proofs.Common.{◌≡◌, ◌*◌, ◌^◌, ◌≤◌, ℕ, false, length, refl, arith, append-nil}
 use Rattle.std.specs.Prelude.{None}
 use Rattle.std.proofs.Math.Nat.{mul-le-mul}
-use Rattle.fx_frame_lists.proofs.Pieces.{length-pieces}
+use Rattle.fx_frame_base.proofs.Pieces.{length-pieces}
 use Rattle.fx_frame.proofs.DryLaws.{dry-pending}
 use Rattle.fx_frame.proofs.TapBlocks.{IsTapState-block, block-through}
 use Rattle.fx_tap_delays.proofs.tapped.TappedFeeds.pass_frames.Goals as goal
@@ -62,14 +62,14 @@ returns-clause-through g c =
     let none : s.pending ≡ None = dry-pending s.pending s.tail (rw (← c.self.view_is) at c.requires.dry) in
     let over : s.ended ≡ false = rw (← c.self.view_is) at c.requires.not_ended in
     let zero : s.pending_clips ≡ 0 = is.idle (rw none refl) in
-    let silence_here : s.tail ≡ 0 = is.not_ended over in
+    let no_tail : s.tail ≡ 0 = is.not_ended over in
     let counted = rw (none, over) at is.counted in
-    let even : s.given ≡ s.taken = omega (arith, counted, silence_here) in
+    let even : s.given ≡ s.taken = omega (arith, counted, no_tail) in
     let size = rw (← c.self.view_is) at c.requires.samples in
     let out : c.args.count * g.T.Tapping.taps.channels s.arguments ≤ length c.tap_groups-clips.new.samples = omega (arith, size, c.tap_groups-clips.auto.samples) in
     let delivered = c.tap_groups-clips.ensures in
     rw (← c.self.view_is)
-    (block-through g.T.Tapping.taps g.met.T.Tapping.near s.arguments (record { arguments = s.arguments; line = s.line; pending = s.pending; pending_clips = s.pending_clips; tail = s.tail; taken = s.taken; given = s.given; clips = s.clips; ended = s.ended }) c.tap_groups-clips.new.line c.args.count c.tap_groups-clips.result c.args.samples.now c.tap_groups-clips.new.samples refl none zero silence_here over even is.capacity is.line.within out delivered.frames delivered.clips delivered.line delivered.line_capacity delivered.line_channels)
+    (block-through g.T.Tapping.taps g.met.T.Tapping.near s.arguments (record { arguments = s.arguments; line = s.line; pending = s.pending; pending_clips = s.pending_clips; tail = s.tail; taken = s.taken; given = s.given; clips = s.clips; ended = s.ended }) c.tap_groups-clips.new.line c.args.count c.tap_groups-clips.result c.args.samples.now c.tap_groups-clips.new.samples refl none zero no_tail over even is.capacity is.line.within out delivered.frames delivered.clips delivered.line delivered.line_capacity delivered.line_channels)
 
 pub returns-clause-lined : goal.returns-clause-lined
 returns-clause-lined g c =

@@ -25,11 +25,11 @@ returns-clause-passed g c =
     let none : s.pending ≡ None = dry-pending s.pending s.tail (rw (← c.self.view_is) at c.requires.dry) in
     let over : s.ended ≡ false = rw (← c.self.view_is) at c.requires.not_ended in
     let zero : s.pending_clips ≡ 0 = is.idle (rw none refl) in
-    let silence_here : s.tail ≡ 0 = is.not_ended over in
+    let no_tail : s.tail ≡ 0 = is.not_ended over in
     let counted = rw (none, over) at is.counted in
-    let even : s.given ≡ s.taken = omega (arith, counted, silence_here) in
+    let even : s.given ≡ s.taken = omega (arith, counted, no_tail) in
     let width = rw (← c.self.view_is) at c.requires.channels in
     let delivered = c.tap_over-clips.ensures in
     rw (← c.self.view_is)
     (frame-passed taps g.met.T.Tapping.near s.arguments (record { arguments = s.arguments; line = s.line; pending = s.pending; pending_clips = s.pending_clips; tail = s.tail; taken = s.taken; given = s.given; clips = s.clips; ended = s.ended }) c.tap_over-clips.new.line c.args.samples.now c.tap_over-clips.new.samples c.tap_over-clips.result
-    refl none zero silence_here over even is.capacity is.line.within (c.tap_over-clips.auto.samples ∙ width) delivered.frame delivered.clips delivered.items delivered.line_capacity delivered.line_channels)
+    refl none zero no_tail over even is.capacity is.line.within (c.tap_over-clips.auto.samples ∙ width) delivered.frame delivered.clips delivered.items delivered.line_capacity delivered.line_channels)

@@ -2,15 +2,15 @@ use Rattle.std.proofs.Common.{rules, ◌≡◌, ◌+◌, ◌-◌, ◌*◌, ◌�
 use Rattle.std.specs.Prelude.{None}
 use Rattle.std.specs.Int.{w32}
 use Rattle.std.proofs.lemmas.List.{length-reverse}
-use Rattle.fx_frame_stage.specs.Frame.{Samples}
+use Rattle.fx_frame_base.specs.Frame.{Samples}
 use Rattle.fx_frame_line.specs.Line.{Frames, IsLine}
-use Rattle.fx_frame_lists.specs.Lists.{pieces}
-use Rattle.fx_frame_lists.proofs.Pieces.{length-pieces}
+use Rattle.fx_frame_base.specs.Lists.{pieces}
+use Rattle.fx_frame_base.proofs.Pieces.{length-pieces}
 use Rattle.fx_tap_fir.specs.Fir.{centre}
 use Rattle.fx_tap_fir.specs.FirState.{FirState, IsFir}
 use Rattle.fx_frame.specs.Tapped.{last_of}
-use Rattle.fx_frame_stage.proofs.Flags.{none-of}
-use Rattle.fx_frame_stage.proofs.Capacities.{free-grows}
+use Rattle.fx_frame_base.proofs.Flags.{none-of}
+use Rattle.fx_frame_base.proofs.Capacities.{free-grows}
 use Rattle.fx_tap_fir.proofs.FirBlocks.{block-fed}
 use Rattle.fx_frame.proofs.TapBlocks.{length-last}
 use Rattle.fx_frame.proofs.WholeFrames.{both-have, no-more}
@@ -21,7 +21,7 @@ IsFir-block : (s : FirState) (line : Frames ℤ) (n clips : ℕ) (xs : List Samp
     → IsLine w32 line → line.items ≡ last_of s.line.capacity (s.line.items ++ xs) → line.capacity ≡ s.line.capacity → line.channels ≡ s.line.channels → clips ≤ 16 * n
     → IsFir (record s { line = line; taken = s.taken + n; given = s.given + n; clips = s.clips + clips })
 IsFir-block s line n clips xs is none running full bound many lined items capacity channels little =
-    let silence_here : s.tail ≡ 0 = is.not_ended running in
+    let no_tail : s.tail ≡ 0 = is.not_ended running in
     let counted : s.given + 0 + s.tail ≡ s.taken - centre (length s.backwards) = rw (none, running) at is.counted in
     let free = is.capacity in
     let before = is.held in
@@ -35,7 +35,7 @@ IsFir-block s line n clips xs is none running full bound many lined items capaci
       small = is.small;
       held = omega (arith, before, after, all, capacity, full);
       counted = rw (none, running) (omega (arith, counted, before, full, free));
-      tail_held = omega (arith, silence_here);
+      tail_held = omega (arith, no_tail);
       tail_bound = is.tail_bound;
       not_ended = is.not_ended;
       bound = bound;
@@ -49,9 +49,9 @@ IsFir-block s line n clips xs is none running full bound many lined items capaci
 -- while the line is full, no frame is in hand and the sound goes on, as many frames are not given yet as lie behind a centre
 even : (s : FirState) → IsFir s → s.pending ≡ None → s.ended ≡ false → length s.line.items ≡ s.line.capacity → s.given + centre (length (reverse s.backwards)) ≡ s.taken
 even s is none over full =
-    let silence_here : s.tail ≡ 0 = is.not_ended over in
+    let no_tail : s.tail ≡ 0 = is.not_ended over in
     let counted = rw (none, over) at is.counted in
-    rw (length-reverse s.backwards) (omega (arith, counted, silence_here, is.held, full, is.capacity))
+    rw (length-reverse s.backwards) (omega (arith, counted, no_tail, is.held, full, is.capacity))
 
 pub filter_frames-requires-clause-bound : goal.filter_frames-requires-clause-bound
 filter_frames-requires-clause-bound c =
@@ -87,7 +87,7 @@ returns-clause-fed c =
     let none : s.pending ≡ None = none-of s.pending (search rules) in
     let over : s.ended ≡ false = search rules in
     let zero : s.pending_clips ≡ 0 = is.idle (rw none refl) in
-    let silence_here : s.tail ≡ 0 = is.not_ended over in
+    let no_tail : s.tail ≡ 0 = is.not_ended over in
     let same = length-reverse s.kernel in
     let full : length s.line.items ≡ s.line.capacity = search rules in
     let free = is.capacity in
@@ -96,7 +96,7 @@ returns-clause-fed c =
     let ensured = c.filter_frames.ensures in
     rw (← c.self-2.view_is)
     (block-fed (record { channels = s.channels; backwards = s.kernel; line = s.line; pending = s.pending; pending_clips = s.pending_clips; tail = s.tail; taken = s.taken; given = s.given; clips = s.clips; ended = s.ended }) c.filter_frames.new.line c.min-count.result c.filter_frames.result c.args.input.now c.filter_frames.new.output
-    none zero silence_here over (even _ is none over full) places is.line.within due ensured.frames ensured.clips ensured.line ensured.line_capacity ensured.line_channels)
+    none zero no_tail over (even _ is none over full) places is.line.within due ensured.frames ensured.clips ensured.line ensured.line_capacity ensured.line_channels)
 
 pub returns-clause-used : goal.returns-clause-used
 returns-clause-used c =

@@ -3,10 +3,10 @@ use Rattle.fx_fixed.specs.Rounding.{rounding}
 use Rattle.fx_fixed.specs.declared.gains.TheConstants.{UNIT}
 use Rattle.fx_tap_sums.specs.Weights.{Weights}
 use Rattle.fx_tap_sums.specs.SmallWeights.{SumsAs}
-use Rattle.fx_tap_convolve.specs.Products.{sum_of_products}
-use Rattle.fx_frame_lists.specs.Rounded.{clips_rounded}
+use Rattle.fx_tap_sums.specs.Products.{sum_of_products}
+use Rattle.fx_frame_base.specs.Rounded.{clips_rounded}
 use Rattle.fx_tap_sums.proofs.KernelLaws.{rounded-as}
-use Rattle.fx_frame_lists.proofs.Tabulate.{tabulate-same}
+use Rattle.fx_frame_base.proofs.Tabulate.{tabulate-same}
 use Rattle.fx_tap_fir.proofs.kernel.Kernel.filter_channel.Goals as goal
 
 pub returns-in-Some-clause-put : goal.returns-in-Some-clause-put

@@ -2,10 +2,10 @@ use Rattle.std.proofs.Common.{pos, rules, ◌≡◌, ◌+◌, ◌-◌, ◌<◌, 
 use Rattle.std.proofs.Math.Nat.{suc-mul}
 use Rattle.fx_fixed.specs.Rounding.{rounding}
 use Rattle.fx_fixed.specs.declared.gains.TheConstants.{UNIT}
-use Rattle.fx_tap_convolve.specs.Products.{sum_of_products}
-use Rattle.fx_frame_lists.proofs.ChannelPlaces.{others-stay, put-more, within-frames}
+use Rattle.fx_tap_sums.specs.Products.{sum_of_products}
+use Rattle.fx_frame_base.proofs.ChannelPlaces.{others-stay, put-more, within-frames}
 use Rattle.fx_tap_sums.proofs.KernelLaws.{taken-products}
-use Rattle.fx_frame_lists.proofs.Rounds.{clips_of-next, byte_is, byte-le}
+use Rattle.fx_frame_base.proofs.Rounds.{clips_of-next, byte_is, byte-le}
 use Rattle.fx_tap_fir.proofs.kernel.Kernel.weigh_channel.Goals as goal
 
 pub frames-preserved : goal.frames-preserved

@@ -1,9 +1,9 @@
 use Rattle.std.proofs.Common.{◌≡◌, ◌<◌, ◌≤◌, ◌+◌, ◌*◌, ℕ, pos, drop, slice_index_or}
 use Rattle.fx_fixed.specs.Rounding.{rounding}
 use Rattle.fx_fixed.specs.declared.gains.TheConstants.{UNIT}
-use Rattle.fx_frame_lists.specs.Lists.{IsOtherPlace, tabulate}
-use Rattle.fx_tap_convolve.specs.Products.{sum_of_products}
-use Rattle.fx_frame_lists.specs.Rounded.{clips_rounded}
+use Rattle.fx_frame_base.specs.Lists.{IsOtherPlace, tabulate}
+use Rattle.fx_tap_sums.specs.Products.{sum_of_products}
+use Rattle.fx_frame_base.specs.Rounded.{clips_rounded}
 use Rattle.fx_tap_fir.proofs.kernel.Kernel.weigh_channel.Given as goal
 
 abbrev pub invariant-frames : goal.invariant-frames

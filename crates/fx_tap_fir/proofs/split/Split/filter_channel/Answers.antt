@@ -1,10 +1,10 @@
 use Rattle.std.proofs.Common.{rules, ◌≡◌, ◌+◌, ◌<◌, ◌∙◌, ap, ℕ, ℤ, pos, Bool, List, length, drop, arith, slice_index_or}
 use Rattle.fx_fixed.specs.Rounding.{rounding}
 use Rattle.fx_fixed.specs.declared.gains.TheConstants.{UNIT}
-use Rattle.fx_frame_lists.specs.Rounded.{clips_rounded}
+use Rattle.fx_frame_base.specs.Rounded.{clips_rounded}
 use Rattle.fx_tap_fir.specs.Split.{joined_split}
-use Rattle.fx_tap_convolve.specs.Products.{sum_of_products}
-use Rattle.fx_frame_lists.proofs.Tabulate.{tabulate-same}
+use Rattle.fx_tap_sums.specs.Products.{sum_of_products}
+use Rattle.fx_frame_base.proofs.Tabulate.{tabulate-same}
 use Rattle.fx_tap_fir.proofs.split.Split.filter_channel.Goals as goal
 
 pub returns-clause-clips : goal.returns-clause-clips

@@ -2,8 +2,8 @@ use Rattle.std.proofs.Common.{rules, ◌≡◌, ◌+◌, ◌-◌, ◌*◌, ◌�
 use Rattle.std.specs.Prelude.{None}
 use Rattle.fx_frame.specs.Kinds.{max_taken}
 use Rattle.fx_tap_pointwise.proofs.Blocks.{block-fed}
-use Rattle.fx_frame_stage.proofs.Flags.{none-of}
-use Rattle.fx_frame_stage.proofs.Capacities.{free-grows}
+use Rattle.fx_frame_base.proofs.Flags.{none-of}
+use Rattle.fx_frame_base.proofs.Capacities.{free-grows}
 use Rattle.fx_frame.proofs.WholeFrames.{both-have, no-more}
 use Rattle.fx_tap_pointwise.proofs.mapped.MappedFeeds.feed.Given as given
 use Rattle.fx_tap_pointwise.proofs.mapped.MappedFeeds.feed.Goals.{After-min-count}

@@ -2,11 +2,11 @@ use Rattle.std.proofs.Common.{◌≡◌, ◌+◌, ◌-◌, ◌*◌, ◌≤◌, �
 use Rattle.std.specs.Prelude.{ℤ}
 use Rattle.std.proofs.lemmas.List.{length-take-le}
 use Rattle.std.proofs.Math.Nat.{mul-le-mul_right, suc-mul}
-use Rattle.fx_frame_stage.specs.Frame.{Samples}
-use Rattle.fx_frame_lists.specs.Lists.{pieces}
-use Rattle.fx_frame_stage.specs.Stage.{Given}
-use Rattle.fx_frame_stage.proofs.Evenly.{put-between, put-long}
-use Rattle.fx_frame_lists.proofs.Puts.{drop-put, pieces-more, pieces-put}
+use Rattle.fx_frame_base.specs.Frame.{Samples}
+use Rattle.fx_frame_base.specs.Lists.{pieces}
+use Rattle.fx_frame_base.specs.Stage.{Given}
+use Rattle.fx_frame_base.proofs.Evenly.{put-between, put-long}
+use Rattle.fx_frame_base.proofs.Puts.{drop-put, pieces-more, pieces-put}
 use Rattle.fx_frame.specs.Made.{made_of}
 use Rattle.fx_tap_pointwise.proofs.Blocks.{clips_in-more, made_of-more}
 use Rattle.fx_tap_pointwise.proofs.mapped.MapsMany.map_many_over.Goals as goal

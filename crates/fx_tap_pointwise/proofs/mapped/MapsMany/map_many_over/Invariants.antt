@@ -1,5 +1,5 @@
 use Rattle.std.proofs.Common.{◌≡◌, ◌≤◌, ◌*◌, drop, length}
-use Rattle.fx_frame_lists.specs.Lists.{pieces}
+use Rattle.fx_frame_base.specs.Lists.{pieces}
 use Rattle.fx_frame.specs.Made.{clips_in, made_of}
 use Rattle.fx_tap_pointwise.proofs.mapped.MapsMany.map_many_over.Given as goal
 

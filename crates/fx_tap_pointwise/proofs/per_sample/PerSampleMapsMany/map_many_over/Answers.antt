@@ -1,7 +1,7 @@
 use Rattle.std.proofs.Common.{◌≡◌, ◌*◌, ◌∙◌, ap, arith, length, map, sym}
 use Rattle.std.proofs.lemmas.List.{take_all}
-use Rattle.fx_frame_lists.specs.Lists.{pieces}
-use Rattle.fx_frame_lists.specs.Rounded.{clips_rounded}
+use Rattle.fx_frame_base.specs.Lists.{pieces}
+use Rattle.fx_frame_base.specs.Rounded.{clips_rounded}
 use Rattle.fx_frame.proofs.SamplePieces.{clips-samples, pieces-samples}
 use Rattle.fx_tap_pointwise.proofs.per_sample.PerSampleMapsMany.map_many_over.Goals as goal
 

@@ -1,6 +1,6 @@
 use Rattle.std.proofs.Common.{◌≡◌, map, take}
 use Rattle.fx_tap_pointwise.specs.Fractions.{fraction_sample}
-use Rattle.fx_frame_lists.specs.Rounded.{clips_rounded, samples_of}
+use Rattle.fx_frame_base.specs.Rounded.{clips_rounded, samples_of}
 use Rattle.fx_tap_pointwise.proofs.proper.ProperFraction.round_many.Given as goal
 
 -- the samples so far

@@ -1,10 +1,10 @@
 use Rattle.std.proofs.Common.{◌≡◌, ◌<◌, ◌≤◌, ◌+◌, [], ℕ, ℤ, List, pos, map, get_or, length, arith, slice_index_or, to_z, of_z}
 use Rattle.std.specs.Int.{w32}
 use Rattle.std.proofs.lemmas.List.{length-map}
-use Rattle.fx_frame_stage.specs.Frame.{Samples}
-use Rattle.fx_frame_lists.specs.Lists.{pieces}
+use Rattle.fx_frame_base.specs.Frame.{Samples}
+use Rattle.fx_frame_base.specs.Lists.{pieces}
 use Rattle.fx_tap_pointwise.specs.Mix.{pair_of}
-use Rattle.fx_tap_convolve.proofs.Convolving.{Adding, Adding-bound, Adding-first, Adding-last}
+use Rattle.fx_tap_sums.proofs.Convolving.{Adding, Adding-bound, Adding-first, Adding-last}
 use Rattle.fx_tap_pointwise.proofs.Fractions.{held-32}
 use Rattle.fx_tap_pointwise.proofs.MixLaws.{gathered}
 use Rattle.fx_tap_pointwise.proofs.MixPieces.{mixing-channel, mixing-none}

@@ -1,6 +1,6 @@
 use Rattle.std.proofs.Common.{◌<◌, [], ℕ, length, map, pos, slice_index_or}
-use Rattle.fx_frame_lists.specs.Lists.{pieces}
-use Rattle.fx_tap_convolve.proofs.Convolving.{Adding}
+use Rattle.fx_frame_base.specs.Lists.{pieces}
+use Rattle.fx_tap_sums.proofs.Convolving.{Adding}
 use Rattle.fx_tap_pointwise.proofs.remix.Mix.add_channels.Given as goal
 
 -- the contributions so far are added

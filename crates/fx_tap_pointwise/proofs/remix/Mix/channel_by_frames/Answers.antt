@@ -1,11 +1,11 @@
 use Rattle.std.proofs.Common.{pos, rules, ◌≡◌, ◌+◌, ◌-◌, ◌<◌, ◌∙◌, [], ap, sym, ℕ, ℤ, Bool, length, take, drop, arith, add-one, get_or, to_z, of_z, w32}
 use Rattle.std.proofs.Math.Nat.{suc-mul}
-use Rattle.fx_frame_stage.specs.Frame.{Samples}
-use Rattle.fx_frame_lists.specs.Lists.{pieces}
-use Rattle.fx_frame_lists.proofs.Pieces.{get_or-pieces}
+use Rattle.fx_frame_base.specs.Frame.{Samples}
+use Rattle.fx_frame_base.specs.Lists.{pieces}
+use Rattle.fx_frame_base.proofs.Pieces.{get_or-pieces}
 use Rattle.fx_tap_pointwise.specs.Remix.{remixed_sample}
-use Rattle.fx_frame_lists.proofs.ChannelPlaces.{others-stay, put-more, within-frames}
-use Rattle.fx_frame_lists.proofs.Rounds.{clips_of-next, byte_is, byte-le}
+use Rattle.fx_frame_base.proofs.ChannelPlaces.{others-stay, put-more, within-frames}
+use Rattle.fx_frame_base.proofs.Rounds.{clips_of-next, byte_is, byte-le}
 use Rattle.fx_tap_pointwise.proofs.remix.Mix.channel_by_frames.Goals as goal
 
 pub frames-preserved : goal.frames-preserved

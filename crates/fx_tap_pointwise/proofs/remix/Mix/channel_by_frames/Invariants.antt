@@ -1,7 +1,7 @@
 use Rattle.std.proofs.Common.{◌≡◌, ◌<◌, ◌≤◌, ◌+◌, ◌*◌, [], ℕ, pos, slice_index_or}
-use Rattle.fx_frame_lists.specs.Lists.{IsOtherPlace, pieces, tabulate}
+use Rattle.fx_frame_base.specs.Lists.{IsOtherPlace, pieces, tabulate}
 use Rattle.fx_tap_pointwise.specs.Remix.{remixed_sample}
-use Rattle.fx_frame_lists.specs.Rounded.{clips_rounded}
+use Rattle.fx_frame_base.specs.Rounded.{clips_rounded}
 use Rattle.fx_tap_pointwise.proofs.remix.Mix.channel_by_frames.Given as goal
 
 abbrev pub invariant-frames : goal.invariant-frames

@@ -2,18 +2,18 @@ use Rattle.std.proofs.Common.{◌≡◌, ◌<◌, ◌≤◌, ◌+◌, ◌*◌, �
 use mathlib.Core.Path.{ap₂}
 use Rattle.std.proofs.lemmas.List.{length-replicate, length-take-le}
 use Rattle.fx_fixed.specs.Rounding.{rounding}
-use Rattle.fx_frame_stage.specs.Frame.{Samples}
-use Rattle.fx_frame_lists.specs.Lists.{pieces, tabulate}
-use Rattle.fx_frame_lists.proofs.Pieces.{get_or-piece}
+use Rattle.fx_frame_base.specs.Frame.{Samples}
+use Rattle.fx_frame_base.specs.Lists.{pieces, tabulate}
+use Rattle.fx_frame_base.proofs.Pieces.{get_or-piece}
 use Rattle.fx_tap_sums.specs.Weights.{Weights}
 use Rattle.fx_tap_pointwise.specs.declared.remix.Contribution.{Contribution}
 use Rattle.fx_tap_pointwise.specs.Mix.{Copies, Means, Reduces, Scales, pair_of}
 use Rattle.fx_tap_pointwise.specs.Remix.{remixed_sample}
-use Rattle.fx_frame_lists.specs.Rounded.{clips_rounded}
-use Rattle.fx_frame_lists.proofs.Places.{silence_here-part}
+use Rattle.fx_frame_base.specs.Rounded.{clips_rounded}
+use Rattle.fx_frame_base.proofs.ListPlaces.{zeros-part}
 use Rattle.fx_tap_pointwise.specs.Vol.{scaled_sample}
 use Rattle.fx_tap_pointwise.proofs.MixLaws.{copied-sample, mean-sample, none-clipped, scaled-mix, small-mix}
-use Rattle.fx_frame_lists.proofs.Tabulate.{tabulate-same}
+use Rattle.fx_frame_base.proofs.Tabulate.{tabulate-same}
 use Rattle.fx_tap_pointwise.proofs.remix.Mix.channel_into.Goals as goal
 use Rattle.fx_tap_pointwise.proofs.remix.Mix.channel_into.Goals.{After-place_channel, After-place_mean, After-place_channel-in-Scaled, After-add_channels}
 
@@ -29,7 +29,7 @@ same-clips : (f g : ℕ → ℤ × Bool) (count : ℕ) → ((i : ℕ) → i < co
 same-clips f g count same = ap clips_rounded (tabulate-same f g 0 0 count (λ i l. let e : 0 + i ≡ i = zero-add i in rw e (same i l)))
 
 pub add_channels-requires-clause-empty : goal.add_channels-requires-clause-empty
-add_channels-requires-clause-empty c = λ i. silence_here-part c.args.shape.count 256 i
+add_channels-requires-clause-empty c = λ i. zeros-part c.args.shape.count 256 i
 
 -- a channel that is copied
 copied : (c : After-place_channel) (i : ℕ) → i < c.args.shape.count → made c.self.inside.contributions.items c.args.shape.channels c.args.shape.count c.args.frames.now i ≡ (get_or c.args.frames.now (i * c.args.shape.channels + c.in-Copied.channel) (pos 0), false)

@@ -3,7 +3,7 @@ use Rattle.fx_fixed.specs.Rounding.{rounding}
 use Rattle.fx_tap_sums.specs.Weights.{Weights}
 use Rattle.fx_tap_pointwise.specs.Mix.{Means, Reduces, Scales, pair_of}
 use Rattle.fx_tap_pointwise.specs.Vol.{scaled_sample}
-use Rattle.fx_tap_convolve.specs.Products.{sum_of_products}
+use Rattle.fx_tap_sums.specs.Products.{sum_of_products}
 use Rattle.fx_tap_pointwise.proofs.MixLaws.{gathered, mean-sample, scaled-mix, small-mix}
 use Rattle.fx_tap_pointwise.proofs.remix.Mix.sample.Goals as goal
 

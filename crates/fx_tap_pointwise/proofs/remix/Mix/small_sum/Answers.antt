@@ -3,8 +3,8 @@ use Rattle.std.proofs.lemmas.Int.{ints, fits_signed_from_abs, to_z-of_z}
 use Rattle.std.proofs.lemmas.List.{length-map}
 use Rattle.fx_tap_pointwise.specs.Mix.{pair_of}
 use Rattle.fx_tap_pointwise.proofs.MixLaws.{gathered, mixing-next}
-use Rattle.fx_tap_convolve.proofs.Convolving.{Adding, Adding-bound}
-use Rattle.fx_tap_convolve.proofs.SmallSums.{plain-product-64}
+use Rattle.fx_tap_sums.proofs.Convolving.{Adding, Adding-bound}
+use Rattle.fx_tap_sums.proofs.SmallSums.{plain-product-64}
 use Rattle.fx_tap_pointwise.proofs.remix.Mix.small_sum.Goals as goal
 use Rattle.fx_tap_pointwise.proofs.remix.Mix.small_sum.Goals.{After-from-in-contributions}
 

@@ -1,5 +1,5 @@
 use Rattle.std.proofs.Common.{pos, map, slice_index_or}
-use Rattle.fx_tap_convolve.proofs.Convolving.{Adding}
+use Rattle.fx_tap_sums.proofs.Convolving.{Adding}
 use Rattle.fx_tap_pointwise.proofs.remix.Mix.small_sum.Given as goal
 
 -- the contributions so far are added

@@ -4,7 +4,7 @@ use Rattle.std.proofs.lemmas.List.{length-map}
 use Rattle.fx_tap_pointwise.specs.Mix.{pair_of}
 use Rattle.fx_tap_pointwise.specs.Remix.{remix_parts}
 use Rattle.fx_tap_pointwise.proofs.MixLaws.{mixed-next, made-at}
-use Rattle.fx_tap_convolve.proofs.Magnitudes.{added-bound, scaled-bound}
+use Rattle.fx_tap_sums.proofs.Magnitudes.{added-bound, scaled-bound}
 use Rattle.fx_tap_sums.proofs.SumLaws.{held, plain-product}
 use Rattle.fx_tap_pointwise.proofs.remix.Mix.sum.Goals as goal
 use mir.Syntax.{w128}

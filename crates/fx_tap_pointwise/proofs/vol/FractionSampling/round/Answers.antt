@@ -3,7 +3,7 @@ use Rattle.std.proofs.lemmas.Grind.{common_steps}
 use Rattle.std.proofs.lemmas.Int.{to_z-of_z}
 use Rattle.fx_fixed.specs.Rounding.{rounding}
 use Rattle.fx_tap_pointwise.specs.Fractions.{fraction_sample}
-use Rattle.fx_tap_convolve.proofs.SmallSums.{plain-product-64}
+use Rattle.fx_tap_sums.proofs.SmallSums.{plain-product-64}
 use Rattle.fx_tap_pointwise.proofs.vol.FractionSampling.round.Goals as goal
 
 pub returns : goal.returns

@@ -1,5 +1,5 @@
 use Rattle.std.proofs.Common.{◌≡◌, ◌∙◌, ap, map}
-use Rattle.fx_frame_lists.specs.Rounded.{clips_rounded}
+use Rattle.fx_frame_base.specs.Rounded.{clips_rounded}
 use Rattle.fx_tap_pointwise.specs.Fractions.{Ratio, Rounds, fraction_sample}
 use Rattle.fx_tap_pointwise.specs.Vol.{scaled_sample}
 use Rattle.fx_tap_pointwise.proofs.vol.ScaleSamplesMany.round_before.Goals as goal

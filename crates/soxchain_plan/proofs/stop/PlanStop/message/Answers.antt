@@ -1,5 +1,5 @@
 use Rattle.std.proofs.Common.{◌≡◌, ℕ, Global, Some, Vec, refl, rules}
-use Rattle.fx_frame_io.specs.Counted.{counted_writes}
+use Rattle.fx_frame_base.specs.Counted.{counted_writes}
 use Rattle.soxchain_plan.proofs.Kept.{whole-said}
 use Rattle.soxchain_plan.proofs.stop.PlanStop.message.Goals as goal
 

@@ -1,9 +1,0 @@
-use Rattle.std.proofs.Common.{◌≡◌, ◌+◌, ◌-◌, arith}
-use Rattle.std.proofs.lemmas.Bool.{ltb-true}
-use Rattle.fx_cut.proofs.pad.Pads.is_silent.Goals as goal
-
-pub returns-then-self-place : goal.returns-then-self-place
-returns-then-self-place c = λ known.
-    let at : c.self.inside.first + (c.args.place - c.self.inside.first) ≡ c.args.place = omega arith in
-    let silence_here = c.self.invariant (c.args.place - c.self.inside.first) (ltb-true (c.args.place - c.self.inside.first) c.self.inside.silence_here known) in
-    rw (← c.self.view_is) (rw at at silence_here)

@@ -1,0 +1,16 @@
+pub mod Bytes
+pub mod Capacities
+pub mod ChannelPlaces
+pub mod Evenly
+pub mod FedLaws
+pub mod FeedParts
+pub mod Feeding
+pub mod Flags
+pub mod ListPlaces
+pub mod Pieces
+pub mod PipelineLaws
+pub mod Places
+pub mod Puts
+pub mod Rounds
+pub mod Shifts
+pub mod Tabulate

@@ -1,0 +1,17 @@
+pub mod Coding
+pub mod Counted
+pub mod Device
+pub mod Feed
+pub mod Frame
+pub mod Given
+pub mod Holds
+pub mod Io
+pub mod Lists
+pub mod Moments
+pub mod PendingFrame
+pub mod Pipeline
+pub mod Places
+pub mod Rounded
+pub mod Sink
+pub mod Stage
+pub mod Tape

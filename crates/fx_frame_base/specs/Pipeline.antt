@@ -1,0 +1,33 @@
+-- Stages in sequence that frames go through, each frame through all of them before the next (this project's profile).
+use Rattle.std.specs.Prelude.{ℕ, ◌≤◌, ◌≡◌, true, false, List, [], ◌∷◌}
+use Rattle.fx_frame_base.specs.declared.feed.Passing.TheVariants.{Through}
+use Rattle.fx_frame_base.specs.Feed.{PassedOn}
+use Rattle.fx_frame_base.specs.Frame.{Samples}
+use Rattle.fx_frame_base.specs.Stage.{Acts, IsDry, StageKind, kind, spent}
+
+-- the channels of the frames that come out where frames of `channels` channels go in
+abbrev pub outputs_of : ℕ → List StageKind → ℕ
+outputs_of channels [] = channels
+outputs_of channels (k ∷ ks) = outputs_of k.outputs ks
+
+module _ {S R : Type 0} (acts : Acts S R) where
+  -- A frame of `channels` channels may be passed to the first, and what it gives for it to the next, and so on: each has taken
+  -- what the one before gave, of at most `maximum` frames in all.
+  abbrev pub AreReady : ℕ → ℕ → ℕ → List S → Type 0
+  AreReady channels taken maximum [] = Unit {0}
+  AreReady channels taken maximum (s ∷ stages) =
+      (acts.dry s ≡ true) × ((acts.counts s).ended ≡ false) × (spent acts s ≡ false) × (channels ≡ (kind acts s).inputs)
+      × ((acts.counts s).taken ≡ taken) × (maximum ≤ (kind acts s).limit)
+      × AreReady (kind acts s).outputs (acts.counts s).given ((kind acts s).maximum maximum) stages
+
+  -- a stage took these frames, and gave one of those for each before it took the next
+  abbrev pub EachThrough : List Samples → List Samples → S → S → Type 0
+  EachThrough [] [] s s' = s' ≡ s
+  EachThrough (x ∷ xs) (y ∷ ys) s s' = (next : S) × PassedOn acts Through s next x y × IsDry acts next × EachThrough xs ys next s'
+  EachThrough xs ys s s' = ⊥
+
+  -- these frames went through stages in sequence, and those came out, one for each
+  abbrev pub PipelineThrough : List Samples → List Samples → List S → List S → Type 0
+  PipelineThrough xs ys [] [] = ys ≡ xs
+  PipelineThrough xs ys (s ∷ stages) (s' ∷ stages') = (between : List Samples) × EachThrough xs between s s' × PipelineThrough between ys stages stages'
+  PipelineThrough xs ys old new = ⊥

@@ -1,9 +1,0 @@
-use Rattle.fx_frame_stage.specs.Stage.{IsLined}
-use Rattle.fx_frame_stage.proofs.Evenly.{Evenly}
-use Rattle.fx_frame_stage.proofs.feed.Feeds.pass_frames.Given as goal
-
-abbrev pub invariant-frames : goal.invariant-frames
-invariant-frames g l = record {
-  even : Evenly g.Self.Stage.acts l.fn.self l.count l.fn.samples l.self l.samples l.turn;
-  lined : IsLined g.Self.Stage.acts l.self;
-}

@@ -1,5 +1,0 @@
-use Rattle.fx_plan_line.proofs.Reading.{spelled_read}
-use Rattle.fx_plan_line.proofs.line.front_is_read.Goals as goal
-
-pub returns : goal.returns
-returns c = spelled_read

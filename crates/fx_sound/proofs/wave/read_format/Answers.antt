@@ -1,0 +1,65 @@
+use Rattle.std.proofs.Common.{◌≡◌, ◌+◌, ◌≤◌, length, drop, sym, ap, ◌∙◌, arith}
+use Rattle.std.specs.Prelude.{Some}
+use Rattle.std.proofs.lemmas.List.{length-drop, drop-drop, length-take-le}
+use Rattle.fx_sound.specs.Wave.{padded_chunk}
+use Rattle.fx_sound.proofs.Faults.{IfOk-at, IfErr-at}
+use Rattle.fx_sound.proofs.Held.{Tells-both}
+use Rattle.fx_sound.proofs.WaveLemmas.{format_read-short, format_read-cut, format_read-whole}
+use Rattle.fx_sound.proofs.wave.read_format.Goals as goal
+
+pub returns-in_default-clause-cut : goal.returns-in_default-clause-cut
+returns-in_default-clause-cut g c = λ _.
+    let short = c.in_default.ensures.short in
+    let len : length c.fill.new.out ≡ c.min-maximum.result = c.fill.auto.out ∙ length-take-le c.min-maximum.result _ (omega arith) in
+    record {
+      came = short.came;
+      tells = short.tells;
+      undecided = λ bytes known. format_read-cut c.args.size short.came bytes (omega (arith, short.bound));
+    }
+
+pub returns-then-got-maximum-clause-fault : goal.returns-then-got-maximum-clause-fault
+returns-then-got-maximum-clause-fault g c = λ _ bytes known.
+    let len : length c.fill.new.out ≡ c.min-maximum.result = c.fill.auto.out ∙ length-take-le c.min-maximum.result _ (omega arith) in
+    let all : c.in-Ok.got ≡ length bytes = c.in-Ok.ensures.all (omega arith) bytes known in
+    format_read-short c.args.size bytes (omega arith)
+
+pub returns-in_default-skip-clause-cut : goal.returns-in_default-skip-clause-cut
+returns-in_default-skip-clause-cut g c = λ _.
+    let len : length c.fill.new.out ≡ c.min-maximum.result = c.fill.auto.out ∙ length-take-le c.min-maximum.result _ (omega arith) in
+    let short = c.in_default-skip.ensures.short in
+    record {
+      came = c.in-Ok.got + short.came;
+      tells = Tells-both g.R.ByteIn.reads.delivered _ _ _ c.in-Ok.got short.came c.in-Ok.ensures.delivered short.tells;
+      undecided = λ bytes known. format_read-cut c.args.size (c.in-Ok.got + short.came) bytes (omega (arith, short.bound, c.in-Ok.ensures.count));
+    }
+
+pub returns-then-skipped-length-clause-fault : goal.returns-then-skipped-length-clause-fault
+returns-then-skipped-length-clause-fault g c = λ _ bytes known.
+    let len : length c.fill.new.out ≡ c.min-maximum.result = c.fill.auto.out ∙ length-take-le c.min-maximum.result _ (omega arith) in
+    let first = c.in-Ok.ensures.known bytes known in
+    let all : c.in-Ok-skip.skipped ≡ length (drop c.in-Ok.got bytes) = c.in-Ok-skip.ensures.all (omega arith) _ first.2 in
+    let count = c.in-Ok.ensures.count in
+    format_read-short c.args.size bytes (omega (arith, length-drop c.in-Ok.got bytes))
+
+pub returns-clause-format : goal.returns-clause-format
+returns-clause-format g c = IfOk-at c.format.result _ (λ found is bytes known.
+    let len : length c.fill.new.out ≡ c.min-maximum.result = c.fill.auto.out ∙ length-take-le c.min-maximum.result _ (omega arith) in
+    let first = c.in-Ok.ensures.known bytes known in
+    let then = c.in-Ok-skip.ensures.bytes _ first.2 in
+    let count = c.in-Ok.ensures.count in
+    let count-2 = c.in-Ok-skip.ensures.count in
+    let there : padded_chunk c.args.size ≤ length bytes = omega (arith, then.0, length-drop c.in-Ok.got bytes) in
+    let all : c.in-Ok.got + c.in-Ok-skip.skipped ≡ padded_chunk c.args.size = omega arith in (
+      format_read-whole c.args.size c.in-Ok.got bytes c.fill.new.out first.0 (omega arith) (omega arith) (omega arith) there ∙ sym c.format.ensures.value ∙ is,
+      there,
+      then.1 ∙ ap Some (drop-drop c.in-Ok-skip.skipped c.in-Ok.got bytes ∙ ap (λ i. drop i bytes) all),
+    ))
+
+pub returns-clause-fault : goal.returns-clause-fault
+returns-clause-fault g c = IfErr-at c.format.result _ (λ fault is _ bytes known.
+    let len : length c.fill.new.out ≡ c.min-maximum.result = c.fill.auto.out ∙ length-take-le c.min-maximum.result _ (omega arith) in
+    let first = c.in-Ok.ensures.known bytes known in
+    let then = c.in-Ok-skip.ensures.bytes _ first.2 in
+    let count = c.in-Ok.ensures.count in
+    let there : padded_chunk c.args.size ≤ length bytes = omega (arith, then.0, length-drop c.in-Ok.got bytes) in
+    format_read-whole c.args.size c.in-Ok.got bytes c.fill.new.out first.0 (omega arith) (omega arith) (omega arith) there ∙ sym c.format.ensures.value ∙ is)

@@ -1,0 +1,71 @@
+use Rattle.std.proofs.Common.{◌≡◌, ◌+◌, ◌-◌, length, drop, ap, ◌∙◌, arith}
+use Rattle.std.specs.Prelude.{Some}
+use Rattle.std.proofs.lemmas.List.{length-drop, drop-drop}
+use Rattle.std.proofs.lemmas.Result.{IfErr-weaker}
+use Rattle.fx_sound.specs.Wave.{end_of}
+use Rattle.fx_sound.proofs.Faults.{IfErr-passed, IfOk-both}
+use Rattle.fx_sound.proofs.Held.{Tells-both}
+use Rattle.fx_sound.proofs.WaveLemmas.{step_of-short, step_of-cut, step_of-asked, step_of-asked-cut, GoesOn-far}
+use Rattle.fx_sound.proofs.wave.read_step.Goals as goal
+
+pub returns-in_default-clause-cut : goal.returns-in_default-clause-cut
+returns-in_default-clause-cut g c = λ _.
+    let short = c.in_default.ensures.short in
+    let eight = c.fill.auto.out in
+    record {
+      came = short.came;
+      tells = short.tells;
+      undecided = λ bytes known. step_of-cut c.args.offset c.args.seen bytes short.came (omega (arith, short.bound));
+    }
+
+pub returns-then-got-lt8-clause-fault : goal.returns-then-got-lt8-clause-fault
+returns-then-got-lt8-clause-fault g c = λ _ bytes known.
+    let eight = c.fill.auto.out in
+    let all : c.in-Ok.got ≡ length bytes = c.in-Ok.ensures.all (omega arith) bytes known in
+    step_of-short c.args.offset c.args.seen bytes (omega arith)
+
+pub returns-in_err-demand-clause-fault : goal.returns-in_err-demand-clause-fault
+returns-in_err-demand-clause-fault g c = IfErr-passed c.from_residual.result _ _ c.from_residual.ensures.1 (λ _ bytes known.
+    let eight = c.fill.auto.out in
+    let first = c.in-Ok.ensures.known bytes known in
+    let count = c.in-Ok.ensures.count in
+    step_of-asked c.args.offset c.args.seen bytes c.fill.new.out c.name_at-name.result c.in-Ok.got c.long-size.result _
+    first.0 first.1 (omega arith) (omega arith) (omega arith) c.name_at-name.ensures c.long-size.ensures c.in_err-demand.ensures.value)
+
+pub returns-clause-step : goal.returns-clause-step
+returns-clause-step g c = IfOk-both c.read_body.result _ _ _ c.read_body.ensures.on c.read_body.ensures.step (λ step goes reads bytes known.
+    let eight = c.fill.auto.out in
+    let first = c.in-Ok.ensures.known bytes known in
+    let count = c.in-Ok.ensures.count in
+    let body = reads _ first.2 in
+    let on = GoesOn-far c.args.offset step goes in
+    let all : c.in-Ok.got + (end_of step - (c.args.offset + 8)) ≡ end_of step - c.args.offset = omega arith in (
+      step_of-asked c.args.offset c.args.seen bytes c.fill.new.out c.name_at-name.result c.in-Ok.got c.long-size.result _
+          first.0 first.1 (omega arith) (omega arith) (omega arith) c.name_at-name.ensures c.long-size.ensures c.in_ok-demand.ensures.value ∙ body.0,
+      omega (arith, body.1, length-drop c.in-Ok.got bytes),
+      body.2 ∙ ap Some (drop-drop (end_of step - (c.args.offset + 8)) c.in-Ok.got bytes ∙ ap (λ i. drop i bytes) all),
+    ))
+
+pub returns-clause-fault : goal.returns-clause-fault
+returns-clause-fault g c = IfErr-weaker c.read_body.result _ _ (λ fault refuses not_read bytes known.
+    let eight = c.fill.auto.out in
+    let first = c.in-Ok.ensures.known bytes known in
+    let count = c.in-Ok.ensures.count in
+    step_of-asked c.args.offset c.args.seen bytes c.fill.new.out c.name_at-name.result c.in-Ok.got c.long-size.result _
+    first.0 first.1 (omega arith) (omega arith) (omega arith) c.name_at-name.ensures c.long-size.ensures c.in_ok-demand.ensures.value
+    ∙ refuses not_read _ first.2) c.read_body.ensures.fault
+
+pub returns-clause-cut : goal.returns-clause-cut
+returns-clause-cut g c = IfErr-weaker c.read_body.result _ _ (λ fault fails is_read.
+    let eight = c.fill.auto.out in
+    let count = c.in-Ok.ensures.count in
+    let cut = fails is_read in
+    record {
+      came = c.in-Ok.got + cut.came;
+      tells = Tells-both g.R.ByteIn.reads.delivered _ _ _ c.in-Ok.got cut.came c.in-Ok.ensures.delivered cut.tells;
+      undecided = λ bytes known.
+          let first = c.in-Ok.ensures.known bytes known in
+          step_of-asked-cut c.args.offset c.args.seen bytes c.fill.new.out c.name_at-name.result c.in-Ok.got c.long-size.result cut.came _
+          first.0 first.1 (omega arith) (omega arith) (omega arith) c.name_at-name.ensures c.long-size.ensures c.in_ok-demand.ensures.value
+          ∙ cut.undecided _ first.2;
+    }) c.read_body.ensures.cut

@@ -1,0 +1,25 @@
+-- How a part of a head is read, against what the bytes to come encode.
+use Rattle.std.specs.Prelude.{◌≡◌, ◌≢◌, ℕ, ◌≤◌, List, length, take, drop, Option, Some, Result, Ok, Err}
+use Rattle.fx_sound.specs.Source.{Held, to_come, Tells}
+use Rattle.fx_sound.specs.Known.{IfKnown}
+use Rattle.fx_sound.specs.declared.head.HeadFault.{HeadFault}
+use Rattle.fx_sound.specs.declared.head.HeadFault.TheVariants.{ReadFailed, Truncated}
+
+-- the bytes to come encode x, and its n bytes are removed from them
+abbrev pub Reads : {X R : Type 0} → (R → Option (List ℕ)) → (List ℕ → Result X HeadFault) → Held R → Held R → ℕ → X → Type 0
+Reads rest spelt old new n x = IfKnown (to_come rest old) (λ bytes.
+    (spelt bytes ≡ Ok x) × (n ≤ length bytes) × (to_come rest new ≡ Some (drop n bytes)))
+
+-- the bytes to come have this fault
+abbrev pub Refuses : {X R : Type 0} → (R → Option (List ℕ)) → (List ℕ → Result X HeadFault) → Held R → HeadFault → Type 0
+Refuses rest spelt old e = e ≢ ReadFailed → IfKnown (to_come rest old) (λ bytes. spelt bytes ≡ Err e)
+
+-- `came` bytes were there or came before a read failed, and their only fault is that they are too few
+pub record CutOff {X R : Type 0} (rest : R → Option (List ℕ)) (delivered : R → ℕ) (spelt : List ℕ → Result X HeadFault) (old new : Held R) : Type 0 where
+  pub came : ℕ
+  pub tells : Tells delivered old new.reader came
+  pub undecided : IfKnown (to_come rest old) (λ bytes. spelt (take came bytes) ≡ Err Truncated)
+
+-- a read failed
+abbrev pub Fails : {X R : Type 0} → (R → Option (List ℕ)) → (R → ℕ) → (List ℕ → Result X HeadFault) → Held R → Held R → HeadFault → Type 0
+Fails rest delivered spelt old new e = e ≡ ReadFailed → CutOff rest delivered spelt old new

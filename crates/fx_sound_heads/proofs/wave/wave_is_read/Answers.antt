@@ -1,5 +1,0 @@
-use Rattle.fx_sound_heads.proofs.ChunksFound as found
-use Rattle.fx_sound_heads.proofs.wave.wave_is_read.Goals as goal
-
-pub returns : goal.returns
-returns c = found.wave_is_read

@@ -1,4 +1,0 @@
-use Rattle.fx_tap_convolve.proofs.transforms.transform.+multiply.Given as goal
-
-abbrev pub decreases-multiply : goal.decreases-multiply
-decreases-multiply l = l.levels

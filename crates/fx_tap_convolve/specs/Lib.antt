@@ -1,5 +1,0 @@
-pub mod Lanes
-pub mod Prepared
-pub mod Products
-pub mod Residues
-pub mod Transform

@@ -1,0 +1,79 @@
+-- Numbers that are the same modulo another one.
+use Rattle.std.proofs.Common.{◌≡◌, ◌+◌, ◌-◌, ◌*◌, ◌^◌, ◌<◌, ℕ, suc, ap, sym, arith, ℤ, pos, negsuc, neg_ℤ, ◌*ℤ◌, ◌+ℤ◌, refl, to_z, of_z, w64, unsigned_abs}
+use Rattle.std.proofs.Math.IntN.{nat_abs, *ℤ_comm}
+use Rattle.std.specs.Prelude.{true, false, ◌-ℤ◌}
+use lib.Signed.{mag, lt_z}
+use Rattle.std.proofs.lemmas.Int.{ints, fits_signed_from_abs, to_z-of_z}
+use borrow.Author.Differences.{product_is}
+use Rattle.fx_tap_sums.specs.Residues.{Same, modulus}
+use Rattle.fx_tap_sums.proofs.Numbers.{mul-add, mul-neg, mul_swap}
+
+pub same_refl : (p a : ℤ) → Same p a a
+same_refl p a = let z = product_is p (pos 0) in (pos 0, omega (arith, ints))
+
+pub same_is : (p a b : ℤ) → a ≡ b → Same p a b
+same_is p a b e = let z = product_is p (pos 0) in (pos 0, omega (arith, ints))
+
+pub same_sym : (p a b : ℤ) → Same p a b → Same p b a
+same_sym p a b h = let z = mul-neg p h.0 in (neg_ℤ h.0, let e = h.1 in omega (arith, ints))
+
+pub same_on : (p a b c : ℤ) → Same p a b → Same p b c → Same p a c
+same_on p a b c h g = let e = h.1 in let f = g.1 in let parts = mul-add p h.0 g.0 in (h.0 +ℤ g.0, omega (arith, ints))
+
+pub same_add : (p a b c d : ℤ) → Same p a b → Same p c d → Same p (a +ℤ c) (b +ℤ d)
+same_add p a b c d h g = let e = h.1 in let f = g.1 in let parts = mul-add p h.0 g.0 in (h.0 +ℤ g.0, omega (arith, ints))
+
+pub same_mul : (p c a b : ℤ) → Same p a b → Same p (c *ℤ a) (c *ℤ b)
+same_mul p c a b h =
+    let e = ap (λ z. c *ℤ z) h.1 in
+    let parts = mul-add c b (p *ℤ h.0) in
+    let turned = mul_swap c p h.0 in
+    (c *ℤ h.0, omega (arith, ints))
+
+pub same_times : (p c a b : ℤ) → Same p a b → Same p (a *ℤ c) (b *ℤ c)
+same_times p c a b h =
+    let first = *ℤ_comm a c in
+    let second = *ℤ_comm b c in
+    same_on p (a *ℤ c) (c *ℤ a) (b *ℤ c) (same_is p (a *ℤ c) (c *ℤ a) first) (same_on p (c *ℤ a) (c *ℤ b) (b *ℤ c) (same_mul p c a b h) (same_is p (c *ℤ b) (b *ℤ c) (sym second)))
+
+-- a remainder
+pub same_less : (p a b k : ℕ) → a + p * k ≡ b → Same (pos p) (pos a) (pos b)
+same_less p a b k e =
+    let turned = mul-neg (pos p) (pos k) in
+    let product : pos p *ℤ pos k ≡ pos (p * k) = ap pos (omega arith) in
+    (neg_ℤ (pos k), omega (arith, ints))
+
+pub same_opposite : (p a b c d : ℤ) → Same p a b → Same p c d → Same p (a -ℤ c) (b -ℤ d)
+same_opposite p a b c d h g = let e = h.1 in let f = g.1 in let turned = mul-neg p g.0 in let parts = mul-add p h.0 (neg_ℤ g.0) in (h.0 +ℤ neg_ℤ g.0, omega (arith, ints))
+
+-- a difference, made positive
+pub same_difference : (p a b : ℕ) → b < p → Same (pos p) (pos (a + (p - b))) (pos a -ℤ pos b)
+same_difference p a b less =
+    let once : pos p *ℤ pos 1 ≡ pos p = ap pos (omega arith) in
+    (pos 1, omega (arith, ints))
+
+-- a sample of 32 bits below 0, and the modulus
+pub lifted : (x : ℤ) → mag x < 2 ^ 31 → lt_z x (pos 0) ≡ true → Same (pos modulus) (pos (nat_abs (x +ℤ pos modulus))) x
+lifted (pos n) small below = absurd (omega (arith, ints))
+lifted (negsuc n) small below =
+    let once : pos modulus *ℤ pos 1 ≡ pos modulus = ap pos (omega arith) in
+    let up : negsuc n +ℤ pos modulus ≡ pos (modulus - suc n) = omega (arith, ints) in
+    rw up (pos 1, omega (arith, ints))
+
+pub lifted_fits : (x : ℤ) → mag x < 2 ^ 31 → lt_z x (pos 0) ≡ true → to_z w64 (of_z w64 (x +ℤ pos modulus)) ≡ x +ℤ pos modulus
+lifted_fits (pos n) small below = absurd (omega (arith, ints))
+lifted_fits (negsuc n) small below =
+    let up : negsuc n +ℤ pos modulus ≡ pos (modulus - suc n) = omega (arith, ints) in
+    let bound : unsigned_abs (negsuc n +ℤ pos modulus) < 2 ^ 63 = rw up (omega arith) in
+    to_z-of_z w64 (negsuc n +ℤ pos modulus) (fits_signed_from_abs w64 (negsuc n +ℤ pos modulus) bound)
+
+pub kept : (x : ℤ) → lt_z x (pos 0) ≡ false → pos (nat_abs x) ≡ x
+kept (pos n) below = refl
+kept (negsuc n) below = absurd (omega (arith, ints))
+
+-- the negatives
+pub same_negated : (p a b : ℤ) → Same p a b → Same p (neg_ℤ a) (neg_ℤ b)
+same_negated p a b h =
+    let e = h.1 in
+    let turned = mul-neg p h.0 in
+    (neg_ℤ h.0, omega (arith, ints))
