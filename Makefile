@@ -8,7 +8,8 @@ DESTDIR =
 # The one place of the version is the program.
 VERSION := $(shell sed -n 's/^pub const VERSION.*"soxchain \([0-9.]*\)\\n.*/\1/p' crates/soxchain_common/src/about.rt)
 
-.PHONY: help quick test soxchain soxchain-plan lib demo conformance wrong-bodies bench pictures install uninstall deb dist check-docs check-library same-bytes clean
+.PHONY: help quick test soxchain soxchain-plan lib demo conformance wrong-bodies bench pictures install uninstall wheel deb dist check-docs check-library \
+    check-packages same-bytes clean
 
 help:
 	@echo 'make demo      processes a sound of examples/ and says what it wrote'
@@ -22,10 +23,12 @@ help:
 	@echo 'make bench     times the proved program beside sox, effect by effect'
 	@echo 'make pictures  draws the pictures of docs/effects.md; needs gnuplot'
 	@echo 'make install [PREFIX=/usr/local] [DESTDIR=]  programs, library, manual and completion; make uninstall takes them away'
-	@echo 'make deb       a Debian package of what make install installs, in build/'
-	@echo 'make dist      the sources and the package with checksums, in build/dist'
-	@echo 'make check-docs  runs each command of the documents, and looks through the manual and the package; installs what it needs'
+	@echo 'make wheel     a wheel of the module for Python with the library inside, in build/'
+	@echo 'make deb       Debian packages of what make install installs, in build/; needs debhelper and dh-python'
+	@echo 'make dist      the sources, the wheel and the Debian packages with checksums, in build/dist'
+	@echo 'make check-docs  runs each command of the documents, and looks through the manual; installs what it needs'
 	@echo 'make check-library  runs the examples of the library for C and Python beside the proved program'
+	@echo 'make check-packages  installs the wheel, unpacks the Debian packages, and uses what they have'
 	@echo 'make same-bytes  builds both programs in two folders, and compares their bytes'
 	@echo 'make clean     removes build/ and what the checks kept'
 
@@ -93,12 +96,21 @@ install: build/soxchain build/soxchain-plan build/libsoxchain.so
 uninstall:
 	@scripts/install --remove '$(DESTDIR)' '$(PREFIX)' '$(VERSION)'
 
-# A package, by dpkg-deb and dpkg-shlibdeps.
+# The module for Python with the library inside. The build backend needs the standard library of Python alone.
+wheel: build/libsoxchain.so
+	@python3 packaging/wheel_backend.py
+
+# The packages of packaging/debian, by debhelper.
 deb: build/soxchain build/soxchain-plan build/libsoxchain.so
 	@scripts/deb '$(VERSION)'
 
+# What can be looked at without root; scripts/debian_trial installs the Debian packages in a system of their own.
+check-packages: build/soxchain build/soxchain-plan build/libsoxchain.so
+	@scripts/checks/wheel
+	@scripts/checks/debian
+
 # What is released. The sources are those of the last commit.
-dist: deb
+dist: wheel deb
 	@scripts/dist '$(VERSION)'
 
 # Each command of the documents as it stands there; the gate runs those that need no other tools.

@@ -10,8 +10,8 @@
     file = soxchain.convert(['-', '-t', 'wav', '-', 'vol', '0.5'], open('in.wav', 'rb').read()).output
 
 Words are a list, one text for each word. Frames are NumPy arrays of int32, or bytes, bytearray, memoryview, mmap or array of
-32-bit samples as this machine has them; what is given is an array where an array came, and else bytes. The library is found by
-its path in SOXCHAIN_LIBRARY, or else as libsoxchain.so; an installed module knows its own.
+32-bit samples as this machine has them; what is given is an array where an array came, and else bytes. SOXCHAIN_LIBRARY is the
+path of the library. Without it the library is the one beside the module, as in a wheel, or the one that was installed with it.
 """
 import ctypes
 import itertools
@@ -31,6 +31,9 @@ __all__ = ['Converted', 'Error', 'Report', 'Stream', 'convert', 'process']
 __version__ = '0.1.0'
 
 Word = Union[str, bytes, 'os.PathLike[str]']
+
+# Installing the module writes the path of the library here, where the loader does not find it by this name.
+_INSTALLED = 'libsoxchain.so.0'
 
 _size, _u8, _i32 = ctypes.c_size_t, ctypes.c_uint8, ctypes.c_int32
 _OK, _WAITS_FOR_FRAMES, _WAITS_FOR_ROOM = 0, 0, 1
@@ -102,11 +105,17 @@ class _Bytes:
 _loaded: Optional[ctypes.CDLL] = None
 
 
+def _path() -> str:
+    """The path of the library, or its name for the loader."""
+    beside = os.path.join(os.path.dirname(os.path.abspath(__file__)), os.path.basename(_INSTALLED))
+    return os.environ.get('SOXCHAIN_LIBRARY') or (beside if os.path.exists(beside) else _INSTALLED)
+
+
 def _library() -> ctypes.CDLL:
     """The library, with the types of its calls."""
     global _loaded
     if _loaded is None:
-        library = ctypes.CDLL(os.environ.get('SOXCHAIN_LIBRARY', 'libsoxchain.so'))
+        library = ctypes.CDLL(_path())
         for name in ('held', 'hold', 'clips'):
             getattr(library, 'soxchain_' + name).restype = ctypes.c_uint64
         library.soxchain_rate.restype = ctypes.c_uint32
