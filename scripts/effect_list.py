@@ -11,12 +11,12 @@ FOLDER = os.path.join(sounds.TOP, 'effects')
 KEYS = {
     'effect': ('doc copy', 'type argument', 'line max_frames frames_after frames_use layout_after channels_after uses'),
     'act': ('determined length uses', 'type value of', 'layout_after channels_after fits is_usable fits_layout recipe rises rises_use made length_use answer answer_use limits_use'),
-    'words': ('reader read faults uses', 'says equal', 'equal_use'),
+    'words': ('reader read faults uses', 'says equal', 'equal_use refuses_name'),
     'stage': ('takes_memory placed sound stored uses', '', 'made form by_samples keeps'),
     'help': ('help_line usage limits instead manual', '', 'title picture'),
 }
 # The values that a key may have, where these are few.
-VALUES = {'stage.takes_memory': (True, False), 'stage.stored': ('line', 'pending'), 'stage.form': ('Mapped', 'Selected', 'Tapped'), 'stage.by_samples': (True,)}
+VALUES = {'stage.takes_memory': (True, False), 'stage.stored': ('line', 'pending'), 'stage.form': ('Mapped', 'Selected', 'Tapped'), 'stage.by_samples': (True,), 'words.refuses_name': (True,)}
 
 
 def effect_names():
@@ -24,6 +24,14 @@ def effect_names():
     with open(os.path.join(FOLDER, 'list'), encoding='utf-8') as file:
         lines = [line.strip() for line in file]
     return [line for line in lines if line and not line.startswith('#')]
+
+
+def left_out() -> list[list[str]]:
+    """The names of the effects of SoX that are left out, as effects/sox.toml has them: the filters, and the others."""
+    with open(os.path.join(FOLDER, 'sox.toml'), 'rb') as file:
+        of_sox = tomllib.load(file)
+    known = set(effect_names())
+    return [[name for name in of_sox[names] if name not in known] for names in ('filters', 'others')]
 
 
 def fault_of(name, tables):

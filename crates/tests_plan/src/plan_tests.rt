@@ -47,7 +47,7 @@ remix 0,1 -> 5 at 1 2
 delay 1 2 -> 8 at 1 3
 upsample 0 -> 6 at 1 2
 upsample x -> 5 at 1 2
-flanger -> 2 at 1 1
+ladspa -> 2 at 1 1
 remix 1 1 1 1 1 1 1 1 1 1 1 1 1 1 1 1 1 -> 9 at 1 18
 fir e.txt -> 13 at 1 2
 vol 1 vol 1 vol 1 vol 1 vol 1 vol 1 vol 1 vol 1 vol 1 vol 1 vol 1 vol 1 vol 1 vol 1 vol 1 vol 1 vol 1 vol 1 vol 1 vol 1 vol 1 vol 1 vol 1 vol 1 vol 1 vol 1 vol 1 vol 1 vol 1 vol 1 vol 1 vol 1 vol 1 -> 12 at 33 1
