@@ -1,9 +1,11 @@
+pub mod Advised
 pub mod Heading
 pub mod Kept
 pub mod Lateness
 pub mod Made
 pub mod Naming
 pub mod Padded
+pub mod Refusing
 pub mod Registered
 pub mod ShownLemmas
 pub mod Writing

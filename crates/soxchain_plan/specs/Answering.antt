@@ -22,6 +22,7 @@ use Rattle.soxchain_common.specs.Files.{AreFronts, IsMemoryRefused, IsUnread}
 use Rattle.soxchain_plan.specs.declared.outline.Outline.{Outline}
 use Rattle.soxchain_plan.specs.declared.style.Style.{Style}
 use Rattle.soxchain_plan.specs.declared.style.Style.TheVariants.{Text, Json}
+use Rattle.soxchain_plan.specs.Advising.{AnyAdvice, IsHeadAdvice, IsLineAdvice}
 use Rattle.soxchain_plan.specs.Heads.{HeadIsRead}
 use Rattle.soxchain_plan.specs.Outlines.{IsOutline}
 use Rattle.soxchain_plan.specs.Quoted.{stop_json}
@@ -64,36 +65,39 @@ module _ {H I R O M : Type 0} (d : PlanDevices I R O) (m : H → H → Machine I
         → Advises writes old new (open_message (codes "-")) advice 2 status
         → IsPlanShown text code host new_host old new status
 
-  -- Why there is no plan was reported, with this status. As JSON standard output then has it too, with the message and what to
-  -- do; or there was no memory for that, which was reported too.
-  pub data Stops (style : Style) (message : List ℕ) (code : ℕ) (host new_host : H) (old new : M) (status : ℕ) : Type 0 where
+  -- Why there is no plan was reported, with this status, and what to do, which `IsAdvice` describes. As JSON standard output then
+  -- has it too, with the message and what to do; or there was no memory for that, which was reported too.
+  pub data Stops (style : Style) (message : List ℕ) (IsAdvice : List ℕ → Type 0) (code : ℕ) (host new_host : H) (old new : M) (status : ℕ) : Type 0 where
     Delivered : (advice : List ℕ)
+        → IsAdvice advice
         → style ≡ Text
         → new_host ≡ host
         → Advises writes old new message advice code status
-        → Stops style message code host new_host old new status
+        → Stops style message IsAdvice code host new_host old new status
     Quoted : (advice : List ℕ) (between : M)
+        → IsAdvice advice
         → style ≡ Json
         → Advises writes old between message advice code code
         → IsPlanShown (stop_json code message advice) code host new_host between new status
-        → Stops style message code host new_host old new status
+        → Stops style message IsAdvice code host new_host old new status
     Unquoted : (advice advice_on_memory : List ℕ) (between : M)
+        → IsAdvice advice
         → style ≡ Json
         → new_host ≡ host
         → Advises writes old between message advice code code
         → Advises writes between new (line_message (line_label LineFaults.Memory)) advice_on_memory (status_of_line LineFaults.Memory) status
-        → Stops style message code host new_host old new status
+        → Stops style message IsAdvice code host new_host old new status
 
   -- The result for a line after the head of its input: its plan has a first fault, or finds no memory; or what the plan
   -- contains finds none; or it is shown.
   pub data Plans (style : Style) (line : Said) (files : List (List ℕ)) (head : Head) (host new_host : H) (old new : M) (status : ℕ) : Type 0 where
     Unplanned : (fault : PlanFault)
         → RefusesPlan fault (all_faults (head_layout head) files (effects_in line))
-        → Stops style (refusal_message line (Refusals.Plan fault)) (status_of_refusal (Refusals.Plan fault)) host new_host old new status
+        → Stops style (refusal_message line (Refusals.Plan fault)) AnyAdvice (status_of_refusal (Refusals.Plan fault)) host new_host old new status
         → Plans style line files head host new_host old new status
     Unsaid :
         all_faults (head_layout head) files (effects_in line) ≡ []
-        → Stops style (refusal_message line Refusals.Chain) (status_of_refusal Refusals.Chain) host new_host old new status
+        → Stops style (refusal_message line Refusals.Chain) AnyAdvice (status_of_refusal Refusals.Chain) host new_host old new status
         → Plans style line files head host new_host old new status
     Planned : (outline : Outline)
         → all_faults (head_layout head) files (effects_in line) ≡ []
@@ -105,7 +109,7 @@ module _ {H I R O M : Type 0} (d : PlanDevices I R O) (m : H → H → Machine I
   pub data Heads {X : Type 0} (reads : ByteReader X) (style : Style) (line : Said) (files : List (List ℕ)) (reader : X) (host new_host : H) (old new : M) (status : ℕ) : Type 0 where
     Refused : (fault : HeadFault)
         → HeadIsRead reads line.input_kind reader (Err fault)
-        → Stops style (refusal_message line (Refusals.Head fault)) (status_of_refusal (Refusals.Head fault)) host new_host old new status
+        → Stops style (refusal_message line (Refusals.Head fault)) (IsHeadAdvice (reads.rest reader) fault) (status_of_refusal (Refusals.Head fault)) host new_host old new status
         → Heads reads style line files reader host new_host old new status
     Read : (head : Head)
         → HeadIsRead reads line.input_kind reader (Ok head)
@@ -118,7 +122,7 @@ module _ {H I R O M : Type 0} (d : PlanDevices I R O) (m : H → H → Machine I
     Unopened : (next : H) (name : List ℕ)
         → file_name line.input ≡ Some name
         → o.unopened host next name
-        → Stops style (open_message name) 2 next new_host old new status
+        → Stops style (open_message name) AnyAdvice 2 next new_host old new status
         → PlanLines o style line files host new_host old new status
     Standard : (next : H) (input : I)
         → file_name line.input ≡ None
@@ -138,11 +142,11 @@ module _ {H I R O M : Type 0} (d : PlanDevices I R O) (m : H → H → Machine I
   pub data PlanWorks (o : Opened H R) (style : Style) (line : Said) (host new_host : H) (old new : M) (status : ℕ) : Type 0 where
     Unread : (next : H) (name : List ℕ)
         → IsUnread o d.file host next (coefficient_files (effects_in line)) name
-        → Stops style (open_message name) 2 next new_host old new status
+        → Stops style (open_message name) AnyAdvice 2 next new_host old new status
         → PlanWorks o style line host new_host old new status
     MemoryRefused : (next : H)
         → IsMemoryRefused o d.file host next (coefficient_files (effects_in line))
-        → Stops style (line_message (line_label LineFaults.Memory)) (status_of_line LineFaults.Memory) next new_host old new status
+        → Stops style (line_message (line_label LineFaults.Memory)) AnyAdvice (status_of_line LineFaults.Memory) next new_host old new status
         → PlanWorks o style line host new_host old new status
     Known : (next : H) (files : List (List ℕ))
         → AreFronts o d.file host next (coefficient_files (effects_in line)) files
@@ -159,7 +163,7 @@ module _ {H I R O M : Type 0} (d : PlanDevices I R O) (m : H → H → Machine I
     BadWords : (fault : LineFault)
         → answer words ≡ None
         → LineReads (line_of_words (styled words).1) (Err fault)
-        → Stops (styled words).0 (line_message (line_label fault)) (status_of_line fault) host new_host old new status
+        → Stops (styled words).0 (line_message (line_label fault)) (IsLineAdvice (styled words).1 fault) (status_of_line fault) host new_host old new status
         → Words o answer words host new_host old new status
     Worked : (line : Said)
         → answer words ≡ None
@@ -173,7 +177,7 @@ module _ {H I R O M : Type 0} (d : PlanDevices I R O) (m : H → H → Machine I
         → (m host next).mute kind
         → (kind ≡ ErrorKinds.OutOfMemory → fault ≡ LineFaults.Memory)
         → (kind ≢ ErrorKinds.OutOfMemory → fault ≡ LineFaults.BadOption)
-        → Stops Text (line_message (line_label fault)) (status_of_line fault) next new_host old new status
+        → Stops Text (line_message (line_label fault)) AnyAdvice (status_of_line fault) next new_host old new status
         → PlanAnswers o answer host new_host old new status
     Asked : (next : H) (words : List (List ℕ))
         → (m host next).asked words

@@ -12,6 +12,8 @@ use Rattle.fx_sound.specs.Source.{Held}
 use Rattle.fx_frame_base.specs.Io.{ByteReader, saturated}
 use Rattle.soxchain.specs.Convert.{Begins, unread_source}
 use Rattle.soxchain_common.specs.Consoles.{IsNewReader}
+use Rattle.soxchain_plan.specs.Formats.{IsFormatOf}
+use Rattle.soxchain_plan.specs.declared.reading.HeadRead.{HeadRead}
 
 -- the bytes begin with this head, or else have this fault unless a read failed
 abbrev pub IsHeadOf : Option Kind → List ℕ → Result Head HeadFault → Type 0
@@ -27,15 +29,17 @@ pub record HeadIsRead {R : Type 0} (reads : ByteReader R) (expected : Option Kin
   pub cut : head ≡ Err ReadFailed → CutOff reads.rest reads.delivered (head_of expected) (unread_source reader) ended
 
 -- standard input was requested, and this is read from it
-pub record IsHeadFrom {I : Type 0} (is_input : I → Type 0) (reads : ByteReader I) (expected : Option Kind) (head : Result Head HeadFault) : Type 0 where
+pub record IsHeadFrom {I : Type 0} (is_input : I → Type 0) (reads : ByteReader I) (expected : Option Kind) (found : HeadRead) : Type 0 where
   pub reader : I
   pub is_reader : is_input reader
   pub fresh : IsNewReader reads reader
-  pub read : HeadIsRead reads expected reader head
+  pub read : HeadIsRead reads expected reader found.head
+  pub format : IsFormatOf (reads.rest reader) found.format
 
 -- the file of this name was opened, and this is read from it
-pub record IsHeadIn {R : Type 0} (opened : List ℕ → R → Type 0) (reads : ByteReader R) (name : List ℕ) (expected : Option Kind) (head : Result Head HeadFault) : Type 0 where
+pub record IsHeadIn {R : Type 0} (opened : List ℕ → R → Type 0) (reads : ByteReader R) (name : List ℕ) (expected : Option Kind) (found : HeadRead) : Type 0 where
   pub reader : R
   pub is_opened : opened name reader
   pub fresh : IsNewReader reads reader
-  pub read : HeadIsRead reads expected reader head
+  pub read : HeadIsRead reads expected reader found.head
+  pub format : IsFormatOf (reads.rest reader) found.format

@@ -1,5 +1,8 @@
+pub mod Advising
 pub mod Answering
+pub mod Formats
 pub mod Heads
+pub mod Options
 pub mod Outlines
 pub mod Quoted
 pub mod Shown

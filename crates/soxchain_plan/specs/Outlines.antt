@@ -1,5 +1,5 @@
 -- What soxchain-plan reports of sounds and effects (this project's profile).
-use Rattle.std.specs.Prelude.{◌≡◌, ℕ, ◌+◌, ◌-◌, ◌*◌, ◌/◌, ◌^◌, ◌≤◌, List, [], ◌∷◌, Option, None, Some, length, map, min, sum}
+use Rattle.std.specs.Prelude.{◌≡◌, ℕ, zero, suc, ◌+◌, ◌-◌, ◌*◌, ◌/◌, ◌^◌, ◌≤◌, List, [], ◌∷◌, Option, None, Some, length, map, min, sum}
 use Rattle.std.specs.List.{All}
 use Rattle.std.specs.Option.{option_map}
 use Rattle.fx_frame_base.specs.Coding.{width_of}
@@ -16,6 +16,8 @@ use Rattle.fx_plan.specs.Planning.{Planning}
 use Rattle.fx_chain.specs.Chain.{chain_gives, chain_wholes}
 use Rattle.soxchain_plan.specs.declared.outline.EffectOutline.{EffectOutline}
 use Rattle.soxchain_plan.specs.declared.outline.Outline.{Outline}
+use Rattle.soxchain_plan.specs.declared.outline.SizeInHead.{SizeInHead}
+use Rattle.soxchain_plan.specs.declared.outline.SizeInHead.TheVariants.{Zero, Unknown, Known}
 
 -- the latency of an effect, in frames of its input (soxchain-plan(1), DESCRIPTION): effects with positions from the
 -- end wait for that many more frames, and `fir` for the later half of its sum; every other effect gives its output at once
@@ -59,6 +61,12 @@ milliseconds frames rate = (frames * 1000 + rate - 1) / rate
 abbrev pub announced_frames : Head → Option ℕ
 announced_frames head = option_map (λ bytes. bytes / (head.channels * width_of head.coding)) head.announced
 
+-- what a head says of the size of its sound: no bytes, none that are known, or how many
+abbrev pub size_in : Option ℕ → SizeInHead
+size_in None = Unknown
+size_in (Some zero) = Zero
+size_in (Some (suc bytes)) = Known
+
 -- a sound of just the frames that a head announces, no more than a run takes
 pub record IsAnnounced (head : Head) (sound : List Samples) : Type 0 where
   pub announced : announced_frames head ≡ Some (length sound)
@@ -100,6 +108,7 @@ pub record IsOutline (plan : Planning) (outline : Outline) : Type 0 where
   pub input_channels : outline.input.channels ≡ plan.head.channels
   pub input_bits : outline.input.bits ≡ 8 * width_of plan.head.coding
   pub input_frames : outline.input.frames ≡ announced_frames plan.head
+  pub size : outline.size ≡ size_in plan.head.announced
   pub effects : map delivered outline.effects.items ≡ map known plan.acts
   pub effect_rates : map stated_rate outline.effects.items ≡ rates_along plan.head.rate plan.acts
   pub effect_bytes : map stated_bytes outline.effects.items ≡ bytes_along plan.head.channels plan.acts

@@ -1,8 +1,14 @@
 //! What to do where there is no plan: the limit, the intended word, or the tool that can do it.
+ghost use Rattle.std.specs.Prelude.{◌≡◌, ◌++◌, IfSome};
+ghost use Rattle.soxchain_plan.specs.Advising.{IsFaultAdvice, advice_text};
+ghost use Rattle.soxchain_plan.specs.Formats.{format_advice};
+ghost use Rattle.soxchain_plan.specs.Options.{options_text};
 
+use crate::formats::FormatFault;
 use fx_plan::{LineFault, PlanCause};
 use fx_sound::HeadFault;
 use soxchain_common::{SOX_HAS_IT, TIME_LIMITS, effect_of, effects};
+use std::alloc::Global;
 
 /// Where a file cannot be opened.
 pub const OPENING: &str = "see that there is a file of this name, and that it may be read";
@@ -10,6 +16,46 @@ pub const OPENING: &str = "see that there is a file of this name, and that it ma
 /// Where writing to standard output fails.
 pub const REACHING: &str =
     "standard output took not all of it: see that its disk has room, or its reader waits";
+
+/// Where an option is refused, after the word that is.
+const OPTIONS: &str =
+    " is refused: the options are --json as the first word, --help and --version alone, -D, -t wav, -t au and, before OUT alone, -b 8, 16, 24 or 32; a file whose name begins with - is ./-NAME";
+
+/// What to do: a text, after the word of which it speaks; no text where it speaks of none.
+#[derive(Clone, Copy, Drop)]
+pub struct Advice<'a> {
+    pub subject: &'a str,
+    pub text: &'static str,
+}
+
+impl<'a> Advice<'a> {
+    /// A text that speaks of no word.
+    pub fn new(text: &'static str) -> Advice<'a>
+        ensures { advice_text result ≡ text.now }
+    {
+        Advice { subject: "", text }
+    }
+
+    /// Its text. None where no memory is found for it.
+    pub fn joined(self, alloc: Global) -> Option<Vec<u8>>
+        ensures { IfSome result (λ text. text.items ≡ advice_text self.entry) }
+    {
+        let mut text = Vec::new(alloc);
+        text.extend_from_slice(self.subject.as_bytes()).ok()?;
+        text.extend_from_slice(self.text.as_bytes()).ok()?;
+        Some(text)
+    }
+}
+
+/// Where an option is refused for this word.
+pub fn advice_on_option(word: &str) -> Advice<'_>
+    ensures { advice_text result ≡ word.now ++ options_text }
+{
+    Advice {
+        subject: word,
+        text: OPTIONS,
+    }
+}
 
 /// The names of the effects, from the table of effects.
 macro_rules! names {
@@ -30,17 +76,34 @@ pub fn advice_on_memory() -> &'static str {
 pub fn advice_on_line(fault: LineFault) -> &'static str {
     match fault {
         LineFault::MissingFile => "say IN and OUT: soxchain IN OUT [EFFECT [WORD ..] ..]",
-        LineFault::BadOption => {
-            "the options are -D, -t wav, -t au and, before OUT alone, -b 8, 16, 24 or 32; a file whose name begins with - is ./-NAME"
-        }
+        LineFault::BadOption => "each word has to be UTF-8",
         LineFault::NoOutputType => "end OUT in .wav, .au or .snd, or say -t wav or -t au before it",
         LineFault::BadBits => "say -b 8, -b 16, -b 24 or -b 32",
         LineFault::Memory => advice_on_memory(),
     }
 }
 
+/// Where the format of the head is not one of the profile.
+fn advice_on_format(format: FormatFault) -> &'static str
+    ensures { result.now ≡ format_advice format }
+{
+    match format {
+        FormatFault::BlockAlign => {
+            "the head has a block align that is not channels times bytes of a sample: sox IN -t au - | soxchain - OUT .. may read it"
+        }
+        FormatFault::UnknownGuid => {
+            "the format is extensible, and its GUID is not known: sox IN -t au - | soxchain - OUT .. may read it"
+        }
+        FormatFault::Other => {
+            "samples have to be whole numbers of 8, 16, 24 or 32 bits: sox IN -t au -e signed-integer -b 32 - | soxchain - OUT .."
+        }
+    }
+}
+
 /// Where the head is refused.
-pub fn advice_on_head(fault: HeadFault) -> &'static str {
+pub fn advice_on_head(fault: HeadFault, format: FormatFault) -> &'static str
+    ensures { IsFaultAdvice fault format result.now }
+{
     match fault {
         HeadFault::ReadFailed =>
             "see that IN is a file and not a folder, and that its disk can be read",
@@ -50,9 +113,7 @@ pub fn advice_on_head(fault: HeadFault) -> &'static str {
         HeadFault::Truncated => "IN ends within its head: fetch it again",
         HeadFault::BadHeader =>
             "what the head says cannot be: sox IN -t au - | soxchain - OUT .. may read it",
-        HeadFault::NotInProfile => {
-            "samples have to be whole numbers of 8, 16, 24 or 32 bits: sox IN -t au -e signed-integer -b 32 - | soxchain - OUT .."
-        }
+        HeadFault::NotInProfile => advice_on_format(format),
         HeadFault::TooManyChannels =>
             "the limit is 16 channels: sox IN -t au - remix 1 2 | soxchain - OUT .. takes some of them",
         HeadFault::HeadTooLong =>

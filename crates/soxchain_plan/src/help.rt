@@ -15,7 +15,8 @@ the head is read; OUT is not made.
 For IN and OUT it prints kind, rate, channels, bits and frames; for each effect
 and for the chain the frames that it may hold, with the bytes of their samples;
 and by how many frames of its input an effect gives later than it takes, in
-milliseconds too. Lengths are those of a sound as long as its head announces.
+milliseconds too. Lengths are those of a sound as long as its head announces. A
+warning tells of an output without a frame, and of a WAVE without a size.
 
   --json    as the first word: prints the same as one JSON object
 

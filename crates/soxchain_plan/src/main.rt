@@ -4,14 +4,20 @@
 //! and the status of soxchain, and then a line that says what to do.
 #![tactic(auto)]
 
-ghost use Rattle.fx_plan.specs.Line.{texts};
+ghost use Rattle.std.specs.Prelude.{◌≡◌, Err};
+ghost use Rattle.fx_plan.specs.Line.{line_of_words, texts};
 ghost use Rattle.fx_plan.specs.Plans.{plan_bytes};
 ghost use Rattle.soxchain_common.specs.About.{answer_of};
-ghost use Rattle.soxchain_plan.specs.Answering.{PlanAnswers, PlanLines, Plans, Words, PlanWorks};
+ghost use Rattle.soxchain.specs.Messages.{line_label, line_message};
+ghost use Rattle.soxchain.specs.Program.{status_of_line};
+ghost use Rattle.soxchain_plan.specs.Advising.{IsLineAdvice};
+ghost use Rattle.soxchain_plan.specs.Answering.{PlanAnswers, PlanLines, Plans, Stops, Words, PlanWorks};
 
 mod advice;
+mod formats;
 mod help;
 mod lengths;
+mod options;
 mod outline;
 mod quoting;
 mod reading;
@@ -24,8 +30,9 @@ use fx_frame::{ByteOut, Counted};
 use fx_plan::{CommandLine, LineFault, parse_line, plan};
 use fx_sound::Head;
 use help::HELP;
+use options::refused_word;
 use outline::text_of;
-use reading::head_of;
+use reading::{HeadRead, head_of};
 use showing::{show, stopped};
 use soxchain::inner::Refusal;
 use soxchain_common::{Console, FilesFault, VERSION, answer_to, fault_of, read_files};
@@ -98,13 +105,16 @@ fn answer_files<H: Console, M: ByteOut>(
         H.machine M.writes (record { opened = H.opened; unopened = H.unopened; closed = H.closed })
         style line.now (plan_bytes files.now) host.old host.new messages.old messages.new result }
 {
-    match head_of(host, line) {
-        Ok(Ok(head)) => plan_line(host, style, line, &head, files, messages),
-        Ok(Err(fault)) => {
-            let stop = PlanStop::Refused(line, Refusal::Head(fault));
+    let HeadRead { head, format } = match head_of(host, line) {
+        Ok(read) => read,
+        Err(name) => return stopped(host, style, &PlanStop::CannotOpen(name), messages),
+    };
+    match head {
+        Ok(head) => plan_line(host, style, line, &head, files, messages),
+        Err(fault) => {
+            let stop = PlanStop::Head(line, fault, format);
             stopped(host, style, &stop, messages)
         }
-        Err(name) => stopped(host, style, &PlanStop::CannotOpen(name), messages),
     }
 }
 
@@ -120,7 +130,29 @@ fn answer_words<H: Console, M: ByteOut>(host: &mut H, words: &[String], messages
     let (style, words) = style::split(words);
     match parse_line(host.memory(), words) {
         Ok(line) => answer_line(host, style, &line, messages),
-        Err(fault) => stopped(host, style, &PlanStop::Line(fault), messages),
+        Err(fault) => refuse_words(host, style, words, fault, messages),
+    }
+}
+
+/// Refuses the words of a command line for this fault, and returns the status.
+fn refuse_words<H: Console, M: ByteOut>(
+    host: &mut H,
+    style: Style,
+    words: &[String],
+    fault: LineFault,
+    messages: &mut M,
+) -> u8
+    requires { fault ≡ LineFault.BadOption → line_of_words (texts words.now) ≡ Err LineFault.BadOption }
+    ensures { Stops (record { input = H.Input.reads; file = H.Reader.reads; output = H.Output.writes })
+        H.machine M.writes style (line_message (line_label fault)) (IsLineAdvice (texts words.now) fault) (status_of_line fault)
+        host.old host.new messages.old messages.new result }
+{
+    match fault {
+        LineFault::BadOption => {
+            let stop = PlanStop::BadOption(refused_word(words));
+            stopped(host, style, &stop, messages)
+        }
+        _ => stopped(host, style, &PlanStop::Line(fault), messages),
     }
 }
 

@@ -10,8 +10,8 @@ ghost use Rattle.fx_chain_flow.specs.Composed.{composed, composed_wholes};
 ghost use Rattle.fx_frame_base.specs.Frame.{Samples};
 ghost use Rattle.fx_chain_stages.specs.Made.{recipes_for};
 ghost use Rattle.fx_plan.specs.Planning.{planning};
-ghost use Rattle.soxchain_plan.specs.Outlines.{IsOutline, announced_frames, bytes_along, held_bytes, known, rates_along, delivered, stated_bytes, stated_frames, stated_rate, whole_frames};
-ghost use Rattle.soxchain_plan.specs.Shown.{effect_json, effect_line, effect_lines, effects_json, frames_json, frames_text, outline_json, outline_text, shown, sound_json, sound_line};
+ghost use Rattle.soxchain_plan.specs.Outlines.{IsOutline, announced_frames, bytes_along, held_bytes, known, rates_along, size_in, delivered, stated_bytes, stated_frames, stated_rate, whole_frames};
+ghost use Rattle.soxchain_plan.specs.Shown.{effect_json, effect_line, effect_lines, effects_json, empty_json, empty_line, frames_json, frames_text, outline_json, outline_text, shown, size_json, size_line, sound_json, sound_line};
 
 use crate::lengths::{bytes_held, in_milliseconds, lateness, rate_after};
 use crate::quoting::{bits_of, name_of_kind};
@@ -35,6 +35,17 @@ pub struct SoundOutline {
     frames: Option<u64>,
 }
 
+/// What a head says of the size of its sound.
+#[derive(Clone, Copy, Debug, Drop, PartialEq, Eq)]
+pub enum SizeInHead {
+    /// No bytes.
+    Zero,
+    /// None that is known: the sound goes up to the end of the input.
+    Unknown,
+    /// How many bytes it has.
+    Known,
+}
+
 /// What is reported of an effect.
 #[derive(Clone, Copy, Drop)]
 pub struct EffectOutline {
@@ -55,6 +66,7 @@ pub struct EffectOutline {
 #[derive(Drop)]
 pub struct Outline {
     input: SoundOutline,
+    size: SizeInHead,
     effects: Vec<EffectOutline>,
     hold: u64,
     bytes: u64,
@@ -68,6 +80,17 @@ fn frames_in(head: &Head) -> Option<u64>
 {
     let size = head.channels * head.coding.width();
     Some(head.announced? / size as u64)
+}
+
+/// What a head says of the size of its sound.
+fn size_in(head: &Head) -> SizeInHead
+    ensures { result ≡ size_in head.now.announced }
+{
+    match head.announced {
+        Some(0) => SizeInHead::Zero,
+        Some(_) => SizeInHead::Known,
+        None => SizeInHead::Unknown,
+    }
 }
 
 /// The content of the head of the input.
@@ -192,6 +215,7 @@ fn outline_of(alloc: Global, plan: &Plan) -> Result<Outline, AllocError>
     };
     Ok(Outline {
         input,
+        size: size_in(&head),
         effects,
         hold: plan.hold(),
         bytes,
@@ -216,6 +240,55 @@ fn show_frames<W: Write>(writer: &mut W, frames: Option<u64>) -> io::Result<()>
     match frames {
         Some(frames) => writeln!(writer, ", {frames} frames"),
         None => writeln!(writer, ", length not known"),
+    }
+}
+
+/// Shows that the output has no frame, where it has none.
+fn show_emptiness<W: Write>(writer: &mut W, frames: Option<u64>) -> io::Result<()>
+    ensures { OnOk result (Appends (W.contents writer.old) (W.contents writer.new) (empty_line frames)) }
+{
+    match frames {
+        Some(0) => writeln!(writer, "warning: the output has no frame"),
+        _ => Ok(()),
+    }
+}
+
+/// Shows in JSON whether the output has no frame.
+fn show_json_emptiness<W: Write>(writer: &mut W, frames: Option<u64>) -> io::Result<()>
+    ensures { OnOk result (Appends (W.contents writer.old) (W.contents writer.new) (empty_json frames)) }
+{
+    match frames {
+        Some(0) => write!(writer, "true"),
+        Some(_) => write!(writer, "false"),
+        None => write!(writer, "null"),
+    }
+}
+
+/// Shows that the head of a WAVE announces no bytes of sound, or none that are known.
+fn show_size<W: Write>(writer: &mut W, kind: Kind, size: SizeInHead) -> io::Result<()>
+    ensures { OnOk result (Appends (W.contents writer.old) (W.contents writer.new) (size_line kind size)) }
+{
+    match (kind, size) {
+        (Kind::Wav, SizeInHead::Zero) => writeln!(
+            writer,
+            "warning: the head of IN announces 0 bytes of sound: soxchain reads none, whatever follows"
+        ),
+        (Kind::Wav, SizeInHead::Unknown) => writeln!(
+            writer,
+            "warning: the head of IN announces no size: soxchain reads to the end of the file, with whatever follows the sound"
+        ),
+        _ => Ok(()),
+    }
+}
+
+/// Shows in JSON what the head says of the size of its sound.
+fn show_json_size<W: Write>(writer: &mut W, size: SizeInHead) -> io::Result<()>
+    ensures { OnOk result (Appends (W.contents writer.old) (W.contents writer.new) (size_json size)) }
+{
+    match size {
+        SizeInHead::Zero => write!(writer, "\"zero\""),
+        SizeInHead::Unknown => write!(writer, "\"unknown\""),
+        SizeInHead::Known => write!(writer, "\"known\""),
     }
 }
 
@@ -356,7 +429,9 @@ impl Outline {
             "chain: holds at most {} frames, {} bytes",
             self.hold, self.bytes
         )?;
-        self.output.show(writer, "out")
+        self.output.show(writer, "out")?;
+        show_emptiness(writer, self.output.frames)?;
+        show_size(writer, self.input.kind, self.size)
     }
 
     /// One JSON object.
@@ -373,6 +448,10 @@ impl Outline {
             self.hold, self.bytes
         )?;
         self.output.show_json(writer)?;
+        write!(writer, ", \"empty\": ")?;
+        show_json_emptiness(writer, self.output.frames)?;
+        write!(writer, ", \"size_in_head\": ")?;
+        show_json_size(writer, self.size)?;
         writeln!(writer, "}}")
     }
 }

@@ -67,13 +67,13 @@ pub fn show_stop<W: Write>(
     writer: &mut W,
     status: u8,
     message: &[u8],
-    advice: &str,
+    advice: &[u8],
 ) -> io::Result<()>
     ensures { OnOk result (Appends (W.contents writer.old) (W.contents writer.new) (stop_json status message.now advice.now)) }
 {
     write!(writer, "{{\"status\": {status}, \"message\": ")?;
     show_string(writer, message)?;
     write!(writer, ", \"advice\": ")?;
-    show_string(writer, advice.as_bytes())?;
+    show_string(writer, advice)?;
     writeln!(writer, "}}")
 }

@@ -1,5 +1,6 @@
 //! The text on standard output and standard error.
 ghost use Rattle.std.specs.Prelude.{List, ℕ};
+ghost use Rattle.soxchain_plan.specs.Advising.{IsAdviceOn};
 ghost use Rattle.soxchain_plan.specs.Answering.{Advises, IsPlanShown, Stops};
 ghost use Rattle.soxchain_plan.specs.Stops.{message_of, status_of};
 
@@ -41,7 +42,7 @@ pub fn stopped<H: Console, M: ByteOut>(
     messages: &mut M,
 ) -> u8
     ensures { Stops (record { input = H.Input.reads; file = H.Reader.reads; output = H.Output.writes })
-        H.machine M.writes style (message_of stop.now) (status_of stop.now) host.old host.new messages.old messages.new result }
+        H.machine M.writes style (message_of stop.now) (IsAdviceOn stop.now) (status_of stop.now) host.old host.new messages.old messages.new result }
 {
     let advice = stop.advice();
     let status = stop.tell(messages, advice);

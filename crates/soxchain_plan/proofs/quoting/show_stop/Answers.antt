@@ -6,5 +6,5 @@ use Rattle.soxchain_plan.proofs.quoting.show_stop.Goals as goal
 pub returns : goal.returns
 returns g c =
     appends_then _ _ _ _ _ _ _ (stop_json-parts c.args.status c.args.message.now c.args.advice.now)
-    (Appends-trans _ _ _ _ _ (Appends-trans _ _ _ _ _ (Appends-trans _ _ _ _ _ c.in_ok-write.ensures.bytes c.in_ok-show_string.ensures) c.in_ok-write-2.ensures.bytes) (rw c.as_bytes.ensures.value at c.in_ok-show_string-2.ensures))
+    (Appends-trans _ _ _ _ _ (Appends-trans _ _ _ _ _ (Appends-trans _ _ _ _ _ c.in_ok-write.ensures.bytes c.in_ok-show_string.ensures) c.in_ok-write-2.ensures.bytes) c.in_ok-show_string-2.ensures)
     c.writeln.ensures.bytes
