@@ -6,14 +6,15 @@ use Rattle.soxchain_c.specs.declared.status.Status.{Status}
 use Rattle.soxchain_c.specs.declared.status.Status.TheVariants as Statuses
 use Rattle.soxchain_c.specs.declared.texts.TextFault.{TextFault}
 use Rattle.soxchain_c.specs.declared.texts.TextFault.TheVariants.{BadEnds, NotText, Memory}
-use Rattle.soxchain_c.specs.Texts.{AreEnds, AreTexts, FindsBadEnd, FindsNoText, cut}
+use Rattle.soxchain_c.specs.Texts.{AreEnds, AreTexts, FindsBadEnd, FindsEnds, FindsNoText, FindsTexts, cut}
 
--- the first fault of these words and files, words before files, lack of memory excepted
+-- the first fault of these words and files, words before files; lack of memory only after a word, or a file, that has no fault
 abbrev pub IsFault : TextFault → List ℕ → List ℕ → List ℕ → List ℕ → Type 0
 IsFault BadEnds words word_ends files file_ends =
     FindsBadEnd words 0 word_ends ⊎ (AreEnds words 0 word_ends × AreTexts (cut words 0 word_ends) × (AreEnds files 0 file_ends → ⊥))
 IsFault NotText words word_ends files file_ends = FindsNoText words 0 word_ends
-IsFault Memory words word_ends files file_ends = Unit {0}
+IsFault Memory words word_ends files file_ends =
+    FindsTexts words 0 word_ends ⊎ (AreEnds words 0 word_ends × AreTexts (cut words 0 word_ends) × FindsEnds files 0 file_ends)
 
 -- The result for a fault: a word that is not UTF-8 and lack of memory are reported as the program reports them.
 abbrev pub FaultAnswers : TextFault → (List ℕ → Type 0) → Type 0 → Status → Type 0

@@ -1,5 +1,5 @@
 -- Words and files that lie in bytes one after the other, each up to its end (packaging/soxchain.h).
-use Rattle.std.specs.Prelude.{◌⊎◌, ℕ, ◌≤◌, List, [], ◌∷◌, length, slice_range}
+use Rattle.std.specs.Prelude.{◌⊎◌, ℕ, ◌≤◌, List, [], ◌∷◌, length, slice_range, take}
 use Rattle.std.specs.Str.{IsUtf8}
 
 -- ends in order from this place on, none after the end of the bytes
@@ -32,3 +32,18 @@ abbrev pub FindsNoText : List ℕ → ℕ → List ℕ → Type 0
 FindsNoText bytes start [] = ⊥
 FindsNoText bytes start (end ∷ ends) =
     IsEnd bytes start end × ((IsUtf8 (slice_range bytes start end) → ⊥) ⊎ (IsUtf8 (slice_range bytes start end) × FindsNoText bytes end ends))
+
+-- of the pieces between this place and the ends, the first have right ends: one piece or more
+pub record FindsEnds (bytes : List ℕ) (start : ℕ) (ends : List ℕ) : Type 0 where
+  pub count : ℕ
+  pub some : 1 ≤ count
+  pub there : count ≤ length ends
+  pub are_ends : AreEnds bytes start (take count ends)
+
+-- of the pieces between this place and the ends, the first have right ends and are texts: one piece or more
+pub record FindsTexts (bytes : List ℕ) (start : ℕ) (ends : List ℕ) : Type 0 where
+  pub count : ℕ
+  pub some : 1 ≤ count
+  pub there : count ≤ length ends
+  pub are_ends : AreEnds bytes start (take count ends)
+  pub are_texts : AreTexts (cut bytes start (take count ends))

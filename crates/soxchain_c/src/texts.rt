@@ -2,7 +2,7 @@
 ghost use Rattle.std.specs.Prelude.{◌≡◌, Err, IfOk, OnOk};
 ghost use Rattle.fx_plan.specs.Line.{texts};
 ghost use Rattle.fx_plan.specs.Plans.{plan_bytes};
-ghost use Rattle.soxchain_c.specs.Texts.{AreEnds, AreTexts, FindsBadEnd, FindsNoText, cut};
+ghost use Rattle.soxchain_c.specs.Texts.{AreEnds, AreTexts, FindsBadEnd, FindsEnds, FindsNoText, FindsTexts, cut};
 
 use std::alloc::Global;
 use std::str;
@@ -23,12 +23,14 @@ pub enum TextFault {
 }
 
 /// The words that lie in bytes one after the other, each up to its end; or the first fault.
+#[tactic(auto, using(crate::proofs::FirstPieces::first_pieces))]
 pub fn read_words(alloc: Global, bytes: &[u8], ends: &[usize]) -> Result<Vec<String>, TextFault>
     ensures words { IfOk result (λ words. texts words.items ≡ cut bytes.now 0 ends.now) }
     ensures ends { OnOk result (AreEnds bytes.now 0 ends.now) }
     ensures texts { OnOk result (AreTexts (cut bytes.now 0 ends.now)) }
     ensures bad_ends { result ≡ Err TextFault.BadEnds → FindsBadEnd bytes.now 0 ends.now }
     ensures not_text { result ≡ Err TextFault.NotText → FindsNoText bytes.now 0 ends.now }
+    ensures memory { result ≡ Err TextFault.Memory → FindsTexts bytes.now 0 ends.now }
 {
     let mut words = Vec::new(alloc);
     let mut start = 0;
@@ -53,11 +55,13 @@ pub fn read_words(alloc: Global, bytes: &[u8], ends: &[usize]) -> Result<Vec<Str
 }
 
 /// The files that lie in bytes one after the other, each up to its end; or the first fault.
+#[tactic(auto, using(crate::proofs::FirstPieces::first_pieces))]
 pub fn read_files(alloc: Global, bytes: &[u8], ends: &[usize]) -> Result<Vec<Vec<u8>>, TextFault>
     ensures files { IfOk result (λ files. plan_bytes files.items ≡ cut bytes.now 0 ends.now) }
     ensures ends { OnOk result (AreEnds bytes.now 0 ends.now) }
     ensures bad_ends { result ≡ Err TextFault.BadEnds → AreEnds bytes.now 0 ends.now → ⊥ }
     ensures text { result ≡ Err TextFault.NotText → ⊥ }
+    ensures memory { result ≡ Err TextFault.Memory → FindsEnds bytes.now 0 ends.now }
 {
     let mut files = Vec::new(alloc);
     let mut start = 0;

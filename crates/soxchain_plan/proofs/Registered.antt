@@ -9,6 +9,7 @@ use Rattle.std.proofs.lemmas.List.FromFn.{length-range_with_len}
 use Rattle.std.specs.Int.{div_ceil}
 use Rattle.fx_frame_base.specs.Frame.{Samples}
 use Rattle.fx_frame_base.specs.Given.{plain}
+use Rattle.fx_frame_base.proofs.Tabulate.{length-tabulate}
 use Rattle.fx_plan_effects.specs.Registry.{Act, OfTrim, OfPad, OfDelay, OfEcho, OfEchos, OfFade, OfVol, OfDcShift, OfFir, OfRemix, OfUpsample, OfDownsample}
 use Rattle.fx_plan_effects.specs.Meanings.{InPlace, meaning_at, recipe_at}
 use Rattle.fx_cut.specs.Trim.{keeps, trimmed}
@@ -20,7 +21,6 @@ use Rattle.fx_cut.specs.Fade.{stop_in, until}
 use Rattle.fx_fixed.specs.Positions.{places_of}
 use Rattle.fx_fixed.specs.Extents.{largest}
 use Rattle.soxchain_plan.proofs.Padded.{padded-length}
-use Rattle.fx_frame_base.proofs.Tabulate.{length-tabulate}
 use Rattle.fx_tap_delays.specs.Delay.{every_delay}
 use Rattle.fx_tap_delays.proofs.MaxDelay.{largest-filled}
 use Rattle.fx_tap_delays.specs.DelayExtents.{tap_delay, sum_of_delays}
