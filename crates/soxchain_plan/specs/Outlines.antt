@@ -29,8 +29,8 @@ late_by (OfFir coefficients) = centre (length coefficients)
 late_by other = 0
 
 -- the name, the hold and the latency that are reported
-abbrev pub delivered : EffectOutline → List ℕ × ℕ × ℕ
-delivered effect = (effect.name.now, effect.hold, effect.late)
+abbrev pub stated : EffectOutline → List ℕ × ℕ × ℕ
+stated effect = (effect.name.now, effect.hold, effect.late)
 
 -- the name, the hold and the latency of an effect
 abbrev pub known : Act → List ℕ × ℕ × ℕ
@@ -109,7 +109,7 @@ pub record IsOutline (plan : Planning) (outline : Outline) : Type 0 where
   pub input_bits : outline.input.bits ≡ 8 * width_of plan.head.coding
   pub input_frames : outline.input.frames ≡ announced_frames plan.head
   pub size : outline.size ≡ size_in plan.head.announced
-  pub effects : map delivered outline.effects.items ≡ map known plan.acts
+  pub effects : map stated outline.effects.items ≡ map known plan.acts
   pub effect_rates : map stated_rate outline.effects.items ≡ rates_along plan.head.rate plan.acts
   pub effect_bytes : map stated_bytes outline.effects.items ≡ bytes_along plan.head.channels plan.acts
   pub effect_frames : (sound : List Samples) → IsAnnounced plan.head sound

@@ -132,7 +132,7 @@ fn limits_of(name: &str) -> &'static str {
 }
 
 /// The effect intended by a word that is none.
-fn effective_name(word: &str) -> &'static str {
+fn suggestion(word: &str) -> &'static str {
     match word {
         "volume" | "amplify" => "say vol and a factor: vol 0.5",
         "cut" | "crop" | "slice" =>
@@ -161,7 +161,7 @@ fn instead_of(name: &str) -> &'static str {
 /// Where the effects are refused; the name is that of the effect, or no text.
 pub fn advice_on_plan(cause: PlanCause, name: &str) -> &'static str {
     match cause {
-        PlanCause::UnknownEffect => effective_name(name),
+        PlanCause::UnknownEffect => suggestion(name),
         PlanCause::NotInProfile => instead_of(name),
         PlanCause::NeedsWholeSound =>
             "it needs the whole sound before it gives a frame: sox IN OUT EFFECT .. holds it",

@@ -10,7 +10,7 @@ ghost use Rattle.fx_chain_flow.specs.Composed.{composed, composed_wholes};
 ghost use Rattle.fx_frame_base.specs.Frame.{Samples};
 ghost use Rattle.fx_chain_stages.specs.Made.{recipes_for};
 ghost use Rattle.fx_plan.specs.Planning.{planning};
-ghost use Rattle.soxchain_plan.specs.Outlines.{IsOutline, announced_frames, bytes_along, held_bytes, known, rates_along, size_in, delivered, stated_bytes, stated_frames, stated_rate, whole_frames};
+ghost use Rattle.soxchain_plan.specs.Outlines.{IsOutline, announced_frames, bytes_along, held_bytes, known, rates_along, size_in, stated, stated_bytes, stated_frames, stated_rate, whole_frames};
 ghost use Rattle.soxchain_plan.specs.Shown.{effect_json, effect_line, effect_lines, effects_json, empty_json, empty_line, frames_json, frames_text, outline_json, outline_text, shown, size_json, size_line, sound_json, sound_line};
 
 use crate::lengths::{bytes_held, in_milliseconds, lateness, rate_after};
@@ -121,7 +121,7 @@ fn outline_of_effect(
     requires usable { Usable (act effect.now) }
     requires held { line_of_act (act effect.now) < 2 ^ 28 }
     requires bound { channels ≤ 16 }
-    ensures delivered { delivered result ≡ known (act effect.now) }
+    ensures stated { stated result ≡ known (act effect.now) }
     ensures rate { result.rate ≡ rate }
     ensures bytes { result.bytes ≡ held_bytes (InPlace channels (act effect.now)) }
     ensures frames { (sound : List Samples) → frames ≡ Some (length sound)
@@ -156,7 +156,7 @@ fn outlines_of(
     requires held { hold_all (map act effects.now) ≤ 2 ^ 28 }
     requires short { is_too_long (map act effects.now) ≡ false }
     requires bound { channels ≤ 16 }
-    ensures delivered { IfOk result (λ it. map delivered it.0.items ≡ map known (map act effects.now)) }
+    ensures stated { IfOk result (λ it. map stated it.0.items ≡ map known (map act effects.now)) }
     ensures rates { IfOk result (λ it. map stated_rate it.0.items ≡ rates_along rate (map act effects.now)) }
     ensures bytes { IfOk result (λ it. map stated_bytes it.0.items ≡ bytes_along channels (map act effects.now)) }
     ensures each { IfOk result (λ it. (sound : List Samples) → frames ≡ Some (length sound) → length sound ≤ 2 ^ 40

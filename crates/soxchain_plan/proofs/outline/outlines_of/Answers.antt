@@ -8,13 +8,13 @@ use Rattle.fx_plan_effects.proofs.Lasting.{within-fewer}
 use Rattle.fx_plan_effects.specs.Bounds.{hold_of_act}
 use Rattle.fx_plan_effects.specs.Effects.{Usable, act, channels_after}
 use Rattle.fx_plan_effects.specs.declared.registry.Effect.{Effect}
-use Rattle.soxchain_plan.specs.Outlines.{bytes_along, known, rate_after, rates_along, delivered, stated_bytes, stated_frames, stated_rate}
+use Rattle.soxchain_plan.specs.Outlines.{bytes_along, known, rate_after, rates_along, stated, stated_bytes, stated_frames, stated_rate}
 use Rattle.soxchain_plan.proofs.Made.{all-more, all-none, appended, begun, by-number, composed-made, counted-more, bound-after, map-more, wholes-made}
 use Rattle.soxchain_plan.proofs.outline.outlines_of.Goals as goal
 
 pub effects-init : goal.effects-init
 effects-init c = let empty = c.new-outlines.ensures.items in record {
-  delivered = rw empty refl;
+  stated = rw empty refl;
   rates = rw empty refl;
   bytes = rw empty refl;
   usable = c.requires.usable;
@@ -48,8 +48,8 @@ effects-preserved c =
     let usable = rw cut at i.usable in
     let held = rw cut at i.held in
     record {
-      delivered = ap (λ l. l ++ map known (map act more)) (map-more delivered c.effects.outlines.items c.push.new.self.items outline.result items)
-          ∙ appended (map delivered c.effects.outlines.items) (map known (map act more)) (map known (map act c.args.effects.now)) (delivered outline.result) (known (act e)) (rw cut at i.delivered) outline.ensures.delivered;
+      stated = ap (λ l. l ++ map known (map act more)) (map-more stated c.effects.outlines.items c.push.new.self.items outline.result items)
+          ∙ appended (map stated c.effects.outlines.items) (map known (map act more)) (map known (map act c.args.effects.now)) (stated outline.result) (known (act e)) (rw cut at i.stated) outline.ensures.stated;
       rates =
           let after = c.rate_after-input_rate.ensures in
           ap (λ n. map stated_rate c.push.new.self.items ++ rates_along n (map act more)) after

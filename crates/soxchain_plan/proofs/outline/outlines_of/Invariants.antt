@@ -3,12 +3,12 @@ use Rattle.std.specs.List.{All}
 use Rattle.fx_plan_effects.specs.Bounds.{hold_of_act}
 use Rattle.fx_plan_effects.specs.Effects.{Usable, act}
 use Rattle.soxchain_plan.proofs.Made.{Counted}
-use Rattle.soxchain_plan.specs.Outlines.{bytes_along, known, rates_along, delivered, stated_bytes, stated_frames, stated_rate}
+use Rattle.soxchain_plan.specs.Outlines.{bytes_along, known, rates_along, stated, stated_bytes, stated_frames, stated_rate}
 use Rattle.soxchain_plan.proofs.outline.outlines_of.Given as goal
 
 abbrev pub invariant-effects : goal.invariant-effects
 invariant-effects l = record {
-  delivered : map delivered l.outlines.items ++ map known (map act (drop l.effect-index l.effects)) ≡ map known (map act l.effects);
+  stated : map stated l.outlines.items ++ map known (map act (drop l.effect-index l.effects)) ≡ map known (map act l.effects);
   rates : map stated_rate l.outlines.items ++ rates_along l.input_rate (map act (drop l.effect-index l.effects)) ≡ rates_along l.fn.rate (map act l.effects);
   bytes : map stated_bytes l.outlines.items ++ bytes_along l.inputs (map act (drop l.effect-index l.effects)) ≡ bytes_along l.fn.channels (map act l.effects);
   usable : All Usable (map act (drop l.effect-index l.effects));
