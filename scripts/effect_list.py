@@ -14,6 +14,7 @@ KEYS = {
     'words': ('reader read faults uses', 'says equal', 'equal_use refuses_name'),
     'stage': ('takes_memory placed sound stored uses', '', 'made form by_samples keeps'),
     'help': ('help_line usage limits instead manual', '', 'title picture'),
+    'tests': ('fed', '', ''),
 }
 # The values that a key may have, where these are few.
 VALUES = {'stage.takes_memory': (True, False), 'stage.stored': ('line', 'pending'), 'stage.form': ('Mapped', 'Selected', 'Tapped'), 'stage.by_samples': (True,), 'words.refuses_name': (True,)}

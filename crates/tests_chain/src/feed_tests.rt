@@ -1,6 +1,7 @@
 //! Chains that are fed pieces of a sound, beside chains that take its frames one by one.
 ghost use Rattle.std.specs.Prelude.{◌≡◌, ◌<◌, ◌≤◌, IfOk};
 
+use crate::effect_rows::EFFECTS;
 use fx_chain::{Chain, Snapshot};
 use fx_chain_flow::flow::{MAX_FRAMES, State};
 use std::alloc::Global;
@@ -41,42 +42,9 @@ const LONG: Portions = Portions {
 /// How many plans of random effects are fed.
 const RANDOM_PLANS: u32 = 50;
 
-/// Effects from one channel to one, of which a random plan has one to four.
-const EFFECTS: &[&str] = &[
-    "trim 5s 20s 33s",
-    "trim 3s -4s",
-    "pad 2s@3s 3s",
-    "delay 7s",
-    "echo 0.8 0.9 1 0.5 2.5 0.25",
-    "echos 0.8 0.9 1 0.5 2.5 0.25",
-    "fade t 9s -0 11s",
-    "vol 1.5",
-    "vol 0.5",
-    "dcshift 0.4",
-    "fir 0.25 0.5 0.25",
-    "remix 1v0.5",
-    "remix 1,1",
-    "remix 1 1 remix 1,2",
-    "upsample 3",
-    "downsample 2",
-];
-
-/// One effect each, then several.
+/// No effect, then several.
 const ROWS: &[&str] = &[
     "",
-    "trim 5s 20s 33s",
-    "trim 3s -4s",
-    "pad 2s@3s 1s@100s 3s",
-    "delay 7s",
-    "echo 0.8 0.9 1 0.5 2.5 0.25",
-    "echos 0.8 0.9 1 0.5 2.5 0.25",
-    "fade t 9s -0 11s",
-    "vol 1.5",
-    "dcshift 0.4",
-    "fir 0.25 0.5 0.25",
-    "remix 1v0.5",
-    "upsample 3",
-    "downsample 4",
     "vol 0.5 dcshift 0.25",
     "vol 1.5 remix 1,1 dcshift 0.25",
     "dcshift 0.25 remix 1v0.75 vol 0.333",
@@ -311,6 +279,9 @@ fn feed_row(
 #[test]
 fn feed_is_steps(rt: HostRuntime) -> Result<(), &'static str> {
     let mut dice = Dice { state: 1 };
+    for effect in EFFECTS {
+        feed_row(rt.alloc(), effect, SHORT, &mut dice)?;
+    }
     for effects in ROWS {
         feed_row(rt.alloc(), effects, SHORT, &mut dice)?;
     }

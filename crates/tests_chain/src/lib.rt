@@ -5,4 +5,6 @@
 #[cfg(test)]
 mod bound_tests;
 #[cfg(test)]
+mod effect_rows;
+#[cfg(test)]
 mod feed_tests;
