@@ -15,6 +15,7 @@ use Rattle.fx_frame_base.proofs.Capacities.{free-grows, free-some}
 use Rattle.fx_chain_flow.specs.Feed.{FlowTookWithinSpace, FedOnly, FlowFed, FlowGave, GaveLast, HoldsBound, Stepped, TookIn, stepped, taken_in, untouched}
 use Rattle.fx_frame_base.specs.Pipeline.{outputs_of}
 use Rattle.fx_chain_flow.specs.Parts.{Parts, any_spent}
+use Rattle.fx_chain_flow.specs.Pipeline.{AllHeld}
 use Rattle.fx_chain_flow.specs.Composed.{Whole, enough_for, frames_of, clips_given}
 use Rattle.fx_chain_flow.specs.Runs.{flow_of}
 use Rattle.fx_chain_flow.specs.Sound.{IsSound, max_frames}
@@ -149,6 +150,10 @@ module _ {S R : Type 0} (acts : Acts S R) where
       let n : length (pieces channels count input) ≡ count = length-pieces channels count input in
       rw n at (alone-fed channels left s s' _ _ h.held sound.joined.0 fed)
   only-fed channels left count number input old new stages stages' sound h = absurd h
+
+  pub only-held : (count number : ℕ) (input old new : List ℤ) (stages stages' : List S) → FedOnly acts input old new count number stages stages' → AllHeld acts stages → AllHeld acts stages'
+  only-held count number input old new (s ∷ []) (s' ∷ []) h all = (Fed-held s s' _ _ h.held h.fed, tt)
+  only-held count number input old new stages stages' h all = absurd h
 
   pub only-last : (channels left count number : ℕ) (input old new : List ℤ) (stages stages' : List S) → IsSound acts (flow_of acts channels stages left) → FedOnly acts input old new count number stages stages' → 1 ≤ number → length old < number * outputs_of channels (kinds acts stages) + outputs_of channels (kinds acts stages)
       → GaveLast acts (flow_of acts channels stages left) (pieces channels count input) (pieces (outputs_of channels (kinds acts stages)) number new) (flow_of acts channels stages' (left + count))

@@ -10,4 +10,6 @@ pub mod PipelineSteps
 pub mod Running
 pub mod PipelineRuns
 pub mod PieceLaws
+pub mod Places
+pub mod Orders
 pub mod OneToOneRuns

@@ -8,7 +8,6 @@ use Rattle.fx_frame_base.specs.Pipeline.{AreReady, EachThrough, PipelineThrough,
 use Rattle.fx_frame_base.specs.Stage.{Acts, Counts, IsDry, is_enough, kind}
 use Rattle.fx_chain_flow.specs.Parts.{AllDetermined}
 use Rattle.fx_chain_flow.specs.Runs.{AllAhead, AllKeep, AllOneToOne}
-use Rattle.fx_chain_flow.specs.Together.{ThroughAt}
 
 module _ {S R : Type 0} (acts : Acts S R) where
   pub AllOneToOne-less : (m n : ℕ) (stages : List S) → m ≤ n → AllOneToOne acts n stages → AllOneToOne acts m stages
@@ -90,12 +89,6 @@ module _ {S R : Type 0} (acts : Acts S R) where
   AllKeep-piece (suc i) channels width keeps xs zs (s ∷ stages) (s' ∷ stages') d came all n = AllKeep-piece i (kind acts s).outputs width keeps came.0 zs stages stages' d came.2 all.1 (omega arith)
   AllKeep-piece (suc i) channels width keeps xs zs [] new d came all n = absurd came
   AllKeep-piece (suc i) channels width keeps xs zs (s ∷ stages) [] d came all n = absurd came
-
-  -- only the stage at the place was passed them
-  pub ThroughAt-set : (i : ℕ) (zs ws : List Samples) (stages : List S) (s' d : S) → i < length stages → EachThrough acts zs ws (get_or stages i d) s' → ThroughAt acts i zs ws stages (set stages i s')
-  ThroughAt-set i zs ws [] s' d n each = absurd (omega arith)
-  ThroughAt-set zero zs ws (s ∷ stages) s' d n each = (each, refl)
-  ThroughAt-set (suc i) zs ws (s ∷ stages) s' d n each = (refl, ThroughAt-set i zs ws stages s' d (omega arith) each)
 
   -- it gave one for each, which came to the next place
   pub PieceTo-next : (i channels width outputs : ℕ) (xs zs ws : List Samples) (old new : List S) (s' d : S) → i < length new → PieceTo i channels xs width zs old new → EachThrough acts zs ws (get_or new i d) s' → outputs ≡ (kind acts (get_or new i d)).outputs → PieceTo (suc i) channels xs outputs ws old (set new i s')

@@ -14,14 +14,14 @@ use Rattle.fx_frame_base.proofs.Puts.{pieces-take}
 use Rattle.fx_frame_base.proofs.Pieces.{length-pieces}
 use Rattle.fx_chain_flow.specs.Feed.{GaveLast, untouched}
 use Rattle.fx_chain_flow.specs.Parts.{AllDetermined, Parts}
-use Rattle.fx_chain_flow.specs.Pipeline.{WentThrough}
+use Rattle.fx_chain_flow.specs.Pipeline.{AllHeld, WentThrough}
 use Rattle.fx_frame_base.specs.Holds.{kinds}
 use Rattle.fx_chain_flow.proofs.Laws.{given_by-due}
 use Rattle.fx_chain_flow.specs.Runs.{AllAhead, GivesOneEach, MayRun, RanOn, flow_of}
 use Rattle.fx_chain_flow.specs.Sound.{IsSound, max_frames}
 use Rattle.fx_chain_flow.proofs.Feeding.{FlowFed-then, FlowGave-none, FlowGave-then, GaveLast-then}
 use Rattle.fx_chain_flow.proofs.HandOvers.{AllDetermined-dry}
-use Rattle.fx_chain_flow.proofs.Pipelines.{AllHeld, AreReady-from}
+use Rattle.fx_chain_flow.proofs.Pipelines.{AreReady-from}
 use Rattle.fx_chain_flow.proofs.PipelineSteps.{Going, passed-pipeline, passed-pipeline-last}
 use Rattle.fx_chain_flow.proofs.Running.{AllAhead-less, AllAhead-unspent, AllAhead-went, AllHeld-went}
 

@@ -8,14 +8,14 @@ use Rattle.fx_chain_flow.specs.Feed.{FlowFed, FlowGave, GaveLast, HoldsBound, St
 use Rattle.fx_frame_base.specs.Pipeline.{outputs_of}
 use Rattle.fx_chain_flow.specs.Parts.{AllDetermined, PipelineFed, HandedOver, IsLastWet, Parts, any_spent, ended_of, moves_of, taken_of}
 use Rattle.fx_chain_flow.specs.Composed.{enough_for}
-use Rattle.fx_chain_flow.specs.Pipeline.{WentThrough}
+use Rattle.fx_chain_flow.specs.Pipeline.{AllHeld, WentThrough}
 use Rattle.fx_chain_flow.specs.Sound.{IsSound, max_frames}
 use Rattle.fx_chain_flow.specs.Steps.{IsHungry, step_of}
 use Rattle.fx_chain_flow.proofs.Feeding.{FlowGave-none, FlowGave-stepped, FlowGave-took}
 use Rattle.fx_chain_flow.specs.Runs.{flow_of}
 use Rattle.fx_chain_flow.proofs.HandOvers.{AllDetermined-dry}
 use Rattle.fx_chain_flow.proofs.Laws.{any_spent-enough}
-use Rattle.fx_chain_flow.proofs.Pipelines.{AllHeld, AllHeld-sum, given-channels}
+use Rattle.fx_chain_flow.proofs.Pipelines.{AllHeld-sum, given-channels}
 use Rattle.fx_chain_flow.proofs.Steps.{IsSound-feed, IsSound-over, Steps-feed, Steps-over, after_feed, after_over, given_out-step_of}
 
 module _ {S R : Type 0} (acts : Acts S R) where

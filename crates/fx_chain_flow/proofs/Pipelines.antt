@@ -9,7 +9,7 @@ use Rattle.fx_frame_base.specs.Frame.{Samples}
 use Rattle.fx_frame_base.specs.Holds.{held_sum, hold_sum, kinds}
 use Rattle.fx_frame_base.specs.Stage.{Acts, Counts, IsLined, kind, spent}
 use Rattle.fx_chain_flow.specs.Parts.{AllDry, Joined, Matching, Within, any_spent}
-use Rattle.fx_chain_flow.specs.Pipeline.{AllLined, WentThrough}
+use Rattle.fx_chain_flow.specs.Pipeline.{AllHeld, AllLined, WentThrough}
 use Rattle.fx_frame_base.specs.Pipeline.{AreReady}
 use Rattle.fx_chain_flow.proofs.Laws.{none_true}
 
@@ -19,11 +19,6 @@ neither true b e = absurd (cc e)
 neither false true e = absurd (cc e)
 
 module _ {S R : Type 0} (acts : Acts S R) where
-  -- each holds no more frames than it may
-  abbrev pub AllHeld : List S → Type 0
-  AllHeld [] = Unit {0}
-  AllHeld (s ∷ stages) = IsHeld acts s × AllHeld stages
-
   -- it came to the stage at a place: each one before took a frame and gave one
   abbrev pub CameTo : ℕ → Samples → Samples → List S → List S → Type 0
   CameTo zero first frame old new = (frame ≡ first) × (new ≡ old)

@@ -1,5 +1,5 @@
 -- Frames that go through stages in a row one after another.
-use Rattle.std.proofs.Common.{ℕ, zero, suc, add-one, ◌+◌, ◌-◌, ◌*◌, ◌/◌, ◌<◌, ◌≤◌, ◌≡◌, Bool, true, false, map, List, [], ◌∷◌, ◌++◌, get_or, length, take, drop, set, refl, sym, ap, ◌∙◌, subst, arith, inl, inr, Option, Some, None, ◌||◌, ◌&&◌, max}
+use Rattle.std.proofs.Common.{ℕ, zero, suc, add-one, ◌+◌, ◌-◌, ◌*◌, ◌/◌, ◌<◌, ◌≤◌, ◌≡◌, Bool, true, false, map, List, [], ◌∷◌, ◌++◌, get_or, length, take, drop, set, refl, sym, ap, ◌∙◌, subst, arith, inl, inr, Option, Some, None, option_to_list, ◌||◌, ◌&&◌, max}
 use Rattle.std.specs.Prelude.{ℤ, FitsSigned, if◌then◌else◌, ◌⊎◌}
 use Rattle.std.specs.Int.{w32}
 use Rattle.std.specs.List.{All}
@@ -13,7 +13,7 @@ use Rattle.fx_frame_base.specs.Lists.{pieces}
 use Rattle.fx_frame_base.specs.Stage.{Acts, Counts, IsDry, StageKind, is_enough, kind, spent}
 use Rattle.fx_frame_base.specs.Pipeline.{AreReady, outputs_of}
 use Rattle.fx_chain_flow.specs.Parts.{AllDry, AllDetermined, any_spent, ended_of, moves_of}
-use Rattle.fx_chain_flow.specs.Pipeline.{WentThrough}
+use Rattle.fx_chain_flow.specs.Pipeline.{AllHeld, WentThrough}
 use Rattle.std.proofs.lemmas.Bool.{cases_lt}
 use Rattle.fx_chain_flow.proofs.Laws.{given_by-due}
 use Rattle.fx_frame_base.proofs.Capacities.{free-grows}
@@ -21,12 +21,16 @@ use Rattle.fx_chain_flow.specs.Composed.{due_of}
 use Rattle.fx_chain_flow.specs.Feed.{FlowTookWithinSpace, GaveLast}
 use Rattle.fx_chain_flow.specs.Parts.{given_by}
 use Rattle.fx_chain_flow.specs.Runs.{GivesOneEach, AllAhead, AllKeep, MayRun, MayRunPipeline, RanOn, flow_of}
+use Rattle.fx_chain_flow.specs.StageCall.{StageCall}
+use Rattle.fx_chain_flow.specs.Order.{InOrder}
 use Rattle.fx_chain_flow.specs.Sound.{IsSound, max_frames}
 use Rattle.fx_chain_flow.specs.declared.runs.Widths.{Widths}
 use Rattle.fx_chain_flow.proofs.Feeding.{outs, Turned, Turned-kept, Turned-last, Turned-none, Turned-through}
 use Rattle.fx_frame_base.proofs.Pieces.{length-pieces}
+use Rattle.fx_frame_base.proofs.Puts.{pieces-more, pieces-put}
+use Rattle.fx_chain_flow.proofs.Orders.{InOrder-then}
 use Rattle.fx_chain_flow.proofs.HandOvers.{AllDetermined-dry}
-use Rattle.fx_chain_flow.proofs.Pipelines.{AllHeld, AreReady-from, CameTo, neither}
+use Rattle.fx_chain_flow.proofs.Pipelines.{AreReady-from, CameTo, neither}
 use Rattle.fx_chain_flow.proofs.PipelineSteps.{passed-pipeline, passed-pipeline-last}
 
 -- what comes out has as many channels as what goes in
@@ -343,3 +347,36 @@ module _ {S R : Type 0} (acts : Acts S R) where
           let went' = rw wrote.0 at went-now in
           rw (wrote.1, wrote.2, ← next-frame taken channels)
           (Running-kept stages stages' out (taken * channels) (given * outputs) taken given x run bound more determined shape width x-is frame.0 (omega (arith, within, reach)) went')
+
+      -- and the calls were made in order
+      pub Order-frame : (handed : List S → StageCall → List S → Type 0) (start-left : ℕ) → Wrote outputs b (take outputs places') out out' given given'
+          → InOrder acts handed (flow_of acts channels first start-left) (pieces channels taken input) (pieces outputs given out) [] 0 (flow_of acts channels stages (start-left + taken))
+          → InOrder acts handed (flow_of acts channels stages (start-left + taken)) (take channels (x ++ drop channels places) ∷ []) (option_to_list (if b then Some (take (outputs_of channels (kinds acts stages)) places') else None)) [] 0 (flow_of acts channels stages' (start-left + taken + 1))
+          → InOrder acts handed (flow_of acts channels first start-left) (pieces channels (taken + 1) input) (pieces outputs given' out') [] 0 (flow_of acts channels stages' (start-left + (taken + 1)))
+      Order-frame handed start-left wrote before here = from wrote
+        where
+          front : take channels (x ++ drop channels places) ≡ x
+          front = take_at x (drop channels places) channels width
+
+          e : start-left + (taken + 1) ≡ start-left + taken + 1
+          e = omega arith
+
+          longer : pieces channels (taken + 1) input ≡ pieces channels taken input ++ x ∷ []
+          longer = pieces-more channels taken (taken * channels) input refl ∙ ap (λ y. pieces channels taken input ++ y ∷ []) (sym x-is)
+
+          now : InOrder acts handed (flow_of acts channels stages (start-left + taken)) (x ∷ []) (option_to_list (if b then Some (take outputs places') else None)) [] 0 (flow_of acts channels stages' (start-left + taken + 1))
+          now = rw (front, outs-now) at here
+
+          from : Wrote outputs b (take outputs places') out out' given given' → InOrder acts handed (flow_of acts channels first start-left) (pieces channels (taken + 1) input) (pieces outputs given' out') [] 0 (flow_of acts channels stages' (start-left + (taken + 1)))
+          from (inl wrote) =
+              let wide' = rw outs-now at (wide wrote.0) in
+              let long : length (take outputs places') ≡ outputs = length-take-le outputs places' (omega (arith, sixteen, wide'.1)) in
+              let turns : (given + 1) * outputs ≤ count * outputs = mul-le-mul_right outputs (omega (arith, more, run.fewer)) in
+              let free : given * outputs + outputs ≤ length out = omega (arith, next-frame given outputs, turns, fits_out) in
+              let n : given * outputs + outputs - given * outputs ≡ outputs = omega arith in
+              let put = put-mid (given * outputs) outputs out (take outputs places') out' (rw n at wrote.1) in
+              let put' : out' ≡ take (given * outputs) out ++ take outputs places' ++ drop (given * outputs + length (take outputs places')) out = put ∙ ap (λ k. take (given * outputs) out ++ take outputs places' ++ drop (given * outputs + k) out) (sym long) in
+              let next : pieces outputs (given + 1) out' ≡ pieces outputs given out ++ take outputs places' ∷ [] = pieces-put outputs given (given * outputs) out (take outputs places') out' refl long free put' in
+              rw (longer, wrote.2, next, e) (InOrder-then acts handed (flow_of acts channels first start-left) (flow_of acts channels stages (start-left + taken)) (flow_of acts channels stages' (start-left + taken + 1)) (pieces channels taken input) (pieces outputs given out) (x ∷ []) (take outputs places' ∷ []) [] 0 before (rw wrote.0 at now))
+          from (inr wrote) =
+              rw (longer, wrote.1, wrote.2, e) (rw append-nil at (InOrder-then acts handed (flow_of acts channels first start-left) (flow_of acts channels stages (start-left + taken)) (flow_of acts channels stages' (start-left + taken + 1)) (pieces channels taken input) (pieces outputs given out) (x ∷ []) [] [] 0 before (rw wrote.0 at now)))

@@ -3,10 +3,11 @@ pub mod Feed
 pub mod Frozen
 pub mod Inlets
 pub mod Moving
+pub mod Order
 pub mod Parts
 pub mod Pipeline
 pub mod Runs
 pub mod Sound
+pub mod StageCall
 pub mod Steps
 pub mod Thawing
-pub mod Together

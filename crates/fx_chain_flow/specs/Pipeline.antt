@@ -1,6 +1,6 @@
 -- A frame that goes through stages in sequence, one after another (this project's profile).
 use Rattle.std.specs.Prelude.{◌≡◌, ◌⊎◌, List, [], ◌∷◌, Option, Some, None}
-use Rattle.fx_frame_base.specs.Feed.{GaveNext, TookNext}
+use Rattle.fx_frame_base.specs.Feed.{GaveNext, IsHeld, TookNext}
 use Rattle.fx_frame_base.specs.Frame.{Samples}
 use Rattle.fx_frame_base.specs.Stage.{Acts, IsLined}
 
@@ -9,6 +9,11 @@ module _ {S R : Type 0} (acts : Acts S R) where
   abbrev pub AllLined : List S → Type 0
   AllLined [] = Unit {0}
   AllLined (s ∷ stages) = IsLined acts s × AllLined stages
+
+  -- each holds no more frames than it may
+  abbrev pub AllHeld : List S → Type 0
+  AllHeld [] = Unit {0}
+  AllHeld (s ∷ stages) = IsHeld acts s × AllHeld stages
 
   -- it went through all of them, or one took it and gave none
   abbrev pub WentThrough : Samples → Option Samples → List S → List S → Type 0

@@ -1,7 +1,8 @@
 //! Frames passed to a flow many at a time.
-ghost use Rattle.std.specs.Prelude.{◌≡◌, ◌<◌, ◌≤◌, ◌+◌, ◌*◌, ℕ, false, drop, length};
+ghost use Rattle.std.specs.Prelude.{◌≡◌, ◌<◌, ◌≤◌, ◌+◌, ◌*◌, ℕ, [], false, drop, length};
 ghost use Rattle.fx_chain_flow.specs.Feed.{FlowFed, FlowGave, FlowTookWithinSpace, GaveLast};
 ghost use Rattle.fx_frame_base.specs.Pipeline.{outputs_of};
+ghost use Rattle.fx_chain_flow.specs.Order.{InOrder};
 ghost use Rattle.fx_chain_flow.specs.Parts.{any_spent, taken_of};
 ghost use Rattle.fx_chain_flow.specs.Sound.{max_frames};
 ghost use Rattle.fx_chain_flow.specs.Steps.{StateIs};
@@ -9,11 +10,12 @@ ghost use Rattle.fx_frame_base.specs.Holds.{kinds};
 ghost use Rattle.fx_frame_base.specs.Lists.{pieces};
 
 use crate::flow::{Flow, State, Step};
+use crate::stage_calls::StageCalls;
+use fx_frame_base::Passed;
 use fx_frame_base::feed::put_frame;
-use fx_frame_base::{Feeds, Passed};
 
 /// What `feed` does, for any flow, one frame at a time.
-pub fn feed_by_steps<S: Feeds>(flow: &mut Flow<S>, input: &[i32], output: &mut [i32]) -> Passed
+pub fn feed_by_steps<S: StageCalls>(flow: &mut Flow<S>, input: &[i32], output: &mut [i32]) -> Passed
     requires channels { (1 ≤ flow.old.channels) × (flow.old.channels ≤ 16) }
     requires bound { (n : ℕ) → n * flow.old.channels ≤ length input.now → taken_of flow.old + n ≤ max_frames }
     ensures fed { FlowFed S.acts flow.old (pieces flow.old.channels result.taken input.now) (pieces (outputs_of flow.old.channels (kinds S.acts flow.old.stages)) result.given output.new) flow.new }
@@ -28,6 +30,7 @@ pub fn feed_by_steps<S: Feeds>(flow: &mut Flow<S>, input: &[i32], output: &mut [
     ensures unchanged { length output.old < outputs_of flow.old.channels (kinds S.acts flow.old.stages) → flow.new ≡ flow.old }
     ensures full { let outputs = outputs_of flow.old.channels (kinds S.acts flow.old.stages) in 1 ≤ result.given → length output.old < result.given * outputs + outputs
         → GaveLast S.acts flow.old (pieces flow.old.channels result.taken input.now) (pieces outputs result.given output.new) flow.new }
+    ensures order { InOrder S.acts S.handed flow.old (pieces flow.old.channels result.taken input.now) (pieces (outputs_of flow.old.channels (kinds S.acts flow.old.stages)) result.given output.new) [] 0 flow.new }
 {
     let widths = flow.widths();
     let mut read = 0;

@@ -1,4 +1,4 @@
-ghost use Rattle.std.specs.Prelude.{◌≡◌, ◌<◌, ◌≤◌, ◌+◌, ◌-◌, ℕ, true, false, List, [], length, map, slice_index, option_to_list, Option, Some, None, IfOk, OnOk, MatchResult, Err, ◌*◌, drop};
+ghost use Rattle.std.specs.Prelude.{◌≡◌, ◌<◌, ◌≤◌, ◌+◌, ◌-◌, ◌++◌, ◌∷◌, ℕ, true, false, List, [], length, map, slice_index, option_to_list, Option, Some, None, IfOk, OnOk, MatchResult, Err, ◌*◌, drop};
 ghost use Rattle.std.specs.List.{All};
 ghost use Rattle.fx_chain_flow.specs.Frozen.{FreezesFlow, AllMade, AllSound};
 ghost use Rattle.fx_frame_base.specs.Frame.{Samples};
@@ -6,24 +6,26 @@ ghost use Rattle.fx_frame_base.specs.Holds.{recipes, kinds, hold_sum, line_sum, 
 ghost use Rattle.fx_chain_flow.specs.Feed.{FlowFed, FlowGave, FlowTookWithinSpace, GaveLast};
 ghost use Rattle.fx_frame_base.specs.Pipeline.{outputs_of};
 ghost use Rattle.fx_frame_base.specs.Lists.{pieces};
-ghost use Rattle.fx_chain_flow.specs.Steps.{step_of};
+ghost use Rattle.fx_chain_flow.specs.Order.{InOrder};
+ghost use Rattle.fx_chain_flow.specs.Steps.{given_out, step_of};
 
 use crate::feed::feed_by_steps;
 use crate::frozen::{
     HELD, Inlet, append_frames, append_inlet, append_numbers, is_joined, thaw_all, thaw_inlet,
 };
 use crate::moves::{
-    feed_only, first_open, given_by_all, given_by_last, is_any_spent, is_idle, last_channels,
-    move_on, pass_on, see_lined, wet_end,
+    first_open, given_by_all, given_by_last, is_any_spent, is_idle, last_channels, move_on,
+    pass_on, see_held, see_lined, wet_end,
 };
 use crate::runs::{Widths, keeps_channels, min_ahead, run};
+use crate::stage_calls::StageCalls;
+use fx_frame_base::Passed;
 use fx_frame_base::feed::copy_frames;
 use fx_frame_base::frame::Frame;
 use fx_frame_base::holds::{held_by, hold_by};
 pub use fx_frame_base::stage::MAX_FRAMES;
 use fx_frame_base::stage::{Stage, ThawFault, Thaws};
 use fx_frame_base::wide::WideFrame;
-use fx_frame_base::{Feeds, Passed};
 use std::alloc::{AllocError, Global};
 use std::marker::Model;
 
@@ -67,15 +69,16 @@ pub struct Flow<S: Stage> {
 }
 
 impl<S: Stage> Model for Flow<S> {
-    ghost use Rattle.std.specs.Prelude.{◌≡◌};
+    ghost use Rattle.std.specs.Prelude.{◌≡◌, drop};
     ghost use Rattle.fx_chain_flow.specs.Parts.{Parts, IsWetEnd};
+    ghost use Rattle.fx_chain_flow.specs.Pipeline.{AllHeld, AllLined};
     ghost use Rattle.fx_chain_flow.specs.Sound.{IsSound};
 
     ghost Value = { Parts S };
 
     ghost view = { λ f. record { stages = f.stages.items; inlet = f.inlet; ended = f.ended; left = f.left; channels = f.channels } };
 
-    ghost invariant = { λ f. IsSound S.acts (record { stages = f.stages.items; inlet = f.inlet; ended = f.ended; left = f.left; channels = f.channels }) × IsWetEnd S.acts f.wet f.stages.items };
+    ghost invariant = { λ f. IsSound S.acts (record { stages = f.stages.items; inlet = f.inlet; ended = f.ended; left = f.left; channels = f.channels }) × IsWetEnd S.acts f.wet f.stages.items × AllHeld S.acts f.stages.items × AllLined S.acts (drop f.wet f.stages.items) };
 }
 
 impl<S: Stage> Flow<S> {
@@ -128,47 +131,6 @@ impl<S: Stage> Flow<S> {
             return State::Busy;
         }
         State::Done
-    }
-
-    /// Takes a frame.
-    #[inline(always)]
-    pub fn take(&mut self, frame: Frame)
-        requires hungry { IsHungry S.acts self.old }
-        requires channels { length frame ≡ self.old.channels }
-        requires bound { taken_of self.old < max_frames }
-        ensures { self.new ≡ record self.old { inlet = Some frame } }
-    {
-        let _channels = frame.channels();
-        self.inlet = Some(frame);
-    }
-
-    /// Gives it the end: no frame will come.
-    pub fn end(&mut self)
-        requires { IsHungry S.acts self.old }
-        ensures { self.new ≡ record self.old { ended = true } }
-    {
-        self.ended = true;
-    }
-
-    /// Moves one frame from the last stage that is not dry; where all are dry, from the inlet; where
-    /// that is empty too and the end was given, gives the end to the first stage that is not ended.
-    #[inline(always)]
-    pub fn step(&mut self) -> Step
-        requires { StateIs S.acts State.Busy self.old }
-        ensures steps { Steps S.acts self.old result self.new }
-        ensures moved { MovedOn S.acts self.old result self.new }
-        ensures sequence { (first : Parts S) (n : ℕ) → StepsInSequence S.acts first n self.old → StepsInSequence S.acts first (n + 1) self.new }
-    {
-        if is_idle(self.wet, &self.inlet) {
-            self.wet = pass_on(&mut self.stages);
-            return Step::Idle;
-        }
-        let place = self.wet;
-        let out = move_on(&mut self.stages, &mut self.inlet, place);
-        self.left += u64::from(place == 0);
-        let count = self.stages.len();
-        self.wet = wet_end(&self.stages, count.min(place + 1));
-        made(out)
     }
 
     /// The channels of the frames that it takes.
@@ -295,8 +257,58 @@ impl<S: Stage> Flow<S> {
     }
 }
 
-impl<S: Feeds> Flow<S> {
-    ghost use Rattle.fx_chain_flow.specs.Parts.{any_spent, taken_of};
+impl<S: StageCalls> Flow<S> {
+    ghost use Rattle.fx_chain_flow.specs.Parts.{Parts, taken_of};
+    ghost use Rattle.fx_chain_flow.specs.Sound.{max_frames};
+    ghost use Rattle.fx_chain_flow.specs.Steps.{IsHungry, MovedOn, StateIs, Steps, StepsInSequence};
+
+    /// Takes a frame.
+    #[inline(always)]
+    pub fn take(&mut self, frame: Frame)
+        requires hungry { IsHungry S.acts self.old }
+        requires channels { length frame ≡ self.old.channels }
+        requires bound { taken_of self.old < max_frames }
+        ensures value { self.new ≡ record self.old { inlet = Some frame } }
+        ensures order { (first : Parts S) (xs gs : List Samples) → InOrder S.acts S.handed first xs gs [] 0 self.old → InOrder S.acts S.handed first (xs ++ frame ∷ []) gs [] 0 self.new }
+    {
+        let _channels = frame.channels();
+        self.inlet = Some(frame);
+    }
+
+    /// Gives it the end: no frame will come.
+    pub fn end(&mut self)
+        requires { IsHungry S.acts self.old }
+        ensures value { self.new ≡ record self.old { ended = true } }
+        ensures order { (first : Parts S) (xs gs : List Samples) → InOrder S.acts S.handed first xs gs [] 0 self.old → InOrder S.acts S.handed first xs gs [] 0 self.new }
+    {
+        self.ended = true;
+    }
+
+    /// Moves one frame from the last stage that is not dry; where all are dry, from the inlet; where
+    /// that is empty too and the end was given, gives the end to the first stage that is not ended.
+    #[inline(always)]
+    pub fn step(&mut self) -> Step
+        requires { StateIs S.acts State.Busy self.old }
+        ensures steps { Steps S.acts self.old result self.new }
+        ensures moved { MovedOn S.acts self.old result self.new }
+        ensures sequence { (first : Parts S) (n : ℕ) → StepsInSequence S.acts first n self.old → StepsInSequence S.acts first (n + 1) self.new }
+        ensures order { (first : Parts S) (xs gs : List Samples) → InOrder S.acts S.handed first xs gs [] 0 self.old → InOrder S.acts S.handed first xs (gs ++ given_out result) [] 0 self.new }
+    {
+        if is_idle(self.wet, &self.inlet) {
+            self.wet = pass_on(&mut self.stages);
+            return Step::Idle;
+        }
+        let place = self.wet;
+        let out = move_on(&mut self.stages, &mut self.inlet, place);
+        self.left += u64::from(place == 0);
+        let count = self.stages.len();
+        self.wet = wet_end(&self.stages, count.min(place + 1));
+        made(out)
+    }
+}
+
+impl<S: StageCalls> Flow<S> {
+    ghost use Rattle.fx_chain_flow.specs.Parts.{Parts, any_spent, taken_of};
     ghost use Rattle.fx_chain_flow.specs.Sound.{max_frames};
     ghost use Rattle.fx_chain_flow.specs.Steps.{StateIs};
 
@@ -305,6 +317,9 @@ impl<S: Feeds> Flow<S> {
     /// done, or it is hungry and takes none. A frame is taken only while the output has space for one more than was due before
     /// it; where the output has no space for one frame, nothing changes, and once it has none, the call ends: the
     /// last step is the one that gave the last frame.
+    ///
+    /// It hands frames over by the calls of `StageCalls` alone. Between two of these, the frames that it holds and those in
+    /// transit to a stage are no more than its hold.
     pub fn feed(&mut self, input: &[i32], output: &mut [i32]) -> Passed
         requires channels { (1 ≤ self.old.channels) × (self.old.channels ≤ 16) }
         requires bound { (n : ℕ) → n * self.old.channels ≤ length input.now → taken_of self.old + n ≤ max_frames }
@@ -320,6 +335,8 @@ impl<S: Feeds> Flow<S> {
         ensures unchanged { length output.old < outputs_of self.old.channels (kinds S.acts self.old.stages) → self.new ≡ self.old }
         ensures full { let outputs = outputs_of self.old.channels (kinds S.acts self.old.stages) in 1 ≤ result.given → length output.old < result.given * outputs + outputs
             → GaveLast S.acts self.old (pieces self.old.channels result.taken input.now) (pieces outputs result.given output.new) self.new }
+        ensures order { (first : Parts S) (xs gs : List Samples) → InOrder S.acts S.handed first xs gs [] 0 self.old
+            → InOrder S.acts S.handed first (xs ++ pieces self.old.channels result.taken input.now) (gs ++ pieces (outputs_of self.old.channels (kinds S.acts self.old.stages)) result.given output.new) [] 0 self.new }
     {
         if self.inlet.is_some() || self.ended {
             return feed_by_steps(self, input, output);
@@ -336,7 +353,7 @@ impl<S: Feeds> Flow<S> {
         if stages > 1 {
             return feed_by_steps(self, input, output);
         }
-        let passed = feed_only(&mut self.stages, input, output);
+        let passed = S::feed_only(&mut self.stages, input, output);
         self.left += passed.taken as u64;
         let count = self.stages.len();
         self.wet = wet_end(&self.stages, count);
@@ -344,7 +361,7 @@ impl<S: Feeds> Flow<S> {
     }
 }
 
-impl<S: Feeds> Flow<S> {
+impl<S: StageCalls> Flow<S> {
     ghost use Rattle.fx_chain_flow.specs.Parts.{any_spent, ended_of, moves_of, taken_of};
     ghost use Rattle.fx_chain_flow.specs.Runs.{AllKeep};
     ghost use Rattle.fx_chain_flow.specs.Sound.{max_frames};
@@ -386,6 +403,7 @@ impl<S: Feeds> Flow<S> {
         ensures free { FlowTookWithinSpace S.acts self.old result.taken (length output.old) }
         ensures full { let outputs = outputs_of self.old.channels (kinds S.acts self.old.stages) in 1 ≤ result.given → length output.old < result.given * outputs + outputs
             → GaveLast S.acts self.old (pieces self.old.channels result.taken input.now) (pieces outputs result.given output.new) self.new }
+        ensures order { InOrder S.acts S.handed self.old (pieces self.old.channels result.taken input.now) (pieces (outputs_of self.old.channels (kinds S.acts self.old.stages)) result.given output.new) [] 0 self.new }
     {
         let maximum = (input.len() / widths.inputs).min(output.len() / widths.outputs.max(1));
         let count = min_ahead(&self.stages, maximum).max(1);
@@ -432,6 +450,7 @@ impl<S: Thaws + Drop> Flow<S> {
         if !is_joined(&stages, left, ended) {
             return Err(ThawFault::BadSnapshot);
         }
+        see_held(&stages);
         let wet = wet_end(&stages, stages.len());
         Ok(Flow {
             stages,

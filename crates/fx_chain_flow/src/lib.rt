@@ -7,3 +7,4 @@ mod frozen;
 mod moves;
 mod one_to_one;
 mod runs;
+pub mod stage_calls;

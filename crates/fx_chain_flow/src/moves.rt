@@ -1,22 +1,24 @@
-ghost use Rattle.std.specs.Prelude.{◌≡◌, ◌<◌, ◌≤◌, ◌↔◌, ◌^◌, ℕ, true, Some, None, drop, length, MatchOption, List};
+ghost use Rattle.std.specs.Prelude.{◌≡◌, ◌<◌, ◌≤◌, ◌+◌, ◌↔◌, ◌^◌, ℕ, [], ◌∷◌, true, Some, None, cond, drop, length, nat_eq, option_to_list, MatchOption, List};
 ghost use Rattle.fx_frame_base.specs.Frame.{Samples};
-ghost use Rattle.fx_chain_flow.specs.Parts.{AllDetermined, AllEnded, IsWetEnd, IsFirstOpen, EndPassed, any_spent, given_by, given_of, through};
-ghost use Rattle.fx_chain_flow.specs.Feed.{CanFeedOnly, FedOnly};
+ghost use Rattle.fx_chain_flow.specs.Order.{InOrder};
+ghost use Rattle.fx_chain_flow.specs.Parts.{Parts, AllDetermined, AllEnded, IsWetEnd, IsFirstOpen, EndPassed, any_spent, given_by, given_of, through};
 ghost use Rattle.fx_frame_base.specs.Pipeline.{outputs_of};
 ghost use Rattle.fx_chain_flow.specs.Moving.{CanMove, Lifted, MovedFrom};
-ghost use Rattle.fx_chain_flow.specs.Pipeline.{AllLined};
+ghost use Rattle.fx_chain_flow.specs.Pipeline.{AllHeld, AllLined};
 ghost use Rattle.fx_frame_base.specs.Holds.{kinds};
 
+use crate::stage_calls::StageCalls;
 use fx_frame_base::frame::Frame;
 use fx_frame_base::stage::Stage;
-use fx_frame_base::{Feeds, Passed};
 
 /// One place after the last stage that is not dry, or 0 where all are dry. From that place on all are dry.
 #[inline(always)]
 pub fn wet_end<S: Stage>(stages: &[S], from: usize) -> usize
     requires within { from ≤ length stages.now }
     requires dry { AllDetermined S.acts (drop from stages.now) }
-    ensures { IsWetEnd S.acts result stages.now }
+    requires lined { AllLined S.acts (drop from stages.now) }
+    ensures wet { IsWetEnd S.acts result stages.now }
+    ensures lined { AllLined S.acts (drop result stages.now) }
 {
     'stages: for place in (0..from).rev() {
         let dry = stages[place].is_dry();
@@ -29,9 +31,15 @@ pub fn wet_end<S: Stage>(stages: &[S], from: usize) -> usize
 
 /// Takes a frame out of the stage before a place, or out of the inlet before all.
 #[inline(always)]
-fn lift<S: Stage>(stages: &mut [S], inlet: &mut Option<Frame>, place: usize) -> Frame
-    requires { CanMove S.acts place inlet.old stages.old }
-    ensures { Lifted S.acts place inlet.old inlet.new result stages.old stages.new }
+fn lift<S: StageCalls>(stages: &mut [S], inlet: &mut Option<Frame>, place: usize) -> Frame
+    requires may { CanMove S.acts place inlet.old stages.old }
+    requires held { AllHeld S.acts stages.old }
+    requires lined { AllLined S.acts (drop place stages.old) }
+    ensures lifted { Lifted S.acts place inlet.old inlet.new result stages.old stages.new }
+    ensures held { AllHeld S.acts stages.new }
+    ensures lined { AllLined S.acts (drop place stages.new) }
+    ensures order { (f : Parts S) → InOrder S.acts S.handed (record f { stages = stages.old; inlet = inlet.old }) [] [] (result ∷ []) place
+        (record f { stages = stages.new; inlet = inlet.new; left = f.left + cond (nat_eq place 0) 1 0 }) }
 {
     if place == 0 {
         let Some(frame) = inlet.take() else {
@@ -39,29 +47,32 @@ fn lift<S: Stage>(stages: &mut [S], inlet: &mut Option<Frame>, place: usize) -> 
         };
         return frame;
     }
-    let count = stages.len();
-    let before = place - 1;
-    prove!(before < count);
-    let Some(frame) = stages[before].give() else {
-        unreachable!()
-    };
-    frame
+    S::give_at(stages, place - 1)
 }
 
 /// Moves a frame from the stage before a place, or from the inlet before all, to the stage at the
 /// place, or out where there is none.
 #[inline(always)]
-pub fn move_on<S: Stage>(stages: &mut [S], inlet: &mut Option<Frame>, place: usize) -> Option<Frame>
-    requires { CanMove S.acts place inlet.old stages.old }
-    ensures { MovedFrom S.acts place inlet.old inlet.new result stages.old stages.new }
+pub fn move_on<S: StageCalls>(
+    stages: &mut [S],
+    inlet: &mut Option<Frame>,
+    place: usize,
+) -> Option<Frame>
+    requires may { CanMove S.acts place inlet.old stages.old }
+    requires held { AllHeld S.acts stages.old }
+    requires lined { AllLined S.acts (drop place stages.old) }
+    ensures moved { MovedFrom S.acts place inlet.old inlet.new result stages.old stages.new }
+    ensures held { AllHeld S.acts stages.new }
+    ensures lined { AllLined S.acts (drop (place + 1) stages.new) }
+    ensures order { (f : Parts S) → InOrder S.acts S.handed (record f { stages = stages.old; inlet = inlet.old }) [] (option_to_list result) [] 0
+        (record f { stages = stages.new; inlet = inlet.new; left = f.left + cond (nat_eq place 0) 1 0 }) }
 {
     let frame = lift(stages, inlet, place);
     let count = stages.len();
     if place == count {
         return Some(frame);
     }
-    prove!(place < count);
-    stages[place].take(frame);
+    S::take_at(stages, place, frame);
     None
 }
 
@@ -78,31 +89,24 @@ pub fn first_open<S: Stage>(stages: &[S]) -> Option<usize>
     None
 }
 
-/// Gives a stage the end.
-fn pass_end<S: Stage>(stages: &mut [S], i: usize)
-    requires dry { AllDetermined S.acts stages.old }
-    requires first { IsFirstOpen S.acts i stages.old }
-    ensures { EndPassed S.acts i stages.old stages.new }
-{
-    let count = stages.len();
-    prove!(i < count);
-    stages[i].end();
-}
-
 /// Gives the end to the first stage that is not ended. One place after the last stage that is not dry then,
 /// or 0 where all are dry.
 #[cold]
 #[inline(never)]
-pub fn pass_on<S: Stage>(stages: &mut [S]) -> usize
+pub fn pass_on<S: StageCalls>(stages: &mut [S]) -> usize
     requires dry { AllDetermined S.acts stages.old }
     requires open { AllEnded S.acts stages.old → ⊥ }
+    requires held { AllHeld S.acts stages.old }
     ensures passed { (i : ℕ) × IsFirstOpen S.acts i stages.old × EndPassed S.acts i stages.old stages.new }
     ensures wet { IsWetEnd S.acts result stages.new }
+    ensures held { AllHeld S.acts stages.new }
+    ensures lined { AllLined S.acts (drop result stages.new) }
+    ensures order { (f : Parts S) → InOrder S.acts S.handed (record f { stages = stages.old }) [] [] [] 0 (record f { stages = stages.new }) }
 {
     let Some(place) = first_open(stages) else {
         unreachable!()
     };
-    pass_end(stages, place);
+    S::end_at(stages, place);
     let count = stages.len();
     wet_end(stages, count)
 }
@@ -167,18 +171,6 @@ pub fn last_channels<S: Stage>(channels: usize, stages: &[S]) -> usize
     last
 }
 
-/// Feeds the only stage.
-#[inline(always)]
-pub fn feed_only<S: Feeds>(stages: &mut [S], input: &[i32], output: &mut [i32]) -> Passed
-    requires { CanFeedOnly S.acts input.now stages.old }
-    ensures { FedOnly S.acts input.now output.old output.new result.taken result.given stages.old stages.new }
-{
-    let count = stages.len();
-    prove!(0 < count);
-    let _held = stages[0].held();
-    stages[0].feed(input, output)
-}
-
 /// Shows that dry stages hold only the frames of their lines.
 pub fn see_lined<S: Stage>(stages: &[S])
     requires { AllDetermined S.acts stages.now }
@@ -186,5 +178,14 @@ pub fn see_lined<S: Stage>(stages: &[S])
 {
     'stages: for place in (0..stages.len()).rev() {
         let _dry = stages[place].is_dry();
+    }
+}
+
+/// Shows that stages hold no more than they may.
+pub fn see_held<S: Stage>(stages: &[S])
+    ensures { AllHeld S.acts stages.now }
+{
+    'stages: for place in (0..stages.len()).rev() {
+        let _held = stages[place].held();
     }
 }

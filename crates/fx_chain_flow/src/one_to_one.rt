@@ -1,13 +1,14 @@
 //! Frames that go through stages a few at a time, as long as each stage gives one frame for each that it takes.
-ghost use Rattle.std.specs.Prelude.{◌≡◌, ◌+◌, ◌*◌, ◌≤◌, ℕ, drop, length};
+ghost use Rattle.std.specs.Prelude.{◌≡◌, ◌+◌, ◌*◌, ◌≤◌, ℕ, [], drop, length};
 ghost use Rattle.fx_frame_base.specs.Holds.{held_sum, hold_sum, kinds};
 ghost use Rattle.fx_frame_base.specs.Lists.{pieces};
 ghost use Rattle.fx_frame_base.specs.Pipeline.{AreReady, PipelineThrough};
+ghost use Rattle.fx_chain_flow.specs.Order.{InOrder};
 ghost use Rattle.fx_chain_flow.specs.Parts.{AllDetermined};
 ghost use Rattle.fx_chain_flow.specs.Pipeline.{AllLined};
-ghost use Rattle.fx_chain_flow.specs.Runs.{AllAhead, AllKeep, AllOneToOne, MayRun, RanOn};
-ghost use Rattle.fx_chain_flow.specs.Together.{CameTogether, WentInGroups};
+ghost use Rattle.fx_chain_flow.specs.Runs.{AllAhead, AllKeep, AllOneToOne, MayRun, RanOn, flow_of};
 
+use crate::stage_calls::StageCalls;
 use fx_frame_base::Feeds;
 use fx_frame_base::feed::see_samples;
 
@@ -27,7 +28,7 @@ pub fn min_one_to_one<S: Feeds>(stages: &[S], maximum: usize) -> usize
 /// Passes `count` frames through stages that are dry and give one for each, and writes those that come out. All of them go
 /// through a stage before the first goes through the next: with the frames of the lines they are no more than the stages and
 /// the inlet may hold, before the first stage, between any two, and after the last.
-fn pass_batch<S: Feeds>(
+fn pass_batch<S: StageCalls>(
     stages: &mut [S],
     channels: usize,
     count: usize,
@@ -47,11 +48,11 @@ fn pass_batch<S: Feeds>(
     ensures through { PipelineThrough S.acts (pieces channels count input.now) (pieces channels count output.new) stages.old stages.new }
     ensures lined { AllLined S.acts stages.new }
     ensures within { held_sum S.acts stages.new + count ≤ 1 + hold_sum (kinds S.acts stages.new) }
-    ensures together { CameTogether S.acts stages.old (pieces channels count input.now) (length stages.old) (pieces channels count output.new) stages.new }
+    ensures order { (left : ℕ) → InOrder S.acts S.handed (flow_of S.acts channels stages.old left) (pieces channels count input.now) (pieces channels count output.new) [] 0 (flow_of S.acts channels stages.new (left + count)) }
 {
     output.copy_from_slice(input);
     'stages: for place in 0..stages.len() {
-        stages[place].pass_frames(count, output);
+        S::pass_frames_at(stages, place, channels, count, output);
     }
 }
 
@@ -61,7 +62,7 @@ fn pass_batch<S: Feeds>(
 /// They go a few at a time, all of them through a stage before the first goes through the next: as many as the inlet and the
 /// stages can hold as pending frames together, so that with the frames of the lines there are never more than the flow may
 /// hold.
-pub fn run_one_to_one<S: Feeds>(
+pub fn run_one_to_one<S: StageCalls>(
     stages: &mut [S],
     channels: usize,
     count: usize,
@@ -79,7 +80,8 @@ pub fn run_one_to_one<S: Feeds>(
     requires one_to_one { AllOneToOne S.acts count stages.old }
     ensures ran { (left : ℕ) → MayRun S.acts channels count stages.old left → RanOn S.acts channels (pieces channels count input.now) (pieces channels count output.new) stages.old stages.new left }
     ensures rest_unchanged { drop (count * channels) output.new ≡ drop (count * channels) output.old }
-    ensures groups { WentInGroups S.acts stages.old (pieces channels count input.now) (pieces channels count output.new) stages.new }
+    ensures lined { AllLined S.acts stages.new }
+    ensures order { (left : ℕ) → InOrder S.acts S.handed (flow_of S.acts channels stages.old left) (pieces channels count input.now) (pieces channels count output.new) [] 0 (flow_of S.acts channels stages.new (left + count)) }
 {
     see_samples(&input[..count * channels]);
     let bound = stages.len().saturating_add(1);

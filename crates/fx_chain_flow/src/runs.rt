@@ -1,14 +1,14 @@
 //! Frames that go through stages one after another, with no checks between two of them.
-ghost use Rattle.std.specs.Prelude.{◌≡◌, ◌<◌, ◌≤◌, ℕ, Some, None, true, false, take, if◌then◌else◌};
+ghost use Rattle.std.specs.Prelude.{◌≡◌, ◌<◌, ◌≤◌, ◌+◌, ℕ, Some, None, [], ◌∷◌, true, false, option_to_list, take, if◌then◌else◌};
 ghost use Rattle.fx_frame_base.specs.Pipeline.{AreReady, outputs_of};
 ghost use Rattle.fx_chain_flow.specs.Parts.{AllDetermined};
-ghost use Rattle.fx_chain_flow.specs.Pipeline.{WentThrough};
-ghost use Rattle.fx_chain_flow.specs.Runs.{AllAhead, AllKeep, MayRunPipeline, RanPipeline};
-ghost use Rattle.fx_frame_base.specs.Feed.{PassedOn};
+ghost use Rattle.fx_chain_flow.specs.Pipeline.{AllHeld, WentThrough};
+ghost use Rattle.fx_chain_flow.specs.Order.{InOrder};
+ghost use Rattle.fx_chain_flow.specs.Runs.{AllAhead, AllKeep, MayRunPipeline, RanPipeline, flow_of};
 ghost use Rattle.fx_frame_base.specs.Holds.{kinds};
-ghost use Rattle.fx_frame_base.specs.Stage.{IsDry, kind, spent};
 
 use crate::one_to_one::{min_one_to_one, run_one_to_one};
+use crate::stage_calls::StageCalls;
 use fx_frame_base::feed::{copy_samples, see_samples};
 use fx_frame_base::stage::Stage;
 use fx_frame_base::{Feeds, Passed, Passing};
@@ -72,38 +72,10 @@ impl Widths {
     }
 }
 
-/// Passes a frame of `channels` channels, whose samples come first in sixteen places, to a stage. Where it gives one then, its
-/// samples come first, and its channels are returned.
-#[inline(always)]
-fn pass_to<S: Feeds>(
-    stage: &mut S,
-    keeps: bool,
-    places: &mut [i32; 16],
-    channels: &mut usize,
-) -> Passing
-    requires dry { S.acts.dry stage.old ≡ true }
-    requires not_ended { (S.acts.counts stage.old).ended ≡ false }
-    requires not_spent { spent S.acts stage.old ≡ false }
-    requires channels { channels.old ≡ (kind S.acts stage.old).inputs }
-    requires frame { (1 ≤ channels.old) × (channels.old ≤ 16) }
-    requires keep { keeps ≡ true → (kind S.acts stage.old).outputs ≡ (kind S.acts stage.old).inputs }
-    requires below_limit { (S.acts.counts stage.old).taken < (kind S.acts stage.old).limit }
-    ensures passed { PassedOn S.acts result stage.old stage.new (take channels.old places.old) (take channels.new places.new) }
-    ensures frame { (1 ≤ channels.new) × (channels.new ≤ 16) }
-    ensures kept { keeps ≡ true → channels.new ≡ channels.old }
-    ensures determined { S.acts.dry stage.new ≡ true → IsDry S.acts stage.new }
-{
-    if keeps {
-        stage.pass_samples(&mut places[..*channels])
-    } else {
-        stage.pass_places(places, channels)
-    }
-}
-
 /// Passes a frame of `channels` channels, whose samples come first in sixteen places, through stages that are dry, one after
 /// another. Where the last gives a frame, its samples then come first.
 #[inline(always)]
-fn pass_along<S: Feeds>(
+fn pass_along<S: StageCalls>(
     stages: &mut [S],
     keeps: bool,
     channels: usize,
@@ -113,14 +85,17 @@ fn pass_along<S: Feeds>(
     requires ready { (taken maximum : ℕ) × (taken < maximum) × AreReady S.acts channels taken maximum stages.old }
     requires keep { keeps ≡ true → AllKeep channels (kinds S.acts stages.old) }
     requires determined { AllDetermined S.acts stages.old }
+    requires held { AllHeld S.acts stages.old }
     ensures went { WentThrough S.acts (take channels places.old) (if result.is_given then Some (take (outputs_of channels (kinds S.acts stages.old)) places.new) else None) stages.old stages.new }
     ensures frame { result.is_given ≡ true → (1 ≤ outputs_of channels (kinds S.acts stages.old)) × (outputs_of channels (kinds S.acts stages.old) ≤ 16) }
     ensures determined { result.is_wet ≡ false → AllDetermined S.acts stages.new }
+    ensures order { (left : ℕ) → InOrder S.acts S.handed (flow_of S.acts channels stages.old left) (take channels places.old ∷ [])
+        (option_to_list (if result.is_given then Some (take (outputs_of channels (kinds S.acts stages.old)) places.new) else None)) [] 0 (flow_of S.acts channels stages.new (left + 1)) }
 {
     let mut is_wet = false;
     let mut width = channels;
     'stages: for place in 0..stages.len() {
-        match pass_to(&mut stages[place], keeps, places, &mut width) {
+        match S::pass_at(stages, place, keeps, places, &mut width) {
             Passing::Kept => {
                 return Passage {
                     is_given: false,
@@ -140,7 +115,7 @@ fn pass_along<S: Feeds>(
 /// Passes `count` frames at the front of the input through stages that are dry, each through all of them before the next, and
 /// writes those that come out to the front of the output; fewer where a stage has more to give.
 #[inline(always)]
-fn run_frames<S: Feeds>(
+fn run_frames<S: StageCalls>(
     stages: &mut [S],
     widths: Widths,
     count: usize,
@@ -148,7 +123,7 @@ fn run_frames<S: Feeds>(
     output: &mut [i32],
 ) -> Passed
     requires { MayRunPipeline S.acts widths count input.now output.old stages.old }
-    ensures { RanPipeline S.acts widths count input.now output.old output.new stages.old stages.new result }
+    ensures { RanPipeline S.acts S.handed widths count input.now output.old output.new stages.old stages.new result }
 {
     see_samples(&input[..count * widths.inputs]);
     let mut places = [0; 16];
@@ -182,7 +157,7 @@ fn run_frames<S: Feeds>(
 }
 
 /// As `run_frames`, where the channels are often known beforehand.
-fn run_by_frames<S: Feeds>(
+fn run_by_frames<S: StageCalls>(
     stages: &mut [S],
     widths: Widths,
     count: usize,
@@ -190,7 +165,7 @@ fn run_by_frames<S: Feeds>(
     output: &mut [i32],
 ) -> Passed
     requires { MayRunPipeline S.acts widths count input.now output.old stages.old }
-    ensures { RanPipeline S.acts widths count input.now output.old output.new stages.old stages.new result }
+    ensures { RanPipeline S.acts S.handed widths count input.now output.old output.new stages.old stages.new result }
 {
     if !widths.keeps {
         return run_frames(stages, widths, count, input, output);
@@ -204,7 +179,7 @@ fn run_by_frames<S: Feeds>(
 }
 
 /// As `run_by_frames`; where each stage gives one frame for each and keeps the channels, a few frames at a time.
-fn run_apart<S: Feeds>(
+fn run_apart<S: StageCalls>(
     stages: &mut [S],
     widths: Widths,
     count: usize,
@@ -212,7 +187,7 @@ fn run_apart<S: Feeds>(
     output: &mut [i32],
 ) -> Passed
     requires { MayRunPipeline S.acts widths count input.now output.old stages.old }
-    ensures { RanPipeline S.acts widths count input.now output.old output.new stages.old stages.new result }
+    ensures { RanPipeline S.acts S.handed widths count input.now output.old output.new stages.old stages.new result }
 {
     let one_to_one = min_one_to_one(stages, count);
     if !widths.keeps || one_to_one == 0 {
@@ -227,7 +202,7 @@ fn run_apart<S: Feeds>(
 
 /// Passes `count` frames at the front of the input through stages that are dry: in one call for all of them where they have one
 /// for exactly this sequence of effects, else as `run_apart`.
-pub fn run<S: Feeds>(
+pub fn run<S: StageCalls>(
     stages: &mut [S],
     widths: Widths,
     count: usize,
@@ -235,12 +210,12 @@ pub fn run<S: Feeds>(
     output: &mut [i32],
 ) -> Passed
     requires { MayRunPipeline S.acts widths count input.now output.old stages.old }
-    ensures { RanPipeline S.acts widths count input.now output.old output.new stages.old stages.new result }
+    ensures { RanPipeline S.acts S.handed widths count input.now output.old output.new stages.old stages.new result }
 {
     if count == 0 {
         return Passed { taken: 0, given: 0 };
     }
-    let passed = S::pass_pipeline(stages, widths.inputs, widths.outputs, count, input, output);
+    let passed = S::pass_all(stages, widths.inputs, widths.outputs, count, input, output);
     if passed > 0 {
         return Passed {
             taken: passed,

@@ -1,17 +1,18 @@
-use Rattle.std.proofs.Common.{◌<◌, ◌≤◌, ◌+◌, ◌-◌, ◌*◌, ◌∙◌, drop, length, refl, ap, arith}
+use Rattle.std.proofs.Common.{◌<◌, ◌≤◌, ◌+◌, ◌-◌, ◌*◌, ◌∙◌, append-nil, drop, length, refl, ap, arith}
 use Rattle.std.proofs.lemmas.List.{length-drop, take_all}
 use Rattle.std.proofs.Math.Nat.{add-mul}
 use Rattle.fx_frame_base.proofs.Pieces.{length-pieces}
 use Rattle.fx_frame_base.specs.Holds.{kinds}
 use Rattle.fx_frame_base.specs.Pipeline.{outputs_of}
 use Rattle.fx_chain_flow.specs.Feed.{HoldsBound}
-use Rattle.fx_chain_flow.proofs.Feeding.{Turned-none, Turned-gave, Turned-gave-last, Turned-moved, Turned-outs, Turned-ran, Turned-ran-last, Turned-free, Turned-sides, none-out, smaller-run, smaller-step, some-gave}
+use Rattle.fx_chain_flow.specs.Order.{begun}
+use Rattle.fx_chain_flow.proofs.Feeding.{Turned-gave-order, Turned-ran-order, Turned-none, Turned-gave, Turned-gave-last, Turned-moved, Turned-outs, Turned-ran, Turned-ran-last, Turned-free, Turned-sides, none-out, smaller-run, smaller-step, some-gave}
 use Rattle.fx_chain_flow.proofs.Running.{put-rest}
 use Rattle.fx_chain_flow.proofs.feed.feed_by_steps.Goals as goal
 use Rattle.fx_chain_flow.proofs.feed.feed_by_steps.Goals.{in-Busy+in-Given, in-Busy+in_default, in-Hungry+else-is_spent+else-input-read}
 
 pub turns-init : goal.turns-init
-turns-init g c = record { turned = Turned-none g.S.Stage.acts _ _ _; free = λ n bound. absurd (omega (arith, bound)); unchanged = λ bound. refl; full = λ some over. absurd (omega (arith, some)) }
+turns-init g c = record { turned = Turned-none g.S.Stage.acts _ _ _; order = begun; free = λ n bound. absurd (omega (arith, bound)); unchanged = λ bound. refl; full = λ some over. absurd (omega (arith, some)) }
 
 pub put_frame-requires : goal.put_frame-requires
 put_frame-requires g c =
@@ -65,6 +66,8 @@ turns-preserved g c =
             turned = rw (w.flow-is, w.output-is, w.read-is, w.written-is, w.taken-is, w.given-is, w.channels-written.ensures.count)
                 (Turned-gave acts first input start c.turns.flow w.step.new.self w.in-Given.frame c.turns.output w.put_frame.new.output _ _ _ _ old c.stages-stages.ensures.sound w.in-Given.ensures.steps (record { moved = w.in-Given.ensures.moved; held = here }) w.channels-written.ensures.frame.some
                 (omega (arith, c.turns-test.true, c.widths-widths.ensures.outputs, old.written_in)) w.put_frame.ensures w.put_frame.auto.output);
+            order = rw (w.flow-is, w.output-is, w.taken-is, w.given-is)
+                (Turned-gave-order acts first input start g.S.StageCalls.handed c.turns.flow w.step.new.self w.in-Given.frame c.turns.output w.put_frame.new.output _ _ _ _ old sides (omega (arith, c.turns-test.true, c.widths-widths.ensures.outputs, old.written_in)) w.put_frame.ensures (w.in-Given.ensures.order first _ _ c.turns.invariant.order));
             free = rw w.taken-is c.turns.invariant.free;
             unchanged = λ bound. absurd (no_space bound);
             full = rw (w.flow-is, w.output-is, w.written-is, w.taken-is, w.given-is, w.channels-written.ensures.count)
@@ -76,6 +79,7 @@ turns-preserved g c =
           record {
             turned = rw (w.flow-is, w.output-is, w.read-is, w.written-is, w.taken-is, w.given-is)
                 (Turned-moved acts first input start c.turns.flow w.step.new.self w.step.result c.turns.output _ _ _ _ old w.step.ensures.steps (record { moved = w.step.ensures.moved; held = here }) (none-out w.step.result w.in_default.not-Given));
+            order = rw (w.flow-is, w.output-is, w.taken-is, w.given-is) (rw (none-out w.step.result w.in_default.not-Given, append-nil) at (w.step.ensures.order first _ _ c.turns.invariant.order));
             free = rw w.taken-is c.turns.invariant.free;
             unchanged = λ bound. absurd (no_space bound);
             full = rw w.written-is (λ some over. absurd (not_full over));
@@ -91,6 +95,8 @@ turns-preserved g c =
             turned = rw (w.flow-is, w.read-is, w.written-is, w.taken-is, w.given-is, c.widths-widths.ensures.inputs, c.widths-widths.ensures.outputs)
                 (Turned-ran acts first input start _ _ old.gave.channels sides c.turns.flow w.run-passed.new.self c.turns.output c.match-state.output out _ _ _ _ w.run-passed.result.taken w.run-passed.result.given old w.in-Hungry.ensures.state.not_ended
                 (rw rest at passed.fed) (rw rest at passed.gave) c.requires.channels.0 (rw rest at passed.read) passed.written passed.small (rw over-all at passed.rest_unchanged) (w.run-passed.auto.output ∙ ap length over-all) put);
+            order = rw (w.flow-is, w.taken-is, w.given-is)
+                (Turned-ran-order acts first input start g.S.StageCalls.handed _ _ old.gave.channels sides c.turns.flow w.run-passed.new.self c.turns.output c.match-state.output out _ _ _ _ w.run-passed.result.taken w.run-passed.result.given old c.turns.invariant.order (rw rest at passed.order) put);
             free = rw w.taken-is
                 (Turned-free acts first input start c.turns.flow c.turns.output _ _ _ _ w.run-passed.result.taken (length start) old c.turns.invariant.free (rw (over-all, length-drop c.turns.written c.turns.output, c.turns.auto.output) at passed.free) (omega (arith, old.written_in, c.turns.auto.output)));
             unchanged = λ bound. absurd (no_space bound);

@@ -1,5 +1,8 @@
-use Rattle.std.proofs.Common.{◌≡◌, ◌≤◌, false, length, take, true}
+use Rattle.std.proofs.Common.{◌≡◌, ◌+◌, ◌≤◌, ℕ, [], ◌∷◌, false, length, take, true}
+use Rattle.fx_chain_flow.specs.Order.{InOrder}
 use Rattle.fx_chain_flow.specs.Parts.{AllDetermined}
+use Rattle.fx_chain_flow.specs.Pipeline.{AllHeld}
+use Rattle.fx_chain_flow.specs.Runs.{flow_of}
 use Rattle.fx_chain_flow.proofs.runs.pass_along.Given as goal
 use Rattle.fx_chain_flow.proofs.Pipelines.{CameTo}
 
@@ -10,4 +13,6 @@ invariant-stages g l = record {
   frame : (1 ≤ l.width) × (l.width ≤ 16);
   kept : l.keeps ≡ true → l.width ≡ l.channels;
   determined : l.is_wet ≡ false → AllDetermined g.S.Stage.acts (take l.place l.stages);
+  held : AllHeld g.S.Stage.acts l.stages;
+  order : (left : ℕ) → InOrder g.S.Stage.acts g.S.StageCalls.handed (flow_of g.S.Stage.acts l.channels l.fn.stages left) (take l.channels l.fn.places ∷ []) [] (take l.width l.places ∷ []) l.place (flow_of g.S.Stage.acts l.channels l.stages (left + 1));
 }

@@ -1,5 +1,6 @@
 use Rattle.std.proofs.Common.{rules, ◌≡◌, ◌∙◌, ◌*◌, ◌≤◌, arith}
 use Rattle.std.proofs.Math.Nat.{mul-le-mul_left, mul-le-mul_right}
+use Rattle.fx_chain_flow.proofs.Pipelines.{AllHeld-lined}
 use Rattle.fx_chain_flow.proofs.Running.{AllAhead-less, outputs-keep}
 use Rattle.fx_chain_flow.proofs.runs.run_apart.Goals as goal
 
@@ -23,4 +24,6 @@ returns g c =
       small = rw same (omega (arith, mul-le-mul_left c.min_one_to_one-one_to_one.result c.requires.frame.0));
       some = λ _. omega arith;
       rest_unchanged = rw same c.run_one_to_one.ensures.rest_unchanged;
+      order = λ left. rw same (c.run_one_to_one.ensures.order left);
+      held = AllHeld-lined g.S.Stage.acts c.run_one_to_one.new.stages c.run_one_to_one.ensures.lined;
     }

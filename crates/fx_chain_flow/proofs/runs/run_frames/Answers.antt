@@ -5,7 +5,8 @@ use Rattle.fx_frame_base.specs.Holds.{kinds}
 use Rattle.fx_frame_base.specs.Pipeline.{outputs_of}
 use Rattle.fx_chain_flow.specs.Runs.{MayRun}
 use Rattle.fx_chain_flow.specs.Sound.{max_frames}
-use Rattle.fx_chain_flow.proofs.Running.{Running-frame, Running-none, Running-ran, Running-ready, Wrote}
+use Rattle.fx_chain_flow.specs.Order.{begun}
+use Rattle.fx_chain_flow.proofs.Running.{Order-frame, Running-frame, Running-none, Running-ran, Running-ready, Wrote}
 use Rattle.fx_chain_flow.proofs.Pipelines.{AllHeld-lined}
 use Rattle.fx_chain_flow.proofs.runs.run_frames.Goals.{then-passage, else-passage}
 use Rattle.fx_chain_flow.proofs.runs.run_frames.Goals as goal
@@ -16,6 +17,8 @@ frames-init g c =
     let no-written : 0 * c.args.widths.outputs ≡ 0 = omega arith in
     record {
       runs = λ left may. rw (no-read, no-written) (Running-none g.S.Stage.acts g.met.S.Stage.rises c.args.widths.inputs c.args.widths.outputs c.args.count left c.args.stages.now c.args.input.now c.args.output.now may (AllHeld-lined g.S.Stage.acts c.args.stages.now c.requires.lined) c.requires.ahead);
+      order = λ left. let e : left + 0 ≡ left = omega arith in rw e begun;
+      held = AllHeld-lined g.S.Stage.acts c.args.stages.now c.requires.lined;
       determined = c.requires.determined;
       same = refl;
       fewer = omega arith;
@@ -52,6 +55,11 @@ returns-then-passage-2 g c =
     c.frames.taken c.frames.given c.if-passage.given c.pass_along-passage.result.is_given (c.frames.invariant.runs left may) may.bound c.frames-test.true c.frames.invariant.determined outs c.requires.frame c.requires.input fits_out c.see_samples.ensures c.copy_samples.ensures (search rules)
     c.pass_along-passage.ensures.went c.pass_along-passage.ensures.frame wrote in
     let run = next c.requires.may_run.0 c.requires.may_run.1 in
+    let order = λ (left : ℕ).
+    Order-frame acts g.met.S.Stage.rises inputs outputs c.args.count c.requires.may_run.0 c.args.stages.now c.args.input.now c.args.output.now c.frames.stages c.pass_along-passage.new.stages c.frames.output c.if-passage.output c.frames.places c.pass_along-passage.new.places c.copy_samples.new.to
+    c.frames.taken c.frames.given c.if-passage.given c.pass_along-passage.result.is_given (c.frames.invariant.runs c.requires.may_run.0 c.requires.may_run.1) c.requires.may_run.1.bound c.frames-test.true c.frames.invariant.determined outs c.requires.frame c.requires.input fits_out c.see_samples.ensures c.copy_samples.ensures (search rules)
+    c.pass_along-passage.ensures.went c.pass_along-passage.ensures.frame g.S.StageCalls.handed left wrote
+    (c.frames.invariant.order left) (c.pass_along-passage.ensures.order (left + c.frames.taken)) in
     let one : c.frames.taken + 1 ≤ c.args.count = omega (arith, c.frames-test.true) in
     let fit : (c.frames.taken + 1) * inputs ≤ c.args.count * inputs = mul-le-mul_right inputs one in
     record {
@@ -62,6 +70,8 @@ returns-then-passage-2 g c =
       small = run.turned.small;
       some = λ _. omega arith;
       rest_unchanged = run.turned.rest_unchanged;
+      order = order;
+      held = run.held;
     }
 
 pub returns : goal.returns
@@ -80,6 +90,8 @@ returns g c =
       small = c.frames.invariant.small;
       some = λ one. one;
       rest_unchanged = c.frames.invariant.rest_unchanged;
+      order = λ left. rw all at (c.frames.invariant.order left);
+      held = c.frames.invariant.held;
     }
 
 pub frames-preserved : goal.frames-preserved
@@ -99,8 +111,15 @@ frames-preserved g c =
     c.frames.taken c.frames.given c.if-passage.given c.pass_along-passage.result.is_given (c.frames.invariant.runs left may) may.bound c.frames-test.true c.frames.invariant.determined outs c.requires.frame c.requires.input fits_out c.see_samples.ensures c.copy_samples.ensures (search rules)
     c.pass_along-passage.ensures.went c.pass_along-passage.ensures.frame wrote in
     let run = next c.requires.may_run.0 c.requires.may_run.1 in
+    let order = λ (left : ℕ).
+    Order-frame acts g.met.S.Stage.rises inputs outputs c.args.count c.requires.may_run.0 c.args.stages.now c.args.input.now c.args.output.now c.frames.stages c.pass_along-passage.new.stages c.frames.output c.if-passage.output c.frames.places c.pass_along-passage.new.places c.copy_samples.new.to
+    c.frames.taken c.frames.given c.if-passage.given c.pass_along-passage.result.is_given (c.frames.invariant.runs c.requires.may_run.0 c.requires.may_run.1) c.requires.may_run.1.bound c.frames-test.true c.frames.invariant.determined outs c.requires.frame c.requires.input fits_out c.see_samples.ensures c.copy_samples.ensures (search rules)
+    c.pass_along-passage.ensures.went c.pass_along-passage.ensures.frame g.S.StageCalls.handed left wrote
+    (c.frames.invariant.order left) (c.pass_along-passage.ensures.order (left + c.frames.taken)) in
     record {
       runs = next;
+      order = order;
+      held = run.held;
       determined = c.pass_along-passage.ensures.determined c.if-passage-2.false;
       same = run.same;
       fewer = run.fewer;

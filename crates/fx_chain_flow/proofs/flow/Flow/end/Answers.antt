@@ -1,4 +1,5 @@
 use Rattle.std.proofs.Common.{◌≡◌, false, refl, ◌∙◌, ap}
+use Rattle.fx_chain_flow.specs.Order.{end_came}
 use Rattle.fx_chain_flow.specs.Parts.{Parts}
 use Rattle.fx_chain_flow.proofs.Laws.{Joined-any, Joined-along}
 use Rattle.fx_chain_flow.proofs.flow.Flow.end.Goals as goal
@@ -16,4 +17,9 @@ invariant_of-self g c =
         closed = λ e. empty;
       },
       c.self.invariant.1,
+      c.self.invariant.2,
+      c.self.invariant.3,
     )
+
+pub returns-clause-order : goal.returns-clause-order
+returns-clause-order g c = λ first xs gs order. end_came xs gs _ (rw (← c.self.view_is) at order)

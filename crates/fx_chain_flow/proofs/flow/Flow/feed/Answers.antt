@@ -1,4 +1,4 @@
-use Rattle.std.proofs.Common.{rules, ◌≡◌, ◌+◌, ◌≤◌, ◌++◌, ◌∙◌, false, [], drop, length, take, ap, arith}
+use Rattle.std.proofs.Common.{rules, ◌≡◌, ◌+◌, ◌≤◌, ◌++◌, ◌∙◌, false, [], drop, length, take, ap, refl, arith}
 use Rattle.std.proofs.lemmas.List.{nil_from_length}
 use Rattle.std.proofs.lemmas.Grind.{common_steps}
 use Rattle.std.specs.Prelude.{None}
@@ -7,7 +7,8 @@ use Rattle.fx_frame_base.specs.Lists.{pieces}
 use Rattle.fx_chain_flow.specs.Feed.{FedOnly}
 use Rattle.fx_chain_flow.specs.Sound.{IsSound, max_frames}
 use Rattle.fx_chain_flow.specs.Runs.{flow_of}
-use Rattle.fx_chain_flow.proofs.Feedings.{none-fed, none-gave, none-last, none-free, none-sound, only-fed, only-gave, only-last, only-read, only-free, only-sound, only-unchanged, only-used}
+use Rattle.fx_chain_flow.proofs.Feedings.{none-fed, none-gave, none-last, none-free, none-sound, only-fed, only-gave, only-held, only-last, only-read, only-free, only-sound, only-unchanged, only-used}
+use Rattle.fx_chain_flow.proofs.Orders.{InOrder-then, bare-order, nothing-lined, through-order}
 use Rattle.fx_frame_base.proofs.Flags.{none-of}
 use Rattle.fx_frame_base.proofs.Puts.{written_back}
 use Rattle.fx_chain_flow.proofs.flow.Flow.feed.Given as given
@@ -25,7 +26,7 @@ only g c =
     let none : s.inlet ≡ None = none-of s.inlet (search rules) in
     let going : s.ended ≡ false = search rules in
     let back = written_back s.stages.items c.feed_only-passed.new.stages s.stages.len s.stages.ok.0 (c.feed_only-passed.auto.stages ∙ ap length c.deref_mut.ensures.value) in
-    (none, going, rw (none, going) at c.self-2.invariant.0, rw c.deref_mut.ensures.value at c.feed_only-passed.ensures, back)
+    (none, going, rw (none, going) at c.self-2.invariant.0, rw c.deref_mut.ensures.value at c.feed_only-passed.ensures.fed, back)
 
 pub invariant_of-self-2 : goal.invariant_of-self-2
 invariant_of-self-2 g c =
@@ -37,7 +38,7 @@ invariant_of-self-2 g c =
     let all = rw (← c.self-2.view_is, none) at c.requires.bound in
     let bound : s.left + passed.taken ≤ max_frames = omega (arith, all passed.taken read) in
     rw (back, none, going)
-    (only-sound acts g.met.S.Stage.rises s.channels s.left passed.taken passed.given c.args.input.now c.args.output.now _ s.stages.items _ sound bound fed, rw (c.deref.ensures.value, back) at c.wet_end-self-inside.ensures)
+    (only-sound acts g.met.S.Stage.rises s.channels s.left passed.taken passed.given c.args.input.now c.args.output.now _ s.stages.items _ sound bound fed, rw (c.deref.ensures.value, back) at c.wet_end-self-inside.ensures.wet, only-held acts _ _ c.args.input.now c.args.output.now _ s.stages.items _ fed c.self-2.invariant.2, rw (c.deref.ensures.value, back) at c.wet_end-self-inside.ensures.lined)
 
 pub returns-clause-fed : goal.returns-clause-fed
 returns-clause-fed g c =
@@ -85,7 +86,7 @@ invariant_of-self g c =
     let sound = rw (none, going, empty) at c.self-2.invariant.0 in
     let all = rw (← c.self-2.view_is, none) at c.requires.bound in
     let bound : s.left + c.copy_frames-count.result ≤ max_frames = omega (arith, all c.copy_frames-count.result c.copy_frames-count.ensures.read) in
-    rw (none, going, empty) (none-sound g.S.Stage.acts s.channels s.left c.copy_frames-count.result sound bound, rw empty at c.self-2.invariant.1)
+    rw (none, going, empty) (none-sound g.S.Stage.acts s.channels s.left c.copy_frames-count.result sound bound, rw empty at c.self-2.invariant.1, tt, nothing-lined g.S.Stage.acts s.wet)
 
 pub returns-then-stages-eq0-clause-fed : goal.returns-then-stages-eq0-clause-fed
 returns-then-stages-eq0-clause-fed g c =
@@ -132,3 +133,29 @@ feed_only-passed-requires g c = grind (arith, common_steps)
 
 pub overflow_add-self-2 : goal.overflow_add-self-2
 overflow_add-self-2 g c = grind (arith, common_steps)
+
+pub returns-clause-order : goal.returns-clause-order
+returns-clause-order g c = λ first xs gs order.
+    let s = c.self-2.inside in
+    let passed = c.feed_only-passed.result in
+    let (none, going, sound, fed, back) = only g (goal.at.returns-clause-order g c).After-feed_only-passed in
+    let call = rw c.deref_mut.ensures.value at c.feed_only-passed.ensures.handed in
+    let held = only-held g.S.Stage.acts passed.taken passed.given c.args.input.now c.args.output.now _ s.stages.items _ fed c.self-2.invariant.2 in
+    let many = length-pieces s.channels passed.taken c.args.input.now in
+    let one = through-order g.S.Stage.acts g.S.StageCalls.handed (flow_of g.S.Stage.acts s.channels s.stages.items s.left) (pieces s.channels passed.taken c.args.input.now) _ passed.taken c.feed_only-passed.new.stages many refl (call s.channels sound.planned.matching) held in
+    let before = rw (← c.self-2.view_is, none, going) at order in
+    rw (← c.self-2.view_is, back, none, going) (InOrder-then g.S.Stage.acts g.S.StageCalls.handed first _ _ xs gs _ _ [] 0 before one)
+
+pub returns-then-stages-eq0-clause-order : goal.returns-then-stages-eq0-clause-order
+returns-then-stages-eq0-clause-order g c = λ first xs gs order.
+    let s = c.self-2.inside in
+    let (none, going, empty, many) = bare g (goal.at.returns-then-stages-eq0-clause-order g c).After-copy_frames-count in
+    let one = bare-order g.S.Stage.acts g.S.StageCalls.handed (flow_of g.S.Stage.acts s.channels [] s.left) (pieces s.channels c.copy_frames-count.result c.args.input.now) c.copy_frames-count.result many refl refl in
+    let before = rw (← c.self-2.view_is, none, going, empty) at order in
+    rw (← c.self-2.view_is, none, going, empty, c.copy_frames-count.ensures.frames) (InOrder-then g.S.Stage.acts g.S.StageCalls.handed first _ _ xs gs _ _ [] 0 before one)
+
+pub returns-then-is_some-clause-order : goal.returns-then-is_some-clause-order
+returns-then-is_some-clause-order g c = λ first xs gs order. InOrder-then g.S.Stage.acts g.S.StageCalls.handed first _ _ xs gs _ _ [] 0 order c.feed_by_steps.ensures.order
+
+pub returns-then-stages-gt1-clause-order : goal.returns-then-stages-gt1-clause-order
+returns-then-stages-gt1-clause-order g c = λ first xs gs order. InOrder-then g.S.Stage.acts g.S.StageCalls.handed first _ _ xs gs _ _ [] 0 order c.feed_by_steps-then-stages-gt1.ensures.order

@@ -1,6 +1,7 @@
 use Rattle.std.proofs.Common.{refl, arith}
 use Rattle.fx_chain_flow.proofs.Laws.{Joined-AllNew, AllNew-dry, given_by-new}
 use Rattle.fx_chain_flow.proofs.Moving.{through-AllNew, wholes-AllNew}
+use Rattle.fx_chain_flow.proofs.Orders.{AllHeld-new}
 use Rattle.fx_chain_flow.proofs.flow.Flow.new.Goals as goal
 
 pub invariant_of-result : goal.invariant_of-result
@@ -12,7 +13,9 @@ invariant_of-result g c = (
     inlet = λ x e. absurd (cc);
     closed = λ e. refl;
   },
-  rw c.deref.ensures.value at c.wet_end-wet.ensures,
+  rw c.deref.ensures.value at c.wet_end-wet.ensures.wet,
+  AllHeld-new g.S.Stage.acts _ c.requires.new,
+  rw c.deref.ensures.value at c.wet_end-wet.ensures.lined,
 )
 
 pub returns-clause-hungry : goal.returns-clause-hungry

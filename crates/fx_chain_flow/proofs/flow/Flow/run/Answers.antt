@@ -68,7 +68,7 @@ invariant_of-self g c =
     let s = c.self.inside in
     let (inputs, none, going, fits, run) = may g (goal.at.invariant_of-self g c).After-deref_mut in
     let (back, after) = ran g (goal.at.invariant_of-self g c).After-run-passed run in
-    rw (back, none, going) (rw (length-pieces s.channels c.run-passed.result.taken c.args.input.now) at after.sound, rw (c.deref-3.ensures.value, back) at c.wet_end-self-inside.ensures)
+    rw (back, none, going) (rw (length-pieces s.channels c.run-passed.result.taken c.args.input.now) at after.sound, rw (c.deref-3.ensures.value, back) at c.wet_end-self-inside.ensures.wet, c.run-passed.ensures.held, rw (c.deref-3.ensures.value, back) at c.wet_end-self-inside.ensures.lined)
 
 pub returns : goal.returns
 returns g c =
@@ -91,6 +91,7 @@ returns g c =
       moves = rw (← c.self.view_is, back) (rw many at after.moves);
       some = c.run-passed.ensures.some (omega (arith, c.max-count.ensures));
       free = rw (← c.self.view_is, none) (λ n bound. FlowCapacity-each g.S.Stage.acts s.channels s.left s.stages.items passed.taken (length c.args.output.now) (rw many at after.each) (rw (← outputs) (omega (arith, mul-le-mul_right c.args.widths.outputs c.run-passed.ensures.read, out-fits))) n bound);
+      order = rw (← c.self.view_is, back, none, going) (rw (c.deref_mut.ensures.value, inputs, outputs) at (c.run-passed.ensures.order s.left));
       full = rw (← c.self.view_is, back, none, going) (λ one_out full.
           let filled : length c.args.output.now < passed.given * c.args.widths.outputs + c.args.widths.outputs = rw outputs full in
           let all : passed.given ≡ passed.taken = all-gave passed.given passed.taken c.max-count.result c.args.widths.outputs (length c.args.output.now) c.run-passed.ensures.written c.run-passed.ensures.read out-fits filled in

@@ -1,0 +1,44 @@
+-- The calls of a flow to its stages, in order, and the frames in transit between two of them (this project's profile).
+use Rattle.std.specs.Prelude.{ℕ, suc, ◌+◌, ◌<◌, ◌≤◌, ◌≡◌, true, List, [], ◌∷◌, ◌++◌, length, Some, None, option_to_list}
+use Rattle.fx_frame_base.specs.Frame.{Samples}
+use Rattle.fx_frame_base.specs.Holds.{held_sum, hold_sum, kinds}
+use Rattle.fx_frame_base.specs.Stage.{Acts}
+use Rattle.fx_chain_flow.specs.Feed.{HoldsBound}
+use Rattle.fx_chain_flow.specs.StageCall.{StageCall, at_stage, end_to, through_all}
+use Rattle.fx_chain_flow.specs.Parts.{Parts}
+
+module _ {S R : Type 0} (acts : Acts S R) where
+  -- The flow holds no more than its hold. So it is with the frames in transit too, where they are on their way to a stage.
+  pub record FitsHold (transit : List Samples) (place : ℕ) (f : Parts S) : Type 0 where
+    pub held : HoldsBound acts f
+    pub to_stage : place < length f.stages → length (option_to_list f.inlet) + held_sum acts f.stages + length transit ≤ 1 + hold_sum (kinds acts f.stages)
+
+module _ {S R : Type 0} (acts : Acts S R) (handed : List S → StageCall → List S → Type 0) where
+  -- A sequence of calls from the first state of a flow to the last: the frames that came, those that went out, and those in
+  -- transit to the stage at a place, or out where it has no stage. Each call was made on the stages that the one before left.
+  pub data InOrder (first : Parts S) : List Samples → List Samples → List Samples → ℕ → Parts S → Type 0 where
+    begun : InOrder first [] [] [] 0 first
+    -- a frame came to the empty inlet
+    came : (xs gs : List Samples) (x : Samples) (f : Parts S) → InOrder first xs gs [] 0 f → f.inlet ≡ None → FitsHold acts [] 0 (record f { inlet = Some x })
+        → InOrder first (xs ++ x ∷ []) gs [] 0 (record f { inlet = Some x })
+    -- the end came
+    end_came : (xs gs : List Samples) (f : Parts S) → InOrder first xs gs [] 0 f → InOrder first xs gs [] 0 (record f { ended = true })
+    -- frames came past the empty inlet, on their way to the first stage
+    came_on : (xs gs ys : List Samples) (f : Parts S) → InOrder first xs gs [] 0 f → f.inlet ≡ None → FitsHold acts ys 0 (record f { left = f.left + length ys })
+        → InOrder first (xs ++ ys) gs ys 0 (record f { left = f.left + length ys })
+    -- the frame in the inlet left it, on its way to the first stage
+    left_inlet : (xs gs : List Samples) (x : Samples) (f : Parts S) → InOrder first xs gs [] 0 f → f.inlet ≡ Some x → FitsHold acts (x ∷ []) 0 (record f { inlet = None; left = f.left + 1 })
+        → InOrder first xs gs (x ∷ []) 0 (record f { inlet = None; left = f.left + 1 })
+    -- the stage at the place took the frames in transit, and those that it gave are in transit to the next place
+    went_on : (xs gs transit given : List Samples) (place : ℕ) (f : Parts S) (stages : List S) → InOrder first xs gs transit place f → handed f.stages (at_stage place transit given) stages → FitsHold acts given (suc place) (record f { stages = stages })
+        → InOrder first xs gs given (suc place) (record f { stages = stages })
+    -- a stage was given the end
+    end_went_on : (xs gs : List Samples) (place : ℕ) (f : Parts S) (stages : List S) → InOrder first xs gs [] 0 f → handed f.stages (end_to place) stages → FitsHold acts [] 0 (record f { stages = stages })
+        → InOrder first xs gs [] 0 (record f { stages = stages })
+    -- frames came past the empty inlet, one at a time, each through all stages before the next, and some came out
+    went_through : (xs gs ys zs : List Samples) (f : Parts S) (stages : List S) → InOrder first xs gs [] 0 f → f.inlet ≡ None → handed f.stages (through_all ys zs) stages → FitsHold acts [] 0 (record f { stages = stages; left = f.left + length ys })
+        → InOrder first (xs ++ ys) (gs ++ zs) [] 0 (record f { stages = stages; left = f.left + length ys })
+    -- the frames past the last stage went out
+    went_out : (xs gs transit : List Samples) (place : ℕ) (f : Parts S) → InOrder first xs gs transit place f → place ≡ length f.stages → InOrder first xs (gs ++ transit) [] 0 f
+    -- where no frame is in transit, the next call may be to any stage
+    any_place : (xs gs : List Samples) (i j : ℕ) (f : Parts S) → InOrder first xs gs [] i f → InOrder first xs gs [] j f
