@@ -5,7 +5,7 @@ ghost use Rattle.fx_frame_base.specs.Lists.{pieces};
 ghost use Rattle.fx_frame_line.specs.Line.{pushed, pushed_all, pushed_out};
 
 use fx_frame::Line;
-use fx_frame::groups::{SAMPLES_OF_GROUP, frames_of_group};
+use fx_frame::groups::{SAMPLES_OF_BATCH, SAMPLES_OF_GROUP, frames_of_group};
 use fx_frame_base::feed::see_samples;
 
 /// What `push_over` of a line does. A line with no places is unchanged, and returns the frame.
@@ -28,10 +28,11 @@ pub fn push_over(line: &mut Line, samples: &mut [i32]) -> bool
     line.push_over(samples)
 }
 
-/// Puts the frames of a group in the line, and in their places as many of the oldest: those of the line first, and then those
-/// that came.
-fn exchange_group(line: &mut Line, samples: &mut [i32], count: usize)
-    requires group { length samples.old ≤ 64 }
+/// Puts the frames of a group of at most `PLACES` samples in the line, and in their places as many of the oldest: those of the
+/// line first, and then those that came.
+#[inline(never)]
+fn exchange_group<const PLACES: usize>(line: &mut Line, samples: &mut [i32], count: usize)
+    requires group { (length samples.old ≤ PLACES) × (PLACES ≤ 64) }
     requires samples { length samples.old ≡ count * line.old.channels }
     ensures oldest { pieces line.old.channels count samples.new ≡ take count (line.old.items ++ pieces line.old.channels count samples.old) }
     ensures items { line.new.items ≡ pushed_all line.old (pieces line.old.channels count samples.old) }
@@ -39,7 +40,7 @@ fn exchange_group(line: &mut Line, samples: &mut [i32], count: usize)
     ensures channels { line.new.channels ≡ line.old.channels }
     ensures len { length samples.new ≡ length samples.old }
 {
-    let mut places = [0; SAMPLES_OF_GROUP];
+    let mut places = [0; PLACES];
     let came = &mut places[..samples.len()];
     if line.exchange_frames(samples, count, came) {
         return;
@@ -69,7 +70,7 @@ fn exchange_groups(line: &mut Line, channels: usize, samples: &mut [i32], count:
         let now = maximum.min(count - done);
         let from = done * channels;
         let to = from + now * channels;
-        exchange_group(line, &mut samples[from..to], now);
+        exchange_group::<SAMPLES_OF_GROUP>(line, &mut samples[from..to], now);
         done += now;
     }
 }
@@ -91,9 +92,13 @@ pub fn exchange_full(line: &mut Line, channels: usize, samples: &mut [i32], coun
     if capacity == 0 {
         return;
     }
-    // A single group, as in most chains, needs no division.
+    // A single group, as in most chains, needs no division, and a short one a smaller buffer.
+    if samples.len() <= SAMPLES_OF_BATCH {
+        exchange_group::<SAMPLES_OF_BATCH>(line, samples, count);
+        return;
+    }
     if samples.len() <= SAMPLES_OF_GROUP {
-        exchange_group(line, samples, count);
+        exchange_group::<SAMPLES_OF_GROUP>(line, samples, count);
         return;
     }
     exchange_groups(line, channels, samples, count);

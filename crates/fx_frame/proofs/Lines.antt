@@ -1,14 +1,12 @@
 -- What holds of the frames of a line, whatever their width.
-use Rattle.std.proofs.Common.{◌≡◌, Bool, ◌<◌, ◌-◌, ℕ, List, [], ◌∷◌, ◌++◌, length, slice_get, get_or, Option, Some, None, true, false, cond, nat_lt, inl, inr, refl, sym, ap, ◌∙◌, arith, MatchOption, IsSomeAnd, ◌≤◌, unwrap_or}
+use Rattle.std.proofs.Common.{◌≡◌, Bool, ◌<◌, ◌-◌, ℕ, List, [], ◌∷◌, ◌++◌, length, slice_get, get_or, Option, Some, None, true, false, cond, nat_lt, refl, sym, ap, ◌∙◌, arith, MatchOption, IsSomeAnd, ◌≤◌, unwrap_or}
 use Rattle.std.specs.Option.{option_map}
 use Rattle.std.specs.List.{All}
-use Rattle.std.proofs.lemmas.Bool.{cases_lt}
 use Rattle.std.proofs.lemmas.List.Elements.{All-head, All-push, All-drop}
 use Rattle.std.proofs.lemmas.Option.{same_Some, slice_get-get_or}
 use Rattle.fx_frame_line.specs.Line.{Frames, pushed, pushed_out, IsLineOf, from_newest}
 use Rattle.std.proofs.lemmas.List.{get_or_past}
 use Rattle.fx_frame_line.specs.Ring.{IsShaped}
-use Rattle.fx_frame_base.specs.Frame.{IsFrameOf}
 
 -- what `map` gives, where the function always gives f
 pub mapped : {A B : Type 0} (f : A → B) (o : Option A) (m : Option B) → MatchOption o (m ≡ None) (λ x. IsSomeAnd m (λ y. y ≡ f x)) → m ≡ option_map f o
@@ -63,32 +61,6 @@ module _ {X : Type 0} where
       go true items all is = absurd (cc (is))
       go false [] all is = let same : f ≡ x = same_Some f x is in rw (← same) long
       go false (y ∷ ys) all is = let same : y ≡ x = same_Some y x is in rw (← same) (All-head (λ (g : List X). length g ≡ l.channels) y ys all)
-
-  -- the oldest of a full line goes
-  pub oldest-out : (l : Frames X) (f : List X) (o : Option (List X)) → IsShaped l → (l.capacity ≡ 0 → ⊥) → o ≡ cond (nat_lt (length l.items) l.capacity) None (slice_get l.items 0) → o ≡ pushed_out l f
-  oldest-out l f o s some e = elim (cases_lt (length l.items) l.capacity) [
-    | inl lt ↦
-        let yes : nat_lt (length l.items) l.capacity ≡ true = grind arith in
-        rw (e, yes) refl
-    | inr ge ↦
-        let no : nat_lt (length l.items) l.capacity ≡ false = grind arith in
-        rw (e, no) (first l.items f (omega (arith, some)))
-  ]
-    where
-      first : (xs : List (List X)) (f : List X) → 0 < length xs → slice_get xs 0 ≡ slice_get (xs ++ f ∷ []) 0
-      first [] f h = absurd (omega arith)
-      first (x ∷ xs) f h = refl
-
-  -- the oldest frame of a line is a frame
-  pub oldest-frame : (Fits : X → Type 0) (l : Frames X) (x : List X) → IsShaped l → All (All Fits) l.items → slice_get l.items 0 ≡ Some x → IsFrameOf Fits x
-  oldest-frame Fits l x s fits is = go l.items s.each fits is
-    where
-      go : (items : List (List X)) → All (λ (g : List X). length g ≡ l.channels) items → All (All Fits) items → slice_get items 0 ≡ Some x → IsFrameOf Fits x
-      go [] each fit is = absurd (cc (is))
-      go (y ∷ ys) each fit is =
-          let same : y ≡ x = same_Some y x is in
-          let long : length y ≡ l.channels = All-head (λ (g : List X). length g ≡ l.channels) y ys each in
-          rw (← same) record { some = rw long s.some; bound = rw long s.bound; fits = All-head (All Fits) y ys fit }
 
   -- a line is shaped, and each sample fits
   pub is-line : (Fits : X → Type 0) (l : Frames X) → IsShaped l → All (All Fits) l.items → IsLineOf Fits l

@@ -112,9 +112,9 @@ pub trait Feeds: Stage {
         passing
     }
 
-    /// Passes `count` frames at the front of the input through stages in sequence, each frame through all of them before the
-    /// next, and writes those that come out, one for each, to the front of the output. Returns how many it passed: none where
-    /// it has no specialized code for these stages.
+    /// Passes `count` frames at the front of the input through stages in sequence, in groups of at most one frame more than there
+    /// are stages, and writes those that come out, one for each, to the front of the output. Returns how many it passed: none
+    /// where it has no specialized code for these stages.
     fn pass_pipeline(
         stages: &mut [Self],
         channels: usize,

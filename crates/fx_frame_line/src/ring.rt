@@ -8,7 +8,6 @@ ghost use Rattle.fx_frame_base.specs.Lists.{IsOtherPlace, pieces};
 use circular_buffer::HeapCircularBuffer;
 use std::alloc::{AllocError, Global};
 use std::marker::Model;
-use std_alloc::room::may_hold;
 
 /// The latest frames, up to a capacity. A frame goes in and out as its samples.
 #[derive(Drop)]
@@ -128,26 +127,33 @@ impl<T: Copy> Ring<T> {
         self.samples.extend_from_slice(frame);
     }
 
-    /// Puts a frame in the place of the oldest, and writes that over the frame, where there is no space for one more.
-    /// Else it returns false, and nothing changes.
+    /// Whether there is no space for one more frame.
     #[inline(always)]
-    pub fn exchange(&mut self, frame: &mut [T]) -> bool
-        requires { length frame.old ≡ self.old.channels }
+    fn is_full(&self) -> bool
+        ensures { result ≡ true ↔ length self.now.items ≡ self.now.capacity }
+    {
+        self.samples.is_full()
+    }
+
+    /// Puts a frame in the place of the oldest, and writes that over the frame, where there is no space for one more. Where the
+    /// capacity is 0 the frame itself is the oldest, and stays. The frame that came then stands in `came`. Else it returns
+    /// false, and nothing changes.
+    #[inline(always)]
+    pub fn exchange(&mut self, frame: &mut [T], came: &mut [T]) -> bool
+        requires frame { length frame.old ≡ self.old.channels }
+        requires free { length came.old ≡ length frame.old }
         ensures kept { result ≡ false → (self.new ≡ self.old) × (frame.new ≡ frame.old) }
         ensures items { result ≡ true → self.new.items ≡ pushed self.old frame.old }
         ensures capacity { self.new.capacity ≡ self.old.capacity }
         ensures channels { self.new.channels ≡ self.old.channels }
         ensures oldest { result ≡ true → pushed_out self.old frame.old ≡ Some frame.new }
         ensures full { result ≡ true → length self.old.items ≡ self.old.capacity }
+        ensures came { result ≡ true → came.new ≡ frame.old }
+        ensures when { result ≡ true ↔ length self.old.items ≡ self.old.capacity }
     {
-        if !self.samples.is_full() {
+        if !self.is_full() {
             return false;
         }
-        if !may_hold::<T>(16) {
-            return false;
-        }
-        let mut places = [frame[0]; 16];
-        let came = &mut places[..frame.len()];
         came.copy_from_slice(frame);
         self.samples.read_into(frame);
         self.samples.extend_from_slice(came);
@@ -170,7 +176,7 @@ impl<T: Copy> Ring<T> {
         ensures len { length frames.new ≡ length frames.old }
         ensures when { result ≡ true ↔ (length self.old.items ≡ self.old.capacity) × (count ≤ length self.old.items) }
     {
-        if !self.samples.is_full() {
+        if !self.is_full() {
             return false;
         }
         if count > self.len {

@@ -5,7 +5,7 @@ use Rattle.fx_frame_base.specs.Lists.{pieces}
 use Rattle.fx_cut.proofs.lines.exchange_group.Goals as goal
 
 pub returns-then-exchange_frames-clause-oldest : goal.returns-then-exchange_frames-clause-oldest
-returns-then-exchange_frames-clause-oldest c =
+returns-then-exchange_frames-clause-oldest g c =
     let delivered = c.exchange_frames.ensures in
     let both = delivered.when.0 c.if-exchange_frames.true in
     let ys : List Samples = pieces c.args.line.now.channels c.args.count c.args.samples.now in

@@ -1,13 +1,13 @@
 use Rattle.std.proofs.Common.{◌≡◌, ◌≤◌, length, refl, arith}
 use Rattle.std.proofs.lemmas.Grind.{common_steps}
 use Rattle.fx_frame_line.proofs.RingLaws.{keep-exchanged, ring-len}
-use Rattle.fx_frame_line.proofs.ManyFrames.{ring-push_frames, ring-exchanged, ring-filled, ring-level_many, ring-whole}
+use Rattle.fx_frame_line.proofs.ManyFrames.{ring-push_frames, ring-exchanged, ring-filled, ring-level_many}
 use Rattle.fx_frame_line.proofs.ring.Ring.exchange_frames.Goals as goal
 
 pub returns-clause-items : goal.returns-clause-items
 returns-clause-items g c = λ is.
-    let e = c.is_full.ensures in
-    let full : length c.self.inside.samples.items ≡ c.self.inside.samples.capacity = grind (arith, common_steps) in
+    let whole : length c.args.self.now.items ≡ c.args.self.now.capacity = c.is_full.ensures.0 (grind (arith, common_steps)) in
+    let full : length c.self.inside.samples.items ≡ c.self.inside.samples.capacity = ring-filled _ _ _ _ _ c.self.view_is c.self.invariant whole in
     let after = rw c.copy_from_slice.ensures.after at c.extend_from_slice.ensures in
     (ring-push_frames _ _ _ _ _ c.self.view_is c.self.invariant _ _ _ _ c.requires.frames (ring-level_many _ _ _ _ _ c.self.view_is c.self.invariant _ full) (keep-exchanged _ _ _ _ _ full c.read_into.ensures.count c.read_into.ensures.items after)).1
 
@@ -21,21 +21,19 @@ returns-clause-bound g c = λ is.
     let held = ring-len _ _ _ _ _ c.self.view_is c.self.invariant in
     omega arith
 
-pub returns-then-not-is_full-clause-when : goal.returns-then-not-is_full-clause-when
-returns-then-not-is_full-clause-when g c = (
+pub returns-then-count-self-clause-when : goal.returns-then-count-self-clause-when
+returns-then-count-self-clause-when g c = (
   λ e. absurd (cc (e)),
   λ both.
-      let filled : length c.self.inside.samples.items ≡ c.self.inside.samples.capacity = ring-filled _ _ _ _ _ c.self.view_is c.self.invariant both.0 in
-      let e = c.is_full.ensures in
-      grind (arith, common_steps),
+      let held = ring-len _ _ _ _ _ c.self.view_is c.self.invariant in
+      absurd (omega (arith, both.1)),
 )
 
 pub returns-clause-when : goal.returns-clause-when
 returns-clause-when g c = (
   λ is.
-      let e = c.is_full.ensures in
-      let full : length c.self.inside.samples.items ≡ c.self.inside.samples.capacity = grind (arith, common_steps) in
+      let whole : length c.args.self.now.items ≡ c.args.self.now.capacity = c.is_full.ensures.0 (grind (arith, common_steps)) in
       let held = ring-len _ _ _ _ _ c.self.view_is c.self.invariant in
-      (ring-whole _ _ _ _ _ c.self.view_is c.self.invariant full, omega arith),
+      (whole, omega arith),
   λ both. refl,
 )
