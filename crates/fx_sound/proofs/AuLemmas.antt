@@ -1,6 +1,7 @@
 -- The head of an AU sound, from what was read of it.
-use Rattle.std.proofs.Common.{◌≡◌, ℕ, ◌+◌, ◌<◌, ◌≤◌, List, length, take, true, false, refl, sym, ap, ◌∙◌, arith, nat_lt}
+use Rattle.std.proofs.Common.{◌≡◌, ℕ, ◌+◌, ◌-◌, ◌<◌, ◌≤◌, inl, inr, List, length, take, true, false, refl, sym, ap, ◌∙◌, arith, nat_lt}
 use Rattle.std.specs.Prelude.{Ok, Err, Result}
+use Rattle.std.proofs.lemmas.Bool.{cases_lt}
 use Rattle.std.proofs.lemmas.List.{take_all, length-take, take-take}
 use Rattle.std.proofs.lemmas.Grind.{common_steps}
 use Rattle.fx_sound.specs.declared.fields.HeadFields.{HeadFields}
@@ -45,3 +46,14 @@ pub with_sound-whole : (n : ℕ) (l : HeadFields) → l.offset ≤ n + 4 → wit
 with_sound-whole n l h =
     let p : nat_lt (n + 4) l.offset ≡ false = grind (arith, common_steps) in
     rw p refl
+
+-- bytes that end before the sound decide nothing
+pub after_snd-early : (bytes words : List ℕ) (n k : ℕ) (l : HeadFields) → take n words ≡ take n bytes → n ≤ length bytes → length words ≤ n → 20 ≤ n → n ≤ 20
+    → Ok l ≡ au_fields words → k + 4 < l.offset → after_snd (take k bytes) ≡ Err Truncated
+after_snd-early bytes words n k l e h a b c f lt = elim (cases_lt k n) [
+  | inl short ↦ after_snd-cut bytes k (omega arith)
+  | inr long ↦
+      let place : n + (k - n) ≡ k = omega arith in
+      ap (λ i. after_snd (take i bytes)) (sym place) ∙ after_snd-read-cut bytes words n (k - n) (Ok l) e h a b c f
+      ∙ with_sound-short (length (take (n + (k - n)) bytes)) l (omega (arith, length-take (n + (k - n)) bytes))
+]

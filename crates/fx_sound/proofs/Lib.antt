@@ -9,7 +9,9 @@ pub mod ManyBytes
 pub mod RunLaws
 pub mod Sending
 pub mod Sounds
+pub mod Standing
 pub mod Threes
+mod Unclipped
 pub mod WaveCut
 pub mod WaveLemmas
 pub mod WaveLocal

@@ -1,12 +1,14 @@
 -- What came before a read failed, chunk by chunk.
-use Rattle.std.proofs.Common.{◌≡◌, ℕ, ◌+◌, ◌-◌, ◌<◌, ◌≤◌, List, length, take, drop, sym, ap, ◌∙◌, arith}
-use Rattle.std.specs.Prelude.{Ok, Option, None}
+use Rattle.std.proofs.Common.{◌≡◌, ℕ, ◌+◌, ◌-◌, ◌<◌, ◌≤◌, inl, inr, List, length, take, drop, sym, ap, ◌∙◌, arith}
+use Rattle.std.specs.Prelude.{Ok, Err, Option, None}
+use Rattle.std.proofs.lemmas.Bool.{cases_lt}
 use Rattle.std.proofs.lemmas.List.{drop-take, drop-drop}
 use Rattle.fx_sound.specs.declared.fields.Format.{Format}
+use Rattle.fx_sound.specs.declared.head.HeadFault.TheVariants.{Truncated}
 use Rattle.fx_sound.specs.declared.wave.ChunkStep.TheVariants as step
 use Rattle.fx_sound.specs.Wave.{step_of, chunks_of}
-use Rattle.fx_sound.proofs.WaveLemmas.{turn-next}
-use Rattle.fx_sound.proofs.WaveLocal.{step_of-local}
+use Rattle.fx_sound.proofs.WaveLemmas.{turn-fault, turn-next}
+use Rattle.fx_sound.proofs.WaveLocal.{step_of-early, step_of-local}
 
 pub cut-next : (m t o next : ℕ) (seen format : Option Format) (bytes : List ℕ) → t < m → 12 ≤ o → o + 8 ≤ next
     → step_of o seen (drop (o - 12) bytes) ≡ Ok (step.Next next format) → next - o ≤ length (drop (o - 12) bytes)
@@ -25,3 +27,17 @@ cut-next m t o next seen format bytes h a b e l old k =
     ∙ sym (turn-next m t o next seen format (take (next - o + k) (drop (o - 12) bytes)) h local)
     ∙ old (next - o + k)
     ∙ ap (λ i. chunks_of m 12 None (take i bytes)) far
+
+-- bytes that end before the next chunk decide nothing
+pub early-next : (m t o next : ℕ) (seen format : Option Format) (bytes : List ℕ) → t < m → 12 ≤ o
+    → step_of o seen (drop (o - 12) bytes) ≡ Ok (step.Next next format)
+    → ((k : ℕ) → chunks_of (m - t) o seen (take k (drop (o - 12) bytes)) ≡ chunks_of m 12 None (take (o - 12 + k) bytes))
+    → ((k : ℕ) → k < o - 12 → chunks_of m 12 None (take k bytes) ≡ Err Truncated)
+    → (k : ℕ) → k < next - 12 → chunks_of m 12 None (take k bytes) ≡ Err Truncated
+early-next m t o next seen format bytes h a e cut early k lt = elim (cases_lt k (o - 12)) [
+  | inl before ↦ early k before
+  | inr within ↦
+      let place : o - 12 + (k - (o - 12)) ≡ k = omega arith in
+      ap (λ i. chunks_of m 12 None (take i bytes)) (sym place) ∙ sym (cut (k - (o - 12)))
+      ∙ turn-fault m t o seen (take (k - (o - 12)) (drop (o - 12) bytes)) Truncated h (step_of-early o seen (drop (o - 12) bytes) (k - (o - 12)) next format e (omega arith))
+]

@@ -6,6 +6,7 @@ use Rattle.std.proofs.lemmas.Grind.{common_steps}
 use Rattle.fx_sound.specs.declared.fields.Format.{Format}
 use Rattle.fx_sound.specs.declared.fields.HeadFields.{HeadFields}
 use Rattle.fx_sound.specs.declared.wave.Demand.{Demand}
+use Rattle.fx_sound.specs.declared.wave.Demand.TheVariants as demand
 use Rattle.fx_sound.specs.declared.wave.ChunkStep.{ChunkStep}
 use Rattle.fx_sound.specs.declared.wave.ChunkStep.TheVariants as step
 use Rattle.fx_sound.specs.declared.head.HeadFault.{HeadFault}
@@ -31,6 +32,12 @@ format_read-whole size n bytes out e a b c h =
     let front : out ≡ take (min size 40) bytes = sym (take_all n out a) ∙ e ∙ ap (λ i. take i bytes) same in
     let p : nat_lt (length bytes) (padded_chunk size) ≡ false = grind (arith, common_steps) in
     rw (p, front) refl
+
+-- too few bytes for data that is skipped
+pub other-cut : (o size came : ℕ) (seen : Option Format) (body : List ℕ) → came < padded_chunk size → with_body o seen (take came body) (Ok (demand.Other size)) ≡ Err Truncated
+other-cut o size came seen body h =
+    let p : nat_lt (length (take came body)) (padded_chunk size) ≡ true = let l = length-take came body in grind (arith, common_steps) in
+    rw p refl
 
 -- too few bytes for name and size
 pub step_of-short : (o : ℕ) (seen : Option Format) (rest : List ℕ) → length rest < 8 → step_of o seen rest ≡ Err Truncated

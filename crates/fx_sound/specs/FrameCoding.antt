@@ -1,7 +1,8 @@
 -- Frames as bytes: the samples one after the other, channel by channel (RIFF WAVE, Sun AU).
-use Rattle.std.specs.Prelude.{ℕ, ℤ, ◌*◌, List, map, count_by}
+use Rattle.std.specs.Prelude.{ℕ, ℤ, pos, ◌*◌, List, map, count_by}
 use Rattle.std.specs.List.{flat_map}
 use Rattle.fx_frame_base.specs.declared.coding.Coding.{Coding}
+use Rattle.fx_frame_base.specs.declared.coding.Coding.TheVariants.{U8, S8, S16Le, S16Be, S24Le, S24Be, S32Le, S32Be}
 use Rattle.fx_frame_base.specs.Coding.{width_of, read_sample, written_sample, clips_written}
 use Rattle.fx_frame_base.specs.Lists.{pieces}
 
@@ -20,3 +21,14 @@ bytes_of coding samples = flat_map (written_sample coding) samples
 -- how many samples of a frame are clipped on writing
 abbrev pub clips_of : Coding → List ℤ → ℕ
 clips_of coding samples = count_by (clips_written coding) samples
+
+-- the largest sample that is not clipped on writing
+abbrev pub largest_unclipped : Coding → ℤ
+largest_unclipped U8 = pos 0x7f7fffff
+largest_unclipped S8 = pos 0x7f7fffff
+largest_unclipped S16Le = pos 0x7fff7fff
+largest_unclipped S16Be = pos 0x7fff7fff
+largest_unclipped S24Le = pos 0x7fffff7f
+largest_unclipped S24Be = pos 0x7fffff7f
+largest_unclipped S32Le = pos 0x7fffffff
+largest_unclipped S32Be = pos 0x7fffffff

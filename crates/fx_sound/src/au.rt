@@ -1,17 +1,18 @@
 //! Reading the head of a Sun AU sound.
 
-ghost use Rattle.std.specs.Prelude.{◌≡◌, ◌+◌, ◌-◌, ◌<◌, ◌≤◌, false, IsTrue, IfOk, IfErr, IfSome, MatchBool, length};
+ghost use Rattle.std.specs.Prelude.{◌≡◌, ◌+◌, ◌-◌, ◌^◌, ◌<◌, ◌≤◌, false, IsTrue, IfOk, IfErr, IfSome, MatchBool, length};
 ghost use Rattle.fx_frame_base.specs.Io.{saturated};
 ghost use Rattle.fx_sound.specs.Au.{word_at, au_coding, au_fields, after_snd};
 ghost use Rattle.fx_sound.specs.Kind.{is_of_au};
 ghost use Rattle.fx_sound.specs.HeadFields.{IsProper, is_read_failure};
-ghost use Rattle.fx_sound.specs.Reads.{Reads, Refuses, Fails};
+ghost use Rattle.fx_sound.specs.Reads.{Reads, Refuses, Fails, StandsIfKnown};
 ghost use Rattle.fx_sound.specs.Source.{Takes};
 
 use super::fields::{AU_UNKNOWN, Format, HeadFields};
 use super::head::{HeadFault, Kind, MAX_SOUND_OFFSET};
 use super::source::Source;
 use byteorder::{BigEndian, ByteOrder};
+use fx_frame_base::frame::MAX_CHANNELS;
 use fx_frame_base::{ByteIn, Coding};
 
 fn word(bytes: &[u8], i: usize) -> u32
@@ -59,7 +60,7 @@ fn fields(words: &[u8]) -> Result<HeadFields, HeadFault>
     if rate == 0 || channels == 0 {
         return Err(HeadFault::BadHeader);
     }
-    if channels > 16 {
+    if channels as usize > MAX_CHANNELS {
         return Err(HeadFault::TooManyChannels);
     }
     Ok(HeadFields {
@@ -85,6 +86,7 @@ pub(crate) fn read_au<R: ByteIn>(source: &mut Source<R>) -> Result<HeadFields, H
     ensures proper { IfOk result (λ l. IsProper Kind.Au l.format) }
     ensures fault { IfErr result (Refuses R.reads.rest after_snd source.old) }
     ensures cut { IfErr result (Fails R.reads.rest R.reads.delivered after_snd source.old source.new) }
+    ensures stands { IfErr result (StandsIfKnown R.reads.rest R.reads.delivered after_snd (2 ^ 24 - 4) source.old source.new) }
     ensures failures { MatchBool (is_read_failure result)
         (R.reads.failures source.new.reader ≡ saturated (R.reads.failures source.old.reader + 1))
         (R.reads.failures source.new.reader ≡ R.reads.failures source.old.reader) }

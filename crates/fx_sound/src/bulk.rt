@@ -2,7 +2,7 @@
 ghost use Rattle.std.specs.Prelude.{◌≡◌, ◌*◌, ℕ, length, map, sum_by, ◌≤◌, ◌^◌};
 ghost use Rattle.std.specs.List.{flat_map};
 ghost use Rattle.fx_frame_base.specs.Coding.{width_of};
-ghost use Rattle.fx_sound.specs.FrameCoding.{bytes_of, clips_of, frame_size, coded_samples};
+ghost use Rattle.fx_sound.specs.FrameCoding.{bytes_of, clips_of, frame_size, coded_samples, largest_unclipped};
 ghost use Rattle.fx_frame_base.specs.Lists.{pieces};
 
 use crate::fours::{read_four, write_four};
@@ -69,8 +69,38 @@ pub fn decode_into(coding: Coding, bytes: &[u8], samples: &mut [i32])
 /// The maximum number of samples of a loop that counts in 32 bits.
 const SAMPLES_OF_LOOP: usize = 1 << 16;
 
+/// The largest sample that is not clipped on writing.
+#[inline(always)]
+fn largest_unclipped(coding: Coding) -> i32
+    ensures { result ≡ largest_unclipped coding }
+{
+    match coding {
+        Coding::U8 | Coding::S8 => 0x7f7f_ffff,
+        Coding::S16Le | Coding::S16Be => 0x7fff_7fff,
+        Coding::S24Le | Coding::S24Be => 0x7fff_ff7f,
+        Coding::S32Le | Coding::S32Be => i32::MAX,
+    }
+}
+
+/// How many of so few samples are clipped on writing.
+#[inline(always)]
+fn count_clips(coding: Coding, samples: &[i32]) -> u32
+    requires bound { length samples.now ≤ 2 ^ 16 }
+    ensures { result ≡ clips_of coding samples.now }
+{
+    let width = coding.width();
+    let mut bytes = [0; 4];
+    let mut clips = 0;
+    'samples: for place in 0..samples.len() {
+        if coding.write(samples[place], &mut bytes[..width]) {
+            clips += 1;
+        }
+    }
+    clips
+}
+
 /// Writes the bytes of so few samples, and returns how many samples were clipped.
-// The counter has 32 bits as the samples have, so that the loop works on as many at once as there is space for samples.
+// Most sounds have none, so the loop keeps the largest sample alone, which takes fewer instructions than a count.
 #[inline(always)]
 fn encode_batch(coding: Coding, samples: &[i32], out: &mut [u8]) -> u32
     requires bytes { length out.old ≡ length samples.now * width_of coding }
@@ -79,14 +109,17 @@ fn encode_batch(coding: Coding, samples: &[i32], out: &mut [u8]) -> u32
     ensures clips { result ≡ clips_of coding samples.now }
 {
     let width = coding.width();
-    let mut clips = 0;
+    let mut largest = i32::MIN;
     'samples: for (k, sample) in samples.iter().enumerate() {
         let at = k * width;
-        if coding.write(*sample, &mut out[at..at + width]) {
-            clips += 1;
-        }
+        // Before the write: a sample would be loaded again after it.
+        largest = largest.max(*sample);
+        let _is_clipped = coding.write(*sample, &mut out[at..at + width]);
     }
-    clips
+    if largest <= largest_unclipped(coding) {
+        return 0;
+    }
+    count_clips(coding, samples)
 }
 
 /// Writes the bytes of samples, and returns how many samples were clipped.

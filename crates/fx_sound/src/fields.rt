@@ -9,13 +9,13 @@ pub(crate) const WAV_UNKNOWN: u32 = 0x7FFF_F000;
 pub(crate) const AU_UNKNOWN: u32 = 0xFFFF_FFFF;
 
 /// The format tag of integer samples in WAVE.
-pub(crate) const PLAIN: u16 = 1;
+pub const PLAIN: u16 = 1;
 
 /// The format tag of an extensible format in WAVE.
-pub(crate) const EXTENSIBLE: u16 = 0xFFFE;
+pub const EXTENSIBLE: u16 = 0xFFFE;
 
 /// The subformat GUID of integer samples in an extensible format.
-pub(crate) const PCM_GUID: [u8; 16] = [1, 0, 0, 0, 0, 0, 16, 0, 128, 0, 0, 170, 0, 56, 155, 113];
+pub const PCM_GUID: [u8; 16] = [1, 0, 0, 0, 0, 0, 16, 0, 128, 0, 0, 170, 0, 56, 155, 113];
 
 /// The properties of the frames in a head.
 #[derive(Clone, Copy, Debug, PartialEq, Eq)]

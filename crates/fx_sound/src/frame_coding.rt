@@ -5,6 +5,7 @@ ghost use Rattle.fx_sound.specs.FrameCoding.{frame_size, coded_samples, bytes_of
 
 use crate::bulk::{decode_into, encode_into};
 use fx_frame::{Coding, Frame};
+use fx_frame_base::frame::MAX_CHANNELS;
 
 /// The frame of 1 to 16 channels that the bytes are.
 #[inline]
@@ -31,7 +32,7 @@ fn decoded_wide(coding: Coding, channels: usize, bytes: &[u8]) -> Frame
     ensures samples { result ≡ coded_samples coding channels bytes.now }
     ensures channels { length result ≡ channels }
 {
-    let mut samples = [0; 16];
+    let mut samples = [0; MAX_CHANNELS];
     decode_into(coding, bytes, &mut samples[..channels]);
     Frame::of_first(channels, samples)
 }

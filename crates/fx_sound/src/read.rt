@@ -1,12 +1,12 @@
 //! Reading the head of a sound.
 
-ghost use Rattle.std.specs.Prelude.{◌≡◌, ◌+◌, ◌-◌, ◌<◌, ◌≤◌, IfOk, IfErr, MatchBool};
+ghost use Rattle.std.specs.Prelude.{◌≡◌, ◌+◌, ◌-◌, ◌^◌, ◌<◌, ◌≤◌, IfOk, IfErr, MatchBool};
 ghost use Rattle.fx_frame_base.specs.Io.{saturated};
 ghost use Rattle.fx_sound.specs.Source.{to_come, Takes};
 ghost use Rattle.fx_sound.specs.Known.{IfKnown};
 ghost use Rattle.fx_sound.specs.Head.{kind_of, allowed, after_kind, head_of, ReadsHead};
 ghost use Rattle.fx_sound.specs.HeadFields.{IsProper, is_read_failure};
-ghost use Rattle.fx_sound.specs.Reads.{Reads, Refuses, Fails};
+ghost use Rattle.fx_sound.specs.Reads.{Reads, Refuses, Fails, StandsIfKnown};
 
 use super::au::read_au;
 use super::fields::HeadFields;
@@ -39,6 +39,7 @@ fn read_fields<R: ByteIn>(source: &mut Source<R>, kind: Kind) -> Result<HeadFiel
     ensures proper { IfOk result (λ l. IsProper kind l.format) }
     ensures fault { IfErr result (Refuses R.reads.rest (after_kind kind) source.old) }
     ensures cut { IfErr result (Fails R.reads.rest R.reads.delivered (after_kind kind) source.old source.new) }
+    ensures stands { IfErr result (StandsIfKnown R.reads.rest R.reads.delivered (after_kind kind) (2 ^ 24 - 4) source.old source.new) }
     ensures failures { MatchBool (is_read_failure result)
         (R.reads.failures source.new.reader ≡ saturated (R.reads.failures source.old.reader + 1))
         (R.reads.failures source.new.reader ≡ R.reads.failures source.old.reader) }
@@ -52,8 +53,8 @@ fn read_fields<R: ByteIn>(source: &mut Source<R>, kind: Kind) -> Result<HeadFiel
 /// Reads the head of a sound, up to the first byte of the sound; of the expected kind, or of
 /// either where none is expected.
 ///
-/// The first fault is returned, in the order of the checks. After a fault the source has been read
-/// in part and is used only for `into_inner`.
+/// The first fault is returned, in the order of the checks. After a fault the bytes that decided it were taken, at most `2^24`,
+/// and all others are still to come. After a failed read those that came and were not taken are held.
 pub fn read_head<R: ByteIn>(
     source: &mut Source<R>,
     expected: Option<Kind>,
@@ -61,6 +62,7 @@ pub fn read_head<R: ByteIn>(
     ensures head { IfOk result (λ h. IfKnown (to_come R.reads.rest source.old) (λ bytes. ReadsHead R.reads.rest R.reads.delivered expected bytes source.old source.new h)) }
     ensures fault { IfErr result (Refuses R.reads.rest (head_of expected) source.old) }
     ensures read_failed { IfErr result (Fails R.reads.rest R.reads.delivered (head_of expected) source.old source.new) }
+    ensures stands { IfErr result (StandsIfKnown R.reads.rest R.reads.delivered (head_of expected) MAX_SOUND_OFFSET source.old source.new) }
     ensures failures { MatchBool (is_read_failure result)
         (R.reads.failures source.new.reader ≡ saturated (R.reads.failures source.old.reader + 1))
         (R.reads.failures source.new.reader ≡ R.reads.failures source.old.reader) }

@@ -6,12 +6,13 @@ ghost use Rattle.fx_sound.specs.Kind.{is_of_wav};
 ghost use Rattle.fx_sound.specs.HeadFields.{IsProper, is_read_failure};
 ghost use Rattle.fx_sound.specs.Wave.{half_at, long_at, wav_coding, IsProperSeen, plain_of, format_of, padded_chunk, demand_of, IsNearChunk, AskedAt, format_read, with_body, step_of, end_of, GoesOn, chunks_of, max_chunks, after_riff};
 ghost use Rattle.fx_sound.specs.Chunks.{WaveIsRead};
-ghost use Rattle.fx_sound.specs.Reads.{Reads, Refuses, Fails};
+ghost use Rattle.fx_sound.specs.Reads.{Reads, Refuses, Fails, StandsIfKnown};
 
 use super::fields::{EXTENSIBLE, Format, HeadFields, PCM_GUID, PLAIN, WAV_UNKNOWN};
 use super::head::{HeadFault, Kind, MAX_SOUND_OFFSET};
 use super::source::Source;
 use byteorder::{ByteOrder, LittleEndian};
+use fx_frame_base::frame::MAX_CHANNELS;
 use fx_frame_base::{ByteIn, Coding};
 
 // The greatest offset at which a chunk may begin.
@@ -83,7 +84,7 @@ fn plain(bytes: &[u8]) -> Result<Format, HeadFault>
     if align as u32 != channels as u32 * (bits as u32 / 8) {
         return Err(HeadFault::NotInProfile);
     }
-    if channels > 16 {
+    if channels as usize > MAX_CHANNELS {
         return Err(HeadFault::TooManyChannels);
     }
     Ok(Format {
@@ -164,6 +165,7 @@ fn read_format<R: ByteIn>(source: &mut Source<R>, size: u32) -> Result<Format, H
     ensures delivered { IfOk result (λ _. Takes R.reads.delivered source.old source.new (padded_chunk size)) }
     ensures fault { IfErr result (Refuses R.reads.rest (format_read size) source.old) }
     ensures cut { IfErr result (Fails R.reads.rest R.reads.delivered (format_read size) source.old source.new) }
+    ensures stands { IfErr result (StandsIfKnown R.reads.rest R.reads.delivered (format_read size) (padded_chunk size) source.old source.new) }
     ensures failures { MatchBool (is_read_failure result)
         (R.reads.failures source.new.reader ≡ saturated (R.reads.failures source.old.reader + 1))
         (R.reads.failures source.new.reader ≡ R.reads.failures source.old.reader) }
@@ -201,6 +203,7 @@ fn read_body<R: ByteIn>(
     ensures on { IfOk result (GoesOn offset) }
     ensures fault { IfErr result (Refuses R.reads.rest (λ body. with_body offset seen body (Ok demand)) source.old) }
     ensures cut { IfErr result (Fails R.reads.rest R.reads.delivered (λ body. with_body offset seen body (Ok demand)) source.old source.new) }
+    ensures stands { IfErr result (StandsIfKnown R.reads.rest R.reads.delivered (λ body. with_body offset seen body (Ok demand)) (2 ^ 24 - (offset + 8)) source.old source.new) }
     ensures failures { MatchBool (is_read_failure result)
         (R.reads.failures source.new.reader ≡ saturated (R.reads.failures source.old.reader + 1))
         (R.reads.failures source.new.reader ≡ R.reads.failures source.old.reader) }
@@ -213,7 +216,9 @@ fn read_body<R: ByteIn>(
         }
         Demand::Other(size) => {
             let length = (size + size % 2) as usize;
-            let skipped = source.skip(length).map_err(|_| HeadFault::ReadFailed)?;
+            let Ok(skipped) = source.skip(length) else {
+                return Err(HeadFault::ReadFailed);
+            };
             if skipped < length {
                 return Err(HeadFault::Truncated);
             }
@@ -242,6 +247,7 @@ fn read_step<R: ByteIn>(
     ensures on { IfOk result (GoesOn offset) }
     ensures fault { IfErr result (Refuses R.reads.rest (step_of offset seen) source.old) }
     ensures cut { IfErr result (Fails R.reads.rest R.reads.delivered (step_of offset seen) source.old source.new) }
+    ensures stands { IfErr result (StandsIfKnown R.reads.rest R.reads.delivered (step_of offset seen) (2 ^ 24 - offset) source.old source.new) }
     ensures failures { MatchBool (is_read_failure result)
         (R.reads.failures source.new.reader ≡ saturated (R.reads.failures source.old.reader + 1))
         (R.reads.failures source.new.reader ≡ R.reads.failures source.old.reader) }
@@ -270,6 +276,7 @@ fn read_chunks<R: ByteIn>(source: &mut Source<R>) -> Result<HeadFields, HeadFaul
     ensures proper { IfOk result (λ h. IsProper Kind.Wav h.format) }
     ensures fault { IfErr result (Refuses R.reads.rest (chunks_of max_chunks 12 None) source.old) }
     ensures cut { IfErr result (Fails R.reads.rest R.reads.delivered (chunks_of max_chunks 12 None) source.old source.new) }
+    ensures stands { IfErr result (StandsIfKnown R.reads.rest R.reads.delivered (chunks_of max_chunks 12 None) (2 ^ 24 - 12) source.old source.new) }
     ensures failures { MatchBool (is_read_failure result)
         (R.reads.failures source.new.reader ≡ saturated (R.reads.failures source.old.reader + 1))
         (R.reads.failures source.new.reader ≡ R.reads.failures source.old.reader) }
@@ -296,6 +303,7 @@ pub(crate) fn read_wav<R: ByteIn>(source: &mut Source<R>) -> Result<HeadFields, 
     ensures proper { IfOk result (λ h. IsProper Kind.Wav h.format) }
     ensures fault { IfErr result (Refuses R.reads.rest after_riff source.old) }
     ensures cut { IfErr result (Fails R.reads.rest R.reads.delivered after_riff source.old source.new) }
+    ensures stands { IfErr result (StandsIfKnown R.reads.rest R.reads.delivered after_riff (2 ^ 24 - 4) source.old source.new) }
     ensures failures { MatchBool (is_read_failure result)
         (R.reads.failures source.new.reader ≡ saturated (R.reads.failures source.old.reader + 1))
         (R.reads.failures source.new.reader ≡ R.reads.failures source.old.reader) }

@@ -1,9 +1,11 @@
-use Rattle.std.proofs.Common.{◌≡◌, ◌+◌, ◌-◌, ◌≤◌, length, take, drop, ap, ◌∙◌, arith}
+use Rattle.std.proofs.Common.{◌≡◌, ◌+◌, ◌-◌, ◌≤◌, length, take, drop, ap, ◌∙◌, arith, refl}
 use Rattle.std.specs.Prelude.{Some}
 use Rattle.std.proofs.lemmas.List.{length-drop, length-take, drop-drop}
 use Rattle.fx_sound.proofs.Faults.{IfErr-passed}
-use Rattle.fx_sound.proofs.Held.{Tells-both}
-use Rattle.fx_sound.proofs.AuLemmas.{after_snd-short, after_snd-cut, after_snd-read, after_snd-read-cut, with_sound-short, with_sound-whole}
+use Rattle.fx_sound.proofs.Held.{Tells-both, Takes-both}
+use Rattle.fx_sound.proofs.AuLemmas.{after_snd-early, after_snd-short, after_snd-cut, after_snd-read, after_snd-read-cut, with_sound-short, with_sound-whole}
+use Rattle.fx_sound.proofs.Standing.{stands-taken, stands-unread, stands-empty}
+use Rattle.fx_sound.specs.Au.{after_snd}
 use Rattle.fx_sound.proofs.au.read_au.Goals as goal
 
 pub returns-in_default-clause-cut : goal.returns-in_default-clause-cut
@@ -69,3 +71,45 @@ returns-clause-fields g c = λ bytes known.
       there,
       then.1 ∙ ap Some (drop-drop c.in-Ok-skip.skipped c.in-Ok.got bytes ∙ ap (λ i. drop i bytes) place),
     )
+
+pub returns-in_default-clause-stands : goal.returns-in_default-clause-stands
+returns-in_default-clause-stands g c = λ bytes known. stands-unread g.R.ByteIn.reads.rest g.R.ByteIn.reads.delivered _ _ _ _ bytes c.in_default.ensures.untaken (c.in_default.ensures.front bytes known)
+
+pub returns-then-got-lt20-clause-stands : goal.returns-then-got-lt20-clause-stands
+returns-then-got-lt20-clause-stands g c = λ bytes known.
+    let first = c.in-Ok.ensures.known bytes known in
+    stands-taken g.R.ByteIn.reads.rest g.R.ByteIn.reads.delivered _ _ _ _ bytes _ c.in-Ok.got (omega arith) c.in-Ok.ensures.delivered (λ k lt. after_snd-cut bytes k (omega arith)) first.1 first.2 (after_snd-cut bytes c.in-Ok.got (omega arith))
+
+pub returns-in_err-fields-clause-stands : goal.returns-in_err-fields-clause-stands
+returns-in_err-fields-clause-stands g c = IfErr-passed c.from_residual.result _ _ c.from_residual.ensures.1 (λ bytes known.
+    let twenty = c.fill.auto.out in
+    let first = c.in-Ok.ensures.known bytes known in
+    let count = c.in-Ok.ensures.count in
+    stands-taken g.R.ByteIn.reads.rest g.R.ByteIn.reads.delivered _ _ _ _ bytes _ c.in-Ok.got (omega arith) c.in-Ok.ensures.delivered (λ k lt. after_snd-cut bytes k (omega arith)) first.1 first.2
+    (ap (λ n. after_snd (take n bytes)) (let same : c.in-Ok.got ≡ c.in-Ok.got + 0 = omega arith in same)
+    ∙ after_snd-read-cut bytes c.fill.new.out c.in-Ok.got 0 _ first.0 first.1 (omega arith) (omega arith) (omega arith) c.in_err-fields.ensures.value))
+
+pub returns-in_default-skip-clause-stands : goal.returns-in_default-skip-clause-stands
+returns-in_default-skip-clause-stands g c = λ bytes known.
+    let twenty = c.fill.auto.out in
+    let count = c.in-Ok.ensures.count in
+    let short = c.in_default-skip.ensures.short in
+    let offset = c.in_ok-fields.ensures.offset in
+    stands-empty g.R.ByteIn.reads.rest g.R.ByteIn.reads.delivered _ _ _ _ bytes (c.in-Ok.got + short.came) (omega (arith, short.bound, offset.0, offset.1)) (Tells-both g.R.ByteIn.reads.delivered _ _ _ c.in-Ok.got short.came c.in-Ok.ensures.delivered short.tells)
+    (λ k lt.
+    let first = c.in-Ok.ensures.known bytes known in
+    after_snd-early bytes c.fill.new.out c.in-Ok.got k c.in_ok-fields.fields first.0 first.1 (omega arith) (omega arith) (omega arith) c.in_ok-fields.ensures.value (omega (arith, lt, short.bound, offset.0)))
+    c.in_default-skip.ensures.none
+
+pub returns-then-skipped-between-clause-stands : goal.returns-then-skipped-between-clause-stands
+returns-then-skipped-between-clause-stands g c = λ bytes known.
+    let twenty = c.fill.auto.out in
+    let first = c.in-Ok.ensures.known bytes known in
+    let then = c.in-Ok-skip.ensures.bytes _ first.2 in
+    let count = c.in-Ok.ensures.count in
+    let offset = c.in_ok-fields.ensures.offset in
+    stands-taken g.R.ByteIn.reads.rest g.R.ByteIn.reads.delivered _ _ _ _ bytes _ (c.in-Ok.got + c.in-Ok-skip.skipped) (omega (arith, offset.0, offset.1))
+    (Takes-both g.R.ByteIn.reads.delivered _ _ c.skip.new.self c.in-Ok.got c.in-Ok-skip.skipped _ refl c.in-Ok.ensures.delivered c.in-Ok-skip.ensures.delivered)
+    (λ k lt. after_snd-early bytes c.fill.new.out c.in-Ok.got k c.in_ok-fields.fields first.0 first.1 (omega arith) (omega arith) (omega arith) c.in_ok-fields.ensures.value (omega (arith, lt, offset.0)))
+    (omega (arith, then.0, first.1, length-drop c.in-Ok.got bytes)) (then.1 ∙ ap Some (drop-drop c.in-Ok-skip.skipped c.in-Ok.got bytes))
+    (after_snd-early bytes c.fill.new.out c.in-Ok.got (c.in-Ok.got + c.in-Ok-skip.skipped) c.in_ok-fields.fields first.0 first.1 (omega arith) (omega arith) (omega arith) c.in_ok-fields.ensures.value (omega (arith, offset.0)))

@@ -1,10 +1,11 @@
-use Rattle.std.proofs.Common.{◌≡◌, ◌+◌, ◌-◌, length, drop, ap, ◌∙◌, arith}
+use Rattle.std.proofs.Common.{◌≡◌, ◌+◌, ◌-◌, length, drop, ap, ◌∙◌, arith, take}
 use Rattle.std.specs.Prelude.{Some}
 use Rattle.std.proofs.lemmas.List.{length-drop, drop-drop}
-use Rattle.fx_sound.specs.Head.{spelt_as}
+use Rattle.fx_sound.specs.Head.{spelt_as, head_of}
 use Rattle.fx_sound.proofs.Faults.{IfErr-passed}
 use Rattle.fx_sound.proofs.Held.{Takes-both, Tells-both}
 use Rattle.fx_sound.proofs.HeadLemmas.{head_of-short, head_of-cut, head_of-read, head_of-read-cut}
+use Rattle.fx_sound.proofs.Standing.{stands-taken, stands-unread, stands-rest}
 use Rattle.fx_sound.proofs.read.read_head.Goals as goal
 
 pub returns-in_default-clause-read_failed : goal.returns-in_default-clause-read_failed
@@ -69,3 +70,31 @@ returns-clause-head g c = λ bytes known.
       tells = Takes-both g.R.ByteIn.reads.delivered _ _ c.read_fields.new.source c.in-Ok.got (c.in_ok-fields.fields.offset - 4) c.in_ok-fields.fields.offset place c.in-Ok.ensures.delivered c.in_ok-fields.ensures.delivered;
       others = then.2 ∙ ap Some (drop-drop (c.in_ok-fields.fields.offset - 4) c.in-Ok.got bytes ∙ ap (λ i. drop i bytes) place);
     }
+
+pub returns-in_default-clause-stands : goal.returns-in_default-clause-stands
+returns-in_default-clause-stands g c = λ bytes known. stands-unread g.R.ByteIn.reads.rest g.R.ByteIn.reads.delivered _ _ _ _ bytes c.in_default.ensures.untaken (c.in_default.ensures.front bytes known)
+
+pub returns-then-got-lt4-clause-stands : goal.returns-then-got-lt4-clause-stands
+returns-then-got-lt4-clause-stands g c = λ bytes known.
+    let first = c.in-Ok.ensures.known bytes known in
+    stands-taken g.R.ByteIn.reads.rest g.R.ByteIn.reads.delivered _ _ _ _ bytes _ c.in-Ok.got (omega arith) c.in-Ok.ensures.delivered (λ k lt. head_of-cut c.args.expected bytes k (omega arith)) first.1 first.2 (head_of-cut c.args.expected bytes c.in-Ok.got (omega arith))
+
+pub returns-in_default-found-clause-stands : goal.returns-in_default-found-clause-stands
+returns-in_default-found-clause-stands g c = λ bytes known.
+    let four = c.fill.auto.out in
+    let first = c.in-Ok.ensures.known bytes known in
+    let count = c.in-Ok.ensures.count in
+    stands-taken g.R.ByteIn.reads.rest g.R.ByteIn.reads.delivered _ _ _ _ bytes _ c.in-Ok.got (omega arith) c.in-Ok.ensures.delivered (λ k lt. head_of-cut c.args.expected bytes k (omega arith)) first.1 first.2
+    (ap (λ n. head_of c.args.expected (take n bytes)) (let same : c.in-Ok.got ≡ c.in-Ok.got + 0 = omega arith in same)
+    ∙ head_of-read-cut c.args.expected bytes c.fill.new.out c.in-Ok.got 0 _ first.0 first.1 (omega arith) (omega arith) (omega arith) c.in_default-found.ensures)
+
+pub returns-in_err-fields-clause-stands : goal.returns-in_err-fields-clause-stands
+returns-in_err-fields-clause-stands g c = IfErr-passed c.from_residual.result _ _ c.from_residual.ensures.1 (λ bytes known.
+    let four = c.fill.auto.out in
+    let first = c.in-Ok.ensures.known bytes known in
+    let count = c.in-Ok.ensures.count in
+    stands-rest g.R.ByteIn.reads.rest g.R.ByteIn.reads.delivered _ _ _ _ _ _ _ bytes c.in-Ok.got _ first.1 (omega arith) c.in-Ok.ensures.delivered
+    (λ k lt. head_of-cut c.args.expected bytes k (omega arith))
+    (λ k _ decided. head_of-read-cut c.args.expected bytes c.fill.new.out c.in-Ok.got k _ first.0 first.1 (omega arith) (omega arith) (omega arith) c.in-Some.ensures
+    ∙ ap (spelt_as c.in-Some.kind) decided)
+    (c.in_err-fields.ensures.stands _ first.2))

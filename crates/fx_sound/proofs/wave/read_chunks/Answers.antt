@@ -7,7 +7,8 @@ use Rattle.fx_sound.specs.Wave.{end_of, GoesOn, IsProperSeen, max_chunk_bytes, m
 use Rattle.fx_sound.proofs.Faults.{IfErr-passed}
 use Rattle.fx_sound.proofs.Held.{Takes-both, Tells-both}
 use Rattle.fx_sound.proofs.WaveLemmas.{turn-next, turn-sound, turn-fault}
-use Rattle.fx_sound.proofs.WaveCut.{cut-next}
+use Rattle.fx_sound.proofs.WaveCut.{cut-next, early-next}
+use Rattle.fx_sound.proofs.Standing.{stands-rest}
 use Rattle.fx_sound.proofs.wave.read_chunks.Goals as goal
 
 pub returns-in_err-head-clause-fault : goal.returns-in_err-head-clause-fault
@@ -57,6 +58,11 @@ loop-turn-preserved g c =
           let new = c.in_ok-head.ensures.step _ old.1 in
           cut-next max_chunks c.loop-turn._turn c.loop-turn.offset c.in-Next.next c.loop-turn.seen c.in-Next.format bytes (omega arith) (omega arith) on.0
           (new.0 ∙ ap Ok c.in-Next.is) (omega (arith, new.1)) (c.loop-turn.invariant.cut bytes known);
+      early = λ bytes known.
+          let old = c.loop-turn.invariant.rest bytes known in
+          let new = c.in_ok-head.ensures.step _ old.1 in
+          early-next max_chunks c.loop-turn._turn c.loop-turn.offset c.in-Next.next c.loop-turn.seen c.in-Next.format bytes (omega arith) (omega arith)
+          (new.0 ∙ ap Ok c.in-Next.is) (c.loop-turn.invariant.cut bytes known) (c.loop-turn.invariant.early bytes known);
       failures = c.in_ok-head.ensures.failures ∙ c.loop-turn.invariant.failures;
     }
 
@@ -71,3 +77,12 @@ returns-in_err-head-clause-cut g c = IfErr-passed c.from_residual.result _ _ c.f
           sym (c.loop-turn.invariant.cut bytes known cut.came)
           ∙ turn-fault max_chunks c.loop-turn._turn c.loop-turn.offset c.loop-turn.seen _ _ (omega arith) (cut.undecided _ old.1);
     })
+
+pub returns-in_err-head-clause-stands : goal.returns-in_err-head-clause-stands
+returns-in_err-head-clause-stands g c = IfErr-passed c.from_residual.result _ _ c.from_residual.ensures.1 (λ bytes known.
+    let far = c.loop-turn.invariant.far in
+    let near = c.loop-turn.invariant.near in
+    let old = c.loop-turn.invariant.rest bytes known in
+    stands-rest g.R.ByteIn.reads.rest g.R.ByteIn.reads.delivered _ _ _ _ _ _ _ bytes (c.loop-turn.offset - 12) _ old.0 (omega arith) c.loop-turn.invariant.delivered (c.loop-turn.invariant.early bytes known)
+    (λ k _ decided. sym (c.loop-turn.invariant.cut bytes known k) ∙ turn-fault max_chunks c.loop-turn._turn c.loop-turn.offset c.loop-turn.seen _ _ (omega arith) decided)
+    (c.in_err-head.ensures.stands _ old.1))

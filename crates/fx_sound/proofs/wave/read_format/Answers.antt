@@ -1,10 +1,12 @@
-use Rattle.std.proofs.Common.{◌≡◌, ◌+◌, ◌≤◌, length, drop, sym, ap, ◌∙◌, arith}
+use Rattle.std.proofs.Common.{◌≡◌, ◌+◌, ◌≤◌, length, drop, sym, ap, ◌∙◌, arith, refl}
 use Rattle.std.specs.Prelude.{Some}
 use Rattle.std.proofs.lemmas.List.{length-drop, drop-drop, length-take-le}
 use Rattle.fx_sound.specs.Wave.{padded_chunk}
 use Rattle.fx_sound.proofs.Faults.{IfOk-at, IfErr-at}
-use Rattle.fx_sound.proofs.Held.{Tells-both}
+use Rattle.fx_sound.proofs.Held.{Tells-both, Takes-both}
 use Rattle.fx_sound.proofs.WaveLemmas.{format_read-short, format_read-cut, format_read-whole}
+use Rattle.fx_sound.proofs.Standing.{stands-taken, stands-unread, stands-empty}
+use Rattle.fx_sound.proofs.WaveLocal.{format_read-local}
 use Rattle.fx_sound.proofs.wave.read_format.Goals as goal
 
 pub returns-in_default-clause-cut : goal.returns-in_default-clause-cut
@@ -63,3 +65,45 @@ returns-clause-fault g c = IfErr-at c.format.result _ (λ fault is _ bytes known
     let count = c.in-Ok.ensures.count in
     let there : padded_chunk c.args.size ≤ length bytes = omega (arith, then.0, length-drop c.in-Ok.got bytes) in
     format_read-whole c.args.size c.in-Ok.got bytes c.fill.new.out first.0 (omega arith) (omega arith) (omega arith) there ∙ sym c.format.ensures.value ∙ is)
+
+pub returns-in_default-clause-stands : goal.returns-in_default-clause-stands
+returns-in_default-clause-stands g c = λ bytes known. stands-unread g.R.ByteIn.reads.rest g.R.ByteIn.reads.delivered _ _ _ _ bytes c.in_default.ensures.untaken (c.in_default.ensures.front bytes known)
+
+pub returns-then-got-maximum-clause-stands : goal.returns-then-got-maximum-clause-stands
+returns-then-got-maximum-clause-stands g c = λ bytes known.
+    let len : length c.fill.new.out ≡ c.min-maximum.result = c.fill.auto.out ∙ length-take-le c.min-maximum.result _ (omega arith) in
+    let first = c.in-Ok.ensures.known bytes known in
+    stands-taken g.R.ByteIn.reads.rest g.R.ByteIn.reads.delivered _ _ _ _ bytes _ c.in-Ok.got (omega arith) c.in-Ok.ensures.delivered (λ k lt. format_read-cut c.args.size k bytes (omega arith)) first.1 first.2 (format_read-cut c.args.size c.in-Ok.got bytes (omega arith))
+
+pub returns-in_default-skip-clause-stands : goal.returns-in_default-skip-clause-stands
+returns-in_default-skip-clause-stands g c = λ bytes known.
+    let len : length c.fill.new.out ≡ c.min-maximum.result = c.fill.auto.out ∙ length-take-le c.min-maximum.result _ (omega arith) in
+    let short = c.in_default-skip.ensures.short in
+    stands-empty g.R.ByteIn.reads.rest g.R.ByteIn.reads.delivered _ _ _ _ bytes (c.in-Ok.got + short.came) (omega (arith, short.bound, c.in-Ok.ensures.count)) (Tells-both g.R.ByteIn.reads.delivered _ _ _ c.in-Ok.got short.came c.in-Ok.ensures.delivered short.tells) (λ k lt. format_read-cut c.args.size k bytes (omega (arith, lt, short.bound, c.in-Ok.ensures.count))) c.in_default-skip.ensures.none
+
+pub returns-then-skipped-length-clause-stands : goal.returns-then-skipped-length-clause-stands
+returns-then-skipped-length-clause-stands g c = λ bytes known.
+    let len : length c.fill.new.out ≡ c.min-maximum.result = c.fill.auto.out ∙ length-take-le c.min-maximum.result _ (omega arith) in
+    let first = c.in-Ok.ensures.known bytes known in
+    let then = c.in-Ok-skip.ensures.bytes _ first.2 in
+    let count = c.in-Ok.ensures.count in
+    stands-taken g.R.ByteIn.reads.rest g.R.ByteIn.reads.delivered _ _ _ _ bytes _ (c.in-Ok.got + c.in-Ok-skip.skipped) (omega arith)
+    (Takes-both g.R.ByteIn.reads.delivered _ _ c.skip.new.self c.in-Ok.got c.in-Ok-skip.skipped _ refl c.in-Ok.ensures.delivered c.in-Ok-skip.ensures.delivered)
+    (λ k lt. format_read-cut c.args.size k bytes (omega arith))
+    (omega (arith, then.0, first.1, length-drop c.in-Ok.got bytes)) (then.1 ∙ ap Some (drop-drop c.in-Ok-skip.skipped c.in-Ok.got bytes))
+    (format_read-cut c.args.size (c.in-Ok.got + c.in-Ok-skip.skipped) bytes (omega arith))
+
+pub returns-clause-stands : goal.returns-clause-stands
+returns-clause-stands g c = IfErr-at c.format.result _ (λ fault is bytes known.
+    let len : length c.fill.new.out ≡ c.min-maximum.result = c.fill.auto.out ∙ length-take-le c.min-maximum.result _ (omega arith) in
+    let first = c.in-Ok.ensures.known bytes known in
+    let then = c.in-Ok-skip.ensures.bytes _ first.2 in
+    let count = c.in-Ok.ensures.count in
+    let count-2 = c.in-Ok-skip.ensures.count in
+    let there : padded_chunk c.args.size ≤ length bytes = omega (arith, then.0, length-drop c.in-Ok.got bytes) in
+    let all : c.in-Ok.got + c.in-Ok-skip.skipped ≡ padded_chunk c.args.size = omega arith in
+    stands-taken g.R.ByteIn.reads.rest g.R.ByteIn.reads.delivered _ _ _ _ bytes fault (padded_chunk c.args.size) (omega arith)
+    (Takes-both g.R.ByteIn.reads.delivered _ _ c.skip.new.self c.in-Ok.got c.in-Ok-skip.skipped _ all c.in-Ok.ensures.delivered c.in-Ok-skip.ensures.delivered)
+    (λ k lt. format_read-cut c.args.size k bytes lt) there (then.1 ∙ ap Some (drop-drop c.in-Ok-skip.skipped c.in-Ok.got bytes ∙ ap (λ i. drop i bytes) all))
+    (format_read-local c.args.size (padded_chunk c.args.size) bytes (omega arith) there
+    ∙ format_read-whole c.args.size c.in-Ok.got bytes c.fill.new.out first.0 (omega arith) (omega arith) (omega arith) there ∙ sym c.format.ensures.value ∙ is))

@@ -1,11 +1,12 @@
-use Rattle.std.proofs.Common.{◌≡◌, ◌+◌, ◌-◌, length, drop, ap, ◌∙◌, arith}
+use Rattle.std.proofs.Common.{◌≡◌, ◌+◌, ◌-◌, length, drop, ap, ◌∙◌, arith, take}
 use Rattle.std.specs.Prelude.{Some}
 use Rattle.std.proofs.lemmas.List.{length-drop, drop-drop}
 use Rattle.std.proofs.lemmas.Result.{IfErr-weaker}
-use Rattle.fx_sound.specs.Wave.{end_of}
+use Rattle.fx_sound.specs.Wave.{end_of, step_of}
 use Rattle.fx_sound.proofs.Faults.{IfErr-passed, IfOk-both}
 use Rattle.fx_sound.proofs.Held.{Tells-both}
 use Rattle.fx_sound.proofs.WaveLemmas.{step_of-short, step_of-cut, step_of-asked, step_of-asked-cut, GoesOn-far}
+use Rattle.fx_sound.proofs.Standing.{stands-taken, stands-unread, stands-rest}
 use Rattle.fx_sound.proofs.wave.read_step.Goals as goal
 
 pub returns-in_default-clause-cut : goal.returns-in_default-clause-cut
@@ -69,3 +70,32 @@ returns-clause-cut g c = IfErr-weaker c.read_body.result _ _ (λ fault fails is_
           first.0 first.1 (omega arith) (omega arith) (omega arith) c.name_at-name.ensures c.long-size.ensures c.in_ok-demand.ensures.value
           ∙ cut.undecided _ first.2;
     }) c.read_body.ensures.cut
+
+pub returns-in_default-clause-stands : goal.returns-in_default-clause-stands
+returns-in_default-clause-stands g c = λ bytes known. stands-unread g.R.ByteIn.reads.rest g.R.ByteIn.reads.delivered _ _ _ _ bytes c.in_default.ensures.untaken (c.in_default.ensures.front bytes known)
+
+pub returns-then-got-lt8-clause-stands : goal.returns-then-got-lt8-clause-stands
+returns-then-got-lt8-clause-stands g c = λ bytes known.
+    let first = c.in-Ok.ensures.known bytes known in
+    stands-taken g.R.ByteIn.reads.rest g.R.ByteIn.reads.delivered _ _ _ _ bytes _ c.in-Ok.got (omega arith) c.in-Ok.ensures.delivered (λ k lt. step_of-cut c.args.offset c.args.seen bytes k (omega arith)) first.1 first.2 (step_of-cut c.args.offset c.args.seen bytes c.in-Ok.got (omega arith))
+
+pub returns-in_err-demand-clause-stands : goal.returns-in_err-demand-clause-stands
+returns-in_err-demand-clause-stands g c = IfErr-passed c.from_residual.result _ _ c.from_residual.ensures.1 (λ bytes known.
+    let eight = c.fill.auto.out in
+    let first = c.in-Ok.ensures.known bytes known in
+    let count = c.in-Ok.ensures.count in
+    stands-taken g.R.ByteIn.reads.rest g.R.ByteIn.reads.delivered _ _ _ _ bytes _ c.in-Ok.got (omega arith) c.in-Ok.ensures.delivered (λ k lt. step_of-cut c.args.offset c.args.seen bytes k (omega arith)) first.1 first.2
+    (ap (λ n. step_of c.args.offset c.args.seen (take n bytes)) (let same : c.in-Ok.got ≡ c.in-Ok.got + 0 = omega arith in same)
+    ∙ step_of-asked-cut c.args.offset c.args.seen bytes c.fill.new.out c.name_at-name.result c.in-Ok.got c.long-size.result 0 _
+    first.0 first.1 (omega arith) (omega arith) (omega arith) c.name_at-name.ensures c.long-size.ensures c.in_err-demand.ensures.value))
+
+pub returns-clause-stands : goal.returns-clause-stands
+returns-clause-stands g c = IfErr-weaker c.read_body.result _ _ (λ fault stands bytes known.
+    let eight = c.fill.auto.out in
+    let first = c.in-Ok.ensures.known bytes known in
+    let count = c.in-Ok.ensures.count in
+    stands-rest g.R.ByteIn.reads.rest g.R.ByteIn.reads.delivered _ _ _ _ _ _ _ bytes c.in-Ok.got fault first.1 (omega arith) c.in-Ok.ensures.delivered
+    (λ k lt. step_of-cut c.args.offset c.args.seen bytes k (omega arith))
+    (λ k _ decided. step_of-asked-cut c.args.offset c.args.seen bytes c.fill.new.out c.name_at-name.result c.in-Ok.got c.long-size.result k _
+    first.0 first.1 (omega arith) (omega arith) (omega arith) c.name_at-name.ensures c.long-size.ensures c.in_ok-demand.ensures.value ∙ decided)
+    (stands _ first.2)) c.read_body.ensures.stands

@@ -1,10 +1,11 @@
-use Rattle.std.proofs.Common.{◌≡◌, ◌+◌, ◌-◌, ◌<◌, length, drop, ap, ◌∙◌, arith}
+use Rattle.std.proofs.Common.{◌≡◌, ◌+◌, ◌-◌, ◌<◌, length, drop, ap, ◌∙◌, arith, take, sym}
 use Rattle.std.specs.Prelude.{Some}
-use Rattle.std.proofs.lemmas.List.{length-drop, drop-drop, take-take}
+use Rattle.std.proofs.lemmas.List.{length-drop, drop-drop, take-take, length-take}
 use Rattle.std.proofs.lemmas.Result.{IfErr-weaker}
 use Rattle.fx_sound.proofs.Faults.{IfOk-both}
 use Rattle.fx_sound.proofs.Held.{Tells-both}
 use Rattle.fx_sound.proofs.WaveRiff.{riff-short, riff-cut, riff-chunks, riff-unknown, riff-chunks-cut}
+use Rattle.fx_sound.proofs.Standing.{stands-taken, stands-unread, stands-rest}
 use Rattle.fx_sound.proofs.wave.read_wav.Goals as goal
 
 pub returns-in_default-clause-cut : goal.returns-in_default-clause-cut
@@ -64,3 +65,29 @@ returns-clause-cut g c = IfErr-weaker c.read_chunks.result _ _ (λ fault fails i
           riff-chunks-cut bytes c.fill.new.out c.name_at-name.result c.in-Ok.got cut.came first.0 first.1 (omega arith) (omega arith) (omega arith) (c.name_at-name.ensures ∙ take-take 4 4 (drop 4 c.fill.new.out) (omega arith)) c.if-ne.ensures
           ∙ cut.undecided _ first.2;
     }) c.read_chunks.ensures.cut
+
+pub returns-in_default-clause-stands : goal.returns-in_default-clause-stands
+returns-in_default-clause-stands g c = λ bytes known. stands-unread g.R.ByteIn.reads.rest g.R.ByteIn.reads.delivered _ _ _ _ bytes c.in_default.ensures.untaken (c.in_default.ensures.front bytes known)
+
+pub returns-then-got-lt8-clause-stands : goal.returns-then-got-lt8-clause-stands
+returns-then-got-lt8-clause-stands g c = λ bytes known.
+    let first = c.in-Ok.ensures.known bytes known in
+    stands-taken g.R.ByteIn.reads.rest g.R.ByteIn.reads.delivered _ _ _ _ bytes _ c.in-Ok.got (omega arith) c.in-Ok.ensures.delivered (λ k lt. riff-cut bytes k (omega arith)) first.1 first.2 (riff-cut bytes c.in-Ok.got (omega arith))
+
+pub returns-then-ne-clause-stands : goal.returns-then-ne-clause-stands
+returns-then-ne-clause-stands g c = λ bytes known.
+    let eight = c.fill.auto.out in
+    let first = c.in-Ok.ensures.known bytes known in
+    let count = c.in-Ok.ensures.count in
+    stands-taken g.R.ByteIn.reads.rest g.R.ByteIn.reads.delivered _ _ _ _ bytes _ c.in-Ok.got (omega arith) c.in-Ok.ensures.delivered (λ k lt. riff-cut bytes k (omega arith)) first.1 first.2
+    (riff-unknown (take c.in-Ok.got bytes) c.fill.new.out c.name_at-name.result c.in-Ok.got (first.0 ∙ sym (take-take c.in-Ok.got c.in-Ok.got bytes (omega arith))) (omega (arith, first.1, length-take c.in-Ok.got bytes)) (omega arith) (omega arith) (omega arith) (c.name_at-name.ensures ∙ take-take 4 4 (drop 4 c.fill.new.out) (omega arith)) c.if-ne.ensures)
+
+pub returns-clause-stands : goal.returns-clause-stands
+returns-clause-stands g c = IfErr-weaker c.read_chunks.result _ _ (λ fault stands bytes known.
+    let eight = c.fill.auto.out in
+    let first = c.in-Ok.ensures.known bytes known in
+    let count = c.in-Ok.ensures.count in
+    stands-rest g.R.ByteIn.reads.rest g.R.ByteIn.reads.delivered _ _ _ _ _ _ _ bytes c.in-Ok.got fault first.1 (omega arith) c.in-Ok.ensures.delivered
+    (λ k lt. riff-cut bytes k (omega arith))
+    (λ k _ decided. riff-chunks-cut bytes c.fill.new.out c.name_at-name.result c.in-Ok.got k first.0 first.1 (omega arith) (omega arith) (omega arith) (c.name_at-name.ensures ∙ take-take 4 4 (drop 4 c.fill.new.out) (omega arith)) c.if-ne.ensures ∙ decided)
+    (stands _ first.2)) c.read_chunks.ensures.stands
