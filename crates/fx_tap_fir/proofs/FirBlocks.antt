@@ -11,7 +11,8 @@ use Rattle.fx_frame_base.specs.Frame.{Samples}
 use Rattle.fx_frame_base.specs.Holds.{total}
 use Rattle.fx_frame_line.specs.Line.{Frames, IsLine, channel_of}
 use Rattle.fx_frame_base.specs.Lists.{pieces, tabulate}
-use Rattle.fx_frame_base.specs.Stage.{Given}
+use Rattle.fx_frame_base.specs.Pipeline.{EachThrough}
+use Rattle.fx_frame_base.specs.Stage.{Given, IsDry}
 use Rattle.fx_frame_base.proofs.FedLaws.{Fed-then, total-append}
 use Rattle.fx_frame_base.proofs.Puts.{pieces-split, pieces-same}
 use Rattle.fx_frame_base.proofs.Pieces.{length-pieces, pieces-front}
@@ -129,8 +130,13 @@ none-left whole held =
 
 -- ---- a stage that frames go through
 
+-- as many frames are given as are taken, where enough were taken before
+given-along : (number count late held capacity n : ℕ) → number ≡ count - late → held ≡ min count capacity → (1 ≤ n → late ≤ held) → number + n ≡ count + n - late
+given-along number count late held capacity zero counted lined due = omega (arith, counted)
+given-along number count late held capacity (suc n) counted lined due = let enough = due (omega arith) in omega (arith, counted, lined, enough)
+
 -- the state after a block of frames went by
-pub IsFir-block : (s : FirState) (line : Frames ℤ) (n clips : ℕ) (xs : List Samples) → IsFir s → s.pending ≡ None → s.ended ≡ false → s.taken + n ≤ 2 ^ 56 → length xs ≡ n → centre (length s.backwards) ≤ length s.line.items
+pub IsFir-block : (s : FirState) (line : Frames ℤ) (n clips : ℕ) (xs : List Samples) → IsFir s → s.pending ≡ None → s.ended ≡ false → s.taken + n ≤ 2 ^ 56 → length xs ≡ n → (1 ≤ n → centre (length s.backwards) ≤ length s.line.items)
     → IsLine w32 line → line.items ≡ last_of s.line.capacity (s.line.items ++ xs) → line.capacity ≡ s.line.capacity → line.channels ≡ s.line.channels → clips ≤ 16 * n
     → IsFir (record s { line = line; taken = s.taken + n; given = s.given + n; clips = s.clips + clips })
 IsFir-block s line n clips xs is none running bound many due lined items capacity channels little =
@@ -149,7 +155,7 @@ IsFir-block s line n clips xs is none running bound many due lined items capacit
       count = is.count;
       small = is.small;
       held = omega (arith, before, after, all, capacity);
-      counted = rw (none, running) (omega (arith, counted, before, due, no_tail));
+      counted = rw (none, running) (omega (arith, no_tail, given-along s.given s.taken (centre (length s.backwards)) (length s.line.items) s.line.capacity n (omega (arith, counted, no_tail)) before due));
       tail_held = omega (arith, no_tail);
       tail_bound = is.tail_bound;
       not_ended = is.not_ended;
@@ -239,6 +245,45 @@ module _ (channels : ℕ) (b : List ℤ) where
       let sums : clips + made.clips + clips_after fir_taps made_with next.items xs ≡ clips + clips_after fir_taps made_with line.items (x ∷ xs) = omega (arith, clipped) in
       rw (frames, ← last-first line.capacity line.items xs x, ← sums, ← places, ← numbers) all
 
+  ready-dry : (line : Frames ℤ) (count number clips : ℕ) → number + centre (length (reverse b)) ≡ count → IsDry fir_acts (ready line count number clips)
+  ready-dry line count number clips counted = record { due = λ e. omega (arith, counted); over = λ e. absurd (cc (e)) }
+
+  -- each given before the next is taken
+  pub frames-through : (xs : List Samples) (line : Frames ℤ) (count number clips : ℕ) → line.capacity + 1 ≡ length (reverse b) → length line.items ≤ line.capacity
+      → (1 ≤ length xs → (centre (length (reverse b)) ≤ length line.items) × (number + centre (length (reverse b)) ≡ count))
+      → EachThrough fir_acts xs (frames_after fir_taps made_with line.items xs) (ready line count number clips) (ready (through line xs) (count + length xs) (number + length xs) (clips + clips_after fir_taps made_with line.items xs))
+  frames-through [] line count number clips full within due = rw (add-zero, add-zero, add-zero, last-whole line.capacity line.items within) refl
+  frames-through (x ∷ xs) line count number clips full within due =
+      let next : Frames ℤ = through line (x ∷ []) in
+      let made : Given = made_after line x in
+      let enough : (centre (length (reverse b)) ≤ length line.items) × (number + centre (length (reverse b)) ≡ count) = due (omega arith) in
+      let counted : number + centre (length (reverse b)) ≡ count = enough.1 in
+      let long : fir_taps.reach made_with ≤ line.capacity = omega (arith, full) in
+      let steps : given_after fir_taps made_with line.items (x ∷ xs) ≡ made ∷ given_after fir_taps made_with next.items xs = rest_unchanged-step fir_taps fir-near made_with line.items xs x line.capacity within long in
+      let frames : frames_after fir_taps made_with line.items (x ∷ xs) ≡ made.samples ∷ frames_after fir_taps made_with next.items xs = ap (map (λ (g : Given). g.samples)) steps in
+      let clipped : clips_after fir_taps made_with line.items (x ∷ xs) ≡ made.clips + clips_after fir_taps made_with next.items xs = ap (total (λ (g : Given). g.clips)) steps in
+      let size : length next.items ≡ min (length line.items + 1) line.capacity = length-last line.capacity (line.items ++ x ∷ []) ∙ ap (λ n. min n line.capacity) (length-append line.items (x ∷ [])) in
+      let free : length next.items ≤ next.capacity = omega (arith, size) in
+      let later : centre (length (reverse b)) ≤ length next.items = omega (arith, size, enough.0, full) in
+      let went : number + 1 + centre (length (reverse b)) ≡ count + 1 = omega (arith, counted) in
+      let more = frames-through xs next (count + 1) (number + 1) (clips + made.clips) full free (λ some. (later, went)) in
+      let places : count + 1 + length xs ≡ count + length (x ∷ xs) = omega arith in
+      let numbers : number + 1 + length xs ≡ number + length (x ∷ xs) = omega arith in
+      let sums : clips + made.clips + clips_after fir_taps made_with next.items xs ≡ clips + clips_after fir_taps made_with line.items (x ∷ xs) = omega (arith, clipped) in
+      let end : FirState = ready (through line (x ∷ xs)) (count + length (x ∷ xs)) (number + length (x ∷ xs)) (clips + clips_after fir_taps made_with line.items (x ∷ xs)) in
+      let same : ready (through next xs) (count + 1 + length xs) (number + 1 + length xs) (clips + made.clips + clips_after fir_taps made_with next.items xs) ≡ end =
+      ap (λ (n : ℕ). ready (through next xs) n (number + 1 + length xs) (clips + made.clips + clips_after fir_taps made_with next.items xs)) places
+      ∙ ap (λ (n : ℕ). ready (through next xs) (count + length (x ∷ xs)) n (clips + made.clips + clips_after fir_taps made_with next.items xs)) numbers
+      ∙ ap (λ (n : ℕ). ready (through next xs) (count + length (x ∷ xs)) (number + length (x ∷ xs)) n) sums
+      ∙ ap (λ (l : List Samples). ready (record { items = l; capacity = line.capacity; channels = line.channels }) (count + length (x ∷ xs)) (number + length (x ∷ xs)) (clips + clips_after fir_taps made_with line.items (x ∷ xs))) (last-first line.capacity line.items xs x) in
+      let whole : EachThrough fir_acts (x ∷ xs) (made.samples ∷ frames_after fir_taps made_with next.items xs) (ready line count number clips) end = (
+        ready next (count + 1) (number + 1) (clips + made.clips),
+        one-passed line count number clips x full within enough.0 counted,
+        ready-dry next (count + 1) (number + 1) (clips + made.clips) went,
+        subst (λ (u : FirState). EachThrough fir_acts xs (frames_after fir_taps made_with next.items xs) (ready next (count + 1) (number + 1) (clips + made.clips)) u) same more,
+      ) in
+      subst (λ (l : List Samples). EachThrough fir_acts (x ∷ xs) l (ready line count number clips) end) (sym frames) whole
+
 -- a block of frames: the counters are added to once
 pub block-fed : (s : FirState) (line : Frames ℤ) (n clips : ℕ) (input output : List ℤ) → s.pending ≡ None → s.pending_clips ≡ 0 → s.tail ≡ 0 → s.ended ≡ false → s.given + centre (length (reverse s.backwards)) ≡ s.taken
     → s.line.capacity + 1 ≡ length (reverse s.backwards) → length s.line.items ≤ s.line.capacity → centre (length (reverse s.backwards)) ≤ length s.line.items
@@ -264,6 +309,36 @@ block-fed s line n clips input output h k t over counted full within due made cl
     let From : FirState → Type 0 = λ u. Fed fir_acts u xs (frames_after fir_taps (made_with s.channels b) s.line.items xs) (Ready Through (s.taken + length xs) (s.given + length xs) (s.clips + clips_after fir_taps (made_with s.channels b) s.line.items xs)) in
     let To : FirState → Type 0 = λ u. Fed fir_acts s xs (frames_after fir_taps (made_with s.channels b) s.line.items xs) u in
     rw made (subst To (sym new) (subst From (sym start) fed))
+
+-- the same, each given before the next is taken
+pub block-through : (s : FirState) (line : Frames ℤ) (n clips : ℕ) (input output : List ℤ) → s.pending ≡ None → s.pending_clips ≡ 0 → s.tail ≡ 0 → s.ended ≡ false
+    → s.line.capacity + 1 ≡ length (reverse s.backwards) → length s.line.items ≤ s.line.capacity
+    → (1 ≤ n → (centre (length (reverse s.backwards)) ≤ length s.line.items) × (s.given + centre (length (reverse s.backwards)) ≡ s.taken))
+    → pieces s.channels n output ≡ frames_after fir_taps (made_with s.channels s.backwards) s.line.items (pieces s.channels n input) → clips ≡ clips_after fir_taps (made_with s.channels s.backwards) s.line.items (pieces s.channels n input)
+    → line.items ≡ last_of s.line.capacity (s.line.items ++ pieces s.channels n input) → line.capacity ≡ s.line.capacity → line.channels ≡ s.line.channels
+    → EachThrough fir_acts (pieces s.channels n input) (pieces s.channels n output) s (record s { line = line; taken = s.taken + n; given = s.given + n; clips = s.clips + clips })
+block-through s line n clips input output h k t over full within due made clipped items capacity channels =
+    let xs : List Samples = pieces s.channels n input in
+    let b : List ℤ = s.backwards in
+    let Ready : Frames ℤ → ℕ → ℕ → ℕ → FirState = ready s.channels b in
+    let Next : Frames ℤ = record { items = last_of s.line.capacity (s.line.items ++ xs); capacity = s.line.capacity; channels = s.line.channels } in
+    let same : ◌≡◌ {A = Frames ℤ} (record { items = line.items; capacity = line.capacity; channels = line.channels }) Next = rw (items, capacity, channels) refl in
+    let went : line ≡ Next = same in
+    let many : length xs ≡ n = length-pieces s.channels n input in
+    let made_frames : List Samples = frames_after fir_taps (made_with s.channels b) s.line.items xs in
+    let all : ℕ = s.clips + clips_after fir_taps (made_with s.channels b) s.line.items xs in
+    let passed : EachThrough fir_acts xs made_frames (Ready s.line s.taken s.given s.clips) (Ready Next (s.taken + length xs) (s.given + length xs) all) =
+    frames-through s.channels b xs s.line s.taken s.given s.clips full within (λ some. due (omega (arith, some, many))) in
+    let whole : ◌≡◌ {A = FirState} (record { channels = s.channels; backwards = s.backwards; line = s.line; pending = s.pending; pending_clips = s.pending_clips; tail = s.tail; taken = s.taken; given = s.given; clips = s.clips; ended = s.ended }) (Ready s.line s.taken s.given s.clips) = rw (h, k, t, over) refl in
+    let start : s ≡ Ready s.line s.taken s.given s.clips = whole in
+    let left : ◌≡◌ {A = FirState} (record { channels = s.channels; backwards = s.backwards; line = line; pending = s.pending; pending_clips = s.pending_clips; tail = s.tail; taken = s.taken + n; given = s.given + n; clips = s.clips + clips; ended = s.ended }) (Ready line (s.taken + n) (s.given + n) (s.clips + clips)) = rw (h, k, t, over) refl in
+    let last : ◌≡◌ {A = FirState} (record { channels = s.channels; backwards = s.backwards; line = line; pending = s.pending; pending_clips = s.pending_clips; tail = s.tail; taken = s.taken + n; given = s.given + n; clips = s.clips + clips; ended = s.ended }) (Ready Next (s.taken + length xs) (s.given + length xs) all) =
+    left ∙ ap (λ (l : Frames ℤ). Ready l (s.taken + n) (s.given + n) (s.clips + clips)) went ∙ ap (λ (j : ℕ). Ready Next (s.taken + j) (s.given + j) (s.clips + clips)) (sym many)
+    ∙ ap (λ (j : ℕ). Ready Next (s.taken + length xs) (s.given + length xs) (s.clips + j)) clipped in
+    let new : record s { line = line; taken = s.taken + n; given = s.given + n; clips = s.clips + clips } ≡ Ready Next (s.taken + length xs) (s.given + length xs) all = last in
+    let From : FirState → Type 0 = λ u. EachThrough fir_acts xs made_frames u (Ready Next (s.taken + length xs) (s.given + length xs) all) in
+    let To : FirState → Type 0 = λ u. EachThrough fir_acts xs made_frames s u in
+    rw made (subst To (sym new) (subst From (sym start) passed))
 
 -- one frame, passed on in its place
 pub frame-passed : (s : FirState) (line : Frames ℤ) (x y : Samples) (clips : ℕ) → s.pending ≡ None → s.pending_clips ≡ 0 → s.tail ≡ 0 → s.ended ≡ false → s.given + centre (length (reverse s.backwards)) ≡ s.taken

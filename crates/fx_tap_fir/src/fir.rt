@@ -1,7 +1,7 @@
 //! The effect `fir` of sox(1): each sample is a sum of the samples around it, times the coefficients.
-ghost use Rattle.std.specs.Prelude.{◌≡◌, ◌↔◌, true, ◌+◌, ◌-◌, ◌*◌, ◌^◌, ◌<◌, ◌≤◌, ◌++◌, length, reverse, drop, pos, All, IfOk, Err, MatchResult, cond, min, nat_eq};
+ghost use Rattle.std.specs.Prelude.{◌≡◌, ◌↔◌, true, ◌+◌, ◌-◌, ◌*◌, ◌^◌, ◌<◌, ◌≤◌, ◌++◌, ◌∷◌, [], length, reverse, drop, pos, All, IfOk, Err, MatchResult, cond, min, nat_eq};
 ghost use Rattle.fx_frame_base.specs.Frame.{IsFrame};
-ghost use Rattle.fx_frame_line.specs.Line.{channel_of};
+ghost use Rattle.fx_frame_line.specs.Line.{channel_of, pushed};
 ghost use Rattle.fx_frame_base.specs.Lists.{pieces};
 ghost use Rattle.fx_frame_base.specs.Stage.{Freezes, IsNew};
 ghost use Rattle.fx_tap_fir.specs.Fir.{FirArguments, centre, filtered_frame, filtered_sample};
@@ -12,13 +12,31 @@ pub mod words;
 
 use crate::channels::take_channel;
 use crate::kernel::Kernel;
+use crate::reduced::SUMS_OF_PIECE;
 use fx_fixed::Gain;
 use fx_frame::frozen::{stored_in, thawed_line_and_pending};
+use fx_frame::groups::{SAMPLES_OF_BATCH, SAMPLES_OF_GROUP};
 use fx_frame::{Counters, Feeds, Frame, Line, Passed, Passing, Stage, ThawFault, WideFrame};
 use fx_frame_base::feed::{feed_by_frames, frame_at};
+use fx_frame_base::frame::MAX_CHANNELS;
 use fx_frame_base::stage::MAX_TAKEN;
 use std::alloc::{AllocError, Global};
 use std::marker::Model;
+
+/// The maximum number of coefficients that take a small window, which is cleared sooner.
+const MAX_SMALL_TAPS: usize = 64;
+
+/// The places of the window of a block where there are few coefficients.
+const PLACES_OF_BLOCK: usize = MAX_SMALL_TAPS + SUMS_OF_PIECE;
+
+/// The places of the window of a short group where there are few coefficients.
+const PLACES_OF_BATCH: usize = MAX_SMALL_TAPS + SAMPLES_OF_BATCH;
+
+/// The places of the window of a group where there are few coefficients.
+const PLACES_OF_GROUP: usize = MAX_SMALL_TAPS + SAMPLES_OF_GROUP;
+
+/// The places of the window of a group, however many coefficients there are.
+const MAX_PLACES_OF_GROUP: usize = 1024 + SAMPLES_OF_GROUP;
 
 /// The stage of `fir`: each sample is the sum of the samples around it times the coefficients, rounded once.
 #[derive(Drop)]
@@ -164,7 +182,7 @@ fn filtered_frame(
     ensures bound { result.1 ≤ 16 }
     ensures fits { IsFrame result.0 × (length result.0 ≡ channels) }
 {
-    let mut samples = [0; 16];
+    let mut samples = [0; MAX_CHANNELS];
     let out = &mut samples[..channels];
     let clips = filtered_into(line, latest, channels, kernel, place, out);
     let out = Frame::of_first(channels, samples);
@@ -265,10 +283,15 @@ fn filter_piece(
     ensures clips { result ≡ clips_after fir_taps (record { channels = channels; coefficients = reverse kernel.now }) line.now.items (pieces channels count frames.now) }
     ensures bound { result ≤ 16 * count }
 {
-    if count <= 256 {
-        return filter_within::<1279, 256>(kernel, line, channels, count, frames, out);
+    if count > SUMS_OF_PIECE {
+        return filter_within::<2047, 1920>(kernel, line, channels, count, frames, out);
     }
-    filter_within::<2047, 1920>(kernel, line, channels, count, frames, out)
+    if kernel.len() <= MAX_SMALL_TAPS {
+        return filter_within::<PLACES_OF_BLOCK, SUMS_OF_PIECE>(
+            kernel, line, channels, count, frames, out,
+        );
+    }
+    filter_within::<1279, SUMS_OF_PIECE>(kernel, line, channels, count, frames, out)
 }
 
 /// Filters `count` of the frames at the front of the input, which come after those of a full line, to the front of the output,
@@ -310,6 +333,129 @@ fn filter_frames(
         done += piece;
     }
     clips
+}
+
+/// Filters a frame in its place, which comes after those of the line, and counts how many of its samples were clipped. It
+/// goes through the line.
+#[inline(always)]
+fn filter_and_push(kernel: &Kernel, line: &mut Line, channels: usize, samples: &mut [i32]) -> u64
+    requires channels { channels ≡ line.old.channels }
+    requires some { (1 ≤ channels) × (channels ≤ 16) }
+    requires free { length line.old.items + 1 ≤ 1024 }
+    requires samples { length samples.old ≡ channels }
+    ensures frame { samples.new ≡ (filtered_frame (record { channels = channels; coefficients = reverse kernel.now }) (line.old.items ++ samples.old ∷ []) (length line.old.items)).samples }
+    ensures clips { result ≡ (filtered_frame (record { channels = channels; coefficients = reverse kernel.now }) (line.old.items ++ samples.old ∷ []) (length line.old.items)).clips }
+    ensures bound { result ≤ 16 }
+    ensures items { line.new.items ≡ pushed line.old samples.old }
+    ensures line_capacity { line.new.capacity ≡ line.old.capacity }
+    ensures line_channels { line.new.channels ≡ line.old.channels }
+{
+    let came = frame_at(samples, 0, channels);
+    let held = line.len();
+    let clips = filtered_into(line, &[came], channels, kernel, held, samples);
+    line.push(came);
+    clips
+}
+
+/// What `filter_batch` does, for any line and any number of frames, one frame at a time.
+fn filter_by_frames(
+    kernel: &Kernel,
+    line: &mut Line,
+    channels: usize,
+    count: usize,
+    samples: &mut [i32],
+) -> u64
+    requires channels { channels ≡ line.old.channels }
+    requires some { (1 ≤ channels) × (channels ≤ 16) }
+    requires capacity { line.old.capacity + 1 ≡ length kernel.now }
+    requires taps { length kernel.now ≤ 1024 }
+    requires bound { count ≤ 2 ^ 56 }
+    requires samples { length samples.old ≡ count * channels }
+    ensures frames { pieces channels count samples.new ≡ frames_after fir_taps (record { channels = channels; coefficients = reverse kernel.now }) line.old.items (pieces channels count samples.old) }
+    ensures clips { result ≡ clips_after fir_taps (record { channels = channels; coefficients = reverse kernel.now }) line.old.items (pieces channels count samples.old) }
+    ensures bound { result ≤ 16 * count }
+    ensures line { line.new.items ≡ last_of line.old.capacity (line.old.items ++ pieces channels count samples.old) }
+    ensures line_capacity { line.new.capacity ≡ line.old.capacity }
+    ensures line_channels { line.new.channels ≡ line.old.channels }
+{
+    let _held = line.len();
+    let mut from = 0;
+    let mut clips = 0;
+    'frames: for _turn in 0..count {
+        clips += filter_and_push(kernel, line, channels, &mut samples[from..from + channels]);
+        from += channels;
+    }
+    clips
+}
+
+/// What `filter_batch` does for a full line and at most `SAMPLES` samples, all frames at once. The line and they fit `PLACES`.
+fn filter_group<const PLACES: usize, const SAMPLES: usize>(
+    kernel: &Kernel,
+    line: &mut Line,
+    channels: usize,
+    count: usize,
+    samples: &mut [i32],
+) -> u64
+    requires channels { channels ≡ line.old.channels }
+    requires some { 1 ≤ channels }
+    requires full { length line.old.items + 1 ≡ length kernel.now }
+    requires sizes { (PLACES ≤ 2048) × (SAMPLES ≤ 1920) }
+    requires free { length samples.old ≤ SAMPLES }
+    requires places { length line.old.items + count ≤ PLACES }
+    requires samples { length samples.old ≡ count * channels }
+    ensures frames { pieces channels count samples.new ≡ frames_after fir_taps (record { channels = channels; coefficients = reverse kernel.now }) line.old.items (pieces channels count samples.old) }
+    ensures clips { result ≡ clips_after fir_taps (record { channels = channels; coefficients = reverse kernel.now }) line.old.items (pieces channels count samples.old) }
+    ensures bound { result ≤ 16 * count }
+    ensures line { line.new.items ≡ last_of line.old.capacity (line.old.items ++ pieces channels count samples.old) }
+    ensures line_capacity { line.new.capacity ≡ line.old.capacity }
+    ensures line_channels { line.new.channels ≡ line.old.channels }
+{
+    let mut frames = [0; SAMPLES];
+    let frames = &mut frames[..samples.len()];
+    frames.copy_from_slice(samples);
+    let clips = filter_within::<PLACES, SAMPLES>(kernel, line, channels, count, frames, samples);
+    line.push_frames(frames, count);
+    clips
+}
+
+/// Filters `count` frames in their places, which come after those of the line, and counts how many samples were clipped. They
+/// go through the line. Few coefficients and few samples take small buffers, which are cleared first.
+// Stack space for the windows is used only where this is called: other effects share the call of a batch.
+#[inline(never)]
+fn filter_batch(
+    kernel: &Kernel,
+    line: &mut Line,
+    channels: usize,
+    count: usize,
+    samples: &mut [i32],
+) -> u64
+    requires channels { channels ≡ line.old.channels }
+    requires some { (1 ≤ channels) × (channels ≤ 16) }
+    requires capacity { line.old.capacity + 1 ≡ length kernel.now }
+    requires taps { length kernel.now ≤ 1024 }
+    requires bound { count ≤ 2 ^ 56 }
+    requires samples { length samples.old ≡ count * channels }
+    ensures frames { pieces channels count samples.new ≡ frames_after fir_taps (record { channels = channels; coefficients = reverse kernel.now }) line.old.items (pieces channels count samples.old) }
+    ensures clips { result ≡ clips_after fir_taps (record { channels = channels; coefficients = reverse kernel.now }) line.old.items (pieces channels count samples.old) }
+    ensures bound { result ≤ 16 * count }
+    ensures line { line.new.items ≡ last_of line.old.capacity (line.old.items ++ pieces channels count samples.old) }
+    ensures line_capacity { line.new.capacity ≡ line.old.capacity }
+    ensures line_channels { line.new.channels ≡ line.old.channels }
+{
+    if line.len() < line.capacity() || samples.len() > SAMPLES_OF_GROUP {
+        return filter_by_frames(kernel, line, channels, count, samples);
+    }
+    if kernel.len() > MAX_SMALL_TAPS {
+        return filter_group::<MAX_PLACES_OF_GROUP, SAMPLES_OF_GROUP>(
+            kernel, line, channels, count, samples,
+        );
+    }
+    if samples.len() > SAMPLES_OF_BATCH {
+        return filter_group::<PLACES_OF_GROUP, SAMPLES_OF_GROUP>(
+            kernel, line, channels, count, samples,
+        );
+    }
+    filter_group::<PLACES_OF_BATCH, SAMPLES_OF_BATCH>(kernel, line, channels, count, samples)
 }
 
 impl Fir {
@@ -358,7 +504,7 @@ fn are_counts(count: usize, stored: usize, numbers: &[u64; 8]) -> bool
     }
     if pending_count > held
         || held - pending_count != taken.min(count as u64 - 1)
-        || pending_clips > 16
+        || pending_clips > MAX_CHANNELS as u64
     {
         return false;
     }
@@ -369,7 +515,7 @@ fn are_counts(count: usize, stored: usize, numbers: &[u64; 8]) -> bool
     if (pending_count == 0 && pending_clips != 0) || (pending_count != 0 && ended != 0) {
         return false;
     }
-    clips <= 16 * given
+    clips <= MAX_CHANNELS as u64 * given
         && tail <= centre
         && tail <= held - pending_count
         && (ended != 0 || tail == 0)
@@ -567,6 +713,16 @@ impl Feeds for Fir {
         self.taken += 1;
         self.given += 1;
         Passing::Through
+    }
+
+    fn pass_frames(&mut self, count: usize, samples: &mut [i32]) {
+        let channels = self.channels;
+        let clips = filter_batch(&self.kernel, &mut self.line, channels, count, samples);
+        let _held = self.line.len();
+        let passed = count as u64;
+        self.clips += clips;
+        self.taken += passed;
+        self.given += passed;
     }
 
     fn ahead(&self) -> u64 {

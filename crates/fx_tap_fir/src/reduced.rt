@@ -6,6 +6,7 @@ ghost use Rattle.fx_tap_sums.specs.Products.{sum_of_products};
 
 use fx_fixed::inner::Denominator;
 use fx_tap_sums::convolve::{convolve, small_dot};
+use fx_tap_sums::pairs::Pairs;
 use fx_tap_sums::small::{Small, small_of};
 use fx_tap_sums::transforms::Spectrum;
 use std::alloc::{AllocError, Global};
@@ -13,6 +14,12 @@ use std::marker::Model;
 
 /// How many weights there are at least where transforms pay.
 const MIN_WEIGHTS: usize = 160;
+
+/// How many weights there are at least where products of 16 bits pay, two at a time.
+const MIN_PAIRED: usize = 6;
+
+/// How many sums there are at least where products of 16 bits pay: sixteen sums are made side by side.
+const MIN_PAIRED_SUMS: usize = 16;
 
 /// How many products take as long as the sums of one transform, which are made at a fixed price. Fewer are sooner added up
 /// one by one.
@@ -24,10 +31,12 @@ pub const SUMS_OF_PIECE: usize = 256;
 /// How many sums are made at once at most.
 pub const MAX_SUMS: usize = 1920;
 
-/// At most 1024 weights in lowest terms, and where they are many, the same prepared for sums by transforms.
+/// At most 1024 weights in lowest terms, and the same prepared: for samples of 16 bits, where they are few and small enough,
+/// and where they are many, for sums by transforms.
 #[derive(Drop)]
 pub struct Reduced {
     small: Small,
+    pairs: Option<Pairs>,
     spectrum: Option<Spectrum>,
 }
 
@@ -39,7 +48,7 @@ impl Model for Reduced {
 
     ghost view = { λ s. s.small };
 
-    ghost invariant = { λ s. (length s.small.weights ≤ 1024) × (sum_by unsigned_abs s.small.weights ≤ 2 ^ 30) × IfSome s.spectrum (λ weights. weights ≡ s.small.weights) };
+    ghost invariant = { λ s. (length s.small.weights ≤ 1024) × (sum_by unsigned_abs s.small.weights ≤ 2 ^ 30) × IfSome s.pairs (λ weights. weights ≡ s.small.weights) × IfSome s.spectrum (λ weights. weights ≡ s.small.weights) };
 }
 
 /// How many sums of `weights` products are best made at once by transforms.
@@ -50,6 +59,16 @@ pub fn max_by_transforms(weights: usize) -> usize
     ensures fits { weights + result ≤ 2048 }
 {
     (2048 - weights).min(MAX_SUMS)
+}
+
+/// Weights prepared for samples of 16 bits. None where one product after another is no slower, or where they do not fit.
+fn pairs_of(alloc: Global, weights: &[i32]) -> Result<Option<Pairs>, AllocError>
+    ensures { IfOk result (λ s. IfSome s (λ v. v ≡ weights.now)) }
+{
+    if weights.len() < MIN_PAIRED {
+        return Ok(None);
+    }
+    Pairs::of(alloc, weights)
 }
 
 /// The spectrum of weights. None where transforms are no faster, or where the weights are too large for them.
@@ -76,8 +95,13 @@ impl Reduced {
         let Some(small) = small_of(alloc, coefficients, denominator)? else {
             return Ok(None);
         };
+        let pairs = pairs_of(alloc, &small.weights)?;
         let spectrum = spectrum_of(alloc, &small.weights)?;
-        Ok(Some(Reduced { small, spectrum }))
+        Ok(Some(Reduced {
+            small,
+            pairs,
+            spectrum,
+        }))
     }
 
     /// What sums of the weights times samples are over.
@@ -115,6 +139,11 @@ impl Reduced {
         ensures sums { (i : ℕ) → i < length sums.new → slice_index_or sums.new i (pos 0) ≡ sum_of_products (drop i window.now) self.now.weights }
         ensures bound { (i : ℕ) → i < length sums.new → unsigned_abs (slice_index_or sums.new i (pos 0)) ≤ 2 ^ 61 }
     {
+        if let Some(pairs) = &self.pairs {
+            if sums.len() >= MIN_PAIRED_SUMS && pairs.convolve(window, sums) {
+                return;
+            }
+        }
         let weights = &self.small.weights;
         if let Some(spectrum) = &self.spectrum {
             if sums.len().saturating_mul(weights.len()) >= PRODUCTS_OF_TRANSFORM {

@@ -9,6 +9,9 @@ pub mod KernelLaws
 pub mod Magnitudes
 pub mod Numbers
 pub mod Prepared
+pub mod PairLanes
+pub mod PairSums
+pub mod PartSums
 pub mod ProductBounds
 pub mod ProductLanes
 pub mod Residues

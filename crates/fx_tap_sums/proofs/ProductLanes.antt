@@ -30,7 +30,7 @@ chunk-four xs at d free =
 within_fits : (b : ℕ) (z : ℤ) → b < 2 ^ 63 → WithinLane b z → FitsSigned w64 z
 within_fits b z small within = fits_signed_from_abs w64 z (omega arith)
 
-each_fits : (b : ℕ) (xs : List ℤ) → b < 2 ^ 63 → Each1 (WithinLane b) xs → Each1 (FitsSigned w64) xs
+pub each_fits : (b : ℕ) (xs : List ℤ) → b < 2 ^ 63 → Each1 (WithinLane b) xs → Each1 (FitsSigned w64) xs
 each_fits b [] small within = tt
 each_fits b (x ∷ xs) small within = (within_fits b x small within.0, each_fits b xs small within.1)
 
@@ -57,7 +57,7 @@ mul_asked m n (x ∷ xs) (y ∷ ys) m_fits n_fits fits x_small y_small =
     (rw (x_is, y_is) (within_fits (m * n) (x *ℤ y) fits (product_within m n x y x_small.0 y_small.0)), mul_asked m n xs ys m_fits n_fits fits x_small.1 y_small.1)
 
 -- the bits of the products are those of the products as numbers
-mul_bits : (m n : ℕ) (xs ys : List ℤ) → m < 2 ^ 63 → n < 2 ^ 63 → Each1 (WithinLane m) xs → Each1 (WithinLane n) ys →
+pub mul_bits : (m n : ℕ) (xs ys : List ℤ) → m < 2 ^ 63 → n < 2 ^ 63 → Each1 (WithinLane m) xs → Each1 (WithinLane n) ys →
     zip2 (act2 (mul signed) (s_int w64) (s_int w64) (s_int w64)) (map (of_z w64) xs) (map (of_z w64) ys) ≡ map (of_z w64) (zip2 (λ a b. a *ℤ b) xs ys)
 mul_bits m n [] ys m_fits n_fits x_small y_small = refl
 mul_bits m n (x ∷ xs) [] m_fits n_fits x_small y_small = refl
@@ -93,7 +93,7 @@ lanes_back m (x ∷ xs) fits small =
     let rest = lanes_back m xs fits small.1 in
     cc
 
-products_within : (m n : ℕ) (xs ys : List ℤ) → Each1 (WithinLane m) xs → Each1 (WithinLane n) ys → Each1 (WithinLane (m * n)) (zip2 (λ a b. a *ℤ b) xs ys)
+pub products_within : (m n : ℕ) (xs ys : List ℤ) → Each1 (WithinLane m) xs → Each1 (WithinLane n) ys → Each1 (WithinLane (m * n)) (zip2 (λ a b. a *ℤ b) xs ys)
 products_within m n [] ys x_small y_small = tt
 products_within m n (x ∷ xs) [] x_small y_small = tt
 products_within m n (x ∷ xs) (y ∷ ys) x_small y_small = (product_within m n x y x_small.0 y_small.0, products_within m n xs ys x_small.1 y_small.1)
@@ -103,7 +103,7 @@ sums_within m n [] ys x_small y_small = tt
 sums_within m n (x ∷ xs) [] x_small y_small = tt
 sums_within m n (x ∷ xs) (y ∷ ys) x_small y_small = (sum_within m n x y x_small.0 y_small.0, sums_within m n xs ys x_small.1 y_small.1)
 
-wider : (m n : ℕ) (xs : List ℤ) → m ≤ n → Each1 (WithinLane m) xs → Each1 (WithinLane n) xs
+pub wider : (m n : ℕ) (xs : List ℤ) → m ≤ n → Each1 (WithinLane m) xs → Each1 (WithinLane n) xs
 wider m n [] le small = tt
 wider m n (x ∷ xs) le small = (omega arith, wider m n xs le small.1)
 

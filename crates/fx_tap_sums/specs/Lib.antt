@@ -1,4 +1,5 @@
 pub mod Lanes
+pub mod Pairs
 pub mod Prepared
 pub mod Products
 pub mod Residues

@@ -37,7 +37,7 @@ fn add_lanes(sums: i64x4, samples: &[i32], at: usize, weight: i32) -> i64x4
 
 /// Writes four sums over those from a place on.
 #[inline(always)]
-fn put_lanes(sums: &mut [i64], at: usize, lanes: i64x4)
+pub(crate) fn put_lanes(sums: &mut [i64], at: usize, lanes: i64x4)
     requires free { at + 4 ≤ length sums.old }
     requires lanes { LanesWithin (2 ^ 61) lanes }
     ensures before { (i : ℕ) → i < at → slice_index_or sums.new i (pos 0) ≡ slice_index_or sums.old i (pos 0) }

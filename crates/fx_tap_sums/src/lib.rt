@@ -5,6 +5,7 @@
 mod channels;
 pub mod convolve;
 pub mod inner;
+pub mod pairs;
 mod products;
 pub mod small;
 mod sums;
