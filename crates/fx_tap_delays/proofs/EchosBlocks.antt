@@ -9,7 +9,8 @@ use Rattle.fx_frame_base.specs.Frame.{Samples}
 use Rattle.fx_frame_base.specs.Holds.{total}
 use Rattle.fx_frame_line.specs.Line.{Frames, pushed, pushed_out}
 use Rattle.fx_frame_base.specs.Lists.{pieces}
-use Rattle.fx_frame_base.specs.Stage.{Given}
+use Rattle.fx_frame_base.specs.Pipeline.{EachThrough}
+use Rattle.fx_frame_base.specs.Stage.{Given, IsDry}
 use Rattle.fx_frame_base.proofs.FedLaws.{Fed-then}
 use Rattle.fx_frame_base.proofs.Pieces.{length-pieces}
 use Rattle.fx_tap_delays.specs.Echo.{EchoArguments}
@@ -89,6 +90,23 @@ module _ (a : EchoArguments) where
       let clipped : clips + (made lines x).clips + total (λ (g : Given). g.clips) (through_lines a (next lines x) xs) ≡ clips + total (λ (g : Given). g.clips) (through_lines a lines (x ∷ xs)) = omega arith in
       rw (many, clipped) at all
 
+  ready-dry : (lines : List (Frames ℤ)) (count clips : ℕ) → IsDry echos_acts (ready lines count clips)
+  ready-dry lines count clips = record { due = λ e. refl; over = λ e. absurd (cc (e)) }
+
+  -- each given before the next is taken
+  lines-through : (xs : List Samples) (lines : List (Frames ℤ)) (count clips : ℕ) → echo_places lines ≡ sum_of_delays a.taps
+      → EachThrough echos_acts xs (map (λ (g : Given). g.samples) (through_lines a lines xs)) (ready lines count clips) (ready (series_lines_after a.channels lines xs) (count + length xs) (clips + total (λ (g : Given). g.clips) (through_lines a lines xs)))
+  lines-through [] lines count clips places = rw (add-zero, add-zero) refl
+  lines-through (x ∷ xs) lines count clips places =
+      let more = lines-through xs (next lines x) (count + 1) (clips + (made lines x).clips) (places-after a.channels lines x (replicate a.channels (pos 0)) ∙ places) in
+      let many : count + 1 + length xs ≡ count + length (x ∷ xs) = omega arith in
+      let clipped : clips + (made lines x).clips + total (λ (g : Given). g.clips) (through_lines a (next lines x) xs) ≡ clips + total (λ (g : Given). g.clips) (through_lines a lines (x ∷ xs)) = omega arith in (
+        ready (next lines x) (count + 1) (clips + (made lines x).clips),
+        one-passed lines count clips x places,
+        ready-dry (next lines x) (count + 1) (clips + (made lines x).clips),
+        rw (many, clipped) at more,
+      )
+
 -- one frame, passed on in its place
 pub frame-passed : (s : EchosState) (lines : List (Frames ℤ)) (x y : Samples) (clips : ℕ) → s.pending ≡ None → s.pending_clips ≡ 0 → s.tail ≡ 0 → s.ended ≡ false → s.given ≡ s.taken → echo_places s.lines ≡ sum_of_delays s.arguments.taps
     → y ≡ (made s.arguments s.lines x).samples → clips ≡ (made s.arguments s.lines x).clips → lines ≡ next s.arguments s.lines x
@@ -126,6 +144,25 @@ block-fed s lines n clips input output h k t over g places out_is counted went =
     ∙ ap (λ (ls : List (Frames ℤ)). ready a ls (s.taken + length xs) (s.clips + total (λ (g : Given). g.clips) (through_lines a s.lines xs))) went in
     let start : s ≡ ready a s.lines s.taken s.clips = whole in
     rw (out_is, last) (subst (λ (u : EchosState). Fed echos_acts u xs (map (λ (g : Given). g.samples) (through_lines a s.lines xs)) (ready a (series_lines_after a.channels s.lines xs) (s.taken + length xs) (s.clips + total (λ (g : Given). g.clips) (through_lines a s.lines xs)))) (sym start) all)
+
+-- the same, each frame given before the next is taken
+pub block-through : (s : EchosState) (lines : List (Frames ℤ)) (n clips : ℕ) (input output : List ℤ) → s.pending ≡ None → s.pending_clips ≡ 0 → s.tail ≡ 0 → s.ended ≡ false → s.given ≡ s.taken → echo_places s.lines ≡ sum_of_delays s.arguments.taps
+    → pieces s.arguments.channels n output ≡ map (λ (g : Given). g.samples) (through_lines s.arguments s.lines (pieces s.arguments.channels n input)) → clips ≡ total (λ (g : Given). g.clips) (through_lines s.arguments s.lines (pieces s.arguments.channels n input))
+    → lines ≡ series_lines_after s.arguments.channels s.lines (pieces s.arguments.channels n input)
+    → EachThrough echos_acts (pieces s.arguments.channels n input) (pieces s.arguments.channels n output) s (record s { lines = lines; taken = s.taken + n; given = s.given + n; clips = s.clips + clips })
+block-through s lines n clips input output h k t over g places out_is counted went =
+    let a : EchoArguments = s.arguments in
+    let xs : List Samples = pieces a.channels n input in
+    let all = lines-through a xs s.lines s.taken s.clips places in
+    let many : length xs ≡ n = length-pieces a.channels n input in
+    let whole : ◌≡◌ {A = EchosState} (record { arguments = s.arguments; lines = s.lines; pending = s.pending; pending_clips = s.pending_clips; tail = s.tail; taken = s.taken; given = s.given; clips = s.clips; ended = s.ended }) (ready a s.lines s.taken s.clips) = rw (h, k, t, over, g) refl in
+    let left : ◌≡◌ {A = EchosState} (record { arguments = s.arguments; lines = lines; pending = s.pending; pending_clips = s.pending_clips; tail = s.tail; taken = s.taken + n; given = s.given + n; clips = s.clips + clips; ended = s.ended }) (ready a lines (s.taken + n) (s.clips + clips)) = rw (h, k, t, over, g) refl in
+    let last : ◌≡◌ {A = EchosState} (record { arguments = s.arguments; lines = lines; pending = s.pending; pending_clips = s.pending_clips; tail = s.tail; taken = s.taken + n; given = s.given + n; clips = s.clips + clips; ended = s.ended })
+    (ready a (series_lines_after a.channels s.lines xs) (s.taken + length xs) (s.clips + total (λ (g : Given). g.clips) (through_lines a s.lines xs))) =
+    left ∙ ap (λ (j : ℕ). ready a lines (s.taken + j) (s.clips + clips)) (sym many) ∙ ap (λ (j : ℕ). ready a lines (s.taken + length xs) (s.clips + j)) counted
+    ∙ ap (λ (ls : List (Frames ℤ)). ready a ls (s.taken + length xs) (s.clips + total (λ (g : Given). g.clips) (through_lines a s.lines xs))) went in
+    let start : s ≡ ready a s.lines s.taken s.clips = whole in
+    rw (out_is, last) (subst (λ (u : EchosState). EachThrough echos_acts xs (map (λ (g : Given). g.samples) (through_lines a s.lines xs)) u (ready a (series_lines_after a.channels s.lines xs) (s.taken + length xs) (s.clips + total (λ (g : Given). g.clips) (through_lines a s.lines xs)))) (sym start) all)
 
 -- the state after it
 pub IsEchos-block : (s : EchosState) (lines : List (Frames ℤ)) (n clips : ℕ) → IsEchos s → s.pending ≡ None → s.ended ≡ false → s.taken + n ≤ 2 ^ 56 → length lines ≡ length s.lines

@@ -7,7 +7,7 @@ ghost use Rattle.fx_frame_base.specs.Lists.{pieces};
 ghost use Rattle.fx_frame_base.specs.Stage.{Freezes, IsNew};
 ghost use Rattle.fx_tap_delays.specs.Delay.{delayed_frame, every_delay};
 ghost use Rattle.fx_tap_delays.specs.DelayState.{delay_acts, delay_taps};
-ghost use Rattle.fx_frame.specs.Tapped.{IsTapState, TapState, frames_after, last_of};
+ghost use Rattle.fx_frame.specs.Tapped.{IsTapState, TapState, clips_after, frames_after, last_of};
 ghost use Rattle.fx_frame.specs.History.{sample_before};
 ghost use Rattle.fx_tap_delays.specs.Near.{delays-near};
 ghost use Rattle.std.proofs.Common.{zero-le};
@@ -19,7 +19,7 @@ use crate::extents::max_delay;
 use crate::tapped::{
     Tapped, Tapping, TapsMany, sample, tap_and_push, tap_by_frames, tap_over_by_frames,
 };
-use fx_frame::groups::SAMPLES_OF_GROUP;
+use fx_frame::groups::{SAMPLES_OF_BATCH, SAMPLES_OF_GROUP};
 use fx_frame::{Frame, Line, ThawFault, WideFrame};
 use std::alloc::{AllocError, Global};
 use std::marker::Model;
@@ -304,6 +304,43 @@ fn delay_pieces(
     }
 }
 
+impl Delays {
+    /// What `tap_frames` does, for at most `PLACES` samples.
+    #[inline(never)]
+    fn group_within<const PLACES: usize>(
+        &self,
+        line: &mut Line,
+        samples: &mut [i32],
+        count: usize,
+    ) -> u64
+        requires channels { line.old.channels ≡ length self.now }
+        requires capacity { line.old.capacity ≡ largest self.now }
+        requires bound { count ≤ 2 ^ 56 }
+        requires group { (length samples.old ≤ PLACES) × (PLACES ≤ 64) }
+        requires samples { length samples.old ≡ count * length self.now }
+        ensures frames { pieces (length self.now) count samples.new ≡ frames_after delay_taps self.now line.old.items (pieces (length self.now) count samples.old) }
+        ensures clips { result ≡ clips_after delay_taps self.now line.old.items (pieces (length self.now) count samples.old) }
+        ensures bound { result ≤ count * delay_taps.max_clips self.now }
+        ensures small { result ≤ 16 * count }
+        ensures line { line.new.items ≡ last_of line.old.capacity (line.old.items ++ pieces (length self.now) count samples.old) }
+        ensures line_capacity { line.new.capacity ≡ line.old.capacity }
+        ensures line_channels { line.new.channels ≡ line.old.channels }
+    {
+        let mut places = [0; PLACES];
+        let came = &mut places[..samples.len()];
+        if exchange_evenly(&self.delays, line, samples, count, came) {
+            return 0;
+        }
+        if count > frames_of_piece(&self.delays) {
+            return tap_over_by_frames(self, line, samples, count);
+        }
+        came.copy_from_slice(samples);
+        delay_piece(&self.delays, line, came, count, samples);
+        line.push_frames(came, count);
+        0
+    }
+}
+
 impl TapsMany for Delays {
     fn tap_many(&self, line: &mut Line, input: &[i32], output: &mut [i32], count: usize) -> u64 {
         let channels = self.channels();
@@ -328,17 +365,10 @@ impl TapsMany for Delays {
     }
 
     fn tap_frames(&self, line: &mut Line, samples: &mut [i32], count: usize) -> u64 {
-        let mut places = [0; SAMPLES_OF_GROUP];
-        let came = &mut places[..samples.len()];
-        if exchange_evenly(&self.delays, line, samples, count, came) {
-            return 0;
+        if samples.len() <= SAMPLES_OF_BATCH {
+            self.group_within::<SAMPLES_OF_BATCH>(line, samples, count)
+        } else {
+            self.group_within::<SAMPLES_OF_GROUP>(line, samples, count)
         }
-        if count > frames_of_piece(&self.delays) {
-            return tap_over_by_frames(self, line, samples, count);
-        }
-        came.copy_from_slice(samples);
-        delay_piece(&self.delays, line, came, count, samples);
-        line.push_frames(came, count);
-        0
     }
 }

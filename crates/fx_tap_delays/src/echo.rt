@@ -1,5 +1,5 @@
 //! The effect `echo` of sox(1): earlier frames are added again, each with a decay.
-ghost use Rattle.std.specs.Prelude.{◌≡◌, ◌<◌, ◌≤◌, ◌+◌, ◌*◌, ◌^◌, ◌++◌, ◌∷◌, [], ℕ, pos, ◌+ℤ◌, ◌*ℤ◌, length, slice_index_or, unsigned_abs, Err, IfOk, IfSome, MatchResult, map};
+ghost use Rattle.std.specs.Prelude.{◌≡◌, ◌<◌, ◌≤◌, ◌+◌, ◌*◌, ◌^◌, ◌++◌, ◌∷◌, [], ℕ, true, pos, ◌+ℤ◌, ◌*ℤ◌, length, slice_index_or, unsigned_abs, Err, IfOk, IfSome, MatchResult, map};
 ghost use Rattle.std.proofs.Common.{rules};
 ghost use Rattle.std.specs.List.{All};
 ghost use Rattle.fx_fixed.specs.Extents.{largest};
@@ -26,7 +26,7 @@ use crate::tapped::{
     Tapped, Tapping, TapsMany, sample, tap_and_push, tap_by_frames, tap_over_by_frames,
 };
 use fx_fixed::{Gain, UNIT};
-use fx_frame::groups::SAMPLES_OF_GROUP;
+use fx_frame::groups::{SAMPLES_OF_BATCH, SAMPLES_OF_GROUP};
 use fx_frame::{Frame, Line, ThawFault, WideFrame};
 use fx_frame_base::feed::{copy_samples, frame_at};
 use fx_tap_sums::inner::{Sums, add_products, product};
@@ -283,27 +283,27 @@ pub(crate) fn frames_of_piece(channels: usize, taps: &[(u64, Gain)]) -> usize
 }
 
 impl PreparedEcho {
-    /// Adds to the sums `count` frames that follow those of the line, and their echoes, each times its weight.
+    /// Adds to the sums `count` frames that follow those of the line, and their echoes, each times its weight, by way of a buffer
+    /// for the frames that an echo repeats.
     fn add_piece(
         &self,
         small: &SmallWeights,
         line: &Line,
         frames: &[i32],
         count: usize,
+        earlier: &mut [i32],
         sums: &mut [i64],
     )
         requires channels { line.now.channels ≡ self.now.channels }
         requires late { All (λ e. count ≤ e.0) self.now.taps }
-        requires free { count * self.now.channels ≤ 256 }
         requires frames { length frames.now ≡ count * self.now.channels }
+        requires earlier { length earlier.old ≡ count * self.now.channels }
         requires sums { length sums.old ≡ count * self.now.channels }
         requires empty { (k : ℕ) → slice_index_or sums.old k (pos 0) ≡ pos 0 }
         ensures value { (i k : ℕ) → i < count → k < self.now.channels → slice_index_or sums.new (i * self.now.channels + k) (pos 0) ≡ echo_sum (weighed self.now small.now.weights) (sample_before (line.now.items ++ pieces self.now.channels count frames.now) (length line.now.items + i)) k }
         ensures small { (k : ℕ) → unsigned_abs (slice_index_or sums.new k (pos 0)) ≤ 2 ^ 61 }
     {
         add_products(sums, frames, small.weights[0]);
-        let mut places = [0; SAMPLES_OF_PIECE];
-        let earlier = &mut places[..frames.len()];
         'taps: for place in 0..self.taps.len() {
             let (late, _) = self.taps[place];
             line.before_into(late as usize, count, earlier);
@@ -332,8 +332,10 @@ impl PreparedEcho {
         ensures bound { result ≤ count * self.now.channels }
     {
         let mut places = [0; SAMPLES_OF_PIECE];
-        let sums = &mut places[..frames.len()];
-        self.add_piece(small, line, frames, count, sums);
+        let mut sum_places = [0; SAMPLES_OF_PIECE];
+        let earlier = &mut places[..frames.len()];
+        let sums = &mut sum_places[..frames.len()];
+        self.add_piece(small, line, frames, count, earlier, sums);
         round_sums(sums, &small.denominator, out)
     }
 }
@@ -437,9 +439,10 @@ impl PreparedEcho {
 }
 
 impl PreparedEcho {
-    /// What `tap_frames` does where there is one echo and its weights are small. The frames that it needs are those which leave
-    /// the line.
-    fn group_over(
+    /// What `tap_frames` does where there is one echo and its weights are small, for at most `PLACES` samples. The frames that it
+    /// needs are those which leave the line.
+    #[inline(never)]
+    fn one_echo_within<const PLACES: usize>(
         &self,
         small: &SmallWeights,
         line: &mut Line,
@@ -451,7 +454,7 @@ impl PreparedEcho {
         requires channels { line.old.channels ≡ self.now.channels }
         requires capacity { line.old.capacity ≡ largest (map tap_delay self.now.taps) }
         requires bound { count ≤ 2 ^ 56 }
-        requires group { length samples.old ≤ 64 }
+        requires group { (length samples.old ≤ PLACES) × (PLACES ≤ 64) }
         requires samples { length samples.old ≡ count * self.now.channels }
         ensures frames { pieces self.now.channels count samples.new ≡ frames_after echo_taps self.now line.old.items (pieces self.now.channels count samples.old) }
         ensures clips { result ≡ clips_after echo_taps self.now line.old.items (pieces self.now.channels count samples.old) }
@@ -461,13 +464,59 @@ impl PreparedEcho {
         ensures line_channels { line.new.channels ≡ line.old.channels }
     {
         let _held = line.len();
-        let mut places = [0; SAMPLES_OF_GROUP];
+        let mut places = [0; PLACES];
         let came = &mut places[..samples.len()];
         if line.exchange_frames(samples, count, came) {
             return one_echo_over(small, came, samples);
         }
         tap_over_by_frames(self, line, samples, count)
     }
+
+    /// What `tap_frames` does where the weights are small and no frame is an echo of another, for at most `PLACES` samples. The
+    /// frames that an echo repeats stand in the line before the new ones go into it.
+    #[inline(never)]
+    fn echoes_within<const PLACES: usize>(
+        &self,
+        small: &SmallWeights,
+        line: &mut Line,
+        samples: &mut [i32],
+        count: usize,
+    ) -> u64
+        requires sounds { SoundsAs self.now.gain_in self.now.gain_out self.now.taps small.now }
+        requires late { All (λ e. count ≤ e.0) self.now.taps }
+        requires channels { line.old.channels ≡ self.now.channels }
+        requires capacity { line.old.capacity ≡ largest (map tap_delay self.now.taps) }
+        requires bound { count ≤ 2 ^ 56 }
+        requires group { (length samples.old ≤ PLACES) × (PLACES ≤ 64) }
+        requires samples { length samples.old ≡ count * self.now.channels }
+        ensures frames { pieces self.now.channels count samples.new ≡ frames_after echo_taps self.now line.old.items (pieces self.now.channels count samples.old) }
+        ensures clips { result ≡ clips_after echo_taps self.now line.old.items (pieces self.now.channels count samples.old) }
+        ensures bound { result ≤ count * 16 }
+        ensures line { line.new.items ≡ last_of line.old.capacity (line.old.items ++ pieces self.now.channels count samples.old) }
+        ensures line_capacity { line.new.capacity ≡ line.old.capacity }
+        ensures line_channels { line.new.channels ≡ line.old.channels }
+    {
+        let _held = line.len();
+        let mut places = [0; PLACES];
+        let mut sum_places = [0; PLACES];
+        let earlier = &mut places[..samples.len()];
+        let sums = &mut sum_places[..samples.len()];
+        self.add_piece(small, line, samples, count, earlier, sums);
+        line.push_frames(samples, count);
+        round_sums(sums, &small.denominator, samples)
+    }
+}
+
+/// Whether each echo comes at least `count` frames after its frame.
+pub(crate) fn are_late(taps: &[(u64, Gain)], count: usize) -> bool
+    ensures { result ≡ true → All (λ e. count ≤ e.0) taps.now }
+{
+    'taps: for echo in taps {
+        if (echo.0 as usize) < count {
+            return false;
+        }
+    }
+    true
 }
 
 impl TapsMany for PreparedEcho {
@@ -494,8 +543,20 @@ impl TapsMany for PreparedEcho {
 
     fn tap_frames(&self, line: &mut Line, samples: &mut [i32], count: usize) -> u64 {
         if let Some(small) = &self.small {
+            let is_short = samples.len() <= SAMPLES_OF_BATCH;
             if self.taps.len() == 1 {
-                return self.group_over(small, line, samples, count);
+                return if is_short {
+                    self.one_echo_within::<SAMPLES_OF_BATCH>(small, line, samples, count)
+                } else {
+                    self.one_echo_within::<SAMPLES_OF_GROUP>(small, line, samples, count)
+                };
+            }
+            if are_late(&self.taps, count) {
+                return if is_short {
+                    self.echoes_within::<SAMPLES_OF_BATCH>(small, line, samples, count)
+                } else {
+                    self.echoes_within::<SAMPLES_OF_GROUP>(small, line, samples, count)
+                };
             }
         }
         tap_over_by_frames(self, line, samples, count)

@@ -14,13 +14,14 @@ ghost use Rattle.fx_tap_sums.specs.Weights.{AreSmall};
 ghost use Rattle.fx_tap_delays.specs.EchoWeights.{Suits};
 ghost use Rattle.fx_tap_sums.specs.Products.{sum_of_products};
 
-use crate::echo::{SAMPLES_OF_PIECE, copied, frames_of_piece};
+use crate::echo::{SAMPLES_OF_PIECE, are_late, copied, frames_of_piece};
 use crate::extents::total_delay;
 use crate::series_lines::thawed_series_and_pending;
 use crate::sums::{add_scaled, round_sums, sums_into};
 use fx_fixed::{Gain, UNIT};
+use fx_frame::groups::{SAMPLES_OF_BATCH, SAMPLES_OF_GROUP};
 use fx_frame::{Counters, Feeds, Frame, Passed, Passing, Stage, ThawFault, WideFrame, WideLine};
-use fx_frame_base::feed::{copy_samples, feed_by_frames, frame_at};
+use fx_frame_base::feed::{feed_by_frames, frame_at};
 use fx_frame_base::frame::MAX_CHANNELS;
 use fx_frame_base::pending::stored_pending;
 use fx_frame_base::stage::MAX_TAKEN;
@@ -206,6 +207,36 @@ fn echo_piece<const N: usize>(
     round_sums(sums, &small.denominator, out)
 }
 
+/// Sends the `count` frames of a batch, together at most `N` samples, through the lines, no more than each has places: writes
+/// the frames that are given for them over them, and counts how many of their samples were clipped.
+// Stack space for the sums of a batch is used only where this is called.
+#[inline(never)]
+fn echo_batch<const N: usize>(
+    lines: &mut [WideLine],
+    small: &SmallWeights,
+    channels: usize,
+    samples: &mut [i32],
+    count: usize,
+) -> u64
+    requires channels { (1 ≤ channels) × (channels ≤ 16) }
+    requires bound { length lines.old ≤ 7 }
+    requires weights { AreSmall (2 ^ 24) small.now.weights }
+    requires lines { (j : ℕ) → j < length lines.old → IsSeriesLine channels j (line_at lines.old j) }
+    requires late { (j : ℕ) → j < length lines.old → count ≤ (line_at lines.old j).capacity }
+    requires batch { (length samples.old ≤ N) × (N ≤ 256) }
+    requires samples { length samples.old ≡ count * channels }
+    ensures lines { lines.new ≡ series_lines_after channels lines.old (pieces channels count samples.old) }
+    ensures frames { (a : EchoArguments) → Suits a small.now → a.channels ≡ channels → length a.taps ≡ length lines.old → pieces channels count samples.new ≡ map (λ (g : Given). g.samples) (through_lines a lines.old (pieces channels count samples.old)) }
+    ensures clips { (a : EchoArguments) → Suits a small.now → a.channels ≡ channels → length a.taps ≡ length lines.old → result ≡ total (λ (g : Given). g.clips) (through_lines a lines.old (pieces channels count samples.old)) }
+    ensures bound { result ≤ count * channels }
+    ensures small { (k : ℕ) → k < length samples.old → unsigned_abs (slice_index_or samples.old k (pos 0)) ≤ 2 ^ 31 }
+{
+    let mut places = [0; N];
+    let sums = &mut places[..samples.len()];
+    pass_piece::<N>(lines, small, channels, samples, count, sums);
+    round_sums(sums, &small.denominator, samples)
+}
+
 /// Sends `count` frames at the front of the input through the lines, some at a time: writes the frames that are given for
 /// them to the front of the output, and counts how many of their samples were clipped.
 fn echo_many(
@@ -303,13 +334,80 @@ fn echo_over(
     ensures small { (k : ℕ) → unsigned_abs (slice_index_or samples.old k (pos 0)) ≤ 2 ^ 31 }
 {
     if let Some(small) = small {
-        let mut places = [0; MAX_CHANNELS];
-        let out = &mut places[..channels];
-        let clips = echo_piece::<MAX_CHANNELS>(lines, small, channels, samples, 1, out);
-        copy_samples(out, samples);
-        return clips;
+        return echo_batch::<MAX_CHANNELS>(lines, small, channels, samples, 1);
     }
     wide_over(lines, taps, channels, gains, samples)
+}
+
+/// Sends `count` frames through the lines, one after another: writes the frames that are given for them over them, and
+/// counts how many of their samples were clipped.
+fn echo_over_by_frames(
+    lines: &mut [WideLine],
+    taps: &[(u64, Gain)],
+    small: &Option<SmallWeights>,
+    channels: usize,
+    gains: (Gain, Gain),
+    samples: &mut [i32],
+    count: usize,
+) -> u64
+    requires channels { (1 ≤ channels) × (channels ≤ 16) }
+    requires taps { (length lines.old ≡ length taps.now) × (length lines.old ≤ 7) }
+    requires lines { (came : ℕ) × ((j : ℕ) → j < length lines.old → IsEchoLine channels came j (delay_at taps.now j) (line_at lines.old j)) }
+    requires small { IfSome small.now (Suits (record { channels = channels; gain_in = gains.0; gain_out = gains.1; taps = taps.now })) }
+    requires gain_in { unsigned_abs gains.0 ≤ UNIT }
+    requires decays { All (λ e. unsigned_abs e.1 ≤ UNIT) taps.now }
+    requires bound { count ≤ 2 ^ 56 }
+    requires samples { length samples.old ≡ count * channels }
+    ensures lines { lines.new ≡ series_lines_after channels lines.old (pieces channels count samples.old) }
+    ensures frames { pieces channels count samples.new ≡ map (λ (g : Given). g.samples) (through_lines (record { channels = channels; gain_in = gains.0; gain_out = gains.1; taps = taps.now }) lines.old (pieces channels count samples.old)) }
+    ensures clips { result ≡ total (λ (g : Given). g.clips) (through_lines (record { channels = channels; gain_in = gains.0; gain_out = gains.1; taps = taps.now }) lines.old (pieces channels count samples.old)) }
+    ensures bound { result ≤ count * 16 }
+    ensures sound { (came : ℕ) → ((j : ℕ) → j < length lines.old → IsEchoLine channels came j (delay_at taps.now j) (line_at lines.old j)) → (j : ℕ) → j < length lines.new → IsEchoLine channels (came + count) j (delay_at taps.now j) (line_at lines.new j) }
+{
+    let mut clips = 0;
+    'frames: for turn in 0..count {
+        let from = turn * channels;
+        let frame = &mut samples[from..from + channels];
+        clips += echo_over(lines, taps, small, channels, (gains.0, gains.1), frame);
+    }
+    clips
+}
+
+/// Sends `count` frames through the lines, at once where there are few and none is an echo of another: writes the frames that
+/// are given for them over them, and counts how many of their samples were clipped.
+fn echo_frames(
+    lines: &mut [WideLine],
+    taps: &[(u64, Gain)],
+    small: &Option<SmallWeights>,
+    channels: usize,
+    gains: (Gain, Gain),
+    samples: &mut [i32],
+    count: usize,
+) -> u64
+    requires channels { (1 ≤ channels) × (channels ≤ 16) }
+    requires taps { (length lines.old ≡ length taps.now) × (length lines.old ≤ 7) }
+    requires lines { (came : ℕ) × ((j : ℕ) → j < length lines.old → IsEchoLine channels came j (delay_at taps.now j) (line_at lines.old j)) }
+    requires small { IfSome small.now (Suits (record { channels = channels; gain_in = gains.0; gain_out = gains.1; taps = taps.now })) }
+    requires gain_in { unsigned_abs gains.0 ≤ UNIT }
+    requires decays { All (λ e. unsigned_abs e.1 ≤ UNIT) taps.now }
+    requires bound { count ≤ 2 ^ 56 }
+    requires samples { length samples.old ≡ count * channels }
+    ensures lines { lines.new ≡ series_lines_after channels lines.old (pieces channels count samples.old) }
+    ensures frames { pieces channels count samples.new ≡ map (λ (g : Given). g.samples) (through_lines (record { channels = channels; gain_in = gains.0; gain_out = gains.1; taps = taps.now }) lines.old (pieces channels count samples.old)) }
+    ensures clips { result ≡ total (λ (g : Given). g.clips) (through_lines (record { channels = channels; gain_in = gains.0; gain_out = gains.1; taps = taps.now }) lines.old (pieces channels count samples.old)) }
+    ensures bound { result ≤ count * 16 }
+    ensures sound { (came : ℕ) → ((j : ℕ) → j < length lines.old → IsEchoLine channels came j (delay_at taps.now j) (line_at lines.old j)) → (j : ℕ) → j < length lines.new → IsEchoLine channels (came + count) j (delay_at taps.now j) (line_at lines.new j) }
+{
+    if let Some(small) = small {
+        if samples.len() <= SAMPLES_OF_GROUP && are_late(taps, count) {
+            return if samples.len() <= SAMPLES_OF_BATCH {
+                echo_batch::<SAMPLES_OF_BATCH>(lines, small, channels, samples, count)
+            } else {
+                echo_batch::<SAMPLES_OF_GROUP>(lines, small, channels, samples, count)
+            };
+        }
+    }
+    echo_over_by_frames(lines, taps, small, channels, gains, samples, count)
 }
 
 /// Sends a frame through the lines: the frame that is given for it, and how many of its samples were clipped.
@@ -433,7 +531,9 @@ fn are_clips(given: u64, clips: u64, pending_count: u64, pending_clips: u64) -> 
     requires { given ≤ 2 ^ 57 }
     ensures { result ≡ true ↔ ((clips ≤ 16 * given) × (pending_clips ≤ 16) × (pending_count ≡ 0 → pending_clips ≡ 0)) }
 {
-    clips <= 16 * given && pending_clips <= 16 && (pending_count != 0 || pending_clips == 0)
+    clips <= MAX_CHANNELS as u64 * given
+        && pending_clips <= MAX_CHANNELS as u64
+        && (pending_count != 0 || pending_clips == 0)
 }
 
 impl Echos {
@@ -659,6 +759,23 @@ impl Feeds for Echos {
         self.taken += 1;
         self.given += 1;
         Passing::Through
+    }
+
+    fn pass_frames(&mut self, count: usize, samples: &mut [i32]) {
+        let gains = (self.gain_in, self.gain_out);
+        let clips = echo_frames(
+            &mut self.lines,
+            &self.taps,
+            &self.small,
+            self.channels,
+            gains,
+            samples,
+            count,
+        );
+        let passed = count as u64;
+        self.clips += clips;
+        self.taken += passed;
+        self.given += passed;
     }
 
     fn ahead(&self) -> u64 {

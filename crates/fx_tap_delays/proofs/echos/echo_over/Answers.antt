@@ -1,6 +1,6 @@
 use Rattle.std.proofs.Common.{◌≡◌, ◌<◌, ◌≤◌, ◌∙◌, ◌⊎◌, refl, inl, inr, [], ◌∷◌, add-zero, map, sym, get_or, length, ap, pos, ◌^◌, arith, replicate, slice_index_or, unsigned_abs}
 use Rattle.std.proofs.lemmas.Bool.{cases_lt}
-use Rattle.std.proofs.lemmas.List.{get_or_past, length-replicate, length-take-le, take_all}
+use Rattle.std.proofs.lemmas.List.{get_or_past, take_all}
 use Rattle.fx_frame_base.specs.Frame.{Samples}
 use Rattle.fx_frame_base.specs.Holds.{total}
 use Rattle.fx_frame_base.specs.Lists.{pieces}
@@ -14,7 +14,7 @@ pub returns-in-Some-clause-lines : goal.returns-in-Some-clause-lines
 returns-in-Some-clause-lines c =
     let x : Samples = c.args.samples.now in
     let all : pieces c.args.channels 1 x ≡ x ∷ [] = ap (λ xs. xs ∷ []) (take_all c.args.channels x (omega (arith, c.requires.frame))) in
-    c.echo_piece-clips.ensures.lines ∙ ap (series_lines_after c.args.channels c.args.lines.now) all
+    c.echo_batch.ensures.lines ∙ ap (series_lines_after c.args.channels c.args.lines.now) all
 
 pub returns-in-Some-clause-frame : goal.returns-in-Some-clause-frame
 returns-in-Some-clause-frame c =
@@ -22,11 +22,10 @@ returns-in-Some-clause-frame c =
     let x : Samples = c.args.samples.now in
     let suits : Suits a c.in-Some.small = rw c.in-Some.is at c.requires.small in
     let all : pieces c.args.channels 1 x ≡ x ∷ [] = ap (λ xs. xs ∷ []) (take_all c.args.channels x (omega (arith, c.requires.frame))) in
-    let made : pieces c.args.channels 1 c.echo_piece-clips.new.out ≡ (frame_of_lines a x (let_go c.args.channels c.args.lines.now x (replicate c.args.channels (pos 0)))).samples ∷ [] =
-    c.echo_piece-clips.ensures.frames a suits refl (sym c.requires.count.0) ∙ ap (λ xs. map (λ (g : Given). g.samples) (through_lines a c.args.lines.now xs)) all in
-    let free : c.args.channels ≤ length (replicate 16 (pos 0)) = omega (arith, length-replicate 16 (pos 0), c.requires.channels) in
-    let side : length c.echo_piece-clips.new.out ≡ c.args.channels = c.echo_piece-clips.auto.out ∙ length-take-le c.args.channels (replicate 16 (pos 0)) free in
-    c.copy_samples.ensures ∙ sym (take_all c.args.channels c.echo_piece-clips.new.out (omega (arith, side))) ∙ ap (λ ps. get_or ps 0 []) made
+    let made : pieces c.args.channels 1 c.echo_batch.new.samples ≡ (frame_of_lines a x (let_go c.args.channels c.args.lines.now x (replicate c.args.channels (pos 0)))).samples ∷ [] =
+    c.echo_batch.ensures.frames a suits refl (sym c.requires.count.0) ∙ ap (λ xs. map (λ (g : Given). g.samples) (through_lines a c.args.lines.now xs)) all in
+    let side : length c.echo_batch.new.samples ≡ c.args.channels = c.echo_batch.auto.samples ∙ c.requires.frame in
+    sym (take_all c.args.channels c.echo_batch.new.samples (omega (arith, side))) ∙ ap (λ ps. get_or ps 0 []) made
 
 pub returns-in-Some-clause-clips : goal.returns-in-Some-clause-clips
 returns-in-Some-clause-clips c =
@@ -34,11 +33,11 @@ returns-in-Some-clause-clips c =
     let x : Samples = c.args.samples.now in
     let suits : Suits a c.in-Some.small = rw c.in-Some.is at c.requires.small in
     let all : pieces c.args.channels 1 x ≡ x ∷ [] = ap (λ xs. xs ∷ []) (take_all c.args.channels x (omega (arith, c.requires.frame))) in
-    c.echo_piece-clips.ensures.clips a suits refl (sym c.requires.count.0) ∙ ap (λ xs. total (λ (g : Given). g.clips) (through_lines a c.args.lines.now xs)) all ∙ add-zero _
+    c.echo_batch.ensures.clips a suits refl (sym c.requires.count.0) ∙ ap (λ xs. total (λ (g : Given). g.clips) (through_lines a c.args.lines.now xs)) all ∙ add-zero _
 
 pub returns-in-Some-clause-small : goal.returns-in-Some-clause-small
 returns-in-Some-clause-small c k = go (cases_lt k (length c.args.samples.now))
   where
     go : (k < length c.args.samples.now) ⊎ (length c.args.samples.now ≤ k) → unsigned_abs (slice_index_or c.args.samples.now k (pos 0)) ≤ 2 ^ 31
-    go (inl l) = c.echo_piece-clips.ensures.samples k l
+    go (inl l) = c.echo_batch.ensures.small k l
     go (inr g) = rw (get_or_past c.args.samples.now k (pos 0) g) (omega arith)

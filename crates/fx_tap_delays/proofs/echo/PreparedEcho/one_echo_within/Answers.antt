@@ -1,9 +1,9 @@
 use Rattle.std.proofs.Common.{◌≡◌, ◌*◌, ◌∙◌, length}
 use Rattle.fx_tap_delays.proofs.OneEcho.{group-clips, group-frames}
-use Rattle.fx_tap_delays.proofs.echo.PreparedEcho.group_over.Goals as goal
+use Rattle.fx_tap_delays.proofs.echo.PreparedEcho.one_echo_within.Goals as goal
 
 pub returns-then-exchange_frames-clause-frames : goal.returns-then-exchange_frames-clause-frames
-returns-then-exchange_frames-clause-frames c =
+returns-then-exchange_frames-clause-frames g c =
     let is = c.if-exchange_frames.true in
     let delivered = c.exchange_frames.ensures in
     let both = delivered.when.0 is in
@@ -13,7 +13,7 @@ returns-then-exchange_frames-clause-frames c =
     group-frames c.args.self.now c.args.small.now c.args.line.now c.args.samples.now c.exchange_frames.new.frames c.args.count c.requires.sounds c.requires.one c.requires.capacity c.requires.channels both.0 both.1 gone long c.one_echo_over.new.earlier rounded
 
 pub returns-then-exchange_frames-clause-clips : goal.returns-then-exchange_frames-clause-clips
-returns-then-exchange_frames-clause-clips c =
+returns-then-exchange_frames-clause-clips g c =
     let is = c.if-exchange_frames.true in
     let delivered = c.exchange_frames.ensures in
     let both = delivered.when.0 is in
