@@ -107,7 +107,7 @@ fn pass_two(
 }
 
 /// Passes `count` frames at the front of the input through three dry stages, where the middle one is a `remix` and the others
-/// round each sample alone: each frame through all three before the next. Returns how many.
+/// round each sample alone, in groups of at most four frames, one more than there are stages. Returns how many.
 fn pass_three(
     first: &mut EffectStage,
     middle: &mut EffectStage,

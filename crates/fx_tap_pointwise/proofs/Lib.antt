@@ -4,6 +4,7 @@ pub mod Blocks
 pub mod BothLaws
 pub mod Fractions
 pub mod InSpecs
+pub mod Limiting
 pub mod MapLaws
 pub mod MixLaws
 pub mod MixPieces

@@ -1,5 +1,5 @@
-//! Three memoryless effects in sequence, of which the first and the last keep the number of channels: a frame goes through all
-//! three before the next.
+//! Three memoryless effects in sequence, of which the first and the last keep the number of channels: frames go through all
+//! three in groups of at most four, one more than there are stages.
 ghost use Rattle.std.specs.Prelude.{◌≡◌, ◌+◌, ◌*◌, ◌^◌, ◌≤◌, List, FitsSigned, None, false, drop, length, take};
 ghost use Rattle.std.specs.Int.{w32};
 ghost use Rattle.std.specs.List.{All};
@@ -10,8 +10,15 @@ ghost use Rattle.fx_frame.specs.Made.{clips_in, made_of};
 ghost use Rattle.fx_tap_pointwise.specs.Mapped.{map_acts};
 ghost use Rattle.fx_frame.specs.Kinds.{max_taken};
 
-use crate::mapped::{Mapped, Mapping};
+use crate::mapped::{Mapped, MapsMany};
 use fx_frame_base::feed::see_samples;
+use fx_frame_base::frame::MAX_CHANNELS;
+
+/// The maximum number of frames of a group: one more than there are stages.
+const FRAMES_AT_ONCE: usize = 4;
+
+/// The samples of a group whose frames have the maximum number of channels.
+const SAMPLES_AT_ONCE: usize = FRAMES_AT_ONCE * MAX_CHANNELS;
 
 /// The channels of the frames that go in, and of those that come out.
 #[derive(Clone, Copy)]
@@ -31,7 +38,7 @@ struct RowClips {
 /// Writes what the last effect makes of what the middle one makes of what the first makes of each frame, and counts how many
 /// samples each clipped.
 #[inline(always)]
-fn mapped_by_three<A: Mapping, B: Mapping, C: Mapping>(
+fn mapped_by_three<A: MapsMany, B: MapsMany, C: MapsMany>(
     first: &A,
     middle: &B,
     last: &C,
@@ -55,26 +62,24 @@ fn mapped_by_three<A: Mapping, B: Mapping, C: Mapping>(
     ensures after { All (λ (s : Samples). length s ≡ widths.outputs) (made_of (B.mapped middle.now) (made_of (A.mapped first.now) (pieces widths.inputs count input.now))) }
     ensures bound { (result.first ≤ 16 * count) × (result.middle ≤ 16 * count) × (result.last ≤ 16 * count) }
 {
-    let mut before = [0; 16];
-    let mut after_middle = [0; 16];
+    let _inputs = first.out_channels();
+    let _outputs = middle.out_channels();
+    let mut before = [0; SAMPLES_AT_ONCE];
+    let mut after_middle = [0; SAMPLES_AT_ONCE];
     let mut first_clips = 0;
     let mut middle_clips = 0;
     let mut last_clips = 0;
-    'frames: for turn in 0..count {
-        let read = turn * widths.inputs;
-        let written = turn * widths.outputs;
-        first_clips += first.map_into(
-            &input[read..read + widths.inputs],
-            &mut before[..widths.inputs],
-        );
-        middle_clips += middle.map_into(
-            &before[..widths.inputs],
-            &mut after_middle[..widths.outputs],
-        );
-        last_clips += last.map_into(
-            &after_middle[..widths.outputs],
-            &mut output[written..written + widths.outputs],
-        );
+    let mut done = 0;
+    'groups: while done < count {
+        let group = FRAMES_AT_ONCE.min(count - done);
+        let read = done * widths.inputs;
+        let frames = &input[read..read + group * widths.inputs];
+        first_clips += first.map_many(frames, &mut before, group);
+        middle_clips += middle.map_many(&before, &mut after_middle, group);
+        let written = done * widths.outputs;
+        let made = &mut output[written..written + group * widths.outputs];
+        last_clips += last.map_many(&after_middle, made, group);
+        done += group;
     }
     RowClips {
         first: first_clips,
@@ -83,9 +88,9 @@ fn mapped_by_three<A: Mapping, B: Mapping, C: Mapping>(
     }
 }
 
-/// Passes `count` frames at the front of the input through three dry stages, each frame through all of them before the next,
-/// and writes those that come out to the front of the output.
-pub fn pass_around<A: Mapping + Drop, B: Mapping + Drop, C: Mapping + Drop>(
+/// Passes `count` frames at the front of the input through three dry stages, in groups of at most four frames, one more than
+/// there are stages, and writes those that come out to the front of the output.
+pub fn pass_around<A: MapsMany + Drop, B: MapsMany + Drop, C: MapsMany + Drop>(
     first: &mut Mapped<A>,
     middle: &mut Mapped<B>,
     last: &mut Mapped<C>,

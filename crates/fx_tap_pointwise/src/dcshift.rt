@@ -1,30 +1,36 @@
 //! The effect `dcshift` of sox(1): each sample plus a shift.
-ghost use Rattle.std.specs.Prelude.{◌≡◌, ◌*◌, ◌^◌, ◌≤◌, ℤ, unsigned_abs, Ok, IfOk, IfErr};
+ghost use Rattle.std.specs.Prelude.{◌≡◌, ◌*◌, ◌^◌, ◌≤◌, ℤ, unsigned_abs, Ok, IfOk, IfErr, IfSome};
 ghost use Rattle.fx_fixed.specs.Rounding.{clipping};
 ghost use Rattle.fx_frame_base.specs.Stage.{Freezes, IsNew};
 ghost use Rattle.fx_tap_pointwise.specs.Mapped.{IsMapState, MapState};
 ghost use Rattle.fx_tap_pointwise.specs.PerSample.{SampleArguments};
-ghost use Rattle.fx_tap_pointwise.specs.DcShift.{shifted_sample};
+ghost use Rattle.fx_tap_pointwise.specs.DcShift.{shifted_sample, units_of};
 ghost use Rattle.fx_tap_pointwise.specs.DcShiftState.{dcshift_acts, leaves_half, raised, steps_of};
 
 pub mod words;
 
+use crate::both::{BothClips, rounded_by_both};
 use crate::mapped::Mapped;
-use crate::per_sample::{PerSample, SamplesAfter, SamplesMany, Sampling};
+use crate::per_sample::{
+    PerSample, SamplesAfter, SamplesMany, Sampling, round_over, rounded_samples,
+};
 use fx_fixed::{Gain, UNIT};
 use fx_frame::{ThawFault, WideFrame};
 use std::marker::Model;
 
-/// A shift, ready to be added: whole steps of a sample, and whether half a step is left.
+/// A shift of whole steps: a sample is limited first, so that the steps are added to it in 32 bits.
 #[derive(Drop)]
-pub struct Shift {
+pub struct WholeShift {
     shift: Gain,
-    steps: i64,
-    is_half: bool,
+    steps: i32,
+    /// The range of samples that are not clipped.
+    minimum: i32,
+    maximum: i32,
 }
 
-impl Model for Shift {
-    ghost use Rattle.std.specs.Prelude.{◌≡◌, ◌^◌, ◌≤◌, ℤ, unsigned_abs};
+impl Model for WholeShift {
+    ghost use Rattle.std.specs.Prelude.{◌≡◌, ◌-◌, ◌^◌, ◌-ℤ◌, ℤ, false, pos, neg_ℤ};
+    ghost use Rattle.std.specs.Int.{int_max, int_min};
     ghost use Rattle.fx_fixed.specs.declared.gains.TheConstants.{UNIT};
     ghost use Rattle.fx_tap_pointwise.specs.DcShift.{units_of};
     ghost use Rattle.fx_tap_pointwise.specs.DcShiftState.{leaves_half, steps_of};
@@ -33,7 +39,76 @@ impl Model for Shift {
 
     ghost view = { λ s. s.shift };
 
-    ghost invariant = { λ s. (unsigned_abs s.steps ≤ 2 ^ 33) × (s.steps ≡ steps_of UNIT (units_of s.shift)) × (s.is_half ≡ leaves_half UNIT (units_of s.shift)) };
+    ghost invariant = { λ s. (s.steps ≡ steps_of UNIT (units_of s.shift)) × (leaves_half UNIT (units_of s.shift) ≡ false)
+        × (s.minimum ≡ neg_ℤ (pos (2 ^ 31)) -ℤ int_min s.steps (pos 0)) × (s.maximum ≡ pos (2 ^ 31 - 1) -ℤ int_max s.steps (pos 0)) };
+}
+
+impl WholeShift {
+    /// A shift of these steps; None where half a step is left, or where they are more than a sample may have.
+    fn of(shift: Gain, steps: i64, is_half: bool) -> Option<WholeShift>
+        requires steps { steps ≡ steps_of UNIT (units_of shift) }
+        requires half { is_half ≡ leaves_half UNIT (units_of shift) }
+        ensures { IfSome result (λ whole. whole ≡ shift) }
+    {
+        if is_half || steps <= i64::from(i32::MIN) || steps > i64::from(i32::MAX) {
+            return None;
+        }
+        let steps = steps as i32;
+        Some(WholeShift {
+            shift,
+            steps,
+            minimum: i32::MIN - steps.min(0),
+            maximum: i32::MAX - steps.max(0),
+        })
+    }
+
+    /// The same shift as a value of its own. A loop keeps it in registers, where a shift behind a reference is loaded again
+    /// after each store.
+    #[inline(always)]
+    fn copied(&self) -> WholeShift
+        ensures { result ≡ self.now }
+    {
+        WholeShift {
+            shift: self.shift,
+            steps: self.steps,
+            minimum: self.minimum,
+            maximum: self.maximum,
+        }
+    }
+}
+
+impl Sampling for WholeShift {
+    ghost rounded = { shifted_sample };
+
+    #[inline(always)]
+    fn round(&self, sample: i32) -> (i32, bool) {
+        let limited = sample.clamp(self.minimum, self.maximum);
+        (limited + self.steps, limited != sample)
+    }
+}
+
+/// A shift, ready to be added: whole steps of a sample, and whether half a step is left.
+#[derive(Drop)]
+pub struct Shift {
+    shift: Gain,
+    steps: i64,
+    is_half: bool,
+    /// The same where it is whole, and smaller than the range of samples.
+    whole: Option<WholeShift>,
+}
+
+impl Model for Shift {
+    ghost use Rattle.std.specs.Prelude.{◌≡◌, ◌^◌, ◌≤◌, ℤ, unsigned_abs, IfSome};
+    ghost use Rattle.fx_fixed.specs.declared.gains.TheConstants.{UNIT};
+    ghost use Rattle.fx_tap_pointwise.specs.DcShift.{units_of};
+    ghost use Rattle.fx_tap_pointwise.specs.DcShiftState.{leaves_half, steps_of};
+
+    ghost Value = { ℤ };
+
+    ghost view = { λ s. s.shift };
+
+    ghost invariant = { λ s. (unsigned_abs s.steps ≤ 2 ^ 33) × (s.steps ≡ steps_of UNIT (units_of s.shift)) × (s.is_half ≡ leaves_half UNIT (units_of s.shift))
+        × IfSome s.whole (λ whole. whole ≡ s.shift) };
 }
 
 impl Shift {
@@ -47,6 +122,7 @@ impl Shift {
             shift,
             steps,
             is_half,
+            whole: WholeShift::of(shift, steps, is_half),
         }
     }
 }
@@ -75,9 +151,43 @@ impl Sampling for Shift {
     }
 }
 
-impl SamplesAfter for Shift {}
+impl SamplesAfter for Shift {
+    fn round_after<A: Sampling>(&self, first: &A, input: &[i32], output: &mut [i32]) -> BothClips {
+        match &self.whole {
+            Some(whole) => rounded_by_both(first, &whole.copied(), input, output),
+            None => rounded_by_both(first, self, input, output),
+        }
+    }
+}
 
-impl SamplesMany for Shift {}
+impl SamplesMany for Shift {
+    fn round_many(&self, input: &[i32], output: &mut [i32]) -> u64 {
+        match &self.whole {
+            Some(whole) => rounded_samples(&whole.copied(), input, output),
+            None => rounded_samples(self, input, output),
+        }
+    }
+
+    fn round_before<B: SamplesAfter>(
+        &self,
+        second: &B,
+        input: &[i32],
+        output: &mut [i32],
+    ) -> BothClips {
+        match &self.whole {
+            Some(whole) => second.round_after(&whole.copied(), input, output),
+            None => second.round_after(self, input, output),
+        }
+    }
+
+    #[inline(always)]
+    fn round_all(&self, samples: &mut [i32]) -> u64 {
+        match &self.whole {
+            Some(whole) => round_over(&whole.copied(), samples),
+            None => round_over(self, samples),
+        }
+    }
+}
 
 /// The nearest integer to a sum and, where there is one, half a step beyond it, which is rounded away from zero.
 #[inline(always)]

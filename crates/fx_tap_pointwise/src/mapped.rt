@@ -7,6 +7,7 @@ ghost use Rattle.fx_frame.specs.Made.{clips_in, made_of};
 
 use fx_frame::{Counters, Feeds, Frame, Passed, Passing, Stage, ThawFault, WideFrame};
 use fx_frame_base::feed::{feed_by_frames, frame_at, put_frame};
+use fx_frame_base::frame::MAX_CHANNELS;
 use fx_frame_base::pending::{stored_pending, thawed_pending};
 use fx_frame_base::stage::MAX_TAKEN;
 use std::marker::Model;
@@ -197,7 +198,7 @@ impl<M: Mapping + Drop> Mapped<M> {
         if taken > MAX_TAKEN || given > taken || held != taken - given {
             return Err(ThawFault::BadSnapshot);
         }
-        if pending_clips > 16 || clips > 16 * given {
+        if pending_clips > MAX_CHANNELS as u64 || clips > MAX_CHANNELS as u64 * given {
             return Err(ThawFault::BadSnapshot);
         }
         if (held == 0 && pending_clips != 0) || (held != 0 && ended != 0) {

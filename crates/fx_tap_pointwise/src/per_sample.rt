@@ -8,6 +8,7 @@ ghost use Rattle.fx_frame_base.specs.Rounded.{clips_rounded, samples_of};
 use crate::both::{BothClips, rounded_by_both};
 use crate::mapped::{Mapped, Mapping, MapsMany};
 use fx_frame::{Frame, ThawFault, WideFrame};
+use fx_frame_base::frame::MAX_CHANNELS;
 use std::marker::Model;
 
 /// What an effect makes of a sample, independent of its history and of its channel.
@@ -89,7 +90,7 @@ pub(crate) fn rounded_frame<S: Sampling>(sampling: &S, frame: Frame) -> (Frame, 
         return (Frame::one(sample), u64::from(is_clipped));
     }
     let samples = frame.places();
-    let mut out = [0; 16];
+    let mut out = [0; MAX_CHANNELS];
     let mut clips = 0;
     for channel in 0..channels {
         let (sample, is_clipped) = sampling.round(samples[channel]);

@@ -21,6 +21,7 @@ use crate::vol::Scale;
 use fx_fixed::{UNIT, round_clip};
 use fx_frame::{Frame, ThawFault, WideFrame};
 use fx_frame_base::feed::copy_samples;
+use fx_frame_base::frame::MAX_CHANNELS;
 use fx_tap_sums::inner::sample_or_silence;
 use fx_tap_sums::round_channel;
 use fx_tap_sums::small::{Small, small_of};
@@ -232,6 +233,9 @@ impl Mix {
 /// The maximum number of frames of a piece: frames that are made at once.
 const FRAMES_OF_PIECE: usize = 256;
 
+/// Up to so many frames are added one by one, since the sums of a whole piece take longer to clear.
+const MAX_FRAMES_ALONE: usize = 8;
+
 impl Mix {
     /// Writes the output channel for these frames as one channel of as many, frame by frame, and counts how many of its
     /// samples were clipped.
@@ -296,7 +300,7 @@ impl Mix {
             Form::Scaled(channel, scale) if *channel < shape.channels => {
                 scale.place_channel(frames, shape, *channel, out, place)
             }
-            Form::Small(small) => {
+            Form::Small(small) if shape.count > MAX_FRAMES_ALONE => {
                 let mut places = [0; FRAMES_OF_PIECE];
                 let sums = &mut places[..shape.count];
                 self.add_channels(&small.weights, frames, shape.channels, sums);
@@ -400,7 +404,7 @@ impl Mapping for Remixing {
 
     fn map(&self, frame: Frame) -> (Frame, u64) {
         let count = self.mixes.len();
-        let mut out = [0; 16];
+        let mut out = [0; MAX_CHANNELS];
         let clips = mixed_into(&self.mixes, frame.samples(), &mut out[..count]);
         (Frame::of_first(count, out), clips)
     }
@@ -411,7 +415,7 @@ impl Mapping for Remixing {
     }
 
     fn map_over(&self, samples: &mut [i32]) -> u64 {
-        let mut places = [0; 16];
+        let mut places = [0; MAX_CHANNELS];
         let made = &mut places[..samples.len()];
         let clips = mixed_into(&self.mixes, samples, made);
         copy_samples(made, samples);
