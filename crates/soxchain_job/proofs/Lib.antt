@@ -1,0 +1,5 @@
+pub mod Calls
+pub mod Ending
+pub mod Growing
+pub mod MemoryHistory
+pub mod Sequences

@@ -1,0 +1,77 @@
+//! A checkpoint as bytes: 0, how many bytes of the input were taken and of the output written, each as 8 bytes, little-endian, and
+//! the frozen conversion; or 1 alone, once the output is complete.
+ghost use Rattle.std.specs.Prelude.{◌≡◌, ◌<◌, ◌^◌, ◌++◌, ℕ, List, IfOk};
+ghost use Rattle.std.specs.Int.{to_le_bytes, w64};
+ghost use Rattle.soxchain_job.specs.Checkpoint.{IsComplete, IsInProgress, complete_bytes, in_progress_bytes};
+
+use std::alloc::{AllocError, Global};
+
+/// How far a job has come.
+#[derive(Drop)]
+pub struct Progress {
+    /// Bytes of the input that were taken.
+    pub taken: u64,
+    /// Bytes of the output that were written.
+    pub written: u64,
+    /// The frozen conversion.
+    pub frozen: Vec<u8>,
+}
+
+/// A checkpoint.
+#[derive(Drop)]
+pub enum Checkpoint {
+    /// The job continues from here.
+    InProgress(Progress),
+    /// The output is complete.
+    Complete,
+}
+
+/// The first byte of a checkpoint in progress.
+const IN_PROGRESS: u8 = 0;
+
+/// The only byte of a complete one.
+const COMPLETE: u8 = 1;
+
+/// The bytes of a checkpoint in progress.
+pub fn encode(alloc: Global, taken: u64, written: u64, frozen: &[u8]) -> Result<Vec<u8>, AllocError>
+    ensures { IfOk result (λ bytes. bytes.items ≡ in_progress_bytes taken written frozen.now) }
+{
+    let mut bytes = Vec::new(alloc);
+    bytes.push(IN_PROGRESS)?;
+    bytes.extend_from_slice(&taken.to_le_bytes())?;
+    bytes.extend_from_slice(&written.to_le_bytes())?;
+    bytes.extend_from_slice(frozen)?;
+    Ok(bytes)
+}
+
+/// The checkpoint of these bytes; None where there is none.
+pub fn decode(alloc: Global, bytes: &[u8]) -> Result<Option<Checkpoint>, AllocError>
+    ensures in_progress { IfOk result (λ found. (taken : ℕ) (written : ℕ) (frozen : List ℕ) → taken < 2 ^ 64 → written < 2 ^ 64
+        → bytes.now ≡ in_progress_bytes taken written frozen → IsInProgress taken written frozen found) }
+    ensures complete { IfOk result (λ found. bytes.now ≡ complete_bytes → IsComplete found) }
+{
+    match bytes {
+        [COMPLETE] => Ok(Some(Checkpoint::Complete)),
+        [IN_PROGRESS, rest @ ..] => decode_progress(alloc, rest),
+        _ => Ok(None),
+    }
+}
+
+/// What follows the first byte of a checkpoint in progress.
+fn decode_progress(alloc: Global, bytes: &[u8]) -> Result<Option<Checkpoint>, AllocError>
+    ensures { IfOk result (λ found. (taken : ℕ) (written : ℕ) (frozen : List ℕ) → taken < 2 ^ 64 → written < 2 ^ 64
+        → bytes.now ≡ to_le_bytes w64 taken ++ to_le_bytes w64 written ++ frozen → IsInProgress taken written frozen found) }
+{
+    let Some((taken, rest)) = bytes.split_first_chunk::<8>() else {
+        return Ok(None);
+    };
+    let Some((written, frozen)) = rest.split_first_chunk::<8>() else {
+        return Ok(None);
+    };
+    let frozen = frozen.to_vec(alloc)?;
+    Ok(Some(Checkpoint::InProgress(Progress {
+        taken: u64::from_le_bytes(*taken),
+        written: u64::from_le_bytes(*written),
+        frozen,
+    })))
+}

@@ -1,0 +1,176 @@
+//! The part grows, and checkpoints are written.
+ghost use Rattle.std.specs.Prelude.{◌≡◌, ◌<◌, ◌≤◌, ◌+◌, ◌^◌, length, List, ℕ, Some, IfOk, IsErrOf, OnErr, OnOk};
+ghost use Rattle.soxchain_job.specs.Checkpoint.{in_progress_bytes};
+ghost use Rattle.soxchain_job.specs.Disk.{Durable, LeavesNow, LeavesOnly};
+ghost use Rattle.soxchain_job.specs.Job.{IsGrowing, IsLive, Job, whole_output};
+
+use crate::checkpoint::{Progress, encode};
+use crate::replace::replace_checkpoint;
+use crate::{Conversion, Disk, Fault, FileName, Input};
+use std::alloc::Global;
+
+/// How far a run has come.
+#[derive(Clone, Copy, Debug, PartialEq, Eq)]
+pub struct Offsets {
+    /// Bytes of the input that were taken.
+    pub taken: u64,
+    /// Bytes of the output that were written.
+    pub written: u64,
+}
+
+/// How much is converted at a time, and how often a checkpoint is written.
+#[derive(Clone, Copy, Debug, PartialEq, Eq)]
+pub struct Pace {
+    /// Bytes of the input in a piece, not 0.
+    pub piece: usize,
+    /// Pieces between two checkpoints, not 0.
+    pub every: u64,
+}
+
+/// The piece that was read last, and what the conversion gave.
+#[derive(Drop)]
+pub struct Buffers {
+    /// A piece of the input.
+    pub input: Vec<u8>,
+    /// Bytes of the output.
+    pub output: Vec<u8>,
+}
+
+/// The bytes of the output after `more` further ones. The fault is TooLong.
+fn total_written(written: u64, more: usize) -> Result<u64, Fault>
+    ensures sum { IfOk result (λ n. n ≡ written + more) }
+    ensures too_long { OnErr result (2 ^ 64 ≤ written + more) }
+    ensures fault { OnErr result (IsErrOf result Fault.TooLong) }
+{
+    match written.checked_add(more as u64) {
+        Some(sum) => Ok(sum),
+        None => Err(Fault::TooLong),
+    }
+}
+
+/// Converts the next `size` bytes of the input, and appends what they give to the part.
+pub fn advance<C: Conversion, D: Disk, I: Input>(
+    disk: &mut D,
+    conversion: &mut C,
+    input: &mut I,
+    offsets: &mut Offsets,
+    size: usize,
+    buffers: &mut Buffers,
+) -> Result<(), Fault>
+    ghost job: { Job C }
+    requires input { I.model.content input.old ≡ job.input }
+    requires size { offsets.old.taken + size ≤ length job.input }
+    requires safe { LeavesNow D.model disk.old (IsGrowing C.model job) }
+    requires live { IsLive C.model job conversion.old offsets.old.taken offsets.old.written (D.model.seen disk.old) }
+    ensures live { OnOk result
+        (IsLive C.model job conversion.new offsets.new.taken offsets.new.written (D.model.seen disk.new)) }
+    ensures taken { OnOk result (offsets.new.taken ≡ offsets.old.taken + size) }
+    ensures any_moment { LeavesOnly D.model disk.old disk.new (IsGrowing C.model job) }
+    ensures readable { IsErrOf result Fault.BadCheckpoint → ⊥ }
+    ensures faults { D.model.faults disk.old ≤ D.model.faults disk.new }
+    ensures failed { IsErrOf result Fault.Disk → D.model.faults disk.old < D.model.faults disk.new }
+    ensures too_long { IsErrOf result Fault.TooLong → 2 ^ 64 ≤ length (whole_output C.model job) }
+    ensures content { I.model.content input.new ≡ I.model.content input.old }
+    ensures failures { I.model.failures input.old ≤ I.model.failures input.new }
+    ensures unread { IsErrOf result Fault.Input → I.model.failures input.old < I.model.failures input.new }
+    ensures reads { OnOk result (I.model.delivered input.new + offsets.old.taken
+        ≡ I.model.delivered input.old + offsets.new.taken) }
+    ensures delivered { I.model.delivered input.new + offsets.old.taken ≤ I.model.delivered input.old + length job.input }
+{
+    let _length = input.len();
+    buffers.input.clear();
+    input.read(offsets.taken, size, &mut buffers.input)?;
+    buffers.output.clear();
+    conversion.step(&buffers.input, &mut buffers.output)?;
+    let written = total_written(offsets.written, buffers.output.len())?;
+    disk.append(FileName::Part, &buffers.output)?;
+    offsets.taken += size as u64;
+    offsets.written = written;
+    Ok(())
+}
+
+/// Syncs the part, and then writes a checkpoint.
+pub fn write_checkpoint<C: Conversion, D: Disk>(
+    alloc: Global,
+    disk: &mut D,
+    conversion: &C,
+    offsets: &Offsets,
+) -> Result<(), Fault>
+    ghost job: { Job C }
+    requires safe { LeavesNow D.model disk.old (IsGrowing C.model job) }
+    requires live { IsLive C.model job conversion.now offsets.now.taken offsets.now.written (D.model.seen disk.old) }
+    ensures live { OnOk result
+        (IsLive C.model job conversion.now offsets.now.taken offsets.now.written (D.model.seen disk.new)) }
+    ensures written { OnOk result ((frozen : List ℕ) × ((D.model.seen disk.new).checkpoint
+        ≡ Some (in_progress_bytes offsets.now.taken offsets.now.written frozen))) }
+    ensures any_moment { LeavesOnly D.model disk.old disk.new (IsGrowing C.model job) }
+    ensures readable { IsErrOf result Fault.BadCheckpoint → ⊥ }
+    ensures faults { D.model.faults disk.old ≤ D.model.faults disk.new }
+    ensures failed { IsErrOf result Fault.Disk → D.model.faults disk.old < D.model.faults disk.new }
+    ensures too_long { IsErrOf result Fault.TooLong → ⊥ }
+    ensures unread { IsErrOf result Fault.Input → ⊥ }
+{
+    let frozen = conversion.freeze(alloc)?;
+    let bytes = encode(alloc, offsets.taken, offsets.written, &frozen)?;
+    disk.sync(FileName::Part)?;
+    replace_checkpoint(disk, &bytes)?;
+    Ok(())
+}
+
+/// Begins a job: writes its first checkpoint, and then makes an empty part.
+pub fn begin<C: Conversion, D: Disk>(
+    alloc: Global,
+    disk: &mut D,
+    conversion: &C,
+) -> Result<Offsets, Fault>
+    ghost job: { Job C }
+    requires fresh { conversion.now ≡ job.start }
+    requires reached { job.reached ≡ 0 }
+    requires safe { LeavesNow D.model disk.old (IsGrowing C.model job) }
+    ensures live { IfOk result (λ o. IsLive C.model job conversion.now o.taken o.written (D.model.seen disk.new)) }
+    ensures any_moment { LeavesOnly D.model disk.old disk.new (IsGrowing C.model job) }
+    ensures readable { IsErrOf result Fault.BadCheckpoint → ⊥ }
+    ensures faults { D.model.faults disk.old ≤ D.model.faults disk.new }
+    ensures failed { IsErrOf result Fault.Disk → D.model.faults disk.old < D.model.faults disk.new }
+    ensures too_long { IsErrOf result Fault.TooLong → ⊥ }
+    ensures unread { IsErrOf result Fault.Input → ⊥ }
+{
+    let frozen = conversion.freeze(alloc)?;
+    let bytes = encode(alloc, 0, 0, &frozen)?;
+    replace_checkpoint(disk, &bytes)?;
+    disk.truncate(FileName::Part, 0)?;
+    Ok(Offsets {
+        taken: 0,
+        written: 0,
+    })
+}
+
+/// Continues from a checkpoint: thaws its conversion, and truncates the part to the bytes that it counts.
+pub fn resume_from<C: Conversion, D: Disk>(
+    alloc: Global,
+    disk: &mut D,
+    conversion: &mut C,
+    progress: Progress,
+) -> Result<Offsets, Fault>
+    ghost job: { Job C }
+    requires fresh { conversion.old ≡ job.start }
+    requires says { (D.model.seen disk.old).checkpoint
+        ≡ Some (in_progress_bytes progress.taken progress.written progress.frozen.items) }
+    requires durable { Durable FileName.Checkpoint (D.model.seen disk.old) (D.model.may_leave disk.old) }
+    requires safe { LeavesNow D.model disk.old (IsGrowing C.model job) }
+    ensures live { IfOk result (λ o. IsLive C.model job conversion.new o.taken o.written (D.model.seen disk.new)) }
+    ensures taken { IfOk result (λ o. (o.taken ≡ progress.taken) × (o.written ≡ progress.written)) }
+    ensures any_moment { LeavesOnly D.model disk.old disk.new (IsGrowing C.model job) }
+    ensures readable { IsErrOf result Fault.BadCheckpoint → ⊥ }
+    ensures faults { D.model.faults disk.old ≤ D.model.faults disk.new }
+    ensures failed { IsErrOf result Fault.Disk → D.model.faults disk.old < D.model.faults disk.new }
+    ensures too_long { IsErrOf result Fault.TooLong → ⊥ }
+    ensures unread { IsErrOf result Fault.Input → ⊥ }
+{
+    conversion.thaw(alloc, &progress.frozen)?;
+    disk.truncate(FileName::Part, progress.written)?;
+    Ok(Offsets {
+        taken: progress.taken,
+        written: progress.written,
+    })
+}

@@ -1,0 +1,35 @@
+//! The input of a job.
+ghost use Rattle.std.specs.Prelude.{◌≡◌, ◌≤◌, ◌+◌, ◌++◌, length, slice_range, OnOk};
+ghost use Rattle.soxchain_job.specs.Input.{CountsFailedReads, InputModel};
+
+use thiserror::Error;
+
+/// Why a read gave nothing.
+#[derive(Clone, Copy, Debug, PartialEq, Eq, Error)]
+pub enum InputFault {
+    /// An allocation was refused.
+    #[error("out of memory")]
+    Memory,
+    /// The input could not be read.
+    #[error("the input could not be read")]
+    Failed,
+}
+
+/// An input whose bytes stay the same. It counts the bytes that it delivers, and how often it fails.
+pub trait Input {
+    // Its bytes, and what was counted.
+    ghost model: { InputModel Self };
+
+    /// How many bytes it has.
+    fn len(&self) -> u64
+        ensures { result ≡ length (model.content self.now) };
+
+    /// Appends `count` bytes, from the byte number `at` on, counted from 0, to `piece`. After a fault `piece` is unknown.
+    fn read(&mut self, at: u64, count: usize, piece: &mut Vec<u8>) -> Result<(), InputFault>
+        requires { at + count ≤ length (model.content self.old) }
+        ensures bytes { OnOk result (piece.new.items ≡ piece.old.items ++ slice_range (model.content self.old) at (at + count)) }
+        ensures content { model.content self.new ≡ model.content self.old }
+        ensures delivered { OnOk result (model.delivered self.new ≡ model.delivered self.old + count) }
+        ensures bound { model.delivered self.new ≤ model.delivered self.old + count }
+        ensures cause { CountsFailedReads model self.old self.new result };
+}
