@@ -14,6 +14,7 @@ use crate::drain::drain;
 use crate::frame_writer::FrameWriter;
 use fx_chain_flow::flow::Flow;
 use fx_frame::{ByteOut, Failed, Feeds, ReadBeside};
+use fx_frame_base::frame::MAX_CHANNELS;
 use fx_sound::inner::BUFFER_SIZE;
 use fx_sound::{Progress, Source};
 
@@ -55,7 +56,7 @@ fn pass_block<R, S: Feeds>(
     let _stages = flow.stages();
     let channels = progress.channels();
     let outputs = flow.out_channels();
-    if outputs == 0 || outputs > 16 {
+    if outputs == 0 || outputs > MAX_CHANNELS {
         return;
     }
     let free = frame_writer.free(outputs);

@@ -23,7 +23,6 @@ use crate::frame_writer::FrameWriter;
 use crate::reading::next_frame;
 use fx_chain_flow::flow::Flow;
 use fx_frame::{ByteOut, Failed, Feeds, ReadBeside};
-use fx_frame_base::stage::Stage;
 use fx_sound::inner::BUFFER_SIZE;
 use fx_sound::{MAX_FRAMES, Progress, Source};
 use thiserror::Error;
@@ -53,7 +52,7 @@ impl From<Failed> for Cause {
 }
 
 /// Gives a flow the end, and sends what it then gives.
-fn end_flow<S: Stage, W: ByteOut>(
+fn end_flow<S: Feeds, W: ByteOut>(
     flow: &mut Flow<S>,
     frame_writer: &mut FrameWriter,
     writer: &mut W,

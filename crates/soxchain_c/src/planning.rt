@@ -8,6 +8,7 @@ ghost use Rattle.soxchain_c.specs.Making.{IsRefusalOf, IsStreamOf, RefusesStream
 use crate::status::Status;
 use fx_chain::Chain;
 use fx_frame::{ByteOut, Coding};
+use fx_frame_base::frame::MAX_CHANNELS;
 use fx_plan::{CommandLine, LineFault, parse_line, plan};
 use fx_sound::{Head, Kind};
 use soxchain::inner::{
@@ -27,7 +28,7 @@ pub fn head_of(rate: u32, channels: usize) -> Result<Head, Status>
     if rate == 0 {
         return Err(Status::BadRate);
     }
-    if channels == 0 || channels > 16 {
+    if channels == 0 || channels > MAX_CHANNELS {
         return Err(Status::BadChannels);
     }
     Ok(Head {

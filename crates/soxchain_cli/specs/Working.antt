@@ -28,6 +28,7 @@ use Rattle.soxchain_cli.specs.Named.{FileWriter, Files}
 use Rattle.soxchain_cli.specs.SameFile.{IsMade, IsUnmade, FileCalls}
 use Rattle.soxchain_common.specs.Consoles.{IsNewReader, IsNewWriter, Machine, Opened}
 use Rattle.soxchain_common.specs.Files.{AreFronts, IsMemoryRefused, IsUnread}
+use Rattle.soxchain_common.specs.SameFile.{Looks}
 
 -- How streams and files are specified: standard input and a file that is read, as readers; standard output and a file that was
 -- created, as writers. Each counts the calls of it that failed.
@@ -49,9 +50,10 @@ pub record IsPrepared {R : Type 0} (reads : ByteReader R) (line : Said) (files :
 abbrev pub ready_for : Said → Prepared → ReadyParts
 ready_for line prepared = record { line = line; prepared = prepared }
 
--- The program makes one request of the host after another; `m`, `s` and `o` state the request and the answer between one of its
--- states and the next. So the states name all requests, in order: where the last one is that of a call, nothing came after it.
-module _ {H I R O F M : Type 0} (d : Devices I R O F) (m : H → H → Machine I O) (s : FileCalls H F) (writes : ByteWriter M) where
+-- The program makes one request of the host after another; `m`, `looks`, `s` and `o` state the request and the answer between
+-- one of its states and the next. So the states name all requests, in order: where the last one is that of a call, nothing came
+-- after it.
+module _ {H I R O F M : Type 0} (d : Devices I R O F) (m : H → H → Machine I O) (looks : Looks H) (s : FileCalls H F) (writes : ByteWriter M) where
   -- The result for a sound: nothing was ready for it; or OUT is IN, or could not be made; or it ran to standard output, or into
   -- the new file of OUT's own name.
   pub data Sounds {X : Type 0} (reads : ByteReader X) (line : Said) (files : List (List ℕ)) (reader : X) (host new_host : H) (old new : MessageWriter M) (status : ℕ) : Type 0 where
@@ -62,7 +64,7 @@ module _ {H I R O F M : Type 0} (d : Devices I R O F) (m : H → H → Machine I
     Unmade : (source : Held X) (prepared : Prepared) (name : List ℕ)
         → IsPrepared reads line files reader source prepared
         → file_name line.output ≡ Some name
-        → IsUnmade s host new_host (file_name line.input) name
+        → IsUnmade looks s host new_host (file_name line.input) name
         → status ≡ 2
         → Says writes old new (open_message name)
         → Sounds reads line files reader host new_host old new status
@@ -77,7 +79,7 @@ module _ {H I R O F M : Type 0} (d : Devices I R O F) (m : H → H → Machine I
     Filed : (next : H) (source left : Held X) (prepared : Prepared) (name : List ℕ) (file ended : F)
         → IsPrepared reads line files reader source prepared
         → file_name line.output ≡ Some name
-        → IsMade s host next (file_name line.input) name file
+        → IsMade looks s host next (file_name line.input) name file
         → IsNewWriter d.created.writes file
         → Files reads d.created writes (ready_for line prepared) source left file ended name old new status
         → s.closed next new_host ended

@@ -49,7 +49,7 @@ pub fn process<H: Host, M: ByteOut>(
     message_writer: &mut MessageWriter<M>,
 ) -> u8
     ensures { Lines (record { input = H.Input.reads; file = H.Reader.reads; output = H.Output.writes; created = record { writes = H.Made.writes; rewinds = H.Made.rewinds } })
-        H.machine H.file_calls M.writes (record { opened = H.opened; unopened = H.unopened; closed = H.closed })
+        H.machine H.looks H.file_calls M.writes (record { opened = H.opened; unopened = H.unopened; closed = H.closed })
         line.now (plan_bytes files.now) host.old host.new message_writer.old message_writer.new result }
 {
     match line.input() {
@@ -73,7 +73,7 @@ fn process_from<H: Host, R: ByteIn + Drop, M: ByteOut>(
     message_writer: &mut MessageWriter<M>,
 ) -> u8
     ensures { Sounds (record { input = H.Input.reads; file = H.Reader.reads; output = H.Output.writes; created = record { writes = H.Made.writes; rewinds = H.Made.rewinds } })
-        H.machine H.file_calls M.writes R.reads
+        H.machine H.looks H.file_calls M.writes R.reads
         line.now (plan_bytes files.now) reader host.old host.new message_writer.old message_writer.new result }
 {
     let mut source = Source::new(reader);

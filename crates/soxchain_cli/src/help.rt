@@ -47,7 +47,7 @@ pub fn tell_answer<H: Host, M: ByteOut>(
     message_writer: &mut MessageWriter<M>,
 ) -> u8
     ensures { IsShown (record { input = H.Input.reads; file = H.Reader.reads; output = H.Output.writes; created = record { writes = H.Made.writes; rewinds = H.Made.rewinds } })
-        H.machine H.file_calls M.writes answer.now host.old host.new message_writer.old message_writer.new result }
+        H.machine H.looks H.file_calls M.writes answer.now host.old host.new message_writer.old message_writer.new result }
 {
     let mut output = host.output();
     let is_whole = write_whole(&mut output, answer.as_bytes());

@@ -1,5 +1,5 @@
 //! The host that the program works on: its words, its standard streams and its files.
-ghost use Rattle.std.specs.Prelude.{IfErr, IfOk, Option, List, ⊤, ℕ};
+ghost use Rattle.std.specs.Prelude.{IfErr, IfOk, ⊤};
 ghost use Rattle.fx_chain.specs.Chain.{IsNewChain};
 ghost use Rattle.fx_plan.specs.Planning.{planning};
 ghost use Rattle.soxchain_cli.specs.SameFile.{FileCalls};
@@ -8,31 +8,17 @@ ghost use Rattle.soxchain_common.specs.Consoles.{IsNewWriter};
 use fx_frame::Counted;
 use fx_frame_base::Rewind;
 use soxchain::inner::Prepared;
-use soxchain_common::Console;
-use std::fs::{self, File};
+use soxchain_common::{Console, Inspects};
+use std::fs::File;
 use std::io;
-use std::os::unix::fs::MetadataExt;
-
-/// What distinguishes one file from another.
-#[derive(Clone, Copy, Debug, Drop, PartialEq, Eq)]
-pub struct Identity {
-    /// It has stored content, and is no device or pipe.
-    pub is_plain: bool,
-    pub device: u64,
-    pub inode: u64,
-}
 
 /// A host that also inspects and creates files. Every call may change its state, inspections included.
-pub trait Host: Console {
+pub trait Host: Console + Inspects {
     /// A created file.
     type Made: Rewind + Drop;
 
-    // Which files it inspected, created, refused to create and took back.
+    // Which files it created, refused to create and took back.
     ghost file_calls: { FileCalls Self Self.Made };
-
-    /// The file of this name; None where it cannot be inspected.
-    fn look(&mut self, name: &str) -> Option<Identity>
-        ensures { file_calls.looks self.old self.new name.now result };
 
     /// Creates the file of this name, or empties an older one, once a new chain exists.
     fn make(&mut self, name: &str, prepared: &Prepared) -> io::Result<Self::Made>
@@ -50,16 +36,7 @@ impl Host for HostRuntime {
     type Made = Counted<File>;
 
     // Nothing is known of the files of the host itself.
-    ghost file_calls = { record { looks = λ _ _ _ _. ⊤; made = λ _ _ _ _. ⊤; unmade = λ _ _ _. ⊤; closed = λ _ _ _. ⊤ } };
-
-    fn look(&mut self, name: &str) -> Option<Identity> {
-        let found = fs::metadata(self, name).ok()?;
-        Some(Identity {
-            is_plain: found.is_file(),
-            device: found.dev(),
-            inode: found.ino(),
-        })
-    }
+    ghost file_calls = { record { made = λ _ _ _ _. ⊤; unmade = λ _ _ _. ⊤; closed = λ _ _ _. ⊤ } };
 
     fn make(&mut self, name: &str, _prepared: &Prepared) -> io::Result<Counted<File>> {
         Ok(Counted::new(File::create(self, name)?))

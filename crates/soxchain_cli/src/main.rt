@@ -25,7 +25,7 @@ fn work_line<H: Host, M: ByteOut>(
     message_writer: &mut MessageWriter<M>,
 ) -> u8
     ensures { Works (record { input = H.Input.reads; file = H.Reader.reads; output = H.Output.writes; created = record { writes = H.Made.writes; rewinds = H.Made.rewinds } })
-        H.machine H.file_calls M.writes (record { opened = H.opened; unopened = H.unopened; closed = H.closed })
+        H.machine H.looks H.file_calls M.writes (record { opened = H.opened; unopened = H.unopened; closed = H.closed })
         line.now host.old host.new message_writer.old message_writer.new result }
 {
     let files = match read_files(host.memory(), host, line) {
@@ -39,7 +39,7 @@ fn work_line<H: Host, M: ByteOut>(
 /// Executes the words, and returns the status.
 fn work<H: Host, M: ByteOut>(host: &mut H, message_writer: &mut MessageWriter<M>) -> u8
     ensures { CliAnswers (record { input = H.Input.reads; file = H.Reader.reads; output = H.Output.writes; created = record { writes = H.Made.writes; rewinds = H.Made.rewinds } })
-        H.machine H.file_calls M.writes (record { opened = H.opened; unopened = H.unopened; closed = H.closed })
+        H.machine H.looks H.file_calls M.writes (record { opened = H.opened; unopened = H.unopened; closed = H.closed })
         (answer_of HELP.now VERSION.now) host.old host.new message_writer.old message_writer.new result }
 {
     let words = match host.words() {

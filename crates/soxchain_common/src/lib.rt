@@ -1,5 +1,5 @@
 //! What both programs share: what they ask of the host, the words after the program's name, the coefficient files that these
-//! name, and the texts of the programs on themselves and on the effects.
+//! name, whether OUT is the file that is read, and the texts of the programs on themselves and on the effects.
 #![tactic(auto)]
 
 mod about;
@@ -7,10 +7,12 @@ mod console;
 mod effects;
 mod files;
 mod registry;
+mod same_file;
 mod words;
 
 pub use about::{VERSION, answer_to};
 pub use console::Console;
 pub use effects::{EffectHelp, SOX_HAS_IT, TIME_LIMITS, effect_of};
 pub use files::{FilesFault, Openings, read_files};
+pub use same_file::{Identity, Inspects, is_input};
 pub use words::{fault_of, words_of};

@@ -9,7 +9,7 @@ use Rattle.soxchain_plan.specs.declared.outline.EffectOutline.{EffectOutline}
 use Rattle.soxchain_plan.specs.declared.outline.Outline.{Outline}
 use Rattle.soxchain_plan.specs.declared.outline.SoundOutline.{SoundOutline}
 use Rattle.soxchain_plan.specs.Quoted.{json_byte, json_string, kind_text, stop_json}
-use Rattle.soxchain_plan.specs.Shown.{effect_json, effect_line, effect_lines, effects_json, empty_json, frames_json, frames_text, outline_json, size_json, sound_json, sound_line}
+use Rattle.soxchain_plan.specs.Shown.{beyond_json, effect_json, effect_line, effect_lines, effects_json, empty_json, frames_json, frames_text, outline_json, size_json, sound_json, sound_line}
 
 pub json_byte-control : (byte : ℕ) → byte < 32 → json_byte byte ≡ codes "\\u00" ++ digit_glyph false (byte / 16) ∷ digit_glyph false (byte % 16) ∷ []
 json_byte-control byte h = grind (arith, nat_tests)
@@ -21,9 +21,9 @@ json-joined a k b c d e f g h i = simp append_assoc
 line-joined : (a k b c d e f g h i j : List ℕ) → (a ++ (k ++ (b ++ (c ++ (d ++ (e ++ (f ++ (g ++ (h ++ i))))))))) ++ j ≡ a ++ k ++ b ++ c ++ d ++ e ++ f ++ g ++ h ++ i ++ j
 line-joined a k b c d e f g h i j = simp append_assoc
 
-outline-joined : (a b c d e f g h i j k l m n o : List ℕ)
-    → (((((((((a ++ b) ++ c) ++ d) ++ (e ++ (f ++ (g ++ (h ++ i))))) ++ j) ++ k) ++ l) ++ m) ++ n) ++ o ≡ a ++ b ++ c ++ d ++ e ++ f ++ g ++ h ++ i ++ j ++ k ++ l ++ m ++ n ++ o
-outline-joined a b c d e f g h i j k l m n o = simp append_assoc
+outline-joined : (a b c d e f g h i j k l m n o p q : List ℕ)
+    → (((((((((((a ++ b) ++ c) ++ d) ++ (e ++ (f ++ (g ++ (h ++ i))))) ++ j) ++ k) ++ l) ++ m) ++ n) ++ o) ++ p) ++ q ≡ a ++ b ++ c ++ d ++ e ++ f ++ g ++ h ++ i ++ j ++ k ++ l ++ m ++ n ++ o ++ p ++ q
+outline-joined a b c d e f g h i j k l m n o p q = simp append_assoc
 
 stop-joined : (a b c d e f g : List ℕ) → ((((a ++ (b ++ c)) ++ d) ++ e) ++ f) ++ g ≡ a ++ b ++ c ++ d ++ e ++ f ++ g
 stop-joined a b c d e f g = simp append_assoc
@@ -46,11 +46,12 @@ unfolding json_string
 json_string-parts text line i e h = rw (take_all i line h) (ap (λ l. codes "\"" ++ flat_map json_byte l ++ codes "\"") e)
 
 pub outline_json-parts : (outline : Outline)
-    → (((((((((codes "{\"in\": " ++ sound_json outline.input) ++ codes ", \"effects\": [") ++ effects_json outline.effects.items)
+    → (((((((((((codes "{\"in\": " ++ sound_json outline.input) ++ codes ", \"effects\": [") ++ effects_json outline.effects.items)
     ++ (codes "], \"hold\": " ++ (decimal outline.hold ++ (codes ", \"bytes\": " ++ (decimal outline.bytes ++ codes ", \"out\": ")))))
-    ++ sound_json outline.output) ++ codes ", \"empty\": ") ++ empty_json outline.output.frames) ++ codes ", \"size_in_head\": ") ++ size_json outline.size) ++ codes "}\n" ≡ outline_json outline
+    ++ sound_json outline.output) ++ codes ", \"empty\": ") ++ empty_json outline.output.frames) ++ codes ", \"size_in_head\": ") ++ size_json outline.size)
+    ++ codes ", \"beyond_head\": ") ++ beyond_json outline.beyond) ++ codes "}\n" ≡ outline_json outline
 outline_json-parts outline =
-    outline-joined (codes "{\"in\": ") (sound_json outline.input) (codes ", \"effects\": [") (effects_json outline.effects.items) (codes "], \"hold\": ") (decimal outline.hold) (codes ", \"bytes\": ") (decimal outline.bytes) (codes ", \"out\": ") (sound_json outline.output) (codes ", \"empty\": ") (empty_json outline.output.frames) (codes ", \"size_in_head\": ") (size_json outline.size) (codes "}\n")
+    outline-joined (codes "{\"in\": ") (sound_json outline.input) (codes ", \"effects\": [") (effects_json outline.effects.items) (codes "], \"hold\": ") (decimal outline.hold) (codes ", \"bytes\": ") (decimal outline.bytes) (codes ", \"out\": ") (sound_json outline.output) (codes ", \"empty\": ") (empty_json outline.output.frames) (codes ", \"size_in_head\": ") (size_json outline.size) (codes ", \"beyond_head\": ") (beyond_json outline.beyond) (codes "}\n")
 
 pub stop_json-parts : (status : ℕ) (message advice : List ℕ)
     → ((((codes "{\"status\": " ++ (decimal status ++ codes ", \"message\": ")) ++ json_string message) ++ codes ", \"advice\": ") ++ json_string advice) ++ codes "}\n" ≡ stop_json status message advice

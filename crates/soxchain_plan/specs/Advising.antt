@@ -6,8 +6,10 @@ use Rattle.fx_plan.specs.declared.line.LineFault.{LineFault}
 use Rattle.fx_plan.specs.declared.line.LineFault.TheVariants as LineFaults
 use Rattle.soxchain_plan.specs.declared.advice.Advice.{Advice}
 use Rattle.soxchain_plan.specs.declared.stop.PlanStop.{PlanStop}
-use Rattle.soxchain_plan.specs.declared.stop.PlanStop.TheVariants.{BadOption, Head}
+use Rattle.soxchain_plan.specs.declared.stop.PlanStop.TheVariants.{BadOption, CannotCreate, Head}
 use Rattle.soxchain_plan.specs.declared.formats.FormatFault.{FormatFault}
+use Rattle.soxchain_plan.specs.Creating.{create_advice}
+use Rattle.soxchain_plan.specs.declared.host.CreateFault.{CreateFault}
 use Rattle.soxchain_plan.specs.Formats.{IsFormatOf, format_advice}
 use Rattle.soxchain_plan.specs.Options.{IsRefusedWord, options_text}
 
@@ -37,8 +39,13 @@ IsFaultAdvice fault format advice = Unit {0}
 abbrev pub IsHeadAdvice : Option (List ℕ) → HeadFault → List ℕ → Type 0
 IsHeadAdvice known fault advice = (format : FormatFault) × IsFormatOf known format × IsFaultAdvice fault format advice
 
+-- of an output that cannot be made for this fault
+abbrev pub IsCreateAdvice : CreateFault → List ℕ → Type 0
+IsCreateAdvice fault advice = advice ≡ create_advice fault
+
 -- the same of each reason why there is no plan
 abbrev pub IsAdviceOn : PlanStop → List ℕ → Type 0
 IsAdviceOn (BadOption word) advice = IsOptionAdvice word.now advice
+IsAdviceOn (CannotCreate name fault) advice = IsCreateAdvice fault advice
 IsAdviceOn (Head line fault format) advice = IsFaultAdvice fault format advice
 IsAdviceOn stop advice = Unit {0}

@@ -19,15 +19,19 @@ use Rattle.soxchain.specs.Program.{status_of_line, status_of_refusal}
 use Rattle.soxchain.specs.MessageWriter.{WritesMessage, ReportedFront}
 use Rattle.soxchain_common.specs.Consoles.{IsNewReader, IsNewWriter, Machine, Opened}
 use Rattle.soxchain_common.specs.Files.{AreFronts, IsMemoryRefused, IsUnread}
+use Rattle.soxchain_common.specs.SameFile.{Looks}
+use Rattle.soxchain_plan.specs.declared.host.CreateFault.{CreateFault}
 use Rattle.soxchain_plan.specs.declared.outline.Outline.{Outline}
 use Rattle.soxchain_plan.specs.declared.style.Style.{Style}
 use Rattle.soxchain_plan.specs.declared.style.Style.TheVariants.{Text, Json}
-use Rattle.soxchain_plan.specs.Advising.{AnyAdvice, IsHeadAdvice, IsLineAdvice}
+use Rattle.soxchain_plan.specs.Advising.{AnyAdvice, IsCreateAdvice, IsHeadAdvice, IsLineAdvice}
+use Rattle.soxchain_plan.specs.Creating.{CannotCreate, CreateAnswers, MayCreate}
 use Rattle.soxchain_plan.specs.Heads.{HeadIsRead}
 use Rattle.soxchain_plan.specs.Outlines.{IsOutline}
 use Rattle.soxchain_plan.specs.Quoted.{stop_json}
 use Rattle.soxchain_plan.specs.Shown.{shown}
 use Rattle.soxchain_plan.specs.Styles.{styled}
+use Rattle.soxchain_plan.specs.Trailing.{AreBeyond, IsEndOf, plausible_end}
 
 -- How streams and files are specified: standard input and a file that is read, as readers, and standard output, as a writer.
 -- Each counts the calls of it that failed.
@@ -41,9 +45,9 @@ pub record Advises {M : Type 0} (writes : ByteWriter M) (old new : M) (message a
   pub delivered : WritesMessage writes old new (message ++ (codes "soxchain-plan: " ++ advice ++ line_feed))
   pub status_is : status ≡ code
 
--- The program makes one request of the host after another; `m` and `o` state the request and the answer between one of its
--- states and the next. So the states name all requests, in order: where the last one is that of a call, nothing came after it.
--- `old` and `new` are standard error before and after: where they are equal, no message was written.
+-- The program makes one request of the host after another; `m`, `looks`, `creates` and `o` state the request and the answer
+-- between one of its states and the next. So the states name all requests, in order: where the last one is that of a call,
+-- nothing came after it. `old` and `new` are standard error before and after: where they are equal, no message was written.
 module _ {H I R O M : Type 0} (d : PlanDevices I R O) (m : H → H → Machine I O) (writes : ByteWriter M) where
   -- A text was shown on standard output, and flushed, no call of it failed, and no message was written; or one call failed, a
   -- prefix of the text was shown, and this was written. Nothing else was written to it.
@@ -88,32 +92,45 @@ module _ {H I R O M : Type 0} (d : PlanDevices I R O) (m : H → H → Machine I
         → Advises writes between new (line_message (line_label LineFaults.Memory)) advice_on_memory (status_of_line LineFaults.Memory) status
         → Stops style message IsAdvice code host new_host old new status
 
-  -- The result for a line after the head of its input: its plan has a first fault, or finds no memory; or what the plan
-  -- contains finds none; or it is shown.
-  pub data Plans (style : Style) (line : Said) (files : List (List ℕ)) (head : Head) (host new_host : H) (old new : M) (status : ℕ) : Type 0 where
+module _ {H I R O M : Type 0} (d : PlanDevices I R O) (m : H → H → Machine I O) (looks : Looks H) (creates : CreateAnswers H) (writes : ByteWriter M) where
+  -- The result for a line after the head of its input, which announces this end of the file: its plan has a first fault, or finds
+  -- no memory; or what the plan contains finds none; or OUT cannot be made; or the plan is shown, and nothing is known against
+  -- OUT. Once there is a plan, IN is inspected for bytes beyond that end, and only then OUT.
+  pub data Plans (style : Style) (line : Said) (files : List (List ℕ)) (head : Head) (end : Option ℕ) (host new_host : H) (old new : M) (status : ℕ) : Type 0 where
     Unplanned : (fault : PlanFault)
         → RefusesPlan fault (all_faults (head_layout head) files (effects_in line))
-        → Stops style (refusal_message line (Refusals.Plan fault)) AnyAdvice (status_of_refusal (Refusals.Plan fault)) host new_host old new status
-        → Plans style line files head host new_host old new status
-    Unsaid :
-        all_faults (head_layout head) files (effects_in line) ≡ []
-        → Stops style (refusal_message line Refusals.Chain) AnyAdvice (status_of_refusal Refusals.Chain) host new_host old new status
-        → Plans style line files head host new_host old new status
-    Planned : (outline : Outline)
+        → Stops d m writes style (refusal_message line (Refusals.Plan fault)) AnyAdvice (status_of_refusal (Refusals.Plan fault)) host new_host old new status
+        → Plans style line files head end host new_host old new status
+    Unsaid : (looked : H) (beyond : Option ℕ)
+        → all_faults (head_layout head) files (effects_in line) ≡ []
+        → AreBeyond looks host looked (file_name line.input) (plausible_end head.announced end) beyond
+        → Stops d m writes style (refusal_message line Refusals.Chain) AnyAdvice (status_of_refusal Refusals.Chain) looked new_host old new status
+        → Plans style line files head end host new_host old new status
+    Uncreated : (looked next : H) (beyond : Option ℕ) (name : List ℕ) (fault : CreateFault)
+        → all_faults (head_layout head) files (effects_in line) ≡ []
+        → AreBeyond looks host looked (file_name line.input) (plausible_end head.announced end) beyond
+        → file_name line.output ≡ Some name
+        → CannotCreate looks creates looked next (file_name line.input) name fault
+        → Stops d m writes style (open_message name) (IsCreateAdvice fault) 2 next new_host old new status
+        → Plans style line files head end host new_host old new status
+    Planned : (looked next : H) (outline : Outline)
         → all_faults (head_layout head) files (effects_in line) ≡ []
         → IsOutline (planning_in head line files) outline
-        → IsPlanShown (shown style outline) 0 host new_host old new status
-        → Plans style line files head host new_host old new status
+        → AreBeyond looks host looked (file_name line.input) (plausible_end head.announced end) outline.beyond
+        → MayCreate looks creates looked next (file_name line.input) (file_name line.output)
+        → IsPlanShown d m writes (shown style outline) 0 next new_host old new status
+        → Plans style line files head end host new_host old new status
 
   -- The result for a line whose input is this reader: it begins with no head, or a read of it failed; or with this head.
   pub data Heads {X : Type 0} (reads : ByteReader X) (style : Style) (line : Said) (files : List (List ℕ)) (reader : X) (host new_host : H) (old new : M) (status : ℕ) : Type 0 where
     Refused : (fault : HeadFault)
         → HeadIsRead reads line.input_kind reader (Err fault)
-        → Stops style (refusal_message line (Refusals.Head fault)) (IsHeadAdvice (reads.rest reader) fault) (status_of_refusal (Refusals.Head fault)) host new_host old new status
+        → Stops d m writes style (refusal_message line (Refusals.Head fault)) (IsHeadAdvice (reads.rest reader) fault) (status_of_refusal (Refusals.Head fault)) host new_host old new status
         → Heads reads style line files reader host new_host old new status
-    Read : (head : Head)
+    Read : (head : Head) (end : Option ℕ)
         → HeadIsRead reads line.input_kind reader (Ok head)
-        → Plans style line files head host new_host old new status
+        → IsEndOf (reads.rest reader) end
+        → Plans style line files head end host new_host old new status
         → Heads reads style line files reader host new_host old new status
 
   -- The result for a line whose coefficient files are there: IN could not be opened; or its head was read, from standard input
@@ -122,7 +139,7 @@ module _ {H I R O M : Type 0} (d : PlanDevices I R O) (m : H → H → Machine I
     Unopened : (next : H) (name : List ℕ)
         → file_name line.input ≡ Some name
         → o.unopened host next name
-        → Stops style (open_message name) AnyAdvice 2 next new_host old new status
+        → Stops d m writes style (open_message name) AnyAdvice 2 next new_host old new status
         → PlanLines o style line files host new_host old new status
     Standard : (next : H) (input : I)
         → file_name line.input ≡ None
@@ -142,11 +159,11 @@ module _ {H I R O M : Type 0} (d : PlanDevices I R O) (m : H → H → Machine I
   pub data PlanWorks (o : Opened H R) (style : Style) (line : Said) (host new_host : H) (old new : M) (status : ℕ) : Type 0 where
     Unread : (next : H) (name : List ℕ)
         → IsUnread o d.file host next (coefficient_files (effects_in line)) name
-        → Stops style (open_message name) AnyAdvice 2 next new_host old new status
+        → Stops d m writes style (open_message name) AnyAdvice 2 next new_host old new status
         → PlanWorks o style line host new_host old new status
     MemoryRefused : (next : H)
         → IsMemoryRefused o d.file host next (coefficient_files (effects_in line))
-        → Stops style (line_message (line_label LineFaults.Memory)) AnyAdvice (status_of_line LineFaults.Memory) next new_host old new status
+        → Stops d m writes style (line_message (line_label LineFaults.Memory)) AnyAdvice (status_of_line LineFaults.Memory) next new_host old new status
         → PlanWorks o style line host new_host old new status
     Known : (next : H) (files : List (List ℕ))
         → AreFronts o d.file host next (coefficient_files (effects_in line)) files
@@ -158,12 +175,12 @@ module _ {H I R O M : Type 0} (d : PlanDevices I R O) (m : H → H → Machine I
   pub data Words (o : Opened H R) (answer : List (List ℕ) → Option (List ℕ)) (words : List (List ℕ)) (host new_host : H) (old new : M) (status : ℕ) : Type 0 where
     Shown : (text : List ℕ)
         → answer words ≡ Some text
-        → IsPlanShown text 0 host new_host old new status
+        → IsPlanShown d m writes text 0 host new_host old new status
         → Words o answer words host new_host old new status
     BadWords : (fault : LineFault)
         → answer words ≡ None
         → LineReads (line_of_words (styled words).1) (Err fault)
-        → Stops (styled words).0 (line_message (line_label fault)) (IsLineAdvice (styled words).1 fault) (status_of_line fault) host new_host old new status
+        → Stops d m writes (styled words).0 (line_message (line_label fault)) (IsLineAdvice (styled words).1 fault) (status_of_line fault) host new_host old new status
         → Words o answer words host new_host old new status
     Worked : (line : Said)
         → answer words ≡ None
@@ -177,7 +194,7 @@ module _ {H I R O M : Type 0} (d : PlanDevices I R O) (m : H → H → Machine I
         → (m host next).mute kind
         → (kind ≡ ErrorKinds.OutOfMemory → fault ≡ LineFaults.Memory)
         → (kind ≢ ErrorKinds.OutOfMemory → fault ≡ LineFaults.BadOption)
-        → Stops Text (line_message (line_label fault)) AnyAdvice (status_of_line fault) next new_host old new status
+        → Stops d m writes Text (line_message (line_label fault)) AnyAdvice (status_of_line fault) next new_host old new status
         → PlanAnswers o answer host new_host old new status
     Asked : (next : H) (words : List (List ℕ))
         → (m host next).asked words

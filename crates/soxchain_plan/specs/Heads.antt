@@ -13,6 +13,7 @@ use Rattle.fx_frame_base.specs.Io.{ByteReader, saturated}
 use Rattle.soxchain.specs.Convert.{Begins, unread_source}
 use Rattle.soxchain_common.specs.Consoles.{IsNewReader}
 use Rattle.soxchain_plan.specs.Formats.{IsFormatOf}
+use Rattle.soxchain_plan.specs.Trailing.{IsEndOf}
 use Rattle.soxchain_plan.specs.declared.reading.HeadRead.{HeadRead}
 
 -- the bytes begin with this head, or else have this fault unless a read failed
@@ -35,6 +36,7 @@ pub record IsHeadFrom {I : Type 0} (is_input : I → Type 0) (reads : ByteReader
   pub fresh : IsNewReader reads reader
   pub read : HeadIsRead reads expected reader found.head
   pub format : IsFormatOf (reads.rest reader) found.format
+  pub end : IsEndOf (reads.rest reader) found.end
 
 -- the file of this name was opened, and this is read from it
 pub record IsHeadIn {R : Type 0} (opened : List ℕ → R → Type 0) (reads : ByteReader R) (name : List ℕ) (expected : Option Kind) (found : HeadRead) : Type 0 where
@@ -43,3 +45,4 @@ pub record IsHeadIn {R : Type 0} (opened : List ℕ → R → Type 0) (reads : B
   pub fresh : IsNewReader reads reader
   pub read : HeadIsRead reads expected reader found.head
   pub format : IsFormatOf (reads.rest reader) found.format
+  pub end : IsEndOf (reads.rest reader) found.end

@@ -1,5 +1,6 @@
 pub mod Advising
 pub mod Answering
+pub mod Creating
 pub mod Formats
 pub mod Heads
 pub mod Options
@@ -8,3 +9,4 @@ pub mod Quoted
 pub mod Shown
 pub mod Stops
 pub mod Styles
+pub mod Trailing

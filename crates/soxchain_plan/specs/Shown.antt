@@ -52,12 +52,18 @@ size_line Wav Unknown = codes "warning: the head of IN announces no size: soxcha
 size_line Wav Known = []
 size_line Au size = []
 
+-- a line where bytes of IN follow the end that its head announces
+abbrev pub beyond_line : Option ℕ → List ℕ
+beyond_line None = []
+beyond_line (Some zero) = []
+beyond_line (Some (suc bytes)) = codes "warning: " ++ decimal (suc bytes) ++ codes " bytes of IN follow the end that its head announces: soxchain does not read them\n"
+
 -- human-readable lines
 abbrev pub outline_text : Outline → List ℕ
 outline_text outline =
     sound_line (codes "in") outline.input ++ effect_lines 1 outline.effects.items ++ chain_line outline
     ++ sound_line (codes "out") outline.output ++ empty_line outline.output.frames
-    ++ size_line outline.input.kind outline.size
+    ++ size_line outline.input.kind outline.size ++ beyond_line outline.beyond
 
 -- how many frames there are, as the last member of an object
 abbrev pub frames_json : Option ℕ → List ℕ
@@ -94,13 +100,19 @@ size_json Zero = codes "\"zero\""
 size_json Unknown = codes "\"unknown\""
 size_json Known = codes "\"known\""
 
+-- the number of these bytes; null where it is not known
+abbrev pub beyond_json : Option ℕ → List ℕ
+beyond_json None = codes "null"
+beyond_json (Some bytes) = decimal bytes
+
 -- the plan as an object, on a line
 abbrev pub outline_json : Outline → List ℕ
 outline_json outline =
     codes "{\"in\": " ++ sound_json outline.input ++ codes ", \"effects\": [" ++ effects_json outline.effects.items
     ++ codes "], \"hold\": " ++ decimal outline.hold ++ codes ", \"bytes\": " ++ decimal outline.bytes ++ codes ", \"out\": "
     ++ sound_json outline.output ++ codes ", \"empty\": " ++ empty_json outline.output.frames
-    ++ codes ", \"size_in_head\": " ++ size_json outline.size ++ codes "}\n"
+    ++ codes ", \"size_in_head\": " ++ size_json outline.size
+    ++ codes ", \"beyond_head\": " ++ beyond_json outline.beyond ++ codes "}\n"
 
 -- the plan in a style
 abbrev pub shown : Style → Outline → List ℕ

@@ -4,15 +4,7 @@ ghost use Rattle.fx_sound.specs.Wave.{half_at, wav_coding};
 ghost use Rattle.soxchain_plan.specs.Formats.{fault_of_format, first_format, format_fault, has_unknown_guid, has_wrong_align};
 
 use byteorder::{ByteOrder, LittleEndian};
-
-/// The tag of whole numbers.
-const PLAIN: u16 = 1;
-
-/// The tag of a format that has a GUID.
-const EXTENSIBLE: u16 = 0xfffe;
-
-/// A GUID that begins with a tag has these bytes after it.
-const GUID_OF_TAGS: [u8; 14] = [0, 0, 0, 0, 16, 0, 128, 0, 0, 170, 0, 56, 155, 113];
+use fx_sound::inner::{EXTENSIBLE, PCM_GUID, PLAIN};
 
 /// What is wrong with a format that is not one of the profile.
 #[derive(Clone, Copy, Debug, Drop, PartialEq, Eq)]
@@ -55,12 +47,12 @@ fn first_format(front: &[u8]) -> &[u8]
     }
 }
 
-/// Whether the GUID of an extensible format is no tag.
+/// Whether the GUID of an extensible format is no tag: one that is has the same bytes after it as that of integer samples.
 fn has_unknown_guid(body: &[u8]) -> bool
     requires { 40 ≤ length body.now }
     ensures { result ≡ has_unknown_guid body.now }
 {
-    half(body, 0) == EXTENSIBLE && &body[26..40] != GUID_OF_TAGS.as_slice()
+    half(body, 0) == EXTENSIBLE && body[26..40] != PCM_GUID[2..]
 }
 
 /// Whether a frame has not as many bytes as its channels take.

@@ -10,13 +10,14 @@ macro_rules! help {
        soxchain-plan --help | --version
 
 Says what soxchain would do with the same words, and changes nothing. Of IN only
-the head is read; OUT is not made.
+the head is read; OUT is not made, but refused where soxchain could not make it.
 
 For IN and OUT it prints kind, rate, channels, bits and frames; for each effect
 and for the chain the frames that it may hold, with the bytes of their samples;
 and by how many frames of its input an effect gives later than it takes, in
 milliseconds too. Lengths are those of a sound as long as its head announces. A
-warning tells of an output without a frame, and of a WAVE without a size.
+warning tells of an output without a frame, of a WAVE without a size, and of
+bytes after the end that a WAVE announces.
 
   --json    as the first word: prints the same as one JSON object
 

@@ -14,8 +14,10 @@ ghost use Rattle.soxchain_plan.specs.Advising.{IsLineAdvice};
 ghost use Rattle.soxchain_plan.specs.Answering.{PlanAnswers, PlanLines, Plans, Stops, Words, PlanWorks};
 
 mod advice;
+mod creating;
 mod formats;
 mod help;
+mod host;
 mod lengths;
 mod options;
 mod outline;
@@ -25,11 +27,14 @@ mod registry;
 mod showing;
 mod stop;
 mod style;
+mod trailing;
 
+use creating::output_fault;
 use fx_frame::{ByteOut, Counted};
 use fx_plan::{CommandLine, LineFault, parse_line, plan};
 use fx_sound::Head;
 use help::HELP;
+use host::PlanHost;
 use options::refused_word;
 use outline::text_of;
 use reading::{HeadRead, head_of};
@@ -39,18 +44,21 @@ use soxchain_common::{Console, FilesFault, VERSION, answer_to, fault_of, read_fi
 use std::process::ExitCode;
 use stop::PlanStop;
 use style::Style;
+use trailing::bytes_beyond;
 
-/// Shows the plan of a line, after the head of its input, and returns the status.
-fn plan_line<H: Console, M: ByteOut>(
+/// Shows the plan of a line, after the head of its input, which announces this end of the file, and returns the status. IN and OUT
+/// are looked at only once there is a plan.
+fn plan_line<H: PlanHost, M: ByteOut>(
     host: &mut H,
     style: Style,
     line: &CommandLine,
     head: &Head,
+    end: Option<u64>,
     files: &[Vec<u8>],
     messages: &mut M,
 ) -> u8
     ensures { Plans (record { input = H.Input.reads; file = H.Reader.reads; output = H.Output.writes })
-        H.machine M.writes style line.now (plan_bytes files.now) head.now host.old host.new messages.old messages.new result }
+        H.machine H.looks H.creates M.writes style line.now (plan_bytes files.now) head.now end host.old host.new messages.old messages.new result }
 {
     let plan = match plan(host.memory(), line, head, files) {
         Ok(plan) => plan,
@@ -59,26 +67,29 @@ fn plan_line<H: Console, M: ByteOut>(
             return stopped(host, style, &stop, messages);
         }
     };
-    match text_of(host.memory(), &plan, style) {
-        Some(text) => show(host, &text, 0, messages),
-        None => stopped(
-            host,
-            style,
-            &PlanStop::Refused(line, Refusal::Chain),
-            messages,
-        ),
+    let beyond = bytes_beyond(host, line, head, end);
+    let Some(text) = text_of(host.memory(), &plan, beyond, style) else {
+        let refused = PlanStop::Refused(line, Refusal::Chain);
+        return stopped(host, style, &refused, messages);
+    };
+    match output_fault(host, line) {
+        Some((name, fault)) => {
+            let stop = PlanStop::CannotCreate(name, fault);
+            stopped(host, style, &stop, messages)
+        }
+        None => show(host, &text, 0, messages),
     }
 }
 
 /// Executes a command line, and returns the status.
-fn answer_line<H: Console, M: ByteOut>(
+fn answer_line<H: PlanHost, M: ByteOut>(
     host: &mut H,
     style: Style,
     line: &CommandLine,
     messages: &mut M,
 ) -> u8
     ensures { PlanWorks (record { input = H.Input.reads; file = H.Reader.reads; output = H.Output.writes })
-        H.machine M.writes (record { opened = H.opened; unopened = H.unopened; closed = H.closed })
+        H.machine H.looks H.creates M.writes (record { opened = H.opened; unopened = H.unopened; closed = H.closed })
         style line.now host.old host.new messages.old messages.new result }
 {
     let files = match read_files(host.memory(), host, line) {
@@ -94,7 +105,7 @@ fn answer_line<H: Console, M: ByteOut>(
 }
 
 /// Executes a command line, with the bytes of its coefficient files, and returns the status.
-fn answer_files<H: Console, M: ByteOut>(
+fn answer_files<H: PlanHost, M: ByteOut>(
     host: &mut H,
     style: Style,
     line: &CommandLine,
@@ -102,15 +113,15 @@ fn answer_files<H: Console, M: ByteOut>(
     messages: &mut M,
 ) -> u8
     ensures { PlanLines (record { input = H.Input.reads; file = H.Reader.reads; output = H.Output.writes })
-        H.machine M.writes (record { opened = H.opened; unopened = H.unopened; closed = H.closed })
+        H.machine H.looks H.creates M.writes (record { opened = H.opened; unopened = H.unopened; closed = H.closed })
         style line.now (plan_bytes files.now) host.old host.new messages.old messages.new result }
 {
-    let HeadRead { head, format } = match head_of(host, line) {
+    let HeadRead { head, format, end } = match head_of(host, line) {
         Ok(read) => read,
         Err(name) => return stopped(host, style, &PlanStop::CannotOpen(name), messages),
     };
     match head {
-        Ok(head) => plan_line(host, style, line, &head, files, messages),
+        Ok(head) => plan_line(host, style, line, &head, end, files, messages),
         Err(fault) => {
             let stop = PlanStop::Head(line, fault, format);
             stopped(host, style, &stop, messages)
@@ -119,9 +130,9 @@ fn answer_files<H: Console, M: ByteOut>(
 }
 
 /// Executes the words, and returns the status.
-fn answer_words<H: Console, M: ByteOut>(host: &mut H, words: &[String], messages: &mut M) -> u8
+fn answer_words<H: PlanHost, M: ByteOut>(host: &mut H, words: &[String], messages: &mut M) -> u8
     ensures { Words (record { input = H.Input.reads; file = H.Reader.reads; output = H.Output.writes })
-        H.machine M.writes (record { opened = H.opened; unopened = H.unopened; closed = H.closed })
+        H.machine H.looks H.creates M.writes (record { opened = H.opened; unopened = H.unopened; closed = H.closed })
         (answer_of HELP.now VERSION.now) (texts words.now) host.old host.new messages.old messages.new result }
 {
     if let Some(text) = answer_to(words, HELP, VERSION) {
@@ -157,9 +168,9 @@ fn refuse_words<H: Console, M: ByteOut>(
 }
 
 /// Executes the program, and returns the status.
-fn answer<H: Console, M: ByteOut>(host: &mut H, messages: &mut M) -> u8
+fn answer<H: PlanHost, M: ByteOut>(host: &mut H, messages: &mut M) -> u8
     ensures { PlanAnswers (record { input = H.Input.reads; file = H.Reader.reads; output = H.Output.writes })
-        H.machine M.writes (record { opened = H.opened; unopened = H.unopened; closed = H.closed })
+        H.machine H.looks H.creates M.writes (record { opened = H.opened; unopened = H.unopened; closed = H.closed })
         (answer_of HELP.now VERSION.now) host.old host.new messages.old messages.new result }
 {
     match host.words() {

@@ -11,7 +11,7 @@ ghost use Rattle.fx_frame_base.specs.Frame.{Samples};
 ghost use Rattle.fx_chain_stages.specs.Made.{recipes_for};
 ghost use Rattle.fx_plan.specs.Planning.{planning};
 ghost use Rattle.soxchain_plan.specs.Outlines.{IsOutline, announced_frames, bytes_along, held_bytes, known, rates_along, size_in, stated, stated_bytes, stated_frames, stated_rate, whole_frames};
-ghost use Rattle.soxchain_plan.specs.Shown.{effect_json, effect_line, effect_lines, effects_json, empty_json, empty_line, frames_json, frames_text, outline_json, outline_text, shown, size_json, size_line, sound_json, sound_line};
+ghost use Rattle.soxchain_plan.specs.Shown.{beyond_json, beyond_line, effect_json, effect_line, effect_lines, effects_json, empty_json, empty_line, frames_json, frames_text, outline_json, outline_text, shown, size_json, size_line, sound_json, sound_line};
 
 use crate::lengths::{bytes_held, in_milliseconds, lateness, rate_after};
 use crate::quoting::{bits_of, name_of_kind};
@@ -67,6 +67,8 @@ pub struct EffectOutline {
 pub struct Outline {
     input: SoundOutline,
     size: SizeInHead,
+    /// The bytes of IN after the end that its head announces; None where that is not known.
+    beyond: Option<u64>,
     effects: Vec<EffectOutline>,
     hold: u64,
     bytes: u64,
@@ -192,9 +194,10 @@ fn bytes_of(outlines: &[EffectOutline], channels: usize) -> u64
     bytes
 }
 
-/// The content of a plan.
-fn outline_of(alloc: Global, plan: &Plan) -> Result<Outline, AllocError>
-    ensures { IfOk result (IsOutline (planning plan.now)) }
+/// The content of a plan; so many bytes of IN follow the end that its head announces.
+fn outline_of(alloc: Global, plan: &Plan, beyond: Option<u64>) -> Result<Outline, AllocError>
+    ensures planned { IfOk result (IsOutline (planning plan.now)) }
+    ensures beyond { IfOk result (λ outline. outline.beyond ≡ beyond) }
 {
     let head = plan.head();
     let input = input_of(&head);
@@ -216,6 +219,7 @@ fn outline_of(alloc: Global, plan: &Plan) -> Result<Outline, AllocError>
     Ok(Outline {
         input,
         size: size_in(&head),
+        beyond,
         effects,
         hold: plan.hold(),
         bytes,
@@ -224,10 +228,11 @@ fn outline_of(alloc: Global, plan: &Plan) -> Result<Outline, AllocError>
 }
 
 /// The content of a plan, in this style. None where no memory is found for it.
-pub fn text_of(alloc: Global, plan: &Plan, style: Style) -> Option<Vec<u8>>
-    ensures { IfSome result (λ text. (outline : Outline) × IsOutline (planning plan.now) outline × (text.items ≡ shown style outline)) }
+pub fn text_of(alloc: Global, plan: &Plan, beyond: Option<u64>, style: Style) -> Option<Vec<u8>>
+    ensures { IfSome result (λ text. (outline : Outline) × IsOutline (planning plan.now) outline
+        × (outline.beyond ≡ beyond) × (text.items ≡ shown style outline)) }
 {
-    let outline = outline_of(alloc, plan).ok()?;
+    let outline = outline_of(alloc, plan, beyond).ok()?;
     let mut text = Vec::new(alloc);
     outline.show(&mut text, style).ok()?;
     Some(text)
@@ -289,6 +294,29 @@ fn show_json_size<W: Write>(writer: &mut W, size: SizeInHead) -> io::Result<()>
         SizeInHead::Zero => write!(writer, "\"zero\""),
         SizeInHead::Unknown => write!(writer, "\"unknown\""),
         SizeInHead::Known => write!(writer, "\"known\""),
+    }
+}
+
+/// Shows that bytes of IN follow the end that its head announces, where some do.
+fn show_beyond<W: Write>(writer: &mut W, beyond: Option<u64>) -> io::Result<()>
+    ensures { OnOk result (Appends (W.contents writer.old) (W.contents writer.new) (beyond_line beyond)) }
+{
+    match beyond {
+        None | Some(0) => Ok(()),
+        Some(bytes) => writeln!(
+            writer,
+            "warning: {bytes} bytes of IN follow the end that its head announces: soxchain does not read them"
+        ),
+    }
+}
+
+/// Shows in JSON how many bytes of IN follow the end that its head announces.
+fn show_json_beyond<W: Write>(writer: &mut W, beyond: Option<u64>) -> io::Result<()>
+    ensures { OnOk result (Appends (W.contents writer.old) (W.contents writer.new) (beyond_json beyond)) }
+{
+    match beyond {
+        Some(bytes) => write!(writer, "{bytes}"),
+        None => write!(writer, "null"),
     }
 }
 
@@ -431,7 +459,8 @@ impl Outline {
         )?;
         self.output.show(writer, "out")?;
         show_emptiness(writer, self.output.frames)?;
-        show_size(writer, self.input.kind, self.size)
+        show_size(writer, self.input.kind, self.size)?;
+        show_beyond(writer, self.beyond)
     }
 
     /// One JSON object.
@@ -452,6 +481,8 @@ impl Outline {
         show_json_emptiness(writer, self.output.frames)?;
         write!(writer, ", \"size_in_head\": ")?;
         show_json_size(writer, self.size)?;
+        write!(writer, ", \"beyond_head\": ")?;
+        show_json_beyond(writer, self.beyond)?;
         writeln!(writer, "}}")
     }
 }

@@ -3,8 +3,10 @@ ghost use Rattle.std.specs.Prelude.{◌≡◌, IfErr, IfOk, List, None, Some, �
 ghost use Rattle.fx_plan.specs.CommandLines.{file_name};
 ghost use Rattle.soxchain_plan.specs.Formats.{IsFormatOf};
 ghost use Rattle.soxchain_plan.specs.Heads.{HeadIsRead, IsHeadFrom, IsHeadIn};
+ghost use Rattle.soxchain_plan.specs.Trailing.{IsEndOf};
 
 use crate::formats::{FormatFault, format_fault};
+use crate::trailing::announced_end;
 use fx_frame::ByteIn;
 use fx_plan::{CommandLine, Endpoint};
 use fx_sound::{Head, HeadFault, Kind, Source, read_head};
@@ -17,23 +19,28 @@ pub struct HeadRead {
     pub head: Result<Head, HeadFault>,
     /// What is wrong with the format, where it is not one of the profile.
     pub format: FormatFault,
+    /// Where a WAVE announces that the file ends.
+    pub end: Option<u64>,
 }
 
 /// What is read of the head of what a reader delivers. The first read brings most heads whole, with the format.
 fn head_from<R: ByteIn + Drop>(reader: R, expected: Option<Kind>) -> HeadRead
     ensures read { HeadIsRead R.reads expected reader result.head }
     ensures format { IsFormatOf (R.reads.rest reader) result.format }
+    ensures end { IsEndOf (R.reads.rest reader) result.end }
 {
     let mut source = Source::new(reader);
     match source.hold(4) {
         Ok(()) => {
             let format = format_fault(source.peek(source.held()));
+            let end = announced_end(source.peek(source.held()));
             let head = read_head(&mut source, expected);
-            HeadRead { head, format }
+            HeadRead { head, format, end }
         }
         Err(_) => HeadRead {
             head: Err(HeadFault::ReadFailed),
             format: FormatFault::Other,
+            end: None,
         },
     }
 }

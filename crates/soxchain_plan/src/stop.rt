@@ -10,7 +10,9 @@ use crate::advice::{
     Advice, OPENING, REACHING, advice_on_head, advice_on_line, advice_on_memory, advice_on_option,
     advice_on_plan,
 };
+use crate::creating::advice_on_creating;
 use crate::formats::FormatFault;
+use crate::host::CreateFault;
 use crate::quoting::show_stop;
 use fx_frame::{ByteOut, Counted};
 use fx_plan::{CommandLine, LineFault};
@@ -30,6 +32,8 @@ pub enum PlanStop<'a> {
     BadOption(&'a str),
     /// A file cannot be opened or read; `-` is standard output.
     CannotOpen(&'a str),
+    /// OUT of this name cannot be made, for this fault.
+    CannotCreate(&'a str, CreateFault),
     /// The head of IN is refused, and this is wrong with its format where it is not one of the profile.
     Head(&'a CommandLine, HeadFault, FormatFault),
     /// What the line asks for is refused.
@@ -56,6 +60,7 @@ impl PlanStop<'_> {
             PlanStop::Line(fault) => status_of_fault(*fault),
             PlanStop::BadOption(_) => status_of_fault(LineFault::BadOption),
             PlanStop::CannotOpen(_) => 2,
+            PlanStop::CannotCreate(_, _) => 2,
             PlanStop::Head(_, fault, _) => Refusal::Head(*fault).status(),
             PlanStop::Refused(_, refusal) => refusal.status(),
         }
@@ -68,6 +73,7 @@ impl PlanStop<'_> {
             PlanStop::BadOption(_) => advice_on_line(LineFault::BadOption),
             PlanStop::CannotOpen("-") => REACHING,
             PlanStop::CannotOpen(_) => OPENING,
+            PlanStop::CannotCreate(_, fault) => advice_on_creating(*fault),
             PlanStop::Head(_, fault, format) => advice_on_head(*fault, *format),
             PlanStop::Refused(_, Refusal::Head(fault)) => {
                 advice_on_head(*fault, FormatFault::Other)
@@ -85,6 +91,7 @@ impl PlanStop<'_> {
     {
         match self {
             PlanStop::BadOption(word) => advice_on_option(word),
+            PlanStop::CannotCreate(_, fault) => Advice::new(advice_on_creating(*fault)),
             PlanStop::Head(_, fault, format) => Advice::new(advice_on_head(*fault, *format)),
             _ => Advice::new(self.fixed_advice()),
         }
@@ -100,6 +107,7 @@ impl PlanStop<'_> {
                 tell_line(message_writer, label_of_line(LineFault::BadOption));
             }
             PlanStop::CannotOpen(name) => tell_cannot_open(message_writer, name),
+            PlanStop::CannotCreate(name, _) => tell_cannot_open(message_writer, name),
             PlanStop::Head(line, fault, _) => {
                 tell_refusal(message_writer, line, &Refusal::Head(*fault));
             }

@@ -10,6 +10,7 @@ ghost use Rattle.soxchain_stream.specs.Frozen.{AreStored, IsWord, frame_words, s
 
 use byteorder::{ByteOrder, LittleEndian};
 use fx_frame::WideFrame;
+use fx_frame_base::frame::MAX_CHANNELS;
 use std::alloc::{AllocError, Global};
 
 /// "soxchain", little-endian.
@@ -109,10 +110,10 @@ fn frame_of(words: &[u64]) -> Option<WideFrame>
     ensures wide { IfSome result IsWideFrame }
 {
     let count = words.len();
-    if count > 16 {
+    if count > MAX_CHANNELS {
         return None;
     }
-    let mut samples = [0; 16];
+    let mut samples = [0; MAX_CHANNELS];
     for place in 0..count {
         samples[place] = words[place].cast_signed();
     }

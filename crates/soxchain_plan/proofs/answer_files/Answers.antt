@@ -8,8 +8,8 @@ use Rattle.soxchain_plan.proofs.answer_files.Goals as goal
 pub returns-in-Ok-head : goal.returns-in-Ok-head
 returns-in-Ok-head g c =
     of_stream (file_name c.args.line.now.input)
-    (λ none. let from = c.in-Ok.ensures.standard none in Standard c.head_of.new.host from.reader none from.is_reader from.fresh (Read c.in-Ok-head.head (rw c.in-Ok-head.is at from.read) c.plan_line.ensures))
-    (λ name some. let from = c.in-Ok.ensures.file name some in Named c.head_of.new.host name from.reader some from.is_opened from.fresh (Read c.in-Ok-head.head (rw c.in-Ok-head.is at from.read) c.plan_line.ensures))
+    (λ none. let from = c.in-Ok.ensures.standard none in Standard c.head_of.new.host from.reader none from.is_reader from.fresh (Read c.in-Ok-head.head c.in-Ok.read.end (rw c.in-Ok-head.is at from.read) from.end c.plan_line.ensures))
+    (λ name some. let from = c.in-Ok.ensures.file name some in Named c.head_of.new.host name from.reader some from.is_opened from.fresh (Read c.in-Ok-head.head c.in-Ok.read.end (rw c.in-Ok-head.is at from.read) from.end c.plan_line.ensures))
 
 pub returns-in-Err-head : goal.returns-in-Err-head
 returns-in-Err-head g c =

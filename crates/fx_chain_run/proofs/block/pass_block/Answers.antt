@@ -98,7 +98,7 @@ returns g c =
         put = c.put.ensures.bytes ∙ ap (λ bs. c.args.frame_writer.now.output.bytes ++ bs) (sym (encoded-frames coding outputs given out));
         written = c.put.ensures.written;
       };
-      free = omega (arith, c.put.ensures.count, many, sixteen given outputs c.if-outputs-gt16.false, c.requires.free, all);
-      bound = omega (arith, c.put.ensures.bound, many, sixteen given outputs c.if-outputs-gt16.false, c.requires.bound, all);
+      free = omega (arith, c.put.ensures.count, many, sixteen given outputs c.if-outputs-gt-MAX_CHANNELS.false, c.requires.free, all);
+      bound = omega (arith, c.put.ensures.bound, many, sixteen given outputs c.if-outputs-gt-MAX_CHANNELS.false, c.requires.bound, all);
       coding = c.put.ensures.coding;
     }

@@ -86,7 +86,7 @@ returns-in_err-drain-in-Ok-Some-clause-write_failed g c = λ _ bytes known.
     let ran = old.ran bytes known in
     let taken = next.frame (drop (turn * size_of c.args.progress.now) bytes) ran.to_come_is in
     rw (count, sound_frames-more _ _ _ _ _ _ _ ran taken)
-    (FlowedFront-turn g.S.Stage.acts c.args.flow.now c.loop-turn.flow c.take.new.self c.drain.new.flow c.args.frame_writer.now.coding _ _ _ _ _ _ _ _ _ c.args.head.now (old.flowed bytes known) old.hungry c.take.ensures
+    (FlowedFront-turn g.S.Stage.acts c.args.flow.now c.loop-turn.flow c.take.new.self c.drain.new.flow c.args.frame_writer.now.coding _ _ _ _ _ _ _ _ _ c.args.head.now (old.flowed bytes known) old.hungry c.take.ensures.value
     (rw (old.coded) at c.in_err-drain-in-Ok-Some.ensures.cut_off))
 
 pub returns-in_err-drain-in-Ok-Some-clause-whole : goal.returns-in_err-drain-in-Ok-Some-clause-whole
@@ -230,7 +230,7 @@ returns-in_err-pump_block g c =
     let old = Pumped-sent g.S.Stage.acts g.R.ReadBeside.reads _ _ _ _ _ _ _ _ _ _ c.loop-turn.invariant.pumped next.sent next.count in
     let drained = c.in_ok-drain-in-Ok-Some.ensures in
     let turned = Pumped-turn g.S.Stage.acts g.R.ReadBeside.reads _ c.loop-turn.flow c.take.new.self c.drain.new.flow c.loop-turn.source c.next_frame.new.source c.loop-turn.progress c.next_frame.new.progress
-    _ _ _ _ _ _ _ _ old next.counted next.maximum next.frame next.delivered next.reads (sym (c.is_spent.ensures.enough old.hungry) ∙ c.if-is_spent.false) c.take.ensures drained.drained drained.waits drained.free drained.bound in
+    _ _ _ _ _ _ _ _ old next.counted next.maximum next.frame next.delivered next.reads (sym (c.is_spent.ensures.enough old.hungry) ∙ c.if-is_spent.false) c.take.ensures.value drained.drained drained.waits drained.free drained.bound in
     let first : Start g.row.S.Denot g.row.R.Denot =
     record { flow = c.args.flow.now; source = c.args.source.now; progress = c.args.progress.now; coding = c.args.frame_writer.now.coding; head = c.args.head.now; wrote = g.W.ByteOut.writes.taken c.args.writer.now } in
     let due = c.stages-stages.ensures.due c.loop-turn.invariant.pumped.hungry in
@@ -273,7 +273,7 @@ loop-turn-preserved g c =
     let old = Pumped-sent g.S.Stage.acts g.R.ReadBeside.reads _ _ _ _ _ _ _ _ _ _ c.loop-turn.invariant.pumped next.sent next.count in
     let drained = c.in_ok-drain-in-Ok-Some.ensures in
     let turned = Pumped-turn g.S.Stage.acts g.R.ReadBeside.reads _ c.loop-turn.flow c.take.new.self c.drain.new.flow c.loop-turn.source c.next_frame.new.source c.loop-turn.progress c.next_frame.new.progress
-    _ _ _ _ _ _ _ _ old next.counted next.maximum next.frame next.delivered next.reads (sym (c.is_spent.ensures.enough old.hungry) ∙ c.if-is_spent.false) c.take.ensures drained.drained drained.waits drained.free drained.bound in
+    _ _ _ _ _ _ _ _ old next.counted next.maximum next.frame next.delivered next.reads (sym (c.is_spent.ensures.enough old.hungry) ∙ c.if-is_spent.false) c.take.ensures.value drained.drained drained.waits drained.free drained.bound in
     let count = ap (λ (p : Reading). p.frames) next.counted in
     let first : Start g.row.S.Denot g.row.R.Denot =
     record { flow = c.args.flow.now; source = c.args.source.now; progress = c.args.progress.now; coding = c.args.frame_writer.now.coding; head = c.args.head.now; wrote = g.W.ByteOut.writes.taken c.args.writer.now } in

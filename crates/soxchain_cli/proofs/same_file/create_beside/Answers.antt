@@ -8,17 +8,12 @@ refused : {X E P Q : Type 0} (result : Result X E) → (P → Q) → IfErr resul
 refused (Ok file) follows h = tt
 refused (Err error) follows h = follows h
 
-pub returns-then-are_one-clause-unmade : goal.returns-then-are_one-clause-unmade
-returns-then-are_one-clause-unmade g c =
-    Same c.look-source.result c.look-target.result
-    (record { between = c.look-source.new.self; source = rw c.source_of.ensures at c.look-source.ensures; target = c.look-target.ensures })
-    (c.are_one.ensures.one c.if-are_one.true)
+pub returns-then-is_input-clause-unmade : goal.returns-then-is_input-clause-unmade
+returns-then-is_input-clause-unmade g c = Same (c.is_input.ensures.same c.if-is_input.true)
 
 pub returns-clause-unmade : goal.returns-clause-unmade
 returns-clause-unmade g c =
     rw c.ok.ensures.value
     (refused c.make.result
-    (Unmade c.look-target.new.self c.look-source.result c.look-target.result
-    (record { between = c.look-source.new.self; source = rw c.source_of.ensures at c.look-source.ensures; target = c.look-target.ensures })
-    (c.are_one.ensures.apart c.if-are_one.false))
+    (Unmade c.is_input.new.host (c.is_input.ensures.other c.if-is_input.false))
     c.make.ensures.refused)

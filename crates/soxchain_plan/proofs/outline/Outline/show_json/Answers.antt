@@ -10,4 +10,5 @@ returns g c =
     let output = Appends-trans _ _ _ _ _ (Appends-trans _ _ _ _ _ effects c.in_ok-write-3.ensures.bytes) c.in_ok-show_json-2.ensures in
     let emptiness = Appends-trans _ _ _ _ _ (Appends-trans _ _ _ _ _ output c.in_ok-write-4.ensures.bytes) c.in_ok-show_json_emptiness.ensures in
     let size = Appends-trans _ _ _ _ _ (Appends-trans _ _ _ _ _ emptiness c.in_ok-write-5.ensures.bytes) c.in_ok-show_json_size.ensures in
-    appends_then _ _ _ _ _ _ _ (outline_json-parts c.args.self.now) size c.writeln.ensures.bytes
+    let beyond = Appends-trans _ _ _ _ _ (Appends-trans _ _ _ _ _ size c.in_ok-write-6.ensures.bytes) c.in_ok-show_json_beyond.ensures in
+    appends_then _ _ _ _ _ _ _ (outline_json-parts c.args.self.now) beyond c.writeln.ensures.bytes

@@ -14,3 +14,6 @@ returns-in-BadOption g c = rw c.in-BadOption.is (rw (c.label_of_line-in-BadOptio
 
 pub returns-in-Head : goal.returns-in-Head
 returns-in-Head g c = rw c.in-Head.is c.tell_refusal.ensures
+
+pub returns-in-CannotCreate : goal.returns-in-CannotCreate
+returns-in-CannotCreate g c = rw c.in-CannotCreate.is c.tell_cannot_open-in-CannotCreate.ensures
