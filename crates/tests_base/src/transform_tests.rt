@@ -4,7 +4,7 @@ use fx_tap_sums::transforms::Spectrum;
 use std::alloc::{AllocError, Global};
 
 /// Numbers of 32 bits that look random, from a place on.
-fn noise(place: usize) -> i32 {
+pub(crate) fn noise(place: usize) -> i32 {
     let mixed = (place as u64).wrapping_mul(0x9E37_79B9_7F4A_7C15);
     let turned = (mixed ^ (mixed >> 29)).wrapping_mul(0xBF58_476D_1CE4_E5B9);
     ((turned >> 32) as i64 - 2_147_483_648) as i32
@@ -36,8 +36,8 @@ fn weights(alloc: Global, count: usize) -> Result<Vec<i32>, AllocError> {
 }
 
 /// Are these the sums of the definition, one for each place of a window?
-fn are_sums(weights: &[i32], window: &[i32], sums: &[i64]) -> bool {
-    if weights.len().saturating_add(sums.len()) > window.len() {
+pub(crate) fn are_sums(weights: &[i32], window: &[i32], sums: &[i64]) -> bool {
+    if weights.len().saturating_add(sums.len()) > window.len().saturating_add(1) {
         return false;
     }
     for place in 0..sums.len() {

@@ -42,7 +42,16 @@ const LONG: Portions = Portions {
 /// How many plans of random effects are fed.
 const RANDOM_PLANS: u32 = 50;
 
-/// No effect, then several.
+/// A `fir` of 65 coefficients in a chain of four: more than take a small window.
+const FIR_OF_65: &str = "\
+    vol 1.5 fir -0.24 -0.12 -0.08 0.3 0.21 -0.15 0.23 -0.17 0.12 -0.17 -0.25 0.27 -0.12 -0.12 0.34 0.27 \
+    -0.08 0.33 0.07 0.16 -0.13 0.32 0.16 0.33 0.29 -0.07 -0.03 -0.15 -0.16 -0.21 -0.07 0.11 -0.25 0.16 \
+    -0.05 -0.06 0.24 0.04 -0.06 0.04 0.17 -0.22 0.34 -0.24 0.2 0.26 -0.24 0.22 -0.03 0.1 -0.24 -0.22 \
+    -0.14 0.32 -0.13 0.2 0.31 0.32 -0.04 -0.04 0.07 0.21 -0.18 0.2 0.23 dcshift 0.25 vol 0.9";
+
+/// No effect, then several, among them four at 8,000 frames a second with echoes, in parallel and in series, that come after fewer
+/// frames than a batch has (five), as many, and more; seventeen, whose batches have eighteen samples, more than a short group; a
+/// `fir` of 3, 16 and 65 coefficients; and several that change the channels, which go frame by frame.
 const ROWS: &[&str] = &[
     "",
     "vol 0.5 dcshift 0.25",
@@ -50,6 +59,22 @@ const ROWS: &[&str] = &[
     "dcshift 0.25 remix 1v0.75 vol 0.333",
     "trim 2s 250s vol 1.5 echo 0.8 0.9 1 0.5 vol 0.9",
     "upsample 3 vol 0.5 downsample 2 pad 1s 2s",
+    "vol 0.5 echo 0.8 0.9 0.5 0.3 dcshift 0.1 echo 0.8 0.9 0.625 0.3 0.75 0.2",
+    "vol 0.5 echo 0.8 0.9 0.625 0.3 dcshift 0.1 echo 0.8 0.9 0.5 0.3 0.75 0.2",
+    "vol 0.5 echo 0.8 0.9 0.75 0.3 dcshift 0.1 echo 0.8 0.9 1 0.3 0.75 0.2",
+    "remix 1 1 vol 1.5 echo 0.8 0.9 2 0.5 3 0.25 echo 0.8 0.9 2 0.5 vol 0.9 delay 5s 6s vol 1.5 vol 0.9 remix 1,2",
+    "vol 0.5 echos 0.8 0.9 0.5 0.3 dcshift 0.1 echos 0.8 0.9 0.625 0.3 0.75 0.2",
+    "vol 0.5 echos 0.8 0.9 0.625 0.3 dcshift 0.1 echos 0.8 0.9 0.5 0.3 0.75 0.2",
+    "vol 0.5 echos 0.8 0.9 0.75 0.3 dcshift 0.1 echos 0.8 0.9 1 0.3 0.75 0.2",
+    "vol 0.5 echos 0.812345678 0.9 0.75 0.312345678 dcshift 0.1 echos 0.8 0.987654321 1 0.3",
+    "echos 0.8 0.9 2 0.3 2.125 0.2 vol 0.9 vol 1.1 vol 0.9 vol 1.1 vol 0.9 vol 1.1 vol 0.9 vol 1.1 vol 0.9 vol 1.1 vol 0.9 vol 1.1 vol 0.9 vol 1.1 vol 0.9 echos 0.8 0.9 2.25 0.3",
+    "remix 1 1 vol 1.5 echos 0.8 0.9 2 0.5 3 0.25 echos 0.8 0.9 2 0.5 vol 0.9 delay 5s 6s vol 1.5 vol 0.9 remix 1,2",
+    "vol 1.5 remix 1 1 1 1 1 1 1 1 1 1 1 1 1 1 1 1 vol 0.5 echos 0.8 0.9 2 0.5 vol 0.9 remix 1,16 dcshift 0.25",
+    "vol 1.5 fir 0.25 0.5 0.25 dcshift 0.25 vol 0.9",
+    "vol 1.5 fir 0.12 0.2 0.23 0.32 0.19 0.3 -0.23 0.03 0.32 0.14 0.29 -0.18 0.03 -0.1 0.08 0.09 dcshift 0.25 vol 0.9",
+    FIR_OF_65,
+    "remix 1 1 1 1 1 1 1 1 1 1 1 1 1 1 1 1 vol 1.5 fir 0.25 0.5 0.25 remix 1,16",
+    "remix 1 1 1 1 vol 1.5 fir -0.5 0.75 0.5 dcshift 0.25 remix 1,4",
     TWELVE_EFFECTS,
 ];
 
