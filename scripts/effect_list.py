@@ -84,8 +84,11 @@ class Effect:
 
     def page(self):
         """Its section of docs/effects.md."""
-        with open(os.path.join(FOLDER, f'{self.name}.md'), encoding='utf-8') as file:
-            return file.read()
+        try:
+            with open(os.path.join(FOLDER, f'{self.name}.md'), encoding='utf-8') as file:
+                return file.read()
+        except FileNotFoundError:
+            sys.exit(f'effects/{self.name}.md is missing: it has the section of docs/effects.md')
 
     def in_code(self, path):
         """It as a pattern over an enum of code: with its argument, where it has one."""
