@@ -173,7 +173,7 @@ def process(words: Sequence[Word], frames: Any, rate: int, channels: Optional[in
     `Stream.feed`."""
     if channels is None:
         if not _is_array(frames):
-            raise TypeError('channels is wanted beside bytes')
+            raise TypeError('give channels=, as channels=2: only a NumPy array says how many channels it has')
         channels = frames.shape[1] if frames.ndim == 2 else 1
     with Stream(words, rate, channels, files) as stream:
         given = list(stream.through([frames], scale))
@@ -284,7 +284,7 @@ class Stream:
         if self._gives_arrays:
             return self._array(self._feed(self._of_array(frames, scale)))
         if scale != 1:
-            raise TypeError('a scale is for arrays')
+            raise TypeError('scale= is for NumPy arrays alone: bytes are samples of 32 bits')
         data = _samples_of(frames)
         if len(data) % 4:
             raise Error(_PART_OF_FRAME, f'whole samples of 4 bytes are wanted; these are {len(data)} bytes')
