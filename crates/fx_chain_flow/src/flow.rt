@@ -6,6 +6,7 @@ ghost use Rattle.fx_frame_base.specs.Holds.{recipes, kinds, hold_sum, line_sum, 
 ghost use Rattle.fx_chain_flow.specs.Feed.{FlowFed, FlowGave, FlowTookWithinSpace, GaveLast};
 ghost use Rattle.fx_frame_base.specs.Pipeline.{outputs_of};
 ghost use Rattle.fx_frame_base.specs.Lists.{pieces};
+ghost use Rattle.fx_chain_flow.specs.Inlets.{StartsWithInlet};
 ghost use Rattle.fx_chain_flow.specs.Order.{InOrder};
 ghost use Rattle.fx_chain_flow.specs.Steps.{given_out, step_of};
 
@@ -422,7 +423,7 @@ impl<S: Thaws + Drop> Flow<S> {
 
     /// The flow of stages of these arguments, which takes frames of `channels` channels, that held these
     /// frames and counted these numbers: whichever it was is restored, unless memory is refused.
-    /// BadSnapshot where there is none, Memory where an allocation was refused.
+    /// BadSnapshot where there is none, Memory where an allocation was refused, and only once the inlet was restored.
     pub fn thaw(
         alloc: Global,
         arguments: &[S::Arguments],
@@ -435,6 +436,7 @@ impl<S: Thaws + Drop> Flow<S> {
         ensures made { IfOk result (λ t. AllMade S.made arguments.now t.stages × (t.channels ≡ channels)) }
         ensures frozen { IfOk result (λ t. FreezesFlow S.acts t frames.now numbers.now) }
         ensures named { (result ≡ Err ThawFault.WrongPlan) → ⊥ }
+        ensures memory { result ≡ Err ThawFault.Memory → StartsWithInlet channels frames.now numbers.now }
         ensures thawed { (f : Parts S) → IsSound S.acts f → AllSound S.sound f.stages → AllMade S.made arguments.now f.stages → f.channels ≡ channels → FreezesFlow S.acts f frames.now numbers.now → MatchResult result (λ t. t ≡ f) (λ e. e ≡ ThawFault.Memory) }
     {
         let Some((state_counters, rest)) = numbers.split_first_chunk::<8>() else {

@@ -143,6 +143,7 @@ impl<T: Copy> Ring<T> {
         requires frame { length frame.old ≡ self.old.channels }
         requires free { length came.old ≡ length frame.old }
         ensures kept { result ≡ false → (self.new ≡ self.old) × (frame.new ≡ frame.old) }
+        ensures unwritten { result ≡ false → came.new ≡ came.old }
         ensures items { result ≡ true → self.new.items ≡ pushed self.old frame.old }
         ensures capacity { self.new.capacity ≡ self.old.capacity }
         ensures channels { self.new.channels ≡ self.old.channels }
@@ -167,6 +168,7 @@ impl<T: Copy> Ring<T> {
         requires frames { length frames.old ≡ count * self.old.channels }
         requires free { length came.old ≡ length frames.old }
         ensures kept { result ≡ false → (self.new ≡ self.old) × (frames.new ≡ frames.old) }
+        ensures unwritten { result ≡ false → came.new ≡ came.old }
         ensures items { result ≡ true → self.new.items ≡ pushed_all self.old (pieces self.old.channels count frames.old) }
         ensures capacity { self.new.capacity ≡ self.old.capacity }
         ensures channels { self.new.channels ≡ self.old.channels }

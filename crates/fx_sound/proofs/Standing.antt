@@ -12,8 +12,8 @@ use Rattle.fx_sound.proofs.Held.{Takes-both, to_come-held}
 module _ {R X : Type 0} (rest : R → Option (List ℕ)) (delivered : R → ℕ) (spelt : List ℕ → Result X HeadFault) (maximum : ℕ) (old new : Held R) (bytes : List ℕ) where
   -- what was taken has the fault
   pub stands-taken : (e : HeadFault) (n : ℕ) → n ≤ maximum → Takes delivered old new n → ((k : ℕ) → k < n → spelt (take k bytes) ≡ Err Truncated)
-      → n ≤ length bytes → to_come rest new ≡ Some (drop n bytes) → spelt (take n bytes) ≡ Err e → StandsAfter rest delivered spelt maximum old new e bytes
-  stands-taken e n near tells undecided there others decided = record {
+      → n ≤ length bytes → to_come rest new ≡ Some (drop n bytes) → spelt (take n bytes) ≡ Err e → (e ≡ Truncated → n ≡ length bytes) → StandsAfter rest delivered spelt maximum old new e bytes
+  stands-taken e n near tells undecided there others decided all = record {
     taken = n;
     near = near;
     tells = tells;
@@ -22,6 +22,7 @@ module _ {R X : Type 0} (rest : R → Option (List ℕ)) (delivered : R → ℕ)
     decided = λ _. decided;
     there = λ _. there;
     others = λ _. others;
+    all = all;
   }
 
   -- a read failed, and what is held comes after n bytes that were taken
@@ -36,6 +37,7 @@ module _ {R X : Type 0} (rest : R → Option (List ℕ)) (delivered : R → ℕ)
     decided = λ other. absurd (other refl);
     there = λ other. absurd (other refl);
     others = λ other. absurd (other refl);
+    all = λ cut. absurd (cc);
   }
 
   -- a read failed before anything was taken
@@ -70,6 +72,7 @@ stands-rest rest delivered part whole m maximum old mid new bytes n e there near
   decided = λ other. fault s.taken e (s.decided other);
   there = λ other. let more = s.there other in omega (arith, there, more, length-drop n bytes);
   others = λ other. s.others other ∙ ap Some (drop-drop s.taken n bytes);
+  all = λ cut. let more = s.all cut in omega (arith, there, more, length-drop n bytes);
 }
 
 -- the faults of a part are those of the whole
@@ -85,4 +88,5 @@ stands-as rest delivered part whole m maximum old new bytes e near fault s = rec
   decided = λ other. fault s.taken e (s.decided other);
   there = s.there;
   others = s.others;
+  all = s.all;
 }

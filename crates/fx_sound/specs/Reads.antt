@@ -26,6 +26,7 @@ Fails rest delivered spelt old new e = e ≡ ReadFailed → CutOff rest delivere
 
 -- After the fault e of a head the first `taken` of the bytes to come were removed, at most `maximum`. Fewer decide nothing, and
 -- what is held comes after them. Unless a read failed, they have the fault by themselves, and all others are still to come.
+-- Where they are too few for a head they are all that there were.
 pub record StandsAfter {X R : Type 0} (rest : R → Option (List ℕ)) (delivered : R → ℕ) (spelt : List ℕ → Result X HeadFault) (maximum : ℕ) (old new : Held R) (e : HeadFault) (bytes : List ℕ) : Type 0 where
   pub taken : ℕ
   pub near : taken ≤ maximum
@@ -35,6 +36,7 @@ pub record StandsAfter {X R : Type 0} (rest : R → Option (List ℕ)) (delivere
   pub decided : e ≢ ReadFailed → spelt (take taken bytes) ≡ Err e
   pub there : e ≢ ReadFailed → taken ≤ length bytes
   pub others : e ≢ ReadFailed → to_come rest new ≡ Some (drop taken bytes)
+  pub all : e ≡ Truncated → taken ≡ length bytes
 
 -- the same, where the bytes to come are known
 abbrev pub StandsIfKnown : {X R : Type 0} → (R → Option (List ℕ)) → (R → ℕ) → (List ℕ → Result X HeadFault) → ℕ → Held R → Held R → HeadFault → Type 0

@@ -1,6 +1,6 @@
 //! Reading the head of a Sun AU sound.
 
-ghost use Rattle.std.specs.Prelude.{◌≡◌, ◌+◌, ◌-◌, ◌^◌, ◌<◌, ◌≤◌, false, IsTrue, IfOk, IfErr, IfSome, MatchBool, length};
+ghost use Rattle.std.specs.Prelude.{◌≡◌, ◌+◌, ◌-◌, ◌^◌, ◌<◌, ◌≤◌, Err, false, IsTrue, IfOk, IfErr, IfSome, MatchBool, length};
 ghost use Rattle.fx_frame_base.specs.Io.{saturated};
 ghost use Rattle.fx_sound.specs.Au.{word_at, au_coding, au_fields, after_snd};
 ghost use Rattle.fx_sound.specs.Kind.{is_of_au};
@@ -43,6 +43,7 @@ fn fields(words: &[u8]) -> Result<HeadFields, HeadFault>
     ensures offset { IfOk result (λ l. (24 ≤ l.offset) × (l.offset ≤ MAX_SOUND_OFFSET)) }
     ensures proper { IfOk result (λ l. IsProper Kind.Au l.format) }
     ensures fault { is_read_failure result ≡ false }
+    ensures enough { result ≡ Err HeadFault.Truncated → ⊥ }
 {
     let offset = word(words, 0);
     if offset < 24 {

@@ -1,6 +1,6 @@
 //! Buffered bytes for a writer.
 
-ghost use Rattle.std.specs.Prelude.{◌≡◌, ◌+◌, ◌-◌, ◌*◌, ◌<◌, ◌≤◌, ◌^◌, ◌++◌, true, [], IsOk, OnOk, OnErr, IfOk, length};
+ghost use Rattle.std.specs.Prelude.{◌≡◌, ◌+◌, ◌-◌, ◌*◌, ◌<◌, ◌≤◌, ◌^◌, ◌++◌, true, false, [], IsOk, OnOk, OnErr, IfOk, length};
 ghost use Rattle.fx_frame_base.specs.Io.{CountsFailure};
 ghost use Rattle.fx_sound.specs.FrameCoding.{frame_size, bytes_of, clips_of};
 ghost use Rattle.fx_sound.specs.Output.{SendsOn, SendsMore, SendsPart, bytes_put};
@@ -79,6 +79,7 @@ impl Output {
         ensures sent { SendsOn (W.writes.taken writer.old) (W.writes.taken writer.new) self.old self.new }
         ensures count { bytes_put self.new ≡ bytes_put self.old }
         ensures ok { OnOk result (length self.new.bytes < length self.old.bytes) }
+        ensures unflushed { OnOk result (W.writes.flushed writer.new ≡ false) }
         ensures failures { CountsFailure (W.writes.failures writer.old) (W.writes.failures writer.new) result }
     {
         let n = writer.write(&self.buffer[self.start..self.end])?;
@@ -87,13 +88,14 @@ impl Output {
         Ok(())
     }
 
-    /// Passes all pending bytes to the writer.
+    /// Passes all pending bytes to the writer, and does not flush it.
     #[inline(never)]
     pub fn drain<W: ByteOut>(&mut self, writer: &mut W) -> Result<(), Failed>
         ensures sent { SendsOn (W.writes.taken writer.old) (W.writes.taken writer.new) self.old self.new }
         ensures count { bytes_put self.new ≡ bytes_put self.old }
         ensures empty { OnOk result (self.new.bytes ≡ []) }
         ensures free { OnOk result (self.new.free ≡ BUFFER_SIZE) }
+        ensures unflushed { OnOk result (0 < length self.old.bytes → W.writes.flushed writer.new ≡ false) }
         ensures failures { CountsFailure (W.writes.failures writer.old) (W.writes.failures writer.new) result }
     {
         while self.waiting() > 0 {
@@ -111,6 +113,7 @@ impl Output {
         ensures sent { SendsOn (W.writes.taken writer.old) (W.writes.taken writer.new) self.old self.new }
         ensures count { bytes_put self.new ≡ bytes_put self.old }
         ensures free { OnOk result (size ≤ self.new.free) }
+        ensures empty { OnOk result (self.old.free < size → self.new.bytes ≡ []) }
         ensures failures { CountsFailure (W.writes.failures writer.old) (W.writes.failures writer.new) result }
         ensures waits { size ≤ self.old.free → IsOk result × (writer.new ≡ writer.old) × (self.new ≡ self.old) }
     {
@@ -178,6 +181,7 @@ impl Output {
         requires count { bytes_put self.old + length bytes.now < 2 ^ 64 }
         ensures sent { OnOk result (SendsMore (W.writes.taken writer.old) (W.writes.taken writer.new) self.old self.new bytes.now) }
         ensures sent_err { OnErr result (SendsOn (W.writes.taken writer.old) (W.writes.taken writer.new) self.old self.new) }
+        ensures edge { OnOk result (self.old.free < length bytes.now → self.new.bytes ≡ bytes.now) }
         ensures count { OnOk result (bytes_put self.new ≡ bytes_put self.old + length bytes.now) }
         ensures failures { CountsFailure (W.writes.failures writer.old) (W.writes.failures writer.new) result }
         ensures waits { length bytes.now ≤ self.old.free → IsOk result × (writer.new ≡ writer.old) × (self.new.free ≡ self.old.free - length bytes.now) }
@@ -202,6 +206,8 @@ impl Output {
         ensures maximum { frame_size coding (length frame.now) ≤ 64 }
         ensures clips { IfOk result (λ n. n ≡ clips_of coding frame.now) }
         ensures sent_err { OnErr result (SendsPart (W.writes.taken writer.old) (W.writes.taken writer.new) self.old self.new (bytes_of coding frame.now)) }
+        ensures edge { OnOk result (self.old.free < frame_size coding (length frame.now)
+            → length self.new.bytes + self.old.free ≡ frame_size coding (length frame.now)) }
         ensures count { OnOk result (bytes_put self.new ≡ bytes_put self.old + frame_size coding (length frame.now)) }
         ensures failures { CountsFailure (W.writes.failures writer.old) (W.writes.failures writer.new) result }
         ensures waits { frame_size coding (length frame.now) ≤ self.old.free
@@ -227,6 +233,7 @@ impl Output {
         ensures sent { OnOk result (SendsMore (W.writes.taken writer.old) (W.writes.taken writer.new) self.old self.new (bytes_of coding frame.now)) }
         ensures clips { IfOk result (λ n. n ≡ clips_of coding frame.now) }
         ensures sent_err { OnErr result (SendsPart (W.writes.taken writer.old) (W.writes.taken writer.new) self.old self.new (bytes_of coding frame.now)) }
+        ensures edge { OnOk result (length self.new.bytes + self.old.free ≡ frame_size coding (length frame.now)) }
         ensures count { OnOk result (bytes_put self.new ≡ bytes_put self.old + frame_size coding (length frame.now)) }
         ensures failures { CountsFailure (W.writes.failures writer.old) (W.writes.failures writer.new) result }
     {

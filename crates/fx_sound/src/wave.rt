@@ -1,5 +1,5 @@
 //! Reading the head of a RIFF WAVE sound.
-ghost use Rattle.std.specs.Prelude.{◌≡◌, ◌+◌, ◌-◌, ◌*◌, ◌^◌, ◌<◌, ◌≤◌, Option, None, Some, false, IsTrue, IfSome, IfOk, IfErr, Ok, MatchBool, length, take, min};
+ghost use Rattle.std.specs.Prelude.{◌≡◌, ◌+◌, ◌-◌, ◌*◌, ◌^◌, ◌<◌, ◌≤◌, Option, None, Some, false, IsTrue, IfSome, IfOk, IfErr, Ok, Err, MatchBool, length, take, min};
 ghost use Rattle.fx_frame_base.specs.Io.{saturated};
 ghost use Rattle.fx_sound.specs.Source.{Takes};
 ghost use Rattle.fx_sound.specs.Kind.{is_of_wav};
@@ -70,6 +70,7 @@ fn plain(bytes: &[u8]) -> Result<Format, HeadFault>
     ensures value { result ≡ plain_of bytes.now }
     ensures proper { IfOk result (IsProper Kind.Wav) }
     ensures fault { is_read_failure result ≡ false }
+    ensures enough { result ≡ Err HeadFault.Truncated → ⊥ }
 {
     let channels = half(bytes, 2);
     let rate = long(bytes, 4);
@@ -101,6 +102,7 @@ fn format(bytes: &[u8]) -> Result<Format, HeadFault>
     ensures value { result ≡ format_of bytes.now }
     ensures proper { IfOk result (IsProper Kind.Wav) }
     ensures fault { is_read_failure result ≡ false }
+    ensures enough { result ≡ Err HeadFault.Truncated → ⊥ }
 {
     let tag = half(bytes, 0);
     if tag == PLAIN {
@@ -126,6 +128,7 @@ fn asked(offset: u32, seen: Option<Format>, name: [u8; 4], size: u32) -> Result<
     ensures value { result ≡ demand_of offset seen name size }
     ensures near { IfOk result (IsNearChunk offset) }
     ensures fault { is_read_failure result ≡ false }
+    ensures enough { result ≡ Err HeadFault.Truncated → ⊥ }
 {
     if name == *b"data" {
         return match seen {

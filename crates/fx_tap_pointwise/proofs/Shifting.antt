@@ -1,12 +1,14 @@
 -- A sum rounded by whole steps.
-use Rattle.std.proofs.Common.{◌≡◌, ℕ, suc, ◌+◌, ◌-◌, ◌*◌, ◌/◌, ◌%◌, ◌<◌, ◌≤◌, ap, ◌∙◌, refl, sym, arith, ℤ, pos, negsuc, neg_ℤ, ◌+ℤ◌, ◌*ℤ◌, Bool, true, false, cond}
-use Rattle.std.specs.Prelude.{nat_lt, ◌==◌}
+use Rattle.std.proofs.Common.{rules, ◌≡◌, ℕ, suc, ◌+◌, ◌-◌, ◌*◌, ◌/◌, ◌%◌, ◌<◌, ◌≤◌, ap, ◌∙◌, refl, sym, arith, ℤ, pos, negsuc, neg_ℤ, ◌+ℤ◌, ◌*ℤ◌, Bool, true, false, cond}
+use Rattle.std.specs.Prelude.{nat_lt}
 use Rattle.std.proofs.Math.Nat.{mul-add-div, div-eq_of_lt, div-add-mod'}
 use Rattle.std.proofs.lemmas.Bool.Decides.{nat_tests}
-use Rattle.fx_tap_pointwise.specs.DcShiftState.{floor_of, over_of, steps_of, leaves_half, raised}
+use Rattle.fx_tap_pointwise.specs.DcShift.{units_of}
+use Rattle.fx_tap_pointwise.specs.DcShiftState.{floor_of, over_of, steps_of}
 use Rattle.std.proofs.lemmas.Int.{ints}
 use Rattle.fx_fixed.specs.Rounding.{nearest_natural, nearest, signed}
-use Rattle.fx_fixed.proofs.Signs.{nearest-neg, none_below_zero}
+use Rattle.fx_fixed.specs.declared.gains.TheConstants.{UNIT}
+use Rattle.fx_fixed.proofs.Signs.{nearest-neg}
 use Rattle.fx_tap_sums.proofs.Numbers.{add-mul}
 
 -- a quotient whose rest is known
@@ -51,15 +53,6 @@ nearest-up (pos m) r q l h = ap pos (nearest_natural-above m r q l (omega arith)
 nearest-up (negsuc m) r q l h =
     ap (λ z. nearest z q) (sum-negative m r q l) ∙ nearest-neg ((m + 1) * q - r) q (omega arith) ∙ ap (signed true) (nearest_natural-lacks_much m r q l h) ∙ (omega (arith, ints))
 
--- just half a step goes away from zero
-pub nearest-half_up : (m r q : ℕ) → r < q → 2 * r ≡ q → nearest ((pos m *ℤ pos q) +ℤ pos r) q ≡ pos m +ℤ pos 1
-nearest-half_up m r q l h = ap pos (nearest_natural-above m r q l (omega arith))
-
-pub nearest-half_down : (m r q : ℕ) → r < q → 2 * r ≡ q → nearest ((negsuc m *ℤ pos q) +ℤ pos r) q ≡ negsuc m
-nearest-half_down m r q l h =
-    let one : suc m ≡ m + 1 = omega arith in
-    ap (λ z. nearest z q) (sum-negative m r q l) ∙ nearest-neg ((m + 1) * q - r) q (omega arith) ∙ ap (signed true) (nearest_natural-lacks_little m r q (omega arith) (omega arith) ∙ sym one)
-
 -- units as whole steps and what is beyond them
 pub units-split : (q : ℕ) (units : ℤ) → 0 < q → units ≡ (floor_of q units *ℤ pos q) +ℤ pos (over_of q units)
 units-split q (pos a) p = sym (ap pos (div-add-mod' a q))
@@ -73,14 +66,16 @@ pub over_of-below : (q : ℕ) (units : ℤ) → 0 < q → over_of q units < q
 over_of-below q (pos a) p = omega arith
 over_of-below q (negsuc a) p = omega arith
 
+-- no whole number of trillionths is just between two steps: 2 ^ 12 goes into each of these, and not into half a step
+none-between : (shift : ℤ) → 2 * over_of UNIT (units_of shift) ≡ UNIT → ⊥
+none-between shift half =
+    let split = units-split UNIT (units_of shift) (search rules) in
+    omega (arith, ints, split, half)
+
 -- the steps that a sum goes up by, once it is known how much is beyond
-by_over : (a : ℤ) (over q : ℕ) (more half : Bool) → over < q → nat_lt q (2 * over) ≡ more → (2 * over == q) ≡ half
-    → raised half (cond more (a +ℤ pos 1) a) ≡ nearest ((a *ℤ pos q) +ℤ pos over) q
-by_over a over q true true l m h = absurd (grind (arith, nat_tests))
-by_over a over q true false l m h = sym (nearest-up a over q l (grind (arith, nat_tests)))
-by_over (pos n) over q false true l m h = rw (none_below_zero n) (sym (nearest-half_up n over q l (grind (arith, nat_tests))))
-by_over (negsuc n) over q false true l m h = sym (nearest-half_down n over q l (grind (arith, nat_tests)))
-by_over a over q false false l m h = sym (nearest-down a over q (grind (arith, nat_tests)))
+by_over : (a : ℤ) (over q : ℕ) (more : Bool) → over < q → (2 * over ≡ q → ⊥) → nat_lt q (2 * over) ≡ more → cond more (a +ℤ pos 1) a ≡ nearest ((a *ℤ pos q) +ℤ pos over) q
+by_over a over q true l other m = sym (nearest-up a over q l (grind (arith, nat_tests)))
+by_over a over q false l other m = sym (nearest-down a over q (grind (arith, nat_tests)))
 
 -- a step more of a sum
 sum-more : (sample floor : ℤ) (more : Bool) → sample +ℤ cond more (floor +ℤ pos 1) floor ≡ cond more ((sample +ℤ floor) +ℤ pos 1) (sample +ℤ floor)
@@ -88,13 +83,15 @@ sum-more sample floor true = omega (arith, ints)
 sum-more sample floor false = refl
 
 -- a sample and a shift by whole steps is the exact sum, rounded
-pub raised-steps : (q : ℕ) (units sample : ℤ) → 0 < q → raised (leaves_half q units) (sample +ℤ steps_of q units) ≡ nearest ((sample *ℤ pos q) +ℤ units) q
-raised-steps q units sample p =
-    let floor : ℤ = floor_of q units in
-    let over : ℕ = over_of q units in
-    let exact : ((sample +ℤ floor) *ℤ pos q) +ℤ pos over ≡ (sample *ℤ pos q) +ℤ units =
-    ap (λ z. z +ℤ pos over) (add-mul sample floor (pos q)) ∙ (let assoc : ((sample *ℤ pos q) +ℤ (floor *ℤ pos q)) +ℤ pos over ≡ (sample *ℤ pos q) +ℤ ((floor *ℤ pos q) +ℤ pos over) = omega (arith, ints) in assoc)
-    ∙ ap (λ z. (sample *ℤ pos q) +ℤ z) (sym (units-split q units p)) in
-    ap (raised (leaves_half q units)) (sum-more sample floor (nat_lt q (2 * over)))
-    ∙ by_over (sample +ℤ floor) over q (nat_lt q (2 * over)) (2 * over == q) (over_of-below q units p) refl refl
-    ∙ ap (λ z. nearest z q) exact
+pub added-steps : (shift sample : ℤ) → sample +ℤ steps_of UNIT (units_of shift) ≡ nearest ((sample *ℤ pos UNIT) +ℤ units_of shift) UNIT
+added-steps shift sample =
+    let units : ℤ = units_of shift in
+    let some : 0 < UNIT = search rules in
+    let floor : ℤ = floor_of UNIT units in
+    let over : ℕ = over_of UNIT units in
+    let exact : ((sample +ℤ floor) *ℤ pos UNIT) +ℤ pos over ≡ (sample *ℤ pos UNIT) +ℤ units =
+    ap (λ z. z +ℤ pos over) (add-mul sample floor (pos UNIT)) ∙ (let assoc : ((sample *ℤ pos UNIT) +ℤ (floor *ℤ pos UNIT)) +ℤ pos over ≡ (sample *ℤ pos UNIT) +ℤ ((floor *ℤ pos UNIT) +ℤ pos over) = omega (arith, ints) in assoc)
+    ∙ ap (λ z. (sample *ℤ pos UNIT) +ℤ z) (sym (units-split UNIT units some)) in
+    sum-more sample floor (nat_lt UNIT (2 * over))
+    ∙ by_over (sample +ℤ floor) over UNIT (nat_lt UNIT (2 * over)) (over_of-below UNIT units some) (none-between shift) refl
+    ∙ ap (λ z. nearest z UNIT) exact

@@ -1,5 +1,5 @@
--- How the stages of `dcshift` behave, and a shift in whole steps and a half (this project's profile).
-use Rattle.std.specs.Prelude.{ℕ, ◌*◌, ◌==◌, nat_lt, ℤ, pos, ◌+ℤ◌, unsigned_abs, if◌then◌else◌, int_lt, Bool, not, ◌&&◌}
+-- How the stages of `dcshift` behave, and a shift in whole steps (this project's profile).
+use Rattle.std.specs.Prelude.{ℕ, ◌*◌, nat_lt, ℤ, pos, ◌+ℤ◌, unsigned_abs, if◌then◌else◌}
 use Rattle.std.specs.Int.{int_div_euclid, int_rem_euclid}
 use Rattle.fx_frame_base.specs.Stage.{Acts}
 use Rattle.fx_tap_pointwise.specs.Mapped.{MapState}
@@ -18,14 +18,6 @@ floor_of q units = int_div_euclid units (pos q)
 abbrev pub over_of : ℕ → ℤ → ℕ
 over_of q units = unsigned_abs (int_rem_euclid units (pos q))
 
--- the steps added to every sample: one more than those where more than half a step is left
+-- the steps added to every sample: one more than those where more than half a step is left, as no shift leaves just half
 abbrev pub steps_of : ℕ → ℤ → ℤ
 steps_of q units = if nat_lt q (2 * over_of q units) then floor_of q units +ℤ pos 1 else floor_of q units
-
--- exactly half a step is left
-abbrev pub leaves_half : ℕ → ℤ → Bool
-leaves_half q units = 2 * over_of q units == q
-
--- a sum and, where there is one, half a step beyond it, to the nearest step; a half is rounded away from zero
-abbrev pub raised : Bool → ℤ → ℤ
-raised half sum = if half && not (int_lt sum (pos 0)) then sum +ℤ pos 1 else sum

@@ -5,7 +5,7 @@ ghost use Rattle.fx_frame_base.specs.Stage.{Freezes, IsNew};
 ghost use Rattle.fx_tap_pointwise.specs.Mapped.{IsMapState, MapState};
 ghost use Rattle.fx_tap_pointwise.specs.PerSample.{SampleArguments};
 ghost use Rattle.fx_tap_pointwise.specs.DcShift.{shifted_sample, units_of};
-ghost use Rattle.fx_tap_pointwise.specs.DcShiftState.{dcshift_acts, leaves_half, raised, steps_of};
+ghost use Rattle.fx_tap_pointwise.specs.DcShiftState.{dcshift_acts, steps_of};
 
 pub mod words;
 
@@ -18,7 +18,7 @@ use fx_fixed::{Gain, UNIT};
 use fx_frame::{ThawFault, WideFrame};
 use std::marker::Model;
 
-/// A shift of whole steps: a sample is limited first, so that the steps are added to it in 32 bits.
+/// A shift of no more steps than a sample has: a sample is limited first, so that the steps are added to it in 32 bits.
 #[derive(Drop)]
 pub struct WholeShift {
     shift: Gain,
@@ -29,28 +29,27 @@ pub struct WholeShift {
 }
 
 impl Model for WholeShift {
-    ghost use Rattle.std.specs.Prelude.{◌≡◌, ◌-◌, ◌^◌, ◌-ℤ◌, ℤ, false, pos, neg_ℤ};
+    ghost use Rattle.std.specs.Prelude.{◌≡◌, ◌-◌, ◌^◌, ◌-ℤ◌, ℤ, pos, neg_ℤ};
     ghost use Rattle.std.specs.Int.{int_max, int_min};
     ghost use Rattle.fx_fixed.specs.declared.gains.TheConstants.{UNIT};
     ghost use Rattle.fx_tap_pointwise.specs.DcShift.{units_of};
-    ghost use Rattle.fx_tap_pointwise.specs.DcShiftState.{leaves_half, steps_of};
+    ghost use Rattle.fx_tap_pointwise.specs.DcShiftState.{steps_of};
 
     ghost Value = { ℤ };
 
     ghost view = { λ s. s.shift };
 
-    ghost invariant = { λ s. (s.steps ≡ steps_of UNIT (units_of s.shift)) × (leaves_half UNIT (units_of s.shift) ≡ false)
+    ghost invariant = { λ s. (s.steps ≡ steps_of UNIT (units_of s.shift))
         × (s.minimum ≡ neg_ℤ (pos (2 ^ 31)) -ℤ int_min s.steps (pos 0)) × (s.maximum ≡ pos (2 ^ 31 - 1) -ℤ int_max s.steps (pos 0)) };
 }
 
 impl WholeShift {
-    /// A shift of these steps; None where half a step is left, or where they are more than a sample may have.
-    fn of(shift: Gain, steps: i64, is_half: bool) -> Option<WholeShift>
-        requires steps { steps ≡ steps_of UNIT (units_of shift) }
-        requires half { is_half ≡ leaves_half UNIT (units_of shift) }
+    /// A shift of these steps; None where they are more than a sample may have.
+    fn of(shift: Gain, steps: i64) -> Option<WholeShift>
+        requires { steps ≡ steps_of UNIT (units_of shift) }
         ensures { IfSome result (λ whole. whole ≡ shift) }
     {
-        if is_half || steps <= i64::from(i32::MIN) || steps > i64::from(i32::MAX) {
+        if steps <= i64::from(i32::MIN) || steps > i64::from(i32::MAX) {
             return None;
         }
         let steps = steps as i32;
@@ -87,13 +86,13 @@ impl Sampling for WholeShift {
     }
 }
 
-/// A shift, ready to be added: whole steps of a sample, and whether half a step is left.
+/// A shift, ready to be added: the nearest whole steps of a sample. No shift is just between two of these, since its
+/// trillionths are whole.
 #[derive(Drop)]
 pub struct Shift {
     shift: Gain,
     steps: i64,
-    is_half: bool,
-    /// The same where it is whole, and smaller than the range of samples.
+    /// The same where it is smaller than the range of samples.
     whole: Option<WholeShift>,
 }
 
@@ -101,13 +100,13 @@ impl Model for Shift {
     ghost use Rattle.std.specs.Prelude.{◌≡◌, ◌^◌, ◌≤◌, ℤ, unsigned_abs, IfSome};
     ghost use Rattle.fx_fixed.specs.declared.gains.TheConstants.{UNIT};
     ghost use Rattle.fx_tap_pointwise.specs.DcShift.{units_of};
-    ghost use Rattle.fx_tap_pointwise.specs.DcShiftState.{leaves_half, steps_of};
+    ghost use Rattle.fx_tap_pointwise.specs.DcShiftState.{steps_of};
 
     ghost Value = { ℤ };
 
     ghost view = { λ s. s.shift };
 
-    ghost invariant = { λ s. (unsigned_abs s.steps ≤ 2 ^ 33) × (s.steps ≡ steps_of UNIT (units_of s.shift)) × (s.is_half ≡ leaves_half UNIT (units_of s.shift))
+    ghost invariant = { λ s. (unsigned_abs s.steps ≤ 2 ^ 33) × (s.steps ≡ steps_of UNIT (units_of s.shift))
         × IfSome s.whole (λ whole. whole ≡ s.shift) };
 }
 
@@ -117,37 +116,35 @@ impl Shift {
         requires { unsigned_abs shift ≤ 2 * UNIT }
         ensures { result ≡ shift }
     {
-        let (steps, is_half) = steps_in(i128::from(shift.trillionths()) * 0x8000_0000);
+        let steps = steps_in(i128::from(shift.trillionths()) * 0x8000_0000);
         Shift {
             shift,
             steps,
-            is_half,
-            whole: WholeShift::of(shift, steps, is_half),
+            whole: WholeShift::of(shift, steps),
         }
     }
 }
 
-/// The whole steps of a shift in units, and whether exactly half a step is left.
-fn steps_in(units: i128) -> (i64, bool)
+/// The nearest whole steps of a shift in units.
+fn steps_in(units: i128) -> i64
     requires { unsigned_abs units ≤ 2 ^ 32 * UNIT }
-    ensures steps { result.0 ≡ steps_of UNIT units }
-    ensures half { result.1 ≡ leaves_half UNIT units }
-    ensures bound { unsigned_abs result.0 ≤ 2 ^ 33 }
+    ensures steps { result ≡ steps_of UNIT units }
+    ensures bound { unsigned_abs result ≤ 2 ^ 33 }
 {
     let unit = i128::from(UNIT);
     let floor = units.div_euclid(unit) as i64;
     let over = units.rem_euclid(unit);
     if 2 * over > unit {
-        return (floor + 1, false);
+        return floor + 1;
     }
-    (floor, 2 * over == unit)
+    floor
 }
 
 impl Sampling for Shift {
     ghost rounded = { shifted_sample };
 
     fn round(&self, sample: i32) -> (i32, bool) {
-        clipped(raised(self.is_half, i64::from(sample) + self.steps))
+        clipped(i64::from(sample) + self.steps)
     }
 }
 
@@ -187,18 +184,6 @@ impl SamplesMany for Shift {
             None => round_over(self, samples),
         }
     }
-}
-
-/// The nearest integer to a sum and, where there is one, half a step beyond it, which is rounded away from zero.
-#[inline(always)]
-fn raised(is_half: bool, sum: i64) -> i64
-    requires { unsigned_abs sum ≤ 2 ^ 34 }
-    ensures { result ≡ raised is_half sum }
-{
-    if is_half && sum >= 0 {
-        return sum + 1;
-    }
-    sum
 }
 
 /// The number clipped to the range of a sample, and whether it was clipped.

@@ -10,6 +10,7 @@ pub mod Magnitudes
 pub mod Numbers
 pub mod Prepared
 pub mod PairLanes
+pub mod PairSamples
 pub mod PairSums
 pub mod PartSums
 pub mod ProductBounds

@@ -271,6 +271,27 @@ join-more ws high low i h l in_high in_low now before =
     let other : (k ≡ i → ⊥) = omega (arith, m) in
     rw (get_or-set_other low i k l (pos 0) other) (before k m))
 
+-- two low parts, wherever they stand
+two-lows : (ws highs lows : List ℤ) → AreParts ws highs lows → AreCarried 2 lows
+two-lows ws highs lows parts place =
+    let first = one-more (drop place lows) 0 (nat_lt 0 (length (drop place lows))) refl in
+    let second = one-more (drop place lows) 1 (nat_lt 1 (length (drop place lows))) refl in
+    let here = rw (← get_or-drop place lows 0 (pos 0)) at (parts.low (place + 0)) in
+    let next = rw (← get_or-drop place lows 1 (pos 0)) at (parts.low (place + 1)) in
+    omega (arith, first, second, here, next)
+
+some-interval : (ws highs lows : List ℤ) (interval : ℕ) (b : Bool) → nat_lt 0 interval ≡ b → AreParts ws highs lows
+    → (interval < 128 → AreCarried (2 * (interval + 1)) lows → ⊥) → 1 ≤ interval
+some-interval ws highs lows interval true t parts maximal = grind (arith, nat_tests)
+some-interval ws highs lows interval false t parts maximal =
+    let none : interval ≡ 0 = grind (arith, nat_tests) in
+    let two : 2 * (interval + 1) ≡ 2 = omega (arith, none) in
+    absurd (maximal (omega (arith, none)) (rw two (two-lows ws highs lows parts)))
+
+-- at least one pair goes before a carry
+pub interval-of-parts : (ws highs lows : List ℤ) (interval : ℕ) → AreParts ws highs lows → (interval < 128 → AreCarried (2 * (interval + 1)) lows → ⊥) → 1 ≤ interval
+interval-of-parts ws highs lows interval parts maximal = some-interval ws highs lows interval (nat_lt 0 interval) refl parts maximal
+
 pub tables-of-parts : (ws highs lows high low : List ℤ) (interval : ℕ) → AreWithin 536854528 1073676288 ws → AreParts ws highs lows → 1 ≤ interval → AreCarried (2 * interval) lows → IsTable highs high → IsTable lows low → ArePairsOfParts ws high low interval
 tables-of-parts ws highs lows high low interval small parts some carried high_table low_table = record {
   small = small.all;

@@ -1,7 +1,11 @@
 -- Samples of 16 bits, and weights for them two by two.
-use Rattle.std.specs.Prelude.{ℕ, ℤ, pos, ◌≡◌, ◌≤◌, ◌<◌, ◌+◌, ◌*◌, ◌/◌, ◌%◌, ◌^◌, ◌+ℤ◌, ◌*ℤ◌, List, drop, length, slice_index_or, sum_by, take, unsigned_abs, FitsSigned}
+use Rattle.std.specs.Prelude.{ℕ, ℤ, pos, ◌≡◌, ◌≤◌, ◌<◌, ◌⊎◌, ◌+◌, ◌*◌, ◌/◌, ◌%◌, ◌^◌, ◌+ℤ◌, ◌*ℤ◌, List, drop, length, slice_index_or, sum_by, take, unsigned_abs, FitsSigned}
 use Rattle.std.specs.Int.{w16, w32}
 use Rattle.std.specs.Simd.Lanes.{Each1}
+
+-- the first so many samples are multiples of 65,536, as those of 16-bit sources are
+abbrev pub AreHalves : ℕ → List ℤ → Type 0
+AreHalves count samples = (i : ℕ) → i < count → unsigned_abs (slice_index_or samples i (pos 0)) % 65536 ≡ 0
 
 -- eight lanes of numbers of 16 bits
 pub record EightHalves (lanes : List ℤ) : Type 0 where
@@ -44,6 +48,14 @@ pub record IsFloor (number floor : ℤ) : Type 0 where
 pub record AreWithin (maximum whole : ℕ) (weights : List ℤ) : Type 0 where
   pub each : (k : ℕ) → k < length weights → unsigned_abs (slice_index_or weights k (pos 0)) ≤ maximum
   pub all : sum_by unsigned_abs weights ≤ whole
+
+-- weights that are paired in two parts: at least twelve, of at most some 2^29, that add up to at most some 2^30
+abbrev pub ArePairedInParts : List ℤ → Type 0
+ArePairedInParts weights = (12 ≤ length weights) × AreWithin 536854528 1073676288 weights
+
+-- weights that are prepared for samples of 16 bits: at most 256, of 16 bits or in two parts
+abbrev pub ArePaired : List ℤ → Type 0
+ArePaired weights = (length weights ≤ 256) × (AreWithin 32767 65535 weights ⊎ ArePairedInParts weights)
 
 -- each pair of neighbouring weights four times; 0 stands beside the last of an odd number of weights
 pub record IsTable (weights table : List ℤ) : Type 0 where

@@ -1,11 +1,11 @@
 //! Sums of products of weights and samples of 16 bits: two products at a time, sixteen sums side by side. A sample of a 16-bit
 //! source is a multiple of 65,536.
-ghost use Rattle.std.specs.Prelude.{◌≡◌, ◌<◌, ◌≤◌, ◌+◌, ◌-◌, ◌*◌, ◌^◌, ℕ, true, pos, ◌+ℤ◌, ◌*ℤ◌, drop, length, slice_index_or, unsigned_abs, FitsSigned, IfOk, IfSome};
+ghost use Rattle.std.specs.Prelude.{◌≡◌, ◌<◌, ◌≤◌, ◌+◌, ◌-◌, ◌*◌, ◌%◌, ◌^◌, ℕ, true, pos, ◌+ℤ◌, ◌*ℤ◌, ◌↔◌, false, drop, length, slice_index_or, unsigned_abs, FitsSigned, IfNone, IfOk, IfSome};
 ghost use Rattle.std.specs.Int.{w32};
 ghost use Rattle.std.specs.Simd.Lanes.{Each1, zip2};
 ghost use Rattle.fx_tap_sums.specs.Lanes.{LanesWithin};
 ghost use Rattle.fx_tap_sums.specs.Products.{sum_of_products};
-ghost use Rattle.fx_tap_sums.specs.Pairs.{AreCarried, ArePairs, ArePairsOfParts, AreParts, AreWithin, EightHalves, FourFit, IsFloor, IsTable, PairsAdded, PairsFit, joined_halves, pair_product};
+ghost use Rattle.fx_tap_sums.specs.Pairs.{AreCarried, AreHalves, ArePaired, ArePairedInParts, ArePairs, ArePairsOfParts, AreParts, AreWithin, EightHalves, FourFit, IsFloor, IsTable, PairsAdded, PairsFit, joined_halves, pair_product};
 
 use crate::convolve::{put_lanes, small_dot};
 use std::alloc::{AllocError, Global};
@@ -189,16 +189,27 @@ fn put_turns(sums: &mut [i64], at: usize, even: i64x4, odd: i64x4)
     put_lanes(sums, at + 4, high);
 }
 
+/// The upper 16 bits of a sample, and whether the lower ones are zero.
+#[inline(always)]
+fn upper_half(sample: i32) -> (i16, bool)
+    ensures upper { result.1 ≡ true → sample ≡ result.0 *ℤ pos 65536 }
+    ensures exact { result.1 ≡ true ↔ unsigned_abs sample % 65536 ≡ 0 }
+{
+    let half = (sample >> 16) as i16;
+    (half, i32::from(half) * 65536 == sample)
+}
+
 /// Writes the upper 16 bits of each sample, and tests that the lower ones are zero.
 fn halve(window: &[i32], halves: &mut [i16]) -> bool
     requires { length window.now ≤ length halves.old }
-    ensures { result ≡ true → (i : ℕ) → i < length window.now → slice_index_or window.now i (pos 0) ≡ slice_index_or halves.new i (pos 0) *ℤ pos 65536 }
+    ensures upper { result ≡ true → (i : ℕ) → i < length window.now → slice_index_or window.now i (pos 0) ≡ slice_index_or halves.new i (pos 0) *ℤ pos 65536 }
+    ensures exact { result ≡ true ↔ AreHalves (length window.now) window.now }
 {
     let mut is_exact = true;
     'samples: for place in 0..window.len() {
-        let half = (window[place] >> 16) as i16;
+        let (half, is_half) = upper_half(window[place]);
         halves[place] = half;
-        is_exact &= i32::from(half) * 65536 == window[place];
+        is_exact &= is_half;
     }
     is_exact
 }
@@ -325,7 +336,8 @@ const MAX_SUMS: usize = 256;
 
 /// Tests that the magnitudes of weights are at most `maximum`, and at most `whole` together.
 fn are_within(weights: &[i32], maximum: u32, whole: u32) -> bool
-    ensures { result ≡ true → AreWithin maximum whole weights.now }
+    ensures within { result ≡ true → AreWithin maximum whole weights.now }
+    ensures beyond { result ≡ false → AreWithin maximum whole weights.now → ⊥ }
 {
     let mut left = whole;
     'weights: for place in 0..weights.len() {
@@ -391,7 +403,8 @@ fn split_into(weights: &[i32], high: &mut [i32], low: &mut [i32])
 fn are_carried(taps: usize, lows: &[i32]) -> bool
     requires taps { taps ≤ 256 }
     requires count { length lows.now ≤ 256 }
-    ensures { result ≡ true → AreCarried taps lows.now }
+    ensures carried { result ≡ true → AreCarried taps lows.now }
+    ensures beyond { result ≡ false → AreCarried taps lows.now → ⊥ }
 {
     'places: for place in 0..lows.len() {
         let end = lows.len().min(place + taps);
@@ -402,11 +415,12 @@ fn are_carried(taps: usize, lows: &[i32]) -> bool
     true
 }
 
-/// After how many pairs low sums are carried at the latest. 0 where one pair is too many.
+/// After how many pairs low sums are carried at the latest, 128 at most. 0 where one pair is too many.
 fn max_interval(lows: &[i32]) -> usize
     requires { length lows.now ≤ 256 }
     ensures carried { AreCarried (2 * result) lows.now }
     ensures bound { result ≤ 128 }
+    ensures maximal { result < 128 → AreCarried (2 * (result + 1)) lows.now → ⊥ }
 {
     'intervals: for shorter in 0..128 {
         if !are_carried(2 * (shorter + 1), lows) {
@@ -454,10 +468,12 @@ fn copied(alloc: Global, weights: &[i32]) -> Result<Vec<i32>, AllocError>
 }
 
 impl Pairs {
-    /// Weights, prepared. None where there are more than 256, where they are too large, and where there are few in two parts;
-    /// `AllocError` where memory is refused.
+    /// Weights, prepared. None where there are more than 256, where they are too large, and where there are few in two parts,
+    /// and only there; `AllocError` where memory is refused.
     pub fn of(alloc: Global, weights: &[i32]) -> Result<Option<Pairs>, AllocError>
-        ensures { IfOk result (λ s. IfSome s (λ v. v ≡ weights.now)) }
+        ensures value { IfOk result (λ s. IfSome s (λ v. v ≡ weights.now)) }
+        ensures some { IfOk result (λ s. IfSome s (λ _. ArePaired weights.now)) }
+        ensures none { IfOk result (λ s. IfNone s (ArePaired weights.now → ⊥)) }
     {
         if weights.len() > MAX_WEIGHTS {
             return Ok(None);
@@ -477,7 +493,9 @@ impl Pairs {
     /// As `of`, in two parts. None where one product after another is no slower.
     fn of_parts(alloc: Global, weights: &[i32]) -> Result<Option<Pairs>, AllocError>
         requires { length weights.now ≤ 256 }
-        ensures { IfOk result (λ s. IfSome s (λ v. v ≡ weights.now)) }
+        ensures value { IfOk result (λ s. IfSome s (λ v. v ≡ weights.now)) }
+        ensures some { IfOk result (λ s. IfSome s (λ _. ArePairedInParts weights.now)) }
+        ensures none { IfOk result (λ s. IfNone s (ArePairedInParts weights.now → ⊥)) }
     {
         if weights.len() < MIN_OF_PARTS || !are_within(weights, 536_854_528, 1_073_676_288) {
             return Ok(None);
@@ -487,10 +505,8 @@ impl Pairs {
         let mut low = Vec::new(alloc);
         low.resize(weights.len(), 0)?;
         split_into(weights, &mut high, &mut low);
+        // At least one pair can go before a carry: each low part is at most 2^13.
         let interval = max_interval(&low);
-        if interval == 0 {
-            return Ok(None);
-        }
         let table = table_of(alloc, &high)?;
         let low = table_of(alloc, &low)?;
         let weights = copied(alloc, weights)?;
@@ -525,6 +541,7 @@ impl Pairs {
     fn convolve_piece(&self, window: &[i32], sums: &mut [i64]) -> bool
         requires window { length self.now + length sums.old ≤ length window.now + 1 }
         requires count { length sums.old ≤ 256 }
+        ensures exact { result ≡ true ↔ AreHalves (length self.now + length sums.old) window.now }
         ensures sums { result ≡ true → (i : ℕ) → i < length sums.new → slice_index_or sums.new i (pos 0) ≡ sum_of_products (drop i window.now) self.now }
         ensures bound { result ≡ true → (i : ℕ) → i < length sums.new → unsigned_abs (slice_index_or sums.new i (pos 0)) ≤ 2 ^ 61 }
     {
@@ -546,9 +563,11 @@ impl Pairs {
     }
 
     /// Writes the sums of the weights times as many samples of the window, from each of its places on, where all of these
-    /// samples are multiples of 65,536. False where they are not: the sums are any then.
+    /// samples, and the next one if there is one, are multiples of 65,536. False where they are not: the sums are any then.
     pub fn convolve(&self, window: &[i32], sums: &mut [i64]) -> bool
         requires window { length self.now + length sums.old ≤ length window.now + 1 }
+        ensures exact { 0 < length sums.old
+            → (result ≡ true ↔ AreHalves (length self.now + length sums.old) window.now) }
         ensures sums { result ≡ true → (i : ℕ) → i < length sums.new → slice_index_or sums.new i (pos 0) ≡ sum_of_products (drop i window.now) self.now }
         ensures bound { result ≡ true → (i : ℕ) → i < length sums.new → unsigned_abs (slice_index_or sums.new i (pos 0)) ≤ 2 ^ 61 }
     {

@@ -1,4 +1,4 @@
-use Rattle.std.proofs.Common.{◌≡◌, ◌+◌, ◌-◌, ◌≤◌, length, take, drop, ap, ◌∙◌, arith, refl}
+use Rattle.std.proofs.Common.{◌≡◌, ◌+◌, ◌-◌, ◌≤◌, length, take, drop, ap, ◌∙◌, arith, refl, Err}
 use Rattle.std.specs.Prelude.{Some}
 use Rattle.std.proofs.lemmas.List.{length-drop, length-take, drop-drop}
 use Rattle.fx_sound.proofs.Faults.{IfErr-passed}
@@ -78,7 +78,7 @@ returns-in_default-clause-stands g c = λ bytes known. stands-unread g.R.ByteIn.
 pub returns-then-got-lt20-clause-stands : goal.returns-then-got-lt20-clause-stands
 returns-then-got-lt20-clause-stands g c = λ bytes known.
     let first = c.in-Ok.ensures.known bytes known in
-    stands-taken g.R.ByteIn.reads.rest g.R.ByteIn.reads.delivered _ _ _ _ bytes _ c.in-Ok.got (omega arith) c.in-Ok.ensures.delivered (λ k lt. after_snd-cut bytes k (omega arith)) first.1 first.2 (after_snd-cut bytes c.in-Ok.got (omega arith))
+    stands-taken g.R.ByteIn.reads.rest g.R.ByteIn.reads.delivered _ _ _ _ bytes _ c.in-Ok.got (omega arith) c.in-Ok.ensures.delivered (λ k lt. after_snd-cut bytes k (omega arith)) first.1 first.2 (after_snd-cut bytes c.in-Ok.got (omega arith)) (λ _. let size = c.fill.auto.out in c.in-Ok.ensures.all (omega arith) bytes known)
 
 pub returns-in_err-fields-clause-stands : goal.returns-in_err-fields-clause-stands
 returns-in_err-fields-clause-stands g c = IfErr-passed c.from_residual.result _ _ c.from_residual.ensures.1 (λ bytes known.
@@ -87,7 +87,7 @@ returns-in_err-fields-clause-stands g c = IfErr-passed c.from_residual.result _ 
     let count = c.in-Ok.ensures.count in
     stands-taken g.R.ByteIn.reads.rest g.R.ByteIn.reads.delivered _ _ _ _ bytes _ c.in-Ok.got (omega arith) c.in-Ok.ensures.delivered (λ k lt. after_snd-cut bytes k (omega arith)) first.1 first.2
     (ap (λ n. after_snd (take n bytes)) (let same : c.in-Ok.got ≡ c.in-Ok.got + 0 = omega arith in same)
-    ∙ after_snd-read-cut bytes c.fill.new.out c.in-Ok.got 0 _ first.0 first.1 (omega arith) (omega arith) (omega arith) c.in_err-fields.ensures.value))
+    ∙ after_snd-read-cut bytes c.fill.new.out c.in-Ok.got 0 _ first.0 first.1 (omega arith) (omega arith) (omega arith) c.in_err-fields.ensures.value) (λ cut. absurd (c.in_err-fields.ensures.enough (ap Err cut))))
 
 pub returns-in_default-skip-clause-stands : goal.returns-in_default-skip-clause-stands
 returns-in_default-skip-clause-stands g c = λ bytes known.
@@ -113,3 +113,4 @@ returns-then-skipped-between-clause-stands g c = λ bytes known.
     (λ k lt. after_snd-early bytes c.fill.new.out c.in-Ok.got k c.in_ok-fields.fields first.0 first.1 (omega arith) (omega arith) (omega arith) c.in_ok-fields.ensures.value (omega (arith, lt, offset.0)))
     (omega (arith, then.0, first.1, length-drop c.in-Ok.got bytes)) (then.1 ∙ ap Some (drop-drop c.in-Ok-skip.skipped c.in-Ok.got bytes))
     (after_snd-early bytes c.fill.new.out c.in-Ok.got (c.in-Ok.got + c.in-Ok-skip.skipped) c.in_ok-fields.fields first.0 first.1 (omega arith) (omega arith) (omega arith) c.in_ok-fields.ensures.value (omega (arith, offset.0)))
+    (λ _. let all = c.in-Ok-skip.ensures.all (omega arith) _ first.2 in omega (arith, all, first.1, length-drop c.in-Ok.got bytes))

@@ -77,7 +77,7 @@ returns-in_default-clause-stands g c = λ bytes known. stands-unread g.R.ByteIn.
 pub returns-then-got-lt4-clause-stands : goal.returns-then-got-lt4-clause-stands
 returns-then-got-lt4-clause-stands g c = λ bytes known.
     let first = c.in-Ok.ensures.known bytes known in
-    stands-taken g.R.ByteIn.reads.rest g.R.ByteIn.reads.delivered _ _ _ _ bytes _ c.in-Ok.got (omega arith) c.in-Ok.ensures.delivered (λ k lt. head_of-cut c.args.expected bytes k (omega arith)) first.1 first.2 (head_of-cut c.args.expected bytes c.in-Ok.got (omega arith))
+    stands-taken g.R.ByteIn.reads.rest g.R.ByteIn.reads.delivered _ _ _ _ bytes _ c.in-Ok.got (omega arith) c.in-Ok.ensures.delivered (λ k lt. head_of-cut c.args.expected bytes k (omega arith)) first.1 first.2 (head_of-cut c.args.expected bytes c.in-Ok.got (omega arith)) (λ _. let size = c.fill.auto.out in c.in-Ok.ensures.all (omega arith) bytes known)
 
 pub returns-in_default-found-clause-stands : goal.returns-in_default-found-clause-stands
 returns-in_default-found-clause-stands g c = λ bytes known.
@@ -86,7 +86,7 @@ returns-in_default-found-clause-stands g c = λ bytes known.
     let count = c.in-Ok.ensures.count in
     stands-taken g.R.ByteIn.reads.rest g.R.ByteIn.reads.delivered _ _ _ _ bytes _ c.in-Ok.got (omega arith) c.in-Ok.ensures.delivered (λ k lt. head_of-cut c.args.expected bytes k (omega arith)) first.1 first.2
     (ap (λ n. head_of c.args.expected (take n bytes)) (let same : c.in-Ok.got ≡ c.in-Ok.got + 0 = omega arith in same)
-    ∙ head_of-read-cut c.args.expected bytes c.fill.new.out c.in-Ok.got 0 _ first.0 first.1 (omega arith) (omega arith) (omega arith) c.in_default-found.ensures)
+    ∙ head_of-read-cut c.args.expected bytes c.fill.new.out c.in-Ok.got 0 _ first.0 first.1 (omega arith) (omega arith) (omega arith) c.in_default-found.ensures) (λ cut. absurd (cc))
 
 pub returns-in_err-fields-clause-stands : goal.returns-in_err-fields-clause-stands
 returns-in_err-fields-clause-stands g c = IfErr-passed c.from_residual.result _ _ c.from_residual.ensures.1 (λ bytes known.

@@ -40,4 +40,4 @@ returns-then-skipped-length-clause-stands g c = λ bytes known.
     let then = c.in-Ok.ensures.bytes bytes known in
     stands-taken g.R.ByteIn.reads.rest g.R.ByteIn.reads.delivered _ _ c.args.source.now c.skip.new.self bytes _ c.in-Ok.skipped (omega (arith, near)) c.in-Ok.ensures.delivered
     (λ k lt. ap (λ m. with_body c.args.offset c.args.seen (take k bytes) (Ok m)) c.in-Other.is ∙ other-cut c.args.offset c.in-Other.size k c.args.seen bytes (omega (arith, lt)))
-    then.0 then.1 (ap (λ m. with_body c.args.offset c.args.seen (take c.in-Ok.skipped bytes) (Ok m)) c.in-Other.is ∙ other-cut c.args.offset c.in-Other.size c.in-Ok.skipped c.args.seen bytes (omega arith))
+    then.0 then.1 (ap (λ m. with_body c.args.offset c.args.seen (take c.in-Ok.skipped bytes) (Ok m)) c.in-Other.is ∙ other-cut c.args.offset c.in-Other.size c.in-Ok.skipped c.args.seen bytes (omega arith)) (λ _. c.in-Ok.ensures.all (omega arith) bytes known)

@@ -1,4 +1,4 @@
-use Rattle.std.proofs.Common.{◌≡◌, ◌+◌, ◌≤◌, length, drop, sym, ap, ◌∙◌, arith, refl}
+use Rattle.std.proofs.Common.{◌≡◌, ◌+◌, ◌≤◌, length, drop, sym, ap, ◌∙◌, arith, refl, Err}
 use Rattle.std.specs.Prelude.{Some}
 use Rattle.std.proofs.lemmas.List.{length-drop, drop-drop, length-take-le}
 use Rattle.fx_sound.specs.Wave.{padded_chunk}
@@ -73,7 +73,7 @@ pub returns-then-got-maximum-clause-stands : goal.returns-then-got-maximum-claus
 returns-then-got-maximum-clause-stands g c = λ bytes known.
     let len : length c.fill.new.out ≡ c.min-maximum.result = c.fill.auto.out ∙ length-take-le c.min-maximum.result _ (omega arith) in
     let first = c.in-Ok.ensures.known bytes known in
-    stands-taken g.R.ByteIn.reads.rest g.R.ByteIn.reads.delivered _ _ _ _ bytes _ c.in-Ok.got (omega arith) c.in-Ok.ensures.delivered (λ k lt. format_read-cut c.args.size k bytes (omega arith)) first.1 first.2 (format_read-cut c.args.size c.in-Ok.got bytes (omega arith))
+    stands-taken g.R.ByteIn.reads.rest g.R.ByteIn.reads.delivered _ _ _ _ bytes _ c.in-Ok.got (omega arith) c.in-Ok.ensures.delivered (λ k lt. format_read-cut c.args.size k bytes (omega arith)) first.1 first.2 (format_read-cut c.args.size c.in-Ok.got bytes (omega arith)) (λ _. c.in-Ok.ensures.all (omega (arith, len)) bytes known)
 
 pub returns-in_default-skip-clause-stands : goal.returns-in_default-skip-clause-stands
 returns-in_default-skip-clause-stands g c = λ bytes known.
@@ -92,6 +92,7 @@ returns-then-skipped-length-clause-stands g c = λ bytes known.
     (λ k lt. format_read-cut c.args.size k bytes (omega arith))
     (omega (arith, then.0, first.1, length-drop c.in-Ok.got bytes)) (then.1 ∙ ap Some (drop-drop c.in-Ok-skip.skipped c.in-Ok.got bytes))
     (format_read-cut c.args.size (c.in-Ok.got + c.in-Ok-skip.skipped) bytes (omega arith))
+    (λ _. let all = c.in-Ok-skip.ensures.all (omega arith) _ first.2 in omega (arith, all, first.1, length-drop c.in-Ok.got bytes))
 
 pub returns-clause-stands : goal.returns-clause-stands
 returns-clause-stands g c = IfErr-at c.format.result _ (λ fault is bytes known.
@@ -106,4 +107,5 @@ returns-clause-stands g c = IfErr-at c.format.result _ (λ fault is bytes known.
     (Takes-both g.R.ByteIn.reads.delivered _ _ c.skip.new.self c.in-Ok.got c.in-Ok-skip.skipped _ all c.in-Ok.ensures.delivered c.in-Ok-skip.ensures.delivered)
     (λ k lt. format_read-cut c.args.size k bytes lt) there (then.1 ∙ ap Some (drop-drop c.in-Ok-skip.skipped c.in-Ok.got bytes ∙ ap (λ i. drop i bytes) all))
     (format_read-local c.args.size (padded_chunk c.args.size) bytes (omega arith) there
-    ∙ format_read-whole c.args.size c.in-Ok.got bytes c.fill.new.out first.0 (omega arith) (omega arith) (omega arith) there ∙ sym c.format.ensures.value ∙ is))
+    ∙ format_read-whole c.args.size c.in-Ok.got bytes c.fill.new.out first.0 (omega arith) (omega arith) (omega arith) there ∙ sym c.format.ensures.value ∙ is)
+    (λ cut. absurd (c.format.ensures.enough (is ∙ ap Err cut))))

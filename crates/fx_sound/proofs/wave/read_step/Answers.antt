@@ -1,4 +1,4 @@
-use Rattle.std.proofs.Common.{◌≡◌, ◌+◌, ◌-◌, length, drop, ap, ◌∙◌, arith, take}
+use Rattle.std.proofs.Common.{◌≡◌, ◌+◌, ◌-◌, length, drop, ap, ◌∙◌, arith, take, Err}
 use Rattle.std.specs.Prelude.{Some}
 use Rattle.std.proofs.lemmas.List.{length-drop, drop-drop}
 use Rattle.std.proofs.lemmas.Result.{IfErr-weaker}
@@ -77,7 +77,7 @@ returns-in_default-clause-stands g c = λ bytes known. stands-unread g.R.ByteIn.
 pub returns-then-got-lt8-clause-stands : goal.returns-then-got-lt8-clause-stands
 returns-then-got-lt8-clause-stands g c = λ bytes known.
     let first = c.in-Ok.ensures.known bytes known in
-    stands-taken g.R.ByteIn.reads.rest g.R.ByteIn.reads.delivered _ _ _ _ bytes _ c.in-Ok.got (omega arith) c.in-Ok.ensures.delivered (λ k lt. step_of-cut c.args.offset c.args.seen bytes k (omega arith)) first.1 first.2 (step_of-cut c.args.offset c.args.seen bytes c.in-Ok.got (omega arith))
+    stands-taken g.R.ByteIn.reads.rest g.R.ByteIn.reads.delivered _ _ _ _ bytes _ c.in-Ok.got (omega arith) c.in-Ok.ensures.delivered (λ k lt. step_of-cut c.args.offset c.args.seen bytes k (omega arith)) first.1 first.2 (step_of-cut c.args.offset c.args.seen bytes c.in-Ok.got (omega arith)) (λ _. let size = c.fill.auto.out in c.in-Ok.ensures.all (omega arith) bytes known)
 
 pub returns-in_err-demand-clause-stands : goal.returns-in_err-demand-clause-stands
 returns-in_err-demand-clause-stands g c = IfErr-passed c.from_residual.result _ _ c.from_residual.ensures.1 (λ bytes known.
@@ -87,7 +87,7 @@ returns-in_err-demand-clause-stands g c = IfErr-passed c.from_residual.result _ 
     stands-taken g.R.ByteIn.reads.rest g.R.ByteIn.reads.delivered _ _ _ _ bytes _ c.in-Ok.got (omega arith) c.in-Ok.ensures.delivered (λ k lt. step_of-cut c.args.offset c.args.seen bytes k (omega arith)) first.1 first.2
     (ap (λ n. step_of c.args.offset c.args.seen (take n bytes)) (let same : c.in-Ok.got ≡ c.in-Ok.got + 0 = omega arith in same)
     ∙ step_of-asked-cut c.args.offset c.args.seen bytes c.fill.new.out c.name_at-name.result c.in-Ok.got c.long-size.result 0 _
-    first.0 first.1 (omega arith) (omega arith) (omega arith) c.name_at-name.ensures c.long-size.ensures c.in_err-demand.ensures.value))
+    first.0 first.1 (omega arith) (omega arith) (omega arith) c.name_at-name.ensures c.long-size.ensures c.in_err-demand.ensures.value) (λ cut. absurd (c.in_err-demand.ensures.enough (ap Err cut))))
 
 pub returns-clause-stands : goal.returns-clause-stands
 returns-clause-stands g c = IfErr-weaker c.read_body.result _ _ (λ fault stands bytes known.

@@ -72,7 +72,7 @@ returns-in_default-clause-stands g c = λ bytes known. stands-unread g.R.ByteIn.
 pub returns-then-got-lt8-clause-stands : goal.returns-then-got-lt8-clause-stands
 returns-then-got-lt8-clause-stands g c = λ bytes known.
     let first = c.in-Ok.ensures.known bytes known in
-    stands-taken g.R.ByteIn.reads.rest g.R.ByteIn.reads.delivered _ _ _ _ bytes _ c.in-Ok.got (omega arith) c.in-Ok.ensures.delivered (λ k lt. riff-cut bytes k (omega arith)) first.1 first.2 (riff-cut bytes c.in-Ok.got (omega arith))
+    stands-taken g.R.ByteIn.reads.rest g.R.ByteIn.reads.delivered _ _ _ _ bytes _ c.in-Ok.got (omega arith) c.in-Ok.ensures.delivered (λ k lt. riff-cut bytes k (omega arith)) first.1 first.2 (riff-cut bytes c.in-Ok.got (omega arith)) (λ _. let size = c.fill.auto.out in c.in-Ok.ensures.all (omega arith) bytes known)
 
 pub returns-then-ne-clause-stands : goal.returns-then-ne-clause-stands
 returns-then-ne-clause-stands g c = λ bytes known.
@@ -80,7 +80,7 @@ returns-then-ne-clause-stands g c = λ bytes known.
     let first = c.in-Ok.ensures.known bytes known in
     let count = c.in-Ok.ensures.count in
     stands-taken g.R.ByteIn.reads.rest g.R.ByteIn.reads.delivered _ _ _ _ bytes _ c.in-Ok.got (omega arith) c.in-Ok.ensures.delivered (λ k lt. riff-cut bytes k (omega arith)) first.1 first.2
-    (riff-unknown (take c.in-Ok.got bytes) c.fill.new.out c.name_at-name.result c.in-Ok.got (first.0 ∙ sym (take-take c.in-Ok.got c.in-Ok.got bytes (omega arith))) (omega (arith, first.1, length-take c.in-Ok.got bytes)) (omega arith) (omega arith) (omega arith) (c.name_at-name.ensures ∙ take-take 4 4 (drop 4 c.fill.new.out) (omega arith)) c.if-ne.ensures)
+    (riff-unknown (take c.in-Ok.got bytes) c.fill.new.out c.name_at-name.result c.in-Ok.got (first.0 ∙ sym (take-take c.in-Ok.got c.in-Ok.got bytes (omega arith))) (omega (arith, first.1, length-take c.in-Ok.got bytes)) (omega arith) (omega arith) (omega arith) (c.name_at-name.ensures ∙ take-take 4 4 (drop 4 c.fill.new.out) (omega arith)) c.if-ne.ensures) (λ cut. absurd (cc))
 
 pub returns-clause-stands : goal.returns-clause-stands
 returns-clause-stands g c = IfErr-weaker c.read_chunks.result _ _ (λ fault stands bytes known.

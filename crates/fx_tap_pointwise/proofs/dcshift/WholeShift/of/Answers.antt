@@ -1,5 +1,4 @@
-use Rattle.std.proofs.Common.{rules, ◌≡◌, ◌∙◌, ◌≤ℤ◌, ◌<ℤ◌, ◌-ℤ◌, ℤ, pos, neg_ℤ, ap, arith, to_z, of_z, w32, w64, FitsSigned, sym, false}
-use Rattle.std.specs.Int.{int_max, int_min}
+use Rattle.std.proofs.Common.{rules, ◌≡◌, ◌∙◌, ap, arith, to_z, of_z, w32, w64, FitsSigned}
 use Rattle.std.proofs.lemmas.Int.{ints, to_z-of_z}
 use Rattle.std.proofs.lemmas.Grind.{common_steps}
 use Rattle.fx_tap_pointwise.proofs.dcshift.WholeShift.of.Goals as goal
@@ -14,4 +13,4 @@ invariant_of-result c =
     let fits : FitsSigned w32 c.args.steps = grind (arith, ints, common_steps) in
     let narrow : to_z w32 (of_z w32 c.args.steps) ≡ c.args.steps = search (rules, to_z-of_z) in
     let all : to_z w32 (of_z w32 (to_z w64 (of_z w64 c.args.steps))) ≡ c.args.steps = ap (λ z. to_z w32 (of_z w32 z)) wide ∙ narrow in
-    (all ∙ c.requires.steps, sym c.requires.half ∙ c.if-is_half.false, grind (arith, ints, common_steps), grind (arith, ints, common_steps))
+    (all ∙ c.requires, grind (arith, ints, common_steps), grind (arith, ints, common_steps))

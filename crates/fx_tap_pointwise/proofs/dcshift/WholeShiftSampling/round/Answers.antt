@@ -1,25 +1,23 @@
-use Rattle.std.proofs.Common.{rules, ◌≡◌, ◌∙◌, ◌<◌, ◌-◌, ◌^◌, ◌≤ℤ◌, ◌<ℤ◌, ◌-ℤ◌, ◌+ℤ◌, ◌*ℤ◌, ℤ, pos, neg_ℤ, ap, arith, to_z, of_z, w32, w64, FitsSigned, sym, refl, not}
+use Rattle.std.proofs.Common.{rules, ◌≡◌, ◌∙◌, ◌-◌, ◌^◌, ◌-ℤ◌, ◌+ℤ◌, ◌*ℤ◌, ℤ, pos, neg_ℤ, ap, to_z, of_z, w32, FitsSigned, refl, not}
 use Rattle.std.specs.Int.{int_max, int_min, saturate_signed}
 use Rattle.std.proofs.lemmas.Int.{to_z-of_z}
 use Rattle.fx_fixed.specs.Rounding.{clipping, is_sample, nearest}
 use Rattle.fx_fixed.specs.declared.gains.TheConstants.{UNIT}
 use Rattle.fx_tap_pointwise.specs.DcShift.{units_of}
-use Rattle.fx_tap_pointwise.specs.DcShiftState.{raised, leaves_half, steps_of}
 use Rattle.fx_tap_pointwise.proofs.Limiting.{limited-fits, limited-sum, limited-test}
-use Rattle.fx_tap_pointwise.proofs.Shifting.{raised-steps}
+use Rattle.fx_tap_pointwise.proofs.Shifting.{added-steps}
 use Rattle.fx_tap_pointwise.proofs.dcshift.WholeShiftSampling.round.Goals as goal
 
 pub returns : goal.returns
 returns c =
-    let some : 0 < UNIT = search rules in
     let inv = c.self.invariant in
     let shift : ℤ = c.self.inside.shift in
     let steps : ℤ = c.self.inside.steps in
     let near : c.args.sample +ℤ steps ≡ nearest ((c.args.sample *ℤ pos UNIT) +ℤ units_of shift) UNIT =
-    ap (λ b. raised b (c.args.sample +ℤ steps)) (sym inv.1) ∙ ap (λ z. raised (leaves_half UNIT (units_of shift)) (c.args.sample +ℤ z)) inv.0 ∙ raised-steps UNIT (units_of shift) c.args.sample some in
+    ap (λ z. c.args.sample +ℤ z) inv.0 ∙ added-steps shift c.args.sample in
     let limit = c.clamp-limited.ensures.value in
-    let minimum = inv.2 in
-    let maximum = inv.3 in
+    let minimum = inv.1 in
+    let maximum = inv.2 in
     let x : to_z w32 (of_z w32 c.args.sample) ≡ c.args.sample = search rules in
     let a : to_z w32 (of_z w32 c.self.inside.minimum) ≡ c.self.inside.minimum = search rules in
     let b : to_z w32 (of_z w32 c.self.inside.maximum) ≡ c.self.inside.maximum = search rules in

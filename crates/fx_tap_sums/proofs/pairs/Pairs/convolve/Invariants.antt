@@ -1,11 +1,13 @@
-use Rattle.std.proofs.Common.{◌≡◌, ◌<◌, ◌≤◌, ◌-◌, ◌^◌, ℕ, pos, drop, length, slice_index_or}
+use Rattle.std.proofs.Common.{◌≡◌, ◌<◌, ◌≤◌, ◌+◌, ◌-◌, ◌^◌, ℕ, pos, drop, length, slice_index_or}
 use Rattle.std.specs.Prelude.{unsigned_abs}
+use Rattle.fx_tap_sums.specs.Pairs.{AreHalves}
 use Rattle.fx_tap_sums.specs.Products.{sum_of_products}
 use Rattle.fx_tap_sums.proofs.pairs.Pairs.convolve.Given as goal
 
 abbrev pub invariant-pieces : goal.invariant-pieces
 invariant-pieces l = record {
   place : l.at ≤ length l.sums;
+  exact : 0 < l.at → AreHalves (length l.self + l.at) l.window;
   done : (i : ℕ) → i < l.at → slice_index_or l.sums i (pos 0) ≡ sum_of_products (drop i l.window) l.self;
   bound : (i : ℕ) → i < l.at → unsigned_abs (slice_index_or l.sums i (pos 0)) ≤ 2 ^ 61;
 }
