@@ -1,10 +1,13 @@
 -- What a plan says of its effects holds of its chain.
-use Rattle.std.proofs.Common.{◌≡◌, ℕ, suc, ◌+◌, ◌*◌, ◌^◌, ◌≤◌, List, [], ◌∷◌, length, map, true, false, refl, sym, ap, ◌∙◌, arith}
+use Rattle.std.proofs.Common.{◌≡◌, ℕ, suc, ◌+◌, ◌*◌, ◌^◌, ◌≤◌, List, [], ◌∷◌, length, map, true, false, refl, subst, sym, ap, ◌∙◌, arith}
+use Rattle.std.proofs.lemmas.Bool.{and_parts}
+use Rattle.std.proofs.lemmas.List.Elements.{All-head, All-tail}
 use Rattle.std.specs.List.{All}
 use Rattle.fx_chain.specs.Chain.{ChainParts, IsChain}
 use Rattle.fx_chain_flow.specs.Parts.{max_of, work}
 use Rattle.fx_chain_flow.specs.Sound.{IsPlanned}
 use Rattle.fx_frame_base.specs.Holds.{hold_sum, kinds, line_sum, recipes, total}
+use Rattle.fx_frame_base.specs.Pipeline.{outputs_of}
 use Rattle.fx_frame_base.specs.Stage.{StageKind}
 use Rattle.fx_plan_effects.specs.Bounds.{hold_all, is_too_long, work_of}
 use Rattle.fx_plan_effects.specs.Effects.{Act, Usable, channels_after}
@@ -12,8 +15,8 @@ use Rattle.fx_plan_effects.specs.Meanings.{kind_at, line_of_act}
 use Rattle.fx_plan_effects.proofs.Lasting.{work-bound}
 use Rattle.fx_chain_stages.specs.declared.registry.EffectStage.{EffectStage}
 use Rattle.fx_chain_stages.specs.Stages.{effect_acts}
-use Rattle.fx_chain_stages.specs.Made.{all_suit, recipes_for}
-use Rattle.fx_chain_stages.proofs.Planned.{hold-for, kinds_for, line-is, matching-for, maximum-for, within-for, work-for}
+use Rattle.fx_chain_stages.specs.Made.{all_suit, recipes_for, suits}
+use Rattle.fx_chain_stages.proofs.Planned.{hold-for, kinds_for, line-is, matching-for, maximum-for, planned, within-for, work-for}
 
 -- the kinds of stages that were made for effects
 pub kinds-made : (stages : List EffectStage) (channels : ℕ) (acts : List Act) → recipes effect_acts stages ≡ recipes_for channels acts → kinds effect_acts stages ≡ kinds_for channels acts
@@ -61,3 +64,18 @@ planned-is stages channels acts made usable suit bound hold short =
       work = omega (arith, work, work_max, bound);
       hold = omega (arith, held, hold);
     })
+
+outputs-each : (channels : ℕ) (acts : List Act) → All Usable acts → all_suit channels acts ≡ true → 1 ≤ channels → channels ≤ 16
+    → (1 ≤ outputs_of channels (kinds_for channels acts)) × (outputs_of channels (kinds_for channels acts) ≤ 16)
+outputs-each channels [] usable suit some bound = (some, bound)
+outputs-each channels (a ∷ acts) usable suit some bound =
+    let parts = and_parts (suits channels a) (all_suit (channels_after channels a) acts) suit in
+    let p = planned channels a in
+    let here : Usable a = All-head Usable a acts usable in
+    let Range : ℕ → Type 0 = λ n. (1 ≤ outputs_of n (kinds_for (channels_after channels a) acts)) × (outputs_of n (kinds_for (channels_after channels a) acts) ≤ 16) in
+    subst Range (sym (p.outputs parts.0)) (outputs-each (channels_after channels a) acts (All-tail Usable a acts usable) parts.1 (p.some here some) (p.bound here bound))
+
+-- what a chain gives has 1 to 16 channels
+pub outputs-range : (c : ChainParts) → IsChain c → All Usable c.plan.acts → all_suit c.plan.head.channels c.plan.acts ≡ true → 1 ≤ c.plan.head.channels → c.plan.head.channels ≤ 16
+    → (1 ≤ outputs_of c.plan.head.channels (kinds effect_acts c.flow.stages)) × (outputs_of c.plan.head.channels (kinds effect_acts c.flow.stages) ≤ 16)
+outputs-range c h usable suit some bound = rw (kinds-made c.flow.stages c.plan.head.channels c.plan.acts h.made) (outputs-each c.plan.head.channels c.plan.acts usable suit some bound)

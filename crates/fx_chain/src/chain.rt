@@ -1,7 +1,7 @@
 //! The chain of a plan's effects.
 ghost use Rattle.std.specs.Prelude.{◌≡◌, ◌<◌, ◌≤◌, ◌+◌, ◌-◌, ◌*◌, ℕ, false, drop, IfOk, List, Some, [], length, map, option_to_list, slice_index, true};
 ghost use Rattle.fx_chain.specs.Chain.{IsNewChain};
-ghost use Rattle.fx_chain_flow.specs.Feed.{FlowFed, FlowTookWithinSpace, GaveLast};
+ghost use Rattle.fx_chain_flow.specs.Feed.{FlowFed, FlowGave, FlowTookWithinSpace, GaveLast};
 ghost use Rattle.fx_frame_base.specs.Pipeline.{outputs_of};
 ghost use Rattle.fx_frame_base.specs.Lists.{pieces};
 ghost use Rattle.fx_chain_flow.specs.Parts.{AllNew, Parts, any_spent, given_by, moves_of, taken_of};
@@ -113,6 +113,7 @@ impl Chain {
         requires channels { (1 ≤ self.old.plan.head.channels) × (self.old.plan.head.channels ≤ 16) }
         requires bound { (n : ℕ) → n * self.old.plan.head.channels ≤ length input.now → taken_of self.old.flow + n ≤ max_frames }
         ensures fed { FlowFed effect_acts self.old.flow (pieces self.old.plan.head.channels result.taken input.now) (pieces (outputs_of self.old.plan.head.channels (kinds effect_acts self.old.flow.stages)) result.given output.new) self.new.flow }
+        ensures gave { FlowGave effect_acts self.old.flow (pieces self.old.plan.head.channels result.taken input.now) (pieces (outputs_of self.old.plan.head.channels (kinds effect_acts self.old.flow.stages)) result.given output.new) self.new.flow }
         ensures read { result.taken * self.old.plan.head.channels ≤ length input.now }
         ensures written { result.given * outputs_of self.old.plan.head.channels (kinds effect_acts self.old.flow.stages) ≤ length output.new }
         ensures rest_unchanged { drop (result.given * outputs_of self.old.plan.head.channels (kinds effect_acts self.old.flow.stages)) output.new ≡ drop (result.given * outputs_of self.old.plan.head.channels (kinds effect_acts self.old.flow.stages)) output.old }
@@ -126,6 +127,16 @@ impl Chain {
         ensures plan { self.new.plan ≡ self.old.plan }
     {
         self.flow.feed(input, output)
+    }
+
+    /// Samples per frame that it gives.
+    pub fn outputs(&self) -> usize
+        ensures value { result ≡ outputs_of self.now.plan.head.channels (kinds effect_acts self.now.flow.stages) }
+        ensures range { (1 ≤ result) × (result ≤ 16) }
+    {
+        let _head = self.plan.head();
+        let _effects = self.plan.effects();
+        self.flow.out_channels()
     }
 
     /// How many frames it took.

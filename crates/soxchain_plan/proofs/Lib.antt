@@ -4,8 +4,6 @@ pub mod Kept
 pub mod Lateness
 pub mod Made
 pub mod Naming
-pub mod Padded
 pub mod Refusing
-pub mod Registered
 pub mod ShownLemmas
 pub mod Writing

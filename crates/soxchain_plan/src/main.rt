@@ -23,7 +23,6 @@ mod options;
 mod outline;
 mod quoting;
 mod reading;
-mod registry;
 mod showing;
 mod stop;
 mod style;

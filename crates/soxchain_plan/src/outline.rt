@@ -15,10 +15,10 @@ ghost use Rattle.soxchain_plan.specs.Shown.{beyond_json, beyond_line, effect_jso
 
 use crate::lengths::{bytes_held, in_milliseconds, lateness, rate_after};
 use crate::quoting::{bits_of, name_of_kind};
-use crate::registry::frames_after;
 use crate::style::Style;
 use fx_plan::Plan;
 use fx_plan_effects::Effect;
+use fx_plan_lengths::frames_after;
 use fx_sound::{Head, Kind};
 use std::alloc::{AllocError, Global};
 use std::io;

@@ -27,7 +27,7 @@ pub struct Stored {
 }
 
 /// Words as bytes.
-fn to_bytes(alloc: Global, words: &[u64]) -> Result<Vec<u8>, AllocError>
+pub fn to_bytes(alloc: Global, words: &[u64]) -> Result<Vec<u8>, AllocError>
     ensures bytes { IfOk result (λ bytes. bytes.items ≡ flat_map word words.now) }
     ensures words { OnOk result (All IsWord words.now) }
 {
@@ -43,7 +43,7 @@ fn to_bytes(alloc: Global, words: &[u64]) -> Result<Vec<u8>, AllocError>
 }
 
 /// The words that are these bytes; None where the bytes are no whole words.
-fn to_words(alloc: Global, bytes: &[u8]) -> Result<Option<Vec<u64>>, AllocError>
+pub fn to_words(alloc: Global, bytes: &[u8]) -> Result<Option<Vec<u64>>, AllocError>
     ensures some { IfOk result (λ found. IfSome found (λ words. flat_map word words.items ≡ bytes.now)) }
     ensures words { IfOk result (λ found. IfSome found (λ words. All IsWord words.items)) }
     ensures back { IfOk result (λ found. (words : List ℕ) → All IsWord words → flat_map word words ≡ bytes.now → MatchOption found ⊥ (λ w. w.items ≡ words)) }

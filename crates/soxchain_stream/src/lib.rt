@@ -2,6 +2,7 @@
 #![tactic(auto)]
 
 mod frozen;
+pub mod inner;
 pub mod stream;
 
 pub use stream::{FeedFault, Stream, Waits};

@@ -1,7 +1,7 @@
 -- Position by position, the frames up to the next one are counted, where they are kept.
 use Rattle.std.proofs.Common.{◌≡◌, ◌+◌, max, min, refl, ap, ◌∙◌, arith}
 use Rattle.fx_cut.proofs.TrimCount.{whole-more, whole-over}
-use Rattle.soxchain_plan.proofs.lengths.kept.Goals as goal
+use Rattle.fx_plan_lengths.proofs.lengths.kept.Goals as goal
 
 pub returns : goal.returns
 returns c =

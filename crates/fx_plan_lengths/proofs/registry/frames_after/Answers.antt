@@ -2,8 +2,8 @@
 -- How many frames the effect of each variant makes.
 use Rattle.std.proofs.Common.{◌≡◌, ◌-◌, length, arith}
 use Rattle.fx_plan_effects.specs.Effects.{act}
-use Rattle.soxchain_plan.proofs.Made.{rest_unchanged}
-use Rattle.soxchain_plan.proofs.registry.frames_after.Goals as goal
+use Rattle.fx_plan_lengths.proofs.Made.{rest_unchanged}
+use Rattle.fx_plan_lengths.proofs.registry.frames_after.Goals as goal
 use Rattle.fx_cut.specs.TrimState.{kept_count}
 use Rattle.fx_tap_delays.proofs.MaxDelay.{largest-filled}
 

@@ -1,6 +1,6 @@
 use Rattle.std.proofs.Common.{◌≡◌, ◌≤◌, ◌+◌, drop, false}
 use Rattle.fx_cut.proofs.TrimCount.{kept_from}
-use Rattle.soxchain_plan.proofs.lengths.kept.Given as goal
+use Rattle.fx_plan_lengths.proofs.lengths.kept.Given as goal
 
 abbrev pub invariant-loop-position : goal.invariant-loop-position
 invariant-loop-position l = record {

@@ -20,7 +20,7 @@ use Rattle.fx_cut.specs.FadeExtents.{effective}
 use Rattle.fx_cut.specs.Fade.{stop_in, until}
 use Rattle.fx_fixed.specs.Positions.{places_of}
 use Rattle.fx_fixed.specs.Extents.{largest}
-use Rattle.soxchain_plan.proofs.Padded.{padded-length}
+use Rattle.fx_plan_lengths.proofs.Padded.{padded-length}
 use Rattle.fx_tap_delays.specs.Delay.{every_delay}
 use Rattle.fx_tap_delays.proofs.MaxDelay.{largest-filled}
 use Rattle.fx_tap_delays.specs.DelayExtents.{tap_delay, sum_of_delays}
