@@ -1,5 +1,6 @@
 -- What a crash leaves at the end of a job, and how the parts of a run join.
-use Rattle.std.proofs.Common.{◌≡◌, ◌⊎◌, inl, inr, ⊎_elim, ℕ, ◌<◌, ◌^◌, List, [], ◌++◌, Option, Some, None, length, sym, ◌∙◌, ap, subst, arith}
+use Rattle.std.proofs.Common.{◌≡◌, ◌⊎◌, inl, inr, ⊎_elim, ℕ, ◌<◌, ◌^◌, List, [], ◌++◌, Option, Some, None, Vec, length, sym, ◌∙◌, ap, subst, arith}
+use Rattle.std.specs.declared.alloc.Global.{Global}
 use Rattle.std.proofs.lemmas.List.{drop_all}
 use Rattle.soxchain_job.specs.Checkpoint.{IsInProgress, IsComplete, in_progress_bytes, complete_bytes}
 use Rattle.soxchain_job.specs.declared.checkpoint.Checkpoint.{Checkpoint}
@@ -7,7 +8,7 @@ use Rattle.soxchain_job.specs.declared.checkpoint.Checkpoint.TheVariants as Chec
 use Rattle.soxchain_job.specs.declared.checkpoint.Progress.{Progress}
 use Rattle.soxchain_job.specs.Image.{Image, contents_of}
 use Rattle.soxchain_job.specs.Conversion.{ConversionModel}
-use Rattle.soxchain_job.specs.Job.{HasEnded, IsConsistent, IsGrowing, IsLive, IsReady, IsRecoverable, IsSafe, Job, NoneOrConsistent, Saved, whole_output, target_of}
+use Rattle.soxchain_job.specs.Job.{HasEnded, IsConsistent, IsGrowing, IsLive, IsReady, IsRecoverable, IsSafe, Job, NoneOrConsistent, Saved, whole_output}
 use Rattle.soxchain_job.proofs.Growing.{known}
 
 module _ {C : Type 0} (conversions : ConversionModel C) (job : Job C) where
@@ -18,26 +19,27 @@ module _ {C : Type 0} (conversions : ConversionModel C) (job : Job C) where
       part_is ∙ ap (λ (l : List ℕ). Some (contents_of old.part ++ l)) (rest_is ∙ ap (conversions.remaining conversion) (sym (drop_all (length job.input) job.input (omega arith)))) ∙ ap (λ (l : List ℕ). Some l) (sym live.front)
 
   -- no checkpoint in progress is a complete one
-  not_complete : (part : List ℕ) → IsConsistent conversions job complete_bytes part → ⊥
-  not_complete part h = (let e = h.bytes in cc)
+  not_complete : (summary part : List ℕ) → IsConsistent conversions job (complete_bytes summary) part → ⊥
+  not_complete summary part h = (let e = h.bytes in cc)
 
   -- with a complete checkpoint, the output is complete
-  pub is_ready : (c : Image) → IsRecoverable conversions job c → c.checkpoint ≡ Some complete_bytes → IsReady (target_of conversions job) c
-  is_ready c (inl growing) e = absurd (not_complete (contents_of c.part) (known conversions job c.checkpoint complete_bytes (contents_of c.part) e growing.checkpoint))
-  is_ready c (inr ready) e = ready
+  pub is_ready : (summary : List ℕ) (c : Image) → IsRecoverable conversions job c → c.checkpoint ≡ Some (complete_bytes summary) → IsReady conversions job c
+  is_ready summary c (inl growing) e = absurd (not_complete summary (contents_of c.part) (known conversions job c.checkpoint (complete_bytes summary) (contents_of c.part) e growing.checkpoint))
+  is_ready summary c (inr ready) e = ready
 
   -- without a checkpoint, or with one in progress, the part grows
   pub growing_none : (c : Image) → IsRecoverable conversions job c → c.checkpoint ≡ None → IsGrowing conversions job c
   growing_none c (inl growing) e = growing
-  growing_none c (inr ready) e = (let was = ready.checkpoint in absurd (cc))
+  growing_none c (inr ready) e = (let was = ready.checkpoint.bytes in absurd (cc))
 
   pub growing_some : (taken written : ℕ) (frozen : List ℕ) (c : Image) → IsRecoverable conversions job c → c.checkpoint ≡ Some (in_progress_bytes taken written frozen) → IsGrowing conversions job c
   growing_some taken written frozen c (inl growing) e = growing
-  growing_some taken written frozen c (inr ready) e = (let was = ready.checkpoint in absurd (cc))
+  growing_some taken written frozen c (inr ready) e = (let was = ready.checkpoint.bytes in absurd (cc))
 
   -- the complete checkpoint, once the output is complete
-  pub marked_complete : (d c : Image) → IsGrowing conversions job d → d.part ≡ Some (whole_output conversions job) → Saved complete_bytes d c → IsRecoverable conversions job c
-  marked_complete d c growing part saved =
+  pub marked_complete : (conversion : C) (summary : List ℕ) → conversions.summarised conversion summary → (d c : Image) → IsGrowing conversions job d
+      → d.part ≡ Some (whole_output conversions job) → Saved (complete_bytes summary) d c → IsRecoverable conversions job c
+  marked_complete conversion summary summarised d c growing part saved =
       ⊎_elim
       (λ same. inl (record {
         out = ⊎_elim (λ old. inl (saved.out ∙ old)) (λ new. inr (saved.out ∙ new)) growing.out;
@@ -46,13 +48,13 @@ module _ {C : Type 0} (conversions : ConversionModel C) (job : Job C) where
       }))
       (λ new. inr (record {
         out = ⊎_elim (λ old. inl (saved.out ∙ old)) (λ now. inr (saved.out ∙ now)) growing.out;
-        checkpoint = new;
+        checkpoint = record { conversion = conversion; summary = summary; summarised = summarised; bytes = new };
         part = inl (saved.part ∙ part);
       }))
       saved.checkpoint
 
   -- once the checkpoint is removed
-  pub ended_safe : (c : Image) → IsReady (target_of conversions job) c ⊎ HasEnded (target_of conversions job) c → IsSafe conversions job c
+  pub ended_safe : (c : Image) → IsReady conversions job c ⊎ HasEnded conversions job c → IsSafe conversions job c
   ended_safe c (inl ready) = inl (inr ready)
   ended_safe c (inr ended) = inr ended
 
@@ -68,30 +70,36 @@ pub record ReadInProgress (bytes : List ℕ) (found : Option Checkpoint) : Type 
   pub is : bytes ≡ in_progress_bytes taken written frozen
   pub reads : IsInProgress taken written frozen found
 
+pub record ReadComplete (bytes : List ℕ) (found : Option Checkpoint) : Type 0 where
+  pub summary : List ℕ
+  pub is : bytes ≡ complete_bytes summary
+  pub reads : IsComplete summary found
+
 abbrev pub Decoded : List ℕ → Option Checkpoint → Type 0
-Decoded bytes found = ReadInProgress bytes found ⊎ ((bytes ≡ complete_bytes) × IsComplete found)
+Decoded bytes found = ReadInProgress bytes found ⊎ ReadComplete bytes found
 
 pub decoded : {C : Type 0} (conversions : ConversionModel C) (job : Job C) (bytes : List ℕ) (found : Option Checkpoint) (now : Image)
     → IsRecoverable conversions job now → now.checkpoint ≡ Some bytes
     → ((taken written : ℕ) (frozen : List ℕ) → taken < 2 ^ 64 → written < 2 ^ 64 → bytes ≡ in_progress_bytes taken written frozen → IsInProgress taken written frozen found)
-    → (bytes ≡ complete_bytes → IsComplete found) → Decoded bytes found
+    → ((summary : List ℕ) → bytes ≡ complete_bytes summary → IsComplete summary found) → Decoded bytes found
 decoded conversions job bytes found now (inl growing) checkpoint in_progress complete =
     let was = known conversions job now.checkpoint bytes (contents_of now.part) checkpoint growing.checkpoint in
     inl (record { taken = was.taken; written = was.written; frozen = was.frozen; is = was.bytes; reads = in_progress was.taken was.written was.frozen was.taken_fits was.written_fits was.bytes })
 decoded conversions job bytes found now (inr ready) checkpoint in_progress complete =
-    let is : bytes ≡ complete_bytes = (let e = ready.checkpoint in cc) in
-    inr (is, complete is)
+    let says = ready.checkpoint in
+    let is : bytes ≡ complete_bytes says.summary = (let e = says.bytes in cc) in
+    inr (record { summary = says.summary; is = is; reads = complete says.summary is })
 
 pub none_is : (bytes : List ℕ) → Decoded bytes None → ⊥
 none_is bytes (inl read) = read.reads
-none_is bytes (inr both) = both.1
+none_is bytes (inr read) = read.reads
 
-pub complete_is : (bytes : List ℕ) → Decoded bytes (Some Checkpoints.Complete) → bytes ≡ complete_bytes
+pub complete_is : (bytes : List ℕ) {v : Vec ℕ Global} → Decoded bytes (Some (Checkpoints.Complete v)) → bytes ≡ complete_bytes v.items
 complete_is bytes (inl read) = absurd read.reads
-complete_is bytes (inr both) = both.0
+complete_is bytes (inr read) = read.is ∙ ap complete_bytes (sym read.reads)
 
 pub in_progress_is : (bytes : List ℕ) (p : Progress) → Decoded bytes (Some (Checkpoints.InProgress p)) → bytes ≡ in_progress_bytes p.taken p.written p.frozen.items
 in_progress_is bytes p (inl read) =
     read.is ∙ ap (λ (n : ℕ). in_progress_bytes n read.written read.frozen) (sym read.reads.0) ∙ ap (λ (n : ℕ). in_progress_bytes p.taken n read.frozen) (sym read.reads.1)
     ∙ ap (λ (l : List ℕ). in_progress_bytes p.taken p.written l) (sym read.reads.2)
-in_progress_is bytes p (inr both) = absurd both.1
+in_progress_is bytes p (inr read) = absurd read.reads

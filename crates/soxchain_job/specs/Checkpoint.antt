@@ -1,5 +1,5 @@
 -- A checkpoint as bytes.
-use Rattle.std.specs.Prelude.{ℕ, ◌<◌, ◌≤◌, ◌+◌, ◌^◌, List, [], ◌∷◌, ◌++◌, ◌≡◌, Option, Some, None}
+use Rattle.std.specs.Prelude.{ℕ, ◌<◌, ◌≤◌, ◌+◌, ◌^◌, List, ◌∷◌, ◌++◌, ◌≡◌, Option, Some, None}
 use Rattle.std.specs.Int.{to_le_bytes, w64}
 use Rattle.soxchain_job.specs.declared.checkpoint.Checkpoint.{Checkpoint}
 use Rattle.soxchain_job.specs.declared.checkpoint.Checkpoint.TheVariants.{InProgress, Complete}
@@ -9,20 +9,20 @@ use Rattle.soxchain_job.specs.declared.grow.Offsets.{Offsets}
 abbrev pub in_progress_bytes : ℕ → ℕ → List ℕ → List ℕ
 in_progress_bytes taken written frozen = 0 ∷ to_le_bytes w64 taken ++ to_le_bytes w64 written ++ frozen
 
--- the output is complete
-abbrev pub complete_bytes : List ℕ
-complete_bytes = 1 ∷ []
+-- the output is complete, and this is recorded of it
+abbrev pub complete_bytes : List ℕ → List ℕ
+complete_bytes summary = 1 ∷ summary
 
 -- what was read is this checkpoint
 abbrev pub IsInProgress : ℕ → ℕ → List ℕ → Option Checkpoint → Type 0
 IsInProgress taken written frozen None = ⊥
-IsInProgress taken written frozen (Some Complete) = ⊥
+IsInProgress taken written frozen (Some (Complete summary)) = ⊥
 IsInProgress taken written frozen (Some (InProgress p)) = (p.taken ≡ taken) × (p.written ≡ written) × (p.frozen.items ≡ frozen)
 
-abbrev pub IsComplete : Option Checkpoint → Type 0
-IsComplete None = ⊥
-IsComplete (Some Complete) = Unit {0}
-IsComplete (Some (InProgress p)) = ⊥
+abbrev pub IsComplete : List ℕ → Option Checkpoint → Type 0
+IsComplete summary None = ⊥
+IsComplete summary (Some (Complete v)) = v.items ≡ summary
+IsComplete summary (Some (InProgress p)) = ⊥
 
 -- a run has so many bytes of the input taken, and of the output written
 abbrev pub IsAt : ℕ → ℕ → Option Offsets → Type 0

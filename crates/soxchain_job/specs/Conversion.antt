@@ -1,12 +1,17 @@
 -- What a conversion writes.
 use Rattle.std.specs.Prelude.{◌≡◌, ℕ, List, ◌++◌}
 
--- a conversion: all that it has still to write where these bytes are the rest of the input; the bytes that it may be frozen to;
--- what it was made from
+-- a conversion
 pub record ConversionModel (C : Type 0) : Type 1 where
+  -- all that it has still to write where these bytes are the rest of the input
   pub remaining : C → List ℕ → List ℕ
+  -- the bytes that it may be frozen to
   pub frozen_as : C → List ℕ → Type 0
-  pub plan : C → List ℕ
+  -- what it was made from
+  pub Plan : Type 0
+  pub plan : C → Plan
+  -- what may be recorded of it at its end
+  pub summarised : C → List ℕ → Type 0
 
 -- It took a piece and appended something to the output: this, and then what it has still to write, is what it had to write.
 pub record ConvertsPiece {C : Type 0} (remaining : C → List ℕ → List ℕ) (old new : C) (piece before after : List ℕ) : Type 0 where

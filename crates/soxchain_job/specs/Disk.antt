@@ -7,6 +7,8 @@ use Rattle.soxchain_job.specs.declared.disk.FileName.{FileName}
 
 -- A disk. A crash is one of the program alone, or of the whole machine.
 pub record DiskModel (D : Type 0) : Type 1 where
+  -- whether it is known what reads return and what a crash leaves: of a disk in memory it is, of the files of a system it is not
+  pub known : Type 0
   -- what a read returns, and what other programs see
   pub seen : D → Image
   -- what may be found after a crash at this moment

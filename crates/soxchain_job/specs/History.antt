@@ -22,6 +22,7 @@ WasBefore (f ∷ history) c = (c ≡ image_of f) ⊎ WasBefore history c
 -- a disk in memory does each call at once, so a crash leaves what is seen
 abbrev pub memory_model : DiskModel MemoryDisk
 memory_model = record {
+  known = Unit {0};
   seen = λ m. image_of m.files;
   may_leave = λ m c. c ≡ image_of m.files;
   moment = λ m. length m.history.items;

@@ -2,6 +2,8 @@
 use Rattle.std.specs.Prelude.{ℕ, ◌≡◌, ◌⊎◌, ◌≤◌, ◌<◌, ◌^◌, List, ◌++◌, Option, Some, None, length, take, drop}
 use Rattle.soxchain_job.specs.Checkpoint.{complete_bytes, in_progress_bytes}
 use Rattle.soxchain_job.specs.Conversion.{ConversionModel}
+use Rattle.soxchain_job.specs.Disk.{DiskModel, Durable}
+use Rattle.soxchain_job.specs.declared.disk.FileName.TheVariants.{Out}
 use Rattle.soxchain_job.specs.Image.{Image, contents_of}
 
 -- a job: a new conversion, the input, and the file that had the name of the output before the first run; each checkpoint that may
@@ -55,24 +57,31 @@ pub record IsGrowing {C : Type 0} (conversions : ConversionModel C) (job : Job C
   pub out : OldOrComplete (target_of conversions job) c.out
   pub checkpoint : NoneOrConsistent conversions job c.checkpoint (contents_of c.part)
 
--- the checkpoint says that the output is complete: it is the part, or has its own name already
-pub record IsReady (target : Target) (c : Image) : Type 0 where
-  pub out : OldOrComplete target c.out
-  pub checkpoint : c.checkpoint ≡ Some complete_bytes
-  pub part : (c.part ≡ Some target.output) ⊎ ((c.part ≡ None) × (c.out ≡ Some target.output))
+-- the checkpoint says that the output is complete, with what is recorded of a conversion
+pub record SaysComplete {C : Type 0} (conversions : ConversionModel C) (checkpoint : Option (List ℕ)) : Type 0 where
+  pub conversion : C
+  pub summary : List ℕ
+  pub summarised : conversions.summarised conversion summary
+  pub bytes : checkpoint ≡ Some (complete_bytes summary)
+
+-- the output is complete: it is the part, or has its own name already
+pub record IsReady {C : Type 0} (conversions : ConversionModel C) (job : Job C) (c : Image) : Type 0 where
+  pub out : OldOrComplete (target_of conversions job) c.out
+  pub checkpoint : SaysComplete conversions c.checkpoint
+  pub part : (c.part ≡ Some (whole_output conversions job)) ⊎ ((c.part ≡ None) × (c.out ≡ Some (whole_output conversions job)))
 
 -- the output has its name, and the checkpoint is removed
-pub record HasEnded (target : Target) (c : Image) : Type 0 where
-  pub out : c.out ≡ Some target.output
+pub record HasEnded {C : Type 0} (conversions : ConversionModel C) (job : Job C) (c : Image) : Type 0 where
+  pub out : c.out ≡ Some (whole_output conversions job)
   pub checkpoint : c.checkpoint ≡ None
 
 -- a run may continue from here
 abbrev pub IsRecoverable : {C : Type 0} → ConversionModel C → Job C → Image → Type 0
-IsRecoverable conversions job c = IsGrowing conversions job c ⊎ IsReady (target_of conversions job) c
+IsRecoverable conversions job c = IsGrowing conversions job c ⊎ IsReady conversions job c
 
 -- this may be found at any moment of a run
 abbrev pub IsSafe : {C : Type 0} → ConversionModel C → Job C → Image → Type 0
-IsSafe conversions job c = IsRecoverable conversions job c ⊎ HasEnded (target_of conversions job) c
+IsSafe conversions job c = IsRecoverable conversions job c ⊎ HasEnded conversions job c
 
 -- the conversion in memory agrees with the part that is seen
 pub record IsLive {C : Type 0} (conversions : ConversionModel C) (job : Job C) (conversion : C) (taken written : ℕ) (seen : Image) : Type 0 where
@@ -91,3 +100,9 @@ pub record Saved (bytes : List ℕ) (d c : Image) : Type 0 where
 -- ... of what might have been found before
 abbrev pub Saving : (Image → Type 0) → List ℕ → Image → Type 0
 Saving outcomes bytes c = (d : Image) × outcomes d × Saved bytes d c
+
+-- the output has its name, durably, and no checkpoint is seen
+pub record IsPublished {C D : Type 0} (conversions : ConversionModel C) (disks : DiskModel D) (job : Job C) (disk : D) : Type 0 where
+  pub out : (disks.seen disk).out ≡ Some (whole_output conversions job)
+  pub durable : Durable Out (disks.seen disk) (disks.may_leave disk)
+  pub removed : (disks.seen disk).checkpoint ≡ None

@@ -1,3 +1,4 @@
+pub mod Causes
 pub mod Checkpoint
 pub mod Conversion
 pub mod Disk
@@ -6,3 +7,5 @@ pub mod History
 pub mod Image
 pub mod Input
 pub mod Job
+pub mod Known
+pub mod Unknown

@@ -1,5 +1,5 @@
 //! A checkpoint as bytes: 0, how many bytes of the input were taken and of the output written, each as 8 bytes, little-endian, and
-//! the frozen conversion; or 1 alone, once the output is complete.
+//! the frozen conversion; or 1 and what is recorded of the conversion, once the output is complete.
 ghost use Rattle.std.specs.Prelude.{◌≡◌, ◌<◌, ◌^◌, ◌++◌, ℕ, List, IfOk};
 ghost use Rattle.std.specs.Int.{to_le_bytes, w64};
 ghost use Rattle.soxchain_job.specs.Checkpoint.{IsComplete, IsInProgress, complete_bytes, in_progress_bytes};
@@ -22,14 +22,14 @@ pub struct Progress {
 pub enum Checkpoint {
     /// The job continues from here.
     InProgress(Progress),
-    /// The output is complete.
-    Complete,
+    /// The output is complete, and this is recorded of it.
+    Complete(Vec<u8>),
 }
 
 /// The first byte of a checkpoint in progress.
 const IN_PROGRESS: u8 = 0;
 
-/// The only byte of a complete one.
+/// The first byte of a complete one.
 const COMPLETE: u8 = 1;
 
 /// The bytes of a checkpoint in progress.
@@ -44,14 +44,25 @@ pub fn encode(alloc: Global, taken: u64, written: u64, frozen: &[u8]) -> Result<
     Ok(bytes)
 }
 
+/// The bytes of the checkpoint of a complete output.
+pub fn encode_complete(alloc: Global, summary: &[u8]) -> Result<Vec<u8>, AllocError>
+    ensures { IfOk result (λ bytes. bytes.items ≡ complete_bytes summary.now) }
+{
+    let mut bytes = Vec::new(alloc);
+    bytes.push(COMPLETE)?;
+    bytes.extend_from_slice(summary)?;
+    Ok(bytes)
+}
+
 /// The checkpoint of these bytes; None where there is none.
 pub fn decode(alloc: Global, bytes: &[u8]) -> Result<Option<Checkpoint>, AllocError>
     ensures in_progress { IfOk result (λ found. (taken : ℕ) (written : ℕ) (frozen : List ℕ) → taken < 2 ^ 64 → written < 2 ^ 64
         → bytes.now ≡ in_progress_bytes taken written frozen → IsInProgress taken written frozen found) }
-    ensures complete { IfOk result (λ found. bytes.now ≡ complete_bytes → IsComplete found) }
+    ensures complete { IfOk result (λ found. (summary : List ℕ)
+        → bytes.now ≡ complete_bytes summary → IsComplete summary found) }
 {
     match bytes {
-        [COMPLETE] => Ok(Some(Checkpoint::Complete)),
+        [COMPLETE, summary @ ..] => Ok(Some(Checkpoint::Complete(summary.to_vec(alloc)?))),
         [IN_PROGRESS, rest @ ..] => decode_progress(alloc, rest),
         _ => Ok(None),
     }

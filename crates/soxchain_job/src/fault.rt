@@ -1,9 +1,9 @@
 //! Why a run ended without the output.
 ghost use Rattle.std.specs.Prelude.{◌≡◌};
-ghost use Rattle.soxchain_job.specs.Fault.{read_fault, resume_fault, run_fault};
+ghost use Rattle.soxchain_job.specs.Fault.{convert_fault, read_fault, resume_fault, run_fault};
 ghost use Rattle.soxchain_job.specs.declared.fault.Fault.TheVariants.{Memory};
 
-use crate::{DiskFault, InputFault, ThawFault};
+use crate::{ConversionFault, DiskFault, InputFault, ThawFault};
 use std::alloc::{AllocError, AllocFailed};
 use thiserror::Error;
 
@@ -19,6 +19,9 @@ pub enum Fault {
     /// The input could not be read.
     #[error("the input could not be read")]
     Input,
+    /// The bytes of the input are not those that were announced.
+    #[error("the input is not the one that was announced")]
+    InputChanged,
     /// The output would have 2^64 bytes or more.
     #[error("the output is too long")]
     TooLong,
@@ -61,6 +64,17 @@ impl From<InputFault> for Fault {
         match fault {
             InputFault::Memory => Fault::Memory,
             InputFault::Failed => Fault::Input,
+        }
+    }
+}
+
+impl From<ConversionFault> for Fault {
+    ghost from_gives = { λ d e. e ≡ convert_fault d };
+
+    fn from(fault: ConversionFault) -> Self {
+        match fault {
+            ConversionFault::Memory => Fault::Memory,
+            ConversionFault::InputChanged => Fault::InputChanged,
         }
     }
 }

@@ -1,7 +1,10 @@
 //! The part grows, and checkpoints are written.
-ghost use Rattle.std.specs.Prelude.{◌≡◌, ◌<◌, ◌≤◌, ◌+◌, ◌^◌, length, List, ℕ, Some, IfOk, IsErrOf, OnErr, OnOk};
+ghost use Rattle.std.specs.Prelude.{◌≡◌, ◌<◌, ◌≤◌, ◌+◌, ◌-◌, ◌^◌, length, List, ℕ, Some, IfOk, IsErrOf, OnErr, OnOk};
+ghost use Rattle.soxchain_job.specs.Causes.{CountsAllFaults, CountsDiskFaults};
 ghost use Rattle.soxchain_job.specs.Checkpoint.{in_progress_bytes};
 ghost use Rattle.soxchain_job.specs.Disk.{Durable, LeavesNow, LeavesOnly};
+ghost use Rattle.soxchain_job.specs.Input.{SameBytes};
+ghost use Rattle.soxchain_job.specs.Known.{BothKnown};
 ghost use Rattle.soxchain_job.specs.Job.{IsGrowing, IsLive, Job, whole_output};
 
 use crate::checkpoint::{Progress, encode};
@@ -16,15 +19,6 @@ pub struct Offsets {
     pub taken: u64,
     /// Bytes of the output that were written.
     pub written: u64,
-}
-
-/// How much is converted at a time, and how often a checkpoint is written.
-#[derive(Clone, Copy, Debug, PartialEq, Eq)]
-pub struct Pace {
-    /// Bytes of the input in a piece, not 0.
-    pub piece: usize,
-    /// Pieces between two checkpoints, not 0.
-    pub every: u64,
 }
 
 /// The piece that was read last, and what the conversion gave.
@@ -58,24 +52,25 @@ pub fn advance<C: Conversion, D: Disk, I: Input>(
     buffers: &mut Buffers,
 ) -> Result<(), Fault>
     ghost job: { Job C }
-    requires input { I.model.content input.old ≡ job.input }
-    requires size { offsets.old.taken + size ≤ length job.input }
-    requires safe { LeavesNow D.model disk.old (IsGrowing C.model job) }
-    requires live { IsLive C.model job conversion.old offsets.old.taken offsets.old.written (D.model.seen disk.old) }
-    ensures live { OnOk result
-        (IsLive C.model job conversion.new offsets.new.taken offsets.new.written (D.model.seen disk.new)) }
+    requires input { I.model.known → I.model.content input.old ≡ job.input }
+    requires size { offsets.old.taken + size ≤ I.model.size input.old }
+    requires safe { BothKnown D.model I.model → LeavesNow D.model disk.old (IsGrowing C.model job) }
+    requires live { BothKnown D.model I.model → IsLive C.model job
+        conversion.old offsets.old.taken offsets.old.written (D.model.seen disk.old) }
+    ensures live { BothKnown D.model I.model → OnOk result (IsLive C.model job
+        conversion.new offsets.new.taken offsets.new.written (D.model.seen disk.new)) }
     ensures taken { OnOk result (offsets.new.taken ≡ offsets.old.taken + size) }
-    ensures any_moment { LeavesOnly D.model disk.old disk.new (IsGrowing C.model job) }
+    ensures any_moment { BothKnown D.model I.model
+        → LeavesOnly D.model disk.old disk.new (IsGrowing C.model job) }
     ensures readable { IsErrOf result Fault.BadCheckpoint → ⊥ }
-    ensures faults { D.model.faults disk.old ≤ D.model.faults disk.new }
-    ensures failed { IsErrOf result Fault.Disk → D.model.faults disk.old < D.model.faults disk.new }
-    ensures too_long { IsErrOf result Fault.TooLong → 2 ^ 64 ≤ length (whole_output C.model job) }
-    ensures content { I.model.content input.new ≡ I.model.content input.old }
-    ensures failures { I.model.failures input.old ≤ I.model.failures input.new }
-    ensures unread { IsErrOf result Fault.Input → I.model.failures input.old < I.model.failures input.new }
+    ensures too_long { BothKnown D.model I.model
+        → IsErrOf result Fault.TooLong → 2 ^ 64 ≤ length (whole_output C.model job) }
+    ensures bytes { SameBytes I.model input.old input.new }
+    ensures cause { CountsAllFaults D.model I.model disk.old disk.new input.old input.new result }
     ensures reads { OnOk result (I.model.delivered input.new + offsets.old.taken
         ≡ I.model.delivered input.old + offsets.new.taken) }
-    ensures delivered { I.model.delivered input.new + offsets.old.taken ≤ I.model.delivered input.old + length job.input }
+    ensures delivered { I.model.delivered input.new
+        ≤ I.model.delivered input.old + (I.model.size input.old - offsets.old.taken) }
 {
     let _length = input.len();
     buffers.input.clear();
@@ -90,25 +85,26 @@ pub fn advance<C: Conversion, D: Disk, I: Input>(
 }
 
 /// Syncs the part, and then writes a checkpoint.
-pub fn write_checkpoint<C: Conversion, D: Disk>(
+pub fn write_checkpoint<C: Conversion, D: Disk, I: Input>(
     alloc: Global,
     disk: &mut D,
     conversion: &C,
     offsets: &Offsets,
 ) -> Result<(), Fault>
     ghost job: { Job C }
-    requires safe { LeavesNow D.model disk.old (IsGrowing C.model job) }
-    requires live { IsLive C.model job conversion.now offsets.now.taken offsets.now.written (D.model.seen disk.old) }
-    ensures live { OnOk result
-        (IsLive C.model job conversion.now offsets.now.taken offsets.now.written (D.model.seen disk.new)) }
-    ensures written { OnOk result ((frozen : List ℕ) × ((D.model.seen disk.new).checkpoint
+    requires safe { BothKnown D.model I.model → LeavesNow D.model disk.old (IsGrowing C.model job) }
+    requires live { BothKnown D.model I.model → IsLive C.model job
+        conversion.now offsets.now.taken offsets.now.written (D.model.seen disk.old) }
+    ensures live { BothKnown D.model I.model → OnOk result (IsLive C.model job
+        conversion.now offsets.now.taken offsets.now.written (D.model.seen disk.new)) }
+    ensures written { BothKnown D.model I.model
+        → OnOk result ((frozen : List ℕ) × ((D.model.seen disk.new).checkpoint
         ≡ Some (in_progress_bytes offsets.now.taken offsets.now.written frozen))) }
-    ensures any_moment { LeavesOnly D.model disk.old disk.new (IsGrowing C.model job) }
+    ensures any_moment { BothKnown D.model I.model
+        → LeavesOnly D.model disk.old disk.new (IsGrowing C.model job) }
     ensures readable { IsErrOf result Fault.BadCheckpoint → ⊥ }
-    ensures faults { D.model.faults disk.old ≤ D.model.faults disk.new }
-    ensures failed { IsErrOf result Fault.Disk → D.model.faults disk.old < D.model.faults disk.new }
-    ensures too_long { IsErrOf result Fault.TooLong → ⊥ }
-    ensures unread { IsErrOf result Fault.Input → ⊥ }
+    ensures cause { CountsDiskFaults D.model disk.old disk.new result }
+    ensures changed { IsErrOf result Fault.InputChanged → ⊥ }
 {
     let frozen = conversion.freeze(alloc)?;
     let bytes = encode(alloc, offsets.taken, offsets.written, &frozen)?;
@@ -118,22 +114,22 @@ pub fn write_checkpoint<C: Conversion, D: Disk>(
 }
 
 /// Begins a job: writes its first checkpoint, and then makes an empty part.
-pub fn begin<C: Conversion, D: Disk>(
+pub fn begin<C: Conversion, D: Disk, I: Input>(
     alloc: Global,
     disk: &mut D,
     conversion: &C,
 ) -> Result<Offsets, Fault>
     ghost job: { Job C }
     requires fresh { conversion.now ≡ job.start }
-    requires reached { job.reached ≡ 0 }
-    requires safe { LeavesNow D.model disk.old (IsGrowing C.model job) }
-    ensures live { IfOk result (λ o. IsLive C.model job conversion.now o.taken o.written (D.model.seen disk.new)) }
-    ensures any_moment { LeavesOnly D.model disk.old disk.new (IsGrowing C.model job) }
+    requires reached { BothKnown D.model I.model → job.reached ≡ 0 }
+    requires safe { BothKnown D.model I.model → LeavesNow D.model disk.old (IsGrowing C.model job) }
+    ensures live { BothKnown D.model I.model → IfOk result (λ o. IsLive C.model job
+        conversion.now o.taken o.written (D.model.seen disk.new)) }
+    ensures any_moment { BothKnown D.model I.model
+        → LeavesOnly D.model disk.old disk.new (IsGrowing C.model job) }
     ensures readable { IsErrOf result Fault.BadCheckpoint → ⊥ }
-    ensures faults { D.model.faults disk.old ≤ D.model.faults disk.new }
-    ensures failed { IsErrOf result Fault.Disk → D.model.faults disk.old < D.model.faults disk.new }
-    ensures too_long { IsErrOf result Fault.TooLong → ⊥ }
-    ensures unread { IsErrOf result Fault.Input → ⊥ }
+    ensures cause { CountsDiskFaults D.model disk.old disk.new result }
+    ensures changed { IsErrOf result Fault.InputChanged → ⊥ }
 {
     let frozen = conversion.freeze(alloc)?;
     let bytes = encode(alloc, 0, 0, &frozen)?;
@@ -146,7 +142,7 @@ pub fn begin<C: Conversion, D: Disk>(
 }
 
 /// Continues from a checkpoint: thaws its conversion, and truncates the part to the bytes that it counts.
-pub fn resume_from<C: Conversion, D: Disk>(
+pub fn resume_from<C: Conversion, D: Disk, I: Input>(
     alloc: Global,
     disk: &mut D,
     conversion: &mut C,
@@ -154,18 +150,19 @@ pub fn resume_from<C: Conversion, D: Disk>(
 ) -> Result<Offsets, Fault>
     ghost job: { Job C }
     requires fresh { conversion.old ≡ job.start }
-    requires says { (D.model.seen disk.old).checkpoint
+    requires says { BothKnown D.model I.model → (D.model.seen disk.old).checkpoint
         ≡ Some (in_progress_bytes progress.taken progress.written progress.frozen.items) }
-    requires durable { Durable FileName.Checkpoint (D.model.seen disk.old) (D.model.may_leave disk.old) }
-    requires safe { LeavesNow D.model disk.old (IsGrowing C.model job) }
-    ensures live { IfOk result (λ o. IsLive C.model job conversion.new o.taken o.written (D.model.seen disk.new)) }
+    requires durable { BothKnown D.model I.model
+        → Durable FileName.Checkpoint (D.model.seen disk.old) (D.model.may_leave disk.old) }
+    requires safe { BothKnown D.model I.model → LeavesNow D.model disk.old (IsGrowing C.model job) }
+    ensures live { BothKnown D.model I.model → IfOk result (λ o. IsLive C.model job
+        conversion.new o.taken o.written (D.model.seen disk.new)) }
     ensures taken { IfOk result (λ o. (o.taken ≡ progress.taken) × (o.written ≡ progress.written)) }
-    ensures any_moment { LeavesOnly D.model disk.old disk.new (IsGrowing C.model job) }
-    ensures readable { IsErrOf result Fault.BadCheckpoint → ⊥ }
-    ensures faults { D.model.faults disk.old ≤ D.model.faults disk.new }
-    ensures failed { IsErrOf result Fault.Disk → D.model.faults disk.old < D.model.faults disk.new }
-    ensures too_long { IsErrOf result Fault.TooLong → ⊥ }
-    ensures unread { IsErrOf result Fault.Input → ⊥ }
+    ensures any_moment { BothKnown D.model I.model
+        → LeavesOnly D.model disk.old disk.new (IsGrowing C.model job) }
+    ensures readable { BothKnown D.model I.model → IsErrOf result Fault.BadCheckpoint → ⊥ }
+    ensures cause { CountsDiskFaults D.model disk.old disk.new result }
+    ensures changed { IsErrOf result Fault.InputChanged → ⊥ }
 {
     conversion.thaw(alloc, &progress.frozen)?;
     disk.truncate(FileName::Part, progress.written)?;

@@ -17,19 +17,24 @@ pub enum InputFault {
 
 /// An input whose bytes stay the same. It counts the bytes that it delivers, and how often it fails.
 pub trait Input {
-    // Its bytes, and what was counted.
+    // Its bytes, whether they are known, and what was counted.
     ghost model: { InputModel Self };
 
-    /// How many bytes it has.
+    /// How many bytes it has, by its own account.
     fn len(&self) -> u64
-        ensures { result ≡ length (model.content self.now) };
+        ensures { result ≡ model.size self.now };
 
     /// Appends `count` bytes, from the byte number `at` on, counted from 0, to `piece`. After a fault `piece` is unknown.
     fn read(&mut self, at: u64, count: usize, piece: &mut Vec<u8>) -> Result<(), InputFault>
-        requires { at + count ≤ length (model.content self.old) }
-        ensures bytes { OnOk result (piece.new.items ≡ piece.old.items ++ slice_range (model.content self.old) at (at + count)) }
-        ensures content { model.content self.new ≡ model.content self.old }
+        requires { at + count ≤ model.size self.old }
+        ensures bytes { model.known → OnOk result
+            (piece.new.items ≡ piece.old.items ++ slice_range (model.content self.old) at (at + count)) }
+        ensures content { model.known → model.content self.new ≡ model.content self.old }
+        ensures size { model.size self.new ≡ model.size self.old }
         ensures delivered { OnOk result (model.delivered self.new ≡ model.delivered self.old + count) }
         ensures bound { model.delivered self.new ≤ model.delivered self.old + count }
         ensures cause { CountsFailedReads model self.old self.new result };
+
+    // Where its bytes are known, that account is true.
+    ghost sized: { model.known → (i : Self) → model.size i ≡ length (model.content i) };
 }

@@ -180,8 +180,8 @@ impl Disk for MemoryDisk {
     }
 
     fn truncate(&mut self, name: FileName, len: u64) -> Result<(), DiskFault> {
-        let all = bytes_of(self.alloc, &self.files, name)?;
-        let front = all[..len as usize].to_vec(self.alloc)?;
+        let mut front = bytes_of(self.alloc, &self.files, name)?;
+        front.truncate(len as usize);
         let next = with(self.alloc, &self.files, name, Some(front))?;
         Ok(replace(self.alloc, &mut self.files, &mut self.history, next)?)
     }

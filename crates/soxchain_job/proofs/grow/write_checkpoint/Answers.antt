@@ -8,31 +8,31 @@ use Rattle.soxchain_job.proofs.Calls.{joined, one_call, weaker}
 use Rattle.soxchain_job.proofs.grow.write_checkpoint.Goals as goal
 
 pub returns-in_err-replace_checkpoint-clause-any_moment : goal.returns-in_err-replace_checkpoint-clause-any_moment
-returns-in_err-replace_checkpoint-clause-any_moment g c =
-    let safe = c.requires.1.1.0 in
+returns-in_err-replace_checkpoint-clause-any_moment g c = λ k.
+    let safe = c.requires.1.1.1.0 k in
     let seen = g.D.Disk.model.seen c.args.disk.now in
     let synced : LeavesOnly g.D.Disk.model c.args.disk.now c.sync.new.self (IsGrowing g.C.Conversion.model g.job) =
-    one_call g.D.Disk.model (IsGrowing g.C.Conversion.model g.job) g.met.D.Disk.only_now safe c.sync.ensures.time (λ i now. safe i (c.sync.ensures.crash i now)) in
+    one_call g.D.Disk.model (IsGrowing g.C.Conversion.model g.job) g.met.D.Disk.only_now safe (c.sync.ensures.time k.0) (λ i now. safe i (c.sync.ensures.crash k.0 i now)) in
     let says : c.deref-2.result.now ≡ in_progress_bytes c.args.offsets.now.taken c.args.offsets.now.written c.in_ok-frozen.frozen.items =
     c.deref-2.ensures.value ∙ c.in_ok-bytes.ensures ∙ ap (λ (l : List ℕ). in_progress_bytes c.args.offsets.now.taken c.args.offsets.now.written l) c.deref.ensures.value in
     let so : IsConsistent g.C.Conversion.model g.job c.deref-2.result.now (contents_of seen.part) =
     subst (λ (b : List ℕ). IsConsistent g.C.Conversion.model g.job b (contents_of seen.part)) (sym says)
-    (live_consistent g.C.Conversion.model g.job c.args.conversion.now c.args.offsets.now.taken c.args.offsets.now.written c.in_ok-frozen.frozen.items seen c.requires.1.1.1 c.in_ok-frozen.ensures.frozen (omega arith) (omega arith)) in
-    joined synced (weaker c.replace_checkpoint.ensures.any_moment
-    (λ i s. saved_growing g.C.Conversion.model g.job c.deref-2.result.now s.0 i (safe s.0 (c.sync.ensures.crash s.0 s.1)) s.2
-    (subst (λ (p : Option (List ℕ)). IsConsistent g.C.Conversion.model g.job c.deref-2.result.now (contents_of p)) (sym (c.in_ok-sync.ensures.durable s.0 s.1)) so)))
+    (live_consistent g.C.Conversion.model g.job c.args.conversion.now c.args.offsets.now.taken c.args.offsets.now.written c.in_ok-frozen.frozen.items seen (c.requires.1.1.1.1 k) c.in_ok-frozen.ensures.frozen (omega arith) (omega arith)) in
+    joined synced (weaker (c.replace_checkpoint.ensures.any_moment k.0)
+    (λ i s. saved_growing g.C.Conversion.model g.job c.deref-2.result.now s.0 i (safe s.0 (c.sync.ensures.crash k.0 s.0 s.1)) s.2
+    (subst (λ (p : Option (List ℕ)). IsConsistent g.C.Conversion.model g.job c.deref-2.result.now (contents_of p)) (sym (c.in_ok-sync.ensures.durable k.0 s.0 s.1)) so)))
 
 pub returns-clause-any_moment : goal.returns-clause-any_moment
-returns-clause-any_moment g c =
-    let safe = c.requires.1.1.0 in
+returns-clause-any_moment g c = λ k.
+    let safe = c.requires.1.1.1.0 k in
     let seen = g.D.Disk.model.seen c.args.disk.now in
     let synced : LeavesOnly g.D.Disk.model c.args.disk.now c.sync.new.self (IsGrowing g.C.Conversion.model g.job) =
-    one_call g.D.Disk.model (IsGrowing g.C.Conversion.model g.job) g.met.D.Disk.only_now safe c.sync.ensures.time (λ i now. safe i (c.sync.ensures.crash i now)) in
+    one_call g.D.Disk.model (IsGrowing g.C.Conversion.model g.job) g.met.D.Disk.only_now safe (c.sync.ensures.time k.0) (λ i now. safe i (c.sync.ensures.crash k.0 i now)) in
     let says : c.deref-2.result.now ≡ in_progress_bytes c.args.offsets.now.taken c.args.offsets.now.written c.in_ok-frozen.frozen.items =
     c.deref-2.ensures.value ∙ c.in_ok-bytes.ensures ∙ ap (λ (l : List ℕ). in_progress_bytes c.args.offsets.now.taken c.args.offsets.now.written l) c.deref.ensures.value in
     let so : IsConsistent g.C.Conversion.model g.job c.deref-2.result.now (contents_of seen.part) =
     subst (λ (b : List ℕ). IsConsistent g.C.Conversion.model g.job b (contents_of seen.part)) (sym says)
-    (live_consistent g.C.Conversion.model g.job c.args.conversion.now c.args.offsets.now.taken c.args.offsets.now.written c.in_ok-frozen.frozen.items seen c.requires.1.1.1 c.in_ok-frozen.ensures.frozen (omega arith) (omega arith)) in
-    joined synced (weaker c.replace_checkpoint.ensures.any_moment
-    (λ i s. saved_growing g.C.Conversion.model g.job c.deref-2.result.now s.0 i (safe s.0 (c.sync.ensures.crash s.0 s.1)) s.2
-    (subst (λ (p : Option (List ℕ)). IsConsistent g.C.Conversion.model g.job c.deref-2.result.now (contents_of p)) (sym (c.in_ok-sync.ensures.durable s.0 s.1)) so)))
+    (live_consistent g.C.Conversion.model g.job c.args.conversion.now c.args.offsets.now.taken c.args.offsets.now.written c.in_ok-frozen.frozen.items seen (c.requires.1.1.1.1 k) c.in_ok-frozen.ensures.frozen (omega arith) (omega arith)) in
+    joined synced (weaker (c.replace_checkpoint.ensures.any_moment k.0)
+    (λ i s. saved_growing g.C.Conversion.model g.job c.deref-2.result.now s.0 i (safe s.0 (c.sync.ensures.crash k.0 s.0 s.1)) s.2
+    (subst (λ (p : Option (List ℕ)). IsConsistent g.C.Conversion.model g.job c.deref-2.result.now (contents_of p)) (sym (c.in_ok-sync.ensures.durable k.0 s.0 s.1)) so)))

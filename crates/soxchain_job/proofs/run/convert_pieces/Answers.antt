@@ -11,9 +11,11 @@ loop-done-init g c =
       pieces = inr (omega arith);
       none = λ _. omega arith;
       advances = λ some. absurd (omega (arith, some));
-      content = refl;
+      content = λ k. refl;
+      size = refl;
       failures = omega arith;
       reads = omega arith;
+      delivered = omega arith;
       faults = omega arith;
-      run = no_call g.D.Disk.model (IsGrowing g.C.Conversion.model g.job) g.met.D.Disk.only_now c.requires.1.1.1.1.1.0;
+      run = λ k. no_call g.D.Disk.model (IsGrowing g.C.Conversion.model g.job) g.met.D.Disk.only_now (c.requires.1.1.1.1.1.0 k);
     }

@@ -1,4 +1,3 @@
-use Rattle.soxchain_job.specs.Job.{target_of}
 use Rattle.soxchain_job.proofs.run.finish.Given as goal
 
 abbrev pub ghost-write_rest : goal.ghost-write_rest
@@ -8,4 +7,4 @@ abbrev pub ghost-mark_complete : goal.ghost-mark_complete
 ghost-mark_complete g a = g.job
 
 abbrev pub ghost-publish : goal.ghost-publish
-ghost-publish g a = target_of g.C.Conversion.model g.job
+ghost-publish g a = g.job

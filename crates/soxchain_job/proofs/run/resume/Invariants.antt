@@ -1,4 +1,3 @@
-use Rattle.soxchain_job.specs.Job.{target_of}
 use Rattle.soxchain_job.proofs.run.resume.Given as goal
 
 abbrev pub ghost-begin : goal.ghost-begin
@@ -8,4 +7,4 @@ abbrev pub ghost-resume_from : goal.ghost-resume_from
 ghost-resume_from g a = g.job
 
 abbrev pub ghost-publish : goal.ghost-publish
-ghost-publish g a = target_of g.C.Conversion.model g.job
+ghost-publish g a = g.job

@@ -6,12 +6,12 @@ use Rattle.soxchain_job.proofs.MemoryHistory.{elapses_to, put_appended, same_app
 use Rattle.soxchain_job.proofs.memory.MemoryDiskDisk.append.Goals as goal
 
 pub returns-clause-time : goal.returns-clause-time
-returns-clause-time c =
+returns-clause-time c = λ k.
     let history = c.in_ok-replace.ensures.history in
     elapses_to c.args.self.now _ history.0 history.1 history.2 refl
 
 pub returns-in_err-replace-clause-crash : goal.returns-in_err-replace-clause-crash
-returns-in_err-replace-clause-crash c = λ i now. (
+returns-in_err-replace-clause-crash c = λ k i now. (
   image_of c.args.self.now.files,
   refl,
   subst (λ (j : Image). Appended c.args.name (image_of c.args.self.now.files) j) (sym (now ∙ c.in_err-replace.ensures.err)) (same_appended c.args.name (image_of c.args.self.now.files)),
@@ -20,7 +20,7 @@ returns-in_err-replace-clause-crash c = λ i now. (
 pub returns-clause-crash : goal.returns-clause-crash
 returns-clause-crash c =
     let items : c.extend_from_slice.new.self.items ≡ bytes_at c.args.name (image_of c.args.self.now.files) ++ c.args.bytes.now = search rules in
-    λ i now. (
+    λ k i now. (
       image_of c.args.self.now.files,
       refl,
       put_appended c.args.name c.args.bytes.now (image_of c.args.self.now.files) i

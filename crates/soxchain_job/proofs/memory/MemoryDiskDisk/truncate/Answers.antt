@@ -6,12 +6,12 @@ use Rattle.soxchain_job.proofs.MemoryHistory.{elapses_to, put_truncated, same_tr
 use Rattle.soxchain_job.proofs.memory.MemoryDiskDisk.truncate.Goals as goal
 
 pub returns-clause-time : goal.returns-clause-time
-returns-clause-time c =
+returns-clause-time c = λ k.
     let history = c.in_ok-replace.ensures.history in
     elapses_to c.args.self.now _ history.0 history.1 history.2 refl
 
 pub returns-in_err-replace-clause-crash : goal.returns-in_err-replace-clause-crash
-returns-in_err-replace-clause-crash c = λ i now. (
+returns-in_err-replace-clause-crash c = λ k i now. (
   image_of c.args.self.now.files,
   refl,
   subst (λ (j : Image). Truncated c.args.name c.args.len (image_of c.args.self.now.files) j) (sym (now ∙ c.in_err-replace.ensures.err)) (same_truncated c.args.name c.args.len (image_of c.args.self.now.files)),
@@ -19,30 +19,23 @@ returns-in_err-replace-clause-crash c = λ i now. (
 
 pub returns-clause-crash : goal.returns-clause-crash
 returns-clause-crash c =
-    let items : c.in_ok-front.front.items ≡ take c.args.len (bytes_at c.args.name (image_of c.args.self.now.files)) = search rules in
-    λ i now. (
+    let items : c.truncate.new.self.items ≡ take c.args.len (bytes_at c.args.name (image_of c.args.self.now.files)) = search rules in
+    λ k i now. (
       image_of c.args.self.now.files,
       refl,
       put_truncated c.args.name c.args.len (image_of c.args.self.now.files) i
           (now ∙ c.in_ok-replace.ensures.ok ∙ c.in_ok-next.ensures ∙ ap (λ (l : List ℕ). put c.args.name (Some l) (image_of c.args.self.now.files)) items),
     )
 
-pub returns-in_err-all-clause-crash : goal.returns-in_err-all-clause-crash
-returns-in_err-all-clause-crash c = λ i now. (
-  image_of c.args.self.now.files,
-  refl,
-  subst (λ (j : Image). Truncated c.args.name c.args.len (image_of c.args.self.now.files) j) (sym now) (same_truncated c.args.name c.args.len (image_of c.args.self.now.files)),
-)
-
 pub returns-in_err-front-clause-crash : goal.returns-in_err-front-clause-crash
-returns-in_err-front-clause-crash c = λ i now. (
+returns-in_err-front-clause-crash c = λ k i now. (
   image_of c.args.self.now.files,
   refl,
   subst (λ (j : Image). Truncated c.args.name c.args.len (image_of c.args.self.now.files) j) (sym now) (same_truncated c.args.name c.args.len (image_of c.args.self.now.files)),
 )
 
 pub returns-in_err-next-clause-crash : goal.returns-in_err-next-clause-crash
-returns-in_err-next-clause-crash c = λ i now. (
+returns-in_err-next-clause-crash c = λ k i now. (
   image_of c.args.self.now.files,
   refl,
   subst (λ (j : Image). Truncated c.args.name c.args.len (image_of c.args.self.now.files) j) (sym now) (same_truncated c.args.name c.args.len (image_of c.args.self.now.files)),
