@@ -1,0 +1,4 @@
+pub mod Converting
+pub mod Frozen
+pub mod Passing
+pub mod SoundParts

@@ -1,0 +1,3 @@
+pub mod CodedChain
+pub mod FrozenConversion
+pub mod JobOutput
