@@ -8,7 +8,7 @@ DESTDIR =
 # The one place of the version is the program.
 VERSION := $(shell sed -n 's/^pub const VERSION.*"soxchain \([0-9.]*\)\\n.*/\1/p' crates/soxchain_common/src/about.rt)
 
-.PHONY: help quick test soxchain soxchain-plan lib demo conformance wrong-bodies bench pictures install uninstall wheel deb dist check-docs check-library \
+.PHONY: help quick test soxchain soxchain-plan soxchain-job lib demo conformance wrong-bodies bench pictures install uninstall wheel deb dist check-docs check-library \
     check-packages same-bytes clean
 
 help:
@@ -17,6 +17,7 @@ help:
 	@echo 'make test      the whole gate: every proof, the tests, the programs, the checks of scripts/checks, some wrong bodies'
 	@echo 'make soxchain  builds the proved program as build/soxchain'
 	@echo 'make soxchain-plan  builds the program that says in advance what soxchain would do, as build/soxchain-plan'
+	@echo 'make soxchain-job  builds the program whose conversions survive a kill or a power cut, as build/soxchain-job'
 	@echo 'make lib       builds the proved library for C in build/: libsoxchain.a, libsoxchain.so, soxchain.h'
 	@echo 'make conformance  runs the proved program on 3,000 cases with known bytes, messages and statuses, and on 2,000 random ones'
 	@echo 'make wrong-bodies  has the prover refuse each wrong body of wrong-bodies/'
@@ -54,6 +55,14 @@ build/soxchain-plan: $(SOURCES)
 	cd crates/soxchain_plan && rt run -- - -t au - vol 0.5 <../../examples/tone.au >/dev/null
 	@cp crates/soxchain_plan/out/soxchain_plan $@.new && mv $@.new $@
 
+# The program whose conversions survive a kill or a power cut; docs/job.md.
+soxchain-job: build/soxchain-job
+build/soxchain-job: $(SOURCES)
+	@mkdir -p build
+	cd crates/soxchain_job_cli && rt run -- ../../examples/tone.au ../../build/job.au vol 0.5
+	@rm -f build/job.au build/job.au.job.json
+	@cp crates/soxchain_job_cli/out/soxchain_job_cli $@.new && mv $@.new $@
+
 # The proved library for C, with its header; docs/library.md. PROVED=--proved is for the gate, which has just run rt ci.
 PROVED =
 lib: build/libsoxchain.so
@@ -90,7 +99,7 @@ pictures: build/soxchain
 
 # What is installed: the programs, the library with its header, soxchain.pc and the module for Python, the pages of the manual with
 # the version, and completion for bash, zsh and fish.
-install: build/soxchain build/soxchain-plan build/libsoxchain.so
+install: build/soxchain build/soxchain-job build/soxchain-plan build/libsoxchain.so
 	@scripts/install '$(DESTDIR)' '$(PREFIX)' '$(VERSION)'
 
 uninstall:
@@ -101,11 +110,11 @@ wheel: build/libsoxchain.so
 	@python3 packaging/wheel_backend.py
 
 # The packages of packaging/debian, by debhelper.
-deb: build/soxchain build/soxchain-plan build/libsoxchain.so
+deb: build/soxchain build/soxchain-job build/soxchain-plan build/libsoxchain.so
 	@scripts/deb '$(VERSION)'
 
 # What can be looked at without root; scripts/debian_trial installs the Debian packages in a system of their own.
-check-packages: build/soxchain build/soxchain-plan build/libsoxchain.so
+check-packages: build/soxchain build/soxchain-job build/soxchain-plan build/libsoxchain.so
 	@scripts/checks/wheel
 	@scripts/checks/debian
 
@@ -114,7 +123,7 @@ dist: wheel deb
 	@scripts/dist '$(VERSION)'
 
 # Each command of the documents as it stands there; the gate runs those that need no other tools.
-check-docs: build/soxchain build/soxchain-plan
+check-docs: build/soxchain build/soxchain-job build/soxchain-plan
 	@scripts/docs_tools
 	@scripts/check_docs --all
 	@cd man && mandoc -T lint *.1

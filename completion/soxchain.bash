@@ -1,4 +1,4 @@
-# Completion of soxchain and soxchain-plan for bash.
+# Completion of soxchain, soxchain-plan and soxchain-job for bash.
 
 # The names of the effects, as the program lists them.
 _soxchain_effects() {
@@ -10,7 +10,7 @@ _soxchain_place() {
     local files=0 at
     for ((at = 1; at < COMP_CWORD; at++)); do
         case ${COMP_WORDS[at]} in
-            -t | -b) ((at++)) ;;
+            -t | -b | --every | --record | --progress) ((at++)) ;;
             -) ((files++)) ;;
             -*) ;;
             *) ((files++)) ;;
@@ -28,11 +28,14 @@ _soxchain() {
         case $before in
             -t) mapfile -t COMPREPLY < <(compgen -W 'wav au' -- "$word"); return ;;
             -b) mapfile -t COMPREPLY < <(compgen -W '8 16 24 32' -- "$word"); return ;;
+            --progress) mapfile -t COMPREPLY < <(compgen -W 'auto always never' -- "$word"); return ;;
+            --every) return ;;
         esac
         options='-D -t'
         ((place == 1)) && options='-D -t -b'
         ((COMP_CWORD == 1)) && options='-D -t --help --version'
         ((COMP_CWORD == 1)) && [[ ${COMP_WORDS[0]} == *-plan ]] && options+=' --json'
+        ((place == 0)) && [[ ${COMP_WORDS[0]} == *-job ]] && options+=' --every --record --progress --status --abandon'
         if [[ $word == -* ]]; then
             mapfile -t COMPREPLY < <(compgen -W "$options" -- "$word")
         else
@@ -51,4 +54,4 @@ _soxchain() {
     esac
 }
 
-complete -F _soxchain soxchain soxchain-plan
+complete -F _soxchain soxchain soxchain-plan soxchain-job

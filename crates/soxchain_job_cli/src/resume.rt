@@ -1,0 +1,130 @@
+//! Whether a later run may continue: the checkpoint is of this job, and IN and the part are what they were.
+
+use crate::fault::JobFault;
+use crate::folder::read_file;
+use crate::hashed::{DIGESTS_SIZE, Hashers};
+use crate::job_file::{JobFile, JobFileFault, read_job_file};
+use crate::names::JobNames;
+use serde_json::Value;
+use sha2::{Digest, Sha256};
+use soxchain_job::{Checkpoint, Progress, decode_checkpoint};
+use std::fs::{self, File};
+use std::io::{self, Read};
+
+/// The bytes that are hashed at a time.
+const PIECE_SIZE: usize = 1 << 16;
+
+/// The checkpoint of a job: its file, and what it says.
+#[derive(Drop)]
+pub struct Found {
+    pub file: JobFile,
+    pub checkpoint: Checkpoint,
+}
+
+/// Reads the checkpoint of a job; None where there is none.
+pub fn find_checkpoint<'a>(
+    rt: &HostRuntime,
+    names: &'a JobNames,
+) -> Result<Option<Found>, JobFault<'a>> {
+    let name = names.job.as_str();
+    let bytes = match read_file(rt, name) {
+        Ok(Some(bytes)) => bytes,
+        Ok(None) => return Ok(None),
+        Err(error) => return Err(JobFault::File(name, error)),
+    };
+    let file = match read_job_file(rt.alloc(), &bytes) {
+        Ok(file) => file,
+        Err(JobFileFault::Memory) => return Err(JobFault::Memory),
+        Err(JobFileFault::Version(version)) => return Err(JobFault::Version(name, version)),
+        Err(JobFileFault::Damaged) => return Err(JobFault::Damaged(name)),
+    };
+    match decode_checkpoint(rt.alloc(), &file.checkpoint) {
+        Ok(Some(checkpoint)) => Ok(Some(Found { file, checkpoint })),
+        Ok(None) => Err(JobFault::Damaged(name)),
+        Err(_) => Err(JobFault::Memory),
+    }
+}
+
+/// Whether a member of the job that began is that of this one.
+fn is_same(stored: &Value, own: &Value, member: &str) -> bool {
+    match (stored.get(member), own.get(member)) {
+        (Some(stored), Some(own)) => stored == own,
+        _ => false,
+    }
+}
+
+/// Refuses the checkpoint of another job.
+pub fn check_identity<'a>(stored: &Value, own: &Value) -> Result<(), JobFault<'a>> {
+    let Some(stored) = stored.get("job") else {
+        return Err(JobFault::OtherWords);
+    };
+    if !is_same(stored, own, "words") {
+        Err(JobFault::OtherWords)
+    } else if !is_same(stored, own, "files") {
+        Err(JobFault::OtherCoefficients)
+    } else if !is_same(stored, own, "size") {
+        Err(JobFault::OtherLength)
+    } else if !is_same(stored, own, "modified") {
+        Err(JobFault::OtherTime)
+    } else {
+        Ok(())
+    }
+}
+
+/// Hashes the first bytes of a file, at most `count`.
+fn hash_front(rt: &HostRuntime, name: &str, count: u64) -> io::Result<Sha256> {
+    let mut file = File::open(rt, name)?;
+    let mut hasher = Sha256::new();
+    let mut piece = Vec::with_capacity(rt.alloc(), PIECE_SIZE)?;
+    piece.resize(PIECE_SIZE, 0)?;
+    let mut left = count;
+    for _ in 0..u64::MAX {
+        let wanted = usize::try_from(left).unwrap_or(PIECE_SIZE).min(PIECE_SIZE);
+        let delivered = file.read(&mut piece[..wanted])?;
+        if delivered == 0 {
+            break;
+        }
+        hasher.update(&piece[..delivered]);
+        left = left.saturating_sub(delivered as u64);
+    }
+    Ok(hasher)
+}
+
+/// What was hashed when this checkpoint was written; refused where IN or the part is not what it was.
+pub fn check_digests<'a>(
+    rt: &HostRuntime,
+    input: &'a str,
+    names: &'a JobNames,
+    progress: &Progress,
+) -> Result<Hashers, JobFault<'a>> {
+    let part = names.part.as_str();
+    let hashers = Hashers {
+        input: match hash_front(rt, input, progress.taken) {
+            Ok(hasher) => hasher,
+            Err(error) => return Err(JobFault::File(input, error)),
+        },
+        output: match hash_front(rt, part, progress.written) {
+            Ok(hasher) => hasher,
+            // Without a byte written there may be no part yet.
+            Err(_) if progress.written == 0 => Sha256::new(),
+            Err(error) => return Err(JobFault::File(part, error)),
+        },
+    };
+    let start = progress.frozen.len().saturating_sub(DIGESTS_SIZE);
+    let (_, digests) = progress.frozen.split_at(start);
+    match hashers.agreement(digests) {
+        Ok(agreement) if !agreement.input => Err(JobFault::OtherInput(progress.taken)),
+        Ok(agreement) if !agreement.output => Err(JobFault::OtherPart(part)),
+        Ok(_) => Ok(hashers),
+        Err(_) => Err(JobFault::Memory),
+    }
+}
+
+/// Refuses a part that no checkpoint is of.
+pub fn check_no_part<'a>(rt: &HostRuntime, names: &'a JobNames) -> Result<(), JobFault<'a>> {
+    let part = names.part.as_str();
+    match fs::symlink_metadata(rt, part) {
+        Ok(_) => Err(JobFault::NoCheckpoint(part)),
+        Err(_) => Ok(()),
+    }
+}
