@@ -1,5 +1,5 @@
-//! A disk and an input of whose bytes nothing is stated, as those of a system. One call of them fails; the disk has then done
-//! half of it.
+//! A disk and an input of whose bytes nothing is stated, as those of a system. One call of them fails, or the first write for which
+//! there is no space; the disk has then done half of it.
 ghost use Rattle.soxchain_job.specs.Unknown.{unknown_disk, unknown_input};
 ghost use Rattle.std.specs.Prelude.{◌<◌, ◌≤◌, ◌+◌, IsErrOf, IsTrue, OnOk, length};
 ghost use Rattle.std.proofs.Common.{arith};
@@ -12,13 +12,24 @@ use std::alloc::{AllocError, Global};
 pub struct Calls {
     /// Calls before the one that fails.
     pub left: u32,
+    /// Bytes that can be written before a write fails for want of space.
+    pub space: usize,
     /// How many have failed.
     pub failed: u32,
 }
 
 impl Calls {
+    /// Calls of which the one after so many fails.
+    pub fn new(left: u32) -> Calls {
+        Calls {
+            left,
+            space: usize::MAX,
+            failed: 0,
+        }
+    }
+
     /// Counts a call, and tells whether it fails.
-    fn fails(&mut self) -> bool
+    pub fn fails(&mut self) -> bool
         ensures later { self.old.failed ≤ self.new.failed }
         ensures counted { IsTrue result → self.old.failed < self.new.failed }
     {
@@ -26,6 +37,26 @@ impl Calls {
             self.left -= 1;
             return false;
         }
+        self.fails_first()
+    }
+
+    /// Counts a call that writes so many bytes, and tells whether it fails.
+    fn fails_to_write(&mut self, count: usize) -> bool
+        ensures later { self.old.failed ≤ self.new.failed }
+        ensures counted { IsTrue result → self.old.failed < self.new.failed }
+    {
+        if count > self.space {
+            return self.fails_first();
+        }
+        self.space -= count;
+        self.fails()
+    }
+
+    /// One call fails; those after it do not.
+    fn fails_first(&mut self) -> bool
+        ensures later { self.old.failed ≤ self.new.failed }
+        ensures counted { IsTrue result → self.old.failed < self.new.failed }
+    {
         if self.failed > 0 {
             return false;
         }
@@ -35,7 +66,7 @@ impl Calls {
 }
 
 /// The answer of a call that fails, or does not.
-fn answer(fails: bool) -> Result<(), DiskFault>
+pub fn answer(fails: bool) -> Result<(), DiskFault>
     ensures { IsErrOf result DiskFault.Failed → IsTrue fails }
 {
     if fails {
@@ -55,7 +86,7 @@ fn written(bytes: &[u8], fails: bool) -> &[u8] {
 }
 
 /// The file of this name.
-fn file_of(files: &mut Files, name: FileName) -> &mut Option<Vec<u8>> {
+pub fn file_of(files: &mut Files, name: FileName) -> &mut Option<Vec<u8>> {
     match name {
         FileName::Part => &mut files.part,
         FileName::NewCheckpoint => &mut files.new_checkpoint,
@@ -65,12 +96,12 @@ fn file_of(files: &mut Files, name: FileName) -> &mut Option<Vec<u8>> {
 }
 
 /// Takes a file away.
-fn taken(files: &mut Files, name: FileName) -> Option<Vec<u8>> {
+pub fn taken(files: &mut Files, name: FileName) -> Option<Vec<u8>> {
     file_of(files, name).take()
 }
 
 /// Puts a file in the place of another.
-fn put(files: &mut Files, name: FileName, file: Option<Vec<u8>>) {
+pub fn put(files: &mut Files, name: FileName, file: Option<Vec<u8>>) {
     *file_of(files, name) = file;
 }
 
@@ -93,7 +124,7 @@ impl FailingDisk {
                 checkpoint: None,
                 out: None,
             },
-            calls: Calls { left, failed: 0 },
+            calls: Calls::new(left),
         }
     }
 }
@@ -123,14 +154,14 @@ impl Disk for FailingDisk {
     }
 
     fn write(&mut self, name: FileName, bytes: &[u8]) -> Result<(), DiskFault> {
-        let fails = self.calls.fails();
+        let fails = self.calls.fails_to_write(bytes.len());
         let file = written(bytes, fails).to_vec(self.alloc)?;
         put(&mut self.files, name, Some(file));
         answer(fails)
     }
 
     fn append(&mut self, name: FileName, bytes: &[u8]) -> Result<(), DiskFault> {
-        let fails = self.calls.fails();
+        let fails = self.calls.fails_to_write(bytes.len());
         let mut file = taken(&mut self.files, name).unwrap_or(Vec::new(self.alloc));
         file.extend_from_slice(written(bytes, fails))?;
         put(&mut self.files, name, Some(file));

@@ -8,3 +8,5 @@ mod copying;
 mod failing;
 #[cfg(test)]
 mod job_tests;
+#[cfg(test)]
+mod torn;
