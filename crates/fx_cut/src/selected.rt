@@ -427,11 +427,10 @@ impl<S: Selection + Drop> Feeds for Selected<S> {
         let frame_run = self
             .selection
             .frame_run_from(self.taken.saturating_sub(reach));
-        if frame_run.is_given {
-            free
-        } else {
-            free.saturating_add(frame_run.frames)
+        if !frame_run.is_given {
+            return free.saturating_add(frame_run.frames);
         }
+        free
     }
 
     /// Once its line is full, the frames that push given ones out of it.

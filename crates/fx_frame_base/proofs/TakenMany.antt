@@ -66,7 +66,7 @@ module _ {S R : Type 0} (acts : Acts S R) where
             let unspent : spent acts s ≡ false = rw (same, at, f.ahead n less) (and-false (acts.dry s)) in
             let used = f.used empty (all.ended ∙ f.open_) unspent in
             let next : (n + 1) * size ≡ n * size + size = rw add-one (suc-mul n size) in
-            let past : count * size < (n + 1) * size = omega (arith, used, next, f.came) in
-            let over : count < n + 1 = lt_of_mul-lt-mul_right size past in
+            let beyond : count * size < (n + 1) * size = omega (arith, used, next, f.came) in
+            let over : count < n + 1 = lt_of_mul-lt-mul_right size beyond in
             absurd (omega (arith, over, less))
       ]
