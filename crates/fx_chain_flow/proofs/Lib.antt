@@ -13,3 +13,4 @@ pub mod PieceLaws
 pub mod Places
 pub mod Orders
 pub mod OneToOneRuns
+pub mod TakenFirst

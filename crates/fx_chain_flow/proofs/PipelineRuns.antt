@@ -39,7 +39,7 @@ AreFrames-cut channels (suc n) xs some bound long fits =
     let rest : length (drop channels xs) ≡ n * channels = omega (arith, length-drop channels xs) in
     (record { some = omega arith; bound = omega arith; fits = All-take (FitsSigned w32) channels xs fits }, one, AreFrames-cut channels n (drop channels xs) some bound rest (All-drop (FitsSigned w32) channels xs fits))
 
-AreFrames-front : (channels n : ℕ) (xs : List ℤ) → 1 ≤ channels → channels ≤ 16 → n * channels ≤ length xs → All (FitsSigned w32) (take (n * channels) xs) → AreFrames channels (pieces channels n xs)
+pub AreFrames-front : (channels n : ℕ) (xs : List ℤ) → 1 ≤ channels → channels ≤ 16 → n * channels ≤ length xs → All (FitsSigned w32) (take (n * channels) xs) → AreFrames channels (pieces channels n xs)
 AreFrames-front channels n xs some bound free fits = rw (pieces-take channels n xs free) at (AreFrames-cut channels n (take (n * channels) xs) some bound (length-take-le (n * channels) xs free) fits)
 
 module _ {S R : Type 0} (acts : Acts S R) where
@@ -89,7 +89,7 @@ module _ {S R : Type 0} (acts : Acts S R) where
       AreReady-from acts channels left max_frames false stages refl (AllDetermined-dry acts stages determined) (AllAhead-unspent acts count stages some ahead) sound.planned.matching sound.planned.within sound.joined
 
   -- one run of a flow behind another
-  Going-then : (first f f' : Parts S) (xs gs ys hs : List Samples) → Going acts first xs gs f → f.ended ≡ false → Going acts f ys hs f' → Going acts first (xs ++ ys) (gs ++ hs) f'
+  pub Going-then : (first f f' : Parts S) (xs gs ys hs : List Samples) → Going acts first xs gs f → f.ended ≡ false → Going acts f ys hs f' → Going acts first (xs ++ ys) (gs ++ hs) f'
   Going-then first f f' xs gs ys hs one open_ two =
       record { fed = FlowFed-then acts first f f' xs gs ys hs one.fed two.fed; gave = FlowGave-then acts first f f' xs gs ys hs one.gave open_ two.gave; sound = two.sound; moves = omega (arith, one.moves, two.moves) }
 

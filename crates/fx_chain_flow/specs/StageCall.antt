@@ -2,7 +2,7 @@
 use Rattle.std.specs.Prelude.{ℕ, zero, suc, ◌+◌, ◌<◌, ◌≤◌, ◌≡◌, Bool, true, false, List, [], ◌∷◌}
 use Rattle.fx_frame_base.specs.declared.feed.Passing.{Passing}
 use Rattle.fx_frame_base.specs.declared.feed.Passing.TheVariants.{Kept, Through, More}
-use Rattle.fx_frame_base.specs.Feed.{IsHeld, IsOneToOne, PassedOn}
+use Rattle.fx_frame_base.specs.Feed.{IsHeld, IsNoneDue, IsOneToOne, PassedOn, TookAll}
 use Rattle.fx_frame_base.specs.Frame.{Samples}
 use Rattle.fx_frame_base.specs.Pipeline.{EachThrough}
 use Rattle.fx_frame_base.specs.Stage.{Acts, Ended, Gave, IsDry, IsLined, Took, is_enough, kind, spent}
@@ -65,6 +65,22 @@ module _ {S R : Type 0} (acts : Acts S R) where
     pub one_to_one : IsOneToOne acts count s
     pub ahead : (n : ℕ) → n < count → is_enough (kind acts s).enough ((acts.counts s).taken + n) ≡ false
     pub below_limit : (acts.counts s).taken + count ≤ (kind acts s).limit
+
+  -- a stage may take `count` frames of so many channels, for which none is due
+  pub record MayTakeMany (width count : ℕ) (s : S) : Type 0 where
+    pub dry : acts.dry s ≡ true
+    pub not_ended : (acts.counts s).ended ≡ false
+    pub inputs : width ≡ (kind acts s).inputs
+    pub outputs : (kind acts s).outputs ≤ 16
+    pub none_due : IsNoneDue acts count s
+    pub ahead : (n : ℕ) → n < count → is_enough (kind acts s).enough ((acts.counts s).taken + n) ≡ false
+    pub below_limit : (acts.counts s).taken + count ≤ (kind acts s).limit
+
+  -- a stage took these frames and gave none, and is dry
+  pub record TookMany (xs : List Samples) (s s' : S) : Type 0 where
+    pub took : TookAll acts xs s s'
+    pub dry : acts.dry s' ≡ true
+    pub determined : IsDry acts s'
 
   -- a stage gave this frame, and holds no more than it may
   abbrev pub GaveWithin : Samples → S → S → Type 0

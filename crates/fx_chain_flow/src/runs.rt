@@ -1,9 +1,12 @@
 //! Frames that go through stages one after another, with no checks between two of them.
 ghost use Rattle.std.specs.Prelude.{◌≡◌, ◌<◌, ◌≤◌, ◌+◌, ℕ, Some, None, [], ◌∷◌, true, false, option_to_list, take, if◌then◌else◌};
+ghost use Rattle.fx_frame_base.specs.Feed.{IsNoneDue};
 ghost use Rattle.fx_frame_base.specs.Pipeline.{AreReady, outputs_of};
+ghost use Rattle.fx_frame_base.specs.Stage.{kind};
 ghost use Rattle.fx_chain_flow.specs.Parts.{AllDetermined};
 ghost use Rattle.fx_chain_flow.specs.Pipeline.{AllHeld, WentThrough};
 ghost use Rattle.fx_chain_flow.specs.Order.{InOrder};
+ghost use Rattle.fx_chain_flow.specs.StageCall.{At};
 ghost use Rattle.fx_chain_flow.specs.Runs.{AllAhead, AllKeep, MayRunPipeline, RanPipeline, flow_of};
 ghost use Rattle.fx_frame_base.specs.Holds.{kinds};
 
@@ -178,7 +181,20 @@ fn run_by_frames<S: StageCalls>(
     }
 }
 
-/// As `run_by_frames`; where each stage gives one frame for each and keeps the channels, a few frames at a time.
+/// For how many frames more, at most `maximum`, the first stage gives none.
+fn none_due_of_first<S: Feeds>(stages: &[S], maximum: usize) -> usize
+    ensures maximum { result ≤ maximum }
+    ensures none_due { 1 ≤ result → At (λ s. IsNoneDue S.acts result s × ((kind S.acts s).outputs ≤ 16)) 0 stages.now }
+{
+    if stages.is_empty() || stages[0].out_channels() > 16 {
+        return 0;
+    }
+    let none_due = stages[0].none_due();
+    (maximum as u64).min(none_due) as usize
+}
+
+/// As `run_by_frames`; where each stage gives one frame for each and keeps the channels, a few frames at a time; where the first
+/// stage gives none, all of those that it takes until then.
 fn run_apart<S: StageCalls>(
     stages: &mut [S],
     widths: Widths,
@@ -189,6 +205,16 @@ fn run_apart<S: StageCalls>(
     requires { MayRunPipeline S.acts widths count input.now output.old stages.old }
     ensures { RanPipeline S.acts S.handed widths count input.now output.old output.new stages.old stages.new result }
 {
+    let none_due = none_due_of_first(stages, count);
+    if none_due > 0 {
+        let frames = &input[..none_due * widths.inputs];
+        see_samples(frames);
+        S::take_first(stages, widths.inputs, none_due, frames);
+        return Passed {
+            taken: none_due,
+            given: 0,
+        };
+    }
     let one_to_one = min_one_to_one(stages, count);
     if !widths.keeps || one_to_one == 0 {
         return run_by_frames(stages, widths, count, input, output);

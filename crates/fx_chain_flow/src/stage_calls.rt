@@ -3,7 +3,7 @@ ghost use Rattle.std.specs.Prelude.{ℕ, List, [], ◌∷◌, ◌≡◌, ◌<◌
 ghost use Rattle.std.specs.Int.{w32};
 ghost use Rattle.std.specs.List.{All};
 ghost use Rattle.fx_chain_flow.specs.Feed.{CanFeedOnly, FedOnly};
-ghost use Rattle.fx_chain_flow.specs.StageCall.{At, ChangedAt, EndedWithin, GaveWithin, StageCall, MayEnd, MayGive, MayBePassed, MayBePassedMany, MayTake, TookWithin, WasPassed, WasPassedMany, at_stage, end_to, given_on, through_all};
+ghost use Rattle.fx_chain_flow.specs.StageCall.{At, ChangedAt, EndedWithin, GaveWithin, StageCall, MayEnd, MayGive, MayBePassed, MayBePassedMany, MayTake, MayTakeMany, TookMany, TookWithin, WasPassed, WasPassedMany, at_stage, end_to, given_on, through_all};
 ghost use Rattle.fx_chain_flow.specs.Parts.{Matching};
 ghost use Rattle.fx_frame_base.specs.Feed.{PassedOn};
 ghost use Rattle.fx_frame_base.specs.Holds.{kinds};
@@ -69,6 +69,14 @@ pub trait StageCalls: Feeds {
         requires samples { length samples.old ≡ count * channels }
         ensures passed { ChangedAt (WasPassedMany Self.acts (pieces channels count samples.old) (pieces channels count samples.new)) place stages.old stages.new }
         ensures handed { handed stages.old (at_stage place (pieces channels count samples.old) (pieces channels count samples.new)) stages.new };
+
+    /// Gives the first stage `count` frames of `channels` channels, for which none is due.
+    fn take_first(stages: &mut [Self], channels: usize, count: usize, input: &[i32])
+        requires may { At (MayTakeMany Self.acts channels count) 0 stages.old }
+        requires frame { (1 ≤ channels) × (channels ≤ 16) }
+        requires input { length input.now ≡ count * channels }
+        ensures took { ChangedAt (TookMany Self.acts (pieces channels count input.now)) 0 stages.old stages.new }
+        ensures handed { handed stages.old (through_all (pieces channels count input.now) []) stages.new };
 
     /// As `pass_pipeline`.
     fn pass_all(
@@ -156,6 +164,13 @@ impl<S: Feeds> StageCalls for S {
         let all = stages.len();
         prove!(place < all);
         stages[place].pass_frames(count, samples);
+    }
+
+    #[inline(always)]
+    fn take_first(stages: &mut [S], _channels: usize, count: usize, input: &[i32]) {
+        let all = stages.len();
+        prove!(0 < all);
+        stages[0].take_many(count, input);
     }
 
     #[inline(always)]

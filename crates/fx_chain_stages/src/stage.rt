@@ -195,6 +195,10 @@ impl Feeds for EffectStage {
         each!(self, stage => stage.one_to_one())
     }
 
+    fn none_due(&self) -> u64 {
+        each!(self, stage => stage.none_due())
+    }
+
     #[tactic(auto, using(crate::proofs::Registered::joined_through))]
     fn pass_frames(&mut self, count: usize, samples: &mut [i32]) {
         each!(self, stage => stage.pass_frames(count, samples))

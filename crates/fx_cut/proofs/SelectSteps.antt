@@ -163,6 +163,21 @@ module _ {M : Type 0} (selects : Selects M) where
         let others = due-along m s n h (λ i l. k i (omega arith)) in
         ap (selects.due m) next ∙ omega (arith, more, one, others)
 
+    -- while the line fills, and where the next frames to fall out are omitted, none is due
+    pub due-none : (m : M) (s n : ℕ) → ((i : ℕ) → i < n - (selects.reach m - s) → selects.gives m (determined_in selects m (s - selects.reach m + i)) (s - selects.reach m + i) ≡ false) → selects.due m (s + n) ≡ selects.due m s
+    due-none m s zero omitted = ap (selects.due m) (add-zero s)
+    due-none m s (suc n) omitted =
+        let next : s + suc n ≡ s + n + 1 = omega arith in
+        let others = due-none m s n (λ i l. omitted i (omega (arith, l))) in
+        elim (cases_lt (s + n) (selects.reach m)) [
+          | inl less ↦ rw next (due-early m (s + n) less ∙ others)
+          | inr more ↦
+              let last : s + n - selects.reach m ≡ s - selects.reach m + (n - (selects.reach m - s)) = omega (arith, more) in
+              let one = rw last at (due-next m (s + n) more) in
+              let none : ◌≡◌ {A = ℕ} (cond (selects.gives m (determined_in selects m (s - selects.reach m + (n - (selects.reach m - s)))) (s - selects.reach m + (n - (selects.reach m - s)))) 1 0) 0 = ap (λ b. cond b 1 0) (omitted (n - (selects.reach m - s)) (omega (arith, more))) in
+              rw next (omega (arith, one, none, others))
+        ]
+
     -- no more than one more is due for each frame that falls out
     pub due-maximum : (m : M) (s n : ℕ) → selects.due m (s + n) ≤ selects.due m s + (n - (selects.reach m - s))
     due-maximum m s zero = let same : s + 0 ≡ s = omega arith in rw same (omega arith)

@@ -420,6 +420,19 @@ impl<S: Selection + Drop> Feeds for Selected<S> {
         wanted(self.selection.enough(), self.taken)
     }
 
+    /// The frames that fill its line, and those that push omitted ones out of it.
+    fn none_due(&self) -> u64 {
+        let reach = self.line.capacity() as u64;
+        let free = reach.saturating_sub(self.taken);
+        let frame_run = self
+            .selection
+            .frame_run_from(self.taken.saturating_sub(reach));
+        if !frame_run.is_given {
+            return free.saturating_add(frame_run.frames);
+        }
+        free
+    }
+
     /// Once its line is full, the frames that push given ones out of it.
     fn one_to_one(&self) -> u64 {
         let lined = self.line.capacity() as u64;

@@ -14,3 +14,4 @@ pub mod Puts
 pub mod Rounds
 pub mod Shifts
 pub mod Tabulate
+pub mod TakenMany

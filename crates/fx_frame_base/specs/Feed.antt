@@ -14,6 +14,10 @@ module _ {S R : Type 0} (acts : Acts S R) where
   abbrev pub IsOneToOne : ℕ → S → Type 0
   IsOneToOne count s = (n : ℕ) → n ≤ count → (kind acts s).due ((acts.counts s).taken + n) ≡ (kind acts s).due (acts.counts s).taken + n
 
+  -- for each of `count` further frames, none is due
+  abbrev pub IsNoneDue : ℕ → S → Type 0
+  IsNoneDue count s = (n : ℕ) → n ≤ count → (kind acts s).due ((acts.counts s).taken + n) ≡ (kind acts s).due (acts.counts s).taken
+
   -- each of the `taken` frames was taken while the free space had a place for one frame more than was due before it
   abbrev pub TookWithinSpace : S → ℕ → ℕ → Type 0
   TookWithinSpace s taken free = (n : ℕ) → n < taken → ((kind acts s).due ((acts.counts s).taken + n) - (acts.counts s).given + 1) * (kind acts s).outputs ≤ free
@@ -26,6 +30,11 @@ module _ {S R : Type 0} (acts : Acts S R) where
     pub not_spent : spent acts s ≡ false
     pub took : Took acts s s' frame
     pub held : IsHeld s'
+
+  -- a stage took these frames one after another, and gave none
+  abbrev pub TookAll : List Samples → S → S → Type 0
+  TookAll [] s s' = s' ≡ s
+  TookAll (x ∷ xs) s s' = (next : S) × TookNext s next x × TookAll xs next s'
 
   -- a stage that was not dry gave a frame
   pub record GaveNext (s s' : S) (frame : Samples) : Type 0 where

@@ -2,13 +2,13 @@
 ghost use Rattle.std.specs.Prelude.{◌≡◌, ◌<◌, ◌≤◌, ◌+◌, ◌*◌, ◌++◌, ℕ, true, false, FitsSigned, drop, length, take};
 ghost use Rattle.std.specs.Int.{w32};
 ghost use Rattle.std.specs.List.{All};
-ghost use Rattle.fx_frame_base.specs.Feed.{Fed, IsOneToOne, PassedOn, TookWithinSpace};
+ghost use Rattle.fx_frame_base.specs.Feed.{Fed, IsNoneDue, IsOneToOne, PassedOn, TookAll, TookWithinSpace};
 ghost use Rattle.fx_frame_base.specs.Holds.{kinds};
 ghost use Rattle.fx_frame_base.specs.Lists.{pieces};
 ghost use Rattle.fx_frame_base.specs.Pipeline.{AreReady, EachThrough, PipelineThrough, outputs_of};
 ghost use Rattle.fx_frame_base.specs.Stage.{IsDry, IsLined, is_enough, kind, spent};
 
-use crate::frame::Frame;
+use crate::frame::{Frame, MAX_CHANNELS};
 use crate::stage::Stage;
 
 /// How many frames a stage took and gave.
@@ -149,6 +149,33 @@ pub trait Feeds: Stage {
         ensures { IsOneToOne Self.acts result self.now }
     {
         0
+    }
+
+    /// For that many more frames none is due.
+    fn none_due(&self) -> u64
+        ensures { IsNoneDue Self.acts result self.now }
+    {
+        0
+    }
+
+    /// Takes `count` frames one after another, for which none is due.
+    fn take_many(&mut self, count: usize, input: &[i32])
+        requires dry { Self.acts.dry self.old ≡ true }
+        requires not_ended { (Self.acts.counts self.old).ended ≡ false }
+        requires none_due { IsNoneDue Self.acts count self.old }
+        requires ahead { (n : ℕ) → n < count → is_enough (kind Self.acts self.old).enough ((Self.acts.counts self.old).taken + n) ≡ false }
+        requires inputs { (1 ≤ (kind Self.acts self.old).inputs) × ((kind Self.acts self.old).inputs ≤ 16) }
+        requires outputs { (kind Self.acts self.old).outputs ≤ 16 }
+        requires input { length input.now ≡ count * (kind Self.acts self.old).inputs }
+        requires below_limit { (Self.acts.counts self.old).taken + count ≤ (kind Self.acts self.old).limit }
+        ensures took { TookAll Self.acts (pieces (kind Self.acts self.old).inputs count input.now) self.old self.new }
+        ensures determined { IsDry Self.acts self.new }
+        ensures dry { Self.acts.dry self.new ≡ true }
+    {
+        let _determined = self.is_dry();
+        let mut space = [0; MAX_CHANNELS];
+        let _passed = self.feed(input, &mut space);
+        let _dry = self.is_dry();
     }
 
     /// As `pass_samples`, for `count` frames one after another, for each of which it gives one.

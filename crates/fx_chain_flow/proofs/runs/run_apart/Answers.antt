@@ -1,8 +1,52 @@
-use Rattle.std.proofs.Common.{rules, ◌≡◌, ◌∙◌, ◌*◌, ◌≤◌, arith}
+use Rattle.std.proofs.Common.{rules, ◌≡◌, ◌∙◌, ◌+◌, ◌*◌, ◌≤◌, [], refl, arith}
 use Rattle.std.proofs.Math.Nat.{mul-le-mul_left, mul-le-mul_right}
+use Rattle.fx_frame_base.specs.Lists.{pieces}
+use Rattle.fx_frame_base.proofs.Pieces.{length-pieces}
+use Rattle.fx_frame_base.proofs.Puts.{pieces-take}
+use Rattle.fx_chain_flow.specs.Runs.{flow_of}
+use Rattle.fx_chain_flow.proofs.Orders.{through-order}
+use Rattle.fx_chain_flow.proofs.PipelineRuns.{AreReady-run}
 use Rattle.fx_chain_flow.proofs.Pipelines.{AllHeld-lined}
+use Rattle.fx_chain_flow.proofs.TakenFirst.{AllHeld-taken, RanOn-taken, first-may-take}
 use Rattle.fx_chain_flow.proofs.Running.{AllAhead-less, outputs-keep}
 use Rattle.fx_chain_flow.proofs.runs.run_apart.Goals as goal
+
+pub take_first-requires-clause-may : goal.take_first-requires-clause-may
+take_first-requires-clause-may g c =
+    let acts = g.S.Stage.acts in
+    let first = c.none_due_of_first-none_due.ensures in
+    let count = c.none_due_of_first-none_due.result in
+    let left = c.requires.may_run.0 in
+    let may = c.requires.may_run.1 in
+    let some : 1 ≤ count = omega (arith, c.if-none_due-gt0.true) in
+    let ready = AreReady-run acts c.args.widths.inputs c.args.count left c.args.stages.now may (omega (arith, some, first.maximum)) c.requires.determined c.requires.ahead in
+    first-may-take acts c.args.widths.inputs count left c.args.stages.now ready (omega (arith, may.bound, first.maximum)) (AllAhead-less acts count c.args.count c.args.stages.now first.maximum c.requires.ahead) (first.none_due some)
+
+pub returns-then-none_due-gt0 : goal.returns-then-none_due-gt0
+returns-then-none_due-gt0 g c =
+    let acts = g.S.Stage.acts in
+    let first = c.none_due_of_first-none_due.ensures in
+    let inputs = c.args.widths.inputs in
+    let count = c.none_due_of_first-none_due.result in
+    let some : 1 ≤ count = omega (arith, c.if-none_due-gt0.true) in
+    let less : count * inputs ≤ c.args.count * inputs = mul-le-mul_right inputs first.maximum in
+    let same = pieces-take inputs count c.args.input.now (omega (arith, less, c.requires.input)) in
+    let changed = rw same at c.take_first.ensures.took in
+    let lined = AllHeld-lined acts c.args.stages.now c.requires.lined in
+    let held = AllHeld-taken acts (pieces inputs count c.args.input.now) c.args.stages.now c.take_first.new.stages lined changed in
+    record {
+      ran = λ left may.
+          RanOn-taken acts g.met.S.Stage.rises inputs c.args.count count left c.args.stages.now c.take_first.new.stages c.args.input.now c.requires.frame.0 c.requires.frame.1 first.maximum c.requires.input c.see_samples.ensures may c.requires.determined lined
+          (AllAhead-less acts count c.args.count c.args.stages.now first.maximum c.requires.ahead) changed;
+      read = first.maximum;
+      written = omega arith;
+      small = omega arith;
+      some = λ _. some;
+      rest_unchanged = refl;
+      order = λ left.
+          through-order acts g.S.StageCalls.handed (flow_of acts inputs c.args.stages.now left) (pieces inputs count c.args.input.now) [] count c.take_first.new.stages (length-pieces inputs count c.args.input.now) refl (rw same at c.take_first.ensures.handed) held;
+      held = held;
+    }
 
 pub run_one_to_one-requires-clause-output : goal.run_one_to_one-requires-clause-output
 run_one_to_one-requires-clause-output g c =
