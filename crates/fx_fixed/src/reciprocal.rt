@@ -116,15 +116,17 @@ fn clip_whole(number: i64) -> (i32, bool)
     if number >= -0x8000_0000 && number <= 0x7fff_ffff {
         return (number as i32, false);
     }
-    (clip_beyond(number), true)
+    clip_beyond(number)
 }
 
-/// The end of the range of a sample that is nearest to an integer beyond it.
-// A call, so that loops in which it is rare are not made for vectors.
+/// An integer that is no sample, clipped.
+// A call keeps loops in which it is rare from being made for vectors. It compares, although that is always true, since loops
+// would compare once more for each sample if they knew it.
 #[inline(never)]
-fn clip_beyond(number: i64) -> i32
+fn clip_beyond(number: i64) -> (i32, bool)
     requires { (clipping number).1 ≡ true }
-    ensures { clipping number ≡ (result, true) }
+    ensures { result ≡ clipping number }
 {
-    if number < 0 { i32::MIN } else { i32::MAX }
+    let sample = if number < 0 { i32::MIN } else { i32::MAX };
+    (sample, i64::from(sample) != number)
 }
