@@ -122,6 +122,7 @@ fn clip_whole(number: i64) -> (i32, bool)
 /// An integer that is no sample, clipped.
 // A call keeps loops in which it is rare from being made for vectors. It compares, although that is always true, since loops
 // would compare once more for each sample if they knew it.
+#[cold]
 #[inline(never)]
 fn clip_beyond(number: i64) -> (i32, bool)
     requires { (clipping number).1 ≡ true }
