@@ -1,73 +1,50 @@
-//! Divisors prepared once: each division after that is one multiplication and a shift.
-ghost use Rattle.std.specs.Prelude.{◌≡◌, ◌+◌, ◌*◌, ◌/◌, ◌^◌, ◌<◌, ◌≤◌, false, unsigned_abs};
+//! Denominators prepared once: each rounding after that is one signed multiplication and a shift.
+ghost use Rattle.std.specs.Prelude.{◌≡◌, ◌*◌, ◌^◌, ◌<◌, ◌≤◌, false, true, unsigned_abs};
 ghost use Rattle.fx_fixed.specs.Rounding.{clipping, nearest, rounding};
 
 use std::marker::Model;
-
-/// A divisor from 2 to `2^63 - 1`, prepared.
-#[derive(Drop)]
-pub struct Reciprocal {
-    divisor: u64,
-    factor: u64,
-    shift: u32,
-}
-
-// A prepared divisor is that divisor.
-impl Model for Reciprocal {
-    ghost use Rattle.std.specs.Prelude.{ℕ};
-    ghost use Rattle.fx_fixed.specs.Reciprocal.{IsReciprocal};
-
-    ghost Value = { ℕ };
-
-    ghost view = { λ r. r.divisor };
-
-    ghost invariant = { λ r. IsReciprocal r.divisor r.factor r.shift };
-}
-
-impl Reciprocal {
-    /// Prepares a divisor from 2 to `2^63 - 1`.
-    pub fn new(divisor: u64) -> Reciprocal
-        requires minimum { 2 ≤ divisor }
-        requires largest { divisor < 2 ^ 63 }
-        ensures { result ≡ divisor }
-    {
-        let shift = (divisor - 1).ilog2();
-        let power = 1_u128 << (64 + shift);
-        let factor = (power / u128::from(divisor) + 1) as u64;
-        Reciprocal {
-            divisor,
-            factor,
-            shift,
-        }
-    }
-
-    /// A number below `2^63` over the divisor, rounded down.
-    #[inline(always)]
-    pub fn divide(&self, number: u64) -> u64
-        requires { number < 2 ^ 63 }
-        ensures { result ≡ number / self.now }
-    {
-        let product = u128::from(number) * u128::from(self.factor);
-        ((product >> 64) as u64) >> self.shift
-    }
-}
 
 /// A denominator from 1 to `2^61`, prepared to round whole sums over it.
 #[derive(Drop)]
 pub struct Denominator {
     value: u64,
-    twice: Reciprocal,
+    /// The sum and the denominator are both multiplied by it, which leaves the fraction as it is: 3 for a power of two, else 1.
+    multiplier: i64,
+    /// Slightly above 2^(64 + shift) over the multiplied denominator.
+    factor: i64,
+    /// 2^(63 + shift).
+    half: i128,
+    shift: u32,
 }
 
 // A prepared denominator is that number.
 impl Model for Denominator {
-    ghost use Rattle.std.specs.Prelude.{ℕ, ◌≡◌, ◌*◌, ◌^◌, ◌≤◌};
+    ghost use Rattle.std.specs.Prelude.{ℕ};
+    ghost use Rattle.fx_fixed.specs.Reciprocal.{IsPrepared};
 
     ghost Value = { ℕ };
 
     ghost view = { λ d. d.value };
 
-    ghost invariant = { λ d. (d.value ≤ 2 ^ 61) × (d.twice ≡ 2 * d.value) };
+    ghost invariant = { λ d. IsPrepared d.value d.multiplier d.factor d.half d.shift };
+}
+
+/// A multiplier of a denominator, and a shift: the product lies strictly between `2^(shift + 1)` and `2^(shift + 2)`.
+fn multiplier_of(value: u64) -> (u64, u32)
+    requires minimum { 1 ≤ value }
+    requires largest { value ≤ 2 ^ 61 }
+    ensures positive { 1 ≤ result.0 }
+    ensures small { result.0 ≤ 3 }
+    ensures shift { result.1 ≤ 61 }
+    ensures above { 2 * 2 ^ result.1 < result.0 * value }
+    ensures below { result.0 * value < 4 * 2 ^ result.1 }
+{
+    let floor = value.ilog2();
+    if value == 1 << floor {
+        (3, floor)
+    } else {
+        (1, floor - 1)
+    }
 }
 
 impl Denominator {
@@ -77,9 +54,16 @@ impl Denominator {
         requires largest { value ≤ 2 ^ 61 }
         ensures { result ≡ value }
     {
+        let (multiplier, shift) = multiplier_of(value);
+        let power = 1_u128 << (64 + shift);
+        // The factor is above the exact one, so that halves below 0 are rounded away from zero as those above 0 are.
+        let factor = (power / u128::from(multiplier * value) + 1) as i64;
         Denominator {
             value,
-            twice: Reciprocal::new(2 * value),
+            multiplier: multiplier as i64,
+            factor,
+            half: (power / 2) as i128,
+            shift,
         }
     }
 
@@ -111,13 +95,15 @@ impl Denominator {
     }
 
     /// The integer nearest to a sum over the denominator, halves away from zero.
+    // A loop reads the factor from memory each time: where it is kept in a register its sign is lost, and three products are made.
     #[inline(always)]
     fn nearest(&self, sum: i64) -> i64
         requires { unsigned_abs sum ≤ 2 ^ 61 }
         ensures { result ≡ nearest sum self.now }
     {
-        let size = self.twice.divide(2 * sum.unsigned_abs() + self.value) as i64;
-        if sum < 0 { -size } else { size }
+        let scaled = i128::from(sum * self.multiplier);
+        let product = scaled * i128::from(self.factor) + self.half;
+        ((product >> 64) as i64) >> self.shift
     }
 }
 
@@ -130,9 +116,18 @@ fn clip_whole(number: i64) -> (i32, bool)
     if number >= -0x8000_0000 && number <= 0x7fff_ffff {
         return (number as i32, false);
     }
-    if number < 0 {
-        (i32::MIN, true)
-    } else {
-        (i32::MAX, true)
-    }
+    clip_beyond(number)
+}
+
+/// An integer that is no sample, clipped.
+// A call keeps loops in which it is rare from being made for vectors. It compares, although that is always true, since loops
+// would compare once more for each sample if they knew it.
+#[cold]
+#[inline(never)]
+fn clip_beyond(number: i64) -> (i32, bool)
+    requires { (clipping number).1 ≡ true }
+    ensures { result ≡ clipping number }
+{
+    let sample = if number < 0 { i32::MIN } else { i32::MAX };
+    (sample, i64::from(sample) != number)
 }

@@ -1,17 +1,19 @@
 -- Products of numbers of 16 bits, two neighbours added up, lane by lane.
-use Rattle.std.proofs.Common.{◌≡◌, ℕ, zero, suc, ◌+◌, ◌-◌, ◌/◌, ◌%◌, ◌^◌, ◌<◌, ◌≤◌, ap, ◌∙◌, refl, arith, ℤ, pos, negsuc, ◌*ℤ◌, ◌+ℤ◌, List, [], ◌∷◌, ◌++◌, to_z, of_z, w32, w64, FitsSigned, length, get_or, drop, take, replicate}
+use Rattle.std.proofs.Common.{◌≡◌, ℕ, zero, suc, sym, inl, inr, ◌⊎◌, ◌+◌, ◌-◌, ◌*◌, ◌/◌, ◌%◌, ◌^◌, ◌<◌, ◌≤◌, ap, ◌∙◌, refl, arith, ℤ, pos, negsuc, ◌*ℤ◌, ◌+ℤ◌, List, [], ◌∷◌, ◌++◌, to_z, of_z, w32, w64, FitsSigned, length, get_or, drop, take, replicate}
 use Rattle.std.specs.Prelude.{map, unsigned_abs}
+use Rattle.std.proofs.Math.Nat.{lt_of_mul-lt-mul_right}
+use Rattle.fx_tap_sums.proofs.Numbers.{add-mul}
 use Rattle.std.specs.Int.{w16}
 use Rattle.std.specs.Simd.Lanes.{Each1, Each2, chunk, zip2}
-use Rattle.std.proofs.lemmas.Int.{ints, to_z-of_z, fits_signed_from_abs, fits_signed_mul, unsigned_abs-mul}
+use Rattle.std.proofs.lemmas.Int.{ints, to_z-of_z, to_z_pos, fits_signed_from_abs, fits_signed_mul, unsigned_abs-mul}
 use Rattle.std.proofs.lemmas.Simd.{Each1-get_or, Each1-from_get_or, length-zip2, get_or-replicate, get_or-zip2, get_or-chunk, length-chunk}
 use Rattle.std.proofs.lemmas.List.{get_or-map, get_or_append_left, get_or-append_right, length-map, length-drop, length-take-le, take_all}
 use Rattle.fx_tap_sums.specs.Lanes.{LanesWithin, WithinLane}
-use Rattle.fx_tap_sums.specs.Pairs.{EightHalves, FourFit, IsFloor, joined_halves, pair_product}
+use Rattle.fx_tap_sums.specs.Pairs.{EightHalves, FourFit, IsFloor, IsSplit, joined_halves, pair_product}
 use borrow.Rule.Simd.Lanes.{act1, act2, Asks1, Asks2}
 use borrow.Table.Row.{s_int}
 use Rattle.std.specs.Prelude.{◌-ℤ◌}
-use lib.Signed.{shr_z}
+use lib.Signed.{mag_shr, shr_z}
 use mir.Syntax.{Width, shr, add, sub, mul, cast, signed}
 
 -- ---- numbers of 16 bits in 32
@@ -269,163 +271,291 @@ four-within a b c d x y z w p q r s e f g h = record {
 
 -- ---- carries
 
-shifted-fits : (z : ℤ) → FitsSigned w32 z → FitsSigned w32 (shr_z z 16384)
-shifted-fits (pos n) fits = fits_signed_from_abs w32 (pos (n / 16384)) (omega (arith, ints))
-shifted-fits (negsuc n) fits = fits_signed_from_abs w32 (negsuc (n / 16384)) (omega (arith, ints))
+shifted-fits : (m : ℕ) (z : ℤ) → FitsSigned w32 z → FitsSigned w32 (shr_z z m)
+shifted-fits m z fits = record { sfits = omega (arith, mag_shr z m, fits.sfits) }
 
-shifted-floor : (z : ℤ) → IsFloor z (shr_z z 16384)
-shifted-floor (pos n) = record {
-  rest = n % 16384;
-  is = omega (arith, ints);
-  below = omega arith;
-}
-shifted-floor (negsuc n) = record {
-  rest = 16383 - n % 16384;
-  is = omega (arith, ints);
-  below = omega arith;
-}
+shifted-floor : (m : ℕ) → 0 < m → (z : ℤ) → IsFloor m z (shr_z z m)
+shifted-floor m some (pos n) =
+    let cut : n / m * m + n % m ≡ n = omega arith in
+    record {
+      rest = n % m;
+      is = ap pos (sym cut);
+      below = omega arith;
+    }
+shifted-floor m some (negsuc n) =
+    let cut : n / m * m + n % m ≡ n = omega arith in
+    let below : n % m < m = omega arith in
+    record {
+      rest = m - 1 - n % m;
+      is = omega (arith, ints, cut, below);
+      below = omega (arith, some);
+    }
 
-pub shift_is : (xs : List ℤ) → length xs ≡ 4 → Each1 (FitsSigned w32) xs
-    → map (to_z w32) (zip2 (act2 (shr signed) (s_int w32) (s_int w32) (s_int w32)) (map (of_z w32) xs) (14 ∷ 14 ∷ 14 ∷ 14 ∷ [])) ≡ map (λ x. shr_z x 16384) xs
-shift_is (a ∷ b ∷ c ∷ d ∷ []) four fits =
-    let first = shift-lane a fits.0 in
-    let second = shift-lane b fits.1.0 in
-    let third = shift-lane c fits.1.1.0 in
-    let fourth = shift-lane d fits.1.1.1.0 in
+shift-lane : (n : ℕ) → IsSplit n → (z : ℤ) → FitsSigned w32 z → to_z w32 (act2 (shr signed) (s_int w32) (s_int w32) (s_int w32) (of_z w32 z) n) ≡ shr_z z (2 ^ n)
+shift-lane n (inl e) z fits = rw e (ap (λ y. to_z w32 (of_z w32 (shr_z y 8192))) (to_z-of_z w32 z fits) ∙ to_z-of_z w32 (shr_z z 8192) (shifted-fits 8192 z fits))
+shift-lane n (inr e) z fits = rw e (ap (λ y. to_z w32 (of_z w32 (shr_z y 16384))) (to_z-of_z w32 z fits) ∙ to_z-of_z w32 (shr_z z 16384) (shifted-fits 16384 z fits))
+
+pub shift_is : (n : ℕ) → IsSplit n → (xs : List ℤ) → length xs ≡ 4 → Each1 (FitsSigned w32) xs
+    → map (to_z w32) (zip2 (act2 (shr signed) (s_int w32) (s_int w32) (s_int w32)) (map (of_z w32) xs) (n ∷ n ∷ n ∷ n ∷ [])) ≡ map (λ x. shr_z x (2 ^ n)) xs
+shift_is n is (a ∷ b ∷ c ∷ d ∷ []) four fits =
+    let first = shift-lane n is a fits.0 in
+    let second = shift-lane n is b fits.1.0 in
+    let third = shift-lane n is c fits.1.1.0 in
+    let fourth = shift-lane n is d fits.1.1.1.0 in
     rw (first, second, third, fourth) refl
-  where
-    shift-lane : (z : ℤ) → FitsSigned w32 z → to_z w32 (act2 (shr signed) (s_int w32) (s_int w32) (s_int w32) (of_z w32 z) 14) ≡ shr_z z 16384
-    shift-lane z fits = ap (λ y. to_z w32 (of_z w32 (shr_z y 16384))) (to_z-of_z w32 z fits) ∙ to_z-of_z w32 (shr_z z 16384) (shifted-fits z fits)
-shift_is [] four fits = absurd (omega arith)
-shift_is (a ∷ []) four fits = absurd (omega arith)
-shift_is (a ∷ b ∷ []) four fits = absurd (omega arith)
-shift_is (a ∷ b ∷ c ∷ []) four fits = absurd (omega arith)
-shift_is (a ∷ b ∷ c ∷ d ∷ e ∷ xs) four fits = absurd (omega arith)
+shift_is n is [] four fits = absurd (omega arith)
+shift_is n is (a ∷ []) four fits = absurd (omega arith)
+shift_is n is (a ∷ b ∷ []) four fits = absurd (omega arith)
+shift_is n is (a ∷ b ∷ c ∷ []) four fits = absurd (omega arith)
+shift_is n is (a ∷ b ∷ c ∷ d ∷ e ∷ xs) four fits = absurd (omega arith)
 
-pub each-shifted-fits : (xs : List ℤ) → Each1 (FitsSigned w32) xs → Each1 (FitsSigned w32) (map (λ x. shr_z x 16384) xs)
-each-shifted-fits [] fits = tt
-each-shifted-fits (x ∷ xs) fits = (shifted-fits x fits.0, each-shifted-fits xs fits.1)
+pub each-shifted-fits : (m : ℕ) (xs : List ℤ) → Each1 (FitsSigned w32) xs → Each1 (FitsSigned w32) (map (λ x. shr_z x m) xs)
+each-shifted-fits m [] fits = tt
+each-shifted-fits m (x ∷ xs) fits = (shifted-fits m x fits.0, each-shifted-fits m xs fits.1)
 
-pub shifted-fit : (xs : List ℤ) → FourFit xs → FourFit (map (λ x. shr_z x 16384) xs)
-shifted-fit xs fit = record {
-  four = length-map xs (λ x. shr_z x 16384) ∙ fit.four;
-  fits = each-shifted-fits xs fit.fits;
+pub shifted-fit : (m : ℕ) (xs : List ℤ) → FourFit xs → FourFit (map (λ x. shr_z x m) xs)
+shifted-fit m xs fit = record {
+  four = length-map xs (λ x. shr_z x m) ∙ fit.four;
+  fits = each-shifted-fits m xs fit.fits;
 }
 
-pub shifted-is-floor : (xs : List ℤ) (k : ℕ) → k < length xs → IsFloor (get_or xs k (pos 0)) (get_or (map (λ x. shr_z x 16384) xs) k (pos 0))
-shifted-is-floor xs k l = rw (get_or-map (λ x. shr_z x 16384) xs k (pos 0) (pos 0) l) (shifted-floor (get_or xs k (pos 0)))
+pub shifted-is-floor : (m : ℕ) → 0 < m → (xs : List ℤ) (k : ℕ) → k < length xs → IsFloor m (get_or xs k (pos 0)) (get_or (map (λ x. shr_z x m) xs) k (pos 0))
+shifted-is-floor m some xs k l = rw (get_or-map (λ x. shr_z x m) xs k (pos 0) (pos 0) l) (shifted-floor m some (get_or xs k (pos 0)))
 
--- ---- lanes less multiples of 2^14
+-- ---- lanes less multiples of a step
 
-abbrev pub AreFloors : List ℤ → List ℤ → Type 0
-AreFloors xs qs = Each2 (λ (x q : ℤ). IsFloor x q) xs qs
+abbrev pub AreFloors : ℕ → List ℤ → List ℤ → Type 0
+AreFloors m xs qs = Each2 (λ (x q : ℤ). IsFloor m x q) xs qs
 
-floor-fits : (x q : ℤ) → FitsSigned w32 x → IsFloor x q → FitsSigned w32 (q *ℤ pos 16384)
-floor-fits x (pos q) fits f =
+-- a step is one of the two
+abbrev pub IsStep : ℕ → Type 0
+IsStep m = (m ≡ 8192) ⊎ (m ≡ 16384)
+
+pub step-of : (n : ℕ) → IsSplit n → IsStep (2 ^ n)
+step-of n (inl e) = inl (rw e refl)
+step-of n (inr e) = inr (rw e refl)
+
+floor-fits_8192 : (x q : ℤ) → FitsSigned w32 x → IsFloor 8192 x q → FitsSigned w32 (q *ℤ pos 8192)
+floor-fits_8192 x (pos q) fits f =
     let is = f.is in
     let below = f.below in
     record { sfits = omega (arith, ints, is, below) }
-floor-fits x (negsuc q) fits f =
+floor-fits_8192 x (negsuc q) fits f =
     let is = f.is in
     let below = f.below in
     record { sfits = omega (arith, ints, is, below) }
 
-rest-fits : (x q : ℤ) → IsFloor x q → FitsSigned w32 (x -ℤ (q *ℤ pos 16384))
-rest-fits x q f =
+floor-fits_16384 : (x q : ℤ) → FitsSigned w32 x → IsFloor 16384 x q → FitsSigned w32 (q *ℤ pos 16384)
+floor-fits_16384 x (pos q) fits f =
     let is = f.is in
     let below = f.below in
-    fits_signed_from_abs w32 (x -ℤ (q *ℤ pos 16384)) (omega (arith, ints, is, below))
+    record { sfits = omega (arith, ints, is, below) }
+floor-fits_16384 x (negsuc q) fits f =
+    let is = f.is in
+    let below = f.below in
+    record { sfits = omega (arith, ints, is, below) }
 
-pub floors-mul_asked : (xs qs : List ℤ) → Each1 (FitsSigned w32) xs → Each1 (FitsSigned w32) qs → AreFloors xs qs → length xs ≡ 4 → length qs ≡ 4
-    → Each2 (Asks2 (mul signed) (s_int w32) (s_int w32)) (map (of_z w32) qs) (16384 ∷ 16384 ∷ 16384 ∷ 16384 ∷ [])
-floors-mul_asked (a ∷ b ∷ c ∷ d ∷ []) (p ∷ q ∷ r ∷ s ∷ []) f g h four same = (asked a p f.0 g.0 h.0, (asked b q f.1.0 g.1.0 h.1.0, (asked c r f.1.1.0 g.1.1.0 h.1.1.0, (asked d s f.1.1.1.0 g.1.1.1.0 h.1.1.1.0, tt))))
+floor-fits : (m : ℕ) → IsStep m → (x q : ℤ) → FitsSigned w32 x → IsFloor m x q → FitsSigned w32 (q *ℤ pos m)
+floor-fits m (inl e) x q fits f = rw e (floor-fits_8192 x q fits (rw e at f))
+floor-fits m (inr e) x q fits f = rw e (floor-fits_16384 x q fits (rw e at f))
+
+step-most : (m : ℕ) → IsStep m → m ≤ 16384
+step-most m (inl e) = omega (arith, e)
+step-most m (inr e) = omega (arith, e)
+
+-- a step that is made of its power, and one that is read from its bits
+pub step-is : (n : ℕ) → IsSplit n → 1 * 2 ^ n % 2 ^ 32 ≡ 2 ^ n
+step-is n (inl e) = rw e refl
+step-is n (inr e) = rw e refl
+
+pub wide-step-is : (n : ℕ) → IsSplit n → 1 * 2 ^ n % 2 ^ 64 ≡ 2 ^ n
+wide-step-is n (inl e) = rw e refl
+wide-step-is n (inr e) = rw e refl
+
+step-value : (m : ℕ) → IsStep m → to_z w32 m ≡ pos m
+step-value m step =
+    let most = step-most m step in
+    to_z_pos w32 m (omega (arith, most))
+
+rest-is : (m : ℕ) (x q : ℤ) (f : IsFloor m x q) → x -ℤ (q *ℤ pos m) ≡ pos f.rest
+rest-is m x q f =
+    let is = f.is in
+    omega (arith, ints, is)
+
+rest-fits : (m : ℕ) → IsStep m → (x q : ℤ) → IsFloor m x q → FitsSigned w32 (x -ℤ (q *ℤ pos m))
+rest-fits m step x q f =
+    let most = step-most m step in
+    let below = f.below in
+    rw (rest-is m x q f) (fits_signed_from_abs w32 (pos f.rest) (omega (arith, most, below)))
+
+pub floors-mul_asked : (m : ℕ) → IsStep m → (xs qs : List ℤ) → Each1 (FitsSigned w32) xs → Each1 (FitsSigned w32) qs → AreFloors m xs qs → length xs ≡ 4 → length qs ≡ 4
+    → Each2 (Asks2 (mul signed) (s_int w32) (s_int w32)) (map (of_z w32) qs) (m ∷ m ∷ m ∷ m ∷ [])
+floors-mul_asked m step (a ∷ b ∷ c ∷ d ∷ []) (p ∷ q ∷ r ∷ s ∷ []) f g h four same = (asked a p f.0 g.0 h.0, (asked b q f.1.0 g.1.0 h.1.0, (asked c r f.1.1.0 g.1.1.0 h.1.1.0, (asked d s f.1.1.1.0 g.1.1.1.0 h.1.1.1.0, tt))))
   where
-    asked : (x q : ℤ) → FitsSigned w32 x → FitsSigned w32 q → IsFloor x q → Asks2 (mul signed) (s_int w32) (s_int w32) (of_z w32 q) 16384
+    asked : (x q : ℤ) → FitsSigned w32 x → FitsSigned w32 q → IsFloor m x q → Asks2 (mul signed) (s_int w32) (s_int w32) (of_z w32 q) m
     asked x q f g h =
         let q_is = to_z-of_z w32 q g in
-        rw q_is (floor-fits x q f h)
-floors-mul_asked _ _ f g h four same = absurd (omega arith)
+        rw (q_is, step-value m step) (floor-fits m step x q f h)
+floors-mul_asked m step _ _ f g h four same = absurd (omega arith)
 
 four-same : (a b c d x y z w : ℤ) → a ≡ x → b ≡ y → c ≡ z → d ≡ w → a ∷ b ∷ c ∷ d ∷ [] ≡ x ∷ y ∷ z ∷ w ∷ []
 four-same a b c d x y z w p q r s = cc
 
 -- the bits of the multiples
-abbrev pub floor-products : List ℤ → List ℕ
-floor-products qs = zip2 (act2 (mul signed) (s_int w32) (s_int w32) (s_int w32)) (map (of_z w32) qs) (16384 ∷ 16384 ∷ 16384 ∷ 16384 ∷ [])
+abbrev pub floor-products : ℕ → List ℤ → List ℕ
+floor-products m qs = zip2 (act2 (mul signed) (s_int w32) (s_int w32) (s_int w32)) (map (of_z w32) qs) (m ∷ m ∷ m ∷ m ∷ [])
 
-pub rest_asked : (xs qs : List ℤ) → Each1 (FitsSigned w32) xs → Each1 (FitsSigned w32) qs → AreFloors xs qs → length xs ≡ 4 → length qs ≡ 4
-    → Each2 (Asks2 (sub signed) (s_int w32) (s_int w32)) (map (of_z w32) xs) (floor-products qs)
-rest_asked (a ∷ b ∷ c ∷ d ∷ []) (p ∷ q ∷ r ∷ s ∷ []) f g h four same = (asked a p f.0 g.0 h.0, (asked b q f.1.0 g.1.0 h.1.0, (asked c r f.1.1.0 g.1.1.0 h.1.1.0, (asked d s f.1.1.1.0 g.1.1.1.0 h.1.1.1.0, tt))))
+pub rest_asked : (m : ℕ) → IsStep m → (xs qs : List ℤ) → Each1 (FitsSigned w32) xs → Each1 (FitsSigned w32) qs → AreFloors m xs qs → length xs ≡ 4 → length qs ≡ 4
+    → Each2 (Asks2 (sub signed) (s_int w32) (s_int w32)) (map (of_z w32) xs) (floor-products m qs)
+rest_asked m step (a ∷ b ∷ c ∷ d ∷ []) (p ∷ q ∷ r ∷ s ∷ []) f g h four same = (asked a p f.0 g.0 h.0, (asked b q f.1.0 g.1.0 h.1.0, (asked c r f.1.1.0 g.1.1.0 h.1.1.0, (asked d s f.1.1.1.0 g.1.1.1.0 h.1.1.1.0, tt))))
   where
-    asked : (x q : ℤ) → FitsSigned w32 x → FitsSigned w32 q → IsFloor x q → Asks2 (sub signed) (s_int w32) (s_int w32) (of_z w32 x) (act2 (mul signed) (s_int w32) (s_int w32) (s_int w32) (of_z w32 q) 16384)
+    asked : (x q : ℤ) → FitsSigned w32 x → FitsSigned w32 q → IsFloor m x q → Asks2 (sub signed) (s_int w32) (s_int w32) (of_z w32 x) (act2 (mul signed) (s_int w32) (s_int w32) (s_int w32) (of_z w32 q) m)
     asked x q f g h =
         let x_is = to_z-of_z w32 x f in
         let q_is = to_z-of_z w32 q g in
-        let product_is = to_z-of_z w32 (q *ℤ pos 16384) (floor-fits x q f h) in
-        rw (x_is, q_is, product_is) (rest-fits x q h)
-rest_asked _ _ f g h four same = absurd (omega arith)
+        let product_is = to_z-of_z w32 (q *ℤ pos m) (floor-fits m step x q f h) in
+        rw (x_is, q_is, step-value m step, product_is) (rest-fits m step x q h)
+rest_asked m step _ _ f g h four same = absurd (omega arith)
 
 -- what is left of each lane
-abbrev pub rest_lanes : List ℤ → List ℤ → List ℤ
-rest_lanes xs qs = zip2 (λ x q. x -ℤ (q *ℤ pos 16384)) xs qs
+abbrev pub rest_lanes : ℕ → List ℤ → List ℤ → List ℤ
+rest_lanes m xs qs = zip2 (λ x q. x -ℤ (q *ℤ pos m)) xs qs
 
-pub rest_are : (xs qs : List ℤ) → Each1 (FitsSigned w32) xs → Each1 (FitsSigned w32) qs → AreFloors xs qs → length xs ≡ 4 → length qs ≡ 4
-    → map (to_z w32) (zip2 (act2 (sub signed) (s_int w32) (s_int w32) (s_int w32)) (map (of_z w32) xs) (floor-products qs)) ≡ rest_lanes xs qs
-rest_are (a ∷ b ∷ c ∷ d ∷ []) (p ∷ q ∷ r ∷ s ∷ []) f g h four same =
+pub rest_are : (m : ℕ) → IsStep m → (xs qs : List ℤ) → Each1 (FitsSigned w32) xs → Each1 (FitsSigned w32) qs → AreFloors m xs qs → length xs ≡ 4 → length qs ≡ 4
+    → map (to_z w32) (zip2 (act2 (sub signed) (s_int w32) (s_int w32) (s_int w32)) (map (of_z w32) xs) (floor-products m qs)) ≡ rest_lanes m xs qs
+rest_are m step (a ∷ b ∷ c ∷ d ∷ []) (p ∷ q ∷ r ∷ s ∷ []) f g h four same =
     let first = rest a p f.0 g.0 h.0 in
     let second = rest b q f.1.0 g.1.0 h.1.0 in
     let third = rest c r f.1.1.0 g.1.1.0 h.1.1.0 in
     let fourth = rest d s f.1.1.1.0 g.1.1.1.0 h.1.1.1.0 in
     four-same _ _ _ _ _ _ _ _ first second third fourth
   where
-    rest : (x q : ℤ) → FitsSigned w32 x → FitsSigned w32 q → IsFloor x q → to_z w32 (act2 (sub signed) (s_int w32) (s_int w32) (s_int w32) (of_z w32 x) (act2 (mul signed) (s_int w32) (s_int w32) (s_int w32) (of_z w32 q) 16384)) ≡ x -ℤ (q *ℤ pos 16384)
+    rest : (x q : ℤ) → FitsSigned w32 x → FitsSigned w32 q → IsFloor m x q → to_z w32 (act2 (sub signed) (s_int w32) (s_int w32) (s_int w32) (of_z w32 x) (act2 (mul signed) (s_int w32) (s_int w32) (s_int w32) (of_z w32 q) m)) ≡ x -ℤ (q *ℤ pos m)
     rest x q f g h =
         let x_is = to_z-of_z w32 x f in
         let q_is = to_z-of_z w32 q g in
-        let product_is = to_z-of_z w32 (q *ℤ pos 16384) (floor-fits x q f h) in
-        let rest_is = to_z-of_z w32 (x -ℤ (q *ℤ pos 16384)) (rest-fits x q h) in
-        rw (x_is, q_is, product_is, rest_is) refl
-rest_are _ _ f g h four same = absurd (omega arith)
+        let product_is = to_z-of_z w32 (q *ℤ pos m) (floor-fits m step x q f h) in
+        let rest_is = to_z-of_z w32 (x -ℤ (q *ℤ pos m)) (rest-fits m step x q h) in
+        rw (x_is, q_is, step-value m step, product_is, rest_is) refl
+rest_are m step _ _ f g h four same = absurd (omega arith)
 
-pub floors : (xs qs : List ℤ) → length xs ≡ 4 → length qs ≡ 4 → ((k : ℕ) → k < 4 → IsFloor (get_or xs k (pos 0)) (get_or qs k (pos 0))) → AreFloors xs qs
-floors xs qs four same is = rw (four_of xs four, four_of qs same) (is 0 (omega arith), (is 1 (omega arith), (is 2 (omega arith), (is 3 (omega arith), tt))))
+pub floors : (m : ℕ) (xs qs : List ℤ) → length xs ≡ 4 → length qs ≡ 4 → ((k : ℕ) → k < 4 → IsFloor m (get_or xs k (pos 0)) (get_or qs k (pos 0))) → AreFloors m xs qs
+floors m xs qs four same is = rw (four_of xs four, four_of qs same) (is 0 (omega arith), (is 1 (omega arith), (is 2 (omega arith), (is 3 (omega arith), tt))))
 
-each-rest-fits : (xs qs : List ℤ) → AreFloors xs qs → Each1 (FitsSigned w32) (rest_lanes xs qs)
-each-rest-fits [] qs h = tt
-each-rest-fits (x ∷ xs) [] h = tt
-each-rest-fits (x ∷ xs) (q ∷ qs) h = (rest-fits x q h.0, each-rest-fits xs qs h.1)
+each-rest-fits : (m : ℕ) → IsStep m → (xs qs : List ℤ) → AreFloors m xs qs → Each1 (FitsSigned w32) (rest_lanes m xs qs)
+each-rest-fits m step [] qs h = tt
+each-rest-fits m step (x ∷ xs) [] h = tt
+each-rest-fits m step (x ∷ xs) (q ∷ qs) h = (rest-fits m step x q h.0, each-rest-fits m step xs qs h.1)
 
-pub rest-fit : (xs qs : List ℤ) → AreFloors xs qs → length xs ≡ 4 → length qs ≡ 4 → FourFit (rest_lanes xs qs)
-rest-fit xs qs h four same = record {
-  four = length-zip2 (λ x q. x -ℤ (q *ℤ pos 16384)) xs qs (omega (arith, four, same)) ∙ four;
-  fits = each-rest-fits xs qs h;
+pub rest-fit : (m : ℕ) → IsStep m → (xs qs : List ℤ) → AreFloors m xs qs → length xs ≡ 4 → length qs ≡ 4 → FourFit (rest_lanes m xs qs)
+rest-fit m step xs qs h four same = record {
+  four = length-zip2 (λ x q. x -ℤ (q *ℤ pos m)) xs qs (omega (arith, four, same)) ∙ four;
+  fits = each-rest-fits m step xs qs h;
 }
 
-pub rest-at : (xs qs : List ℤ) (k : ℕ) → length xs ≡ 4 → length qs ≡ 4 → k < 4 → get_or (rest_lanes xs qs) k (pos 0) ≡ get_or xs k (pos 0) -ℤ (get_or qs k (pos 0) *ℤ pos 16384)
-rest-at xs qs k four same l = get_or-zip2 (λ x q. x -ℤ (q *ℤ pos 16384)) xs qs k (pos 0) (pos 0) (pos 0) (omega (arith, four, l)) (omega (arith, same, l))
+pub rest-at : (m : ℕ) (xs qs : List ℤ) (k : ℕ) → length xs ≡ 4 → length qs ≡ 4 → k < 4 → get_or (rest_lanes m xs qs) k (pos 0) ≡ get_or xs k (pos 0) -ℤ (get_or qs k (pos 0) *ℤ pos m)
+rest-at m xs qs k four same l = get_or-zip2 (λ x q. x -ℤ (q *ℤ pos m)) xs qs k (pos 0) (pos 0) (pos 0) (omega (arith, four, l)) (omega (arith, same, l))
 
-pub carry-bound : (h l q : ℤ) → IsFloor l q → unsigned_abs (joined_halves h l) ≤ 2 ^ 45 - 2 ^ 31 → unsigned_abs (h +ℤ q) < 2 ^ 31
-carry-bound h l q f small =
-    let size = unsigned_abs-mul (h +ℤ q) (pos 16384) in
+pub carry-bound : (m : ℕ) → IsStep m → (h l q : ℤ) → IsFloor m l q → unsigned_abs (joined_halves m h l) ≤ 2 ^ 31 * (m - 1) → unsigned_abs (h +ℤ q) < 2 ^ 31
+carry-bound m step h l q f small =
+    let size = unsigned_abs-mul (h +ℤ q) (pos m) in
+    let sum = add-mul h q (pos m) in
+    let is = f.is in
+    let rest = f.below in
+    let positive : 0 < m = elim step [ inl e ↦ omega (arith, e) | inr e ↦ omega (arith, e) ] in
+    let split : (h +ℤ q) *ℤ pos m +ℤ pos f.rest ≡ joined_halves m h l = omega (arith, ints, is, sum) in
+    let most = step-most m step in
+    let below : unsigned_abs (h +ℤ q) * m < 2 ^ 31 * m = omega (arith, ints, split, size, small, rest, positive, most) in
+    lt_of_mul-lt-mul_right m below
+
+pub carry-value : (m : ℕ) (h l q : ℤ) → joined_halves m (h +ℤ q) (l -ℤ (q *ℤ pos m)) ≡ joined_halves m h l
+carry-value m h l q =
+    let sum = add-mul h q (pos m) in
+    omega (arith, ints, sum)
+
+pub rest-below : (m : ℕ) → IsStep m → (l q : ℤ) → IsFloor m l q → unsigned_abs (l -ℤ (q *ℤ pos m)) ≤ 2 ^ 14
+rest-below m step l q f =
+    let most = step-most m step in
+    let below = f.below in
+    rw (rest-is m l q f) (omega (arith, most, below))
+
+-- ---- the parts of a weight
+
+-- what is given of a weight and a step
+pub record Weighed (m half : ℕ) (z : ℤ) : Type 0 where
+  twice : m ≡ 2 * half
+  most : m ≤ 16384
+  some : 0 < half
+  fits : FitsSigned w32 z
+  bound : unsigned_abs z ≤ 32767 * m
+
+abbrev part-above : ℕ → ℕ → ℤ → ℤ
+part-above m half z = shr_z (z +ℤ pos half) m
+
+half-sum-fits : (m half : ℕ) (z : ℤ) → Weighed m half z → FitsSigned w32 (z +ℤ pos half)
+half-sum-fits m half z w =
+    let most = w.most in
+    let twice = w.twice in
+    let bound = w.bound in
+    fits_signed_from_abs w32 (z +ℤ pos half) (omega (arith, ints, most, twice, bound))
+
+above-is : (m half : ℕ) (z : ℤ) → Weighed m half z → to_z w32 (of_z w32 (shr_z (to_z w32 (of_z w32 (to_z w32 (of_z w32 z) +ℤ pos half))) m)) ≡ part-above m half z
+above-is m half z w =
+    let fits = half-sum-fits m half z w in
+    rw (to_z-of_z w32 z w.fits, to_z-of_z w32 (z +ℤ pos half) fits) (to_z-of_z w32 (part-above m half z) (shifted-fits m (z +ℤ pos half) fits))
+
+-- the low part, which the multiple leaves
+below-bound : (m half : ℕ) (z : ℤ) → Weighed m half z → unsigned_abs (z -ℤ (part-above m half z *ℤ pos m)) ≤ 8192
+below-bound m half z w =
+    let most = w.most in
+    let twice = w.twice in
+    let some = w.some in
+    let f = shifted-floor m (omega (arith, twice, some)) (z +ℤ pos half) in
     let is = f.is in
     let below = f.below in
-    let split : (h +ℤ q) *ℤ pos 16384 +ℤ pos f.rest ≡ joined_halves h l = omega (arith, ints, is) in
-    omega (arith, ints, split, size, small, below)
+    omega (arith, ints, is, below, most, twice)
 
-pub carry-value : (h l q : ℤ) → joined_halves (h +ℤ q) (l -ℤ (q *ℤ pos 16384)) ≡ joined_halves h l
-carry-value h l q = omega (arith, ints)
+product-fits : (m half : ℕ) (z : ℤ) → Weighed m half z → FitsSigned w32 (part-above m half z *ℤ pos m)
+product-fits m half z w =
+    let most = w.most in
+    let bound = w.bound in
+    let low = below-bound m half z w in
+    fits_signed_from_abs w32 (part-above m half z *ℤ pos m) (omega (arith, ints, most, bound, low))
 
-pub rest-below : (l q : ℤ) → IsFloor l q → unsigned_abs (l -ℤ (q *ℤ pos 16384)) ≤ 2 ^ 14
-rest-below l q f =
-    let is = f.is in
-    let below = f.below in
-    omega (arith, ints, is, below)
+below-fits : (m half : ℕ) (z : ℤ) → Weighed m half z → FitsSigned w32 (z -ℤ (part-above m half z *ℤ pos m))
+below-fits m half z w =
+    let low = below-bound m half z w in
+    fits_signed_from_abs w32 (z -ℤ (part-above m half z *ℤ pos m)) (omega (arith, low))
+
+-- the difference as the code makes it, of the high part as the code makes it
+difference-is : (m half : ℕ) (z : ℤ) → Weighed m half z
+    → to_z w32 (of_z w32 z) -ℤ to_z w32 (of_z w32 (to_z w32 (of_z w32 (shr_z (to_z w32 (of_z w32 (to_z w32 (of_z w32 z) +ℤ pos half))) m)) *ℤ pos m)) ≡ z -ℤ (part-above m half z *ℤ pos m)
+difference-is m half z w = rw (above-is m half z w, to_z-of_z w32 z w.fits, to_z-of_z w32 (part-above m half z *ℤ pos m) (product-fits m half z w)) refl
+
+pub part-fits : (m half : ℕ) (z : ℤ) → Weighed m half z
+    → FitsSigned w32 (to_z w32 (of_z w32 z) -ℤ to_z w32 (of_z w32 (to_z w32 (of_z w32 (shr_z (to_z w32 (of_z w32 (to_z w32 (of_z w32 z) +ℤ pos half))) m)) *ℤ pos m)))
+part-fits m half z w = rw (difference-is m half z w) (below-fits m half z w)
+
+pub part-low : (m half : ℕ) (z : ℤ) → Weighed m half z
+    → unsigned_abs (to_z w32 (of_z w32 (to_z w32 (of_z w32 z) -ℤ to_z w32 (of_z w32 (to_z w32 (of_z w32 (shr_z (to_z w32 (of_z w32 (to_z w32 (of_z w32 z) +ℤ pos half))) m)) *ℤ pos m))))) ≤ 8192
+part-low m half z w = rw (difference-is m half z w, to_z-of_z w32 (z -ℤ (part-above m half z *ℤ pos m)) (below-fits m half z w)) (below-bound m half z w)
+
+pub part-joined : (m half : ℕ) (z : ℤ) → Weighed m half z
+    → z ≡ joined_halves m (to_z w32 (of_z w32 (shr_z (to_z w32 (of_z w32 (to_z w32 (of_z w32 z) +ℤ pos half))) m))) (to_z w32 (of_z w32 (to_z w32 (of_z w32 z) -ℤ to_z w32 (of_z w32 (to_z w32 (of_z w32 (shr_z (to_z w32 (of_z w32 (to_z w32 (of_z w32 z) +ℤ pos half))) m)) *ℤ pos m)))))
+part-joined m half z w =
+    rw (difference-is m half z w, to_z-of_z w32 (z -ℤ (part-above m half z *ℤ pos m)) (below-fits m half z w), above-is m half z w) (omega (arith, ints))
+
+pub weighed_8192 : (z : ℤ) → FitsSigned w32 z → unsigned_abs z ≤ 32767 * 8192 → Weighed 8192 4096 z
+weighed_8192 z fits bound = record { twice = refl; most = omega arith; some = omega arith; fits = fits; bound = bound }
+
+pub weighed_16384 : (z : ℤ) → FitsSigned w32 z → unsigned_abs z ≤ 32767 * 16384 → Weighed 16384 8192 z
+weighed_16384 z fits bound = record { twice = refl; most = omega arith; some = omega arith; fits = fits; bound = bound }
 
 -- ---- high and low lanes in 64 bits
 
-pub joined-within : (x y : ℤ) → unsigned_abs (joined_halves x y) ≤ 2 ^ 45 → unsigned_abs (joined_halves x y *ℤ pos 65536) ≤ 2 ^ 61
-joined-within x y small =
-    let size = unsigned_abs-mul (joined_halves x y) (pos 65536) in
+pub joined-within : (m : ℕ) (x y : ℤ) → unsigned_abs (joined_halves m x y) ≤ 2 ^ 45 → unsigned_abs (joined_halves m x y *ℤ pos 65536) ≤ 2 ^ 61
+joined-within m x y small =
+    let size = unsigned_abs-mul (joined_halves m x y) (pos 65536) in
     omega (arith, size, small)
 
 pub wide_asked : (xs : List ℤ) → Each1 (FitsSigned w32) xs → Each1 (Asks1 (cast signed signed w64) (s_int w32)) (map (of_z w32) xs)
@@ -435,11 +565,11 @@ wide_asked (x ∷ xs) fits =
     let bound = lane-bound x fits.0 in
     (rw x_is (fits_signed_from_abs w64 x (omega (arith, bound))), wide_asked xs fits.1)
 
-pub joined-lane : (high low : List ℤ) (k : ℕ) → length high ≡ 4 → length low ≡ 4 → k < 4
-    → get_or (zip2 (λ a b. a +ℤ b) low (zip2 (λ a b. a *ℤ b) high (replicate 4 (pos 16384)))) k (pos 0) ≡ joined_halves (get_or high k (pos 0)) (get_or low k (pos 0))
-joined-lane high low k four same l =
-    let products : List ℤ = zip2 (λ a b. a *ℤ b) high (replicate 4 (pos 16384)) in
-    let long = length-zip2 (λ a b. a *ℤ b) high (replicate 4 (pos 16384)) four in
-    let product = get_or-zip2 (λ a b. a *ℤ b) high (replicate 4 (pos 16384)) k (pos 0) (pos 0) (pos 0) (omega (arith, four, l)) l ∙ ap (λ y. get_or high k (pos 0) *ℤ y) (get_or-replicate 4 k (pos 16384) (pos 0) l) in
+pub joined-lane : (m : ℕ) (high low : List ℤ) (k : ℕ) → length high ≡ 4 → length low ≡ 4 → k < 4
+    → get_or (zip2 (λ a b. a +ℤ b) low (zip2 (λ a b. a *ℤ b) high (replicate 4 (pos m)))) k (pos 0) ≡ joined_halves m (get_or high k (pos 0)) (get_or low k (pos 0))
+joined-lane m high low k four same l =
+    let products : List ℤ = zip2 (λ a b. a *ℤ b) high (replicate 4 (pos m)) in
+    let long = length-zip2 (λ a b. a *ℤ b) high (replicate 4 (pos m)) four in
+    let product = get_or-zip2 (λ a b. a *ℤ b) high (replicate 4 (pos m)) k (pos 0) (pos 0) (pos 0) (omega (arith, four, l)) l ∙ ap (λ y. get_or high k (pos 0) *ℤ y) (get_or-replicate 4 k (pos m) (pos 0) l) in
     let sum = get_or-zip2 (λ a b. a +ℤ b) low products k (pos 0) (pos 0) (pos 0) (omega (arith, same, l)) (omega (arith, long, four, l)) in
     omega (arith, ints, sum, product)

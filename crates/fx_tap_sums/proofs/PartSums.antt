@@ -1,37 +1,50 @@
 -- Sums of numbers of 16 bits times weights in two parts: high sums, which count 2^14 times, and low ones.
-use Rattle.std.proofs.Common.{◌≡◌, ℕ, ◌+◌, ◌-◌, ◌*◌, ◌^◌, ◌<◌, ◌≤◌, Bool, true, false, List, [], ◌∷◌, length, drop, take, get_or, set, refl, sym, ap, ◌∙◌, arith, ℤ, pos, ◌+ℤ◌, ◌*ℤ◌, FitsSigned, w32}
+use Rattle.std.proofs.Common.{◌≡◌, ℕ, ◌+◌, ◌-◌, ◌*◌, ◌^◌, ◌<◌, ◌≤◌, Bool, true, false, List, [], ◌∷◌, length, drop, take, get_or, set, refl, sym, ap, ◌∙◌, arith, ℤ, pos, inl, inr, ◌⊎◌, ◌+ℤ◌, ◌*ℤ◌, FitsSigned, w32}
 use Rattle.std.specs.Prelude.{sum_by, unsigned_abs, nat_lt}
+use Rattle.std.proofs.Math.Nat.{lt_of_mul-lt-mul_right}
 use Rattle.std.proofs.lemmas.Bool.Decides.{nat_tests}
 use Rattle.std.proofs.lemmas.Int.{ints, fits_signed_from_abs, unsigned_abs-mul}
 use Rattle.std.proofs.lemmas.List.{get_or-drop, get_or-set_other, get_or_past, take-take, take_all, take_more}
 use Rattle.std.proofs.lemmas.Grind.{get_or-set_at}
 use Rattle.std.proofs.lemmas.List.Sums.{sum_by-append, sum_by-cons, sum_by-take-le}
 use Rattle.std.proofs.lemmas.Simd.{Each1-replicate}
-use Rattle.fx_tap_sums.specs.Pairs.{AreCarried, ArePairsOfParts, AreParts, AreWithin, FourFit, IsTable, PairsAdded, PairsFit, joined_halves, pair_product}
+use Rattle.fx_tap_sums.specs.Pairs.{AreCarried, ArePairsOfParts, AreParts, AreWithin, FourFit, IsSplit, IsTable, PairsAdded, PairsFit, joined_halves, pair_product}
 use Rattle.fx_tap_sums.specs.Products.{sum_of_products}
 use Rattle.fx_tap_sums.proofs.Magnitudes.{added-bound, scaled-bound}
-use Rattle.fx_tap_sums.proofs.Numbers.{mul-add, mul_assoc}
+use Rattle.fx_tap_sums.proofs.Numbers.{add-mul, mul-add, mul_assoc}
 use Rattle.fx_tap_sums.proofs.PairLanes.{each_of_four}
 use Rattle.fx_tap_sums.proofs.Writes.{each_more}
 use Rattle.fx_tap_sums.proofs.PairSums.{AddingHalves, AddingHalves-bound, AddingHalves-first, AddingHalves-last, AddingHalves-two, Lane, Loaded, at-pair, lane}
 
+-- ---- splits
+
+pub split-most : (split : ℕ) → IsSplit split → 2 ^ split ≤ 16384
+split-most split (inl e) = rw e (omega arith)
+split-most split (inr e) = rw e (omega arith)
+
+pub split-least : (split : ℕ) → IsSplit split → 8192 ≤ 2 ^ split
+split-least split (inl e) = rw e (omega arith)
+split-least split (inr e) = rw e (omega arith)
+
 -- ---- joined sums
 
-join-product : (x h l : ℤ) → x *ℤ joined_halves h l ≡ joined_halves (x *ℤ h) (x *ℤ l)
-join-product x h l = mul-add x (h *ℤ pos 16384) l ∙ ap (λ z. z +ℤ (x *ℤ l)) (mul_assoc x h (pos 16384))
+join-product : (step : ℕ) (x h l : ℤ) → x *ℤ joined_halves step h l ≡ joined_halves step (x *ℤ h) (x *ℤ l)
+join-product step x h l = mul-add x (h *ℤ pos step) l ∙ ap (λ z. z +ℤ (x *ℤ l)) (mul_assoc x h (pos step))
 
-join-sum : (h l p q : ℤ) → joined_halves (h +ℤ p) (l +ℤ q) ≡ joined_halves h l +ℤ joined_halves p q
-join-sum h l p q = omega (arith, ints)
+join-sum : (step : ℕ) (h l p q : ℤ) → joined_halves step (h +ℤ p) (l +ℤ q) ≡ joined_halves step h l +ℤ joined_halves step p q
+join-sum step h l p q =
+    let split = add-mul h p (pos step) in
+    omega (arith, ints, split)
 
 -- the products of the parts of two weights, joined
-join-pair : (xs ws highs lows : List ℤ) (tap : ℕ) → ((k : ℕ) → get_or ws k (pos 0) ≡ joined_halves (get_or highs k (pos 0)) (get_or lows k (pos 0)))
-    → joined_halves (pair_product xs tap highs tap) (pair_product xs tap lows tap) ≡ pair_product xs tap ws tap
-join-pair xs ws highs lows tap are =
+join-pair : (step : ℕ) (xs ws highs lows : List ℤ) (tap : ℕ) → ((k : ℕ) → get_or ws k (pos 0) ≡ joined_halves step (get_or highs k (pos 0)) (get_or lows k (pos 0)))
+    → joined_halves step (pair_product xs tap highs tap) (pair_product xs tap lows tap) ≡ pair_product xs tap ws tap
+join-pair step xs ws highs lows tap are =
     let x : ℤ = get_or xs tap (pos 0) in
     let y : ℤ = get_or xs (tap + 1) (pos 0) in
-    let first = join-product x (get_or highs tap (pos 0)) (get_or lows tap (pos 0)) in
-    let second = join-product y (get_or highs (tap + 1) (pos 0)) (get_or lows (tap + 1) (pos 0)) in
-    rw (are tap, are (tap + 1), first, second) (join-sum (x *ℤ get_or highs tap (pos 0)) (x *ℤ get_or lows tap (pos 0)) (y *ℤ get_or highs (tap + 1) (pos 0)) (y *ℤ get_or lows (tap + 1) (pos 0)))
+    let first = join-product step x (get_or highs tap (pos 0)) (get_or lows tap (pos 0)) in
+    let second = join-product step y (get_or highs (tap + 1) (pos 0)) (get_or lows (tap + 1) (pos 0)) in
+    rw (are tap, are (tap + 1), first, second) (join-sum step (x *ℤ get_or highs tap (pos 0)) (x *ℤ get_or lows tap (pos 0)) (y *ℤ get_or highs (tap + 1) (pos 0)) (y *ℤ get_or lows (tap + 1) (pos 0)))
 
 -- how large two products are
 pair-bound : (xs ws : List ℤ) (tap : ℕ) → unsigned_abs (get_or xs tap (pos 0)) ≤ 2 ^ 15 → unsigned_abs (get_or xs (tap + 1) (pos 0)) ≤ 2 ^ 15
@@ -77,31 +90,32 @@ span-bound lows start bounded many le = rw (take-take bounded many (drop start l
 -- ---- four sums in two parts, from every other place on
 
 -- after a carry
-pub record Carried (halves ws : List ℤ) (base pair : ℕ) (high low : List ℤ) : Type 0 where
+pub record Carried (split : ℕ) (halves ws : List ℤ) (base pair : ℕ) (high low : List ℤ) : Type 0 where
   pub high_fit : FourFit high
   pub low_fit : FourFit low
-  pub each : (k : ℕ) → k < 4 → AddingHalves (drop (base + 2 * k) halves) ws (2 * pair) (joined_halves (get_or high k (pos 0)) (get_or low k (pos 0)))
+  pub each : (k : ℕ) → k < 4 → AddingHalves (drop (base + 2 * k) halves) ws (2 * pair) (joined_halves (2 ^ split) (get_or high k (pos 0)) (get_or low k (pos 0)))
   pub below : (k : ℕ) → k < 4 → unsigned_abs (get_or low k (pos 0)) ≤ 2 ^ 14
 
 -- since a carry at a pair
-pub record AddingParts (halves ws low_table : List ℤ) (base start pair : ℕ) (high low : List ℤ) : Type 0 where
+pub record AddingParts (split : ℕ) (halves ws low_table : List ℤ) (base start pair : ℕ) (high low : List ℤ) : Type 0 where
   pub high_fit : FourFit high
   pub low_fit : FourFit low
-  pub each : (k : ℕ) → k < 4 → AddingHalves (drop (base + 2 * k) halves) ws (2 * pair) (joined_halves (get_or high k (pos 0)) (get_or low k (pos 0)))
+  pub each : (k : ℕ) → k < 4 → AddingHalves (drop (base + 2 * k) halves) ws (2 * pair) (joined_halves (2 ^ split) (get_or high k (pos 0)) (get_or low k (pos 0)))
   pub small : (lows : List ℤ) → length lows ≡ length ws → IsTable lows low_table → (k : ℕ) → k < 4 → unsigned_abs (get_or low k (pos 0)) ≤ 2 ^ 14 + 2 ^ 15 * span lows (2 * start) (2 * (pair - start))
 
-pub Carried-first : (halves ws : List ℤ) (base : ℕ) → Carried halves ws base 0 (pos 0 ∷ pos 0 ∷ pos 0 ∷ pos 0 ∷ []) (pos 0 ∷ pos 0 ∷ pos 0 ∷ pos 0 ∷ [])
-Carried-first halves ws base =
+pub Carried-first : (split : ℕ) (halves ws : List ℤ) (base : ℕ) → Carried split halves ws base 0 (pos 0 ∷ pos 0 ∷ pos 0 ∷ pos 0 ∷ []) (pos 0 ∷ pos 0 ∷ pos 0 ∷ pos 0 ∷ [])
+Carried-first split halves ws base =
     let fit : FourFit (pos 0 ∷ pos 0 ∷ pos 0 ∷ pos 0 ∷ []) = record { four = refl; fits = Each1-replicate (FitsSigned w32) 4 (pos 0) (fits_signed_from_abs w32 (pos 0) (omega arith)) } in
+    let none : joined_halves (2 ^ split) (pos 0) (pos 0) ≡ pos 0 = omega (arith, ints) in
     record {
       high_fit = fit;
       low_fit = fit;
-      each = each_of_four _ (AddingHalves-first _ ws) (AddingHalves-first _ ws) (AddingHalves-first _ ws) (AddingHalves-first _ ws);
+      each = each_of_four _ (rw none (AddingHalves-first _ ws)) (rw none (AddingHalves-first _ ws)) (rw none (AddingHalves-first _ ws)) (rw none (AddingHalves-first _ ws));
       below = each_of_four _ (omega arith) (omega arith) (omega arith) (omega arith);
     }
 
-pub AddingParts-first : (halves ws low_table : List ℤ) (base start : ℕ) (high low : List ℤ) → Carried halves ws base start high low → AddingParts halves ws low_table base start start high low
-AddingParts-first halves ws low_table base start high low c = record {
+pub AddingParts-first : (split : ℕ) (halves ws low_table : List ℤ) (base start : ℕ) (high low : List ℤ) → Carried split halves ws base start high low → AddingParts split halves ws low_table base start start high low
+AddingParts-first split halves ws low_table base start high low c = record {
   high_fit = c.high_fit;
   low_fit = c.low_fit;
   each = c.each;
@@ -109,20 +123,21 @@ AddingParts-first halves ws low_table base start high low c = record {
 }
 
 -- how large the joined sums are
-pub joined-small : (halves ws high_table low_table : List ℤ) (interval base pair : ℕ) (s : ℤ) (k : ℕ) → ArePairsOfParts ws high_table low_table interval → AddingHalves (drop (base + 2 * k) halves) ws (2 * pair) s → unsigned_abs s ≤ 2 ^ 45 - 2 ^ 31
-joined-small halves ws high_table low_table interval base pair s k tables a =
+pub joined-small : (split : ℕ) (halves ws high_table low_table : List ℤ) (interval base pair : ℕ) (s : ℤ) (k : ℕ) → ArePairsOfParts split ws high_table low_table interval → AddingHalves (drop (base + 2 * k) halves) ws (2 * pair) s → unsigned_abs s ≤ 2 ^ 31 * (2 ^ split - 1)
+joined-small split halves ws high_table low_table interval base pair s k tables a =
     let bound = AddingHalves-bound _ ws _ s a in
     let small = tables.small in
     omega (arith, bound, small)
 
-pub lane-limit : (halves ws high_table low_table : List ℤ) (interval base pair : ℕ) (s : ℤ) (k : ℕ) → ArePairsOfParts ws high_table low_table interval → AddingHalves (drop (base + 2 * k) halves) ws (2 * pair) s → unsigned_abs s ≤ 2 ^ 45
-lane-limit halves ws high_table low_table interval base pair s k tables a =
-    let bound = joined-small halves ws high_table low_table interval base pair s k tables a in
-    omega (arith, bound)
+pub lane-limit : (split : ℕ) (halves ws high_table low_table : List ℤ) (interval base pair : ℕ) (s : ℤ) (k : ℕ) → ArePairsOfParts split ws high_table low_table interval → AddingHalves (drop (base + 2 * k) halves) ws (2 * pair) s → unsigned_abs s ≤ 2 ^ 45
+lane-limit split halves ws high_table low_table interval base pair s k tables a =
+    let bound = joined-small split halves ws high_table low_table interval base pair s k tables a in
+    let most = split-most split tables.is_split in
+    omega (arith, bound, most)
 
 -- what is needed of a step
-pub record Step (halves ws high_table low_table x high_weights low_weights : List ℤ) (interval base start pair at : ℕ) : Type 0 where
-  pub tables : ArePairsOfParts ws high_table low_table interval
+pub record Step (split : ℕ) (halves ws high_table low_table x high_weights low_weights : List ℤ) (interval base start pair at : ℕ) : Type 0 where
+  pub tables : ArePairsOfParts split ws high_table low_table interval
   pub base_low : base ≤ 9
   pub inside : 2 * pair < length ws
   pub long : length ws + 16 ≤ length halves
@@ -138,27 +153,27 @@ part-lane : (halves ws x weights table : List ℤ) (base pair at k : ℕ) → k 
 part-lane halves ws x weights table base pair at k l low inside long place x_loaded is_table loaded =
     lane halves ws x weights base (2 * pair) at k l low inside long place x_loaded (at-pair ws table weights pair is_table inside loaded)
 
-low-lane : (halves ws high_table low_table x high_weights low_weights : List ℤ) (interval base start pair at : ℕ) (s : Step halves ws high_table low_table x high_weights low_weights interval base start pair at) (lows : List ℤ) → length lows ≡ length ws → IsTable lows low_table → (k : ℕ) → k < 4
+low-lane : (split : ℕ) (halves ws high_table low_table x high_weights low_weights : List ℤ) (interval base start pair at : ℕ) (s : Step split halves ws high_table low_table x high_weights low_weights interval base start pair at) (lows : List ℤ) → length lows ≡ length ws → IsTable lows low_table → (k : ℕ) → k < 4
     → Lane halves lows x low_weights base (2 * pair) k
-low-lane halves ws high_table low_table x high_weights low_weights interval base start pair at s lows same is_table k l =
+low-lane split halves ws high_table low_table x high_weights low_weights interval base start pair at s lows same is_table k l =
     let inside = s.inside in
     let long = s.long in
     part-lane halves lows x low_weights low_table base pair at k l s.base_low (omega (arith, inside, same)) (omega (arith, long, same)) s.place s.x_loaded is_table s.low_loaded
 
-high-lane : (halves ws high_table low_table x high_weights low_weights : List ℤ) (interval base start pair at : ℕ) (s : Step halves ws high_table low_table x high_weights low_weights interval base start pair at) → (k : ℕ) → k < 4
+high-lane : (split : ℕ) (halves ws high_table low_table x high_weights low_weights : List ℤ) (interval base start pair at : ℕ) (s : Step split halves ws high_table low_table x high_weights low_weights interval base start pair at) → (k : ℕ) → k < 4
     → Lane halves s.tables.highs x high_weights base (2 * pair) k
-high-lane halves ws high_table low_table x high_weights low_weights interval base start pair at s k l =
+high-lane split halves ws high_table low_table x high_weights low_weights interval base start pair at s k l =
     let inside = s.inside in
     let long = s.long in
     let same = s.tables.parts.high_count in
     part-lane halves s.tables.highs x high_weights high_table base pair at k l s.base_low (omega (arith, inside, same)) (omega (arith, long, same)) s.place s.x_loaded s.tables.high_table s.high_loaded
 
 -- how large a low sum is after a step
-low-sum : (halves ws high_table low_table x high_weights low_weights high low : List ℤ) (interval base start pair at : ℕ) (s : Step halves ws high_table low_table x high_weights low_weights interval base start pair at)
-    → AddingParts halves ws low_table base start pair high low → (lows : List ℤ) → length lows ≡ length ws → IsTable lows low_table → (k : ℕ) → k < 4
+low-sum : (split : ℕ) (halves ws high_table low_table x high_weights low_weights high low : List ℤ) (interval base start pair at : ℕ) (s : Step split halves ws high_table low_table x high_weights low_weights interval base start pair at)
+    → AddingParts split halves ws low_table base start pair high low → (lows : List ℤ) → length lows ≡ length ws → IsTable lows low_table → (k : ℕ) → k < 4
     → unsigned_abs (get_or low k (pos 0) +ℤ pair_product x (2 * k) low_weights (2 * k)) ≤ 2 ^ 14 + 2 ^ 15 * span lows (2 * start) (2 * (pair - start) + 2)
-low-sum halves ws high_table low_table x high_weights low_weights high low interval base start pair at s a lows same is_table k l =
-    let n = low-lane halves ws high_table low_table x high_weights low_weights interval base start pair at s lows same is_table k l in
+low-sum split halves ws high_table low_table x high_weights low_weights high low interval base start pair at s a lows same is_table k l =
+    let n = low-lane split halves ws high_table low_table x high_weights low_weights interval base start pair at s lows same is_table k l in
     let product = pair-bound (drop (base + 2 * k) halves) lows (2 * pair) n.first n.second in
     let before = a.small lows same is_table k l in
     let after = s.after in
@@ -167,88 +182,90 @@ low-sum halves ws high_table low_table x high_weights low_weights high low inter
     let both = added-bound (get_or low k (pos 0)) (pair_product (drop (base + 2 * k) halves) (2 * pair) lows (2 * pair)) _ _ before product in
     rw n.product (omega (arith, both, more))
 
-low-bound : (halves ws high_table low_table x high_weights low_weights high low : List ℤ) (interval base start pair at : ℕ) (s : Step halves ws high_table low_table x high_weights low_weights interval base start pair at)
-    → AddingParts halves ws low_table base start pair high low → (k : ℕ) → k < 4 → unsigned_abs (get_or low k (pos 0) +ℤ pair_product x (2 * k) low_weights (2 * k)) < 2 ^ 31
-low-bound halves ws high_table low_table x high_weights low_weights high low interval base start pair at s a k l =
+low-bound : (split : ℕ) (halves ws high_table low_table x high_weights low_weights high low : List ℤ) (interval base start pair at : ℕ) (s : Step split halves ws high_table low_table x high_weights low_weights interval base start pair at)
+    → AddingParts split halves ws low_table base start pair high low → (k : ℕ) → k < 4 → unsigned_abs (get_or low k (pos 0) +ℤ pair_product x (2 * k) low_weights (2 * k)) < 2 ^ 31
+low-bound split halves ws high_table low_table x high_weights low_weights high low interval base start pair at s a k l =
     let t = s.tables in
-    let sum = low-sum halves ws high_table low_table x high_weights low_weights high low interval base start pair at s a t.lows t.parts.low_count t.low_table k l in
+    let sum = low-sum split halves ws high_table low_table x high_weights low_weights high low interval base start pair at s a t.lows t.parts.low_count t.low_table k l in
     let after = s.after in
     let within = s.within in
     let part = span-bound t.lows (2 * start) (2 * (pair - start) + 2) (2 * interval) (omega (arith, after, within)) in
     let whole = t.carried (2 * start) in
     omega (arith, sum, part, whole)
 
-pub low-fit : (halves ws high_table low_table x high_weights low_weights high low : List ℤ) (interval base start pair at : ℕ) (s : Step halves ws high_table low_table x high_weights low_weights interval base start pair at)
-    → AddingParts halves ws low_table base start pair high low → PairsFit low x low_weights
-low-fit halves ws high_table low_table x high_weights low_weights high low interval base start pair at s a = record {
+pub low-fit : (split : ℕ) (halves ws high_table low_table x high_weights low_weights high low : List ℤ) (interval base start pair at : ℕ) (s : Step split halves ws high_table low_table x high_weights low_weights interval base start pair at)
+    → AddingParts split halves ws low_table base start pair high low → PairsFit low x low_weights
+low-fit split halves ws high_table low_table x high_weights low_weights high low interval base start pair at s a = record {
   sums_fit = a.low_fit;
   are_halves = s.x_loaded.fit;
   weights_fit = s.low_loaded.fit;
   product = λ k l.
       let t = s.tables in
-      let n = low-lane halves ws high_table low_table x high_weights low_weights interval base start pair at s t.lows t.parts.low_count t.low_table k l in
+      let n = low-lane split halves ws high_table low_table x high_weights low_weights interval base start pair at s t.lows t.parts.low_count t.low_table k l in
       let product = pair-bound (drop (base + 2 * k) halves) t.lows (2 * pair) n.first n.second in
       let first = t.parts.low (2 * pair) in
       let second = t.parts.low (2 * pair + 1) in
       rw n.product (omega (arith, product, first, second));
-  sum = low-bound halves ws high_table low_table x high_weights low_weights high low interval base start pair at s a;
+  sum = low-bound split halves ws high_table low_table x high_weights low_weights high low interval base start pair at s a;
 }
 
 -- the joined sum after a step
-joined-next : (halves ws high_table low_table x high_weights low_weights high low : List ℤ) (interval base start pair at : ℕ) (s : Step halves ws high_table low_table x high_weights low_weights interval base start pair at)
-    → AddingParts halves ws low_table base start pair high low → (k : ℕ) → k < 4
-    → AddingHalves (drop (base + 2 * k) halves) ws (2 * pair + 2) (joined_halves (get_or high k (pos 0) +ℤ pair_product x (2 * k) high_weights (2 * k)) (get_or low k (pos 0) +ℤ pair_product x (2 * k) low_weights (2 * k)))
-joined-next halves ws high_table low_table x high_weights low_weights high low interval base start pair at s a k l =
+joined-next : (split : ℕ) (halves ws high_table low_table x high_weights low_weights high low : List ℤ) (interval base start pair at : ℕ) (s : Step split halves ws high_table low_table x high_weights low_weights interval base start pair at)
+    → AddingParts split halves ws low_table base start pair high low → (k : ℕ) → k < 4
+    → AddingHalves (drop (base + 2 * k) halves) ws (2 * pair + 2) (joined_halves (2 ^ split) (get_or high k (pos 0) +ℤ pair_product x (2 * k) high_weights (2 * k)) (get_or low k (pos 0) +ℤ pair_product x (2 * k) low_weights (2 * k)))
+joined-next split halves ws high_table low_table x high_weights low_weights high low interval base start pair at s a k l =
     let t = s.tables in
     let xs : List ℤ = drop (base + 2 * k) halves in
-    let n = low-lane halves ws high_table low_table x high_weights low_weights interval base start pair at s t.lows t.parts.low_count t.low_table k l in
-    let m = high-lane halves ws high_table low_table x high_weights low_weights interval base start pair at s k l in
-    let both = join-sum (get_or high k (pos 0)) (get_or low k (pos 0)) (pair_product xs (2 * pair) t.highs (2 * pair)) (pair_product xs (2 * pair) t.lows (2 * pair)) in
-    rw (n.product, m.product, both, join-pair xs ws t.highs t.lows (2 * pair) t.parts.join) (AddingHalves-two xs ws (2 * pair) _ n.inside n.first n.second (a.each k l))
+    let n = low-lane split halves ws high_table low_table x high_weights low_weights interval base start pair at s t.lows t.parts.low_count t.low_table k l in
+    let m = high-lane split halves ws high_table low_table x high_weights low_weights interval base start pair at s k l in
+    let both = join-sum (2 ^ split) (get_or high k (pos 0)) (get_or low k (pos 0)) (pair_product xs (2 * pair) t.highs (2 * pair)) (pair_product xs (2 * pair) t.lows (2 * pair)) in
+    rw (n.product, m.product, both, join-pair (2 ^ split) xs ws t.highs t.lows (2 * pair) t.parts.join) (AddingHalves-two xs ws (2 * pair) _ n.inside n.first n.second (a.each k l))
 
-high-bound : (h l : ℤ) → unsigned_abs (joined_halves h l) ≤ 2 ^ 45 - 2 ^ 31 → unsigned_abs l < 2 ^ 31 → unsigned_abs h < 2 ^ 31
-high-bound h l whole small =
-    let size = unsigned_abs-mul h (pos 16384) in
-    omega (arith, ints, size, whole, small)
+high-bound : (split : ℕ) (h l : ℤ) → IsSplit split → unsigned_abs (joined_halves (2 ^ split) h l) ≤ 2 ^ 31 * (2 ^ split - 1) → unsigned_abs l < 2 ^ 31 → unsigned_abs h < 2 ^ 31
+high-bound split h l is whole small =
+    let size = unsigned_abs-mul h (pos (2 ^ split)) in
+    let least = split-least split is in
+    let below : unsigned_abs h * 2 ^ split < 2 ^ 31 * 2 ^ split = omega (arith, ints, size, whole, small, least) in
+    lt_of_mul-lt-mul_right (2 ^ split) below
 
-pub high-fit : (halves ws high_table low_table x high_weights low_weights high low : List ℤ) (interval base start pair at : ℕ) (s : Step halves ws high_table low_table x high_weights low_weights interval base start pair at)
-    → AddingParts halves ws low_table base start pair high low → PairsFit high x high_weights
-high-fit halves ws high_table low_table x high_weights low_weights high low interval base start pair at s a = record {
+pub high-fit : (split : ℕ) (halves ws high_table low_table x high_weights low_weights high low : List ℤ) (interval base start pair at : ℕ) (s : Step split halves ws high_table low_table x high_weights low_weights interval base start pair at)
+    → AddingParts split halves ws low_table base start pair high low → PairsFit high x high_weights
+high-fit split halves ws high_table low_table x high_weights low_weights high low interval base start pair at s a = record {
   sums_fit = a.high_fit;
   are_halves = s.x_loaded.fit;
   weights_fit = s.high_loaded.fit;
   product = λ k l.
       let t = s.tables in
-      let n = high-lane halves ws high_table low_table x high_weights low_weights interval base start pair at s k l in
+      let n = high-lane split halves ws high_table low_table x high_weights low_weights interval base start pair at s k l in
       let product = pair-bound (drop (base + 2 * k) halves) t.highs (2 * pair) n.first n.second in
       let first = t.parts.high (2 * pair) in
       let second = t.parts.high (2 * pair + 1) in
       rw n.product (omega (arith, product, first, second));
   sum = λ k l.
-      let next = joined-next halves ws high_table low_table x high_weights low_weights high low interval base start pair at s a k l in
+      let next = joined-next split halves ws high_table low_table x high_weights low_weights high low interval base start pair at s a k l in
       let bound = AddingHalves-bound _ ws _ _ next in
       let maximum = s.tables.small in
-      let small = low-bound halves ws high_table low_table x high_weights low_weights high low interval base start pair at s a k l in
-      high-bound (get_or high k (pos 0) +ℤ pair_product x (2 * k) high_weights (2 * k)) (get_or low k (pos 0) +ℤ pair_product x (2 * k) low_weights (2 * k)) (omega (arith, bound, maximum)) small;
+      let small = low-bound split halves ws high_table low_table x high_weights low_weights high low interval base start pair at s a k l in
+      high-bound split (get_or high k (pos 0) +ℤ pair_product x (2 * k) high_weights (2 * k)) (get_or low k (pos 0) +ℤ pair_product x (2 * k) low_weights (2 * k)) s.tables.is_split (omega (arith, bound, maximum)) small;
 }
 
-pub AddingParts-next : (halves ws high_table low_table x high_weights low_weights high low next_high next_low : List ℤ) (interval base start pair at : ℕ) (s : Step halves ws high_table low_table x high_weights low_weights interval base start pair at)
-    → AddingParts halves ws low_table base start pair high low → PairsAdded high x high_weights next_high → PairsAdded low x low_weights next_low → AddingParts halves ws low_table base start (pair + 1) next_high next_low
-AddingParts-next halves ws high_table low_table x high_weights low_weights high low next_high next_low interval base start pair at s a high_added low_added =
+pub AddingParts-next : (split : ℕ) (halves ws high_table low_table x high_weights low_weights high low next_high next_low : List ℤ) (interval base start pair at : ℕ) (s : Step split halves ws high_table low_table x high_weights low_weights interval base start pair at)
+    → AddingParts split halves ws low_table base start pair high low → PairsAdded high x high_weights next_high → PairsAdded low x low_weights next_low → AddingParts split halves ws low_table base start (pair + 1) next_high next_low
+AddingParts-next split halves ws high_table low_table x high_weights low_weights high low next_high next_low interval base start pair at s a high_added low_added =
     let after = s.after in
     let two : 2 * (pair + 1) ≡ 2 * pair + 2 = omega arith in
     let far : 2 * (pair + 1 - start) ≡ 2 * (pair - start) + 2 = omega (arith, after) in
     record {
       high_fit = high_added.fit;
       low_fit = low_added.fit;
-      each = λ k l. rw (two, high_added.value k l, low_added.value k l) (joined-next halves ws high_table low_table x high_weights low_weights high low interval base start pair at s a k l);
-      small = λ lows same is_table k l. rw (far, low_added.value k l) (low-sum halves ws high_table low_table x high_weights low_weights high low interval base start pair at s a lows same is_table k l);
+      each = λ k l. rw (two, high_added.value k l, low_added.value k l) (joined-next split halves ws high_table low_table x high_weights low_weights high low interval base start pair at s a k l);
+      small = λ lows same is_table k l. rw (far, low_added.value k l) (low-sum split halves ws high_table low_table x high_weights low_weights high low interval base start pair at s a lows same is_table k l);
     }
 
-pub Carried-next : (halves ws low_table high low next_high next_low : List ℤ) (base start pair end : ℕ) → pair ≡ end → AddingParts halves ws low_table base start pair high low → FourFit next_high → FourFit next_low
-    → ((k : ℕ) → k < 4 → joined_halves (get_or next_high k (pos 0)) (get_or next_low k (pos 0)) ≡ joined_halves (get_or high k (pos 0)) (get_or low k (pos 0))) → ((k : ℕ) → k < 4 → unsigned_abs (get_or next_low k (pos 0)) ≤ 2 ^ 14)
-    → Carried halves ws base end next_high next_low
-Carried-next halves ws low_table high low next_high next_low base start pair end is a high_fit low_fit same below = record {
+pub Carried-next : (split : ℕ) (halves ws low_table high low next_high next_low : List ℤ) (base start pair end : ℕ) → pair ≡ end → AddingParts split halves ws low_table base start pair high low → FourFit next_high → FourFit next_low
+    → ((k : ℕ) → k < 4 → joined_halves (2 ^ split) (get_or next_high k (pos 0)) (get_or next_low k (pos 0)) ≡ joined_halves (2 ^ split) (get_or high k (pos 0)) (get_or low k (pos 0))) → ((k : ℕ) → k < 4 → unsigned_abs (get_or next_low k (pos 0)) ≤ 2 ^ 14)
+    → Carried split halves ws base end next_high next_low
+Carried-next split halves ws low_table high low next_high next_low base start pair end is a high_fit low_fit same below = record {
   high_fit = high_fit;
   low_fit = low_fit;
   each = λ k l. rw (same k l, ← is) (a.each k l);
@@ -256,44 +273,45 @@ Carried-next halves ws low_table high low next_high next_low base start pair end
 }
 
 -- a lane's sum in its place
-pub parts-sum-at : (halves ws high low : List ℤ) (z : ℤ) (base pair n k : ℕ) → n ≡ base + 2 * k → k < 4 → length ws ≤ 2 * pair → Carried halves ws base pair high low → z ≡ joined_halves (get_or high k (pos 0)) (get_or low k (pos 0)) *ℤ pos 65536
+pub parts-sum-at : (split : ℕ) (halves ws high low : List ℤ) (z : ℤ) (base pair n k : ℕ) → n ≡ base + 2 * k → k < 4 → length ws ≤ 2 * pair → Carried split halves ws base pair high low → z ≡ joined_halves (2 ^ split) (get_or high k (pos 0)) (get_or low k (pos 0)) *ℤ pos 65536
     → z ≡ sum_of_products (drop n halves) ws *ℤ pos 65536
-parts-sum-at halves ws high low z base pair n k place l over a is =
+parts-sum-at split halves ws high low z base pair n k place l over a is =
     is ∙ ap (λ s. s *ℤ pos 65536) (AddingHalves-last (drop (base + 2 * k) halves) ws (2 * pair) _ over (a.each k l) ∙ ap (λ i. sum_of_products (drop i halves) ws) (sym place))
 
 -- ---- parts of weights
 
-pub join-more : (ws high low : List ℤ) (i : ℕ) (h l : ℤ) → i < length high → i < length low → get_or ws i (pos 0) ≡ joined_halves h l
-    → ((k : ℕ) → k < i → get_or ws k (pos 0) ≡ joined_halves (get_or high k (pos 0)) (get_or low k (pos 0)))
-    → (k : ℕ) → k < i + 1 → get_or ws k (pos 0) ≡ joined_halves (get_or (set high i h) k (pos 0)) (get_or (set low i l) k (pos 0))
-join-more ws high low i h l in_high in_low now before =
-    each_more (pos 0) (λ k v. get_or ws k (pos 0) ≡ joined_halves v (get_or (set low i l) k (pos 0))) high i h in_high (rw (get_or-set_at low i i l (pos 0) refl in_low) now) (λ k m.
+pub join-more : (split : ℕ) (ws high low : List ℤ) (i : ℕ) (h l : ℤ) → i < length high → i < length low → get_or ws i (pos 0) ≡ joined_halves (2 ^ split) h l
+    → ((k : ℕ) → k < i → get_or ws k (pos 0) ≡ joined_halves (2 ^ split) (get_or high k (pos 0)) (get_or low k (pos 0)))
+    → (k : ℕ) → k < i + 1 → get_or ws k (pos 0) ≡ joined_halves (2 ^ split) (get_or (set high i h) k (pos 0)) (get_or (set low i l) k (pos 0))
+join-more split ws high low i h l in_high in_low now before =
+    each_more (pos 0) (λ k v. get_or ws k (pos 0) ≡ joined_halves (2 ^ split) v (get_or (set low i l) k (pos 0))) high i h in_high (rw (get_or-set_at low i i l (pos 0) refl in_low) now) (λ k m.
     let other : (k ≡ i → ⊥) = omega (arith, m) in
     rw (get_or-set_other low i k l (pos 0) other) (before k m))
 
 -- two low parts, wherever they stand
-two-lows : (ws highs lows : List ℤ) → AreParts ws highs lows → AreCarried 2 lows
-two-lows ws highs lows parts place =
+two-lows : (split : ℕ) (ws highs lows : List ℤ) → AreParts (2 ^ split) ws highs lows → AreCarried 2 lows
+two-lows split ws highs lows parts place =
     let first = one-more (drop place lows) 0 (nat_lt 0 (length (drop place lows))) refl in
     let second = one-more (drop place lows) 1 (nat_lt 1 (length (drop place lows))) refl in
     let here = rw (← get_or-drop place lows 0 (pos 0)) at (parts.low (place + 0)) in
     let next = rw (← get_or-drop place lows 1 (pos 0)) at (parts.low (place + 1)) in
     omega (arith, first, second, here, next)
 
-some-interval : (ws highs lows : List ℤ) (interval : ℕ) (b : Bool) → nat_lt 0 interval ≡ b → AreParts ws highs lows
+some-interval : (split : ℕ) (ws highs lows : List ℤ) (interval : ℕ) (b : Bool) → nat_lt 0 interval ≡ b → AreParts (2 ^ split) ws highs lows
     → (interval < 128 → AreCarried (2 * (interval + 1)) lows → ⊥) → 1 ≤ interval
-some-interval ws highs lows interval true t parts maximal = grind (arith, nat_tests)
-some-interval ws highs lows interval false t parts maximal =
+some-interval split ws highs lows interval true t parts maximal = grind (arith, nat_tests)
+some-interval split ws highs lows interval false t parts maximal =
     let none : interval ≡ 0 = grind (arith, nat_tests) in
     let two : 2 * (interval + 1) ≡ 2 = omega (arith, none) in
-    absurd (maximal (omega (arith, none)) (rw two (two-lows ws highs lows parts)))
+    absurd (maximal (omega (arith, none)) (rw two (two-lows split ws highs lows parts)))
 
 -- at least one pair goes before a carry
-pub interval-of-parts : (ws highs lows : List ℤ) (interval : ℕ) → AreParts ws highs lows → (interval < 128 → AreCarried (2 * (interval + 1)) lows → ⊥) → 1 ≤ interval
-interval-of-parts ws highs lows interval parts maximal = some-interval ws highs lows interval (nat_lt 0 interval) refl parts maximal
+pub interval-of-parts : (split : ℕ) (ws highs lows : List ℤ) (interval : ℕ) → AreParts (2 ^ split) ws highs lows → (interval < 128 → AreCarried (2 * (interval + 1)) lows → ⊥) → 1 ≤ interval
+interval-of-parts split ws highs lows interval parts maximal = some-interval split ws highs lows interval (nat_lt 0 interval) refl parts maximal
 
-pub tables-of-parts : (ws highs lows high low : List ℤ) (interval : ℕ) → AreWithin 536854528 1073676288 ws → AreParts ws highs lows → 1 ≤ interval → AreCarried (2 * interval) lows → IsTable highs high → IsTable lows low → ArePairsOfParts ws high low interval
-tables-of-parts ws highs lows high low interval small parts some carried high_table low_table = record {
+pub tables-of-parts : (split : ℕ) (ws highs lows high low : List ℤ) (interval : ℕ) → IsSplit split → AreWithin (32767 * 2 ^ split) (65536 * (2 ^ split - 1)) ws → AreParts (2 ^ split) ws highs lows → 1 ≤ interval → AreCarried (2 * interval) lows → IsTable highs high → IsTable lows low → ArePairsOfParts split ws high low interval
+tables-of-parts split ws highs lows high low interval is small parts some carried high_table low_table = record {
+  is_split = is;
   small = small.all;
   highs = highs;
   lows = lows;

@@ -1,5 +1,5 @@
 -- Samples of 16 bits, and weights for them two by two.
-use Rattle.std.specs.Prelude.{ℕ, ℤ, pos, ◌≡◌, ◌≤◌, ◌<◌, ◌⊎◌, ◌+◌, ◌*◌, ◌/◌, ◌%◌, ◌^◌, ◌+ℤ◌, ◌*ℤ◌, List, drop, length, slice_index_or, sum_by, take, unsigned_abs, FitsSigned}
+use Rattle.std.specs.Prelude.{ℕ, ℤ, pos, ◌≡◌, ◌≤◌, ◌<◌, ◌⊎◌, ◌+◌, ◌-◌, ◌*◌, ◌/◌, ◌%◌, ◌^◌, ◌+ℤ◌, ◌*ℤ◌, List, drop, length, slice_index_or, sum_by, take, unsigned_abs, FitsSigned}
 use Rattle.std.specs.Int.{w16, w32}
 use Rattle.std.specs.Simd.Lanes.{Each1}
 
@@ -34,15 +34,19 @@ pub record PairsAdded (sums numbers weights next : List ℤ) : Type 0 where
   pub fit : FourFit next
   pub value : (k : ℕ) → k < 4 → slice_index_or next k (pos 0) ≡ slice_index_or sums k (pos 0) +ℤ pair_product numbers (2 * k) weights (2 * k)
 
--- a sum of a high part, which counts 2^14 times, and a low one
-abbrev pub joined_halves : ℤ → ℤ → ℤ
-joined_halves high low = (high *ℤ pos 16384) +ℤ low
+-- weights are split at 2^13 or at 2^14
+abbrev pub IsSplit : ℕ → Type 0
+IsSplit split = (split ≡ 13) ⊎ (split ≡ 14)
 
--- how often a number has 2^14 in it, rounded down
-pub record IsFloor (number floor : ℤ) : Type 0 where
+-- a sum of a high part, which counts a step, and a low one
+abbrev pub joined_halves : ℕ → ℤ → ℤ → ℤ
+joined_halves step high low = (high *ℤ pos step) +ℤ low
+
+-- how often a number has a step in it, rounded down
+pub record IsFloor (step : ℕ) (number floor : ℤ) : Type 0 where
   pub rest : ℕ
-  pub is : number ≡ joined_halves floor (pos rest)
-  pub below : rest < 16384
+  pub is : number ≡ joined_halves step floor (pos rest)
+  pub below : rest < step
 
 -- none is greater in magnitude, and neither are all together
 pub record AreWithin (maximum whole : ℕ) (weights : List ℤ) : Type 0 where
@@ -68,23 +72,24 @@ pub record ArePairs (weights table : List ℤ) : Type 0 where
   pub is_table : IsTable weights table
 
 -- parts of 16 bits of weights
-pub record AreParts (weights highs lows : List ℤ) : Type 0 where
+pub record AreParts (step : ℕ) (weights highs lows : List ℤ) : Type 0 where
   pub high_count : length highs ≡ length weights
   pub low_count : length lows ≡ length weights
   pub high : (k : ℕ) → unsigned_abs (slice_index_or highs k (pos 0)) ≤ 32767
   pub low : (k : ℕ) → unsigned_abs (slice_index_or lows k (pos 0)) ≤ 8192
-  pub join : (k : ℕ) → slice_index_or weights k (pos 0) ≡ joined_halves (slice_index_or highs k (pos 0)) (slice_index_or lows k (pos 0))
+  pub join : (k : ℕ) → slice_index_or weights k (pos 0) ≡ joined_halves step (slice_index_or highs k (pos 0)) (slice_index_or lows k (pos 0))
 
 -- so many low parts, wherever they stand, add up so little that sums of products with them fit 32 bits
 abbrev pub AreCarried : ℕ → List ℤ → Type 0
 AreCarried taps lows = (place : ℕ) → sum_by unsigned_abs (take taps (drop place lows)) ≤ 65000
 
--- weights of at most 2^29, and the tables of their parts; the low sums are carried after so many pairs
-pub record ArePairsOfParts (weights high low : List ℤ) (interval : ℕ) : Type 0 where
-  pub small : sum_by unsigned_abs weights ≤ 1073676288
+-- weights, and the tables of their parts; the low sums are carried after so many pairs
+pub record ArePairsOfParts (split : ℕ) (weights high low : List ℤ) (interval : ℕ) : Type 0 where
+  pub is_split : IsSplit split
+  pub small : sum_by unsigned_abs weights ≤ 65536 * (2 ^ split - 1)
   pub highs : List ℤ
   pub lows : List ℤ
-  pub parts : AreParts weights highs lows
+  pub parts : AreParts (2 ^ split) weights highs lows
   pub high_table : IsTable highs high
   pub low_table : IsTable lows low
   pub some : 1 ≤ interval

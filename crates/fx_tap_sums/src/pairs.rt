@@ -5,7 +5,7 @@ ghost use Rattle.std.specs.Int.{w32};
 ghost use Rattle.std.specs.Simd.Lanes.{Each1, zip2};
 ghost use Rattle.fx_tap_sums.specs.Lanes.{LanesWithin};
 ghost use Rattle.fx_tap_sums.specs.Products.{sum_of_products};
-ghost use Rattle.fx_tap_sums.specs.Pairs.{AreCarried, AreHalves, ArePaired, ArePairedInParts, ArePairs, ArePairsOfParts, AreParts, AreWithin, EightHalves, FourFit, IsFloor, IsTable, PairsAdded, PairsFit, joined_halves, pair_product};
+ghost use Rattle.fx_tap_sums.specs.Pairs.{AreCarried, AreHalves, ArePaired, ArePairedInParts, ArePairs, ArePairsOfParts, AreParts, AreWithin, EightHalves, FourFit, IsFloor, IsSplit, IsTable, PairsAdded, PairsFit, joined_halves, pair_product};
 
 use crate::convolve::{put_lanes, small_dot};
 use std::alloc::{AllocError, Global};
@@ -99,29 +99,31 @@ fn add_parts(
     )
 }
 
-/// How often each of four numbers has 2^14 in it, rounded down.
+/// How often each of four numbers has 2^split in it, rounded down.
 #[inline(always)]
-fn carried(low: i32x4) -> i32x4
-    requires { FourFit low }
+fn carried(split: u32, low: i32x4) -> i32x4
+    requires split { IsSplit split }
+    requires low { FourFit low }
     ensures fits { FourFit result }
-    ensures floor { (k : ℕ) → k < 4 → IsFloor (slice_index_or low k (pos 0)) (slice_index_or result k (pos 0)) }
+    ensures floor { (k : ℕ) → k < 4 → IsFloor (2 ^ split) (slice_index_or low k (pos 0)) (slice_index_or result k (pos 0)) }
 {
-    low >> i32x4::splat(14)
+    low >> i32x4::splat(split as i32)
 }
 
-/// The same sums with low ones from 0 on, below 2^14.
+/// The same sums with low ones from 0 on, below 2^split.
 #[inline(always)]
-fn carry(high: i32x4, low: i32x4) -> (i32x4, i32x4)
+fn carry(split: u32, high: i32x4, low: i32x4) -> (i32x4, i32x4)
+    requires split { IsSplit split }
     requires high { FourFit high }
     requires low { FourFit low }
-    requires small { (k : ℕ) → k < 4 → unsigned_abs (joined_halves (slice_index_or high k (pos 0)) (slice_index_or low k (pos 0))) ≤ 2 ^ 45 - 2 ^ 31 }
+    requires small { (k : ℕ) → k < 4 → unsigned_abs (joined_halves (2 ^ split) (slice_index_or high k (pos 0)) (slice_index_or low k (pos 0))) ≤ 2 ^ 31 * (2 ^ split - 1) }
     ensures high { FourFit result.0 }
     ensures low { FourFit result.1 }
-    ensures value { (k : ℕ) → k < 4 → joined_halves (slice_index_or result.0 k (pos 0)) (slice_index_or result.1 k (pos 0)) ≡ joined_halves (slice_index_or high k (pos 0)) (slice_index_or low k (pos 0)) }
+    ensures value { (k : ℕ) → k < 4 → joined_halves (2 ^ split) (slice_index_or result.0 k (pos 0)) (slice_index_or result.1 k (pos 0)) ≡ joined_halves (2 ^ split) (slice_index_or high k (pos 0)) (slice_index_or low k (pos 0)) }
     ensures below { (k : ℕ) → k < 4 → unsigned_abs (slice_index_or result.1 k (pos 0)) ≤ 2 ^ 14 }
 {
-    let carried = carried(low);
-    let rest = low.strict_sub(carried.strict_mul(i32x4::splat(1 << 14)));
+    let carried = carried(split, low);
+    let rest = low.strict_sub(carried.strict_mul(i32x4::splat(1 << split)));
     (add_lanes(high, carried), rest)
 }
 
@@ -137,26 +139,28 @@ fn scale(sums: i32x4) -> i64x4
 
 /// High and low sums, joined.
 #[inline(always)]
-fn join_parts(high: i32x4, low: i32x4) -> i64x4
+fn join_parts(split: u32, high: i32x4, low: i32x4) -> i64x4
+    requires split { IsSplit split }
     requires high { FourFit high }
     requires low { FourFit low }
     ensures small { LanesWithin (2 ^ 46) result }
-    ensures value { (k : ℕ) → k < 4 → slice_index_or result k (pos 0) ≡ joined_halves (slice_index_or high k (pos 0)) (slice_index_or low k (pos 0)) }
+    ensures value { (k : ℕ) → k < 4 → slice_index_or result k (pos 0) ≡ joined_halves (2 ^ split) (slice_index_or high k (pos 0)) (slice_index_or low k (pos 0)) }
 {
-    let high = high.cast::<i64>().strict_mul(i64x4::splat(1 << 14));
+    let high = high.cast::<i64>().strict_mul(i64x4::splat(1 << split));
     low.cast::<i64>().strict_add(high)
 }
 
 /// High and low sums, joined, each 65,536 times.
 #[inline(always)]
-fn scale_parts(high: i32x4, low: i32x4) -> i64x4
+fn scale_parts(split: u32, high: i32x4, low: i32x4) -> i64x4
+    requires split { IsSplit split }
     requires high { FourFit high }
     requires low { FourFit low }
-    requires small { (k : ℕ) → k < 4 → unsigned_abs (joined_halves (slice_index_or high k (pos 0)) (slice_index_or low k (pos 0))) ≤ 2 ^ 45 }
+    requires small { (k : ℕ) → k < 4 → unsigned_abs (joined_halves (2 ^ split) (slice_index_or high k (pos 0)) (slice_index_or low k (pos 0))) ≤ 2 ^ 45 }
     ensures small { LanesWithin (2 ^ 61) result }
-    ensures value { (k : ℕ) → k < 4 → slice_index_or result k (pos 0) ≡ joined_halves (slice_index_or high k (pos 0)) (slice_index_or low k (pos 0)) *ℤ pos 65536 }
+    ensures value { (k : ℕ) → k < 4 → slice_index_or result k (pos 0) ≡ joined_halves (2 ^ split) (slice_index_or high k (pos 0)) (slice_index_or low k (pos 0)) *ℤ pos 65536 }
 {
-    join_parts(high, low).strict_mul(i64x4::splat(65536))
+    join_parts(split, high, low).strict_mul(i64x4::splat(65536))
 }
 
 /// Four sums and four others in turns.
@@ -241,7 +245,7 @@ fn sixteen(weights: &[i32], table: &[i16], halves: &[i16], sums: &mut [i64])
 
 /// As `sixteen`, of weights in two parts. The low sums are carried to the high ones after each interval of so many pairs.
 #[inline(never)]
-fn sixteen_of_parts(
+fn sixteen_of_parts<const SPLIT: u32>(
     weights: &[i32],
     high: &[i16],
     low: &[i16],
@@ -249,7 +253,7 @@ fn sixteen_of_parts(
     halves: &[i16],
     sums: &mut [i64],
 )
-    requires tables { ArePairsOfParts weights.now high.now low.now interval }
+    requires tables { ArePairsOfParts SPLIT weights.now high.now low.now interval }
     requires halves { length weights.now + 16 ≤ length halves.now }
     requires sums { length sums.old ≡ 16 }
     requires interval { interval ≤ 128 }
@@ -305,23 +309,23 @@ fn sixteen_of_parts(
                 low_weights,
             );
         }
-        (high_first, low_first) = carry(high_first, low_first);
-        (high_second, low_second) = carry(high_second, low_second);
-        (high_third, low_third) = carry(high_third, low_third);
-        (high_fourth, low_fourth) = carry(high_fourth, low_fourth);
+        (high_first, low_first) = carry(SPLIT, high_first, low_first);
+        (high_second, low_second) = carry(SPLIT, high_second, low_second);
+        (high_third, low_third) = carry(SPLIT, high_third, low_third);
+        (high_fourth, low_fourth) = carry(SPLIT, high_fourth, low_fourth);
         start = end;
     }
     put_turns(
         sums,
         0,
-        scale_parts(high_first, low_first),
-        scale_parts(high_second, low_second),
+        scale_parts(SPLIT, high_first, low_first),
+        scale_parts(SPLIT, high_second, low_second),
     );
     put_turns(
         sums,
         8,
-        scale_parts(high_third, low_third),
-        scale_parts(high_fourth, low_fourth),
+        scale_parts(SPLIT, high_third, low_third),
+        scale_parts(SPLIT, high_fourth, low_fourth),
     );
 }
 
@@ -374,26 +378,42 @@ fn table_of(alloc: Global, weights: &[i32]) -> Result<Vec<i16>, AllocError>
     Ok(table)
 }
 
-/// The high part of a weight, which counts 2^14 times, and the low one.
-fn parts_of(weight: i32) -> (i32, i32)
-    requires { unsigned_abs weight ≤ 536854528 }
-    ensures value { weight ≡ joined_halves result.0 result.1 }
+/// The high part of a weight, which counts 2^split times, and the low one.
+fn parts_of(split: u32, weight: i32) -> (i32, i32)
+    requires split { IsSplit split }
+    requires weight { unsigned_abs weight ≤ 32767 * 2 ^ split }
+    ensures value { weight ≡ joined_halves (2 ^ split) result.0 result.1 }
     ensures high { unsigned_abs result.0 ≤ 32767 }
     ensures low { unsigned_abs result.1 ≤ 8192 }
 {
-    let high = (weight + (1 << 13)) >> 14;
-    (high, weight - high * (1 << 14))
+    let step = 1 << split;
+    let high = (weight + step / 2) >> split;
+    (high, weight - high * step)
+}
+
+/// At which power of two weights are split: 2^13 where they are small enough together, otherwise 2^14.
+fn split_of(weights: &[i32]) -> u32
+    requires { AreWithin 536854528 1073676288 weights.now }
+    ensures split { IsSplit result }
+    ensures within { AreWithin (32767 * 2 ^ result) (65536 * (2 ^ result - 1)) weights.now }
+{
+    if are_within(weights, 268_427_264, 536_805_376) {
+        13
+    } else {
+        14
+    }
 }
 
 /// Writes the parts of each weight.
-fn split_into(weights: &[i32], high: &mut [i32], low: &mut [i32])
-    requires small { (k : ℕ) → k < length weights.now → unsigned_abs (slice_index_or weights.now k (pos 0)) ≤ 536854528 }
+fn split_into(split: u32, weights: &[i32], high: &mut [i32], low: &mut [i32])
+    requires split { IsSplit split }
+    requires small { (k : ℕ) → k < length weights.now → unsigned_abs (slice_index_or weights.now k (pos 0)) ≤ 32767 * 2 ^ split }
     requires high { length high.old ≡ length weights.now }
     requires low { length low.old ≡ length weights.now }
-    ensures { AreParts weights.now high.new low.new }
+    ensures { AreParts (2 ^ split) weights.now high.new low.new }
 {
     'weights: for place in 0..weights.len() {
-        let (above, below) = parts_of(weights[place]);
+        let (above, below) = parts_of(split, weights[place]);
         high[place] = above;
         low[place] = below;
     }
@@ -434,6 +454,8 @@ fn max_interval(lows: &[i32]) -> usize
 #[derive(Drop)]
 struct HighParts {
     table: Vec<i16>,
+    /// A high part counts 2^split times.
+    split: u32,
     interval: usize,
 }
 
@@ -455,7 +477,7 @@ impl Model for Pairs {
 
     ghost view = { λ s. s.weights.items };
 
-    ghost invariant = { λ s. (length s.weights.items ≤ 256) × IfNone s.high (ArePairs s.weights.items s.low.items) × IfSome s.high (λ high. (high.interval ≤ 128) × ArePairsOfParts s.weights.items high.table.items s.low.items high.interval) };
+    ghost invariant = { λ s. (length s.weights.items ≤ 256) × IfNone s.high (ArePairs s.weights.items s.low.items) × IfSome s.high (λ high. (high.interval ≤ 128) × ArePairsOfParts high.split s.weights.items high.table.items s.low.items high.interval) };
 }
 
 /// A copy of weights.
@@ -500,11 +522,13 @@ impl Pairs {
         if weights.len() < MIN_OF_PARTS || !are_within(weights, 536_854_528, 1_073_676_288) {
             return Ok(None);
         }
+        // Smaller low parts are carried less often. They leave larger high ones, whose sums fit only if the weights are small.
+        let split = split_of(weights);
         let mut high = Vec::new(alloc);
         high.resize(weights.len(), 0)?;
         let mut low = Vec::new(alloc);
         low.resize(weights.len(), 0)?;
-        split_into(weights, &mut high, &mut low);
+        split_into(split, weights, &mut high, &mut low);
         // At least one pair can go before a carry: each low part is at most 2^13.
         let interval = max_interval(&low);
         let table = table_of(alloc, &high)?;
@@ -513,7 +537,11 @@ impl Pairs {
         Ok(Some(Pairs {
             weights,
             low,
-            high: Some(HighParts { table, interval }),
+            high: Some(HighParts {
+                table,
+                split,
+                interval,
+            }),
         }))
     }
 
@@ -525,14 +553,16 @@ impl Pairs {
         ensures bound { (i : ℕ) → i < 16 → unsigned_abs (slice_index_or sums.new i (pos 0)) ≤ 2 ^ 61 }
     {
         if let Some(high) = &self.high {
-            return sixteen_of_parts(
-                &self.weights,
-                &high.table,
-                &self.low,
-                high.interval,
-                halves,
-                sums,
-            );
+            let HighParts {
+                table,
+                split,
+                interval,
+            } = high;
+            return if *split == 13 {
+                sixteen_of_parts::<13>(&self.weights, table, &self.low, *interval, halves, sums)
+            } else {
+                sixteen_of_parts::<14>(&self.weights, table, &self.low, *interval, halves, sums)
+            };
         }
         sixteen(&self.weights, &self.low, halves, sums);
     }

@@ -1,4 +1,4 @@
-//! The worked rows of fx_fixed, fx_frame and fx_sound, of sums of pairs, and of transforms. They stand in a crate of their own, so that those
+//! The worked rows of fx_fixed, fx_frame and fx_sound, of sums of pairs, of transforms, and of rounding. They stand in a crate of their own, so that those
 //! crates are not proved once more for them.
 #![tactic(auto)]
 
@@ -8,6 +8,8 @@ mod fixed_tests;
 mod frame_tests;
 #[cfg(test)]
 mod pair_tests;
+#[cfg(test)]
+mod rounding_tests;
 #[cfg(test)]
 mod sound_tests;
 #[cfg(test)]

@@ -144,7 +144,22 @@ fn sums_of_pairs(rt: HostRuntime) -> Result<(), &'static str> {
         "two parts, of one sign",
         two(-536_854_528, -536_821_760),
     )?;
-    check(alloc, "low parts at their limit", around(40_960, 1))
+    check(
+        alloc,
+        "two parts at the limits of the lower split",
+        two(268_427_264, -268_378_112),
+    )?;
+    check(
+        alloc,
+        "two parts just above those limits",
+        two(268_427_264, -268_378_113),
+    )?;
+    check(alloc, "low parts at their limit", around(40_960, 1))?;
+    check(
+        alloc,
+        "low parts of the lower split at their limit",
+        around(20_480, 1),
+    )
 }
 
 /// Are no weights prepared beyond the limits?

@@ -32,7 +32,7 @@ returns-clause-small c =
           let inside : k < 4 = omega (arith, l, long, four) in
           let value = rw (four_back c.args.high c.requires.high, four_back c.args.low c.requires.low) at (c.join_parts.ensures.value k inside) in
           let is = get_or-zip2 (λ a b. a *ℤ b) xs ys k (pos 0) (pos 0) (pos 0) (omega (arith, four, inside)) inside ∙ ap (λ y. slice_index_or xs k (pos 0) *ℤ y) (get_or-replicate 4 k (pos 65536) (pos 0) inside) in
-          rw (is, value) (joined-within (slice_index_or c.args.high k (pos 0)) (slice_index_or c.args.low k (pos 0)) (c.requires.small k inside)));
+          rw (is, value) (joined-within (2 ^ c.args.split) (slice_index_or c.args.high k (pos 0)) (slice_index_or c.args.low k (pos 0)) (c.requires.small k inside)));
     })
 
 pub returns-clause-value : goal.returns-clause-value

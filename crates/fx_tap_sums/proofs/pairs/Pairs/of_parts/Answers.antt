@@ -17,4 +17,4 @@ invariant_of-result c =
     let maximal = rw (c.deref.ensures.value, low_all) at c.max_interval-interval.ensures.maximal in
     let high_table = rw (c.deref-2.ensures.value, high_all) at c.in_ok-table.ensures in
     let low_table = rw (c.deref-3.ensures.value, low_all) at c.in_ok-low.ensures in
-    rw c.in_ok-weights.ensures (omega arith, tt, (c.max_interval-interval.ensures.bound, tables-of-parts ws hs ls c.in_ok-table.table.items c.in_ok-low.low.items c.max_interval-interval.result (c.if-not-are_within.ensures.within refl) c.split_into.ensures (interval-of-parts ws hs ls c.max_interval-interval.result c.split_into.ensures maximal) carried high_table low_table))
+    rw c.in_ok-weights.ensures (omega arith, tt, (c.max_interval-interval.ensures.bound, tables-of-parts c.split_of-split.result ws hs ls c.in_ok-table.table.items c.in_ok-low.low.items c.max_interval-interval.result c.split_of-split.ensures.split c.split_of-split.ensures.within c.split_into.ensures (interval-of-parts c.split_of-split.result ws hs ls c.max_interval-interval.result c.split_into.ensures maximal) carried high_table low_table))
