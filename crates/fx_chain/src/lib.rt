@@ -2,6 +2,7 @@
 #![tactic(auto)]
 
 pub mod chain;
+pub mod inner;
 mod plan_run;
 mod snapshot;
 

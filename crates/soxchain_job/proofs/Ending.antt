@@ -1,6 +1,5 @@
 -- What a crash leaves at the end of a job, and how the parts of a run join.
-use Rattle.std.proofs.Common.{◌≡◌, ◌⊎◌, inl, inr, ⊎_elim, ℕ, ◌<◌, ◌^◌, List, [], ◌++◌, Option, Some, None, Vec, length, sym, ◌∙◌, ap, subst, arith}
-use Rattle.std.specs.declared.alloc.Global.{Global}
+use Rattle.std.proofs.Common.{◌≡◌, ◌⊎◌, inl, inr, ⊎_elim, ℕ, ◌<◌, ◌^◌, List, [], ◌++◌, Option, Some, None, Bor, length, sym, ◌∙◌, ap, subst, arith}
 use Rattle.std.proofs.lemmas.List.{drop_all}
 use Rattle.soxchain_job.specs.Checkpoint.{IsInProgress, IsComplete, in_progress_bytes, complete_bytes}
 use Rattle.soxchain_job.specs.declared.checkpoint.Checkpoint.{Checkpoint}
@@ -94,11 +93,11 @@ pub none_is : (bytes : List ℕ) → Decoded bytes None → ⊥
 none_is bytes (inl read) = read.reads
 none_is bytes (inr read) = read.reads
 
-pub complete_is : (bytes : List ℕ) {v : Vec ℕ Global} → Decoded bytes (Some (Checkpoints.Complete v)) → bytes ≡ complete_bytes v.items
+pub complete_is : (bytes : List ℕ) {summary : Bor (List ℕ)} → Decoded bytes (Some (Checkpoints.Complete summary)) → bytes ≡ complete_bytes summary.now
 complete_is bytes (inl read) = absurd read.reads
 complete_is bytes (inr read) = read.is ∙ ap complete_bytes (sym read.reads)
 
-pub in_progress_is : (bytes : List ℕ) (p : Progress) → Decoded bytes (Some (Checkpoints.InProgress p)) → bytes ≡ in_progress_bytes p.taken p.written p.frozen.items
+pub in_progress_is : (bytes : List ℕ) (p : Progress) → Decoded bytes (Some (Checkpoints.InProgress p)) → bytes ≡ in_progress_bytes p.taken p.written p.frozen.now
 in_progress_is bytes p (inl read) =
     read.is ∙ ap (λ (n : ℕ). in_progress_bytes n read.written read.frozen) (sym read.reads.0) ∙ ap (λ (n : ℕ). in_progress_bytes p.taken n read.frozen) (sym read.reads.1)
     ∙ ap (λ (l : List ℕ). in_progress_bytes p.taken p.written l) (sym read.reads.2)

@@ -13,15 +13,21 @@ in_progress_bytes taken written frozen = 0 ∷ to_le_bytes w64 taken ++ to_le_by
 abbrev pub complete_bytes : List ℕ → List ℕ
 complete_bytes summary = 1 ∷ summary
 
+-- a checkpoint in progress of a conversion: it is frozen to what follows both counts
+pub record IsCheckpointOf {C : Type 0} (frozen_as : C → List ℕ → Type 0) (c : C) (taken written : ℕ) (bytes : List ℕ) : Type 0 where
+  pub frozen : List ℕ
+  pub freezes : frozen_as c frozen
+  pub bytes_are : bytes ≡ in_progress_bytes taken written frozen
+
 -- what was read is this checkpoint
 abbrev pub IsInProgress : ℕ → ℕ → List ℕ → Option Checkpoint → Type 0
 IsInProgress taken written frozen None = ⊥
 IsInProgress taken written frozen (Some (Complete summary)) = ⊥
-IsInProgress taken written frozen (Some (InProgress p)) = (p.taken ≡ taken) × (p.written ≡ written) × (p.frozen.items ≡ frozen)
+IsInProgress taken written frozen (Some (InProgress p)) = (p.taken ≡ taken) × (p.written ≡ written) × (p.frozen.now ≡ frozen)
 
 abbrev pub IsComplete : List ℕ → Option Checkpoint → Type 0
 IsComplete summary None = ⊥
-IsComplete summary (Some (Complete v)) = v.items ≡ summary
+IsComplete summary (Some (Complete s)) = s.now ≡ summary
 IsComplete summary (Some (InProgress p)) = ⊥
 
 -- a run has so many bytes of the input taken, and of the output written

@@ -18,3 +18,9 @@ pub record ConvertsPiece {C : Type 0} (remaining : C → List ℕ → List ℕ) 
   pub written : List ℕ
   pub appended : after ≡ before ++ written
   pub rest : (input : List ℕ) → remaining old (piece ++ input) ≡ written ++ remaining new input
+
+-- Bytes to which a conversion may be frozen were appended.
+pub record AppendsFrozen {C : Type 0} (frozen_as : C → List ℕ → Type 0) (c : C) (before after : List ℕ) : Type 0 where
+  pub frozen : List ℕ
+  pub freezes : frozen_as c frozen
+  pub appended : after ≡ before ++ frozen

@@ -1,6 +1,6 @@
 //! What turns the input into the output, a piece at a time.
 ghost use Rattle.std.specs.Prelude.{◌≡◌, [], ◌++◌, List, ℕ, IfOk, OnOk, MatchResult};
-ghost use Rattle.soxchain_job.specs.Conversion.{ConversionModel, ConvertsPiece};
+ghost use Rattle.soxchain_job.specs.Conversion.{AppendsFrozen, ConversionModel, ConvertsPiece};
 
 use std::alloc::{AllocError, Global};
 use thiserror::Error;
@@ -41,9 +41,9 @@ pub trait Conversion: Drop {
     fn finish(&mut self, output: &mut Vec<u8>) -> Result<(), ConversionFault>
         ensures rest { OnOk result (output.new.items ≡ output.old.items ++ model.remaining self.old []) };
 
-    /// The conversion as bytes; it is unchanged.
-    fn freeze(&self, alloc: Global) -> Result<Vec<u8>, AllocError>
-        ensures frozen { IfOk result (λ bytes. model.frozen_as self.now bytes.items) };
+    /// Appends the conversion as bytes; it is unchanged.
+    fn freeze(&self, bytes: &mut Vec<u8>) -> Result<(), AllocError>
+        ensures frozen { OnOk result (AppendsFrozen model.frozen_as self.now bytes.old.items bytes.new.items) };
 
     /// Becomes the conversion of the same plan that was frozen to these bytes, whichever it was.
     fn thaw(&mut self, alloc: Global, bytes: &[u8]) -> Result<(), ThawFault>

@@ -106,8 +106,7 @@ pub fn write_checkpoint<C: Conversion, D: Disk, I: Input>(
     ensures cause { CountsDiskFaults D.model disk.old disk.new result }
     ensures changed { IsErrOf result Fault.InputChanged → ⊥ }
 {
-    let frozen = conversion.freeze(alloc)?;
-    let bytes = encode(alloc, offsets.taken, offsets.written, &frozen)?;
+    let bytes = encode(alloc, offsets.taken, offsets.written, conversion)?;
     disk.sync(FileName::Part)?;
     replace_checkpoint(disk, &bytes)?;
     Ok(())
@@ -131,8 +130,7 @@ pub fn begin<C: Conversion, D: Disk, I: Input>(
     ensures cause { CountsDiskFaults D.model disk.old disk.new result }
     ensures changed { IsErrOf result Fault.InputChanged → ⊥ }
 {
-    let frozen = conversion.freeze(alloc)?;
-    let bytes = encode(alloc, 0, 0, &frozen)?;
+    let bytes = encode(alloc, 0, 0, conversion)?;
     replace_checkpoint(disk, &bytes)?;
     disk.truncate(FileName::Part, 0)?;
     Ok(Offsets {
@@ -146,25 +144,25 @@ pub fn resume_from<C: Conversion, D: Disk, I: Input>(
     alloc: Global,
     disk: &mut D,
     conversion: &mut C,
-    progress: Progress,
+    progress: &Progress<'_>,
 ) -> Result<Offsets, Fault>
     ghost job: { Job C }
     requires fresh { conversion.old ≡ job.start }
     requires says { BothKnown D.model I.model → (D.model.seen disk.old).checkpoint
-        ≡ Some (in_progress_bytes progress.taken progress.written progress.frozen.items) }
+        ≡ Some (in_progress_bytes progress.now.taken progress.now.written progress.now.frozen.now) }
     requires durable { BothKnown D.model I.model
         → Durable FileName.Checkpoint (D.model.seen disk.old) (D.model.may_leave disk.old) }
     requires safe { BothKnown D.model I.model → LeavesNow D.model disk.old (IsGrowing C.model job) }
     ensures live { BothKnown D.model I.model → IfOk result (λ o. IsLive C.model job
         conversion.new o.taken o.written (D.model.seen disk.new)) }
-    ensures taken { IfOk result (λ o. (o.taken ≡ progress.taken) × (o.written ≡ progress.written)) }
+    ensures taken { IfOk result (λ o. (o.taken ≡ progress.now.taken) × (o.written ≡ progress.now.written)) }
     ensures any_moment { BothKnown D.model I.model
         → LeavesOnly D.model disk.old disk.new (IsGrowing C.model job) }
     ensures readable { BothKnown D.model I.model → IsErrOf result Fault.BadCheckpoint → ⊥ }
     ensures cause { CountsDiskFaults D.model disk.old disk.new result }
     ensures changed { IsErrOf result Fault.InputChanged → ⊥ }
 {
-    conversion.thaw(alloc, &progress.frozen)?;
+    conversion.thaw(alloc, progress.frozen)?;
     disk.truncate(FileName::Part, progress.written)?;
     Ok(Offsets {
         taken: progress.taken,

@@ -127,14 +127,14 @@ fn resume<C: Conversion, D: Disk, I: Input>(
 {
     match read_checkpoint(alloc, disk)? {
         None => Ok(Some(begin::<C, D, I>(alloc, disk, conversion)?)),
-        Some(bytes) => match decode(alloc, &bytes)? {
+        Some(bytes) => match decode(&bytes) {
             None => Err(Fault::BadCheckpoint),
             Some(Checkpoint::Complete(_)) => {
                 publish::<C, D, I>(disk)?;
                 Ok(None)
             }
             Some(Checkpoint::InProgress(progress)) => {
-                Ok(Some(resume_from::<C, D, I>(alloc, disk, conversion, progress)?))
+                Ok(Some(resume_from::<C, D, I>(alloc, disk, conversion, &progress)?))
             }
         },
     }

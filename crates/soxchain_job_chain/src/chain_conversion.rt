@@ -19,7 +19,7 @@ use fx_plan::Plan;
 use fx_sound::{Kind, head_bytes};
 use soxchain_job::{Conversion, ConversionFault, ThawFault};
 use soxchain_stream::Stream;
-use soxchain_stream::inner::{to_bytes, to_words};
+use soxchain_stream::inner::{append_words, to_words};
 use std::alloc::{AllocError, Global};
 use std::marker::Model;
 
@@ -241,12 +241,11 @@ impl Conversion for ChainConversion {
         self.pad(output)
     }
 
-    fn freeze(&self, alloc: Global) -> Result<Vec<u8>, AllocError> {
-        let mut bytes = to_bytes(alloc, &self.counts().words())?;
+    fn freeze(&self, bytes: &mut Vec<u8>) -> Result<(), AllocError> {
+        append_words(bytes, &self.counts().words())?;
         bytes.extend_from_slice(&self.pending)?;
-        let frozen = self.chain.stream.freeze(alloc)?;
-        bytes.extend_from_slice(&frozen)?;
-        Ok(bytes)
+        self.chain.stream.append_to(bytes)?;
+        Ok(())
     }
 
     fn thaw(&mut self, alloc: Global, bytes: &[u8]) -> Result<(), ThawFault> {

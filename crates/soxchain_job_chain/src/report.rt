@@ -4,7 +4,7 @@ ghost use Rattle.fx_chain_flow.specs.Parts.{taken_of};
 ghost use Rattle.soxchain_job_chain.specs.FrozenConversion.{IsSummary, clips_by, missing_of, stray_of};
 
 use crate::ChainConversion;
-use soxchain_stream::inner::to_bytes;
+use soxchain_stream::inner::append_words;
 use std::alloc::{AllocError, Global};
 
 impl ChainConversion {
@@ -72,6 +72,8 @@ impl ChainConversion {
         for place in 0..effects {
             words.push(self.clips(place + 1))?;
         }
-        to_bytes(alloc, &words)
+        let mut bytes = Vec::new(alloc);
+        append_words(&mut bytes, &words)?;
+        Ok(bytes)
     }
 }

@@ -25,7 +25,7 @@ use soxchain::inner::{
     MessageWriter, Prepared, prepare_for, refuse_line, tell_cannot_open, tell_warnings,
 };
 use soxchain_common::{Console, FilesFault, is_input, read_files};
-use soxchain_job::{Checkpoint, Conversion, Disk, Fault, Input, Pacing, run_once};
+use soxchain_job::{Conversion, Disk, Fault, Input, Pacing, run_once};
 use soxchain_job_chain::ChainConversion;
 use std::alloc::{AllocError, Global};
 use std::fs::{self, File};
@@ -241,19 +241,19 @@ fn start_of<'a>(
             taken: 0,
         });
     };
-    check_identity(&found.file.line, identity)?;
-    let Runs { began, count } = found.file.runs;
+    check_identity(&found.line, identity)?;
+    let Runs { began, count } = found.runs;
     let runs = Runs {
         began,
         count: count.saturating_add(1),
     };
-    match &found.checkpoint {
-        Checkpoint::InProgress(progress) => Ok(Start {
+    match &found.progress {
+        Some(progress) => Ok(Start {
             hashers: check_digests(rt, input, names, progress)?,
             runs,
             taken: progress.taken,
         }),
-        Checkpoint::Complete(_) => Ok(Start {
+        None => Ok(Start {
             hashers: Hashers::new(),
             runs,
             taken: size,

@@ -4,12 +4,12 @@ ghost use Rattle.std.proofs.Common.{arith};
 ghost use Rattle.soxchain_job.specs.Unknown.{unknown_disk};
 ghost use Rattle.soxchain_job.specs.Disk.{CountsFaults};
 
-use crate::job_file::{Runs, read_job_file, write_job_file};
+use crate::job_file::{Runs, keep_checkpoint, read_job_file, write_job_file};
 use crate::names::JobNames;
 use crate::record::RecordBase;
 use serde_json::Value;
-use soxchain_job::{Disk, DiskFault, FileName};
-use std::alloc::Global;
+use soxchain_job::{Checkpoint, Disk, DiskFault, FileName, decode_checkpoint};
+use std::alloc::{AllocError, Global};
 use std::fs::{self, File, OpenOptions};
 use std::io::{self, ErrorKind, Write};
 use std::time::{SystemTime, UNIX_EPOCH};
@@ -24,8 +24,8 @@ pub struct JobFolder {
     record: RecordBase,
     /// The part, opened to be written at its end.
     part: Option<File>,
-    /// The last checkpoint that was written or read.
-    checkpoint: Vec<u8>,
+    /// What the last checkpoint that was written or read records of a complete output.
+    summary: Option<Vec<u8>>,
     faults: u64,
     /// The file whose call failed last, and why.
     error: Option<(FileName, io::Error)>,
@@ -67,6 +67,14 @@ pub fn read_file(rt: &HostRuntime, name: &str) -> io::Result<Option<Vec<u8>>> {
     }
 }
 
+/// What a checkpoint records of a complete output; None where it is in progress.
+fn summary_of(alloc: Global, checkpoint: &[u8]) -> Result<Option<Vec<u8>>, AllocError> {
+    match decode_checkpoint(checkpoint) {
+        Some(Checkpoint::Complete(summary)) => Ok(Some(summary.to_vec(alloc)?)),
+        _ => Ok(None),
+    }
+}
+
 impl JobFolder {
     /// The folder of a job's files.
     pub fn new(
@@ -83,7 +91,7 @@ impl JobFolder {
             runs,
             record,
             part: None,
-            checkpoint: Vec::new(rt.alloc()),
+            summary: None,
             faults: 0,
             error: None,
         }
@@ -91,10 +99,7 @@ impl JobFolder {
 
     /// The summary of a complete job, once its checkpoint was written or read.
     pub fn summary(&self) -> Option<&[u8]> {
-        match self.checkpoint.split_first() {
-            Some((1, summary)) => Some(summary),
-            _ => None,
-        }
+        self.summary.as_deref()
     }
 
     /// The file whose call failed last, and why.
@@ -132,10 +137,9 @@ impl JobFolder {
         ensures { self.new.faults ≡ self.old.faults }
     {
         let alloc = self.rt.alloc();
-        let bytes = write_job_file(alloc, &self.identity, self.runs, checkpoint)?;
         let mut file = File::create(&self.rt, self.names.new_job.as_str())?;
-        file.write_all(&bytes)?;
-        self.checkpoint = Vec::from_slice(alloc, checkpoint)?;
+        write_job_file(alloc, &mut file, &self.identity, self.runs, checkpoint)?;
+        self.summary = summary_of(alloc, checkpoint)?;
         Ok(())
     }
 
@@ -143,16 +147,18 @@ impl JobFolder {
     fn read_checkpoint(&mut self, alloc: Global) -> io::Result<Option<Vec<u8>>>
         ensures { self.new.faults ≡ self.old.faults }
     {
-        let Some(bytes) = read_file(&self.rt, self.names.job.as_str())? else {
+        let Some(mut bytes) = read_file(&self.rt, self.names.job.as_str())? else {
             return Ok(None);
         };
-        match read_job_file(alloc, &bytes) {
+        let size = match read_job_file(alloc, &bytes) {
             Ok(file) => {
-                self.checkpoint = Vec::from_slice(alloc, &file.checkpoint)?;
-                Ok(Some(file.checkpoint))
+                self.summary = summary_of(alloc, file.checkpoint)?;
+                file.checkpoint.len()
             }
-            Err(_) => Ok(Some(Vec::new(alloc))),
-        }
+            Err(_) => 0,
+        };
+        keep_checkpoint(&mut bytes, size);
+        Ok(Some(bytes))
     }
 
     /// Writes at the end of a file.

@@ -113,10 +113,10 @@ impl<C: Conversion> Conversion for HashedConversion<C> {
         Ok(())
     }
 
-    fn freeze(&self, alloc: Global) -> Result<Vec<u8>, AllocError> {
-        let mut bytes = self.inner.freeze(alloc)?;
-        self.hashers.append_to(&mut bytes)?;
-        Ok(bytes)
+    fn freeze(&self, bytes: &mut Vec<u8>) -> Result<(), AllocError> {
+        self.inner.freeze(bytes)?;
+        self.hashers.append_to(bytes)?;
+        Ok(())
     }
 
     fn thaw(&mut self, alloc: Global, bytes: &[u8]) -> Result<(), ThawFault> {

@@ -7,6 +7,8 @@ use hex::encode;
 use serde_json::{Value, json};
 use sha2::{Digest, Sha256};
 use std::alloc::{AllocError, Global};
+use std::fs::File;
+use std::io::{self, Write};
 
 /// The version of the form.
 pub const FORMAT_VERSION: u64 = 1;
@@ -37,19 +39,17 @@ pub struct Runs {
     pub count: u64,
 }
 
-/// What a checkpoint's file has.
+/// What the bytes of a checkpoint's file have.
 #[derive(Drop)]
-pub struct JobFile {
+pub struct JobFile<'a> {
     pub line: Value,
     pub runs: Runs,
-    pub checkpoint: Vec<u8>,
+    pub checkpoint: &'a [u8],
 }
 
 /// Why a checkpoint's file is not read.
 #[derive(Clone, Copy, Debug, Drop, PartialEq, Eq)]
 pub enum JobFileFault {
-    /// No memory was found.
-    Memory,
     /// It is of another version.
     Version(u64),
     /// It is none, or it is damaged.
@@ -84,24 +84,26 @@ impl Identity {
     }
 }
 
-/// The bytes of a checkpoint's file.
+/// Writes a checkpoint's file. Its parts go to it one after the other: there is no copy of the checkpoint.
 pub fn write_job_file(
     alloc: Global,
+    file: &mut File,
     identity: &Value,
     runs: Runs,
     checkpoint: &[u8],
-) -> Result<Vec<u8>, AllocError> {
+) -> io::Result<()> {
     let identity = identity.to_string(alloc)?;
     let Runs { began, count } = runs;
     let size = checkpoint.len();
     let line = format!(in alloc;
         "{START}{FORMAT_VERSION},\"job\":{identity},\"began\":{began},\"runs\":{count},\"checkpoint\":{size}}}\n"
     )?;
-    let mut bytes = Vec::from_slice(alloc, line.as_bytes())?;
-    bytes.extend_from_slice(checkpoint)?;
-    let digest = Sha256::digest(&bytes);
-    bytes.extend_from_slice(&digest)?;
-    Ok(bytes)
+    let mut hasher = Sha256::new();
+    for part in [line.as_bytes(), checkpoint] {
+        hasher.update(part);
+        file.write_all(part)?;
+    }
+    file.write_all(&hasher.finalize())
 }
 
 /// The version that a line names.
@@ -131,28 +133,33 @@ fn checked(bytes: &[u8]) -> Option<&[u8]> {
 }
 
 /// Reads the bytes of a checkpoint's file.
-pub fn read_job_file(alloc: Global, bytes: &[u8]) -> Result<JobFile, JobFileFault> {
+pub fn read_job_file(alloc: Global, bytes: &[u8]) -> Result<JobFile<'_>, JobFileFault> {
     let (line, _rest) = split_line(bytes).ok_or(JobFileFault::Damaged)?;
     let version = version_of(line).ok_or(JobFileFault::Damaged)?;
     if version != FORMAT_VERSION {
         return Err(JobFileFault::Version(version));
     }
     let front = checked(bytes).ok_or(JobFileFault::Damaged)?;
-    let (line, rest) = split_line(front).ok_or(JobFileFault::Damaged)?;
+    let (line, checkpoint) = split_line(front).ok_or(JobFileFault::Damaged)?;
     let line = match Value::from_str(alloc, line) {
         Ok(line) => line,
         Err(_) => return Err(JobFileFault::Damaged),
     };
     let runs = runs_of(&line).ok_or(JobFileFault::Damaged)?;
-    let checkpoint = match Vec::from_slice(alloc, rest) {
-        Ok(checkpoint) => checkpoint,
-        Err(_) => return Err(JobFileFault::Memory),
-    };
     Ok(JobFile {
         line,
         runs,
         checkpoint,
     })
+}
+
+/// Makes the bytes of a checkpoint's file those of its checkpoint, of this size, in their own place.
+pub fn keep_checkpoint(bytes: &mut Vec<u8>, size: usize) {
+    let end = bytes.len().saturating_sub(DIGEST_SIZE);
+    bytes.truncate(end);
+    let start = end.saturating_sub(size);
+    bytes.rotate_left(start);
+    bytes.truncate(size);
 }
 
 /// When the job of a line began, and how many runs it has had.

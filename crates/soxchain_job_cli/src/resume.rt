@@ -3,22 +3,47 @@
 use crate::fault::JobFault;
 use crate::folder::read_file;
 use crate::hashed::{DIGESTS_SIZE, Hashers};
-use crate::job_file::{JobFile, JobFileFault, read_job_file};
+use crate::job_file::{JobFile, JobFileFault, Runs, read_job_file};
 use crate::names::JobNames;
 use serde_json::Value;
 use sha2::{Digest, Sha256};
 use soxchain_job::{Checkpoint, Progress, decode_checkpoint};
+use std::alloc::{AllocError, Global};
 use std::fs::{self, File};
 use std::io::{self, Read};
 
 /// The bytes that are hashed at a time.
 const PIECE_SIZE: usize = 1 << 16;
 
-/// The checkpoint of a job: its file, and what it says.
+/// What the checkpoint of a job says, without the frozen conversion.
 #[derive(Drop)]
 pub struct Found {
-    pub file: JobFile,
-    pub checkpoint: Checkpoint,
+    pub line: Value,
+    pub runs: Runs,
+    /// How far the job has come; None where the output is complete.
+    pub progress: Option<FoundProgress>,
+}
+
+/// How far a job has come, and the digests of what it took and gave until then.
+#[derive(Drop)]
+pub struct FoundProgress {
+    /// Bytes of the input that were taken.
+    pub taken: u64,
+    /// Bytes of the output that were written.
+    pub written: u64,
+    digests: Vec<u8>,
+}
+
+impl FoundProgress {
+    /// That of a checkpoint in progress.
+    fn of(alloc: Global, progress: &Progress<'_>) -> Result<FoundProgress, AllocError> {
+        let start = progress.frozen.len().saturating_sub(DIGESTS_SIZE);
+        Ok(FoundProgress {
+            taken: progress.taken,
+            written: progress.written,
+            digests: progress.frozen[start..].to_vec(alloc)?,
+        })
+    }
 }
 
 /// Reads the checkpoint of a job; None where there is none.
@@ -32,17 +57,28 @@ pub fn find_checkpoint<'a>(
         Ok(None) => return Ok(None),
         Err(error) => return Err(JobFault::File(name, error)),
     };
-    let file = match read_job_file(rt.alloc(), &bytes) {
+    let JobFile {
+        line,
+        runs,
+        checkpoint,
+    } = match read_job_file(rt.alloc(), &bytes) {
         Ok(file) => file,
-        Err(JobFileFault::Memory) => return Err(JobFault::Memory),
         Err(JobFileFault::Version(version)) => return Err(JobFault::Version(name, version)),
         Err(JobFileFault::Damaged) => return Err(JobFault::Damaged(name)),
     };
-    match decode_checkpoint(rt.alloc(), &file.checkpoint) {
-        Ok(Some(checkpoint)) => Ok(Some(Found { file, checkpoint })),
-        Ok(None) => Err(JobFault::Damaged(name)),
-        Err(_) => Err(JobFault::Memory),
-    }
+    let progress = match decode_checkpoint(checkpoint) {
+        Some(Checkpoint::InProgress(progress)) => match FoundProgress::of(rt.alloc(), &progress) {
+            Ok(progress) => Some(progress),
+            Err(_) => return Err(JobFault::Memory),
+        },
+        Some(Checkpoint::Complete(_)) => None,
+        None => return Err(JobFault::Damaged(name)),
+    };
+    Ok(Some(Found {
+        line,
+        runs,
+        progress,
+    }))
 }
 
 /// Whether a member of the job that began is that of this one.
@@ -95,7 +131,7 @@ pub fn check_digests<'a>(
     rt: &HostRuntime,
     input: &'a str,
     names: &'a JobNames,
-    progress: &Progress,
+    progress: &FoundProgress,
 ) -> Result<Hashers, JobFault<'a>> {
     let part = names.part.as_str();
     let hashers = Hashers {
@@ -110,9 +146,7 @@ pub fn check_digests<'a>(
             Err(error) => return Err(JobFault::File(part, error)),
         },
     };
-    let start = progress.frozen.len().saturating_sub(DIGESTS_SIZE);
-    let (_, digests) = progress.frozen.split_at(start);
-    match hashers.agreement(digests) {
+    match hashers.agreement(&progress.digests) {
         Ok(agreement) if !agreement.input => Err(JobFault::OtherInput(progress.taken)),
         Ok(agreement) if !agreement.output => Err(JobFault::OtherPart(part)),
         Ok(_) => Ok(hashers),

@@ -7,7 +7,6 @@ use crate::names::JobNames;
 use crate::record::time_text;
 use crate::resume::{Found, find_checkpoint};
 use serde_json::Value;
-use soxchain_job::Checkpoint;
 
 /// The bytes of IN that a checkpoint's line names.
 fn size_of(line: &Value) -> Option<u64> {
@@ -16,13 +15,13 @@ fn size_of(line: &Value) -> Option<u64> {
 
 /// Shows a checkpoint on standard output.
 fn show_checkpoint<'a>(rt: &HostRuntime, found: &Found) -> Result<(), JobFault<'a>> {
-    let runs = found.file.runs;
+    let runs = found.runs;
     let Ok(began) = time_text(rt.alloc(), runs.began) else {
         return Err(JobFault::Memory);
     };
-    let size = size_of(&found.file.line).unwrap_or(0);
-    let shown = match &found.checkpoint {
-        Checkpoint::InProgress(progress) => {
+    let size = size_of(&found.line).unwrap_or(0);
+    let shown = match &found.progress {
+        Some(progress) => {
             let percent = progress
                 .taken
                 .min(size)
@@ -34,7 +33,7 @@ fn show_checkpoint<'a>(rt: &HostRuntime, found: &Found) -> Result<(), JobFault<'
                 "converted: {percent}%, {taken} of {size} bytes of IN; OUT.part has {written} bytes"
             )
         }
-        Checkpoint::Complete(_) => {
+        None => {
             println!(rt; "converted: 100%; OUT.part is complete, and gets its name by the next run")
         }
     };

@@ -1,3 +1,4 @@
+pub mod Appended
 pub mod Frozen
 pub mod Snapshots
 pub mod Streams

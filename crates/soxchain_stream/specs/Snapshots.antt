@@ -1,5 +1,5 @@
 -- A chain as bytes (docs/library.md, "A frozen stream").
-use Rattle.std.specs.Prelude.{ℕ, List, ◌≡◌}
+use Rattle.std.specs.Prelude.{ℕ, List, ◌++◌, ◌≡◌}
 use Rattle.fx_chain.specs.Chain.{ChainParts}
 use Rattle.fx_chain_flow.specs.Frozen.{FreezesFlow}
 use Rattle.fx_frame_base.specs.Frame.{Samples}
@@ -13,3 +13,9 @@ pub record IsFrozenAs (c : ChainParts) (bytes : List ℕ) : Type 0 where
   pub freezes : FreezesFlow effect_acts c.flow frames numbers
   pub stored : AreStored numbers frames
   pub bytes_are : bytes ≡ snapshot_bytes numbers frames
+
+-- Bytes to which a chain may be frozen were appended.
+pub record AppendsFrozen (c : ChainParts) (old new : List ℕ) : Type 0 where
+  pub frozen : List ℕ
+  pub freezes : IsFrozenAs c frozen
+  pub appended : new ≡ old ++ frozen

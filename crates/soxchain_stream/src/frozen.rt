@@ -2,174 +2,163 @@
 //!
 //! First "soxchain" and the version of this form, 1; then how many numbers there are, and these; then each frame: how many
 //! samples it has, and these, a negative one plus 2^64.
-ghost use Rattle.std.specs.Prelude.{◌≡◌, ◌↔◌, ◌≤◌, ◌++◌, flat_map, length, IfOk, IfSome, MatchOption, IsSome, OnOk, map, List, ℕ};
-ghost use Rattle.std.specs.Int.{cast_signed, w64};
-ghost use Rattle.std.specs.List.{All};
-ghost use Rattle.fx_frame_base.specs.Frame.{IsWideFrame, Samples};
-ghost use Rattle.soxchain_stream.specs.Frozen.{AreStored, IsWord, frame_words, snapshot_bytes, snapshot_words, word};
+//!
+//! Nothing here copies all frames, or all words: each frame of a chain is written as soon as it is read.
+ghost use Rattle.std.specs.Prelude.{◌≡◌, ◌∷◌, [], ◌++◌, flat_map, option_to_list, IfOk, IfSome, OnOk, ◌+◌, ◌*◌};
+ghost use Rattle.fx_chain_flow.specs.Frozen.{AllSound, numbers_all, stored_all};
+ghost use Rattle.fx_chain_flow.specs.Sound.{IsSound};
+ghost use Rattle.soxchain_stream.specs.Appended.{AppendsFlow, AppendsFrames, AppendsWords};
+ghost use Rattle.soxchain_stream.specs.Frozen.{frame_words};
 
-use byteorder::{ByteOrder, LittleEndian};
-use fx_frame::WideFrame;
-use fx_frame_base::frame::MAX_CHANNELS;
+use fx_chain_flow::flow::{Flow, State};
+use fx_frame::{Frame, Stage, WideFrame};
 use std::alloc::{AllocError, Global};
 
 /// "soxchain", little-endian.
-const MARK: u64 = 0x6e69_6168_6378_6f73;
+pub const MARK: u64 = 0x6e69_6168_6378_6f73;
 
 /// The version of the form.
-const FORMAT_VERSION: u64 = 1;
+pub const FORMAT_VERSION: u64 = 1;
 
-/// Numbers and frames read from bytes.
-#[derive(Drop)]
-pub struct Stored {
-    pub numbers: Vec<u64>,
-    pub frames: Vec<WideFrame>,
+/// The bytes of a word.
+pub const WORD_SIZE: usize = 8;
+
+/// Space for the head of a frozen chain, for the numbers of all stages that a chain may have, for the frame of its inlet, and for
+/// what a caller appends to the bytes, as digests.
+const NUMBERS_SIZE: usize = 4096;
+
+/// Appends a word.
+fn append_word(bytes: &mut Vec<u8>, word: u64) -> Result<(), AllocError>
+    ensures { OnOk result (AppendsWords bytes.old.items bytes.new.items (word ∷ [])) }
+{
+    bytes.extend_from_slice(&word.to_le_bytes())
 }
 
-/// Words as bytes.
-pub fn to_bytes(alloc: Global, words: &[u64]) -> Result<Vec<u8>, AllocError>
-    ensures bytes { IfOk result (λ bytes. bytes.items ≡ flat_map word words.now) }
-    ensures words { OnOk result (All IsWord words.now) }
+/// Appends words.
+pub fn append_words(bytes: &mut Vec<u8>, words: &[u64]) -> Result<(), AllocError>
+    ensures { OnOk result (AppendsWords bytes.old.items bytes.new.items words.now) }
 {
-    let mut bytes = Vec::new(alloc);
-    let mut rest = words;
-    while let Some((next, more)) = rest.split_first() {
-        let mut word = [0; 8];
-        LittleEndian::write_u64(&mut word, *next);
-        bytes.extend_from_slice(&word)?;
-        rest = more;
-    }
-    Ok(bytes)
-}
-
-/// The words that are these bytes; None where the bytes are no whole words.
-pub fn to_words(alloc: Global, bytes: &[u8]) -> Result<Option<Vec<u64>>, AllocError>
-    ensures some { IfOk result (λ found. IfSome found (λ words. flat_map word words.items ≡ bytes.now)) }
-    ensures words { IfOk result (λ found. IfSome found (λ words. All IsWord words.items)) }
-    ensures back { IfOk result (λ found. (words : List ℕ) → All IsWord words → flat_map word words ≡ bytes.now → MatchOption found ⊥ (λ w. w.items ≡ words)) }
-{
-    let mut words = Vec::new(alloc);
-    let mut rest = bytes;
-    while let Some((next, more)) = rest.split_first_chunk::<8>() {
-        words.push(LittleEndian::read_u64(next))?;
-        rest = more;
-    }
-    if rest.is_empty() {
-        Ok(Some(words))
-    } else {
-        Ok(None)
-    }
-}
-
-/// Adds the words of a frame.
-fn push_frame(words: &mut Vec<u64>, frame: &WideFrame) -> Result<(), AllocError>
-    ensures words { OnOk result (words.new.items ≡ words.old.items ++ frame_words frame.now) }
-    ensures wide { OnOk result (IsWideFrame frame.now) }
-{
-    let channels = frame.channels();
-    words.push(channels as u64)?;
-    for channel in 0..channels {
-        words.push(frame.get(channel).cast_unsigned())?;
+    'words: for word in words {
+        append_word(bytes, *word)?;
     }
     Ok(())
 }
 
-/// The words of numbers and frames.
-fn words_of(alloc: Global, numbers: &[u64], frames: &[WideFrame]) -> Result<Vec<u64>, AllocError>
-    ensures words { IfOk result (λ words. words.items ≡ snapshot_words numbers.now frames.now) }
-    ensures wide { OnOk result (All IsWideFrame frames.now) }
+/// Appends a frame: how many samples it has, and these.
+fn append_frame(bytes: &mut Vec<u8>, frame: &WideFrame) -> Result<(), AllocError>
+    ensures { OnOk result (AppendsFrames bytes.old.items bytes.new.items (frame.now ∷ [])) }
 {
-    let mut words = Vec::new(alloc);
-    words.extend_from_slice(&[MARK, FORMAT_VERSION, numbers.len() as u64])?;
-    words.extend_from_slice(numbers)?;
-    let mut rest = frames;
-    while let Some((frame, more)) = rest.split_first() {
-        push_frame(&mut words, frame)?;
-        rest = more;
+    let samples = frame.samples();
+    append_word(bytes, samples.len() as u64)?;
+    'samples: for sample in samples {
+        append_word(bytes, sample.cast_unsigned())?;
     }
-    Ok(words)
+    Ok(())
 }
 
-/// The bytes of numbers and frames.
-pub fn freeze_to_bytes(
-    alloc: Global,
-    numbers: &[u64],
-    frames: &[WideFrame],
-) -> Result<Vec<u8>, AllocError>
-    ensures bytes { IfOk result (λ bytes. bytes.items ≡ snapshot_bytes numbers.now frames.now) }
-    ensures stored { OnOk result (AreStored numbers.now frames.now) }
+/// Appends the frame of an inlet, if there is one.
+fn append_inlet(bytes: &mut Vec<u8>, inlet: Option<Frame>) -> Result<(), AllocError>
+    ensures { OnOk result (AppendsFrames bytes.old.items bytes.new.items (option_to_list inlet)) }
 {
-    let words = words_of(alloc, numbers, frames)?;
-    to_bytes(alloc, &words)
+    if let Some(frame) = inlet {
+        append_frame(bytes, &WideFrame::from_frame(frame))?;
+    }
+    Ok(())
 }
 
-/// The frame of these samples as words; None where there are none or more than 16.
-fn frame_of(words: &[u64]) -> Option<WideFrame>
-    ensures some { IsSome result ↔ ((1 ≤ length words.now) × (length words.now ≤ 16)) }
-    ensures value { IfSome result (λ f. f ≡ map (cast_signed w64) words.now) }
-    ensures wide { IfSome result IsWideFrame }
+/// Appends the frames that a stage stores.
+fn append_stored<S: Stage>(bytes: &mut Vec<u8>, stage: &S) -> Result<(), AllocError>
+    ensures { OnOk result (AppendsFrames bytes.old.items bytes.new.items (S.acts.stored stage.now)) }
 {
-    let count = words.len();
-    if count > MAX_CHANNELS {
-        return None;
+    'places: for place in 0..stage.held() as usize {
+        append_frame(bytes, &stage.stored(place))?;
     }
-    let mut samples = [0; MAX_CHANNELS];
-    for place in 0..count {
-        samples[place] = words[place].cast_signed();
-    }
-    WideFrame::from_slice(&samples[..count])
+    Ok(())
 }
 
-/// The frames that are these words; None where there are none.
-fn frames_of(alloc: Global, words: &[u64]) -> Result<Option<Vec<WideFrame>>, AllocError>
-    ensures some { IfOk result (λ found. IfSome found (λ frames. flat_map frame_words frames.items ≡ words.now)) }
-    ensures wide { IfOk result (λ found. IfSome found (λ frames. All IsWideFrame frames.items)) }
-    ensures back { IfOk result (λ found. (frames : List Samples) → All IsWideFrame frames → flat_map frame_words frames ≡ words.now → MatchOption found ⊥ (λ f. f.items ≡ frames)) }
+/// Appends the frames that all stages store.
+fn append_frames<S: Stage>(bytes: &mut Vec<u8>, stages: &[S]) -> Result<(), AllocError>
+    ensures { OnOk result (AppendsFrames bytes.old.items bytes.new.items (stored_all S.acts stages.now)) }
 {
-    let mut frames = Vec::new(alloc);
-    let mut rest = words;
-    while let Some((count, more)) = rest.split_first() {
-        if *count > more.len() as u64 {
-            return Ok(None);
-        }
-        let (samples, after) = more.split_at(*count as usize);
-        let Some(frame) = frame_of(samples) else {
-            return Ok(None);
-        };
-        frames.push(frame)?;
-        rest = after;
+    'frames: for stage in stages {
+        append_stored(bytes, stage)?;
     }
-    Ok(Some(frames))
+    Ok(())
 }
 
-/// The numbers and frames that are these words; None where there are none.
-fn stored_of(alloc: Global, words: &[u64]) -> Result<Option<Stored>, AllocError>
-    ensures some { IfOk result (λ found. IfSome found (λ s. snapshot_words s.numbers.items s.frames.items ≡ words.now)) }
-    ensures wide { IfOk result (λ found. IfSome found (λ s. All IsWideFrame s.frames.items)) }
-    ensures back { IfOk result (λ found. (numbers : List ℕ) (frames : List Samples) → All IsWideFrame frames → snapshot_words numbers frames ≡ words.now → MatchOption found ⊥ (λ s. (s.numbers.items ≡ numbers) × (s.frames.items ≡ frames))) }
+/// Appends the numbers of all stages, eight for each.
+fn append_numbers<S: Stage>(bytes: &mut Vec<u8>, stages: &[S]) -> Result<(), AllocError>
+    ensures words { OnOk result (AppendsWords bytes.old.items bytes.new.items (numbers_all S.acts stages.now)) }
+    ensures sound { OnOk result (AllSound S.sound stages.now) }
 {
-    let Some(([mark, version, count], rest)) = words.split_first_chunk::<3>() else {
-        return Ok(None);
+    'stages: for stage in stages {
+        append_words(bytes, &stage.counters())?;
+    }
+    Ok(())
+}
+
+/// About how many bytes the frames of these stages take: no fewer than they do.
+fn size_of_frames<S: Stage>(stages: &[S]) -> usize {
+    let mut words: u64 = 0;
+    for stage in stages {
+        let channels = stage.in_channels().max(stage.out_channels()) as u64;
+        words = words.saturating_add(stage.held().saturating_mul(channels.saturating_add(1)));
+    }
+    words.saturating_mul(WORD_SIZE as u64) as usize
+}
+
+/// How many numbers there are, eight of the inlet and eight of each stage; None where that does not fit 64 bits.
+fn number_count(stages: usize) -> Option<u64>
+    ensures { IfSome result (λ count. count ≡ 8 * (stages + 1)) }
+{
+    (stages as u64).checked_add(1)?.checked_mul(8)
+}
+
+/// Whether a flow was given the end. Where some frame is pending and the first stage is not ended, only a copy of all that it holds
+/// tells.
+fn is_ended<S: Stage>(alloc: Global, flow: &Flow<S>) -> Result<bool, AllocError>
+    ensures { IfOk result (λ ended. ended ≡ flow.now.ended) }
+{
+    match flow.state() {
+        State::Hungry => return Ok(false),
+        State::Done => return Ok(true),
+        State::Busy => {}
+    }
+    let stages = flow.stages();
+    if flow.inlet().is_some() {
+        return Ok(false);
+    }
+    if let Some(first) = stages.first()
+        && first.is_ended()
+    {
+        return Ok(true);
+    }
+    let (_frames, numbers) = flow.freeze(alloc)?;
+    Ok(numbers[2] == 1)
+}
+
+/// Appends a flow as bytes. Memory is taken once, for all of them and a few further bytes. Beside them nothing is made that grows
+/// with what the flow holds, where it is hungry or done.
+pub fn append_flow<S: Stage>(bytes: &mut Vec<u8>, flow: &Flow<S>) -> Result<(), AllocError>
+    ensures frozen { OnOk result (AppendsFlow S.acts flow.now bytes.old.items bytes.new.items) }
+    ensures sound { OnOk result (IsSound S.acts flow.now) }
+    ensures stages { OnOk result (AllSound S.sound flow.now.stages) }
+{
+    let ended = is_ended(*bytes.allocator(), flow)?;
+    let (stages, inlet, taken) = (flow.stages(), flow.inlet(), flow.taken());
+    bytes.reserve_exact(size_of_frames(stages).saturating_add(NUMBERS_SIZE))?;
+    let held = u64::from(inlet.is_some());
+    // A list of 2^64 numbers fits no memory.
+    let Some(count) = number_count(stages.len()) else {
+        return Err(AllocError);
     };
-    if *mark != MARK || *version != FORMAT_VERSION || *count > rest.len() as u64 {
-        return Ok(None);
-    }
-    let (numbers, rest) = rest.split_at(*count as usize);
-    let Some(frames) = frames_of(alloc, rest)? else {
-        return Ok(None);
-    };
-    let numbers = Vec::from_slice(alloc, numbers)?;
-    Ok(Some(Stored { numbers, frames }))
-}
-
-/// The numbers and frames of bytes; None where the bytes are not of this form.
-pub fn thaw_from_bytes(alloc: Global, bytes: &[u8]) -> Result<Option<Stored>, AllocError>
-    ensures some { IfOk result (λ found. IfSome found (λ s. snapshot_bytes s.numbers.items s.frames.items ≡ bytes.now)) }
-    ensures stored { IfOk result (λ found. IfSome found (λ s. AreStored s.numbers.items s.frames.items)) }
-    ensures back { IfOk result (λ found. (numbers : List ℕ) (frames : List Samples) → AreStored numbers frames → snapshot_bytes numbers frames ≡ bytes.now → MatchOption found ⊥ (λ s. (s.numbers.items ≡ numbers) × (s.frames.items ≡ frames))) }
-{
-    let Some(words) = to_words(alloc, bytes)? else {
-        return Ok(None);
-    };
-    stored_of(alloc, &words)
+    append_words(bytes, &[MARK, FORMAT_VERSION, count])?;
+    append_words(
+        bytes,
+        &[taken, taken - held, u64::from(ended), 0, held, 0, 0, 0],
+    )?;
+    append_numbers(bytes, stages)?;
+    append_inlet(bytes, inlet)?;
+    append_frames(bytes, stages)?;
+    Ok(())
 }

@@ -4,5 +4,6 @@
 mod frozen;
 pub mod inner;
 pub mod stream;
+mod thawed;
 
 pub use stream::{FeedFault, Stream, Waits};

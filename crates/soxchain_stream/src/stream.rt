@@ -8,9 +8,11 @@ ghost use Rattle.fx_chain_flow.specs.Steps.{IsHungry};
 ghost use Rattle.fx_plan_effects.specs.Bounds.{hold_all};
 ghost use Rattle.fx_plan.specs.Planning.{planning};
 ghost use Rattle.fx_chain_stages.specs.Stages.{effect_acts};
-ghost use Rattle.soxchain_stream.specs.Snapshots.{IsFrozenAs};
+ghost use Rattle.soxchain_stream.specs.Snapshots.{AppendsFrozen, IsFrozenAs};
 
-use crate::frozen::{Stored, freeze_to_bytes, thaw_from_bytes};
+use crate::frozen::append_flow;
+use crate::thawed::{Stored, thaw_from_bytes};
+use fx_chain::inner::flow_of;
 use fx_chain::{Chain, Snapshot};
 use fx_chain_flow::flow::{MAX_FRAMES, State};
 use fx_frame::{Passed, ThawFault};
@@ -156,8 +158,19 @@ impl Stream {
         ensures frozen { IfOk result (λ bytes. IsFrozenAs self.now.chain bytes.items) }
         ensures sound { OnOk result (IsSoundChain self.now.chain) }
     {
-        let snapshot = self.chain.freeze(alloc)?;
-        freeze_to_bytes(alloc, &snapshot.numbers, &snapshot.frames)
+        let mut bytes = Vec::new(alloc);
+        self.append_to(&mut bytes)?;
+        Ok(bytes)
+    }
+
+    /// Appends the chain as bytes; it is unchanged. Memory is taken once, for all of them and a few further bytes. Beside
+    /// them nothing is made that grows with what the chain holds, where it is hungry or done.
+    pub fn append_to(&self, bytes: &mut Vec<u8>) -> Result<(), AllocError>
+        ensures frozen { OnOk result (AppendsFrozen self.now.chain bytes.old.items bytes.new.items) }
+        ensures sound { OnOk result (IsSoundChain self.now.chain) }
+    {
+        append_flow(bytes, flow_of(&self.chain))?;
+        Ok(())
     }
 
     /// Continues from a chain of the same plan that was frozen to these bytes: whichever it was, one of the same value takes

@@ -28,8 +28,8 @@ impl Conversion for Copying {
         Ok(())
     }
 
-    fn freeze(&self, alloc: Global) -> Result<Vec<u8>, AllocError> {
-        Ok(Vec::new(alloc))
+    fn freeze(&self, _bytes: &mut Vec<u8>) -> Result<(), AllocError> {
+        Ok(())
     }
 
     fn thaw(&mut self, _alloc: Global, bytes: &[u8]) -> Result<(), ThawFault> {

@@ -34,26 +34,21 @@ returns-in-None-clause-any_moment g c = λ k.
     let synced : LeavesOnly g.D.Disk.model c.args.disk.now c.read_checkpoint.new.disk (IsSafe g.C.Conversion.model g.job) = weaker (c.read_checkpoint.ensures.any_moment k.0) (λ i h. inl (c.requires.1.1.1.1 k i h)) in
     joined synced (weaker (c.begin.ensures.any_moment k) (λ i h. inl (inl h)))
 
-pub returns-in_err-decode-in-Some-clause-any_moment : goal.returns-in_err-decode-in-Some-clause-any_moment
-returns-in_err-decode-in-Some-clause-any_moment g c = λ k.
+pub returns-in-None-decode-clause-any_moment : goal.returns-in-None-decode-clause-any_moment
+returns-in-None-decode-clause-any_moment g c = λ k.
     let synced : LeavesOnly g.D.Disk.model c.args.disk.now c.read_checkpoint.new.disk (IsSafe g.C.Conversion.model g.job) = weaker (c.read_checkpoint.ensures.any_moment k.0) (λ i h. inl (c.requires.1.1.1.1 k i h)) in
     synced
 
-pub returns-in-None-2-clause-any_moment : goal.returns-in-None-2-clause-any_moment
-returns-in-None-2-clause-any_moment g c = λ k.
-    let synced : LeavesOnly g.D.Disk.model c.args.disk.now c.read_checkpoint.new.disk (IsSafe g.C.Conversion.model g.job) = weaker (c.read_checkpoint.ensures.any_moment k.0) (λ i h. inl (c.requires.1.1.1.1 k i h)) in
-    synced
-
-pub returns-in-None-2-clause-readable : goal.returns-in-None-2-clause-readable
-returns-in-None-2-clause-readable g c = λ k.
+pub returns-in-None-decode-clause-readable : goal.returns-in-None-decode-clause-readable
+returns-in-None-decode-clause-readable g c = λ k.
     let synced : LeavesOnly g.D.Disk.model c.args.disk.now c.read_checkpoint.new.disk (IsRecoverable g.C.Conversion.model g.job) = weaker (c.read_checkpoint.ensures.any_moment k.0) (λ i h. c.requires.1.1.1.1 k i h) in
     let recoverable : (i : Image) → g.D.Disk.model.may_leave c.read_checkpoint.new.disk i → IsRecoverable g.C.Conversion.model g.job i = now_of g.D.Disk.model g.met.D.Disk.counts_now synced in
     let checkpoint : (g.D.Disk.model.seen c.read_checkpoint.new.disk).checkpoint ≡ Some c.in-Some.bytes.items = rw c.in-Some.is at (c.in_ok-read_checkpoint.ensures.found k.0) in
-    let read : Decoded c.in-Some.bytes.items c.in_ok-decode-in-Some.field-0 =
-    decoded g.C.Conversion.model g.job c.in-Some.bytes.items c.in_ok-decode-in-Some.field-0 (g.D.Disk.model.seen c.read_checkpoint.new.disk) (recoverable (g.D.Disk.model.seen c.read_checkpoint.new.disk) (g.met.D.Disk.shows c.read_checkpoint.new.disk)) checkpoint
-    (λ taken written frozen ft fw e. c.in_ok-decode-in-Some.ensures.in_progress taken written frozen ft fw (c.deref.ensures.value ∙ e))
-    (λ summary e. c.in_ok-decode-in-Some.ensures.complete summary (c.deref.ensures.value ∙ e)) in
-    absurd (none_is c.in-Some.bytes.items (rw c.in-None-2.is at read))
+    let read : Decoded c.in-Some.bytes.items c.decode.result =
+    decoded g.C.Conversion.model g.job c.in-Some.bytes.items c.decode.result (g.D.Disk.model.seen c.read_checkpoint.new.disk) (recoverable (g.D.Disk.model.seen c.read_checkpoint.new.disk) (g.met.D.Disk.shows c.read_checkpoint.new.disk)) checkpoint
+    (λ taken written frozen ft fw e. c.decode.ensures.in_progress taken written frozen ft fw (c.deref.ensures.value ∙ e))
+    (λ summary e. c.decode.ensures.complete summary (c.deref.ensures.value ∙ e)) in
+    absurd (none_is c.in-Some.bytes.items (rw c.in-None-decode.is at read))
 
 pub publish-requires : goal.publish-requires
 publish-requires g c κs within =
@@ -61,10 +56,10 @@ publish-requires g c κs within =
     let synced : LeavesOnly g.D.Disk.model c.args.disk.now c.read_checkpoint.new.disk (IsRecoverable g.C.Conversion.model g.job) = weaker (c.read_checkpoint.ensures.any_moment k.0) (λ i h. c.requires.1.1.1.1 k i h) in
     let recoverable : (i : Image) → g.D.Disk.model.may_leave c.read_checkpoint.new.disk i → IsRecoverable g.C.Conversion.model g.job i = now_of g.D.Disk.model g.met.D.Disk.counts_now synced in
     let checkpoint : (g.D.Disk.model.seen c.read_checkpoint.new.disk).checkpoint ≡ Some c.in-Some.bytes.items = rw c.in-Some.is at (c.in_ok-read_checkpoint.ensures.found k.0) in
-    let read : Decoded c.in-Some.bytes.items c.in_ok-decode-in-Some.field-0 =
-    decoded g.C.Conversion.model g.job c.in-Some.bytes.items c.in_ok-decode-in-Some.field-0 (g.D.Disk.model.seen c.read_checkpoint.new.disk) (recoverable (g.D.Disk.model.seen c.read_checkpoint.new.disk) (g.met.D.Disk.shows c.read_checkpoint.new.disk)) checkpoint
-    (λ taken written frozen ft fw e. c.in_ok-decode-in-Some.ensures.in_progress taken written frozen ft fw (c.deref.ensures.value ∙ e))
-    (λ summary e. c.in_ok-decode-in-Some.ensures.complete summary (c.deref.ensures.value ∙ e)) in
+    let read : Decoded c.in-Some.bytes.items c.decode.result =
+    decoded g.C.Conversion.model g.job c.in-Some.bytes.items c.decode.result (g.D.Disk.model.seen c.read_checkpoint.new.disk) (recoverable (g.D.Disk.model.seen c.read_checkpoint.new.disk) (g.met.D.Disk.shows c.read_checkpoint.new.disk)) checkpoint
+    (λ taken written frozen ft fw e. c.decode.ensures.in_progress taken written frozen ft fw (c.deref.ensures.value ∙ e))
+    (λ summary e. c.decode.ensures.complete summary (c.deref.ensures.value ∙ e)) in
     let is = complete_is c.in-Some.bytes.items (rw (c.in-Some-Complete.is, c.in-Some-Complete.field-0-is) at read) in
     is_ready g.C.Conversion.model g.job _ i (recoverable i now) (c.in_ok-read_checkpoint.ensures.durable k.0 i now ∙ checkpoint ∙ ap (λ (l : List ℕ). Some l) is) in
     search rules
@@ -86,16 +81,16 @@ resume_from-requires g c κs within =
     let recoverable : BothKnown g.D.Disk.model g.I.Input.model → (i : Image) → g.D.Disk.model.may_leave c.read_checkpoint.new.disk i → IsRecoverable g.C.Conversion.model g.job i = λ k.
     let synced : LeavesOnly g.D.Disk.model c.args.disk.now c.read_checkpoint.new.disk (IsRecoverable g.C.Conversion.model g.job) = weaker (c.read_checkpoint.ensures.any_moment k.0) (λ i h. c.requires.1.1.1.1 k i h) in
     now_of g.D.Disk.model g.met.D.Disk.counts_now synced in
-    let says : BothKnown g.D.Disk.model g.I.Input.model → seen.checkpoint ≡ Some (in_progress_bytes p.taken p.written p.frozen.items) = λ k.
+    let says : BothKnown g.D.Disk.model g.I.Input.model → seen.checkpoint ≡ Some (in_progress_bytes p.taken p.written p.frozen.now) = λ k.
     let checkpoint : seen.checkpoint ≡ Some c.in-Some.bytes.items = rw c.in-Some.is at (c.in_ok-read_checkpoint.ensures.found k.0) in
-    let read : Decoded c.in-Some.bytes.items c.in_ok-decode-in-Some.field-0 =
-    decoded g.C.Conversion.model g.job c.in-Some.bytes.items c.in_ok-decode-in-Some.field-0 seen (recoverable k seen (g.met.D.Disk.shows c.read_checkpoint.new.disk)) checkpoint
-    (λ taken written frozen ft fw e. c.in_ok-decode-in-Some.ensures.in_progress taken written frozen ft fw (c.deref.ensures.value ∙ e))
-    (λ summary e. c.in_ok-decode-in-Some.ensures.complete summary (c.deref.ensures.value ∙ e)) in
+    let read : Decoded c.in-Some.bytes.items c.decode.result =
+    decoded g.C.Conversion.model g.job c.in-Some.bytes.items c.decode.result seen (recoverable k seen (g.met.D.Disk.shows c.read_checkpoint.new.disk)) checkpoint
+    (λ taken written frozen ft fw e. c.decode.ensures.in_progress taken written frozen ft fw (c.deref.ensures.value ∙ e))
+    (λ summary e. c.decode.ensures.complete summary (c.deref.ensures.value ∙ e)) in
     checkpoint ∙ ap (λ (l : List ℕ). Some l) (in_progress_is c.in-Some.bytes.items p (rw (c.in-Some-InProgress.is, c.in-Some-InProgress.field-0-is) at read)) in
     let durable : BothKnown g.D.Disk.model g.I.Input.model → Durable FileNames.Checkpoint seen (g.D.Disk.model.may_leave c.read_checkpoint.new.disk) = λ k. c.in_ok-read_checkpoint.ensures.durable k.0 in
     let safe : BothKnown g.D.Disk.model g.I.Input.model → (i : Image) → g.D.Disk.model.may_leave c.read_checkpoint.new.disk i → IsGrowing g.C.Conversion.model g.job i = λ k i now.
-    growing_some g.C.Conversion.model g.job p.taken p.written p.frozen.items i (recoverable k i now) (durable k i now ∙ says k) in
+    growing_some g.C.Conversion.model g.job p.taken p.written p.frozen.now i (recoverable k i now) (durable k i now ∙ says k) in
     search rules
 
 pub returns-in_err-resume_from-in-Some-InProgress-clause-any_moment : goal.returns-in_err-resume_from-in-Some-InProgress-clause-any_moment
@@ -119,7 +114,7 @@ returns-in-Some-Complete-clause-continues g c = λ k.
     let checkpoint : (g.D.Disk.model.seen c.read_checkpoint.new.disk).checkpoint ≡ Some c.in-Some.bytes.items = rw c.in-Some.is at (c.in_ok-read_checkpoint.ensures.found k.0) in
     λ taken written frozen ft fw e.
     let bytes : c.in-Some.bytes.items ≡ in_progress_bytes taken written frozen = ap contents_of (sym checkpoint ∙ ap (λ (i : Image). i.checkpoint) (c.read_checkpoint.ensures.seen k.0) ∙ e) in
-    let is : IsInProgress taken written frozen c.in_ok-decode-in-Some.field-0 = c.in_ok-decode-in-Some.ensures.in_progress taken written frozen ft fw (c.deref.ensures.value ∙ bytes) in
+    let is : IsInProgress taken written frozen c.decode.result = c.decode.ensures.in_progress taken written frozen ft fw (c.deref.ensures.value ∙ bytes) in
     absurd (rw (c.in-Some-Complete.is, c.in-Some-Complete.field-0-is) at is)
 
 pub returns-clause-continues : goal.returns-clause-continues
@@ -127,7 +122,7 @@ returns-clause-continues g c = λ k.
     let checkpoint : (g.D.Disk.model.seen c.read_checkpoint.new.disk).checkpoint ≡ Some c.in-Some.bytes.items = rw c.in-Some.is at (c.in_ok-read_checkpoint.ensures.found k.0) in
     λ taken written frozen ft fw e.
     let bytes : c.in-Some.bytes.items ≡ in_progress_bytes taken written frozen = ap contents_of (sym checkpoint ∙ ap (λ (i : Image). i.checkpoint) (c.read_checkpoint.ensures.seen k.0) ∙ e) in
-    let is : IsInProgress taken written frozen c.in_ok-decode-in-Some.field-0 = c.in_ok-decode-in-Some.ensures.in_progress taken written frozen ft fw (c.deref.ensures.value ∙ bytes) in
+    let is : IsInProgress taken written frozen c.decode.result = c.decode.ensures.in_progress taken written frozen ft fw (c.deref.ensures.value ∙ bytes) in
     let now = rw (c.in-Some-InProgress.is, c.in-Some-InProgress.field-0-is) at is in
     let same = c.in_ok-resume_from-in-Some-InProgress.ensures.taken in
     (same.0 ∙ now.0, same.1 ∙ now.1)
