@@ -250,6 +250,13 @@ impl<S: Stage> Flow<S> {
         &self.stages
     }
 
+    /// Whether it was given the end.
+    pub fn is_ended(&self) -> bool
+        ensures { result ≡ self.now.ended }
+    {
+        self.ended
+    }
+
     /// The frame in the inlet, if there is one.
     pub fn inlet(&self) -> Option<Frame>
         ensures { result ≡ self.now.inlet }

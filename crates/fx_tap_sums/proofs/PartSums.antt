@@ -18,13 +18,13 @@ use Rattle.fx_tap_sums.proofs.PairSums.{AddingHalves, AddingHalves-bound, Adding
 
 -- ---- splits
 
-pub split-most : (split : ℕ) → IsSplit split → 2 ^ split ≤ 16384
-split-most split (inl e) = rw e (omega arith)
-split-most split (inr e) = rw e (omega arith)
+pub split-maximum : (split : ℕ) → IsSplit split → 2 ^ split ≤ 16384
+split-maximum split (inl e) = rw e (omega arith)
+split-maximum split (inr e) = rw e (omega arith)
 
-pub split-least : (split : ℕ) → IsSplit split → 8192 ≤ 2 ^ split
-split-least split (inl e) = rw e (omega arith)
-split-least split (inr e) = rw e (omega arith)
+pub split-minimum : (split : ℕ) → IsSplit split → 8192 ≤ 2 ^ split
+split-minimum split (inl e) = rw e (omega arith)
+split-minimum split (inr e) = rw e (omega arith)
 
 -- ---- joined sums
 
@@ -132,8 +132,8 @@ joined-small split halves ws high_table low_table interval base pair s k tables 
 pub lane-limit : (split : ℕ) (halves ws high_table low_table : List ℤ) (interval base pair : ℕ) (s : ℤ) (k : ℕ) → ArePairsOfParts split ws high_table low_table interval → AddingHalves (drop (base + 2 * k) halves) ws (2 * pair) s → unsigned_abs s ≤ 2 ^ 45
 lane-limit split halves ws high_table low_table interval base pair s k tables a =
     let bound = joined-small split halves ws high_table low_table interval base pair s k tables a in
-    let most = split-most split tables.is_split in
-    omega (arith, bound, most)
+    let maximum = split-maximum split tables.is_split in
+    omega (arith, bound, maximum)
 
 -- what is needed of a step
 pub record Step (split : ℕ) (halves ws high_table low_table x high_weights low_weights : List ℤ) (interval base start pair at : ℕ) : Type 0 where
@@ -224,8 +224,8 @@ joined-next split halves ws high_table low_table x high_weights low_weights high
 high-bound : (split : ℕ) (h l : ℤ) → IsSplit split → unsigned_abs (joined_halves (2 ^ split) h l) ≤ 2 ^ 31 * (2 ^ split - 1) → unsigned_abs l < 2 ^ 31 → unsigned_abs h < 2 ^ 31
 high-bound split h l is whole small =
     let size = unsigned_abs-mul h (pos (2 ^ split)) in
-    let least = split-least split is in
-    let below : unsigned_abs h * 2 ^ split < 2 ^ 31 * 2 ^ split = omega (arith, ints, size, whole, small, least) in
+    let minimum = split-minimum split is in
+    let below : unsigned_abs h * 2 ^ split < 2 ^ 31 * 2 ^ split = omega (arith, ints, size, whole, small, minimum) in
     lt_of_mul-lt-mul_right (2 ^ split) below
 
 pub high-fit : (split : ℕ) (halves ws high_table low_table x high_weights low_weights high low : List ℤ) (interval base start pair at : ℕ) (s : Step split halves ws high_table low_table x high_weights low_weights interval base start pair at)
@@ -305,7 +305,7 @@ some-interval split ws highs lows interval false t parts maximal =
     let two : 2 * (interval + 1) ≡ 2 = omega (arith, none) in
     absurd (maximal (omega (arith, none)) (rw two (two-lows split ws highs lows parts)))
 
--- at least one pair goes before a carry
+-- at minimum one pair goes before a carry
 pub interval-of-parts : (split : ℕ) (ws highs lows : List ℤ) (interval : ℕ) → AreParts (2 ^ split) ws highs lows → (interval < 128 → AreCarried (2 * (interval + 1)) lows → ⊥) → 1 ≤ interval
 interval-of-parts split ws highs lows interval parts maximal = some-interval split ws highs lows interval (nat_lt 0 interval) refl parts maximal
 

@@ -10,7 +10,7 @@ ghost use Rattle.fx_chain_flow.specs.Sound.{IsSound};
 ghost use Rattle.soxchain_stream.specs.Appended.{AppendsFlow, AppendsFrames, AppendsWords};
 ghost use Rattle.soxchain_stream.specs.Frozen.{frame_words};
 
-use fx_chain_flow::flow::{Flow, State};
+use fx_chain_flow::flow::Flow;
 use fx_frame::{Frame, Stage, WideFrame};
 use std::alloc::{AllocError, Global};
 
@@ -114,37 +114,13 @@ fn number_count(stages: usize) -> Option<u64>
     (stages as u64).checked_add(1)?.checked_mul(8)
 }
 
-/// Whether a flow was given the end. Where some frame is pending and the first stage is not ended, only a copy of all that it holds
-/// tells.
-fn is_ended<S: Stage>(alloc: Global, flow: &Flow<S>) -> Result<bool, AllocError>
-    ensures { IfOk result (λ ended. ended ≡ flow.now.ended) }
-{
-    match flow.state() {
-        State::Hungry => return Ok(false),
-        State::Done => return Ok(true),
-        State::Busy => {}
-    }
-    let stages = flow.stages();
-    if flow.inlet().is_some() {
-        return Ok(false);
-    }
-    if let Some(first) = stages.first()
-        && first.is_ended()
-    {
-        return Ok(true);
-    }
-    let (_frames, numbers) = flow.freeze(alloc)?;
-    Ok(numbers[2] == 1)
-}
-
 /// Appends a flow as bytes. Memory is taken once, for all of them and a few further bytes. Beside them nothing is made that grows
-/// with what the flow holds, where it is hungry or done.
+/// with what the flow holds.
 pub fn append_flow<S: Stage>(bytes: &mut Vec<u8>, flow: &Flow<S>) -> Result<(), AllocError>
     ensures frozen { OnOk result (AppendsFlow S.acts flow.now bytes.old.items bytes.new.items) }
     ensures sound { OnOk result (IsSound S.acts flow.now) }
     ensures stages { OnOk result (AllSound S.sound flow.now.stages) }
 {
-    let ended = is_ended(*bytes.allocator(), flow)?;
     let (stages, inlet, taken) = (flow.stages(), flow.inlet(), flow.taken());
     bytes.reserve_exact(size_of_frames(stages).saturating_add(NUMBERS_SIZE))?;
     let held = u64::from(inlet.is_some());
@@ -155,7 +131,16 @@ pub fn append_flow<S: Stage>(bytes: &mut Vec<u8>, flow: &Flow<S>) -> Result<(), 
     append_words(bytes, &[MARK, FORMAT_VERSION, count])?;
     append_words(
         bytes,
-        &[taken, taken - held, u64::from(ended), 0, held, 0, 0, 0],
+        &[
+            taken,
+            taken - held,
+            u64::from(flow.is_ended()),
+            0,
+            held,
+            0,
+            0,
+            0,
+        ],
     )?;
     append_numbers(bytes, stages)?;
     append_inlet(bytes, inlet)?;

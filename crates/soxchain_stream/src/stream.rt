@@ -164,7 +164,7 @@ impl Stream {
     }
 
     /// Appends the chain as bytes; it is unchanged. Memory is taken once, for all of them and a few further bytes. Beside
-    /// them nothing is made that grows with what the chain holds, where it is hungry or done.
+    /// them nothing is made that grows with what the chain holds.
     pub fn append_to(&self, bytes: &mut Vec<u8>) -> Result<(), AllocError>
         ensures frozen { OnOk result (AppendsFrozen self.now.chain bytes.old.items bytes.new.items) }
         ensures sound { OnOk result (IsSoundChain self.now.chain) }
