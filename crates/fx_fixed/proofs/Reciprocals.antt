@@ -8,7 +8,7 @@ use Rattle.std.proofs.lemmas.Int.{fits_signed_from_abs, ints, to_z-of_z, to_z_po
 use lib.Signed.{mag_shr, shr_z}
 use mir.Syntax.{w128}
 use Rattle.fx_fixed.specs.Rounding.{nearest, nearest_natural}
-use Rattle.fx_fixed.specs.Reciprocal.{IsPrepared}
+use Rattle.fx_fixed.specs.Reciprocal.{IsPreparedDenominator}
 
 -- ---- the number that is nearest
 
@@ -32,10 +32,10 @@ near-by a d e f h k w some above near small is down up =
       maximum = lt_of_mul-lt-mul_right d (omega (arith, less, high, is, small));
     }
 
-near-prepared : (v sh a : ℕ) (m f h : ℤ) (is : IsPrepared v m f h sh) → a ≤ 2 ^ 61 → IsNear a (nearest_natural a v) (a * is.times * is.over) (2 ^ 63 * 2 ^ sh)
+near-prepared : (v sh a : ℕ) (m f h : ℤ) (is : IsPreparedDenominator v m f h sh) → a ≤ 2 ^ 61 → IsNear a (nearest_natural a v) (a * is.times * is.over) (2 ^ 63 * 2 ^ sh)
 near-prepared v sh a m f h is bound =
-    let few : a * (is.times * v) ≤ 2 ^ 61 * (is.times * v) = mul-le-mul bound (omega arith) in
-    near-by a v (is.times * v) is.over (2 ^ 63 * 2 ^ sh) (nearest_natural a v) (a * is.times * is.over) is.positive (omega (arith, is.above)) (omega (arith, is.near)) (omega (arith, few, is.bound)) (omega arith) (div-mul-le_self (2 * a + v) (2 * v)) (lt-div-mul-add (omega (arith, is.positive)))
+    let bounded : a * (is.times * v) ≤ 2 ^ 61 * (is.times * v) = mul-le-mul bound (omega arith) in
+    near-by a v (is.times * v) is.over (2 ^ 63 * 2 ^ sh) (nearest_natural a v) (a * is.times * is.over) is.positive (omega (arith, is.above)) (omega (arith, is.near)) (omega (arith, bounded, is.bound)) (omega arith) (div-mul-le_self (2 * a + v) (2 * v)) (lt-div-mul-add (omega (arith, is.positive)))
 
 -- ---- sums and shifts
 
@@ -66,7 +66,7 @@ negated-product : (n f : ℕ) → neg_ℤ (pos n) *ℤ pos f ≡ neg_ℤ (pos (n
 negated-product zero f = let none : 0 * f ≡ 0 = omega arith in rw none refl
 negated-product (suc n) f = refl
 
-rounds : (v sh : ℕ) (s m f h : ℤ) (is : IsPrepared v m f h sh) → unsigned_abs s ≤ 2 ^ 61 → shr_z (((s *ℤ pos is.times) *ℤ pos is.over) +ℤ pos (2 ^ 63 * 2 ^ sh)) (2 * (2 ^ 63 * 2 ^ sh)) ≡ nearest s v
+rounds : (v sh : ℕ) (s m f h : ℤ) (is : IsPreparedDenominator v m f h sh) → unsigned_abs s ≤ 2 ^ 61 → shr_z (((s *ℤ pos is.times) *ℤ pos is.over) +ℤ pos (2 ^ 63 * 2 ^ sh)) (2 * (2 ^ 63 * 2 ^ sh)) ≡ nearest s v
 rounds v sh (pos a) m f h is bound = round-above a (nearest_natural a v) (a * is.times * is.over) (2 ^ 63 * 2 ^ sh) (near-prepared v sh a m f h is bound)
 rounds v sh (negsuc a) m f h is bound =
     rw (negated-product (suc a * is.times) is.over)
@@ -90,7 +90,7 @@ smaller (negsuc a) m =
     let less : a / m ≤ a = mag_shr (negsuc a) m in
     omega (arith, less)
 
-module _ (v sh : ℕ) (s x y m f h : ℤ) (is : IsPrepared v m f h sh) (scaled : x ≡ to_z w64 (of_z w64 (to_z w64 (of_z w64 s) *ℤ to_z w64 (of_z w64 m)))) (factor : y ≡ to_z w64 (of_z w64 f)) (bound : unsigned_abs s ≤ 2 ^ 61) where
+module _ (v sh : ℕ) (s x y m f h : ℤ) (is : IsPreparedDenominator v m f h sh) (scaled : x ≡ to_z w64 (of_z w64 (to_z w64 (of_z w64 s) *ℤ to_z w64 (of_z w64 m)))) (factor : y ≡ to_z w64 (of_z w64 f)) (bound : unsigned_abs s ≤ 2 ^ 61) where
   power : 2 ^ sh ≤ 2 ^ 61
   power = pow-le-pow_right (omega arith) is.shift_bound
 
@@ -189,7 +189,7 @@ factor-fits d t small above =
     omega (arith, q)
 
 pub prepared : (v times s : ℕ) → 1 ≤ v → times ≤ 3 → s ≤ 61 → 2 * 2 ^ s < times * v → times * v < 4 * 2 ^ s
-    → IsPrepared v (to_z w64 times) (to_z w64 (2 ^ 64 * 2 ^ s / (times * v) + 1)) (to_z w128 (2 ^ 64 * 2 ^ s / 2)) s
+    → IsPreparedDenominator v (to_z w64 times) (to_z w64 (2 ^ 64 * 2 ^ s / (times * v) + 1)) (to_z w128 (2 ^ 64 * 2 ^ s / 2)) s
 prepared v times s some small bound above below =
     let power : 2 ^ s ≤ 2 ^ 61 = pow-le-pow_right (omega arith) bound in
     let fits = factor-fits (times * v) (2 ^ s) power above in

@@ -2,7 +2,7 @@
 use Rattle.std.specs.Prelude.{ℕ, ℤ, pos, ◌≡◌, ◌+◌, ◌*◌, ◌^◌, ◌<◌, ◌≤◌}
 
 -- the factor is 2^(64 + shift) over the multiplied denominator, rounded up to an integer above it, and the half is half that power
-pub record IsPrepared (value : ℕ) (multiplier factor half : ℤ) (shift : ℕ) : Type 0 where
+pub record IsPreparedDenominator (value : ℕ) (multiplier factor half : ℤ) (shift : ℕ) : Type 0 where
   pub times : ℕ
   pub over : ℕ
   pub multiplier_is : multiplier ≡ pos times

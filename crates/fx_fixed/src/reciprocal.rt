@@ -20,13 +20,13 @@ pub struct Denominator {
 // A prepared denominator is that number.
 impl Model for Denominator {
     ghost use Rattle.std.specs.Prelude.{ℕ};
-    ghost use Rattle.fx_fixed.specs.Reciprocal.{IsPrepared};
+    ghost use Rattle.fx_fixed.specs.Reciprocal.{IsPreparedDenominator};
 
     ghost Value = { ℕ };
 
     ghost view = { λ d. d.value };
 
-    ghost invariant = { λ d. IsPrepared d.value d.multiplier d.factor d.half d.shift };
+    ghost invariant = { λ d. IsPreparedDenominator d.value d.multiplier d.factor d.half d.shift };
 }
 
 /// A multiplier of a denominator, and a shift: the product lies strictly between `2^(shift + 1)` and `2^(shift + 2)`.

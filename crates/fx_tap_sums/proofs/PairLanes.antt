@@ -359,9 +359,9 @@ floor-fits : (m : ℕ) → IsStep m → (x q : ℤ) → FitsSigned w32 x → IsF
 floor-fits m (inl e) x q fits f = rw e (floor-fits_8192 x q fits (rw e at f))
 floor-fits m (inr e) x q fits f = rw e (floor-fits_16384 x q fits (rw e at f))
 
-step-most : (m : ℕ) → IsStep m → m ≤ 16384
-step-most m (inl e) = omega (arith, e)
-step-most m (inr e) = omega (arith, e)
+step-maximum : (m : ℕ) → IsStep m → m ≤ 16384
+step-maximum m (inl e) = omega (arith, e)
+step-maximum m (inr e) = omega (arith, e)
 
 -- a step that is made of its power, and one that is read from its bits
 pub step-is : (n : ℕ) → IsSplit n → 1 * 2 ^ n % 2 ^ 32 ≡ 2 ^ n
@@ -374,8 +374,8 @@ wide-step-is n (inr e) = rw e refl
 
 step-value : (m : ℕ) → IsStep m → to_z w32 m ≡ pos m
 step-value m step =
-    let most = step-most m step in
-    to_z_pos w32 m (omega (arith, most))
+    let maximum = step-maximum m step in
+    to_z_pos w32 m (omega (arith, maximum))
 
 rest-is : (m : ℕ) (x q : ℤ) (f : IsFloor m x q) → x -ℤ (q *ℤ pos m) ≡ pos f.rest
 rest-is m x q f =
@@ -384,9 +384,9 @@ rest-is m x q f =
 
 rest-fits : (m : ℕ) → IsStep m → (x q : ℤ) → IsFloor m x q → FitsSigned w32 (x -ℤ (q *ℤ pos m))
 rest-fits m step x q f =
-    let most = step-most m step in
+    let maximum = step-maximum m step in
     let below = f.below in
-    rw (rest-is m x q f) (fits_signed_from_abs w32 (pos f.rest) (omega (arith, most, below)))
+    rw (rest-is m x q f) (fits_signed_from_abs w32 (pos f.rest) (omega (arith, maximum, below)))
 
 pub floors-mul_asked : (m : ℕ) → IsStep m → (xs qs : List ℤ) → Each1 (FitsSigned w32) xs → Each1 (FitsSigned w32) qs → AreFloors m xs qs → length xs ≡ 4 → length qs ≡ 4
     → Each2 (Asks2 (mul signed) (s_int w32) (s_int w32)) (map (of_z w32) qs) (m ∷ m ∷ m ∷ m ∷ [])
@@ -464,8 +464,8 @@ carry-bound m step h l q f small =
     let rest = f.below in
     let positive : 0 < m = elim step [ inl e ↦ omega (arith, e) | inr e ↦ omega (arith, e) ] in
     let split : (h +ℤ q) *ℤ pos m +ℤ pos f.rest ≡ joined_halves m h l = omega (arith, ints, is, sum) in
-    let most = step-most m step in
-    let below : unsigned_abs (h +ℤ q) * m < 2 ^ 31 * m = omega (arith, ints, split, size, small, rest, positive, most) in
+    let maximum = step-maximum m step in
+    let below : unsigned_abs (h +ℤ q) * m < 2 ^ 31 * m = omega (arith, ints, split, size, small, rest, positive, maximum) in
     lt_of_mul-lt-mul_right m below
 
 pub carry-value : (m : ℕ) (h l q : ℤ) → joined_halves m (h +ℤ q) (l -ℤ (q *ℤ pos m)) ≡ joined_halves m h l
@@ -475,16 +475,16 @@ carry-value m h l q =
 
 pub rest-below : (m : ℕ) → IsStep m → (l q : ℤ) → IsFloor m l q → unsigned_abs (l -ℤ (q *ℤ pos m)) ≤ 2 ^ 14
 rest-below m step l q f =
-    let most = step-most m step in
+    let maximum = step-maximum m step in
     let below = f.below in
-    rw (rest-is m l q f) (omega (arith, most, below))
+    rw (rest-is m l q f) (omega (arith, maximum, below))
 
 -- ---- the parts of a weight
 
 -- what is given of a weight and a step
 pub record Weighed (m half : ℕ) (z : ℤ) : Type 0 where
   twice : m ≡ 2 * half
-  most : m ≤ 16384
+  maximum : m ≤ 16384
   some : 0 < half
   fits : FitsSigned w32 z
   bound : unsigned_abs z ≤ 32767 * m
@@ -494,10 +494,10 @@ part-above m half z = shr_z (z +ℤ pos half) m
 
 half-sum-fits : (m half : ℕ) (z : ℤ) → Weighed m half z → FitsSigned w32 (z +ℤ pos half)
 half-sum-fits m half z w =
-    let most = w.most in
+    let maximum = w.maximum in
     let twice = w.twice in
     let bound = w.bound in
-    fits_signed_from_abs w32 (z +ℤ pos half) (omega (arith, ints, most, twice, bound))
+    fits_signed_from_abs w32 (z +ℤ pos half) (omega (arith, ints, maximum, twice, bound))
 
 above-is : (m half : ℕ) (z : ℤ) → Weighed m half z → to_z w32 (of_z w32 (shr_z (to_z w32 (of_z w32 (to_z w32 (of_z w32 z) +ℤ pos half))) m)) ≡ part-above m half z
 above-is m half z w =
@@ -507,20 +507,20 @@ above-is m half z w =
 -- the low part, which the multiple leaves
 below-bound : (m half : ℕ) (z : ℤ) → Weighed m half z → unsigned_abs (z -ℤ (part-above m half z *ℤ pos m)) ≤ 8192
 below-bound m half z w =
-    let most = w.most in
+    let maximum = w.maximum in
     let twice = w.twice in
     let some = w.some in
     let f = shifted-floor m (omega (arith, twice, some)) (z +ℤ pos half) in
     let is = f.is in
     let below = f.below in
-    omega (arith, ints, is, below, most, twice)
+    omega (arith, ints, is, below, maximum, twice)
 
 product-fits : (m half : ℕ) (z : ℤ) → Weighed m half z → FitsSigned w32 (part-above m half z *ℤ pos m)
 product-fits m half z w =
-    let most = w.most in
+    let maximum = w.maximum in
     let bound = w.bound in
     let low = below-bound m half z w in
-    fits_signed_from_abs w32 (part-above m half z *ℤ pos m) (omega (arith, ints, most, bound, low))
+    fits_signed_from_abs w32 (part-above m half z *ℤ pos m) (omega (arith, ints, maximum, bound, low))
 
 below-fits : (m half : ℕ) (z : ℤ) → Weighed m half z → FitsSigned w32 (z -ℤ (part-above m half z *ℤ pos m))
 below-fits m half z w =
@@ -546,10 +546,10 @@ part-joined m half z w =
     rw (difference-is m half z w, to_z-of_z w32 (z -ℤ (part-above m half z *ℤ pos m)) (below-fits m half z w), above-is m half z w) (omega (arith, ints))
 
 pub weighed_8192 : (z : ℤ) → FitsSigned w32 z → unsigned_abs z ≤ 32767 * 8192 → Weighed 8192 4096 z
-weighed_8192 z fits bound = record { twice = refl; most = omega arith; some = omega arith; fits = fits; bound = bound }
+weighed_8192 z fits bound = record { twice = refl; maximum = omega arith; some = omega arith; fits = fits; bound = bound }
 
 pub weighed_16384 : (z : ℤ) → FitsSigned w32 z → unsigned_abs z ≤ 32767 * 16384 → Weighed 16384 8192 z
-weighed_16384 z fits bound = record { twice = refl; most = omega arith; some = omega arith; fits = fits; bound = bound }
+weighed_16384 z fits bound = record { twice = refl; maximum = omega arith; some = omega arith; fits = fits; bound = bound }
 
 -- ---- high and low lanes in 64 bits
 

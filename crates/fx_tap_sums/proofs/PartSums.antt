@@ -305,7 +305,7 @@ some-interval split ws highs lows interval false t parts maximal =
     let two : 2 * (interval + 1) ≡ 2 = omega (arith, none) in
     absurd (maximal (omega (arith, none)) (rw two (two-lows split ws highs lows parts)))
 
--- at minimum one pair goes before a carry
+-- at least one pair goes before a carry
 pub interval-of-parts : (split : ℕ) (ws highs lows : List ℤ) (interval : ℕ) → AreParts (2 ^ split) ws highs lows → (interval < 128 → AreCarried (2 * (interval + 1)) lows → ⊥) → 1 ≤ interval
 interval-of-parts split ws highs lows interval parts maximal = some-interval split ws highs lows interval (nat_lt 0 interval) refl parts maximal
 

@@ -15,7 +15,7 @@ pub record IsFrozenAs (c : ChainParts) (bytes : List ℕ) : Type 0 where
   pub bytes_are : bytes ≡ snapshot_bytes numbers frames
 
 -- Bytes to which a chain may be frozen were appended.
-pub record AppendsFrozen (c : ChainParts) (old new : List ℕ) : Type 0 where
+pub record AppendsChain (c : ChainParts) (old new : List ℕ) : Type 0 where
   pub frozen : List ℕ
   pub freezes : IsFrozenAs c frozen
   pub appended : new ≡ old ++ frozen

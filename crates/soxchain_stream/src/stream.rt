@@ -8,7 +8,7 @@ ghost use Rattle.fx_chain_flow.specs.Steps.{IsHungry};
 ghost use Rattle.fx_plan_effects.specs.Bounds.{hold_all};
 ghost use Rattle.fx_plan.specs.Planning.{planning};
 ghost use Rattle.fx_chain_stages.specs.Stages.{effect_acts};
-ghost use Rattle.soxchain_stream.specs.Snapshots.{AppendsFrozen, IsFrozenAs};
+ghost use Rattle.soxchain_stream.specs.Snapshots.{AppendsChain, IsFrozenAs};
 
 use crate::frozen::append_flow;
 use crate::thawed::{Stored, thaw_from_bytes};
@@ -166,7 +166,7 @@ impl Stream {
     /// Appends the chain as bytes; it is unchanged. Memory is taken once, for all of them and a few further bytes. Beside
     /// them nothing is made that grows with what the chain holds.
     pub fn append_to(&self, bytes: &mut Vec<u8>) -> Result<(), AllocError>
-        ensures frozen { OnOk result (AppendsFrozen self.now.chain bytes.old.items bytes.new.items) }
+        ensures frozen { OnOk result (AppendsChain self.now.chain bytes.old.items bytes.new.items) }
         ensures sound { OnOk result (IsSoundChain self.now.chain) }
     {
         append_flow(bytes, flow_of(&self.chain))?;
