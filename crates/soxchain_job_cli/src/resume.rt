@@ -1,8 +1,9 @@
 //! Whether a later run may continue: the checkpoint is of this job, and IN and the part are what they were.
+ghost use Rattle.std.specs.Prelude.{◌≡◌, true, OnOk};
 
 use crate::fault::JobFault;
 use crate::folder::read_file;
-use crate::hashed::{DIGESTS_SIZE, Hashers};
+use crate::hashed::{Agreement, DIGESTS_SIZE, Hashers};
 use crate::job_file::{JobFile, JobFileFault, Runs, read_job_file};
 use crate::names::JobNames;
 use serde_json::Value;
@@ -126,6 +127,20 @@ fn hash_front(rt: &HostRuntime, name: &str, count: u64) -> io::Result<Sha256> {
     Ok(hasher)
 }
 
+/// Refuses IN, or the part, where its digest is not that of the checkpoint.
+fn check_agreement<'a>(agreement: Agreement, taken: u64, part: &'a str) -> Result<(), JobFault<'a>>
+    ensures input { OnOk result (agreement.input ≡ true) }
+    ensures part { OnOk result (agreement.output ≡ true) }
+{
+    if !agreement.input {
+        return Err(JobFault::OtherInput(taken));
+    }
+    if !agreement.output {
+        return Err(JobFault::OtherPart(part));
+    }
+    Ok(())
+}
+
 /// What was hashed when this checkpoint was written; refused where IN or the part is not what it was.
 pub fn check_digests<'a>(
     rt: &HostRuntime,
@@ -146,11 +161,12 @@ pub fn check_digests<'a>(
             Err(error) => return Err(JobFault::File(part, error)),
         },
     };
-    match hashers.agreement(&progress.digests) {
-        Ok(agreement) if !agreement.input => Err(JobFault::OtherInput(progress.taken)),
-        Ok(agreement) if !agreement.output => Err(JobFault::OtherPart(part)),
-        Ok(_) => Ok(hashers),
-        Err(_) => Err(JobFault::Memory),
+    let Ok(agreement) = hashers.agreement(&progress.digests) else {
+        return Err(JobFault::Memory);
+    };
+    match check_agreement(agreement, progress.taken, part) {
+        Ok(()) => Ok(hashers),
+        Err(fault) => Err(fault),
     }
 }
 
