@@ -1,11 +1,11 @@
 -- What is appended in several steps.
-use Rattle.std.proofs.Common.{◌≡◌, ℕ, ◌+◌, ◌*◌, ◌<◌, ◌^◌, List, [], ◌∷◌, ◌++◌, length, map, flat_map, refl, suc, sym, ap, ◌∙◌, append_assoc, ℤ, FitsSigned, arith, lit<}
+use Rattle.std.proofs.Common.{◌≡◌, ℕ, ◌+◌, ◌*◌, List, [], ◌∷◌, ◌++◌, length, flat_map, refl, sym, ap, ◌∙◌, append_assoc, arith}
 use Rattle.std.proofs.lemmas.Grind.{flat_map-append}
 use Rattle.std.proofs.lemmas.List.{append-nil, length-append}
-use Rattle.std.proofs.lemmas.List.Elements.{All-append, All-cons}
+use Rattle.std.proofs.lemmas.List.Elements.{All-append}
 use Rattle.std.specs.List.{All}
-use Rattle.std.specs.Int.{cast_unsigned, w64}
-use Rattle.std.specs.Prelude.{Option, Some, None, cond, is_some, option_to_list}
+use Rattle.std.specs.Int.{from_bool}
+use Rattle.std.specs.Prelude.{Bool, true, false, Option, Some, None, cond, is_some, option_to_list}
 use Rattle.fx_chain_flow.specs.Frozen.{inlet_numbers, numbers_all, stored_all}
 use Rattle.fx_chain_flow.proofs.Thawing.{length-numbers}
 use Rattle.fx_chain_flow.specs.Parts.{Parts}
@@ -63,6 +63,11 @@ frozen-by-parts acts flow a b d e f g head inlet stages first others =
     }
 
 -- how many frames are in an inlet
-pub held-of : (o : Option Samples) → cond (is_some o) 1 0 ≡ length (option_to_list o)
+pub held-of : (o : Option Samples) → from_bool (is_some o) ≡ length (option_to_list o)
 held-of None = refl
 held-of (Some f) = refl
+
+-- 1 after the end, and else 0
+pub ended-of : (b : Bool) → from_bool b ≡ cond b 1 0
+ended-of true = refl
+ended-of false = refl

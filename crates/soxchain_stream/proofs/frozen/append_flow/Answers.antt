@@ -1,9 +1,10 @@
-use Rattle.std.proofs.Common.{◌≡◌, ◌∙◌, ◌+◌, ◌-◌, ◌*◌, ◌∷◌, [], Bool, ℕ, List, ap, arith, length, subst}
+use Rattle.std.proofs.Common.{◌≡◌, ◌∙◌, ◌+◌, ◌-◌, ◌*◌, ◌∷◌, [], ℕ, List, ap, arith, length, subst}
+use Rattle.std.specs.Int.{from_bool}
 use Rattle.std.specs.Prelude.{Option, cond, option_to_list}
 use Rattle.fx_chain_flow.specs.Frozen.{inlet_numbers, numbers_all, stored_all}
 use Rattle.fx_frame_base.specs.Frame.{Samples}
 use Rattle.soxchain_stream.specs.Appended.{AppendsFrames, AppendsWords}
-use Rattle.soxchain_stream.proofs.Appending.{frozen-by-parts, head_words, held-of}
+use Rattle.soxchain_stream.proofs.Appending.{ended-of, frozen-by-parts, head_words, held-of}
 use Rattle.soxchain_stream.proofs.frozen.append_flow.Goals as goal
 
 pub returns-clause-frozen : goal.returns-clause-frozen
@@ -22,10 +23,10 @@ returns-clause-frozen g c =
     let count : c.in-Some.count ≡ 8 * (length flow.stages + 1) = c.in-Some.ensures ∙ ap (λ l. 8 * (length l + 1)) same in
     let head : AppendsWords before a (head_words (8 * (length flow.stages + 1))) = subst (λ (l : List ℕ). AppendsWords l a (head_words (8 * (length flow.stages + 1)))) c.in_ok-reserve_exact.ensures.items
     (subst (λ (n : ℕ). AppendsWords reserved a (head_words n)) count c.in_ok-append_words.ensures) in
-    let held : c.from-held.result ≡ length (option_to_list flow.inlet) = c.from-held.ensures ∙ ap (λ (x : Bool). cond x 1 0) c.is_some.ensures ∙ held-of c.inlet-inlet.result ∙ ap (λ (o : Option Samples). length (option_to_list o)) inlet in
+    let held : c.from-held.result ≡ length (option_to_list flow.inlet) = c.from-held.ensures ∙ ap from_bool c.is_some.ensures ∙ held-of c.inlet-inlet.result ∙ ap (λ (o : Option Samples). length (option_to_list o)) inlet in
     let taken : c.taken-taken.result ≡ flow.left + length (option_to_list flow.inlet) = c.taken-taken.ensures.value in
     let left : c.taken-taken.result - c.from-held.result ≡ flow.left = omega (arith, held, taken) in
-    let ended : c.from.result ≡ cond flow.ended 1 0 = c.from.ensures ∙ ap (λ (x : Bool). cond x 1 0) c.is_ended.ensures in
+    let ended : c.from.result ≡ cond flow.ended 1 0 = c.from.ensures ∙ ap from_bool c.is_ended.ensures ∙ ended-of flow.ended in
     let numbers : c.taken-taken.result ∷ (c.taken-taken.result - c.from-held.result) ∷ c.from.result ∷ 0 ∷ c.from-held.result ∷ 0 ∷ 0 ∷ 0 ∷ [] ≡ inlet_numbers flow.left flow.inlet flow.ended = cc in
     let own : AppendsWords a b (inlet_numbers flow.left flow.inlet flow.ended) = subst (λ (l : List ℕ). AppendsWords a b l) numbers c.in_ok-append_words-2.ensures in
     let stages : AppendsWords b d (numbers_all acts flow.stages) = subst (λ l. AppendsWords b d (numbers_all acts l)) same c.in_ok-append_numbers.ensures.words in
