@@ -5,4 +5,5 @@ use Rattle.soxchain_stream.proofs.stream.Stream.freeze.Goals as goal
 pub returns-clause-frozen : goal.returns-clause-frozen
 returns-clause-frozen c =
     let appended = c.in_ok-append_to.ensures.frozen in
-    subst (λ (l : List ℕ). IsFrozenAs c.args.self.now.chain l) (sym appended.appended) appended.freezes
+    let whole = rw c.new-bytes.ensures at appended.appended in
+    subst (λ (l : List ℕ). IsFrozenAs c.args.self.now.chain l) (sym whole) appended.freezes
