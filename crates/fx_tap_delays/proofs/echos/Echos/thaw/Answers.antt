@@ -12,21 +12,23 @@ returns-then-ended-gt1-clause-thawed c =
 pub invariant_of-result : goal.invariant_of-result
 invariant_of-result c =
     let st = c.in_ok-lines.ensures.found in
-    rw c.in-Ok.ensures
-    (record {
-      arguments = record { some = c.requires.channels.0; bound = c.requires.channels.1; gain_in = c.requires.gain_in; echoes_max = c.requires.taps.1; delays = c.requires.delays; decays = c.requires.decays };
-      whole = c.requires.lines;
-      as_many = st.series.as_many;
-      lines = rw st.pending_count_is st.series.lines_are;
-      counted = search rules;
-      bound = search rules;
-      not_ended = search rules;
-      clips_max = search rules;
-      pending_max = search rules;
-      idle = search rules;
-      over = search rules;
-      fits = st.held;
-    }, search rules)
+    rw c.in-Ok.ensures (
+      record {
+        arguments = record { some = c.requires.channels.0; bound = c.requires.channels.1; gain_in = c.requires.gain_in; echoes_max = c.requires.taps.1; delays = c.requires.delays; decays = c.requires.decays };
+        whole = c.requires.lines;
+        as_many = st.series.as_many;
+        lines = rw st.pending_count_is st.series.lines_are;
+        counted = search rules;
+        bound = search rules;
+        not_ended = search rules;
+        clips_max = search rules;
+        pending_max = search rules;
+        idle = search rules;
+        over = search rules;
+        fits = st.held;
+      },
+      search rules,
+    )
 
 pub returns-clause-frozen : goal.returns-clause-frozen
 returns-clause-frozen c =
