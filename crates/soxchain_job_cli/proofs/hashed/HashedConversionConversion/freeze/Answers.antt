@@ -9,7 +9,7 @@ returns g c =
     record {
       frozen = record {
         frozen = inner.frozen ++ digests.0;
-        freezes = record { inner = inner.frozen; digests = digests.0; holds = inner.freezes; both = digests.1; bytes_are = refl };
+        freezes = record { inner = inner.frozen; digests = digests.0; holds = rw (← c.self.view_is) inner.freezes; both = digests.1; bytes_are = refl };
         appended = digests.2 ∙ ap (λ (l : List ℕ). l ++ digests.0) inner.appended ∙ append_assoc before inner.frozen digests.0;
       };
     }
