@@ -12,7 +12,7 @@ ghost use Rattle.fx_frame_base.specs.Holds.{kinds};
 
 use crate::one_to_one::{min_one_to_one, run_one_to_one};
 use crate::stage_calls::StageCalls;
-use fx_frame_base::feed::{copy_samples, see_samples};
+use fx_frame_base::feed::{SPACE, copy_samples, see_samples};
 use fx_frame_base::stage::Stage;
 use fx_frame_base::{Feeds, Passed, Passing};
 
@@ -181,7 +181,7 @@ fn run_by_frames<S: StageCalls>(
     }
 }
 
-/// For how many frames more, at most `maximum`, the first stage gives none.
+/// For how many frames more, at most `maximum`, the first stage gives none; no more than it takes in one call.
 fn none_due_of_first<S: Feeds>(stages: &[S], maximum: usize) -> usize
     ensures maximum { result ≤ maximum }
     ensures none_due { 1 ≤ result → At (λ s. IsNoneDue S.acts result s × ((kind S.acts s).outputs ≤ 16)) 0 stages.now }
@@ -189,7 +189,8 @@ fn none_due_of_first<S: Feeds>(stages: &[S], maximum: usize) -> usize
     if stages.is_empty() || stages[0].out_channels() > 16 {
         return 0;
     }
-    let none_due = stages[0].none_due();
+    let frames = SPACE / stages[0].out_channels().max(1);
+    let none_due = stages[0].none_due().min(frames as u64);
     (maximum as u64).min(none_due) as usize
 }
 

@@ -8,8 +8,12 @@ ghost use Rattle.fx_frame_base.specs.Lists.{pieces};
 ghost use Rattle.fx_frame_base.specs.Pipeline.{AreReady, EachThrough, PipelineThrough, outputs_of};
 ghost use Rattle.fx_frame_base.specs.Stage.{IsDry, IsLined, is_enough, kind, spent};
 
-use crate::frame::{Frame, MAX_CHANNELS};
+use crate::frame::Frame;
 use crate::stage::Stage;
+
+/// The samples for which `Feeds::take_many` has space beside the stage. A stage passes frames as a piece only where it would have
+/// space to give as many.
+pub const SPACE: usize = 1024;
 
 /// How many frames a stage took and gave.
 #[derive(Clone, Copy, Debug, PartialEq, Eq)]
@@ -158,7 +162,7 @@ pub trait Feeds: Stage {
         0
     }
 
-    /// Takes `count` frames one after another, for which none is due.
+    /// Takes `count` frames one after another, for which none is due. It is fast where they have at most `SPACE` samples.
     fn take_many(&mut self, count: usize, input: &[i32])
         requires dry { Self.acts.dry self.old ≡ true }
         requires not_ended { (Self.acts.counts self.old).ended ≡ false }
@@ -173,7 +177,7 @@ pub trait Feeds: Stage {
         ensures dry { Self.acts.dry self.new ≡ true }
     {
         let _determined = self.is_dry();
-        let mut space = [0; MAX_CHANNELS];
+        let mut space = [0; SPACE];
         let _passed = self.feed(input, &mut space);
         let _dry = self.is_dry();
     }
