@@ -1,11 +1,11 @@
 -- Frames that go through stages piece by piece.
-use Rattle.std.proofs.Common.{ℕ, zero, suc, ◌+◌, ◌<◌, ◌≤◌, ◌≡◌, false, true, List, [], ◌∷◌, get_or, length, drop, set, refl, ap, ◌∙◌, subst, arith}
-use Rattle.fx_frame_base.specs.declared.feed.Passing.TheVariants.{Through}
-use Rattle.fx_frame_base.specs.Feed.{IsOneToOne, PassedOn}
+use Rattle.std.proofs.Common.{ℕ, zero, suc, ◌+◌, ◌<◌, ◌≤◌, ◌≡◌, false, true, List, [], ◌∷◌, get_or, length, drop, set, refl, ap, ◌∙◌, arith}
+use Rattle.fx_frame_base.specs.Feed.{IsOneToOne}
 use Rattle.fx_frame_base.specs.Frame.{Samples}
 use Rattle.fx_frame_base.specs.Holds.{kinds}
 use Rattle.fx_frame_base.specs.Pipeline.{AreReady, EachThrough, PipelineThrough, outputs_of}
-use Rattle.fx_frame_base.specs.Stage.{Acts, Counts, IsDry, is_enough, kind}
+use Rattle.fx_frame_base.specs.Stage.{Acts, IsDry, is_enough, kind}
+use Rattle.fx_frame_base.proofs.PipelineLaws.{EachThrough-long, each-fewer, one-through}
 use Rattle.fx_chain_flow.specs.Parts.{AllDetermined}
 use Rattle.fx_chain_flow.specs.Runs.{AllAhead, AllKeep, AllOneToOne}
 
@@ -18,12 +18,6 @@ module _ {S R : Type 0} (acts : Acts S R) where
   AllOneToOne-drop i count [] d h here more = absurd (omega arith)
   AllOneToOne-drop zero count (s ∷ stages) d h here more = (here, more)
   AllOneToOne-drop (suc i) count (s ∷ stages) d h here more = AllOneToOne-drop i count stages d (omega arith) here more
-
-  pub EachThrough-long : (xs ys : List Samples) (s t : S) → EachThrough acts xs ys s t → length ys ≡ length xs
-  EachThrough-long [] [] s t each = refl
-  EachThrough-long (x ∷ xs) (y ∷ ys) s t each = ap suc (EachThrough-long xs ys each.0 t each.3)
-  EachThrough-long [] (y ∷ ys) s t each = absurd each
-  EachThrough-long (x ∷ xs) [] s t each = absurd each
 
   -- these frames, of so many channels, came to the stage at a place: each one before took all of the frames before it, and gave one for each
   abbrev pub PieceTo : ℕ → ℕ → List Samples → ℕ → List Samples → List S → List S → Type 0
@@ -41,35 +35,7 @@ module _ {S R : Type 0} (acts : Acts S R) where
     pub ahead : (n : ℕ) → n < count → is_enough (kind acts t).enough ((acts.counts t).taken + n) ≡ false
     pub below_limit : (acts.counts t).taken + count ≤ (kind acts t).limit
 
-  -- what one frame that was taken and given changes in what is counted
-  one-through : (x y : Samples) (s next : S) → PassedOn acts Through s next x y → ((acts.counts next).given ≡ (acts.counts s).given + 1) × ((acts.counts next).taken ≡ (acts.counts s).taken + 1) × (acts.recipe next ≡ acts.recipe s) × ((acts.counts next).given ≤ (kind acts s).maximum ((acts.counts s).taken + 1))
-  one-through x y s next passed =
-      let took = passed.1.took.counted in
-      let gave = passed.2.gave.gives.counted in
-      let one : (acts.counts next).given ≡ (acts.counts s).given + 1 = ap (λ (n : Counts). n.given) gave ∙ ap (λ (n : Counts). n.given + 1) took in
-      let count : (acts.counts next).taken ≡ (acts.counts s).taken + 1 = ap (λ (n : Counts). n.taken) gave ∙ ap (λ (n : Counts). n.taken) took in
-      let maximum : (acts.counts next).given ≤ (kind acts s).maximum ((acts.counts s).taken + 1) = rw count at (subst (λ (r : R). (acts.counts next).given ≤ (acts.kind_of r).maximum (acts.counts next).taken) passed.1.took.recipe_stays passed.2.gave.maximum) in
-      (one, count, passed.2.gave.recipe_stays ∙ passed.1.took.recipe_stays, maximum)
-
-  -- a stage that gave one frame for each has given no more than it may
-  each-maximum : (x : Samples) (xs ys : List Samples) (s s' : S) → EachThrough acts (x ∷ xs) ys s s' → ((acts.counts s').given ≡ (acts.counts s).given + suc (length xs)) × ((acts.counts s').given ≤ (kind acts s).maximum ((acts.counts s).taken + suc (length xs)))
-  each-maximum x xs [] s s' each = absurd each
-  each-maximum x [] (y ∷ []) s s' each = let one = one-through x y s each.0 each.1 in rw each.3 (one.0, one.3)
-  each-maximum x [] (y ∷ z ∷ ys) s s' each = absurd each.3
-  each-maximum x (z ∷ xs) (y ∷ ys) s s' each =
-      let one = one-through x y s each.0 each.1 in
-      let rest = each-maximum z xs ys each.0 s' each.3 in
-      let total : (acts.counts s).taken + suc (suc (length xs)) ≡ (acts.counts each.0).taken + suc (length xs) = omega (arith, one.1) in
-      (omega (arith, rest.0, one.0), rw total (subst (λ (r : R). (acts.counts s').given ≤ (acts.kind_of r).maximum ((acts.counts each.0).taken + suc (length xs))) one.2 rest.1))
-
   module _ (rises : (r : R) (m n : ℕ) → m ≤ n → (acts.kind_of r).maximum m ≤ (acts.kind_of r).maximum n) where
-    each-fewer : (xs ys : List Samples) (s s' : S) (taken maximum : ℕ) → EachThrough acts xs ys s s' → 1 ≤ length xs → (acts.counts s).taken ≡ taken → taken + length xs ≤ maximum → (acts.counts s).given + length xs ≤ (kind acts s).maximum maximum
-    each-fewer [] ys s s' taken maximum each some e h = absurd (omega arith)
-    each-fewer (x ∷ xs) ys s s' taken maximum each some e h =
-        let all = each-maximum x xs ys s s' each in
-        let up : (kind acts s).maximum ((acts.counts s).taken + suc (length xs)) ≤ (kind acts s).maximum maximum = rises (acts.recipe s) _ maximum (omega (arith, e, h)) in
-        omega (arith, all.0, all.1, up)
-
     -- the stage that they came to takes them
     pub MayFeed-at : (i channels taken maximum count width : ℕ) (xs zs : List Samples) (old new : List S) (d : S) → 1 ≤ count → length xs ≡ count → taken + count ≤ maximum → AreReady acts channels taken maximum old → AllOneToOne acts count old → AllAhead acts count old → PieceTo i channels xs width zs old new → i < length new
         → MayFeed (get_or new i d) width count
@@ -77,8 +43,8 @@ module _ {S R : Type 0} (acts : Acts S R) where
     MayFeed-at zero channels taken maximum count width xs zs (s ∷ stages) new d some long h ready one_to_one ahead came n =
         rw (came.0, came.2) (record { dry = ready.0; not_ended = ready.1; inputs = ready.3; one_to_one = one_to_one.0; ahead = ahead.0; below_limit = omega (arith, h, ready.4, ready.5) })
     MayFeed-at (suc i) channels taken maximum count width xs zs (s ∷ stages) (s' ∷ stages') d some long h ready one_to_one ahead came n =
-        MayFeed-at i (kind acts s).outputs (acts.counts s).given ((kind acts s).maximum maximum) count width came.0 zs stages stages' d some (EachThrough-long xs came.0 s s' came.1 ∙ long)
-        (let fewer = each-fewer xs came.0 s s' taken maximum came.1 (omega (arith, some, long)) ready.4 (omega (arith, h, long)) in omega (arith, fewer, long)) ready.6 one_to_one.1 ahead.1 came.2 (omega arith)
+        MayFeed-at i (kind acts s).outputs (acts.counts s).given ((kind acts s).maximum maximum) count width came.0 zs stages stages' d some (EachThrough-long acts xs came.0 s s' came.1 ∙ long)
+        (let fewer = each-fewer acts rises xs came.0 s s' taken maximum came.1 (omega (arith, some, long)) ready.4 (omega (arith, h, long)) in omega (arith, fewer, long)) ready.6 one_to_one.1 ahead.1 came.2 (omega arith)
     MayFeed-at (suc i) channels taken maximum count width xs zs [] new d some long h ready one_to_one ahead came n = absurd came
     MayFeed-at (suc i) channels taken maximum count width xs zs (s ∷ stages) [] d some long h ready one_to_one ahead came n = absurd came
 
@@ -124,7 +90,7 @@ module _ {S R : Type 0} (acts : Acts S R) where
   after-each : (xs ys : List Samples) (s s' : S) → EachThrough acts xs ys s s' → After s s' (length xs)
   after-each [] [] s s' each = rw each (record { recipe = refl; came = omega arith; dry = λ d. d; determined = λ d. d })
   after-each (x ∷ xs) (y ∷ ys) s s' each =
-      let one = one-through x y s each.0 each.1 in
+      let one = one-through acts x y s each.0 each.1 in
       let more = after-each xs ys each.0 s' each.3 in
       record { recipe = more.recipe ∙ one.2; came = omega (arith, more.came, one.1); dry = λ d. more.dry each.1.3; determined = λ d. more.determined each.2 }
   after-each [] (y ∷ ys) s s' each = absurd each
@@ -159,13 +125,13 @@ module _ {S R : Type 0} (acts : Acts S R) where
   pub ahead-pipeline : (xs ys : List Samples) (m : ℕ) (old new : List S) → PipelineThrough acts xs ys old new → AllAhead acts (length xs + m) old → AllAhead acts m new
   ahead-pipeline xs ys m [] [] pipeline all = tt
   ahead-pipeline xs ys m (s ∷ stages) (s' ∷ stages') pipeline all =
-      (ahead-after s s' (length xs) m (after-each xs pipeline.0 s s' pipeline.1) all.0, ahead-pipeline pipeline.0 ys m stages stages' pipeline.2 (rw (EachThrough-long xs pipeline.0 s s' pipeline.1) all.1))
+      (ahead-after s s' (length xs) m (after-each xs pipeline.0 s s' pipeline.1) all.0, ahead-pipeline pipeline.0 ys m stages stages' pipeline.2 (rw (EachThrough-long acts xs pipeline.0 s s' pipeline.1) all.1))
   ahead-pipeline xs ys m [] (s' ∷ stages') pipeline all = absurd pipeline
   ahead-pipeline xs ys m (s ∷ stages) [] pipeline all = absurd pipeline
 
   pub one_to_one-pipeline : (xs ys : List Samples) (m : ℕ) (old new : List S) → PipelineThrough acts xs ys old new → AllOneToOne acts (length xs + m) old → AllOneToOne acts m new
   one_to_one-pipeline xs ys m [] [] pipeline all = tt
   one_to_one-pipeline xs ys m (s ∷ stages) (s' ∷ stages') pipeline all =
-      (one_to_one-after s s' (length xs) m (after-each xs pipeline.0 s s' pipeline.1) all.0, one_to_one-pipeline pipeline.0 ys m stages stages' pipeline.2 (rw (EachThrough-long xs pipeline.0 s s' pipeline.1) all.1))
+      (one_to_one-after s s' (length xs) m (after-each xs pipeline.0 s s' pipeline.1) all.0, one_to_one-pipeline pipeline.0 ys m stages stages' pipeline.2 (rw (EachThrough-long acts xs pipeline.0 s s' pipeline.1) all.1))
   one_to_one-pipeline xs ys m [] (s' ∷ stages') pipeline all = absurd pipeline
   one_to_one-pipeline xs ys m (s ∷ stages) [] pipeline all = absurd pipeline

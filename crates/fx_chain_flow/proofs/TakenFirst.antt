@@ -1,9 +1,8 @@
 -- Frames that the first stage of a flow took without giving any, as a run of the flow.
-use Rattle.std.proofs.Common.{ℕ, zero, suc, ◌+◌, ◌*◌, ◌<◌, ◌≤◌, ◌≡◌, true, false, List, [], ◌∷◌, length, map, take, refl, sym, ap, ◌∙◌, arith, inl, None, subst}
+use Rattle.std.proofs.Common.{ℕ, zero, suc, ◌+◌, ◌*◌, ◌≤◌, ◌≡◌, true, false, List, [], ◌∷◌, length, map, take, refl, sym, ap, arith, inl, None, subst}
 use Rattle.std.specs.Prelude.{ℤ, FitsSigned}
 use Rattle.std.specs.Int.{w32}
 use Rattle.std.specs.List.{All}
-use Rattle.std.proofs.lemmas.List.Elements.{All-take}
 use Rattle.std.proofs.Math.Nat.{mul-le-mul_right}
 use Rattle.fx_frame_base.specs.Feed.{IsHeld, IsNoneDue, TookAll, TookNext}
 use Rattle.fx_frame_base.specs.Frame.{Samples}
@@ -14,13 +13,13 @@ use Rattle.fx_frame_base.specs.Stage.{Acts, IsDry}
 use Rattle.fx_frame_base.proofs.Pieces.{length-pieces}
 use Rattle.fx_chain_flow.specs.Feed.{untouched}
 use Rattle.fx_chain_flow.specs.Parts.{AllDetermined}
-use Rattle.fx_chain_flow.specs.Pipeline.{AllHeld, WentThrough}
+use Rattle.fx_chain_flow.specs.Pipeline.{AllHeld}
 use Rattle.fx_chain_flow.specs.Runs.{AllAhead, GivesOneEach, MayRun, RanOn, flow_of}
 use Rattle.fx_chain_flow.specs.Sound.{IsSound, max_frames}
 use Rattle.fx_chain_flow.specs.StageCall.{At, ChangedAt, MayTakeMany, TookMany}
 use Rattle.fx_chain_flow.proofs.Feeding.{FlowGave-none}
 use Rattle.fx_chain_flow.proofs.Laws.{given_by-due}
-use Rattle.fx_chain_flow.proofs.PipelineRuns.{AreFrames, AreFrames-front, AreReady-run, Going-then}
+use Rattle.fx_chain_flow.proofs.PipelineRuns.{AreFrames, AreFrames-front, Going-then}
 use Rattle.fx_chain_flow.proofs.PipelineSteps.{Going, passed-pipeline}
 use Rattle.fx_chain_flow.proofs.Running.{AllAhead-unspent, AllAhead-went}
 

@@ -1,11 +1,11 @@
 -- Frames that go through stages in sequence one after another, with no checks between two of them (this project's profile).
-use Rattle.std.specs.Prelude.{ℕ, ℤ, ◌+◌, ◌*◌, ◌<◌, ◌≤◌, ◌≡◌, true, false, None, List, [], ◌∷◌, drop, length}
-use Rattle.fx_frame_base.specs.Feed.{IsOneToOne}
+use Rattle.std.specs.Prelude.{ℕ, ℤ, ◌+◌, ◌*◌, ◌<◌, ◌≤◌, ◌≡◌, true, false, None, List, [], drop, length}
 use Rattle.fx_frame_base.specs.Frame.{Samples}
 use Rattle.fx_frame_base.specs.Holds.{kinds}
 use Rattle.fx_frame_base.specs.Lists.{pieces}
 use Rattle.fx_frame_base.specs.Pipeline.{outputs_of}
-use Rattle.fx_frame_base.specs.Stage.{Acts, StageKind, is_enough, kind}
+pub use Rattle.fx_frame_base.specs.Pipeline.{AllAhead, AllKeep, AllOneToOne}
+use Rattle.fx_frame_base.specs.Stage.{Acts}
 use Rattle.fx_frame_base.specs.declared.feed.Passed.{Passed}
 use Rattle.fx_chain_flow.specs.Composed.{due_of}
 use Rattle.fx_chain_flow.specs.Feed.{FlowFed, FlowGave, GaveLast}
@@ -16,25 +16,10 @@ use Rattle.fx_chain_flow.specs.Pipeline.{AllHeld, AllLined}
 use Rattle.fx_chain_flow.specs.Sound.{IsSound, max_frames}
 use Rattle.fx_chain_flow.specs.declared.runs.Widths.{Widths}
 
--- each gives frames of `channels` channels
-abbrev pub AllKeep : ℕ → List StageKind → Type 0
-AllKeep channels [] = Unit {0}
-AllKeep channels (k ∷ ks) = (k.outputs ≡ channels) × AllKeep channels ks
-
 module _ {S R : Type 0} (acts : Acts S R) where
   -- the flow of these stages, with nothing in the inlet and no end
   abbrev pub flow_of : ℕ → List S → ℕ → Parts S
   flow_of channels stages left = record { stages = stages; inlet = None; ended = false; left = left; channels = channels }
-
-  -- for `count` more frames none has had enough
-  abbrev pub AllAhead : ℕ → List S → Type 0
-  AllAhead count [] = Unit {0}
-  AllAhead count (s ∷ stages) = ((n : ℕ) → n < count → is_enough (kind acts s).enough ((acts.counts s).taken + n) ≡ false) × AllAhead count stages
-
-  -- for `count` more frames each gives one for each
-  abbrev pub AllOneToOne : ℕ → List S → Type 0
-  AllOneToOne count [] = Unit {0}
-  AllOneToOne count (s ∷ stages) = IsOneToOne acts count s × AllOneToOne count stages
 
   -- `count` more frames may come to the flow of these stages, whose inlet `left` frames have left
   pub record MayRun (channels count : ℕ) (stages : List S) (left : ℕ) : Type 0 where
@@ -66,7 +51,7 @@ module _ {S R : Type 0} (acts : Acts S R) where
     pub may_run : (left : ℕ) × MayRun widths.inputs count stages left
     pub determined : AllDetermined acts stages
     pub lined : AllLined acts stages
-    pub ahead : AllAhead count stages
+    pub ahead : AllAhead acts count stages
 
   -- Of `count` frames at the front of the input, whose samples these are, the first ones went through stages in sequence, at
   -- least one where there is any. Those that came out, at most one for each and none without samples, stand at the front of the

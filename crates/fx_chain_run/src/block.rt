@@ -13,7 +13,8 @@ ghost use Rattle.fx_sound.specs.Sound.{size_of};
 use crate::drain::drain;
 use crate::frame_writer::FrameWriter;
 use fx_chain_flow::flow::Flow;
-use fx_frame::{ByteOut, Failed, Feeds, ReadBeside};
+use fx_frame::{ByteOut, Failed, ReadBeside};
+use fx_frame_base::pipeline::PassesAhead;
 use fx_frame_base::frame::MAX_CHANNELS;
 use fx_sound::inner::BUFFER_SIZE;
 use fx_sound::{Progress, Source};
@@ -32,7 +33,7 @@ fn tried(channels: usize, free: usize) -> usize
 
 /// Passes frames that are held through a flow, and encodes what it gives into the frame writer, as far as there is space.
 /// Nothing is read and nothing is written.
-fn pass_block<R, S: Feeds>(
+fn pass_block<R, S: PassesAhead>(
     flow: &mut Flow<S>,
     source: &mut Source<R>,
     progress: &mut Progress,
@@ -71,7 +72,7 @@ fn pass_block<R, S: Feeds>(
 
 /// Passes frames that are held through a flow, as many as the frame writer has space for, and then steps it until it waits.
 /// Then it empties the frame writer: long filters need fewer products for a whole buffer than for its two parts.
-pub fn pump_block<R: ReadBeside, S: Feeds, W: ByteOut>(
+pub fn pump_block<R: ReadBeside, S: PassesAhead, W: ByteOut>(
     flow: &mut Flow<S>,
     source: &mut Source<R>,
     progress: &mut Progress,

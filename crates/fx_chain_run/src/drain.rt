@@ -9,11 +9,12 @@ ghost use Rattle.fx_sound.specs.Output.{bytes_put};
 
 use crate::frame_writer::FrameWriter;
 use fx_chain_flow::flow::{Flow, State, Step};
-use fx_frame::{ByteOut, Failed, Feeds};
+use fx_frame::{ByteOut, Failed};
+use fx_frame_base::pipeline::PassesAhead;
 
 /// Steps a flow until it waits, and sends what it gives.
 #[inline(always)]
-pub fn drain<S: Feeds, W: ByteOut>(
+pub fn drain<S: PassesAhead, W: ByteOut>(
     flow: &mut Flow<S>,
     frame_writer: &mut FrameWriter,
     writer: &mut W,

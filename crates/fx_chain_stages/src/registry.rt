@@ -54,6 +54,17 @@ macro_rules! each_by_samples {
     };
 }
 
+/// The same call on the stage of an effect that gives or omits each frame by its place; for that of any other `$other`.
+macro_rules! each_selected {
+    ($effect:expr, $stage:ident => $call:expr, $other:expr) => {
+        match $effect {
+            EffectStage::Trim($stage) => $call,
+            EffectStage::Fade($stage) => $call,
+            _ => $other,
+        }
+    };
+}
+
 /// The stage of an effect, as `$make` of its type returns it for the channels, for the arguments in its words, and for `$more`.
 /// Where a type allocates no memory its `new` has no fault: there `$ok` makes a result of its value.
 macro_rules! made {
@@ -89,4 +100,5 @@ macro_rules! made {
 
 pub(crate) use each;
 pub(crate) use each_by_samples;
+pub(crate) use each_selected;
 pub(crate) use made;

@@ -8,8 +8,9 @@ ghost use Rattle.fx_frame_base.specs.Pipeline.{EachThrough};
 ghost use Rattle.fx_frame_base.specs.Stage.{kind};
 ghost use Rattle.fx_chain_stages.specs.Stages.{effect_acts};
 
-use crate::registry::{EffectStage, each, each_by_samples};
+use crate::registry::{EffectStage, each, each_by_samples, each_selected};
 use fx_frame::{Counters, Feeds, Frame, Passed, Passing, WideFrame};
+use fx_frame_base::pipeline::{PassesAhead, pass_ahead_by_stages};
 use fx_frame_base::stage::Stage;
 use fx_tap_pointwise::around::pass_around;
 use fx_tap_pointwise::both::pass_both;
@@ -202,5 +203,26 @@ impl Feeds for EffectStage {
     #[tactic(auto, using(crate::proofs::Registered::joined_through))]
     fn pass_frames(&mut self, count: usize, samples: &mut [i32]) {
         each!(self, stage => stage.pass_frames(count, samples))
+    }
+}
+
+impl PassesAhead for EffectStage {
+    fn lined(&self) -> u64 {
+        each_selected!(self, stage => stage.lined(), 0)
+    }
+
+    #[tactic(auto, using(crate::proofs::Registered::joined_through))]
+    fn pass_ahead<F: Feeds>(
+        &mut self,
+        rest: &mut [F],
+        count: usize,
+        input: &[i32],
+        output: &mut [i32],
+    ) {
+        each_selected!(
+            self,
+            stage => stage.pass_ahead(rest, count, input, output),
+            pass_ahead_by_stages(self, rest, count, input, output)
+        )
     }
 }

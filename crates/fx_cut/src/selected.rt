@@ -15,6 +15,7 @@ use crate::many::{PassesMany, feed_by_pieces};
 use fx_frame::frozen::{stored_in, thawed_line_and_pending};
 use fx_frame::{Counters, Feeds, Frame, Line, Passed, Passing, Stage, ThawFault, WideFrame};
 use fx_frame_base::feed::see_samples;
+use fx_frame_base::pipeline::{PassesAhead, pass_in_place};
 use fx_frame_base::stage::MAX_TAKEN;
 use std::alloc::{AllocError, Global};
 use std::marker::Model;
@@ -445,5 +446,31 @@ impl<S: Selection + Drop> Feeds for Selected<S> {
         } else {
             0
         }
+    }
+}
+
+impl<S: Selection + Drop> PassesAhead for Selected<S> {
+    fn lined(&self) -> u64 {
+        self.line.len() as u64
+    }
+
+    fn pass_ahead<F: Feeds>(
+        &mut self,
+        rest: &mut [F],
+        count: usize,
+        input: &[i32],
+        output: &mut [i32],
+    ) {
+        let channels = self.selection.channels();
+        let place = self.taken - self.line.len() as u64;
+        see_samples(input);
+        self.line.pop_frames(count, output);
+        self.selection.select_many(output, channels, count, place);
+        pass_in_place(rest, channels, count, output);
+        self.line.push_frames(input, count);
+        let _held = self.line.len();
+        let passed = count as u64;
+        self.taken += passed;
+        self.given += passed;
     }
 }

@@ -1,3 +1,4 @@
+pub mod Ahead
 pub mod Coding
 pub mod Counted
 pub mod Device

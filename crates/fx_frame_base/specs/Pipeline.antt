@@ -1,14 +1,19 @@
 -- Stages in sequence that frames go through, each frame through all of them before the next (this project's profile).
-use Rattle.std.specs.Prelude.{ℕ, ◌≤◌, ◌≡◌, true, false, List, [], ◌∷◌}
+use Rattle.std.specs.Prelude.{ℕ, ◌+◌, ◌<◌, ◌≤◌, ◌≡◌, true, false, List, [], ◌∷◌}
 use Rattle.fx_frame_base.specs.declared.feed.Passing.TheVariants.{Through}
-use Rattle.fx_frame_base.specs.Feed.{PassedOn}
+use Rattle.fx_frame_base.specs.Feed.{IsOneToOne, PassedOn}
 use Rattle.fx_frame_base.specs.Frame.{Samples}
-use Rattle.fx_frame_base.specs.Stage.{Acts, IsDry, StageKind, kind, spent}
+use Rattle.fx_frame_base.specs.Stage.{Acts, IsDry, StageKind, is_enough, kind, spent}
 
 -- the channels of the frames that come out where frames of `channels` channels go in
 abbrev pub outputs_of : ℕ → List StageKind → ℕ
 outputs_of channels [] = channels
 outputs_of channels (k ∷ ks) = outputs_of k.outputs ks
+
+-- each gives frames of `channels` channels
+abbrev pub AllKeep : ℕ → List StageKind → Type 0
+AllKeep channels [] = Unit {0}
+AllKeep channels (k ∷ ks) = (k.outputs ≡ channels) × AllKeep channels ks
 
 module _ {S R : Type 0} (acts : Acts S R) where
   -- A frame of `channels` channels may be passed to the first, and what it gives for it to the next, and so on: each has taken
@@ -19,6 +24,16 @@ module _ {S R : Type 0} (acts : Acts S R) where
       (acts.dry s ≡ true) × ((acts.counts s).ended ≡ false) × (spent acts s ≡ false) × (channels ≡ (kind acts s).inputs)
       × ((acts.counts s).taken ≡ taken) × (maximum ≤ (kind acts s).limit)
       × AreReady (kind acts s).outputs (acts.counts s).given ((kind acts s).maximum maximum) stages
+
+  -- for `count` more frames none has had enough
+  abbrev pub AllAhead : ℕ → List S → Type 0
+  AllAhead count [] = Unit {0}
+  AllAhead count (s ∷ stages) = ((n : ℕ) → n < count → is_enough (kind acts s).enough ((acts.counts s).taken + n) ≡ false) × AllAhead count stages
+
+  -- for `count` more frames each gives one for each
+  abbrev pub AllOneToOne : ℕ → List S → Type 0
+  AllOneToOne count [] = Unit {0}
+  AllOneToOne count (s ∷ stages) = IsOneToOne acts count s × AllOneToOne count stages
 
   -- a stage took these frames, and gave one of those for each before it took the next
   abbrev pub EachThrough : List Samples → List Samples → S → S → Type 0

@@ -36,6 +36,7 @@ pub mod frame;
 pub mod holds;
 pub mod io;
 pub mod pending;
+pub mod pipeline;
 pub mod sample;
 pub mod sink;
 pub mod stage;

@@ -212,6 +212,20 @@ module _ {X : Type 0} where
         let none : zero * l.channels ≤ length {A = X} [] = omega (arith, zero-mul l.channels) in
         ring-oldest [] frames out count cut within zero none (omega arith) ∙ ap (take count) (append-nil l.items)
 
+    -- the frames that stay where so many of the oldest were taken out
+    pub ring-popped : (len' count n : ℕ) (out : List X) (after : Buffer X) → length out ≡ count * l.channels → count ≤ len → len' ≡ len - count → n ≡ min (length out) (length samples.items) → after ≡ buffer (drop n samples.items) samples.capacity
+        → IsRing channels capacity len' after × (pieces channels len' after.items ≡ drop count l.items)
+    ring-popped len' count n out after e bound e-len e-n is =
+        let same : channels ≡ l.channels = ap (λ v. v.channels) is-l in
+        let long : length out ≡ count * channels = e ∙ ap (λ m. count * m) (sym same) in
+        let fits : count * channels ≤ len * channels = mul-le-mul_right channels bound in
+        let all : n ≡ count * channels = omega (arith, r.filled) in
+        let whole : len ≡ count + len' = omega arith in
+        let size : len * channels ≡ count * channels + len' * channels = ap (λ m. m * channels) whole ∙ add-mul count len' channels in
+        let left : length (drop (count * channels) samples.items) ≡ len' * channels = omega (arith, length-drop (count * channels) samples.items, r.filled, size) in
+        let rest : pieces channels len' (drop (count * channels) samples.items) ≡ drop count (pieces channels len samples.items) = pieces-beyond channels count len' samples.items ∙ ap (λ m. drop count (pieces channels m samples.items)) (sym whole) in
+        rw (← is-l, is, all) (record { some = r.some; bound = r.bound; small = r.small; within = omega (arith, r.within); filled = left; free = r.free }, rest)
+
     -- where all places are filled, as many frames stay
     pub ring-level_many : (count : ℕ) → length samples.items ≡ samples.capacity → len ≡ min (len + count) capacity
     ring-level_many count e = let one = ring-full channels capacity len samples l is-l r e in omega (arith, r.within)

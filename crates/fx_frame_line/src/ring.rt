@@ -190,6 +190,19 @@ impl<T: Copy> Ring<T> {
         true
     }
 
+    /// Takes the `count` oldest frames out, and writes their samples.
+    pub fn pop_frames(&mut self, count: usize, out: &mut [T])
+        requires bound { count ≤ length self.old.items }
+        requires free { length out.old ≡ count * self.old.channels }
+        ensures items { self.new.items ≡ drop count self.old.items }
+        ensures capacity { self.new.capacity ≡ self.old.capacity }
+        ensures channels { self.new.channels ≡ self.old.channels }
+        ensures oldest { pieces self.old.channels count out.new ≡ take count self.old.items }
+    {
+        self.len -= count;
+        self.samples.read_into(out);
+    }
+
     /// Adds `count` frames, which lie one after another. A full ring buffer drops the oldest.
     pub fn push_frames(&mut self, frames: &[T], count: usize)
         requires { length frames.now ≡ count * self.old.channels }

@@ -1,7 +1,6 @@
 use Rattle.std.proofs.Common.{arith}
-use Rattle.fx_frame_base.specs.Lists.{pieces}
-use Rattle.fx_chain_flow.specs.StageCall.{MayTakeMany, TookMany}
-use Rattle.fx_chain_flow.proofs.Places.{At-get, At-inside, ChangedAt-set}
+use Rattle.fx_chain_flow.specs.StageCall.{MayTakeMany}
+use Rattle.fx_chain_flow.proofs.Places.{At-inside}
 use Rattle.fx_chain_flow.proofs.stage_calls.AnyStageCalls.take_first.Goals as goal
 
 pub prove-unreachable-requires : goal.prove-unreachable-requires
