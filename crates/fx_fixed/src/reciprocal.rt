@@ -1,6 +1,6 @@
 //! Denominators prepared once: each rounding after that is one signed multiplication and a shift.
-ghost use Rattle.std.specs.Prelude.{◌≡◌, ◌*◌, ◌^◌, ◌<◌, ◌≤◌, false, true, unsigned_abs};
-ghost use Rattle.fx_fixed.specs.Rounding.{clipping, nearest, rounding};
+ghost use Rattle.std.specs.Prelude.{◌≡◌, ◌+◌, ◌*◌, ◌^◌, ◌<◌, ◌≤◌, false, not, true, unsigned_abs};
+ghost use Rattle.fx_fixed.specs.Rounding.{clip_count, clipping, nearest, rounding};
 
 use std::marker::Model;
 
@@ -84,6 +84,21 @@ impl Denominator {
         clip_whole(self.nearest(sum))
     }
 
+    /// The same sample. Adds one to `clips` where it was clipped.
+    #[inline(always)]
+    pub fn round_and_count(&self, sum: i64, clips: &mut u64) -> i32
+        requires small { unsigned_abs sum ≤ 2 ^ 61 }
+        requires bound { clips.old < 2 ^ 63 }
+        ensures sample { result ≡ (rounding sum self.now).0 }
+        ensures clips { clips.new ≡ clips.old + clip_count (rounding sum self.now) }
+    {
+        let number = self.nearest(sum);
+        if is_sample(number) {
+            return number as i32;
+        }
+        clip_and_count(number, clips)
+    }
+
     /// The same for a sum that is not clipped.
     #[inline(always)]
     pub fn round_within(&self, sum: i64) -> i32
@@ -112,11 +127,18 @@ impl Denominator {
 fn clip_whole(number: i64) -> (i32, bool)
     ensures { result ≡ clipping number }
 {
-    // A number that is a sample is known by one comparison: that is nearly every one.
-    if number >= -0x8000_0000 && number <= 0x7fff_ffff {
+    if is_sample(number) {
         return (number as i32, false);
     }
     clip_beyond(number)
+}
+
+/// Whether an integer is in the range of a sample. It is one comparison, and nearly every number is.
+#[inline(always)]
+fn is_sample(number: i64) -> bool
+    ensures { (clipping number).1 ≡ not result }
+{
+    number >= -0x8000_0000 && number <= 0x7fff_ffff
 }
 
 /// An integer that is no sample, clipped.
@@ -128,6 +150,29 @@ fn clip_beyond(number: i64) -> (i32, bool)
     requires { (clipping number).1 ≡ true }
     ensures { result ≡ clipping number }
 {
-    let sample = if number < 0 { i32::MIN } else { i32::MAX };
+    let sample = end_beyond(number);
     (sample, i64::from(sample) != number)
+}
+
+/// An integer that is no sample, clipped. Adds one to `clips`.
+// A loop that counts clips here alone keeps no flag of each sample.
+#[cold]
+#[inline(never)]
+fn clip_and_count(number: i64, clips: &mut u64) -> i32
+    requires clipped { (clipping number).1 ≡ true }
+    requires bound { clips.old < 2 ^ 63 }
+    ensures sample { result ≡ (clipping number).0 }
+    ensures clips { clips.new ≡ clips.old + 1 }
+{
+    *clips += 1;
+    end_beyond(number)
+}
+
+/// The end of the range of a sample beyond which an integer lies.
+#[inline(always)]
+fn end_beyond(number: i64) -> i32
+    requires { (clipping number).1 ≡ true }
+    ensures { result ≡ (clipping number).0 }
+{
+    if number < 0 { i32::MIN } else { i32::MAX }
 }

@@ -119,9 +119,7 @@ impl PreparedEcho {
         let mut clips = 0;
         'channels: for channel in 0..out.len() {
             let sum = self.small_sum(small, line, frame, channel);
-            let (sample, is_clipped) = small.denominator.round(sum);
-            out[channel] = sample;
-            clips += u64::from(is_clipped);
+            out[channel] = small.denominator.round_and_count(sum, &mut clips);
         }
         clips
     }
@@ -353,9 +351,8 @@ fn one_echo_over(small: &SmallWeights, came: &[i32], earlier: &mut [i32]) -> u64
     'channels: for channel in 0..earlier.len() {
         let direct = product(small.weights[0], came[channel]);
         let echo = product(small.weights[1], earlier[channel]);
-        let (sample, is_clipped) = small.denominator.round(direct + echo);
-        earlier[channel] = sample;
-        clips += u64::from(is_clipped);
+        let sum = direct + echo;
+        earlier[channel] = small.denominator.round_and_count(sum, &mut clips);
     }
     clips
 }

@@ -68,9 +68,7 @@ pub(crate) fn round_sums(sums: &[i64], denominator: &Denominator, out: &mut [i32
 {
     let mut clips = 0;
     'sums: for place in 0..sums.len() {
-        let (sample, is_clipped) = denominator.round(sums[place]);
-        out[place] = sample;
-        clips += u64::from(is_clipped);
+        out[place] = denominator.round_and_count(sums[place], &mut clips);
     }
     clips
 }

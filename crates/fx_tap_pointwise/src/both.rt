@@ -37,11 +37,8 @@ pub(crate) fn rounded_by_both<A: Sampling, B: Sampling>(
     let mut first_clips = 0;
     let mut second_clips = 0;
     'samples: for place in 0..input.len() {
-        let (between, is_clipped) = first.round(input[place]);
-        first_clips += u64::from(is_clipped);
-        let (sample, is_clipped) = second.round(between);
-        second_clips += u64::from(is_clipped);
-        output[place] = sample;
+        let between = first.round_and_count(input[place], &mut first_clips);
+        output[place] = second.round_and_count(between, &mut second_clips);
     }
     BothClips {
         first: first_clips,

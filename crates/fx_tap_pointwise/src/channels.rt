@@ -99,9 +99,7 @@ pub(crate) fn place_rounded<S: Sampling>(
     let mut at = place.channel;
     let mut clips = 0;
     'frames: for _turn in 0..shape.count {
-        let (sample, is_clipped) = sampling.round(from[read]);
-        to[at] = sample;
-        clips += u64::from(is_clipped);
+        to[at] = sampling.round_and_count(from[read], &mut clips);
         read += shape.channels;
         at += place.channels;
     }

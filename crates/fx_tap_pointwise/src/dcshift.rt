@@ -1,6 +1,7 @@
 //! The effect `dcshift` of sox(1): each sample plus a shift.
-ghost use Rattle.std.specs.Prelude.{◌≡◌, ◌*◌, ◌^◌, ◌≤◌, ℤ, unsigned_abs, Ok, IfOk, IfErr, IfSome};
+ghost use Rattle.std.specs.Prelude.{◌≡◌, ◌*◌, ◌^◌, ◌<◌, ◌≤◌, ℤ, length, map, unsigned_abs, Ok, IfOk, IfErr, IfSome};
 ghost use Rattle.fx_fixed.specs.Rounding.{clipping};
+ghost use Rattle.fx_frame_base.specs.Rounded.{clips_rounded, samples_of};
 ghost use Rattle.fx_frame_base.specs.Stage.{Freezes, IsNew};
 ghost use Rattle.fx_tap_pointwise.specs.Mapped.{IsMapState, MapState};
 ghost use Rattle.fx_tap_pointwise.specs.PerSample.{SampleArguments};
@@ -17,6 +18,9 @@ use crate::per_sample::{
 use fx_fixed::{Gain, UNIT};
 use fx_frame::{ThawFault, WideFrame};
 use std::marker::Model;
+
+/// The maximum number of samples whose clips are counted in 32 bits.
+const MAX_COUNTED: usize = u32::MAX as usize;
 
 /// A shift of no more steps than a sample has: a sample is limited first, so that the steps are added to it in 32 bits.
 #[derive(Drop)]
@@ -74,6 +78,25 @@ impl WholeShift {
             maximum: self.maximum,
         }
     }
+
+    /// Writes what it makes of each sample, and counts how many were clipped.
+    // The count has 32 bits, as samples have: one of 64 bits would halve how many of them a vector holds.
+    #[inline(always)]
+    fn shift_samples(&self, input: &[i32], output: &mut [i32]) -> u32
+        requires places { length output.old ≡ length input.now }
+        requires bound { length input.now < 2 ^ 32 }
+        ensures samples { output.new ≡ samples_of (map (shifted_sample self.now) input.now) }
+        ensures clips { result ≡ clips_rounded (map (shifted_sample self.now) input.now) }
+        ensures bound { result ≤ length input.now }
+    {
+        let mut clips = 0;
+        'samples: for place in 0..input.len() {
+            let (sample, is_clipped) = self.round(input[place]);
+            output[place] = sample;
+            clips += u32::from(is_clipped);
+        }
+        clips
+    }
 }
 
 impl Sampling for WholeShift {
@@ -81,7 +104,8 @@ impl Sampling for WholeShift {
 
     #[inline(always)]
     fn round(&self, sample: i32) -> (i32, bool) {
-        let limited = sample.clamp(self.minimum, self.maximum);
+        // A minimum and a maximum are one instruction each; `clamp` compares.
+        let limited = self.minimum.max(sample.min(self.maximum));
         (limited + self.steps, limited != sample)
     }
 }
@@ -160,8 +184,10 @@ impl SamplesAfter for Shift {
 impl SamplesMany for Shift {
     fn round_many(&self, input: &[i32], output: &mut [i32]) -> u64 {
         match &self.whole {
-            Some(whole) => rounded_samples(&whole.copied(), input, output),
-            None => rounded_samples(self, input, output),
+            Some(whole) if input.len() <= MAX_COUNTED => {
+                u64::from(whole.copied().shift_samples(input, output))
+            }
+            _ => rounded_samples(self, input, output),
         }
     }
 

@@ -1,7 +1,8 @@
 //! Effects that round each sample alone, the same in every channel.
-ghost use Rattle.std.specs.Prelude.{◌≡◌, ◌≤◌, ℤ, Bool, FitsSigned, length, map, Ok, IfOk, IfErr};
+ghost use Rattle.std.specs.Prelude.{◌≡◌, ◌+◌, ◌^◌, ◌<◌, ◌≤◌, ℤ, Bool, FitsSigned, length, map, Ok, IfOk, IfErr};
 ghost use Rattle.std.specs.Int.{w32};
 ghost use Rattle.std.specs.List.{All};
+ghost use Rattle.fx_fixed.specs.Rounding.{clip_count};
 ghost use Rattle.fx_frame.specs.Made.{rounded_given};
 ghost use Rattle.fx_frame_base.specs.Rounded.{clips_rounded, samples_of};
 
@@ -19,6 +20,18 @@ pub trait Sampling {
     /// The sample that it makes of a sample, and whether it was clipped.
     fn round(&self, sample: i32) -> (i32, bool)
         ensures { result ≡ rounded self.now sample };
+
+    /// The same sample. Adds one to `clips` where it was clipped.
+    #[inline(always)]
+    fn round_and_count(&self, sample: i32, clips: &mut u64) -> i32
+        requires { clips.old < 2 ^ 63 }
+        ensures sample { result ≡ (rounded self.now sample).0 }
+        ensures clips { clips.new ≡ clips.old + clip_count (rounded self.now sample) }
+    {
+        let (sample, is_clipped) = self.round(sample);
+        *clips += u64::from(is_clipped);
+        sample
+    }
 }
 
 /// An effect that makes many samples of what another one makes of each.
@@ -110,9 +123,7 @@ pub(crate) fn rounded_samples<S: Sampling>(sampling: &S, input: &[i32], output: 
 {
     let mut clips = 0;
     'samples: for place in 0..input.len() {
-        let (sample, is_clipped) = sampling.round(input[place]);
-        output[place] = sample;
-        clips += u64::from(is_clipped);
+        output[place] = sampling.round_and_count(input[place], &mut clips);
     }
     clips
 }
@@ -126,9 +137,7 @@ pub(crate) fn round_over<S: Sampling>(sampling: &S, samples: &mut [i32]) -> u64
 {
     let mut clips = 0;
     'samples: for place in 0..samples.len() {
-        let (sample, is_clipped) = sampling.round(samples[place]);
-        samples[place] = sample;
-        clips += u64::from(is_clipped);
+        samples[place] = sampling.round_and_count(samples[place], &mut clips);
     }
     clips
 }

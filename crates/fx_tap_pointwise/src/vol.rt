@@ -49,6 +49,12 @@ impl Sampling for Fraction {
         self.denominator
             .round(i64::from(self.weight) * i64::from(sample))
     }
+
+    #[inline(always)]
+    fn round_and_count(&self, sample: i32, clips: &mut u64) -> i32 {
+        let sum = i64::from(self.weight) * i64::from(sample);
+        self.denominator.round_and_count(sum, clips)
+    }
 }
 
 /// A gain, and the same in lowest terms, where these are small.

@@ -28,9 +28,7 @@ pub fn round_channel(
     let mut at = channel;
     let mut clips = 0;
     'frames: for place in 0..sums.len() {
-        let (sample, is_clipped) = denominator.round(sums[place]);
-        out[at] = sample;
-        clips += u64::from(is_clipped);
+        out[at] = denominator.round_and_count(sums[place], &mut clips);
         at += channels;
     }
     clips

@@ -1,8 +1,9 @@
-use Rattle.std.proofs.Common.{rules, arith, ◌≡◌, ◌+◌, ◌<◌, ◌∙◌, FitsSigned, ap, get_or, length, ℕ, Bool, to_z, of_z, List}
+use Rattle.std.proofs.Common.{rules, arith, ◌≡◌, ◌+◌, ◌<◌, ◌∙◌, FitsSigned, ap, refl, cond, get_or, length, ℕ, Bool, to_z, of_z, List}
 use Rattle.std.proofs.lemmas.Grind.{common_steps}
 use Rattle.std.specs.Prelude.{ℤ, pos}
 use Rattle.std.specs.Int.{w32}
 use Rattle.std.proofs.lemmas.List.Elements.{All-more}
+use Rattle.fx_fixed.specs.Rounding.{clip_count}
 use Rattle.fx_frame_base.proofs.Rounds.{samples_of-more, clips_of-more, byte_is, byte-le}
 use Rattle.fx_tap_pointwise.proofs.both.rounded_by_both.Goals as goal
 
@@ -17,16 +18,23 @@ samples-preserved g c =
     let long : k < length out = omega (arith, h, c.samples.auto.output) in
     let fits : FitsSigned w32 (get_or xs k (pos 0)) = search rules in
     let sample : to_z w32 (of_z w32 (get_or xs k (pos 0))) ≡ get_or xs k (pos 0) = search rules in
-    let mid : to_z w32 (of_z w32 c.round-between.result.0) ≡ c.round-between.result.0 = search rules in
-    let end : to_z w32 (of_z w32 c.round-sample.result.0) ≡ c.round-sample.result.0 = search rules in
-    let v : c.round-between.result ≡ f (get_or xs k (pos 0)) = c.round-between.ensures ∙ ap f sample in
-    let w : c.round-sample.result ≡ both (get_or xs k (pos 0)) = c.round-sample.ensures ∙ ap (g.B.Sampling.rounded c.args.second.now) (mid ∙ ap (λ r. r.0) v) in
+    let between : ℤ = c.round_and_count-between.result in
+    let y : ℤ = c.round_and_count.result in
+    let r : ℤ × Bool = f (get_or xs k (pos 0)) in
+    let q : ℤ × Bool = both (get_or xs k (pos 0)) in
+    let mid : to_z w32 (of_z w32 between) ≡ between = search rules in
+    let end : to_z w32 (of_z w32 y) ≡ y = search rules in
+    let first : f (to_z w32 (of_z w32 (get_or xs k (pos 0)))) ≡ r = ap f sample in
+    let made : between ≡ r.0 = c.round_and_count-between.ensures.sample ∙ ap (λ p. p.0) first in
+    let second : g.B.Sampling.rounded c.args.second.now (to_z w32 (of_z w32 between)) ≡ q = ap (g.B.Sampling.rounded c.args.second.now) (mid ∙ made) in
+    let first_counted : c.round_and_count-between.new.clips ≡ c.samples.first_clips + cond r.1 1 0 = c.round_and_count-between.ensures.clips ∙ ap (λ p. c.samples.first_clips + clip_count p) first in
+    let second_counted : c.round_and_count.new.clips ≡ c.samples.second_clips + cond q.1 1 0 = c.round_and_count.ensures.clips ∙ ap (λ p. c.samples.second_clips + clip_count p) second in
     record {
-      done = rw end (samples_of-more both xs (pos 0) out k c.round-sample.result.0 h long c.samples.invariant.done (ap (λ r. r.0) w));
-      first_counted = ap (λ n. c.samples.first_clips + n) (c.from-first_clips.ensures ∙ byte_is c.round-between.result.1) ∙ clips_of-more f xs (pos 0) k c.samples.first_clips c.round-between.result.1 h c.samples.invariant.first_counted (ap (λ r. r.1) v);
-      second_counted = ap (λ n. c.samples.second_clips + n) (c.from-second_clips.ensures ∙ byte_is c.round-sample.result.1) ∙ clips_of-more both xs (pos 0) k c.samples.second_clips c.round-sample.result.1 h c.samples.invariant.second_counted (ap (λ r. r.1) w);
-      first_bound = omega (arith, c.from-first_clips.ensures, byte-le c.round-between.result.1, c.samples.invariant.first_bound);
-      second_bound = omega (arith, c.from-second_clips.ensures, byte-le c.round-sample.result.1, c.samples.invariant.second_bound);
+      done = rw end (samples_of-more both xs (pos 0) out k y h long c.samples.invariant.done (c.round_and_count.ensures.sample ∙ ap (λ p. p.0) second));
+      first_counted = first_counted ∙ clips_of-more f xs (pos 0) k c.samples.first_clips r.1 h c.samples.invariant.first_counted refl;
+      second_counted = second_counted ∙ clips_of-more both xs (pos 0) k c.samples.second_clips q.1 h c.samples.invariant.second_counted refl;
+      first_bound = omega (arith, first_counted, byte-le r.1, byte_is r.1, c.samples.invariant.first_bound);
+      second_bound = omega (arith, second_counted, byte-le q.1, byte_is q.1, c.samples.invariant.second_bound);
       fits = All-more (FitsSigned w32) xs k (pos 0) h c.samples.invariant.fits fits;
     }
 
