@@ -4,7 +4,7 @@ use Rattle.std.specs.List.{All}
 use Rattle.std.specs.Int.{Width}
 use Rattle.std.specs.Prelude.{ℤ, FitsSigned}
 use Rattle.std.proofs.lemmas.Bool.{cases_lt}
-use Rattle.std.proofs.lemmas.List.{get_or_append_left, get_or-append_right, get_or-drop, get_or-replicate, drop-drop, drop-replicate, drop-take, drop_at, length-replicate, length-take-le, take-append-le, take-replicate, take_all, take_at}
+use Rattle.std.proofs.lemmas.List.{drop_all, get_or_append_left, get_or-append_right, get_or-drop, get_or-replicate, drop-drop, drop-replicate, drop-take, drop_at, length-replicate, length-take-le, take-append-le, take-replicate, take_all, take_at}
 use Rattle.std.proofs.lemmas.List.Elements.{All-append, All-cons, All-drop, All-nil, All-take}
 use Rattle.std.proofs.Math.Nat.{add-mul, mul-le-mul_right, suc-mul, zero-mul}
 use Rattle.std.proofs.Math.Seq.{take-append-add}
@@ -199,16 +199,16 @@ module _ {X : Type 0} where
         ∙ ap (take count) (pieces-joined channels len n samples.items coming r.filled))
 
     -- so many of the oldest came out into the places of those that came
-    pub ring-exchanged : (frames out : List X) (count n : ℕ) → length frames ≡ count * l.channels → count ≤ len → n ≡ min (length frames) (length samples.items) → out ≡ take n samples.items ++ drop n frames → pieces l.channels count out ≡ take count l.items
-    ring-exchanged frames out count n e bound e-n is =
+    pub ring-exchanged : (frames out : List X) (count : ℕ) → length frames ≡ count * l.channels → count ≤ len → out ≡ take (length frames) samples.items → pieces l.channels count out ≡ take count l.items
+    ring-exchanged frames out count e bound is =
         let same : channels ≡ l.channels = ap (λ v. v.channels) is-l in
         let long : length frames ≡ count * channels = e ∙ ap (λ m. count * m) (sym same) in
         let held : len ≡ length l.items = ring-len channels capacity len samples l is-l r in
         let fits : count * channels ≤ len * channels = mul-le-mul_right channels bound in
-        let all : n ≡ count * channels = omega (arith, r.filled) in
         let whole : samples.items ++ [] ≡ samples.items = append-nil samples.items in
         let within : count * channels ≤ length (samples.items ++ []) = rw whole (omega (arith, r.filled)) in
-        let cut : out ≡ take (count * channels) (samples.items ++ []) ++ drop (count * channels) frames = is ∙ ap (λ m. take m samples.items ++ drop m frames) all ∙ ap (λ xs. take (count * channels) xs ++ drop (count * channels) frames) (sym whole) in
+        let rest : drop (count * channels) frames ≡ [] = drop_all (count * channels) frames (omega arith) in
+        let cut : out ≡ take (count * channels) (samples.items ++ []) ++ drop (count * channels) frames = rw (whole, rest) (is ∙ ap (λ m. take m samples.items) long ∙ sym (append-nil (take (count * channels) samples.items))) in
         let none : zero * l.channels ≤ length {A = X} [] = omega (arith, zero-mul l.channels) in
         ring-oldest [] frames out count cut within zero none (omega arith) ∙ ap (take count) (append-nil l.items)
 
@@ -225,6 +225,12 @@ module _ {X : Type 0} where
         let left : length (drop (count * channels) samples.items) ≡ len' * channels = omega (arith, length-drop (count * channels) samples.items, r.filled, size) in
         let rest : pieces channels len' (drop (count * channels) samples.items) ≡ drop count (pieces channels len samples.items) = pieces-beyond channels count len' samples.items ∙ ap (λ m. drop count (pieces channels m samples.items)) (sym whole) in
         rw (← is-l, is, all) (record { some = r.some; bound = r.bound; small = r.small; within = omega (arith, r.within); filled = left; free = r.free }, rest)
+
+    -- where there are so many frames, there are as many samples
+    pub ring-enough : (frames : List X) (count : ℕ) → length frames ≡ count * l.channels → count ≤ len → length frames ≤ length samples.items
+    ring-enough frames count e bound =
+        let long : length frames ≡ count * channels = e ∙ ap (λ m. count * m) (sym (ap (λ v. v.channels) is-l)) in
+        omega (arith, r.filled, mul-le-mul_right channels bound)
 
     -- where all places are filled, as many frames stay
     pub ring-level_many : (count : ℕ) → length samples.items ≡ samples.capacity → len ≡ min (len + count) capacity

@@ -4,6 +4,7 @@ ghost use Rattle.std.specs.Option.{option_map};
 ghost use Rattle.fx_frame_line.specs.Line.{empty, pushed, pushed_all, pushed_out, latest_frames, channel_of};
 ghost use Rattle.fx_frame_line.specs.Ring.{IsShaped};
 ghost use Rattle.fx_frame_base.specs.Lists.{IsOtherPlace, pieces};
+ghost use Rattle.circular_buffer.specs.Buffer.{buffer, keep_last};
 
 use circular_buffer::HeapCircularBuffer;
 use std::alloc::{AllocError, Global};
@@ -184,9 +185,7 @@ impl<T: Copy> Ring<T> {
         if count > self.len {
             return false;
         }
-        came.copy_from_slice(frames);
-        self.samples.read_into(frames);
-        self.samples.extend_from_slice(came);
+        exchange_oldest(&mut self.samples, frames, came);
         true
     }
 
@@ -333,6 +332,59 @@ impl<T: Copy> Ring<T> {
             channels => copy_channel(front, back, channel, channels, out.len(), out, 0, 1),
         }
     }
+}
+
+/// Puts samples in the places of as many of the oldest of a full ring buffer, and writes those over them. The samples that came
+/// then stand in `came`.
+#[inline(always)]
+fn exchange_oldest<T: Copy>(ring: &mut HeapCircularBuffer<T>, samples: &mut [T], came: &mut [T])
+    requires full { length ring.old.items ≡ ring.old.capacity }
+    requires bound { length samples.old ≤ length ring.old.items }
+    requires free { length came.old ≡ length samples.old }
+    ensures items { ring.new ≡ buffer (keep_last ring.old.capacity (ring.old.items ++ samples.old)) ring.old.capacity }
+    ensures oldest { samples.new ≡ take (length samples.old) ring.old.items }
+    ensures came { came.new ≡ samples.old }
+{
+    let len = ring.len();
+    copy_batch(samples, came);
+    let (front, back) = ring.as_slices();
+    if samples.len() <= front.len() {
+        copy_batch(&front[..samples.len()], samples);
+    } else {
+        copy_part(front, back, 0, samples);
+    }
+    ring.truncate_front(len - samples.len());
+    ring.fill_from_slice(came);
+}
+
+/// Copies samples over as many others.
+#[inline(always)]
+fn copy_batch<T: Copy>(from: &[T], to: &mut [T])
+    requires { length to.old ≡ length from.now }
+    ensures { to.new ≡ from.now }
+{
+    // Copies of a known number of samples need no call. Most batches have so few.
+    match from.len() {
+        4 => to[..4].copy_from_slice(&from[..4]),
+        5 => to[..5].copy_from_slice(&from[..5]),
+        8 => to[..8].copy_from_slice(&from[..8]),
+        6..=7 => copy_ends(from, to, 4),
+        9..=16 => copy_ends(from, to, 8),
+        _ => to.copy_from_slice(from),
+    }
+}
+
+/// Copies samples over as many others: `count` at the front, and `count` at the end, some of which may be the same.
+#[inline(always)]
+fn copy_ends<T: Copy>(from: &[T], to: &mut [T], count: usize)
+    requires places { length to.old ≡ length from.now }
+    requires bound { count ≤ length from.now }
+    requires all { length from.now ≤ count + count }
+    ensures { to.new ≡ from.now }
+{
+    let rest = from.len() - count;
+    to[..count].copy_from_slice(&from[..count]);
+    to[rest..].copy_from_slice(&from[rest..]);
 }
 
 /// Writes the same sample to each place.
