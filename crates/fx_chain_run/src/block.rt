@@ -14,8 +14,8 @@ use crate::drain::drain;
 use crate::frame_writer::FrameWriter;
 use fx_chain_flow::flow::Flow;
 use fx_frame::{ByteOut, Failed, ReadBeside};
-use fx_frame_base::pipeline::PassesAhead;
 use fx_frame_base::frame::MAX_CHANNELS;
+use fx_frame_base::pipeline::PassesAhead;
 use fx_sound::inner::BUFFER_SIZE;
 use fx_sound::{Progress, Source};
 

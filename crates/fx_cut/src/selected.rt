@@ -451,7 +451,8 @@ impl<S: Selection + Drop> Feeds for Selected<S> {
 
 impl<S: Selection + Drop> PassesAhead for Selected<S> {
     fn lined(&self) -> u64 {
-        self.line.len() as u64
+        let frames = self.line.len();
+        frames as u64
     }
 
     fn pass_ahead<F: Feeds>(
@@ -469,8 +470,8 @@ impl<S: Selection + Drop> PassesAhead for Selected<S> {
         pass_in_place(rest, channels, count, output);
         self.line.push_frames(input, count);
         let _held = self.line.len();
-        let passed = count as u64;
-        self.taken += passed;
-        self.given += passed;
+        let frames = count as u64;
+        self.taken += frames;
+        self.given += frames;
     }
 }

@@ -12,12 +12,7 @@ pub const SAMPLES_AHEAD: usize = 64;
 
 /// Passes `count` frames of `channels` channels through stages in sequence, each of which gives one for each, and puts those that
 /// come out in their place. All of them go through a stage before the first goes through the next.
-pub fn pass_in_place<S: Feeds>(
-    stages: &mut [S],
-    channels: usize,
-    count: usize,
-    samples: &mut [i32],
-)
+pub fn pass_in_place<S: Feeds>(stages: &mut [S], channels: usize, count: usize, samples: &mut [i32])
     requires frame { (1 ≤ channels) × (channels ≤ 16) }
     requires some { 1 ≤ count }
     requires ready { (taken maximum : ℕ) × (taken + count ≤ maximum) × AreReady S.acts channels taken maximum stages.old }
