@@ -5,7 +5,7 @@ use Rattle.std.specs.Simd.Lanes.{chunk, put_chunk, zip2}
 use borrow.Rule.Slice.PartMut.{put_mid}
 use Rattle.std.proofs.lemmas.Bool.Decides.{nat_tests}
 use Rattle.std.proofs.lemmas.Int.{ints}
-use Rattle.std.proofs.lemmas.List.{drop_more, drop_all, get_or-drop, get_or-append-add, get_or-replicate, get_or_append_left, length-drop, length-take-le}
+use Rattle.std.proofs.lemmas.List.{drop_more, drop_all, get_or-drop, get_or-append-add, get_or-replicate, get_or_append_left, get_or-take, length-drop, length-take-le}
 use Rattle.std.proofs.lemmas.List.Sums.{sum_by-cons}
 use Rattle.std.proofs.lemmas.Simd.{Each1-from_get_or, Each1-get_or, Each1-replicate, get_or-zip2, get_or-chunk, length-zip2, put_chunk_is}
 use Rattle.fx_tap_sums.specs.Lanes.{LanesWithin, WithinLane}
@@ -136,18 +136,18 @@ lanes-added sums xs samples at k y w four long are is l =
     ∙ ap (λ z. get_or sums k (pos 0) +ℤ z) (get_or-zip2 (λ a b. a *ℤ b) xs ys k (pos 0) (pos 0) (pos 0) (omega (arith, long, l)) l ∙ ap (λ x. x *ℤ get_or ys k (pos 0)) sample ∙ ap (λ v. get_or samples (at + k) (pos 0) *ℤ v) weight)
 
 -- lanes that were put into their places
-pub lanes-put : (sums lanes : List ℤ) (at n k : ℕ) → length lanes ≡ 4 → n ≡ 4 → at + 4 ≤ length sums → k < 4 → get_or (put_mid at n sums (put_chunk 0 (take n (drop at sums)) lanes)) (at + k) (pos 0) ≡ get_or lanes k (pos 0)
-lanes-put sums lanes at n k four is free l =
-    let mid : List ℤ = take 4 (drop at sums) in
+pub lanes-put : {X : Type 0} (d : X) (sums lanes : List X) (at n k : ℕ) → length lanes ≡ 4 → n ≡ 4 → at + 4 ≤ length sums → k < 4 → get_or (put_mid at n sums (put_chunk 0 (take n (drop at sums)) lanes)) (at + k) d ≡ get_or lanes k d
+lanes-put {X} d sums lanes at n k four is free l =
+    let mid : List X = take 4 (drop at sums) in
     let left = length-drop at sums in
     let size : length mid ≡ 4 = length-take-le 4 (drop at sums) (omega (arith, left, free)) in
     let whole : put_chunk 0 mid lanes ≡ lanes ++ drop (length lanes) (drop 0 mid) = put_chunk_is 0 mid lanes (omega (arith, four, size)) in
     let front : length (take at sums) ≡ at = length-take-le at sums (omega (arith, free)) in
     rw (is, whole)
-    (ap (λ i. get_or (take at sums ++ ((lanes ++ drop (length lanes) (drop 0 mid)) ++ drop 4 (drop at sums))) (i + k) (pos 0)) (sym front)
-    ∙ get_or-append-add (take at sums) ((lanes ++ drop (length lanes) (drop 0 mid)) ++ drop 4 (drop at sums)) k (pos 0)
-    ∙ get_or_append_left (lanes ++ drop (length lanes) (drop 0 mid)) (drop 4 (drop at sums)) (pos 0) k (omega (arith, length-append lanes (drop (length lanes) (drop 0 mid)), four, l))
-    ∙ get_or_append_left lanes (drop (length lanes) (drop 0 mid)) (pos 0) k (omega (arith, four, l)))
+    (ap (λ i. get_or (take at sums ++ ((lanes ++ drop (length lanes) (drop 0 mid)) ++ drop 4 (drop at sums))) (i + k) d) (sym front)
+    ∙ get_or-append-add (take at sums) ((lanes ++ drop (length lanes) (drop 0 mid)) ++ drop 4 (drop at sums)) k d
+    ∙ get_or_append_left (lanes ++ drop (length lanes) (drop 0 mid)) (drop 4 (drop at sums)) d k (omega (arith, length-append lanes (drop (length lanes) (drop 0 mid)), four, l))
+    ∙ get_or_append_left lanes (drop (length lanes) (drop 0 mid)) d k (omega (arith, four, l)))
 
 -- samples in lanes are small
 pub chunk-within : (xs samples : List ℤ) (at : ℕ) → xs ≡ chunk at 4 samples → LanesWithin (2 ^ 31) xs → (k : ℕ) → k < 4 → unsigned_abs (get_or samples (at + k) (pos 0)) ≤ 2 ^ 31
@@ -155,3 +155,25 @@ chunk-within xs samples at are small k l =
     let sample : get_or xs k (pos 0) ≡ get_or samples (at + k) (pos 0) = ap (λ zs. get_or zs k (pos 0)) are ∙ get_or-chunk at 4 samples k (pos 0) l in
     let four = small.four in
     rw (← sample) (Each1-get_or (WithinLane (2 ^ 31)) xs k (pos 0) (omega (arith, four, l)) small.small)
+
+-- a piece that was written among sums
+pub mid_before : (at m i : ℕ) (sums new : List ℤ) → at ≤ length sums → i < at → get_or (put_mid at m sums new) i (pos 0) ≡ get_or sums i (pos 0)
+mid_before at m i sums new le lt =
+    let front : length (take at sums) ≡ at = length-take-le at sums le in
+    get_or_append_left (take at sums) (new ++ drop m (drop at sums)) (pos 0) i (omega (arith, front, lt)) ∙ get_or-take at sums i (pos 0) lt
+
+pub mid_at : (at m k : ℕ) (sums new : List ℤ) → at ≤ length sums → k < length new → get_or (put_mid at m sums new) (at + k) (pos 0) ≡ get_or new k (pos 0)
+mid_at at m k sums new le lt =
+    let front : length (take at sums) ≡ at = length-take-le at sums le in
+    ap (λ i. get_or (take at sums ++ (new ++ drop m (drop at sums))) (i + k) (pos 0)) (sym front)
+    ∙ get_or-append-add (take at sums) (new ++ drop m (drop at sums)) k (pos 0)
+    ∙ get_or_append_left new (drop m (drop at sums)) (pos 0) k lt
+
+pub mid_long : (at m : ℕ) (sums new : List ℤ) → length new ≡ m → at + m ≤ length sums → length (put_mid at m sums new) ≡ length sums
+mid_long at m sums new size room =
+    let front = length-take-le at sums (omega (arith, room)) in
+    let whole = length-append (take at sums) (new ++ drop m (drop at sums)) in
+    let rest = length-append new (drop m (drop at sums)) in
+    let left = length-drop at sums in
+    let last = length-drop m (drop at sums) in
+    omega (arith, size, room, front, whole, rest, left, last)

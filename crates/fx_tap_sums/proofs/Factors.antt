@@ -1,10 +1,9 @@
 -- A product over the modulus, by the quotient of one of its factors: w times the factor v over p is q, and q times n over w is t.
-use Rattle.std.proofs.Common.{◌≡◌, ◌+◌, ◌*◌, ◌/◌, ◌^◌, ◌<◌, ◌≤◌, ℕ, arith}
-use Rattle.std.proofs.Math.Nat.{div-add-mod}
+use Rattle.std.proofs.Common.{◌≡◌, ap, ◌+◌, ◌*◌, ◌/◌, ◌^◌, ◌<◌, ◌≤◌, ℕ, arith}
+use Rattle.std.proofs.Math.Nat.{div-add-mod, mod-lt}
 use Rattle.std.proofs.lemmas.Bool.{cases_lt}
 use Rattle.std.proofs.lemmas.Nat.{mul-le}
 use mathlib.Core.Logic.{inl, inr}
-use Rattle.fx_tap_sums.specs.Residues.{modulus}
 
 pub quotient_low : (w p v q n t : ℕ) → 0 < w → q * p ≤ v * w → t * w ≤ q * n → t * p ≤ v * n
 quotient_low w p v q n t some first second = elim (cases_lt (v * n) (t * p)) [
@@ -38,15 +37,18 @@ quotient_high w p v q n t some first second bound = elim (cases_lt (v * n) (t * 
       absurd (omega arith)
 ]
 
--- and modulo the prime, with 2^64
-pub product_low : (v n q : ℕ) → (v * 2 ^ 64) / modulus ≡ q → (q * n) / 2 ^ 64 * modulus ≤ v * n
-product_low v n q is =
-    let first = div-add-mod (v * 2 ^ 64) modulus in
-    let second = div-add-mod (q * n) (2 ^ 64) in
-    quotient_low (2 ^ 64) modulus v q n ((q * n) / 2 ^ 64) (omega arith) (omega arith) (omega arith)
+-- and with 2^32
+pub product_low : (p v n q : ℕ) → (v * 2 ^ 32) / p ≡ q → (q * n) / 2 ^ 32 * p ≤ v * n
+product_low p v n q is =
+    let whole = div-add-mod (v * 2 ^ 32) p in
+    let first : p * ((v * 2 ^ 32) / p) ≡ p * q = ap (λ z. p * z) is in
+    let second = div-add-mod (q * n) (2 ^ 32) in
+    quotient_low (2 ^ 32) p v q n ((q * n) / 2 ^ 32) (omega arith) (omega arith) (omega arith)
 
-pub product_high : (v n q : ℕ) → (v * 2 ^ 64) / modulus ≡ q → n < 2 ^ 64 → v * n < (q * n) / 2 ^ 64 * modulus + 2 * modulus
-product_high v n q is bound =
-    let first = div-add-mod (v * 2 ^ 64) modulus in
-    let second = div-add-mod (q * n) (2 ^ 64) in
-    quotient_high (2 ^ 64) modulus v q n ((q * n) / 2 ^ 64) (omega arith) (omega arith) (omega arith) bound
+pub product_high : (p v n q : ℕ) → 0 < p → (v * 2 ^ 32) / p ≡ q → n < 2 ^ 32 → v * n < (q * n) / 2 ^ 32 * p + 2 * p
+product_high p v n q some is bound =
+    let whole = div-add-mod (v * 2 ^ 32) p in
+    let first : p * ((v * 2 ^ 32) / p) ≡ p * q = ap (λ z. p * z) is in
+    let less = mod-lt (v * 2 ^ 32) some in
+    let second = div-add-mod (q * n) (2 ^ 32) in
+    quotient_high (2 ^ 32) p v q n ((q * n) / 2 ^ 32) some (omega arith) (omega arith) bound

@@ -94,19 +94,19 @@ back_difference p r w c d u v inverse u_is v_is =
     same_on p (w *ℤ (u -ℤ v)) _ (d +ℤ d) scaled
     (same_on p (w *ℤ ((r *ℤ d) +ℤ (r *ℤ d))) ((w *ℤ (r *ℤ d)) +ℤ (w *ℤ (r *ℤ d))) (d +ℤ d) (same_is p _ _ (mul-add w (r *ℤ d) (r *ℤ d))) (same_add p (w *ℤ (r *ℤ d)) d (w *ℤ (r *ℤ d)) d once once))
 
-folded_same : (m i : ℕ) (p s r : ℤ) (a b h g : List ℤ) → length a ≡ m → length b ≡ m → length h ≡ m → length g ≡ m → i < m → Same p (r *ℤ r) s →
-    Same p (pos m *ℤ cyclic r (combined r a b) (combined r g h) i) ((pos m *ℤ cyclic s (a ++ b) (h ++ g) i) +ℤ (r *ℤ (pos m *ℤ cyclic s (a ++ b) (h ++ g) (m + i))))
-folded_same m i p s r a b h g a_long b_long h_long g_long lt square =
+folded_same : (m t i : ℕ) (p s r : ℤ) (a b h g : List ℤ) → length a ≡ m → length b ≡ m → length h ≡ m → length g ≡ m → i < m → Same p (r *ℤ r) s →
+    Same p (pos t *ℤ cyclic r (combined r a b) (combined r g h) i) ((pos t *ℤ cyclic s (a ++ b) (h ++ g) i) +ℤ (r *ℤ (pos t *ℤ cyclic s (a ++ b) (h ++ g) (m + i))))
+folded_same m t i p s r a b h g a_long b_long h_long g_long lt square =
     let c0 : ℤ = cyclic (r *ℤ r) (a ++ b) (h ++ g) i in
     let c1 : ℤ = cyclic (r *ℤ r) (a ++ b) (h ++ g) (m + i) in
     let d0 : ℤ = cyclic s (a ++ b) (h ++ g) i in
     let d1 : ℤ = cyclic s (a ++ b) (h ++ g) (m + i) in
-    let exact : pos m *ℤ cyclic r (combined r a b) (combined r g h) i ≡ (pos m *ℤ c0) +ℤ (r *ℤ (pos m *ℤ c1)) =
-    ap (λ z. pos m *ℤ z) (folded m i r a b h g a_long b_long h_long g_long lt) ∙ mul-add (pos m) c0 (r *ℤ c1) ∙ ap (λ z. (pos m *ℤ c0) +ℤ z) (mul_swap (pos m) r c1) in
+    let exact : pos t *ℤ cyclic r (combined r a b) (combined r g h) i ≡ (pos t *ℤ c0) +ℤ (r *ℤ (pos t *ℤ c1)) =
+    ap (λ z. pos t *ℤ z) (folded m i r a b h g a_long b_long h_long g_long lt) ∙ mul-add (pos t) c0 (r *ℤ c1) ∙ ap (λ z. (pos t *ℤ c0) +ℤ z) (mul_swap (pos t) r c1) in
     let first : Same p c0 d0 = same_cyclic p (r *ℤ r) s (a ++ b) (h ++ g) i square in
     let second : Same p c1 d1 = same_cyclic p (r *ℤ r) s (a ++ b) (h ++ g) (m + i) square in
-    same_on p _ ((pos m *ℤ c0) +ℤ (r *ℤ (pos m *ℤ c1))) _ (same_is p _ _ exact)
-    (same_add p (pos m *ℤ c0) (pos m *ℤ d0) (r *ℤ (pos m *ℤ c1)) (r *ℤ (pos m *ℤ d1)) (same_mul p (pos m) c0 d0 first) (same_mul p r (pos m *ℤ c1) (pos m *ℤ d1) (same_mul p (pos m) c1 d1 second)))
+    same_on p _ ((pos t *ℤ c0) +ℤ (r *ℤ (pos t *ℤ c1))) _ (same_is p _ _ exact)
+    (same_add p (pos t *ℤ c0) (pos t *ℤ d0) (r *ℤ (pos t *ℤ c1)) (r *ℤ (pos t *ℤ d1)) (same_mul p (pos t) c0 d0 first) (same_mul p r (pos t *ℤ c1) (pos t *ℤ d1) (same_mul p (pos t) c1 d1 second)))
 
 square_of : (p r q s : ℤ) → Same p (r *ℤ r) s → Same p q (neg_ℤ r) → Same p (q *ℤ q) s
 square_of p r q s square negative =
@@ -116,28 +116,28 @@ square_of p r q s square negative =
 
 -- the products by r and by its negative, each m times
 abbrev pub halves_left : ℕ → ℤ → List ℤ → List ℤ → List ℤ → List ℤ → ℕ → ℤ
-halves_left m r a b h g i = pos m *ℤ cyclic r (combined r a b) (combined r g h) i
+halves_left t r a b h g i = pos t *ℤ cyclic r (combined r a b) (combined r g h) i
 
-both : (m i : ℕ) (p s r : ℤ) (a b h g : List ℤ) (v : ℤ) → length a ≡ m → length b ≡ m → length h ≡ m → length g ≡ m → i < m → Same p (r *ℤ r) s →
-    Same p v (halves_left m (neg_ℤ r) a b h g i) →
-    Same p v ((pos m *ℤ cyclic s (a ++ b) (h ++ g) i) +ℤ (neg_ℤ r *ℤ (pos m *ℤ cyclic s (a ++ b) (h ++ g) (m + i))))
-both m i p s r a b h g v a_long b_long h_long g_long lt square v_is =
-    same_on p _ _ _ v_is (folded_same m i p s (neg_ℤ r) a b h g a_long b_long h_long g_long lt (square_of p r (neg_ℤ r) s square (same_refl p (neg_ℤ r))))
+both : (m t i : ℕ) (p s r : ℤ) (a b h g : List ℤ) (v : ℤ) → length a ≡ m → length b ≡ m → length h ≡ m → length g ≡ m → i < m → Same p (r *ℤ r) s →
+    Same p v (halves_left t (neg_ℤ r) a b h g i) →
+    Same p v ((pos t *ℤ cyclic s (a ++ b) (h ++ g) i) +ℤ (neg_ℤ r *ℤ (pos t *ℤ cyclic s (a ++ b) (h ++ g) (m + i))))
+both m t i p s r a b h g v a_long b_long h_long g_long lt square v_is =
+    same_on p _ _ _ v_is (folded_same m t i p s (neg_ℤ r) a b h g a_long b_long h_long g_long lt (square_of p r (neg_ℤ r) s square (same_refl p (neg_ℤ r))))
 
 -- number i of the product, for i in the first half
-pub low_half : (m i : ℕ) (p s r : ℤ) (a b h g : List ℤ) (u v : ℤ) → length a ≡ m → length b ≡ m → length h ≡ m → length g ≡ m → i < m → Same p (r *ℤ r) s →
-    Same p u (halves_left m r a b h g i) → Same p v (halves_left m (neg_ℤ r) a b h g i) →
-    Same p (u +ℤ v) (pos (2 * m) *ℤ cyclic s (a ++ b) (h ++ g) i)
-low_half m i p s r a b h g u v a_long b_long h_long g_long lt square u_is v_is =
-    let c : ℕ → ℤ = λ k. pos m *ℤ cyclic s (a ++ b) (h ++ g) k in
-    rw (twice m (cyclic s (a ++ b) (h ++ g) i))
-    (back_sum p r (c i) (c (m + i)) u v (same_on p _ _ _ u_is (folded_same m i p s r a b h g a_long b_long h_long g_long lt square)) (both m i p s r a b h g v a_long b_long h_long g_long lt square v_is))
+pub low_half : (m t i : ℕ) (p s r : ℤ) (a b h g : List ℤ) (u v : ℤ) → length a ≡ m → length b ≡ m → length h ≡ m → length g ≡ m → i < m → Same p (r *ℤ r) s →
+    Same p u (halves_left t r a b h g i) → Same p v (halves_left t (neg_ℤ r) a b h g i) →
+    Same p (u +ℤ v) (pos (2 * t) *ℤ cyclic s (a ++ b) (h ++ g) i)
+low_half m t i p s r a b h g u v a_long b_long h_long g_long lt square u_is v_is =
+    let c : ℕ → ℤ = λ k. pos t *ℤ cyclic s (a ++ b) (h ++ g) k in
+    rw (twice t (cyclic s (a ++ b) (h ++ g) i))
+    (back_sum p r (c i) (c (m + i)) u v (same_on p _ _ _ u_is (folded_same m t i p s r a b h g a_long b_long h_long g_long lt square)) (both m t i p s r a b h g v a_long b_long h_long g_long lt square v_is))
 
 -- and in the second
-pub high_half : (m i : ℕ) (p s r w : ℤ) (a b h g : List ℤ) (u v : ℤ) → length a ≡ m → length b ≡ m → length h ≡ m → length g ≡ m → i < m → Same p (r *ℤ r) s → Same p (w *ℤ r) (pos 1) →
-    Same p u (halves_left m r a b h g i) → Same p v (halves_left m (neg_ℤ r) a b h g i) →
-    Same p (w *ℤ (u -ℤ v)) (pos (2 * m) *ℤ cyclic s (a ++ b) (h ++ g) (m + i))
-high_half m i p s r w a b h g u v a_long b_long h_long g_long lt square inverse u_is v_is =
-    let c : ℕ → ℤ = λ k. pos m *ℤ cyclic s (a ++ b) (h ++ g) k in
-    rw (twice m (cyclic s (a ++ b) (h ++ g) (m + i)))
-    (back_difference p r w (c i) (c (m + i)) u v inverse (same_on p _ _ _ u_is (folded_same m i p s r a b h g a_long b_long h_long g_long lt square)) (both m i p s r a b h g v a_long b_long h_long g_long lt square v_is))
+pub high_half : (m t i : ℕ) (p s r w : ℤ) (a b h g : List ℤ) (u v : ℤ) → length a ≡ m → length b ≡ m → length h ≡ m → length g ≡ m → i < m → Same p (r *ℤ r) s → Same p (w *ℤ r) (pos 1) →
+    Same p u (halves_left t r a b h g i) → Same p v (halves_left t (neg_ℤ r) a b h g i) →
+    Same p (w *ℤ (u -ℤ v)) (pos (2 * t) *ℤ cyclic s (a ++ b) (h ++ g) (m + i))
+high_half m t i p s r w a b h g u v a_long b_long h_long g_long lt square inverse u_is v_is =
+    let c : ℕ → ℤ = λ k. pos t *ℤ cyclic s (a ++ b) (h ++ g) k in
+    rw (twice t (cyclic s (a ++ b) (h ++ g) (m + i)))
+    (back_difference p r w (c i) (c (m + i)) u v inverse (same_on p _ _ _ u_is (folded_same m t i p s r a b h g a_long b_long h_long g_long lt square)) (both m t i p s r a b h g v a_long b_long h_long g_long lt square v_is))

@@ -4,8 +4,10 @@ pub mod CyclicSums
 pub mod Doubling
 pub mod Factors
 pub mod Fitting
+pub mod Folding
 pub mod Halves
 pub mod KernelLaws
+pub mod Leaf
 pub mod Magnitudes
 pub mod Numbers
 pub mod Prepared
@@ -13,11 +15,13 @@ pub mod PairLanes
 pub mod PairSamples
 pub mod PairSums
 pub mod PartSums
+pub mod Primes
 pub mod ProductBounds
 pub mod ProductLanes
 pub mod Residues
 pub mod SmallSums
 pub mod Steps
 pub mod SumLaws
+pub mod Vectors
 pub mod WeightLaws
 pub mod Writes

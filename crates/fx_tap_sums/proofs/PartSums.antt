@@ -1,5 +1,5 @@
 -- Sums of numbers of 16 bits times weights in two parts: high sums, which count 2^14 times, and low ones.
-use Rattle.std.proofs.Common.{◌≡◌, ℕ, ◌+◌, ◌-◌, ◌*◌, ◌^◌, ◌<◌, ◌≤◌, Bool, true, false, List, [], ◌∷◌, length, drop, take, get_or, set, refl, sym, ap, ◌∙◌, arith, ℤ, pos, inl, inr, ◌⊎◌, ◌+ℤ◌, ◌*ℤ◌, FitsSigned, w32}
+use Rattle.std.proofs.Common.{◌≡◌, ℕ, ◌+◌, ◌-◌, ◌*◌, ◌^◌, ◌<◌, ◌≤◌, Bool, true, false, List, [], ◌∷◌, length, drop, take, get_or, set, refl, sym, ap, ◌∙◌, arith, ℤ, pos, inl, inr, ◌+ℤ◌, ◌*ℤ◌, FitsSigned, w32}
 use Rattle.std.specs.Prelude.{sum_by, unsigned_abs, nat_lt}
 use Rattle.std.proofs.Math.Nat.{lt_of_mul-lt-mul_right}
 use Rattle.std.proofs.lemmas.Bool.Decides.{nat_tests}

@@ -1,11 +1,11 @@
 -- Numbers that are the same modulo another one.
-use Rattle.std.proofs.Common.{◌≡◌, ◌+◌, ◌-◌, ◌*◌, ◌^◌, ◌<◌, ℕ, suc, ap, sym, arith, ℤ, pos, negsuc, neg_ℤ, ◌*ℤ◌, ◌+ℤ◌, refl, to_z, of_z, w64, unsigned_abs}
+use Rattle.std.proofs.Common.{◌≡◌, ◌+◌, ◌-◌, ◌*◌, ◌<◌, ◌≤◌, ℕ, ap, sym, arith, ℤ, pos, negsuc, neg_ℤ, ◌*ℤ◌, ◌+ℤ◌, refl, unsigned_abs}
 use Rattle.std.proofs.Math.IntN.{nat_abs, *ℤ_comm}
 use Rattle.std.specs.Prelude.{true, false, ◌-ℤ◌}
-use lib.Signed.{mag, lt_z}
-use Rattle.std.proofs.lemmas.Int.{ints, fits_signed_from_abs, to_z-of_z}
+use lib.Signed.{lt_z}
+use Rattle.std.proofs.lemmas.Int.{ints}
 use borrow.Author.Differences.{product_is}
-use Rattle.fx_tap_sums.specs.Residues.{Same, modulus}
+use Rattle.fx_tap_sums.specs.Residues.{Same}
 use Rattle.fx_tap_sums.proofs.Numbers.{mul-add, mul-neg, mul_swap}
 
 pub same_refl : (p a : ℤ) → Same p a a
@@ -52,20 +52,12 @@ same_difference p a b less =
     let once : pos p *ℤ pos 1 ≡ pos p = ap pos (omega arith) in
     (pos 1, omega (arith, ints))
 
--- a sample of 32 bits below 0, and the modulus
-pub lifted : (x : ℤ) → mag x < 2 ^ 31 → lt_z x (pos 0) ≡ true → Same (pos modulus) (pos (nat_abs (x +ℤ pos modulus))) x
-lifted (pos n) small below = absurd (omega (arith, ints))
-lifted (negsuc n) small below =
-    let once : pos modulus *ℤ pos 1 ≡ pos modulus = ap pos (omega arith) in
-    let up : negsuc n +ℤ pos modulus ≡ pos (modulus - suc n) = omega (arith, ints) in
-    rw up (pos 1, omega (arith, ints))
-
-pub lifted_fits : (x : ℤ) → mag x < 2 ^ 31 → lt_z x (pos 0) ≡ true → to_z w64 (of_z w64 (x +ℤ pos modulus)) ≡ x +ℤ pos modulus
-lifted_fits (pos n) small below = absurd (omega (arith, ints))
-lifted_fits (negsuc n) small below =
-    let up : negsuc n +ℤ pos modulus ≡ pos (modulus - suc n) = omega (arith, ints) in
-    let bound : unsigned_abs (negsuc n +ℤ pos modulus) < 2 ^ 63 = rw up (omega arith) in
-    to_z-of_z w64 (negsuc n +ℤ pos modulus) (fits_signed_from_abs w64 (negsuc n +ℤ pos modulus) bound)
+-- a sample of 32 bits below 0, and twice the modulus
+pub lifted : (p : ℕ) (x : ℤ) → unsigned_abs x ≤ 2 * p → lt_z x (pos 0) ≡ true → Same (pos p) (pos (2 * p - unsigned_abs x)) x
+lifted p (pos n) small below = absurd (omega (arith, ints))
+lifted p (negsuc n) small below =
+    let twice : pos p *ℤ pos 2 ≡ pos (2 * p) = ap pos (omega arith) in
+    (pos 2, omega (arith, ints))
 
 pub kept : (x : ℤ) → lt_z x (pos 0) ≡ false → pos (nat_abs x) ≡ x
 kept (pos n) below = refl
@@ -77,3 +69,6 @@ same_negated p a b h =
     let e = h.1 in
     let turned = mul-neg p h.0 in
     (neg_ℤ h.0, omega (arith, ints))
+
+pub same_product : (p a b c d : ℤ) → Same p a b → Same p c d → Same p (a *ℤ c) (b *ℤ d)
+same_product p a b c d h g = same_on p (a *ℤ c) (b *ℤ c) (b *ℤ d) (same_times p c a b h) (same_mul p b c d g)

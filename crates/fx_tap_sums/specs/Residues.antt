@@ -1,17 +1,22 @@
 -- Integers modulo another one.
-use Rattle.std.specs.Prelude.{ℕ, ◌≡◌, ◌<◌, List, ℤ, pos, ◌*ℤ◌, ◌+ℤ◌, length, slice_index_or}
+use Rattle.std.specs.Prelude.{ℕ, ◌≡◌, ◌<◌, ◌≤◌, ◌-◌, ◌^◌, List, ℤ, pos, ◌*ℤ◌, ◌+ℤ◌, length, slice_index_or}
 
 -- equal but for a multiple of p
 abbrev pub Same : ℤ → ℤ → ℤ → Type 0
 Same p a b = (k : ℤ) × (a ≡ b +ℤ (p *ℤ k))
 
--- the modulus, a prime with a root of order 2,048
-abbrev pub modulus : ℕ
-modulus = 6269010681299730433
+-- a modulus that is at most 2^13 below 2^31
+abbrev pub IsModulus : ℕ → Type 0
+IsModulus p = (2 ^ 31 - 2 ^ 13 ≤ p) × (p < 2 ^ 31)
 
 -- numbers below p, as remainders modulo p are
 abbrev pub AreRemainders : ℕ → List ℕ → Type 0
 AreRemainders p xs = (i : ℕ) → i < length xs → slice_index_or xs i 0 < p
+
+-- four of them
+pub record AreFour (p : ℕ) (xs : List ℕ) : Type 0 where
+  pub four : length xs ≡ 4
+  pub less : (k : ℕ) → k < 4 → slice_index_or xs k 0 < p
 
 -- each remainder is the same as the number at its place of a list
 abbrev pub AreSame : ℕ → List ℕ → List ℤ → Type 0

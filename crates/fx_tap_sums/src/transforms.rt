@@ -1,10 +1,15 @@
-//! Sums of a long list of weights times the samples of a window, by transforms modulo a prime.
+//! Sums of a long list of weights times the samples of a window, by transforms modulo two primes.
 
 mod factor;
+mod lanes;
+mod leaf;
 mod loading;
+mod prepared;
+mod primes;
 mod remainders;
 mod roots;
 mod spectrum;
 mod transform;
+mod vectors;
 
 pub use spectrum::Spectrum;

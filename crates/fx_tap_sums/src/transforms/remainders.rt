@@ -1,50 +1,62 @@
-//! Remainders modulo a prime, and the numbers that have them.
-ghost use Rattle.std.specs.Prelude.{◌≡◌, ◌<◌, ◌≤◌, ◌*◌, ◌^◌, ℤ, pos, unsigned_abs};
-ghost use Rattle.fx_tap_sums.specs.Residues.{Same};
+//! Remainders modulo two primes, and the numbers that have them.
+ghost use Rattle.std.specs.Prelude.{◌≡◌, ◌<◌, ◌≤◌, ◌*◌, ◌-◌, ◌^◌, ℤ, pos, unsigned_abs};
+ghost use Rattle.fx_tap_sums.specs.Residues.{IsModulus, Same};
 
-/// The modulus, a prime: 87 * 2^56 + 1. It lies between 2^62 and 2^63.
-pub(crate) const MODULUS: u64 = 6_269_010_681_299_730_433;
+use super::factor::Factor;
 
-/// Half of the modulus, rounded down.
-const HALF: u64 = 3_134_505_340_649_865_216;
+/// The first modulus, a prime: 2^31 - 511.
+pub(crate) const FIRST: u32 = 2_147_483_137;
+
+/// The second modulus, a prime: 2^31 - 5,631.
+pub(crate) const SECOND: u32 = 2_147_478_017;
+
+/// Times the first modulus this is 1 modulo the second one.
+const INVERSE: u32 = 1_932_310_786;
+
+/// Half of the second modulus, rounded down.
+const HALF: u32 = 1_073_739_008;
+
+/// The product of the moduli.
+const PRODUCT: u64 = 4_611_672_828_585_699_329;
 
 /// The remainder of a number below twice the modulus.
 #[inline(always)]
-pub(crate) fn reduced(number: u64) -> u64
-    requires { number < 2 * MODULUS }
-    ensures less { result < MODULUS }
-    ensures same { Same (pos MODULUS) (pos result) (pos number) }
+pub(crate) fn reduced<const P: u32>(number: u32) -> u32
+    requires { number < 2 * P }
+    ensures less { result < P }
+    ensures same { Same (pos P) (pos result) (pos number) }
 {
-    if number < MODULUS {
-        number
+    if number < P { number } else { number - P }
+}
+
+/// A number below twice the modulus that has the remainder of a sample.
+#[inline(always)]
+pub(crate) fn remainder<const P: u32>(sample: i32) -> u32
+    requires { IsModulus P }
+    ensures less { result < 2 * P }
+    ensures same { Same (pos P) (pos result) sample }
+    ensures bound { unsigned_abs sample ≤ 2 ^ 31 }
+{
+    if sample < 0 {
+        2 * P - sample.unsigned_abs()
     } else {
-        number - MODULUS
+        sample as u32
     }
 }
 
-/// The remainder of a sample.
+/// The number of magnitude at most 2^61 - 2^43 that has a remainder modulo either prime.
 #[inline(always)]
-pub(crate) fn remainder(sample: i32) -> u64
-    ensures less { result < MODULUS }
-    ensures same { Same (pos MODULUS) (pos result) sample }
+pub(crate) fn joined(first: u32, second: u32) -> i64
+    requires first { first < FIRST }
+    requires second { second < SECOND }
+    ensures { (x : ℤ) → unsigned_abs x ≤ 2 ^ 61 - 2 ^ 43 → Same (pos FIRST) (pos first) x → Same (pos SECOND) (pos second) x → result ≡ x }
 {
-    let wide = i64::from(sample);
-    if wide < 0 {
-        (wide + MODULUS as i64) as u64
+    let inverse: Factor<SECOND> = Factor::of(INVERSE);
+    let turns = inverse.times(second + (SECOND - reduced::<SECOND>(first)));
+    let sum = u64::from(turns) * u64::from(FIRST) + u64::from(first);
+    if turns > HALF {
+        sum as i64 - PRODUCT as i64
     } else {
-        wide as u64
-    }
-}
-
-/// The number of magnitude at most 2^61 that has a remainder.
-#[inline(always)]
-pub(crate) fn centered(remainder: u64) -> i64
-    requires { remainder < MODULUS }
-    ensures { (x : ℤ) → unsigned_abs x ≤ 2 ^ 61 → Same (pos MODULUS) (pos remainder) x → result ≡ x }
-{
-    if remainder > HALF {
-        remainder as i64 - MODULUS as i64
-    } else {
-        remainder as i64
+        sum as i64
     }
 }

@@ -1,207 +1,168 @@
-//! Transforms of 2^levels remainders, in place. In the forward transform the numbers are only below twice the modulus, which
-//! saves a correction in each pair.
-ghost use Rattle.std.specs.Prelude.{◌≡◌, ◌<◌, ◌≤◌, ◌+◌, ◌*◌, ◌^◌, ℕ, ℤ, List, [], ◌∷◌, pos, neg_ℤ, ◌+ℤ◌, ◌-ℤ◌, ◌*ℤ◌, length, slice_index_or};
-ghost use Rattle.fx_tap_sums.specs.Residues.{Same, AreRemainders, AreSame};
+//! Transforms of 2^levels times four remainders, in place. In the forward transform the numbers are only below twice the
+//! modulus, which saves a correction in each pair.
+ghost use Rattle.std.specs.Prelude.{◌≡◌, ◌<◌, ◌≤◌, ◌+◌, ◌*◌, ◌^◌, ℕ, ℤ, List, pos, neg_ℤ, ◌+ℤ◌, ◌-ℤ◌, ◌*ℤ◌, ◌++◌, ◌-◌, length, slice_index_or};
+ghost use Rattle.fx_tap_sums.specs.Residues.{AreRemainders, AreSame, IsModulus, Same};
 ghost use Rattle.fx_tap_sums.specs.Transform.{AreRoots, IsProduct, IsTransform, root_at};
 
 use super::factor::Factor;
-use super::remainders::{MODULUS, reduced};
-
-/// `low + root * high` and `low - root * high`, below twice the modulus as `low` is.
-#[inline(always)]
-fn spread_pair(root: Factor, low: u64, high: u64) -> (u64, u64)
-    requires low { low < 2 * MODULUS }
-    ensures low { result.0 < 2 * MODULUS }
-    ensures high { result.1 < 2 * MODULUS }
-    ensures plus { Same (pos MODULUS) (pos result.0) (pos low +ℤ (pos root *ℤ pos high)) }
-    ensures minus { Same (pos MODULUS) (pos result.1) (pos low +ℤ (neg_ℤ (pos root) *ℤ pos high)) }
-{
-    let part = root.times(high);
-    let rest = reduced(low);
-    (rest + part, rest + (MODULUS - part))
-}
-
-/// `low + high` and `inverse * (low - high)`, remainders as both are.
-#[inline(always)]
-fn gather_pair(inverse: Factor, low: u64, high: u64) -> (u64, u64)
-    requires low { low < MODULUS }
-    requires high { high < MODULUS }
-    ensures low { result.0 < MODULUS }
-    ensures high { result.1 < MODULUS }
-    ensures plus { Same (pos MODULUS) (pos result.0) (pos low +ℤ pos high) }
-    ensures minus { Same (pos MODULUS) (pos result.1) (pos inverse *ℤ (pos low -ℤ pos high)) }
-{
-    (reduced(low + high), inverse.times(low + (MODULUS - high)))
-}
+use super::lanes::{gather_four, opposite_four, reduced_four, spread_four};
+use super::leaf::multiply_four;
+use super::vectors::{load, put};
 
 /// Sets each pair of numbers to `low + root * high` and `low - root * high`, all below twice the modulus.
 #[inline(always)]
-fn spread(root: Factor, low: &mut [u64], high: &mut [u64])
+fn spread<const P: u32>(root: Factor<P>, low: &mut [u32], high: &mut [u32])
+    requires modulus { IsModulus P }
+    requires groups { (n : ℕ) × (length low.old ≡ 4 * n) }
     requires as_many { length low.old ≡ length high.old }
-    requires low { AreRemainders (2 * MODULUS) low.old }
-    requires high { AreRemainders (2 * MODULUS) high.old }
-    ensures low { AreRemainders (2 * MODULUS) low.new }
-    ensures high { AreRemainders (2 * MODULUS) high.new }
-    ensures plus { (i : ℕ) → i < length low.new → Same (pos MODULUS) (pos (slice_index_or low.new i 0)) (pos (slice_index_or low.old i 0) +ℤ (pos root *ℤ pos (slice_index_or high.old i 0))) }
-    ensures minus { (i : ℕ) → i < length low.new → Same (pos MODULUS) (pos (slice_index_or high.new i 0)) (pos (slice_index_or low.old i 0) +ℤ (neg_ℤ (pos root) *ℤ pos (slice_index_or high.old i 0))) }
+    requires low { AreRemainders (2 * P) low.old }
+    requires high { AreRemainders (2 * P) high.old }
+    ensures low { AreRemainders (2 * P) low.new }
+    ensures high { AreRemainders (2 * P) high.new }
+    ensures plus { (i : ℕ) → i < length low.new → Same (pos P) (pos (slice_index_or low.new i 0)) (pos (slice_index_or low.old i 0) +ℤ (pos root.entry *ℤ pos (slice_index_or high.old i 0))) }
+    ensures minus { (i : ℕ) → i < length low.new → Same (pos P) (pos (slice_index_or high.new i 0)) (pos (slice_index_or low.old i 0) +ℤ (neg_ℤ (pos root.entry) *ℤ pos (slice_index_or high.old i 0))) }
 {
-    'pairs: for place in 0..low.len() {
-        let pair: (u64, u64) = spread_pair(root, low[place], high[place]);
-        low[place] = pair.0;
-        high[place] = pair.1;
+    'groups: for group in 0..low.len() / 4 {
+        let at = 4 * group;
+        let (plus, minus) = spread_four(root, load(low, at), load(high, at));
+        put(low, at, plus);
+        put(high, at, minus);
     }
 }
 
 /// Sets each pair of numbers to `low + high` and `inverse * (low - high)`.
 #[inline(always)]
-fn gather(inverse: Factor, low: &mut [u64], high: &mut [u64])
+fn gather<const P: u32>(inverse: Factor<P>, low: &mut [u32], high: &mut [u32])
+    requires modulus { IsModulus P }
+    requires groups { (n : ℕ) × (length low.old ≡ 4 * n) }
     requires as_many { length low.old ≡ length high.old }
-    requires low { AreRemainders MODULUS low.old }
-    requires high { AreRemainders MODULUS high.old }
-    ensures low { AreRemainders MODULUS low.new }
-    ensures high { AreRemainders MODULUS high.new }
-    ensures plus { (i : ℕ) → i < length low.new → Same (pos MODULUS) (pos (slice_index_or low.new i 0)) (pos (slice_index_or low.old i 0) +ℤ pos (slice_index_or high.old i 0)) }
-    ensures minus { (i : ℕ) → i < length low.new → Same (pos MODULUS) (pos (slice_index_or high.new i 0)) (pos inverse *ℤ (pos (slice_index_or low.old i 0) -ℤ pos (slice_index_or high.old i 0))) }
+    requires low { AreRemainders P low.old }
+    requires high { AreRemainders P high.old }
+    ensures low { AreRemainders P low.new }
+    ensures high { AreRemainders P high.new }
+    ensures plus { (i : ℕ) → i < length low.new → Same (pos P) (pos (slice_index_or low.new i 0)) (pos (slice_index_or low.old i 0) +ℤ pos (slice_index_or high.old i 0)) }
+    ensures minus { (i : ℕ) → i < length low.new → Same (pos P) (pos (slice_index_or high.new i 0)) (pos inverse.entry *ℤ (pos (slice_index_or low.old i 0) -ℤ pos (slice_index_or high.old i 0))) }
 {
-    'pairs: for place in 0..low.len() {
-        let pair: (u64, u64) = gather_pair(inverse, low[place], high[place]);
-        low[place] = pair.0;
-        high[place] = pair.1;
+    'groups: for group in 0..low.len() / 4 {
+        let at = 4 * group;
+        let (plus, minus) = gather_four(inverse, load(low, at), load(high, at));
+        put(low, at, plus);
+        put(high, at, minus);
     }
 }
 
-/// Transforms 2^levels numbers in reverse order, from a place of the table of roots on.
-pub(crate) fn forward(roots: &[Factor], levels: usize, place: usize, values: &mut [u64])
-    requires table { length roots.now ≡ 1024 }
-    requires power { length values.old ≡ 2 ^ levels }
+/// What is known of halves of 2^levels times four numbers: what the next levels ask for.
+#[inline(always)]
+fn are_halves(levels: usize, place: usize, low: usize, high: usize)
+    requires levels { 0 < levels }
+    requires same { low ≡ high }
+    requires power { low + high ≡ 4 * 2 ^ levels }
+    requires place { (place + 1) * (low + high) ≤ 2048 }
+    ensures low { low ≡ 4 * 2 ^ (levels - 1) }
+    ensures high { high ≡ 4 * 2 ^ (levels - 1) }
+    ensures left { (2 * place + 1) * low ≤ 2048 }
+    ensures left_high { (2 * place + 1) * high ≤ 2048 }
+    ensures right { (2 * place + 1 + 1) * low ≤ 2048 }
+    ensures right_high { (2 * place + 1 + 1) * high ≤ 2048 }
+{}
+
+/// What is known of parts of remainders.
+#[inline(always)]
+fn are_parts<const P: u32>(whole: &[u32], front: &[u32], back: &[u32])
+    requires whole { AreRemainders P whole.now }
+    requires both { whole.now ≡ front.now ++ back.now }
+    ensures front { AreRemainders P front.now }
+    ensures back { AreRemainders P back.now }
+{}
+
+/// Transforms 2^levels times four numbers in reverse order, from a place of the table of roots on.
+pub(crate) fn forward<const P: u32>(
+    roots: &[Factor<P>],
+    levels: usize,
+    place: usize,
+    values: &mut [u32],
+)
+    requires modulus { IsModulus P }
+    requires table { length roots.now ≡ 256 }
+    requires power { length values.old ≡ 4 * 2 ^ levels }
     requires place { (place + 1) * length values.old ≤ 2048 }
-    requires values { AreRemainders (2 * MODULUS) values.old }
-    ensures values { AreRemainders MODULUS values.new }
-    ensures transform { (h : List ℤ) → length h ≡ length values.old → AreSame MODULUS values.old h → IsTransform MODULUS roots.now levels place h values.new }
+    requires values { AreRemainders (2 * P) values.old }
+    ensures values { AreRemainders P values.new }
+    ensures transform { (h : List ℤ) → length h ≡ length values.old → AreSame P values.old h → IsTransform P roots.now levels place h values.new }
 {
     if levels == 0 {
-        values[0] = reduced(values[0]);
+        put(values, 0, reduced_four::<P>(load(values, 0)));
         return;
     }
     let half = values.len() / 2;
     let (low, high) = values.split_at_mut(half);
     spread(roots[place], high, low);
+    are_halves(levels, place, low.len(), high.len());
     forward(roots, levels - 1, 2 * place, high);
     forward(roots, levels - 1, 2 * place + 1, low);
 }
 
-/// Multiplies two numbers by those whose transform is `other` and `front`, modulo x^2 - s, where s is the square of the root.
+/// As `multiply`, eight numbers.
 #[inline(always)]
-fn multiply_two(
-    root: Factor,
-    inverse: Factor,
-    other: Factor,
-    front: Factor,
-    low: u64,
-    high: u64,
-) -> (u64, u64)
-    requires inverse { Same (pos MODULUS) (pos inverse *ℤ pos root) (pos 1) }
-    requires low { low < 2 * MODULUS }
-    ensures low { result.0 < MODULUS }
-    ensures high { result.1 < MODULUS }
-    ensures product { (roots : List ℕ) (place : ℕ) (s : ℤ) (a h : List ℤ) → slice_index_or roots place 0 ≡ root → Same (pos MODULUS) (pos root *ℤ pos root) s → length a ≡ 2 → length h ≡ 2 → AreSame MODULUS (low ∷ high ∷ []) a → IsTransform MODULUS roots 1 place h (other ∷ front ∷ []) → IsProduct MODULUS 2 s a h (result.0 ∷ result.1 ∷ []) }
-{
-    let parts: (u64, u64) = spread_pair(root, low, high);
-    gather_pair(inverse, front.times(parts.0), other.times(parts.1))
-}
-
-/// As `multiply`, four numbers.
-#[inline(always)]
-fn multiply_four(
-    roots: &[Factor],
-    inverses: &[Factor],
-    place: usize,
-    spectrum: &[Factor],
-    values: &mut [u64],
+fn multiply_eight<const P: u32>(
+    root: Factor<P>,
+    inverse: Factor<P>,
+    spectrum: &[u32],
+    values: &mut [u32],
 )
-    requires table { length roots.now ≡ 1024 }
-    requires beside { length inverses.now ≡ 1024 }
-    requires are { AreRoots MODULUS roots.now inverses.now }
-    requires four { length values.old ≡ 4 }
-    requires as_many { length spectrum.now ≡ 4 }
-    requires place { place < 512 }
-    requires values { AreRemainders (2 * MODULUS) values.old }
-    ensures values { AreRemainders MODULUS values.new }
-    ensures product { (s : ℤ) (a h : List ℤ) → Same (pos MODULUS) (root_at roots.now place *ℤ root_at roots.now place) s → length a ≡ 4 → length h ≡ 4 → AreSame MODULUS values.old a → IsTransform MODULUS roots.now 2 place h spectrum.now → IsProduct MODULUS 4 s a h values.new }
+    requires modulus { IsModulus P }
+    requires inverse { Same (pos P) (pos inverse *ℤ pos root) (pos 1) }
+    requires eight { length values.old ≡ 8 }
+    requires as_many { length spectrum.now ≡ 8 }
+    requires spectrum { AreRemainders P spectrum.now }
+    requires values { AreRemainders (2 * P) values.old }
+    ensures values { AreRemainders P values.new }
+    ensures product { (roots : List ℕ) (place : ℕ) (s : ℤ) (a h : List ℤ) → slice_index_or roots place 0 ≡ root.entry → Same (pos P) (pos root.entry *ℤ pos root.entry) s → length a ≡ 8 → length h ≡ 8 → AreSame P values.old a → IsTransform P roots 1 place h spectrum.now → IsProduct P 2 s a h values.new }
 {
-    let root = roots[place];
-    let first: (u64, u64) = spread_pair(root, values[0], values[2]);
-    let second: (u64, u64) = spread_pair(root, values[1], values[3]);
-    let even = 2 * place;
-    let low: (u64, u64) = multiply_two(
-        roots[even],
-        inverses[even],
-        spectrum[2],
-        spectrum[3],
-        first.0,
-        second.0,
-    );
-    let odd = 2 * place + 1;
-    let high: (u64, u64) = multiply_two(
-        roots[odd],
-        inverses[odd],
-        spectrum[0],
-        spectrum[1],
-        first.1,
-        second.1,
-    );
-    let inverse = inverses[place];
-    let first: (u64, u64) = gather_pair(inverse, low.0, high.0);
-    let second: (u64, u64) = gather_pair(inverse, low.1, high.1);
-    values[0] = first.0;
-    values[1] = second.0;
-    values[2] = first.1;
-    values[3] = second.1;
+    let (low, high) = spread_four(root, load(values, 0), load(values, 4));
+    let front = load(spectrum, 4);
+    let low = multiply_four::<P>(low, front, root.times_four(front));
+    let back = load(spectrum, 0);
+    let high = multiply_four::<P>(high, back, opposite_four::<P>(root.times_four(back)));
+    let (low, high) = gather_four(inverse, low, high);
+    put(values, 0, low);
+    put(values, 4, high);
 }
 
-/// Multiplies 2^levels numbers, at least four, by those whose transform is stored backwards in a spectrum, modulo x^n - s,
-/// where s is the square of the root at a place of the table.
-pub(crate) fn multiply(
-    roots: &[Factor],
-    inverses: &[Factor],
+/// Multiplies 2^levels times four numbers, at least eight, by those whose transform is stored backwards in a spectrum, modulo
+/// x^n - s, where s is the square of the root at a place of the table.
+pub(crate) fn multiply<const P: u32>(
+    roots: &[Factor<P>],
+    inverses: &[Factor<P>],
     levels: usize,
     place: usize,
-    spectrum: &[Factor],
-    values: &mut [u64],
+    spectrum: &[u32],
+    values: &mut [u32],
 )
-    requires table { length roots.now ≡ 1024 }
-    requires beside { length inverses.now ≡ 1024 }
-    requires are { AreRoots MODULUS roots.now inverses.now }
-    requires levels { 2 ≤ levels }
-    requires power { length values.old ≡ 2 ^ levels }
+    requires modulus { IsModulus P }
+    requires table { length roots.now ≡ 256 }
+    requires beside { length inverses.now ≡ 256 }
+    requires are { AreRoots P roots.now inverses.now }
+    requires levels { 1 ≤ levels }
+    requires power { length values.old ≡ 4 * 2 ^ levels }
     requires as_many { length spectrum.now ≡ length values.old }
     requires place { (place + 1) * length values.old ≤ 2048 }
-    requires values { AreRemainders (2 * MODULUS) values.old }
-    ensures values { AreRemainders MODULUS values.new }
-    ensures product { (s : ℤ) (a h : List ℤ) → Same (pos MODULUS) (root_at roots.now place *ℤ root_at roots.now place) s → length a ≡ length values.old → length h ≡ length values.old → AreSame MODULUS values.old a → IsTransform MODULUS roots.now levels place h spectrum.now → IsProduct MODULUS (length values.old) s a h values.new }
+    requires spectrum { AreRemainders P spectrum.now }
+    requires values { AreRemainders (2 * P) values.old }
+    ensures values { AreRemainders P values.new }
+    ensures product { (s : ℤ) (a h : List ℤ) → Same (pos P) (root_at roots.now place *ℤ root_at roots.now place) s → length a ≡ length values.old → length h ≡ length values.old → AreSame P values.old a → IsTransform P roots.now levels place h spectrum.now → IsProduct P (2 ^ levels) s a h values.new }
 {
-    if levels == 2 {
-        multiply_four(roots, inverses, place, spectrum, values);
+    if levels == 1 {
+        multiply_eight(roots[place], inverses[place], spectrum, values);
         return;
     }
     let half = values.len() / 2;
     let (low, high) = values.split_at_mut(half);
     spread(roots[place], low, high);
-    multiply(
-        roots,
-        inverses,
-        levels - 1,
-        2 * place,
-        &spectrum[half..],
-        low,
-    );
-    multiply(
-        roots,
-        inverses,
-        levels - 1,
-        2 * place + 1,
-        &spectrum[..half],
-        high,
-    );
+    let (front, back) = spectrum.split_at(half);
+    are_halves(levels, place, low.len(), high.len());
+    are_parts::<P>(spectrum, front, back);
+    multiply(roots, inverses, levels - 1, 2 * place, back, low);
+    multiply(roots, inverses, levels - 1, 2 * place + 1, front, high);
     gather(inverses[place], low, high);
 }

@@ -1,4 +1,4 @@
-use Rattle.std.proofs.Common.{rules, arith, ◌≡◌, refl, List, ℤ, length}
+use Rattle.std.proofs.Common.{rules, arith, ◌≡◌, List, ℤ, length}
 use Rattle.std.specs.Vec.{with_items}
 use Rattle.std.proofs.lemmas.List.{take_at}
 use Rattle.fx_tap_sums.proofs.PartSums.{interval-of-parts, tables-of-parts}

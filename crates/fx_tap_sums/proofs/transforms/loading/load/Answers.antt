@@ -1,29 +1,43 @@
-use Rattle.std.proofs.Common.{arith, rules, ◌≡◌, ◌<◌, ◌≤◌, ◌^◌, suc, unsigned_abs, below_more, ℤ, pos, ◌∷◌, length, get_or, to_z, of_z, w32}
-use Rattle.std.proofs.lemmas.Bool.{cases_lt}
-use Rattle.std.proofs.lemmas.List.{get_or_past}
-use mathlib.Core.Logic.{inl, inr}
-use Rattle.fx_tap_sums.specs.Residues.{Same, modulus}
+use Rattle.std.proofs.Common.{arith, rules, refl, ◌≡◌, ◌<◌, ◌≤◌, ◌+◌, ◌*◌, ◌^◌, ℕ, suc, unsigned_abs, below_more, ℤ, pos, ◌∷◌, length, get_or, to_z, of_z, w32}
+use Rattle.std.proofs.lemmas.List.{get_or_past, length-set}
+use Rattle.fx_tap_sums.specs.Residues.{Same}
+use Rattle.fx_tap_sums.proofs.Residues.{same_refl}
 use Rattle.fx_tap_sums.proofs.Writes.{each_more}
 use Rattle.fx_tap_sums.proofs.transforms.loading.load.Goals as goal
 
-pub places-preserved : goal.places-preserved
-places-preserved c =
-    let i = c.places.place in
-    let p : ℤ = pos modulus in
-    let lt : i < length c.places.values = omega arith in
-    let back : to_z w32 (of_z w32 c.sample_before.result) ≡ c.sample_before.result = search rules in
-    let is : Same p (pos c.remainder.result) (get_or (pos 0 ∷ c.args.window.now) i (pos 0)) = rw (back, c.sample_before.ensures.sample) at c.remainder.ensures.same in
-    let bound : unsigned_abs (get_or (pos 0 ∷ c.args.window.now) i (pos 0)) ≤ 2 ^ 31 = rw c.sample_before.ensures.sample at c.sample_before.ensures.bound in
+pub samples-init : goal.samples-init
+samples-init g c =
+    let p : ℤ = pos g.row.P in
     record {
-      samples = below_more (λ k. unsigned_abs (get_or (pos 0 ∷ c.args.window.now) k (pos 0)) ≤ 2 ^ 31) i c.places.invariant.samples bound;
-      remainders = each_more 0 (λ k v. v < modulus) c.places.values i c.remainder.result lt c.remainder.ensures.less c.places.invariant.remainders;
-      same = each_more 0 (λ k v. Same p (pos v) (get_or (pos 0 ∷ c.args.window.now) k (pos 0))) c.places.values i c.remainder.result lt is c.places.invariant.same;
+      remainders = each_more 0 (λ k v. v < 2 * g.row.P) c.args.values.now 0 0 (omega (arith, c.requires.values)) (omega (arith, c.requires.modulus)) (λ k h. absurd (omega arith));
+      samples = λ k h. absurd (omega arith);
+      same = each_more 0 (λ k v. Same p (pos v) (get_or (pos 0 ∷ c.args.window.now) k (pos 0))) c.args.values.now 0 0 (omega (arith, c.requires.values)) (same_refl p (pos 0)) (λ k h. absurd (omega arith));
     }
 
-pub returns-clause-samples : goal.returns-clause-samples
-returns-clause-samples c = λ k.
-    let w = c.args.window.now in
-    elim (cases_lt k (length w)) [
-      | inl below ↦ c.places.invariant.samples (suc k) (omega arith)
-      | inr above ↦ rw (get_or_past w k (pos 0) above) (omega arith)
-    ]
+pub samples-preserved : goal.samples-preserved
+samples-preserved g c =
+    let p : ℤ = pos g.row.P in
+    let i = c.samples.place in
+    let x : ℤ = get_or c.args.window.now i (pos 0) in
+    let lt : i + 1 < length c.samples.values = omega (arith, c.samples.auto.values, c.requires.values, c.requires.window, length-set {A = ℕ}) in
+    let back : to_z w32 (of_z w32 x) ≡ x = search rules in
+    let next : i + 1 ≡ suc i = omega arith in
+    let here : get_or (pos 0 ∷ c.args.window.now) (i + 1) (pos 0) ≡ x = rw next refl in
+    let is : Same p (pos c.remainder.result) x = rw back at c.remainder.ensures.same in
+    let bound : unsigned_abs x ≤ 2 ^ 31 = rw back at c.remainder.ensures.bound in
+    record {
+      remainders = each_more 0 (λ k v. v < 2 * g.row.P) c.samples.values (i + 1) c.remainder.result lt c.remainder.ensures.less c.samples.invariant.remainders;
+      samples = below_more (λ k. unsigned_abs (get_or c.args.window.now k (pos 0)) ≤ 2 ^ 31) i c.samples.invariant.samples bound;
+      same = each_more 0 (λ k v. Same p (pos v) (get_or (pos 0 ∷ c.args.window.now) k (pos 0))) c.samples.values (i + 1) c.remainder.result lt (rw here is) c.samples.invariant.same;
+    }
+
+pub rest-preserved : goal.rest-preserved
+rest-preserved g c =
+    let p : ℤ = pos g.row.P in
+    let i = c.rest.place in
+    let lt : i < length c.rest.values = omega arith in
+    let nothing : get_or (pos 0 ∷ c.args.window.now) i (pos 0) ≡ pos 0 = get_or_past (pos 0 ∷ c.args.window.now) i (pos 0) (omega arith) in
+    record {
+      remainders = each_more 0 (λ k v. v < 2 * g.row.P) c.rest.values i 0 lt (omega (arith, c.requires.modulus)) c.rest.invariant.remainders;
+      same = each_more 0 (λ k v. Same p (pos v) (get_or (pos 0 ∷ c.args.window.now) k (pos 0))) c.rest.values i 0 lt (rw nothing (same_refl p (pos 0))) c.rest.invariant.same;
+    }

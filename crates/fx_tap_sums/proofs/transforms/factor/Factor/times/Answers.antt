@@ -1,30 +1,30 @@
 use Rattle.std.proofs.Common.{arith, ◌-◌, ◌*◌, ◌/◌, ◌^◌, ℕ, pos}
-use Rattle.fx_tap_sums.specs.Residues.{Same, modulus}
+use Rattle.fx_tap_sums.specs.Residues.{Same}
 use Rattle.fx_tap_sums.proofs.Factors.{product_low, product_high}
 use Rattle.fx_tap_sums.proofs.Residues.{same_less, same_on}
 use Rattle.fx_tap_sums.proofs.transforms.factor.Factor.times.Goals as goal
 
-pub overflow_sub-rest : goal.overflow_sub-rest
-overflow_sub-rest c =
-    let low = product_low c.self.inside.value c.args.number c.self.inside.quotient c.self.invariant.1 in
+pub overflow_sub-product : goal.overflow_sub-product
+overflow_sub-product g c =
+    let low = product_low g.row.P c.self.inside.value c.args.number c.self.inside.quotient c.self.invariant.1 in
     rw (c.from.ensures, c.from-2.ensures, c.from-3.ensures, c.from-4.ensures, c.from-5.ensures) low
 
-pub overflow_cast-rest : goal.overflow_cast-rest
-overflow_cast-rest c =
-    let high = product_high c.self.inside.value c.args.number c.self.inside.quotient c.self.invariant.1 (omega arith) in
+pub overflow_cast-product : goal.overflow_cast-product
+overflow_cast-product g c =
+    let high = product_high g.row.P c.self.inside.value c.args.number c.self.inside.quotient (omega (arith, c.requires)) c.self.invariant.1 (omega arith) in
     rw (c.from.ensures, c.from-2.ensures, c.from-3.ensures, c.from-4.ensures, c.from-5.ensures) (omega (arith, high))
 
 pub reduced-requires : goal.reduced-requires
-reduced-requires c =
-    let high = product_high c.self.inside.value c.args.number c.self.inside.quotient c.self.invariant.1 (omega arith) in
+reduced-requires g c =
+    let high = product_high g.row.P c.self.inside.value c.args.number c.self.inside.quotient (omega (arith, c.requires)) c.self.invariant.1 (omega arith) in
     rw (c.from.ensures, c.from-2.ensures, c.from-3.ensures, c.from-4.ensures, c.from-5.ensures) (omega (arith, high))
 
 pub returns-clause-same : goal.returns-clause-same
-returns-clause-same c =
+returns-clause-same g c =
     let v : ℕ = c.self.inside.value in
     let n : ℕ = c.args.number in
-    let t : ℕ = (c.self.inside.quotient * n) / 2 ^ 64 in
-    let low = product_low v n c.self.inside.quotient c.self.invariant.1 in
-    let rest : Same (pos modulus) (pos c.reduced.result) (pos (v * n - t * modulus)) = rw (c.from.ensures, c.from-2.ensures, c.from-3.ensures, c.from-4.ensures, c.from-5.ensures) at c.reduced.ensures.same in
+    let t : ℕ = (c.self.inside.quotient * n) / 2 ^ 32 in
+    let low = product_low g.row.P v n c.self.inside.quotient c.self.invariant.1 in
+    let rest : Same (pos g.row.P) (pos c.reduced.result) (pos (v * n - t * g.row.P)) = rw (c.from.ensures, c.from-2.ensures, c.from-3.ensures, c.from-4.ensures, c.from-5.ensures) at c.reduced.ensures.same in
     rw (← c.self.view_is)
-    (same_on (pos modulus) (pos c.reduced.result) (pos (v * n - t * modulus)) (pos (v * n)) rest (same_less modulus (v * n - t * modulus) (v * n) t (omega (arith, low))))
+    (same_on (pos g.row.P) (pos c.reduced.result) (pos (v * n - t * g.row.P)) (pos (v * n)) rest (same_less g.row.P (v * n - t * g.row.P) (v * n) t (omega (arith, low))))

@@ -1,0 +1,64 @@
+use Rattle.std.proofs.Common.{arith, ◌<◌, ◌≤◌, ◌≡◌, ◌+◌, ◌-◌, ◌*◌, ◌∙◌, ap, refl, ℕ, ℤ, pos, neg_ℤ, ◌*ℤ◌, length, take, drop, slice_index_or}
+use Rattle.std.proofs.lemmas.Bool.{cases_lt}
+use Rattle.std.proofs.lemmas.List.{length-take-le, length-drop}
+use mathlib.Core.Logic.{inl, inr}
+use Rattle.fx_tap_sums.specs.Residues.{Same}
+use Rattle.fx_tap_sums.specs.Transform.{combined, root_at}
+use Rattle.fx_tap_sums.proofs.Cyclic.{length-combined}
+use Rattle.fx_tap_sums.proofs.Numbers.{neg-mul}
+use Rattle.fx_tap_sums.proofs.Residues.{same_on, same_negated}
+use Rattle.fx_tap_sums.proofs.Steps.{Halved, halved, both_transforms, one_transform, combined_same, loaded_front, loaded_back, loaded_take, loaded_drop, product_at}
+use Rattle.fx_tap_sums.proofs.transforms.transform.multiply_eight.Goals as goal
+
+pub returns-clause-values : goal.returns-clause-values
+returns-clause-values g c = λ i lt. elim (cases_lt i 4) [
+  | inl below ↦
+      let first : 0 + i ≡ i = omega arith in
+      let is : slice_index_or c.put-2.new.numbers i 0 ≡ slice_index_or c.gather_four.result.0 i 0 = c.put-2.ensures.before i below ∙ rw first at (c.put.ensures.put i below) in
+      rw is (c.gather_four.ensures.low.less i below)
+  | inr above ↦
+      let place : 4 + (i - 4) ≡ i = omega arith in
+      let k : i - 4 < 4 = omega (arith, lt, c.put.auto.numbers, c.put-2.auto.numbers, c.requires.eight) in
+      rw place at (rw (← c.put-2.ensures.put (i - 4) k) at (c.gather_four.ensures.high.less (i - 4) k))
+]
+
+pub returns-clause-product : goal.returns-clause-product
+returns-clause-product g c = λ roots place s a h root square a_long h_long same transform.
+    let p = g.row.P in
+    let v = c.args.values.now in
+    let f = c.args.spectrum.now in
+    let r : ℤ = pos c.args.root in
+    let half : Halved 1 8 0 4 = halved 1 8 refl (omega arith) in
+    let root_is : root_at roots place ≡ r = ap pos root in
+    let parts = rw root_is at (both_transforms p roots 1 8 0 4 place h f half transform) in
+    let v_long : 8 ≤ length v = omega (arith, c.requires.eight) in
+    let f_long : 8 ≤ length f = omega (arith, c.requires.as_many) in
+    let front = loaded_drop p f c.load-front.result (combined r (drop 4 h) (take 4 h)) c.load-front.ensures.four f_long c.load-front.ensures.value (one_transform p roots 0 (2 * place) (combined r (drop 4 h) (take 4 h)) (drop 4 f) refl parts.0) in
+    let back = loaded_take p f c.load-back.result (combined (neg_ℤ r) (drop 4 h) (take 4 h)) c.load-back.ensures.four (omega (arith, f_long)) c.load-back.ensures.value (one_transform p roots 0 (2 * place + 1) (combined (neg_ℤ r) (drop 4 h) (take 4 h)) (take 4 f) refl parts.1) in
+    let a0 = length-take-le 4 a (omega arith) in
+    let a1 = length-drop 4 a in
+    let h0 = length-take-le 4 h (omega arith) in
+    let h1 = length-drop 4 h in
+    let low = loaded_front p v c.load.result a c.load.ensures.four (omega (arith, v_long)) c.load.ensures.value same in
+    let high = loaded_back p v c.load-2.result a c.load-2.ensures.four v_long c.load-2.ensures.value same in
+    let plus_four = c.spread_four.ensures.low.four in
+    let minus_four = c.spread_four.ensures.high.four in
+    let low_four = c.load.ensures.four in
+    let high_four = c.load-2.ensures.four in
+    let x = combined_same p r (take 4 a) (drop 4 a) c.load.result c.load-2.result c.spread_four.result.0 (omega arith) (omega arith) (omega arith) (omega arith) low high (λ i lt. c.spread_four.ensures.plus i (omega arith)) in
+    let y = combined_same p (neg_ℤ r) (take 4 a) (drop 4 a) c.load.result c.load-2.result c.spread_four.result.1 (omega arith) (omega arith) (omega arith) (omega arith) low high (λ i lt. c.spread_four.ensures.minus i (omega arith)) in
+    let left_a = length-combined r (take 4 a) (drop 4 a) (omega arith) in
+    let left_h = length-combined r (drop 4 h) (take 4 h) (omega arith) in
+    let right_a = length-combined (neg_ℤ r) (take 4 a) (drop 4 a) (omega arith) in
+    let right_h = length-combined (neg_ℤ r) (drop 4 h) (take 4 h) (omega arith) in
+    let opposite : (k : ℕ) → k < 4 → Same (pos p) (pos (slice_index_or c.opposite_four.result k 0)) (neg_ℤ r *ℤ pos (slice_index_or c.load-back.result k 0)) = λ k l.
+    let turned = neg-mul r (pos (slice_index_or c.load-back.result k 0)) in
+    rw turned (same_on (pos p) (pos (slice_index_or c.opposite_four.result k 0)) (neg_ℤ (pos (slice_index_or c.times_four-2.result k 0))) (neg_ℤ (r *ℤ pos (slice_index_or c.load-back.result k 0))) (c.opposite_four.ensures.same k l) (same_negated (pos p) (pos (slice_index_or c.times_four-2.result k 0)) (r *ℤ pos (slice_index_or c.load-back.result k 0)) (c.times_four-2.ensures.same k l))) in
+    let left = c.multiply_four-low.ensures.product r (combined r (take 4 a) (drop 4 a)) (combined r (drop 4 h) (take 4 h)) (omega arith) (omega arith) x front c.times_four.ensures.same in
+    let right = c.multiply_four-high.ensures.product (neg_ℤ r) (combined (neg_ℤ r) (take 4 a) (drop 4 a)) (combined (neg_ℤ r) (drop 4 h) (take 4 h)) (omega arith) (omega arith) y back opposite in
+    product_at p 4 1 s r (pos c.args.inverse) a h c.multiply_four-low.result c.multiply_four-high.result c.put-2.new.numbers refl a_long h_long square c.requires.inverse left right
+    (λ i lt.
+    let first : 0 + i ≡ i = omega arith in
+    let is : slice_index_or c.put-2.new.numbers i 0 ≡ slice_index_or c.gather_four.result.0 i 0 = c.put-2.ensures.before i lt ∙ rw first at (c.put.ensures.put i lt) in
+    rw is (c.gather_four.ensures.plus i lt))
+    (λ i lt. rw (c.put-2.ensures.put i lt) (c.gather_four.ensures.minus i lt))
