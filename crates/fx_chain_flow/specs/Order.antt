@@ -35,7 +35,7 @@ module _ {S R : Type 0} (acts : Acts S R) (handed : List S → StageCall → Lis
     -- a stage was given the end
     end_went_on : (xs gs : List Samples) (place : ℕ) (f : Parts S) (stages : List S) → InOrder first xs gs [] 0 f → handed f.stages (end_to place) stages → FitsHold acts [] 0 (record f { stages = stages })
         → InOrder first xs gs [] 0 (record f { stages = stages })
-    -- frames came past the empty inlet, one at a time, each through all stages before the next, and some came out
+    -- frames came past the empty inlet and went through all stages in one call, and some came out
     went_through : (xs gs ys zs : List Samples) (f : Parts S) (stages : List S) → InOrder first xs gs [] 0 f → f.inlet ≡ None → handed f.stages (through_all ys zs) stages → FitsHold acts [] 0 (record f { stages = stages; left = f.left + length ys })
         → InOrder first (xs ++ ys) (gs ++ zs) [] 0 (record f { stages = stages; left = f.left + length ys })
     -- the frames past the last stage went out

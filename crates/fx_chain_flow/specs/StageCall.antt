@@ -13,7 +13,8 @@ pub data StageCall : Type 0 where
   at_stage : (place : ℕ) (taken given : List Samples) → StageCall
   -- the stage at a place was given the end
   end_to : (place : ℕ) → StageCall
-  -- these frames came, one at a time, and each went through all stages before the next came; those came out
+  -- these frames came and went through all stages in one call, each through all before the next, or as groups that the stages
+  -- have space for; those came out
   through_all : (taken given : List Samples) → StageCall
 
 -- the frames that a stage gave for the one that it was passed
