@@ -363,28 +363,14 @@ fn copy_batch<T: Copy>(from: &[T], to: &mut [T])
     requires { length to.old ≡ length from.now }
     ensures { to.new ≡ from.now }
 {
-    // Copies of a known number of samples need no call. Most batches have so few.
+    // Copies of a known number of samples need no call: 4 or 5 frames of one or two channels are most batches.
     match from.len() {
         4 => to[..4].copy_from_slice(&from[..4]),
         5 => to[..5].copy_from_slice(&from[..5]),
         8 => to[..8].copy_from_slice(&from[..8]),
-        6..=7 => copy_ends(from, to, 4),
-        9..=16 => copy_ends(from, to, 8),
+        10 => to[..10].copy_from_slice(&from[..10]),
         _ => to.copy_from_slice(from),
     }
-}
-
-/// Copies samples over as many others: `count` at the front, and `count` at the end, some of which may be the same.
-#[inline(always)]
-fn copy_ends<T: Copy>(from: &[T], to: &mut [T], count: usize)
-    requires places { length to.old ≡ length from.now }
-    requires bound { count ≤ length from.now }
-    requires all { length from.now ≤ count + count }
-    ensures { to.new ≡ from.now }
-{
-    let rest = from.len() - count;
-    to[..count].copy_from_slice(&from[..count]);
-    to[rest..].copy_from_slice(&from[rest..]);
 }
 
 /// Writes the same sample to each place.
