@@ -170,10 +170,10 @@ mid_at at m k sums new le lt =
     ∙ get_or_append_left new (drop m (drop at sums)) (pos 0) k lt
 
 pub mid_long : (at m : ℕ) (sums new : List ℤ) → length new ≡ m → at + m ≤ length sums → length (put_mid at m sums new) ≡ length sums
-mid_long at m sums new size room =
-    let front = length-take-le at sums (omega (arith, room)) in
+mid_long at m sums new size within =
+    let front = length-take-le at sums (omega (arith, within)) in
     let whole = length-append (take at sums) (new ++ drop m (drop at sums)) in
     let rest = length-append new (drop m (drop at sums)) in
     let left = length-drop at sums in
     let last = length-drop m (drop at sums) in
-    omega (arith, size, room, front, whole, rest, left, last)
+    omega (arith, size, within, front, whole, rest, left, last)

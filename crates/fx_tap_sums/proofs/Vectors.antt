@@ -50,19 +50,19 @@ splat_at n k h = each_of_four (λ k. get_or (n ∷ n ∷ n ∷ n ∷ []) k 0 ≡
 pub short_product : (a b : ℕ) → a < 2 ^ 32 → b < 2 ^ 32 → a * b < 2 ^ 64
 short_product a b first second = let whole = mul-le a b (2 ^ 32 - 1) (2 ^ 32 - 1) (omega arith) (omega arith) in omega arith
 
--- the least of numbers and of their differences to another one, modulo 2^32
+-- the minimum of numbers and of their differences to another one, modulo 2^32
 abbrev pub wrapped : List ℕ → ℕ → List ℕ
 wrapped xs n = zip2 (λ a b. (a + (2 ^ 32 - b)) % 2 ^ 32) xs (n ∷ n ∷ n ∷ n ∷ [])
 
-abbrev pub least : List ℕ → List ℕ → List ℕ
-least xs ys = sel_l (map (top 31) (zip2 (λ a b. cond (nat_lt a b) (2 ^ 32 - 1) 0) xs ys)) xs ys
+abbrev pub minimum : List ℕ → List ℕ → List ℕ
+minimum xs ys = sel_l (map (top 31) (zip2 (λ a b. cond (nat_lt a b) (2 ^ 32 - 1) 0) xs ys)) xs ys
 
-least_lane : (a b : ℕ) (t : Bool) → nat_lt a b ≡ t → cond (top 31 (cond t (2 ^ 32 - 1) 0)) a b ≡ cond t a b
-least_lane a b true e = refl
-least_lane a b false e = refl
+minimum_lane : (a b : ℕ) (t : Bool) → nat_lt a b ≡ t → cond (top 31 (cond t (2 ^ 32 - 1) 0)) a b ≡ cond t a b
+minimum_lane a b true e = refl
+minimum_lane a b false e = refl
 
 chosen : (a b : ℕ) → cond (top 31 (cond (nat_lt a b) (2 ^ 32 - 1) 0)) a b ≡ cond (nat_lt a b) a b
-chosen a b = least_lane a b (nat_lt a b) refl
+chosen a b = minimum_lane a b (nat_lt a b) refl
 
 below_lane : (a n : ℕ) (t : Bool) → nat_lt a ((a + (2 ^ 32 - n)) % 2 ^ 32) ≡ t → 0 < n → a < n → n < 2 ^ 32 → cond t a ((a + (2 ^ 32 - n)) % 2 ^ 32) ≡ a
 below_lane a n true e some less fits = refl
@@ -78,16 +78,16 @@ one_below a n some less fits = chosen a _ ∙ below_lane a n (nat_lt a ((a + (2 
 one_above : (a n : ℕ) → 0 < n → n ≤ a → a < 2 ^ 32 → cond (top 31 (cond (nat_lt a ((a + (2 ^ 32 - n)) % 2 ^ 32)) (2 ^ 32 - 1) 0)) a ((a + (2 ^ 32 - n)) % 2 ^ 32) ≡ a - n
 one_above a n some less fits = chosen a _ ∙ above_lane a n (nat_lt a ((a + (2 ^ 32 - n)) % 2 ^ 32)) refl some less fits
 
-pub least_below : (xs : List ℕ) (n : ℕ) → length xs ≡ 4 → n < 2 ^ 32 → 0 < n → (k : ℕ) → k < 4 → get_or xs k 0 < n → get_or (least xs (wrapped xs n)) k 0 ≡ get_or xs k 0
-least_below xs n l fits some =
-    by_four (λ xs. (k : ℕ) → k < 4 → get_or xs k 0 < n → get_or (least xs (wrapped xs n)) k 0 ≡ get_or xs k 0)
-    (λ a b c d. each_of_four (λ k. get_or (a ∷ b ∷ c ∷ d ∷ []) k 0 < n → get_or (least (a ∷ b ∷ c ∷ d ∷ []) (wrapped (a ∷ b ∷ c ∷ d ∷ []) n)) k 0 ≡ get_or (a ∷ b ∷ c ∷ d ∷ []) k 0)
+pub minimum_below : (xs : List ℕ) (n : ℕ) → length xs ≡ 4 → n < 2 ^ 32 → 0 < n → (k : ℕ) → k < 4 → get_or xs k 0 < n → get_or (minimum xs (wrapped xs n)) k 0 ≡ get_or xs k 0
+minimum_below xs n l fits some =
+    by_four (λ xs. (k : ℕ) → k < 4 → get_or xs k 0 < n → get_or (minimum xs (wrapped xs n)) k 0 ≡ get_or xs k 0)
+    (λ a b c d. each_of_four (λ k. get_or (a ∷ b ∷ c ∷ d ∷ []) k 0 < n → get_or (minimum (a ∷ b ∷ c ∷ d ∷ []) (wrapped (a ∷ b ∷ c ∷ d ∷ []) n)) k 0 ≡ get_or (a ∷ b ∷ c ∷ d ∷ []) k 0)
     (λ h. one_below a n some h fits) (λ h. one_below b n some h fits) (λ h. one_below c n some h fits) (λ h. one_below d n some h fits)) xs l
 
-pub least_above : (xs : List ℕ) (n : ℕ) → length xs ≡ 4 → ((k : ℕ) → k < 4 → get_or xs k 0 < 2 ^ 32) → 0 < n → (k : ℕ) → k < 4 → n ≤ get_or xs k 0 → get_or (least xs (wrapped xs n)) k 0 ≡ get_or xs k 0 - n
-least_above xs n l fits some k h le =
-    by_four (λ xs. (k : ℕ) → k < 4 → get_or xs k 0 < 2 ^ 32 → n ≤ get_or xs k 0 → get_or (least xs (wrapped xs n)) k 0 ≡ get_or xs k 0 - n)
-    (λ a b c d. each_of_four (λ k. get_or (a ∷ b ∷ c ∷ d ∷ []) k 0 < 2 ^ 32 → n ≤ get_or (a ∷ b ∷ c ∷ d ∷ []) k 0 → get_or (least (a ∷ b ∷ c ∷ d ∷ []) (wrapped (a ∷ b ∷ c ∷ d ∷ []) n)) k 0 ≡ get_or (a ∷ b ∷ c ∷ d ∷ []) k 0 - n)
+pub minimum_above : (xs : List ℕ) (n : ℕ) → length xs ≡ 4 → ((k : ℕ) → k < 4 → get_or xs k 0 < 2 ^ 32) → 0 < n → (k : ℕ) → k < 4 → n ≤ get_or xs k 0 → get_or (minimum xs (wrapped xs n)) k 0 ≡ get_or xs k 0 - n
+minimum_above xs n l fits some k h le =
+    by_four (λ xs. (k : ℕ) → k < 4 → get_or xs k 0 < 2 ^ 32 → n ≤ get_or xs k 0 → get_or (minimum xs (wrapped xs n)) k 0 ≡ get_or xs k 0 - n)
+    (λ a b c d. each_of_four (λ k. get_or (a ∷ b ∷ c ∷ d ∷ []) k 0 < 2 ^ 32 → n ≤ get_or (a ∷ b ∷ c ∷ d ∷ []) k 0 → get_or (minimum (a ∷ b ∷ c ∷ d ∷ []) (wrapped (a ∷ b ∷ c ∷ d ∷ []) n)) k 0 ≡ get_or (a ∷ b ∷ c ∷ d ∷ []) k 0 - n)
     (λ f h. one_above a n some h f) (λ f h. one_above b n some h f) (λ f h. one_above c n some h f) (λ f h. one_above d n some h f)) xs l k h (fits k h) le
 
 -- ---- remainders

@@ -16,7 +16,7 @@ pieces-preserved c =
     let new = c.convolve_piece.new.sums in
     let m = at + n - at in
     let given = rw c.in-Some.is at c.self.invariant.2 in
-    let room : at + n ≤ length sums = omega arith in
+    let within : at + n ≤ length sums = omega arith in
     let size : length new ≡ n = omega arith in
     let taps : length ws ≡ c.len-taps.result = omega arith in
     let left = length-drop at w in
@@ -24,7 +24,7 @@ pieces-preserved c =
     let piece = rw rest at (c.convolve_piece.ensures.sums ws taps given.0 given.1 given.2) in
     let more : (k : ℕ) → k < n → get_or new k (pos 0) ≡ sum_of_products (drop (at + k) w) c.args.self.now = λ k l. rw (is, ← drop-drop k at w) (piece k (omega (arith, l, size))) in
     record {
-      place = rw (mid_long at m sums new (omega (arith, size)) (omega (arith, room))) room;
-      done = placed-more (λ i v. v ≡ sum_of_products (drop i w) c.args.self.now) n at _ (λ i l. mid_before at m i sums new (omega (arith, room)) l ∙ c.pieces.invariant.done i l) (λ k l. mid_at at m k sums new (omega (arith, room)) (omega (arith, l, size)) ∙ more k l);
-      bound = placed-more (λ i v. unsigned_abs v ≤ 2 ^ 61) n at _ (λ i l. rw (mid_before at m i sums new (omega (arith, room)) l) (c.pieces.invariant.bound i l)) (λ k l. rw (mid_at at m k sums new (omega (arith, room)) (omega (arith, l, size))) (c.convolve_piece.ensures.bound k (omega (arith, l, size))));
+      place = rw (mid_long at m sums new (omega (arith, size)) (omega (arith, within))) within;
+      done = placed-more (λ i v. v ≡ sum_of_products (drop i w) c.args.self.now) n at _ (λ i l. mid_before at m i sums new (omega (arith, within)) l ∙ c.pieces.invariant.done i l) (λ k l. mid_at at m k sums new (omega (arith, within)) (omega (arith, l, size)) ∙ more k l);
+      bound = placed-more (λ i v. unsigned_abs v ≤ 2 ^ 61) n at _ (λ i l. rw (mid_before at m i sums new (omega (arith, within)) l) (c.pieces.invariant.bound i l)) (λ k l. rw (mid_at at m k sums new (omega (arith, within)) (omega (arith, l, size))) (c.convolve_piece.ensures.bound k (omega (arith, l, size))));
     }
