@@ -51,7 +51,8 @@ fn gather<const P: u32>(inverse: Factor<P>, low: &mut [u32], high: &mut [u32])
     }
 }
 
-/// What is known of halves of 2^levels times four numbers: what the next levels ask for.
+/// What the next levels ask of halves of 2^levels times four numbers. It does nothing: the conditions of a recursive call are
+/// proved from facts that stand there already, and this call states them.
 #[inline(always)]
 fn are_halves(levels: usize, place: usize, low: usize, high: usize)
     requires levels { 0 < levels }
@@ -66,7 +67,7 @@ fn are_halves(levels: usize, place: usize, low: usize, high: usize)
     ensures right_high { (2 * place + 1 + 1) * high ≤ 2048 }
 {}
 
-/// What is known of parts of remainders.
+/// Parts of remainders are remainders. It does nothing, as `are_halves`.
 #[inline(always)]
 fn are_parts<const P: u32>(whole: &[u32], front: &[u32], back: &[u32])
     requires whole { AreRemainders P whole.now }
