@@ -78,8 +78,15 @@ const ROWS: &[&str] = &[
     TWELVE_EFFECTS,
 ];
 
-/// Several effects that each give one frame for each that they take, at least for a while, and others among them.
+/// Several effects that each give one frame for each that they take, at least for a while, and others among them. Where a `trim` or
+/// `fade` comes first, its line has as many frames as a batch, more, as many as a group that goes ahead, or more.
 const LONG_ROWS: &[&str] = &[
+    "trim 1s -4s vol 1.5 vol 0.9",
+    "trim 1s -5s vol 1.5 vol 0.9",
+    "trim 1s -64s vol 1.5 echo 0.8 0.9 1 0.5 vol 0.9",
+    "trim 1s -65s vol 1.5 echos 0.8 0.9 0.5 0.3 fir 0.25 0.5 0.25",
+    "fade t 100s -0 300s vol 1.5 echo 0.8 0.9 20 0.5 delay 3s vol 0.9",
+    "trim 40s -129s fade t 100s -0 300s vol 1.5",
     "trim 700s 2300s vol 1.5 echo 0.8 0.9 20 0.5 40 0.25 vol 0.9",
     "delay 100s dcshift 0.25 echos 0.8 0.9 20 0.5 fir 0.25 0.5 0.25",
     "pad 3s@900s remix 1 1 vol 1.5 remix 1,2 fade t 500s 1800s 300s",
