@@ -130,13 +130,7 @@ sum-within maximum (x ∷ xs) (c ∷ cs) small =
     let total : maximum * (unsigned_abs c + sum_by unsigned_abs cs) ≡ maximum * unsigned_abs c + maximum * sum_by unsigned_abs cs = omega arith in
     rw gain (omega arith)
 
--- a sum of samples of 32 bits and small weights
-pub sum_bound : (w ws : List ℤ) (i : ℕ) → ((k : ℕ) → unsigned_abs (get_or w k (pos 0)) ≤ 2 ^ 31) → sum_by unsigned_abs ws ≤ 2 ^ 30 → unsigned_abs (sum_of_products (drop i w) ws) ≤ 2 ^ 61
-sum_bound w ws i samples small =
-    let whole = sum-within (2 ^ 31) (drop i w) ws (λ k. rw (get_or-drop i w k (pos 0)) (samples (i + k))) in
-    omega arith
-
--- the same of weights that are prepared for transforms
+-- a sum of samples of 32 bits and weights that are prepared for transforms
 pub joined_bound : (w ws : List ℤ) (i : ℕ) → ((k : ℕ) → unsigned_abs (get_or w k (pos 0)) ≤ 2 ^ 31) → sum_by unsigned_abs ws ≤ 2 ^ 30 - 4096 → unsigned_abs (sum_of_products (drop i w) ws) ≤ 2 ^ 61 - 2 ^ 43
 joined_bound w ws i samples small =
     let whole = sum-within (2 ^ 31) (drop i w) ws (λ k. rw (get_or-drop i w k (pos 0)) (samples (i + k))) in

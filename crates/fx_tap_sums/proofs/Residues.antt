@@ -1,7 +1,7 @@
 -- Numbers that are the same modulo another one.
-use Rattle.std.proofs.Common.{◌≡◌, ◌+◌, ◌-◌, ◌*◌, ◌<◌, ◌≤◌, ℕ, ap, sym, arith, ℤ, pos, negsuc, neg_ℤ, ◌*ℤ◌, ◌+ℤ◌, refl, unsigned_abs}
+use Rattle.std.proofs.Common.{◌≡◌, ◌+◌, ◌-◌, ◌*◌, ◌≤◌, ℕ, ap, sym, arith, ℤ, pos, negsuc, neg_ℤ, ◌*ℤ◌, ◌+ℤ◌, refl, unsigned_abs}
 use Rattle.std.proofs.Math.IntN.{nat_abs, *ℤ_comm}
-use Rattle.std.specs.Prelude.{true, false, ◌-ℤ◌}
+use Rattle.std.specs.Prelude.{true, false}
 use lib.Signed.{lt_z}
 use Rattle.std.proofs.lemmas.Int.{ints}
 use borrow.Author.Differences.{product_is}
@@ -42,15 +42,6 @@ same_less p a b k e =
     let turned = mul-neg (pos p) (pos k) in
     let product : pos p *ℤ pos k ≡ pos (p * k) = ap pos (omega arith) in
     (neg_ℤ (pos k), omega (arith, ints))
-
-pub same_opposite : (p a b c d : ℤ) → Same p a b → Same p c d → Same p (a -ℤ c) (b -ℤ d)
-same_opposite p a b c d h g = let e = h.1 in let f = g.1 in let turned = mul-neg p g.0 in let parts = mul-add p h.0 (neg_ℤ g.0) in (h.0 +ℤ neg_ℤ g.0, omega (arith, ints))
-
--- a difference, made positive
-pub same_difference : (p a b : ℕ) → b < p → Same (pos p) (pos (a + (p - b))) (pos a -ℤ pos b)
-same_difference p a b less =
-    let once : pos p *ℤ pos 1 ≡ pos p = ap pos (omega arith) in
-    (pos 1, omega (arith, ints))
 
 -- a sample of 32 bits below 0, and twice the modulus
 pub lifted : (p : ℕ) (x : ℤ) → unsigned_abs x ≤ 2 * p → lt_z x (pos 0) ≡ true → Same (pos p) (pos (2 * p - unsigned_abs x)) x

@@ -36,12 +36,6 @@ power_twice (suc k) some =
     let double = pow-suc 2 k in
     rw e (omega arith)
 
-pub place_left : (place n m : ℕ) → n ≡ 2 * m → (place + 1) * n ≤ 2048 → (2 * place + 1) * m ≤ 2048
-place_left place n m twice bound = let whole = rw twice at bound in omega arith
-
-pub place_right : (place n m : ℕ) → n ≡ 2 * m → (place + 1) * n ≤ 2048 → (2 * place + 1 + 1) * m ≤ 2048
-place_right place n m twice bound = let whole = rw twice at bound in omega arith
-
 pub place_less : (place n minimum : ℕ) → minimum ≤ n → (place + 1) * n ≤ 2048 → (place + 1) * minimum ≤ 2048
 place_less place n minimum le bound =
     let self : place + 1 ≤ place + 1 = omega arith in

@@ -1,7 +1,7 @@
 -- Vectors of four numbers, lane by lane.
 use Rattle.std.proofs.Common.{◌≡◌, ◌+◌, ◌-◌, ◌*◌, ◌%◌, ◌^◌, ◌<◌, ◌≤◌, ◌∙◌, refl, ap, cond, pos, neg_ℤ, ◌*ℤ◌, ℕ, Bool, true, false, nat_lt, List, [], ◌∷◌, length, get_or, arith}
 use Rattle.std.specs.Prelude.{map}
-use Rattle.std.specs.Simd.Lanes.{Each1, Each2, zip2, sel_l, top}
+use Rattle.std.specs.Simd.Lanes.{Each2, zip2, sel_l, top}
 use mathlib.Core.Logic.{inl, inr}
 use Rattle.std.proofs.lemmas.Bool.{cases_lt}
 use Rattle.std.proofs.lemmas.Int.{ints}
@@ -20,10 +20,7 @@ by_four P all (a ∷ b ∷ c ∷ []) l = absurd (omega arith)
 by_four P all (a ∷ b ∷ c ∷ d ∷ []) l = all a b c d
 by_four P all (a ∷ b ∷ c ∷ d ∷ e ∷ xs) l = absurd (omega arith)
 
--- what an operation asks of each lane
-pub each_lane : (P : ℕ → Type 0) (xs : List ℕ) → length xs ≡ 4 → ((k : ℕ) → k < 4 → P (get_or xs k 0)) → Each1 P xs
-each_lane P xs l all = by_four (λ xs. ((k : ℕ) → k < 4 → P (get_or xs k 0)) → Each1 P xs) (λ a b c d all. (all 0 (omega arith), (all 1 (omega arith), (all 2 (omega arith), (all 3 (omega arith), tt))))) xs l all
-
+-- what an operation asks of each lane of two
 pub both_lanes : (P : ℕ → ℕ → Type 0) (xs ys : List ℕ) → length xs ≡ 4 → length ys ≡ 4 → ((k : ℕ) → k < 4 → P (get_or xs k 0) (get_or ys k 0)) → Each2 P xs ys
 both_lanes P xs ys l m all =
     by_four (λ xs. ((k : ℕ) → k < 4 → P (get_or xs k 0) (get_or ys k 0)) → Each2 P xs ys)

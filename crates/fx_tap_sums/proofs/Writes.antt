@@ -33,13 +33,6 @@ remainders_put p at xs ys lanes long kept put left four are i lt = elim (cases_l
   | inr above ↦ rw (left i above) (are i (omega arith))
 ]
 
--- a lane of a list of remainders
-pub lane_less : (p at : ℕ) (xs lanes : List ℕ) → at + 4 ≤ length xs → AreRemainders p xs → length lanes ≡ 4 → ((k : ℕ) → k < 4 → get_or lanes k 0 ≡ get_or xs (at + k) 0) → AreFour p lanes
-lane_less p at xs lanes long are four is = record {
-  four = four;
-  less = λ k l. rw (is k l) (are (at + k) (omega arith));
-}
-
 -- two lists of remainders joined
 pub remainders_both : (p : ℕ) (xs ys : List ℕ) → AreRemainders p xs → AreRemainders p ys → AreRemainders p (xs ++ ys)
 remainders_both p xs ys first second i lt =
