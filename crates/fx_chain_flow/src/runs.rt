@@ -13,7 +13,7 @@ ghost use Rattle.fx_frame_base.specs.Holds.{kinds};
 use crate::one_to_one::{min_one_to_one, run_one_to_one};
 use crate::stage_calls::StageCalls;
 use fx_frame_base::feed::{SPACE, copy_samples, see_samples};
-use fx_frame_base::pipeline::{PassesAhead, SAMPLES_AHEAD};
+use fx_frame_base::pipeline::{MAX_EARLY_SAMPLES, PassesEarly};
 use fx_frame_base::stage::Stage;
 use fx_frame_base::{Feeds, Passed, Passing};
 
@@ -197,14 +197,14 @@ fn none_due_of_first<S: Feeds>(stages: &[S], maximum: usize) -> usize
 
 /// How many frames, at most `maximum`, can leave the first stage before as many others come to it: a group, as far as it stores so
 /// many. None where a batch is no smaller.
-fn frames_ahead<S: PassesAhead>(stages: &[S], channels: usize, maximum: usize) -> usize
+fn early_frames<S: PassesEarly>(stages: &[S], channels: usize, maximum: usize) -> usize
     ensures maximum { result ≤ maximum }
     ensures lined { 1 ≤ result → At (λ s. result ≤ length (S.acts.stored s)) 0 stages.now }
 {
     if stages.len() < 2 {
         return 0;
     }
-    let group = maximum.min(SAMPLES_AHEAD / channels.max(1));
+    let group = maximum.min(MAX_EARLY_SAMPLES / channels.max(1));
     let frames = (group as u64).min(stages[0].lined()) as usize;
     if frames <= stages.len().saturating_add(1) {
         return 0;
@@ -213,7 +213,7 @@ fn frames_ahead<S: PassesAhead>(stages: &[S], channels: usize, maximum: usize) -
 }
 
 /// As `run_by_frames`; where the first stage gives none, all frames that it takes until then; where each stage gives one frame for
-/// each and keeps the channels, a group that leaves the first stage before it comes in, or else a few frames at a time.
+/// each and keeps the channels, a group that leaves the first stage early, or else a few frames at a time.
 fn run_apart<S: StageCalls>(
     stages: &mut [S],
     widths: Widths,
@@ -238,12 +238,12 @@ fn run_apart<S: StageCalls>(
     if !widths.keeps || one_to_one == 0 {
         return run_by_frames(stages, widths, count, input, output);
     }
-    let ahead = frames_ahead(stages, widths.inputs, one_to_one);
-    if ahead > 0 {
-        S::pass_all_ahead(stages, widths.inputs, ahead, input, output);
+    let early = early_frames(stages, widths.inputs, one_to_one);
+    if early > 0 {
+        S::pass_all_early(stages, widths.inputs, early, input, output);
         return Passed {
-            taken: ahead,
-            given: ahead,
+            taken: early,
+            given: early,
         };
     }
     run_one_to_one(stages, widths.inputs, one_to_one, input, output);

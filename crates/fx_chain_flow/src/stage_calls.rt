@@ -13,14 +13,14 @@ ghost use Rattle.fx_frame_base.specs.Stage.{IsDry, kind, spent};
 
 use fx_frame_base::feed::see_samples;
 use fx_frame_base::frame::Frame;
-use fx_frame_base::pipeline::PassesAhead;
+use fx_frame_base::pipeline::PassesEarly;
 use fx_frame_base::{Feeds, Passed, Passing};
 
 /// The calls of a flow to its stages.
 ///
 /// All stages that can be fed have them, and nothing is known of what `handed` says. So a flow proves an order of calls only by
 /// making them in that order.
-pub trait StageCalls: PassesAhead {
+pub trait StageCalls: PassesEarly {
     // One call led all stages from the first to the second state.
     ghost handed: { List Self → StageCall → List Self → Type 0 };
 
@@ -104,7 +104,7 @@ pub trait StageCalls: PassesAhead {
     /// Passes `count` frames at the front of the input through all stages, where each keeps the channels and gives one for each, and
     /// writes those that come out to the front of the output. As many as come leave the first stage, which stores no fewer, and go
     /// through the others before those that came take their places.
-    fn pass_all_ahead(
+    fn pass_all_early(
         stages: &mut [Self],
         channels: usize,
         count: usize,
@@ -133,7 +133,7 @@ pub trait StageCalls: PassesAhead {
             → handed stages.old (through_all (pieces channels result.taken input.now) (pieces (outputs_of channels (kinds Self.acts stages.old)) result.given output.new)) stages.new };
 }
 
-impl<S: PassesAhead> StageCalls for S {
+impl<S: PassesEarly> StageCalls for S {
     ghost handed = { λ _ _ _. Unit {0} };
 
     #[inline(always)]
@@ -212,7 +212,7 @@ impl<S: PassesAhead> StageCalls for S {
     }
 
     #[inline(always)]
-    fn pass_all_ahead(
+    fn pass_all_early(
         stages: &mut [S],
         channels: usize,
         count: usize,
@@ -225,7 +225,7 @@ impl<S: PassesAhead> StageCalls for S {
         let size = count * channels;
         let coming = &input[..size];
         see_samples(coming);
-        first.pass_ahead(rest, count, coming, &mut output[..size]);
+        first.pass_early(rest, count, coming, &mut output[..size]);
     }
 
     #[inline(always)]

@@ -15,7 +15,7 @@ use crate::frame_writer::FrameWriter;
 use fx_chain_flow::flow::Flow;
 use fx_frame::{ByteOut, Failed, ReadBeside};
 use fx_frame_base::frame::MAX_CHANNELS;
-use fx_frame_base::pipeline::PassesAhead;
+use fx_frame_base::pipeline::PassesEarly;
 use fx_sound::inner::BUFFER_SIZE;
 use fx_sound::{Progress, Source};
 
@@ -33,7 +33,7 @@ fn tried(channels: usize, free: usize) -> usize
 
 /// Passes frames that are held through a flow, and encodes what it gives into the frame writer, as far as there is space.
 /// Nothing is read and nothing is written.
-fn pass_block<R, S: PassesAhead>(
+fn pass_block<R, S: PassesEarly>(
     flow: &mut Flow<S>,
     source: &mut Source<R>,
     progress: &mut Progress,
@@ -72,7 +72,7 @@ fn pass_block<R, S: PassesAhead>(
 
 /// Passes frames that are held through a flow, as many as the frame writer has space for, and then steps it until it waits.
 /// Then it empties the frame writer: long filters need fewer products for a whole buffer than for its two parts.
-pub fn pump_block<R: ReadBeside, S: PassesAhead, W: ByteOut>(
+pub fn pump_block<R: ReadBeside, S: PassesEarly, W: ByteOut>(
     flow: &mut Flow<S>,
     source: &mut Source<R>,
     progress: &mut Progress,

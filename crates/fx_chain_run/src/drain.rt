@@ -10,11 +10,11 @@ ghost use Rattle.fx_sound.specs.Output.{bytes_put};
 use crate::frame_writer::FrameWriter;
 use fx_chain_flow::flow::{Flow, State, Step};
 use fx_frame::{ByteOut, Failed};
-use fx_frame_base::pipeline::PassesAhead;
+use fx_frame_base::pipeline::PassesEarly;
 
 /// Steps a flow until it waits, and sends what it gives.
 #[inline(always)]
-pub fn drain<S: PassesAhead, W: ByteOut>(
+pub fn drain<S: PassesEarly, W: ByteOut>(
     flow: &mut Flow<S>,
     frame_writer: &mut FrameWriter,
     writer: &mut W,

@@ -24,7 +24,7 @@ use crate::report::{MAX_EFFECTS, Report, RunFault};
 use crate::target::Target;
 use fx_chain_flow::flow::Flow;
 use fx_frame::{ByteOut, Failed, ReadBeside};
-use fx_frame_base::pipeline::PassesAhead;
+use fx_frame_base::pipeline::PassesEarly;
 use fx_frame_base::stage::Stage;
 use fx_sound::inner::Output;
 use fx_sound::{Head, HeadBytes, Kind, Progress, Source, head_bytes};
@@ -118,7 +118,7 @@ fn streamed_head(target: Target) -> HeadBytes
 ///
 /// Once some stage needs no more input, no frame is read. After a failed read, and where the sound is too long, the frames
 /// then due are written; after a failed write the writer has a prefix of the whole output. Allocates no memory.
-pub fn run_flow<R: ReadBeside, S: PassesAhead, W: ByteOut>(
+pub fn run_flow<R: ReadBeside, S: PassesEarly, W: ByteOut>(
     flow: &mut Flow<S>,
     head: &Head,
     target: Target,

@@ -23,7 +23,7 @@ use crate::frame_writer::FrameWriter;
 use crate::reading::next_frame;
 use fx_chain_flow::flow::Flow;
 use fx_frame::{ByteOut, Failed, ReadBeside};
-use fx_frame_base::pipeline::PassesAhead;
+use fx_frame_base::pipeline::PassesEarly;
 use fx_sound::inner::BUFFER_SIZE;
 use fx_sound::{MAX_FRAMES, Progress, Source};
 use thiserror::Error;
@@ -53,7 +53,7 @@ impl From<Failed> for Cause {
 }
 
 /// Gives a flow the end, and sends what it then gives.
-fn end_flow<S: PassesAhead, W: ByteOut>(
+fn end_flow<S: PassesEarly, W: ByteOut>(
     flow: &mut Flow<S>,
     frame_writer: &mut FrameWriter,
     writer: &mut W,
@@ -75,7 +75,7 @@ fn end_flow<S: PassesAhead, W: ByteOut>(
 }
 
 /// Puts the head into the frame writer, and what a flow gives for the frames of a sound after it.
-pub fn pump<R: ReadBeside, S: PassesAhead, W: ByteOut>(
+pub fn pump<R: ReadBeside, S: PassesEarly, W: ByteOut>(
     head: &[u8],
     flow: &mut Flow<S>,
     source: &mut Source<R>,

@@ -1,8 +1,8 @@
 -- Written by scripts/effects from effects/*.toml. Do not edit.
 -- Each file of this folder is a module.
-pub mod Ahead
 pub mod DownsampleLaws
 pub mod DownsampleMany
+pub mod Early
 pub mod FadeWeights
 pub mod FadeWords
 pub mod Fallen

@@ -15,7 +15,7 @@ use crate::many::{PassesMany, feed_by_pieces};
 use fx_frame::frozen::{stored_in, thawed_line_and_pending};
 use fx_frame::{Counters, Feeds, Frame, Line, Passed, Passing, Stage, ThawFault, WideFrame};
 use fx_frame_base::feed::see_samples;
-use fx_frame_base::pipeline::{PassesAhead, pass_in_place};
+use fx_frame_base::pipeline::{PassesEarly, pass_in_place};
 use fx_frame_base::stage::MAX_TAKEN;
 use std::alloc::{AllocError, Global};
 use std::marker::Model;
@@ -449,13 +449,13 @@ impl<S: Selection + Drop> Feeds for Selected<S> {
     }
 }
 
-impl<S: Selection + Drop> PassesAhead for Selected<S> {
+impl<S: Selection + Drop> PassesEarly for Selected<S> {
     fn lined(&self) -> u64 {
         let frames = self.line.len();
         frames as u64
     }
 
-    fn pass_ahead<F: Feeds>(
+    fn pass_early<F: Feeds>(
         &mut self,
         rest: &mut [F],
         count: usize,

@@ -1,7 +1,7 @@
-pub mod Ahead
 pub mod Coding
 pub mod Counted
 pub mod Device
+pub mod Early
 pub mod Feed
 pub mod Frame
 pub mod Given

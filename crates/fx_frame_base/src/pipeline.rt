@@ -1,14 +1,14 @@
 //! Frames that go through stages in sequence, many at a time.
 ghost use Rattle.std.specs.Prelude.{◌≡◌, ◌≤◌, ◌+◌, ◌*◌, ℕ, length};
-ghost use Rattle.fx_frame_base.specs.Ahead.{MayPassAhead, PassedAhead};
+ghost use Rattle.fx_frame_base.specs.Early.{MayPassEarly, PassedEarly};
 ghost use Rattle.fx_frame_base.specs.Holds.{kinds};
 ghost use Rattle.fx_frame_base.specs.Lists.{pieces};
 ghost use Rattle.fx_frame_base.specs.Pipeline.{AllAhead, AllKeep, AllOneToOne, AreReady, PipelineThrough};
 
 use crate::feed::Feeds;
 
-/// The maximum number of samples of the frames that go ahead at once: as many as stages with a line take together.
-pub const SAMPLES_AHEAD: usize = 64;
+/// The maximum number of samples of the frames that leave a stage early at once: as many as stages with a line take together.
+pub const MAX_EARLY_SAMPLES: usize = 64;
 
 /// Passes `count` frames of `channels` channels through stages in sequence, each of which gives one for each, and puts those that
 /// come out in their place. All of them go through a stage before the first goes through the next.
@@ -30,8 +30,8 @@ pub fn pass_in_place<S: Feeds>(stages: &mut [S], channels: usize, count: usize, 
     pass_in_place(rest, channels, count, samples);
 }
 
-/// A stage that may pass frames on to the stages after it before as many others come.
-pub trait PassesAhead: Feeds {
+/// A stage that may pass frames on early: to the stages after it, before as many others come.
+pub trait PassesEarly: Feeds {
     /// How many of the frames that it holds may go on before as many others come: none where what it gives depends on these.
     fn lined(&self) -> u64
         ensures { result ≤ length (Self.acts.stored self.now) };
@@ -39,27 +39,27 @@ pub trait PassesAhead: Feeds {
     /// Passes `count` frames, for each of which it gives one, through this stage and those after it, and writes the frames that come
     /// out. It is for as many as `lined` returns at most: these leave the stage and go through the others first, and only then do
     /// the frames that came take their places. So at no time do the stages and the frames on their way come to more than before.
-    fn pass_ahead<F: Feeds>(
+    fn pass_early<F: Feeds>(
         &mut self,
         rest: &mut [F],
         count: usize,
         input: &[i32],
         output: &mut [i32],
     )
-        requires { MayPassAhead Self.acts F.acts count input.now output.old self.old rest.old }
-        ensures { PassedAhead Self.acts F.acts count input.now output.new self.old rest.old self.new rest.new };
+        requires { MayPassEarly Self.acts F.acts count input.now output.old self.old rest.old }
+        ensures { PassedEarly Self.acts F.acts count input.now output.new self.old rest.old self.new rest.new };
 }
 
-/// What `pass_ahead` does, for any stage: all frames go through it before the first goes on.
-pub fn pass_ahead_by_stages<S: Feeds, F: Feeds>(
+/// What `pass_early` does, for any stage: all frames go through it before the first goes on.
+pub fn pass_early_by_stages<S: Feeds, F: Feeds>(
     stage: &mut S,
     rest: &mut [F],
     count: usize,
     input: &[i32],
     output: &mut [i32],
 )
-    requires { MayPassAhead S.acts F.acts count input.now output.old stage.old rest.old }
-    ensures { PassedAhead S.acts F.acts count input.now output.new stage.old rest.old stage.new rest.new }
+    requires { MayPassEarly S.acts F.acts count input.now output.old stage.old rest.old }
+    ensures { PassedEarly S.acts F.acts count input.now output.new stage.old rest.old stage.new rest.new }
 {
     let channels = stage.in_channels();
     output.copy_from_slice(input);

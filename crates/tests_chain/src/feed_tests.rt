@@ -79,7 +79,7 @@ const ROWS: &[&str] = &[
 ];
 
 /// Several effects that each give one frame for each that they take, at least for a while, and others among them. Where a `trim` or
-/// `fade` comes first, its line has as many frames as a batch, more, as many as a group that goes ahead, or more.
+/// `fade` comes first, its line has as many frames as a batch, more, as many as a group that leaves early, or more.
 const LONG_ROWS: &[&str] = &[
     "trim 1s -4s vol 1.5 vol 0.9",
     "trim 1s -5s vol 1.5 vol 0.9",

@@ -3,7 +3,7 @@ use Rattle.fx_frame_base.specs.Lists.{pieces}
 use Rattle.fx_frame_base.specs.Stage.{kind}
 use Rattle.fx_frame_base.proofs.Pieces.{length-pieces}
 use Rattle.fx_frame_base.proofs.PipelineLaws.{each-fewer}
-use Rattle.fx_frame_base.proofs.pipeline.pass_ahead_by_stages.Goals as goal
+use Rattle.fx_frame_base.proofs.pipeline.pass_early_by_stages.Goals as goal
 
 pub pass_in_place-requires-clause-ready : goal.pass_in_place-requires-clause-ready
 pass_in_place-requires-clause-ready g c =

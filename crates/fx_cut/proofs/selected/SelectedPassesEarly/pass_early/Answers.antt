@@ -6,14 +6,14 @@ use Rattle.fx_frame_base.specs.Lists.{pieces}
 use Rattle.fx_frame_base.proofs.Pieces.{length-pieces}
 use Rattle.fx_frame_line.specs.Line.{pushed_all}
 use Rattle.fx_cut.specs.Selected.{IsSelectedState, selected_acts}
-use Rattle.fx_cut.proofs.Ahead.{popped-pushed}
+use Rattle.fx_cut.proofs.Early.{popped-pushed}
 use Rattle.fx_cut.proofs.PendingLemmas.{none_of}
 use Rattle.fx_cut.proofs.SelectMany.{passed}
 use Rattle.fx_cut.proofs.SelectSteps.{state}
 use Rattle.fx_cut.proofs.SelectThrough.{group-passed, one_to_one-alike, one_to_one-full}
-use Rattle.fx_cut.proofs.selected.SelectedPassesAhead.pass_ahead.Given as given
-use Rattle.fx_cut.proofs.selected.SelectedPassesAhead.pass_ahead.Goals as goal
-use Rattle.fx_cut.proofs.selected.SelectedPassesAhead.pass_ahead.Goals.{After-len-held}
+use Rattle.fx_cut.proofs.selected.SelectedPassesEarly.pass_early.Given as given
+use Rattle.fx_cut.proofs.selected.SelectedPassesEarly.pass_early.Goals as goal
+use Rattle.fx_cut.proofs.selected.SelectedPassesEarly.pass_early.Goals.{After-len-held}
 
 -- they are passed
 passes : (g : given.Over) (c : After-len-held g) →

@@ -10,7 +10,7 @@ use Rattle.fx_frame_base.specs.Stage.{Acts, is_enough, kind}
 module _ {S R T Q : Type 0} (acts : Acts S R) (after : Acts T Q) where
   -- `count` frames, whose samples these are, may go through a stage that stores as many, and those that it gives for them through
   -- the stages after it. All keep the channels and give one frame for each, and the output has space for just these.
-  pub record MayPassAhead (count : ℕ) (input output : List ℤ) (s : S) (rest : List T) : Type 0 where
+  pub record MayPassEarly (count : ℕ) (input output : List ℤ) (s : S) (rest : List T) : Type 0 where
     pub some : 1 ≤ count
     pub dry : acts.dry s ≡ true
     pub not_ended : (acts.counts s).ended ≡ false
@@ -29,7 +29,7 @@ module _ {S R T Q : Type 0} (acts : Acts S R) (after : Acts T Q) where
     pub rest_ahead : AllAhead after count rest
 
   -- they went through it, and those that it gave through the stages after it; the last ones came out
-  abbrev pub PassedAhead : ℕ → List ℤ → List ℤ → S → List T → S → List T → Type 0
-  PassedAhead count input output s rest s' rest' =
+  abbrev pub PassedEarly : ℕ → List ℤ → List ℤ → S → List T → S → List T → Type 0
+  PassedEarly count input output s rest s' rest' =
       (between : List Samples) × EachThrough acts (pieces (kind acts s).inputs count input) between s s'
       × PipelineThrough after between (pieces (kind acts s).inputs count output) rest rest'
