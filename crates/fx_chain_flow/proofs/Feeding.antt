@@ -333,16 +333,16 @@ module _ {S R : Type 0} (acts : Acts S R) (first : Parts S) (input start : List 
       rw (more, next) (GaveLast-then acts first f f' _ _ _ _ t.fed (rw (e, o) at last))
 
   -- the calls were made in order, up to a frame that was let out
-  pub Turned-gave-order : (handed : List S → StageCall → List S → Type 0) (f f' : Parts S) (frame : Samples) (out out' : List ℤ) (read written count number : ℕ)
+  pub Turned-gave-order : (handed : List S → StageCall → List S → Type 0) (passed_while : List Samples → List Samples → List Samples → S → S → Type 0) (f f' : Parts S) (frame : Samples) (out out' : List ℤ) (read written count number : ℕ)
       → Turned f out read written count number → length frame ≡ outs → written + outs ≤ length out → out' ≡ take written out ++ frame ++ drop (written + length frame) out
-      → InOrder acts handed first (pieces first.channels count input) (pieces outs number out ++ frame ∷ []) [] 0 f' → InOrder acts handed first (pieces first.channels count input) (pieces outs (number + 1) out') [] 0 f'
-  Turned-gave-order handed f f' frame out out' read written count number t sides free put order = rw (pieces-put outs number written out frame out' t.written_is sides free put) order
+      → InOrder acts handed passed_while first (pieces first.channels count input) (pieces outs number out ++ frame ∷ []) [] 0 f' → InOrder acts handed passed_while first (pieces first.channels count input) (pieces outs (number + 1) out') [] 0 f'
+  Turned-gave-order handed passed_while f f' frame out out' read written count number t sides free put order = rw (pieces-put outs number written out frame out' t.written_is sides free put) order
 
   -- and up to many frames
-  pub Turned-ran-order : (handed : List S → StageCall → List S → Type 0) (ins os : ℕ) → ins ≡ first.channels → os ≡ outs → (f f' : Parts S) (out out' new : List ℤ) (read written count number n k : ℕ)
-      → Turned f out read written count number → InOrder acts handed first (pieces first.channels count input) (pieces outs number out) [] 0 f → InOrder acts handed f (pieces ins n (drop read input)) (pieces os k new) [] 0 f' → out' ≡ take written out ++ new
-      → InOrder acts handed first (pieces first.channels (count + n) input) (pieces outs (number + k) out') [] 0 f'
-  Turned-ran-order handed ins os e o f f' out out' new read written count number n k t before order put =
+  pub Turned-ran-order : (handed : List S → StageCall → List S → Type 0) (passed_while : List Samples → List Samples → List Samples → S → S → Type 0) (ins os : ℕ) → ins ≡ first.channels → os ≡ outs → (f f' : Parts S) (out out' new : List ℤ) (read written count number n k : ℕ)
+      → Turned f out read written count number → InOrder acts handed passed_while first (pieces first.channels count input) (pieces outs number out) [] 0 f → InOrder acts handed passed_while f (pieces ins n (drop read input)) (pieces os k new) [] 0 f' → out' ≡ take written out ++ new
+      → InOrder acts handed passed_while first (pieces first.channels (count + n) input) (pieces outs (number + k) out') [] 0 f'
+  Turned-ran-order handed passed_while ins os e o f f' out out' new read written count number n k t before order put =
       let front : length (take written out) ≡ number * outs = length-take-le written out t.written_in ∙ t.written_is in
       let rest : drop (number * outs) out' ≡ new = rw put (drop_at (take written out) new (number * outs) front) in
       let long : length out' ≡ length (take written out) + length new = rw put (length-append (take written out) new) in
@@ -351,7 +351,7 @@ module _ {S R : Type 0} (acts : Acts S R) (first : Parts S) (input start : List 
       pieces-same outs number out' out (omega (arith, front, long)) (omega (arith, t.written_is, t.written_in)) (kept ∙ ap (λ m. take m out) t.written_is) in
       let more : pieces first.channels (count + n) input ≡ pieces first.channels count input ++ pieces first.channels n (drop read input) = pieces-split first.channels count n input ∙ ap (λ m. pieces first.channels count input ++ pieces first.channels n (drop m input)) (sym t.read_is) in
       let next : pieces outs (number + k) out' ≡ pieces outs number out ++ pieces outs k new = pieces-split outs number k out' ∙ ap (λ l. pieces outs number out' ++ pieces outs k l) rest ∙ ap (λ ps. ps ++ pieces outs k new) same in
-      rw (more, next) (InOrder-then acts handed first f f' _ _ _ _ [] 0 before (rw (e, o) at order))
+      rw (more, next) (InOrder-then acts handed passed_while first f f' _ _ _ _ [] 0 before (rw (e, o) at order))
 
   -- frames were taken while there was room, and behind them more in the room that was left
   pub Turned-free : (f : Parts S) (out : List ℤ) (read written count number n free : ℕ) → Turned f out read written count number

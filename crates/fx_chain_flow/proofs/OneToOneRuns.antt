@@ -50,12 +50,12 @@ module _ {S R : Type 0} (acts : Acts S R) where
         last = λ all one_out. rw n (GaveLast-then acts (flow_of acts channels first left) (flow_of acts channels mid (left + length xs)) (flow_of acts channels new (left + length xs + length ys)) xs gs ys hs one.fed (two.last also some));
       }
 
-  module _ (handed : List S → StageCall → List S → Type 0) (rises : (r : R) (m n : ℕ) → m ≤ n → (acts.kind_of r).maximum m ≤ (acts.kind_of r).maximum n) (channels count : ℕ) (first : List S) (input start : List ℤ) where
+  module _ (handed : List S → StageCall → List S → Type 0) (passed_while : List Samples → List Samples → List Samples → S → S → Type 0) (rises : (r : R) (m n : ℕ) → m ≤ n → (acts.kind_of r).maximum m ≤ (acts.kind_of r).maximum n) (channels count : ℕ) (first : List S) (input start : List ℤ) where
     -- how far the frames have gone
     pub record OneToOneRun (stages : List S) (out : List ℤ) (done : ℕ) : Type 0 where
       pub within : done ≤ count
       pub ran : (left : ℕ) → MayRun acts channels count first left → RanOn acts channels (pieces channels done input) (pieces channels done out) first stages left
-      pub order : (left : ℕ) → InOrder acts handed (flow_of acts channels first left) (pieces channels done input) (pieces channels done out) [] 0 (flow_of acts channels stages (left + done))
+      pub order : (left : ℕ) → InOrder acts handed passed_while (flow_of acts channels first left) (pieces channels done input) (pieces channels done out) [] 0 (flow_of acts channels stages (left + done))
       pub determined : AllDetermined acts stages
       pub lined : AllLined acts stages
       pub ahead : (m : ℕ) → done + m ≡ count → AllAhead acts m stages
@@ -101,7 +101,7 @@ module _ {S R : Type 0} (acts : Acts S R) where
     -- a few went through
     pub OneToOneRun-next : (stages stages' : List S) (out out' y : List ℤ) (done bound : ℕ) → OneToOneRun stages out done → 1 ≤ channels → channels ≤ 16 → done + bound ≤ count → 1 ≤ bound → count * channels ≤ length input → count * channels ≤ length start → All (FitsSigned w32) (take (count * channels) input)
         → length y ≡ bound * channels → PipelineThrough acts (pieces channels bound (take (bound * channels) (drop (done * channels) input))) (pieces channels bound y) stages stages' → AllLined acts stages'
-        → ((left : ℕ) → InOrder acts handed (flow_of acts channels stages left) (pieces channels bound (take (bound * channels) (drop (done * channels) input))) (pieces channels bound y) [] 0 (flow_of acts channels stages' (left + bound)))
+        → ((left : ℕ) → InOrder acts handed passed_while (flow_of acts channels stages left) (pieces channels bound (take (bound * channels) (drop (done * channels) input))) (pieces channels bound y) [] 0 (flow_of acts channels stages' (left + bound)))
         → out' ≡ take (done * channels) out ++ (y ++ drop (bound * channels) (drop (done * channels) out)) → OneToOneRun stages' out' (done + bound)
     OneToOneRun-next stages stages' out out' y done bound steadily one sixteen within some reach free fits sides pipeline lined order put =
         record {
@@ -109,7 +109,7 @@ module _ {S R : Type 0} (acts : Acts S R) where
           ran = λ left may. went left may;
           order = λ left.
               let more : left + (done + bound) ≡ left + done + bound = omega arith in
-              rw (pieces-split channels done bound input, outs, more) (InOrder-then acts handed (flow_of acts channels first left) (flow_of acts channels stages (left + done)) (flow_of acts channels stages' (left + done + bound)) (pieces channels done input) (pieces channels done out) xs ys [] 0 (steadily.order left) (order' (left + done)));
+              rw (pieces-split channels done bound input, outs, more) (InOrder-then acts handed passed_while (flow_of acts channels first left) (flow_of acts channels stages (left + done)) (flow_of acts channels stages' (left + done + bound)) (pieces channels done input) (pieces channels done out) xs ys [] 0 (steadily.order left) (order' (left + done)));
           determined = determined-pipeline acts xs ys stages stages' pipeline' steadily.determined;
           lined = lined;
           ahead = λ m all. ahead-pipeline acts xs ys m stages stages' pipeline' (rw many (steadily.ahead (bound + m) (omega (arith, all))));
@@ -146,7 +146,7 @@ module _ {S R : Type 0} (acts : Acts S R) where
         pipeline' : PipelineThrough acts xs ys stages stages'
         pipeline' = rw (pieces-take channels bound (drop at input) reached) at pipeline
 
-        order' : (left : ℕ) → InOrder acts handed (flow_of acts channels stages left) xs ys [] 0 (flow_of acts channels stages' (left + bound))
+        order' : (left : ℕ) → InOrder acts handed passed_while (flow_of acts channels stages left) xs ys [] 0 (flow_of acts channels stages' (left + bound))
         order' left = rw (pieces-take channels bound (drop at input) reached) at (order left)
 
         many : length xs ≡ bound

@@ -1,20 +1,23 @@
 -- Calls in order, one sequence after another, and the frames that fit.
-use Rattle.std.proofs.Common.{ℕ, zero, suc, ◌+◌, ◌<◌, ◌≤◌, ◌≡◌, List, [], ◌∷◌, ◌++◌, add-zero, cond, drop, get_or, length, min, nat_eq, set, sub-one, refl, arith, ◌-◌, append-nil, append_assoc, Option, Some, None, option_to_list}
+use Rattle.std.proofs.Common.{ℕ, zero, suc, ◌+◌, ◌<◌, ◌≤◌, ◌≡◌, List, [], ◌∷◌, ◌++◌, add-zero, cond, drop, get_or, length, min, nat_eq, set, sub-one, subst, refl, ◌∙◌, arith, ◌-◌, append-nil, append_assoc, Option, Some, None, option_to_list}
 use Prim.Native.Nat.compare
+use Rattle.std.proofs.lemmas.List.{length-drop}
+use Rattle.fx_frame_base.specs.Early.{PassedWhile}
 use Rattle.fx_frame_base.specs.Feed.{IsHeld}
 use Rattle.fx_frame_base.specs.Frame.{Samples}
 use Rattle.fx_frame_base.specs.Holds.{held_sum, hold_sum, kinds}
 use Rattle.fx_frame_base.specs.Pipeline.{EachThrough, PipelineThrough}
-use Rattle.fx_frame_base.specs.Stage.{Acts, IsLined}
+use Rattle.fx_frame_base.specs.Stage.{Acts, IsLined, hold_of, kind}
+use Rattle.fx_frame_base.proofs.PipelineLaws.{EachThrough-long, PassedWhile-through, one-through}
 use Rattle.fx_chain_flow.specs.StageCall.{StageCall, at_stage, end_to, through_all}
-use Rattle.fx_chain_flow.specs.Order.{FitsHold, InOrder, any_place, begun, came, came_on, end_came, end_went_on, left_inlet, went_on, went_out, went_through}
+use Rattle.fx_chain_flow.specs.Order.{AllFit, FitsHold, InOrder, WentEarly, any_place, begun, came, came_on, end_came, end_went_on, left_inlet, went_early, went_on, went_out, went_through}
 use Rattle.fx_chain_flow.specs.Parts.{AllNew, Parts}
 use Rattle.fx_chain_flow.specs.Pipeline.{AllHeld, AllLined}
 use Rattle.fx_chain_flow.proofs.Pipelines.{AllHeld-sum}
 
-module _ {S R : Type 0} (acts : Acts S R) (handed : List S → StageCall → List S → Type 0) where
+module _ {S R : Type 0} (acts : Acts S R) (handed : List S → StageCall → List S → Type 0) (passed_while : List Samples → List Samples → List Samples → S → S → Type 0) where
   -- one sequence after another
-  pub InOrder-then : (first mid f : Parts S) (xs gs ys hs transit : List Samples) (place : ℕ) → InOrder acts handed first xs gs [] 0 mid → InOrder acts handed mid ys hs transit place f → InOrder acts handed first (xs ++ ys) (gs ++ hs) transit place f
+  pub InOrder-then : (first mid f : Parts S) (xs gs ys hs transit : List Samples) (place : ℕ) → InOrder acts handed passed_while first xs gs [] 0 mid → InOrder acts handed passed_while mid ys hs transit place f → InOrder acts handed passed_while first (xs ++ ys) (gs ++ hs) transit place f
   InOrder-then first mid f xs gs ys hs transit place one begun = rw (append-nil, append-nil) one
   InOrder-then first mid f xs gs ys hs transit place one (came ks js x h two empty fits) = rw (← append_assoc xs ks (x ∷ [])) (came (xs ++ ks) (gs ++ js) x h (InOrder-then first mid h xs gs ks js [] 0 one two) empty fits)
   InOrder-then first mid f xs gs ys hs transit place one (end_came ks js h two) = end_came (xs ++ ks) (gs ++ js) h (InOrder-then first mid h xs gs ks js [] 0 one two)
@@ -24,6 +27,8 @@ module _ {S R : Type 0} (acts : Acts S R) (handed : List S → StageCall → Lis
   InOrder-then first mid f xs gs ys hs transit place one (end_went_on ks js i h stages two call fits) = end_went_on (xs ++ ks) (gs ++ js) i h stages (InOrder-then first mid h xs gs ks js [] 0 one two) call fits
   InOrder-then first mid f xs gs ys hs transit place one (went_through ks js zs ws h stages two empty call fits) =
       rw (← append_assoc xs ks zs, ← append_assoc gs js ws) (went_through (xs ++ ks) (gs ++ js) zs ws h stages (InOrder-then first mid h xs gs ks js [] 0 one two) empty call fits)
+  InOrder-then first mid f xs gs ys hs transit place one (went_early ks js zs ws h stages two empty early fits) =
+      rw (← append_assoc xs ks zs, ← append_assoc gs js ws) (went_early (xs ++ ks) (gs ++ js) zs ws h stages (InOrder-then first mid h xs gs ks js [] 0 one two) empty early fits)
   InOrder-then first mid f xs gs ys hs transit place one (went_out ks js moving i h two last) = rw (← append_assoc gs js moving) (went_out (xs ++ ks) (gs ++ js) moving i h (InOrder-then first mid h xs gs ks js moving i one two) last)
   InOrder-then first mid f xs gs ys hs transit place one (any_place ks js i j h two) = any_place (xs ++ ks) (gs ++ js) i j h (InOrder-then first mid h xs gs ks js [] i one two)
 
@@ -117,54 +122,90 @@ module _ {S R : Type 0} (acts : Acts S R) where
   AllHeld-pipeline xs ys [] (s' ∷ stages') pipeline all = absurd pipeline
   AllHeld-pipeline xs ys (s ∷ stages) [] pipeline all = absurd pipeline
 
-module _ {S R : Type 0} (acts : Acts S R) (handed : List S → StageCall → List S → Type 0) where
+  each-recipe : (xs ys : List Samples) (s s' : S) → EachThrough acts xs ys s s' → acts.recipe s' ≡ acts.recipe s
+  each-recipe [] [] s s' each = rw each refl
+  each-recipe (x ∷ xs) (y ∷ ys) s s' each = each-recipe xs ys each.0 s' each.3 ∙ (one-through acts x y s each.0 each.1).2
+  each-recipe [] (y ∷ ys) s s' each = absurd each
+  each-recipe (x ∷ xs) [] s s' each = absurd each
+
+  -- stages that hold no more than they may, whatever they pass on
+  AllFit-held : (others maximum : ℕ) (xs ys : List Samples) (old new : List S) → PipelineThrough acts xs ys old new → AllHeld acts old → AllHeld acts new → others + hold_sum (kinds acts old) ≤ maximum → AllFit acts others maximum old new
+  AllFit-held others maximum xs ys [] [] pipeline before after h = omega (arith, h)
+  AllFit-held others maximum xs ys (s ∷ stages) (s' ∷ stages') pipeline before after h =
+      let here : IsHeld acts s = before.0 in
+      let sum = AllHeld-sum acts stages before.1 in
+      let same = each-recipe xs pipeline.0 s s' pipeline.1 in
+      let held : length (acts.stored s') ≤ hold_of (acts.kind_of (acts.recipe s')) = after.0 in
+      let there : length (acts.stored s') ≤ hold_of (acts.kind_of (acts.recipe s)) = subst (λ (r : R). length (acts.stored s') ≤ hold_of (acts.kind_of r)) same held in
+      (omega (arith, here, sum, h), AllFit-held (others + length (acts.stored s')) maximum pipeline.0 ys stages stages' pipeline.2 before.1 after.1 (omega (arith, there, h)))
+  AllFit-held others maximum xs ys [] (s' ∷ stages') pipeline before after h = absurd pipeline
+  AllFit-held others maximum xs ys (s ∷ stages) [] pipeline before after h = absurd pipeline
+
+  -- frames that leave a stage that holds its line alone, and go through the others, are no more than the flow may hold
+  pub WentEarly-fits : (passed_while : List Samples → List Samples → List Samples → S → S → Type 0) (xs between gs : List Samples) (s s' : S) (stages stages' : List S) → EachThrough acts xs between s s' → length xs ≤ length (acts.stored s)
+      → PassedWhile acts passed_while (drop (length xs) (acts.stored s)) between gs stages stages' → IsLined acts s → AllHeld acts stages → WentEarly acts passed_while xs gs (s ∷ stages) (s' ∷ stages')
+  WentEarly-fits passed_while xs between gs s s' stages stages' each bound others lined held =
+      let pipeline = PassedWhile-through acts passed_while (drop (length xs) (acts.stored s)) between gs stages stages' others in
+      let after = AllHeld-pipeline between gs stages stages' pipeline held in
+      let left = length-drop (length xs) (acts.stored s) in
+      let many = EachThrough-long acts xs between s s' each in
+      let here : length (acts.stored s) ≤ (kind acts s).line = lined in
+      (between, each, others, AllFit-held (length (drop (length xs) (acts.stored s)) + length between) (1 + hold_sum (kinds acts (s ∷ stages))) between gs stages stages' pipeline held after (omega (arith, left, many, here, bound)))
+
+module _ {S R : Type 0} (acts : Acts S R) (handed : List S → StageCall → List S → Type 0) (passed_while : List Samples → List Samples → List Samples → S → S → Type 0) where
   -- the frame of the inlet left it
-  pub inlet-order : (f : Parts S) (place : ℕ) (x : Samples) → place ≡ 0 → f.inlet ≡ Some x → AllHeld acts f.stages → InOrder acts handed f [] [] (x ∷ []) place (record f { inlet = None; left = f.left + cond (nat_eq place 0) 1 0 })
+  pub inlet-order : (f : Parts S) (place : ℕ) (x : Samples) → place ≡ 0 → f.inlet ≡ Some x → AllHeld acts f.stages → InOrder acts handed passed_while f [] [] (x ∷ []) place (record f { inlet = None; left = f.left + cond (nat_eq place 0) 1 0 })
   inlet-order f place x none full held = rw none (left_inlet [] [] x f begun full (FitsHold-single acts (x ∷ []) 0 (record f { inlet = None; left = f.left + 1 }) refl held (omega arith)))
 
   -- the stage before a place gave a frame
   pub given-order : (f : Parts S) (place : ℕ) (x : Samples) (stages : List S) → (place ≡ 0 → ⊥) → handed f.stages (at_stage (place - 1) [] (x ∷ [])) stages → AllHeld acts stages → AllLined acts (drop place stages)
-      → InOrder acts handed f [] [] (x ∷ []) place (record f { stages = stages; left = f.left + cond (nat_eq place 0) 1 0 })
+      → InOrder acts handed passed_while f [] [] (x ∷ []) place (record f { stages = stages; left = f.left + cond (nat_eq place 0) 1 0 })
   given-order f zero x stages some call held lined = absurd (some refl)
   given-order f (suc i) x stages some call held lined =
       rw (compare.suc-zero, add-zero) (went_on [] [] [] (x ∷ []) i f stages (any_place [] [] 0 i f begun) (rw sub-one at call) (FitsHold-one acts x (suc i) (record f { stages = stages }) held lined))
 
   -- a frame past the last stage went out
-  pub out-order : (first f : Parts S) (xs : List Samples) (x : Samples) (place : ℕ) → InOrder acts handed first xs [] (x ∷ []) place f → place ≡ length f.stages → InOrder acts handed first xs (x ∷ []) [] 0 f
+  pub out-order : (first f : Parts S) (xs : List Samples) (x : Samples) (place : ℕ) → InOrder acts handed passed_while first xs [] (x ∷ []) place f → place ≡ length f.stages → InOrder acts handed passed_while first xs (x ∷ []) [] 0 f
   out-order first f xs x place order last = went_out xs [] (x ∷ []) place f order last
 
   -- a stage took the frame that came to it, and gave none
-  pub took-order : (first f : Parts S) (xs gs : List Samples) (x : Samples) (place : ℕ) (stages : List S) → InOrder acts handed first xs gs (x ∷ []) place f → handed f.stages (at_stage place (x ∷ []) []) stages → AllHeld acts stages
-      → InOrder acts handed first xs gs [] 0 (record f { stages = stages })
+  pub took-order : (first f : Parts S) (xs gs : List Samples) (x : Samples) (place : ℕ) (stages : List S) → InOrder acts handed passed_while first xs gs (x ∷ []) place f → handed f.stages (at_stage place (x ∷ []) []) stages → AllHeld acts stages
+      → InOrder acts handed passed_while first xs gs [] 0 (record f { stages = stages })
   took-order first f xs gs x place stages order call held =
-      let next : InOrder acts handed first xs gs [] (suc place) (record f { stages = stages }) = went_on xs gs (x ∷ []) [] place f stages order call (FitsHold-none acts (suc place) (record f { stages = stages }) held) in
+      let next : InOrder acts handed passed_while first xs gs [] (suc place) (record f { stages = stages }) = went_on xs gs (x ∷ []) [] place f stages order call (FitsHold-none acts (suc place) (record f { stages = stages }) held) in
       any_place xs gs (suc place) 0 (record f { stages = stages }) next
 
   -- a stage took the frame that came to it, and gave one
-  pub passed-order : (first f : Parts S) (xs gs : List Samples) (x y : Samples) (place : ℕ) (stages : List S) → InOrder acts handed first xs gs (x ∷ []) place f → f.inlet ≡ None → handed f.stages (at_stage place (x ∷ []) (y ∷ [])) stages → AllHeld acts stages
-      → InOrder acts handed first xs gs (y ∷ []) (suc place) (record f { stages = stages })
+  pub passed-order : (first f : Parts S) (xs gs : List Samples) (x y : Samples) (place : ℕ) (stages : List S) → InOrder acts handed passed_while first xs gs (x ∷ []) place f → f.inlet ≡ None → handed f.stages (at_stage place (x ∷ []) (y ∷ [])) stages → AllHeld acts stages
+      → InOrder acts handed passed_while first xs gs (y ∷ []) (suc place) (record f { stages = stages })
   passed-order first f xs gs x y place stages order empty call held = went_on xs gs (x ∷ []) (y ∷ []) place f stages order call (FitsHold-single acts (y ∷ []) (suc place) (record f { stages = stages }) empty held (omega arith))
 
   -- a stage was given the end
-  pub end-order : (f : Parts S) (place : ℕ) (stages : List S) → handed f.stages (end_to place) stages → AllHeld acts stages → InOrder acts handed f [] [] [] 0 (record f { stages = stages })
+  pub end-order : (f : Parts S) (place : ℕ) (stages : List S) → handed f.stages (end_to place) stages → AllHeld acts stages → InOrder acts handed passed_while f [] [] [] 0 (record f { stages = stages })
   end-order f place stages call held = end_went_on [] [] place f stages begun call (FitsHold-none acts 0 (record f { stages = stages }) held)
 
   -- frames came past the empty inlet
-  pub came-order : (f : Parts S) (xs : List Samples) (count : ℕ) → length xs ≡ count → f.inlet ≡ None → held_sum acts f.stages + count ≤ 1 + hold_sum (kinds acts f.stages) → InOrder acts handed f xs [] xs 0 (record f { left = f.left + count })
+  pub came-order : (f : Parts S) (xs : List Samples) (count : ℕ) → length xs ≡ count → f.inlet ≡ None → held_sum acts f.stages + count ≤ 1 + hold_sum (kinds acts f.stages) → InOrder acts handed passed_while f xs [] xs 0 (record f { left = f.left + count })
   came-order f xs count many empty within =
-      let one : InOrder acts handed f xs [] xs 0 (record f { left = f.left + length xs }) = came_on [] [] xs f begun empty (FitsHold-many acts xs 0 (record f { left = f.left + length xs }) empty (rw many within)) in
+      let one : InOrder acts handed passed_while f xs [] xs 0 (record f { left = f.left + length xs }) = came_on [] [] xs f begun empty (FitsHold-many acts xs 0 (record f { left = f.left + length xs }) empty (rw many within)) in
       rw many at one
 
   -- frames came past the empty inlet, and went through all stages before the call returned
-  pub through-order : (f : Parts S) (xs gs : List Samples) (count : ℕ) (stages : List S) → length xs ≡ count → f.inlet ≡ None → handed f.stages (through_all xs gs) stages → AllHeld acts stages → InOrder acts handed f xs gs [] 0 (record f { stages = stages; left = f.left + count })
+  pub through-order : (f : Parts S) (xs gs : List Samples) (count : ℕ) (stages : List S) → length xs ≡ count → f.inlet ≡ None → handed f.stages (through_all xs gs) stages → AllHeld acts stages → InOrder acts handed passed_while f xs gs [] 0 (record f { stages = stages; left = f.left + count })
   through-order f xs gs count stages many empty call held =
-      let one : InOrder acts handed f xs gs [] 0 (record f { stages = stages; left = f.left + length xs }) = went_through [] [] xs gs f stages begun empty call (FitsHold-none acts 0 (record f { stages = stages; left = f.left + length xs }) held) in
+      let one : InOrder acts handed passed_while f xs gs [] 0 (record f { stages = stages; left = f.left + length xs }) = went_through [] [] xs gs f stages begun empty call (FitsHold-none acts 0 (record f { stages = stages; left = f.left + length xs }) held) in
+      rw many at one
+
+  -- frames left the first stage early, and others came
+  pub early-order : (f : Parts S) (xs gs : List Samples) (count : ℕ) (stages : List S) → length xs ≡ count → f.inlet ≡ None → WentEarly acts passed_while xs gs f.stages stages → AllHeld acts stages → InOrder acts handed passed_while f xs gs [] 0 (record f { stages = stages; left = f.left + count })
+  early-order f xs gs count stages many empty early held =
+      let one : InOrder acts handed passed_while f xs gs [] 0 (record f { stages = stages; left = f.left + length xs }) = went_early [] [] xs gs f stages begun empty early (FitsHold-none acts 0 (record f { stages = stages; left = f.left + length xs }) held) in
       rw many at one
 
   -- without a stage, frames came and went out
-  pub bare-order : (f : Parts S) (xs : List Samples) (count : ℕ) → length xs ≡ count → f.inlet ≡ None → f.stages ≡ [] → InOrder acts handed f xs xs [] 0 (record f { left = f.left + count })
+  pub bare-order : (f : Parts S) (xs : List Samples) (count : ℕ) → length xs ≡ count → f.inlet ≡ None → f.stages ≡ [] → InOrder acts handed passed_while f xs xs [] 0 (record f { left = f.left + count })
   bare-order f xs count many empty none =
       let full : FitsHold acts xs 0 (record f { left = f.left + length xs }) = rw (empty, none) (record { held = omega arith; to_stage = λ before. absurd (omega (arith, before)) }) in
-      let one : InOrder acts handed f xs [] xs 0 (record f { left = f.left + length xs }) = came_on [] [] xs f begun empty full in
-      let two : InOrder acts handed f xs xs [] 0 (record f { left = f.left + length xs }) = went_out xs [] xs 0 (record f { left = f.left + length xs }) one (rw none refl) in
+      let one : InOrder acts handed passed_while f xs [] xs 0 (record f { left = f.left + length xs }) = came_on [] [] xs f begun empty full in
+      let two : InOrder acts handed passed_while f xs xs [] 0 (record f { left = f.left + length xs }) = went_out xs [] xs 0 (record f { left = f.left + length xs }) one (rw none refl) in
       rw many at two

@@ -349,11 +349,11 @@ module _ {S R : Type 0} (acts : Acts S R) where
           (Running-kept stages stages' out (taken * channels) (given * outputs) taken given x run bound more determined shape width x-is frame.0 (omega (arith, within, reach)) went')
 
       -- and the calls were made in order
-      pub Order-frame : (handed : List S → StageCall → List S → Type 0) (start-left : ℕ) → Wrote outputs b (take outputs places') out out' given given'
-          → InOrder acts handed (flow_of acts channels first start-left) (pieces channels taken input) (pieces outputs given out) [] 0 (flow_of acts channels stages (start-left + taken))
-          → InOrder acts handed (flow_of acts channels stages (start-left + taken)) (take channels (x ++ drop channels places) ∷ []) (option_to_list (if b then Some (take (outputs_of channels (kinds acts stages)) places') else None)) [] 0 (flow_of acts channels stages' (start-left + taken + 1))
-          → InOrder acts handed (flow_of acts channels first start-left) (pieces channels (taken + 1) input) (pieces outputs given' out') [] 0 (flow_of acts channels stages' (start-left + (taken + 1)))
-      Order-frame handed start-left wrote before here = from wrote
+      pub Order-frame : (handed : List S → StageCall → List S → Type 0) (passed_while : List Samples → List Samples → List Samples → S → S → Type 0) (start-left : ℕ) → Wrote outputs b (take outputs places') out out' given given'
+          → InOrder acts handed passed_while (flow_of acts channels first start-left) (pieces channels taken input) (pieces outputs given out) [] 0 (flow_of acts channels stages (start-left + taken))
+          → InOrder acts handed passed_while (flow_of acts channels stages (start-left + taken)) (take channels (x ++ drop channels places) ∷ []) (option_to_list (if b then Some (take (outputs_of channels (kinds acts stages)) places') else None)) [] 0 (flow_of acts channels stages' (start-left + taken + 1))
+          → InOrder acts handed passed_while (flow_of acts channels first start-left) (pieces channels (taken + 1) input) (pieces outputs given' out') [] 0 (flow_of acts channels stages' (start-left + (taken + 1)))
+      Order-frame handed passed_while start-left wrote before here = from wrote
         where
           front : take channels (x ++ drop channels places) ≡ x
           front = take_at x (drop channels places) channels width
@@ -364,10 +364,10 @@ module _ {S R : Type 0} (acts : Acts S R) where
           longer : pieces channels (taken + 1) input ≡ pieces channels taken input ++ x ∷ []
           longer = pieces-more channels taken (taken * channels) input refl ∙ ap (λ y. pieces channels taken input ++ y ∷ []) (sym x-is)
 
-          now : InOrder acts handed (flow_of acts channels stages (start-left + taken)) (x ∷ []) (option_to_list (if b then Some (take outputs places') else None)) [] 0 (flow_of acts channels stages' (start-left + taken + 1))
+          now : InOrder acts handed passed_while (flow_of acts channels stages (start-left + taken)) (x ∷ []) (option_to_list (if b then Some (take outputs places') else None)) [] 0 (flow_of acts channels stages' (start-left + taken + 1))
           now = rw (front, outs-now) at here
 
-          from : Wrote outputs b (take outputs places') out out' given given' → InOrder acts handed (flow_of acts channels first start-left) (pieces channels (taken + 1) input) (pieces outputs given' out') [] 0 (flow_of acts channels stages' (start-left + (taken + 1)))
+          from : Wrote outputs b (take outputs places') out out' given given' → InOrder acts handed passed_while (flow_of acts channels first start-left) (pieces channels (taken + 1) input) (pieces outputs given' out') [] 0 (flow_of acts channels stages' (start-left + (taken + 1)))
           from (inl wrote) =
               let wide' = rw outs-now at (wide wrote.0) in
               let long : length (take outputs places') ≡ outputs = length-take-le outputs places' (omega (arith, sixteen, wide'.1)) in
@@ -377,6 +377,6 @@ module _ {S R : Type 0} (acts : Acts S R) where
               let put = put-mid (given * outputs) outputs out (take outputs places') out' (rw n at wrote.1) in
               let put' : out' ≡ take (given * outputs) out ++ take outputs places' ++ drop (given * outputs + length (take outputs places')) out = put ∙ ap (λ k. take (given * outputs) out ++ take outputs places' ++ drop (given * outputs + k) out) (sym long) in
               let next : pieces outputs (given + 1) out' ≡ pieces outputs given out ++ take outputs places' ∷ [] = pieces-put outputs given (given * outputs) out (take outputs places') out' refl long free put' in
-              rw (longer, wrote.2, next, e) (InOrder-then acts handed (flow_of acts channels first start-left) (flow_of acts channels stages (start-left + taken)) (flow_of acts channels stages' (start-left + taken + 1)) (pieces channels taken input) (pieces outputs given out) (x ∷ []) (take outputs places' ∷ []) [] 0 before (rw wrote.0 at now))
+              rw (longer, wrote.2, next, e) (InOrder-then acts handed passed_while (flow_of acts channels first start-left) (flow_of acts channels stages (start-left + taken)) (flow_of acts channels stages' (start-left + taken + 1)) (pieces channels taken input) (pieces outputs given out) (x ∷ []) (take outputs places' ∷ []) [] 0 before (rw wrote.0 at now))
           from (inr wrote) =
-              rw (longer, wrote.1, wrote.2, e) (rw append-nil at (InOrder-then acts handed (flow_of acts channels first start-left) (flow_of acts channels stages (start-left + taken)) (flow_of acts channels stages' (start-left + taken + 1)) (pieces channels taken input) (pieces outputs given out) (x ∷ []) [] [] 0 before (rw wrote.0 at now)))
+              rw (longer, wrote.1, wrote.2, e) (rw append-nil at (InOrder-then acts handed passed_while (flow_of acts channels first start-left) (flow_of acts channels stages (start-left + taken)) (flow_of acts channels stages' (start-left + taken + 1)) (pieces channels taken input) (pieces outputs given out) (x ∷ []) [] [] 0 before (rw wrote.0 at now)))

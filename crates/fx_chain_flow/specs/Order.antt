@@ -1,7 +1,9 @@
 -- The calls of a flow to its stages, in order, and the frames in transit between two of them (this project's profile).
-use Rattle.std.specs.Prelude.{ℕ, suc, ◌+◌, ◌<◌, ◌≤◌, ◌≡◌, true, List, [], ◌∷◌, ◌++◌, length, Some, None, option_to_list}
+use Rattle.std.specs.Prelude.{ℕ, suc, ◌+◌, ◌<◌, ◌≤◌, ◌≡◌, true, List, [], ◌∷◌, ◌++◌, drop, length, Some, None, option_to_list}
+use Rattle.fx_frame_base.specs.Early.{PassedWhile}
 use Rattle.fx_frame_base.specs.Frame.{Samples}
 use Rattle.fx_frame_base.specs.Holds.{held_sum, hold_sum, kinds}
+use Rattle.fx_frame_base.specs.Pipeline.{EachThrough}
 use Rattle.fx_frame_base.specs.Stage.{Acts}
 use Rattle.fx_chain_flow.specs.Feed.{HoldsBound}
 use Rattle.fx_chain_flow.specs.StageCall.{StageCall, at_stage, end_to, through_all}
@@ -13,7 +15,24 @@ module _ {S R : Type 0} (acts : Acts S R) where
     pub held : HoldsBound acts f
     pub to_stage : place < length f.stages → length (option_to_list f.inlet) + held_sum acts f.stages + length transit ≤ 1 + hold_sum (kinds acts f.stages)
 
-module _ {S R : Type 0} (acts : Acts S R) (handed : List S → StageCall → List S → Type 0) where
+  -- Stages in sequence were passed frames, one stage after another. Before each call and after the last, these stages and `others`
+  -- come to no more frames than the maximum.
+  abbrev pub AllFit : ℕ → ℕ → List S → List S → Type 0
+  AllFit others maximum [] [] = others ≤ maximum
+  AllFit others maximum (s ∷ stages) (s' ∷ stages') = (others + held_sum acts (s ∷ stages) ≤ maximum) × AllFit (others + length (acts.stored s')) maximum stages stages'
+  AllFit others maximum old new = ⊥
+
+module _ {S R : Type 0} (acts : Acts S R) (passed_while : List Samples → List Samples → List Samples → S → S → Type 0) where
+  -- As many frames as came left the first stage early, and went through the others. With each call of these it held what it had
+  -- stored without its oldest frames; so held, stored by the others and in transit were no more than the flow holds.
+  abbrev pub WentEarly : List Samples → List Samples → List S → List S → Type 0
+  WentEarly xs gs (s ∷ stages) (s' ∷ stages') =
+      (between : List Samples) × EachThrough acts xs between s s'
+      × PassedWhile acts passed_while (drop (length xs) (acts.stored s)) between gs stages stages'
+      × AllFit acts (length (drop (length xs) (acts.stored s)) + length between) (1 + hold_sum (kinds acts (s ∷ stages))) stages stages'
+  WentEarly xs gs old new = ⊥
+
+module _ {S R : Type 0} (acts : Acts S R) (handed : List S → StageCall → List S → Type 0) (passed_while : List Samples → List Samples → List Samples → S → S → Type 0) where
   -- A sequence of calls from the first state of a flow to the last: the frames that came, those that went out, and those in
   -- transit to the stage at a place, or out where it has no stage. Each call was made on the stages that the one before left.
   pub data InOrder (first : Parts S) : List Samples → List Samples → List Samples → ℕ → Parts S → Type 0 where
@@ -37,6 +56,9 @@ module _ {S R : Type 0} (acts : Acts S R) (handed : List S → StageCall → Lis
         → InOrder first xs gs [] 0 (record f { stages = stages })
     -- frames came past the empty inlet and went through all stages in one call, and some came out
     went_through : (xs gs ys zs : List Samples) (f : Parts S) (stages : List S) → InOrder first xs gs [] 0 f → f.inlet ≡ None → handed f.stages (through_all ys zs) stages → FitsHold acts [] 0 (record f { stages = stages; left = f.left + length ys })
+        → InOrder first (xs ++ ys) (gs ++ zs) [] 0 (record f { stages = stages; left = f.left + length ys })
+    -- frames came past the empty inlet to a stage that as many had left early, and these had gone through the others and out
+    went_early : (xs gs ys zs : List Samples) (f : Parts S) (stages : List S) → InOrder first xs gs [] 0 f → f.inlet ≡ None → WentEarly acts passed_while ys zs f.stages stages → FitsHold acts [] 0 (record f { stages = stages; left = f.left + length ys })
         → InOrder first (xs ++ ys) (gs ++ zs) [] 0 (record f { stages = stages; left = f.left + length ys })
     -- the frames past the last stage went out
     went_out : (xs gs transit : List Samples) (place : ℕ) (f : Parts S) → InOrder first xs gs transit place f → place ≡ length f.stages → InOrder first xs (gs ++ transit) [] 0 f

@@ -56,12 +56,12 @@ module _ {S R : Type 0} (acts : Acts S R) where
   -- Of `count` frames at the front of the input, whose samples these are, the first ones went through stages in sequence, at
   -- least one where there is any. Those that came out, at most one for each and none without samples, stand at the front of the
   -- output; the rest of it is unchanged.
-  pub record RanPipeline (handed : List S → StageCall → List S → Type 0) (widths : Widths) (count : ℕ) (samples before after : List ℤ) (old new : List S) (passed : Passed) : Type 0 where
+  pub record RanPipeline (handed : List S → StageCall → List S → Type 0) (passed_while : List Samples → List Samples → List Samples → S → S → Type 0) (widths : Widths) (count : ℕ) (samples before after : List ℤ) (old new : List S) (passed : Passed) : Type 0 where
     pub ran : (left : ℕ) → MayRun widths.inputs count old left → RanOn widths.inputs (pieces widths.inputs passed.taken samples) (pieces widths.outputs passed.given after) old new left
     pub read : passed.taken ≤ count
     pub written : passed.given ≤ passed.taken
     pub small : passed.given ≤ passed.given * widths.outputs
     pub some : 1 ≤ count → 1 ≤ passed.taken
     pub rest_unchanged : drop (passed.given * widths.outputs) after ≡ drop (passed.given * widths.outputs) before
-    pub order : (left : ℕ) → InOrder acts handed (flow_of widths.inputs old left) (pieces widths.inputs passed.taken samples) (pieces widths.outputs passed.given after) [] 0 (flow_of widths.inputs new (left + passed.taken))
+    pub order : (left : ℕ) → InOrder acts handed passed_while (flow_of widths.inputs old left) (pieces widths.inputs passed.taken samples) (pieces widths.outputs passed.given after) [] 0 (flow_of widths.inputs new (left + passed.taken))
     pub held : AllHeld acts new

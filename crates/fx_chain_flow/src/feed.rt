@@ -30,7 +30,7 @@ pub fn feed_by_steps<S: StageCalls>(flow: &mut Flow<S>, input: &[i32], output: &
     ensures unchanged { length output.old < outputs_of flow.old.channels (kinds S.acts flow.old.stages) → flow.new ≡ flow.old }
     ensures full { let outputs = outputs_of flow.old.channels (kinds S.acts flow.old.stages) in 1 ≤ result.given → length output.old < result.given * outputs + outputs
         → GaveLast S.acts flow.old (pieces flow.old.channels result.taken input.now) (pieces outputs result.given output.new) flow.new }
-    ensures order { InOrder S.acts S.handed flow.old (pieces flow.old.channels result.taken input.now) (pieces (outputs_of flow.old.channels (kinds S.acts flow.old.stages)) result.given output.new) [] 0 flow.new }
+    ensures order { InOrder S.acts S.handed S.passed_while flow.old (pieces flow.old.channels result.taken input.now) (pieces (outputs_of flow.old.channels (kinds S.acts flow.old.stages)) result.given output.new) [] 0 flow.new }
 {
     let widths = flow.widths();
     let mut read = 0;

@@ -277,7 +277,7 @@ impl<S: StageCalls> Flow<S> {
         requires channels { length frame ≡ self.old.channels }
         requires bound { taken_of self.old < max_frames }
         ensures value { self.new ≡ record self.old { inlet = Some frame } }
-        ensures order { (first : Parts S) (xs gs : List Samples) → InOrder S.acts S.handed first xs gs [] 0 self.old → InOrder S.acts S.handed first (xs ++ frame ∷ []) gs [] 0 self.new }
+        ensures order { (first : Parts S) (xs gs : List Samples) → InOrder S.acts S.handed S.passed_while first xs gs [] 0 self.old → InOrder S.acts S.handed S.passed_while first (xs ++ frame ∷ []) gs [] 0 self.new }
     {
         let _channels = frame.channels();
         self.inlet = Some(frame);
@@ -287,7 +287,7 @@ impl<S: StageCalls> Flow<S> {
     pub fn end(&mut self)
         requires { IsHungry S.acts self.old }
         ensures value { self.new ≡ record self.old { ended = true } }
-        ensures order { (first : Parts S) (xs gs : List Samples) → InOrder S.acts S.handed first xs gs [] 0 self.old → InOrder S.acts S.handed first xs gs [] 0 self.new }
+        ensures order { (first : Parts S) (xs gs : List Samples) → InOrder S.acts S.handed S.passed_while first xs gs [] 0 self.old → InOrder S.acts S.handed S.passed_while first xs gs [] 0 self.new }
     {
         self.ended = true;
     }
@@ -300,7 +300,7 @@ impl<S: StageCalls> Flow<S> {
         ensures steps { Steps S.acts self.old result self.new }
         ensures moved { MovedOn S.acts self.old result self.new }
         ensures sequence { (first : Parts S) (n : ℕ) → StepsInSequence S.acts first n self.old → StepsInSequence S.acts first (n + 1) self.new }
-        ensures order { (first : Parts S) (xs gs : List Samples) → InOrder S.acts S.handed first xs gs [] 0 self.old → InOrder S.acts S.handed first xs (gs ++ given_out result) [] 0 self.new }
+        ensures order { (first : Parts S) (xs gs : List Samples) → InOrder S.acts S.handed S.passed_while first xs gs [] 0 self.old → InOrder S.acts S.handed S.passed_while first xs (gs ++ given_out result) [] 0 self.new }
     {
         if is_idle(self.wet, &self.inlet) {
             self.wet = pass_on(&mut self.stages);
@@ -343,8 +343,8 @@ impl<S: StageCalls> Flow<S> {
         ensures unchanged { length output.old < outputs_of self.old.channels (kinds S.acts self.old.stages) → self.new ≡ self.old }
         ensures full { let outputs = outputs_of self.old.channels (kinds S.acts self.old.stages) in 1 ≤ result.given → length output.old < result.given * outputs + outputs
             → GaveLast S.acts self.old (pieces self.old.channels result.taken input.now) (pieces outputs result.given output.new) self.new }
-        ensures order { (first : Parts S) (xs gs : List Samples) → InOrder S.acts S.handed first xs gs [] 0 self.old
-            → InOrder S.acts S.handed first (xs ++ pieces self.old.channels result.taken input.now) (gs ++ pieces (outputs_of self.old.channels (kinds S.acts self.old.stages)) result.given output.new) [] 0 self.new }
+        ensures order { (first : Parts S) (xs gs : List Samples) → InOrder S.acts S.handed S.passed_while first xs gs [] 0 self.old
+            → InOrder S.acts S.handed S.passed_while first (xs ++ pieces self.old.channels result.taken input.now) (gs ++ pieces (outputs_of self.old.channels (kinds S.acts self.old.stages)) result.given output.new) [] 0 self.new }
     {
         if self.inlet.is_some() || self.ended {
             return feed_by_steps(self, input, output);
@@ -411,7 +411,7 @@ impl<S: StageCalls> Flow<S> {
         ensures free { FlowTookWithinSpace S.acts self.old result.taken (length output.old) }
         ensures full { let outputs = outputs_of self.old.channels (kinds S.acts self.old.stages) in 1 ≤ result.given → length output.old < result.given * outputs + outputs
             → GaveLast S.acts self.old (pieces self.old.channels result.taken input.now) (pieces outputs result.given output.new) self.new }
-        ensures order { InOrder S.acts S.handed self.old (pieces self.old.channels result.taken input.now) (pieces (outputs_of self.old.channels (kinds S.acts self.old.stages)) result.given output.new) [] 0 self.new }
+        ensures order { InOrder S.acts S.handed S.passed_while self.old (pieces self.old.channels result.taken input.now) (pieces (outputs_of self.old.channels (kinds S.acts self.old.stages)) result.given output.new) [] 0 self.new }
     {
         let maximum = (input.len() / widths.inputs).min(output.len() / widths.outputs.max(1));
         let count = min_ahead(&self.stages, maximum).max(1);

@@ -38,7 +38,7 @@ fn lift<S: StageCalls>(stages: &mut [S], inlet: &mut Option<Frame>, place: usize
     ensures lifted { Lifted S.acts place inlet.old inlet.new result stages.old stages.new }
     ensures held { AllHeld S.acts stages.new }
     ensures lined { AllLined S.acts (drop place stages.new) }
-    ensures order { (f : Parts S) → InOrder S.acts S.handed (record f { stages = stages.old; inlet = inlet.old }) [] [] (result ∷ []) place
+    ensures order { (f : Parts S) → InOrder S.acts S.handed S.passed_while (record f { stages = stages.old; inlet = inlet.old }) [] [] (result ∷ []) place
         (record f { stages = stages.new; inlet = inlet.new; left = f.left + cond (nat_eq place 0) 1 0 }) }
 {
     if place == 0 {
@@ -64,7 +64,7 @@ pub fn move_on<S: StageCalls>(
     ensures moved { MovedFrom S.acts place inlet.old inlet.new result stages.old stages.new }
     ensures held { AllHeld S.acts stages.new }
     ensures lined { AllLined S.acts (drop (place + 1) stages.new) }
-    ensures order { (f : Parts S) → InOrder S.acts S.handed (record f { stages = stages.old; inlet = inlet.old }) [] (option_to_list result) [] 0
+    ensures order { (f : Parts S) → InOrder S.acts S.handed S.passed_while (record f { stages = stages.old; inlet = inlet.old }) [] (option_to_list result) [] 0
         (record f { stages = stages.new; inlet = inlet.new; left = f.left + cond (nat_eq place 0) 1 0 }) }
 {
     let frame = lift(stages, inlet, place);
@@ -101,7 +101,7 @@ pub fn pass_on<S: StageCalls>(stages: &mut [S]) -> usize
     ensures wet { IsWetEnd S.acts result stages.new }
     ensures held { AllHeld S.acts stages.new }
     ensures lined { AllLined S.acts (drop result stages.new) }
-    ensures order { (f : Parts S) → InOrder S.acts S.handed (record f { stages = stages.old }) [] [] [] 0 (record f { stages = stages.new }) }
+    ensures order { (f : Parts S) → InOrder S.acts S.handed S.passed_while (record f { stages = stages.old }) [] [] [] 0 (record f { stages = stages.new }) }
 {
     let Some(place) = first_open(stages) else {
         unreachable!()

@@ -48,7 +48,7 @@ fn pass_batch<S: StageCalls>(
     ensures through { PipelineThrough S.acts (pieces channels count input.now) (pieces channels count output.new) stages.old stages.new }
     ensures lined { AllLined S.acts stages.new }
     ensures within { held_sum S.acts stages.new + count ≤ 1 + hold_sum (kinds S.acts stages.new) }
-    ensures order { (left : ℕ) → InOrder S.acts S.handed (flow_of S.acts channels stages.old left) (pieces channels count input.now) (pieces channels count output.new) [] 0 (flow_of S.acts channels stages.new (left + count)) }
+    ensures order { (left : ℕ) → InOrder S.acts S.handed S.passed_while (flow_of S.acts channels stages.old left) (pieces channels count input.now) (pieces channels count output.new) [] 0 (flow_of S.acts channels stages.new (left + count)) }
 {
     output.copy_from_slice(input);
     'stages: for place in 0..stages.len() {
@@ -81,7 +81,7 @@ pub fn run_one_to_one<S: StageCalls>(
     ensures ran { (left : ℕ) → MayRun S.acts channels count stages.old left → RanOn S.acts channels (pieces channels count input.now) (pieces channels count output.new) stages.old stages.new left }
     ensures rest_unchanged { drop (count * channels) output.new ≡ drop (count * channels) output.old }
     ensures lined { AllLined S.acts stages.new }
-    ensures order { (left : ℕ) → InOrder S.acts S.handed (flow_of S.acts channels stages.old left) (pieces channels count input.now) (pieces channels count output.new) [] 0 (flow_of S.acts channels stages.new (left + count)) }
+    ensures order { (left : ℕ) → InOrder S.acts S.handed S.passed_while (flow_of S.acts channels stages.old left) (pieces channels count input.now) (pieces channels count output.new) [] 0 (flow_of S.acts channels stages.new (left + count)) }
 {
     see_samples(&input[..count * channels]);
     let bound = stages.len().saturating_add(1);

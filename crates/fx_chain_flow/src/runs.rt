@@ -1,11 +1,14 @@
 //! Frames that go through stages one after another, with no checks between two of them.
-ghost use Rattle.std.specs.Prelude.{◌≡◌, ◌<◌, ◌≤◌, ◌+◌, ℕ, Some, None, [], ◌∷◌, true, false, option_to_list, length, take, if◌then◌else◌};
+ghost use Rattle.std.specs.Prelude.{◌≡◌, ◌<◌, ◌≤◌, ◌+◌, ◌*◌, ℕ, FitsSigned, Some, None, [], ◌∷◌, true, false, option_to_list, drop, length, take, if◌then◌else◌};
+ghost use Rattle.std.specs.Int.{w32};
+ghost use Rattle.std.specs.List.{All};
 ghost use Rattle.fx_frame_base.specs.Feed.{IsNoneDue};
-ghost use Rattle.fx_frame_base.specs.Pipeline.{AreReady, outputs_of};
+ghost use Rattle.fx_frame_base.specs.Lists.{pieces};
+ghost use Rattle.fx_frame_base.specs.Pipeline.{AllOneToOne, AreReady, PipelineThrough, outputs_of};
 ghost use Rattle.fx_frame_base.specs.Stage.{kind};
 ghost use Rattle.fx_chain_flow.specs.Parts.{AllDetermined};
-ghost use Rattle.fx_chain_flow.specs.Pipeline.{AllHeld, WentThrough};
-ghost use Rattle.fx_chain_flow.specs.Order.{InOrder};
+ghost use Rattle.fx_chain_flow.specs.Pipeline.{AllHeld, AllLined, WentThrough};
+ghost use Rattle.fx_chain_flow.specs.Order.{InOrder, WentEarly};
 ghost use Rattle.fx_chain_flow.specs.StageCall.{At};
 ghost use Rattle.fx_chain_flow.specs.Runs.{AllAhead, AllKeep, MayRunPipeline, RanPipeline, flow_of};
 ghost use Rattle.fx_frame_base.specs.Holds.{kinds};
@@ -93,7 +96,7 @@ fn pass_along<S: StageCalls>(
     ensures went { WentThrough S.acts (take channels places.old) (if result.is_given then Some (take (outputs_of channels (kinds S.acts stages.old)) places.new) else None) stages.old stages.new }
     ensures frame { result.is_given ≡ true → (1 ≤ outputs_of channels (kinds S.acts stages.old)) × (outputs_of channels (kinds S.acts stages.old) ≤ 16) }
     ensures determined { result.is_wet ≡ false → AllDetermined S.acts stages.new }
-    ensures order { (left : ℕ) → InOrder S.acts S.handed (flow_of S.acts channels stages.old left) (take channels places.old ∷ [])
+    ensures order { (left : ℕ) → InOrder S.acts S.handed S.passed_while (flow_of S.acts channels stages.old left) (take channels places.old ∷ [])
         (option_to_list (if result.is_given then Some (take (outputs_of channels (kinds S.acts stages.old)) places.new) else None)) [] 0 (flow_of S.acts channels stages.new (left + 1)) }
 {
     let mut is_wet = false;
@@ -127,7 +130,7 @@ fn run_frames<S: StageCalls>(
     output: &mut [i32],
 ) -> Passed
     requires { MayRunPipeline S.acts widths count input.now output.old stages.old }
-    ensures { RanPipeline S.acts S.handed widths count input.now output.old output.new stages.old stages.new result }
+    ensures { RanPipeline S.acts S.handed S.passed_while widths count input.now output.old output.new stages.old stages.new result }
 {
     see_samples(&input[..count * widths.inputs]);
     let mut places = [0; 16];
@@ -169,7 +172,7 @@ fn run_by_frames<S: StageCalls>(
     output: &mut [i32],
 ) -> Passed
     requires { MayRunPipeline S.acts widths count input.now output.old stages.old }
-    ensures { RanPipeline S.acts S.handed widths count input.now output.old output.new stages.old stages.new result }
+    ensures { RanPipeline S.acts S.handed S.passed_while widths count input.now output.old output.new stages.old stages.new result }
 {
     if !widths.keeps {
         return run_frames(stages, widths, count, input, output);
@@ -199,7 +202,7 @@ fn none_due_of_first<S: Feeds>(stages: &[S], maximum: usize) -> usize
 /// many. None where a batch is no smaller.
 fn early_frames<S: PassesEarly>(stages: &[S], channels: usize, maximum: usize) -> usize
     ensures maximum { result ≤ maximum }
-    ensures lined { 1 ≤ result → At (λ s. result ≤ length (S.acts.stored s)) 0 stages.now }
+    ensures early { 1 ≤ result → At (λ s. result ≤ S.early s) 0 stages.now }
 {
     if stages.len() < 2 {
         return 0;
@@ -212,6 +215,40 @@ fn early_frames<S: PassesEarly>(stages: &[S], channels: usize, maximum: usize) -
     frames
 }
 
+/// Passes `count` frames at the front of the input through stages that keep the channels and give one for each, and writes those that
+/// come out to the front of the output. As many leave the first stage early, and go through the others before those that came take
+/// their places.
+fn run_early<S: StageCalls>(
+    stages: &mut [S],
+    channels: usize,
+    count: usize,
+    input: &[i32],
+    output: &mut [i32],
+)
+    requires frame { (1 ≤ channels) × (channels ≤ 16) }
+    requires some { 1 ≤ count }
+    requires early { At (λ s. count ≤ S.early s) 0 stages.old }
+    requires ready { (taken maximum : ℕ) × (taken + count ≤ maximum) × AreReady S.acts channels taken maximum stages.old }
+    requires keep { AllKeep channels (kinds S.acts stages.old) }
+    requires one_to_one { AllOneToOne S.acts count stages.old }
+    requires ahead { AllAhead S.acts count stages.old }
+    requires lined { AllLined S.acts stages.old }
+    requires input { count * channels ≤ length input.now }
+    requires free { count * channels ≤ length output.old }
+    ensures samples { All (FitsSigned w32) (take (count * channels) input.now) }
+    ensures through { PipelineThrough S.acts (pieces channels count input.now) (pieces channels count output.new) stages.old stages.new }
+    ensures early { WentEarly S.acts S.passed_while (pieces channels count input.now) (pieces channels count output.new) stages.old stages.new }
+    ensures rest_unchanged { drop (count * channels) output.new ≡ drop (count * channels) output.old }
+{
+    let Some((first, rest)) = stages.split_first_mut() else {
+        unreachable!()
+    };
+    let size = count * channels;
+    let coming = &input[..size];
+    see_samples(coming);
+    first.pass_early(rest, count, coming, &mut output[..size]);
+}
+
 /// As `run_by_frames`; where the first stage gives none, all frames that it takes until then; where each stage gives one frame for
 /// each and keeps the channels, a group that leaves the first stage early, or else a few frames at a time.
 fn run_apart<S: StageCalls>(
@@ -222,7 +259,7 @@ fn run_apart<S: StageCalls>(
     output: &mut [i32],
 ) -> Passed
     requires { MayRunPipeline S.acts widths count input.now output.old stages.old }
-    ensures { RanPipeline S.acts S.handed widths count input.now output.old output.new stages.old stages.new result }
+    ensures { RanPipeline S.acts S.handed S.passed_while widths count input.now output.old output.new stages.old stages.new result }
 {
     let none_due = none_due_of_first(stages, count);
     if none_due > 0 {
@@ -240,7 +277,7 @@ fn run_apart<S: StageCalls>(
     }
     let early = early_frames(stages, widths.inputs, one_to_one);
     if early > 0 {
-        S::pass_all_early(stages, widths.inputs, early, input, output);
+        run_early(stages, widths.inputs, early, input, output);
         return Passed {
             taken: early,
             given: early,
@@ -263,7 +300,7 @@ pub fn run<S: StageCalls>(
     output: &mut [i32],
 ) -> Passed
     requires { MayRunPipeline S.acts widths count input.now output.old stages.old }
-    ensures { RanPipeline S.acts S.handed widths count input.now output.old output.new stages.old stages.new result }
+    ensures { RanPipeline S.acts S.handed S.passed_while widths count input.now output.old output.new stages.old stages.new result }
 {
     if count == 0 {
         return Passed { taken: 0, given: 0 };

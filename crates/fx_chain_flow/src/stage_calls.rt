@@ -8,19 +8,18 @@ ghost use Rattle.fx_chain_flow.specs.Parts.{Matching};
 ghost use Rattle.fx_frame_base.specs.Feed.{PassedOn};
 ghost use Rattle.fx_frame_base.specs.Holds.{kinds};
 ghost use Rattle.fx_frame_base.specs.Lists.{pieces};
-ghost use Rattle.fx_frame_base.specs.Pipeline.{AllAhead, AllKeep, AllOneToOne, AreReady, PipelineThrough, outputs_of};
+ghost use Rattle.fx_frame_base.specs.Pipeline.{AreReady, PipelineThrough, outputs_of};
 ghost use Rattle.fx_frame_base.specs.Stage.{IsDry, kind, spent};
 
-use fx_frame_base::feed::see_samples;
 use fx_frame_base::frame::Frame;
-use fx_frame_base::pipeline::PassesEarly;
+use fx_frame_base::pipeline::{PassesEarly, PassesWhile};
 use fx_frame_base::{Feeds, Passed, Passing};
 
 /// The calls of a flow to its stages.
 ///
 /// All stages that can be fed have them, and nothing is known of what `handed` says. So a flow proves an order of calls only by
 /// making them in that order.
-pub trait StageCalls: PassesEarly {
+pub trait StageCalls: PassesEarly + PassesWhile {
     // One call led all stages from the first to the second state.
     ghost handed: { List Self → StageCall → List Self → Type 0 };
 
@@ -100,30 +99,6 @@ pub trait StageCalls: PassesEarly {
         ensures through { PipelineThrough Self.acts (pieces channels result input.now) (pieces outputs result output.new) stages.old stages.new }
         ensures rest_unchanged { drop (result * outputs) output.new ≡ drop (result * outputs) output.old }
         ensures handed { handed stages.old (through_all (pieces channels result input.now) (pieces outputs result output.new)) stages.new };
-
-    /// Passes `count` frames at the front of the input through all stages, where each keeps the channels and gives one for each, and
-    /// writes those that come out to the front of the output. As many as come leave the first stage, which stores no fewer, and go
-    /// through the others before those that came take their places.
-    fn pass_all_early(
-        stages: &mut [Self],
-        channels: usize,
-        count: usize,
-        input: &[i32],
-        output: &mut [i32],
-    )
-        requires frame { (1 ≤ channels) × (channels ≤ 16) }
-        requires some { 1 ≤ count }
-        requires lined { At (λ s. count ≤ length (Self.acts.stored s)) 0 stages.old }
-        requires ready { (taken maximum : ℕ) × (taken + count ≤ maximum) × AreReady Self.acts channels taken maximum stages.old }
-        requires keep { AllKeep channels (kinds Self.acts stages.old) }
-        requires one_to_one { AllOneToOne Self.acts count stages.old }
-        requires ahead { AllAhead Self.acts count stages.old }
-        requires input { count * channels ≤ length input.now }
-        requires free { count * channels ≤ length output.old }
-        ensures samples { All (FitsSigned w32) (take (count * channels) input.now) }
-        ensures through { PipelineThrough Self.acts (pieces channels count input.now) (pieces channels count output.new) stages.old stages.new }
-        ensures rest_unchanged { drop (count * channels) output.new ≡ drop (count * channels) output.old }
-        ensures handed { handed stages.old (through_all (pieces channels count input.now) (pieces channels count output.new)) stages.new };
 
     /// Feeds the only stage.
     fn feed_only(stages: &mut [Self], input: &[i32], output: &mut [i32]) -> Passed
@@ -209,23 +184,6 @@ impl<S: PassesEarly> StageCalls for S {
         output: &mut [i32],
     ) -> usize {
         S::pass_pipeline(stages, channels, outputs, count, input, output)
-    }
-
-    #[inline(always)]
-    fn pass_all_early(
-        stages: &mut [S],
-        channels: usize,
-        count: usize,
-        input: &[i32],
-        output: &mut [i32],
-    ) {
-        let Some((first, rest)) = stages.split_first_mut() else {
-            unreachable!()
-        };
-        let size = count * channels;
-        let coming = &input[..size];
-        see_samples(coming);
-        first.pass_early(rest, count, coming, &mut output[..size]);
     }
 
     #[inline(always)]

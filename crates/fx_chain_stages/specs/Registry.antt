@@ -1,6 +1,6 @@
 -- Written by scripts/effects from effects/*.toml. Do not edit.
 -- The stage of each effect (this project's profile): what it shows of itself, and what holds of it at every moment.
-use Rattle.std.specs.Prelude.{ℤ, length}
+use Rattle.std.specs.Prelude.{ℕ, ℤ, length}
 use Rattle.fx_chain_stages.specs.declared.registry.EffectStage.{EffectStage}
 use Rattle.fx_chain_stages.specs.declared.registry.EffectStage.TheVariants as stages
 use Rattle.fx_plan_effects.specs.Registry.{OfTrim, OfPad, OfDelay, OfEcho, OfEchos, OfFade, OfVol, OfDcShift, OfFir, OfRemix, OfUpsample, OfDownsample}
@@ -38,6 +38,13 @@ look_of (stages.Fir s) = look fir_acts (λ r. InPlace r.channels (OfFir r.coeffi
 look_of (stages.Remix s) = look remix_acts (λ r. InPlace r.channels (OfRemix r.outs)) s
 look_of (stages.Upsample s) = look upsample_acts (λ r. InPlace r.channels (OfUpsample r.factor)) s
 look_of (stages.Downsample s) = look downsample_acts (λ r. InPlace r.channels (OfDownsample r.factor)) s
+
+-- how many of the frames that the stage holds may go on before as many others come: those of the line of one that gives or omits each
+-- frame by its place
+abbrev pub early_of : EffectStage → ℕ
+early_of (stages.Trim s) = length s.line.items
+early_of (stages.Fade s) = length s.line.items
+early_of s = 0
 
 -- the invariant of the stage
 abbrev pub sound_of_stages : EffectStage → Type 0

@@ -5,7 +5,7 @@ use Rattle.fx_frame_base.specs.Stage.{Acts}
 use Rattle.fx_chain_stages.specs.declared.registry.EffectStage.{EffectStage}
 use Rattle.fx_plan_effects.specs.Meanings.{Placed, kind_at, meaning_at}
 pub use Rattle.fx_chain_stages.specs.Looks.{Look, look}
-pub use Rattle.fx_chain_stages.specs.Registry.{look_of, sound_of_stages}
+pub use Rattle.fx_chain_stages.specs.Registry.{early_of, look_of, sound_of_stages}
 
 abbrev pub recipe_of : EffectStage → Placed
 recipe_of s = (look_of s).recipe

@@ -10,7 +10,7 @@ ghost use Rattle.fx_chain_stages.specs.Stages.{effect_acts};
 
 use crate::registry::{EffectStage, each, each_by_samples, each_selected};
 use fx_frame::{Counters, Feeds, Frame, Passed, Passing, WideFrame};
-use fx_frame_base::pipeline::{PassesEarly, pass_early_by_stages};
+use fx_frame_base::pipeline::{PassesEarly, PassesWhile};
 use fx_frame_base::stage::Stage;
 use fx_tap_pointwise::around::pass_around;
 use fx_tap_pointwise::both::pass_both;
@@ -207,12 +207,16 @@ impl Feeds for EffectStage {
 }
 
 impl PassesEarly for EffectStage {
+    ghost use Rattle.fx_chain_stages.specs.Stages.{early_of};
+
+    ghost early = { early_of };
+
     fn lined(&self) -> u64 {
         each_selected!(self, stage => stage.lined(), 0)
     }
 
     #[tactic(auto, using(crate::proofs::Registered::joined_through))]
-    fn pass_early<F: Feeds>(
+    fn pass_early<F: PassesWhile>(
         &mut self,
         rest: &mut [F],
         count: usize,
@@ -222,7 +226,7 @@ impl PassesEarly for EffectStage {
         each_selected!(
             self,
             stage => stage.pass_early(rest, count, input, output),
-            pass_early_by_stages(self, rest, count, input, output)
+            unreachable!()
         )
     }
 }

@@ -15,7 +15,7 @@ use crate::many::{PassesMany, feed_by_pieces};
 use fx_frame::frozen::{stored_in, thawed_line_and_pending};
 use fx_frame::{Counters, Feeds, Frame, Line, Passed, Passing, Stage, ThawFault, WideFrame};
 use fx_frame_base::feed::see_samples;
-use fx_frame_base::pipeline::{PassesEarly, pass_in_place};
+use fx_frame_base::pipeline::{PassesEarly, PassesWhile, pass_in_place};
 use fx_frame_base::stage::MAX_TAKEN;
 use std::alloc::{AllocError, Global};
 use std::marker::Model;
@@ -450,12 +450,14 @@ impl<S: Selection + Drop> Feeds for Selected<S> {
 }
 
 impl<S: Selection + Drop> PassesEarly for Selected<S> {
+    ghost early = { λ s. length s.line.items };
+
     fn lined(&self) -> u64 {
         let frames = self.line.len();
         frames as u64
     }
 
-    fn pass_early<F: Feeds>(
+    fn pass_early<F: PassesWhile>(
         &mut self,
         rest: &mut [F],
         count: usize,
@@ -467,7 +469,7 @@ impl<S: Selection + Drop> PassesEarly for Selected<S> {
         see_samples(input);
         self.line.pop_frames(count, output);
         self.selection.select_many(output, channels, count, place);
-        pass_in_place(rest, channels, count, output);
+        pass_in_place(rest, &self.line, channels, count, output);
         self.line.push_frames(input, count);
         let _held = self.line.len();
         let frames = count as u64;

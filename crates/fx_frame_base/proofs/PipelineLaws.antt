@@ -2,6 +2,7 @@
 use Rattle.std.proofs.Common.{ℕ, suc, ◌+◌, ◌≤◌, ◌≡◌, ◌∙◌, List, [], ◌∷◌, length, refl, ap, subst, arith}
 use Rattle.fx_frame_base.specs.declared.feed.Passing.TheVariants.{Through}
 use Rattle.fx_frame_base.specs.Frame.{Samples}
+use Rattle.fx_frame_base.specs.Early.{PassedWhile}
 use Rattle.fx_frame_base.specs.Feed.{PassedOn}
 use Rattle.fx_frame_base.specs.Pipeline.{EachThrough, PipelineThrough}
 use Rattle.fx_frame_base.specs.Stage.{Acts, Counts, IsDry, kind}
@@ -12,6 +13,13 @@ module _ {S R : Type 0} (acts : Acts S R) where
   pub PipelineThrough-none : (stages : List S) → PipelineThrough acts [] [] stages stages
   PipelineThrough-none [] = refl
   PipelineThrough-none (s ∷ stages) = ([], refl, PipelineThrough-none stages)
+
+  -- what went through stages while one before them held frames went through them
+  pub PassedWhile-through : (passed_while : List Samples → List Samples → List Samples → S → S → Type 0) (held xs ys : List Samples) (old new : List S) → PassedWhile acts passed_while held xs ys old new → PipelineThrough acts xs ys old new
+  PassedWhile-through passed_while held xs ys [] [] went = went
+  PassedWhile-through passed_while held xs ys (s ∷ stages) (s' ∷ stages') went = (went.0, went.1, PassedWhile-through passed_while held went.0 ys stages stages' went.3)
+  PassedWhile-through passed_while held xs ys [] (s' ∷ stages') went = absurd went
+  PassedWhile-through passed_while held xs ys (s ∷ stages) [] went = absurd went
 
   -- it gave one for each
   pub EachThrough-long : (xs ys : List Samples) (s t : S) → EachThrough acts xs ys s t → length ys ≡ length xs

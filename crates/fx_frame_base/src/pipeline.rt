@@ -1,18 +1,67 @@
 //! Frames that go through stages in sequence, many at a time.
-ghost use Rattle.std.specs.Prelude.{◌≡◌, ◌≤◌, ◌+◌, ◌*◌, ℕ, length};
-ghost use Rattle.fx_frame_base.specs.Early.{MayPassEarly, PassedEarly};
+ghost use Rattle.std.specs.Prelude.{◌≡◌, ◌<◌, ◌≤◌, ◌+◌, ◌*◌, ℕ, List, length, false, true};
+ghost use Rattle.fx_frame_base.specs.Early.{MayPassEarly, PassedEarly, PassedWhile};
+ghost use Rattle.fx_frame_base.specs.Feed.{IsOneToOne};
+ghost use Rattle.fx_frame_base.specs.Frame.{Samples};
 ghost use Rattle.fx_frame_base.specs.Holds.{kinds};
 ghost use Rattle.fx_frame_base.specs.Lists.{pieces};
-ghost use Rattle.fx_frame_base.specs.Pipeline.{AllAhead, AllKeep, AllOneToOne, AreReady, PipelineThrough};
+ghost use Rattle.fx_frame_base.specs.Pipeline.{AllAhead, AllKeep, AllOneToOne, AreReady, EachThrough};
+ghost use Rattle.fx_frame_base.specs.Stage.{IsLined, is_enough, kind};
 
 use crate::feed::Feeds;
 
 /// The maximum number of samples of the frames that leave a stage early at once: as many as stages with a line take together.
 pub const MAX_EARLY_SAMPLES: usize = 64;
 
+/// What holds frames, as a delay line does.
+pub trait HoldsFrames {
+    /// The frames that it holds, the oldest first.
+    ghost frames: { Self → List Samples };
+}
+
+/// A stage after one that frames leave early.
+///
+/// All stages that can be fed have its call, and nothing is known of what `passed_while` says. So only a call of `pass_while` proves which
+/// frames a line held while others went through this stage.
+pub trait PassesWhile: Feeds {
+    // One call passed frames through this stage, from the first to the second state, while a line held frames: those of the line,
+    // those that were passed, and those that came out.
+    ghost passed_while: { List Samples → List Samples → List Samples → Self → Self → Type 0 };
+
+    /// As `pass_frames`, while the line of a stage before this one holds what it holds now.
+    fn pass_while<L: HoldsFrames>(&mut self, line: &L, count: usize, samples: &mut [i32])
+        requires dry { Self.acts.dry self.old ≡ true }
+        requires not_ended { (Self.acts.counts self.old).ended ≡ false }
+        requires one_to_one { IsOneToOne Self.acts count self.old }
+        requires ahead { (n : ℕ) → n < count → is_enough (kind Self.acts self.old).enough ((Self.acts.counts self.old).taken + n) ≡ false }
+        requires frame { (1 ≤ (kind Self.acts self.old).inputs) × ((kind Self.acts self.old).inputs ≤ 16) }
+        requires same_channels { (kind Self.acts self.old).outputs ≡ (kind Self.acts self.old).inputs }
+        requires samples { length samples.old ≡ count * (kind Self.acts self.old).inputs }
+        requires below_limit { (Self.acts.counts self.old).taken + count ≤ (kind Self.acts self.old).limit }
+        ensures through { EachThrough Self.acts (pieces (kind Self.acts self.old).inputs count samples.old) (pieces (kind Self.acts self.old).inputs count samples.new) self.old self.new }
+        ensures lined { IsLined Self.acts self.new }
+        ensures passed { passed_while (L.frames line.now) (pieces (kind Self.acts self.old).inputs count samples.old) (pieces (kind Self.acts self.old).inputs count samples.new) self.old self.new };
+}
+
+impl<S: Feeds> PassesWhile for S {
+    ghost passed_while = { λ _ _ _ _ _. Unit {0} };
+
+    #[inline(always)]
+    fn pass_while<L: HoldsFrames>(&mut self, _line: &L, count: usize, samples: &mut [i32]) {
+        self.pass_frames(count, samples);
+    }
+}
+
 /// Passes `count` frames of `channels` channels through stages in sequence, each of which gives one for each, and puts those that
-/// come out in their place. All of them go through a stage before the first goes through the next.
-pub fn pass_in_place<S: Feeds>(stages: &mut [S], channels: usize, count: usize, samples: &mut [i32])
+/// come out in their place. All of them go through a stage before the first goes through the next, while the line of a stage
+/// before these holds what it holds.
+pub fn pass_in_place<S: PassesWhile, L: HoldsFrames>(
+    stages: &mut [S],
+    line: &L,
+    channels: usize,
+    count: usize,
+    samples: &mut [i32],
+)
     requires frame { (1 ≤ channels) × (channels ≤ 16) }
     requires some { 1 ≤ count }
     requires ready { (taken maximum : ℕ) × (taken + count ≤ maximum) × AreReady S.acts channels taken maximum stages.old }
@@ -20,49 +69,35 @@ pub fn pass_in_place<S: Feeds>(stages: &mut [S], channels: usize, count: usize, 
     requires one_to_one { AllOneToOne S.acts count stages.old }
     requires ahead { AllAhead S.acts count stages.old }
     requires samples { length samples.old ≡ count * channels }
-    ensures through { PipelineThrough S.acts (pieces channels count samples.old) (pieces channels count samples.new) stages.old stages.new }
+    ensures passed { PassedWhile S.acts S.passed_while (L.frames line.now) (pieces channels count samples.old) (pieces channels count samples.new) stages.old stages.new }
     ensures len { length samples.new ≡ length samples.old }
 {
     let Some((first, rest)) = stages.split_first_mut() else {
         return;
     };
-    first.pass_frames(count, samples);
-    pass_in_place(rest, channels, count, samples);
+    first.pass_while(line, count, samples);
+    pass_in_place(rest, line, channels, count, samples);
 }
 
 /// A stage that may pass frames on early: to the stages after it, before as many others come.
 pub trait PassesEarly: Feeds {
     /// How many of the frames that it holds may go on before as many others come: none where what it gives depends on these.
+    ghost early: { Self → ℕ };
+
+    /// What `early` says.
     fn lined(&self) -> u64
-        ensures { result ≤ length (Self.acts.stored self.now) };
+        ensures { result ≡ early self.now };
 
     /// Passes `count` frames, for each of which it gives one, through this stage and those after it, and writes the frames that come
-    /// out. It is for as many as `lined` returns at most: these leave the stage and go through the others first, and only then do
-    /// the frames that came take their places. So at no time do the stages and the frames on their way come to more than before.
-    fn pass_early<F: Feeds>(
+    /// out. Its oldest frames leave its line and go through the others first, and only then do the frames that came take their
+    /// places. So at no time do the stages and the frames on their way come to more than before.
+    fn pass_early<F: PassesWhile>(
         &mut self,
         rest: &mut [F],
         count: usize,
         input: &[i32],
         output: &mut [i32],
     )
-        requires { MayPassEarly Self.acts F.acts count input.now output.old self.old rest.old }
-        ensures { PassedEarly Self.acts F.acts count input.now output.new self.old rest.old self.new rest.new };
-}
-
-/// What `pass_early` does, for any stage: all frames go through it before the first goes on.
-pub fn pass_early_by_stages<S: Feeds, F: Feeds>(
-    stage: &mut S,
-    rest: &mut [F],
-    count: usize,
-    input: &[i32],
-    output: &mut [i32],
-)
-    requires { MayPassEarly S.acts F.acts count input.now output.old stage.old rest.old }
-    ensures { PassedEarly S.acts F.acts count input.now output.new stage.old rest.old stage.new rest.new }
-{
-    let channels = stage.in_channels();
-    output.copy_from_slice(input);
-    stage.pass_frames(count, output);
-    pass_in_place(rest, channels, count, output);
+        requires { MayPassEarly Self.acts F.acts early count input.now output.old self.old rest.old }
+        ensures { PassedEarly Self.acts F.acts F.passed_while count input.now output.new self.old rest.old self.new rest.new };
 }

@@ -67,7 +67,7 @@ turns-preserved g c =
                 (Turned-gave acts first input start c.turns.flow w.step.new.self w.in-Given.frame c.turns.output w.put_frame.new.output _ _ _ _ old c.stages-stages.ensures.sound w.in-Given.ensures.steps (record { moved = w.in-Given.ensures.moved; held = here }) w.channels-written.ensures.frame.some
                 (omega (arith, c.turns-test.true, c.widths-widths.ensures.outputs, old.written_in)) w.put_frame.ensures w.put_frame.auto.output);
             order = rw (w.flow-is, w.output-is, w.taken-is, w.given-is)
-                (Turned-gave-order acts first input start g.S.StageCalls.handed c.turns.flow w.step.new.self w.in-Given.frame c.turns.output w.put_frame.new.output _ _ _ _ old sides (omega (arith, c.turns-test.true, c.widths-widths.ensures.outputs, old.written_in)) w.put_frame.ensures (w.in-Given.ensures.order first _ _ c.turns.invariant.order));
+                (Turned-gave-order acts first input start g.S.StageCalls.handed g.S.PassesWhile.passed_while c.turns.flow w.step.new.self w.in-Given.frame c.turns.output w.put_frame.new.output _ _ _ _ old sides (omega (arith, c.turns-test.true, c.widths-widths.ensures.outputs, old.written_in)) w.put_frame.ensures (w.in-Given.ensures.order first _ _ c.turns.invariant.order));
             free = rw w.taken-is c.turns.invariant.free;
             unchanged = λ bound. absurd (no_space bound);
             full = rw (w.flow-is, w.output-is, w.written-is, w.taken-is, w.given-is, w.channels-written.ensures.count)
@@ -96,7 +96,7 @@ turns-preserved g c =
                 (Turned-ran acts first input start _ _ old.gave.channels sides c.turns.flow w.run-passed.new.self c.turns.output c.match-state.output out _ _ _ _ w.run-passed.result.taken w.run-passed.result.given old w.in-Hungry.ensures.state.not_ended
                 (rw rest at passed.fed) (rw rest at passed.gave) c.requires.channels.0 (rw rest at passed.read) passed.written passed.small (rw over-all at passed.rest_unchanged) (w.run-passed.auto.output ∙ ap length over-all) put);
             order = rw (w.flow-is, w.taken-is, w.given-is)
-                (Turned-ran-order acts first input start g.S.StageCalls.handed _ _ old.gave.channels sides c.turns.flow w.run-passed.new.self c.turns.output c.match-state.output out _ _ _ _ w.run-passed.result.taken w.run-passed.result.given old c.turns.invariant.order (rw rest at passed.order) put);
+                (Turned-ran-order acts first input start g.S.StageCalls.handed g.S.PassesWhile.passed_while _ _ old.gave.channels sides c.turns.flow w.run-passed.new.self c.turns.output c.match-state.output out _ _ _ _ w.run-passed.result.taken w.run-passed.result.given old c.turns.invariant.order (rw rest at passed.order) put);
             free = rw w.taken-is
                 (Turned-free acts first input start c.turns.flow c.turns.output _ _ _ _ w.run-passed.result.taken (length start) old c.turns.invariant.free (rw (over-all, length-drop c.turns.written c.turns.output, c.turns.auto.output) at passed.free) (omega (arith, old.written_in, c.turns.auto.output)));
             unchanged = λ bound. absurd (no_space bound);

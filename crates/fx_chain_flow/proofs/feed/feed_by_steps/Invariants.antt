@@ -10,7 +10,7 @@ use Rattle.fx_chain_flow.proofs.feed.feed_by_steps.Given as goal
 abbrev pub invariant-turns : goal.invariant-turns
 invariant-turns g l = record {
   turned : Turned g.S.Stage.acts l.fn.flow l.input l.fn.output l.flow l.output l.read l.written l.taken l.given;
-  order : InOrder g.S.Stage.acts g.S.StageCalls.handed l.fn.flow (pieces l.fn.flow.channels l.taken l.input) (pieces (outputs_of l.fn.flow.channels (kinds g.S.Stage.acts l.fn.flow.stages)) l.given l.output) [] 0 l.flow;
+  order : InOrder g.S.Stage.acts g.S.StageCalls.handed g.S.PassesWhile.passed_while l.fn.flow (pieces l.fn.flow.channels l.taken l.input) (pieces (outputs_of l.fn.flow.channels (kinds g.S.Stage.acts l.fn.flow.stages)) l.given l.output) [] 0 l.flow;
   free : FlowTookWithinSpace g.S.Stage.acts l.fn.flow l.taken (length l.fn.output);
   unchanged : length l.fn.output < outputs_of l.fn.flow.channels (kinds g.S.Stage.acts l.fn.flow.stages) → l.flow ≡ l.fn.flow;
   full : 1 ≤ l.given → length l.fn.output < l.written + outputs_of l.fn.flow.channels (kinds g.S.Stage.acts l.fn.flow.stages)

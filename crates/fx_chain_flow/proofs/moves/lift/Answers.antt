@@ -9,7 +9,7 @@ pub returns-then-place-eq0-clause-order : goal.returns-then-place-eq0-clause-ord
 returns-then-place-eq0-clause-order g c =
     let full : c.args.inlet.now ≡ Some c.in-Some.frame = search rules in
     let none : c.take.new.self ≡ None = search rules in
-    λ f. rw none (inlet-order g.S.Stage.acts g.S.StageCalls.handed (record f { stages = c.args.stages.now; inlet = c.args.inlet.now }) c.args.place c.in-Some.frame c.if-place-eq0.true full c.requires.held)
+    λ f. rw none (inlet-order g.S.Stage.acts g.S.StageCalls.handed g.S.PassesWhile.passed_while (record f { stages = c.args.stages.now; inlet = c.args.inlet.now }) c.args.place c.in-Some.frame c.if-place-eq0.true full c.requires.held)
 
 pub give_at-requires : goal.give_at-requires
 give_at-requires g c =
@@ -36,4 +36,4 @@ returns-clause-order g c = λ f.
     let p = ChangedAt-placed (GaveWithin g.S.Stage.acts c.give_at.result) (c.args.place - 1) c.args.stages.now c.give_at.new.stages c.give_at.ensures.gave in
     let held = rw (← p.put) at (AllHeld-set g.S.Stage.acts (c.args.place - 1) c.args.stages.now p.after p.changed.1 c.requires.held) in
     let lined = rw (← p.put) at (AllLined-given g.S.Stage.acts c.args.place c.args.stages.now p.after c.if-place-eq0.false c.requires.lined) in
-    given-order g.S.Stage.acts g.S.StageCalls.handed (record f { stages = c.args.stages.now; inlet = c.args.inlet.now }) c.args.place c.give_at.result c.give_at.new.stages c.if-place-eq0.false c.give_at.ensures.handed held lined
+    given-order g.S.Stage.acts g.S.StageCalls.handed g.S.PassesWhile.passed_while (record f { stages = c.args.stages.now; inlet = c.args.inlet.now }) c.args.place c.give_at.result c.give_at.new.stages c.if-place-eq0.false c.give_at.ensures.handed held lined

@@ -12,7 +12,7 @@ pub returns-then-place-count-clause-lined : goal.returns-then-place-count-clause
 returns-then-place-count-clause-lined g c = rw add-one (AllLined-one g.S.Stage.acts c.args.place c.lift-frame.new.stages c.lift-frame.ensures.lined)
 
 pub returns-then-place-count-clause-order : goal.returns-then-place-count-clause-order
-returns-then-place-count-clause-order g c = λ f. out-order g.S.Stage.acts g.S.StageCalls.handed _ _ [] c.lift-frame.result c.args.place (c.lift-frame.ensures.order f) c.if-place-count.true
+returns-then-place-count-clause-order g c = λ f. out-order g.S.Stage.acts g.S.StageCalls.handed g.S.PassesWhile.passed_while _ _ [] c.lift-frame.result c.args.place (c.lift-frame.ensures.order f) c.if-place-count.true
 
 pub take_at-requires : goal.take_at-requires
 take_at-requires g c =
@@ -41,4 +41,4 @@ pub returns-clause-order : goal.returns-clause-order
 returns-clause-order g c = λ f.
     let p = ChangedAt-placed (TookWithin g.S.Stage.acts c.lift-frame.result) c.args.place c.lift-frame.new.stages c.take_at.new.stages c.take_at.ensures.took in
     let held = rw (← p.put) at (AllHeld-set g.S.Stage.acts c.args.place c.lift-frame.new.stages p.after p.changed.1 c.lift-frame.ensures.held) in
-    took-order g.S.Stage.acts g.S.StageCalls.handed _ _ [] [] c.lift-frame.result c.args.place c.take_at.new.stages (c.lift-frame.ensures.order f) c.take_at.ensures.handed held
+    took-order g.S.Stage.acts g.S.StageCalls.handed g.S.PassesWhile.passed_while _ _ [] [] c.lift-frame.result c.args.place c.take_at.new.stages (c.lift-frame.ensures.order f) c.take_at.ensures.handed held

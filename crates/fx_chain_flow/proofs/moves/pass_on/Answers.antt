@@ -24,4 +24,4 @@ pub returns-clause-order : goal.returns-clause-order
 returns-clause-order g c = λ f.
     let p = ChangedAt-placed (EndedWithin g.S.Stage.acts) c.in-Some.place c.args.stages.now c.end_at.new.stages c.end_at.ensures.ended in
     let held = rw (← p.put) at (AllHeld-set g.S.Stage.acts c.in-Some.place c.args.stages.now p.after p.changed.1 c.requires.held) in
-    end-order g.S.Stage.acts g.S.StageCalls.handed (record f { stages = c.args.stages.now }) c.in-Some.place c.end_at.new.stages c.end_at.ensures.handed held
+    end-order g.S.Stage.acts g.S.StageCalls.handed g.S.PassesWhile.passed_while (record f { stages = c.args.stages.now }) c.in-Some.place c.end_at.new.stages c.end_at.ensures.handed held

@@ -21,7 +21,7 @@ stages-init g c =
     let many : length (pieces c.args.channels c.args.count c.args.input.now) ≡ c.args.count = length-pieces c.args.channels c.args.count c.args.input.now in
     record {
       came_to = (refl, ap (pieces c.args.channels c.args.count) c.copy_from_slice.ensures.after, refl);
-      order = λ left. rw c.copy_from_slice.ensures.after (came-order acts g.S.StageCalls.handed (flow_of acts c.args.channels c.args.stages.now left) (pieces c.args.channels c.args.count c.args.input.now) c.args.count many refl within);
+      order = λ left. rw c.copy_from_slice.ensures.after (came-order acts g.S.StageCalls.handed g.S.PassesWhile.passed_while (flow_of acts c.args.channels c.args.stages.now left) (pieces c.args.channels c.args.count c.args.input.now) c.args.count many refl within);
       long = ap length c.copy_from_slice.ensures.after ∙ c.requires.input;
       lined = c.requires.lined;
       within = within;

@@ -11,7 +11,7 @@ abbrev pub invariant-stages : goal.invariant-stages
 invariant-stages g l = record {
   came_to : PieceTo g.S.Stage.acts l.place l.channels (pieces l.channels l.count l.input) l.channels (pieces l.channels l.count l.output) l.fn.stages l.stages;
   long : length l.output ≡ l.count * l.channels;
-  order : (left : ℕ) → InOrder g.S.Stage.acts g.S.StageCalls.handed (flow_of g.S.Stage.acts l.channels l.fn.stages left) (pieces l.channels l.count l.input) [] (pieces l.channels l.count l.output) l.place (flow_of g.S.Stage.acts l.channels l.stages (left + l.count));
+  order : (left : ℕ) → InOrder g.S.Stage.acts g.S.StageCalls.handed g.S.PassesWhile.passed_while (flow_of g.S.Stage.acts l.channels l.fn.stages left) (pieces l.channels l.count l.input) [] (pieces l.channels l.count l.output) l.place (flow_of g.S.Stage.acts l.channels l.stages (left + l.count));
   lined : AllLined g.S.Stage.acts l.stages;
   within : held_sum g.S.Stage.acts l.stages + l.count ≤ 1 + hold_sum (kinds g.S.Stage.acts l.stages);
 }

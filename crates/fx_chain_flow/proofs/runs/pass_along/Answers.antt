@@ -29,7 +29,7 @@ stages-init g c =
       held = c.requires.held;
       order = λ left.
           let within = AllHeld-sum acts c.args.stages.now c.requires.held in
-          came-order acts g.S.StageCalls.handed (flow_of acts c.args.channels c.args.stages.now left) (take c.args.channels c.args.places.now ∷ []) 1 refl refl (omega (arith, within));
+          came-order acts g.S.StageCalls.handed g.S.PassesWhile.passed_while (flow_of acts c.args.channels c.args.stages.now left) (take c.args.channels c.args.places.now ∷ []) 1 refl refl (omega (arith, within));
     }
 
 -- the stage at the place may be passed the frame
@@ -68,7 +68,7 @@ returns-in-Kept-clause-order g c = λ left.
     let acts = g.S.Stage.acts in
     let p = ChangedAt-placed (WasPassed acts Kept (take c.stages.width c.stages.places) (take c.pass_at.new.channels c.pass_at.new.places)) c.stages.place c.stages.stages c.pass_at.new.stages c.in-Kept.ensures.passed in
     let held : AllHeld acts c.pass_at.new.stages = rw p.put (AllHeld-set acts c.stages.place c.stages.stages p.after p.changed.0.0.held c.stages.invariant.held) in
-    took-order acts g.S.StageCalls.handed _ _ _ [] (take c.stages.width c.stages.places) c.stages.place c.pass_at.new.stages (c.stages.invariant.order left) c.in-Kept.ensures.handed held
+    took-order acts g.S.StageCalls.handed g.S.PassesWhile.passed_while _ _ _ [] (take c.stages.width c.stages.places) c.stages.place c.pass_at.new.stages (c.stages.invariant.order left) c.in-Kept.ensures.handed held
 
 pub stages-preserved : goal.stages-preserved
 stages-preserved g c =
@@ -89,7 +89,7 @@ stages-preserved g c =
             kept = λ keeps. c.pass_at.ensures.kept keeps ∙ c.stages.invariant.kept keeps;
             determined = λ none. rw p.put (determined-next acts c.stages.place c.stages.stages p.after here (c.stages.invariant.determined (sym w.is_wet-is ∙ none)) passed.3 (p.changed.1 passed.3));
             held = held;
-            order = λ left. passed-order acts g.S.StageCalls.handed _ _ _ [] x y c.stages.place c.pass_at.new.stages (c.stages.invariant.order left) refl w.in-Through.ensures.handed held;
+            order = λ left. passed-order acts g.S.StageCalls.handed g.S.PassesWhile.passed_while _ _ _ [] x y c.stages.place c.pass_at.new.stages (c.stages.invariant.order left) refl w.in-Through.ensures.handed held;
           })
       | in-More w ↦
           let x : Samples = (take c.stages.width c.stages.places) in
@@ -104,7 +104,7 @@ stages-preserved g c =
             kept = λ keeps. c.pass_at.ensures.kept keeps ∙ c.stages.invariant.kept keeps;
             determined = λ none. absurd (cc (none, w.is_wet-is));
             held = held;
-            order = λ left. passed-order acts g.S.StageCalls.handed _ _ _ [] x y c.stages.place c.pass_at.new.stages (c.stages.invariant.order left) refl w.in-More.ensures.handed held;
+            order = λ left. passed-order acts g.S.StageCalls.handed g.S.PassesWhile.passed_while _ _ _ [] x y c.stages.place c.pass_at.new.stages (c.stages.invariant.order left) refl w.in-More.ensures.handed held;
           })
     ]
 
@@ -128,4 +128,4 @@ pub returns-clause-order : goal.returns-clause-order
 returns-clause-order g c = λ left.
     let o = out g c in
     let last : c.stages.place ≡ length c.stages.stages = omega (arith, c.stages-test.false, c.stages.auto.stages, c.stages.auto.place-end) in
-    rw (← o.1) (out-order g.S.Stage.acts g.S.StageCalls.handed _ _ _ (take c.stages.width c.stages.places) c.stages.place (c.stages.invariant.order left) last)
+    rw (← o.1) (out-order g.S.Stage.acts g.S.StageCalls.handed g.S.PassesWhile.passed_while _ _ _ (take c.stages.width c.stages.places) c.stages.place (c.stages.invariant.order left) last)

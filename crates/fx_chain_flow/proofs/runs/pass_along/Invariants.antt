@@ -14,5 +14,5 @@ invariant-stages g l = record {
   kept : l.keeps ≡ true → l.width ≡ l.channels;
   determined : l.is_wet ≡ false → AllDetermined g.S.Stage.acts (take l.place l.stages);
   held : AllHeld g.S.Stage.acts l.stages;
-  order : (left : ℕ) → InOrder g.S.Stage.acts g.S.StageCalls.handed (flow_of g.S.Stage.acts l.channels l.fn.stages left) (take l.channels l.fn.places ∷ []) [] (take l.width l.places ∷ []) l.place (flow_of g.S.Stage.acts l.channels l.stages (left + 1));
+  order : (left : ℕ) → InOrder g.S.Stage.acts g.S.StageCalls.handed g.S.PassesWhile.passed_while (flow_of g.S.Stage.acts l.channels l.fn.stages left) (take l.channels l.fn.places ∷ []) [] (take l.width l.places ∷ []) l.place (flow_of g.S.Stage.acts l.channels l.stages (left + 1));
 }

@@ -53,7 +53,7 @@ returns-then-passed-gt0 g c =
       order = λ left.
           let xs = pieces c.args.widths.inputs c.pass_all-passed.result c.args.input.now in
           let many = length-pieces c.args.widths.inputs c.pass_all-passed.result c.args.input.now in
-          through-order g.S.Stage.acts g.S.StageCalls.handed (flow_of g.S.Stage.acts c.args.widths.inputs c.args.stages.now left) xs _ c.pass_all-passed.result c.pass_all-passed.new.stages many refl through_all.handed held;
+          through-order g.S.Stage.acts g.S.StageCalls.handed g.S.PassesWhile.passed_while (flow_of g.S.Stage.acts c.args.widths.inputs c.args.stages.now left) xs _ c.pass_all-passed.result c.pass_all-passed.new.stages many refl through_all.handed held;
       held = held;
     }
 

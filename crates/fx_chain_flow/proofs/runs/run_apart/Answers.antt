@@ -5,7 +5,7 @@ use Rattle.fx_frame_base.proofs.Pieces.{length-pieces}
 use Rattle.fx_frame_base.proofs.Puts.{pieces-take}
 use Rattle.fx_chain_flow.specs.Runs.{flow_of}
 use Rattle.fx_chain_flow.specs.Sound.{max_frames}
-use Rattle.fx_chain_flow.proofs.Orders.{AllHeld-pipeline, through-order}
+use Rattle.fx_chain_flow.proofs.Orders.{AllHeld-pipeline, early-order, through-order}
 use Rattle.fx_chain_flow.proofs.PieceLaws.{AllOneToOne-less}
 use Rattle.fx_chain_flow.proofs.PipelineRuns.{AreReady-run, RanOn-pipeline}
 use Rattle.fx_chain_flow.proofs.Pipelines.{AllHeld-lined}
@@ -46,50 +46,50 @@ returns-then-none_due-gt0 g c =
       some = λ _. some;
       rest_unchanged = refl;
       order = λ left.
-          through-order acts g.S.StageCalls.handed (flow_of acts inputs c.args.stages.now left) (pieces inputs count c.args.input.now) [] count c.take_first.new.stages (length-pieces inputs count c.args.input.now) refl (rw same at c.take_first.ensures.handed) held;
+          through-order acts g.S.StageCalls.handed g.S.PassesWhile.passed_while (flow_of acts inputs c.args.stages.now left) (pieces inputs count c.args.input.now) [] count c.take_first.new.stages (length-pieces inputs count c.args.input.now) refl (rw same at c.take_first.ensures.handed) held;
       held = held;
     }
 
-pub pass_all_early-requires-clause-ready : goal.pass_all_early-requires-clause-ready
-pass_all_early-requires-clause-ready g c =
+pub run_early-requires-clause-ready : goal.run_early-requires-clause-ready
+run_early-requires-clause-ready g c =
     let left = c.requires.may_run.0 in
     let may = c.requires.may_run.1 in
     let one_to_one = c.min_one_to_one-one_to_one.ensures in
     let early = c.early_frames-early.ensures in
     (left, max_frames, omega (arith, may.bound, one_to_one.maximum, early.maximum), AreReady-run g.S.Stage.acts c.args.widths.inputs c.args.count left c.args.stages.now may (omega (arith, c.if-early-gt0.true, one_to_one.maximum, early.maximum)) c.requires.determined c.requires.ahead)
 
-pub pass_all_early-requires-clause-free : goal.pass_all_early-requires-clause-free
-pass_all_early-requires-clause-free g c =
+pub run_early-requires-clause-free : goal.run_early-requires-clause-free
+run_early-requires-clause-free g c =
     let same : c.args.widths.outputs ≡ c.args.widths.inputs = c.requires.outputs ∙ outputs-keep _ _ (c.requires.keep (search rules)) in
     let fit : c.early_frames-early.result * c.args.widths.inputs ≤ c.args.count * c.args.widths.inputs = mul-le-mul_right c.args.widths.inputs (omega (arith, c.early_frames-early.ensures.maximum, c.min_one_to_one-one_to_one.ensures.maximum)) in
     omega (arith, fit, rw same at c.requires.output)
 
-pub pass_all_early-requires-clause-one_to_one : goal.pass_all_early-requires-clause-one_to_one
-pass_all_early-requires-clause-one_to_one g c = AllOneToOne-less g.S.Stage.acts c.early_frames-early.result c.min_one_to_one-one_to_one.result c.args.stages.now c.early_frames-early.ensures.maximum c.min_one_to_one-one_to_one.ensures.one_to_one
+pub run_early-requires-clause-one_to_one : goal.run_early-requires-clause-one_to_one
+run_early-requires-clause-one_to_one g c = AllOneToOne-less g.S.Stage.acts c.early_frames-early.result c.min_one_to_one-one_to_one.result c.args.stages.now c.early_frames-early.ensures.maximum c.min_one_to_one-one_to_one.ensures.one_to_one
 
-pub pass_all_early-requires-clause-ahead : goal.pass_all_early-requires-clause-ahead
-pass_all_early-requires-clause-ahead g c = AllAhead-less g.S.Stage.acts c.early_frames-early.result c.args.count c.args.stages.now (omega (arith, c.early_frames-early.ensures.maximum, c.min_one_to_one-one_to_one.ensures.maximum)) c.requires.ahead
+pub run_early-requires-clause-ahead : goal.run_early-requires-clause-ahead
+run_early-requires-clause-ahead g c = AllAhead-less g.S.Stage.acts c.early_frames-early.result c.args.count c.args.stages.now (omega (arith, c.early_frames-early.ensures.maximum, c.min_one_to_one-one_to_one.ensures.maximum)) c.requires.ahead
 
 pub returns-then-early-gt0 : goal.returns-then-early-gt0
 returns-then-early-gt0 g c =
-    let through_all = c.pass_all_early.ensures in
+    let went = c.run_early.ensures in
     let count = c.early_frames-early.result in
     let inputs = c.args.widths.inputs in
     let bound : count ≤ c.args.count = omega (arith, c.early_frames-early.ensures.maximum, c.min_one_to_one-one_to_one.ensures.maximum) in
     let same : c.args.widths.outputs ≡ inputs = c.requires.outputs ∙ outputs-keep _ _ (c.requires.keep (search rules)) in
     let some : 1 ≤ count = omega (arith, c.if-early-gt0.true) in
-    let held = AllHeld-pipeline g.S.Stage.acts _ _ c.args.stages.now c.pass_all_early.new.stages through_all.through (AllHeld-lined g.S.Stage.acts c.args.stages.now c.requires.lined) in
+    let held = AllHeld-pipeline g.S.Stage.acts _ _ c.args.stages.now c.run_early.new.stages went.through (AllHeld-lined g.S.Stage.acts c.args.stages.now c.requires.lined) in
     rw same (record {
       ran = λ left may.
-          RanOn-pipeline g.S.Stage.acts g.met.S.Stage.rises inputs c.args.count count left c.args.stages.now c.pass_all_early.new.stages c.args.input.now (pieces inputs count c.pass_all_early.new.output)
-          c.requires.frame.0 c.requires.frame.1 bound c.requires.input through_all.samples may c.requires.determined (AllHeld-lined g.S.Stage.acts c.args.stages.now c.requires.lined) c.requires.ahead through_all.through;
+          RanOn-pipeline g.S.Stage.acts g.met.S.Stage.rises inputs c.args.count count left c.args.stages.now c.run_early.new.stages c.args.input.now (pieces inputs count c.run_early.new.output)
+          c.requires.frame.0 c.requires.frame.1 bound c.requires.input went.samples may c.requires.determined (AllHeld-lined g.S.Stage.acts c.args.stages.now c.requires.lined) c.requires.ahead went.through;
       read = bound;
       written = omega arith;
       small = omega (arith, mul-le-mul_left count c.requires.frame.0);
       some = λ _. some;
-      rest_unchanged = through_all.rest_unchanged;
+      rest_unchanged = went.rest_unchanged;
       order = λ left.
-          through-order g.S.Stage.acts g.S.StageCalls.handed (flow_of g.S.Stage.acts inputs c.args.stages.now left) (pieces inputs count c.args.input.now) _ count c.pass_all_early.new.stages (length-pieces inputs count c.args.input.now) refl through_all.handed held;
+          early-order g.S.Stage.acts g.S.StageCalls.handed g.S.PassesWhile.passed_while (flow_of g.S.Stage.acts inputs c.args.stages.now left) (pieces inputs count c.args.input.now) _ count c.run_early.new.stages (length-pieces inputs count c.args.input.now) refl went.early held;
       held = held;
     })
 

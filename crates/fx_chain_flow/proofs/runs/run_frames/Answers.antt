@@ -58,7 +58,7 @@ returns-then-passage-2 g c =
     let order = λ (left : ℕ).
     Order-frame acts g.met.S.Stage.rises inputs outputs c.args.count c.requires.may_run.0 c.args.stages.now c.args.input.now c.args.output.now c.frames.stages c.pass_along-passage.new.stages c.frames.output c.if-passage.output c.frames.places c.pass_along-passage.new.places c.copy_samples.new.to
     c.frames.taken c.frames.given c.if-passage.given c.pass_along-passage.result.is_given (c.frames.invariant.runs c.requires.may_run.0 c.requires.may_run.1) c.requires.may_run.1.bound c.frames-test.true c.frames.invariant.determined outs c.requires.frame c.requires.input fits_out c.see_samples.ensures c.copy_samples.ensures (search rules)
-    c.pass_along-passage.ensures.went c.pass_along-passage.ensures.frame g.S.StageCalls.handed left wrote
+    c.pass_along-passage.ensures.went c.pass_along-passage.ensures.frame g.S.StageCalls.handed g.S.PassesWhile.passed_while left wrote
     (c.frames.invariant.order left) (c.pass_along-passage.ensures.order (left + c.frames.taken)) in
     let one : c.frames.taken + 1 ≤ c.args.count = omega (arith, c.frames-test.true) in
     let fit : (c.frames.taken + 1) * inputs ≤ c.args.count * inputs = mul-le-mul_right inputs one in
@@ -114,7 +114,7 @@ frames-preserved g c =
     let order = λ (left : ℕ).
     Order-frame acts g.met.S.Stage.rises inputs outputs c.args.count c.requires.may_run.0 c.args.stages.now c.args.input.now c.args.output.now c.frames.stages c.pass_along-passage.new.stages c.frames.output c.if-passage.output c.frames.places c.pass_along-passage.new.places c.copy_samples.new.to
     c.frames.taken c.frames.given c.if-passage.given c.pass_along-passage.result.is_given (c.frames.invariant.runs c.requires.may_run.0 c.requires.may_run.1) c.requires.may_run.1.bound c.frames-test.true c.frames.invariant.determined outs c.requires.frame c.requires.input fits_out c.see_samples.ensures c.copy_samples.ensures (search rules)
-    c.pass_along-passage.ensures.went c.pass_along-passage.ensures.frame g.S.StageCalls.handed left wrote
+    c.pass_along-passage.ensures.went c.pass_along-passage.ensures.frame g.S.StageCalls.handed g.S.PassesWhile.passed_while left wrote
     (c.frames.invariant.order left) (c.pass_along-passage.ensures.order (left + c.frames.taken)) in
     record {
       runs = next;

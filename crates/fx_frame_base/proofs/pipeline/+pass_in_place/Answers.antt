@@ -16,5 +16,5 @@ pass_in_place-requires g t c κs within =
     let one_to_one = rw all at c.requires.one_to_one in
     let ahead = rw all at c.requires.ahead in
     let came : length (pieces (kind acts c.in-Some.first.now).inputs c.args.count c.args.samples.now) ≡ c.args.count = length-pieces (kind acts c.in-Some.first.now).inputs c.args.count c.args.samples.now in
-    let fewer = each-fewer acts g.met.S.Stage.rises _ _ _ _ c.requires.ready.0 c.requires.ready.1 c.pass_frames.ensures.through (omega (arith, c.requires.some, came)) ready.4 (omega (arith, c.requires.ready.2, came)) in
-    (omega (arith, c.in-Some.ensures.cases.1), (within, (c.requires.frame, (c.requires.some, ((_, _, omega (arith, fewer, came), rw keep.0 at ready.6), (keep.1, (one_to_one.1, (ahead.1, c.pass_frames.auto.samples ∙ c.requires.samples))))))))
+    let fewer = each-fewer acts g.met.S.Stage.rises _ _ _ _ c.requires.ready.0 c.requires.ready.1 c.pass_while.ensures.through (omega (arith, c.requires.some, came)) ready.4 (omega (arith, c.requires.ready.2, came)) in
+    (omega (arith, c.in-Some.ensures.cases.1), (within.0, (within.1, (c.requires.frame, (c.requires.some, ((_, _, omega (arith, fewer, came), rw keep.0 at ready.6), (keep.1, (one_to_one.1, (ahead.1, c.pass_while.auto.samples ∙ c.requires.samples)))))))))

@@ -142,20 +142,20 @@ returns-clause-order g c = λ first xs gs order.
     let call = rw c.deref_mut.ensures.value at c.feed_only-passed.ensures.handed in
     let held = only-held g.S.Stage.acts passed.taken passed.given c.args.input.now c.args.output.now _ s.stages.items _ fed c.self-2.invariant.2 in
     let many = length-pieces s.channels passed.taken c.args.input.now in
-    let one = through-order g.S.Stage.acts g.S.StageCalls.handed (flow_of g.S.Stage.acts s.channels s.stages.items s.left) (pieces s.channels passed.taken c.args.input.now) _ passed.taken c.feed_only-passed.new.stages many refl (call s.channels sound.planned.matching) held in
+    let one = through-order g.S.Stage.acts g.S.StageCalls.handed g.S.PassesWhile.passed_while (flow_of g.S.Stage.acts s.channels s.stages.items s.left) (pieces s.channels passed.taken c.args.input.now) _ passed.taken c.feed_only-passed.new.stages many refl (call s.channels sound.planned.matching) held in
     let before = rw (← c.self-2.view_is, none, going) at order in
-    rw (← c.self-2.view_is, back, none, going) (InOrder-then g.S.Stage.acts g.S.StageCalls.handed first _ _ xs gs _ _ [] 0 before one)
+    rw (← c.self-2.view_is, back, none, going) (InOrder-then g.S.Stage.acts g.S.StageCalls.handed g.S.PassesWhile.passed_while first _ _ xs gs _ _ [] 0 before one)
 
 pub returns-then-stages-eq0-clause-order : goal.returns-then-stages-eq0-clause-order
 returns-then-stages-eq0-clause-order g c = λ first xs gs order.
     let s = c.self-2.inside in
     let (none, going, empty, many) = bare g (goal.at.returns-then-stages-eq0-clause-order g c).After-copy_frames-count in
-    let one = bare-order g.S.Stage.acts g.S.StageCalls.handed (flow_of g.S.Stage.acts s.channels [] s.left) (pieces s.channels c.copy_frames-count.result c.args.input.now) c.copy_frames-count.result many refl refl in
+    let one = bare-order g.S.Stage.acts g.S.StageCalls.handed g.S.PassesWhile.passed_while (flow_of g.S.Stage.acts s.channels [] s.left) (pieces s.channels c.copy_frames-count.result c.args.input.now) c.copy_frames-count.result many refl refl in
     let before = rw (← c.self-2.view_is, none, going, empty) at order in
-    rw (← c.self-2.view_is, none, going, empty, c.copy_frames-count.ensures.frames) (InOrder-then g.S.Stage.acts g.S.StageCalls.handed first _ _ xs gs _ _ [] 0 before one)
+    rw (← c.self-2.view_is, none, going, empty, c.copy_frames-count.ensures.frames) (InOrder-then g.S.Stage.acts g.S.StageCalls.handed g.S.PassesWhile.passed_while first _ _ xs gs _ _ [] 0 before one)
 
 pub returns-then-is_some-clause-order : goal.returns-then-is_some-clause-order
-returns-then-is_some-clause-order g c = λ first xs gs order. InOrder-then g.S.Stage.acts g.S.StageCalls.handed first _ _ xs gs _ _ [] 0 order c.feed_by_steps.ensures.order
+returns-then-is_some-clause-order g c = λ first xs gs order. InOrder-then g.S.Stage.acts g.S.StageCalls.handed g.S.PassesWhile.passed_while first _ _ xs gs _ _ [] 0 order c.feed_by_steps.ensures.order
 
 pub returns-then-stages-gt1-clause-order : goal.returns-then-stages-gt1-clause-order
-returns-then-stages-gt1-clause-order g c = λ first xs gs order. InOrder-then g.S.Stage.acts g.S.StageCalls.handed first _ _ xs gs _ _ [] 0 order c.feed_by_steps-then-stages-gt1.ensures.order
+returns-then-stages-gt1-clause-order g c = λ first xs gs order. InOrder-then g.S.Stage.acts g.S.StageCalls.handed g.S.PassesWhile.passed_while first _ _ xs gs _ _ [] 0 order c.feed_by_steps-then-stages-gt1.ensures.order

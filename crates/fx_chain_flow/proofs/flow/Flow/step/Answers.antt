@@ -124,7 +124,7 @@ wet_end-self-inside-requires-clause-lined g c =
 pub returns-then-is_idle-clause-order : goal.returns-then-is_idle-clause-order
 returns-then-is_idle-clause-order g c = λ first xs gs order.
     let here = rw c.deref_mut.ensures.value at c.pass_on-self-inside.ensures.order in
-    let all = InOrder-then g.S.Stage.acts g.S.StageCalls.handed first _ _ xs gs [] [] [] 0 (rw (← c.self.view_is) at order) (here (record { stages = c.self.inside.stages.items; inlet = c.self.inside.inlet; ended = c.self.inside.ended; left = c.self.inside.left; channels = c.self.inside.channels })) in
+    let all = InOrder-then g.S.Stage.acts g.S.StageCalls.handed g.S.PassesWhile.passed_while first _ _ xs gs [] [] [] 0 (rw (← c.self.view_is) at order) (here (record { stages = c.self.inside.stages.items; inlet = c.self.inside.inlet; ended = c.self.inside.ended; left = c.self.inside.left; channels = c.self.inside.channels })) in
     rw (written_back c.self.inside.stages.items c.pass_on-self-inside.new.stages c.self.inside.stages.len c.self.inside.stages.ok.0 (c.pass_on-self-inside.auto.stages ∙ ap length c.deref_mut.ensures.value)) (rw append-nil at all)
 
 pub returns-clause-order : goal.returns-clause-order
@@ -132,5 +132,5 @@ returns-clause-order g c = λ first xs gs order.
     let one : c.from.result ≡ cond (nat_eq c.self.inside.wet 0) 1 0 = search rules in
     let back = written_back c.self.inside.stages.items c.move_on-out.new.stages c.self.inside.stages.len c.self.inside.stages.ok.0 (c.move_on-out.auto.stages ∙ ap length c.deref_mut-2.ensures.value) in
     let here = rw c.deref_mut-2.ensures.value at c.move_on-out.ensures.order in
-    let all = InOrder-then g.S.Stage.acts g.S.StageCalls.handed first _ _ xs gs [] _ [] 0 (rw (← c.self.view_is) at order) (here (record { stages = c.self.inside.stages.items; inlet = c.self.inside.inlet; ended = c.self.inside.ended; left = c.self.inside.left; channels = c.self.inside.channels })) in
+    let all = InOrder-then g.S.Stage.acts g.S.StageCalls.handed g.S.PassesWhile.passed_while first _ _ xs gs [] _ [] 0 (rw (← c.self.view_is) at order) (here (record { stages = c.self.inside.stages.items; inlet = c.self.inside.inlet; ended = c.self.inside.ended; left = c.self.inside.left; channels = c.self.inside.channels })) in
     rw (back, c.made.ensures, one, given_out-step_of) (rw append-nil at all)

@@ -1,5 +1,5 @@
-use Rattle.std.proofs.Common.{rules, ◌≡◌, ◌≤◌, ◌*◌, ◌∙◌, ℕ, ◌++◌, length, take, sym, ap, arith, append-nil}
-use Rattle.std.specs.Prelude.{None}
+use Rattle.std.proofs.Common.{rules, ◌≡◌, ◌≤◌, ◌*◌, ◌∙◌, ℕ, ◌++◌, length, take, drop, sym, ap, arith, append-nil}
+use Rattle.std.specs.Prelude.{None, option_to_list}
 use Rattle.std.proofs.lemmas.List.{take-append-le}
 use Rattle.fx_frame_base.specs.Pipeline.{EachThrough}
 use Rattle.fx_frame_base.specs.Lists.{pieces}
@@ -32,7 +32,7 @@ passes g c =
     let empty : s.pending ≡ None = none_of s.pending may.dry in
     let a = one_to_one-alike selects g.S.Selection.determined s n c.self.invariant may.not_ended may.one_to_one empty may.ahead may.below_limit in
     let full = one_to_one-full selects g.S.Selection.determined s n c.self.invariant may.not_ended may.one_to_one in
-    let held : n ≤ length s.line.items = rw (empty, append-nil) at may.lined in
+    let held : n ≤ length s.line.items = may.lined in
     let popped = c.pop_frames.ensures in
     let came = c.push_frames.ensures in
     let many : length (pieces s.line.channels n c.args.input.now) ≡ n = length-pieces s.line.channels n c.args.input.now in
@@ -48,7 +48,17 @@ invariant_of-self g c = (passes g (goal.at.invariant_of-self g c).After-len-held
 pub returns : goal.returns
 returns g c =
     let width = c.channels-channels.ensures in
-    rw (← c.self.view_is) (pieces (g.S.Selection.selects.channels c.self.inside.selection) c.args.count c.select_many.new.samples, (passes g (goal.at.returns g c).After-len-held).0, rw width at c.pass_in_place.ensures.through)
+    let selects = g.S.Selection.selects in
+    let s = state c.self.inside.selection c.self.inside.pending c.self.inside.line c.self.inside.taken c.self.inside.given c.self.inside.ended in
+    let may = rw (← c.self.view_is) at c.requires in
+    let empty : s.pending ≡ None = none_of s.pending may.dry in
+    let left : drop c.args.count (s.line.items ++ option_to_list s.pending) ≡ c.pop_frames.new.self.items = rw (empty, append-nil) (sym c.pop_frames.ensures.items) in
+    rw (← c.self.view_is) (record {
+      between = pieces (selects.channels c.self.inside.selection) c.args.count c.select_many.new.samples;
+      through = (passes g (goal.at.returns g c).After-len-held).0;
+      stored = rw (empty, append-nil) may.lined;
+      others = rw left (rw width at c.pass_in_place.ensures.passed);
+    })
 
 pub pass_in_place-requires-clause-ready : goal.pass_in_place-requires-clause-ready
 pass_in_place-requires-clause-ready g c =
