@@ -8,7 +8,7 @@ DESTDIR =
 # The one place of the version is the program.
 VERSION := $(shell sed -n 's/^pub const VERSION.*"soxchain \([0-9.]*\)\\n.*/\1/p' crates/soxchain_common/src/about.rt)
 
-.PHONY: help quick test soxchain soxchain-plan soxchain-job lib demo conformance wrong-bodies bench pictures install uninstall wheel deb dist check-docs check-library \
+.PHONY: help quick test soxchain soxchain-plan soxchain-job lib demo conformance wrong-bodies bench instructions pictures install uninstall wheel deb dist check-docs check-library \
     check-packages same-bytes clean
 
 help:
@@ -22,6 +22,7 @@ help:
 	@echo 'make conformance  runs the proved program on 3,000 cases with known bytes, messages and statuses, and on 2,000 random ones'
 	@echo 'make wrong-bodies  has the prover refuse each wrong body of wrong-bodies/'
 	@echo 'make bench     times the proved program beside sox, effect by effect'
+	@echo 'make instructions  counts the instructions of the proved program for one more frame, effect by effect; needs valgrind'
 	@echo 'make pictures  draws the pictures of docs/effects.md; needs gnuplot'
 	@echo 'make install [PREFIX=/usr/local] [DESTDIR=]  programs, library, manual and completion; make uninstall takes them away'
 	@echo 'make wheel     a wheel of the module for Python with the library inside, in build/'
@@ -92,6 +93,10 @@ wrong-bodies:
 # The proved program beside sox, which has to be installed.
 bench: build/soxchain
 	@scripts/bench build/soxchain
+
+# What one more frame costs in instructions, by valgrind.
+instructions: build/soxchain
+	@scripts/instructions build/soxchain
 
 # What each effect does to a sound, from the proved program's own output.
 pictures: build/soxchain
