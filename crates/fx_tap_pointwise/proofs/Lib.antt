@@ -3,6 +3,7 @@
 pub mod Blocks
 pub mod BothLaws
 pub mod Fractions
+pub mod GroupLaws
 pub mod InSpecs
 pub mod Limiting
 pub mod MapLaws

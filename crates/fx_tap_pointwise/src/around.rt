@@ -10,7 +10,7 @@ ghost use Rattle.fx_frame.specs.Made.{clips_in, made_of};
 ghost use Rattle.fx_tap_pointwise.specs.Mapped.{map_acts};
 ghost use Rattle.fx_frame.specs.Kinds.{max_taken};
 
-use crate::mapped::{Mapped, MapsMany};
+use crate::mapped::{Mapped, MapsMany, PairWidths};
 use fx_frame_base::feed::see_samples;
 use fx_frame_base::frame::MAX_CHANNELS;
 
@@ -20,13 +20,6 @@ const FRAMES_AT_ONCE: usize = 4;
 /// The samples of a group whose frames have the maximum number of channels.
 const SAMPLES_AT_ONCE: usize = FRAMES_AT_ONCE * MAX_CHANNELS;
 
-/// The channels of the frames that go in, and of those that come out.
-#[derive(Clone, Copy)]
-struct PairWidths {
-    inputs: usize,
-    outputs: usize,
-}
-
 /// How many samples each of three effects clipped.
 #[derive(Clone, Copy)]
 struct RowClips {
@@ -35,10 +28,58 @@ struct RowClips {
     last: u64,
 }
 
-/// Writes what the last effect makes of what the middle one makes of what the first makes of each frame, and counts how many
-/// samples each clipped.
+/// Writes what the last effect makes of what the middle one makes of what the first makes of each frame of a group, and counts
+/// how many samples each clipped. The samples between the stages go into `before` and `after`.
 #[inline(always)]
-fn mapped_by_three<A: MapsMany, B: MapsMany, C: MapsMany>(
+fn group_by_three<A: MapsMany, B: MapsMany, C: MapsMany>(
+    first: &A,
+    middle: &B,
+    last: &C,
+    widths: PairWidths,
+    count: usize,
+    input: &[i32],
+    output: &mut [i32],
+    before: &mut [i32; SAMPLES_AT_ONCE],
+    after: &mut [i32; SAMPLES_AT_ONCE],
+) -> RowClips
+    requires inputs { (A.inputs first.now ≡ widths.inputs) × (A.outputs first.now ≡ widths.inputs) × (B.inputs middle.now ≡ widths.inputs) }
+    requires outputs { (B.outputs middle.now ≡ widths.outputs) × (C.inputs last.now ≡ widths.outputs) × (C.outputs last.now ≡ widths.outputs) }
+    requires frames { (1 ≤ widths.inputs) × (widths.inputs ≤ 16) × (1 ≤ widths.outputs) × (widths.outputs ≤ 16) }
+    requires bound { count ≤ 4 }
+    requires input { length input.now ≡ count * widths.inputs }
+    requires output { length output.old ≡ count * widths.outputs }
+    ensures frames { pieces widths.outputs count output.new ≡ made_of (C.mapped last.now) (made_of (B.mapped middle.now) (made_of (A.mapped first.now) (pieces widths.inputs count input.now))) }
+    ensures first { result.first ≡ clips_in (A.mapped first.now) (pieces widths.inputs count input.now) }
+    ensures middle { result.middle ≡ clips_in (B.mapped middle.now) (made_of (A.mapped first.now) (pieces widths.inputs count input.now)) }
+    ensures last { result.last ≡ clips_in (C.mapped last.now) (made_of (B.mapped middle.now) (made_of (A.mapped first.now) (pieces widths.inputs count input.now))) }
+    ensures before { All (λ (s : Samples). length s ≡ widths.inputs) (made_of (A.mapped first.now) (pieces widths.inputs count input.now)) }
+    ensures after { All (λ (s : Samples). length s ≡ widths.outputs) (made_of (B.mapped middle.now) (made_of (A.mapped first.now) (pieces widths.inputs count input.now))) }
+    ensures bound { (result.first ≤ 16 * count) × (result.middle ≤ 16 * count) × (result.last ≤ 16 * count) }
+{
+    let inner = PairWidths {
+        inputs: widths.inputs,
+        outputs: widths.inputs,
+    };
+    let outer = PairWidths {
+        inputs: widths.outputs,
+        outputs: widths.outputs,
+    };
+    let before = &mut before[..count * widths.inputs];
+    let after = &mut after[..count * widths.outputs];
+    let first_clips = first.map_group(inner, count, input, before);
+    let middle_clips = middle.map_group(widths, count, before, after);
+    let last_clips = last.map_group(outer, count, after, output);
+    RowClips {
+        first: first_clips,
+        middle: middle_clips,
+        last: last_clips,
+    }
+}
+
+/// Writes what the last effect makes of what the middle one makes of what the first makes of each frame, in groups, and counts
+/// how many samples each clipped.
+#[inline(always)]
+fn groups_by_three<A: MapsMany, B: MapsMany, C: MapsMany>(
     first: &A,
     middle: &B,
     last: &C,
@@ -65,26 +106,113 @@ fn mapped_by_three<A: MapsMany, B: MapsMany, C: MapsMany>(
     let _inputs = first.out_channels();
     let _outputs = middle.out_channels();
     let mut before = [0; SAMPLES_AT_ONCE];
-    let mut after_middle = [0; SAMPLES_AT_ONCE];
+    let mut after = [0; SAMPLES_AT_ONCE];
     let mut first_clips = 0;
     let mut middle_clips = 0;
     let mut last_clips = 0;
     let mut done = 0;
-    'groups: while done < count {
-        let group = FRAMES_AT_ONCE.min(count - done);
+    // The number of frames of these groups is known beforehand, so what each effect does with one is unrolled.
+    'groups: while done + FRAMES_AT_ONCE <= count {
         let read = done * widths.inputs;
-        let frames = &input[read..read + group * widths.inputs];
-        first_clips += first.map_many(frames, &mut before, group);
-        middle_clips += middle.map_many(&before, &mut after_middle, group);
+        let frames = &input[read..read + FRAMES_AT_ONCE * widths.inputs];
         let written = done * widths.outputs;
-        let made = &mut output[written..written + group * widths.outputs];
-        last_clips += last.map_many(&after_middle, made, group);
-        done += group;
+        let made = &mut output[written..written + FRAMES_AT_ONCE * widths.outputs];
+        let clips = group_by_three(
+            first,
+            middle,
+            last,
+            widths,
+            FRAMES_AT_ONCE,
+            frames,
+            made,
+            &mut before,
+            &mut after,
+        );
+        first_clips += clips.first;
+        middle_clips += clips.middle;
+        last_clips += clips.last;
+        done += FRAMES_AT_ONCE;
     }
+    let rest = count - done;
+    let rest_read = done * widths.inputs;
+    let frames = &input[rest_read..rest_read + rest * widths.inputs];
+    let rest_written = done * widths.outputs;
+    let made = &mut output[rest_written..rest_written + rest * widths.outputs];
+    let clips = group_by_three(
+        first,
+        middle,
+        last,
+        widths,
+        rest,
+        frames,
+        made,
+        &mut before,
+        &mut after,
+    );
     RowClips {
-        first: first_clips,
-        middle: middle_clips,
-        last: last_clips,
+        first: first_clips + clips.first,
+        middle: middle_clips + clips.middle,
+        last: last_clips + clips.last,
+    }
+}
+
+/// Writes what the last effect makes of what the middle one makes of what the first makes of each frame, and counts how many
+/// samples each clipped. The channels are often known beforehand.
+#[inline(always)]
+fn mapped_by_three<A: MapsMany, B: MapsMany, C: MapsMany>(
+    first: &A,
+    middle: &B,
+    last: &C,
+    widths: PairWidths,
+    count: usize,
+    input: &[i32],
+    output: &mut [i32],
+) -> RowClips
+    requires inputs { (A.inputs first.now ≡ widths.inputs) × (A.outputs first.now ≡ widths.inputs) × (B.inputs middle.now ≡ widths.inputs) }
+    requires outputs { (B.outputs middle.now ≡ widths.outputs) × (C.inputs last.now ≡ widths.outputs) × (C.outputs last.now ≡ widths.outputs) }
+    requires frames { (widths.inputs ≤ 16) × (widths.outputs ≤ 16) }
+    requires bound { count ≤ 2 ^ 56 }
+    requires input { count * widths.inputs ≤ length input.now }
+    requires free { count * widths.outputs ≤ length output.old }
+    ensures frames { pieces widths.outputs count output.new ≡ made_of (C.mapped last.now) (made_of (B.mapped middle.now) (made_of (A.mapped first.now) (pieces widths.inputs count input.now))) }
+    ensures rest_unchanged { drop (count * widths.outputs) output.new ≡ drop (count * widths.outputs) output.old }
+    ensures first { result.first ≡ clips_in (A.mapped first.now) (pieces widths.inputs count input.now) }
+    ensures middle { result.middle ≡ clips_in (B.mapped middle.now) (made_of (A.mapped first.now) (pieces widths.inputs count input.now)) }
+    ensures last { result.last ≡ clips_in (C.mapped last.now) (made_of (B.mapped middle.now) (made_of (A.mapped first.now) (pieces widths.inputs count input.now))) }
+    ensures before { All (λ (s : Samples). length s ≡ widths.inputs) (made_of (A.mapped first.now) (pieces widths.inputs count input.now)) }
+    ensures after { All (λ (s : Samples). length s ≡ widths.outputs) (made_of (B.mapped middle.now) (made_of (A.mapped first.now) (pieces widths.inputs count input.now))) }
+    ensures bound { (result.first ≤ 16 * count) × (result.middle ≤ 16 * count) × (result.last ≤ 16 * count) }
+{
+    match (widths.inputs, widths.outputs) {
+        (1, 1) => {
+            let known = PairWidths {
+                inputs: 1,
+                outputs: 1,
+            };
+            groups_by_three(first, middle, last, known, count, input, output)
+        }
+        (1, 2) => {
+            let known = PairWidths {
+                inputs: 1,
+                outputs: 2,
+            };
+            groups_by_three(first, middle, last, known, count, input, output)
+        }
+        (2, 1) => {
+            let known = PairWidths {
+                inputs: 2,
+                outputs: 1,
+            };
+            groups_by_three(first, middle, last, known, count, input, output)
+        }
+        (2, 2) => {
+            let known = PairWidths {
+                inputs: 2,
+                outputs: 2,
+            };
+            groups_by_three(first, middle, last, known, count, input, output)
+        }
+        _ => groups_by_three(first, middle, last, widths, count, input, output),
     }
 }
 

@@ -65,6 +65,13 @@ pub trait Mapping {
         ensures frame { (1 ≤ result) × (result ≤ 16) };
 }
 
+/// The channels of the frames that go in, and of those that come out.
+#[derive(Clone, Copy)]
+pub struct PairWidths {
+    pub inputs: usize,
+    pub outputs: usize,
+}
+
 /// A mapping that makes many frames in one call.
 pub trait MapsMany: Mapping {
     /// Maps `count` frames from the front of the input to the front of the output, and counts their clips.
@@ -79,6 +86,23 @@ pub trait MapsMany: Mapping {
         ensures bound { result ≤ 16 * count }
     {
         map_by_frames(self, input, output, count)
+    }
+
+    /// Maps a group of frames, and counts their clips, in code that the compiler unrolls where it knows the channels and the
+    /// number of frames.
+    #[inline(always)]
+    fn map_group(&self, widths: PairWidths, count: usize, input: &[i32], output: &mut [i32]) -> u64
+        requires inputs { widths.inputs ≡ Self.inputs self.now }
+        requires outputs { widths.outputs ≡ Self.outputs self.now }
+        requires channels { (1 ≤ widths.inputs) × (widths.inputs ≤ 16) }
+        requires bound { count ≤ 256 }
+        requires input { length input.now ≡ count * widths.inputs }
+        requires output { length output.old ≡ count * widths.outputs }
+        ensures frames { pieces widths.outputs count output.new ≡ made_of (Self.mapped self.now) (pieces widths.inputs count input.now) }
+        ensures clips { result ≡ clips_in (Self.mapped self.now) (pieces widths.inputs count input.now) }
+        ensures bound { result ≤ 16 * count }
+    {
+        self.map_many(input, output, count)
     }
 
     /// Maps `count` frames in place, and counts their clips, where it keeps the number of channels.

@@ -7,7 +7,7 @@ ghost use Rattle.fx_frame.specs.Made.{rounded_given};
 ghost use Rattle.fx_frame_base.specs.Rounded.{clips_rounded, samples_of};
 
 use crate::both::{BothClips, rounded_by_both};
-use crate::mapped::{Mapped, Mapping, MapsMany};
+use crate::mapped::{Mapped, Mapping, MapsMany, PairWidths};
 use fx_frame::{Frame, ThawFault, WideFrame};
 use fx_frame_base::frame::MAX_CHANNELS;
 use std::marker::Model;
@@ -205,6 +205,17 @@ impl<S: SamplesMany + Drop> MapsMany for PerSample<S> {
         let samples = count * self.channels;
         self.sampling
             .round_many(&input[..samples], &mut output[..samples])
+    }
+
+    #[inline(always)]
+    fn map_group(
+        &self,
+        _widths: PairWidths,
+        _count: usize,
+        input: &[i32],
+        output: &mut [i32],
+    ) -> u64 {
+        self.sampling.round_many(input, output)
     }
 
     fn map_many_over(&self, samples: &mut [i32], _count: usize) -> u64 {

@@ -70,6 +70,7 @@ impl ProperFraction {
     }
 
     /// Writes what it makes of each sample. None is clipped.
+    #[inline(always)]
     pub fn round_many(&self, input: &[i32], output: &mut [i32])
         requires { length output.old ≡ length input.now }
         ensures samples { output.new ≡ samples_of (map (fraction_sample self.now) input.now) }

@@ -14,7 +14,7 @@ ghost use Rattle.fx_tap_pointwise.specs.RemixState.{remix_acts};
 pub mod words;
 
 use crate::channels::{ChannelShape, Place, add_channel, halved, place_channel, place_mean};
-use crate::mapped::{Mapped, Mapping, MapsMany};
+use crate::mapped::{Mapped, Mapping, MapsMany, PairWidths};
 use crate::out_spec::{OutSpec, Weight};
 use crate::per_sample::Sampling;
 use crate::vol::Scale;
@@ -269,7 +269,42 @@ impl Mix {
         clips
     }
 
-    /// The same for the frames of a piece, all of them at once where the form allows.
+    /// The same for the frames of a piece, all of them at once where the form allows, for a form that weighs channels.
+    #[inline(never)] // so that a group of a few frames that are copied or halved stays small enough to be unrolled
+    fn channel_weighed(
+        &self,
+        frames: &[i32],
+        shape: ChannelShape,
+        out: &mut [i32],
+        place: Place,
+    ) -> u64
+        requires inputs { (1 ≤ shape.channels) × (shape.channels ≤ 16) }
+        requires count { shape.count ≤ 256 }
+        requires frames { length frames.now ≡ shape.count * shape.channels }
+        requires channel { place.channel < place.channels }
+        requires outputs { place.channels ≤ 16 }
+        requires out { shape.count * place.channels ≤ length out.old }
+        ensures put { (i : ℕ) → i < shape.count → slice_index_or out.new (i * place.channels + place.channel) (pos 0) ≡ (remixed_sample self.now (slice_index_or (pieces shape.channels shape.count frames.now) i [])).0 }
+        ensures others { (k : ℕ) → IsOtherPlace place.channels place.channel shape.count k → slice_index_or out.new k (pos 0) ≡ slice_index_or out.old k (pos 0) }
+        ensures clips { result ≡ clips_rounded (tabulate (λ i. remixed_sample self.now (slice_index_or (pieces shape.channels shape.count frames.now) i [])) 0 shape.count) }
+        ensures bound { result ≤ shape.count }
+    {
+        match &self.form {
+            Form::Scaled(channel, scale) if *channel < shape.channels => {
+                scale.place_channel(frames, shape, *channel, out, place)
+            }
+            Form::Small(small) if shape.count > MAX_FRAMES_ALONE => {
+                let mut places = [0; FRAMES_OF_PIECE];
+                let sums = &mut places[..shape.count];
+                self.add_channels(&small.weights, frames, shape.channels, sums);
+                round_channel(sums, &small.denominator, place.channels, place.channel, out)
+            }
+            _ => self.channel_by_frames(frames, shape, out, place),
+        }
+    }
+
+    /// The same, for any form.
+    #[inline(always)]
     fn channel_into(
         &self,
         frames: &[i32],
@@ -297,22 +332,21 @@ impl Mix {
                 place_mean(frames, shape, *first, *second, out, place);
                 0
             }
-            Form::Scaled(channel, scale) if *channel < shape.channels => {
-                scale.place_channel(frames, shape, *channel, out, place)
-            }
-            Form::Small(small) if shape.count > MAX_FRAMES_ALONE => {
-                let mut places = [0; FRAMES_OF_PIECE];
-                let sums = &mut places[..shape.count];
-                self.add_channels(&small.weights, frames, shape.channels, sums);
-                round_channel(sums, &small.denominator, place.channels, place.channel, out)
-            }
-            _ => self.channel_by_frames(frames, shape, out, place),
+            _ => self.channel_weighed(frames, shape, out, place),
         }
     }
 }
 
 /// Makes the frames of a piece, channel by channel, and counts how many of their samples were clipped.
-fn mix_piece(mixes: &[Mix], frames: &[i32], shape: ChannelShape, out: &mut [i32]) -> u64
+#[inline(always)]
+fn mix_piece(
+    mixes: &[Mix],
+    channels: usize,
+    frames: &[i32],
+    shape: ChannelShape,
+    out: &mut [i32],
+) -> u64
+    requires channels { channels ≡ length mixes.now }
     requires inputs { (1 ≤ shape.channels) × (shape.channels ≤ 16) }
     requires outs { length mixes.now ≤ 16 }
     requires count { shape.count ≤ 256 }
@@ -322,7 +356,6 @@ fn mix_piece(mixes: &[Mix], frames: &[i32], shape: ChannelShape, out: &mut [i32]
     ensures clips { result ≡ clips_in (remixed_frame mixes.now) (pieces shape.channels shape.count frames.now) }
     ensures bound { result ≤ 16 * shape.count }
 {
-    let channels = mixes.len();
     let mut clips = 0;
     'mixes: for channel in 0..channels {
         clips += mixes[channel].channel_into(frames, shape, out, Place { channel, channels });
@@ -355,7 +388,8 @@ fn mix_frames(mixes: &[Mix], inputs: usize, input: &[i32], output: &mut [i32], c
             channels: inputs,
         };
         let at = done * outputs;
-        clips += mix_piece(mixes, frames, shape, &mut output[at..at + now * outputs]);
+        let made = &mut output[at..at + now * outputs];
+        clips += mix_piece(mixes, outputs, frames, shape, made);
         done += now;
     }
     clips
@@ -491,5 +525,20 @@ impl Mapped<Remixing> {
 impl MapsMany for Remixing {
     fn map_many(&self, input: &[i32], output: &mut [i32], count: usize) -> u64 {
         mix_frames(&self.mixes, self.channels, input, output, count)
+    }
+
+    #[inline(always)]
+    fn map_group(
+        &self,
+        widths: PairWidths,
+        count: usize,
+        input: &[i32],
+        output: &mut [i32],
+    ) -> u64 {
+        let shape = ChannelShape {
+            count,
+            channels: widths.inputs,
+        };
+        mix_piece(&self.mixes, widths.outputs, input, shape, output)
     }
 }

@@ -173,6 +173,7 @@ impl SamplesAfter for Scale {
 }
 
 impl SamplesMany for Scale {
+    #[inline(always)]
     fn round_many(&self, input: &[i32], output: &mut [i32]) -> u64 {
         if let Some(proper) = &self.proper {
             proper.round_many(input, output);

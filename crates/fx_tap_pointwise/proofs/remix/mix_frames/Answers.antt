@@ -17,8 +17,8 @@ slice_bounds-frames-end c =
     let within : c.pieces.done + c.min-now.result ≤ c.args.count = omega arith in
     omega (arith, mul-le-mul_right c.args.inputs within, add-mul c.pieces.done c.min-now.result c.args.inputs, c.requires.input)
 
-pub slice_bounds-mix_piece-end : goal.slice_bounds-mix_piece-end
-slice_bounds-mix_piece-end c =
+pub slice_bounds-made-end : goal.slice_bounds-made-end
+slice_bounds-made-end c =
     let outs : ℕ = length c.args.mixes.now in
     let within : c.pieces.done + c.min-now.result ≤ c.args.count = omega arith in
     omega (arith, mul-le-mul_right outs within, add-mul c.pieces.done c.min-now.result outs, c.requires.output, c.pieces.auto.output)
