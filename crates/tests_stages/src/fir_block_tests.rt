@@ -261,6 +261,40 @@ fn filters_by(
     }
 }
 
+/// Leaves of each sample what a sound of 16 bits has.
+fn narrow(samples: &mut [i32]) {
+    for place in 0..samples.len() {
+        samples[place] &= -65_536;
+    }
+}
+
+/// Fails where a `fir` of so many coefficients of six decimals does not give what it has to, for so many frames of 16 bits.
+fn filters_narrow(alloc: Global, count: usize, frames: usize) -> Result<(), Fail>
+    requires frames { frames ≤ 2 ^ 20 }
+{
+    let coefficients = coefficients(alloc, count, false)?;
+    let Ok(mut sound) = sound(alloc, frames) else {
+        return Err(REFUSED.into());
+    };
+    narrow(&mut sound);
+    let mut given = Vec::new(alloc);
+    feed(alloc, &coefficients, 1, &sound, &mut given)?;
+    if are_right(alloc, &coefficients, 1, &sound, &given) {
+        Ok(())
+    } else {
+        Err(format!(in alloc; "other samples by {count} coefficients")?.into())
+    }
+}
+
+/// Counts of coefficients beside that from which on transforms add where products of 16 bits could.
+#[test]
+fn fir_of_16_bits(rt: HostRuntime) -> Result<(), Fail> {
+    for count in [194, 195, 196, 256] {
+        filters_narrow(rt.alloc(), count, 5000)?;
+    }
+    Ok(())
+}
+
 /// Counts of coefficients of six decimals beside those where another way of adding begins.
 #[test]
 fn fir_of_many(rt: HostRuntime) -> Result<(), Fail> {
