@@ -161,14 +161,10 @@ impl Reduced {
     {
         let weights = &self.small.weights;
         let products = sums.len().saturating_mul(weights.len());
-        if let Some(spectrum) = &self.spectrum {
-            if self.is_wide && products >= DIGIT_PRODUCTS_OF_TRANSFORM {
-                spectrum.convolve(window, sums);
-                return;
-            }
-        }
+        let is_long = self.is_wide && products >= DIGIT_PRODUCTS_OF_TRANSFORM;
         if let Some(pairs) = &self.pairs {
-            if sums.len() >= MIN_PAIRED_SUMS && pairs.convolve(window, sums) {
+            let is_faster = !is_long || self.spectrum.is_none();
+            if is_faster && sums.len() >= MIN_PAIRED_SUMS && pairs.convolve(window, sums) {
                 return;
             }
         }
