@@ -23,8 +23,9 @@ module _ {S R : Type 0} (acts : Acts S R) where
   AllFit others maximum old new = ⊥
 
 module _ {S R : Type 0} (acts : Acts S R) (passed_while : List Samples → List Samples → List Samples → S → S → Type 0) where
-  -- As many frames as came left the first stage early, and went through the others. With each call of these it held what it had
-  -- stored without its oldest frames; so held, stored by the others and in transit were no more than the flow holds.
+  -- As many frames as came left the first stage early, and went through the others. With each call of these a line held what the
+  -- first stage had stored without its oldest frames. So the frames of this line, those that the others stored, and those in transit
+  -- were no more than the flow holds. That the line is the first stage's own is not stated.
   abbrev pub WentEarly : List Samples → List Samples → List S → List S → Type 0
   WentEarly xs gs (s ∷ stages) (s' ∷ stages') =
       (between : List Samples) × EachThrough acts xs between s s'

@@ -326,8 +326,8 @@ impl<S: StageCalls> Flow<S> {
     /// it; where the output has no space for one frame, nothing changes, and once it has none, the call ends: the
     /// last step is the one that gave the last frame.
     ///
-    /// It hands frames over by the calls of `StageCalls` alone. Between two of these, the frames that it holds and those in
-    /// transit to a stage are no more than its hold.
+    /// It hands frames over by the calls of `StageCalls`, and by `PassesEarly::pass_early`. Between two of these calls, the frames
+    /// that it holds and those in transit to a stage are no more than its hold.
     pub fn feed(&mut self, input: &[i32], output: &mut [i32]) -> Passed
         requires channels { (1 ≤ self.old.channels) × (self.old.channels ≤ 16) }
         requires bound { (n : ℕ) → n * self.old.channels ≤ length input.now → taken_of self.old + n ≤ max_frames }

@@ -9,7 +9,7 @@ use Rattle.fx_frame_base.specs.Stage.{Acts, is_enough, kind}
 
 module _ {T Q : Type 0} (acts : Acts T Q) (passed_while : List Samples → List Samples → List Samples → T → T → Type 0) where
   -- These frames went through stages in sequence, and those came out, one for each. Each stage passed all of them in one call, while
-  -- a stage before held the first ones.
+  -- a line held the first ones.
   abbrev pub PassedWhile : List Samples → List Samples → List Samples → List T → List T → Type 0
   PassedWhile held xs ys [] [] = ys ≡ xs
   PassedWhile held xs ys (s ∷ stages) (s' ∷ stages') = (between : List Samples) × EachThrough acts xs between s s' × passed_while held xs between s s' × PassedWhile held between ys stages stages'
@@ -37,7 +37,8 @@ module _ {S R T Q : Type 0} (acts : Acts S R) (after : Acts T Q) where
     pub rest_ahead : AllAhead after count rest
 
   -- They went through it, and those that it gave through the stages after it; the last ones came out. With each call of these stages
-  -- it held what it had stored without the `count` oldest frames, for these were on their way.
+  -- a line held what it had stored without the `count` oldest frames, for these were on their way. That the line is its own is not
+  -- stated, nor when it took the frames that came.
   pub record PassedEarly (passed_while : List Samples → List Samples → List Samples → T → T → Type 0) (count : ℕ) (input output : List ℤ) (s : S) (rest : List T) (s' : S) (rest' : List T) : Type 0 where
     pub between : List Samples
     pub through : EachThrough acts (pieces (kind acts s).inputs count input) between s s'

@@ -89,8 +89,8 @@ pub trait PassesEarly: Feeds {
         ensures { result ≡ early self.now };
 
     /// Passes `count` frames, for each of which it gives one, through this stage and those after it, and writes the frames that come
-    /// out. Its oldest frames leave its line and go through the others first, and only then do the frames that came take their
-    /// places. So at no time do the stages and the frames on their way come to more than before.
+    /// out. Its oldest frames leave its line and go through the others first; then the frames that came take their places. With
+    /// each call of the others a line is shown to hold what this stage had stored without those oldest frames.
     fn pass_early<F: PassesWhile>(
         &mut self,
         rest: &mut [F],

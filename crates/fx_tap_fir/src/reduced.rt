@@ -25,12 +25,6 @@ const MIN_PAIRED_SUMS: usize = 16;
 /// one by one.
 const PRODUCTS_OF_TRANSFORM: usize = 1 << 18;
 
-/// The same for products of 16 bits with two digits a weight: each takes less time than a product of 32 bits.
-const DIGIT_PRODUCTS_OF_TRANSFORM: usize = 360_000;
-
-/// The largest magnitude of a weight that products of 16 bits take whole.
-const MAX_WHOLE: u32 = 32_767;
-
 /// How many sums are made at once without a spectrum.
 pub const SUMS_OF_PIECE: usize = 256;
 
@@ -44,8 +38,6 @@ pub struct Reduced {
     small: Small,
     pairs: Option<Pairs>,
     spectrum: Option<Spectrum>,
-    /// A weight has more than 16 bits.
-    is_wide: bool,
 }
 
 impl Model for Reduced {
@@ -89,16 +81,6 @@ fn spectrum_of(alloc: Global, weights: &[i32]) -> Result<Option<Spectrum>, Alloc
     Spectrum::of(alloc, weights)
 }
 
-/// Has a weight more than 16 bits, so that products of 16 bits take the weights as two digits each?
-fn has_wide(weights: &[i32]) -> bool {
-    for weight in weights {
-        if weight.unsigned_abs() > MAX_WHOLE {
-            return true;
-        }
-    }
-    false
-}
-
 impl Reduced {
     /// At most 1024 coefficients over a denominator, in lowest terms. None where they are not small.
     pub fn of(
@@ -115,12 +97,10 @@ impl Reduced {
         };
         let pairs = pairs_of(alloc, &small.weights)?;
         let spectrum = spectrum_of(alloc, &small.weights)?;
-        let is_wide = has_wide(&small.weights);
         Ok(Some(Reduced {
             small,
             pairs,
             spectrum,
-            is_wide,
         }))
     }
 
@@ -159,17 +139,14 @@ impl Reduced {
         ensures sums { (i : ℕ) → i < length sums.new → slice_index_or sums.new i (pos 0) ≡ sum_of_products (drop i window.now) self.now.weights }
         ensures bound { (i : ℕ) → i < length sums.new → unsigned_abs (slice_index_or sums.new i (pos 0)) ≤ 2 ^ 61 }
     {
-        let weights = &self.small.weights;
-        let products = sums.len().saturating_mul(weights.len());
-        let is_long = self.is_wide && products >= DIGIT_PRODUCTS_OF_TRANSFORM;
         if let Some(pairs) = &self.pairs {
-            let is_faster = !is_long || self.spectrum.is_none();
-            if is_faster && sums.len() >= MIN_PAIRED_SUMS && pairs.convolve(window, sums) {
+            if sums.len() >= MIN_PAIRED_SUMS && pairs.convolve(window, sums) {
                 return;
             }
         }
+        let weights = &self.small.weights;
         if let Some(spectrum) = &self.spectrum {
-            if products >= PRODUCTS_OF_TRANSFORM {
+            if sums.len().saturating_mul(weights.len()) >= PRODUCTS_OF_TRANSFORM {
                 spectrum.convolve(window, sums);
                 return;
             }

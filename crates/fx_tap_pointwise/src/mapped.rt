@@ -90,7 +90,6 @@ pub trait MapsMany: Mapping {
 
     /// Maps a group of frames, and counts their clips, in code that the compiler unrolls where it knows the channels and the
     /// number of frames.
-    #[inline(always)]
     fn map_group(&self, widths: PairWidths, count: usize, input: &[i32], output: &mut [i32]) -> u64
         requires inputs { widths.inputs ≡ Self.inputs self.now }
         requires outputs { widths.outputs ≡ Self.outputs self.now }
@@ -100,10 +99,7 @@ pub trait MapsMany: Mapping {
         requires output { length output.old ≡ count * widths.outputs }
         ensures frames { pieces widths.outputs count output.new ≡ made_of (Self.mapped self.now) (pieces widths.inputs count input.now) }
         ensures clips { result ≡ clips_in (Self.mapped self.now) (pieces widths.inputs count input.now) }
-        ensures bound { result ≤ 16 * count }
-    {
-        self.map_many(input, output, count)
-    }
+        ensures bound { result ≤ 16 * count };
 
     /// Maps `count` frames in place, and counts their clips, where it keeps the number of channels.
     fn map_many_over(&self, samples: &mut [i32], count: usize) -> u64
