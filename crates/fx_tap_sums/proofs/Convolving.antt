@@ -1,13 +1,13 @@
 -- Sums of samples times small weights, tap by tap and side by side.
 use Rattle.std.proofs.Common.{◌≡◌, ℕ, replicate, ◌+◌, ◌-◌, ◌*◌, ◌^◌, ◌<◌, ◌≤◌, Bool, true, false, List, [], ◌++◌, length, take, drop, get_or, refl, sym, ap, ◌∙◌, arith, ℤ, pos, ◌+ℤ◌, ◌*ℤ◌, length-append}
 use Rattle.std.specs.Prelude.{sum_by, unsigned_abs, nat_lt}
-use Rattle.std.specs.Simd.Lanes.{chunk, put_chunk, zip2}
+use Rattle.std.specs.Simd.Lanes.{put_chunk, zip2}
 use borrow.Rule.Slice.PartMut.{put_mid}
 use Rattle.std.proofs.lemmas.Bool.Decides.{nat_tests}
 use Rattle.std.proofs.lemmas.Int.{ints}
 use Rattle.std.proofs.lemmas.List.{drop_more, drop_all, get_or-drop, get_or-append-add, get_or-replicate, get_or_append_left, get_or-take, length-drop, length-take-le}
 use Rattle.std.proofs.lemmas.List.Sums.{sum_by-cons}
-use Rattle.std.proofs.lemmas.Simd.{Each1-from_get_or, Each1-get_or, Each1-replicate, get_or-zip2, get_or-chunk, length-zip2, put_chunk_is}
+use Rattle.std.proofs.lemmas.Simd.{Each1-from_get_or, Each1-get_or, Each1-replicate, get_or-zip2, length-zip2, put_chunk_is}
 use Rattle.fx_tap_sums.specs.Lanes.{LanesWithin, WithinLane}
 use Rattle.fx_tap_sums.specs.Products.{sum_of_products}
 use Rattle.fx_tap_sums.proofs.ProductBounds.{sum_of_products-drop}
@@ -67,39 +67,41 @@ Adding-bound xs ws tap s a = let bound = a.bound in omega (arith, bound)
 
 -- ---- side by side
 
--- four lanes, each with the sum from its place of the window on
+-- four lanes, each with the sum from its place of the window on: every second place from a base on
 pub record AddingLanes (window ws : List ℤ) (base tap : ℕ) (lanes : List ℤ) : Type 0 where
   pub four : length lanes ≡ 4
-  pub each : (k : ℕ) → k < 4 → Adding (drop (base + k) window) ws tap (get_or lanes k (pos 0))
+  pub each : (k : ℕ) → k < 4 → Adding (drop (base + 2 * k) window) ws tap (get_or lanes k (pos 0))
 
 pub AddingLanes-within : (window ws : List ℤ) (base tap : ℕ) (lanes : List ℤ) → AddingLanes window ws base tap lanes → LanesWithin (2 ^ 61) lanes
 AddingLanes-within window ws base tap lanes a = record {
   four = a.four;
-  small = Each1-from_get_or (WithinLane (2 ^ 61)) lanes (pos 0) (λ k l. Adding-bound (drop (base + k) window) ws tap (get_or lanes k (pos 0)) (a.each k (rw a.four at l)));
+  small = Each1-from_get_or (WithinLane (2 ^ 61)) lanes (pos 0) (λ k l. Adding-bound (drop (base + 2 * k) window) ws tap (get_or lanes k (pos 0)) (a.each k (rw a.four at l)));
 }
 
 pub AddingLanes-first : (window ws : List ℤ) (base : ℕ) (lanes : List ℤ) → sum_by unsigned_abs ws ≤ 2 ^ 30 → length lanes ≡ 4 → ((k : ℕ) → k < 4 → get_or lanes k (pos 0) ≡ pos 0) → AddingLanes window ws base 0 lanes
 AddingLanes-first window ws base lanes small four none = record {
   four = four;
-  each = λ k l. rw (none k l) (Adding-first (drop (base + k) window) ws small);
+  each = λ k l. rw (none k l) (Adding-first (drop (base + 2 * k) window) ws small);
 }
 
-pub AddingLanes-next : (window ws : List ℤ) (base tap at : ℕ) (lanes next : List ℤ) (w : ℤ) → tap < length ws → length ws + 15 ≤ length window → base ≤ 12 → at ≡ tap + base → ((k : ℕ) → k < 4 → unsigned_abs (get_or window (at + k) (pos 0)) ≤ 2 ^ 31)
-    → w ≡ get_or ws tap (pos 0) → length next ≡ 4 → ((k : ℕ) → k < 4 → get_or next k (pos 0) ≡ get_or lanes k (pos 0) +ℤ (get_or window (at + k) (pos 0) *ℤ w)) → AddingLanes window ws base tap lanes
+pub AddingLanes-next : (window ws : List ℤ) (base tap at : ℕ) (lanes loaded next : List ℤ) (w : ℤ) → tap < length ws → length ws + 15 ≤ length window → base ≤ 9 → at ≡ tap + base → LanesWithin (2 ^ 31) loaded
+    → ((k : ℕ) → k < 4 → get_or loaded k (pos 0) ≡ get_or window (at + 2 * k) (pos 0))
+    → w ≡ get_or ws tap (pos 0) → length next ≡ 4 → ((k : ℕ) → k < 4 → get_or next k (pos 0) ≡ get_or lanes k (pos 0) +ℤ (get_or loaded k (pos 0) *ℤ w)) → AddingLanes window ws base tap lanes
     → AddingLanes window ws base (tap + 1) next
-AddingLanes-next window ws base tap at lanes next w in_ws long low place samples is four more a = record {
+AddingLanes-next window ws base tap at lanes loaded next w in_ws long low place small samples is four more a = record {
   four = four;
   each = λ k l.
-      let left = length-drop (base + k) window in
-      let in_xs : tap < length (drop (base + k) window) = omega (arith, left, in_ws, long, low, l) in
-      let here : get_or (drop (base + k) window) tap (pos 0) ≡ get_or window (at + k) (pos 0) = get_or-drop (base + k) window tap (pos 0) ∙ ap (λ i. get_or window i (pos 0)) (omega (arith, place)) in
-      Adding-next (drop (base + k) window) ws tap (get_or lanes k (pos 0)) (get_or next k (pos 0)) in_ws in_xs (rw here (samples k l))
-      (more k l ∙ ap (λ z. get_or lanes k (pos 0) +ℤ z) (ap (λ x. x *ℤ w) (sym here) ∙ ap (λ y. get_or (drop (base + k) window) tap (pos 0) *ℤ y) is))
+      let left = length-drop (base + 2 * k) window in
+      let in_xs : tap < length (drop (base + 2 * k) window) = omega (arith, left, in_ws, long, low, l) in
+      let here : get_or (drop (base + 2 * k) window) tap (pos 0) ≡ get_or loaded k (pos 0) = get_or-drop (base + 2 * k) window tap (pos 0) ∙ ap (λ i. get_or window i (pos 0)) (omega (arith, place)) ∙ sym (samples k l) in
+      let bound = Each1-get_or (WithinLane (2 ^ 31)) loaded k (pos 0) (rw small.four l) small.small in
+      Adding-next (drop (base + 2 * k) window) ws tap (get_or lanes k (pos 0)) (get_or next k (pos 0)) in_ws in_xs (rw here bound)
+      (more k l ∙ ap (λ z. get_or lanes k (pos 0) +ℤ z) (ap (λ x. x *ℤ w) (sym here) ∙ ap (λ y. get_or (drop (base + 2 * k) window) tap (pos 0) *ℤ y) is))
       (a.each k l);
 }
 
-pub AddingLanes-last : (window ws : List ℤ) (base tap : ℕ) (lanes : List ℤ) → length ws ≤ tap → AddingLanes window ws base tap lanes → (k : ℕ) → k < 4 → get_or lanes k (pos 0) ≡ sum_of_products (drop (base + k) window) ws
-AddingLanes-last window ws base tap lanes over a k l = Adding-last (drop (base + k) window) ws tap (get_or lanes k (pos 0)) over (a.each k l)
+pub AddingLanes-last : (window ws : List ℤ) (base tap : ℕ) (lanes : List ℤ) → length ws ≤ tap → AddingLanes window ws base tap lanes → (k : ℕ) → k < 4 → get_or lanes k (pos 0) ≡ sum_of_products (drop (base + 2 * k) window) ws
+AddingLanes-last window ws base tap lanes over a k l = Adding-last (drop (base + 2 * k) window) ws tap (get_or lanes k (pos 0)) over (a.each k l)
 
 -- ---- sums in their places
 
@@ -124,16 +126,15 @@ splat-within w small = record {
 }
 
 -- a weight times each sample is added, lane by lane
-pub lanes-added : (sums xs samples : List ℤ) (at k : ℕ) (y w : ℤ) → length sums ≡ 4 → length xs ≡ 4 → xs ≡ chunk at 4 samples → y ≡ w → k < 4
-    → get_or (zip2 (λ a b. a +ℤ b) sums (zip2 (λ a b. a *ℤ b) xs (replicate 4 y))) k (pos 0) ≡ get_or sums k (pos 0) +ℤ (get_or samples (at + k) (pos 0) *ℤ w)
-lanes-added sums xs samples at k y w four long are is l =
+pub products-added : (sums xs : List ℤ) (k : ℕ) (y w : ℤ) → length sums ≡ 4 → length xs ≡ 4 → y ≡ w → k < 4
+    → get_or (zip2 (λ a b. a +ℤ b) sums (zip2 (λ a b. a *ℤ b) xs (replicate 4 y))) k (pos 0) ≡ get_or sums k (pos 0) +ℤ (get_or xs k (pos 0) *ℤ w)
+products-added sums xs k y w four long is l =
     let ys : List ℤ = replicate 4 y in
     let products : List ℤ = zip2 (λ a b. a *ℤ b) xs ys in
     let size : length products ≡ 4 = length-zip2 (λ a b. a *ℤ b) xs ys long ∙ long in
-    let sample : get_or xs k (pos 0) ≡ get_or samples (at + k) (pos 0) = ap (λ zs. get_or zs k (pos 0)) are ∙ get_or-chunk at 4 samples k (pos 0) l in
     let weight : get_or ys k (pos 0) ≡ w = get_or-replicate 4 k y (pos 0) l ∙ is in
     get_or-zip2 (λ a b. a +ℤ b) sums products k (pos 0) (pos 0) (pos 0) (omega (arith, four, l)) (omega (arith, size, l))
-    ∙ ap (λ z. get_or sums k (pos 0) +ℤ z) (get_or-zip2 (λ a b. a *ℤ b) xs ys k (pos 0) (pos 0) (pos 0) (omega (arith, long, l)) l ∙ ap (λ x. x *ℤ get_or ys k (pos 0)) sample ∙ ap (λ v. get_or samples (at + k) (pos 0) *ℤ v) weight)
+    ∙ ap (λ z. get_or sums k (pos 0) +ℤ z) (get_or-zip2 (λ a b. a *ℤ b) xs ys k (pos 0) (pos 0) (pos 0) (omega (arith, long, l)) l ∙ ap (λ v. get_or xs k (pos 0) *ℤ v) weight)
 
 -- lanes that were put into their places
 pub lanes-put : {X : Type 0} (d : X) (sums lanes : List X) (at n k : ℕ) → length lanes ≡ 4 → n ≡ 4 → at + 4 ≤ length sums → k < 4 → get_or (put_mid at n sums (put_chunk 0 (take n (drop at sums)) lanes)) (at + k) d ≡ get_or lanes k d
@@ -148,13 +149,6 @@ lanes-put {X} d sums lanes at n k four is free l =
     ∙ get_or-append-add (take at sums) ((lanes ++ drop (length lanes) (drop 0 mid)) ++ drop 4 (drop at sums)) k d
     ∙ get_or_append_left (lanes ++ drop (length lanes) (drop 0 mid)) (drop 4 (drop at sums)) d k (omega (arith, length-append lanes (drop (length lanes) (drop 0 mid)), four, l))
     ∙ get_or_append_left lanes (drop (length lanes) (drop 0 mid)) d k (omega (arith, four, l)))
-
--- samples in lanes are small
-pub chunk-within : (xs samples : List ℤ) (at : ℕ) → xs ≡ chunk at 4 samples → LanesWithin (2 ^ 31) xs → (k : ℕ) → k < 4 → unsigned_abs (get_or samples (at + k) (pos 0)) ≤ 2 ^ 31
-chunk-within xs samples at are small k l =
-    let sample : get_or xs k (pos 0) ≡ get_or samples (at + k) (pos 0) = ap (λ zs. get_or zs k (pos 0)) are ∙ get_or-chunk at 4 samples k (pos 0) l in
-    let four = small.four in
-    rw (← sample) (Each1-get_or (WithinLane (2 ^ 31)) xs k (pos 0) (omega (arith, four, l)) small.small)
 
 -- a piece that was written among sums
 pub mid_before : (at m i : ℕ) (sums new : List ℤ) → at ≤ length sums → i < at → get_or (put_mid at m sums new) i (pos 0) ≡ get_or sums i (pos 0)

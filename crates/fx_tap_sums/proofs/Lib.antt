@@ -6,6 +6,7 @@ pub mod Factors
 pub mod Fitting
 pub mod Folding
 pub mod Halves
+pub mod InTurn
 pub mod KernelLaws
 pub mod Leaf
 pub mod Magnitudes

@@ -1,9 +1,9 @@
 //! Sums of products of samples and small weights, in 64 bits, sixteen sums side by side.
-ghost use Rattle.std.specs.Prelude.{◌≡◌, ◌<◌, ◌≤◌, ◌+◌, ◌^◌, ℕ, pos, ◌+ℤ◌, ◌*ℤ◌, drop, length, slice_index_or, sum_by, unsigned_abs};
+ghost use Rattle.std.specs.Prelude.{◌≡◌, ◌<◌, ◌≤◌, ◌+◌, ◌*◌, ◌^◌, ℕ, pos, ◌+ℤ◌, ◌*ℤ◌, drop, length, slice_index_or, sum_by, unsigned_abs};
 ghost use Rattle.fx_tap_sums.specs.Lanes.{LanesWithin};
 ghost use Rattle.fx_tap_sums.specs.Products.{sum_of_products};
 
-use crate::products::load;
+use crate::pairs::put_turns;
 use std::simd::prelude::*;
 
 /// The weights times as many samples, added up.
@@ -20,19 +20,54 @@ pub fn small_dot(weights: &[i32], samples: &[i32]) -> i64
     sum
 }
 
+/// Every second one of eight samples, from the first on.
+#[inline(always)]
+fn load_even(samples: &[i32], at: usize) -> i64x4
+    requires { at + 8 ≤ length samples.now }
+    ensures small { LanesWithin (2 ^ 31) result }
+    ensures value { (k : ℕ) → k < 4 → slice_index_or result k (pos 0) ≡ slice_index_or samples.now (at + 2 * k) (pos 0) }
+{
+    // Each is read once more so that it is known to fit its type: the vector alone does not tell.
+    let _read = (
+        samples[at],
+        samples[at + 2],
+        samples[at + 4],
+        samples[at + 6],
+    );
+    i32x8::from_slice(&samples[at..at + 8])
+        .swizzle([0, 2, 4, 6])
+        .cast::<i64>()
+}
+
+/// Every second one of eight samples, from the second on.
+#[inline(always)]
+fn load_odd(samples: &[i32], at: usize) -> i64x4
+    requires { at + 8 ≤ length samples.now }
+    ensures small { LanesWithin (2 ^ 31) result }
+    ensures value { (k : ℕ) → k < 4 → slice_index_or result k (pos 0) ≡ slice_index_or samples.now (at + 1 + 2 * k) (pos 0) }
+{
+    let _read = (
+        samples[at + 1],
+        samples[at + 3],
+        samples[at + 5],
+        samples[at + 7],
+    );
+    i32x8::from_slice(&samples[at..at + 8])
+        .swizzle([1, 3, 5, 7])
+        .cast::<i64>()
+}
+
 /// Sums to which a weight times each of four samples is added.
 #[inline(always)]
-fn add_lanes(sums: i64x4, samples: &[i32], at: usize, weight: i32) -> i64x4
-    requires free { at + 4 ≤ length samples.now }
+fn add_products(sums: i64x4, samples: i64x4, weight: i32) -> i64x4
     requires weight { unsigned_abs weight ≤ 2 ^ 30 }
+    requires samples { LanesWithin (2 ^ 31) samples }
     requires sums { LanesWithin (2 ^ 61) sums }
     ensures small { LanesWithin (2 ^ 62) result }
-    ensures samples { (k : ℕ) → k < 4 → unsigned_abs (slice_index_or samples.now (at + k) (pos 0)) ≤ 2 ^ 31 }
-    ensures value { (k : ℕ) → k < 4 → slice_index_or result k (pos 0) ≡ slice_index_or sums k (pos 0) +ℤ (slice_index_or samples.now (at + k) (pos 0) *ℤ weight) }
+    ensures value { (k : ℕ) → k < 4 → slice_index_or result k (pos 0) ≡ slice_index_or sums k (pos 0) +ℤ (slice_index_or samples k (pos 0) *ℤ weight) }
 {
-    let x = load(samples, at);
     let y = i64x4::splat(i64::from(weight));
-    sums.strict_add(x.strict_mul(y))
+    sums.strict_add(samples.strict_mul(y))
 }
 
 /// Writes four sums over those from a place on.
@@ -61,15 +96,17 @@ fn sixteen(weights: &[i32], window: &[i32], sums: &mut [i64])
     let mut fourth = i64x4::splat(0);
     'taps: for tap in 0..weights.len() {
         let weight = weights[tap];
-        first = add_lanes(first, window, tap, weight);
-        second = add_lanes(second, window, tap + 4, weight);
-        third = add_lanes(third, window, tap + 8, weight);
-        fourth = add_lanes(fourth, window, tap + 12, weight);
+        let low_even = load_even(window, tap);
+        let low_odd = load_even(window, tap + 1);
+        let high_even = load_even(window, tap + 8);
+        let high_odd = load_odd(window, tap + 8);
+        first = add_products(first, low_even, weight);
+        second = add_products(second, low_odd, weight);
+        third = add_products(third, high_even, weight);
+        fourth = add_products(fourth, high_odd, weight);
     }
-    put_lanes(sums, 0, first);
-    put_lanes(sums, 4, second);
-    put_lanes(sums, 8, third);
-    put_lanes(sums, 12, fourth);
+    put_turns(sums, 0, first, second);
+    put_turns(sums, 8, third, fourth);
 }
 
 /// Writes the sums of the weights times as many samples of the window, from each of its places on.

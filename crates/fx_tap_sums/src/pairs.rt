@@ -180,7 +180,7 @@ fn interleave(even: i64x4, odd: i64x4) -> (i64x4, i64x4)
 
 /// Writes four sums and four others in turns over those from a place on.
 #[inline(always)]
-fn put_turns(sums: &mut [i64], at: usize, even: i64x4, odd: i64x4)
+pub(crate) fn put_turns(sums: &mut [i64], at: usize, even: i64x4, odd: i64x4)
     requires free { at + 8 ≤ length sums.old }
     requires even { LanesWithin (2 ^ 61) even }
     requires odd { LanesWithin (2 ^ 61) odd }
