@@ -21,9 +21,21 @@ const MIN_PAIRED: usize = 6;
 /// How many sums there are at least where products of 16 bits pay: sixteen sums are made side by side.
 const MIN_PAIRED_SUMS: usize = 16;
 
-/// How many products take as long as the sums of one transform, which are made at a fixed price. Fewer are sooner added up
-/// one by one.
-const PRODUCTS_OF_TRANSFORM: usize = 1 << 18;
+/// How many products take as long as a transform of 2,048 numbers, of samples of at most 24 bits. Fewer are sooner added up one
+/// by one.
+const PRODUCTS_OF_TRANSFORM: usize = 180_000;
+
+/// The same of samples of more bits, whose transforms are modulo three primes.
+const WIDE_PRODUCTS_OF_TRANSFORM: usize = 270_000;
+
+/// The same of products of 16 bits with two digits a weight.
+const DIGIT_PRODUCTS_OF_TRANSFORM: usize = 300_000;
+
+/// The same of products of 16 bits with one digit a weight.
+const PAIRED_PRODUCTS_OF_TRANSFORM: usize = 600_000;
+
+/// To how much the magnitudes of weights add up at most where products of 16 bits take one digit a weight.
+const MAX_OF_ONE_DIGIT: u64 = 65_535;
 
 /// How many sums are made at once without a spectrum.
 pub const SUMS_OF_PIECE: usize = 256;
@@ -38,6 +50,8 @@ pub struct Reduced {
     small: Small,
     pairs: Option<Pairs>,
     spectrum: Option<Spectrum>,
+    /// How many products of samples of 16 bits take as long as a transform of 2,048 numbers.
+    narrow_products: usize,
 }
 
 impl Model for Reduced {
@@ -59,6 +73,42 @@ pub fn max_by_transforms(weights: usize) -> usize
     ensures fits { weights + result ≤ 2048 }
 {
     (2048 - weights).min(MAX_SUMS)
+}
+
+/// Does a transform that gives `sums` sums by `weights` weights take less time than their products, of which so many take as long
+/// as a transform of 2,048 numbers? One of 1,024 takes half the time.
+pub(crate) fn pays(weights: usize, sums: usize, products_of_transform: usize) -> bool {
+    let products = weights.saturating_mul(sums);
+    if weights.saturating_add(sums) <= 1024 {
+        products >= products_of_transform / 2
+    } else {
+        products >= products_of_transform
+    }
+}
+
+/// How many products of samples of 16 bits take as long as a transform of 2,048 numbers.
+fn narrow_products(weights: &[i32], is_paired: bool) -> usize {
+    if !is_paired {
+        return PRODUCTS_OF_TRANSFORM;
+    }
+    let mut total = 0u64;
+    for weight in weights {
+        total = total.saturating_add(weight.unsigned_abs().into());
+    }
+    if total <= MAX_OF_ONE_DIGIT {
+        PAIRED_PRODUCTS_OF_TRANSFORM
+    } else {
+        DIGIT_PRODUCTS_OF_TRANSFORM
+    }
+}
+
+/// The bits that are set in any of the samples.
+fn bits_of(samples: &[i32]) -> u32 {
+    let mut bits = 0;
+    for sample in samples {
+        bits |= sample.cast_unsigned();
+    }
+    bits
 }
 
 /// Weights prepared for samples of 16 bits. None where one product after another is no slower, or where they do not fit.
@@ -97,10 +147,12 @@ impl Reduced {
         };
         let pairs = pairs_of(alloc, &small.weights)?;
         let spectrum = spectrum_of(alloc, &small.weights)?;
+        let narrow_products = narrow_products(&small.weights, pairs.is_some());
         Ok(Some(Reduced {
             small,
             pairs,
             spectrum,
+            narrow_products,
         }))
     }
 
@@ -133,8 +185,19 @@ impl Reduced {
         self.small.denominator.round(small_dot(weights, samples))
     }
 
-    /// Writes the sums of the weights times as many samples of the window, from each of its places on.
-    pub fn convolve(&self, window: &[i32], sums: &mut [i64])
+    /// How many products of samples with these bits take as long as a transform of 2,048 numbers.
+    fn products_of_transform(&self, bits: u32) -> usize {
+        if bits & 0xFFFF == 0 {
+            self.narrow_products
+        } else if bits & 0xFF == 0 {
+            PRODUCTS_OF_TRANSFORM
+        } else {
+            WIDE_PRODUCTS_OF_TRANSFORM
+        }
+    }
+
+    /// As `convolve`, without transforms.
+    fn add_up(&self, window: &[i32], sums: &mut [i64])
         requires window { length self.now.weights + length sums.old ≤ length window.now + 1 }
         ensures sums { (i : ℕ) → i < length sums.new → slice_index_or sums.new i (pos 0) ≡ sum_of_products (drop i window.now) self.now.weights }
         ensures bound { (i : ℕ) → i < length sums.new → unsigned_abs (slice_index_or sums.new i (pos 0)) ≤ 2 ^ 61 }
@@ -144,13 +207,31 @@ impl Reduced {
                 return;
             }
         }
-        let weights = &self.small.weights;
-        if let Some(spectrum) = &self.spectrum {
-            if sums.len().saturating_mul(weights.len()) >= PRODUCTS_OF_TRANSFORM {
-                spectrum.convolve(window, sums);
-                return;
+        convolve(&self.small.weights, window, sums);
+    }
+
+    /// Writes the sums of the weights times as many samples of the window, from each of its places on.
+    pub fn convolve(&self, window: &[i32], sums: &mut [i64])
+        requires window { length self.now.weights + length sums.old ≤ length window.now + 1 }
+        ensures sums { (i : ℕ) → i < length sums.new → slice_index_or sums.new i (pos 0) ≡ sum_of_products (drop i window.now) self.now.weights }
+        ensures bound { (i : ℕ) → i < length sums.new → unsigned_abs (slice_index_or sums.new i (pos 0)) ≤ 2 ^ 61 }
+    {
+        let Some(spectrum) = &self.spectrum else {
+            return self.add_up(window, sums);
+        };
+        let taps = self.small.weights.len();
+        let products = self.products_of_transform(bits_of(window));
+        let mut at = 0;
+        'pieces: while at < sums.len() {
+            let count = spectrum.count_at_once(sums.len() - at);
+            if !pays(taps, count, products) {
+                break;
             }
+            spectrum.convolve(&window[at..], &mut sums[at..at + count]);
+            at += count;
         }
-        convolve(weights, window, sums);
+        if at < sums.len() {
+            self.add_up(&window[at..], &mut sums[at..]);
+        }
     }
 }

@@ -8,7 +8,7 @@ ghost use Rattle.fx_tap_fir.specs.Split.{AddUpTo, joined_split};
 ghost use Rattle.fx_tap_sums.specs.Products.{sum_of_products};
 
 use crate::kernel::rounded;
-use crate::reduced::MAX_SUMS;
+use crate::reduced::{MAX_SUMS, pays};
 use fx_tap_sums::transforms::Spectrum;
 use std::alloc::{AllocError, Global};
 use std::marker::Model;
@@ -16,8 +16,8 @@ use std::marker::Model;
 /// How many coefficients there are at least where two transforms pay.
 const MIN_COEFFICIENTS: usize = 256;
 
-/// How many products take as long as the sums of two transforms, which are made at a fixed price.
-const PRODUCTS_OF_TRANSFORMS: usize = 400_000;
+/// How many products take as long as two transforms of 2,048 numbers.
+const PRODUCTS_OF_TRANSFORMS: usize = 200_000;
 
 /// The high part of a coefficient, which counts 2^20 times, and the low one.
 fn parts_of(coefficient: i64) -> (i32, i32)
@@ -120,7 +120,7 @@ impl Split {
 
     /// Tests that `sums` sums are faster by transforms than one by one.
     pub(crate) fn pays(&self, sums: usize) -> bool {
-        sums.saturating_mul(self.count) >= PRODUCTS_OF_TRANSFORMS
+        pays(self.count, sums, PRODUCTS_OF_TRANSFORMS)
     }
 
     /// Writes one channel of as many frames as there are places for sums, and counts how many samples were clipped: the sums

@@ -90,23 +90,23 @@ round_is w hs n i bound lt =
     shifted : (i k : ℕ) → get_or (pos 0 ∷ w) (i + 1 + k) (pos 0) ≡ get_or w (i + k) (pos 0)
     shifted i k = let place : i + 1 + k ≡ suc (i + k) = omega arith in rw place refl
 
-pub plain_sum : (p scale v : ℤ) (w ws : List ℤ) (i : ℕ) → length w ≤ 2047 → i + length ws ≤ length w → Same p (scale *ℤ pos 512) (pos 1) →
-    Same p v (pos 512 *ℤ cyclic (pos 1) (padded_weights 2048 (pos 0 ∷ w)) (padded_weights 2048 (map (λ c. scale *ℤ c) ws)) i) →
+pub plain_sum : (n : ℕ) (p factor v scale : ℤ) (w ws : List ℤ) (i : ℕ) → length w < n → i + length ws ≤ length w → Same p (scale *ℤ factor) (pos 1) →
+    Same p v (factor *ℤ cyclic (pos 1) (padded_weights n (pos 0 ∷ w)) (padded_weights n (map (λ c. scale *ℤ c) ws)) i) →
     Same p v (sum_of_products (drop i w) ws)
-plain_sum p scale v w ws i bound lt scaled is =
+plain_sum n p factor v scale w ws i bound lt scaled is =
     let hs : List ℤ = map (λ c. scale *ℤ c) ws in
     let h_long : length hs ≡ length ws = length-map ws (λ c. scale *ℤ c) in
     let total : ℤ = sum_of_products (drop i w) ws in
-    let nought : sum_of_products (padded_weights 2048 (pos 0 ∷ w)) (drop (length (padded_weights 2048 hs) - 1 - i) (padded_weights 2048 hs)) ≡ pos 0 = kept (padded_weights 2048 (pos 0 ∷ w)) hs 2048 i (omega arith) (omega arith) in
-    let round : sum_of_products (drop (i + 1) (padded_weights 2048 (pos 0 ∷ w))) (padded_weights 2048 hs) ≡ scale *ℤ total = round_is w hs 2048 i (omega arith) (omega arith) ∙ times scale (drop i w) ws in
-    let once = product_is (pos 1) (sum_of_products (drop (i + 1) (padded_weights 2048 (pos 0 ∷ w))) (padded_weights 2048 hs)) in
-    let whole : cyclic (pos 1) (padded_weights 2048 (pos 0 ∷ w)) (padded_weights 2048 hs) i ≡ scale *ℤ total = omega (arith, ints) in
-    let order : pos 512 *ℤ cyclic (pos 1) (padded_weights 2048 (pos 0 ∷ w)) (padded_weights 2048 hs) i ≡ (scale *ℤ pos 512) *ℤ total =
-    ap (λ z. pos 512 *ℤ z) whole ∙ mul_assoc (pos 512) scale total ∙ ap (λ z. z *ℤ total) (*ℤ_comm (pos 512) scale) in
+    let nought : sum_of_products (padded_weights n (pos 0 ∷ w)) (drop (length (padded_weights n hs) - 1 - i) (padded_weights n hs)) ≡ pos 0 = kept (padded_weights n (pos 0 ∷ w)) hs n i (omega arith) (omega arith) in
+    let round : sum_of_products (drop (i + 1) (padded_weights n (pos 0 ∷ w))) (padded_weights n hs) ≡ scale *ℤ total = round_is w hs n i (omega arith) (omega arith) ∙ times scale (drop i w) ws in
+    let once = product_is (pos 1) (sum_of_products (drop (i + 1) (padded_weights n (pos 0 ∷ w))) (padded_weights n hs)) in
+    let whole : cyclic (pos 1) (padded_weights n (pos 0 ∷ w)) (padded_weights n hs) i ≡ scale *ℤ total = omega (arith, ints) in
+    let order : factor *ℤ cyclic (pos 1) (padded_weights n (pos 0 ∷ w)) (padded_weights n hs) i ≡ (scale *ℤ factor) *ℤ total =
+    ap (λ z. factor *ℤ z) whole ∙ mul_assoc factor scale total ∙ ap (λ z. z *ℤ total) (*ℤ_comm factor scale) in
     let one = product_is (pos 1) total in
     let unit : pos 1 *ℤ total ≡ total = omega (arith, ints) in
-    same_on p v _ total is (same_on p (pos 512 *ℤ cyclic (pos 1) (padded_weights 2048 (pos 0 ∷ w)) (padded_weights 2048 hs) i) ((scale *ℤ pos 512) *ℤ total) total (same_is p _ _ order)
-    (same_on p ((scale *ℤ pos 512) *ℤ total) (pos 1 *ℤ total) total (same_times p total (scale *ℤ pos 512) (pos 1) scaled) (same_is p (pos 1 *ℤ total) total unit)))
+    same_on p v _ total is (same_on p (factor *ℤ cyclic (pos 1) (padded_weights n (pos 0 ∷ w)) (padded_weights n hs) i) ((scale *ℤ factor) *ℤ total) total (same_is p _ _ order)
+    (same_on p ((scale *ℤ factor) *ℤ total) (pos 1 *ℤ total) total (same_times p total (scale *ℤ factor) (pos 1) scaled) (same_is p (pos 1 *ℤ total) total unit)))
 
 -- ---- sizes
 
@@ -130,8 +130,10 @@ sum-within maximum (x ∷ xs) (c ∷ cs) small =
     let total : maximum * (unsigned_abs c + sum_by unsigned_abs cs) ≡ maximum * unsigned_abs c + maximum * sum_by unsigned_abs cs = omega arith in
     rw gain (omega arith)
 
--- a sum of samples of 32 bits and weights that are prepared for transforms
-pub joined_bound : (w ws : List ℤ) (i : ℕ) → ((k : ℕ) → unsigned_abs (get_or w k (pos 0)) ≤ 2 ^ 31) → sum_by unsigned_abs ws ≤ 2 ^ 30 - 4096 → unsigned_abs (sum_of_products (drop i w) ws) ≤ 2 ^ 61 - 2 ^ 43
-joined_bound w ws i samples small =
-    let whole = sum-within (2 ^ 31) (drop i w) ws (λ k. rw (get_or-drop i w k (pos 0)) (samples (i + k))) in
-    omega arith
+-- a sum of bounded samples and weights that are prepared for transforms
+pub sum_bound : (maximum : ℕ) (w ws : List ℤ) (i : ℕ) → ((k : ℕ) → unsigned_abs (get_or w k (pos 0)) ≤ maximum) → sum_by unsigned_abs ws ≤ 2 ^ 30 → unsigned_abs (sum_of_products (drop i w) ws) ≤ maximum * 2 ^ 30
+sum_bound maximum w ws i samples small =
+    let whole = sum-within maximum (drop i w) ws (λ k. rw (get_or-drop i w k (pos 0)) (samples (i + k))) in
+    let same : maximum ≤ maximum = omega arith in
+    let product : maximum * sum_by unsigned_abs ws ≤ maximum * 2 ^ 30 = mul-le maximum (sum_by unsigned_abs ws) maximum (2 ^ 30) same small in
+    omega (arith, whole, product)

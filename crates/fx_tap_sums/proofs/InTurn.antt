@@ -23,8 +23,8 @@ lane-loaded samples at n i is free below fits =
     let eight = length-chunk at 8 samples free in
     let long : length (bits-loaded samples at n) ≡ 8 = length-map (chunk 0 8 (take n (drop at samples))) (of_z w32) ∙ ap length whole ∙ eight in
     let here : get_or (bits-loaded samples at n ++ bits-loaded samples at n) i 0 ≡ of_z w32 x =
-        get_or_append_left (bits-loaded samples at n) (bits-loaded samples at n) 0 i (omega (arith, long, below)) ∙ ap (λ xs. get_or (map (of_z w32) xs) i 0) whole
-        ∙ get_or-map (of_z w32) (chunk at 8 samples) i (pos 0) 0 (omega (arith, eight, below)) ∙ ap (of_z w32) (get_or-chunk at 8 samples i (pos 0) below) in
+    get_or_append_left (bits-loaded samples at n) (bits-loaded samples at n) 0 i (omega (arith, long, below)) ∙ ap (λ xs. get_or (map (of_z w32) xs) i 0) whole
+    ∙ get_or-map (of_z w32) (chunk at 8 samples) i (pos 0) 0 (omega (arith, eight, below)) ∙ ap (of_z w32) (get_or-chunk at 8 samples i (pos 0) below) in
     let back : to_z w32 (of_z w32 x) ≡ x = to_z-of_z w32 x fits in
     let wide = to_z-of_z w64 x (fits_signed_from_abs w64 x (omega (arith, small x fits))) in
     ap (λ b. to_z w64 (of_z w64 (to_z w32 b))) here ∙ ap (λ z. to_z w64 (of_z w64 z)) back ∙ wide

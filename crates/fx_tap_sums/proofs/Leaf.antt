@@ -1,5 +1,5 @@
 -- The product of four numbers and four others modulo x^4 - s, product by product.
-use Rattle.std.proofs.Common.{◌≡◌, ◌+◌, ◌-◌, ◌*◌, ◌^◌, ◌<◌, ◌∙◌, ap, ℕ, ℤ, pos, ◌+ℤ◌, ◌*ℤ◌, List, [], ◌∷◌, ◌++◌, length, get_or, arith}
+use Rattle.std.proofs.Common.{◌≡◌, ◌+◌, ◌-◌, ◌*◌, ◌<◌, ◌≤◌, ◌∙◌, ap, ℕ, ℤ, pos, ◌+ℤ◌, ◌*ℤ◌, List, [], ◌∷◌, ◌++◌, length, get_or, arith}
 use Rattle.std.proofs.lemmas.Int.{ints}
 use Rattle.std.proofs.lemmas.Nat.{mul-le}
 use Rattle.std.proofs.lemmas.Bool.{cases_lt}
@@ -14,17 +14,17 @@ use Rattle.fx_tap_sums.proofs.Residues.{same_is, same_on, same_add, same_mul, sa
 use Rattle.fx_tap_sums.proofs.Vectors.{by_four}
 
 -- the four sums of which s times the last so many products wrap around
-none_wrap : (s a b c d e f g h : ℤ) → (((a *ℤ e) +ℤ (b *ℤ f)) +ℤ ((c *ℤ g) +ℤ (d *ℤ h))) ≡ pos 1 *ℤ cyclic s (a ∷ b ∷ c ∷ d ∷ []) (e ∷ f ∷ g ∷ h ∷ []) 3
+none_wrap : (s a b c d e f g h : ℤ) → (((a *ℤ e) +ℤ (b *ℤ f)) +ℤ ((c *ℤ g) +ℤ (d *ℤ h))) ≡ cyclic s (a ∷ b ∷ c ∷ d ∷ []) (e ∷ f ∷ g ∷ h ∷ []) 3
 none_wrap s a b c d e f g h = let none = product_is s (pos 0) in omega (arith, ints)
 
-one_wraps : (s a b c d e f g h : ℤ) → (((a *ℤ f) +ℤ (b *ℤ g)) +ℤ ((c *ℤ h) +ℤ (d *ℤ (s *ℤ e)))) ≡ pos 1 *ℤ cyclic s (a ∷ b ∷ c ∷ d ∷ []) (e ∷ f ∷ g ∷ h ∷ []) 2
+one_wraps : (s a b c d e f g h : ℤ) → (((a *ℤ f) +ℤ (b *ℤ g)) +ℤ ((c *ℤ h) +ℤ (d *ℤ (s *ℤ e)))) ≡ cyclic s (a ∷ b ∷ c ∷ d ∷ []) (e ∷ f ∷ g ∷ h ∷ []) 2
 one_wraps s a b c d e f g h =
     let first = mul_swap d s e in
     let none : (d *ℤ e) +ℤ pos 0 ≡ d *ℤ e = omega (arith, ints) in
     let whole = ap (λ z. s *ℤ z) none in
     omega (arith, ints)
 
-two_wrap : (s a b c d e f g h : ℤ) → (((a *ℤ g) +ℤ (b *ℤ h)) +ℤ ((c *ℤ (s *ℤ e)) +ℤ (d *ℤ (s *ℤ f)))) ≡ pos 1 *ℤ cyclic s (a ∷ b ∷ c ∷ d ∷ []) (e ∷ f ∷ g ∷ h ∷ []) 1
+two_wrap : (s a b c d e f g h : ℤ) → (((a *ℤ g) +ℤ (b *ℤ h)) +ℤ ((c *ℤ (s *ℤ e)) +ℤ (d *ℤ (s *ℤ f)))) ≡ cyclic s (a ∷ b ∷ c ∷ d ∷ []) (e ∷ f ∷ g ∷ h ∷ []) 1
 two_wrap s a b c d e f g h =
     let first = mul_swap c s e in
     let second = mul_swap d s f in
@@ -32,7 +32,7 @@ two_wrap s a b c d e f g h =
     let whole = ap (λ z. s *ℤ z) none ∙ mul-add s (c *ℤ e) (d *ℤ f) in
     omega (arith, ints)
 
-three_wrap : (s a b c d e f g h : ℤ) → (((a *ℤ h) +ℤ (b *ℤ (s *ℤ e))) +ℤ ((c *ℤ (s *ℤ f)) +ℤ (d *ℤ (s *ℤ g)))) ≡ pos 1 *ℤ cyclic s (a ∷ b ∷ c ∷ d ∷ []) (e ∷ f ∷ g ∷ h ∷ []) 0
+three_wrap : (s a b c d e f g h : ℤ) → (((a *ℤ h) +ℤ (b *ℤ (s *ℤ e))) +ℤ ((c *ℤ (s *ℤ f)) +ℤ (d *ℤ (s *ℤ g)))) ≡ cyclic s (a ∷ b ∷ c ∷ d ∷ []) (e ∷ f ∷ g ∷ h ∷ []) 0
 three_wrap s a b c d e f g h =
     let first = mul_swap b s e in
     let second = mul_swap c s f in
@@ -50,6 +50,10 @@ products_same p x0 x1 x2 x3 y0 y1 y2 y3 a b c d e f g h i j k l m n o q =
     (same_add p (x0 *ℤ y0) (a *ℤ e) (x1 *ℤ y1) (b *ℤ f) (same_product p x0 a y0 e i m) (same_product p x1 b y1 f j n))
     (same_add p (x2 *ℤ y2) (c *ℤ g) (x3 *ℤ y3) (d *ℤ h) (same_product p x2 c y2 g k o) (same_product p x3 d y3 h l q))
 
+-- what is a factor times a number is the factor times one that is the same
+scaled_sum : (p : ℤ) (factor r n : ℕ) (z : ℤ) → Same p (pos r) (pos factor *ℤ pos n) → Same p (pos n) z → Same p (pos r) (pos factor *ℤ z)
+scaled_sum p factor r n z is same = same_on p (pos r) (pos factor *ℤ pos n) (pos factor *ℤ z) is (same_mul p (pos factor) (pos n) z same)
+
 -- the sums that the code makes, the last one first
 abbrev pub leaf_sums : List ℕ → List ℕ → List ℕ → List ℕ
 leaf_sums xs ws zs =
@@ -59,23 +63,23 @@ leaf_sums xs ws zs =
     ∷ ((get_or xs 0 0 * get_or ws 3 0 + get_or xs 1 0 * get_or zs 0 0) + (get_or xs 2 0 * get_or zs 1 0 + get_or xs 3 0 * get_or zs 2 0))
     ∷ []
 
-pub leaf_product : (p : ℕ) (s : ℤ) (a h : List ℤ) (xs ws zs rs : List ℕ) → length a ≡ 4 → length h ≡ 4 →
+pub leaf_product : (p factor : ℕ) (s : ℤ) (a h : List ℤ) (xs ws zs rs : List ℕ) → length a ≡ 4 → length h ≡ 4 →
     ((k : ℕ) → k < 4 → Same (pos p) (pos (get_or xs k 0)) (get_or a k (pos 0))) →
     ((k : ℕ) → k < 4 → Same (pos p) (pos (get_or ws k 0)) (get_or h k (pos 0))) →
     ((k : ℕ) → k < 4 → Same (pos p) (pos (get_or zs k 0)) (s *ℤ pos (get_or ws k 0))) →
-    ((k : ℕ) → k < 4 → Same (pos p) (pos (get_or rs k 0)) (pos (get_or (leaf_sums xs ws zs) k 0))) →
-    IsProduct p 1 s a h (get_or rs 3 0 ∷ get_or rs 2 0 ∷ get_or rs 1 0 ∷ get_or rs 0 0 ∷ [])
-leaf_product p s [] h xs ws zs rs a_long h_long x w z r = absurd (omega arith)
-leaf_product p s (a ∷ []) h xs ws zs rs a_long h_long x w z r = absurd (omega arith)
-leaf_product p s (a ∷ b ∷ []) h xs ws zs rs a_long h_long x w z r = absurd (omega arith)
-leaf_product p s (a ∷ b ∷ c ∷ []) h xs ws zs rs a_long h_long x w z r = absurd (omega arith)
-leaf_product p s (a ∷ b ∷ c ∷ d ∷ e ∷ u) h xs ws zs rs a_long h_long x w z r = absurd (omega arith)
-leaf_product p s (a ∷ b ∷ c ∷ d ∷ []) [] xs ws zs rs a_long h_long x w z r = absurd (omega arith)
-leaf_product p s (a ∷ b ∷ c ∷ d ∷ []) (e ∷ []) xs ws zs rs a_long h_long x w z r = absurd (omega arith)
-leaf_product p s (a ∷ b ∷ c ∷ d ∷ []) (e ∷ f ∷ []) xs ws zs rs a_long h_long x w z r = absurd (omega arith)
-leaf_product p s (a ∷ b ∷ c ∷ d ∷ []) (e ∷ f ∷ g ∷ []) xs ws zs rs a_long h_long x w z r = absurd (omega arith)
-leaf_product p s (a ∷ b ∷ c ∷ d ∷ []) (e ∷ f ∷ g ∷ h ∷ i ∷ u) xs ws zs rs a_long h_long x w z r = absurd (omega arith)
-leaf_product p s (a ∷ b ∷ c ∷ d ∷ []) (e ∷ f ∷ g ∷ h ∷ []) xs ws zs rs a_long h_long x w z r =
+    ((k : ℕ) → k < 4 → Same (pos p) (pos (get_or rs k 0)) (pos factor *ℤ pos (get_or (leaf_sums xs ws zs) k 0))) →
+    IsProduct p 1 factor s a h (get_or rs 3 0 ∷ get_or rs 2 0 ∷ get_or rs 1 0 ∷ get_or rs 0 0 ∷ [])
+leaf_product p factor s [] h xs ws zs rs a_long h_long x w z r = absurd (omega arith)
+leaf_product p factor s (a ∷ []) h xs ws zs rs a_long h_long x w z r = absurd (omega arith)
+leaf_product p factor s (a ∷ b ∷ []) h xs ws zs rs a_long h_long x w z r = absurd (omega arith)
+leaf_product p factor s (a ∷ b ∷ c ∷ []) h xs ws zs rs a_long h_long x w z r = absurd (omega arith)
+leaf_product p factor s (a ∷ b ∷ c ∷ d ∷ e ∷ u) h xs ws zs rs a_long h_long x w z r = absurd (omega arith)
+leaf_product p factor s (a ∷ b ∷ c ∷ d ∷ []) [] xs ws zs rs a_long h_long x w z r = absurd (omega arith)
+leaf_product p factor s (a ∷ b ∷ c ∷ d ∷ []) (e ∷ []) xs ws zs rs a_long h_long x w z r = absurd (omega arith)
+leaf_product p factor s (a ∷ b ∷ c ∷ d ∷ []) (e ∷ f ∷ []) xs ws zs rs a_long h_long x w z r = absurd (omega arith)
+leaf_product p factor s (a ∷ b ∷ c ∷ d ∷ []) (e ∷ f ∷ g ∷ []) xs ws zs rs a_long h_long x w z r = absurd (omega arith)
+leaf_product p factor s (a ∷ b ∷ c ∷ d ∷ []) (e ∷ f ∷ g ∷ h ∷ i ∷ u) xs ws zs rs a_long h_long x w z r = absurd (omega arith)
+leaf_product p factor s (a ∷ b ∷ c ∷ d ∷ []) (e ∷ f ∷ g ∷ h ∷ []) xs ws zs rs a_long h_long x w z r =
     let m : ℤ = pos p in
     let x0 = x 0 (omega arith) in
     let x1 = x 1 (omega arith) in
@@ -88,22 +92,22 @@ leaf_product p s (a ∷ b ∷ c ∷ d ∷ []) (e ∷ f ∷ g ∷ h ∷ []) xs ws
     let z0 : Same m (pos (get_or zs 0 0)) (s *ℤ e) = same_on m (pos (get_or zs 0 0)) (s *ℤ pos (get_or ws 0 0)) (s *ℤ e) (z 0 (omega arith)) (same_mul m s (pos (get_or ws 0 0)) e w0) in
     let z1 : Same m (pos (get_or zs 1 0)) (s *ℤ f) = same_on m (pos (get_or zs 1 0)) (s *ℤ pos (get_or ws 1 0)) (s *ℤ f) (z 1 (omega arith)) (same_mul m s (pos (get_or ws 1 0)) f w1) in
     let z2 : Same m (pos (get_or zs 2 0)) (s *ℤ g) = same_on m (pos (get_or zs 2 0)) (s *ℤ pos (get_or ws 2 0)) (s *ℤ g) (z 2 (omega arith)) (same_mul m s (pos (get_or ws 2 0)) g w2) in
-    each_of_four (λ i. Same m (pos (get_or (get_or rs 3 0 ∷ get_or rs 2 0 ∷ get_or rs 1 0 ∷ get_or rs 0 0 ∷ []) i 0)) (pos 1 *ℤ cyclic s (a ∷ b ∷ c ∷ d ∷ []) (e ∷ f ∷ g ∷ h ∷ []) i))
-    (same_on m _ _ _ (r 3 (omega arith)) (same_on m _ _ _ (products_same m _ _ _ _ _ _ _ _ a b c d h (s *ℤ e) (s *ℤ f) (s *ℤ g) x0 x1 x2 x3 w3 z0 z1 z2) (same_is m _ _ (three_wrap s a b c d e f g h))))
-    (same_on m _ _ _ (r 2 (omega arith)) (same_on m _ _ _ (products_same m _ _ _ _ _ _ _ _ a b c d g h (s *ℤ e) (s *ℤ f) x0 x1 x2 x3 w2 w3 z0 z1) (same_is m _ _ (two_wrap s a b c d e f g h))))
-    (same_on m _ _ _ (r 1 (omega arith)) (same_on m _ _ _ (products_same m _ _ _ _ _ _ _ _ a b c d f g h (s *ℤ e) x0 x1 x2 x3 w1 w2 w3 z0) (same_is m _ _ (one_wraps s a b c d e f g h))))
-    (same_on m _ _ _ (r 0 (omega arith)) (same_on m _ _ _ (products_same m _ _ _ _ _ _ _ _ a b c d e f g h x0 x1 x2 x3 w0 w1 w2 w3) (same_is m _ _ (none_wrap s a b c d e f g h))))
+    each_of_four (λ i. Same m (pos (get_or (get_or rs 3 0 ∷ get_or rs 2 0 ∷ get_or rs 1 0 ∷ get_or rs 0 0 ∷ []) i 0)) (pos factor *ℤ cyclic s (a ∷ b ∷ c ∷ d ∷ []) (e ∷ f ∷ g ∷ h ∷ []) i))
+    (scaled_sum m factor (get_or rs 3 0) (get_or (leaf_sums xs ws zs) 3 0) (cyclic s (a ∷ b ∷ c ∷ d ∷ []) (e ∷ f ∷ g ∷ h ∷ []) 0) (r 3 (omega arith)) (same_on m _ _ _ (products_same m _ _ _ _ _ _ _ _ a b c d h (s *ℤ e) (s *ℤ f) (s *ℤ g) x0 x1 x2 x3 w3 z0 z1 z2) (same_is m _ _ (three_wrap s a b c d e f g h))))
+    (scaled_sum m factor (get_or rs 2 0) (get_or (leaf_sums xs ws zs) 2 0) (cyclic s (a ∷ b ∷ c ∷ d ∷ []) (e ∷ f ∷ g ∷ h ∷ []) 1) (r 2 (omega arith)) (same_on m _ _ _ (products_same m _ _ _ _ _ _ _ _ a b c d g h (s *ℤ e) (s *ℤ f) x0 x1 x2 x3 w2 w3 z0 z1) (same_is m _ _ (two_wrap s a b c d e f g h))))
+    (scaled_sum m factor (get_or rs 1 0) (get_or (leaf_sums xs ws zs) 1 0) (cyclic s (a ∷ b ∷ c ∷ d ∷ []) (e ∷ f ∷ g ∷ h ∷ []) 2) (r 1 (omega arith)) (same_on m _ _ _ (products_same m _ _ _ _ _ _ _ _ a b c d f g h (s *ℤ e) x0 x1 x2 x3 w1 w2 w3 z0) (same_is m _ _ (one_wraps s a b c d e f g h))))
+    (scaled_sum m factor (get_or rs 0 0) (get_or (leaf_sums xs ws zs) 0 0) (cyclic s (a ∷ b ∷ c ∷ d ∷ []) (e ∷ f ∷ g ∷ h ∷ []) 3) (r 0 (omega arith)) (same_on m _ _ _ (products_same m _ _ _ _ _ _ _ _ a b c d e f g h x0 x1 x2 x3 w0 w1 w2 w3) (same_is m _ _ (none_wrap s a b c d e f g h))))
 
 -- the same with the list backwards, as the code makes it
-pub leaf_reversed : (p : ℕ) (s : ℤ) (a h : List ℤ) (xs ws zs rs : List ℕ) → length a ≡ 4 → length h ≡ 4 → length rs ≡ 4 →
+pub leaf_reversed : (p factor : ℕ) (s : ℤ) (a h : List ℤ) (xs ws zs rs : List ℕ) → length a ≡ 4 → length h ≡ 4 → length rs ≡ 4 →
     ((k : ℕ) → k < 4 → Same (pos p) (pos (get_or xs k 0)) (get_or a k (pos 0))) →
     ((k : ℕ) → k < 4 → Same (pos p) (pos (get_or ws k 0)) (get_or h k (pos 0))) →
     ((k : ℕ) → k < 4 → Same (pos p) (pos (get_or zs k 0)) (s *ℤ pos (get_or ws k 0))) →
-    ((k : ℕ) → k < 4 → Same (pos p) (pos (get_or rs k 0)) (pos (get_or (leaf_sums xs ws zs) k 0))) →
-    IsProduct p 1 s a h (get_or (rs ++ rs) 3 0 ∷ get_or (rs ++ rs) 2 0 ∷ get_or (rs ++ rs) 1 0 ∷ get_or (rs ++ rs) 0 0 ∷ [])
-leaf_reversed p s a h xs ws zs rs a_long h_long four x w z r =
-    by_four (λ rs. ((k : ℕ) → k < 4 → Same (pos p) (pos (get_or rs k 0)) (pos (get_or (leaf_sums xs ws zs) k 0))) → IsProduct p 1 s a h (get_or (rs ++ rs) 3 0 ∷ get_or (rs ++ rs) 2 0 ∷ get_or (rs ++ rs) 1 0 ∷ get_or (rs ++ rs) 0 0 ∷ []))
-    (λ b c d e same. leaf_product p s a h xs ws zs (b ∷ c ∷ d ∷ e ∷ []) a_long h_long x w z same) rs four r
+    ((k : ℕ) → k < 4 → Same (pos p) (pos (get_or rs k 0)) (pos factor *ℤ pos (get_or (leaf_sums xs ws zs) k 0))) →
+    IsProduct p 1 factor s a h (get_or (rs ++ rs) 3 0 ∷ get_or (rs ++ rs) 2 0 ∷ get_or (rs ++ rs) 1 0 ∷ get_or (rs ++ rs) 0 0 ∷ [])
+leaf_reversed p factor s a h xs ws zs rs a_long h_long four x w z r =
+    by_four (λ rs. ((k : ℕ) → k < 4 → Same (pos p) (pos (get_or rs k 0)) (pos factor *ℤ pos (get_or (leaf_sums xs ws zs) k 0))) → IsProduct p 1 factor s a h (get_or (rs ++ rs) 3 0 ∷ get_or (rs ++ rs) 2 0 ∷ get_or (rs ++ rs) 1 0 ∷ get_or (rs ++ rs) 0 0 ∷ []))
+    (λ b c d e same. leaf_product p factor s a h xs ws zs (b ∷ c ∷ d ∷ e ∷ []) a_long h_long x w z same) rs four r
 
 -- four lanes of two vectors one after the other
 abbrev pub picked : List ℕ → List ℕ → ℕ → ℕ → ℕ → ℕ → List ℕ
@@ -140,7 +144,7 @@ leaf_sums_are xs ws zs one two three four sums x_long w_long z_long =
 
 -- ---- sizes
 
-pub picked_less : (n : ℕ) (xs ys : List ℕ) (a b c d : ℕ) → AreFour n xs → AreFour n ys → a < 8 → b < 8 → c < 8 → d < 8 → (k : ℕ) → k < 4 → get_or (picked xs ys a b c d) k 0 < n
+picked_less : (n : ℕ) (xs ys : List ℕ) (a b c d : ℕ) → AreFour n xs → AreFour n ys → a < 8 → b < 8 → c < 8 → d < 8 → (k : ℕ) → k < 4 → get_or (picked xs ys a b c d) k 0 < n
 picked_less n xs ys a b c d first second l m o q = each_of_four (λ k. get_or (picked xs ys a b c d) k 0 < n) (either a l) (either b m) (either c o) (either d q)
   where
     either : (j : ℕ) → j < 8 → get_or (xs ++ ys) j 0 < n
@@ -151,9 +155,30 @@ picked_less n xs ys a b c d first second l m o q = each_of_four (λ k. get_or (p
           | inr above ↦ rw (get_or-append_right xs ys 4 j 0 front above) (second.less (j - 4) (omega arith))
         ]
 
-pub lane_products_less : (xs ys rs : List ℕ) → LaneProducts xs ys rs → ((k : ℕ) → k < 4 → get_or xs k 0 < 2 ^ 31) → ((k : ℕ) → k < 4 → get_or ys k 0 < 2 ^ 31) → (k : ℕ) → k < 4 → get_or rs k 0 < 2 ^ 62
-lane_products_less xs ys rs are first second k l =
+-- the product of a number below 22 times the modulus and a weight of at most it is less than 22 times its square, by the modulus
+lane_products_less : (p : ℕ) (xs ys rs : List ℕ) → 0 < p → LaneProducts xs ys rs → ((k : ℕ) → k < 4 → get_or xs k 0 < 22 * p) → ((k : ℕ) → k < 4 → get_or ys k 0 < p + 1) → (k : ℕ) → k < 4 → get_or rs k 0 + p ≤ 22 * p * p
+lane_products_less p xs ys rs some are first second k l =
     let x = first k l in
     let y = second k l in
-    let product = mul-le (get_or xs k 0) (get_or ys k 0) (2 ^ 31 - 1) (2 ^ 31 - 1) (omega (arith, x)) (omega (arith, y)) in
-    rw (are k l) (omega (arith, product))
+    let is : 22 * p ≡ (22 * p - 1) + 1 = omega (arith, some) in
+    let whole : 22 * p * p ≡ ((22 * p - 1) + 1) * p = ap (λ n. n * p) is in
+    let product = mul-le (get_or xs k 0) (get_or ys k 0) (22 * p - 1) p (omega (arith, x)) (omega (arith, y)) in
+    rw (are k l) (omega (arith, product, whole))
+
+-- each of the four products is less than 22 times the square of the modulus, by the modulus
+pub four_products_less : (p : ℕ) (xs ws zs one two three four : List ℕ) → 0 < p → AreFour (22 * p) xs → AreFour p ws → AreFour (p + 1) zs →
+    LaneProducts (picked xs xs 0 0 0 0) ws one → LaneProducts (picked xs xs 1 1 1 1) (picked ws zs 1 2 3 4) two →
+    LaneProducts (picked xs xs 2 2 2 2) (picked ws zs 2 3 4 5) three → LaneProducts (picked xs xs 3 3 3 3) (picked ws zs 3 4 5 6) four →
+    (k : ℕ) → k < 4 → (get_or one k 0 + p ≤ 22 * p * p) × (get_or two k 0 + p ≤ 22 * p * p) × (get_or three k 0 + p ≤ 22 * p * p) × (get_or four k 0 + p ≤ 22 * p * p)
+four_products_less p xs ws zs one two three four some x w z o t h f k l = (
+  lane_products_less p (picked xs xs 0 0 0 0) ws one some o (each 0 (omega arith)) weights.less k l,
+  lane_products_less p (picked xs xs 1 1 1 1) (picked ws zs 1 2 3 4) two some t (each 1 (omega arith)) (picked_less (p + 1) ws zs 1 2 3 4 weights z (omega arith) (omega arith) (omega arith) (omega arith)) k l,
+  lane_products_less p (picked xs xs 2 2 2 2) (picked ws zs 2 3 4 5) three some h (each 2 (omega arith)) (picked_less (p + 1) ws zs 2 3 4 5 weights z (omega arith) (omega arith) (omega arith) (omega arith)) k l,
+  lane_products_less p (picked xs xs 3 3 3 3) (picked ws zs 3 4 5 6) four some f (each 3 (omega arith)) (picked_less (p + 1) ws zs 3 4 5 6 weights z (omega arith) (omega arith) (omega arith) (omega arith)) k l,
+)
+  where
+    each : (i : ℕ) → i < 8 → (k : ℕ) → k < 4 → get_or (picked xs xs i i i i) k 0 < 22 * p
+    each i lt = picked_less (22 * p) xs xs i i i i x x lt lt lt lt
+
+    weights : AreFour (p + 1) ws
+    weights = record { four = w.four; less = λ j m. let e = w.less j m in omega (arith, e) }

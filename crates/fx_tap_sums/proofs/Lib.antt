@@ -1,10 +1,10 @@
 pub mod Convolving
 pub mod Cyclic
 pub mod CyclicSums
+pub mod Divided
 pub mod Doubling
 pub mod Factors
 pub mod Fitting
-pub mod Folding
 pub mod Halves
 pub mod InTurn
 pub mod KernelLaws
@@ -19,10 +19,12 @@ pub mod PartSums
 pub mod Primes
 pub mod ProductBounds
 pub mod ProductLanes
+pub mod Remainders
 pub mod Residues
 pub mod SmallSums
 pub mod Steps
 pub mod SumLaws
 pub mod Vectors
 pub mod WeightLaws
+pub mod Words
 pub mod Writes

@@ -1,26 +1,26 @@
--- The steps to the tables of roots modulo the two primes.
+-- The steps to the tables of roots modulo the three primes.
 use Rattle.std.proofs.Common.{◌<◌, ◌+◌, refl, ℕ, zero, suc, pos, ◌*ℤ◌, List, [], ◌∷◌, get_or, arith}
 use Rattle.fx_tap_sums.specs.Residues.{Same}
 use Rattle.fx_tap_sums.specs.Transform.{AreSteps, root_at}
 
 abbrev pub steps_of_first : List ℕ
-steps_of_first = 1791713200 ∷ 1906299997 ∷ 38373349 ∷ 1888742674 ∷ 248807081 ∷ 1024629013 ∷ 796253681 ∷ 883699363 ∷ []
+steps_of_first = 63054213 ∷ 108838861 ∷ 111577782 ∷ 103301485 ∷ 7203577 ∷ 8225640 ∷ 2858608 ∷ 1735425 ∷ []
 
 abbrev pub back_of_first : List ℕ
-back_of_first = 355769937 ∷ 1871829716 ∷ 1091720847 ∷ 248423640 ∷ 991158178 ∷ 1352271828 ∷ 22307504 ∷ 676222998 ∷ []
+back_of_first = 71294588 ∷ 33316585 ∷ 42131173 ∷ 120897030 ∷ 85419597 ∷ 59517180 ∷ 55321463 ∷ 59336971 ∷ []
 
-pub first_steps : AreSteps 2147483137 steps_of_first back_of_first
+pub first_steps : AreSteps 134348801 steps_of_first back_of_first
 first_steps = record {
   eight = refl;
   beside = refl;
   less = less;
   back_less = back_less;
-  first = (pos 1494883073, refl);
+  first = (pos 29593370, refl);
   squares = squares;
   inverse = inverse;
 }
   where
-    less : (i : ℕ) → i < 8 → get_or steps_of_first i 0 < 2147483137
+    less : (i : ℕ) → i < 8 → get_or steps_of_first i 0 < 134348801
     less zero lt = omega arith
     less (suc zero) lt = omega arith
     less (suc (suc zero)) lt = omega arith
@@ -31,7 +31,7 @@ first_steps = record {
     less (suc (suc (suc (suc (suc (suc (suc zero))))))) lt = omega arith
     less (suc (suc (suc (suc (suc (suc (suc (suc i)))))))) lt = absurd (omega arith)
 
-    back_less : (i : ℕ) → i < 8 → get_or back_of_first i 0 < 2147483137
+    back_less : (i : ℕ) → i < 8 → get_or back_of_first i 0 < 134348801
     back_less zero lt = omega arith
     back_less (suc zero) lt = omega arith
     back_less (suc (suc zero)) lt = omega arith
@@ -42,45 +42,45 @@ first_steps = record {
     back_less (suc (suc (suc (suc (suc (suc (suc zero))))))) lt = omega arith
     back_less (suc (suc (suc (suc (suc (suc (suc (suc i)))))))) lt = absurd (omega arith)
 
-    squares : (k : ℕ) → k < 7 → Same (pos 2147483137) (root_at steps_of_first (k + 1) *ℤ root_at steps_of_first (k + 1)) (root_at steps_of_first k)
-    squares zero lt = (pos 1692204057, refl)
-    squares (suc zero) lt = (pos 685692, refl)
-    squares (suc (suc zero)) lt = (pos 1661176671, refl)
-    squares (suc (suc (suc zero))) lt = (pos 28826751, refl)
-    squares (suc (suc (suc (suc zero)))) lt = (pos 488881424, refl)
-    squares (suc (suc (suc (suc (suc zero))))) lt = (pos 295238604, refl)
-    squares (suc (suc (suc (suc (suc (suc zero)))))) lt = (pos 363646424, refl)
+    squares : (k : ℕ) → k < 7 → Same (pos 134348801) (root_at steps_of_first (k + 1) *ℤ root_at steps_of_first (k + 1)) (root_at steps_of_first k)
+    squares zero lt = (pos 88172708, refl)
+    squares (suc zero) lt = (pos 92666263, refl)
+    squares (suc (suc zero)) lt = (pos 79429043, refl)
+    squares (suc (suc (suc zero))) lt = (pos 386244, refl)
+    squares (suc (suc (suc (suc zero)))) lt = (pos 503623, refl)
+    squares (suc (suc (suc (suc (suc zero))))) lt = (pos 60824, refl)
+    squares (suc (suc (suc (suc (suc (suc zero)))))) lt = (pos 22417, refl)
     squares (suc (suc (suc (suc (suc (suc (suc k))))))) lt = absurd (omega arith)
 
-    inverse : (k : ℕ) → k < 8 → Same (pos 2147483137) (root_at back_of_first k *ℤ root_at steps_of_first k) (pos 1)
-    inverse zero lt = (pos 296830127, refl)
-    inverse (suc zero) lt = (pos 1661605123, refl)
-    inverse (suc (suc zero)) lt = (pos 19507946, refl)
-    inverse (suc (suc (suc zero))) lt = (pos 218492207, refl)
-    inverse (suc (suc (suc (suc zero)))) lt = (pos 114835441, refl)
-    inverse (suc (suc (suc (suc (suc zero))))) lt = (pos 645209699, refl)
-    inverse (suc (suc (suc (suc (suc (suc zero)))))) lt = (pos 8271279, refl)
-    inverse (suc (suc (suc (suc (suc (suc (suc zero))))))) lt = (pos 278268929, refl)
+    inverse : (k : ℕ) → k < 8 → Same (pos 134348801) (root_at back_of_first k *ℤ root_at steps_of_first k) (pos 1)
+    inverse zero lt = (pos 33460843, refl)
+    inverse (suc zero) lt = (pos 26990484, refl)
+    inverse (suc (suc zero)) lt = (pos 34990285, refl)
+    inverse (suc (suc (suc zero))) lt = (pos 92958349, refl)
+    inverse (suc (suc (suc (suc zero)))) lt = (pos 4580068, refl)
+    inverse (suc (suc (suc (suc (suc zero))))) lt = (pos 3643999, refl)
+    inverse (suc (suc (suc (suc (suc (suc zero)))))) lt = (pos 1177103, refl)
+    inverse (suc (suc (suc (suc (suc (suc (suc zero))))))) lt = (pos 766474, refl)
     inverse (suc (suc (suc (suc (suc (suc (suc (suc k)))))))) lt = absurd (omega arith)
 
 abbrev pub steps_of_second : List ℕ
-steps_of_second = 1404461508 ∷ 1130491765 ∷ 956000590 ∷ 897529834 ∷ 114597472 ∷ 1895701965 ∷ 1434834646 ∷ 1553835557 ∷ []
+steps_of_second = 122103448 ∷ 17268306 ∷ 27445029 ∷ 10720105 ∷ 125294662 ∷ 83335470 ∷ 7820304 ∷ 74335651 ∷ []
 
 abbrev pub back_of_second : List ℕ
-back_of_second = 743016509 ∷ 1261333245 ∷ 1586549416 ∷ 856097420 ∷ 1064014635 ∷ 1058563535 ∷ 224210160 ∷ 1521920281 ∷ []
+back_of_second = 13031785 ∷ 66513067 ∷ 109080257 ∷ 15677084 ∷ 4899700 ∷ 128276452 ∷ 124192936 ∷ 115432894 ∷ []
 
-pub second_steps : AreSteps 2147478017 steps_of_second back_of_second
+pub second_steps : AreSteps 135135233 steps_of_second back_of_second
 second_steps = record {
   eight = refl;
   beside = refl;
   less = less;
   back_less = back_less;
-  first = (pos 918524945, refl);
+  first = (pos 110328385, refl);
   squares = squares;
   inverse = inverse;
 }
   where
-    less : (i : ℕ) → i < 8 → get_or steps_of_second i 0 < 2147478017
+    less : (i : ℕ) → i < 8 → get_or steps_of_second i 0 < 135135233
     less zero lt = omega arith
     less (suc zero) lt = omega arith
     less (suc (suc zero)) lt = omega arith
@@ -91,7 +91,7 @@ second_steps = record {
     less (suc (suc (suc (suc (suc (suc (suc zero))))))) lt = omega arith
     less (suc (suc (suc (suc (suc (suc (suc (suc i)))))))) lt = absurd (omega arith)
 
-    back_less : (i : ℕ) → i < 8 → get_or back_of_second i 0 < 2147478017
+    back_less : (i : ℕ) → i < 8 → get_or back_of_second i 0 < 135135233
     back_less zero lt = omega arith
     back_less (suc zero) lt = omega arith
     back_less (suc (suc zero)) lt = omega arith
@@ -102,23 +102,83 @@ second_steps = record {
     back_less (suc (suc (suc (suc (suc (suc (suc zero))))))) lt = omega arith
     back_less (suc (suc (suc (suc (suc (suc (suc (suc i)))))))) lt = absurd (omega arith)
 
-    squares : (k : ℕ) → k < 7 → Same (pos 2147478017) (root_at steps_of_second (k + 1) *ℤ root_at steps_of_second (k + 1)) (root_at steps_of_second k)
-    squares zero lt = (pos 595122101, refl)
-    squares (suc zero) lt = (pos 425586255, refl)
-    squares (suc (suc zero)) lt = (pos 375118998, refl)
-    squares (suc (suc (suc zero))) lt = (pos 6115350, refl)
-    squares (suc (suc (suc (suc zero)))) lt = (pos 1673444809, refl)
-    squares (suc (suc (suc (suc (suc zero))))) lt = (pos 958682903, refl)
-    squares (suc (suc (suc (suc (suc (suc zero)))))) lt = (pos 1124297859, refl)
+    squares : (k : ℕ) → k < 7 → Same (pos 135135233) (root_at steps_of_second (k + 1) *ℤ root_at steps_of_second (k + 1)) (root_at steps_of_second k)
+    squares zero lt = (pos 2206636, refl)
+    squares (suc zero) lt = (pos 5573895, refl)
+    squares (suc (suc zero)) lt = (pos 850412, refl)
+    squares (suc (suc (suc zero))) lt = (pos 116170683, refl)
+    squares (suc (suc (suc (suc zero)))) lt = (pos 51391486, refl)
+    squares (suc (suc (suc (suc (suc zero))))) lt = (pos 452562, refl)
+    squares (suc (suc (suc (suc (suc (suc zero)))))) lt = (pos 40890809, refl)
     squares (suc (suc (suc (suc (suc (suc (suc k))))))) lt = absurd (omega arith)
 
-    inverse : (k : ℕ) → k < 8 → Same (pos 2147478017) (root_at back_of_second k *ℤ root_at steps_of_second k) (pos 1)
-    inverse zero lt = (pos 485936563, refl)
-    inverse (suc zero) lt = (pos 664000672, refl)
-    inverse (suc (suc zero)) lt = (pos 706289967, refl)
-    inverse (suc (suc (suc zero))) lt = (pos 357802487, refl)
-    inverse (suc (suc (suc (suc zero)))) lt = (pos 56779807, refl)
-    inverse (suc (suc (suc (suc (suc zero))))) lt = (pos 934454722, refl)
-    inverse (suc (suc (suc (suc (suc (suc zero)))))) lt = (pos 149805727, refl)
-    inverse (suc (suc (suc (suc (suc (suc (suc zero))))))) lt = (pos 1101205148, refl)
+    inverse : (k : ℕ) → k < 8 → Same (pos 135135233) (root_at back_of_second k *ℤ root_at steps_of_second k) (pos 1)
+    inverse zero lt = (pos 11775063, refl)
+    inverse (suc zero) lt = (pos 8499397, refl)
+    inverse (suc (suc zero)) lt = (pos 22153444, refl)
+    inverse (suc (suc (suc zero))) lt = (pos 1243643, refl)
+    inverse (suc (suc (suc (suc zero)))) lt = (pos 4542903, refl)
+    inverse (suc (suc (suc (suc (suc zero))))) lt = (pos 79105783, refl)
+    inverse (suc (suc (suc (suc (suc (suc zero)))))) lt = (pos 7187071, refl)
+    inverse (suc (suc (suc (suc (suc (suc (suc zero))))))) lt = (pos 63497721, refl)
+    inverse (suc (suc (suc (suc (suc (suc (suc (suc k)))))))) lt = absurd (omega arith)
+
+abbrev pub steps_of_third : List ℕ
+steps_of_third = 2113537 ∷ 40972877 ∷ 95274502 ∷ 32817385 ∷ 103270887 ∷ 51313586 ∷ 83024235 ∷ 23124954 ∷ []
+
+abbrev pub back_of_third : List ℕ
+back_of_third = 134201344 ∷ 17121088 ∷ 106193822 ∷ 58134597 ∷ 56152909 ∷ 73588918 ∷ 120474386 ∷ 82606210 ∷ []
+
+pub third_steps : AreSteps 136314881 steps_of_third back_of_third
+third_steps = record {
+  eight = refl;
+  beside = refl;
+  less = less;
+  back_less = back_less;
+  first = (pos 32770, refl);
+  squares = squares;
+  inverse = inverse;
+}
+  where
+    less : (i : ℕ) → i < 8 → get_or steps_of_third i 0 < 136314881
+    less zero lt = omega arith
+    less (suc zero) lt = omega arith
+    less (suc (suc zero)) lt = omega arith
+    less (suc (suc (suc zero))) lt = omega arith
+    less (suc (suc (suc (suc zero)))) lt = omega arith
+    less (suc (suc (suc (suc (suc zero))))) lt = omega arith
+    less (suc (suc (suc (suc (suc (suc zero)))))) lt = omega arith
+    less (suc (suc (suc (suc (suc (suc (suc zero))))))) lt = omega arith
+    less (suc (suc (suc (suc (suc (suc (suc (suc i)))))))) lt = absurd (omega arith)
+
+    back_less : (i : ℕ) → i < 8 → get_or back_of_third i 0 < 136314881
+    back_less zero lt = omega arith
+    back_less (suc zero) lt = omega arith
+    back_less (suc (suc zero)) lt = omega arith
+    back_less (suc (suc (suc zero))) lt = omega arith
+    back_less (suc (suc (suc (suc zero)))) lt = omega arith
+    back_less (suc (suc (suc (suc (suc zero))))) lt = omega arith
+    back_less (suc (suc (suc (suc (suc (suc zero)))))) lt = omega arith
+    back_less (suc (suc (suc (suc (suc (suc (suc zero))))))) lt = omega arith
+    back_less (suc (suc (suc (suc (suc (suc (suc (suc i)))))))) lt = absurd (omega arith)
+
+    squares : (k : ℕ) → k < 7 → Same (pos 136314881) (root_at steps_of_third (k + 1) *ℤ root_at steps_of_third (k + 1)) (root_at steps_of_third k)
+    squares zero lt = (pos 12315432, refl)
+    squares (suc zero) lt = (pos 66590167, refl)
+    squares (suc (suc zero)) lt = (pos 7900683, refl)
+    squares (suc (suc (suc zero))) lt = (pos 78237064, refl)
+    squares (suc (suc (suc (suc zero)))) lt = (pos 19316189, refl)
+    squares (suc (suc (suc (suc (suc zero))))) lt = (pos 50566919, refl)
+    squares (suc (suc (suc (suc (suc (suc zero)))))) lt = (pos 3923001, refl)
+    squares (suc (suc (suc (suc (suc (suc (suc k))))))) lt = absurd (omega arith)
+
+    inverse : (k : ℕ) → k < 8 → Same (pos 136314881) (root_at back_of_third k *ℤ root_at steps_of_third k) (pos 1)
+    inverse zero lt = (pos 2080767, refl)
+    inverse (suc zero) lt = (pos 5146175, refl)
+    inverse (suc (suc zero)) lt = (pos 74222003, refl)
+    inverse (suc (suc (suc zero))) lt = (pos 13995724, refl)
+    inverse (suc (suc (suc (suc zero)))) lt = (pos 42540922, refl)
+    inverse (suc (suc (suc (suc (suc zero))))) lt = (pos 27701387, refl)
+    inverse (suc (suc (suc (suc (suc (suc zero)))))) lt = (pos 73376389, refl)
+    inverse (suc (suc (suc (suc (suc (suc (suc zero))))))) lt = (pos 14013619, refl)
     inverse (suc (suc (suc (suc (suc (suc (suc (suc k)))))))) lt = absurd (omega arith)

@@ -1,8 +1,7 @@
 -- Numbers that are the same modulo another one.
-use Rattle.std.proofs.Common.{◌≡◌, ◌+◌, ◌-◌, ◌*◌, ◌≤◌, ℕ, ap, sym, arith, ℤ, pos, negsuc, neg_ℤ, ◌*ℤ◌, ◌+ℤ◌, refl, unsigned_abs}
-use Rattle.std.proofs.Math.IntN.{nat_abs, *ℤ_comm}
-use Rattle.std.specs.Prelude.{true, false}
-use lib.Signed.{lt_z}
+use Rattle.std.proofs.Common.{◌≡◌, ◌+◌, ◌-◌, ◌*◌, ◌/◌, ◌%◌, ◌^◌, ◌<◌, ℕ, ap, sym, arith, ℤ, pos, neg_ℤ, ◌*ℤ◌, ◌+ℤ◌, unsigned_abs, w32}
+use Rattle.std.proofs.Math.IntN.{*ℤ_comm}
+use Rattle.std.specs.Prelude.{FitsSigned}
 use Rattle.std.proofs.lemmas.Int.{ints}
 use borrow.Author.Differences.{product_is}
 use Rattle.fx_tap_sums.specs.Residues.{Same}
@@ -43,16 +42,25 @@ same_less p a b k e =
     let product : pos p *ℤ pos k ≡ pos (p * k) = ap pos (omega arith) in
     (neg_ℤ (pos k), omega (arith, ints))
 
--- a sample of 32 bits below 0, and twice the modulus
-pub lifted : (p : ℕ) (x : ℤ) → unsigned_abs x ≤ 2 * p → lt_z x (pos 0) ≡ true → Same (pos p) (pos (2 * p - unsigned_abs x)) x
-lifted p (pos n) small below = absurd (omega (arith, ints))
-lifted p (negsuc n) small below =
-    let twice : pos p *ℤ pos 2 ≡ pos (2 * p) = ap pos (omega arith) in
-    (pos 2, omega (arith, ints))
+-- a sample of 32 bits and 2^31 together are not below 0
+raised_is : (x : ℤ) → FitsSigned w32 x → pos (unsigned_abs (x +ℤ pos (2 ^ 31))) ≡ x +ℤ pos (2 ^ 31)
+raised_is x fits = omega (arith, ints, fits)
 
-pub kept : (x : ℤ) → lt_z x (pos 0) ≡ false → pos (nat_abs x) ≡ x
-kept (pos n) below = refl
-kept (negsuc n) below = absurd (omega (arith, ints))
+-- the remainder of that sum, less that of 2^31, which is below the modulus
+pub raised_same : (p : ℕ) (x : ℤ) → 0 < p → FitsSigned w32 x → Same (pos p) (pos (unsigned_abs (x +ℤ pos (2 ^ 31)) % p + (p - 2 ^ 31 % p))) x
+raised_same p x some fits =
+    let n : ℕ = unsigned_abs (x +ℤ pos (2 ^ 31)) in
+    let q : ℕ = n / p in
+    let r : ℕ = (2 ^ 31) / p in
+    let is : pos n ≡ x +ℤ pos (2 ^ 31) = raised_is x fits in
+    let first : p * q + n % p ≡ n = omega (arith, some) in
+    let second : p * r + (2 ^ 31) % p ≡ 2 ^ 31 = omega (arith, some) in
+    let less : (2 ^ 31) % p < p = omega (arith, some) in
+    let parts = mul-add (pos p) (pos (1 + r)) (neg_ℤ (pos q)) in
+    let turned = mul-neg (pos p) (pos q) in
+    let more : pos p *ℤ pos (1 + r) ≡ pos (p + p * r) = ap pos (omega arith) in
+    let product : pos p *ℤ pos q ≡ pos (p * q) = ap pos (omega arith) in
+    (pos (1 + r) +ℤ neg_ℤ (pos q), omega (arith, ints, is, first, second, less))
 
 -- the negatives
 pub same_negated : (p a b : ℤ) → Same p a b → Same p (neg_ℤ a) (neg_ℤ b)

@@ -98,13 +98,13 @@ lane_reduced p xs rs are four below above = record {
   ];
 }
 
-pub lane_same : (p : ℕ) (xs rs : List ℕ) → ((k : ℕ) → k < 4 → get_or xs k 0 < p → get_or rs k 0 ≡ get_or xs k 0) → ((k : ℕ) → k < 4 → p ≤ get_or xs k 0 → get_or rs k 0 ≡ get_or xs k 0 - p) → (k : ℕ) → k < 4 → Same (pos p) (pos (get_or rs k 0)) (pos (get_or xs k 0))
-lane_same p xs rs below above k l = elim (cases_lt (get_or xs k 0) p) [
+pub lane_same : (p t n : ℕ) (xs rs : List ℕ) → t * p ≡ n → ((k : ℕ) → k < 4 → get_or xs k 0 < n → get_or rs k 0 ≡ get_or xs k 0) → ((k : ℕ) → k < 4 → n ≤ get_or xs k 0 → get_or rs k 0 ≡ get_or xs k 0 - n) → (k : ℕ) → k < 4 → Same (pos p) (pos (get_or rs k 0)) (pos (get_or xs k 0))
+lane_same p t n xs rs whole below above k l = elim (cases_lt (get_or xs k 0) n) [
   | inl less ↦ rw (below k l less) (same_refl (pos p) (pos (get_or xs k 0)))
-  | inr more ↦ rw (above k l more) (same_less p (get_or xs k 0 - p) (get_or xs k 0) 1 (omega arith))
+  | inr more ↦ rw (above k l more) (same_less p (get_or xs k 0 - n) (get_or xs k 0) t (omega arith))
 ]
 
-pub opposite_same : (p b : ℕ) → b ≤ p → Same (pos p) (pos (p - b)) (neg_ℤ (pos b))
-opposite_same p b less =
-    let once : pos p *ℤ pos 1 ≡ pos p = ap pos (omega arith) in
-    (pos 1, omega (arith, ints))
+pub opposite_same : (p t b : ℕ) → b ≤ t * p → Same (pos p) (pos (t * p - b)) (neg_ℤ (pos b))
+opposite_same p t b less =
+    let whole : pos p *ℤ pos t ≡ pos (t * p) = ap pos (omega arith) in
+    (pos t, omega (arith, ints))

@@ -71,3 +71,15 @@ remainders_take p m xs le are i lt =
     let size = length-take-le m xs le in
     let below : i < m = omega arith in
     rw (get_or-take m xs i 0 below) (are i (omega arith))
+
+-- remainders are below a greater number too
+pub remainders_wider : (p q : ℕ) (xs : List ℕ) → p ≤ q → AreRemainders p xs → AreRemainders q xs
+remainders_wider p q xs le are i lt = let less = are i lt in omega arith
+
+-- four that were loaded
+pub four_loaded : (p at : ℕ) (xs lanes : List ℕ) → AreRemainders p xs → length lanes ≡ 4 → at + 4 ≤ length xs → ((k : ℕ) → k < 4 → get_or lanes k 0 ≡ get_or xs (at + k) 0) → AreFour p lanes
+four_loaded p at xs lanes are four long is = record { four = four; less = λ k l. rw (is k l) (are (at + k) (omega arith)) }
+
+-- a number in the front of a list
+pub same-front : (p x : ℤ) (new rest : List ℕ) (i : ℕ) → i < length new → Same p (pos (get_or new i 0)) x → Same p (pos (get_or (new ++ rest) i 0)) x
+same-front p x new rest i below is = rw (get_or_append_left new rest 0 i below) is

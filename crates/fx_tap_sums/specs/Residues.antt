@@ -1,13 +1,17 @@
 -- Integers modulo another one.
-use Rattle.std.specs.Prelude.{ℕ, ◌≡◌, ◌<◌, ◌≤◌, ◌-◌, ◌^◌, List, ℤ, pos, ◌*ℤ◌, ◌+ℤ◌, length, slice_index_or}
+use Rattle.std.specs.Prelude.{ℕ, ◌≡◌, ◌<◌, ◌+◌, ◌*◌, ◌/◌, ◌%◌, ◌^◌, List, ℤ, pos, ◌*ℤ◌, ◌+ℤ◌, length, slice_index_or}
 
 -- equal but for a multiple of p
 abbrev pub Same : ℤ → ℤ → ℤ → Type 0
 Same p a b = (k : ℤ) × (a ≡ b +ℤ (p *ℤ k))
 
--- a modulus that is at most 2^13 below 2^31
+-- a modulus above 2^27, by a 32nd of it at most, and 1 more than a multiple of 2^16
 abbrev pub IsModulus : ℕ → Type 0
-IsModulus p = (2 ^ 31 - 2 ^ 13 ≤ p) × (p < 2 ^ 31)
+IsModulus p = (2 ^ 27 < p) × (p < 2 ^ 27 + 2 ^ 22) × (p % 2 ^ 16 ≡ 1)
+
+-- 2^32 times this is 1 modulo such a p: 2^16 times (p / 2^16) is -1
+abbrev pub inverse_of_word : ℕ → ℕ
+inverse_of_word p = (p / 2 ^ 16) * (p / 2 ^ 16)
 
 -- numbers below p, as remainders modulo p are
 abbrev pub AreRemainders : ℕ → List ℕ → Type 0

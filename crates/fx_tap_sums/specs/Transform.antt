@@ -45,6 +45,6 @@ IsTransform p roots (suc levels) place h f =
     IsTransform p roots levels (2 * place) (combined (root_at roots place) (drop (4 * 2 ^ levels) h) (take (4 * 2 ^ levels) h)) (drop (4 * 2 ^ levels) f)
     × IsTransform p roots levels (2 * place + 1) (combined (neg_ℤ (root_at roots place)) (drop (4 * 2 ^ levels) h) (take (4 * 2 ^ levels) h)) (take (4 * 2 ^ levels) f)
 
--- four times so many numbers are the product of a and h modulo x^n - s and p, that many times
-abbrev pub IsProduct : ℕ → ℕ → ℤ → List ℤ → List ℤ → List ℕ → Type 0
-IsProduct p times s a h xs = (i : ℕ) → i < 4 * times → Same (pos p) (pos (slice_index_or xs i 0)) (pos times *ℤ cyclic s a h i)
+-- the first 4 * groups numbers are a factor times the product of a and h modulo x^n - s and p
+abbrev pub IsProduct : ℕ → ℕ → ℕ → ℤ → List ℤ → List ℤ → List ℕ → Type 0
+IsProduct p groups factor s a h xs = (i : ℕ) → i < 4 * groups → Same (pos p) (pos (slice_index_or xs i 0)) (pos factor *ℤ cyclic s a h i)

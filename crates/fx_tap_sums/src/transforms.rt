@@ -1,4 +1,4 @@
-//! Sums of a long list of weights times the samples of a window, by transforms modulo two primes.
+//! Sums of a long list of weights times the samples of a window, by transforms modulo two or three primes.
 
 mod factor;
 mod lanes;

@@ -140,6 +140,33 @@ fn sums_of_all_lengths(rt: HostRuntime) -> Result<(), &'static str> {
     }
 }
 
+/// Samples of 24 bits, so that two primes determine the sums.
+#[test]
+fn sums_of_24_bits(rt: HostRuntime) -> Result<(), &'static str> {
+    let Ok(mut window) = samples(rt.alloc(), 4000) else {
+        return Err(REFUSED);
+    };
+    for sample in &mut window {
+        *sample &= -256;
+    }
+    check_all_taps(rt.alloc(), &window)
+}
+
+/// Samples of 24 bits but for one of 32, which is the last in the window of 1,024 sums by 511 taps, and not in that of 1,023.
+#[test]
+fn sums_of_24_bits_and_one_of_32(rt: HostRuntime) -> Result<(), &'static str> {
+    let Ok(mut window) = samples(rt.alloc(), 4000) else {
+        return Err(REFUSED);
+    };
+    for sample in &mut window {
+        *sample &= -256;
+    }
+    if let Some(last) = window.get_mut(1534) {
+        *last = i32::MAX;
+    }
+    check_taps(rt.alloc(), "511 taps", &window, 511)
+}
+
 /// Are six sums by so many taps of one weight, of samples that are all the same, those of the definition?
 fn is_right_of_alike(
     alloc: Global,

@@ -31,11 +31,11 @@ fn sound(alloc: Global, count: usize) -> Result<Vec<i32>, AllocError> {
     Ok(samples)
 }
 
-/// A coefficient below 0.05: of six decimals, or of eleven.
+/// A coefficient below 0.05: of six decimals, or of twelve.
 fn coefficient(alloc: Global, place: usize, is_fine: bool) -> Result<Gain, &'static str> {
-    let size = noise(place.wrapping_add(77_777));
+    let size = i64::from(noise(place.wrapping_add(77_777)));
     let (size, decimals) = if is_fine {
-        (size, 11)
+        (size.wrapping_mul(20).wrapping_add(7), 12)
     } else {
         (size % 50_000, 6)
     };
@@ -45,7 +45,7 @@ fn coefficient(alloc: Global, place: usize, is_fine: bool) -> Result<Gain, &'sta
     }
 }
 
-/// So many coefficients below 0.05: of six decimals, or of eleven.
+/// So many coefficients below 0.05: of six decimals, or of twelve.
 fn coefficients(alloc: Global, count: usize, is_fine: bool) -> Result<Vec<Gain>, &'static str> {
     let mut gains = Vec::new(alloc);
     for place in 0..count {
@@ -261,22 +261,23 @@ fn filters_by(
     }
 }
 
-/// Leaves of each sample what a sound of 16 bits has.
-fn narrow(samples: &mut [i32]) {
+/// Leaves of each sample the bits of a mask.
+fn mask(samples: &mut [i32], bits: i32) {
     for sample in samples {
-        *sample &= -65_536;
+        *sample &= bits;
     }
 }
 
-/// Fails where a `fir` of so many coefficients of six decimals does not give what it has to, for so many frames of 16 bits.
-fn filters_narrow(alloc: Global, count: usize, frames: usize) -> Result<(), Fail>
+/// Fails where a `fir` of so many coefficients of six decimals does not give what it has to, for so many frames whose samples
+/// have the bits of a mask.
+fn filters_masked(alloc: Global, count: usize, bits: i32, frames: usize) -> Result<(), Fail>
     requires frames { frames ≤ 2 ^ 20 }
 {
     let coefficients = coefficients(alloc, count, false)?;
     let Ok(mut sound) = sound(alloc, frames) else {
         return Err(REFUSED.into());
     };
-    narrow(&mut sound);
+    mask(&mut sound, bits);
     let mut given = Vec::new(alloc);
     feed(alloc, &coefficients, 1, &sound, &mut given)?;
     if are_right(alloc, &coefficients, 1, &sound, &given) {
@@ -286,11 +287,21 @@ fn filters_narrow(alloc: Global, count: usize, frames: usize) -> Result<(), Fail
     }
 }
 
-/// Counts of coefficients beside those where products of 16 bits begin to take two digits a weight, and where they end.
+/// Samples of 16 bits: counts of coefficients beside those where products of 16 bits begin to take two digits a weight, and
+/// where they end; and where transforms begin, and those of 1,024 numbers end.
 #[test]
 fn fir_of_16_bits(rt: HostRuntime) -> Result<(), Fail> {
-    for count in [11, 12, 256, 257] {
-        filters_narrow(rt.alloc(), count, 5000)?;
+    for count in [11, 12, 159, 160, 256, 257, 511, 512, 513] {
+        filters_masked(rt.alloc(), count, -65_536, 5000)?;
+    }
+    Ok(())
+}
+
+/// Samples of 24 bits, whose transforms are modulo two primes.
+#[test]
+fn fir_of_24_bits(rt: HostRuntime) -> Result<(), Fail> {
+    for count in [159, 160, 256, 511, 512, 513, 1024] {
+        filters_masked(rt.alloc(), count, -256, 5000)?;
     }
     Ok(())
 }
@@ -298,13 +309,13 @@ fn fir_of_16_bits(rt: HostRuntime) -> Result<(), Fail> {
 /// Counts of coefficients of six decimals beside those where another way of adding begins.
 #[test]
 fn fir_of_many(rt: HostRuntime) -> Result<(), Fail> {
-    for count in [127, 128, 129, 159, 160, 255, 256, 1023, 1024] {
+    for count in [127, 128, 159, 160, 255, 256, 511, 512, 513, 1023, 1024] {
         filters_by(rt.alloc(), count, false, 1, 6000)?;
     }
     Ok(())
 }
 
-/// The same of coefficients of eleven decimals.
+/// The same of coefficients of twelve decimals.
 #[test]
 fn fir_of_many_fine(rt: HostRuntime) -> Result<(), Fail> {
     for count in [255, 256, 511, 1024] {

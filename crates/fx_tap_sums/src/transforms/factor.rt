@@ -2,7 +2,6 @@
 ghost use Rattle.std.specs.Prelude.{◌≡◌, ◌<◌, ◌*◌, ◌/◌, ◌^◌, ℕ, pos, ◌*ℤ◌, slice_index_or};
 ghost use Rattle.fx_tap_sums.specs.Residues.{AreFour, IsModulus, Same};
 
-use super::lanes::reduced_four;
 use super::remainders::reduced;
 use super::vectors::{difference, multiply_wide, narrow, upper_bits};
 use std::marker::Model;
@@ -65,15 +64,15 @@ impl<const P: u32> Factor<P> {
         reduced::<P>((product - quotient * u64::from(P)) as u32)
     }
 
-    /// As `times`, four numbers.
+    /// As `times`, four numbers: each result has the remainder, and may be the modulus more.
     #[inline(always)]
     pub(crate) fn times_four(self, numbers: u32x4) -> u32x4
         requires modulus { IsModulus P }
         requires numbers { AreFour (2 ^ 32) numbers }
-        ensures less { AreFour P result }
+        ensures less { AreFour (2 * P) result }
         ensures same { (k : ℕ) → k < 4 → Same (pos P) (pos (slice_index_or result k 0)) (pos self.entry *ℤ pos (slice_index_or numbers k 0)) }
     {
         let quotients = upper_bits::<32>(multiply_wide(u32x4::splat(self.quotient), numbers));
-        reduced_four::<P>(difference(self.value, numbers, P, narrow(quotients)))
+        difference(self.value, numbers, P, narrow(quotients))
     }
 }

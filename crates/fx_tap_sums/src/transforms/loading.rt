@@ -9,20 +9,21 @@ use super::remainders::remainder;
 use super::transform::forward;
 use std::alloc::{AllocError, Global};
 
-/// The remainders of weights, each times the scale, with zeros after them: 2,048 in all.
+/// The remainders of weights, each times the scale, with zeros after them: so many in all.
 fn scaled<const P: u32>(
     alloc: Global,
+    count: usize,
     scale: Factor<P>,
     weights: &[i32],
 ) -> Result<Vec<u32>, AllocError>
     requires modulus { IsModulus P }
-    requires bound { length weights.now ≤ 1024 }
-    ensures long { IfOk result (λ v. length v.items ≡ 2048) }
+    requires bound { length weights.now ≤ count }
+    ensures long { IfOk result (λ v. length v.items ≡ count) }
     ensures remainders { IfOk result (λ v. AreRemainders P v.items) }
     ensures same { IfOk result (λ v. AreSame P v.items (map (λ w. pos scale.entry *ℤ w) weights.now)) }
 {
     let mut values = Vec::new(alloc);
-    'weights: for place in 0..2048 {
+    'weights: for place in 0..count {
         let value = if place < weights.len() {
             scale.times(remainder::<P>(weights[place]))
         } else {
@@ -33,30 +34,33 @@ fn scaled<const P: u32>(
     Ok(values)
 }
 
-/// The transform of at most 1,024 weights, each times the scale, with zeros after them.
+/// The transform of so many numbers, 2^levels times four: the weights, each times the scale, with zeros after them.
 pub(crate) fn transformed<const P: u32>(
     alloc: Global,
     roots: &[Factor<P>],
+    levels: usize,
+    count: usize,
     scale: Factor<P>,
     weights: &[i32],
 ) -> Result<Vec<u32>, AllocError>
     requires modulus { IsModulus P }
     requires table { length roots.now ≡ 256 }
-    requires bound { length weights.now ≤ 1024 }
-    ensures long { IfOk result (λ v. length v.items ≡ 2048) }
+    requires count { count ≡ 4 * 2 ^ levels }
+    requires limit { count ≤ 2048 }
+    requires bound { length weights.now ≤ count }
+    ensures long { IfOk result (λ v. length v.items ≡ count) }
     ensures remainders { IfOk result (λ v. AreRemainders P v.items) }
-    ensures transform { IfOk result (λ v. IsTransform P roots.now 9 0 (padded_weights 2048 (map (λ w. pos scale.entry *ℤ w) weights.now)) v.items) }
+    ensures transform { IfOk result (λ v. IsTransform P roots.now levels 0 (padded_weights count (map (λ w. pos scale.entry *ℤ w) weights.now)) v.items) }
 {
-    let mut values = scaled(alloc, scale, weights)?;
-    forward(roots, 9, 0, &mut values);
+    let mut values = scaled(alloc, count, scale, weights)?;
+    forward(roots, levels, 0, &mut values);
     Ok(values)
 }
 
 /// Writes a zero, numbers below twice the modulus that have the remainders of samples, and zeros after them.
 pub(crate) fn load<const P: u32>(window: &[i32], values: &mut [u32])
     requires modulus { IsModulus P }
-    requires window { length window.now ≤ 2047 }
-    requires values { length values.old ≡ 2048 }
+    requires window { length window.now < length values.old }
     ensures remainders { AreRemainders (2 * P) values.new }
     ensures same { AreSame P values.new (pos 0 ∷ window.now) }
     ensures samples { (k : ℕ) → unsigned_abs (slice_index_or window.now k (pos 0)) ≤ 2 ^ 31 }

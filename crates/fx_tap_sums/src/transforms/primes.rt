@@ -1,56 +1,74 @@
-//! Roots modulo the two primes.
+//! Roots modulo the three primes.
 
 /// Modulo the first prime, roots of the orders 4, 8, up to 512. The square of the first one is -1, that of each other the one
 /// before it.
 pub(crate) const STEPS_OF_FIRST: [u32; 8] = [
-    1_791_713_200,
-    1_906_299_997,
-    38_373_349,
-    1_888_742_674,
-    248_807_081,
-    1_024_629_013,
-    796_253_681,
-    883_699_363,
+    63_054_213,
+    108_838_861,
+    111_577_782,
+    103_301_485,
+    7_203_577,
+    8_225_640,
+    2_858_608,
+    1_735_425,
 ];
 
 /// The inverses of these.
 pub(crate) const BACK_OF_FIRST: [u32; 8] = [
-    355_769_937,
-    1_871_829_716,
-    1_091_720_847,
-    248_423_640,
-    991_158_178,
-    1_352_271_828,
-    22_307_504,
-    676_222_998,
+    71_294_588,
+    33_316_585,
+    42_131_173,
+    120_897_030,
+    85_419_597,
+    59_517_180,
+    55_321_463,
+    59_336_971,
 ];
-
-/// Times 512 this is 1 modulo the first prime. A transform and back gives 512 times what was there.
-pub(crate) const SCALE_OF_FIRST: u32 = 2_143_288_834;
 
 /// As `STEPS_OF_FIRST`, modulo the second prime.
 pub(crate) const STEPS_OF_SECOND: [u32; 8] = [
-    1_404_461_508,
-    1_130_491_765,
-    956_000_590,
-    897_529_834,
-    114_597_472,
-    1_895_701_965,
-    1_434_834_646,
-    1_553_835_557,
+    122_103_448,
+    17_268_306,
+    27_445_029,
+    10_720_105,
+    125_294_662,
+    83_335_470,
+    7_820_304,
+    74_335_651,
 ];
 
 /// The inverses of these.
 pub(crate) const BACK_OF_SECOND: [u32; 8] = [
-    743_016_509,
-    1_261_333_245,
-    1_586_549_416,
-    856_097_420,
-    1_064_014_635,
-    1_058_563_535,
-    224_210_160,
-    1_521_920_281,
+    13_031_785,
+    66_513_067,
+    109_080_257,
+    15_677_084,
+    4_899_700,
+    128_276_452,
+    124_192_936,
+    115_432_894,
 ];
 
-/// As `SCALE_OF_FIRST`, modulo the second prime.
-pub(crate) const SCALE_OF_SECOND: u32 = 2_143_283_724;
+/// As `STEPS_OF_FIRST`, modulo the third prime.
+pub(crate) const STEPS_OF_THIRD: [u32; 8] = [
+    2_113_537,
+    40_972_877,
+    95_274_502,
+    32_817_385,
+    103_270_887,
+    51_313_586,
+    83_024_235,
+    23_124_954,
+];
+
+/// The inverses of these.
+pub(crate) const BACK_OF_THIRD: [u32; 8] = [
+    134_201_344,
+    17_121_088,
+    106_193_822,
+    58_134_597,
+    56_152_909,
+    73_588_918,
+    120_474_386,
+    82_606_210,
+];

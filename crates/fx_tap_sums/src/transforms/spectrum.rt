@@ -1,47 +1,44 @@
 //! Weights prepared for sums by transforms.
-ghost use Rattle.std.specs.Prelude.{◌≡◌, ◌<◌, ◌≤◌, ◌+◌, ◌-◌, ◌^◌, ◌⊎◌, ℕ, ℤ, List, pos, true, false, drop, length, slice_index_or, sum_by, unsigned_abs, IfOk, IfNone, IfSome};
-ghost use Rattle.fx_tap_sums.specs.Prepared.{IsPreparedWeights};
+ghost use Rattle.std.specs.Prelude.{◌≡◌, ◌<◌, ◌≤◌, ◌+◌, ◌-◌, ◌^◌, ◌⊎◌, ℕ, ℤ, List, pos, ◌*ℤ◌, true, false, drop, length, slice_index_or, sum_by, unsigned_abs, IfOk, IfNone, IfSome};
+ghost use Rattle.fx_tap_sums.specs.Prepared.{ArePrepared, ArePreparedModulo, ArePreparedModuloTwo};
 ghost use Rattle.fx_tap_sums.specs.Products.{sum_of_products};
 
 use super::prepared::{Prepared, convolve_modulo, prepare};
 use super::primes::{
-    BACK_OF_FIRST, BACK_OF_SECOND, SCALE_OF_FIRST, SCALE_OF_SECOND, STEPS_OF_FIRST, STEPS_OF_SECOND,
+    BACK_OF_FIRST, BACK_OF_SECOND, BACK_OF_THIRD, STEPS_OF_FIRST, STEPS_OF_SECOND, STEPS_OF_THIRD,
 };
-use super::remainders::{FIRST, SECOND, joined};
-use crate::convolve::convolve;
+use super::remainders::{FIRST, SECOND, THIRD, joined_three, joined_two};
 use std::alloc::{AllocError, Global};
 use std::marker::Model;
 
 /// To how much the magnitudes of weights add up at most.
 const MAX_WHOLE: u32 = 1 << 30;
 
-/// To how much they add up at most where remainders modulo two primes tell the sums.
-const MAX_TRANSFORMED: u32 = (1 << 30) - 4096;
-
-/// Weights prepared modulo two primes.
+/// Weights prepared modulo three primes.
 #[derive(Drop)]
 pub(crate) struct Transforms {
     first: Prepared<FIRST>,
     second: Prepared<SECOND>,
+    third: Prepared<THIRD>,
 }
 
-/// Weights prepared for sums by transforms: the weights, and the same modulo two primes, where these tell the sums.
+/// Weights prepared for sums by transforms: the weights, and the same modulo three primes.
 #[derive(Drop)]
 pub struct Spectrum {
     weights: Vec<i32>,
-    transforms: Option<Transforms>,
+    transforms: Transforms,
 }
 
 // A spectrum is the list of its weights.
 impl Model for Spectrum {
-    ghost use Rattle.std.specs.Prelude.{◌≤◌, ◌^◌, ◌-◌, ℤ, List, length, sum_by, unsigned_abs, IfSome};
-    ghost use Rattle.fx_tap_sums.specs.Prepared.{IsPreparedWeights};
+    ghost use Rattle.std.specs.Prelude.{◌≤◌, ℤ, List, length};
+    ghost use Rattle.fx_tap_sums.specs.Prepared.{ArePrepared};
 
     ghost Value = { List ℤ };
 
     ghost view = { λ s. s.weights.items };
 
-    ghost invariant = { λ s. (length s.weights.items ≤ 1024) × (sum_by unsigned_abs s.weights.items ≤ 2 ^ 30) × IfSome s.transforms (λ t. (sum_by unsigned_abs s.weights.items ≤ 2 ^ 30 - 4096) × IsPreparedWeights 2147483137 s.weights.items t.first.table.roots.items t.first.table.inverses.items t.first.spectrum.items × IsPreparedWeights 2147478017 s.weights.items t.second.table.roots.items t.second.table.inverses.items t.second.spectrum.items) };
+    ghost invariant = { λ s. (length s.weights.items ≤ 1024) × ArePrepared s.transforms s.weights.items };
 }
 
 /// Tests that the magnitudes of weights add up to at most so much.
@@ -60,45 +57,110 @@ fn is_small(weights: &[i32], maximum: u32) -> bool
     true
 }
 
-/// At most 1,024 weights prepared modulo both primes.
-fn prepare_both(alloc: Global, weights: &[i32]) -> Result<Transforms, AllocError>
+/// At most 1,024 weights prepared modulo the three primes.
+fn prepare_all(alloc: Global, weights: &[i32]) -> Result<Transforms, AllocError>
     requires { length weights.now ≤ 1024 }
-    ensures first { IfOk result (λ t. IsPreparedWeights FIRST weights.now t.first.table.roots.items t.first.table.inverses.items t.first.spectrum.items) }
-    ensures second { IfOk result (λ t. IsPreparedWeights SECOND weights.now t.second.table.roots.items t.second.table.inverses.items t.second.spectrum.items) }
+    ensures first { IfOk result (λ t. ArePreparedModulo FIRST weights.now t.first.table.roots.items t.first.table.inverses.items t.first.half.items t.first.spectrum.items) }
+    ensures second { IfOk result (λ t. ArePreparedModulo SECOND weights.now t.second.table.roots.items t.second.table.inverses.items t.second.half.items t.second.spectrum.items) }
+    ensures third { IfOk result (λ t. ArePreparedModulo THIRD weights.now t.third.table.roots.items t.third.table.inverses.items t.third.half.items t.third.spectrum.items) }
 {
-    let first = prepare(
-        alloc,
-        &STEPS_OF_FIRST,
-        &BACK_OF_FIRST,
-        SCALE_OF_FIRST,
-        weights,
-    )?;
-    let second = prepare(
-        alloc,
-        &STEPS_OF_SECOND,
-        &BACK_OF_SECOND,
-        SCALE_OF_SECOND,
-        weights,
-    )?;
-    Ok(Transforms { first, second })
+    let first = prepare(alloc, &STEPS_OF_FIRST, &BACK_OF_FIRST, weights)?;
+    let second = prepare(alloc, &STEPS_OF_SECOND, &BACK_OF_SECOND, weights)?;
+    let third = prepare(alloc, &STEPS_OF_THIRD, &BACK_OF_THIRD, weights)?;
+    Ok(Transforms {
+        first,
+        second,
+        third,
+    })
+}
+
+/// A sample over 256, rounded down, and the rest.
+#[inline(always)]
+fn divided(sample: i32) -> (i32, u32)
+    ensures small { unsigned_abs result.0 ≤ 2 ^ 23 }
+    ensures exact { result.1 ≡ 0 → sample ≡ pos 256 *ℤ result.0 }
+{
+    (sample >> 8, sample.cast_unsigned() & 255)
+}
+
+/// Writes each sample over 256, rounded down, and tests that all are multiples of 256.
+fn divide(window: &[i32], upper: &mut [i32]) -> bool
+    requires as_many { length upper.old ≡ length window.now }
+    ensures small { (k : ℕ) → unsigned_abs (slice_index_or upper.new k (pos 0)) ≤ 2 ^ 23 }
+    ensures exact { result ≡ true → (k : ℕ) → k < length upper.new → slice_index_or window.now k (pos 0) ≡ pos 256 *ℤ slice_index_or upper.new k (pos 0) }
+{
+    let mut rest = 0;
+    'samples: for place in 0..upper.len() {
+        let (quotient, left) = divided(window[place]);
+        upper[place] = quotient;
+        rest |= left;
+    }
+    rest == 0
 }
 
 impl Transforms {
+    /// Writes 256 times the sums of prepared weights times as many samples of at most 24 bits, which two primes determine; at
+    /// most as many as one transform of that size gives.
+    fn convolve_upper(&self, size: usize, weights: usize, window: &[i32], sums: &mut [i64])
+        requires size { (size ≡ 1024) ⊎ (size ≡ 2048) }
+        requires window { weights + length sums.old ≤ length window.now + 1 }
+        requires bound { length window.now < size }
+        requires samples { (k : ℕ) → unsigned_abs (slice_index_or window.now k (pos 0)) ≤ 2 ^ 23 }
+        requires prepared { (ws : List ℤ) × (length ws ≡ weights) × ArePreparedModuloTwo self.now ws }
+        ensures sums { (ws : List ℤ) → length ws ≡ weights → ArePreparedModuloTwo self.now ws → (i : ℕ) → i < length sums.new → slice_index_or sums.new i (pos 0) ≡ pos 256 *ℤ sum_of_products (drop i window.now) ws }
+        ensures bound { (i : ℕ) → i < length sums.new → unsigned_abs (slice_index_or sums.new i (pos 0)) ≤ 2 ^ 61 }
+    {
+        let mut first = [0; 2048];
+        convolve_modulo(&self.first, window, &mut first[..size]);
+        let mut second = [0; 2048];
+        convolve_modulo(&self.second, window, &mut second[..size]);
+        'places: for place in 0..sums.len() {
+            let sum = joined_two(first[place], second[place]);
+            sums[place] = 256 * sum;
+        }
+    }
+
+    /// Writes the sums of prepared weights times as many samples of the window, at most as many as one transform of that size
+    /// gives.
+    fn convolve_whole(&self, size: usize, weights: usize, window: &[i32], sums: &mut [i64])
+        requires size { (size ≡ 1024) ⊎ (size ≡ 2048) }
+        requires window { weights + length sums.old ≤ length window.now + 1 }
+        requires bound { length window.now < size }
+        requires prepared { (ws : List ℤ) × (length ws ≡ weights) × ArePrepared self.now ws }
+        ensures sums { (ws : List ℤ) → length ws ≡ weights → ArePrepared self.now ws → (i : ℕ) → i < length sums.new → slice_index_or sums.new i (pos 0) ≡ sum_of_products (drop i window.now) ws }
+        ensures bound { (i : ℕ) → i < length sums.new → unsigned_abs (slice_index_or sums.new i (pos 0)) ≤ 2 ^ 61 }
+    {
+        let mut first = [0; 2048];
+        convolve_modulo(&self.first, window, &mut first[..size]);
+        let mut second = [0; 2048];
+        convolve_modulo(&self.second, window, &mut second[..size]);
+        let mut third = [0; 2048];
+        convolve_modulo(&self.third, window, &mut third[..size]);
+        'places: for place in 0..sums.len() {
+            sums[place] = joined_three(first[place], second[place], third[place]);
+        }
+    }
+
     /// Writes sums of prepared weights times as many samples of the window, at most as many as one transform gives.
     fn convolve_piece(&self, weights: usize, window: &[i32], sums: &mut [i64])
         requires window { weights + length sums.old ≤ length window.now + 1 }
         requires piece { weights + length sums.old ≤ 2048 }
-        requires prepared { (ws : List ℤ) × (length ws ≡ weights) × (sum_by unsigned_abs ws ≤ 2 ^ 30 - 4096) × IsPreparedWeights FIRST ws self.now.first.table.roots.items self.now.first.table.inverses.items self.now.first.spectrum.items × IsPreparedWeights SECOND ws self.now.second.table.roots.items self.now.second.table.inverses.items self.now.second.spectrum.items }
-        ensures sums { (ws : List ℤ) → length ws ≡ weights → sum_by unsigned_abs ws ≤ 2 ^ 30 - 4096 → IsPreparedWeights FIRST ws self.now.first.table.roots.items self.now.first.table.inverses.items self.now.first.spectrum.items → IsPreparedWeights SECOND ws self.now.second.table.roots.items self.now.second.table.inverses.items self.now.second.spectrum.items → (i : ℕ) → i < length sums.new → slice_index_or sums.new i (pos 0) ≡ sum_of_products (drop i window.now) ws }
+        requires prepared { (ws : List ℤ) × (length ws ≡ weights) × ArePrepared self.now ws }
+        ensures sums { (ws : List ℤ) → length ws ≡ weights → ArePrepared self.now ws → (i : ℕ) → i < length sums.new → slice_index_or sums.new i (pos 0) ≡ sum_of_products (drop i window.now) ws }
         ensures bound { (i : ℕ) → i < length sums.new → unsigned_abs (slice_index_or sums.new i (pos 0)) ≤ 2 ^ 61 }
     {
-        let piece = &window[..window.len().min(2047)];
-        let mut first = [0; 2048];
-        convolve_modulo(&self.first, piece, &mut first);
-        let mut second = [0; 2048];
-        convolve_modulo(&self.second, piece, &mut second);
-        'places: for place in 0..sums.len() {
-            sums[place] = joined(first[place], second[place]);
+        let size = if weights + sums.len() <= 1024 {
+            1024
+        } else {
+            2048
+        };
+        let piece = &window[..window.len().min(size - 1)];
+        let mut upper = [0; 2048];
+        let upper = &mut upper[..piece.len()];
+        if divide(piece, upper) {
+            self.convolve_upper(size, weights, upper, sums);
+        } else {
+            self.convolve_whole(size, weights, piece, sums);
         }
     }
 }
@@ -114,11 +176,7 @@ impl Spectrum {
         if weights.len() > 1024 || !is_small(weights, MAX_WHOLE) {
             return Ok(None);
         }
-        let transforms = if is_small(weights, MAX_TRANSFORMED) {
-            Some(prepare_both(alloc, weights)?)
-        } else {
-            None
-        };
+        let transforms = prepare_all(alloc, weights)?;
         let mut copied = Vec::new(alloc);
         copied.extend_from_slice(weights)?;
         Ok(Some(Spectrum {
@@ -127,20 +185,37 @@ impl Spectrum {
         }))
     }
 
+    /// How many of so many sums are best made next: as many as one transform gives, of 1,024 numbers or of 2,048. The larger takes
+    /// twice the time of the smaller.
+    pub fn count_at_once(&self, sums: usize) -> usize
+        requires { 1 ≤ sums }
+        ensures some { 1 ≤ result }
+        ensures bound { result ≤ sums }
+        ensures fits { length self.now + result ≤ 2048 }
+    {
+        let taps = self.weights.len();
+        let small = 1024 - taps;
+        if sums <= small {
+            sums
+        } else if sums < 2 * small {
+            small
+        } else {
+            sums.min(2048 - taps)
+        }
+    }
+
     /// Writes the sums of the weights times as many samples of the window, from each of its places on.
     pub fn convolve(&self, window: &[i32], sums: &mut [i64])
         requires window { length self.now + length sums.old ≤ length window.now + 1 }
         ensures sums { (i : ℕ) → i < length sums.new → slice_index_or sums.new i (pos 0) ≡ sum_of_products (drop i window.now) self.now }
         ensures bound { (i : ℕ) → i < length sums.new → unsigned_abs (slice_index_or sums.new i (pos 0)) ≤ 2 ^ 61 }
     {
-        let Some(transforms) = &self.transforms else {
-            return convolve(&self.weights, window, sums);
-        };
         let taps = self.weights.len();
         let mut at = 0;
         'pieces: while at < sums.len() {
-            let count = (sums.len() - at).min(2048 - taps);
-            transforms.convolve_piece(taps, &window[at..], &mut sums[at..at + count]);
+            let count = self.count_at_once(sums.len() - at);
+            self.transforms
+                .convolve_piece(taps, &window[at..], &mut sums[at..at + count]);
             at += count;
         }
     }

@@ -9,9 +9,9 @@ pub samples-init : goal.samples-init
 samples-init g c =
     let p : ℤ = pos g.row.P in
     record {
-      remainders = each_more 0 (λ k v. v < 2 * g.row.P) c.args.values.now 0 0 (omega (arith, c.requires.values)) (omega (arith, c.requires.modulus)) (λ k h. absurd (omega arith));
+      remainders = each_more 0 (λ k v. v < 2 * g.row.P) c.args.values.now 0 0 (omega (arith, c.requires.window)) (omega (arith, c.requires.modulus)) (λ k h. absurd (omega arith));
       samples = λ k h. absurd (omega arith);
-      same = each_more 0 (λ k v. Same p (pos v) (get_or (pos 0 ∷ c.args.window.now) k (pos 0))) c.args.values.now 0 0 (omega (arith, c.requires.values)) (same_refl p (pos 0)) (λ k h. absurd (omega arith));
+      same = each_more 0 (λ k v. Same p (pos v) (get_or (pos 0 ∷ c.args.window.now) k (pos 0))) c.args.values.now 0 0 (omega (arith, c.requires.window)) (same_refl p (pos 0)) (λ k h. absurd (omega arith));
     }
 
 pub samples-preserved : goal.samples-preserved
@@ -19,7 +19,7 @@ samples-preserved g c =
     let p : ℤ = pos g.row.P in
     let i = c.samples.place in
     let x : ℤ = get_or c.args.window.now i (pos 0) in
-    let lt : i + 1 < length c.samples.values = omega (arith, c.samples.auto.values, c.requires.values, c.requires.window, length-set {A = ℕ}) in
+    let lt : i + 1 < length c.samples.values = omega (arith, c.samples.auto.values, c.requires.window, length-set {A = ℕ}) in
     let back : to_z w32 (of_z w32 x) ≡ x = search rules in
     let next : i + 1 ≡ suc i = omega arith in
     let here : get_or (pos 0 ∷ c.args.window.now) (i + 1) (pos 0) ≡ x = rw next refl in

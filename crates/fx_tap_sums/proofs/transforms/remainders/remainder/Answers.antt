@@ -1,19 +1,15 @@
-use Rattle.std.proofs.Common.{rules, arith, refl, ap, unsigned_abs, ◌≡◌, ◌≤◌, ◌∙◌, ◌*◌, ℤ, pos, to_z, of_z, w32}
-use Rattle.fx_tap_sums.proofs.Residues.{same_is, lifted, kept}
+use Rattle.std.proofs.Common.{rules, arith, unsigned_abs, ◌≡◌, ◌≤◌, ◌<◌, ◌∙◌, ◌^◌, ℤ, pos, ◌+ℤ◌, w32}
+use Rattle.std.proofs.lemmas.Int.{ints}
+use Rattle.std.specs.Prelude.{FitsSigned}
+use Rattle.fx_tap_sums.proofs.Residues.{raised_same}
+use Rattle.fx_tap_sums.proofs.SmallSums.{held-in-64}
 use Rattle.fx_tap_sums.proofs.transforms.remainders.remainder.Goals as goal
 
-pub returns-then-sample-lt0-clause-same : goal.returns-then-sample-lt0-clause-same
-returns-then-sample-lt0-clause-same g c =
+pub returns-clause-same : goal.returns-clause-same
+returns-clause-same g c =
     let x : ℤ = c.args.sample in
-    let back : to_z w32 (of_z w32 x) ≡ x = search rules in
-    let size : c.unsigned_abs.result ≡ unsigned_abs x = c.unsigned_abs.ensures.value ∙ ap unsigned_abs back in
-    let bound = c.unsigned_abs.ensures.bound in
-    let grown : c.unsigned_abs.result ≤ 2 * g.row.P = omega (arith, bound, c.requires) in
-    let small : unsigned_abs x ≤ 2 * g.row.P = rw size at grown in
-    rw size (lifted g.row.P x small (rw back at c.if-sample-lt0.true))
-
-pub returns-else-sample-lt0-clause-same : goal.returns-else-sample-lt0-clause-same
-returns-else-sample-lt0-clause-same g c =
-    let x : ℤ = c.args.sample in
-    let back : to_z w32 (of_z w32 x) ≡ x = search rules in
-    rw (back, kept x (rw back at c.if-sample-lt0.false)) (same_is (pos g.row.P) x x refl)
+    let f : c.from.result ≡ x = c.from.ensures ∙ search rules in
+    let fits : FitsSigned w32 x = search rules in
+    let bound : unsigned_abs x ≤ 2 ^ 31 = search rules in
+    let sum : unsigned_abs (x +ℤ pos (2 ^ 31)) < 2 ^ 63 = omega (arith, ints, bound) in
+    rw (f, held-in-64 x (omega (arith, bound)), held-in-64 (x +ℤ pos (2 ^ 31)) sum) (raised_same g.row.P x (omega (arith, c.requires)) fits)

@@ -4,8 +4,8 @@ use Rattle.std.proofs.lemmas.List.{length-drop, length-take-le}
 use Rattle.fx_tap_sums.specs.Residues.{AreRemainders, AreSame}
 use Rattle.fx_tap_sums.specs.Transform.{combined, root_at}
 use Rattle.fx_tap_sums.proofs.Residues.{same_on}
-use Rattle.fx_tap_sums.proofs.Steps.{eight_at_least, halved, place_less, transform_one, transform_both, combined_same, same_front, same_back}
-use Rattle.fx_tap_sums.proofs.Writes.{remainders_drop, remainders_take}
+use Rattle.fx_tap_sums.proofs.Steps.{eight_at_least, halved, level_less, levels_bound, place_less, transform_one, transform_both, combined_same, same_front, same_back}
+use Rattle.fx_tap_sums.proofs.Writes.{remainders_drop, remainders_take, remainders_wider}
 use Rattle.fx_tap_sums.proofs.Cyclic.{length-combined}
 use Rattle.fx_tap_sums.proofs.transforms.transform.+forward.Goals as goal
 
@@ -20,7 +20,7 @@ returns-then-levels-eq0-clause-transform g t c = λ h long same.
     let first : 0 + i ≡ i = omega arith in
     let here = rw first at (c.put.ensures.put i below) in
     let there = rw first at (c.load.ensures.value i below) in
-    rw here (same_on (pos g.row.P) _ (pos (get_or v i 0)) _ (rw there at (c.reduced_four.ensures.same i below)) (same i (omega arith))))
+    rw here (same_on (pos g.row.P) _ (pos (get_or v i 0)) _ (rw there at (c.remainders_of_four.ensures.same i below)) (same i (omega arith))))
 
 pub bounds-roots-place : goal.bounds-roots-place
 bounds-roots-place g t c =
@@ -31,13 +31,28 @@ bounds-roots-place g t c =
 pub spread-requires : goal.spread-requires
 spread-requires g t c =
     let v = c.args.values.now in
+    let p = g.row.P in
     let m : ℕ = length v / 2 in
+    let bound : ℕ = (22 - 2 * c.args.levels) * p in
     let half = halved c.args.levels (length v) c.requires.power (omega arith) in
-    let low : AreRemainders (2 * g.row.P) c.split_at_mut-low.result.0.now = rw c.split_at_mut-low.ensures.front (remainders_take (2 * g.row.P) m v (omega arith) c.requires.values) in
-    let high : AreRemainders (2 * g.row.P) c.split_at_mut-low.result.1.now = rw c.split_at_mut-low.ensures.back (remainders_drop (2 * g.row.P) m v c.requires.values) in
+    let below : AreRemainders (20 * p) v = remainders_wider bound (20 * p) v (level_less c.args.levels p (omega arith)) c.requires.values in
+    let less : AreRemainders (2 ^ 32 - 2 * p) v = remainders_wider (20 * p) (2 ^ 32 - 2 * p) v (omega (arith, c.requires.modulus)) below in
+    let fits : AreRemainders (2 ^ 32) v = remainders_wider (20 * p) (2 ^ 32) v (omega (arith, c.requires.modulus)) below in
+    let first : AreRemainders (2 ^ 32 - 2 * p) c.split_at_mut-low.result.1.now = rw c.split_at_mut-low.ensures.back (remainders_drop (2 ^ 32 - 2 * p) m v less) in
+    let second : AreRemainders (2 ^ 32) c.split_at_mut-low.result.0.now = rw c.split_at_mut-low.ensures.front (remainders_take (2 ^ 32) m v (omega arith) fits) in
     let front = c.split_at_mut-low.ensures.front_len in
     let back = c.split_at_mut-low.ensures.back_len in
-    (omega arith, (c.requires.modulus, ((2 ^ (c.args.levels - 1), omega (arith, half.power, half.twice, front, back)), (omega (arith, half.twice, front, back), (high, low)))))
+    (omega arith, (c.requires.modulus, ((2 ^ (c.args.levels - 1), omega (arith, half.power, half.twice, front, back)), (omega (arith, half.twice, front, back), (first, second)))))
+
+pub are_bounded-requires : goal.are_bounded-requires
+are_bounded-requires g t c =
+    let v = c.args.values.now in
+    let p = g.row.P in
+    let m : ℕ = length v / 2 in
+    let bound : ℕ = (22 - 2 * c.args.levels) * p in
+    let limit = levels_bound c.args.levels (length v) c.args.place c.requires.power c.requires.place in
+    let high : AreRemainders bound c.split_at_mut-low.result.1.now = rw c.split_at_mut-low.ensures.back (remainders_drop bound m v c.requires.values) in
+    record { some = omega arith; bound = limit; low = c.spread.ensures.high bound high; high = c.spread.ensures.low bound high }
 
 pub returns-clause-transform : goal.returns-clause-transform
 returns-clause-transform g t c = λ h h_long same.

@@ -2,13 +2,28 @@ use Rattle.std.proofs.Common.{arith, ◌<◌, ◌≤◌, ◌≡◌, ◌+◌, ◌
 use Rattle.std.proofs.lemmas.Bool.{cases_lt}
 use Rattle.std.proofs.lemmas.List.{length-take-le, length-drop}
 use mathlib.Core.Logic.{inl, inr}
-use Rattle.fx_tap_sums.specs.Residues.{Same}
+use Rattle.fx_tap_sums.specs.Residues.{AreFour, Same, inverse_of_word}
 use Rattle.fx_tap_sums.specs.Transform.{combined, root_at}
 use Rattle.fx_tap_sums.proofs.Cyclic.{length-combined}
 use Rattle.fx_tap_sums.proofs.Numbers.{neg-mul}
 use Rattle.fx_tap_sums.proofs.Residues.{same_on, same_negated}
 use Rattle.fx_tap_sums.proofs.Steps.{Halved, halved, both_transforms, one_transform, combined_same, loaded_front, loaded_back, loaded_take, loaded_drop, product_at}
+use Rattle.fx_tap_sums.proofs.Writes.{four_loaded}
 use Rattle.fx_tap_sums.proofs.transforms.transform.multiply_eight.Goals as goal
+
+pub multiply_four-low-requires-clause-numbers : goal.multiply_four-low-requires-clause-numbers
+multiply_four-low-requires-clause-numbers g c =
+    let p = g.row.P in
+    let less : AreFour (20 * p + 2 * p) c.spread_four.result.0 = c.spread_four.ensures.low (20 * p) (four_loaded (20 * p) 0 c.args.values.now c.load.result c.requires.values c.load.ensures.four (omega (arith, c.requires.eight)) c.load.ensures.value) in
+    let bound : 20 * p + 2 * p ≡ 22 * p = omega arith in
+    rw bound at less
+
+pub multiply_four-high-requires-clause-numbers : goal.multiply_four-high-requires-clause-numbers
+multiply_four-high-requires-clause-numbers g c =
+    let p = g.row.P in
+    let less : AreFour (20 * p + 2 * p) c.spread_four.result.1 = c.spread_four.ensures.high (20 * p) (four_loaded (20 * p) 0 c.args.values.now c.load.result c.requires.values c.load.ensures.four (omega (arith, c.requires.eight)) c.load.ensures.value) in
+    let bound : 20 * p + 2 * p ≡ 22 * p = omega arith in
+    rw bound at less
 
 pub returns-clause-values : goal.returns-clause-values
 returns-clause-values g c = λ i lt. elim (cases_lt i 4) [
@@ -41,8 +56,9 @@ returns-clause-product g c = λ roots place s a h root square a_long h_long same
     let h1 = length-drop 4 h in
     let low = loaded_front p v c.load.result a c.load.ensures.four (omega (arith, v_long)) c.load.ensures.value same in
     let high = loaded_back p v c.load-2.result a c.load-2.ensures.four v_long c.load-2.ensures.value same in
-    let plus_four = c.spread_four.ensures.low.four in
-    let minus_four = c.spread_four.ensures.high.four in
+    let loaded = four_loaded (20 * p) 0 v c.load.result c.requires.values c.load.ensures.four (omega (arith, v_long)) c.load.ensures.value in
+    let plus_four = (c.spread_four.ensures.low (20 * p) loaded).four in
+    let minus_four = (c.spread_four.ensures.high (20 * p) loaded).four in
     let low_four = c.load.ensures.four in
     let high_four = c.load-2.ensures.four in
     let x = combined_same p r (take 4 a) (drop 4 a) c.load.result c.load-2.result c.spread_four.result.0 (omega arith) (omega arith) (omega arith) (omega arith) low high (λ i lt. c.spread_four.ensures.plus i (omega arith)) in
@@ -52,11 +68,16 @@ returns-clause-product g c = λ roots place s a h root square a_long h_long same
     let right_a = length-combined (neg_ℤ r) (take 4 a) (drop 4 a) (omega arith) in
     let right_h = length-combined (neg_ℤ r) (drop 4 h) (take 4 h) (omega arith) in
     let opposite : (k : ℕ) → k < 4 → Same (pos p) (pos (slice_index_or c.opposite_four.result k 0)) (neg_ℤ r *ℤ pos (slice_index_or c.load-back.result k 0)) = λ k l.
+    let product : ℤ = r *ℤ pos (slice_index_or c.load-back.result k 0) in
     let turned = neg-mul r (pos (slice_index_or c.load-back.result k 0)) in
-    rw turned (same_on (pos p) (pos (slice_index_or c.opposite_four.result k 0)) (neg_ℤ (pos (slice_index_or c.times_four-2.result k 0))) (neg_ℤ (r *ℤ pos (slice_index_or c.load-back.result k 0))) (c.opposite_four.ensures.same k l) (same_negated (pos p) (pos (slice_index_or c.times_four-2.result k 0)) (r *ℤ pos (slice_index_or c.load-back.result k 0)) (c.times_four-2.ensures.same k l))) in
-    let left = c.multiply_four-low.ensures.product r (combined r (take 4 a) (drop 4 a)) (combined r (drop 4 h) (take 4 h)) (omega arith) (omega arith) x front c.times_four.ensures.same in
+    let part : ℤ = pos (slice_index_or c.reduced_four-wrapped-2.result k 0) in
+    let same = same_on (pos p) part (pos (slice_index_or c.times_four-2.result k 0)) product (c.reduced_four-wrapped-2.ensures.same k l) (c.times_four-2.ensures.same k l) in
+    rw turned (same_on (pos p) (pos (slice_index_or c.opposite_four.result k 0)) (neg_ℤ part) (neg_ℤ product) (c.opposite_four.ensures.same k l) (same_negated (pos p) part product same)) in
+    let wrapped : (k : ℕ) → k < 4 → Same (pos p) (pos (slice_index_or c.reduced_four-wrapped.result k 0)) (r *ℤ pos (slice_index_or c.load-front.result k 0)) = λ k l.
+    same_on (pos p) (pos (slice_index_or c.reduced_four-wrapped.result k 0)) (pos (slice_index_or c.times_four.result k 0)) (r *ℤ pos (slice_index_or c.load-front.result k 0)) (c.reduced_four-wrapped.ensures.same k l) (c.times_four.ensures.same k l) in
+    let left = c.multiply_four-low.ensures.product r (combined r (take 4 a) (drop 4 a)) (combined r (drop 4 h) (take 4 h)) (omega arith) (omega arith) x front wrapped in
     let right = c.multiply_four-high.ensures.product (neg_ℤ r) (combined (neg_ℤ r) (take 4 a) (drop 4 a)) (combined (neg_ℤ r) (drop 4 h) (take 4 h)) (omega arith) (omega arith) y back opposite in
-    product_at p 4 1 s r (pos c.args.inverse) a h c.multiply_four-low.result c.multiply_four-high.result c.put-2.new.numbers refl a_long h_long square c.requires.inverse left right
+    product_at p 4 1 (inverse_of_word p) s r (pos c.args.inverse) a h c.multiply_four-low.result c.multiply_four-high.result c.put-2.new.numbers refl a_long h_long square c.requires.inverse left right
     (λ i lt.
     let first : 0 + i ≡ i = omega arith in
     let is : slice_index_or c.put-2.new.numbers i 0 ≡ slice_index_or c.gather_four.result.0 i 0 = c.put-2.ensures.before i lt ∙ rw first at (c.put.ensures.put i lt) in

@@ -1,7 +1,6 @@
-use Rattle.std.proofs.Common.{arith, ◌≡◌, ◌-◌, ◌*◌, ◌/◌, ◌^◌, ◌∙◌, ap, pos, slice_index_or}
-use Rattle.fx_tap_sums.specs.Residues.{Same}
+use Rattle.std.proofs.Common.{arith, ◌≡◌, ◌-◌, ◌*◌, ◌/◌, ◌^◌, ◌∙◌, ap, slice_index_or}
 use Rattle.fx_tap_sums.proofs.Factors.{product_low, product_high}
-use Rattle.fx_tap_sums.proofs.Residues.{same_less, same_on}
+use Rattle.fx_tap_sums.proofs.Residues.{same_less}
 use Rattle.fx_tap_sums.proofs.Vectors.{splat_at}
 use Rattle.fx_tap_sums.proofs.transforms.factor.Factor.times_four.Goals as goal
 
@@ -26,8 +25,8 @@ difference-requires-clause-fits g c = λ k l.
     let high = product_high p v n q (omega (arith, c.requires.modulus)) c.self.invariant.1 (c.requires.numbers.less k l) in
     rw is (omega (arith, high, c.requires.modulus))
 
-pub reduced_four-requires-clause-numbers : goal.reduced_four-requires-clause-numbers
-reduced_four-requires-clause-numbers g c = record {
+pub returns-clause-less : goal.returns-clause-less
+returns-clause-less g c = record {
   four = c.difference.ensures.four;
   less = λ k l.
       let p = g.row.P in
@@ -48,6 +47,5 @@ returns-clause-same g c = λ k l.
     let n = slice_index_or c.args.numbers k 0 in
     let is : slice_index_or c.narrow.result k 0 ≡ (q * n) / 2 ^ 32 = c.narrow.ensures.value k l ∙ c.upper_bits-quotients.ensures.value k l ∙ ap (λ z. z / 2 ^ 32) (c.multiply_wide.ensures.value k l ∙ ap (λ z. z * n) (splat_at q k l)) in
     let low = product_low p v n q c.self.invariant.1 in
-    let rest : Same (pos p) (pos (slice_index_or c.reduced_four.result k 0)) (pos (v * n - p * ((q * n) / 2 ^ 32))) = rw (c.difference.ensures.value k l, is) at (c.reduced_four.ensures.same k l) in
-    rw (← c.self.view_is)
-    (same_on (pos p) (pos (slice_index_or c.reduced_four.result k 0)) (pos (v * n - p * ((q * n) / 2 ^ 32))) (pos (v * n)) rest (same_less p (v * n - p * ((q * n) / 2 ^ 32)) (v * n) ((q * n) / 2 ^ 32) (omega (arith, low))))
+    rw (← c.self.view_is, c.difference.ensures.value k l, is)
+    (same_less p (v * n - p * ((q * n) / 2 ^ 32)) (v * n) ((q * n) / 2 ^ 32) (omega (arith, low)))
