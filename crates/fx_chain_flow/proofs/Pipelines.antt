@@ -1,6 +1,5 @@
 -- A frame that goes through stages in a row, one after another.
-use Rattle.std.proofs.Common.{ℕ, zero, suc, ◌+◌, ◌<◌, ◌≤◌, true, false, List, [], ◌∷◌, ◌≡◌, length, drop, get_or, refl, sym, ap, ◌∙◌, subst, arith, inl, inr, Bool, ◌||◌, ◌&&◌, Some, None, option_to_list}
-use Rattle.std.specs.Prelude.{if◌then◌else◌}
+use Rattle.std.proofs.Common.{ℕ, zero, suc, ◌+◌, ◌<◌, ◌≤◌, true, false, List, [], ◌∷◌, ◌≡◌, length, drop, get_or, refl, sym, ap, ◌∙◌, subst, arith, inl, inr, Bool, ◌||◌, ◌&&◌, Some, None}
 use Rattle.std.proofs.Math.ListN.{set}
 use Rattle.fx_frame_base.specs.declared.feed.Passing.{Passing}
 use Rattle.fx_frame_base.specs.declared.feed.Passing.TheVariants.{Kept, Through, More}
@@ -141,8 +140,3 @@ module _ {S R : Type 0} (acts : Acts S R) where
       let open_ = none_true _ _ joined.1 going in
       let both = neither (spent acts s) (any_spent acts stages) unspent in
       (dry.0, open_, both.0, sym match.0, joined.0, within.0, AreReady-from (kind acts s).outputs (acts.counts s).given ((kind acts s).maximum maximum) ((acts.counts s).ended && acts.dry s) stages (rw open_ refl) dry.1 both.1 match.1 within.1 joined.3)
-
--- what a flag lets out
-pub if-out : {X : Type 0} (b : Bool) (x : X) → option_to_list (if b then Some x else None) ≡ (if b then x ∷ [] else [])
-if-out true x = refl
-if-out false x = refl

@@ -1,6 +1,6 @@
 -- What stays true while frames are sent.
 use Rattle.std.proofs.Common.{◌≡◌, ℕ, ◌+◌, ◌-◌, ◌≤◌, List, [], ◌∷◌, ◌++◌, length, take, drop, refl, sym, ap, ◌∙◌, arith, mul-le-mul}
-use Rattle.std.proofs.lemmas.List.{append_assoc, length-append, length-drop, take_all, take-append-drop, take-append-le, flat_map_more}
+use Rattle.std.proofs.lemmas.List.{append_assoc, length-append, take-append-drop, take-append-le, flat_map_more}
 use Rattle.std.proofs.lemmas.List.Sums.{count_by-le-length, sum_by-append}
 use Rattle.std.specs.Prelude.{Option}
 use Rattle.fx_frame_base.specs.declared.coding.Coding.{Coding}
@@ -9,7 +9,7 @@ use Rattle.fx_sound.specs.FrameCoding.{bytes_of, clips_of, frame_size}
 use Rattle.fx_frame_base.specs.Coding.{clips_written, width_of}
 use Rattle.fx_frame_base.specs.declared.coding.Coding.TheVariants.{U8, S8, S16Le, S16Be, S24Le, S24Be, S32Le, S32Be}
 use Rattle.fx_sound.specs.Output.{Pending, Sent}
-use Rattle.fx_chain_run.specs.FrameWriter.{WroteFront, WroteAll, coded, coded_clips}
+use Rattle.fx_chain_run.specs.FrameWriter.{WroteFront, coded, coded_clips}
 
 -- what was sent is a front, whatever comes behind
 pub WroteFront-sent : (first now : Option (List ℕ)) (out : Pending) (all more : List ℕ) → Sent first now out all → WroteFront first now out.written (all ++ more)
@@ -23,20 +23,6 @@ pub WroteFront-part : (first now : Option (List ℕ)) (out : Pending) (all bytes
 WroteFront-part first now out all bytes n s =
     let joined : (all ++ take n bytes) ++ drop n bytes ≡ all ++ bytes = append_assoc all (take n bytes) (drop n bytes) ∙ ap (λ l. all ++ l) (take-append-drop n bytes) in
     rw joined at (WroteFront-sent first now out (all ++ take n bytes) (drop n bytes) s)
-
--- what was sent is a front of itself
-pub WroteFront-whole : (first now : Option (List ℕ)) (out : Pending) (all : List ℕ) → Sent first now out all → WroteFront first now out.written all
-WroteFront-whole first now out all s = record { part = s.within; took = s.taken }
-
--- all was sent
-pub WroteAll-sent : (first now : Option (List ℕ)) (out : Pending) (all : List ℕ) → Sent first now out all → out.bytes ≡ [] → WroteAll first now out.written all
-WroteAll-sent first now out all s b =
-    let e : length all - out.written ≡ 0 = sym (length-drop out.written all) ∙ ap length (sym s.waiting ∙ b) in
-    let whole : out.written ≡ length all = omega (arith, s.within, e) in
-    record {
-      whole = whole;
-      took = rw (take_all out.written all (omega (arith, whole))) at s.taken;
-    }
 
 -- the bytes of one frame more
 pub coded-more : (coding : Coding) (head : List ℕ) (frames : List Samples) (frame : Samples) → (head ++ coded coding frames) ++ bytes_of coding frame ≡ head ++ coded coding (frames ++ frame ∷ [])

@@ -1,6 +1,6 @@
 -- What a plan says of an effect is what its stage asks for.
 use Rattle.std.proofs.Common.{◌≡◌, ℕ, ◌≤◌, ◌<◌, List, [], ◌∷◌, ◌++◌, true, length, refl, arith, ap, sym, ◌∙◌}
-use Rattle.std.specs.Prelude.{Bool, unsigned_abs, nat_le, nat_lt, ◌&&◌}
+use Rattle.std.specs.Prelude.{Bool, nat_le, nat_lt}
 use Rattle.std.specs.List.{All, list_all}
 use Rattle.std.proofs.lemmas.Bool.{and_parts}
 use Rattle.std.proofs.lemmas.List.Elements.{All-cons, All-nil}
@@ -17,7 +17,6 @@ use Rattle.fx_cut.specs.Trim.{TrimArguments}
 use Rattle.fx_cut.specs.TrimState.{trim_acts}
 use Rattle.fx_cut.specs.FadeExtents.{effective}
 use Rattle.fx_fixed.specs.declared.positions.At.{At}
-use Rattle.fx_fixed.specs.declared.gains.TheConstants.{UNIT}
 use Rattle.fx_fixed.specs.declared.positions.At.TheVariants.{Start, End}
 use Rattle.fx_tap_pointwise.specs.declared.out_spec.Weight.{Weight}
 use Rattle.fx_chain_flow.specs.Parts.{AllNew}
@@ -27,7 +26,7 @@ use Rattle.fx_tap_delays.specs.Delay.{every_delay}
 use Rattle.fx_tap_delays.specs.DelayState.{delay_acts}
 use Rattle.fx_tap_delays.specs.Echo.{EchoArguments}
 use Rattle.fx_tap_delays.specs.EchoState.{echo_acts}
-use Rattle.fx_tap_delays.specs.EchoWords.{EchoValue, Tap, are_echoes, is_tap}
+use Rattle.fx_tap_delays.specs.EchoWords.{EchoValue}
 use Rattle.fx_cut.specs.PadWords.{Length, are_pads, are_rising}
 use Rattle.fx_tap_pointwise.specs.RemixWords.{is_mix, specs_in}
 use Rattle.fx_plan_effects.specs.Effects.{Act, channels_after}
@@ -44,11 +43,6 @@ use Rattle.std.proofs.lemmas.List.Sums.{sum_by-cons}
 -- what tests of numbers say
 pub no-more : (m n : ℕ) → nat_le m n ≡ true → m ≤ n
 no-more m n h = grind (arith, nat_tests)
-
-pub both-no-more : (k l m n : ℕ) → (nat_le k l && nat_le m n) ≡ true → (k ≤ l) × (m ≤ n)
-both-no-more k l m n h =
-    let parts = and_parts (nat_le k l) (nat_le m n) h in
-    (no-more k l parts.0, no-more m n parts.1)
 
 rises : (minimum : ℕ) (pads : List Length) → are_rising minimum (ats pads) ≡ true → RisesFrom minimum (ats pads)
 rises minimum [] h = tt
@@ -68,30 +62,6 @@ all-hold p P each [] h = All-nil P
 all-hold p P each (x ∷ xs) h =
     let parts = and_parts (p x) (list_all p xs) h in
     All-cons P x xs (each x parts.0) (all-hold p P each xs parts.1)
-
-tap-is : (t : Tap) → is_tap t ≡ true → (1 ≤ t.0) × (unsigned_abs t.1 ≤ UNIT)
-tap-is t h = both-no-more 1 t.0 (unsigned_abs t.1) UNIT h
-
--- what an echo asks of its arguments
-pub record AreEchoes (e : EchoValue) : Type 0 where
-  pub gain_in : unsigned_abs e.gain_in ≤ UNIT
-  pub some : 1 ≤ length e.taps
-  pub bound : length e.taps ≤ 7
-  pub delays : All (λ (t : Tap). 1 ≤ t.0) e.taps
-  pub decays : All (λ (t : Tap). unsigned_abs t.1 ≤ UNIT) e.taps
-
-pub taps-are : (e : EchoValue) → are_echoes e ≡ true → AreEchoes e
-taps-are e h =
-    let first = and_parts (nat_le (unsigned_abs e.gain_in) UNIT) _ h in
-    let second = and_parts (nat_le 1 (length e.taps)) _ first.1 in
-    let third = and_parts (nat_le (length e.taps) 7) _ second.1 in
-    record {
-      gain_in = grind (arith, nat_tests, first.0);
-      some = grind (arith, nat_tests, second.0);
-      bound = grind (arith, nat_tests, third.0);
-      delays = all-hold is_tap (λ (t : Tap). 1 ≤ t.0) (λ t k. (tap-is t k).0) e.taps third.1;
-      decays = all-hold is_tap (λ (t : Tap). unsigned_abs t.1 ≤ UNIT) (λ t k. (tap-is t k).1) e.taps third.1;
-    }
 
 -- what `remix` asks of its out-specs
 mix-is : (channels : ℕ) (spec : List (ℕ × Weight)) → is_mix channels spec ≡ true → (length spec ≤ 64) × All (λ c. c.0 < channels) spec

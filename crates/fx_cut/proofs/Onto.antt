@@ -4,12 +4,12 @@ use Rattle.std.specs.Prelude.{None, Some, slice_get}
 use Rattle.std.specs.Int.{w32}
 use Rattle.std.specs.List.{All}
 use Rattle.std.proofs.lemmas.List.{drop-append-le, drop_all, nil_from_length, take-append-le, take_all}
-use Rattle.std.proofs.lemmas.List.Elements.{All-append, All-cons, All-drop, All-head, All-nil}
+use Rattle.std.proofs.lemmas.List.Elements.{All-append, All-drop}
 use Rattle.std.proofs.Math.Nat.{add-mul, div-mul-le_self, mul-le-mul_right}
 use Rattle.fx_frame_base.specs.Frame.{Samples}
 use Rattle.fx_frame_line.specs.Line.{Frames, IsLine, IsSamples, pushed_all}
 use Rattle.fx_frame_line.proofs.RingLaws.{keep-twice}
-use Rattle.fx_cut.proofs.Fallen.{fallen, full_out, oldest-first, free_out, stays}
+use Rattle.fx_cut.proofs.Fallen.{fallen, full_out, oldest-first, free_out}
 use Rattle.fx_cut.proofs.Pieces.{frames-free}
 
 -- how many of so many frames, or of those before them, fall out
@@ -114,13 +114,6 @@ none-stay l xs n is short many =
     let within = is.within in
     let none : l.items ≡ [] = nil_from_length l.items (omega arith) in
     rw (short, none) (sym (drop_all (length xs - 0) xs (omega arith)), sym (take_all n xs (omega arith)))
-
--- the frame that falls out has the samples of the line
-pub out-samples : (l : Frames ℤ) (x o : Samples) → All (IsSamples w32 l.channels) l.items → IsSamples w32 l.channels x → l.items ++ x ∷ [] ≡ o ∷ stays l.capacity l.items x → IsSamples w32 l.channels o
-out-samples l x o all sample e =
-    let one = All-cons (IsSamples w32 l.channels) x [] sample (All-nil (IsSamples w32 l.channels)) in
-    let both = All-append (IsSamples w32 l.channels) l.items (x ∷ []) all one in
-    All-head (IsSamples w32 l.channels) o (stays l.capacity l.items x) (rw e at both)
 
 -- so many frames of an input are there, and those of them that are given have room
 pub record IsPiece (b : Bool) (l : Frames ℤ) (n k w ins outs : ℕ) : Type 0 where

@@ -6,7 +6,7 @@ use Rattle.std.specs.List.{copy_within}
 use Rattle.std.specs.Prelude.{Option, None, Some}
 use borrow.Rule.Slice.PartMut.{put_mid}
 use Rattle.fx_sound.specs.Known.{IfKnown}
-use Rattle.fx_sound.specs.Source.{Held, to_come, Tells, Takes, Stays, HoldsAll, HoldsFront, HoldsWhatCame}
+use Rattle.fx_sound.specs.Source.{Held, to_come, Tells, Takes, Stays, HoldsFront, HoldsWhatCame}
 
 -- how long the held part is
 pub length-held : (buffer : List ℕ) (start end : ℕ) → start ≤ end → end ≤ length buffer → length (take (end - start) (drop start buffer)) ≡ end - start
@@ -109,10 +109,3 @@ Takes-both delivered old mid new n m k place p q = record {
 pub HoldsWhatCame-rest : {R : Type 0} (delivered : R → ℕ) (first old new : Held R) (bytes : List ℕ) (n : ℕ)
     → Takes delivered first old n → HoldsWhatCame delivered old new (drop n bytes) 0 → HoldsWhatCame delivered first new bytes n
 HoldsWhatCame-rest delivered first old new bytes n p came = record { takes = Takes-both delivered first old new n 0 n (omega arith) p came.takes; front = came.front }
-
--- where all that is to come is held, and all of it was taken
-pub skip-end : {R : Type 0} (rest : R → Option (List ℕ)) (old mid : Held R) (bytes : List ℕ) (got : ℕ)
-    → (got ≤ length bytes) × (to_come rest old ≡ Some (drop got bytes)) → HoldsAll rest old mid → length mid.bytes ≡ 0 → got ≡ length bytes
-skip-end rest old mid bytes got p all none =
-    let left : length (drop got bytes) ≡ 0 = ap length (all (drop got bytes) p.1) ∙ none in
-    omega (arith, p.0, left, length-drop got bytes)

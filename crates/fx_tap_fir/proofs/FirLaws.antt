@@ -4,7 +4,6 @@ use Rattle.std.proofs.lemmas.Bool.{true_from_ne_false}
 use Rattle.std.specs.Prelude.{slice_get, slice_index_or, Option, Some, None, nat_eq, option_to_list}
 use Rattle.std.proofs.Math.Seq.{set-append_seam}
 use Rattle.std.proofs.lemmas.List.{length-append, length-drop, length-map, length-reverse, reverse-reverse, map-append, drop-append-le}
-use Rattle.std.proofs.lemmas.Bool.Decides.{nat_tests}
 use Rattle.fx_frame_base.specs.Frame.{Samples}
 use Rattle.fx_frame_line.specs.Line.{Frames, pushed, channel_of}
 use Rattle.fx_frame.specs.Frozen.{IsStored}
@@ -72,18 +71,6 @@ filtered-dropped r x j n h =
 centre-le : (n : ℕ) → centre n ≤ n - 1
 centre-le n = omega arith
 
--- one more frame comes, and none is due
-pub rest_unchanged-early : (r : FirArguments) (items z : List Samples) (f : Samples) (capacity : ℕ) → capacity + 1 ≡ length r.coefficients → length items < centre (length r.coefficients)
-    → fir_after r items (f ∷ z) ≡ fir_after r (drop (length (items ++ f ∷ []) - capacity) (items ++ f ∷ [])) z
-rest_unchanged-early r items z f capacity full early =
-    let c = centre-le (length r.coefficients) in
-    let long : length (items ++ f ∷ []) ≡ length items + 1 = length-append items (f ∷ []) in
-    let none : length (items ++ f ∷ []) - capacity ≡ 0 = omega arith in
-    let split : items ++ f ∷ z ≡ (items ++ f ∷ []) ++ z = sym (append_assoc items (f ∷ []) z) in
-    let from : length items - centre (length r.coefficients) ≡ length (items ++ f ∷ []) - centre (length r.coefficients) = omega arith in
-    let count : min (length items) (centre (length r.coefficients)) + suc (length z) ≡ min (length (items ++ f ∷ [])) (centre (length r.coefficients)) + length z = omega arith in
-    rw (none, ← split, ← from, ← count) refl
-
 -- one more frame comes, and one is due
 pub rest_unchanged-due : (r : FirArguments) (items z : List Samples) (f : Samples) (capacity : ℕ) → capacity + 1 ≡ length r.coefficients → length items ≤ capacity → centre (length r.coefficients) ≤ length items
     → fir_after r items (f ∷ z) ≡ filtered_frame r (items ++ f ∷ []) (length items) ∷ fir_after r (drop (length (items ++ f ∷ []) - capacity) (items ++ f ∷ [])) z
@@ -116,13 +103,6 @@ tail-step r items (suc t) some within =
     let count : t ≡ suc t - 1 = omega arith in
     ap (λ ys. filtered_at r items (length items - suc t) ∷ ys) (ap (λ n. tabulate (filtered_at r items) n t) at ∙ ap (tabulate (filtered_at r items) (length items - (suc t - 1))) count)
 
--- at the end the last frames are left
-pub rest_unchanged-none : (r : FirArguments) (items : List Samples) → fir_after r items [] ≡ fir_tail r items (min (length items) (centre (length r.coefficients)))
-rest_unchanged-none r items =
-    let from : length items - centre (length r.coefficients) ≡ length items - min (length items) (centre (length r.coefficients)) = omega arith in
-    let count : min (length items) (centre (length r.coefficients)) + 0 ≡ min (length items) (centre (length r.coefficients)) = omega arith in
-    rw (append-nil, from, count) refl
-
 -- with an empty line it is the whole filtered list
 pub rest_unchanged-all : (r : FirArguments) (z : List Samples) → fir_after r [] z ≡ filtered r z
 rest_unchanged-all r z =
@@ -133,22 +113,6 @@ rest_unchanged-all r z =
 -- the coefficients are as many as they are backwards
 count-back : (s : FirState) → IsFir s → s.line.capacity + 1 ≡ length (reverse s.backwards)
 count-back s is = is.capacity ∙ sym (length-reverse s.backwards)
-
--- the state after a frame came and none was due
-abbrev pub kept_fir : FirState → Frames ℤ → FirState
-kept_fir s line = record s { line = line; taken = s.taken + 1 }
-
-pub Took-early : (s : FirState) (line : Frames ℤ) (frame : Samples) → IsFir s → fir_acts.dry s ≡ true → s.ended ≡ false → length s.line.items < centre (length s.backwards)
-    → line.items ≡ pushed s.line frame → Took fir_acts s (kept_fir s line) frame
-Took-early s line frame is dry running early items =
-    let none = dry-pending s.pending s.tail dry in
-    let same = length-reverse s.backwards in
-    let less : length s.line.items < centre (length (reverse s.backwards)) = rw same early in
-    record {
-      rest = λ z. rw (none, running, items) (sym (rest_unchanged-early (arguments_of s) s.line.items z frame s.line.capacity (count-back s is) less));
-      counted = refl;
-      recipe_stays = refl;
-    }
 
 -- the state after a frame came and one was due
 abbrev pub taken_fir : FirState → Frames ℤ → Samples → ℕ → FirState
@@ -224,13 +188,6 @@ thawed-is s channels h backwards line pending numbers made counted line_is pendi
     let wide : channels ≡ s.channels = sym (ap (λ (r : FirArguments). r.channels) made) in
     let back : backwards ≡ s.backwards = back_is ∙ sym (backwards_of s channels h made) in
     rw (wide, back, line_is, pending_is, counted, flag-of s.ended) refl
-
--- how many frames are late, by whether the end came
-pub late-is : (ended taken rest_unchanged late : ℕ) → late ≡ cond (nat_eq ended 0) (min taken rest_unchanged) 0 → (ended ≡ 0 → late ≡ min taken rest_unchanged) × (1 ≤ ended → late ≡ 0)
-late-is zero taken rest_unchanged late e = (λ z. e, λ some. absurd (omega arith))
-late-is (suc n) taken rest_unchanged late e =
-    let other : nat_eq (suc n) 0 ≡ false = grind (arith, nat_tests) in
-    (λ z. absurd (omega arith), λ some. rw other at e)
 
 -- the frames made, by whether the end came
 by_end : (b : Bool) (made taken late : ℕ) → made ≡ cond b taken (taken - late) → (◌≡◌ {A = ℕ} (cond b 1 0) 0 → made ≡ taken - late) × (1 ≤ cond b 1 0 → made ≡ taken)

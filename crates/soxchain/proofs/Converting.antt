@@ -1,7 +1,7 @@
 -- A conversion, put together from its head and its run.
 use Rattle.std.proofs.Common.{map, ◌⊎◌, inl, inr, ◌≡◌, ℕ, ◌+◌, ◌-◌, ◌*◌, ◌/◌, ◌^◌, ◌<◌, ◌≤◌, List, [], drop, length, sym, ap, arith, ◌∙◌}
 use Rattle.std.proofs.lemmas.List.{drop-drop}
-use Rattle.std.specs.Prelude.{false, MatchBool, Option, Some, Result, Ok, Err}
+use Rattle.std.specs.Prelude.{false, Option, Some, Result, Ok, Err}
 use Rattle.fx_plan.specs.declared.line.LineFault.{LineFault}
 use Rattle.fx_plan.specs.Line.{Said}
 use Rattle.fx_plan.specs.CommandLines.{LineReads}
@@ -12,9 +12,7 @@ use Rattle.fx_chain_run.specs.declared.report.RunFault.{RunFault}
 use Rattle.fx_chain_run.specs.declared.report.RunFault.TheVariants as Faults
 use Rattle.fx_frame_base.specs.Io.{ByteReader, ByteWriter, saturated}
 use Rattle.fx_sound.specs.declared.head.Head.{Head}
-use Rattle.fx_sound.specs.declared.head.HeadFault.{HeadFault}
-use Rattle.fx_sound.specs.declared.head.HeadFault.TheVariants.{ReadFailed, UnknownType, Truncated, BadHeader, NotInProfile, TooManyChannels, HeadTooLong}
-use Rattle.fx_sound.specs.HeadFields.{is_read_failure}
+use Rattle.fx_sound.specs.declared.head.HeadFault.TheVariants.{ReadFailed}
 use Rattle.fx_chain_run.specs.declared.pump.Cause.{Cause}
 use Rattle.fx_chain_run.specs.declared.pump.Cause.TheVariants as Causes
 use Rattle.fx_chain.specs.Chain.{ChainParts, IsNewChain}
@@ -33,7 +31,6 @@ use Rattle.soxchain.specs.declared.preparing.Refusal.TheVariants as Refusals
 use Rattle.soxchain.specs.Convert.{SourceStands}
 use Rattle.soxchain.specs.Finishing.{Finished, ReadyParts, run_messages}
 use Rattle.soxchain.specs.Messages.{refusal_message}
-use Rattle.soxchain.specs.Preparing.{RefusalHasCause}
 use Rattle.soxchain.specs.Readying.{Unready}
 
 -- a new source holds nothing
@@ -43,16 +40,6 @@ held-is s reader b r h = ap₂ (λ bs x. record { bytes = bs; reader = x; short 
 -- what is to come from it is what the reader has still to tell
 pub to_come-start : {R : Type 0} (rest : R → Option (List ℕ)) (s : Held R) (reader : R) (bytes : List ℕ) → s.bytes ≡ [] → s.reader ≡ reader → rest reader ≡ Some bytes → to_come rest s ≡ Some bytes
 to_come-start rest s reader bytes b r k = ap (λ bs. prepend_known bs (rest s.reader)) b ∙ ap (λ x. prepend_known [] (rest x)) r ∙ ap (prepend_known []) k
-
--- a refused head has its cause
-pub head-causes : (X : Type 0) (f : HeadFault) (reads new : ℕ) → MatchBool (is_read_failure ((λ (r : Result X HeadFault). r) (Err f))) (new ≡ saturated (reads + 1)) (new ≡ reads) → RefusalHasCause (Refusals.Head f) reads new
-head-causes X ReadFailed reads new h = h
-head-causes X UnknownType reads new h = h
-head-causes X Truncated reads new h = h
-head-causes X BadHeader reads new h = h
-head-causes X NotInProfile reads new h = h
-head-causes X TooManyChannels reads new h = h
-head-causes X HeadTooLong reads new h = h
 
 -- what was held behind so many bytes more, by the reader's count from the first byte of the input on
 HoldsWhatCame-rest_unchanged : {R : Type 0} (delivered : R → ℕ) (first at new : Held R) (bytes : List ℕ) (offset n : ℕ) → Takes delivered first at offset → HoldsWhatCame delivered at new (drop offset bytes) n → HoldsWhatCame delivered first new bytes (offset + n)

@@ -1,6 +1,6 @@
 -- What stays true while texts go to a writer of messages.
 use Rattle.std.proofs.Common.{◌≡◌, ℕ, zero, suc, refl, ◌<◌, ◌+◌, ◌-◌, ◌≤◌, Bool, true, false, not, List, [], ◌++◌, length, take, drop, sym, ap, ◌∙◌, arith, Option}
-use Rattle.std.proofs.lemmas.List.{append_assoc, append-nil, length-drop, length-append, take-append-le, take_all}
+use Rattle.std.proofs.lemmas.List.{append_assoc, length-drop, length-append, take-append-le, take_all}
 use Rattle.std.proofs.Math.Seq.{take-add, take-append-add}
 use Rattle.std.proofs.KnownBytes.{Appends-nil, Appends-trans}
 use Rattle.std.specs.Io.KnownBytes.{Appends}
@@ -72,13 +72,6 @@ Says-then writes a b c s t first second = record {
 -- three texts, one behind the other
 pub Says-three : {M : Type 0} (writes : ByteWriter M) (a b c d : MessageWriter M) (s t u : List ℕ) → Says writes a b s → Says writes b c t → Says writes c d u → Says writes a d (s ++ t ++ u)
 Says-three writes a b c d s t u first second third = Says-then writes a c d (s ++ t) u (Says-then writes a b c s t first second) third
-
--- no text
-pub Says-nothing : {M : Type 0} (writes : ByteWriter M) (a : MessageWriter M) → Says writes a a []
-Says-nothing writes a = record {
-  same = refl;
-  more = λ start count all delivered. rw (append-nil) delivered;
-}
 
 -- a text before which nothing was told
 pub Tells-said : {M : Type 0} (writes : ByteWriter M) (messages : MutBor M) (from to : MessageWriter M) (last : M) (text : List ℕ) → BeginsMessage messages from → last ≡ to.messages.now → Says writes from to text → WritesMessage writes messages.now last text

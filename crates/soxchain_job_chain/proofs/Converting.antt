@@ -4,7 +4,7 @@ use Rattle.std.specs.Prelude.{ℤ, ◌⊎◌, if◌then◌else◌, Option, take}
 use Rattle.std.proofs.Math.Seq.{drop-nil, take-nil}
 use Rattle.std.proofs.lemmas.List.{append_assoc, append-nil, length-append, length-drop}
 use Rattle.std.proofs.lemmas.Nat.{div_below}
-use Rattle.fx_chain.specs.Chain.{ChainParts, IsNewChain, chain_gives}
+use Rattle.fx_chain.specs.Chain.{ChainParts}
 use Rattle.fx_chain_flow.specs.Feed.{FlowGave}
 use Rattle.fx_chain_flow.specs.Parts.{any_spent}
 use Rattle.fx_chain_flow.specs.Steps.{rest_of}
@@ -23,7 +23,7 @@ use Rattle.fx_sound.specs.Sound.{within_sound}
 use Rattle.fx_sound.proofs.ManyBytes.{encoded-clips, encoded-frames}
 use Rattle.soxchain_job.specs.Conversion.{ConvertsPiece}
 use Rattle.soxchain_job_chain.specs.CodedChain.{CodedParts, Finishes, NeedsNoMore, Passes, PassesFront, sound_to_come}
-use Rattle.soxchain_job_chain.specs.JobOutput.{ConversionParts, PassesSound, head_to_come, input_frame, job_output, output_to_come, padded_after, sized_head, sound_left}
+use Rattle.soxchain_job_chain.specs.JobOutput.{ConversionParts, PassesSound, head_to_come, input_frame, output_to_come, padded_after, sized_head, sound_left}
 use Rattle.soxchain_job_chain.proofs.SoundParts.{frames-both}
 
 -- a flow was fed once, and what it gave was encoded
@@ -102,10 +102,6 @@ sound-both a b pending sound kept rest before after running some p kept_is =
     ap (λ l. coded coding (rest_of effect_acts a.chain.flow l)) cut ∙ ap (coded coding) (p.rest back (λ over. absurd (cc (over, running))))
     ∙ coded-append coding p.given (rest_of effect_acts b.chain.flow back) ∙ ap (λ l. coded coding p.given ++ l) (sym plan)
 
--- where no more is needed, the sound does not matter
-pub sound-enough : (a : CodedParts) (some other : List ℕ) → NeedsNoMore a.chain.flow → sound_to_come a some ≡ sound_to_come a other
-sound-enough a some other enough = ap (coded a.chain.plan.coding) (enough _ ∙ sym (enough _))
-
 -- less than a frame is no frame
 pub frames-none : (coding : Coding) (channels : ℕ) (bytes : List ℕ) → length bytes < frame_size coding channels → frames_of_sound coding channels bytes ≡ []
 frames-none coding channels bytes short =
@@ -154,22 +150,6 @@ step-passes old head mid new piece sound before headed after head_is mid_is law 
     ap (λ (v : ConversionParts). within_sound v.left (drop v.skip (piece ++ input))) (sym head_is) ∙ law input ∙ ap (λ n. sound ++ within_sound mid.left (drop n input)) skip ∙ ap (λ o. sound ++ within_sound o (drop new.skip input)) left in
     step-converts old new piece sound before headed after next headed_is written running some p.passes p.pending
 
--- A piece came where no more is needed: only the head was written.
-pub step-enough : (old new : ConversionParts) (piece before after : List ℕ) → new.coded ≡ old.coded → NeedsNoMore old.coded.chain.flow → after ≡ before ++ head_to_come old → new.has_head ≡ true
-    → ConvertsPiece output_to_come old new piece before after
-step-enough old new piece before after same enough head written = record {
-  written = head_to_come old;
-  appended = head;
-  rest = λ input.
-      let none : head_to_come new ≡ [] = ap (λ b. if b then [] else sized_head new.coded.chain.plan new.coded.announced) written in
-      let back : List ℕ = sound_to_come old.coded (sound_left new input) in
-      let sound_is : sound_to_come old.coded (sound_left old (piece ++ input)) ≡ back = sound-enough old.coded _ _ enough in
-      let tail : padded_after old.coded.chain.plan old.coded.sound_bytes back ≡ output_to_come new input =
-      ap (λ (c : CodedParts). padded_after c.chain.plan c.sound_bytes (sound_to_come c (sound_left new input))) (sym same)
-      ∙ ap (λ l. l ++ padded_after new.coded.chain.plan new.coded.sound_bytes (sound_to_come new.coded (sound_left new input))) (sym none) in
-      ap (λ l. head_to_come old ++ padded_after old.coded.chain.plan old.coded.sound_bytes l) sound_is ∙ ap (λ l. head_to_come old ++ l) tail;
-}
-
 no-more : (left : Option ℕ) (skip : ℕ) → within_sound left (drop skip []) ≡ []
 no-more None skip = drop-nil skip
 no-more (Some n) skip = ap (take n) (drop-nil skip) ∙ take-nil n
@@ -186,19 +166,3 @@ finish-writes old ended before headed sounded after short head f last =
     last ∙ ap (λ n. sounded ++ pad plan.kind true n) f.sound_bytes ∙ ap (λ l. l ++ pad plan.kind true (old.coded.sound_bytes + length sound)) f.appended
     ∙ append_assoc headed sound _ ∙ ap (λ l. l ++ padded_after plan old.coded.sound_bytes sound) head ∙ append_assoc before (head_to_come old) _
     ∙ ap (λ l. before ++ (head_to_come old ++ padded_after plan old.coded.sound_bytes l)) (sym sound_is)
-
--- A new conversion: all is to come.
-pub start-is : (p : Planning) (c : ConversionParts) (head_size frames : ℕ) → IsNewChain p c.coded.chain → c.coded.announced ≡ frames → c.coded.sound_bytes ≡ 0 → c.has_head ≡ false → c.skip ≡ head_size
-    → c.left ≡ p.head.announced → c.pending ≡ [] → (input : List ℕ) → output_to_come c input ≡ job_output p head_size frames input
-start-is p c head_size frames new announced none unwritten skip left pending input =
-    let plan = new.plan in
-    let bytes : List ℕ = within_sound p.head.announced (drop head_size input) in
-    let left_is : sound_left c input ≡ bytes = ap (λ l. l ++ within_sound c.left (drop c.skip input)) pending ∙ ap (λ o. within_sound o (drop c.skip input)) left ∙ ap (λ n. within_sound p.head.announced (drop n input)) skip in
-    let sound_is : sound_to_come c.coded (sound_left c input) ≡ coded p.coding (chain_gives p (frames_of_sound p.head.coding p.head.channels bytes)) =
-    ap (sound_to_come c.coded) left_is ∙ ap (λ (l : Planning). coded l.coding (rest_of effect_acts c.coded.chain.flow (frames_of_sound l.head.coding l.head.channels bytes))) plan
-    ∙ ap (coded p.coding) (new.gives _) in
-    let head : head_to_come c ≡ sized_head p frames =
-    ap (λ b. if b then [] else sized_head c.coded.chain.plan c.coded.announced) unwritten ∙ ap (λ (l : Planning). sized_head l c.coded.announced) plan ∙ ap (sized_head p) announced in
-    ap (λ l. l ++ padded_after c.coded.chain.plan c.coded.sound_bytes (sound_to_come c.coded (sound_left c input))) head
-    ∙ ap (λ (l : Planning). sized_head p frames ++ padded_after l c.coded.sound_bytes (sound_to_come c.coded (sound_left c input))) plan
-    ∙ ap (λ n. sized_head p frames ++ padded_after p n (sound_to_come c.coded (sound_left c input))) none ∙ ap (λ l. sized_head p frames ++ padded_after p 0 l) sound_is

@@ -20,24 +20,8 @@ use Rattle.fx_sound.specs.FrameCoding.{frame_size}
 use Rattle.fx_sound.proofs.Sounds.{first_frames-add, first_frames-taken}
 use Rattle.soxchain_job_chain.specs.CodedChain.{CodedParts, Finishes, NeedsNoMore, Passes, PassesFront, KeepsPlan}
 
-pub KeepsPlan-none : (c : CodedParts) → KeepsPlan c c
-KeepsPlan-none c = record { plan = refl; announced = refl }
-
 pub KeepsPlan-then : (a b c : CodedParts) → KeepsPlan a b → KeepsPlan b c → KeepsPlan a c
 KeepsPlan-then a b c p q = record { plan = q.plan ∙ p.plan; announced = q.announced ∙ p.announced }
-
--- nothing went in
-pub Passes-none : (c : CodedParts) (out : List ℕ) → Passes c c [] out out
-Passes-none c out = record {
-  given = [];
-  rest = λ z e. refl;
-  appended = sym (append-nil out);
-  frames_out = omega arith;
-  sound_bytes = omega arith;
-  out_clips = omega arith;
-  ended = refl;
-  stays = KeepsPlan-none c;
-}
 
 both-empty : {X : Type 0} (xs ys : List X) → xs ≡ [] → ys ≡ [] → xs ++ ys ≡ []
 both-empty xs ys p q = rw (p, q) refl
@@ -91,11 +75,6 @@ module _ (a b c : CodedParts) (before mid after : List ℕ) where
         | inl more ↦ (let k : 1 * size ≤ n * size = mul-le-mul_right size more in absurd (omega arith))
         | inr none ↦ omega arith
       ]
-
-pub PassesFront-none : (c : CodedParts) (input : List ℤ) (out : List ℕ) → PassesFront c c input input out out
-PassesFront-none c input out =
-    let none : 0 * c.chain.plan.head.channels ≡ 0 = omega arith in
-    record { taken = 0; within = omega (arith, none); left_is = rw none refl; passes = Passes-none c out }
 
 -- fewer frames are no more samples
 fewer : (n m size : ℕ) → 1 ≤ size → n * size ≤ m * size → n ≤ m

@@ -2,7 +2,7 @@
 use Rattle.std.proofs.Common.{◌≡◌, ◌≢◌, ◌≤◌, ◌<◌, ◌+◌, ◌⊎◌, inl, inr, ℕ, List, Err, length, take, sym, arith, subst}
 use Rattle.std.proofs.Math.Nat.{eq-or-lt_of_le}
 use Rattle.std.specs.Prelude.{String, string_bytes}
-use Rattle.std.proofs.lemmas.List.{length-map, take-map, take_all}
+use Rattle.std.proofs.lemmas.List.{length-map, take-map}
 use Rattle.fx_plan.specs.declared.line.LineFault.TheVariants.{BadOption}
 use Rattle.fx_plan.specs.Line.{line_of_words, texts}
 use Rattle.soxchain_plan.specs.Options.{IsRefusedAt}
@@ -10,11 +10,6 @@ use Rattle.soxchain_plan.specs.Options.{IsRefusedAt}
 -- the beginning of words as bytes
 texts-taken : {Z : Type 0} (n : ℕ) (words : List (String Z)) → texts (take n words) ≡ take n (texts words)
 texts-taken n words = sym (take-map string_bytes n words)
-
--- all words are refused
-pub all-refused : {Z : Type 0} (words : List (String Z)) → line_of_words (texts words) ≡ Err BadOption
-    → (count : ℕ) → length words ≤ count → line_of_words (take count (texts words)) ≡ Err BadOption
-all-refused words e count h = rw (take_all count (texts words) (omega (arith, length-map words string_bytes, h))) e
 
 -- a beginning is refused that is this one, or longer
 refused-from : (words : List (List ℕ)) (shorter count : ℕ) → (shorter ≡ count) ⊎ (shorter < count) → line_of_words (take shorter words) ≡ Err BadOption

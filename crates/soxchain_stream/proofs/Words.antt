@@ -1,5 +1,5 @@
 -- Bytes as words of 64 bits, and words as frames.
-use Rattle.std.proofs.Common.{◌≡◌, ℕ, ◌+◌, ◌*◌, ◌<◌, ◌≤◌, ◌^◌, List, [], ◌∷◌, ◌++◌, length, get_or, take, drop, map, flat_map, refl, suc, sym, ap, ◌∙◌, append_assoc, inl, inr, Option, Some, None, Result, Ok, Err, IfOk, IsOk, IfSome, OnOk, zero, ℤ, FitsSigned, arith}
+use Rattle.std.proofs.Common.{◌≡◌, ℕ, ◌+◌, ◌*◌, ◌<◌, ◌≤◌, ◌^◌, List, [], ◌∷◌, ◌++◌, length, get_or, take, drop, map, flat_map, refl, suc, sym, ap, ◌∙◌, append_assoc, inl, inr, Option, Some, None, Result, Ok, Err, IfOk, IsOk, IfSome, zero, ℤ, FitsSigned, arith}
 use Rattle.std.proofs.lemmas.Bool.{cases_lt}
 use Rattle.std.proofs.lemmas.Int.{of_z-to_z, to_z-of_z}
 use Rattle.std.proofs.lemmas.List.{flat_map_more, get_or-drop, get_or-take, get_or_past, drop_at, take_at, length-append, length-map, length-take}
@@ -113,10 +113,6 @@ length-words (x ∷ xs) = omega (arith, length-words xs)
 pub if_ok-more : {X E : Type 0} {P Q : X → Type 0} (r : Result X E) → ((x : X) → P x → Q x) → IfOk r P → IfOk r Q
 if_ok-more (Ok x) f h = f x h
 if_ok-more (Err e) f h = h
-
-pub on_ok-more : {X E P Q : Type 0} (r : Result X E) → (P → Q) → OnOk r P → OnOk r Q
-on_ok-more (Ok x) f h = f h
-on_ok-more (Err e) f h = h
 
 pub all-push : {X : Type 0} (P : X → Type 0) (xs : List X) (x : X) → All P xs → P x → All P (xs ++ x ∷ [])
 all-push P [] x h p = All-cons P x [] p h
