@@ -26,6 +26,10 @@ use std::marker::Model;
 /// The maximum number of coefficients that take a small window, which is cleared sooner.
 const MAX_SMALL_TAPS: usize = 64;
 
+/// The sums of a piece by transforms where there are 1,024 coefficients. More of them take a larger buffer, which is cleared
+/// later.
+const SUMS_OF_HALF: usize = 1024;
+
 /// The places of the window of a block where there are few coefficients.
 const PLACES_OF_BLOCK: usize = MAX_SMALL_TAPS + SUMS_OF_PIECE;
 
@@ -283,8 +287,11 @@ fn filter_piece(
     ensures clips { result ≡ clips_after fir_taps (record { channels = channels; coefficients = reverse kernel.now }) line.now.items (pieces channels count frames.now) }
     ensures bound { result ≤ 16 * count }
 {
-    if count > SUMS_OF_PIECE {
+    if count > SUMS_OF_HALF {
         return filter_within::<2047, 1920>(kernel, line, channels, count, frames, out);
+    }
+    if count > SUMS_OF_PIECE {
+        return filter_within::<2047, SUMS_OF_HALF>(kernel, line, channels, count, frames, out);
     }
     if kernel.len() <= MAX_SMALL_TAPS {
         return filter_within::<PLACES_OF_BLOCK, SUMS_OF_PIECE>(
