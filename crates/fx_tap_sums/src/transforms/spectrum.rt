@@ -2,8 +2,9 @@
 ghost use Rattle.std.specs.Prelude.{◌≡◌, ◌<◌, ◌≤◌, ◌+◌, ◌-◌, ◌^◌, ◌⊎◌, ℕ, ℤ, List, pos, ◌*ℤ◌, true, false, drop, length, slice_index_or, sum_by, unsigned_abs, IfOk, IfNone, IfSome};
 ghost use Rattle.fx_tap_sums.specs.Prepared.{ArePrepared, ArePreparedModulo, ArePreparedModuloTwo};
 ghost use Rattle.fx_tap_sums.specs.Products.{sum_of_products};
+ghost use Rattle.fx_tap_sums.specs.Upper.{AreUpper};
 
-use super::prepared::{Prepared, convolve_modulo, prepare};
+use super::prepared::{Prepared, convolve_modulo, convolve_upper_modulo, prepare};
 use super::primes::{
     BACK_OF_FIRST, BACK_OF_SECOND, BACK_OF_THIRD, STEPS_OF_FIRST, STEPS_OF_SECOND, STEPS_OF_THIRD,
 };
@@ -74,46 +75,33 @@ fn prepare_all(alloc: Global, weights: &[i32]) -> Result<Transforms, AllocError>
     })
 }
 
-/// A sample over 256, rounded down, and the rest.
-#[inline(always)]
-fn divided(sample: i32) -> (i32, u32)
-    ensures small { unsigned_abs result.0 ≤ 2 ^ 23 }
-    ensures exact { result.1 ≡ 0 → sample ≡ pos 256 *ℤ result.0 }
+/// Tests that all samples are multiples of 256.
+fn are_upper(window: &[i32]) -> bool
+    ensures { result ≡ true → (upper : List ℤ) × AreUpper window.now upper }
 {
-    (sample >> 8, sample.cast_unsigned() & 255)
-}
-
-/// Writes each sample over 256, rounded down, and tests that all are multiples of 256.
-fn divide(window: &[i32], upper: &mut [i32]) -> bool
-    requires as_many { length upper.old ≡ length window.now }
-    ensures small { (k : ℕ) → unsigned_abs (slice_index_or upper.new k (pos 0)) ≤ 2 ^ 23 }
-    ensures exact { result ≡ true → (k : ℕ) → k < length upper.new → slice_index_or window.now k (pos 0) ≡ pos 256 *ℤ slice_index_or upper.new k (pos 0) }
-{
-    let mut rest = 0;
-    'samples: for place in 0..upper.len() {
-        let (quotient, left) = divided(window[place]);
-        upper[place] = quotient;
-        rest |= left;
+    let mut bits = 0;
+    'samples: for sample in window {
+        bits |= sample.cast_unsigned();
     }
-    rest == 0
+    bits % 256 == 0
 }
 
 impl Transforms {
-    /// Writes 256 times the sums of prepared weights times as many samples of at most 24 bits, which two primes determine; at
-    /// most as many as one transform of that size gives.
+    /// Writes the sums of prepared weights times as many samples of the window, which are multiples of 256, at most as many as
+    /// one transform of that size gives. Two primes determine the sums of the samples over 256.
     fn convolve_upper(&self, size: usize, weights: usize, window: &[i32], sums: &mut [i64])
         requires size { (size ≡ 1024) ⊎ (size ≡ 2048) }
         requires window { weights + length sums.old ≤ length window.now + 1 }
         requires bound { length window.now < size }
-        requires samples { (k : ℕ) → unsigned_abs (slice_index_or window.now k (pos 0)) ≤ 2 ^ 23 }
+        requires upper { (upper : List ℤ) × AreUpper window.now upper }
         requires prepared { (ws : List ℤ) × (length ws ≡ weights) × ArePreparedModuloTwo self.now ws }
-        ensures sums { (ws : List ℤ) → length ws ≡ weights → ArePreparedModuloTwo self.now ws → (i : ℕ) → i < length sums.new → slice_index_or sums.new i (pos 0) ≡ pos 256 *ℤ sum_of_products (drop i window.now) ws }
+        ensures sums { (ws : List ℤ) → length ws ≡ weights → ArePreparedModuloTwo self.now ws → (i : ℕ) → i < length sums.new → slice_index_or sums.new i (pos 0) ≡ sum_of_products (drop i window.now) ws }
         ensures bound { (i : ℕ) → i < length sums.new → unsigned_abs (slice_index_or sums.new i (pos 0)) ≤ 2 ^ 61 }
     {
         let mut first = [0; 2048];
-        convolve_modulo(&self.first, window, &mut first[..size]);
+        convolve_upper_modulo(&self.first, window, &mut first[..size]);
         let mut second = [0; 2048];
-        convolve_modulo(&self.second, window, &mut second[..size]);
+        convolve_upper_modulo(&self.second, window, &mut second[..size]);
         'places: for place in 0..sums.len() {
             let sum = joined_two(first[place], second[place]);
             sums[place] = 256 * sum;
@@ -155,10 +143,8 @@ impl Transforms {
             2048
         };
         let piece = &window[..window.len().min(size - 1)];
-        let mut upper = [0; 2048];
-        let upper = &mut upper[..piece.len()];
-        if divide(piece, upper) {
-            self.convolve_upper(size, weights, upper, sums);
+        if are_upper(piece) {
+            self.convolve_upper(size, weights, piece, sums);
         } else {
             self.convolve_whole(size, weights, piece, sums);
         }
