@@ -88,44 +88,64 @@ fn are_upper(window: &[i32]) -> bool
 
 impl Transforms {
     /// Writes the sums of prepared weights times as many samples of the window, which are multiples of 256, at most as many as
-    /// one transform of that size gives. Two primes determine the sums of the samples over 256.
-    fn convolve_upper(&self, size: usize, weights: usize, window: &[i32], sums: &mut [i64])
-        requires size { (size ≡ 1024) ⊎ (size ≡ 2048) }
+    /// one transform of SIZE numbers gives. Two primes determine the sums of the samples over 256.
+    // Stack space is cleared only where this is called, as in convolve_whole.
+    #[inline(never)]
+    fn convolve_upper<const SIZE: usize>(&self, weights: usize, window: &[i32], sums: &mut [i64])
+        requires size { (SIZE ≡ 1024) ⊎ (SIZE ≡ 2048) }
         requires window { weights + length sums.old ≤ length window.now + 1 }
-        requires bound { length window.now < size }
+        requires bound { length window.now < SIZE }
         requires upper { (upper : List ℤ) × AreUpper window.now upper }
         requires prepared { (ws : List ℤ) × (length ws ≡ weights) × ArePreparedModuloTwo self.now ws }
         ensures sums { (ws : List ℤ) → length ws ≡ weights → ArePreparedModuloTwo self.now ws → (i : ℕ) → i < length sums.new → slice_index_or sums.new i (pos 0) ≡ sum_of_products (drop i window.now) ws }
         ensures bound { (i : ℕ) → i < length sums.new → unsigned_abs (slice_index_or sums.new i (pos 0)) ≤ 2 ^ 61 }
     {
-        let mut first = [0; 2048];
-        convolve_upper_modulo(&self.first, window, &mut first[..size]);
-        let mut second = [0; 2048];
-        convolve_upper_modulo(&self.second, window, &mut second[..size]);
+        let mut first = [0; SIZE];
+        convolve_upper_modulo(&self.first, window, &mut first);
+        let mut second = [0; SIZE];
+        convolve_upper_modulo(&self.second, window, &mut second);
         'places: for place in 0..sums.len() {
             let sum = joined_two(first[place], second[place]);
             sums[place] = 256 * sum;
         }
     }
 
-    /// Writes the sums of prepared weights times as many samples of the window, at most as many as one transform of that size
+    /// Writes the sums of prepared weights times as many samples of the window, at most as many as one transform of SIZE numbers
     /// gives.
-    fn convolve_whole(&self, size: usize, weights: usize, window: &[i32], sums: &mut [i64])
-        requires size { (size ≡ 1024) ⊎ (size ≡ 2048) }
+    #[inline(never)]
+    fn convolve_whole<const SIZE: usize>(&self, weights: usize, window: &[i32], sums: &mut [i64])
+        requires size { (SIZE ≡ 1024) ⊎ (SIZE ≡ 2048) }
         requires window { weights + length sums.old ≤ length window.now + 1 }
-        requires bound { length window.now < size }
+        requires bound { length window.now < SIZE }
         requires prepared { (ws : List ℤ) × (length ws ≡ weights) × ArePrepared self.now ws }
         ensures sums { (ws : List ℤ) → length ws ≡ weights → ArePrepared self.now ws → (i : ℕ) → i < length sums.new → slice_index_or sums.new i (pos 0) ≡ sum_of_products (drop i window.now) ws }
         ensures bound { (i : ℕ) → i < length sums.new → unsigned_abs (slice_index_or sums.new i (pos 0)) ≤ 2 ^ 61 }
     {
-        let mut first = [0; 2048];
-        convolve_modulo(&self.first, window, &mut first[..size]);
-        let mut second = [0; 2048];
-        convolve_modulo(&self.second, window, &mut second[..size]);
-        let mut third = [0; 2048];
-        convolve_modulo(&self.third, window, &mut third[..size]);
+        let mut first = [0; SIZE];
+        convolve_modulo(&self.first, window, &mut first);
+        let mut second = [0; SIZE];
+        convolve_modulo(&self.second, window, &mut second);
+        let mut third = [0; SIZE];
+        convolve_modulo(&self.third, window, &mut third);
         'places: for place in 0..sums.len() {
             sums[place] = joined_three(first[place], second[place], third[place]);
+        }
+    }
+
+    /// The same for samples of either kind.
+    fn convolve_any<const SIZE: usize>(&self, weights: usize, window: &[i32], sums: &mut [i64])
+        requires size { (SIZE ≡ 1024) ⊎ (SIZE ≡ 2048) }
+        requires window { weights + length sums.old ≤ length window.now + 1 }
+        requires piece { weights + length sums.old ≤ SIZE }
+        requires prepared { (ws : List ℤ) × (length ws ≡ weights) × ArePrepared self.now ws }
+        ensures sums { (ws : List ℤ) → length ws ≡ weights → ArePrepared self.now ws → (i : ℕ) → i < length sums.new → slice_index_or sums.new i (pos 0) ≡ sum_of_products (drop i window.now) ws }
+        ensures bound { (i : ℕ) → i < length sums.new → unsigned_abs (slice_index_or sums.new i (pos 0)) ≤ 2 ^ 61 }
+    {
+        let piece = &window[..window.len().min(SIZE - 1)];
+        if are_upper(piece) {
+            self.convolve_upper::<SIZE>(weights, piece, sums);
+        } else {
+            self.convolve_whole::<SIZE>(weights, piece, sums);
         }
     }
 
@@ -137,16 +157,10 @@ impl Transforms {
         ensures sums { (ws : List ℤ) → length ws ≡ weights → ArePrepared self.now ws → (i : ℕ) → i < length sums.new → slice_index_or sums.new i (pos 0) ≡ sum_of_products (drop i window.now) ws }
         ensures bound { (i : ℕ) → i < length sums.new → unsigned_abs (slice_index_or sums.new i (pos 0)) ≤ 2 ^ 61 }
     {
-        let size = if weights + sums.len() <= 1024 {
-            1024
+        if weights + sums.len() <= 1024 {
+            self.convolve_any::<1024>(weights, window, sums);
         } else {
-            2048
-        };
-        let piece = &window[..window.len().min(size - 1)];
-        if are_upper(piece) {
-            self.convolve_upper(size, weights, piece, sums);
-        } else {
-            self.convolve_whole(size, weights, piece, sums);
+            self.convolve_any::<2048>(weights, window, sums);
         }
     }
 }

@@ -1,17 +1,16 @@
-use Rattle.std.proofs.Common.{arith, rules, sym, ◌≡◌, ◌<◌, ◌≤◌, ◌+◌, ◌^◌, ℤ, pos, ◌*ℤ◌, List, length, get_or, drop, w64, unsigned_abs}
+use Rattle.std.proofs.Common.{arith, sym, ◌≡◌, ◌≤◌, ◌+◌, ◌^◌, ℤ, pos, ◌*ℤ◌, List, length, get_or, drop, w64, unsigned_abs}
 use Rattle.std.proofs.lemmas.Int.{ints, fits_signed_from_abs}
-use Rattle.fx_tap_sums.specs.declared.transforms.remainders.TheConstants.{FIRST, SECOND}
 use Rattle.fx_tap_sums.specs.Prepared.{ArePreparedModuloTwo}
 use Rattle.fx_tap_sums.specs.Products.{sum_of_products}
 use Rattle.fx_tap_sums.specs.Upper.{AreUpper}
 use Rattle.fx_tap_sums.proofs.CyclicSums.{sum_bound}
 use Rattle.fx_tap_sums.proofs.Divided.{upper_sum}
 use Rattle.fx_tap_sums.proofs.SmallSums.{held-in-64}
-use Rattle.fx_tap_sums.proofs.Writes.{each_more, same-front}
+use Rattle.fx_tap_sums.proofs.Writes.{each_more}
 use Rattle.fx_tap_sums.proofs.transforms.spectrum.Transforms.convolve_upper.Goals as goal
 
 pub overflow_mul-sums : goal.overflow_mul-sums
-overflow_mul-sums c =
+overflow_mul-sums g c =
     let i = c.places.place in
     let w = c.args.window.now in
     let upper : List ℤ = c.requires.upper.0 in
@@ -21,37 +20,31 @@ overflow_mul-sums c =
     let long : length ws ≡ c.args.weights = given.1 in
     let prepared : ArePreparedModuloTwo c.args.self.now ws = given.2 in
     let x : ℤ = sum_of_products (drop i upper) ws in
-    let first_long : length c.convolve_upper_modulo.new.values ≡ c.args.size = search rules in
-    let second_long : length c.convolve_upper_modulo-2.new.values ≡ c.args.size = search rules in
-    let lt : i < c.args.size = omega arith in
     let inside : i + length ws ≤ length upper = omega (arith, are.long) in
     let bound : unsigned_abs x ≤ 2 ^ 53 = sum_bound (2 ^ 23) upper ws i are.small prepared.small in
-    let first = same-front (pos FIRST) x c.convolve_upper_modulo.new.values _ i (omega (arith, first_long, lt)) (c.convolve_upper_modulo.ensures.sums upper ws i are prepared.first inside) in
-    let second = same-front (pos SECOND) x c.convolve_upper_modulo-2.new.values _ i (omega (arith, second_long, lt)) (c.convolve_upper_modulo-2.ensures.sums upper ws i are prepared.second inside) in
+    let first = c.convolve_upper_modulo.ensures.sums upper ws i are prepared.first inside in
+    let second = c.convolve_upper_modulo-2.ensures.sums upper ws i are prepared.second inside in
     let is : c.joined_two-sum.result ≡ x = c.joined_two-sum.ensures x bound first second in
     rw (is, held-in-64 x (omega (arith, bound))) (fits_signed_from_abs w64 (pos 256 *ℤ x) (omega (arith, ints, bound)))
 
 pub places-preserved : goal.places-preserved
-places-preserved c = λ ws long prepared.
+places-preserved g c = λ ws long prepared.
     let i = c.places.place in
     let w = c.args.window.now in
     let upper : List ℤ = c.requires.upper.0 in
     let are : AreUpper w upper = c.requires.upper.1 in
     let x : ℤ = sum_of_products (drop i upper) ws in
-    let first_long : length c.convolve_upper_modulo.new.values ≡ c.args.size = search rules in
-    let second_long : length c.convolve_upper_modulo-2.new.values ≡ c.args.size = search rules in
-    let lt : i < c.args.size = omega arith in
     let inside : i + length ws ≤ length upper = omega (arith, are.long) in
     let bound : unsigned_abs x ≤ 2 ^ 53 = sum_bound (2 ^ 23) upper ws i are.small prepared.small in
-    let first = same-front (pos FIRST) x c.convolve_upper_modulo.new.values _ i (omega (arith, first_long, lt)) (c.convolve_upper_modulo.ensures.sums upper ws i are prepared.first inside) in
-    let second = same-front (pos SECOND) x c.convolve_upper_modulo-2.new.values _ i (omega (arith, second_long, lt)) (c.convolve_upper_modulo-2.ensures.sums upper ws i are prepared.second inside) in
+    let first = c.convolve_upper_modulo.ensures.sums upper ws i are prepared.first inside in
+    let second = c.convolve_upper_modulo-2.ensures.sums upper ws i are prepared.second inside in
     let is : c.joined_two-sum.result ≡ x = c.joined_two-sum.ensures x bound first second in
     let whole : sum_of_products (drop i w) ws ≡ pos 256 *ℤ x = upper_sum w upper ws i are (omega (arith, are.long, inside)) in
     rw (is, held-in-64 x (omega (arith, bound)), held-in-64 (pos 256 *ℤ x) (omega (arith, ints, bound)))
     (each_more (pos 0) (λ k v. v ≡ sum_of_products (drop k w) ws) c.places.sums i (pos 256 *ℤ x) (omega arith) (sym whole) (c.places.invariant ws long prepared))
 
 pub returns-clause-bound : goal.returns-clause-bound
-returns-clause-bound c = λ i lt.
+returns-clause-bound g c = λ i lt.
     let w = c.args.window.now in
     let upper : List ℤ = c.requires.upper.0 in
     let are : AreUpper w upper = c.requires.upper.1 in

@@ -1,49 +1,40 @@
-use Rattle.std.proofs.Common.{arith, rules, refl, ◌≡◌, ◌<◌, ◌≤◌, ◌^◌, ℤ, pos, List, length, get_or, drop, unsigned_abs}
-use Rattle.fx_tap_sums.specs.declared.transforms.remainders.TheConstants.{FIRST, SECOND, THIRD}
+use Rattle.std.proofs.Common.{arith, refl, ◌≡◌, ◌≤◌, ◌^◌, ℤ, pos, List, length, get_or, drop, unsigned_abs}
 use Rattle.fx_tap_sums.specs.Products.{sum_of_products}
 use Rattle.fx_tap_sums.proofs.CyclicSums.{sum_bound}
 use Rattle.fx_tap_sums.proofs.SmallSums.{held-in-64}
-use Rattle.fx_tap_sums.proofs.Writes.{each_more, same-front}
+use Rattle.fx_tap_sums.proofs.Writes.{each_more}
 use Rattle.fx_tap_sums.proofs.transforms.spectrum.Transforms.convolve_whole.Goals as goal
 
 pub joined_three-requires-clause-is : goal.joined_three-requires-clause-is
-joined_three-requires-clause-is c =
+joined_three-requires-clause-is g c =
     let i = c.places.place in
     let w = c.args.window.now in
     let given = c.requires.prepared in
     let ws : List ℤ = given.0 in
     let long : length ws ≡ c.args.weights = given.1 in
     let x : ℤ = sum_of_products (drop i w) ws in
-    let first_long : length c.convolve_modulo.new.values ≡ c.args.size = search rules in
-    let second_long : length c.convolve_modulo-2.new.values ≡ c.args.size = search rules in
-    let third_long : length c.convolve_modulo-3.new.values ≡ c.args.size = search rules in
-    let lt : i < c.args.size = omega arith in
     let bound : unsigned_abs x ≤ 2 ^ 61 = sum_bound (2 ^ 31) w ws i c.convolve_modulo.ensures.samples given.2.two.small in (
       x,
       bound,
-      same-front (pos FIRST) x c.convolve_modulo.new.values _ i (omega (arith, first_long, lt)) (c.convolve_modulo.ensures.sums ws i given.2.two.first (omega arith)),
-      same-front (pos SECOND) x c.convolve_modulo-2.new.values _ i (omega (arith, second_long, lt)) (c.convolve_modulo-2.ensures.sums ws i given.2.two.second (omega arith)),
-      same-front (pos THIRD) x c.convolve_modulo-3.new.values _ i (omega (arith, third_long, lt)) (c.convolve_modulo-3.ensures.sums ws i given.2.third (omega arith)),
+      c.convolve_modulo.ensures.sums ws i given.2.two.first (omega arith),
+      c.convolve_modulo-2.ensures.sums ws i given.2.two.second (omega arith),
+      c.convolve_modulo-3.ensures.sums ws i given.2.third (omega arith),
     )
 
 pub places-preserved : goal.places-preserved
-places-preserved c = λ ws long prepared.
+places-preserved g c = λ ws long prepared.
     let i = c.places.place in
     let w = c.args.window.now in
     let x : ℤ = sum_of_products (drop i w) ws in
-    let first_long : length c.convolve_modulo.new.values ≡ c.args.size = search rules in
-    let second_long : length c.convolve_modulo-2.new.values ≡ c.args.size = search rules in
-    let third_long : length c.convolve_modulo-3.new.values ≡ c.args.size = search rules in
-    let lt : i < c.args.size = omega arith in
     let bound : unsigned_abs x ≤ 2 ^ 61 = sum_bound (2 ^ 31) w ws i c.convolve_modulo.ensures.samples prepared.two.small in
-    let is : c.joined_three.result ≡ x = c.joined_three.ensures x bound (same-front (pos FIRST) x c.convolve_modulo.new.values _ i (omega (arith, first_long, lt)) (c.convolve_modulo.ensures.sums ws i prepared.two.first (omega arith)))
-    (same-front (pos SECOND) x c.convolve_modulo-2.new.values _ i (omega (arith, second_long, lt)) (c.convolve_modulo-2.ensures.sums ws i prepared.two.second (omega arith)))
-    (same-front (pos THIRD) x c.convolve_modulo-3.new.values _ i (omega (arith, third_long, lt)) (c.convolve_modulo-3.ensures.sums ws i prepared.third (omega arith))) in
+    let is : c.joined_three.result ≡ x = c.joined_three.ensures x bound (c.convolve_modulo.ensures.sums ws i prepared.two.first (omega arith))
+    (c.convolve_modulo-2.ensures.sums ws i prepared.two.second (omega arith))
+    (c.convolve_modulo-3.ensures.sums ws i prepared.third (omega arith)) in
     rw (is, held-in-64 x (omega (arith, bound)))
     (each_more (pos 0) (λ k v. v ≡ sum_of_products (drop k w) ws) c.places.sums i x (omega arith) refl (c.places.invariant ws long prepared))
 
 pub returns-clause-bound : goal.returns-clause-bound
-returns-clause-bound c = λ i lt.
+returns-clause-bound g c = λ i lt.
     let w = c.args.window.now in
     let given = c.requires.prepared in
     let ws : List ℤ = given.0 in
