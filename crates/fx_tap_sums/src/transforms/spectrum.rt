@@ -86,6 +86,16 @@ fn are_upper(window: &[i32]) -> bool
     bits % 256 == 0
 }
 
+/// Writes numbers in 64 bits, so many as there are places.
+fn widen(numbers: &[u32], wide: &mut [i64])
+    requires { length wide.old ≤ length numbers.now }
+    ensures { (i : ℕ) → i < length wide.new → slice_index_or wide.new i (pos 0) ≡ pos (slice_index_or numbers.now i 0) }
+{
+    'places: for place in 0..wide.len() {
+        wide[place] = i64::from(numbers[place]);
+    }
+}
+
 impl Transforms {
     /// Writes the sums of prepared weights times as many samples of the window, which are multiples of 256, at most as many as
     /// one transform of SIZE numbers gives. Two primes determine the sums of the samples over 256.
@@ -100,13 +110,13 @@ impl Transforms {
         ensures sums { (ws : List ℤ) → length ws ≡ weights → ArePreparedModuloTwo self.now ws → (i : ℕ) → i < length sums.new → slice_index_or sums.new i (pos 0) ≡ sum_of_products (drop i window.now) ws }
         ensures bound { (i : ℕ) → i < length sums.new → unsigned_abs (slice_index_or sums.new i (pos 0)) ≤ 2 ^ 61 }
     {
-        let mut first = [0; SIZE];
-        convolve_upper_modulo(&self.first, window, &mut first);
-        let mut second = [0; SIZE];
-        convolve_upper_modulo(&self.second, window, &mut second);
+        let mut values = [0; SIZE];
+        convolve_upper_modulo(&self.first, window, &mut values);
+        widen(&values, sums);
+        convolve_upper_modulo(&self.second, window, &mut values);
         'places: for place in 0..sums.len() {
-            let sum = joined_two(first[place], second[place]);
-            sums[place] = 256 * sum;
+            let first = sums[place] as u32;
+            sums[place] = 256 * joined_two(first, values[place]);
         }
     }
 
@@ -121,14 +131,15 @@ impl Transforms {
         ensures sums { (ws : List ℤ) → length ws ≡ weights → ArePrepared self.now ws → (i : ℕ) → i < length sums.new → slice_index_or sums.new i (pos 0) ≡ sum_of_products (drop i window.now) ws }
         ensures bound { (i : ℕ) → i < length sums.new → unsigned_abs (slice_index_or sums.new i (pos 0)) ≤ 2 ^ 61 }
     {
-        let mut first = [0; SIZE];
-        convolve_modulo(&self.first, window, &mut first);
-        let mut second = [0; SIZE];
-        convolve_modulo(&self.second, window, &mut second);
+        let mut values = [0; SIZE];
+        convolve_modulo(&self.first, window, &mut values);
+        widen(&values, sums);
+        convolve_modulo(&self.second, window, &mut values);
         let mut third = [0; SIZE];
         convolve_modulo(&self.third, window, &mut third);
         'places: for place in 0..sums.len() {
-            sums[place] = joined_three(first[place], second[place], third[place]);
+            let first = sums[place] as u32;
+            sums[place] = joined_three(first, values[place], third[place]);
         }
     }
 
