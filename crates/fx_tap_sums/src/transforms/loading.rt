@@ -67,8 +67,8 @@ pub(crate) fn load<const P: u32>(window: &[i32], values: &mut [u32])
     ensures samples { (k : ℕ) → unsigned_abs (slice_index_or window.now k (pos 0)) ≤ 2 ^ 31 }
 {
     values[0] = 0;
-    'samples: for place in 0..window.len() {
-        values[place + 1] = remainder::<P>(window[place]);
+    'samples: for (place, sample) in window.iter().enumerate() {
+        values[place + 1] = remainder::<P>(*sample);
     }
     'rest: for place in window.len() + 1..values.len() {
         values[place] = 0;
@@ -93,8 +93,8 @@ pub(crate) fn load_upper<const P: u32>(window: &[i32], values: &mut [u32])
     ensures same { (upper : List ℤ) → AreUpper window.now upper → AreSame P values.new (pos 0 ∷ upper) }
 {
     values[0] = 0;
-    'samples: for place in 0..window.len() {
-        values[place + 1] = upper_remainder::<P>(window[place]);
+    'samples: for (place, sample) in window.iter().enumerate() {
+        values[place + 1] = upper_remainder::<P>(*sample);
     }
     'rest: for place in window.len() + 1..values.len() {
         values[place] = 0;

@@ -91,8 +91,8 @@ fn widen(numbers: &[u32], wide: &mut [i64])
     requires { length wide.old ≤ length numbers.now }
     ensures { (i : ℕ) → i < length wide.new → slice_index_or wide.new i (pos 0) ≡ pos (slice_index_or numbers.now i 0) }
 {
-    'places: for place in 0..wide.len() {
-        wide[place] = i64::from(numbers[place]);
+    'places: for (place, number) in wide.iter_mut().enumerate() {
+        *number = i64::from(numbers[place]);
     }
 }
 
@@ -114,9 +114,8 @@ impl Transforms {
         convolve_upper_modulo(&self.first, window, &mut values);
         widen(&values, sums);
         convolve_upper_modulo(&self.second, window, &mut values);
-        'places: for place in 0..sums.len() {
-            let first = sums[place] as u32;
-            sums[place] = 256 * joined_two(first, values[place]);
+        'places: for (place, sum) in sums.iter_mut().enumerate() {
+            *sum = 256 * joined_two(*sum as u32, values[place]);
         }
     }
 
@@ -137,9 +136,8 @@ impl Transforms {
         convolve_modulo(&self.second, window, &mut values);
         let mut third = [0; SIZE];
         convolve_modulo(&self.third, window, &mut third);
-        'places: for place in 0..sums.len() {
-            let first = sums[place] as u32;
-            sums[place] = joined_three(first, values[place], third[place]);
+        'places: for (place, sum) in sums.iter_mut().enumerate() {
+            *sum = joined_three(*sum as u32, values[place], third[place]);
         }
     }
 

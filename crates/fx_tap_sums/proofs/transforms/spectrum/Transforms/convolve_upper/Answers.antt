@@ -10,8 +10,8 @@ use Rattle.fx_tap_sums.proofs.SmallSums.{held-in-64}
 use Rattle.fx_tap_sums.proofs.Writes.{each_left, each_more, kept-same}
 use Rattle.fx_tap_sums.proofs.transforms.spectrum.Transforms.convolve_upper.Goals as goal
 
-pub overflow_mul-sums : goal.overflow_mul-sums
-overflow_mul-sums g c =
+pub overflow_mul-sum : goal.overflow_mul-sum
+overflow_mul-sum g c =
     let i = c.places.place in
     let w = c.args.window.now in
     let upper : List ℤ = c.requires.upper.0 in
