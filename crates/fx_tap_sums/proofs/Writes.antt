@@ -1,14 +1,19 @@
 -- Lists of remainders that are written place by place.
-use Rattle.std.proofs.Common.{◌≡◌, ◌≢◌, ◌+◌, ◌-◌, ◌<◌, ◌≤◌, ◌∙◌, refl, ℕ, zero, suc, ℤ, pos, List, [], ◌∷◌, ◌++◌, length, get_or, set, take, drop, arith, below_more, get_or-set_other, get_or-set_same}
+use Rattle.std.proofs.Common.{◌≡◌, ◌≢◌, ◌+◌, ◌-◌, ◌<◌, ◌≤◌, ◌∙◌, refl, ℕ, zero, suc, ℤ, pos, List, [], ◌∷◌, ◌++◌, length, get_or, set, take, drop, arith, below_more, get_or-set_other, get_or-set_same, ◌^◌, unsigned_abs, to_z, of_z, w64}
 use Rattle.std.proofs.lemmas.Bool.{cases_lt}
 use Rattle.std.proofs.lemmas.List.{length-append, length-drop, length-take-le, get_or-drop, get_or-take, get_or_append_left, get_or-append_right, get_or_at}
 use mathlib.Core.Logic.{inl, inr}
 use Rattle.fx_tap_sums.specs.Residues.{Same, AreFour, AreRemainders, AreSame}
+use Rattle.fx_tap_sums.proofs.SmallSums.{held-in-64}
 
 -- one place more
 pub each_more : {X : Type 0} (d : X) (P : ℕ → X → Type 0) (xs : List X) (i : ℕ) (v : X) → i < length xs → P i v → ((k : ℕ) → k < i → P k (get_or xs k d)) →
     (k : ℕ) → k < i + 1 → P k (get_or (set xs i v) k d)
 each_more d P xs i v lt here before = below_more _ _ (λ k h. let ne : k ≢ i = omega arith in rw get_or-set_other (before k h)) (rw get_or-set_same here)
+
+-- the places behind it
+pub each_left : {X : Type 0} (d : X) (xs ys : List X) (i : ℕ) (v : X) → ((k : ℕ) → i ≤ k → get_or xs k d ≡ get_or ys k d) → (k : ℕ) → i + 1 ≤ k → get_or (set xs i v) k d ≡ get_or ys k d
+each_left d xs ys i v left k h = let ne : k ≢ i = omega arith in rw get_or-set_other (left k (omega arith))
 
 -- four places more
 pub four_more : (P : ℕ → ℕ → Type 0) (at : ℕ) (xs ys lanes : List ℕ) → ((i : ℕ) → i < at → get_or ys i 0 ≡ get_or xs i 0) → ((k : ℕ) → k < 4 → get_or ys (at + k) 0 ≡ get_or lanes k 0)
@@ -80,6 +85,6 @@ remainders_wider p q xs le are i lt = let less = are i lt in omega arith
 pub four_loaded : (p at : ℕ) (xs lanes : List ℕ) → AreRemainders p xs → length lanes ≡ 4 → at + 4 ≤ length xs → ((k : ℕ) → k < 4 → get_or lanes k 0 ≡ get_or xs (at + k) 0) → AreFour p lanes
 four_loaded p at xs lanes are four long is = record { four = four; less = λ k l. rw (is k l) (are (at + k) (omega arith)) }
 
--- a number in the front of a list
-pub same-front : (p x : ℤ) (new rest : List ℕ) (i : ℕ) → i < length new → Same p (pos (get_or new i 0)) x → Same p (pos (get_or (new ++ rest) i 0)) x
-same-front p x new rest i below is = rw (get_or_append_left new rest 0 i below) is
+-- a remainder that is kept in 64 bits
+pub kept-same : (p x s : ℤ) (n : ℕ) → s ≡ pos n → n < 2 ^ 32 → Same p (pos n) x → Same p (pos (unsigned_abs (to_z w64 (of_z w64 s)))) x
+kept-same p x s n is less same = rw (is, held-in-64 (pos n) (omega (arith, less))) same

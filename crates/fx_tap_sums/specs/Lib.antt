@@ -5,4 +5,5 @@ pub mod Products
 pub mod Residues
 pub mod SmallWeights
 pub mod Transform
+pub mod Upper
 pub mod Weights

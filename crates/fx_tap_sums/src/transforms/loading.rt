@@ -1,8 +1,9 @@
 //! Weights and samples as remainders, ready for transforms.
-ghost use Rattle.std.specs.Prelude.{◌≡◌, ◌<◌, ◌≤◌, ◌*◌, ◌^◌, ℕ, pos, ◌∷◌, ◌*ℤ◌, length, map, slice_index_or, unsigned_abs, IfOk};
+ghost use Rattle.std.specs.Prelude.{◌≡◌, ◌<◌, ◌≤◌, ◌*◌, ◌^◌, ℕ, ℤ, List, pos, ◌∷◌, ◌*ℤ◌, length, map, slice_index_or, unsigned_abs, IfOk};
 ghost use Rattle.fx_tap_sums.specs.Prepared.{padded_weights};
-ghost use Rattle.fx_tap_sums.specs.Residues.{AreRemainders, AreSame, IsModulus};
+ghost use Rattle.fx_tap_sums.specs.Residues.{AreRemainders, AreSame, IsModulus, Same};
 ghost use Rattle.fx_tap_sums.specs.Transform.{IsTransform};
+ghost use Rattle.fx_tap_sums.specs.Upper.{AreUpper};
 
 use super::factor::Factor;
 use super::remainders::remainder;
@@ -66,8 +67,34 @@ pub(crate) fn load<const P: u32>(window: &[i32], values: &mut [u32])
     ensures samples { (k : ℕ) → unsigned_abs (slice_index_or window.now k (pos 0)) ≤ 2 ^ 31 }
 {
     values[0] = 0;
-    'samples: for place in 0..window.len() {
-        values[place + 1] = remainder::<P>(window[place]);
+    'samples: for (place, sample) in window.iter().enumerate() {
+        values[place + 1] = remainder::<P>(*sample);
+    }
+    'rest: for place in window.len() + 1..values.len() {
+        values[place] = 0;
+    }
+}
+
+/// A number below twice the modulus that has the remainder of a sample over 256, rounded down.
+#[inline(always)]
+fn upper_remainder<const P: u32>(sample: i32) -> u32
+    requires { IsModulus P }
+    ensures less { result < 2 * P }
+    ensures same { (upper : ℤ) → sample ≡ pos 256 *ℤ upper → Same (pos P) (pos result) upper }
+{
+    ((sample >> 8) + P as i32) as u32
+}
+
+/// Writes a zero, numbers below twice the modulus that have the remainders of samples over 256, and zeros after them.
+pub(crate) fn load_upper<const P: u32>(window: &[i32], values: &mut [u32])
+    requires modulus { IsModulus P }
+    requires window { length window.now < length values.old }
+    ensures remainders { AreRemainders (2 * P) values.new }
+    ensures same { (upper : List ℤ) → AreUpper window.now upper → AreSame P values.new (pos 0 ∷ upper) }
+{
+    values[0] = 0;
+    'samples: for (place, sample) in window.iter().enumerate() {
+        values[place + 1] = upper_remainder::<P>(*sample);
     }
     'rest: for place in window.len() + 1..values.len() {
         values[place] = 0;

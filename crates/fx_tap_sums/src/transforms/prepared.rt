@@ -1,12 +1,13 @@
 //! Weights prepared for transforms modulo one prime.
-ghost use Rattle.std.specs.Prelude.{◌≡◌, ◌<◌, ◌≤◌, ◌+◌, ◌*◌, ◌^◌, ◌⊎◌, ℕ, ℤ, List, pos, ◌*ℤ◌, drop, length, slice_index_or, unsigned_abs, IfOk};
+ghost use Rattle.std.specs.Prelude.{◌≡◌, ◌<◌, ◌≤◌, ◌+◌, ◌*◌, ◌^◌, ◌⊎◌, ℕ, ℤ, List, pos, ◌∷◌, ◌*ℤ◌, drop, length, slice_index_or, unsigned_abs, IfOk};
 ghost use Rattle.fx_tap_sums.specs.Prepared.{ArePreparedModulo};
 ghost use Rattle.fx_tap_sums.specs.Products.{sum_of_products};
-ghost use Rattle.fx_tap_sums.specs.Residues.{AreRemainders, IsModulus, Same};
+ghost use Rattle.fx_tap_sums.specs.Residues.{AreRemainders, AreSame, IsModulus, Same};
 ghost use Rattle.fx_tap_sums.specs.Transform.{AreSteps};
+ghost use Rattle.fx_tap_sums.specs.Upper.{AreUpper};
 
 use super::factor::Factor;
-use super::loading::{load, transformed};
+use super::loading::{load, load_upper, transformed};
 use super::roots::{RootTable, table};
 use super::transform::multiply;
 use std::alloc::{AllocError, Global};
@@ -48,6 +49,25 @@ pub(crate) fn prepare<const P: u32>(
     })
 }
 
+/// Multiplies a zero and numbers after it, which are loaded, by prepared weights: the remainders of the sums of the weights
+/// times as many of the numbers, from each of their places on.
+fn multiply_loaded<const P: u32>(prepared: &Prepared<P>, values: &mut [u32])
+    requires modulus { IsModulus P }
+    requires values { (length values.old ≡ 1024) ⊎ (length values.old ≡ 2048) }
+    requires loaded { AreRemainders (2 * P) values.old }
+    requires are { (ws : List ℤ) × ArePreparedModulo P ws prepared.now.table.roots.items prepared.now.table.inverses.items prepared.now.half.items prepared.now.spectrum.items }
+    ensures remainders { AreRemainders (4 * P) values.new }
+    ensures sums { (ws window : List ℤ) (i : ℕ) → ArePreparedModulo P ws prepared.now.table.roots.items prepared.now.table.inverses.items prepared.now.half.items prepared.now.spectrum.items → length window < length values.old → AreSame P values.old (pos 0 ∷ window) → i + length ws ≤ length window → Same (pos P) (pos (slice_index_or values.new i 0)) (sum_of_products (drop i window) ws) }
+{
+    let roots = &prepared.table.roots;
+    let inverses = &prepared.table.inverses;
+    if values.len() == 1024 {
+        multiply(roots, inverses, 8, 0, &prepared.half, values);
+    } else {
+        multiply(roots, inverses, 9, 0, &prepared.spectrum, values);
+    }
+}
+
 /// Writes numbers below four times the modulus with the remainders of the sums of the weights times as many samples of the
 /// window, from each of its places on.
 pub(crate) fn convolve_modulo<const P: u32>(
@@ -64,11 +84,22 @@ pub(crate) fn convolve_modulo<const P: u32>(
     ensures sums { (ws : List ℤ) (i : ℕ) → ArePreparedModulo P ws prepared.now.table.roots.items prepared.now.table.inverses.items prepared.now.half.items prepared.now.spectrum.items → i + length ws ≤ length window.now → Same (pos P) (pos (slice_index_or values.new i 0)) (sum_of_products (drop i window.now) ws) }
 {
     load::<P>(window, values);
-    let roots = &prepared.table.roots;
-    let inverses = &prepared.table.inverses;
-    if values.len() == 1024 {
-        multiply(roots, inverses, 8, 0, &prepared.half, values);
-    } else {
-        multiply(roots, inverses, 9, 0, &prepared.spectrum, values);
-    }
+    multiply_loaded(prepared, values);
+}
+
+/// The same for samples that are multiples of 256: the remainders of the sums of the samples over 256.
+pub(crate) fn convolve_upper_modulo<const P: u32>(
+    prepared: &Prepared<P>,
+    window: &[i32],
+    values: &mut [u32],
+)
+    requires modulus { IsModulus P }
+    requires window { length window.now < length values.old }
+    requires values { (length values.old ≡ 1024) ⊎ (length values.old ≡ 2048) }
+    requires are { (ws : List ℤ) × ArePreparedModulo P ws prepared.now.table.roots.items prepared.now.table.inverses.items prepared.now.half.items prepared.now.spectrum.items }
+    ensures remainders { AreRemainders (4 * P) values.new }
+    ensures sums { (upper ws : List ℤ) (i : ℕ) → AreUpper window.now upper → ArePreparedModulo P ws prepared.now.table.roots.items prepared.now.table.inverses.items prepared.now.half.items prepared.now.spectrum.items → i + length ws ≤ length upper → Same (pos P) (pos (slice_index_or values.new i 0)) (sum_of_products (drop i upper) ws) }
+{
+    load_upper::<P>(window, values);
+    multiply_loaded(prepared, values);
 }

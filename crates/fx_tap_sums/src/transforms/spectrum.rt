@@ -2,8 +2,9 @@
 ghost use Rattle.std.specs.Prelude.{◌≡◌, ◌<◌, ◌≤◌, ◌+◌, ◌-◌, ◌^◌, ◌⊎◌, ℕ, ℤ, List, pos, ◌*ℤ◌, true, false, drop, length, slice_index_or, sum_by, unsigned_abs, IfOk, IfNone, IfSome};
 ghost use Rattle.fx_tap_sums.specs.Prepared.{ArePrepared, ArePreparedModulo, ArePreparedModuloTwo};
 ghost use Rattle.fx_tap_sums.specs.Products.{sum_of_products};
+ghost use Rattle.fx_tap_sums.specs.Upper.{AreUpper};
 
-use super::prepared::{Prepared, convolve_modulo, prepare};
+use super::prepared::{Prepared, convolve_modulo, convolve_upper_modulo, prepare};
 use super::primes::{
     BACK_OF_FIRST, BACK_OF_SECOND, BACK_OF_THIRD, STEPS_OF_FIRST, STEPS_OF_SECOND, STEPS_OF_THIRD,
 };
@@ -74,70 +75,86 @@ fn prepare_all(alloc: Global, weights: &[i32]) -> Result<Transforms, AllocError>
     })
 }
 
-/// A sample over 256, rounded down, and the rest.
-#[inline(always)]
-fn divided(sample: i32) -> (i32, u32)
-    ensures small { unsigned_abs result.0 ≤ 2 ^ 23 }
-    ensures exact { result.1 ≡ 0 → sample ≡ pos 256 *ℤ result.0 }
+/// Tests that all samples are multiples of 256.
+fn are_upper(window: &[i32]) -> bool
+    ensures { result ≡ true → (upper : List ℤ) × AreUpper window.now upper }
 {
-    (sample >> 8, sample.cast_unsigned() & 255)
+    let mut bits = 0;
+    'samples: for sample in window {
+        bits |= sample.cast_unsigned();
+    }
+    bits % 256 == 0
 }
 
-/// Writes each sample over 256, rounded down, and tests that all are multiples of 256.
-fn divide(window: &[i32], upper: &mut [i32]) -> bool
-    requires as_many { length upper.old ≡ length window.now }
-    ensures small { (k : ℕ) → unsigned_abs (slice_index_or upper.new k (pos 0)) ≤ 2 ^ 23 }
-    ensures exact { result ≡ true → (k : ℕ) → k < length upper.new → slice_index_or window.now k (pos 0) ≡ pos 256 *ℤ slice_index_or upper.new k (pos 0) }
+/// Writes numbers in 64 bits, so many as there are places.
+fn widen(numbers: &[u32], wide: &mut [i64])
+    requires { length wide.old ≤ length numbers.now }
+    ensures { (i : ℕ) → i < length wide.new → slice_index_or wide.new i (pos 0) ≡ pos (slice_index_or numbers.now i 0) }
 {
-    let mut rest = 0;
-    'samples: for place in 0..upper.len() {
-        let (quotient, left) = divided(window[place]);
-        upper[place] = quotient;
-        rest |= left;
+    'places: for (place, number) in wide.iter_mut().enumerate() {
+        *number = i64::from(numbers[place]);
     }
-    rest == 0
 }
 
 impl Transforms {
-    /// Writes 256 times the sums of prepared weights times as many samples of at most 24 bits, which two primes determine; at
-    /// most as many as one transform of that size gives.
-    fn convolve_upper(&self, size: usize, weights: usize, window: &[i32], sums: &mut [i64])
-        requires size { (size ≡ 1024) ⊎ (size ≡ 2048) }
+    /// Writes the sums of prepared weights times as many samples of the window, which are multiples of 256, at most as many as
+    /// one transform of SIZE numbers gives. Two primes determine the sums of the samples over 256.
+    // Stack space is cleared only where this is called, as in convolve_whole.
+    #[inline(never)]
+    fn convolve_upper<const SIZE: usize>(&self, weights: usize, window: &[i32], sums: &mut [i64])
+        requires size { (SIZE ≡ 1024) ⊎ (SIZE ≡ 2048) }
         requires window { weights + length sums.old ≤ length window.now + 1 }
-        requires bound { length window.now < size }
-        requires samples { (k : ℕ) → unsigned_abs (slice_index_or window.now k (pos 0)) ≤ 2 ^ 23 }
+        requires bound { length window.now < SIZE }
+        requires upper { (upper : List ℤ) × AreUpper window.now upper }
         requires prepared { (ws : List ℤ) × (length ws ≡ weights) × ArePreparedModuloTwo self.now ws }
-        ensures sums { (ws : List ℤ) → length ws ≡ weights → ArePreparedModuloTwo self.now ws → (i : ℕ) → i < length sums.new → slice_index_or sums.new i (pos 0) ≡ pos 256 *ℤ sum_of_products (drop i window.now) ws }
+        ensures sums { (ws : List ℤ) → length ws ≡ weights → ArePreparedModuloTwo self.now ws → (i : ℕ) → i < length sums.new → slice_index_or sums.new i (pos 0) ≡ sum_of_products (drop i window.now) ws }
         ensures bound { (i : ℕ) → i < length sums.new → unsigned_abs (slice_index_or sums.new i (pos 0)) ≤ 2 ^ 61 }
     {
-        let mut first = [0; 2048];
-        convolve_modulo(&self.first, window, &mut first[..size]);
-        let mut second = [0; 2048];
-        convolve_modulo(&self.second, window, &mut second[..size]);
-        'places: for place in 0..sums.len() {
-            let sum = joined_two(first[place], second[place]);
-            sums[place] = 256 * sum;
+        let mut values = [0; SIZE];
+        convolve_upper_modulo(&self.first, window, &mut values);
+        widen(&values, sums);
+        convolve_upper_modulo(&self.second, window, &mut values);
+        'places: for (place, sum) in sums.iter_mut().enumerate() {
+            *sum = 256 * joined_two(*sum as u32, values[place]);
         }
     }
 
-    /// Writes the sums of prepared weights times as many samples of the window, at most as many as one transform of that size
+    /// Writes the sums of prepared weights times as many samples of the window, at most as many as one transform of SIZE numbers
     /// gives.
-    fn convolve_whole(&self, size: usize, weights: usize, window: &[i32], sums: &mut [i64])
-        requires size { (size ≡ 1024) ⊎ (size ≡ 2048) }
+    #[inline(never)]
+    fn convolve_whole<const SIZE: usize>(&self, weights: usize, window: &[i32], sums: &mut [i64])
+        requires size { (SIZE ≡ 1024) ⊎ (SIZE ≡ 2048) }
         requires window { weights + length sums.old ≤ length window.now + 1 }
-        requires bound { length window.now < size }
+        requires bound { length window.now < SIZE }
         requires prepared { (ws : List ℤ) × (length ws ≡ weights) × ArePrepared self.now ws }
         ensures sums { (ws : List ℤ) → length ws ≡ weights → ArePrepared self.now ws → (i : ℕ) → i < length sums.new → slice_index_or sums.new i (pos 0) ≡ sum_of_products (drop i window.now) ws }
         ensures bound { (i : ℕ) → i < length sums.new → unsigned_abs (slice_index_or sums.new i (pos 0)) ≤ 2 ^ 61 }
     {
-        let mut first = [0; 2048];
-        convolve_modulo(&self.first, window, &mut first[..size]);
-        let mut second = [0; 2048];
-        convolve_modulo(&self.second, window, &mut second[..size]);
-        let mut third = [0; 2048];
-        convolve_modulo(&self.third, window, &mut third[..size]);
-        'places: for place in 0..sums.len() {
-            sums[place] = joined_three(first[place], second[place], third[place]);
+        let mut values = [0; SIZE];
+        convolve_modulo(&self.first, window, &mut values);
+        widen(&values, sums);
+        convolve_modulo(&self.second, window, &mut values);
+        let mut third = [0; SIZE];
+        convolve_modulo(&self.third, window, &mut third);
+        'places: for (place, sum) in sums.iter_mut().enumerate() {
+            *sum = joined_three(*sum as u32, values[place], third[place]);
+        }
+    }
+
+    /// The same for samples of either kind.
+    fn convolve_any<const SIZE: usize>(&self, weights: usize, window: &[i32], sums: &mut [i64])
+        requires size { (SIZE ≡ 1024) ⊎ (SIZE ≡ 2048) }
+        requires window { weights + length sums.old ≤ length window.now + 1 }
+        requires piece { weights + length sums.old ≤ SIZE }
+        requires prepared { (ws : List ℤ) × (length ws ≡ weights) × ArePrepared self.now ws }
+        ensures sums { (ws : List ℤ) → length ws ≡ weights → ArePrepared self.now ws → (i : ℕ) → i < length sums.new → slice_index_or sums.new i (pos 0) ≡ sum_of_products (drop i window.now) ws }
+        ensures bound { (i : ℕ) → i < length sums.new → unsigned_abs (slice_index_or sums.new i (pos 0)) ≤ 2 ^ 61 }
+    {
+        let piece = &window[..window.len().min(SIZE - 1)];
+        if are_upper(piece) {
+            self.convolve_upper::<SIZE>(weights, piece, sums);
+        } else {
+            self.convolve_whole::<SIZE>(weights, piece, sums);
         }
     }
 
@@ -149,18 +166,10 @@ impl Transforms {
         ensures sums { (ws : List ℤ) → length ws ≡ weights → ArePrepared self.now ws → (i : ℕ) → i < length sums.new → slice_index_or sums.new i (pos 0) ≡ sum_of_products (drop i window.now) ws }
         ensures bound { (i : ℕ) → i < length sums.new → unsigned_abs (slice_index_or sums.new i (pos 0)) ≤ 2 ^ 61 }
     {
-        let size = if weights + sums.len() <= 1024 {
-            1024
+        if weights + sums.len() <= 1024 {
+            self.convolve_any::<1024>(weights, window, sums);
         } else {
-            2048
-        };
-        let piece = &window[..window.len().min(size - 1)];
-        let mut upper = [0; 2048];
-        let upper = &mut upper[..piece.len()];
-        if divide(piece, upper) {
-            self.convolve_upper(size, weights, upper, sums);
-        } else {
-            self.convolve_whole(size, weights, piece, sums);
+            self.convolve_any::<2048>(weights, window, sums);
         }
     }
 }

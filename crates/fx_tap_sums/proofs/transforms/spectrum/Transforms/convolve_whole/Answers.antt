@@ -1,52 +1,53 @@
-use Rattle.std.proofs.Common.{arith, rules, refl, ◌≡◌, ◌<◌, ◌≤◌, ◌^◌, ℤ, pos, List, length, get_or, drop, unsigned_abs}
-use Rattle.fx_tap_sums.specs.declared.transforms.remainders.TheConstants.{FIRST, SECOND, THIRD}
+use Rattle.std.proofs.Common.{arith, refl, ◌≡◌, ◌∙◌, ◌<◌, ◌≤◌, ◌*◌, ◌^◌, ℕ, ℤ, pos, List, length, get_or, drop, unsigned_abs}
+use Rattle.fx_tap_sums.specs.declared.transforms.remainders.TheConstants.{FIRST}
 use Rattle.fx_tap_sums.specs.Products.{sum_of_products}
 use Rattle.fx_tap_sums.proofs.CyclicSums.{sum_bound}
 use Rattle.fx_tap_sums.proofs.SmallSums.{held-in-64}
-use Rattle.fx_tap_sums.proofs.Writes.{each_more, same-front}
+use Rattle.fx_tap_sums.proofs.Writes.{each_left, each_more, kept-same}
 use Rattle.fx_tap_sums.proofs.transforms.spectrum.Transforms.convolve_whole.Goals as goal
 
 pub joined_three-requires-clause-is : goal.joined_three-requires-clause-is
-joined_three-requires-clause-is c =
+joined_three-requires-clause-is g c =
     let i = c.places.place in
     let w = c.args.window.now in
     let given = c.requires.prepared in
     let ws : List ℤ = given.0 in
     let long : length ws ≡ c.args.weights = given.1 in
     let x : ℤ = sum_of_products (drop i w) ws in
-    let first_long : length c.convolve_modulo.new.values ≡ c.args.size = search rules in
-    let second_long : length c.convolve_modulo-2.new.values ≡ c.args.size = search rules in
-    let third_long : length c.convolve_modulo-3.new.values ≡ c.args.size = search rules in
-    let lt : i < c.args.size = omega arith in
+    let n : ℕ = get_or c.convolve_modulo.new.values i 0 in
+    let less : n < 4 * FIRST = c.convolve_modulo.ensures.remainders i (omega arith) in
+    let held : get_or c.places.sums i (pos 0) ≡ pos n = c.places.invariant.left i (omega arith) ∙ c.widen.ensures i (omega arith) in
     let bound : unsigned_abs x ≤ 2 ^ 61 = sum_bound (2 ^ 31) w ws i c.convolve_modulo.ensures.samples given.2.two.small in (
       x,
       bound,
-      same-front (pos FIRST) x c.convolve_modulo.new.values _ i (omega (arith, first_long, lt)) (c.convolve_modulo.ensures.sums ws i given.2.two.first (omega arith)),
-      same-front (pos SECOND) x c.convolve_modulo-2.new.values _ i (omega (arith, second_long, lt)) (c.convolve_modulo-2.ensures.sums ws i given.2.two.second (omega arith)),
-      same-front (pos THIRD) x c.convolve_modulo-3.new.values _ i (omega (arith, third_long, lt)) (c.convolve_modulo-3.ensures.sums ws i given.2.third (omega arith)),
+      kept-same (pos FIRST) x (get_or c.places.sums i (pos 0)) n held (omega (arith, less)) (c.convolve_modulo.ensures.sums ws i given.2.two.first (omega arith)),
+      c.convolve_modulo-2.ensures.sums ws i given.2.two.second (omega arith),
+      c.convolve_modulo-3.ensures.sums ws i given.2.third (omega arith),
     )
 
 pub places-preserved : goal.places-preserved
-places-preserved c = λ ws long prepared.
-    let i = c.places.place in
-    let w = c.args.window.now in
-    let x : ℤ = sum_of_products (drop i w) ws in
-    let first_long : length c.convolve_modulo.new.values ≡ c.args.size = search rules in
-    let second_long : length c.convolve_modulo-2.new.values ≡ c.args.size = search rules in
-    let third_long : length c.convolve_modulo-3.new.values ≡ c.args.size = search rules in
-    let lt : i < c.args.size = omega arith in
-    let bound : unsigned_abs x ≤ 2 ^ 61 = sum_bound (2 ^ 31) w ws i c.convolve_modulo.ensures.samples prepared.two.small in
-    let is : c.joined_three.result ≡ x = c.joined_three.ensures x bound (same-front (pos FIRST) x c.convolve_modulo.new.values _ i (omega (arith, first_long, lt)) (c.convolve_modulo.ensures.sums ws i prepared.two.first (omega arith)))
-    (same-front (pos SECOND) x c.convolve_modulo-2.new.values _ i (omega (arith, second_long, lt)) (c.convolve_modulo-2.ensures.sums ws i prepared.two.second (omega arith)))
-    (same-front (pos THIRD) x c.convolve_modulo-3.new.values _ i (omega (arith, third_long, lt)) (c.convolve_modulo-3.ensures.sums ws i prepared.third (omega arith))) in
-    rw (is, held-in-64 x (omega (arith, bound)))
-    (each_more (pos 0) (λ k v. v ≡ sum_of_products (drop k w) ws) c.places.sums i x (omega arith) refl (c.places.invariant ws long prepared))
+places-preserved g c = record {
+  done = λ ws long prepared.
+      let i = c.places.place in
+      let w = c.args.window.now in
+      let x : ℤ = sum_of_products (drop i w) ws in
+      let n : ℕ = get_or c.convolve_modulo.new.values i 0 in
+      let less : n < 4 * FIRST = c.convolve_modulo.ensures.remainders i (omega arith) in
+      let held : get_or c.places.sums i (pos 0) ≡ pos n = c.places.invariant.left i (omega arith) ∙ c.widen.ensures i (omega arith) in
+      let bound : unsigned_abs x ≤ 2 ^ 61 = sum_bound (2 ^ 31) w ws i c.convolve_modulo.ensures.samples prepared.two.small in
+      let is : c.joined_three.result ≡ x = c.joined_three.ensures x bound (kept-same (pos FIRST) x (get_or c.places.sums i (pos 0)) n held (omega (arith, less)) (c.convolve_modulo.ensures.sums ws i prepared.two.first (omega arith)))
+      (c.convolve_modulo-2.ensures.sums ws i prepared.two.second (omega arith))
+      (c.convolve_modulo-3.ensures.sums ws i prepared.third (omega arith)) in
+      rw (is, held-in-64 x (omega (arith, bound)))
+      (each_more (pos 0) (λ k v. v ≡ sum_of_products (drop k w) ws) c.places.sums i x (omega arith) refl (c.places.invariant.done ws long prepared));
+  left = each_left (pos 0) c.places.sums c.widen.new.wide c.places.place _ c.places.invariant.left;
+}
 
 pub returns-clause-bound : goal.returns-clause-bound
-returns-clause-bound c = λ i lt.
+returns-clause-bound g c = λ i lt.
     let w = c.args.window.now in
     let given = c.requires.prepared in
     let ws : List ℤ = given.0 in
     let long : length ws ≡ c.args.weights = given.1 in
-    let done : get_or c.places.sums i (pos 0) ≡ sum_of_products (drop i w) ws = c.places.invariant ws long given.2 i (omega arith) in
+    let done : get_or c.places.sums i (pos 0) ≡ sum_of_products (drop i w) ws = c.places.invariant.done ws long given.2 i (omega arith) in
     rw done (sum_bound (2 ^ 31) w ws i c.convolve_modulo.ensures.samples given.2.two.small)
