@@ -1,5 +1,5 @@
 -- Two steps of a transform at once, on quarters.
-use Rattle.std.proofs.Common.{◌≡◌, ◌+◌, ◌-◌, ◌*◌, ◌/◌, ◌^◌, ◌<◌, ◌≤◌, ◌∙◌, refl, ap, ℕ, zero, suc, ℤ, pos, neg_ℤ, ◌*ℤ◌, ◌+ℤ◌, List, [], ◌∷◌, ◌++◌, length, get_or, take, drop, arith}
+use Rattle.std.proofs.Common.{subst, ◌≡◌, ◌+◌, ◌-◌, ◌*◌, ◌/◌, ◌^◌, ◌<◌, ◌≤◌, ◌∙◌, refl, ap, ℕ, zero, suc, ℤ, pos, neg_ℤ, ◌*ℤ◌, ◌+ℤ◌, List, [], ◌∷◌, ◌++◌, length, get_or, take, drop, arith}
 use Rattle.std.specs.Prelude.{◌-ℤ◌}
 use Rattle.std.proofs.lemmas.Bool.{cases_lt}
 use Rattle.std.proofs.lemmas.Int.{ints}
@@ -90,10 +90,16 @@ difference_from p x w u s a b is first second = same_on p x (w *ℤ (u -ℤ s)) 
 at_loaded : (r : ℤ) (n k : ℕ) (lanes others xs ys : List ℕ) → get_or lanes k 0 ≡ get_or xs (n + k) 0 → get_or others k 0 ≡ get_or ys (n + k) 0 → spread_at r lanes others k ≡ spread_at r xs ys (n + k)
 at_loaded r n k lanes others xs ys first second = ap (λ z. pos z +ℤ (r *ℤ pos (get_or others k 0))) first ∙ ap (λ z. pos (get_or xs (n + k) 0) +ℤ (r *ℤ pos z)) second
 
-pub spread_loaded : (p r next x : ℤ) (n k : ℕ) (one two three four v1 v2 v3 v4 : List ℕ) → get_or one k 0 ≡ get_or v1 (n + k) 0 → get_or two k 0 ≡ get_or v2 (n + k) 0 → get_or three k 0 ≡ get_or v3 (n + k) 0 → get_or four k 0 ≡ get_or v4 (n + k) 0 →
-    Same p x (spread_at r one three k +ℤ (next *ℤ spread_at r two four k)) → Same p x (spread_at r v1 v3 (n + k) +ℤ (next *ℤ spread_at r v2 v4 (n + k)))
-spread_loaded p r next x n k one two three four v1 v2 v3 v4 first second third fourth is =
-    spread_from p x next (spread_at r one three k) (spread_at r two four k) (spread_at r v1 v3 (n + k)) (spread_at r v2 v4 (n + k)) is
+-- two steps by roots that were read, on numbers that were loaded; f and g are the signs
+pub spread_loaded : (p : ℤ) (f g : ℕ → ℤ) (root read next next_read : ℕ) (x : ℤ) (n k : ℕ) (one two three four v1 v2 v3 v4 : List ℕ) → read ≡ root → next_read ≡ next →
+    get_or one k 0 ≡ get_or v1 (n + k) 0 → get_or two k 0 ≡ get_or v2 (n + k) 0 → get_or three k 0 ≡ get_or v3 (n + k) 0 → get_or four k 0 ≡ get_or v4 (n + k) 0 →
+    Same p x (spread_at (f read) one three k +ℤ (g next_read *ℤ spread_at (f read) two four k)) → Same p x (spread_at (f root) v1 v3 (n + k) +ℤ (g next *ℤ spread_at (f root) v2 v4 (n + k)))
+spread_loaded p f g root read next next_read x n k one two three four v1 v2 v3 v4 root_is next_is first second third fourth is =
+    let B : ℕ → Type 0 = λ z. Same p x (spread_at (f z) one three k +ℤ (g next_read *ℤ spread_at (f z) two four k)) in
+    let C : ℕ → Type 0 = λ z. Same p x (spread_at (f root) one three k +ℤ (g z *ℤ spread_at (f root) two four k)) in
+    let here : Same p x (spread_at (f root) one three k +ℤ (g next *ℤ spread_at (f root) two four k)) = subst C next_is (subst B root_is is) in
+    let r : ℤ = f root in
+    spread_from p x (g next) (spread_at r one three k) (spread_at r two four k) (spread_at r v1 v3 (n + k)) (spread_at r v2 v4 (n + k)) here
     (same_is p (spread_at r one three k) (spread_at r v1 v3 (n + k)) (at_loaded r n k one three v1 v3 first third))
     (same_is p (spread_at r two four k) (spread_at r v2 v4 (n + k)) (at_loaded r n k two four v2 v4 second fourth))
 
@@ -107,12 +113,6 @@ pub record Quarters (m q : ℕ) (v low high one two three four : List ℕ) : Typ
   pub second : two ≡ drop q low
   pub third : three ≡ take q high
   pub fourth : four ≡ drop q high
-
--- the numbers of a table at a place and at both next ones
-pub record AreAt (table : List ℕ) (place here left right : ℕ) : Type 0 where
-  pub at_place : here ≡ get_or table place 0
-  pub even : left ≡ get_or table (2 * place) 0
-  pub odd : right ≡ get_or table (2 * place + 1) 0
 
 -- n is 2^levels times four: its half, and half of that
 pub record Quartered (levels n : ℕ) : Type 0 where
@@ -187,27 +187,32 @@ abbrev pub Multiplies : ℕ → List ℕ → ℕ → ℕ → ℕ → List ℕ �
 Multiplies p roots k m place x f u = (s : ℤ) (a h : List ℤ) → Same (pos p) (root_at roots place *ℤ root_at roots place) s → length a ≡ m → length h ≡ m → AreSame p x a → IsTransform p roots k place h f → IsProduct p (2 ^ k) (2 ^ k * inverse_of_word p) s a h u
 
 -- a step of two levels, the products of the quarters by those of a transform, and the step back make the product of the whole
-pub product_of_quarters : (p levels n k m j q place root left right inverse left_inverse right_inverse : ℕ) (roots inverses v low high one two three four f front back f1 f2 f3 f4 x1 x2 x3 x4 u1 u2 u3 u4 w1 w2 w3 w4 : List ℕ) →
+pub product_of_quarters : (p levels n k m j q place : ℕ) (roots inverses v low high one two three four f front back f1 f2 f3 f4 x1 x2 x3 x4 u1 u2 u3 u4 w1 w2 w3 w4 : List ℕ) →
     0 < p → Halved levels n k m → Halved k m j q → AreRoots p roots inverses → place < 64 →
-    AreAt roots place root left right → AreAt inverses place inverse left_inverse right_inverse →
     length v ≡ n → Quarters m q v low high one two three four → Quarters m q f front back f1 f2 f3 f4 →
     length x1 ≡ q → length x2 ≡ q → length x3 ≡ q → length x4 ≡ q →
     length u1 ≡ q → length u2 ≡ q → length u3 ≡ q → length u4 ≡ q →
     length w1 ≡ q → length w2 ≡ q → length w3 ≡ q → length w4 ≡ q →
-    ((i : ℕ) → i < length x1 → Same (pos p) (pos (get_or x1 i 0)) (spread_at (pos root) one three i +ℤ (pos left *ℤ spread_at (pos root) two four i))) →
-    ((i : ℕ) → i < length x1 → Same (pos p) (pos (get_or x2 i 0)) (spread_at (pos root) one three i +ℤ (neg_ℤ (pos left) *ℤ spread_at (pos root) two four i))) →
-    ((i : ℕ) → i < length x1 → Same (pos p) (pos (get_or x3 i 0)) (spread_at (neg_ℤ (pos root)) one three i +ℤ (pos right *ℤ spread_at (neg_ℤ (pos root)) two four i))) →
-    ((i : ℕ) → i < length x1 → Same (pos p) (pos (get_or x4 i 0)) (spread_at (neg_ℤ (pos root)) one three i +ℤ (neg_ℤ (pos right) *ℤ spread_at (neg_ℤ (pos root)) two four i))) →
+    ((i : ℕ) → i < length x1 → Same (pos p) (pos (get_or x1 i 0)) (spread_at (root_at roots place) one three i +ℤ (root_at roots (2 * place) *ℤ spread_at (root_at roots place) two four i))) →
+    ((i : ℕ) → i < length x1 → Same (pos p) (pos (get_or x2 i 0)) (spread_at (root_at roots place) one three i +ℤ (neg_ℤ (root_at roots (2 * place)) *ℤ spread_at (root_at roots place) two four i))) →
+    ((i : ℕ) → i < length x1 → Same (pos p) (pos (get_or x3 i 0)) (spread_at (neg_ℤ (root_at roots place)) one three i +ℤ (root_at roots (2 * place + 1) *ℤ spread_at (neg_ℤ (root_at roots place)) two four i))) →
+    ((i : ℕ) → i < length x1 → Same (pos p) (pos (get_or x4 i 0)) (spread_at (neg_ℤ (root_at roots place)) one three i +ℤ (neg_ℤ (root_at roots (2 * place + 1)) *ℤ spread_at (neg_ℤ (root_at roots place)) two four i))) →
     Multiplies p roots j q (2 * (2 * place)) x1 f4 u1 →
     Multiplies p roots j q (2 * (2 * place) + 1) x2 f3 u2 →
     Multiplies p roots j q (2 * (2 * place + 1)) x3 f2 u3 →
     Multiplies p roots j q (2 * (2 * place + 1) + 1) x4 f1 u4 →
     ((i : ℕ) → i < length w1 → Same (pos p) (pos (get_or w1 i 0)) (sum_at u1 u2 i +ℤ sum_at u3 u4 i)) →
-    ((i : ℕ) → i < length w1 → Same (pos p) (pos (get_or w2 i 0)) (difference_at (pos left_inverse) u1 u2 i +ℤ difference_at (pos right_inverse) u3 u4 i)) →
-    ((i : ℕ) → i < length w1 → Same (pos p) (pos (get_or w3 i 0)) (pos inverse *ℤ (sum_at u1 u2 i -ℤ sum_at u3 u4 i))) →
-    ((i : ℕ) → i < length w1 → Same (pos p) (pos (get_or w4 i 0)) (pos inverse *ℤ (difference_at (pos left_inverse) u1 u2 i -ℤ difference_at (pos right_inverse) u3 u4 i))) →
+    ((i : ℕ) → i < length w1 → Same (pos p) (pos (get_or w2 i 0)) (difference_at (root_at inverses (2 * place)) u1 u2 i +ℤ difference_at (root_at inverses (2 * place + 1)) u3 u4 i)) →
+    ((i : ℕ) → i < length w1 → Same (pos p) (pos (get_or w3 i 0)) (root_at inverses place *ℤ (sum_at u1 u2 i -ℤ sum_at u3 u4 i))) →
+    ((i : ℕ) → i < length w1 → Same (pos p) (pos (get_or w4 i 0)) (root_at inverses place *ℤ (difference_at (root_at inverses (2 * place)) u1 u2 i -ℤ difference_at (root_at inverses (2 * place + 1)) u3 u4 i))) →
     Multiplies p roots levels n place v f ((w1 ++ w2) ++ (w3 ++ w4))
-product_of_quarters p levels n k m j q place root left right inverse left_inverse right_inverse roots inverses v low high one two three four f front back f1 f2 f3 f4 x1 x2 x3 x4 u1 u2 u3 u4 w1 w2 w3 w4 some half quarter are less roots_are inverses_are v_long of_v of_f x1_long x2_long x3_long x4_long u1_long u2_long u3_long u4_long w1_long w2_long w3_long w4_long spread1 spread2 spread3 spread4 product1 product2 product3 product4 gather1 gather2 gather3 gather4 =
+product_of_quarters p levels n k m j q place roots inverses v low high one two three four f front back f1 f2 f3 f4 x1 x2 x3 x4 u1 u2 u3 u4 w1 w2 w3 w4 some half quarter are less v_long of_v of_f x1_long x2_long x3_long x4_long u1_long u2_long u3_long u4_long w1_long w2_long w3_long w4_long spread1 spread2 spread3 spread4 product1 product2 product3 product4 gather1 gather2 gather3 gather4 =
+    let root : ℕ = get_or roots place 0 in
+    let left : ℕ = get_or roots (2 * place) 0 in
+    let right : ℕ = get_or roots (2 * place + 1) 0 in
+    let inverse : ℕ = get_or inverses place 0 in
+    let left_inverse : ℕ = get_or inverses (2 * place) 0 in
+    let right_inverse : ℕ = get_or inverses (2 * place + 1) 0 in
     let twice = half.twice in
     let again = quarter.twice in
     let low_long : length low ≡ 2 * q = rw of_v.front (length-take-le m v (omega arith) ∙ again) in
@@ -236,19 +241,19 @@ product_of_quarters p levels n k m j q place root left right inverse left_invers
     let d34_is : (i : ℕ) → i < q → Same (pos p) (pos (get_or d34 i 0)) (difference_at (pos right_inverse) u3 u4 i) = λ i lt. weighed_difference p right_inverse u3 u4 i some long34 (omega arith) in
     let first : Multiplies p roots k m (2 * place) plus back (s12 ++ d12) =
     product_of_halves p k m j q (2 * place) left left_inverse roots inverses plus back (take q plus) (drop q plus) f3 f4 x1 x2 u1 u2 s12 d12
-    quarter are (omega arith) roots_are.even inverses_are.even (omega arith) refl refl of_f.third of_f.fourth x1_long x2_long s12_long
+    quarter are (omega arith) refl refl (omega arith) refl refl of_f.third of_f.fourth x1_long x2_long s12_long
     (λ i lt. second_level p m q (pos root) (pos left) v low high one two three four plus x1 of_v low_long high_long plus_long plus_is (λ i lt. spread1 i (omega arith)) i (omega arith))
     (λ i lt. second_level p m q (pos root) (neg_ℤ (pos left)) v low high one two three four plus x2 of_v low_long high_long plus_long plus_is (λ i lt. spread2 i (omega arith)) i (omega arith))
     product1 product2 (λ i lt. s12_is i (omega arith)) (λ i lt. d12_is i (omega arith)) in
     let second : Multiplies p roots k m (2 * place + 1) minus front (s34 ++ d34) =
     product_of_halves p k m j q (2 * place + 1) right right_inverse roots inverses minus front (take q minus) (drop q minus) f1 f2 x3 x4 u3 u4 s34 d34
-    quarter are (omega arith) roots_are.odd inverses_are.odd (omega arith) refl refl of_f.first of_f.second x3_long x4_long s34_long
+    quarter are (omega arith) refl refl (omega arith) refl refl of_f.first of_f.second x3_long x4_long s34_long
     (λ i lt. second_level p m q (neg_ℤ (pos root)) (pos right) v low high one two three four minus x3 of_v low_long high_long minus_long minus_is (λ i lt. spread3 i (omega arith)) i (omega arith))
     (λ i lt. second_level p m q (neg_ℤ (pos root)) (neg_ℤ (pos right)) v low high one two three four minus x4 of_v low_long high_long minus_long minus_is (λ i lt. spread4 i (omega arith)) i (omega arith))
     product3 product4 (λ i lt. s34_is i (omega arith)) (λ i lt. d34_is i (omega arith)) in
     let w12 = length-append w1 w2 in
     product_of_halves p levels n k m place root inverse roots inverses v f low high front back plus minus (s12 ++ d12) (s34 ++ d34) (w1 ++ w2) (w3 ++ w4)
-    half are (omega arith) roots_are.at_place inverses_are.at_place v_long of_v.front of_v.back of_f.front of_f.back (omega arith) (omega arith) (omega arith)
+    half are (omega arith) refl refl v_long of_v.front of_v.back of_f.front of_f.back (omega arith) (omega arith) (omega arith)
     (λ i lt. plus_is i (omega arith)) (λ i lt. minus_is i (omega arith))
     first second
     (λ i lt. of_both q (λ x u s. Same (pos p) (pos x) (pos u +ℤ pos s)) w1 w2 s12 d12 s34 d34 w1_long w2_long s12_long s34_long

@@ -55,19 +55,20 @@ fn gather<const P: u32>(inverse: Factor<P>, low: &mut [u32], high: &mut [u32])
     }
 }
 
-/// Two levels of `spread` in one pass: the first and third, and the second and fourth by `root`, then the first and second by
-/// `low_root`, and the third and fourth by `high_root`. The bound of all grows by four times the modulus.
+/// Two levels of `spread` in one pass: the first and third, and the second and fourth by the root at a place, then the first
+/// and second, and the third and fourth, by the roots at the next two places. The bound of all grows by four times the modulus.
 #[inline(always)]
 fn spread_quarters<const P: u32>(
-    root: Factor<P>,
-    low_root: Factor<P>,
-    high_root: Factor<P>,
+    roots: &[Factor<P>],
+    place: usize,
     first: &mut [u32],
     second: &mut [u32],
     third: &mut [u32],
     fourth: &mut [u32],
 )
     requires modulus { IsModulus P }
+    requires table { length roots.now ≡ 256 }
+    requires place { place < 128 }
     requires groups { (n : ℕ) × (length first.old ≡ 4 * n) }
     requires as_many { length first.old ≡ length second.old }
     requires as_many_third { length first.old ≡ length third.old }
@@ -80,11 +81,14 @@ fn spread_quarters<const P: u32>(
     ensures second_less { (bound : ℕ) → AreRemainders bound first.old → AreRemainders (bound + 4 * P) second.new }
     ensures third_less { (bound : ℕ) → AreRemainders bound first.old → AreRemainders (bound + 4 * P) third.new }
     ensures fourth_less { (bound : ℕ) → AreRemainders bound first.old → AreRemainders (bound + 4 * P) fourth.new }
-    ensures first { (i : ℕ) → i < length first.new → Same (pos P) (pos (slice_index_or first.new i 0)) (spread_at (pos root.entry) first.old third.old i +ℤ (pos low_root.entry *ℤ spread_at (pos root.entry) second.old fourth.old i)) }
-    ensures second { (i : ℕ) → i < length first.new → Same (pos P) (pos (slice_index_or second.new i 0)) (spread_at (pos root.entry) first.old third.old i +ℤ (neg_ℤ (pos low_root.entry) *ℤ spread_at (pos root.entry) second.old fourth.old i)) }
-    ensures third { (i : ℕ) → i < length first.new → Same (pos P) (pos (slice_index_or third.new i 0)) (spread_at (neg_ℤ (pos root.entry)) first.old third.old i +ℤ (pos high_root.entry *ℤ spread_at (neg_ℤ (pos root.entry)) second.old fourth.old i)) }
-    ensures fourth { (i : ℕ) → i < length first.new → Same (pos P) (pos (slice_index_or fourth.new i 0)) (spread_at (neg_ℤ (pos root.entry)) first.old third.old i +ℤ (neg_ℤ (pos high_root.entry) *ℤ spread_at (neg_ℤ (pos root.entry)) second.old fourth.old i)) }
+    ensures first { (i : ℕ) → i < length first.new → Same (pos P) (pos (slice_index_or first.new i 0)) (spread_at (root_at roots.now place) first.old third.old i +ℤ (root_at roots.now (2 * place) *ℤ spread_at (root_at roots.now place) second.old fourth.old i)) }
+    ensures second { (i : ℕ) → i < length first.new → Same (pos P) (pos (slice_index_or second.new i 0)) (spread_at (root_at roots.now place) first.old third.old i +ℤ (neg_ℤ (root_at roots.now (2 * place)) *ℤ spread_at (root_at roots.now place) second.old fourth.old i)) }
+    ensures third { (i : ℕ) → i < length first.new → Same (pos P) (pos (slice_index_or third.new i 0)) (spread_at (neg_ℤ (root_at roots.now place)) first.old third.old i +ℤ (root_at roots.now (2 * place + 1) *ℤ spread_at (neg_ℤ (root_at roots.now place)) second.old fourth.old i)) }
+    ensures fourth { (i : ℕ) → i < length first.new → Same (pos P) (pos (slice_index_or fourth.new i 0)) (spread_at (neg_ℤ (root_at roots.now place)) first.old third.old i +ℤ (neg_ℤ (root_at roots.now (2 * place + 1)) *ℤ spread_at (neg_ℤ (root_at roots.now place)) second.old fourth.old i)) }
 {
+    let root = roots[place];
+    let low_root = roots[2 * place];
+    let high_root = roots[2 * place + 1];
     'groups: for group in 0..first.len() / 4 {
         let at = 4 * group;
         let (one, two, three, four) = spread_two_levels(
@@ -106,15 +110,16 @@ fn spread_quarters<const P: u32>(
 /// Two levels of `gather` in one pass: the way back of `spread_quarters`.
 #[inline(always)]
 fn gather_quarters<const P: u32>(
-    inverse: Factor<P>,
-    low_inverse: Factor<P>,
-    high_inverse: Factor<P>,
+    inverses: &[Factor<P>],
+    place: usize,
     first: &mut [u32],
     second: &mut [u32],
     third: &mut [u32],
     fourth: &mut [u32],
 )
     requires modulus { IsModulus P }
+    requires table { length inverses.now ≡ 256 }
+    requires place { place < 128 }
     requires groups { (n : ℕ) × (length first.old ≡ 4 * n) }
     requires as_many { length first.old ≡ length second.old }
     requires as_many_third { length first.old ≡ length third.old }
@@ -128,10 +133,13 @@ fn gather_quarters<const P: u32>(
     ensures third_less { AreRemainders (4 * P) third.new }
     ensures fourth_less { AreRemainders (4 * P) fourth.new }
     ensures first { (i : ℕ) → i < length first.new → Same (pos P) (pos (slice_index_or first.new i 0)) (sum_at first.old second.old i +ℤ sum_at third.old fourth.old i) }
-    ensures second { (i : ℕ) → i < length first.new → Same (pos P) (pos (slice_index_or second.new i 0)) (difference_at (pos low_inverse.entry) first.old second.old i +ℤ difference_at (pos high_inverse.entry) third.old fourth.old i) }
-    ensures third { (i : ℕ) → i < length first.new → Same (pos P) (pos (slice_index_or third.new i 0)) (pos inverse.entry *ℤ (sum_at first.old second.old i -ℤ sum_at third.old fourth.old i)) }
-    ensures fourth { (i : ℕ) → i < length first.new → Same (pos P) (pos (slice_index_or fourth.new i 0)) (pos inverse.entry *ℤ (difference_at (pos low_inverse.entry) first.old second.old i -ℤ difference_at (pos high_inverse.entry) third.old fourth.old i)) }
+    ensures second { (i : ℕ) → i < length first.new → Same (pos P) (pos (slice_index_or second.new i 0)) (difference_at (root_at inverses.now (2 * place)) first.old second.old i +ℤ difference_at (root_at inverses.now (2 * place + 1)) third.old fourth.old i) }
+    ensures third { (i : ℕ) → i < length first.new → Same (pos P) (pos (slice_index_or third.new i 0)) (root_at inverses.now place *ℤ (sum_at first.old second.old i -ℤ sum_at third.old fourth.old i)) }
+    ensures fourth { (i : ℕ) → i < length first.new → Same (pos P) (pos (slice_index_or fourth.new i 0)) (root_at inverses.now place *ℤ (difference_at (root_at inverses.now (2 * place)) first.old second.old i -ℤ difference_at (root_at inverses.now (2 * place + 1)) third.old fourth.old i)) }
 {
+    let inverse = inverses[place];
+    let low_inverse = inverses[2 * place];
+    let high_inverse = inverses[2 * place + 1];
     'groups: for group in 0..first.len() / 4 {
         let at = 4 * group;
         let (one, two, three, four) = gather_two_levels(
@@ -283,15 +291,7 @@ fn multiply_thirty_two<const P: u32>(
     let (third, fourth) = high.split_at_mut(8);
     let left = 2 * place;
     let right = 2 * place + 1;
-    spread_quarters(
-        roots[place],
-        roots[left],
-        roots[right],
-        first,
-        second,
-        third,
-        fourth,
-    );
+    spread_quarters(roots, place, first, second, third, fourth);
     let (front, back) = spectrum.split_at(16);
     let (one, two) = front.split_at(8);
     let (three, four) = back.split_at(8);
@@ -299,15 +299,7 @@ fn multiply_thirty_two<const P: u32>(
     multiply_eight(roots[2 * left + 1], inverses[2 * left + 1], three, second);
     multiply_eight(roots[2 * right], inverses[2 * right], two, third);
     multiply_eight(roots[2 * right + 1], inverses[2 * right + 1], one, fourth);
-    gather_quarters(
-        inverses[place],
-        inverses[left],
-        inverses[right],
-        first,
-        second,
-        third,
-        fourth,
-    );
+    gather_quarters(inverses, place, first, second, third, fourth);
 }
 
 /// As `multiply`, 64 numbers: by one level, since two would leave sixteen.
@@ -376,15 +368,7 @@ pub(crate) fn multiply<const P: u32>(
     let (third, fourth) = high.split_at_mut(half / 2);
     let left = 2 * place;
     let right = 2 * place + 1;
-    spread_quarters(
-        roots[place],
-        roots[left],
-        roots[right],
-        first,
-        second,
-        third,
-        fourth,
-    );
+    spread_quarters(roots, place, first, second, third, fourth);
     let (front, back) = spectrum.split_at(half);
     let (one, two) = front.split_at(half / 2);
     let (three, four) = back.split_at(half / 2);
@@ -399,13 +383,5 @@ pub(crate) fn multiply<const P: u32>(
     multiply(roots, inverses, levels - 2, 2 * left + 1, three, second);
     multiply(roots, inverses, levels - 2, 2 * right, two, third);
     multiply(roots, inverses, levels - 2, 2 * right + 1, one, fourth);
-    gather_quarters(
-        inverses[place],
-        inverses[left],
-        inverses[right],
-        first,
-        second,
-        third,
-        fourth,
-    );
+    gather_quarters(inverses, place, first, second, third, fourth);
 }

@@ -1,8 +1,8 @@
-use Rattle.std.proofs.Common.{arith, ◌≡◌, ◌<◌, ◌≤◌, ◌+◌, ◌-◌, ◌*◌, ◌/◌, ◌^◌, ◌∙◌, refl, sym, ℕ, length}
+use Rattle.std.proofs.Common.{arith, ◌≡◌, ◌<◌, ◌≤◌, ◌-◌, ◌*◌, ◌/◌, ◌^◌, ◌∙◌, refl, sym, ℕ, length}
 use Rattle.std.proofs.lemmas.Nat.{mul-le}
 use Rattle.fx_tap_sums.specs.Residues.{AreRemainders}
-use Rattle.fx_tap_sums.proofs.Quarters.{AreAt, Quarters, place_of_quarters, product_of_quarters, quartered, quarters_are, quarters_fit}
-use Rattle.fx_tap_sums.proofs.Steps.{levels_bound, place_less, read_at}
+use Rattle.fx_tap_sums.proofs.Quarters.{Quarters, place_of_quarters, product_of_quarters, quartered, quarters_are, quarters_fit}
+use Rattle.fx_tap_sums.proofs.Steps.{levels_bound, place_less}
 use Rattle.fx_tap_sums.proofs.Writes.{remainders_both, remainders_wider}
 use Rattle.fx_tap_sums.proofs.transforms.transform.+multiply.Goals as goal
 
@@ -32,66 +32,6 @@ returns-then-levels-eq4-clause-product g t c = λ s a h square a_long h_long sam
     let long : length c.args.values.now ≡ 64 = c.requires.power ∙ rw c.if-levels-eq4.true refl in
     rw c.if-levels-eq4.true (c.multiply_sixty_four.ensures.product s a h square (a_long ∙ long) (h_long ∙ long) same (rw c.if-levels-eq4.true at transform))
 
-pub bounds-roots-place : goal.bounds-roots-place
-bounds-roots-place g t c =
-    let v = c.args.values.now in
-    let n : ℕ = length v in
-    let p = g.row.P in
-    let levels = c.args.levels in
-    let some : 5 ≤ levels = omega (arith, c.requires.levels, c.if-levels-eq3.false, c.if-levels-eq4.false) in
-    let less = place_of_quarters levels n c.args.place c.requires.power some c.requires.place in
-    omega (arith, less, c.requires.table)
-
-pub bounds-roots-left : goal.bounds-roots-left
-bounds-roots-left g t c =
-    let v = c.args.values.now in
-    let n : ℕ = length v in
-    let p = g.row.P in
-    let levels = c.args.levels in
-    let some : 5 ≤ levels = omega (arith, c.requires.levels, c.if-levels-eq3.false, c.if-levels-eq4.false) in
-    let less = place_of_quarters levels n c.args.place c.requires.power some c.requires.place in
-    omega (arith, less, c.requires.table)
-
-pub bounds-roots-right : goal.bounds-roots-right
-bounds-roots-right g t c =
-    let v = c.args.values.now in
-    let n : ℕ = length v in
-    let p = g.row.P in
-    let levels = c.args.levels in
-    let some : 5 ≤ levels = omega (arith, c.requires.levels, c.if-levels-eq3.false, c.if-levels-eq4.false) in
-    let less = place_of_quarters levels n c.args.place c.requires.power some c.requires.place in
-    omega (arith, less, c.requires.table)
-
-pub bounds-inverses-place : goal.bounds-inverses-place
-bounds-inverses-place g t c =
-    let v = c.args.values.now in
-    let n : ℕ = length v in
-    let p = g.row.P in
-    let levels = c.args.levels in
-    let some : 5 ≤ levels = omega (arith, c.requires.levels, c.if-levels-eq3.false, c.if-levels-eq4.false) in
-    let less = place_of_quarters levels n c.args.place c.requires.power some c.requires.place in
-    omega (arith, less, c.requires.beside)
-
-pub bounds-inverses-left : goal.bounds-inverses-left
-bounds-inverses-left g t c =
-    let v = c.args.values.now in
-    let n : ℕ = length v in
-    let p = g.row.P in
-    let levels = c.args.levels in
-    let some : 5 ≤ levels = omega (arith, c.requires.levels, c.if-levels-eq3.false, c.if-levels-eq4.false) in
-    let less = place_of_quarters levels n c.args.place c.requires.power some c.requires.place in
-    omega (arith, less, c.requires.beside)
-
-pub bounds-inverses-right : goal.bounds-inverses-right
-bounds-inverses-right g t c =
-    let v = c.args.values.now in
-    let n : ℕ = length v in
-    let p = g.row.P in
-    let levels = c.args.levels in
-    let some : 5 ≤ levels = omega (arith, c.requires.levels, c.if-levels-eq3.false, c.if-levels-eq4.false) in
-    let less = place_of_quarters levels n c.args.place c.requires.power some c.requires.place in
-    omega (arith, less, c.requires.beside)
-
 pub spread_quarters-requires : goal.spread_quarters-requires
 spread_quarters-requires g t c =
     let v = c.args.values.now in
@@ -109,12 +49,13 @@ spread_quarters-requires g t c =
     let two : length c.split_at_mut-first.result.1.now ≡ n / 2 / 2 = omega (arith, c.split_at_mut-first.ensures.back_len, low, twice) in
     let three : length c.split_at_mut-third.result.0.now ≡ n / 2 / 2 = c.split_at_mut-third.ensures.front_len in
     let four : length c.split_at_mut-third.result.1.now ≡ n / 2 / 2 = omega (arith, c.split_at_mut-third.ensures.back_len, high, long, twice) in
+    let limit = place_of_quarters levels n c.args.place c.requires.power some c.requires.place in
     let bound : ℕ = (22 - 2 * levels) * p in
     let self : p ≤ p = omega arith in
     let less : bound ≤ 18 * p = mul-le (22 - 2 * levels) p 18 p (omega (arith, some)) self in
     let below : AreRemainders (18 * p) v = remainders_wider bound (18 * p) v less c.requires.values in
     let fit = quarters_fit p (n / 2) (n / 2 / 2) v c.split_at_mut-low.result.0.now c.split_at_mut-low.result.1.now c.split_at_mut-first.result.0.now c.split_at_mut-first.result.1.now c.split_at_mut-third.result.0.now c.split_at_mut-third.result.1.now c.requires.modulus of_v long twice below in
-    (omega arith, (c.requires.modulus, ((2 ^ (levels - 2), one ∙ sizes.second.power), (omega (arith, one, two), (omega (arith, one, three), (omega (arith, one, four), fit))))))
+    (omega arith, (c.requires.modulus, (c.requires.table, (omega (arith, limit), ((2 ^ (levels - 2), one ∙ sizes.second.power), (omega (arith, one, two), (omega (arith, one, three), (omega (arith, one, four), fit))))))))
 
 pub is_quarter-requires-clause-bound : goal.is_quarter-requires-clause-bound
 is_quarter-requires-clause-bound g t c = levels_bound c.args.levels (length c.args.values.now) c.args.place c.requires.power c.requires.place
@@ -188,6 +129,28 @@ is_quarter-requires-4-clause-values g t c =
     let values = quarters_are bound (n / 2) (n / 2 / 2) v c.split_at_mut-low.result.0.now c.split_at_mut-low.result.1.now c.split_at_mut-first.result.0.now c.split_at_mut-first.result.1.now c.split_at_mut-third.result.0.now c.split_at_mut-third.result.1.now of_v long twice c.requires.values in
     c.spread_quarters.ensures.fourth_less bound values.0
 
+pub gather_quarters-requires : goal.gather_quarters-requires
+gather_quarters-requires g t c =
+    let v = c.args.values.now in
+    let n : ℕ = length v in
+    let levels = c.args.levels in
+    let some : 5 ≤ levels = omega (arith, c.requires.levels, c.if-levels-eq3.false, c.if-levels-eq4.false) in
+    let sizes = quartered levels n c.requires.power (omega (arith, some)) in
+    let long : n ≡ 2 * (n / 2) = sizes.first.twice in
+    let twice : n / 2 ≡ 2 * (n / 2 / 2) = sizes.second.twice in
+    let low = c.split_at_mut-low.ensures.front_len in
+    let high = c.split_at_mut-low.ensures.back_len in
+    let one : length c.split_at_mut-first.result.0.now ≡ n / 2 / 2 = c.split_at_mut-first.ensures.front_len in
+    let two : length c.split_at_mut-first.result.1.now ≡ n / 2 / 2 = omega (arith, c.split_at_mut-first.ensures.back_len, low, twice) in
+    let three : length c.split_at_mut-third.result.0.now ≡ n / 2 / 2 = c.split_at_mut-third.ensures.front_len in
+    let four : length c.split_at_mut-third.result.1.now ≡ n / 2 / 2 = omega (arith, c.split_at_mut-third.ensures.back_len, high, long, twice) in
+    let one_long : length c.multiply.new.values ≡ n / 2 / 2 = c.multiply.auto.values ∙ c.spread_quarters.auto.first ∙ one in
+    let two_long : length c.multiply-2.new.values ≡ n / 2 / 2 = c.multiply-2.auto.values ∙ c.spread_quarters.auto.second ∙ two in
+    let three_long : length c.multiply-3.new.values ≡ n / 2 / 2 = c.multiply-3.auto.values ∙ c.spread_quarters.auto.third ∙ three in
+    let four_long : length c.multiply-4.new.values ≡ n / 2 / 2 = c.multiply-4.auto.values ∙ c.spread_quarters.auto.fourth ∙ four in
+    let limit = place_of_quarters levels n c.args.place c.requires.power some c.requires.place in
+    (omega arith, (c.requires.modulus, (c.requires.beside, (omega (arith, limit), ((2 ^ (levels - 2), one_long ∙ sizes.second.power), (omega (arith, one_long, two_long), (omega (arith, one_long, three_long), (omega (arith, one_long, four_long), (c.multiply.ensures.values, (c.multiply-2.ensures.values, (c.multiply-3.ensures.values, c.multiply-4.ensures.values)))))))))))
+
 pub returns-clause-values : goal.returns-clause-values
 returns-clause-values g t c =
     let p : ℕ = 4 * g.row.P in
@@ -222,19 +185,8 @@ returns-clause-product g t c =
     let three_long : length c.multiply-3.new.values ≡ n / 2 / 2 = c.multiply-3.auto.values ∙ c.spread_quarters.auto.third ∙ three in
     let four_long : length c.multiply-4.new.values ≡ n / 2 / 2 = c.multiply-4.auto.values ∙ c.spread_quarters.auto.fourth ∙ four in
     let limit : place < 64 = place_of_quarters levels n place c.requires.power some c.requires.place in
-    let less : 4 * place + 3 < 256 = omega (arith, limit) in
-    let roots_are : AreAt roots place c.index-roots-place.result c.index-roots-left.result c.index-roots-right.result = record {
-      at_place = read_at roots place c.index-roots-place.result (omega (arith, less, c.requires.table)) c.index-roots-place.is;
-      even = read_at roots (2 * place) c.index-roots-left.result (omega (arith, less, c.requires.table)) c.index-roots-left.is;
-      odd = read_at roots (2 * place + 1) c.index-roots-right.result (omega (arith, less, c.requires.table)) c.index-roots-right.is;
-    } in
-    let inverses_are : AreAt inverses place c.index-inverses-place.result c.index-inverses-left.result c.index-inverses-right.result = record {
-      at_place = read_at inverses place c.index-inverses-place.result (omega (arith, less, c.requires.beside)) c.index-inverses-place.is;
-      even = read_at inverses (2 * place) c.index-inverses-left.result (omega (arith, less, c.requires.beside)) c.index-inverses-left.is;
-      odd = read_at inverses (2 * place + 1) c.index-inverses-right.result (omega (arith, less, c.requires.beside)) c.index-inverses-right.is;
-    } in
-    product_of_quarters p levels n (levels - 1) (n / 2) (levels - 2) (n / 2 / 2) place c.index-roots-place.result c.index-roots-left.result c.index-roots-right.result c.index-inverses-place.result c.index-inverses-left.result c.index-inverses-right.result roots inverses v c.split_at_mut-low.result.0.now c.split_at_mut-low.result.1.now c.split_at_mut-first.result.0.now c.split_at_mut-first.result.1.now c.split_at_mut-third.result.0.now c.split_at_mut-third.result.1.now f c.split_at.result.0.now c.split_at.result.1.now c.split_at-2.result.0.now c.split_at-2.result.1.now c.split_at-3.result.0.now c.split_at-3.result.1.now c.spread_quarters.new.first c.spread_quarters.new.second c.spread_quarters.new.third c.spread_quarters.new.fourth c.multiply.new.values c.multiply-2.new.values c.multiply-3.new.values c.multiply-4.new.values c.gather_quarters.new.first c.gather_quarters.new.second c.gather_quarters.new.third c.gather_quarters.new.fourth
-    (omega (arith, c.requires.modulus)) sizes.first sizes.second c.requires.are limit roots_are inverses_are refl of_v of_f
+    product_of_quarters p levels n (levels - 1) (n / 2) (levels - 2) (n / 2 / 2) place roots inverses v c.split_at_mut-low.result.0.now c.split_at_mut-low.result.1.now c.split_at_mut-first.result.0.now c.split_at_mut-first.result.1.now c.split_at_mut-third.result.0.now c.split_at_mut-third.result.1.now f c.split_at.result.0.now c.split_at.result.1.now c.split_at-2.result.0.now c.split_at-2.result.1.now c.split_at-3.result.0.now c.split_at-3.result.1.now c.spread_quarters.new.first c.spread_quarters.new.second c.spread_quarters.new.third c.spread_quarters.new.fourth c.multiply.new.values c.multiply-2.new.values c.multiply-3.new.values c.multiply-4.new.values c.gather_quarters.new.first c.gather_quarters.new.second c.gather_quarters.new.third c.gather_quarters.new.fourth
+    (omega (arith, c.requires.modulus)) sizes.first sizes.second c.requires.are limit refl of_v of_f
     (c.spread_quarters.auto.first ∙ one) (c.spread_quarters.auto.second ∙ two) (c.spread_quarters.auto.third ∙ three) (c.spread_quarters.auto.fourth ∙ four)
     one_long two_long three_long four_long
     (c.gather_quarters.auto.first ∙ one_long) (c.gather_quarters.auto.second ∙ two_long) (c.gather_quarters.auto.third ∙ three_long) (c.gather_quarters.auto.fourth ∙ four_long)

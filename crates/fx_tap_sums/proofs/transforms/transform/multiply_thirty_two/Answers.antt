@@ -1,7 +1,7 @@
 use Rattle.std.proofs.Common.{arith, ◌≡◌, ◌<◌, ◌+◌, ◌*◌, ◌∙◌, refl, sym, ℕ, length, get_or}
 use Rattle.fx_tap_sums.specs.Residues.{AreRemainders}
 use Rattle.fx_tap_sums.proofs.Writes.{remainders_both, remainders_wider}
-use Rattle.fx_tap_sums.proofs.Quarters.{AreAt, Quarters, product_of_quarters, quarters_are, quarters_fit}
+use Rattle.fx_tap_sums.proofs.Quarters.{Quarters, product_of_quarters, quarters_are, quarters_fit}
 use Rattle.fx_tap_sums.proofs.Steps.{halved, read_at}
 use Rattle.fx_tap_sums.proofs.transforms.transform.multiply_thirty_two.Goals as goal
 
@@ -18,7 +18,7 @@ spread_quarters-requires g c =
     let four : length c.split_at_mut-third.result.1.now ≡ 8 = omega (arith, c.split_at_mut-third.ensures.back_len, high, c.requires.thirty_two) in
     let below : AreRemainders (18 * p) v = remainders_wider (16 * p) (18 * p) v (omega arith) c.requires.values in
     let fit = quarters_fit p 16 8 v c.split_at_mut-low.result.0.now c.split_at_mut-low.result.1.now c.split_at_mut-first.result.0.now c.split_at_mut-first.result.1.now c.split_at_mut-third.result.0.now c.split_at_mut-third.result.1.now c.requires.modulus of_v c.requires.thirty_two refl below in
-    (omega arith, (c.requires.modulus, ((2, omega (arith, one)), (omega (arith, one, two), (omega (arith, one, three), (omega (arith, one, four), fit))))))
+    (omega arith, (c.requires.modulus, (c.requires.table, (omega (arith, c.requires.place), ((2, omega (arith, one)), (omega (arith, one, two), (omega (arith, one, three), (omega (arith, one, four), fit))))))))
 
 pub multiply_eight-requires : goal.multiply_eight-requires
 multiply_eight-requires g c =
@@ -35,7 +35,7 @@ multiply_eight-requires g c =
     let four : length c.split_at_mut-third.result.1.now ≡ 8 = omega (arith, c.split_at_mut-third.ensures.back_len, high, c.requires.thirty_two) in
     let at : ℕ = 2 * (2 * c.args.place) in
     let less : at < 256 = omega (arith, c.requires.place) in
-    let root = read_at c.args.roots.now at c.index-roots-left-2.result (omega (arith, less, c.requires.table)) c.index-roots-left-2.is in
+    let root = read_at c.args.roots.now at c.index-roots-left.result (omega (arith, less, c.requires.table)) c.index-roots-left.is in
     let inverse = read_at c.args.inverses.now at c.index-inverses-left.result (omega (arith, less, c.requires.beside)) c.index-inverses-left.is in
     let values = quarters_are (16 * p) 16 8 v c.split_at_mut-low.result.0.now c.split_at_mut-low.result.1.now c.split_at_mut-first.result.0.now c.split_at_mut-first.result.1.now c.split_at_mut-third.result.0.now c.split_at_mut-third.result.1.now of_v c.requires.thirty_two refl c.requires.values in
     let weights = quarters_are p 16 8 f c.split_at.result.0.now c.split_at.result.1.now c.split_at-2.result.0.now c.split_at-2.result.1.now c.split_at-3.result.0.now c.split_at-3.result.1.now of_f c.requires.as_many refl c.requires.spectrum in
@@ -59,7 +59,7 @@ multiply_eight-requires-2 g c =
     let four : length c.split_at_mut-third.result.1.now ≡ 8 = omega (arith, c.split_at_mut-third.ensures.back_len, high, c.requires.thirty_two) in
     let at : ℕ = 2 * (2 * c.args.place) + 1 in
     let less : at < 256 = omega (arith, c.requires.place) in
-    let root = read_at c.args.roots.now at c.index-roots-left-3.result (omega (arith, less, c.requires.table)) c.index-roots-left-3.is in
+    let root = read_at c.args.roots.now at c.index-roots-left-2.result (omega (arith, less, c.requires.table)) c.index-roots-left-2.is in
     let inverse = read_at c.args.inverses.now at c.index-inverses-left-2.result (omega (arith, less, c.requires.beside)) c.index-inverses-left-2.is in
     let values = quarters_are (16 * p) 16 8 v c.split_at_mut-low.result.0.now c.split_at_mut-low.result.1.now c.split_at_mut-first.result.0.now c.split_at_mut-first.result.1.now c.split_at_mut-third.result.0.now c.split_at_mut-third.result.1.now of_v c.requires.thirty_two refl c.requires.values in
     let weights = quarters_are p 16 8 f c.split_at.result.0.now c.split_at.result.1.now c.split_at-2.result.0.now c.split_at-2.result.1.now c.split_at-3.result.0.now c.split_at-3.result.1.now of_f c.requires.as_many refl c.requires.spectrum in
@@ -83,7 +83,7 @@ multiply_eight-requires-3 g c =
     let four : length c.split_at_mut-third.result.1.now ≡ 8 = omega (arith, c.split_at_mut-third.ensures.back_len, high, c.requires.thirty_two) in
     let at : ℕ = 2 * (2 * c.args.place + 1) in
     let less : at < 256 = omega (arith, c.requires.place) in
-    let root = read_at c.args.roots.now at c.index-roots-right-2.result (omega (arith, less, c.requires.table)) c.index-roots-right-2.is in
+    let root = read_at c.args.roots.now at c.index-roots-right.result (omega (arith, less, c.requires.table)) c.index-roots-right.is in
     let inverse = read_at c.args.inverses.now at c.index-inverses-right.result (omega (arith, less, c.requires.beside)) c.index-inverses-right.is in
     let values = quarters_are (16 * p) 16 8 v c.split_at_mut-low.result.0.now c.split_at_mut-low.result.1.now c.split_at_mut-first.result.0.now c.split_at_mut-first.result.1.now c.split_at_mut-third.result.0.now c.split_at_mut-third.result.1.now of_v c.requires.thirty_two refl c.requires.values in
     let weights = quarters_are p 16 8 f c.split_at.result.0.now c.split_at.result.1.now c.split_at-2.result.0.now c.split_at-2.result.1.now c.split_at-3.result.0.now c.split_at-3.result.1.now of_f c.requires.as_many refl c.requires.spectrum in
@@ -107,7 +107,7 @@ multiply_eight-requires-4 g c =
     let four : length c.split_at_mut-third.result.1.now ≡ 8 = omega (arith, c.split_at_mut-third.ensures.back_len, high, c.requires.thirty_two) in
     let at : ℕ = 2 * (2 * c.args.place + 1) + 1 in
     let less : at < 256 = omega (arith, c.requires.place) in
-    let root = read_at c.args.roots.now at c.index-roots-right-3.result (omega (arith, less, c.requires.table)) c.index-roots-right-3.is in
+    let root = read_at c.args.roots.now at c.index-roots-right-2.result (omega (arith, less, c.requires.table)) c.index-roots-right-2.is in
     let inverse = read_at c.args.inverses.now at c.index-inverses-right-2.result (omega (arith, less, c.requires.beside)) c.index-inverses-right-2.is in
     let values = quarters_are (16 * p) 16 8 v c.split_at_mut-low.result.0.now c.split_at_mut-low.result.1.now c.split_at_mut-first.result.0.now c.split_at_mut-first.result.1.now c.split_at_mut-third.result.0.now c.split_at_mut-third.result.1.now of_v c.requires.thirty_two refl c.requires.values in
     let weights = quarters_are p 16 8 f c.split_at.result.0.now c.split_at.result.1.now c.split_at-2.result.0.now c.split_at-2.result.1.now c.split_at-3.result.0.now c.split_at-3.result.1.now of_f c.requires.as_many refl c.requires.spectrum in
@@ -128,7 +128,7 @@ gather_quarters-requires g c =
     let two_long : length c.multiply_eight-2.new.values ≡ 8 = c.multiply_eight-2.auto.values ∙ c.spread_quarters.auto.second ∙ two in
     let three_long : length c.multiply_eight-3.new.values ≡ 8 = c.multiply_eight-3.auto.values ∙ c.spread_quarters.auto.third ∙ three in
     let four_long : length c.multiply_eight-4.new.values ≡ 8 = c.multiply_eight-4.auto.values ∙ c.spread_quarters.auto.fourth ∙ four in
-    (omega arith, (c.requires.modulus, ((2, omega (arith, one_long)), (omega (arith, one_long, two_long), (omega (arith, one_long, three_long), (omega (arith, one_long, four_long), (c.multiply_eight.ensures.values, (c.multiply_eight-2.ensures.values, (c.multiply_eight-3.ensures.values, c.multiply_eight-4.ensures.values)))))))))
+    (omega arith, (c.requires.modulus, (c.requires.beside, (omega (arith, c.requires.place), ((2, omega (arith, one_long)), (omega (arith, one_long, two_long), (omega (arith, one_long, three_long), (omega (arith, one_long, four_long), (c.multiply_eight.ensures.values, (c.multiply_eight-2.ensures.values, (c.multiply_eight-3.ensures.values, c.multiply_eight-4.ensures.values)))))))))))
 
 pub returns-clause-values : goal.returns-clause-values
 returns-clause-values g c =
@@ -158,22 +158,12 @@ returns-clause-product g c =
     let three_long : length c.multiply_eight-3.new.values ≡ 8 = c.multiply_eight-3.auto.values ∙ c.spread_quarters.auto.third ∙ three in
     let four_long : length c.multiply_eight-4.new.values ≡ 8 = c.multiply_eight-4.auto.values ∙ c.spread_quarters.auto.fourth ∙ four in
     let less : 4 * place + 3 < 256 = omega (arith, c.requires.place) in
-    let roots_are : AreAt roots place c.index-roots-place.result c.index-roots-left.result c.index-roots-right.result = record {
-      at_place = read_at roots place c.index-roots-place.result (omega (arith, less, c.requires.table)) c.index-roots-place.is;
-      even = read_at roots (2 * place) c.index-roots-left.result (omega (arith, less, c.requires.table)) c.index-roots-left.is;
-      odd = read_at roots (2 * place + 1) c.index-roots-right.result (omega (arith, less, c.requires.table)) c.index-roots-right.is;
-    } in
-    let inverses_are : AreAt inverses place c.index-inverses-place.result c.index-inverses-left-3.result c.index-inverses-right-3.result = record {
-      at_place = read_at inverses place c.index-inverses-place.result (omega (arith, less, c.requires.beside)) c.index-inverses-place.is;
-      even = read_at inverses (2 * place) c.index-inverses-left-3.result (omega (arith, less, c.requires.beside)) c.index-inverses-left-3.is;
-      odd = read_at inverses (2 * place + 1) c.index-inverses-right-3.result (omega (arith, less, c.requires.beside)) c.index-inverses-right-3.is;
-    } in
-    let root1 : c.index-roots-left-2.result ≡ get_or roots (2 * (2 * place)) 0 = read_at roots (2 * (2 * place)) c.index-roots-left-2.result (omega (arith, less, c.requires.table)) c.index-roots-left-2.is in
-    let root2 : c.index-roots-left-3.result ≡ get_or roots (2 * (2 * place) + 1) 0 = read_at roots (2 * (2 * place) + 1) c.index-roots-left-3.result (omega (arith, less, c.requires.table)) c.index-roots-left-3.is in
-    let root3 : c.index-roots-right-2.result ≡ get_or roots (2 * (2 * place + 1)) 0 = read_at roots (2 * (2 * place + 1)) c.index-roots-right-2.result (omega (arith, less, c.requires.table)) c.index-roots-right-2.is in
-    let root4 : c.index-roots-right-3.result ≡ get_or roots (2 * (2 * place + 1) + 1) 0 = read_at roots (2 * (2 * place + 1) + 1) c.index-roots-right-3.result (omega (arith, less, c.requires.table)) c.index-roots-right-3.is in
-    product_of_quarters p 3 32 2 16 1 8 place c.index-roots-place.result c.index-roots-left.result c.index-roots-right.result c.index-inverses-place.result c.index-inverses-left-3.result c.index-inverses-right-3.result roots inverses v c.split_at_mut-low.result.0.now c.split_at_mut-low.result.1.now c.split_at_mut-first.result.0.now c.split_at_mut-first.result.1.now c.split_at_mut-third.result.0.now c.split_at_mut-third.result.1.now f c.split_at.result.0.now c.split_at.result.1.now c.split_at-2.result.0.now c.split_at-2.result.1.now c.split_at-3.result.0.now c.split_at-3.result.1.now c.spread_quarters.new.first c.spread_quarters.new.second c.spread_quarters.new.third c.spread_quarters.new.fourth c.multiply_eight.new.values c.multiply_eight-2.new.values c.multiply_eight-3.new.values c.multiply_eight-4.new.values c.gather_quarters.new.first c.gather_quarters.new.second c.gather_quarters.new.third c.gather_quarters.new.fourth
-    (omega (arith, c.requires.modulus)) (halved 3 32 refl (omega arith)) (halved 2 16 refl (omega arith)) c.requires.are c.requires.place roots_are inverses_are c.requires.thirty_two of_v of_f
+    let root1 : c.index-roots-left.result ≡ get_or roots (2 * (2 * place)) 0 = read_at roots (2 * (2 * place)) c.index-roots-left.result (omega (arith, less, c.requires.table)) c.index-roots-left.is in
+    let root2 : c.index-roots-left-2.result ≡ get_or roots (2 * (2 * place) + 1) 0 = read_at roots (2 * (2 * place) + 1) c.index-roots-left-2.result (omega (arith, less, c.requires.table)) c.index-roots-left-2.is in
+    let root3 : c.index-roots-right.result ≡ get_or roots (2 * (2 * place + 1)) 0 = read_at roots (2 * (2 * place + 1)) c.index-roots-right.result (omega (arith, less, c.requires.table)) c.index-roots-right.is in
+    let root4 : c.index-roots-right-2.result ≡ get_or roots (2 * (2 * place + 1) + 1) 0 = read_at roots (2 * (2 * place + 1) + 1) c.index-roots-right-2.result (omega (arith, less, c.requires.table)) c.index-roots-right-2.is in
+    product_of_quarters p 3 32 2 16 1 8 place roots inverses v c.split_at_mut-low.result.0.now c.split_at_mut-low.result.1.now c.split_at_mut-first.result.0.now c.split_at_mut-first.result.1.now c.split_at_mut-third.result.0.now c.split_at_mut-third.result.1.now f c.split_at.result.0.now c.split_at.result.1.now c.split_at-2.result.0.now c.split_at-2.result.1.now c.split_at-3.result.0.now c.split_at-3.result.1.now c.spread_quarters.new.first c.spread_quarters.new.second c.spread_quarters.new.third c.spread_quarters.new.fourth c.multiply_eight.new.values c.multiply_eight-2.new.values c.multiply_eight-3.new.values c.multiply_eight-4.new.values c.gather_quarters.new.first c.gather_quarters.new.second c.gather_quarters.new.third c.gather_quarters.new.fourth
+    (omega (arith, c.requires.modulus)) (halved 3 32 refl (omega arith)) (halved 2 16 refl (omega arith)) c.requires.are c.requires.place c.requires.thirty_two of_v of_f
     (c.spread_quarters.auto.first ∙ one) (c.spread_quarters.auto.second ∙ two) (c.spread_quarters.auto.third ∙ three) (c.spread_quarters.auto.fourth ∙ four)
     one_long two_long three_long four_long
     (c.gather_quarters.auto.first ∙ one_long) (c.gather_quarters.auto.second ∙ two_long) (c.gather_quarters.auto.third ∙ three_long) (c.gather_quarters.auto.fourth ∙ four_long)
