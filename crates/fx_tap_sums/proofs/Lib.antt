@@ -19,6 +19,7 @@ pub mod PartSums
 pub mod Primes
 pub mod ProductBounds
 pub mod ProductLanes
+pub mod Quarters
 pub mod Remainders
 pub mod Residues
 pub mod SmallSums

@@ -2,6 +2,7 @@ pub mod Lanes
 pub mod Pairs
 pub mod Prepared
 pub mod Products
+pub mod Quarters
 pub mod Residues
 pub mod SmallWeights
 pub mod Transform

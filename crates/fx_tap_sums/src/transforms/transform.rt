@@ -1,11 +1,15 @@
 //! Transforms of 2^levels times four remainders, in place. In the forward transform the numbers may grow by twice the modulus
 //! at each level, and they still fit 32 bits after all levels, so nothing is corrected.
 ghost use Rattle.std.specs.Prelude.{◌≡◌, ◌<◌, ◌≤◌, ◌+◌, ◌*◌, ◌^◌, ℕ, ℤ, List, pos, neg_ℤ, ◌+ℤ◌, ◌-ℤ◌, ◌*ℤ◌, ◌++◌, ◌-◌, length, slice_index_or};
+ghost use Rattle.fx_tap_sums.specs.Quarters.{difference_at, spread_at, sum_at};
 ghost use Rattle.fx_tap_sums.specs.Residues.{AreRemainders, AreSame, IsModulus, Same, inverse_of_word};
 ghost use Rattle.fx_tap_sums.specs.Transform.{AreRoots, IsProduct, IsTransform, root_at};
 
 use super::factor::Factor;
-use super::lanes::{gather_four, opposite_four, reduced_four, remainders_of_four, spread_four};
+use super::lanes::{
+    gather_four, gather_two_levels, opposite_four, reduced_four, remainders_of_four, spread_four,
+    spread_two_levels,
+};
 use super::leaf::multiply_four;
 use super::vectors::{load, put};
 
@@ -51,6 +55,109 @@ fn gather<const P: u32>(inverse: Factor<P>, low: &mut [u32], high: &mut [u32])
     }
 }
 
+/// Two levels of `spread` in one pass: the first and third, and the second and fourth by the root at a place, then the first
+/// and second, and the third and fourth, by the roots at the next two places. The bound of all grows by four times the modulus.
+#[inline(always)]
+fn spread_quarters<const P: u32>(
+    roots: &[Factor<P>],
+    place: usize,
+    first: &mut [u32],
+    second: &mut [u32],
+    third: &mut [u32],
+    fourth: &mut [u32],
+)
+    requires modulus { IsModulus P }
+    requires table { length roots.now ≡ 256 }
+    requires place { place < 128 }
+    requires groups { (n : ℕ) × (length first.old ≡ 4 * n) }
+    requires as_many { length first.old ≡ length second.old }
+    requires as_many_third { length first.old ≡ length third.old }
+    requires as_many_fourth { length first.old ≡ length fourth.old }
+    requires first { AreRemainders (2 ^ 32 - 4 * P) first.old }
+    requires second { AreRemainders (2 ^ 32 - 4 * P) second.old }
+    requires third { AreRemainders (2 ^ 32) third.old }
+    requires fourth { AreRemainders (2 ^ 32) fourth.old }
+    ensures first_less { (bound : ℕ) → AreRemainders bound first.old → AreRemainders (bound + 4 * P) first.new }
+    ensures second_less { (bound : ℕ) → AreRemainders bound first.old → AreRemainders (bound + 4 * P) second.new }
+    ensures third_less { (bound : ℕ) → AreRemainders bound first.old → AreRemainders (bound + 4 * P) third.new }
+    ensures fourth_less { (bound : ℕ) → AreRemainders bound first.old → AreRemainders (bound + 4 * P) fourth.new }
+    ensures first { (i : ℕ) → i < length first.new → Same (pos P) (pos (slice_index_or first.new i 0)) (spread_at (root_at roots.now place) first.old third.old i +ℤ (root_at roots.now (2 * place) *ℤ spread_at (root_at roots.now place) second.old fourth.old i)) }
+    ensures second { (i : ℕ) → i < length first.new → Same (pos P) (pos (slice_index_or second.new i 0)) (spread_at (root_at roots.now place) first.old third.old i +ℤ (neg_ℤ (root_at roots.now (2 * place)) *ℤ spread_at (root_at roots.now place) second.old fourth.old i)) }
+    ensures third { (i : ℕ) → i < length first.new → Same (pos P) (pos (slice_index_or third.new i 0)) (spread_at (neg_ℤ (root_at roots.now place)) first.old third.old i +ℤ (root_at roots.now (2 * place + 1) *ℤ spread_at (neg_ℤ (root_at roots.now place)) second.old fourth.old i)) }
+    ensures fourth { (i : ℕ) → i < length first.new → Same (pos P) (pos (slice_index_or fourth.new i 0)) (spread_at (neg_ℤ (root_at roots.now place)) first.old third.old i +ℤ (neg_ℤ (root_at roots.now (2 * place + 1)) *ℤ spread_at (neg_ℤ (root_at roots.now place)) second.old fourth.old i)) }
+{
+    let root = roots[place];
+    let low_root = roots[2 * place];
+    let high_root = roots[2 * place + 1];
+    'groups: for group in 0..first.len() / 4 {
+        let at = 4 * group;
+        let (one, two, three, four) = spread_two_levels(
+            root,
+            low_root,
+            high_root,
+            load(first, at),
+            load(second, at),
+            load(third, at),
+            load(fourth, at),
+        );
+        put(first, at, one);
+        put(second, at, two);
+        put(third, at, three);
+        put(fourth, at, four);
+    }
+}
+
+/// Two levels of `gather` in one pass: the way back of `spread_quarters`.
+#[inline(always)]
+fn gather_quarters<const P: u32>(
+    inverses: &[Factor<P>],
+    place: usize,
+    first: &mut [u32],
+    second: &mut [u32],
+    third: &mut [u32],
+    fourth: &mut [u32],
+)
+    requires modulus { IsModulus P }
+    requires table { length inverses.now ≡ 256 }
+    requires place { place < 128 }
+    requires groups { (n : ℕ) × (length first.old ≡ 4 * n) }
+    requires as_many { length first.old ≡ length second.old }
+    requires as_many_third { length first.old ≡ length third.old }
+    requires as_many_fourth { length first.old ≡ length fourth.old }
+    requires first { AreRemainders (4 * P) first.old }
+    requires second { AreRemainders (4 * P) second.old }
+    requires third { AreRemainders (4 * P) third.old }
+    requires fourth { AreRemainders (4 * P) fourth.old }
+    ensures first_less { AreRemainders (4 * P) first.new }
+    ensures second_less { AreRemainders (4 * P) second.new }
+    ensures third_less { AreRemainders (4 * P) third.new }
+    ensures fourth_less { AreRemainders (4 * P) fourth.new }
+    ensures first { (i : ℕ) → i < length first.new → Same (pos P) (pos (slice_index_or first.new i 0)) (sum_at first.old second.old i +ℤ sum_at third.old fourth.old i) }
+    ensures second { (i : ℕ) → i < length first.new → Same (pos P) (pos (slice_index_or second.new i 0)) (difference_at (root_at inverses.now (2 * place)) first.old second.old i +ℤ difference_at (root_at inverses.now (2 * place + 1)) third.old fourth.old i) }
+    ensures third { (i : ℕ) → i < length first.new → Same (pos P) (pos (slice_index_or third.new i 0)) (root_at inverses.now place *ℤ (sum_at first.old second.old i -ℤ sum_at third.old fourth.old i)) }
+    ensures fourth { (i : ℕ) → i < length first.new → Same (pos P) (pos (slice_index_or fourth.new i 0)) (root_at inverses.now place *ℤ (difference_at (root_at inverses.now (2 * place)) first.old second.old i -ℤ difference_at (root_at inverses.now (2 * place + 1)) third.old fourth.old i)) }
+{
+    let inverse = inverses[place];
+    let low_inverse = inverses[2 * place];
+    let high_inverse = inverses[2 * place + 1];
+    'groups: for group in 0..first.len() / 4 {
+        let at = 4 * group;
+        let (one, two, three, four) = gather_two_levels(
+            inverse,
+            low_inverse,
+            high_inverse,
+            load(first, at),
+            load(second, at),
+            load(third, at),
+            load(fourth, at),
+        );
+        put(first, at, one);
+        put(second, at, two);
+        put(third, at, three);
+        put(fourth, at, four);
+    }
+}
+
 /// What the next levels ask of halves of 2^levels times four numbers. It does nothing: the conditions of a recursive call are
 /// proved from facts that stand there already, and this call states them.
 #[inline(always)]
@@ -85,6 +192,20 @@ fn are_bounded<const P: u32>(levels: usize, low: &[u32], high: &[u32])
     requires high { AreRemainders ((22 - 2 * levels) * P + 2 * P) high.now }
     ensures low { AreRemainders ((22 - 2 * (levels - 1)) * P) low.now }
     ensures high { AreRemainders ((22 - 2 * (levels - 1)) * P) high.now }
+{}
+
+/// What the levels after the next two ask of a quarter of 2^levels times four numbers. It does nothing, as `are_halves`.
+#[inline(always)]
+fn is_quarter<const P: u32>(levels: usize, place: usize, next: usize, quarter: &[u32])
+    requires levels { 5 ≤ levels }
+    requires bound { levels ≤ 9 }
+    requires power { 4 * length quarter.now ≡ 4 * 2 ^ levels }
+    requires place { (place + 1) * (4 * length quarter.now) ≤ 2048 }
+    requires next { next < 4 * (place + 1) }
+    requires values { AreRemainders ((22 - 2 * levels) * P + 4 * P) quarter.now }
+    ensures power { length quarter.now ≡ 4 * 2 ^ (levels - 2) }
+    ensures place { (next + 1) * length quarter.now ≤ 2048 }
+    ensures values { AreRemainders ((22 - 2 * (levels - 2)) * P) quarter.now }
 {}
 
 /// Transforms 2^levels times four numbers in reverse order, from a place of the table of roots on.
@@ -144,35 +265,6 @@ fn multiply_eight<const P: u32>(
     put(values, 4, high);
 }
 
-/// As `multiply`, sixteen numbers.
-#[inline(always)]
-fn multiply_sixteen<const P: u32>(
-    roots: &[Factor<P>],
-    inverses: &[Factor<P>],
-    place: usize,
-    spectrum: &[u32],
-    values: &mut [u32],
-)
-    requires modulus { IsModulus P }
-    requires table { length roots.now ≡ 256 }
-    requires beside { length inverses.now ≡ 256 }
-    requires are { AreRoots P roots.now inverses.now }
-    requires sixteen { length values.old ≡ 16 }
-    requires as_many { length spectrum.now ≡ 16 }
-    requires place { place < 128 }
-    requires spectrum { AreRemainders P spectrum.now }
-    requires values { AreRemainders (18 * P) values.old }
-    ensures values { AreRemainders (4 * P) values.new }
-    ensures product { (s : ℤ) (a h : List ℤ) → Same (pos P) (root_at roots.now place *ℤ root_at roots.now place) s → length a ≡ 16 → length h ≡ 16 → AreSame P values.old a → IsTransform P roots.now 2 place h spectrum.now → IsProduct P 4 (4 * inverse_of_word P) s a h values.new }
-{
-    let (low, high) = values.split_at_mut(8);
-    spread(roots[place], low, high);
-    let (front, back) = spectrum.split_at(8);
-    multiply_eight(roots[2 * place], inverses[2 * place], back, low);
-    multiply_eight(roots[2 * place + 1], inverses[2 * place + 1], front, high);
-    gather(inverses[place], low, high);
-}
-
 /// As `multiply`, 32 numbers. In code of its own their loops are unrolled: short loops of several lengths take more time.
 #[inline(never)]
 fn multiply_thirty_two<const P: u32>(
@@ -195,10 +287,47 @@ fn multiply_thirty_two<const P: u32>(
     ensures product { (s : ℤ) (a h : List ℤ) → Same (pos P) (root_at roots.now place *ℤ root_at roots.now place) s → length a ≡ 32 → length h ≡ 32 → AreSame P values.old a → IsTransform P roots.now 3 place h spectrum.now → IsProduct P 8 (8 * inverse_of_word P) s a h values.new }
 {
     let (low, high) = values.split_at_mut(16);
-    spread(roots[place], low, high);
+    let (first, second) = low.split_at_mut(8);
+    let (third, fourth) = high.split_at_mut(8);
+    let left = 2 * place;
+    let right = 2 * place + 1;
+    spread_quarters(roots, place, first, second, third, fourth);
     let (front, back) = spectrum.split_at(16);
-    multiply_sixteen(roots, inverses, 2 * place, back, low);
-    multiply_sixteen(roots, inverses, 2 * place + 1, front, high);
+    let (one, two) = front.split_at(8);
+    let (three, four) = back.split_at(8);
+    multiply_eight(roots[2 * left], inverses[2 * left], four, first);
+    multiply_eight(roots[2 * left + 1], inverses[2 * left + 1], three, second);
+    multiply_eight(roots[2 * right], inverses[2 * right], two, third);
+    multiply_eight(roots[2 * right + 1], inverses[2 * right + 1], one, fourth);
+    gather_quarters(inverses, place, first, second, third, fourth);
+}
+
+/// As `multiply`, 64 numbers: by one level, since two would leave sixteen.
+#[inline(always)]
+fn multiply_sixty_four<const P: u32>(
+    roots: &[Factor<P>],
+    inverses: &[Factor<P>],
+    place: usize,
+    spectrum: &[u32],
+    values: &mut [u32],
+)
+    requires modulus { IsModulus P }
+    requires table { length roots.now ≡ 256 }
+    requires beside { length inverses.now ≡ 256 }
+    requires are { AreRoots P roots.now inverses.now }
+    requires sixty_four { length values.old ≡ 64 }
+    requires as_many { length spectrum.now ≡ 64 }
+    requires place { place < 32 }
+    requires spectrum { AreRemainders P spectrum.now }
+    requires values { AreRemainders (14 * P) values.old }
+    ensures values { AreRemainders (4 * P) values.new }
+    ensures product { (s : ℤ) (a h : List ℤ) → Same (pos P) (root_at roots.now place *ℤ root_at roots.now place) s → length a ≡ 64 → length h ≡ 64 → AreSame P values.old a → IsTransform P roots.now 4 place h spectrum.now → IsProduct P 16 (16 * inverse_of_word P) s a h values.new }
+{
+    let (low, high) = values.split_at_mut(32);
+    spread(roots[place], low, high);
+    let (front, back) = spectrum.split_at(32);
+    multiply_thirty_two(roots, inverses, 2 * place, back, low);
+    multiply_thirty_two(roots, inverses, 2 * place + 1, front, high);
     gather(inverses[place], low, high);
 }
 
@@ -229,14 +358,30 @@ pub(crate) fn multiply<const P: u32>(
         multiply_thirty_two(roots, inverses, place, spectrum, values);
         return;
     }
+    if levels == 4 {
+        multiply_sixty_four(roots, inverses, place, spectrum, values);
+        return;
+    }
     let half = values.len() / 2;
     let (low, high) = values.split_at_mut(half);
-    spread(roots[place], low, high);
+    let (first, second) = low.split_at_mut(half / 2);
+    let (third, fourth) = high.split_at_mut(half / 2);
+    let left = 2 * place;
+    let right = 2 * place + 1;
+    spread_quarters(roots, place, first, second, third, fourth);
     let (front, back) = spectrum.split_at(half);
-    are_halves(levels, place, low.len(), high.len());
-    are_bounded::<P>(levels, low, high);
+    let (one, two) = front.split_at(half / 2);
+    let (three, four) = back.split_at(half / 2);
     are_parts::<P>(spectrum, front, back);
-    multiply(roots, inverses, levels - 1, 2 * place, back, low);
-    multiply(roots, inverses, levels - 1, 2 * place + 1, front, high);
-    gather(inverses[place], low, high);
+    are_parts::<P>(front, one, two);
+    are_parts::<P>(back, three, four);
+    is_quarter::<P>(levels, place, 2 * left, first);
+    is_quarter::<P>(levels, place, 2 * left + 1, second);
+    is_quarter::<P>(levels, place, 2 * right, third);
+    is_quarter::<P>(levels, place, 2 * right + 1, fourth);
+    multiply(roots, inverses, levels - 2, 2 * left, four, first);
+    multiply(roots, inverses, levels - 2, 2 * left + 1, three, second);
+    multiply(roots, inverses, levels - 2, 2 * right, two, third);
+    multiply(roots, inverses, levels - 2, 2 * right + 1, one, fourth);
+    gather_quarters(inverses, place, first, second, third, fourth);
 }

@@ -1,0 +1,64 @@
+use Rattle.std.proofs.Common.{arith, ◌≡◌, ◌<◌, ◌+◌, ◌*◌, refl, length}
+use Rattle.fx_tap_sums.specs.Residues.{AreRemainders}
+use Rattle.fx_tap_sums.proofs.Writes.{remainders_both, remainders_drop, remainders_take, remainders_wider}
+use Rattle.fx_tap_sums.proofs.Steps.{halved, halves_fit, product_of_halves, read_at}
+use Rattle.fx_tap_sums.proofs.transforms.transform.multiply_sixty_four.Goals as goal
+
+pub spread-requires : goal.spread-requires
+spread-requires g c =
+    let v = c.args.values.now in
+    let p = g.row.P in
+    let below : AreRemainders (20 * p) v = remainders_wider (14 * p) (20 * p) v (omega arith) c.requires.values in
+    let fit = halves_fit p 32 v c.split_at_mut-low.result.0.now c.split_at_mut-low.result.1.now c.requires.modulus (omega (arith, c.requires.sixty_four)) c.split_at_mut-low.ensures.front c.split_at_mut-low.ensures.back below in
+    let front : length c.split_at_mut-low.result.0.now ≡ 32 = c.split_at_mut-low.ensures.front_len in
+    let back = c.split_at_mut-low.ensures.back_len in
+    (omega arith, (c.requires.modulus, ((8, omega (arith, front)), (omega (arith, c.requires.sixty_four, front, back), fit))))
+
+pub multiply_thirty_two-requires : goal.multiply_thirty_two-requires
+multiply_thirty_two-requires g c =
+    let v = c.args.values.now in
+    let f = c.args.spectrum.now in
+    let p = g.row.P in
+    let less : 2 * c.args.place < 64 = omega (arith, c.requires.place) in
+    let low : AreRemainders (14 * p) c.split_at_mut-low.result.0.now = rw c.split_at_mut-low.ensures.front (remainders_take (14 * p) 32 v (omega (arith, c.requires.sixty_four)) c.requires.values) in
+    let bound : 14 * p + 2 * p ≡ 16 * p = omega arith in
+    let spectrum : AreRemainders p c.split_at.result.1.now = rw c.split_at.ensures.back (remainders_drop p 32 f c.requires.spectrum) in
+    let long : length c.spread.new.low ≡ 32 = omega (arith, c.spread.auto.low, c.split_at_mut-low.ensures.front_len) in
+    let as_many : length c.split_at.result.1.now ≡ 32 = omega (arith, c.split_at.ensures.back_len, c.requires.as_many) in
+    (omega arith, (c.requires.modulus, (c.requires.table, (c.requires.beside, (c.requires.are, (long, (as_many, (less, (spectrum, rw bound at (c.spread.ensures.low (14 * p) low))))))))))
+
+pub multiply_thirty_two-requires-2 : goal.multiply_thirty_two-requires-2
+multiply_thirty_two-requires-2 g c =
+    let v = c.args.values.now in
+    let f = c.args.spectrum.now in
+    let p = g.row.P in
+    let less : 2 * c.args.place + 1 < 64 = omega (arith, c.requires.place) in
+    let low : AreRemainders (14 * p) c.split_at_mut-low.result.0.now = rw c.split_at_mut-low.ensures.front (remainders_take (14 * p) 32 v (omega (arith, c.requires.sixty_four)) c.requires.values) in
+    let bound : 14 * p + 2 * p ≡ 16 * p = omega arith in
+    let spectrum : AreRemainders p c.split_at.result.0.now = rw c.split_at.ensures.front (remainders_take p 32 f (omega (arith, c.requires.as_many)) c.requires.spectrum) in
+    let long : length c.spread.new.high ≡ 32 = omega (arith, c.spread.auto.high, c.split_at_mut-low.ensures.back_len, c.requires.sixty_four) in
+    (omega arith, (c.requires.modulus, (c.requires.table, (c.requires.beside, (c.requires.are, (long, (c.split_at.ensures.front_len, (less, (spectrum, rw bound at (c.spread.ensures.high (14 * p) low))))))))))
+
+pub gather-requires : goal.gather-requires
+gather-requires g c =
+    let low : length c.multiply_thirty_two.new.values ≡ 32 = omega (arith, c.multiply_thirty_two.auto.values, c.spread.auto.low, c.split_at_mut-low.ensures.front_len) in
+    let high : length c.multiply_thirty_two-2.new.values ≡ 32 = omega (arith, c.multiply_thirty_two-2.auto.values, c.spread.auto.high, c.split_at_mut-low.ensures.back_len, c.requires.sixty_four) in
+    (omega arith, (c.requires.modulus, ((8, omega (arith, low)), (omega (arith, low, high), (c.multiply_thirty_two.ensures.values, c.multiply_thirty_two-2.ensures.values)))))
+
+pub returns-clause-values : goal.returns-clause-values
+returns-clause-values g c = remainders_both (4 * g.row.P) c.gather.new.low c.gather.new.high c.gather.ensures.low c.gather.ensures.high
+
+pub returns-clause-product : goal.returns-clause-product
+returns-clause-product g c =
+    let roots = c.args.roots.now in
+    let inverses = c.args.inverses.now in
+    let place = c.args.place in
+    let less : place < 256 = omega (arith, c.requires.place) in
+    let root = read_at roots place c.index-roots-place.result (omega (arith, less, c.requires.table)) c.index-roots-place.is in
+    let inverse = read_at inverses place c.index-inverses-place.result (omega (arith, less, c.requires.beside)) c.index-inverses-place.is in
+    let xs_long : length c.spread.new.low ≡ 32 = omega (arith, c.spread.auto.low, c.split_at_mut-low.ensures.front_len) in
+    let ys_long : length c.spread.new.high ≡ 32 = omega (arith, c.spread.auto.high, c.split_at_mut-low.ensures.back_len, c.requires.sixty_four) in
+    let lows_long : length c.gather.new.low ≡ 32 = omega (arith, c.gather.auto.low, c.multiply_thirty_two.auto.values, xs_long) in
+    product_of_halves g.row.P 4 64 3 32 place c.index-roots-place.result c.index-inverses-place.result roots inverses c.args.values.now c.args.spectrum.now c.split_at_mut-low.result.0.now c.split_at_mut-low.result.1.now c.split_at.result.0.now c.split_at.result.1.now c.spread.new.low c.spread.new.high c.multiply_thirty_two.new.values c.multiply_thirty_two-2.new.values c.gather.new.low c.gather.new.high
+    (halved 4 64 refl (omega arith)) c.requires.are (omega (arith, c.requires.place)) root inverse c.requires.sixty_four c.split_at_mut-low.ensures.front c.split_at_mut-low.ensures.back c.split_at.ensures.front c.split_at.ensures.back xs_long ys_long lows_long c.spread.ensures.plus c.spread.ensures.minus
+    c.multiply_thirty_two.ensures.product c.multiply_thirty_two-2.ensures.product c.gather.ensures.plus c.gather.ensures.minus
