@@ -1,5 +1,5 @@
 -- The gains of an `echo` or `echos` in lowest terms.
-use Rattle.std.specs.Prelude.{ℕ, ℤ, pos, ◌≡◌, ◌<◌, ◌+◌, ◌*◌, ◌^◌, ◌+ℤ◌, ◌*ℤ◌, List, [], ◌∷◌, ◌++◌, drop, length, slice_index_or}
+use Rattle.std.specs.Prelude.{ℕ, ℤ, Bool, pos, ◌≡◌, ◌<◌, ◌+◌, ◌*◌, ◌^◌, ◌+ℤ◌, ◌*ℤ◌, List, [], ◌∷◌, ◌++◌, drop, length, slice_index_or}
 use Rattle.fx_fixed.specs.Rounding.{rounding}
 use Rattle.fx_frame_base.specs.Frame.{Samples}
 use Rattle.fx_frame_base.specs.Given.{given_samples}
@@ -28,9 +28,13 @@ pub record Suits (a : EchoArguments) (w : Weights) : Type 0 where
 abbrev pub ForAllSuited : Weights → ℕ → List (Frames ℤ) → (EchoArguments → Type 0) → Type 0
 ForAllSuited w channels lines P = (a : EchoArguments) → Suits a w → a.channels ≡ channels → length a.taps ≡ length lines → P a
 
--- the frame of one echo: each sample that came and the earlier one, each times its weight, added and rounded once
+-- channel k of a frame with one echo: its sample and the earlier one, each times its weight, added and rounded once
+abbrev pub one_echo_sample : Weights → Samples → Samples → ℕ → ℤ × Bool
+one_echo_sample w came earlier k = rounding ((slice_index_or w.weights 0 (pos 0) *ℤ slice_index_or came k (pos 0)) +ℤ (slice_index_or w.weights 1 (pos 0) *ℤ slice_index_or earlier k (pos 0))) w.denominator
+
+-- the frame with one echo
 abbrev pub one_echo_frame : Weights → Samples → Samples → Given
-one_echo_frame w came earlier = given_samples (tabulate (λ k. rounding ((slice_index_or w.weights 0 (pos 0) *ℤ slice_index_or came k (pos 0)) +ℤ (slice_index_or w.weights 1 (pos 0) *ℤ slice_index_or earlier k (pos 0))) w.denominator) 0 (length earlier))
+one_echo_frame w came earlier = given_samples (tabulate (one_echo_sample w came earlier) 0 (length earlier))
 
 -- the sums of a frame and its echoes, for each channel of `count` frames, which follow those of the line
 abbrev pub AreEchoSums : EchoArguments → List Samples → ℕ → List ℤ → List ℤ → Type 0

@@ -6,9 +6,9 @@ use Rattle.fx_frame_base.specs.Given.{given_samples}
 use Rattle.fx_frame_base.specs.Lists.{tabulate}
 use Rattle.fx_frame_base.specs.Stage.{Given}
 
--- to the sum of each of the first channels what stands for that channel was added
+-- to the sum of each of the first `channels` channels its own amount was added
 abbrev pub AddsToEach : ℕ → List ℤ → List ℤ → (ℕ → ℤ) → Type 0
-AddsToEach channels old new added = (k : ℕ) → k < channels → slice_index_or new k (pos 0) ≡ slice_index_or old k (pos 0) +ℤ added k
+AddsToEach channels old new amount = (k : ℕ) → k < channels → slice_index_or new k (pos 0) ≡ slice_index_or old k (pos 0) +ℤ amount k
 
 -- the frame of the first sums, each times a gain in trillionths, rounded once; sums are in trillionths too
 abbrev pub frame_of_sums : ℤ → List ℤ → ℕ → Given
