@@ -27,10 +27,10 @@ WritesRounded channels channel count samples rounds = WritesChannel channels cha
 abbrev pub KeepsOtherPlaces : ℕ → ℕ → ℕ → List ℤ → List ℤ → Type 0
 KeepsOtherPlaces channels channel count old new = (k : ℕ) → IsOtherPlace channels channel count k → slice_index_or new k (pos 0) ≡ slice_index_or old k (pos 0)
 
--- no sum is greater than 2 ^ 62 with the sample of that channel added, times the weight, if the sample has 32 bits
-abbrev pub FitSums : List ℤ → List ℤ → ℕ → ℕ → ℤ → Type 0
-FitSums sums frames channels channel weight =
-    (i : ℕ) → i < length sums → unsigned_abs (sample_at frames channels channel i) ≤ 2 ^ 31 → unsigned_abs (slice_index_or sums i (pos 0) +ℤ (sample_at frames channels channel i *ℤ weight)) ≤ 2 ^ 62
+-- no sum exceeds the maximum in magnitude with the sample of that channel added, times the weight, if the sample has 32 bits
+abbrev pub SumsStayWithin : ℕ → List ℤ → List ℤ → ℕ → ℕ → ℤ → Type 0
+SumsStayWithin maximum sums frames channels channel weight =
+    (i : ℕ) → i < length sums → unsigned_abs (sample_at frames channels channel i) ≤ 2 ^ 31 → unsigned_abs (slice_index_or sums i (pos 0) +ℤ (sample_at frames channels channel i *ℤ weight)) ≤ maximum
 
 -- to each sum the sample of that channel was added, times the weight
 abbrev pub AddsChannel : List ℤ → List ℤ → List ℤ → ℕ → ℕ → ℤ → Type 0

@@ -4,10 +4,9 @@ ghost use Rattle.std.specs.Prelude.{◌≡◌, ◌+◌, ◌*◌, ◌^◌, ◌≤
 ghost use Rattle.std.specs.Int.{w32};
 ghost use Rattle.std.specs.List.{All};
 ghost use Rattle.fx_frame_base.specs.Lists.{pieces};
-ghost use Rattle.fx_frame.specs.Made.{clips_in, made_of};
 ghost use Rattle.fx_tap_pointwise.specs.Mapped.{map_acts};
 ghost use Rattle.fx_frame.specs.Kinds.{max_taken};
-ghost use Rattle.fx_tap_pointwise.specs.Around.{MakesByThree, made_by_both, HaveChannels, ThroughThree};
+ghost use Rattle.fx_tap_pointwise.specs.Around.{IsMadeByThree, ThroughThree};
 
 use crate::mapped::{Mapped, MapsMany, PairWidths};
 use fx_frame_base::feed::see_samples;
@@ -47,13 +46,8 @@ fn group_by_three<A: MapsMany, B: MapsMany, C: MapsMany>(
     requires bound { count ≤ 4 }
     requires input { length input.now ≡ count * widths.inputs }
     requires output { length output.old ≡ count * widths.outputs }
-    ensures frames { MakesByThree (A.mapped first.now) (B.mapped middle.now) (C.mapped last.now) widths count input.now output.new }
-    ensures first { result.first ≡ clips_in (A.mapped first.now) (pieces widths.inputs count input.now) }
-    ensures middle { result.middle ≡ clips_in (B.mapped middle.now) (made_of (A.mapped first.now) (pieces widths.inputs count input.now)) }
-    ensures last { result.last ≡ clips_in (C.mapped last.now) (made_by_both (A.mapped first.now) (B.mapped middle.now) (pieces widths.inputs count input.now)) }
-    ensures before { HaveChannels widths.inputs (made_of (A.mapped first.now) (pieces widths.inputs count input.now)) }
-    ensures after { HaveChannels widths.outputs (made_by_both (A.mapped first.now) (B.mapped middle.now) (pieces widths.inputs count input.now)) }
-    ensures bound { (result.first ≤ 16 * count) × (result.middle ≤ 16 * count) × (result.last ≤ 16 * count) }
+    ensures made { IsMadeByThree (A.mapped first.now) (B.mapped middle.now) (C.mapped last.now) widths.inputs widths.outputs
+        count input.now output.new result.first result.middle result.last }
 {
     let inner = PairWidths {
         inputs: widths.inputs,
@@ -93,14 +87,9 @@ fn groups_by_three<A: MapsMany, B: MapsMany, C: MapsMany>(
     requires bound { count ≤ 2 ^ 56 }
     requires input { count * widths.inputs ≤ length input.now }
     requires free { count * widths.outputs ≤ length output.old }
-    ensures frames { MakesByThree (A.mapped first.now) (B.mapped middle.now) (C.mapped last.now) widths count input.now output.new }
+    ensures made { IsMadeByThree (A.mapped first.now) (B.mapped middle.now) (C.mapped last.now) widths.inputs widths.outputs
+        count input.now output.new result.first result.middle result.last }
     ensures rest_unchanged { drop (count * widths.outputs) output.new ≡ drop (count * widths.outputs) output.old }
-    ensures first { result.first ≡ clips_in (A.mapped first.now) (pieces widths.inputs count input.now) }
-    ensures middle { result.middle ≡ clips_in (B.mapped middle.now) (made_of (A.mapped first.now) (pieces widths.inputs count input.now)) }
-    ensures last { result.last ≡ clips_in (C.mapped last.now) (made_by_both (A.mapped first.now) (B.mapped middle.now) (pieces widths.inputs count input.now)) }
-    ensures before { HaveChannels widths.inputs (made_of (A.mapped first.now) (pieces widths.inputs count input.now)) }
-    ensures after { HaveChannels widths.outputs (made_by_both (A.mapped first.now) (B.mapped middle.now) (pieces widths.inputs count input.now)) }
-    ensures bound { (result.first ≤ 16 * count) × (result.middle ≤ 16 * count) × (result.last ≤ 16 * count) }
 {
     let _inputs = first.out_channels();
     let _outputs = middle.out_channels();
@@ -173,14 +162,9 @@ fn mapped_by_three<A: MapsMany, B: MapsMany, C: MapsMany>(
     requires bound { count ≤ 2 ^ 56 }
     requires input { count * widths.inputs ≤ length input.now }
     requires free { count * widths.outputs ≤ length output.old }
-    ensures frames { MakesByThree (A.mapped first.now) (B.mapped middle.now) (C.mapped last.now) widths count input.now output.new }
+    ensures made { IsMadeByThree (A.mapped first.now) (B.mapped middle.now) (C.mapped last.now) widths.inputs widths.outputs
+        count input.now output.new result.first result.middle result.last }
     ensures rest_unchanged { drop (count * widths.outputs) output.new ≡ drop (count * widths.outputs) output.old }
-    ensures first { result.first ≡ clips_in (A.mapped first.now) (pieces widths.inputs count input.now) }
-    ensures middle { result.middle ≡ clips_in (B.mapped middle.now) (made_of (A.mapped first.now) (pieces widths.inputs count input.now)) }
-    ensures last { result.last ≡ clips_in (C.mapped last.now) (made_by_both (A.mapped first.now) (B.mapped middle.now) (pieces widths.inputs count input.now)) }
-    ensures before { HaveChannels widths.inputs (made_of (A.mapped first.now) (pieces widths.inputs count input.now)) }
-    ensures after { HaveChannels widths.outputs (made_by_both (A.mapped first.now) (B.mapped middle.now) (pieces widths.inputs count input.now)) }
-    ensures bound { (result.first ≤ 16 * count) × (result.middle ≤ 16 * count) × (result.last ≤ 16 * count) }
 {
     match (widths.inputs, widths.outputs) {
         (1, 1) => {

@@ -4,7 +4,7 @@ ghost use Rattle.std.specs.Int.{w32};
 ghost use Rattle.fx_fixed.specs.Rounding.{rounding};
 ghost use Rattle.fx_frame_base.specs.Lists.{tabulate};
 ghost use Rattle.fx_frame_base.specs.Rounded.{clips_rounded};
-ghost use Rattle.fx_tap_pointwise.specs.Channels.{sample_at, mean_at, WritesChannel, WritesRounded, rounded_at, KeepsOtherPlaces, FitSums, AddsChannel};
+ghost use Rattle.fx_tap_pointwise.specs.Channels.{sample_at, mean_at, WritesChannel, WritesRounded, rounded_at, KeepsOtherPlaces, SumsStayWithin, AddsChannel};
 
 use crate::per_sample::Sampling;
 
@@ -34,7 +34,7 @@ pub(crate) fn add_channel(
     requires channel { channel < channels }
     requires channels { channels ≤ 16 }
     requires frames { length sums.old * channels ≤ length frames.now }
-    requires free { FitSums sums.old frames.now channels channel weight }
+    requires free { SumsStayWithin (2 ^ 62) sums.old frames.now channels channel weight }
     ensures added { AddsChannel sums.old sums.new frames.now channels channel weight }
     ensures samples { (i : ℕ) → i < length sums.old → unsigned_abs (sample_at frames.now channels channel i) ≤ 2 ^ 31 }
 {
