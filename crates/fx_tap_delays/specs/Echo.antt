@@ -21,6 +21,10 @@ pub record EchoArguments : Type 0 where
   -- of each echo its delay in frames, and its decay
   pub taps : List (ℕ × ℤ)
 
+-- the arguments of an `echo`, or of an `echos`, with these channels, gains and echoes
+abbrev pub echo_with : ℕ → ℤ → ℤ → List (ℕ × ℤ) → EchoArguments
+echo_with channels gain_in gain_out taps = record { channels = channels; gain_in = gain_in; gain_out = gain_out; taps = taps }
+
 -- its invariant
 pub record IsEcho (a : EchoArguments) : Type 0 where
   pub some : 1 ≤ a.channels

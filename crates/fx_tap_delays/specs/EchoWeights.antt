@@ -1,6 +1,13 @@
 -- The gains of an `echo` or `echos` in lowest terms.
-use Rattle.std.specs.Prelude.{ℕ, ℤ, pos, ◌^◌, List, [], ◌∷◌, drop, slice_index_or}
-use Rattle.fx_tap_delays.specs.Echo.{EchoArguments}
+use Rattle.std.specs.Prelude.{ℕ, ℤ, Bool, pos, ◌≡◌, ◌<◌, ◌+◌, ◌*◌, ◌^◌, ◌+ℤ◌, ◌*ℤ◌, List, [], ◌∷◌, ◌++◌, drop, length, slice_index_or}
+use Rattle.fx_fixed.specs.Rounding.{rounding}
+use Rattle.fx_frame_base.specs.Frame.{Samples}
+use Rattle.fx_frame_base.specs.Given.{given_samples}
+use Rattle.fx_frame_base.specs.Lists.{pieces, tabulate}
+use Rattle.fx_frame_base.specs.Stage.{Given}
+use Rattle.fx_frame_line.specs.Line.{Frames}
+use Rattle.fx_frame.specs.History.{sample_before}
+use Rattle.fx_tap_delays.specs.Echo.{EchoArguments, echo_sum}
 use Rattle.fx_tap_sums.specs.Weights.{Weights, AreSmall, SoundsAs}
 
 -- echoes with those weights in place of the decays
@@ -16,3 +23,20 @@ weighed a weights = record a { gain_in = slice_index_or weights 0 (pos 0); taps 
 pub record Suits (a : EchoArguments) (w : Weights) : Type 0 where
   pub sounds : SoundsAs a.gain_in a.gain_out a.taps w
   pub small : AreSmall (2 ^ 24) w.weights
+
+-- a fact of all arguments with so many channels and an echo for each line, which these weights suit
+abbrev pub ForAllSuited : Weights → ℕ → List (Frames ℤ) → (EchoArguments → Type 0) → Type 0
+ForAllSuited w channels lines P = (a : EchoArguments) → Suits a w → a.channels ≡ channels → length a.taps ≡ length lines → P a
+
+-- channel k of a frame with one echo: its sample and the earlier one, each times its weight, added and rounded once
+abbrev pub one_echo_sample : Weights → Samples → Samples → ℕ → ℤ × Bool
+one_echo_sample w came earlier k = rounding ((slice_index_or w.weights 0 (pos 0) *ℤ slice_index_or came k (pos 0)) +ℤ (slice_index_or w.weights 1 (pos 0) *ℤ slice_index_or earlier k (pos 0))) w.denominator
+
+-- the frame with one echo
+abbrev pub one_echo_frame : Weights → Samples → Samples → Given
+one_echo_frame w came earlier = given_samples (tabulate (one_echo_sample w came earlier) 0 (length earlier))
+
+-- the sums of a frame and its echoes, for each channel of `count` frames, which follow those of the line
+abbrev pub AreEchoSums : EchoArguments → List Samples → ℕ → List ℤ → List ℤ → Type 0
+AreEchoSums a items count frames sums =
+    (i k : ℕ) → i < count → k < a.channels → slice_index_or sums (i * a.channels + k) (pos 0) ≡ echo_sum a (sample_before (items ++ pieces a.channels count frames) (length items + i)) k

@@ -1,19 +1,22 @@
 -- The stage of `echos`: lines in series, its invariant, and what it is still to give (this project's profile).
-use Rattle.std.specs.Prelude.{ℕ, ℤ, pos, ◌+◌, ◌*◌, ◌^◌, ◌<◌, ◌≤◌, ◌≡◌, ◌+ℤ◌, ◌*ℤ◌, Bool, true, false, ◌&&◌, Option, Some, None, List, [], ◌∷◌, ◌++◌, length, map, min, replicate, take, option_to_list, is_none, slice_index_or, nat_eq, cond, unsigned_abs}
+use Rattle.std.specs.Prelude.{ℕ, ℤ, pos, ◌+◌, ◌*◌, ◌^◌, ◌<◌, ◌≤◌, ◌≡◌, ◌+ℤ◌, ◌*ℤ◌, Bool, true, false, ◌&&◌, Option, Some, None, List, [], ◌∷◌, ◌++◌, length, map, min, replicate, take, option_to_list, is_none, slice_index_or, nat_eq, cond, unsigned_abs, drop, Result}
 use Rattle.std.specs.List.{All}
 use Rattle.std.specs.Int.{w64}
 use Rattle.fx_tap_delays.specs.DelayExtents.{sum_of_delays}
 use Rattle.fx_fixed.specs.Rounding.{rounding}
+use Rattle.fx_frame_base.specs.declared.stage.ThawFault.{ThawFault}
 use Rattle.fx_frame_base.specs.Frame.{Samples, silence}
+use Rattle.fx_frame_base.specs.Holds.{total}
 use Rattle.fx_frame_base.specs.PendingFrame.{IsPending}
 use Rattle.fx_frame_line.specs.Line.{Frames, IsLine, pushed, pushed_out, channel_of, empty}
 use Rattle.fx_frame_base.specs.Stage.{Given, Acts}
 use Rattle.fx_tap_delays.specs.Echo.{EchoArguments, IsEcho}
-use Rattle.fx_frame_base.specs.Lists.{tabulate}
+use Rattle.fx_frame_base.specs.Lists.{pieces, tabulate}
 use Rattle.fx_frame.specs.Kinds.{max_taken}
 use Rattle.fx_tap_sums.specs.Products.{sum_of_products}
 use Rattle.fx_frame_base.specs.Given.{given_samples}
 use Rattle.fx_tap_delays.specs.Echos.{decays, echos, echos_kind}
+use Rattle.fx_tap_delays.specs.Restored.{Restores}
 
 -- a frame and what the line before output, added
 abbrev pub fed : ℕ → Samples → Samples → Samples
@@ -141,3 +144,41 @@ echos_acts = record {
   capacity = λ s. echo_places s.lines;
   state_counters = λ s. record { first = s.tail; second = length (option_to_list s.pending); third = s.pending_clips };
 }
+
+-- the invariant of the lines of these echoes after `came` frames came
+abbrev pub AreEchoLines : ℕ → ℕ → List (ℕ × ℤ) → List (Frames ℤ) → Type 0
+AreEchoLines channels came taps lines = (j : ℕ) → j < length lines → IsEchoLine channels came j (delay_at taps j) (line_at lines j)
+
+-- what a frame that comes needs of the lines
+abbrev pub AreSeriesLines : ℕ → List (Frames ℤ) → Type 0
+AreSeriesLines channels lines = (j : ℕ) → j < length lines → IsSeriesLine channels j (line_at lines j)
+
+-- each line has a capacity of at least so many frames
+abbrev pub HaveCapacity : ℕ → List (Frames ℤ) → Type 0
+HaveCapacity count lines = (j : ℕ) → j < length lines → count ≤ (line_at lines j).capacity
+
+-- channel k of what the lines output, each times its decay, added
+abbrev pub decayed_sum : List (ℕ × ℤ) → List Samples → ℕ → ℤ
+decayed_sum taps gone k = sum_of_products (decays taps) (channel_of gone k (pos 0))
+
+-- the frame that is given for one that goes through the lines
+abbrev pub frame_from_lines : EchoArguments → List (Frames ℤ) → Samples → Given
+frame_from_lines a lines x = frame_of_lines a x (let_go a.channels lines x (silence a.channels))
+
+-- the first `count` frames of the output are those given for the first `count` of the input, which go through the lines
+abbrev pub SendsThrough : EchoArguments → List (Frames ℤ) → ℕ → ℕ → List ℤ → List ℤ → Type 0
+SendsThrough a lines channels count input output = pieces channels count output ≡ map (λ (g : Given). g.samples) (through_lines a lines (pieces channels count input))
+
+-- how many of their samples were clipped
+abbrev pub clips_through : EchoArguments → List (Frames ℤ) → ℕ → ℕ → List ℤ → ℕ
+clips_through a lines channels count input = total (λ (g : Given). g.clips) (through_lines a lines (pieces channels count input))
+
+-- the sums of a sample and of what the lines output for its frame, each times its weight, for each channel of `count` frames
+abbrev pub AreLineSums : List ℤ → ℕ → List (Frames ℤ) → ℕ → List ℤ → List ℤ → Type 0
+AreLineSums weights channels lines count frames sums =
+    (i k : ℕ) → i < count → k < channels → slice_index_or sums (i * channels + k) (pos 0)
+    ≡ (slice_index_or weights 0 (pos 0) *ℤ slice_index_or frames (i * channels + k) (pos 0)) +ℤ sum_of_products (drop 1 weights) (channel_of (gone_at channels lines (pieces channels count frames) i) k (pos 0))
+
+-- what `thaw` of `echos` returns
+abbrev pub RestoresEchos : EchoArguments → List Samples → List ℕ → Result EchosState ThawFault → Type 0
+RestoresEchos a frames numbers result = Restores echos_acts IsEchos a frames numbers result

@@ -1,6 +1,8 @@
 -- What an `echos` stores, restored (this project's profile).
-use Rattle.std.specs.Prelude.{ℕ, ℤ, ◌<◌, ◌≤◌, ◌≡◌, ◌++◌, List, Option, length, option_to_list, unsigned_abs}
+use Rattle.std.specs.Prelude.{ℕ, ℤ, ◌<◌, ◌≤◌, ◌≡◌, ◌⊎◌, ◌++◌, List, Option, length, option_to_list, unsigned_abs}
 use Rattle.std.specs.List.{All}
+use Rattle.fx_frame_base.specs.declared.stage.ThawFault.{ThawFault}
+use Rattle.fx_frame_base.specs.declared.stage.ThawFault.TheVariants.{Memory, BadSnapshot}
 use Rattle.fx_frame_base.specs.Frame.{Samples}
 use Rattle.fx_frame_base.specs.PendingFrame.{IsPending}
 use Rattle.fx_frame_line.specs.Line.{Frames}
@@ -21,3 +23,16 @@ pub record IsSeriesStored (channels came : ℕ) (taps : List (ℕ × ℤ)) (pend
   pub held : IsPending channels pending
   pub pending_count_is : length (option_to_list pending) ≡ pending_count
   pub stored : frames ≡ frames_of_lines lines ++ option_to_list pending
+
+-- a fact of each series of lines that stores these frames
+abbrev pub ForAllSeries : ℕ → ℕ → List (ℕ × ℤ) → List Samples → (List (Frames ℤ) → Type 0) → Type 0
+ForAllSeries channels came taps frames P = (lines : List (Frames ℤ)) → IsSeries channels came taps lines → frames_of_lines lines ≡ frames → P lines
+
+-- a fact of all such lines and pending frames that store these frames
+abbrev pub ForAllStored : ℕ → ℕ → List (ℕ × ℤ) → ℕ → List Samples → (List (Frames ℤ) → Option Samples → Type 0) → Type 0
+ForAllStored channels came taps pending_count frames P =
+    (lines : List (Frames ℤ)) (pending : Option Samples) → IsSeriesStored channels came taps pending_count frames lines pending → P lines pending
+
+-- memory was refused, or the snapshot is bad and this holds
+abbrev pub MemoryOrBad : ThawFault → Type 0 → Type 0
+MemoryOrBad fault P = (fault ≡ Memory) ⊎ ((fault ≡ BadSnapshot) × P)

@@ -1,16 +1,15 @@
 //! The effect `delay` of sox(1): each channel is delayed by its own number of frames.
-ghost use Rattle.std.specs.Prelude.{◌≡◌, ◌<◌, ◌≤◌, ◌⊎◌, nat_lt, if◌then◌else◌, ◌-◌, ◌*◌, ◌^◌, ◌++◌, ◌∷◌, [], ℕ, List, true, false, length, drop, take, replicate, slice_index, slice_index_or, pos, Err, IfOk, MatchResult};
+ghost use Rattle.std.specs.Prelude.{◌≡◌, ◌<◌, ◌≤◌, ◌⊎◌, if◌then◌else◌, ◌-◌, ◌*◌, ◌^◌, ◌++◌, ◌∷◌, [], ℕ, List, true, false, length, drop, replicate, slice_index, pos, Err, IfOk};
 ghost use Rattle.fx_fixed.specs.Extents.{largest};
-ghost use Rattle.fx_frame_base.specs.Frame.{IsFrame, silence};
+ghost use Rattle.fx_frame_base.specs.Frame.{IsFrame};
 ghost use Rattle.fx_frame_line.specs.Line.{pushed, pushed_all};
 ghost use Rattle.fx_frame_base.specs.Lists.{pieces};
 ghost use Rattle.fx_frame_base.specs.Stage.{Freezes, IsNew};
 ghost use Rattle.fx_tap_delays.specs.Delay.{delayed_frame, every_delay};
-ghost use Rattle.fx_tap_delays.specs.DelayState.{delay_acts, delay_taps};
-ghost use Rattle.fx_frame.specs.Tapped.{IsTapState, TapState, clips_after, frames_after, last_of};
-ghost use Rattle.fx_frame.specs.History.{sample_before};
+ghost use Rattle.fx_tap_delays.specs.DelayState.{delay_acts, delay_taps, RestoresDelay, NoShorterDelay, frame_leaving, frames_leaving};
 ghost use Rattle.fx_tap_delays.specs.Near.{delays-near};
 ghost use Rattle.std.proofs.Common.{zero-le};
+ghost use Rattle.fx_tap_delays.specs.Tapping.{MakesBlock, clips_in_block, history_after};
 
 pub mod words;
 
@@ -44,7 +43,7 @@ impl Model for Delays {
 #[inline(always)]
 fn delayed_into(line: &Line, delays: &[u64], frame: &[i32], out: &mut [i32])
     requires { length out.old ≡ length delays.now }
-    ensures { out.new ≡ delayed_frame delays.now (sample_before (line.now.items ++ frame.now ∷ []) (length line.now.items)) }
+    ensures { out.new ≡ delayed_frame delays.now (history_after line.now.items frame.now) }
 {
     'channels: for channel in 0..delays.len() {
         out[channel] = sample(line, frame, delays[channel] as usize, channel);
@@ -54,7 +53,7 @@ fn delayed_into(line: &Line, delays: &[u64], frame: &[i32], out: &mut [i32])
 /// The frame whose channels are delayed.
 fn delayed_frame(line: &Line, delays: &[u64], frame: Frame) -> Frame
     requires { (1 ≤ length delays.now) × (length delays.now ≤ 16) }
-    ensures value { result ≡ delayed_frame delays.now (sample_before (line.now.items ++ frame ∷ []) (length line.now.items)) }
+    ensures value { result ≡ delayed_frame delays.now (history_after line.now.items frame) }
     ensures frame { IsFrame result × (length result ≡ length delays.now) }
 {
     let mut out = [0; 16];
@@ -134,7 +133,7 @@ impl Tapped<Delays> {
         requires line { largest delays.now ≤ 2 ^ 28 }
         ensures recipe { IfOk result (λ t. delay_acts.recipe t ≡ every_delay channels delays.now) }
         ensures frozen { IfOk result (λ t. Freezes delay_acts t frames.now numbers.now) }
-        ensures thawed { (s : TapState (List ℕ)) → IsTapState delay_taps s → delay_acts.recipe s ≡ every_delay channels delays.now → Freezes delay_acts s frames.now numbers.now → MatchResult result (λ t. t ≡ s) (λ e. e ≡ ThawFault.Memory) }
+        ensures thawed { RestoresDelay (every_delay channels delays.now) frames.now numbers.now result }
         ensures named { (result ≡ Err ThawFault.WrongPlan) → ⊥ }
     {
         let reach = max_delay(delays) as usize;
@@ -171,7 +170,7 @@ fn delay_evenly(line: &mut Line, channels: usize, frames: &[i32], count: usize, 
     requires channels { channels ≡ line.old.channels }
     requires frames { length frames.now ≡ count * line.old.channels }
     requires free { count * line.old.channels ≤ length output.old }
-    ensures frames { pieces line.old.channels count output.new ≡ take count (replicate (line.old.capacity - length line.old.items) (silence line.old.channels) ++ (line.old.items ++ pieces line.old.channels count frames.now)) }
+    ensures frames { pieces line.old.channels count output.new ≡ frames_leaving line.old count frames.now }
     ensures rest_unchanged { drop (count * line.old.channels) output.new ≡ drop (count * line.old.channels) output.old }
     ensures items { line.new.items ≡ pushed_all line.old (pieces line.old.channels count frames.now) }
     ensures capacity { line.new.capacity ≡ line.old.capacity }
@@ -192,7 +191,7 @@ fn delay_evenly(line: &mut Line, channels: usize, frames: &[i32], count: usize, 
 #[inline(always)]
 pub(crate) fn delay_over(line: &mut Line, samples: &mut [i32])
     requires { length samples.old ≡ line.old.channels }
-    ensures frame { samples.new ≡ (if nat_lt (length line.old.items) line.old.capacity then silence (length samples.old) else slice_index_or (line.old.items ++ samples.old ∷ []) 0 []) }
+    ensures frame { samples.new ≡ frame_leaving line.old samples.old }
     ensures items { line.new.items ≡ pushed line.old samples.old }
     ensures capacity { line.new.capacity ≡ line.old.capacity }
     ensures channels { line.new.channels ≡ line.old.channels }
@@ -216,8 +215,8 @@ fn exchange_evenly(
     requires samples { length samples.old ≡ count * length delays.now }
     requires free { length came.old ≡ length samples.old }
     ensures kept { result ≡ false → (line.new ≡ line.old) × (samples.new ≡ samples.old) }
-    ensures frames { result ≡ true → pieces (length delays.now) count samples.new ≡ frames_after delay_taps delays.now line.old.items (pieces (length delays.now) count samples.old) }
-    ensures line { result ≡ true → line.new.items ≡ last_of line.old.capacity (line.old.items ++ pieces (length delays.now) count samples.old) }
+    ensures frames { result ≡ true → MakesBlock delay_taps delays.now line.old.items count samples.old samples.new }
+    ensures line { result ≡ true → line.new.items ≡ pushed_all line.old (pieces (length delays.now) count samples.old) }
     ensures line_capacity { line.new.capacity ≡ line.old.capacity }
     ensures line_channels { line.new.channels ≡ line.old.channels }
     ensures len { length samples.new ≡ length samples.old }
@@ -237,7 +236,7 @@ const MIN_PIECE: usize = 8;
 fn frames_of_piece(delays: &[u64]) -> usize
     requires { (1 ≤ length delays.now) × (length delays.now ≤ 16) }
     ensures some { 1 ≤ result }
-    ensures late { (k : ℕ) → k < length delays.now → (slice_index delays.now k ≡ 0) ⊎ (result ≤ slice_index delays.now k) }
+    ensures late { NoShorterDelay result delays.now }
 {
     let mut maximum = SAMPLES_OF_PIECE / delays.len();
     'delays: for delay in delays {
@@ -252,10 +251,10 @@ fn frames_of_piece(delays: &[u64]) -> usize
 fn delay_piece(delays: &[u64], line: &Line, frames: &[i32], count: usize, out: &mut [i32])
     requires some { (1 ≤ length delays.now) × (length delays.now ≤ 16) }
     requires channels { line.now.channels ≡ length delays.now }
-    requires late { (k : ℕ) → k < length delays.now → (slice_index delays.now k ≡ 0) ⊎ (count ≤ slice_index delays.now k) }
+    requires late { NoShorterDelay count delays.now }
     requires frames { length frames.now ≡ count * length delays.now }
     requires out { length out.old ≡ count * length delays.now }
-    ensures { pieces (length delays.now) count out.new ≡ frames_after delay_taps delays.now line.now.items (pieces (length delays.now) count frames.now) }
+    ensures { MakesBlock delay_taps delays.now line.now.items count frames.now out.new }
 {
     out.copy_from_slice(frames);
     'channels: for channel in 0..delays.len() {
@@ -280,13 +279,13 @@ fn delay_pieces(
     requires channels { line.old.channels ≡ length delays.now }
     requires capacity { line.old.capacity ≡ largest delays.now }
     requires maximum { 1 ≤ maximum }
-    requires late { (k : ℕ) → k < length delays.now → (slice_index delays.now k ≡ 0) ⊎ (maximum ≤ slice_index delays.now k) }
+    requires late { NoShorterDelay maximum delays.now }
     requires bound { count ≤ 2 ^ 56 }
     requires input { count * length delays.now ≤ length input.now }
     requires output { count * length delays.now ≤ length output.old }
-    ensures frames { pieces (length delays.now) count output.new ≡ frames_after delay_taps delays.now line.old.items (pieces (length delays.now) count input.now) }
+    ensures frames { MakesBlock delay_taps delays.now line.old.items count input.now output.new }
     ensures rest_unchanged { drop (count * length delays.now) output.new ≡ drop (count * length delays.now) output.old }
-    ensures line { line.new.items ≡ last_of line.old.capacity (line.old.items ++ pieces (length delays.now) count input.now) }
+    ensures line { line.new.items ≡ pushed_all line.old (pieces (length delays.now) count input.now) }
     ensures line_capacity { line.new.capacity ≡ line.old.capacity }
     ensures line_channels { line.new.channels ≡ line.old.channels }
 {
@@ -318,11 +317,11 @@ impl Delays {
         requires bound { count ≤ 2 ^ 56 }
         requires group { (length samples.old ≤ PLACES) × (PLACES ≤ 64) }
         requires samples { length samples.old ≡ count * length self.now }
-        ensures frames { pieces (length self.now) count samples.new ≡ frames_after delay_taps self.now line.old.items (pieces (length self.now) count samples.old) }
-        ensures clips { result ≡ clips_after delay_taps self.now line.old.items (pieces (length self.now) count samples.old) }
+        ensures frames { MakesBlock delay_taps self.now line.old.items count samples.old samples.new }
+        ensures clips { result ≡ clips_in_block delay_taps self.now line.old.items count samples.old }
         ensures bound { result ≤ count * delay_taps.max_clips self.now }
         ensures small { result ≤ 16 * count }
-        ensures line { line.new.items ≡ last_of line.old.capacity (line.old.items ++ pieces (length self.now) count samples.old) }
+        ensures line { line.new.items ≡ pushed_all line.old (pieces (length self.now) count samples.old) }
         ensures line_capacity { line.new.capacity ≡ line.old.capacity }
         ensures line_channels { line.new.channels ≡ line.old.channels }
     {

@@ -1,21 +1,19 @@
 //! The effect `echo` of sox(1): earlier frames are added again, each with a decay.
-ghost use Rattle.std.specs.Prelude.{◌≡◌, ◌<◌, ◌≤◌, ◌+◌, ◌*◌, ◌^◌, ◌++◌, ◌∷◌, [], ℕ, true, pos, ◌+ℤ◌, ◌*ℤ◌, length, slice_index_or, unsigned_abs, Err, IfOk, IfSome, MatchResult, map};
+ghost use Rattle.std.specs.Prelude.{◌≡◌, ◌<◌, ◌≤◌, ◌+◌, ◌*◌, ◌^◌, ◌++◌, ◌∷◌, [], ℕ, true, pos, ◌+ℤ◌, ◌*ℤ◌, length, slice_index_or, unsigned_abs, Err, IfOk, IfSome, map};
 ghost use Rattle.std.proofs.Common.{rules};
 ghost use Rattle.std.specs.List.{All};
 ghost use Rattle.fx_fixed.specs.Extents.{largest};
 ghost use Rattle.fx_tap_delays.specs.DelayExtents.{tap_delay};
-ghost use Rattle.fx_fixed.specs.Rounding.{rounding};
-ghost use Rattle.fx_frame_line.specs.Line.{pushed};
-ghost use Rattle.fx_frame_base.specs.Lists.{tabulate, pieces};
-ghost use Rattle.fx_frame_base.specs.Given.{given_samples};
+ghost use Rattle.fx_frame_line.specs.Line.{pushed, pushed_all};
+ghost use Rattle.fx_frame_base.specs.Lists.{pieces};
 ghost use Rattle.fx_frame_base.specs.Stage.{Freezes, IsNew};
-ghost use Rattle.fx_tap_delays.specs.Echo.{EchoArguments, IsEcho, echo_sum, echoed_frame};
-ghost use Rattle.fx_tap_delays.specs.EchoState.{echo_acts, echo_taps};
-ghost use Rattle.fx_tap_sums.specs.Weights.{SoundsAs};
-ghost use Rattle.fx_tap_delays.specs.EchoWeights.{weighed};
+ghost use Rattle.fx_tap_delays.specs.Echo.{EchoArguments, IsEcho, echo_sum, echoed_frame, echo_with};
+ghost use Rattle.fx_tap_delays.specs.EchoState.{echo_acts, echo_taps, RestoresEcho};
+ghost use Rattle.fx_tap_sums.specs.Weights.{SoundsAs, AreSmall};
+ghost use Rattle.fx_tap_delays.specs.EchoWeights.{weighed, one_echo_frame, AreEchoSums};
 ghost use Rattle.fx_tap_delays.specs.Near.{taps-near};
-ghost use Rattle.fx_frame.specs.Tapped.{IsTapState, TapState, clips_after, frames_after, last_of};
-ghost use Rattle.fx_frame.specs.History.{sample_before};
+ghost use Rattle.fx_tap_delays.specs.Sums.{AddsToEach};
+ghost use Rattle.fx_tap_delays.specs.Tapping.{MakesBlock, clips_in_block, history_after};
 
 pub mod words;
 
@@ -65,8 +63,8 @@ fn add_echo(sums: &mut Sums, channels: usize, line: &Line, frame: Frame, echo: (
     requires channels { channels ≤ 16 }
     requires late { 1 ≤ echo.0 }
     requires decay { unsigned_abs echo.1 ≤ UNIT }
-    requires free { (k : ℕ) → unsigned_abs (slice_index_or sums.old k (pos 0)) ≤ 2 ^ 100 }
-    ensures added { (k : ℕ) → k < channels → slice_index_or sums.new k (pos 0) ≡ slice_index_or sums.old k (pos 0) +ℤ (echo.1 *ℤ sample_before (line.now.items ++ frame ∷ []) (length line.now.items) echo.0 k) }
+    requires free { AreSmall (2 ^ 100) sums.old }
+    ensures added { AddsToEach channels sums.old sums.new (λ k. echo.1 *ℤ history_after line.now.items frame echo.0 k) }
     ensures bound { (k : ℕ) → unsigned_abs (slice_index_or sums.new k (pos 0)) ≤ unsigned_abs (slice_index_or sums.old k (pos 0)) + UNIT * 2 ^ 31 }
 {
     let (late, decay) = echo;
@@ -79,8 +77,8 @@ fn add_echo(sums: &mut Sums, channels: usize, line: &Line, frame: Frame, echo: (
 impl PreparedEcho {
     /// Those of at most seven echoes, prepared.
     fn of(channels: usize, gain_in: Gain, gain_out: Gain, taps: Vec<(u64, Gain)>) -> PreparedEcho
-        requires { IsEcho (record { channels = channels; gain_in = gain_in; gain_out = gain_out; taps = taps.items }) }
-        ensures { result ≡ record { channels = channels; gain_in = gain_in; gain_out = gain_out; taps = taps.items } }
+        requires { IsEcho (echo_with channels gain_in gain_out taps.items) }
+        ensures { result ≡ echo_with channels gain_in gain_out taps.items }
     {
         let small = small_of(gain_in, gain_out, &taps, MAX_ECHO_WEIGHT);
         PreparedEcho {
@@ -95,7 +93,7 @@ impl PreparedEcho {
     /// A sample of a frame that comes after those of the line, and its echoes, each times its weight, added.
     #[inline(always)]
     fn small_sum(&self, small: &SmallWeights, line: &Line, frame: &[i32], channel: usize) -> i64
-        ensures value { result ≡ echo_sum (weighed self.now small.now.weights) (sample_before (line.now.items ++ frame.now ∷ []) (length line.now.items)) channel }
+        ensures value { result ≡ echo_sum (weighed self.now small.now.weights) (history_after line.now.items frame.now) channel }
         ensures small { unsigned_abs result ≤ 2 ^ 61 }
     {
         let mut sum = product(small.weights[0], sample(line, frame, 0, channel));
@@ -112,8 +110,8 @@ impl PreparedEcho {
     fn small_into(&self, small: &SmallWeights, line: &Line, frame: &[i32], out: &mut [i32]) -> u64
         requires sounds { SoundsAs self.now.gain_in self.now.gain_out self.now.taps small.now }
         requires out { length out.old ≡ self.now.channels }
-        ensures frame { out.new ≡ (echoed_frame self.now (sample_before (line.now.items ++ frame.now ∷ []) (length line.now.items))).samples }
-        ensures clips { result ≡ (echoed_frame self.now (sample_before (line.now.items ++ frame.now ∷ []) (length line.now.items))).clips }
+        ensures frame { out.new ≡ (echoed_frame self.now (history_after line.now.items frame.now)).samples }
+        ensures clips { result ≡ (echoed_frame self.now (history_after line.now.items frame.now)).clips }
         ensures bound { result ≤ length out.old }
     {
         let mut clips = 0;
@@ -127,8 +125,8 @@ impl PreparedEcho {
     /// The frame times gain-in, and its echoes, added.
     #[inline(always)]
     fn sums(&self, line: &Line, frame: Frame) -> Sums
-        ensures value { (k : ℕ) → k < self.now.channels → slice_index_or result k (pos 0) ≡ echo_sum self.now (sample_before (line.now.items ++ frame ∷ []) (length line.now.items)) k }
-        ensures small { (k : ℕ) → unsigned_abs (slice_index_or result k (pos 0)) ≤ 8 * (UNIT * 2 ^ 31) }
+        ensures value { (k : ℕ) → k < self.now.channels → slice_index_or result k (pos 0) ≡ echo_sum self.now (history_after line.now.items frame) k }
+        ensures small { AreSmall (8 * (UNIT * 2 ^ 31)) result }
     {
         let mut sums = [0; 16];
         add_scaled(&mut sums, self.channels, self.gain_in, frame);
@@ -147,8 +145,8 @@ impl PreparedEcho {
     fn wide_into(&self, line: &Line, frame: &[i32], out: &mut [i32]) -> u64
         requires frame { length frame.now ≡ self.now.channels }
         requires out { length out.old ≡ self.now.channels }
-        ensures frame { out.new ≡ (echoed_frame self.now (sample_before (line.now.items ++ frame.now ∷ []) (length line.now.items))).samples }
-        ensures clips { result ≡ (echoed_frame self.now (sample_before (line.now.items ++ frame.now ∷ []) (length line.now.items))).clips }
+        ensures frame { out.new ≡ (echoed_frame self.now (history_after line.now.items frame.now)).samples }
+        ensures clips { result ≡ (echoed_frame self.now (history_after line.now.items frame.now)).clips }
         ensures bound { result ≤ length out.old }
     {
         let frame = frame_at(frame, 0, self.channels);
@@ -223,7 +221,7 @@ impl Tapped<PreparedEcho> {
         requires delays { All (λ e. 1 ≤ e.0) taps.now }
         requires decays { All (λ e. unsigned_abs e.1 ≤ UNIT) taps.now }
         requires line { largest (map tap_delay taps.now) ≤ 2 ^ 28 }
-        ensures { IfOk result (IsNew echo_acts (record { channels = channels; gain_in = gain_in; gain_out = gain_out; taps = taps.now })) }
+        ensures { IfOk result (IsNew echo_acts (echo_with channels gain_in gain_out taps.now)) }
     {
         let reach = max_tap_delay(taps) as usize;
         let taps = copied(alloc, taps)?;
@@ -248,9 +246,9 @@ impl Tapped<PreparedEcho> {
         requires delays { All (λ e. 1 ≤ e.0) taps.now }
         requires decays { All (λ e. unsigned_abs e.1 ≤ UNIT) taps.now }
         requires line { largest (map tap_delay taps.now) ≤ 2 ^ 28 }
-        ensures recipe { IfOk result (λ t. echo_acts.recipe t ≡ record { channels = channels; gain_in = gain_in; gain_out = gain_out; taps = taps.now }) }
+        ensures recipe { IfOk result (λ t. echo_acts.recipe t ≡ echo_with channels gain_in gain_out taps.now) }
         ensures frozen { IfOk result (λ t. Freezes echo_acts t frames.now numbers.now) }
-        ensures thawed { (s : TapState EchoArguments) → IsTapState echo_taps s → echo_acts.recipe s ≡ record { channels = channels; gain_in = gain_in; gain_out = gain_out; taps = taps.now } → Freezes echo_acts s frames.now numbers.now → MatchResult result (λ t. t ≡ s) (λ e. e ≡ ThawFault.Memory) }
+        ensures thawed { RestoresEcho (echo_with channels gain_in gain_out taps.now) frames.now numbers.now result }
         ensures named { (result ≡ Err ThawFault.WrongPlan) → ⊥ }
     {
         let reach = max_tap_delay(taps) as usize;
@@ -298,8 +296,8 @@ impl PreparedEcho {
         requires earlier { length earlier.old ≡ count * self.now.channels }
         requires sums { length sums.old ≡ count * self.now.channels }
         requires empty { (k : ℕ) → slice_index_or sums.old k (pos 0) ≡ pos 0 }
-        ensures value { (i k : ℕ) → i < count → k < self.now.channels → slice_index_or sums.new (i * self.now.channels + k) (pos 0) ≡ echo_sum (weighed self.now small.now.weights) (sample_before (line.now.items ++ pieces self.now.channels count frames.now) (length line.now.items + i)) k }
-        ensures small { (k : ℕ) → unsigned_abs (slice_index_or sums.new k (pos 0)) ≤ 2 ^ 61 }
+        ensures value { AreEchoSums (weighed self.now small.now.weights) line.now.items count frames.now sums.new }
+        ensures small { AreSmall (2 ^ 61) sums.new }
     {
         add_products(sums, frames, small.weights[0]);
         'taps: for place in 0..self.taps.len() {
@@ -325,8 +323,8 @@ impl PreparedEcho {
         requires free { count * self.now.channels ≤ 256 }
         requires frames { length frames.now ≡ count * self.now.channels }
         requires out { length out.old ≡ count * self.now.channels }
-        ensures frames { pieces self.now.channels count out.new ≡ frames_after echo_taps self.now line.now.items (pieces self.now.channels count frames.now) }
-        ensures clips { result ≡ clips_after echo_taps self.now line.now.items (pieces self.now.channels count frames.now) }
+        ensures frames { MakesBlock echo_taps self.now line.now.items count frames.now out.new }
+        ensures clips { result ≡ clips_in_block echo_taps self.now line.now.items count frames.now }
         ensures bound { result ≤ count * self.now.channels }
     {
         let mut places = [0; SAMPLES_OF_PIECE];
@@ -343,8 +341,8 @@ impl PreparedEcho {
 #[inline(always)]
 fn one_echo_over(small: &SmallWeights, came: &[i32], earlier: &mut [i32]) -> u64
     requires places { length came.now ≡ length earlier.old }
-    ensures frame { earlier.new ≡ (given_samples (tabulate (λ k. rounding ((slice_index_or small.now.weights 0 (pos 0) *ℤ slice_index_or came.now k (pos 0)) +ℤ (slice_index_or small.now.weights 1 (pos 0) *ℤ slice_index_or earlier.old k (pos 0))) small.now.denominator) 0 (length earlier.old))).samples }
-    ensures clips { result ≡ (given_samples (tabulate (λ k. rounding ((slice_index_or small.now.weights 0 (pos 0) *ℤ slice_index_or came.now k (pos 0)) +ℤ (slice_index_or small.now.weights 1 (pos 0) *ℤ slice_index_or earlier.old k (pos 0))) small.now.denominator) 0 (length earlier.old))).clips }
+    ensures frame { earlier.new ≡ (one_echo_frame small.now came.now earlier.old).samples }
+    ensures clips { result ≡ (one_echo_frame small.now came.now earlier.old).clips }
     ensures bound { result ≤ length earlier.old }
 {
     let mut clips = 0;
@@ -375,8 +373,8 @@ impl PreparedEcho {
         requires frame { length samples.old ≡ self.now.channels }
         requires bound { length samples.old ≤ 16 }
         requires free { length came.old ≡ length samples.old }
-        ensures frame { samples.new ≡ (echoed_frame self.now (sample_before (line.old.items ++ samples.old ∷ []) (length line.old.items))).samples }
-        ensures clips { result ≡ (echoed_frame self.now (sample_before (line.old.items ++ samples.old ∷ []) (length line.old.items))).clips }
+        ensures frame { samples.new ≡ (echoed_frame self.now (history_after line.old.items samples.old)).samples }
+        ensures clips { result ≡ (echoed_frame self.now (history_after line.old.items samples.old)).clips }
         ensures bound { result ≤ 16 }
         ensures items { line.new.items ≡ pushed line.old samples.old }
         ensures line_capacity { line.new.capacity ≡ line.old.capacity }
@@ -398,8 +396,8 @@ impl PreparedEcho {
         requires capacity { line.old.capacity ≡ largest (map tap_delay self.now.taps) }
         requires frame { length samples.old ≡ self.now.channels }
         requires bound { length samples.old ≤ 16 }
-        ensures frame { samples.new ≡ (echoed_frame self.now (sample_before (line.old.items ++ samples.old ∷ []) (length line.old.items))).samples }
-        ensures clips { result ≡ (echoed_frame self.now (sample_before (line.old.items ++ samples.old ∷ []) (length line.old.items))).clips }
+        ensures frame { samples.new ≡ (echoed_frame self.now (history_after line.old.items samples.old)).samples }
+        ensures clips { result ≡ (echoed_frame self.now (history_after line.old.items samples.old)).clips }
         ensures bound { result ≤ 16 }
         ensures items { line.new.items ≡ pushed line.old samples.old }
         ensures line_capacity { line.new.capacity ≡ line.old.capacity }
@@ -422,8 +420,8 @@ impl PreparedEcho {
         requires capacity { line.old.capacity ≡ largest (map tap_delay self.now.taps) }
         requires frame { length samples.old ≡ self.now.channels }
         requires bound { length samples.old ≤ 16 }
-        ensures frame { samples.new ≡ (echoed_frame self.now (sample_before (line.old.items ++ samples.old ∷ []) (length line.old.items))).samples }
-        ensures clips { result ≡ (echoed_frame self.now (sample_before (line.old.items ++ samples.old ∷ []) (length line.old.items))).clips }
+        ensures frame { samples.new ≡ (echoed_frame self.now (history_after line.old.items samples.old)).samples }
+        ensures clips { result ≡ (echoed_frame self.now (history_after line.old.items samples.old)).clips }
         ensures bound { result ≤ 16 }
         ensures items { line.new.items ≡ pushed line.old samples.old }
         ensures line_capacity { line.new.capacity ≡ line.old.capacity }
@@ -453,10 +451,10 @@ impl PreparedEcho {
         requires bound { count ≤ 2 ^ 56 }
         requires group { (length samples.old ≤ PLACES) × (PLACES ≤ 64) }
         requires samples { length samples.old ≡ count * self.now.channels }
-        ensures frames { pieces self.now.channels count samples.new ≡ frames_after echo_taps self.now line.old.items (pieces self.now.channels count samples.old) }
-        ensures clips { result ≡ clips_after echo_taps self.now line.old.items (pieces self.now.channels count samples.old) }
+        ensures frames { MakesBlock echo_taps self.now line.old.items count samples.old samples.new }
+        ensures clips { result ≡ clips_in_block echo_taps self.now line.old.items count samples.old }
         ensures bound { result ≤ count * 16 }
-        ensures line { line.new.items ≡ last_of line.old.capacity (line.old.items ++ pieces self.now.channels count samples.old) }
+        ensures line { line.new.items ≡ pushed_all line.old (pieces self.now.channels count samples.old) }
         ensures line_capacity { line.new.capacity ≡ line.old.capacity }
         ensures line_channels { line.new.channels ≡ line.old.channels }
     {
@@ -486,10 +484,10 @@ impl PreparedEcho {
         requires bound { count ≤ 2 ^ 56 }
         requires group { (length samples.old ≤ PLACES) × (PLACES ≤ 64) }
         requires samples { length samples.old ≡ count * self.now.channels }
-        ensures frames { pieces self.now.channels count samples.new ≡ frames_after echo_taps self.now line.old.items (pieces self.now.channels count samples.old) }
-        ensures clips { result ≡ clips_after echo_taps self.now line.old.items (pieces self.now.channels count samples.old) }
+        ensures frames { MakesBlock echo_taps self.now line.old.items count samples.old samples.new }
+        ensures clips { result ≡ clips_in_block echo_taps self.now line.old.items count samples.old }
         ensures bound { result ≤ count * 16 }
-        ensures line { line.new.items ≡ last_of line.old.capacity (line.old.items ++ pieces self.now.channels count samples.old) }
+        ensures line { line.new.items ≡ pushed_all line.old (pieces self.now.channels count samples.old) }
         ensures line_capacity { line.new.capacity ≡ line.old.capacity }
         ensures line_channels { line.new.channels ≡ line.old.channels }
     {

@@ -1,18 +1,17 @@
 //! The effect `echos` of sox(1): echoes in series, each line taking the frame and what the line before it outputs.
-ghost use Rattle.std.specs.Prelude.{◌≡◌, ◌↔◌, true, ◌<◌, ◌≤◌, ◌+◌, ◌*◌, ◌^◌, ◌+ℤ◌, ◌*ℤ◌, ℕ, pos, length, map, unsigned_abs, slice_get, slice_index_or, replicate, drop, Err, IfOk, IfSome, MatchResult};
+ghost use Rattle.std.specs.Prelude.{◌≡◌, ◌↔◌, true, ◌<◌, ◌≤◌, ◌+◌, ◌*◌, ◌^◌, ◌+ℤ◌, ◌*ℤ◌, ℕ, pos, length, map, unsigned_abs, slice_get, slice_index_or, drop, Err, IfOk, IfSome};
 ghost use Rattle.std.specs.List.{All};
 ghost use Rattle.fx_tap_delays.specs.DelayExtents.{sum_of_delays};
-ghost use Rattle.fx_frame_base.specs.Frame.{IsFrame};
-ghost use Rattle.fx_frame_line.specs.Line.{channel_of, empty, pushed_out};
-ghost use Rattle.fx_frame_base.specs.Holds.{total};
+ghost use Rattle.fx_frame_base.specs.Frame.{IsFrame, silence};
+ghost use Rattle.fx_frame_line.specs.Line.{empty, pushed_out};
 ghost use Rattle.fx_frame_base.specs.Lists.{pieces};
-ghost use Rattle.fx_frame_base.specs.Stage.{Freezes, Given, IsNew};
-ghost use Rattle.fx_tap_delays.specs.Echo.{EchoArguments};
+ghost use Rattle.fx_frame_base.specs.Stage.{Freezes, IsNew};
+ghost use Rattle.fx_tap_delays.specs.Echo.{EchoArguments, echo_with};
 ghost use Rattle.fx_tap_delays.specs.Echos.{decays};
-ghost use Rattle.fx_tap_delays.specs.EchosState.{EchosState, IsEchoLine, IsEchos, IsSeriesLine, after_push, delay_at, echos_acts, fed, frame_of_lines, frames_of_lines, gone_at, let_go, line_at, lines_after, or_silence, series_lines_after, through_lines};
+ghost use Rattle.fx_tap_delays.specs.EchosState.{EchosState, IsEchos, after_push, echos_acts, fed, frames_of_lines, let_go, lines_after, or_silence, series_lines_after, AreEchoLines, AreSeriesLines, HaveCapacity, decayed_sum, frame_from_lines, SendsThrough, clips_through, AreLineSums, RestoresEchos};
 ghost use Rattle.fx_tap_sums.specs.Weights.{AreSmall};
-ghost use Rattle.fx_tap_delays.specs.EchoWeights.{Suits};
-ghost use Rattle.fx_tap_sums.specs.Products.{sum_of_products};
+ghost use Rattle.fx_tap_delays.specs.EchoWeights.{Suits, ForAllSuited};
+ghost use Rattle.fx_tap_delays.specs.Sums.{AddsToEach};
 
 use crate::echo::{SAMPLES_OF_PIECE, are_late, copied, frames_of_piece};
 use crate::extents::total_delay;
@@ -66,7 +65,7 @@ impl Model for Echos {
 #[inline(always)]
 fn fed_frame(channels: usize, frame: Frame, before: WideFrame) -> WideFrame
     requires channels { (1 ≤ channels) × (channels ≤ 16) }
-    requires small { (k : ℕ) → unsigned_abs (slice_index_or before k (pos 0)) ≤ 2 ^ 34 }
+    requires small { AreSmall (2 ^ 34) before }
     ensures value { result ≡ fed channels frame before }
     ensures count { length result ≡ channels }
 {
@@ -84,7 +83,7 @@ fn fed_frame(channels: usize, frame: Frame, before: WideFrame) -> WideFrame
 fn feed(line: &mut WideLine, channels: usize, frame: Frame, before: WideFrame) -> WideFrame
     requires channels { (1 ≤ channels) × (channels ≤ 16) }
     requires line { line.old.channels ≡ channels }
-    requires small { (k : ℕ) → unsigned_abs (slice_index_or before k (pos 0)) ≤ 2 ^ 34 }
+    requires small { AreSmall (2 ^ 34) before }
     ensures gone { result ≡ or_silence channels (pushed_out line.old (fed channels frame before)) }
     ensures line { line.new ≡ after_push line.old (fed channels frame before) }
 {
@@ -100,9 +99,9 @@ fn feed(line: &mut WideLine, channels: usize, frame: Frame, before: WideFrame) -
 fn add_gone(sums: &mut Sums, channels: usize, decay: Gain, gone: WideFrame)
     requires channels { channels ≤ 16 }
     requires decay { unsigned_abs decay ≤ UNIT }
-    requires small { (k : ℕ) → unsigned_abs (slice_index_or gone k (pos 0)) ≤ 2 ^ 34 }
-    requires free { (k : ℕ) → unsigned_abs (slice_index_or sums.old k (pos 0)) ≤ 2 ^ 100 }
-    ensures added { (k : ℕ) → k < channels → slice_index_or sums.new k (pos 0) ≡ slice_index_or sums.old k (pos 0) +ℤ (decay *ℤ slice_index_or gone k (pos 0)) }
+    requires small { AreSmall (2 ^ 34) gone }
+    requires free { AreSmall (2 ^ 100) sums.old }
+    ensures added { AddsToEach channels sums.old sums.new (λ k. decay *ℤ slice_index_or gone k (pos 0)) }
     ensures left { (k : ℕ) → channels ≤ k → slice_index_or sums.new k (pos 0) ≡ slice_index_or sums.old k (pos 0) }
 {
     add_places(sums, channels, decay, &gone.places());
@@ -118,12 +117,12 @@ fn pass(
 )
     requires channels { (1 ≤ channels) × (channels ≤ 16) }
     requires count { (length lines.old ≡ length taps.now) × (length lines.old ≤ 7) }
-    requires lines { (j : ℕ) → j < length lines.old → IsSeriesLine channels j (line_at lines.old j) }
+    requires lines { AreSeriesLines channels lines.old }
     requires decays { All (λ e. unsigned_abs e.1 ≤ UNIT) taps.now }
-    requires free { (k : ℕ) → unsigned_abs (slice_index_or sums.old k (pos 0)) ≤ UNIT * 2 ^ 31 }
-    ensures lines { lines.new ≡ lines_after channels lines.old frame (replicate channels (pos 0)) }
-    ensures sums { (k : ℕ) → k < channels → slice_index_or sums.new k (pos 0) ≡ slice_index_or sums.old k (pos 0) +ℤ sum_of_products (decays taps.now) (channel_of (let_go channels lines.old frame (replicate channels (pos 0))) k (pos 0)) }
-    ensures small { (k : ℕ) → unsigned_abs (slice_index_or sums.new k (pos 0)) ≤ 29 * (UNIT * 2 ^ 31) }
+    requires free { AreSmall (UNIT * 2 ^ 31) sums.old }
+    ensures lines { lines.new ≡ lines_after channels lines.old frame (silence channels) }
+    ensures sums { AddsToEach channels sums.old sums.new (decayed_sum taps.now (let_go channels lines.old frame (silence channels))) }
+    ensures small { AreSmall (29 * (UNIT * 2 ^ 31)) sums.new }
 {
     let _count = frame.channels();
     let mut before = WideFrame::from_frame(Frame::silence(channels));
@@ -149,8 +148,8 @@ fn pass_piece<const N: usize>(
 )
     requires channels { (1 ≤ channels) × (channels ≤ 16) }
     requires bound { length lines.old ≤ 7 }
-    requires lines { (j : ℕ) → j < length lines.old → IsSeriesLine channels j (line_at lines.old j) }
-    requires late { (j : ℕ) → j < length lines.old → count ≤ (line_at lines.old j).capacity }
+    requires lines { AreSeriesLines channels lines.old }
+    requires late { HaveCapacity count lines.old }
     requires weights { AreSmall (2 ^ 24) small.now.weights }
     requires places { N ≤ 256 }
     requires free { count * channels ≤ N }
@@ -158,8 +157,8 @@ fn pass_piece<const N: usize>(
     requires sums { length sums.old ≡ count * channels }
     requires empty { (k : ℕ) → slice_index_or sums.old k (pos 0) ≡ pos 0 }
     ensures lines { lines.new ≡ series_lines_after channels lines.old (pieces channels count frames.now) }
-    ensures value { (i k : ℕ) → i < count → k < channels → slice_index_or sums.new (i * channels + k) (pos 0) ≡ (slice_index_or small.now.weights 0 (pos 0) *ℤ slice_index_or frames.now (i * channels + k) (pos 0)) +ℤ sum_of_products (drop 1 small.now.weights) (channel_of (gone_at channels lines.old (pieces channels count frames.now) i) k (pos 0)) }
-    ensures small { (k : ℕ) → unsigned_abs (slice_index_or sums.new k (pos 0)) ≤ 2 ^ 61 }
+    ensures value { AreLineSums small.now.weights channels lines.old count frames.now sums.new }
+    ensures small { AreSmall (2 ^ 61) sums.new }
     ensures frames { (k : ℕ) → k < length frames.now → unsigned_abs (slice_index_or frames.now k (pos 0)) ≤ 2 ^ 31 }
 {
     add_products(sums, frames, small.weights[0]);
@@ -189,15 +188,15 @@ fn echo_piece<const N: usize>(
     requires channels { (1 ≤ channels) × (channels ≤ 16) }
     requires bound { length lines.old ≤ 7 }
     requires weights { AreSmall (2 ^ 24) small.now.weights }
-    requires lines { (j : ℕ) → j < length lines.old → IsSeriesLine channels j (line_at lines.old j) }
-    requires late { (j : ℕ) → j < length lines.old → count ≤ (line_at lines.old j).capacity }
+    requires lines { AreSeriesLines channels lines.old }
+    requires late { HaveCapacity count lines.old }
     requires places { N ≤ 256 }
     requires free { count * channels ≤ N }
     requires frames { length frames.now ≡ count * channels }
     requires out { length out.old ≡ count * channels }
     ensures lines { lines.new ≡ series_lines_after channels lines.old (pieces channels count frames.now) }
-    ensures frames { (a : EchoArguments) → Suits a small.now → a.channels ≡ channels → length a.taps ≡ length lines.old → pieces channels count out.new ≡ map (λ (g : Given). g.samples) (through_lines a lines.old (pieces channels count frames.now)) }
-    ensures clips { (a : EchoArguments) → Suits a small.now → a.channels ≡ channels → length a.taps ≡ length lines.old → result ≡ total (λ (g : Given). g.clips) (through_lines a lines.old (pieces channels count frames.now)) }
+    ensures frames { ForAllSuited small.now channels lines.old (λ a. SendsThrough a lines.old channels count frames.now out.new) }
+    ensures clips { ForAllSuited small.now channels lines.old (λ a. result ≡ clips_through a lines.old channels count frames.now) }
     ensures bound { result ≤ count * channels }
     ensures samples { (k : ℕ) → k < length frames.now → unsigned_abs (slice_index_or frames.now k (pos 0)) ≤ 2 ^ 31 }
 {
@@ -221,13 +220,13 @@ fn echo_batch<const N: usize>(
     requires channels { (1 ≤ channels) × (channels ≤ 16) }
     requires bound { length lines.old ≤ 7 }
     requires weights { AreSmall (2 ^ 24) small.now.weights }
-    requires lines { (j : ℕ) → j < length lines.old → IsSeriesLine channels j (line_at lines.old j) }
-    requires late { (j : ℕ) → j < length lines.old → count ≤ (line_at lines.old j).capacity }
+    requires lines { AreSeriesLines channels lines.old }
+    requires late { HaveCapacity count lines.old }
     requires batch { (length samples.old ≤ N) × (N ≤ 256) }
     requires samples { length samples.old ≡ count * channels }
     ensures lines { lines.new ≡ series_lines_after channels lines.old (pieces channels count samples.old) }
-    ensures frames { (a : EchoArguments) → Suits a small.now → a.channels ≡ channels → length a.taps ≡ length lines.old → pieces channels count samples.new ≡ map (λ (g : Given). g.samples) (through_lines a lines.old (pieces channels count samples.old)) }
-    ensures clips { (a : EchoArguments) → Suits a small.now → a.channels ≡ channels → length a.taps ≡ length lines.old → result ≡ total (λ (g : Given). g.clips) (through_lines a lines.old (pieces channels count samples.old)) }
+    ensures frames { ForAllSuited small.now channels lines.old (λ a. SendsThrough a lines.old channels count samples.old samples.new) }
+    ensures clips { ForAllSuited small.now channels lines.old (λ a. result ≡ clips_through a lines.old channels count samples.old) }
     ensures bound { result ≤ count * channels }
     ensures small { (k : ℕ) → k < length samples.old → unsigned_abs (slice_index_or samples.old k (pos 0)) ≤ 2 ^ 31 }
 {
@@ -251,17 +250,17 @@ fn echo_many(
     requires channels { (1 ≤ channels) × (channels ≤ 16) }
     requires taps { (length lines.old ≡ length taps.now) × (length lines.old ≤ 7) }
     requires delays { All (λ e. 1 ≤ e.0) taps.now }
-    requires lines { (came : ℕ) × ((j : ℕ) → j < length lines.old → IsEchoLine channels came j (delay_at taps.now j) (line_at lines.old j)) }
+    requires lines { (came : ℕ) × AreEchoLines channels came taps.now lines.old }
     requires weights { AreSmall (2 ^ 24) small.now.weights }
     requires bound { count ≤ 2 ^ 56 }
     requires input { count * channels ≤ length input.now }
     requires output { count * channels ≤ length output.old }
     ensures lines { lines.new ≡ series_lines_after channels lines.old (pieces channels count input.now) }
-    ensures frames { (a : EchoArguments) → Suits a small.now → a.channels ≡ channels → length a.taps ≡ length lines.old → pieces channels count output.new ≡ map (λ (g : Given). g.samples) (through_lines a lines.old (pieces channels count input.now)) }
-    ensures clips { (a : EchoArguments) → Suits a small.now → a.channels ≡ channels → length a.taps ≡ length lines.old → result ≡ total (λ (g : Given). g.clips) (through_lines a lines.old (pieces channels count input.now)) }
+    ensures frames { ForAllSuited small.now channels lines.old (λ a. SendsThrough a lines.old channels count input.now output.new) }
+    ensures clips { ForAllSuited small.now channels lines.old (λ a. result ≡ clips_through a lines.old channels count input.now) }
     ensures bound { result ≤ count * 16 }
     ensures rest_unchanged { drop (count * channels) output.new ≡ drop (count * channels) output.old }
-    ensures sound { (came : ℕ) → ((j : ℕ) → j < length lines.old → IsEchoLine channels came j (delay_at taps.now j) (line_at lines.old j)) → (j : ℕ) → j < length lines.new → IsEchoLine channels (came + count) j (delay_at taps.now j) (line_at lines.new j) }
+    ensures sound { (came : ℕ) → AreEchoLines channels came taps.now lines.old → AreEchoLines channels (came + count) taps.now lines.new }
 {
     let maximum = frames_of_piece(channels, taps);
     let mut done = 0;
@@ -292,14 +291,14 @@ fn wide_over(
     requires channels { (1 ≤ channels) × (channels ≤ 16) }
     requires frame { length samples.old ≡ channels }
     requires count { (length lines.old ≡ length taps.now) × (length lines.old ≤ 7) }
-    requires lines { (j : ℕ) → j < length lines.old → IsSeriesLine channels j (line_at lines.old j) }
+    requires lines { AreSeriesLines channels lines.old }
     requires gain_in { unsigned_abs gains.0 ≤ UNIT }
     requires decays { All (λ e. unsigned_abs e.1 ≤ UNIT) taps.now }
-    ensures lines { lines.new ≡ lines_after channels lines.old samples.old (replicate channels (pos 0)) }
-    ensures frame { samples.new ≡ (frame_of_lines (record { channels = channels; gain_in = gains.0; gain_out = gains.1; taps = taps.now }) samples.old (let_go channels lines.old samples.old (replicate channels (pos 0)))).samples }
-    ensures clips { result ≡ (frame_of_lines (record { channels = channels; gain_in = gains.0; gain_out = gains.1; taps = taps.now }) samples.old (let_go channels lines.old samples.old (replicate channels (pos 0)))).clips }
+    ensures lines { lines.new ≡ lines_after channels lines.old samples.old (silence channels) }
+    ensures frame { samples.new ≡ (frame_from_lines (echo_with channels gains.0 gains.1 taps.now) lines.old samples.old).samples }
+    ensures clips { result ≡ (frame_from_lines (echo_with channels gains.0 gains.1 taps.now) lines.old samples.old).clips }
     ensures bound { result ≤ 16 }
-    ensures small { (k : ℕ) → unsigned_abs (slice_index_or samples.old k (pos 0)) ≤ 2 ^ 31 }
+    ensures small { AreSmall (2 ^ 31) samples.old }
 {
     let frame = frame_at(samples, 0, channels);
     let mut sums = [0; 16];
@@ -322,16 +321,16 @@ fn echo_over(
     requires channels { (1 ≤ channels) × (channels ≤ 16) }
     requires frame { length samples.old ≡ channels }
     requires count { (length lines.old ≡ length taps.now) × (length lines.old ≤ 7) }
-    requires lines { (j : ℕ) → j < length lines.old → IsSeriesLine channels j (line_at lines.old j) }
-    requires late { (j : ℕ) → j < length lines.old → 1 ≤ (line_at lines.old j).capacity }
-    requires small { IfSome small.now (Suits (record { channels = channels; gain_in = gains.0; gain_out = gains.1; taps = taps.now })) }
+    requires lines { AreSeriesLines channels lines.old }
+    requires late { HaveCapacity 1 lines.old }
+    requires small { IfSome small.now (Suits (echo_with channels gains.0 gains.1 taps.now)) }
     requires gain_in { unsigned_abs gains.0 ≤ UNIT }
     requires decays { All (λ e. unsigned_abs e.1 ≤ UNIT) taps.now }
-    ensures lines { lines.new ≡ lines_after channels lines.old samples.old (replicate channels (pos 0)) }
-    ensures frame { samples.new ≡ (frame_of_lines (record { channels = channels; gain_in = gains.0; gain_out = gains.1; taps = taps.now }) samples.old (let_go channels lines.old samples.old (replicate channels (pos 0)))).samples }
-    ensures clips { result ≡ (frame_of_lines (record { channels = channels; gain_in = gains.0; gain_out = gains.1; taps = taps.now }) samples.old (let_go channels lines.old samples.old (replicate channels (pos 0)))).clips }
+    ensures lines { lines.new ≡ lines_after channels lines.old samples.old (silence channels) }
+    ensures frame { samples.new ≡ (frame_from_lines (echo_with channels gains.0 gains.1 taps.now) lines.old samples.old).samples }
+    ensures clips { result ≡ (frame_from_lines (echo_with channels gains.0 gains.1 taps.now) lines.old samples.old).clips }
     ensures bound { result ≤ 16 }
-    ensures small { (k : ℕ) → unsigned_abs (slice_index_or samples.old k (pos 0)) ≤ 2 ^ 31 }
+    ensures small { AreSmall (2 ^ 31) samples.old }
 {
     if let Some(small) = small {
         return echo_batch::<MAX_CHANNELS>(lines, small, channels, samples, 1);
@@ -352,17 +351,17 @@ fn echo_over_by_frames(
 ) -> u64
     requires channels { (1 ≤ channels) × (channels ≤ 16) }
     requires taps { (length lines.old ≡ length taps.now) × (length lines.old ≤ 7) }
-    requires lines { (came : ℕ) × ((j : ℕ) → j < length lines.old → IsEchoLine channels came j (delay_at taps.now j) (line_at lines.old j)) }
-    requires small { IfSome small.now (Suits (record { channels = channels; gain_in = gains.0; gain_out = gains.1; taps = taps.now })) }
+    requires lines { (came : ℕ) × AreEchoLines channels came taps.now lines.old }
+    requires small { IfSome small.now (Suits (echo_with channels gains.0 gains.1 taps.now)) }
     requires gain_in { unsigned_abs gains.0 ≤ UNIT }
     requires decays { All (λ e. unsigned_abs e.1 ≤ UNIT) taps.now }
     requires bound { count ≤ 2 ^ 56 }
     requires samples { length samples.old ≡ count * channels }
     ensures lines { lines.new ≡ series_lines_after channels lines.old (pieces channels count samples.old) }
-    ensures frames { pieces channels count samples.new ≡ map (λ (g : Given). g.samples) (through_lines (record { channels = channels; gain_in = gains.0; gain_out = gains.1; taps = taps.now }) lines.old (pieces channels count samples.old)) }
-    ensures clips { result ≡ total (λ (g : Given). g.clips) (through_lines (record { channels = channels; gain_in = gains.0; gain_out = gains.1; taps = taps.now }) lines.old (pieces channels count samples.old)) }
+    ensures frames { SendsThrough (echo_with channels gains.0 gains.1 taps.now) lines.old channels count samples.old samples.new }
+    ensures clips { result ≡ clips_through (echo_with channels gains.0 gains.1 taps.now) lines.old channels count samples.old }
     ensures bound { result ≤ count * 16 }
-    ensures sound { (came : ℕ) → ((j : ℕ) → j < length lines.old → IsEchoLine channels came j (delay_at taps.now j) (line_at lines.old j)) → (j : ℕ) → j < length lines.new → IsEchoLine channels (came + count) j (delay_at taps.now j) (line_at lines.new j) }
+    ensures sound { (came : ℕ) → AreEchoLines channels came taps.now lines.old → AreEchoLines channels (came + count) taps.now lines.new }
 {
     let mut clips = 0;
     'frames: for turn in 0..count {
@@ -386,17 +385,17 @@ fn echo_frames(
 ) -> u64
     requires channels { (1 ≤ channels) × (channels ≤ 16) }
     requires taps { (length lines.old ≡ length taps.now) × (length lines.old ≤ 7) }
-    requires lines { (came : ℕ) × ((j : ℕ) → j < length lines.old → IsEchoLine channels came j (delay_at taps.now j) (line_at lines.old j)) }
-    requires small { IfSome small.now (Suits (record { channels = channels; gain_in = gains.0; gain_out = gains.1; taps = taps.now })) }
+    requires lines { (came : ℕ) × AreEchoLines channels came taps.now lines.old }
+    requires small { IfSome small.now (Suits (echo_with channels gains.0 gains.1 taps.now)) }
     requires gain_in { unsigned_abs gains.0 ≤ UNIT }
     requires decays { All (λ e. unsigned_abs e.1 ≤ UNIT) taps.now }
     requires bound { count ≤ 2 ^ 56 }
     requires samples { length samples.old ≡ count * channels }
     ensures lines { lines.new ≡ series_lines_after channels lines.old (pieces channels count samples.old) }
-    ensures frames { pieces channels count samples.new ≡ map (λ (g : Given). g.samples) (through_lines (record { channels = channels; gain_in = gains.0; gain_out = gains.1; taps = taps.now }) lines.old (pieces channels count samples.old)) }
-    ensures clips { result ≡ total (λ (g : Given). g.clips) (through_lines (record { channels = channels; gain_in = gains.0; gain_out = gains.1; taps = taps.now }) lines.old (pieces channels count samples.old)) }
+    ensures frames { SendsThrough (echo_with channels gains.0 gains.1 taps.now) lines.old channels count samples.old samples.new }
+    ensures clips { result ≡ clips_through (echo_with channels gains.0 gains.1 taps.now) lines.old channels count samples.old }
     ensures bound { result ≤ count * 16 }
-    ensures sound { (came : ℕ) → ((j : ℕ) → j < length lines.old → IsEchoLine channels came j (delay_at taps.now j) (line_at lines.old j)) → (j : ℕ) → j < length lines.new → IsEchoLine channels (came + count) j (delay_at taps.now j) (line_at lines.new j) }
+    ensures sound { (came : ℕ) → AreEchoLines channels came taps.now lines.old → AreEchoLines channels (came + count) taps.now lines.new }
 {
     if let Some(small) = small {
         if samples.len() <= SAMPLES_OF_GROUP && are_late(taps, count) {
@@ -422,14 +421,14 @@ fn echoed(
     requires channels { (1 ≤ channels) × (channels ≤ 16) }
     requires frame { length frame ≡ channels }
     requires count { (length lines.old ≡ length taps.now) × (length lines.old ≤ 7) }
-    requires lines { (j : ℕ) → j < length lines.old → IsSeriesLine channels j (line_at lines.old j) }
-    requires late { (j : ℕ) → j < length lines.old → 1 ≤ (line_at lines.old j).capacity }
-    requires small { IfSome small.now (Suits (record { channels = channels; gain_in = gains.0; gain_out = gains.1; taps = taps.now })) }
+    requires lines { AreSeriesLines channels lines.old }
+    requires late { HaveCapacity 1 lines.old }
+    requires small { IfSome small.now (Suits (echo_with channels gains.0 gains.1 taps.now)) }
     requires gain_in { unsigned_abs gains.0 ≤ UNIT }
     requires decays { All (λ e. unsigned_abs e.1 ≤ UNIT) taps.now }
-    ensures lines { lines.new ≡ lines_after channels lines.old frame (replicate channels (pos 0)) }
-    ensures frame { result.0 ≡ (frame_of_lines (record { channels = channels; gain_in = gains.0; gain_out = gains.1; taps = taps.now }) frame (let_go channels lines.old frame (replicate channels (pos 0)))).samples }
-    ensures clips { result.1 ≡ (frame_of_lines (record { channels = channels; gain_in = gains.0; gain_out = gains.1; taps = taps.now }) frame (let_go channels lines.old frame (replicate channels (pos 0)))).clips }
+    ensures lines { lines.new ≡ lines_after channels lines.old frame (silence channels) }
+    ensures frame { result.0 ≡ (frame_from_lines (echo_with channels gains.0 gains.1 taps.now) lines.old frame).samples }
+    ensures clips { result.1 ≡ (frame_from_lines (echo_with channels gains.0 gains.1 taps.now) lines.old frame).clips }
     ensures bound { result.1 ≤ 16 }
     ensures fits { IsFrame result.0 × (length result.0 ≡ channels) }
 {
@@ -502,7 +501,7 @@ impl Echos {
         requires delays { All (λ e. 1 ≤ e.0) taps.now }
         requires decays { All (λ e. unsigned_abs e.1 ≤ UNIT) taps.now }
         requires lines { sum_of_delays taps.now ≤ 2 ^ 28 }
-        ensures { IfOk result (IsNew echos_acts (record { channels = channels; gain_in = gain_in; gain_out = gain_out; taps = taps.now })) }
+        ensures { IfOk result (IsNew echos_acts (echo_with channels gain_in gain_out taps.now)) }
     {
         let small = small_of(gain_in, gain_out, taps, MAX_ECHOS_WEIGHT);
         let lines = empty_lines(alloc, channels, taps)?;
@@ -555,9 +554,9 @@ impl Echos {
         requires delays { All (λ e. 1 ≤ e.0) taps.now }
         requires decays { All (λ e. unsigned_abs e.1 ≤ UNIT) taps.now }
         requires lines { sum_of_delays taps.now ≤ 2 ^ 28 }
-        ensures recipe { IfOk result (λ t. echos_acts.recipe t ≡ record { channels = channels; gain_in = gain_in; gain_out = gain_out; taps = taps.now }) }
+        ensures recipe { IfOk result (λ t. echos_acts.recipe t ≡ echo_with channels gain_in gain_out taps.now) }
         ensures frozen { IfOk result (λ t. Freezes echos_acts t frames.now numbers.now) }
-        ensures thawed { (s : EchosState) → IsEchos s → echos_acts.recipe s ≡ record { channels = channels; gain_in = gain_in; gain_out = gain_out; taps = taps.now } → Freezes echos_acts s frames.now numbers.now → MatchResult result (λ t. t ≡ s) (λ e. e ≡ ThawFault.Memory) }
+        ensures thawed { RestoresEchos (echo_with channels gain_in gain_out taps.now) frames.now numbers.now result }
         ensures named { (result ≡ Err ThawFault.WrongPlan) → ⊥ }
     {
         let [

@@ -1,13 +1,12 @@
 //! The lines of an `echos`, in series, restored from the frames that it stored.
-ghost use Rattle.std.specs.Prelude.{◌≡◌, ◌<◌, ◌≤◌, ◌+◌, ◌*◌, ◌^◌, ◌⊎◌, ◌↔◌, ℤ, Option, List, length, unsigned_abs, IfErr, IfOk, IsTrue};
+ghost use Rattle.std.specs.Prelude.{◌≡◌, ◌<◌, ◌≤◌, ◌+◌, ◌*◌, ◌^◌, ◌⊎◌, ◌↔◌, length, IfErr, IfOk, IsTrue};
 ghost use Rattle.std.specs.Int.{w64};
 ghost use Rattle.std.specs.List.{All};
 ghost use Rattle.fx_tap_delays.specs.DelayExtents.{sum_of_delays};
-ghost use Rattle.fx_frame_base.specs.Frame.{Samples};
 ghost use Rattle.fx_frame.specs.Frozen.{line_of};
-ghost use Rattle.fx_frame_line.specs.Line.{Frames, IsLine};
+ghost use Rattle.fx_frame_line.specs.Line.{IsLine};
 ghost use Rattle.fx_tap_delays.specs.EchosState.{frames_of_lines};
-ghost use Rattle.fx_tap_delays.specs.EchosStored.{IsSeries, IsSeriesStored, IsSmall};
+ghost use Rattle.fx_tap_delays.specs.EchosStored.{IsSeries, IsSeriesStored, IsSmall, ForAllSeries, ForAllStored, MemoryOrBad};
 
 use fx_fixed::Gain;
 use fx_frame::frozen::thawed_wide_line;
@@ -47,7 +46,7 @@ fn thawed_series_line(
     ensures found { IfOk result (λ l. l ≡ line_of channels delay frames.now) }
     ensures line { IfOk result (IsLine w64) }
     ensures small { IfOk result (λ l. All (IsSmall ((place + 1) * 2 ^ 31)) l.items) }
-    ensures refused { IfErr result (λ e. (e ≡ ThawFault.Memory) ⊎ ((e ≡ ThawFault.BadSnapshot) × (IsLine w64 (line_of channels delay frames.now) → All (IsSmall ((place + 1) * 2 ^ 31)) frames.now → ⊥))) }
+    ensures refused { IfErr result (λ e. MemoryOrBad e (IsLine w64 (line_of channels delay frames.now) → All (IsSmall ((place + 1) * 2 ^ 31)) frames.now → ⊥)) }
 {
     if !are_small(frames, (place as u64 + 1) << 31) {
         return Err(ThawFault::BadSnapshot);
@@ -70,8 +69,8 @@ fn thawed_series(
     requires lines { sum_of_delays taps.now ≤ 2 ^ 28 }
     ensures series { IfOk result (λ v. IsSeries channels came taps.now v.items) }
     ensures stored { IfOk result (λ v. frames_of_lines v.items ≡ frames.now) }
-    ensures only { IfOk result (λ v. (lines : List (Frames ℤ)) → IsSeries channels came taps.now lines → frames_of_lines lines ≡ frames.now → v.items ≡ lines) }
-    ensures refused { IfErr result (λ e. (e ≡ ThawFault.Memory) ⊎ ((e ≡ ThawFault.BadSnapshot) × ((lines : List (Frames ℤ)) → IsSeries channels came taps.now lines → frames_of_lines lines ≡ frames.now → ⊥))) }
+    ensures only { IfOk result (λ v. ForAllSeries channels came taps.now frames.now (λ lines. v.items ≡ lines)) }
+    ensures refused { IfErr result (λ e. MemoryOrBad e (ForAllSeries channels came taps.now frames.now (λ lines. ⊥))) }
 {
     let mut lines = Vec::new(alloc);
     let mut rest = frames;
@@ -109,8 +108,8 @@ pub(crate) fn thawed_series_and_pending(
     requires delays { All (λ e. 1 ≤ e.0) taps.now }
     requires lines { sum_of_delays taps.now ≤ 2 ^ 28 }
     ensures found { IfOk result (λ p. IsSeriesStored channels came taps.now pending_count frames.now p.0.items p.1) }
-    ensures only { IfOk result (λ p. (lines : List (Frames ℤ)) (pending : Option Samples) → IsSeriesStored channels came taps.now pending_count frames.now lines pending → (p.0.items ≡ lines) × (p.1 ≡ pending)) }
-    ensures refused { IfErr result (λ e. (e ≡ ThawFault.Memory) ⊎ ((e ≡ ThawFault.BadSnapshot) × ((lines : List (Frames ℤ)) (pending : Option Samples) → IsSeriesStored channels came taps.now pending_count frames.now lines pending → ⊥))) }
+    ensures only { IfOk result (λ p. ForAllStored channels came taps.now pending_count frames.now (λ lines pending. (p.0.items ≡ lines) × (p.1 ≡ pending))) }
+    ensures refused { IfErr result (λ e. MemoryOrBad e (ForAllStored channels came taps.now pending_count frames.now (λ lines pending. ⊥))) }
 {
     let count = frames.len() as u64;
     if pending_count > 1 || pending_count > count {

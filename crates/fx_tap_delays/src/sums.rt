@@ -1,9 +1,9 @@
 //! Sums of samples times gains, one for each channel, each rounded once.
 ghost use Rattle.std.specs.Prelude.{◌≡◌, ◌<◌, ◌≤◌, ◌+◌, ◌*◌, ◌^◌, ℕ, ℤ, pos, ◌+ℤ◌, ◌*ℤ◌, length, map, slice_index_or, unsigned_abs};
 ghost use Rattle.fx_fixed.specs.Rounding.{rounding};
-ghost use Rattle.fx_frame_base.specs.Lists.{tabulate};
 ghost use Rattle.fx_frame_base.specs.Rounded.{clips_rounded, samples_of};
-ghost use Rattle.fx_frame_base.specs.Given.{given_samples};
+ghost use Rattle.fx_tap_sums.specs.Weights.{AreSmall};
+ghost use Rattle.fx_tap_delays.specs.Sums.{AddsToEach, frame_of_sums};
 
 use fx_fixed::inner::Denominator;
 use fx_fixed::{Gain, UNIT, round_clip};
@@ -16,8 +16,8 @@ use fx_tap_sums::weights::UNIT_SQUARED;
 pub(crate) fn add_scaled(sums: &mut Sums, channels: usize, gain: Gain, frame: Frame)
     requires channels { channels ≤ 16 }
     requires gain { unsigned_abs gain ≤ UNIT }
-    requires free { (k : ℕ) → unsigned_abs (slice_index_or sums.old k (pos 0)) ≤ 2 ^ 100 }
-    ensures added { (k : ℕ) → k < channels → slice_index_or sums.new k (pos 0) ≡ slice_index_or sums.old k (pos 0) +ℤ (gain *ℤ slice_index_or frame k (pos 0)) }
+    requires free { AreSmall (2 ^ 100) sums.old }
+    ensures added { AddsToEach channels sums.old sums.new (λ k. gain *ℤ slice_index_or frame k (pos 0)) }
     ensures bound { (k : ℕ) → unsigned_abs (slice_index_or sums.new k (pos 0)) ≤ unsigned_abs (slice_index_or sums.old k (pos 0)) + UNIT * 2 ^ 31 }
 {
     add_places(sums, channels, gain, &frame.places());
@@ -27,9 +27,9 @@ pub(crate) fn add_scaled(sums: &mut Sums, channels: usize, gain: Gain, frame: Fr
 #[inline(always)]
 pub(crate) fn sums_into(sums: &Sums, gain: Gain, out: &mut [i32]) -> u64
     requires channels { length out.old ≤ 16 }
-    requires small { (k : ℕ) → unsigned_abs (slice_index_or sums.now k (pos 0)) ≤ 29 * (UNIT * 2 ^ 31) }
-    ensures frame { out.new ≡ (given_samples (tabulate (λ k. rounding (gain *ℤ slice_index_or sums.now k (pos 0)) (UNIT * UNIT)) 0 (length out.old))).samples }
-    ensures clips { result ≡ (given_samples (tabulate (λ k. rounding (gain *ℤ slice_index_or sums.now k (pos 0)) (UNIT * UNIT)) 0 (length out.old))).clips }
+    requires small { AreSmall (29 * (UNIT * 2 ^ 31)) sums.now }
+    ensures frame { out.new ≡ (frame_of_sums gain sums.now (length out.old)).samples }
+    ensures clips { result ≡ (frame_of_sums gain sums.now (length out.old)).clips }
     ensures bound { result ≤ length out.old }
 {
     let factor = i128::from(gain.trillionths());
@@ -46,9 +46,9 @@ pub(crate) fn sums_into(sums: &Sums, gain: Gain, out: &mut [i32]) -> u64
 #[inline(always)]
 pub(crate) fn rounded_sums(sums: &Sums, channels: usize, gain: Gain) -> (Frame, u64)
     requires channels { (1 ≤ channels) × (channels ≤ 16) }
-    requires small { (k : ℕ) → unsigned_abs (slice_index_or sums.now k (pos 0)) ≤ 29 * (UNIT * 2 ^ 31) }
-    ensures frame { result.0 ≡ (given_samples (tabulate (λ k. rounding (gain *ℤ slice_index_or sums.now k (pos 0)) (UNIT * UNIT)) 0 channels)).samples }
-    ensures clips { result.1 ≡ (given_samples (tabulate (λ k. rounding (gain *ℤ slice_index_or sums.now k (pos 0)) (UNIT * UNIT)) 0 channels)).clips }
+    requires small { AreSmall (29 * (UNIT * 2 ^ 31)) sums.now }
+    ensures frame { result.0 ≡ (frame_of_sums gain sums.now channels).samples }
+    ensures clips { result.1 ≡ (frame_of_sums gain sums.now channels).clips }
     ensures bound { result.1 ≤ 16 }
     ensures channels { length result.0 ≡ channels }
 {
@@ -61,7 +61,7 @@ pub(crate) fn rounded_sums(sums: &Sums, channels: usize, gain: Gain) -> (Frame, 
 #[inline(always)]
 pub(crate) fn round_sums(sums: &[i64], denominator: &Denominator, out: &mut [i32]) -> u64
     requires places { length out.old ≡ length sums.now }
-    requires small { (k : ℕ) → unsigned_abs (slice_index_or sums.now k (pos 0)) ≤ 2 ^ 61 }
+    requires small { AreSmall (2 ^ 61) sums.now }
     ensures samples { out.new ≡ samples_of (map (λ z. rounding z denominator.now) sums.now) }
     ensures clips { result ≡ clips_rounded (map (λ z. rounding z denominator.now) sums.now) }
     ensures bound { result ≤ length sums.now }

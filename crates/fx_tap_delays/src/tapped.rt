@@ -1,11 +1,12 @@
 //! Effects whose output frame depends on the input frame and on frames at fixed distances before it: a line, and a tail after
 //! the end.
-ghost use Rattle.std.specs.Prelude.{◌≡◌, ◌↔◌, ◌+◌, true, false, ◌<◌, ◌≤◌, ◌*◌, ◌^◌, ◌++◌, ◌∷◌, [], None, drop, length, Err, IfOk, MatchResult};
-ghost use Rattle.fx_frame_line.specs.Line.{pushed};
+ghost use Rattle.std.specs.Prelude.{◌≡◌, ◌↔◌, ◌+◌, true, ◌<◌, ◌≤◌, ◌*◌, ◌^◌, ◌++◌, ◌∷◌, [], None, drop, length, Err, IfOk};
+ghost use Rattle.fx_frame_line.specs.Line.{pushed, pushed_all};
 ghost use Rattle.fx_frame_base.specs.Lists.{pieces};
 ghost use Rattle.fx_frame_base.specs.Stage.{Freezes, Gave, IsNew};
-ghost use Rattle.fx_frame.specs.Tapped.{AreTapCounts, IsNear, Taps, TapState, by_name, clips_after, frames_after, last_of, tap_acts};
-ghost use Rattle.fx_frame.specs.History.{sample_before};
+ghost use Rattle.fx_frame.specs.Tapped.{AreTapCounts, IsNear, IsTapState, TapState, Taps, by_name, tap_acts};
+ghost use Rattle.fx_tap_delays.specs.Restored.{Restores};
+ghost use Rattle.fx_tap_delays.specs.Tapping.{MakesBlock, clips_in_block, history_after};
 
 use fx_frame::frozen::{stored_in, thawed_line_and_pending};
 use fx_frame::groups::{SAMPLES_OF_GROUP, frames_of_group};
@@ -23,8 +24,8 @@ pub trait Tapping {
 
     /// The frame that it makes of a frame which comes after those of the line, and how many of its samples were clipped.
     fn tap(&self, line: &Line, frame: Frame) -> (Frame, u64)
-        ensures frame { result.0 ≡ (taps.made self.now (sample_before (line.now.items ++ frame ∷ []) (length line.now.items))).samples }
-        ensures clips { result.1 ≡ (taps.made self.now (sample_before (line.now.items ++ frame ∷ []) (length line.now.items))).clips }
+        ensures frame { result.0 ≡ (taps.made self.now (history_after line.now.items frame)).samples }
+        ensures clips { result.1 ≡ (taps.made self.now (history_after line.now.items frame)).clips }
         ensures bound { result.1 ≤ taps.max_clips self.now }
         ensures channels { length result.0 ≡ taps.channels self.now };
 
@@ -33,8 +34,8 @@ pub trait Tapping {
     fn tap_into(&self, line: &Line, frame: &[i32], out: &mut [i32]) -> u64
         requires frame { length frame.now ≡ taps.channels self.now }
         requires out { length out.old ≡ taps.channels self.now }
-        ensures frame { out.new ≡ (taps.made self.now (sample_before (line.now.items ++ frame.now ∷ []) (length line.now.items))).samples }
-        ensures clips { result ≡ (taps.made self.now (sample_before (line.now.items ++ frame.now ∷ []) (length line.now.items))).clips }
+        ensures frame { out.new ≡ (taps.made self.now (history_after line.now.items frame.now)).samples }
+        ensures clips { result ≡ (taps.made self.now (history_after line.now.items frame.now)).clips }
         ensures bound { result ≤ taps.max_clips self.now };
 
     /// The channels of the frames that it takes and makes.
@@ -63,12 +64,12 @@ pub trait TapsMany: Tapping {
         requires bound { count ≤ 2 ^ 56 }
         requires input { count * Self.taps.channels self.now ≤ length input.now }
         requires output { count * Self.taps.channels self.now ≤ length output.old }
-        ensures frames { pieces (Self.taps.channels self.now) count output.new ≡ frames_after Self.taps self.now line.old.items (pieces (Self.taps.channels self.now) count input.now) }
-        ensures rest_unchanged { drop (count * Self.taps.channels self.now) output.new ≡ drop (count * Self.taps.channels self.now) output.old }
-        ensures clips { result ≡ clips_after Self.taps self.now line.old.items (pieces (Self.taps.channels self.now) count input.now) }
+        ensures frames { MakesBlock Self.taps self.now line.old.items count input.now output.new }
+        ensures rest_unchanged { let n = count * Self.taps.channels self.now in drop n output.new ≡ drop n output.old }
+        ensures clips { result ≡ clips_in_block Self.taps self.now line.old.items count input.now }
         ensures bound { result ≤ count * Self.taps.max_clips self.now }
         ensures small { result ≤ 16 * count }
-        ensures line { line.new.items ≡ last_of line.old.capacity (line.old.items ++ pieces (Self.taps.channels self.now) count input.now) }
+        ensures line { line.new.items ≡ pushed_all line.old (pieces (Self.taps.channels self.now) count input.now) }
         ensures line_capacity { line.new.capacity ≡ line.old.capacity }
         ensures line_channels { line.new.channels ≡ line.old.channels }
     {
@@ -83,8 +84,8 @@ pub trait TapsMany: Tapping {
         requires capacity { line.old.capacity ≡ Self.taps.reach self.now }
         requires frame { length samples.old ≡ Self.taps.channels self.now }
         requires bound { length samples.old ≤ 16 }
-        ensures frame { samples.new ≡ (Self.taps.made self.now (sample_before (line.old.items ++ samples.old ∷ []) (length line.old.items))).samples }
-        ensures clips { result ≡ (Self.taps.made self.now (sample_before (line.old.items ++ samples.old ∷ []) (length line.old.items))).clips }
+        ensures frame { samples.new ≡ (Self.taps.made self.now (history_after line.old.items samples.old)).samples }
+        ensures clips { result ≡ (Self.taps.made self.now (history_after line.old.items samples.old)).clips }
         ensures bound { result ≤ Self.taps.max_clips self.now }
         ensures items { line.new.items ≡ pushed line.old samples.old }
         ensures line_capacity { line.new.capacity ≡ line.old.capacity }
@@ -101,11 +102,11 @@ pub trait TapsMany: Tapping {
         requires bound { count ≤ 2 ^ 56 }
         requires group { length samples.old ≤ 64 }
         requires samples { length samples.old ≡ count * Self.taps.channels self.now }
-        ensures frames { pieces (Self.taps.channels self.now) count samples.new ≡ frames_after Self.taps self.now line.old.items (pieces (Self.taps.channels self.now) count samples.old) }
-        ensures clips { result ≡ clips_after Self.taps self.now line.old.items (pieces (Self.taps.channels self.now) count samples.old) }
+        ensures frames { MakesBlock Self.taps self.now line.old.items count samples.old samples.new }
+        ensures clips { result ≡ clips_in_block Self.taps self.now line.old.items count samples.old }
         ensures bound { result ≤ count * Self.taps.max_clips self.now }
         ensures small { result ≤ 16 * count }
-        ensures line { line.new.items ≡ last_of line.old.capacity (line.old.items ++ pieces (Self.taps.channels self.now) count samples.old) }
+        ensures line { line.new.items ≡ pushed_all line.old (pieces (Self.taps.channels self.now) count samples.old) }
         ensures line_capacity { line.new.capacity ≡ line.old.capacity }
         ensures line_channels { line.new.channels ≡ line.old.channels }
     {
@@ -116,7 +117,7 @@ pub trait TapsMany: Tapping {
 /// A sample of the frame `delay` places before this one, which comes after those of the line.
 #[inline(always)]
 pub(crate) fn sample(line: &Line, frame: &[i32], delay: usize, channel: usize) -> i32
-    ensures { result ≡ sample_before (line.now.items ++ frame.now ∷ []) (length line.now.items) delay channel }
+    ensures { result ≡ history_after line.now.items frame.now delay channel }
 {
     if delay == 0 {
         return sample_or_silence(frame, channel);
@@ -153,8 +154,8 @@ fn tap_through<T: Tapping>(
     requires frame { length samples.old ≡ T.taps.channels tapping.now }
     requires bound { length samples.old ≤ 16 }
     requires free { length made.old ≡ length samples.old }
-    ensures frame { samples.new ≡ (T.taps.made tapping.now (sample_before (line.old.items ++ samples.old ∷ []) (length line.old.items))).samples }
-    ensures clips { result ≡ (T.taps.made tapping.now (sample_before (line.old.items ++ samples.old ∷ []) (length line.old.items))).clips }
+    ensures frame { samples.new ≡ (T.taps.made tapping.now (history_after line.old.items samples.old)).samples }
+    ensures clips { result ≡ (T.taps.made tapping.now (history_after line.old.items samples.old)).clips }
     ensures bound { result ≤ T.taps.max_clips tapping.now }
     ensures items { line.new.items ≡ pushed line.old samples.old }
     ensures line_capacity { line.new.capacity ≡ line.old.capacity }
@@ -173,8 +174,8 @@ pub fn tap_and_push<T: Tapping>(tapping: &T, line: &mut Line, samples: &mut [i32
     requires channels { line.old.channels ≡ T.taps.channels tapping.now }
     requires frame { length samples.old ≡ T.taps.channels tapping.now }
     requires bound { length samples.old ≤ 16 }
-    ensures frame { samples.new ≡ (T.taps.made tapping.now (sample_before (line.old.items ++ samples.old ∷ []) (length line.old.items))).samples }
-    ensures clips { result ≡ (T.taps.made tapping.now (sample_before (line.old.items ++ samples.old ∷ []) (length line.old.items))).clips }
+    ensures frame { samples.new ≡ (T.taps.made tapping.now (history_after line.old.items samples.old)).samples }
+    ensures clips { result ≡ (T.taps.made tapping.now (history_after line.old.items samples.old)).clips }
     ensures bound { result ≤ T.taps.max_clips tapping.now }
     ensures items { line.new.items ≡ pushed line.old samples.old }
     ensures line_capacity { line.new.capacity ≡ line.old.capacity }
@@ -194,8 +195,8 @@ fn tap_through_places<T: Tapping>(tapping: &T, line: &mut Line, samples: &mut [i
     requires channels { line.old.channels ≡ T.taps.channels tapping.now }
     requires frame { length samples.old ≡ T.taps.channels tapping.now }
     requires bound { length samples.old ≤ 16 }
-    ensures frame { samples.new ≡ (T.taps.made tapping.now (sample_before (line.old.items ++ samples.old ∷ []) (length line.old.items))).samples }
-    ensures clips { result ≡ (T.taps.made tapping.now (sample_before (line.old.items ++ samples.old ∷ []) (length line.old.items))).clips }
+    ensures frame { samples.new ≡ (T.taps.made tapping.now (history_after line.old.items samples.old)).samples }
+    ensures clips { result ≡ (T.taps.made tapping.now (history_after line.old.items samples.old)).clips }
     ensures bound { result ≤ T.taps.max_clips tapping.now }
     ensures items { line.new.items ≡ pushed line.old samples.old }
     ensures line_capacity { line.new.capacity ≡ line.old.capacity }
@@ -219,12 +220,12 @@ pub fn tap_by_frames<T: Tapping>(
     requires bound { count ≤ 2 ^ 56 }
     requires input { count * T.taps.channels tapping.now ≤ length input.now }
     requires output { count * T.taps.channels tapping.now ≤ length output.old }
-    ensures frames { pieces (T.taps.channels tapping.now) count output.new ≡ frames_after T.taps tapping.now line.old.items (pieces (T.taps.channels tapping.now) count input.now) }
-    ensures rest_unchanged { drop (count * T.taps.channels tapping.now) output.new ≡ drop (count * T.taps.channels tapping.now) output.old }
-    ensures clips { result ≡ clips_after T.taps tapping.now line.old.items (pieces (T.taps.channels tapping.now) count input.now) }
+    ensures frames { MakesBlock T.taps tapping.now line.old.items count input.now output.new }
+    ensures rest_unchanged { let n = count * T.taps.channels tapping.now in drop n output.new ≡ drop n output.old }
+    ensures clips { result ≡ clips_in_block T.taps tapping.now line.old.items count input.now }
     ensures bound { result ≤ count * T.taps.max_clips tapping.now }
     ensures small { result ≤ 16 * count }
-    ensures line { line.new.items ≡ last_of line.old.capacity (line.old.items ++ pieces (T.taps.channels tapping.now) count input.now) }
+    ensures line { line.new.items ≡ pushed_all line.old (pieces (T.taps.channels tapping.now) count input.now) }
     ensures line_capacity { line.new.capacity ≡ line.old.capacity }
     ensures line_channels { line.new.channels ≡ line.old.channels }
 {
@@ -252,11 +253,11 @@ pub fn tap_over_by_frames<T: Tapping>(
     requires capacity { line.old.capacity ≡ T.taps.reach tapping.now }
     requires bound { count ≤ 2 ^ 56 }
     requires samples { length samples.old ≡ count * T.taps.channels tapping.now }
-    ensures frames { pieces (T.taps.channels tapping.now) count samples.new ≡ frames_after T.taps tapping.now line.old.items (pieces (T.taps.channels tapping.now) count samples.old) }
-    ensures clips { result ≡ clips_after T.taps tapping.now line.old.items (pieces (T.taps.channels tapping.now) count samples.old) }
+    ensures frames { MakesBlock T.taps tapping.now line.old.items count samples.old samples.new }
+    ensures clips { result ≡ clips_in_block T.taps tapping.now line.old.items count samples.old }
     ensures bound { result ≤ count * T.taps.max_clips tapping.now }
     ensures small { result ≤ 16 * count }
-    ensures line { line.new.items ≡ last_of line.old.capacity (line.old.items ++ pieces (T.taps.channels tapping.now) count samples.old) }
+    ensures line { line.new.items ≡ pushed_all line.old (pieces (T.taps.channels tapping.now) count samples.old) }
     ensures line_capacity { line.new.capacity ≡ line.old.capacity }
     ensures line_channels { line.new.channels ≡ line.old.channels }
 {
@@ -278,11 +279,11 @@ fn tap_groups<T: TapsMany>(tapping: &T, line: &mut Line, samples: &mut [i32], co
     requires capacity { line.old.capacity ≡ T.taps.reach tapping.now }
     requires bound { count ≤ 2 ^ 56 }
     requires samples { length samples.old ≡ count * T.taps.channels tapping.now }
-    ensures frames { pieces (T.taps.channels tapping.now) count samples.new ≡ frames_after T.taps tapping.now line.old.items (pieces (T.taps.channels tapping.now) count samples.old) }
-    ensures clips { result ≡ clips_after T.taps tapping.now line.old.items (pieces (T.taps.channels tapping.now) count samples.old) }
+    ensures frames { MakesBlock T.taps tapping.now line.old.items count samples.old samples.new }
+    ensures clips { result ≡ clips_in_block T.taps tapping.now line.old.items count samples.old }
     ensures bound { result ≤ count * T.taps.max_clips tapping.now }
     ensures small { result ≤ 16 * count }
-    ensures line { line.new.items ≡ last_of line.old.capacity (line.old.items ++ pieces (T.taps.channels tapping.now) count samples.old) }
+    ensures line { line.new.items ≡ pushed_all line.old (pieces (T.taps.channels tapping.now) count samples.old) }
     ensures line_capacity { line.new.capacity ≡ line.old.capacity }
     ensures line_channels { line.new.channels ≡ line.old.channels }
 {
@@ -405,7 +406,7 @@ impl<T: Tapping + Drop> Tapped<T> {
         requires line { reach ≤ 2 ^ 28 }
         ensures recipe { IfOk result (λ t. t.arguments ≡ arguments) }
         ensures frozen { IfOk result (λ t. Freezes (tap_acts T.taps) t frames.now numbers.now) }
-        ensures thawed { (s : TapState T) → IsTapState T.taps s → s.arguments ≡ arguments → Freezes (tap_acts T.taps) s frames.now numbers.now → MatchResult result (λ t. t ≡ s) (λ e. e ≡ ThawFault.Memory) }
+        ensures thawed { Restores (tap_acts T.taps) (IsTapState T.taps) arguments frames.now numbers.now result }
         ensures named { (result ≡ Err ThawFault.WrongPlan) → ⊥ }
     {
         let maximum = arguments.max_clips();

@@ -11,19 +11,8 @@ use Rattle.fx_frame_base.specs.Stage.{Given}
 use Rattle.fx_frame_base.proofs.FedLaws.{total-append}
 use Rattle.fx_frame_base.proofs.Puts.{pieces-split, pieces-take}
 use Rattle.fx_frame_line.proofs.ManyFrames.{pieces-put_many}
-use Rattle.fx_frame.specs.Made.{clips_in, made_of}
-
--- three effects made so many frames, and counted the samples that each clipped
-pub record IsMadeByThree (a b e : Samples → Given) (ins outs n : ℕ) (input output : List ℤ) (first middle last : ℕ) : Type 0 where
-  pub made : pieces outs n output ≡ made_of e (made_of b (made_of a (pieces ins n input)))
-  pub first_counted : first ≡ clips_in a (pieces ins n input)
-  pub middle_counted : middle ≡ clips_in b (made_of a (pieces ins n input))
-  pub last_counted : last ≡ clips_in e (made_of b (made_of a (pieces ins n input)))
-  pub before_sides : All (λ (s : Samples). length s ≡ ins) (made_of a (pieces ins n input))
-  pub after_sides : All (λ (s : Samples). length s ≡ outs) (made_of b (made_of a (pieces ins n input)))
-  pub first_bound : first ≤ 16 * n
-  pub middle_bound : middle ≤ 16 * n
-  pub last_bound : last ≤ 16 * n
+use Rattle.fx_frame.specs.Made.{made_of}
+use Rattle.fx_tap_pointwise.specs.Around.{IsMadeByThree}
 
 -- the frames made so far, and those of one more group
 pub group-more : (a b e : Samples → Given) (ins outs done n : ℕ) (input out made new : List ℤ) (first middle last first-more middle-more last-more : ℕ)

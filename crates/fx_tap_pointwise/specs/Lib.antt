@@ -1,5 +1,7 @@
 -- Written by scripts/effects from effects/*.toml. Do not edit.
 -- Each file of this folder is a module.
+pub mod Around
+pub mod Channels
 pub mod DcShift
 pub mod DcShiftState
 pub mod DcShiftWords

@@ -1,9 +1,12 @@
 -- The stage of a memoryless effect (this project's profile).
-use Rattle.std.specs.Prelude.{ℕ, ◌+◌, ◌*◌, ◌≤◌, ◌≡◌, Bool, true, List, ◌++◌, Option, length, map, option_to_list, is_none}
+use Rattle.std.specs.Prelude.{ℕ, ℤ, Result, Ok, ◌+◌, ◌*◌, ◌≤◌, ◌≡◌, Bool, true, List, ◌++◌, Option, length, map, option_to_list, is_none}
+use Rattle.fx_frame_base.specs.declared.stage.ThawFault.{ThawFault}
 use Rattle.fx_frame_base.specs.Frame.{Samples}
+use Rattle.fx_frame_base.specs.Lists.{pieces}
 use Rattle.fx_frame_base.specs.PendingFrame.{IsPending}
-use Rattle.fx_frame_base.specs.Stage.{Given, Acts, coming}
+use Rattle.fx_frame_base.specs.Stage.{Given, Acts, Freezes, coming}
 use Rattle.fx_frame.specs.Kinds.{map_kind, max_taken}
+use Rattle.fx_frame.specs.Made.{made_of}
 
 -- what such a stage stores
 pub record MapState (M : Type 0) : Type 0 where
@@ -44,3 +47,12 @@ map_acts inputs outputs mapped = record {
   capacity = λ s. 0;
   state_counters = λ s. record { first = s.pending_clips; second = 0; third = 0 };
 }
+
+-- the first `count` frames of the output are those that the mapping makes of the first `count` of the input
+abbrev pub MapsBlock : {M : Type 0} → (M → ℕ) → (M → ℕ) → (M → Samples → Given) → M → ℕ → List ℤ → List ℤ → Type 0
+MapsBlock inputs outputs mapped m count input output = pieces (outputs m) count output ≡ made_of (mapped m) (pieces (inputs m) count input)
+
+-- each sound stage of this mapping that stored these frames and counted these numbers is restored
+abbrev pub RestoresMapped : {M : Type 0} → (M → ℕ) → (M → ℕ) → (M → Samples → Given) → M → List Samples → List ℕ → Result (MapState M) ThawFault → Type 0
+RestoresMapped {M} inputs outputs mapped mapping frames numbers result =
+    (s : MapState M) → IsMapState outputs s → s.mapping ≡ mapping → Freezes (map_acts inputs outputs mapped) s frames numbers → result ≡ Ok s

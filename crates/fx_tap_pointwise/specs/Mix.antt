@@ -1,7 +1,9 @@
 -- What `remix` keeps of the contributions to an output channel: of each its channel, its weight and the same in parts; and
 -- how samples are computed from them.
-use Rattle.std.specs.Prelude.{ℕ, ℤ, pos, ◌*◌, ◌<◌, ◌≡◌, List, [], ◌∷◌, length, map}
-use Rattle.fx_tap_pointwise.specs.Remix.{remix_parts}
+use Rattle.std.specs.Prelude.{ℕ, ℤ, pos, ◌*◌, ◌<◌, ◌≡◌, Bool, List, [], ◌∷◌, length, map, slice_index_or}
+use Rattle.fx_frame_base.specs.Lists.{pieces}
+use Rattle.fx_tap_sums.specs.Products.{sum_of_products}
+use Rattle.fx_tap_pointwise.specs.Remix.{remix_parts, remixed_sample}
 use Rattle.fx_fixed.specs.declared.gains.TheConstants.{UNIT}
 use Rattle.fx_tap_pointwise.specs.declared.out_spec.Weight.{Weight}
 use Rattle.fx_tap_pointwise.specs.declared.out_spec.Weight.TheVariants.{Given}
@@ -55,3 +57,16 @@ MixFits cs (Mean first second) = Means cs first second
 MixFits cs (Scaled channel gain) = Scales cs channel gain
 MixFits cs (Small weights) = Reduces cs weights
 MixFits cs Wide = 0 < length cs
+
+-- the samples of a frame that contribute
+abbrev pub contributing_samples : List (ℕ × Weight) → List ℤ → List ℤ
+contributing_samples cs frame = map (λ c. slice_index_or frame c.0 (pos 0)) cs
+
+-- the sums of what contributes to each of the first frames, each sample times its weight
+abbrev pub AreMixedSums : List (ℕ × Weight) → List ℤ → ℕ → ℕ → List ℤ → List ℤ → Type 0
+AreMixedSums cs weights channels count frames sums =
+    (i : ℕ) → i < count → slice_index_or sums i (pos 0) ≡ sum_of_products (contributing_samples cs (slice_index_or (pieces channels count frames) i [])) weights
+
+-- the sample of an output channel that these contributions make of frame i
+abbrev pub mixed_at : List (ℕ × Weight) → ℕ → ℕ → List ℤ → ℕ → ℤ × Bool
+mixed_at cs channels count frames i = remixed_sample cs (slice_index_or (pieces channels count frames) i [])

@@ -1,10 +1,11 @@
 -- The words of `remix` (sox(1), EFFECTS, remix): optionally `-a` or `-m`, then 1 to 16 out-specs; `-p` is not supported.
-use Rattle.std.specs.Prelude.{ℕ, ◌+◌, ◌==◌, ◌&&◌, nat_le, nat_lt, nat_eq, Bool, true, false, if◌then◌else◌, List, [], ◌∷◌, ◌++◌, codes, length, map, Some, None, is_some, drop, Vec, Result, Ok, Err}
+use Rattle.std.specs.Prelude.{ℕ, ◌+◌, ◌==◌, ◌&&◌, nat_le, nat_lt, nat_eq, Bool, true, false, if◌then◌else◌, List, [], ◌∷◌, ◌++◌, codes, length, map, Some, None, is_some, drop, Vec, Result, Ok, Err, String}
 use Rattle.std.specs.Str.{bytes_eq}
 use Rattle.smallvec.specs.SmallVec.{SmallVec}
 use Rattle.std.specs.List.{list_all, list_any, slice_split}
 use Rattle.fx_plan_words.specs.declared.fault.Mark.{Mark}
 use Rattle.fx_plan_words.specs.declared.fault.PlanCause.{PlanCause}
+use Rattle.fx_plan_words.specs.declared.fault.WordsRefusal.{WordsRefusal}
 use Rattle.fx_plan_words.specs.declared.fault.PlanCause.TheVariants.{WrongCount, NotInProfile, OutOfRange, TooManyChannels}
 use Rattle.fx_tap_pointwise.specs.declared.remix.words.in_spec.InSpec.{InSpec}
 use Rattle.fx_tap_pointwise.specs.declared.remix.words.in_spec.SumContribution.{SumContribution}
@@ -12,11 +13,15 @@ use Rattle.fx_tap_pointwise.specs.declared.out_spec.Weight.{Weight}
 use Rattle.fx_tap_pointwise.specs.declared.out_spec.Weight.TheVariants as weights
 use Rattle.fx_tap_pointwise.specs.declared.remix.words.Mixing.{Mixing}
 use Rattle.fx_tap_pointwise.specs.declared.remix.words.Mixing.TheVariants as mixings
-use Rattle.fx_plan_words.specs.Faults.{Word, mark, when, fault_at}
+use Rattle.fx_plan_words.specs.Faults.{ReadsWords, Word, mark, when, fault_at, word_texts}
 use Rattle.fx_tap_pointwise.specs.InSpecs.{in_spec, channels_from}
 
 abbrev pub is_comma : ℕ → Bool
 is_comma c = c == 44
+
+-- the parts of an out-spec
+abbrev pub spec_parts : Word → List Word
+spec_parts word = slice_split is_comma word
 
 -- the parts of an out-spec: the faults of those that are refused, and what the others add to the sum
 abbrev pub part_faults : ℕ → ℕ → List Word → List Mark
@@ -119,3 +124,7 @@ remix_faults channels words = faults_after channels (options_before (mixing_of w
 
 abbrev pub remixed : ℕ → List Word → List (List (ℕ × Weight))
 remixed channels words = out_specs channels (mixing_of words) (specs_of words)
+
+-- the out-specs that the texts of these words are, or one of their faults
+abbrev pub ReadsSpecs : {Y Z : Type 0} → Result (Vec (SmallVec (ℕ × Weight)) Z) WordsRefusal → (List Word → List Mark) → (List Word → List (List (ℕ × Weight))) → List (String Y) → Type 0
+ReadsSpecs result faults value words = ReadsWords specs_value result (faults (word_texts words)) (value (word_texts words))

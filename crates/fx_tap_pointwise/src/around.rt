@@ -1,14 +1,12 @@
 //! Three memoryless effects in sequence, of which the first and the last keep the number of channels: frames go through all
 //! three in groups of at most four, one more than there are stages.
-ghost use Rattle.std.specs.Prelude.{◌≡◌, ◌+◌, ◌*◌, ◌^◌, ◌≤◌, List, FitsSigned, None, false, drop, length, take};
+ghost use Rattle.std.specs.Prelude.{◌≡◌, ◌+◌, ◌*◌, ◌^◌, ◌≤◌, FitsSigned, None, false, drop, length, take};
 ghost use Rattle.std.specs.Int.{w32};
 ghost use Rattle.std.specs.List.{All};
-ghost use Rattle.fx_frame_base.specs.Frame.{Samples};
 ghost use Rattle.fx_frame_base.specs.Lists.{pieces};
-ghost use Rattle.fx_frame_base.specs.Pipeline.{EachThrough};
-ghost use Rattle.fx_frame.specs.Made.{clips_in, made_of};
 ghost use Rattle.fx_tap_pointwise.specs.Mapped.{map_acts};
 ghost use Rattle.fx_frame.specs.Kinds.{max_taken};
+ghost use Rattle.fx_tap_pointwise.specs.Around.{IsMadeByThree, ThroughThree};
 
 use crate::mapped::{Mapped, MapsMany, PairWidths};
 use fx_frame_base::feed::see_samples;
@@ -48,13 +46,8 @@ fn group_by_three<A: MapsMany, B: MapsMany, C: MapsMany>(
     requires bound { count ≤ 4 }
     requires input { length input.now ≡ count * widths.inputs }
     requires output { length output.old ≡ count * widths.outputs }
-    ensures frames { pieces widths.outputs count output.new ≡ made_of (C.mapped last.now) (made_of (B.mapped middle.now) (made_of (A.mapped first.now) (pieces widths.inputs count input.now))) }
-    ensures first { result.first ≡ clips_in (A.mapped first.now) (pieces widths.inputs count input.now) }
-    ensures middle { result.middle ≡ clips_in (B.mapped middle.now) (made_of (A.mapped first.now) (pieces widths.inputs count input.now)) }
-    ensures last { result.last ≡ clips_in (C.mapped last.now) (made_of (B.mapped middle.now) (made_of (A.mapped first.now) (pieces widths.inputs count input.now))) }
-    ensures before { All (λ (s : Samples). length s ≡ widths.inputs) (made_of (A.mapped first.now) (pieces widths.inputs count input.now)) }
-    ensures after { All (λ (s : Samples). length s ≡ widths.outputs) (made_of (B.mapped middle.now) (made_of (A.mapped first.now) (pieces widths.inputs count input.now))) }
-    ensures bound { (result.first ≤ 16 * count) × (result.middle ≤ 16 * count) × (result.last ≤ 16 * count) }
+    ensures made { IsMadeByThree (A.mapped first.now) (B.mapped middle.now) (C.mapped last.now) widths.inputs widths.outputs
+        count input.now output.new result.first result.middle result.last }
 {
     let inner = PairWidths {
         inputs: widths.inputs,
@@ -94,14 +87,9 @@ fn groups_by_three<A: MapsMany, B: MapsMany, C: MapsMany>(
     requires bound { count ≤ 2 ^ 56 }
     requires input { count * widths.inputs ≤ length input.now }
     requires free { count * widths.outputs ≤ length output.old }
-    ensures frames { pieces widths.outputs count output.new ≡ made_of (C.mapped last.now) (made_of (B.mapped middle.now) (made_of (A.mapped first.now) (pieces widths.inputs count input.now))) }
+    ensures made { IsMadeByThree (A.mapped first.now) (B.mapped middle.now) (C.mapped last.now) widths.inputs widths.outputs
+        count input.now output.new result.first result.middle result.last }
     ensures rest_unchanged { drop (count * widths.outputs) output.new ≡ drop (count * widths.outputs) output.old }
-    ensures first { result.first ≡ clips_in (A.mapped first.now) (pieces widths.inputs count input.now) }
-    ensures middle { result.middle ≡ clips_in (B.mapped middle.now) (made_of (A.mapped first.now) (pieces widths.inputs count input.now)) }
-    ensures last { result.last ≡ clips_in (C.mapped last.now) (made_of (B.mapped middle.now) (made_of (A.mapped first.now) (pieces widths.inputs count input.now))) }
-    ensures before { All (λ (s : Samples). length s ≡ widths.inputs) (made_of (A.mapped first.now) (pieces widths.inputs count input.now)) }
-    ensures after { All (λ (s : Samples). length s ≡ widths.outputs) (made_of (B.mapped middle.now) (made_of (A.mapped first.now) (pieces widths.inputs count input.now))) }
-    ensures bound { (result.first ≤ 16 * count) × (result.middle ≤ 16 * count) × (result.last ≤ 16 * count) }
 {
     let _inputs = first.out_channels();
     let _outputs = middle.out_channels();
@@ -174,14 +162,9 @@ fn mapped_by_three<A: MapsMany, B: MapsMany, C: MapsMany>(
     requires bound { count ≤ 2 ^ 56 }
     requires input { count * widths.inputs ≤ length input.now }
     requires free { count * widths.outputs ≤ length output.old }
-    ensures frames { pieces widths.outputs count output.new ≡ made_of (C.mapped last.now) (made_of (B.mapped middle.now) (made_of (A.mapped first.now) (pieces widths.inputs count input.now))) }
+    ensures made { IsMadeByThree (A.mapped first.now) (B.mapped middle.now) (C.mapped last.now) widths.inputs widths.outputs
+        count input.now output.new result.first result.middle result.last }
     ensures rest_unchanged { drop (count * widths.outputs) output.new ≡ drop (count * widths.outputs) output.old }
-    ensures first { result.first ≡ clips_in (A.mapped first.now) (pieces widths.inputs count input.now) }
-    ensures middle { result.middle ≡ clips_in (B.mapped middle.now) (made_of (A.mapped first.now) (pieces widths.inputs count input.now)) }
-    ensures last { result.last ≡ clips_in (C.mapped last.now) (made_of (B.mapped middle.now) (made_of (A.mapped first.now) (pieces widths.inputs count input.now))) }
-    ensures before { All (λ (s : Samples). length s ≡ widths.inputs) (made_of (A.mapped first.now) (pieces widths.inputs count input.now)) }
-    ensures after { All (λ (s : Samples). length s ≡ widths.outputs) (made_of (B.mapped middle.now) (made_of (A.mapped first.now) (pieces widths.inputs count input.now))) }
-    ensures bound { (result.first ≤ 16 * count) × (result.middle ≤ 16 * count) × (result.last ≤ 16 * count) }
 {
     match (widths.inputs, widths.outputs) {
         (1, 1) => {
@@ -243,8 +226,10 @@ pub fn pass_around<A: MapsMany + Drop, B: MapsMany + Drop, C: MapsMany + Drop>(
     requires free { count * B.outputs middle.old.mapping ≤ length output.old }
     ensures frame { 1 ≤ B.outputs middle.old.mapping }
     ensures samples { All (FitsSigned w32) (take (count * A.inputs first.old.mapping) input.now) }
-    ensures through { (before after : List Samples) × EachThrough (map_acts A.inputs A.outputs A.mapped) (pieces (A.inputs first.old.mapping) count input.now) before first.old first.new × EachThrough (map_acts B.inputs B.outputs B.mapped) before after middle.old middle.new × EachThrough (map_acts C.inputs C.outputs C.mapped) after (pieces (B.outputs middle.old.mapping) count output.new) last.old last.new }
-    ensures rest_unchanged { drop (count * B.outputs middle.old.mapping) output.new ≡ drop (count * B.outputs middle.old.mapping) output.old }
+    ensures through { ThroughThree (map_acts A.inputs A.outputs A.mapped) (map_acts B.inputs B.outputs B.mapped)
+        (map_acts C.inputs C.outputs C.mapped) (pieces (A.inputs first.old.mapping) count input.now)
+        (pieces (B.outputs middle.old.mapping) count output.new) first.old first.new middle.old middle.new last.old last.new }
+    ensures rest_unchanged { let n = count * B.outputs middle.old.mapping in drop n output.new ≡ drop n output.old }
 {
     let widths = PairWidths {
         inputs: first.mapping().out_channels(),

@@ -1,13 +1,11 @@
 //! Two effects one after the other, each of which rounds each sample alone: a sample goes through both before the next.
-ghost use Rattle.std.specs.Prelude.{◌≡◌, ◌+◌, ◌*◌, ◌≤◌, List, FitsSigned, None, false, drop, length, map, take};
+ghost use Rattle.std.specs.Prelude.{◌≡◌, ◌+◌, ◌*◌, ◌≤◌, FitsSigned, None, false, drop, length, map, take};
 ghost use Rattle.std.specs.Int.{w32};
 ghost use Rattle.std.specs.List.{All};
-ghost use Rattle.fx_frame_base.specs.Frame.{Samples};
 ghost use Rattle.fx_frame_base.specs.Lists.{pieces};
 ghost use Rattle.fx_frame_base.specs.Rounded.{clips_rounded, samples_of};
-ghost use Rattle.fx_frame_base.specs.Pipeline.{EachThrough};
 ghost use Rattle.fx_frame.specs.Kinds.{max_taken};
-ghost use Rattle.fx_tap_pointwise.specs.PerSampleState.{sample_acts};
+ghost use Rattle.fx_tap_pointwise.specs.PerSampleState.{sample_acts, ThroughBoth};
 
 use crate::mapped::{Mapped, Mapping};
 use crate::per_sample::{PerSample, SamplesMany, Sampling};
@@ -65,8 +63,10 @@ pub fn pass_both<A: SamplesMany + Drop, B: SamplesMany + Drop>(
     requires input { count * first.old.mapping.channels ≤ length input.now }
     requires free { count * first.old.mapping.channels ≤ length output.old }
     ensures samples { All (FitsSigned w32) (take (count * first.old.mapping.channels) input.now) }
-    ensures through { (between : List Samples) × EachThrough (sample_acts A.rounded) (pieces first.old.mapping.channels count input.now) between first.old first.new × EachThrough (sample_acts B.rounded) between (pieces first.old.mapping.channels count output.new) second.old second.new }
-    ensures rest_unchanged { drop (count * first.old.mapping.channels) output.new ≡ drop (count * first.old.mapping.channels) output.old }
+    ensures through { ThroughBoth (sample_acts A.rounded) (sample_acts B.rounded)
+        (pieces first.old.mapping.channels count input.now) (pieces first.old.mapping.channels count output.new)
+        first.old first.new second.old second.new }
+    ensures rest_unchanged { let n = count * first.old.mapping.channels in drop n output.new ≡ drop n output.old }
 {
     let samples = count * first.mapping().out_channels();
     let clips = first.mapping().sampling().round_before(

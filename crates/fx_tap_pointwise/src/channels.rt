@@ -1,9 +1,10 @@
 //! Channels of frames whose samples lie one after another.
-ghost use Rattle.std.specs.Prelude.{◌≡◌, ◌<◌, ◌≤◌, ◌+◌, ◌-◌, ◌*◌, ◌^◌, ◌+ℤ◌, ◌*ℤ◌, ◌≤ℤ◌, false, ℕ, pos, neg_ℤ, length, slice_index_or, unsigned_abs, FitsSigned};
+ghost use Rattle.std.specs.Prelude.{◌≡◌, ◌<◌, ◌≤◌, ◌+◌, ◌-◌, ◌*◌, ◌^◌, ◌+ℤ◌, ◌*ℤ◌, ◌≤ℤ◌, false, ℕ, pos, neg_ℤ, length, unsigned_abs, FitsSigned};
 ghost use Rattle.std.specs.Int.{w32};
 ghost use Rattle.fx_fixed.specs.Rounding.{rounding};
-ghost use Rattle.fx_frame_base.specs.Lists.{IsOtherPlace, tabulate};
+ghost use Rattle.fx_frame_base.specs.Lists.{tabulate};
 ghost use Rattle.fx_frame_base.specs.Rounded.{clips_rounded};
+ghost use Rattle.fx_tap_pointwise.specs.Channels.{sample_at, mean_at, WritesChannel, WritesRounded, rounded_at, KeepsOtherPlaces, SumsStayWithin, AddsChannel};
 
 use crate::per_sample::Sampling;
 
@@ -33,9 +34,9 @@ pub(crate) fn add_channel(
     requires channel { channel < channels }
     requires channels { channels ≤ 16 }
     requires frames { length sums.old * channels ≤ length frames.now }
-    requires free { (i : ℕ) → i < length sums.old → unsigned_abs (slice_index_or frames.now (i * channels + channel) (pos 0)) ≤ 2 ^ 31 → unsigned_abs (slice_index_or sums.old i (pos 0) +ℤ (slice_index_or frames.now (i * channels + channel) (pos 0) *ℤ weight)) ≤ 2 ^ 62 }
-    ensures added { (i : ℕ) → i < length sums.old → slice_index_or sums.new i (pos 0) ≡ slice_index_or sums.old i (pos 0) +ℤ (slice_index_or frames.now (i * channels + channel) (pos 0) *ℤ weight) }
-    ensures samples { (i : ℕ) → i < length sums.old → unsigned_abs (slice_index_or frames.now (i * channels + channel) (pos 0)) ≤ 2 ^ 31 }
+    requires free { SumsStayWithin (2 ^ 62) sums.old frames.now channels channel weight }
+    ensures added { AddsChannel sums.old sums.new frames.now channels channel weight }
+    ensures samples { (i : ℕ) → i < length sums.old → unsigned_abs (sample_at frames.now channels channel i) ≤ 2 ^ 31 }
 {
     let factor = i64::from(weight);
     let mut at = channel;
@@ -60,9 +61,9 @@ pub(crate) fn place_channel(
     requires place { place.channel < place.channels }
     requires outputs { place.channels ≤ 16 }
     requires to { shape.count * place.channels ≤ length to.old }
-    ensures put { (i : ℕ) → i < shape.count → slice_index_or to.new (i * place.channels + place.channel) (pos 0) ≡ slice_index_or from.now (i * shape.channels + channel) (pos 0) }
-    ensures others { (k : ℕ) → IsOtherPlace place.channels place.channel shape.count k → slice_index_or to.new k (pos 0) ≡ slice_index_or to.old k (pos 0) }
-    ensures samples { (i : ℕ) → i < shape.count → FitsSigned w32 (slice_index_or from.now (i * shape.channels + channel) (pos 0)) }
+    ensures put { WritesChannel place.channels place.channel shape.count to.new (sample_at from.now shape.channels channel) }
+    ensures others { KeepsOtherPlaces place.channels place.channel shape.count to.old to.new }
+    ensures samples { (i : ℕ) → i < shape.count → FitsSigned w32 (sample_at from.now shape.channels channel i) }
 {
     let mut read = channel;
     let mut at = place.channel;
@@ -90,9 +91,9 @@ pub(crate) fn place_rounded<S: Sampling>(
     requires place { place.channel < place.channels }
     requires outputs { place.channels ≤ 16 }
     requires to { shape.count * place.channels ≤ length to.old }
-    ensures put { (i : ℕ) → i < shape.count → slice_index_or to.new (i * place.channels + place.channel) (pos 0) ≡ (S.rounded sampling.now (slice_index_or from.now (i * shape.channels + channel) (pos 0))).0 }
-    ensures others { (k : ℕ) → IsOtherPlace place.channels place.channel shape.count k → slice_index_or to.new k (pos 0) ≡ slice_index_or to.old k (pos 0) }
-    ensures clips { result ≡ clips_rounded (tabulate (λ i. S.rounded sampling.now (slice_index_or from.now (i * shape.channels + channel) (pos 0))) 0 shape.count) }
+    ensures put { WritesRounded place.channels place.channel shape.count to.new (rounded_at (S.rounded sampling.now) from.now shape.channels channel) }
+    ensures others { KeepsOtherPlaces place.channels place.channel shape.count to.old to.new }
+    ensures clips { result ≡ clips_rounded (tabulate (rounded_at (S.rounded sampling.now) from.now shape.channels channel) 0 shape.count) }
     ensures bound { result ≤ shape.count }
 {
     let mut read = channel;
@@ -134,9 +135,9 @@ pub(crate) fn place_mean(
     requires place { place.channel < place.channels }
     requires outputs { place.channels ≤ 16 }
     requires to { shape.count * place.channels ≤ length to.old }
-    ensures put { (i : ℕ) → i < shape.count → slice_index_or to.new (i * place.channels + place.channel) (pos 0) ≡ (rounding (slice_index_or from.now (i * shape.channels + first) (pos 0) +ℤ slice_index_or from.now (i * shape.channels + second) (pos 0)) 2).0 }
-    ensures unclipped { (i : ℕ) → i < shape.count → (rounding (slice_index_or from.now (i * shape.channels + first) (pos 0) +ℤ slice_index_or from.now (i * shape.channels + second) (pos 0)) 2).1 ≡ false }
-    ensures others { (k : ℕ) → IsOtherPlace place.channels place.channel shape.count k → slice_index_or to.new k (pos 0) ≡ slice_index_or to.old k (pos 0) }
+    ensures put { WritesRounded place.channels place.channel shape.count to.new (mean_at from.now shape.channels first second) }
+    ensures unclipped { (i : ℕ) → i < shape.count → (mean_at from.now shape.channels first second i).1 ≡ false }
+    ensures others { KeepsOtherPlaces place.channels place.channel shape.count to.old to.new }
 {
     let mut left = first;
     let mut right = second;

@@ -1,12 +1,11 @@
 //! The effect `dcshift` of sox(1): each sample plus a shift.
-ghost use Rattle.std.specs.Prelude.{◌≡◌, ◌*◌, ◌^◌, ◌<◌, ◌≤◌, ℤ, length, map, unsigned_abs, Ok, IfOk, IfErr, IfSome};
+ghost use Rattle.std.specs.Prelude.{◌≡◌, ◌*◌, ◌^◌, ◌<◌, ◌≤◌, ℤ, length, map, unsigned_abs, IfOk, IfErr, IfSome};
 ghost use Rattle.fx_fixed.specs.Rounding.{clipping};
 ghost use Rattle.fx_frame_base.specs.Rounded.{clips_rounded, samples_of};
 ghost use Rattle.fx_frame_base.specs.Stage.{Freezes, IsNew};
-ghost use Rattle.fx_tap_pointwise.specs.Mapped.{IsMapState, MapState};
-ghost use Rattle.fx_tap_pointwise.specs.PerSample.{SampleArguments};
 ghost use Rattle.fx_tap_pointwise.specs.DcShift.{shifted_sample, units_of};
 ghost use Rattle.fx_tap_pointwise.specs.DcShiftState.{dcshift_acts, steps_of};
+ghost use Rattle.fx_tap_pointwise.specs.PerSampleState.{RestoresEach};
 
 pub mod words;
 
@@ -247,7 +246,7 @@ impl Mapped<PerSample<Shift>> {
         requires shift { unsigned_abs shift ≤ 2 * UNIT }
         ensures recipe { IfOk result (λ t. dcshift_acts.recipe t ≡ record { channels = channels; sampling = shift }) }
         ensures frozen { IfOk result (λ t. Freezes dcshift_acts t frames.now numbers.now) }
-        ensures thawed { (s : MapState (SampleArguments ℤ)) → IsMapState (λ m. m.channels) s → dcshift_acts.recipe s ≡ record { channels = channels; sampling = shift } → Freezes dcshift_acts s frames.now numbers.now → result ≡ Ok s }
+        ensures thawed { RestoresEach dcshift_acts channels shift frames.now numbers.now result }
         ensures refused { IfErr result (λ e. e ≡ ThawFault.BadSnapshot) }
     {
         Mapped::each_thawed(channels, Shift::of(shift), frames, numbers)

@@ -1,9 +1,10 @@
 //! Memoryless effects: one frame out for each frame in, and no line.
-ghost use Rattle.std.specs.Prelude.{◌≡◌, ◌≤◌, ◌*◌, ◌^◌, ℕ, drop, length, Ok, IfOk, IfErr};
+ghost use Rattle.std.specs.Prelude.{◌≡◌, ◌≤◌, ◌*◌, ◌^◌, ℕ, drop, length, IfOk, IfErr};
 ghost use Rattle.fx_frame_base.specs.Frame.{Samples};
 ghost use Rattle.fx_frame_base.specs.Lists.{pieces};
 ghost use Rattle.fx_frame_base.specs.Stage.{Freezes, Given, IsNew};
 ghost use Rattle.fx_frame.specs.Made.{clips_in, made_of};
+ghost use Rattle.fx_tap_pointwise.specs.Mapped.{MapsBlock, RestoresMapped};
 
 use fx_frame::{Counters, Feeds, Frame, Passed, Passing, Stage, ThawFault, WideFrame};
 use fx_frame_base::feed::{feed_by_frames, frame_at, put_frame};
@@ -80,8 +81,8 @@ pub trait MapsMany: Mapping {
         requires bound { count ≤ 2 ^ 56 }
         requires input { count * Self.inputs self.now ≤ length input.now }
         requires output { count * Self.outputs self.now ≤ length output.old }
-        ensures frames { pieces (Self.outputs self.now) count output.new ≡ made_of (Self.mapped self.now) (pieces (Self.inputs self.now) count input.now) }
-        ensures rest_unchanged { drop (count * Self.outputs self.now) output.new ≡ drop (count * Self.outputs self.now) output.old }
+        ensures frames { MapsBlock Self.inputs Self.outputs Self.mapped self.now count input.now output.new }
+        ensures rest_unchanged { let n = count * Self.outputs self.now in drop n output.new ≡ drop n output.old }
         ensures clips { result ≡ clips_in (Self.mapped self.now) (pieces (Self.inputs self.now) count input.now) }
         ensures bound { result ≤ 16 * count }
     {
@@ -107,7 +108,7 @@ pub trait MapsMany: Mapping {
         requires keeps { Self.outputs self.now ≡ Self.inputs self.now }
         requires bound { count ≤ 2 ^ 56 }
         requires samples { length samples.old ≡ count * Self.inputs self.now }
-        ensures frames { pieces (Self.inputs self.now) count samples.new ≡ made_of (Self.mapped self.now) (pieces (Self.inputs self.now) count samples.old) }
+        ensures frames { MapsBlock Self.inputs Self.inputs Self.mapped self.now count samples.old samples.new }
         ensures clips { result ≡ clips_in (Self.mapped self.now) (pieces (Self.inputs self.now) count samples.old) }
         ensures bound { result ≤ 16 * count }
     {
@@ -132,8 +133,8 @@ pub fn map_by_frames<M: Mapping>(
     requires bound { count ≤ 2 ^ 56 }
     requires input { count * M.inputs mapping.now ≤ length input.now }
     requires output { count * M.outputs mapping.now ≤ length output.old }
-    ensures frames { pieces (M.outputs mapping.now) count output.new ≡ made_of (M.mapped mapping.now) (pieces (M.inputs mapping.now) count input.now) }
-    ensures rest_unchanged { drop (count * M.outputs mapping.now) output.new ≡ drop (count * M.outputs mapping.now) output.old }
+    ensures frames { MapsBlock M.inputs M.outputs M.mapped mapping.now count input.now output.new }
+    ensures rest_unchanged { let n = count * M.outputs mapping.now in drop n output.new ≡ drop n output.old }
     ensures clips { result ≡ clips_in (M.mapped mapping.now) (pieces (M.inputs mapping.now) count input.now) }
     ensures bound { result ≤ 16 * count }
 {
@@ -199,7 +200,7 @@ impl<M: Mapping + Drop> Mapped<M> {
     ) -> Result<Mapped<M>, ThawFault>
         ensures recipe { IfOk result (λ t. t.mapping ≡ mapping) }
         ensures frozen { IfOk result (λ t. Freezes (map_acts M.inputs M.outputs M.mapped) t frames.now numbers.now) }
-        ensures thawed { (s : MapState M) → IsMapState M.outputs s → s.mapping ≡ mapping → Freezes (map_acts M.inputs M.outputs M.mapped) s frames.now numbers.now → result ≡ Ok s }
+        ensures thawed { RestoresMapped M.inputs M.outputs M.mapped mapping frames.now numbers.now result }
         ensures refused { IfErr result (λ e. e ≡ ThawFault.BadSnapshot) }
     {
         let [

@@ -1,10 +1,11 @@
 //! Effects that round each sample alone, the same in every channel.
-ghost use Rattle.std.specs.Prelude.{◌≡◌, ◌+◌, ◌^◌, ◌<◌, ◌≤◌, ℤ, Bool, FitsSigned, length, map, Ok, IfOk, IfErr};
+ghost use Rattle.std.specs.Prelude.{◌≡◌, ◌+◌, ◌^◌, ◌<◌, ◌≤◌, ℤ, Bool, FitsSigned, length, map, IfOk, IfErr};
 ghost use Rattle.std.specs.Int.{w32};
 ghost use Rattle.std.specs.List.{All};
 ghost use Rattle.fx_fixed.specs.Rounding.{clip_count};
 ghost use Rattle.fx_frame.specs.Made.{rounded_given};
 ghost use Rattle.fx_frame_base.specs.Rounded.{clips_rounded, samples_of};
+ghost use Rattle.fx_tap_pointwise.specs.PerSampleState.{RestoresEach};
 
 use crate::both::{BothClips, rounded_by_both};
 use crate::mapped::{Mapped, Mapping, MapsMany, PairWidths};
@@ -248,7 +249,7 @@ impl<S: SamplesMany + Drop> Mapped<PerSample<S>> {
         requires { (1 ≤ channels) × (channels ≤ 16) }
         ensures recipe { IfOk result (λ t. (sample_acts S.rounded).recipe t ≡ record { channels = channels; sampling = sampling }) }
         ensures frozen { IfOk result (λ t. Freezes (sample_acts S.rounded) t frames.now numbers.now) }
-        ensures thawed { (s : MapState (SampleArguments S)) → IsMapState (λ m. m.channels) s → (sample_acts S.rounded).recipe s ≡ record { channels = channels; sampling = sampling } → Freezes (sample_acts S.rounded) s frames.now numbers.now → result ≡ Ok s }
+        ensures thawed { RestoresEach (sample_acts S.rounded) channels sampling frames.now numbers.now result }
         ensures refused { IfErr result (λ e. e ≡ ThawFault.BadSnapshot) }
     {
         Mapped::thawed(PerSample { channels, sampling }, frames, numbers)

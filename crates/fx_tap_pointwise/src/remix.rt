@@ -1,15 +1,16 @@
 //! The effect `remix` of sox(1): each channel is a sum of channels, each times a weight.
-ghost use Rattle.std.specs.Prelude.{◌≡◌, ◌<◌, ◌≤◌, ◌+◌, ◌*◌, ◌^◌, [], ℕ, pos, map, drop, length, slice_index_or, sum_by, unsigned_abs, Err, IfOk, MatchResult};
+ghost use Rattle.std.specs.Prelude.{◌≡◌, ◌<◌, ◌≤◌, ◌+◌, ◌*◌, ◌^◌, [], ℕ, pos, map, drop, length, slice_index_or, sum_by, unsigned_abs, Err, IfOk};
 ghost use Rattle.fx_tap_sums.specs.Products.{sum_of_products};
 ghost use Rattle.std.specs.List.{All};
 ghost use Rattle.fx_frame_base.specs.Stage.{Freezes, IsNew};
-ghost use Rattle.fx_frame_base.specs.Lists.{IsOtherPlace, pieces, tabulate};
-ghost use Rattle.fx_tap_pointwise.specs.Mapped.{IsMapState, MapState};
+ghost use Rattle.fx_frame_base.specs.Lists.{pieces, tabulate};
 ghost use Rattle.fx_frame.specs.Made.{clips_in, made_of};
 ghost use Rattle.fx_frame_base.specs.Rounded.{clips_rounded};
-ghost use Rattle.fx_tap_pointwise.specs.Mix.{MixFits, IsContribution, all_parts};
+ghost use Rattle.fx_tap_pointwise.specs.Mix.{MixFits, IsContribution, all_parts, contributing_samples, AreMixedSums, mixed_at};
 ghost use Rattle.fx_tap_pointwise.specs.Remix.{RemixArguments, mixed_parts, remix_parts, remixed_frame, remixed_sample};
-ghost use Rattle.fx_tap_pointwise.specs.RemixState.{remix_acts};
+ghost use Rattle.fx_tap_pointwise.specs.RemixState.{remix_acts, remix_with, RestoresRemix};
+ghost use Rattle.fx_tap_pointwise.specs.RemixWords.{specs_in};
+ghost use Rattle.fx_tap_pointwise.specs.Channels.{WritesRounded, KeepsOtherPlaces};
 
 pub mod words;
 
@@ -162,7 +163,7 @@ impl Mix {
     fn small_sum(&self, weights: &[i32], samples: &[i32]) -> i64
         requires count { length weights.now ≡ length self.now }
         requires small { sum_by unsigned_abs weights.now ≤ 2 ^ 30 }
-        ensures sum { result ≡ sum_of_products (map (λ c. slice_index_or samples.now c.0 (pos 0)) self.now) weights.now }
+        ensures sum { result ≡ sum_of_products (contributing_samples self.now samples.now) weights.now }
         ensures bound { unsigned_abs result ≤ 2 ^ 61 }
     {
         let mut sum = 0;
@@ -194,7 +195,7 @@ impl Mix {
         requires channels { (1 ≤ channels) × (channels ≤ 16) }
         requires frames { length frames.now ≡ length sums.old * channels }
         requires empty { (i : ℕ) → slice_index_or sums.old i (pos 0) ≡ pos 0 }
-        ensures sums { (i : ℕ) → i < length sums.old → slice_index_or sums.new i (pos 0) ≡ sum_of_products (map (λ c. slice_index_or (slice_index_or (pieces channels (length sums.old) frames.now) i []) c.0 (pos 0)) self.now) weights.now }
+        ensures sums { AreMixedSums self.now weights.now channels (length sums.old) frames.now sums.new }
         ensures bound { (i : ℕ) → i < length sums.old → unsigned_abs (slice_index_or sums.new i (pos 0)) ≤ 2 ^ 61 }
     {
         'contributions: for place in 0..self.contributions.len() {
@@ -251,9 +252,9 @@ impl Mix {
         requires channel { place.channel < place.channels }
         requires outputs { place.channels ≤ 16 }
         requires out { shape.count * place.channels ≤ length out.old }
-        ensures put { (i : ℕ) → i < shape.count → slice_index_or out.new (i * place.channels + place.channel) (pos 0) ≡ (remixed_sample self.now (slice_index_or (pieces shape.channels shape.count frames.now) i [])).0 }
-        ensures others { (k : ℕ) → IsOtherPlace place.channels place.channel shape.count k → slice_index_or out.new k (pos 0) ≡ slice_index_or out.old k (pos 0) }
-        ensures clips { result ≡ clips_rounded (tabulate (λ i. remixed_sample self.now (slice_index_or (pieces shape.channels shape.count frames.now) i [])) 0 shape.count) }
+        ensures put { WritesRounded place.channels place.channel shape.count out.new (mixed_at self.now shape.channels shape.count frames.now) }
+        ensures others { KeepsOtherPlaces place.channels place.channel shape.count out.old out.new }
+        ensures clips { result ≡ clips_rounded (tabulate (mixed_at self.now shape.channels shape.count frames.now) 0 shape.count) }
         ensures bound { result ≤ shape.count }
     {
         let mut from = 0;
@@ -284,9 +285,9 @@ impl Mix {
         requires channel { place.channel < place.channels }
         requires outputs { place.channels ≤ 16 }
         requires out { shape.count * place.channels ≤ length out.old }
-        ensures put { (i : ℕ) → i < shape.count → slice_index_or out.new (i * place.channels + place.channel) (pos 0) ≡ (remixed_sample self.now (slice_index_or (pieces shape.channels shape.count frames.now) i [])).0 }
-        ensures others { (k : ℕ) → IsOtherPlace place.channels place.channel shape.count k → slice_index_or out.new k (pos 0) ≡ slice_index_or out.old k (pos 0) }
-        ensures clips { result ≡ clips_rounded (tabulate (λ i. remixed_sample self.now (slice_index_or (pieces shape.channels shape.count frames.now) i [])) 0 shape.count) }
+        ensures put { WritesRounded place.channels place.channel shape.count out.new (mixed_at self.now shape.channels shape.count frames.now) }
+        ensures others { KeepsOtherPlaces place.channels place.channel shape.count out.old out.new }
+        ensures clips { result ≡ clips_rounded (tabulate (mixed_at self.now shape.channels shape.count frames.now) 0 shape.count) }
         ensures bound { result ≤ shape.count }
     {
         match &self.form {
@@ -318,9 +319,9 @@ impl Mix {
         requires channel { place.channel < place.channels }
         requires outputs { place.channels ≤ 16 }
         requires out { shape.count * place.channels ≤ length out.old }
-        ensures put { (i : ℕ) → i < shape.count → slice_index_or out.new (i * place.channels + place.channel) (pos 0) ≡ (remixed_sample self.now (slice_index_or (pieces shape.channels shape.count frames.now) i [])).0 }
-        ensures others { (k : ℕ) → IsOtherPlace place.channels place.channel shape.count k → slice_index_or out.new k (pos 0) ≡ slice_index_or out.old k (pos 0) }
-        ensures clips { result ≡ clips_rounded (tabulate (λ i. remixed_sample self.now (slice_index_or (pieces shape.channels shape.count frames.now) i [])) 0 shape.count) }
+        ensures put { WritesRounded place.channels place.channel shape.count out.new (mixed_at self.now shape.channels shape.count frames.now) }
+        ensures others { KeepsOtherPlaces place.channels place.channel shape.count out.old out.new }
+        ensures clips { result ≡ clips_rounded (tabulate (mixed_at self.now shape.channels shape.count frames.now) 0 shape.count) }
         ensures bound { result ≤ shape.count }
     {
         match &self.form {
@@ -490,7 +491,7 @@ impl Mapped<Remixing> {
         requires outs { (1 ≤ length outs.now) × (length outs.now ≤ 16) }
         requires bound { All (λ out. length out.items ≤ 64) outs.now }
         requires named { All (λ out. All (λ c. c.0 < channels) out.items) outs.now }
-        ensures { IfOk result (IsNew remix_acts (record { channels = channels; outs = map (λ out. out.items) outs.now })) }
+        ensures { IfOk result (IsNew remix_acts (remix_with channels (specs_in outs.now))) }
     {
         let mixes = mixes_of(alloc, outs)?;
         Ok(Mapped::of(Remixing { channels, mixes }))
@@ -510,9 +511,9 @@ impl Mapped<Remixing> {
         requires outs { (1 ≤ length outs.now) × (length outs.now ≤ 16) }
         requires bound { All (λ out. length out.items ≤ 64) outs.now }
         requires named { All (λ out. All (λ c. c.0 < channels) out.items) outs.now }
-        ensures recipe { IfOk result (λ t. remix_acts.recipe t ≡ record { channels = channels; outs = map (λ out. out.items) outs.now }) }
+        ensures recipe { IfOk result (λ t. remix_acts.recipe t ≡ remix_with channels (specs_in outs.now)) }
         ensures frozen { IfOk result (λ t. Freezes remix_acts t frames.now numbers.now) }
-        ensures thawed { (s : MapState RemixArguments) → IsMapState (λ a. length a.outs) s → remix_acts.recipe s ≡ record { channels = channels; outs = map (λ out. out.items) outs.now } → Freezes remix_acts s frames.now numbers.now → MatchResult result (λ t. t ≡ s) (λ e. e ≡ ThawFault.Memory) }
+        ensures thawed { RestoresRemix channels (specs_in outs.now) frames.now numbers.now result }
         ensures named { (result ≡ Err ThawFault.WrongPlan) → ⊥ }
     {
         let Ok(mixes) = mixes_of(alloc, outs) else {

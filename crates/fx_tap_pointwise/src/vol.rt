@@ -1,13 +1,13 @@
 //! The effect `vol` of sox(1): each sample times a gain.
-ghost use Rattle.std.specs.Prelude.{◌≡◌, ◌<◌, ◌≤◌, ◌+◌, ◌*◌, ℕ, ℤ, pos, length, map, slice_index_or, Ok, IfOk, IfErr};
-ghost use Rattle.fx_frame_base.specs.Lists.{IsOtherPlace, tabulate};
+ghost use Rattle.std.specs.Prelude.{◌≡◌, ◌<◌, ◌≤◌, ◌+◌, ◌*◌, ℤ, length, map, IfOk, IfErr};
+ghost use Rattle.fx_frame_base.specs.Lists.{tabulate};
 ghost use Rattle.fx_frame_base.specs.Rounded.{clips_rounded, samples_of};
 ghost use Rattle.fx_frame_base.specs.Stage.{Freezes, IsNew};
-ghost use Rattle.fx_tap_pointwise.specs.Mapped.{IsMapState, MapState};
-ghost use Rattle.fx_tap_pointwise.specs.PerSample.{SampleArguments};
 ghost use Rattle.fx_tap_pointwise.specs.Fractions.{fraction_sample};
 ghost use Rattle.fx_tap_pointwise.specs.Vol.{scaled_sample};
 ghost use Rattle.fx_tap_pointwise.specs.VolState.{vol_acts};
+ghost use Rattle.fx_tap_pointwise.specs.PerSampleState.{RestoresEach};
+ghost use Rattle.fx_tap_pointwise.specs.Channels.{WritesRounded, rounded_at, KeepsOtherPlaces};
 
 pub mod words;
 
@@ -120,9 +120,9 @@ impl Scale {
         requires place { place.channel < place.channels }
         requires outputs { place.channels ≤ 16 }
         requires to { shape.count * place.channels ≤ length to.old }
-        ensures put { (i : ℕ) → i < shape.count → slice_index_or to.new (i * place.channels + place.channel) (pos 0) ≡ (scaled_sample self.now (slice_index_or from.now (i * shape.channels + channel) (pos 0))).0 }
-        ensures others { (k : ℕ) → IsOtherPlace place.channels place.channel shape.count k → slice_index_or to.new k (pos 0) ≡ slice_index_or to.old k (pos 0) }
-        ensures clips { result ≡ clips_rounded (tabulate (λ i. scaled_sample self.now (slice_index_or from.now (i * shape.channels + channel) (pos 0))) 0 shape.count) }
+        ensures put { WritesRounded place.channels place.channel shape.count to.new (rounded_at (scaled_sample self.now) from.now shape.channels channel) }
+        ensures others { KeepsOtherPlaces place.channels place.channel shape.count to.old to.new }
+        ensures clips { result ≡ clips_rounded (tabulate (rounded_at (scaled_sample self.now) from.now shape.channels channel) 0 shape.count) }
         ensures bound { result ≤ shape.count }
     {
         if let Some(proper) = &self.proper {
@@ -236,7 +236,7 @@ impl Mapped<PerSample<Scale>> {
         requires { (1 ≤ channels) × (channels ≤ 16) }
         ensures recipe { IfOk result (λ t. vol_acts.recipe t ≡ record { channels = channels; sampling = gain }) }
         ensures frozen { IfOk result (λ t. Freezes vol_acts t frames.now numbers.now) }
-        ensures thawed { (s : MapState (SampleArguments ℤ)) → IsMapState (λ m. m.channels) s → vol_acts.recipe s ≡ record { channels = channels; sampling = gain } → Freezes vol_acts s frames.now numbers.now → result ≡ Ok s }
+        ensures thawed { RestoresEach vol_acts channels gain frames.now numbers.now result }
         ensures refused { IfErr result (λ e. e ≡ ThawFault.BadSnapshot) }
     {
         Mapped::each_thawed(channels, Scale::of(gain), frames, numbers)

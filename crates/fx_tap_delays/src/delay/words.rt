@@ -1,8 +1,8 @@
 //! The words of `delay`: positions, one for each of the first channels.
 
 ghost use Rattle.std.specs.Prelude.{◌≡◌, ◌<◌, ◌≤◌, IfOk, length};
-ghost use Rattle.fx_plan_words.specs.Faults.{ReadsWords, word_texts};
 ghost use Rattle.fx_tap_delays.specs.DelayWords.{delay_word_at, delay_faults, delays, each_faults};
+ghost use Rattle.fx_tap_delays.specs.Texts.{ReadsTexts};
 
 use fx_fixed::{Anchor, At};
 use fx_plan_words::{PlanCause, WordsRefusal, marked, read_position};
@@ -27,7 +27,7 @@ fn read_place(rate: u32, previous: u64, word: &str) -> Result<u64, PlanCause>
 fn read_delays(alloc: Global, rate: u32, words: &[String]) -> Result<DelayList, WordsRefusal>
     requires rate { 0 < rate }
     requires bound { length words.now < 17 }
-    ensures read { ReadsWords (λ v. v.items) result (each_faults rate 2 0 (word_texts words.now)) (delays rate 0 (word_texts words.now)) }
+    ensures read { ReadsTexts (λ v. v.items) result (each_faults rate 2 0) (delays rate 0) words.now }
     ensures count { IfOk result (λ v. length v.items ≡ length words.now) }
 {
     let mut frames = SmallVec::new(alloc);
@@ -59,7 +59,7 @@ pub fn read_delay_words(
 ) -> Result<DelayList, WordsRefusal>
     requires rate { 0 < rate }
     requires channels { channels ≤ 16 }
-    ensures read { ReadsWords (λ v. v.items) result (delay_faults rate channels (word_texts words.now)) (delays rate 0 (word_texts words.now)) }
+    ensures read { ReadsTexts (λ v. v.items) result (delay_faults rate channels) (delays rate 0) words.now }
     ensures count { IfOk result (λ v. length v.items ≤ channels) }
 {
     if words.is_empty() {

@@ -1,8 +1,8 @@
 //! The words of `echo` and `echos`: two gains, and pairs of a delay and a decay.
 
 ghost use Rattle.std.specs.Prelude.{◌≡◌, ◌<◌, ◌≤◌, IfOk, length, true};
-ghost use Rattle.fx_plan_words.specs.Faults.{ReadsWords, word_texts};
 ghost use Rattle.fx_tap_delays.specs.EchoWords.{are_echoes, echo_faults, echo_value, echoing, tap_faults, taps, echo_word_faults};
+ghost use Rattle.fx_tap_delays.specs.Texts.{ReadsTexts};
 
 use fx_fixed::Gain;
 use fx_plan_words::{PlanCause, WordsRefusal, marked, read_delay, read_gain_up_to};
@@ -33,7 +33,7 @@ pub struct Echoing {
 fn read_taps(alloc: Global, rate: u32, words: &[String]) -> Result<TapList, WordsRefusal>
     requires rate { 0 < rate }
     requires bound { length words.now < 17 }
-    ensures { ReadsWords (λ v. v.items) result (tap_faults rate 4 (word_texts words.now)) (taps rate (word_texts words.now)) }
+    ensures { ReadsTexts (λ v. v.items) result (tap_faults rate 4) (taps rate) words.now }
 {
     let mut pairs = SmallVec::new(alloc);
     let mut rest = words;
@@ -64,7 +64,7 @@ fn read_words(alloc: Global, rate: u32, words: &[String]) -> Result<Echoing, Wor
     requires rate { 0 < rate }
     requires bound { length words.now < 17 }
     requires enough { 4 ≤ length words.now }
-    ensures { ReadsWords echo_value result (echo_word_faults rate (word_texts words.now)) (echoing rate (word_texts words.now)) }
+    ensures { ReadsTexts echo_value result (echo_word_faults rate) (echoing rate) words.now }
 {
     let [first, second, pairs @ ..] = words else {
         unreachable!()
@@ -89,7 +89,7 @@ fn read_words(alloc: Global, rate: u32, words: &[String]) -> Result<Echoing, Wor
 #[tactic(auto, unfolding(crate::specs::EchoWords::echo_faults))]
 pub fn read_echo(alloc: Global, rate: u32, words: &[String]) -> Result<Echoing, WordsRefusal>
     requires { 0 < rate }
-    ensures read { ReadsWords echo_value result (echo_faults rate (word_texts words.now)) (echoing rate (word_texts words.now)) }
+    ensures read { ReadsTexts echo_value result (echo_faults rate) (echoing rate) words.now }
     ensures fit { IfOk result (λ echo. are_echoes (echo_value echo) ≡ true) }
 {
     if words.len() > MAX_WORDS {

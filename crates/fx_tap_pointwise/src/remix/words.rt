@@ -4,7 +4,7 @@ ghost use Rattle.std.specs.Prelude.{◌≡◌, ◌<◌, ◌≤◌, ◌+◌, ◌�
 ghost use Rattle.std.specs.List.{list_all, list_any, slice_split};
 ghost use Rattle.fx_plan_words.specs.Faults.{ReadsWords, word_texts};
 ghost use Rattle.fx_tap_pointwise.specs.RemixWords;
-ghost use Rattle.fx_tap_pointwise.specs.RemixWords.{contributions, faults_after, is_comma, is_mix, is_there, mixing_of, out_specs, part_faults, remix_faults, remixed, spec_fault, spec_faults, specs_value, summed, weighed_words};
+ghost use Rattle.fx_tap_pointwise.specs.RemixWords.{contributions, faults_after, is_comma, is_mix, is_there, mixing_of, out_specs, part_faults, remix_faults, remixed, spec_fault, spec_faults, specs_value, summed, weighed_words, ReadsSpecs, spec_parts};
 
 mod in_spec;
 
@@ -52,7 +52,7 @@ fn read_parts(
 ) -> Result<Vec<SumContribution>, WordsRefusal>
     requires some { 1 ≤ channels }
     requires maximum { channels ≤ 16 }
-    ensures read { ReadsWords (λ v. v.items) result (part_faults channels number (slice_split is_comma word.now)) (contributions channels (slice_split is_comma word.now)) }
+    ensures read { ReadsWords (λ v. v.items) result (part_faults channels number (spec_parts word.now)) (contributions channels (spec_parts word.now)) }
     ensures there { IfOk result (λ v. list_all (is_there channels) v.items ≡ true) }
 {
     let mut sum = Vec::new(alloc);
@@ -154,7 +154,7 @@ fn read_specs(
     requires maximum { channels ≤ 16 }
     requires first { first < 10 }
     requires bound { length words.now < 17 }
-    ensures read { ReadsWords specs_value result (spec_faults channels first (word_texts words.now)) (out_specs channels mixing (word_texts words.now)) }
+    ensures read { ReadsSpecs result (spec_faults channels first) (out_specs channels mixing) words.now }
     ensures count { IfOk result (λ specs. length specs.items ≡ length words.now) }
     ensures fit { IfOk result (λ specs. list_all (is_mix channels) (specs_value specs) ≡ true) }
 {
@@ -198,7 +198,7 @@ fn read_after(
     requires some { 1 ≤ channels }
     requires maximum { channels ≤ 16 }
     requires before { before ≤ 1 }
-    ensures read { ReadsWords specs_value result (faults_after channels before mixing (word_texts words.now)) (out_specs channels mixing (word_texts words.now)) }
+    ensures read { ReadsSpecs result (faults_after channels before mixing) (out_specs channels mixing) words.now }
     ensures count { IfOk result (λ specs. (1 ≤ length specs.items) × (length specs.items ≤ 16)) }
     ensures fit { IfOk result (λ specs. list_all (is_mix channels) (specs_value specs) ≡ true) }
 {
@@ -224,7 +224,7 @@ pub fn read_remix(
 ) -> Result<Vec<OutSpec>, WordsRefusal>
     requires some { 1 ≤ channels }
     requires maximum { channels ≤ 16 }
-    ensures read { ReadsWords specs_value result (remix_faults channels (word_texts words.now)) (remixed channels (word_texts words.now)) }
+    ensures read { ReadsSpecs result (remix_faults channels) (remixed channels) words.now }
     ensures count { IfOk result (λ specs. (1 ≤ length specs.items) × (length specs.items ≤ 16)) }
     ensures fit { IfOk result (λ specs. list_all (is_mix channels) (specs_value specs) ≡ true) }
 {

@@ -2,14 +2,14 @@ use Rattle.std.proofs.Common.{◌≡◌, ◌<◌, ◌++◌, ◌∷◌, [], ℕ, 
 use Rattle.std.specs.Prelude.{slice_index}
 use Rattle.std.proofs.lemmas.List.{take_more_set}
 use Rattle.fx_frame_base.specs.Lists.{tabulate}
-use Rattle.fx_frame.specs.History.{sample_before}
 use Rattle.fx_frame_base.proofs.Tabulate.{tabulate-append}
+use Rattle.fx_tap_delays.specs.Tapping.{history_after}
 use Rattle.fx_tap_delays.proofs.delay.delayed_into.Goals as goal
 
 pub channels-preserved : goal.channels-preserved
 channels-preserved c =
     let i : ℕ = c.channels.channel in
-    let F : ℕ → ℤ = λ k. sample_before (c.args.line.now.items ++ c.args.frame.now ∷ []) (length c.args.line.now.items) (slice_index c.args.delays.now k) k in
+    let F : ℕ → ℤ = λ k. history_after c.args.line.now.items c.args.frame.now (slice_index c.args.delays.now k) k in
     let w : to_z w32 (of_z w32 c.sample.result) ≡ c.sample.result = search rules in
     let e : to_z w32 (of_z w32 c.sample.result) ≡ F i = w ∙ c.sample.ensures in
     let inside : i < length c.channels.out = search rules in

@@ -5,7 +5,7 @@ use Rattle.fx_frame_base.specs.Frame.{Samples}
 use Rattle.fx_frame_base.specs.Holds.{total}
 use Rattle.fx_frame_base.specs.Lists.{pieces}
 use Rattle.fx_frame_base.specs.Stage.{Given}
-use Rattle.fx_tap_delays.specs.Echo.{EchoArguments}
+use Rattle.fx_tap_delays.specs.Echo.{EchoArguments, echo_with}
 use Rattle.fx_tap_delays.specs.EchosState.{frame_of_lines, let_go, series_lines_after, through_lines}
 use Rattle.fx_tap_delays.specs.EchoWeights.{Suits}
 use Rattle.fx_tap_delays.proofs.echos.echo_over.Goals as goal
@@ -18,7 +18,7 @@ returns-in-Some-clause-lines c =
 
 pub returns-in-Some-clause-frame : goal.returns-in-Some-clause-frame
 returns-in-Some-clause-frame c =
-    let a : EchoArguments = record { channels = c.args.channels; gain_in = c.args.gains.0; gain_out = c.args.gains.1; taps = c.args.taps.now } in
+    let a : EchoArguments = echo_with c.args.channels c.args.gains.0 c.args.gains.1 c.args.taps.now in
     let x : Samples = c.args.samples.now in
     let suits : Suits a c.in-Some.small = rw c.in-Some.is at c.requires.small in
     let all : pieces c.args.channels 1 x ≡ x ∷ [] = ap (λ xs. xs ∷ []) (take_all c.args.channels x (omega (arith, c.requires.frame))) in
@@ -29,7 +29,7 @@ returns-in-Some-clause-frame c =
 
 pub returns-in-Some-clause-clips : goal.returns-in-Some-clause-clips
 returns-in-Some-clause-clips c =
-    let a : EchoArguments = record { channels = c.args.channels; gain_in = c.args.gains.0; gain_out = c.args.gains.1; taps = c.args.taps.now } in
+    let a : EchoArguments = echo_with c.args.channels c.args.gains.0 c.args.gains.1 c.args.taps.now in
     let x : Samples = c.args.samples.now in
     let suits : Suits a c.in-Some.small = rw c.in-Some.is at c.requires.small in
     let all : pieces c.args.channels 1 x ≡ x ∷ [] = ap (λ xs. xs ∷ []) (take_all c.args.channels x (omega (arith, c.requires.frame))) in

@@ -9,7 +9,7 @@ use Rattle.fx_frame_base.specs.Stage.{Given}
 use Rattle.fx_frame_line.specs.Line.{Frames}
 use Rattle.fx_frame_base.proofs.FedLaws.{total-append}
 use Rattle.fx_frame_base.proofs.Puts.{drop-put, pieces-more, pieces-put}
-use Rattle.fx_tap_delays.specs.Echo.{EchoArguments}
+use Rattle.fx_tap_delays.specs.Echo.{EchoArguments, echo_with}
 use Rattle.fx_tap_delays.specs.EchosState.{delay_at, series_lines_after, through_lines}
 use Rattle.fx_tap_delays.proofs.EchosLaws.{series_lines-sound}
 use Rattle.fx_tap_delays.proofs.EchosPieces.{series_lines-more, through-more}
@@ -22,7 +22,7 @@ slice_bounds-frame-end c =
 
 pub frames-preserved : goal.frames-preserved
 frames-preserved c =
-    let a : EchoArguments = record { channels = c.args.channels; gain_in = c.args.gains.0; gain_out = c.args.gains.1; taps = c.args.taps.now } in
+    let a : EchoArguments = echo_with c.args.channels c.args.gains.0 c.args.gains.1 c.args.taps.now in
     let ch : ℕ = c.args.channels in
     let turn : ℕ = c.frames.turn in
     let at : ℕ = turn * ch in

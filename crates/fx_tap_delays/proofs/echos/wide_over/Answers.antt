@@ -4,7 +4,7 @@ use Rattle.std.proofs.lemmas.List.{take_all}
 use Rattle.fx_frame_base.specs.Frame.{Samples}
 use Rattle.fx_frame_line.specs.Line.{channel_of}
 use Rattle.fx_frame_base.specs.Stage.{Given}
-use Rattle.fx_tap_delays.specs.Echo.{EchoArguments}
+use Rattle.fx_tap_delays.specs.Echo.{EchoArguments, echo_with}
 use Rattle.fx_tap_delays.specs.Echos.{decays}
 use Rattle.fx_tap_delays.specs.EchosState.{let_go}
 use Rattle.fx_tap_sums.specs.Products.{sum_of_products}
@@ -17,7 +17,7 @@ returns c =
     let x : Samples = c.args.samples.now in
     let whole : c.frame_at-frame.result ≡ x = c.frame_at-frame.ensures.frame ∙ take_all c.args.channels x (omega (arith, c.requires.frame)) in
     let gone : List Samples = let_go c.args.channels c.args.lines.now x (replicate c.args.channels (pos 0)) in
-    let a : EchoArguments = record { channels = c.args.channels; gain_in = c.args.gains.0; gain_out = c.args.gains.1; taps = c.args.taps.now } in
+    let a : EchoArguments = echo_with c.args.channels c.args.gains.0 c.args.gains.1 c.args.taps.now in
     let scaled = rw whole at c.add_scaled.ensures.added in
     let went = rw whole at c.pass.ensures.sums in
     let sums : (k : ℕ) → k < c.args.channels → slice_index_or c.pass.new.sums k (pos 0) ≡ (c.args.gains.0 *ℤ slice_index_or x k (pos 0)) +ℤ sum_of_products (decays c.args.taps.now) (channel_of gone k (pos 0)) = λ k l.

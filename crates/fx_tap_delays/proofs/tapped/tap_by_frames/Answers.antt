@@ -7,8 +7,8 @@ use Rattle.fx_frame_base.specs.Lists.{pieces}
 use Rattle.fx_frame_base.specs.Stage.{Given}
 use Rattle.fx_frame_base.proofs.Puts.{drop-put, pieces-more, pieces-put}
 use Rattle.fx_frame.specs.Tapped.{clips_after, frames_after, last_of}
-use Rattle.fx_frame.specs.History.{sample_before}
 use Rattle.fx_frame.proofs.TapBlocks.{clips-more, frames-more, last-more}
+use Rattle.fx_tap_delays.specs.Tapping.{history_after}
 use Rattle.fx_tap_delays.proofs.tapped.tap_by_frames.Goals as goal
 
 pub frames-preserved : goal.frames-preserved
@@ -28,7 +28,7 @@ frames-preserved g c =
     let is_size : c.channels-channels.result ≡ size = c.channels-channels.ensures.value in
     let width : c.frames.at + size - c.frames.at ≡ size = omega arith in
     let rest_unchanged : List Samples = last_of free (items ++ xs) in
-    let is_made : Given = taps.made m (sample_before (rest_unchanged ++ x ∷ []) (length rest_unchanged)) in
+    let is_made : Given = taps.made m (history_after rest_unchanged x) in
     let next : suc turn * size ≤ c.args.count * size = mul-le-mul_right size (omega arith) in
     let fits : c.frames.at + size ≤ length c.frames.output = omega (arith, next, suc-mul turn size, old.at_is, c.requires.output, c.frames.auto.output) in
     let sides : length made ≡ size = search (rules, is_size, fits) in
@@ -39,8 +39,8 @@ frames-preserved g c =
     let more : pieces size (turn + 1) c.args.input.now ≡ xs ++ x ∷ [] = pieces-more size turn c.frames.at c.args.input.now old.at_is in
     let ensured = rw (is_size, width) at c.tap_into-clips.ensures in
     let pushes = rw (is_size, width) at c.push_samples.ensures.items in
-    let framed : made ≡ is_made.samples = ensured.frame ∙ ap (λ (l : List Samples). (taps.made m (sample_before (l ++ x ∷ []) (length l))).samples) old.line in
-    let clipped : c.tap_into-clips.result ≡ is_made.clips = ensured.clips ∙ ap (λ (l : List Samples). (taps.made m (sample_before (l ++ x ∷ []) (length l))).clips) old.line in
+    let framed : made ≡ is_made.samples = ensured.frame ∙ ap (λ (l : List Samples). (taps.made m (history_after l x)).samples) old.line in
+    let clipped : c.tap_into-clips.result ≡ is_made.clips = ensured.clips ∙ ap (λ (l : List Samples). (taps.made m (history_after l x)).clips) old.line in
     let bound16 : taps.max_clips m ≤ 16 = g.met.T.Tapping.clips_max m in
     rw (is_size, width)
     record {

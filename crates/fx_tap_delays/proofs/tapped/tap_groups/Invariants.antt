@@ -1,6 +1,7 @@
-use Rattle.std.proofs.Common.{◌≡◌, ◌≤◌, ◌-◌, ◌*◌, ◌++◌, drop}
+use Rattle.std.proofs.Common.{◌≡◌, ◌≤◌, ◌-◌, ◌*◌, drop}
 use Rattle.fx_frame_base.specs.Lists.{pieces}
-use Rattle.fx_frame.specs.Tapped.{clips_after, frames_after, last_of}
+use Rattle.fx_frame_line.specs.Line.{pushed_all}
+use Rattle.fx_tap_delays.specs.Tapping.{MakesBlock, clips_in_block}
 use Rattle.fx_tap_delays.proofs.tapped.tap_groups.Given as goal
 
 abbrev pub invariant-groups : goal.invariant-groups
@@ -9,12 +10,12 @@ invariant-groups g l =
     let m = l.tapping in
     record {
       within : l.done ≤ l.count;
-      made : pieces (taps.channels m) l.done l.samples ≡ frames_after taps m l.fn.line.items (pieces (taps.channels m) l.done l.fn.samples);
+      made : MakesBlock taps m l.fn.line.items l.done l.fn.samples l.samples;
       rest_unchanged : drop (l.done * taps.channels m) l.samples ≡ drop (l.done * taps.channels m) l.fn.samples;
-      counted : l.clips ≡ clips_after taps m l.fn.line.items (pieces (taps.channels m) l.done l.fn.samples);
+      counted : l.clips ≡ clips_in_block taps m l.fn.line.items l.done l.fn.samples;
       bound : l.clips ≤ l.done * taps.max_clips m;
       small : l.clips ≤ 16 * l.done;
-      line : l.line.items ≡ last_of l.fn.line.capacity (l.fn.line.items ++ pieces (taps.channels m) l.done l.fn.samples);
+      line : l.line.items ≡ pushed_all l.fn.line (pieces (taps.channels m) l.done l.fn.samples);
       line_capacity : l.line.capacity ≡ l.fn.line.capacity;
       line_channels : l.line.channels ≡ l.fn.line.channels;
     }

@@ -7,8 +7,8 @@ use Rattle.fx_frame_base.specs.Lists.{pieces}
 use Rattle.fx_frame_base.specs.Stage.{Given}
 use Rattle.fx_frame_base.proofs.Puts.{drop-put, pieces-more, pieces-put}
 use Rattle.fx_frame.specs.Tapped.{clips_after, frames_after, last_of}
-use Rattle.fx_frame.specs.History.{sample_before}
 use Rattle.fx_frame.proofs.TapBlocks.{clips-more, frames-more, last-more}
+use Rattle.fx_tap_delays.specs.Tapping.{history_after}
 use Rattle.fx_tap_delays.proofs.tapped.tap_over_by_frames.Goals as goal
 
 pub frames-preserved : goal.frames-preserved
@@ -29,7 +29,7 @@ frames-preserved g c =
     let is_size : c.channels-channels.result ≡ size = c.channels-channels.ensures.value in
     let width : c.frames.from + size - c.frames.from ≡ size = omega arith in
     let rest_unchanged : List Samples = last_of free (items ++ xs) in
-    let is_made : Given = taps.made m (sample_before (rest_unchanged ++ x ∷ []) (length rest_unchanged)) in
+    let is_made : Given = taps.made m (history_after rest_unchanged x) in
     let next : suc turn * size ≤ c.args.count * size = mul-le-mul_right size (omega arith) in
     let fits : c.frames.from + size ≤ length c.frames.samples = omega (arith, next, suc-mul turn size, old.at_is, c.requires.samples, c.frames.auto.samples) in
     let part : length (take size (drop c.frames.from c.frames.samples)) ≡ size = length-take-le size (drop c.frames.from c.frames.samples) (omega (arith, fits, length-drop c.frames.from c.frames.samples)) in
@@ -41,8 +41,8 @@ frames-preserved g c =
     ∙ ap (λ rest. take c.frames.from c.frames.samples ++ made ++ rest) (drop-drop size c.frames.from c.frames.samples ∙ ap (λ n. drop (c.frames.from + n) c.frames.samples) (sym sides)) in
     let more : pieces size (turn + 1) start ≡ xs ++ x ∷ [] = pieces-more size turn c.frames.from start old.at_is in
     let ensured = rw (is_size, width, old.rest_unchanged) at c.tap_and_push-clips.ensures in
-    let framed : made ≡ is_made.samples = ensured.frame ∙ ap (λ (l : List Samples). (taps.made m (sample_before (l ++ x ∷ []) (length l))).samples) old.line in
-    let clipped : c.tap_and_push-clips.result ≡ is_made.clips = ensured.clips ∙ ap (λ (l : List Samples). (taps.made m (sample_before (l ++ x ∷ []) (length l))).clips) old.line in
+    let framed : made ≡ is_made.samples = ensured.frame ∙ ap (λ (l : List Samples). (taps.made m (history_after l x)).samples) old.line in
+    let clipped : c.tap_and_push-clips.result ≡ is_made.clips = ensured.clips ∙ ap (λ (l : List Samples). (taps.made m (history_after l x)).clips) old.line in
     let bound16 : taps.max_clips m ≤ 16 = g.met.T.Tapping.clips_max m in
     rw (is_size, width)
     record {

@@ -10,7 +10,8 @@ use Rattle.fx_frame_base.specs.Stage.{Given}
 use Rattle.fx_frame_base.proofs.Evenly.{put-between}
 use Rattle.fx_frame_base.proofs.Puts.{drop-put}
 use Rattle.fx_frame.specs.Made.{made_of}
-use Rattle.fx_tap_pointwise.proofs.GroupLaws.{IsMadeByThree, group-more}
+use Rattle.fx_tap_pointwise.specs.Around.{IsMadeByThree}
+use Rattle.fx_tap_pointwise.proofs.GroupLaws.{group-more}
 use Rattle.fx_tap_pointwise.proofs.around.groups_by_three.Goals as goal
 
 pub slice_bounds-frames-end : goal.slice_bounds-frames-end
@@ -55,21 +56,10 @@ groups-preserved g c =
     let wide_in : from + 4 * ins - from ≡ 4 * ins = omega arith in
     let wide_out : at + 4 * outs - at ≡ 4 * outs = omega arith in
     let both_out : (done + 4) * outs ≡ at + 4 * outs = add-mul done 4 outs in
-    let group = rw wide_in at c.group_by_three-clips.ensures in
     let sides : length made ≡ 4 * outs = (rw wide_out at c.group_by_three-clips.auto.output) ∙ length-take-le (4 * outs) (drop at out) (omega (arith, fits, length-drop at out)) in
     let new : List ℤ = take at out ++ (made ++ drop (4 * outs) (drop at out)) in
     let put : new ≡ take at out ++ made ++ drop (at + length made) out = put-between at (4 * outs) out made new sides refl in
-    let next : IsMadeByThree a b e ins outs 4 (take (4 * ins) (drop from input)) made c.group_by_three-clips.result.first c.group_by_three-clips.result.middle c.group_by_three-clips.result.last = record {
-      made = group.frames;
-      first_counted = group.first;
-      middle_counted = group.middle;
-      last_counted = group.last;
-      before_sides = subst (λ m. All (λ (s : Samples). length s ≡ ins) (made_of a (pieces ins 4 (take m (drop from input))))) wide_in c.group_by_three-clips.ensures.before;
-      after_sides = subst (λ m. All (λ (s : Samples). length s ≡ outs) (made_of b (made_of a (pieces ins 4 (take m (drop from input)))))) wide_in c.group_by_three-clips.ensures.after;
-      first_bound = group.bound.0;
-      middle_bound = group.bound.1;
-      last_bound = group.bound.2;
-    } in
+    let next : IsMadeByThree a b e ins outs 4 (take (4 * ins) (drop from input)) made c.group_by_three-clips.result.first c.group_by_three-clips.result.middle c.group_by_three-clips.result.last = rw wide_in at c.group_by_three-clips.ensures.made in
     rw wide_out
     record {
       within = c.groups-test.true;
@@ -99,31 +89,14 @@ returns g c =
     let fits : at + n * outs ≤ length out = omega (arith, both_out, long, c.groups.auto.output) in
     let wide_in : from + n * ins - from ≡ n * ins = omega arith in
     let wide_out : at + n * outs - at ≡ n * outs = omega arith in
-    let group = rw wide_in at c.group_by_three-clips-2.ensures in
     let sides : length made ≡ n * outs = (rw wide_out at c.group_by_three-clips-2.auto.output) ∙ length-take-le (n * outs) (drop at out) (omega (arith, fits, length-drop at out)) in
     let new : List ℤ = take at out ++ (made ++ drop (n * outs) (drop at out)) in
     let put : new ≡ take at out ++ made ++ drop (at + length made) out = put-between at (n * outs) out made new sides refl in
-    let next : IsMadeByThree a b e ins outs n (take (n * ins) (drop from input)) made c.group_by_three-clips-2.result.first c.group_by_three-clips-2.result.middle c.group_by_three-clips-2.result.last = record {
-      made = group.frames;
-      first_counted = group.first;
-      middle_counted = group.middle;
-      last_counted = group.last;
-      before_sides = subst (λ m. All (λ (s : Samples). length s ≡ ins) (made_of a (pieces ins n (take m (drop from input))))) wide_in c.group_by_three-clips-2.ensures.before;
-      after_sides = subst (λ m. All (λ (s : Samples). length s ≡ outs) (made_of b (made_of a (pieces ins n (take m (drop from input)))))) wide_in c.group_by_three-clips-2.ensures.after;
-      first_bound = group.bound.0;
-      middle_bound = group.bound.1;
-      last_bound = group.bound.2;
-    } in
+    let next : IsMadeByThree a b e ins outs n (take (n * ins) (drop from input)) made c.group_by_three-clips-2.result.first c.group_by_three-clips-2.result.middle c.group_by_three-clips-2.result.last = rw wide_in at c.group_by_three-clips-2.ensures.made in
     let whole = rw all at (group-more a b e ins outs done n input out made new _ _ _ _ _ _ inside sides fits put old.made next) in
     let end : c.args.count * outs ≡ at + n * outs = sym (ap (λ m. m * outs) all) ∙ both_out in
     rw wide_out
     record {
-      frames = whole.made;
+      made = whole;
       rest_unchanged = rw end (drop-put at (n * outs) c.args.output.now out made new sides fits put old.rest_unchanged);
-      first = whole.first_counted;
-      middle = whole.middle_counted;
-      last = whole.last_counted;
-      before = whole.before_sides;
-      after = whole.after_sides;
-      bound = (whole.first_bound, whole.middle_bound, whole.last_bound);
     }

@@ -1,5 +1,5 @@
 use Rattle.std.proofs.Common.{◌≡◌, ◌≤◌, ◌-◌, ◌*◌, drop}
-use Rattle.fx_tap_pointwise.proofs.GroupLaws.{IsMadeByThree}
+use Rattle.fx_tap_pointwise.specs.Around.{IsMadeByThree}
 use Rattle.fx_tap_pointwise.proofs.around.groups_by_three.Given as goal
 
 abbrev pub invariant-groups : goal.invariant-groups

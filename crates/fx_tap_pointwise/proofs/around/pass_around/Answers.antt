@@ -6,7 +6,8 @@ use Rattle.fx_frame_base.specs.Frame.{Samples}
 use Rattle.fx_frame_base.specs.Lists.{pieces}
 use Rattle.fx_frame_base.specs.Stage.{Given}
 use Rattle.fx_frame_base.proofs.Pieces.{length-pieces}
-use Rattle.fx_frame.specs.Made.{clips_in, made_of}
+use Rattle.fx_frame.specs.Made.{made_of}
+use Rattle.fx_tap_pointwise.specs.Around.{IsMadeByThree}
 use Rattle.fx_tap_pointwise.proofs.Blocks.{dry-through}
 use Rattle.fx_frame.proofs.SamplePieces.{pieces-sides}
 use Rattle.fx_tap_pointwise.proofs.around.pass_around.Goals as goal
@@ -27,7 +28,6 @@ returns-clause-through g c =
     let n : ℕ = c.args.count in
     let input : List ℤ = c.args.input.now in
     let output : List ℤ = c.mapped_by_three-clips.new.output in
-    let made = c.mapped_by_three-clips.ensures in
     let one-is = c.mapping-3.ensures.value in
     let two-is = c.mapping-4.ensures.value in
     let three-is = c.mapping-5.ensures.value in
@@ -36,12 +36,8 @@ returns-clause-through g c =
     let xs : List Samples = pieces ins n input in
     let ys : List Samples = made_of a xs in
     let zs : List Samples = made_of b ys in
-    let out : pieces outs n output ≡ made_of e zs = rw (one-is, two-is, three-is, ins-is, outs-is) at made.frames in
-    let first : c.mapped_by_three-clips.result.first ≡ clips_in a xs = rw (one-is, ins-is) at made.first in
-    let middle : c.mapped_by_three-clips.result.middle ≡ clips_in b ys = rw (one-is, two-is, ins-is) at made.middle in
-    let last : c.mapped_by_three-clips.result.last ≡ clips_in e zs = rw (one-is, two-is, three-is, ins-is) at made.last in
-    let before : All (λ (y : Samples). length y ≡ ins) ys = rw (one-is, ins-is) at made.before in
-    let after : All (λ (y : Samples). length y ≡ outs) zs = rw (one-is, two-is, ins-is, outs-is) at made.after in
+    let made : IsMadeByThree a b e ins outs n input output c.mapped_by_three-clips.result.first c.mapped_by_three-clips.result.middle c.mapped_by_three-clips.result.last =
+    rw (one-is, two-is, three-is, ins-is, outs-is) at c.mapped_by_three-clips.ensures.made in
     let many : length xs ≡ n = length-pieces ins n input in
     let many-ys : length ys ≡ n = length-map xs (λ x. (a x).samples) ∙ many in
     let many-zs : length zs ≡ n = length-map ys (λ y. (b y).samples) ∙ many-ys in
@@ -50,7 +46,7 @@ returns-clause-through g c =
     rw (c.count_passed.ensures, c.count_passed-2.ensures, c.count_passed-3.ensures) (
       ys,
       zs,
-      dry-through A.inputs A.outputs A.mapped s n c.mapped_by_three-clips.result.first xs ys c.mapping-3.ensures.sound c.requires.first_dry c.requires.first_open many (rw c.requires.first_keeps before) refl first,
-      dry-through B.inputs B.outputs B.mapped t n c.mapped_by_three-clips.result.middle ys zs c.mapping-4.ensures.sound c.requires.middle_dry c.requires.middle_open many-ys after refl middle,
-      dry-through C.inputs C.outputs C.mapped u n c.mapped_by_three-clips.result.last zs (pieces outs n output) c.mapping-5.ensures.sound c.requires.last_dry c.requires.last_open many-zs sides out last,
+      dry-through A.inputs A.outputs A.mapped s n c.mapped_by_three-clips.result.first xs ys c.mapping-3.ensures.sound c.requires.first_dry c.requires.first_open many (rw c.requires.first_keeps made.before_sides) refl made.first_counted,
+      dry-through B.inputs B.outputs B.mapped t n c.mapped_by_three-clips.result.middle ys zs c.mapping-4.ensures.sound c.requires.middle_dry c.requires.middle_open many-ys made.after_sides refl made.middle_counted,
+      dry-through C.inputs C.outputs C.mapped u n c.mapped_by_three-clips.result.last zs (pieces outs n output) c.mapping-5.ensures.sound c.requires.last_dry c.requires.last_open many-zs sides made.made made.last_counted,
     )

@@ -3,17 +3,18 @@ use Rattle.fx_fixed.specs.Rounding.{clip_count, rounding}
 use Rattle.fx_tap_delays.specs.Echo.{EchoArguments, echo_sum, echoed_sample}
 use Rattle.fx_tap_sums.specs.Weights.{Weights}
 use Rattle.fx_tap_delays.specs.EchoWeights.{weighed}
-use Rattle.fx_frame.specs.History.{History, sample_before}
+use Rattle.fx_frame.specs.History.{History}
 use Rattle.fx_tap_delays.proofs.EchoWeights.{small-sample}
 use Rattle.fx_frame_base.proofs.Rounds.{samples_of-next, clips_of-next, byte_is, byte-le}
 use Rattle.fx_tap_sums.proofs.SmallSums.{held-in-64}
+use Rattle.fx_tap_delays.specs.Tapping.{history_after}
 use Rattle.fx_tap_delays.proofs.echo.PreparedEcho.small_into.Goals as goal
 
 pub channels-preserved : goal.channels-preserved
 channels-preserved c =
     let a : EchoArguments = c.args.self.now in
     let w : Weights = c.args.small.now in
-    let history : History = sample_before (c.args.line.now.items ++ c.args.frame.now ∷ []) (length c.args.line.now.items) in
+    let history : History = history_after c.args.line.now.items c.args.frame.now in
     let i : ℕ = c.channels.channel in
     let f : ℕ → ℤ × Bool = echoed_sample a history in
     let y : ℤ = c.round_and_count.result in

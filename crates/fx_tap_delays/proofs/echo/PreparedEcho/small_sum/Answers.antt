@@ -2,11 +2,12 @@ use Rattle.std.proofs.Common.{rules, ◌≡◌, ◌<◌, ◌≤◌, ◌+◌, ◌
 use Rattle.std.specs.Int.{w32, w64}
 use Rattle.fx_tap_delays.specs.Echo.{echoes_of}
 use Rattle.fx_tap_delays.specs.EchoWeights.{weighed_echoes}
-use Rattle.fx_frame.specs.History.{History, sample_before}
+use Rattle.fx_frame.specs.History.{History}
 use Rattle.fx_tap_delays.proofs.EchoLaws.{echo-next, echo-last}
 use Rattle.fx_tap_delays.proofs.EchoWeights.{held-weight, weighed-at, weighed-length}
 use Rattle.fx_tap_sums.proofs.SmallSums.{held-in-64, plain-added}
 use Rattle.fx_tap_sums.proofs.Magnitudes.{added-bound}
+use Rattle.fx_tap_delays.specs.Tapping.{history_after}
 use Rattle.fx_tap_delays.proofs.echo.PreparedEcho.small_sum.Goals as goal
 
 pub overflow_add-sum : goal.overflow_add-sum
@@ -20,7 +21,7 @@ pub taps-init : goal.taps-init
 taps-init c =
     let es : List (ℕ × ℤ) = c.self.inside.taps.items in
     let ws : List ℤ = c.small.inside.weights in
-    let history : History = sample_before (c.args.line.now.items ++ c.args.frame.now ∷ []) (length c.args.line.now.items) in
+    let history : History = history_after c.args.line.now.items c.args.frame.now in
     let weight = held-weight ws 0 c.small.invariant in
     let first : to_z w32 (of_z w32 c.sample.result) ≡ c.sample.result = search rules in
     let bound = c.product-sum.ensures.bound in

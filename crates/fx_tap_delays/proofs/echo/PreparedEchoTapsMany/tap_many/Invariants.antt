@@ -1,7 +1,8 @@
-use Rattle.std.proofs.Common.{◌≡◌, ◌≤◌, ◌-◌, ◌*◌, ◌++◌, drop}
+use Rattle.std.proofs.Common.{◌≡◌, ◌≤◌, ◌-◌, ◌*◌, drop}
 use Rattle.fx_frame_base.specs.Lists.{pieces}
 use Rattle.fx_tap_delays.specs.EchoState.{echo_taps}
-use Rattle.fx_frame.specs.Tapped.{clips_after, frames_after, last_of}
+use Rattle.fx_frame_line.specs.Line.{pushed_all}
+use Rattle.fx_tap_delays.specs.Tapping.{MakesBlock, clips_in_block}
 use Rattle.fx_tap_delays.proofs.echo.PreparedEchoTapsMany.tap_many.Given as goal
 
 abbrev pub invariant-pieces : goal.invariant-pieces
@@ -9,11 +10,11 @@ invariant-pieces l =
     let channels = l.self.channels in
     record {
       within : l.done ≤ l.count;
-      made : pieces channels l.done l.output ≡ frames_after echo_taps l.self l.fn.line.items (pieces channels l.done l.input);
+      made : MakesBlock echo_taps l.self l.fn.line.items l.done l.input l.output;
       rest_unchanged : drop (l.done * channels) l.output ≡ drop (l.done * channels) l.fn.output;
-      counted : l.clips ≡ clips_after echo_taps l.self l.fn.line.items (pieces channels l.done l.input);
+      counted : l.clips ≡ clips_in_block echo_taps l.self l.fn.line.items l.done l.input;
       bound : l.clips ≤ l.done * 16;
-      line : l.line.items ≡ last_of l.fn.line.capacity (l.fn.line.items ++ pieces channels l.done l.input);
+      line : l.line.items ≡ pushed_all l.fn.line (pieces channels l.done l.input);
       line_capacity : l.line.capacity ≡ l.fn.line.capacity;
       line_channels : l.line.channels ≡ l.fn.line.channels;
     }
