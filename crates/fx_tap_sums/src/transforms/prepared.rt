@@ -49,8 +49,8 @@ pub(crate) fn prepare<const P: u32>(
     })
 }
 
-/// Multiplies a zero and numbers after it, which are loaded, by prepared weights: the remainders of the sums of the weights
-/// times as many of the numbers, from each of their places on.
+/// Writes numbers below four times the modulus over a zero and the remainders of a window: these have the remainders of the
+/// sums of the weights times as many numbers of the window, from each of its places on.
 fn multiply_loaded<const P: u32>(prepared: &Prepared<P>, values: &mut [u32])
     requires modulus { IsModulus P }
     requires values { (length values.old ≡ 1024) ⊎ (length values.old ≡ 2048) }
@@ -87,7 +87,7 @@ pub(crate) fn convolve_modulo<const P: u32>(
     multiply_loaded(prepared, values);
 }
 
-/// The same for samples that are multiples of 256: the remainders of the sums of the samples over 256.
+/// The same of samples that are multiples of 256: the remainders of the sums of the weights times the samples over 256.
 pub(crate) fn convolve_upper_modulo<const P: u32>(
     prepared: &Prepared<P>,
     window: &[i32],

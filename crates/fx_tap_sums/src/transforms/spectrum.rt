@@ -86,7 +86,7 @@ fn are_upper(window: &[i32]) -> bool
     bits % 256 == 0
 }
 
-/// Writes numbers in 64 bits, so many as there are places.
+/// Writes numbers in 64 bits, as many as there are places.
 fn widen(numbers: &[u32], wide: &mut [i64])
     requires { length wide.old ≤ length numbers.now }
     ensures { (i : ℕ) → i < length wide.new → slice_index_or wide.new i (pos 0) ≡ pos (slice_index_or numbers.now i 0) }
@@ -141,7 +141,7 @@ impl Transforms {
         }
     }
 
-    /// The same for samples of either kind.
+    /// The same, by two primes where the samples are multiples of 256.
     fn convolve_any<const SIZE: usize>(&self, weights: usize, window: &[i32], sums: &mut [i64])
         requires size { (SIZE ≡ 1024) ⊎ (SIZE ≡ 2048) }
         requires window { weights + length sums.old ≤ length window.now + 1 }
