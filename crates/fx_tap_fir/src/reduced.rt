@@ -21,20 +21,23 @@ const MIN_PAIRED: usize = 6;
 /// How many sums there are at least where products of 16 bits pay: sixteen sums are made side by side.
 const MIN_PAIRED_SUMS: usize = 16;
 
-/// How many products take as long as a transform of 2,048 numbers, of samples of at most 24 bits. Fewer are sooner added up one
-/// by one.
-const PRODUCTS_OF_TRANSFORM: usize = 180_000;
+/// How many products take about as long as a transform of 2,048 numbers, of samples of at most 24 bits. Fewer are sooner added up
+/// one by one. This and the next three are estimates, between what instructions and what times of the transforms say.
+const PRODUCTS_OF_TRANSFORM: usize = 160_000;
 
 /// The same of samples of more bits, whose transforms are modulo three primes.
-const WIDE_PRODUCTS_OF_TRANSFORM: usize = 270_000;
+const WIDE_PRODUCTS_OF_TRANSFORM: usize = 230_000;
 
 /// The same of products of 16 bits with two digits a weight.
-const DIGIT_PRODUCTS_OF_TRANSFORM: usize = 300_000;
+const DIGIT_PRODUCTS_OF_TRANSFORM: usize = 220_000;
 
 /// The same of products of 16 bits with one digit a weight.
-const PAIRED_PRODUCTS_OF_TRANSFORM: usize = 600_000;
+const PAIRED_PRODUCTS_OF_TRANSFORM: usize = 450_000;
 
-/// To how much the magnitudes of weights add up at most where products of 16 bits take one digit a weight.
+/// The magnitude of a weight at most, where products of 16 bits take one digit a weight.
+const MAX_DIGIT: u32 = 32_767;
+
+/// To how much the magnitudes of weights add up at most there.
 const MAX_OF_ONE_DIGIT: u64 = 65_535;
 
 /// How many sums are made at once without a spectrum.
@@ -92,10 +95,13 @@ fn narrow_products(weights: &[i32], is_paired: bool) -> usize {
         return PRODUCTS_OF_TRANSFORM;
     }
     let mut total = 0u64;
+    let mut largest = 0;
     for weight in weights {
-        total = total.saturating_add(weight.unsigned_abs().into());
+        let size = weight.unsigned_abs();
+        total = total.saturating_add(size.into());
+        largest = size.max(largest);
     }
-    if total <= MAX_OF_ONE_DIGIT {
+    if largest <= MAX_DIGIT && total <= MAX_OF_ONE_DIGIT {
         PAIRED_PRODUCTS_OF_TRANSFORM
     } else {
         DIGIT_PRODUCTS_OF_TRANSFORM
