@@ -1,4 +1,4 @@
-use Rattle.std.proofs.Common.{◌≡◌, ◌<◌, ◌++◌, ◌∷◌, [], pos, ◌+ℤ◌, ◌*ℤ◌, length, ap, sym, ◌∙◌, arith, slice_index_or}
+use Rattle.std.proofs.Common.{◌≡◌, ◌<◌, pos, ◌+ℤ◌, ◌*ℤ◌, ap, sym, ◌∙◌, arith, slice_index_or}
 use Rattle.fx_frame.proofs.DelayLaws.{sample-some, sample-none}
 use Rattle.fx_tap_sums.proofs.SumLaws.{zero-echo}
 use Rattle.fx_tap_delays.specs.Tapping.{history_after}

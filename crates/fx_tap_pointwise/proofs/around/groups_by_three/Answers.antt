@@ -1,15 +1,12 @@
-use Rattle.std.proofs.Common.{◌≡◌, ◌+◌, ◌-◌, ◌*◌, ◌≤◌, ℕ, List, ◌++◌, length, take, drop, sym, ap, refl, subst, ◌∙◌, arith}
+use Rattle.std.proofs.Common.{◌≡◌, ◌+◌, ◌-◌, ◌*◌, ◌≤◌, ℕ, List, ◌++◌, length, take, drop, sym, ap, refl, ◌∙◌, arith}
 use Rattle.std.specs.Prelude.{ℤ}
-use Rattle.std.specs.List.{All}
 use Rattle.std.proofs.lemmas.List.{length-drop, length-take-le}
 use Rattle.std.proofs.lemmas.List.Elements.{All-nil}
 use Rattle.std.proofs.Math.Nat.{add-mul, mul-le-mul_right}
 use Rattle.fx_frame_base.specs.Frame.{Samples}
-use Rattle.fx_frame_base.specs.Lists.{pieces}
 use Rattle.fx_frame_base.specs.Stage.{Given}
 use Rattle.fx_frame_base.proofs.Evenly.{put-between}
 use Rattle.fx_frame_base.proofs.Puts.{drop-put}
-use Rattle.fx_frame.specs.Made.{made_of}
 use Rattle.fx_tap_pointwise.specs.Around.{IsMadeByThree}
 use Rattle.fx_tap_pointwise.proofs.GroupLaws.{group-more}
 use Rattle.fx_tap_pointwise.proofs.around.groups_by_three.Goals as goal

@@ -1,4 +1,4 @@
-use Rattle.std.proofs.Common.{rules, arith, ◌≡◌, ◌<◌, ◌+◌, ◌++◌, ◌∷◌, [], ◌∙◌, ap, refl, cond, ℕ, ℤ, Bool, length, to_z, of_z, w32, w64}
+use Rattle.std.proofs.Common.{rules, arith, ◌≡◌, ◌<◌, ◌+◌, ◌∙◌, ap, refl, cond, ℕ, ℤ, Bool, length, to_z, of_z, w32, w64}
 use Rattle.fx_fixed.specs.Rounding.{clip_count, rounding}
 use Rattle.fx_tap_delays.specs.Echo.{EchoArguments, echo_sum, echoed_sample}
 use Rattle.fx_tap_sums.specs.Weights.{Weights}

@@ -1,4 +1,4 @@
-use Rattle.std.proofs.Common.{◌∙◌, ◌++◌, ◌∷◌, [], length, ap}
+use Rattle.std.proofs.Common.{◌∙◌, ap}
 use Rattle.fx_frame_base.specs.Rounded.{clips_rounded, samples_of}
 use Rattle.fx_tap_sums.specs.Weights.{SoundsAs}
 use Rattle.fx_tap_delays.proofs.EchoLaws.{echoed-is}
