@@ -22,6 +22,7 @@ pub mod ProductLanes
 pub mod Quarters
 pub mod Remainders
 pub mod Residues
+pub mod Samples
 pub mod SmallSums
 pub mod Steps
 pub mod SumLaws

@@ -54,7 +54,7 @@ pub(crate) fn prepare<const P: u32>(
 fn multiply_loaded<const P: u32>(prepared: &Prepared<P>, values: &mut [u32])
     requires modulus { IsModulus P }
     requires values { (length values.old ≡ 1024) ⊎ (length values.old ≡ 2048) }
-    requires loaded { AreRemainders (2 * P) values.old }
+    requires loaded { AreRemainders (4 * P) values.old }
     requires are { (ws : List ℤ) × ArePreparedModulo P ws prepared.now.table.roots.items prepared.now.table.inverses.items prepared.now.half.items prepared.now.spectrum.items }
     ensures remainders { AreRemainders (4 * P) values.new }
     ensures sums { (ws window : List ℤ) (i : ℕ) → ArePreparedModulo P ws prepared.now.table.roots.items prepared.now.table.inverses.items prepared.now.half.items prepared.now.spectrum.items → length window < length values.old → AreSame P values.old (pos 0 ∷ window) → i + length ws ≤ length window → Same (pos P) (pos (slice_index_or values.new i 0)) (sum_of_products (drop i window) ws) }

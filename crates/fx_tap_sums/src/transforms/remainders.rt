@@ -35,15 +35,15 @@ pub(crate) fn reduced<const P: u32>(number: u32) -> u32
     if number < P { number } else { number - P }
 }
 
-/// A number below twice the modulus that has the remainder of a sample.
+/// A number below twice the modulus that has the remainder of a weight.
 #[inline(always)]
-pub(crate) fn remainder<const P: u32>(sample: i32) -> u32
+pub(crate) fn remainder<const P: u32>(weight: i32) -> u32
     requires { IsModulus P }
     ensures less { result < 2 * P }
-    ensures same { Same (pos P) (pos result) sample }
-    ensures bound { unsigned_abs sample ≤ 2 ^ 31 }
+    ensures same { Same (pos P) (pos result) weight }
+    ensures bound { unsigned_abs weight ≤ 2 ^ 31 }
 {
-    let raised = (i64::from(sample) + (1 << 31)) as u32;
+    let raised = (i64::from(weight) + (1 << 31)) as u32;
     raised % P + (P - (1 << 31) % P)
 }
 

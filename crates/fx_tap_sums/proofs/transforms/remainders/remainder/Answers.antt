@@ -7,7 +7,7 @@ use Rattle.fx_tap_sums.proofs.transforms.remainders.remainder.Goals as goal
 
 pub returns-clause-same : goal.returns-clause-same
 returns-clause-same g c =
-    let x : ℤ = c.args.sample in
+    let x : ℤ = c.args.weight in
     let f : c.from.result ≡ x = c.from.ensures ∙ search rules in
     let fits : FitsSigned w32 x = search rules in
     let bound : unsigned_abs x ≤ 2 ^ 31 = search rules in
