@@ -7,6 +7,7 @@ pub mod Factors
 pub mod Fitting
 pub mod Halves
 pub mod InTurn
+pub mod Joining
 pub mod KernelLaws
 pub mod Leaf
 pub mod Magnitudes

@@ -1,15 +1,19 @@
 -- Vectors of four numbers, lane by lane.
-use Rattle.std.proofs.Common.{◌≡◌, ◌+◌, ◌-◌, ◌*◌, ◌%◌, ◌^◌, ◌<◌, ◌≤◌, ◌∙◌, refl, ap, cond, pos, neg_ℤ, ◌*ℤ◌, ℕ, Bool, true, false, nat_lt, List, [], ◌∷◌, length, get_or, arith}
-use Rattle.std.specs.Prelude.{map}
+use Rattle.std.proofs.Common.{◌≡◌, ◌+◌, ◌-◌, ◌*◌, ◌%◌, ◌^◌, ◌<◌, ◌≤◌, ◌∙◌, refl, ap, cond, pos, neg_ℤ, ◌*ℤ◌, ℕ, Bool, true, false, nat_lt, List, [], ◌∷◌, length, get_or, arith, to_z, w64}
+use Rattle.std.specs.Prelude.{◌-ℤ◌, map}
 use Rattle.std.specs.Simd.Lanes.{Each2, zip2, sel_l, top}
 use mathlib.Core.Logic.{inl, inr}
 use Rattle.std.proofs.lemmas.Bool.{cases_lt}
-use Rattle.std.proofs.lemmas.Int.{ints}
+use Rattle.std.proofs.lemmas.Int.{ints, fits_signed_from_abs, to_z_pos}
 use Rattle.std.proofs.lemmas.Bool.Decides.{nat_tests}
 use Rattle.std.proofs.lemmas.Nat.{mul-le}
 use Rattle.fx_tap_sums.specs.Residues.{AreFour, Same}
 use Rattle.fx_tap_sums.proofs.Residues.{same_refl, same_less}
 use Rattle.fx_tap_sums.proofs.PairLanes.{each_of_four}
+use Rattle.fx_tap_sums.proofs.SmallSums.{held-in-64}
+use borrow.Rule.Simd.Lanes.{act1, act2, Asks2}
+use borrow.Table.Row.{s_int}
+use mir.Syntax.{cast, signed, sub, unsigned}
 
 -- what holds of four numbers that are written out holds of each list of four
 pub by_four : (P : List ℕ → Type 0) → ((a b c d : ℕ) → P (a ∷ b ∷ c ∷ d ∷ [])) → (xs : List ℕ) → length xs ≡ 4 → P xs
@@ -108,3 +112,29 @@ pub opposite_same : (p t b : ℕ) → b ≤ t * p → Same (pos p) (pos (t * p -
 opposite_same p t b less =
     let whole : pos p *ℤ pos t ≡ pos (t * p) = ap pos (omega arith) in
     (pos t, omega (arith, ints))
+
+-- a number less another one, with a sign
+one_asked : (a n : ℕ) → a < 2 ^ 63 → n < 2 ^ 63 → Asks2 (sub signed) (s_int w64) (s_int w64) (act1 (cast unsigned signed w64) (s_int w64) (s_int w64) a) n
+one_asked a n a_less n_less =
+    let x = to_z_pos w64 a a_less in
+    let y = to_z_pos w64 n n_less in
+    rw (x, y) (fits_signed_from_abs w64 (pos a -ℤ pos n) (omega (arith, ints)))
+
+one_less : (a n : ℕ) → a < 2 ^ 63 → n < 2 ^ 63 → to_z w64 (act2 (sub signed) (s_int w64) (s_int w64) (s_int w64) (act1 (cast unsigned signed w64) (s_int w64) (s_int w64) a) n) ≡ pos a -ℤ pos n
+one_less a n a_less n_less =
+    let x = to_z_pos w64 a a_less in
+    let y = to_z_pos w64 n n_less in
+    rw (x, y) (held-in-64 (pos a -ℤ pos n) (omega (arith, ints)))
+
+pub less_asked : (n : ℕ) (xs : List ℕ) → length xs ≡ 4 → ((k : ℕ) → k < 4 → get_or xs k 0 < 2 ^ 63) → n < 2 ^ 63
+    → Each2 (Asks2 (sub signed) (s_int w64) (s_int w64)) (map (act1 (cast unsigned signed w64) (s_int w64) (s_int w64)) xs) (n ∷ n ∷ n ∷ n ∷ [])
+less_asked n xs l less fits =
+    by_four (λ xs. ((k : ℕ) → k < 4 → get_or xs k 0 < 2 ^ 63) → Each2 (Asks2 (sub signed) (s_int w64) (s_int w64)) (map (act1 (cast unsigned signed w64) (s_int w64) (s_int w64)) xs) (n ∷ n ∷ n ∷ n ∷ []))
+    (λ a b c d less. (one_asked a n (less 0 (omega arith)) fits, (one_asked b n (less 1 (omega arith)) fits, (one_asked c n (less 2 (omega arith)) fits, (one_asked d n (less 3 (omega arith)) fits, tt))))) xs l less
+
+pub less_lane : (n : ℕ) (xs : List ℕ) → length xs ≡ 4 → ((k : ℕ) → k < 4 → get_or xs k 0 < 2 ^ 63) → n < 2 ^ 63 → (k : ℕ) → k < 4
+    → get_or (map (to_z w64) (zip2 (act2 (sub signed) (s_int w64) (s_int w64) (s_int w64)) (map (act1 (cast unsigned signed w64) (s_int w64) (s_int w64)) xs) (n ∷ n ∷ n ∷ n ∷ []))) k (pos 0) ≡ pos (get_or xs k 0) -ℤ pos n
+less_lane n xs l less fits k h =
+    by_four (λ xs. (k : ℕ) → k < 4 → get_or xs k 0 < 2 ^ 63 → get_or (map (to_z w64) (zip2 (act2 (sub signed) (s_int w64) (s_int w64) (s_int w64)) (map (act1 (cast unsigned signed w64) (s_int w64) (s_int w64)) xs) (n ∷ n ∷ n ∷ n ∷ []))) k (pos 0) ≡ pos (get_or xs k 0) -ℤ pos n)
+    (λ a b c d. each_of_four (λ k. get_or (a ∷ b ∷ c ∷ d ∷ []) k 0 < 2 ^ 63 → get_or (map (to_z w64) (zip2 (act2 (sub signed) (s_int w64) (s_int w64) (s_int w64)) (map (act1 (cast unsigned signed w64) (s_int w64) (s_int w64)) (a ∷ b ∷ c ∷ d ∷ [])) (n ∷ n ∷ n ∷ n ∷ []))) k (pos 0) ≡ pos (get_or (a ∷ b ∷ c ∷ d ∷ []) k 0) -ℤ pos n)
+    (λ f. one_less a n f fits) (λ f. one_less b n f fits) (λ f. one_less c n f fits) (λ f. one_less d n f fits)) xs l k h (less k h)

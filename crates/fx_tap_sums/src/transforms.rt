@@ -1,6 +1,7 @@
 //! Sums of a long list of weights times the samples of a window, by transforms modulo two or three primes.
 
 mod factor;
+mod joining;
 mod lanes;
 mod leaf;
 mod loading;

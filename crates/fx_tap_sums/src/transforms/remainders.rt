@@ -14,7 +14,7 @@ pub(crate) const SECOND: u32 = 135_135_233;
 pub(crate) const THIRD: u32 = 136_314_881;
 
 /// Times the first modulus this is 1 modulo the second one.
-const INVERSE_OF_FIRST: u32 = 112_612_866;
+pub(crate) const INVERSE_OF_FIRST: u32 = 112_612_866;
 
 /// Times the product of the first two moduli this is 1 modulo the third one.
 const INVERSE_OF_PAIR: u32 = 70_689_802;

@@ -4,11 +4,12 @@ ghost use Rattle.fx_tap_sums.specs.Prepared.{ArePrepared, ArePreparedModulo, Are
 ghost use Rattle.fx_tap_sums.specs.Products.{sum_of_products};
 ghost use Rattle.fx_tap_sums.specs.Upper.{AreUpper};
 
+use super::joining::join_all;
 use super::prepared::{Prepared, convolve_modulo, convolve_upper_modulo, prepare};
 use super::primes::{
     BACK_OF_FIRST, BACK_OF_SECOND, BACK_OF_THIRD, STEPS_OF_FIRST, STEPS_OF_SECOND, STEPS_OF_THIRD,
 };
-use super::remainders::{FIRST, SECOND, THIRD, joined_three, joined_two};
+use super::remainders::{FIRST, SECOND, THIRD, joined_three};
 use std::alloc::{AllocError, Global};
 use std::marker::Model;
 
@@ -110,13 +111,11 @@ impl Transforms {
         ensures sums { (ws : List ℤ) → length ws ≡ weights → ArePreparedModuloTwo self.now ws → (i : ℕ) → i < length sums.new → slice_index_or sums.new i (pos 0) ≡ sum_of_products (drop i window.now) ws }
         ensures bound { (i : ℕ) → i < length sums.new → unsigned_abs (slice_index_or sums.new i (pos 0)) ≤ 2 ^ 61 }
     {
-        let mut values = [0; SIZE];
-        convolve_upper_modulo(&self.first, window, &mut values);
-        widen(&values, sums);
-        convolve_upper_modulo(&self.second, window, &mut values);
-        'places: for (place, sum) in sums.iter_mut().enumerate() {
-            *sum = 256 * joined_two(*sum as u32, values[place]);
-        }
+        let mut first = [0; SIZE];
+        convolve_upper_modulo(&self.first, window, &mut first);
+        let mut second = [0; SIZE];
+        convolve_upper_modulo(&self.second, window, &mut second);
+        join_all(&first, &second, sums);
     }
 
     /// Writes the sums of prepared weights times as many samples of the window, at most as many as one transform of SIZE numbers

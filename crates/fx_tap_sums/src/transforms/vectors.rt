@@ -1,5 +1,5 @@
 //! Four numbers at a time, lane by lane.
-ghost use Rattle.std.specs.Prelude.{◌≡◌, ◌<◌, ◌≤◌, ◌+◌, ◌-◌, ◌*◌, ◌/◌, ◌%◌, ◌^◌, ℕ, length, slice_index_or};
+ghost use Rattle.std.specs.Prelude.{◌≡◌, ◌<◌, ◌≤◌, ◌+◌, ◌-◌, ◌*◌, ◌/◌, ◌%◌, ◌^◌, ℕ, pos, ◌-ℤ◌, length, slice_index_or};
 ghost use Rattle.fx_tap_sums.specs.Residues.{AreFour};
 
 use std::simd::prelude::*;
@@ -71,6 +71,38 @@ pub(crate) fn add_wide(x: u64x4, y: u64x4) -> u64x4
     ensures value { (k : ℕ) → k < 4 → slice_index_or result k 0 ≡ slice_index_or x k 0 + slice_index_or y k 0 }
 {
     x.strict_add(y)
+}
+
+/// Numbers of 32 bits in 64.
+#[inline(always)]
+pub(crate) fn widen(numbers: u32x4) -> u64x4
+    requires { AreFour (2 ^ 32) numbers }
+    ensures four { length result ≡ 4 }
+    ensures value { (k : ℕ) → k < 4 → slice_index_or result k 0 ≡ slice_index_or numbers k 0 }
+{
+    numbers.cast::<u64>()
+}
+
+/// `x * number` in 64 bits.
+#[inline(always)]
+pub(crate) fn times_number(x: u64x4, number: u64) -> u64x4
+    requires x { length x ≡ 4 }
+    requires fits { (k : ℕ) → k < 4 → slice_index_or x k 0 * number < 2 ^ 64 }
+    ensures four { length result ≡ 4 }
+    ensures value { (k : ℕ) → k < 4 → slice_index_or result k 0 ≡ slice_index_or x k 0 * number }
+{
+    x.strict_mul(u64x4::splat(number))
+}
+
+/// `x - number`, with a sign.
+#[inline(always)]
+pub(crate) fn less_number(x: u64x4, number: u64) -> i64x4
+    requires x { AreFour (2 ^ 63) x }
+    requires number { number < 2 ^ 63 }
+    ensures four { length result ≡ 4 }
+    ensures value { (k : ℕ) → k < 4 → slice_index_or result k (pos 0) ≡ pos (slice_index_or x k 0) -ℤ pos number }
+{
+    x.cast::<i64>().strict_sub(i64x4::splat(number as i64))
 }
 
 /// Numbers that fit 32 bits.

@@ -1,0 +1,10 @@
+-- Numbers that two remainders tell.
+use Rattle.std.specs.Prelude.{ℕ, ◌≤◌, ◌^◌, ℤ, pos, unsigned_abs}
+use Rattle.fx_tap_sums.specs.declared.transforms.remainders.TheConstants.{FIRST, SECOND}
+use Rattle.fx_tap_sums.specs.Residues.{Same}
+
+-- a number of magnitude at most 2^53 with its remainders modulo the first two primes
+pub record HasBoth (first second : ℕ) (number : ℤ) : Type 0 where
+  pub small : unsigned_abs number ≤ 2 ^ 53
+  pub modulo_first : Same (pos FIRST) (pos first) number
+  pub modulo_second : Same (pos SECOND) (pos second) number
