@@ -1,5 +1,5 @@
 -- Numbers that two remainders tell.
-use Rattle.std.specs.Prelude.{ℕ, ◌≤◌, ◌^◌, ℤ, pos, unsigned_abs}
+use Rattle.std.specs.Prelude.{ℕ, ◌≤◌, ◌^◌, List, ℤ, pos, slice_index_or, unsigned_abs}
 use Rattle.fx_tap_sums.specs.declared.transforms.remainders.TheConstants.{FIRST, SECOND}
 use Rattle.fx_tap_sums.specs.Residues.{Same}
 
@@ -8,3 +8,7 @@ pub record HasBoth (first second : ℕ) (number : ℤ) : Type 0 where
   pub small : unsigned_abs number ≤ 2 ^ 53
   pub modulo_first : Same (pos FIRST) (pos first) number
   pub modulo_second : Same (pos SECOND) (pos second) number
+
+-- the same at a place of two lists of remainders
+abbrev pub HasBothAt : List ℕ → List ℕ → ℕ → ℤ → Type 0
+HasBothAt first second place number = HasBoth (slice_index_or first place 0) (slice_index_or second place 0) number
