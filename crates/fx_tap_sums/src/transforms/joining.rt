@@ -1,6 +1,6 @@
 //! Four numbers at a time by their remainders modulo the first two primes.
-ghost use Rattle.std.specs.Prelude.{◌≡◌, ◌<◌, ◌≤◌, ◌+◌, ◌*◌, ◌^◌, ℕ, ℤ, pos, ◌+ℤ◌, ◌*ℤ◌, length, slice_index_or};
-ghost use Rattle.fx_tap_sums.specs.Joined.{HasBoth};
+ghost use Rattle.std.specs.Prelude.{◌≡◌, ◌<◌, ◌≤◌, ◌*◌, ◌^◌, ℕ, ℤ, length};
+ghost use Rattle.fx_tap_sums.specs.Joined.{AreJoined, AreRaised, HasBothAt};
 ghost use Rattle.fx_tap_sums.specs.Residues.{AreFour, AreRemainders};
 
 use super::factor::Factor;
@@ -25,7 +25,7 @@ fn raised_two(first: u32x4, second: u32x4) -> u64x4
     requires first { AreFour (4 * FIRST) first }
     requires second { AreFour (4 * SECOND) second }
     ensures less { AreFour (2 ^ 55) result }
-    ensures value { (k : ℕ) → k < 4 → (x : ℤ) → HasBoth (slice_index_or first k 0) (slice_index_or second k 0) x → pos (slice_index_or result k 0) ≡ x +ℤ pos HALF }
+    ensures sums { AreRaised HALF first second result }
 {
     let inverse: Factor<SECOND> = Factor::of(INVERSE_OF_FIRST);
     let difference = add(second, subtract(u32x4::splat(RAISE), first));
@@ -39,7 +39,7 @@ fn join_two(first: u32x4, second: u32x4) -> i64x4
     requires first { AreFour (4 * FIRST) first }
     requires second { AreFour (4 * SECOND) second }
     ensures four { length result ≡ 4 }
-    ensures value { (k : ℕ) → k < 4 → (x : ℤ) → HasBoth (slice_index_or first k 0) (slice_index_or second k 0) x → slice_index_or result k (pos 0) ≡ pos 256 *ℤ x }
+    ensures sums { AreJoined 256 first second result }
 {
     less_number(times_number(raised_two(first, second), 256), 256 * HALF)
 }
@@ -50,8 +50,8 @@ pub(crate) fn join_all(first: &[u32], second: &[u32], sums: &mut [i64])
     requires second_long { length sums.old ≤ length second.now }
     requires first_less { AreRemainders (4 * FIRST) first.now }
     requires second_less { AreRemainders (4 * SECOND) second.now }
-    requires are { (i : ℕ) → i < length sums.old → (x : ℤ) × HasBoth (slice_index_or first.now i 0) (slice_index_or second.now i 0) x }
-    ensures { (i : ℕ) → i < length sums.new → (x : ℤ) → HasBoth (slice_index_or first.now i 0) (slice_index_or second.now i 0) x → slice_index_or sums.new i (pos 0) ≡ pos 256 *ℤ x }
+    requires are { (i : ℕ) → i < length sums.old → (x : ℤ) × HasBothAt first.now second.now i x }
+    ensures { AreJoined 256 first.now second.now sums.new }
 {
     let mut at = 0;
     'groups: while at + 4 <= sums.len() {

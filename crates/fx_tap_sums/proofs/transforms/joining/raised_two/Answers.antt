@@ -1,12 +1,14 @@
-use Rattle.std.proofs.Common.{◌≡◌, ◌+◌, ◌-◌, ◌*◌, ◌∙◌, ap, pos, ◌*ℤ◌, slice_index_or}
+use Rattle.std.proofs.Common.{arith, ◌<◌, ◌≡◌, ◌+◌, ◌-◌, ◌*◌, ◌∙◌, ap, pos, ◌*ℤ◌, slice_index_or}
 use Rattle.fx_tap_sums.specs.Residues.{Same}
 use Rattle.fx_tap_sums.proofs.Joining.{raised_is}
 use Rattle.fx_tap_sums.proofs.Residues.{same_on}
 use Rattle.fx_tap_sums.proofs.Vectors.{splat_at}
 use Rattle.fx_tap_sums.proofs.transforms.joining.raised_two.Goals as goal
 
-pub returns-clause-value : goal.returns-clause-value
-returns-clause-value c = λ k l x both.
+pub returns-clause-sums : goal.returns-clause-sums
+returns-clause-sums c = λ k within x both.
+    let four = c.add_wide.ensures.four in
+    let l : k < 4 = omega (arith, four, within) in
     let first = slice_index_or c.args.first k 0 in
     let second = slice_index_or c.args.second k 0 in
     let product = slice_index_or c.times_four.result k 0 in
