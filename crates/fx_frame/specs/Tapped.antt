@@ -9,7 +9,7 @@ use Rattle.fx_frame_base.specs.Holds.{total}
 use Rattle.fx_frame_base.specs.Stage.{Given, Acts}
 use Rattle.fx_frame.specs.Kinds.{max_taken, tap_kind}
 use Rattle.fx_frame.specs.History.{History, sample_before}
-use Rattle.fx_frame_base.specs.Lists.{tabulate}
+use Rattle.fx_frame_base.specs.Lists.{pieces, tabulate}
 
 -- how effects with such arguments make frames
 pub record Taps (M : Type 0) : Type 0 where
@@ -120,6 +120,14 @@ module _ {M : Type 0} (taps : Taps M) where
   -- how many of their samples were clipped
   abbrev pub clips_after : M → List Samples → List Samples → ℕ
   clips_after m items coming = total (λ (g : Given). g.clips) (given_after m items coming)
+
+  -- the first `count` frames of the output are those made of the first `count` of the input, which follow those of the line
+  abbrev pub MakesBlock : M → List Samples → ℕ → List ℤ → List ℤ → Type 0
+  MakesBlock m items count input output = pieces (taps.channels m) count output ≡ frames_after m items (pieces (taps.channels m) count input)
+
+  -- how many of their samples were clipped
+  abbrev pub clips_in_block : M → List Samples → ℕ → List ℤ → ℕ
+  clips_in_block m items count input = clips_after m items (pieces (taps.channels m) count input)
 
   -- the frames that come, with silence where the sound has ended
   abbrev pub coming_of : TapState M → List Samples → List Samples

@@ -9,7 +9,8 @@ ghost use Rattle.fx_tap_delays.specs.Delay.{delayed_frame, every_delay};
 ghost use Rattle.fx_tap_delays.specs.DelayState.{delay_acts, delay_taps, RestoresDelay, NoShorterDelay, frame_leaving, frames_leaving};
 ghost use Rattle.fx_tap_delays.specs.Near.{delays-near};
 ghost use Rattle.std.proofs.Common.{zero-le};
-ghost use Rattle.fx_tap_delays.specs.Tapping.{MakesBlock, clips_in_block, history_after};
+ghost use Rattle.fx_tap_delays.specs.Tapping.{history_after};
+ghost use Rattle.fx_frame.specs.Tapped.{MakesBlock, clips_in_block};
 
 pub mod words;
 

@@ -13,7 +13,8 @@ ghost use Rattle.fx_tap_sums.specs.Weights.{SoundsAs, AreSmall};
 ghost use Rattle.fx_tap_delays.specs.EchoWeights.{weighed, one_echo_frame, AreEchoSums};
 ghost use Rattle.fx_tap_delays.specs.Near.{taps-near};
 ghost use Rattle.fx_tap_delays.specs.Sums.{AddsToEach};
-ghost use Rattle.fx_tap_delays.specs.Tapping.{MakesBlock, clips_in_block, history_after};
+ghost use Rattle.fx_tap_delays.specs.Tapping.{history_after};
+ghost use Rattle.fx_frame.specs.Tapped.{MakesBlock, clips_in_block};
 
 pub mod words;
 

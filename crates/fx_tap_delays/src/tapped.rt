@@ -4,9 +4,9 @@ ghost use Rattle.std.specs.Prelude.{◌≡◌, ◌↔◌, ◌+◌, true, ◌<◌
 ghost use Rattle.fx_frame_line.specs.Line.{pushed, pushed_all};
 ghost use Rattle.fx_frame_base.specs.Lists.{pieces};
 ghost use Rattle.fx_frame_base.specs.Stage.{Freezes, Gave, IsNew};
-ghost use Rattle.fx_frame.specs.Tapped.{AreTapCounts, IsNear, IsTapState, TapState, Taps, by_name, tap_acts};
+ghost use Rattle.fx_frame.specs.Tapped.{AreTapCounts, IsNear, IsTapState, MakesBlock, TapState, Taps, by_name, clips_in_block, tap_acts};
 ghost use Rattle.fx_tap_delays.specs.Restored.{Restores};
-ghost use Rattle.fx_tap_delays.specs.Tapping.{MakesBlock, clips_in_block, history_after};
+ghost use Rattle.fx_tap_delays.specs.Tapping.{history_after};
 
 use fx_frame::frozen::{stored_in, thawed_line_and_pending};
 use fx_frame::groups::{SAMPLES_OF_GROUP, frames_of_group};

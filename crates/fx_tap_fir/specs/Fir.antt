@@ -1,6 +1,6 @@
 -- The effect `fir` (sox(1), EFFECTS, fir): each sample is a sum of the samples around it, times the coefficients. That the
 -- sum is centred, so that the output has no delay, and rounding and clips are this project's profile.
-use Rattle.std.specs.Prelude.{ℕ, ℤ, ◌+◌, ◌-◌, ◌/◌, Bool, None, List, length, ◌^◌}
+use Rattle.std.specs.Prelude.{ℕ, ℤ, ◌+◌, ◌-◌, ◌/◌, Bool, None, List, [], ◌∷◌, ◌++◌, length, ◌^◌}
 use Rattle.fx_fixed.specs.Rounding.{rounding}
 use Rattle.fx_frame_base.specs.Frame.{Samples}
 use Rattle.fx_frame_base.specs.Stage.{Given, StageKind}
@@ -14,6 +14,10 @@ use Rattle.fx_frame_base.specs.Given.{given_samples}
 pub record FirArguments : Type 0 where
   pub channels : ℕ
   pub coefficients : List ℤ
+
+-- the arguments of a `fir` with these channels and coefficients
+abbrev pub fir_with : ℕ → List ℤ → FirArguments
+fir_with channels coefficients = record { channels = channels; coefficients = coefficients }
 
 -- how many later samples are in the sum of a sample
 abbrev pub centre : ℕ → ℕ
@@ -30,6 +34,10 @@ filtered_sample h x m channel = rounding (sum_of_products (samples_back x m chan
 -- those of all channels
 abbrev pub filtered_frame : FirArguments → List Samples → ℕ → Given
 filtered_frame r x m = given_samples (tabulate (filtered_sample r.coefficients x m) 0 r.channels)
+
+-- that of a frame which comes after these, made of it and of those before it
+abbrev pub filtered_next : FirArguments → List Samples → Samples → Given
+filtered_next r items frame = filtered_frame r (items ++ frame ∷ []) (length items)
 
 -- frame n of the filtered list: the sum of h_k * x[n + centre - k]
 abbrev pub filtered_at : FirArguments → List Samples → ℕ → Given

@@ -1,18 +1,20 @@
 -- The stage of `fir`: what it stores, its invariant, and what it is still to give (this project's profile).
-use Rattle.std.specs.Prelude.{ℕ, ℤ, pos, ◌+◌, ◌-◌, ◌*◌, ◌^◌, ◌≤◌, ◌≡◌, Bool, true, false, ◌&&◌, Option, List, ◌++◌, length, map, min, reverse, option_to_list, is_none, nat_eq, nat_le, slice_index_or, cond, unsigned_abs, All}
+use Rattle.std.specs.Prelude.{ℕ, ℤ, pos, ◌+◌, ◌-◌, ◌*◌, ◌^◌, ◌≤◌, ◌≡◌, Bool, true, false, ◌&&◌, Option, List, ◌++◌, length, map, min, reverse, MatchResult, Result, option_to_list, is_none, nat_eq, nat_le, slice_index_or, cond, unsigned_abs, All}
 use Rattle.std.specs.Int.{w32}
 use Rattle.fx_fixed.specs.Rounding.{rounding}
 use Rattle.fx_fixed.specs.declared.gains.TheConstants.{UNIT}
 use Rattle.fx_frame_base.specs.Frame.{Samples}
 use Rattle.fx_frame_base.specs.PendingFrame.{IsPending}
 use Rattle.fx_frame_line.specs.Line.{Frames, IsLine}
-use Rattle.fx_frame_base.specs.Stage.{Given, Acts}
+use Rattle.fx_frame_base.specs.Stage.{Given, Acts, Freezes}
 use Rattle.fx_frame.specs.Tapped.{TailNumbers, Taps}
 use Rattle.fx_frame_base.specs.Lists.{tabulate}
 use Rattle.fx_frame.specs.Kinds.{max_taken}
+use Rattle.fx_frame_base.specs.declared.stage.ThawFault.{ThawFault}
+use Rattle.fx_frame_base.specs.declared.stage.ThawFault.TheVariants.{Memory}
 use Rattle.fx_tap_sums.specs.Products.{sum_of_products}
 use Rattle.fx_frame_base.specs.Given.{given_samples}
-use Rattle.fx_tap_fir.specs.Fir.{FirArguments, centre, filtered_at, filtered, fir_kind}
+use Rattle.fx_tap_fir.specs.Fir.{FirArguments, centre, filtered_at, filtered, fir_kind, fir_with}
 
 -- `count` samples of a window from place m on backwards; outside of it there is silence
 abbrev pub samples_of_window : List ℤ → ℕ → ℕ → List ℤ
@@ -45,7 +47,7 @@ pub record FirState : Type 0 where
 
 -- what it was made with
 abbrev pub arguments_of : FirState → FirArguments
-arguments_of s = record { channels = s.channels; coefficients = reverse s.backwards }
+arguments_of s = fir_with s.channels (reverse s.backwards)
 
 -- the invariant of the stage
 pub record IsFir (s : FirState) : Type 0 where
@@ -107,3 +109,7 @@ fir_acts = record {
   capacity = λ s. s.line.capacity;
   state_counters = λ s. record { first = s.tail; second = length (option_to_list s.pending); third = s.pending_clips };
 }
+
+-- each sound `fir` with these arguments that stored these frames and counted these numbers is restored, unless memory is refused
+abbrev pub RestoresFir : FirArguments → List Samples → List ℕ → Result FirState ThawFault → Type 0
+RestoresFir r frames numbers result = (s : FirState) → IsFir s → arguments_of s ≡ r → Freezes fir_acts s frames numbers → MatchResult result (λ t. t ≡ s) (λ e. e ≡ Memory)

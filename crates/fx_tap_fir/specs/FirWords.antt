@@ -1,12 +1,13 @@
 -- The words of `fir` (sox(1), EFFECTS, fir): the name of a coefficient file, or 2 to 1024 coefficients; standard input is not
 -- supported.
-use Rattle.std.specs.Prelude.{ℕ, ◌+◌, nat_lt, List, [], ◌∷◌, ◌++◌, codes, length, ℤ, pos, is_none, unwrap_or}
+use Rattle.std.specs.Prelude.{ℕ, ◌+◌, nat_lt, List, [], ◌∷◌, ◌++◌, codes, length, ℤ, pos, is_none, unwrap_or, Result}
 use Rattle.std.specs.Str.{bytes_eq}
 use Rattle.std.specs.Result.{result_unwrap_or}
 use Rattle.fx_fixed.specs.CoefficientFiles.{coefficients_of}
 use Rattle.fx_plan_words.specs.declared.fault.Mark.{Mark}
 use Rattle.fx_plan_words.specs.declared.fault.PlanCause.TheVariants.{WrongCount, NotInProfile, BadCoefficients}
-use Rattle.fx_plan_words.specs.Faults.{Word, mark, when, fault_at}
+use Rattle.fx_plan_words.specs.Faults.{ReadsWords, Word, mark, when, fault_at}
+use Rattle.fx_plan_words.specs.declared.fault.WordsRefusal.{WordsRefusal}
 use Rattle.fx_plan_words.specs.Numbers.{gain_in}
 
 -- the words that are no coefficients
@@ -39,3 +40,7 @@ abbrev pub coefficients : List ℕ → List Word → List ℤ
 coefficients file [] = []
 coefficients file (word ∷ []) = in_file file
 coefficients file (word ∷ next ∷ words) = gains_of (word ∷ next ∷ words)
+
+-- what reading the words returns: their faults, or the coefficients, of which `view` is the list
+abbrev pub ReadsCoefficients : {X : Type 0} → (X → List ℤ) → Result X WordsRefusal → List ℕ → List Word → Type 0
+ReadsCoefficients view result file words = ReadsWords view result (fir_faults file words) (coefficients file words)

@@ -3,4 +3,5 @@
 pub mod Fir
 pub mod FirState
 pub mod FirWords
+pub mod Rounds
 pub mod Split

@@ -1,12 +1,12 @@
 //! The effect `fir` of sox(1): each sample is a sum of the samples around it, times the coefficients.
 ghost use Rattle.std.specs.Prelude.{◌≡◌, ◌↔◌, true, ◌+◌, ◌-◌, ◌*◌, ◌^◌, ◌<◌, ◌≤◌, ◌++◌, ◌∷◌, [], length, reverse, drop, pos, All, IfOk, Err, MatchResult, cond, min, nat_eq};
 ghost use Rattle.fx_frame_base.specs.Frame.{IsFrame};
-ghost use Rattle.fx_frame_line.specs.Line.{channel_of, pushed};
+ghost use Rattle.fx_frame_line.specs.Line.{channel_of, pushed, pushed_all};
 ghost use Rattle.fx_frame_base.specs.Lists.{pieces};
 ghost use Rattle.fx_frame_base.specs.Stage.{Freezes, IsNew};
-ghost use Rattle.fx_tap_fir.specs.Fir.{FirArguments, centre, filtered_frame, filtered_sample};
-ghost use Rattle.fx_tap_fir.specs.FirState.{AreFirCounts, FirState, IsFir, fir_acts, fir_taps};
-ghost use Rattle.fx_frame.specs.Tapped.{by_name, clips_after, frames_after, last_of};
+ghost use Rattle.fx_tap_fir.specs.Fir.{FirArguments, centre, filtered_frame, filtered_next, filtered_sample, fir_with};
+ghost use Rattle.fx_tap_fir.specs.FirState.{AreFirCounts, FirState, IsFir, RestoresFir, fir_acts, fir_taps};
+ghost use Rattle.fx_frame.specs.Tapped.{MakesBlock, by_name, clips_in_block};
 
 pub mod words;
 
@@ -152,8 +152,8 @@ fn filtered_into(
     requires end { length (line.now.items ++ latest.now) ≤ place + 1 }
     requires start { place + 1 ≤ length kernel.now + length (line.now.items ++ latest.now) }
     requires out { length out.old ≡ channels }
-    ensures frame { out.new ≡ (filtered_frame (record { channels = channels; coefficients = reverse kernel.now }) (line.now.items ++ latest.now) place).samples }
-    ensures clips { result ≡ (filtered_frame (record { channels = channels; coefficients = reverse kernel.now }) (line.now.items ++ latest.now) place).clips }
+    ensures frame { out.new ≡ (filtered_frame (fir_with channels (reverse kernel.now)) (line.now.items ++ latest.now) place).samples }
+    ensures clips { result ≡ (filtered_frame (fir_with channels (reverse kernel.now)) (line.now.items ++ latest.now) place).clips }
     ensures bound { result ≤ 16 }
 {
     let mut clips = 0;
@@ -181,8 +181,8 @@ fn filtered_frame(
     requires free { length line.now.items + 1 ≤ 1024 }
     requires end { length (line.now.items ++ latest.now) ≤ place + 1 }
     requires start { place + 1 ≤ length kernel.now + length (line.now.items ++ latest.now) }
-    ensures frame { result.0 ≡ (filtered_frame (record { channels = channels; coefficients = reverse kernel.now }) (line.now.items ++ latest.now) place).samples }
-    ensures clips { result.1 ≡ (filtered_frame (record { channels = channels; coefficients = reverse kernel.now }) (line.now.items ++ latest.now) place).clips }
+    ensures frame { result.0 ≡ (filtered_frame (fir_with channels (reverse kernel.now)) (line.now.items ++ latest.now) place).samples }
+    ensures clips { result.1 ≡ (filtered_frame (fir_with channels (reverse kernel.now)) (line.now.items ++ latest.now) place).clips }
     ensures bound { result.1 ≤ 16 }
     ensures fits { IsFrame result.0 × (length result.0 ≡ channels) }
 {
@@ -250,8 +250,8 @@ fn filter_within<const PLACES: usize, const SUMS: usize>(
     requires places { length line.now.items + count ≤ PLACES }
     requires frames { length frames.now ≡ count * channels }
     requires out { length out.old ≡ count * channels }
-    ensures frames { pieces channels count out.new ≡ frames_after fir_taps (record { channels = channels; coefficients = reverse kernel.now }) line.now.items (pieces channels count frames.now) }
-    ensures clips { result ≡ clips_after fir_taps (record { channels = channels; coefficients = reverse kernel.now }) line.now.items (pieces channels count frames.now) }
+    ensures frames { MakesBlock fir_taps (fir_with channels (reverse kernel.now)) line.now.items count frames.now out.new }
+    ensures clips { result ≡ clips_in_block fir_taps (fir_with channels (reverse kernel.now)) line.now.items count frames.now }
     ensures bound { result ≤ 16 * count }
 {
     let mut window = [0; PLACES];
@@ -283,8 +283,8 @@ fn filter_piece(
     requires fits { length kernel.now + count ≤ 2048 }
     requires frames { length frames.now ≡ count * channels }
     requires out { length out.old ≡ count * channels }
-    ensures frames { pieces channels count out.new ≡ frames_after fir_taps (record { channels = channels; coefficients = reverse kernel.now }) line.now.items (pieces channels count frames.now) }
-    ensures clips { result ≡ clips_after fir_taps (record { channels = channels; coefficients = reverse kernel.now }) line.now.items (pieces channels count frames.now) }
+    ensures frames { MakesBlock fir_taps (fir_with channels (reverse kernel.now)) line.now.items count frames.now out.new }
+    ensures clips { result ≡ clips_in_block fir_taps (fir_with channels (reverse kernel.now)) line.now.items count frames.now }
     ensures bound { result ≤ 16 * count }
 {
     if count > SUMS_OF_HALF {
@@ -318,11 +318,11 @@ fn filter_frames(
     requires bound { count ≤ 2 ^ 56 }
     requires input { count * channels ≤ length input.now }
     requires output { count * channels ≤ length output.old }
-    ensures frames { pieces channels count output.new ≡ frames_after fir_taps (record { channels = channels; coefficients = reverse kernel.now }) line.old.items (pieces channels count input.now) }
+    ensures frames { MakesBlock fir_taps (fir_with channels (reverse kernel.now)) line.old.items count input.now output.new }
     ensures rest_unchanged { drop (count * channels) output.new ≡ drop (count * channels) output.old }
-    ensures clips { result ≡ clips_after fir_taps (record { channels = channels; coefficients = reverse kernel.now }) line.old.items (pieces channels count input.now) }
+    ensures clips { result ≡ clips_in_block fir_taps (fir_with channels (reverse kernel.now)) line.old.items count input.now }
     ensures bound { result ≤ 16 * count }
-    ensures line { line.new.items ≡ last_of line.old.capacity (line.old.items ++ pieces channels count input.now) }
+    ensures line { line.new.items ≡ pushed_all line.old (pieces channels count input.now) }
     ensures line_capacity { line.new.capacity ≡ line.old.capacity }
     ensures line_channels { line.new.channels ≡ line.old.channels }
 {
@@ -350,8 +350,8 @@ fn filter_and_push(kernel: &Kernel, line: &mut Line, channels: usize, samples: &
     requires some { (1 ≤ channels) × (channels ≤ 16) }
     requires free { length line.old.items + 1 ≤ 1024 }
     requires samples { length samples.old ≡ channels }
-    ensures frame { samples.new ≡ (filtered_frame (record { channels = channels; coefficients = reverse kernel.now }) (line.old.items ++ samples.old ∷ []) (length line.old.items)).samples }
-    ensures clips { result ≡ (filtered_frame (record { channels = channels; coefficients = reverse kernel.now }) (line.old.items ++ samples.old ∷ []) (length line.old.items)).clips }
+    ensures frame { samples.new ≡ (filtered_next (fir_with channels (reverse kernel.now)) line.old.items samples.old).samples }
+    ensures clips { result ≡ (filtered_next (fir_with channels (reverse kernel.now)) line.old.items samples.old).clips }
     ensures bound { result ≤ 16 }
     ensures items { line.new.items ≡ pushed line.old samples.old }
     ensures line_capacity { line.new.capacity ≡ line.old.capacity }
@@ -378,10 +378,10 @@ fn filter_by_frames(
     requires taps { length kernel.now ≤ 1024 }
     requires bound { count ≤ 2 ^ 56 }
     requires samples { length samples.old ≡ count * channels }
-    ensures frames { pieces channels count samples.new ≡ frames_after fir_taps (record { channels = channels; coefficients = reverse kernel.now }) line.old.items (pieces channels count samples.old) }
-    ensures clips { result ≡ clips_after fir_taps (record { channels = channels; coefficients = reverse kernel.now }) line.old.items (pieces channels count samples.old) }
+    ensures frames { MakesBlock fir_taps (fir_with channels (reverse kernel.now)) line.old.items count samples.old samples.new }
+    ensures clips { result ≡ clips_in_block fir_taps (fir_with channels (reverse kernel.now)) line.old.items count samples.old }
     ensures bound { result ≤ 16 * count }
-    ensures line { line.new.items ≡ last_of line.old.capacity (line.old.items ++ pieces channels count samples.old) }
+    ensures line { line.new.items ≡ pushed_all line.old (pieces channels count samples.old) }
     ensures line_capacity { line.new.capacity ≡ line.old.capacity }
     ensures line_channels { line.new.channels ≡ line.old.channels }
 {
@@ -410,10 +410,10 @@ fn filter_group<const PLACES: usize, const SAMPLES: usize>(
     requires free { length samples.old ≤ SAMPLES }
     requires places { length line.old.items + count ≤ PLACES }
     requires samples { length samples.old ≡ count * channels }
-    ensures frames { pieces channels count samples.new ≡ frames_after fir_taps (record { channels = channels; coefficients = reverse kernel.now }) line.old.items (pieces channels count samples.old) }
-    ensures clips { result ≡ clips_after fir_taps (record { channels = channels; coefficients = reverse kernel.now }) line.old.items (pieces channels count samples.old) }
+    ensures frames { MakesBlock fir_taps (fir_with channels (reverse kernel.now)) line.old.items count samples.old samples.new }
+    ensures clips { result ≡ clips_in_block fir_taps (fir_with channels (reverse kernel.now)) line.old.items count samples.old }
     ensures bound { result ≤ 16 * count }
-    ensures line { line.new.items ≡ last_of line.old.capacity (line.old.items ++ pieces channels count samples.old) }
+    ensures line { line.new.items ≡ pushed_all line.old (pieces channels count samples.old) }
     ensures line_capacity { line.new.capacity ≡ line.old.capacity }
     ensures line_channels { line.new.channels ≡ line.old.channels }
 {
@@ -442,10 +442,10 @@ fn filter_batch(
     requires taps { length kernel.now ≤ 1024 }
     requires bound { count ≤ 2 ^ 56 }
     requires samples { length samples.old ≡ count * channels }
-    ensures frames { pieces channels count samples.new ≡ frames_after fir_taps (record { channels = channels; coefficients = reverse kernel.now }) line.old.items (pieces channels count samples.old) }
-    ensures clips { result ≡ clips_after fir_taps (record { channels = channels; coefficients = reverse kernel.now }) line.old.items (pieces channels count samples.old) }
+    ensures frames { MakesBlock fir_taps (fir_with channels (reverse kernel.now)) line.old.items count samples.old samples.new }
+    ensures clips { result ≡ clips_in_block fir_taps (fir_with channels (reverse kernel.now)) line.old.items count samples.old }
     ensures bound { result ≤ 16 * count }
-    ensures line { line.new.items ≡ last_of line.old.capacity (line.old.items ++ pieces channels count samples.old) }
+    ensures line { line.new.items ≡ pushed_all line.old (pieces channels count samples.old) }
     ensures line_capacity { line.new.capacity ≡ line.old.capacity }
     ensures line_channels { line.new.channels ≡ line.old.channels }
 {
@@ -471,7 +471,7 @@ impl Fir {
     pub fn new(alloc: Global, channels: usize, coefficients: &[Gain]) -> Result<Fir, AllocError>
         requires channels { (1 ≤ channels) × (channels ≤ 16) }
         requires coefficients { (1 ≤ length coefficients.now) × (length coefficients.now ≤ 1024) }
-        ensures { IfOk result (IsNew fir_acts (record { channels = channels; coefficients = coefficients.now })) }
+        ensures { IfOk result (IsNew fir_acts (fir_with channels coefficients.now)) }
     {
         let kernel = Kernel::of(alloc, coefficients)?;
         let line = Line::new(alloc, channels, coefficients.len() - 1)?;
@@ -540,10 +540,10 @@ impl Fir {
     ) -> Result<Fir, ThawFault>
         requires channels { (1 ≤ channels) × (channels ≤ 16) }
         requires coefficients { (1 ≤ length coefficients.now) × (length coefficients.now ≤ 1024) }
-        ensures recipe { IfOk result (λ t. fir_acts.recipe t ≡ record { channels = channels; coefficients = coefficients.now }) }
+        ensures recipe { IfOk result (λ t. fir_acts.recipe t ≡ fir_with channels coefficients.now) }
         ensures frozen { IfOk result (λ t. Freezes fir_acts t frames.now numbers.now) }
         ensures named { (result ≡ Err ThawFault.WrongPlan) → ⊥ }
-        ensures thawed { (s : FirState) → IsFir s → fir_acts.recipe s ≡ record { channels = channels; coefficients = coefficients.now } → Freezes fir_acts s frames.now numbers.now → MatchResult result (λ t. t ≡ s) (λ e. e ≡ ThawFault.Memory) }
+        ensures thawed { RestoresFir (fir_with channels coefficients.now) frames.now numbers.now result }
     {
         if !are_counts(coefficients.len(), frames.len(), numbers) {
             return Err(ThawFault::BadSnapshot);

@@ -3,6 +3,7 @@ ghost use Rattle.std.specs.Prelude.{◌≡◌, ◌+◌, ◌*◌, ◌^◌, ◌<�
 ghost use Rattle.fx_fixed.specs.Rounding.{rounding};
 ghost use Rattle.fx_tap_fir.specs.FirState.{samples_of_window};
 ghost use Rattle.fx_tap_sums.specs.SmallWeights.{SumsAs};
+ghost use Rattle.fx_tap_fir.specs.Rounds.{rounded_sum_from};
 ghost use Rattle.fx_tap_fir.specs.Split.{AddUpTo};
 ghost use Rattle.fx_frame_base.specs.Lists.{IsOtherPlace, tabulate};
 ghost use Rattle.fx_tap_sums.specs.Products.{sum_of_products};
@@ -144,9 +145,9 @@ impl Kernel {
         requires channels { channels ≤ 16 }
         requires window { length self.now + count ≤ length window.now + 1 }
         requires out { count * channels ≤ length out.old }
-        ensures put { (i : ℕ) → i < count → slice_index_or out.new (i * channels + channel) (pos 0) ≡ (rounding (sum_of_products (drop i window.now) self.now) UNIT).0 }
+        ensures put { (i : ℕ) → i < count → slice_index_or out.new (i * channels + channel) (pos 0) ≡ (rounded_sum_from self.now window.now i).0 }
         ensures others { (k : ℕ) → IsOtherPlace channels channel count k → slice_index_or out.new k (pos 0) ≡ slice_index_or out.old k (pos 0) }
-        ensures clips { result ≡ clips_rounded (tabulate (λ i. rounding (sum_of_products (drop i window.now) self.now) UNIT) 0 count) }
+        ensures clips { result ≡ clips_rounded (tabulate (rounded_sum_from self.now window.now) 0 count) }
         ensures bound { result ≤ count }
     {
         let taps = self.len();
@@ -176,9 +177,9 @@ impl Kernel {
         requires count { length sums.old ≤ 1920 }
         requires window { length self.now + length sums.old ≤ length window.now + 1 }
         requires out { length sums.old * channels ≤ length out.old }
-        ensures put { (i : ℕ) → i < length sums.old → slice_index_or out.new (i * channels + channel) (pos 0) ≡ (rounding (sum_of_products (drop i window.now) self.now) UNIT).0 }
+        ensures put { (i : ℕ) → i < length sums.old → slice_index_or out.new (i * channels + channel) (pos 0) ≡ (rounded_sum_from self.now window.now i).0 }
         ensures others { (k : ℕ) → IsOtherPlace channels channel (length sums.old) k → slice_index_or out.new k (pos 0) ≡ slice_index_or out.old k (pos 0) }
-        ensures clips { result ≡ clips_rounded (tabulate (λ i. rounding (sum_of_products (drop i window.now) self.now) UNIT) 0 (length sums.old)) }
+        ensures clips { result ≡ clips_rounded (tabulate (rounded_sum_from self.now window.now) 0 (length sums.old)) }
         ensures bound { result ≤ length sums.old }
     {
         if let Some(reduced) = &self.reduced {

@@ -3,6 +3,7 @@ ghost use Rattle.std.specs.Prelude.{◌≡◌, ◌<◌, ◌≤◌, ◌+◌, ◌^
 ghost use Rattle.fx_fixed.specs.Rounding.{rounding};
 ghost use Rattle.fx_tap_sums.specs.SmallWeights.{SumsAs};
 ghost use Rattle.fx_tap_sums.specs.Products.{sum_of_products};
+ghost use Rattle.fx_tap_sums.specs.Convolution.{AreSums};
 
 use fx_fixed::inner::Denominator;
 use fx_tap_sums::convolve::{convolve, small_dot};
@@ -205,7 +206,7 @@ impl Reduced {
     /// As `convolve`, without transforms.
     fn add_up(&self, window: &[i32], sums: &mut [i64])
         requires window { length self.now.weights + length sums.old ≤ length window.now + 1 }
-        ensures sums { (i : ℕ) → i < length sums.new → slice_index_or sums.new i (pos 0) ≡ sum_of_products (drop i window.now) self.now.weights }
+        ensures sums { AreSums self.now.weights window.now sums.new }
         ensures bound { (i : ℕ) → i < length sums.new → unsigned_abs (slice_index_or sums.new i (pos 0)) ≤ 2 ^ 61 }
     {
         if let Some(pairs) = &self.pairs {
@@ -219,7 +220,7 @@ impl Reduced {
     /// Writes the sums of the weights times as many samples of the window, from each of its places on.
     pub fn convolve(&self, window: &[i32], sums: &mut [i64])
         requires window { length self.now.weights + length sums.old ≤ length window.now + 1 }
-        ensures sums { (i : ℕ) → i < length sums.new → slice_index_or sums.new i (pos 0) ≡ sum_of_products (drop i window.now) self.now.weights }
+        ensures sums { AreSums self.now.weights window.now sums.new }
         ensures bound { (i : ℕ) → i < length sums.new → unsigned_abs (slice_index_or sums.new i (pos 0)) ≤ 2 ^ 61 }
     {
         let Some(spectrum) = &self.spectrum else {

@@ -1,3 +1,4 @@
+pub mod Convolution
 pub mod Joined
 pub mod Lanes
 pub mod Pairs

@@ -2,7 +2,7 @@
 
 ghost use Rattle.std.specs.Prelude.{◌≡◌, ◌<◌, ◌≤◌, IfOk, length};
 ghost use Rattle.fx_plan_words.specs.Faults.{ReadsWords, word_texts};
-ghost use Rattle.fx_tap_fir.specs.FirWords.{coefficients, coefficient_faults, file_faults, fir_faults, gains_of, in_file};
+ghost use Rattle.fx_tap_fir.specs.FirWords.{ReadsCoefficients, coefficient_faults, file_faults, gains_of, in_file};
 
 use fx_fixed::inner::MAX_COEFFICIENTS;
 use fx_fixed::{CoefFault, Coefficients, Gain};
@@ -48,7 +48,7 @@ fn read_file(alloc: Global, file: &[u8]) -> Result<Vec<Gain>, WordsRefusal>
 /// The coefficients of a `fir` with these words after its name, of which a single one names this file.
 #[tactic(auto, unfolding(crate::specs::FirWords::fir_faults))]
 pub fn read_fir(alloc: Global, file: &[u8], words: &[String]) -> Result<Vec<Gain>, WordsRefusal>
-    ensures read { ReadsWords (λ v. v.items) result (fir_faults file.now (word_texts words.now)) (coefficients file.now (word_texts words.now)) }
+    ensures read { ReadsCoefficients (λ v. v.items) result file.now (word_texts words.now) }
     ensures some { IfOk result (λ v. 1 ≤ length v.items) }
     ensures maximum { IfOk result (λ v. length v.items ≤ 1024) }
 {

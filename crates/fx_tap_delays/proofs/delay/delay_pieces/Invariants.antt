@@ -2,7 +2,7 @@ use Rattle.std.proofs.Common.{◌≡◌, ◌≤◌, ◌-◌, ◌*◌, drop, leng
 use Rattle.fx_frame_base.specs.Lists.{pieces}
 use Rattle.fx_tap_delays.specs.DelayState.{delay_taps}
 use Rattle.fx_frame_line.specs.Line.{pushed_all}
-use Rattle.fx_tap_delays.specs.Tapping.{MakesBlock}
+use Rattle.fx_frame.specs.Tapped.{MakesBlock}
 use Rattle.fx_tap_delays.proofs.delay.delay_pieces.Given as goal
 
 abbrev pub invariant-pieces : goal.invariant-pieces

@@ -1,7 +1,7 @@
 use Rattle.std.proofs.Common.{◌≡◌, ◌≤◌, ◌*◌, drop}
 use Rattle.fx_frame_base.specs.Lists.{pieces}
 use Rattle.fx_frame_line.specs.Line.{pushed_all}
-use Rattle.fx_tap_delays.specs.Tapping.{MakesBlock, clips_in_block}
+use Rattle.fx_frame.specs.Tapped.{MakesBlock, clips_in_block}
 use Rattle.fx_tap_delays.proofs.tapped.tap_by_frames.Given as goal
 
 abbrev pub invariant-frames : goal.invariant-frames
