@@ -2,7 +2,7 @@
 ghost use Rattle.std.specs.Prelude.{◌≡◌, ◌<◌, ◌≤◌, ◌+◌, ◌*◌, ◌^◌, ℕ, pos, neg_ℤ, ◌≤ℤ◌, drop, length, slice_index_or, unsigned_abs, All, IfOk, IfSome};
 ghost use Rattle.fx_frame_base.specs.Lists.{IsOtherPlace, tabulate};
 ghost use Rattle.fx_frame_base.specs.Rounded.{clips_rounded};
-ghost use Rattle.fx_tap_fir.specs.Rounds.{rounded_joined, rounded_split_sum_from};
+ghost use Rattle.fx_tap_fir.specs.Rounds.{rounded_joined, rounded_joined_from};
 ghost use Rattle.fx_tap_fir.specs.Split.{AddUpTo, AreSplit, joined_split};
 
 use crate::kernel::rounded;
@@ -137,9 +137,9 @@ impl Split {
         requires low { length self.now.low + length sums.old ≤ length window.now + 1 }
         requires high { length self.now.high + length sums.old ≤ length window.now + 1 }
         requires out { length sums.old * channels ≤ length out.old }
-        ensures put { (i : ℕ) → i < length sums.old → slice_index_or out.new (i * channels + channel) (pos 0) ≡ (rounded_split_sum_from self.now window.now i).0 }
+        ensures put { (i : ℕ) → i < length sums.old → slice_index_or out.new (i * channels + channel) (pos 0) ≡ (rounded_joined_from self.now window.now i).0 }
         ensures others { (k : ℕ) → IsOtherPlace channels channel (length sums.old) k → slice_index_or out.new k (pos 0) ≡ slice_index_or out.old k (pos 0) }
-        ensures clips { result ≡ clips_rounded (tabulate (rounded_split_sum_from self.now window.now) 0 (length sums.old)) }
+        ensures clips { result ≡ clips_rounded (tabulate (rounded_joined_from self.now window.now) 0 (length sums.old)) }
         ensures bound { result ≤ length sums.old }
     {
         let mut places = [0; MAX_SUMS];

@@ -1,3 +1,4 @@
+pub mod Added
 pub mod Convolution
 pub mod Lanes
 pub mod Pairs
