@@ -1,4 +1,5 @@
 pub mod Added
+pub mod ChannelSamples
 pub mod Convolution
 pub mod Lanes
 pub mod Pairs
