@@ -1,5 +1,5 @@
 -- One channel of frames whose samples lie one after another (this project's profile).
-use Rattle.std.specs.Prelude.{ℕ, ℤ, pos, ◌≡◌, ◌<◌, ◌≤◌, ◌+◌, ◌*◌, ◌^◌, ◌+ℤ◌, ◌*ℤ◌, Bool, List, length, slice_index_or, unsigned_abs}
+use Rattle.std.specs.Prelude.{ℕ, ℤ, pos, ◌≡◌, ◌<◌, ◌≤◌, ◌^◌, ◌+ℤ◌, ◌*ℤ◌, Bool, List, length, slice_index_or, unsigned_abs}
 use Rattle.fx_fixed.specs.Rounding.{rounding}
 use Rattle.fx_tap_sums.specs.ChannelSamples.{sample_at}
 
