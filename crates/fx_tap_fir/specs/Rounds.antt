@@ -10,8 +10,8 @@ abbrev pub rounded_sum_from : List ℤ → List ℤ → ℕ → ℤ × Bool
 rounded_sum_from coefficients window i = rounding (sum_of_products (drop i window) coefficients) UNIT
 
 -- the same of coefficients in two parts, whose sums are joined
-abbrev pub rounded_split_sum_from : SplitParts → List ℤ → ℕ → ℤ × Bool
-rounded_split_sum_from parts window i = rounding (joined_split (sum_of_products (drop i window) parts.high) (sum_of_products (drop i window) parts.low)) UNIT
+abbrev pub rounded_joined_from : SplitParts → List ℤ → ℕ → ℤ × Bool
+rounded_joined_from parts window i = rounding (joined_split (sum_of_products (drop i window) parts.high) (sum_of_products (drop i window) parts.low)) UNIT
 
 -- a sum of high parts and one of low parts, joined
 abbrev pub rounded_joined : List ℤ → List ℤ → ℕ → ℤ × Bool

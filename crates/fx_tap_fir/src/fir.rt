@@ -1,5 +1,5 @@
 //! The effect `fir` of sox(1): each sample is a sum of the samples around it, times the coefficients.
-ghost use Rattle.std.specs.Prelude.{◌≡◌, ◌↔◌, true, ◌+◌, ◌-◌, ◌*◌, ◌^◌, ◌<◌, ◌≤◌, ◌++◌, ◌∷◌, [], length, reverse, drop, pos, All, IfOk, Err, MatchResult, cond, min, nat_eq};
+ghost use Rattle.std.specs.Prelude.{◌≡◌, ◌↔◌, true, ◌+◌, ◌*◌, ◌^◌, ◌<◌, ◌≤◌, ◌++◌, length, reverse, drop, pos, All, IfOk, Err, cond, min, nat_eq};
 ghost use Rattle.fx_frame_base.specs.Frame.{IsFrame};
 ghost use Rattle.fx_frame_line.specs.Line.{channel_of, pushed, pushed_all};
 ghost use Rattle.fx_frame_base.specs.Lists.{pieces};

@@ -1,11 +1,12 @@
 //! The coefficients of a `fir`, prepared: in lowest terms, where sums of samples times them fit 64 bits.
-ghost use Rattle.std.specs.Prelude.{◌≡◌, ◌+◌, ◌*◌, ◌^◌, ◌<◌, ◌≤◌, ℕ, pos, neg_ℤ, ◌≤ℤ◌, length, drop, reverse, slice_index_or, unsigned_abs, All, IfOk, IfSome};
+ghost use Rattle.std.specs.Prelude.{◌≡◌, ◌+◌, ◌*◌, ◌^◌, ◌<◌, ◌≤◌, pos, neg_ℤ, ◌≤ℤ◌, length, drop, reverse, unsigned_abs, All, IfOk, IfSome};
 ghost use Rattle.fx_fixed.specs.Rounding.{rounding};
 ghost use Rattle.fx_tap_fir.specs.FirState.{samples_of_window};
 ghost use Rattle.fx_tap_sums.specs.SmallWeights.{SumsAs};
+ghost use Rattle.fx_tap_sums.specs.ChannelSamples.{KeepsOtherPlaces, WritesRounded};
 ghost use Rattle.fx_tap_fir.specs.Rounds.{rounded_sum_from};
 ghost use Rattle.fx_tap_fir.specs.Split.{AddUpTo};
-ghost use Rattle.fx_frame_base.specs.Lists.{IsOtherPlace, tabulate};
+ghost use Rattle.fx_frame_base.specs.Lists.{tabulate};
 ghost use Rattle.fx_tap_sums.specs.Products.{sum_of_products};
 ghost use Rattle.fx_frame_base.specs.Rounded.{clips_rounded};
 
@@ -145,8 +146,8 @@ impl Kernel {
         requires channels { channels ≤ 16 }
         requires window { length self.now + count ≤ length window.now + 1 }
         requires out { count * channels ≤ length out.old }
-        ensures put { (i : ℕ) → i < count → slice_index_or out.new (i * channels + channel) (pos 0) ≡ (rounded_sum_from self.now window.now i).0 }
-        ensures others { (k : ℕ) → IsOtherPlace channels channel count k → slice_index_or out.new k (pos 0) ≡ slice_index_or out.old k (pos 0) }
+        ensures put { WritesRounded channels channel count out.new (rounded_sum_from self.now window.now) }
+        ensures others { KeepsOtherPlaces channels channel count out.old out.new }
         ensures clips { result ≡ clips_rounded (tabulate (rounded_sum_from self.now window.now) 0 count) }
         ensures bound { result ≤ count }
     {
@@ -177,8 +178,8 @@ impl Kernel {
         requires count { length sums.old ≤ 1920 }
         requires window { length self.now + length sums.old ≤ length window.now + 1 }
         requires out { length sums.old * channels ≤ length out.old }
-        ensures put { (i : ℕ) → i < length sums.old → slice_index_or out.new (i * channels + channel) (pos 0) ≡ (rounded_sum_from self.now window.now i).0 }
-        ensures others { (k : ℕ) → IsOtherPlace channels channel (length sums.old) k → slice_index_or out.new k (pos 0) ≡ slice_index_or out.old k (pos 0) }
+        ensures put { WritesRounded channels channel (length sums.old) out.new (rounded_sum_from self.now window.now) }
+        ensures others { KeepsOtherPlaces channels channel (length sums.old) out.old out.new }
         ensures clips { result ≡ clips_rounded (tabulate (rounded_sum_from self.now window.now) 0 (length sums.old)) }
         ensures bound { result ≤ length sums.old }
     {

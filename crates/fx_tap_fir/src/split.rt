@@ -1,8 +1,9 @@
 //! Coefficients in two parts, for sums by transforms where they are not small.
-ghost use Rattle.std.specs.Prelude.{◌≡◌, ◌<◌, ◌≤◌, ◌+◌, ◌*◌, ◌^◌, ℕ, pos, neg_ℤ, ◌≤ℤ◌, drop, length, slice_index_or, unsigned_abs, All, IfOk, IfSome};
-ghost use Rattle.fx_frame_base.specs.Lists.{IsOtherPlace, tabulate};
+ghost use Rattle.std.specs.Prelude.{◌≡◌, ◌<◌, ◌≤◌, ◌+◌, ◌*◌, ◌^◌, ℕ, pos, neg_ℤ, ◌≤ℤ◌, length, slice_index_or, unsigned_abs, All, IfOk, IfSome};
+ghost use Rattle.fx_frame_base.specs.Lists.{tabulate};
 ghost use Rattle.fx_frame_base.specs.Rounded.{clips_rounded};
-ghost use Rattle.fx_tap_fir.specs.Rounds.{rounded_joined, rounded_split_sum_from};
+ghost use Rattle.fx_tap_sums.specs.ChannelSamples.{KeepsOtherPlaces, WritesRounded};
+ghost use Rattle.fx_tap_fir.specs.Rounds.{rounded_joined, rounded_joined_from};
 ghost use Rattle.fx_tap_fir.specs.Split.{AddUpTo, AreSplit, joined_split};
 
 use crate::kernel::rounded;
@@ -60,8 +61,8 @@ fn round_joined(high: &[i64], low: &[i64], channels: usize, channel: usize, out:
     requires low { (i : ℕ) → i < length low.now → unsigned_abs (slice_index_or low.now i (pos 0)) ≤ 2 ^ 61 }
     requires high { (i : ℕ) → i < length high.now → unsigned_abs (slice_index_or high.now i (pos 0)) ≤ 2 ^ 61 }
     requires out { length low.now * channels ≤ length out.old }
-    ensures put { (i : ℕ) → i < length low.now → slice_index_or out.new (i * channels + channel) (pos 0) ≡ (rounded_joined high.now low.now i).0 }
-    ensures others { (k : ℕ) → IsOtherPlace channels channel (length low.now) k → slice_index_or out.new k (pos 0) ≡ slice_index_or out.old k (pos 0) }
+    ensures put { WritesRounded channels channel (length low.now) out.new (rounded_joined high.now low.now) }
+    ensures others { KeepsOtherPlaces channels channel (length low.now) out.old out.new }
     ensures clips { result ≡ clips_rounded (tabulate (rounded_joined high.now low.now) 0 (length low.now)) }
     ensures bound { result ≤ length low.now }
 {
@@ -137,9 +138,9 @@ impl Split {
         requires low { length self.now.low + length sums.old ≤ length window.now + 1 }
         requires high { length self.now.high + length sums.old ≤ length window.now + 1 }
         requires out { length sums.old * channels ≤ length out.old }
-        ensures put { (i : ℕ) → i < length sums.old → slice_index_or out.new (i * channels + channel) (pos 0) ≡ (rounded_split_sum_from self.now window.now i).0 }
-        ensures others { (k : ℕ) → IsOtherPlace channels channel (length sums.old) k → slice_index_or out.new k (pos 0) ≡ slice_index_or out.old k (pos 0) }
-        ensures clips { result ≡ clips_rounded (tabulate (rounded_split_sum_from self.now window.now) 0 (length sums.old)) }
+        ensures put { WritesRounded channels channel (length sums.old) out.new (rounded_joined_from self.now window.now) }
+        ensures others { KeepsOtherPlaces channels channel (length sums.old) out.old out.new }
+        ensures clips { result ≡ clips_rounded (tabulate (rounded_joined_from self.now window.now) 0 (length sums.old)) }
         ensures bound { result ≤ length sums.old }
     {
         let mut places = [0; MAX_SUMS];

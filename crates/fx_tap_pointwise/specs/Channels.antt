@@ -1,11 +1,7 @@
 -- One channel of frames whose samples lie one after another (this project's profile).
-use Rattle.std.specs.Prelude.{ℕ, ℤ, pos, ◌≡◌, ◌<◌, ◌≤◌, ◌+◌, ◌*◌, ◌^◌, ◌+ℤ◌, ◌*ℤ◌, Bool, List, length, slice_index_or, unsigned_abs}
+use Rattle.std.specs.Prelude.{ℕ, ℤ, pos, ◌≡◌, ◌<◌, ◌≤◌, ◌^◌, ◌+ℤ◌, ◌*ℤ◌, Bool, List, length, slice_index_or, unsigned_abs}
 use Rattle.fx_fixed.specs.Rounding.{rounding}
-use Rattle.fx_frame_base.specs.Lists.{IsOtherPlace}
-
--- the sample of a channel in frame i, of frames with so many channels
-abbrev pub sample_at : List ℤ → ℕ → ℕ → ℕ → ℤ
-sample_at samples channels channel i = slice_index_or samples (i * channels + channel) (pos 0)
+use Rattle.fx_tap_sums.specs.ChannelSamples.{sample_at}
 
 -- what an effect makes of the sample of a channel in frame i
 abbrev pub rounded_at : (ℤ → ℤ × Bool) → List ℤ → ℕ → ℕ → ℕ → ℤ × Bool
@@ -14,18 +10,6 @@ rounded_at rounded samples channels channel i = rounded (sample_at samples chann
 -- the mean of two channels in frame i, rounded once
 abbrev pub mean_at : List ℤ → ℕ → ℕ → ℕ → ℕ → ℤ × Bool
 mean_at samples channels first second i = rounding (sample_at samples channels first i +ℤ sample_at samples channels second i) 2
-
--- in each of `count` frames, the sample of that channel is the one for its place
-abbrev pub WritesChannel : ℕ → ℕ → ℕ → List ℤ → (ℕ → ℤ) → Type 0
-WritesChannel channels channel count samples written = (i : ℕ) → i < count → sample_at samples channels channel i ≡ written i
-
--- in each of `count` frames, the sample of that channel is the rounded one for its place
-abbrev pub WritesRounded : ℕ → ℕ → ℕ → List ℤ → (ℕ → ℤ × Bool) → Type 0
-WritesRounded channels channel count samples rounds = WritesChannel channels channel count samples (λ i. (rounds i).0)
-
--- nothing changes but that channel of `count` frames
-abbrev pub KeepsOtherPlaces : ℕ → ℕ → ℕ → List ℤ → List ℤ → Type 0
-KeepsOtherPlaces channels channel count old new = (k : ℕ) → IsOtherPlace channels channel count k → slice_index_or new k (pos 0) ≡ slice_index_or old k (pos 0)
 
 -- no sum exceeds the maximum in magnitude with the sample of that channel added, times the weight, if the sample has 32 bits
 abbrev pub SumsStayWithin : ℕ → List ℤ → List ℤ → ℕ → ℕ → ℤ → Type 0

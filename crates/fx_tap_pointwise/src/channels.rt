@@ -4,7 +4,8 @@ ghost use Rattle.std.specs.Int.{w32};
 ghost use Rattle.fx_fixed.specs.Rounding.{rounding};
 ghost use Rattle.fx_frame_base.specs.Lists.{tabulate};
 ghost use Rattle.fx_frame_base.specs.Rounded.{clips_rounded};
-ghost use Rattle.fx_tap_pointwise.specs.Channels.{sample_at, mean_at, WritesChannel, WritesRounded, rounded_at, KeepsOtherPlaces, SumsStayWithin, AddsChannel};
+ghost use Rattle.fx_tap_pointwise.specs.Channels.{mean_at, rounded_at, SumsStayWithin, AddsChannel};
+ghost use Rattle.fx_tap_sums.specs.ChannelSamples.{sample_at, WritesChannel, WritesRounded, KeepsOtherPlaces};
 
 use crate::per_sample::Sampling;
 

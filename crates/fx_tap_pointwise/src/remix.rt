@@ -10,7 +10,7 @@ ghost use Rattle.fx_tap_pointwise.specs.Mix.{MixFits, IsContribution, all_parts,
 ghost use Rattle.fx_tap_pointwise.specs.Remix.{RemixArguments, mixed_parts, remix_parts, remixed_frame, remixed_sample};
 ghost use Rattle.fx_tap_pointwise.specs.RemixState.{remix_acts, remix_with, RestoresRemix};
 ghost use Rattle.fx_tap_pointwise.specs.RemixWords.{specs_in};
-ghost use Rattle.fx_tap_pointwise.specs.Channels.{WritesRounded, KeepsOtherPlaces};
+ghost use Rattle.fx_tap_sums.specs.ChannelSamples.{WritesRounded, KeepsOtherPlaces};
 
 pub mod words;
 

@@ -7,7 +7,8 @@ ghost use Rattle.fx_tap_pointwise.specs.Fractions.{fraction_sample};
 ghost use Rattle.fx_tap_pointwise.specs.Vol.{scaled_sample};
 ghost use Rattle.fx_tap_pointwise.specs.VolState.{vol_acts};
 ghost use Rattle.fx_tap_pointwise.specs.PerSampleState.{RestoresEach};
-ghost use Rattle.fx_tap_pointwise.specs.Channels.{WritesRounded, rounded_at, KeepsOtherPlaces};
+ghost use Rattle.fx_tap_pointwise.specs.Channels.{rounded_at};
+ghost use Rattle.fx_tap_sums.specs.ChannelSamples.{WritesRounded, KeepsOtherPlaces};
 
 pub mod words;
 

@@ -1,3 +1,5 @@
+pub mod Added
+pub mod ChannelSamples
 pub mod Convolution
 pub mod Joined
 pub mod Lanes

@@ -42,6 +42,10 @@ IsSplit split = (split ≡ 13) ⊎ (split ≡ 14)
 abbrev pub joined_halves : ℕ → ℤ → ℤ → ℤ
 joined_halves step high low = (high *ℤ pos step) +ℤ low
 
+-- the sum of the high part and the low one that stand at place k
+abbrev pub joined_at : ℕ → List ℤ → List ℤ → ℕ → ℤ
+joined_at step highs lows k = joined_halves step (slice_index_or highs k (pos 0)) (slice_index_or lows k (pos 0))
+
 -- how often a number has a step in it, rounded down
 pub record IsFloor (step : ℕ) (number floor : ℤ) : Type 0 where
   pub rest : ℕ

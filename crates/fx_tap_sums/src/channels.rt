@@ -1,7 +1,7 @@
 //! One channel of frames whose samples lie one after another.
 ghost use Rattle.std.specs.Prelude.{◌≡◌, ◌<◌, ◌≤◌, ◌+◌, ◌*◌, ◌^◌, ℕ, pos, length, slice_index_or, unsigned_abs};
-ghost use Rattle.fx_fixed.specs.Rounding.{rounding};
-ghost use Rattle.fx_frame_base.specs.Lists.{IsOtherPlace, tabulate};
+ghost use Rattle.fx_frame_base.specs.Lists.{tabulate};
+ghost use Rattle.fx_tap_sums.specs.ChannelSamples.{WritesRounded, KeepsOtherPlaces, rounded_over};
 ghost use Rattle.fx_frame_base.specs.Rounded.{clips_rounded};
 
 use fx_fixed::inner::Denominator;
@@ -20,9 +20,9 @@ pub fn round_channel(
     requires channels { channels ≤ 16 }
     requires small { (i : ℕ) → i < length sums.now → unsigned_abs (slice_index_or sums.now i (pos 0)) ≤ 2 ^ 61 }
     requires out { length sums.now * channels ≤ length out.old }
-    ensures put { (i : ℕ) → i < length sums.now → slice_index_or out.new (i * channels + channel) (pos 0) ≡ (rounding (slice_index_or sums.now i (pos 0)) denominator.now).0 }
-    ensures others { (k : ℕ) → IsOtherPlace channels channel (length sums.now) k → slice_index_or out.new k (pos 0) ≡ slice_index_or out.old k (pos 0) }
-    ensures clips { result ≡ clips_rounded (tabulate (λ i. rounding (slice_index_or sums.now i (pos 0)) denominator.now) 0 (length sums.now)) }
+    ensures put { WritesRounded channels channel (length sums.now) out.new (rounded_over denominator.now sums.now) }
+    ensures others { KeepsOtherPlaces channels channel (length sums.now) out.old out.new }
+    ensures clips { result ≡ clips_rounded (tabulate (rounded_over denominator.now sums.now) 0 (length sums.now)) }
     ensures bound { result ≤ length sums.now }
 {
     let mut at = channel;

@@ -4,8 +4,10 @@ ghost use Rattle.std.specs.Prelude.{◌≡◌, ◌<◌, ◌≤◌, ◌+◌, ◌-
 ghost use Rattle.std.specs.Int.{w32};
 ghost use Rattle.std.specs.Simd.Lanes.{Each1, zip2};
 ghost use Rattle.fx_tap_sums.specs.Lanes.{LanesWithin};
+ghost use Rattle.fx_tap_sums.specs.Added.{AddsEach};
+ghost use Rattle.fx_tap_sums.specs.Convolution.{AreSums};
 ghost use Rattle.fx_tap_sums.specs.Products.{sum_of_products};
-ghost use Rattle.fx_tap_sums.specs.Pairs.{AreCarried, AreHalves, ArePaired, ArePairedInParts, ArePairs, ArePairsOfParts, AreParts, AreWithin, EightHalves, FourFit, IsFloor, IsSplit, IsTable, PairsAdded, PairsFit, joined_halves, pair_product};
+ghost use Rattle.fx_tap_sums.specs.Pairs.{AreCarried, AreHalves, ArePaired, ArePairedInParts, ArePairs, ArePairsOfParts, AreParts, AreWithin, EightHalves, FourFit, IsFloor, IsSplit, IsTable, PairsAdded, PairsFit, joined_at, joined_halves, pair_product};
 
 use crate::convolve::{put_lanes, small_dot};
 use std::alloc::{AllocError, Global};
@@ -47,7 +49,7 @@ fn add_lanes(x: i32x4, y: i32x4) -> i32x4
     requires y { FourFit y }
     requires fits { (k : ℕ) → k < 4 → unsigned_abs (slice_index_or x k (pos 0) +ℤ slice_index_or y k (pos 0)) < 2 ^ 31 }
     ensures fits { FourFit result }
-    ensures value { (k : ℕ) → k < 4 → slice_index_or result k (pos 0) ≡ slice_index_or x k (pos 0) +ℤ slice_index_or y k (pos 0) }
+    ensures value { AddsEach 4 x y result }
 {
     x.strict_add(y)
 }
@@ -116,10 +118,10 @@ fn carry(split: u32, high: i32x4, low: i32x4) -> (i32x4, i32x4)
     requires split { IsSplit split }
     requires high { FourFit high }
     requires low { FourFit low }
-    requires small { (k : ℕ) → k < 4 → unsigned_abs (joined_halves (2 ^ split) (slice_index_or high k (pos 0)) (slice_index_or low k (pos 0))) ≤ 2 ^ 31 * (2 ^ split - 1) }
+    requires small { (k : ℕ) → k < 4 → unsigned_abs (joined_at (2 ^ split) high low k) ≤ 2 ^ 31 * (2 ^ split - 1) }
     ensures high { FourFit result.0 }
     ensures low { FourFit result.1 }
-    ensures value { (k : ℕ) → k < 4 → joined_halves (2 ^ split) (slice_index_or result.0 k (pos 0)) (slice_index_or result.1 k (pos 0)) ≡ joined_halves (2 ^ split) (slice_index_or high k (pos 0)) (slice_index_or low k (pos 0)) }
+    ensures value { (k : ℕ) → k < 4 → joined_at (2 ^ split) result.0 result.1 k ≡ joined_at (2 ^ split) high low k }
     ensures below { (k : ℕ) → k < 4 → unsigned_abs (slice_index_or result.1 k (pos 0)) ≤ 2 ^ 14 }
 {
     let carried = carried(split, low);
@@ -144,7 +146,7 @@ fn join_parts(split: u32, high: i32x4, low: i32x4) -> i64x4
     requires high { FourFit high }
     requires low { FourFit low }
     ensures small { LanesWithin (2 ^ 46) result }
-    ensures value { (k : ℕ) → k < 4 → slice_index_or result k (pos 0) ≡ joined_halves (2 ^ split) (slice_index_or high k (pos 0)) (slice_index_or low k (pos 0)) }
+    ensures value { (k : ℕ) → k < 4 → slice_index_or result k (pos 0) ≡ joined_at (2 ^ split) high low k }
 {
     let high = high.cast::<i64>().strict_mul(i64x4::splat(1 << split));
     low.cast::<i64>().strict_add(high)
@@ -156,9 +158,9 @@ fn scale_parts(split: u32, high: i32x4, low: i32x4) -> i64x4
     requires split { IsSplit split }
     requires high { FourFit high }
     requires low { FourFit low }
-    requires small { (k : ℕ) → k < 4 → unsigned_abs (joined_halves (2 ^ split) (slice_index_or high k (pos 0)) (slice_index_or low k (pos 0))) ≤ 2 ^ 45 }
+    requires small { (k : ℕ) → k < 4 → unsigned_abs (joined_at (2 ^ split) high low k) ≤ 2 ^ 45 }
     ensures small { LanesWithin (2 ^ 61) result }
-    ensures value { (k : ℕ) → k < 4 → slice_index_or result k (pos 0) ≡ joined_halves (2 ^ split) (slice_index_or high k (pos 0)) (slice_index_or low k (pos 0)) *ℤ pos 65536 }
+    ensures value { (k : ℕ) → k < 4 → slice_index_or result k (pos 0) ≡ joined_at (2 ^ split) high low k *ℤ pos 65536 }
 {
     join_parts(split, high, low).strict_mul(i64x4::splat(65536))
 }
@@ -572,7 +574,7 @@ impl Pairs {
         requires window { length self.now + length sums.old ≤ length window.now + 1 }
         requires count { length sums.old ≤ 256 }
         ensures exact { result ≡ true ↔ AreHalves (length self.now + length sums.old) window.now }
-        ensures sums { result ≡ true → (i : ℕ) → i < length sums.new → slice_index_or sums.new i (pos 0) ≡ sum_of_products (drop i window.now) self.now }
+        ensures sums { result ≡ true → AreSums self.now window.now sums.new }
         ensures bound { result ≡ true → (i : ℕ) → i < length sums.new → unsigned_abs (slice_index_or sums.new i (pos 0)) ≤ 2 ^ 61 }
     {
         let weights = &self.weights;
@@ -598,7 +600,7 @@ impl Pairs {
         requires window { length self.now + length sums.old ≤ length window.now + 1 }
         ensures exact { 0 < length sums.old
             → (result ≡ true ↔ AreHalves (length self.now + length sums.old) window.now) }
-        ensures sums { result ≡ true → (i : ℕ) → i < length sums.new → slice_index_or sums.new i (pos 0) ≡ sum_of_products (drop i window.now) self.now }
+        ensures sums { result ≡ true → AreSums self.now window.now sums.new }
         ensures bound { result ≡ true → (i : ℕ) → i < length sums.new → unsigned_abs (slice_index_or sums.new i (pos 0)) ≤ 2 ^ 61 }
     {
         if !window.is_empty() && window[0] % 65_536 != 0 {

@@ -1,5 +1,6 @@
 //! Sums of samples times gains and weights, each at its place.
 ghost use Rattle.std.specs.Prelude.{◌≡◌, ◌<◌, ◌≤◌, ◌+◌, ◌*◌, ◌^◌, ℕ, ℤ, List, pos, ◌+ℤ◌, ◌*ℤ◌, length, slice_index_or, unsigned_abs};
+ghost use Rattle.fx_tap_sums.specs.Added.{AddsEach, AddsScaled, GrowAtMost};
 
 use fx_fixed::{Gain, UNIT};
 
@@ -54,7 +55,7 @@ pub fn add_places<P: Places>(sums: &mut Sums, channels: usize, gain: Gain, sampl
     requires gain { unsigned_abs gain ≤ UNIT }
     requires small { (k : ℕ) → unsigned_abs (slice_index_or (P.list samples.now) k (pos 0)) ≤ 2 ^ 34 }
     requires free { (k : ℕ) → unsigned_abs (slice_index_or sums.old k (pos 0)) ≤ 2 ^ 100 }
-    ensures added { (k : ℕ) → k < channels → slice_index_or sums.new k (pos 0) ≡ slice_index_or sums.old k (pos 0) +ℤ (gain *ℤ slice_index_or (P.list samples.now) k (pos 0)) }
+    ensures added { AddsScaled channels sums.old sums.new gain (P.list samples.now) }
     ensures left { (k : ℕ) → channels ≤ k → slice_index_or sums.new k (pos 0) ≡ slice_index_or sums.old k (pos 0) }
 {
     let factor = i128::from(gain.trillionths());
@@ -79,8 +80,8 @@ pub fn add_products(sums: &mut [i64], samples: &[i32], weight: i32)
     requires places { length samples.now ≡ length sums.old }
     requires weight { unsigned_abs weight ≤ 2 ^ 27 }
     requires free { (k : ℕ) → unsigned_abs (slice_index_or sums.old k (pos 0)) ≤ 2 ^ 61 }
-    ensures added { (k : ℕ) → k < length sums.old → slice_index_or sums.new k (pos 0) ≡ slice_index_or sums.old k (pos 0) +ℤ (weight *ℤ slice_index_or samples.now k (pos 0)) }
-    ensures bound { (k : ℕ) → unsigned_abs (slice_index_or sums.new k (pos 0)) ≤ unsigned_abs (slice_index_or sums.old k (pos 0)) + 2 ^ 58 }
+    ensures added { AddsScaled (length sums.old) sums.old sums.new weight samples.now }
+    ensures bound { GrowAtMost (2 ^ 58) sums.old sums.new }
     ensures samples { (k : ℕ) → k < length samples.now → unsigned_abs (slice_index_or samples.now k (pos 0)) ≤ 2 ^ 31 }
 {
     let factor = i64::from(weight);
@@ -96,8 +97,8 @@ pub fn add_wide_products(sums: &mut [i64], samples: &[i64], weight: i32)
     requires weight { unsigned_abs weight ≤ 2 ^ 24 }
     requires samples { (k : ℕ) → unsigned_abs (slice_index_or samples.now k (pos 0)) ≤ 2 ^ 34 }
     requires free { (k : ℕ) → unsigned_abs (slice_index_or sums.old k (pos 0)) ≤ 2 ^ 61 }
-    ensures added { (k : ℕ) → k < length sums.old → slice_index_or sums.new k (pos 0) ≡ slice_index_or sums.old k (pos 0) +ℤ (weight *ℤ slice_index_or samples.now k (pos 0)) }
-    ensures bound { (k : ℕ) → unsigned_abs (slice_index_or sums.new k (pos 0)) ≤ unsigned_abs (slice_index_or sums.old k (pos 0)) + 2 ^ 58 }
+    ensures added { AddsScaled (length sums.old) sums.old sums.new weight samples.now }
+    ensures bound { GrowAtMost (2 ^ 58) sums.old sums.new }
 {
     let factor = i64::from(weight);
     for place in 0..samples.len() {
@@ -110,7 +111,7 @@ pub fn add_wide_products(sums: &mut [i64], samples: &[i64], weight: i32)
 pub fn add_samples(out: &mut [i64], samples: &[i32], wide: &[i64])
     requires places { (length samples.now ≡ length out.old) × (length wide.now ≡ length out.old) }
     requires wide { (k : ℕ) → unsigned_abs (slice_index_or wide.now k (pos 0)) ≤ 2 ^ 34 }
-    ensures added { (k : ℕ) → k < length out.old → slice_index_or out.new k (pos 0) ≡ slice_index_or samples.now k (pos 0) +ℤ slice_index_or wide.now k (pos 0) }
+    ensures added { AddsEach (length out.old) samples.now wide.now out.new }
     ensures bound { (k : ℕ) → k < length out.old → unsigned_abs (slice_index_or out.new k (pos 0)) ≤ unsigned_abs (slice_index_or wide.now k (pos 0)) + 2 ^ 31 }
 {
     for place in 0..samples.len() {
