@@ -14,7 +14,7 @@ use Rattle.fx_frame_base.specs.declared.stage.ThawFault.{ThawFault}
 use Rattle.fx_frame_base.specs.declared.stage.ThawFault.TheVariants.{Memory}
 use Rattle.fx_tap_sums.specs.Products.{sum_of_products}
 use Rattle.fx_frame_base.specs.Given.{given_samples}
-use Rattle.fx_tap_fir.specs.Fir.{FirArguments, centre, filtered_at, filtered, fir_kind, fir_with}
+use Rattle.fx_tap_fir.specs.Fir.{FirArguments, centre, filtered_at, filtered, fir_kind}
 
 -- `count` samples of a window from place m on backwards; outside of it there is silence
 abbrev pub samples_of_window : List ℤ → ℕ → ℕ → List ℤ
@@ -47,7 +47,7 @@ pub record FirState : Type 0 where
 
 -- what it was made with
 abbrev pub arguments_of : FirState → FirArguments
-arguments_of s = fir_with s.channels (reverse s.backwards)
+arguments_of s = record { channels = s.channels; coefficients = reverse s.backwards }
 
 -- the invariant of the stage
 pub record IsFir (s : FirState) : Type 0 where
