@@ -26,9 +26,27 @@ use std::marker::Model;
 /// The maximum number of coefficients that take a small window, which is cleared sooner.
 const MAX_SMALL_TAPS: usize = 64;
 
-/// The sums of a piece by transforms where there are 1,024 coefficients. More of them take a larger buffer, which is cleared
+/// The sums that a transform of 2,048 numbers gives of 1,024 coefficients. More of them take a larger buffer, which is cleared
 /// later.
 const SUMS_OF_HALF: usize = 1024;
+
+/// The sums of a piece by transforms of 2,048 numbers, at most: those by 160 coefficients. Fewer take no transforms.
+const SUMS_OF_TRANSFORM: usize = 1888;
+
+/// The places of the window of such a piece.
+const PLACES_OF_TRANSFORM: usize = 2047;
+
+/// The frames of a block of 4,096 bytes, of one channel with 16 bits.
+const SUMS_OF_MONO: usize = 2048;
+
+/// The places of the window of such a block, however many coefficients there are.
+const PLACES_OF_MONO: usize = 1023 + SUMS_OF_MONO;
+
+/// The sums of a piece by transforms of 4,096 numbers, at most: those by 512 coefficients. Fewer take smaller transforms.
+const SUMS_OF_LARGE: usize = 3584;
+
+/// The places of the window of such a piece.
+const PLACES_OF_LARGE: usize = 4095;
 
 /// The places of the window of a block where there are few coefficients.
 const PLACES_OF_BLOCK: usize = MAX_SMALL_TAPS + SUMS_OF_PIECE;
@@ -245,7 +263,7 @@ fn filter_within<const PLACES: usize, const SUMS: usize>(
 ) -> u64
     requires channels { channels ≡ line.now.channels }
     requires full { length line.now.items + 1 ≡ length kernel.now }
-    requires sizes { (PLACES ≤ 2048) × (SUMS ≤ 1920) }
+    requires sizes { (PLACES ≤ 4096) × (SUMS ≤ 3584) }
     requires count { count ≤ SUMS }
     requires places { length line.now.items + count ≤ PLACES }
     requires frames { length frames.now ≡ count * channels }
@@ -266,6 +284,47 @@ fn filter_within<const PLACES: usize, const SUMS: usize>(
     clips
 }
 
+/// What `filter_piece` does for more frames than its small buffers take. The fewer they are, the smaller are the buffers, which
+/// are cleared first.
+// Stack space for the large buffers is used only where this is called.
+#[inline(never)]
+fn filter_large_piece(
+    kernel: &Kernel,
+    line: &Line,
+    channels: usize,
+    count: usize,
+    frames: &[i32],
+    out: &mut [i32],
+) -> u64
+    requires channels { channels ≡ line.now.channels }
+    requires full { length line.now.items + 1 ≡ length kernel.now }
+    requires taps { length kernel.now ≤ 1024 }
+    requires count { count ≤ 3584 }
+    requires fits { length kernel.now + count ≤ 4096 }
+    requires frames { length frames.now ≡ count * channels }
+    requires out { length out.old ≡ count * channels }
+    ensures frames { MakesBlock fir_taps (fir_with channels (reverse kernel.now)) line.now.items count frames.now out.new }
+    ensures clips { result ≡ clips_in_block fir_taps (fir_with channels (reverse kernel.now)) line.now.items count frames.now }
+    ensures bound { result ≤ 16 * count }
+{
+    if count > SUMS_OF_MONO {
+        return filter_within::<PLACES_OF_LARGE, SUMS_OF_LARGE>(
+            kernel, line, channels, count, frames, out,
+        );
+    }
+    if count > SUMS_OF_TRANSFORM || line.len() + count > PLACES_OF_TRANSFORM {
+        return filter_within::<PLACES_OF_MONO, SUMS_OF_MONO>(
+            kernel, line, channels, count, frames, out,
+        );
+    }
+    if count > SUMS_OF_HALF {
+        return filter_within::<PLACES_OF_TRANSFORM, SUMS_OF_TRANSFORM>(
+            kernel, line, channels, count, frames, out,
+        );
+    }
+    filter_within::<PLACES_OF_TRANSFORM, SUMS_OF_HALF>(kernel, line, channels, count, frames, out)
+}
+
 /// Filters `count` frames, at most as many as the kernel makes at once, that come after those of a full line, and counts
 /// how many samples were clipped. Few frames take a smaller buffer, which is cleared first.
 fn filter_piece(
@@ -279,19 +338,16 @@ fn filter_piece(
     requires channels { channels ≡ line.now.channels }
     requires full { length line.now.items + 1 ≡ length kernel.now }
     requires taps { length kernel.now ≤ 1024 }
-    requires count { count ≤ 1920 }
-    requires fits { length kernel.now + count ≤ 2048 }
+    requires count { count ≤ 3584 }
+    requires fits { length kernel.now + count ≤ 4096 }
     requires frames { length frames.now ≡ count * channels }
     requires out { length out.old ≡ count * channels }
     ensures frames { MakesBlock fir_taps (fir_with channels (reverse kernel.now)) line.now.items count frames.now out.new }
     ensures clips { result ≡ clips_in_block fir_taps (fir_with channels (reverse kernel.now)) line.now.items count frames.now }
     ensures bound { result ≤ 16 * count }
 {
-    if count > SUMS_OF_HALF {
-        return filter_within::<2047, 1920>(kernel, line, channels, count, frames, out);
-    }
     if count > SUMS_OF_PIECE {
-        return filter_within::<2047, SUMS_OF_HALF>(kernel, line, channels, count, frames, out);
+        return filter_large_piece(kernel, line, channels, count, frames, out);
     }
     if kernel.len() <= MAX_SMALL_TAPS {
         return filter_within::<PLACES_OF_BLOCK, SUMS_OF_PIECE>(

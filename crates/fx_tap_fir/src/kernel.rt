@@ -10,8 +10,8 @@ ghost use Rattle.fx_frame_base.specs.Lists.{tabulate};
 ghost use Rattle.fx_tap_sums.specs.Products.{sum_of_products};
 ghost use Rattle.fx_frame_base.specs.Rounded.{clips_rounded};
 
-use crate::reduced::{Reduced, SUMS_OF_PIECE, max_by_transforms};
-use crate::split::Split;
+use crate::reduced::{Reduced, SUMS_OF_PIECE};
+use crate::split::{Split, max_of_split};
 use fx_fixed::{Gain, UNIT, round_clip};
 use fx_tap_sums::{dot, round_channel};
 use std::alloc::{AllocError, Global};
@@ -92,8 +92,8 @@ impl Kernel {
     /// How many frames are best filtered at once.
     pub(crate) fn max_at_once(&self) -> usize
         ensures some { 1 ≤ result }
-        ensures bound { result ≤ 1920 }
-        ensures fits { length self.now + result ≤ 2048 }
+        ensures bound { result ≤ 3584 }
+        ensures fits { length self.now + result ≤ 4096 }
     {
         if let Some(reduced) = &self.reduced {
             return reduced.max_at_once();
@@ -101,7 +101,7 @@ impl Kernel {
         if self.split.is_none() {
             return SUMS_OF_PIECE;
         }
-        max_by_transforms(self.len())
+        max_of_split(self.len())
     }
 
     /// The sum of the coefficients from one on times as many samples, rounded, and whether it was clipped.
@@ -175,7 +175,7 @@ impl Kernel {
     ) -> u64
         requires channel { channel < channels }
         requires channels { channels ≤ 16 }
-        requires count { length sums.old ≤ 1920 }
+        requires count { length sums.old ≤ 3584 }
         requires window { length self.now + length sums.old ≤ length window.now + 1 }
         requires out { length sums.old * channels ≤ length out.old }
         ensures put { WritesRounded channels channel (length sums.old) out.new (rounded_sum_from self.now window.now) }

@@ -1,4 +1,4 @@
-//! Coefficients in lowest terms, and their spectrum where they are many.
+//! Coefficients in lowest terms; the same in pairs, for samples of 16 bits; and their spectrum where they are many.
 ghost use Rattle.std.specs.Prelude.{◌≡◌, ◌<◌, ◌≤◌, ◌+◌, ◌^◌, ℕ, pos, drop, length, slice_index_or, unsigned_abs, IfOk, IfSome};
 ghost use Rattle.fx_fixed.specs.Rounding.{rounding};
 ghost use Rattle.fx_tap_sums.specs.SmallWeights.{SumsAs};
@@ -22,8 +22,12 @@ const MIN_PAIRED: usize = 6;
 /// How many sums there are at least where products of 16 bits pay: sixteen sums are made side by side.
 const MIN_PAIRED_SUMS: usize = 16;
 
-/// How many products take about as long as a transform of 2,048 numbers, of samples of at most 24 bits. Fewer are sooner added up
-/// one by one. This and the next three are estimates, between what instructions and what times of the transforms say.
+/// How many weights there are at least where a transform has 4,096 numbers.
+const MIN_LARGE: usize = 512;
+
+/// How many products take about as long as a transform of 2,048 numbers, of samples of at most 24 bits. Fewer are sooner made
+/// without one, sixteen sums side by side. This and the next three are estimates, between what instructions and what times of the
+/// transforms say.
 const PRODUCTS_OF_TRANSFORM: usize = 160_000;
 
 /// The same of samples of more bits, whose transforms are modulo three primes.
@@ -43,9 +47,6 @@ const MAX_OF_ONE_DIGIT: u64 = 65_535;
 
 /// How many sums are made at once without a spectrum.
 pub const SUMS_OF_PIECE: usize = 256;
-
-/// How many sums are made at once at most.
-pub const MAX_SUMS: usize = 1920;
 
 /// At most 1024 weights in lowest terms, and the same prepared: for samples of 16 bits, where they are few and small enough,
 /// and where they are many, for sums by transforms.
@@ -69,24 +70,33 @@ impl Model for Reduced {
     ghost invariant = { λ s. (length s.small.weights ≤ 1024) × (sum_by unsigned_abs s.small.weights ≤ 2 ^ 30) × IfSome s.pairs (λ weights. weights ≡ s.small.weights) × IfSome s.spectrum (λ weights. weights ≡ s.small.weights) };
 }
 
-/// How many sums of `weights` products are best made at once by transforms.
-pub fn max_by_transforms(weights: usize) -> usize
+/// How many sums of `weights` products are best made at once by transforms: at most 3,584, by 512 weights.
+fn max_by_transforms(weights: usize) -> usize
     requires { weights ≤ 1024 }
     ensures some { 1 ≤ result }
-    ensures bound { result ≤ 1920 }
-    ensures fits { weights + result ≤ 2048 }
+    ensures bound { result ≤ 3584 }
+    ensures fits { weights + result ≤ 4096 }
 {
-    (2048 - weights).min(MAX_SUMS)
+    if weights < MIN_LARGE {
+        2048 - weights
+    } else {
+        4096 - weights
+    }
 }
 
 /// Does a transform that gives `sums` sums by `weights` weights take less time than their products, of which so many take as long
-/// as a transform of 2,048 numbers? One of 1,024 takes half the time.
+/// as a transform of 2,048 numbers? One of 1,024 takes half the time, one of 3,072 about 1.7 times as long, of 4,096 2.2 times.
 pub(crate) fn pays(weights: usize, sums: usize, products_of_transform: usize) -> bool {
     let products = weights.saturating_mul(sums);
-    if weights.saturating_add(sums) <= 1024 {
+    let numbers = weights.saturating_add(sums);
+    if numbers <= 1024 {
         products >= products_of_transform / 2
-    } else {
+    } else if numbers <= 2048 {
         products >= products_of_transform
+    } else if numbers <= 3072 {
+        products >= (products_of_transform / 3).saturating_mul(5)
+    } else {
+        products >= (products_of_transform / 5).saturating_mul(11)
     }
 }
 
@@ -118,7 +128,7 @@ fn bits_of(samples: &[i32]) -> u32 {
     bits
 }
 
-/// Weights prepared for samples of 16 bits. None where one product after another is no slower, or where they do not fit.
+/// Weights prepared for samples of 16 bits. None where products of 32 bits are no slower, or where the weights do not fit.
 fn pairs_of(alloc: Global, weights: &[i32]) -> Result<Option<Pairs>, AllocError>
     ensures { IfOk result (λ s. IfSome s (λ v. v ≡ weights.now)) }
 {
@@ -128,7 +138,7 @@ fn pairs_of(alloc: Global, weights: &[i32]) -> Result<Option<Pairs>, AllocError>
     Pairs::of(alloc, weights)
 }
 
-/// The spectrum of weights. None where transforms are no faster, or where the weights are too large for them.
+/// The spectrum of weights, whose magnitudes add up to at most 2^30. None where they are so few that transforms are no faster.
 fn spectrum_of(alloc: Global, weights: &[i32]) -> Result<Option<Spectrum>, AllocError>
     ensures { IfOk result (λ s. IfSome s (λ v. v ≡ weights.now)) }
 {
@@ -173,8 +183,8 @@ impl Reduced {
     /// How many sums are best made at once.
     pub fn max_at_once(&self) -> usize
         ensures some { 1 ≤ result }
-        ensures bound { result ≤ 1920 }
-        ensures fits { length self.now.weights + result ≤ 2048 }
+        ensures bound { result ≤ 3584 }
+        ensures fits { length self.now.weights + result ≤ 4096 }
     {
         if self.spectrum.is_none() {
             return SUMS_OF_PIECE;

@@ -1,5 +1,5 @@
 //! Coefficients in two parts, for sums by transforms where they are not small.
-ghost use Rattle.std.specs.Prelude.{◌≡◌, ◌<◌, ◌≤◌, ◌+◌, ◌*◌, ◌^◌, ℕ, pos, neg_ℤ, ◌≤ℤ◌, length, slice_index_or, unsigned_abs, All, IfOk, IfSome};
+ghost use Rattle.std.specs.Prelude.{◌≡◌, ◌<◌, ◌≤◌, ◌+◌, ◌*◌, ◌^◌, ℕ, true, pos, neg_ℤ, ◌≤ℤ◌, length, slice_index_or, unsigned_abs, All, IfOk, IfSome};
 ghost use Rattle.fx_frame_base.specs.Lists.{tabulate};
 ghost use Rattle.fx_frame_base.specs.Rounded.{clips_rounded};
 ghost use Rattle.fx_tap_sums.specs.ChannelSamples.{KeepsOtherPlaces, WritesRounded};
@@ -7,7 +7,7 @@ ghost use Rattle.fx_tap_fir.specs.Rounds.{rounded_joined, rounded_joined_from};
 ghost use Rattle.fx_tap_fir.specs.Split.{AddUpTo, AreSplit, joined_split};
 
 use crate::kernel::rounded;
-use crate::reduced::{MAX_SUMS, pays};
+use crate::reduced::pays;
 use fx_tap_sums::transforms::Spectrum;
 use std::alloc::{AllocError, Global};
 use std::marker::Model;
@@ -17,6 +17,18 @@ const MIN_COEFFICIENTS: usize = 256;
 
 /// How many products take as long as two transforms of 2,048 numbers.
 const PRODUCTS_OF_TRANSFORMS: usize = 200_000;
+
+/// How many sums are made at once at most: those of transforms of 2,048 numbers by 256 coefficients. Of a piece that takes several
+/// transforms, the last few sums would take one too.
+const MAX_SUMS: usize = 1792;
+
+/// How many sums of `coefficients` products are best made at once by two transforms.
+pub(crate) fn max_of_split(coefficients: usize) -> usize
+    requires { coefficients ≤ 1024 }
+    ensures { coefficients + result ≡ 2048 }
+{
+    2048 - coefficients
+}
 
 /// The high part of a coefficient, which counts 2^20 times, and the low one.
 fn parts_of(coefficient: i64) -> (i32, i32)
@@ -117,9 +129,11 @@ impl Split {
         Ok(Some(Split { count, high, low }))
     }
 
-    /// Tests that `sums` sums are faster by transforms than one by one.
-    pub(crate) fn pays(&self, sums: usize) -> bool {
-        pays(self.count, sums, PRODUCTS_OF_TRANSFORMS)
+    /// Tests that `sums` sums are faster by transforms than one by one, and no more than are made at once.
+    pub(crate) fn pays(&self, sums: usize) -> bool
+        ensures { result ≡ true → sums ≤ 1792 }
+    {
+        sums <= MAX_SUMS && pays(self.count, sums, PRODUCTS_OF_TRANSFORMS)
     }
 
     /// Writes one channel of as many frames as there are places for sums, and counts how many samples were clipped: the sums
@@ -134,7 +148,7 @@ impl Split {
     ) -> u64
         requires channel { channel < channels }
         requires channels { channels ≤ 16 }
-        requires count { length sums.old ≤ 1920 }
+        requires count { length sums.old ≤ 1792 }
         requires low { length self.now.low + length sums.old ≤ length window.now + 1 }
         requires high { length self.now.high + length sums.old ≤ length window.now + 1 }
         requires out { length sums.old * channels ≤ length out.old }

@@ -81,7 +81,7 @@ abbrev pub round : List ℤ → List ℤ → ℕ → ℤ
 round a h i = sum_of_products (drop (i + 1) a) h
 
 -- products beyond the end of a list
-beyond_end : (u v h : List ℤ) → length h ≤ length u → sum_of_products (u ++ v) h ≡ sum_of_products u h
+pub beyond_end : (u v h : List ℤ) → length h ≤ length u → sum_of_products (u ++ v) h ≡ sum_of_products u h
 beyond_end u v h short =
     let none : drop (length u) h ≡ [] = drop_all (length u) h short in
     let split = append_left u v h in

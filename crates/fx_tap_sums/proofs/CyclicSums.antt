@@ -37,7 +37,7 @@ cut n i w ws bound lt =
     let inside : i + k < n = omega arith in
     get_or-drop i (take n w) k (pos 0) ∙ get_or-take n w (i + k) (pos 0) inside ∙ sym (get_or-drop i w k (pos 0)))
 
-zeros : (xs cs : List ℤ) → ((k : ℕ) → get_or cs k (pos 0) ≡ pos 0) → sum_of_products xs cs ≡ pos 0
+pub zeros : (xs cs : List ℤ) → ((k : ℕ) → get_or cs k (pos 0) ≡ pos 0) → sum_of_products xs cs ≡ pos 0
 zeros [] cs none = refl
 zeros (x ∷ xs) [] none = refl
 zeros (x ∷ xs) (c ∷ cs) none =
@@ -46,7 +46,7 @@ zeros (x ∷ xs) (c ∷ cs) none =
     let product = product_is x (pos 0) in
     rw (first, rest) (omega (arith, ints))
 
-times : (r : ℤ) (xs cs : List ℤ) → sum_of_products xs (map (λ c. r *ℤ c) cs) ≡ r *ℤ sum_of_products xs cs
+pub times : (r : ℤ) (xs cs : List ℤ) → sum_of_products xs (map (λ c. r *ℤ c) cs) ≡ r *ℤ sum_of_products xs cs
 times r [] cs = let none = product_is r (pos 0) in omega (arith, ints)
 times r (x ∷ xs) [] = let none = product_is r (pos 0) in omega (arith, ints)
 times r (x ∷ xs) (c ∷ cs) =
@@ -75,7 +75,7 @@ kept a hs n i bound small =
     zeros a (drop (length (padded_weights n hs) - 1 - i) (padded_weights n hs)) (λ k. get_or-drop (length (padded_weights n hs) - 1 - i) (padded_weights n hs) k (pos 0) ∙ padded_at n hs (length (padded_weights n hs) - 1 - i + k) ∙ get_or_past hs (length (padded_weights n hs) - 1 - i + k) (pos 0) (omega arith))
 
 -- what comes round is a plain sum
-round_is : (w hs : List ℤ) (n i : ℕ) → length w < n → i + length hs ≤ length w → sum_of_products (drop (i + 1) (padded_weights n (pos 0 ∷ w))) (padded_weights n hs) ≡ sum_of_products (drop i w) hs
+pub round_is : (w hs : List ℤ) (n i : ℕ) → length w < n → i + length hs ≤ length w → sum_of_products (drop (i + 1) (padded_weights n (pos 0 ∷ w))) (padded_weights n hs) ≡ sum_of_products (drop i w) hs
 round_is w hs n i bound lt =
     let u : List ℤ = drop (i + 1) (padded_weights n (pos 0 ∷ w)) in
     let zs : List ℤ = replicate (n - length hs) (pos 0) in

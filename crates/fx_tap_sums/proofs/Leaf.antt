@@ -1,12 +1,10 @@
 -- The product of four numbers and four others modulo x^4 - s, product by product.
-use Rattle.std.proofs.Common.{◌≡◌, ◌+◌, ◌-◌, ◌*◌, ◌<◌, ◌≤◌, ◌∙◌, ap, ℕ, ℤ, pos, ◌+ℤ◌, ◌*ℤ◌, List, [], ◌∷◌, ◌++◌, length, get_or, arith}
+use Rattle.std.proofs.Common.{◌≡◌, ◌+◌, ◌-◌, ◌*◌, ◌<◌, ◌≤◌, ◌∙◌, ap, refl, ℕ, ℤ, pos, ◌+ℤ◌, ◌*ℤ◌, List, [], ◌∷◌, ◌++◌, length, get_or, arith}
 use Rattle.std.proofs.lemmas.Int.{ints}
 use Rattle.std.proofs.lemmas.Nat.{mul-le}
-use Rattle.std.proofs.lemmas.Bool.{cases_lt}
-use Rattle.std.proofs.lemmas.List.{get_or_append_left, get_or-append_right}
-use mathlib.Core.Logic.{inl, inr}
+use Rattle.std.proofs.lemmas.List.{get_or_append_left}
 use borrow.Author.Differences.{product_is}
-use Rattle.fx_tap_sums.specs.Residues.{AreFour, Same}
+use Rattle.fx_tap_sums.specs.Residues.{AreFour, AreRemainders, Same}
 use Rattle.fx_tap_sums.specs.Transform.{IsProduct, cyclic}
 use Rattle.fx_tap_sums.proofs.Numbers.{mul-add, mul_swap}
 use Rattle.fx_tap_sums.proofs.PairLanes.{each_of_four}
@@ -109,76 +107,86 @@ leaf_reversed p factor s a h xs ws zs rs a_long h_long four x w z r =
     by_four (λ rs. ((k : ℕ) → k < 4 → Same (pos p) (pos (get_or rs k 0)) (pos factor *ℤ pos (get_or (leaf_sums xs ws zs) k 0))) → IsProduct p 1 factor s a h (get_or (rs ++ rs) 3 0 ∷ get_or (rs ++ rs) 2 0 ∷ get_or (rs ++ rs) 1 0 ∷ get_or (rs ++ rs) 0 0 ∷ []))
     (λ b c d e same. leaf_product p factor s a h xs ws zs (b ∷ c ∷ d ∷ e ∷ []) a_long h_long x w z same) rs four r
 
--- four lanes of two vectors one after the other
-abbrev pub picked : List ℕ → List ℕ → ℕ → ℕ → ℕ → ℕ → List ℕ
-picked xs ys a b c d = get_or (xs ++ ys) a 0 ∷ get_or (xs ++ ys) b 0 ∷ get_or (xs ++ ys) c 0 ∷ get_or (xs ++ ys) d 0 ∷ []
+-- ---- the numbers of a leaf from a place of the table of leaves on
 
--- products, lane by lane
-abbrev pub LaneProducts : List ℕ → List ℕ → List ℕ → Type 0
-LaneProducts xs ys rs = (k : ℕ) → k < 4 → get_or rs k 0 ≡ get_or xs k 0 * get_or ys k 0
+-- four numbers of a list from a place on
+abbrev pub four_from : List ℕ → ℕ → List ℕ
+four_from g n = get_or g (n + 0) 0 ∷ get_or g (n + 1) 0 ∷ get_or g (n + 2) 0 ∷ get_or g (n + 3) 0 ∷ []
+
+pub at_four : (g : List ℕ) (n k : ℕ) → k < 4 → get_or (four_from g n) k 0 ≡ get_or g (n + k) 0
+at_four g n = each_of_four (λ k. get_or (four_from g n) k 0 ≡ get_or g (n + k) 0) refl refl refl refl
+
+-- the products that the code makes: of each number, and the four of the leaf that stand as far on as it does
+pub record LeafProducts (g : List ℕ) (at : ℕ) (xs one two three four : List ℕ) : Type 0 where
+  pub first : (k : ℕ) → k < 4 → get_or one k 0 ≡ get_or xs 0 0 * get_or g (at + k) 0
+  pub second : (k : ℕ) → k < 4 → get_or two k 0 ≡ get_or xs 1 0 * get_or g (at + 1 + k) 0
+  pub third : (k : ℕ) → k < 4 → get_or three k 0 ≡ get_or xs 2 0 * get_or g (at + 2 + k) 0
+  pub fourth : (k : ℕ) → k < 4 → get_or four k 0 ≡ get_or xs 3 0 * get_or g (at + 3 + k) 0
+
+-- one number in four lanes
+abbrev lane_of : List ℕ → ℕ → List ℕ
+lane_of xs j = get_or (xs ++ xs) j 0 ∷ get_or (xs ++ xs) j 0 ∷ get_or (xs ++ xs) j 0 ∷ get_or (xs ++ xs) j 0 ∷ []
+
+-- products by loaded numbers, lane by lane
+abbrev LoadedProducts : List ℕ → ℕ → List ℕ → ℕ → List ℕ → List ℕ → Type 0
+LoadedProducts g n xs j lanes rs = ((k : ℕ) → k < 4 → get_or lanes k 0 ≡ get_or g (n + k) 0) → ((k : ℕ) → k < 4 → get_or rs k 0 ≡ get_or (lane_of xs j) k 0 * get_or lanes k 0) →
+    (k : ℕ) → k < 4 → get_or rs k 0 ≡ get_or xs j 0 * get_or g (n + k) 0
+
+loaded_product : (g : List ℕ) (n : ℕ) (xs : List ℕ) (j : ℕ) (lanes rs : List ℕ) → length xs ≡ 4 → j < 4 → LoadedProducts g n xs j lanes rs
+loaded_product g n xs j lanes rs long lt loaded are k l =
+    let here : get_or (xs ++ xs) j 0 ≡ get_or xs j 0 = get_or_append_left xs xs 0 j (omega arith) in
+    let lane : get_or (lane_of xs j) k 0 ≡ get_or xs j 0 = each_of_four (λ k. get_or (lane_of xs j) k 0 ≡ get_or xs j 0) here here here here k l in
+    are k l ∙ rw (lane, loaded k l) refl
+
+pub leaf_products : (g : List ℕ) (at : ℕ) (xs l0 l1 l2 l3 one two three four : List ℕ) → length xs ≡ 4 →
+    ((k : ℕ) → k < 4 → get_or l0 k 0 ≡ get_or g (at + k) 0) → ((k : ℕ) → k < 4 → get_or l1 k 0 ≡ get_or g (at + 1 + k) 0) →
+    ((k : ℕ) → k < 4 → get_or l2 k 0 ≡ get_or g (at + 2 + k) 0) → ((k : ℕ) → k < 4 → get_or l3 k 0 ≡ get_or g (at + 3 + k) 0) →
+    ((k : ℕ) → k < 4 → get_or one k 0 ≡ get_or (lane_of xs 0) k 0 * get_or l0 k 0) → ((k : ℕ) → k < 4 → get_or two k 0 ≡ get_or (lane_of xs 1) k 0 * get_or l1 k 0) →
+    ((k : ℕ) → k < 4 → get_or three k 0 ≡ get_or (lane_of xs 2) k 0 * get_or l2 k 0) → ((k : ℕ) → k < 4 → get_or four k 0 ≡ get_or (lane_of xs 3) k 0 * get_or l3 k 0) →
+    LeafProducts g at xs one two three four
+leaf_products g at xs l0 l1 l2 l3 one two three four long a b c d o t h f = record {
+  first = loaded_product g at xs 0 l0 one long (omega arith) a o;
+  second = loaded_product g (at + 1) xs 1 l1 two long (omega arith) b t;
+  third = loaded_product g (at + 2) xs 2 l2 three long (omega arith) c h;
+  fourth = loaded_product g (at + 3) xs 3 l3 four long (omega arith) d f;
+}
 
 -- sums of four, lane by lane
 abbrev pub LaneSums : List ℕ → List ℕ → List ℕ → List ℕ → List ℕ → Type 0
 LaneSums one two three four sums = (k : ℕ) → k < 4 → get_or sums k 0 ≡ (get_or one k 0 + get_or two k 0) + (get_or three k 0 + get_or four k 0)
 
--- the products and sums of the code are those sums
-abbrev SumsAre : List ℕ → List ℕ → List ℕ → List ℕ → List ℕ → List ℕ → List ℕ → List ℕ → Type 0
-SumsAre one two three four sums xs ws zs =
-    LaneProducts (picked xs xs 0 0 0 0) ws one → LaneProducts (picked xs xs 1 1 1 1) (picked ws zs 1 2 3 4) two →
-    LaneProducts (picked xs xs 2 2 2 2) (picked ws zs 2 3 4 5) three → LaneProducts (picked xs xs 3 3 3 3) (picked ws zs 3 4 5 6) four →
-    LaneSums one two three four sums → (k : ℕ) → k < 4 → get_or sums k 0 ≡ get_or (leaf_sums xs ws zs) k 0
+sum_is : (a b c d s t u v w : ℕ) → s ≡ (a + b) + (c + d) → a ≡ t → b ≡ u → c ≡ v → d ≡ w → s ≡ (t + u) + (v + w)
+sum_is a b c d s t u v w is i j k l = omega (arith, is, i, j, k, l)
 
-sum_is : (a b c d e s t u v w : ℕ) → s ≡ (a + b) + (c + d) → a ≡ t → b ≡ u → c ≡ v → d ≡ w → s ≡ (t + u) + (v + w)
-sum_is a b c d e s t u v w is i j k l = omega (arith, is, i, j, k, l)
+from_place : (g : List ℕ) (x r m n : ℕ) → r ≡ x * get_or g m 0 → m ≡ n → r ≡ x * get_or g n 0
+from_place g x r m n is e = rw (← e) is
 
-pub leaf_sums_are : (xs ws zs one two three four sums : List ℕ) → length xs ≡ 4 → length ws ≡ 4 → length zs ≡ 4 → SumsAre one two three four sums xs ws zs
-leaf_sums_are xs ws zs one two three four sums x_long w_long z_long =
-    by_four (λ xs. SumsAre one two three four sums xs ws zs)
-    (λ x0 x1 x2 x3. by_four (λ ws. SumsAre one two three four sums (x0 ∷ x1 ∷ x2 ∷ x3 ∷ []) ws zs)
-    (λ w0 w1 w2 w3. by_four (λ zs. SumsAre one two three four sums (x0 ∷ x1 ∷ x2 ∷ x3 ∷ []) (w0 ∷ w1 ∷ w2 ∷ w3 ∷ []) zs)
-    (λ z0 z1 z2 z3 o t h f s. each_of_four (λ k. get_or sums k 0 ≡ get_or (leaf_sums (x0 ∷ x1 ∷ x2 ∷ x3 ∷ []) (w0 ∷ w1 ∷ w2 ∷ w3 ∷ []) (z0 ∷ z1 ∷ z2 ∷ z3 ∷ [])) k 0)
-    (sum_is _ _ _ _ 0 _ _ _ _ _ (s 0 (omega arith)) (o 0 (omega arith)) (t 0 (omega arith)) (h 0 (omega arith)) (f 0 (omega arith)))
-    (sum_is _ _ _ _ 0 _ _ _ _ _ (s 1 (omega arith)) (o 1 (omega arith)) (t 1 (omega arith)) (h 1 (omega arith)) (f 1 (omega arith)))
-    (sum_is _ _ _ _ 0 _ _ _ _ _ (s 2 (omega arith)) (o 2 (omega arith)) (t 2 (omega arith)) (h 2 (omega arith)) (f 2 (omega arith)))
-    (sum_is _ _ _ _ 0 _ _ _ _ _ (s 3 (omega arith)) (o 3 (omega arith)) (t 3 (omega arith)) (h 3 (omega arith)) (f 3 (omega arith)))) zs z_long) ws w_long) xs x_long
+-- the sums of the code are those of the four numbers and, wrapped, the four behind them
+pub leaf_sums_are : (g : List ℕ) (at : ℕ) (xs one two three four sums : List ℕ) → LeafProducts g at xs one two three four → LaneSums one two three four sums →
+    (k : ℕ) → k < 4 → get_or sums k 0 ≡ get_or (leaf_sums xs (four_from g at) (four_from g (at + 4))) k 0
+leaf_sums_are g at xs one two three four sums are s =
+    each_of_four (λ k. get_or sums k 0 ≡ get_or (leaf_sums xs (four_from g at) (four_from g (at + 4))) k 0)
+    (sum_is _ _ _ _ _ _ _ _ _ (s 0 (omega arith)) (are.first 0 (omega arith)) (from_place g _ _ _ (at + 1) (are.second 0 (omega arith)) (omega arith)) (from_place g _ _ _ (at + 2) (are.third 0 (omega arith)) (omega arith)) (from_place g _ _ _ (at + 3) (are.fourth 0 (omega arith)) (omega arith)))
+    (sum_is _ _ _ _ _ _ _ _ _ (s 1 (omega arith)) (are.first 1 (omega arith)) (from_place g _ _ _ (at + 2) (are.second 1 (omega arith)) (omega arith)) (from_place g _ _ _ (at + 3) (are.third 1 (omega arith)) (omega arith)) (from_place g _ _ _ (at + 4 + 0) (are.fourth 1 (omega arith)) (omega arith)))
+    (sum_is _ _ _ _ _ _ _ _ _ (s 2 (omega arith)) (are.first 2 (omega arith)) (from_place g _ _ _ (at + 3) (are.second 2 (omega arith)) (omega arith)) (from_place g _ _ _ (at + 4 + 0) (are.third 2 (omega arith)) (omega arith)) (from_place g _ _ _ (at + 4 + 1) (are.fourth 2 (omega arith)) (omega arith)))
+    (sum_is _ _ _ _ _ _ _ _ _ (s 3 (omega arith)) (are.first 3 (omega arith)) (from_place g _ _ _ (at + 4 + 0) (are.second 3 (omega arith)) (omega arith)) (from_place g _ _ _ (at + 4 + 1) (are.third 3 (omega arith)) (omega arith)) (from_place g _ _ _ (at + 4 + 2) (are.fourth 3 (omega arith)) (omega arith)))
 
 -- ---- sizes
 
-picked_less : (n : ℕ) (xs ys : List ℕ) (a b c d : ℕ) → AreFour n xs → AreFour n ys → a < 8 → b < 8 → c < 8 → d < 8 → (k : ℕ) → k < 4 → get_or (picked xs ys a b c d) k 0 < n
-picked_less n xs ys a b c d first second l m o q = each_of_four (λ k. get_or (picked xs ys a b c d) k 0 < n) (either a l) (either b m) (either c o) (either d q)
-  where
-    either : (j : ℕ) → j < 8 → get_or (xs ++ ys) j 0 < n
-    either j lt =
-        let front = first.four in
-        elim (cases_lt j 4) [
-          | inl below ↦ rw (get_or_append_left xs ys 0 j (omega arith)) (first.less j below)
-          | inr above ↦ rw (get_or-append_right xs ys 4 j 0 front above) (second.less (j - 4) (omega arith))
-        ]
-
--- the product of a number below 22 times the modulus and a weight of at most it is less than 22 times its square, by the modulus
-lane_products_less : (p : ℕ) (xs ys rs : List ℕ) → 0 < p → LaneProducts xs ys rs → ((k : ℕ) → k < 4 → get_or xs k 0 < 22 * p) → ((k : ℕ) → k < 4 → get_or ys k 0 < p + 1) → (k : ℕ) → k < 4 → get_or rs k 0 + p ≤ 22 * p * p
-lane_products_less p xs ys rs some are first second k l =
-    let x = first k l in
-    let y = second k l in
-    let is : 22 * p ≡ (22 * p - 1) + 1 = omega (arith, some) in
-    let whole : 22 * p * p ≡ ((22 * p - 1) + 1) * p = ap (λ n. n * p) is in
-    let product = mul-le (get_or xs k 0) (get_or ys k 0) (22 * p - 1) p (omega (arith, x)) (omega (arith, y)) in
-    rw (are k l) (omega (arith, product, whole))
+-- the product of a number below 22 times the modulus and a remainder is less than 22 times its square, by the modulus
+product_less : (p x y r : ℕ) → 0 < p → r ≡ x * y → x < 22 * p → y < p → r + p ≤ 22 * p * p
+product_less p x y r some is first second =
+    let less : 22 * p ≡ (22 * p - 1) + 1 = omega (arith, some) in
+    let whole : 22 * p * p ≡ ((22 * p - 1) + 1) * p = ap (λ n. n * p) less in
+    let product = mul-le x y (22 * p - 1) p (omega (arith, first)) (omega (arith, second)) in
+    omega (arith, is, product, whole)
 
 -- each of the four products is less than 22 times the square of the modulus, by the modulus
-pub four_products_less : (p : ℕ) (xs ws zs one two three four : List ℕ) → 0 < p → AreFour (22 * p) xs → AreFour p ws → AreFour (p + 1) zs →
-    LaneProducts (picked xs xs 0 0 0 0) ws one → LaneProducts (picked xs xs 1 1 1 1) (picked ws zs 1 2 3 4) two →
-    LaneProducts (picked xs xs 2 2 2 2) (picked ws zs 2 3 4 5) three → LaneProducts (picked xs xs 3 3 3 3) (picked ws zs 3 4 5 6) four →
+pub four_products_less : (p : ℕ) (g : List ℕ) (at : ℕ) (xs one two three four : List ℕ) → 0 < p → AreFour (22 * p) xs → at + 8 ≤ length g → AreRemainders p g → LeafProducts g at xs one two three four →
     (k : ℕ) → k < 4 → (get_or one k 0 + p ≤ 22 * p * p) × (get_or two k 0 + p ≤ 22 * p * p) × (get_or three k 0 + p ≤ 22 * p * p) × (get_or four k 0 + p ≤ 22 * p * p)
-four_products_less p xs ws zs one two three four some x w z o t h f k l = (
-  lane_products_less p (picked xs xs 0 0 0 0) ws one some o (each 0 (omega arith)) weights.less k l,
-  lane_products_less p (picked xs xs 1 1 1 1) (picked ws zs 1 2 3 4) two some t (each 1 (omega arith)) (picked_less (p + 1) ws zs 1 2 3 4 weights z (omega arith) (omega arith) (omega arith) (omega arith)) k l,
-  lane_products_less p (picked xs xs 2 2 2 2) (picked ws zs 2 3 4 5) three some h (each 2 (omega arith)) (picked_less (p + 1) ws zs 2 3 4 5 weights z (omega arith) (omega arith) (omega arith) (omega arith)) k l,
-  lane_products_less p (picked xs xs 3 3 3 3) (picked ws zs 3 4 5 6) four some f (each 3 (omega arith)) (picked_less (p + 1) ws zs 3 4 5 6 weights z (omega arith) (omega arith) (omega arith) (omega arith)) k l,
+four_products_less p g at xs one two three four some x inside are products k l = (
+  product_less p _ _ _ some (products.first k l) (x.less 0 (omega arith)) (are (at + k) (omega arith)),
+  product_less p _ _ _ some (products.second k l) (x.less 1 (omega arith)) (are (at + 1 + k) (omega arith)),
+  product_less p _ _ _ some (products.third k l) (x.less 2 (omega arith)) (are (at + 2 + k) (omega arith)),
+  product_less p _ _ _ some (products.fourth k l) (x.less 3 (omega arith)) (are (at + 3 + k) (omega arith)),
 )
-  where
-    each : (i : ℕ) → i < 8 → (k : ℕ) → k < 4 → get_or (picked xs xs i i i i) k 0 < 22 * p
-    each i lt = picked_less (22 * p) xs xs i i i i x x lt lt lt lt
-
-    weights : AreFour (p + 1) ws
-    weights = record { four = w.four; less = λ j m. let e = w.less j m in omega (arith, e) }

@@ -10,6 +10,7 @@ pub mod InTurn
 pub mod Joining
 pub mod KernelLaws
 pub mod Leaf
+pub mod Leaves
 pub mod Magnitudes
 pub mod Numbers
 pub mod Prepared
@@ -27,6 +28,8 @@ pub mod Samples
 pub mod SmallSums
 pub mod Steps
 pub mod SumLaws
+pub mod ThirdSums
+pub mod Thirds
 pub mod Vectors
 pub mod WeightLaws
 pub mod Words

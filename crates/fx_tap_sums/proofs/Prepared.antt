@@ -2,6 +2,7 @@
 use Rattle.std.proofs.Common.{◌≡◌, ◌∙◌, ◌+◌, ◌-◌, ◌*◌, ◌^◌, ◌<◌, ◌≤◌, ℕ, ℤ, pos, ◌*ℤ◌, List, ◌∷◌, ap, sym, length, get_or, drop, arith, pow-add, mul_assoc}
 use Rattle.std.specs.Prelude.{map}
 use Rattle.std.proofs.lemmas.List.{length-map}
+use Rattle.fx_tap_sums.specs.Leaves.{AreLeaves}
 use Rattle.fx_tap_sums.specs.Prepared.{IsPreparedWeights, padded_weights}
 use Rattle.fx_tap_sums.specs.Products.{sum_of_products}
 use Rattle.fx_tap_sums.specs.Residues.{AreSame, IsModulus, Same, inverse_of_word}
@@ -11,7 +12,7 @@ use Rattle.fx_tap_sums.proofs.CyclicSums.{plain_sum, padded_at, length-padded}
 use Rattle.fx_tap_sums.proofs.Words.{inverse_word}
 
 -- the scale of the weights, and what the product is too large by and over: 1 together
-scale_is : (q levels : ℕ) → IsModulus q → levels ≤ 32 → Same (pos q) (pos (2 ^ (32 - levels)) *ℤ pos (2 ^ levels * inverse_of_word q)) (pos 1)
+pub scale_is : (q levels : ℕ) → IsModulus q → levels ≤ 32 → Same (pos q) (pos (2 ^ (32 - levels)) *ℤ pos (2 ^ levels * inverse_of_word q)) (pos 1)
 scale_is q levels modulus limit =
     let whole : 32 - levels + levels ≡ 32 = omega (arith, limit) in
     let power : 2 ^ (32 - levels) * 2 ^ levels ≡ 2 ^ 32 = sym (pow-add 2 (32 - levels) levels) ∙ ap (λ k. 2 ^ k) whole in
@@ -19,12 +20,12 @@ scale_is q levels modulus limit =
     let scaled : pos (2 ^ (32 - levels)) *ℤ pos (2 ^ levels * inverse_of_word q) ≡ pos (2 ^ 32 * inverse_of_word q) = ap pos product in
     rw scaled (inverse_word q modulus)
 
-pub sum_at : (q levels : ℕ) (ws w : List ℤ) (roots inverses spectrum old new : List ℕ) (i : ℕ) → IsModulus q → levels ≤ 32 → IsPreparedWeights q levels ws roots inverses spectrum →
+pub sum_at : (q levels : ℕ) (ws w : List ℤ) (roots inverses leaves old new : List ℕ) (i : ℕ) → IsModulus q → levels ≤ 32 → IsPreparedWeights q levels 0 ws roots inverses leaves →
     length old ≡ 4 * 2 ^ levels → AreSame q old (pos 0 ∷ w) → length w < length old → i + length ws ≤ length w →
-    ((s : ℤ) (a h : List ℤ) → Same (pos q) (root_at roots 0 *ℤ root_at roots 0) s → length a ≡ length old → length h ≡ length old → AreSame q old a →
-    IsTransform q roots levels 0 h spectrum → IsProduct q (2 ^ levels) (2 ^ levels * inverse_of_word q) s a h new) →
+    ((s : ℤ) (a h : List ℤ) (spectrum : List ℕ) → Same (pos q) (root_at roots 0 *ℤ root_at roots 0) s → length a ≡ length old → length h ≡ length old → AreSame q old a →
+    IsTransform q roots levels 0 h spectrum → AreLeaves q roots (2 ^ (levels - 1) * (0 + 1) - 1) spectrum leaves → IsProduct q (2 ^ levels) (2 ^ levels * inverse_of_word q) s a h new) →
     Same (pos q) (pos (get_or new i 0)) (sum_of_products (drop i w) ws)
-sum_at q levels ws w roots inverses spectrum old new i modulus limit prepared long loaded bound lt product =
+sum_at q levels ws w roots inverses leaves old new i modulus limit prepared long loaded bound lt product =
     let n : ℕ = 4 * 2 ^ levels in
     let p : ℤ = pos q in
     let factor : ℤ = pos (2 ^ levels * inverse_of_word q) in
@@ -37,5 +38,9 @@ sum_at q levels ws w roots inverses spectrum old new i modulus limit prepared lo
     let h_long = length-padded n (map (λ w. scale *ℤ w) ws) (omega (arith, below, mapped, lt)) in
     let root : Same p (root_at roots 0 *ℤ root_at roots 0) (pos 1) = same_on p (root_at roots 0 *ℤ root_at roots 0) (root_at roots 0) (pos 1) (prepared.are.even 0 (omega arith)) prepared.are.first in
     let same : AreSame q old a = λ k below. rw (padded_at n (pos 0 ∷ w) k) (loaded k below) in
-    let is = product (pos 1) a h root (a_long ∙ sym long) (h_long ∙ sym long) same prepared.transform i (omega (arith, below, lt)) in
+    let is = product (pos 1) a h prepared.spectrum root (a_long ∙ sym long) (h_long ∙ sym long) same prepared.transform prepared.of_spectrum i (omega (arith, below, lt)) in
     plain_sum n p factor (pos (get_or new i 0)) scale w ws i below lt (scale_is q levels modulus limit) is
+
+-- a place of a list that is no longer than so much
+pub place_within : (i n maximum : ℕ) → i < n → n ≤ maximum → i < maximum
+place_within i n maximum lt bound = omega arith

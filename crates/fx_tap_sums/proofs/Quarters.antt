@@ -126,7 +126,7 @@ quartered levels n is some =
     let e : levels - 1 - 1 ≡ levels - 2 = omega arith in
     record { first = half; second = rw e at quarter }
 
-pub place_of_quarters : (levels n place : ℕ) → n ≡ 4 * 2 ^ levels → 5 ≤ levels → (place + 1) * n ≤ 2048 → place < 64
+pub place_of_quarters : (levels n place : ℕ) → n ≡ 4 * 2 ^ levels → 5 ≤ levels → (place + 1) * n ≤ 4096 → place < 128
 place_of_quarters levels n place is some bound =
     let minimum : 2 ^ 4 < 2 ^ levels = pow_below 4 levels (omega arith) in
     let fit = place_less place n 64 (omega arith) bound in
@@ -188,7 +188,7 @@ Multiplies p roots k m place x f u = (s : ℤ) (a h : List ℤ) → Same (pos p)
 
 -- a step of two levels, the products of the quarters by those of a transform, and the step back make the product of the whole
 pub product_of_quarters : (p levels n k m j q place : ℕ) (roots inverses v low high one two three four f front back f1 f2 f3 f4 x1 x2 x3 x4 u1 u2 u3 u4 w1 w2 w3 w4 : List ℕ) →
-    0 < p → Halved levels n k m → Halved k m j q → AreRoots p roots inverses → place < 64 →
+    0 < p → Halved levels n k m → Halved k m j q → AreRoots p roots inverses → place < 128 →
     length v ≡ n → Quarters m q v low high one two three four → Quarters m q f front back f1 f2 f3 f4 →
     length x1 ≡ q → length x2 ≡ q → length x3 ≡ q → length x4 ≡ q →
     length u1 ≡ q → length u2 ≡ q → length u3 ≡ q → length u4 ≡ q →

@@ -1,120 +1,129 @@
--- The remainders of samples of 32 bits: a sample is its upper five bits times 2^27, and its lower bits.
-use Rattle.std.proofs.Common.{◌≡◌, ◌+◌, ◌*◌, ◌<◌, ◌≤◌, ◌^◌, ap, refl, ℕ, arith, rules, ℤ, pos, negsuc, neg_ℤ, ◌*ℤ◌, ◌+ℤ◌, to_z, of_z, w32, unsigned_abs, Fits}
-use Rattle.std.specs.Prelude.{◌-ℤ◌, bit_and, FitsSigned}
+-- The remainders of samples of 32 bits: a sample less the multiple of the modulus whose number is that of the nearest multiple of
+-- 2^27.
+use Rattle.std.proofs.Common.{◌≡◌, ◌+◌, ◌*◌, ◌%◌, ◌<◌, ◌≤◌, ◌^◌, ◌∙◌, ap, sym, refl, ℕ, arith, rules, ℤ, pos, negsuc, neg_ℤ, ◌*ℤ◌, ◌+ℤ◌, to_z, of_z, w32, unsigned_abs, Fits}
+use Rattle.std.specs.Prelude.{◌-ℤ◌, ◌≤ℤ◌}
+use Rattle.std.specs.Int.{int_wrap}
 use Rattle.std.proofs.Math.IntN.{*ℤ_comm}
-use Rattle.std.proofs.lemmas.Int.{ints, fits_signed_from_abs, to_z-of_z, to_z_pos}
-use Rattle.std.proofs.lemmas.Nat.{and_mask}
+use Rattle.std.proofs.lemmas.Int.{ints, fits_signed_from_abs, int_wrap_fits, int_wrap-add_right, to_z-of_z, to_z_pos, wrapping_add-bits, wrapping_mul-bits}
 use lib.Dec.{T}
 use lib.Signed.{shr_z, non_neg}
 use mir.Val.{SFits}
 use Rattle.fx_tap_sums.specs.Residues.{Same}
 use Rattle.fx_tap_sums.proofs.Magnitudes.{scaled-bound}
-use Rattle.fx_tap_sums.proofs.Numbers.{mul-add, mul-neg}
+use Rattle.fx_tap_sums.proofs.Numbers.{add-mul, mul-add, neg-mul, one-times}
 
-abbrev low_of : ℤ → ℕ
-low_of z = bit_and (of_z w32 z) 134217727
+-- the number of the nearest multiple of 2^27
+abbrev pub nearest : ℤ → ℤ
+nearest z = shr_z (shr_z z 67108864 +ℤ pos 1) 2
 
-abbrev high_of : ℤ → ℤ
-high_of z = shr_z z 134217728
+-- a sample is a multiple of 2^26 and less than that more
+half_parts : (z : ℤ) → ((pos 67108864 *ℤ shr_z z 67108864) ≤ℤ z) × ((z +ℤ pos 1) ≤ℤ ((pos 67108864 *ℤ shr_z z 67108864) +ℤ pos 67108864))
+half_parts (pos n) = (omega (arith, ints), omega (arith, ints))
+half_parts (negsuc n) = (omega (arith, ints), omega (arith, ints))
 
-low_less : (z : ℤ) → low_of z < 2 ^ 27
-low_less z = let rest = and_mask (of_z w32 z) 27 in omega (arith, rest)
+half_small : (z : ℤ) → SFits w32 z → unsigned_abs (shr_z z 67108864) ≤ 32
+half_small (pos n) fits = omega (arith, ints, fits.sfits)
+half_small (negsuc n) fits = omega (arith, ints, fits.sfits)
 
-high_small : (z : ℤ) → SFits w32 z → unsigned_abs (high_of z) ≤ 16
-high_small (pos n) fits = omega (arith, ints, fits.sfits)
-high_small (negsuc n) fits = omega (arith, ints, fits.sfits)
+two_parts : (z : ℤ) → ((pos 2 *ℤ shr_z z 2) ≤ℤ z) × (z ≤ℤ ((pos 2 *ℤ shr_z z 2) +ℤ pos 1))
+two_parts (pos n) = (omega (arith, ints), omega (arith, ints))
+two_parts (negsuc n) = (omega (arith, ints), omega (arith, ints))
 
-parts_are : (z : ℤ) → SFits w32 z → z ≡ pos (low_of z) +ℤ (pos 134217728 *ℤ high_of z)
-parts_are (pos n) fits = let rest = and_mask (of_z w32 (pos n)) 27 in omega (arith, ints, rest, fits.sfits)
-parts_are (negsuc n) fits = let rest = and_mask (of_z w32 (negsuc n)) 27 in omega (arith, ints, rest, fits.sfits)
+nearest_small : (z : ℤ) → SFits w32 z → unsigned_abs (nearest z) ≤ 16
+nearest_small z fits =
+    let half = half_small z fits in
+    let two = two_parts (shr_z z 67108864 +ℤ pos 1) in
+    omega (arith, ints, half, two.0, two.1)
 
--- what the modulus is more than 2^27, as often as the upper bits count
-abbrev turns_of : ℕ → ℤ → ℤ
-turns_of p z = high_of z *ℤ (pos p -ℤ pos 134217728)
+-- what the nearest multiple of 2^27 leaves
+rest_small : (z : ℤ) → (pos (unsigned_abs ((z -ℤ (pos 134217728 *ℤ nearest z)) +ℤ pos 67108864)) ≡ (z -ℤ (pos 134217728 *ℤ nearest z)) +ℤ pos 67108864) × (unsigned_abs ((z -ℤ (pos 134217728 *ℤ nearest z)) +ℤ pos 67108864) < 2 ^ 27)
+rest_small z =
+    let half = half_parts z in
+    let two = two_parts (shr_z z 67108864 +ℤ pos 1) in
+    (omega (arith, ints, half.0, half.1, two.0, two.1), omega (arith, ints, half.0, half.1, two.0, two.1))
 
-turns_small : (p : ℕ) (z : ℤ) → 2 ^ 27 < p → p < 2 ^ 27 + 2 ^ 22 → SFits w32 z → unsigned_abs (turns_of p z) ≤ 2 ^ 26
-turns_small p z large less fits = scaled-bound (high_of z) (pos p -ℤ pos 134217728) 16 4194304 (high_small z fits) (omega (arith, ints, large, less))
+-- what the modulus is more than 2^27, so many times
+turns_small : (p : ℕ) (z : ℤ) → 2 ^ 27 < p → p < 2 ^ 27 + 2 ^ 22 → SFits w32 z → unsigned_abs (nearest z *ℤ (pos p -ℤ pos 134217728)) ≤ 2 ^ 26
+turns_small p z large less fits = scaled-bound (nearest z) (pos p -ℤ pos 134217728) 16 4194304 (nearest_small z fits) (omega (arith, ints, large, less))
 
--- the sum that has the remainder, and what the code writes for it
-abbrev sum_of : ℕ → ℤ → ℤ
-sum_of p z = (pos (low_of z) -ℤ turns_of p z) +ℤ pos p
+-- the sum that has the remainder
+abbrev pub sum_of : ℕ → ℤ → ℤ
+sum_of p z = z +ℤ ((pos 1 -ℤ nearest z) *ℤ pos p)
 
-abbrev pub code_difference : ℕ → ℤ → ℤ
-code_difference p z = to_z w32 (low_of z) -ℤ to_z w32 (of_z w32 (to_z w32 (of_z w32 (shr_z (to_z w32 (of_z w32 z)) 134217728)) *ℤ to_z w32 (of_z w32 (to_z w32 p -ℤ pos 134217728))))
+parts_are : (p : ℕ) (z t : ℤ) → z +ℤ ((pos 1 -ℤ t) *ℤ pos p) ≡ ((z -ℤ (pos 134217728 *ℤ t)) -ℤ (t *ℤ (pos p -ℤ pos 134217728))) +ℤ pos p
+parts_are p z t =
+    let d : ℤ = pos p -ℤ pos 134217728 in
+    let whole : pos p ≡ d +ℤ pos 134217728 = omega (arith, ints) in
+    let times = ap (λ v. t *ℤ v) whole in
+    let parts = mul-add t d (pos 134217728) in
+    let turned = *ℤ_comm t (pos 134217728) in
+    let sum = add-mul (pos 1) (neg_ℤ t) (pos p) in
+    let less = neg-mul t (pos p) in
+    let once = one-times (pos p) in
+    omega (arith, ints)
 
-abbrev pub code_sum : ℕ → ℤ → ℤ
-code_sum p z = to_z w32 (of_z w32 (code_difference p z)) +ℤ to_z w32 p
+range_parts : (p : ℕ) (r m : ℤ) → 2 ^ 27 < p → pos (unsigned_abs (r +ℤ pos 67108864)) ≡ r +ℤ pos 67108864 → unsigned_abs (r +ℤ pos 67108864) < 2 ^ 27 → unsigned_abs m ≤ 2 ^ 26
+    → (pos (unsigned_abs ((r -ℤ m) +ℤ pos p)) ≡ (r -ℤ m) +ℤ pos p) × (unsigned_abs ((r -ℤ m) +ℤ pos p) < 2 * p)
+range_parts p r m large above below small = (omega (arith, ints, large, above, below, small), omega (arith, ints, large, above, below, small))
 
--- all of it fits 32 bits
-held-in-32 : (z : ℤ) → unsigned_abs z < 2 ^ 31 → to_z w32 (of_z w32 z) ≡ z
-held-in-32 z h = to_z-of_z w32 z (fits_signed_from_abs w32 z h)
-
-difference_small : (low : ℕ) (m : ℤ) → low < 2 ^ 27 → unsigned_abs m ≤ 2 ^ 26 → unsigned_abs (pos low -ℤ m) < 2 ^ 31
-difference_small low m a b = omega (arith, ints, a, b)
-
-sum_range : (p low : ℕ) (m : ℤ) → 2 ^ 27 < p → low < 2 ^ 27 → unsigned_abs m ≤ 2 ^ 26
-    → (pos (unsigned_abs ((pos low -ℤ m) +ℤ pos p)) ≡ (pos low -ℤ m) +ℤ pos p) × (unsigned_abs ((pos low -ℤ m) +ℤ pos p) < 4 * p)
-sum_range p low m large a b = (omega (arith, ints, large, a, b), omega (arith, ints, large, a, b))
-
-difference_is : (p : ℕ) (z : ℤ) → 2 ^ 27 < p → p < 2 ^ 27 + 2 ^ 22 → SFits w32 z → code_difference p z ≡ pos (low_of z) -ℤ turns_of p z
-difference_is p z large less fits =
-    let back : to_z w32 (of_z w32 z) ≡ z = to_z-of_z w32 z fits in
-    let high : to_z w32 (of_z w32 (high_of z)) ≡ high_of z = held-in-32 (high_of z) (omega (arith, high_small z fits)) in
-    let modulus : to_z w32 p ≡ pos p = to_z_pos w32 p (omega (arith, less)) in
-    let more : to_z w32 (of_z w32 (pos p -ℤ pos 134217728)) ≡ pos p -ℤ pos 134217728 = held-in-32 (pos p -ℤ pos 134217728) (omega (arith, ints, large, less)) in
-    let turns : to_z w32 (of_z w32 (turns_of p z)) ≡ turns_of p z = held-in-32 (turns_of p z) (omega (arith, turns_small p z large less fits)) in
-    let low : to_z w32 (low_of z) ≡ pos (low_of z) = to_z_pos w32 (low_of z) (omega (arith, low_less z)) in
-    rw (back, high, modulus, more, turns, low) refl
-
-code_sum_is : (p : ℕ) (z : ℤ) → 2 ^ 27 < p → p < 2 ^ 27 + 2 ^ 22 → SFits w32 z → code_sum p z ≡ sum_of p z
-code_sum_is p z large less fits =
-    let is = difference_is p z large less fits in
-    let modulus : to_z w32 p ≡ pos p = to_z_pos w32 p (omega (arith, less)) in
-    let held = held-in-32 (pos (low_of z) -ℤ turns_of p z) (difference_small (low_of z) (turns_of p z) (low_less z) (turns_small p z large less fits)) in
-    rw (is, held, modulus) refl
-
-range_of : (p : ℕ) (z : ℤ) → 2 ^ 27 < p → p < 2 ^ 27 + 2 ^ 22 → SFits w32 z → (pos (unsigned_abs (sum_of p z)) ≡ sum_of p z) × (unsigned_abs (sum_of p z) < 4 * p)
-range_of p z large less fits = sum_range p (low_of z) (turns_of p z) large (low_less z) (turns_small p z large less fits)
+range_of : (p : ℕ) (z : ℤ) → 2 ^ 27 < p → p < 2 ^ 27 + 2 ^ 22 → SFits w32 z → (pos (unsigned_abs (sum_of p z)) ≡ sum_of p z) × (unsigned_abs (sum_of p z) < 2 * p)
+range_of p z large less fits =
+    let rest = rest_small z in
+    rw (parts_are p z (nearest z)) (range_parts p (z -ℤ (pos 134217728 *ℤ nearest z)) (nearest z *ℤ (pos p -ℤ pos 134217728)) large rest.0 rest.1 (turns_small p z large less fits))
 
 sum_small : (p : ℕ) (z : ℤ) → 2 ^ 27 < p → p < 2 ^ 27 + 2 ^ 22 → SFits w32 z → unsigned_abs (sum_of p z) < 2 ^ 31
 sum_small p z large less fits = let range = (range_of p z large less fits).1 in omega (arith, less, range)
 
-held_is : (p : ℕ) (z : ℤ) → 2 ^ 27 < p → p < 2 ^ 27 + 2 ^ 22 → SFits w32 z → to_z w32 (of_z w32 (code_sum p z)) ≡ sum_of p z
-held_is p z large less fits = rw (code_sum_is p z large less fits) (held-in-32 (sum_of p z) (sum_small p z large less fits))
+-- what the code writes for it
+abbrev pub code_turns : ℤ → ℤ
+code_turns z = to_z w32 (of_z w32 (shr_z (to_z w32 (of_z w32 (to_z w32 (of_z w32 (shr_z (to_z w32 (of_z w32 z)) 67108864)) +ℤ pos 1))) 2))
 
-pub difference_fits : (p : ℕ) (z : ℤ) → 2 ^ 27 < p → p < 2 ^ 27 + 2 ^ 22 → SFits w32 z → FitsSigned w32 (code_difference p z)
-difference_fits p z large less fits =
-    rw (difference_is p z large less fits) (fits_signed_from_abs w32 (pos (low_of z) -ℤ turns_of p z) (difference_small (low_of z) (turns_of p z) (low_less z) (turns_small p z large less fits)))
+abbrev pub code_sum : ℕ → ℤ → ℤ
+code_sum p z = to_z w32 ((of_z w32 z + (of_z w32 (pos 1 -ℤ code_turns z) * p) % 4294967296) % 4294967296)
 
-pub sum_fits : (p : ℕ) (z : ℤ) → 2 ^ 27 < p → p < 2 ^ 27 + 2 ^ 22 → SFits w32 z → FitsSigned w32 (code_sum p z)
-sum_fits p z large less fits = rw (code_sum_is p z large less fits) (fits_signed_from_abs w32 (sum_of p z) (sum_small p z large less fits))
+held-in-32 : (z : ℤ) → unsigned_abs z < 2 ^ 31 → to_z w32 (of_z w32 z) ≡ z
+held-in-32 z h = to_z-of_z w32 z (fits_signed_from_abs w32 z h)
+
+bits_less : (z : ℤ) → unsigned_abs z ≤ 2 ^ 31 → of_z w32 z < 2 ^ 32
+bits_less (pos n) h = omega (arith, ints, h)
+bits_less (negsuc n) h = omega (arith, ints, h)
+
+turns_are : (z : ℤ) → SFits w32 z → code_turns z ≡ nearest z
+turns_are z fits =
+    let half = half_small z fits in
+    let near = nearest_small z fits in
+    let back : to_z w32 (of_z w32 z) ≡ z = to_z-of_z w32 z fits in
+    let first : to_z w32 (of_z w32 (shr_z z 67108864)) ≡ shr_z z 67108864 = held-in-32 (shr_z z 67108864) (omega (arith, half)) in
+    let second : to_z w32 (of_z w32 (shr_z z 67108864 +ℤ pos 1)) ≡ shr_z z 67108864 +ℤ pos 1 = held-in-32 (shr_z z 67108864 +ℤ pos 1) (omega (arith, ints, half)) in
+    let third : to_z w32 (of_z w32 (nearest z)) ≡ nearest z = held-in-32 (nearest z) (omega (arith, near)) in
+    rw (back, first, second, third) refl
+
+-- a product and a sum of 32 bits
+wrapped : (e z : ℤ) (p : ℕ) → unsigned_abs e < 2 ^ 31 → SFits w32 z → p < 2 ^ 31 → to_z w32 ((of_z w32 z + (of_z w32 e * p) % 4294967296) % 4294967296) ≡ int_wrap w32 (z +ℤ (e *ℤ pos p))
+wrapped e z p small fits less =
+    let n : ℕ = (of_z w32 e * p) % 4294967296 in
+    let product : to_z w32 n ≡ int_wrap w32 (to_z w32 (of_z w32 e) *ℤ to_z w32 p) = wrapping_mul-bits w32 (of_z w32 e) p (bits_less e (omega (arith, small))) (omega (arith, less)) in
+    let sum : to_z w32 ((of_z w32 z + n) % 4294967296) ≡ int_wrap w32 (to_z w32 (of_z w32 z) +ℤ to_z w32 n) = wrapping_add-bits w32 (of_z w32 z) n (bits_less z (omega (arith, ints, fits.sfits))) (omega arith) in
+    let modulus : to_z w32 p ≡ pos p = to_z_pos w32 p less in
+    sum ∙ rw (product, held-in-32 e small, to_z-of_z w32 z fits, modulus) (int_wrap-add_right w32 z (e *ℤ pos p))
+
+code_sum_is : (p : ℕ) (z : ℤ) → 2 ^ 27 < p → p < 2 ^ 27 + 2 ^ 22 → SFits w32 z → code_sum p z ≡ sum_of p z
+code_sum_is p z large less fits =
+    let near = nearest_small z fits in
+    rw (turns_are z fits)
+    (wrapped (pos 1 -ℤ nearest z) z p (omega (arith, ints, near)) fits (omega (arith, less)) ∙ int_wrap_fits w32 (sum_of p z) (fits_signed_from_abs w32 (sum_of p z) (sum_small p z large less fits)))
 
 natural_fits : (z : ℤ) (n : ℕ) → z ≡ pos n → n < 2 ^ 31 → T (non_neg z) × Fits w32 (unsigned_abs z)
 natural_fits z n is less = rw is (search rules, search rules)
 
-pub cast_fits : (p : ℕ) (z : ℤ) → 2 ^ 27 < p → p < 2 ^ 27 + 2 ^ 22 → SFits w32 z
-    → T (non_neg (to_z w32 (of_z w32 (code_sum p z)))) × Fits w32 (unsigned_abs (to_z w32 (of_z w32 (code_sum p z))))
+pub cast_fits : (p : ℕ) (z : ℤ) → 2 ^ 27 < p → p < 2 ^ 27 + 2 ^ 22 → SFits w32 z → T (non_neg (code_sum p z)) × Fits w32 (unsigned_abs (code_sum p z))
 cast_fits p z large less fits =
-    let range = range_of p z large less fits in
-    let is : to_z w32 (of_z w32 (code_sum p z)) ≡ pos (unsigned_abs (sum_of p z)) = rw range.0 (held_is p z large less fits) in
-    natural_fits (to_z w32 (of_z w32 (code_sum p z))) (unsigned_abs (sum_of p z)) is (sum_small p z large less fits)
+    natural_fits (code_sum p z) (unsigned_abs (sum_of p z)) (code_sum_is p z large less fits ∙ sym (range_of p z large less fits).0) (sum_small p z large less fits)
 
-pub sum_less : (p : ℕ) (z : ℤ) → 2 ^ 27 < p → p < 2 ^ 27 + 2 ^ 22 → SFits w32 z → unsigned_abs (to_z w32 (of_z w32 (code_sum p z))) < 4 * p
-sum_less p z large less fits = rw (held_is p z large less fits) (range_of p z large less fits).1
+pub sum_less : (p : ℕ) (z : ℤ) → 2 ^ 27 < p → p < 2 ^ 27 + 2 ^ 22 → SFits w32 z → unsigned_abs (code_sum p z) < 2 * p
+sum_less p z large less fits = rw (code_sum_is p z large less fits) (range_of p z large less fits).1
 
--- the sum is the sample, and the modulus as often as the upper bits count less once
-turned : (p low : ℕ) (z h : ℤ) → z ≡ pos low +ℤ (pos 134217728 *ℤ h) → Same (pos p) ((pos low -ℤ (h *ℤ (pos p -ℤ pos 134217728))) +ℤ pos p) z
-turned p low z h is =
-    let d : ℤ = pos p -ℤ pos 134217728 in
-    let whole : pos p ≡ d +ℤ pos 134217728 = omega (arith, ints) in
-    let times = ap (λ v. h *ℤ v) whole in
-    let parts = mul-add h d (pos 134217728) in
-    let other = *ℤ_comm h (pos p) in
-    let sum = mul-add (pos p) (pos 1) (neg_ℤ h) in
-    let less = mul-neg (pos p) h in
-    let once : pos p *ℤ pos 1 ≡ pos p = omega (arith, ints) in
-    (pos 1 +ℤ neg_ℤ h, omega (arith, ints))
-
-pub sum_same : (p : ℕ) (z : ℤ) → 2 ^ 27 < p → p < 2 ^ 27 + 2 ^ 22 → SFits w32 z → Same (pos p) (pos (unsigned_abs (to_z w32 (of_z w32 (code_sum p z))))) z
+pub sum_same : (p : ℕ) (z : ℤ) → 2 ^ 27 < p → p < 2 ^ 27 + 2 ^ 22 → SFits w32 z → Same (pos p) (pos (unsigned_abs (code_sum p z))) z
 sum_same p z large less fits =
-    rw (held_is p z large less fits, (range_of p z large less fits).0) (turned p (low_of z) z (high_of z) (parts_are z fits))
+    let turned = *ℤ_comm (pos 1 -ℤ nearest z) (pos p) in
+    rw (code_sum_is p z large less fits, (range_of p z large less fits).0) (pos 1 -ℤ nearest z, ap (λ v. z +ℤ v) turned)

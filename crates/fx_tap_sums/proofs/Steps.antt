@@ -32,7 +32,7 @@ halved (suc k) n is some =
     let half : n / 2 ≡ 4 * 2 ^ k = omega arith in
     rw e (record { level = refl; power = half; twice = omega arith; some = omega arith })
 
-pub place_less : (place n minimum : ℕ) → minimum ≤ n → (place + 1) * n ≤ 2048 → (place + 1) * minimum ≤ 2048
+pub place_less : (place n minimum : ℕ) → minimum ≤ n → (place + 1) * n ≤ 4096 → (place + 1) * minimum ≤ 4096
 place_less place n minimum le bound =
     let self : place + 1 ≤ place + 1 = omega arith in
     let more = mul-le (place + 1) minimum (place + 1) n self le in
@@ -44,24 +44,24 @@ eight_at_least levels n is some =
     let minimum = pow_pos (levels - 1) in
     omega (arith, half.power, half.twice, minimum)
 
-pub place_even : (levels n place : ℕ) → n ≡ 4 * 2 ^ levels → 0 < levels - 1 → (place + 1) * n ≤ 2048 → place < 128
+pub place_even : (levels n place : ℕ) → n ≡ 4 * 2 ^ levels → 0 < levels - 1 → (place + 1) * n ≤ 4096 → place < 256
 place_even levels n place is some bound =
     let first = halved levels n is (omega arith) in
     let rest = eight_at_least (levels - 1) (n / 2) first.power some in
     let fit = place_less place n 16 (omega (arith, first.twice, rest)) bound in
     omega arith
 
-pub levels_bound : (levels n place : ℕ) → n ≡ 4 * 2 ^ levels → (place + 1) * n ≤ 2048 → levels ≤ 9
-levels_bound levels n place is bound = elim (cases_lt 9 levels) [
+pub levels_bound : (levels n place : ℕ) → n ≡ 4 * 2 ^ levels → (place + 1) * n ≤ 4096 → levels ≤ 10
+levels_bound levels n place is bound = elim (cases_lt 10 levels) [
   | inl more ↦
-      let minimum : 2 ^ 9 < 2 ^ levels = pow_below 9 levels more in
-      let fit = place_less place n 2052 (omega arith) bound in
+      let minimum : 2 ^ 10 < 2 ^ levels = pow_below 10 levels more in
+      let fit = place_less place n 4100 (omega arith) bound in
       absurd (omega arith)
   | inr not ↦ omega arith
 ]
 
 -- a bound of twice p for each level below the eleventh
-pub level_bound : (levels p : ℕ) → 1 ≤ levels → levels ≤ 9 → (22 - 2 * levels) * p + 2 * p ≡ (22 - 2 * (levels - 1)) * p
+pub level_bound : (levels p : ℕ) → 1 ≤ levels → levels ≤ 10 → (22 - 2 * levels) * p + 2 * p ≡ (22 - 2 * (levels - 1)) * p
 level_bound levels p some limit =
     let next : 22 - 2 * (levels - 1) ≡ (22 - 2 * levels) + 2 = omega arith in
     rw next (omega arith)
@@ -177,7 +177,7 @@ product_both p m t f s r w a h u v xs ys four a_long h_long long square inverse 
 
 -- a step, the products of half the size by both halves of a transform, and the step back make the product of the whole
 pub product_of_halves : (p levels n k m place root inverse : ℕ) (roots inverses v f low high front back xs ys us vs lows highs : List ℕ) →
-    Halved levels n k m → AreRoots p roots inverses → place < 128 → root ≡ get_or roots place 0 → inverse ≡ get_or inverses place 0 →
+    Halved levels n k m → AreRoots p roots inverses → place < 256 → root ≡ get_or roots place 0 → inverse ≡ get_or inverses place 0 →
     length v ≡ n → low ≡ take m v → high ≡ drop m v → front ≡ take m f → back ≡ drop m f → length xs ≡ m → length ys ≡ m → length lows ≡ m →
     ((i : ℕ) → i < length xs → Same (pos p) (pos (get_or xs i 0)) (pos (get_or low i 0) +ℤ (pos root *ℤ pos (get_or high i 0)))) →
     ((i : ℕ) → i < length xs → Same (pos p) (pos (get_or ys i 0)) (pos (get_or low i 0) +ℤ (neg_ℤ (pos root) *ℤ pos (get_or high i 0)))) →
@@ -228,18 +228,3 @@ pub loaded_back : (p : ℕ) (xs lanes : List ℕ) (u : List ℤ) → length lane
 loaded_back p xs lanes u four long is same k lt =
     let below : k < 4 = omega arith in
     rw (is k below, get_or-drop 4 u k (pos 0)) (same (4 + k) (omega arith))
-
-pub loaded_take : (p : ℕ) (xs lanes : List ℕ) (u : List ℤ) → length lanes ≡ 4 → 4 ≤ length xs → ((k : ℕ) → k < 4 → get_or lanes k 0 ≡ get_or xs (0 + k) 0) → AreSame p (take 4 xs) u → AreSame p lanes u
-loaded_take p xs lanes u four long is same k lt =
-    let below : k < 4 = omega arith in
-    let size = length-take-le 4 xs long in
-    let first : 0 + k ≡ k = omega arith in
-    let here : get_or (take 4 xs) k 0 ≡ get_or xs k 0 = get_or-take 4 xs k 0 below in
-    rw (is k below, first, ← here) (same k (omega arith))
-
-pub loaded_drop : (p : ℕ) (xs lanes : List ℕ) (u : List ℤ) → length lanes ≡ 4 → 8 ≤ length xs → ((k : ℕ) → k < 4 → get_or lanes k 0 ≡ get_or xs (4 + k) 0) → AreSame p (drop 4 xs) u → AreSame p lanes u
-loaded_drop p xs lanes u four long is same k lt =
-    let below : k < 4 = omega arith in
-    let size = length-drop 4 xs in
-    let here : get_or (drop 4 xs) k 0 ≡ get_or xs (4 + k) 0 = get_or-drop 4 xs k 0 in
-    rw (is k below, ← here) (same k (omega arith))

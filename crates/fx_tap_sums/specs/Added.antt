@@ -9,6 +9,10 @@ AddsScaled count old new factor samples = (k : ℕ) → k < count → slice_inde
 abbrev pub AddsEach : ℕ → List ℤ → List ℤ → List ℤ → Type 0
 AddsEach count xs ys sums = (k : ℕ) → k < count → slice_index_or sums k (pos 0) ≡ slice_index_or xs k (pos 0) +ℤ slice_index_or ys k (pos 0)
 
+-- the first `count` numbers are greater by no more in magnitude
+abbrev pub FirstGrowAtMost : ℕ → ℕ → List ℤ → List ℤ → Type 0
+FirstGrowAtMost count maximum old new = (k : ℕ) → k < count → unsigned_abs (slice_index_or new k (pos 0)) ≤ unsigned_abs (slice_index_or old k (pos 0)) + maximum
+
 -- no number grows by more in magnitude
 abbrev pub GrowAtMost : ℕ → List ℤ → List ℤ → Type 0
 GrowAtMost maximum old new = (k : ℕ) → unsigned_abs (slice_index_or new k (pos 0)) ≤ unsigned_abs (slice_index_or old k (pos 0)) + maximum

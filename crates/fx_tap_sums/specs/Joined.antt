@@ -1,15 +1,22 @@
--- Numbers that two remainders tell.
+-- Numbers that are determined by those to which they are congruent modulo two or three primes.
 use Rattle.std.specs.Prelude.{ℕ, ◌≡◌, ◌<◌, ◌≤◌, ◌^◌, List, ℤ, pos, ◌+ℤ◌, ◌*ℤ◌, length, slice_index_or, unsigned_abs}
-use Rattle.fx_tap_sums.specs.declared.transforms.remainders.TheConstants.{FIRST, SECOND}
+use Rattle.fx_tap_sums.specs.declared.transforms.remainders.TheConstants.{FIRST, SECOND, THIRD}
 use Rattle.fx_tap_sums.specs.Residues.{Same}
 
--- a number of magnitude at most 2^53 with its remainders modulo the first two primes
+-- a number of magnitude at most 2^53 that is congruent to these modulo the first two primes
 pub record HasBoth (first second : ℕ) (number : ℤ) : Type 0 where
   pub small : unsigned_abs number ≤ 2 ^ 53
   pub modulo_first : Same (pos FIRST) (pos first) number
   pub modulo_second : Same (pos SECOND) (pos second) number
 
--- the same at a place of two lists of remainders
+-- a number of magnitude at most 2^61 that is congruent to these modulo the three primes
+pub record HasThree (first second third : ℕ) (number : ℤ) : Type 0 where
+  pub small : unsigned_abs number ≤ 2 ^ 61
+  pub modulo_first : Same (pos FIRST) (pos first) number
+  pub modulo_second : Same (pos SECOND) (pos second) number
+  pub modulo_third : Same (pos THIRD) (pos third) number
+
+-- the same, with the numbers at a place of two lists
 abbrev pub HasBothAt : List ℕ → List ℕ → ℕ → ℤ → Type 0
 HasBothAt first second place number = HasBoth (slice_index_or first place 0) (slice_index_or second place 0) number
 

@@ -3,6 +3,8 @@ pub mod ChannelSamples
 pub mod Convolution
 pub mod Joined
 pub mod Lanes
+pub mod Leaves
+pub mod Multiplying
 pub mod Pairs
 pub mod Prepared
 pub mod Products

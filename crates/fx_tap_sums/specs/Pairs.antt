@@ -7,6 +7,10 @@ use Rattle.std.specs.Simd.Lanes.{Each1}
 abbrev pub AreHalves : ℕ → List ℤ → Type 0
 AreHalves count samples = (i : ℕ) → i < count → unsigned_abs (slice_index_or samples i (pos 0)) % 65536 ≡ 0
 
+-- the first samples, as many as there are weights and sums together, are multiples of 65,536
+abbrev pub AreHalvesFor : List ℤ → List ℤ → List ℤ → Type 0
+AreHalvesFor weights sums samples = AreHalves (length weights + length sums) samples
+
 -- eight lanes of numbers of 16 bits
 pub record EightHalves (lanes : List ℤ) : Type 0 where
   pub eight : length lanes ≡ 8

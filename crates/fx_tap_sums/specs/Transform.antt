@@ -21,21 +21,21 @@ root_at roots place = pos (slice_index_or roots place 0)
 -- steps to a table of roots modulo p, remainders: the square of the first one is -1, that of each other the one before it; and
 -- next to each its inverse
 pub record AreSteps (p : ℕ) (steps back : List ℕ) : Type 0 where
-  pub eight : length steps ≡ 8
-  pub beside : length back ≡ 8
+  pub nine : length steps ≡ 9
+  pub beside : length back ≡ 9
   pub less : AreRemainders p steps
   pub back_less : AreRemainders p back
   pub first : Same (pos p) (root_at steps 0 *ℤ root_at steps 0) (neg_ℤ (pos 1))
-  pub squares : (k : ℕ) → k < 7 → Same (pos p) (root_at steps (k + 1) *ℤ root_at steps (k + 1)) (root_at steps k)
-  pub inverse : (k : ℕ) → k < 8 → Same (pos p) (root_at back k *ℤ root_at steps k) (pos 1)
+  pub squares : (k : ℕ) → k < 8 → Same (pos p) (root_at steps (k + 1) *ℤ root_at steps (k + 1)) (root_at steps k)
+  pub inverse : (k : ℕ) → k < 9 → Same (pos p) (root_at back k *ℤ root_at steps k) (pos 1)
 
--- a table of 256 roots modulo p: at places 2j and 2j + 1 stand square roots of the root at place j and of its negative, and
+-- a table of 512 roots modulo p: at places 2j and 2j + 1 stand square roots of the root at place j and of its negative, and
 -- next to each its inverse
 pub record AreRoots (p : ℕ) (roots inverses : List ℕ) : Type 0 where
   pub first : Same (pos p) (root_at roots 0) (pos 1)
-  pub even : (j : ℕ) → j < 128 → Same (pos p) (root_at roots (2 * j) *ℤ root_at roots (2 * j)) (root_at roots j)
-  pub odd : (j : ℕ) → j < 128 → Same (pos p) (root_at roots (2 * j + 1) *ℤ root_at roots (2 * j + 1)) (neg_ℤ (root_at roots j))
-  pub inverse : (j : ℕ) → j < 256 → Same (pos p) (root_at inverses j *ℤ root_at roots j) (pos 1)
+  pub even : (j : ℕ) → j < 256 → Same (pos p) (root_at roots (2 * j) *ℤ root_at roots (2 * j)) (root_at roots j)
+  pub odd : (j : ℕ) → j < 256 → Same (pos p) (root_at roots (2 * j + 1) *ℤ root_at roots (2 * j + 1)) (neg_ℤ (root_at roots j))
+  pub inverse : (j : ℕ) → j < 512 → Same (pos p) (root_at inverses j *ℤ root_at roots j) (pos 1)
 
 -- f is the transform modulo p, from a place of the table on, of the 2^levels times four numbers of which h is the list
 -- backwards; f is backwards too

@@ -1,6 +1,7 @@
 //! One channel of frames whose samples lie one after another.
-ghost use Rattle.std.specs.Prelude.{◌≡◌, ◌<◌, ◌≤◌, ◌+◌, ◌*◌, ◌^◌, ℕ, pos, length, slice_index_or, unsigned_abs};
+ghost use Rattle.std.specs.Prelude.{◌≡◌, ◌<◌, ◌≤◌, ◌+◌, ◌*◌, length};
 ghost use Rattle.fx_frame_base.specs.Lists.{tabulate};
+ghost use Rattle.fx_tap_sums.specs.Convolution.{AreSmallSums};
 ghost use Rattle.fx_tap_sums.specs.ChannelSamples.{WritesRounded, KeepsOtherPlaces, rounded_over};
 ghost use Rattle.fx_frame_base.specs.Rounded.{clips_rounded};
 
@@ -18,7 +19,7 @@ pub fn round_channel(
 ) -> u64
     requires channel { channel < channels }
     requires channels { channels ≤ 16 }
-    requires small { (i : ℕ) → i < length sums.now → unsigned_abs (slice_index_or sums.now i (pos 0)) ≤ 2 ^ 61 }
+    requires small { AreSmallSums (length sums.now) sums.now }
     requires out { length sums.now * channels ≤ length out.old }
     ensures put { WritesRounded channels channel (length sums.now) out.new (rounded_over denominator.now sums.now) }
     ensures others { KeepsOtherPlaces channels channel (length sums.now) out.old out.new }

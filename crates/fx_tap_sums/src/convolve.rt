@@ -1,7 +1,7 @@
 //! Sums of products of samples and small weights, in 64 bits, sixteen sums side by side.
 ghost use Rattle.std.specs.Prelude.{◌≡◌, ◌<◌, ◌≤◌, ◌+◌, ◌*◌, ◌^◌, ℕ, pos, ◌+ℤ◌, ◌*ℤ◌, drop, length, slice_index_or, sum_by, unsigned_abs};
 ghost use Rattle.fx_tap_sums.specs.Lanes.{LanesWithin};
-ghost use Rattle.fx_tap_sums.specs.Convolution.{AreSums};
+ghost use Rattle.fx_tap_sums.specs.Convolution.{AreSmallSums, AreSums};
 ghost use Rattle.fx_tap_sums.specs.Products.{sum_of_products};
 
 use crate::pairs::put_turns;
@@ -89,7 +89,7 @@ fn sixteen(weights: &[i32], window: &[i32], sums: &mut [i64])
     requires small { sum_by unsigned_abs weights.now ≤ 2 ^ 30 }
     requires sums { length sums.old ≡ 16 }
     ensures sums { (i : ℕ) → i < 16 → slice_index_or sums.new i (pos 0) ≡ sum_of_products (drop i window.now) weights.now }
-    ensures bound { (i : ℕ) → i < 16 → unsigned_abs (slice_index_or sums.new i (pos 0)) ≤ 2 ^ 61 }
+    ensures bound { AreSmallSums 16 sums.new }
 {
     let mut first = i64x4::splat(0);
     let mut second = i64x4::splat(0);
@@ -115,7 +115,7 @@ pub fn convolve(weights: &[i32], window: &[i32], sums: &mut [i64])
     requires window { length weights.now + length sums.old ≤ length window.now + 1 }
     requires small { sum_by unsigned_abs weights.now ≤ 2 ^ 30 }
     ensures sums { AreSums weights.now window.now sums.new }
-    ensures bound { (i : ℕ) → i < length sums.new → unsigned_abs (slice_index_or sums.new i (pos 0)) ≤ 2 ^ 61 }
+    ensures bound { AreSmallSums (length sums.new) sums.new }
 {
     let mut at = 0;
     'groups: while at + 16 <= sums.len() {

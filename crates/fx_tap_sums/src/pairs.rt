@@ -5,9 +5,9 @@ ghost use Rattle.std.specs.Int.{w32};
 ghost use Rattle.std.specs.Simd.Lanes.{Each1, zip2};
 ghost use Rattle.fx_tap_sums.specs.Lanes.{LanesWithin};
 ghost use Rattle.fx_tap_sums.specs.Added.{AddsEach};
-ghost use Rattle.fx_tap_sums.specs.Convolution.{AreSums};
+ghost use Rattle.fx_tap_sums.specs.Convolution.{AreSmallSums, AreSums};
 ghost use Rattle.fx_tap_sums.specs.Products.{sum_of_products};
-ghost use Rattle.fx_tap_sums.specs.Pairs.{AreCarried, AreHalves, ArePaired, ArePairedInParts, ArePairs, ArePairsOfParts, AreParts, AreWithin, EightHalves, FourFit, IsFloor, IsSplit, IsTable, PairsAdded, PairsFit, joined_at, joined_halves, pair_product};
+ghost use Rattle.fx_tap_sums.specs.Pairs.{AreCarried, AreHalves, AreHalvesFor, ArePaired, ArePairedInParts, ArePairs, ArePairsOfParts, AreParts, AreWithin, EightHalves, FourFit, IsFloor, IsSplit, IsTable, PairsAdded, PairsFit, joined_at, joined_halves, pair_product};
 
 use crate::convolve::{put_lanes, small_dot};
 use std::alloc::{AllocError, Global};
@@ -227,7 +227,7 @@ fn sixteen(weights: &[i32], table: &[i16], halves: &[i16], sums: &mut [i64])
     requires halves { length weights.now + 16 ≤ length halves.now }
     requires sums { length sums.old ≡ 16 }
     ensures sums { (i : ℕ) → i < 16 → slice_index_or sums.new i (pos 0) ≡ sum_of_products (drop i halves.now) weights.now *ℤ pos 65536 }
-    ensures bound { (i : ℕ) → i < 16 → unsigned_abs (slice_index_or sums.new i (pos 0)) ≤ 2 ^ 61 }
+    ensures bound { AreSmallSums 16 sums.new }
 {
     let mut first = i32x4::splat(0);
     let mut second = i32x4::splat(0);
@@ -260,7 +260,7 @@ fn sixteen_of_parts<const SPLIT: u32>(
     requires sums { length sums.old ≡ 16 }
     requires interval { interval ≤ 128 }
     ensures sums { (i : ℕ) → i < 16 → slice_index_or sums.new i (pos 0) ≡ sum_of_products (drop i halves.now) weights.now *ℤ pos 65536 }
-    ensures bound { (i : ℕ) → i < 16 → unsigned_abs (slice_index_or sums.new i (pos 0)) ≤ 2 ^ 61 }
+    ensures bound { AreSmallSums 16 sums.new }
 {
     let mut high_first = i32x4::splat(0);
     let mut low_first = i32x4::splat(0);
@@ -552,7 +552,7 @@ impl Pairs {
         requires halves { length self.now + 16 ≤ length halves.now }
         requires sums { length sums.old ≡ 16 }
         ensures sums { (i : ℕ) → i < 16 → slice_index_or sums.new i (pos 0) ≡ sum_of_products (drop i halves.now) self.now *ℤ pos 65536 }
-        ensures bound { (i : ℕ) → i < 16 → unsigned_abs (slice_index_or sums.new i (pos 0)) ≤ 2 ^ 61 }
+        ensures bound { AreSmallSums 16 sums.new }
     {
         if let Some(high) = &self.high {
             let HighParts {
@@ -573,9 +573,9 @@ impl Pairs {
     fn convolve_piece(&self, window: &[i32], sums: &mut [i64]) -> bool
         requires window { length self.now + length sums.old ≤ length window.now + 1 }
         requires count { length sums.old ≤ 256 }
-        ensures exact { result ≡ true ↔ AreHalves (length self.now + length sums.old) window.now }
+        ensures exact { result ≡ true ↔ AreHalvesFor self.now sums.old window.now }
         ensures sums { result ≡ true → AreSums self.now window.now sums.new }
-        ensures bound { result ≡ true → (i : ℕ) → i < length sums.new → unsigned_abs (slice_index_or sums.new i (pos 0)) ≤ 2 ^ 61 }
+        ensures bound { result ≡ true → AreSmallSums (length sums.new) sums.new }
     {
         let weights = &self.weights;
         let mut halves = [0; MAX_WEIGHTS + MAX_SUMS];
@@ -598,10 +598,9 @@ impl Pairs {
     /// samples, and the next one if there is one, are multiples of 65,536. False where they are not: the sums are any then.
     pub fn convolve(&self, window: &[i32], sums: &mut [i64]) -> bool
         requires window { length self.now + length sums.old ≤ length window.now + 1 }
-        ensures exact { 0 < length sums.old
-            → (result ≡ true ↔ AreHalves (length self.now + length sums.old) window.now) }
+        ensures exact { 0 < length sums.old → (result ≡ true ↔ AreHalvesFor self.now sums.old window.now) }
         ensures sums { result ≡ true → AreSums self.now window.now sums.new }
-        ensures bound { result ≡ true → (i : ℕ) → i < length sums.new → unsigned_abs (slice_index_or sums.new i (pos 0)) ≤ 2 ^ 61 }
+        ensures bound { result ≡ true → AreSmallSums (length sums.new) sums.new }
     {
         if !window.is_empty() && window[0] % 65_536 != 0 {
             return false;

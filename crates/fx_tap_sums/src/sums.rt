@@ -1,6 +1,6 @@
 //! Sums of samples times gains and weights, each at its place.
 ghost use Rattle.std.specs.Prelude.{◌≡◌, ◌<◌, ◌≤◌, ◌+◌, ◌*◌, ◌^◌, ℕ, ℤ, List, pos, ◌+ℤ◌, ◌*ℤ◌, length, slice_index_or, unsigned_abs};
-ghost use Rattle.fx_tap_sums.specs.Added.{AddsEach, AddsScaled, GrowAtMost};
+ghost use Rattle.fx_tap_sums.specs.Added.{AddsEach, AddsScaled, FirstGrowAtMost, GrowAtMost};
 
 use fx_fixed::{Gain, UNIT};
 
@@ -112,7 +112,7 @@ pub fn add_samples(out: &mut [i64], samples: &[i32], wide: &[i64])
     requires places { (length samples.now ≡ length out.old) × (length wide.now ≡ length out.old) }
     requires wide { (k : ℕ) → unsigned_abs (slice_index_or wide.now k (pos 0)) ≤ 2 ^ 34 }
     ensures added { AddsEach (length out.old) samples.now wide.now out.new }
-    ensures bound { (k : ℕ) → k < length out.old → unsigned_abs (slice_index_or out.new k (pos 0)) ≤ unsigned_abs (slice_index_or wide.now k (pos 0)) + 2 ^ 31 }
+    ensures bound { FirstGrowAtMost (length out.old) (2 ^ 31) wide.now out.new }
 {
     for place in 0..samples.len() {
         out[place] = i64::from(samples[place]) + wide[place];

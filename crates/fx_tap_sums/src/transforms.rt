@@ -4,12 +4,14 @@ mod factor;
 mod joining;
 mod lanes;
 mod leaf;
+mod leaves;
 mod loading;
 mod prepared;
 mod primes;
 mod remainders;
 mod roots;
 mod spectrum;
+mod thirds;
 mod transform;
 mod vectors;
 

@@ -99,20 +99,32 @@ fn check_sums(
     }
 }
 
-/// Sums by so many taps, of each of the counts in turn.
+/// Sums by so many taps, of each of these counts in turn.
+fn check_counts(
+    alloc: Global,
+    text: &'static str,
+    window: &[i32],
+    taps: usize,
+    counts: &[usize],
+) -> Result<(), &'static str> {
+    let Ok(weights) = weights(alloc, taps) else {
+        return Err(REFUSED);
+    };
+    for count in counts {
+        check_sums(alloc, text, &weights, window, *count)?;
+    }
+    Ok(())
+}
+
+/// Sums by so many taps, of several counts in turn.
 fn check_taps(
     alloc: Global,
     text: &'static str,
     window: &[i32],
     taps: usize,
 ) -> Result<(), &'static str> {
-    let Ok(weights) = weights(alloc, taps) else {
-        return Err(REFUSED);
-    };
-    for count in [0, 1, 2, 1023, 1024, 1025, 2047, 2500] {
-        check_sums(alloc, text, &weights, window, count)?;
-    }
-    Ok(())
+    let counts = [0, 1, 2, 1023, 1024, 1025, 2047, 2500];
+    check_counts(alloc, text, window, taps, &counts)
 }
 
 /// Sums by each number of taps in turn.
@@ -138,6 +150,35 @@ fn sums_of_all_lengths(rt: HostRuntime) -> Result<(), &'static str> {
         Ok(window) => check_all_taps(rt.alloc(), &window),
         Err(_refused) => Err(REFUSED),
     }
+}
+
+/// Sums by 1,024 taps and by 512, of counts beside those that a transform of 4,096 numbers gives.
+fn check_large(alloc: Global, window: &[i32]) -> Result<(), &'static str> {
+    let counts = [3071, 3072, 3073, 3583, 3584, 3585, 4097];
+    for (text, taps) in [("512 taps", 512), ("1024 taps", 1024)] {
+        check_counts(alloc, text, window, taps, &counts)?;
+    }
+    Ok(())
+}
+
+#[test]
+fn sums_of_large_transforms(rt: HostRuntime) -> Result<(), &'static str> {
+    match samples(rt.alloc(), 6000) {
+        Ok(window) => check_large(rt.alloc(), &window),
+        Err(_refused) => Err(REFUSED),
+    }
+}
+
+/// The same of samples of 24 bits.
+#[test]
+fn sums_of_large_transforms_of_24_bits(rt: HostRuntime) -> Result<(), &'static str> {
+    let Ok(mut window) = samples(rt.alloc(), 6000) else {
+        return Err(REFUSED);
+    };
+    for sample in &mut window {
+        *sample &= -256;
+    }
+    check_large(rt.alloc(), &window)
 }
 
 /// Samples of 24 bits, so that two primes determine the sums.

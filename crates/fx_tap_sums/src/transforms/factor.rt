@@ -1,6 +1,6 @@
 //! Products of remainders by one that is known beforehand.
 ghost use Rattle.std.specs.Prelude.{◌≡◌, ◌<◌, ◌*◌, ◌/◌, ◌^◌, ℕ, pos, ◌*ℤ◌, slice_index_or};
-ghost use Rattle.fx_tap_sums.specs.Residues.{AreFour, IsModulus, Same};
+ghost use Rattle.fx_tap_sums.specs.Residues.{AreCongruent, AreFour, IsModulus, Same};
 
 use super::remainders::reduced;
 use super::vectors::{difference, multiply_wide, narrow, upper_bits};
@@ -30,7 +30,7 @@ impl<const P: u32> Model for Factor<P> {
 }
 
 impl<const P: u32> Factor<P> {
-    /// That of a remainder. It divides, so it is for tables.
+    /// That of a remainder. It divides, so it is for tables and constants.
     #[inline(always)]
     pub(crate) fn of(value: u32) -> Factor<P>
         requires { value < P }
@@ -64,13 +64,13 @@ impl<const P: u32> Factor<P> {
         reduced::<P>((product - quotient * u64::from(P)) as u32)
     }
 
-    /// As `times`, four numbers: each result has the remainder, and may be the modulus more.
+    /// As `times`, four numbers: each result is congruent to its product, and may be the modulus more than the remainder.
     #[inline(always)]
     pub(crate) fn times_four(self, numbers: u32x4) -> u32x4
         requires modulus { IsModulus P }
         requires numbers { AreFour (2 ^ 32) numbers }
         ensures less { AreFour (2 * P) result }
-        ensures same { (k : ℕ) → k < 4 → Same (pos P) (pos (slice_index_or result k 0)) (pos self.entry *ℤ pos (slice_index_or numbers k 0)) }
+        ensures same { AreCongruent P 4 result (λ k. pos self.entry *ℤ pos (slice_index_or numbers k 0)) }
     {
         let quotients = upper_bits::<32>(multiply_wide(u32x4::splat(self.quotient), numbers));
         difference(self.value, numbers, P, narrow(quotients))

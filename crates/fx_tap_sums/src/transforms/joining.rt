@@ -12,13 +12,13 @@ use super::vectors::{
 use crate::convolve::put_lanes;
 use std::simd::prelude::*;
 
-/// Half of the product of the first two moduli, as a multiple of the first one.
+/// The greatest multiple of the first modulus up to half of the product of the first two moduli.
 const HALF: u64 = 9_077_628_196_028_416;
 
-/// Eight times the second modulus, and the remainder of `HALF` modulo it.
+/// Eight times the second modulus plus the remainder of `HALF` modulo it.
 const RAISE: u32 = 1_081_475_080;
 
-/// The numbers that have these remainders modulo the first two primes, and `HALF` together.
+/// The numbers that are congruent to these modulo the first two primes, plus `HALF`.
 // From 0 on, so no lane needs to be centred.
 #[inline(always)]
 fn raised_two(first: u32x4, second: u32x4) -> u64x4
@@ -33,7 +33,7 @@ fn raised_two(first: u32x4, second: u32x4) -> u64x4
     add_wide(multiply_wide(turns, u32x4::splat(FIRST)), widen(first))
 }
 
-/// 256 times the numbers of magnitude at most 2^53 that have these remainders modulo the first two primes.
+/// 256 times the numbers of magnitude at most 2^53 that are congruent to these modulo the first two primes.
 #[inline(always)]
 fn join_two(first: u32x4, second: u32x4) -> i64x4
     requires first { AreFour (4 * FIRST) first }
@@ -44,7 +44,7 @@ fn join_two(first: u32x4, second: u32x4) -> i64x4
     less_number(times_number(raised_two(first, second), 256), 256 * HALF)
 }
 
-/// Writes 256 times the numbers of magnitude at most 2^53 that have these remainders modulo the first two primes.
+/// Writes 256 times the numbers of magnitude at most 2^53 that are congruent to these modulo the first two primes.
 pub(crate) fn join_all(first: &[u32], second: &[u32], sums: &mut [i64])
     requires first_long { length sums.old ≤ length first.now }
     requires second_long { length sums.old ≤ length second.now }

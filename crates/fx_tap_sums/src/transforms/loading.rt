@@ -1,5 +1,5 @@
 //! Weights and samples as remainders, ready for transforms.
-ghost use Rattle.std.specs.Prelude.{◌≡◌, ◌<◌, ◌≤◌, ◌*◌, ◌^◌, ℕ, ℤ, List, pos, ◌∷◌, ◌*ℤ◌, length, map, slice_index_or, unsigned_abs, IfOk};
+ghost use Rattle.std.specs.Prelude.{◌≡◌, ◌<◌, ◌≤◌, ◌+◌, ◌*◌, ◌^◌, ℕ, ℤ, List, pos, ◌∷◌, ◌*ℤ◌, length, map, slice_index_or, unsigned_abs, IfOk};
 ghost use Rattle.fx_tap_sums.specs.Prepared.{padded_weights};
 ghost use Rattle.fx_tap_sums.specs.Residues.{AreRemainders, AreSame, IsModulus, Same};
 ghost use Rattle.fx_tap_sums.specs.Transform.{IsTransform};
@@ -35,48 +35,50 @@ fn scaled<const P: u32>(
     Ok(values)
 }
 
-/// The transform of so many numbers, 2^levels times four: the weights, each times the scale, with zeros after them.
+/// The transform, from a place of the table of roots on, of so many numbers, 2^levels times four: the weights, each times the
+/// scale, with zeros after them.
 pub(crate) fn transformed<const P: u32>(
     alloc: Global,
     roots: &[Factor<P>],
     levels: usize,
+    place: usize,
     count: usize,
     scale: Factor<P>,
     weights: &[i32],
 ) -> Result<Vec<u32>, AllocError>
     requires modulus { IsModulus P }
-    requires table { length roots.now ≡ 256 }
+    requires table { length roots.now ≡ 512 }
     requires count { count ≡ 4 * 2 ^ levels }
-    requires limit { count ≤ 2048 }
+    requires place { (place + 1) * count ≤ 4096 }
     requires bound { length weights.now ≤ count }
     ensures long { IfOk result (λ v. length v.items ≡ count) }
     ensures remainders { IfOk result (λ v. AreRemainders P v.items) }
-    ensures transform { IfOk result (λ v. IsTransform P roots.now levels 0 (padded_weights count (map (λ w. pos scale.entry *ℤ w) weights.now)) v.items) }
+    ensures transform { IfOk result (λ v. IsTransform P roots.now levels place (padded_weights count (map (λ w. pos scale.entry *ℤ w) weights.now)) v.items) }
 {
     let mut values = scaled(alloc, count, scale, weights)?;
-    forward(roots, levels, 0, &mut values);
+    forward(roots, levels, place, &mut values);
     Ok(values)
 }
 
-/// A number below four times the modulus that has the remainder of a sample.
+/// A number below twice the modulus that is congruent to a sample.
 #[inline(always)]
 fn sample_remainder<const P: u32>(sample: i32) -> u32
     requires { IsModulus P }
-    ensures less { result < 4 * P }
+    ensures less { result < 2 * P }
     ensures same { Same (pos P) (pos result) sample }
     ensures bound { unsigned_abs sample ≤ 2 ^ 31 }
 {
-    // 2^27 is the modulus less a small number: a product with that takes less time than a division
-    let high = sample >> 27;
-    let low = sample & ((1 << 27) - 1);
-    (low - high * (P as i32 - (1 << 27)) + P as i32) as u32
+    // 2^27 is the modulus less a small number, so the nearest multiple of it tells how often the modulus goes into the sample:
+    // that takes less time than a division
+    let turns = ((sample >> 26) + 1) >> 1;
+    sample.wrapping_add((1 - turns).wrapping_mul(P as i32)) as u32
 }
 
-/// Writes a zero, numbers below four times the modulus that have the remainders of samples, and zeros after them.
+/// Writes a zero, numbers below twice the modulus that are congruent to samples, and zeros after them.
 pub(crate) fn load<const P: u32>(window: &[i32], values: &mut [u32])
     requires modulus { IsModulus P }
     requires window { length window.now < length values.old }
-    ensures remainders { AreRemainders (4 * P) values.new }
+    ensures remainders { AreRemainders (2 * P) values.new }
     ensures same { AreSame P values.new (pos 0 ∷ window.now) }
     ensures samples { (k : ℕ) → unsigned_abs (slice_index_or window.now k (pos 0)) ≤ 2 ^ 31 }
 {
@@ -89,7 +91,7 @@ pub(crate) fn load<const P: u32>(window: &[i32], values: &mut [u32])
     }
 }
 
-/// A number below twice the modulus that has the remainder of a sample over 256, rounded down.
+/// A number below twice the modulus that is congruent to a sample over 256, rounded down.
 #[inline(always)]
 fn upper_remainder<const P: u32>(sample: i32) -> u32
     requires { IsModulus P }
@@ -99,7 +101,7 @@ fn upper_remainder<const P: u32>(sample: i32) -> u32
     ((sample >> 8) + P as i32) as u32
 }
 
-/// Writes a zero, numbers below twice the modulus that have the remainders of samples over 256, and zeros after them.
+/// Writes a zero, numbers below twice the modulus that are congruent to samples over 256, and zeros after them.
 pub(crate) fn load_upper<const P: u32>(window: &[i32], values: &mut [u32])
     requires modulus { IsModulus P }
     requires window { length window.now < length values.old }

@@ -1,5 +1,6 @@
 //! Remainders modulo three primes, and the numbers that have them.
 ghost use Rattle.std.specs.Prelude.{◌≡◌, ◌<◌, ◌≤◌, ◌*◌, ◌/◌, ◌^◌, ℤ, pos, unsigned_abs};
+ghost use Rattle.fx_tap_sums.specs.Joined.{HasThree};
 ghost use Rattle.fx_tap_sums.specs.Residues.{IsModulus, Same};
 
 use super::factor::Factor;
@@ -35,7 +36,7 @@ pub(crate) fn reduced<const P: u32>(number: u32) -> u32
     if number < P { number } else { number - P }
 }
 
-/// A number below twice the modulus that has the remainder of a weight.
+/// A number below twice the modulus that is congruent to a weight.
 #[inline(always)]
 pub(crate) fn remainder<const P: u32>(weight: i32) -> u32
     requires { IsModulus P }
@@ -47,7 +48,7 @@ pub(crate) fn remainder<const P: u32>(weight: i32) -> u32
     raised % P + (P - (1 << 31) % P)
 }
 
-/// The number of magnitude at most 2^53 that has these remainders modulo the first two primes.
+/// The number of magnitude at most 2^53 that is congruent to these modulo the first two primes.
 #[inline(always)]
 pub(crate) fn joined_two(first: u32, second: u32) -> i64
     requires first { first < 4 * FIRST }
@@ -75,14 +76,14 @@ fn centred(remainder: u32) -> i64
     }
 }
 
-/// The number of magnitude at most 2^61 that has these remainders modulo the three primes.
+/// The number of magnitude at most 2^61 that is congruent to these modulo the three primes.
 #[inline(always)]
 pub(crate) fn joined_three(first: u32, second: u32, third: u32) -> i64
     requires first { first < 4 * FIRST }
     requires second { second < 4 * SECOND }
     requires third { third < 4 * THIRD }
-    requires is { (x : ℤ) × (unsigned_abs x ≤ 2 ^ 61) × Same (pos FIRST) (pos first) x × Same (pos SECOND) (pos second) x × Same (pos THIRD) (pos third) x }
-    ensures { (x : ℤ) → unsigned_abs x ≤ 2 ^ 61 → Same (pos FIRST) (pos first) x → Same (pos SECOND) (pos second) x → Same (pos THIRD) (pos third) x → result ≡ x }
+    requires is { (x : ℤ) × HasThree first second third x }
+    ensures { (x : ℤ) → HasThree first second third x → result ≡ x }
 {
     let by_first: Factor<SECOND> = Factor::of(INVERSE_OF_FIRST);
     let turns = by_first.times(second + (8 * SECOND - first));

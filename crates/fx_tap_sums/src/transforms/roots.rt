@@ -6,7 +6,7 @@ ghost use Rattle.fx_tap_sums.specs.Transform.{AreRoots, AreSteps};
 use super::factor::Factor;
 use std::alloc::{AllocError, Global};
 
-/// A table of 256 roots, and the inverse of each.
+/// A table of 512 roots, and the inverse of each.
 #[derive(Drop)]
 pub(crate) struct RootTable<const P: u32> {
     pub(crate) roots: Vec<Factor<P>>,
@@ -21,8 +21,8 @@ pub(crate) fn table<const P: u32>(
 ) -> Result<RootTable<P>, AllocError>
     requires modulus { IsModulus P }
     requires steps { AreSteps P steps.now back.now }
-    ensures roots { IfOk result (λ t. length t.roots.items ≡ 256) }
-    ensures inverses { IfOk result (λ t. length t.inverses.items ≡ 256) }
+    ensures roots { IfOk result (λ t. length t.roots.items ≡ 512) }
+    ensures inverses { IfOk result (λ t. length t.inverses.items ≡ 512) }
     ensures are { IfOk result (λ t. AreRoots P t.roots.items t.inverses.items) }
 {
     let mut roots: Vec<Factor<P>> = Vec::new(alloc);
@@ -31,7 +31,7 @@ pub(crate) fn table<const P: u32>(
     let mut inverses: Vec<Factor<P>> = Vec::new(alloc);
     inverses.push(Factor::of(1))?;
     inverses.push(Factor::of(back[0]))?;
-    'steps: for at in 0..7 {
+    'steps: for at in 0..8 {
         let step: Factor<P> = Factor::of(steps[at + 1]);
         let back: Factor<P> = Factor::of(back[at + 1]);
         let half = roots.len();

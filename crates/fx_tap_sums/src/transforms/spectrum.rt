@@ -1,7 +1,7 @@
 //! Weights prepared for sums by transforms.
-ghost use Rattle.std.specs.Prelude.{◌≡◌, ◌<◌, ◌≤◌, ◌+◌, ◌-◌, ◌^◌, ◌⊎◌, ℕ, ℤ, List, pos, ◌*ℤ◌, true, false, drop, length, slice_index_or, sum_by, unsigned_abs, IfOk, IfNone, IfSome};
-ghost use Rattle.fx_tap_sums.specs.Prepared.{ArePrepared, ArePreparedModulo, ArePreparedModuloTwo};
-ghost use Rattle.fx_tap_sums.specs.Products.{sum_of_products};
+ghost use Rattle.std.specs.Prelude.{◌≡◌, ◌<◌, ◌≤◌, ◌+◌, ◌-◌, ℕ, ℤ, List, pos, ◌*ℤ◌, true, false, length, slice_index_or, sum_by, unsigned_abs, IfOk, IfNone, IfSome};
+ghost use Rattle.fx_tap_sums.specs.Convolution.{AreSmallSums, AreSums};
+ghost use Rattle.fx_tap_sums.specs.Prepared.{max_sums, ArePreparable, ArePrepared, ArePreparedModulo, AreSumsOf, AreSumsOfTwo, ExceedPreparable, HavePrepared, HaveTwoPrepared, IsSize};
 ghost use Rattle.fx_tap_sums.specs.Upper.{AreUpper};
 
 use super::joining::join_all;
@@ -15,6 +15,15 @@ use std::marker::Model;
 
 /// To how much the magnitudes of weights add up at most.
 const MAX_WHOLE: u32 = 1 << 30;
+
+/// From how many weights on a transform of 4,096 numbers gives clearly more sums than those of 2,048 give in the same time.
+const MIN_WEIGHTS_OF_LARGE: usize = 512;
+
+/// The same of one of 3,072 numbers.
+const MIN_WEIGHTS_OF_THIRDS: usize = 768;
+
+/// How many sums a transform of 3,072 numbers gives at most: its last third has none.
+const MAX_SUMS_OF_THIRDS: usize = 2048;
 
 /// Weights prepared modulo three primes.
 #[derive(Drop)]
@@ -34,7 +43,7 @@ pub struct Spectrum {
 // A spectrum is the list of its weights.
 impl Model for Spectrum {
     ghost use Rattle.std.specs.Prelude.{◌≤◌, ℤ, List, length};
-    ghost use Rattle.fx_tap_sums.specs.Prepared.{ArePrepared};
+    ghost use Rattle.fx_tap_sums.specs.Prepared.{max_sums, ArePrepared};
 
     ghost Value = { List ℤ };
 
@@ -62,9 +71,9 @@ fn is_small(weights: &[i32], maximum: u32) -> bool
 /// At most 1,024 weights prepared modulo the three primes.
 fn prepare_all(alloc: Global, weights: &[i32]) -> Result<Transforms, AllocError>
     requires { length weights.now ≤ 1024 }
-    ensures first { IfOk result (λ t. ArePreparedModulo FIRST weights.now t.first.table.roots.items t.first.table.inverses.items t.first.half.items t.first.spectrum.items) }
-    ensures second { IfOk result (λ t. ArePreparedModulo SECOND weights.now t.second.table.roots.items t.second.table.inverses.items t.second.half.items t.second.spectrum.items) }
-    ensures third { IfOk result (λ t. ArePreparedModulo THIRD weights.now t.third.table.roots.items t.third.table.inverses.items t.third.half.items t.third.spectrum.items) }
+    ensures first { IfOk result (λ t. ArePreparedModulo FIRST weights.now t.first) }
+    ensures second { IfOk result (λ t. ArePreparedModulo SECOND weights.now t.second) }
+    ensures third { IfOk result (λ t. ArePreparedModulo THIRD weights.now t.third) }
 {
     let first = prepare(alloc, &STEPS_OF_FIRST, &BACK_OF_FIRST, weights)?;
     let second = prepare(alloc, &STEPS_OF_SECOND, &BACK_OF_SECOND, weights)?;
@@ -88,7 +97,7 @@ fn are_upper(window: &[i32]) -> bool
 }
 
 /// Writes numbers in 64 bits, as many as there are places.
-fn widen(numbers: &[u32], wide: &mut [i64])
+fn put_wide(numbers: &[u32], wide: &mut [i64])
     requires { length wide.old ≤ length numbers.now }
     ensures { (i : ℕ) → i < length wide.new → slice_index_or wide.new i (pos 0) ≡ pos (slice_index_or numbers.now i 0) }
 {
@@ -103,13 +112,14 @@ impl Transforms {
     // Stack space is cleared only where this is called, as in convolve_whole.
     #[inline(never)]
     fn convolve_upper<const SIZE: usize>(&self, weights: usize, window: &[i32], sums: &mut [i64])
-        requires size { (SIZE ≡ 1024) ⊎ (SIZE ≡ 2048) }
+        requires size { IsSize SIZE }
+        requires maximum { length sums.old ≤ max_sums SIZE }
         requires window { weights + length sums.old ≤ length window.now + 1 }
         requires bound { length window.now < SIZE }
         requires upper { (upper : List ℤ) × AreUpper window.now upper }
-        requires prepared { (ws : List ℤ) × (length ws ≡ weights) × ArePreparedModuloTwo self.now ws }
-        ensures sums { (ws : List ℤ) → length ws ≡ weights → ArePreparedModuloTwo self.now ws → (i : ℕ) → i < length sums.new → slice_index_or sums.new i (pos 0) ≡ sum_of_products (drop i window.now) ws }
-        ensures bound { (i : ℕ) → i < length sums.new → unsigned_abs (slice_index_or sums.new i (pos 0)) ≤ 2 ^ 61 }
+        requires prepared { HaveTwoPrepared self.now weights }
+        ensures sums { AreSumsOfTwo self.now weights window.now sums.new }
+        ensures bound { AreSmallSums (length sums.new) sums.new }
     {
         let mut first = [0; SIZE];
         convolve_upper_modulo(&self.first, window, &mut first);
@@ -122,16 +132,17 @@ impl Transforms {
     /// gives.
     #[inline(never)]
     fn convolve_whole<const SIZE: usize>(&self, weights: usize, window: &[i32], sums: &mut [i64])
-        requires size { (SIZE ≡ 1024) ⊎ (SIZE ≡ 2048) }
+        requires size { IsSize SIZE }
+        requires maximum { length sums.old ≤ max_sums SIZE }
         requires window { weights + length sums.old ≤ length window.now + 1 }
         requires bound { length window.now < SIZE }
-        requires prepared { (ws : List ℤ) × (length ws ≡ weights) × ArePrepared self.now ws }
-        ensures sums { (ws : List ℤ) → length ws ≡ weights → ArePrepared self.now ws → (i : ℕ) → i < length sums.new → slice_index_or sums.new i (pos 0) ≡ sum_of_products (drop i window.now) ws }
-        ensures bound { (i : ℕ) → i < length sums.new → unsigned_abs (slice_index_or sums.new i (pos 0)) ≤ 2 ^ 61 }
+        requires prepared { HavePrepared self.now weights }
+        ensures sums { AreSumsOf self.now weights window.now sums.new }
+        ensures bound { AreSmallSums (length sums.new) sums.new }
     {
         let mut values = [0; SIZE];
         convolve_modulo(&self.first, window, &mut values);
-        widen(&values, sums);
+        put_wide(&values, sums);
         convolve_modulo(&self.second, window, &mut values);
         let mut third = [0; SIZE];
         convolve_modulo(&self.third, window, &mut third);
@@ -142,12 +153,13 @@ impl Transforms {
 
     /// The same, by two primes where the samples are multiples of 256.
     fn convolve_any<const SIZE: usize>(&self, weights: usize, window: &[i32], sums: &mut [i64])
-        requires size { (SIZE ≡ 1024) ⊎ (SIZE ≡ 2048) }
+        requires size { IsSize SIZE }
+        requires maximum { length sums.old ≤ max_sums SIZE }
         requires window { weights + length sums.old ≤ length window.now + 1 }
         requires piece { weights + length sums.old ≤ SIZE }
-        requires prepared { (ws : List ℤ) × (length ws ≡ weights) × ArePrepared self.now ws }
-        ensures sums { (ws : List ℤ) → length ws ≡ weights → ArePrepared self.now ws → (i : ℕ) → i < length sums.new → slice_index_or sums.new i (pos 0) ≡ sum_of_products (drop i window.now) ws }
-        ensures bound { (i : ℕ) → i < length sums.new → unsigned_abs (slice_index_or sums.new i (pos 0)) ≤ 2 ^ 61 }
+        requires prepared { HavePrepared self.now weights }
+        ensures sums { AreSumsOf self.now weights window.now sums.new }
+        ensures bound { AreSmallSums (length sums.new) sums.new }
     {
         let piece = &window[..window.len().min(SIZE - 1)];
         if are_upper(piece) {
@@ -160,15 +172,20 @@ impl Transforms {
     /// Writes sums of prepared weights times as many samples of the window, at most as many as one transform gives.
     fn convolve_piece(&self, weights: usize, window: &[i32], sums: &mut [i64])
         requires window { weights + length sums.old ≤ length window.now + 1 }
-        requires piece { weights + length sums.old ≤ 2048 }
-        requires prepared { (ws : List ℤ) × (length ws ≡ weights) × ArePrepared self.now ws }
-        ensures sums { (ws : List ℤ) → length ws ≡ weights → ArePrepared self.now ws → (i : ℕ) → i < length sums.new → slice_index_or sums.new i (pos 0) ≡ sum_of_products (drop i window.now) ws }
-        ensures bound { (i : ℕ) → i < length sums.new → unsigned_abs (slice_index_or sums.new i (pos 0)) ≤ 2 ^ 61 }
+        requires piece { weights + length sums.old ≤ 4096 }
+        requires prepared { HavePrepared self.now weights }
+        ensures sums { AreSumsOf self.now weights window.now sums.new }
+        ensures bound { AreSmallSums (length sums.new) sums.new }
     {
-        if weights + sums.len() <= 1024 {
+        let numbers = weights + sums.len();
+        if numbers <= 1024 {
             self.convolve_any::<1024>(weights, window, sums);
-        } else {
+        } else if numbers <= 2048 {
             self.convolve_any::<2048>(weights, window, sums);
+        } else if numbers <= 3072 && sums.len() <= MAX_SUMS_OF_THIRDS {
+            self.convolve_any::<3072>(weights, window, sums);
+        } else {
+            self.convolve_any::<4096>(weights, window, sums);
         }
     }
 }
@@ -178,8 +195,8 @@ impl Spectrum {
     /// their magnitudes add up to more, and only there; `AllocError` where memory is refused.
     pub fn of(alloc: Global, weights: &[i32]) -> Result<Option<Spectrum>, AllocError>
         ensures value { IfOk result (λ s. IfSome s (λ v. v ≡ weights.now)) }
-        ensures some { IfOk result (λ s. IfSome s (λ _. (length weights.now ≤ 1024) × (sum_by unsigned_abs weights.now ≤ 2 ^ 30))) }
-        ensures none { IfOk result (λ s. IfNone s ((1024 < length weights.now) ⊎ (2 ^ 30 < sum_by unsigned_abs weights.now))) }
+        ensures some { IfOk result (λ s. IfSome s (λ _. ArePreparable weights.now)) }
+        ensures none { IfOk result (λ s. IfNone s (ExceedPreparable weights.now)) }
     {
         if weights.len() > 1024 || !is_small(weights, MAX_WHOLE) {
             return Ok(None);
@@ -193,30 +210,37 @@ impl Spectrum {
         }))
     }
 
-    /// How many of so many sums are best made next: as many as one transform gives, of 1,024 numbers or of 2,048. The larger takes
-    /// twice the time of the smaller.
+    /// How many of so many sums are best made next: as many as one transform gives, of 1,024, 2,048, 3,072 or 4,096 numbers. That
+    /// is as many as its numbers are more than the weights, but at most 2,048 of 3,072 numbers. The times are about 1, 2, 3.3 and 4.5,
+    /// so the two largest pay only with many weights.
     pub fn count_at_once(&self, sums: usize) -> usize
         requires { 1 ≤ sums }
         ensures some { 1 ≤ result }
         ensures bound { result ≤ sums }
-        ensures fits { length self.now + result ≤ 2048 }
+        ensures fits { length self.now + result ≤ 4096 }
     {
         let taps = self.weights.len();
         let small = 1024 - taps;
+        let medium = 2048 - taps;
+        let large = 4096 - taps;
         if sums <= small {
             sums
+        } else if taps >= MIN_WEIGHTS_OF_LARGE && sums >= large {
+            large
+        } else if taps >= MIN_WEIGHTS_OF_THIRDS && sums > medium {
+            sums.min(3072 - taps).min(MAX_SUMS_OF_THIRDS)
         } else if sums < 2 * small {
             small
         } else {
-            sums.min(2048 - taps)
+            sums.min(medium)
         }
     }
 
     /// Writes the sums of the weights times as many samples of the window, from each of its places on.
     pub fn convolve(&self, window: &[i32], sums: &mut [i64])
         requires window { length self.now + length sums.old ≤ length window.now + 1 }
-        ensures sums { (i : ℕ) → i < length sums.new → slice_index_or sums.new i (pos 0) ≡ sum_of_products (drop i window.now) self.now }
-        ensures bound { (i : ℕ) → i < length sums.new → unsigned_abs (slice_index_or sums.new i (pos 0)) ≤ 2 ^ 61 }
+        ensures sums { AreSums self.now window.now sums.new }
+        ensures bound { AreSmallSums (length sums.new) sums.new }
     {
         let taps = self.weights.len();
         let mut at = 0;

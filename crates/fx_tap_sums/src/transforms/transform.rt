@@ -1,14 +1,14 @@
 //! Transforms of 2^levels times four remainders, in place. In the forward transform the numbers may grow by twice the modulus
 //! at each level, and they still fit 32 bits after all levels, so nothing is corrected.
-ghost use Rattle.std.specs.Prelude.{◌≡◌, ◌<◌, ◌≤◌, ◌+◌, ◌*◌, ◌^◌, ℕ, ℤ, List, pos, neg_ℤ, ◌+ℤ◌, ◌-ℤ◌, ◌*ℤ◌, ◌++◌, ◌-◌, length, slice_index_or};
-ghost use Rattle.fx_tap_sums.specs.Quarters.{difference_at, spread_at, sum_at};
-ghost use Rattle.fx_tap_sums.specs.Residues.{AreRemainders, AreSame, IsModulus, Same, inverse_of_word};
-ghost use Rattle.fx_tap_sums.specs.Transform.{AreRoots, IsProduct, IsTransform, root_at};
+ghost use Rattle.std.specs.Prelude.{◌≡◌, ◌<◌, ◌≤◌, ◌+◌, ◌*◌, ◌^◌, ℕ, ℤ, List, pos, neg_ℤ, ◌*ℤ◌, ◌++◌, ◌-◌, length, slice_index_or};
+ghost use Rattle.fx_tap_sums.specs.Multiplying.{MultipliesBy};
+ghost use Rattle.fx_tap_sums.specs.Quarters.{difference_at, gather_first_at, gather_fourth_at, gather_second_at, gather_third_at, levels_at, spread_at, spread_first_at, spread_fourth_at, spread_second_at, spread_third_at, sum_at};
+ghost use Rattle.fx_tap_sums.specs.Residues.{AreCongruent, AreRemainders, AreSame, BoundGrowsBy, IsModulus, Same};
+ghost use Rattle.fx_tap_sums.specs.Transform.{AreRoots, IsTransform};
 
 use super::factor::Factor;
 use super::lanes::{
-    gather_four, gather_two_levels, opposite_four, reduced_four, remainders_of_four, spread_four,
-    spread_two_levels,
+    gather_four, gather_two_levels, remainders_of_four, spread_four, spread_two_levels,
 };
 use super::leaf::multiply_four;
 use super::vectors::{load, put};
@@ -21,10 +21,10 @@ fn spread<const P: u32>(root: Factor<P>, low: &mut [u32], high: &mut [u32])
     requires as_many { length low.old ≡ length high.old }
     requires low { AreRemainders (2 ^ 32 - 2 * P) low.old }
     requires high { AreRemainders (2 ^ 32) high.old }
-    ensures low { (bound : ℕ) → AreRemainders bound low.old → AreRemainders (bound + 2 * P) low.new }
-    ensures high { (bound : ℕ) → AreRemainders bound low.old → AreRemainders (bound + 2 * P) high.new }
-    ensures plus { (i : ℕ) → i < length low.new → Same (pos P) (pos (slice_index_or low.new i 0)) (pos (slice_index_or low.old i 0) +ℤ (pos root.entry *ℤ pos (slice_index_or high.old i 0))) }
-    ensures minus { (i : ℕ) → i < length low.new → Same (pos P) (pos (slice_index_or high.new i 0)) (pos (slice_index_or low.old i 0) +ℤ (neg_ℤ (pos root.entry) *ℤ pos (slice_index_or high.old i 0))) }
+    ensures low { BoundGrowsBy (2 * P) low.old low.new }
+    ensures high { BoundGrowsBy (2 * P) low.old high.new }
+    ensures plus { AreCongruent P (length low.new) low.new (spread_at (pos root.entry) low.old high.old) }
+    ensures minus { AreCongruent P (length low.new) high.new (spread_at (neg_ℤ (pos root.entry)) low.old high.old) }
 {
     'groups: for group in 0..low.len() / 4 {
         let at = 4 * group;
@@ -44,8 +44,8 @@ fn gather<const P: u32>(inverse: Factor<P>, low: &mut [u32], high: &mut [u32])
     requires high { AreRemainders (4 * P) high.old }
     ensures low { AreRemainders (4 * P) low.new }
     ensures high { AreRemainders (4 * P) high.new }
-    ensures plus { (i : ℕ) → i < length low.new → Same (pos P) (pos (slice_index_or low.new i 0)) (pos (slice_index_or low.old i 0) +ℤ pos (slice_index_or high.old i 0)) }
-    ensures minus { (i : ℕ) → i < length low.new → Same (pos P) (pos (slice_index_or high.new i 0)) (pos inverse.entry *ℤ (pos (slice_index_or low.old i 0) -ℤ pos (slice_index_or high.old i 0))) }
+    ensures plus { AreCongruent P (length low.new) low.new (sum_at low.old high.old) }
+    ensures minus { AreCongruent P (length low.new) high.new (difference_at (pos inverse.entry) low.old high.old) }
 {
     'groups: for group in 0..low.len() / 4 {
         let at = 4 * group;
@@ -56,7 +56,8 @@ fn gather<const P: u32>(inverse: Factor<P>, low: &mut [u32], high: &mut [u32])
 }
 
 /// Two levels of `spread` in one pass: the first and third, and the second and fourth by the root at a place, then the first
-/// and second, and the third and fourth, by the roots at the next two places. The bound of all grows by four times the modulus.
+/// and second by the root at 2 * place, and the third and fourth by that at 2 * place + 1. The bound of all grows by four times
+/// the modulus.
 #[inline(always)]
 fn spread_quarters<const P: u32>(
     roots: &[Factor<P>],
@@ -67,8 +68,8 @@ fn spread_quarters<const P: u32>(
     fourth: &mut [u32],
 )
     requires modulus { IsModulus P }
-    requires table { length roots.now ≡ 256 }
-    requires place { place < 128 }
+    requires table { length roots.now ≡ 512 }
+    requires place { place < 256 }
     requires groups { (n : ℕ) × (length first.old ≡ 4 * n) }
     requires as_many { length first.old ≡ length second.old }
     requires as_many_third { length first.old ≡ length third.old }
@@ -77,14 +78,14 @@ fn spread_quarters<const P: u32>(
     requires second { AreRemainders (2 ^ 32 - 4 * P) second.old }
     requires third { AreRemainders (2 ^ 32) third.old }
     requires fourth { AreRemainders (2 ^ 32) fourth.old }
-    ensures first_less { (bound : ℕ) → AreRemainders bound first.old → AreRemainders (bound + 4 * P) first.new }
-    ensures second_less { (bound : ℕ) → AreRemainders bound first.old → AreRemainders (bound + 4 * P) second.new }
-    ensures third_less { (bound : ℕ) → AreRemainders bound first.old → AreRemainders (bound + 4 * P) third.new }
-    ensures fourth_less { (bound : ℕ) → AreRemainders bound first.old → AreRemainders (bound + 4 * P) fourth.new }
-    ensures first { (i : ℕ) → i < length first.new → Same (pos P) (pos (slice_index_or first.new i 0)) (spread_at (root_at roots.now place) first.old third.old i +ℤ (root_at roots.now (2 * place) *ℤ spread_at (root_at roots.now place) second.old fourth.old i)) }
-    ensures second { (i : ℕ) → i < length first.new → Same (pos P) (pos (slice_index_or second.new i 0)) (spread_at (root_at roots.now place) first.old third.old i +ℤ (neg_ℤ (root_at roots.now (2 * place)) *ℤ spread_at (root_at roots.now place) second.old fourth.old i)) }
-    ensures third { (i : ℕ) → i < length first.new → Same (pos P) (pos (slice_index_or third.new i 0)) (spread_at (neg_ℤ (root_at roots.now place)) first.old third.old i +ℤ (root_at roots.now (2 * place + 1) *ℤ spread_at (neg_ℤ (root_at roots.now place)) second.old fourth.old i)) }
-    ensures fourth { (i : ℕ) → i < length first.new → Same (pos P) (pos (slice_index_or fourth.new i 0)) (spread_at (neg_ℤ (root_at roots.now place)) first.old third.old i +ℤ (neg_ℤ (root_at roots.now (2 * place + 1)) *ℤ spread_at (neg_ℤ (root_at roots.now place)) second.old fourth.old i)) }
+    ensures first_less { BoundGrowsBy (4 * P) first.old first.new }
+    ensures second_less { BoundGrowsBy (4 * P) first.old second.new }
+    ensures third_less { BoundGrowsBy (4 * P) first.old third.new }
+    ensures fourth_less { BoundGrowsBy (4 * P) first.old fourth.new }
+    ensures first { AreCongruent P (length first.new) first.new (spread_first_at (levels_at roots.now place) first.old second.old third.old fourth.old) }
+    ensures second { AreCongruent P (length first.new) second.new (spread_second_at (levels_at roots.now place) first.old second.old third.old fourth.old) }
+    ensures third { AreCongruent P (length first.new) third.new (spread_third_at (levels_at roots.now place) first.old second.old third.old fourth.old) }
+    ensures fourth { AreCongruent P (length first.new) fourth.new (spread_fourth_at (levels_at roots.now place) first.old second.old third.old fourth.old) }
 {
     let root = roots[place];
     let low_root = roots[2 * place];
@@ -118,8 +119,8 @@ fn gather_quarters<const P: u32>(
     fourth: &mut [u32],
 )
     requires modulus { IsModulus P }
-    requires table { length inverses.now ≡ 256 }
-    requires place { place < 128 }
+    requires table { length inverses.now ≡ 512 }
+    requires place { place < 256 }
     requires groups { (n : ℕ) × (length first.old ≡ 4 * n) }
     requires as_many { length first.old ≡ length second.old }
     requires as_many_third { length first.old ≡ length third.old }
@@ -132,10 +133,10 @@ fn gather_quarters<const P: u32>(
     ensures second_less { AreRemainders (4 * P) second.new }
     ensures third_less { AreRemainders (4 * P) third.new }
     ensures fourth_less { AreRemainders (4 * P) fourth.new }
-    ensures first { (i : ℕ) → i < length first.new → Same (pos P) (pos (slice_index_or first.new i 0)) (sum_at first.old second.old i +ℤ sum_at third.old fourth.old i) }
-    ensures second { (i : ℕ) → i < length first.new → Same (pos P) (pos (slice_index_or second.new i 0)) (difference_at (root_at inverses.now (2 * place)) first.old second.old i +ℤ difference_at (root_at inverses.now (2 * place + 1)) third.old fourth.old i) }
-    ensures third { (i : ℕ) → i < length first.new → Same (pos P) (pos (slice_index_or third.new i 0)) (root_at inverses.now place *ℤ (sum_at first.old second.old i -ℤ sum_at third.old fourth.old i)) }
-    ensures fourth { (i : ℕ) → i < length first.new → Same (pos P) (pos (slice_index_or fourth.new i 0)) (root_at inverses.now place *ℤ (difference_at (root_at inverses.now (2 * place)) first.old second.old i -ℤ difference_at (root_at inverses.now (2 * place + 1)) third.old fourth.old i)) }
+    ensures first { AreCongruent P (length first.new) first.new (gather_first_at first.old second.old third.old fourth.old) }
+    ensures second { AreCongruent P (length first.new) second.new (gather_second_at (levels_at inverses.now place) first.old second.old third.old fourth.old) }
+    ensures third { AreCongruent P (length first.new) third.new (gather_third_at (levels_at inverses.now place) first.old second.old third.old fourth.old) }
+    ensures fourth { AreCongruent P (length first.new) fourth.new (gather_fourth_at (levels_at inverses.now place) first.old second.old third.old fourth.old) }
 {
     let inverse = inverses[place];
     let low_inverse = inverses[2 * place];
@@ -165,13 +166,13 @@ fn are_halves(levels: usize, place: usize, low: usize, high: usize)
     requires levels { 0 < levels }
     requires same { low ≡ high }
     requires power { low + high ≡ 4 * 2 ^ levels }
-    requires place { (place + 1) * (low + high) ≤ 2048 }
+    requires place { (place + 1) * (low + high) ≤ 4096 }
     ensures low { low ≡ 4 * 2 ^ (levels - 1) }
     ensures high { high ≡ 4 * 2 ^ (levels - 1) }
-    ensures left { (2 * place + 1) * low ≤ 2048 }
-    ensures left_high { (2 * place + 1) * high ≤ 2048 }
-    ensures right { (2 * place + 1 + 1) * low ≤ 2048 }
-    ensures right_high { (2 * place + 1 + 1) * high ≤ 2048 }
+    ensures left { (2 * place + 1) * low ≤ 4096 }
+    ensures left_high { (2 * place + 1) * high ≤ 4096 }
+    ensures right { (2 * place + 1 + 1) * low ≤ 4096 }
+    ensures right_high { (2 * place + 1 + 1) * high ≤ 4096 }
 {}
 
 /// Parts of remainders are remainders. It does nothing, as `are_halves`.
@@ -187,7 +188,7 @@ fn are_parts<const P: u32>(whole: &[u32], front: &[u32], back: &[u32])
 #[inline(always)]
 fn are_bounded<const P: u32>(levels: usize, low: &[u32], high: &[u32])
     requires some { 1 ≤ levels }
-    requires bound { levels ≤ 9 }
+    requires bound { levels ≤ 10 }
     requires low { AreRemainders ((22 - 2 * levels) * P + 2 * P) low.now }
     requires high { AreRemainders ((22 - 2 * levels) * P + 2 * P) high.now }
     ensures low { AreRemainders ((22 - 2 * (levels - 1)) * P) low.now }
@@ -198,13 +199,13 @@ fn are_bounded<const P: u32>(levels: usize, low: &[u32], high: &[u32])
 #[inline(always)]
 fn is_quarter<const P: u32>(levels: usize, place: usize, next: usize, quarter: &[u32])
     requires levels { 5 ≤ levels }
-    requires bound { levels ≤ 9 }
+    requires bound { levels ≤ 10 }
     requires power { 4 * length quarter.now ≡ 4 * 2 ^ levels }
-    requires place { (place + 1) * (4 * length quarter.now) ≤ 2048 }
+    requires place { (place + 1) * (4 * length quarter.now) ≤ 4096 }
     requires next { next < 4 * (place + 1) }
     requires values { AreRemainders ((22 - 2 * levels) * P + 4 * P) quarter.now }
     ensures power { length quarter.now ≡ 4 * 2 ^ (levels - 2) }
-    ensures place { (next + 1) * length quarter.now ≤ 2048 }
+    ensures place { (next + 1) * length quarter.now ≤ 4096 }
     ensures values { AreRemainders ((22 - 2 * (levels - 2)) * P) quarter.now }
 {}
 
@@ -216,9 +217,9 @@ pub(crate) fn forward<const P: u32>(
     values: &mut [u32],
 )
     requires modulus { IsModulus P }
-    requires table { length roots.now ≡ 256 }
+    requires table { length roots.now ≡ 512 }
     requires power { length values.old ≡ 4 * 2 ^ levels }
-    requires place { (place + 1) * length values.old ≤ 2048 }
+    requires place { (place + 1) * length values.old ≤ 4096 }
     requires values { AreRemainders ((22 - 2 * levels) * P) values.old }
     ensures values { AreRemainders P values.new }
     ensures transform { (h : List ℤ) → length h ≡ length values.old → AreSame P values.old h → IsTransform P roots.now levels place h values.new }
@@ -241,25 +242,21 @@ pub(crate) fn forward<const P: u32>(
 fn multiply_eight<const P: u32>(
     root: Factor<P>,
     inverse: Factor<P>,
-    spectrum: &[u32],
+    leaves: &[u32],
     values: &mut [u32],
 )
     requires modulus { IsModulus P }
     requires inverse { Same (pos P) (pos inverse *ℤ pos root) (pos 1) }
     requires eight { length values.old ≡ 8 }
-    requires as_many { length spectrum.now ≡ 8 }
-    requires spectrum { AreRemainders P spectrum.now }
+    requires as_many { length leaves.now ≡ 16 }
+    requires leaves { AreRemainders P leaves.now }
     requires values { AreRemainders (20 * P) values.old }
     ensures values { AreRemainders (4 * P) values.new }
-    ensures product { (roots : List ℕ) (place : ℕ) (s : ℤ) (a h : List ℤ) → slice_index_or roots place 0 ≡ root.entry → Same (pos P) (pos root.entry *ℤ pos root.entry) s → length a ≡ 8 → length h ≡ 8 → AreSame P values.old a → IsTransform P roots 1 place h spectrum.now → IsProduct P 2 (2 * inverse_of_word P) s a h values.new }
+    ensures product { (roots : List ℕ) (place : ℕ) → slice_index_or roots place 0 ≡ root.entry → MultipliesBy P 1 roots place leaves.now values.old values.new }
 {
     let (low, high) = spread_four(root, load(values, 0), load(values, 4));
-    let front = load(spectrum, 4);
-    let wrapped = reduced_four::<P>(root.times_four(front));
-    let low = multiply_four::<P>(low, front, wrapped);
-    let back = load(spectrum, 0);
-    let wrapped = reduced_four::<P>(root.times_four(back));
-    let high = multiply_four::<P>(high, back, opposite_four::<P, 1>(wrapped));
+    let low = multiply_four::<P>(low, leaves, 8);
+    let high = multiply_four::<P>(high, leaves, 0);
     let (low, high) = gather_four(inverse, low, high);
     put(values, 0, low);
     put(values, 4, high);
@@ -271,20 +268,20 @@ fn multiply_thirty_two<const P: u32>(
     roots: &[Factor<P>],
     inverses: &[Factor<P>],
     place: usize,
-    spectrum: &[u32],
+    leaves: &[u32],
     values: &mut [u32],
 )
     requires modulus { IsModulus P }
-    requires table { length roots.now ≡ 256 }
-    requires beside { length inverses.now ≡ 256 }
+    requires table { length roots.now ≡ 512 }
+    requires beside { length inverses.now ≡ 512 }
     requires are { AreRoots P roots.now inverses.now }
     requires thirty_two { length values.old ≡ 32 }
-    requires as_many { length spectrum.now ≡ 32 }
-    requires place { place < 64 }
-    requires spectrum { AreRemainders P spectrum.now }
+    requires as_many { length leaves.now ≡ 64 }
+    requires place { place < 128 }
+    requires leaves { AreRemainders P leaves.now }
     requires values { AreRemainders (16 * P) values.old }
     ensures values { AreRemainders (4 * P) values.new }
-    ensures product { (s : ℤ) (a h : List ℤ) → Same (pos P) (root_at roots.now place *ℤ root_at roots.now place) s → length a ≡ 32 → length h ≡ 32 → AreSame P values.old a → IsTransform P roots.now 3 place h spectrum.now → IsProduct P 8 (8 * inverse_of_word P) s a h values.new }
+    ensures product { MultipliesBy P 3 roots.now place leaves.now values.old values.new }
 {
     let (low, high) = values.split_at_mut(16);
     let (first, second) = low.split_at_mut(8);
@@ -292,9 +289,9 @@ fn multiply_thirty_two<const P: u32>(
     let left = 2 * place;
     let right = 2 * place + 1;
     spread_quarters(roots, place, first, second, third, fourth);
-    let (front, back) = spectrum.split_at(16);
-    let (one, two) = front.split_at(8);
-    let (three, four) = back.split_at(8);
+    let (front, back) = leaves.split_at(32);
+    let (one, two) = front.split_at(16);
+    let (three, four) = back.split_at(16);
     multiply_eight(roots[2 * left], inverses[2 * left], four, first);
     multiply_eight(roots[2 * left + 1], inverses[2 * left + 1], three, second);
     multiply_eight(roots[2 * right], inverses[2 * right], two, third);
@@ -308,58 +305,59 @@ fn multiply_sixty_four<const P: u32>(
     roots: &[Factor<P>],
     inverses: &[Factor<P>],
     place: usize,
-    spectrum: &[u32],
+    leaves: &[u32],
     values: &mut [u32],
 )
     requires modulus { IsModulus P }
-    requires table { length roots.now ≡ 256 }
-    requires beside { length inverses.now ≡ 256 }
+    requires table { length roots.now ≡ 512 }
+    requires beside { length inverses.now ≡ 512 }
     requires are { AreRoots P roots.now inverses.now }
     requires sixty_four { length values.old ≡ 64 }
-    requires as_many { length spectrum.now ≡ 64 }
-    requires place { place < 32 }
-    requires spectrum { AreRemainders P spectrum.now }
+    requires as_many { length leaves.now ≡ 128 }
+    requires place { place < 64 }
+    requires leaves { AreRemainders P leaves.now }
     requires values { AreRemainders (14 * P) values.old }
     ensures values { AreRemainders (4 * P) values.new }
-    ensures product { (s : ℤ) (a h : List ℤ) → Same (pos P) (root_at roots.now place *ℤ root_at roots.now place) s → length a ≡ 64 → length h ≡ 64 → AreSame P values.old a → IsTransform P roots.now 4 place h spectrum.now → IsProduct P 16 (16 * inverse_of_word P) s a h values.new }
+    ensures product { MultipliesBy P 4 roots.now place leaves.now values.old values.new }
 {
     let (low, high) = values.split_at_mut(32);
     spread(roots[place], low, high);
-    let (front, back) = spectrum.split_at(32);
+    let (front, back) = leaves.split_at(64);
     multiply_thirty_two(roots, inverses, 2 * place, back, low);
     multiply_thirty_two(roots, inverses, 2 * place + 1, front, high);
     gather(inverses[place], low, high);
 }
 
-/// Multiplies 2^levels times four numbers, at least 32, by those whose transform is stored backwards in a spectrum, modulo
-/// x^n - s, where s is the square of the root at a place of the table. The product is over 2^32.
+/// Multiplies 2^levels times four numbers, at least 32, by those whose transform is stored backwards in a spectrum, of which a
+/// table has the leaves, modulo x^n - s, where s is the square of the root at a place of the table of roots. What is written is
+/// 2^levels times the product, divided by 2^32 modulo the prime: times the number that multiplied by 2^32 is 1 modulo it.
 pub(crate) fn multiply<const P: u32>(
     roots: &[Factor<P>],
     inverses: &[Factor<P>],
     levels: usize,
     place: usize,
-    spectrum: &[u32],
+    leaves: &[u32],
     values: &mut [u32],
 )
     requires modulus { IsModulus P }
-    requires table { length roots.now ≡ 256 }
-    requires beside { length inverses.now ≡ 256 }
+    requires table { length roots.now ≡ 512 }
+    requires beside { length inverses.now ≡ 512 }
     requires are { AreRoots P roots.now inverses.now }
     requires levels { 3 ≤ levels }
     requires power { length values.old ≡ 4 * 2 ^ levels }
-    requires as_many { length spectrum.now ≡ length values.old }
-    requires place { (place + 1) * length values.old ≤ 2048 }
-    requires spectrum { AreRemainders P spectrum.now }
+    requires as_many { length leaves.now ≡ 2 * length values.old }
+    requires place { (place + 1) * length values.old ≤ 4096 }
+    requires leaves { AreRemainders P leaves.now }
     requires values { AreRemainders ((22 - 2 * levels) * P) values.old }
     ensures values { AreRemainders (4 * P) values.new }
-    ensures product { (s : ℤ) (a h : List ℤ) → Same (pos P) (root_at roots.now place *ℤ root_at roots.now place) s → length a ≡ length values.old → length h ≡ length values.old → AreSame P values.old a → IsTransform P roots.now levels place h spectrum.now → IsProduct P (2 ^ levels) (2 ^ levels * inverse_of_word P) s a h values.new }
+    ensures product { MultipliesBy P levels roots.now place leaves.now values.old values.new }
 {
     if levels == 3 {
-        multiply_thirty_two(roots, inverses, place, spectrum, values);
+        multiply_thirty_two(roots, inverses, place, leaves, values);
         return;
     }
     if levels == 4 {
-        multiply_sixty_four(roots, inverses, place, spectrum, values);
+        multiply_sixty_four(roots, inverses, place, leaves, values);
         return;
     }
     let half = values.len() / 2;
@@ -369,10 +367,10 @@ pub(crate) fn multiply<const P: u32>(
     let left = 2 * place;
     let right = 2 * place + 1;
     spread_quarters(roots, place, first, second, third, fourth);
-    let (front, back) = spectrum.split_at(half);
-    let (one, two) = front.split_at(half / 2);
-    let (three, four) = back.split_at(half / 2);
-    are_parts::<P>(spectrum, front, back);
+    let (front, back) = leaves.split_at(2 * half);
+    let (one, two) = front.split_at(half);
+    let (three, four) = back.split_at(half);
+    are_parts::<P>(leaves, front, back);
     are_parts::<P>(front, one, two);
     are_parts::<P>(back, three, four);
     is_quarter::<P>(levels, place, 2 * left, first);

@@ -24,7 +24,7 @@ returns-clause-transform g c =
     let mapped = length-map ws f in
     let same : AreSame g.row.P c.deref_mut.result.now h = rw c.deref_mut.ensures.value (λ i lt. rw (padded_at c.args.count (map f ws) i) (c.in_ok-values.ensures.same i lt)) in
     let h_long = length-padded c.args.count (map f ws) (omega (arith, mapped, c.requires.bound)) in
-    let transform : IsTransform g.row.P c.args.roots.now c.args.levels 0 h new = c.forward.ensures.transform h (omega arith) same in
+    let transform : IsTransform g.row.P c.args.roots.now c.args.levels c.args.place h new = c.forward.ensures.transform h (omega arith) same in
     rw all transform
 
 pub forward-requires : goal.forward-requires
@@ -36,8 +36,8 @@ forward-requires g c =
     let old_long = ap length c.deref_mut.ensures.value in
     let long : length old ≡ c.args.count = omega (arith, old_long, was) in
     let power : length old ≡ 4 * 2 ^ levels = omega (arith, long, c.requires.count) in
-    let bound : (0 + 1) * length old ≤ 2048 = omega (arith, long, c.requires.limit) in
-    let limit : levels ≤ 9 = levels_bound levels (length old) 0 power bound in
+    let bound : (c.args.place + 1) * length old ≤ 4096 = rw long c.requires.place in
+    let limit : levels ≤ 10 = levels_bound levels (length old) c.args.place power bound in
     let capacity : 1 * p ≤ (22 - 2 * levels) * p = mul-le 1 p (22 - 2 * levels) p (omega (arith, limit)) (omega arith) in
     let less : AreRemainders p old = rw c.deref_mut.ensures.value c.in_ok-values.ensures.remainders in
     (omega arith, (c.requires.modulus, (c.requires.table, (power, (omega (arith, bound), (λ i lt. omega (arith, capacity, less i lt)))))))

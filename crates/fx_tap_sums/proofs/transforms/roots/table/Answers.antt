@@ -57,7 +57,7 @@ steps-preserved g c =
 pub returns-clause-are : goal.returns-clause-are
 returns-clause-are g c =
     let front = c.steps.invariant.front in
-    let long : length c.steps.roots.items ≡ 256 = search rules in
+    let long : length c.steps.roots.items ≡ 512 = search rules in
     record {
       first = rw front.first (same_refl (pos g.row.P) (pos 1));
       even = λ j lt. front.even j (omega (arith, lt, long));

@@ -1,13 +1,12 @@
-use Rattle.std.proofs.Common.{arith, ◌<◌, ◌≤◌, ◌≡◌, ◌+◌, ◌-◌, ◌*◌, ◌∙◌, ap, refl, ℕ, ℤ, pos, neg_ℤ, ◌*ℤ◌, length, take, drop, slice_index_or}
+use Rattle.std.proofs.Common.{arith, ◌<◌, ◌≤◌, ◌≡◌, ◌+◌, ◌-◌, ◌*◌, ◌^◌, ◌∙◌, ap, refl, ℤ, pos, neg_ℤ, length, take, drop, slice_index_or}
 use Rattle.std.proofs.lemmas.Bool.{cases_lt}
 use Rattle.std.proofs.lemmas.List.{length-take-le, length-drop}
 use mathlib.Core.Logic.{inl, inr}
-use Rattle.fx_tap_sums.specs.Residues.{AreFour, Same, inverse_of_word}
+use Rattle.fx_tap_sums.specs.Residues.{AreFour, inverse_of_word}
 use Rattle.fx_tap_sums.specs.Transform.{combined, root_at}
 use Rattle.fx_tap_sums.proofs.Cyclic.{length-combined}
-use Rattle.fx_tap_sums.proofs.Numbers.{neg-mul}
-use Rattle.fx_tap_sums.proofs.Residues.{same_on, same_negated}
-use Rattle.fx_tap_sums.proofs.Steps.{Halved, halved, both_transforms, one_transform, combined_same, loaded_front, loaded_back, loaded_take, loaded_drop, product_at}
+use Rattle.fx_tap_sums.proofs.Leaves.{first_weights, first_wrapped, second_weights, second_wrapped}
+use Rattle.fx_tap_sums.proofs.Steps.{Halved, halved, both_transforms, one_transform, combined_same, loaded_front, loaded_back, product_at}
 use Rattle.fx_tap_sums.proofs.Writes.{four_loaded}
 use Rattle.fx_tap_sums.proofs.transforms.transform.multiply_eight.Goals as goal
 
@@ -38,18 +37,23 @@ returns-clause-values g c = λ i lt. elim (cases_lt i 4) [
 ]
 
 pub returns-clause-product : goal.returns-clause-product
-returns-clause-product g c = λ roots place s a h root square a_long h_long same transform.
+returns-clause-product g c = λ roots place at_root s a h f square_at a_as_long h_as_long same transform leaves_are.
+    let a_long : length a ≡ 8 = a_as_long ∙ c.requires.eight in
+    let h_long : length h ≡ 8 = h_as_long ∙ c.requires.eight in
+    let last : 2 ^ (1 - 1) * (place + 1) - 1 ≡ place = omega arith in
+    let are = rw last at leaves_are in
     let p = g.row.P in
     let v = c.args.values.now in
-    let f = c.args.spectrum.now in
+    let leaves = c.args.leaves.now in
     let r : ℤ = pos c.args.root in
     let half : Halved 1 8 0 4 = halved 1 8 refl (omega arith) in
-    let root_is : root_at roots place ≡ r = ap pos root in
+    let root_is : root_at roots place ≡ r = ap pos at_root in
+    let square = rw at_root at square_at in
     let parts = rw root_is at (both_transforms p roots 1 8 0 4 place h f half transform) in
     let v_long : 8 ≤ length v = omega (arith, c.requires.eight) in
-    let f_long : 8 ≤ length f = omega (arith, c.requires.as_many) in
-    let front = loaded_drop p f c.load-front.result (combined r (drop 4 h) (take 4 h)) c.load-front.ensures.four f_long c.load-front.ensures.value (one_transform p roots 0 (2 * place) (combined r (drop 4 h) (take 4 h)) (drop 4 f) refl parts.0) in
-    let back = loaded_take p f c.load-back.result (combined (neg_ℤ r) (drop 4 h) (take 4 h)) c.load-back.ensures.four (omega (arith, f_long)) c.load-back.ensures.value (one_transform p roots 0 (2 * place + 1) (combined (neg_ℤ r) (drop 4 h) (take 4 h)) (take 4 f) refl parts.1) in
+    let f_long : 8 ≤ length f = omega (arith, are.long, c.requires.as_many) in
+    let second = one_transform p roots 0 (2 * place) (combined r (drop 4 h) (take 4 h)) (drop 4 f) refl parts.0 in
+    let first = one_transform p roots 0 (2 * place + 1) (combined (neg_ℤ r) (drop 4 h) (take 4 h)) (take 4 f) refl parts.1 in
     let a0 = length-take-le 4 a (omega arith) in
     let a1 = length-drop 4 a in
     let h0 = length-take-le 4 h (omega arith) in
@@ -67,16 +71,8 @@ returns-clause-product g c = λ roots place s a h root square a_long h_long same
     let left_h = length-combined r (drop 4 h) (take 4 h) (omega arith) in
     let right_a = length-combined (neg_ℤ r) (take 4 a) (drop 4 a) (omega arith) in
     let right_h = length-combined (neg_ℤ r) (drop 4 h) (take 4 h) (omega arith) in
-    let opposite : (k : ℕ) → k < 4 → Same (pos p) (pos (slice_index_or c.opposite_four.result k 0)) (neg_ℤ r *ℤ pos (slice_index_or c.load-back.result k 0)) = λ k l.
-    let product : ℤ = r *ℤ pos (slice_index_or c.load-back.result k 0) in
-    let turned = neg-mul r (pos (slice_index_or c.load-back.result k 0)) in
-    let part : ℤ = pos (slice_index_or c.reduced_four-wrapped-2.result k 0) in
-    let same = same_on (pos p) part (pos (slice_index_or c.times_four-2.result k 0)) product (c.reduced_four-wrapped-2.ensures.same k l) (c.times_four-2.ensures.same k l) in
-    rw turned (same_on (pos p) (pos (slice_index_or c.opposite_four.result k 0)) (neg_ℤ part) (neg_ℤ product) (c.opposite_four.ensures.same k l) (same_negated (pos p) part product same)) in
-    let wrapped : (k : ℕ) → k < 4 → Same (pos p) (pos (slice_index_or c.reduced_four-wrapped.result k 0)) (r *ℤ pos (slice_index_or c.load-front.result k 0)) = λ k l.
-    same_on (pos p) (pos (slice_index_or c.reduced_four-wrapped.result k 0)) (pos (slice_index_or c.times_four.result k 0)) (r *ℤ pos (slice_index_or c.load-front.result k 0)) (c.reduced_four-wrapped.ensures.same k l) (c.times_four.ensures.same k l) in
-    let left = c.multiply_four-low.ensures.product r (combined r (take 4 a) (drop 4 a)) (combined r (drop 4 h) (take 4 h)) (omega arith) (omega arith) x front wrapped in
-    let right = c.multiply_four-high.ensures.product (neg_ℤ r) (combined (neg_ℤ r) (take 4 a) (drop 4 a)) (combined (neg_ℤ r) (drop 4 h) (take 4 h)) (omega arith) (omega arith) y back opposite in
+    let left = c.multiply_four-low.ensures.product r (combined r (take 4 a) (drop 4 a)) (combined r (drop 4 h) (take 4 h)) (omega arith) (omega arith) x (record { weights = second_weights p roots place f leaves _ f_long are second; wrapped = second_wrapped p roots place c.args.root f leaves at_root (omega (arith, f_long)) are }) in
+    let right = c.multiply_four-high.ensures.product (neg_ℤ r) (combined (neg_ℤ r) (take 4 a) (drop 4 a)) (combined (neg_ℤ r) (drop 4 h) (take 4 h)) (omega arith) (omega arith) y (record { weights = first_weights p roots place f leaves _ (omega (arith, f_long)) are first; wrapped = first_wrapped p roots place c.args.root f leaves at_root (omega (arith, f_long)) are }) in
     product_at p 4 1 (inverse_of_word p) s r (pos c.args.inverse) a h c.multiply_four-low.result c.multiply_four-high.result c.put-2.new.numbers refl a_long h_long square c.requires.inverse left right
     (λ i lt.
     let first : 0 + i ≡ i = omega arith in
