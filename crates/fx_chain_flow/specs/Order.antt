@@ -1,11 +1,13 @@
 -- The calls of a flow to its stages, in order, and the frames in transit between two of them (this project's profile).
-use Rattle.std.specs.Prelude.{ℕ, suc, ◌+◌, ◌<◌, ◌≤◌, ◌≡◌, true, List, [], ◌∷◌, ◌++◌, drop, length, Some, None, option_to_list}
+use Rattle.std.specs.Prelude.{ℕ, ℤ, suc, ◌+◌, ◌<◌, ◌≤◌, ◌≡◌, true, List, [], ◌∷◌, ◌++◌, cond, drop, length, nat_eq, Option, Some, None, option_to_list}
 use Rattle.fx_frame_base.specs.Early.{PassedWhile}
 use Rattle.fx_frame_base.specs.Frame.{Samples}
 use Rattle.fx_frame_base.specs.Holds.{held_sum, hold_sum, kinds}
+use Rattle.fx_frame_base.specs.Lists.{pieces}
 use Rattle.fx_frame_base.specs.Pipeline.{EachThrough}
+use Rattle.fx_frame_base.specs.declared.feed.Passed.{Passed}
 use Rattle.fx_frame_base.specs.Stage.{Acts}
-use Rattle.fx_chain_flow.specs.Feed.{HoldsBound}
+use Rattle.fx_chain_flow.specs.Feed.{HoldsBound, channels_out}
 use Rattle.fx_chain_flow.specs.StageCall.{StageCall, at_stage, end_to, through_all}
 use Rattle.fx_chain_flow.specs.Parts.{Parts}
 
@@ -65,3 +67,31 @@ module _ {S R : Type 0} (acts : Acts S R) (handed : List S → StageCall → Lis
     went_out : (xs gs transit : List Samples) (place : ℕ) (f : Parts S) → InOrder first xs gs transit place f → place ≡ length f.stages → InOrder first xs (gs ++ transit) [] 0 f
     -- where no frame is in transit, the next call may be to any stage
     any_place : (xs gs : List Samples) (i j : ℕ) (f : Parts S) → InOrder first xs gs [] i f → InOrder first xs gs [] j f
+
+  -- whichever calls led to the old state, in order and with no frame in transit: so are those that led on to the new one
+  abbrev pub StaysInOrder : Parts S → Parts S → Type 0
+  StaysInOrder old new = (first : Parts S) (xs gs : List Samples) → InOrder first xs gs [] 0 old → InOrder first xs gs [] 0 new
+
+  -- the same, where this frame came
+  abbrev pub TakesInOrder : Samples → Parts S → Parts S → Type 0
+  TakesInOrder frame old new = (first : Parts S) (xs gs : List Samples) → InOrder first xs gs [] 0 old → InOrder first (xs ++ frame ∷ []) gs [] 0 new
+
+  -- the same, where these frames went out
+  abbrev pub GivesInOrder : List Samples → Parts S → Parts S → Type 0
+  GivesInOrder out old new = (first : Parts S) (xs gs : List Samples) → InOrder first xs gs [] 0 old → InOrder first xs (gs ++ out) [] 0 new
+
+  -- a flow took frames at the front of the input, and gave those at the front of the output, by calls in order
+  abbrev pub FedInOrder : Parts S → List ℤ → List ℤ → Passed → Parts S → Type 0
+  FedInOrder first input output passed last = InOrder first (pieces first.channels passed.taken input) (pieces (channels_out acts first) passed.given output) [] 0 last
+
+  -- the same, after whichever calls
+  abbrev pub FedOnInOrder : Parts S → List ℤ → List ℤ → Passed → Parts S → Type 0
+  FedOnInOrder old input output passed new =
+      (first : Parts S) (xs gs : List Samples) → InOrder first xs gs [] 0 old
+      → InOrder first (xs ++ pieces old.channels passed.taken input) (gs ++ pieces (channels_out acts old) passed.given output) [] 0 new
+
+  -- From the old stages and the old inlet of a flow to the new ones no frame came, these went out, and those are in transit to the
+  -- stage at a place. Where the move was from the inlet, at place 0, a frame left it.
+  abbrev pub MovedInOrder : ℕ → List S → List S → Option Samples → Option Samples → List Samples → List Samples → ℕ → Type 0
+  MovedInOrder from old new inlet inlet' gs transit place =
+      (f : Parts S) → InOrder (record f { stages = old; inlet = inlet }) [] gs transit place (record f { stages = new; inlet = inlet'; left = f.left + cond (nat_eq from 0) 1 0 })

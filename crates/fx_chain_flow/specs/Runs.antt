@@ -1,5 +1,5 @@
 -- Frames that go through stages in sequence one after another, with no checks between two of them (this project's profile).
-use Rattle.std.specs.Prelude.{ℕ, ℤ, ◌+◌, ◌*◌, ◌<◌, ◌≤◌, ◌≡◌, true, false, None, List, [], drop, length}
+use Rattle.std.specs.Prelude.{ℕ, ℤ, ◌+◌, ◌*◌, ◌<◌, ◌≤◌, ◌≡◌, true, false, Option, Some, None, List, [], ◌∷◌, drop, length, option_to_list, take, if◌then◌else◌}
 use Rattle.fx_frame_base.specs.Frame.{Samples}
 use Rattle.fx_frame_base.specs.Holds.{kinds}
 use Rattle.fx_frame_base.specs.Lists.{pieces}
@@ -14,6 +14,7 @@ use Rattle.fx_chain_flow.specs.Order.{InOrder}
 use Rattle.fx_chain_flow.specs.Parts.{AllDetermined, Parts, ended_of, given_by, moves_of}
 use Rattle.fx_chain_flow.specs.Pipeline.{AllHeld, AllLined}
 use Rattle.fx_chain_flow.specs.Sound.{IsSound, max_frames}
+use Rattle.fx_chain_flow.specs.declared.runs.Passage.{Passage}
 use Rattle.fx_chain_flow.specs.declared.runs.Widths.{Widths}
 
 module _ {S R : Type 0} (acts : Acts S R) where
@@ -39,6 +40,43 @@ module _ {S R : Type 0} (acts : Acts S R) where
     pub each : GivesOneEach old left (length xs)
     pub last : length gs ≡ length xs → 1 ≤ length gs → GaveLast acts (flow_of channels old left) xs gs (flow_of channels new (left + length xs))
 
+  -- the same, however many frames had left the inlet, where so many more may come
+  abbrev pub RanAtAny : ℕ → ℕ → List Samples → List Samples → List S → List S → Type 0
+  RanAtAny channels count xs gs old new = (left : ℕ) → MayRun channels count old left → RanOn channels xs gs old new left
+
+  -- so many frames went past the inlet, and those came out, by calls in order
+  abbrev pub RanInOrder : (List S → StageCall → List S → Type 0) → (List Samples → List Samples → List Samples → S → S → Type 0) → ℕ → ℕ → List Samples → List Samples → List S → List S → Type 0
+  RanInOrder handed passed_while channels count xs gs old new =
+      (left : ℕ) → InOrder acts handed passed_while (flow_of channels old left) xs gs [] 0 (flow_of channels new (left + count))
+
+  -- the same, of frames at the front of the input and the output that have as many channels
+  abbrev pub RanSamplesInOrder : (List S → StageCall → List S → Type 0) → (List Samples → List Samples → List Samples → S → S → Type 0) → ℕ → ℕ → List ℤ → List ℤ → List S → List S → Type 0
+  RanSamplesInOrder handed passed_while channels count input output old new = RanInOrder handed passed_while channels count (pieces channels count input) (pieces channels count output) old new
+
+  -- the frame that came out of the last stage, if one did, where frames of `channels` channels go in; its samples come first in these
+  -- places
+  abbrev pub frame_out : ℕ → List S → Passage → List ℤ → Option Samples
+  frame_out channels stages passage places = if passage.is_given then Some (take (outputs_of channels (kinds acts stages)) places) else None
+
+  -- the frame that comes first in the places before went past the inlet, and that after came out if one did, by calls in order
+  abbrev pub FrameInOrder : (List S → StageCall → List S → Type 0) → (List Samples → List Samples → List Samples → S → S → Type 0) → ℕ → Passage → List ℤ → List ℤ → List S → List S → Type 0
+  FrameInOrder handed passed_while channels passage before after old new =
+      RanInOrder handed passed_while channels 1 (take channels before ∷ []) (option_to_list (frame_out channels old passage after)) old new
+
+  -- `count` frames at the front of the input, whose samples these are, may go through stages in sequence that keep the channels and
+  -- give one for each, and the output has space for as many. A frame has 1 to 16 channels. Each stage has given what is due, holds
+  -- the frames of its line alone, and has not had enough before the last frame.
+  pub record MayRunOneToOne (channels count : ℕ) (samples free : List ℤ) (stages : List S) : Type 0 where
+    pub frame : (1 ≤ channels) × (channels ≤ 16)
+    pub keep : AllKeep channels (kinds acts stages)
+    pub input : count * channels ≤ length samples
+    pub output : count * channels ≤ length free
+    pub may_run : (left : ℕ) × MayRun channels count stages left
+    pub determined : AllDetermined acts stages
+    pub lined : AllLined acts stages
+    pub ahead : AllAhead acts count stages
+    pub one_to_one : AllOneToOne acts count stages
+
   -- `count` frames at the front of the input, whose samples these are, may go through stages in sequence, and the output has
   -- space for as many. A frame has 1 to 16 channels, and the widths are those of the stages. Each stage has given what is due,
   -- holds the frames of its line alone, and has not had enough before the last frame.
@@ -57,11 +95,11 @@ module _ {S R : Type 0} (acts : Acts S R) where
   -- least one where there is any. Those that came out, at most one for each and none without samples, stand at the front of the
   -- output; the rest of it is unchanged.
   pub record RanPipeline (handed : List S → StageCall → List S → Type 0) (passed_while : List Samples → List Samples → List Samples → S → S → Type 0) (widths : Widths) (count : ℕ) (samples before after : List ℤ) (old new : List S) (passed : Passed) : Type 0 where
-    pub ran : (left : ℕ) → MayRun widths.inputs count old left → RanOn widths.inputs (pieces widths.inputs passed.taken samples) (pieces widths.outputs passed.given after) old new left
+    pub ran : RanAtAny widths.inputs count (pieces widths.inputs passed.taken samples) (pieces widths.outputs passed.given after) old new
     pub read : passed.taken ≤ count
     pub written : passed.given ≤ passed.taken
     pub small : passed.given ≤ passed.given * widths.outputs
     pub some : 1 ≤ count → 1 ≤ passed.taken
     pub rest_unchanged : drop (passed.given * widths.outputs) after ≡ drop (passed.given * widths.outputs) before
-    pub order : (left : ℕ) → InOrder acts handed passed_while (flow_of widths.inputs old left) (pieces widths.inputs passed.taken samples) (pieces widths.outputs passed.given after) [] 0 (flow_of widths.inputs new (left + passed.taken))
+    pub order : RanInOrder handed passed_while widths.inputs passed.taken (pieces widths.inputs passed.taken samples) (pieces widths.outputs passed.given after) old new
     pub held : AllHeld acts new

@@ -1,11 +1,15 @@
 -- The calls by which a flow hands frames to its stages and takes them from these (this project's profile).
-use Rattle.std.specs.Prelude.{ℕ, zero, suc, ◌+◌, ◌<◌, ◌≤◌, ◌≡◌, Bool, true, false, List, [], ◌∷◌}
+use Rattle.std.specs.Prelude.{ℕ, ℤ, zero, suc, ◌+◌, ◌<◌, ◌≤◌, ◌≡◌, Bool, true, false, List, [], ◌∷◌}
+use Rattle.fx_frame_base.specs.declared.feed.Passed.{Passed}
 use Rattle.fx_frame_base.specs.declared.feed.Passing.{Passing}
 use Rattle.fx_frame_base.specs.declared.feed.Passing.TheVariants.{Kept, Through, More}
 use Rattle.fx_frame_base.specs.Feed.{IsHeld, IsNoneDue, IsOneToOne, PassedOn, TookAll}
 use Rattle.fx_frame_base.specs.Frame.{Samples}
-use Rattle.fx_frame_base.specs.Pipeline.{EachThrough}
+use Rattle.fx_frame_base.specs.Holds.{kinds}
+use Rattle.fx_frame_base.specs.Lists.{pieces}
+use Rattle.fx_frame_base.specs.Pipeline.{EachThrough, outputs_of}
 use Rattle.fx_frame_base.specs.Stage.{Acts, Ended, Gave, IsDry, IsLined, Took, is_enough, kind, spent}
+use Rattle.fx_chain_flow.specs.Parts.{Matching}
 
 -- one call
 pub data StageCall : Type 0 where
@@ -102,3 +106,13 @@ module _ {S R : Type 0} (acts : Acts S R) where
   -- a stage was passed these frames, gave one of those for each, and holds its line alone
   abbrev pub WasPassedMany : List Samples → List Samples → S → S → Type 0
   WasPassedMany xs ys s s' = EachThrough acts xs ys s s' × IsLined acts s'
+
+  -- a stage was passed `count` frames of `channels` channels, of these samples, and gave those in their place
+  abbrev pub WasPassedSamples : ℕ → ℕ → List ℤ → List ℤ → S → S → Type 0
+  WasPassedSamples channels count before after s s' = WasPassedMany (pieces channels count before) (pieces channels count after) s s'
+
+  -- One call, of these, led the frames at the front of the input through stages in sequence, and those that came out to the front of
+  -- the output. Frames of `channels` channels go in.
+  abbrev pub HandedThrough : (List S → StageCall → List S → Type 0) → List ℤ → List ℤ → Passed → List S → List S → Type 0
+  HandedThrough handed input output passed old new = (channels : ℕ) → Matching channels (kinds acts old)
+      → handed old (through_all (pieces channels passed.taken input) (pieces (outputs_of channels (kinds acts old)) passed.given output)) new

@@ -1,10 +1,10 @@
 -- What a step does to stages in sequence (this project's profile).
-use Rattle.std.specs.Prelude.{ℕ, ◌+◌, ◌≤◌, true, false, List, [], ◌∷◌, ◌++◌, ◌≡◌, ◌⊎◌, length, Option, Some, None, option_to_list}
+use Rattle.std.specs.Prelude.{ℕ, ◌+◌, ◌-◌, ◌≤◌, Bool, true, false, List, [], ◌∷◌, ◌++◌, ◌≡◌, ◌⊎◌, length, map, Option, Some, None, option_to_list}
 use Rattle.fx_frame_base.specs.Frame.{Samples}
 use Rattle.fx_frame_base.specs.Stage.{Acts}
-use Rattle.fx_frame_base.specs.Holds.{recipes, kinds}
-use Rattle.fx_chain_flow.specs.Parts.{Parts, taken_of, work, moves_of, ended_of, through, wholes, AllDry, AllDetermined, AllEnded, IsLastWet, IsFirstOpen, HandedOver, PipelineFed, EndPassed, given_by}
-use Rattle.fx_chain_flow.specs.Composed.{Whole}
+use Rattle.fx_frame_base.specs.Holds.{recipes, kinds, total}
+use Rattle.fx_chain_flow.specs.Parts.{Parts, taken_of, work, moves_of, ended_of, through, wholes, AllDry, AllDetermined, AllEnded, IsLastWet, IsFirstOpen, HandedOver, PipelineFed, EndPassed, given_by, max_of}
+use Rattle.fx_chain_flow.specs.Composed.{Whole, composed, composed_wholes, due_of, enough_for}
 use Rattle.fx_chain_flow.specs.declared.flow.State.{State}
 use Rattle.fx_chain_flow.specs.declared.flow.State.TheVariants.{Hungry, Busy, Done}
 use Rattle.fx_chain_flow.specs.declared.flow.Step.{Step}
@@ -35,6 +35,34 @@ module _ {S R : Type 0} (acts : Acts S R) where
   -- for each stage what it gives in all
   abbrev pub wholes_of : Parts S → List Samples → List Whole
   wholes_of f z = wholes acts f.stages (option_to_list f.inlet ++ z)
+
+  -- the frames that the stages give in all, if no frame comes any more
+  abbrev pub given_in_all : Parts S → ℕ
+  given_in_all f = total (λ (w : Whole). w.given) (wholes_of f [])
+
+  -- for each stage the samples that were clipped in the frames that it gives in all, if no frame comes any more
+  abbrev pub clips_in_all : Parts S → List ℕ
+  clips_in_all f = map (λ (w : Whole). w.clips) (wholes_of f [])
+
+  -- what comes out is what the composed definitions of these stages give
+  abbrev pub RestIsComposed : Parts S → List S → Type 0
+  RestIsComposed f stages = (z : List Samples) → rest_of f z ≡ composed acts.meaning (recipes acts stages) z
+
+  -- and so are the frames and clips of each stage
+  abbrev pub WholesAreComposed : Parts S → List S → Type 0
+  WholesAreComposed f stages = (z : List Samples) → wholes_of f z ≡ composed_wholes acts.meaning (recipes acts stages) z
+
+  -- the last stage has given all frames that are due for those that came
+  abbrev pub GaveDue : Parts S → Type 0
+  GaveDue f = given_by acts f.left f.stages ≡ due_of (kinds acts f.stages) (taken_of f)
+
+  -- the last stage has given no more frames than it may for those that came
+  abbrev pub GivenIsBounded : Parts S → Type 0
+  GivenIsBounded f = given_by acts f.left f.stages ≤ max_of (kinds acts f.stages) (taken_of f)
+
+  -- after the frames that came a stage gives nothing more, whatever input follows
+  abbrev pub has_enough : Parts S → Bool
+  has_enough f = enough_for (kinds acts f.stages) (taken_of f)
 
   -- it waits for a frame or the end
   pub record IsHungry (f : Parts S) : Type 0 where
@@ -110,3 +138,11 @@ module _ {S R : Type 0} (acts : Acts S R) where
   pub data StepsInSequence (first : Parts S) : ℕ → Parts S → Type 0 where
     not_begun : StepsInSequence first 0 first
     one_more : (n : ℕ) (step : Step) (f f' : Parts S) → StepsInSequence first n f → StateIs Busy f → Steps f step f' → StepsInSequence first (n + 1) f'
+
+  -- one step more, after however many
+  abbrev pub StepsOn : Parts S → Parts S → Type 0
+  StepsOn old new = (first : Parts S) (n : ℕ) → StepsInSequence first n old → StepsInSequence first (n + 1) new
+
+  -- no more steps follow in sequence than the remaining work, and one for each stage
+  abbrev pub StepsAreBounded : Parts S → Type 0
+  StepsAreBounded f = (n : ℕ) (last : Parts S) → StepsInSequence f n last → n ≤ work (kinds acts f.stages) (taken_of f) - moves_of acts f + length f.stages

@@ -3,12 +3,14 @@ ghost use Rattle.std.specs.List.{All};
 ghost use Rattle.fx_chain_flow.specs.Frozen.{FreezesFlow, AllMade, AllSound};
 ghost use Rattle.fx_frame_base.specs.Frame.{Samples};
 ghost use Rattle.fx_frame_base.specs.Holds.{recipes, kinds, hold_sum, line_sum, held_sum, capacity_sum, total};
-ghost use Rattle.fx_chain_flow.specs.Feed.{FlowFed, FlowGave, FlowTookWithinSpace, GaveLast};
+ghost use Rattle.fx_chain_flow.specs.Feed.{FlowFedSamples, FlowGaveSamples, FlowPlaced, FlowStopped, FlowTookWithinSpace, GaveLastWhenFull, channels_out, held_of};
 ghost use Rattle.fx_frame_base.specs.Pipeline.{outputs_of};
 ghost use Rattle.fx_frame_base.specs.Lists.{pieces};
 ghost use Rattle.fx_chain_flow.specs.Inlets.{StartsWithInlet};
-ghost use Rattle.fx_chain_flow.specs.Order.{InOrder};
+ghost use Rattle.fx_chain_flow.specs.Order.{FedInOrder, FedOnInOrder, GivesInOrder, StaysInOrder, TakesInOrder};
+ghost use Rattle.fx_chain_flow.specs.Runs.{flow_of};
 ghost use Rattle.fx_chain_flow.specs.Steps.{given_out, step_of};
+ghost use Rattle.fx_chain_flow.specs.Thawing.{MakePlanned, ThawsFlow};
 
 use crate::feed::feed_by_steps;
 use crate::frozen::{
@@ -84,18 +86,17 @@ impl<S: Stage> Model for Flow<S> {
 
 impl<S: Stage> Flow<S> {
     ghost use Rattle.fx_chain_flow.specs.Parts.{Parts, taken_of, moves_of, ended_of, AllNew, AllDetermined, given_by, max_of, work, any_spent};
-    ghost use Rattle.fx_chain_flow.specs.Composed.{due_of, enough_for, composed, composed_wholes};
     ghost use Rattle.fx_chain_flow.specs.Sound.{IsPlanned, IsSound, max_frames};
-    ghost use Rattle.fx_chain_flow.specs.Steps.{StateIs, IsHungry, IsDone, Steps, StepsInSequence, MovedOn, rest_of, wholes_of};
+    ghost use Rattle.fx_chain_flow.specs.Steps.{GaveDue, GivenIsBounded, IsDone, IsHungry, RestIsComposed, StateIs, StepsAreBounded, WholesAreComposed, clips_in_all, given_in_all, has_enough, rest_of};
 
     /// New stages in sequence, which takes frames of `channels` channels.
     pub fn new(stages: Vec<S>, channels: usize) -> Flow<S>
         requires new { AllNew S.acts stages.items }
         requires planned { IsPlanned (kinds S.acts stages.items) channels }
         ensures hungry { IsHungry S.acts result }
-        ensures value { result ≡ record { stages = stages.items; inlet = None; ended = false; left = 0; channels = channels } }
-        ensures rest { (z : List Samples) → rest_of S.acts result z ≡ composed S.acts.meaning (recipes S.acts stages.items) z }
-        ensures whole { (z : List Samples) → wholes_of S.acts result z ≡ composed_wholes S.acts.meaning (recipes S.acts stages.items) z }
+        ensures value { result ≡ flow_of S.acts channels stages.items 0 }
+        ensures rest { RestIsComposed S.acts result stages.items }
+        ensures whole { WholesAreComposed S.acts result stages.items }
         ensures none_given { given_by S.acts result.left result.stages ≡ 0 }
     {
         let wet = wet_end(&stages, stages.len());
@@ -115,9 +116,8 @@ impl<S: Stage> Flow<S> {
     #[inline(always)]
     pub fn state(&self) -> State
         ensures state { StateIs S.acts result self.now }
-        ensures bounded { (n : ℕ) (last : Parts S) → StepsInSequence S.acts self.now n last
-            → n ≤ work (kinds S.acts self.now.stages) (taken_of self.now) - moves_of S.acts self.now + length self.now.stages }
-        ensures due { result ≡ State.Hungry → given_by S.acts self.now.left self.now.stages ≡ due_of (kinds S.acts self.now.stages) (taken_of self.now) }
+        ensures bounded { StepsAreBounded S.acts self.now }
+        ensures due { result ≡ State.Hungry → GaveDue S.acts self.now }
     {
         if self.wet > 0 {
             return State::Busy;
@@ -143,7 +143,7 @@ impl<S: Stage> Flow<S> {
 
     /// The channels of the frames that it gives.
     pub fn out_channels(&self) -> usize
-        ensures { result ≡ outputs_of self.now.channels (kinds S.acts self.now.stages) }
+        ensures { result ≡ channels_out S.acts self.now }
     {
         last_channels(self.channels, &self.stages)
     }
@@ -168,14 +168,14 @@ impl<S: Stage> Flow<S> {
     pub fn moves(&self) -> u64
         ensures value { result ≡ moves_of S.acts self.now }
         ensures within { result ≤ work (kinds S.acts self.now.stages) (taken_of self.now) }
-        ensures done { IsDone S.acts self.now → result ≡ taken_of self.now + total (λ w. w.given) (wholes_of S.acts self.now []) }
+        ensures done { IsDone S.acts self.now → result ≡ taken_of self.now + given_in_all S.acts self.now }
     {
         self.left + given_by_all(&self.stages)
     }
 
     /// How many frames it holds: in the inlet, and in the stages.
     pub fn held(&self) -> u64
-        ensures value { result ≡ length (option_to_list self.now.inlet) + held_sum S.acts self.now.stages }
+        ensures value { result ≡ held_of S.acts self.now }
         ensures within { result ≤ 1 + hold_sum (kinds S.acts self.now.stages) }
     {
         u64::from(self.inlet.is_some()) + held_by(&self.stages)
@@ -194,7 +194,7 @@ impl<S: Stage> Flow<S> {
     pub fn clips(&self, i: usize) -> u64
         requires { i < length self.now.stages }
         ensures value { result ≡ slice_index (map (λ s. (S.acts.counts s).clips) self.now.stages) i }
-        ensures done { IsDone S.acts self.now → result ≡ slice_index (map (λ w. w.clips) (wholes_of S.acts self.now [])) i }
+        ensures done { IsDone S.acts self.now → result ≡ slice_index (clips_in_all S.acts self.now) i }
     {
         let stages = &self.stages;
         stages[i].clips()
@@ -204,7 +204,7 @@ impl<S: Stage> Flow<S> {
     /// still to be given.
     pub fn is_spent(&self) -> bool
         ensures value { result ≡ any_spent S.acts self.now.stages }
-        ensures enough { IsHungry S.acts self.now → result ≡ enough_for (kinds S.acts self.now.stages) (taken_of self.now) }
+        ensures enough { IsHungry S.acts self.now → result ≡ has_enough S.acts self.now }
         ensures same { result ≡ true → (z : List Samples) → rest_of S.acts self.now z ≡ rest_of S.acts self.now [] }
     {
         is_any_spent(&self.stages)
@@ -214,7 +214,7 @@ impl<S: Stage> Flow<S> {
     /// inlet and eight of each stage.
     pub fn freeze(&self, alloc: Global) -> Result<(Vec<WideFrame>, Vec<u64>), AllocError>
         ensures frozen { IfOk result (λ p. FreezesFlow S.acts self.now p.0.items p.1.items) }
-        ensures frames { IfOk result (λ p. length p.0.items ≡ length (option_to_list self.now.inlet) + held_sum S.acts self.now.stages) }
+        ensures frames { IfOk result (λ p. length p.0.items ≡ held_of S.acts self.now) }
         ensures numbers { IfOk result (λ p. length p.1.items ≡ 8 * (length self.now.stages + 1)) }
         ensures sound { OnOk result (IsSound S.acts self.now × AllSound S.sound self.now.stages) }
     {
@@ -242,8 +242,8 @@ impl<S: Stage> Flow<S> {
     /// hungry each has given all that are due.
     pub fn stages(&self) -> &[S]
         ensures value { result.now ≡ self.now.stages }
-        ensures due { IsHungry S.acts self.now → given_by S.acts self.now.left self.now.stages ≡ due_of (kinds S.acts self.now.stages) (taken_of self.now) }
-        ensures maximum { given_by S.acts self.now.left self.now.stages ≤ max_of (kinds S.acts self.now.stages) (taken_of self.now) }
+        ensures due { IsHungry S.acts self.now → GaveDue S.acts self.now }
+        ensures maximum { GivenIsBounded S.acts self.now }
         ensures determined { IsHungry S.acts self.now → AllDetermined S.acts self.now.stages }
         ensures sound { IsSound S.acts self.now }
     {
@@ -268,7 +268,7 @@ impl<S: Stage> Flow<S> {
 impl<S: StageCalls> Flow<S> {
     ghost use Rattle.fx_chain_flow.specs.Parts.{Parts, taken_of};
     ghost use Rattle.fx_chain_flow.specs.Sound.{max_frames};
-    ghost use Rattle.fx_chain_flow.specs.Steps.{IsHungry, MovedOn, StateIs, Steps, StepsInSequence};
+    ghost use Rattle.fx_chain_flow.specs.Steps.{IsHungry, MovedOn, StateIs, Steps, StepsOn};
 
     /// Takes a frame.
     #[inline(always)]
@@ -277,7 +277,7 @@ impl<S: StageCalls> Flow<S> {
         requires channels { length frame ≡ self.old.channels }
         requires bound { taken_of self.old < max_frames }
         ensures value { self.new ≡ record self.old { inlet = Some frame } }
-        ensures order { (first : Parts S) (xs gs : List Samples) → InOrder S.acts S.handed S.passed_while first xs gs [] 0 self.old → InOrder S.acts S.handed S.passed_while first (xs ++ frame ∷ []) gs [] 0 self.new }
+        ensures order { TakesInOrder S.acts S.handed S.passed_while frame self.old self.new }
     {
         let _channels = frame.channels();
         self.inlet = Some(frame);
@@ -287,7 +287,7 @@ impl<S: StageCalls> Flow<S> {
     pub fn end(&mut self)
         requires { IsHungry S.acts self.old }
         ensures value { self.new ≡ record self.old { ended = true } }
-        ensures order { (first : Parts S) (xs gs : List Samples) → InOrder S.acts S.handed S.passed_while first xs gs [] 0 self.old → InOrder S.acts S.handed S.passed_while first xs gs [] 0 self.new }
+        ensures order { StaysInOrder S.acts S.handed S.passed_while self.old self.new }
     {
         self.ended = true;
     }
@@ -299,8 +299,8 @@ impl<S: StageCalls> Flow<S> {
         requires { StateIs S.acts State.Busy self.old }
         ensures steps { Steps S.acts self.old result self.new }
         ensures moved { MovedOn S.acts self.old result self.new }
-        ensures sequence { (first : Parts S) (n : ℕ) → StepsInSequence S.acts first n self.old → StepsInSequence S.acts first (n + 1) self.new }
-        ensures order { (first : Parts S) (xs gs : List Samples) → InOrder S.acts S.handed S.passed_while first xs gs [] 0 self.old → InOrder S.acts S.handed S.passed_while first xs (gs ++ given_out result) [] 0 self.new }
+        ensures sequence { StepsOn S.acts self.old self.new }
+        ensures order { GivesInOrder S.acts S.handed S.passed_while (given_out result) self.old self.new }
     {
         if is_idle(self.wet, &self.inlet) {
             self.wet = pass_on(&mut self.stages);
@@ -331,20 +331,12 @@ impl<S: StageCalls> Flow<S> {
     pub fn feed(&mut self, input: &[i32], output: &mut [i32]) -> Passed
         requires channels { (1 ≤ self.old.channels) × (self.old.channels ≤ 16) }
         requires bound { (n : ℕ) → n * self.old.channels ≤ length input.now → taken_of self.old + n ≤ max_frames }
-        ensures fed { FlowFed S.acts self.old (pieces self.old.channels result.taken input.now) (pieces (outputs_of self.old.channels (kinds S.acts self.old.stages)) result.given output.new) self.new }
-        ensures gave { FlowGave S.acts self.old (pieces self.old.channels result.taken input.now) (pieces (outputs_of self.old.channels (kinds S.acts self.old.stages)) result.given output.new) self.new }
-        ensures read { result.taken * self.old.channels ≤ length input.now }
-        ensures written { result.given * outputs_of self.old.channels (kinds S.acts self.old.stages) ≤ length output.new }
-        ensures rest_unchanged { drop (result.given * outputs_of self.old.channels (kinds S.acts self.old.stages)) output.new ≡ drop (result.given * outputs_of self.old.channels (kinds S.acts self.old.stages)) output.old }
-        ensures waits { let outputs = outputs_of self.old.channels (kinds S.acts self.old.stages) in result.given * outputs + outputs ≤ length output.new → StateIs S.acts State.Busy self.new → ⊥ }
-        ensures used { let outputs = outputs_of self.old.channels (kinds S.acts self.old.stages) in result.given * outputs + outputs ≤ length output.new → self.new.ended ≡ false → any_spent S.acts self.new.stages ≡ false
-            → length input.now < result.taken * self.old.channels + self.old.channels }
+        ensures fed { FlowFedSamples S.acts self.old input.now output.new result self.new }
+        ensures gave { FlowGaveSamples S.acts self.old input.now output.new result self.new }
+        ensures placed { FlowPlaced S.acts self.old input.now output.old output.new result }
+        ensures stopped { FlowStopped S.acts self.old input.now output.old output.new result self.new }
         ensures free { FlowTookWithinSpace S.acts self.old result.taken (length output.old) }
-        ensures unchanged { length output.old < outputs_of self.old.channels (kinds S.acts self.old.stages) → self.new ≡ self.old }
-        ensures full { let outputs = outputs_of self.old.channels (kinds S.acts self.old.stages) in 1 ≤ result.given → length output.old < result.given * outputs + outputs
-            → GaveLast S.acts self.old (pieces self.old.channels result.taken input.now) (pieces outputs result.given output.new) self.new }
-        ensures order { (first : Parts S) (xs gs : List Samples) → InOrder S.acts S.handed S.passed_while first xs gs [] 0 self.old
-            → InOrder S.acts S.handed S.passed_while first (xs ++ pieces self.old.channels result.taken input.now) (gs ++ pieces (outputs_of self.old.channels (kinds S.acts self.old.stages)) result.given output.new) [] 0 self.new }
+        ensures order { FedOnInOrder S.acts S.handed S.passed_while self.old input.now output.new result self.new }
     {
         if self.inlet.is_some() || self.ended {
             return feed_by_steps(self, input, output);
@@ -378,7 +370,7 @@ impl<S: StageCalls> Flow<S> {
     /// The channels of the frames that it takes and gives, and whether each stage gives as many as it takes.
     pub(crate) fn widths(&self) -> Widths
         ensures inputs { result.inputs ≡ self.now.channels }
-        ensures outputs { result.outputs ≡ outputs_of self.now.channels (kinds S.acts self.now.stages) }
+        ensures outputs { result.outputs ≡ channels_out S.acts self.now }
         ensures keep { result.keeps ≡ true → AllKeep self.now.channels (kinds S.acts self.now.stages) }
     {
         Widths {
@@ -396,22 +388,19 @@ impl<S: StageCalls> Flow<S> {
         requires channels { (1 ≤ self.old.channels) × (self.old.channels ≤ 16) }
         requires bound { (n : ℕ) → n * self.old.channels ≤ length input.now → taken_of self.old + n ≤ max_frames }
         requires inputs { widths.inputs ≡ self.old.channels }
-        requires outputs { widths.outputs ≡ outputs_of self.old.channels (kinds S.acts self.old.stages) }
+        requires outputs { widths.outputs ≡ channels_out S.acts self.old }
         requires keep { widths.keeps ≡ true → AllKeep self.old.channels (kinds S.acts self.old.stages) }
         requires one_in { self.old.channels ≤ length input.now }
         requires one_out { widths.outputs ≤ length output.old }
-        ensures fed { FlowFed S.acts self.old (pieces self.old.channels result.taken input.now) (pieces (outputs_of self.old.channels (kinds S.acts self.old.stages)) result.given output.new) self.new }
-        ensures gave { FlowGave S.acts self.old (pieces self.old.channels result.taken input.now) (pieces (outputs_of self.old.channels (kinds S.acts self.old.stages)) result.given output.new) self.new }
-        ensures read { result.taken * self.old.channels ≤ length input.now }
-        ensures written { result.given * outputs_of self.old.channels (kinds S.acts self.old.stages) ≤ length output.new }
-        ensures small { result.given ≤ result.given * outputs_of self.old.channels (kinds S.acts self.old.stages) }
-        ensures rest_unchanged { drop (result.given * outputs_of self.old.channels (kinds S.acts self.old.stages)) output.new ≡ drop (result.given * outputs_of self.old.channels (kinds S.acts self.old.stages)) output.old }
+        ensures fed { FlowFedSamples S.acts self.old input.now output.new result self.new }
+        ensures gave { FlowGaveSamples S.acts self.old input.now output.new result self.new }
+        ensures placed { FlowPlaced S.acts self.old input.now output.old output.new result }
+        ensures small { result.given ≤ result.given * channels_out S.acts self.old }
         ensures moves { moves_of S.acts self.old + ended_of S.acts self.old.stages ≤ moves_of S.acts self.new + ended_of S.acts self.new.stages }
         ensures some { 1 ≤ result.taken }
         ensures free { FlowTookWithinSpace S.acts self.old result.taken (length output.old) }
-        ensures full { let outputs = outputs_of self.old.channels (kinds S.acts self.old.stages) in 1 ≤ result.given → length output.old < result.given * outputs + outputs
-            → GaveLast S.acts self.old (pieces self.old.channels result.taken input.now) (pieces outputs result.given output.new) self.new }
-        ensures order { InOrder S.acts S.handed S.passed_while self.old (pieces self.old.channels result.taken input.now) (pieces (outputs_of self.old.channels (kinds S.acts self.old.stages)) result.given output.new) [] 0 self.new }
+        ensures full { GaveLastWhenFull S.acts self.old input.now output.new (length output.old) result self.new }
+        ensures order { FedInOrder S.acts S.handed S.passed_while self.old input.now output.new result self.new }
     {
         let maximum = (input.len() / widths.inputs).min(output.len() / widths.outputs.max(1));
         let count = min_ahead(&self.stages, maximum).max(1);
@@ -439,12 +428,12 @@ impl<S: Thaws + Drop> Flow<S> {
         numbers: &[u64],
     ) -> Result<Flow<S>, ThawFault>
         requires fits { All S.fits arguments.now }
-        requires planned { (stages : List S) → AllMade S.made arguments.now stages → IsPlanned (kinds S.acts stages) channels }
+        requires planned { MakePlanned S.acts S.made arguments.now channels }
         ensures made { IfOk result (λ t. AllMade S.made arguments.now t.stages × (t.channels ≡ channels)) }
         ensures frozen { IfOk result (λ t. FreezesFlow S.acts t frames.now numbers.now) }
         ensures named { (result ≡ Err ThawFault.WrongPlan) → ⊥ }
         ensures memory { result ≡ Err ThawFault.Memory → StartsWithInlet channels frames.now numbers.now }
-        ensures thawed { (f : Parts S) → IsSound S.acts f → AllSound S.sound f.stages → AllMade S.made arguments.now f.stages → f.channels ≡ channels → FreezesFlow S.acts f frames.now numbers.now → MatchResult result (λ t. t ≡ f) (λ e. e ≡ ThawFault.Memory) }
+        ensures thawed { ThawsFlow S.acts S.sound S.made arguments.now channels frames.now numbers.now result }
     {
         let Some((state_counters, rest)) = numbers.split_first_chunk::<8>() else {
             return Err(ThawFault::BadSnapshot);

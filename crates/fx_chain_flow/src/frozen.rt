@@ -3,6 +3,7 @@ ghost use Rattle.std.specs.List.{All};
 ghost use Rattle.fx_chain_flow.specs.Parts.{Joined};
 ghost use Rattle.fx_chain_flow.specs.Frozen.{stored_all, numbers_all, AllMade, AllSound};
 ghost use Rattle.fx_chain_flow.specs.Inlets.{IsInlet};
+ghost use Rattle.fx_chain_flow.specs.Thawing.{UnlessMemory, WhereStored};
 ghost use Rattle.fx_chain_flow.specs.declared.frozen.Inlet.{Inlet};
 
 use crate::flow::MAX_FRAMES;
@@ -16,7 +17,7 @@ use std::alloc::{AllocError, Global};
 pub const HELD: usize = 4;
 
 /// Appends the numbers of all stages, eight for each.
-pub fn append_numbers<S: Stage>(stages: &[S], out: &mut Vec<u64>) -> Result<(), AllocError>
+pub(crate) fn append_numbers<S: Stage>(stages: &[S], out: &mut Vec<u64>) -> Result<(), AllocError>
     ensures numbers { OnOk result (out.new.items ≡ out.old.items ++ numbers_all S.acts stages.now) }
     ensures sound { OnOk result (AllSound S.sound stages.now) }
 {
@@ -27,7 +28,10 @@ pub fn append_numbers<S: Stage>(stages: &[S], out: &mut Vec<u64>) -> Result<(), 
 }
 
 /// Appends the frames that all stages store.
-pub fn append_frames<S: Stage>(stages: &[S], out: &mut Vec<WideFrame>) -> Result<(), AllocError>
+pub(crate) fn append_frames<S: Stage>(
+    stages: &[S],
+    out: &mut Vec<WideFrame>,
+) -> Result<(), AllocError>
     ensures { OnOk result (out.new.items ≡ out.old.items ++ stored_all S.acts stages.now) }
 {
     'stages: for stage in stages {
@@ -47,7 +51,10 @@ fn append_stored<S: Stage>(stage: &S, out: &mut Vec<WideFrame>) -> Result<(), Al
 }
 
 /// Appends the frame of an inlet, if there is one.
-pub fn append_inlet(inlet: &Option<Frame>, out: &mut Vec<WideFrame>) -> Result<(), AllocError>
+pub(crate) fn append_inlet(
+    inlet: &Option<Frame>,
+    out: &mut Vec<WideFrame>,
+) -> Result<(), AllocError>
     ensures { OnOk result (out.new.items ≡ out.old.items ++ option_to_list inlet.now) }
 {
     if let Some(frame) = *inlet {
@@ -68,7 +75,7 @@ pub struct Inlet {
 
 /// The inlet of `channels` channels that stored these frames and counted these numbers. BadSnapshot where
 /// there is none.
-pub fn thaw_inlet(
+pub(crate) fn thaw_inlet(
     frames: &[WideFrame],
     numbers: &[u64; 8],
     channels: usize,
@@ -94,7 +101,7 @@ pub fn thaw_inlet(
 }
 
 /// Whether each stage has taken what the one before gave, and is ended only where that is ended and dry.
-pub fn is_joined<S: Stage>(stages: &[S], left: u64, ended: bool) -> bool
+pub(crate) fn is_joined<S: Stage>(stages: &[S], left: u64, ended: bool) -> bool
     ensures { result ≡ true ↔ Joined S.acts left ended stages.now }
 {
     let mut given = left;
@@ -113,7 +120,7 @@ pub fn is_joined<S: Stage>(stages: &[S], left: u64, ended: bool) -> bool
 
 /// The stages of these arguments that stored these frames and counted these numbers. BadSnapshot where
 /// there are none, Memory where an allocation was refused.
-pub fn thaw_all<S: Thaws + Drop>(
+pub(crate) fn thaw_all<S: Thaws + Drop>(
     alloc: Global,
     arguments: &[S::Arguments],
     frames: &[WideFrame],
@@ -124,7 +131,7 @@ pub fn thaw_all<S: Thaws + Drop>(
     ensures stored { IfOk result (λ ts. frames.now ≡ stored_all S.acts ts.items) }
     ensures counted { IfOk result (λ ts. numbers.now ≡ numbers_all S.acts ts.items) }
     ensures named { (result ≡ Err ThawFault.WrongPlan) → ⊥ }
-    ensures thawed { (stages : List S) → AllSound S.sound stages → AllMade S.made arguments.now stages → frames.now ≡ stored_all S.acts stages → numbers.now ≡ numbers_all S.acts stages → MatchResult result (λ ts. ts.items ≡ stages) (λ e. e ≡ ThawFault.Memory) }
+    ensures thawed { WhereStored S.acts S.sound S.made arguments.now frames.now numbers.now (λ s. UnlessMemory result (λ ts. ts.items ≡ s)) }
 {
     let mut out = Vec::new(alloc);
     let mut later = frames;

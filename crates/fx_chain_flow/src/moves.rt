@@ -1,6 +1,6 @@
-ghost use Rattle.std.specs.Prelude.{◌≡◌, ◌<◌, ◌≤◌, ◌+◌, ◌↔◌, ◌^◌, ℕ, [], ◌∷◌, true, Some, None, cond, drop, length, nat_eq, option_to_list, MatchOption, List};
+ghost use Rattle.std.specs.Prelude.{◌≡◌, ◌<◌, ◌≤◌, ◌+◌, ◌↔◌, ◌^◌, ℕ, [], ◌∷◌, true, None, drop, length, option_to_list, MatchOption, List};
 ghost use Rattle.fx_frame_base.specs.Frame.{Samples};
-ghost use Rattle.fx_chain_flow.specs.Order.{InOrder};
+ghost use Rattle.fx_chain_flow.specs.Order.{InOrder, MovedInOrder};
 ghost use Rattle.fx_chain_flow.specs.Parts.{Parts, AllDetermined, AllEnded, IsWetEnd, IsFirstOpen, EndPassed, any_spent, given_by, given_of, through};
 ghost use Rattle.fx_frame_base.specs.Pipeline.{outputs_of};
 ghost use Rattle.fx_chain_flow.specs.Moving.{CanMove, Lifted, MovedFrom};
@@ -13,7 +13,7 @@ use fx_frame_base::stage::Stage;
 
 /// One place after the last stage that is not dry, or 0 where all are dry. From that place on all are dry.
 #[inline(always)]
-pub fn wet_end<S: Stage>(stages: &[S], from: usize) -> usize
+pub(crate) fn wet_end<S: Stage>(stages: &[S], from: usize) -> usize
     requires within { from ≤ length stages.now }
     requires dry { AllDetermined S.acts (drop from stages.now) }
     requires lined { AllLined S.acts (drop from stages.now) }
@@ -38,8 +38,7 @@ fn lift<S: StageCalls>(stages: &mut [S], inlet: &mut Option<Frame>, place: usize
     ensures lifted { Lifted S.acts place inlet.old inlet.new result stages.old stages.new }
     ensures held { AllHeld S.acts stages.new }
     ensures lined { AllLined S.acts (drop place stages.new) }
-    ensures order { (f : Parts S) → InOrder S.acts S.handed S.passed_while (record f { stages = stages.old; inlet = inlet.old }) [] [] (result ∷ []) place
-        (record f { stages = stages.new; inlet = inlet.new; left = f.left + cond (nat_eq place 0) 1 0 }) }
+    ensures order { MovedInOrder S.acts S.handed S.passed_while place stages.old stages.new inlet.old inlet.new [] (result ∷ []) place }
 {
     if place == 0 {
         let Some(frame) = inlet.take() else {
@@ -53,7 +52,7 @@ fn lift<S: StageCalls>(stages: &mut [S], inlet: &mut Option<Frame>, place: usize
 /// Moves a frame from the stage before a place, or from the inlet before all, to the stage at the
 /// place, or out where there is none.
 #[inline(always)]
-pub fn move_on<S: StageCalls>(
+pub(crate) fn move_on<S: StageCalls>(
     stages: &mut [S],
     inlet: &mut Option<Frame>,
     place: usize,
@@ -64,8 +63,7 @@ pub fn move_on<S: StageCalls>(
     ensures moved { MovedFrom S.acts place inlet.old inlet.new result stages.old stages.new }
     ensures held { AllHeld S.acts stages.new }
     ensures lined { AllLined S.acts (drop (place + 1) stages.new) }
-    ensures order { (f : Parts S) → InOrder S.acts S.handed S.passed_while (record f { stages = stages.old; inlet = inlet.old }) [] (option_to_list result) [] 0
-        (record f { stages = stages.new; inlet = inlet.new; left = f.left + cond (nat_eq place 0) 1 0 }) }
+    ensures order { MovedInOrder S.acts S.handed S.passed_while place stages.old stages.new inlet.old inlet.new (option_to_list result) [] 0 }
 {
     let frame = lift(stages, inlet, place);
     let count = stages.len();
@@ -77,7 +75,7 @@ pub fn move_on<S: StageCalls>(
 }
 
 /// The first stage that is not ended.
-pub fn first_open<S: Stage>(stages: &[S]) -> Option<usize>
+pub(crate) fn first_open<S: Stage>(stages: &[S]) -> Option<usize>
     ensures { MatchOption result (AllEnded S.acts stages.now) (λ i. IsFirstOpen S.acts i stages.now) }
 {
     'stages: for i in 0..stages.len() {
@@ -93,7 +91,7 @@ pub fn first_open<S: Stage>(stages: &[S]) -> Option<usize>
 /// or 0 where all are dry.
 #[cold]
 #[inline(never)]
-pub fn pass_on<S: StageCalls>(stages: &mut [S]) -> usize
+pub(crate) fn pass_on<S: StageCalls>(stages: &mut [S]) -> usize
     requires dry { AllDetermined S.acts stages.old }
     requires open { AllEnded S.acts stages.old → ⊥ }
     requires held { AllHeld S.acts stages.old }
@@ -113,14 +111,14 @@ pub fn pass_on<S: StageCalls>(stages: &mut [S]) -> usize
 
 /// Whether nothing is to be moved, neither from a stage nor from the inlet.
 #[inline(always)]
-pub fn is_idle(wet: usize, inlet: &Option<Frame>) -> bool
+pub(crate) fn is_idle(wet: usize, inlet: &Option<Frame>) -> bool
     ensures { result ≡ true ↔ ((wet ≡ 0) × (inlet.now ≡ None)) }
 {
     wet == 0 && inlet.is_none()
 }
 
 /// How many frames the stages gave.
-pub fn given_by_all<S: Stage>(stages: &[S]) -> u64
+pub(crate) fn given_by_all<S: Stage>(stages: &[S]) -> u64
     requires { given_of S.acts stages.now < 2 ^ 64 }
     ensures { result ≡ given_of S.acts stages.now }
 {
@@ -132,7 +130,7 @@ pub fn given_by_all<S: Stage>(stages: &[S]) -> u64
 }
 
 /// How many frames the last stage gave; without a stage those that left the inlet.
-pub fn given_by_last<S: Stage>(left: u64, stages: &[S]) -> u64
+pub(crate) fn given_by_last<S: Stage>(left: u64, stages: &[S]) -> u64
     ensures { result ≡ given_by S.acts left stages.now }
 {
     let mut given = left;
@@ -145,7 +143,7 @@ pub fn given_by_last<S: Stage>(left: u64, stages: &[S]) -> u64
 }
 
 /// Whether some stage gives nothing more, whatever input follows. Then the output of the last one does not depend on it.
-pub fn is_any_spent<S: Stage>(stages: &[S]) -> bool
+pub(crate) fn is_any_spent<S: Stage>(stages: &[S]) -> bool
     ensures value { result ≡ any_spent S.acts stages.now }
     ensures same { result ≡ true → (x y : List Samples) → through S.acts stages.now x ≡ through S.acts stages.now y }
 {
@@ -159,7 +157,7 @@ pub fn is_any_spent<S: Stage>(stages: &[S]) -> bool
 }
 
 /// The channels of the frames that the last stage gives; without a stage of those that come.
-pub fn last_channels<S: Stage>(channels: usize, stages: &[S]) -> usize
+pub(crate) fn last_channels<S: Stage>(channels: usize, stages: &[S]) -> usize
     ensures { result ≡ outputs_of channels (kinds S.acts stages.now) }
 {
     let mut last = channels;
@@ -172,7 +170,7 @@ pub fn last_channels<S: Stage>(channels: usize, stages: &[S]) -> usize
 }
 
 /// Shows that dry stages hold only the frames of their lines.
-pub fn see_lined<S: Stage>(stages: &[S])
+pub(crate) fn see_lined<S: Stage>(stages: &[S])
     requires { AllDetermined S.acts stages.now }
     ensures { AllLined S.acts stages.now }
 {
@@ -182,7 +180,7 @@ pub fn see_lined<S: Stage>(stages: &[S])
 }
 
 /// Shows that stages hold no more than they may.
-pub fn see_held<S: Stage>(stages: &[S])
+pub(crate) fn see_held<S: Stage>(stages: &[S])
     ensures { AllHeld S.acts stages.now }
 {
     'stages: for place in (0..stages.len()).rev() {

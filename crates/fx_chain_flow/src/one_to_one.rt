@@ -1,19 +1,17 @@
 //! Frames that go through stages a few at a time, as long as each stage gives one frame for each that it takes.
-ghost use Rattle.std.specs.Prelude.{◌≡◌, ◌+◌, ◌*◌, ◌≤◌, ℕ, [], drop, length};
+ghost use Rattle.std.specs.Prelude.{◌≡◌, ◌+◌, ◌*◌, ◌≤◌, ℕ, drop, length};
 ghost use Rattle.fx_frame_base.specs.Holds.{held_sum, hold_sum, kinds};
 ghost use Rattle.fx_frame_base.specs.Lists.{pieces};
 ghost use Rattle.fx_frame_base.specs.Pipeline.{AreReady, PipelineThrough};
-ghost use Rattle.fx_chain_flow.specs.Order.{InOrder};
-ghost use Rattle.fx_chain_flow.specs.Parts.{AllDetermined};
 ghost use Rattle.fx_chain_flow.specs.Pipeline.{AllLined};
-ghost use Rattle.fx_chain_flow.specs.Runs.{AllAhead, AllKeep, AllOneToOne, MayRun, RanOn, flow_of};
+ghost use Rattle.fx_chain_flow.specs.Runs.{AllAhead, AllKeep, AllOneToOne, MayRunOneToOne, RanAtAny, RanSamplesInOrder};
 
 use crate::stage_calls::StageCalls;
 use fx_frame_base::Feeds;
 use fx_frame_base::feed::see_samples;
 
 /// For how many frames more, at most `maximum`, each stage gives one for each.
-pub fn min_one_to_one<S: Feeds>(stages: &[S], maximum: usize) -> usize
+pub(crate) fn min_one_to_one<S: Feeds>(stages: &[S], maximum: usize) -> usize
     ensures maximum { result ≤ maximum }
     ensures one_to_one { AllOneToOne S.acts result stages.now }
 {
@@ -48,7 +46,7 @@ fn pass_batch<S: StageCalls>(
     ensures through { PipelineThrough S.acts (pieces channels count input.now) (pieces channels count output.new) stages.old stages.new }
     ensures lined { AllLined S.acts stages.new }
     ensures within { held_sum S.acts stages.new + count ≤ 1 + hold_sum (kinds S.acts stages.new) }
-    ensures order { (left : ℕ) → InOrder S.acts S.handed S.passed_while (flow_of S.acts channels stages.old left) (pieces channels count input.now) (pieces channels count output.new) [] 0 (flow_of S.acts channels stages.new (left + count)) }
+    ensures order { RanSamplesInOrder S.acts S.handed S.passed_while channels count input.now output.new stages.old stages.new }
 {
     output.copy_from_slice(input);
     'stages: for place in 0..stages.len() {
@@ -62,26 +60,18 @@ fn pass_batch<S: StageCalls>(
 /// They go a few at a time, all of them through a stage before the first goes through the next: as many as the inlet and the
 /// stages can hold as pending frames together, so that with the frames of the lines there are never more than the flow may
 /// hold.
-pub fn run_one_to_one<S: StageCalls>(
+pub(crate) fn run_one_to_one<S: StageCalls>(
     stages: &mut [S],
     channels: usize,
     count: usize,
     input: &[i32],
     output: &mut [i32],
 )
-    requires frame { (1 ≤ channels) × (channels ≤ 16) }
-    requires keep { AllKeep channels (kinds S.acts stages.old) }
-    requires input { count * channels ≤ length input.now }
-    requires output { count * channels ≤ length output.old }
-    requires may_run { (left : ℕ) × MayRun S.acts channels count stages.old left }
-    requires determined { AllDetermined S.acts stages.old }
-    requires lined { AllLined S.acts stages.old }
-    requires ahead { AllAhead S.acts count stages.old }
-    requires one_to_one { AllOneToOne S.acts count stages.old }
-    ensures ran { (left : ℕ) → MayRun S.acts channels count stages.old left → RanOn S.acts channels (pieces channels count input.now) (pieces channels count output.new) stages.old stages.new left }
+    requires { MayRunOneToOne S.acts channels count input.now output.old stages.old }
+    ensures ran { RanAtAny S.acts channels count (pieces channels count input.now) (pieces channels count output.new) stages.old stages.new }
     ensures rest_unchanged { drop (count * channels) output.new ≡ drop (count * channels) output.old }
     ensures lined { AllLined S.acts stages.new }
-    ensures order { (left : ℕ) → InOrder S.acts S.handed S.passed_while (flow_of S.acts channels stages.old left) (pieces channels count input.now) (pieces channels count output.new) [] 0 (flow_of S.acts channels stages.new (left + count)) }
+    ensures order { RanSamplesInOrder S.acts S.handed S.passed_while channels count input.now output.new stages.old stages.new }
 {
     see_samples(&input[..count * channels]);
     let bound = stages.len().saturating_add(1);

@@ -1,5 +1,5 @@
 //! Frames that go through stages one after another, with no checks between two of them.
-ghost use Rattle.std.specs.Prelude.{◌≡◌, ◌<◌, ◌≤◌, ◌+◌, ◌*◌, ℕ, FitsSigned, Some, None, [], ◌∷◌, true, false, option_to_list, drop, length, take, if◌then◌else◌};
+ghost use Rattle.std.specs.Prelude.{◌≡◌, ◌<◌, ◌≤◌, ◌+◌, ◌*◌, ℕ, FitsSigned, true, false, drop, length, take};
 ghost use Rattle.std.specs.Int.{w32};
 ghost use Rattle.std.specs.List.{All};
 ghost use Rattle.fx_frame_base.specs.Feed.{IsNoneDue};
@@ -8,9 +8,9 @@ ghost use Rattle.fx_frame_base.specs.Pipeline.{AllOneToOne, AreReady, PipelineTh
 ghost use Rattle.fx_frame_base.specs.Stage.{kind};
 ghost use Rattle.fx_chain_flow.specs.Parts.{AllDetermined};
 ghost use Rattle.fx_chain_flow.specs.Pipeline.{AllHeld, AllLined, WentThrough};
-ghost use Rattle.fx_chain_flow.specs.Order.{InOrder, WentEarly};
+ghost use Rattle.fx_chain_flow.specs.Order.{WentEarly};
 ghost use Rattle.fx_chain_flow.specs.StageCall.{At};
-ghost use Rattle.fx_chain_flow.specs.Runs.{AllAhead, AllKeep, MayRunPipeline, RanPipeline, flow_of};
+ghost use Rattle.fx_chain_flow.specs.Runs.{AllAhead, AllKeep, FrameInOrder, MayRunPipeline, RanPipeline, frame_out};
 ghost use Rattle.fx_frame_base.specs.Holds.{kinds};
 
 use crate::one_to_one::{min_one_to_one, run_one_to_one};
@@ -30,7 +30,7 @@ pub struct Passage {
 }
 
 /// Whether each stage gives frames of `channels` channels.
-pub fn keeps_channels<S: Stage>(stages: &[S], channels: usize) -> bool
+pub(crate) fn keeps_channels<S: Stage>(stages: &[S], channels: usize) -> bool
     ensures { result ≡ true → AllKeep channels (kinds S.acts stages.now) }
 {
     'stages: for place in (0..stages.len()).rev() {
@@ -42,7 +42,7 @@ pub fn keeps_channels<S: Stage>(stages: &[S], channels: usize) -> bool
 }
 
 /// For how many frames more, at most `maximum`, no stage has had enough.
-pub fn min_ahead<S: Feeds>(stages: &[S], maximum: usize) -> usize
+pub(crate) fn min_ahead<S: Feeds>(stages: &[S], maximum: usize) -> usize
     ensures maximum { result ≤ maximum }
     ensures ahead { AllAhead S.acts result stages.now }
 {
@@ -93,11 +93,10 @@ fn pass_along<S: StageCalls>(
     requires keep { keeps ≡ true → AllKeep channels (kinds S.acts stages.old) }
     requires determined { AllDetermined S.acts stages.old }
     requires held { AllHeld S.acts stages.old }
-    ensures went { WentThrough S.acts (take channels places.old) (if result.is_given then Some (take (outputs_of channels (kinds S.acts stages.old)) places.new) else None) stages.old stages.new }
+    ensures went { WentThrough S.acts (take channels places.old) (frame_out S.acts channels stages.old result places.new) stages.old stages.new }
     ensures frame { result.is_given ≡ true → (1 ≤ outputs_of channels (kinds S.acts stages.old)) × (outputs_of channels (kinds S.acts stages.old) ≤ 16) }
     ensures determined { result.is_wet ≡ false → AllDetermined S.acts stages.new }
-    ensures order { (left : ℕ) → InOrder S.acts S.handed S.passed_while (flow_of S.acts channels stages.old left) (take channels places.old ∷ [])
-        (option_to_list (if result.is_given then Some (take (outputs_of channels (kinds S.acts stages.old)) places.new) else None)) [] 0 (flow_of S.acts channels stages.new (left + 1)) }
+    ensures order { FrameInOrder S.acts S.handed S.passed_while channels result places.old places.new stages.old stages.new }
 {
     let mut is_wet = false;
     let mut width = channels;
@@ -292,7 +291,7 @@ fn run_apart<S: StageCalls>(
 
 /// Passes `count` frames at the front of the input through stages that are dry: in one call for all of them where they have one
 /// for exactly this sequence of effects, else as `run_apart`.
-pub fn run<S: StageCalls>(
+pub(crate) fn run<S: StageCalls>(
     stages: &mut [S],
     widths: Widths,
     count: usize,

@@ -3,8 +3,7 @@ ghost use Rattle.std.specs.Prelude.{ℕ, List, [], ◌∷◌, ◌≡◌, ◌<◌
 ghost use Rattle.std.specs.Int.{w32};
 ghost use Rattle.std.specs.List.{All};
 ghost use Rattle.fx_chain_flow.specs.Feed.{CanFeedOnly, FedOnly};
-ghost use Rattle.fx_chain_flow.specs.StageCall.{At, ChangedAt, EndedWithin, GaveWithin, StageCall, MayEnd, MayGive, MayBePassed, MayBePassedMany, MayTake, MayTakeMany, TookMany, TookWithin, WasPassed, WasPassedMany, at_stage, end_to, given_on, through_all};
-ghost use Rattle.fx_chain_flow.specs.Parts.{Matching};
+ghost use Rattle.fx_chain_flow.specs.StageCall.{At, ChangedAt, EndedWithin, GaveWithin, HandedThrough, StageCall, MayEnd, MayGive, MayBePassed, MayBePassedMany, MayTake, MayTakeMany, TookMany, TookWithin, WasPassed, WasPassedSamples, at_stage, end_to, given_on, through_all};
 ghost use Rattle.fx_frame_base.specs.Feed.{PassedOn};
 ghost use Rattle.fx_frame_base.specs.Holds.{kinds};
 ghost use Rattle.fx_frame_base.specs.Lists.{pieces};
@@ -68,7 +67,7 @@ pub trait StageCalls: PassesEarly + PassesWhile {
         requires may { At (MayBePassedMany Self.acts channels count) place stages.old }
         requires frame { (1 ≤ channels) × (channels ≤ 16) }
         requires samples { length samples.old ≡ count * channels }
-        ensures passed { ChangedAt (WasPassedMany Self.acts (pieces channels count samples.old) (pieces channels count samples.new)) place stages.old stages.new }
+        ensures passed { ChangedAt (WasPassedSamples Self.acts channels count samples.old samples.new) place stages.old stages.new }
         ensures handed { handed stages.old (at_stage place (pieces channels count samples.old) (pieces channels count samples.new)) stages.new };
 
     /// Gives the first stage `count` frames of `channels` channels, for which none is due.
@@ -104,8 +103,7 @@ pub trait StageCalls: PassesEarly + PassesWhile {
     fn feed_only(stages: &mut [Self], input: &[i32], output: &mut [i32]) -> Passed
         requires { CanFeedOnly Self.acts input.now stages.old }
         ensures fed { FedOnly Self.acts input.now output.old output.new result.taken result.given stages.old stages.new }
-        ensures handed { (channels : ℕ) → Matching channels (kinds Self.acts stages.old)
-            → handed stages.old (through_all (pieces channels result.taken input.now) (pieces (outputs_of channels (kinds Self.acts stages.old)) result.given output.new)) stages.new };
+        ensures handed { HandedThrough Self.acts handed input.now output.new result stages.old stages.new };
 }
 
 impl<S: PassesEarly> StageCalls for S {

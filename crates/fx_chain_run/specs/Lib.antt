@@ -1,7 +1,9 @@
 pub mod Block
 pub mod Due
 pub mod FrameWriter
+pub mod NextFrame
 pub mod Pump
+pub mod Pumping
 pub mod Report
 pub mod Run
 pub mod Through

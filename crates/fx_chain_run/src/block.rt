@@ -1,14 +1,12 @@
 //! Whole buffers of frames through a flow.
 ghost use Rattle.std.specs.Prelude.{◌≡◌, ◌+◌, ◌*◌, ◌≤◌, ◌^◌, OnErr, OnOk, length};
-ghost use Rattle.fx_chain_run.specs.Block.{Blocked};
-ghost use Rattle.fx_chain_run.specs.Pump.{Pumped, PumpedFront, Start};
+ghost use Rattle.fx_chain_run.specs.Block.{AwaitsNext, Blocked, OutputBound, PassedHeld, PumpsFront, PumpsOn};
 ghost use Rattle.fx_chain_flow.specs.Parts.{given_by, max_of, taken_of};
 ghost use Rattle.fx_chain_flow.specs.Sound.{max_frames};
 ghost use Rattle.fx_chain_flow.specs.Steps.{IsHungry};
 ghost use Rattle.fx_frame_base.specs.Holds.{kinds};
 ghost use Rattle.fx_frame_base.specs.Io.{CountsFailure};
 ghost use Rattle.fx_sound.specs.Output.{bytes_put};
-ghost use Rattle.fx_sound.specs.Sound.{size_of};
 
 use crate::drain::drain;
 use crate::frame_writer::FrameWriter;
@@ -81,21 +79,15 @@ pub fn pump_block<R: ReadBeside, S: PassesEarly, W: ByteOut>(
     input: &mut [i32],
     output: &mut [i32],
 ) -> Result<(), Failed>
-    requires input { length input.old ≡ BUFFER_SIZE }
-    requires output { length output.old ≡ BUFFER_SIZE }
-    requires hungry { IsHungry S.acts flow.old }
-    requires width { flow.old.channels ≡ progress.old.channels }
-    requires taken { taken_of flow.old ≡ progress.old.frames }
+    requires buffers { (length input.old ≡ BUFFER_SIZE) × (length output.old ≡ BUFFER_SIZE) }
+    requires waits { AwaitsNext S.acts flow.old progress.old }
     requires fits { max_of (kinds S.acts flow.old.stages) max_frames ≤ 2 ^ 56 }
-    requires free { bytes_put frame_writer.old.output ≤ 68 + 64 * given_by S.acts flow.old.left flow.old.stages }
-    requires bound { frame_writer.old.clips ≤ 16 * given_by S.acts flow.old.left flow.old.stages }
-    ensures pumped { OnOk result ((first : Start S R) → Pumped S.acts R.reads first flow.old source.old progress.old frame_writer.old.coding frame_writer.old.clips frame_writer.old.output (W.writes.taken writer.old)
-        → Pumped S.acts R.reads first flow.new source.new progress.new frame_writer.new.coding frame_writer.new.clips frame_writer.new.output (W.writes.taken writer.new)) }
-    ensures cut_off { OnErr result ((first : Start S R) → Pumped S.acts R.reads first flow.old source.old progress.old frame_writer.old.coding frame_writer.old.clips frame_writer.old.output (W.writes.taken writer.old)
-        → PumpedFront S.acts R.reads first flow.new source.new progress.new frame_writer.new.clips frame_writer.new.output (W.writes.taken writer.new)) }
-    ensures more { progress.old.frames ≤ progress.new.frames }
-    ensures unread { (source.new.reader ≡ source.old.reader) × (source.new.short ≡ source.old.short) }
-    ensures held { progress.new.frames * size_of progress.old + length source.new.bytes ≡ progress.old.frames * size_of progress.old + length source.old.bytes }
+    requires bound { OutputBound S.acts flow.old frame_writer.old }
+    ensures pumped { OnOk result (PumpsOn S.acts R.reads flow.old flow.new source.old source.new
+        progress.old progress.new frame_writer.old frame_writer.new (W.writes.taken writer.old) (W.writes.taken writer.new)) }
+    ensures cut_off { OnErr result (PumpsFront S.acts R.reads flow.old flow.new source.old source.new
+        progress.old progress.new frame_writer.old frame_writer.new (W.writes.taken writer.old) (W.writes.taken writer.new)) }
+    ensures passed { PassedHeld source.old source.new progress.old progress.new }
     ensures failures { CountsFailure (W.writes.failures writer.old) (W.writes.failures writer.new) result }
 {
     pass_block(flow, source, progress, frame_writer, input, output);

@@ -1,12 +1,12 @@
 //! The next frame of a sound whose bytes may come slowly.
-ghost use Rattle.std.specs.Prelude.{◌≡◌, ◌≢◌, ◌+◌, ◌*◌, ◌<◌, ◌≤◌, [], false, true, Err, IfNone, IfOk, IfSome, MatchBool, OnErr, OnOk, OnSome, Some, drop, length};
+ghost use Rattle.std.specs.Prelude.{◌≡◌, ◌≢◌, ◌+◌, ◌<◌, ◌≤◌, [], false, true, Err, IfNone, IfOk, IfSome, MatchBool, OnErr, OnOk, length};
+ghost use Rattle.fx_chain_run.specs.NextFrame.{AsksNext, CountsCause, CutShort, FollowsMaximum, MetEnd, PassesPending, TookFrame, TookNone};
 ghost use Rattle.fx_chain_run.specs.Run.{run_read_failed, is_write_failed};
 ghost use Rattle.fx_frame_base.specs.Io.{CountsFailure, saturated};
 ghost use Rattle.fx_sound.specs.Known.{IfKnown};
-ghost use Rattle.fx_sound.specs.Source.{AsksBeside, FallsShort, HoldsAll, HoldsFront, HoldsWhatCame, Stays, Takes, to_come};
+ghost use Rattle.fx_sound.specs.Source.{AsksBeside, HoldsAll, HoldsFront, Stays, Takes, to_come};
 ghost use Rattle.fx_chain_run.specs.Waiting.{AsksOn};
 ghost use Rattle.fx_sound.specs.Output.{SendsOn, bytes_put};
-ghost use Rattle.fx_sound.specs.Sound.{EndsSound, TakesFrame, after_frame, at_most_announced, size_of, within_sound};
 
 use crate::pump::Cause;
 use fx_frame::{ByteOut, Failed, Frame, ReadBeside};
@@ -103,43 +103,20 @@ pub fn next_frame<R: ReadBeside, W: ByteOut>(
 ) -> Result<Option<Frame>, Cause>
     requires begun { progress.old.over ≡ false }
 
-    // A frame.
-    ensures frame { IfOk result (λ o. IfSome o (λ f. IfKnown (to_come R.reads.rest source.old) (λ bytes.
-        TakesFrame progress.old bytes f (to_come R.reads.rest source.new)))) }
-    ensures channels { IfOk result (λ o. IfSome o (λ f. length f ≡ progress.old.channels)) }
-    ensures delivered { IfOk result (λ o. OnSome o (Takes R.reads.delivered source.old source.new (size_of progress.old))) }
-    ensures counted { IfOk result (λ o. OnSome o (progress.new ≡ after_frame progress.old)) }
-    ensures below { IfOk result (λ o. OnSome o (progress.old.frames < MAX_FRAMES)) }
-
-    // The end.
-    ensures end { IfOk result (λ o. IfNone o (IfKnown (to_come R.reads.rest source.old) (λ bytes. EndsSound progress.old bytes progress.new))) }
-    ensures left { IfOk result (λ o. IfNone o (IfKnown (to_come R.reads.rest source.old) (λ bytes.
-        to_come R.reads.rest source.new ≡ Some (drop (length (within_sound progress.old.left bytes)) bytes)))) }
-    ensures over { IfOk result (λ o. IfNone o ((progress.new.over ≡ true) × (progress.new.frames ≡ progress.old.frames))) }
-
-    // The faults.
-    ensures read_failed { run_read_failed result ≡ true →
-        FallsShort R.reads.delivered source.old source.new.reader (at_most_announced progress.old.left (size_of progress.old)) }
-    ensures came { run_read_failed result ≡ true → IfKnown (to_come R.reads.rest source.old) (λ bytes. HoldsWhatCame R.reads.delivered source.old source.new bytes 0) }
-    ensures too_long { result ≡ Err Cause.TooLong → (progress.old.frames ≡ MAX_FRAMES)
-        × IfKnown (to_come R.reads.rest source.old) (λ bytes. size_of progress.old ≤ length (within_sound progress.old.left bytes)) }
-    ensures kept { OnErr result (run_read_failed result ≡ false → Stays R.reads.rest source.old source.new) }
-    ensures err { OnErr result (progress.new ≡ progress.old) }
-    ensures reads { MatchBool (run_read_failed result)
-        (R.reads.failures source.new.reader ≡ saturated (R.reads.failures source.old.reader + 1))
-        (R.reads.failures source.new.reader ≡ R.reads.failures source.old.reader) }
-    ensures writes { MatchBool (is_write_failed result)
-        (W.writes.failures writer.new ≡ saturated (W.writes.failures writer.old + 1))
-        (W.writes.failures writer.new ≡ W.writes.failures writer.old) }
+    // A frame, or the end.
+    ensures frame { IfOk result (λ o. IfSome o (TookFrame R.reads source.old source.new progress.old progress.new)) }
+    ensures end { IfOk result (λ o. IfNone o (MetEnd R.reads source.old source.new progress.old progress.new)) }
     ensures maximum { OnOk result (progress.new.frames ≤ MAX_FRAMES) }
 
-    // What the writer had taken at each read, and the bytes that are held then.
-    ensures asked { AsksOn R.asked source.old source.new (at_most_announced progress.old.left (size_of progress.old)) (W.writes.taken writer.old) output.old
-        (λ more. IfOk result (λ o. OnSome o (length source.old.bytes + more ≡ size_of progress.old + length source.new.bytes))) }
+    // The faults.
+    ensures kept { OnErr result (TookNone R.reads result source.old source.new progress.old progress.new) }
+    ensures read_failed { run_read_failed result ≡ true → CutShort R.reads source.old source.new progress.old }
+    ensures too_long { result ≡ Err Cause.TooLong → FollowsMaximum R.reads.rest source.old progress.old }
+    ensures faults { CountsCause R.reads W.writes result source.old.reader source.new.reader writer.old writer.new }
 
-    // The pending bytes were sent.
-    ensures sent { SendsOn (W.writes.taken writer.old) (W.writes.taken writer.new) output.old output.new }
-    ensures count { bytes_put output.new ≡ bytes_put output.old }
+    // What the writer had taken at each read, and the bytes that are held then. The pending bytes were sent.
+    ensures asked { AsksNext R.asked source.old source.new progress.old (W.writes.taken writer.old) output.old result }
+    ensures sent { PassesPending (W.writes.taken writer.old) (W.writes.taken writer.new) output.old output.new }
 {
     fetch(source, progress.wanted(), output, writer)?;
     match take_frame(source, progress) {

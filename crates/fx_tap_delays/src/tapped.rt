@@ -6,7 +6,7 @@ ghost use Rattle.fx_frame_base.specs.Lists.{pieces};
 ghost use Rattle.fx_frame_base.specs.Stage.{Freezes, Gave, IsNew};
 ghost use Rattle.fx_frame.specs.Tapped.{AreTapCounts, IsNear, IsTapState, MakesBlock, TapState, Taps, by_name, clips_in_block, tap_acts};
 ghost use Rattle.fx_tap_delays.specs.Restored.{Restores};
-ghost use Rattle.fx_tap_delays.specs.Tapping.{history_after};
+ghost use Rattle.fx_tap_delays.specs.Tapping.{CountsClips, IsLineFor, history_after};
 
 use fx_frame::frozen::{stored_in, thawed_line_and_pending};
 use fx_frame::groups::{SAMPLES_OF_GROUP, frames_of_group};
@@ -208,23 +208,20 @@ fn tap_through_places<T: Tapping>(tapping: &T, line: &mut Line, samples: &mut [i
 }
 
 /// What `tap_many` does, for any such effect, one frame at a time.
-pub fn tap_by_frames<T: Tapping>(
+pub(crate) fn tap_by_frames<T: Tapping>(
     tapping: &T,
     line: &mut Line,
     input: &[i32],
     output: &mut [i32],
     count: usize,
 ) -> u64
-    requires channels { line.old.channels ≡ T.taps.channels tapping.now }
-    requires capacity { line.old.capacity ≡ T.taps.reach tapping.now }
+    requires line { IsLineFor T.taps tapping.now line.old }
     requires bound { count ≤ 2 ^ 56 }
     requires input { count * T.taps.channels tapping.now ≤ length input.now }
     requires output { count * T.taps.channels tapping.now ≤ length output.old }
     ensures frames { MakesBlock T.taps tapping.now line.old.items count input.now output.new }
     ensures rest_unchanged { let n = count * T.taps.channels tapping.now in drop n output.new ≡ drop n output.old }
-    ensures clips { result ≡ clips_in_block T.taps tapping.now line.old.items count input.now }
-    ensures bound { result ≤ count * T.taps.max_clips tapping.now }
-    ensures small { result ≤ 16 * count }
+    ensures clips { CountsClips T.taps tapping.now line.old.items count input.now result }
     ensures line { line.new.items ≡ pushed_all line.old (pieces (T.taps.channels tapping.now) count input.now) }
     ensures line_capacity { line.new.capacity ≡ line.old.capacity }
     ensures line_channels { line.new.channels ≡ line.old.channels }
@@ -243,20 +240,17 @@ pub fn tap_by_frames<T: Tapping>(
 }
 
 /// What `tap_frames` does, for any such effect and any number of frames, one frame at a time.
-pub fn tap_over_by_frames<T: Tapping>(
+pub(crate) fn tap_over_by_frames<T: Tapping>(
     tapping: &T,
     line: &mut Line,
     samples: &mut [i32],
     count: usize,
 ) -> u64
-    requires channels { line.old.channels ≡ T.taps.channels tapping.now }
-    requires capacity { line.old.capacity ≡ T.taps.reach tapping.now }
+    requires line { IsLineFor T.taps tapping.now line.old }
     requires bound { count ≤ 2 ^ 56 }
     requires samples { length samples.old ≡ count * T.taps.channels tapping.now }
     ensures frames { MakesBlock T.taps tapping.now line.old.items count samples.old samples.new }
-    ensures clips { result ≡ clips_in_block T.taps tapping.now line.old.items count samples.old }
-    ensures bound { result ≤ count * T.taps.max_clips tapping.now }
-    ensures small { result ≤ 16 * count }
+    ensures clips { CountsClips T.taps tapping.now line.old.items count samples.old result }
     ensures line { line.new.items ≡ pushed_all line.old (pieces (T.taps.channels tapping.now) count samples.old) }
     ensures line_capacity { line.new.capacity ≡ line.old.capacity }
     ensures line_channels { line.new.channels ≡ line.old.channels }

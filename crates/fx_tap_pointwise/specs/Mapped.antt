@@ -1,5 +1,5 @@
 -- The stage of a memoryless effect (this project's profile).
-use Rattle.std.specs.Prelude.{ℕ, ℤ, Result, Ok, ◌+◌, ◌*◌, ◌≤◌, ◌≡◌, Bool, true, List, ◌++◌, Option, length, map, option_to_list, is_none}
+use Rattle.std.specs.Prelude.{ℕ, ℤ, Result, Ok, ◌+◌, ◌*◌, ◌≤◌, ◌≡◌, Bool, true, false, List, ◌++◌, Option, None, length, map, option_to_list, is_none}
 use Rattle.fx_frame_base.specs.declared.stage.ThawFault.{ThawFault}
 use Rattle.fx_frame_base.specs.Frame.{Samples}
 use Rattle.fx_frame_base.specs.Lists.{pieces}
@@ -47,6 +47,27 @@ map_acts inputs outputs mapped = record {
   capacity = λ s. 0;
   state_counters = λ s. record { first = s.pending_clips; second = 0; third = 0 };
 }
+
+-- `count` frames may be passed to such a stage in one call
+pub record MayMapFrames {M : Type 0} (count : ℕ) (s : MapState M) : Type 0 where
+  pub dry : s.pending ≡ None
+  -- it was not given the end
+  pub not_ended : s.ended ≡ false
+  -- with these frames it has taken no more than it may
+  pub bound : s.taken + count ≤ max_taken
+
+-- such a stage, which takes frames of so many channels, may be passed what the one before it gives, of so many channels
+pub record ComesAfter {M N : Type 0} (before : MapState M) (outputs : ℕ) (s : MapState N) (inputs : ℕ) : Type 0 where
+  pub dry : s.pending ≡ None
+  -- it was not given the end
+  pub not_ended : s.ended ≡ false
+  -- it has taken what that one gave
+  pub taken : s.taken ≡ before.given
+  pub channels : inputs ≡ outputs
+
+-- the stage gives frames of as many channels as it takes
+abbrev pub KeepsChannels : {M : Type 0} → (M → ℕ) → (M → ℕ) → MapState M → Type 0
+KeepsChannels inputs outputs s = outputs s.mapping ≡ inputs s.mapping
 
 -- the first `count` frames of the output are those that the mapping makes of the first `count` of the input
 abbrev pub MapsBlock : {M : Type 0} → (M → ℕ) → (M → ℕ) → (M → Samples → Given) → M → ℕ → List ℤ → List ℤ → Type 0

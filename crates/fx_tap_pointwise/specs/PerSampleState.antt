@@ -2,6 +2,7 @@
 use Rattle.std.specs.Prelude.{ℕ, ℤ, ◌≡◌, Bool, List, Result, Ok}
 use Rattle.fx_frame_base.specs.declared.stage.ThawFault.{ThawFault}
 use Rattle.fx_frame_base.specs.Frame.{Samples}
+use Rattle.fx_frame_base.specs.Lists.{pieces}
 use Rattle.fx_frame_base.specs.Pipeline.{EachThrough}
 use Rattle.fx_frame_base.specs.Stage.{Acts, Freezes}
 use Rattle.fx_tap_pointwise.specs.Mapped.{IsMapState, MapState, map_acts}
@@ -21,3 +22,8 @@ RestoresEach {S} acts channels sampling frames numbers result =
 abbrev pub ThroughBoth : {A B M N : Type 0} → Acts A M → Acts B N → List Samples → List Samples → A → A → B → B → Type 0
 ThroughBoth first second coming made first_old first_new second_old second_new =
     (between : List Samples) × EachThrough first coming between first_old first_new × EachThrough second between made second_old second_new
+
+-- `count` frames at the front of the input went into two stages in sequence, and as many at the front of the output came out
+abbrev pub RanBoth : {S T : Type 0} → (S → ℤ → ℤ × Bool) → (T → ℤ → ℤ × Bool) → ℕ → List ℤ → List ℤ → MapState (SampleArguments S) → MapState (SampleArguments S) → MapState (SampleArguments T) → MapState (SampleArguments T) → Type 0
+RanBoth first second count input output first_old first_new second_old second_new =
+    ThroughBoth (sample_acts first) (sample_acts second) (pieces first_old.mapping.channels count input) (pieces first_old.mapping.channels count output) first_old first_new second_old second_new

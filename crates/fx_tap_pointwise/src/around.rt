@@ -1,12 +1,10 @@
 //! Three memoryless effects in sequence, of which the first and the last keep the number of channels: frames go through all
 //! three in groups of at most four, one more than there are stages.
-ghost use Rattle.std.specs.Prelude.{◌≡◌, ◌+◌, ◌*◌, ◌^◌, ◌≤◌, FitsSigned, None, false, drop, length, take};
+ghost use Rattle.std.specs.Prelude.{◌≡◌, ◌*◌, ◌^◌, ◌≤◌, FitsSigned, drop, length, take};
 ghost use Rattle.std.specs.Int.{w32};
 ghost use Rattle.std.specs.List.{All};
-ghost use Rattle.fx_frame_base.specs.Lists.{pieces};
-ghost use Rattle.fx_tap_pointwise.specs.Mapped.{map_acts};
-ghost use Rattle.fx_frame.specs.Kinds.{max_taken};
-ghost use Rattle.fx_tap_pointwise.specs.Around.{IsMadeByThree, ThroughThree};
+ghost use Rattle.fx_tap_pointwise.specs.Around.{GroupIsMade, PassedAround};
+ghost use Rattle.fx_tap_pointwise.specs.Mapped.{ComesAfter, KeepsChannels, MayMapFrames};
 
 use crate::mapped::{Mapped, MapsMany, PairWidths};
 use fx_frame_base::feed::see_samples;
@@ -46,8 +44,7 @@ fn group_by_three<A: MapsMany, B: MapsMany, C: MapsMany>(
     requires bound { count ≤ 4 }
     requires input { length input.now ≡ count * widths.inputs }
     requires output { length output.old ≡ count * widths.outputs }
-    ensures made { IsMadeByThree (A.mapped first.now) (B.mapped middle.now) (C.mapped last.now) widths.inputs widths.outputs
-        count input.now output.new result.first result.middle result.last }
+    ensures made { GroupIsMade (A.mapped first.now) (B.mapped middle.now) (C.mapped last.now) widths count input.now output.new result }
 {
     let inner = PairWidths {
         inputs: widths.inputs,
@@ -87,8 +84,7 @@ fn groups_by_three<A: MapsMany, B: MapsMany, C: MapsMany>(
     requires bound { count ≤ 2 ^ 56 }
     requires input { count * widths.inputs ≤ length input.now }
     requires free { count * widths.outputs ≤ length output.old }
-    ensures made { IsMadeByThree (A.mapped first.now) (B.mapped middle.now) (C.mapped last.now) widths.inputs widths.outputs
-        count input.now output.new result.first result.middle result.last }
+    ensures made { GroupIsMade (A.mapped first.now) (B.mapped middle.now) (C.mapped last.now) widths count input.now output.new result }
     ensures rest_unchanged { drop (count * widths.outputs) output.new ≡ drop (count * widths.outputs) output.old }
 {
     let _inputs = first.out_channels();
@@ -162,8 +158,7 @@ fn mapped_by_three<A: MapsMany, B: MapsMany, C: MapsMany>(
     requires bound { count ≤ 2 ^ 56 }
     requires input { count * widths.inputs ≤ length input.now }
     requires free { count * widths.outputs ≤ length output.old }
-    ensures made { IsMadeByThree (A.mapped first.now) (B.mapped middle.now) (C.mapped last.now) widths.inputs widths.outputs
-        count input.now output.new result.first result.middle result.last }
+    ensures made { GroupIsMade (A.mapped first.now) (B.mapped middle.now) (C.mapped last.now) widths count input.now output.new result }
     ensures rest_unchanged { drop (count * widths.outputs) output.new ≡ drop (count * widths.outputs) output.old }
 {
     match (widths.inputs, widths.outputs) {
@@ -209,26 +204,16 @@ pub fn pass_around<A: MapsMany + Drop, B: MapsMany + Drop, C: MapsMany + Drop>(
     input: &[i32],
     output: &mut [i32],
 )
-    requires first_dry { first.old.pending ≡ None }
-    requires first_open { first.old.ended ≡ false }
-    requires first_bound { first.old.taken + count ≤ max_taken }
-    requires first_keeps { A.outputs first.old.mapping ≡ A.inputs first.old.mapping }
-    requires middle_dry { middle.old.pending ≡ None }
-    requires middle_open { middle.old.ended ≡ false }
-    requires middle_follows { middle.old.taken ≡ first.old.given }
-    requires middle_channels { B.inputs middle.old.mapping ≡ A.inputs first.old.mapping }
-    requires last_dry { last.old.pending ≡ None }
-    requires last_open { last.old.ended ≡ false }
-    requires last_follows { last.old.taken ≡ middle.old.given }
-    requires last_channels { C.inputs last.old.mapping ≡ B.outputs middle.old.mapping }
-    requires last_keeps { C.outputs last.old.mapping ≡ C.inputs last.old.mapping }
+    requires first { MayMapFrames count first.old }
+    requires keep { KeepsChannels A.inputs A.outputs first.old × KeepsChannels C.inputs C.outputs last.old }
+    requires middle { ComesAfter first.old (A.inputs first.old.mapping) middle.old (B.inputs middle.old.mapping) }
+    requires last { ComesAfter middle.old (B.outputs middle.old.mapping) last.old (C.inputs last.old.mapping) }
     requires input { count * A.inputs first.old.mapping ≤ length input.now }
     requires free { count * B.outputs middle.old.mapping ≤ length output.old }
     ensures frame { 1 ≤ B.outputs middle.old.mapping }
     ensures samples { All (FitsSigned w32) (take (count * A.inputs first.old.mapping) input.now) }
-    ensures through { ThroughThree (map_acts A.inputs A.outputs A.mapped) (map_acts B.inputs B.outputs B.mapped)
-        (map_acts C.inputs C.outputs C.mapped) (pieces (A.inputs first.old.mapping) count input.now)
-        (pieces (B.outputs middle.old.mapping) count output.new) first.old first.new middle.old middle.new last.old last.new }
+    ensures through { PassedAround A.inputs A.outputs A.mapped B.inputs B.outputs B.mapped C.inputs C.outputs C.mapped
+        count input.now output.new first.old first.new middle.old middle.new last.old last.new }
     ensures rest_unchanged { let n = count * B.outputs middle.old.mapping in drop n output.new ≡ drop n output.old }
 {
     let widths = PairWidths {

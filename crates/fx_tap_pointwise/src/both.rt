@@ -1,11 +1,10 @@
 //! Two effects one after the other, each of which rounds each sample alone: a sample goes through both before the next.
-ghost use Rattle.std.specs.Prelude.{◌≡◌, ◌+◌, ◌*◌, ◌≤◌, FitsSigned, None, false, drop, length, map, take};
+ghost use Rattle.std.specs.Prelude.{◌≡◌, ◌*◌, ◌≤◌, FitsSigned, drop, length, map, take};
 ghost use Rattle.std.specs.Int.{w32};
 ghost use Rattle.std.specs.List.{All};
-ghost use Rattle.fx_frame_base.specs.Lists.{pieces};
 ghost use Rattle.fx_frame_base.specs.Rounded.{clips_rounded, samples_of};
-ghost use Rattle.fx_frame.specs.Kinds.{max_taken};
-ghost use Rattle.fx_tap_pointwise.specs.PerSampleState.{sample_acts, ThroughBoth};
+ghost use Rattle.fx_tap_pointwise.specs.Mapped.{ComesAfter, MayMapFrames};
+ghost use Rattle.fx_tap_pointwise.specs.PerSampleState.{RanBoth};
 
 use crate::mapped::{Mapped, Mapping};
 use crate::per_sample::{PerSample, SamplesMany, Sampling};
@@ -53,19 +52,12 @@ pub fn pass_both<A: SamplesMany + Drop, B: SamplesMany + Drop>(
     input: &[i32],
     output: &mut [i32],
 )
-    requires first_dry { first.old.pending ≡ None }
-    requires first_open { first.old.ended ≡ false }
-    requires first_bound { first.old.taken + count ≤ max_taken }
-    requires second_dry { second.old.pending ≡ None }
-    requires second_open { second.old.ended ≡ false }
-    requires follows { second.old.taken ≡ first.old.given }
-    requires channels { second.old.mapping.channels ≡ first.old.mapping.channels }
+    requires first { MayMapFrames count first.old }
+    requires second { ComesAfter first.old first.old.mapping.channels second.old second.old.mapping.channels }
     requires input { count * first.old.mapping.channels ≤ length input.now }
     requires free { count * first.old.mapping.channels ≤ length output.old }
     ensures samples { All (FitsSigned w32) (take (count * first.old.mapping.channels) input.now) }
-    ensures through { ThroughBoth (sample_acts A.rounded) (sample_acts B.rounded)
-        (pieces first.old.mapping.channels count input.now) (pieces first.old.mapping.channels count output.new)
-        first.old first.new second.old second.new }
+    ensures through { RanBoth A.rounded B.rounded count input.now output.new first.old first.new second.old second.new }
     ensures rest_unchanged { let n = count * first.old.mapping.channels in drop n output.new ≡ drop n output.old }
 {
     let samples = count * first.mapping().out_channels();

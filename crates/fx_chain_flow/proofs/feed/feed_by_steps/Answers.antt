@@ -42,7 +42,7 @@ turns-smaller g c =
       | in-Hungry+else-is_spent+else-input-read w ↦
           let passed = w.run-passed.ensures in
           let rest = take_all (length input - c.turns.read) (drop c.turns.read input) (omega (arith, length-drop c.turns.read input)) in
-          let free = rw (rest, old.gave.channels) at passed.read in
+          let free = rw (rest, old.gave.channels) at passed.placed.read in
           rw (w.flow-is, w.read-is, c.widths-widths.ensures.inputs)
           (smaller-run acts first input start c.turns.flow w.run-passed.new.self c.turns.read w.run-passed.result.taken passed.moves c.requires.channels.0 passed.some (omega (arith, free, length-drop c.turns.read input)) old.read_in)
     ]
@@ -94,7 +94,7 @@ turns-preserved g c =
           record {
             turned = rw (w.flow-is, w.read-is, w.written-is, w.taken-is, w.given-is, c.widths-widths.ensures.inputs, c.widths-widths.ensures.outputs)
                 (Turned-ran acts first input start _ _ old.gave.channels sides c.turns.flow w.run-passed.new.self c.turns.output c.match-state.output out _ _ _ _ w.run-passed.result.taken w.run-passed.result.given old w.in-Hungry.ensures.state.not_ended
-                (rw rest at passed.fed) (rw rest at passed.gave) c.requires.channels.0 (rw rest at passed.read) passed.written passed.small (rw over-all at passed.rest_unchanged) (w.run-passed.auto.output ∙ ap length over-all) put);
+                (rw rest at passed.fed) (rw rest at passed.gave) c.requires.channels.0 (rw rest at passed.placed.read) passed.placed.written passed.small (rw over-all at passed.placed.rest_unchanged) (w.run-passed.auto.output ∙ ap length over-all) put);
             order = rw (w.flow-is, w.taken-is, w.given-is)
                 (Turned-ran-order acts first input start g.S.StageCalls.handed g.S.PassesWhile.passed_while _ _ old.gave.channels sides c.turns.flow w.run-passed.new.self c.turns.output c.match-state.output out _ _ _ _ w.run-passed.result.taken w.run-passed.result.given old c.turns.invariant.order (rw rest at passed.order) put);
             free = rw w.taken-is

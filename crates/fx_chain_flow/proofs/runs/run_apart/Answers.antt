@@ -93,14 +93,26 @@ returns-then-early-gt0 g c =
       held = held;
     })
 
-pub run_one_to_one-requires-clause-output : goal.run_one_to_one-requires-clause-output
-run_one_to_one-requires-clause-output g c =
-    let same : c.args.widths.outputs ≡ c.args.widths.inputs = c.requires.outputs ∙ outputs-keep _ _ (c.requires.keep (search rules)) in
-    let fit : c.min_one_to_one-one_to_one.result * c.args.widths.inputs ≤ c.args.count * c.args.widths.inputs = mul-le-mul_right c.args.widths.inputs c.min_one_to_one-one_to_one.ensures.maximum in
-    omega (arith, fit, rw same at c.requires.output)
-
-pub run_one_to_one-requires-clause-ahead : goal.run_one_to_one-requires-clause-ahead
-run_one_to_one-requires-clause-ahead g c = AllAhead-less g.S.Stage.acts c.min_one_to_one-one_to_one.result c.args.count c.args.stages.now c.min_one_to_one-one_to_one.ensures.maximum c.requires.ahead
+pub run_one_to_one-requires : goal.run_one_to_one-requires
+run_one_to_one-requires g c =
+    let one_to_one = c.min_one_to_one-one_to_one.ensures in
+    let count = c.min_one_to_one-one_to_one.result in
+    let inputs = c.args.widths.inputs in
+    let keep = c.requires.keep (search rules) in
+    let same : c.args.widths.outputs ≡ inputs = c.requires.outputs ∙ outputs-keep _ _ keep in
+    let fit : count * inputs ≤ c.args.count * inputs = mul-le-mul_right inputs one_to_one.maximum in
+    let may = c.requires.may_run.1 in
+    record {
+      frame = c.requires.frame;
+      keep = keep;
+      input = omega (arith, fit, c.requires.input);
+      output = omega (arith, fit, rw same at c.requires.output);
+      may_run = (c.requires.may_run.0, record { sound = may.sound; bound = omega (arith, may.bound, one_to_one.maximum) });
+      determined = c.requires.determined;
+      lined = c.requires.lined;
+      ahead = AllAhead-less g.S.Stage.acts count c.args.count c.args.stages.now one_to_one.maximum c.requires.ahead;
+      one_to_one = one_to_one.one_to_one;
+    }
 
 pub returns : goal.returns
 returns g c =

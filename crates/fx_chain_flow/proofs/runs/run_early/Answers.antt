@@ -1,14 +1,12 @@
-use Rattle.std.proofs.Common.{rules, ◌≡◌, ◌≤◌, ◌∙◌, ◌*◌, ◌∷◌, length, drop, arith}
+use Rattle.std.proofs.Common.{rules, ◌≡◌, ◌∙◌, ◌*◌, ◌∷◌, length, drop}
 use Rattle.std.proofs.lemmas.List.{length-take-le}
 use Rattle.fx_frame_base.specs.Lists.{pieces}
 use Rattle.fx_frame_base.specs.Stage.{kind}
 use Rattle.fx_frame_base.proofs.PipelineLaws.{PassedWhile-through}
 use Rattle.fx_frame_base.proofs.Puts.{pieces-take}
 use Rattle.fx_frame_base.proofs.Pieces.{length-pieces, pieces-front}
-use Rattle.fx_chain_flow.specs.Order.{WentEarly}
 use Rattle.fx_chain_flow.proofs.Orders.{WentEarly-fits}
 use Rattle.fx_chain_flow.proofs.Pipelines.{AllHeld-lined}
-use Rattle.fx_chain_flow.proofs.runs.run_early.Given as given
 use Rattle.fx_chain_flow.proofs.runs.run_early.Goals as goal
 
 pub returns-clause-through : goal.returns-clause-through

@@ -53,7 +53,7 @@ feed-passed-requires-clause-bound g c n h = omega (arith, held g (goal.at.feed-p
 
 pub pass_held-requires : goal.pass_held-requires
 pass_held-requires g c =
-    AreHeld-fewer _ _ _ c.held_frames-count.result (held g (goal.at.pass_held-requires g c).After-decode_held c.feed-passed.result.taken c.feed-passed.ensures.read) c.held_frames-count.ensures.held
+    AreHeld-fewer _ _ _ c.held_frames-count.result (held g (goal.at.pass_held-requires g c).After-decode_held c.feed-passed.result.taken c.feed-passed.ensures.placed.read) c.held_frames-count.ensures.held
 
 pub put-requires-clause-count : goal.put-requires-clause-count
 put-requires-clause-count g c =
@@ -76,11 +76,11 @@ returns g c =
     let given : ℕ = c.feed-passed.result.given in
     let samples : Samples = c.decode_held.new.samples in
     let out : Samples = c.feed-passed.new.output in
-    let bound : taken ≤ c.held_frames-count.result = held g (goal.at.returns g c).After-decode_held taken c.feed-passed.ensures.read in
+    let bound : taken ≤ c.held_frames-count.result = held g (goal.at.returns g c).After-decode_held taken c.feed-passed.ensures.placed.read in
     let In : List Samples → Type 0 = λ xs. FlowGave acts c.args.flow.now xs (pieces outputs given out) c.feed-passed.new.self in
     let Fed : List Samples → Type 0 = λ xs. FlowFed acts c.args.flow.now xs (pieces outputs given out) c.feed-passed.new.self in
     let same_frames = ap (λ n. pieces n taken samples) c.requires.width ∙ first_frames-fewer c.args.progress.now.coding c.args.progress.now.channels taken c.held_frames-count.result samples c.args.source.now.bytes bound c.decode_held.ensures in
-    let many : length (take (given * outputs) out) ≡ given * outputs = length-take-le _ _ (rw (← c.out_channels-outputs.ensures) at c.feed-passed.ensures.written) in
+    let many : length (take (given * outputs) out) ≡ given * outputs = length-take-le _ _ (rw (← c.out_channels-outputs.ensures) at c.feed-passed.ensures.placed.written) in
     let all = rw length-pieces at c.feed-passed.ensures.gave.given in
     record {
       blocked = record {

@@ -13,16 +13,10 @@ returns-clause-pumped g c = λ first p.
     let pumped = Pumped-block g.S.Stage.acts g.R.ReadBeside.reads first _ _ _ _ _ _ _ _ _ _ _ _ p passed.blocked _ _ _ _ (rw passed.coding at drained.drained) drained.waits drained.free drained.bound in
     rw (drained.coding ∙ passed.coding) (Pumped-sent g.S.Stage.acts g.R.ReadBeside.reads first _ _ _ _ _ _ _ _ _ pumped c.make_way.ensures.sent c.make_way.ensures.count)
 
-pub returns-clause-more : goal.returns-clause-more
-returns-clause-more g c = let count = ap (λ (p : Reading). p.frames) c.pass_block.ensures.blocked.counted in omega (arith, count)
-
 pub returns-in_err-drain-clause-cut_off : goal.returns-in_err-drain-clause-cut_off
 returns-in_err-drain-clause-cut_off g c = MatchResult-from_err _ _ _ c.from_residual.ensures.0 (λ _ first p.
     let passed = c.pass_block.ensures in
     Pumped-cut g.S.Stage.acts g.R.ReadBeside.reads first _ _ _ _ _ _ _ _ _ _ _ _ p passed.blocked _ _ _ _ (rw passed.coding at c.in_err-drain.ensures.cut_off))
-
-pub returns-in_err-drain-clause-more : goal.returns-in_err-drain-clause-more
-returns-in_err-drain-clause-more g c = let count = ap (λ (p : Reading). p.frames) c.pass_block.ensures.blocked.counted in omega (arith, count)
 
 pub returns-in_err-make_way-clause-cut_off : goal.returns-in_err-make_way-clause-cut_off
 returns-in_err-make_way-clause-cut_off g c = MatchResult-from_err _ _ _ c.from_residual-in_err-make_way.ensures.0 (λ _ first p.
@@ -31,17 +25,29 @@ returns-in_err-make_way-clause-cut_off g c = MatchResult-from_err _ _ _ c.from_r
     let pumped = Pumped-block g.S.Stage.acts g.R.ReadBeside.reads first _ _ _ _ _ _ _ _ _ _ _ _ p passed.blocked _ _ _ _ (rw passed.coding at drained.drained) drained.waits drained.free drained.bound in
     Pumped-stuck g.S.Stage.acts g.R.ReadBeside.reads first _ _ _ _ _ _ _ _ _ pumped c.make_way.ensures.sent)
 
-pub returns-in_err-drain-clause-held : goal.returns-in_err-drain-clause-held
-returns-in_err-drain-clause-held g c =
-    held-after c.args.progress.now.frames c.pass_block.ensures.blocked.count _ (size_of c.args.progress.now) (length c.args.source.now.bytes) _
-    (ap (λ (p : Reading). p.frames) c.pass_block.ensures.blocked.counted) (ap length c.pass_block.ensures.blocked.bytes ∙ length-drop _ c.args.source.now.bytes) c.pass_block.ensures.blocked.held.there
+pub returns-in_err-drain-clause-passed : goal.returns-in_err-drain-clause-passed
+returns-in_err-drain-clause-passed g c = record {
+  more = let count = ap (λ (p : Reading). p.frames) c.pass_block.ensures.blocked.counted in omega (arith, count);
+  reader = c.pass_block.ensures.blocked.reader;
+  short = c.pass_block.ensures.blocked.short;
+  held = held-after c.args.progress.now.frames c.pass_block.ensures.blocked.count _ (size_of c.args.progress.now) (length c.args.source.now.bytes) _
+      (ap (λ (p : Reading). p.frames) c.pass_block.ensures.blocked.counted) (ap length c.pass_block.ensures.blocked.bytes ∙ length-drop _ c.args.source.now.bytes) c.pass_block.ensures.blocked.held.there;
+}
 
-pub returns-in_err-make_way-clause-held : goal.returns-in_err-make_way-clause-held
-returns-in_err-make_way-clause-held g c =
-    held-after c.args.progress.now.frames c.pass_block.ensures.blocked.count _ (size_of c.args.progress.now) (length c.args.source.now.bytes) _
-    (ap (λ (p : Reading). p.frames) c.pass_block.ensures.blocked.counted) (ap length c.pass_block.ensures.blocked.bytes ∙ length-drop _ c.args.source.now.bytes) c.pass_block.ensures.blocked.held.there
+pub returns-in_err-make_way-clause-passed : goal.returns-in_err-make_way-clause-passed
+returns-in_err-make_way-clause-passed g c = record {
+  more = let count = ap (λ (p : Reading). p.frames) c.pass_block.ensures.blocked.counted in omega (arith, count);
+  reader = c.pass_block.ensures.blocked.reader;
+  short = c.pass_block.ensures.blocked.short;
+  held = held-after c.args.progress.now.frames c.pass_block.ensures.blocked.count _ (size_of c.args.progress.now) (length c.args.source.now.bytes) _
+      (ap (λ (p : Reading). p.frames) c.pass_block.ensures.blocked.counted) (ap length c.pass_block.ensures.blocked.bytes ∙ length-drop _ c.args.source.now.bytes) c.pass_block.ensures.blocked.held.there;
+}
 
-pub returns-clause-held : goal.returns-clause-held
-returns-clause-held g c =
-    held-after c.args.progress.now.frames c.pass_block.ensures.blocked.count _ (size_of c.args.progress.now) (length c.args.source.now.bytes) _
-    (ap (λ (p : Reading). p.frames) c.pass_block.ensures.blocked.counted) (ap length c.pass_block.ensures.blocked.bytes ∙ length-drop _ c.args.source.now.bytes) c.pass_block.ensures.blocked.held.there
+pub returns-clause-passed : goal.returns-clause-passed
+returns-clause-passed g c = record {
+  more = let count = ap (λ (p : Reading). p.frames) c.pass_block.ensures.blocked.counted in omega (arith, count);
+  reader = c.pass_block.ensures.blocked.reader;
+  short = c.pass_block.ensures.blocked.short;
+  held = held-after c.args.progress.now.frames c.pass_block.ensures.blocked.count _ (size_of c.args.progress.now) (length c.args.source.now.bytes) _
+      (ap (λ (p : Reading). p.frames) c.pass_block.ensures.blocked.counted) (ap length c.pass_block.ensures.blocked.bytes ∙ length-drop _ c.args.source.now.bytes) c.pass_block.ensures.blocked.held.there;
+}

@@ -22,7 +22,7 @@ frames-preserved g c =
     let items : List Samples = c.args.line.now.items in
     let free : ℕ = c.args.line.now.capacity in
     let held : length items ≤ free = c.len-held.ensures.line.within in
-    let long : taps.reach m ≤ free = let e = c.requires.capacity in omega arith in
+    let long : taps.reach m ≤ free = let e = c.requires.line.capacity in omega arith in
     let xs : List Samples = pieces size turn start in
     let x : Samples = take size (drop c.frames.from start) in
     let made : Samples = c.tap_and_push-clips.new.samples in

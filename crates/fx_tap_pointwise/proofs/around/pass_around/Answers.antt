@@ -31,7 +31,7 @@ returns-clause-through g c =
     let one-is = c.mapping-3.ensures.value in
     let two-is = c.mapping-4.ensures.value in
     let three-is = c.mapping-5.ensures.value in
-    let ins-is : c.out_channels.result ≡ ins = c.out_channels.ensures.value ∙ ap A.outputs c.mapping.ensures.value ∙ c.requires.first_keeps in
+    let ins-is : c.out_channels.result ≡ ins = c.out_channels.ensures.value ∙ ap A.outputs c.mapping.ensures.value ∙ c.requires.keep.0 in
     let outs-is : c.out_channels-2.result ≡ outs = c.out_channels-2.ensures.value ∙ ap B.outputs c.mapping-2.ensures.value in
     let xs : List Samples = pieces ins n input in
     let ys : List Samples = made_of a xs in
@@ -42,11 +42,11 @@ returns-clause-through g c =
     let many-ys : length ys ≡ n = length-map xs (λ x. (a x).samples) ∙ many in
     let many-zs : length zs ≡ n = length-map ys (λ y. (b y).samples) ∙ many-ys in
     let long : n * outs ≤ length output = omega (arith, c.requires.free, c.mapped_by_three-clips.auto.output) in
-    let sides : All (λ (y : Samples). length y ≡ C.outputs u.mapping) (pieces outs n output) = rw (c.requires.last_keeps, c.requires.last_channels) (pieces-sides outs n output long) in
+    let sides : All (λ (y : Samples). length y ≡ C.outputs u.mapping) (pieces outs n output) = rw (c.requires.keep.1, c.requires.last.channels) (pieces-sides outs n output long) in
     rw (c.count_passed.ensures, c.count_passed-2.ensures, c.count_passed-3.ensures) (
       ys,
       zs,
-      dry-through A.inputs A.outputs A.mapped s n c.mapped_by_three-clips.result.first xs ys c.mapping-3.ensures.sound c.requires.first_dry c.requires.first_open many (rw c.requires.first_keeps made.before_sides) refl made.first_counted,
-      dry-through B.inputs B.outputs B.mapped t n c.mapped_by_three-clips.result.middle ys zs c.mapping-4.ensures.sound c.requires.middle_dry c.requires.middle_open many-ys made.after_sides refl made.middle_counted,
-      dry-through C.inputs C.outputs C.mapped u n c.mapped_by_three-clips.result.last zs (pieces outs n output) c.mapping-5.ensures.sound c.requires.last_dry c.requires.last_open many-zs sides made.made made.last_counted,
+      dry-through A.inputs A.outputs A.mapped s n c.mapped_by_three-clips.result.first xs ys c.mapping-3.ensures.sound c.requires.first.dry c.requires.first.not_ended many (rw c.requires.keep.0 made.before_sides) refl made.first_counted,
+      dry-through B.inputs B.outputs B.mapped t n c.mapped_by_three-clips.result.middle ys zs c.mapping-4.ensures.sound c.requires.middle.dry c.requires.middle.not_ended many-ys made.after_sides refl made.middle_counted,
+      dry-through C.inputs C.outputs C.mapped u n c.mapped_by_three-clips.result.last zs (pieces outs n output) c.mapping-5.ensures.sound c.requires.last.dry c.requires.last.not_ended many-zs sides made.made made.last_counted,
     )

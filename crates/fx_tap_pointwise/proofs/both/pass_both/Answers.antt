@@ -27,7 +27,7 @@ returns-clause-through g c =
     rw (c.count_passed.ensures, c.count_passed-2.ensures) (
       between f h size n input free,
       dry-through (λ m. m.channels) (λ m. m.channels) (λ m frame. rounded_given (g.A.Sampling.rounded m.sampling) frame) s n c.round_before-clips.result.first (pieces size n input) (between f h size n input free)
-          c.mapping.ensures.sound c.requires.first_dry c.requires.first_open (length-pieces size n input) (between-sides f h size n input free) refl (one ∙ first-clips f h size n input free),
+          c.mapping.ensures.sound c.requires.first.dry c.requires.first.not_ended (length-pieces size n input) (between-sides f h size n input free) refl (one ∙ first-clips f h size n input free),
       dry-through (λ m. m.channels) (λ m. m.channels) (λ m frame. rounded_given (g.B.Sampling.rounded m.sampling) frame) t n c.round_before-clips.result.second (between f h size n input free) _
-          c.mapping-3.ensures.sound c.requires.second_dry c.requires.second_open (between-many f h size n input free) (rw c.requires.channels (out-sides f h size n input free out _ made)) (out-is f h size n input free out _ made) (two ∙ second-clips f h size n input free),
+          c.mapping-3.ensures.sound c.requires.second.dry c.requires.second.not_ended (between-many f h size n input free) (rw c.requires.second.channels (out-sides f h size n input free out _ made)) (out-is f h size n input free out _ made) (two ∙ second-clips f h size n input free),
     )

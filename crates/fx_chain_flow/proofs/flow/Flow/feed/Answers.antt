@@ -50,27 +50,26 @@ returns-clause-gave g c =
     let (none, going, sound, fed, back) = only g (goal.at.returns-clause-gave g c).After-feed_only-passed in
     rw (← c.self-2.view_is, back, none, going) (only-gave g.S.Stage.acts _ _ _ _ c.args.input.now c.args.output.now _ _ _ sound fed)
 
-pub returns-clause-used : goal.returns-clause-used
-returns-clause-used g c =
-    let (none, going, sound, fed, back) = only g (goal.at.returns-clause-used g c).After-feed_only-passed in
-    rw (← c.self-2.view_is, back) (λ free _ spends. only-used g.S.Stage.acts _ _ _ _ c.args.input.now c.args.output.now _ _ _ sound fed free spends)
+pub returns-clause-placed : goal.returns-clause-placed
+returns-clause-placed g c = record { read = grind (arith, common_steps); written = grind (arith, common_steps); rest_unchanged = grind (arith, common_steps) }
+
+pub returns-clause-stopped : goal.returns-clause-stopped
+returns-clause-stopped g c =
+    let acts = g.S.Stage.acts in
+    let s = c.self-2.inside in
+    let (none, going, sound, fed, back) = only g (goal.at.returns-clause-stopped g c).After-feed_only-passed in
+    record {
+      waits = grind (arith, common_steps);
+      used = rw (← c.self-2.view_is, back) (λ free _ spends. only-used acts _ _ _ _ c.args.input.now c.args.output.now _ _ _ sound fed free spends);
+      unchanged = rw (← c.self-2.view_is, back, none, going) (only-unchanged acts s.channels s.left _ _ c.args.input.now c.args.output.now _ s.stages.items _ fed c.feed_only-passed.auto.output);
+      full = rw (← c.self-2.view_is, back, none, going) (λ some full. only-last acts _ _ _ _ c.args.input.now c.args.output.now _ _ _ sound fed some full);
+    }
 
 pub returns-clause-free : goal.returns-clause-free
 returns-clause-free g c =
     let s = c.self-2.inside in
     let (none, going, sound, fed, back) = only g (goal.at.returns-clause-free g c).After-feed_only-passed in
     rw (← c.self-2.view_is, none) (only-free g.S.Stage.acts s.channels s.left _ _ c.args.input.now c.args.output.now _ s.stages.items _ sound fed)
-
-pub returns-clause-unchanged : goal.returns-clause-unchanged
-returns-clause-unchanged g c =
-    let s = c.self-2.inside in
-    let (none, going, sound, fed, back) = only g (goal.at.returns-clause-unchanged g c).After-feed_only-passed in
-    rw (← c.self-2.view_is, back, none, going) (only-unchanged g.S.Stage.acts s.channels s.left _ _ c.args.input.now c.args.output.now _ s.stages.items _ fed c.feed_only-passed.auto.output)
-
-pub returns-clause-full : goal.returns-clause-full
-returns-clause-full g c =
-    let (none, going, sound, fed, back) = only g (goal.at.returns-clause-full g c).After-feed_only-passed in
-    rw (← c.self-2.view_is, back, none, going) (λ some full. only-last g.S.Stage.acts _ _ _ _ c.args.input.now c.args.output.now _ _ _ sound fed some full)
 
 -- the flow has no stage, and its frames were copied
 bare : (g : given.Over) (c : After-copy_frames-count g) → let s = c.self-2.inside in (s.inlet ≡ None) × (s.ended ≡ false) × (s.stages.items ≡ []) × (length (pieces s.channels c.copy_frames-count.result c.args.input.now) ≡ c.copy_frames-count.result)
@@ -98,35 +97,26 @@ returns-then-stages-eq0-clause-gave g c =
     let (none, going, empty, many) = bare g (goal.at.returns-then-stages-eq0-clause-gave g c).After-copy_frames-count in
     rw (← c.self-2.view_is, none, going, empty, c.copy_frames-count.ensures.frames) (rw many at (none-gave g.S.Stage.acts c.self-2.inside.channels c.self-2.inside.left (pieces c.self-2.inside.channels c.copy_frames-count.result c.args.input.now)))
 
-pub returns-then-stages-eq0-clause-full : goal.returns-then-stages-eq0-clause-full
-returns-then-stages-eq0-clause-full g c =
-    let (none, going, empty, many) = bare g (goal.at.returns-then-stages-eq0-clause-full g c).After-copy_frames-count in
-    rw (← c.self-2.view_is, none, going, empty, c.copy_frames-count.ensures.frames)
-    (λ some full. rw many at (none-last g.S.Stage.acts c.self-2.inside.channels c.self-2.inside.left (pieces c.self-2.inside.channels c.copy_frames-count.result c.args.input.now) (rw many some)))
+pub returns-then-stages-eq0-clause-placed : goal.returns-then-stages-eq0-clause-placed
+returns-then-stages-eq0-clause-placed g c = record { read = grind (arith, common_steps); written = grind (arith, common_steps); rest_unchanged = grind (arith, common_steps) }
+
+pub returns-then-stages-eq0-clause-stopped : goal.returns-then-stages-eq0-clause-stopped
+returns-then-stages-eq0-clause-stopped g c =
+    let s = c.self-2.inside in
+    let (none, going, empty, many) = bare g (goal.at.returns-then-stages-eq0-clause-stopped g c).After-copy_frames-count in
+    record {
+      waits = grind (arith, common_steps);
+      used = grind (arith, common_steps);
+      unchanged = rw (← c.self-2.view_is, none, going, empty) (λ bound. ap (λ n. flow_of g.S.Stage.acts s.channels [] n) (let taken = c.copy_frames-count.ensures.none bound in omega (arith, taken)));
+      full = rw (← c.self-2.view_is, none, going, empty, c.copy_frames-count.ensures.frames)
+          (λ some full. rw many at (none-last g.S.Stage.acts s.channels s.left (pieces s.channels c.copy_frames-count.result c.args.input.now) (rw many some)));
+    }
 
 pub returns-then-stages-eq0-clause-free : goal.returns-then-stages-eq0-clause-free
 returns-then-stages-eq0-clause-free g c =
     let s = c.self-2.inside in
     let (none, going, empty, many) = bare g (goal.at.returns-then-stages-eq0-clause-free g c).After-copy_frames-count in
     rw (← c.self-2.view_is, none, empty) (none-free g.S.Stage.acts s.channels s.left c.copy_frames-count.result (length c.args.output.now) (omega (arith, c.copy_frames-count.ensures.written, c.copy_frames-count.auto.output)))
-
-pub returns-then-stages-eq0-clause-unchanged : goal.returns-then-stages-eq0-clause-unchanged
-returns-then-stages-eq0-clause-unchanged g c =
-    let s = c.self-2.inside in
-    let (none, going, empty, many) = bare g (goal.at.returns-then-stages-eq0-clause-unchanged g c).After-copy_frames-count in
-    rw (← c.self-2.view_is, none, going, empty) (λ bound. ap (λ n. flow_of g.S.Stage.acts s.channels [] n) (let taken = c.copy_frames-count.ensures.none bound in omega (arith, taken)))
-
-pub returns-then-stages-eq0-clause-written : goal.returns-then-stages-eq0-clause-written
-returns-then-stages-eq0-clause-written g c = grind (arith, common_steps)
-
-pub returns-then-stages-eq0-clause-rest_unchanged : goal.returns-then-stages-eq0-clause-rest_unchanged
-returns-then-stages-eq0-clause-rest_unchanged g c = grind (arith, common_steps)
-
-pub returns-then-stages-eq0-clause-waits : goal.returns-then-stages-eq0-clause-waits
-returns-then-stages-eq0-clause-waits g c = grind (arith, common_steps)
-
-pub returns-then-stages-eq0-clause-used : goal.returns-then-stages-eq0-clause-used
-returns-then-stages-eq0-clause-used g c = grind (arith, common_steps)
 
 pub feed_only-passed-requires : goal.feed_only-passed-requires
 feed_only-passed-requires g c = grind (arith, common_steps)

@@ -84,10 +84,12 @@ returns g c =
     record {
       fed = rw (← c.self.view_is, back, none, going) (rw (many, outputs) at after.fed);
       gave = rw (← c.self.view_is, back, none, going) (rw (many, outputs) at after.gave);
-      read = rw (← c.self.view_is) (omega (arith, fits, mul-le-mul_right s.channels c.run-passed.ensures.read));
-      written = rw (← c.self.view_is) (rw outputs at free);
+      placed = rw (← c.self.view_is) (record {
+        read = omega (arith, fits, mul-le-mul_right s.channels c.run-passed.ensures.read);
+        written = rw outputs at free;
+        rest_unchanged = rw outputs at c.run-passed.ensures.rest_unchanged;
+      });
       small = rw (← c.self.view_is) (rw outputs at c.run-passed.ensures.small);
-      rest_unchanged = rw (← c.self.view_is) (rw outputs at c.run-passed.ensures.rest_unchanged);
       moves = rw (← c.self.view_is, back) (rw many at after.moves);
       some = c.run-passed.ensures.some (omega (arith, c.max-count.ensures));
       free = rw (← c.self.view_is, none) (λ n bound. FlowCapacity-each g.S.Stage.acts s.channels s.left s.stages.items passed.taken (length c.args.output.now) (rw many at after.each) (rw (← outputs) (omega (arith, mul-le-mul_right c.args.widths.outputs c.run-passed.ensures.read, out-fits))) n bound);
