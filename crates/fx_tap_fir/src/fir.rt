@@ -23,11 +23,11 @@ use fx_frame_base::stage::MAX_TAKEN;
 use std::alloc::{AllocError, Global};
 use std::marker::Model;
 
-/// The maximum number of coefficients that take a small window, which is cleared sooner.
+/// The maximum number of coefficients that take a small window, which is cleared in less time.
 const MAX_SMALL_TAPS: usize = 64;
 
-/// The sums that a transform of 2,048 numbers gives of 1,024 coefficients. More of them take a larger buffer, which is cleared
-/// later.
+/// The sums that a transform of 2,048 numbers gives by 1,024 coefficients. More of them take a larger buffer, which is cleared
+/// in more time.
 const SUMS_OF_HALF: usize = 1024;
 
 /// The sums of a piece by transforms of 2,048 numbers, at most: those by 160 coefficients. Fewer take no transforms.
@@ -125,7 +125,7 @@ fn filtered_within(
     kernel.weigh(window, place)
 }
 
-/// The same for windows of up to 1024 places, which are cleared first: a short one is cleared sooner.
+/// The same for windows of up to 1024 places, which are cleared first: a short one takes less time.
 fn filtered_sample(
     line: &Line,
     latest: &[Frame],

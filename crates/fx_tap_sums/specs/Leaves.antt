@@ -1,4 +1,4 @@
--- The table of the leaves of a transform: what the product of each leaf is multiplied by.
+-- The table of the leaves of a transform: what each leaf, four numbers of a transform, is multiplied by.
 use Rattle.std.specs.Prelude.{ℕ, ◌+◌, ◌-◌, ◌*◌, ◌<◌, ◌≡◌, List, pos, neg_ℤ, ◌*ℤ◌, length, slice_index_or}
 use Rattle.fx_tap_sums.specs.Residues.{Same}
 use Rattle.fx_tap_sums.specs.Transform.{root_at}

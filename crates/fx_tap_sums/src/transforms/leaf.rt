@@ -1,4 +1,4 @@
-//! The product of four numbers and four others modulo x^4 - s: at this size it is made product by product.
+//! The product of four numbers and four others modulo x^4 - s: at this size each number is multiplied by each.
 ghost use Rattle.std.specs.Prelude.{◌<◌, ◌≤◌, ◌+◌, ◌*◌, ◌/◌, ◌%◌, ◌^◌, ℤ, pos, ◌+ℤ◌, ◌*ℤ◌, length, slice_index_or};
 ghost use Rattle.fx_tap_sums.specs.Multiplying.{MultipliesByLeaf};
 ghost use Rattle.fx_tap_sums.specs.Residues.{AreCongruent, AreFour, AreRemainders, IsModulus, inverse_of_word};

@@ -1,4 +1,4 @@
-//! The table of the leaves of a transform: what the product of each leaf, a transform of four numbers, is multiplied by.
+//! The table of the leaves of a transform: what each leaf, four numbers of a transform, is multiplied by.
 ghost use Rattle.std.specs.Prelude.{◌≡◌, ◌≤◌, ◌+◌, ◌-◌, ◌*◌, ◌/◌, ◌%◌, length, IfOk};
 ghost use Rattle.fx_tap_sums.specs.Leaves.{AreLeaves};
 ghost use Rattle.fx_tap_sums.specs.Residues.{AreRemainders, IsModulus};
@@ -40,8 +40,8 @@ fn write_leaves<const P: u32>(
     }
 }
 
-/// The table of the leaves of a spectrum, a transform from a place of the table of roots on. Its pairs of leaves have the roots
-/// at as many places, and the first pair that at the last of these: a spectrum is backwards.
+/// The table of the leaves of a spectrum, a transform from a place of the table of roots on. Its n pairs of leaves have the roots
+/// from n * place on to n * (place + 1) - 1, the first pair the last of these: a spectrum is backwards.
 pub(crate) fn leaves_of<const P: u32>(
     alloc: Global,
     roots: &[Factor<P>],

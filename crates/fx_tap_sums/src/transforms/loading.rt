@@ -91,7 +91,7 @@ pub(crate) fn load<const P: u32>(window: &[i32], values: &mut [u32])
     }
 }
 
-/// A number below twice the modulus that is congruent to a sample over 256, rounded down.
+/// A number below twice the modulus that is congruent to a sample divided by 256, rounded down.
 #[inline(always)]
 fn upper_remainder<const P: u32>(sample: i32) -> u32
     requires { IsModulus P }
@@ -101,7 +101,7 @@ fn upper_remainder<const P: u32>(sample: i32) -> u32
     ((sample >> 8) + P as i32) as u32
 }
 
-/// Writes a zero, numbers below twice the modulus that are congruent to samples over 256, and zeros after them.
+/// Writes a zero, numbers below twice the modulus that are congruent to samples divided by 256, and zeros after them.
 pub(crate) fn load_upper<const P: u32>(window: &[i32], values: &mut [u32])
     requires modulus { IsModulus P }
     requires window { length window.now < length values.old }

@@ -13,20 +13,21 @@ use super::thirds::{join_thirds, split_thirds};
 use super::transform::multiply;
 use std::alloc::{AllocError, Global};
 
-/// A table of roots modulo a prime, and the leaves of the transforms of weights among 1,024 numbers, 2,048 and 4,096.
+/// Tables of roots modulo a prime and of their inverses, and the leaves of the transforms of weights among 1,024 numbers, 2,048
+/// and 4,096.
 #[derive(Drop)]
 pub(crate) struct Prepared<const P: u32> {
     pub(crate) table: RootTable<P>,
     pub(crate) small: Vec<u32>,
     pub(crate) medium: Vec<u32>,
     pub(crate) large: Vec<u32>,
-    /// The leaves among 1,024 numbers modulo x^1024 - r, where r is the root at place 1.
+    /// The leaves among 1,024 numbers modulo x^1024 - r, where r is the root at place 1, the square of that at place 2.
     pub(crate) turned: Vec<u32>,
 }
 
 /// The leaves of the transform, from a place of the table of roots on, of weights, each times a scale, with zeros after them:
-/// 2^levels times four numbers. A product with them is modulo x^n - s, where s is the square of the root at the place. It is
-/// 2^levels times too large, and divided by 2^32: the scale makes up for both.
+/// n numbers, 2^levels times four. A product with them is modulo x^n - s, where s is the square of the root at the place. It is
+/// 2^levels times too large, and divided by 2^32 modulo the prime: the scale makes up for both.
 fn prepared_weights<const P: u32>(
     alloc: Global,
     table: &RootTable<P>,
@@ -100,8 +101,8 @@ fn multiply_thirds<const P: u32>(prepared: &Prepared<P>, values: &mut [u32])
     join_thirds(root, first, second, third);
 }
 
-/// Writes numbers below four times the modulus in place of those congruent to a zero and a window: the numbers are congruent to
-/// the sums of the weights times as many numbers of the window, from each of its places on.
+/// Replaces a zero and a window by numbers below four times the modulus, congruent to the sums of the weights times as many
+/// numbers of the window, from each place on that has as many (`AreSumsModulo`).
 fn multiply_loaded<const P: u32>(prepared: &Prepared<P>, values: &mut [u32])
     requires modulus { IsModulus P }
     requires values { IsSize (length values.old) }
@@ -142,7 +143,7 @@ pub(crate) fn convolve_modulo<const P: u32>(
     multiply_loaded(prepared, values);
 }
 
-/// The same of samples that are multiples of 256: numbers congruent to the sums of the weights times the samples over 256.
+/// The same of samples that are multiples of 256: numbers congruent to the sums of the weights times the samples divided by 256.
 pub(crate) fn convolve_upper_modulo<const P: u32>(
     prepared: &Prepared<P>,
     window: &[i32],

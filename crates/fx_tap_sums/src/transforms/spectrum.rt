@@ -16,11 +16,8 @@ use std::marker::Model;
 /// To how much the magnitudes of weights add up at most.
 const MAX_WHOLE: u32 = 1 << 30;
 
-/// From how many weights on a transform of 4,096 numbers gives clearly more sums than those of 2,048 give in the same time.
+/// How many weights there are at least where transforms of 3,072 or 4,096 numbers take less time than several of 2,048.
 const MIN_WEIGHTS_OF_LARGE: usize = 512;
-
-/// The same of one of 3,072 numbers.
-const MIN_WEIGHTS_OF_THIRDS: usize = 768;
 
 /// How many sums a transform of 3,072 numbers gives at most: its last third has none.
 const MAX_SUMS_OF_THIRDS: usize = 2048;
@@ -108,7 +105,7 @@ fn put_wide(numbers: &[u32], wide: &mut [i64])
 
 impl Transforms {
     /// Writes the sums of prepared weights times as many samples of the window, which are multiples of 256, at most as many as
-    /// one transform of SIZE numbers gives. Two primes determine the sums of the samples over 256.
+    /// one transform of SIZE numbers gives. Two primes determine the sums of the samples divided by 256.
     // Stack space is cleared only where this is called, as in convolve_whole.
     #[inline(never)]
     fn convolve_upper<const SIZE: usize>(&self, weights: usize, window: &[i32], sums: &mut [i64])
@@ -210,9 +207,9 @@ impl Spectrum {
         }))
     }
 
-    /// How many of so many sums are best made next: as many as one transform gives, of 1,024, 2,048, 3,072 or 4,096 numbers. That
-    /// is as many as its numbers are more than the weights, but at most 2,048 of 3,072 numbers. The times are about 1, 2, 3.3 and 4.5,
-    /// so the two largest pay only with many weights.
+    /// How many of so many sums are best made next: as many as one transform gives, of 1,024, 2,048, 3,072 or 4,096 numbers. It gives
+    /// one for each number beyond those of the weights, but at most 2,048 of 3,072 numbers. The times are about 1, 2, 3.3 and 4.4:
+    /// one of 3,072 numbers pays where one of 2,048 and one of 1,024 do not give all sums.
     pub fn count_at_once(&self, sums: usize) -> usize
         requires { 1 ≤ sums }
         ensures some { 1 ≤ result }
@@ -227,7 +224,7 @@ impl Spectrum {
             sums
         } else if taps >= MIN_WEIGHTS_OF_LARGE && sums >= large {
             large
-        } else if taps >= MIN_WEIGHTS_OF_THIRDS && sums > medium {
+        } else if taps >= MIN_WEIGHTS_OF_LARGE && sums > medium + small {
             sums.min(3072 - taps).min(MAX_SUMS_OF_THIRDS)
         } else if sums < 2 * small {
             small

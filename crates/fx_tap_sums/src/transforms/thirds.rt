@@ -1,5 +1,5 @@
-//! The passes before and after a product of lists of three thirds. With r * r = -1, one product modulo x^3n - r is got from one
-//! modulo x^2n - 1 and one modulo x^n - r.
+//! The passes before and after sums over three thirds of n numbers each. Where r * r is -1 modulo the prime, a product modulo
+//! x^2n - 1 and one modulo x^n - r give the sums of at most n weights, from each place of the first two thirds on.
 ghost use Rattle.std.specs.Prelude.{◌≡◌, ◌*◌, ℕ, pos, neg_ℤ, length};
 ghost use Rattle.fx_tap_sums.specs.Quarters.{difference_at, minus_at, spread_at, with_difference_at};
 ghost use Rattle.fx_tap_sums.specs.Residues.{AreCongruent, AreRemainders, IsModulus};
@@ -9,7 +9,8 @@ use super::lanes::{join_four_of_thirds, split_four_of_thirds};
 use super::vectors::{load, put};
 
 /// Before the products: with `d` a number of the first third less that of the last, sets the first third to the last plus
-/// `half * d`, adds `turned_half * d` to the second, and sets the last to `half * d`.
+/// `half * d`, adds `turned_half * d` to the second, and sets the last to `half * d`: `half` is half of 1, `turned_half` r times
+/// that.
 #[inline(always)]
 pub(crate) fn split_thirds<const P: u32>(
     half: Factor<P>,
@@ -47,8 +48,8 @@ pub(crate) fn split_thirds<const P: u32>(
     }
 }
 
-/// After the products: takes `root * e` from each number of the first third and `e` from that of the second, where `e` is that
-/// of the last.
+/// After the products: subtracts `root * e` from each number of the first third and `e` from that of the second, where `e` is
+/// that of the last.
 #[inline(always)]
 pub(crate) fn join_thirds<const P: u32>(
     root: Factor<P>,
