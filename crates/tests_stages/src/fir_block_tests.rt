@@ -188,23 +188,6 @@ fn feed_blocks(
     end(fir, given)
 }
 
-/// Feeds blocks of one channel, of so many frames in turn, and then tells the end.
-fn feed_lengths(
-    alloc: Global,
-    fir: &mut Fir,
-    lengths: &[usize],
-    sound: &[i32],
-    given: &mut Vec<i32>,
-) -> Result<(), &'static str> {
-    let mut rest = sound;
-    for length in lengths {
-        let size = rest.len().min(*length);
-        feed_block(alloc, fir, &rest[..size], given)?;
-        rest = &rest[size..];
-    }
-    end(fir, given)
-}
-
 /// Adds what a `fir` gives that is fed a sound in blocks, frozen and thawed behind each, and then told the end.
 fn feed(
     alloc: Global,
@@ -302,65 +285,6 @@ fn filters_masked(alloc: Global, count: usize, bits: i32, frames: usize) -> Resu
     } else {
         Err(format!(in alloc; "other samples by {count} coefficients")?.into())
     }
-}
-
-/// Fails where a `fir` of so many coefficients does not give what it has to for blocks of so many frames in turn, whose samples
-/// have the bits of a mask.
-fn filters_lengths(
-    alloc: Global,
-    count: usize,
-    is_fine: bool,
-    bits: i32,
-    lengths: &[usize],
-) -> Result<(), &'static str> {
-    let coefficients = coefficients(alloc, count, is_fine)?;
-    if coefficients.is_empty() || coefficients.len() > 1024 {
-        return Err("no coefficient, or too many");
-    }
-    let mut frames = 0usize;
-    for length in lengths {
-        frames = frames.saturating_add(*length);
-    }
-    let Ok(mut sound) = sound(alloc, frames) else {
-        return Err(REFUSED);
-    };
-    mask(&mut sound, bits);
-    let Ok(mut fir) = Fir::new(alloc, 1, &coefficients) else {
-        return Err(REFUSED);
-    };
-    let mut given = Vec::new(alloc);
-    feed_lengths(alloc, &mut fir, lengths, &sound, &mut given)?;
-    if are_right(alloc, &coefficients, 1, &sound, &given) {
-        Ok(())
-    } else {
-        Err("other samples")
-    }
-}
-
-/// By 512 coefficients and by 1,024: a block that fills the line, and then blocks beside those that fill a piece of transforms of
-/// 4,096 numbers.
-fn filters_long_blocks(alloc: Global, is_fine: bool, bits: i32) -> Result<(), &'static str> {
-    let lengths = [511, 3071, 3072, 3073, 3584, 3585, 4097];
-    filters_lengths(alloc, 512, is_fine, bits, &lengths)?;
-    let lengths = [1023, 3071, 3072, 3073, 4097];
-    filters_lengths(alloc, 1024, is_fine, bits, &lengths)
-}
-
-#[test]
-fn fir_of_long_blocks(rt: HostRuntime) -> Result<(), &'static str> {
-    filters_long_blocks(rt.alloc(), false, -1)
-}
-
-/// The same of samples of 24 bits.
-#[test]
-fn fir_of_long_blocks_of_24_bits(rt: HostRuntime) -> Result<(), &'static str> {
-    filters_long_blocks(rt.alloc(), false, -256)
-}
-
-/// The same of coefficients of twelve decimals.
-#[test]
-fn fir_of_long_blocks_fine(rt: HostRuntime) -> Result<(), &'static str> {
-    filters_long_blocks(rt.alloc(), true, -1)
 }
 
 /// Samples of 16 bits: counts of coefficients beside those where products of 16 bits begin to take two digits a weight, and
