@@ -10,6 +10,7 @@ ghost use Rattle.fx_frame_base.specs.Lists.{pieces};
 ghost use Rattle.fx_frame_base.specs.Pipeline.{AreReady, PipelineThrough, outputs_of};
 ghost use Rattle.fx_frame_base.specs.Stage.{IsDry, kind, spent};
 
+use fx_frame_base::feed::take_many;
 use fx_frame_base::frame::Frame;
 use fx_frame_base::pipeline::{PassesEarly, PassesWhile};
 use fx_frame_base::{Feeds, Passed, Passing};
@@ -169,7 +170,7 @@ impl<S: PassesEarly> StageCalls for S {
     fn take_first(stages: &mut [S], _channels: usize, count: usize, input: &[i32]) {
         let all = stages.len();
         prove!(0 < all);
-        stages[0].take_many(count, input);
+        take_many(&mut stages[0], count, input);
     }
 
     #[inline(always)]

@@ -1,9 +1,8 @@
 //! What a stage stores, frame by frame, and how that is restored.
-ghost use Rattle.std.specs.Prelude.{◌≡◌, ◌<◌, ◌≤◌, ◌^◌, ◌++◌, ◌⊎◌, [], ℤ, IfOk, IfErr, Option, length, option_to_list, slice_index_or};
+ghost use Rattle.std.specs.Prelude.{◌≡◌, ◌<◌, ◌≤◌, ◌^◌, ◌++◌, [], IfOk, IfErr, length, option_to_list, slice_index_or};
 ghost use Rattle.std.specs.Int.{w32, w64};
-ghost use Rattle.fx_frame_base.specs.Frame.{Samples};
-ghost use Rattle.fx_frame_line.specs.Line.{Frames, IsLine};
-ghost use Rattle.fx_frame.specs.Frozen.{IsStored, line_of};
+ghost use Rattle.fx_frame_line.specs.Line.{IsLine};
+ghost use Rattle.fx_frame.specs.Frozen.{IsOnlyStored, IsStored, RefusesNotStored, RefusesUnless, line_of};
 
 use crate::line::{Line, WideLine};
 use fx_frame_base::pending::thawed_pending;
@@ -34,7 +33,7 @@ pub fn thawed_line(
     requires capacity { capacity ≤ 2 ^ 28 }
     ensures found { IfOk result (λ l. l ≡ line_of channels capacity frames.now) }
     ensures line { IfOk result (IsLine w32) }
-    ensures refused { IfErr result (λ e. (e ≡ ThawFault.Memory) ⊎ ((e ≡ ThawFault.BadSnapshot) × (IsLine w32 (line_of channels capacity frames.now) → ⊥))) }
+    ensures refused { IfErr result (RefusesUnless (IsLine w32 (line_of channels capacity frames.now))) }
 {
     if frames.len() > capacity {
         return Err(ThawFault::BadSnapshot);
@@ -67,7 +66,7 @@ pub fn thawed_wide_line(
     requires capacity { capacity ≤ 2 ^ 28 }
     ensures found { IfOk result (λ l. l ≡ line_of channels capacity frames.now) }
     ensures line { IfOk result (IsLine w64) }
-    ensures refused { IfErr result (λ e. (e ≡ ThawFault.Memory) ⊎ ((e ≡ ThawFault.BadSnapshot) × (IsLine w64 (line_of channels capacity frames.now) → ⊥))) }
+    ensures refused { IfErr result (RefusesUnless (IsLine w64 (line_of channels capacity frames.now))) }
 {
     if frames.len() > capacity {
         return Err(ThawFault::BadSnapshot);
@@ -97,8 +96,8 @@ pub fn thawed_line_and_pending(
     requires channels { (1 ≤ channels) × (channels ≤ 16) }
     requires capacity { capacity ≤ 2 ^ 28 }
     ensures found { IfOk result (λ p. IsStored channels capacity pending_count frames.now p.0 p.1) }
-    ensures only { IfOk result (λ p. (line : Frames ℤ) (pending : Option Samples) → IsStored channels capacity pending_count frames.now line pending → (p.0 ≡ line) × (p.1 ≡ pending)) }
-    ensures refused { IfErr result (λ e. (e ≡ ThawFault.Memory) ⊎ ((e ≡ ThawFault.BadSnapshot) × ((line : Frames ℤ) (pending : Option Samples) → IsStored channels capacity pending_count frames.now line pending → ⊥))) }
+    ensures only { IfOk result (IsOnlyStored channels capacity pending_count frames.now) }
+    ensures refused { IfErr result (RefusesNotStored channels capacity pending_count frames.now) }
 {
     let count = frames.len() as u64;
     if pending_count > 1 || pending_count > count {

@@ -3,6 +3,10 @@ use Rattle.std.specs.Prelude.{◌≡◌, ℕ, ◌+◌, ◌<◌, ◌≤◌, Bool,
 use Rattle.fx_frame_base.specs.declared.device.Device.{Device}
 use Rattle.fx_frame_base.specs.Io.{saturated}
 
+-- one that was not called yet, whose calls move at most `piece` bytes
+abbrev pub new_device : ℕ → ℕ → Bool → Device
+new_device piece fail_at for_good = record { piece = piece; fail_at = fail_at; for_good = for_good; calls = 0; failures = 0 }
+
 -- call number `call` fails; no call does where `fail_at` is 0
 abbrev pub IsRefused : ℕ → Bool → ℕ → Type 0
 IsRefused fail_at false call = (0 < fail_at) × (call ≡ fail_at)

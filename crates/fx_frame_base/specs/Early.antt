@@ -1,11 +1,11 @@
 -- Frames that go through a stage and those after it, where they leave the stage before as many others come (this project's profile).
-use Rattle.std.specs.Prelude.{ℕ, ℤ, ◌+◌, ◌*◌, ◌<◌, ◌≤◌, ◌≡◌, true, false, List, [], ◌∷◌, drop, length}
-use Rattle.fx_frame_base.specs.Feed.{IsOneToOne}
+use Rattle.std.specs.Prelude.{ℕ, ℤ, ◌+◌, ◌*◌, ◌≤◌, ◌≡◌, true, false, List, [], ◌∷◌, drop, length}
+use Rattle.fx_frame_base.specs.Feed.{IsAhead, IsOneToOne}
 use Rattle.fx_frame_base.specs.Frame.{Samples}
 use Rattle.fx_frame_base.specs.Holds.{kinds}
 use Rattle.fx_frame_base.specs.Lists.{pieces}
 use Rattle.fx_frame_base.specs.Pipeline.{AllAhead, AllKeep, AllOneToOne, AreReady, EachThrough}
-use Rattle.fx_frame_base.specs.Stage.{Acts, is_enough, kind}
+use Rattle.fx_frame_base.specs.Stage.{Acts, kind}
 
 module _ {T Q : Type 0} (acts : Acts T Q) (passed_while : List Samples → List Samples → List Samples → T → T → Type 0) where
   -- These frames went through stages in sequence, and those came out, one for each. Each stage passed all of them in one call, while
@@ -15,6 +15,14 @@ module _ {T Q : Type 0} (acts : Acts T Q) (passed_while : List Samples → List 
   PassedWhile held xs ys (s ∷ stages) (s' ∷ stages') = (between : List Samples) × EachThrough acts xs between s s' × passed_while held xs between s s' × PassedWhile held between ys stages stages'
   PassedWhile held xs ys old new = ⊥
 
+  -- one stage passed `count` frames of a block, and put those that it gave in their places, while a line held the first ones
+  abbrev pub WhileHeld : List Samples → ℕ → List ℤ → List ℤ → T → T → Type 0
+  WhileHeld held count old new s s' = passed_while held (pieces (kind acts s).inputs count old) (pieces (kind acts s).inputs count new) s s'
+
+  -- stages in sequence passed `count` frames of a block of so many channels, and put those that came out in their places
+  abbrev pub PassedInPlace : List Samples → ℕ → ℕ → List ℤ → List ℤ → List T → List T → Type 0
+  PassedInPlace held channels count old new = PassedWhile held (pieces channels count old) (pieces channels count new)
+
 module _ {S R T Q : Type 0} (acts : Acts S R) (after : Acts T Q) where
   -- `count` frames, whose samples these are, may go through a stage that as many frames may leave early, and those that it gives for
   -- them through the stages after it. All keep the channels and give one frame for each, and the output has space for just these.
@@ -23,7 +31,7 @@ module _ {S R T Q : Type 0} (acts : Acts S R) (after : Acts T Q) where
     pub dry : acts.dry s ≡ true
     pub not_ended : (acts.counts s).ended ≡ false
     pub one_to_one : IsOneToOne acts count s
-    pub ahead : (n : ℕ) → n < count → is_enough (kind acts s).enough ((acts.counts s).taken + n) ≡ false
+    pub ahead : IsAhead acts count s
     pub frame : (1 ≤ (kind acts s).inputs) × ((kind acts s).inputs ≤ 16)
     pub same_channels : (kind acts s).outputs ≡ (kind acts s).inputs
     pub below_limit : (acts.counts s).taken + count ≤ (kind acts s).limit

@@ -1,9 +1,10 @@
 -- Frames passed to a stage many at a time, and taken from it likewise (this project's profile).
-use Rattle.std.specs.Prelude.{ℕ, ◌+◌, ◌-◌, ◌*◌, ◌<◌, ◌≤◌, ◌≡◌, true, false, List, [], ◌∷◌, ◌++◌, length}
+use Rattle.std.specs.Prelude.{ℕ, ℤ, ◌+◌, ◌-◌, ◌*◌, ◌<◌, ◌≤◌, ◌≡◌, true, false, List, [], ◌∷◌, ◌++◌, drop, length}
 use Rattle.fx_frame_base.specs.declared.feed.Passing.{Passing}
 use Rattle.fx_frame_base.specs.declared.feed.Passing.TheVariants.{Kept, Through, More}
 use Rattle.fx_frame_base.specs.Frame.{Samples}
-use Rattle.fx_frame_base.specs.Stage.{Acts, Gave, Took, hold_of, kind, spent}
+use Rattle.fx_frame_base.specs.Lists.{pieces}
+use Rattle.fx_frame_base.specs.Stage.{Acts, Gave, Took, hold_of, is_enough, kind, spent}
 
 module _ {S R : Type 0} (acts : Acts S R) where
   -- it holds no more frames than its hold
@@ -17,6 +18,22 @@ module _ {S R : Type 0} (acts : Acts S R) where
   -- for each of `count` further frames, none is due
   abbrev pub IsNoneDue : ℕ → S → Type 0
   IsNoneDue count s = (n : ℕ) → n ≤ count → (kind acts s).due ((acts.counts s).taken + n) ≡ (kind acts s).due (acts.counts s).taken
+
+  -- for `count` further frames, those taken are not enough
+  abbrev pub IsAhead : ℕ → S → Type 0
+  IsAhead count s = (n : ℕ) → n < count → is_enough (kind acts s).enough ((acts.counts s).taken + n) ≡ false
+
+  -- it may take all frames of a block
+  abbrev pub MayTakeAll : S → List ℤ → Type 0
+  MayTakeAll s block = (n : ℕ) → n * (kind acts s).inputs ≤ length block → (acts.counts s).taken + n ≤ (kind acts s).limit
+
+  -- `count` frames leave space for one more in a block
+  abbrev pub LeavesSpace : S → ℕ → List ℤ → Type 0
+  LeavesSpace s count block = count * (kind acts s).outputs + (kind acts s).outputs ≤ length block
+
+  -- what follows `count` frames of a block is unchanged
+  abbrev pub KeepsRest : S → ℕ → List ℤ → List ℤ → Type 0
+  KeepsRest s count old new = drop (count * (kind acts s).outputs) new ≡ drop (count * (kind acts s).outputs) old
 
   -- each of the `taken` frames was taken while the free space had a place for one frame more than was due before it
   abbrev pub TookWithinSpace : S → ℕ → ℕ → Type 0
@@ -52,3 +69,12 @@ module _ {S R : Type 0} (acts : Acts S R) where
     nothing : Fed first [] [] first
     taken : (xs gs : List Samples) (x : Samples) (s s' : S) → Fed first xs gs s → TookNext s s' x → Fed first (xs ++ x ∷ []) gs s'
     given : (xs gs : List Samples) (g : Samples) (s s' : S) → Fed first xs gs s → GaveNext s s' g → Fed first xs (gs ++ g ∷ []) s'
+
+  -- it took `took` frames from the front of one block, and put the `gave` frames that it gave at the front of another
+  abbrev pub FedBlock : S → S → ℕ → List ℤ → ℕ → List ℤ → Type 0
+  FedBlock s s' took input gave output = Fed s (pieces (kind acts s).inputs took input) (pieces (kind acts s).outputs gave output) s'
+
+  -- where the output has space for one more frame, a stage that goes on used up the input
+  abbrev pub UsesInput : S → S → ℕ → List ℤ → ℕ → List ℤ → Type 0
+  UsesInput s s' took input gave output =
+      LeavesSpace s gave output → (acts.counts s').ended ≡ false → spent acts s' ≡ false → length input < took * (kind acts s).inputs + (kind acts s).inputs

@@ -1,4 +1,6 @@
-use Rattle.std.specs.Prelude.{ℕ, ◌+◌, ◌<◌, ◌≤◌, ◌&&◌, cond, nat_le, Bool, true, false, List, [], ◌∷◌, length, Option, Some, None, ◌≡◌}
+use Rattle.std.specs.Prelude.{ℕ, ◌+◌, ◌<◌, ◌≤◌, ◌&&◌, cond, nat_le, Bool, true, false, List, [], ◌∷◌, length, MatchResult, Ok, Option, Result, Some, None, ◌≡◌}
+use Rattle.fx_frame_base.specs.declared.stage.ThawFault.{ThawFault}
+use Rattle.fx_frame_base.specs.declared.stage.ThawFault.TheVariants.{Memory}
 use Rattle.fx_frame_base.specs.Frame.{Samples}
 
 -- How stages behave (this project's profile).
@@ -128,6 +130,20 @@ module _ {S R : Type 0} (acts : Acts S R) where
   pub record Freezes (s : S) (frames : List Samples) (numbers : List ℕ) : Type 0 where
     pub stored : frames ≡ acts.stored s
     pub counted : numbers ≡ numbers_of s
+
+  -- each sound stage that was made so, and has these frames and numbers, is restored, unless memory is refused
+  abbrev pub RestoresMade : (S → Type 0) → (S → Type 0) → List Samples → List ℕ → Result S ThawFault → Type 0
+  RestoresMade IsSound IsMade frames numbers result =
+      (s : S) → IsSound s → IsMade s → Freezes s frames numbers → MatchResult result (λ t. t ≡ s) (λ e. e ≡ Memory)
+
+  -- the same of a stage with these arguments
+  abbrev pub Restores : (S → Type 0) → R → List Samples → List ℕ → Result S ThawFault → Type 0
+  Restores IsSound arguments = RestoresMade IsSound (λ s. acts.recipe s ≡ arguments)
+
+  -- the same where no memory is taken
+  abbrev pub RestoresAlways : (S → Type 0) → R → List Samples → List ℕ → Result S ThawFault → Type 0
+  RestoresAlways IsSound arguments frames numbers result =
+      (s : S) → IsSound s → acts.recipe s ≡ arguments → Freezes s frames numbers → result ≡ Ok s
 
   -- a stage that was not dry gave a frame
   pub record Gave (s s' : S) (frame : Samples) : Type 0 where

@@ -1,17 +1,17 @@
 //! Frames passed to a stage many at a time.
-ghost use Rattle.std.specs.Prelude.{◌≡◌, ◌<◌, ◌≤◌, ◌+◌, ◌*◌, ◌++◌, ℕ, true, false, FitsSigned, drop, length, take};
+ghost use Rattle.std.specs.Prelude.{◌≡◌, ◌<◌, ◌≤◌, ◌+◌, ◌*◌, ◌++◌, true, false, FitsSigned, drop, length, take};
 ghost use Rattle.std.specs.Int.{w32};
 ghost use Rattle.std.specs.List.{All};
-ghost use Rattle.fx_frame_base.specs.Feed.{Fed, IsNoneDue, IsOneToOne, PassedOn, TookAll, TookWithinSpace};
+ghost use Rattle.fx_frame_base.specs.Feed.{FedBlock, IsAhead, IsNoneDue, IsOneToOne, KeepsRest, LeavesSpace, MayTakeAll, PassedOn, TookAll, TookWithinSpace, UsesInput};
 ghost use Rattle.fx_frame_base.specs.Holds.{kinds};
 ghost use Rattle.fx_frame_base.specs.Lists.{pieces};
-ghost use Rattle.fx_frame_base.specs.Pipeline.{AreReady, EachThrough, PipelineThrough, outputs_of};
-ghost use Rattle.fx_frame_base.specs.Stage.{IsDry, IsLined, is_enough, kind, spent};
+ghost use Rattle.fx_frame_base.specs.Pipeline.{AreReadyFor, EachInPlace, PipelineThrough, outputs_of};
+ghost use Rattle.fx_frame_base.specs.Stage.{IsDry, IsLined, kind, spent};
 
 use crate::frame::Frame;
 use crate::stage::Stage;
 
-/// The samples for which `Feeds::take_many` has space beside the stage. A stage passes frames as a piece only where it would have
+/// The samples for which `take_many` has space beside the stage. A stage passes frames as a piece only where it would have
 /// space to give as many.
 pub const SPACE: usize = 1024;
 
@@ -45,33 +45,20 @@ pub trait Feeds: Stage {
     /// only while the output has space for one more; where it has no space for one frame, none is taken.
     fn feed(&mut self, input: &[i32], output: &mut [i32]) -> Passed
         requires channels { (1 ≤ (kind Self.acts self.old).inputs) × ((kind Self.acts self.old).inputs ≤ 16) }
-        requires below_limit { (n : ℕ) → n * (kind Self.acts self.old).inputs ≤ length input.now → (Self.acts.counts self.old).taken + n ≤ (kind Self.acts self.old).limit }
-        ensures fed { Fed Self.acts self.old (pieces (kind Self.acts self.old).inputs result.taken input.now) (pieces (kind Self.acts self.old).outputs result.given output.new) self.new }
+        requires below_limit { MayTakeAll Self.acts self.old input.now }
+        ensures fed { FedBlock Self.acts self.old self.new result.taken input.now result.given output.new }
         ensures read { result.taken * (kind Self.acts self.old).inputs ≤ length input.now }
         ensures written { result.given * (kind Self.acts self.old).outputs ≤ length output.new }
-        ensures rest_unchanged { drop (result.given * (kind Self.acts self.old).outputs) output.new ≡ drop (result.given * (kind Self.acts self.old).outputs) output.old }
-        ensures dry { result.given * (kind Self.acts self.old).outputs + (kind Self.acts self.old).outputs ≤ length output.new → Self.acts.dry self.new ≡ true }
-        ensures used { result.given * (kind Self.acts self.old).outputs + (kind Self.acts self.old).outputs ≤ length output.new → (Self.acts.counts self.new).ended ≡ false → spent Self.acts self.new ≡ false
-            → length input.now < result.taken * (kind Self.acts self.old).inputs + (kind Self.acts self.old).inputs }
+        ensures rest_unchanged { KeepsRest Self.acts self.old result.given output.old output.new }
+        ensures dry { LeavesSpace Self.acts self.old result.given output.new → Self.acts.dry self.new ≡ true }
+        ensures used { UsesInput Self.acts self.old self.new result.taken input.now result.given output.new }
         ensures free { TookWithinSpace Self.acts self.old result.taken (length output.old) }
     {
         feed_by_frames(self, input, output)
     }
 
-    /// Takes a frame, and puts the one that it gives then in its place. Where it gives none, the frame may be any.
-    fn pass(&mut self, frame: &mut Frame) -> Passing
-        requires dry { Self.acts.dry self.old ≡ true }
-        requires not_ended { (Self.acts.counts self.old).ended ≡ false }
-        requires not_spent { spent Self.acts self.old ≡ false }
-        requires channels { length frame.old ≡ (kind Self.acts self.old).inputs }
-        requires below_limit { (Self.acts.counts self.old).taken < (kind Self.acts self.old).limit }
-        ensures { PassedOn Self.acts result self.old self.new frame.old frame.new }
-    {
-        pass_by_calls(self, frame)
-    }
-
-    /// As `pass`, for a stage that gives as many channels as it takes: the samples of a frame, and in their place those of
-    /// the one that it gives then. Where it gives none they may be any.
+    /// Takes a frame, and puts the samples of the one that it gives then in the place of its samples, for a stage that gives as
+    /// many channels as it takes. Where it gives none they may be any.
     fn pass_samples(&mut self, samples: &mut [i32]) -> Passing
         requires dry { Self.acts.dry self.old ≡ true }
         requires not_ended { (Self.acts.counts self.old).ended ≡ false }
@@ -86,7 +73,7 @@ pub trait Feeds: Stage {
     {
         let channels = samples.len();
         let mut frame = frame_at(samples, 0, channels);
-        let passing = self.pass(&mut frame);
+        let passing = pass_by_calls(self, &mut frame);
         let _dry = self.is_dry();
         if let Passing::Kept = passing {
             return Passing::Kept;
@@ -95,8 +82,9 @@ pub trait Feeds: Stage {
         passing
     }
 
-    /// As `pass`, in sixteen places: the samples of a frame of `channels` channels come first, and in their place come those of
-    /// the one that it gives then, and its channels. Where it gives none, both may be any, and the places after those always.
+    /// As `pass_samples`, for any stage, in sixteen places: the samples of a frame of `channels` channels come first, and in their
+    /// place come those of the one that it gives then, and its channels. Where it gives none, both may be any, and the places
+    /// after those always.
     fn pass_places(&mut self, places: &mut [i32; 16], channels: &mut usize) -> Passing
         requires dry { Self.acts.dry self.old ≡ true }
         requires not_ended { (Self.acts.counts self.old).ended ≡ false }
@@ -109,7 +97,7 @@ pub trait Feeds: Stage {
         ensures determined { Self.acts.dry self.new ≡ true → IsDry Self.acts self.new }
     {
         let mut frame = frame_at(places, 0, *channels);
-        let passing = self.pass(&mut frame);
+        let passing = pass_by_calls(self, &mut frame);
         let _dry = self.is_dry();
         *channels = frame.channels();
         put_frame(places, 0, &frame);
@@ -128,7 +116,7 @@ pub trait Feeds: Stage {
         output: &mut [i32],
     ) -> usize
         requires frame { (1 ≤ channels) × (channels ≤ 16) }
-        requires ready { (taken maximum : ℕ) × (taken + count ≤ maximum) × AreReady Self.acts channels taken maximum stages.old }
+        requires ready { AreReadyFor Self.acts channels count stages.old }
         requires outputs { outputs ≡ outputs_of channels (kinds Self.acts stages.old) }
         requires input { count * channels ≤ length input.now }
         requires free { count * outputs ≤ length output.old }
@@ -143,7 +131,7 @@ pub trait Feeds: Stage {
 
     /// For that many more frames it has not had enough.
     fn ahead(&self) -> u64
-        ensures { (n : ℕ) → n < result → is_enough (kind Self.acts self.now).enough ((Self.acts.counts self.now).taken + n) ≡ false }
+        ensures { IsAhead Self.acts result self.now }
     {
         ahead_by_calls(self)
     }
@@ -162,37 +150,17 @@ pub trait Feeds: Stage {
         0
     }
 
-    /// Takes `count` frames one after another, for which none is due. It is fast where they have at most `SPACE` samples.
-    fn take_many(&mut self, count: usize, input: &[i32])
-        requires dry { Self.acts.dry self.old ≡ true }
-        requires not_ended { (Self.acts.counts self.old).ended ≡ false }
-        requires none_due { IsNoneDue Self.acts count self.old }
-        requires ahead { (n : ℕ) → n < count → is_enough (kind Self.acts self.old).enough ((Self.acts.counts self.old).taken + n) ≡ false }
-        requires inputs { (1 ≤ (kind Self.acts self.old).inputs) × ((kind Self.acts self.old).inputs ≤ 16) }
-        requires outputs { (kind Self.acts self.old).outputs ≤ 16 }
-        requires input { length input.now ≡ count * (kind Self.acts self.old).inputs }
-        requires below_limit { (Self.acts.counts self.old).taken + count ≤ (kind Self.acts self.old).limit }
-        ensures took { TookAll Self.acts (pieces (kind Self.acts self.old).inputs count input.now) self.old self.new }
-        ensures determined { IsDry Self.acts self.new }
-        ensures dry { Self.acts.dry self.new ≡ true }
-    {
-        let _determined = self.is_dry();
-        let mut space = [0; SPACE];
-        let _passed = self.feed(input, &mut space);
-        let _dry = self.is_dry();
-    }
-
     /// As `pass_samples`, for `count` frames one after another, for each of which it gives one.
     fn pass_frames(&mut self, count: usize, samples: &mut [i32])
         requires dry { Self.acts.dry self.old ≡ true }
         requires not_ended { (Self.acts.counts self.old).ended ≡ false }
         requires one_to_one { IsOneToOne Self.acts count self.old }
-        requires ahead { (n : ℕ) → n < count → is_enough (kind Self.acts self.old).enough ((Self.acts.counts self.old).taken + n) ≡ false }
+        requires ahead { IsAhead Self.acts count self.old }
         requires frame { (1 ≤ (kind Self.acts self.old).inputs) × ((kind Self.acts self.old).inputs ≤ 16) }
         requires same_channels { (kind Self.acts self.old).outputs ≡ (kind Self.acts self.old).inputs }
         requires samples { length samples.old ≡ count * (kind Self.acts self.old).inputs }
         requires below_limit { (Self.acts.counts self.old).taken + count ≤ (kind Self.acts self.old).limit }
-        ensures through { EachThrough Self.acts (pieces (kind Self.acts self.old).inputs count samples.old) (pieces (kind Self.acts self.old).inputs count samples.new) self.old self.new }
+        ensures through { EachInPlace Self.acts count samples.old samples.new self.old self.new }
         ensures lined { IsLined Self.acts self.new }
     {
         let channels = self.in_channels();
@@ -205,14 +173,34 @@ pub trait Feeds: Stage {
     }
 }
 
+/// Takes `count` frames one after another, for which none is due. It is fast where they have at most `SPACE` samples.
+pub fn take_many<S: Feeds>(stage: &mut S, count: usize, input: &[i32])
+    requires dry { S.acts.dry stage.old ≡ true }
+    requires not_ended { (S.acts.counts stage.old).ended ≡ false }
+    requires none_due { IsNoneDue S.acts count stage.old }
+    requires ahead { IsAhead S.acts count stage.old }
+    requires inputs { (1 ≤ (kind S.acts stage.old).inputs) × ((kind S.acts stage.old).inputs ≤ 16) }
+    requires outputs { (kind S.acts stage.old).outputs ≤ 16 }
+    requires input { length input.now ≡ count * (kind S.acts stage.old).inputs }
+    requires below_limit { (S.acts.counts stage.old).taken + count ≤ (kind S.acts stage.old).limit }
+    ensures took { TookAll S.acts (pieces (kind S.acts stage.old).inputs count input.now) stage.old stage.new }
+    ensures determined { IsDry S.acts stage.new }
+    ensures dry { S.acts.dry stage.new ≡ true }
+{
+    let _determined = stage.is_dry();
+    let mut space = [0; SPACE];
+    let _passed = stage.feed(input, &mut space);
+    let _dry = stage.is_dry();
+}
+
 /// What `ahead` returns, for any stage: one frame where it is dry and not spent.
 pub fn ahead_by_calls<S: Stage>(stage: &S) -> u64
-    ensures { (n : ℕ) → n < result → is_enough (kind S.acts stage.now).enough ((S.acts.counts stage.now).taken + n) ≡ false }
+    ensures { IsAhead S.acts result stage.now }
 {
     u64::from(stage.is_dry() && !stage.is_spent())
 }
 
-/// What `pass` does, for any stage.
+/// Takes a frame, and puts the one that the stage gives then in its place. Where it gives none, the frame may be any.
 pub fn pass_by_calls<S: Stage>(stage: &mut S, frame: &mut Frame) -> Passing
     requires dry { S.acts.dry stage.old ≡ true }
     requires not_ended { (S.acts.counts stage.old).ended ≡ false }
@@ -315,14 +303,13 @@ pub fn copy_frames(input: &[i32], output: &mut [i32], channels: usize) -> usize
 /// What `feed` does, for any stage, one frame at a time.
 pub fn feed_by_frames<S: Stage>(stage: &mut S, input: &[i32], output: &mut [i32]) -> Passed
     requires channels { (1 ≤ (kind S.acts stage.old).inputs) × ((kind S.acts stage.old).inputs ≤ 16) }
-    requires below_limit { (n : ℕ) → n * (kind S.acts stage.old).inputs ≤ length input.now → (S.acts.counts stage.old).taken + n ≤ (kind S.acts stage.old).limit }
-    ensures fed { Fed S.acts stage.old (pieces (kind S.acts stage.old).inputs result.taken input.now) (pieces (kind S.acts stage.old).outputs result.given output.new) stage.new }
+    requires below_limit { MayTakeAll S.acts stage.old input.now }
+    ensures fed { FedBlock S.acts stage.old stage.new result.taken input.now result.given output.new }
     ensures read { result.taken * (kind S.acts stage.old).inputs ≤ length input.now }
     ensures written { result.given * (kind S.acts stage.old).outputs ≤ length output.new }
-    ensures rest_unchanged { drop (result.given * (kind S.acts stage.old).outputs) output.new ≡ drop (result.given * (kind S.acts stage.old).outputs) output.old }
-    ensures dry { result.given * (kind S.acts stage.old).outputs + (kind S.acts stage.old).outputs ≤ length output.new → S.acts.dry stage.new ≡ true }
-    ensures used { result.given * (kind S.acts stage.old).outputs + (kind S.acts stage.old).outputs ≤ length output.new → (S.acts.counts stage.new).ended ≡ false → spent S.acts stage.new ≡ false
-        → length input.now < result.taken * (kind S.acts stage.old).inputs + (kind S.acts stage.old).inputs }
+    ensures rest_unchanged { KeepsRest S.acts stage.old result.given output.old output.new }
+    ensures dry { LeavesSpace S.acts stage.old result.given output.new → S.acts.dry stage.new ≡ true }
+    ensures used { UsesInput S.acts stage.old stage.new result.taken input.now result.given output.new }
     ensures free { TookWithinSpace S.acts stage.old result.taken (length output.old) }
 {
     let inputs = stage.in_channels();

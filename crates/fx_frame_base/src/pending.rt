@@ -1,7 +1,6 @@
 //! The pending frame that a stage without a line stores, and how it is restored.
-ghost use Rattle.std.specs.Prelude.{◌≡◌, ◌<◌, [], IfOk, IfErr, Option, length, option_to_list, slice_index_or};
-ghost use Rattle.fx_frame_base.specs.Frame.{Samples};
-ghost use Rattle.fx_frame_base.specs.PendingFrame.{IsPending};
+ghost use Rattle.std.specs.Prelude.{◌≡◌, ◌<◌, [], IfOk, IfErr, length, option_to_list, slice_index_or};
+ghost use Rattle.fx_frame_base.specs.PendingFrame.{StoresNoPending, StoresPending};
 
 use crate::frame::Frame;
 use crate::stage::ThawFault;
@@ -19,8 +18,8 @@ pub fn stored_pending(pending: Option<Frame>, _place: usize) -> WideFrame
 /// The pending frame of a stage that stored these frames and has no line. BadSnapshot where there is
 /// more than one frame, or one of other channels or of wider samples.
 pub fn thawed_pending(frames: &[WideFrame], channels: usize) -> Result<Option<Frame>, ThawFault>
-    ensures found { IfOk result (λ pending. (frames.now ≡ option_to_list pending) × IsPending channels pending) }
-    ensures refused { IfErr result (λ e. (e ≡ ThawFault.BadSnapshot) × ((pending : Option Samples) → frames.now ≡ option_to_list pending → IsPending channels pending → ⊥)) }
+    ensures found { IfOk result (StoresPending channels frames.now) }
+    ensures refused { IfErr result (λ e. (e ≡ ThawFault.BadSnapshot) × StoresNoPending channels frames.now) }
 {
     match frames {
         [] => Ok(None),

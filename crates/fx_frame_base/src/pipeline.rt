@@ -1,12 +1,11 @@
 //! Frames that go through stages in sequence, many at a time.
-ghost use Rattle.std.specs.Prelude.{◌≡◌, ◌<◌, ◌≤◌, ◌+◌, ◌*◌, ℕ, List, length, false, true};
-ghost use Rattle.fx_frame_base.specs.Early.{MayPassEarly, PassedEarly, PassedWhile};
-ghost use Rattle.fx_frame_base.specs.Feed.{IsOneToOne};
+ghost use Rattle.std.specs.Prelude.{◌≡◌, ◌≤◌, ◌+◌, ◌*◌, ℕ, List, length, false, true};
+ghost use Rattle.fx_frame_base.specs.Early.{MayPassEarly, PassedEarly, PassedInPlace, WhileHeld};
+ghost use Rattle.fx_frame_base.specs.Feed.{IsAhead, IsOneToOne};
 ghost use Rattle.fx_frame_base.specs.Frame.{Samples};
 ghost use Rattle.fx_frame_base.specs.Holds.{kinds};
-ghost use Rattle.fx_frame_base.specs.Lists.{pieces};
-ghost use Rattle.fx_frame_base.specs.Pipeline.{AllAhead, AllKeep, AllOneToOne, AreReady, EachThrough};
-ghost use Rattle.fx_frame_base.specs.Stage.{IsLined, is_enough, kind};
+ghost use Rattle.fx_frame_base.specs.Pipeline.{AllAhead, AllKeep, AllOneToOne, AreReadyFor, EachInPlace};
+ghost use Rattle.fx_frame_base.specs.Stage.{IsLined, kind};
 
 use crate::feed::Feeds;
 
@@ -33,14 +32,14 @@ pub trait PassesWhile: Feeds {
         requires dry { Self.acts.dry self.old ≡ true }
         requires not_ended { (Self.acts.counts self.old).ended ≡ false }
         requires one_to_one { IsOneToOne Self.acts count self.old }
-        requires ahead { (n : ℕ) → n < count → is_enough (kind Self.acts self.old).enough ((Self.acts.counts self.old).taken + n) ≡ false }
+        requires ahead { IsAhead Self.acts count self.old }
         requires frame { (1 ≤ (kind Self.acts self.old).inputs) × ((kind Self.acts self.old).inputs ≤ 16) }
         requires same_channels { (kind Self.acts self.old).outputs ≡ (kind Self.acts self.old).inputs }
         requires samples { length samples.old ≡ count * (kind Self.acts self.old).inputs }
         requires below_limit { (Self.acts.counts self.old).taken + count ≤ (kind Self.acts self.old).limit }
-        ensures through { EachThrough Self.acts (pieces (kind Self.acts self.old).inputs count samples.old) (pieces (kind Self.acts self.old).inputs count samples.new) self.old self.new }
+        ensures through { EachInPlace Self.acts count samples.old samples.new self.old self.new }
         ensures lined { IsLined Self.acts self.new }
-        ensures passed { passed_while (L.frames line.now) (pieces (kind Self.acts self.old).inputs count samples.old) (pieces (kind Self.acts self.old).inputs count samples.new) self.old self.new };
+        ensures passed { WhileHeld Self.acts passed_while (L.frames line.now) count samples.old samples.new self.old self.new };
 }
 
 impl<S: Feeds> PassesWhile for S {
@@ -64,12 +63,13 @@ pub fn pass_in_place<S: PassesWhile, L: HoldsFrames>(
 )
     requires frame { (1 ≤ channels) × (channels ≤ 16) }
     requires some { 1 ≤ count }
-    requires ready { (taken maximum : ℕ) × (taken + count ≤ maximum) × AreReady S.acts channels taken maximum stages.old }
+    requires ready { AreReadyFor S.acts channels count stages.old }
     requires keep { AllKeep channels (kinds S.acts stages.old) }
     requires one_to_one { AllOneToOne S.acts count stages.old }
     requires ahead { AllAhead S.acts count stages.old }
     requires samples { length samples.old ≡ count * channels }
-    ensures passed { PassedWhile S.acts S.passed_while (L.frames line.now) (pieces channels count samples.old) (pieces channels count samples.new) stages.old stages.new }
+    ensures passed { PassedInPlace S.acts S.passed_while (L.frames line.now)
+        channels count samples.old samples.new stages.old stages.new }
     ensures len { length samples.new ≡ length samples.old }
 {
     let Some((first, rest)) = stages.split_first_mut() else {

@@ -3,7 +3,7 @@
 ghost use Rattle.std.specs.Prelude.{◌≡◌, ◌-◌, ◌<◌, ◌≤◌, ◌↔◌, ◌⊎◌, ◌||◌, min, true, is_ok, Some, [], IfOk, OnErr, IsErr, length};
 ghost use Rattle.std.specs.Io.KnownBytes.{Keeps, WriteAppends};
 ghost use Rattle.fx_frame_base.specs.Io.{CountsFailure, flushed_after};
-ghost use Rattle.fx_frame_base.specs.Device.{RefusesNext, device_after};
+ghost use Rattle.fx_frame_base.specs.Device.{RefusesNext, device_after, new_device};
 
 use super::device::Device;
 use super::io::{ByteOut, Failed};
@@ -49,7 +49,7 @@ impl Sink {
         ensures bytes { IfOk result (λ s. s.bytes ≡ []) }
         ensures capacity { IfOk result (λ s. s.capacity ≡ capacity) }
         ensures flushed { IfOk result (λ s. s.flushed ≡ true) }
-        ensures device { IfOk result (λ s. s.device ≡ record { piece = piece; fail_at = fail_at; for_good = for_good; calls = 0; failures = 0 }) }
+        ensures device { IfOk result (λ s. s.device ≡ new_device piece fail_at for_good) }
     {
         Ok(Sink {
             bytes: Vec::with_capacity(alloc, capacity)?,

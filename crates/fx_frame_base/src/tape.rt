@@ -3,7 +3,7 @@
 ghost use Rattle.std.specs.Prelude.{◌≡◌, ◌<◌, ◌≤◌, ◌↔◌, min, Some, IfOk, OnErr, IsErr, drop, length, take};
 ghost use Rattle.std.specs.Io.KnownBytes.{Consumes, IsAtEnd};
 ghost use Rattle.fx_frame_base.specs.Io.{CountsBytes, CountsFailure};
-ghost use Rattle.fx_frame_base.specs.Device.{RefusesNext, device_after};
+ghost use Rattle.fx_frame_base.specs.Device.{RefusesNext, device_after, new_device};
 
 use super::copies::copy_part;
 use super::device::Device;
@@ -37,7 +37,7 @@ impl Tape {
         requires { 0 < piece }
         ensures bytes { result.bytes ≡ bytes.items }
         ensures delivered { result.delivered ≡ 0 }
-        ensures device { result.device ≡ record { piece = piece; fail_at = fail_at; for_good = for_good; calls = 0; failures = 0 } }
+        ensures device { result.device ≡ new_device piece fail_at for_good }
     {
         Tape {
             bytes,

@@ -1,7 +1,8 @@
 -- What a line of frames is. Source: this project's profile.
-use Rattle.std.specs.Prelude.{ℕ, ℤ, List, [], ◌∷◌, ◌++◌, ◌≤◌, ◌^◌, ◌-◌, map, length, drop, replicate, slice_get, slice_index_or, Option, None, nat_lt, if◌then◌else◌, FitsSigned, ◌≡◌}
+use Rattle.std.specs.Prelude.{ℕ, ℤ, List, [], ◌∷◌, ◌++◌, ◌<◌, ◌≤◌, ◌^◌, ◌+◌, ◌-◌, ◌*◌, map, length, drop, take, replicate, slice_get, slice_index_or, Option, None, nat_lt, if◌then◌else◌, FitsSigned, ◌≡◌}
 use Rattle.std.specs.List.{All}
 use Rattle.std.specs.Int.{Width}
+use Rattle.fx_frame_base.specs.Lists.{IsOtherPlace, pieces}
 
 -- the frames of a line, the oldest first; its capacity; and how many samples each frame has
 pub record Frames (X : Type 0) : Type 0 where
@@ -22,6 +23,10 @@ module _ {X : Type 0} where
   abbrev pub pushed_all : Frames X → List (List X) → List (List X)
   pushed_all l fs = drop (length (l.items ++ fs) - l.capacity) (l.items ++ fs)
 
+  -- the same for `count` frames whose samples lie one after another
+  abbrev pub pushed_block : Frames X → ℕ → List X → List (List X)
+  pushed_block l count block = pushed_all l (pieces l.channels count block)
+
   -- the frame dropped when one more comes: none where there is free space, the new one itself where the capacity is 0
   abbrev pub pushed_out : Frames X → List X → Option (List X)
   pushed_out l f = if nat_lt (length l.items) l.capacity then None else slice_get (l.items ++ f ∷ []) 0
@@ -37,6 +42,21 @@ module _ {X : Type 0} where
   -- one channel of each frame
   abbrev pub channel_of : List (List X) → ℕ → X → List X
   channel_of items channel d = map (λ f. slice_index_or f channel d) items
+
+  -- a block begins with the `count` oldest frames of a line and of those that would come after them
+  abbrev pub HasOldest : Frames X → List X → ℕ → List X → Type 0
+  HasOldest l coming count block =
+      (n : ℕ) → n * l.channels ≤ length coming → count ≤ length l.items + n → pieces l.channels count block ≡ take count (l.items ++ pieces l.channels n coming)
+
+  -- one channel of a block's `count` frames is that of the frames from `late` places before the next one to come on
+  abbrev pub HasChannelBefore : X → ℕ → Frames X → ℕ → ℕ → List X → Type 0
+  HasChannelBefore silent_sample late l channel count block =
+      (i : ℕ) → i < count → (d : X) → slice_index_or block (i * l.channels + channel) d ≡ slice_index_or (slice_index_or (latest_frames silent_sample late l) i []) channel d
+
+-- a block's `count` frames differ in one channel alone
+abbrev pub KeepsOtherChannels : {X : Type 0} → ℕ → ℕ → ℕ → List X → List X → Type 0
+KeepsOtherChannels {X} channels channel count old new =
+    (k : ℕ) → IsOtherPlace channels channel count k → (d : X) → slice_index_or new k d ≡ slice_index_or old k d
 
 module _ {X : Type 0} where
   -- `channels` samples, each of which fits

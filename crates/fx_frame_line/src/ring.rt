@@ -1,9 +1,9 @@
 //! A ring buffer of samples for whole frames, each of as many samples as there are channels.
 ghost use Rattle.std.specs.Prelude.{◌≡◌, ◌↔◌, ◌<◌, ◌≤◌, ◌^◌, ◌++◌, ◌+◌, ◌-◌, ◌*◌, ◌∷◌, [], ℕ, min, length, take, drop, replicate, slice_get, slice_index_or, true, false, IfOk, Some};
 ghost use Rattle.std.specs.Option.{option_map};
-ghost use Rattle.fx_frame_line.specs.Line.{empty, pushed, pushed_all, pushed_out, latest_frames, channel_of};
+ghost use Rattle.fx_frame_line.specs.Line.{HasChannelBefore, HasOldest, KeepsOtherChannels, empty, pushed, pushed_block, pushed_out, latest_frames, channel_of};
 ghost use Rattle.fx_frame_line.specs.Ring.{IsShaped};
-ghost use Rattle.fx_frame_base.specs.Lists.{IsOtherPlace, pieces};
+ghost use Rattle.fx_frame_base.specs.Lists.{pieces};
 ghost use Rattle.circular_buffer.specs.Buffer.{buffer, keep_last};
 
 use circular_buffer::HeapCircularBuffer;
@@ -143,13 +143,11 @@ impl<T: Copy> Ring<T> {
     pub fn exchange(&mut self, frame: &mut [T], came: &mut [T]) -> bool
         requires frame { length frame.old ≡ self.old.channels }
         requires free { length came.old ≡ length frame.old }
-        ensures kept { result ≡ false → (self.new ≡ self.old) × (frame.new ≡ frame.old) }
-        ensures unwritten { result ≡ false → came.new ≡ came.old }
+        ensures kept { result ≡ false → (self.new ≡ self.old) × (frame.new ≡ frame.old) × (came.new ≡ came.old) }
         ensures items { result ≡ true → self.new.items ≡ pushed self.old frame.old }
         ensures capacity { self.new.capacity ≡ self.old.capacity }
         ensures channels { self.new.channels ≡ self.old.channels }
         ensures oldest { result ≡ true → pushed_out self.old frame.old ≡ Some frame.new }
-        ensures full { result ≡ true → length self.old.items ≡ self.old.capacity }
         ensures came { result ≡ true → came.new ≡ frame.old }
         ensures when { result ≡ true ↔ length self.old.items ≡ self.old.capacity }
     {
@@ -168,13 +166,11 @@ impl<T: Copy> Ring<T> {
     pub fn exchange_frames(&mut self, frames: &mut [T], count: usize, came: &mut [T]) -> bool
         requires frames { length frames.old ≡ count * self.old.channels }
         requires free { length came.old ≡ length frames.old }
-        ensures kept { result ≡ false → (self.new ≡ self.old) × (frames.new ≡ frames.old) }
-        ensures unwritten { result ≡ false → came.new ≡ came.old }
-        ensures items { result ≡ true → self.new.items ≡ pushed_all self.old (pieces self.old.channels count frames.old) }
+        ensures kept { result ≡ false → (self.new ≡ self.old) × (frames.new ≡ frames.old) × (came.new ≡ came.old) }
+        ensures items { result ≡ true → self.new.items ≡ pushed_block self.old count frames.old }
         ensures capacity { self.new.capacity ≡ self.old.capacity }
         ensures channels { self.new.channels ≡ self.old.channels }
         ensures oldest { result ≡ true → pieces self.old.channels count frames.new ≡ take count self.old.items }
-        ensures bound { result ≡ true → count ≤ length self.old.items }
         ensures came { result ≡ true → came.new ≡ frames.old }
         ensures len { length frames.new ≡ length frames.old }
         ensures when { result ≡ true ↔ (length self.old.items ≡ self.old.capacity) × (count ≤ length self.old.items) }
@@ -205,7 +201,7 @@ impl<T: Copy> Ring<T> {
     /// Adds `count` frames, which lie one after another. A full ring buffer drops the oldest.
     pub fn push_frames(&mut self, frames: &[T], count: usize)
         requires { length frames.now ≡ count * self.old.channels }
-        ensures items { self.new.items ≡ pushed_all self.old (pieces self.old.channels count frames.now) }
+        ensures items { self.new.items ≡ pushed_block self.old count frames.now }
         ensures capacity { self.new.capacity ≡ self.old.capacity }
         ensures channels { self.new.channels ≡ self.old.channels }
     {
@@ -218,7 +214,7 @@ impl<T: Copy> Ring<T> {
     pub fn oldest_into(&self, coming: &[T], count: usize, out: &mut [T])
         requires enough { count * self.now.channels ≤ length self.now.items * self.now.channels + length coming.now }
         requires free { count * self.now.channels ≤ length out.old }
-        ensures frames { (n : ℕ) → n * self.now.channels ≤ length coming.now → count ≤ length self.now.items + n → pieces self.now.channels count out.new ≡ take count (self.now.items ++ pieces self.now.channels n coming.now) }
+        ensures frames { HasOldest self.now coming.now count out.new }
         ensures rest_unchanged { drop (count * self.now.channels) out.new ≡ drop (count * self.now.channels) out.old }
     {
         let end = count * self.channels;
@@ -256,8 +252,8 @@ impl<T: Copy> Ring<T> {
         requires late { count ≤ late }
         requires channel { channel < self.now.channels }
         requires len { length out.old ≡ count * self.now.channels }
-        ensures put { (i : ℕ) → i < count → (d : T) → slice_index_or out.new (i * self.now.channels + channel) d ≡ slice_index_or (slice_index_or (latest_frames silence late self.now) i []) channel d }
-        ensures others { (k : ℕ) → IsOtherPlace self.now.channels channel count k → (d : T) → slice_index_or out.new k d ≡ slice_index_or out.old k d }
+        ensures put { HasChannelBefore silence late self.now channel count out.new }
+        ensures others { KeepsOtherChannels self.now.channels channel count out.old out.new }
     {
         let channels = self.channels;
         let silent_frames = self.silent_before(late, count);
@@ -407,7 +403,7 @@ fn fill_channel<T: Copy>(sample: T, count: usize, out: &mut [T], at: usize, apar
     requires at { at < apart }
     requires free { count * apart ≤ length out.old }
     ensures put { (k : ℕ) → k < count → (d : T) → slice_index_or out.new (k * apart + at) d ≡ sample }
-    ensures others { (k : ℕ) → IsOtherPlace apart at count k → (d : T) → slice_index_or out.new k d ≡ slice_index_or out.old k d }
+    ensures others { KeepsOtherChannels apart at count out.old out.new }
 {
     for k in 0..count {
         out[k * apart + at] = sample;
@@ -433,7 +429,7 @@ fn copy_channel<T: Copy>(
     requires at { at < apart }
     requires free { count * apart ≤ length out.old }
     ensures put { (k : ℕ) → k < count → (d : T) → slice_index_or out.new (k * apart + at) d ≡ slice_index_or (front.now ++ back.now) (from + k * step) d }
-    ensures others { (k : ℕ) → IsOtherPlace apart at count k → (d : T) → slice_index_or out.new k d ≡ slice_index_or out.old k d }
+    ensures others { KeepsOtherChannels apart at count out.old out.new }
 {
     let seam = front.len();
     let in_front = seam.saturating_sub(from).div_ceil(step).min(count);
@@ -459,7 +455,7 @@ fn copy_every<T: Copy>(
     requires at { at < apart }
     requires free { count * apart ≤ length out.old }
     ensures put { (k : ℕ) → k < count → (d : T) → slice_index_or out.new (k * apart + at) d ≡ slice_index_or source.now (from + k * step) d }
-    ensures others { (k : ℕ) → IsOtherPlace apart at count k → (d : T) → slice_index_or out.new k d ≡ slice_index_or out.old k d }
+    ensures others { KeepsOtherChannels apart at count out.old out.new }
 {
     for k in 0..count {
         out[k * apart + at] = source[from + k * step];

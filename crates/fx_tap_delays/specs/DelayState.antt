@@ -4,12 +4,11 @@ use Rattle.fx_fixed.specs.Extents.{largest}
 use Rattle.fx_frame_base.specs.declared.stage.ThawFault.{ThawFault}
 use Rattle.fx_frame_base.specs.Frame.{Samples, silence}
 use Rattle.fx_frame_base.specs.Lists.{pieces}
-use Rattle.fx_frame_base.specs.Stage.{Acts}
+use Rattle.fx_frame_base.specs.Stage.{Acts, Restores}
 use Rattle.fx_frame_line.specs.Line.{Frames}
 use Rattle.fx_frame_base.specs.Given.{plain}
 use Rattle.fx_frame.specs.Tapped.{IsTapState, Taps, TapState, tap_acts}
 use Rattle.fx_tap_delays.specs.Delay.{delayed_frame, delayed}
-use Rattle.fx_tap_delays.specs.Restored.{Restores}
 
 -- how `delay` makes frames; no sample is clipped
 abbrev pub delay_taps : Taps (List ℕ)

@@ -4,10 +4,9 @@ use Rattle.fx_fixed.specs.Extents.{largest}
 use Rattle.fx_tap_delays.specs.DelayExtents.{tap_delay}
 use Rattle.fx_frame_base.specs.declared.stage.ThawFault.{ThawFault}
 use Rattle.fx_frame_base.specs.Frame.{Samples}
-use Rattle.fx_frame_base.specs.Stage.{Acts}
+use Rattle.fx_frame_base.specs.Stage.{Acts, Restores}
 use Rattle.fx_frame.specs.Tapped.{IsTapState, Taps, TapState, tap_acts}
 use Rattle.fx_tap_delays.specs.Echo.{EchoArguments, echoed_frame, echo}
-use Rattle.fx_tap_delays.specs.Restored.{Restores}
 
 -- how `echo` makes frames
 abbrev pub echo_taps : Taps EchoArguments

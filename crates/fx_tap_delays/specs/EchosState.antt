@@ -9,14 +9,13 @@ use Rattle.fx_frame_base.specs.Frame.{Samples, silence}
 use Rattle.fx_frame_base.specs.Holds.{total}
 use Rattle.fx_frame_base.specs.PendingFrame.{IsPending}
 use Rattle.fx_frame_line.specs.Line.{Frames, IsLine, pushed, pushed_out, channel_of, empty}
-use Rattle.fx_frame_base.specs.Stage.{Given, Acts}
+use Rattle.fx_frame_base.specs.Stage.{Acts, Given, Restores}
 use Rattle.fx_tap_delays.specs.Echo.{EchoArguments, IsEcho}
 use Rattle.fx_frame_base.specs.Lists.{pieces, tabulate}
 use Rattle.fx_frame.specs.Kinds.{max_taken}
 use Rattle.fx_tap_sums.specs.Products.{sum_of_products}
 use Rattle.fx_frame_base.specs.Given.{given_samples}
 use Rattle.fx_tap_delays.specs.Echos.{decays, echos, echos_kind}
-use Rattle.fx_tap_delays.specs.Restored.{Restores}
 
 -- a frame and what the line before output, added
 abbrev pub fed : ℕ → Samples → Samples → Samples

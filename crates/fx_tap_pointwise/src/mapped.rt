@@ -358,16 +358,6 @@ impl<M: MapsMany + Drop> Feeds for Mapped<M> {
         }
     }
 
-    fn pass(&mut self, frame: &mut Frame) -> Passing {
-        let (made, clips) = self.mapping.map(*frame);
-        let _channels = made.channels();
-        *frame = made;
-        self.taken += 1;
-        self.given += 1;
-        self.clips += clips;
-        Passing::Through
-    }
-
     #[inline(always)]
     fn pass_samples(&mut self, samples: &mut [i32]) -> Passing {
         self.clips += self.mapping.map_over(samples);

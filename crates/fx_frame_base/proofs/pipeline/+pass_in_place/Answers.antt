@@ -1,7 +1,5 @@
-use Rattle.std.proofs.Common.{rules, arith, ℕ, ◌≡◌, ◌≤◌, ◌<◌, ◌+◌, ◌*◌, ◌∷◌, length, sym, ◌∙◌}
-use Rattle.fx_frame_base.specs.Holds.{kinds}
+use Rattle.std.proofs.Common.{rules, arith, ◌≡◌, ◌∷◌, length, ◌∙◌}
 use Rattle.fx_frame_base.specs.Lists.{pieces}
-use Rattle.fx_frame_base.specs.Pipeline.{AllAhead, AllKeep, AllOneToOne, AreReady}
 use Rattle.fx_frame_base.specs.Stage.{kind}
 use Rattle.fx_frame_base.proofs.Pieces.{length-pieces}
 use Rattle.fx_frame_base.proofs.PipelineLaws.{each-fewer}

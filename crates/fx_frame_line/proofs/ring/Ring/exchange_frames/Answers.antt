@@ -31,11 +31,6 @@ returns-clause-oldest g c = λ is.
     let bound : c.args.count ≤ c.self.inside.len = omega arith in
     ring-exchanged _ _ _ _ _ c.self.view_is c.self.invariant _ _ _ c.requires.frames bound c.exchange_oldest.ensures.oldest
 
-pub returns-clause-bound : goal.returns-clause-bound
-returns-clause-bound g c = λ is.
-    let held = ring-len _ _ _ _ _ c.self.view_is c.self.invariant in
-    omega arith
-
 pub returns-then-count-self-clause-when : goal.returns-then-count-self-clause-when
 returns-then-count-self-clause-when g c = (
   λ e. absurd (cc (e)),
