@@ -7,6 +7,10 @@ pub record FactorArguments : Type 0 where
   pub channels : ℕ
   pub factor : ℕ
 
+-- those with so many channels and this factor
+abbrev pub factor_with : ℕ → ℕ → FactorArguments
+factor_with channels factor = record { channels = channels; factor = factor }
+
 -- 1 to 16 channels, and a factor from 1 on
 pub record IsFactor (r : FactorArguments) : Type 0 where
   pub some_channels : 1 ≤ r.channels

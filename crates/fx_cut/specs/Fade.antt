@@ -71,6 +71,10 @@ pub record FadeArguments : Type 0 where
   pub channels : ℕ
   pub shape : FadeShape
 
+-- those with so many channels, a rise, a stop and a fall
+abbrev pub fade_with : ℕ → ℕ → Option At → ℕ → FadeArguments
+fade_with channels fade_in stop fade_out = record { channels = channels; shape = record { fade_in = fade_in; stop = stop; fade_out = fade_out } }
+
 -- fades of at most 2^40 frames
 pub record IsShape (f : FadeShape) : Type 0 where
   pub short_in : f.fade_in ≤ 2 ^ 40

@@ -65,6 +65,10 @@ pub record PadArguments : Type 0 where
   pub channels : ℕ
   pub pads : List (ℕ × At)
 
+-- those with so many channels and these pads
+abbrev pub pad_with : ℕ → List (ℕ × At) → PadArguments
+pad_with channels pads = record { channels = channels; pads = pads }
+
 -- what it takes and gives, and when each frame is due
 abbrev pub pad_kind : PadArguments → StageKind
 pad_kind r = record { inputs = r.channels; outputs = r.channels; line = largest (map pad_distance r.pads); limit = 2 ^ 56; due = pad_due r.pads; maximum = λ n. n + lengths r.pads; enough = None }

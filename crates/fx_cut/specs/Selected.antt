@@ -1,9 +1,10 @@
 -- A stage whose frames wait in a line until it is determined whether each is given, and with which samples (this project's
 -- profile).
-use Rattle.std.specs.Prelude.{ℕ, ℤ, ◌+◌, ◌-◌, ◌<◌, ◌≤◌, ◌≡◌, min, if◌then◌else◌, Bool, true, false, List, [], ◌∷◌, ◌++◌, count_by, flat_map, length, map, Option, Some, None, option_to_list, is_none}
+use Rattle.std.specs.Prelude.{ℕ, ℤ, ◌+◌, ◌-◌, ◌<◌, ◌≤◌, ◌≡◌, min, if◌then◌else◌, Bool, true, false, List, [], ◌∷◌, ◌++◌, count_by, flat_map, length, map, Option, Some, None, option_to_list, is_none, take}
 use Rattle.std.specs.List.{range_with_len, enumerate_from}
 use Rattle.std.specs.Int.{w32}
 use Rattle.fx_frame_base.specs.Frame.{Samples}
+use Rattle.fx_frame_base.specs.Lists.{pieces}
 use Rattle.fx_frame_line.specs.Line.{Frames, IsLine}
 use Rattle.fx_frame_base.specs.PendingFrame.{IsPending}
 use Rattle.fx_frame_base.specs.Stage.{Acts, Given, StageKind, coming}
@@ -25,6 +26,10 @@ pub record Selects (M : Type 0) : Type 0 where
   pub made : M → ℕ → ℕ → Samples → Given
   -- what is given for a whole sound
   pub meaning : M → List Samples → List Given
+
+-- `count` frames of a block came into a line, and in their places are the oldest of all, which fell out of it
+abbrev pub GaveOldest : Frames ℤ → ℕ → List ℤ → List ℤ → Type 0
+GaveOldest line count old new = pieces line.channels count new ≡ take count (line.items ++ pieces line.channels count old)
 
 -- what a stage with such arguments stores
 pub record SelectedState (M : Type 0) : Type 0 where
@@ -71,6 +76,15 @@ module _ {M : Type 0} (selects : Selects M) where
   -- what is still to be given of the frames of the line, the newest of which is the last that was taken, and of these that come
   abbrev pub selected_after : M → ℕ → List Samples → List Samples → List Given
   selected_after m taken items z = selected_from m (taken - length items + length (items ++ z)) (taken - length items) (items ++ z)
+
+  -- of a sound of `frames` frames that ends with those of a line, what was still to be given is a frame or none, and then what is
+  -- still to be given where these frames are left in the line
+  abbrev pub SelectsFirst : M → ℕ → List Samples → Option Samples → List Samples → Type 0
+  SelectsFirst m frames old first new = selected_after m frames old [] ≡ map plain (option_to_list first) ++ selected_after m frames new []
+
+  -- and so many are given before the frames that are left
+  abbrev pub CountsFirst : M → ℕ → List Samples → Option Samples → List Samples → Type 0
+  CountsFirst m frames old first new = given_before m frames (frames - length old) + length (option_to_list first) ≡ given_before m frames (frames - length new)
 
   -- the invariant of a stage
   pub record IsSelectedState (s : SelectedState M) : Type 0 where

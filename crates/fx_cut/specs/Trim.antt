@@ -49,6 +49,10 @@ pub record TrimArguments : Type 0 where
   pub channels : ℕ
   pub positions : List At
 
+-- those with so many channels and these positions
+abbrev pub trim_with : ℕ → List At → TrimArguments
+trim_with channels positions = record { channels = channels; positions = positions }
+
 -- what it takes and gives, and when each frame is due
 abbrev pub trim_kind : TrimArguments → StageKind
 trim_kind r = record { inputs = r.channels; outputs = r.channels; line = largest (map end_distance r.positions); limit = 2 ^ 56; due = trim_due r.positions; maximum = λ n. n; enough = trim_enough r.positions }

@@ -1,8 +1,8 @@
 //! The effect `downsample` of sox(1): the first frame of every group of as many frames as the factor.
 ghost use Rattle.std.specs.Prelude.{◌≡◌, ◌≤◌, ◌*◌, Ok, IfOk, IfErr, drop, length};
 ghost use Rattle.fx_frame_base.specs.Lists.{pieces};
-ghost use Rattle.fx_frame_base.specs.Stage.{Freezes, IsNew};
-ghost use Rattle.fx_cut.specs.Factor.{FactorArguments, IsFactor};
+ghost use Rattle.fx_frame_base.specs.Stage.{Freezes, IsNew, RestoresAlways};
+ghost use Rattle.fx_cut.specs.Factor.{FactorArguments, IsFactor, factor_with};
 ghost use Rattle.fx_cut.specs.DownsampleState.{DownsampleState, IsDownsample, downsample_acts};
 ghost use Rattle.fx_cut.specs.Strides.{firsts};
 
@@ -72,8 +72,8 @@ impl Model for Downsample {
 impl Downsample {
     /// The stage for frames of 1 to 16 channels and a factor from 1 to 256. Allocates no memory.
     pub fn new(channels: usize, factor: u64) -> Downsample
-        requires { IsFactor (record { channels = channels; factor = factor }) }
-        ensures { IsNew downsample_acts (record { channels = channels; factor = factor }) result }
+        requires { IsFactor (factor_with channels factor) }
+        ensures { IsNew downsample_acts (factor_with channels factor) result }
     {
         Downsample {
             pending: None,
@@ -94,10 +94,11 @@ impl Downsample {
         frames: &[WideFrame],
         numbers: &[u64; 8],
     ) -> Result<Downsample, ThawFault>
-        requires { IsFactor (record { channels = channels; factor = factor }) }
-        ensures recipe { IfOk result (λ t. t.recipe ≡ record { channels = channels; factor = factor }) }
+        requires { IsFactor (factor_with channels factor) }
+        ensures recipe { IfOk result (λ t. t.recipe ≡ factor_with channels factor) }
         ensures frozen { IfOk result (λ t. Freezes downsample_acts t frames.now numbers.now) }
-        ensures thawed { (s : DownsampleState) → IsDownsample s → s.recipe ≡ record { channels = channels; factor = factor } → Freezes downsample_acts s frames.now numbers.now → result ≡ Ok s }
+        ensures thawed { RestoresAlways downsample_acts IsDownsample
+            (factor_with channels factor) frames.now numbers.now result }
         ensures refused { IfErr result (λ e. e ≡ ThawFault.BadSnapshot) }
     {
         let [taken, given, ended, 0, held, skip, 0, 0] = *numbers else {

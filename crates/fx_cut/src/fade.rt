@@ -1,15 +1,15 @@
 //! The effect `fade` of sox(1), of the type t: a linear rise at the start and a linear fall before the stop.
-ghost use Rattle.std.specs.Prelude.{ℕ, ◌≡◌, ◌≤◌, ◌<◌, ◌+◌, ◌*◌, ◌^◌, length, map, Err, FitsSigned, IfOk, MatchResult, false, option_to_list, true};
+ghost use Rattle.std.specs.Prelude.{ℕ, ◌≡◌, ◌≤◌, ◌<◌, ◌+◌, ◌*◌, ◌^◌, length, map, Err, FitsSigned, IfOk, false, option_to_list, true};
 ghost use Rattle.std.specs.Int.{w32};
 ghost use Rattle.std.specs.List.{All};
 ghost use Rattle.fx_cut.specs.FadeExtents.{effective, stop_line};
 ghost use Rattle.fx_frame_base.specs.PendingFrame.{IsPending};
-ghost use Rattle.fx_frame_base.specs.Stage.{Freezes, IsNew};
+ghost use Rattle.fx_frame_base.specs.Stage.{Freezes, IsNew, Restores};
 ghost use Rattle.fx_frame_base.specs.Given.{plain};
 ghost use Rattle.fx_frame_base.specs.Rounded.{unclipped};
-ghost use Rattle.fx_cut.specs.Fade.{FadeArguments, fade_enough, fade_line, stop_in, until, weighted, weights};
-ghost use Rattle.fx_cut.specs.FadeState.{fade_acts, fade_selects, faded_here, is_before, stop_determined};
-ghost use Rattle.fx_cut.specs.Selected.{IsSelectedState, SelectedState};
+ghost use Rattle.fx_cut.specs.Fade.{FadeArguments, fade_line, stop_in, until, weighted, weights, fade_with};
+ghost use Rattle.fx_cut.specs.FadeState.{fade_acts, fade_selects, faded_here, is_before, stop_determined, weights_determined};
+ghost use Rattle.fx_cut.specs.Selected.{IsSelectedState};
 
 pub mod words;
 
@@ -68,7 +68,7 @@ impl PreparedFade {
     /// Prepares the rise and the fall of a fade. A stop at 0 from the start means the end.
     fn of(channels: usize, fade_in: u64, stop: Option<At>, fade_out: u64) -> PreparedFade
         requires fades { (fade_in ≤ 2 ^ 40) × (fade_out ≤ 2 ^ 40) }
-        ensures { result ≡ record { channels = channels; shape = record { fade_in = fade_in; stop = effective stop; fade_out = fade_out } } }
+        ensures { result ≡ fade_with channels fade_in (effective stop) fade_out }
     {
         let rise = Slope::new(fade_in);
         let fall = Slope::new(fade_out);
@@ -122,7 +122,7 @@ impl PreparedFade {
     /// line.
     #[inline(always)]
     fn flat_from(&self, place: u64) -> u64
-        ensures whole { (n : ℕ) → n < result → (weights self.now.shape (stop_determined self.now.shape (place + n)) (place + n)).0 ≡ (weights self.now.shape (stop_determined self.now.shape (place + n)) (place + n)).1 }
+        ensures whole { (n : ℕ) → n < result → let w = weights_determined self.now.shape (place + n) in w.0 ≡ w.1 }
         ensures before { (n : ℕ) → n < result → is_before (stop_determined self.now.shape (place + n)) (place + n) ≡ true }
     {
         if place < self.shape.fade_in {
@@ -172,7 +172,7 @@ impl PreparedFade {
         requires fit { All (FitsSigned w32) samples.old }
         requires place { place ≤ 2 ^ 56 }
         ensures before { result ≡ is_before (stop_determined self.now.shape place) place }
-        ensures samples { result ≡ true → map (weighted (weights self.now.shape (stop_determined self.now.shape place) place)) samples.old ≡ map unclipped samples.new }
+        ensures samples { result ≡ true → map (weighted (weights_determined self.now.shape place)) samples.old ≡ map unclipped samples.new }
         ensures left { result ≡ false → samples.new ≡ samples.old }
         ensures fit { All (FitsSigned w32) samples.new }
         ensures len { length samples.new ≡ length samples.old }
@@ -316,7 +316,7 @@ impl Selected<PreparedFade> {
         requires channels { (1 ≤ channels) × (channels ≤ 16) }
         requires fades { (fade_in ≤ 2 ^ 40) × (fade_out ≤ 2 ^ 40) }
         requires line { stop_line (effective stop) fade_out ≤ 2 ^ 28 }
-        ensures { IfOk result (IsNew fade_acts (record { channels = channels; shape = record { fade_in = fade_in; stop = effective stop; fade_out = fade_out } })) }
+        ensures { IfOk result (IsNew fade_acts (fade_with channels fade_in (effective stop) fade_out)) }
     {
         let fading = PreparedFade::of(channels, fade_in, stop, fade_out);
         let reach = fading.line();
@@ -337,10 +337,11 @@ impl Selected<PreparedFade> {
         requires channels { (1 ≤ channels) × (channels ≤ 16) }
         requires fades { (fade_in ≤ 2 ^ 40) × (fade_out ≤ 2 ^ 40) }
         requires line { stop_line (effective stop) fade_out ≤ 2 ^ 28 }
-        ensures recipe { IfOk result (λ t. t.arguments ≡ record { channels = channels; shape = record { fade_in = fade_in; stop = effective stop; fade_out = fade_out } }) }
+        ensures recipe { IfOk result (λ t. t.arguments ≡ fade_with channels fade_in (effective stop) fade_out) }
         ensures frozen { IfOk result (λ t. Freezes fade_acts t frames.now numbers.now) }
         ensures named { (result ≡ Err ThawFault.WrongPlan) → ⊥ }
-        ensures thawed { (s : SelectedState FadeArguments) → IsSelectedState fade_selects s → s.arguments ≡ record { channels = channels; shape = record { fade_in = fade_in; stop = effective stop; fade_out = fade_out } } → Freezes fade_acts s frames.now numbers.now → MatchResult result (λ t. t ≡ s) (λ e. e ≡ ThawFault.Memory) }
+        ensures thawed { Restores fade_acts (IsSelectedState fade_selects)
+            (fade_with channels fade_in (effective stop) fade_out) frames.now numbers.now result }
     {
         let fading = PreparedFade::of(channels, fade_in, stop, fade_out);
         let reach = fading.line();

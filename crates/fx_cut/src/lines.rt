@@ -1,8 +1,9 @@
 //! Lines whose capacity may be 0.
-ghost use Rattle.std.specs.Prelude.{◌≡◌, ◌≤◌, ◌*◌, ◌++◌, ◌^◌, length, take, false, true, None, Some, if◌then◌else◌};
+ghost use Rattle.std.specs.Prelude.{◌≡◌, ◌≤◌, ◌*◌, ◌^◌, length, false, true, None, Some, if◌then◌else◌};
 ghost use Rattle.fx_frame_base.specs.Frame.{IsFrame};
 ghost use Rattle.fx_frame_base.specs.Lists.{pieces};
 ghost use Rattle.fx_frame_line.specs.Line.{pushed, pushed_all, pushed_out};
+ghost use Rattle.fx_cut.specs.Selected.{GaveOldest};
 
 use fx_frame::Line;
 use fx_frame::groups::{SAMPLES_OF_BATCH, SAMPLES_OF_GROUP, frames_of_group};
@@ -34,7 +35,7 @@ pub fn push_over(line: &mut Line, samples: &mut [i32]) -> bool
 fn exchange_group<const PLACES: usize>(line: &mut Line, samples: &mut [i32], count: usize)
     requires group { (length samples.old ≤ PLACES) × (PLACES ≤ 64) }
     requires samples { length samples.old ≡ count * line.old.channels }
-    ensures oldest { pieces line.old.channels count samples.new ≡ take count (line.old.items ++ pieces line.old.channels count samples.old) }
+    ensures oldest { GaveOldest line.old count samples.old samples.new }
     ensures items { line.new.items ≡ pushed_all line.old (pieces line.old.channels count samples.old) }
     ensures capacity { line.new.capacity ≡ line.old.capacity }
     ensures channels { line.new.channels ≡ line.old.channels }
@@ -57,7 +58,7 @@ fn exchange_groups(line: &mut Line, channels: usize, samples: &mut [i32], count:
     requires full { 1 ≤ count → length line.old.items ≡ line.old.capacity }
     requires bound { count ≤ 2 ^ 56 }
     requires samples { length samples.old ≡ count * line.old.channels }
-    ensures fallen { pieces line.old.channels count samples.new ≡ take count (line.old.items ++ pieces line.old.channels count samples.old) }
+    ensures fallen { GaveOldest line.old count samples.old samples.new }
     ensures items { line.new.items ≡ pushed_all line.old (pieces line.old.channels count samples.old) }
     ensures capacity { line.new.capacity ≡ line.old.capacity }
     ensures channels { line.new.channels ≡ line.old.channels }
@@ -82,7 +83,7 @@ pub fn exchange_full(line: &mut Line, channels: usize, samples: &mut [i32], coun
     requires full { 1 ≤ count → length line.old.items ≡ line.old.capacity }
     requires bound { count ≤ 2 ^ 56 }
     requires samples { length samples.old ≡ count * line.old.channels }
-    ensures fallen { pieces line.old.channels count samples.new ≡ take count (line.old.items ++ pieces line.old.channels count samples.old) }
+    ensures fallen { GaveOldest line.old count samples.old samples.new }
     ensures items { line.new.items ≡ pushed_all line.old (pieces line.old.channels count samples.old) }
     ensures capacity { line.new.capacity ≡ line.old.capacity }
     ensures channels { line.new.channels ≡ line.old.channels }

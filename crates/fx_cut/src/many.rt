@@ -1,7 +1,6 @@
 //! Stages that pass many frames in one piece, and the rest one at a time.
-ghost use Rattle.std.specs.Prelude.{◌≡◌, ◌<◌, ◌≤◌, ◌+◌, ◌*◌, ℕ, true, false, drop, length};
-ghost use Rattle.fx_frame_base.specs.Feed.{Fed, PassedOn, TookWithinSpace};
-ghost use Rattle.fx_frame_base.specs.Lists.{pieces};
+ghost use Rattle.std.specs.Prelude.{◌≡◌, ◌<◌, ◌≤◌, ◌+◌, ◌*◌, true, false, length};
+ghost use Rattle.fx_frame_base.specs.Feed.{PassedOn, TookWithinSpace, FedBlock, KeepsRest, LeavesSpace, MayTakeAll, UsesInput};
 ghost use Rattle.fx_frame_base.specs.Stage.{IsDry, kind, spent};
 
 use fx_frame::{Passed, Passing, Stage};
@@ -14,11 +13,11 @@ pub trait PassesMany: Stage {
     /// where it has no space for one frame, none is taken.
     fn pass_many(&mut self, input: &[i32], output: &mut [i32]) -> Passed
         requires channels { (1 ≤ (kind Self.acts self.old).inputs) × ((kind Self.acts self.old).inputs ≤ 16) }
-        requires below_limit { (n : ℕ) → n * (kind Self.acts self.old).inputs ≤ length input.now → (Self.acts.counts self.old).taken + n ≤ (kind Self.acts self.old).limit }
-        ensures fed { Fed Self.acts self.old (pieces (kind Self.acts self.old).inputs result.taken input.now) (pieces (kind Self.acts self.old).outputs result.given output.new) self.new }
+        requires below_limit { MayTakeAll Self.acts self.old input.now }
+        ensures fed { FedBlock Self.acts self.old self.new result.taken input.now result.given output.new }
         ensures read { result.taken * (kind Self.acts self.old).inputs ≤ length input.now }
         ensures written { result.given * (kind Self.acts self.old).outputs ≤ length output.new }
-        ensures rest_unchanged { drop (result.given * (kind Self.acts self.old).outputs) output.new ≡ drop (result.given * (kind Self.acts self.old).outputs) output.old }
+        ensures rest_unchanged { KeepsRest Self.acts self.old result.given output.old output.new }
         ensures free { TookWithinSpace Self.acts self.old result.taken (length output.old) };
 }
 
@@ -26,14 +25,13 @@ pub trait PassesMany: Stage {
 /// no space for one frame, none is taken.
 fn feed_piece<S: PassesMany>(stage: &mut S, input: &[i32], output: &mut [i32]) -> Passed
     requires channels { (1 ≤ (kind S.acts stage.old).inputs) × ((kind S.acts stage.old).inputs ≤ 16) }
-    requires below_limit { (n : ℕ) → n * (kind S.acts stage.old).inputs ≤ length input.now → (S.acts.counts stage.old).taken + n ≤ (kind S.acts stage.old).limit }
-    ensures fed { Fed S.acts stage.old (pieces (kind S.acts stage.old).inputs result.taken input.now) (pieces (kind S.acts stage.old).outputs result.given output.new) stage.new }
+    requires below_limit { MayTakeAll S.acts stage.old input.now }
+    ensures fed { FedBlock S.acts stage.old stage.new result.taken input.now result.given output.new }
     ensures read { result.taken * (kind S.acts stage.old).inputs ≤ length input.now }
     ensures written { result.given * (kind S.acts stage.old).outputs ≤ length output.new }
-    ensures rest_unchanged { drop (result.given * (kind S.acts stage.old).outputs) output.new ≡ drop (result.given * (kind S.acts stage.old).outputs) output.old }
-    ensures dry { result.given * (kind S.acts stage.old).outputs + (kind S.acts stage.old).outputs ≤ length output.new → S.acts.dry stage.new ≡ true }
-    ensures used { result.given * (kind S.acts stage.old).outputs + (kind S.acts stage.old).outputs ≤ length output.new → (S.acts.counts stage.new).ended ≡ false → spent S.acts stage.new ≡ false
-        → length input.now < result.taken * (kind S.acts stage.old).inputs + (kind S.acts stage.old).inputs }
+    ensures rest_unchanged { KeepsRest S.acts stage.old result.given output.old output.new }
+    ensures dry { LeavesSpace S.acts stage.old result.given output.new → S.acts.dry stage.new ≡ true }
+    ensures used { UsesInput S.acts stage.old stage.new result.taken input.now result.given output.new }
     ensures free { TookWithinSpace S.acts stage.old result.taken (length output.old) }
 {
     let inputs = stage.in_channels();
@@ -55,14 +53,13 @@ fn feed_piece<S: PassesMany>(stage: &mut S, input: &[i32], output: &mut [i32]) -
 /// frame. It takes a frame only while the output has space for one more; where it has no space for one frame, none is taken.
 pub fn feed_by_pieces<S: PassesMany>(stage: &mut S, input: &[i32], output: &mut [i32]) -> Passed
     requires channels { (1 ≤ (kind S.acts stage.old).inputs) × ((kind S.acts stage.old).inputs ≤ 16) }
-    requires below_limit { (n : ℕ) → n * (kind S.acts stage.old).inputs ≤ length input.now → (S.acts.counts stage.old).taken + n ≤ (kind S.acts stage.old).limit }
-    ensures fed { Fed S.acts stage.old (pieces (kind S.acts stage.old).inputs result.taken input.now) (pieces (kind S.acts stage.old).outputs result.given output.new) stage.new }
+    requires below_limit { MayTakeAll S.acts stage.old input.now }
+    ensures fed { FedBlock S.acts stage.old stage.new result.taken input.now result.given output.new }
     ensures read { result.taken * (kind S.acts stage.old).inputs ≤ length input.now }
     ensures written { result.given * (kind S.acts stage.old).outputs ≤ length output.new }
-    ensures rest_unchanged { drop (result.given * (kind S.acts stage.old).outputs) output.new ≡ drop (result.given * (kind S.acts stage.old).outputs) output.old }
-    ensures dry { result.given * (kind S.acts stage.old).outputs + (kind S.acts stage.old).outputs ≤ length output.new → S.acts.dry stage.new ≡ true }
-    ensures used { result.given * (kind S.acts stage.old).outputs + (kind S.acts stage.old).outputs ≤ length output.new → (S.acts.counts stage.new).ended ≡ false → spent S.acts stage.new ≡ false
-        → length input.now < result.taken * (kind S.acts stage.old).inputs + (kind S.acts stage.old).inputs }
+    ensures rest_unchanged { KeepsRest S.acts stage.old result.given output.old output.new }
+    ensures dry { LeavesSpace S.acts stage.old result.given output.new → S.acts.dry stage.new ≡ true }
+    ensures used { UsesInput S.acts stage.old stage.new result.taken input.now result.given output.new }
     ensures free { TookWithinSpace S.acts stage.old result.taken (length output.old) }
 {
     let inputs = stage.in_channels();

@@ -1,12 +1,12 @@
 //! The effect `pad` of sox(1): silence at positions.
-ghost use Rattle.std.specs.Prelude.{ℕ, ◌≡◌, ◌<◌, ◌≤◌, ◌+◌, ◌-◌, ◌^◌, drop, filter, length, nat_lt, slice_get, sum_by, Err, IfOk, MatchResult, true, false, map};
+ghost use Rattle.std.specs.Prelude.{ℕ, ◌≡◌, ◌<◌, ◌≤◌, ◌+◌, ◌-◌, ◌^◌, drop, filter, length, nat_lt, slice_get, sum_by, Err, IfOk, true, false, map};
 ghost use Rattle.std.specs.Int.{w32};
 ghost use Rattle.fx_fixed.specs.Extents.{largest};
 ghost use Rattle.fx_cut.specs.PadExtents.{pad_distance};
 ghost use Rattle.fx_frame_base.specs.PendingFrame.{IsPending};
 ghost use Rattle.fx_frame_line.specs.Line.{IsLine};
-ghost use Rattle.fx_frame_base.specs.Stage.{Freezes, IsNew};
-ghost use Rattle.fx_cut.specs.Pad.{IsPads, PadArguments, lengths, pads_from_start, placed, silent_at};
+ghost use Rattle.fx_frame_base.specs.Stage.{Freezes, IsNew, Restores};
+ghost use Rattle.fx_cut.specs.Pad.{IsPads, PadArguments, lengths, pads_from_start, placed, silent_at, pad_with};
 ghost use Rattle.fx_cut.specs.PadState.{IsPad, IsPadCount, PadState, later_count, pad_acts, pad_rises, silence_from};
 
 pub mod words;
@@ -285,7 +285,7 @@ impl Pad {
         requires channels { (1 ≤ channels) × (channels ≤ 16) }
         requires pads { IsPads pads.now }
         requires line { largest (map pad_distance pads.now) ≤ 2 ^ 28 }
-        ensures { IfOk result (IsNew pad_acts (record { channels = channels; pads = pads.now })) }
+        ensures { IfOk result (IsNew pad_acts (pad_with channels pads.now)) }
     {
         let line = Line::new(alloc, channels, max_pad_end(pads) as usize)?;
         let mut copies = Vec::new(alloc);
@@ -314,10 +314,10 @@ impl Pad {
         requires channels { (1 ≤ channels) × (channels ≤ 16) }
         requires pads { IsPads pads.now }
         requires line { largest (map pad_distance pads.now) ≤ 2 ^ 28 }
-        ensures recipe { IfOk result (λ t. t.recipe ≡ record { channels = channels; pads = pads.now }) }
+        ensures recipe { IfOk result (λ t. t.recipe ≡ pad_with channels pads.now) }
         ensures frozen { IfOk result (λ t. Freezes pad_acts t frames.now numbers.now) }
         ensures named { (result ≡ Err ThawFault.WrongPlan) → ⊥ }
-        ensures thawed { (s : PadState) → IsPad s → s.recipe ≡ record { channels = channels; pads = pads.now } → Freezes pad_acts s frames.now numbers.now → MatchResult result (λ t. t ≡ s) (λ e. e ≡ ThawFault.Memory) }
+        ensures thawed { Restores pad_acts IsPad (pad_with channels pads.now) frames.now numbers.now result }
     {
         let [taken, given, ended, 0, held, silent, pending_count, 0] = *numbers else {
             return Err(ThawFault::BadSnapshot);

@@ -1,14 +1,14 @@
 //! Effects that give each frame, changed or unchanged, or omit it, by its place in the sound: a frame waits in a
 //! line until that is determined.
-ghost use Rattle.std.specs.Prelude.{ℕ, ◌≡◌, ◌<◌, ◌≤◌, ◌+◌, ◌-◌, ◌*◌, ◌++◌, ◌^◌, [], length, map, Err, FitsSigned, IfOk, MatchResult, None, option_to_list, true, false, if◌then◌else◌};
+ghost use Rattle.std.specs.Prelude.{ℕ, ◌≡◌, ◌<◌, ◌≤◌, ◌+◌, ◌-◌, ◌*◌, ◌^◌, [], length, map, Err, FitsSigned, IfOk, None, option_to_list, true, false, if◌then◌else◌};
 ghost use Rattle.std.specs.Int.{w32};
 ghost use Rattle.std.specs.List.{All};
 ghost use Rattle.fx_frame_base.specs.PendingFrame.{IsPending};
 ghost use Rattle.fx_frame_line.specs.Line.{IsLine};
 ghost use Rattle.fx_frame_base.specs.Lists.{pieces};
-ghost use Rattle.fx_frame_base.specs.Stage.{Freezes, IsNew, is_enough};
+ghost use Rattle.fx_frame_base.specs.Stage.{Freezes, IsNew, is_enough, Restores};
 ghost use Rattle.fx_frame_base.specs.Given.{plain};
-ghost use Rattle.fx_cut.specs.Selected.{AreDetermined, IsSelectCount, Selects, SelectedState, given_before, made_along, determined_in, selected_acts, selected_after, selected_here};
+ghost use Rattle.fx_cut.specs.Selected.{AreDetermined, IsSelectCount, Selects, SelectedState, given_before, made_along, determined_in, selected_acts, selected_here, CountsFirst, SelectsFirst, IsSelectedState};
 
 use crate::lines::{exchange_full, push_over};
 use crate::many::{PassesMany, feed_by_pieces};
@@ -142,8 +142,8 @@ fn is_count<S: Selection>(
 #[inline(never)]
 fn next_selected<S: Selection>(line: &mut Line, selection: &S, frames: u64) -> Option<Frame>
     requires { length line.old.items ≤ frames }
-    ensures rest { selected_after S.selects selection.now frames line.old.items [] ≡ map plain (option_to_list result) ++ selected_after S.selects selection.now frames line.new.items [] }
-    ensures given { given_before S.selects selection.now frames (frames - length line.old.items) + length (option_to_list result) ≡ given_before S.selects selection.now frames (frames - length line.new.items) }
+    ensures rest { SelectsFirst S.selects selection.now frames line.old.items result line.new.items }
+    ensures given { CountsFirst S.selects selection.now frames line.old.items result line.new.items }
     ensures empty { result ≡ None → line.new.items ≡ [] }
     ensures bound { length (option_to_list result) + length line.new.items ≤ length line.old.items }
     ensures pending { IsPending line.old.channels result }
@@ -221,7 +221,7 @@ impl<S: Selection + Drop> Selected<S> {
         ensures recipe { IfOk result (λ t. t.arguments ≡ selection) }
         ensures frozen { IfOk result (λ t. Freezes (selected_acts S.selects) t frames.now numbers.now) }
         ensures named { (result ≡ Err ThawFault.WrongPlan) → ⊥ }
-        ensures thawed { (s : SelectedState S) → IsSelectedState S.selects s → s.arguments ≡ selection → Freezes (selected_acts S.selects) s frames.now numbers.now → MatchResult result (λ t. t ≡ s) (λ e. e ≡ ThawFault.Memory) }
+        ensures thawed { Restores (selected_acts S.selects) (IsSelectedState S.selects) selection frames.now numbers.now result }
     {
         let [taken, given, ended, 0, held, pending_count, 0, 0] = *numbers else {
             return Err(ThawFault::BadSnapshot);

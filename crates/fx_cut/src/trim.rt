@@ -1,11 +1,11 @@
 //! The effect `trim` of sox(1): the frames after an odd number of positions.
-ghost use Rattle.std.specs.Prelude.{ℕ, ◌≡◌, ◌<◌, ◌≤◌, ◌+◌, ◌-◌, ◌^◌, count_by, if◌then◌else◌, Err, IfOk, MatchResult, map};
+ghost use Rattle.std.specs.Prelude.{ℕ, ◌≡◌, ◌<◌, ◌≤◌, ◌+◌, ◌-◌, ◌^◌, count_by, if◌then◌else◌, Err, IfOk, map};
 ghost use Rattle.std.specs.List.{range_with_len};
 ghost use Rattle.fx_fixed.specs.Extents.{end_distance, largest};
 ghost use Rattle.fx_fixed.specs.Positions.{place_of, places_of};
-ghost use Rattle.fx_frame_base.specs.Stage.{Freezes, IsNew};
-ghost use Rattle.fx_cut.specs.Selected.{IsSelectedState, SelectedState};
-ghost use Rattle.fx_cut.specs.Trim.{TrimArguments, keeps, starts, trim_enough};
+ghost use Rattle.fx_frame_base.specs.Stage.{Freezes, IsNew, Restores};
+ghost use Rattle.fx_cut.specs.Selected.{IsSelectedState};
+ghost use Rattle.fx_cut.specs.Trim.{TrimArguments, keeps, starts, trim_enough, trim_with};
 ghost use Rattle.fx_cut.specs.TrimState.{kept_count, trim_acts, trim_selects};
 
 pub mod words;
@@ -76,7 +76,7 @@ impl Model for Cuts {
 impl Cuts {
     /// Those of these positions; AllocError where memory for them is refused.
     fn of(alloc: Global, channels: usize, positions: &[At]) -> Result<Cuts, AllocError>
-        ensures { IfOk result (λ c. c ≡ record { channels = channels; positions = positions.now }) }
+        ensures { IfOk result (λ c. c ≡ trim_with channels positions.now) }
     {
         let mut copies = Vec::new(alloc);
         copies.extend_from_slice(positions)?;
@@ -268,7 +268,7 @@ impl Selected<Cuts> {
     pub fn new(alloc: Global, channels: usize, positions: &[At]) -> Result<Trim, AllocError>
         requires channels { (1 ≤ channels) × (channels ≤ 16) }
         requires line { largest (map end_distance positions.now) ≤ 2 ^ 28 }
-        ensures { IfOk result (IsNew trim_acts (record { channels = channels; positions = positions.now })) }
+        ensures { IfOk result (IsNew trim_acts (trim_with channels positions.now)) }
     {
         let cuts = Cuts::of(alloc, channels, positions)?;
         Selected::of(alloc, cuts, max_end(positions))
@@ -285,10 +285,11 @@ impl Selected<Cuts> {
     ) -> Result<Trim, ThawFault>
         requires channels { (1 ≤ channels) × (channels ≤ 16) }
         requires line { largest (map end_distance positions.now) ≤ 2 ^ 28 }
-        ensures recipe { IfOk result (λ t. t.arguments ≡ record { channels = channels; positions = positions.now }) }
+        ensures recipe { IfOk result (λ t. t.arguments ≡ trim_with channels positions.now) }
         ensures frozen { IfOk result (λ t. Freezes trim_acts t frames.now numbers.now) }
         ensures named { (result ≡ Err ThawFault.WrongPlan) → ⊥ }
-        ensures thawed { (s : SelectedState TrimArguments) → IsSelectedState trim_selects s → s.arguments ≡ record { channels = channels; positions = positions.now } → Freezes trim_acts s frames.now numbers.now → MatchResult result (λ t. t ≡ s) (λ e. e ≡ ThawFault.Memory) }
+        ensures thawed { Restores trim_acts (IsSelectedState trim_selects) (trim_with channels positions.now)
+            frames.now numbers.now result }
     {
         let Ok(cuts) = Cuts::of(alloc, channels, positions) else {
             return Err(ThawFault::Memory);

@@ -1,8 +1,8 @@
 //! The effect `upsample` of sox(1): each frame is followed by silence.
 ghost use Rattle.std.specs.Prelude.{◌≡◌, ◌≤◌, ◌-◌, ◌*◌, ◌++◌, Ok, IfOk, IfErr, drop, length, pos, replicate};
 ghost use Rattle.fx_frame_base.specs.Lists.{pieces};
-ghost use Rattle.fx_frame_base.specs.Stage.{Freezes, IsNew};
-ghost use Rattle.fx_cut.specs.Factor.{FactorArguments, IsFactor};
+ghost use Rattle.fx_frame_base.specs.Stage.{Freezes, IsNew, RestoresAlways};
+ghost use Rattle.fx_cut.specs.Factor.{FactorArguments, IsFactor, factor_with};
 ghost use Rattle.fx_cut.specs.UpsampleState.{UpsampleState, IsUpsample, upsample_acts};
 ghost use Rattle.fx_cut.specs.Strides.{spread};
 
@@ -84,8 +84,8 @@ impl Model for Upsample {
 impl Upsample {
     /// The stage for frames of 1 to 16 channels and a factor from 1 to 256. Allocates no memory.
     pub fn new(channels: usize, factor: u64) -> Upsample
-        requires { IsFactor (record { channels = channels; factor = factor }) }
-        ensures { IsNew upsample_acts (record { channels = channels; factor = factor }) result }
+        requires { IsFactor (factor_with channels factor) }
+        ensures { IsNew upsample_acts (factor_with channels factor) result }
     {
         Upsample {
             pending: None,
@@ -106,10 +106,11 @@ impl Upsample {
         frames: &[WideFrame],
         numbers: &[u64; 8],
     ) -> Result<Upsample, ThawFault>
-        requires { IsFactor (record { channels = channels; factor = factor }) }
-        ensures recipe { IfOk result (λ t. t.recipe ≡ record { channels = channels; factor = factor }) }
+        requires { IsFactor (factor_with channels factor) }
+        ensures recipe { IfOk result (λ t. t.recipe ≡ factor_with channels factor) }
         ensures frozen { IfOk result (λ t. Freezes upsample_acts t frames.now numbers.now) }
-        ensures thawed { (s : UpsampleState) → IsUpsample s → s.recipe ≡ record { channels = channels; factor = factor } → Freezes upsample_acts s frames.now numbers.now → result ≡ Ok s }
+        ensures thawed { RestoresAlways upsample_acts IsUpsample
+            (factor_with channels factor) frames.now numbers.now result }
         ensures refused { IfErr result (λ e. e ≡ ThawFault.BadSnapshot) }
     {
         let [taken, given, ended, 0, held, silent, 0, 0] = *numbers else {

@@ -12,7 +12,6 @@ pub mod Echos
 pub mod EchosState
 pub mod EchosStored
 pub mod Near
-pub mod Restored
 pub mod Sums
 pub mod Tapping
 pub mod Texts

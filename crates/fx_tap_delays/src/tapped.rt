@@ -3,9 +3,8 @@
 ghost use Rattle.std.specs.Prelude.{◌≡◌, ◌↔◌, ◌+◌, true, ◌<◌, ◌≤◌, ◌*◌, ◌^◌, ◌++◌, ◌∷◌, [], None, drop, length, Err, IfOk};
 ghost use Rattle.fx_frame_line.specs.Line.{pushed, pushed_all};
 ghost use Rattle.fx_frame_base.specs.Lists.{pieces};
-ghost use Rattle.fx_frame_base.specs.Stage.{Freezes, Gave, IsNew};
+ghost use Rattle.fx_frame_base.specs.Stage.{Freezes, Gave, IsNew, Restores};
 ghost use Rattle.fx_frame.specs.Tapped.{AreTapCounts, IsNear, IsTapState, MakesBlock, TapState, Taps, by_name, clips_in_block, tap_acts};
-ghost use Rattle.fx_tap_delays.specs.Restored.{Restores};
 ghost use Rattle.fx_tap_delays.specs.Tapping.{CountsClips, IsLineFor, history_after};
 
 use fx_frame::frozen::{stored_in, thawed_line_and_pending};

@@ -6,7 +6,7 @@ use Rattle.fx_fixed.specs.declared.gains.TheConstants.{UNIT}
 use Rattle.fx_frame_base.specs.Frame.{Samples}
 use Rattle.fx_frame_base.specs.PendingFrame.{IsPending}
 use Rattle.fx_frame_line.specs.Line.{Frames, IsLine}
-use Rattle.fx_frame_base.specs.Stage.{Given, Acts, Freezes}
+use Rattle.fx_frame_base.specs.Stage.{Given, Acts, Restores}
 use Rattle.fx_frame.specs.Tapped.{TailNumbers, Taps}
 use Rattle.fx_frame_base.specs.Lists.{tabulate}
 use Rattle.fx_frame.specs.Kinds.{max_taken}
@@ -112,4 +112,4 @@ fir_acts = record {
 
 -- each sound `fir` with these arguments that stored these frames and counted these numbers is restored, unless memory is refused
 abbrev pub RestoresFir : FirArguments → List Samples → List ℕ → Result FirState ThawFault → Type 0
-RestoresFir r frames numbers result = (s : FirState) → IsFir s → arguments_of s ≡ r → Freezes fir_acts s frames numbers → MatchResult result (λ t. t ≡ s) (λ e. e ≡ Memory)
+RestoresFir = Restores fir_acts IsFir

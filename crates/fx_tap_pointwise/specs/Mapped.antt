@@ -4,7 +4,7 @@ use Rattle.fx_frame_base.specs.declared.stage.ThawFault.{ThawFault}
 use Rattle.fx_frame_base.specs.Frame.{Samples}
 use Rattle.fx_frame_base.specs.Lists.{pieces}
 use Rattle.fx_frame_base.specs.PendingFrame.{IsPending}
-use Rattle.fx_frame_base.specs.Stage.{Given, Acts, Freezes, coming}
+use Rattle.fx_frame_base.specs.Stage.{Given, Acts, coming, RestoresAlways}
 use Rattle.fx_frame.specs.Kinds.{map_kind, max_taken}
 use Rattle.fx_frame.specs.Made.{made_of}
 
@@ -75,5 +75,4 @@ MapsBlock inputs outputs mapped m count input output = pieces (outputs m) count 
 
 -- each sound stage of this mapping that stored these frames and counted these numbers is restored
 abbrev pub RestoresMapped : {M : Type 0} → (M → ℕ) → (M → ℕ) → (M → Samples → Given) → M → List Samples → List ℕ → Result (MapState M) ThawFault → Type 0
-RestoresMapped {M} inputs outputs mapped mapping frames numbers result =
-    (s : MapState M) → IsMapState outputs s → s.mapping ≡ mapping → Freezes (map_acts inputs outputs mapped) s frames numbers → result ≡ Ok s
+RestoresMapped inputs outputs mapped = RestoresAlways (map_acts inputs outputs mapped) (IsMapState outputs)

@@ -4,7 +4,7 @@ use Rattle.fx_frame_base.specs.declared.stage.ThawFault.{ThawFault}
 use Rattle.fx_frame_base.specs.Frame.{Samples}
 use Rattle.fx_frame_base.specs.Lists.{pieces}
 use Rattle.fx_frame_base.specs.Pipeline.{EachThrough}
-use Rattle.fx_frame_base.specs.Stage.{Acts, Freezes}
+use Rattle.fx_frame_base.specs.Stage.{Acts, RestoresAlways}
 use Rattle.fx_tap_pointwise.specs.Mapped.{IsMapState, MapState, map_acts}
 use Rattle.fx_tap_pointwise.specs.PerSample.{SampleArguments}
 use Rattle.fx_frame.specs.Made.{rounded_given}
@@ -15,8 +15,7 @@ sample_acts rounded = map_acts (λ m. m.channels) (λ m. m.channels) (λ m frame
 
 -- each sound stage of these arguments that stored these frames and counted these numbers is restored
 abbrev pub RestoresEach : {S : Type 0} → Acts (MapState (SampleArguments S)) (SampleArguments S) → ℕ → S → List Samples → List ℕ → Result (MapState (SampleArguments S)) ThawFault → Type 0
-RestoresEach {S} acts channels sampling frames numbers result =
-    (s : MapState (SampleArguments S)) → IsMapState (λ (m : SampleArguments S). m.channels) s → acts.recipe s ≡ record { channels = channels; sampling = sampling } → Freezes acts s frames numbers → result ≡ Ok s
+RestoresEach {S} acts channels sampling = RestoresAlways acts (IsMapState (λ (m : SampleArguments S). m.channels)) (record { channels = channels; sampling = sampling })
 
 -- two stages in sequence: these frames went into the first, and those came out of the second
 abbrev pub ThroughBoth : {A B M N : Type 0} → Acts A M → Acts B N → List Samples → List Samples → A → A → B → B → Type 0

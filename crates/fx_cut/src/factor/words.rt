@@ -29,7 +29,8 @@ fn read_factor(word: &str) -> Result<u32, PlanCause>
 
 /// The factor that the words name or leave out, and the number of the word to blame for it.
 fn read_factor_word(words: &[String]) -> Result<(u32, usize), Mark>
-    ensures read { Finds result (FactorWords.word_faults (word_texts words.now)) (usable (factor_of (word_texts words.now)), FactorWords.factor_word (word_texts words.now)) }
+    ensures read { let texts = word_texts words.now in
+        Finds result (FactorWords.word_faults texts) (usable (factor_of texts), FactorWords.factor_word texts) }
     ensures range { IfOk result (λ found. (1 ≤ found.0) × (found.0 ≤ 256)) }
 {
     let Some((word, more)) = words.split_first() else {
@@ -47,7 +48,8 @@ fn read_factor_word(words: &[String]) -> Result<(u32, usize), Mark>
 /// The factor of an `upsample` with these words after its name.
 #[tactic(auto, unfolding(crate::specs::FactorWords::upsample_faults))]
 pub fn read_upsample(rate: u32, words: &[String]) -> Result<u32, Mark>
-    ensures read { Finds result (upsample_faults rate (word_texts words.now)) (usable (factor_of (word_texts words.now))) }
+    ensures read { let texts = word_texts words.now in
+        Finds result (upsample_faults rate texts) (usable (factor_of texts)) }
     ensures range { IfOk result (λ factor. (1 ≤ factor) × (factor ≤ 256) × (rate * factor < 2 ^ 32)) }
 {
     let (factor, number) = read_factor_word(words)?;
@@ -61,7 +63,8 @@ pub fn read_upsample(rate: u32, words: &[String]) -> Result<u32, Mark>
 #[tactic(auto, unfolding(crate::specs::FactorWords::downsample_faults))]
 pub fn read_downsample(rate: u32, words: &[String]) -> Result<u32, Mark>
     requires { 0 < rate }
-    ensures read { Finds result (downsample_faults rate (word_texts words.now)) (usable (factor_of (word_texts words.now))) }
+    ensures read { let texts = word_texts words.now in
+        Finds result (downsample_faults rate texts) (usable (factor_of texts)) }
     ensures range { IfOk result (λ factor. (1 ≤ factor) × (factor ≤ 256) × (factor ≤ rate)) }
 {
     let (factor, number) = read_factor_word(words)?;

@@ -44,7 +44,8 @@ fn read_length(
 fn read_lengths(alloc: Global, rate: u32, words: &[String]) -> Result<PadList, WordsRefusal>
     requires rate { 0 < rate }
     requires bound { length words.now < 65 }
-    ensures read { ReadsWords (λ v. v.items) result (length_faults rate 2 beginning (word_texts words.now)) (word_lengths rate 2 beginning (word_texts words.now)) }
+    ensures read { let texts = word_texts words.now in
+        ReadsWords (λ v. v.items) result (length_faults rate 2 beginning texts) (word_lengths rate 2 beginning texts) }
     ensures length { IfOk result (λ v. length v.items ≡ length words.now) }
 {
     let mut pads = SmallVec::new(alloc);
@@ -88,7 +89,8 @@ fn check_order(pads: &[(u64, At)]) -> Result<(), Mark>
 #[tactic(auto, unfolding(crate::specs::PadWords::pad_faults))]
 pub fn read_pad(alloc: Global, rate: u32, words: &[String]) -> Result<PadList, WordsRefusal>
     requires { 0 < rate }
-    ensures read { ReadsWords (λ v. v.items) result (pad_faults rate (word_texts words.now)) (word_lengths rate 2 beginning (word_texts words.now)) }
+    ensures read { let texts = word_texts words.now in
+        ReadsWords (λ v. v.items) result (pad_faults rate texts) (word_lengths rate 2 beginning texts) }
     ensures fit { IfOk result (λ v. are_pads v.items ≡ true) }
 {
     if words.is_empty() {

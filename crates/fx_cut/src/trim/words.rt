@@ -21,7 +21,8 @@ pub type Positions = SmallVec<At, 4>;
 fn read_places(alloc: Global, rate: u32, words: &[String]) -> Result<Positions, WordsRefusal>
     requires rate { 0 < rate }
     requires bound { length words.now < 65 }
-    ensures read { ReadsWords (λ v. v.items) result (place_faults rate 2 beginning (word_texts words.now)) (places rate beginning (word_texts words.now)) }
+    ensures read { let texts = word_texts words.now in
+        ReadsWords (λ v. v.items) result (place_faults rate 2 beginning texts) (places rate beginning texts) }
     ensures length { IfOk result (λ v. length v.items ≡ length words.now) }
 {
     let mut positions = SmallVec::new(alloc);
@@ -76,7 +77,8 @@ fn check_order(positions: &[At]) -> Result<(), Mark>
 #[tactic(auto, unfolding(crate::specs::TrimWords::trim_faults))]
 pub fn read_trim(alloc: Global, rate: u32, words: &[String]) -> Result<Positions, WordsRefusal>
     requires { 0 < rate }
-    ensures { ReadsWords (λ v. v.items) result (trim_faults rate (word_texts words.now)) (places rate beginning (word_texts words.now)) }
+    ensures { let texts = word_texts words.now in
+        ReadsWords (λ v. v.items) result (trim_faults rate texts) (places rate beginning texts) }
 {
     if words.is_empty() {
         return Err(marked(PlanCause::WrongCount, 1));
