@@ -40,7 +40,8 @@ pub fn stages_of(
     requires suit { all_suit channels (map act effects.now) ≡ true }
     requires hold { hold_all (map act effects.now) ≤ 2 ^ 28 }
     ensures new { IfOk result (λ stages. AllNew effect_acts stages.items) }
-    ensures recipes { IfOk result (λ stages. recipes effect_acts stages.items ≡ recipes_for channels (map act effects.now)) }
+    ensures recipes { IfOk result (λ stages.
+        recipes effect_acts stages.items ≡ recipes_for channels (map act effects.now)) }
 {
     let mut stages = Vec::new(alloc);
     let mut channels = channels;

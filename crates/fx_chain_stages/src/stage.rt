@@ -1,12 +1,10 @@
 //! The stage of any effect.
-ghost use Rattle.std.specs.Prelude.{◌≡◌, ◌+◌, ◌*◌, ◌≤◌, List, FitsSigned, false, true, drop, length, take};
+ghost use Rattle.std.specs.Prelude.{◌≡◌, ◌+◌, ◌*◌, ◌≤◌, FitsSigned, false, true, length, take};
 ghost use Rattle.std.specs.Int.{w32};
 ghost use Rattle.std.specs.List.{All};
-ghost use Rattle.fx_frame_base.specs.Frame.{Samples};
-ghost use Rattle.fx_frame_base.specs.Lists.{pieces};
-ghost use Rattle.fx_frame_base.specs.Pipeline.{EachThrough};
+ghost use Rattle.fx_frame_base.specs.Feed.{KeepsRest};
 ghost use Rattle.fx_frame_base.specs.Stage.{kind};
-ghost use Rattle.fx_chain_stages.specs.Stages.{effect_acts};
+ghost use Rattle.fx_chain_stages.specs.Stages.{ThroughThree, ThroughTwo, effect_acts};
 
 use crate::registry::{EffectStage, each, each_by_samples, each_selected};
 use fx_frame::{Counters, Feeds, Frame, Passed, Passing, WideFrame};
@@ -98,8 +96,8 @@ fn pass_two(
     ensures bound { result ≤ count }
     ensures keeps { 1 ≤ result → (kind effect_acts second.old).outputs ≡ (kind effect_acts first.old).inputs }
     ensures samples { All (FitsSigned w32) (take (result * (kind effect_acts first.old).inputs) input.now) }
-    ensures through { (between : List Samples) × EachThrough effect_acts (pieces (kind effect_acts first.old).inputs result input.now) between first.old first.new × EachThrough effect_acts between (pieces (kind effect_acts second.old).outputs result output.new) second.old second.new }
-    ensures rest_unchanged { drop (result * (kind effect_acts second.old).outputs) output.new ≡ drop (result * (kind effect_acts second.old).outputs) output.old }
+    ensures through { ThroughTwo result input.now output.new first.old first.new second.old second.new }
+    ensures rest_unchanged { KeepsRest effect_acts second.old result output.old output.new }
 {
     each_by_samples!(first, first => each_by_samples!(second, second => {
         pass_both(first, second, count, input, output);
@@ -133,8 +131,8 @@ fn pass_three(
     ensures bound { result ≤ count }
     ensures frame { 1 ≤ result → 1 ≤ (kind effect_acts last.old).outputs }
     ensures samples { All (FitsSigned w32) (take (result * (kind effect_acts first.old).inputs) input.now) }
-    ensures through { (before after : List Samples) × EachThrough effect_acts (pieces (kind effect_acts first.old).inputs result input.now) before first.old first.new × EachThrough effect_acts before after middle.old middle.new × EachThrough effect_acts after (pieces (kind effect_acts last.old).outputs result output.new) last.old last.new }
-    ensures rest_unchanged { drop (result * (kind effect_acts last.old).outputs) output.new ≡ drop (result * (kind effect_acts last.old).outputs) output.old }
+    ensures through { ThroughThree result input.now output.new first.old first.new middle.old middle.new last.old last.new }
+    ensures rest_unchanged { KeepsRest effect_acts last.old result output.old output.new }
 {
     let EffectStage::Remix(middle) = middle else {
         return 0;

@@ -38,7 +38,9 @@ pub fn plan_words(
     bits: Option<Bits>,
     files: &[Vec<u8>],
 ) -> Result<Plan, PlanFault>
-    ensures { PlanReads planning result (all_faults (head_layout head.now) (plan_bytes files.now) (effects_of (word_texts words.now))) (planning_of head.now is_named kind bits (plan_bytes files.now) (effects_of (word_texts words.now))) }
+    ensures { let effects = effects_of (word_texts words.now) in let bytes = plan_bytes files.now in
+        PlanReads planning result (all_faults (head_layout head.now) bytes effects)
+        (planning_of head.now is_named kind bits bytes effects) }
 {
     let layout = layout_of(head.rate, head.channels);
     let planned = read_plan(alloc, layout, words, files)?;

@@ -204,7 +204,9 @@ pub fn plan(
     head: &Head,
     files: &[Vec<u8>],
 ) -> Result<Plan, PlanFault>
-    ensures { PlanReads planning result (all_faults (head_layout head.now) (plan_bytes files.now) (effects_in line.now)) (planning_in head.now line.now (plan_bytes files.now)) }
+    ensures { let bytes = plan_bytes files.now in
+        PlanReads planning result (all_faults (head_layout head.now) bytes (effects_in line.now))
+        (planning_in head.now line.now bytes) }
 {
     plan_words(
         alloc,

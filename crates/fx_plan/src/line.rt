@@ -106,7 +106,8 @@ fn read_bits(word: &str) -> Option<Bits>
 
 // The value of an option, the first of these words, and the words after it.
 fn read_value(words: &[String]) -> Result<(&String, &[String]), LineFault>
-    ensures { MatchResult result (λ found. texts words.now ≡ string_bytes found.0.now ∷ texts found.1.now) (λ fault. (words.now ≡ []) × (fault ≡ LineFault.BadOption)) }
+    ensures { MatchResult result (λ found. texts words.now ≡ string_bytes found.0.now ∷ texts found.1.now)
+        (λ fault. (words.now ≡ []) × (fault ≡ LineFault.BadOption)) }
 {
     words.split_first().ok_or(LineFault::BadOption)
 }
@@ -116,7 +117,8 @@ fn read_front(
     takes_bits: bool,
     words: &[String],
 ) -> Result<(Options, &String, &[String]), LineFault>
-    ensures { MatchResult result (λ found. front_of takes_bits nothing_set (texts words.now) ≡ Ok (front found.0 found.1.now found.2.now)) (λ fault. front_of takes_bits nothing_set (texts words.now) ≡ Err fault) }
+    ensures { let read = front_of takes_bits nothing_set (texts words.now) in
+        MatchResult result (λ found. read ≡ Ok (front found.0 found.1.now found.2.now)) (λ fault. read ≡ Err fault) }
 {
     let mut set = Options {
         kind: None,
@@ -184,7 +186,8 @@ fn name_kind(name: &str) -> Option<Kind>
 
 /// The meaning of the words of a command line, or the first fault.
 pub fn read_line(words: &[String]) -> Result<CommandWords<'_>, LineFault>
-    ensures read { MatchResult result (λ line. line_of_words (texts words.now) ≡ Ok (shown_line line)) (λ fault. line_of_words (texts words.now) ≡ Err fault) }
+    ensures read { let read = line_of_words (texts words.now) in
+        MatchResult result (λ line. read ≡ Ok (shown_line line)) (λ fault. read ≡ Err fault) }
 {
     let (before, input, rest) = read_front(false, words)?;
     let (after, output, rest) = read_front(true, rest)?;

@@ -67,7 +67,8 @@ pub fn count_files(words: &[String]) -> usize
 
 /// The name of the coefficient file at this place, counted from 0, if there are that many.
 pub fn file_at(words: &[String], place: usize) -> Option<&String>
-    ensures { MatchOption result (slice_get (coefficient_files (effects_of (word_texts words.now))) place ≡ None) (λ name. slice_get (coefficient_files (effects_of (word_texts words.now))) place ≡ Some (string_bytes name.now)) }
+    ensures { let named = slice_get (coefficient_files (effects_of (word_texts words.now))) place in
+        MatchOption result (named ≡ None) (λ name. named ≡ Some (string_bytes name.now)) }
 {
     let mut rest = words;
     let mut left = place;
@@ -86,7 +87,8 @@ pub fn file_at(words: &[String], place: usize) -> Option<&String>
 
 /// The names of all coefficient files, in order; AllocError where memory for the list is refused.
 pub fn list_files(alloc: Global, words: &[String]) -> Result<Vec<&str>, AllocError>
-    ensures { IfOk result (λ names. map (λ name. name.now) names.items ≡ coefficient_files (effects_of (word_texts words.now))) }
+    ensures { IfOk result (λ names.
+        map (λ name. name.now) names.items ≡ coefficient_files (effects_of (word_texts words.now))) }
 {
     let mut names = Vec::new(alloc);
     let mut rest = words;

@@ -18,7 +18,9 @@ pub fn read_effect(
     words: &[String],
 ) -> Result<Effect, WordsRefusal>
     requires { IsLayout layout }
-    ensures read { ReadsWords (λ effect. Some (act effect)) result (effect_faults layout file.now (string_bytes name.now ∷ word_texts words.now)) (effect_act layout file.now (string_bytes name.now ∷ word_texts words.now)) }
+    ensures read { let all = string_bytes name.now ∷ word_texts words.now in
+        ReadsWords (λ effect. Some (act effect)) result (effect_faults layout file.now all)
+        (effect_act layout file.now all) }
     ensures fits { IfOk result (λ effect. Fits layout (act effect)) }
     ensures usable { IfOk result (λ effect. Usable (act effect)) }
     ensures place { IfOk result (λ effect. fits_layout layout (act effect) ≡ true) }

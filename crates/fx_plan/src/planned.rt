@@ -105,7 +105,8 @@ fn read_step(
     words: &[String],
 ) -> Result<Effect, PlanFault>
     requires { IsLayout layout }
-    ensures read { PlanReads (λ effect. Some (act effect)) result (step_faults number layout file.now (string_bytes name.now ∷ word_texts words.now)) (effect_act layout file.now (string_bytes name.now ∷ word_texts words.now)) }
+    ensures read { let all = string_bytes name.now ∷ word_texts words.now in
+        PlanReads (λ effect. Some (act effect)) result (step_faults number layout file.now all) (effect_act layout file.now all) }
     ensures fits { IfOk result (λ effect. Fits layout (act effect)) }
     ensures usable { IfOk result (λ effect. Usable (act effect)) }
     ensures place { IfOk result (λ effect. fits_layout layout (act effect) ≡ true) }
@@ -130,7 +131,8 @@ fn read_effects(
     files: &[Vec<u8>],
 ) -> Result<Planned, PlanFault>
     requires { IsLayout layout }
-    ensures read { PlanReads planned_value result (effects_faults 1 layout (plan_bytes files.now) (effects_of (word_texts words.now))) (acts_of layout (plan_bytes files.now) (effects_of (word_texts words.now)), last_layout layout (plan_bytes files.now) (effects_of (word_texts words.now))) }
+    ensures read { let effects = effects_of (word_texts words.now) in let bytes = plan_bytes files.now in
+        PlanReads planned_value result (effects_faults 1 layout bytes effects) (acts_of layout bytes effects, last_layout layout bytes effects) }
     ensures usable { IfOk result (λ p. All Usable (map act p.effects.items)) }
     ensures fit { IfOk result (λ p. all_fit layout (map act p.effects.items) ≡ true) }
     ensures layout { IfOk result (λ p. IsLayout p.layout) }
@@ -162,7 +164,9 @@ pub fn read_plan(
     files: &[Vec<u8>],
 ) -> Result<Planned, PlanFault>
     requires { IsLayout layout }
-    ensures read { PlanReads planned_value result (all_faults layout (plan_bytes files.now) (effects_of (word_texts words.now))) (acts_of layout (plan_bytes files.now) (effects_of (word_texts words.now)), last_layout layout (plan_bytes files.now) (effects_of (word_texts words.now))) }
+    ensures read { let effects = effects_of (word_texts words.now) in let bytes = plan_bytes files.now in
+        PlanReads planned_value result (all_faults layout bytes effects)
+        (acts_of layout bytes effects, last_layout layout bytes effects) }
     ensures usable { IfOk result (λ p. All Usable (map act p.effects.items)) }
     ensures fit { IfOk result (λ p. all_fit layout (map act p.effects.items) ≡ true) }
     ensures layout { IfOk result (λ p. IsLayout p.layout) }

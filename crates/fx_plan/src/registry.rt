@@ -152,7 +152,8 @@ pub fn read_named(
     words: &[String],
 ) -> Result<Effect, WordsRefusal>
     requires { IsLayout layout }
-    ensures read { ReadsWords (λ effect. Some (act effect)) result (named name layout file.now (word_texts words.now)).0 (named name layout file.now (word_texts words.now)).1 }
+    ensures read { let read = named name layout file.now (word_texts words.now) in
+        ReadsWords (λ effect. Some (act effect)) result read.0 read.1 }
     ensures fits { IfOk result (λ effect. Fits layout (act effect)) }
     ensures usable { IfOk result (λ effect. Usable (act effect)) }
     ensures place { IfOk result (λ effect. fits_layout layout (act effect) ≡ true) }

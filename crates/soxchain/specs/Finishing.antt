@@ -22,6 +22,10 @@ pub record ReadyParts : Type 0 where
   pub line : Said
   pub prepared : Prepared
 
+-- a line, and what is prepared for it
+abbrev pub ready_for : Said → Prepared → ReadyParts
+ready_for line prepared = record { line = line; prepared = prepared }
+
 -- 0 without a fault, and else 2
 abbrev pub run_status : Result Report RunFault → ℕ
 run_status (Ok r) = 0

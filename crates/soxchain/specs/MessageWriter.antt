@@ -10,6 +10,10 @@ pub record ReportedFront (first now : Option (List ℕ)) (failures new_failures 
   pub took : Appends first now (take count all)
   pub failed : new_failures ≡ saturated (failures + 1)
 
+-- the same from one state of a writer to the next
+abbrev pub ReportsFront : {W : Type 0} → ByteWriter W → W → W → List ℕ → Type 0
+ReportsFront writes old new = ReportedFront (writes.taken old) (writes.taken new) (writes.failures old) (writes.failures new)
+
 -- the writer has all of these bytes, and no call failed
 pub record ReportedAll (first now : Option (List ℕ)) (failures new_failures : ℕ) (all : List ℕ) : Type 0 where
   pub took : Appends first now all

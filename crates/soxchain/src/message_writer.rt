@@ -3,7 +3,7 @@ ghost use Rattle.std.specs.Prelude.{◌≡◌, ◌++◌, ◌<◌, MatchBool, fal
 ghost use Rattle.std.specs.Io.KnownBytes.{Appends};
 ghost use Rattle.soxchain.specs.Messages.{line_feed};
 ghost use Rattle.soxchain.specs.Saying.{BeginsMessage, Says};
-ghost use Rattle.soxchain.specs.MessageWriter.{ReportedFront};
+ghost use Rattle.soxchain.specs.MessageWriter.{ReportsFront};
 
 use fx_frame::{ByteOut, Failed};
 
@@ -62,7 +62,7 @@ pub fn write_whole<W: ByteOut>(writer: &mut W, bytes: &[u8]) -> bool
     ensures whole { result ≡ true → Appends (W.writes.taken writer.old) (W.writes.taken writer.new) bytes.now }
     ensures flushed { result ≡ true → W.writes.flushed writer.new ≡ true }
     ensures unfailed { result ≡ true → W.writes.failures writer.new ≡ W.writes.failures writer.old }
-    ensures front { result ≡ false → ReportedFront (W.writes.taken writer.old) (W.writes.taken writer.new) (W.writes.failures writer.old) (W.writes.failures writer.new) bytes.now }
+    ensures front { result ≡ false → ReportsFront W.writes writer.old writer.new bytes.now }
 {
     write_text(writer, bytes) && writer.flush().is_ok()
 }
@@ -71,7 +71,7 @@ pub fn write_whole<W: ByteOut>(writer: &mut W, bytes: &[u8]) -> bool
 fn write_text<M: ByteOut>(messages: &mut M, text: &[u8]) -> bool
     ensures { MatchBool result
         ((Appends (M.writes.taken messages.old) (M.writes.taken messages.new) text.now) × (M.writes.failures messages.new ≡ M.writes.failures messages.old))
-        (ReportedFront (M.writes.taken messages.old) (M.writes.taken messages.new) (M.writes.failures messages.old) (M.writes.failures messages.new) text.now) }
+        (ReportsFront M.writes messages.old messages.new text.now) }
 {
     let mut delivered = 0;
     while delivered < text.len() {

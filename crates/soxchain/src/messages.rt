@@ -276,7 +276,8 @@ pub fn tell_fault<M: ByteOut>(
     line: &CommandLine,
     fault: &RunFault,
 )
-    ensures { Says M.writes message_writer.old message_writer.new (warnings line.now (report_at fault.now) ++ run_message (run_label fault.now) (report_at fault.now).frames_in) }
+    ensures { let report = report_at fault.now in Says M.writes message_writer.old message_writer.new
+        (warnings line.now report ++ run_message (run_label fault.now) report.frames_in) }
 {
     let report = fault.report();
     tell_warnings(message_writer, line, &report);

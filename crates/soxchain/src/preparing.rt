@@ -1,14 +1,9 @@
 //! What is done before a run: the head is read, the plan and its chain are made.
-ghost use Rattle.std.specs.Prelude.{◌≡◌, [], IfOk, Err, MatchResult};
-ghost use Rattle.fx_chain.specs.Chain.{IsNewChain};
-ghost use Rattle.fx_plan.specs.CommandLines.{effects_in, planning_in};
-ghost use Rattle.fx_plan.specs.Plans.{head_layout, all_faults, plan_bytes};
-ghost use Rattle.fx_plan.specs.Planning.{planning};
-ghost use Rattle.fx_sound.specs.Head.{ReadsHead, head_of};
-ghost use Rattle.fx_sound.specs.Known.{IfKnown};
+ghost use Rattle.std.specs.Prelude.{◌≡◌, IfErr, IfOk, Err};
+ghost use Rattle.fx_plan.specs.Plans.{plan_bytes};
+ghost use Rattle.fx_sound.specs.Head.{head_of};
 ghost use Rattle.fx_sound.specs.Reads.{Fails, Refuses};
-ghost use Rattle.fx_sound.specs.Source.{to_come};
-ghost use Rattle.soxchain.specs.Preparing.{ChainIsRefused, PlanIsRefused, RefusalHasCause};
+ghost use Rattle.soxchain.specs.Preparing.{ChainIsRefused, IsPrepared, PlanIsRefused, RefusalHasCause};
 ghost use Rattle.soxchain.specs.Program.{status_of_line, status_of_refusal};
 
 use crate::prepared::Prepared;
@@ -40,23 +35,23 @@ pub fn prepare_line<R: ByteIn>(
     files: &[Vec<u8>],
     source: &mut Source<R>,
 ) -> Result<Prepared, Refusal>
-    // The plan is that of the line after the head that was read.
-    ensures head { IfOk result (λ p. IfKnown (to_come R.reads.rest source.old) (λ bytes. ReadsHead R.reads.rest R.reads.delivered line.now.input_kind bytes source.old source.new p.plan.head)) }
-    ensures no_faults { IfOk result (λ p. all_faults (head_layout p.plan.head) (plan_bytes files.now) (effects_in line.now) ≡ []) }
-    ensures planned { IfOk result (λ p. planning p.plan ≡ planning_in p.plan.head line.now (plan_bytes files.now)) }
-
-    ensures chain { IfOk result (λ p. IsNewChain (planning p.plan) p.chain) }
+    ensures prepared { IfOk result (IsPrepared R.reads line.now (plan_bytes files.now) source.old source.new) }
 
     // A head or a plan is refused by its first fault.
-    ensures head_refused { (f : HeadFault) → result ≡ Err (Refusal.Head f) → Refuses R.reads.rest (head_of line.now.input_kind) source.old f }
-    ensures head_cut { (f : HeadFault) → result ≡ Err (Refusal.Head f) → Fails R.reads.rest R.reads.delivered (head_of line.now.input_kind) source.old source.new f }
-    ensures plan_refused { (f : PlanFault) → result ≡ Err (Refusal.Plan f) → PlanIsRefused R.reads line.now (plan_bytes files.now) source.old source.new f }
+    ensures head_refused { (f : HeadFault) → result ≡ Err (Refusal.Head f)
+        → Refuses R.reads.rest (head_of line.now.input_kind) source.old f }
+    ensures head_cut { (f : HeadFault) → result ≡ Err (Refusal.Head f)
+        → Fails R.reads.rest R.reads.delivered (head_of line.now.input_kind) source.old source.new f }
+    ensures plan_refused { (f : PlanFault) → result ≡ Err (Refusal.Plan f)
+        → PlanIsRefused R.reads line.now (plan_bytes files.now) source.old source.new f }
 
     // Where no memory was found for the chain, the head and the plan had no fault.
-    ensures chain_refused { result ≡ Err Refusal.Chain → ChainIsRefused R.reads line.now (plan_bytes files.now) source.old source.new }
+    ensures chain_refused { result ≡ Err Refusal.Chain
+        → ChainIsRefused R.reads line.now (plan_bytes files.now) source.old source.new }
 
     // A read has failed only where the refusal reports it.
-    ensures failures { MatchResult result (λ _. R.reads.failures source.new.reader ≡ R.reads.failures source.old.reader) (λ r. RefusalHasCause r (R.reads.failures source.old.reader) (R.reads.failures source.new.reader)) }
+    ensures failures { IfErr result (λ r.
+        RefusalHasCause r (R.reads.failures source.old.reader) (R.reads.failures source.new.reader)) }
 {
     let head = match read_head(source, line.input_kind()) {
         Ok(head) => head,

@@ -1,16 +1,13 @@
 //! A conversion in two parts: preparation before the output is opened, and the run.
-ghost use Rattle.std.specs.Prelude.{◌≡◌, ◌⊎◌, [], IfErr, IfOk, OnOk, Ok, Result};
+ghost use Rattle.std.specs.Prelude.{◌≡◌, ◌⊎◌, IfErr, IfOk, OnOk, Ok, Result};
 ghost use Rattle.fx_chain.specs.Chain.{IsNewChain};
 ghost use Rattle.fx_plan.specs.Line.{line_of_words, texts};
-ghost use Rattle.fx_plan.specs.CommandLines.{effects_in, planning_in};
-ghost use Rattle.fx_plan.specs.Plans.{head_layout, all_faults, plan_bytes};
+ghost use Rattle.fx_plan.specs.Plans.{plan_bytes};
 ghost use Rattle.fx_plan.specs.Planning.{planning};
-ghost use Rattle.fx_sound.specs.Head.{ReadsHead};
-ghost use Rattle.fx_sound.specs.Known.{IfKnown};
-ghost use Rattle.fx_sound.specs.Source.{to_come};
-ghost use Rattle.soxchain.specs.Finishing.{Finished};
+ghost use Rattle.soxchain.specs.Finishing.{Finished, ready_for};
 ghost use Rattle.soxchain.specs.Messages.{line_label, line_message};
 ghost use Rattle.soxchain.specs.Program.{status_of_line};
+ghost use Rattle.soxchain.specs.Preparing.{IsPrepared};
 ghost use Rattle.soxchain.specs.Readying.{LineRefused, LineUnready, Unready};
 ghost use Rattle.soxchain.specs.Saying.{Says};
 ghost use Rattle.soxchain.specs.MessageWriter.{WritesMessage};
@@ -66,15 +63,12 @@ pub fn prepare_for<R: ByteIn, M: ByteOut>(
     message_writer: &mut MessageWriter<M>,
 ) -> Result<Prepared, u8>
     // The head, the plan and its chain, and no message.
-    ensures head { IfOk result (λ p. IfKnown (to_come R.reads.rest source.old) (λ bytes. ReadsHead R.reads.rest R.reads.delivered line.now.input_kind bytes source.old source.new p.plan.head)) }
-    ensures no_faults { IfOk result (λ p. all_faults (head_layout p.plan.head) (plan_bytes files.now) (effects_in line.now) ≡ []) }
-    ensures planned { IfOk result (λ p. planning p.plan ≡ planning_in p.plan.head line.now (plan_bytes files.now)) }
-    ensures chain { IfOk result (λ p. IsNewChain (planning p.plan) p.chain) }
-    ensures unfailed { OnOk result (R.reads.failures source.new.reader ≡ R.reads.failures source.old.reader) }
+    ensures prepared { IfOk result (IsPrepared R.reads line.now (plan_bytes files.now) source.old source.new) }
     ensures silent { OnOk result (message_writer.new ≡ message_writer.old) }
 
     // What the line asks for is refused.
-    ensures refused { IfErr result (λ status. Unready R.reads line.now (plan_bytes files.now) source.old source.new (Says M.writes message_writer.old message_writer.new) status) }
+    ensures refused { IfErr result (Unready R.reads line.now (plan_bytes files.now) source.old source.new
+        (Says M.writes message_writer.old message_writer.new)) }
 {
     match prepare_line(alloc, line, files, source) {
         Ok(prepared) => Ok(prepared),
@@ -106,17 +100,15 @@ pub fn prepare<R: ByteIn, M: ByteOut>(
 ) -> Result<Ready, u8>
     // The line, the head, the plan and its chain, and no message.
     ensures line { IfOk result (λ ready. line_of_words (texts words.now) ≡ Ok ready.line) }
-    ensures head { IfOk result (λ ready. IfKnown (to_come R.reads.rest source.old) (λ bytes. ReadsHead R.reads.rest R.reads.delivered ready.line.input_kind bytes source.old source.new ready.prepared.plan.head)) }
-    ensures no_faults { IfOk result (λ ready. all_faults (head_layout ready.prepared.plan.head) (plan_bytes files.now) (effects_in ready.line) ≡ []) }
-    ensures planned { IfOk result (λ ready. planning ready.prepared.plan ≡ planning_in ready.prepared.plan.head ready.line (plan_bytes files.now)) }
-    ensures chain { IfOk result (λ ready. IsNewChain (planning ready.prepared.plan) ready.prepared.chain) }
-    ensures unfailed { OnOk result (R.reads.failures source.new.reader ≡ R.reads.failures source.old.reader) }
+    ensures prepared { IfOk result (λ ready.
+        IsPrepared R.reads ready.line (plan_bytes files.now) source.old source.new ready.prepared) }
     ensures silent { OnOk result (messages.new ≡ messages.old) }
 
     // The line is refused, or what it asks for is.
     ensures refused { IfErr result (λ status.
-        LineRefused (texts words.now) source.old source.new (WritesMessage M.writes messages.old messages.new) status
-        ⊎ LineUnready R.reads (texts words.now) (plan_bytes files.now) source.old source.new (WritesMessage M.writes messages.old messages.new) status) }
+        let Written = WritesMessage M.writes messages.old messages.new in
+        LineRefused (texts words.now) source.old source.new Written status
+        ⊎ LineUnready R.reads (texts words.now) (plan_bytes files.now) source.old source.new Written status) }
 {
     let mut message_writer = MessageWriter::new(messages);
     let line = match parse_line(alloc, words) {
@@ -138,7 +130,8 @@ pub fn finish_for<R: ByteIn, W: ByteOut, M: ByteOut>(
     message_writer: &mut MessageWriter<M>,
 ) -> (u8, Report)
     requires { IsNewChain (planning prepared.plan) prepared.chain }
-    ensures { Finished R.reads W.writes (record { line = line.now; prepared = prepared }) source.old source.new output.old output.new (Says M.writes message_writer.old message_writer.new) result.0 result.1 }
+    ensures { Finished R.reads W.writes (ready_for line.now prepared) source.old source.new output.old output.new
+        (Says M.writes message_writer.old message_writer.new) result.0 result.1 }
 {
     let Prepared { plan, mut chain } = prepared;
     match run(&mut chain, &plan, source, output) {
@@ -161,7 +154,8 @@ pub fn finish<R: ByteIn, W: ByteOut, M: ByteOut>(
     output: &mut W,
     messages: &mut M,
 ) -> (u8, Report)
-    ensures { Finished R.reads W.writes ready source.old source.new output.old output.new (WritesMessage M.writes messages.old messages.new) result.0 result.1 }
+    ensures { Finished R.reads W.writes ready source.old source.new output.old output.new
+        (WritesMessage M.writes messages.old messages.new) result.0 result.1 }
 {
     let Ready { line, prepared } = ready;
     let mut message_writer = MessageWriter::new(messages);

@@ -1,5 +1,5 @@
 -- What the calls of a stream return to C (this project's profile; packaging/soxchain.h).
-use Rattle.std.specs.Prelude.{ℕ, ℤ, ◌≡◌, ◌≢◌, ◌⊎◌, ◌+◌, ◌/◌, ◌%◌, ◌<◌, ◌≤◌, List, length}
+use Rattle.std.specs.Prelude.{ℕ, ℤ, ◌≡◌, ◌≢◌, ◌⊎◌, ◌+◌, ◌/◌, ◌%◌, ◌<◌, ◌≤◌, List, Option, Some, length}
 use Rattle.fx_chain.specs.Chain.{ChainParts}
 use Rattle.fx_chain.specs.Snapshot.{IsSoundChain}
 use Rattle.fx_chain_flow.specs.Parts.{taken_of}
@@ -12,8 +12,13 @@ use Rattle.soxchain_stream.specs.declared.stream.Stream.{Stream}
 use Rattle.soxchain_stream.specs.declared.stream.Waits.{Waits}
 use Rattle.soxchain_c.specs.declared.stream_calls.SoxchainPassed.{SoxchainPassed}
 use Rattle.soxchain_c.specs.Buffer.{filled}
+use Rattle.soxchain_c.specs.Status.{code}
 use Rattle.soxchain_stream.specs.Snapshots.{IsFrozenAs}
 use Rattle.soxchain_stream.specs.Streams.{WaitsFor, StreamWasFed, ended, inputs_in, wait_number}
+
+-- a call left a stream in its handle, and returned the code of a status
+abbrev pub ChangesStream : Option Stream → ℤ → (Stream → Status → Type 0) → Type 0
+ChangesStream handle result Answers = (t : Stream) × (status : Status) × (handle ≡ Some t) × (result ≡ code status) × Answers t status
 
 -- no frames, where there is no stream
 abbrev pub nothing_passed : SoxchainPassed

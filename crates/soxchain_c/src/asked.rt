@@ -57,7 +57,8 @@ fn tell_refused<M: ByteOut>(messages: &mut M, fault: LineFault)
 /// as the program reports them.
 pub fn refuse<M: ByteOut>(messages: &mut M, fault: TextFault) -> Status
     ensures fault { result ≢ Status.Fine }
-    ensures answers { FaultAnswers fault (WritesMessage M.writes messages.old messages.new) (messages.new ≡ messages.old) result }
+    ensures answers { FaultAnswers fault (WritesMessage M.writes messages.old messages.new)
+        (messages.new ≡ messages.old) result }
 {
     match fault {
         TextFault::BadEnds => Status::BadEnds,

@@ -65,7 +65,8 @@ struct Done {
 
 /// Converts a sound in memory.
 fn convert_asked(alloc: Global, asked: &Asked, input: &[u8]) -> Done
-    ensures { Conversion (texts asked.now.words.items) (plan_bytes asked.now.files.items) input.now result.output.items result.messages.items result.status result.report }
+    ensures { Conversion (texts asked.now.words.items) (plan_bytes asked.now.files.items) input.now
+        result.output.items result.messages.items result.status result.report }
 {
     let mut output = Counted::new(Vec::new(alloc));
     let mut messages = Messages::new(alloc);
@@ -87,7 +88,8 @@ fn convert_asked(alloc: Global, asked: &Asked, input: &[u8]) -> Done
 
 /// What is returned where words or files cannot be read.
 fn unread(alloc: Global, fault: TextFault) -> Done
-    ensures answers { (status : Status) × (result.status ≡ code status) × FaultAnswers fault (ReportedBytes result.messages.items) (result.messages.items ≡ []) status }
+    ensures answers { (status : Status) × (result.status ≡ code status)
+        × FaultAnswers fault (ReportedBytes result.messages.items) (result.messages.items ≡ []) status }
     ensures output { result.output.items ≡ [] }
     ensures report { result.report ≡ no_report }
 {
@@ -116,8 +118,11 @@ pub extern "C" fn soxchain_convert(
     messages: &mut [u8],
     report: &mut SoxchainReport,
 ) -> i32
-    ensures { (bytes : List ℕ) × (delivered : List ℕ) × (done : Report) × ConversionOf words.now word_ends.now files.now file_ends.now input.now bytes delivered result done
-        × (report.new ≡ reported_report done (length bytes) (length delivered)) × (output.new ≡ filled bytes output.old) × (messages.new ≡ filled delivered messages.old) }
+    ensures { (bytes : List ℕ) × (delivered : List ℕ) × (done : Report)
+        × ConversionOf words.now word_ends.now files.now file_ends.now
+        input.now bytes delivered result done
+        × (report.new ≡ reported_report done (length bytes) (length delivered))
+        × (output.new ≡ filled bytes output.old) × (messages.new ≡ filled delivered messages.old) }
 {
     let done = match read_asked(alloc, words, word_ends, files, file_ends) {
         Ok(asked) => convert_asked(alloc, &asked, input),

@@ -27,10 +27,12 @@ fn stream_for<M: ByteOut>(
     head: &Head,
     messages: &mut M,
 ) -> Result<Box<Stream>, Status>
-    ensures made { IfOk result (λ b. IsStreamOf (stream_line (texts asked.now.words.items)) (plan_bytes asked.now.files.items) head.now b.value) }
+    ensures made { IfOk result (λ b.
+        IsStreamOf (stream_line (texts asked.now.words.items)) (plan_bytes asked.now.files.items) head.now b.value) }
     ensures silent { OnOk result (messages.new ≡ messages.old) }
     ensures fault { IfErr result (λ status. status ≢ Status.Fine) }
-    ensures lacks { IfErr result (LacksStream (stream_line (texts asked.now.words.items)) (plan_bytes asked.now.files.items) head.now (WritesMessage M.writes messages.old messages.new) (messages.new ≡ messages.old)) }
+    ensures lacks { IfErr result (LacksStream (stream_line (texts asked.now.words.items)) (plan_bytes asked.now.files.items) head.now
+        (WritesMessage M.writes messages.old messages.new) (messages.new ≡ messages.old)) }
 {
     let stream = match make_stream(alloc, &asked.words, &asked.files, head, messages) {
         Ok(stream) => stream,
@@ -51,7 +53,8 @@ fn make<M: ByteOut>(
     messages: &mut M,
     handle: &mut Handle,
 ) -> Status
-    ensures { MakeAnswers asked.now head.now handle.old.value handle.new.value (WritesMessage M.writes messages.old messages.new) (messages.new ≡ messages.old) result }
+    ensures { MakeAnswers asked.now head.now handle.old.value handle.new.value
+        (WritesMessage M.writes messages.old messages.new) (messages.new ≡ messages.old) result }
 {
     let asked = match asked {
         Ok(asked) => asked,
@@ -82,8 +85,10 @@ pub extern "C" fn soxchain_new(
     messages_length: &mut usize,
     handle: &mut Handle,
 ) -> i32
-    ensures { (status : Status) × (delivered : List ℕ) × (result ≡ code status) × (messages_length.new ≡ length delivered) × (messages.new ≡ filled delivered messages.old)
-        × NewAnswers words.now word_ends.now files.now file_ends.now rate channels delivered handle.old.value handle.new.value status }
+    ensures { (status : Status) × (delivered : List ℕ) × (result ≡ code status)
+        × (messages_length.new ≡ length delivered) × (messages.new ≡ filled delivered messages.old)
+        × NewAnswers words.now word_ends.now files.now file_ends.now rate channels delivered
+        handle.old.value handle.new.value status }
 {
     *messages_length = 0;
     let head = match head_of(rate, channels) {

@@ -118,7 +118,8 @@ pub fn make_stream<M: ByteOut>(
 ) -> Result<Stream, u8>
     ensures made { IfOk result (λ s. IsStreamOf (stream_line (texts words.now)) (plan_bytes files.now) head.now s) }
     ensures silent { OnOk result (messages.new ≡ messages.old) }
-    ensures refused { IfErr result (RefusesStream (stream_line (texts words.now)) (plan_bytes files.now) head.now (WritesMessage M.writes messages.old messages.new)) }
+    ensures refused { IfErr result (RefusesStream (stream_line (texts words.now)) (plan_bytes files.now) head.now
+        (WritesMessage M.writes messages.old messages.new)) }
 {
     let mut message_writer = MessageWriter::new(messages);
     let line = match read_words_of(alloc, words) {

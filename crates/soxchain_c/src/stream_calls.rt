@@ -1,7 +1,7 @@
 //! Streams, to C: a handle owns a stream, or is null.
 ghost use Rattle.std.specs.Prelude.{◌≡◌, IfSome, MatchOption, None, Some};
 ghost use Rattle.fx_plan_effects.specs.Bounds.{hold_all};
-ghost use Rattle.soxchain_c.specs.Calls.{EndAnswers, FeedAnswers, FreezeAnswers, ThawAnswers, nothing_passed};
+ghost use Rattle.soxchain_c.specs.Calls.{ChangesStream, EndAnswers, FeedAnswers, FreezeAnswers, ThawAnswers, nothing_passed};
 ghost use Rattle.soxchain_c.specs.Status.{code};
 ghost use Rattle.soxchain_stream.specs.Streams.{stream_clips, held_in, wait_number};
 
@@ -171,8 +171,10 @@ pub extern "C" fn soxchain_feed(
     output: &mut [i32],
     passed: &mut SoxchainPassed,
 ) -> i32
-    ensures none { handle.old.value ≡ None → (result ≡ code Status.NoStream) × (handle.new.value ≡ None) × (output.new ≡ output.old) × (passed.new ≡ nothing_passed) }
-    ensures fed { IfSome handle.old.value (λ s. (t : Stream) × (status : Status) × (handle.new.value ≡ Some t) × (result ≡ code status) × FeedAnswers s t input.now output.old output.new passed.new status) }
+    ensures none { handle.old.value ≡ None → (result ≡ code Status.NoStream) × (handle.new.value ≡ None)
+        × (output.new ≡ output.old) × (passed.new ≡ nothing_passed) }
+    ensures fed { IfSome handle.old.value (λ s. ChangesStream handle.new.value result (λ t.
+        FeedAnswers s t input.now output.old output.new passed.new)) }
 {
     let Some(mut stream) = take(alloc, handle) else {
         *passed = SoxchainPassed {
@@ -202,7 +204,7 @@ fn end_stream(stream: &mut Stream) -> Status
 #[unsafe(no_mangle)]
 pub extern "C" fn soxchain_end(alloc: Global, handle: &mut Handle) -> i32
     ensures none { handle.old.value ≡ None → (result ≡ code Status.NoStream) × (handle.new.value ≡ None) }
-    ensures ended { IfSome handle.old.value (λ s. (t : Stream) × (status : Status) × (handle.new.value ≡ Some t) × (result ≡ code status) × EndAnswers s t status) }
+    ensures ended { IfSome handle.old.value (λ s. ChangesStream handle.new.value result (EndAnswers s)) }
 {
     let Some(mut stream) = take(alloc, handle) else {
         return number_of(Status::NoStream);
@@ -238,8 +240,10 @@ pub extern "C" fn soxchain_freeze(
     length: &mut usize,
 ) -> i32
     ensures same { handle.new.value ≡ handle.old.value }
-    ensures none { handle.old.value ≡ None → (result ≡ code Status.NoStream) × (buffer.new ≡ buffer.old) × (length.new ≡ 0) }
-    ensures frozen { IfSome handle.old.value (λ s. (status : Status) × (result ≡ code status) × FreezeAnswers s buffer.old buffer.new length.new status) }
+    ensures none { handle.old.value ≡ None
+        → (result ≡ code Status.NoStream) × (buffer.new ≡ buffer.old) × (length.new ≡ 0) }
+    ensures frozen { IfSome handle.old.value (λ s. (status : Status) × (result ≡ code status)
+        × FreezeAnswers s buffer.old buffer.new length.new status) }
 {
     let Some(stream) = take(alloc, handle) else {
         *length = 0;
@@ -265,7 +269,7 @@ fn thaw_stream(alloc: Global, stream: &mut Stream, bytes: &[u8]) -> Status
 #[unsafe(no_mangle)]
 pub extern "C" fn soxchain_thaw(alloc: Global, handle: &mut Handle, bytes: &[u8]) -> i32
     ensures none { handle.old.value ≡ None → (result ≡ code Status.NoStream) × (handle.new.value ≡ None) }
-    ensures thawed { IfSome handle.old.value (λ s. (t : Stream) × (status : Status) × (handle.new.value ≡ Some t) × (result ≡ code status) × ThawAnswers s t bytes.now status) }
+    ensures thawed { IfSome handle.old.value (λ s. ChangesStream handle.new.value result (λ t. ThawAnswers s t bytes.now)) }
 {
     let Some(mut stream) = take(alloc, handle) else {
         return number_of(Status::NoStream);

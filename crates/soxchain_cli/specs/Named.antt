@@ -5,17 +5,21 @@ use Rattle.fx_chain_run.specs.declared.report.Report.{Report}
 use Rattle.fx_frame_base.specs.Io.{ByteReader, ByteWriter, Rewinds, saturated}
 use Rattle.fx_plan.specs.Planning.{planning}
 use Rattle.fx_sound.specs.Source.{Held}
+use Rattle.soxchain.specs.MessageWriter.{ReportsFront}
 use Rattle.soxchain.specs.FileMessages.{rewrite_message}
 use Rattle.soxchain.specs.Finishing.{Finished, ReadyParts}
 use Rattle.soxchain.specs.declared.message_writer.MessageWriter.{MessageWriter}
 use Rattle.soxchain.specs.Saying.{Says}
-use Rattle.soxchain.specs.MessageWriter.{ReportedFront}
 use Rattle.soxchain_cli.specs.Heads.{true_head}
 
 -- How a created file is specified: what it took, and how it goes back.
 pub record FileWriter (F : Type 0) : Type 1 where
   pub writes : ByteWriter F
   pub rewinds : Rewinds F
+
+-- such a writer
+abbrev pub file_writer : {F : Type 0} → ByteWriter F → Rewinds F → FileWriter F
+file_writer writes rewinds = record { writes = writes; rewinds = rewinds }
 
 -- one call took a file back to its first byte
 pub record IsBack {F : Type 0} (d : FileWriter F) (old new : F) : Type 0 where
@@ -41,7 +45,7 @@ pub data FailsOver {F : Type 0} (d : FileWriter F) (old new : F) (bytes : List �
   Cut : (start : F)
       → IsBack d old start
       → d.writes.failures start ≡ d.writes.failures old
-      → ReportedFront (d.writes.taken start) (d.writes.taken new) (d.writes.failures start) (d.writes.failures new) bytes
+      → ReportsFront d.writes start new bytes
       → FailsOver d old new bytes
 
 -- A run into a new file: after a fault nothing else is written to the file. Else the true head is written over its beginning;

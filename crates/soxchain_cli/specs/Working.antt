@@ -1,29 +1,26 @@
 -- What the program does, on any host (this project's profile).
-use Rattle.std.specs.Prelude.{◌≡◌, ◌≢◌, ℕ, true, false, List, [], Option, Some, None, Ok, Err, codes}
+use Rattle.std.specs.Prelude.{◌≡◌, ◌≢◌, ℕ, true, List, Option, Some, None, Ok, Err, codes}
 use Rattle.std.specs.Io.KnownBytes.{Appends}
 use Rattle.std.specs.declared.io.ErrorKind.{ErrorKind}
 use Rattle.std.specs.declared.io.ErrorKind.TheVariants as ErrorKinds
-use Rattle.fx_chain.specs.Chain.{IsNewChain}
 use Rattle.fx_chain_run.specs.declared.report.Report.{Report}
 use Rattle.fx_frame_base.specs.Io.{ByteReader, ByteWriter}
 use Rattle.fx_plan.specs.declared.line.LineFault.{LineFault}
 use Rattle.fx_plan.specs.declared.line.LineFault.TheVariants as LineFaults
 use Rattle.fx_plan.specs.Line.{Said, line_of_words}
-use Rattle.fx_plan.specs.CommandLines.{LineReads, coefficient_files, effects_in, file_name, planning_in}
-use Rattle.fx_plan.specs.Plans.{head_layout, all_faults}
-use Rattle.fx_plan.specs.Planning.{planning}
-use Rattle.fx_sound.specs.Head.{ReadsHead}
-use Rattle.fx_sound.specs.Known.{IfKnown}
-use Rattle.fx_sound.specs.Source.{Held, to_come}
+use Rattle.fx_plan.specs.CommandLines.{LineReads, coefficient_files, effects_in, file_name}
+use Rattle.fx_sound.specs.Source.{Held}
 use Rattle.soxchain.specs.declared.prepared.Prepared.{Prepared}
 use Rattle.soxchain.specs.FileMessages.{open_message}
-use Rattle.soxchain.specs.Finishing.{Finished, ReadyParts}
+use Rattle.soxchain.specs.Convert.{unread_source}
+use Rattle.soxchain.specs.Finishing.{Finished, ready_for}
+use Rattle.soxchain.specs.MessageWriter.{ReportsFront}
+use Rattle.soxchain.specs.Preparing.{IsPrepared}
 use Rattle.soxchain.specs.Messages.{line_label, line_message}
 use Rattle.soxchain.specs.Program.{status_of_line}
 use Rattle.soxchain.specs.Readying.{Unready}
 use Rattle.soxchain.specs.declared.message_writer.MessageWriter.{MessageWriter}
 use Rattle.soxchain.specs.Saying.{Says}
-use Rattle.soxchain.specs.MessageWriter.{ReportedFront}
 use Rattle.soxchain_cli.specs.Named.{FileWriter, Files}
 use Rattle.soxchain_cli.specs.SameFile.{IsMade, IsUnmade, FileCalls}
 use Rattle.soxchain_common.specs.Consoles.{IsNewReader, IsNewWriter, Machine, Opened}
@@ -38,17 +35,9 @@ pub record Devices (I R O F : Type 0) : Type 1 where
   pub output : ByteWriter O
   pub created : FileWriter F
 
--- What a line asks for is prepared after the head of a sound: its plan, without a fault, and the chain, which is new.
-pub record IsPrepared {R : Type 0} (reads : ByteReader R) (line : Said) (files : List (List ℕ)) (reader : R) (source : Held R) (prepared : Prepared) : Type 0 where
-  pub head : IfKnown (to_come reads.rest (record { bytes = []; reader = reader; short = false })) (λ bytes. ReadsHead reads.rest reads.delivered line.input_kind bytes (record { bytes = []; reader = reader; short = false }) source prepared.plan.head)
-  pub no_faults : all_faults (head_layout prepared.plan.head) files (effects_in line) ≡ []
-  pub planned : planning prepared.plan ≡ planning_in prepared.plan.head line files
-  pub chain : IsNewChain (planning prepared.plan) prepared.chain
-  pub unfailed : reads.failures source.reader ≡ reads.failures reader
-
--- a line, and what is prepared for it
-abbrev pub ready_for : Said → Prepared → ReadyParts
-ready_for line prepared = record { line = line; prepared = prepared }
+-- these
+abbrev pub devices : {I R O F : Type 0} → ByteReader I → ByteReader R → ByteWriter O → FileWriter F → Devices I R O F
+devices input file output created = record { input = input; file = file; output = output; created = created }
 
 -- The program makes one request of the host after another; `m`, `looks`, `s` and `o` state the request and the answer between
 -- one of its states and the next. So the states name all requests, in order: where the last one is that of a call, nothing came
@@ -59,17 +48,17 @@ module _ {H I R O F M : Type 0} (d : Devices I R O F) (m : H → H → Machine I
   pub data Sounds {X : Type 0} (reads : ByteReader X) (line : Said) (files : List (List ℕ)) (reader : X) (host new_host : H) (old new : MessageWriter M) (status : ℕ) : Type 0 where
     Refused : (source : Held X)
         → new_host ≡ host
-        → Unready reads line files (record { bytes = []; reader = reader; short = false }) source (Says writes old new) status
+        → Unready reads line files (unread_source reader) source (Says writes old new) status
         → Sounds reads line files reader host new_host old new status
     Unmade : (source : Held X) (prepared : Prepared) (name : List ℕ)
-        → IsPrepared reads line files reader source prepared
+        → IsPrepared reads line files (unread_source reader) source prepared
         → file_name line.output ≡ Some name
         → IsUnmade looks s host new_host (file_name line.input) name
         → status ≡ 2
         → Says writes old new (open_message name)
         → Sounds reads line files reader host new_host old new status
     Streamed : (next : H) (source left : Held X) (prepared : Prepared) (output ended : O) (report : Report)
-        → IsPrepared reads line files reader source prepared
+        → IsPrepared reads line files (unread_source reader) source prepared
         → file_name line.output ≡ None
         → (m host next).is_output output
         → IsNewWriter d.output output
@@ -77,7 +66,7 @@ module _ {H I R O F M : Type 0} (d : Devices I R O F) (m : H → H → Machine I
         → (m next new_host).left ended
         → Sounds reads line files reader host new_host old new status
     Filed : (next : H) (source left : Held X) (prepared : Prepared) (name : List ℕ) (file ended : F)
-        → IsPrepared reads line files reader source prepared
+        → IsPrepared reads line files (unread_source reader) source prepared
         → file_name line.output ≡ Some name
         → IsMade looks s host next (file_name line.input) name file
         → IsNewWriter d.created.writes file
@@ -140,7 +129,7 @@ module _ {H I R O F M : Type 0} (d : Devices I R O F) (m : H → H → Machine I
     Cut : (next : H) (output ended : O)
         → (m host next).is_output output
         → IsNewWriter d.output output
-        → ReportedFront (d.output.taken output) (d.output.taken ended) (d.output.failures output) (d.output.failures ended) text
+        → ReportsFront d.output output ended text
         → (m next new_host).left ended
         → status ≡ 2
         → Says writes old new (open_message (codes "-"))

@@ -5,11 +5,11 @@ ghost use Rattle.fx_plan.specs.Planning.{planning};
 ghost use Rattle.fx_plan.specs.Plans.{plan_bytes};
 ghost use Rattle.fx_chain_run.specs.declared.report.Report.{Report};
 ghost use Rattle.soxchain.specs.FileMessages.{open_message, rewrite_message};
-ghost use Rattle.soxchain.specs.Finishing.{Finished};
+ghost use Rattle.soxchain.specs.Finishing.{Finished, ready_for};
 ghost use Rattle.soxchain.specs.Saying.{Says};
 ghost use Rattle.soxchain_cli.specs.Heads.{true_head};
-ghost use Rattle.soxchain_cli.specs.Named.{FailsOver, Files, WritesOver};
-ghost use Rattle.soxchain_cli.specs.Working.{Lines, Sounds, ready_for};
+ghost use Rattle.soxchain_cli.specs.Named.{FailsOver, Files, WritesOver, file_writer};
+ghost use Rattle.soxchain_cli.specs.Working.{Lines, Sounds, devices};
 
 use crate::host::Host;
 use crate::same_file::create_beside;
@@ -48,7 +48,7 @@ pub fn process<H: Host, M: ByteOut>(
     files: &[Vec<u8>],
     message_writer: &mut MessageWriter<M>,
 ) -> u8
-    ensures { Lines (record { input = H.Input.reads; file = H.Reader.reads; output = H.Output.writes; created = record { writes = H.Made.writes; rewinds = H.Made.rewinds } })
+    ensures { Lines (devices H.Input.reads H.Reader.reads H.Output.writes (file_writer H.Made.writes H.Made.rewinds))
         H.machine H.looks H.file_calls M.writes (record { opened = H.opened; unopened = H.unopened; closed = H.closed })
         line.now (plan_bytes files.now) host.old host.new message_writer.old message_writer.new result }
 {
@@ -72,7 +72,7 @@ fn process_from<H: Host, R: ByteIn + Drop, M: ByteOut>(
     reader: R,
     message_writer: &mut MessageWriter<M>,
 ) -> u8
-    ensures { Sounds (record { input = H.Input.reads; file = H.Reader.reads; output = H.Output.writes; created = record { writes = H.Made.writes; rewinds = H.Made.rewinds } })
+    ensures { Sounds (devices H.Input.reads H.Reader.reads H.Output.writes (file_writer H.Made.writes H.Made.rewinds))
         H.machine H.looks H.file_calls M.writes R.reads
         line.now (plan_bytes files.now) reader host.old host.new message_writer.old message_writer.new result }
 {
@@ -144,7 +144,8 @@ fn process_to<R: ByteIn, F: Rewind, M: ByteOut>(
     message_writer: &mut MessageWriter<M>,
 ) -> u8
     requires { IsNewChain (planning prepared.plan) prepared.chain }
-    ensures { Files R.reads (record { writes = F.writes; rewinds = F.rewinds }) M.writes (ready_for line.now prepared) source.old source.new file.old file.new name.now message_writer.old message_writer.new result }
+    ensures { Files R.reads (file_writer F.writes F.rewinds) M.writes (ready_for line.now prepared) source.old source.new
+        file.old file.new name.now message_writer.old message_writer.new result }
 {
     let (status, head) = finish_with_head(line, prepared, source, file, message_writer);
     if status != 0 {

@@ -1,5 +1,6 @@
 //! What the program prints about itself, on standard output.
-ghost use Rattle.soxchain_cli.specs.Working.{IsShown};
+ghost use Rattle.soxchain_cli.specs.Named.{file_writer};
+ghost use Rattle.soxchain_cli.specs.Working.{IsShown, devices};
 
 use crate::files::cannot_open;
 use crate::host::Host;
@@ -46,7 +47,7 @@ pub fn tell_answer<H: Host, M: ByteOut>(
     answer: &str,
     message_writer: &mut MessageWriter<M>,
 ) -> u8
-    ensures { IsShown (record { input = H.Input.reads; file = H.Reader.reads; output = H.Output.writes; created = record { writes = H.Made.writes; rewinds = H.Made.rewinds } })
+    ensures { IsShown (devices H.Input.reads H.Reader.reads H.Output.writes (file_writer H.Made.writes H.Made.rewinds))
         H.machine H.looks H.file_calls M.writes answer.now host.old host.new message_writer.old message_writer.new result }
 {
     let mut output = host.output();

@@ -2,7 +2,8 @@
 #![tactic(auto)]
 
 ghost use Rattle.soxchain_common.specs.About.{answer_of};
-ghost use Rattle.soxchain_cli.specs.Working.{CliAnswers, Works};
+ghost use Rattle.soxchain_cli.specs.Named.{file_writer};
+ghost use Rattle.soxchain_cli.specs.Working.{CliAnswers, Works, devices};
 
 mod files;
 mod help;
@@ -24,7 +25,7 @@ fn work_line<H: Host, M: ByteOut>(
     line: &CommandLine,
     message_writer: &mut MessageWriter<M>,
 ) -> u8
-    ensures { Works (record { input = H.Input.reads; file = H.Reader.reads; output = H.Output.writes; created = record { writes = H.Made.writes; rewinds = H.Made.rewinds } })
+    ensures { Works (devices H.Input.reads H.Reader.reads H.Output.writes (file_writer H.Made.writes H.Made.rewinds))
         H.machine H.looks H.file_calls M.writes (record { opened = H.opened; unopened = H.unopened; closed = H.closed })
         line.now host.old host.new message_writer.old message_writer.new result }
 {
@@ -38,7 +39,7 @@ fn work_line<H: Host, M: ByteOut>(
 
 /// Executes the words, and returns the status.
 fn work<H: Host, M: ByteOut>(host: &mut H, message_writer: &mut MessageWriter<M>) -> u8
-    ensures { CliAnswers (record { input = H.Input.reads; file = H.Reader.reads; output = H.Output.writes; created = record { writes = H.Made.writes; rewinds = H.Made.rewinds } })
+    ensures { CliAnswers (devices H.Input.reads H.Reader.reads H.Output.writes (file_writer H.Made.writes H.Made.rewinds))
         H.machine H.looks H.file_calls M.writes (record { opened = H.opened; unopened = H.unopened; closed = H.closed })
         (answer_of HELP.now VERSION.now) host.old host.new message_writer.old message_writer.new result }
 {

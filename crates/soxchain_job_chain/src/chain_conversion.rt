@@ -60,7 +60,8 @@ impl ChainConversion {
         frames_out: u64,
     ) -> Result<ChainConversion, AllocError>
         requires { IsNewChain (planning plan) chain }
-        ensures start { IfOk result (λ c. (input : List ℕ) → output_to_come c input ≡ job_output (planning plan) head_size frames_out input) }
+        ensures start { IfOk result (λ c.
+            (input : List ℕ) → output_to_come c input ≡ job_output (planning plan) head_size frames_out input) }
         ensures plan { IfOk result (λ c. job_plan c ≡ record { planning = planning plan; announced = frames_out }) }
     {
         let left = plan.head().announced;

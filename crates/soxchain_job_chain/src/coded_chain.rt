@@ -266,7 +266,8 @@ impl CodedChain {
     pub fn may_have(&self, counts: &Counts) -> bool
         ensures same { result ≡ true → counts.now.announced ≡ self.now.announced }
         ensures counted { result ≡ true → IsCounted (with_counts counts.now self.now) }
-        ensures all { counts.now.announced ≡ self.now.announced → IsCounted (with_counts counts.now self.now) → result ≡ true }
+        ensures all { counts.now.announced ≡ self.now.announced
+            → IsCounted (with_counts counts.now self.now) → result ≡ true }
     {
         let maximum = self.announced.min(MAX_FRAMES_OUT);
         counts.announced == self.announced

@@ -16,7 +16,7 @@ use Rattle.soxchain.specs.declared.preparing.Refusal.TheVariants as Refusals
 use Rattle.soxchain.specs.FileMessages.{open_message}
 use Rattle.soxchain.specs.Messages.{line_feed, line_label, line_message, refusal_message}
 use Rattle.soxchain.specs.Program.{status_of_line, status_of_refusal}
-use Rattle.soxchain.specs.MessageWriter.{WritesMessage, ReportedFront}
+use Rattle.soxchain.specs.MessageWriter.{WritesMessage, ReportsFront}
 use Rattle.soxchain_common.specs.Consoles.{IsNewReader, IsNewWriter, Machine, Opened}
 use Rattle.soxchain_common.specs.Files.{AreFronts, IsMemoryRefused, IsUnread}
 use Rattle.soxchain_common.specs.SameFile.{Looks}
@@ -64,7 +64,7 @@ module _ {H I R O M : Type 0} (d : PlanDevices I R O) (m : H → H → Machine I
     Cut : (next : H) (output ended : O) (advice : List ℕ)
         → (m host next).is_output output
         → IsNewWriter d.output output
-        → ReportedFront (d.output.taken output) (d.output.taken ended) (d.output.failures output) (d.output.failures ended) text
+        → ReportsFront d.output output ended text
         → (m next new_host).left ended
         → Advises writes old new (open_message (codes "-")) advice 2 status
         → IsPlanShown text code host new_host old new status

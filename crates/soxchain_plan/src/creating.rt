@@ -15,7 +15,8 @@ pub fn output_fault<'a, H: PlanHost>(
 ) -> Option<(&'a str, CreateFault)>
     ensures refused { IfSome result (λ it. (file_name line.now.output ≡ Some it.0.now)
         × CannotCreate H.looks H.creates host.old host.new (file_name line.now.input) it.0.now it.1) }
-    ensures accepted { IfNone result (MayCreate H.looks H.creates host.old host.new (file_name line.now.input) (file_name line.now.output)) }
+    ensures accepted { IfNone result (MayCreate H.looks H.creates host.old host.new
+        (file_name line.now.input) (file_name line.now.output)) }
 {
     let name = match line.output() {
         Endpoint::Standard => return None,

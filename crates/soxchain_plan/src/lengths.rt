@@ -9,7 +9,8 @@ use fx_plan_effects::Effect;
 /// The latency of an effect, in frames of its input; `line` is the capacity of its line.
 pub fn lateness(effect: &Effect, line: u64) -> u64
     ensures late { line ≡ line_of_act (act effect.now) → result ≡ late_by (act effect.now) }
-    ensures none_due { line ≡ line_of_act (act effect.now) → (channels : ℕ) → (kind_at (recipe_at (InPlace channels (act effect.now)))).due result ≡ 0 }
+    ensures none_due { line ≡ line_of_act (act effect.now)
+        → (channels : ℕ) → (kind_at (recipe_at (InPlace channels (act effect.now)))).due result ≡ 0 }
 {
     match effect {
         Effect::Trim(_) | Effect::Pad(_) | Effect::Fade(_) => line,

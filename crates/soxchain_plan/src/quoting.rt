@@ -69,7 +69,8 @@ pub fn show_stop<W: Write>(
     message: &[u8],
     advice: &[u8],
 ) -> io::Result<()>
-    ensures { OnOk result (Appends (W.contents writer.old) (W.contents writer.new) (stop_json status message.now advice.now)) }
+    ensures { OnOk result (Appends (W.contents writer.old) (W.contents writer.new)
+        (stop_json status message.now advice.now)) }
 {
     write!(writer, "{{\"status\": {status}, \"message\": ")?;
     show_string(writer, message)?;

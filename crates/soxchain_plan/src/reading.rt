@@ -47,9 +47,12 @@ fn head_from<R: ByteIn + Drop>(reader: R, expected: Option<Kind>) -> HeadRead
 
 /// What is read of the head of IN; or the name of a file that cannot be opened. Standard input is read where IN is `-`.
 pub fn head_of<'a, H: Console>(host: &mut H, line: &'a CommandLine) -> Result<HeadRead, &'a str>
-    ensures standard { file_name line.now.input ≡ None → IfOk result (IsHeadFrom (H.machine host.old host.new).is_input H.Input.reads line.now.input_kind) }
-    ensures file { (name : List ℕ) → file_name line.now.input ≡ Some name → IfOk result (IsHeadIn (H.opened host.old host.new) H.Reader.reads name line.now.input_kind) }
-    ensures unopened { IfErr result (λ name. (file_name line.now.input ≡ Some name.now) × H.unopened host.old host.new name.now) }
+    ensures standard { file_name line.now.input ≡ None
+        → IfOk result (IsHeadFrom (H.machine host.old host.new).is_input H.Input.reads line.now.input_kind) }
+    ensures file { (name : List ℕ) → file_name line.now.input ≡ Some name
+        → IfOk result (IsHeadIn (H.opened host.old host.new) H.Reader.reads name line.now.input_kind) }
+    ensures unopened { IfErr result (λ name.
+        (file_name line.now.input ≡ Some name.now) × H.unopened host.old host.new name.now) }
 {
     match line.input() {
         Endpoint::Standard => Ok(head_from(host.input(), line.input_kind())),

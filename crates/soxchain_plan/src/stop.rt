@@ -130,7 +130,8 @@ impl PlanStop<'_> {
 
     /// The status, the message of soxchain and what to do, as one JSON object. None where no memory is found for it.
     pub fn json(&self, alloc: Global, advice: Advice<'_>) -> Option<Vec<u8>>
-        ensures { IfSome result (λ text. text.items ≡ stop_json (status_of self.now) (message_of self.now) (advice_text advice.entry)) }
+        ensures { IfSome result (λ text.
+            text.items ≡ stop_json (status_of self.now) (message_of self.now) (advice_text advice.entry)) }
     {
         let message = self.message(alloc)?;
         let advice = advice.joined(alloc)?;
@@ -141,7 +142,8 @@ impl PlanStop<'_> {
 
     /// Writes the message of soxchain and what to do, a line each, and returns the status.
     pub fn tell<M: ByteOut>(&self, messages: &mut M, advice: Advice<'_>) -> u8
-        ensures { Advises M.writes messages.old messages.new (message_of self.now) (advice_text advice.entry) (status_of self.now) result }
+        ensures { Advises M.writes messages.old messages.new
+            (message_of self.now) (advice_text advice.entry) (status_of self.now) result }
     {
         let mut message_writer = MessageWriter::new(messages);
         self.tell_message(&mut message_writer);

@@ -52,7 +52,8 @@ pub fn bytes_beyond<H: Inspects>(
     head: &Head,
     end: Option<u64>,
 ) -> Option<u64>
-    ensures { AreBeyond H.looks host.old host.new (file_name line.now.input) (plausible_end head.now.announced end) result }
+    ensures { AreBeyond H.looks host.old host.new (file_name line.now.input)
+        (plausible_end head.now.announced end) result }
 {
     let name = match line.input() {
         Endpoint::Standard => return None,

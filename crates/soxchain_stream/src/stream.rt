@@ -104,7 +104,8 @@ impl Stream {
             × (max_frames < taken_of self.old.chain.flow + length input.now / self.old.chain.plan.head.channels) }
         ensures refused { OnErr result ((self.new ≡ self.old) × (output.new ≡ output.old)) }
         ensures whole { OnOk result (length input.now % self.old.chain.plan.head.channels ≡ 0) }
-        ensures bound { OnOk result (taken_of self.old.chain.flow + length input.now / self.old.chain.plan.head.channels ≤ max_frames) }
+        ensures bound { OnOk result
+            (taken_of self.old.chain.flow + length input.now / self.old.chain.plan.head.channels ≤ max_frames) }
     {
         let channels = self.inputs();
         if input.len() % channels != 0 {
@@ -179,7 +180,9 @@ impl Stream {
     pub fn thaw(&mut self, alloc: Global, bytes: &[u8]) -> Result<(), ThawFault>
         ensures frozen { OnOk result (IsFrozenAs self.new.chain bytes.now) }
         ensures plan { self.new.plan ≡ self.old.plan }
-        ensures thawed { (c : ChainParts) → IsSoundChain c → c.plan ≡ self.old.chain.plan → IsFrozenAs c bytes.now → MatchResult result (λ _. self.new.chain ≡ c) (λ e. e ≡ ThawFault.Memory) }
+        ensures thawed { (c : ChainParts) → IsSoundChain c
+            → c.plan ≡ self.old.chain.plan → IsFrozenAs c bytes.now
+            → MatchResult result (λ _. self.new.chain ≡ c) (λ e. e ≡ ThawFault.Memory) }
         ensures refused { OnErr result (self.new ≡ self.old) }
         ensures named { (result ≡ Err ThawFault.WrongPlan) → ⊥ }
     {

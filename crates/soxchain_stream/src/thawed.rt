@@ -22,7 +22,9 @@ pub struct Stored {
 pub fn to_words(alloc: Global, bytes: &[u8]) -> Result<Option<Vec<u64>>, AllocError>
     ensures some { IfOk result (λ found. IfSome found (λ words. flat_map word words.items ≡ bytes.now)) }
     ensures words { IfOk result (λ found. IfSome found (λ words. All IsWord words.items)) }
-    ensures back { IfOk result (λ found. (words : List ℕ) → All IsWord words → flat_map word words ≡ bytes.now → MatchOption found ⊥ (λ w. w.items ≡ words)) }
+    ensures back { IfOk result (λ found.
+        (words : List ℕ) → All IsWord words → flat_map word words ≡ bytes.now
+        → MatchOption found ⊥ (λ w. w.items ≡ words)) }
 {
     let mut words = Vec::new(alloc);
     let mut rest = bytes;
@@ -58,7 +60,9 @@ fn frame_of(words: &[u64]) -> Option<WideFrame>
 fn frames_of(alloc: Global, words: &[u64]) -> Result<Option<Vec<WideFrame>>, AllocError>
     ensures some { IfOk result (λ found. IfSome found (λ frames. flat_map frame_words frames.items ≡ words.now)) }
     ensures wide { IfOk result (λ found. IfSome found (λ frames. All IsWideFrame frames.items)) }
-    ensures back { IfOk result (λ found. (frames : List Samples) → All IsWideFrame frames → flat_map frame_words frames ≡ words.now → MatchOption found ⊥ (λ f. f.items ≡ frames)) }
+    ensures back { IfOk result (λ found.
+        (frames : List Samples) → All IsWideFrame frames → flat_map frame_words frames ≡ words.now
+        → MatchOption found ⊥ (λ f. f.items ≡ frames)) }
 {
     let mut frames = Vec::new(alloc);
     let mut rest = words;
@@ -80,7 +84,9 @@ fn frames_of(alloc: Global, words: &[u64]) -> Result<Option<Vec<WideFrame>>, All
 fn stored_of(alloc: Global, words: &[u64]) -> Result<Option<Stored>, AllocError>
     ensures some { IfOk result (λ found. IfSome found (λ s. snapshot_words s.numbers.items s.frames.items ≡ words.now)) }
     ensures wide { IfOk result (λ found. IfSome found (λ s. All IsWideFrame s.frames.items)) }
-    ensures back { IfOk result (λ found. (numbers : List ℕ) (frames : List Samples) → All IsWideFrame frames → snapshot_words numbers frames ≡ words.now → MatchOption found ⊥ (λ s. (s.numbers.items ≡ numbers) × (s.frames.items ≡ frames))) }
+    ensures back { IfOk result (λ found.
+        (numbers : List ℕ) (frames : List Samples) → All IsWideFrame frames → snapshot_words numbers frames ≡ words.now
+        → MatchOption found ⊥ (λ s. (s.numbers.items ≡ numbers) × (s.frames.items ≡ frames))) }
 {
     let Some(([mark, version, count], rest)) = words.split_first_chunk::<3>() else {
         return Ok(None);
@@ -98,9 +104,12 @@ fn stored_of(alloc: Global, words: &[u64]) -> Result<Option<Stored>, AllocError>
 
 /// The numbers and frames of bytes; None where the bytes are not of this form.
 pub fn thaw_from_bytes(alloc: Global, bytes: &[u8]) -> Result<Option<Stored>, AllocError>
-    ensures some { IfOk result (λ found. IfSome found (λ s. snapshot_bytes s.numbers.items s.frames.items ≡ bytes.now)) }
+    ensures some { IfOk result (λ found. IfSome found (λ s.
+        snapshot_bytes s.numbers.items s.frames.items ≡ bytes.now)) }
     ensures stored { IfOk result (λ found. IfSome found (λ s. AreStored s.numbers.items s.frames.items)) }
-    ensures back { IfOk result (λ found. (numbers : List ℕ) (frames : List Samples) → AreStored numbers frames → snapshot_bytes numbers frames ≡ bytes.now → MatchOption found ⊥ (λ s. (s.numbers.items ≡ numbers) × (s.frames.items ≡ frames))) }
+    ensures back { IfOk result (λ found.
+        (numbers : List ℕ) (frames : List Samples) → AreStored numbers frames → snapshot_bytes numbers frames ≡ bytes.now
+        → MatchOption found ⊥ (λ s. (s.numbers.items ≡ numbers) × (s.frames.items ≡ frames))) }
 {
     let Some(words) = to_words(alloc, bytes)? else {
         return Ok(None);
