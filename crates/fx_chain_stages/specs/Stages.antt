@@ -2,7 +2,6 @@
 use Rattle.std.specs.Prelude.{ℕ, ℤ, List}
 use Rattle.fx_frame_base.specs.Frame.{Samples}
 use Rattle.fx_frame_base.specs.Lists.{pieces}
-use Rattle.fx_frame_base.specs.Pipeline.{EachThrough}
 use Rattle.fx_frame_base.specs.Stage.{Acts, kind}
 use Rattle.fx_chain_stages.specs.declared.registry.EffectStage.{EffectStage}
 use Rattle.fx_plan_effects.specs.Meanings.{Placed, kind_at, meaning_at}
@@ -35,16 +34,3 @@ frames_into s count block = pieces (kind effect_acts s).inputs count block
 
 abbrev pub frames_out_of : EffectStage → ℕ → List ℤ → List Samples
 frames_out_of s count block = pieces (kind effect_acts s).outputs count block
-
--- `count` frames of a block went through two stages in sequence, and those that came out are in another block
-abbrev pub ThroughTwo : ℕ → List ℤ → List ℤ → EffectStage → EffectStage → EffectStage → EffectStage → Type 0
-ThroughTwo count input output first first' second second' =
-    (between : List Samples) × EachThrough effect_acts (frames_into first count input) between first first'
-    × EachThrough effect_acts between (frames_out_of second count output) second second'
-
--- the same of three stages
-abbrev pub ThroughThree : ℕ → List ℤ → List ℤ → EffectStage → EffectStage → EffectStage → EffectStage → EffectStage → EffectStage → Type 0
-ThroughThree count input output first first' middle middle' last last' =
-    (before after : List Samples) × EachThrough effect_acts (frames_into first count input) before first first'
-    × EachThrough effect_acts before after middle middle'
-    × EachThrough effect_acts after (frames_out_of last count output) last last'

@@ -4,7 +4,9 @@ ghost use Rattle.std.specs.Int.{w32};
 ghost use Rattle.std.specs.List.{All};
 ghost use Rattle.fx_frame_base.specs.Feed.{KeepsRest};
 ghost use Rattle.fx_frame_base.specs.Stage.{kind};
-ghost use Rattle.fx_chain_stages.specs.Stages.{ThroughThree, ThroughTwo, effect_acts};
+ghost use Rattle.fx_tap_pointwise.specs.Around.{ThroughThree};
+ghost use Rattle.fx_tap_pointwise.specs.PerSampleState.{ThroughBoth};
+ghost use Rattle.fx_chain_stages.specs.Stages.{effect_acts, frames_into, frames_out_of};
 
 use crate::registry::{EffectStage, each, each_by_samples, each_selected};
 use fx_frame::{Counters, Feeds, Frame, Passed, Passing, WideFrame};
@@ -96,7 +98,8 @@ fn pass_two(
     ensures bound { result ≤ count }
     ensures keeps { 1 ≤ result → (kind effect_acts second.old).outputs ≡ (kind effect_acts first.old).inputs }
     ensures samples { All (FitsSigned w32) (take (result * (kind effect_acts first.old).inputs) input.now) }
-    ensures through { ThroughTwo result input.now output.new first.old first.new second.old second.new }
+    ensures through { ThroughBoth effect_acts effect_acts (frames_into first.old result input.now) (frames_out_of second.old result output.new)
+        first.old first.new second.old second.new }
     ensures rest_unchanged { KeepsRest effect_acts second.old result output.old output.new }
 {
     each_by_samples!(first, first => each_by_samples!(second, second => {
@@ -131,7 +134,8 @@ fn pass_three(
     ensures bound { result ≤ count }
     ensures frame { 1 ≤ result → 1 ≤ (kind effect_acts last.old).outputs }
     ensures samples { All (FitsSigned w32) (take (result * (kind effect_acts first.old).inputs) input.now) }
-    ensures through { ThroughThree result input.now output.new first.old first.new middle.old middle.new last.old last.new }
+    ensures through { ThroughThree effect_acts effect_acts effect_acts (frames_into first.old result input.now) (frames_out_of last.old result output.new)
+        first.old first.new middle.old middle.new last.old last.new }
     ensures rest_unchanged { KeepsRest effect_acts last.old result output.old output.new }
 {
     let EffectStage::Remix(middle) = middle else {

@@ -269,7 +269,8 @@ fn thaw_stream(alloc: Global, stream: &mut Stream, bytes: &[u8]) -> Status
 #[unsafe(no_mangle)]
 pub extern "C" fn soxchain_thaw(alloc: Global, handle: &mut Handle, bytes: &[u8]) -> i32
     ensures none { handle.old.value ≡ None → (result ≡ code Status.NoStream) × (handle.new.value ≡ None) }
-    ensures thawed { IfSome handle.old.value (λ s. ChangesStream handle.new.value result (λ t. ThawAnswers s t bytes.now)) }
+    ensures thawed { IfSome handle.old.value (λ s.
+        ChangesStream handle.new.value result (λ t. ThawAnswers s t bytes.now)) }
 {
     let Some(mut stream) = take(alloc, handle) else {
         return number_of(Status::NoStream);
